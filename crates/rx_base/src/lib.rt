@@ -8,7 +8,7 @@ mod bases;
 mod seeking;
 
 pub use bases::base;
-pub use seeking::{Clue, Sought};
+pub use seeking::{BaseSearchStep, Sought};
 
 /// Of a whole page the base that the rules take is found.
 pub fn base_is_found()

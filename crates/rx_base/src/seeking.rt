@@ -26,14 +26,14 @@ pub enum Sought {
 
 /// What is looked for next, or what the base is known by: such a `href`, or that there is none.
 #[derive(Clone, Copy)]
-pub enum Clue<'a> {
+pub enum BaseSearchStep<'a> {
     Seeks(Sought),
     Known(Option<&'a str>),
 }
 
 impl Sought {
     /// An element begins where so many are open.
-    pub fn begun<'a>(self, count: usize, tag: &Tag<'a>) -> Clue<'a>
+    pub fn begun<'a>(self, count: usize, tag: &Tag<'a>) -> BaseSearchStep<'a>
         ensures { clue_seen result ≡ seek_begun count (sought_seen self) (tag_of tag.now) }
     {
         match self {
@@ -53,27 +53,27 @@ impl Sought {
     }
 }
 
-fn first_begun<'a>(count: usize, tag: &Tag<'a>) -> Clue<'a>
+fn first_begun<'a>(count: usize, tag: &Tag<'a>) -> BaseSearchStep<'a>
     ensures { clue_seen result ≡ seek_begun count first_child (tag_of tag.now) }
 {
     if count != 1 {
-        return Clue::Seeks(Sought::FirstChild);
+        return BaseSearchStep::Seeks(Sought::FirstChild);
     }
     if is_named(tag, "head") {
-        return Clue::Seeks(Sought::BaseChild);
+        return BaseSearchStep::Seeks(Sought::BaseChild);
     }
-    Clue::Known(None)
+    BaseSearchStep::Known(None)
 }
 
-fn child_begun<'a>(count: usize, tag: &Tag<'a>) -> Clue<'a>
+fn child_begun<'a>(count: usize, tag: &Tag<'a>) -> BaseSearchStep<'a>
     ensures { clue_seen result ≡ seek_begun count base_child (tag_of tag.now) }
 {
     if count != 2 {
-        return Clue::Seeks(Sought::BaseChild);
+        return BaseSearchStep::Seeks(Sought::BaseChild);
     }
     match base_href(tag) {
-        Some(href) => Clue::Known(Some(href)),
-        None => Clue::Seeks(Sought::BaseChild),
+        Some(href) => BaseSearchStep::Known(Some(href)),
+        None => BaseSearchStep::Seeks(Sought::BaseChild),
     }
 }
 

@@ -3,7 +3,7 @@ use Rattle.std.proofs.Common.{◌≡◌, ◌∙◌, ◌+◌, ◌-◌, ◌≤◌,
 use Rattle.std.specs.Prelude.{slice_get}
 use Rattle.rx_ports.specs.Counts.{Rose}
 use Rattle.rx_ports.specs.Files.{file_of}
-use Rattle.rx_ports.specs.Shelves.{ShelfContent, Moves, Lacks}
+use Rattle.rx_ports.specs.Shelves.{ShelfContent, WhereKnown, Lacks}
 use Rattle.rx_ports.proofs.MoveLemmas.{moves_then}
 use Rattle.rx_chars.specs.declared.syntax.Syntax.{Syntax}
 use Rattle.rx_grammar.specs.declared.faults.Fault.{Fault}
@@ -117,7 +117,7 @@ judged_graphs syntax context files (one ∷ listed) (page ∷ pages) a =
 
 -- ---- a page
 
-both_moves : {first second : ShelfContent → ShelfContent → Type 0} {a b : Option ShelfContent} (both : ShelfContent → ShelfContent → Type 0) → ((x y : ShelfContent) → first x y → second x y → both x y) → Moves first a b → Moves second a b → Moves both a b
+both_moves : {first second : ShelfContent → ShelfContent → Type 0} {a b : Option ShelfContent} (both : ShelfContent → ShelfContent → Type 0) → ((x y : ShelfContent) → first x y → second x y → both x y) → WhereKnown first a b → WhereKnown second a b → WhereKnown both a b
 both_moves both f m n = record { same = m.same; taken = λ x y p q. f x y (m.taken x y p q) (n.taken x y p q) }
 
 pub takes_nothing : (context : Context) (syntax : Syntax) (one : Listed) (x : ShelfContent) → TakesPart context syntax one x x
@@ -158,7 +158,7 @@ module _ (a : Approach) (syntax : Syntax) (context : Context) (address page name
         taken = omega arith;
       }
 
-  pub page_takes : (told now : Option ShelfContent) → Moves (TakesOf name 1073807359) told now → Moves (TakesToFirst (way_of a) name) told now → Moves (TakesPart context syntax One) told now
+  pub page_takes : (told now : Option ShelfContent) → WhereKnown (TakesOf name 1073807359) told now → WhereKnown (TakesToFirst (way_of a) name) told now → WhereKnown (TakesPart context syntax One) told now
   page_takes told now t f = both_moves (TakesPart context syntax One) (λ x y p q. part_of x y p q) t f
 
   -- what it gives
@@ -182,14 +182,14 @@ module _ (a : Approach) (syntax : Syntax) (context : Context) (address page name
     judged = subst (λ (w : Way). HasFirst w c.bytes fault) same_way c.is;
   }
 
-  pub adds_accepted : (told now : Option ShelfContent) (before after : List Page) (list : List CodeTriple) → Moves (TakesOf name 1073807359) told now → Moves (TakesToFirst (way_of a) name) told now
-      → Moves (ReadsWhole (GivesList a.syntax a.context a.address) name list) told now → after ≡ before ++ accepted_page address (numbered nat_eq (copied nat_eq (triples_seen list))) ∷ [] → AddsPage context syntax One before after told now
+  pub adds_accepted : (told now : Option ShelfContent) (before after : List Page) (list : List CodeTriple) → WhereKnown (TakesOf name 1073807359) told now → WhereKnown (TakesToFirst (way_of a) name) told now
+      → WhereKnown (ReadsWhole (GivesList a.syntax a.context a.address) name list) told now → after ≡ before ++ accepted_page address (numbered nat_eq (copied nat_eq (triples_seen list))) ∷ [] → AddsPage context syntax One before after told now
   adds_accepted told now before after list t f m e =
       let page : Page = accepted_page address (numbered nat_eq (copied nat_eq (triples_seen list))) in
       record { page = page; adds = e; reads = both_moves (ReadsListed context syntax One page) (λ x y c p. record { judged = gives_triples list x y c; takes = p }) m (page_takes told now t f) }
 
-  pub adds_refused : (told now : Option ShelfContent) (before after : List Page) (fault : Fault) → Moves (TakesOf name 1073807359) told now → Moves (TakesToFirst (way_of a) name) told now
-      → Moves (Finds (way_of a) name fault) told now → after ≡ before ++ refused_page address fault ∷ [] → AddsPage context syntax One before after told now
+  pub adds_refused : (told now : Option ShelfContent) (before after : List Page) (fault : Fault) → WhereKnown (TakesOf name 1073807359) told now → WhereKnown (TakesToFirst (way_of a) name) told now
+      → WhereKnown (Finds (way_of a) name fault) told now → after ≡ before ++ refused_page address fault ∷ [] → AddsPage context syntax One before after told now
   adds_refused told now before after fault t f m e =
       let page : Page = refused_page address fault in
       record { page = page; adds = e; reads = both_moves (ReadsListed context syntax One page) (λ x y c p. record { judged = gives_fault fault x y c; takes = p }) m (page_takes told now t f) }
@@ -256,12 +256,12 @@ module _ (context : Context) (syntax : Syntax) where
   pub all_added : (listed : List Listed) (i : ℕ) (before now : List Page) (told late : Option ShelfContent) → length listed ≤ i → AddsPages context syntax (take i listed) before now told late → AddsPages context syntax listed before now told late
   all_added listed i before now told late l a = subst (λ (ls : List Listed). AddsPages context syntax ls before now told late) (all_of i listed l) a
 
-  pub all_taken : (listed : List Listed) (i : ℕ) (before now : List Page) (told late : Option ShelfContent) → length listed ≤ i → AddsPages context syntax (take i listed) before now told late → Moves (TakesParts context syntax listed) told late
+  pub all_taken : (listed : List Listed) (i : ℕ) (before now : List Page) (told late : Option ShelfContent) → length listed ≤ i → AddsPages context syntax (take i listed) before now told late → WhereKnown (TakesParts context syntax listed) told late
   all_taken listed i before now told late l a = let all = all_added listed i before now told late l a in record { same = all.reads.same; taken = λ x y p q. (all.reads.taken x y p q).takes }
 
   -- those so far, and some of one more
-  pub some_taken : (listed : List Listed) (i : ℕ) (one : Listed) (before now : List Page) (told mid late : Option ShelfContent) → slice_get listed i ≡ Some one → AddsPages context syntax (take i listed) before now told mid → Moves (TakesPart context syntax one) mid late
-      → Moves (TakesParts context syntax listed) told late
+  pub some_taken : (listed : List Listed) (i : ℕ) (one : Listed) (before now : List Page) (told mid late : Option ShelfContent) → slice_get listed i ≡ Some one → AddsPages context syntax (take i listed) before now told mid → WhereKnown (TakesPart context syntax one) mid late
+      → WhereKnown (TakesParts context syntax listed) told late
   some_taken listed i one before now told mid late at a p =
       moves_then (TakesParts context syntax listed)
       (λ x y z r q.
@@ -274,7 +274,7 @@ lacks_at files [] i one e f = absurd (cc)
 lacks_at files (first ∷ listed) zero one e f = let same : first ≡ one = (cc) in inl (ap (λ (k : Listed). file_of files (encode_utf8_all k.page)) same ∙ f)
 lacks_at files (first ∷ listed) (suc i) one e f = inr (lacks_at files listed i one e f)
 
-lacks_listed : (context : Context) (syntax : Syntax) (front listed : List Listed) (pages : List Page) (i : ℕ) (one : Listed) (told mid : Option ShelfContent) → slice_get listed i ≡ Some one → Moves (ReadsEach context syntax front pages) told mid → Lacks mid (encode_utf8_all one.page)
+lacks_listed : (context : Context) (syntax : Syntax) (front listed : List Listed) (pages : List Page) (i : ℕ) (one : Listed) (told mid : Option ShelfContent) → slice_get listed i ≡ Some one → WhereKnown (ReadsEach context syntax front pages) told mid → Lacks mid (encode_utf8_all one.page)
     → TellsThat (λ t. LacksPage t.files listed) told
 lacks_listed context syntax front listed pages i one told None at m l = absurd l
 lacks_listed context syntax front listed pages i one None (Some y) at m l = let e = m.same in absurd (cc)
@@ -313,10 +313,10 @@ module _ (g : Gathering) where
         most = omega (arith, p.taken, r.takes.most);
       }
 
-  pub gathering_takes : (context : Context) (told mid late : Option ShelfContent) → Moves (ReadsContext g.context context) told mid → Moves (TakesParts context g.syntax g.pages) mid late → Moves (TakesGathering g) told late
+  pub gathering_takes : (context : Context) (told mid late : Option ShelfContent) → WhereKnown (ReadsContext g.context context) told mid → WhereKnown (TakesParts context g.syntax g.pages) mid late → WhereKnown (TakesGathering g) told late
   gathering_takes context told mid late r p = moves_then (TakesGathering g) (λ x y z c q. gathering_taken context x y z c q) r p
 
-  pub gathers_pages : (context : Context) (before now : List Page) (told mid late : Option ShelfContent) → before ≡ [] → Moves (ReadsContext g.context context) told mid → AddsPages context g.syntax g.pages before now mid late → Moves (GathersPages g now) told late
+  pub gathers_pages : (context : Context) (before now : List Page) (told mid late : Option ShelfContent) → before ≡ [] → WhereKnown (ReadsContext g.context context) told mid → AddsPages context g.syntax g.pages before now mid late → WhereKnown (GathersPages g now) told late
   gathers_pages context before now told mid late none r a =
       let same : a.pages ≡ now = sym (a.adds ∙ ap (λ b. b ++ a.pages) none) in
       moves_then (GathersPages g now)
@@ -336,13 +336,13 @@ module _ (g : Gathering) where
   context_failed told m n (inl rose) = inl rose
   context_failed told m n (inr lacks) = inr (context_lacks told lacks)
 
-  page_lacks : (context : Context) (told mid : Option ShelfContent) → Moves (ReadsContext g.context context) told mid → TellsThat (λ t. LacksPage t.files g.pages) mid → TellsThat (LacksOne g) told
+  page_lacks : (context : Context) (told mid : Option ShelfContent) → WhereKnown (ReadsContext g.context context) told mid → TellsThat (λ t. LacksPage t.files g.pages) mid → TellsThat (LacksOne g) told
   page_lacks context told None r l = absurd l
   page_lacks context None (Some y) r l = let e = r.same in absurd (cc)
   page_lacks context (Some x) (Some y) r l =
       let c = r.taken x y refl refl in
       inr (has_context g.context x context c.is, subst (λ (f : FileList). LacksPage f g.pages) c.takes.files l)
 
-  pub gathering_failed : (context : Context) (told mid : Option ShelfContent) (m n k : ℕ) → Moves (ReadsContext g.context context) told mid → m ≤ n → Rose n k ⊎ TellsThat (λ t. LacksPage t.files g.pages) mid → Rose m k ⊎ TellsThat (LacksOne g) told
+  pub gathering_failed : (context : Context) (told mid : Option ShelfContent) (m n k : ℕ) → WhereKnown (ReadsContext g.context context) told mid → m ≤ n → Rose n k ⊎ TellsThat (λ t. LacksPage t.files g.pages) mid → Rose m k ⊎ TellsThat (LacksOne g) told
   gathering_failed context told mid m n k r low (inl rose) = inl (rose_before m n k low rose)
   gathering_failed context told mid m n k r low (inr lacks) = inr (page_lacks context told mid r lacks)

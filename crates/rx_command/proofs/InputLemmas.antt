@@ -4,7 +4,7 @@ use Rattle.std.proofs.Common.{nat_eq, ◌≡◌, ◌∙◌, ◌+◌, ◌≤◌, 
 use Rattle.std.proofs.lemmas.Bool.Decides.{nat_tests}
 use Rattle.rx_ports.specs.Counts.{Rose}
 use Rattle.rx_ports.specs.Files.{file_of}
-use Rattle.rx_ports.specs.Shelves.{ShelfContent, Moves, Lacks}
+use Rattle.rx_ports.specs.Shelves.{ShelfContent, WhereKnown, Lacks}
 use Rattle.rx_ports.proofs.MoveLemmas.{moves_at, moves_then}
 use Rattle.rx_names.specs.ContextFiles.{context_of}
 use Rattle.rx_chars.specs.declared.syntax.Syntax.{Syntax}
@@ -53,7 +53,7 @@ whole_is : (bytes left : List ℕ) (valid : Bool) → (length bytes ≤ 65536 �
 whole_is bytes left valid w small e =
     ap is_context (ap (λ l. bytes ++ l) (w small) ∙ append-nil bytes) ∙ ap (λ b. b && is_some (context_of bytes)) (short (length bytes) small) ∙ e
 
-pub was_tested : (told now : Option ShelfContent) (file name bytes : List ℕ) (valid : Bool) → name ≡ encode_utf8_all file → Moves (ReadsFile name 65536 bytes) told now
+pub was_tested : (told now : Option ShelfContent) (file name bytes : List ℕ) (valid : Bool) → name ≡ encode_utf8_all file → WhereKnown (ReadsFile name 65536 bytes) told now
     → length bytes ≤ 65536 → is_some (context_of bytes) ≡ valid → WhereTold (IsContextFile file valid) told
 was_tested None now file name bytes valid named m small e = tt
 was_tested (Some t) now file name bytes valid named m small e =
@@ -64,7 +64,7 @@ was_tested (Some t) now file name bytes valid named m small e =
       tested = whole_is bytes (r.0).left valid (r.1).whole small e;
     }
 
-pub was_long : (told now : Option ShelfContent) (file name bytes : List ℕ) → name ≡ encode_utf8_all file → Moves (ReadsFile name 65536 bytes) told now
+pub was_long : (told now : Option ShelfContent) (file name bytes : List ℕ) → name ≡ encode_utf8_all file → WhereKnown (ReadsFile name 65536 bytes) told now
     → 65536 < length bytes → WhereTold (IsContextFile file false) told
 was_long None now file name bytes named m past = tt
 was_long (Some t) now file name bytes named m past =
@@ -81,22 +81,22 @@ takes_context file name named x y t =
     let size : size_of (file_of x.files name) ≡ size_of (file_of x.files (encode_utf8_all file)) = ap (λ n. size_of (file_of x.files n)) named in
     record { files = t.files; size = omega (arith, t.file, size); most = t.most }
 
-pub was_context : (told now : Option ShelfContent) (file name bytes : List ℕ) (context : Context) → name ≡ encode_utf8_all file → Moves (ReadsFile name 65536 bytes) told now
+pub was_context : (told now : Option ShelfContent) (file name bytes : List ℕ) (context : Context) → name ≡ encode_utf8_all file → WhereKnown (ReadsFile name 65536 bytes) told now
     → length bytes ≤ 65536 → context_of bytes ≡ Some context → WhereTold (λ t. IsFileOf file t context) told
 was_context None now file name bytes context named m small e = tt
 was_context (Some t) now file name bytes context named m small e =
     let r = moves_at t m refl in
     record { bytes = bytes; file = ap (file_of t.files) (sym named) ∙ ((r.1).read.file ∙ ap Some (ap (λ l. bytes ++ l) ((r.1).whole small) ∙ append-nil bytes)); small = small; reads = e }
 
-reads_context : (told now : Option ShelfContent) (file : List ℕ) (context : Context) → WhereTold (λ t. IsFileOf file t context) told → Moves (TakesContext (Some file)) told now → Moves (ReadsContext (Some file) context) told now
+reads_context : (told now : Option ShelfContent) (file : List ℕ) (context : Context) → WhereTold (λ t. IsFileOf file t context) told → WhereKnown (TakesContext (Some file)) told now → WhereKnown (ReadsContext (Some file) context) told now
 reads_context told now file context w m = record {
   same = m.same;
   taken = λ x y p q. record { is = subst (WhereTold (λ t. IsFileOf file t context)) p w; takes = m.taken x y p q };
 }
 
-pub if_context : {E : Type 0} (r : Result Context E) (told now : Option ShelfContent) (lent : Option (List ℕ)) (file : List ℕ) → lent ≡ Some file → IfOk r (λ context. WhereTold (λ t. IsFileOf file t context) told) → Moves (TakesContext (Some file)) told now
-    → IfOk r (λ context. Moves (ReadsContext lent context) told now)
-if_context (Ok context) told now lent file e w m = subst (λ f. Moves (ReadsContext f context) told now) (sym e) (reads_context told now file context w m)
+pub if_context : {E : Type 0} (r : Result Context E) (told now : Option ShelfContent) (lent : Option (List ℕ)) (file : List ℕ) → lent ≡ Some file → IfOk r (λ context. WhereTold (λ t. IsFileOf file t context) told) → WhereKnown (TakesContext (Some file)) told now
+    → IfOk r (λ context. WhereKnown (ReadsContext lent context) told now)
+if_context (Ok context) told now lent file e w m = subst (λ f. WhereKnown (ReadsContext f context) told now) (sym e) (reads_context told now file context w m)
 if_context (Err error) told now lent file e w m = tt
 
 -- one context holds
@@ -241,11 +241,11 @@ page_found task way context name named fault e w x y f =
     record { bytes = f.bytes; file = sym (ap (λ n. file_of x.files n) e) ∙ f.file; refused = refuses_first task context f.bytes fault (subst (λ (z : Way). HasFirst z f.bytes fault) w f.is); reads = reads_to task fault x.taken y.taken f.read }
 
 -- why a page was not read
-pub fails_refused : (way : Way) (name named : List ℕ) (e : InputError) (fault : Fault) (told now : Option ShelfContent) → named ≡ name → PageFails way named e told now → e ≡ error.Refused fault → Moves (Finds way name fault) told now
-fails_refused way name named e fault told now n g is = subst (λ x. Moves (Finds way x fault) told now) n (subst (λ x. PageFails way named x told now) is g)
+pub fails_refused : (way : Way) (name named : List ℕ) (e : InputError) (fault : Fault) (told now : Option ShelfContent) → named ≡ name → PageFails way named e told now → e ≡ error.Refused fault → WhereKnown (Finds way name fault) told now
+fails_refused way name named e fault told now n g is = subst (λ x. WhereKnown (Finds way x fault) told now) n (subst (λ x. PageFails way named x told now) is g)
 
-pub fails_clean : (way : Way) (name named : List ℕ) (e : InputError) (told now : Option ShelfContent) → named ≡ name → PageFails way named e told now → e ≡ error.Failed → Moves (ReadsClean way name) told now
-fails_clean way name named e told now n g is = subst (λ x. Moves (ReadsClean way x) told now) n (subst (λ x. PageFails way named x told now) is g)
+pub fails_clean : (way : Way) (name named : List ℕ) (e : InputError) (told now : Option ShelfContent) → named ≡ name → PageFails way named e told now → e ≡ error.Failed → WhereKnown (ReadsClean way name) told now
+fails_clean way name named e told now n g is = subst (λ x. WhereKnown (ReadsClean way x) told now) n (subst (λ x. PageFails way named x told now) is g)
 
 pub fails_no_context : (way : Way) (name : List ℕ) (e : InputError) (told now : Option ShelfContent) → PageFails way name e told now → e ≡ error.BadContext → ⊥
 fails_no_context way name e told now g is = subst (λ x. PageFails way name x told now) is g
@@ -258,7 +258,7 @@ for_itemization holds asked i page context is h = subst (λ (k : Asked). holds k
 standard_holds : (x : ShelfContent) → ReadsContext None standard x x
 standard_holds x = record { is = refl; takes = record { files = refl; size = omega arith; most = omega arith } }
 
-pub standard_stays : (told : Option ShelfContent) → Moves (ReadsContext None standard) told told
+pub standard_stays : (told : Option ShelfContent) → WhereKnown (ReadsContext None standard) told told
 standard_stays None = record { same = refl; taken = λ x y p q. absurd (cc) }
 standard_stays (Some t) = record { same = refl; taken = λ x y p q. at x y (some_told t x p) (some_told t y q) }
   where
@@ -270,22 +270,22 @@ standard_stays (Some t) = record { same = refl; taken = λ x y p q. at x y (some
 
 -- what a call gives
 
-pub if_job : (r : Result Outcome InputError) (asked : Asked) (file : Option (List ℕ)) (context : Context) (told mid now : Option ShelfContent) → file ≡ asked.context → Moves (ReadsContext file context) told mid
-    → IfOk r (λ outcome. Moves (PageText asked.task context (encode_utf8_all asked.page) outcome) mid now) → IfOk r (λ outcome. Moves (JobText asked outcome) told now)
+pub if_job : (r : Result Outcome InputError) (asked : Asked) (file : Option (List ℕ)) (context : Context) (told mid now : Option ShelfContent) → file ≡ asked.context → WhereKnown (ReadsContext file context) told mid
+    → IfOk r (λ outcome. WhereKnown (PageText asked.task context (encode_utf8_all asked.page) outcome) mid now) → IfOk r (λ outcome. WhereKnown (JobText asked outcome) told now)
 if_job (Ok outcome) asked file context told mid now e m p = moves_then (JobText asked outcome) (λ x y z c t. job_text asked file context outcome e x y z c t) m p
 if_job (Err error) asked file context told mid now e m p = tt
 
 pub rose_before : (a b c : ℕ) → a ≤ b → Rose b c → Rose a c
 rose_before a b c low rose = omega (arith, low, rose)
 
-lacks_page : (told mid : Option ShelfContent) (asked : Asked) (file : Option (List ℕ)) (context : Context) (name : List ℕ) → file ≡ asked.context → name ≡ encode_utf8_all asked.page → Moves (ReadsContext file context) told mid → Lacks mid name → TellsThat (IsLacking asked) told
+lacks_page : (told mid : Option ShelfContent) (asked : Asked) (file : Option (List ℕ)) (context : Context) (name : List ℕ) → file ≡ asked.context → name ≡ encode_utf8_all asked.page → WhereKnown (ReadsContext file context) told mid → Lacks mid name → TellsThat (IsLacking asked) told
 lacks_page told None asked file context name e named m l = absurd l
 lacks_page None (Some y) asked file context name e named m l = let e = m.same in absurd (cc)
 lacks_page (Some x) (Some y) asked file context name e named m l =
     let c = m.taken x y refl refl in
     inr (has_context asked.context x context (subst (λ f. IsContext f x context) e c.is), sym (ap (λ n. file_of y.files n) named ∙ ap (λ f. file_of f (encode_utf8_all asked.page)) c.takes.files) ∙ l)
 
-pub page_failed : (told mid : Option ShelfContent) (asked : Asked) (file : Option (List ℕ)) (context : Context) (name : List ℕ) (a b c : ℕ) → file ≡ asked.context → name ≡ encode_utf8_all asked.page → Moves (ReadsContext file context) told mid → a ≤ b
+pub page_failed : (told mid : Option ShelfContent) (asked : Asked) (file : Option (List ℕ)) (context : Context) (name : List ℕ) (a b c : ℕ) → file ≡ asked.context → name ≡ encode_utf8_all asked.page → WhereKnown (ReadsContext file context) told mid → a ≤ b
     → Rose b c ⊎ Lacks mid name → Rose a c ⊎ TellsThat (IsLacking asked) told
 page_failed told mid asked file context name a b c e named m low (inl rose) = inl (rose_before a b c low rose)
 page_failed told mid asked file context name a b c e named m low (inr lacks) = inr (lacks_page told mid asked file context name e named m lacks)

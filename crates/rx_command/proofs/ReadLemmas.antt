@@ -23,7 +23,7 @@ use Rattle.rx_items.specs.Walks as item
 use Rattle.rx_walk.specs.Checks as checks
 use Rattle.rx_walk.specs.Checks.{Checked}
 use Rattle.rx_ports.specs.Files.{file_of}
-use Rattle.rx_ports.specs.Shelves.{ShelfContent, Moves, Reads}
+use Rattle.rx_ports.specs.Shelves.{ShelfContent, WhereKnown, Reads}
 use Rattle.rx_ports.proofs.MoveLemmas.{moves_then, moves_weaker}
 use Rattle.rx_command.specs.declared.errors.InputError.{InputError}
 use Rattle.rx_command.specs.declared.errors.InputError.TheVariants as error
@@ -138,7 +138,7 @@ pub record SoFar (syntax : Syntax) (aim : Aim) (name : List ℕ) (v : Pass) (n :
   pub bytes : List ℕ
   pub size : length bytes ≡ n
   pub reached : Reached syntax aim v bytes
-  pub read : Moves (HasRead name bytes) before now
+  pub read : WhereKnown (HasRead name bytes) before now
 
 has_more : (name bytes more : List ℕ) (x y z : ShelfContent) → HasRead name bytes x y → Adds more y z → HasRead name (bytes ++ more) x z
 has_more name bytes more x y z h a =

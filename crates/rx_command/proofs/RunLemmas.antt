@@ -2,7 +2,7 @@
 use Rattle.std.proofs.Common.{◌≡◌, ◌≢◌, ◌∙◌, ℕ, ◌⊎◌, ◌≤◌, inl, inr, List, [], ◌∷◌, sym, ap, subst, refl, Option, Some, None, is_some, true, false, encode_utf8_all, arith}
 use Rattle.std.specs.Prelude.{codes, option_map, option_and_then}
 use Rattle.rx_ports.specs.Counts.{Rose}
-use Rattle.rx_ports.specs.Shelves.{ShelfContent, Moves, Stays}
+use Rattle.rx_ports.specs.Shelves.{ShelfContent, WhereKnown, Stays}
 use Rattle.rx_ports.specs.Files.{file_of}
 use Rattle.rx_ports.proofs.MoveLemmas.{moves_same, moves_at, moves_weaker}
 use Rattle.rx_grammar.specs.declared.faults.Fault.{Fault}
@@ -32,17 +32,17 @@ use Rattle.rx_command.specs.declared.statuses.Status.{Status}
 use Rattle.rx_command.specs.declared.statuses.Status.TheVariants as status
 use Rattle.rx_command.specs.Runs.{SampleEnds, ReadCause, TakesFiles, TakesJob, TakesToFault, StopsCleanly, IsAtEnd, reads_files}
 
-pub yields : (words : List (List ℕ)) (told now : Option ShelfContent) (asked : Asked) (found : Outcome) (t : ShelfContent) → page_asked words ≡ Some asked → Moves (JobText asked found) told now → told ≡ Some t → Yields words told (text_of found)
+pub yields : (words : List (List ℕ)) (told now : Option ShelfContent) (asked : Asked) (found : Outcome) (t : ShelfContent) → page_asked words ≡ Some asked → WhereKnown (JobText asked found) told now → told ≡ Some t → Yields words told (text_of found)
 yields words told now asked found t a m e =
     let r = moves_at t m e in
     inl (record { bytes = (r.1).page.bytes; page = record { asked = asked; shelf = t; context = (r.1).context; asks = a; tells = e; holds = (r.1).holds; file = (r.1).page.file }; has_text = (r.1).page.gives })
 
-pub yields_graph : (words : List (List ℕ)) (told now : Option ShelfContent) (asked : Asked) (found : Outcome) (t : ShelfContent) → page_asked words ≡ Some asked → Moves (JobText asked found) told now → Denoted found → told ≡ Some t → YieldsGraph words told (text_of found)
+pub yields_graph : (words : List (List ℕ)) (told now : Option ShelfContent) (asked : Asked) (found : Outcome) (t : ShelfContent) → page_asked words ≡ Some asked → WhereKnown (JobText asked found) told now → Denoted found → told ≡ Some t → YieldsGraph words told (text_of found)
 yields_graph words told now asked found t a m read e =
     let r = moves_at t m e in
     inl (record { bytes = (r.1).page.bytes; page = record { asked = asked; shelf = t; context = (r.1).context; asks = a; tells = e; holds = (r.1).holds; file = (r.1).page.file }; graph = (r.1).page.graph read })
 
-pub refuses : (words : List (List ℕ)) (told now : Option ShelfContent) (asked : Asked) (fault : Fault) (t : ShelfContent) → page_asked words ≡ Some asked → Moves (JobRefused asked fault) told now → told ≡ Some t → HasPageFault words told fault
+pub refuses : (words : List (List ℕ)) (told now : Option ShelfContent) (asked : Asked) (fault : Fault) (t : ShelfContent) → page_asked words ≡ Some asked → WhereKnown (JobRefused asked fault) told now → told ≡ Some t → HasPageFault words told fault
 refuses words told now asked fault t a m e =
     let r = moves_at t m e in
     record { bytes = (r.1).bytes; page = record { asked = asked; shelf = t; context = (r.1).context; asks = a; tells = e; holds = (r.1).holds; file = (r.1).file }; refused = (r.1).refused }
@@ -145,15 +145,15 @@ pub asks_page : (words : List (List ℕ)) (j : CodeJob) → job words ≡ Some (
 asks_page words j e r = ap page_in (e ∙ ap Some r.asks)
 
 -- a page that was read has one outcome
-pub text_not_refused : (words : List (List ℕ)) (told now : Option ShelfContent) (asked : Asked) (found : Outcome) (fault : Fault) → page_asked words ≡ Some asked → Moves (JobText asked found) told now → HasPageFault words told fault → ⊥
+pub text_not_refused : (words : List (List ℕ)) (told now : Option ShelfContent) (asked : Asked) (found : Outcome) (fault : Fault) → page_asked words ≡ Some asked → WhereKnown (JobText asked found) told now → HasPageFault words told fault → ⊥
 text_not_refused words told now asked found fault a m r = not_both words told (text_of found) fault (yields words told now asked found r.page.shelf a m r.page.tells) r
 
-pub refused_no_text : (words : List (List ℕ)) (told now : Option ShelfContent) (asked : Asked) (text : List ℕ) (fault : Fault) → page_asked words ≡ Some asked → Moves (JobRefused asked fault) told now → Yields words told text → ⊥
+pub refused_no_text : (words : List (List ℕ)) (told now : Option ShelfContent) (asked : Asked) (text : List ℕ) (fault : Fault) → page_asked words ≡ Some asked → WhereKnown (JobRefused asked fault) told now → Yields words told text → ⊥
 refused_no_text words told now asked text fault a m (inl y) = not_both words told text fault (inl y) (refuses words told now asked fault y.page.shelf a m y.page.tells)
 refused_no_text words told now asked text fault a m (inr (inl y)) = not_sample words asked y.count a y.asks
 refused_no_text words told now asked text fault a m (inr (inr y)) = not_gathering words asked y.gathering a y.asks
 
-pub refused_so : (words : List (List ℕ)) (told now : Option ShelfContent) (asked : Asked) (found fault : Fault) → page_asked words ≡ Some asked → Moves (JobRefused asked found) told now → HasPageFault words told fault → found ≡ fault
+pub refused_so : (words : List (List ℕ)) (told now : Option ShelfContent) (asked : Asked) (found fault : Fault) → page_asked words ≡ Some asked → WhereKnown (JobRefused asked found) told now → HasPageFault words told fault → found ≡ fault
 refused_so words told now asked found fault a m r = one_refusal words told found fault (refuses words told now asked found r.page.shelf a m r.page.tells) r
 
 -- ---- a sample
@@ -189,7 +189,7 @@ few_asked (task ∷ words) count e =
     (λ f. split (IsFew count) (is_word task (codes "check")) (option_map reads (option_and_then checking (given words))) None (λ t k. absurd (no_reading (option_and_then checking (given words)) count k)) (λ f k. absurd (cc))))))
     e
 
-pub sample_nothing : (count : ℕ) (s : Status) (old new : Option (List ℕ)) (before now : ℕ) → SampleEnds count s old new before now → s ≢ status.Done → s ≢ status.WriteFault → Moves Stays old new
+pub sample_nothing : (count : ℕ) (s : Status) (old new : Option (List ℕ)) (before now : ℕ) → SampleEnds count s old new before now → s ≢ status.Done → s ≢ status.WriteFault → WhereKnown Stays old new
 sample_nothing count status.Done old new before now e d w = absurd (d refl)
 sample_nothing count status.WriteFault old new before now e d w = absurd (w refl)
 sample_nothing count (status.Refused fault) old new before now e d w = absurd e
@@ -241,11 +241,11 @@ abbrev NamesOther : Option Job → ShelfContent → Type 0
 NamesOther k shelf = HasOther (context_in k) shelf
 
 -- files that were read are there
-pub not_lacking : (words : List (List ℕ)) (told now : Option ShelfContent) (asked : Asked) (found : Outcome) → page_asked words ≡ Some asked → Moves (JobText asked found) told now → LacksFile words told → ⊥
+pub not_lacking : (words : List (List ℕ)) (told now : Option ShelfContent) (asked : Asked) (found : Outcome) → page_asked words ≡ Some asked → WhereKnown (JobText asked found) told now → LacksFile words told → ⊥
 not_lacking words None now asked text a m l = let e = l.tells in absurd (cc)
 not_lacking words (Some t) now asked text a m l = let r = moves_at t m refl in not_lack asked (r.1).page.bytes t (has_context asked.context t (r.1).context (r.1).holds) (r.1).page.file (met words (Some t) (Some (reads asked)) JobLacks (page_job words asked a) l)
 
-pub refused_not_lacking : (words : List (List ℕ)) (told now : Option ShelfContent) (asked : Asked) (fault : Fault) → page_asked words ≡ Some asked → Moves (JobRefused asked fault) told now → LacksFile words told → ⊥
+pub refused_not_lacking : (words : List (List ℕ)) (told now : Option ShelfContent) (asked : Asked) (fault : Fault) → page_asked words ≡ Some asked → WhereKnown (JobRefused asked fault) told now → LacksFile words told → ⊥
 refused_not_lacking words None now asked fault a m l = let e = l.tells in absurd (cc)
 refused_not_lacking words (Some t) now asked fault a m l = let r = moves_at t m refl in not_lack asked (r.1).bytes t (has_context asked.context t (r.1).context (r.1).holds) (r.1).file (met words (Some t) (Some (reads asked)) JobLacks (page_job words asked a) l)
 
@@ -253,11 +253,11 @@ refused_not_lacking words (Some t) now asked fault a m l = let r = moves_at t m 
 not_bad_one : (asked : Asked) (t : ShelfContent) → HasContext asked.context t → HasOther asked.context t → ⊥
 not_bad_one asked t c o = not_other asked.context t c o
 
-pub not_bad : (words : List (List ℕ)) (told now : Option ShelfContent) (asked : Asked) (found : Outcome) → page_asked words ≡ Some asked → Moves (JobText asked found) told now → HasBadContext words told → ⊥
+pub not_bad : (words : List (List ℕ)) (told now : Option ShelfContent) (asked : Asked) (found : Outcome) → page_asked words ≡ Some asked → WhereKnown (JobText asked found) told now → HasBadContext words told → ⊥
 not_bad words None now asked text a m l = let e = l.tells in absurd (cc)
 not_bad words (Some t) now asked text a m l = let r = moves_at t m refl in not_bad_one asked t (has_context asked.context t (r.1).context (r.1).holds) (met words (Some t) (Some (reads asked)) NamesOther (page_job words asked a) l)
 
-pub refused_not_bad : (words : List (List ℕ)) (told now : Option ShelfContent) (asked : Asked) (fault : Fault) → page_asked words ≡ Some asked → Moves (JobRefused asked fault) told now → HasBadContext words told → ⊥
+pub refused_not_bad : (words : List (List ℕ)) (told now : Option ShelfContent) (asked : Asked) (fault : Fault) → page_asked words ≡ Some asked → WhereKnown (JobRefused asked fault) told now → HasBadContext words told → ⊥
 refused_not_bad words None now asked fault a m l = let e = l.tells in absurd (cc)
 refused_not_bad words (Some t) now asked fault a m l = let r = moves_at t m refl in not_bad_one asked t (has_context asked.context t (r.1).context (r.1).holds) (met words (Some t) (Some (reads asked)) NamesOther (page_job words asked a) l)
 
@@ -267,19 +267,19 @@ read_cause words told asked before now a (inr lacks) = record { asks = ap reads_
 
 -- ---- how much was taken
 
-at_end_of : (asked : Asked) (found : Outcome) (told now : Option ShelfContent) → Moves (JobText asked found) told now → IsAtEnd (Some asked) now
+at_end_of : (asked : Asked) (found : Outcome) (told now : Option ShelfContent) → WhereKnown (JobText asked found) told now → IsAtEnd (Some asked) now
 at_end_of asked text told None m = tt
 at_end_of asked text None (Some now) m = let e = m.same in absurd (cc)
 at_end_of asked text (Some told) (Some now) m = (m.taken told now refl refl).page.left
 
-pub at_end : (words : List (List ℕ)) (asked : Asked) (found : Outcome) (told now : Option ShelfContent) → page_asked words ≡ Some asked → Moves (JobText asked found) told now → IsAtEnd (page_asked words) now
+pub at_end : (words : List (List ℕ)) (asked : Asked) (found : Outcome) (told now : Option ShelfContent) → page_asked words ≡ Some asked → WhereKnown (JobText asked found) told now → IsAtEnd (page_asked words) now
 at_end words asked text told now a m = subst (λ k. IsAtEnd k now) (sym a) (at_end_of asked text told now m)
 
-pub to_fault : (words : List (List ℕ)) (asked : Asked) (fault : Fault) (old new : Option ShelfContent) → page_asked words ≡ Some asked → Moves (JobRefused asked fault) old new → Moves (TakesToFault (page_asked words) fault) old new
-to_fault words asked fault old new a m = subst (λ k. Moves (TakesToFault k fault) old new) (sym a) (moves_weaker (TakesToFault (Some asked) fault) (λ x y j. j.reads) m)
+pub to_fault : (words : List (List ℕ)) (asked : Asked) (fault : Fault) (old new : Option ShelfContent) → page_asked words ≡ Some asked → WhereKnown (JobRefused asked fault) old new → WhereKnown (TakesToFault (page_asked words) fault) old new
+to_fault words asked fault old new a m = subst (λ k. WhereKnown (TakesToFault k fault) old new) (sym a) (moves_weaker (TakesToFault (Some asked) fault) (λ x y j. j.reads) m)
 
-pub takes_files : (words : List (List ℕ)) (asked : Asked) (old new : Option ShelfContent) → page_asked words ≡ Some asked → Moves (TakesFiles (Some asked)) old new → Moves (TakesJob (job words)) old new
-takes_files words asked old new a m = subst (λ k. Moves (TakesJob k) old new) (sym (page_job words asked a)) m
+pub takes_files : (words : List (List ℕ)) (asked : Asked) (old new : Option ShelfContent) → page_asked words ≡ Some asked → WhereKnown (TakesFiles (Some asked)) old new → WhereKnown (TakesJob (job words)) old new
+takes_files words asked old new a m = subst (λ k. WhereKnown (TakesJob k) old new) (sym (page_job words asked a)) m
 
 no_file_taken : (asked : Option Asked) (x : ShelfContent) → TakesFiles asked x x
 no_file_taken asked x = record { files = refl; size = omega arith; most = omega arith }
@@ -291,11 +291,11 @@ none_taken (Some (gathers g)) x = context_taken g x x (record { files = refl; si
 none_taken (Some (samples count)) x = no_file_taken None x
 
 -- nothing was read
-pub took_nothing : (words : List (List ℕ)) (told : Option ShelfContent) → Moves (TakesJob (job words)) told told
+pub took_nothing : (words : List (List ℕ)) (told : Option ShelfContent) → WhereKnown (TakesJob (job words)) told told
 took_nothing words told = moves_same (TakesJob (job words)) (λ x. none_taken (job words) x) told
 
-pub stops_cleanly : (words : List (List ℕ)) (asked : Asked) (old new : Option ShelfContent) → page_asked words ≡ Some asked → Moves (StopsCleanly (Some asked)) old new → Moves (StopsCleanly (page_asked words)) old new
-stops_cleanly words asked old new a m = subst (λ k. Moves (StopsCleanly k) old new) (sym a) m
+pub stops_cleanly : (words : List (List ℕ)) (asked : Asked) (old new : Option ShelfContent) → page_asked words ≡ Some asked → WhereKnown (StopsCleanly (Some asked)) old new → WhereKnown (StopsCleanly (page_asked words)) old new
+stops_cleanly words asked old new a m = subst (λ k. WhereKnown (StopsCleanly k) old new) (sym a) m
 
 -- ---- where the page was not read
 
@@ -309,8 +309,8 @@ module _ (words : List (List ℕ)) (told : Option ShelfContent) (asked : Asked) 
   pub bad_context : WhereTold (HasOther asked.context) told → (t : ShelfContent) → told ≡ Some t → HasBadContext words told
   bad_context w t e = record { shelf = t; tells = e; holds = subst (λ k. HasOther k t) (sym its_context) (subst (WhereTold (HasOther asked.context)) e w) }
 
-  pub takes_context : (now : Option ShelfContent) → Moves (TakesContext asked.context) told now → Moves (TakesContext (context_asked words)) told now
-  takes_context now m = subst (λ k. Moves (TakesContext k) told now) (sym its_context) m
+  pub takes_context : (now : Option ShelfContent) → WhereKnown (TakesContext asked.context) told now → WhereKnown (TakesContext (context_asked words)) told now
+  takes_context now m = subst (λ k. WhereKnown (TakesContext k) told now) (sym its_context) m
 
   pub not_all : HasAll words told → ⊥
   not_all h = not_gathering words asked h.gathering a h.asks

@@ -2,7 +2,7 @@
 use Rattle.std.proofs.Common.{◌≡◌, ◌≢◌, ◌∙◌, ℕ, ◌⊎◌, inl, inr, List, [], ◌∷◌, sym, ap, subst, refl, Option, Some, None, is_some, true, false, encode_utf8_all}
 use Rattle.std.specs.Str.{chars}
 use Rattle.rx_ports.specs.Counts.{Rose}
-use Rattle.rx_ports.specs.Shelves.{ShelfContent, Moves, GrowsBy, GrowsByPart, Stays}
+use Rattle.rx_ports.specs.Shelves.{ShelfContent, WhereKnown, GrowsBy, GrowsByPart, Stays}
 use Rattle.rx_ports.proofs.MoveLemmas.{moves_at, moves_weaker}
 use Rattle.rx_grammar.specs.declared.faults.Fault.{Fault}
 use Rattle.rx_rdfa.specs.Names.{Context}
@@ -25,7 +25,7 @@ use Rattle.rx_command.proofs.RunLemmas.{there, not_other, not_missing, meets}
 
 -- ---- how it ends
 
-where_moved : {step : ShelfContent → ShelfContent → Type 0} (holds : ShelfContent → Type 0) (told now : Option ShelfContent) → ((x y : ShelfContent) → step x y → holds x) → Moves step told now → WhereTold holds told
+where_moved : {step : ShelfContent → ShelfContent → Type 0} (holds : ShelfContent → Type 0) (told now : Option ShelfContent) → ((x y : ShelfContent) → step x y → holds x) → WhereKnown step told now → WhereTold holds told
 where_moved holds None now f m = tt
 where_moved holds (Some t) now f m = let r = moves_at t m refl in f t r.0 r.1
 
@@ -36,23 +36,23 @@ denotes_gathered : (g : Gathering) (pages : List Page) (text : List ℕ) → Den
 denotes_gathered g pages text d x y p = record { context = p.context; holds = p.holds; pages = pages; judged = judged_graphs g.syntax p.context x.files g.pages pages p.judged; denotes = d }
 
 module _ (g : Gathering) (old new : Devices) where
-  pub ends_done : (pages : List Page) (text piece : List ℕ) → piece ≡ text → text ≡ encode_utf8_all (gathered pages) → DenotesPages (chars text) pages → Moves (GathersPages g pages) old.told new.told → Moves (TakesGathering g) old.told new.told
-      → Moves (GrowsBy piece) old.held new.held → SaysNothing old.said new.said old.say_faults new.say_faults → GatheringEnds g status.Done old new
+  pub ends_done : (pages : List Page) (text piece : List ℕ) → piece ≡ text → text ≡ encode_utf8_all (gathered pages) → DenotesPages (chars text) pages → WhereKnown (GathersPages g pages) old.told new.told → WhereKnown (TakesGathering g) old.told new.told
+      → WhereKnown (GrowsBy piece) old.held new.held → SaysNothing old.said new.said old.say_faults new.say_faults → GatheringEnds g status.Done old new
   ends_done pages text piece same e d m t w s = record {
     ends = (
       text,
       where_moved (IsGathered g text) old.told new.told (λ x y p. is_gathered g pages text e x y p) m,
       where_moved (DenotesGathered g text) old.told new.told (λ x y p. denotes_gathered g pages text d x y p) m,
-      subst (λ z. Moves (GrowsBy z) old.held new.held) same w,
+      subst (λ z. WhereKnown (GrowsBy z) old.held new.held) same w,
     );
     takes = t;
     says = s;
   }
 
-  pub ends_partly : (pages : List Page) (text piece : List ℕ) → piece ≡ text → text ≡ encode_utf8_all (gathered pages) → Moves (GathersPages g pages) old.told new.told → Moves (TakesGathering g) old.told new.told
-      → Moves (GrowsByPart piece) old.held new.held → Rose old.write_faults new.write_faults → SaysNothing old.said new.said old.say_faults new.say_faults → GatheringEnds g status.WriteFault old new
+  pub ends_partly : (pages : List Page) (text piece : List ℕ) → piece ≡ text → text ≡ encode_utf8_all (gathered pages) → WhereKnown (GathersPages g pages) old.told new.told → WhereKnown (TakesGathering g) old.told new.told
+      → WhereKnown (GrowsByPart piece) old.held new.held → Rose old.write_faults new.write_faults → SaysNothing old.said new.said old.say_faults new.say_faults → GatheringEnds g status.WriteFault old new
   ends_partly pages text piece same e m t w rose s = record {
-    ends = (text, where_moved (IsGathered g text) old.told new.told (λ x y p. is_gathered g pages text e x y p) m, subst (λ z. Moves (GrowsByPart z) old.held new.held) same w, rose);
+    ends = (text, where_moved (IsGathered g text) old.told new.told (λ x y p. is_gathered g pages text e x y p) m, subst (λ z. WhereKnown (GrowsByPart z) old.held new.held) same w, rose);
     takes = t;
     says = s;
   }
@@ -130,7 +130,7 @@ module _ (g : Gathering) (old new : Devices) (t : ShelfContent) (tells : old.tol
   when_there (status.Refused fault) e c p quiet calm = absurd e
   when_there status.Usage e c p quiet calm = absurd e
 
-ends_unwritten : (g : Gathering) (old new : Devices) (s : Status) → EndsAs g s old new → s ≢ status.Done → s ≢ status.WriteFault → Moves Stays old.held new.held
+ends_unwritten : (g : Gathering) (old new : Devices) (s : Status) → EndsAs g s old new → s ≢ status.Done → s ≢ status.WriteFault → WhereKnown Stays old.held new.held
 ends_unwritten g old new status.Done e d w = absurd (d refl)
 ends_unwritten g old new status.WriteFault e d w = absurd (w refl)
 ends_unwritten g old new status.ReadFault e d w = e.1
@@ -181,17 +181,17 @@ module _ (words : List (List ℕ)) (g : Gathering) (j : job words ≡ Some (gath
   pub several_faultless : (fault : Fault) → HasPageFault words old.told fault → ⊥
   several_faultless fault r = no_fault_of_page fault r
 
-  pub several_done : s ≡ status.Done → (t : ShelfContent) → old.told ≡ Some t → (text : List ℕ) × Yields words old.told text × Moves (GrowsBy text) old.held new.held
+  pub several_done : s ≡ status.Done → (t : ShelfContent) → old.told ≡ Some t → (text : List ℕ) × Yields words old.told text × WhereKnown (GrowsBy text) old.held new.held
   several_done is t tells =
       let d = ends_at status.Done is in
       (d.0, inr (inr (record { gathering = g; shelf = t; asks = asks_several; tells = tells; is = where_at (IsGathered g d.0) old.told t tells d.1 })), d.3)
 
-  pub several_denote : s ≡ status.Done → (t : ShelfContent) → old.told ≡ Some t → (text : List ℕ) × YieldsGraph words old.told text × Moves (GrowsBy text) old.held new.held
+  pub several_denote : s ≡ status.Done → (t : ShelfContent) → old.told ≡ Some t → (text : List ℕ) × YieldsGraph words old.told text × WhereKnown (GrowsBy text) old.held new.held
   several_denote is t tells =
       let d = ends_at status.Done is in
       (d.0, inr (inr (record { gathering = g; shelf = t; asks = asks_several; tells = tells; denotes = where_at (DenotesGathered g d.0) old.told t tells d.2 })), d.3)
 
-  pub several_partly : s ≡ status.WriteFault → (t : ShelfContent) → old.told ≡ Some t → (text : List ℕ) × Yields words old.told text × Moves (GrowsByPart text) old.held new.held
+  pub several_partly : s ≡ status.WriteFault → (t : ShelfContent) → old.told ≡ Some t → (text : List ℕ) × Yields words old.told text × WhereKnown (GrowsByPart text) old.held new.held
   several_partly is t tells =
       let d = ends_at status.WriteFault is in
       (d.0, inr (inr (record { gathering = g; shelf = t; asks = asks_several; tells = tells; is = where_at (IsGathered g d.0) old.told t tells d.1 })), d.2)
@@ -199,8 +199,8 @@ module _ (words : List (List ℕ)) (g : Gathering) (j : job words ≡ Some (gath
   pub several_at_end : IsAtEnd (page_asked words) new.told
   several_at_end = subst (λ k. IsAtEnd k new.told) (sym no_page) tt
 
-  pub several_cleanly : Moves (StopsCleanly (page_asked words)) old.told new.told
-  several_cleanly = subst (λ k. Moves (StopsCleanly k) old.told new.told) (sym no_page) (moves_weaker (StopsCleanly None) (λ x y t. tt) e.takes)
+  pub several_cleanly : WhereKnown (StopsCleanly (page_asked words)) old.told new.told
+  several_cleanly = subst (λ k. WhereKnown (StopsCleanly k) old.told new.told) (sym no_page) (moves_weaker (StopsCleanly None) (λ x y t. tt) e.takes)
 
   cause_of : Rose old.read_faults new.read_faults ⊎ TellsThat (LacksOne g) old.told → Rose old.read_faults new.read_faults ⊎ LacksFile words old.told
   cause_of (inl rose) = inl rose
@@ -215,7 +215,7 @@ module _ (words : List (List ℕ)) (g : Gathering) (j : job words ≡ Some (gath
   pub several_write_fault : s ≡ status.WriteFault → Rose old.write_faults new.write_faults
   several_write_fault is = (ends_at status.WriteFault is).3
 
-  pub several_unwritten : s ≢ status.Done → s ≢ status.WriteFault → Moves Stays old.held new.held
+  pub several_unwritten : s ≢ status.Done → s ≢ status.WriteFault → WhereKnown Stays old.held new.held
   several_unwritten d w = ends_unwritten g old new s e.ends d w
 
   pub several_name_context : s ≡ status.BadContext → is_some (context_asked words) ≡ true
@@ -229,8 +229,8 @@ module _ (words : List (List ℕ)) (g : Gathering) (j : job words ≡ Some (gath
   pub several_refuse_context : HasBadContext words old.told → ¬ Rose old.read_faults new.read_faults → (s ≡ status.BadContext) ⊎ (s ≡ status.Memory)
   several_refuse_context b quiet = when_other g old new b.shelf b.tells s e.ends (subst (λ k. HasOther k b.shelf) its_context b.holds) quiet
 
-  pub several_take_context : s ≡ status.BadContext → Moves (TakesContext (context_asked words)) old.told new.told
-  several_take_context is = subst (λ k. Moves (TakesContext k) old.told new.told) (sym its_context) (ends_at status.BadContext is).2
+  pub several_take_context : s ≡ status.BadContext → WhereKnown (TakesContext (context_asked words)) old.told new.told
+  several_take_context is = subst (λ k. WhereKnown (TakesContext k) old.told new.told) (sym its_context) (ends_at status.BadContext is).2
 
   pub several_say_context : s ≡ status.BadContext → Says context_line old.said new.said old.say_faults new.say_faults
   several_say_context is = subst (λ (z : Status). SaysAs z old new) is e.says
@@ -238,8 +238,8 @@ module _ (words : List (List ℕ)) (g : Gathering) (j : job words ≡ Some (gath
   pub several_say_nothing : s ≢ status.BadContext → SaysNothing old.said new.said old.say_faults new.say_faults
   several_say_nothing b = ends_unsaid old new s e.says b
 
-  pub several_take : Moves (TakesJob (job words)) old.told new.told
-  several_take = subst (λ k. Moves (TakesJob k) old.told new.told) (sym j) e.takes
+  pub several_take : WhereKnown (TakesJob (job words)) old.told new.told
+  several_take = subst (λ k. WhereKnown (TakesJob k) old.told new.told) (sym j) e.takes
 
   same_gathering : (other : Gathering) → gathering_asked words ≡ Some other → other ≡ g
   same_gathering other o = let both : Some other ≡ Some g = sym o ∙ asks_several in (cc)

@@ -2,7 +2,7 @@
 use Rattle.std.specs.Prelude.{◌≡◌, ◌⊎◌, ℕ, List, Option, Result, Err, IfOk, IsErrOf, encode_utf8_all}
 use Rattle.rx_terms.specs.Text.{Chars}
 use Rattle.rx_ports.specs.Counts.{Rose}
-use Rattle.rx_ports.specs.Shelves.{ShelfContent, Moves, Lacks}
+use Rattle.rx_ports.specs.Shelves.{ShelfContent, WhereKnown, Lacks}
 use Rattle.rx_grammar.specs.declared.faults.Fault.{Fault}
 use Rattle.rx_command.specs.declared.errors.InputError.{InputError}
 use Rattle.rx_command.specs.declared.errors.InputError.TheVariants as error
@@ -16,12 +16,12 @@ use Rattle.rx_command.specs.declared.outcomes.Outcome.{Outcome}
 -- where the call gives something, the shelf moved so
 abbrev pub GivesBy :
     {A : Type 0} → Result A InputError → (A → ShelfContent → ShelfContent → Type 0) → Option ShelfContent → Option ShelfContent → Type 0
-GivesBy result step old new = IfOk result (λ given. Moves (step given) old new)
+GivesBy result step old new = IfOk result (λ given. WhereKnown (step given) old new)
 
 -- where it refuses the page with a fault, the shelf moved so
 abbrev pub RefusesBy :
     {A : Type 0} → Result A InputError → (Fault → ShelfContent → ShelfContent → Type 0) → Option ShelfContent → Option ShelfContent → Type 0
-RefusesBy result step old new = (fault : Fault) → result ≡ Err (error.Refused fault) → Moves (step fault) old new
+RefusesBy result step old new = (fault : Fault) → result ≡ Err (error.Refused fault) → WhereKnown (step fault) old new
 
 -- where the call gives an outcome, the page of this name is there, and its text is what the task makes of it
 abbrev pub GivesText : Result Outcome InputError → Task → Context → Chars → Option ShelfContent → Option ShelfContent → Type 0
@@ -33,7 +33,7 @@ RefusesPage result task context page old new = RefusesBy result (PageRefused tas
 
 -- where the call failed, what was read of the file holds no fault but that it ends
 abbrev pub StopsBy : {A : Type 0} → Result A InputError → Way → List ℕ → Option ShelfContent → Option ShelfContent → Type 0
-StopsBy result way name old new = IsErrOf result error.Failed → Moves (ReadsClean way name) old new
+StopsBy result way name old new = IsErrOf result error.Failed → WhereKnown (ReadsClean way name) old new
 
 -- the shelf failed, or tells its files, and this holds of them
 abbrev pub FailedOr : {F : Type 0} → (F → Option ShelfContent) → (F → ℕ) → F → F → (ShelfContent → Type 0) → Type 0

@@ -2,7 +2,7 @@
 use Rattle.std.specs.Prelude.{◌≡◌, ℕ, ◌+◌, ◌≤◌, List, [], ◌∷◌, ◌++◌, Option, Some, is_some, true, encode_utf8_all}
 use Rattle.std.specs.Str.{chars}
 use Rattle.rx_ports.specs.Files.{file_of}
-use Rattle.rx_ports.specs.Shelves.{ShelfContent, Moves}
+use Rattle.rx_ports.specs.Shelves.{ShelfContent, WhereKnown}
 use Rattle.rx_terms.specs.Text.{Chars}
 use Rattle.rx_model.specs.Terms.{Triple, set_of}
 use Rattle.rx_model.specs.Numbered.{Renamed}
@@ -172,13 +172,13 @@ pub record ReadsEach (context : Context) (syntax : Syntax) (listed : List Listed
 pub record AddsPage (context : Context) (syntax : Syntax) (listed : Listed) (before now : List Page) (old new : Option ShelfContent) : Type 0 where
   pub page : Page
   pub adds : now ≡ before ++ page ∷ []
-  pub reads : Moves (ReadsListed context syntax listed page) old new
+  pub reads : WhereKnown (ReadsListed context syntax listed page) old new
 
 -- these pages were read, and added
 pub record AddsPages (context : Context) (syntax : Syntax) (listed : List Listed) (before now : List Page) (old new : Option ShelfContent) : Type 0 where
   pub pages : List Page
   pub adds : now ≡ before ++ pages
-  pub reads : Moves (ReadsEach context syntax listed pages) old new
+  pub reads : WhereKnown (ReadsEach context syntax listed pages) old new
 
 -- the context file was read, where one is named, and then the pages, which are judged so
 pub record GathersPages (gathering : Gathering) (pages : List Page) (old new : ShelfContent) : Type 0 where

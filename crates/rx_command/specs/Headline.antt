@@ -1,7 +1,7 @@
 -- The one outcome of a page, and how a run that reads it ends.
 use Rattle.std.specs.Prelude.{◌≡◌, ◌⊎◌, ℕ, Bool, true, not, List, [], Option}
 use Rattle.rx_ports.specs.Counts.{Rose}
-use Rattle.rx_ports.specs.Shelves.{ShelfContent, Moves, GrowsBy, GrowsByPart, Stays}
+use Rattle.rx_ports.specs.Shelves.{ShelfContent, WhereKnown, GrowsBy, GrowsByPart, Stays}
 use Rattle.rx_terms.specs.Text.{Chars}
 use Rattle.rx_rdfa.specs.Names.{Context}
 use Rattle.rx_grammar.specs.declared.faults.Fault.{Fault}
@@ -72,12 +72,12 @@ IsRead told = TellsThat (λ shelf. shelf.left ≡ []) told
 -- their one fault was found, and nothing was written; or the shelf or out failed, or there was no memory.
 abbrev pub Answers : Task → Context → List ℕ → Status → Devices → Devices → Type 0
 Answers task context bytes status.Done old new =
-    (text : List ℕ) × IsTheText task context bytes text × Moves (GrowsBy text) old.held new.held × IsRead new.told
-Answers task context bytes (status.Refused fault) old new = IsTheFault task context bytes fault × Moves Stays old.held new.held
-Answers task context bytes status.ReadFault old new = Rose old.read_faults new.read_faults × Moves Stays old.held new.held
+    (text : List ℕ) × IsTheText task context bytes text × WhereKnown (GrowsBy text) old.held new.held × IsRead new.told
+Answers task context bytes (status.Refused fault) old new = IsTheFault task context bytes fault × WhereKnown Stays old.held new.held
+Answers task context bytes status.ReadFault old new = Rose old.read_faults new.read_faults × WhereKnown Stays old.held new.held
 Answers task context bytes status.WriteFault old new =
-    (text : List ℕ) × TaskGives task context bytes text × Moves (GrowsByPart text) old.held new.held × Rose old.write_faults new.write_faults
-Answers task context bytes status.Memory old new = Moves Stays old.held new.held
+    (text : List ℕ) × TaskGives task context bytes text × WhereKnown (GrowsByPart text) old.held new.held × Rose old.write_faults new.write_faults
+Answers task context bytes status.Memory old new = WhereKnown Stays old.held new.held
 Answers task context bytes status.Usage old new = ⊥
 Answers task context bytes status.BadContext old new = ⊥
 

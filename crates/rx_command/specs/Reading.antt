@@ -21,7 +21,7 @@ use Rattle.rx_items.specs.declared.kept.Kept.{Kept}
 use Rattle.rx_walk.specs.Checks as check
 use Rattle.rx_walk.specs.Checks.{Accepted}
 use Rattle.rx_ports.specs.Files.{file_of}
-use Rattle.rx_ports.specs.Shelves.{ShelfContent, Moves}
+use Rattle.rx_ports.specs.Shelves.{ShelfContent, WhereKnown}
 use Rattle.rx_command.specs.declared.errors.InputError.{InputError}
 use Rattle.rx_command.specs.declared.errors.InputError.TheVariants as error
 use Rattle.rx_command.specs.declared.passes.Pass.{Pass}
@@ -105,10 +105,10 @@ pub record AddsNone (old new : ShelfContent) : Type 0 where
 -- a read gave some bytes, which were taken
 abbrev pub NextGives : Syntax → Aim → List ℕ → Result ℕ InputError → Pass → Option ShelfContent → Option ShelfContent → Type 0
 NextGives syntax aim bytes (Ok n) new before now =
-    (more : List ℕ) × (length more ≡ n) × Reached syntax aim new (bytes ++ more) × Moves (Adds more) before now
+    (more : List ℕ) × (length more ≡ n) × Reached syntax aim new (bytes ++ more) × WhereKnown (Adds more) before now
 NextGives syntax aim bytes (Err (error.Refused fault)) new before now =
-    (more : List ℕ) × (length more ≤ largest_piece) × Decides (way_for syntax aim) bytes more fault × Moves (Adds more) before now
-NextGives syntax aim bytes (Err error.Failed) new before now = Moves AddsNone before now
+    (more : List ℕ) × (length more ≤ largest_piece) × Decides (way_for syntax aim) bytes more fault × WhereKnown (Adds more) before now
+NextGives syntax aim bytes (Err error.Failed) new before now = WhereKnown AddsNone before now
 NextGives syntax aim bytes (Err error.BadContext) new before now = ⊥
 NextGives syntax aim bytes (Err error.NoMemory) new before now = Unit {0}
 
@@ -231,12 +231,12 @@ pub record FindsFaults (v : Pass) : Type 0 where
 pub record Fed (syntax : Syntax) (aim : Aim) (name : List ℕ) (v : Pass) (before now : Option ShelfContent) : Type 0 where
   pub bytes : List ℕ
   pub reached : Reached syntax aim v bytes
-  pub read : Moves (IsFile name bytes) before now
+  pub read : WhereKnown (IsFile name bytes) before now
 
 -- the file has a fault, or reading it failed, or there was no memory
 abbrev pub PageFails : Way → List ℕ → InputError → Option ShelfContent → Option ShelfContent → Type 0
-PageFails way name (error.Refused fault) before now = Moves (Finds way name fault) before now
-PageFails way name error.Failed before now = Moves (ReadsClean way name) before now
+PageFails way name (error.Refused fault) before now = WhereKnown (Finds way name fault) before now
+PageFails way name error.Failed before now = WhereKnown (ReadsClean way name) before now
 PageFails way name error.BadContext before now = ⊥
 PageFails way name error.NoMemory before now = Unit {0}
 
@@ -246,5 +246,5 @@ FileGives syntax aim name (Err why) v before now = PageFails (way_for syntax aim
 
 -- the file was read to its end, and this holds of its bytes and of what they give; or it wasn't
 abbrev pub PageGives : {A : Type 0} → Way → (List ℕ → A → Type 0) → List ℕ → Result A InputError → Option ShelfContent → Option ShelfContent → Type 0
-PageGives way holds name (Ok given) before now = Moves (ReadsWhole holds name given) before now
+PageGives way holds name (Ok given) before now = WhereKnown (ReadsWhole holds name given) before now
 PageGives way holds name (Err why) before now = PageFails way name why before now

@@ -3,7 +3,7 @@ use Rattle.std.specs.Prelude.{◌≡◌, ◌⊎◌, ℕ, ◌+◌, ◌≤◌, Boo
 use Rattle.std.specs.Fmt.{decimal}
 use Rattle.rx_ports.specs.Counts.{Rose}
 use Rattle.rx_ports.specs.Files.{file_of}
-use Rattle.rx_ports.specs.Shelves.{ShelfContent, Moves, GrowsBy, GrowsByPart, Stays}
+use Rattle.rx_ports.specs.Shelves.{ShelfContent, WhereKnown, GrowsBy, GrowsByPart, Stays}
 use Rattle.rx_terms.specs.Text.{Chars}
 use Rattle.rx_job.specs.Words.{Job, Asked, Gathering, reads, gathers, samples, job}
 use Rattle.rx_grammar.specs.Kinds.{kind_name}
@@ -38,7 +38,7 @@ IfTold told holds = (content : ShelfContent) → told ≡ Some content → holds
 
 -- there is a text then of which this holds, and what a sink holds became another with it
 abbrev pub Writes : Option ShelfContent → (List ℕ → Type 0) → (List ℕ → List ℕ → List ℕ → Type 0) → Option (List ℕ) → Option (List ℕ) → Type 0
-Writes told is grows old new = (content : ShelfContent) → told ≡ Some content → (text : List ℕ) × is text × Moves (grows text) old new
+Writes told is grows old new = (content : ShelfContent) → told ≡ Some content → (text : List ℕ) × is text × WhereKnown (grows text) old new
 
 -- this holds of the fault for which the page is refused
 abbrev pub WhereRefused : Status → (Fault → Type 0) → Type 0
@@ -106,17 +106,17 @@ refused_line fault =
 
 -- the line was written, or a front of it, where the sink failed
 abbrev pub Says : List ℕ → Option (List ℕ) → Option (List ℕ) → ℕ → ℕ → Type 0
-Says line old new before now = Moves (GrowsBy line) old new ⊎ (Rose before now × Moves (GrowsByPart line) old new)
+Says line old new before now = WhereKnown (GrowsBy line) old new ⊎ (Rose before now × WhereKnown (GrowsByPart line) old new)
 
 -- nothing was said, and no writing of it failed
 abbrev pub SaysNothing : Option (List ℕ) → Option (List ℕ) → ℕ → ℕ → Type 0
-SaysNothing old new before now = Moves Stays old new × (now ≡ before)
+SaysNothing old new before now = WhereKnown Stays old new × (now ≡ before)
 
 -- how a sample of so many items ends: its line was written, or a front of it, where out failed; or there was no memory
 abbrev pub SampleEnds : ℕ → Status → Option (List ℕ) → Option (List ℕ) → ℕ → ℕ → Type 0
-SampleEnds count status.Done old new before now = (line : List ℕ) × IsSample count line × Moves (GrowsBy line) old new
-SampleEnds count status.WriteFault old new before now = (line : List ℕ) × IsSample count line × Moves (GrowsByPart line) old new × Rose before now
-SampleEnds count status.Memory old new before now = Moves Stays old new
+SampleEnds count status.Done old new before now = (line : List ℕ) × IsSample count line × WhereKnown (GrowsBy line) old new
+SampleEnds count status.WriteFault old new before now = (line : List ℕ) × IsSample count line × WhereKnown (GrowsByPart line) old new × Rose before now
+SampleEnds count status.Memory old new before now = WhereKnown Stays old new
 SampleEnds count (status.Refused fault) old new before now = ⊥
 SampleEnds count status.Usage old new before now = ⊥
 SampleEnds count status.ReadFault old new before now = ⊥
@@ -136,14 +136,14 @@ pub record Devices : Type 0 where
 abbrev pub EndsAs : Gathering → Status → Devices → Devices → Type 0
 EndsAs gathering status.Done old new =
     (text : List ℕ) × WhereTold (IsGathered gathering text) old.told × WhereTold (DenotesGathered gathering text) old.told
-    × Moves (GrowsBy text) old.held new.held
+    × WhereKnown (GrowsBy text) old.held new.held
 EndsAs gathering status.WriteFault old new =
-    (text : List ℕ) × WhereTold (IsGathered gathering text) old.told × Moves (GrowsByPart text) old.held new.held × Rose old.write_faults new.write_faults
-EndsAs gathering status.ReadFault old new = (Rose old.read_faults new.read_faults ⊎ TellsThat (LacksOne gathering) old.told) × Moves Stays old.held new.held
+    (text : List ℕ) × WhereTold (IsGathered gathering text) old.told × WhereKnown (GrowsByPart text) old.held new.held × Rose old.write_faults new.write_faults
+EndsAs gathering status.ReadFault old new = (Rose old.read_faults new.read_faults ⊎ TellsThat (LacksOne gathering) old.told) × WhereKnown Stays old.held new.held
 EndsAs gathering status.BadContext old new =
     (is_some gathering.context ≡ true) × WhereTold (HasOther gathering.context) old.told
-    × Moves (TakesContext gathering.context) old.told new.told × Moves Stays old.held new.held
-EndsAs gathering status.Memory old new = Moves Stays old.held new.held
+    × WhereKnown (TakesContext gathering.context) old.told new.told × WhereKnown Stays old.held new.held
+EndsAs gathering status.Memory old new = WhereKnown Stays old.held new.held
 EndsAs gathering (status.Refused fault) old new = ⊥
 EndsAs gathering status.Usage old new = ⊥
 
@@ -154,7 +154,7 @@ SaysAs s old new = SaysNothing old.said new.said old.say_faults new.say_faults
 
 pub record GatheringEnds (gathering : Gathering) (s : Status) (old new : Devices) : Type 0 where
   pub ends : EndsAs gathering s old new
-  pub takes : Moves (TakesGathering gathering) old.told new.told
+  pub takes : WhereKnown (TakesGathering gathering) old.told new.told
   pub says : SaysAs s old new
 
 -- a page that is refused was read no further than a piece past the byte that decides the fault, where that isn't an item's

@@ -1,7 +1,7 @@
 //! Reading a whole file.
 ghost use Rattle.std.specs.Prelude.{◌≡◌, ◌+◌, ◌≤◌, ◌<◌, ◌^◌, ◌⊎◌, IfOk, IsErrOf, length, vec_len};
 ghost use Rattle.rx_ports.specs.Counts.{Rose};
-ghost use Rattle.rx_ports.specs.Shelves.{Moves, Lacks};
+ghost use Rattle.rx_ports.specs.Shelves.{WhereKnown, Lacks};
 ghost use Rattle.rx_command.specs.Files.{ReadsFile, ReadsOn, TakesSome, TakesOf};
 
 use rx_ports::{PIECE, Shelf};
@@ -22,8 +22,8 @@ pub fn read_file<F: Shelf>(
     limit: usize,
 ) -> Result<Vec<u8>, ReadError>
     requires { limit < 2 ^ 60 }
-    ensures ok { IfOk result (λ bytes. Moves (ReadsFile name.now limit bytes.items) (F.told shelf.old) (F.told shelf.new)) }
-    ensures takes { Moves (TakesOf name.now limit) (F.told shelf.old) (F.told shelf.new) }
+    ensures ok { IfOk result (λ bytes. WhereKnown (ReadsFile name.now limit bytes.items) (F.told shelf.old) (F.told shelf.new)) }
+    ensures takes { WhereKnown (TakesOf name.now limit) (F.told shelf.old) (F.told shelf.new) }
     ensures later { F.faults shelf.old ≤ F.faults shelf.new }
     ensures failed { IsErrOf result ReadError.Failed → Rose (F.faults shelf.old) (F.faults shelf.new) ⊎ Lacks (F.told shelf.old) name.now }
 {
@@ -54,8 +54,8 @@ fn read_on<F: Shelf>(
     requires { 0 < length part.old }
     ensures bound { IfOk result (λ n. n ≤ length part.new) }
     ensures count { IfOk result (λ n. vec_len bytes.new ≡ vec_len bytes.old + n) }
-    ensures told { IfOk result (λ n. Moves (ReadsOn bytes.old.items bytes.new.items n) (F.told shelf.old) (F.told shelf.new)) }
-    ensures takes { Moves (TakesSome (length part.old)) (F.told shelf.old) (F.told shelf.new) }
+    ensures told { IfOk result (λ n. WhereKnown (ReadsOn bytes.old.items bytes.new.items n) (F.told shelf.old) (F.told shelf.new)) }
+    ensures takes { WhereKnown (TakesSome (length part.old)) (F.told shelf.old) (F.told shelf.new) }
     ensures later { F.faults shelf.old ≤ F.faults shelf.new }
     ensures failed { IsErrOf result ReadError.Failed → Rose (F.faults shelf.old) (F.faults shelf.new) }
 {

@@ -1,7 +1,7 @@
 //! Several pages in one dataset: the context file is read, and then each page in order.
 ghost use Rattle.std.specs.Prelude.{◌≡◌, ◌≤◌, ◌++◌, [], ◌∷◌, length, IfOk, OnOk, IsErrOf, Err, is_some, true, encode_utf8_all};
 ghost use Rattle.rx_many.specs.Pages.{accepted_page};
-ghost use Rattle.rx_ports.specs.Shelves.{Moves};
+ghost use Rattle.rx_ports.specs.Shelves.{WhereKnown};
 ghost use Rattle.rx_job.specs.Jobs.{several_seen, page_at};
 ghost use Rattle.rx_command.specs.Contexts.{HasOther, TakesContext};
 ghost use Rattle.rx_command.specs.Gathering.{AddsPage, AddsPages, GathersPages, TakesGathering, TakesPart, TakesParts};
@@ -29,12 +29,12 @@ pub(crate) fn gather<F: Shelf>(
     shelf: &mut F,
     several: Several<'_>,
 ) -> Result<Many, InputError>
-    ensures ok { IfOk result (λ many. Moves (GathersPages (several_seen several.entry) many) (F.told shelf.old) (F.told shelf.new)) }
+    ensures ok { IfOk result (λ many. WhereKnown (GathersPages (several_seen several.entry) many) (F.told shelf.old) (F.told shelf.new)) }
     ensures not_refused { (fault : Fault) → result ≡ Err (InputError.Refused fault) → ⊥ }
-    ensures takes { Moves (TakesGathering (several_seen several.entry)) (F.told shelf.old) (F.told shelf.new) }
+    ensures takes { WhereKnown (TakesGathering (several_seen several.entry)) (F.told shelf.old) (F.told shelf.new) }
     ensures bad { IsErrOf result InputError.BadContext → WhereTold (HasOther (several_seen several.entry).context) (F.told shelf.old) }
     ensures bad_takes { IsErrOf result InputError.BadContext →
-        Moves (TakesContext (several_seen several.entry).context) (F.told shelf.old) (F.told shelf.new) }
+        WhereKnown (TakesContext (several_seen several.entry).context) (F.told shelf.old) (F.told shelf.new) }
     ensures named { IsErrOf result InputError.BadContext → is_some (several_seen several.entry).context ≡ true }
     ensures failed { IsErrOf result InputError.Failed → FailedOr F.told F.faults shelf.old shelf.new (LacksOne (several_seen several.entry)) }
 {
@@ -74,7 +74,7 @@ fn gather_pages<F: Shelf>(
     many: &mut Many,
 ) -> Result<(), InputError>
     ensures ok { OnOk result (AddsPages context.now syntax pages.now many.old many.new (F.told shelf.old) (F.told shelf.new)) }
-    ensures takes { Moves (TakesParts context.now syntax pages.now) (F.told shelf.old) (F.told shelf.new) }
+    ensures takes { WhereKnown (TakesParts context.now syntax pages.now) (F.told shelf.old) (F.told shelf.new) }
     ensures not_refused { (fault : Fault) → result ≡ Err (InputError.Refused fault) → ⊥ }
     ensures no_context { IsErrOf result InputError.BadContext → ⊥ }
     ensures failed { IsErrOf result InputError.Failed → FailedOr F.told F.faults shelf.old shelf.new (λ told. LacksPage told.files pages.now) }
@@ -95,7 +95,7 @@ fn gather_by<F: Shelf>(
 ) -> Result<(), InputError>
     requires { length piece.old ≡ 65536 }
     ensures ok { OnOk result (AddsPages context.now syntax pages.now many.old many.new (F.told shelf.old) (F.told shelf.new)) }
-    ensures takes { Moves (TakesParts context.now syntax pages.now) (F.told shelf.old) (F.told shelf.new) }
+    ensures takes { WhereKnown (TakesParts context.now syntax pages.now) (F.told shelf.old) (F.told shelf.new) }
     ensures not_refused { (fault : Fault) → result ≡ Err (InputError.Refused fault) → ⊥ }
     ensures no_context { IsErrOf result InputError.BadContext → ⊥ }
     ensures failed { IsErrOf result InputError.Failed → FailedOr F.told F.faults shelf.old shelf.new (λ told. LacksPage told.files pages.now) }
@@ -123,7 +123,7 @@ fn gather_page<F: Shelf>(
 ) -> Result<(), InputError>
     requires { length piece.old ≡ 65536 }
     ensures ok { OnOk result (AddsPage context.now syntax (page_at address.now page.now) many.old many.new (F.told shelf.old) (F.told shelf.new)) }
-    ensures takes { Moves (TakesPart context.now syntax (page_at address.now page.now)) (F.told shelf.old) (F.told shelf.new) }
+    ensures takes { WhereKnown (TakesPart context.now syntax (page_at address.now page.now)) (F.told shelf.old) (F.told shelf.new) }
     ensures not_refused { (fault : Fault) → result ≡ Err (InputError.Refused fault) → ⊥ }
     ensures no_context { IsErrOf result InputError.BadContext → ⊥ }
     ensures failed { IsErrOf result InputError.Failed → FailedOrLacks F.told F.faults shelf.old shelf.new (encode_utf8_all page.now) }

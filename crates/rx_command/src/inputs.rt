@@ -1,6 +1,6 @@
 //! Doing a job: its context file is read, and then its page.
 ghost use Rattle.std.specs.Prelude.{◌≡◌, ◌≤◌, IfOk, IsErrOf, Err, Some, encode_utf8_all, is_some, true, false};
-ghost use Rattle.rx_ports.specs.Shelves.{Moves};
+ghost use Rattle.rx_ports.specs.Shelves.{WhereKnown};
 ghost use Rattle.rx_job.specs.Words.{checks};
 ghost use Rattle.rx_job.specs.Jobs.{page_by, reads_page, has_context, text_in};
 ghost use Rattle.rx_command.specs.Files.{TakesOf};
@@ -38,12 +38,12 @@ pub(crate) fn outcome_of_job<F: Shelf>(
     requires { reads_page job ≡ true }
     ensures ok { GivesBy result (JobText (page_by job)) (F.told shelf.old) (F.told shelf.new) }
     ensures refused { RefusesBy result (JobRefused (page_by job)) (F.told shelf.old) (F.told shelf.new) }
-    ensures takes { Moves (TakesFiles (Some (page_by job))) (F.told shelf.old) (F.told shelf.new) }
+    ensures takes { WhereKnown (TakesFiles (Some (page_by job))) (F.told shelf.old) (F.told shelf.new) }
     ensures bad { IsErrOf result InputError.BadContext → WhereTold (HasOther (page_by job).context) (F.told shelf.old) }
-    ensures bad_takes { IsErrOf result InputError.BadContext → Moves (TakesContext (page_by job).context) (F.told shelf.old) (F.told shelf.new) }
+    ensures bad_takes { IsErrOf result InputError.BadContext → WhereKnown (TakesContext (page_by job).context) (F.told shelf.old) (F.told shelf.new) }
     ensures named { IsErrOf result InputError.BadContext → is_some (page_by job).context ≡ true }
     ensures failed { IsErrOf result InputError.Failed → FailedOr F.told F.faults shelf.old shelf.new (IsLacking (page_by job)) }
-    ensures cleanly { IsErrOf result InputError.Failed → Moves (StopsCleanly (Some (page_by job))) (F.told shelf.old) (F.told shelf.new) }
+    ensures cleanly { IsErrOf result InputError.Failed → WhereKnown (StopsCleanly (Some (page_by job))) (F.told shelf.old) (F.told shelf.new) }
     ensures later { F.faults shelf.old ≤ F.faults shelf.new }
 {
     let outcome = outcome_by(alloc, shelf, &job);
@@ -56,12 +56,12 @@ fn outcome_by<F: Shelf>(alloc: Global, shelf: &mut F, job: &Job) -> Result<Outco
     requires { reads_page job.now ≡ true }
     ensures ok { GivesBy result (JobText (page_by job.now)) (F.told shelf.old) (F.told shelf.new) }
     ensures refused { RefusesBy result (JobRefused (page_by job.now)) (F.told shelf.old) (F.told shelf.new) }
-    ensures takes { Moves (TakesFiles (Some (page_by job.now))) (F.told shelf.old) (F.told shelf.new) }
+    ensures takes { WhereKnown (TakesFiles (Some (page_by job.now))) (F.told shelf.old) (F.told shelf.new) }
     ensures bad { IsErrOf result InputError.BadContext → WhereTold (HasOther (page_by job.now).context) (F.told shelf.old) }
-    ensures bad_takes { IsErrOf result InputError.BadContext → Moves (TakesContext (page_by job.now).context) (F.told shelf.old) (F.told shelf.new) }
+    ensures bad_takes { IsErrOf result InputError.BadContext → WhereKnown (TakesContext (page_by job.now).context) (F.told shelf.old) (F.told shelf.new) }
     ensures named { IsErrOf result InputError.BadContext → is_some (page_by job.now).context ≡ true }
     ensures failed { IsErrOf result InputError.Failed → FailedOr F.told F.faults shelf.old shelf.new (IsLacking (page_by job.now)) }
-    ensures cleanly { IsErrOf result InputError.Failed → Moves (StopsCleanly (Some (page_by job.now))) (F.told shelf.old) (F.told shelf.new) }
+    ensures cleanly { IsErrOf result InputError.Failed → WhereKnown (StopsCleanly (Some (page_by job.now))) (F.told shelf.old) (F.told shelf.new) }
     ensures later { F.faults shelf.old ≤ F.faults shelf.new }
 {
     match job {
@@ -86,12 +86,12 @@ fn outcome_under_context<F: Shelf>(
     requires { has_context job.now ≡ true }
     ensures ok { GivesBy result (JobText (page_by job.now)) (F.told shelf.old) (F.told shelf.new) }
     ensures refused { RefusesBy result (JobRefused (page_by job.now)) (F.told shelf.old) (F.told shelf.new) }
-    ensures takes { Moves (TakesFiles (Some (page_by job.now))) (F.told shelf.old) (F.told shelf.new) }
+    ensures takes { WhereKnown (TakesFiles (Some (page_by job.now))) (F.told shelf.old) (F.told shelf.new) }
     ensures bad { IsErrOf result InputError.BadContext → WhereTold (HasOther (page_by job.now).context) (F.told shelf.old) }
-    ensures bad_takes { IsErrOf result InputError.BadContext → Moves (TakesContext (page_by job.now).context) (F.told shelf.old) (F.told shelf.new) }
+    ensures bad_takes { IsErrOf result InputError.BadContext → WhereKnown (TakesContext (page_by job.now).context) (F.told shelf.old) (F.told shelf.new) }
     ensures named { IsErrOf result InputError.BadContext → is_some (page_by job.now).context ≡ true }
     ensures failed { IsErrOf result InputError.Failed → FailedOr F.told F.faults shelf.old shelf.new (IsLacking (page_by job.now)) }
-    ensures cleanly { IsErrOf result InputError.Failed → Moves (StopsCleanly (Some (page_by job.now))) (F.told shelf.old) (F.told shelf.new) }
+    ensures cleanly { IsErrOf result InputError.Failed → WhereKnown (StopsCleanly (Some (page_by job.now))) (F.told shelf.old) (F.told shelf.new) }
     ensures later { F.faults shelf.old ≤ F.faults shelf.new }
 {
     let context = match read_context(alloc, shelf, job.context()) {
@@ -136,7 +136,7 @@ fn extract<F: Shelf>(
 ) -> Result<Outcome, InputError>
     ensures ok { GivesText result (extracts_by approach format graph.entry) approach.context page.now (F.told shelf.old) (F.told shelf.new) }
     ensures refused { RefusesPage result (extracts_by approach format graph.entry) approach.context page.now (F.told shelf.old) (F.told shelf.new) }
-    ensures takes { Moves (TakesOf (encode_utf8_all page.now) 1073807359) (F.told shelf.old) (F.told shelf.new) }
+    ensures takes { WhereKnown (TakesOf (encode_utf8_all page.now) 1073807359) (F.told shelf.old) (F.told shelf.new) }
     ensures context { IsErrOf result InputError.BadContext → ⊥ }
     ensures failed { IsErrOf result InputError.Failed → FailedOrLacks F.told F.faults shelf.old shelf.new (encode_utf8_all page.now) }
     ensures cleanly { StopsBy result (way_of approach) (encode_utf8_all page.now) (F.told shelf.old) (F.told shelf.new) }
@@ -166,7 +166,7 @@ fn itemize<F: Shelf>(
 ) -> Result<Outcome, InputError>
     ensures ok { (context : RulesContext) → GivesText result (itemizes_by syntax address) context page.now (F.told shelf.old) (F.told shelf.new) }
     ensures refused { (context : RulesContext) → RefusesPage result (itemizes_by syntax address) context page.now (F.told shelf.old) (F.told shelf.new) }
-    ensures takes { Moves (TakesOf (encode_utf8_all page.now) 1073807359) (F.told shelf.old) (F.told shelf.new) }
+    ensures takes { WhereKnown (TakesOf (encode_utf8_all page.now) 1073807359) (F.told shelf.old) (F.told shelf.new) }
     ensures no_context { IsErrOf result InputError.BadContext → ⊥ }
     ensures failed { IsErrOf result InputError.Failed → FailedOrLacks F.told F.faults shelf.old shelf.new (encode_utf8_all page.now) }
     ensures cleanly { StopsBy result (way_for syntax (for_items address)) (encode_utf8_all page.now) (F.told shelf.old) (F.told shelf.new) }
@@ -202,7 +202,7 @@ fn check<F: Shelf>(
 ) -> Result<Outcome, InputError>
     ensures ok { GivesText result (checks syntax) context page.now (F.told shelf.old) (F.told shelf.new) }
     ensures refused { RefusesPage result (checks syntax) context page.now (F.told shelf.old) (F.told shelf.new) }
-    ensures takes { Moves (TakesOf (encode_utf8_all page.now) 1073807359) (F.told shelf.old) (F.told shelf.new) }
+    ensures takes { WhereKnown (TakesOf (encode_utf8_all page.now) 1073807359) (F.told shelf.old) (F.told shelf.new) }
     ensures no_context { IsErrOf result InputError.BadContext → ⊥ }
     ensures failed { IsErrOf result InputError.Failed → FailedOrLacks F.told F.faults shelf.old shelf.new (encode_utf8_all page.now) }
     ensures cleanly { StopsBy result (way_for syntax (for_faults context)) (encode_utf8_all page.now) (F.told shelf.old) (F.told shelf.new) }
@@ -220,8 +220,8 @@ pub(crate) fn read_context<F: Shelf>(
     shelf: &mut F,
     file: Option<&Text>,
 ) -> Result<Context, InputError>
-    ensures ok { IfOk result (λ context. Moves (ReadsContext (text_in file.entry) context) (F.told shelf.old) (F.told shelf.new)) }
-    ensures takes { Moves (TakesContext (text_in file.entry)) (F.told shelf.old) (F.told shelf.new) }
+    ensures ok { IfOk result (λ context. WhereKnown (ReadsContext (text_in file.entry) context) (F.told shelf.old) (F.told shelf.new)) }
+    ensures takes { WhereKnown (TakesContext (text_in file.entry)) (F.told shelf.old) (F.told shelf.new) }
     ensures bad { IsErrOf result InputError.BadContext → WhereTold (HasOther (text_in file.entry)) (F.told shelf.old) }
     ensures named { IsErrOf result InputError.BadContext → is_some (text_in file.entry) ≡ true }
     ensures not_refused { (fault : Fault) → result ≡ Err (InputError.Refused fault) → ⊥ }
@@ -240,7 +240,7 @@ fn read_named_context<F: Shelf>(
     file: &Text,
 ) -> Result<Context, InputError>
     ensures ok { IfOk result (λ context. WhereTold (λ told. IsFileOf file.now told context) (F.told shelf.old)) }
-    ensures takes { Moves (TakesContext (Some file.now)) (F.told shelf.old) (F.told shelf.new) }
+    ensures takes { WhereKnown (TakesContext (Some file.now)) (F.told shelf.old) (F.told shelf.new) }
     ensures bad { IsErrOf result InputError.BadContext → WhereTold (IsContextFile file.now false) (F.told shelf.old) }
     ensures not_refused { (fault : Fault) → result ≡ Err (InputError.Refused fault) → ⊥ }
     ensures failed { IsErrOf result InputError.Failed → FailedOr F.told F.faults shelf.old shelf.new (LacksContext (Some file.now)) }

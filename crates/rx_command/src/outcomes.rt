@@ -3,7 +3,7 @@ ghost use Rattle.std.specs.Prelude.{◌≡◌, IfOk, OnOk, IsErrOf};
 ghost use Rattle.rx_model.specs.Copied.{copied};
 ghost use Rattle.rx_model.specs.Seen.{triples_seen};
 ghost use Rattle.rx_ports.specs.Counts.{Rose};
-ghost use Rattle.rx_ports.specs.Shelves.{Moves, GrowsBy, GrowsByPart};
+ghost use Rattle.rx_ports.specs.Shelves.{WhereKnown, GrowsBy, GrowsByPart};
 ghost use Rattle.rx_command.specs.Written.{IsFormText, FormDenotes, text_of, Denoted, graph_made};
 
 use crate::forms::Form;
@@ -64,9 +64,9 @@ impl Outcome {
 
     /// Writes the text piece by piece. Memory is taken before the first byte is written.
     pub fn write<O: Sink>(&self, alloc: Global, out: &mut O) -> Result<(), WriteError>
-        ensures ok { OnOk result (Moves (GrowsBy (text_of self.now)) (O.held out.old) (O.held out.new)) }
+        ensures ok { OnOk result (WhereKnown (GrowsBy (text_of self.now)) (O.held out.old) (O.held out.new)) }
         ensures denoted { OnOk result (Denoted self.now) }
-        ensures partly { IsErrOf result WriteError.Failed → Moves (GrowsByPart (text_of self.now)) (O.held out.old) (O.held out.new) }
+        ensures partly { IsErrOf result WriteError.Failed → WhereKnown (GrowsByPart (text_of self.now)) (O.held out.old) (O.held out.new) }
         ensures cause { IsErrOf result WriteError.Failed → Rose (O.faults out.old) (O.faults out.new) }
         ensures untouched { IsErrOf result WriteError.NoMemory → out.new ≡ out.old }
     {
@@ -106,8 +106,8 @@ fn json_of(alloc: Global, graph: Graph) -> Result<Outcome, NoMemory>
 
 /// Writes a text that is whole.
 fn write_whole<O: Sink>(out: &mut O, text: &[u8]) -> Result<(), WriteError>
-    ensures ok { OnOk result (Moves (GrowsBy text.now) (O.held out.old) (O.held out.new)) }
-    ensures partly { IsErrOf result WriteError.Failed → Moves (GrowsByPart text.now) (O.held out.old) (O.held out.new) }
+    ensures ok { OnOk result (WhereKnown (GrowsBy text.now) (O.held out.old) (O.held out.new)) }
+    ensures partly { IsErrOf result WriteError.Failed → WhereKnown (GrowsByPart text.now) (O.held out.old) (O.held out.new) }
     ensures cause { IsErrOf result WriteError.Failed → Rose (O.faults out.old) (O.faults out.new) }
     ensures memory { IsErrOf result WriteError.NoMemory → ⊥ }
 {

@@ -1,7 +1,7 @@
 //! Reading a page as its bytes come.
 ghost use Rattle.std.specs.Prelude.{◌≡◌, ◌<◌, ◌≤◌, IfOk, IsErrOf, length, vec_len};
 ghost use Rattle.rx_ports.specs.Counts.{Rose};
-ghost use Rattle.rx_ports.specs.Shelves.{Moves};
+ghost use Rattle.rx_ports.specs.Shelves.{WhereKnown};
 ghost use Rattle.rx_command.specs.Reading.{for_items, for_faults, way_for, Starts, MakesTriples, FindsItems, FindsFaults, ReadsNext, GivesItems, GivesRight, FileGives, PageGives, TakesToFirst, FromStart, EndsWithList, EndsWithItems, EndsRight};
 ghost use Rattle.rx_command.specs.Files.{TakesSome, TakesOf};
 ghost use Rattle.rx_command.specs.Ways.{way_of, GivesListOf};
@@ -36,8 +36,8 @@ pub(crate) fn read_page<F: Shelf>(
     approach: Approach,
 ) -> Result<TripleList, InputError>
     ensures gives { PageGives (way_of approach) (GivesListOf approach) name.now result (F.told shelf.old) (F.told shelf.new) }
-    ensures takes { Moves (TakesOf name.now 1073807359) (F.told shelf.old) (F.told shelf.new) }
-    ensures to_first { Moves (TakesToFirst (way_of approach) name.now) (F.told shelf.old) (F.told shelf.new) }
+    ensures takes { WhereKnown (TakesOf name.now 1073807359) (F.told shelf.old) (F.told shelf.new) }
+    ensures to_first { WhereKnown (TakesToFirst (way_of approach) name.now) (F.told shelf.old) (F.told shelf.new) }
     ensures later { F.faults shelf.old ≤ F.faults shelf.new }
     ensures failed { IsErrOf result InputError.Failed → FailedOrLacks F.told F.faults shelf.old shelf.new name.now }
 {
@@ -58,8 +58,8 @@ pub(crate) fn read_page_by<F: Shelf>(
 ) -> Result<TripleList, InputError>
     requires { length piece.old ≡ 65536 }
     ensures gives { PageGives (way_of approach) (GivesListOf approach) name.now result (F.told shelf.old) (F.told shelf.new) }
-    ensures takes { Moves (TakesOf name.now 1073807359) (F.told shelf.old) (F.told shelf.new) }
-    ensures to_first { Moves (TakesToFirst (way_of approach) name.now) (F.told shelf.old) (F.told shelf.new) }
+    ensures takes { WhereKnown (TakesOf name.now 1073807359) (F.told shelf.old) (F.told shelf.new) }
+    ensures to_first { WhereKnown (TakesToFirst (way_of approach) name.now) (F.told shelf.old) (F.told shelf.new) }
     ensures later { F.faults shelf.old ≤ F.faults shelf.new }
     ensures failed { IsErrOf result InputError.Failed → FailedOrLacks F.told F.faults shelf.old shelf.new name.now }
 {
@@ -88,7 +88,7 @@ pub(crate) fn read_items<F: Shelf>(
     address: Iri,
 ) -> Result<Items, InputError>
     ensures gives { PageGives (way_for syntax (for_items address)) (GivesItems syntax address) name.now result (F.told shelf.old) (F.told shelf.new) }
-    ensures takes { Moves (TakesOf name.now 1073807359) (F.told shelf.old) (F.told shelf.new) }
+    ensures takes { WhereKnown (TakesOf name.now 1073807359) (F.told shelf.old) (F.told shelf.new) }
     ensures later { F.faults shelf.old ≤ F.faults shelf.new }
     ensures failed { IsErrOf result InputError.Failed → FailedOrLacks F.told F.faults shelf.old shelf.new name.now }
 {
@@ -112,7 +112,7 @@ pub(crate) fn check_page<F: Shelf>(
     context: Context,
 ) -> Result<(), InputError>
     ensures gives { PageGives (way_for syntax (for_faults context)) (GivesRight syntax context) name.now result (F.told shelf.old) (F.told shelf.new) }
-    ensures takes { Moves (TakesOf name.now 1073807359) (F.told shelf.old) (F.told shelf.new) }
+    ensures takes { WhereKnown (TakesOf name.now 1073807359) (F.told shelf.old) (F.told shelf.new) }
     ensures later { F.faults shelf.old ≤ F.faults shelf.new }
     ensures failed { IsErrOf result InputError.Failed → FailedOrLacks F.told F.faults shelf.old shelf.new name.now }
 {
@@ -144,8 +144,8 @@ fn feed_file<F: Shelf>(
 ) -> Result<(), InputError>
     requires { Starts reader.old }
     ensures gives { FromStart reader.old (λ syntax aim. FileGives syntax aim name.now result reader.new (F.told shelf.old) (F.told shelf.new)) }
-    ensures takes { Moves (TakesOf name.now 1073807359) (F.told shelf.old) (F.told shelf.new) }
-    ensures to_first { FromStart reader.old (λ syntax aim. Moves (TakesToFirst (way_for syntax aim) name.now) (F.told shelf.old) (F.told shelf.new)) }
+    ensures takes { WhereKnown (TakesOf name.now 1073807359) (F.told shelf.old) (F.told shelf.new) }
+    ensures to_first { FromStart reader.old (λ syntax aim. WhereKnown (TakesToFirst (way_for syntax aim) name.now) (F.told shelf.old) (F.told shelf.new)) }
     ensures later { F.faults shelf.old ≤ F.faults shelf.new }
     ensures failed { IsErrOf result InputError.Failed → FailedOrLacks F.told F.faults shelf.old shelf.new name.now }
 {
@@ -163,8 +163,8 @@ fn feed_file_by<F: Shelf>(
     requires starts { Starts reader.old }
     requires room { length piece.old ≡ 65536 }
     ensures gives { FromStart reader.old (λ syntax aim. FileGives syntax aim name.now result reader.new (F.told shelf.old) (F.told shelf.new)) }
-    ensures takes { Moves (TakesOf name.now 1073807359) (F.told shelf.old) (F.told shelf.new) }
-    ensures to_first { FromStart reader.old (λ syntax aim. Moves (TakesToFirst (way_for syntax aim) name.now) (F.told shelf.old) (F.told shelf.new)) }
+    ensures takes { WhereKnown (TakesOf name.now 1073807359) (F.told shelf.old) (F.told shelf.new) }
+    ensures to_first { FromStart reader.old (λ syntax aim. WhereKnown (TakesToFirst (way_for syntax aim) name.now) (F.told shelf.old) (F.told shelf.new)) }
     ensures later { F.faults shelf.old ≤ F.faults shelf.new }
     ensures failed { IsErrOf result InputError.Failed → FailedOrLacks F.told F.faults shelf.old shelf.new name.now }
 {
@@ -191,7 +191,7 @@ fn feed_next<F: Shelf>(
     requires { 0 < length piece.old }
     ensures bound { IfOk result (λ n. n ≤ length piece.new) }
     ensures gives { ReadsNext reader.old (length piece.old) result reader.new (F.told shelf.old) (F.told shelf.new) }
-    ensures takes { Moves (TakesSome (length piece.old)) (F.told shelf.old) (F.told shelf.new) }
+    ensures takes { WhereKnown (TakesSome (length piece.old)) (F.told shelf.old) (F.told shelf.new) }
     ensures later { F.faults shelf.old ≤ F.faults shelf.new }
     ensures failed { IsErrOf result InputError.Failed → Rose (F.faults shelf.old) (F.faults shelf.new) }
 {

@@ -2,7 +2,7 @@
 ghost use Rattle.std.specs.Prelude.{◌≡◌, IfOk, OnOk, IsErrOf, map};
 ghost use Rattle.std.specs.Str.{chars};
 ghost use Rattle.rx_ports.specs.Counts.{Rose};
-ghost use Rattle.rx_ports.specs.Shelves.{Moves, GrowsBy, GrowsByPart};
+ghost use Rattle.rx_ports.specs.Shelves.{WhereKnown, GrowsBy, GrowsByPart};
 ghost use Rattle.rx_model.specs.Seen.{triples_seen};
 ghost use Rattle.rx_shapes.specs.Table.{AreShapes};
 ghost use Rattle.rx_nquads.specs.Quads.{proper_triple};
@@ -58,9 +58,9 @@ impl Shaped {
         context: &Context,
         out: &mut O,
     ) -> Result<(), WriteError>
-        ensures ok { OnOk result (Moves (GrowsBy (nested_text context.now self.now)) (O.held out.old) (O.held out.new)) }
+        ensures ok { OnOk result (WhereKnown (GrowsBy (nested_text context.now self.now)) (O.held out.old) (O.held out.new)) }
         ensures denoted { OnOk result (NestedTurtle (chars (nested_text context.now self.now)) (map proper_triple self.now.triples)) }
-        ensures partly { IsErrOf result WriteError.Failed → Moves (GrowsByPart (nested_text context.now self.now)) (O.held out.old) (O.held out.new) }
+        ensures partly { IsErrOf result WriteError.Failed → WhereKnown (GrowsByPart (nested_text context.now self.now)) (O.held out.old) (O.held out.new) }
         ensures cause { IsErrOf result WriteError.Failed → Rose (O.faults out.old) (O.faults out.new) }
         ensures untouched { IsErrOf result WriteError.NoMemory → out.new ≡ out.old }
     {

@@ -1,7 +1,7 @@
 //! The top call.
 ghost use Rattle.std.specs.Prelude.{◌≡◌, ◌≢◌, ◌≤◌, ℕ, List, None, IfOk, IsErrOf, OnOk, is_some, true, string_bytes};
 ghost use Rattle.rx_ports.specs.Counts.{Rose};
-ghost use Rattle.rx_ports.specs.Shelves.{Moves, GrowsBy, GrowsByPart, Stays};
+ghost use Rattle.rx_ports.specs.Shelves.{WhereKnown, GrowsBy, GrowsByPart, Stays};
 ghost use Rattle.rx_job.specs.Jobs.{several_seen};
 ghost use Rattle.rx_job.specs.Words.{gathering_asked, job, most_items, page_asked, samples};
 ghost use Rattle.rx_command.specs.Contexts.{TakesContext, context_asked};
@@ -88,13 +88,13 @@ pub fn run<F: Shelf, O: Sink, E: Sink>(
     ensures refuses_one { WhereRefused result (λ fault. gathering_asked words.now ≡ None) }
     // The page is then read no further than 65,536 bytes past the byte that decides the fault, unless that is an item's,
     // which is found once the page has ended.
-    ensures refused_takes { WhereRefused result (λ fault. Moves (TakesToFault (page_asked words.now) fault) (F.told shelf.old) (F.told shelf.new)) }
+    ensures refused_takes { WhereRefused result (λ fault. WhereKnown (TakesToFault (page_asked words.now) fault) (F.told shelf.old) (F.told shelf.new)) }
 
     // ReadFault comes only where the shelf failed, or lacks the context file, or lacks a page where the context file is a
     // context; and where it lacks one of them there is no other answer but want of memory.
     ensures read_fault { result ≡ Status.ReadFault → ReadCause words.now (F.told shelf.old) (F.faults shelf.old) (F.faults shelf.new) }
     // What was read of a page that alone is asked for, where it is there, holds no fault then but that it ends.
-    ensures cleanly { result ≡ Status.ReadFault → Moves (StopsCleanly (page_asked words.now)) (F.told shelf.old) (F.told shelf.new) }
+    ensures cleanly { result ≡ Status.ReadFault → WhereKnown (StopsCleanly (page_asked words.now)) (F.told shelf.old) (F.told shelf.new) }
     ensures lacking { LacksFile words.now (F.told shelf.old) → EndsSo result Status.ReadFault }
 
     // WriteFault comes only where out failed, which then holds a proper front of the text more than before.
@@ -102,7 +102,7 @@ pub fn run<F: Shelf, O: Sink, E: Sink>(
     ensures partly { result ≡ Status.WriteFault → Writes (F.told shelf.old) (Yields words.now (F.told shelf.old)) GrowsByPart (O.held out.old) (O.held out.new) }
 
     // On any other status nothing is written.
-    ensures nothing_written { result ≢ Status.Done → result ≢ Status.WriteFault → Moves Stays (O.held out.old) (O.held out.new) }
+    ensures nothing_written { result ≢ Status.Done → result ≢ Status.WriteFault → WhereKnown Stays (O.held out.old) (O.held out.new) }
 
     // BadContext comes only where the words name a context file, which is there and has another shape or is too long; and
     // then, where nothing failed, there is no other answer but want of memory. No more is read than that file has.
@@ -110,7 +110,7 @@ pub fn run<F: Shelf, O: Sink, E: Sink>(
     ensures bad_context { result ≡ Status.BadContext → IfTold (F.told shelf.old) (HasBadContext words.now (F.told shelf.old)) }
     ensures refuses_context { HasBadContext words.now (F.told shelf.old) → ¬ Rose (F.faults shelf.old) (F.faults shelf.new)
         → EndsSo result Status.BadContext }
-    ensures takes_context { result ≡ Status.BadContext → Moves (TakesContext (context_asked words.now)) (F.told shelf.old) (F.told shelf.new) }
+    ensures takes_context { result ≡ Status.BadContext → WhereKnown (TakesContext (context_asked words.now)) (F.told shelf.old) (F.told shelf.new) }
 
     // What err is told: one line on Usage, on Refused and on BadContext, or a front of it where err failed. On other
     // statuses it is told nothing, and didn't fail.
@@ -123,7 +123,7 @@ pub fn run<F: Shelf, O: Sink, E: Sink>(
     // How much is read: no more than the named files have together, nor more than a piece past the limit of each page and,
     // where a context file is named, one byte past the largest of these. Of several pages each that has a fault is read no
     // further than a piece past the byte that decides it.
-    ensures takes { Moves (TakesJob (job words.now)) (F.told shelf.old) (F.told shelf.new) }
+    ensures takes { WhereKnown (TakesJob (job words.now)) (F.told shelf.old) (F.told shelf.new) }
 
     // A sample leaves the shelf as it was, and ends with its line written, or a front of it where out failed, or in want of memory,
     // whatever the shelf and the sinks tell: no page of a sample is refused.
@@ -184,9 +184,9 @@ pub fn run<F: Shelf, O: Sink, E: Sink>(
 
 /// Writes the outcome's text, and doesn't let go of what it takes.
 fn write<O: Sink>(alloc: Global, outcome: Outcome, out: &mut O) -> Result<(), WriteError>
-    ensures ok { OnOk result (Moves (GrowsBy (text_of outcome)) (O.held out.old) (O.held out.new)) }
+    ensures ok { OnOk result (WhereKnown (GrowsBy (text_of outcome)) (O.held out.old) (O.held out.new)) }
     ensures denoted { OnOk result (Denoted outcome) }
-    ensures partly { IsErrOf result WriteError.Failed → Moves (GrowsByPart (text_of outcome)) (O.held out.old) (O.held out.new) }
+    ensures partly { IsErrOf result WriteError.Failed → WhereKnown (GrowsByPart (text_of outcome)) (O.held out.old) (O.held out.new) }
     ensures cause { IsErrOf result WriteError.Failed → Rose (O.faults out.old) (O.faults out.new) }
     ensures untouched { IsErrOf result WriteError.NoMemory → out.new ≡ out.old }
 {

@@ -8,8 +8,8 @@ use Rattle.rx_rdfa.specs.Naming.{Naming}
 use Rattle.rx_rdfa.specs.Resources.{Standing, Resources, resources, only}
 use Rattle.rx_rdfa.specs.Value.{rule, value_now}
 use Rattle.rx_rdfa.specs.Element.{to_node, of_vocabulary, types_by, links_by, properties_by, completed, start_of}
-use Rattle.rx_element.specs.declared.contexts.Waiting.{Waiting}
-use Rattle.rx_element.specs.declared.contexts.Waiting.TheVariants as code
+use Rattle.rx_element.specs.declared.contexts.IncompleteTriple.{IncompleteTriple}
+use Rattle.rx_element.specs.declared.contexts.IncompleteTriple.TheVariants as code
 use Rattle.rx_element.specs.Contexts.{waiting_seen}
 use Rattle.rx_element.specs.Triples.{completed_by}
 use Rattle.rx_element.specs.Starts.{vocabulary_by, typed_by, linked_by, values_of, found_by, start_by}
@@ -39,7 +39,7 @@ module _ (N : Naming ℕ ℕ) (base : Chars) (S : Standing ℕ ℕ) where
     quiet None e None = refl
     quiet None e (Some w) = by_test S.facts.inlist (λ t. rw t refl) (λ f. rw (f, e) refl)
 
-    completes : (ws : List Waiting) → filter_map (completed_by S.around.subject H.subject) ws ≡ filter_map (completed N base S H) (map waiting_seen ws)
+    completes : (ws : List IncompleteTriple) → filter_map (completed_by S.around.subject H.subject) ws ≡ filter_map (completed N base S H) (map waiting_seen ws)
     completes [] = refl
     completes (code.Forward p ∷ ws) = ap (λ (l : List (Triple ℕ)). to_node S.around.subject p H.subject ∷ l) (completes ws)
     completes (code.Reverse p ∷ ws) = ap (λ (l : List (Triple ℕ)). to_node H.subject p S.around.subject ∷ l) (completes ws)
@@ -56,7 +56,7 @@ module _ (N : Naming ℕ ℕ) (base : Chars) (S : Standing ℕ ℕ) where
   unfolding start_of
   start_whole = refl
 
-  pub start_is : (H : Resources ℕ) (v : Option (Term ℕ)) (ws : List Waiting) → H ≡ resources N base S → v ≡ only (is_some S.facts.property) (value_now (rule N base S.facts H) S.facts) → map waiting_seen ws ≡ S.around.hanging
+  pub start_is : (H : Resources ℕ) (v : Option (Term ℕ)) (ws : List IncompleteTriple) → H ≡ resources N base S → v ≡ only (is_some S.facts.property) (value_now (rule N base S.facts H) S.facts) → map waiting_seen ws ≡ S.around.hanging
       → start_by N base S.facts H v S.around.subject ws ≡ start_of N base S
   start_is H v ws r e w =
       ap₂ (λ (a b : List (Triple ℕ)). a ++ (if H.skipped then [] else b)) (voc S.facts.vocab) parts ∙ ap whole r ∙ start_whole

@@ -3,7 +3,7 @@ pub mod Rows
 pub mod Moment
 pub mod Contexts
 pub mod Places
-pub mod Found
+pub mod ElementResources
 pub mod TextRules
 pub mod Triples
 pub mod Iris

@@ -14,7 +14,7 @@ use Rattle.rx_model.specs.Seen.{node_seen}
 use Rattle.rx_element.specs.TextRules.{resource_term, value_by}
 use Rattle.rx_element.specs.Places.{naming, named}
 use Rattle.rx_element.specs.Triples.{completed_by}
-use Rattle.rx_element.specs.declared.contexts.Waiting.{Waiting}
+use Rattle.rx_element.specs.declared.contexts.IncompleteTriple.{IncompleteTriple}
 use Rattle.rx_element.specs.declared.places.Surroundings.{Surroundings}
 
 abbrev pub vocabulary_by : Chars → Option Chars → List (Triple ℕ)
@@ -50,7 +50,7 @@ abbrev pub found_by : Naming ℕ ℕ → Chars → Facts → Resources ℕ → L
 found_by naming base facts here = typed_by naming base facts here.typed ++ linked_by facts here.subject here.object
 
 -- of an element with its resources and its value, where that isn't its text, below a subject and what waits there
-abbrev pub start_by : Naming ℕ ℕ → Chars → Facts → Resources ℕ → Option (Term ℕ) → Node ℕ → List Waiting → List (Triple ℕ)
+abbrev pub start_by : Naming ℕ ℕ → Chars → Facts → Resources ℕ → Option (Term ℕ) → Node ℕ → List IncompleteTriple → List (Triple ℕ)
 start_by naming base facts here value above waiting =
     vocabulary_by base facts.vocab
     ++ (if here.skipped then []

@@ -5,10 +5,10 @@ use Rattle.rx_terms.specs.declared.triples.Triple.{Triple as CodeTriple}
 use Rattle.rx_model.specs.Terms.{Node, Triple}
 use Rattle.rx_model.specs.Seen.{triples_seen}
 use Rattle.rx_rdfa.specs.Element.{to_node}
-use Rattle.rx_element.specs.declared.contexts.Waiting.{Waiting}
-use Rattle.rx_element.specs.declared.contexts.Waiting.TheVariants.{Forward, Reverse, InList}
+use Rattle.rx_element.specs.declared.contexts.IncompleteTriple.{IncompleteTriple}
+use Rattle.rx_element.specs.declared.contexts.IncompleteTriple.TheVariants.{Forward, Reverse, InList}
 
-abbrev pub completed_by : Node ℕ → Node ℕ → Waiting → Option (Triple ℕ)
+abbrev pub completed_by : Node ℕ → Node ℕ → IncompleteTriple → Option (Triple ℕ)
 completed_by above subject (Forward predicate) = Some (to_node above predicate subject)
 completed_by above subject (Reverse predicate) = Some (to_node subject predicate above)
 completed_by above subject (InList owner predicate) = None

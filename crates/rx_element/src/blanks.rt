@@ -2,9 +2,9 @@
 ghost use Rattle.std.specs.Prelude.{◌≡◌, ◌<◌, ◌^◌, ◌+◌, option_map};
 ghost use Rattle.rx_model.specs.Seen.{node_seen};
 ghost use Rattle.rx_element.specs.Blanks.{is_blank, has_blank, number_after};
-ghost use Rattle.rx_element.specs.Found.{found_seen};
+ghost use Rattle.rx_element.specs.ElementResources.{found_seen};
 
-use crate::resources::Found;
+use crate::resources::ElementResources;
 use rx_terms::Node;
 
 /// Whether the node is the blank node of the number.
@@ -18,7 +18,7 @@ pub fn is_blank(node: &Node, number: u64) -> bool
 }
 
 /// The number after that of a new node, if there is one among the resources.
-pub(crate) fn number_after(found: &Found, fresh: u64) -> u64
+pub(crate) fn number_after(found: &ElementResources, fresh: u64) -> u64
     requires { fresh + 1 < 2 ^ 64 }
     ensures { result ≡ number_after (found_seen found.now) fresh }
 {

@@ -10,7 +10,7 @@ use std::rc::Rc;
 /// A triple that waits for the subject of an element further down (RDFa Core 1.1, section 7.5, step 10), by its
 /// predicate.
 #[derive(Debug, Drop)]
-pub enum Waiting {
+pub enum IncompleteTriple {
     /// From the parent subject to the subject that is to come.
     Forward(Iri),
     /// From the subject that is to come to the parent subject.
@@ -23,15 +23,15 @@ pub enum Waiting {
 /// taken. A contract sees the list.
 #[derive(Drop)]
 pub struct Hangings {
-    list: Option<Rc<Vec<Waiting>>>,
+    list: Option<Rc<Vec<IncompleteTriple>>>,
 }
 
 impl Model for Hangings {
     ghost use Rattle.std.specs.Prelude.{List, option_map};
     ghost use Rattle.rx_rdfa.specs.Inherited.{listed};
-    ghost use Rattle.rx_element.specs.declared.contexts.Waiting.{Waiting};
+    ghost use Rattle.rx_element.specs.declared.contexts.IncompleteTriple.{IncompleteTriple};
 
-    ghost Value = { List Waiting };
+    ghost Value = { List IncompleteTriple };
 
     ghost view = { λ h. listed (option_map (λ shared. shared.value.items) h.list) };
 }
@@ -45,7 +45,7 @@ impl Hangings {
     }
 
     /// The list, to be shared.
-    pub fn of(alloc: Global, list: Vec<Waiting>) -> Result<Hangings, NoMemory>
+    pub fn of(alloc: Global, list: Vec<IncompleteTriple>) -> Result<Hangings, NoMemory>
         ensures { IfOk result (λ hangings. hangings ≡ list.items) }
     {
         if list.is_empty() {
@@ -68,7 +68,7 @@ impl Hangings {
     }
 
     /// The triples that wait, in order.
-    pub fn as_slice(&self) -> &[Waiting]
+    pub fn as_slice(&self) -> &[IncompleteTriple]
         ensures { result.now ≡ self.now }
     {
         match &self.list {
@@ -81,19 +81,19 @@ impl Hangings {
 /// What the children of an element inherit, the evaluation context (RDFa Core 1.1, section 7.5): parent subject, parent
 /// object, the triples that wait, and the owner of lists.
 #[derive(Drop)]
-pub struct Context {
+pub struct EvaluationContext {
     pub subject: Node,
     pub object: Node,
     pub hanging: Hangings,
     pub owner: Owner,
 }
 
-impl Context {
+impl EvaluationContext {
     /// The same context for one more, where an element is skipped.
-    pub fn share(&self) -> Result<Context, NoMemory>
+    pub fn share(&self) -> Result<EvaluationContext, NoMemory>
         ensures { IfOk result (λ context. context ≡ self.now) }
     {
-        Ok(Context {
+        Ok(EvaluationContext {
             subject: self.subject.try_clone()?,
             object: self.object.try_clone()?,
             hanging: self.hanging.share()?,

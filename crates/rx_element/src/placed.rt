@@ -8,15 +8,15 @@ ghost use Rattle.rx_element.specs.Contexts.{context_seen};
 ghost use Rattle.rx_element.specs.Labels.{DrawnSome};
 ghost use Rattle.rx_element.specs.Moment.{labelled};
 ghost use Rattle.rx_element.specs.Placing.{placed_seen, plain_context, Places};
-ghost use Rattle.rx_element.specs.Found.{found_seen};
+ghost use Rattle.rx_element.specs.ElementResources.{found_seen};
 ghost use Rattle.rx_element.specs.TextRules.{value_with};
 
 use crate::blanks::number_after;
-use crate::contexts::{Context, Hangings};
+use crate::contexts::{EvaluationContext, Hangings};
 use crate::drawing::draw_labels;
 use crate::labels::Labels;
 use crate::places::{Surroundings, level_at};
-use crate::resources::{Found, clone_option};
+use crate::resources::{ElementResources, clone_option};
 use crate::values::{TextRule, value_now};
 use rx_curie::Facts;
 use rx_lists::Owner;
@@ -35,10 +35,10 @@ pub struct Placed {
 }
 
 /// A context of which only the subject and the object are known.
-fn plain_context(alloc: Global, subject: &Node, object: &Node) -> Result<Context, NoMemory>
+fn plain_context(alloc: Global, subject: &Node, object: &Node) -> Result<EvaluationContext, NoMemory>
     ensures { IfOk result (λ context. context_seen context ≡ plain_context (node_seen subject.now) (node_seen object.now)) }
 {
-    Ok(Context {
+    Ok(EvaluationContext {
         subject: subject.try_clone()?,
         object: object.try_clone()?,
         hanging: Hangings::of(alloc, Vec::new(alloc))?,
@@ -87,10 +87,10 @@ impl Placed {
         })
     }
 
-    fn found(&self) -> Result<Found, NoMemory>
+    fn found(&self) -> Result<ElementResources, NoMemory>
         ensures { IfOk result (λ found. found_seen found ≡ placed_seen self.now) }
     {
-        Ok(Found {
+        Ok(ElementResources {
             subject: self.subject.try_clone()?,
             typed: clone_option(&self.typed)?,
             object: clone_option(&self.object)?,

@@ -4,7 +4,7 @@ ghost use Rattle.rx_model.specs.Seen.{node_seen};
 ghost use Rattle.rx_curie.specs.Seen.{ref_seen};
 ghost use Rattle.rx_element.specs.Places.{level_at, named};
 
-use crate::contexts::Context;
+use crate::contexts::EvaluationContext;
 use crate::labels::Labels;
 use rx_curie::Ref;
 use rx_refs::resolve;
@@ -28,7 +28,7 @@ pub struct Surroundings<'a> {
     pub alloc: Global,
     pub base: &'a Iri,
     /// What the element inherits.
-    pub around: &'a Context,
+    pub around: &'a EvaluationContext,
     pub level: Level,
     /// The numbers of the labels, those of the element's own labels among them.
     pub labels: &'a Labels,

@@ -3,7 +3,7 @@ ghost use Rattle.std.specs.Prelude.{◌≡◌, ◌&&◌, IfOk, option_map, optio
 ghost use Rattle.rx_model.specs.Seen.{node_seen};
 ghost use Rattle.rx_rdfa.specs.Resources.{has_link, is_plain_property, resource_named, linked_resource, default_subject, of_link, of_property, of_no_link, resources, is_root_child, is_head_or_body};
 ghost use Rattle.rx_curie.specs.Seen.{ref_seen, facts_seen};
-ghost use Rattle.rx_element.specs.Found.{names_nothing, says_nothing, linked_ref, fresh_node, page_node, property_type, found_seen};
+ghost use Rattle.rx_element.specs.ElementResources.{names_nothing, says_nothing, linked_ref, fresh_node, page_node, property_type, found_seen};
 ghost use Rattle.rx_element.specs.Places.{path_at, naming, ruled};
 
 use crate::places::{Level, Surroundings, named};
@@ -12,7 +12,7 @@ use rx_terms::{Blank, NoMemory, Node};
 
 /// The resources of an element; a skipped one has them for nothing.
 #[derive(Drop)]
-pub struct Found {
+pub struct ElementResources {
     /// The new subject.
     pub subject: Node,
     /// The typed resource.
@@ -135,7 +135,7 @@ impl<'a> Surroundings<'a> {
     }
 
     /// The resources of an element with `rel` or `rev`.
-    fn of_link(&self, facts: &Facts) -> Result<Found, NoMemory>
+    fn of_link(&self, facts: &Facts) -> Result<ElementResources, NoMemory>
         ensures { IfOk result (λ found. found_seen found ≡ ruled of_link self.now (facts_seen facts.now)) }
     {
         let subject = self.default_subject(facts)?;
@@ -147,7 +147,7 @@ impl<'a> Surroundings<'a> {
         } else {
             clone_option(&object)?
         };
-        Ok(Found {
+        Ok(ElementResources {
             subject,
             typed,
             object,
@@ -167,12 +167,12 @@ impl<'a> Surroundings<'a> {
     }
 
     /// The resources of an element with `property` and neither `content` nor `datatype`.
-    fn of_property(&self, facts: &Facts) -> Result<Found, NoMemory>
+    fn of_property(&self, facts: &Facts) -> Result<ElementResources, NoMemory>
         ensures { IfOk result (λ found. found_seen found ≡ ruled of_property self.now (facts_seen facts.now)) }
     {
         let subject = self.default_subject(facts)?;
         if facts.types.is_none() {
-            return Ok(Found {
+            return Ok(ElementResources {
                 subject,
                 typed: None,
                 object: None,
@@ -180,7 +180,7 @@ impl<'a> Surroundings<'a> {
             });
         }
         let typed = self.property_type(facts)?;
-        Ok(Found {
+        Ok(ElementResources {
             subject,
             typed: Some(typed.try_clone()?),
             object: Some(typed),
@@ -227,7 +227,7 @@ impl<'a> Surroundings<'a> {
     }
 
     /// The resources of an element with neither `rel` nor `rev`, and no plain property.
-    fn of_no_link(&self, facts: &Facts) -> Result<Found, NoMemory>
+    fn of_no_link(&self, facts: &Facts) -> Result<ElementResources, NoMemory>
         ensures { IfOk result (λ found. found_seen found ≡ ruled of_no_link self.now (facts_seen facts.now)) }
     {
         let subject = self.no_link_subject(facts)?;
@@ -236,7 +236,7 @@ impl<'a> Surroundings<'a> {
         } else {
             None
         };
-        Ok(Found {
+        Ok(ElementResources {
             subject,
             typed,
             object: None,
@@ -256,7 +256,7 @@ impl<'a> Surroundings<'a> {
 
     /// The resources of the element.
     #[tactic(auto, unfolding(rx_rdfa::specs::Resources::resources))]
-    pub(crate) fn find(&self, facts: &Facts) -> Result<Found, NoMemory>
+    pub(crate) fn find(&self, facts: &Facts) -> Result<ElementResources, NoMemory>
         ensures { IfOk result (λ found. found_seen found ≡ ruled resources self.now (facts_seen facts.now)) }
     {
         if has_link(facts) {

@@ -5,15 +5,15 @@ ghost use Rattle.rx_rdfa.specs.Inherited.{listed};
 ghost use Rattle.rx_rdfa.specs.Resources.{resources};
 ghost use Rattle.rx_rdfa.specs.Element.{start_of};
 ghost use Rattle.rx_curie.specs.Seen.{facts_seen, ref_seen, refs_seen};
-ghost use Rattle.rx_element.specs.Found.{found_seen};
+ghost use Rattle.rx_element.specs.ElementResources.{found_seen};
 ghost use Rattle.rx_element.specs.TextRules.{resource_term};
-ghost use Rattle.rx_lists.specs.Gains.{Gains};
+ghost use Rattle.rx_lists.specs.Appends.{Appends};
 ghost use Rattle.rx_element.specs.Places.{naming, ruled};
 ghost use Rattle.rx_element.specs.Starts.{vocabulary_by, types_of, properties_of, links_of, values_of, found_by, start_here, value_here, type_of};
 
 use crate::iris::OwnIris;
 use crate::places::{Surroundings, named};
-use crate::resources::Found;
+use crate::resources::ElementResources;
 use crate::triples::{push_completed, push_each};
 use crate::values::{into_term, node_term, value_now};
 use rx_curie::{Facts, Ref, TypeList};
@@ -22,7 +22,7 @@ use rx_terms::{Iri, Iris, NoMemory, Node, Term, Triple, TripleList};
 /// What the start of an element finds: its resources, and the value of its property where that isn't its text.
 #[derive(Drop)]
 pub struct Started {
-    pub found: Found,
+    pub found: ElementResources,
     pub value: Option<Term>,
 }
 
@@ -33,7 +33,7 @@ fn push_vocabulary(
     base: &Iri,
     vocab: &Option<Iri>,
 ) -> Result<(), NoMemory>
-    ensures { OnOk result (Gains out.old out.new (vocabulary_by base.now vocab.now)) }
+    ensures { OnOk result (Appends out.old out.new (vocabulary_by base.now vocab.now)) }
 {
     match vocab {
         Some(vocab) => out.push(Triple {
@@ -52,7 +52,7 @@ fn push_all(
     predicates: &Option<Iris>,
     object: &Term,
 ) -> Result<(), NoMemory>
-    ensures { OnOk result (Gains out.old out.new (properties_of (node_seen subject.now) predicates.now (term_seen object.now))) }
+    ensures { OnOk result (Appends out.old out.new (properties_of (node_seen subject.now) predicates.now (term_seen object.now))) }
 {
     match predicates {
         Some(predicates) => push_each(out, subject, predicates, object.try_clone()?),
@@ -67,7 +67,7 @@ fn push_all_linked(
     predicates: &Option<Iris>,
     object: &Node,
 ) -> Result<(), NoMemory>
-    ensures { OnOk result (Gains out.old out.new (properties_of (node_seen subject.now) predicates.now (resource_term (node_seen object.now)))) }
+    ensures { OnOk result (Appends out.old out.new (properties_of (node_seen subject.now) predicates.now (resource_term (node_seen object.now)))) }
 {
     match predicates {
         Some(predicates) => push_each(out, subject, predicates, node_term(object)?),
@@ -82,7 +82,7 @@ fn push_links(
     subject: &Node,
     object: &Node,
 ) -> Result<(), NoMemory>
-    ensures { OnOk result (Gains out.old out.new (links_of (facts_seen facts.now) (node_seen subject.now) (node_seen object.now))) }
+    ensures { OnOk result (Appends out.old out.new (links_of (facts_seen facts.now) (node_seen subject.now) (node_seen object.now))) }
 {
     if !facts.inlist {
         push_all_linked(out, subject, &facts.rel, object)?;
@@ -97,7 +97,7 @@ fn push_properties(
     subject: &Node,
     value: &Option<Term>,
 ) -> Result<(), NoMemory>
-    ensures { OnOk result (Gains out.old out.new (values_of (facts_seen facts.now) (node_seen subject.now) (option_map term_seen value.now))) }
+    ensures { OnOk result (Appends out.old out.new (values_of (facts_seen facts.now) (node_seen subject.now) (option_map term_seen value.now))) }
 {
     if facts.inlist {
         return Ok(());
@@ -117,7 +117,7 @@ impl<'a> Surroundings<'a> {
         iris: &OwnIris,
         out: &mut TripleList,
     ) -> Result<Started, NoMemory>
-        ensures triples { OnOk result (Gains out.old out.new (ruled start_of self.now (facts_seen facts.now))) }
+        ensures triples { OnOk result (Appends out.old out.new (ruled start_of self.now (facts_seen facts.now))) }
         ensures found { IfOk result (λ started. found_seen started.found ≡ ruled resources self.now (facts_seen facts.now)) }
         ensures value { IfOk result (λ started. option_map term_seen started.value ≡ value_here self.now (facts_seen facts.now) (found_seen started.found)) }
     {
@@ -129,7 +129,7 @@ impl<'a> Surroundings<'a> {
 
     /// The value of the element's property. None is there without `property`, where nobody asks for it, and where the
     /// value is the element's text.
-    fn value(&self, facts: &Facts, found: &Found) -> Result<Option<Term>, NoMemory>
+    fn value(&self, facts: &Facts, found: &ElementResources) -> Result<Option<Term>, NoMemory>
         ensures { IfOk result (λ value. option_map term_seen value ≡ value_here self.now (facts_seen facts.now) (found_seen found.now)) }
     {
         if facts.property.is_none() {
@@ -144,10 +144,10 @@ impl<'a> Surroundings<'a> {
         out: &mut TripleList,
         iris: &OwnIris,
         facts: &Facts,
-        found: &Found,
+        found: &ElementResources,
         value: &Option<Term>,
     ) -> Result<(), NoMemory>
-        ensures { OnOk result (Gains out.old out.new (start_here self.now (facts_seen facts.now) (found_seen found.now) (option_map term_seen value.now))) }
+        ensures { OnOk result (Appends out.old out.new (start_here self.now (facts_seen facts.now) (found_seen found.now) (option_map term_seen value.now))) }
     {
         push_vocabulary(out, iris, self.base, &facts.vocab)?;
         if found.skipped {
@@ -166,9 +166,9 @@ impl<'a> Surroundings<'a> {
         out: &mut TripleList,
         iris: &OwnIris,
         facts: &Facts,
-        found: &Found,
+        found: &ElementResources,
     ) -> Result<(), NoMemory>
-        ensures { OnOk result (Gains out.old out.new (found_by (naming self.now) self.now.base.now (facts_seen facts.now) (found_seen found.now))) }
+        ensures { OnOk result (Appends out.old out.new (found_by (naming self.now) self.now.base.now (facts_seen facts.now) (found_seen found.now))) }
     {
         if let Some(typed) = &found.typed {
             self.push_all_types(out, iris, typed, &facts.types)?;
@@ -186,7 +186,7 @@ impl<'a> Surroundings<'a> {
         typed: &Node,
         types: &Option<TypeList>,
     ) -> Result<(), NoMemory>
-        ensures { OnOk result (Gains out.old out.new
+        ensures { OnOk result (Appends out.old out.new
             (types_of (naming self.now) self.now.base.now (node_seen typed.now) (listed (option_map refs_seen types.now)))) }
     {
         match types {
@@ -203,7 +203,7 @@ impl<'a> Surroundings<'a> {
         typed: &Node,
         types: &TypeList,
     ) -> Result<(), NoMemory>
-        ensures { OnOk result (Gains out.old out.new (types_of (naming self.now) self.now.base.now (node_seen typed.now) (refs_seen types.now))) }
+        ensures { OnOk result (Appends out.old out.new (types_of (naming self.now) self.now.base.now (node_seen typed.now) (refs_seen types.now))) }
     {
         for i in 0..types.len() {
             self.push_type(out, iris, typed, types.at(i))?;
@@ -219,7 +219,7 @@ impl<'a> Surroundings<'a> {
         typed: &Node,
         name: &Ref,
     ) -> Result<(), NoMemory>
-        ensures { OnOk result (Gains out.old out.new (type_of self.now (node_seen typed.now) (ref_seen name.now) ∷ [])) }
+        ensures { OnOk result (Appends out.old out.new (type_of self.now (node_seen typed.now) (ref_seen name.now) ∷ [])) }
     {
         let node = named(self.alloc, self.base, self.labels, name)?;
         out.push(Triple {

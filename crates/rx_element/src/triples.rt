@@ -1,11 +1,11 @@
 //! The triples of an element's start (RDFa Core 1.1, section 7.5, steps 2, 7, 9, 11 and 12).
 ghost use Rattle.std.specs.Prelude.{◌≡◌, ◌≤◌, ◌+◌, ◌∷◌, [], OnOk, length, map, filter_map};
 ghost use Rattle.rx_model.specs.Seen.{node_seen, term_seen};
-ghost use Rattle.rx_lists.specs.Gains.{Gains};
+ghost use Rattle.rx_lists.specs.Appends.{Appends};
 ghost use Rattle.rx_model.specs.Copied.{spo};
 ghost use Rattle.rx_element.specs.Triples.{GainsFirst, completed_by};
 
-use crate::contexts::Waiting;
+use crate::contexts::IncompleteTriple;
 use crate::values::node_term;
 use rx_terms::{Iri, Iris, NoMemory, Node, Term, Triple, TripleList};
 
@@ -16,7 +16,7 @@ pub fn push_each(
     predicates: &Iris,
     object: Term,
 ) -> Result<(), NoMemory>
-    ensures { OnOk result (Gains out.old out.new (map (λ p. spo (node_seen subject.now) p (term_seen object)) predicates.now)) }
+    ensures { OnOk result (Appends out.old out.new (map (λ p. spo (node_seen subject.now) p (term_seen object)) predicates.now)) }
 {
     let Some(last) = predicates.len().checked_sub(1) else {
         return Ok(());
@@ -37,7 +37,7 @@ fn push_several(
     object: Term,
 ) -> Result<(), NoMemory>
     requires { last + 1 ≡ length predicates.now }
-    ensures { OnOk result (Gains out.old out.new (map (λ p. spo (node_seen subject.now) p (term_seen object)) predicates.now)) }
+    ensures { OnOk result (Appends out.old out.new (map (λ p. spo (node_seen subject.now) p (term_seen object)) predicates.now)) }
 {
     push_first(out, subject, predicates, last, &object)?;
     push(out, subject, predicates.at(last), object)
@@ -62,7 +62,7 @@ fn push_first(
 
 #[inline(always)]
 fn push(out: &mut TripleList, subject: &Node, predicate: &Iri, object: Term) -> Result<(), NoMemory>
-    ensures { OnOk result (Gains out.old out.new (spo (node_seen subject.now) predicate.now (term_seen object) ∷ [])) }
+    ensures { OnOk result (Appends out.old out.new (spo (node_seen subject.now) predicate.now (term_seen object) ∷ [])) }
 {
     out.push(Triple {
         subject: subject.try_clone()?,
@@ -77,7 +77,7 @@ fn push_copy(
     predicate: &Iri,
     object: &Term,
 ) -> Result<(), NoMemory>
-    ensures { OnOk result (Gains out.old out.new (spo (node_seen subject.now) predicate.now (term_seen object.now) ∷ [])) }
+    ensures { OnOk result (Appends out.old out.new (spo (node_seen subject.now) predicate.now (term_seen object.now) ∷ [])) }
 {
     push(out, subject, predicate, object.try_clone()?)
 }
@@ -85,17 +85,17 @@ fn push_copy(
 /// Adds the triples that wait, when an element with a subject completes them; lists that wait get an item elsewhere.
 pub(crate) fn push_completed(
     out: &mut TripleList,
-    waiting: &[Waiting],
+    waiting: &[IncompleteTriple],
     above: &Node,
     subject: &Node,
 ) -> Result<(), NoMemory>
-    ensures { OnOk result (Gains out.old out.new (filter_map (completed_by (node_seen above.now) (node_seen subject.now)) waiting.now)) }
+    ensures { OnOk result (Appends out.old out.new (filter_map (completed_by (node_seen above.now) (node_seen subject.now)) waiting.now)) }
 {
     for one in waiting {
         match one {
-            Waiting::Forward(predicate) => push(out, above, predicate, node_term(subject)?)?,
-            Waiting::Reverse(predicate) => push(out, subject, predicate, node_term(above)?)?,
-            Waiting::InList(_owner, _predicate) => {}
+            IncompleteTriple::Forward(predicate) => push(out, above, predicate, node_term(subject)?)?,
+            IncompleteTriple::Reverse(predicate) => push(out, subject, predicate, node_term(above)?)?,
+            IncompleteTriple::InList(_owner, _predicate) => {}
         }
     }
     Ok(())

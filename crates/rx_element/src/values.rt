@@ -5,14 +5,14 @@ ghost use Rattle.rx_model.specs.Seen.{node_seen, term_seen};
 ghost use Rattle.rx_rdfa.specs.Resources.{resource_attribute, resource_named};
 ghost use Rattle.rx_rdfa.specs.Value.{typed_literal, plain_literal, time_literal, is_time};
 ghost use Rattle.rx_curie.specs.Seen.{datatype_seen, facts_seen, ref_seen, kind_seen};
-ghost use Rattle.rx_element.specs.Found.{found_seen};
+ghost use Rattle.rx_element.specs.ElementResources.{found_seen};
 ghost use Rattle.rx_element.specs.Moment.{labelled};
 ghost use Rattle.rx_element.specs.TextRules.{IsTextRule, text_rule, text_literal, resource_term, resource_value, term_of, value_by, given_literal};
 
 use crate::iris::time_datatype;
 use crate::labels::Labels;
 use crate::places::named;
-use crate::resources::{Found, has_link, linked_ref};
+use crate::resources::{ElementResources, has_link, linked_ref};
 use rx_curie::{Datatype, ElementKind, Facts};
 use rx_terms::{Iri, Lang, Literal, LiteralKind, NoMemory, Node, Term, Text};
 use rx_values::pattern;
@@ -149,7 +149,7 @@ pub(crate) fn value_now(
     base: &Iri,
     labels: &Labels,
     facts: &Facts,
-    found: &Found,
+    found: &ElementResources,
 ) -> Result<Option<Term>, NoMemory>
     ensures { IfOk result (λ term. option_map term_seen term ≡ value_by (labelled labels.now) base.now (facts_seen facts.now) (found_seen found.now)) }
 {
@@ -174,7 +174,7 @@ fn value_of_resource(
     base: &Iri,
     labels: &Labels,
     facts: &Facts,
-    found: &Found,
+    found: &ElementResources,
 ) -> Result<Option<Term>, NoMemory>
     ensures { IfOk result (λ term. option_map term_seen term ≡ resource_value (labelled labels.now) base.now (facts_seen facts.now) (found_seen found.now)) }
 {

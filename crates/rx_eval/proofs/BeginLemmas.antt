@@ -544,7 +544,7 @@ module _ (to : Numbering) (m : Machine Bnode Owner) (state : State) (facts : Fac
     kept = state.kept;
     out = state.out ++ started;
     ended = new.ended;
-    spent = new.spent;
+    out_of_memory = new.out_of_memory;
   }
 
   state_is : state_now ≡ new
@@ -560,7 +560,7 @@ module _ (to : Numbering) (m : Machine Bnode Owner) (state : State) (facts : Fac
     kept = sym o.rest.4 i;
     out = sym o.start i;
     ended = new.ended;
-    spent = new.spent;
+    out_of_memory = new.out_of_memory;
   }
 
   started_is : map (rename Number) (state.out ++ started) ≡ map (rename (named now)) (m.out ++ start_of model base at)

@@ -334,7 +334,7 @@ module _ (to : Numbering) (m : Machine Bnode Owner) (state : State) (l : Layer) 
       kept = new.kept;
       out = e.out;
       ended = new.ended;
-      spent = new.spent;
+      out_of_memory = new.out_of_memory;
     }
 
     state_is : (e : Ending) → ending new.out new.owners new.cells ≡ e → state_with e ≡ new
@@ -350,7 +350,7 @@ module _ (to : Numbering) (m : Machine Bnode Owner) (state : State) (l : Layer) 
       kept = new.kept;
       out = sym (ap (λ (x : Ending). x.out) q) i;
       ended = new.ended;
-      spent = new.spent;
+      out_of_memory = new.out_of_memory;
     }
 
     kept_is : new.kept ≡ (if gathers_some (frames_in lower) then state.kept else [])

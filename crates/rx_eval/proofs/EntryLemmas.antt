@@ -7,7 +7,7 @@ use Rattle.rx_lists.specs.Owners.{owned, Owners, Slots, changed, with_term, plac
 use Rattle.rx_lists.specs.SlotIds.{slot_in}
 use Rattle.rx_lists.specs.declared.lists.Owner.{Owner}
 use Rattle.rx_lists.specs.declared.lists.SlotId.{SlotId}
-use Rattle.rx_element.specs.declared.contexts.Waiting.{Waiting}
+use Rattle.rx_element.specs.declared.contexts.IncompleteTriple.{IncompleteTriple}
 use Rattle.rx_eval.specs.Entries.{put_each, slots_for, put_awaited}
 use Rattle.rx_terms.proofs.Bools.{by_test}
 use Rattle.rx_element.proofs.DrawLemmas.{drop_at, nothing_left}
@@ -72,5 +72,5 @@ one_reserved owner ps i p now more slots more_slots whole slot g m s e w =
 pub all_reserved : (owner : Owner) (ps : List Chars) (i : ℕ) (now : Owners) (slots whole : List SlotId) → length ps ≤ i → ToReserve owner (drop i ps) now slots whole → slots ≡ whole
 all_reserved owner ps i now slots whole h w = sym (append-nil slots) ∙ ap (λ (l : List Chars). slots ++ slots_for owner l now) (sym (nothing_left i ps h)) ∙ w.path
 
-pub record ToAwait (item : Term) (left : List Waiting) (now whole : Owners) : Type 0 where
+pub record ToAwait (item : Term) (left : List IncompleteTriple) (now whole : Owners) : Type 0 where
   pub path : put_awaited item left now ≡ whole

@@ -13,16 +13,16 @@ use Rattle.rx_eval.specs.Opening.{around_in}
 use Rattle.rx_eval.specs.Skipping.{all_frames}
 use Rattle.rx_eval.specs.Opened.{handed_on}
 use Rattle.rx_eval.specs.States.{text_seen}
-use Rattle.rx_element.specs.declared.contexts.Context.{Context}
+use Rattle.rx_element.specs.declared.contexts.EvaluationContext.{EvaluationContext}
 use Rattle.rx_eval.specs.declared.frames.Frame.{Frame as CodeFrame}
 use Rattle.rx_eval.specs.declared.frames.Gathered.{Gathered}
-use Rattle.rx_element.specs.declared.contexts.Waiting.{Waiting}
-use Rattle.rx_element.specs.declared.contexts.Waiting.TheVariants as code
+use Rattle.rx_element.specs.declared.contexts.IncompleteTriple.{IncompleteTriple}
+use Rattle.rx_element.specs.declared.contexts.IncompleteTriple.TheVariants as code
 use Rattle.rx_eval.specs.Waits.{Wait, wait_seen, wait_by}
 use Rattle.rx_element.proofs.DrawLemmas.{drawn_most}
 use Rattle.rx_eval.proofs.SkippedLemmas.{handed_all}
 
-pub around_is : (page around : Context) (frames items : List CodeFrame) (n : ℕ) → around ≡ around_in page frames → frames ≡ items
+pub around_is : (page around : EvaluationContext) (frames items : List CodeFrame) (n : ℕ) → around ≡ around_in page frames → frames ≡ items
     → context_seen around ≡ handed_on (context_seen page) (all_frames (context_seen page) items n)
 around_is page around frames items n e f = ap context_seen (e ∙ ap (around_in page) f) ∙ sym (handed_all page items n)
 
@@ -42,11 +42,11 @@ opened_text labels fresh base facts owners l m a b n k (Some x) d e f h =
 pub fresh_fits : (old new : Numbered) (drawn fresh : ℕ) (labels : List Chars) → Drawn old drawn labels new fresh → drawn + 1 + length labels ≤ 2 ^ 61 → fresh + 1 < 2 ^ 64
 fresh_fits old new drawn fresh labels d h = omega (arith, drawn_most old new drawn fresh labels d, h)
 
-waits_are : (ws : List Waiting) → map wait_seen ws ≡ map wait_by (map waiting_seen ws)
+waits_are : (ws : List IncompleteTriple) → map wait_seen ws ≡ map wait_by (map waiting_seen ws)
 waits_are [] = refl
 waits_are (code.Forward p ∷ ws) = ap (λ (l : List Wait). wait_seen (code.Forward p) ∷ l) (waits_are ws)
 waits_are (code.Reverse p ∷ ws) = ap (λ (l : List Wait). wait_seen (code.Reverse p) ∷ l) (waits_are ws)
 waits_are (code.InList o p ∷ ws) = ap (λ (l : List Wait). wait_seen (code.InList o p) ∷ l) (waits_are ws)
 
-pub shown_waits : (around : Context) (ws : List Waiting) (context : Inherited ℕ ℕ) → ws ≡ around.hanging → context_seen around ≡ context → map wait_seen ws ≡ map wait_by context.hanging
+pub shown_waits : (around : EvaluationContext) (ws : List IncompleteTriple) (context : Inherited ℕ ℕ) → ws ≡ around.hanging → context_seen around ≡ context → map wait_seen ws ≡ map wait_by context.hanging
 shown_waits around ws context e a = ap (map wait_seen) e ∙ waits_are around.hanging ∙ ap (λ (x : Inherited ℕ ℕ). map wait_by x.hanging) a

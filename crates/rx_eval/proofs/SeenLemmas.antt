@@ -17,8 +17,8 @@ use Rattle.rx_lists.specs.Cells.{cells_of, items_seen, finished_cells, size}
 use Rattle.rx_eval.specs.Ending.{cells_count}
 use Rattle.rx_lists.specs.declared.lists.SlotId.{SlotId}
 use Rattle.rx_eval.specs.Closing.{filled_in}
-use Rattle.rx_element.specs.declared.contexts.Waiting.{Waiting}
-use Rattle.rx_element.specs.declared.contexts.Waiting.TheVariants.{Forward, Reverse, InList}
+use Rattle.rx_element.specs.declared.contexts.IncompleteTriple.{IncompleteTriple}
+use Rattle.rx_element.specs.declared.contexts.IncompleteTriple.TheVariants.{Forward, Reverse, InList}
 use Rattle.rx_element.specs.Contexts.{waiting_seen}
 use Rattle.rx_element.specs.TextRules.{term_of, resource_term}
 use Rattle.rx_eval.specs.Entries.{put_each, put_awaited, slots_for}
@@ -57,7 +57,7 @@ each_seen n item [] owners = refl
 each_seen n item (p ∷ ps) owners =
     each_seen n item ps (changed (put p item) owners n) ∙ ap (put_entries (map (entry n (item_seen item)) ps)) (changed_seen p item owners n)
 
-pub awaited_seen : (subject : CodeNode) (waiting : List Waiting) (owners : Owners)
+pub awaited_seen : (subject : CodeNode) (waiting : List IncompleteTriple) (owners : Owners)
     → owners_seen (put_awaited (term_of subject) waiting owners) ≡ put_entries (filter_map (awaited_entry (node_seen subject)) (map waiting_seen waiting)) (owners_seen owners)
 awaited_seen subject [] owners = refl
 awaited_seen subject (Forward p ∷ waiting) owners = awaited_seen subject waiting owners
@@ -120,7 +120,7 @@ places_are owner (p ∷ ps) owners =
     ap₂ (λ (s : SlotId) (l : List SlotId). s ∷ l) (next_is owner p owners)
     (places_are owner ps (changed (put p (Some None)) owners owner.0) ∙ ap (places_for owner.0 ps) (changed_seen p (Some None) owners owner.0))
 
-pub seen_awaited : (old new : Owners) (subject : CodeNode) (t : CodeTerm) (waiting : List Waiting) → t ≡ term_of subject → new ≡ put_awaited t waiting old
+pub seen_awaited : (old new : Owners) (subject : CodeNode) (t : CodeTerm) (waiting : List IncompleteTriple) → t ≡ term_of subject → new ≡ put_awaited t waiting old
     → owners_seen new ≡ put_entries (filter_map (awaited_entry (node_seen subject)) (map waiting_seen waiting)) (owners_seen old)
 seen_awaited old new subject t waiting e h = ap owners_seen h ∙ ap (λ (x : CodeTerm). owners_seen (put_awaited x waiting old)) e ∙ awaited_seen subject waiting old
 

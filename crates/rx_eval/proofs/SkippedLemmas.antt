@@ -2,7 +2,7 @@
 use Rattle.std.proofs.Common.{◌≡◌, ◌∙◌, ◌<◌, ◌≤◌, ◌-◌, ℕ, zero, suc, Bool, false, List, [], ◌∷◌, ◌++◌, length, refl, sym, ap, arith, append_assoc, length-append}
 use Rattle.rx_rdfa.specs.Resources.{Inherited}
 use Rattle.rx_element.specs.Contexts.{context_seen}
-use Rattle.rx_element.specs.declared.contexts.Context.{Context}
+use Rattle.rx_element.specs.declared.contexts.EvaluationContext.{EvaluationContext}
 use Rattle.rx_eval.specs.declared.frames.Frame.{Frame as CodeFrame}
 use Rattle.rx_eval.specs.Opening.{around_in}
 use Rattle.rx_eval.specs.Opened.{handed_on}
@@ -27,7 +27,7 @@ handed_joined : (a : Inherited ℕ ℕ) (xs ys : List Frame) → handed_on a (xs
 handed_joined a [] ys = refl
 handed_joined a (x ∷ xs) ys = handed_joined x.context xs ys
 
-pub handed_all : (page : Context) (fs : List CodeFrame) (n : ℕ) → handed_on (context_seen page) (all_frames (context_seen page) fs n) ≡ context_seen (around_in page fs)
+pub handed_all : (page : EvaluationContext) (fs : List CodeFrame) (n : ℕ) → handed_on (context_seen page) (all_frames (context_seen page) fs n) ≡ context_seen (around_in page fs)
 handed_all page [] n = handed_skipped (context_seen page) n
 handed_all page (x ∷ fs) n =
     handed_joined (context_seen page) (skipped_frames (context_seen page) x.skipped) (frame_seen x ∷ all_frames (context_seen x.context) fs n)
@@ -39,14 +39,14 @@ skipped_more : (a : Inherited ℕ ℕ) (n : ℕ) → skipped_frames a (suc n) �
 skipped_more a zero = refl
 skipped_more a (suc n) = ap (λ (l : List Frame). skipped_frame a ∷ l) (skipped_more a n)
 
-counted_more : (page : Context) (fs : List CodeFrame) (n : ℕ)
+counted_more : (page : EvaluationContext) (fs : List CodeFrame) (n : ℕ)
     → all_frames (context_seen page) fs (suc n) ≡ all_frames (context_seen page) fs n ++ skipped_frame (context_seen (around_in page fs)) ∷ []
 counted_more page [] n = skipped_more (context_seen page) n
 counted_more page (x ∷ fs) n =
     ap (λ (l : List Frame). skipped_frames (context_seen page) x.skipped ++ frame_seen x ∷ l) (counted_more x.context fs n)
     ∙ sym (append_assoc (skipped_frames (context_seen page) x.skipped) (frame_seen x ∷ all_frames (context_seen x.context) fs n) (skipped_frame (context_seen (around_in x.context fs)) ∷ []))
 
-pub one_more : (page : Context) (fs : List CodeFrame) (m n : ℕ) → m ≡ suc n
+pub one_more : (page : EvaluationContext) (fs : List CodeFrame) (m n : ℕ) → m ≡ suc n
     → all_frames (context_seen page) fs m
     ≡ all_frames (context_seen page) fs n ++ skipped_frame (handed_on (context_seen page) (all_frames (context_seen page) fs n)) ∷ []
 one_more page fs m n e =

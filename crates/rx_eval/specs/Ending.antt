@@ -76,4 +76,4 @@ pub record Closes (old new : State) : Type 0 where
   pub ended : new.ended ≡ (if length new.frames == 0 then true else old.ended)
   pub rest :
       (new.base ≡ old.base) × (new.levels ≡ old.levels) × (new.page ≡ old.page)
-      × (new.labels ≡ old.labels) × (new.drawn ≡ old.drawn) × (new.spent ≡ old.spent)
+      × (new.labels ≡ old.labels) × (new.drawn ≡ old.drawn) × (new.out_of_memory ≡ old.out_of_memory)

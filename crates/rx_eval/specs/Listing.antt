@@ -12,7 +12,7 @@ use Rattle.rx_lists.specs.Owners.{Owners}
 use Rattle.rx_terms.specs.declared.triples.Term.{Term as CodeTerm}
 use Rattle.rx_element.specs.Contexts.{waiting_seen}
 use Rattle.rx_element.specs.TextRules.{resource_term}
-use Rattle.rx_element.specs.declared.contexts.Waiting.{Waiting}
+use Rattle.rx_element.specs.declared.contexts.IncompleteTriple.{IncompleteTriple}
 use Rattle.rx_eval.specs.OwnersSeen.{Owning, owners_seen, put_entries, places_for}
 
 abbrev pub Entries : Type 0
@@ -51,7 +51,7 @@ abbrev pub entries_in : ℕ → Facts → Resources ℕ → Option (Term ℕ) �
 entries_in owner facts here value hanging = listed_entries owner facts here value ++ filter_map (awaited_entry here.subject) hanging
 
 -- the same from what the code has of the value and of what waits
-abbrev pub entries_put : ℕ → Facts → Resources ℕ → Option CodeTerm → List Waiting → Entries
+abbrev pub entries_put : ℕ → Facts → Resources ℕ → Option CodeTerm → List IncompleteTriple → Entries
 entries_put owner facts here value waiting = entries_in owner facts here (option_map term_seen value) (map waiting_seen waiting)
 
 -- the places of an element with inlist for its text

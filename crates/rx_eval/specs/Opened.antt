@@ -44,7 +44,7 @@ pub record Opens (old : State) (facts : Facts) (new : State) : Type 0 where
   pub counted : new.drawn ≡ drawn_after frame.context fresh
   pub rest :
       (new.base ≡ old.base) × (new.levels ≡ old.levels) × (new.page ≡ old.page)
-      × (new.cells ≡ old.cells) × (new.kept ≡ old.kept) × (new.ended ≡ old.ended) × (new.spent ≡ old.spent)
+      × (new.cells ≡ old.cells) × (new.kept ≡ old.kept) × (new.ended ≡ old.ended) × (new.out_of_memory ≡ old.out_of_memory)
 
 -- an element that is skipped and adds nothing was opened
 abbrev pub skipped_state : State → State
@@ -73,7 +73,7 @@ begun_state base levels = record {
   kept = [];
   out = [];
   ended = false;
-  spent = false;
+  out_of_memory = false;
 }
 
 -- text is kept while some open element gathers it

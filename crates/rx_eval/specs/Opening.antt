@@ -2,11 +2,11 @@
 use Rattle.std.specs.Prelude.{ℕ, ◌+◌, ◌||◌, List, [], ◌∷◌, if◌then◌else◌}
 use Rattle.rx_rdfa.specs.Resources.{Inherited}
 use Rattle.rx_element.specs.Blanks.{is_blank}
-use Rattle.rx_element.specs.declared.contexts.Context.{Context}
+use Rattle.rx_element.specs.declared.contexts.EvaluationContext.{EvaluationContext}
 use Rattle.rx_eval.specs.declared.frames.Frame.{Frame}
 
 -- what a child of the last frame inherits
-abbrev pub around_in : Context → List Frame → Context
+abbrev pub around_in : EvaluationContext → List Frame → EvaluationContext
 around_in page [] = page
 around_in page (frame ∷ frames) = around_in frame.context frames
 

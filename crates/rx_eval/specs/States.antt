@@ -65,4 +65,4 @@ pub record State : Type 0 where
   pub kept : Chars
   pub out : List (Triple ℕ)
   pub ended : Bool
-  pub spent : Bool
+  pub out_of_memory : Bool

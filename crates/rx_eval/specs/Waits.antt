@@ -3,8 +3,8 @@ use Rattle.std.specs.Prelude.{◌≡◌, ℕ, List, map}
 use Rattle.rx_terms.specs.Text.{Chars}
 use Rattle.rx_model.specs.Seen.{node_seen}
 use Rattle.rx_rdfa.specs.Resources as rules
-use Rattle.rx_element.specs.declared.contexts.Waiting.{Waiting}
-use Rattle.rx_element.specs.declared.contexts.Waiting.TheVariants as code
+use Rattle.rx_element.specs.declared.contexts.IncompleteTriple.{IncompleteTriple}
+use Rattle.rx_element.specs.declared.contexts.IncompleteTriple.TheVariants as code
 use Rattle.rx_eval.specs.declared.inherited.Direction.{Direction}
 use Rattle.rx_eval.specs.declared.inherited.Direction.TheVariants.{Forward, Reverse, InList}
 use Rattle.rx_eval.specs.declared.inherited.Hanging.{Hanging}
@@ -14,7 +14,7 @@ use Rattle.rx_eval.specs.declared.inherited.Inherited.{Inherited}
 abbrev pub Wait : Type 0
 Wait = Chars × Direction
 
-abbrev pub wait_seen : Waiting → Wait
+abbrev pub wait_seen : IncompleteTriple → Wait
 wait_seen (code.Forward predicate) = (predicate, Forward)
 wait_seen (code.Reverse predicate) = (predicate, Reverse)
 wait_seen (code.InList owner predicate) = (predicate, InList)

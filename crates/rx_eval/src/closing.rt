@@ -2,7 +2,7 @@
 ghost use Rattle.std.specs.Prelude.{◌≡◌, ◌+◌, OnOk, IfOk, option_map};
 ghost use Rattle.std.specs.Str.{chars};
 ghost use Rattle.rx_model.specs.Seen.{node_seen, term_seen, triples_seen};
-ghost use Rattle.rx_lists.specs.Gains.{Gains};
+ghost use Rattle.rx_lists.specs.Appends.{Appends};
 ghost use Rattle.rx_eval.specs.OwnersSeen.{owners_seen, open_seen, cells_seen, forgotten_seen};
 ghost use Rattle.rx_eval.specs.States.{frame_seen, owner_seen};
 ghost use Rattle.rx_eval.specs.Ending.{ending_seen, end_owner, cells_count, Ends, EndsFrame};
@@ -41,7 +41,7 @@ fn put_value(
     gathered: &Gathered,
     value: Term,
 ) -> Result<(), NoMemory>
-    ensures said { OnOk result (Gains out.old out.new (said_by gathered.now.target (node_seen gathered.now.subject) (term_seen value))) }
+    ensures said { OnOk result (Appends out.old out.new (said_by gathered.now.target (node_seen gathered.now.subject) (term_seen value))) }
     ensures filled { OnOk result (Fills lists.old lists.new (slots_in gathered.now.target) (term_seen value)) }
 {
     match &gathered.target {
@@ -58,7 +58,7 @@ pub(crate) fn end_text(
     gathered: &Gathered,
     text: &str,
 ) -> Result<(), NoMemory>
-    ensures said { OnOk result (Gains out.old out.new
+    ensures said { OnOk result (Appends out.old out.new
         (said_by gathered.now.target (node_seen gathered.now.subject) (text_value gathered.now (chars text.now)))) }
     ensures filled { OnOk result (Fills lists.old lists.new (slots_in gathered.now.target) (text_value gathered.now (chars text.now))) }
 {
@@ -76,7 +76,7 @@ pub(crate) fn end_lists(
     owner: Owner,
     next: u64,
 ) -> Result<u64, NoMemory>
-    ensures triples { OnOk result (Gains out.old out.new (cells_seen next (open_seen (owners_seen lists.old) owner.0))) }
+    ensures triples { OnOk result (Appends out.old out.new (cells_seen next (open_seen (owners_seen lists.old) owner.0))) }
     ensures next { IfOk result (λ after. after ≡ next + cells_count (open_seen (owners_seen lists.old) owner.0)) }
     ensures lists { OnOk result (owners_seen lists.new ≡ forgotten_seen (owners_seen lists.old) owner.0) }
 {
@@ -90,7 +90,7 @@ pub(crate) fn end_lists(
 
 /// Adds the triples themselves, in order.
 fn push_all(out: &mut TripleList, triples: TripleList) -> Result<(), NoMemory>
-    ensures { OnOk result (Gains out.old out.new (triples_seen triples)) }
+    ensures { OnOk result (Appends out.old out.new (triples_seen triples)) }
 {
     for triple in triples.into_vec() {
         out.push(triple)?;

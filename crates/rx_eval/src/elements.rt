@@ -3,8 +3,8 @@ ghost use Rattle.std.specs.Prelude.{◌≡◌, ◌&&◌, false, OnOk, IfOk, Some
 ghost use Rattle.rx_model.specs.Seen.{node_seen};
 ghost use Rattle.rx_curie.specs.Seen.{facts_seen};
 ghost use Rattle.rx_element.specs.Contexts.{context_seen, waiting_seen};
-ghost use Rattle.rx_element.specs.Found.{found_seen};
-ghost use Rattle.rx_lists.specs.Gains.{Gains};
+ghost use Rattle.rx_element.specs.ElementResources.{found_seen};
+ghost use Rattle.rx_lists.specs.Appends.{Appends};
 ghost use Rattle.rx_eval.specs.OwnersSeen.{owners_seen};
 ghost use Rattle.rx_eval.specs.Frames.{hanging_by};
 ghost use Rattle.rx_eval.specs.Listing.{listed_places};
@@ -18,7 +18,7 @@ use crate::frames::{Frame, Gathered, Target, clone_iris, waiting_of};
 use crate::handing::begin;
 use crate::listing::put_all;
 use rx_curie::Facts;
-use rx_element::{Context, Found, Hangings, OwnIris, Surroundings, TextRule, hangs, object_below};
+use rx_element::{EvaluationContext, ElementResources, Hangings, OwnIris, Surroundings, TextRule, hangs, object_below};
 use rx_lists::{Lists, Owner, SlotId};
 use rx_terms::{Iris, NoMemory, Node, Term, TripleList};
 use std::alloc::Global;
@@ -52,7 +52,7 @@ fn begin_below(
 fn gathered(
     alloc: Global,
     facts: &Facts,
-    found: &Found,
+    found: &ElementResources,
     value: &Option<Term>,
     slots: Vec<SlotId>,
     mark: usize,
@@ -92,7 +92,7 @@ fn target(
 }
 
 /// The frame of a skipped element, which hands all on.
-fn skipped(around: &Context) -> Result<Frame, NoMemory>
+fn skipped(around: &EvaluationContext) -> Result<Frame, NoMemory>
     ensures context { IfOk result (λ frame. frame.context ≡ around.now) }
     ensures nothing { IfOk result (λ frame. (frame.own ≡ None) × (frame.below ≡ None) × (frame.gathered ≡ None)) }
 {
@@ -115,7 +115,7 @@ pub(crate) fn enter(
     out: &mut TripleList,
     mark: usize,
 ) -> Result<Frame, NoMemory>
-    ensures start { OnOk result (Gains out.old out.new (at_place start_at place.now (facts_seen facts.now))) }
+    ensures start { OnOk result (Appends out.old out.new (at_place start_at place.now (facts_seen facts.now))) }
     ensures context { IfOk result (λ frame. context_seen frame.context ≡ at_place below_at place.now (facts_seen facts.now) (length lists.old)) }
     ensures lists { OnOk result (owners_seen lists.new ≡ at_place lists_at place.now (facts_seen facts.now) (owners_seen lists.old)) }
     ensures gathers { IfOk result (λ frame. is_some frame.gathered ≡ at_place gathers_at place.now (facts_seen facts.now)) }
@@ -134,7 +134,7 @@ pub(crate) fn enter(
 fn enter_found(
     place: &Surroundings<'_>,
     facts: &Facts,
-    found: &Found,
+    found: &ElementResources,
     value: &Option<Term>,
     lists: &mut Lists,
     mark: usize,
@@ -179,7 +179,7 @@ fn enter_found(
 fn waiting_below(
     alloc: Global,
     facts: &Facts,
-    found: &Found,
+    found: &ElementResources,
     own: Owner,
 ) -> Result<Hangings, NoMemory>
     ensures { IfOk result (λ hangings. map waiting_seen hangings ≡ hanging_below (facts_seen facts.now) (found_seen found.now) own.0) }
@@ -204,11 +204,11 @@ fn shared_waiting(alloc: Global, facts: &Facts, own: Owner) -> Result<Hangings, 
 fn hand(
     alloc: Global,
     facts: &Facts,
-    found: &Found,
+    found: &ElementResources,
     object: Option<Node>,
     own: Owner,
     below: Owner,
-) -> Result<Context, NoMemory>
+) -> Result<EvaluationContext, NoMemory>
     ensures { IfOk result (λ context. context_seen context
         ≡ handed_by (facts_seen facts.now) (found_seen found.now) (option_map node_seen object) own.0 below.0) }
 {
@@ -217,7 +217,7 @@ fn hand(
         Some(object) => object,
         None => found.subject.try_clone()?,
     };
-    Ok(Context {
+    Ok(EvaluationContext {
         subject: found.subject.try_clone()?,
         object,
         hanging,

@@ -8,7 +8,7 @@ ghost use Rattle.rx_eval.specs.OwnersSeen.{owners_seen, places_for};
 ghost use Rattle.rx_eval.specs.Listing.{Puts};
 ghost use Rattle.rx_eval.specs.Entries.{put_each, slots_for, put_awaited};
 
-use rx_element::Waiting;
+use rx_element::IncompleteTriple;
 use rx_lists::{Lists, Owner, SlotId};
 use rx_terms::{Iri, Iris, NoMemory, Term};
 use std::alloc::Global;
@@ -78,16 +78,16 @@ pub(crate) fn slot_each(
 /// Adds the item to each list that waits.
 pub(crate) fn add_awaited(
     lists: &mut Lists,
-    waiting: &[Waiting],
+    waiting: &[IncompleteTriple],
     item: &Term,
 ) -> Result<(), NoMemory>
     ensures { OnOk result (lists.new ≡ put_awaited item.now waiting.now lists.old) }
 {
     for one in waiting {
         match one {
-            Waiting::InList(owner, predicate) => add_item(lists, *owner, predicate, item)?,
-            Waiting::Forward(_predicate) => {}
-            Waiting::Reverse(_predicate) => {}
+            IncompleteTriple::InList(owner, predicate) => add_item(lists, *owner, predicate, item)?,
+            IncompleteTriple::Forward(_predicate) => {}
+            IncompleteTriple::Reverse(_predicate) => {}
         }
     }
     Ok(())

@@ -22,7 +22,7 @@ use crate::numbers::label_count;
 use crate::opening::{around, next_number};
 use rx_curie::Facts;
 use rx_element::{
-    Context, Hangings, Labels, OwnIris, Surroundings, draw_labels, level_at, says_nothing,
+    EvaluationContext, Hangings, Labels, OwnIris, Surroundings, draw_labels, level_at, says_nothing,
 };
 use rx_lists::{Lists, Owner};
 use rx_terms::{Iri, NoMemory, Node, TripleList};
@@ -44,7 +44,7 @@ pub struct Eval {
     base: Iri,
     iris: OwnIris,
     levels: u32,
-    page: Context,
+    page: EvaluationContext,
     /// How many elements are open.
     depth: u32,
     /// The open elements, but for those of which nothing is said: each frame counts those around it.
@@ -60,7 +60,7 @@ pub struct Eval {
     outermost: Option<usize>,
     out: TripleList,
     ended: bool,
-    spent: bool,
+    out_of_memory: bool,
 }
 
 impl Model for Eval {
@@ -85,7 +85,7 @@ impl Model for Eval {
       kept = e.text;
       out = triples_seen e.out;
       ended = e.ended;
-      spent = e.spent;
+      out_of_memory = e.out_of_memory;
     } };
 
     ghost invariant = { λ e. IsSound e.levels e.depth (context_seen e.page) e.frames.items e.skipped e.outermost e.text };
@@ -122,7 +122,7 @@ impl Eval {
         let page = Node::Iri(base.try_clone()?);
         let mut lists = Lists::new(alloc)?;
         let owner = lists.start(page.try_clone()?)?;
-        let page = Context {
+        let page = EvaluationContext {
             subject: page.try_clone()?,
             object: page,
             hanging: Hangings::of(alloc, Vec::new(alloc))?,
@@ -145,7 +145,7 @@ impl Eval {
             outermost: None,
             out: TripleList::new(alloc),
             ended: false,
-            spent: false,
+            out_of_memory: false,
         })
     }
 
@@ -159,17 +159,17 @@ impl Eval {
     /// A start tag: opens an element inside the innermost one. The triples of its start are there then, its owners of
     /// lists are begun, and what it has stands in their lists (RDFa Core 1.1, section 7.5, steps 2 to 13).
     pub fn enter(&mut self, facts: &Facts) -> Result<(), NoMemory>
-        requires { self.old.spent ≡ false → MayOpen self.old (facts_seen facts.now) }
+        requires { self.old.out_of_memory ≡ false → MayOpen self.old (facts_seen facts.now) }
         ensures ok { OnOk result (Opens self.old (facts_seen facts.now) self.new) }
         ensures stands { OnOk result (TakesOn (Enter (facts_seen facts.now)) self.old self.new) }
-        ensures unspent { OnOk result (self.old.spent ≡ false) }
-        ensures spent { OnErr result (self.new.spent ≡ true) }
+        ensures unspent { OnOk result (self.old.out_of_memory ≡ false) }
+        ensures out_of_memory { OnErr result (self.new.out_of_memory ≡ true) }
     {
-        if self.spent {
+        if self.out_of_memory {
             return Err(NoMemory);
         }
         if self.open(facts).is_err() {
-            self.spent = true;
+            self.out_of_memory = true;
             return Err(NoMemory);
         }
         Ok(())
@@ -179,18 +179,18 @@ impl Eval {
     pub fn text(&mut self, text: &str) -> Result<(), NoMemory>
         ensures ok { OnOk result (self.new ≡ read_text (chars text.now) self.old) }
         ensures stands { OnOk result (Takes (Read (chars text.now)) self.old self.new) }
-        ensures unspent { OnOk result (self.old.spent ≡ false) }
-        ensures spent { OnErr result (self.new.spent ≡ true) }
-        ensures quiet { self.old.spent ≡ false → gathers_some self.old.frames ≡ false → IsOk result }
+        ensures unspent { OnOk result (self.old.out_of_memory ≡ false) }
+        ensures out_of_memory { OnErr result (self.new.out_of_memory ≡ true) }
+        ensures quiet { self.old.out_of_memory ≡ false → gathers_some self.old.frames ≡ false → IsOk result }
     {
-        if self.spent {
+        if self.out_of_memory {
             return Err(NoMemory);
         }
         if !self.gathers() {
             return Ok(());
         }
         if self.text.push(text).is_err() {
-            self.spent = true;
+            self.out_of_memory = true;
             return Err(NoMemory);
         }
         Ok(())
@@ -200,17 +200,17 @@ impl Eval {
     /// section 7.5, steps 11 and 14). Want of memory is also the answer where the numbers of blank nodes don't suffice
     /// for the cells of these lists, one for each place.
     pub fn leave(&mut self) -> Result<(), NoMemory>
-        requires { self.old.spent ≡ false → 0 < length self.old.frames }
+        requires { self.old.out_of_memory ≡ false → 0 < length self.old.frames }
         ensures ok { OnOk result (Closes self.old self.new) }
         ensures stands { OnOk result (TakesOn Leave self.old self.new) }
-        ensures unspent { OnOk result (self.old.spent ≡ false) }
-        ensures spent { OnErr result (self.new.spent ≡ true) }
+        ensures unspent { OnOk result (self.old.out_of_memory ≡ false) }
+        ensures out_of_memory { OnErr result (self.new.out_of_memory ≡ true) }
     {
-        if self.spent {
+        if self.out_of_memory {
             return Err(NoMemory);
         }
         if self.close().is_err() {
-            self.spent = true;
+            self.out_of_memory = true;
             return Err(NoMemory);
         }
         Ok(())
@@ -221,9 +221,9 @@ impl Eval {
     pub fn finish(self) -> Result<TripleList, NoMemory>
         ensures ok { IfOk result (λ triples. triples_seen triples ≡ self.out) }
         ensures made { IfOk result (λ triples. IsMade self (triples_seen triples)) }
-        ensures spent { IsErr result ↔ (self.spent ≡ true) }
+        ensures out_of_memory { IsErr result ↔ (self.out_of_memory ≡ true) }
     {
-        if self.spent {
+        if self.out_of_memory {
             drop(self);
             return Err(NoMemory);
         }

@@ -5,7 +5,7 @@ ghost use Rattle.rx_element.specs.Contexts.{waiting_seen};
 ghost use Rattle.rx_eval.specs.Frames.{forward_by, reverse_by, hanging_by};
 
 use rx_curie::Facts;
-use rx_element::{Context, TextRule, Waiting};
+use rx_element::{EvaluationContext, TextRule, IncompleteTriple};
 use rx_lists::{Owner, SlotId};
 use rx_terms::{Iri, Iris, NoMemory, Node};
 use std::alloc::Global;
@@ -33,7 +33,7 @@ pub(crate) struct Gathered {
 /// which nothing is said are open around it, inside the next frame.
 #[derive(Drop)]
 pub(crate) struct Frame {
-    pub(crate) context: Context,
+    pub(crate) context: EvaluationContext,
     pub(crate) own: Option<Owner>,
     pub(crate) below: Option<Owner>,
     pub(crate) gathered: Option<Gathered>,
@@ -52,18 +52,18 @@ pub(crate) fn clone_iris(alloc: Global, iris: &Iris) -> Result<Iris, NoMemory>
 }
 
 /// One of `rel` that waits: forward, or as a list.
-fn forward(predicate: &Iri, inlist: bool, owner: Owner) -> Result<Waiting, NoMemory>
+fn forward(predicate: &Iri, inlist: bool, owner: Owner) -> Result<IncompleteTriple, NoMemory>
     ensures { IfOk result (λ one. waiting_seen one ≡ forward_by inlist owner.0 predicate.now) }
 {
     let predicate = predicate.try_clone()?;
     if inlist {
-        return Ok(Waiting::InList(owner, predicate));
+        return Ok(IncompleteTriple::InList(owner, predicate));
     }
-    Ok(Waiting::Forward(predicate))
+    Ok(IncompleteTriple::Forward(predicate))
 }
 
 fn push_forward(
-    waiting: &mut Vec<Waiting>,
+    waiting: &mut Vec<IncompleteTriple>,
     predicates: &Iris,
     inlist: bool,
     owner: Owner,
@@ -77,11 +77,11 @@ fn push_forward(
     Ok(())
 }
 
-fn push_reverse(waiting: &mut Vec<Waiting>, predicates: &Iris) -> Result<(), NoMemory>
+fn push_reverse(waiting: &mut Vec<IncompleteTriple>, predicates: &Iris) -> Result<(), NoMemory>
     ensures { OnOk result (map waiting_seen waiting.new.items ≡ map waiting_seen waiting.old.items ++ map reverse_by predicates.now) }
 {
     for i in 0..predicates.len() {
-        let one = Waiting::Reverse(predicates.at(i).try_clone()?);
+        let one = IncompleteTriple::Reverse(predicates.at(i).try_clone()?);
         waiting.push(one)?;
     }
     Ok(())
@@ -92,7 +92,7 @@ pub(crate) fn waiting_of(
     alloc: Global,
     facts: &Facts,
     owner: Owner,
-) -> Result<Vec<Waiting>, NoMemory>
+) -> Result<Vec<IncompleteTriple>, NoMemory>
     ensures { IfOk result (λ waiting. map waiting_seen waiting.items ≡ hanging_by (facts_seen facts.now) owner.0) }
 {
     let mut waiting = Vec::new(alloc);

@@ -2,7 +2,7 @@
 ghost use Rattle.std.specs.Prelude.{◌≡◌, ◌<◌, length, Some, slice_get};
 ghost use Rattle.rx_eval.specs.Waits.{waits, wait_seen, hanging_seen};
 
-use rx_element::Waiting;
+use rx_element::IncompleteTriple;
 use rx_terms::{Iri, Node};
 
 /// How a triple waits.
@@ -29,7 +29,7 @@ pub struct Hanging<'a> {
 pub struct Inherited<'a> {
     pub subject: &'a Node,
     pub object: &'a Node,
-    pub(crate) waiting: &'a [Waiting],
+    pub(crate) waiting: &'a [IncompleteTriple],
 }
 
 impl<'a> Inherited<'a> {
@@ -49,19 +49,19 @@ impl<'a> Inherited<'a> {
     }
 }
 
-fn hanging_of(waiting: &Waiting) -> Hanging<'_>
+fn hanging_of(waiting: &IncompleteTriple) -> Hanging<'_>
     ensures { hanging_seen result ≡ wait_seen waiting.now }
 {
     match waiting {
-        Waiting::Forward(predicate) => Hanging {
+        IncompleteTriple::Forward(predicate) => Hanging {
             predicate,
             direction: Direction::Forward,
         },
-        Waiting::Reverse(predicate) => Hanging {
+        IncompleteTriple::Reverse(predicate) => Hanging {
             predicate,
             direction: Direction::Reverse,
         },
-        Waiting::InList(_owner, predicate) => Hanging {
+        IncompleteTriple::InList(_owner, predicate) => Hanging {
             predicate,
             direction: Direction::InList,
         },

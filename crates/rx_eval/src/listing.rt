@@ -2,7 +2,7 @@
 ghost use Rattle.std.specs.Prelude.{◌≡◌, OnOk, IfOk, Some, map, option_map, filter_map};
 ghost use Rattle.rx_model.specs.Seen.{node_seen, term_seen};
 ghost use Rattle.rx_curie.specs.Seen.{facts_seen};
-ghost use Rattle.rx_element.specs.Found.{found_seen};
+ghost use Rattle.rx_element.specs.ElementResources.{found_seen};
 ghost use Rattle.rx_element.specs.Contexts.{waiting_seen};
 ghost use Rattle.rx_rdfa.specs.Inherited.{listed};
 ghost use Rattle.rx_eval.specs.OwnersSeen.{owners_seen, places_for};
@@ -10,7 +10,7 @@ ghost use Rattle.rx_eval.specs.Listing.{Puts, entries_for, linked_entries, touch
 
 use crate::entries::{add_awaited, add_each, slot_each, touch_each};
 use rx_curie::Facts;
-use rx_element::{Found, Waiting, hangs, node_term};
+use rx_element::{ElementResources, IncompleteTriple, hangs, node_term};
 use rx_lists::{Lists, Owner, SlotId};
 use rx_terms::{Iris, NoMemory, Node, Term};
 use std::alloc::Global;
@@ -80,7 +80,7 @@ fn put_own(
     lists: &mut Lists,
     owner: Owner,
     facts: &Facts,
-    found: &Found,
+    found: &ElementResources,
     value: &Option<Term>,
 ) -> Result<Vec<SlotId>, NoMemory>
     ensures lists { OnOk result (Puts lists.old lists.new
@@ -93,7 +93,7 @@ fn put_own(
 }
 
 /// Adds the subject to the lists that wait. Where nothing waits, no copy of it is made.
-fn put_awaited(lists: &mut Lists, waiting: &[Waiting], subject: &Node) -> Result<(), NoMemory>
+fn put_awaited(lists: &mut Lists, waiting: &[IncompleteTriple], subject: &Node) -> Result<(), NoMemory>
     ensures { OnOk result (Puts lists.old lists.new (filter_map (awaited_entry (node_seen subject.now)) (map waiting_seen waiting.now))) }
 {
     if waiting.is_empty() {
@@ -108,9 +108,9 @@ pub(crate) fn put_all(
     lists: &mut Lists,
     owner: Owner,
     facts: &Facts,
-    found: &Found,
+    found: &ElementResources,
     value: &Option<Term>,
-    waiting: &[Waiting],
+    waiting: &[IncompleteTriple],
 ) -> Result<Vec<SlotId>, NoMemory>
     ensures lists { OnOk result (Puts lists.old lists.new (entries_put owner.0 (facts_seen facts.now) (found_seen found.now) value.now waiting.now)) }
     ensures slots { IfOk result (λ slots. slots.items ≡ reserved owner.0 (facts_seen facts.now) (found_seen found.now) value.now lists.old) }
@@ -126,7 +126,7 @@ fn put_listed(
     lists: &mut Lists,
     owner: Owner,
     facts: &Facts,
-    found: &Found,
+    found: &ElementResources,
     value: &Option<Term>,
 ) -> Result<Vec<SlotId>, NoMemory>
     ensures lists { OnOk result (Puts lists.old lists.new

@@ -4,10 +4,10 @@ ghost use Rattle.rx_element.specs.Contexts.{context_seen};
 ghost use Rattle.rx_eval.specs.Opening.{around_in, drawn_after};
 
 use crate::frames::Frame;
-use rx_element::{Context, is_blank};
+use rx_element::{EvaluationContext, is_blank};
 
 /// The context in which a child of the innermost open element stands.
-pub(crate) fn around<'a>(page: &'a Context, frames: &'a [Frame]) -> &'a Context
+pub(crate) fn around<'a>(page: &'a EvaluationContext, frames: &'a [Frame]) -> &'a EvaluationContext
     ensures { result.now ≡ around_in page.now frames.now }
 {
     match frames {
@@ -17,7 +17,7 @@ pub(crate) fn around<'a>(page: &'a Context, frames: &'a [Frame]) -> &'a Context
 }
 
 /// The number after that of a new node, if the context has it.
-pub(crate) fn next_number(context: &Context, fresh: u64) -> u64
+pub(crate) fn next_number(context: &EvaluationContext, fresh: u64) -> u64
     requires { fresh + 1 < 2 ^ 64 }
     ensures { result ≡ drawn_after (context_seen context.now) fresh }
 {

@@ -13,7 +13,7 @@ ghost use Rattle.rx_items.specs.Collecting.{BaseIs, BaseMoves, Collects, Collect
 ghost use Rattle.rx_items.specs.Growing.{IsIdle};
 
 use crate::tables::Table;
-use rx_base::{Clue, Sought, base};
+use rx_base::{BaseSearchStep, Sought, base};
 use rx_nest::{Event, Listener, Stop, Tag};
 use rx_terms::{Iri, NoMemory};
 use std::alloc::Global;
@@ -97,11 +97,11 @@ fn begin_base(
         return Ok(());
     };
     match sought.begun(count, tag) {
-        Clue::Seeks(next) => {
+        BaseSearchStep::Seeks(next) => {
             *base = Base::Sought(next);
             Ok(())
         }
-        Clue::Known(href) => {
+        BaseSearchStep::Known(href) => {
             *base = known_base(alloc, address, href)?;
             Ok(())
         }

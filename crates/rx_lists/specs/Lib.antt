@@ -1,5 +1,5 @@
 pub mod Owners
-pub mod Gains
+pub mod Appends
 pub mod Cells
 pub mod Rows
 pub mod SlotIds

@@ -5,7 +5,7 @@ ghost use Rattle.rx_model.specs.Copied.{spo};
 ghost use Rattle.rx_model.specs.Vocabulary.{rdf_rest};
 ghost use Rattle.rx_rdfa.specs.Lists.{list_of};
 ghost use Rattle.rx_lists.specs.Cells.{cell_node, one_cell, terms_in};
-ghost use Rattle.rx_lists.specs.Gains.{Gains};
+ghost use Rattle.rx_lists.specs.Appends.{Appends};
 
 use crate::cell_iris::CellIris;
 use rx_terms::{Blank, Iri, NoMemory, Node, Term, Triple, TripleList};
@@ -20,7 +20,7 @@ pub(crate) fn push_list(
     first: u64,
 ) -> Result<u64, NoMemory>
     requires { first + length slots.now < 2 ^ 64 }
-    ensures triples { OnOk result (Gains out.old out.new (list_of (λ i. first + i) (node_seen subject.now) predicate.now (terms_in slots.now))) }
+    ensures triples { OnOk result (Appends out.old out.new (list_of (λ i. first + i) (node_seen subject.now) predicate.now (terms_in slots.now))) }
     ensures next { IfOk result (λ next. next ≡ first + length (terms_in slots.now)) }
 {
     let mut cell = first;
@@ -56,7 +56,7 @@ impl End {
         cell: u64,
         item: &Term,
     ) -> Result<End, NoMemory>
-        ensures triples { OnOk result (Gains out.old out.new (one_cell (node_seen self.node) self.by cell (term_seen item.now))) }
+        ensures triples { OnOk result (Appends out.old out.new (one_cell (node_seen self.node) self.by cell (term_seen item.now))) }
         ensures end { IfOk result (λ end. (node_seen end.node ≡ cell_node cell) × (end.by ≡ rdf_rest)) }
     {
         let End { node, by } = self;
@@ -71,7 +71,7 @@ impl End {
 }
 
 fn push(out: &mut TripleList, subject: Node, predicate: Iri, object: Term) -> Result<(), NoMemory>
-    ensures { OnOk result (Gains out.old out.new (spo (node_seen subject) predicate (term_seen object) ∷ [])) }
+    ensures { OnOk result (Appends out.old out.new (spo (node_seen subject) predicate (term_seen object) ∷ [])) }
 {
     out.push(Triple {
         subject,

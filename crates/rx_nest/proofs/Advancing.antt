@@ -220,7 +220,7 @@ first_turn (tree_token.Tag told) v l = by told.ends told.own refl refl
 
 module _ (syntax : Syntax) (limits : Limits) (old : Nested) (bytes : List ℕ) (signs : List Sign) (st : NestStands syntax limits old bytes signs) (piece : List ℕ) where
   -- what is due is told
-  pub due_done : (d : EventKind) (next : PendingEvents) (new : Nested) → IsNext old.owed d next → new ≡ record { scan = old.scan; line = old.line; owed = next; failed = old.failed; spent = old.spent } → Done syntax limits bytes signs piece 0 d new
+  pub due_done : (d : EventKind) (next : PendingEvents) (new : Nested) → IsNext old.owed d next → new ≡ record { scan = old.scan; line = old.line; owed = next; failed = old.failed; out_of_memory = old.out_of_memory } → Done syntax limits bytes signs piece 0 d new
   due_done d next new h e =
       let u = due old.owed d next old.scan h st.lends in
       subst (λ x. Done syntax limits bytes signs piece 0 d x) (sym e)
@@ -249,9 +249,9 @@ module _ (syntax : Syntax) (limits : Limits) (old : Nested) (bytes : List ℕ) (
       })
 
   -- what is read is told
-  pub read_done : (n : ℕ) (h : TreeToken) (new : Nested) → scan.TakesSome piece n (hears_more h) → next_owed old.owed ≡ None → Heeds syntax limits bytes st.told piece n h old.line new.scan new.line → new.owed ≡ (first_of h).1 → new.failed ≡ None → new.spent ≡ false
+  pub read_done : (n : ℕ) (h : TreeToken) (new : Nested) → scan.TakesSome piece n (hears_more h) → next_owed old.owed ≡ None → Heeds syntax limits bytes st.told piece n h old.line new.scan new.line → new.owed ≡ (first_of h).1 → new.failed ≡ None → new.out_of_memory ≡ false
       → Done syntax limits bytes signs piece n (first_of h).0 new
-  read_done n h new takes none heeds owed failed spent =
+  read_done n h new takes none heeds owed failed out_of_memory =
       let f = first_turn h new.scan heeds.lends in
       let paid_up : signs ++ owed_signs old.owed (last_tag old.scan) ≡ signs = ap (λ x. signs ++ x) (none_due old.owed (last_tag old.scan) none) ∙ append-nil signs in
       record {
@@ -267,7 +267,7 @@ module _ (syntax : Syntax) (limits : Limits) (old : Nested) (bytes : List ℕ) (
               (ap (λ x. signs ++ x) f.signs_are ∙ (sym (append_assoc signs (did_signs (first_of h).0 new.scan) (owed_signs (first_of h).1 (last_tag new.scan))) ∙ ap (λ (x : PendingEvents). (signs ++ did_signs (first_of h).0 new.scan) ++ owed_signs x (last_tag new.scan)) (sym owed)))));
           lends = λ b. f.begin_left (ap (λ (x : PendingEvents). owes_begin x.own) (sym owed) ∙ b);
           unfailed = failed;
-          unspent = spent;
+          unspent = out_of_memory;
         };
         lends = f.lends;
         all = λ m. heeds.all (sym f.more ∙ m);

@@ -47,7 +47,7 @@ pub record Nested : Type 0 where
   pub line : Lines
   pub owed : PendingEvents
   pub failed : Option Fault
-  pub spent : Bool
+  pub out_of_memory : Bool
 
 -- a tag with its place
 abbrev pub start_seen : tokens.Tag → ℕ → ℕ → StartTag
@@ -227,11 +227,11 @@ pub record NestStands (syntax : Syntax) (limits : Limits) (v : Nested) (bytes : 
   pub sight : sees nothing_seen told ≡ record { flags = flags_of v.line.levels; signs = signs ++ owed_signs v.owed (last_tag v.scan) }
   pub lends : owes_begin v.owed.own ≡ true → LendsStart v.scan
   pub unfailed : v.failed ≡ None
-  pub unspent : v.spent ≡ false
+  pub unspent : v.out_of_memory ≡ false
 
 -- what each nest keeps
 abbrev pub Ready : Scanner → Lines → PendingEvents → Option Fault → Bool → Type 0
-Ready v line owed failed spent = failed ≡ None → spent ≡ false → Somewhere v line × (owes_begin owed.own ≡ true → LendsStart v)
+Ready v line owed failed out_of_memory = failed ≡ None → out_of_memory ≡ false → Somewhere v line × (owes_begin owed.own ≡ true → LendsStart v)
 
 -- what was done shows
 abbrev pub did_signs : EventKind → Scanner → List Sign
@@ -286,15 +286,15 @@ pub record Takes (piece : List ℕ) (n : ℕ) (is_nothing : Bool) (old new : Pen
 -- leaves the open elements as they were.
 abbrev pub KeepsOn : Nested → List ℕ → Result (ℕ × EventKind) Stop → Nested → Type 0
 KeepsOn old piece (Ok r) new =
-    (old.failed ≡ None) × (old.spent ≡ false) × (new.failed ≡ None) × (new.spent ≡ false) × Takes piece r.0 (did_more r.1) old.owed new.owed
+    (old.failed ≡ None) × (old.out_of_memory ≡ false) × (new.failed ≡ None) × (new.out_of_memory ≡ false) × Takes piece r.0 (did_more r.1) old.owed new.owed
 KeepsOn old piece (Err (stop.Fault fault)) new =
-    (old.spent ≡ false) × ((old.failed ≡ None) ⊎ (old.failed ≡ Some fault)) × (new.failed ≡ Some fault) × (new.spent ≡ false) × (new.line ≡ old.line)
-KeepsOn old piece (Err stop.NoMemory) new = ((old.spent ≡ true) ⊎ (old.failed ≡ None)) × (new.spent ≡ true)
+    (old.out_of_memory ≡ false) × ((old.failed ≡ None) ⊎ (old.failed ≡ Some fault)) × (new.failed ≡ Some fault) × (new.out_of_memory ≡ false) × (new.line ≡ old.line)
+KeepsOn old piece (Err stop.NoMemory) new = ((old.out_of_memory ≡ true) ⊎ (old.failed ≡ None)) × (new.out_of_memory ≡ true)
 
 -- this fault was answered, and is from then on
 pub record Fallen (fault : Fault) (v : Nested) : Type 0 where
   pub failed : v.failed ≡ Some fault
-  pub unspent : v.spent ≡ false
+  pub unspent : v.out_of_memory ≡ false
 
 pub record Done (syntax : Syntax) (limits : Limits) (bytes : List ℕ) (signs : List Sign) (piece : List ℕ) (n : ℕ) (d : EventKind) (new : Nested) : Type 0 where
   pub fits : n ≤ length piece
@@ -331,7 +331,7 @@ pub record OpenBefore (syntax : Syntax) (limits : Limits) (bytes : List ℕ) (to
 abbrev pub FaultGives : Syntax → Limits → List ℕ → List Sign → List ℕ → Stop → Nested → Type 0
 FaultGives syntax limits bytes signs piece (stop.Fault fault) new =
     Faults syntax limits bytes piece fault × Fallen fault new × Unshown syntax limits bytes signs piece × OpenBefore syntax limits (bytes ++ piece) fault.token new.line
-FaultGives syntax limits bytes signs piece stop.NoMemory new = new.spent ≡ true
+FaultGives syntax limits bytes signs piece stop.NoMemory new = new.out_of_memory ≡ true
 
 abbrev pub AdvanceGives : Syntax → Limits → List ℕ → List Sign → List ℕ → Result (ℕ × EventKind) Stop → Nested → Type 0
 AdvanceGives syntax limits bytes signs piece (Ok r) new = Done syntax limits bytes signs piece r.0 r.1 new
@@ -404,16 +404,16 @@ StepGives syntax limits bytes signs piece (Err stop) new = FaultGives syntax lim
 -- fault leaves the open elements as they were.
 abbrev pub Keeps : Nested → List ℕ → Result (ℕ × Event) Stop → Nested → Type 0
 Keeps old piece (Ok r) new =
-    (old.failed ≡ None) × (old.spent ≡ false) × (new.failed ≡ None) × (new.spent ≡ false) × Takes piece r.0 (is_more r.1) old.owed new.owed
+    (old.failed ≡ None) × (old.out_of_memory ≡ false) × (new.failed ≡ None) × (new.out_of_memory ≡ false) × Takes piece r.0 (is_more r.1) old.owed new.owed
 Keeps old piece (Err (stop.Fault fault)) new =
-    (old.spent ≡ false) × ((old.failed ≡ None) ⊎ (old.failed ≡ Some fault)) × (new.failed ≡ Some fault) × (new.spent ≡ false) × (new.line ≡ old.line)
-Keeps old piece (Err stop.NoMemory) new = ((old.spent ≡ true) ⊎ (old.failed ≡ None)) × (new.spent ≡ true)
+    (old.out_of_memory ≡ false) × ((old.failed ≡ None) ⊎ (old.failed ≡ Some fault)) × (new.failed ≡ Some fault) × (new.out_of_memory ≡ false) × (new.line ≡ old.line)
+Keeps old piece (Err stop.NoMemory) new = ((old.out_of_memory ≡ true) ⊎ (old.failed ≡ None)) × (new.out_of_memory ≡ true)
 
 abbrev pub KeepsEnd : Nested → Result (Unit {0}) Stop → Nested → Type 0
-KeepsEnd old (Ok done) new = (old.failed ≡ None) × (old.spent ≡ false) × (new ≡ old)
+KeepsEnd old (Ok done) new = (old.failed ≡ None) × (old.out_of_memory ≡ false) × (new ≡ old)
 KeepsEnd old (Err (stop.Fault fault)) new =
-    (old.spent ≡ false) × ((old.failed ≡ None) ⊎ (old.failed ≡ Some fault)) × (new.failed ≡ Some fault) × (new.spent ≡ false) × (new.line ≡ old.line)
-KeepsEnd old (Err stop.NoMemory) new = (old.spent ≡ true) × (new ≡ old)
+    (old.out_of_memory ≡ false) × ((old.failed ≡ None) ⊎ (old.failed ≡ Some fault)) × (new.failed ≡ Some fault) × (new.out_of_memory ≡ false) × (new.line ≡ old.line)
+KeepsEnd old (Err stop.NoMemory) new = (old.out_of_memory ≡ true) × (new ≡ old)
 
 -- the end of the page's reading, by its fault if it has one
 abbrev pub EndsWith : Syntax → Limits → List ℕ → List nesting.Event → Option Fault → Type 0

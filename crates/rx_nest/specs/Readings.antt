@@ -23,7 +23,7 @@ pub record Read (L : Type 0) : Type 0 where
   pub nest : Nested
   pub listener : L
   pub failed : Option Fault
-  pub spent : Bool
+  pub out_of_memory : Bool
 
 -- the signs that were read of these bytes are those for which the listener stands
 pub record Goes {L : Type 0} (way : Way) (knows : L → List Sign → Type 0) (nest : Nested) (listener : L) (bytes : List ℕ) : Type 0 where
@@ -43,14 +43,14 @@ OwesNone nest = nests.owed_signs nest.owed (nests.last_tag nest.scan) ≡ []
 
 -- what each reading keeps: nothing is due between two pieces
 abbrev pub Ready : {S L : Type 0} → (S → Way) → (S → L → List Sign → Type 0) → Nested → L → Option Fault → Bool → Type 0
-Ready way knows nest listener failed spent = failed ≡ None → spent ≡ false → Somewhere way knows nest listener × OwesNone nest
+Ready way knows nest listener failed out_of_memory = failed ≡ None → out_of_memory ≡ false → Somewhere way knows nest listener × OwesNone nest
 
 -- The reading stands for these bytes of a page: its listener was told of them, and nothing is due.
 pub record ReadingStands {L : Type 0} (way : Way) (knows : L → List Sign → Type 0) (reading : Read L) (bytes : List ℕ) : Type 0 where
   pub goes : Goes way knows reading.nest reading.listener bytes
   pub paid : OwesNone reading.nest
   pub unfailed : reading.failed ≡ None
-  pub unspent : reading.spent ≡ false
+  pub unspent : reading.out_of_memory ≡ false
 
 -- a listener that was told nothing, for a page of this syntax and with these limits
 pub record IsNew {S L : Type 0} (way : S → Way) (knows : S → L → List Sign → Type 0) (syntax : Syntax) (limits : Limits) (listener : L) : Type 0 where
@@ -71,7 +71,7 @@ PieceGives way knows bytes piece (Err why) nest listener = StopGives way (bytes 
 
 abbrev pub FeedGives : {L : Type 0} → Way → (L → List Sign → Type 0) → List ℕ → List ℕ → Result (Unit {0}) Stop → Read L → Type 0
 FeedGives way knows bytes piece (Ok done) new = ReadingStands way knows new (bytes ++ piece)
-FeedGives way knows bytes piece (Err why) new = StopGives way (bytes ++ piece) why × FallsBy why new.failed new.spent
+FeedGives way knows bytes piece (Err why) new = StopGives way (bytes ++ piece) why × FallsBy why new.failed new.out_of_memory
 
 -- The bytes are a page of which no start tag is refused, and the listener stands for its tree.
 pub record Whole {L : Type 0} (way : Way) (knows : L → List Sign → Type 0) (bytes : List ℕ) (listener : L) : Type 0 where
@@ -96,8 +96,8 @@ EndGives way knows bytes (Ok listener) = Whole way knows bytes listener
 EndGives way knows bytes (Err why) = Unfinished way bytes why
 
 -- a fault or want of memory was answered
-abbrev pub has_fallen : {L : Type 0} → Read L → Bool
-has_fallen reading = is_some reading.failed || reading.spent
+abbrev pub has_failed : {L : Type 0} → Read L → Bool
+has_failed reading = is_some reading.failed || reading.out_of_memory
 
 -- What a call does, whatever bytes the nest and its listener stand for under whatever setting.
 module _ {S L : Type 0} (way : S → Way) (knows : S → L → List Sign → Type 0) where

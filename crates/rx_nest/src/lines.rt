@@ -58,14 +58,14 @@ impl From<NoMemory> for Refused {
 
 /// The open elements of a page.
 #[derive(Drop)]
-pub(crate) struct Line {
+pub(crate) struct OpenElements {
     syntax: Syntax,
     depth: u32,
     begun: bool,
     levels: Levels,
 }
 
-impl Model for Line {
+impl Model for OpenElements {
     ghost use Rattle.std.specs.Prelude.{◌≡◌};
     ghost use Rattle.rx_nest.specs.Lines.{Lines};
 
@@ -76,15 +76,15 @@ impl Model for Line {
     ghost invariant = { λ l. l.levels.room ≡ l.depth };
 }
 
-impl Line {
+impl OpenElements {
     ghost use Rattle.std.specs.Prelude.{[], false, IfOk};
 
     /// Before the root. The memory of all levels is taken.
-    pub(crate) fn new(alloc: Global, syntax: Syntax, depth: u32) -> Result<Line, NoMemory>
+    pub(crate) fn new(alloc: Global, syntax: Syntax, depth: u32) -> Result<OpenElements, NoMemory>
         ensures { IfOk result (λ l. l ≡ record { syntax = syntax; depth = depth; begun = false; levels = [] }) }
     {
         let levels = Levels::new(alloc, depth)?;
-        Ok(Line {
+        Ok(OpenElements {
             syntax,
             depth,
             begun: false,

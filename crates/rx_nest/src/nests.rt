@@ -3,7 +3,7 @@ ghost use Rattle.std.specs.Prelude.{◌≡◌, [], true, false, IfOk, length};
 ghost use Rattle.rx_nest.specs.TreeTokens.{paid};
 ghost use Rattle.rx_nest.specs.Nests as nests;
 
-use crate::lines::Line;
+use crate::lines::OpenElements;
 use crate::reads::read;
 use crate::tree_tokens::{EventKind, PendingEvents, first_of, next_owed};
 use rx_grammar::{Fault, Kind, Limits};
@@ -34,10 +34,10 @@ pub enum Event<'a> {
 #[derive(Drop)]
 pub struct Nest {
     scan: Scan,
-    line: Line,
+    line: OpenElements,
     owed: PendingEvents,
     failed: Option<Fault>,
-    spent: bool,
+    out_of_memory: bool,
 }
 
 impl Model for Nest {
@@ -45,9 +45,9 @@ impl Model for Nest {
 
     ghost Value = { Nested };
 
-    ghost view = { λ n. record { scan = n.scan; line = n.line; owed = n.owed; failed = n.failed; spent = n.spent } };
+    ghost view = { λ n. record { scan = n.scan; line = n.line; owed = n.owed; failed = n.failed; out_of_memory = n.out_of_memory } };
 
-    ghost invariant = { λ n. Ready n.scan n.line n.owed n.failed n.spent };
+    ghost invariant = { λ n. Ready n.scan n.line n.owed n.failed n.out_of_memory };
 }
 
 impl Nest {
@@ -57,13 +57,13 @@ impl Nest {
         ensures paid { IfOk result (λ n. n.owed ≡ paid) }
     {
         let scan = Scan::new(alloc, syntax, limits)?;
-        let line = Line::new(alloc, syntax, limits.depth)?;
+        let line = OpenElements::new(alloc, syntax, limits.depth)?;
         Ok(Nest {
             scan,
             line,
             owed: PendingEvents::NONE,
             failed: None,
-            spent: false,
+            out_of_memory: false,
         })
     }
 
@@ -81,7 +81,7 @@ impl Nest {
         ensures lends { IfOk result (λ done. nests.DidLends done.1 self.new.scan) }
         ensures quiet { nests.IsQuiet self.old piece.now result }
     {
-        if self.spent {
+        if self.out_of_memory {
             return Err(Stop::NoMemory);
         }
         if let Some(fault) = self.failed {
@@ -102,7 +102,7 @@ impl Nest {
                 Err(Stop::Fault(fault))
             }
             Err(Stop::NoMemory) => {
-                self.spent = true;
+                self.out_of_memory = true;
                 Err(Stop::NoMemory)
             }
         }
@@ -158,7 +158,7 @@ impl Nest {
         ensures ends { nests.Ends self.old result self.new }
         ensures keeps { nests.KeepsEnd self.old result self.new }
     {
-        if self.spent {
+        if self.out_of_memory {
             return Err(Stop::NoMemory);
         }
         if let Some(fault) = self.failed {
@@ -173,7 +173,7 @@ impl Nest {
 }
 
 // The fault of the page's end, if it has one.
-fn ending(scan: &mut Scan, line: &Line) -> Option<Fault>
+fn ending(scan: &mut Scan, line: &OpenElements) -> Option<Fault>
     requires { nests.Somewhere scan.old line.now }
     ensures ends { nests.EndsAt scan.old line.now result }
     ensures keeps { nests.IfNoFault result (scan.new ≡ scan.old) }

@@ -24,7 +24,7 @@ pub struct Reading<L: Listener> {
     nest: Nest,
     listener: L,
     failed: Option<Fault>,
-    spent: bool,
+    out_of_memory: bool,
 }
 
 impl<L: Listener> Model for Reading<L> {
@@ -32,9 +32,9 @@ impl<L: Listener> Model for Reading<L> {
 
     ghost Value = { Read L };
 
-    ghost view = { λ r. record { nest = r.nest; listener = r.listener; failed = r.failed; spent = r.spent } };
+    ghost view = { λ r. record { nest = r.nest; listener = r.listener; failed = r.failed; out_of_memory = r.out_of_memory } };
 
-    ghost invariant = { λ r. Ready L.way L.knows r.nest r.listener r.failed r.spent };
+    ghost invariant = { λ r. Ready L.way L.knows r.nest r.listener r.failed r.out_of_memory };
 }
 
 /// Takes what comes next of the page's tree.
@@ -107,7 +107,7 @@ impl<L: Listener + Drop> Reading<L> {
             nest,
             listener,
             failed: None,
-            spent: false,
+            out_of_memory: false,
         })
     }
 
@@ -117,10 +117,10 @@ impl<L: Listener + Drop> Reading<L> {
         ensures gives { readings.Feeds L.way L.knows self.old piece.now result self.new }
         ensures place { FeedsInPlace L.way L.knows self.old piece.now result }
         ensures quiet { quiets.FeedsQuietly L.way L.knows L.idle self.old piece.now result }
-        ensures asked { MayAnswer self.old.failed self.old.spent result }
-        ensures keeps { Answered result self.new.failed self.new.spent }
+        ensures asked { MayAnswer self.old.failed self.old.out_of_memory result }
+        ensures keeps { Answered result self.new.failed self.new.out_of_memory }
     {
-        if self.spent {
+        if self.out_of_memory {
             return Err(Stop::NoMemory);
         }
         if let Some(fault) = self.failed {
@@ -133,7 +133,7 @@ impl<L: Listener + Drop> Reading<L> {
                 Err(Stop::Fault(fault))
             }
             Err(Stop::NoMemory) => {
-                self.spent = true;
+                self.out_of_memory = true;
                 Err(Stop::NoMemory)
             }
         }
@@ -144,16 +144,16 @@ impl<L: Listener + Drop> Reading<L> {
     pub fn finish(self) -> Result<L, Stop>
         ensures gives { readings.Finishes L.way L.knows self result }
         ensures whole { IfOk result (λ listener. readings.IsWhole L.way L.knows listener) }
-        ensures asked { MayAnswer self.failed self.spent result }
-        ensures memory { result ≡ Err Stop.NoMemory → self.spent ≡ true }
+        ensures asked { MayAnswer self.failed self.out_of_memory result }
+        ensures memory { result ≡ Err Stop.NoMemory → self.out_of_memory ≡ true }
     {
         let Reading {
             mut nest,
             listener,
             failed,
-            spent,
+            out_of_memory,
         } = self;
-        if spent {
+        if out_of_memory {
             drop(nest);
             drop(listener);
             return Err(Stop::NoMemory);
@@ -186,9 +186,9 @@ impl<L: Listener + Drop> Reading<L> {
 
     /// Whether a fault or want of memory was answered.
     #[inline]
-    pub fn has_fallen(&self) -> bool
-        ensures { result ≡ readings.has_fallen self.now }
+    pub fn has_failed(&self) -> bool
+        ensures { result ≡ readings.has_failed self.now }
     {
-        self.failed.is_some() || self.spent
+        self.failed.is_some() || self.out_of_memory
     }
 }

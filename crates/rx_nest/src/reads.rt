@@ -2,7 +2,7 @@
 ghost use Rattle.std.specs.Prelude.{[]};
 ghost use Rattle.rx_nest.specs.Nests as nests;
 
-use crate::lines::Line;
+use crate::lines::OpenElements;
 use crate::tree_tokens::TreeToken;
 use rx_scan::Scan;
 use rx_tags::Stop;
@@ -11,7 +11,7 @@ use rx_tags::Stop;
 /// tree. After a tag the scanner goes on in the content of the innermost element. Memory is taken by tags alone.
 pub(crate) fn read(
     scan: &mut Scan,
-    line: &mut Line,
+    line: &mut OpenElements,
     piece: &[u8],
 ) -> Result<(usize, TreeToken), Stop>
     requires { nests.Somewhere scan.old line.old }

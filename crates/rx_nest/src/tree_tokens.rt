@@ -2,7 +2,7 @@
 ghost use Rattle.std.specs.Prelude.{◌≡◌};
 ghost use Rattle.rx_nest.specs.TreeTokens as tree_token;
 
-use crate::lines::{Line, Refused, TagAction, TagEffect};
+use crate::lines::{OpenElements, Refused, TagAction, TagEffect};
 use rx_grammar::Fault;
 use rx_scan::Token;
 use rx_tags::{Stop, Tag};
@@ -38,7 +38,7 @@ impl PendingEvents {
     pub(crate) const NONE: PendingEvents = PendingEvents { ends: 0, own: None };
 }
 
-impl Line {
+impl OpenElements {
     /// Takes the token.
     pub(crate) fn take_token(&mut self, token: Token<'_>) -> Result<TreeToken, Stop>
         ensures { tree_token.TakesToken self.old token.entry result self.new }

@@ -2,7 +2,7 @@
 use Rattle.std.proofs.Common.{◌≡◌, ◌∙◌, ℕ, ◌+◌, ◌≤◌, Bool, true, false, List, [], ◌++◌, length, take, drop, Option, refl, sym, ap, ap₂, subst, append_assoc, append-nil, length-append, take-append-drop, Result, Ok, Err, OnOk, OnErr, is_err, take-add, Some, arith}
 use Rattle.std.proofs.lemmas.List.{take_at, drop_at, take-append-le}
 use Rattle.rx_ports.specs.Counts.{Rose}
-use Rattle.rx_ports.specs.Shelves.{Moves, GrowsBy, GrowsByPart}
+use Rattle.rx_ports.specs.Shelves.{WhereKnown, GrowsBy, GrowsByPart}
 use Rattle.rx_ports.specs.declared.shelf.Failed.{Failed}
 use Rattle.rx_ports.proofs.MoveLemmas.{moves_same, moves_then, moves_weaker}
 use Rattle.rx_pieces.specs.Underway.{Underway, Delivery, delivery, nothing_waits, keeps, SentBut, IsUnderway, AddsBytes}
@@ -76,7 +76,7 @@ kept old new held faults bytes e = subst (λ (u : Underway). AddsBytes (delivery
 })
 
 module _ (now : Underway) (held next : Option (List ℕ)) (faults after : ℕ) (fine : now.failed ≡ false) (later : faults ≤ after) where
-  sent_whole : Moves (GrowsBy now.waiting) held next → AddsBytes (delivery now held faults) (delivery (nothing_waits false) next after) []
+  sent_whole : WhereKnown (GrowsBy now.waiting) held next → AddsBytes (delivery now held faults) (delivery (nothing_waits false) next after) []
   sent_whole moves = record {
     stands = λ start before text s. stands_by (sym (append-nil text)) (record {
       told = moves_then _ (λ x y z p q. all_sent now.waiting text x y z (subst (λ (b : Bool). SentBut b now.waiting text x y) fine p) q) s.told moves;
@@ -85,7 +85,7 @@ module _ (now : Underway) (held next : Option (List ℕ)) (faults after : ℕ) (
     });
   }
 
-  sent_part : Moves (GrowsByPart now.waiting) held next → Rose faults after → AddsBytes (delivery now held faults) (delivery (nothing_waits true) next after) []
+  sent_part : WhereKnown (GrowsByPart now.waiting) held next → Rose faults after → AddsBytes (delivery now held faults) (delivery (nothing_waits true) next after) []
   sent_part moves rose = record {
     stands = λ start before text s. stands_by (sym (append-nil text)) (record {
       told = moves_then _ (λ x y z p q. part_sent now.waiting text x y z (subst (λ (b : Bool). SentBut b now.waiting text x y) fine p) q) s.told moves;
@@ -95,7 +95,7 @@ module _ (now : Underway) (held next : Option (List ℕ)) (faults after : ℕ) (
   }
 
   -- what waited was given to the sink
-  pub sent : (r : Result (Unit {0}) Failed) → OnOk r (Moves (GrowsBy now.waiting) held next) → OnErr r (Moves (GrowsByPart now.waiting) held next) → OnErr r (Rose faults after)
+  pub sent : (r : Result (Unit {0}) Failed) → OnOk r (WhereKnown (GrowsBy now.waiting) held next) → OnErr r (WhereKnown (GrowsByPart now.waiting) held next) → OnErr r (Rose faults after)
       → AddsBytes (delivery now held faults) (delivery (nothing_waits (is_err r)) next after) []
   sent (Ok u) whole part rose = sent_whole whole
   sent (Err f) whole part rose = sent_part part rose
@@ -104,7 +104,7 @@ module _ (now : Underway) (held next : Option (List ℕ)) (faults after : ℕ) (
 pub sent_nothing : (now : Underway) (held : Option (List ℕ)) (faults : ℕ) → now.failed ≡ true → AddsBytes (delivery now held faults) (delivery (nothing_waits true) held faults) []
 sent_nothing now held faults failed = record {
   stands = λ start before text s. stands_by (sym (append-nil text)) (record {
-    told = subst (λ (b : Bool). Moves (SentBut b now.waiting text) start held) failed s.told;
+    told = subst (λ (b : Bool). WhereKnown (SentBut b now.waiting text) start held) failed s.told;
     later = s.later;
     cause = λ _. s.cause failed;
   });
@@ -146,9 +146,9 @@ pub end_stands : {first : Underway} {held : Option (List ℕ)} {faults : ℕ} {t
     → IsUnderway held faults text last
 end_stands {first} {held} {faults} {text} e h k = stands_by (append-nil text) ((bytes_then h k).stands held faults [] (start_stands first held faults e))
 
-pub whole_sent : {held next : Option (List ℕ)} {faults after : ℕ} (text : List ℕ) → IsUnderway held faults text (delivery (nothing_waits false) next after) → Moves (GrowsBy text) held next
+pub whole_sent : {held next : Option (List ℕ)} {faults after : ℕ} (text : List ℕ) → IsUnderway held faults text (delivery (nothing_waits false) next after) → WhereKnown (GrowsBy text) held next
 whole_sent text s = moves_weaker _ (λ x y (sent, e, f). e ∙ ap (λ z. x ++ z) (sym (f ∙ append-nil sent))) s.told
 
 -- a sink that held nothing, and tells what it holds, holds the text
-pub holds_text : (x y text : List ℕ) → x ≡ [] → Moves (GrowsBy text) (Some x) (Some y) → y ≡ text
+pub holds_text : (x y text : List ℕ) → x ≡ [] → WhereKnown (GrowsBy text) (Some x) (Some y) → y ≡ text
 holds_text x y text e m = m.taken x y refl refl ∙ ap (λ z. z ++ text) e

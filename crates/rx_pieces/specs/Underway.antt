@@ -1,15 +1,15 @@
 -- A text on its way to a sink: what waits to be sent, and what the sink has told so far.
 use Rattle.std.specs.Prelude.{◌≡◌, ℕ, ◌≤◌, Bool, true, false, List, [], ◌++◌, Option}
 use Rattle.rx_ports.specs.Counts.{Rose}
-use Rattle.rx_ports.specs.Shelves.{Moves, GrowsBy, GrowsByPart}
+use Rattle.rx_ports.specs.Shelves.{WhereKnown, GrowsBy, GrowsByPart}
 
 -- what a sink tells to hold has grown by these bytes
 abbrev pub Sends : List ℕ → Option (List ℕ) → Option (List ℕ) → Type 0
-Sends bytes old new = Moves (GrowsBy bytes) old new
+Sends bytes old new = WhereKnown (GrowsBy bytes) old new
 
 -- it has grown by a proper front of them
 abbrev pub SendsPart : List ℕ → Option (List ℕ) → Option (List ℕ) → Type 0
-SendsPart bytes old new = Moves (GrowsByPart bytes) old new
+SendsPart bytes old new = WhereKnown (GrowsByPart bytes) old new
 
 -- bytes that wait to be sent, and whether the sink failed, which is given nothing more then
 pub record Underway : Type 0 where
@@ -39,7 +39,7 @@ SentBut false waiting text old new = (sent : List ℕ) × (new ≡ old ++ sent) 
 
 -- so much of a text was handed over, since the sink told to hold `start` and its count of faults was `before`
 pub record IsUnderway (start : Option (List ℕ)) (before : ℕ) (text : List ℕ) (now : Delivery) : Type 0 where
-  pub told : Moves (SentBut now.underway.failed now.underway.waiting text) start now.held
+  pub told : WhereKnown (SentBut now.underway.failed now.underway.waiting text) start now.held
   pub later : before ≤ now.faults
   pub cause : now.underway.failed ≡ true → Rose before now.faults
 

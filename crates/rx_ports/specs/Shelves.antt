@@ -10,7 +10,7 @@ pub record ShelfContent : Type 0 where
   pub taken : ℕ
 
 -- Whether something is told stays; what is told takes a step.
-pub record Moves {A : Type 0} (step : A → A → Type 0) (old new : Option A) : Type 0 where
+pub record WhereKnown {A : Type 0} (step : A → A → Type 0) (old new : Option A) : Type 0 where
   pub same : is_some new ≡ is_some old
   pub taken : (before after : A) → old ≡ Some before → new ≡ Some after → step before after
 

@@ -1,7 +1,7 @@
 //! A shelf in memory.
 ghost use Rattle.std.specs.Prelude.{◌≡◌, ◌+◌, ◌^◌, ◌<◌, ◌≤◌, ◌⊎◌, IfOk, OnErr, MatchResult, Some, length, take};
 ghost use Rattle.rx_ports.specs.Counts.{Rose, raised};
-ghost use Rattle.rx_ports.specs.Shelves.{Moves, Starts, Reads, Lacks};
+ghost use Rattle.rx_ports.specs.Shelves.{WhereKnown, Starts, Reads, Lacks};
 ghost use Rattle.rx_ports.specs.MemShelf.{MemoryShelf, new_shelf, told_by, after_start, start_gives, after_read, read_gives, left_of, IsPlace};
 
 use crate::counter::raise;
@@ -83,7 +83,7 @@ impl Shelf for MemShelf {
     fn start_file(&mut self, name: &str) -> Result<(), Failed>
         ensures result { result ≡ start_gives self.old name.now }
         ensures state { self.new ≡ after_start self.old name.now }
-        ensures told { Moves (Starts name.now result) (Some (told_by self.old)) (Some (told_by self.new)) }
+        ensures told { WhereKnown (Starts name.now result) (Some (told_by self.old)) (Some (told_by self.new)) }
         ensures later { self.old.faults ≤ self.new.faults }
         ensures cause { OnErr result (Rose self.old.faults self.new.faults ⊎ Lacks (Some (told_by self.old)) name.now) }
     {
@@ -107,7 +107,7 @@ impl Shelf for MemShelf {
         ensures state { self.new ≡ after_read self.old (length buf.new) }
         ensures bytes { IfOk result (λ n. take n buf.new ≡ take n self.old.left) }
         ensures bound { IfOk result (λ n. n ≤ length buf.new) }
-        ensures told { Moves (Reads buf.new result) (Some (told_by self.old)) (Some (told_by self.new)) }
+        ensures told { WhereKnown (Reads buf.new result) (Some (told_by self.old)) (Some (told_by self.new)) }
         ensures later { self.old.faults ≤ self.new.faults }
         ensures cause { OnErr result (Rose self.old.faults self.new.faults) }
     {

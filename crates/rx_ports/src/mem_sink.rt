@@ -1,7 +1,7 @@
 //! A sink in memory.
 ghost use Rattle.std.specs.Prelude.{◌≡◌, ◌<◌, ◌≤◌, IfOk, OnErr, Some};
 ghost use Rattle.rx_ports.specs.Counts.{Rose, raised};
-ghost use Rattle.rx_ports.specs.Shelves.{Moves, Takes, IsProgress};
+ghost use Rattle.rx_ports.specs.Shelves.{WhereKnown, Takes, IsProgress};
 ghost use Rattle.rx_ports.specs.MemSink.{MemorySink, new_sink, after_write, write_gives};
 
 use crate::counter::raise;
@@ -83,7 +83,7 @@ impl Sink for MemSink {
         ensures result { result ≡ write_gives self.old piece.now }
         ensures state { self.new ≡ after_write self.old piece.now }
         ensures bound { IfOk result (IsProgress piece.now) }
-        ensures held { Moves (Takes piece.now result) (Some self.old.held) (Some self.new.held) }
+        ensures held { WhereKnown (Takes piece.now result) (Some self.old.held) (Some self.new.held) }
         ensures later { self.old.faults ≤ self.new.faults }
         ensures cause { OnErr result (Rose self.old.faults self.new.faults) }
     {

@@ -1,7 +1,7 @@
 //! Writing a whole piece.
 ghost use Rattle.std.specs.Prelude.{◌≤◌, OnOk, OnErr};
 ghost use Rattle.rx_ports.specs.Counts.{Rose};
-ghost use Rattle.rx_ports.specs.Shelves.{Moves, GrowsBy, GrowsByPart};
+ghost use Rattle.rx_ports.specs.Shelves.{WhereKnown, GrowsBy, GrowsByPart};
 
 use crate::shelf::Failed;
 use crate::sink::Sink;
@@ -9,8 +9,8 @@ use crate::sink::Sink;
 /// Writes the whole piece. Where the sink fails, it holds a proper front of the piece more than before. It takes no
 /// memory.
 pub fn put_all<S: Sink>(sink: &mut S, piece: &[u8]) -> Result<(), Failed>
-    ensures ok { OnOk result (Moves (GrowsBy piece.now) (S.held sink.old) (S.held sink.new)) }
-    ensures err { OnErr result (Moves (GrowsByPart piece.now) (S.held sink.old) (S.held sink.new)) }
+    ensures ok { OnOk result (WhereKnown (GrowsBy piece.now) (S.held sink.old) (S.held sink.new)) }
+    ensures err { OnErr result (WhereKnown (GrowsByPart piece.now) (S.held sink.old) (S.held sink.new)) }
     ensures later { S.faults sink.old ≤ S.faults sink.new }
     ensures cause { OnErr result (Rose (S.faults sink.old) (S.faults sink.new)) }
 {

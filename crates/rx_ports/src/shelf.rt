@@ -1,7 +1,7 @@
 //! A shelf of files.
 ghost use Rattle.std.specs.Prelude.{◌≤◌, ◌⊎◌, ℕ, IfOk, OnErr, Option, length};
 ghost use Rattle.rx_ports.specs.Counts.{Rose};
-ghost use Rattle.rx_ports.specs.Shelves.{ShelfContent, Moves, Starts, Reads, Lacks};
+ghost use Rattle.rx_ports.specs.Shelves.{ShelfContent, WhereKnown, Starts, Reads, Lacks};
 
 /// A call to a shelf or a sink failed.
 #[derive(Clone, Copy, Debug, PartialEq, Eq)]
@@ -20,7 +20,7 @@ pub trait Shelf {
     /// Goes to the start of the file of this name. It fails only where the count of faults rose, or where the shelf
     /// tells its files and this is none of them; then what is left stays as it was.
     fn start_file(&mut self, name: &str) -> Result<(), Failed>
-        ensures told { Moves (Starts name.now result) (told self.old) (told self.new) }
+        ensures told { WhereKnown (Starts name.now result) (told self.old) (told self.new) }
         ensures later { faults self.old ≤ faults self.new }
         ensures cause { OnErr result (Rose (faults self.old) (faults self.new) ⊎ Lacks (told self.old) name.now) };
 
@@ -28,7 +28,7 @@ pub trait Shelf {
     /// the end of the file. It fails only where the count of faults rose; then nothing was read.
     fn read(&mut self, buf: &mut [u8]) -> Result<usize, Failed>
         ensures bound { IfOk result (λ n. n ≤ length buf.new) }
-        ensures told { Moves (Reads buf.new result) (told self.old) (told self.new) }
+        ensures told { WhereKnown (Reads buf.new result) (told self.old) (told self.new) }
         ensures later { faults self.old ≤ faults self.new }
         ensures cause { OnErr result (Rose (faults self.old) (faults self.new)) };
 }

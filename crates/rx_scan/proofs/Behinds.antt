@@ -19,8 +19,8 @@ use Rattle.rx_scan.specs.declared.marks.StrictPhase.{StrictPhase}
 use Rattle.rx_scan.specs.declared.marks.StrictPhase.TheVariants as strict
 use Rattle.rx_scan.specs.declared.marks.Brackets.{Brackets}
 use Rattle.rx_scan.specs.declared.marks.Brackets.TheVariants as brackets
-use Rattle.rx_scan.specs.declared.marks.Mark.{Mark}
-use Rattle.rx_scan.specs.declared.marks.Mark.TheVariants as mark
+use Rattle.rx_scan.specs.declared.marks.TokenState.{TokenState}
+use Rattle.rx_scan.specs.declared.marks.TokenState.TheVariants as mark
 use Rattle.rx_scan.specs.declared.marks.Move.{Move}
 use Rattle.rx_scan.specs.Marks.{may_close, after_dash, after_bang, in_comment, after_strict_dash, in_strict_comment, in_instruction, in_bogus, in_section, at_bracket, are_two}
 use Rattle.rx_scan.specs.Pending.{Pending, PendsAs, Behind, judge_of, CommentEnds, is_start, is_start_dash, has_dash, has_dashes, has_bang, StrictEnds, has_strict_dash, has_strict_dashes, SectionEnds, bracket_text}
@@ -246,7 +246,7 @@ module _ (s : Syntax) (i : Content) (p : Pending) (text : Chars) (c : ℕ) where
   pub behind_more : (judge : Chars → ℕ → told.Verdict) (Is More : Chars → Type 0) (b : Behind s i judge Is text) → More (b.rest ++ c ∷ []) → Behind s i judge More (text ++ c ∷ [])
   behind_more judge Is More b m = record { front = b.front; rest = b.rest ++ c ∷ []; are = grown text b.front b.rest c b.are; judges = b.judges; is = m }
 
-  pub goes_by : (judge : Chars → ℕ → told.Verdict) (Is : Chars → Type 0) (b : Behind s i judge Is text) (m : Mark) (run : Chars) → judge b.rest c ≡ told.goes_on → PendsAs s i m run p.tag (text ++ c ∷ []) → Goes s i p text c m run
+  pub goes_by : (judge : Chars → ℕ → told.Verdict) (Is : Chars → Type 0) (b : Behind s i judge Is text) (m : TokenState) (run : Chars) → judge b.rest c ≡ told.goes_on → PendsAs s i m run p.tag (text ++ c ∷ []) → Goes s i p text c m run
   goes_by judge Is b m run e h = record { first = 60; more = b.front ++ b.rest; some = b.are; goes = judged_at judge Is b ∙ e; pends = h }
 
   pub in_comment_means : (q : CommentPhase) → PendsAs s i (mark.Comment q) p.run p.tag text → Means s i p text c (in_comment q c)

@@ -21,10 +21,10 @@ use Rattle.rx_pages.specs.PageReader as reader
 use Rattle.rx_grammar.specs.declared.stops.Stop.{Stop}
 use Rattle.rx_grammar.specs.declared.stops.Stop.TheVariants as stop
 use Rattle.rx_tags.specs.TagBufs.{TagSoFar}
-use Rattle.rx_scan.specs.declared.answers.What.{What}
-use Rattle.rx_scan.specs.declared.answers.What.TheVariants as what
-use Rattle.rx_scan.specs.declared.marks.Mark.{Mark}
-use Rattle.rx_scan.specs.declared.marks.Mark.TheVariants as mark
+use Rattle.rx_scan.specs.declared.answers.TokenKind.{TokenKind}
+use Rattle.rx_scan.specs.declared.answers.TokenKind.TheVariants as what
+use Rattle.rx_scan.specs.declared.marks.TokenState.{TokenState}
+use Rattle.rx_scan.specs.declared.marks.TokenState.TheVariants as mark
 use Rattle.rx_scan.specs.declared.places.Position.{Position}
 use Rattle.rx_scan.specs.Places.{entered, holding}
 use Rattle.rx_scan.specs.KnownTags as known_tags
@@ -49,7 +49,7 @@ pub record HasFirst (text : Chars) : Type 0 where
   pub more : Chars
   pub is : text ≡ first ∷ more
 
-pub nothing_or : (s : Syntax) (i : Content) (m : Mark) (run : Chars) (t : TagSoFar) (text : Chars) → PendsAs s i m run t text → ((m ≡ mark.Nothing) × (text ≡ [])) ⊎ HasFirst text
+pub nothing_or : (s : Syntax) (i : Content) (m : TokenState) (run : Chars) (t : TagSoFar) (text : Chars) → PendsAs s i m run t text → ((m ≡ mark.Nothing) × (text ≡ [])) ⊎ HasFirst text
 nothing_or s i mark.Nothing run t text h = inl (refl, h)
 nothing_or s i mark.LessThan run t text h = inr (record { first = 60; more = []; is = h.are })
 nothing_or s i (mark.RawEnd n) run t text h = inr (record { first = 60; more = run; is = h.are })
@@ -69,7 +69,7 @@ first_same [] x more a b e = absurd (cc)
 first_same (y ∷ run) x more a b e = refl
 
 -- the byte makes the byte order mark whole
-pub record PassesMark (r : Result reader.Scanned Kind) (s : reader.Scanning) (old : Reading) (byte : ℕ) (result : Result What Stop) (new : Reading) : Type 0 where
+pub record PassesMark (r : Result reader.Scanned Kind) (s : reader.Scanning) (old : Reading) (byte : ℕ) (result : Result TokenKind Stop) (new : Reading) : Type 0 where
   pub answer : result ≡ Ok what.Skipped
   pub first : s.started ≡ false
   pub are : s.held ++ byte ∷ [] ≡ mark_bytes
@@ -79,10 +79,10 @@ pub record PassesMark (r : Result reader.Scanned Kind) (s : reader.Scanning) (ol
   pub setting : new.setting ≡ old.setting
 
 -- a byte is one of an entry, or makes the mark whole
-abbrev pub Ways : Result reader.Scanned Kind → reader.Scanning → Reading → ℕ → Result What Stop → Reading → Type 0
+abbrev pub Ways : Result reader.Scanned Kind → reader.Scanning → Reading → ℕ → Result TokenKind Stop → Reading → Type 0
 Ways r s old byte result new = Gives r s old result new ⊎ PassesMark r s old byte result new
 
-ways_by : (r q : Result reader.Scanned Kind) (s : reader.Scanning) (old : Reading) (byte : ℕ) (result : Result What Stop) (new : Reading) → r ≡ q → Ways q s old byte result new → Ways r s old byte result new
+ways_by : (r q : Result reader.Scanned Kind) (s : reader.Scanning) (old : Reading) (byte : ℕ) (result : Result TokenKind Stop) (new : Reading) → r ≡ q → Ways q s old byte result new → Ways r s old byte result new
 ways_by r q s old byte result new e w = subst (λ (x : Result reader.Scanned Kind). Ways x s old byte result new) (sym e) w
 
 module _ (v : Reading) (s : reader.Scanning) (h : ReadsAs v s) where
@@ -98,7 +98,7 @@ module _ (v : Reading) (s : reader.Scanning) (h : ReadsAs v s) where
   -- the token that is pending stays where it is
   token_stays : (starts : ℕ) (place : Position) → place.starts ≡ starts → place.token ≡ v.place.token → entries.token_from v.pending.mark place ≡ reader.first_of s.run starts
   token_stays starts place e q = elim (nothing_or sy v.setting.inside v.pending.mark v.pending.run v.pending.tag (values s.run) h.pends) [
-    | inl n ↦ ap (λ (m : Mark). entries.token_from m place) n.0 ∙ (e ∙ ap (λ (r : List Entry). reader.first_of r starts) (sym (no_values s.run n.1)))
+    | inl n ↦ ap (λ (m : TokenState). entries.token_from m place) n.0 ∙ (e ∙ ap (λ (r : List Entry). reader.first_of r starts) (sym (no_values s.run n.1)))
     | inr f ↦ some_mark sy v.setting.inside v.pending.mark v.pending.run v.pending.tag (values s.run) f.first f.more place h.pends f.is
         ∙ (q ∙ (sym (some_mark sy v.setting.inside v.pending.mark v.pending.run v.pending.tag (values s.run) f.first f.more v.place h.pends f.is) ∙ (h.token ∙ first_same s.run f.first f.more (reader.starts_at s) starts f.is)))
   ]
@@ -151,7 +151,7 @@ module _ (v : Reading) (s : reader.Scanning) (h : ReadsAs v s) where
       starts = omega (arith, length-append s.held (byte ∷ []))
 
   -- a character that isn't entered is a line feed after a CR, or the mark
-  byte_passed : (byte c : ℕ) (result : Result What Stop) (new : Reading) → answer_of (s.held ++ byte ∷ []) ≡ Char c → (not s.started && c == byte_order_mark || s.after_return && c == line_feed) ≡ true → result ≡ Ok (entries.is_mark c) → new ≡ entries.with_passed v
+  byte_passed : (byte c : ℕ) (result : Result TokenKind Stop) (new : Reading) → answer_of (s.held ++ byte ∷ []) ≡ Char c → (not s.started && c == byte_order_mark || s.after_return && c == line_feed) ≡ true → result ≡ Ok (entries.is_mark c) → new ≡ entries.with_passed v
       → Ways (Ok (record { next = reader.passed s; items = [] })) s v byte result new
   byte_passed byte c result new a t q e =
       by_test {G = Ways r s v byte result new} (c == byte_order_mark)
@@ -164,7 +164,7 @@ module _ (v : Reading) (s : reader.Scanning) (h : ReadsAs v s) where
         text = ap (λ (x : Reading). x.text) e;
         setting = ap (λ (x : Reading). x.setting) e;
       }))
-      (λ k. inl (subst (λ (x : Result What Stop). Gives r s v x new) (sym (q ∙ ap (λ b. Ok (if b then what.Skipped else what.Nothing)) k))
+      (λ k. inl (subst (λ (x : Result TokenKind Stop). Gives r s v x new) (sym (q ∙ ap (λ b. Ok (if b then what.Skipped else what.Nothing)) k))
       (gives_at r s v (Ok what.Nothing) (entries.with_passed v) new e (record { scanned = record { next = reader.passed s; items = [] }; is = refl; reads_as = passed_is; told = nothing_told v (entries.with_passed v) refl (λ e. refl); setting = refl }))))
     where
       r : Result reader.Scanned Kind
@@ -176,7 +176,7 @@ module _ (v : Reading) (s : reader.Scanning) (h : ReadsAs v s) where
         | inr a ↦ absurd (let z : false ≡ true = ap (λ (x : ℕ). x == byte_order_mark) (sym (eqb-true c line_feed (both s.after_return (c == line_feed) a).1)) ∙ k in cc)
       ]
 
-  reads_char : (byte c : ℕ) (result : Result What Stop) (new : Reading) → answer_of (s.held ++ byte ∷ []) ≡ Char c → entries.ReadsChar v c result new → Ways (reader.read_char sy lim spot c s) s v byte result new
+  reads_char : (byte c : ℕ) (result : Result TokenKind Stop) (new : Reading) → answer_of (s.held ++ byte ∷ []) ≡ Char c → entries.ReadsChar v c result new → Ways (reader.read_char sy lim spot c s) s v byte result new
   reads_char byte c result new a k =
       let e : entries.is_passed v.place c ≡ (not s.started && c == byte_order_mark || s.after_return && c == line_feed) = λ i. not (h.started i) && c == byte_order_mark || h.after_return i && c == line_feed in
       match_by (entries.is_passed v.place c) _ _ k
@@ -185,12 +185,12 @@ module _ (v : Reading) (s : reader.Scanning) (h : ReadsAs v s) where
       (λ u k. refuses (reader.read_char sy lim spot c s) v s TagTooLong result new h (cond-false _ _ _ (sym e ∙ t) ∙ cond-true _ _ _ (long_with (as_line_end c) ∙ u)) k)
       (λ u k. gives_by (reader.read_char sy lim spot c s) _ s v result new (cond-false _ _ _ (sym e ∙ t) ∙ cond-false _ _ _ (long_with (as_line_end c) ∙ u)) (enters v s h (c == carriage_return) (as_line_end c) result new k))))
 
-  reads_answer : (byte : ℕ) (answer : Utf8Step) (result : Result What Stop) (new : Reading) → answer_of (s.held ++ byte ∷ []) ≡ answer → entries.ReadsAnswer v (s.held ++ byte ∷ []) answer result new → Ways (reader.read_answer sy lim spot (s.held ++ byte ∷ []) s answer) s v byte result new
+  reads_answer : (byte : ℕ) (answer : Utf8Step) (result : Result TokenKind Stop) (new : Reading) → answer_of (s.held ++ byte ∷ []) ≡ answer → entries.ReadsAnswer v (s.held ++ byte ∷ []) answer result new → Ways (reader.read_answer sy lim spot (s.held ++ byte ∷ []) s answer) s v byte result new
   reads_answer byte Bad result new a k = inl (refuses (Err NotUtf8) v s NotUtf8 result new h refl k)
   reads_answer byte More result new a k =
       inl (match_by (entries.is_long v (known_tags.is_tag v.pending.mark)) _ _ k
       (λ u k. refuses (reader.read_answer sy lim spot (s.held ++ byte ∷ []) s More) v s TagTooLong result new h (cond-true _ _ _ (long_is ∙ u)) k)
-      (λ u k. subst (λ (x : Result What Stop). Gives (reader.read_answer sy lim spot (s.held ++ byte ∷ []) s More) s v x new) (sym k.0)
+      (λ u k. subst (λ (x : Result TokenKind Stop). Gives (reader.read_answer sy lim spot (s.held ++ byte ∷ []) s More) s v x new) (sym k.0)
       (gives_at (reader.read_answer sy lim spot (s.held ++ byte ∷ []) s More) s v (Ok what.Nothing) (entries.with_held v (s.held ++ byte ∷ [])) new k.1
       (record { scanned = record { next = reader.holding (s.held ++ byte ∷ []) s; items = [] }; is = cond-false _ _ _ (long_is ∙ u); reads_as = held_is byte; told = nothing_told v (entries.with_held v (s.held ++ byte ∷ [])) refl (λ e. e); setting = refl }))))
   reads_answer byte (Char c) result new a k =
@@ -200,7 +200,7 @@ module _ (v : Reading) (s : reader.Scanning) (h : ReadsAs v s) where
       (λ u k. inl (refuses (reader.read_answer sy lim spot (s.held ++ byte ∷ []) s (Char c)) v s TagTooLong result new h (cond-false _ _ _ t ∙ cond-true _ _ _ (long_is ∙ u)) k))
       (λ u k. ways_by (reader.read_answer sy lim spot (s.held ++ byte ∷ []) s (Char c)) _ s v byte result new (cond-false _ _ _ t ∙ cond-false _ _ _ (long_is ∙ u)) (reads_char byte c result new a k)))
 
-  pub reads : (byte : ℕ) (result : Result What Stop) (new : Reading) → entries.Reads v byte result new → Ways (reader.read_byte sy lim spot byte s) s v byte result new
+  pub reads : (byte : ℕ) (result : Result TokenKind Stop) (new : Reading) → entries.Reads v byte result new → Ways (reader.read_byte sy lim spot byte s) s v byte result new
   reads byte result new k =
       let e : nat_le lim.page v.place.at ≡ nat_le lim.page s.at = ap (nat_le lim.page) h.at in
       match_by (nat_le lim.page v.place.at) _ _ k
@@ -210,22 +210,22 @@ module _ (v : Reading) (s : reader.Scanning) (h : ReadsAs v s) where
 
   -- the same where nothing is skipped
   pub reads_nothing : (byte : ℕ) (new : Reading) → entries.Reads v byte (Ok what.Nothing) new → GivesOk (reader.read_byte sy lim spot byte s) v what.Nothing new
-  reads_nothing byte new k = elim (reads byte (Ok what.Nothing) new k) [ inl g ↦ g | inr m ↦ absurd (let w : ◌≡◌ {A = Result What Stop} (Ok what.Nothing) (Ok what.Skipped) = m.answer in cc) ]
+  reads_nothing byte new k = elim (reads byte (Ok what.Nothing) new k) [ inl g ↦ g | inr m ↦ absurd (let w : ◌≡◌ {A = Result TokenKind Stop} (Ok what.Nothing) (Ok what.Skipped) = m.answer in cc) ]
 
   pub reads_fault : (byte : ℕ) (fault : Fault) (new : Reading) → entries.Reads v byte (Err (stop.Fault fault)) new → GivesErr (reader.read_byte sy lim spot byte s) s fault
-  reads_fault byte fault new k = elim (reads byte (Err (stop.Fault fault)) new k) [ inl g ↦ g | inr m ↦ absurd (let w : ◌≡◌ {A = Result What Stop} (Err (stop.Fault fault)) (Ok what.Skipped) = m.answer in cc) ]
+  reads_fault byte fault new k = elim (reads byte (Err (stop.Fault fault)) new k) [ inl g ↦ g | inr m ↦ absurd (let w : ◌≡◌ {A = Result TokenKind Stop} (Err (stop.Fault fault)) (Ok what.Skipped) = m.answer in cc) ]
 
   -- no byte answers text
   pub reads_no_text : (byte : ℕ) (new : Reading) → entries.Reads v byte (Ok what.Text) new → ⊥
-  reads_no_text byte new k = elim (reads byte (Ok what.Text) new k) [ inl g ↦ g.told | inr m ↦ let w : ◌≡◌ {A = Result What Stop} (Ok what.Text) (Ok what.Skipped) = m.answer in cc ]
+  reads_no_text byte new k = elim (reads byte (Ok what.Text) new k) [ inl g ↦ g.told | inr m ↦ let w : ◌≡◌ {A = Result TokenKind Stop} (Ok what.Text) (Ok what.Skipped) = m.answer in cc ]
 
 -- at the mark's last byte the answer is that it is skipped
-pub mark_skips : (v : Reading) (byte : ℕ) (answer : What) (new : Reading) → v.place.started ≡ false → v.held ++ byte ∷ [] ≡ mark_bytes → entries.Reads v byte (Ok answer) new → answer ≡ what.Skipped
+pub mark_skips : (v : Reading) (byte : ℕ) (answer : TokenKind) (new : Reading) → v.place.started ≡ false → v.held ++ byte ∷ [] ≡ mark_bytes → entries.Reads v byte (Ok answer) new → answer ≡ what.Skipped
 mark_skips v byte answer new f m k =
     match_by (nat_le v.setting.limits.page v.place.at) _ _ k (λ t k. no_fault PageTooLong k)
     (λ t k. at_mark (subst (λ (x : List ℕ). entries.ReadsAnswer v x (answer_of x) (Ok answer) new) m k))
   where
-    no_fault : (kind : Kind) → ◌≡◌ {A = Result What Stop} (Ok answer) (Err (stop.Fault (entries.fault_at v kind))) → answer ≡ what.Skipped
+    no_fault : (kind : Kind) → ◌≡◌ {A = Result TokenKind Stop} (Ok answer) (Err (stop.Fault (entries.fault_at v kind))) → answer ≡ what.Skipped
     no_fault kind e = absurd (cc)
 
     passed : entries.is_passed v.place byte_order_mark ≡ true
@@ -235,5 +235,5 @@ mark_skips v byte answer new f m k =
     at_mark k =
         match_by (entries.is_long v (known_tags.is_tag v.pending.mark)) _ _ k (λ t k. no_fault TagTooLong k)
         (λ t k. match_by (entries.is_passed v.place byte_order_mark) _ _ k
-        (λ u k. let w : ◌≡◌ {A = Result What Stop} (Ok answer) (Ok what.Skipped) = k.0 in cc)
+        (λ u k. let w : ◌≡◌ {A = Result TokenKind Stop} (Ok answer) (Ok what.Skipped) = k.0 in cc)
         (λ u k. absurd (let w : true ≡ false = sym passed ∙ u in cc)))

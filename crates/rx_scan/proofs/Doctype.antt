@@ -13,7 +13,7 @@ use Rattle.rx_pages.specs.Scanner as told
 use Rattle.rx_terms.proofs.Bools.{split}
 use Rattle.rx_scan.specs.declared.marks.DoctypePhase.{DoctypePhase}
 use Rattle.rx_scan.specs.declared.marks.DoctypePhase.TheVariants as phases
-use Rattle.rx_scan.specs.declared.marks.Mark.TheVariants as mark
+use Rattle.rx_scan.specs.declared.marks.TokenState.TheVariants as mark
 use Rattle.rx_scan.specs.declared.marks.Whole.TheVariants as whole
 use Rattle.rx_scan.specs.declared.marks.Move.{Move}
 use Rattle.rx_scan.specs.declared.marks.Move.TheVariants as move
@@ -32,7 +32,7 @@ module _ (s : Syntax) (i : Content) (p : Pending) (text : Chars) (c : ℕ) where
   judged : (q : DoctypePhase) (b : Behind s i (judge_of s i (mark.Doctype q)) (DoctypeEnds s q) text) → told.verdict s i text c ≡ told.told_of_doctype (told.doctype_move s b.is.phase c)
   judged q b = judged_at s i p text c (judge_of s i (mark.Doctype q)) (DoctypeEnds s q) b ∙ ap told.told_of_doctype (doctype_snoc s (Some told.keyword) b.rest c ∙ ap (λ o. told.doctype_move_on s o c) b.is.read)
 
-  goes_on : (r q : DoctypePhase) (b : Behind s i (judge_of s i (mark.Doctype q)) (DoctypeEnds s q) text) (next : told.DoctypePhase) → told.doctype_move s b.is.phase c ≡ Some next → told.told_of_doctype (Some next) ≡ told.goes_on → DoctypeIs r next → Means s i p text c (move.Goes (mark.Doctype r))
+  goes_on : (r q : DoctypePhase) (b : Behind s i (judge_of s i (mark.Doctype q)) (DoctypeEnds s q) text) (next : told.DoctypePhase) → told.doctype_move s b.is.phase c ≡ Some next → told.told_of_doctype (Some next) ≡ told.goes_on → DoctypeIs r next → Means s i p text c (move.Continue (mark.Doctype r))
   goes_on r q b next e g h =
       record {
         first = 60;

@@ -10,9 +10,9 @@ use Rattle.rx_grammar.specs.Tokens.{Token, section, comment, doctype}
 use Rattle.rx_pages.specs.Scanner as verdicts
 use Rattle.rx_pages.specs.PageReader as reader
 use Rattle.rx_grammar.specs.declared.stops.Stop.{Stop}
-use Rattle.rx_scan.specs.declared.answers.What.{What}
-use Rattle.rx_scan.specs.declared.answers.What.TheVariants as what
-use Rattle.rx_scan.specs.declared.marks.Mark.TheVariants as mark
+use Rattle.rx_scan.specs.declared.answers.TokenKind.{TokenKind}
+use Rattle.rx_scan.specs.declared.answers.TokenKind.TheVariants as what
+use Rattle.rx_scan.specs.declared.marks.TokenState.TheVariants as mark
 use Rattle.rx_scan.specs.declared.marks.Whole.TheVariants as whole_mark
 use Rattle.rx_scan.specs.declared.places.Setting.{Setting}
 use Rattle.rx_scan.specs.Scanner.{Reading}
@@ -36,11 +36,11 @@ module _ (v : Reading) (s : reader.Scanning) (h : ReadsAs v s) (ar : Bool) (c : 
   read w = read_at v s ar c w
 
   -- a token that is whole and of which no text is told
-  gives_ended : (t : Token) (answer : What) (setting : Setting) (result : Result What Stop) (new : Reading) → read verdict ≡ Ok (record { next = behind v s h ar c t; items = item v s h ar c t ∷ [] }) → is_character t ≡ false
+  gives_ended : (t : Token) (answer : TokenKind) (setting : Setting) (result : Result TokenKind Stop) (new : Reading) → read verdict ≡ Ok (record { next = behind v s h ar c t; items = item v s h ar c t ∷ [] }) → is_character t ≡ false
       → result ≡ Ok answer → new ≡ entries.with_ended v ar setting → setting.syntax ≡ sy → IsTold v answer (item v s h ar c t ∷ []) (entries.with_ended v ar setting) → setting ≡ setting_after answer (entries.with_ended v ar setting) v.setting (item v s h ar c t ∷ [])
       → Gives (read verdict) s v result new
   gives_ended t answer setting result new g n q e y told k =
-      subst (λ (z : Result What Stop). Gives (read verdict) s v z new) (sym q)
+      subst (λ (z : Result TokenKind Stop). Gives (read verdict) s v z new) (sym q)
       (gives_at (read verdict) s v (Ok answer) (entries.with_ended v ar setting) new e
       (record {
         scanned = record { next = behind v s h ar c t; items = item v s h ar c t ∷ [] };
@@ -53,15 +53,15 @@ module _ (v : Reading) (s : reader.Scanning) (h : ReadsAs v s) (ar : Bool) (c : 
   one : (t : Token) → IsOne t (item v s h ar c t ∷ [])
   one t = record { item = item v s h ar c t; one = refl; is = (is_item v s h ar c t).token_is }
 
-  pub gives_comment : (result : Result What Stop) (new : Reading) → verdict ≡ verdicts.whole comment → entries.Ends v ar whole_mark.Comment result new → Gives (read verdict) s v result new
+  pub gives_comment : (result : Result TokenKind Stop) (new : Reading) → verdict ≡ verdicts.whole comment → entries.Ends v ar whole_mark.Comment result new → Gives (read verdict) s v result new
   gives_comment result new g k =
       gives_ended comment what.Skipped (entries.undropped v.setting) result new (completes v s h ar c comment g (unliteral v s h ar c comment refl) refl) refl k.0 k.1 refl ((λ o bytes. a_comment (one comment)), refl) refl
 
-  pub gives_doctype : (result : Result What Stop) (new : Reading) → verdict ≡ verdicts.whole doctype → v.setting.leads ≡ true → entries.Ends v ar whole_mark.Doctype result new → Gives (read verdict) s v result new
+  pub gives_doctype : (result : Result TokenKind Stop) (new : Reading) → verdict ≡ verdicts.whole doctype → v.setting.leads ≡ true → entries.Ends v ar whole_mark.Doctype result new → Gives (read verdict) s v result new
   gives_doctype result new g l k =
       gives_ended doctype what.Doctype (entries.after_doctype v.setting) result new (completes v s h ar c doctype g (unliteral v s h ar c doctype refl) (ap not l)) refl k.0 k.1 refl (one doctype, refl) refl
 
-  pub gives_section : (result : Result What Stop) (new : Reading) → verdict ≡ verdicts.whole (section v.pending.run) → entries.Ends v ar whole_mark.Section result new → Gives (read verdict) s v result new
+  pub gives_section : (result : Result TokenKind Stop) (new : Reading) → verdict ≡ verdicts.whole (section v.pending.run) → entries.Ends v ar whole_mark.Section result new → Gives (read verdict) s v result new
   gives_section result new g k = by v.pending.run refl
     where
       t : Token

@@ -13,8 +13,8 @@ use Rattle.rx_grammar.specs.Items.{values}
 use Rattle.rx_pages.specs.Scanner as verdicts
 use Rattle.rx_pages.specs.PageReader as reader
 use Rattle.rx_grammar.specs.declared.stops.Stop.{Stop}
-use Rattle.rx_scan.specs.declared.answers.What.{What}
-use Rattle.rx_scan.specs.declared.marks.Mark.TheVariants as mark
+use Rattle.rx_scan.specs.declared.answers.TokenKind.{TokenKind}
+use Rattle.rx_scan.specs.declared.marks.TokenState.TheVariants as mark
 use Rattle.rx_scan.specs.declared.marks.Brackets.TheVariants as brackets
 use Rattle.rx_scan.specs.declared.marks.Move.{Move}
 use Rattle.rx_scan.specs.declared.marks.Move.TheVariants as move
@@ -50,15 +50,15 @@ module _ (v : Reading) (s : reader.Scanning) (h : ReadsAs v s) (ar : Bool) (c : 
   abbrev read : verdicts.Verdict → Result reader.Scanned Kind
   read w = read_at v s ar c w
 
-  by_move : (m : Move) → meant.Means sy inside v.pending text c m → (result : Result What Stop) (new : Reading) → entries.Enters v c ar (entries.judged v.setting v.place.two c m) result new → Gives (read verdict) s v result new
+  by_move : (m : Move) → meant.Means sy inside v.pending text c m → (result : Result TokenKind Stop) (new : Reading) → entries.Enters v c ar (entries.judged v.setting v.place.two c m) result new → Gives (read verdict) s v result new
   by_move (move.Begins n) g result new k = gives_begins v s h ar c n result new g k.0 k.1
-  by_move (move.Goes n) g result new k = gives_went v s h ar c (entries.marked n v.pending) g.first g.more result new g.goes g.some h.syntax g.pends k.0 k.1
+  by_move (move.Continue n) g result new k = gives_went v s h ar c (entries.marked n v.pending) g.first g.more result new g.goes g.some h.syntax g.pends k.0 k.1
   by_move (move.Keeps n) g result new k = went_as v s h ar c (entries.kept_by n c v.pending) g.first g.more result new g.goes g.some h.syntax g.pends k
   by_move (move.KeepsAfter b) g result new k =
       went_as v s h ar c (record { mark = mark.Section brackets.None; run = (v.pending.run ++ bracket_text b) ++ c ∷ []; tag = v.pending.tag }) g.first g.more result new g.goes g.some h.syntax g.pends k
   by_move move.Tags g result new k = gives_tags v s h ar c result new g k
   by_move (move.KeepsTag n) g result new k = gives_keeps_tag v s h ar c n result new g k
-  by_move move.Says g result new k = gives_says v s h ar c result new g.0 g.1 k
+  by_move move.EmitText g result new k = gives_says v s h ar c result new g.0 g.1 k
   by_move (move.Ends whole_mark.Comment) g result new k = gives_comment v s h ar c result new g k
   by_move (move.Ends whole_mark.Section) g result new k = gives_section v s h ar c result new g k
   by_move (move.Ends whole_mark.Doctype) g result new k = by v.setting.leads refl k
@@ -69,9 +69,9 @@ module _ (v : Reading) (s : reader.Scanning) (h : ReadsAs v s) (ar : Bool) (c : 
           refuses (read verdict) v s BadDoctype result new h
           (ap read g ∙ (cond-false _ _ _ (ap (λ x. s.two && x) (literal_is v s h ar c greater_than_sign doctype) ∙ unliteral v s h ar c doctype refl) ∙ cond-true _ _ _ (ap (λ x. reader.is_doctype x && not v.setting.leads) (is_item v s h ar c doctype).token_is ∙ ap not e))) k
   by_move move.Closes g result new k = gives_closes v s h ar c result new g k
-  by_move move.Stops g result new k = gives_stops v s h ar c result new g k
+  by_move move.Reconsume g result new k = gives_stops v s h ar c result new g k
   by_move (move.Refuses kind) g result new k = refuses (read verdict) v s kind result new h (ap read g) k
 
   -- one character is what the reader of bytes says
-  pub enters : (result : Result What Stop) (new : Reading) → entries.Enters v c ar (entries.move_at v c) result new → Gives (read verdict) s v result new
+  pub enters : (result : Result TokenKind Stop) (new : Reading) → entries.Enters v c ar (entries.move_at v c) result new → Gives (read verdict) s v result new
   enters result new k = by_move (marks.move_of sy inside v.pending.mark c) (simulates sy inside v.pending text c h.pends) result new k

@@ -7,8 +7,8 @@ use Rattle.rx_chars.specs.Utf8.{answer_of}
 use Rattle.rx_chars.specs.declared.utf8.Utf8Step.{Utf8Step}
 use Rattle.rx_chars.specs.declared.utf8.Utf8Step.TheVariants.{Char}
 use Rattle.rx_chars.proofs.Utf8Answers.{first_whole}
-use Rattle.rx_scan.specs.declared.marks.Mark.{Mark}
-use Rattle.rx_scan.specs.declared.marks.Mark.TheVariants as mark
+use Rattle.rx_scan.specs.declared.marks.TokenState.{TokenState}
+use Rattle.rx_scan.specs.declared.marks.TokenState.TheVariants as mark
 use Rattle.rx_scan.specs.declared.marks.Move.{Move}
 use Rattle.rx_scan.specs.declared.marks.Move.TheVariants as move
 use Rattle.rx_scan.specs.KnownTags as known_tags
@@ -19,7 +19,7 @@ use Rattle.rx_reader.specs.TagReader.{TagState}
 use Rattle.rx_tags.specs.Fronts.{is_printed, GoesTo}
 use Rattle.rx_tags.specs.TagBufs.{TagSoFar, MayStep, TakesMore}
 use Rattle.rx_tags.proofs.TakeLemmas.{is_none, goes_unfinished}
-use Rattle.rx_scan.specs.declared.answers.What.TheVariants as what
+use Rattle.rx_scan.specs.declared.answers.TokenKind.TheVariants as what
 use Rattle.rx_scan.specs.declared.places.Position.{Position}
 use Rattle.rx_scan.specs.Entries as entries
 use Rattle.rx_scan.specs.Fronts.{FeedsFront, with_state}
@@ -40,12 +40,12 @@ module _ (l new : Reading) (b : ℕ) (t : FeedsFront l (b ∷ []) new) where
   no_return = is_none is_printed b 13 printed refl
 
   move_is : entries.move_at l b ≡ move.Tags
-  move_is = ap (λ (x : Mark). entries.judged l.setting l.place.two b (marks.move_of l.setting.syntax l.setting.inside x b)) t.in_tag
+  move_is = ap (λ (x : TokenState). entries.judged l.setting l.place.two b (marks.move_of l.setting.syntax l.setting.inside x b)) t.in_tag
 
   abbrev fed_tag : TagSoFar
   fed_tag = with_state l.pending.tag t.state
 
-  abbrev gone_by : Mark → Reading
+  abbrev gone_by : TokenState → Reading
   gone_by m = entries.gone l false (record { mark = m; run = l.pending.run; tag = fed_tag })
 
   tags : entries.Tags l b false (entries.marked mark.Tag l.pending) (Ok what.Nothing) new
@@ -59,7 +59,7 @@ module _ (l new : Reading) (b : ℕ) (t : FeedsFront l (b ∷ []) new) where
 
   within : nat_le (entries.token_from l.pending.mark l.place + l.setting.limits.tag) l.place.at ≡ false
   within =
-      ap (λ (x : Mark). nat_le (entries.token_from x l.place + l.setting.limits.tag) l.place.at) t.in_tag
+      ap (λ (x : TokenState). nat_le (entries.token_from x l.place + l.setting.limits.tag) l.place.at) t.in_tag
       ∙ lt-leb (l.place.token + l.setting.limits.tag) l.place.at (omega (arith, t.tag))
 
   not_long : (known : Bool) → entries.is_long l known ≡ false

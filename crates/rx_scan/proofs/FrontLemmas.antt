@@ -6,7 +6,7 @@ use Rattle.std.specs.Str.{all_scalars}
 use Rattle.std.proofs.lemmas.Bool.{eqb-false, cases_lt}
 use Rattle.std.proofs.lemmas.List.{take_rest}
 use Rattle.std.proofs.lemmas.Str.{chars_from_encodes}
-use Rattle.rx_scan.specs.declared.marks.Mark.TheVariants as mark
+use Rattle.rx_scan.specs.declared.marks.TokenState.TheVariants as mark
 use Rattle.rx_pages.specs.PageReader as reader
 use Rattle.rx_tags.specs.TagBufs.{MayStep}
 use Rattle.rx_scan.specs.Entries as entries

@@ -9,8 +9,8 @@ use Rattle.rx_pages.specs.Scanner as verdicts
 use Rattle.rx_pages.specs.PageReader as reader
 use Rattle.rx_grammar.specs.declared.stops.Stop.{Stop}
 use Rattle.rx_grammar.specs.declared.stops.Stop.TheVariants as stop
-use Rattle.rx_scan.specs.declared.answers.What.{What}
-use Rattle.rx_scan.specs.declared.answers.What.TheVariants as what
+use Rattle.rx_scan.specs.declared.answers.TokenKind.{TokenKind}
+use Rattle.rx_scan.specs.declared.answers.TokenKind.TheVariants as what
 use Rattle.rx_scan.specs.Scanner.{Reading, spot_of}
 use Rattle.rx_scan.specs.Entries as entries
 use Rattle.rx_scan.specs.Steps.{ReadsAs, Skips, Tells, texts_of, keeps_first, setting_after}
@@ -26,13 +26,13 @@ pub record Grows (old : Reading) (items : List Item) (new : Reading) : Type 0 wh
   pub still : old.place.started ≡ true → new.place.started ≡ true
 
 -- what the answer to one byte tells
-abbrev pub IsTold : Reading → What → List Item → Reading → Type 0
+abbrev pub IsTold : Reading → TokenKind → List Item → Reading → Type 0
 IsTold old what.Nothing items new = Grows old items new
 IsTold old what.Text items new = ⊥
 IsTold old what.Skipped items new = ((s : reader.Scanning) (bytes : List ℕ) → Skips old.setting.drops s bytes items) × (new.text.text ≡ old.text.text)
 IsTold old answer items new = Tells old.setting.drops answer reader.no_bytes [] items new × (new.text.text ≡ old.text.text)
 
-pub record GivesOk (r : Result reader.Scanned Kind) (old : Reading) (answer : What) (new : Reading) : Type 0 where
+pub record GivesOk (r : Result reader.Scanned Kind) (old : Reading) (answer : TokenKind) (new : Reading) : Type 0 where
   pub scanned : reader.Scanned
   pub is : r ≡ Ok scanned
   pub reads_as : ReadsAs new scanned.next
@@ -44,23 +44,23 @@ pub record GivesErr (r : Result reader.Scanned Kind) (s : reader.Scanning) (faul
   pub is : r ≡ Err kind
   pub fault_is : fault ≡ reader.fault_in s kind
 
-abbrev pub Gives : Result reader.Scanned Kind → reader.Scanning → Reading → Result What Stop → Reading → Type 0
+abbrev pub Gives : Result reader.Scanned Kind → reader.Scanning → Reading → Result TokenKind Stop → Reading → Type 0
 Gives r s old (Ok answer) new = GivesOk r old answer new
 Gives r s old (Err (stop.Fault fault)) new = GivesErr r s fault
 Gives r s old (Err stop.NoMemory) new = Unit {0}
 
-pub gives_by : (r q : Result reader.Scanned Kind) (s : reader.Scanning) (old : Reading) (result : Result What Stop) (new : Reading) → r ≡ q → Gives q s old result new → Gives r s old result new
+pub gives_by : (r q : Result reader.Scanned Kind) (s : reader.Scanning) (old : Reading) (result : Result TokenKind Stop) (new : Reading) → r ≡ q → Gives q s old result new → Gives r s old result new
 gives_by r q s old result new e g = subst (λ (x : Result reader.Scanned Kind). Gives x s old result new) (sym e) g
 
-pub gives_at : (r : Result reader.Scanned Kind) (s : reader.Scanning) (old : Reading) (result : Result What Stop) (x new : Reading) → new ≡ x → Gives r s old result x → Gives r s old result new
+pub gives_at : (r : Result reader.Scanned Kind) (s : reader.Scanning) (old : Reading) (result : Result TokenKind Stop) (x new : Reading) → new ≡ x → Gives r s old result x → Gives r s old result new
 gives_at r s old result x new e g = subst (λ (z : Reading). Gives r s old result z) (sym e) g
 
 -- the fault of the next byte
 pub fault_is : (v : Reading) (s : reader.Scanning) (kind : Kind) → ReadsAs v s → entries.fault_at v kind ≡ reader.fault_in s kind
 fault_is v s kind h = λ i. record { kind = kind; token = h.token i; at = h.at i }
 
-pub refuses : (r : Result reader.Scanned Kind) (v : Reading) (s : reader.Scanning) (kind : Kind) (result : Result What Stop) (new : Reading) → ReadsAs v s → r ≡ Err kind → result ≡ Err (stop.Fault (entries.fault_at v kind)) → Gives r s v result new
-refuses r v s kind result new h e q = subst (λ (x : Result What Stop). Gives r s v x new) (sym q) (record { kind = kind; is = e; fault_is = fault_is v s kind h })
+pub refuses : (r : Result reader.Scanned Kind) (v : Reading) (s : reader.Scanning) (kind : Kind) (result : Result TokenKind Stop) (new : Reading) → ReadsAs v s → r ≡ Err kind → result ≡ Err (stop.Fault (entries.fault_at v kind)) → Gives r s v result new
+refuses r v s kind result new h e q = subst (λ (x : Result TokenKind Stop). Gives r s v x new) (sym q) (record { kind = kind; is = e; fault_is = fault_is v s kind h })
 
 -- no token is told, and the text stays
 pub nothing_told : (v new : Reading) → new.text ≡ v.text → (v.place.started ≡ true → new.place.started ≡ true) → Grows v [] new

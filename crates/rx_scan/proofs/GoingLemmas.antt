@@ -11,9 +11,9 @@ use Rattle.rx_pages.specs.PageReader as reader
 use Rattle.rx_grammar.specs.declared.stops.Stop.{Stop}
 use Rattle.rx_grammar.specs.declared.stops.Stop.TheVariants as stop
 use Rattle.rx_tags.specs.TagBufs.{no_tag}
-use Rattle.rx_scan.specs.declared.answers.What.{What}
-use Rattle.rx_scan.specs.declared.answers.What.TheVariants as what
-use Rattle.rx_scan.specs.declared.marks.Mark.{Mark}
+use Rattle.rx_scan.specs.declared.answers.TokenKind.{TokenKind}
+use Rattle.rx_scan.specs.declared.answers.TokenKind.TheVariants as what
+use Rattle.rx_scan.specs.declared.marks.TokenState.{TokenState}
 use Rattle.rx_scan.specs.Places.{begun}
 use Rattle.rx_scan.specs.Pending.{Pending, PendsAs}
 use Rattle.rx_scan.specs.Scanner.{Reading}
@@ -43,11 +43,11 @@ module _ (v : Reading) (s : reader.Scanning) (h : ReadsAs v s) (ar : Bool) (c : 
   read w = read_at v s ar c w
 
   -- the token goes on
-  pub gives_went : (p : Pending) (x : ℕ) (more : Chars) (result : Result What Stop) (new : Reading) → verdict ≡ verdicts.goes_on → text ≡ x ∷ more → p.tag.syntax ≡ sy → PendsAs sy inside p.mark p.run p.tag (text ++ c ∷ [])
+  pub gives_went : (p : Pending) (x : ℕ) (more : Chars) (result : Result TokenKind Stop) (new : Reading) → verdict ≡ verdicts.goes_on → text ≡ x ∷ more → p.tag.syntax ≡ sy → PendsAs sy inside p.mark p.run p.tag (text ++ c ∷ [])
       → result ≡ Ok what.Nothing → new ≡ entries.gone v ar p → Gives (read verdict) s v result new
   gives_went p x more result new g e y k q n =
       let old = some_mark sy inside v.pending.mark v.pending.run v.pending.tag text x more v.place h.pends e in
-      subst (λ (z : Result What Stop). Gives (read verdict) s v z new) (sym q)
+      subst (λ (z : Result TokenKind Stop). Gives (read verdict) s v z new) (sym q)
       (gives_at (read verdict) s v (Ok what.Nothing) (entries.gone v ar p) new n
       (record {
         scanned = record { next = reader.entering ar (s.run ++ entry ∷ []) s.two s.last s; items = [] };
@@ -58,11 +58,11 @@ module _ (v : Reading) (s : reader.Scanning) (h : ReadsAs v s) (ar : Bool) (c : 
       }))
 
   -- a token begins after none
-  pub gives_begins : (m : Mark) (result : Result What Stop) (new : Reading) → meant.Begins sy inside v.pending text c m → result ≡ Ok what.Nothing → new ≡ entries.with_begun v ar m → Gives (read verdict) s v result new
+  pub gives_begins : (m : TokenState) (result : Result TokenKind Stop) (new : Reading) → meant.Begins sy inside v.pending text c m → result ≡ Ok what.Nothing → new ≡ entries.with_begun v ar m → Gives (read verdict) s v result new
   gives_begins m result new b q n =
       let none : s.run ≡ [] = no_values s.run b.none in
       let run : s.run ++ entry ∷ [] ≡ entry ∷ [] = ap (λ x. x ++ entry ∷ []) none in
-      subst (λ (z : Result What Stop). Gives (read verdict) s v z new) (sym q)
+      subst (λ (z : Result TokenKind Stop). Gives (read verdict) s v z new) (sym q)
       (gives_at (read verdict) s v (Ok what.Nothing) (entries.with_begun v ar m) new n
       (record {
         scanned = record { next = reader.entering ar (entry ∷ []) s.two s.last s; items = [] };
@@ -74,8 +74,8 @@ module _ (v : Reading) (s : reader.Scanning) (h : ReadsAs v s) (ar : Bool) (c : 
         setting = refl;
       }))
 
-  pub went_as : (p : Pending) (x : ℕ) (more : Chars) (result : Result What Stop) (new : Reading) → verdict ≡ verdicts.goes_on → text ≡ x ∷ more → p.tag.syntax ≡ sy → PendsAs sy inside p.mark p.run p.tag (text ++ c ∷ [])
+  pub went_as : (p : Pending) (x : ℕ) (more : Chars) (result : Result TokenKind Stop) (new : Reading) → verdict ≡ verdicts.goes_on → text ≡ x ∷ more → p.tag.syntax ≡ sy → PendsAs sy inside p.mark p.run p.tag (text ++ c ∷ [])
       → entries.Went v (entries.gone v ar p) result new → Gives (read verdict) s v result new
-  went_as p x more (Ok answer) new g e y k w = subst (λ (a : What). Gives (read verdict) s v (Ok a) new) (sym w.0) (gives_went p x more (Ok what.Nothing) new g e y k refl w.1)
+  went_as p x more (Ok answer) new g e y k w = subst (λ (a : TokenKind). Gives (read verdict) s v (Ok a) new) (sym w.0) (gives_went p x more (Ok what.Nothing) new g e y k refl w.1)
   went_as p x more (Err (stop.Fault f)) new g e y k w = absurd w
   went_as p x more (Err stop.NoMemory) new g e y k w = tt

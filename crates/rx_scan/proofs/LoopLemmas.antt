@@ -6,9 +6,9 @@ use Rattle.rx_pages.specs.PageReader as reader
 use Rattle.rx_grammar.specs.declared.stops.Stop.{Stop}
 use Rattle.rx_grammar.specs.declared.stops.Stop.TheVariants as stop
 use Rattle.rx_tags.specs.TagBufs.{MayStep}
-use Rattle.rx_scan.specs.declared.answers.What.{What}
-use Rattle.rx_scan.specs.declared.answers.What.TheVariants as what
-use Rattle.rx_scan.specs.declared.marks.Mark.TheVariants as mark
+use Rattle.rx_scan.specs.declared.answers.TokenKind.{TokenKind}
+use Rattle.rx_scan.specs.declared.answers.TokenKind.TheVariants as what
+use Rattle.rx_scan.specs.declared.marks.TokenState.TheVariants as mark
 use Rattle.rx_scan.specs.Scanner.{Reading}
 use Rattle.rx_scan.specs.Entries as entries
 use Rattle.rx_scan.specs.Steps.{Took, Runs, MayLend, texts_of, is_token, stopped_at}
@@ -34,10 +34,10 @@ text_later old l s piece zero r t = absurd (t (none r.scanned r.read r.texts))
 text_later old l s piece (suc i) r t = omega arith
 
 -- at the piece's end
-pub rest_took : (old l : Reading) (s : reader.Scanning) (piece : List ℕ) (n i : ℕ) (answer : What) → n ≡ i → i ≡ length piece → ReadsOn old s (take i piece) l → is_token answer ≡ false → (answer ≡ what.Text → l.text.text ≢ []) → (answer ≡ what.Nothing → l.text.text ≡ []) → Took old s piece n answer l
+pub rest_took : (old l : Reading) (s : reader.Scanning) (piece : List ℕ) (n i : ℕ) (answer : TokenKind) → n ≡ i → i ≡ length piece → ReadsOn old s (take i piece) l → is_token answer ≡ false → (answer ≡ what.Text → l.text.text ≢ []) → (answer ≡ what.Nothing → l.text.text ≡ []) → Took old s piece n answer l
 rest_took old l s piece n i answer c e r t f g = subst (λ (z : ℕ). Took old s piece z answer l) (sym c) (by answer t f g)
   where
-    by : (answer : What) → is_token answer ≡ false → (answer ≡ what.Text → l.text.text ≢ []) → (answer ≡ what.Nothing → l.text.text ≡ []) → Took old s piece i answer l
+    by : (answer : TokenKind) → is_token answer ≡ false → (answer ≡ what.Text → l.text.text ≢ []) → (answer ≡ what.Nothing → l.text.text ≡ []) → Took old s piece i answer l
     by what.Nothing t f g = took_all old l s piece i e r (g refl)
     by what.Text t f g = took_text old l s piece i (omega arith) (text_later old l s piece i r (f refl)) r (f refl)
     by what.Skipped t f g = absurd (cc)
@@ -45,7 +45,7 @@ rest_took old l s piece n i answer c e r t f g = subst (λ (z : ℕ). Took old s
     by what.Doctype t f g = absurd (cc)
     by what.Tag t f g = absurd (cc)
 
-pub lends : (answer : What) (v : Reading) → is_token answer ≡ false → MayStep v.pending.tag → MayLend answer v
+pub lends : (answer : TokenKind) (v : Reading) → is_token answer ≡ false → MayStep v.pending.tag → MayLend answer v
 lends what.Nothing v t m = m
 lends what.Text v t m = m
 lends what.Skipped v t m = absurd (cc)
@@ -53,7 +53,7 @@ lends what.Section v t m = absurd (cc)
 lends what.Doctype v t m = absurd (cc)
 lends what.Tag v t m = absurd (cc)
 
-pub may_step : (answer : What) (v : Reading) → is_token answer ≡ false → entries.MayGoOn (Ok answer) v → MayStep v.pending.tag
+pub may_step : (answer : TokenKind) (v : Reading) → is_token answer ≡ false → entries.MayGoOn (Ok answer) v → MayStep v.pending.tag
 may_step what.Nothing v t m = m
 may_step what.Text v t m = m
 may_step what.Skipped v t m = absurd (cc)
@@ -65,7 +65,7 @@ module _ (old l new : Reading) (s : reader.Scanning) (piece : List ℕ) (i : ℕ
   abbrev byte : ℕ
   byte = get_or piece i 0
 
-  pub next_read : (answer : What) → is_token answer ≡ false → entries.Reads l byte (Ok answer) new → ReadsOn old s (take (i + 1) piece) new
+  pub next_read : (answer : TokenKind) → is_token answer ≡ false → entries.Reads l byte (Ok answer) new → ReadsOn old s (take (i + 1) piece) new
   next_read what.Nothing t e = more_read old l new s piece i k r e
   next_read what.Text t e = absurd (reads_no_text l r.scanned.next r.reads_as byte new e)
   next_read what.Skipped t e = absurd (cc)
@@ -73,7 +73,7 @@ module _ (old l new : Reading) (s : reader.Scanning) (piece : List ℕ) (i : ℕ
   next_read what.Doctype t e = absurd (cc)
   next_read what.Tag t e = absurd (cc)
 
-  pub token_read : (answer : What) → is_token answer ≡ true → (l.text.text ≡ []) ⊎ (l.pending.mark ≡ mark.Nothing) → entries.Reads l byte (Ok answer) new → Took old s piece (i + 1) answer new
+  pub token_read : (answer : TokenKind) → is_token answer ≡ true → (l.text.text ≡ []) ⊎ (l.pending.mark ≡ mark.Nothing) → entries.Reads l byte (Ok answer) new → Took old s piece (i + 1) answer new
   token_read answer t o e = by l.text.text refl
     where
       not_told : answer ≡ what.Nothing → is_token answer ≡ false
@@ -86,7 +86,7 @@ module _ (old l new : Reading) (s : reader.Scanning) (piece : List ℕ) (i : ℕ
         | inr m ↦ absurd (let z = sym t ∙ not_told (apart_tells l new byte answer (apart old l s (take i piece) r (λ n. let y = sym q ∙ n in cc) m) e) in cc)
       ]
 
-  pub stopped : (stop : Stop) (taken : ℕ) → taken ≡ i → (l.text.text ≡ []) ⊎ (l.pending.mark ≡ mark.Nothing) → entries.Reads l byte (Err stop) new → (l.pending.mark ≡ mark.Nothing → entries.Between l (Err stop) new) → entries.IfFault {A = What} (Err stop) (new.text.text ≡ l.text.text)
+  pub stopped : (stop : Stop) (taken : ℕ) → taken ≡ i → (l.text.text ≡ []) ⊎ (l.pending.mark ≡ mark.Nothing) → entries.Reads l byte (Err stop) new → (l.pending.mark ≡ mark.Nothing → entries.Between l (Err stop) new) → entries.IfFault {A = TokenKind} (Err stop) (new.text.text ≡ l.text.text)
       → Runs old s piece (stopped_at new.text.text taken stop) new
   stopped stop.NoMemory taken c o e b x = tt
   stopped (stop.Fault fault) taken c o e b x = by l.text.text refl

@@ -20,7 +20,7 @@ use Rattle.rx_terms.proofs.Bools.{split, by_test, both}
 use Rattle.rx_pages.specs.Scanner as told
 use Rattle.rx_pages.proofs.Reading.{markup_is}
 use Rattle.rx_tags.specs.TagBufs.{TagSoFar, no_tag, MayStep}
-use Rattle.rx_scan.specs.declared.marks.Mark.TheVariants as mark
+use Rattle.rx_scan.specs.declared.marks.TokenState.TheVariants as mark
 use Rattle.rx_scan.specs.declared.marks.First.{First}
 use Rattle.rx_scan.specs.declared.marks.Move.{Move}
 use Rattle.rx_scan.specs.declared.marks.Move.TheVariants as move

@@ -7,8 +7,8 @@ use Rattle.rx_chars.specs.Utf8.{answer_of}
 use Rattle.rx_chars.specs.declared.utf8.Utf8Step.{Utf8Step}
 use Rattle.rx_chars.specs.declared.utf8.Utf8Step.TheVariants.{Char}
 use Rattle.rx_chars.proofs.Utf8Answers.{first_whole}
-use Rattle.rx_scan.specs.declared.marks.Mark.{Mark}
-use Rattle.rx_scan.specs.declared.marks.Mark.TheVariants as mark
+use Rattle.rx_scan.specs.declared.marks.TokenState.{TokenState}
+use Rattle.rx_scan.specs.declared.marks.TokenState.TheVariants as mark
 use Rattle.rx_scan.specs.declared.marks.Move.{Move}
 use Rattle.rx_scan.specs.declared.marks.Move.TheVariants as move
 use Rattle.rx_scan.specs.KnownTags as known_tags
@@ -19,7 +19,7 @@ use Rattle.rx_reader.specs.TagReader.{TagState}
 use Rattle.rx_tags.specs.Fronts.{is_printed, GoesTo}
 use Rattle.rx_tags.specs.TagBufs.{TagSoFar}
 use Rattle.rx_tags.proofs.TakeLemmas.{chosen as some_taken}
-use Rattle.rx_scan.specs.declared.answers.What.TheVariants as what
+use Rattle.rx_scan.specs.declared.answers.TokenKind.TheVariants as what
 use Rattle.rx_scan.specs.declared.places.Setting.{Setting}
 use Rattle.rx_scan.specs.Bytes.{IsOfTag}
 use Rattle.rx_scan.specs.Entries as entries
@@ -33,7 +33,7 @@ use Rattle.rx_scan.proofs.RunLemmas.{ReadsOn, reads_more}
 -- the first of them is read as a tag's
 module _ (l new : Reading) (b : ℕ) (m : l.pending.mark ≡ mark.LessThan) (k : IsOfTag l.setting mark.LessThan b) (t : FeedsFront (in_tag l) (b ∷ []) new) where
   known : IsOfTag l.setting l.pending.mark b
-  known = subst (λ (x : Mark). IsOfTag l.setting x b) (sym m) k
+  known = subst (λ (x : TokenState). IsOfTag l.setting x b) (sym m) k
 
   move_is : entries.move_at l b ≡ move.Tags
   move_is = ap (entries.judged l.setting l.place.two b) known.moves
@@ -52,7 +52,7 @@ module _ (l new : Reading) (b : ℕ) (m : l.pending.mark ≡ mark.LessThan) (k :
 
   within : nat_le (entries.token_from l.pending.mark l.place + l.setting.limits.tag) l.place.at ≡ false
   within =
-      ap (λ (x : Mark). nat_le (entries.token_from x l.place + l.setting.limits.tag) l.place.at) m
+      ap (λ (x : TokenState). nat_le (entries.token_from x l.place + l.setting.limits.tag) l.place.at) m
       ∙ lt-leb (l.place.token + l.setting.limits.tag) l.place.at (omega (arith, t.tag))
 
   not_long : (is : Bool) → entries.is_long l is ≡ false

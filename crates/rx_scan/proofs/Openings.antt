@@ -24,8 +24,8 @@ use Rattle.rx_scan.specs.declared.marks.CommentPhase.TheVariants as comments
 use Rattle.rx_scan.specs.declared.marks.StrictPhase.TheVariants as strict
 use Rattle.rx_scan.specs.declared.marks.DoctypePhase.TheVariants as phases
 use Rattle.rx_scan.specs.declared.marks.Brackets.TheVariants as brackets
-use Rattle.rx_scan.specs.declared.marks.Mark.{Mark}
-use Rattle.rx_scan.specs.declared.marks.Mark.TheVariants as mark
+use Rattle.rx_scan.specs.declared.marks.TokenState.{TokenState}
+use Rattle.rx_scan.specs.declared.marks.TokenState.TheVariants as mark
 use Rattle.rx_scan.specs.declared.marks.Move.{Move}
 use Rattle.rx_scan.specs.declared.marks.Move.TheVariants as move
 use Rattle.rx_scan.specs.Marks as marks
@@ -84,7 +84,7 @@ module _ (s : Syntax) (i : Content) (p : Pending) (text : Chars) (c : ℕ) (w : 
       subst P (sym (ap (λ x. slice_get x n) h.word ∙ (ap (λ m. slice_get (map (marks.opening_char s w) t ++ h.next ∷ h.left) m) (sym (length-map t (marks.opening_char s w) ∙ h.count)) ∙ slice_at (map (marks.opening_char s w) t) (h.next ∷ h.left)))) k
 
   -- the word goes on
-  longer : (d : ℕ) (left : Chars) → h.left ≡ d ∷ left → marks.opening_char s w c ≡ h.next → told.verdict s i text c ≡ told.goes_on → Means s i p text c (move.Goes (mark.Opening w (n + 1)))
+  longer : (d : ℕ) (left : Chars) → h.left ≡ d ∷ left → marks.opening_char s w c ≡ h.next → told.verdict s i text c ≡ told.goes_on → Means s i p text c (move.Continue (mark.Opening w (n + 1)))
   longer d left l q v =
       record {
         first = 60;
@@ -116,8 +116,8 @@ module _ (s : Syntax) (i : Content) (p : Pending) (text : Chars) (c : ℕ) (w : 
       part n k = by_test {G = (n + 1 == n + (suc k + 1)) ≡ false} (n + 1 == n + (suc k + 1)) (λ h. absurd (let e : n + 1 ≡ n + (suc k + 1) = eqb-true (n + 1) (n + (suc k + 1)) h in omega arith)) (λ h. h)
 
   more_means : (left : Chars) → h.left ≡ left → marks.opening_char s w c ≡ h.next → (h.left ≡ [] → Means s i p text c (marks.begun_word s i w)) → ((d : ℕ) (more : Chars) → h.left ≡ d ∷ more → told.verdict s i text c ≡ told.goes_on) → Means s i p text c (marks.more_of_word s i w (n + 1))
-  more_means [] l q begun v = subst (λ (b : Bool). Means s i p text c (cond b (marks.begun_word s i w) (move.Goes (mark.Opening w (n + 1))))) (sym (whole_word l)) (begun l)
-  more_means (d ∷ left) l q begun v = subst (λ (b : Bool). Means s i p text c (cond b (marks.begun_word s i w) (move.Goes (mark.Opening w (n + 1))))) (sym (part_word d left l)) (longer d left l q (v d left l))
+  more_means [] l q begun v = subst (λ (b : Bool). Means s i p text c (cond b (marks.begun_word s i w) (move.Continue (mark.Opening w (n + 1))))) (sym (whole_word l)) (begun l)
+  more_means (d ∷ left) l q begun v = subst (λ (b : Bool). Means s i p text c (cond b (marks.begun_word s i w) (move.Continue (mark.Opening w (n + 1))))) (sym (part_word d left l)) (longer d left l q (v d left l))
 
   by_next : (marks.opening_char s w c ≡ h.next → Means s i p text c (marks.more_of_word s i w (n + 1))) → (marks.is_next s w h.next c ≡ false → Means s i p text c (marks.unlike s c)) → Means s i p text c (marks.in_word s i w (slice_get (marks.opening_text s w) n) n c)
   by_next f g = at_next (λ o. Means s i p text c (marks.in_word s i w o n c)) (split (λ (m : Move). Means s i p text c m) (marks.is_next s w h.next c) _ _ (λ k. f (eqb-true (marks.opening_char s w c) h.next k)) g)
@@ -138,7 +138,7 @@ module _ (s : Syntax) (i : Content) (p : Pending) (text : Chars) (c : ℕ) (t : 
         is = is;
       }
 
-  goes_behind : (m : Mark) → told.verdict s i text c ≡ told.goes_on → PendsAs s i m p.run p.tag (text ++ c ∷ []) → Goes s i p text c m p.run
+  goes_behind : (m : TokenState) → told.verdict s i text c ≡ told.goes_on → PendsAs s i m p.run p.tag (text ++ c ∷ []) → Goes s i p text c m p.run
   goes_behind m v h = record { first = 60; more = 33 ∷ t; some = are; goes = v; pends = h }
 
 comment_start : CommentEnds comments.Start []
@@ -169,7 +169,7 @@ module _ (i : Content) (p : Pending) (text : Chars) (c : ℕ) where
       (begun_means Html i p text c t h.are h.markup (codes "--") (sym (exact Html word.Dashes t c h.next h.left h.word q l)) (judge_of Html i (mark.Comment comments.Start)) (CommentEnds comments.Start) (λ more d. refl) comment_start)
   html_begun word.Section n h q l =
       let t = h.first ∷ h.chars in
-      subst (λ (b : Bool). Means Html i p text c (cond b (move.Goes (mark.Section brackets.None)) (move.Refuses Outside))) (sym h.looked)
+      subst (λ (b : Bool). Means Html i p text c (cond b (move.Continue (mark.Section brackets.None)) (move.Refuses Outside))) (sym h.looked)
       (goes_behind Html i p text c t h.are h.markup (mark.Section brackets.None) (html_verdict word.Section n h q)
       (begun_means Html i p text c t h.are h.markup (codes "[CDATA[") (sym (exact Html word.Section t c h.next h.left h.word q l)) (judge_of Html i (mark.Section brackets.None)) (SectionEnds brackets.None p.run) (λ more d. cond-true _ _ _ (ap (λ b. b && true) h.looked)) (section_start p.run h.none)))
   html_begun word.Doctype n h q l =
@@ -261,7 +261,7 @@ in_word_means Xhtml i p text c w n h = strict_word_means i p text c w n h
 
 -- behind `<!` alone
 module _ (s : Syntax) (i : Content) (p : Pending) (text : Chars) (c : ℕ) (h : InOpened s i p.run text) where
-  opened : (w : Word) (next : ℕ) (left : Chars) → marks.opening_text s w ≡ marks.opening_char s w c ∷ next ∷ left → marks.looks_for s i w ≡ true → told.verdict s i text c ≡ told.goes_on → Means s i p text c (move.Goes (mark.Opening w 1))
+  opened : (w : Word) (next : ℕ) (left : Chars) → marks.opening_text s w ≡ marks.opening_char s w c ∷ next ∷ left → marks.looks_for s i w ≡ true → told.verdict s i text c ≡ told.goes_on → Means s i p text c (move.Continue (mark.Opening w 1))
   opened w next left e l v =
       record {
         first = 60;

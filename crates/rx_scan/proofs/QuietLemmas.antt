@@ -18,11 +18,11 @@ use Rattle.rx_grammar.specs.Spelling.{has_references, is_text}
 use Rattle.rx_terms.proofs.Bools.{split, by_test, both, either, untrue}
 use Rattle.rx_grammar.specs.declared.stops.Stop.{Stop}
 use Rattle.rx_grammar.specs.declared.stops.Stop.TheVariants as stop
-use Rattle.rx_scan.specs.declared.answers.What.{What}
-use Rattle.rx_scan.specs.declared.answers.What.TheVariants as what
+use Rattle.rx_scan.specs.declared.answers.TokenKind.{TokenKind}
+use Rattle.rx_scan.specs.declared.answers.TokenKind.TheVariants as what
 use Rattle.rx_scan.specs.declared.marks.First.{First}
-use Rattle.rx_scan.specs.declared.marks.Mark.{Mark}
-use Rattle.rx_scan.specs.declared.marks.Mark.TheVariants as mark
+use Rattle.rx_scan.specs.declared.marks.TokenState.{TokenState}
+use Rattle.rx_scan.specs.declared.marks.TokenState.TheVariants as mark
 use Rattle.rx_scan.specs.declared.marks.Move.TheVariants as move
 use Rattle.rx_scan.specs.KnownTags as known_tags
 use Rattle.rx_scan.specs.Marks as marks
@@ -35,7 +35,7 @@ use Rattle.rx_scan.proofs.ByteLemmas.{match_by}
 use Rattle.rx_scan.proofs.RunLemmas.{IsApart}
 
 -- What a byte does between tokens.
-pub data Does (l : Reading) (byte : ℕ) (answer : What) (new : Reading) : Type 0 where
+pub data Does (l : Reading) (byte : ℕ) (answer : TokenKind) (new : Reading) : Type 0 where
   says : answer ≡ what.Nothing → new.pending.mark ≡ mark.Nothing → Does l byte answer new
   begins : answer ≡ what.Nothing → (byte == 60 || byte == 38) ≡ true → Does l byte answer new
   drops : l.setting.drops ≡ true → answer ≡ what.Skipped → new.pending.mark ≡ mark.Nothing → Does l byte answer new
@@ -57,14 +57,14 @@ last_byte held byte c e h =
 pub begins_line : (c d : ℕ) → as_line_end c ≡ d → (10 == d) ≡ false → c ≡ d
 begins_line c d e n = by_test {G = c ≡ d} (c == carriage_return) (λ h. absurd (let q : 10 ≡ d = sym (cond-true _ _ _ h) ∙ e in let z : true ≡ false = ap (λ (x : ℕ). 10 == x) q ∙ n in cc)) (λ h. sym (cond-false _ _ _ h) ∙ e)
 
-module _ (l new : Reading) (byte : ℕ) (answer : What) (m : l.pending.mark ≡ mark.Nothing) where
-  abbrev result : Result What Stop
+module _ (l new : Reading) (byte : ℕ) (answer : TokenKind) (m : l.pending.mark ≡ mark.Nothing) where
+  abbrev result : Result TokenKind Stop
   result = Ok answer
 
   no_fault : (kind : Kind) → result ≡ Err (stop.Fault (entries.fault_at l kind)) → Does l byte answer new
   no_fault kind e = absurd (cc)
 
-  said : (answer : What) (d : ℕ) (place : Position) → entries.Says l d place (Ok answer) new → ((answer ≡ what.Nothing) ⊎ ((l.setting.drops ≡ true) × (answer ≡ what.Skipped))) × (new.pending.mark ≡ mark.Nothing)
+  said : (answer : TokenKind) (d : ℕ) (place : Position) → entries.Says l d place (Ok answer) new → ((answer ≡ what.Nothing) ⊎ ((l.setting.drops ≡ true) × (answer ≡ what.Skipped))) × (new.pending.mark ≡ mark.Nothing)
   said what.Nothing d place k = (inl refl, ap (λ (x : Reading). x.pending.mark) k.1.is)
   said what.Skipped d place k = (inr ((both l.setting.drops _ k.0).0, refl), ap (λ (x : Reading). x.pending.mark) k.1)
   said what.Text d place k = absurd k
@@ -89,7 +89,7 @@ module _ (l new : Reading) (byte : ℕ) (answer : What) (m : l.pending.mark ≡ 
       arrived : result ≡ Ok what.Nothing → answer ≡ what.Nothing
       arrived e = cc
 
-      by_says : (b : Bool) → entries.Enters l c ar (if b then move.Refuses StrictText else move.Says) result new → Does l byte answer new
+      by_says : (b : Bool) → entries.Enters l c ar (if b then move.Refuses StrictText else move.EmitText) result new → Does l byte answer new
       by_says true k = no_fault StrictText k
       by_says false k = does_say c (ended ar (entries.is_bracket l.setting c) l.place) k
 
@@ -100,9 +100,9 @@ module _ (l new : Reading) (byte : ℕ) (answer : What) (m : l.pending.mark ≡ 
       (λ t k. match_by (entries.is_long l (known_tags.is_tag_with l.setting.syntax l.setting.inside l.pending.mark (as_line_end c))) _ _ k
       (λ u k. no_fault _ k)
       (λ u k. does_first (as_line_end c) (c == carriage_return) (λ d q n h. last_byte l.held byte d (e ∙ ap Char (begins_line c d q n)) h)
-      (subst (λ (x : Mark). entries.Enters l (as_line_end c) (c == carriage_return) (entries.judged l.setting l.place.two (as_line_end c) (marks.move_of l.setting.syntax l.setting.inside x (as_line_end c))) result new) m k)))
+      (subst (λ (x : TokenState). entries.Enters l (as_line_end c) (c == carriage_return) (entries.judged l.setting l.place.two (as_line_end c) (marks.move_of l.setting.syntax l.setting.inside x (as_line_end c))) result new) m k)))
     where
-      arrive : (other : What) → result ≡ Ok other → answer ≡ other
+      arrive : (other : TokenKind) → result ≡ Ok other → answer ≡ other
       arrive other e = cc
 
       passed : ((not l.place.started && c == 65279) ≡ true) ⊎ ((l.place.after_return && c == 10) ≡ true) → result ≡ Ok (entries.is_mark c) → new.pending.mark ≡ mark.Nothing → Does l byte answer new
@@ -131,7 +131,7 @@ module _ (l new : Reading) (byte : ℕ) (answer : What) (m : l.pending.mark ≡ 
           (λ t k. match_by (entries.is_long l (known_tags.is_tag l.pending.mark)) _ _ k (λ u k. no_fault _ k) (λ u k. does_char c e k))
 
 -- where text is told nothing else is
-pub apart_tells : (l new : Reading) (byte : ℕ) (answer : What) → IsApart l → entries.Reads l byte (Ok answer) new → answer ≡ what.Nothing
+pub apart_tells : (l new : Reading) (byte : ℕ) (answer : TokenKind) → IsApart l → entries.Reads l byte (Ok answer) new → answer ≡ what.Nothing
 apart_tells l new byte answer a k = by (does l new byte answer a.mark k)
   where
     by : Does l byte answer new → answer ≡ what.Nothing
@@ -141,7 +141,7 @@ apart_tells l new byte answer a k = by (does l new byte answer a.mark k)
     by (is_a_mark e k m) = absurd (let q = sym e ∙ a.started in cc)
 
 -- a quiet byte begins no token
-pub quiet_tells : (l new : Reading) (byte : ℕ) (answer : What) → l.pending.mark ≡ mark.Nothing → not (byte == 60 || byte == 38) ≡ true → entries.Reads l byte (Ok answer) new → new.pending.mark ≡ mark.Nothing
+pub quiet_tells : (l new : Reading) (byte : ℕ) (answer : TokenKind) → l.pending.mark ≡ mark.Nothing → not (byte == 60 || byte == 38) ≡ true → entries.Reads l byte (Ok answer) new → new.pending.mark ≡ mark.Nothing
 quiet_tells l new byte answer n q k = by (does l new byte answer n k)
   where
     by : Does l byte answer new → new.pending.mark ≡ mark.Nothing
@@ -151,7 +151,7 @@ quiet_tells l new byte answer n q k = by (does l new byte answer n k)
     by (is_a_mark e k m) = m
 
 -- no byte between tokens ends a tag
-pub between_tells : (l new : Reading) (byte : ℕ) (answer : What) → l.pending.mark ≡ mark.Nothing → entries.Reads l byte (Ok answer) new → is_tag answer ≡ false
+pub between_tells : (l new : Reading) (byte : ℕ) (answer : TokenKind) → l.pending.mark ≡ mark.Nothing → entries.Reads l byte (Ok answer) new → is_tag answer ≡ false
 between_tells l new byte answer n k = by (does l new byte answer n k)
   where
     by : Does l byte answer new → is_tag answer ≡ false
@@ -166,7 +166,7 @@ stopped_tells [] n (stop.Fault fault) = tt
 stopped_tells (c ∷ text) n (stop.Fault fault) = refl
 stopped_tells text n stop.NoMemory = tt
 
-pub other_tells : (answer : What) → is_token answer ≡ false → is_tag answer ≡ false
+pub other_tells : (answer : TokenKind) → is_token answer ≡ false → is_tag answer ≡ false
 other_tells what.Nothing h = refl
 other_tells what.Text h = refl
 other_tells what.Skipped h = refl

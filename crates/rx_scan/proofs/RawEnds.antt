@@ -31,7 +31,7 @@ use Rattle.rx_terms.proofs.Bools.{split, by_test, both, neither, either}
 use Rattle.rx_reader.proofs.Fronts.{equal}
 use Rattle.rx_pages.specs.Scanner as told
 use Rattle.rx_pages.proofs.Reading.{raw_is}
-use Rattle.rx_scan.specs.declared.marks.Mark.TheVariants as mark
+use Rattle.rx_scan.specs.declared.marks.TokenState.TheVariants as mark
 use Rattle.rx_scan.specs.declared.marks.Move.{Move}
 use Rattle.rx_scan.specs.declared.marks.Move.TheVariants as move
 use Rattle.rx_scan.specs.Marks as marks
@@ -184,7 +184,7 @@ module _ (s : Syntax) (i : Content) (p : Pending) (text : Chars) (c : ℕ) (n : 
   first_is : first_char p.mark ≡ less_than_sign
   first_is = ap first_char m
 
-  stopped : begins_end h.name (p.run ++ c ∷ []) ≡ false → (same (lowered p.run) (solidus ∷ h.name) && ends_name c) ≡ false → Means s i p text c move.Stops
+  stopped : begins_end h.name (p.run ++ c ∷ []) ≡ false → (same (lowered p.run) (solidus ∷ h.name) && ends_name c) ≡ false → Means s i p text c move.Reconsume
   stopped a b =
       record {
         goes = verdict_is ∙ (cond-false _ _ _ a ∙ (cond-true _ _ _ (and_from (begins_end h.name p.run) (stops_end h.name p.run c) is_front (and_from (not (begins_end h.name (p.run ++ c ∷ []))) _ (ap not a) (ap not b))) ∙ ap (λ x. told.ended (kept (x ∷ p.run))) (sym first_is)));

@@ -23,8 +23,8 @@ use Rattle.rx_terms.proofs.Bools.{split, both, either, untrue}
 use Rattle.rx_reader.proofs.Runs.{RunIs, at_ampersand, in_name, at_hash, in_decimal, at_mark, in_hexadecimal, goes_on, closes, stops, run_begun}
 use Rattle.rx_pages.specs.Scanner as told
 use Rattle.rx_pages.proofs.Texts.{semicolon_stops}
-use Rattle.rx_scan.specs.declared.marks.Mark.{Mark}
-use Rattle.rx_scan.specs.declared.marks.Mark.TheVariants as mark
+use Rattle.rx_scan.specs.declared.marks.TokenState.{TokenState}
+use Rattle.rx_scan.specs.declared.marks.TokenState.TheVariants as mark
 use Rattle.rx_scan.specs.declared.marks.Move.{Move}
 use Rattle.rx_scan.specs.Marks as marks
 use Rattle.rx_scan.specs.Pending.{Pending, first_char, phase_of, InRun, run_on}
@@ -120,7 +120,7 @@ module _ (s : Syntax) (i : Content) (p : Pending) (text : Chars) (c : ℕ) (q : 
         more = p.run;
         some = h.are;
         ascii = (ascii-same p.run (run_ascii is_run)).0;
-        kind = run_kind c is_run e ∙ ap (λ (x : Mark). no_meaning (phase_of x)) (sym m);
+        kind = run_kind c is_run e ∙ ap (λ (x : TokenState). no_meaning (phase_of x)) (sym m);
       }
   by_move run_moves.Stops e =
       let k = both (not (is_begun (p.run ++ c ∷ []))) _ (stops c is_run e) in

@@ -10,9 +10,9 @@ use Rattle.rx_grammar.specs.Items.{Item, text_of}
 use Rattle.rx_pages.specs.PageReader as reader
 use Rattle.rx_grammar.specs.declared.stops.Stop.{Stop}
 use Rattle.rx_grammar.specs.declared.stops.Stop.TheVariants as stop
-use Rattle.rx_scan.specs.declared.answers.What.{What}
-use Rattle.rx_scan.specs.declared.answers.What.TheVariants as what
-use Rattle.rx_scan.specs.declared.marks.Mark.TheVariants as mark
+use Rattle.rx_scan.specs.declared.answers.TokenKind.{TokenKind}
+use Rattle.rx_scan.specs.declared.answers.TokenKind.TheVariants as what
+use Rattle.rx_scan.specs.declared.marks.TokenState.TheVariants as mark
 use Rattle.rx_scan.specs.declared.places.Setting.{Setting}
 use Rattle.rx_scan.specs.Scanner.{Reading, spot_of}
 use Rattle.rx_scan.specs.Entries as entries
@@ -106,7 +106,7 @@ module _ (old l : Reading) (s : reader.Scanning) (bytes : List ℕ) (r : ReadsOn
       on_append sy lim spot (Ok (record { next = s; items = [] })) bytes (byte ∷ []) ∙ (ap (λ x. reader.scan_byte_on sy lim spot x byte) r.read ∙ ap (reader.with_items r.scanned.next r.scanned.items) (sym (same_byte byte)))
 
   -- the mark stood there before, or the byte that makes it whole answers that it is skipped
-  pub marked_byte : (byte : ℕ) (answer : What) (new : Reading) → entries.Reads l byte (Ok answer) new → (rest : List ℕ) → HasMark s (bytes ++ byte ∷ []) rest → Earlier s bytes ⊎ (answer ≡ what.Skipped)
+  pub marked_byte : (byte : ℕ) (answer : TokenKind) (new : Reading) → entries.Reads l byte (Ok answer) new → (rest : List ℕ) → HasMark s (bytes ++ byte ∷ []) rest → Earlier s bytes ⊎ (answer ≡ what.Skipped)
   marked_byte byte answer new k rest m = elim (mark_snoc s bytes byte rest m) [
     | inl e ↦ inl e
     | inr w ↦ let q = before_mark sy lim spot bytes (record { next = s; items = [] }) r.scanned m.first w.before r.read in
@@ -185,7 +185,7 @@ module _ (old l new : Reading) (s : reader.Scanning) (piece : List ℕ) (i : ℕ
   more_read e = subst (λ (x : List ℕ). ReadsOn old s x new) (sym taken) (reads_more old l s (take i piece) r byte new e)
 
   -- the mark stands alone
-  alone : (answer : What) (x : reader.Scanned) → entries.Reads l byte (Ok answer) new → reader.read_byte l.setting.syntax l.setting.limits (spot_of l) byte r.scanned.next ≡ Ok x → MarkAlone (is_skipped answer) s (take (i + 1) piece) x.items
+  alone : (answer : TokenKind) (x : reader.Scanned) → entries.Reads l byte (Ok answer) new → reader.read_byte l.setting.syntax l.setting.limits (spot_of l) byte r.scanned.next ≡ Ok x → MarkAlone (is_skipped answer) s (take (i + 1) piece) x.items
   alone answer x e q rest m =
       let h : HasMark s (take i piece ++ byte ∷ []) rest = subst (λ (z : List ℕ). HasMark s z rest) taken m in (
         elim (marked_byte old l s (take i piece) r byte answer new e rest h) [ inl z ↦ absurd (r.unmarked z.rest z.mark) | inr z ↦ ap is_skipped z ],
@@ -198,7 +198,7 @@ module _ (old l new : Reading) (s : reader.Scanning) (piece : List ℕ) (i : ℕ
       ap (reader.scan_from old.setting.syntax old.setting.limits (spot_of old) s) taken
       ∙ (byte_on old l s (take i piece) r byte ∙ (ap (reader.with_items r.scanned.next r.scanned.items) e ∙ ap (λ y. Ok (record { next = x.next; items = y ++ x.items })) (no_items old l s (take i piece) r t).0))
 
-  not_nothing : (answer : What) → is_token answer ≡ true → is_nothing answer ≡ true → ⊥
+  not_nothing : (answer : TokenKind) → is_token answer ≡ true → is_nothing answer ≡ true → ⊥
   not_nothing what.Nothing w z = cc
   not_nothing what.Skipped w z = cc
   not_nothing what.Text w z = cc
@@ -206,7 +206,7 @@ module _ (old l new : Reading) (s : reader.Scanning) (piece : List ℕ) (i : ℕ
   not_nothing what.Doctype w z = cc
   not_nothing what.Tag w z = cc
 
-  told : (answer : What) → is_token answer ≡ true → (items : List Item) → IsTold l answer items new → Tells l.setting.drops answer s (take (i + 1) piece) items new
+  told : (answer : TokenKind) → is_token answer ≡ true → (items : List Item) → IsTold l answer items new → Tells l.setting.drops answer s (take (i + 1) piece) items new
   told what.Nothing w items h = absurd (cc)
   told what.Skipped w items h = h.0 s (take (i + 1) piece)
   told what.Text w items h = absurd (cc)
@@ -214,7 +214,7 @@ module _ (old l new : Reading) (s : reader.Scanning) (piece : List ℕ) (i : ℕ
   told what.Doctype w items h = h.0
   told what.Tag w items h = h.0
 
-  took_entry : (answer : What) → entries.Reads l byte (Ok answer) new → l.text.text ≡ [] → is_token answer ≡ true → GivesOk (reader.read_byte l.setting.syntax l.setting.limits (spot_of l) byte r.scanned.next) l answer new → Took old s piece (i + 1) answer new
+  took_entry : (answer : TokenKind) → entries.Reads l byte (Ok answer) new → l.text.text ≡ [] → is_token answer ≡ true → GivesOk (reader.read_byte l.setting.syntax l.setting.limits (spot_of l) byte r.scanned.next) l answer new → Took old s piece (i + 1) answer new
   took_entry answer e t w g =
       let none = no_items old l s (take i piece) r t in
       let drops : l.setting.drops ≡ old.setting.drops = ap (λ (x : Setting). x.drops) none.1 in
@@ -248,15 +248,15 @@ module _ (old l new : Reading) (s : reader.Scanning) (piece : List ℕ) (i : ℕ
       }
 
   -- a token other than text is whole with the byte
-  pub took_token : (answer : What) → entries.Reads l byte (Ok answer) new → l.text.text ≡ [] → is_token answer ≡ true → Took old s piece (i + 1) answer new
+  pub took_token : (answer : TokenKind) → entries.Reads l byte (Ok answer) new → l.text.text ≡ [] → is_token answer ≡ true → Took old s piece (i + 1) answer new
   took_token answer e t w = elim (reads l r.scanned.next r.reads_as byte (Ok answer) new e) [
     | inl g ↦ took_entry answer e t w g
     | inr m ↦ let q : answer ≡ what.Skipped = skipped m.answer in
-        subst (λ (a : What). Took old s piece (i + 1) a new) (sym q)
-        (took_mark (subst (λ (a : What). entries.Reads l byte (Ok a) new) q e) t (subst (λ (a : What). PassesMark (reader.read_byte l.setting.syntax l.setting.limits (spot_of l) byte r.scanned.next) r.scanned.next l byte (Ok a) new) q m))
+        subst (λ (a : TokenKind). Took old s piece (i + 1) a new) (sym q)
+        (took_mark (subst (λ (a : TokenKind). entries.Reads l byte (Ok a) new) q e) t (subst (λ (a : TokenKind). PassesMark (reader.read_byte l.setting.syntax l.setting.limits (spot_of l) byte r.scanned.next) r.scanned.next l byte (Ok a) new) q m))
   ]
     where
-      skipped : ◌≡◌ {A = Result What Stop} (Ok answer) (Ok what.Skipped) → answer ≡ what.Skipped
+      skipped : ◌≡◌ {A = Result TokenKind Stop} (Ok answer) (Ok what.Skipped) → answer ≡ what.Skipped
       skipped e = cc
 
   -- the byte decides a fault

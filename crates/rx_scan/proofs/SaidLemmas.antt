@@ -18,8 +18,8 @@ use Rattle.rx_grammar.specs.declared.contents.Content.TheVariants as content
 use Rattle.rx_grammar.specs.Items.{is_strict_literal}
 use Rattle.rx_grammar.specs.Spelling.{has_references, is_text}
 use Rattle.rx_grammar.specs.Tokens.{character}
-use Rattle.rx_scan.specs.declared.marks.Mark.{Mark}
-use Rattle.rx_scan.specs.declared.marks.Mark.TheVariants as mark
+use Rattle.rx_scan.specs.declared.marks.TokenState.{TokenState}
+use Rattle.rx_scan.specs.declared.marks.TokenState.TheVariants as mark
 use Rattle.rx_scan.specs.declared.marks.Move.{Move}
 use Rattle.rx_scan.specs.declared.marks.Move.TheVariants as move
 use Rattle.rx_scan.specs.KnownTags as known_tags
@@ -27,7 +27,7 @@ use Rattle.rx_scan.specs.Marks as marks
 use Rattle.rx_scan.specs.Pending.{Pending}
 use Rattle.rx_scan.proofs.Snoc.{and_false, either_way}
 use Rattle.rx_pages.specs.PageReader as reader
-use Rattle.rx_scan.specs.declared.answers.What.TheVariants as what
+use Rattle.rx_scan.specs.declared.answers.TokenKind.TheVariants as what
 use Rattle.rx_scan.specs.declared.places.Position.{Position}
 use Rattle.rx_scan.specs.Entries as entries
 use Rattle.rx_scan.specs.Fronts.{has_text}
@@ -39,7 +39,7 @@ use Rattle.rx_scan.proofs.PlainLemmas.{is_none}
 use Rattle.rx_scan.proofs.RunLemmas.{ReadsOn, reads_more}
 
 -- in a content that has text a plain character is text
-is_said : (i : Content) (c : ℕ) → has_text i ≡ true → is_plain c ≡ true → marks.of_first (marks.at_first i c) ≡ move.Says
+is_said : (i : Content) (c : ℕ) → has_text i ≡ true → is_plain c ≡ true → marks.of_first (marks.at_first i c) ≡ move.EmitText
 is_said i c t h =
     ap marks.of_first (cond-false _ _ _ (is_none c 60 h refl) ∙ (cond-false _ _ _ (ap (λ x. x && has_references i) (is_none c 38 h refl)) ∙ cond-true _ _ _ (text i t)))
   where
@@ -100,9 +100,9 @@ module _ (l new : Reading) (held : List ℕ) (b c : ℕ) (t : Leads l held (b �
             ∙ ap (λ (p : Pending). entries.with_parts l (entries.undropped l.setting) (ended false (entries.is_bracket l.setting c) l.place) p new.text) (unmarked l.pending t.between));
       }
 
-  move_is : entries.move_at l c ≡ move.Says
+  move_is : entries.move_at l c ≡ move.EmitText
   move_is =
-      ap (λ (x : Mark). entries.judged l.setting l.place.two c (marks.move_of l.setting.syntax l.setting.inside x c)) t.between
+      ap (λ (x : TokenState). entries.judged l.setting l.place.two c (marks.move_of l.setting.syntax l.setting.inside x c)) t.between
       ∙ (ap (entries.judged l.setting l.place.two c) (is_said l.setting.inside c t.inside t.plain)
       ∙ cond-false _ _ _ (ap (λ x. l.place.two && x) (no_literal_at 62 l.setting.inside c (either_way 62 c ∙ is_none c 62 t.plain refl)) ∙ and_false l.place.two))
 
@@ -117,10 +117,10 @@ module _ (l new : Reading) (held : List ℕ) (b c : ℕ) (t : Leads l held (b �
       (subst (λ (x : ℕ). entries.Enters l x false (entries.move_at l x) (Ok what.Nothing) new) (sym (cond-false _ _ _ (is_none c 13 t.plain refl))) says)
 
   not_long : entries.is_long l (known_tags.is_tag l.pending.mark) ≡ false
-  not_long = ap (λ (x : Mark). entries.is_long l (known_tags.is_tag x)) t.between
+  not_long = ap (λ (x : TokenState). entries.is_long l (known_tags.is_tag x)) t.between
 
   not_long_with : entries.is_long l (known_tags.is_tag_with l.setting.syntax l.setting.inside l.pending.mark (as_line_end c)) ≡ false
-  not_long_with = ap (λ (x : Mark). entries.is_long l (known_tags.is_tag_with l.setting.syntax l.setting.inside x (as_line_end c))) t.between
+  not_long_with = ap (λ (x : TokenState). entries.is_long l (known_tags.is_tag_with l.setting.syntax l.setting.inside x (as_line_end c))) t.between
 
   not_passed : entries.is_passed l.place c ≡ false
   not_passed = or_from _ _ (ap (λ x. not x && (c == 65279)) t.started) (ap (λ x. x && (c == 10)) t.on_a_line)
@@ -160,7 +160,7 @@ module _ (l new : Reading) (held : List ℕ) (b d : ℕ) (rest : List ℕ) (c : 
       (record { more = d ∷ rest; value = c; longer = λ e. cc; character = (tables_agree ((held ++ b ∷ []) ++ d ∷ rest) c).1 (t.scalar, spelled_on) })
 
   in_text : entries.is_long l (known_tags.is_tag l.pending.mark) ≡ false
-  in_text = ap (λ (x : Mark). entries.is_long l (known_tags.is_tag x)) t.between
+  in_text = ap (λ (x : TokenState). entries.is_long l (known_tags.is_tag x)) t.between
 
   reads_held : entries.Reads l b (Ok what.Nothing) next
   reads_held =

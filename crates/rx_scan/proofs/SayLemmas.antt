@@ -17,9 +17,9 @@ use Rattle.rx_grammar.specs.declared.stops.Stop.{Stop}
 use Rattle.rx_grammar.specs.declared.stops.Stop.TheVariants as stop
 use Rattle.rx_grammar.specs.References.{meaning}
 use Rattle.rx_reader.specs.Values.{no_meaning}
-use Rattle.rx_scan.specs.declared.answers.What.{What}
-use Rattle.rx_scan.specs.declared.answers.What.TheVariants as what
-use Rattle.rx_scan.specs.declared.marks.Mark.TheVariants as mark
+use Rattle.rx_scan.specs.declared.answers.TokenKind.{TokenKind}
+use Rattle.rx_scan.specs.declared.answers.TokenKind.TheVariants as what
+use Rattle.rx_scan.specs.declared.marks.TokenState.TheVariants as mark
 use Rattle.rx_scan.specs.declared.marks.Move.TheVariants as move
 use Rattle.rx_scan.specs.Places.{ended}
 use Rattle.rx_scan.specs.Pending.{phase_of}
@@ -48,7 +48,7 @@ module _ (v : Reading) (s : reader.Scanning) (h : ReadsAs v s) (ar : Bool) (c : 
   read w = read_at v s ar c w
 
   -- a character of text, by itself or by a reference
-  gives_said : (t : Token) (d : ℕ) (bracket : Bool) (result : Result What Stop) (new : Reading) → read verdict ≡ Ok (record { next = behind v s h ar c t; items = item v s h ar c t ∷ [] }) → text_of t ≡ Some (d ∷ []) → is_line_feed t ≡ (d == line_feed)
+  gives_said : (t : Token) (d : ℕ) (bracket : Bool) (result : Result TokenKind Stop) (new : Reading) → read verdict ≡ Ok (record { next = behind v s h ar c t; items = item v s h ar c t ∷ [] }) → text_of t ≡ Some (d ∷ []) → is_line_feed t ≡ (d == line_feed)
       → bracket ≡ is_strict_literal right_bracket inside t → entries.Says v d (ended ar bracket v.place) result new → Gives (read verdict) s v result new
   gives_said t d bracket (Ok what.Nothing) new g x l e k =
       let i = is_item v s h ar c t in
@@ -87,14 +87,14 @@ module _ (v : Reading) (s : reader.Scanning) (h : ReadsAs v s) (ar : Bool) (c : 
   gives_said t d bracket (Err stop.NoMemory) new g x l e k = tt
 
   -- a literal character
-  pub gives_says : (result : Result What Stop) (new : Reading) → text ≡ [] → verdict ≡ verdicts.whole (character c) → entries.Enters v c ar (entries.judged v.setting v.place.two c move.Says) result new → Gives (read verdict) s v result new
+  pub gives_says : (result : Result TokenKind Stop) (new : Reading) → text ≡ [] → verdict ≡ verdicts.whole (character c) → entries.Enters v c ar (entries.judged v.setting v.place.two c move.EmitText) result new → Gives (read verdict) s v result new
   gives_says result new e g k =
       by (v.place.two && is_strict_literal greater_than_sign inside (character c)) refl k
     where
       is_here : s.two ≡ v.place.two
       is_here = sym h.two
 
-      by : (b : Bool) → (v.place.two && is_strict_literal greater_than_sign inside (character c)) ≡ b → entries.Enters v c ar (if b then move.Refuses StrictText else move.Says) result new → Gives (read verdict) s v result new
+      by : (b : Bool) → (v.place.two && is_strict_literal greater_than_sign inside (character c)) ≡ b → entries.Enters v c ar (if b then move.Refuses StrictText else move.EmitText) result new → Gives (read verdict) s v result new
       by true q k =
           refuses (read verdict) v s StrictText result new h
           (ap read g ∙ cond-true _ _ _ (ap (λ x. s.two && x) (literal_is v s h ar c greater_than_sign (character c)) ∙ (ap (λ b. b && is_strict_literal greater_than_sign inside (character c)) is_here ∙ q))) k
@@ -103,7 +103,7 @@ module _ (v : Reading) (s : reader.Scanning) (h : ReadsAs v s) (ar : Bool) (c : 
           (completes v s h ar c (character c) g (ap (λ b. b && is_strict_literal greater_than_sign inside (character c)) is_here ∙ q) refl) refl refl refl k
 
   -- the character that a reference stands for
-  pub gives_closes : (result : Result What Stop) (new : Reading) → meant.Closes sy inside v.pending text c → entries.Closes v ar (meaning sy (encode_utf8_all v.pending.run)) result new → Gives (read verdict) s v result new
+  pub gives_closes : (result : Result TokenKind Stop) (new : Reading) → meant.Closes sy inside v.pending text c → entries.Closes v ar (meaning sy (encode_utf8_all v.pending.run)) result new → Gives (read verdict) s v result new
   gives_closes result new m k = by (meaning sy v.pending.run) refl (subst (λ (x : Chars). entries.Closes v ar (meaning sy x) result new) m.ascii k)
     where
       by : (o : Option ℕ) → meaning sy v.pending.run ≡ o → entries.Closes v ar (meaning sy v.pending.run) result new → Gives (read verdict) s v result new

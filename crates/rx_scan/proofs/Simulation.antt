@@ -18,8 +18,8 @@ use Rattle.rx_grammar.specs.Spelling.{ends_with}
 use Rattle.rx_grammar.specs.PageFaults.{is_known_tag, is_known_after, is_known_raw, is_known_end}
 use Rattle.rx_pages.specs.Scanner as told
 use Rattle.rx_tags.specs.TagBufs.{TagSoFar}
-use Rattle.rx_scan.specs.declared.marks.Mark.{Mark}
-use Rattle.rx_scan.specs.declared.marks.Mark.TheVariants as mark
+use Rattle.rx_scan.specs.declared.marks.TokenState.{TokenState}
+use Rattle.rx_scan.specs.declared.marks.TokenState.TheVariants as mark
 use Rattle.rx_scan.specs.Marks as marks
 use Rattle.rx_scan.specs.KnownTags.{is_tag, is_tag_with, ends_word}
 use Rattle.rx_scan.specs.Pending.{Pending, PendsAs, Pends, Behind, judge_of, CommentEnds, StrictEnds, DoctypeEnds, SectionEnds, InRawEnd}
@@ -34,7 +34,7 @@ use Rattle.rx_scan.proofs.RawEnds.{in_end_means, raw_content, same_self}
 use Rattle.rx_scan.proofs.Snoc.{and_false}
 
 module _ (s : Syntax) (i : Content) (p : Pending) (text : Chars) (c : ℕ) where
-  at_mark : (m : Mark) → p.mark ≡ m → PendsAs s i m p.run p.tag text → Means s i p text c (marks.move_of s i m c)
+  at_mark : (m : TokenState) → p.mark ≡ m → PendsAs s i m p.run p.tag text → Means s i p text c (marks.move_of s i m c)
   at_mark mark.Nothing e h = at_nothing_means s i p text c h
   at_mark mark.LessThan e h = at_less_than_means s i p text c h e
   at_mark (mark.RawEnd n) e h = in_end_means s i p text c n h e
@@ -106,7 +106,7 @@ module _ (s : Syntax) (i : Content) (run : Chars) (tag : TagSoFar) (text : Chars
   raw_known : (n : ℕ) (h : InRawEnd s i n run tag text) (x : Chars) → is_known_tag s i (60 ∷ x) ≡ is_known_end h.name x
   raw_known n h x = cond-false _ _ _ (raw_content i h.name h.raw).markup ∙ ap (λ o. is_known_raw o x) h.raw
 
-  pub known : (m : Mark) → PendsAs s i m run tag text → is_known_tag s i text ≡ is_tag m
+  pub known : (m : TokenState) → PendsAs s i m run tag text → is_known_tag s i text ≡ is_tag m
   known mark.Nothing h = ap (is_known_tag s i) h
   known mark.LessThan h = ap (is_known_tag s i) h.are ∙ none_after s i
   known (mark.RawEnd n) h = ap (is_known_tag s i) h.are ∙ (raw_known n h run ∙ short_end h.name run (let k = raw_length n h in omega arith))
@@ -137,7 +137,7 @@ module _ (s : Syntax) (i : Content) (run : Chars) (tag : TagSoFar) (text : Chars
       let grows : length (run ++ c ∷ []) ≡ length run + 1 = length-append run (c ∷ []) in
       ap (λ x. is_known_tag s i (x ++ c ∷ [])) h.are ∙ (raw_known n h (run ++ c ∷ []) ∙ short_end h.name (run ++ c ∷ []) (omega arith))
 
-  pub known_with : (m : Mark) (c : ℕ) → PendsAs s i m run tag text → is_known_tag s i (text ++ c ∷ []) ≡ is_tag_with s i m c
+  pub known_with : (m : TokenState) (c : ℕ) → PendsAs s i m run tag text → is_known_tag s i (text ++ c ∷ []) ≡ is_tag_with s i m c
   known_with mark.Nothing c h = ap (λ x. is_known_tag s i (x ++ c ∷ [])) h ∙ first_no_tag s i c
   known_with mark.LessThan c h = ap (λ x. is_known_tag s i (x ++ c ∷ [])) h.are ∙ cond-true _ _ _ h.markup
   known_with (mark.RawEnd n) c h =

@@ -10,9 +10,9 @@ use Rattle.rx_tags.specs.TagBufs.{TagSoFar, no_tag}
 use Rattle.rx_grammar.specs.declared.contents.Content.{Content}
 use Rattle.rx_grammar.specs.Items.{values}
 use Rattle.rx_pages.specs.PageReader.{Scanning, scan_from, read_byte}
-use Rattle.rx_scan.specs.declared.answers.What.{What}
-use Rattle.rx_scan.specs.declared.marks.Mark.{Mark}
-use Rattle.rx_scan.specs.declared.marks.Mark.TheVariants as mark
+use Rattle.rx_scan.specs.declared.answers.TokenKind.{TokenKind}
+use Rattle.rx_scan.specs.declared.marks.TokenState.{TokenState}
+use Rattle.rx_scan.specs.declared.marks.TokenState.TheVariants as mark
 use Rattle.rx_scan.specs.Pending.{PendsAs}
 use Rattle.rx_scan.specs.declared.places.Position.{Position}
 use Rattle.rx_scan.specs.declared.places.Setting.{Setting}
@@ -23,7 +23,7 @@ use Rattle.rx_scan.specs.Steps.{ReadsAs, ScanStands, Prepared, Took, Faults, Run
 pub stands_inside : (inside : Content) (drops : Bool) (v : Scanner) (s : Scanning) → v.reading.pending.mark ≡ mark.Nothing → ScanStands v s → ScanStands (inside_of inside drops v) s
 stands_inside inside drops v s n h =
     let r = h.reads_as in
-    let none = subst (λ (m : Mark). PendsAs v.reading.setting.syntax v.reading.setting.inside m v.reading.pending.run v.reading.pending.tag (values s.run)) n r.pends in
+    let none = subst (λ (m : TokenState). PendsAs v.reading.setting.syntax v.reading.setting.inside m v.reading.pending.run v.reading.pending.tag (values s.run)) n r.pends in
     record {
       reads_as = record {
         at = r.at;
@@ -35,7 +35,7 @@ stands_inside inside drops v s n h =
         last = r.last;
         token = r.token;
         syntax = r.syntax;
-        pends = subst (λ (m : Mark). PendsAs v.reading.setting.syntax inside m v.reading.pending.run v.reading.pending.tag (values s.run)) (sym n) none;
+        pends = subst (λ (m : TokenState). PendsAs v.reading.setting.syntax inside m v.reading.pending.run v.reading.pending.tag (values s.run)) (sym n) none;
       };
       unfailed = h.unfailed;
       unspent = h.unspent;
@@ -59,7 +59,7 @@ prepared_reads old new s p h =
       syntax = by_syntax (is_tag old.what) refl;
       pends = subst (λ (x : Syntax). PendsAs x new.reading.setting.inside new.reading.pending.mark new.reading.pending.run new.reading.pending.tag (values s.run)) (sym sy)
           (subst (λ (x : Content). PendsAs old.reading.setting.syntax x new.reading.pending.mark new.reading.pending.run new.reading.pending.tag (values s.run)) (sym ins)
-          (subst (λ (x : Mark). PendsAs old.reading.setting.syntax old.reading.setting.inside x new.reading.pending.run new.reading.pending.tag (values s.run)) (sym p.mark_is)
+          (subst (λ (x : TokenState). PendsAs old.reading.setting.syntax old.reading.setting.inside x new.reading.pending.run new.reading.pending.tag (values s.run)) (sym p.mark_is)
           (subst (λ (x : Chars). PendsAs old.reading.setting.syntax old.reading.setting.inside old.reading.pending.mark x new.reading.pending.tag (values s.run)) (sym p.run)
           (by_tag (is_tag old.what) refl))));
     }
@@ -70,15 +70,15 @@ prepared_reads old new s p h =
 
     by_tag : (b : Bool) → is_tag old.what ≡ b → PendsAs old.reading.setting.syntax old.reading.setting.inside old.reading.pending.mark old.reading.pending.run new.reading.pending.tag (values s.run)
     by_tag true e =
-        let none = subst (λ (m : Mark). PendsAs old.reading.setting.syntax old.reading.setting.inside m old.reading.pending.run old.reading.pending.tag (values s.run)) (p.between e) h.reads_as.pends in
-        subst (λ (m : Mark). PendsAs old.reading.setting.syntax old.reading.setting.inside m old.reading.pending.run new.reading.pending.tag (values s.run)) (sym (p.between e)) none
+        let none = subst (λ (m : TokenState). PendsAs old.reading.setting.syntax old.reading.setting.inside m old.reading.pending.run old.reading.pending.tag (values s.run)) (p.between e) h.reads_as.pends in
+        subst (λ (m : TokenState). PendsAs old.reading.setting.syntax old.reading.setting.inside m old.reading.pending.run new.reading.pending.tag (values s.run)) (sym (p.between e)) none
     by_tag false e =
         subst (λ (x : TagSoFar). PendsAs old.reading.setting.syntax old.reading.setting.inside old.reading.pending.mark old.reading.pending.run x (values s.run)) (sym (p.tag ∙ ap (λ b. if b then no_tag old.reading.pending.tag.syntax else old.reading.pending.tag) e)) h.reads_as.pends
 
 spot_same : (a b : Reading) → a.setting ≡ b.setting → spot_of a ≡ spot_of b
 spot_same a b e = λ i. record { inside = (e i).inside; leads = (e i).leads }
 
-pub took_same : (a b : Reading) (s : Scanning) (piece : List ℕ) (n : ℕ) (answer : What) (new : Reading) → a.setting ≡ b.setting → Took a s piece n answer new → Took b s piece n answer new
+pub took_same : (a b : Reading) (s : Scanning) (piece : List ℕ) (n : ℕ) (answer : TokenKind) (new : Reading) → a.setting ≡ b.setting → Took a s piece n answer new → Took b s piece n answer new
 took_same a b s piece n answer new e t =
     record {
       fits = t.fits;

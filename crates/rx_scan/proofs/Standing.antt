@@ -10,8 +10,8 @@ use Rattle.rx_grammar.specs.Tokens.{Token, tag, character, reference, kept, sect
 use Rattle.rx_grammar.specs.Items.{Item, values, last_from, is_strict_literal}
 use Rattle.rx_pages.specs.PageReader.{Scanning, first_of, starts_at, entering, item_of}
 use Rattle.rx_tags.specs.TagBufs.{TagSoFar}
-use Rattle.rx_scan.specs.declared.marks.Mark.{Mark}
-use Rattle.rx_scan.specs.declared.marks.Mark.TheVariants as mark
+use Rattle.rx_scan.specs.declared.marks.TokenState.{TokenState}
+use Rattle.rx_scan.specs.declared.marks.TokenState.TheVariants as mark
 use Rattle.rx_scan.specs.declared.places.Position.{Position}
 use Rattle.rx_scan.specs.declared.places.Setting.{Setting}
 use Rattle.rx_scan.specs.Buffers.{Buffered}
@@ -22,7 +22,7 @@ use Rattle.rx_scan.specs.Entries.{token_from, with_parts}
 use Rattle.rx_scan.specs.Steps.{ReadsAs}
 
 -- characters are pending, so the mark isn't `Nothing`
-pub some_mark : (s : Syntax) (i : Content) (m : Mark) (run : Chars) (t : TagSoFar) (text : Chars) (x : ℕ) (more : Chars) (place : Position) → PendsAs s i m run t text → text ≡ x ∷ more → token_from m place ≡ place.token
+pub some_mark : (s : Syntax) (i : Content) (m : TokenState) (run : Chars) (t : TagSoFar) (text : Chars) (x : ℕ) (more : Chars) (place : Position) → PendsAs s i m run t text → text ≡ x ∷ more → token_from m place ≡ place.token
 some_mark s i mark.Nothing run t text x more place h e = absurd (let k = sym h ∙ e in cc)
 some_mark s i mark.LessThan run t text x more place h e = refl
 some_mark s i (mark.RawEnd n) run t text x more place h e = refl
@@ -106,9 +106,9 @@ module _ (v : Reading) (s : Scanning) (h : ReadsAs v s) (after_return : Bool) wh
         after_return = ap (λ (q : Position). q.after_return) pl;
         two = ap (λ (q : Position). q.two) pl;
         last = ap (λ (q : Position). q.last) pl;
-        token = ap (λ (z : Mark). token_from z place) m ∙ (ap (λ (q : Position). q.starts) pl ∙ (ap (λ a. a + 1) h.at ∙ sym (starts_next s.at)));
+        token = ap (λ (z : TokenState). token_from z place) m ∙ (ap (λ (q : Position). q.starts) pl ∙ (ap (λ a. a + 1) h.at ∙ sym (starts_next s.at)));
         syntax = y ∙ sym sy;
-        pends = subst (λ (z : Mark). PendsAs setting.syntax setting.inside z p.run p.tag []) (sym m) refl;
+        pends = subst (λ (z : TokenState). PendsAs setting.syntax setting.inside z p.run p.tag []) (sym m) refl;
       }
 
 -- the item of a run and its last entry

@@ -15,9 +15,9 @@ use Rattle.rx_pages.specs.PageReader as reader
 use Rattle.rx_grammar.specs.declared.stops.Stop.{Stop}
 use Rattle.rx_grammar.specs.declared.stops.Stop.TheVariants as stop
 use Rattle.rx_tags.specs.TagBufs.{no_tag}
-use Rattle.rx_scan.specs.declared.answers.What.{What}
-use Rattle.rx_scan.specs.declared.answers.What.TheVariants as what
-use Rattle.rx_scan.specs.declared.marks.Mark.TheVariants as mark
+use Rattle.rx_scan.specs.declared.answers.TokenKind.{TokenKind}
+use Rattle.rx_scan.specs.declared.answers.TokenKind.TheVariants as what
+use Rattle.rx_scan.specs.declared.marks.TokenState.TheVariants as mark
 use Rattle.rx_scan.specs.declared.marks.First.{First}
 use Rattle.rx_scan.specs.declared.marks.First.TheVariants as first
 use Rattle.rx_scan.specs.Marks as marks
@@ -71,7 +71,7 @@ module _ (v : Reading) (s : reader.Scanning) (h : ReadsAs v s) (ar : Bool) (c : 
   abbrev afresh : verdicts.Verdict → Result reader.Scanned Kind
   afresh w = reader.told_first sy lim spot ar entry (reader.after_token sy lim spot s) w
 
-  pub gives_stops : (result : Result What Stop) (new : Reading) → meant.Stops sy inside v.pending text c → entries.Stops v c ar (marks.at_first inside c) result new → Gives (read verdict) s v result new
+  pub gives_stops : (result : Result TokenKind Stop) (new : Reading) → meant.Stops sy inside v.pending text c → entries.Stops v c ar (marks.at_first inside c) result new → Gives (read verdict) s v result new
   gives_stops result new m k = by (marks.at_first inside c) refl (simulates sy inside none [] c refl) k
     where
       none : Pending
@@ -86,14 +86,14 @@ module _ (v : Reading) (s : reader.Scanning) (h : ReadsAs v s) (ar : Bool) (c : 
       first_kept : (more : List Item) → keeps_first v.setting.drops (run_item (kept (first_char v.pending.mark ∷ v.pending.run)) ∷ more) ≡ true
       first_kept more = ap (λ t. not (v.setting.drops && is_line_feed t)) (run_item_is (kept (first_char v.pending.mark ∷ v.pending.run)) (first_char v.pending.mark) v.pending.run m.some).0 ∙ ap not (and_false v.setting.drops)
 
-      spent : {P : What → Type 0} (result : Result What Stop) → entries.OrSpent result P → ((answer : What) → (P answer) → Gives (read verdict) s v (Ok answer) new) → Gives (read verdict) s v result new
-      spent (Ok answer) k f = f answer k
-      spent (Err (stop.Fault fault)) k f = absurd k
-      spent (Err stop.NoMemory) k f = tt
+      out_of_memory : {P : TokenKind → Type 0} (result : Result TokenKind Stop) → entries.OrSpent result P → ((answer : TokenKind) → (P answer) → Gives (read verdict) s v (Ok answer) new) → Gives (read verdict) s v result new
+      out_of_memory (Ok answer) k f = f answer k
+      out_of_memory (Err (stop.Fault fault)) k f = absurd k
+      out_of_memory (Err stop.NoMemory) k f = tt
 
       by : (f : First) → marks.at_first inside c ≡ f → meant.Means sy inside none [] c (marks.of_first f) → entries.Stops v c ar f result new → Gives (read verdict) s v result new
-      by (first.Begins n) e g k = spent result k (λ answer (e, k).
-          subst (λ (a : What). Gives (read verdict) s v (Ok a) new) (sym e)
+      by (first.Begins n) e g k = out_of_memory result k (λ answer (e, k).
+          subst (λ (a : TokenKind). Gives (read verdict) s v (Ok a) new) (sym e)
           (gives_at (read verdict) s v (Ok what.Nothing) (entries.with_parts v (entries.undropped v.setting) (begun ar (cut v.place)) (record { mark = n; run = []; tag = no_tag v.pending.tag.syntax }) new.text) new k.is
           (record {
             scanned = record { next = reader.entering ar (entry ∷ []) false false s; items = run_item (kept run_text) ∷ [] };
@@ -110,8 +110,8 @@ module _ (v : Reading) (s : reader.Scanning) (h : ReadsAs v s) (ar : Bool) (c : 
             };
             setting = refl;
           })))
-      by first.Says e g k = spent result k (λ answer (e, k).
-          subst (λ (a : What). Gives (read verdict) s v (Ok a) new) (sym e)
+      by first.EmitText e g k = out_of_memory result k (λ answer (e, k).
+          subst (λ (a : TokenKind). Gives (read verdict) s v (Ok a) new) (sym e)
           (gives_at (read verdict) s v (Ok what.Nothing) (entries.with_parts v (entries.undropped v.setting) (ended ar (entries.is_bracket v.setting c) (cut v.place)) (entries.marked mark.Nothing v.pending) new.text) new k.is
           (record {
             scanned = record { next = reader.entering ar [] false (is_strict_literal right_bracket inside (character c)) s; items = run_item (kept run_text) ∷ reader.item_of inside (character c) (entry ∷ []) ∷ [] };

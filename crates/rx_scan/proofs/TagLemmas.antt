@@ -21,9 +21,9 @@ use Rattle.rx_grammar.specs.References.{meaning}
 use Rattle.rx_reader.specs.Tables.{is_last}
 use Rattle.rx_reader.specs.TagReader.{TagState, fresh, tag_on, tag_step, tag_of, parts_of, is_closing}
 use Rattle.rx_reader.proofs.TagLaws.{tag_on-append}
-use Rattle.rx_scan.specs.declared.answers.What.{What}
-use Rattle.rx_scan.specs.declared.answers.What.TheVariants as what
-use Rattle.rx_scan.specs.declared.marks.Mark.TheVariants as mark
+use Rattle.rx_scan.specs.declared.answers.TokenKind.{TokenKind}
+use Rattle.rx_scan.specs.declared.answers.TokenKind.TheVariants as what
+use Rattle.rx_scan.specs.declared.marks.TokenState.TheVariants as mark
 use Rattle.rx_scan.specs.Places.{ended}
 use Rattle.rx_scan.specs.Scanner.{Reading}
 use Rattle.rx_scan.specs.Entries as entries
@@ -76,7 +76,7 @@ module _ (v : Reading) (s : reader.Scanning) (h : ReadsAs v s) (ar : Bool) (c : 
   token_is : (x : ℕ) (more : Chars) → text ≡ x ∷ more → reader.first_of s.run entry.first ≡ v.place.token
   token_is x more e = sym h.token ∙ some_mark sy inside v.pending.mark v.pending.run v.pending.tag text x more v.place h.pends e
 
-  pub gives_tags : (result : Result What Stop) (new : Reading) → meant.Tags sy inside v.pending text c → entries.Tags v c ar (entries.marked mark.Tag v.pending) result new → Gives (read verdict) s v result new
+  pub gives_tags : (result : Result TokenKind Stop) (new : Reading) → meant.Tags sy inside v.pending text c → entries.Tags v c ar (entries.marked mark.Tag v.pending) result new → Gives (read verdict) s v result new
   gives_tags (Ok what.Nothing) new m k =
       let t = k.0 in
       let step = step_in v.pending.tag.state (Ok t.state) k.1.0.0 in
@@ -129,7 +129,7 @@ module _ (v : Reading) (s : reader.Scanning) (h : ReadsAs v s) (ar : Bool) (c : 
   gives_tags (Err stop.NoMemory) new m k = tt
 
   -- in raw text what begins the end tag's name goes on
-  pub gives_keeps_tag : (n : ℕ) (result : Result What Stop) (new : Reading) → meant.KeepsTag sy inside v.pending text c n → entries.Tags v c ar (entries.kept_by (mark.RawEnd n) c v.pending) result new → Gives (read verdict) s v result new
+  pub gives_keeps_tag : (n : ℕ) (result : Result TokenKind Stop) (new : Reading) → meant.KeepsTag sy inside v.pending text c n → entries.Tags v c ar (entries.kept_by (mark.RawEnd n) c v.pending) result new → Gives (read verdict) s v result new
   gives_keeps_tag n (Ok what.Nothing) new m k =
       let t = k.0 in
       let e : t.state ≡ m.state = same_state t.state m.state (sym (step_in v.pending.tag.state (Ok t.state) k.1.0.0) ∙ m.step) in

@@ -12,7 +12,7 @@ use Rattle.rx_grammar.specs.Tokens.{Token}
 use Rattle.rx_grammar.specs.Items.{Item, values, is_literal, is_strict_literal}
 use Rattle.rx_pages.specs.Scanner as verdicts
 use Rattle.rx_pages.specs.PageReader as reader
-use Rattle.rx_scan.specs.declared.marks.Mark.TheVariants as mark
+use Rattle.rx_scan.specs.declared.marks.TokenState.TheVariants as mark
 use Rattle.rx_scan.specs.declared.places.Setting.{Setting}
 use Rattle.rx_scan.specs.Places.{ended}
 use Rattle.rx_scan.specs.Pending.{Pending}

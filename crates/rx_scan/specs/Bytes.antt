@@ -2,14 +2,14 @@
 use Rattle.std.specs.Prelude.{◌≡◌, ℕ, true, false, ◌==◌}
 use Rattle.rx_chars.specs.Characters.{byte_order_mark, carriage_return}
 use Rattle.rx_terms.specs.Ascii.{line_feed}
-use Rattle.rx_scan.specs.declared.marks.Mark.{Mark}
+use Rattle.rx_scan.specs.declared.marks.TokenState.{TokenState}
 use Rattle.rx_scan.specs.declared.marks.Move.TheVariants as move
 use Rattle.rx_scan.specs.KnownTags.{is_tag_with}
 use Rattle.rx_scan.specs.Marks.{move_of}
 use Rattle.rx_scan.specs.declared.places.Setting.{Setting}
 
 -- Behind the mark the character goes on with a tag. It is no NUL, no byte order mark and ends no line.
-pub record IsOfTag (setting : Setting) (mark : Mark) (c : ℕ) : Type 0 where
+pub record IsOfTag (setting : Setting) (mark : TokenState) (c : ℕ) : Type 0 where
   pub moves : move_of setting.syntax setting.inside mark c ≡ move.Tags
   pub known : is_tag_with setting.syntax setting.inside mark c ≡ true
   pub some : (c == 0) ≡ false

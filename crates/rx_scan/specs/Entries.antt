@@ -20,11 +20,11 @@ use Rattle.rx_grammar.specs.declared.stops.Stop.TheVariants as stop
 use Rattle.rx_tags.specs.declared.tag_text.TagStep.TheVariants as tag_step
 use Rattle.rx_tags.specs.declared.pairs.TagError.TheVariants as tag_error
 use Rattle.rx_tags.specs.TagBufs.{TagSoFar, no_tag, MayStep, StepGives}
-use Rattle.rx_scan.specs.declared.answers.What.{What}
-use Rattle.rx_scan.specs.declared.answers.What.TheVariants as what
+use Rattle.rx_scan.specs.declared.answers.TokenKind.{TokenKind}
+use Rattle.rx_scan.specs.declared.answers.TokenKind.TheVariants as what
 use Rattle.rx_scan.specs.declared.marks.Brackets.TheVariants as brackets
-use Rattle.rx_scan.specs.declared.marks.Mark.{Mark}
-use Rattle.rx_scan.specs.declared.marks.Mark.TheVariants as mark
+use Rattle.rx_scan.specs.declared.marks.TokenState.{TokenState}
+use Rattle.rx_scan.specs.declared.marks.TokenState.TheVariants as mark
 use Rattle.rx_scan.specs.declared.marks.Whole.{Whole}
 use Rattle.rx_scan.specs.declared.marks.Whole.TheVariants as whole
 use Rattle.rx_scan.specs.declared.marks.First.{First}
@@ -41,7 +41,7 @@ use Rattle.rx_scan.specs.Places.{holding, entered, begun, ended, cut}
 use Rattle.rx_scan.specs.Scanner.{Reading}
 
 -- where the token begins that the next character belongs to
-abbrev pub token_from : Mark → Position → ℕ
+abbrev pub token_from : TokenState → Position → ℕ
 token_from mark.Nothing p = p.starts
 token_from _ p = p.token
 
@@ -50,7 +50,7 @@ fault_at v kind = record { kind = kind; token = token_from v.pending.mark v.plac
 
 -- what stands before the token may refuse it
 abbrev pub judged : Setting → Bool → ℕ → Move → Move
-judged setting two c move.Says = if two && is_strict_literal greater_than_sign setting.inside (character c) then move.Refuses StrictText else move.Says
+judged setting two c move.EmitText = if two && is_strict_literal greater_than_sign setting.inside (character c) then move.Refuses StrictText else move.EmitText
 judged setting two c (move.Ends whole.Doctype) = if setting.leads then move.Ends whole.Doctype else move.Refuses BadDoctype
 judged setting two c other = other
 
@@ -75,10 +75,10 @@ abbrev pub with_parts : Reading → Setting → Position → Pending → Buffere
 with_parts v setting place pending text =
     record { setting = setting; place = place; held = []; pending = pending; text = text; end = v.end }
 
-abbrev pub marked : Mark → Pending → Pending
+abbrev pub marked : TokenState → Pending → Pending
 marked m p = record { mark = m; run = p.run; tag = p.tag }
 
-abbrev pub kept_by : Mark → ℕ → Pending → Pending
+abbrev pub kept_by : TokenState → ℕ → Pending → Pending
 kept_by m c p = record { mark = m; run = p.run ++ c ∷ []; tag = p.tag }
 
 -- the token goes on
@@ -86,7 +86,7 @@ abbrev pub gone : Reading → Bool → Pending → Reading
 gone v after_return pending = with_parts v v.setting (entered after_return v.place) pending v.text
 
 -- a token begins
-abbrev pub with_begun : Reading → Bool → Mark → Reading
+abbrev pub with_begun : Reading → Bool → TokenState → Reading
 with_begun v after_return m = with_parts v v.setting (begun after_return v.place) (record { mark = m; run = []; tag = no_tag v.pending.tag.syntax }) v.text
 
 -- a token is whole of which no text is told
@@ -128,7 +128,7 @@ OrSpent (Err (stop.Fault f)) P = ⊥
 OrSpent (Err stop.NoMemory) P = Unit {0}
 
 -- one character of text, by itself or by a reference
-abbrev pub Says : Reading → ℕ → Position → Result What Stop → Reading → Type 0
+abbrev pub Says : Reading → ℕ → Position → Result TokenKind Stop → Reading → Type 0
 Says old c place (Ok what.Nothing) new = (is_dropped old.setting c ≡ false) × TellsOne old place new c
 Says old c place (Ok what.Skipped) new =
     (is_dropped old.setting c ≡ true) × (new ≡ with_parts old (undropped old.setting) place (marked mark.Nothing old.pending) old.text)
@@ -136,7 +136,7 @@ Says old c place (Ok _) new = ⊥
 Says old c place (Err (stop.Fault f)) new = ⊥
 Says old c place (Err stop.NoMemory) new = Unit {0}
 
-abbrev pub Tags : Reading → ℕ → Bool → Pending → Result What Stop → Reading → Type 0
+abbrev pub Tags : Reading → ℕ → Bool → Pending → Result TokenKind Stop → Reading → Type 0
 Tags old c after_return pending (Ok what.Nothing) new =
     (tag : TagSoFar) × StepGives old.pending.tag c (Ok tag_step.More) tag × (new ≡ gone old after_return (record { mark = pending.mark; run = pending.run; tag = tag }))
 Tags old c after_return pending (Ok what.Tag) new =
@@ -148,7 +148,7 @@ Tags old c after_return pending (Err (stop.Fault f)) new =
 Tags old c after_return pending (Err stop.NoMemory) new = Unit {0}
 
 -- the run was text, and the character is read afresh
-abbrev pub Stops : Reading → ℕ → Bool → First → Result What Stop → Reading → Type 0
+abbrev pub Stops : Reading → ℕ → Bool → First → Result TokenKind Stop → Reading → Type 0
 Stops old c after_return (first.Begins m) result new =
     OrSpent result (λ answer. (answer ≡ what.Nothing)
     × Tells old (begun after_return (cut old.place)) (record {
@@ -157,7 +157,7 @@ Stops old c after_return (first.Begins m) result new =
       run = [];
       tag = no_tag old.pending.tag.syntax;
     }) new (first_char old.pending.mark ∷ old.pending.run))
-Stops old c after_return first.Says result new =
+Stops old c after_return first.EmitText result new =
     OrSpent result (λ answer. (answer ≡ what.Nothing)
     × Tells old (ended after_return (is_bracket old.setting c) (cut old.place)) (marked mark.Nothing old.pending) new ((first_char old.pending.mark ∷ old.pending.run) ++ c ∷ []))
 Stops old c after_return (first.Refuses kind) result new = result ≡ Err (stop.Fault (fault_at old kind))
@@ -167,17 +167,17 @@ pub record TellsRun (old new : Reading) : Type 0 where
   pub text : TextGrows old.text new.text (first_char old.pending.mark ∷ old.pending.run)
   pub is : new ≡ record { setting = undropped old.setting; place = cut old.place; held = old.held; pending = old.pending; text = new.text; end = old.end }
 
-abbrev pub Closes : Reading → Bool → Option ℕ → Result What Stop → Reading → Type 0
+abbrev pub Closes : Reading → Bool → Option ℕ → Result TokenKind Stop → Reading → Type 0
 Closes old after_return (Some d) result new = Says old d (ended after_return false old.place) result new
 Closes old after_return None result new = result ≡ Err (stop.Fault (fault_at old (no_meaning (phase_of old.pending.mark))))
 
-abbrev pub Ends : Reading → Bool → Whole → Result What Stop → Reading → Type 0
+abbrev pub Ends : Reading → Bool → Whole → Result TokenKind Stop → Reading → Type 0
 Ends old after_return whole.Comment result new = (result ≡ Ok what.Skipped) × (new ≡ with_ended old after_return (undropped old.setting))
 Ends old after_return whole.Doctype result new = (result ≡ Ok what.Doctype) × (new ≡ with_ended old after_return (after_doctype old.setting))
 Ends old after_return whole.Section result new =
     (result ≡ Ok (if is_empty old.pending.run then what.Skipped else what.Section)) × (new ≡ with_ended old after_return (undropped old.setting))
 
-abbrev pub Went : Reading → Reading → Result What Stop → Reading → Type 0
+abbrev pub Went : Reading → Reading → Result TokenKind Stop → Reading → Type 0
 Went old next result new = OrSpent result (λ answer. (answer ≡ what.Nothing) × (new ≡ next))
 
 -- where a fault was answered
@@ -195,26 +195,26 @@ IsNoMemory (Err stop.NoMemory) = true
 IsNoMemory _ = false
 
 -- Between tokens a fault changes nothing, and text that has room takes no memory.
-pub record Between (old : Reading) (result : Result What Stop) (new : Reading) : Type 0 where
+pub record Between (old : Reading) (result : Result TokenKind Stop) (new : Reading) : Type 0 where
   pub unchanged : IfFault result (new ≡ old)
   pub unspent : old.text.size + 4 ≤ old.text.room → IsNoMemory result ≡ false
 
 -- A tag is lent that is whole, or is read on; the text keeps its room; and a fault lies behind the bytes that were taken.
-abbrev pub MayGoOn : Result What Stop → Reading → Type 0
+abbrev pub MayGoOn : Result TokenKind Stop → Reading → Type 0
 MayGoOn (Ok what.Tag) new = (is_last new.pending.tag.state.phase ≡ true) × (new.pending.mark ≡ mark.Nothing)
 MayGoOn (Ok _) new = MayStep new.pending.tag
 MayGoOn (Err e) new = Unit {0}
 
-pub record IsReady (old : Reading) (result : Result What Stop) (new : Reading) : Type 0 where
+pub record IsReady (old : Reading) (result : Result TokenKind Stop) (new : Reading) : Type 0 where
   pub may_go_on : MayGoOn result new
   pub room : old.text.room ≤ new.text.room
   pub text : IfFault result (new.text.text ≡ old.text.text)
   pub place : LiesAt result new.place.at
 
 -- what one character does, by its move
-abbrev pub Enters : Reading → ℕ → Bool → Move → Result What Stop → Reading → Type 0
+abbrev pub Enters : Reading → ℕ → Bool → Move → Result TokenKind Stop → Reading → Type 0
 Enters old c after_return (move.Begins m) result new = (result ≡ Ok what.Nothing) × (new ≡ with_begun old after_return m)
-Enters old c after_return (move.Goes m) result new = (result ≡ Ok what.Nothing) × (new ≡ gone old after_return (marked m old.pending))
+Enters old c after_return (move.Continue m) result new = (result ≡ Ok what.Nothing) × (new ≡ gone old after_return (marked m old.pending))
 Enters old c after_return (move.Keeps m) result new = Went old (gone old after_return (kept_by m c old.pending)) result new
 Enters old c after_return (move.KeepsAfter b) result new =
     Went old (gone old after_return (record {
@@ -225,10 +225,10 @@ Enters old c after_return (move.KeepsAfter b) result new =
     })) result new
 Enters old c after_return move.Tags result new = Tags old c after_return (marked mark.Tag old.pending) result new
 Enters old c after_return (move.KeepsTag n) result new = Tags old c after_return (kept_by (mark.RawEnd n) c old.pending) result new
-Enters old c after_return move.Says result new = Says old c (ended after_return (is_bracket old.setting c) old.place) result new
+Enters old c after_return move.EmitText result new = Says old c (ended after_return (is_bracket old.setting c) old.place) result new
 Enters old c after_return (move.Ends w) result new = Ends old after_return w result new
 Enters old c after_return move.Closes result new = Closes old after_return (meaning old.setting.syntax (encode_utf8_all old.pending.run)) result new
-Enters old c after_return move.Stops result new = Stops old c after_return (at_first old.setting.inside c) result new
+Enters old c after_return move.Reconsume result new = Stops old c after_return (at_first old.setting.inside c) result new
 Enters old c after_return (move.Refuses kind) result new = result ≡ Err (stop.Fault (fault_at old kind))
 
 -- a byte order mark that stands first, and a line feed directly after a CR, aren't entered
@@ -242,11 +242,11 @@ is_long v known = known && nat_le (token_from v.pending.mark v.place + v.setting
 abbrev pub with_passed : Reading → Reading
 with_passed v = with_parts v v.setting (entered false v.place) v.pending v.text
 
-abbrev pub is_mark : ℕ → What
+abbrev pub is_mark : ℕ → TokenKind
 is_mark c = if c == byte_order_mark then what.Skipped else what.Nothing
 
 -- what a whole character does
-abbrev pub ReadsChar : Reading → ℕ → Result What Stop → Reading → Type 0
+abbrev pub ReadsChar : Reading → ℕ → Result TokenKind Stop → Reading → Type 0
 ReadsChar old c result new =
     MatchBool (is_passed old.place c) ((result ≡ Ok (is_mark c)) × (new ≡ with_passed old))
     (MatchBool (is_long old (is_tag_with old.setting.syntax old.setting.inside old.pending.mark (as_line_end c))) (result ≡ Err (stop.Fault (fault_at old TagTooLong)))
@@ -256,7 +256,7 @@ abbrev pub with_held : Reading → List ℕ → Reading
 with_held v held =
     record { setting = v.setting; place = holding v.place; held = held; pending = v.pending; text = v.text; end = v.end }
 
-abbrev pub ReadsAnswer : Reading → List ℕ → Utf8Step → Result What Stop → Reading → Type 0
+abbrev pub ReadsAnswer : Reading → List ℕ → Utf8Step → Result TokenKind Stop → Reading → Type 0
 ReadsAnswer old held Bad result new = result ≡ Err (stop.Fault (fault_at old NotUtf8))
 ReadsAnswer old held More result new =
     MatchBool (is_long old (is_tag old.pending.mark)) (result ≡ Err (stop.Fault (fault_at old TagTooLong))) ((result ≡ Ok what.Nothing) × (new ≡ with_held old held))
@@ -265,7 +265,7 @@ ReadsAnswer old held (Char c) result new =
     (MatchBool (is_long old (is_tag old.pending.mark)) (result ≡ Err (stop.Fault (fault_at old TagTooLong))) (ReadsChar old c result new))
 
 -- what a byte does
-abbrev pub Reads : Reading → ℕ → Result What Stop → Reading → Type 0
+abbrev pub Reads : Reading → ℕ → Result TokenKind Stop → Reading → Type 0
 Reads old byte result new =
     MatchBool (nat_le old.setting.limits.page old.place.at) (result ≡ Err (stop.Fault (fault_at old PageTooLong)))
     (ReadsAnswer old (old.held ++ byte ∷ []) (answer_of (old.held ++ byte ∷ [])) result new)

@@ -4,11 +4,11 @@ use Rattle.rx_terms.specs.Ascii.{solidus}
 use Rattle.rx_chars.specs.declared.syntax.Syntax.{Syntax}
 use Rattle.rx_grammar.specs.declared.contents.Content.{Content}
 use Rattle.rx_grammar.specs.Shapes.{begins_tag, ends_name}
-use Rattle.rx_scan.specs.declared.marks.Mark.{Mark}
-use Rattle.rx_scan.specs.declared.marks.Mark.TheVariants as mark
+use Rattle.rx_scan.specs.declared.marks.TokenState.{TokenState}
+use Rattle.rx_scan.specs.declared.marks.TokenState.TheVariants as mark
 use Rattle.rx_scan.specs.Marks.{end_word}
 
-abbrev pub is_tag : Mark → Bool
+abbrev pub is_tag : TokenState → Bool
 is_tag mark.Tag = true
 is_tag _ = false
 
@@ -18,7 +18,7 @@ ends_word (Some d) c = false
 ends_word None c = ends_name c
 
 -- the same with the next character
-abbrev pub is_tag_with : Syntax → Content → Mark → ℕ → Bool
+abbrev pub is_tag_with : Syntax → Content → TokenState → ℕ → Bool
 is_tag_with syntax inside mark.LessThan c = c == solidus || begins_tag syntax c
 is_tag_with syntax inside (mark.RawEnd n) c = ends_word (slice_get (end_word inside) n) c
 is_tag_with syntax inside mark.Tag c = true

@@ -25,8 +25,8 @@ use Rattle.rx_scan.specs.declared.marks.DoctypePhase.{DoctypePhase}
 use Rattle.rx_scan.specs.declared.marks.DoctypePhase.TheVariants as doctype
 use Rattle.rx_scan.specs.declared.marks.Brackets.{Brackets}
 use Rattle.rx_scan.specs.declared.marks.Brackets.TheVariants as brackets
-use Rattle.rx_scan.specs.declared.marks.Mark.{Mark}
-use Rattle.rx_scan.specs.declared.marks.Mark.TheVariants as mark
+use Rattle.rx_scan.specs.declared.marks.TokenState.{TokenState}
+use Rattle.rx_scan.specs.declared.marks.TokenState.TheVariants as mark
 use Rattle.rx_scan.specs.declared.marks.Whole.TheVariants as whole
 use Rattle.rx_scan.specs.declared.marks.First.{First}
 use Rattle.rx_scan.specs.declared.marks.First.TheVariants as first
@@ -40,7 +40,7 @@ end_word (content.Rcdata name) = solidus ∷ name_of_raw name
 end_word _ = []
 
 -- `<` begins markup, or in raw text the element's end tag
-abbrev pub less_than_mark : Content → Mark
+abbrev pub less_than_mark : Content → TokenState
 less_than_mark (content.Raw name) = mark.RawEnd 0
 less_than_mark (content.Rcdata name) = mark.RawEnd 0
 less_than_mark _ = mark.LessThan
@@ -48,38 +48,38 @@ less_than_mark _ = mark.LessThan
 abbrev pub at_first : Content → ℕ → First
 at_first inside c =
     if c == less_than_sign then first.Begins (less_than_mark inside) else if c == ampersand && has_references inside then first.Begins (mark.Run run.Ampersand)
-    else if is_text inside c then first.Says else first.Refuses Outside
+    else if is_text inside c then first.EmitText else first.Refuses Outside
 
 abbrev pub of_first : First → Move
 of_first (first.Begins m) = move.Begins m
-of_first first.Says = move.Says
+of_first first.EmitText = move.EmitText
 of_first (first.Refuses kind) = move.Refuses kind
 
-abbrev pub question : Syntax → Mark
+abbrev pub question : Syntax → TokenState
 question Html = mark.Bogus
 question Xhtml = mark.Instruction false
 
 abbrev pub less_than_stops : Content → Move
-less_than_stops inside = if has_less_than inside then move.Stops else move.Refuses Outside
+less_than_stops inside = if has_less_than inside then move.Reconsume else move.Refuses Outside
 
 abbrev pub at_less_than : Syntax → Content → ℕ → Move
 at_less_than syntax inside c =
-    if c == exclamation_mark then move.Goes mark.Opened else if c == question_mark then move.Goes (question syntax)
+    if c == exclamation_mark then move.Continue mark.Opened else if c == question_mark then move.Continue (question syntax)
     else if is_html syntax && not (begins_markup c) then less_than_stops inside else move.Tags
 
 -- the next character of the end tag, or none where its name is whole
 abbrev pub in_end : Option ℕ → ℕ → ℕ → Move
-in_end (Some d) n c = if lowered_char c == d then move.KeepsTag (n + 1) else move.Stops
-in_end None n c = if ends_name c then move.Tags else move.Stops
+in_end (Some d) n c = if lowered_char c == d then move.KeepsTag (n + 1) else move.Reconsume
+in_end None n c = if ends_name c then move.Tags else move.Reconsume
 
 abbrev pub in_run : Content → RunMove → Move
 in_run inside (run_moves.Goes p) = move.Keeps (mark.Run p)
 in_run inside run_moves.Closes = move.Closes
-in_run inside run_moves.Stops = if keeps_runs inside then move.Stops else move.Refuses StrictText
+in_run inside run_moves.Stops = if keeps_runs inside then move.Reconsume else move.Refuses StrictText
 
 -- in HTML `<!` and what begins nothing else is a comment
 abbrev pub in_bogus : ℕ → Move
-in_bogus c = if c == greater_than_sign then move.Ends whole.Comment else move.Goes mark.Bogus
+in_bogus c = if c == greater_than_sign then move.Ends whole.Comment else move.Continue mark.Bogus
 
 abbrev pub unlike : Syntax → ℕ → Move
 unlike Html c = in_bogus c
@@ -102,14 +102,14 @@ opening_char Html word.Doctype c = lowered_char c
 opening_char syntax _ c = c
 
 abbrev pub begun_word : Syntax → Content → Word → Move
-begun_word Html inside word.Dashes = move.Goes (mark.Comment comment.Start)
-begun_word Xhtml inside word.Dashes = move.Goes (mark.StrictComment strict.Text)
-begun_word syntax inside word.Doctype = move.Goes (mark.Doctype doctype.Keyword)
-begun_word syntax inside word.Section = if has_sections inside then move.Goes (mark.Section brackets.None) else move.Refuses Outside
+begun_word Html inside word.Dashes = move.Continue (mark.Comment comment.Start)
+begun_word Xhtml inside word.Dashes = move.Continue (mark.StrictComment strict.Text)
+begun_word syntax inside word.Doctype = move.Continue (mark.Doctype doctype.Keyword)
+begun_word syntax inside word.Section = if has_sections inside then move.Continue (mark.Section brackets.None) else move.Refuses Outside
 
 -- one more character of a word
 abbrev pub more_of_word : Syntax → Content → Word → ℕ → Move
-more_of_word syntax inside w n = if n == length (opening_text syntax w) then begun_word syntax inside w else move.Goes (mark.Opening w n)
+more_of_word syntax inside w n = if n == length (opening_text syntax w) then begun_word syntax inside w else move.Continue (mark.Opening w n)
 
 abbrev pub is_next : Syntax → Word → ℕ → ℕ → Bool
 is_next syntax w d c = opening_char syntax w c == d
@@ -124,8 +124,8 @@ doctype_letter Xhtml = 68
 
 abbrev pub at_opened : Syntax → Content → ℕ → Move
 at_opened syntax inside c =
-    if c == hyphen then move.Goes (mark.Opening word.Dashes 1) else if cased_char syntax c == doctype_letter syntax then move.Goes (mark.Opening word.Doctype 1)
-    else if c == left_bracket && looks_for syntax inside word.Section then move.Goes (mark.Opening word.Section 1) else unlike syntax c
+    if c == hyphen then move.Continue (mark.Opening word.Dashes 1) else if cased_char syntax c == doctype_letter syntax then move.Continue (mark.Opening word.Doctype 1)
+    else if c == left_bracket && looks_for syntax inside word.Section then move.Continue (mark.Opening word.Section 1) else unlike syntax c
 
 -- where a `>` ends the comment
 abbrev pub may_close : CommentPhase → Bool
@@ -147,7 +147,7 @@ after_bang _ = comment.Text
 abbrev pub in_comment : CommentPhase → ℕ → Move
 in_comment p c =
     if c == greater_than_sign && may_close p then move.Ends whole.Comment
-    else move.Goes (mark.Comment (if c == hyphen then after_dash p else if c == exclamation_mark then after_bang p else comment.Text))
+    else move.Continue (mark.Comment (if c == hyphen then after_dash p else if c == exclamation_mark then after_bang p else comment.Text))
 
 abbrev pub after_strict_dash : StrictPhase → StrictPhase
 after_strict_dash strict.Text = strict.Dash
@@ -155,26 +155,26 @@ after_strict_dash _ = strict.Dashes
 
 abbrev pub in_strict_comment : StrictPhase → ℕ → Move
 in_strict_comment strict.Dashes c = if c == greater_than_sign then move.Ends whole.Comment else move.Refuses StrictText
-in_strict_comment p c = move.Goes (mark.StrictComment (if c == hyphen then after_strict_dash p else strict.Text))
+in_strict_comment p c = move.Continue (mark.StrictComment (if c == hyphen then after_strict_dash p else strict.Text))
 
 abbrev pub in_instruction : Bool → ℕ → Move
-in_instruction asked c = if c == greater_than_sign && asked then move.Ends whole.Comment else move.Goes (mark.Instruction (c == question_mark))
+in_instruction asked c = if c == greater_than_sign && asked then move.Ends whole.Comment else move.Continue (mark.Instruction (c == question_mark))
 
 -- what a character does that may be the next one of the name
 abbrev pub in_name : Syntax → Option ℕ → ℕ → ℕ → Move
-in_name syntax (Some d) n c = if cased_char syntax c == d then move.Goes (mark.Doctype (doctype.Name (n + 1))) else move.Refuses BadDoctype
-in_name syntax None n c = if is_white_space c then move.Goes (mark.Doctype doctype.Passed) else if c == greater_than_sign then move.Ends whole.Doctype else move.Refuses BadDoctype
+in_name syntax (Some d) n c = if cased_char syntax c == d then move.Continue (mark.Doctype (doctype.Name (n + 1))) else move.Refuses BadDoctype
+in_name syntax None n c = if is_white_space c then move.Continue (mark.Doctype doctype.Passed) else if c == greater_than_sign then move.Ends whole.Doctype else move.Refuses BadDoctype
 
 abbrev pub in_doctype : Syntax → DoctypePhase → ℕ → Move
-in_doctype syntax doctype.Keyword c = if is_white_space c then move.Goes (mark.Doctype doctype.Spaces) else move.Refuses BadDoctype
-in_doctype syntax doctype.Spaces c = if is_white_space c then move.Goes (mark.Doctype doctype.Spaces) else in_name syntax (slice_get (codes "html") 0) 0 c
+in_doctype syntax doctype.Keyword c = if is_white_space c then move.Continue (mark.Doctype doctype.Spaces) else move.Refuses BadDoctype
+in_doctype syntax doctype.Spaces c = if is_white_space c then move.Continue (mark.Doctype doctype.Spaces) else in_name syntax (slice_get (codes "html") 0) 0 c
 in_doctype syntax (doctype.Name n) c = in_name syntax (slice_get (codes "html") n) n c
 in_doctype syntax doctype.Passed c =
-    if c == greater_than_sign then move.Ends whole.Doctype else if c == left_bracket then move.Refuses BadDoctype else move.Goes (mark.Doctype doctype.Passed)
+    if c == greater_than_sign then move.Ends whole.Doctype else if c == left_bracket then move.Refuses BadDoctype else move.Continue (mark.Doctype doctype.Passed)
 
 abbrev pub at_bracket : Brackets → Move
-at_bracket brackets.None = move.Goes (mark.Section brackets.One)
-at_bracket brackets.One = move.Goes (mark.Section brackets.Two)
+at_bracket brackets.None = move.Continue (mark.Section brackets.One)
+at_bracket brackets.One = move.Continue (mark.Section brackets.Two)
 at_bracket brackets.Two = move.Keeps (mark.Section brackets.Two)
 
 abbrev pub are_two : Brackets → Bool
@@ -184,7 +184,7 @@ are_two _ = false
 abbrev pub in_section : Brackets → ℕ → Move
 in_section b c = if c == right_bracket then at_bracket b else if c == greater_than_sign && are_two b then move.Ends whole.Section else move.KeepsAfter b
 
-abbrev pub move_of : Syntax → Content → Mark → ℕ → Move
+abbrev pub move_of : Syntax → Content → TokenState → ℕ → Move
 move_of syntax inside mark.Nothing c = of_first (at_first inside c)
 move_of syntax inside mark.LessThan c = at_less_than syntax inside c
 move_of syntax inside (mark.RawEnd n) c = in_end (slice_get (end_word inside) n) n c

@@ -14,8 +14,8 @@ use Rattle.rx_reader.specs.TagReader.{TagState, fresh, tag_on, tag_step}
 use Rattle.rx_pages.specs.Scanner as told
 use Rattle.rx_tags.specs.TagBufs.{TagSoFar, no_tag, MayStep}
 use Rattle.rx_scan.specs.declared.marks.Brackets.TheVariants as brackets
-use Rattle.rx_scan.specs.declared.marks.Mark.{Mark}
-use Rattle.rx_scan.specs.declared.marks.Mark.TheVariants as mark
+use Rattle.rx_scan.specs.declared.marks.TokenState.{TokenState}
+use Rattle.rx_scan.specs.declared.marks.TokenState.TheVariants as mark
 use Rattle.rx_scan.specs.declared.marks.Whole.{Whole}
 use Rattle.rx_scan.specs.declared.marks.Whole.TheVariants as whole
 use Rattle.rx_scan.specs.declared.marks.Move.{Move}
@@ -23,13 +23,13 @@ use Rattle.rx_scan.specs.declared.marks.Move.TheVariants as move
 use Rattle.rx_scan.specs.Pending.{Pending, first_char, phase_of, PendsAs, InTag, InRawEnd, bracket_text}
 
 module _ (s : Syntax) (i : Content) (p : Pending) (text : Chars) (c : ℕ) where
-  pub record Begins (m : Mark) : Type 0 where
+  pub record Begins (m : TokenState) : Type 0 where
     pub none : text ≡ []
     pub goes : told.verdict s i text c ≡ told.goes_on
     pub pends : (t : TagSoFar) → t ≡ no_tag s → PendsAs s i m [] t (c ∷ [])
 
   -- the token goes on
-  pub record Goes (m : Mark) (run : Chars) : Type 0 where
+  pub record Goes (m : TokenState) (run : Chars) : Type 0 where
     pub first : ℕ
     pub more : Chars
     pub some : text ≡ first ∷ more
@@ -73,13 +73,13 @@ module _ (s : Syntax) (i : Content) (p : Pending) (text : Chars) (c : ℕ) where
 
   abbrev pub Means : Move → Type 0
   Means (move.Begins m) = Begins m
-  Means (move.Goes m) = Goes m p.run
+  Means (move.Continue m) = Goes m p.run
   Means (move.Keeps m) = Goes m (p.run ++ c ∷ [])
   Means (move.KeepsAfter b) = Goes (mark.Section brackets.None) ((p.run ++ bracket_text b) ++ c ∷ [])
   Means move.Tags = Tags
   Means (move.KeepsTag n) = KeepsTag n
-  Means move.Says = (text ≡ []) × (told.verdict s i text c ≡ told.whole (character c))
+  Means move.EmitText = (text ≡ []) × (told.verdict s i text c ≡ told.whole (character c))
   Means (move.Ends w) = Ends w
   Means move.Closes = Closes
-  Means move.Stops = Stops
+  Means move.Reconsume = Stops
   Means (move.Refuses kind) = told.verdict s i text c ≡ told.refused kind

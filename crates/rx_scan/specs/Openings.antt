@@ -1,6 +1,6 @@
 -- What may be taken at once: plain text, characters of a tag, and those with which a tag begins behind its `<`.
 use Rattle.std.specs.Prelude.{◌≡◌, ℕ, List, [], ◌∷◌}
-use Rattle.rx_scan.specs.declared.marks.Mark.TheVariants as mark
+use Rattle.rx_scan.specs.declared.marks.TokenState.TheVariants as mark
 use Rattle.rx_scan.specs.declared.places.Setting.{Setting}
 use Rattle.rx_scan.specs.Bytes.{IsOfTag}
 use Rattle.rx_scan.specs.Entries.{marked}

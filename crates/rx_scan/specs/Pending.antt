@@ -28,23 +28,23 @@ use Rattle.rx_scan.specs.declared.marks.DoctypePhase.{DoctypePhase}
 use Rattle.rx_scan.specs.declared.marks.DoctypePhase.TheVariants as doctype_phase
 use Rattle.rx_scan.specs.declared.marks.Brackets.{Brackets}
 use Rattle.rx_scan.specs.declared.marks.Brackets.TheVariants as brackets
-use Rattle.rx_scan.specs.declared.marks.Mark.{Mark}
-use Rattle.rx_scan.specs.declared.marks.Mark.TheVariants as mark
+use Rattle.rx_scan.specs.declared.marks.TokenState.{TokenState}
+use Rattle.rx_scan.specs.declared.marks.TokenState.TheVariants as mark
 use Rattle.rx_scan.specs.Marks.{end_word, looks_for, opening_text, opening_char, are_two}
 
 -- what is kept of the characters since the last token
 pub record Pending : Type 0 where
-  pub mark : Mark
+  pub mark : TokenState
   pub run : Chars
   pub tag : TagSoFar
 
 -- the character with which a run begins that may stay text
-abbrev pub first_char : Mark → ℕ
+abbrev pub first_char : TokenState → ℕ
 first_char (mark.Run p) = ampersand
 first_char _ = less_than_sign
 
 -- how far a reference was read
-abbrev pub phase_of : Mark → RunPhase
+abbrev pub phase_of : TokenState → RunPhase
 phase_of (mark.Run p) = p
 phase_of _ = run.Plain
 
@@ -199,7 +199,7 @@ module _ (syntax : Syntax) (inside : Content) where
   abbrev pub is_closing_sign : Chars → ℕ → told.Verdict
   is_closing_sign rest c = told.whole_if (c == greater_than_sign) comment
 
-  abbrev pub judge_of : Mark → Chars → ℕ → told.Verdict
+  abbrev pub judge_of : TokenState → Chars → ℕ → told.Verdict
   judge_of (mark.Comment p) rest c = told.whole_if (ends_comment (rest ++ c ∷ [])) comment
   judge_of (mark.StrictComment p) rest c = told.in_strict_comment rest c
   judge_of (mark.Instruction asked) rest c = told.whole_if (ends_with (codes "?>") (rest ++ c ∷ [])) comment
@@ -208,7 +208,7 @@ module _ (syntax : Syntax) (inside : Content) where
   judge_of _ rest c = told.whole_if (c == greater_than_sign) comment
 
   -- these are the characters since the last token
-  abbrev pub PendsAs : Mark → Chars → TagSoFar → Chars → Type 0
+  abbrev pub PendsAs : TokenState → Chars → TagSoFar → Chars → Type 0
   PendsAs mark.Nothing kept tag text = text ≡ []
   PendsAs mark.LessThan kept tag text = InLessThan kept tag text
   PendsAs (mark.RawEnd n) kept tag text = InRawEnd n kept tag text

@@ -4,7 +4,7 @@ use Rattle.rx_grammar.specs.declared.faults.Fault.{Fault}
 use Rattle.rx_pages.specs.PageReader.{Spot}
 use Rattle.rx_scan.specs.declared.places.Position.{Position}
 use Rattle.rx_scan.specs.declared.places.Setting.{Setting}
-use Rattle.rx_scan.specs.declared.answers.What.{What}
+use Rattle.rx_scan.specs.declared.answers.TokenKind.{TokenKind}
 use Rattle.rx_scan.specs.Buffers.{Buffered}
 use Rattle.rx_scan.specs.Pending.{Pending}
 
@@ -21,10 +21,10 @@ pub record Reading : Type 0 where
 -- A scanner: what it has read, what the last step answered, and whether there was one; the fault that was answered, and want of memory.
 pub record Scanner : Type 0 where
   pub reading : Reading
-  pub what : What
+  pub what : TokenKind
   pub stepped : Bool
   pub failed : Option Fault
-  pub spent : Bool
+  pub out_of_memory : Bool
 
 abbrev pub spot_of : Reading → Spot
 spot_of v = record { inside = v.setting.inside; leads = v.setting.leads }

@@ -21,11 +21,11 @@ use Rattle.rx_grammar.specs.declared.stops.Stop.TheVariants as stop
 use Rattle.rx_tags.specs.declared.tags.Tag as the
 use Rattle.rx_tags.specs.Seen.{tag_seen}
 use Rattle.rx_tags.specs.TagBufs.{no_tag, MayStep}
-use Rattle.rx_scan.specs.declared.answers.What.{What}
-use Rattle.rx_scan.specs.declared.answers.What.TheVariants as what
+use Rattle.rx_scan.specs.declared.answers.TokenKind.{TokenKind}
+use Rattle.rx_scan.specs.declared.answers.TokenKind.TheVariants as what
 use Rattle.rx_scan.specs.declared.answers.Token as shown
 use Rattle.rx_scan.specs.declared.answers.Token.TheVariants as token
-use Rattle.rx_scan.specs.declared.marks.Mark.TheVariants as mark
+use Rattle.rx_scan.specs.declared.marks.TokenState.TheVariants as mark
 use Rattle.rx_scan.specs.declared.places.Setting.{Setting}
 use Rattle.rx_scan.specs.Pending.{Pends}
 use Rattle.rx_scan.specs.Scanner.{Reading, Scanner, spot_of}
@@ -48,7 +48,7 @@ pub record ReadsAs (v : Reading) (s : Scanning) : Type 0 where
 pub record ScanStands (v : Scanner) (s : Scanning) : Type 0 where
   pub reads_as : ReadsAs v.reading s
   pub unfailed : v.failed ≡ None
-  pub unspent : v.spent ≡ false
+  pub unspent : v.out_of_memory ≡ false
 
 -- the text of tokens that all are text
 abbrev pub joined : Option Chars → Option Chars → Option Chars
@@ -99,7 +99,7 @@ pub record IsTag (the_tag : Tag) (first last : ℕ) (items : List Item) : Type 0
   pub last_is : item.last ≡ last
 
 -- what the answer to some bytes tells of their tokens
-abbrev pub Tells : Bool → What → Scanning → List ℕ → List Item → Reading → Type 0
+abbrev pub Tells : Bool → TokenKind → Scanning → List ℕ → List Item → Reading → Type 0
 Tells drops what.Nothing s bytes items new = items ≡ []
 Tells drops what.Text s bytes items new = (texts_of items ≡ Some new.text.text) × (new.text.text ≢ []) × (keeps_first drops items ≡ true)
 Tells drops what.Section s bytes items new = IsOne (section new.pending.run) items × (new.pending.run ≢ [])
@@ -113,31 +113,31 @@ Tells drops what.Tag s bytes items new =
 abbrev pub after_some : Setting → List Item → Setting
 after_some setting items = if is_none_left items then setting else undropped setting
 
-abbrev pub is_tag : What → Bool
+abbrev pub is_tag : TokenKind → Bool
 is_tag what.Tag = true
 is_tag _ = false
 
-abbrev pub is_nothing : What → Bool
+abbrev pub is_nothing : TokenKind → Bool
 is_nothing what.Nothing = true
 is_nothing _ = false
 
-abbrev pub is_skipped : What → Bool
+abbrev pub is_skipped : TokenKind → Bool
 is_skipped what.Skipped = true
 is_skipped _ = false
 
 -- after a start tag or a document type no document type may come
-abbrev pub still_leads : What → Reading → Bool
+abbrev pub still_leads : TokenKind → Reading → Bool
 still_leads what.Doctype v = false
 still_leads what.Tag v = is_closing v.pending.tag.state.phase
 still_leads _ v = true
 
-abbrev pub setting_after : What → Reading → Setting → List Item → Setting
+abbrev pub setting_after : TokenKind → Reading → Setting → List Item → Setting
 setting_after answer v setting items =
     let next = after_some setting items in
     record { syntax = next.syntax; limits = next.limits; inside = next.inside; leads = if still_leads answer v then next.leads else false; drops = next.drops }
 
 -- The first n bytes of the piece were taken, and this was told.
-pub record Took (old : Reading) (s : Scanning) (piece : List ℕ) (n : ℕ) (answer : What) (new : Reading) : Type 0 where
+pub record Took (old : Reading) (s : Scanning) (piece : List ℕ) (n : ℕ) (answer : TokenKind) (new : Reading) : Type 0 where
   pub fits : n ≤ length piece
   pub scanned : Scanned
   pub read : scan_from old.setting.syntax old.setting.limits (spot_of old) s (take n piece) ≡ Ok scanned
@@ -160,7 +160,7 @@ pub record Faults (old : Reading) (s : Scanning) (piece : List ℕ) (fault : Fau
   pub is : fault ≡ fault_in next fault.kind
   pub first : scan_from old.setting.syntax old.setting.limits (spot_of old) s piece ≡ Err fault
 
-abbrev pub Runs : Reading → Scanning → List ℕ → Result (ℕ × What) Stop → Reading → Type 0
+abbrev pub Runs : Reading → Scanning → List ℕ → Result (ℕ × TokenKind) Stop → Reading → Type 0
 Runs old s piece (Ok (n, answer)) new = Took old s piece n answer new
 Runs old s piece (Err (stop.Fault fault)) new = Faults old s piece fault
 Runs old s piece (Err stop.NoMemory) new = Unit {0}
@@ -175,34 +175,34 @@ pub record TakesSome (piece : List ℕ) (n : ℕ) (nothing : Bool) : Type 0 wher
   pub all : nothing ≡ true → n ≡ length piece
   pub some : nothing ≡ false → 0 < n
 
-abbrev pub RunsTake : List ℕ → Result (ℕ × What) Stop → Type 0
+abbrev pub RunsTake : List ℕ → Result (ℕ × TokenKind) Stop → Type 0
 RunsTake piece (Ok (n, answer)) = TakesSome piece n (is_nothing answer)
 RunsTake piece (Err e) = Unit {0}
 
 -- A tag that is lent is whole; else the next one may be read on.
-abbrev pub MayLend : What → Reading → Type 0
+abbrev pub MayLend : TokenKind → Reading → Type 0
 MayLend what.Tag v = (is_last v.pending.tag.state.phase ≡ true) × (v.pending.mark ≡ mark.Nothing)
 MayLend _ v = MayStep v.pending.tag
 
-abbrev pub RunsReady : Result (ℕ × What) Stop → Reading → Type 0
+abbrev pub RunsReady : Result (ℕ × TokenKind) Stop → Reading → Type 0
 RunsReady (Ok (n, answer)) new = MayLend answer new × (room ≤ new.text.room)
 RunsReady (Err e) new = room ≤ new.text.room
 
 -- what each scanner keeps: behind a fault it has taken the bytes before the one that decides it
-pub record MayShow (answer : What) (stepped : Bool) (failed : Option Fault) (v : Reading) : Type 0 where
+pub record MayShow (answer : TokenKind) (stepped : Bool) (failed : Option Fault) (v : Reading) : Type 0 where
   pub lends : MayLend answer v
   pub room_is : room ≤ v.text.room
   pub first : stepped ≡ false → v.pending.mark ≡ mark.Nothing
   pub stays : (fault : Fault) → failed ≡ Some fault → fault.at ≡ v.place.at
 
 -- a token other than text
-abbrev pub is_token : What → Bool
+abbrev pub is_token : TokenKind → Bool
 is_token what.Nothing = false
 is_token what.Text = false
 is_token _ = true
 
 -- text that was read before a fault is handed out first
-abbrev pub stopped_at : Chars → ℕ → Stop → Result (ℕ × What) Stop
+abbrev pub stopped_at : Chars → ℕ → Stop → Result (ℕ × TokenKind) Stop
 stopped_at text n (stop.Fault fault) = if is_empty text then Err (stop.Fault fault) else Ok (n, what.Text)
 stopped_at text n stop.NoMemory = Err stop.NoMemory
 
@@ -229,7 +229,7 @@ pub record Prepared (old new : Scanner) : Type 0 where
   pub what_is : new.what ≡ what.Nothing
   pub stepped : new.stepped ≡ true
   pub failed : new.failed ≡ old.failed
-  pub spent : new.spent ≡ old.spent
+  pub out_of_memory : new.out_of_memory ≡ old.out_of_memory
   pub may_step : MayStep new.reading.pending.tag
   pub between : is_tag old.what ≡ true → old.reading.pending.mark ≡ mark.Nothing
 
@@ -241,8 +241,8 @@ LiesThere stop.NoMemory at = Unit {0}
 -- after this nothing else is answered
 abbrev pub FailsBy : Stop → Scanner → Scanner → Type 0
 FailsBy (stop.Fault fault) old new =
-    (new.failed ≡ Some fault) × (new.spent ≡ old.spent) × (new.what ≡ old.what) × (new.stepped ≡ old.stepped) × (new.reading ≡ old.reading)
-FailsBy stop.NoMemory old new = (new.failed ≡ old.failed) × (new.spent ≡ true) × (new.what ≡ old.what) × (new.stepped ≡ old.stepped)
+    (new.failed ≡ Some fault) × (new.out_of_memory ≡ old.out_of_memory) × (new.what ≡ old.what) × (new.stepped ≡ old.stepped) × (new.reading ≡ old.reading)
+FailsBy stop.NoMemory old new = (new.failed ≡ old.failed) × (new.out_of_memory ≡ true) × (new.what ≡ old.what) × (new.stepped ≡ old.stepped)
 
 -- the first setting: nothing stands before the root
 abbrev pub first_setting : Syntax → Limits → Setting
@@ -252,7 +252,7 @@ first_setting syntax limits = record { syntax = syntax; limits = limits; inside 
 abbrev pub ShowsTag : Reading → Bool → the.Tag → Type 0
 ShowsTag v closing t = (tag_seen t ≡ parts_of v.pending.tag.state) × (t.token ≡ v.place.token) × (t.at ≡ v.end) × ((tag_seen t).closing ≡ closing)
 
-abbrev pub Shows : What → Reading → shown.Token → Type 0
+abbrev pub Shows : TokenKind → Reading → shown.Token → Type 0
 Shows what.Nothing v t = t ≡ token.More
 Shows what.Skipped v t = t ≡ token.Skipped
 Shows what.Doctype v t = t ≡ token.Doctype
@@ -322,23 +322,23 @@ Steps old s piece (Err stop.NoMemory) new = Unit {0}
 -- bytes taken are then those before the byte that decides the fault.
 pub record Answered (v : Scanner) (t : shown.Token) : Type 0 where
   pub unfailed : v.failed ≡ None
-  pub unspent : v.spent ≡ false
+  pub unspent : v.out_of_memory ≡ false
   pub stepped : v.stepped ≡ true
   pub shows : Shows v.what v.reading t
 
 abbrev pub Keeps : Scanner → List ℕ → Result (ℕ × shown.Token) Stop → Scanner → Type 0
-Keeps old piece (Ok r) new = (old.failed ≡ None) × (old.spent ≡ false) × Answered new r.1 × TakesSome piece r.0 (is_more r.1)
+Keeps old piece (Ok r) new = (old.failed ≡ None) × (old.out_of_memory ≡ false) × Answered new r.1 × TakesSome piece r.0 (is_more r.1)
 Keeps old piece (Err (stop.Fault fault)) new =
-    (old.spent ≡ false) × ((old.failed ≡ None) ⊎ (old.failed ≡ Some fault)) × (new.failed ≡ Some fault) × (new.spent ≡ false) × (new.what ≡ what.Nothing) × (new.stepped ≡ true) × (fault.at ≡ new.reading.place.at)
-Keeps old piece (Err stop.NoMemory) new = ((old.spent ≡ true) ⊎ (old.failed ≡ None)) × (new.spent ≡ true) × (new.what ≡ what.Nothing) × (new.stepped ≡ true)
+    (old.out_of_memory ≡ false) × ((old.failed ≡ None) ⊎ (old.failed ≡ Some fault)) × (new.failed ≡ Some fault) × (new.out_of_memory ≡ false) × (new.what ≡ what.Nothing) × (new.stepped ≡ true) × (fault.at ≡ new.reading.place.at)
+Keeps old piece (Err stop.NoMemory) new = ((old.out_of_memory ≡ true) ⊎ (old.failed ≡ None)) × (new.out_of_memory ≡ true) × (new.what ≡ what.Nothing) × (new.stepped ≡ true)
 
 -- the same of the step within
 abbrev pub KeepsOn : Scanner → List ℕ → Result ℕ Stop → Scanner → Type 0
 KeepsOn old piece (Ok n) new =
-    (old.failed ≡ None) × (old.spent ≡ false) × (new.failed ≡ None) × (new.spent ≡ false) × (new.stepped ≡ true) × TakesSome piece n (is_nothing new.what)
+    (old.failed ≡ None) × (old.out_of_memory ≡ false) × (new.failed ≡ None) × (new.out_of_memory ≡ false) × (new.stepped ≡ true) × TakesSome piece n (is_nothing new.what)
 KeepsOn old piece (Err (stop.Fault fault)) new =
-    (old.spent ≡ false) × ((old.failed ≡ None) ⊎ (old.failed ≡ Some fault)) × (new.failed ≡ Some fault) × (new.spent ≡ false) × (new.what ≡ what.Nothing) × (new.stepped ≡ true) × (fault.at ≡ new.reading.place.at)
-KeepsOn old piece (Err stop.NoMemory) new = ((old.spent ≡ true) ⊎ (old.failed ≡ None)) × (new.spent ≡ true) × (new.what ≡ what.Nothing) × (new.stepped ≡ true)
+    (old.out_of_memory ≡ false) × ((old.failed ≡ None) ⊎ (old.failed ≡ Some fault)) × (new.failed ≡ Some fault) × (new.out_of_memory ≡ false) × (new.what ≡ what.Nothing) × (new.stepped ≡ true) × (fault.at ≡ new.reading.place.at)
+KeepsOn old piece (Err stop.NoMemory) new = ((old.out_of_memory ≡ true) ⊎ (old.failed ≡ None)) × (new.out_of_memory ≡ true) × (new.what ≡ what.Nothing) × (new.stepped ≡ true)
 
 abbrev pub Advances : Scanner → Scanning → List ℕ → Result ℕ Stop → Scanner → Type 0
 Advances old s piece (Ok n) new = Took old.reading s piece n new.what new.reading
@@ -371,7 +371,7 @@ inside_of inside drops v =
       what = v.what;
       stepped = v.stepped;
       failed = v.failed;
-      spent = v.spent;
+      out_of_memory = v.out_of_memory;
     }
 
 -- no token is unfinished
@@ -381,11 +381,11 @@ pub record IsWhole (s : Scanning) : Type 0 where
 
 -- The end of the page: it is whole, or the fault, which comes again.
 abbrev pub Finishes : Scanner → Result (Unit {0}) Stop → Scanner → Type 0
-Finishes old (Ok done) new = (old.failed ≡ None) × (old.spent ≡ false) × (new ≡ old) × ((s : Scanning) → ScanStands old s → IsWhole s)
+Finishes old (Ok done) new = (old.failed ≡ None) × (old.out_of_memory ≡ false) × (new ≡ old) × ((s : Scanning) → ScanStands old s → IsWhole s)
 Finishes old (Err (stop.Fault fault)) new =
-    (old.spent ≡ false) × (new.failed ≡ Some fault) × (new.spent ≡ false) × (new.reading ≡ old.reading) × (new.what ≡ old.what) × (new.stepped ≡ old.stepped)
+    (old.out_of_memory ≡ false) × (new.failed ≡ Some fault) × (new.out_of_memory ≡ false) × (new.reading ≡ old.reading) × (new.what ≡ old.what) × (new.stepped ≡ old.stepped)
     × ((old.failed ≡ Some fault) ⊎ ((old.failed ≡ None) × ((s : Scanning) → ScanStands old s → (fault ≡ fault_in s Unended) × (IsWhole s → ⊥))))
-Finishes old (Err stop.NoMemory) new = (old.spent ≡ true) × (new ≡ old)
+Finishes old (Err stop.NoMemory) new = (old.out_of_memory ≡ true) × (new ≡ old)
 
 -- the tag that the last step answered
 abbrev pub IsLastTag : Scanner → Option the.Tag → Type 0

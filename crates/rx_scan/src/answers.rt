@@ -3,7 +3,7 @@ use rx_tags::Tag;
 
 /// What the last byte or the last step told.
 #[derive(Clone, Copy, Debug, PartialEq, Eq)]
-pub(crate) enum What {
+pub(crate) enum TokenKind {
     /// No token but text, if any.
     Nothing,
     /// A token that says nothing.

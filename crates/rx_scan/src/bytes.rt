@@ -28,24 +28,24 @@ fn as_line_end(c: char) -> char
     if c == '\r' { '\n' } else { c }
 }
 
-fn is_mark(c: char) -> What
+fn is_mark(c: char) -> TokenKind
     ensures { result ≡ entries.is_mark c }
 {
     if c == '\u{FEFF}' {
-        What::Skipped
+        TokenKind::Skipped
     } else {
-        What::Nothing
+        TokenKind::Nothing
     }
 }
 
 /// Whether a character that is printed surely belongs to a tag.
-pub(crate) fn is_of_tag(mark: Mark, c: char) -> bool
+pub(crate) fn is_of_tag(mark: TokenState, c: char) -> bool
     ensures { result ≡ true → (setting : Setting) → bytes.IsOfTag setting mark c }
 {
-    if matches!(mark, Mark::Tag) {
+    if matches!(mark, TokenState::Tag) {
         return matches!(c, ' '..='~');
     }
-    matches!(mark, Mark::LessThan) && (c == '/' || is_letter(c))
+    matches!(mark, TokenState::LessThan) && (c == '/' || is_letter(c))
 }
 
 // Whether the byte is a character of its own.
@@ -89,11 +89,11 @@ impl Reader {
         self.utf8 = Utf8::new();
     }
 
-    fn read_char(&mut self, c: char) -> Result<What, Stop>
+    fn read_char(&mut self, c: char) -> Result<TokenKind, Stop>
         requires may_step { MayStep self.old.pending.tag }
         requires room { self.old.place.at + 1 < 2 ^ 64 }
         ensures reads { entries.ReadsChar self.old c result self.new }
-        ensures between { self.old.pending.mark ≡ Mark.Nothing → entries.Between self.old result self.new }
+        ensures between { self.old.pending.mark ≡ TokenState.Nothing → entries.Between self.old result self.new }
         ensures ready { entries.IsReady self.old result self.new }
     {
         if is_passed(self.place, c) {
@@ -117,7 +117,7 @@ impl Reader {
 
     // A character of a tag that is no CR and no NUL.
     #[inline(always)]
-    fn read_of_tag(&mut self, c: char) -> Result<What, Stop>
+    fn read_of_tag(&mut self, c: char) -> Result<TokenKind, Stop>
         requires may_step { MayStep self.old.pending.tag }
         requires room { self.old.place.at + 1 < 2 ^ 64 }
         requires of_tag { bytes.IsOfTag self.old.setting self.old.pending.mark c }
@@ -132,9 +132,9 @@ impl Reader {
 
     // A `<` between tokens.
     #[inline(always)]
-    fn read_less_than(&mut self) -> Result<What, Stop>
+    fn read_less_than(&mut self) -> Result<TokenKind, Stop>
         requires may_step { MayStep self.old.pending.tag }
-        requires nothing { self.old.pending.mark ≡ Mark.Nothing }
+        requires nothing { self.old.pending.mark ≡ TokenState.Nothing }
         requires room { self.old.place.at + 1 < 2 ^ 64 }
         ensures reads { entries.ReadsAnswer self.old [] (Utf8Step.Char 60) result self.new }
         ensures between { entries.Between self.old result self.new }
@@ -143,11 +143,11 @@ impl Reader {
         self.read_first('<', false)
     }
 
-    fn read_any(&mut self, c: char) -> Result<What, Stop>
+    fn read_any(&mut self, c: char) -> Result<TokenKind, Stop>
         requires may_step { MayStep self.old.pending.tag }
         requires room { self.old.place.at + 1 < 2 ^ 64 }
         ensures reads { entries.ReadsAnswer self.old [] (Utf8Step.Char c) result self.new }
-        ensures between { self.old.pending.mark ≡ Mark.Nothing → entries.Between self.old result self.new }
+        ensures between { self.old.pending.mark ≡ TokenState.Nothing → entries.Between self.old result self.new }
         ensures ready { entries.IsReady self.old result self.new }
     {
         if c == '\0' {
@@ -159,12 +159,12 @@ impl Reader {
         self.read_char(c)
     }
 
-    fn hold(&mut self, byte: u8) -> Result<What, Stop>
+    fn hold(&mut self, byte: u8) -> Result<TokenKind, Stop>
         requires may_step { MayStep self.old.pending.tag }
         requires room { self.old.place.at + 1 < 2 ^ 64 }
         requires begun { answer_of (self.old.held ++ byte ∷ []) ≡ Utf8Step.More }
         ensures reads { entries.ReadsAnswer self.old (self.old.held ++ byte ∷ []) Utf8Step.More result self.new }
-        ensures between { self.old.pending.mark ≡ Mark.Nothing → entries.Between self.old result self.new }
+        ensures between { self.old.pending.mark ≡ TokenState.Nothing → entries.Between self.old result self.new }
         ensures ready { entries.IsReady self.old result self.new }
     {
         if self.is_long(is_tag(self.pending.mark())) {
@@ -172,16 +172,16 @@ impl Reader {
         }
         hold_byte(&mut self.utf8, byte);
         self.place = self.place.holding();
-        Ok(What::Nothing)
+        Ok(TokenKind::Nothing)
     }
 
     // Any byte, where the page may have one more.
     #[inline(never)]
-    fn read_rare(&mut self, byte: u8) -> Result<What, Stop>
+    fn read_rare(&mut self, byte: u8) -> Result<TokenKind, Stop>
         requires may_step { MayStep self.old.pending.tag }
         requires room { self.old.place.at + 1 < 2 ^ 64 }
         ensures reads { entries.ReadsAnswer self.old (self.old.held ++ byte ∷ []) (answer_of (self.old.held ++ byte ∷ [])) result self.new }
-        ensures between { self.old.pending.mark ≡ Mark.Nothing → entries.Between self.old result self.new }
+        ensures between { self.old.pending.mark ≡ TokenState.Nothing → entries.Between self.old result self.new }
         ensures ready { entries.IsReady self.old result self.new }
     {
         match self.utf8.peek(byte) {
@@ -193,11 +193,11 @@ impl Reader {
 
     // The same. What is rare is called apart, and its answer is made again, so that what is common stays in registers.
     #[inline(always)]
-    fn read_apart(&mut self, byte: u8) -> Result<What, Stop>
+    fn read_apart(&mut self, byte: u8) -> Result<TokenKind, Stop>
         requires may_step { MayStep self.old.pending.tag }
         requires room { self.old.place.at + 1 < 2 ^ 64 }
         ensures reads { entries.ReadsAnswer self.old (self.old.held ++ byte ∷ []) (answer_of (self.old.held ++ byte ∷ [])) result self.new }
-        ensures between { self.old.pending.mark ≡ Mark.Nothing → entries.Between self.old result self.new }
+        ensures between { self.old.pending.mark ≡ TokenState.Nothing → entries.Between self.old result self.new }
         ensures ready { entries.IsReady self.old result self.new }
     {
         match self.read_rare(byte) {
@@ -208,17 +208,17 @@ impl Reader {
 
     /// Reads one more byte. At a fault nothing is changed where no token is begun. Most bytes that are read one by one are
     /// of tags, and are told first.
-    pub(crate) fn read(&mut self, byte: u8) -> Result<What, Stop>
+    pub(crate) fn read(&mut self, byte: u8) -> Result<TokenKind, Stop>
         requires { MayStep self.old.pending.tag }
         ensures reads { entries.Reads self.old byte result self.new }
-        ensures between { self.old.pending.mark ≡ Mark.Nothing → entries.Between self.old result self.new }
+        ensures between { self.old.pending.mark ≡ TokenState.Nothing → entries.Between self.old result self.new }
         ensures ready { entries.IsReady self.old result self.new }
     {
         if self.place.at >= self.setting.limits.page {
             return Err(Stop::Fault(self.fault_at(Kind::PageTooLong)));
         }
         if let Some(c) = alone(&self.utf8, byte) {
-            if c == '<' && matches!(self.pending.mark(), Mark::Nothing) {
+            if c == '<' && matches!(self.pending.mark(), TokenState::Nothing) {
                 return self.read_less_than();
             }
             if self.is_in_tag(c) {

@@ -3,7 +3,7 @@ ghost use Rattle.std.specs.Prelude.{◌≡◌, slice_get};
 ghost use Rattle.rx_grammar.specs.Spelling as spelling;
 ghost use Rattle.rx_scan.specs.Marks as marks;
 
-use crate::marks::{Brackets, CommentPhase, DoctypePhase, Mark, Move, StrictPhase, Whole, Word};
+use crate::marks::{Brackets, CommentPhase, DoctypePhase, TokenState, Move, StrictPhase, Whole, Word};
 use crate::words::char_at;
 use rx_chars::Syntax;
 use rx_grammar::{Content, Kind};
@@ -22,7 +22,7 @@ pub(crate) fn in_bogus(c: char) -> Move
     if c == '>' {
         Move::Ends(Whole::Comment)
     } else {
-        Move::Goes(Mark::Bogus)
+        Move::Continue(TokenState::Bogus)
     }
 }
 
@@ -59,10 +59,10 @@ fn begun_word(syntax: Syntax, inside: Content, word: Word) -> Move
     ensures { result ≡ marks.begun_word syntax inside word }
 {
     match (syntax, word) {
-        (Syntax::Html, Word::Dashes) => Move::Goes(Mark::Comment(CommentPhase::Start)),
-        (Syntax::Xhtml, Word::Dashes) => Move::Goes(Mark::StrictComment(StrictPhase::Text)),
-        (_, Word::Doctype) => Move::Goes(Mark::Doctype(DoctypePhase::Keyword)),
-        (_, Word::Section) if has_sections(inside) => Move::Goes(Mark::Section(Brackets::None)),
+        (Syntax::Html, Word::Dashes) => Move::Continue(TokenState::Comment(CommentPhase::Start)),
+        (Syntax::Xhtml, Word::Dashes) => Move::Continue(TokenState::StrictComment(StrictPhase::Text)),
+        (_, Word::Doctype) => Move::Continue(TokenState::Doctype(DoctypePhase::Keyword)),
+        (_, Word::Section) if has_sections(inside) => Move::Continue(TokenState::Section(Brackets::None)),
         (_, Word::Section) => Move::Refuses(Kind::Outside),
     }
 }
@@ -85,7 +85,7 @@ fn more_of_word(syntax: Syntax, inside: Content, word: Word, count: usize) -> Mo
     if count == opening_text(syntax, word).len() {
         begun_word(syntax, inside, word)
     } else {
-        Move::Goes(Mark::Opening(word, count))
+        Move::Continue(TokenState::Opening(word, count))
     }
 }
 
@@ -112,13 +112,13 @@ pub(crate) fn at_opened(syntax: Syntax, inside: Content, c: char) -> Move
     ensures { result ≡ marks.at_opened syntax inside c }
 {
     if c == '-' {
-        return Move::Goes(Mark::Opening(Word::Dashes, 1));
+        return Move::Continue(TokenState::Opening(Word::Dashes, 1));
     }
     if cased(syntax, c) == doctype_letter(syntax) {
-        return Move::Goes(Mark::Opening(Word::Doctype, 1));
+        return Move::Continue(TokenState::Opening(Word::Doctype, 1));
     }
     if c == '[' && looks_for_sections(syntax, inside) {
-        return Move::Goes(Mark::Opening(Word::Section, 1));
+        return Move::Continue(TokenState::Opening(Word::Section, 1));
     }
     unlike(syntax, c)
 }
@@ -154,9 +154,9 @@ pub(crate) fn in_comment(phase: CommentPhase, c: char) -> Move
 {
     match c {
         '>' if may_close(phase) => Move::Ends(Whole::Comment),
-        '-' => Move::Goes(Mark::Comment(after_dash(phase))),
-        '!' => Move::Goes(Mark::Comment(after_bang(phase))),
-        _ => Move::Goes(Mark::Comment(CommentPhase::Text)),
+        '-' => Move::Continue(TokenState::Comment(after_dash(phase))),
+        '!' => Move::Continue(TokenState::Comment(after_bang(phase))),
+        _ => Move::Continue(TokenState::Comment(CommentPhase::Text)),
     }
 }
 
@@ -167,9 +167,9 @@ pub(crate) fn in_strict_comment(phase: StrictPhase, c: char) -> Move
     match (phase, c) {
         (StrictPhase::Dashes, '>') => Move::Ends(Whole::Comment),
         (StrictPhase::Dashes, _) => Move::Refuses(Kind::StrictText),
-        (StrictPhase::Text, '-') => Move::Goes(Mark::StrictComment(StrictPhase::Dash)),
-        (StrictPhase::Dash, '-') => Move::Goes(Mark::StrictComment(StrictPhase::Dashes)),
-        _ => Move::Goes(Mark::StrictComment(StrictPhase::Text)),
+        (StrictPhase::Text, '-') => Move::Continue(TokenState::StrictComment(StrictPhase::Dash)),
+        (StrictPhase::Dash, '-') => Move::Continue(TokenState::StrictComment(StrictPhase::Dashes)),
+        _ => Move::Continue(TokenState::StrictComment(StrictPhase::Text)),
     }
 }
 
@@ -180,7 +180,7 @@ pub(crate) fn in_instruction(asked: bool, c: char) -> Move
     if c == '>' && asked {
         Move::Ends(Whole::Comment)
     } else {
-        Move::Goes(Mark::Instruction(c == '?'))
+        Move::Continue(TokenState::Instruction(c == '?'))
     }
 }
 
@@ -189,9 +189,9 @@ pub(crate) fn in_section(brackets: Brackets, c: char) -> Move
     ensures { result ≡ marks.in_section brackets c }
 {
     match (brackets, c) {
-        (Brackets::None, ']') => Move::Goes(Mark::Section(Brackets::One)),
-        (Brackets::One, ']') => Move::Goes(Mark::Section(Brackets::Two)),
-        (Brackets::Two, ']') => Move::Keeps(Mark::Section(Brackets::Two)),
+        (Brackets::None, ']') => Move::Continue(TokenState::Section(Brackets::One)),
+        (Brackets::One, ']') => Move::Continue(TokenState::Section(Brackets::Two)),
+        (Brackets::Two, ']') => Move::Keeps(TokenState::Section(Brackets::Two)),
         (Brackets::Two, '>') => Move::Ends(Whole::Section),
         _ => Move::KeepsAfter(brackets),
     }

@@ -2,7 +2,7 @@
 ghost use Rattle.std.specs.Prelude.{◌≡◌, slice_get, codes};
 ghost use Rattle.rx_scan.specs.Marks as marks;
 
-use crate::marks::{DoctypePhase, Mark, Move, Whole};
+use crate::marks::{DoctypePhase, TokenState, Move, Whole};
 use crate::words::char_at;
 use rx_chars::Syntax;
 use rx_grammar::Kind;
@@ -16,9 +16,9 @@ fn in_name(syntax: Syntax, count: usize, c: char) -> Move
 {
     match char_at(NAME, count) {
         Some(next) if cased(syntax, c) == next => {
-            Move::Goes(Mark::Doctype(DoctypePhase::Name(count + 1)))
+            Move::Continue(TokenState::Doctype(DoctypePhase::Name(count + 1)))
         }
-        None if is_white_space(c) => Move::Goes(Mark::Doctype(DoctypePhase::Passed)),
+        None if is_white_space(c) => Move::Continue(TokenState::Doctype(DoctypePhase::Passed)),
         None if c == '>' => Move::Ends(Whole::Doctype),
         _ => Move::Refuses(Kind::BadDoctype),
     }
@@ -29,17 +29,17 @@ pub(crate) fn in_doctype(syntax: Syntax, phase: DoctypePhase, c: char) -> Move
     ensures { result ≡ marks.in_doctype syntax phase c }
 {
     match phase {
-        DoctypePhase::Keyword if is_white_space(c) => Move::Goes(Mark::Doctype(
+        DoctypePhase::Keyword if is_white_space(c) => Move::Continue(TokenState::Doctype(
             DoctypePhase::Spaces,
         )),
         DoctypePhase::Keyword => Move::Refuses(Kind::BadDoctype),
-        DoctypePhase::Spaces if is_white_space(c) => Move::Goes(Mark::Doctype(
+        DoctypePhase::Spaces if is_white_space(c) => Move::Continue(TokenState::Doctype(
             DoctypePhase::Spaces,
         )),
         DoctypePhase::Spaces => in_name(syntax, 0, c),
         DoctypePhase::Name(count) => in_name(syntax, count, c),
         DoctypePhase::Passed if c == '>' => Move::Ends(Whole::Doctype),
         DoctypePhase::Passed if c == '[' => Move::Refuses(Kind::BadDoctype),
-        DoctypePhase::Passed => Move::Goes(Mark::Doctype(DoctypePhase::Passed)),
+        DoctypePhase::Passed => Move::Continue(TokenState::Doctype(DoctypePhase::Passed)),
     }
 }

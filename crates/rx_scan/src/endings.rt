@@ -4,13 +4,13 @@ ghost use Rattle.rx_scan.specs.Entries as entries;
 ghost use Rattle.rx_tags.specs.TagBufs.{MayStep};
 
 use crate::answers::What;
-use crate::marks::{Mark, Whole};
+use crate::marks::{TokenState, Whole};
 use crate::readers::Reader;
 use rx_chars::Utf8;
 use rx_tags::Stop;
 
 impl Reader {
-    pub(crate) fn finish(&mut self, after_return: bool, whole: Whole) -> Result<What, Stop>
+    pub(crate) fn finish(&mut self, after_return: bool, whole: Whole) -> Result<TokenKind, Stop>
         requires may_step { MayStep self.old.pending.tag }
         requires room { self.old.place.at + 1 < 2 ^ 64 }
         ensures does { entries.Ends self.old after_return whole result self.new }
@@ -21,12 +21,12 @@ impl Reader {
             Whole::Comment | Whole::Section => self.setting.drop_none(),
         }
         self.place = self.place.ended(after_return, false);
-        self.pending.turn(Mark::Nothing);
+        self.pending.turn(TokenState::Nothing);
         self.utf8 = Utf8::new();
         match whole {
-            Whole::Doctype => Ok(What::Doctype),
-            Whole::Section if !self.pending.run().is_empty() => Ok(What::Section),
-            Whole::Comment | Whole::Section => Ok(What::Skipped),
+            Whole::Doctype => Ok(TokenKind::Doctype),
+            Whole::Section if !self.pending.run().is_empty() => Ok(TokenKind::Section),
+            Whole::Comment | Whole::Section => Ok(TokenKind::Skipped),
         }
     }
 }

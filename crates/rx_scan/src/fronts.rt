@@ -44,7 +44,7 @@ fn opens_tag(bytes: &[u8]) -> bool
     ensures { result ≡ true → (setting : Setting) → OpensTag setting bytes.now }
 {
     match bytes.first() {
-        Some(byte) => is_of_tag(Mark::LessThan, char::from(*byte)),
+        Some(byte) => is_of_tag(TokenState::LessThan, char::from(*byte)),
         None => false,
     }
 }
@@ -63,9 +63,9 @@ impl Reader {
         ensures takes { MatchBool (result == 0) (self.new ≡ self.old) (TakesFront self.old (take result bytes.now) self.new) }
     {
         match self.pending.mark() {
-            Mark::Nothing => self.tell_front(bytes),
-            Mark::Tag => self.feed_front(bytes),
-            Mark::LessThan => self.open_front(bytes),
+            TokenState::Nothing => self.tell_front(bytes),
+            TokenState::Tag => self.feed_front(bytes),
+            TokenState::LessThan => self.open_front(bytes),
             _ => 0,
         }
     }
@@ -86,7 +86,7 @@ impl Reader {
     // Takes the characters at the front with which the tag goes on, and tells how many.
     #[inline(never)]
     fn feed_front(&mut self, bytes: &[u8]) -> usize
-        requires in_tag { self.old.pending.mark ≡ Mark.Tag }
+        requires in_tag { self.old.pending.mark ≡ TokenState.Tag }
         requires may_step { MayStep self.old.pending.tag }
         ensures fits { result ≤ length bytes.now }
         ensures text { self.new.text ≡ self.old.text }
@@ -107,7 +107,7 @@ impl Reader {
     // Takes the characters at the front with which a tag begins behind its `<`, and tells how many.
     #[inline(always)]
     fn open_front(&mut self, bytes: &[u8]) -> usize
-        requires opened { self.old.pending.mark ≡ Mark.LessThan }
+        requires opened { self.old.pending.mark ≡ TokenState.LessThan }
         requires may_step { MayStep self.old.pending.tag }
         ensures fits { result ≤ length bytes.now }
         ensures text { self.new.text ≡ self.old.text }
@@ -116,10 +116,10 @@ impl Reader {
         if !opens_tag(bytes) {
             return 0;
         }
-        self.pending.turn(Mark::Tag);
+        self.pending.turn(TokenState::Tag);
         let count = self.feed_front(bytes);
         if count == 0 {
-            self.pending.turn(Mark::LessThan);
+            self.pending.turn(TokenState::LessThan);
             return 0;
         }
         count
@@ -154,7 +154,7 @@ impl Reader {
 
     // The text at the front that is told at once.
     fn front<'a>(&self, bytes: &'a [u8]) -> &'a str
-        requires between { self.now.pending.mark ≡ Mark.Nothing }
+        requires between { self.now.pending.mark ≡ TokenState.Nothing }
         requires size { self.now.text.size + 4 ≤ ROOM }
         ensures front { result.now ≡ take (length result.now) bytes.now }
         ensures room { (self.now.text.size + length result.now) + 4 ≤ ROOM }
@@ -170,7 +170,7 @@ impl Reader {
     // Takes the plain text at the front. Where a tag comes next, which is often, nothing else is looked at.
     #[inline(always)]
     fn tell_front(&mut self, bytes: &[u8]) -> usize
-        requires between { self.old.pending.mark ≡ Mark.Nothing }
+        requires between { self.old.pending.mark ≡ TokenState.Nothing }
         requires size { self.old.text.size + 4 ≤ ROOM }
         requires room { ROOM ≤ self.old.text.room }
         ensures fits { result ≤ length bytes.now }
@@ -187,7 +187,7 @@ impl Reader {
     // Takes the plain text at the front, as far as it has room, and tells how many bytes it has.
     #[inline(never)]
     fn say_front(&mut self, bytes: &[u8]) -> usize
-        requires between { self.old.pending.mark ≡ Mark.Nothing }
+        requires between { self.old.pending.mark ≡ TokenState.Nothing }
         requires size { self.old.text.size + 4 ≤ ROOM }
         requires room { ROOM ≤ self.old.text.room }
         ensures fits { result ≤ length bytes.now }

@@ -11,10 +11,10 @@ use rx_grammar::Content;
 use rx_tags::{begins_tag, ends_name};
 
 /// Whether they are known to begin a tag.
-pub fn is_tag(mark: Mark) -> bool
+pub fn is_tag(mark: TokenState) -> bool
     ensures { result ≡ known.is_tag mark }
 {
-    mark == Mark::Tag
+    mark == TokenState::Tag
 }
 
 fn ends_word(inside: Content, count: usize, c: char) -> bool
@@ -28,13 +28,13 @@ fn ends_word(inside: Content, count: usize, c: char) -> bool
 
 /// Whether with the character they are known to begin one: behind `<` a `/` or what begins a name does it, in raw text
 /// what ends the element's name.
-pub fn is_tag_with(syntax: Syntax, inside: Content, mark: Mark, c: char) -> bool
+pub fn is_tag_with(syntax: Syntax, inside: Content, mark: TokenState, c: char) -> bool
     ensures { result ≡ known.is_tag_with syntax inside mark c }
 {
     match mark {
-        Mark::LessThan => c == '/' || begins_tag(syntax, c),
-        Mark::RawEnd(count) => ends_word(inside, count, c),
-        Mark::Tag => true,
+        TokenState::LessThan => c == '/' || begins_tag(syntax, c),
+        TokenState::RawEnd(count) => ends_word(inside, count, c),
+        TokenState::Tag => true,
         _ => false,
     }
 }

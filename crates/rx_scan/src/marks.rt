@@ -64,7 +64,7 @@ pub enum Brackets {
 
 /// The characters since the last token.
 #[derive(Clone, Copy, Debug, PartialEq, Eq)]
-pub enum Mark {
+pub enum TokenState {
     /// There are none.
     Nothing,
     /// `<`, where markup may stand.
@@ -105,9 +105,9 @@ pub enum Whole {
 #[derive(Clone, Copy, Debug, PartialEq, Eq)]
 pub enum First {
     /// It is the first one of a longer token.
-    Begins(Mark),
+    Begins(TokenState),
     /// It is a character of text.
-    Says,
+    EmitText,
     /// It decides this fault.
     Refuses(Kind),
 }
@@ -116,11 +116,11 @@ pub enum First {
 #[derive(Clone, Copy, Debug, PartialEq, Eq)]
 pub enum Move {
     /// It is the first one of a token.
-    Begins(Mark),
+    Begins(TokenState),
     /// It belongs to the token, and nothing of it is kept.
-    Goes(Mark),
+    Continue(TokenState),
     /// It belongs to the token, and is kept.
-    Keeps(Mark),
+    Keeps(TokenState),
     /// It belongs to the CDATA section, and is kept behind the brackets that turned out to be text.
     KeepsAfter(Brackets),
     /// It belongs to a tag.
@@ -128,13 +128,13 @@ pub enum Move {
     /// It belongs to what may become a tag or stay text, and is kept.
     KeepsTag(usize),
     /// It is a character of text.
-    Says,
+    EmitText,
     /// It is the last one of the token.
     Ends(Whole),
     /// It is the `;` of a reference.
     Closes,
     /// The characters before it were text; it is read afresh.
-    Stops,
+    Reconsume,
     /// It decides this fault.
     Refuses(Kind),
 }

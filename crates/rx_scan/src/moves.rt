@@ -7,7 +7,7 @@ use crate::declarations::{
     at_opened, in_bogus, in_comment, in_instruction, in_section, in_strict_comment, in_word,
 };
 use crate::doctypes::in_doctype;
-use crate::marks::{First, Mark, Move};
+use crate::marks::{First, TokenState, Move};
 use crate::phases::{has_references, in_run};
 use crate::raw_ends::in_end;
 use rx_chars::Syntax;
@@ -20,23 +20,23 @@ use rx_tags::{is_letter, is_white_space};
 /// A fault comes exactly where the character decides it of the token alone: `Outside` where no token of the content
 /// begins so, `BadTag`, `BadDoctype` and `StrictText` where one that is begun can't go on. What depends on tokens before
 /// it (`]]>` in text of XHTML, a second document type) is the caller's.
-pub fn move_of(syntax: Syntax, inside: Content, mark: Mark, c: char) -> Move
+pub fn move_of(syntax: Syntax, inside: Content, mark: TokenState, c: char) -> Move
     ensures { result ≡ marks.move_of syntax inside mark c }
 {
     match mark {
-        Mark::Nothing => at_nothing(inside, c),
-        Mark::LessThan => at_less_than(syntax, inside, c),
-        Mark::RawEnd(count) => in_end(inside, count, c),
-        Mark::Tag => Move::Tags,
-        Mark::Run(phase) => in_run(inside, phase, c),
-        Mark::Opened => at_opened(syntax, inside, c),
-        Mark::Opening(word, count) => in_word(syntax, inside, word, count, c),
-        Mark::Comment(phase) => in_comment(phase, c),
-        Mark::StrictComment(phase) => in_strict_comment(phase, c),
-        Mark::Bogus => in_bogus(c),
-        Mark::Instruction(asked) => in_instruction(asked, c),
-        Mark::Doctype(phase) => in_doctype(syntax, phase, c),
-        Mark::Section(brackets) => in_section(brackets, c),
+        TokenState::Nothing => at_nothing(inside, c),
+        TokenState::LessThan => at_less_than(syntax, inside, c),
+        TokenState::RawEnd(count) => in_end(inside, count, c),
+        TokenState::Tag => Move::Tags,
+        TokenState::Run(phase) => in_run(inside, phase, c),
+        TokenState::Opened => at_opened(syntax, inside, c),
+        TokenState::Opening(word, count) => in_word(syntax, inside, word, count, c),
+        TokenState::Comment(phase) => in_comment(phase, c),
+        TokenState::StrictComment(phase) => in_strict_comment(phase, c),
+        TokenState::Bogus => in_bogus(c),
+        TokenState::Instruction(asked) => in_instruction(asked, c),
+        TokenState::Doctype(phase) => in_doctype(syntax, phase, c),
+        TokenState::Section(brackets) => in_section(brackets, c),
     }
 }
 
@@ -56,13 +56,13 @@ fn is_text(inside: Content, c: char) -> bool
     }
 }
 
-fn less_than_mark(inside: Content) -> Mark
+fn less_than_mark(inside: Content) -> TokenState
     ensures { result ≡ marks.less_than_mark inside }
 {
     if has_markup(inside) {
-        Mark::LessThan
+        TokenState::LessThan
     } else {
-        Mark::RawEnd(0)
+        TokenState::RawEnd(0)
     }
 }
 
@@ -75,10 +75,10 @@ pub fn at_first(inside: Content, c: char) -> First
         return First::Begins(less_than_mark(inside));
     }
     if c == '&' && has_references(inside) {
-        return First::Begins(Mark::Run(RunPhase::Ampersand));
+        return First::Begins(TokenState::Run(RunPhase::Ampersand));
     }
     if is_text(inside, c) {
-        First::Says
+        First::EmitText
     } else {
         First::Refuses(Kind::Outside)
     }
@@ -89,7 +89,7 @@ fn at_nothing(inside: Content, c: char) -> Move
 {
     match at_first(inside, c) {
         First::Begins(mark) => Move::Begins(mark),
-        First::Says => Move::Says,
+        First::EmitText => Move::EmitText,
         First::Refuses(kind) => Move::Refuses(kind),
     }
 }
@@ -100,12 +100,12 @@ fn begins_markup(c: char) -> bool
     is_letter(c) || c == '/' || c == '!' || c == '?'
 }
 
-fn question(syntax: Syntax) -> Mark
+fn question(syntax: Syntax) -> TokenState
     ensures { result ≡ marks.question syntax }
 {
     match syntax {
-        Syntax::Html => Mark::Bogus,
-        Syntax::Xhtml => Mark::Instruction(false),
+        Syntax::Html => TokenState::Bogus,
+        Syntax::Xhtml => TokenState::Instruction(false),
     }
 }
 
@@ -114,7 +114,7 @@ fn less_than_stops(inside: Content) -> Move
     ensures { result ≡ marks.less_than_stops inside }
 {
     match inside {
-        Content::Html | Content::Foreign => Move::Stops,
+        Content::Html | Content::Foreign => Move::Reconsume,
         _ => Move::Refuses(Kind::Outside),
     }
 }
@@ -123,8 +123,8 @@ fn at_less_than(syntax: Syntax, inside: Content, c: char) -> Move
     ensures { result ≡ marks.at_less_than syntax inside c }
 {
     match c {
-        '!' => Move::Goes(Mark::Opened),
-        '?' => Move::Goes(question(syntax)),
+        '!' => Move::Continue(TokenState::Opened),
+        '?' => Move::Continue(question(syntax)),
         _ if syntax == Syntax::Html && !begins_markup(c) => less_than_stops(inside),
         _ => Move::Tags,
     }

@@ -7,7 +7,7 @@ ghost use Rattle.rx_tags.specs.TagBufs.{no_tag, MayStep, StepGives, TakesMore};
 ghost use Rattle.rx_scan.specs.Pending.{bracket_text, in_section};
 
 use crate::buffers::Buffer;
-use crate::marks::{Brackets, Mark};
+use crate::marks::{Brackets, TokenState};
 use rx_chars::Syntax;
 use rx_tags::{Tag, TagBuf, TagError, TagStep};
 use rx_terms::NoMemory;
@@ -18,7 +18,7 @@ use std::marker::Model;
 /// CDATA section's text, and the tag.
 #[derive(Drop)]
 pub(crate) struct Unfinished {
-    mark: Mark,
+    mark: TokenState,
     run: Buffer,
     tag: TagBuf,
 }
@@ -34,25 +34,25 @@ impl Model for Unfinished {
 impl Unfinished {
     /// There are no characters.
     pub(crate) fn new(alloc: Global, syntax: Syntax) -> Result<Unfinished, NoMemory>
-        ensures { IfOk result (λ p. p ≡ record { mark = Mark.Nothing; run = []; tag = no_tag syntax }) }
+        ensures { IfOk result (λ p. p ≡ record { mark = TokenState.Nothing; run = []; tag = no_tag syntax }) }
     {
         let run = Buffer::with_room(alloc, 0)?;
         let tag = TagBuf::new(alloc, syntax)?;
         Ok(Unfinished {
-            mark: Mark::Nothing,
+            mark: TokenState::Nothing,
             run,
             tag,
         })
     }
 
-    pub(crate) fn mark(&self) -> Mark
+    pub(crate) fn mark(&self) -> TokenState
         ensures { result ≡ self.now.mark }
     {
         self.mark
     }
 
     /// A token begins.
-    pub(crate) fn begin(&mut self, mark: Mark)
+    pub(crate) fn begin(&mut self, mark: TokenState)
         ensures { self.new ≡ record { mark = mark; run = []; tag = no_tag self.old.tag.syntax } }
     {
         self.mark = mark;
@@ -61,14 +61,14 @@ impl Unfinished {
     }
 
     /// It goes on, or is whole, and nothing is kept of its last character.
-    pub(crate) fn turn(&mut self, mark: Mark)
+    pub(crate) fn turn(&mut self, mark: TokenState)
         ensures { self.new ≡ record self.old { mark = mark } }
     {
         self.mark = mark;
     }
 
     /// It goes on, and its last character is kept.
-    pub(crate) fn keep(&mut self, mark: Mark, c: char) -> Result<(), NoMemory>
+    pub(crate) fn keep(&mut self, mark: TokenState, c: char) -> Result<(), NoMemory>
         ensures { OnOk result (self.new ≡ record { mark = mark; run = self.old.run ++ c ∷ []; tag = self.old.tag }) }
     {
         if self.run.push(c).is_err() {
@@ -96,12 +96,12 @@ impl Unfinished {
         ensures { OnOk result (self.new ≡ in_section self.old ((self.old.run ++ bracket_text brackets) ++ c ∷ [])) }
     {
         self.keep_brackets(brackets)?;
-        self.keep(Mark::Section(Brackets::None), c)
+        self.keep(TokenState::Section(Brackets::None), c)
     }
 
     /// One more character of a tag.
     #[inline(always)]
-    pub(crate) fn feed(&mut self, mark: Mark, c: char) -> Result<TagStep, TagError>
+    pub(crate) fn feed(&mut self, mark: TokenState, c: char) -> Result<TagStep, TagError>
         requires { MayStep self.old.tag }
         ensures gives { StepGives self.old.tag c result self.new.tag }
         ensures kept { OnOk result (self.new ≡ record { mark = mark; run = self.old.run; tag = self.new.tag }) }

@@ -5,7 +5,7 @@ ghost use Rattle.rx_reader.specs.Tables as tables;
 ghost use Rattle.rx_scan.specs.Marks as marks;
 ghost use Rattle.rx_scan.specs.Pending as pending;
 
-use crate::marks::{Mark, Move};
+use crate::marks::{TokenState, Move};
 use rx_grammar::{Content, Kind};
 use rx_reader::{RunMove, RunPhase};
 use rx_tags::run_move;
@@ -32,29 +32,29 @@ pub(crate) fn in_run(inside: Content, phase: RunPhase, c: char) -> Move
     ensures { result ≡ marks.in_run inside (tables.run_move phase c) }
 {
     match run_move(phase, c) {
-        RunMove::Goes(next) => Move::Keeps(Mark::Run(next)),
+        RunMove::Goes(next) => Move::Keeps(TokenState::Run(next)),
         RunMove::Closes => Move::Closes,
-        RunMove::Stops if keeps_runs(inside) => Move::Stops,
+        RunMove::Stops if keeps_runs(inside) => Move::Reconsume,
         RunMove::Stops => Move::Refuses(Kind::StrictText),
     }
 }
 
 /// The character with which a run begins that may stay text: `&`, or the `<` of an end tag in raw text.
-pub fn first_char(mark: Mark) -> char
+pub fn first_char(mark: TokenState) -> char
     ensures { result ≡ pending.first_char mark }
 {
     match mark {
-        Mark::Run(_) => '&',
+        TokenState::Run(_) => '&',
         _ => '<',
     }
 }
 
 /// How far a reference was read, or `Plain` where none is begun.
-pub fn phase_of(mark: Mark) -> RunPhase
+pub fn phase_of(mark: TokenState) -> RunPhase
     ensures { result ≡ pending.phase_of mark }
 {
     match mark {
-        Mark::Run(phase) => phase,
+        TokenState::Run(phase) => phase,
         _ => RunPhase::Plain,
     }
 }

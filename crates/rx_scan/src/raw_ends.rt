@@ -39,6 +39,6 @@ pub(crate) fn in_end(inside: Content, count: usize, c: char) -> Move
     match char_at(end_word(inside), count) {
         Some(next) if c.to_ascii_lowercase() == next => Move::KeepsTag(count + 1),
         None if ends_name(c) => Move::Tags,
-        _ => Move::Stops,
+        _ => Move::Reconsume,
     }
 }

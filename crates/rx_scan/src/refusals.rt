@@ -3,7 +3,7 @@ ghost use Rattle.std.specs.Prelude.{◌≡◌};
 ghost use Rattle.rx_scan.specs.Marks as marks;
 ghost use Rattle.rx_scan.specs.Entries as entries;
 
-use crate::marks::{First, Mark, Move, Whole};
+use crate::marks::{First, TokenState, Move, Whole};
 use crate::moves::{at_first, move_of};
 use crate::places::{Position, Setting};
 use crate::readers::Reader;
@@ -15,7 +15,7 @@ fn judged(setting: Setting, two: bool, c: char, move_: Move) -> Move
     ensures { result ≡ entries.judged setting two c move_ }
 {
     match move_ {
-        Move::Says if two && setting.inside == Content::Strict && c == '>' => {
+        Move::EmitText if two && setting.inside == Content::Strict && c == '>' => {
             Move::Refuses(Kind::StrictText)
         }
         Move::Ends(Whole::Doctype) if !setting.leads => Move::Refuses(Kind::BadDoctype),
@@ -23,11 +23,11 @@ fn judged(setting: Setting, two: bool, c: char, move_: Move) -> Move
     }
 }
 
-fn token_from(mark: Mark, place: Position) -> u64
+fn token_from(mark: TokenState, place: Position) -> u64
     ensures { result ≡ entries.token_from mark place }
 {
     match mark {
-        Mark::Nothing => place.starts,
+        TokenState::Nothing => place.starts,
         _ => place.token,
     }
 }
@@ -47,12 +47,12 @@ impl Reader {
 
     // The same between tokens.
     pub(crate) fn first_at(&self, c: char) -> First
-        requires { self.now.pending.mark ≡ Mark.Nothing }
+        requires { self.now.pending.mark ≡ TokenState.Nothing }
         ensures { marks.of_first result ≡ entries.move_at self.now c }
     {
         let setting = self.setting;
         match at_first(setting.inside, c) {
-            First::Says if self.place.two && setting.inside == Content::Strict && c == '>' => {
+            First::EmitText if self.place.two && setting.inside == Content::Strict && c == '>' => {
                 First::Refuses(Kind::StrictText)
             }
             first => first,

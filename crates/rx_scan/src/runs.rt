@@ -13,20 +13,20 @@ use rx_tags::Stop;
 /// The bytes that the text of one step may have, and the last character's.
 pub(crate) const ROOM: usize = 4096;
 
-fn is_token(what: What) -> bool
+fn is_token(what: TokenKind) -> bool
     ensures { result ≡ is_token what }
 {
-    !matches!(what, What::Nothing | What::Text)
+    !matches!(what, TokenKind::Nothing | TokenKind::Text)
 }
 
 impl Reader {
     /// Whether no token is unfinished.
     pub(crate) fn is_whole(&self) -> bool
-        ensures whole { result ≡ true → (self.now.pending.mark ≡ Mark.Nothing) × (self.now.held ≡ []) }
-        ensures part { result ≡ false → self.now.pending.mark ≡ Mark.Nothing → self.now.held ≢ [] }
+        ensures whole { result ≡ true → (self.now.pending.mark ≡ TokenState.Nothing) × (self.now.held ≡ []) }
+        ensures part { result ≡ false → self.now.pending.mark ≡ TokenState.Nothing → self.now.held ≢ [] }
     {
         match self.pending.mark() {
-            Mark::Nothing => self.utf8.is_whole(),
+            TokenState::Nothing => self.utf8.is_whole(),
             _ => false,
         }
     }
@@ -34,30 +34,30 @@ impl Reader {
     // Whether text is to be handed out, because a token has begun or the room is used up.
     fn must_show(&self) -> bool
         ensures some { result ≡ true → self.now.text.text ≢ [] }
-        ensures apart { result ≡ false → (self.now.text.text ≡ []) ⊎ (self.now.pending.mark ≡ Mark.Nothing) }
+        ensures apart { result ≡ false → (self.now.text.text ≡ []) ⊎ (self.now.pending.mark ≡ TokenState.Nothing) }
         ensures room { result ≡ false → self.now.text.size + 4 ≤ ROOM }
     {
         if self.text.is_empty() {
             return false;
         }
-        self.pending.mark() != Mark::Nothing || self.text.len() > ROOM - 4
+        self.pending.mark() != TokenState::Nothing || self.text.len() > ROOM - 4
     }
 
     // What the piece tells at its end.
-    fn rest(&self) -> What
-        ensures text { result ≡ What.Text → self.now.text.text ≢ [] }
-        ensures nothing { result ≡ What.Nothing → self.now.text.text ≡ [] }
+    fn rest(&self) -> TokenKind
+        ensures text { result ≡ TokenKind.Text → self.now.text.text ≢ [] }
+        ensures nothing { result ≡ TokenKind.Nothing → self.now.text.text ≡ [] }
         ensures either { is_token result ≡ false }
     {
         if self.text.is_empty() {
-            What::Nothing
+            TokenKind::Nothing
         } else {
-            What::Text
+            TokenKind::Text
         }
     }
 
     /// Takes bytes of the piece up to the end of a token, or all of them.
-    pub(crate) fn run(&mut self, piece: &[u8]) -> Result<(usize, What), Stop>
+    pub(crate) fn run(&mut self, piece: &[u8]) -> Result<(usize, TokenKind), Stop>
         requires may_step { MayStep self.old.pending.tag }
         requires none { self.old.text.text ≡ [] }
         requires size { self.old.text.size ≡ 0 }
@@ -66,8 +66,8 @@ impl Reader {
         ensures ready { RunsReady result self.new }
         ensures takes { RunsTake piece.now result }
         ensures place { LiesAt result self.new.place.at }
-        ensures quiet { self.old.pending.mark ≡ Mark.Nothing → is_quiet piece.now ≡ true → IsNoMemory result ≡ false }
-        ensures quiet_tells { self.old.pending.mark ≡ Mark.Nothing → is_quiet piece.now ≡ true → IfOk result (λ answer. is_tag answer.1 ≡ false) }
+        ensures quiet { self.old.pending.mark ≡ TokenState.Nothing → is_quiet piece.now ≡ true → IsNoMemory result ≡ false }
+        ensures quiet_tells { self.old.pending.mark ≡ TokenState.Nothing → is_quiet piece.now ≡ true → IfOk result (λ answer. is_tag answer.1 ≡ false) }
     {
         let mut taken = self.take_front(piece);
         while taken < piece.len() {
@@ -81,7 +81,7 @@ impl Reader {
                 }
             }
             if self.must_show() {
-                return Ok((taken, What::Text));
+                return Ok((taken, TokenKind::Text));
             }
             taken += self.take_front(&piece[taken..]);
         }
@@ -89,11 +89,11 @@ impl Reader {
     }
 
     // Text that was read before a fault is handed out first.
-    fn stopped(&self, taken: usize, stop: Stop) -> Result<(usize, What), Stop>
+    fn stopped(&self, taken: usize, stop: Stop) -> Result<(usize, TokenKind), Stop>
         ensures { result ≡ stopped_at self.now.text.text taken stop }
     {
         match stop {
-            Stop::Fault(_) if !self.text.is_empty() => Ok((taken, What::Text)),
+            Stop::Fault(_) if !self.text.is_empty() => Ok((taken, TokenKind::Text)),
             Stop::Fault(_) | Stop::NoMemory => Err(stop),
         }
     }

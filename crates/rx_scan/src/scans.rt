@@ -1,7 +1,7 @@
 //! The scanner.
 ghost use Rattle.std.specs.Prelude.{◌≡◌, true, false, IfOk};
 
-use crate::answers::{Token, What};
+use crate::answers::{Token, TokenKind};
 use crate::buffers::Buffer;
 use crate::marks::Mark;
 use crate::pending::Unfinished;
@@ -21,10 +21,10 @@ use std::marker::Model;
 #[derive(Drop)]
 pub struct Scan {
     reader: Reader,
-    what: What,
+    what: TokenKind,
     stepped: bool,
     failed: Option<Fault>,
-    spent: bool,
+    out_of_memory: bool,
 }
 
 impl Model for Scan {
@@ -33,7 +33,7 @@ impl Model for Scan {
 
     ghost Value = { Scanner };
 
-    ghost view = { λ s. record { reading = s.reader; what = s.what; stepped = s.stepped; failed = s.failed; spent = s.spent } };
+    ghost view = { λ s. record { reading = s.reader; what = s.what; stepped = s.stepped; failed = s.failed; out_of_memory = s.out_of_memory } };
 
     ghost invariant = { λ s. MayShow s.what s.stepped s.failed s.reader };
 }
@@ -48,7 +48,7 @@ impl Scan {
         ensures setting { IfOk result (λ v. v.reading.setting ≡ first_setting syntax limits) }
         ensures stands { IfOk result (λ v. ScanStands v no_bytes) }
         ensures enter { IfOk result (λ v. v.stepped ≡ false) }
-        ensures nothing { IfOk result (λ v. v.what ≡ What.Nothing) }
+        ensures nothing { IfOk result (λ v. v.what ≡ TokenKind.Nothing) }
     {
         let text = Buffer::with_room(alloc, ROOM)?;
         let pending = Unfinished::new(alloc, syntax)?;
@@ -68,10 +68,10 @@ impl Scan {
                 text,
                 end: 0,
             },
-            what: What::Nothing,
+            what: TokenKind::Nothing,
             stepped: false,
             failed: None,
-            spent: false,
+            out_of_memory: false,
         })
     }
 
@@ -88,7 +88,7 @@ impl Scan {
 
     fn set(&mut self, content: Content, drop_newline: bool)
         ensures new { self.new ≡ inside_of content drop_newline self.old }
-        ensures between { may_enter self.old ≡ true → self.old.reading.pending.mark ≡ Mark.Nothing }
+        ensures between { may_enter self.old ≡ true → self.old.reading.pending.mark ≡ TokenState.Nothing }
     {
         self.reader.setting.inside = content;
         self.reader.setting.drops = drop_newline;
@@ -98,7 +98,7 @@ impl Scan {
     pub fn end(&mut self) -> Result<(), Stop>
         ensures { Finishes self.old result self.new }
     {
-        if self.spent {
+        if self.out_of_memory {
             return Err(Stop::NoMemory);
         }
         if let Some(fault) = self.failed {
@@ -134,23 +134,23 @@ impl Scan {
     fn prepare(&mut self)
         ensures { Prepared self.old self.new }
     {
-        if self.what == What::Tag {
+        if self.what == TokenKind::Tag {
             self.reader.pending.forget_tag();
         }
         self.reader.text.clear();
-        self.what = What::Nothing;
+        self.what = TokenKind::Nothing;
         self.stepped = true;
     }
 
     // Answers this from now on.
     fn fail(&mut self, stop: Stop)
-        requires nothing { self.old.what ≡ What.Nothing }
+        requires nothing { self.old.what ≡ TokenKind.Nothing }
         requires place { LiesThere stop self.old.reading.place.at }
         ensures { FailsBy stop self.old self.new }
     {
         match stop {
             Stop::Fault(fault) => self.failed = Some(fault),
-            Stop::NoMemory => self.spent = true,
+            Stop::NoMemory => self.out_of_memory = true,
         }
     }
 
@@ -160,7 +160,7 @@ impl Scan {
         ensures quiet { IsQuiet self.old piece.now result }
         ensures quiet_tells { NoTagOfText self.old piece.now (OnOk result (is_tag self.new.what ≡ false)) }
     {
-        if self.spent {
+        if self.out_of_memory {
             self.prepare();
             return Err(Stop::NoMemory);
         }
@@ -201,17 +201,17 @@ impl Scan {
         ensures { Shows self.now.what self.now.reading result }
     {
         match self.what {
-            What::Nothing => Token::More,
-            What::Skipped => Token::Skipped,
-            What::Doctype => Token::Doctype,
-            What::Text => Token::Text(self.reader.text.as_str()),
-            What::Section => Token::Text(self.reader.pending.run().as_str()),
-            What::Tag => self.shown_tag(),
+            TokenKind::Nothing => Token::More,
+            TokenKind::Skipped => Token::Skipped,
+            TokenKind::Doctype => Token::Doctype,
+            TokenKind::Text => Token::Text(self.reader.text.as_str()),
+            TokenKind::Section => Token::Text(self.reader.pending.run().as_str()),
+            TokenKind::Tag => self.shown_tag(),
         }
     }
 
     fn tag(&self) -> Tag<'_>
-        requires { self.now.what ≡ What.Tag }
+        requires { self.now.what ≡ TokenKind.Tag }
         ensures { ShowsTag self.now.reading (parts_of self.now.reading.pending.tag.state).closing result }
     {
         self.reader
@@ -220,8 +220,8 @@ impl Scan {
     }
 
     fn shown_tag(&self) -> Token<'_>
-        requires { self.now.what ≡ What.Tag }
-        ensures { Shows What.Tag self.now.reading result }
+        requires { self.now.what ≡ TokenKind.Tag }
+        ensures { Shows TokenKind.Tag self.now.reading result }
     {
         let tag = self.tag();
         if tag.closing() {
@@ -235,7 +235,7 @@ impl Scan {
     pub fn last(&self) -> Option<Tag<'_>>
         ensures { IsLastTag self.now result }
     {
-        if self.what == What::Tag {
+        if self.what == TokenKind::Tag {
             Some(self.tag())
         } else {
             None

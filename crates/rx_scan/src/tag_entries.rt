@@ -19,29 +19,29 @@ impl Reader {
     {
         let closing = self.pending.is_closing();
         self.setting.pass_tag(closing);
-        self.pending.turn(Mark::Nothing);
+        self.pending.turn(TokenState::Nothing);
         self.end = self.place.at;
         self.place = self.place.ended(after_return, false);
         self.utf8 = Utf8::new();
     }
 
     #[inline(always)]
-    pub(crate) fn tag_on(&mut self, c: char, after_return: bool) -> Result<What, Stop>
+    pub(crate) fn tag_on(&mut self, c: char, after_return: bool) -> Result<TokenKind, Stop>
         requires may_step { MayStep self.old.pending.tag }
         requires room { self.old.place.at + 1 < 2 ^ 64 }
-        ensures does { entries.Tags self.old c after_return (entries.marked Mark.Tag self.old.pending) result self.new }
+        ensures does { entries.Tags self.old c after_return (entries.marked TokenState.Tag self.old.pending) result self.new }
         ensures ready { entries.IsReady self.old result self.new }
     {
         let fault = self.fault_at(Kind::BadTag);
-        match self.pending.feed(Mark::Tag, c) {
+        match self.pending.feed(TokenState::Tag, c) {
             Ok(TagStep::More) => {
                 self.place = self.place.entered(after_return);
                 self.utf8 = Utf8::new();
-                Ok(What::Nothing)
+                Ok(TokenKind::Nothing)
             }
             Ok(TagStep::Done) => {
                 self.end_tag(after_return);
-                Ok(What::Tag)
+                Ok(TokenKind::Tag)
             }
             Err(TagError::Bad(kind)) => Err(Stop::Fault(Fault { kind, ..fault })),
             Err(TagError::NoMemory) => Err(Stop::NoMemory),
@@ -53,25 +53,25 @@ impl Reader {
         c: char,
         after_return: bool,
         count: usize,
-    ) -> Result<What, Stop>
+    ) -> Result<TokenKind, Stop>
         requires may_step { MayStep self.old.pending.tag }
         requires room { self.old.place.at + 1 < 2 ^ 64 }
-        ensures does { entries.Tags self.old c after_return (entries.kept_by (Mark.RawEnd count) c self.old.pending) result self.new }
+        ensures does { entries.Tags self.old c after_return (entries.kept_by (TokenState.RawEnd count) c self.old.pending) result self.new }
         ensures ready { entries.IsReady self.old result self.new }
     {
         let fault = self.fault_at(Kind::BadTag);
         if self.pending.keep(self.pending.mark(), c).is_err() {
             return Err(Stop::NoMemory);
         }
-        match self.pending.feed(Mark::RawEnd(count), c) {
+        match self.pending.feed(TokenState::RawEnd(count), c) {
             Ok(TagStep::More) => {
                 self.place = self.place.entered(after_return);
                 self.utf8 = Utf8::new();
-                Ok(What::Nothing)
+                Ok(TokenKind::Nothing)
             }
             Ok(TagStep::Done) => {
                 self.end_tag(after_return);
-                Ok(What::Tag)
+                Ok(TokenKind::Tag)
             }
             Err(TagError::Bad(kind)) => Err(Stop::Fault(Fault { kind, ..fault })),
             Err(TagError::NoMemory) => Err(Stop::NoMemory),

@@ -4,7 +4,7 @@ ghost use Rattle.rx_scan.specs.Entries as entries;
 ghost use Rattle.rx_tags.specs.TagBufs.{MayStep};
 
 use crate::answers::What;
-use crate::marks::{First, Mark, Move};
+use crate::marks::{First, TokenState, Move};
 use crate::moves::at_first;
 use crate::phases::{first_char, phase_of};
 use crate::places::Position;
@@ -16,7 +16,7 @@ use rx_terms::NoMemory;
 
 impl Reader {
     // One character of text, by itself or by a reference.
-    pub(crate) fn say(&mut self, c: char, place: Position) -> Result<What, Stop>
+    pub(crate) fn say(&mut self, c: char, place: Position) -> Result<TokenKind, Stop>
         requires may_step { MayStep self.old.pending.tag }
         ensures says { entries.Says self.old c place result self.new }
         ensures room { self.old.text.size + 4 ≤ self.old.text.room → IsOk result }
@@ -28,16 +28,16 @@ impl Reader {
         }
         self.setting.drop_none();
         self.place = place;
-        self.pending.turn(Mark::Nothing);
+        self.pending.turn(TokenState::Nothing);
         self.utf8 = Utf8::new();
         if dropped {
-            Ok(What::Skipped)
+            Ok(TokenKind::Skipped)
         } else {
-            Ok(What::Nothing)
+            Ok(TokenKind::Nothing)
         }
     }
 
-    pub(crate) fn close(&mut self, after_return: bool) -> Result<What, Stop>
+    pub(crate) fn close(&mut self, after_return: bool) -> Result<TokenKind, Stop>
         requires may_step { MayStep self.old.pending.tag }
         requires room { self.old.place.at + 1 < 2 ^ 64 }
         ensures does { entries.Enters self.old 0 after_return Move.Closes result self.new }
@@ -56,10 +56,10 @@ impl Reader {
     }
 
     // The run before the character is text.
-    pub(crate) fn stop(&mut self, c: char, after_return: bool) -> Result<What, Stop>
+    pub(crate) fn stop(&mut self, c: char, after_return: bool) -> Result<TokenKind, Stop>
         requires may_step { MayStep self.old.pending.tag }
         requires room { self.old.place.at + 1 < 2 ^ 64 }
-        ensures does { entries.Enters self.old c after_return Move.Stops result self.new }
+        ensures does { entries.Enters self.old c after_return Move.Reconsume result self.new }
         ensures ready { entries.IsReady self.old result self.new }
     {
         match at_first(self.setting.inside, c) {
@@ -69,7 +69,7 @@ impl Reader {
                 }
                 self.begin(after_return, mark)
             }
-            First::Says => {
+            First::EmitText => {
                 if self.tell_run().is_err() {
                     return Err(Stop::NoMemory);
                 }

@@ -15,8 +15,8 @@ abbrev pub lent_triples : List (Bor CodeTriple) → List (Triple ℕ)
 lent_triples list = map (λ t. triple_seen t.now) list
 
 -- the list got these triples at its end
-abbrev pub Gains : List (Bor CodeTriple) → List (Bor CodeTriple) → List (Triple ℕ) → Type 0
-Gains old new more = lent_triples new ≡ lent_triples old ++ more
+abbrev pub Appends : List (Bor CodeTriple) → List (Bor CodeTriple) → List (Triple ℕ) → Type 0
+Appends old new more = lent_triples new ≡ lent_triples old ++ more
 
 abbrev pub key_by : By → Triple ℕ → Node ℕ
 key_by by.Subject t = t.subject

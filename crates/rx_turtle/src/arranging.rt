@@ -5,7 +5,7 @@ ghost use Rattle.rx_model.specs.Terms.{same_node};
 ghost use Rattle.rx_model.specs.Seen.{triple_seen, triples_seen};
 ghost use Rattle.rx_graph.specs.Resources.{resource_seen};
 ghost use Rattle.rx_turtle.specs.declared.keys.By.TheVariants as by;
-ghost use Rattle.rx_turtle.specs.Groups.{key_by, grouped, lent_triples, those_with, Gains};
+ghost use Rattle.rx_turtle.specs.Groups.{key_by, grouped, lent_triples, those_with, Appends};
 ghost use Rattle.rx_turtle.specs.Runs.{all_in, runs, like_first, said_by, said_in, by_predicate};
 
 use crate::groups::Groups;
@@ -60,7 +60,7 @@ fn push_arranged<'a>(
     list: &mut Vec<&'a Triple>,
     triples: &[&'a Triple],
 ) -> Result<(), NoMemory>
-    ensures { OnOk result (Gains list.old.items list.new.items (all_in (grouped by.Predicate (lent_triples triples.now)))) }
+    ensures { OnOk result (Appends list.old.items list.new.items (all_in (grouped by.Predicate (lent_triples triples.now)))) }
 {
     if triples.len() <= FEW {
         return push_few(list, triples);
@@ -72,7 +72,7 @@ fn push_arranged<'a>(
 
 /// The same without an index. The time is that of the square of their number.
 fn push_few<'a>(list: &mut Vec<&'a Triple>, triples: &[&'a Triple]) -> Result<(), NoMemory>
-    ensures { OnOk result (Gains list.old.items list.new.items (all_in (grouped by.Predicate (lent_triples triples.now)))) }
+    ensures { OnOk result (Appends list.old.items list.new.items (all_in (grouped by.Predicate (lent_triples triples.now)))) }
 {
     for i in 0..triples.len() {
         let (before, from) = triples.split_at(i);
@@ -87,7 +87,7 @@ fn push_like_first<'a>(
     before: &[&'a Triple],
     from: &[&'a Triple],
 ) -> Result<(), NoMemory>
-    ensures { OnOk result (Gains list.old.items list.new.items (like_first by.Predicate (lent_triples before.now) (lent_triples from.now))) }
+    ensures { OnOk result (Appends list.old.items list.new.items (like_first by.Predicate (lent_triples before.now) (lent_triples from.now))) }
 {
     if from.is_empty() {
         return Ok(());
@@ -117,7 +117,7 @@ fn push_those_with<'a>(
     triples: &[&'a Triple],
     key: Resource,
 ) -> Result<(), NoMemory>
-    ensures { OnOk result (Gains list.old.items list.new.items (those_with by.Predicate (resource_seen key.entry) (lent_triples triples.now))) }
+    ensures { OnOk result (Appends list.old.items list.new.items (those_with by.Predicate (resource_seen key.entry) (lent_triples triples.now))) }
 {
     for i in 0..triples.len() {
         push_if(list, triples[i], key)?;
@@ -130,7 +130,7 @@ fn push_if<'a>(
     triple: &'a Triple,
     key: Resource,
 ) -> Result<(), NoMemory>
-    ensures { OnOk result (Gains list.old.items list.new.items (those_with by.Predicate (resource_seen key.entry) (triple_seen triple.now ∷ []))) }
+    ensures { OnOk result (Appends list.old.items list.new.items (those_with by.Predicate (resource_seen key.entry) (triple_seen triple.now ∷ []))) }
 {
     if !has_key(triple, By::Predicate, key) {
         return Ok(());
@@ -141,7 +141,7 @@ fn push_if<'a>(
 
 /// Adds the triples of each group.
 fn push_groups<'a>(list: &mut Vec<&'a Triple>, groups: &Groups<'a>) -> Result<(), NoMemory>
-    ensures { OnOk result (Gains list.old.items list.new.items (all_in groups.now)) }
+    ensures { OnOk result (Appends list.old.items list.new.items (all_in groups.now)) }
 {
     for i in 0..groups.len() {
         let (_key, triples) = groups.at(i);
@@ -151,7 +151,7 @@ fn push_groups<'a>(list: &mut Vec<&'a Triple>, groups: &Groups<'a>) -> Result<()
 }
 
 fn push_all<'a>(list: &mut Vec<&'a Triple>, triples: &[&'a Triple]) -> Result<(), NoMemory>
-    ensures { OnOk result (Gains list.old.items list.new.items (lent_triples triples.now)) }
+    ensures { OnOk result (Appends list.old.items list.new.items (lent_triples triples.now)) }
 {
     for i in 0..triples.len() {
         list.push(triples[i])?;

@@ -16,7 +16,7 @@ use Rattle.rx_curie.specs.declared.facts.FactsError.TheVariants as error
 use Rattle.rx_grammar.specs.declared.faults.Kind.{Kind}
 use Rattle.rx_nest.specs.Signs.{Sign, begun, said}
 use Rattle.rx_nest.specs.Fronts.{IsFront}
-use Rattle.rx_walk.specs.declared.courses.Course.{Course}
+use Rattle.rx_walk.specs.declared.courses.RdfaListener.{RdfaListener}
 use Rattle.rx_walk.specs.declared.origins.Origin.{Origin}
 use Rattle.rx_base.specs.Lines.{read_tag, around, line_on, line_of}
 use Rattle.rx_walk.specs.CallsOf.{call_of, calls_of, singles}
@@ -54,7 +54,7 @@ absolute_around [] a = tt
 absolute_around (t ∷ line) a = a.1
 
 -- what a course has to be told may be told
-pub takes_one : (course : Course) (context : Context) (address : Chars) (levels : ℕ) (signs : List Sign) (sign : Sign) → Runs context address levels course signs → IsFront levels (signs ++ sign ∷ [])
+pub takes_one : (course : RdfaListener) (context : Context) (address : Chars) (levels : ℕ) (signs : List Sign) (sign : Sign) → Runs context address levels course signs → IsFront levels (signs ++ sign ∷ [])
     → MayTake course.origin.levels (call_of context (line_of [] signs) sign ∷ []) course.stage
 takes_one course context address levels signs sign r f =
     record {
@@ -67,7 +67,7 @@ takes_one course context address levels signs sign r f =
           (subst (λ l. MayBe levels l) (calls_append context [] signs (sign ∷ [])) (may_more context levels signs r.may sign f));
     }
 
-module _ (context : Context) (address : Chars) (levels : ℕ) (old new : Course) (signs : List Sign) (r : Runs context address levels old signs) where
+module _ (context : Context) (address : Chars) (levels : ℕ) (old new : RdfaListener) (signs : List Sign) (r : Runs context address levels old signs) where
   -- one more sign
   pub runs_more : (sign : Sign) → IsFront levels (signs ++ sign ∷ []) → names.NamesStand new.names (line_on (line_of [] signs) sign) → new.names.context ≡ old.names.context → new.origin ≡ old.origin
       → new.count ≡ length (line_on (line_of [] signs) sign) → AllAbsolute (line_on (line_of [] signs) sign) → refused_at context (line_of [] signs) sign ≡ None

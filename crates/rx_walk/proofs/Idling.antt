@@ -15,21 +15,21 @@ use Rattle.rx_walk.specs.Stages.{Staged}
 use Rattle.rx_walk.specs.Walks.{state_of}
 use Rattle.rx_walk.specs.Quiets.{IsIdle}
 
-read_idle : (chars : Chars) (old new : State) → new ≡ read_text chars old → old.spent ≡ false → gathers_some old.frames ≡ false → IsIdle (stage.Found new)
-read_idle chars old new e s g = (ap (λ (z : State). z.spent) e ∙ s, ap (λ (z : State). gathers_some z.frames) e ∙ g)
+read_idle : (chars : Chars) (old new : State) → new ≡ read_text chars old → old.out_of_memory ≡ false → gathers_some old.frames ≡ false → IsIdle (stage.Found new)
+read_idle chars old new e s g = (ap (λ (z : State). z.out_of_memory) e ∙ s, ap (λ (z : State). gathers_some z.frames) e ∙ g)
 
-pub text_idle : (chars : Chars) (r : Result (Unit {0}) NoMemory) (old new : State) → IsOk r → OnOk r (new ≡ read_text chars old) → old.spent ≡ false → gathers_some old.frames ≡ false → IsOk r × IsIdle (stage.Found new)
+pub text_idle : (chars : Chars) (r : Result (Unit {0}) NoMemory) (old new : State) → IsOk r → OnOk r (new ≡ read_text chars old) → old.out_of_memory ≡ false → gathers_some old.frames ≡ false → IsOk r × IsIdle (stage.Found new)
 text_idle chars (Ok done) old new k e s g = (k, read_idle chars old new e s g)
 text_idle chars (Err why) old new k e s g = absurd (cc)
 
 -- an evaluator that answers has memory
-one_unspent : (call : Call) (old new : State) → Steps call old new → new.spent ≡ old.spent
+one_unspent : (call : Call) (old new : State) → Steps call old new → new.out_of_memory ≡ old.out_of_memory
 one_unspent (Enter facts) old new s = s.1.rest.6
-one_unspent (Read chars) old new s = ap (λ (z : State). z.spent) s
+one_unspent (Read chars) old new s = ap (λ (z : State). z.out_of_memory) s
 one_unspent Leave old new s = s.rest.5
 
-pub all_unspent : (list : List Call) (old new : State) → Leads list old new → new.spent ≡ old.spent
-all_unspent [] old new h = ap (λ (z : State). z.spent) h
+pub all_unspent : (list : List Call) (old new : State) → Leads list old new → new.out_of_memory ≡ old.out_of_memory
+all_unspent [] old new h = ap (λ (z : State). z.out_of_memory) h
 all_unspent (call ∷ list) old new h = all_unspent list h.0 new h.2 ∙ one_unspent call old h.0 h.1
 
 pub idle_at : (address : Chars) (levels : ℕ) (seeking : Seeking) (list : List Call) (x : Stage) (state : State) → Staged address levels seeking list x → state_of x ≡ Some state → gathers_some state.frames ≡ false → IsIdle x

@@ -10,7 +10,7 @@ use Rattle.rx_eval.specs.States.{State}
 use Rattle.rx_walk.specs.declared.calls.Call.{Call as CodeCall}
 use Rattle.rx_walk.specs.declared.calls.Call.TheVariants as code
 use Rattle.rx_walk.specs.declared.origins.Origin.{Origin}
-use Rattle.rx_walk.specs.declared.stages.Head.{Head}
+use Rattle.rx_walk.specs.declared.stages.PendingBase.{PendingBase}
 use Rattle.rx_walk.specs.declared.stages.Stage.TheVariants as stage
 use Rattle.rx_walk.specs.CallsOf.{singles}
 use Rattle.rx_base.specs.Seekings.{Seeking, known}
@@ -48,7 +48,7 @@ found_leaves levels state m = may_leave (base_by m.staged.href m.address) levels
 
 -- where it is sought
 
-pub seeks_on : (origin : Origin) (turn : Seeking → Seeking) (more : List Call) (old new : Head)
+pub seeks_on : (origin : Origin) (turn : Seeking → Seeking) (more : List Call) (old new : PendingBase)
     → HeadGives origin (turn (sought_seen old.sought)) (queue_seen old.queue.items ++ more) None new → Tells origin turn more (stage.Seeking old) (stage.Seeking new)
 seeks_on origin turn more old new g = record {
   staged = λ seeking list k. record { sought = g.sought ∙ ap turn k.sought; queue = g.queue ∙ ap (λ l. l ++ more) k.queue };
@@ -99,19 +99,19 @@ follow_begun base levels list start e m = record { base = base; levels = levels;
 
 -- what is kept while the base is sought
 
-pub head_more : (origin : Origin) (turned : Seeking) (old new : Head) (call : CodeCall) → new.queue.items ≡ old.queue.items ++ call ∷ [] → sought_seen new.sought ≡ turned
+pub head_more : (origin : Origin) (turned : Seeking) (old new : PendingBase) (call : CodeCall) → new.queue.items ≡ old.queue.items ++ call ∷ [] → sought_seen new.sought ≡ turned
     → HeadGives origin turned (queue_seen old.queue.items ++ call_seen call) None new
 head_more origin turned old new call q s = record { sought = s; queue = ap queue_seen q ∙ queue_more old.queue.items call }
 
-pub head_may : (levels : ℕ) (old : Head) (queue : List CodeCall) (call : CodeCall) → queue ≡ old.queue.items ++ call ∷ [] → MayBe levels (queue_seen old.queue.items ++ call_seen call) → MayBe levels (queue_seen queue)
+pub head_may : (levels : ℕ) (old : PendingBase) (queue : List CodeCall) (call : CodeCall) → queue ≡ old.queue.items ++ call ∷ [] → MayBe levels (queue_seen old.queue.items ++ call_seen call) → MayBe levels (queue_seen queue)
 head_may levels old queue call q m = subst (λ l. MayBe levels l) (sym (ap queue_seen q ∙ queue_more old.queue.items call)) m
 
-pub head_known : (origin : Origin) (turned : Seeking) (old new : Head) (queue : List CodeCall) (call : CodeCall) (href : Option Chars) (state : State) → queue ≡ old.queue.items ++ call ∷ [] → turned ≡ known href
+pub head_known : (origin : Origin) (turned : Seeking) (old new : PendingBase) (queue : List CodeCall) (call : CodeCall) (href : Option Chars) (state : State) → queue ≡ old.queue.items ++ call ∷ [] → turned ≡ known href
     → Led (base_by href origin.address) origin.levels (queue_seen queue) state → HeadGives origin turned (queue_seen old.queue.items ++ call_seen call) (Some state) new
 head_known origin turned old new queue call href state q k l =
     record { href = href; is = k; led = subst (λ x. Led (base_by href origin.address) origin.levels x state) (ap queue_seen q ∙ queue_more old.queue.items call) l }
 
-pub said_tells : (origin : Origin) (old new : Head) (text chars : Chars) → text ≡ chars → new.queue.items ≡ old.queue.items ++ code.Text text ∷ [] → new.sought ≡ old.sought
+pub said_tells : (origin : Origin) (old new : PendingBase) (text chars : Chars) → text ≡ chars → new.queue.items ≡ old.queue.items ++ code.Text text ∷ [] → new.sought ≡ old.sought
     → Tells origin (λ s. s) (singles chars) (stage.Seeking old) (stage.Seeking new)
 said_tells origin old new text chars e q s =
     seeks_on origin (λ x. x) (singles chars) old new

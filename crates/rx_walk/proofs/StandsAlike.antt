@@ -146,7 +146,7 @@ reframed a frames b = record {
   kept = a.kept;
   out = a.out;
   ended = a.ended;
-  spent = b.spent;
+  out_of_memory = b.out_of_memory;
 }
 
 no_frames : (frames : List Frame) → map frame_of frames ≡ [] → frames ≡ []
@@ -196,5 +196,5 @@ stands_alike to list a b e s =
       kept = (e i).kept;
       out = (e i).out;
       ended = (e i).ended;
-      spent = b.spent;
+      out_of_memory = b.out_of_memory;
     }

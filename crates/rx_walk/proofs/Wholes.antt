@@ -12,8 +12,8 @@ use Rattle.rx_nest.specs.Signs.{Sign, finished, signs_of}
 use Rattle.rx_nest.specs.Readings.{Whole}
 use Rattle.rx_eval.specs.Opened.{begun_state}
 use Rattle.rx_eval.specs.States.{State}
-use Rattle.rx_walk.specs.declared.courses.Course.{Course}
-use Rattle.rx_walk.specs.declared.stages.Head.{Head}
+use Rattle.rx_walk.specs.declared.courses.RdfaListener.{RdfaListener}
+use Rattle.rx_walk.specs.declared.stages.PendingBase.{PendingBase}
 use Rattle.rx_walk.specs.declared.stages.Stage.{Stage}
 use Rattle.rx_walk.specs.declared.stages.Stage.TheVariants as stage
 use Rattle.rx_base.specs.declared.seeking.Sought.{Sought}
@@ -39,7 +39,7 @@ known_at address levels seeking list (stage.Seeking head) state s e = absurd (cc
 known_at address levels seeking list (stage.Found other) state s e = let is : other ≡ state = cc in subst (λ z. Known address levels seeking list z) is s
 
 -- as many frames are open as elements
-pub runs_fit : (context : Context) (address : Chars) (levels : ℕ) (course : Course) (signs : List Sign) → Runs context address levels course signs → (state : State) → state_of course.stage ≡ Some state → length state.frames ≡ length (line_of [] signs)
+pub runs_fit : (context : Context) (address : Chars) (levels : ℕ) (course : RdfaListener) (signs : List Sign) → Runs context address levels course signs → (state : State) → state_of course.stage ≡ Some state → length state.frames ≡ length (line_of [] signs)
 runs_fit context address levels course signs r state e =
     let k = known_at address levels (sought signs) (calls_of context [] signs) course.stage state r.staged e in
     let at = led_at (base_by k.href address) levels (calls_of context [] signs) state r.may.front k.led r.may.leads in
@@ -54,19 +54,19 @@ no_sought : (x : Sought) (href : Option Chars) → sought_seen x ≡ known href 
 no_sought looks.FirstChild href e = cc
 no_sought looks.BaseChild href e = cc
 
-pub not_sought : (course : Course) (head : Head) → course.stage ≡ stage.Seeking head → IsWhole course → ⊥
+pub not_sought : (course : RdfaListener) (head : PendingBase) → course.stage ≡ stage.Seeking head → IsWhole course → ⊥
 not_sought course head e w =
     let s = subst (λ x. Staged w.address w.levels (sought (signs_of (element w.root w.inside end))) (calls_of w.context [] (signs_of (element w.root w.inside end))) x) e w.runs.staged in
     no_sought head.sought (root_href (tags_of (element w.root w.inside end))) (s.sought ∙ base_found w.root w.inside)
 
 -- the evaluator has always had the memory that it asked for
-pub whole_unspent : (course : Course) (state : State) → course.stage ≡ stage.Found state → IsWhole course → state.spent ≡ false
+pub whole_unspent : (course : RdfaListener) (state : State) → course.stage ≡ stage.Found state → IsWhole course → state.out_of_memory ≡ false
 whole_unspent course state e w =
     let signs : List Sign = signs_of (element w.root w.inside end) in
     let k = known_at w.address w.levels (sought signs) (calls_of w.context [] signs) course.stage state w.runs.staged (ap state_of e) in
     all_unspent (calls_of w.context [] signs) (begun_state (base_by k.href w.address) w.levels) state k.led.leads
 
-pub whole_lists : (context : Context) (address : Chars) (levels : ℕ) (course : Course) (root : StartTag) (inside : Tree) (state : State) (list : List CodeTriple)
+pub whole_lists : (context : Context) (address : Chars) (levels : ℕ) (course : RdfaListener) (root : StartTag) (inside : Tree) (state : State) (list : List CodeTriple)
     → Runs context address levels course (signs_of (element root inside end)) → course.stage ≡ stage.Found state → triples_seen list ≡ state.out → Lists context address levels (element root inside end) list
 whole_lists context address levels course root inside state list r e l =
     let tree : Tree = element root inside end in
@@ -84,7 +84,7 @@ whole_lists context address levels course root inside state list r e l =
 
 -- the page's end
 
-pub whole_of : (made : Setting × Chars) (course : Course) (bytes : List ℕ) → Whole (way_at made) (runs_at made) bytes course → IsWhole course
+pub whole_of : (made : Setting × Chars) (course : RdfaListener) (bytes : List ℕ) → Whole (way_at made) (runs_at made) bytes course → IsWhole course
 whole_of made course bytes w =
     let d = w.page.document in
     record {
@@ -96,7 +96,7 @@ whole_of made course bytes w =
       runs = subst (λ t. runs_at made course (signs_of t)) d.tree_is w.known;
     }
 
-pub ended_of : (setting : Setting) (address : Chars) (course : Course) (bytes : List ℕ) (list : List CodeTriple) → Whole (way_of setting) (runs_at (setting, address)) bytes course
+pub ended_of : (setting : Setting) (address : Chars) (course : RdfaListener) (bytes : List ℕ) (list : List CodeTriple) → Whole (way_of setting) (runs_at (setting, address)) bytes course
     → ((root : StartTag) (inside : Tree) → Runs setting.context address setting.limits.depth course (signs_of (element root inside end)) → Lists setting.context address setting.limits.depth (element root inside end) list)
     → Ended setting address bytes list
 ended_of setting address course bytes list w gives =

@@ -7,7 +7,7 @@ use Rattle.rx_grammar.specs.declared.stops.Stop.{Stop}
 use Rattle.rx_nest.specs.Fronts.{IsFront}
 use Rattle.rx_nest.specs.Signs.{Sign}
 use Rattle.rx_nest.specs.Listening.{Hears}
-use Rattle.rx_walk.specs.declared.scopes.Scope.{Scope}
+use Rattle.rx_walk.specs.declared.scopes.CheckingListener.{CheckingListener}
 use Rattle.rx_base.specs.Lines.{line_of}
 use Rattle.rx_walk.specs.Refused.{refused_in}
 use Rattle.rx_walk.specs.Settings.{Setting, way_of}
@@ -21,17 +21,17 @@ pub record Accepts (context : Context) (kept : Kept) (signs : List Sign) : Type 
   pub accepted : refused_in context [] signs ≡ None
 
 -- a check's names, as it was made with a setting
-abbrev pub accepts_at : Setting → Scope → List Sign → Type 0
+abbrev pub accepts_at : Setting → CheckingListener → List Sign → Type 0
 accepts_at setting scope signs = Accepts setting.context scope.names signs
 
 -- what becomes of a check's names with these signs, or which of them is refused
-abbrev pub HearsOn : Scope → List Sign → Result (Unit {0}) Stop → Scope → Type 0
+abbrev pub HearsOn : CheckingListener → List Sign → Result (Unit {0}) Stop → CheckingListener → Type 0
 HearsOn old more result new =
     (setting : Setting) (signs : List Sign) → accepts_at setting old signs
     → Hears (way_of setting).refused (accepts_at setting) signs more result new
 
 -- the same of signs of which none can be refused
-abbrev pub AcceptsOn : Scope → List Sign → Scope → Type 0
+abbrev pub AcceptsOn : CheckingListener → List Sign → CheckingListener → Type 0
 AcceptsOn old more new =
     (setting : Setting) (signs : List Sign) → accepts_at setting old signs
     → IsFront setting.limits.depth (signs ++ more) → accepts_at setting new (signs ++ more)

@@ -9,14 +9,14 @@ use Rattle.rx_nest.specs.Nests.{IsBetween}
 use Rattle.rx_nest.specs.Signs.{signs_of}
 use Rattle.rx_nest.specs.Readings as readings
 use Rattle.rx_nest.specs.Readings.{Read, Unfinished}
-use Rattle.rx_walk.specs.declared.scopes.Scope.{Scope}
+use Rattle.rx_walk.specs.declared.scopes.CheckingListener.{CheckingListener}
 use Rattle.rx_walk.specs.Refused.{refused_in}
 use Rattle.rx_walk.specs.Settings.{Setting, way_of}
 use Rattle.rx_walk.specs.Accepting.{accepts_at}
 
 -- the page's elements as they are read, the names in force, the fault that was answered, and want of memory
 abbrev pub Checked : Type 0
-Checked = Read Scope
+Checked = Read CheckingListener
 
 -- The check stands for these bytes of a page: none of its start tags is refused, and nothing is due.
 abbrev pub CheckStands : Setting → Checked → List ℕ → Type 0

@@ -16,7 +16,7 @@ use Rattle.rx_nest.specs.Signs.{Sign, begun}
 use Rattle.rx_nest.specs.Fronts.{IsFront}
 use Rattle.rx_nest.specs.Ways.{Way}
 use Rattle.rx_nest.specs.Listening as listening
-use Rattle.rx_walk.specs.declared.courses.Course.{Course}
+use Rattle.rx_walk.specs.declared.courses.RdfaListener.{RdfaListener}
 use Rattle.rx_base.specs.Lines.{read_tag, line_of}
 use Rattle.rx_walk.specs.CallsOf.{calls_of}
 use Rattle.rx_base.specs.Seekings.{sought}
@@ -31,7 +31,7 @@ AllAbsolute (tag ∷ line) = (is_relative (vocab (tag ∷ line)) ≡ false) × A
 
 -- The course stands for these signs, in which nothing is refused: the names in force are those of the open elements, which
 -- are counted; and the calls for the signs were told, or are kept while the base is sought.
-pub record Runs (context : Context) (address : Chars) (levels : ℕ) (course : Course) (signs : List Sign) : Type 0 where
+pub record Runs (context : Context) (address : Chars) (levels : ℕ) (course : RdfaListener) (signs : List Sign) : Type 0 where
   pub names_are : names.NamesStand course.names (line_of [] signs)
   pub context_is : course.names.context ≡ context
   pub address_is : course.origin.address ≡ address
@@ -43,7 +43,7 @@ pub record Runs (context : Context) (address : Chars) (levels : ℕ) (course : C
   pub staged : Staged address levels (sought signs) (calls_of context [] signs) course.stage
 
 -- a walk's course, as it was made with a setting and the page's address
-abbrev pub runs_at : Setting × Chars → Course → List Sign → Type 0
+abbrev pub runs_at : Setting × Chars → RdfaListener → List Sign → Type 0
 runs_at made course signs = Runs made.0.context made.1 made.0.limits.depth course signs
 
 -- and how a page is read then
@@ -51,7 +51,7 @@ abbrev pub way_at : Setting × Chars → Way
 way_at made = way_of made.0
 
 -- the course stands for some signs, and these may come next
-abbrev pub MayHear : Course → List Sign → Type 0
+abbrev pub MayHear : RdfaListener → List Sign → Type 0
 MayHear course more = listening.MayHear way_at runs_at course more
 
 -- what the facts of a start tag below a line are, which was read into these, or why it is refused
@@ -66,11 +66,11 @@ BelowLine kept tag holds =
     (above : List Tag) → names.NamesStand kept (tag ∷ above) → is_relative (vocabulary_from above tag) ≡ false → holds above
 
 -- what becomes of the course with these signs, or which of them is refused
-abbrev pub Hears : Context → Chars → ℕ → List Sign → List Sign → Result (Unit {0}) Stop → Course → Type 0
+abbrev pub Hears : Context → Chars → ℕ → List Sign → List Sign → Result (Unit {0}) Stop → RdfaListener → Type 0
 Hears context address levels signs more result new = listening.Hears (refused_in context []) (Runs context address levels) signs more result new
 
 -- the same of whatever signs the course stands for, if these may come next
-abbrev pub HearsOn : Course → List Sign → Result (Unit {0}) Stop → Course → Type 0
+abbrev pub HearsOn : RdfaListener → List Sign → Result (Unit {0}) Stop → RdfaListener → Type 0
 HearsOn old more result new =
     (context : Context) (address : Chars) (levels : ℕ) (signs : List Sign) → Runs context address levels old signs
     → IsFront levels (signs ++ more) → Hears context address levels signs more result new

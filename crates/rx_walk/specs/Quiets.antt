@@ -7,4 +7,4 @@ use Rattle.rx_walk.specs.declared.stages.Stage.TheVariants as stage
 -- the base is known, and no open element gathers its text
 abbrev pub IsIdle : Stage → Type 0
 IsIdle (stage.Seeking head) = ⊥
-IsIdle (stage.Found state) = (state.spent ≡ false) × (gathers_some state.frames ≡ false)
+IsIdle (stage.Found state) = (state.out_of_memory ≡ false) × (gathers_some state.frames ≡ false)

@@ -12,7 +12,7 @@ use Rattle.rx_walk.specs.declared.calls.Call.TheVariants as code
 use Rattle.rx_base.specs.declared.seeking.Sought.{Sought}
 use Rattle.rx_base.specs.Sought.{sought_seen}
 use Rattle.rx_walk.specs.declared.origins.Origin.{Origin}
-use Rattle.rx_walk.specs.declared.stages.Head.{Head}
+use Rattle.rx_walk.specs.declared.stages.PendingBase.{PendingBase}
 use Rattle.rx_walk.specs.declared.stages.Stage.{Stage}
 use Rattle.rx_walk.specs.declared.stages.Stage.TheVariants as stage
 use Rattle.rx_walk.specs.CallsOf.{singles}
@@ -41,7 +41,7 @@ pub record Known (address : Chars) (levels : ℕ) (seeking : Seeking) (list : Li
   pub led : Led (base_by href address) levels list state
 
 -- it isn't known, and the calls are kept
-pub record Seeks (seeking : Seeking) (list : List Call) (head : Head) : Type 0 where
+pub record Seeks (seeking : Seeking) (list : List Call) (head : PendingBase) : Type 0 where
   pub sought : sought_seen head.sought ≡ seeking
   pub queue : queue_seen head.queue.items ≡ list
 
@@ -64,12 +64,12 @@ pub record Tells (origin : Origin) (turn : Seeking → Seeking) (more : List Cal
       → Staged origin.address origin.levels (turn seeking) (list ++ more) new
 
 -- the evaluator, where the base is known by now
-abbrev pub HeadGives : Origin → Seeking → List Call → Option State → Head → Type 0
+abbrev pub HeadGives : Origin → Seeking → List Call → Option State → PendingBase → Type 0
 HeadGives origin seeking list None head = Seeks seeking list head
 HeadGives origin seeking list (Some state) head = Known origin.address origin.levels seeking list state
 
 -- the same of what was sought and kept before, with these calls more
-abbrev pub HeadTells : Origin → (Seeking → Seeking) → List Call → Head → Result (Option State) NoMemory → Head → Type 0
+abbrev pub HeadTells : Origin → (Seeking → Seeking) → List Call → PendingBase → Result (Option State) NoMemory → PendingBase → Type 0
 HeadTells origin turn more old result new =
     IfOk result (λ found. HeadGives origin (turn (sought_seen old.sought)) (queue_seen old.queue.items ++ more) found new)
 

@@ -16,7 +16,7 @@ use Rattle.rx_nest.specs.Nests.{IsBetween}
 use Rattle.rx_nest.specs.Signs.{Sign, signs_of}
 use Rattle.rx_nest.specs.Ways.{Way}
 use Rattle.rx_nest.specs.Readings as readings
-use Rattle.rx_nest.specs.Readings.{Read, Unfinished, has_fallen}
+use Rattle.rx_nest.specs.Readings.{Read, Unfinished, has_failed}
 use Rattle.rx_eval.specs.Numbering.{Numbering}
 use Rattle.rx_eval.specs.Standing.{Makes}
 use Rattle.rx_eval.specs.Keeping.{gathers_some}
@@ -24,7 +24,7 @@ use Rattle.rx_eval.specs.Opened.{handed_on}
 use Rattle.rx_eval.specs.States.{State}
 use Rattle.rx_eval.specs.Waits.{Shows}
 use Rattle.rx_eval.specs.declared.inherited.Inherited.{Inherited}
-use Rattle.rx_walk.specs.declared.courses.Course.{Course}
+use Rattle.rx_walk.specs.declared.courses.RdfaListener.{RdfaListener}
 use Rattle.rx_walk.specs.declared.stages.Stage.{Stage}
 use Rattle.rx_walk.specs.declared.stages.Stage.TheVariants as stage
 use Rattle.rx_base.specs.Lines.{tags_of, line_of}
@@ -36,7 +36,7 @@ use Rattle.rx_walk.specs.Courses.{Runs, runs_at}
 
 -- the page's elements as they are read, what is known of them, the fault that was answered, and want of memory
 abbrev pub Walked : Type 0
-Walked = Read Course
+Walked = Read RdfaListener
 
 abbrev pub state_of : Stage → Option State
 state_of (stage.Seeking head) = None
@@ -51,7 +51,7 @@ abbrev pub WhereStands : Walked → (Setting → Chars → List ℕ → Type 0) 
 WhereStands walk holds = (setting : Setting) (address : Chars) (bytes : List ℕ) → WalkStands setting address walk bytes → holds setting address bytes
 
 -- the start tags of the open elements, the innermost first
-abbrev pub open_line : {way : Way} {knows : Course → List Sign → Type 0} {walk : Walked} {bytes : List ℕ} → readings.ReadingStands way knows walk bytes → List Tag
+abbrev pub open_line : {way : Way} {knows : RdfaListener → List Sign → Type 0} {walk : Walked} {bytes : List ℕ} → readings.ReadingStands way knows walk bytes → List Tag
 open_line s = line_of [] s.goes.signs
 
 -- so many frames are open as there are such elements, once the evaluator is at work
@@ -89,14 +89,14 @@ pub record Lists (context : Context) (address : Chars) (levels : ℕ) (tree : Tr
   pub list_is : triples_seen list ≡ state.out
 
 -- the list of whatever page the course stands for
-abbrev pub ListsPage : Course → List CodeTriple → Type 0
+abbrev pub ListsPage : RdfaListener → List CodeTriple → Type 0
 ListsPage course list =
     (context : Context) (address : Chars) (levels : ℕ) (root : StartTag) (inside : Tree)
     → Runs context address levels course (signs_of (element root inside end))
     → Lists context address levels (element root inside end) list
 
 -- the course stands for a whole page
-pub record IsWhole (course : Course) : Type 0 where
+pub record IsWhole (course : RdfaListener) : Type 0 where
   pub context : Context
   pub address : Chars
   pub levels : ℕ
@@ -124,7 +124,7 @@ EndGives setting address bytes (Err why) = Unfinished (way_of setting) bytes why
 
 -- the evaluator's state, where an element is open in it
 abbrev pub state_open : Walked → Option State
-state_open walk = if has_fallen walk || walk.listener.count == 0 then None else state_of walk.listener.stage
+state_open walk = if has_failed walk || walk.listener.count == 0 then None else state_of walk.listener.stage
 
 -- what is shown is what a child of the innermost open element inherits
 abbrev pub ShowsOpen : Walked → Inherited → Type 0

@@ -5,7 +5,7 @@ ghost use Rattle.rx_nest.specs.FaultPlaces.{PlaceGives};
 ghost use Rattle.rx_walk.specs.Settings.{Setting, way_of};
 ghost use Rattle.rx_walk.specs.Checks as checks;
 
-use crate::scopes::Scope;
+use crate::scopes::CheckingListener;
 use rx_names::{Context, Names};
 use rx_nest::{Limits, Reading, Stop, Syntax};
 use rx_terms::NoMemory;
@@ -18,7 +18,7 @@ use std::marker::Model;
 /// comes again.
 #[derive(Drop)]
 pub struct Check {
-    reading: Reading<Scope>,
+    reading: Reading<CheckingListener>,
 }
 
 impl Model for Check {
@@ -40,7 +40,7 @@ impl Check {
         ensures { IfOk result (λ check. checks.CheckStands (record { syntax = syntax; limits = limits; context = context }) check []) }
     {
         let names = Names::new(alloc, context, limits.depth)?;
-        let reading = Reading::new(alloc, syntax, limits, Scope { names })?;
+        let reading = Reading::new(alloc, syntax, limits, CheckingListener { names })?;
         Ok(Check { reading })
     }
 
@@ -51,8 +51,8 @@ impl Check {
             → checks.FeedGives setting bytes piece.now result self.new }
         ensures place { (setting : Setting) (bytes : List ℕ) → checks.CheckStands setting self.old bytes → PlaceGives (way_of setting) bytes piece.now result }
         ensures quiet { checks.TakesQuietly self.old piece.now result }
-        ensures asked { MayAnswer self.old.failed self.old.spent result }
-        ensures keeps { Answered result self.new.failed self.new.spent }
+        ensures asked { MayAnswer self.old.failed self.old.out_of_memory result }
+        ensures keeps { Answered result self.new.failed self.new.out_of_memory }
     {
         self.reading.feed(piece)
     }
@@ -61,8 +61,8 @@ impl Check {
     /// page and no earlier fault stands in them.
     pub fn finish(self) -> Result<(), Stop>
         ensures gives { (setting : Setting) (bytes : List ℕ) → checks.CheckStands setting self bytes → checks.EndGives setting bytes result }
-        ensures asked { MayAnswer self.failed self.spent result }
-        ensures memory { result ≡ Err Stop.NoMemory → self.spent ≡ true }
+        ensures asked { MayAnswer self.failed self.out_of_memory result }
+        ensures memory { result ≡ Err Stop.NoMemory → self.out_of_memory ≡ true }
     {
         match self.reading.finish() {
             Ok(scope) => {

@@ -13,7 +13,7 @@ ghost use Rattle.rx_terms.specs.Text.{Chars};
 ghost use Rattle.rx_walk.specs.Settings.{Setting};
 
 use crate::origins::Origin;
-use crate::stages::{Head, Stage};
+use crate::stages::{PendingBase, Stage};
 use rx_base::Sought;
 use rx_curie::{Facts, FactsError, IriMaker};
 use rx_names::{Context, Names};
@@ -23,7 +23,7 @@ use std::alloc::Global;
 
 /// What is known of a page's elements.
 #[derive(Drop)]
-pub(crate) struct Course {
+pub(crate) struct RdfaListener {
     pub(crate) origin: Origin,
     pub(crate) names: Names,
     /// Makes the IRIs of all tags, so that those that come often are kept once.
@@ -64,19 +64,19 @@ fn one_more(count: u32, levels: u32) -> u32
     count + 1
 }
 
-impl Course {
+impl RdfaListener {
     /// Before the first element.
     pub(crate) fn new(
         alloc: Global,
         context: Context,
         address: Iri,
         levels: u32,
-    ) -> Result<Course, NoMemory>
+    ) -> Result<RdfaListener, NoMemory>
         ensures { IfOk result (λ course. Runs context address levels course []) }
     {
         let names = Names::new(alloc, context, levels)?;
         let maker = IriMaker::new(alloc)?;
-        Ok(Course {
+        Ok(RdfaListener {
             origin: Origin {
                 alloc,
                 address,
@@ -86,7 +86,7 @@ impl Course {
             maker,
             facts: Facts::none(),
             count: 0,
-            stage: Stage::Seeking(Head {
+            stage: Stage::Seeking(PendingBase {
                 sought: Sought::FirstChild,
                 queue: Vec::new(alloc),
             }),
@@ -127,7 +127,7 @@ impl Course {
     }
 }
 
-impl Listener for Course {
+impl Listener for RdfaListener {
     ghost Setting = { Setting × Chars };
 
     ghost way = { way_at };

@@ -18,7 +18,7 @@ use rx_nest::{Event, Fault, Listener, Stop, Tag};
 
 /// What a check keeps of the open elements: neither what they say nor their text.
 #[derive(Drop)]
-pub(crate) struct Scope {
+pub(crate) struct CheckingListener {
     pub(crate) names: Names,
 }
 
@@ -37,7 +37,7 @@ fn fault_of(tag: &Tag<'_>, names: &Names) -> Option<Fault>
     }
 }
 
-impl Scope {
+impl CheckingListener {
     fn begin(&mut self, tag: &Tag<'_>) -> Result<(), Stop>
         ensures { HearsOn self.old (begun (tag_shown tag.now) ∷ []) result self.new }
     {
@@ -56,7 +56,7 @@ impl Scope {
     }
 }
 
-impl Listener for Scope {
+impl Listener for CheckingListener {
     ghost Setting = { Setting };
 
     ghost way = { way_of };

@@ -12,7 +12,7 @@ ghost use Rattle.rx_walk.specs.Stages.{queue_seen, HeadTells, MayBe, MayTake, Te
 use crate::calls::Call;
 use crate::evaluation::{enter, evaluated};
 use crate::origins::Origin;
-use rx_base::{Clue, Sought};
+use rx_base::{BaseSearchStep, Sought};
 use rx_curie::Facts;
 use rx_eval::Eval;
 use rx_nest::Tag;
@@ -21,7 +21,7 @@ use std::mem;
 
 /// What is looked for, and what was told so far.
 #[derive(Debug, Drop)]
-pub(crate) struct Head {
+pub(crate) struct PendingBase {
     pub(crate) sought: Sought,
     pub(crate) queue: Vec<Call>,
 }
@@ -29,11 +29,11 @@ pub(crate) struct Head {
 /// The base is looked for, or it is known and an evaluator is at work.
 #[derive(Drop)]
 pub(crate) enum Stage {
-    Seeking(Head),
+    Seeking(PendingBase),
     Found(Eval),
 }
 
-impl Head {
+impl PendingBase {
     fn push(&mut self, call: Call) -> Result<(), NoMemory>
         ensures queue { OnOk result (self.new.queue.items ≡ self.old.queue.items ++ call ∷ []) }
         ensures sought { self.new.sought ≡ self.old.sought }
@@ -61,11 +61,11 @@ impl Head {
         let kept = mem::replace(facts, Facts::none());
         self.push(Call::Enter(kept))?;
         match self.sought.begun(count as usize, tag) {
-            Clue::Seeks(sought) => {
+            BaseSearchStep::Seeks(sought) => {
                 self.sought = sought;
                 Ok(None)
             }
-            Clue::Known(href) => {
+            BaseSearchStep::Known(href) => {
                 let eval = evaluated(origin, href, self.queue.as_slice())?;
                 Ok(Some(eval))
             }

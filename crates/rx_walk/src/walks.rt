@@ -3,11 +3,11 @@ ghost use Rattle.std.specs.Prelude.{◌≡◌, [], length, true, Err, IfOk, Some
 ghost use Rattle.rx_names.specs.Lines.{declared_along};
 ghost use Rattle.rx_nest.specs.Falling.{Answered, MayAnswer};
 ghost use Rattle.rx_nest.specs.FaultPlaces.{PlaceGives};
-ghost use Rattle.rx_nest.specs.Readings.{has_fallen};
+ghost use Rattle.rx_nest.specs.Readings.{has_failed};
 ghost use Rattle.rx_walk.specs.Settings.{way_of};
 ghost use Rattle.rx_walk.specs.Walks as walks;
 
-use crate::courses::Course;
+use crate::courses::RdfaListener;
 use crate::stages::Stage;
 use rx_eval::Inherited;
 use rx_names::Context;
@@ -21,7 +21,7 @@ use std::marker::Model;
 /// of them, and whether a fault or want of memory was answered, which then comes again.
 #[derive(Drop)]
 pub struct Walk {
-    reading: Reading<Course>,
+    reading: Reading<RdfaListener>,
 }
 
 impl Model for Walk {
@@ -33,11 +33,11 @@ impl Model for Walk {
 }
 
 /// The list of a whole page. It takes no memory: the evaluator of a walk has always had what it asked for.
-fn list_of(course: Course) -> TripleList
+fn list_of(course: RdfaListener) -> TripleList
     requires { walks.IsWhole course }
     ensures { walks.ListsPage course result }
 {
-    let Course {
+    let RdfaListener {
         names,
         maker,
         facts,
@@ -68,7 +68,7 @@ impl Walk {
     ) -> Result<Walk, NoMemory>
         ensures { IfOk result (λ walk. walks.WalkStands (record { syntax = syntax; limits = limits; context = context }) address walk []) }
     {
-        let course = Course::new(alloc, context, address, limits.depth)?;
+        let course = RdfaListener::new(alloc, context, address, limits.depth)?;
         let reading = Reading::new(alloc, syntax, limits, course)?;
         Ok(Walk { reading })
     }
@@ -79,8 +79,8 @@ impl Walk {
         ensures gives { walks.WhereStands self.old (λ setting address bytes. walks.FeedGives setting address bytes piece.now result self.new) }
         ensures place { walks.WhereStands self.old (λ setting address bytes. PlaceGives (way_of setting) bytes piece.now result) }
         ensures quiet { walks.TakesQuietly self.old piece.now result }
-        ensures asked { MayAnswer self.old.failed self.old.spent result }
-        ensures keeps { Answered result self.new.failed self.new.spent }
+        ensures asked { MayAnswer self.old.failed self.old.out_of_memory result }
+        ensures keeps { Answered result self.new.failed self.new.out_of_memory }
     {
         self.reading.feed(piece)
     }
@@ -89,8 +89,8 @@ impl Walk {
     /// in them. It takes no memory: want of memory is answered only where it was before.
     pub fn finish(self) -> Result<TripleList, Stop>
         ensures gives { walks.WhereStands self (λ setting address bytes. walks.EndGives setting address bytes result) }
-        ensures asked { MayAnswer self.failed self.spent result }
-        ensures memory { result ≡ Err Stop.NoMemory → self.spent ≡ true }
+        ensures asked { MayAnswer self.failed self.out_of_memory result }
+        ensures memory { result ≡ Err Stop.NoMemory → self.out_of_memory ≡ true }
     {
         match self.reading.finish() {
             Ok(course) => Ok(list_of(course)),
@@ -100,10 +100,10 @@ impl Walk {
 
     /// How many elements are open, none after a fault or want of memory.
     pub fn depth(&self) -> u32
-        ensures count { result ≡ (if has_fallen self.now then 0 else self.now.listener.count) }
+        ensures count { result ≡ (if has_failed self.now then 0 else self.now.listener.count) }
         ensures line { walks.DepthGives self.now result }
     {
-        if self.reading.has_fallen() {
+        if self.reading.has_failed() {
             return 0;
         }
         self.reading.listener().count
@@ -111,10 +111,10 @@ impl Walk {
 
     /// How many declarations of prefixes, vocabularies and languages are kept, none after a fault or want of memory.
     pub fn rows(&self) -> usize
-        ensures count { result ≡ (if has_fallen self.now then 0 else length self.now.listener.names.rows) }
+        ensures count { result ≡ (if has_failed self.now then 0 else length self.now.listener.names.rows) }
         ensures bound { walks.IsBoundedBy self.now declared_along result }
     {
-        if self.reading.has_fallen() {
+        if self.reading.has_failed() {
             return 0;
         }
         self.reading.listener().names.rows()
@@ -125,7 +125,7 @@ impl Walk {
     pub fn inherited(&self) -> Option<Inherited<'_>>
         ensures { MatchOption result (walks.state_open self.now ≡ None) (walks.ShowsOpen self.now) }
     {
-        if self.reading.has_fallen() || self.reading.listener().count == 0 {
+        if self.reading.has_failed() || self.reading.listener().count == 0 {
             return None;
         }
         match &self.reading.listener().stage {

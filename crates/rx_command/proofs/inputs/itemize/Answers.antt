@@ -1,6 +1,6 @@
 use Rattle.std.proofs.Common.{◌≡◌, refl, subst, encode_utf8_all}
 use Rattle.rx_grammar.specs.declared.faults.Fault.{Fault}
-use Rattle.rx_ports.specs.Shelves.{Moves}
+use Rattle.rx_ports.specs.Shelves.{WhereKnown}
 use Rattle.rx_ports.proofs.MoveLemmas.{moves_weaker}
 use Rattle.rx_command.specs.declared.errors.InputError.TheVariants as error
 use Rattle.rx_command.specs.declared.outcomes.Outcome.TheVariants.{Json}
@@ -22,7 +22,7 @@ returns-in-Err-Fault-clause-refused g c context fault is =
     let i : Itemization = record { syntax = c.args.syntax; address = c.args.address } in
     let same : c.in-Err-Fault.fault ≡ fault = (cc) in
     let faulty = rw c.in-Err-Fault.field-0-is at c.in-Err-Fault.ensures in
-    subst (λ (f : Fault). Moves (PageRefused (itemizes i) context (encode_utf8_all c.args.page.now) f) (g.F.Shelf.told c.args.shelf.now) (g.F.Shelf.told c.read_items.new.shelf)) same
+    subst (λ (f : Fault). WhereKnown (PageRefused (itemizes i) context (encode_utf8_all c.args.page.now) f) (g.F.Shelf.told c.args.shelf.now) (g.F.Shelf.told c.read_items.new.shelf)) same
     (moves_weaker (PageRefused (itemizes i) context (encode_utf8_all c.args.page.now) c.in-Err-Fault.fault)
     (λ x y r. page_item_fault i context _ _ c.in-Ok.found c.in-Err-Fault.fault c.as_str.ensures.bytes faulty x y r) c.in-Ok.ensures.gives)
 

@@ -1,6 +1,6 @@
 use Rattle.std.proofs.Common.{arith, ◌⊎◌, ◌∙◌, ℕ, List, refl, sym, ap, subst, encode_utf8_all, None, Some, IfOk}
 use Rattle.rx_ports.specs.Counts.{Rose}
-use Rattle.rx_ports.specs.Shelves.{Moves, Lacks}
+use Rattle.rx_ports.specs.Shelves.{WhereKnown, Lacks}
 use Rattle.rx_ports.proofs.MoveLemmas.{moves_then}
 use Rattle.rx_chars.specs.declared.syntax.Syntax.{Syntax}
 use Rattle.rx_terms.specs.Text.{Chars}
@@ -25,7 +25,7 @@ returns-in_ok-address-in-Items-clause-ok g c =
     let asked : Asked = page_by c.args.job.now in
     let i : Itemization = record { syntax = c.in-Items.syntax; address = c.in_ok-address-in-Items.address } in
     if_job c.itemize.result asked None standard _ _ _ (sym (ap (λ (k : Asked). k.context) (ap page_by c.in-Items.is))) (standard_stays (g.F.Shelf.told c.args.shelf.now))
-    (for_itemization (λ (task : Task) (context : Context) (name : List ℕ). IfOk c.itemize.result (λ outcome. Moves (PageText task context name outcome) (g.F.Shelf.told c.args.shelf.now) (g.F.Shelf.told c.itemize.new.shelf)))
+    (for_itemization (λ (task : Task) (context : Context) (name : List ℕ). IfOk c.itemize.result (λ outcome. WhereKnown (PageText task context name outcome) (g.F.Shelf.told c.args.shelf.now) (g.F.Shelf.told c.itemize.new.shelf)))
     asked i c.in-Items.page standard (ap page_by c.in-Items.is ∙ ap (λ address. asked_for c.in-Items.syntax address c.in-Items.page) (sym c.in_ok-address-in-Items.ensures)) (c.itemize.ensures.ok standard))
 
 pub returns-in_ok-address-in-Items-clause-refused : goal.returns-in_ok-address-in-Items-clause-refused
@@ -33,14 +33,14 @@ returns-in_ok-address-in-Items-clause-refused g c fault is =
     let asked : Asked = page_by c.args.job.now in
     let i : Itemization = record { syntax = c.in-Items.syntax; address = c.in_ok-address-in-Items.address } in
     moves_then (JobRefused asked fault) (λ x y z r p. job_refused asked None standard fault (sym (ap (λ (k : Asked). k.context) (ap page_by c.in-Items.is))) x y z r p) (standard_stays (g.F.Shelf.told c.args.shelf.now))
-    (for_itemization (λ (task : Task) (context : Context) (name : List ℕ). Moves (PageRefused task context name fault) (g.F.Shelf.told c.args.shelf.now) (g.F.Shelf.told c.itemize.new.shelf))
+    (for_itemization (λ (task : Task) (context : Context) (name : List ℕ). WhereKnown (PageRefused task context name fault) (g.F.Shelf.told c.args.shelf.now) (g.F.Shelf.told c.itemize.new.shelf))
     asked i c.in-Items.page standard (ap page_by c.in-Items.is ∙ ap (λ address. asked_for c.in-Items.syntax address c.in-Items.page) (sym c.in_ok-address-in-Items.ensures)) (c.itemize.ensures.refused standard fault is))
 
 pub returns-in_ok-address-in-Items-clause-takes : goal.returns-in_ok-address-in-Items-clause-takes
 returns-in_ok-address-in-Items-clause-takes g c =
     let asked : Asked = page_by c.args.job.now in
     moves_then (TakesFiles (Some asked)) (λ x y z r p. takes_both asked None 1073807359 (sym (ap (λ (k : Asked). k.context) (ap page_by c.in-Items.is))) refl x y z r.takes p) (standard_stays (g.F.Shelf.told c.args.shelf.now))
-    (subst (λ (k : Asked). Moves (TakesOf (encode_utf8_all k.page) 1073807359) (g.F.Shelf.told c.args.shelf.now) (g.F.Shelf.told c.itemize.new.shelf)) (sym (ap page_by c.in-Items.is)) c.itemize.ensures.takes)
+    (subst (λ (k : Asked). WhereKnown (TakesOf (encode_utf8_all k.page) 1073807359) (g.F.Shelf.told c.args.shelf.now) (g.F.Shelf.told c.itemize.new.shelf)) (sym (ap page_by c.in-Items.is)) c.itemize.ensures.takes)
 
 pub returns-in_ok-address-in-Items-clause-failed : goal.returns-in_ok-address-in-Items-clause-failed
 returns-in_ok-address-in-Items-clause-failed g c is =
@@ -53,4 +53,4 @@ returns-in_ok-address-in-Items-clause-cleanly g c is =
     let asked : Asked = page_by c.args.job.now in
     let way : Way = way_for c.in-Items.syntax (for_items c.in-Items.address) in
     moves_then (StopsCleanly (Some asked)) (λ x y z r p. page_stops asked None standard way (sym (ap (λ (k : Asked). k.context) (ap page_by c.in-Items.is))) (sym (ap (λ (k : Asked). way_in k.task standard) (ap page_by c.in-Items.is))) x y z r p) (standard_stays (g.F.Shelf.told c.args.shelf.now))
-    (subst (λ (k : Asked). Moves (ReadsClean way (encode_utf8_all k.page)) (g.F.Shelf.told c.args.shelf.now) (g.F.Shelf.told c.itemize.new.shelf)) (sym (ap page_by c.in-Items.is)) (c.itemize.ensures.cleanly is))
+    (subst (λ (k : Asked). WhereKnown (ReadsClean way (encode_utf8_all k.page)) (g.F.Shelf.told c.args.shelf.now) (g.F.Shelf.told c.itemize.new.shelf)) (sym (ap page_by c.in-Items.is)) (c.itemize.ensures.cleanly is))

@@ -1,6 +1,6 @@
 use Rattle.std.proofs.Common.{◌⊎◌, ℕ, List, refl, sym, ap, subst, encode_utf8_all, Some, IfOk}
 use Rattle.rx_ports.specs.Counts.{Rose}
-use Rattle.rx_ports.specs.Shelves.{Moves, Lacks}
+use Rattle.rx_ports.specs.Shelves.{WhereKnown, Lacks}
 use Rattle.rx_ports.proofs.MoveLemmas.{moves_weaker, moves_then}
 use Rattle.rx_rdfa.specs.Names.{Context}
 use Rattle.rx_job.specs.Words.{Asked, Task, Extraction}
@@ -28,7 +28,7 @@ returns-in-Ok-try_clone-clause-ok g c =
     let asked : Asked = page_by c.args.job.now in
     let e : Extraction = record { syntax = c.in-Extract.syntax; format = c.in-Extract.format; graph = c.in-Extract.graph; address = c.in-Extract.address } in
     if_job c.extract.result asked _ c.in-Ok.context _ _ _ c.context.ensures c.in-Ok.ensures.ok
-    (for_extraction (λ (task : Task) (context : Context) (name : List ℕ). IfOk c.extract.result (λ outcome. Moves (PageText task context name outcome) (g.F.Shelf.told c.read_context.new.shelf) (g.F.Shelf.told c.extract.new.shelf)))
+    (for_extraction (λ (task : Task) (context : Context) (name : List ℕ). IfOk c.extract.result (λ outcome. WhereKnown (PageText task context name outcome) (g.F.Shelf.told c.read_context.new.shelf) (g.F.Shelf.told c.extract.new.shelf)))
     asked (record { syntax = c.in-Extract.syntax; context = c.in-Ok.context; address = c.in-Ok-try_clone.address }) c.in-Extract.format c.as_ref.result e c.in-Extract.context c.in-Extract.page (ap page_by c.in-Extract.is) refl refl c.in-Ok-try_clone.ensures c.as_ref.ensures.value c.extract.ensures.ok)
 
 pub returns-in-Ok-try_clone-clause-refused : goal.returns-in-Ok-try_clone-clause-refused
@@ -36,14 +36,14 @@ returns-in-Ok-try_clone-clause-refused g c fault is =
     let asked : Asked = page_by c.args.job.now in
     let e : Extraction = record { syntax = c.in-Extract.syntax; format = c.in-Extract.format; graph = c.in-Extract.graph; address = c.in-Extract.address } in
     moves_then (JobRefused asked fault) (λ x y z r p. job_refused asked _ c.in-Ok.context fault c.context.ensures x y z r p) c.in-Ok.ensures.ok
-    (for_extraction (λ (task : Task) (context : Context) (name : List ℕ). Moves (PageRefused task context name fault) (g.F.Shelf.told c.read_context.new.shelf) (g.F.Shelf.told c.extract.new.shelf))
+    (for_extraction (λ (task : Task) (context : Context) (name : List ℕ). WhereKnown (PageRefused task context name fault) (g.F.Shelf.told c.read_context.new.shelf) (g.F.Shelf.told c.extract.new.shelf))
     asked (record { syntax = c.in-Extract.syntax; context = c.in-Ok.context; address = c.in-Ok-try_clone.address }) c.in-Extract.format c.as_ref.result e c.in-Extract.context c.in-Extract.page (ap page_by c.in-Extract.is) refl refl c.in-Ok-try_clone.ensures c.as_ref.ensures.value (c.extract.ensures.refused fault is))
 
 pub returns-in-Ok-try_clone-clause-takes : goal.returns-in-Ok-try_clone-clause-takes
 returns-in-Ok-try_clone-clause-takes g c =
     let asked : Asked = page_by c.args.job.now in
     moves_then (TakesFiles (Some asked)) (λ x y z r p. takes_both asked _ 1073807359 c.context.ensures refl x y z r p) c.read_context.ensures.takes
-    (subst (λ (k : Asked). Moves (TakesOf (encode_utf8_all k.page) 1073807359) (g.F.Shelf.told c.read_context.new.shelf) (g.F.Shelf.told c.extract.new.shelf)) (sym (ap page_by c.in-Extract.is)) c.extract.ensures.takes)
+    (subst (λ (k : Asked). WhereKnown (TakesOf (encode_utf8_all k.page) 1073807359) (g.F.Shelf.told c.read_context.new.shelf) (g.F.Shelf.told c.extract.new.shelf)) (sym (ap page_by c.in-Extract.is)) c.extract.ensures.takes)
 
 pub returns-in-Ok-try_clone-clause-failed : goal.returns-in-Ok-try_clone-clause-failed
 returns-in-Ok-try_clone-clause-failed g c is =
@@ -56,27 +56,27 @@ returns-in-Ok-try_clone-clause-cleanly g c is =
     let asked : Asked = page_by c.args.job.now in
     let way : Way = way_for c.in-Extract.syntax (for_triples c.in-Ok.context c.in-Extract.address) in
     moves_then (StopsCleanly (Some asked)) (λ x y z r p. page_stops asked _ c.in-Ok.context way c.context.ensures (sym (ap (λ (k : Asked). way_in k.task c.in-Ok.context) (ap page_by c.in-Extract.is))) x y z r p) c.in-Ok.ensures.ok
-    (subst (λ (k : Asked). Moves (ReadsClean way (encode_utf8_all k.page)) (g.F.Shelf.told c.read_context.new.shelf) (g.F.Shelf.told c.extract.new.shelf)) (sym (ap page_by c.in-Extract.is)) (c.extract.ensures.cleanly is))
+    (subst (λ (k : Asked). WhereKnown (ReadsClean way (encode_utf8_all k.page)) (g.F.Shelf.told c.read_context.new.shelf) (g.F.Shelf.told c.extract.new.shelf)) (sym (ap page_by c.in-Extract.is)) (c.extract.ensures.cleanly is))
 
 pub returns-in-Check-clause-ok : goal.returns-in-Check-clause-ok
 returns-in-Check-clause-ok g c =
     let asked : Asked = page_by c.args.job.now in
     if_job c.check.result asked _ c.in-Ok.context _ _ _ c.context.ensures c.in-Ok.ensures.ok
-    (for_check (λ (task : Task) (context : Context) (name : List ℕ). IfOk c.check.result (λ outcome. Moves (PageText task context name outcome) (g.F.Shelf.told c.read_context.new.shelf) (g.F.Shelf.told c.check.new.shelf)))
+    (for_check (λ (task : Task) (context : Context) (name : List ℕ). IfOk c.check.result (λ outcome. WhereKnown (PageText task context name outcome) (g.F.Shelf.told c.read_context.new.shelf) (g.F.Shelf.told c.check.new.shelf)))
     asked c.in-Check.syntax c.in-Check.context c.in-Check.page c.in-Ok.context (ap page_by c.in-Check.is) c.check.ensures.ok)
 
 pub returns-in-Check-clause-refused : goal.returns-in-Check-clause-refused
 returns-in-Check-clause-refused g c fault is =
     let asked : Asked = page_by c.args.job.now in
     moves_then (JobRefused asked fault) (λ x y z r p. job_refused asked _ c.in-Ok.context fault c.context.ensures x y z r p) c.in-Ok.ensures.ok
-    (for_check (λ (task : Task) (context : Context) (name : List ℕ). Moves (PageRefused task context name fault) (g.F.Shelf.told c.read_context.new.shelf) (g.F.Shelf.told c.check.new.shelf))
+    (for_check (λ (task : Task) (context : Context) (name : List ℕ). WhereKnown (PageRefused task context name fault) (g.F.Shelf.told c.read_context.new.shelf) (g.F.Shelf.told c.check.new.shelf))
     asked c.in-Check.syntax c.in-Check.context c.in-Check.page c.in-Ok.context (ap page_by c.in-Check.is) (c.check.ensures.refused fault is))
 
 pub returns-in-Check-clause-takes : goal.returns-in-Check-clause-takes
 returns-in-Check-clause-takes g c =
     let asked : Asked = page_by c.args.job.now in
     moves_then (TakesFiles (Some asked)) (λ x y z r p. takes_both asked _ 1073807359 c.context.ensures refl x y z r p) c.read_context.ensures.takes
-    (subst (λ (k : Asked). Moves (TakesOf (encode_utf8_all k.page) 1073807359) (g.F.Shelf.told c.read_context.new.shelf) (g.F.Shelf.told c.check.new.shelf)) (sym (ap page_by c.in-Check.is)) c.check.ensures.takes)
+    (subst (λ (k : Asked). WhereKnown (TakesOf (encode_utf8_all k.page) 1073807359) (g.F.Shelf.told c.read_context.new.shelf) (g.F.Shelf.told c.check.new.shelf)) (sym (ap page_by c.in-Check.is)) c.check.ensures.takes)
 
 pub returns-in-Check-clause-failed : goal.returns-in-Check-clause-failed
 returns-in-Check-clause-failed g c is =
@@ -89,4 +89,4 @@ returns-in-Check-clause-cleanly g c is =
     let asked : Asked = page_by c.args.job.now in
     let way : Way = way_for c.in-Check.syntax (for_faults c.in-Ok.context) in
     moves_then (StopsCleanly (Some asked)) (λ x y z r p. page_stops asked _ c.in-Ok.context way c.context.ensures (sym (ap (λ (k : Asked). way_in k.task c.in-Ok.context) (ap page_by c.in-Check.is))) x y z r p) c.in-Ok.ensures.ok
-    (subst (λ (k : Asked). Moves (ReadsClean way (encode_utf8_all k.page)) (g.F.Shelf.told c.read_context.new.shelf) (g.F.Shelf.told c.check.new.shelf)) (sym (ap page_by c.in-Check.is)) (c.check.ensures.cleanly is))
+    (subst (λ (k : Asked). WhereKnown (ReadsClean way (encode_utf8_all k.page)) (g.F.Shelf.told c.read_context.new.shelf) (g.F.Shelf.told c.check.new.shelf)) (sym (ap page_by c.in-Check.is)) (c.check.ensures.cleanly is))

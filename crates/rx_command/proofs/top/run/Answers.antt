@@ -1,5 +1,5 @@
 use Rattle.std.proofs.Common.{◌≡◌, ◌∙◌, inl, subst, ap, Some, Err}
-use Rattle.rx_ports.specs.Shelves.{Moves}
+use Rattle.rx_ports.specs.Shelves.{WhereKnown}
 use Rattle.rx_command.specs.Outcome.{HasPageFault}
 use Rattle.rx_job.specs.Jobs.{page_by}
 use Rattle.rx_command.specs.Runs.{TakesToFault}
@@ -56,7 +56,7 @@ returns-in-Ok-line_of-clause-refused g c =
 pub returns-in-Ok-line_of-clause-refused_takes : goal.returns-in-Ok-line_of-clause-refused_takes
 returns-in-Ok-line_of-clause-refused_takes g c =
     let m = c.in-Err-Refused.ensures.refused c.in-Err-Refused.fault (ap Err c.in-Err-Refused.field-0-is) in
-    λ fault is. let same : c.in-Err-Refused.fault ≡ fault = (cc) in subst (λ (f : Fault). Moves (TakesToFault (page_asked c.args.words.now) f) (g.F.Shelf.told c.args.shelf.now) (g.F.Shelf.told c.outcome_of_job.new.shelf)) same (to_fault c.args.words.now _ c.in-Err-Refused.fault _ _ (asks_page c.args.words.now c.in-Ok.job c.in-Ok.ensures c.in-Page.ensures) m)
+    λ fault is. let same : c.in-Err-Refused.fault ≡ fault = (cc) in subst (λ (f : Fault). WhereKnown (TakesToFault (page_asked c.args.words.now) f) (g.F.Shelf.told c.args.shelf.now) (g.F.Shelf.told c.outcome_of_job.new.shelf)) same (to_fault c.args.words.now _ c.in-Err-Refused.fault _ _ (asks_page c.args.words.now c.in-Ok.job c.in-Ok.ensures c.in-Page.ensures) m)
 
 pub returns-in-Ok-line_of-clause-lacking : goal.returns-in-Ok-line_of-clause-lacking
 returns-in-Ok-line_of-clause-lacking g c =

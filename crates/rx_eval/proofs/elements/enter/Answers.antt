@@ -3,7 +3,7 @@ use Rattle.std.proofs.lemmas.List.{length-map}
 use Rattle.rx_model.specs.Seen.{term_seen}
 use Rattle.rx_curie.specs.Seen.{facts_seen}
 use Rattle.rx_element.specs.Contexts.{context_seen}
-use Rattle.rx_element.specs.Found.{found_seen}
+use Rattle.rx_element.specs.ElementResources.{found_seen}
 use Rattle.rx_element.specs.Places.{standing}
 use Rattle.rx_eval.specs.OwnersSeen.{owners_seen}
 use Rattle.rx_eval.specs.States.{owner_seen}

@@ -4,9 +4,9 @@ use Rattle.rx_model.specs.Seen.{node_seen, term_seen}
 use Rattle.rx_curie.specs.Seen.{facts_seen}
 use Rattle.rx_lists.specs.declared.lists.Owner.{Owner}
 use Rattle.rx_element.specs.Contexts.{context_seen, waiting_seen}
-use Rattle.rx_element.specs.Found.{found_seen}
+use Rattle.rx_element.specs.ElementResources.{found_seen}
 use Rattle.rx_element.specs.Places.{naming, standing}
-use Rattle.rx_element.specs.declared.contexts.Waiting.{Waiting}
+use Rattle.rx_element.specs.declared.contexts.IncompleteTriple.{IncompleteTriple}
 use Rattle.rx_eval.specs.Elements.{handed_by, owner_in}
 use Rattle.rx_eval.specs.Entering.{own_number, naming_by}
 use Rattle.rx_eval.specs.OwnersSeen.{Owning, owners_seen, put_entries}
@@ -33,7 +33,7 @@ returns-clause-lists c =
     (ap (λ (o : Owner). o.0) c.owner_or-owner.ensures
     ∙ own_is (naming c.args.place.now) at here c.args.found.now.subject c.args.place.now.around.now.object c.in_ok-object.object refl refl c.in_ok-own.own
     c.args.place.now.around.now.owner (length c.args.lists.now) refl c.in_ok-own.ensures.owner)
-    ∙ ap₂ (λ (w : List Waiting) (l : List (Option Owning)). put_entries (entries_in (own_number at here (length c.args.lists.now)) (facts_seen c.args.facts.now) here (option_map term_seen c.args.value.now) (map waiting_seen w)) l)
+    ∙ ap₂ (λ (w : List IncompleteTriple) (l : List (Option Owning)). put_entries (entries_in (own_number at here (length c.args.lists.now)) (facts_seen c.args.facts.now) here (option_map term_seen c.args.value.now) (map waiting_seen w)) l)
     c.as_slice-waiting.ensures
     (owners_are (naming c.args.place.now) at here c.args.found.now.subject c.args.place.now.around.now.object c.in_ok-object.object refl refl c.args.lists.now c.begin.new.lists
     c.begin_below.new.lists c.in_ok-object.ensures c.in_ok-own.ensures.lists c.in_ok-below.ensures.lists)

@@ -8,7 +8,7 @@ returns c context address levels root inside r =
 
 pub unreachable-requires : goal.unreachable-requires
 unreachable-requires c =
-    let both : true ≡ false = sym (c.in-Err.ensures.spent.0 refl) ∙ whole_unspent c.args.course c.in-Found.eval c.in-Found.is c.requires in
+    let both : true ≡ false = sym (c.in-Err.ensures.out_of_memory.0 refl) ∙ whole_unspent c.args.course c.in-Found.eval c.in-Found.is c.requires in
     absurd (cc both)
 
 pub unreachable-requires-in-Seeking : goal.unreachable-requires-in-Seeking

@@ -2,7 +2,7 @@ use Rattle.std.proofs.Common.{◌∙◌, ◌++◌, ap, refl, List, ℕ, option_m
 use Rattle.rx_model.specs.Terms.{Triple}
 use Rattle.rx_model.specs.Seen.{term_seen, triples_seen}
 use Rattle.rx_curie.specs.Seen.{facts_seen}
-use Rattle.rx_element.specs.Found.{found_seen}
+use Rattle.rx_element.specs.ElementResources.{found_seen}
 use Rattle.rx_element.specs.Places.{naming, standing}
 use Rattle.rx_element.proofs.StartLemmas.{start_is}
 use Rattle.rx_element.proofs.places.Surroundings.start.Goals as goal

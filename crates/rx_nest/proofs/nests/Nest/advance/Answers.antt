@@ -16,9 +16,9 @@ none_of (Some x) n = absurd (n x refl)
 -- src/nests.rt:92:13
 pub returns-in-Some-next_owed-clause-steps : goal.returns-in-Some-next_owed-clause-steps
 returns-in-Some-next_owed-clause-steps c syntax limits bytes signs st =
-    let old : Nested = record { scan = c.self.inside.scan; line = c.self.inside.line; owed = c.self.inside.owed; failed = c.self.inside.failed; spent = c.self.inside.spent } in
+    let old : Nested = record { scan = c.self.inside.scan; line = c.self.inside.line; owed = c.self.inside.owed; failed = c.self.inside.failed; out_of_memory = c.self.inside.out_of_memory } in
     due_done syntax limits old bytes signs (subst (λ v. NestStands syntax limits v bytes signs) (sym c.self.view_is) st) c.args.piece.now c.in-Some-next_owed.did c.in-Some-next_owed.owed
-    (record { scan = c.self.inside.scan; line = c.self.inside.line; owed = c.in-Some-next_owed.owed; failed = c.self.inside.failed; spent = c.self.inside.spent }) (sym c.next_owed.ensures ∙ c.in-Some-next_owed.is) refl
+    (record { scan = c.self.inside.scan; line = c.self.inside.line; owed = c.in-Some-next_owed.owed; failed = c.self.inside.failed; out_of_memory = c.self.inside.out_of_memory }) (sym c.next_owed.ensures ∙ c.in-Some-next_owed.is) refl
 
 -- src/nests.rt:98:17
 pub invariant_of-self-in-Ok : goal.invariant_of-self-in-Ok
@@ -49,8 +49,8 @@ returns-in-Ok-clause-lends c =
 -- src/nests.rt:80:5
 pub returns-in-Ok-clause-steps : goal.returns-in-Ok-clause-steps
 returns-in-Ok-clause-steps c syntax limits bytes signs st =
-    let old : Nested = record { scan = c.self.inside.scan; line = c.self.inside.line; owed = c.self.inside.owed; failed = c.self.inside.failed; spent = c.self.inside.spent } in
-    let new : Nested = record { scan = c.read.new.scan; line = c.read.new.line; owed = c.first_of-did.result.1; failed = c.self.inside.failed; spent = c.self.inside.spent } in
+    let old : Nested = record { scan = c.self.inside.scan; line = c.self.inside.line; owed = c.self.inside.owed; failed = c.self.inside.failed; out_of_memory = c.self.inside.out_of_memory } in
+    let new : Nested = record { scan = c.read.new.scan; line = c.read.new.line; owed = c.first_of-did.result.1; failed = c.self.inside.failed; out_of_memory = c.self.inside.out_of_memory } in
     let was = subst (λ v. NestStands syntax limits v bytes signs) (sym c.self.view_is) st in
     let none = sym c.next_owed.ensures ∙ none_of c.next_owed.result c.in_default-next_owed.not-Some in
     subst (λ d. Done syntax limits bytes signs c.args.piece.now c.in-Ok.taken d new) (sym (ap (λ (p : EventKind × PendingEvents). p.0) c.first_of-did.ensures))
@@ -62,7 +62,7 @@ returns-in-Err-Fault-clause-steps c syntax limits bytes signs st =
     let was = subst (λ v. NestStands syntax limits v bytes signs) (sym c.self.view_is) st in
     let stops : Stops syntax limits bytes was.told c.args.piece.now c.in-Err-Fault.fault =
     subst (λ x. ReadGives syntax limits bytes was.told c.args.piece.now c.self.inside.line (Err x) c.read.new.scan c.read.new.line) c.in-Err-Fault.field-0-is (c.in-Err-Fault.ensures.reads syntax limits bytes was.told was.at) in
-    let old : Nested = record { scan = c.self.inside.scan; line = c.self.inside.line; owed = c.self.inside.owed; failed = c.self.inside.failed; spent = c.self.inside.spent } in
+    let old : Nested = record { scan = c.self.inside.scan; line = c.self.inside.line; owed = c.self.inside.owed; failed = c.self.inside.failed; out_of_memory = c.self.inside.out_of_memory } in
     let same_line = subst (λ x. StaysAtFault {A = ℕ × TreeToken} (Err x) c.self.inside.line c.read.new.line) c.in-Err-Fault.field-0-is c.in-Err-Fault.ensures.stays in
     let none = sym c.next_owed.ensures ∙ none_of c.next_owed.result c.in_default-next_owed.not-Some in (
       faults_so syntax limits bytes c.args.piece.now _ was.told c.in-Err-Fault.fault was.at.read stops,

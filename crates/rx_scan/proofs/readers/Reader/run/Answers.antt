@@ -1,7 +1,7 @@
 use Rattle.std.proofs.Common.{◌≡◌, length, take, drop, ◌-◌, ◌<◌, ◌∙◌, ℕ, ◌+◌, sym, subst, inl, arith, refl, Result, get_or, false}
 use Rattle.std.specs.Prelude.{IfOk}
 use Rattle.rx_grammar.specs.declared.stops.Stop.{Stop}
-use Rattle.rx_scan.specs.declared.answers.What.{What}
+use Rattle.rx_scan.specs.declared.answers.TokenKind.{TokenKind}
 use Rattle.rx_scan.specs.Steps.{Runs, is_tag}
 use Rattle.rx_scan.proofs.RunLemmas.{took_text}
 use Rattle.rx_scan.proofs.LoopLemmas.{next_read, token_read, stopped, rest_took, lends, may_step}
@@ -27,7 +27,7 @@ loop-taken-init c =
 
 pub returns-in-Err-clause-runs : goal.returns-in-Err-clause-runs
 returns-in-Err-clause-runs c =
-    λ s h. subst (λ (r : Result (ℕ × What) Stop). Runs c.args.self.now s c.args.piece.now r c.read.new.self) (sym c.stopped.ensures)
+    λ s h. subst (λ (r : Result (ℕ × TokenKind) Stop). Runs c.args.self.now s c.args.piece.now r c.read.new.self) (sym c.stopped.ensures)
     (stopped c.args.self.now c.loop-taken.self c.read.new.self s c.args.piece.now c.loop-taken.taken c.loop-taken-test.true (c.loop-taken.invariant.so_far s h) c.in-Err.stop c.loop-taken.taken refl c.loop-taken.invariant.apart c.in-Err.ensures.reads c.in-Err.ensures.between c.in-Err.ensures.ready.text)
 
 pub returns-then-is_token-clause-runs : goal.returns-then-is_token-clause-runs
@@ -42,7 +42,7 @@ returns-then-must_show-clause-runs c =
 
 pub returns-in-Err-clause-quiet_tells : goal.returns-in-Err-clause-quiet_tells
 returns-in-Err-clause-quiet_tells c =
-    λ m q. subst (λ (r : Result (ℕ × What) Stop). IfOk r (λ answer. is_tag answer.1 ≡ false)) (sym c.stopped.ensures) (stopped_tells c.read.new.self.text.text c.loop-taken.taken c.in-Err.stop)
+    λ m q. subst (λ (r : Result (ℕ × TokenKind) Stop). IfOk r (λ answer. is_tag answer.1 ≡ false)) (sym c.stopped.ensures) (stopped_tells c.read.new.self.text.text c.loop-taken.taken c.in-Err.stop)
 
 pub returns-then-is_token-clause-quiet_tells : goal.returns-then-is_token-clause-quiet_tells
 returns-then-is_token-clause-quiet_tells c =

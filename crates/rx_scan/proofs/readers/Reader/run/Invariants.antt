@@ -1,7 +1,7 @@
 use Rattle.std.proofs.Common.{◌≡◌, ◌⊎◌, ◌+◌, ◌-◌, ◌≤◌, ◌<◌, [], true, take, length}
 use Rattle.rx_pages.specs.PageReader.{Scanning}
 use Rattle.rx_tags.specs.TagBufs.{MayStep}
-use Rattle.rx_scan.specs.declared.marks.Mark.TheVariants as mark
+use Rattle.rx_scan.specs.declared.marks.TokenState.TheVariants as mark
 use Rattle.rx_scan.specs.Steps.{ReadsAs, is_quiet}
 use Rattle.rx_scan.proofs.RunLemmas.{ReadsOn}
 use Rattle.rx_scan.proofs.readers.Reader.run.Given as goal

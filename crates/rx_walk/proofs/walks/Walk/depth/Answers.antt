@@ -1,5 +1,5 @@
 use Rattle.std.proofs.Common.{◌∙◌, ap}
-use Rattle.rx_walk.specs.declared.courses.Course.{Course}
+use Rattle.rx_walk.specs.declared.courses.RdfaListener.{RdfaListener}
 use Rattle.rx_walk.specs.Walks.{Walked}
 use Rattle.rx_walk.proofs.Wholes.{depth_line}
 use Rattle.rx_walk.proofs.walks.Walk.depth.Goals as goal
@@ -7,4 +7,4 @@ use Rattle.rx_walk.proofs.walks.Walk.depth.Goals as goal
 pub returns-clause-line : goal.returns-clause-line
 returns-clause-line c setting address bytes s =
     let d = depth_line setting address c.args.self.now bytes s in
-    (ap (λ (x : Course). x.count) c.listener.ensures ∙ (ap (λ (w : Walked). w.listener.count) c.self.view_is ∙ d.0), d.1)
+    (ap (λ (x : RdfaListener). x.count) c.listener.ensures ∙ (ap (λ (w : Walked). w.listener.count) c.self.view_is ∙ d.0), d.1)

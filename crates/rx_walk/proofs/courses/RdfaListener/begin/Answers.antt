@@ -8,7 +8,7 @@ use Rattle.rx_base.specs.Lines.{line_of}
 use Rattle.rx_base.specs.Seekings.{seek_begun}
 use Rattle.rx_walk.specs.Stages.{MayTake, Tells}
 use Rattle.rx_walk.proofs.Coursing.{from_absolute, absolute_more, takes_one, runs_more, begin_refused, begin_facts, count_room}
-use Rattle.rx_walk.proofs.courses.Course.begin.Goals as goal
+use Rattle.rx_walk.proofs.courses.RdfaListener.begin.Goals as goal
 
 pub returns-in-Err : goal.returns-in-Err
 returns-in-Err c context address levels signs r f =

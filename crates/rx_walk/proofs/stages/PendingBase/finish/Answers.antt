@@ -3,7 +3,7 @@ use Rattle.rx_base.specs.Seekings.{known, seek_finished}
 use Rattle.rx_base.specs.Sought.{sought_seen}
 use Rattle.rx_walk.specs.declared.calls.Call.TheVariants as code
 use Rattle.rx_walk.proofs.Staging.{head_may, head_more, head_known, not_ended, has_ended}
-use Rattle.rx_walk.proofs.stages.Head.finish.Goals as goal
+use Rattle.rx_walk.proofs.stages.PendingBase.finish.Goals as goal
 
 pub returns-then-not-ends : goal.returns-then-not-ends
 returns-then-not-ends c =

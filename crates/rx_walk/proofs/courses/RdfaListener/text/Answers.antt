@@ -1,7 +1,7 @@
 use Rattle.std.proofs.Common.{refl}
 use Rattle.std.specs.Str.{chars}
 use Rattle.rx_walk.proofs.Coursing.{runs_said}
-use Rattle.rx_walk.proofs.courses.Course.text.Goals as goal
+use Rattle.rx_walk.proofs.courses.RdfaListener.text.Goals as goal
 
 pub returns-clause-hears : goal.returns-clause-hears
 returns-clause-hears c context address levels signs r f =

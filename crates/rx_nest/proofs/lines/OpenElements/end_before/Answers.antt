@@ -3,7 +3,7 @@ use Rattle.std.specs.Str.{chars}
 use Rattle.rx_nest.specs.Levels.{Levels, ends_by}
 use Rattle.rx_nest.specs.Lines.{Lines}
 use Rattle.rx_nest.proofs.LevelLemmas.{kept_full}
-use Rattle.rx_nest.proofs.lines.Line.end_before.Goals as goal
+use Rattle.rx_nest.proofs.lines.OpenElements.end_before.Goals as goal
 
 pub returns-then-is_html-clause-none : goal.returns-then-is_html-clause-none
 returns-then-is_html-clause-none c h =

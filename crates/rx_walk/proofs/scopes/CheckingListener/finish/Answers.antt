@@ -5,7 +5,7 @@ use Rattle.rx_base.specs.Lines.{line_of}
 use Rattle.rx_walk.proofs.Fronting.{front_left}
 use Rattle.rx_walk.proofs.Coursing.{popped_around, marks_of, absolute_around}
 use Rattle.rx_walk.proofs.Accepted.{accepts_more}
-use Rattle.rx_walk.proofs.scopes.Scope.finish.Goals as goal
+use Rattle.rx_walk.proofs.scopes.CheckingListener.finish.Goals as goal
 
 pub pop-requires : goal.pop-requires
 pop-requires c =

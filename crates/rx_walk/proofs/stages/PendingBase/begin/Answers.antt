@@ -5,7 +5,7 @@ use Rattle.rx_base.specs.Seekings.{seek_begun}
 use Rattle.rx_base.specs.Sought.{sought_seen}
 use Rattle.rx_walk.specs.declared.calls.Call.TheVariants as code
 use Rattle.rx_walk.proofs.Staging.{head_may, head_more, head_known}
-use Rattle.rx_walk.proofs.stages.Head.begin.Goals as goal
+use Rattle.rx_walk.proofs.stages.PendingBase.begin.Goals as goal
 
 pub evaluated-requires : goal.evaluated-requires
 evaluated-requires c =

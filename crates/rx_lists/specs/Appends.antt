@@ -5,5 +5,5 @@ use Rattle.rx_model.specs.Terms.{Triple}
 use Rattle.rx_model.specs.Seen.{triples_seen}
 
 -- the new triples are the old ones and then these
-abbrev pub Gains : List CodeTriple → List CodeTriple → List (Triple ℕ) → Type 0
-Gains old new more = triples_seen new ≡ triples_seen old ++ more
+abbrev pub Appends : List CodeTriple → List CodeTriple → List (Triple ℕ) → Type 0
+Appends old new more = triples_seen new ≡ triples_seen old ++ more

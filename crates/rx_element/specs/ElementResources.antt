@@ -7,7 +7,7 @@ use Rattle.rx_model.specs.Seen.{node_seen}
 use Rattle.rx_rdfa.specs.Naming.{Naming}
 use Rattle.rx_rdfa.specs.Facts.{Facts, Ref}
 use Rattle.rx_rdfa.specs.Resources.{Standing, Resources, about, base_at_root, linked_resource, parent_for_head_and_body, new_blank}
-use Rattle.rx_element.specs.declared.resources.Found.{Found}
+use Rattle.rx_element.specs.declared.resources.ElementResources.{ElementResources}
 use Rattle.rx_element.specs.declared.places.Surroundings.{Surroundings}
 
 -- the first present of resource, href and src
@@ -31,7 +31,7 @@ fresh_node at = Blank at.fresh
 abbrev pub page_node : Chars → Node ℕ
 page_node base = Iri base
 
-abbrev pub found_seen : Found → Resources ℕ
+abbrev pub found_seen : ElementResources → Resources ℕ
 found_seen found = record {
   subject = node_seen found.subject;
   typed = option_map node_seen found.typed;

@@ -4,7 +4,7 @@ use Rattle.rx_nest.specs.Signs.{finished}
 use Rattle.rx_base.specs.Lines.{line_of}
 use Rattle.rx_walk.proofs.Fronting.{front_left}
 use Rattle.rx_walk.proofs.Coursing.{takes_one, runs_more, absolute_left, popped_around, around_length, marks_of}
-use Rattle.rx_walk.proofs.courses.Course.finish.Goals as goal
+use Rattle.rx_walk.proofs.courses.RdfaListener.finish.Goals as goal
 
 pub finish-requires : goal.finish-requires
 finish-requires c = takes_one c.args.self.now c.requires.setting.0.context c.requires.setting.1 c.requires.setting.0.limits.depth c.requires.signs finished c.requires.known c.requires.front

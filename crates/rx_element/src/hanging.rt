@@ -3,11 +3,11 @@ ghost use Rattle.std.specs.Prelude.{◌≡◌, IfOk, option_map};
 ghost use Rattle.rx_model.specs.Seen.{node_seen};
 ghost use Rattle.rx_rdfa.specs.Inherited.{hangs, holds_some, listed};
 ghost use Rattle.rx_curie.specs.Seen.{facts_seen};
-ghost use Rattle.rx_element.specs.Found.{found_seen};
+ghost use Rattle.rx_element.specs.ElementResources.{found_seen};
 ghost use Rattle.rx_element.specs.Places.{object_under};
 
 use crate::places::Surroundings;
-use crate::resources::{Found, clone_option};
+use crate::resources::{ElementResources, clone_option};
 use rx_curie::Facts;
 use rx_terms::{Iris, NoMemory, Node};
 
@@ -22,7 +22,7 @@ fn has_some(predicates: &Option<Iris>) -> bool
 
 /// Whether the predicates of `rel` and `rev` wait for subjects further down (RDFa Core 1.1, section 7.5, step 10).
 #[inline]
-pub fn hangs(facts: &Facts, found: &Found) -> bool
+pub fn hangs(facts: &Facts, found: &ElementResources) -> bool
     ensures { result ≡ hangs (facts_seen facts.now) (found_seen found.now) }
 {
     if found.object.is_some() {
@@ -36,7 +36,7 @@ pub fn hangs(facts: &Facts, found: &Found) -> bool
 pub fn object_below(
     place: &Surroundings<'_>,
     facts: &Facts,
-    found: &Found,
+    found: &ElementResources,
 ) -> Result<Option<Node>, NoMemory>
     ensures { IfOk result (λ object. option_map node_seen object ≡ object_under place.now (facts_seen facts.now) (found_seen found.now)) }
 {

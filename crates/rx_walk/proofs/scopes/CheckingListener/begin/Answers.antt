@@ -6,7 +6,7 @@ use Rattle.rx_nest.specs.Signs.{begun}
 use Rattle.rx_base.specs.Lines.{line_of}
 use Rattle.rx_walk.proofs.Accepted.{accepts_more, refused_next, accepted_next}
 use Rattle.rx_walk.proofs.Coursing.{from_absolute, absolute_more}
-use Rattle.rx_walk.proofs.scopes.Scope.begin.Goals as goal
+use Rattle.rx_walk.proofs.scopes.CheckingListener.begin.Goals as goal
 
 pub returns-in-Some : goal.returns-in-Some
 returns-in-Some c setting signs r =
