@@ -22,10 +22,10 @@ use Rattle.rx_rdfa.specs.Machine.{Slot, Full, Waiting, fill, fill_slot, slot_of,
 use Rattle.rx_rdfa.specs.Renaming.{rename_slot, rename_inherited, labels}
 use Rattle.rx_rdfa.proofs.Exact.{exact_bnodes}
 use Rattle.rx_lists.specs.declared.lists.SlotId.{SlotId}
-use Rattle.rx_element.specs.Labels.{Numbered, number_of, draw}
-use Rattle.rx_element.specs.Moment.{moment}
-use Rattle.rx_element.specs.Places.{level_at, standing_by}
-use Rattle.rx_element.specs.TextRules.{text_literal}
+use Rattle.rx_eval.specs.Labels.{Numbered, number_of, draw}
+use Rattle.rx_eval.specs.Moment.{moment}
+use Rattle.rx_eval.specs.Places.{level_at, standing_by}
+use Rattle.rx_eval.specs.TextRules.{text_literal}
 use Rattle.rx_terms.proofs.Bools.{by_test}
 use Rattle.rx_eval.specs.OwnersSeen.{Owning, put_entries, places_for, fill_all}
 use Rattle.rx_eval.specs.States.{Text, Frame, State}

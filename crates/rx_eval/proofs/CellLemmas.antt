@@ -24,7 +24,7 @@ use Rattle.rx_rdfa.proofs.RenamedMachine.{settle_rename}
 use Rattle.rx_rdfa.proofs.Tables.{tables_are_lists}
 use Rattle.rx_lists.specs.Cells.{size, cells_of}
 use Rattle.rx_lists.specs.Owners.{itself}
-use Rattle.rx_element.specs.Labels.{Numbered}
+use Rattle.rx_eval.specs.Labels.{Numbered}
 use Rattle.rx_terms.proofs.Bools.{by_test}
 use Rattle.rx_eval.specs.Numbering.{Numbering, Name, Number, name_by, named, Grown, Numbers}
 use Rattle.rx_eval.specs.Slots.{Slots, item_of, table_in}

@@ -3,7 +3,7 @@ use Rattle.std.proofs.Common.{◌≡◌, ◌∙◌, ℕ, suc, ◌+◌, List, len
 use Rattle.rx_rdfa.specs.Renaming.{label_of}
 use Rattle.rx_curie.specs.declared.refs.Ref.{Ref as CodeRef}
 use Rattle.rx_curie.specs.Seen.{ref_seen, refs_seen}
-use Rattle.rx_element.proofs.DrawLemmas.{drop_at}
+use Rattle.rx_eval.proofs.DrawLemmas.{drop_at}
 
 abbrev pub labels_in : List CodeRef → ℕ
 labels_in types = length (flat_map label_of (refs_seen types))

@@ -22,9 +22,9 @@ use Rattle.rx_rdfa.proofs.Sent.{map_or, map_then}
 use Rattle.rx_rdfa.proofs.RenamedResources.{same_nodes, resources_rename, below_rename, hangs_is}
 use Rattle.rx_rdfa.proofs.RenamedElement.{rule_rename, value_now_rename, value_rename, start_rename, end_rename}
 use Rattle.rx_rdfa.proofs.RenamedLists.{entries_by_rename}
-use Rattle.rx_element.specs.Labels.{Numbered, number_of}
-use Rattle.rx_element.specs.Moment.{moment}
-use Rattle.rx_element.specs.Places.{level_at, path_at, standing_by}
+use Rattle.rx_eval.specs.Labels.{Numbered, number_of}
+use Rattle.rx_eval.specs.Moment.{moment}
+use Rattle.rx_eval.specs.Places.{level_at, path_at, standing_by}
 use Rattle.rx_eval.specs.Numbering.{Numbering, Name, Number, name_by, named, same_name}
 use Rattle.rx_eval.specs.Entering.{next_number, owner_begun, owner_for}
 use Rattle.rx_eval.specs.Standing.{gathers_text}

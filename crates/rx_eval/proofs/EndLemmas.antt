@@ -21,7 +21,7 @@ use Rattle.rx_rdfa.specs.Renaming.{rename_slot}
 use Rattle.rx_rdfa.proofs.Calls.{after-append}
 use Rattle.rx_rdfa.proofs.Exact.{exact_owners}
 use Rattle.rx_rdfa.proofs.RenamedMachine.{fill_rename}
-use Rattle.rx_element.specs.TextRules.{text_literal}
+use Rattle.rx_eval.specs.TextRules.{text_literal}
 use Rattle.rx_terms.proofs.Bools.{by_test}
 use Rattle.rx_eval.specs.States.{Text, Frame, State}
 use Rattle.rx_eval.specs.Keeping.{gathers_some}

@@ -15,9 +15,9 @@ use Rattle.rx_rdfa.specs.Value.{rule, value_now, gathers}
 use Rattle.rx_rdfa.specs.Lists.{entry, entries_by, linked, awaited}
 use Rattle.rx_lists.specs.Owners.{Owners, owned}
 use Rattle.rx_lists.specs.declared.lists.Owner.{Owner}
-use Rattle.rx_element.specs.Labels.{Numbered}
-use Rattle.rx_element.specs.Moment.{moment}
-use Rattle.rx_element.specs.TextRules.{resource_term}
+use Rattle.rx_eval.specs.Labels.{Numbered}
+use Rattle.rx_eval.specs.Moment.{moment}
+use Rattle.rx_eval.specs.TextRules.{resource_term}
 use Rattle.rx_terms.proofs.Bools.{by_test}
 use Rattle.rx_eval.specs.Handing.{begun, begun_number}
 use Rattle.rx_eval.specs.Frames.{hanging_by}

@@ -7,10 +7,10 @@ use Rattle.rx_lists.specs.Owners.{owned, Owners, Slots, changed, with_term, plac
 use Rattle.rx_lists.specs.SlotIds.{slot_in}
 use Rattle.rx_lists.specs.declared.lists.Owner.{Owner}
 use Rattle.rx_lists.specs.declared.lists.SlotId.{SlotId}
-use Rattle.rx_element.specs.declared.contexts.IncompleteTriple.{IncompleteTriple}
+use Rattle.rx_eval.specs.declared.contexts.IncompleteTriple.{IncompleteTriple}
 use Rattle.rx_eval.specs.Entries.{put_each, slots_for, put_awaited}
 use Rattle.rx_terms.proofs.Bools.{by_test}
-use Rattle.rx_element.proofs.DrawLemmas.{drop_at, nothing_left}
+use Rattle.rx_eval.proofs.DrawLemmas.{drop_at, nothing_left}
 
 pub set_end : {A : Type 0} (xs : List A) (x y : A) → slice_set (xs ++ x ∷ []) (length xs) y ≡ xs ++ y ∷ []
 set_end [] x y = refl

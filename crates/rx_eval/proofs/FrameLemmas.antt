@@ -1,6 +1,6 @@
 -- The last frame.
 use Rattle.std.proofs.Common.{◌≡◌, ◌∙◌, ℕ, zero, suc, ◌-◌, ◌≤◌, List, [], ◌∷◌, length, get_or, refl, ap, arith}
-use Rattle.rx_element.specs.declared.contexts.EvaluationContext.{EvaluationContext}
+use Rattle.rx_eval.specs.declared.contexts.EvaluationContext.{EvaluationContext}
 use Rattle.rx_eval.specs.declared.frames.Frame.{Frame}
 use Rattle.rx_eval.specs.Opening.{around_in}
 

@@ -7,8 +7,8 @@ use Rattle.rx_rdfa.specs.Resources.{Standing, Resources, resources}
 use Rattle.rx_rdfa.specs.Inherited.{listed, object_below, own_owner}
 use Rattle.rx_rdfa.specs.Lists.{linked, touched}
 use Rattle.rx_lists.specs.declared.lists.SlotId.{SlotId}
-use Rattle.rx_element.specs.Labels.{Numbered}
-use Rattle.rx_element.specs.Moment.{moment}
+use Rattle.rx_eval.specs.Labels.{Numbered}
+use Rattle.rx_eval.specs.Moment.{moment}
 use Rattle.rx_eval.specs.declared.frames.Gathered.{Gathered}
 use Rattle.rx_eval.specs.OwnersSeen.{Owning, put_entries, places_for}
 use Rattle.rx_eval.specs.Listing.{Entries, own_places}

@@ -8,7 +8,7 @@ use Rattle.rx_eval.specs.declared.frames.Frame.{Frame as CodeFrame}
 use Rattle.rx_eval.specs.declared.frames.Gathered.{Gathered}
 use Rattle.rx_eval.specs.States.{frame_seen, text_seen}
 use Rattle.rx_rdfa.specs.Resources.{Inherited}
-use Rattle.rx_element.specs.Contexts.{context_seen}
+use Rattle.rx_eval.specs.Contexts.{context_seen}
 use Rattle.rx_eval.specs.Skipping.{all_frames, IsRooted}
 use Rattle.rx_eval.specs.Keeping.{gathers_some, first_gathering, first_of, is_place, IsSound}
 use Rattle.rx_eval.proofs.SkippedLemmas.{framed_more, one_longer, skipped_fit, rooted_more, rooted_less, rooted_in, none_gathers, others_gather}

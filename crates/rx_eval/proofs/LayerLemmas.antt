@@ -12,7 +12,7 @@ use Rattle.rx_rdfa.specs.Element.{end_of}
 use Rattle.rx_rdfa.specs.Machine.{value_at, inherit}
 use Rattle.rx_rdfa.specs.Renaming.{rename_inherited}
 use Rattle.rx_rdfa.proofs.Exact.{exact_owners}
-use Rattle.rx_element.specs.TextRules.{text_literal}
+use Rattle.rx_eval.specs.TextRules.{text_literal}
 use Rattle.rx_terms.proofs.Bools.{by_test}
 use Rattle.rx_eval.specs.States.{Frame}
 use Rattle.rx_eval.specs.Opened.{handed_on}

@@ -30,3 +30,9 @@ pub mod StandLemmas
 pub mod KeptLemmas
 pub mod ShownLemmas
 pub mod KeptRows
+pub mod LabelLemmas
+pub mod DrawLemmas
+pub mod TripleLemmas
+pub mod StartLemmas
+pub mod TextLemmas
+pub mod PlacedLemmas

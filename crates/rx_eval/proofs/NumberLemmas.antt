@@ -8,7 +8,7 @@ use Rattle.rx_model.proofs.Exact.{exact_texts}
 use Rattle.rx_rdfa.specs.Naming.{Path}
 use Rattle.rx_rdfa.specs.Blanks.{Bnode, Author, Made, Cell, Owner, same_bnode}
 use Rattle.rx_rdfa.proofs.Exact.{exact_bnodes}
-use Rattle.rx_element.specs.Labels.{Numbered, number_of, draw}
+use Rattle.rx_eval.specs.Labels.{Numbered, number_of, draw}
 use Rattle.rx_terms.proofs.Bools.{by_test}
 use Rattle.rx_eval.specs.Numbering.{Numbering, Grown, with_number, Numbers}
 use Rattle.rx_eval.proofs.NameLemmas.{grown_same, grown_then}

@@ -4,22 +4,22 @@ use Rattle.std.specs.Prelude.{IfSome}
 use Rattle.rx_terms.specs.Text.{Chars}
 use Rattle.rx_rdfa.specs.Facts.{Facts}
 use Rattle.rx_rdfa.specs.Resources.{Inherited}
-use Rattle.rx_element.specs.declared.places.Level.{Level}
+use Rattle.rx_eval.specs.declared.places.Level.{Level}
 use Rattle.rx_eval.specs.OwnersSeen.{Owning}
 use Rattle.rx_eval.specs.Entering.{Gathers, resources_by, places_at}
-use Rattle.rx_element.specs.Labels.{Numbered, Drawn}
-use Rattle.rx_element.specs.Contexts.{context_seen, waiting_seen}
+use Rattle.rx_eval.specs.Labels.{Numbered, Drawn}
+use Rattle.rx_eval.specs.Contexts.{context_seen, waiting_seen}
 use Rattle.rx_eval.specs.Opening.{around_in}
 use Rattle.rx_eval.specs.Skipping.{all_frames}
 use Rattle.rx_eval.specs.Opened.{handed_on}
 use Rattle.rx_eval.specs.States.{text_seen}
-use Rattle.rx_element.specs.declared.contexts.EvaluationContext.{EvaluationContext}
+use Rattle.rx_eval.specs.declared.contexts.EvaluationContext.{EvaluationContext}
 use Rattle.rx_eval.specs.declared.frames.Frame.{Frame as CodeFrame}
 use Rattle.rx_eval.specs.declared.frames.Gathered.{Gathered}
-use Rattle.rx_element.specs.declared.contexts.IncompleteTriple.{IncompleteTriple}
-use Rattle.rx_element.specs.declared.contexts.IncompleteTriple.TheVariants as code
+use Rattle.rx_eval.specs.declared.contexts.IncompleteTriple.{IncompleteTriple}
+use Rattle.rx_eval.specs.declared.contexts.IncompleteTriple.TheVariants as code
 use Rattle.rx_eval.specs.Waits.{Wait, wait_seen, wait_by}
-use Rattle.rx_element.proofs.DrawLemmas.{drawn_most}
+use Rattle.rx_eval.proofs.DrawLemmas.{drawn_most}
 use Rattle.rx_eval.proofs.SkippedLemmas.{handed_all}
 
 pub around_is : (page around : EvaluationContext) (frames items : List CodeFrame) (n : ℕ) → around ≡ around_in page frames → frames ≡ items

@@ -11,7 +11,7 @@ use Rattle.rx_rdfa.specs.Lists.{Entry, map_entry, of_owner, cells}
 use Rattle.rx_rdfa.specs.Machine.{Slot, settle}
 use Rattle.rx_rdfa.specs.Renaming.{rename_slot}
 use Rattle.rx_rdfa.proofs.Exact.{exact_owners}
-use Rattle.rx_element.specs.Labels.{Numbered}
+use Rattle.rx_eval.specs.Labels.{Numbered}
 use Rattle.rx_model.proofs.Sets.{false_unless}
 use Rattle.rx_eval.specs.OwnersSeen.{Owning, owning, open_seen, cells_seen, ended_by, forgotten_seen}
 use Rattle.rx_eval.specs.Ending.{Ending, cells_count, end_owner}

@@ -17,14 +17,14 @@ use Rattle.rx_lists.specs.Cells.{cells_of, items_seen, finished_cells, size}
 use Rattle.rx_eval.specs.Ending.{cells_count}
 use Rattle.rx_lists.specs.declared.lists.SlotId.{SlotId}
 use Rattle.rx_eval.specs.Closing.{filled_in}
-use Rattle.rx_element.specs.declared.contexts.IncompleteTriple.{IncompleteTriple}
-use Rattle.rx_element.specs.declared.contexts.IncompleteTriple.TheVariants.{Forward, Reverse, InList}
-use Rattle.rx_element.specs.Contexts.{waiting_seen}
-use Rattle.rx_element.specs.TextRules.{term_of, resource_term}
+use Rattle.rx_eval.specs.declared.contexts.IncompleteTriple.{IncompleteTriple}
+use Rattle.rx_eval.specs.declared.contexts.IncompleteTriple.TheVariants.{Forward, Reverse, InList}
+use Rattle.rx_eval.specs.Contexts.{waiting_seen}
+use Rattle.rx_eval.specs.TextRules.{term_of, resource_term}
 use Rattle.rx_eval.specs.Entries.{put_each, put_awaited, slots_for}
 use Rattle.rx_eval.specs.OwnersSeen.{Owning, owning, slots_seen, owning_seen, owners_seen, put_at, put_entries, with_item, open_seen, lists_in, list_place, item_count, next_place, places_for, fill_seen, fill_all, cells_seen, ended_by, ended, forgotten_seen}
 use Rattle.rx_eval.specs.Listing.{Entries, awaited_entry}
-use Rattle.rx_element.proofs.DrawLemmas.{nothing_left}
+use Rattle.rx_eval.proofs.DrawLemmas.{nothing_left}
 use Rattle.rx_terms.proofs.Bools.{by_test}
 
 abbrev pub item_seen : Option (Option CodeTerm) → Option (Option (Term ℕ))

@@ -9,10 +9,10 @@ use Rattle.rx_rdfa.specs.Facts.{Facts}
 use Rattle.rx_rdfa.specs.Renaming.{labels}
 use Rattle.rx_rdfa.specs.Resources.{Inherited, Standing, Resources, resources, is_root}
 use Rattle.rx_rdfa.specs.Element.{start_of}
-use Rattle.rx_element.specs.ElementResources.{names_nothing, says_nothing}
-use Rattle.rx_element.specs.Labels.{Numbered, draw}
-use Rattle.rx_element.specs.Moment.{moment}
-use Rattle.rx_element.specs.Places.{level_at, path_at, standing_by}
+use Rattle.rx_eval.specs.ElementResources.{names_nothing, says_nothing}
+use Rattle.rx_eval.specs.Labels.{Numbered, draw}
+use Rattle.rx_eval.specs.Moment.{moment}
+use Rattle.rx_eval.specs.Places.{level_at, path_at, standing_by}
 use Rattle.rx_eval.specs.Ending.{Closes}
 use Rattle.rx_eval.specs.Keeping.{gathers_some}
 use Rattle.rx_eval.specs.Opened.{handed_on, skipped_state, Opens}

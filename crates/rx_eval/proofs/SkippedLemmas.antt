@@ -1,8 +1,8 @@
 -- The frames of all open elements, where the skipped ones are counted.
 use Rattle.std.proofs.Common.{◌≡◌, ◌∙◌, ◌<◌, ◌≤◌, ◌-◌, ℕ, zero, suc, Bool, false, List, [], ◌∷◌, ◌++◌, length, refl, sym, ap, arith, append_assoc, length-append}
 use Rattle.rx_rdfa.specs.Resources.{Inherited}
-use Rattle.rx_element.specs.Contexts.{context_seen}
-use Rattle.rx_element.specs.declared.contexts.EvaluationContext.{EvaluationContext}
+use Rattle.rx_eval.specs.Contexts.{context_seen}
+use Rattle.rx_eval.specs.declared.contexts.EvaluationContext.{EvaluationContext}
 use Rattle.rx_eval.specs.declared.frames.Frame.{Frame as CodeFrame}
 use Rattle.rx_eval.specs.Opening.{around_in}
 use Rattle.rx_eval.specs.Opened.{handed_on}

@@ -18,7 +18,7 @@ use Rattle.rx_rdfa.specs.Renaming.{rename_inherited, labels}
 use Rattle.rx_rdfa.proofs.Calls.{after-append, frames_at, calls_read}
 use Rattle.rx_rdfa.proofs.Machine.{reading_makes}
 use Rattle.rx_rdfa.proofs.Growing.{node_then, term_then}
-use Rattle.rx_element.specs.Labels.{Numbered}
+use Rattle.rx_eval.specs.Labels.{Numbered}
 use Rattle.rx_eval.specs.States.{State}
 use Rattle.rx_eval.specs.Opened.{handed_on, Opens, begun_state, read_text}
 use Rattle.rx_eval.specs.Numbering.{Numbering, Name, Number, Itself, name_by, named, Numbers}

@@ -13,10 +13,10 @@ use Rattle.rx_rdfa.specs.Facts.{Facts}
 use Rattle.rx_rdfa.specs.Resources.{Inherited, Standing, Resources, new_blank, resources}
 use Rattle.rx_rdfa.specs.Inherited.{hangs, object_below, handed, below}
 use Rattle.rx_rdfa.specs.Lists.{of_owner, entries_by}
-use Rattle.rx_element.specs.Blanks.{is_blank}
-use Rattle.rx_element.specs.Labels.{Numbered}
-use Rattle.rx_element.specs.Moment.{moment}
-use Rattle.rx_element.specs.Places.{level_at, path_at, standing_by}
+use Rattle.rx_eval.specs.Blanks.{is_blank}
+use Rattle.rx_eval.specs.Labels.{Numbered}
+use Rattle.rx_eval.specs.Moment.{moment}
+use Rattle.rx_eval.specs.Places.{level_at, path_at, standing_by}
 use Rattle.rx_eval.specs.OwnersSeen.{Owning, owning, put_entries}
 use Rattle.rx_eval.specs.Opening.{drawn_after}
 use Rattle.rx_eval.specs.Entering.{next_number, owner_begun, owner_for, begun_for, owners_begun}

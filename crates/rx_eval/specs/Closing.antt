@@ -6,7 +6,7 @@ use Rattle.rx_model.specs.Copied.{spo}
 use Rattle.rx_lists.specs.Owners.{Owners, changed, with_term}
 use Rattle.rx_lists.specs.declared.lists.SlotId.{SlotId}
 use Rattle.rx_terms.specs.Text.{Chars}
-use Rattle.rx_element.specs.TextRules.{text_literal}
+use Rattle.rx_eval.specs.TextRules.{text_literal}
 use Rattle.rx_eval.specs.OwnersSeen.{owners_seen, fill_all}
 use Rattle.rx_eval.specs.declared.frames.Gathered.{Gathered}
 use Rattle.rx_eval.specs.declared.frames.Target.{Target}

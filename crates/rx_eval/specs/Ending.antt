@@ -8,7 +8,7 @@ use Rattle.rx_terms.specs.declared.triples.Triple.{Triple as CodeTriple}
 use Rattle.rx_model.specs.Seen.{triples_seen}
 use Rattle.rx_lists.specs.Owners.{Owners, itself}
 use Rattle.rx_lists.specs.Cells.{size}
-use Rattle.rx_element.specs.TextRules.{text_literal}
+use Rattle.rx_eval.specs.TextRules.{text_literal}
 use Rattle.rx_eval.specs.OwnersSeen.{Owning, owners_seen, open_seen, cells_seen, forgotten_seen, fill_all}
 use Rattle.rx_eval.specs.States.{Text, Frame, State}
 use Rattle.rx_eval.specs.Keeping.{gathers_some}

@@ -13,13 +13,13 @@ use Rattle.rx_rdfa.specs.Value.{rule, value_now, gathers}
 use Rattle.rx_rdfa.specs.Lists.{entries_by, linked, touched}
 use Rattle.rx_lists.specs.declared.lists.SlotId.{SlotId}
 use Rattle.rx_lists.specs.Owners.{Owners}
-use Rattle.rx_element.specs.Contexts.{context_seen, waiting_seen}
-use Rattle.rx_element.specs.Labels.{Numbered}
-use Rattle.rx_element.specs.Moment.{moment}
-use Rattle.rx_element.specs.Places.{standing_by, standing, naming}
-use Rattle.rx_element.specs.TextRules.{IsTextRule}
-use Rattle.rx_element.specs.declared.places.Level.{Level}
-use Rattle.rx_element.specs.declared.places.Surroundings.{Surroundings}
+use Rattle.rx_eval.specs.Contexts.{context_seen, waiting_seen}
+use Rattle.rx_eval.specs.Labels.{Numbered}
+use Rattle.rx_eval.specs.Moment.{moment}
+use Rattle.rx_eval.specs.Places.{standing_by, standing, naming}
+use Rattle.rx_eval.specs.TextRules.{IsTextRule}
+use Rattle.rx_eval.specs.declared.places.Level.{Level}
+use Rattle.rx_eval.specs.declared.places.Surroundings.{Surroundings}
 use Rattle.rx_eval.specs.OwnersSeen.{Owning, owning, owners_seen, put_entries, places_for}
 use Rattle.rx_eval.specs.Listing.{Entries, entries_in, listed_places}
 use Rattle.rx_eval.specs.States.{Text, text_seen}

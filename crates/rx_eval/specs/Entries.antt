@@ -7,8 +7,8 @@ use Rattle.rx_lists.specs.Owners.{Owners, changed, lists_of, open_at}
 use Rattle.rx_lists.specs.SlotIds.{slot_in}
 use Rattle.rx_lists.specs.declared.lists.Owner.{Owner}
 use Rattle.rx_lists.specs.declared.lists.SlotId.{SlotId}
-use Rattle.rx_element.specs.declared.contexts.IncompleteTriple.{IncompleteTriple}
-use Rattle.rx_element.specs.declared.contexts.IncompleteTriple.TheVariants.{Forward, Reverse, InList}
+use Rattle.rx_eval.specs.declared.contexts.IncompleteTriple.{IncompleteTriple}
+use Rattle.rx_eval.specs.declared.contexts.IncompleteTriple.TheVariants.{Forward, Reverse, InList}
 
 -- the owners with an item, an empty slot or a touch more in an owner's list of each predicate
 abbrev pub put_each : ℕ → Option (Option Term) → List Chars → Owners → Owners

@@ -20,3 +20,15 @@ pub mod Slots
 pub mod Standing
 pub mod KeptTexts
 pub mod Shown
+pub mod Labels
+pub mod Rows
+pub mod Moment
+pub mod Contexts
+pub mod Places
+pub mod ElementResources
+pub mod TextRules
+pub mod Triples
+pub mod Iris
+pub mod Starts
+pub mod Blanks
+pub mod Placing

@@ -10,9 +10,9 @@ use Rattle.rx_rdfa.specs.Lists.{Entry, entry}
 use Rattle.rx_lists.specs.declared.lists.SlotId.{SlotId}
 use Rattle.rx_lists.specs.Owners.{Owners}
 use Rattle.rx_terms.specs.declared.triples.Term.{Term as CodeTerm}
-use Rattle.rx_element.specs.Contexts.{waiting_seen}
-use Rattle.rx_element.specs.TextRules.{resource_term}
-use Rattle.rx_element.specs.declared.contexts.IncompleteTriple.{IncompleteTriple}
+use Rattle.rx_eval.specs.Contexts.{waiting_seen}
+use Rattle.rx_eval.specs.TextRules.{resource_term}
+use Rattle.rx_eval.specs.declared.contexts.IncompleteTriple.{IncompleteTriple}
 use Rattle.rx_eval.specs.OwnersSeen.{Owning, owners_seen, put_entries, places_for}
 
 abbrev pub Entries : Type 0

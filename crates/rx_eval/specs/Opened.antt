@@ -5,9 +5,9 @@ use Rattle.rx_model.specs.Terms.{Iri}
 use Rattle.rx_rdfa.specs.Facts.{Facts}
 use Rattle.rx_rdfa.specs.Renaming.{labels}
 use Rattle.rx_rdfa.specs.Resources.{Inherited}
-use Rattle.rx_element.specs.Labels.{Numbered, draw}
-use Rattle.rx_element.specs.Places.{level_at}
-use Rattle.rx_element.specs.declared.places.Level.{Level}
+use Rattle.rx_eval.specs.Labels.{Numbered, draw}
+use Rattle.rx_eval.specs.Places.{level_at}
+use Rattle.rx_eval.specs.declared.places.Level.{Level}
 use Rattle.rx_eval.specs.OwnersSeen.{owning}
 use Rattle.rx_eval.specs.Entering.{Gathers, resources_by, start_at, below_at, gathers_at, own_at, below_own_at, places_at, lists_at}
 use Rattle.rx_eval.specs.Opening.{drawn_after}

@@ -1,8 +1,8 @@
 -- The opening of an element on the stack.
 use Rattle.std.specs.Prelude.{ℕ, ◌+◌, ◌||◌, List, [], ◌∷◌, if◌then◌else◌}
 use Rattle.rx_rdfa.specs.Resources.{Inherited}
-use Rattle.rx_element.specs.Blanks.{is_blank}
-use Rattle.rx_element.specs.declared.contexts.EvaluationContext.{EvaluationContext}
+use Rattle.rx_eval.specs.Blanks.{is_blank}
+use Rattle.rx_eval.specs.declared.contexts.EvaluationContext.{EvaluationContext}
 use Rattle.rx_eval.specs.declared.frames.Frame.{Frame}
 
 -- what a child of the last frame inherits

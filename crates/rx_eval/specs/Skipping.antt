@@ -1,7 +1,7 @@
 -- Elements of which nothing is said have no frame that is kept: they are counted.
 use Rattle.std.specs.Prelude.{◌≡◌, ℕ, zero, suc, List, [], ◌∷◌, ◌++◌, None}
 use Rattle.rx_rdfa.specs.Resources.{Inherited}
-use Rattle.rx_element.specs.Contexts.{context_seen}
+use Rattle.rx_eval.specs.Contexts.{context_seen}
 use Rattle.rx_eval.specs.States.{Frame, frame_seen}
 use Rattle.rx_eval.specs.declared.frames.Frame.{Frame as CodeFrame}
 

@@ -19,7 +19,7 @@ use Rattle.rx_rdfa.specs.Renaming.{rename_slot, rename_inherited}
 use Rattle.rx_rdfa.specs.Calls.{Call, after, line_after, no_line}
 use Rattle.rx_values.specs.Marks.{CutAt}
 use Rattle.rx_lists.specs.declared.lists.SlotId.{SlotId}
-use Rattle.rx_element.specs.TextRules.{text_literal}
+use Rattle.rx_eval.specs.TextRules.{text_literal}
 use Rattle.rx_eval.specs.States.{Text, Frame, State}
 use Rattle.rx_eval.specs.Ending.{said_triples}
 use Rattle.rx_eval.specs.Opened.{handed_on}

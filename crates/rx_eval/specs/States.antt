@@ -6,9 +6,9 @@ use Rattle.rx_model.specs.Seen.{node_seen}
 use Rattle.rx_rdfa.specs.Resources.{Inherited}
 use Rattle.rx_lists.specs.declared.lists.SlotId.{SlotId}
 use Rattle.rx_lists.specs.declared.lists.Owner.{Owner}
-use Rattle.rx_element.specs.Labels.{Numbered}
-use Rattle.rx_element.specs.Contexts.{context_seen}
-use Rattle.rx_element.specs.declared.values.TextRule.{TextRule}
+use Rattle.rx_eval.specs.Labels.{Numbered}
+use Rattle.rx_eval.specs.Contexts.{context_seen}
+use Rattle.rx_eval.specs.declared.values.TextRule.{TextRule}
 use Rattle.rx_eval.specs.OwnersSeen.{Owning}
 use Rattle.rx_eval.specs.Gathering.{target_seen}
 use Rattle.rx_eval.specs.Closing.{slots_in}

@@ -3,8 +3,8 @@ use Rattle.std.specs.Prelude.{◌≡◌, ℕ, List, map}
 use Rattle.rx_terms.specs.Text.{Chars}
 use Rattle.rx_model.specs.Seen.{node_seen}
 use Rattle.rx_rdfa.specs.Resources as rules
-use Rattle.rx_element.specs.declared.contexts.IncompleteTriple.{IncompleteTriple}
-use Rattle.rx_element.specs.declared.contexts.IncompleteTriple.TheVariants as code
+use Rattle.rx_eval.specs.declared.contexts.IncompleteTriple.{IncompleteTriple}
+use Rattle.rx_eval.specs.declared.contexts.IncompleteTriple.TheVariants as code
 use Rattle.rx_eval.specs.declared.inherited.Direction.{Direction}
 use Rattle.rx_eval.specs.declared.inherited.Direction.TheVariants.{Forward, Reverse, InList}
 use Rattle.rx_eval.specs.declared.inherited.Hanging.{Hanging}

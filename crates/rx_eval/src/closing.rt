@@ -9,7 +9,7 @@ ghost use Rattle.rx_eval.specs.Ending.{ending_seen, end_owner, cells_count, Ends
 ghost use Rattle.rx_eval.specs.Closing.{Fills, filled_in, said_by, slots_in, text_value};
 
 use crate::frames::{Frame, Gathered, Target};
-use rx_element::push_each;
+use crate::triples::push_each;
 use rx_lists::{Lists, Owner, SlotId};
 use rx_terms::{NoMemory, Term, TripleList};
 use rx_values::TextStore;

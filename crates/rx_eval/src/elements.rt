@@ -2,8 +2,8 @@
 ghost use Rattle.std.specs.Prelude.{◌≡◌, ◌&&◌, false, OnOk, IfOk, Some, None, is_some, is_none, length, map, option_map, if◌then◌else◌};
 ghost use Rattle.rx_model.specs.Seen.{node_seen};
 ghost use Rattle.rx_curie.specs.Seen.{facts_seen};
-ghost use Rattle.rx_element.specs.Contexts.{context_seen, waiting_seen};
-ghost use Rattle.rx_element.specs.ElementResources.{found_seen};
+ghost use Rattle.rx_eval.specs.Contexts.{context_seen, waiting_seen};
+ghost use Rattle.rx_eval.specs.ElementResources.{found_seen};
 ghost use Rattle.rx_lists.specs.Appends.{Appends};
 ghost use Rattle.rx_eval.specs.OwnersSeen.{owners_seen};
 ghost use Rattle.rx_eval.specs.Frames.{hanging_by};
@@ -14,11 +14,16 @@ ghost use Rattle.rx_eval.specs.States.{owner_seen};
 ghost use Rattle.rx_eval.specs.Elements.{handed_by, hanging_below, owner_in, begun_below, begun_below_number};
 ghost use Rattle.rx_eval.specs.Entering.{GathersAt, GathersListed, GathersFound, handed_found, lists_found, own_found, below_found, at_place, start_at, below_at, lists_at, gathers_at, own_at, below_own_at};
 
+use crate::contexts::{EvaluationContext, Hangings};
 use crate::frames::{Frame, Gathered, Target, clone_iris, waiting_of};
 use crate::handing::begin;
+use crate::hanging::{hangs, object_below};
+use crate::iris::OwnIris;
 use crate::listing::put_all;
+use crate::places::Surroundings;
+use crate::resources::ElementResources;
+use crate::values::TextRule;
 use rx_curie::Facts;
-use rx_element::{EvaluationContext, ElementResources, Hangings, OwnIris, Surroundings, TextRule, hangs, object_below};
 use rx_lists::{Lists, Owner, SlotId};
 use rx_terms::{Iris, NoMemory, Node, Term, TripleList};
 use std::alloc::Global;

@@ -8,7 +8,7 @@ ghost use Rattle.rx_eval.specs.OwnersSeen.{owners_seen, places_for};
 ghost use Rattle.rx_eval.specs.Listing.{Puts};
 ghost use Rattle.rx_eval.specs.Entries.{put_each, slots_for, put_awaited};
 
-use rx_element::IncompleteTriple;
+use crate::contexts::IncompleteTriple;
 use rx_lists::{Lists, Owner, SlotId};
 use rx_terms::{Iri, Iris, NoMemory, Term};
 use std::alloc::Global;

@@ -15,15 +15,18 @@ ghost use Rattle.rx_eval.specs.Ending.{Closes};
 ghost use Rattle.rx_eval.specs.States.{owner_seen};
 
 use crate::closing::{end_frame, end_owner};
+use crate::contexts::{EvaluationContext, Hangings};
+use crate::drawing::draw_labels;
 use crate::elements::enter;
 use crate::frames::Frame;
 use crate::inherited::Inherited;
+use crate::iris::OwnIris;
+use crate::labels::Labels;
 use crate::numbers::label_count;
 use crate::opening::{around, next_number};
+use crate::places::{Surroundings, level_at};
+use crate::resources::says_nothing;
 use rx_curie::Facts;
-use rx_element::{
-    EvaluationContext, Hangings, Labels, OwnIris, Surroundings, draw_labels, level_at, says_nothing,
-};
 use rx_lists::{Lists, Owner};
 use rx_terms::{Iri, NoMemory, Node, TripleList};
 use rx_values::TextStore;
@@ -68,7 +71,7 @@ impl Model for Eval {
     ghost use Rattle.rx_eval.specs.States.{State};
     ghost use Rattle.rx_eval.specs.Skipping.{all_frames};
     ghost use Rattle.rx_eval.specs.Keeping.{IsSound};
-    ghost use Rattle.rx_element.specs.Contexts.{context_seen};
+    ghost use Rattle.rx_eval.specs.Contexts.{context_seen};
     ghost use Rattle.rx_eval.specs.OwnersSeen.{owners_seen};
 
     ghost Value = { State };

@@ -1,11 +1,12 @@
 //! An open element.
 ghost use Rattle.std.specs.Prelude.{◌≡◌, ◌++◌, OnOk, IfOk, map};
 ghost use Rattle.rx_curie.specs.Seen.{facts_seen};
-ghost use Rattle.rx_element.specs.Contexts.{waiting_seen};
+ghost use Rattle.rx_eval.specs.Contexts.{waiting_seen};
 ghost use Rattle.rx_eval.specs.Frames.{forward_by, reverse_by, hanging_by};
 
+use crate::contexts::{EvaluationContext, IncompleteTriple};
+use crate::values::TextRule;
 use rx_curie::Facts;
-use rx_element::{EvaluationContext, TextRule, IncompleteTriple};
 use rx_lists::{Owner, SlotId};
 use rx_terms::{Iri, Iris, NoMemory, Node};
 use std::alloc::Global;

@@ -2,7 +2,7 @@
 ghost use Rattle.std.specs.Prelude.{◌≡◌, ◌<◌, length, Some, slice_get};
 ghost use Rattle.rx_eval.specs.Waits.{waits, wait_seen, hanging_seen};
 
-use rx_element::IncompleteTriple;
+use crate::contexts::IncompleteTriple;
 use rx_terms::{Iri, Node};
 
 /// How a triple waits.

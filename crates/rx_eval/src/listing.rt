@@ -2,15 +2,18 @@
 ghost use Rattle.std.specs.Prelude.{◌≡◌, OnOk, IfOk, Some, map, option_map, filter_map};
 ghost use Rattle.rx_model.specs.Seen.{node_seen, term_seen};
 ghost use Rattle.rx_curie.specs.Seen.{facts_seen};
-ghost use Rattle.rx_element.specs.ElementResources.{found_seen};
-ghost use Rattle.rx_element.specs.Contexts.{waiting_seen};
+ghost use Rattle.rx_eval.specs.ElementResources.{found_seen};
+ghost use Rattle.rx_eval.specs.Contexts.{waiting_seen};
 ghost use Rattle.rx_rdfa.specs.Inherited.{listed};
 ghost use Rattle.rx_eval.specs.OwnersSeen.{owners_seen, places_for};
 ghost use Rattle.rx_eval.specs.Listing.{Puts, entries_for, linked_entries, touched_entries, awaited_entry, own_entries, listed_entries, entries_put, places_unless, own_reserved, reserved};
 
+use crate::contexts::IncompleteTriple;
 use crate::entries::{add_awaited, add_each, slot_each, touch_each};
+use crate::hanging::hangs;
+use crate::resources::ElementResources;
+use crate::values::node_term;
 use rx_curie::Facts;
-use rx_element::{ElementResources, IncompleteTriple, hangs, node_term};
 use rx_lists::{Lists, Owner, SlotId};
 use rx_terms::{Iris, NoMemory, Node, Term};
 use std::alloc::Global;
@@ -93,7 +96,11 @@ fn put_own(
 }
 
 /// Adds the subject to the lists that wait. Where nothing waits, no copy of it is made.
-fn put_awaited(lists: &mut Lists, waiting: &[IncompleteTriple], subject: &Node) -> Result<(), NoMemory>
+fn put_awaited(
+    lists: &mut Lists,
+    waiting: &[IncompleteTriple],
+    subject: &Node,
+) -> Result<(), NoMemory>
     ensures { OnOk result (Puts lists.old lists.new (filter_map (awaited_entry (node_seen subject.now)) (map waiting_seen waiting.now))) }
 {
     if waiting.is_empty() {

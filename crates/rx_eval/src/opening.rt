@@ -1,10 +1,11 @@
 //! The opening of an element on the stack.
 ghost use Rattle.std.specs.Prelude.{◌≡◌, ◌<◌, ◌^◌, ◌+◌};
-ghost use Rattle.rx_element.specs.Contexts.{context_seen};
+ghost use Rattle.rx_eval.specs.Contexts.{context_seen};
 ghost use Rattle.rx_eval.specs.Opening.{around_in, drawn_after};
 
+use crate::blanks::is_blank;
+use crate::contexts::EvaluationContext;
 use crate::frames::Frame;
-use rx_element::{EvaluationContext, is_blank};
 
 /// The context in which a child of the innermost open element stands.
 pub(crate) fn around<'a>(page: &'a EvaluationContext, frames: &'a [Frame]) -> &'a EvaluationContext

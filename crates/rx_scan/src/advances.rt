@@ -4,7 +4,7 @@ ghost use Rattle.rx_scan.specs.Entries as entries;
 ghost use Rattle.rx_tags.specs.TagBufs.{MayStep};
 
 use crate::answers::What;
-use crate::marks::{Brackets, TokenState, Move};
+use crate::marks::{Brackets, Move, TokenState};
 use crate::readers::Reader;
 use rx_chars::Utf8;
 use rx_tags::Stop;
@@ -35,7 +35,12 @@ impl Reader {
         Ok(TokenKind::Nothing)
     }
 
-    pub(crate) fn keep(&mut self, c: char, after_return: bool, mark: TokenState) -> Result<TokenKind, Stop>
+    pub(crate) fn keep(
+        &mut self,
+        c: char,
+        after_return: bool,
+        mark: TokenState,
+    ) -> Result<TokenKind, Stop>
         requires may_step { MayStep self.old.pending.tag }
         requires room { self.old.place.at + 1 < 2 ^ 64 }
         ensures does { entries.Enters self.old c after_return (Move.Keeps mark) result self.new }

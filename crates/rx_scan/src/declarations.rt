@@ -3,7 +3,9 @@ ghost use Rattle.std.specs.Prelude.{◌≡◌, slice_get};
 ghost use Rattle.rx_grammar.specs.Spelling as spelling;
 ghost use Rattle.rx_scan.specs.Marks as marks;
 
-use crate::marks::{Brackets, CommentPhase, DoctypePhase, TokenState, Move, StrictPhase, Whole, Word};
+use crate::marks::{
+    Brackets, CommentPhase, DoctypePhase, Move, StrictPhase, TokenState, Whole, Word,
+};
 use crate::words::char_at;
 use rx_chars::Syntax;
 use rx_grammar::{Content, Kind};
@@ -60,9 +62,13 @@ fn begun_word(syntax: Syntax, inside: Content, word: Word) -> Move
 {
     match (syntax, word) {
         (Syntax::Html, Word::Dashes) => Move::Continue(TokenState::Comment(CommentPhase::Start)),
-        (Syntax::Xhtml, Word::Dashes) => Move::Continue(TokenState::StrictComment(StrictPhase::Text)),
+        (Syntax::Xhtml, Word::Dashes) => Move::Continue(TokenState::StrictComment(
+            StrictPhase::Text,
+        )),
         (_, Word::Doctype) => Move::Continue(TokenState::Doctype(DoctypePhase::Keyword)),
-        (_, Word::Section) if has_sections(inside) => Move::Continue(TokenState::Section(Brackets::None)),
+        (_, Word::Section) if has_sections(inside) => Move::Continue(TokenState::Section(
+            Brackets::None,
+        )),
         (_, Word::Section) => Move::Refuses(Kind::Outside),
     }
 }

@@ -2,7 +2,7 @@
 ghost use Rattle.std.specs.Prelude.{◌≡◌, slice_get, codes};
 ghost use Rattle.rx_scan.specs.Marks as marks;
 
-use crate::marks::{DoctypePhase, TokenState, Move, Whole};
+use crate::marks::{DoctypePhase, Move, TokenState, Whole};
 use crate::words::char_at;
 use rx_chars::Syntax;
 use rx_grammar::Kind;

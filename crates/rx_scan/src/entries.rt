@@ -4,7 +4,7 @@ ghost use Rattle.rx_scan.specs.Entries as entries;
 ghost use Rattle.rx_tags.specs.TagBufs.{MayStep};
 
 use crate::answers::What;
-use crate::marks::{First, TokenState, Move};
+use crate::marks::{First, Move, TokenState};
 use crate::readers::Reader;
 use crate::settings::is_bracket;
 use rx_tags::Stop;

@@ -7,7 +7,7 @@ use crate::declarations::{
     at_opened, in_bogus, in_comment, in_instruction, in_section, in_strict_comment, in_word,
 };
 use crate::doctypes::in_doctype;
-use crate::marks::{First, TokenState, Move};
+use crate::marks::{First, Move, TokenState};
 use crate::phases::{has_references, in_run};
 use crate::raw_ends::in_end;
 use rx_chars::Syntax;

@@ -5,7 +5,7 @@ ghost use Rattle.rx_reader.specs.Tables as tables;
 ghost use Rattle.rx_scan.specs.Marks as marks;
 ghost use Rattle.rx_scan.specs.Pending as pending;
 
-use crate::marks::{TokenState, Move};
+use crate::marks::{Move, TokenState};
 use rx_grammar::{Content, Kind};
 use rx_reader::{RunMove, RunPhase};
 use rx_tags::run_move;

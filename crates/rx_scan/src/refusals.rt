@@ -3,7 +3,7 @@ ghost use Rattle.std.specs.Prelude.{◌≡◌};
 ghost use Rattle.rx_scan.specs.Marks as marks;
 ghost use Rattle.rx_scan.specs.Entries as entries;
 
-use crate::marks::{First, TokenState, Move, Whole};
+use crate::marks::{First, Move, TokenState, Whole};
 use crate::moves::{at_first, move_of};
 use crate::places::{Position, Setting};
 use crate::readers::Reader;

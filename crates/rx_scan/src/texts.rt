@@ -4,7 +4,7 @@ ghost use Rattle.rx_scan.specs.Entries as entries;
 ghost use Rattle.rx_tags.specs.TagBufs.{MayStep};
 
 use crate::answers::What;
-use crate::marks::{First, TokenState, Move};
+use crate::marks::{First, Move, TokenState};
 use crate::moves::at_first;
 use crate::phases::{first_char, phase_of};
 use crate::places::Position;

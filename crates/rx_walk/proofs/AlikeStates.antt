@@ -12,10 +12,10 @@ use Rattle.rx_rdfa.specs.Machine.{begun}
 use Rattle.rx_rdfa.specs.Renaming.{labels}
 use Rattle.rx_rdfa.specs.Resources.{Inherited}
 use Rattle.rx_rdfa.specs.Value.{rule, value_now, value_of_text}
-use Rattle.rx_element.specs.Labels.{Numbered, draw}
-use Rattle.rx_element.specs.Moment.{moment}
-use Rattle.rx_element.specs.Places.{level_at}
-use Rattle.rx_element.specs.declared.places.Level.{Level}
+use Rattle.rx_eval.specs.Labels.{Numbered, draw}
+use Rattle.rx_eval.specs.Moment.{moment}
+use Rattle.rx_eval.specs.Places.{level_at}
+use Rattle.rx_eval.specs.declared.places.Level.{Level}
 use Rattle.rx_eval.specs.Entering.{Gathers, resources_by, start_at, below_at, gathers_at, own_at, below_own_at, places_at, lists_at}
 use Rattle.rx_eval.specs.Ending.{Ending, ending, end_owner, TextAt, Closes}
 use Rattle.rx_eval.specs.Opened.{handed_on, Opens, begun_state, read_text}

@@ -7,8 +7,8 @@ use Rattle.rx_model.specs.Terms.{Node, Term, Triple}
 use Rattle.rx_rdfa.specs.Resources.{Inherited}
 use Rattle.rx_values.specs.Marks.{CutAt}
 use Rattle.rx_lists.specs.declared.lists.SlotId.{SlotId}
-use Rattle.rx_element.specs.Labels.{Numbered}
-use Rattle.rx_element.specs.TextRules.{text_literal}
+use Rattle.rx_eval.specs.Labels.{Numbered}
+use Rattle.rx_eval.specs.TextRules.{text_literal}
 use Rattle.rx_eval.specs.OwnersSeen.{Owning, fill_all}
 use Rattle.rx_eval.specs.Ending.{Ending, ending, end_owner, said_triples, say_text, end_frame, TextAt}
 use Rattle.rx_eval.specs.Keeping.{gathers_some}

@@ -18,7 +18,7 @@ use Rattle.rx_walk.specs.Leading.{Steps, Leads, Led}
 use Rattle.rx_walk.specs.Stages.{call_seen, queue_seen, MayBe, Known, MayTake, Tells, HeadGives, MayFollow}
 use Rattle.rx_base.specs.Sought.{sought_seen}
 use Rattle.rx_walk.proofs.Alike.{leads_then, leads_singles}
-use Rattle.rx_element.proofs.DrawLemmas.{drop_at}
+use Rattle.rx_eval.proofs.DrawLemmas.{drop_at}
 use Rattle.rx_walk.proofs.Moving.{may_enter, may_leave, follow_first, follow_rest}
 
 -- the queue

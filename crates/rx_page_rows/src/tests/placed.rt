@@ -5,7 +5,7 @@ ghost use Rattle.rx_curie.specs.Seen.{facts_seen};
 
 use crate::tests::evaluator::{is_text, property};
 use rx_curie::{ElementKind, Facts, Ref};
-use rx_element::{Labels, OwnIris, Placed, is_blank, value_of};
+use rx_eval::{Labels, OwnIris, Placed, is_blank, value_of};
 use rx_terms::{Iri, Node, Text};
 use std::alloc::Global;
 use std::test::Fail;

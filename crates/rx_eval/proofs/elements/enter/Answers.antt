@@ -2,9 +2,9 @@ use Rattle.std.proofs.Common.{◌∙◌, ap, sym, length, is_some, option_map}
 use Rattle.std.proofs.lemmas.List.{length-map}
 use Rattle.rx_model.specs.Seen.{term_seen}
 use Rattle.rx_curie.specs.Seen.{facts_seen}
-use Rattle.rx_element.specs.Contexts.{context_seen}
-use Rattle.rx_element.specs.ElementResources.{found_seen}
-use Rattle.rx_element.specs.Places.{standing}
+use Rattle.rx_eval.specs.Contexts.{context_seen}
+use Rattle.rx_eval.specs.ElementResources.{found_seen}
+use Rattle.rx_eval.specs.Places.{standing}
 use Rattle.rx_eval.specs.OwnersSeen.{owners_seen}
 use Rattle.rx_eval.specs.States.{owner_seen}
 use Rattle.rx_eval.proofs.GatherLemmas.{gathers_found, own_found, below_found, no_own, no_below, no_text}

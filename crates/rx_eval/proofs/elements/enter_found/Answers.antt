@@ -3,10 +3,10 @@ use Rattle.std.specs.Prelude.{Option, is_some, is_none}
 use Rattle.rx_model.specs.Seen.{node_seen, term_seen}
 use Rattle.rx_curie.specs.Seen.{facts_seen}
 use Rattle.rx_lists.specs.declared.lists.Owner.{Owner}
-use Rattle.rx_element.specs.Contexts.{context_seen, waiting_seen}
-use Rattle.rx_element.specs.ElementResources.{found_seen}
-use Rattle.rx_element.specs.Places.{naming, standing}
-use Rattle.rx_element.specs.declared.contexts.IncompleteTriple.{IncompleteTriple}
+use Rattle.rx_eval.specs.Contexts.{context_seen, waiting_seen}
+use Rattle.rx_eval.specs.ElementResources.{found_seen}
+use Rattle.rx_eval.specs.Places.{naming, standing}
+use Rattle.rx_eval.specs.declared.contexts.IncompleteTriple.{IncompleteTriple}
 use Rattle.rx_eval.specs.Elements.{handed_by, owner_in}
 use Rattle.rx_eval.specs.Entering.{own_number, naming_by}
 use Rattle.rx_eval.specs.OwnersSeen.{Owning, owners_seen, put_entries}

@@ -1,5 +1,5 @@
 use Rattle.std.proofs.Common.{ap}
-use Rattle.rx_element.specs.Contexts.{waiting_seen}
+use Rattle.rx_eval.specs.Contexts.{waiting_seen}
 use Rattle.rx_eval.specs.Frames.{reverse_by}
 use Rattle.rx_eval.proofs.GrowLemmas.{one_grown, mapped_more}
 use Rattle.rx_eval.proofs.frames.push_reverse.Goals as goal

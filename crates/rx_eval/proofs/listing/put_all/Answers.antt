@@ -2,8 +2,8 @@ use Rattle.std.proofs.Common.{filter_map, map, option_map, []}
 use Rattle.std.specs.Prelude.{if◌then◌else◌}
 use Rattle.rx_model.specs.Seen.{node_seen, term_seen}
 use Rattle.rx_curie.specs.Seen.{facts_seen}
-use Rattle.rx_element.specs.ElementResources.{found_seen}
-use Rattle.rx_element.specs.Contexts.{waiting_seen}
+use Rattle.rx_eval.specs.ElementResources.{found_seen}
+use Rattle.rx_eval.specs.Contexts.{waiting_seen}
 use Rattle.rx_eval.specs.OwnersSeen.{owners_seen}
 use Rattle.rx_eval.specs.Listing.{own_entries, awaited_entry}
 use Rattle.rx_eval.proofs.SeenLemmas.{two_put}

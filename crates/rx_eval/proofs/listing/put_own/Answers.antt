@@ -3,7 +3,7 @@ use Rattle.std.specs.Prelude.{is_none}
 use Rattle.rx_model.specs.Seen.{node_seen, term_seen}
 use Rattle.rx_rdfa.specs.Inherited.{listed, hangs}
 use Rattle.rx_curie.specs.Seen.{facts_seen}
-use Rattle.rx_element.specs.ElementResources.{found_seen}
+use Rattle.rx_eval.specs.ElementResources.{found_seen}
 use Rattle.rx_eval.specs.OwnersSeen.{owners_seen, put_entries}
 use Rattle.rx_eval.specs.Listing.{linked_entries, touched_entries, entries_for}
 use Rattle.rx_eval.proofs.SeenLemmas.{if_ok, ok_both, three_put, places_then}

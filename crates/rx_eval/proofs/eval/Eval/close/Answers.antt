@@ -1,7 +1,7 @@
 use Rattle.std.proofs.Common.{◌≡◌, ◌∙◌, ◌<◌, ◌-◌, refl, sym, ap, length, ℕ, true, arith}
 use Rattle.std.specs.Prelude.{Option, Some, None, option_map, ◌==◌, if◌then◌else◌}
 use Rattle.rx_model.specs.Seen.{triples_seen}
-use Rattle.rx_element.specs.Contexts.{context_seen}
+use Rattle.rx_eval.specs.Contexts.{context_seen}
 use Rattle.rx_eval.specs.OwnersSeen.{owners_seen}
 use Rattle.rx_eval.specs.States.{frame_seen, owner_seen}
 use Rattle.rx_eval.specs.Ending.{ending, end_owner, end_frame}

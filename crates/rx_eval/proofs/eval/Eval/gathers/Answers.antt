@@ -1,5 +1,5 @@
 use Rattle.std.proofs.Common.{◌∙◌, sym}
-use Rattle.rx_element.specs.Contexts.{context_seen}
+use Rattle.rx_eval.specs.Contexts.{context_seen}
 use Rattle.rx_eval.proofs.KeepLemmas.{gathers_is}
 use Rattle.rx_eval.proofs.eval.Eval.gathers.Goals as goal
 

@@ -3,12 +3,12 @@ use Rattle.std.proofs.lemmas.List.{length-map}
 use Rattle.rx_model.specs.Seen.{triples_seen}
 use Rattle.rx_rdfa.specs.Resources.{Inherited}
 use Rattle.rx_curie.specs.Seen.{facts_seen}
-use Rattle.rx_element.specs.declared.places.Level.{Level}
+use Rattle.rx_eval.specs.declared.places.Level.{Level}
 use Rattle.rx_eval.specs.OwnersSeen.{owners_seen}
-use Rattle.rx_element.specs.Places.{level_at}
+use Rattle.rx_eval.specs.Places.{level_at}
 use Rattle.rx_eval.specs.Opened.{handed_on}
 use Rattle.rx_eval.specs.Entering.{start_at, below_at, lists_at, gathers_at, own_at, below_own_at}
-use Rattle.rx_element.specs.Contexts.{context_seen}
+use Rattle.rx_eval.specs.Contexts.{context_seen}
 use Rattle.rx_eval.specs.States.{Frame, frame_seen}
 use Rattle.rx_eval.specs.declared.frames.Frame.{Frame as CodeFrame}
 use Rattle.rx_eval.specs.Skipping.{all_frames}

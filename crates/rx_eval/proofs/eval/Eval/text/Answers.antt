@@ -1,6 +1,6 @@
 use Rattle.std.proofs.Common.{rules, ◌∙◌, ap, sym}
 use Rattle.std.specs.Str.{chars}
-use Rattle.rx_element.specs.Contexts.{context_seen}
+use Rattle.rx_eval.specs.Contexts.{context_seen}
 use Rattle.rx_eval.specs.Keeping.{gathers_some}
 use Rattle.rx_eval.specs.States.{State}
 use Rattle.rx_eval.proofs.KeepLemmas.{sound_grown}

@@ -1,4 +1,0 @@
-use Rattle.rx_element.proofs.iris.time_datatype.Goals as goal
-
-pub returns-in-YearMonth : goal.returns-in-YearMonth
-returns-in-YearMonth c = rw c.in-YearMonth.is c.iri-in-YearMonth.ensures

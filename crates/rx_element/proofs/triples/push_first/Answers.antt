@@ -1,5 +1,0 @@
-use Rattle.rx_element.proofs.TripleLemmas.{one_came, map_at}
-use Rattle.rx_element.proofs.triples.push_first.Goals as goal
-
-pub loop-i-preserved : goal.loop-i-preserved
-loop-i-preserved c = one_came _ _ _ _ _ _ (map_at _ c.args.predicates.now c.loop-i.i _ c.at.ensures) c.in_ok-push_copy.ensures c.loop-i.invariant

@@ -1,0 +1,145 @@
+-- Labels draw their numbers one after another.
+use Rattle.std.proofs.Common.{◌≡◌, ◌∙◌, Result, Ok, Err, IfOk, OnErr, ℕ, zero, suc, Some, slice_get, ◌+◌, ◌<◌, ◌≤◌, ◌^◌, List, [], ◌∷◌, ◌++◌, length, drop, take, flat_map, refl, sym, ap, subst, arith, length-append, append-nil, append_assoc, add-one}
+use Rattle.std.specs.Prelude.{is_some}
+use Rattle.rx_terms.specs.Text.{Chars}
+use Rattle.rx_rdfa.specs.Renaming.{label_of}
+use Rattle.rx_curie.specs.declared.refs.Ref.{Ref as CodeRef}
+use Rattle.rx_curie.specs.Seen.{ref_seen, refs_seen}
+use Rattle.rx_eval.specs.Labels.{Numbered, number_of, draw, Drawn, DrawnSome}
+use Rattle.rx_terms.proofs.Bools.{by_test}
+
+pub drop_at : {A : Type 0} (xs : List A) (i : ℕ) (x : A) → slice_get xs i ≡ Some x → drop i xs ≡ x ∷ drop (suc i) xs
+drop_at [] i x h = absurd (cc)
+drop_at (y ∷ xs) zero x h = let e : y ≡ x = cc in ap (λ (z : _). z ∷ xs) e
+drop_at (y ∷ xs) (suc i) x h = drop_at xs i x h
+
+pub nothing_left : {A : Type 0} (i : ℕ) (xs : List A) → length xs ≤ i → drop i xs ≡ []
+nothing_left zero [] h = refl
+nothing_left (suc i) [] h = refl
+nothing_left zero (x ∷ xs) h = absurd (omega arith)
+nothing_left (suc i) (x ∷ xs) h = nothing_left i xs (omega arith)
+
+draw_then : (old : Numbered) (next : ℕ) (xs ys : List Chars) → draw old next (xs ++ ys) ≡ draw (draw old next xs).0 (draw old next xs).1 ys
+draw_then old next [] ys = refl
+draw_then old next (x ∷ xs) ys =
+    by_test (is_some (number_of old x)) (λ t. rw t (draw_then old next xs ys)) (λ f. rw f (draw_then (old ++ (x, next) ∷ []) (next + 1) xs ys))
+
+pub drawn_then : (old mid new : Numbered) (next middle after : ℕ) (xs ys : List Chars) → Drawn old next xs mid middle → Drawn mid middle ys new after → Drawn old next (xs ++ ys) new after
+drawn_then old mid new next middle after xs ys a b = record { path = draw_then old next xs ys ∙ ap (λ (p : Numbered × ℕ). draw p.0 p.1 ys) a.path ∙ b.path }
+
+draw_most : (old : Numbered) (next : ℕ) (xs : List Chars) → (draw old next xs).1 ≤ next + length xs
+draw_most old next [] = omega arith
+draw_most old next (x ∷ xs) =
+    by_test (is_some (number_of old x)) (λ t. rw t (omega (arith, draw_most old next xs))) (λ f. rw f (omega (arith, draw_most (old ++ (x, next) ∷ []) (next + 1) xs)))
+
+pub drawn_most : (old new : Numbered) (next after : ℕ) (xs : List Chars) → Drawn old next xs new after → after ≤ next + length xs
+drawn_most old new next after xs d = subst (λ (p : Numbered × ℕ). p.1 ≤ next + length xs) d.path (draw_most old next xs)
+
+abbrev pub type_labels : List CodeRef → List Chars
+type_labels types = flat_map label_of (refs_seen types)
+
+type_more : (xs : List CodeRef) (x : CodeRef) → type_labels (xs ++ x ∷ []) ≡ type_labels xs ++ label_of (ref_seen x)
+type_more [] x = append-nil (label_of (ref_seen x))
+type_more (y ∷ xs) x = ap (λ (l : List Chars). label_of (ref_seen y) ++ l) (type_more xs x) ∙ sym (append_assoc (label_of (ref_seen y)) (type_labels xs) (label_of (ref_seen x)))
+
+type_split : (i : ℕ) (xs : List CodeRef) → type_labels xs ≡ type_labels (take i xs) ++ type_labels (drop i xs)
+type_split zero xs = refl
+type_split (suc i) [] = refl
+type_split (suc i) (x ∷ xs) = ap (λ (l : List Chars). label_of (ref_seen x) ++ l) (type_split i xs) ∙ sym (append_assoc (label_of (ref_seen x)) (type_labels (take i xs)) (type_labels (drop i xs)))
+
+take_at : {A : Type 0} (xs : List A) (i : ℕ) (x : A) → slice_get xs i ≡ Some x → take (suc i) xs ≡ take i xs ++ x ∷ []
+take_at [] i x h = absurd (cc)
+take_at (y ∷ xs) zero x h = let e : y ≡ x = cc in ap (λ (z : _). z ∷ []) e
+take_at (y ∷ xs) (suc i) x h = ap (λ (l : List _). y ∷ l) (take_at xs i x h)
+
+take_whole : {A : Type 0} (i : ℕ) (xs : List A) → length xs ≤ i → take i xs ≡ xs
+take_whole zero [] h = refl
+take_whole (suc i) [] h = refl
+take_whole zero (x ∷ xs) h = absurd (omega arith)
+take_whole (suc i) (x ∷ xs) h = ap (λ (l : List _). x ∷ l) (take_whole i xs (omega arith))
+
+-- the first types have drawn theirs, and there are numbers for those that are left
+pub record DrawnTypes (old : Numbered) (next : ℕ) (types : List CodeRef) (i : ℕ) (labels : Numbered) (after : ℕ) : Type 0 where
+  pub drawn : Drawn old next (type_labels (take i types)) labels after
+  pub room : after + length (type_labels (drop i types)) < 2 ^ 64
+
+pub one_type : (labels more : Numbered) (after then_after i : ℕ) (x : CodeRef) (types : List CodeRef) (old : Numbered) (next : ℕ) → slice_get types i ≡ Some x
+    → DrawnTypes old next types i labels after → Drawn labels after (label_of (ref_seen x)) more then_after → DrawnTypes old next types (i + 1) more then_after
+one_type labels more after then_after i x types old next g s d =
+    let r : after + length (label_of (ref_seen x) ++ type_labels (drop (suc i) types)) < 2 ^ 64 =
+    subst (λ (l : List CodeRef). after + length (type_labels l) < 2 ^ 64) (drop_at types i x g) s.room in
+    let m = drawn_most labels more after then_after (label_of (ref_seen x)) d in
+    rw add-one (record {
+      drawn =
+          subst (λ (l : List Chars). Drawn old next l more then_after) (sym (type_more (take i types) x) ∙ ap type_labels (sym (take_at types i x g)))
+          (drawn_then old labels more next after then_after (type_labels (take i types)) (label_of (ref_seen x)) s.drawn d);
+      room = omega (arith, m, r, length-append (label_of (ref_seen x)) (type_labels (drop (suc i) types)));
+    })
+
+pub type_room : (labels : Numbered) (after i : ℕ) (x : CodeRef) (types : List CodeRef) (old : Numbered) (next : ℕ) → slice_get types i ≡ Some x
+    → DrawnTypes old next types i labels after → after + length (label_of (ref_seen x)) < 2 ^ 64
+type_room labels after i x types old next g s =
+    let r : after + length (label_of (ref_seen x) ++ type_labels (drop (suc i) types)) < 2 ^ 64 =
+    subst (λ (l : List CodeRef). after + length (type_labels l) < 2 ^ 64) (drop_at types i x g) s.room in
+    omega (arith, r, length-append (label_of (ref_seen x)) (type_labels (drop (suc i) types)))
+
+pub all_drawn : (labels : Numbered) (after i : ℕ) (types : List CodeRef) (old : Numbered) (next : ℕ) → length types ≤ i
+    → DrawnTypes old next types i labels after → Drawn old next (type_labels types) labels after
+all_drawn labels after i types old next h s = subst (λ (l : List CodeRef). Drawn old next (type_labels l) labels after) (take_whole i types h) s.drawn
+
+-- ---- where there was no memory
+
+pub on_err : {R E Q : Type 0} (r : Result R E) → Q → OnErr r Q
+on_err (Ok x) q = tt
+on_err (Err x) q = q
+
+pub none_drawn : (old new : Numbered) (next : ℕ) (xs : List Chars) → new ≡ old → DrawnSome old next xs new
+none_drawn old new next xs e = record { front = []; rest = xs; whole = refl; path = sym e }
+
+pub all_of_them : (old new : Numbered) (next after : ℕ) (xs : List Chars) → Drawn old next xs new after → DrawnSome old next xs new
+all_of_them old new next after xs d = record { front = xs; rest = []; whole = sym (append-nil xs); path = ap (λ (p : Numbered × ℕ). p.0) d.path }
+
+pub after_drawn : (old mid new : Numbered) (next middle : ℕ) (xs ys : List Chars) → Drawn old next xs mid middle → DrawnSome mid middle ys new → DrawnSome old next (xs ++ ys) new
+after_drawn old mid new next middle xs ys d s = record {
+  front = xs ++ s.front;
+  rest = s.rest;
+  whole = ap (λ (l : List Chars). xs ++ l) s.whole ∙ sym (append_assoc xs s.front s.rest);
+  path = ap (λ (p : Numbered × ℕ). p.0) (draw_then old next xs s.front ∙ ap (λ (p : Numbered × ℕ). draw p.0 p.1 s.front) d.path) ∙ s.path;
+}
+
+pub some_types : (old labels new : Numbered) (next after i : ℕ) (types : List CodeRef) → DrawnTypes old next types i labels after → new ≡ labels → DrawnSome old next (type_labels types) new
+some_types old labels new next after i types s e = record {
+  front = type_labels (take i types);
+  rest = type_labels (drop i types);
+  whole = type_split i types;
+  path = ap (λ (p : Numbered × ℕ). p.0) s.drawn.path ∙ sym e;
+}
+
+pub five_some : {R E : Type 0} (l0 l1 l2 l3 l4 new : Numbered) (n0 n1 n2 n3 n4 : ℕ) (a b c d e : List Chars) (r : Result R E)
+    → Drawn l0 n0 a l1 n1 → Drawn l1 n1 b l2 n2 → Drawn l2 n2 c l3 n3 → Drawn l3 n3 d l4 n4 → OnErr r (DrawnSome l4 n4 e new)
+    → OnErr r (DrawnSome l0 n0 (a ++ (b ++ (c ++ (d ++ e)))) new)
+five_some l0 l1 l2 l3 l4 new n0 n1 n2 n3 n4 a b c d e (Ok x) da db dc dd h = h
+five_some l0 l1 l2 l3 l4 new n0 n1 n2 n3 n4 a b c d e (Err x) da db dc dd h =
+    after_drawn l0 l1 new n0 n1 a _ da (after_drawn l1 l2 new n1 n2 b _ db (after_drawn l2 l3 new n2 n3 c _ dc (after_drawn l3 l4 new n3 n4 d e dd h)))
+
+pub five_drawn : (l0 l1 l2 l3 l4 l5 : Numbered) (n0 n1 n2 n3 n4 n5 : ℕ) (a b c d e : List Chars)
+    → Drawn l0 n0 a l1 n1 → Drawn l1 n1 b l2 n2 → Drawn l2 n2 c l3 n3 → Drawn l3 n3 d l4 n4 → Drawn l4 n4 e l5 n5
+    → Drawn l0 n0 (a ++ (b ++ (c ++ (d ++ e)))) l5 n5
+five_drawn l0 l1 l2 l3 l4 l5 n0 n1 n2 n3 n4 n5 a b c d e da db dc dd de =
+    drawn_then l0 l1 l5 n0 n1 n5 a _ da
+    (drawn_then l1 l2 l5 n1 n2 n5 b _ db (drawn_then l2 l3 l5 n2 n3 n5 c _ dc (drawn_then l3 l4 l5 n3 n4 n5 d e dd de)))
+
+pub five_room : (l0 l1 l2 l3 l4 : Numbered) (n0 n1 n2 n3 n4 : ℕ) (a b c d e : List Chars)
+    → Drawn l0 n0 a l1 n1 → Drawn l1 n1 b l2 n2 → Drawn l2 n2 c l3 n3 → Drawn l3 n3 d l4 n4 → n0 + length (a ++ (b ++ (c ++ (d ++ e)))) < 2 ^ 64 → n4 + length e < 2 ^ 64
+five_room l0 l1 l2 l3 l4 n0 n1 n2 n3 n4 a b c d e da db dc dd h =
+    let ma = drawn_most l0 l1 n0 n1 a da in
+    let mb = drawn_most l1 l2 n1 n2 b db in
+    let mc = drawn_most l2 l3 n2 n3 c dc in
+    let md = drawn_most l3 l4 n3 n4 d dd in
+    omega (arith, h, length-append a (b ++ (c ++ (d ++ e))), length-append b (c ++ (d ++ e)), length-append c (d ++ e), length-append d e)
+
+pub five_ok : {E : Type 0} (l0 l1 l2 l3 l4 l5 : Numbered) (n0 n1 n2 n3 n4 : ℕ) (a b c d e : List Chars) (r : Result ℕ E)
+    → Drawn l0 n0 a l1 n1 → Drawn l1 n1 b l2 n2 → Drawn l2 n2 c l3 n3 → Drawn l3 n3 d l4 n4 → IfOk r (λ n5. Drawn l4 n4 e l5 n5)
+    → IfOk r (λ n5. Drawn l0 n0 (a ++ (b ++ (c ++ (d ++ e)))) l5 n5)
+five_ok l0 l1 l2 l3 l4 l5 n0 n1 n2 n3 n4 a b c d e (Ok n5) da db dc dd h = five_drawn l0 l1 l2 l3 l4 l5 n0 n1 n2 n3 n4 n5 a b c d e da db dc dd h
+five_ok l0 l1 l2 l3 l4 l5 n0 n1 n2 n3 n4 a b c d e (Err x) da db dc dd h = h

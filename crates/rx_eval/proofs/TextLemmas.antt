@@ -1,0 +1,59 @@
+-- The text of an element as its value.
+use Rattle.std.proofs.Common.{◌≡◌, ◌∙◌, ℕ, Option, Some, None, refl, ap, Result, Ok, Err, IfOk}
+use Rattle.std.specs.Prelude.{unwrap_or, if◌then◌else◌, not, ◌&&◌, is_some, is_none}
+use Rattle.rx_terms.specs.Text.{Chars}
+use Rattle.rx_terms.specs.declared.triples.Term.{Term as CodeTerm}
+use Rattle.rx_model.specs.Terms.{Node, Term}
+use Rattle.rx_model.specs.Seen.{term_seen}
+use Rattle.rx_rdfa.specs.Facts.{Facts, ElementKind, Datatype, Empty, Is, Head, Body, Time, Other}
+use Rattle.rx_rdfa.specs.Resources.{resource_attribute, has_link, only}
+use Rattle.rx_rdfa.specs.Value.{Rule, rule_or, ByDatatype, ByContent, ByDatetime, ByTimeText, ByResource, ByTyped, ByText, is_time, value_now, value_of_text, value, plain_literal}
+use Rattle.rx_eval.specs.declared.values.TextRule.{TextRule}
+use Rattle.rx_eval.specs.TextRules.{IsTextRule, text_rule, rule_by, text_literal}
+
+-- the rules for resources and the text, and all rules, over what each asks for
+abbrev of_resources : Option (Node ℕ) → Option (Node ℕ) → Rule ℕ
+of_resources resource typed = rule_or resource ByResource (rule_or typed ByTyped ByText)
+
+abbrev first_rule : Option Datatype → Option Chars → Option Chars → ElementKind → Option (Node ℕ) → Option (Node ℕ) → Rule ℕ
+first_rule datatype content datetime kind resource typed =
+    rule_or datatype ByDatatype
+    (rule_or content ByContent (rule_or datetime ByDatetime (if is_time kind then ByTimeText else of_resources resource typed)))
+
+plain_text : (facts : Facts) (r t : Option (Node ℕ)) → value_now (of_resources r t) facts ≡ None → (text : Chars)
+    → plain_literal facts.lang text ≡ value_of_text (of_resources r t) facts text
+plain_text facts (Some r) t h text = absurd (cc)
+plain_text facts None (Some t) h text = absurd (cc)
+plain_text facts None None h text = refl
+
+says : (facts : Facts) (d : Option Datatype) (c e : Option Chars) (k : ElementKind) (r t : Option (Node ℕ)) → value_now (first_rule d c e k r t) facts ≡ None → (text : Chars)
+    → text_literal (rule_by d k facts.lang) text ≡ value_of_text (first_rule d c e k r t) facts text
+says facts (Some Empty) c e k r t h text = refl
+says facts (Some (Is datatype)) c e k r t h text = refl
+says facts None (Some c) e k r t h text = absurd (cc)
+says facts None None (Some e) k r t h text = absurd (cc)
+says facts None None None Time r t h text = refl
+says facts None None None Head r t h text = plain_text facts r t h text
+says facts None None None Body r t h text = plain_text facts r t h text
+says facts None None None Other r t h text = plain_text facts r t h text
+
+pub is_text_rule : (facts : Facts) (by : TextRule) → by ≡ text_rule facts → IsTextRule facts by
+is_text_rule facts by e = record {
+  literal = λ naming base here h text.
+      ap (λ (b : TextRule). text_literal b text) e
+      ∙ says facts facts.datatype facts.content facts.datetime facts.kind (only (not (has_link facts)) (resource_attribute naming base facts))
+      (only (is_some facts.types && is_none facts.about) here.typed) h text;
+}
+
+pub ok_text_rule : {E : Type 0} (facts : Facts) (r : Result TextRule E) → IfOk r (λ by. by ≡ text_rule facts) → IfOk r (IsTextRule facts)
+ok_text_rule facts (Ok by) h = is_text_rule facts by h
+ok_text_rule facts (Err e) h = h
+
+given_value : (v : Option (Term ℕ)) (w : Term ℕ) → None ≡ v → w ≡ unwrap_or v w
+given_value v w e = ap (λ (x : Option (Term ℕ)). unwrap_or x w) e
+
+-- where the value is the text, it is the literal that the text is
+pub ok_text : {E : Type 0} (facts : Facts) (by : Rule ℕ) (literal : Term ℕ) (text : Chars) (r : Result CodeTerm E) → None ≡ value_now by facts → literal ≡ value_of_text by facts text
+    → IfOk r (λ term. term_seen term ≡ literal) → IfOk r (λ term. term_seen term ≡ value by facts text)
+ok_text facts by literal text (Ok term) e l h = h ∙ l ∙ given_value (value_now by facts) (value_of_text by facts text) e
+ok_text facts by literal text (Err x) e l h = h

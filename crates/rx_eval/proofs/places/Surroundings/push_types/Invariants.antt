@@ -1,0 +1,12 @@
+use Rattle.std.proofs.Common.{◌++◌, drop}
+use Rattle.rx_model.specs.Seen.{node_seen, triples_seen}
+use Rattle.rx_curie.specs.Seen.{refs_seen}
+use Rattle.rx_eval.specs.Places.{naming}
+use Rattle.rx_eval.specs.Starts.{types_of}
+use Rattle.rx_eval.specs.Triples.{ToCome}
+use Rattle.rx_eval.proofs.places.Surroundings.push_types.Given as goal
+
+abbrev pub invariant-loop-i : goal.invariant-loop-i
+invariant-loop-i l =
+    ToCome (triples_seen l.out) (types_of (naming l.self) l.self.base.now (node_seen l.typed) (refs_seen (drop l.i l.types)))
+    (triples_seen l.initial.out ++ types_of (naming l.self) l.self.base.now (node_seen l.typed) (refs_seen l.types))
