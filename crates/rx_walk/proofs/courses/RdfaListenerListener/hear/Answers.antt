@@ -1,4 +1,4 @@
-use Rattle.rx_walk.proofs.courses.CourseListener.hear.Goals as goal
+use Rattle.rx_walk.proofs.courses.RdfaListenerListener.hear.Goals as goal
 
 pub returns-in-Begin-clause-hears : goal.returns-in-Begin-clause-hears
 returns-in-Begin-clause-hears c made signs r f =
