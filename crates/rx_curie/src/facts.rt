@@ -150,7 +150,7 @@ impl Facts {
 
     /// Reads what the tag says into these facts, in place of what they were, and answers as [`Facts::of`] does. So a page's
     /// tags are read into one value, which isn't moved. After want of memory nothing is said of the facts.
-    pub fn renew(
+    fn renew(
         &mut self,
         maker: &mut IriMaker,
         tag: &Tag<'_>,

@@ -28,7 +28,7 @@ pub use makers::IriMaker;
 pub use nodes::TypeList;
 pub use readings::{Reading, read_resource, read_term};
 pub use refs::Ref;
-pub use refusals::{refusal_below, refusal_of};
+pub use refusals::refusal_below;
 pub use rx_grammar::Kind;
 
 /// Facts that are seen as the same facts of the rules are the same.

@@ -6,7 +6,6 @@ ghost use Rattle.rx_terms.specs.Ascii.{is_ascii};
 ghost use Rattle.rx_terms.specs.Text.{seen_slice};
 ghost use Rattle.rx_rdfa.specs.Refusals.{is_relative, refusal};
 ghost use Rattle.rx_rdfa.specs.Facts as the;
-ghost use Rattle.rx_names.specs.Tags.{tag_of};
 ghost use Rattle.rx_names.specs.Lines.{vocabulary_of};
 ghost use Rattle.rx_names.specs.Views.{names_seen, Along};
 ghost use Rattle.rx_curie.specs.Given.{own_vocabulary, kind_of, OnFacts};
@@ -18,24 +17,12 @@ use crate::literals::{is_relative, is_word, own_vocabulary};
 use crate::readings::{Reading, read_term};
 use rx_grammar::Kind;
 use rx_names::{Attributes, NamesView};
-use rx_tags::Tag;
 use rx_words::trim;
 
-/// The fault for which a start tag is refused under these names, or `None` exactly where it has facts. The first that holds
-/// is answered: `RelativeVocab` where the tag declares a vocabulary without a scheme, `XmlLiteral` where it has `property` and
-/// a datatype that reads as rdf:XMLLiteral, `HtmlLiteral` where that is rdf:HTML. Where an element around declares the
-/// vocabulary in force, and that has no scheme, the answer is `RelativeVocab` too. No memory is taken.
-pub fn refusal_of(tag: &Tag<'_>, names: &NamesView<'_>) -> Option<Kind>
-    ensures line { OnFacts names.now (tag_of tag.now) (λ facts. result ≡ option_map kind_of (refusal facts)) }
-    ensures relative { is_relative (vocabulary_of (names_seen names.now)) ≡ true → result ≡ Some Kind.RelativeVocab }
-    ensures own { result ≡ None → is_relative (own_vocabulary (tag_of tag.now)) ≡ false }
-    ensures absolute { result ≡ None → is_relative (vocabulary_of (names_seen names.now)) ≡ false }
-    ensures kinds { kind_or_none result ≡ true }
-{
-    refusal_by(&Attributes::of(tag), names)
-}
-
-/// The same by the tag's attributes, where no element around declares a vocabulary without a scheme.
+/// The fault for which a start tag with these attributes is refused under these names, or `None` exactly where it has facts,
+/// where no element around declares a vocabulary without a scheme. The first that holds is answered: `RelativeVocab` where
+/// the tag declares such a vocabulary, `XmlLiteral` where it has `property` and a datatype that reads as rdf:XMLLiteral,
+/// `HtmlLiteral` where that is rdf:HTML. No memory is taken.
 #[inline]
 pub fn refusal_below(attributes: &Attributes<'_>, names: &NamesView<'_>) -> Option<Kind>
     ensures line { OnFacts names.now attributes.now (λ facts. result ≡ option_map kind_of (refusal facts)) }
@@ -51,7 +38,8 @@ pub fn refusal_below(attributes: &Attributes<'_>, names: &NamesView<'_>) -> Opti
     }
 }
 
-/// The same by the tag's attributes.
+/// The same wherever the tag stands: where an element around declares the vocabulary in force, and that has no scheme, the
+/// answer is `RelativeVocab`, too.
 pub(crate) fn refusal_by(attributes: &Attributes<'_>, names: &NamesView<'_>) -> Option<Kind>
     ensures line { OnFacts names.now attributes.now (λ facts. result ≡ option_map kind_of (refusal facts)) }
     ensures relative { is_relative (vocabulary_of (names_seen names.now)) ≡ true → result ≡ Some Kind.RelativeVocab }

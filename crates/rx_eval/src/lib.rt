@@ -36,9 +36,9 @@ mod values;
 ghost use Rattle.rx_eval.specs.KeptTexts.{KeepsWhereGathered, KeptTextsHold};
 ghost use Rattle.rx_eval.specs.Reserving.{ReservedAreFilled};
 
+pub use blanks::is_blank;
 pub use eval::Eval;
 pub use inherited::{Direction, Hanging, Inherited};
-pub use blanks::is_blank;
 pub use iris::OwnIris;
 pub use labels::Labels;
 pub use placed::{Placed, value_of};

@@ -1,5 +1,5 @@
 -- What becomes of signs that are accepted.
-use Rattle.std.proofs.Common.{◌≡◌, ◌∙◌, List, [], ◌∷◌, ◌++◌, map, refl, sym, ap, subst, Option, Some, None}
+use Rattle.std.proofs.Common.{◌≡◌, ◌∙◌, false, List, [], ◌∷◌, ◌++◌, map, refl, sym, ap, subst, Option, Some, None}
 use Rattle.std.specs.Option.{option_or}
 use Rattle.std.specs.Prelude.{option_map}
 use Rattle.rx_terms.specs.Text.{Chars}
@@ -7,10 +7,12 @@ use Rattle.rx_grammar.specs.declared.faults.Fault.{Fault}
 use Rattle.rx_grammar.specs.declared.faults.Kind.{Kind}
 use Rattle.rx_grammar.specs.Trees.{StartTag}
 use Rattle.rx_rdfa.specs.Names.{Context}
-use Rattle.rx_rdfa.specs.Refusals.{Refusal}
+use Rattle.rx_rdfa.specs.Facts.{facts}
+use Rattle.rx_rdfa.specs.Refusals.{Refusal, refusal, is_relative}
+use Rattle.rx_rdfa.specs.Tree.{Tag}
 use Rattle.rx_names.specs.Lines as names
 use Rattle.rx_names.specs.Lines.{Kept, no_tags}
-use Rattle.rx_curie.specs.Given.{kind_of}
+use Rattle.rx_curie.specs.Given.{kind_of, vocabulary_from}
 use Rattle.rx_nest.specs.Signs.{Sign, begun, said}
 use Rattle.rx_base.specs.Lines.{line_on, line_of}
 use Rattle.rx_walk.specs.Refused.{fault_of, refused_at, refused_in}
@@ -70,3 +72,12 @@ fault_is k (Some refused) t e = let is : k ≡ kind_of refused = cc in ap (λ z.
 pub no_fault_is : (r : Option Refusal) (t : StartTag) → None ≡ option_map kind_of r → ◌≡◌ {A = Option Fault} None (option_map (fault_of t) r)
 no_fault_is None t e = refl
 no_fault_is (Some refused) t e = absurd (cc)
+
+-- the fault of a tag by its attributes, under the names as they are lent
+pub fault_line : (result : Option Kind) (seen kept : Kept) (given tag : Tag) → given ≡ tag → seen ≡ kept
+    → ((above : List Tag) → names.NamesStand seen (given ∷ above) → is_relative (vocabulary_from above given) ≡ false → result ≡ option_map kind_of (refusal (facts seen.context above given)))
+    → (above : List Tag) → names.NamesStand kept (tag ∷ above) → is_relative (vocabulary_from above tag) ≡ false → result ≡ option_map kind_of (refusal (facts kept.context above tag))
+fault_line result seen kept given tag e s line =
+    let by_tag =
+    subst (λ (x : Tag). (above : List Tag) → names.NamesStand seen (x ∷ above) → is_relative (vocabulary_from above x) ≡ false → result ≡ option_map kind_of (refusal (facts seen.context above x))) e line in
+    subst (λ (k : Kept). (above : List Tag) → names.NamesStand k (tag ∷ above) → is_relative (vocabulary_from above tag) ≡ false → result ≡ option_map kind_of (refusal (facts k.context above tag))) s by_tag

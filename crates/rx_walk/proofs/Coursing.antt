@@ -1,19 +1,17 @@
 -- What becomes of the course.
-use Rattle.std.proofs.Common.{◌≡◌, ◌∙◌, ℕ, suc, ◌+◌, ◌≤◌, ◌<◌, Bool, true, false, List, [], ◌∷◌, ◌++◌, map, length, refl, sym, ap, subst, Option, Some, None, Ok, Err, arith, length-append}
+use Rattle.std.proofs.Common.{◌≡◌, ◌∙◌, ℕ, suc, ◌+◌, ◌≤◌, ◌<◌, Bool, true, false, List, [], ◌∷◌, ◌++◌, map, length, refl, sym, ap, subst, Option, Some, None, arith, length-append}
 use Rattle.std.specs.Option.{option_or}
-use Rattle.std.specs.Prelude.{is_some, option_map, if◌then◌else◌}
-use Rattle.rx_terms.specs.Text.{Chars}
+use Rattle.std.specs.Prelude.{codes, is_some, option_and_then, if◌then◌else◌}
+use Rattle.rx_terms.specs.Text.{Chars, trimmed}
 use Rattle.rx_grammar.specs.declared.faults.Fault.{Fault}
 use Rattle.rx_grammar.specs.Trees.{StartTag}
-use Rattle.rx_rdfa.specs.Names.{Context, vocab}
-use Rattle.rx_rdfa.specs.Refusals.{is_relative, Refusal}
-use Rattle.rx_rdfa.specs.Tree.{Tag}
+use Rattle.rx_rdfa.specs.Names.{Context, vocab, declared_or, unless_empty}
+use Rattle.rx_rdfa.specs.Refusals.{is_relative}
+use Rattle.rx_rdfa.specs.Tree.{Tag, attribute}
 use Rattle.rx_names.specs.Lines as names
 use Rattle.rx_names.specs.Lines.{Kept, kept_of, vocabulary_of}
 use Rattle.rx_names.proofs.LineLemmas.{vocabulary-line}
-use Rattle.rx_curie.specs.Given.{vocabulary_from, RefusesFor}
-use Rattle.rx_curie.specs.declared.facts.FactsError.TheVariants as error
-use Rattle.rx_grammar.specs.declared.faults.Kind.{Kind}
+use Rattle.rx_curie.specs.Given.{own_vocabulary, vocabulary_from}
 use Rattle.rx_nest.specs.Signs.{Sign, begun, said}
 use Rattle.rx_nest.specs.Fronts.{IsFront}
 use Rattle.rx_walk.specs.declared.courses.RdfaListener.{RdfaListener}
@@ -21,14 +19,12 @@ use Rattle.rx_walk.specs.declared.origins.Origin.{Origin}
 use Rattle.rx_base.specs.Lines.{read_tag, around, line_on, line_of}
 use Rattle.rx_walk.specs.CallsOf.{call_of, calls_of, singles}
 use Rattle.rx_base.specs.Seekings.{seek, sought}
-use Rattle.rx_walk.specs.Refused.{fault_of, refused_at, refused_in}
+use Rattle.rx_walk.specs.Refused.{refused_at, refused_in}
 use Rattle.rx_walk.specs.Stages.{Staged, MayTake, MayBe, Tells}
 use Rattle.rx_rdfa.specs.Facts.{facts}
 use Rattle.rx_curie.specs.declared.facts.Facts.{Facts as CodeFacts}
 use Rattle.rx_curie.specs.Seen.{facts_seen}
-use Rattle.rx_grammar.specs.declared.stops.Stop.{Stop}
-use Rattle.rx_grammar.specs.declared.stops.Stop.TheVariants as stop
-use Rattle.rx_walk.specs.Courses.{AllAbsolute, Runs, FactsGive, Hears}
+use Rattle.rx_walk.specs.Courses.{AllAbsolute, Runs, AreFacts}
 use Rattle.rx_walk.proofs.Signed.{calls_append, refused_append, said_calls, said_refused}
 use Rattle.rx_base.proofs.Lines.{line_append, seeks_append, said_line, said_seeks}
 use Rattle.rx_walk.proofs.Fronting.{may_more, may_say, front_counts}
@@ -46,8 +42,18 @@ from_absolute tag line a = by (is_some _) line a
     by false [] a = refl
     by false (t ∷ line) a = a.0
 
-pub absolute_more : (kept : Kept) (line : List Tag) (tag : Tag) → AllAbsolute line → names.NamesStand kept (tag ∷ line) → is_relative (vocabulary_of kept) ≡ false → AllAbsolute (tag ∷ line)
-absolute_more kept line tag a s r = (ap is_relative (sym (vocabulary-line kept (tag ∷ line) s)) ∙ r, a)
+-- a tag more, which declares no vocabulary without a scheme
+pub absolute_next : (tag : Tag) (line : List Tag) → AllAbsolute line → is_relative (own_vocabulary tag) ≡ false → AllAbsolute (tag ∷ line)
+absolute_next tag line a own = (by (attribute tag (codes "vocab")) line a own, a)
+  where
+    by : (o : Option Chars) (line : List Tag) → AllAbsolute line → is_relative (option_and_then (λ value. unless_empty (trimmed value)) o) ≡ false
+        → is_relative (declared_or o (λ value. unless_empty (trimmed value)) (vocab line)) ≡ false
+    by None [] a e = refl
+    by None (t ∷ line) a e = a.0
+    by (Some value) line a e = e
+
+pub absolute_kept : (kept : Kept) (line : List Tag) (tag : Tag) → AllAbsolute (tag ∷ line) → names.NamesStand kept (tag ∷ line) → is_relative (vocabulary_of kept) ≡ false
+absolute_kept kept line tag a s = ap is_relative (vocabulary-line kept (tag ∷ line) s) ∙ a.0
 
 pub absolute_around : (line : List Tag) → AllAbsolute line → AllAbsolute (around line)
 absolute_around [] a = tt
@@ -133,13 +139,15 @@ module _ (context : Context) (address : Chars) (levels : ℕ) (old new : RdfaLis
   begin_context : (kept : Kept) → kept.context ≡ old.names.context → kept.context ≡ context
   begin_context kept c = c ∙ r.context_is
 
-  pub begin_refused : (kept : Kept) (t : StartTag) (made : CodeFacts) (why : Stop) → kept.context ≡ old.names.context → FactsGive kept.context (line_of [] signs) t made (Err why) → Hears context address levels signs (begun t ∷ []) (Err why) new
-  begin_refused kept t made (stop.Fault fault) c g = refused_next t fault (subst (λ x. refused_at x (line_of [] signs) (begun t) ≡ Some fault) (begin_context kept c) g)
-  begin_refused kept t made stop.NoMemory c g = tt
+  pub begin_refused : (kept : Kept) (t : StartTag) (fault : Fault) → kept.context ≡ old.names.context → Some fault ≡ refused_at kept.context (line_of [] signs) (begun t) → refused_in context [] (signs ++ begun t ∷ []) ≡ Some fault
+  begin_refused kept t fault c g = refused_next t fault (subst (λ x. refused_at x (line_of [] signs) (begun t) ≡ Some fault) (begin_context kept c) (sym g))
 
-  pub begin_facts : (kept : Kept) (t : StartTag) (made : CodeFacts) → kept.context ≡ old.names.context → FactsGive kept.context (line_of [] signs) t made (Ok tt)
-      → (facts_seen made ≡ facts context (line_of [] signs) (read_tag t)) × (refused_at context (line_of [] signs) (begun t) ≡ None)
-  begin_facts kept t made c g = subst (λ x. FactsGive x (line_of [] signs) t made (Ok tt)) (begin_context kept c) g
+  pub begin_accepted : (kept : Kept) (t : StartTag) → kept.context ≡ old.names.context → None ≡ refused_at kept.context (line_of [] signs) (begun t) → refused_at context (line_of [] signs) (begun t) ≡ None
+  begin_accepted kept t c g = subst (λ x. refused_at x (line_of [] signs) (begun t) ≡ None) (begin_context kept c) (sym g)
+
+  pub begin_facts : (kept : Kept) (t : StartTag) (made : CodeFacts) → kept.context ≡ old.names.context → names.NamesStand kept (read_tag t ∷ line_of [] signs) → AreFacts kept (read_tag t) made
+      → facts_seen made ≡ facts context (line_of [] signs) (read_tag t)
+  begin_facts kept t made c s g = subst (λ x. facts_seen made ≡ facts x (line_of [] signs) (read_tag t)) (begin_context kept c) (g (line_of [] signs) s)
 
   pub absolute_left : AllAbsolute (around (line_of [] signs))
   absolute_left = absolute_around (line_of [] signs) r.absolute
@@ -163,8 +171,3 @@ marks_are context (tag ∷ line) = omega (arith, marks_are context line, length-
 
 pub marks_of : (kept : Kept) (line : List Tag) → names.NamesStand kept line → length kept.marks ≡ length line
 marks_of kept line s = ap (λ (k : Kept). length k.marks) s.is ∙ marks_are kept.context line
-
--- why a tag is refused
-pub refused_is : (k : Kind) (r : Option Refusal) (t : StartTag) → RefusesFor (error.Meaning k) r → option_map (fault_of t) r ≡ Some (record { kind = k; token = t.token; at = t.at })
-refused_is k None t h = absurd h
-refused_is k (Some refused) t h = ap (λ z. Some (record { kind = z; token = t.token; at = t.at })) (sym h)

@@ -1,7 +1,6 @@
 -- What is known of a page's elements after some signs of it.
-use Rattle.std.specs.Prelude.{◌≡◌, ℕ, false, List, [], ◌∷◌, ◌++◌, length, Some, None, Result, Ok, Err}
+use Rattle.std.specs.Prelude.{◌≡◌, ℕ, false, List, [], ◌∷◌, ◌++◌, length, None, Result}
 use Rattle.rx_terms.specs.Text.{Chars}
-use Rattle.rx_grammar.specs.Trees.{StartTag}
 use Rattle.rx_rdfa.specs.Facts.{facts}
 use Rattle.rx_rdfa.specs.Names.{Context, vocab}
 use Rattle.rx_rdfa.specs.Refusals.{is_relative}
@@ -11,16 +10,15 @@ use Rattle.rx_curie.specs.declared.facts.Facts.{Facts as CodeFacts}
 use Rattle.rx_curie.specs.Given.{vocabulary_from}
 use Rattle.rx_curie.specs.Seen.{facts_seen}
 use Rattle.rx_grammar.specs.declared.stops.Stop.{Stop}
-use Rattle.rx_grammar.specs.declared.stops.Stop.TheVariants as stop
-use Rattle.rx_nest.specs.Signs.{Sign, begun}
+use Rattle.rx_nest.specs.Signs.{Sign}
 use Rattle.rx_nest.specs.Fronts.{IsFront}
 use Rattle.rx_nest.specs.Ways.{Way}
 use Rattle.rx_nest.specs.Listening as listening
 use Rattle.rx_walk.specs.declared.courses.RdfaListener.{RdfaListener}
-use Rattle.rx_base.specs.Lines.{read_tag, line_of}
+use Rattle.rx_base.specs.Lines.{line_of}
 use Rattle.rx_walk.specs.CallsOf.{calls_of}
 use Rattle.rx_base.specs.Seekings.{sought}
-use Rattle.rx_walk.specs.Refused.{refused_at, refused_in}
+use Rattle.rx_walk.specs.Refused.{refused_in}
 use Rattle.rx_walk.specs.Settings.{Setting, way_of}
 use Rattle.rx_walk.specs.Stages.{Staged, MayBe}
 
@@ -54,11 +52,9 @@ way_at made = way_of made.0
 abbrev pub MayHear : RdfaListener → List Sign → Type 0
 MayHear course more = listening.MayHear way_at runs_at course more
 
--- what the facts of a start tag below a line are, which was read into these, or why it is refused
-abbrev pub FactsGive : Context → List Tag → StartTag → CodeFacts → Result (Unit {0}) Stop → Type 0
-FactsGive context above t made (Ok done) = (facts_seen made ≡ facts context above (read_tag t)) × (refused_at context above (begun t) ≡ None)
-FactsGive context above t made (Err (stop.Fault fault)) = refused_at context above (begun t) ≡ Some fault
-FactsGive context above t made (Err stop.NoMemory) = Unit {0}
+-- these are the facts of the tag, wherever the names are those of it and of a line above it
+abbrev pub AreFacts : names.Kept → Tag → CodeFacts → Type 0
+AreFacts kept tag made = (above : List Tag) → names.NamesStand kept (tag ∷ above) → facts_seen made ≡ facts kept.context above tag
 
 -- what holds of a start tag wherever the names are those of it and of a line above it, under which its vocabulary has a scheme
 abbrev pub BelowLine : names.Kept → Tag → (List Tag → Type 0) → Type 0

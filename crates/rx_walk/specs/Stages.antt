@@ -69,8 +69,8 @@ HeadGives origin seeking list None head = Seeks seeking list head
 HeadGives origin seeking list (Some state) head = Known origin.address origin.levels seeking list state
 
 -- the same of what was sought and kept before, with these calls more
-abbrev pub HeadTells : Origin → (Seeking → Seeking) → List Call → PendingBase → Result (Option State) NoMemory → PendingBase → Type 0
-HeadTells origin turn more old result new =
+abbrev pub PendingTells : Origin → (Seeking → Seeking) → List Call → PendingBase → Result (Option State) NoMemory → PendingBase → Type 0
+PendingTells origin turn more old result new =
     IfOk result (λ found. HeadGives origin (turn (sought_seen old.sought)) (queue_seen old.queue.items ++ more) found new)
 
 -- calls that are still to be told may come

@@ -7,17 +7,19 @@ ghost use Rattle.rx_names.specs.Tags.{tag_of};
 ghost use Rattle.rx_nest.specs.Nests.{tag_shown};
 ghost use Rattle.rx_nest.specs.Signs.{begun, said, finished};
 ghost use Rattle.rx_walk.specs.Quiets.{IsIdle};
-ghost use Rattle.rx_walk.specs.Courses.{Runs, runs_at, way_at, BelowLine, MayHear, FactsGive, HearsOn};
+ghost use Rattle.rx_walk.specs.Courses.{Runs, runs_at, way_at, AreFacts, MayHear, HearsOn};
+ghost use Rattle.rx_curie.specs.Given.{own_vocabulary};
 ghost use Rattle.rx_walk.specs.RefusalLaws.{refusal_laws};
 ghost use Rattle.rx_terms.specs.Text.{Chars};
 ghost use Rattle.rx_walk.specs.Settings.{Setting};
 
 use crate::origins::Origin;
+use crate::scopes::fault_of;
 use crate::stages::{PendingBase, Stage};
 use rx_base::Sought;
-use rx_curie::{Facts, FactsError, IriMaker};
-use rx_names::{Context, Names};
-use rx_nest::{Event, Fault, Listener, Stop, Tag};
+use rx_curie::{Facts, IriMaker};
+use rx_names::{Attributes, Context, Names};
+use rx_nest::{Event, Listener, Stop, Tag};
 use rx_terms::{Iri, NoMemory};
 use std::alloc::Global;
 
@@ -35,25 +37,19 @@ pub(crate) struct RdfaListener {
     pub(crate) stage: Stage,
 }
 
-/// Reads what the start tag says into these facts, or answers the fault for which it is refused.
+/// Reads what the start tag with these attributes says into these facts, where neither it nor an element around declares a
+/// vocabulary without a scheme.
 fn read_facts(
     facts: &mut Facts,
     maker: &mut IriMaker,
-    tag: &Tag<'_>,
+    attributes: &Attributes<'_>,
     names: &Names,
-) -> Result<(), Stop>
-    ensures line { BelowLine names.now (tag_of tag.now) (λ above. FactsGive names.now.context above (tag_shown tag.now) facts.new result) }
-    ensures absolute { OnOk result (is_relative (lines.vocabulary_of names.now) ≡ false) }
+) -> Result<(), NoMemory>
+    requires own { is_relative (own_vocabulary attributes.now) ≡ false }
+    requires vocabulary { is_relative (lines.vocabulary_of names.now) ≡ false }
+    ensures { OnOk result (AreFacts names.now attributes.now facts.new) }
 {
-    match facts.renew(maker, tag, &names.view()) {
-        Ok(()) => Ok(()),
-        Err(FactsError::Meaning(kind)) => Err(Stop::Fault(Fault {
-            kind,
-            token: tag.token,
-            at: tag.at,
-        })),
-        Err(FactsError::NoMemory) => Err(Stop::NoMemory),
-    }
+    facts.read(maker, attributes, &names.view())
 }
 
 /// One element more, where a level is left for it.
@@ -97,10 +93,12 @@ impl RdfaListener {
         requires { MayHear self.old (begun (tag_shown tag.now) ∷ []) }
         ensures { HearsOn self.old (begun (tag_shown tag.now) ∷ []) result self.new }
     {
-        self.names.push(tag)?;
-        if let Err(stop) = read_facts(&mut self.facts, &mut self.maker, tag, &self.names) {
-            return Err(stop);
+        let attributes = Attributes::of(tag);
+        self.names.push_of(&attributes)?;
+        if let Some(fault) = fault_of(tag, &attributes, &self.names) {
+            return Err(Stop::Fault(fault));
         }
+        read_facts(&mut self.facts, &mut self.maker, &attributes, &self.names)?;
         self.stage
             .begin(&self.origin, self.count, tag, &mut self.facts)?;
         self.count = one_more(self.count, self.origin.levels);

@@ -1,8 +1,8 @@
 //! The names in force at the open elements of a page that is checked.
 ghost use Rattle.std.specs.Prelude.{◌≡◌, ◌∷◌, [], false, None};
 ghost use Rattle.rx_rdfa.specs.Refusals.{is_relative};
-ghost use Rattle.rx_names.specs.Lines as lines;
 ghost use Rattle.rx_names.specs.Tags.{tag_of};
+ghost use Rattle.rx_curie.specs.Given.{own_vocabulary};
 ghost use Rattle.rx_nest.specs.Nests.{tag_shown};
 ghost use Rattle.rx_nest.specs.Signs.{begun, finished};
 ghost use Rattle.rx_nest.specs.Listening.{MayHear};
@@ -12,8 +12,8 @@ ghost use Rattle.rx_walk.specs.Refused.{refused_at};
 ghost use Rattle.rx_walk.specs.RefusalLaws.{refusal_laws};
 ghost use Rattle.rx_walk.specs.Settings.{Setting, way_of};
 
-use rx_curie::refusal_of;
-use rx_names::Names;
+use rx_curie::refusal_below;
+use rx_names::{Attributes, Names};
 use rx_nest::{Event, Fault, Listener, Stop, Tag};
 
 /// What a check keeps of the open elements: neither what they say nor their text.
@@ -22,12 +22,13 @@ pub(crate) struct CheckingListener {
     pub(crate) names: Names,
 }
 
-/// The fault for which the start tag is refused.
-fn fault_of(tag: &Tag<'_>, names: &Names) -> Option<Fault>
+/// The fault for which the start tag is refused, which has these attributes and its declarations among the names.
+pub(crate) fn fault_of(tag: &Tag<'_>, attributes: &Attributes<'_>, names: &Names) -> Option<Fault>
+    requires { attributes.now ≡ tag_of tag.now }
     ensures line { BelowLine names.now (tag_of tag.now) (λ above. result ≡ refused_at names.now.context above (begun (tag_shown tag.now))) }
-    ensures absolute { result ≡ None → is_relative (lines.vocabulary_of names.now) ≡ false }
+    ensures own { result ≡ None → is_relative (own_vocabulary (tag_of tag.now)) ≡ false }
 {
-    match refusal_of(tag, &names.view()) {
+    match refusal_below(attributes, &names.view()) {
         Some(kind) => Some(Fault {
             kind,
             token: tag.token,
@@ -41,8 +42,9 @@ impl CheckingListener {
     fn begin(&mut self, tag: &Tag<'_>) -> Result<(), Stop>
         ensures { HearsOn self.old (begun (tag_shown tag.now) ∷ []) result self.new }
     {
-        self.names.push(tag)?;
-        match fault_of(tag, &self.names) {
+        let attributes = Attributes::of(tag);
+        self.names.push_of(&attributes)?;
+        match fault_of(tag, &attributes, &self.names) {
             Some(fault) => Err(Stop::Fault(fault)),
             None => Ok(()),
         }

@@ -7,7 +7,7 @@ ghost use Rattle.rx_names.specs.Tags.{tag_of};
 ghost use Rattle.rx_walk.specs.CallsOf.{singles};
 ghost use Rattle.rx_base.specs.Seekings.{seek_begun, seek_finished};
 ghost use Rattle.rx_walk.specs.Quiets.{IsIdle};
-ghost use Rattle.rx_walk.specs.Stages.{queue_seen, HeadTells, MayBe, MayTake, Tells};
+ghost use Rattle.rx_walk.specs.Stages.{queue_seen, PendingTells, MayBe, MayTake, Tells};
 
 use crate::calls::Call;
 use crate::evaluation::{enter, evaluated};
@@ -55,7 +55,7 @@ impl PendingBase {
         facts: &mut Facts,
     ) -> Result<Option<Eval>, NoMemory>
         requires { MayBe origin.now.levels (queue_seen self.old.queue.items ++ Enter (facts_seen facts.old) ∷ []) }
-        ensures { HeadTells origin.now (λ seeking. seek_begun count seeking (tag_of tag.now)) (Enter (facts_seen facts.old) ∷ []) self.old result self.new }
+        ensures { PendingTells origin.now (λ seeking. seek_begun count seeking (tag_of tag.now)) (Enter (facts_seen facts.old) ∷ []) self.old result self.new }
     {
         // The queue keeps them, and the next tag is read into others.
         let kept = mem::replace(facts, Facts::none());
@@ -74,7 +74,7 @@ impl PendingBase {
 
     fn finish(&mut self, origin: &Origin, count: u32) -> Result<Option<Eval>, NoMemory>
         requires { MayBe origin.now.levels (queue_seen self.old.queue.items ++ Leave ∷ []) }
-        ensures { HeadTells origin.now (seek_finished count) (Leave ∷ []) self.old result self.new }
+        ensures { PendingTells origin.now (seek_finished count) (Leave ∷ []) self.old result self.new }
     {
         self.push(Call::Leave)?;
         if !self.sought.ends(count as usize) {

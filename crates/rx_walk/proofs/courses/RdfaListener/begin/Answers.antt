@@ -1,28 +1,47 @@
-use Rattle.std.proofs.Common.{◌≡◌, ◌≤◌, ◌+◌, [], ◌∷◌, length, refl, sym, ap, subst, arith}
+use Rattle.std.proofs.Common.{◌≡◌, ◌∙◌, ◌≤◌, ◌+◌, [], ◌∷◌, false, length, refl, sym, ap, subst, arith}
 use Rattle.rx_rdfa.specs.Calls.{Enter}
-use Rattle.rx_names.specs.Lines.{Kept}
+use Rattle.rx_rdfa.specs.Refusals.{is_relative}
+use Rattle.rx_rdfa.specs.Tree.{Tag}
+use Rattle.rx_names.specs.Lines.{Kept, NamesStand}
 use Rattle.rx_names.specs.Tags.{tag_of}
+use Rattle.rx_curie.specs.Given.{own_vocabulary}
 use Rattle.rx_nest.specs.Nests.{tag_shown}
 use Rattle.rx_nest.specs.Signs.{begun}
 use Rattle.rx_base.specs.Lines.{line_of}
 use Rattle.rx_base.specs.Seekings.{seek_begun}
+use Rattle.rx_walk.specs.Courses.{AreFacts}
 use Rattle.rx_walk.specs.Stages.{MayTake, Tells}
-use Rattle.rx_walk.proofs.Coursing.{from_absolute, absolute_more, takes_one, runs_more, begin_refused, begin_facts, count_room}
+use Rattle.rx_walk.proofs.Coursing.{from_absolute, absolute_next, absolute_kept, takes_one, runs_more, begin_refused, begin_accepted, begin_facts, count_room}
 use Rattle.rx_walk.proofs.courses.RdfaListener.begin.Goals as goal
 
-pub returns-in-Err : goal.returns-in-Err
-returns-in-Err c context address levels signs r f =
-    begin_refused context address levels c.args.self.now (record { origin = c.args.self.now.origin; names = c.push.new.self; maker = c.read_facts.new.maker; facts = c.read_facts.new.facts; count = c.args.self.now.count; stage = c.args.self.now.stage }) signs r c.push.new.self
-    (tag_shown c.args.tag.now) c.read_facts.new.facts c.in-Err.stop (ap (λ (k : Kept). k.context) c.in_ok-push.ensures.ok)
-    (c.in-Err.ensures.line (line_of [] signs) (c.in_ok-push.ensures.line (line_of [] signs) r.names_are) (from_absolute (tag_of c.args.tag.now) (line_of [] signs) r.absolute))
+pub returns-in-Some : goal.returns-in-Some
+returns-in-Some c context address levels signs r f =
+    let line = line_of [] signs in
+    let tag = tag_of c.args.tag.now in
+    let stands = subst (λ (x : Tag). NamesStand c.push_of.new.self (x ∷ line)) c.of.ensures (c.in_ok-push_of.ensures.line line r.names_are) in
+    begin_refused context address levels c.args.self.now c.args.self.now signs r c.push_of.new.self (tag_shown c.args.tag.now) c.in-Some.fault (ap (λ (k : Kept). k.context) c.in_ok-push_of.ensures.ok)
+    (sym c.in-Some.is ∙ c.fault_of.ensures.line line stands (from_absolute tag line r.absolute))
+
+pub read_facts-requires-clause-own : goal.read_facts-requires-clause-own
+read_facts-requires-clause-own c = subst (λ (x : Tag). is_relative (own_vocabulary x) ≡ false) (sym c.of.ensures) (c.fault_of.ensures.own c.in_default.is)
+
+pub read_facts-requires-clause-vocabulary : goal.read_facts-requires-clause-vocabulary
+read_facts-requires-clause-vocabulary c =
+    let q = c.requires in
+    let line = line_of [] q.signs in
+    let tag = tag_of c.args.tag.now in
+    let stands = subst (λ (x : Tag). NamesStand c.push_of.new.self (x ∷ line)) c.of.ensures (c.in_ok-push_of.ensures.line line q.known.names_are) in
+    absolute_kept c.push_of.new.self line tag (absolute_next tag line q.known.absolute (c.fault_of.ensures.own c.in_default.is)) stands
 
 pub begin-requires : goal.begin-requires
 begin-requires c =
     let q = c.requires in
     let line = line_of [] q.signs in
-    let g = begin_facts q.setting.0.context q.setting.1 q.setting.0.limits.depth c.args.self.now c.args.self.now q.signs q.known c.push.new.self (tag_shown c.args.tag.now) c.read_facts.new.facts (ap (λ (k : Kept). k.context) c.in_ok-push.ensures.ok)
-    (c.in_default.ensures.line line (c.in_ok-push.ensures.line line q.known.names_are) (from_absolute (tag_of c.args.tag.now) line q.known.absolute)) in
-    subst (λ x. MayTake c.args.self.now.origin.levels (Enter x ∷ []) c.args.self.now.stage) (sym g.0)
+    let tag = tag_of c.args.tag.now in
+    let stands = subst (λ (x : Tag). NamesStand c.push_of.new.self (x ∷ line)) c.of.ensures (c.in_ok-push_of.ensures.line line q.known.names_are) in
+    let g = begin_facts q.setting.0.context q.setting.1 q.setting.0.limits.depth c.args.self.now c.args.self.now q.signs q.known c.push_of.new.self (tag_shown c.args.tag.now) c.read_facts.new.facts
+    (ap (λ (k : Kept). k.context) c.in_ok-push_of.ensures.ok) stands (subst (λ (x : Tag). AreFacts c.push_of.new.self x c.read_facts.new.facts) c.of.ensures c.in_ok-read_facts.ensures) in
+    subst (λ x. MayTake c.args.self.now.origin.levels (Enter x ∷ []) c.args.self.now.stage) (sym g)
     (takes_one c.args.self.now q.setting.0.context q.setting.1 q.setting.0.limits.depth q.signs (begun (tag_shown c.args.tag.now)) q.known q.front)
 
 pub one_more-self-requires : goal.one_more-self-requires
@@ -34,11 +53,15 @@ one_more-self-requires c =
 pub returns : goal.returns
 returns c context address levels signs r f =
     let line = line_of [] signs in
-    let stands = c.in_ok-push.ensures.line line r.names_are in
-    let g = begin_facts context address levels c.args.self.now c.args.self.now signs r c.push.new.self (tag_shown c.args.tag.now) c.read_facts.new.facts (ap (λ (k : Kept). k.context) c.in_ok-push.ensures.ok)
-    (c.in_default.ensures.line line stands (from_absolute (tag_of c.args.tag.now) line r.absolute)) in
+    let tag = tag_of c.args.tag.now in
+    let stands = subst (λ (x : Tag). NamesStand c.push_of.new.self (x ∷ line)) c.of.ensures (c.in_ok-push_of.ensures.line line r.names_are) in
+    let same = ap (λ (k : Kept). k.context) c.in_ok-push_of.ensures.ok in
+    let g = begin_facts context address levels c.args.self.now c.args.self.now signs r c.push_of.new.self (tag_shown c.args.tag.now) c.read_facts.new.facts same stands
+    (subst (λ (x : Tag). AreFacts c.push_of.new.self x c.read_facts.new.facts) c.of.ensures c.in_ok-read_facts.ensures) in
+    let taken = begin_accepted context address levels c.args.self.now c.args.self.now signs r c.push_of.new.self (tag_shown c.args.tag.now) same
+    (sym c.in_default.is ∙ c.fault_of.ensures.line line stands (from_absolute tag line r.absolute)) in
     let size : c.one_more-self.result ≡ length line + 1 = omega (arith, c.one_more-self.ensures, r.count_is) in
-    runs_more context address levels c.args.self.now (record { origin = c.args.self.now.origin; names = c.push.new.self; maker = c.read_facts.new.maker; facts = c.begin.new.facts; count = c.one_more-self.result; stage = c.begin.new.self }) signs r (begun (tag_shown c.args.tag.now)) f
-    stands (ap (λ (k : Kept). k.context) c.in_ok-push.ensures.ok) refl (omega (arith, size))
-    (absolute_more c.push.new.self line (tag_of c.args.tag.now) r.absolute stands c.in_default.ensures.absolute) g.1
-    (subst (λ x. Tells c.args.self.now.origin (λ s. seek_begun c.args.self.now.count s (tag_of c.args.tag.now)) (Enter x ∷ []) c.args.self.now.stage c.begin.new.self) g.0 c.in_ok-begin.ensures)
+    runs_more context address levels c.args.self.now (record { origin = c.args.self.now.origin; names = c.push_of.new.self; maker = c.read_facts.new.maker; facts = c.begin.new.facts; count = c.one_more-self.result; stage = c.begin.new.self }) signs r (begun (tag_shown c.args.tag.now)) f
+    stands same refl (omega (arith, size))
+    (absolute_next tag line r.absolute (c.fault_of.ensures.own c.in_default.is)) taken
+    (subst (λ x. Tells c.args.self.now.origin (λ s. seek_begun c.args.self.now.count s tag) (Enter x ∷ []) c.args.self.now.stage c.begin.new.self) g c.in_ok-begin.ensures)
