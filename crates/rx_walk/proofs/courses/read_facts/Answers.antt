@@ -4,7 +4,7 @@ use Rattle.rx_rdfa.specs.Refusals.{is_relative}
 use Rattle.rx_rdfa.specs.Tree.{Tag}
 use Rattle.rx_names.specs.Lines.{Kept, NamesStand, vocabulary_of}
 use Rattle.rx_curie.specs.Seen.{facts_seen}
-use Rattle.rx_terms.proofs.OkLemmas.{if_ok}
+use Rattle.rx_eval.proofs.SeenLemmas.{if_ok}
 use Rattle.rx_walk.proofs.courses.read_facts.Goals as goal
 
 pub read-requires-clause-vocabulary : goal.read-requires-clause-vocabulary
