@@ -70,8 +70,8 @@ impl ItemWalk {
         ensures place { (setting : Setting) (bytes : List ℕ) → walks.ItemWalkStands setting self.old bytes
             → PlaceGives (way_of setting) bytes piece.now result }
         ensures quiet { walks.FeedsQuietly self.old piece.now result }
-        ensures asked { MayAnswer self.old.failed self.old.spent result }
-        ensures keeps { Answered result self.new.failed self.new.spent }
+        ensures asked { MayAnswer self.old.failed self.old.out_of_memory result }
+        ensures keeps { Answered result self.new.failed self.new.out_of_memory }
     {
         self.reading.feed(piece)
     }
@@ -79,7 +79,7 @@ impl ItemWalk {
     /// The page's end: its items. `Unended` comes exactly where the bytes are no page and no earlier fault stands in them.
     pub fn finish(self) -> Result<Items, Stop>
         ensures gives { (setting : Setting) (bytes : List ℕ) → walks.ItemWalkStands setting self bytes → walks.EndGives setting bytes result }
-        ensures asked { MayAnswer self.failed self.spent result }
+        ensures asked { MayAnswer self.failed self.out_of_memory result }
     {
         let collector = self.reading.finish()?;
         Ok(items_of(collector)?)

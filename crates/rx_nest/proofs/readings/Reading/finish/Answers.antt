@@ -13,7 +13,7 @@ returns-in-Ok-clause-gives g c setting bytes s =
 
 pub returns-in-Ok-clause-whole : goal.returns-in-Ok-clause-whole
 returns-in-Ok-clause-whole g c =
-    let kept = c.self.invariant (no_fault c.self.inside.failed c.in_default.not-Some) c.if-spent.false in
+    let kept = c.self.invariant (no_fault c.self.inside.failed c.in_default.not-Some) c.if-out_of_memory.false in
     let s = kept.0 in
     let way = g.L.Listener.way s.setting in
     record {
