@@ -1,5 +1,5 @@
 //! The quads of a graph, of which one is shown at a time.
-ghost use Rattle.std.specs.Prelude.{◌≡◌, IfOk, length};
+ghost use Rattle.std.specs.Prelude.{◌≡◌, IfOk, OnErr, length};
 ghost use Rattle.rx_model.specs.Seen.{triples_seen};
 ghost use Rattle.rx_nquads.specs.Quads.{quads};
 ghost use Rattle.rx_quads.specs.Listed.{Shows, quads_of};
@@ -9,6 +9,7 @@ use rx_graph::Graph;
 use rx_terms::{Iri, NoMemory};
 use std::alloc::Global;
 use std::marker::Model;
+use std::mem;
 
 /// The quads of a graph that has a name or none, of which one is shown at a time. A contract sees their list, and what is
 /// shown.
@@ -17,6 +18,8 @@ pub struct Quads {
     graph: Graph,
     name: Option<Iri>,
     shown: ShownQuad,
+    // where the next quad is put together, so that the one that is shown stays until then
+    next: ShownQuad,
 }
 
 impl Model for Quads {
@@ -36,6 +39,7 @@ impl Quads {
             graph,
             name,
             shown: ShownQuad::none(alloc),
+            next: ShownQuad::none(alloc),
         }
     }
 
@@ -46,16 +50,19 @@ impl Quads {
         self.graph.len()
     }
 
-    /// Shows the quad of this number, from 0, and answers whether there is one.
+    /// Shows the quad of this number, from 0, and answers whether there is one. Where there is no memory, what was shown
+    /// stays.
     pub fn show(&mut self, alloc: Global, number: usize) -> Result<bool, NoMemory>
         ensures stays { quads_of self.new ≡ quads_of self.old }
         ensures shows { IfOk result (λ is_there. Shows (quads_of self.old) number is_there self.new.shown) }
+        ensures err { OnErr result (self.new ≡ self.old) }
     {
         if number >= self.graph.len() {
             return Ok(false);
         }
-        self.shown
+        self.next
             .put(alloc, self.graph.at(number), self.name.as_ref())?;
+        mem::swap(&mut self.shown, &mut self.next);
         Ok(true)
     }
 
