@@ -225,8 +225,8 @@ module _ (list : List (Triple ℕ)) (shapes : ℕ → Shape) (writable : IsWrita
   about_there : (t : Triple ℕ) → Among list t → Among (about list t.subject) t
   about_there t m = Among_filter (has_subject t.subject) list t m ((same_nodes t.subject t.subject).1 refl)
 
-  object_iris : (t : Triple ℕ) (iri : Chars) → Among list t → t.object ≡ Resource (Iri iri) → IsIri iri
-  object_iris t iri m e = (subst WritableTerm e (writable.parts t m).object).is_iri
+  objects_writable : (t : Triple ℕ) → Among list t → WritableTerm t.object
+  objects_writable t m = (writable.parts t m).object
 
   predicate_iris : (t : Triple ℕ) → Among list t → IsIri t.predicate
   predicate_iris t m = (writable.parts t m).predicate.is_iri
@@ -247,8 +247,8 @@ module _ (list : List (Triple ℕ)) (shapes : ℕ → Shape) (writable : IsWrita
   top_there : (t : Triple ℕ) → Among list t → is_listed shapes list t.subject ≡ false → Among (tops list shapes) t.subject
   top_there t m e = Among_filter (λ (r : Node ℕ). not (is_listed shapes list r)) (subjects list) t.subject (subject_there list t m) (ap not e)
 
-  the_docs : Docs list shapes have object_iris predicate_iris (tops list shapes)
-  the_docs = docs list shapes have object_iris predicate_iris (tops list shapes) (λ s m. (top_free s m, top_node s m)) of_about
+  the_docs : Docs list shapes have objects_writable predicate_iris (tops list shapes)
+  the_docs = docs list shapes have objects_writable predicate_iris (tops list shapes) (λ s m. (top_free s m, top_node s m)) of_about
 
   -- ---- the cells
 

@@ -4,11 +4,11 @@ use Rattle.std.proofs.lemmas.List.{map-append}
 use Rattle.serde_json.specs.Data.{Members, no_members, member}
 use Rattle.serde_json.specs.View.{items_of}
 use Rattle.rx_terms.specs.Iri.{IsIri}
-use Rattle.rx_terms.specs.Text.{Chars}
 use Rattle.rx_model.specs.Sets.{Among}
-use Rattle.rx_model.specs.Terms.{Node, Iri, Resource, Triple}
+use Rattle.rx_model.specs.Terms.{Node, Triple}
 use Rattle.rx_model.specs.Numbered.{rename}
 use Rattle.rx_model.proofs.Sets.{Among_left, Among_right, Among_cases}
+use Rattle.rx_pieces.specs.Writable.{WritableTerm}
 use Rattle.rx_shapes.specs.declared.shapes.Shape.{Shape}
 use Rattle.rx_shapes.specs.Subjects.{about}
 use Rattle.rx_shapes.specs.Shapes.{HaveShapes}
@@ -17,7 +17,8 @@ use Rattle.rx_jsonld.specs.Lists.{cells_at, is_listed}
 use Rattle.rx_jsonld.specs.Value.{string_of, id_text, with_said, with_all, node_value}
 use Rattle.rx_jsonld.specs.Document.{Id, NodeObject, Document, SpellsEach, SpellsNode, ids}
 use Rattle.rx_jsonld.specs.Meaning.{cells_of_all, entries_triples, triples_by, node_triples, all_triples, Name, Label, Place}
-use Rattle.rx_jsonld.proofs.Parts.{PartStands, stands_front, stands_behind, Naming, FreeNode, node_named, told}
+use Rattle.rx_jsonld.proofs.Parts.{PartStands, stands_front, stands_behind, Naming, FreeNode, names_node, node_named, told}
+use Rattle.rx_jsonld.proofs.PlainLemmas.{rising_differ, all_said_plain}
 use Rattle.rx_jsonld.proofs.Entries.{Part, part_cells, part_triples, part_entries, Inserted, AllFine, all_spelled, all_size, all_named, said_step}
 
 -- ---- counts
@@ -48,7 +49,7 @@ module _ {A : Type 0} (middle old new : List A) (i : Inserted middle old new) (a
   middle_put : Among middle a → Among new a
   middle_put m = subst (λ (z : List A). Among z a) (sym i.is) (Among_right i.front (middle ++ i.behind) a (Among_left middle i.behind a m))
 
-module _ (list : List (Triple ℕ)) (shapes : ℕ → Shape) (have : HaveShapes list shapes) (iris : (t : Triple ℕ) (iri : Chars) → Among list t → t.object ≡ Resource (Iri iri) → IsIri iri)
+module _ (list : List (Triple ℕ)) (shapes : ℕ → Shape) (have : HaveShapes list shapes) (objects : (t : Triple ℕ) → Among list t → WritableTerm t.object)
     (predicates : (t : Triple ℕ) → Among list t → IsIri t.predicate) where
   abbrev cells_by : List (Triple ℕ) → List ℕ
   cells_by ts = flat_map (cells_at shapes list) ts
@@ -73,7 +74,7 @@ module _ (list : List (Triple ℕ)) (shapes : ℕ → Shape) (have : HaveShapes 
     said_all [] of ms parts h = record { now = parts; fine = h; count = λ b. omega arith; from = λ u m. inl m; kept = λ u m. m; put = λ u m. absurd m; same_ids = refl }
     said_all (t ∷ ts) of ms parts h =
         let one = of t (inl refl) in
-        let step = said_step list shapes s have iris predicates free t one.0 one.1 ms parts h in
+        let step = said_step list shapes s have objects predicates free t one.0 one.1 ms parts h in
         let rest = said_all ts (λ u m. of u (inr m)) (with_said list shapes t ms) step.now step.fine in
         record {
           now = rest.now;
@@ -114,7 +115,7 @@ module _ (list : List (Triple ℕ)) (shapes : ℕ → Shape) (have : HaveShapes 
 
     id_fine : AllFine list shapes s (member (codes "@id") (string_of (id_text s)) no_members) (id_part ∷ [])
     unfolding id_part
-    id_fine = (record { spelled = (refl, refl); size = refl; named = λ names naming n k. refl }, tt)
+    id_fine = (record { spelled = (refl, (names_node list shapes s free_node, refl)); size = refl; named = λ names naming n k. refl }, tt)
 
     pub node_doc : ((t : Triple ℕ) → Among (about list s) t → Among list t × (t.subject ≡ s)) → NodeDoc
     unfolding id_part
@@ -123,7 +124,14 @@ module _ (list : List (Triple ℕ)) (shapes : ℕ → Shape) (have : HaveShapes 
         let ms : Members = with_all list shapes (about list s) (member (codes "@id") (string_of (id_text s)) no_members) in
         record {
           node = part_entries said.now;
-          spelled = record { members = ms; is_object = refl; spelled = all_spelled list shapes s ms said.now said.fine; id = id_text s; named = said.same_ids };
+          spelled = record {
+            members = ms;
+            is_object = refl;
+            keys_differ = rising_differ ms (all_said_plain list shapes (about list s) (member (codes "@id") (string_of (id_text s)) no_members) (tt, tt, tt));
+            spelled = all_spelled list shapes s ms said.now said.fine;
+            id = id_text s;
+            named = said.same_ids;
+          };
           cells = part_cells said.now;
           triples = part_triples said.now;
           size = all_size list shapes s ms said.now said.fine;

@@ -17,16 +17,17 @@ use Rattle.rx_model.specs.Numbered.{rename_node, rename_term, rename}
 use Rattle.rx_model.proofs.Exact.{exact_texts}
 use Rattle.rx_graph.specs.Resources.{resource_of}
 use Rattle.rx_nquads.specs.Quads.{proper_term}
+use Rattle.rx_pieces.specs.Writable.{WritableTerm}
 use Rattle.rx_shapes.specs.declared.shapes.Shape.{Shape}
 use Rattle.rx_shapes.specs.Shapes.{HaveShapes}
 use Rattle.rx_jsonld.specs.Lists.{is_cell_by, is_cell, may_list, cell_by, first_cell, cells_at, is_listed}
 use Rattle.rx_jsonld.specs.Value.{string_of, id_text, type_by, type_of, object_value, said_by, with_said}
 use Rattle.rx_jsonld.specs.Members.{items_and, behind, with_last}
-use Rattle.rx_jsonld.specs.Document.{Object, Entry, Id, Types, Property, SpellsEach, SpellsArray, SpellsText, SpellsObject, SpellsEntry, SpellsEntries, id_in, ids}
+use Rattle.rx_jsonld.specs.Document.{Object, Entry, Id, Types, Property, NamesNode, SpellsEach, SpellsArray, SpellsName, SpellsObject, SpellsEntry, SpellsEntries, id_in, ids}
 use Rattle.rx_jsonld.specs.Meaning.{cells_in, cells_in_all, cells_of, cells_of_all, node_of, object_triples, objects_triples, type_triple, entry_triples, entries_triples, Name, Label, Place}
 use Rattle.rx_jsonld.proofs.OneDocument.{id_is_no_iri, type_is_no_iri}
 use Rattle.rx_jsonld.proofs.Cells.{cells_none}
-use Rattle.rx_jsonld.proofs.Parts.{PartStands, stands_front, stands_behind, Naming, FreeNode, FreeTerm, node_named, cell_triples, told, ObjectDoc, object_doc, free_object}
+use Rattle.rx_jsonld.proofs.Parts.{PartStands, stands_front, stands_behind, Naming, FreeNode, FreeTerm, names_node, node_named, cell_triples, told, ObjectDoc, object_doc, free_object}
 
 -- an entry, with the cells and the triples that it says of a subject
 pub record Part : Type 0 where
@@ -212,13 +213,13 @@ module _ (list : List (Triple ℕ)) (shapes : ℕ → Shape) (s : Node ℕ) wher
       no_cell_by (may_list shapes t.subject t.predicate) t.object
       (ap (λ p. not (is_cell shapes t.subject && bytes_eq p rdf_rest) && (not (bytes_eq p rdf_first) && not (bytes_eq p rdf_type))) e ∙ and_none (not (is_cell shapes t.subject && false)))
 
-  module _ (have : HaveShapes list shapes) (iris : (t : Triple ℕ) (iri : Chars) → Among list t → t.object ≡ Resource (Iri iri) → IsIri iri) (predicates : (t : Triple ℕ) → Among list t → IsIri t.predicate)
+  module _ (have : HaveShapes list shapes) (objects : (t : Triple ℕ) → Among list t → WritableTerm t.object) (predicates : (t : Triple ℕ) → Among list t → IsIri t.predicate)
       (free : is_listed shapes list s ≡ false) (t : Triple ℕ) (m : Among list t) (of_it : t.subject ≡ s) where
     subject_free : is_listed shapes list t.subject ≡ false
     subject_free = ap (is_listed shapes list) of_it ∙ free
 
-    the_object : ObjectDoc list shapes have iris t
-    the_object = object_doc list shapes have iris t m subject_free
+    the_object : ObjectDoc list shapes have objects t
+    the_object = object_doc list shapes have objects t m subject_free
 
     told_named : (names : ℕ → Name) → spo (rename_node names s) t.predicate (rename_term names (proper_term t.object)) ∷ map (rename names) (cell_triples list shapes (cells_at shapes list t)) ≡ map (rename names) (told list shapes t)
     told_named names = ap (λ n. spo (rename_node names n) t.predicate (rename_term names (proper_term t.object)) ∷ map (rename names) (cell_triples list shapes (cells_at shapes list t))) (sym of_it)
@@ -279,7 +280,10 @@ module _ (list : List (Triple ℕ)) (shapes : ℕ → Shape) (s : Node ℕ) wher
       no_cells = cells_none list shapes have t (typed_has_none t typed.predicate)
 
       node_free : FreeNode list shapes node
-      node_free = subst (FreeTerm list shapes) typed.object (free_object list shapes have iris t m subject_free (typed_has_none t typed.predicate))
+      node_free = subst (FreeTerm list shapes) typed.object (free_object list shapes have objects t m subject_free (typed_has_none t typed.predicate))
+
+      type_names : NamesNode (id_text node)
+      type_names = names_node list shapes node node_free
 
       type_named : (names : ℕ → Name) → Naming list shapes names → type_triple Label Place (rename_node names s) (id_text node) ∷ [] ≡ map (rename names) (told list shapes t)
       type_named names naming =
@@ -293,7 +297,7 @@ module _ (list : List (Triple ℕ)) (shapes : ℕ → Shape) (s : Node ℕ) wher
       type_fresh = record {
         part = record { entry = Types (id_text node ∷ []); cells = cells_at shapes list t; triples = told list shapes t };
         fine = record {
-          spelled = (refl, (item (string_of (id_text node)) no_items, refl, (refl, tt)));
+          spelled = (refl, (item (string_of (id_text node)) no_items, refl, ((type_names, refl), tt)));
           size = sym (ap length no_cells);
           named = λ names naming n k. type_named names naming;
         };
@@ -309,7 +313,7 @@ module _ (list : List (Triple ℕ)) (shapes : ℕ → Shape) (s : Node ℕ) wher
           types_more types e spelled = record {
             now = record { entry = Types (types ++ id_text node ∷ []); cells = part.cells ++ cells_at shapes list t; triples = part.triples ++ told list shapes t };
             fine = record {
-              spelled = (refl, array_more SpellsText old (string_of (id_text node)) types (id_text node) spelled.1 refl);
+              spelled = (refl, array_more SpellsName old (string_of (id_text node)) types (id_text node) spelled.1 (type_names, refl));
               size = sym (ap cells_of e) ∙ fine.size ∙ sym (ap length (ap (λ z. part.cells ++ z) no_cells ∙ append-nil part.cells));
               named = λ names naming n k.
                   map-append (type_triple Label Place (rename_node names s)) types (id_text node ∷ [])

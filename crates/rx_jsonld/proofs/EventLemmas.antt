@@ -1,5 +1,5 @@
 -- The events of lists, of values in a row, of literals, and of what a triple says.
-use Rattle.std.proofs.Common.{◌≡◌, ◌∙◌, ◌+◌, ◌<◌, ◌≤◌, ℕ, suc, Bool, true, if◌then◌else◌, List, [], ◌∷◌, ◌++◌, length, map, drop, drop_of_length-le, get_or, codes, encode_utf8_all, Option, Some, None, refl, sym, ap, arith, append_assoc, append-nil}
+use Rattle.std.proofs.Common.{◌≡◌, ◌∙◌, ◌+◌, ◌<◌, ◌≤◌, ℕ, Bool, true, if◌then◌else◌, List, [], ◌∷◌, ◌++◌, length, map, drop, drop_of_length-le, get_or, codes, encode_utf8_all, Option, Some, None, refl, sym, ap, append_assoc, append-nil}
 use Rattle.std.specs.Prelude.{IfOk, OnOk, Result, Ok, Err}
 use Rattle.serde.specs.Event as event
 use Rattle.serde.specs.Event.{Event, Log}

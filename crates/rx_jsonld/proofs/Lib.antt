@@ -10,3 +10,5 @@ pub mod LabelLemmas
 pub mod EventLemmas
 pub mod PlainLemmas
 pub mod GroupLemmas
+pub mod KeyLemmas
+pub mod FormedLemmas

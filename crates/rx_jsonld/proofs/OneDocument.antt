@@ -9,7 +9,7 @@ use Rattle.rx_terms.specs.Ascii.{is_letter}
 use Rattle.rx_model.specs.Terms.{Kind, Plain, Tagged, Typed, set_of}
 use Rattle.rx_model.specs.Numbered.{Renamed}
 use Rattle.rx_model.proofs.Renamings.{renamed_across}
-use Rattle.rx_jsonld.specs.Document.{Item, Reference, Value, Single, ListObject, Entry, Id, Types, Property, Document, SpellsEach, SpellsArray, SpellsText, SpellsItem, SpellsObject, SpellsValue, SpellsEntry, SpellsEntries, SpellsNode, AreTwo, one, SpellsOne}
+use Rattle.rx_jsonld.specs.Document.{Item, Reference, Value, Single, ListObject, Entry, Id, Types, Property, Document, SpellsEach, SpellsArray, SpellsText, SpellsName, SpellsItem, SpellsObject, SpellsValue, SpellsEntry, SpellsEntries, SpellsNode, AreTwo, one, SpellsOne}
 use Rattle.rx_jsonld.specs.Meaning.{named_triples, DenotesOne}
 
 -- ---- arrays
@@ -42,6 +42,9 @@ module _ {A : Type 0} (Spelled : Data → A → Type 0) (once : AtMostOne Spelle
 
 text_once : AtMostOne SpellsText
 text_once value a b h k = string_same a b (sym h ∙ k)
+
+name_once : AtMostOne SpellsName
+name_once value a b h k = text_once value a b h.1 k.1
 
 -- ---- what begins an IRI
 
@@ -121,10 +124,10 @@ list_is_no_value d ms a k e h =
     not_value (codes "@list") d ms a k (λ q. true≢false (ap (bytes_eq (codes "@list")) q)) (λ q. true≢false (ap (bytes_eq (codes "@list")) q)) (λ q. true≢false (ap (bytes_eq (codes "@list")) q)) e h
 
 item_once : AtMostOne SpellsItem
-item_once value (Reference a) (Reference b) h g = ap Reference (string_same a b (one_of_members _ _ _ _ _ _ (object_same _ _ (sym h ∙ g))).1)
-item_once value (Reference a) (Value b l) h (ms, g, s) = id_is_no_value _ ms b l (sym h ∙ g) s
-item_once value (Value a k) (Reference b) (ms, h, s) g = id_is_no_value _ ms a k (sym g ∙ h) s
-item_once value (Value a k) (Value b l) (ms, h, s) (ns, g, r) =
+item_once value (Reference a) (Reference b) (p, h) (q, g) = ap Reference (string_same a b (one_of_members _ _ _ _ _ _ (object_same _ _ (sym h ∙ g))).1)
+item_once value (Reference a) (Value b l) (p, h) (ms, g, q, s) = id_is_no_value _ ms b l (sym h ∙ g) s
+item_once value (Value a k) (Reference b) (ms, h, p, s) (q, g) = id_is_no_value _ ms a k (sym g ∙ h) s
+item_once value (Value a k) (Value b l) (ms, h, p, s) (ns, g, q, r) =
     let same : ns ≡ ms = object_same ns ms (sym g ∙ h) in
     let both = value_once ms a b k l s (subst (λ (z : Members). SpellsValue z b l) same r) in
     ap₂ Value both.0 both.1
@@ -132,8 +135,8 @@ item_once value (Value a k) (Value b l) (ms, h, s) (ns, g, r) =
 -- ---- objects and members
 
 list_is_no_item : {A : Type 0} (value d : Data) (x : Item) → value ≡ object (member (codes "@list") d no_members) → SpellsItem value x → A
-list_is_no_item value d (Reference a) e h = absurd (cc ((one_of_members _ _ _ _ _ _ (object_same _ _ (sym h ∙ e))).0))
-list_is_no_item value d (Value a k) e (ms, h, s) = list_is_no_value d ms a k (sym e ∙ h) s
+list_is_no_item value d (Reference a) e (p, h) = absurd (cc ((one_of_members _ _ _ _ _ _ (object_same _ _ (sym h ∙ e))).0))
+list_is_no_item value d (Value a k) e (ms, h, p, s) = list_is_no_value d ms a k (sym e ∙ h) s
 
 object_once : AtMostOne SpellsObject
 object_once value (Single x) (Single y) h g = ap Single (item_once value x y h g)
@@ -154,11 +157,11 @@ unfolding encode
 type_is_no_iri p is e = keyword_is_no_iri (codes "type") (subst IsIri (sym (encodes_same (codes "@type") p e)) is)
 
 entry_once : (key : List ℕ) (value : Data) (a b : Entry) → SpellsEntry key value a → SpellsEntry key value b → a ≡ b
-entry_once key value (Id a) (Id b) h g = ap Id (text_once value a b h.1 g.1)
+entry_once key value (Id a) (Id b) h g = ap Id (name_once value a b h.1 g.1)
 entry_once key value (Id a) (Types b) h g = absurd (true≢false (ap (bytes_eq (codes "@id")) (sym h.0 ∙ g.0)))
 entry_once key value (Id a) (Property p b) h g = id_is_no_iri p g.1 (sym h.0 ∙ g.0)
 entry_once key value (Types a) (Id b) h g = absurd (true≢false (ap (bytes_eq (codes "@type")) (sym h.0 ∙ g.0)))
-entry_once key value (Types a) (Types b) h g = ap Types (array_once SpellsText text_once value a b h.1 g.1)
+entry_once key value (Types a) (Types b) h g = ap Types (array_once SpellsName name_once value a b h.1 g.1)
 entry_once key value (Types a) (Property p b) h g = type_is_no_iri p g.1 (sym h.0 ∙ g.0)
 entry_once key value (Property p a) (Id b) h g = id_is_no_iri p h.1 (sym g.0 ∙ h.0)
 entry_once key value (Property p a) (Types b) h g = type_is_no_iri p h.1 (sym g.0 ∙ h.0)

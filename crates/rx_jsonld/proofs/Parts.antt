@@ -1,5 +1,5 @@
 -- What is said of a node, as a document has it.
-use Rattle.std.proofs.Common.{◌≡◌, ◌∙◌, ℕ, suc, ◌+◌, Bool, true, false, ◌&&◌, ◌==◌, cond, List, [], ◌∷◌, ◌++◌, map, length, bytes_eq, Option, Some, None, refl, sym, ap, ap₂, inl, subst, true≢false, arith}
+use Rattle.std.proofs.Common.{◌≡◌, ◌∙◌, ℕ, suc, ◌+◌, Bool, true, false, ◌&&◌, ◌==◌, cond, List, [], ◌∷◌, ◌++◌, map, length, bytes_eq, Option, Some, None, refl, sym, ap, ap₂, inl, inr, subst, true≢false, arith}
 use Rattle.std.specs.Fmt.{decimal}
 use Rattle.std.proofs.lemmas.Bool.Decides.{nat_tests}
 use Rattle.std.proofs.lemmas.List.{length-map}
@@ -15,13 +15,14 @@ use Rattle.rx_model.specs.Numbered.{rename_node, rename_term, rename}
 use Rattle.rx_model.proofs.Sets.{and_right}
 use Rattle.rx_model.proofs.Exact.{exact_texts}
 use Rattle.rx_nquads.specs.Quads.{proper_term, proper_triple}
+use Rattle.rx_pieces.specs.Writable.{WritableKind, WritableTerm}
 use Rattle.rx_model.specs.Vocabulary.{rdf_first, rdf_rest, rdf_nil}
 use Rattle.rx_shapes.specs.declared.shapes.Shape.{Shape}
 use Rattle.rx_shapes.specs.Shapes.{HaveShapes}
 use Rattle.rx_jsonld.specs.Lists.{object_at, first_cell, cells_at, is_listed}
 use Rattle.rx_jsonld.specs.Value.{id_text, literal_members, term_value, list_value, item_by, item_value, is_empty_list, may_be_empty, object_by, object_value}
 use Rattle.rx_jsonld.specs.Document as doc
-use Rattle.rx_jsonld.specs.Document.{Item, Reference, Object, Single, ListObject, Entry, Id, Types, Property, SpellsEach, SpellsArray, SpellsText, SpellsItem, SpellsObject, SpellsEntry, SpellsEntries, id_in, ids}
+use Rattle.rx_jsonld.specs.Document.{Item, Reference, Object, Single, ListObject, Entry, Id, Types, Property, NamesNode, SpellsEach, SpellsArray, SpellsText, SpellsItem, SpellsObject, SpellsEntry, SpellsEntries, id_in, ids}
 use Rattle.rx_jsonld.specs.Meaning.{label_in, cells_in, node_by, node_of, term_of, list_node, list_triples, object_triples, Name, Label, Place}
 use Rattle.rx_jsonld.proofs.OneDocument.{label_is_no_iri}
 use Rattle.rx_jsonld.proofs.Cells.{node_after, item_found, Link, IsChain, cells_chain, cells_none, cells_begin, item_free, object_free}
@@ -29,7 +30,7 @@ use Rattle.rx_jsonld.proofs.Cells.{node_after, item_found, Link, IsChain, cells_
 -- ---- names of nodes
 
 -- an IRI names no blank node
-no_label : (iri : Chars) → IsIri iri → label_in iri ≡ None
+pub no_label : (iri : Chars) → IsIri iri → label_in iri ≡ None
 no_label [] is = refl
 no_label (c ∷ []) is = refl
 no_label (c ∷ d ∷ text) is = go (c == low_line) refl
@@ -68,7 +69,11 @@ module _ (list : List (Triple ℕ)) (shapes : ℕ → Shape) where
 
   abbrev pub FreeTerm : Term ℕ → Type 0
   FreeTerm (Resource node) = FreeNode node
-  FreeTerm (Literal text kind) = Unit {0}
+  FreeTerm (Literal text kind) = WritableKind kind
+
+  pub names_node : (node : Node ℕ) → FreeNode node → NamesNode (id_text node)
+  names_node (Iri iri) h = inr h
+  names_node (Blank b) h = inl (record { label = 98 ∷ decimal b; spelled = refl })
 
   pub node_named : (names : ℕ → Name) → Naming names → (node : Node ℕ) → FreeNode node → node_of Label Place (id_text node) ≡ rename_node names node
   node_named names naming (Iri iri) h = ap (node_by Label Place iri) (no_label iri h)
@@ -80,11 +85,11 @@ module _ (list : List (Triple ℕ)) (shapes : ℕ → Shape) where
   item_doc (Resource node) = Reference (id_text node)
   item_doc (Literal text kind) = doc.Value text kind
 
-  item_spelled : (o : Term ℕ) → SpellsItem (term_value o) (item_doc o)
-  item_spelled (Resource node) = refl
-  item_spelled (Literal text Plain) = (literal_members text Plain, refl, refl)
-  item_spelled (Literal text (Tagged tag)) = (literal_members text (Tagged tag), refl, inl refl)
-  item_spelled (Literal text (Typed datatype)) = (literal_members text (Typed datatype), refl, inl refl)
+  item_spelled : (o : Term ℕ) → FreeTerm o → SpellsItem (term_value o) (item_doc o)
+  item_spelled (Resource node) h = (names_node node h, refl)
+  item_spelled (Literal text Plain) h = (literal_members text Plain, refl, tt, refl)
+  item_spelled (Literal text (Tagged tag)) h = (literal_members text (Tagged tag), refl, h.is_tag, inl refl)
+  item_spelled (Literal text (Typed datatype)) h = (literal_members text (Typed datatype), refl, h.is_iri, inl refl)
 
   item_named : (names : ℕ → Name) → Naming names → (o : Term ℕ) → FreeTerm o → term_of Label Place (item_doc o) ≡ rename_term names (proper_term o)
   item_named names naming (Resource node) h = ap Resource (node_named names naming node h)
@@ -111,15 +116,6 @@ module _ (list : List (Triple ℕ)) (shapes : ℕ → Shape) where
   pub item_is : (b : ℕ) (more : List ℕ) (l : Link list b more) → item_at b ≡ l.of.item
   item_is b more l = ap some_term (item_found list b l.of)
 
-  items_spelled : (cells : List ℕ) → IsChain list cells → SpellsEach SpellsItem (items_of (map (item_value list) cells)) (items_doc cells)
-  items_spelled [] links = tt
-  items_spelled (b ∷ more) links =
-      let same : item_value list b ≡ term_value (item_at b) = ap item_by (item_found list b links.0.of) ∙ ap term_value (sym (item_is b more links.0)) in
-      (subst (λ (d : Data). SpellsItem d (item_doc (item_at b))) (sym same) (item_spelled (item_at b)), items_spelled more links.1)
-
-  list_spelled : (cells : List ℕ) → IsChain list cells → SpellsObject (list_value (map (item_value list) cells)) (ListObject (items_doc cells))
-  list_spelled cells links = (array (items_of (map (item_value list) cells)), refl, (items_of (map (item_value list) cells), refl, items_spelled cells links))
-
   triple_path : {B : Type 0} (s s' : Node B) (p : Chars) (o o' : Term B) → s ≡ s' → o ≡ o' → spo s p o ≡ spo s' p o'
   triple_path s s' p o o' e f = λ i. record { subject = e i; predicate = p; object = f i }
 
@@ -131,14 +127,23 @@ module _ (list : List (Triple ℕ)) (shapes : ℕ → Shape) where
   abbrev pub told : Triple ℕ → List (Triple ℕ)
   told t = proper_triple t ∷ cell_triples (cells_at shapes list t)
 
-  module _ (have : HaveShapes list shapes) (iris : (t : Triple ℕ) (iri : Chars) → Among list t → t.object ≡ Resource (Iri iri) → IsIri iri) where
+  module _ (have : HaveShapes list shapes) (objects : (t : Triple ℕ) → Among list t → WritableTerm t.object) where
     cell_item_free : (b : ℕ) (more : List ℕ) (l : Link list b more) → FreeTerm (item_at b)
     cell_item_free b more l = subst FreeTerm (sym (item_is b more l)) (go l.of.item refl)
       where
         go : (o : Term ℕ) → l.of.item ≡ o → FreeTerm o
-        go (Resource (Iri iri)) e = iris (spo (Blank b) rdf_first l.of.item) iri l.of.pair.first e
+        go (Resource (Iri iri)) e = (subst WritableTerm e (objects (spo (Blank b) rdf_first l.of.item) l.of.pair.first)).is_iri
         go (Resource (Blank c)) e = item_free list shapes have b c (subst (λ (o : Term ℕ). Among list (spo (Blank b) rdf_first o)) e l.of.pair.first)
-        go (Literal text kind) e = tt
+        go (Literal text kind) e = (subst WritableTerm e (objects (spo (Blank b) rdf_first l.of.item) l.of.pair.first)).1
+
+    items_spelled : (cells : List ℕ) → IsChain list cells → SpellsEach SpellsItem (items_of (map (item_value list) cells)) (items_doc cells)
+    items_spelled [] links = tt
+    items_spelled (b ∷ more) links =
+        let same : item_value list b ≡ term_value (item_at b) = ap item_by (item_found list b links.0.of) ∙ ap term_value (sym (item_is b more links.0)) in
+        (subst (λ (d : Data). SpellsItem d (item_doc (item_at b))) (sym same) (item_spelled (item_at b) (cell_item_free b more links.0)), items_spelled more links.1)
+
+    list_spelled : (cells : List ℕ) → IsChain list cells → SpellsObject (list_value (map (item_value list) cells)) (ListObject (items_doc cells))
+    list_spelled cells links = (array (items_of (map (item_value list) cells)), refl, (items_of (map (item_value list) cells), refl, items_spelled cells links))
 
     list_named : (names : ℕ → Name) → Naming names → (cells : List ℕ) (n : ℕ) → IsChain list cells → PartStands names n cells → list_triples Label Place (items_doc cells) n ≡ map (rename names) (cell_triples cells)
     list_named names naming [] n links h = refl
@@ -162,9 +167,9 @@ module _ (list : List (Triple ℕ)) (shapes : ℕ → Shape) where
     free_object t m free none = go t.object refl
       where
         go : (o : Term ℕ) → t.object ≡ o → FreeTerm o
-        go (Resource (Iri iri)) e = iris t iri m e
+        go (Resource (Iri iri)) e = (subst WritableTerm e (objects t m)).is_iri
         go (Resource (Blank b)) e = object_free list shapes have t b m e free none
-        go (Literal text kind) e = tt
+        go (Literal text kind) e = (subst WritableTerm e (objects t m)).1
 
     list_object : (t : Triple ℕ) (h : ℕ) → first_cell shapes t ≡ Some h → ObjectDoc t
     list_object t h e =
@@ -206,7 +211,7 @@ module _ (list : List (Triple ℕ)) (shapes : ℕ → Shape) where
           object = Single (item_doc t.object);
           spelled =
               let is : object_value list shapes t ≡ term_value t.object = ap (object_by list shapes t) none ∙ ap (λ b. cond b (list_value []) (term_value t.object)) e in
-              subst (λ (d : Data). SpellsObject d (Single (item_doc t.object))) (sym is) (item_spelled t.object);
+              subst (λ (d : Data). SpellsObject d (Single (item_doc t.object))) (sym is) (item_spelled t.object (free_object t m free none));
           size = sym (ap length no_cells);
           named = λ names naming s p n h.
               ap₂ (λ o z. spo s p o ∷ map (rename names) (cell_triples z)) (item_named names naming t.object (free_object t m free none)) (sym no_cells);

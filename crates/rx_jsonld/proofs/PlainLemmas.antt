@@ -1,5 +1,6 @@
--- A list's value has no number, and the keys of its objects rise.
-use Rattle.std.proofs.Common.{◌≡◌, ℕ, Bool, true, false, cond, List, [], ◌∷◌, map, codes, Option, Some, None, Ordering, Less, Equal, Greater, nat_cmp, refl}
+-- A list's value has no number, and the keys of its objects rise, so that each stands once.
+use Rattle.std.proofs.Common.{◌≡◌, ◌∙◌, ℕ, Bool, true, false, not, cond, List, [], ◌∷◌, map, filter, bytes_eq, codes, Option, Some, None, Ordering, Less, Equal, Greater, is_eq, nat_cmp, refl, sym, ap}
+use Rattle.std.proofs.lemmas.Map.Text.{is_eq-slice_cmp}
 use Rattle.std.specs.Ordering.{match_ordering}
 use Rattle.std.specs.Cmp.Lexicographic.{slice_cmp}
 use Rattle.serde_json.specs.Data.{Data, null, boolean, number, string, array, object, Items, no_items, item, Members, no_members, member}
@@ -14,6 +15,23 @@ use Rattle.rx_json.proofs.PlainLemmas.{turned, leads_one, leads_through}
 use Rattle.rx_jsonld.specs.Lists.{object_at, first_cell, cells_at}
 use Rattle.rx_jsonld.specs.Value.{string_of, id_text, literal_members, term_value, list_value, item_by, item_value, is_empty_list, plain_value, type_of, object_by, said_by, with_all, node_value, tops, jsonld}
 use Rattle.rx_jsonld.specs.Members.{items_and, behind, with_last}
+use Rattle.rx_jsonld.specs.Document.{keys, KeysDiffer}
+
+-- ---- keys that rise
+
+leads_apart : (key : List ℕ) (ms : Members) → Leads key ms → filter (λ other. not (bytes_eq key other)) (keys ms) ≡ keys ms
+leads_apart key no_members l = refl
+leads_apart key (member other value more) l =
+    let apart : bytes_eq key other ≡ false = sym (is_eq-slice_cmp key other) ∙ ap is_eq l.0 in
+    rw apart (ap (λ (ks : List (List ℕ)). other ∷ ks) (leads_apart key more l.1))
+
+pub rising_differ : (ms : Members) → MembersArePlain ms → KeysDiffer ms
+rising_differ no_members p = refl
+rising_differ (member key value more) p =
+    ap (λ (ks : List (List ℕ)). key ∷ filter (λ other. not (bytes_eq key other)) ks) (rising_differ more p.2)
+    ∙ ap (λ (ks : List (List ℕ)). key ∷ ks) (leads_apart key more p.1)
+
+-- ---- the value
 
 items_and_plain : (values : Items) (value : Data) → ArePlain values → IsPlain value → ArePlain (items_and values value)
 items_and_plain no_items value p q = (q, tt)
@@ -79,7 +97,7 @@ module _ (list : List (Triple ℕ)) (shapes : ℕ → Shape) where
   said_plain t (Some node) members h = with_last_plain (codes "@type") (string_of (id_text node)) members tt h
   said_plain t None members h = with_last_plain _ _ members (object_by_plain t (first_cell shapes t)) h
 
-  all_said_plain : (ts : List (Triple ℕ)) (members : Members) → MembersArePlain members → MembersArePlain (with_all list shapes ts members)
+  pub all_said_plain : (ts : List (Triple ℕ)) (members : Members) → MembersArePlain members → MembersArePlain (with_all list shapes ts members)
   all_said_plain [] ms h = h
   all_said_plain (t ∷ ts) ms h = all_said_plain ts _ (said_plain t (type_of t) ms h)
 

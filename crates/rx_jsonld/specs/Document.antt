@@ -1,9 +1,12 @@
 -- What JSON values are expanded and flattened JSON-LD: JSON-LD 1.1, 9, without graphs, indexes, sets, directions and values
--- that are no texts (our own limits).
-use Rattle.std.specs.Prelude.{◌≡◌, ◌⊎◌, ℕ, List, [], ◌∷◌, ◌++◌, codes, encode_utf8_all}
-use Rattle.serde_json.specs.Data.{Data, Items, Members, string, array, object, no_items, item, no_members, member}
+-- that are no texts (our own limits). IRIs and language tags are those of N-Quads.
+use Rattle.std.specs.Prelude.{◌≡◌, ◌⊎◌, ℕ, true, List, [], ◌∷◌, ◌++◌, bytes_eq, codes, encode_utf8_all}
+use Rattle.serde_json.specs.Data.{Data, Items, Members, null, boolean, number, string, array, object, no_items, item, no_members, member}
+use Rattle.rx_terms.specs.Ascii.{colon, low_line}
 use Rattle.rx_terms.specs.Text.{Chars}
 use Rattle.rx_terms.specs.Iri.{IsIri}
+use Rattle.rx_terms.specs.Lang.{is_lang}
+use Rattle.rx_model.specs.Sets.{distinct}
 use Rattle.rx_model.specs.Terms.{Kind, Plain, Tagged, Typed}
 
 -- ---- syntax
@@ -31,6 +34,23 @@ NodeObject = List Entry
 abbrev pub Document : Type 0
 Document = List NodeObject
 
+-- ---- words that have their form
+
+-- 3.3 and 4.5.1: a blank node is named by `_:` and a label
+pub record IsBlankName (text : Chars) : Type 0 where
+  pub label : Chars
+  pub spelled : text ≡ low_line ∷ colon ∷ label
+
+-- a node is named by such a text or by an IRI
+abbrev pub NamesNode : Chars → Type 0
+NamesNode text = IsBlankName text ⊎ IsIri text
+
+-- 9.5: a language tag has its form, and a datatype is an IRI, as N-Quads asks
+abbrev pub IsFormed : Kind → Type 0
+IsFormed Plain = Unit {0}
+IsFormed (Tagged tag) = is_lang tag ≡ true
+IsFormed (Typed datatype) = IsIri datatype
+
 -- ---- spelling
 
 module _ {A : Type 0} (Spelled : Data → A → Type 0) where
@@ -46,6 +66,9 @@ module _ {A : Type 0} (Spelled : Data → A → Type 0) where
 
 abbrev pub SpellsText : Data → Chars → Type 0
 SpellsText value text = value ≡ string (encode_utf8_all text)
+
+abbrev pub SpellsName : Data → Chars → Type 0
+SpellsName value text = NamesNode text × SpellsText value text
 
 -- one member, and two in either order
 abbrev pub one : List ℕ → Chars → Members
@@ -63,16 +86,16 @@ SpellsValue members text (Tagged tag) = AreTwo members (codes "@language") tag (
 SpellsValue members text (Typed datatype) = AreTwo members (codes "@type") datatype (codes "@value") text
 
 abbrev pub SpellsItem : Data → Item → Type 0
-SpellsItem value (Reference id) = value ≡ object (one (codes "@id") id)
-SpellsItem value (Value text kind) = (members : Members) × (value ≡ object members) × SpellsValue members text kind
+SpellsItem value (Reference id) = NamesNode id × (value ≡ object (one (codes "@id") id))
+SpellsItem value (Value text kind) = (members : Members) × (value ≡ object members) × IsFormed kind × SpellsValue members text kind
 
 abbrev pub SpellsObject : Data → Object → Type 0
 SpellsObject value (Single x) = SpellsItem value x
 SpellsObject value (ListObject xs) = (list : Data) × (value ≡ object (member (codes "@list") list no_members)) × SpellsArray SpellsItem list xs
 
 abbrev pub SpellsEntry : List ℕ → Data → Entry → Type 0
-SpellsEntry key value (Id id) = (key ≡ codes "@id") × SpellsText value id
-SpellsEntry key value (Types types) = (key ≡ codes "@type") × SpellsArray SpellsText value types
+SpellsEntry key value (Id id) = (key ≡ codes "@id") × SpellsName value id
+SpellsEntry key value (Types types) = (key ≡ codes "@type") × SpellsArray SpellsName value types
 SpellsEntry key value (Property predicate objects) = (key ≡ encode_utf8_all predicate) × IsIri predicate × SpellsArray SpellsObject value objects
 
 abbrev pub SpellsEntries : Members → List Entry → Type 0
@@ -90,10 +113,19 @@ abbrev pub ids : List Entry → List Chars
 ids [] = []
 ids (entry ∷ more) = id_in entry ++ ids more
 
--- a node object has one `@id`
+abbrev pub keys : Members → List (List ℕ)
+keys no_members = []
+keys (member key value more) = key ∷ keys more
+
+-- each key stands once: RFC 8259, 4, and JSON-LD's objects are maps
+abbrev pub KeysDiffer : Members → Type 0
+KeysDiffer members = distinct bytes_eq (keys members) ≡ keys members
+
+-- a node object has each key once, and one `@id`
 pub record SpellsNode (value : Data) (node : NodeObject) : Type 0 where
   pub members : Members
   pub is_object : value ≡ object members
+  pub keys_differ : KeysDiffer members
   pub spelled : SpellsEntries members node
   pub id : Chars
   pub named : ids node ≡ id ∷ []
@@ -101,6 +133,28 @@ pub record SpellsNode (value : Data) (node : NodeObject) : Type 0 where
 -- the value is that of the document
 abbrev pub Spells : Data → Document → Type 0
 Spells value document = SpellsArray SpellsNode value document
+
+-- in each of its objects each key stands once
+abbrev mutual
+  pub KeysDifferIn : Data → Type 0
+  KeysDifferIn null = Unit {0}
+  KeysDifferIn (boolean b) = Unit {0}
+  KeysDifferIn (number n) = Unit {0}
+  KeysDifferIn (string s) = Unit {0}
+  KeysDifferIn (array values) = KeysDifferInItems values
+  KeysDifferIn (object members) = KeysDiffer members × KeysDifferInMembers members
+
+  pub KeysDifferInItems : Items → Type 0
+  KeysDifferInItems no_items = Unit {0}
+  KeysDifferInItems (item value values) = KeysDifferIn value × KeysDifferInItems values
+
+  pub KeysDifferInMembers : Members → Type 0
+  KeysDifferInMembers no_members = Unit {0}
+  KeysDifferInMembers (member key value more) = KeysDifferIn value × KeysDifferInMembers more
+
+-- law: no object of a document's value has a key twice
+abbrev pub KeysStandOnce : Type 0
+KeysStandOnce = (value : Data) (document : Document) → Spells value document → KeysDifferIn value
 
 -- law: a value is that of at most one document
 abbrev pub SpellsOne : Type 0

@@ -3,8 +3,8 @@
 //! Definitions are in `specs/`.
 #![tactic(auto)]
 
-ghost use Rattle.rx_jsonld.specs.Document.{SpellsOne};
-ghost use Rattle.rx_jsonld.specs.Laws.{ListsCells, ValueDenotes, ValuesAreFlat};
+ghost use Rattle.rx_jsonld.specs.Document.{KeysStandOnce, SpellsOne};
+ghost use Rattle.rx_jsonld.specs.Laws.{DenotesFormed, ListsCells, ValueDenotes, ValuesAreFlat};
 ghost use Rattle.rx_jsonld.specs.Meaning.{DenotesOne};
 ghost use Rattle.rx_jsonld.specs.Rows.{RowsHold};
 
@@ -28,9 +28,19 @@ pub fn a_value_spells_one()
     ensures { SpellsOne }
 {}
 
+/// No object of a document's value has a key twice.
+pub fn keys_stand_once()
+    ensures { KeysStandOnce }
+{}
+
 /// Two graphs that one value denotes differ in the names of blank nodes alone.
 pub fn a_value_denotes_one()
     ensures { DenotesOne }
+{}
+
+/// The triples that a value denotes have IRIs, datatypes and language tags of the form that N-Quads asks.
+pub fn a_value_denotes_formed_terms()
+    ensures { DenotesFormed }
 {}
 
 /// At most six arrays and objects of a list's value lie in each other, and no number in it is a float.

@@ -1,0 +1,160 @@
+-- What a value denotes is made of terms that have their form.
+use Rattle.std.proofs.Common.{◌+◌, ℕ, suc, Bool, true, false, cond, List, [], ◌∷◌, ◌++◌, map, bytes_eq, Option, refl, sym, subst, inl, inr}
+use Rattle.serde_json.specs.Data.{Data, Items, Members, no_items, item, no_members, member}
+use Rattle.rx_terms.specs.Iri.{IsIri}
+use Rattle.rx_terms.specs.Literal.{xsd_string}
+use Rattle.rx_terms.specs.Text.{Chars}
+use Rattle.rx_model.specs.Sets.{Among}
+use Rattle.rx_model.specs.Terms.{Kind, Plain, Tagged, Typed, Node, Iri, Blank, Term, Resource, Literal, Triple}
+use Rattle.rx_model.specs.Numbered.{rename_node, rename_term, rename}
+use Rattle.rx_model.proofs.Sets.{Among_cases}
+use Rattle.rx_model.specs.Vocabulary.{rdf_type, rdf_first, rdf_rest, rdf_nil}
+use Rattle.rx_nquads.specs.Quads.{proper_kind}
+use Rattle.rx_jsonld.specs.Document.{Item, Reference, Value, Object, Single, ListObject, Entry, Id, Types, Property, NodeObject, Document, NamesNode, IsFormed, SpellsEach, SpellsName, SpellsItem, SpellsObject, SpellsEntry, SpellsEntries, SpellsNode, id_in, ids}
+use Rattle.rx_jsonld.specs.Meaning.{cells_in, cells_of, cells_of_all, node_by, node_of, term_of, list_node, list_triples, object_triples, objects_triples, type_triple, entry_triples, entries_triples, triples_by, node_triples, all_triples, Label, Place}
+use Rattle.rx_jsonld.specs.Laws.{IsFormedNode, IsFormedTerm, IsFormedTriple, DenotesFormed}
+use Rattle.rx_jsonld.proofs.Parts.{no_label}
+
+-- ---- lists of triples
+
+abbrev AllFormed : {B : Type 0} → List (Triple B) → Type 0
+AllFormed [] = Unit {0}
+AllFormed (t ∷ more) = IsFormedTriple t × AllFormed more
+
+both_formed : {B : Type 0} (xs ys : List (Triple B)) → AllFormed xs → AllFormed ys → AllFormed (xs ++ ys)
+both_formed [] ys h k = k
+both_formed (x ∷ xs) ys h k = (h.0, both_formed xs ys h.1 k)
+
+one_formed : {B : Type 0} (xs : List (Triple B)) (t : Triple B) → AllFormed xs → Among xs t → IsFormedTriple t
+one_formed [] t h m = absurd m
+one_formed (x ∷ xs) t h (inl e) = subst IsFormedTriple e h.0
+one_formed (x ∷ xs) t h (inr m) = one_formed xs t h.1 m
+
+-- ---- IRIs of RDF's own vocabulary
+
+type_iri : IsIri rdf_type
+type_iri = record { scheme = refl; clean = refl }
+
+first_iri : IsIri rdf_first
+first_iri = record { scheme = refl; clean = refl }
+
+rest_iri : IsIri rdf_rest
+rest_iri = record { scheme = refl; clean = refl }
+
+nil_iri : IsIri rdf_nil
+nil_iri = record { scheme = refl; clean = refl }
+
+kind_formed : (kind : Kind) → IsFormed kind → IsFormed (proper_kind kind)
+kind_formed Plain h = tt
+kind_formed (Tagged tag) h = h
+kind_formed (Typed datatype) h = go (bytes_eq datatype xsd_string)
+  where
+    go : (b : Bool) → IsFormed (cond b Plain (Typed datatype))
+    go true = tt
+    go false = h
+
+-- ---- names of node objects
+
+name_formed : (value : Data) (text : Chars) → SpellsName value text → NamesNode text
+name_formed value text h = h.0
+
+id_names : (key : List ℕ) (value : Data) (entry : Entry) (id : Chars) → SpellsEntry key value entry → Among (id_in entry) id → NamesNode id
+id_names key value (Id text) id h (inl e) = subst NamesNode e (name_formed value text h.1)
+id_names key value (Id text) id h (inr m) = absurd m
+id_names key value (Types types) id h m = absurd m
+id_names key value (Property predicate objects) id h m = absurd m
+
+ids_name : (members : Members) (entries : List Entry) (id : Chars) → SpellsEntries members entries → Among (ids entries) id → NamesNode id
+ids_name no_members [] id h m = absurd m
+ids_name no_members (entry ∷ entries) id h m = absurd h
+ids_name (member key value more) [] id h m = absurd h
+ids_name (member key value more) (entry ∷ entries) id h m = elim (Among_cases (id_in entry) (ids entries) id m) [
+  | inl k ↦ id_names key value entry id h.0 k
+  | inr k ↦ ids_name more entries id h.1 k
+]
+
+-- ---- triples
+
+module _ {B : Type 0} (label : Chars → B) (place : ℕ → B) where
+  node_formed : (text : Chars) → NamesNode text → IsFormedNode (node_of label place text)
+  node_formed text (inl b) = subst (λ (z : Chars). IsFormedNode (node_of label place z)) (sym b.spelled) tt
+  node_formed text (inr is) = subst (λ (o : Option Chars). IsFormedNode (node_by label place text o)) (sym (no_label text is)) is
+
+  term_formed : (value : Data) (x : Item) → SpellsItem value x → IsFormedTerm (term_of label place x)
+  term_formed value (Reference id) h = node_formed id h.0
+  term_formed value (Value text kind) (ms, e, formed, h) = kind_formed kind formed
+
+  list_node_formed : (xs : List Item) (n : ℕ) → IsFormedNode (list_node label place xs n)
+  list_node_formed [] n = nil_iri
+  list_node_formed (x ∷ more) n = tt
+
+  list_formed : (values : Items) (xs : List Item) (n : ℕ) → SpellsEach SpellsItem values xs → AllFormed (list_triples label place xs n)
+  list_formed values [] n h = tt
+  list_formed no_items (x ∷ more) n h = absurd h
+  list_formed (item value values) (x ∷ more) n h = (
+    record { subject = tt; predicate = first_iri; object = term_formed value x h.0 },
+    (record { subject = tt; predicate = rest_iri; object = list_node_formed more (suc n) }, list_formed values more (suc n) h.1),
+  )
+
+  module _ (subject : Node B) (formed : IsFormedNode subject) where
+    object_formed : (predicate : Chars) → IsIri predicate → (value : Data) (o : Object) (n : ℕ) → SpellsObject value o → AllFormed (object_triples label place subject predicate o n)
+    object_formed predicate is value (Single x) n h = (record { subject = formed; predicate = is; object = term_formed value x h }, tt)
+    object_formed predicate is value (ListObject xs) n (list, e, (values, f, h)) =
+        (record { subject = formed; predicate = is; object = list_node_formed xs n }, list_formed values xs n h)
+
+    objects_formed : (predicate : Chars) → IsIri predicate → (values : Items) (objects : List Object) (n : ℕ) → SpellsEach SpellsObject values objects → AllFormed (objects_triples label place subject predicate objects n)
+    objects_formed predicate is values [] n h = tt
+    objects_formed predicate is no_items (o ∷ more) n h = absurd h
+    objects_formed predicate is (item value values) (o ∷ more) n h =
+        both_formed (object_triples label place subject predicate o n) (objects_triples label place subject predicate more (n + cells_in o))
+        (object_formed predicate is value o n h.0) (objects_formed predicate is values more (n + cells_in o) h.1)
+
+    types_formed : (values : Items) (types : List Chars) → SpellsEach SpellsName values types → AllFormed (map (type_triple label place subject) types)
+    types_formed values [] h = tt
+    types_formed no_items (text ∷ more) h = absurd h
+    types_formed (item value values) (text ∷ more) h = (record { subject = formed; predicate = type_iri; object = node_formed text (name_formed value text h.0) }, types_formed values more h.1)
+
+    entry_formed : (key : List ℕ) (value : Data) (entry : Entry) (n : ℕ) → SpellsEntry key value entry → AllFormed (entry_triples label place subject entry n)
+    entry_formed key value (Id id) n h = tt
+    entry_formed key value (Types types) n (k, (values, e, h)) = types_formed values types h
+    entry_formed key value (Property predicate objects) n (k, is, (values, e, h)) = objects_formed predicate is values objects n h
+
+    entries_formed : (members : Members) (entries : List Entry) (n : ℕ) → SpellsEntries members entries → AllFormed (entries_triples label place subject entries n)
+    entries_formed ms [] n h = tt
+    entries_formed no_members (entry ∷ entries) n h = absurd h
+    entries_formed (member key value more) (entry ∷ entries) n h =
+        both_formed (entry_triples label place subject entry n) (entries_triples label place subject entries (n + cells_of entry))
+        (entry_formed key value entry n h.0) (entries_formed more entries (n + cells_of entry) h.1)
+
+  object_node_formed : (value : Data) (node : NodeObject) (n : ℕ) → SpellsNode value node → AllFormed (node_triples label place node n)
+  object_node_formed value node n h =
+      let names : NamesNode h.id = ids_name h.members node h.id h.spelled (subst (λ (z : List Chars). Among z h.id) (sym h.named) (inl refl)) in
+      subst (λ (z : List Chars). AllFormed (triples_by label place z node n)) (sym h.named)
+      (entries_formed (node_of label place h.id) (node_formed h.id names) h.members node n h.spelled)
+
+  document_formed : (values : Items) (document : Document) (n : ℕ) → SpellsEach SpellsNode values document → AllFormed (all_triples label place document n)
+  document_formed values [] n h = tt
+  document_formed no_items (node ∷ more) n h = absurd h
+  document_formed (item value values) (node ∷ more) n h =
+      both_formed (node_triples label place node n) (all_triples label place more (n + cells_of_all node)) (object_node_formed value node n h.0)
+      (document_formed values more (n + cells_of_all node) h.1)
+
+-- ---- other names
+
+module _ {A B : Type 0} (to : A → B) where
+  node_renamed : (node : Node A) → IsFormedNode node → IsFormedNode (rename_node to node)
+  node_renamed (Iri iri) h = h
+  node_renamed (Blank b) h = tt
+
+  term_renamed : (o : Term A) → IsFormedTerm o → IsFormedTerm (rename_term to o)
+  term_renamed (Resource node) h = node_renamed node h
+  term_renamed (Literal text kind) h = h
+
+  triple_renamed : (t : Triple A) → IsFormedTriple t → IsFormedTriple (rename to t)
+  triple_renamed t h = record { subject = node_renamed t.subject h.subject; predicate = h.predicate; object = term_renamed t.object h.object }
+
+pub denotes_formed : DenotesFormed
+denotes_formed value graph h u m =
+    let b = h.renamed.back u m in
+    let all : AllFormed (all_triples Label Place h.document 0) = document_formed Label Place h.spells.0 h.document 0 h.spells.2 in
+    subst IsFormedTriple b.2 (triple_renamed h.renamed.to b.0 (one_formed (all_triples Label Place h.document 0) b.0 all b.1))
