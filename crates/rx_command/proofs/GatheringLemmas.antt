@@ -20,15 +20,17 @@ use Rattle.rx_many.specs.Pages.{Page, Judgement, refused, accepted, refused_page
 use Rattle.rx_job.specs.Words.{Gathering, Listed}
 use Rattle.rx_nest.specs.Ways.{Way}
 use Rattle.rx_command.specs.declared.pages.Approach.{Approach}
-use Rattle.rx_command.specs.Reading.{HasFirst, GivesList, ReadsWhole, Finds, TakesToFirst}
+use Rattle.rx_page.specs.Aims.{HasFirst, GivesList}
+use Rattle.rx_command.specs.Reading.{ReadsWhole, Finds, TakesToFirst}
 use Rattle.rx_command.specs.Files.{TakesOf, size_of}
 use Rattle.rx_command.specs.Contexts.{IsContext, LacksContext, TakesContext, ReadsContext}
 use Rattle.rx_command.specs.Inputs.{TellsThat}
-use Rattle.rx_command.specs.Outcome.{LacksPage, LacksOne, base_in, facts_in}
+use Rattle.rx_command.specs.Outcome.{LacksPage, LacksOne}
+use Rattle.rx_page.specs.Tasks.{base_in, facts_in}
 use Rattle.rx_command.specs.Ways.{way_of}
 use Rattle.rx_command.specs.Gathering.{FileList, page_way, GivesTriples, GivesGraph, IsJudged, Judges, JudgesEach, IsPart, AreParts, total, TakesGathering, IsThat, TakesPart, TakesParts, ReadsListed, ReadsEach, AddsPage, AddsPages, GathersPages}
 use Rattle.rx_command.proofs.InputLemmas.{one_context, has_context, rose_before}
-use Rattle.rx_command.proofs.MadeLemmas.{list_written}
+use Rattle.rx_page.proofs.MadeLemmas.{list_written}
 
 -- ---- lists
 

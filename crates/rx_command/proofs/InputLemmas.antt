@@ -14,32 +14,32 @@ use Rattle.rx_terms.specs.declared.triples.Triple.{Triple as CodeTriple}
 use Rattle.rx_model.specs.Copied.{copied}
 use Rattle.rx_model.specs.Numbered.{numbered}
 use Rattle.rx_model.specs.Seen.{triples_seen}
-use Rattle.rx_model.specs.Terms.{Triple}
-use Rattle.rx_rdfa.specs.Whole.{written}
-use Rattle.rx_rdfa.proofs.Whole.{written_denotes}
 use Rattle.rx_rdfa.specs.Names.{Context}
 use Rattle.rx_rdfa.specs.Standard.{standard}
 use Rattle.rx_job.specs.declared.formats.Format.{Format}
-use Rattle.rx_job.specs.declared.formats.Format.TheVariants as format
 use Rattle.rx_job.specs.Words.{Asked, Task, Extraction, Itemization, extracts, itemizes, checks}
 use Rattle.rx_nest.specs.Ways.{Way}
 use Rattle.rx_command.specs.declared.errors.InputError.{InputError}
 use Rattle.rx_command.specs.declared.errors.InputError.TheVariants as error
-use Rattle.rx_command.specs.Reading.{largest_piece, page_limit, HasFirst, GivesList, GivesRight, ReadsWhole, Finds, ReadsClean, IsClean, PageFails}
+use Rattle.rx_command.specs.Reading.{largest_piece, page_limit, ReadsWhole, Finds, ReadsClean, IsClean, PageFails}
+use Rattle.rx_page.specs.Aims.{HasFirst, GivesList, GivesRight}
 use Rattle.rx_command.proofs.ReadLemmas.{unread_clean}
 use Rattle.rx_command.specs.Files.{ReadsFile, TakesOf, size_of}
-use Rattle.rx_command.specs.Contexts.{IsContextFile, IsFileOf, IsContext, HasContext, TakesContext, ReadsContext, context_size, is_context}
+use Rattle.rx_command.specs.Contexts.{IsContextFile, IsFileOf, IsContext, HasContext, TakesContext, ReadsContext, context_size}
+use Rattle.rx_page.specs.Contexts.{is_context}
 use Rattle.rx_command.specs.Inputs.{PageText, PageRefused, JobText, JobRefused, TellsThat, WhereTold}
-use Rattle.rx_command.specs.Outcome.{IsAccepted, IsLacking, IsRight, HasText, Denotes, TaskRefuses, ReadsTo, base_in, facts_in, syntax_in, aim_in, way_in, ok_line, IsTextAs, IsFormatText, DenotesAs, FormatDenotes}
+use Rattle.rx_page.specs.Tasks.{IsRight, TaskRefuses, syntax_in, aim_in, way_in}
+use Rattle.rx_command.specs.Outcome.{IsLacking, ReadsTo}
+use Rattle.rx_page.specs.Texts.{ok_line}
 use Rattle.rx_command.specs.Runs.{TakesFiles, StopsCleanly}
 use Rattle.rx_command.specs.Ways.{extraction_of}
-use Rattle.rx_command.specs.Written.{form_in, IsFormText, FormDenotes, text_of, Denoted}
-use Rattle.rx_command.specs.declared.forms.Form.{Form}
-use Rattle.rx_command.specs.declared.outcomes.Outcome.{Outcome}
-use Rattle.rx_command.specs.declared.outcomes.Outcome.TheVariants as found
+use Rattle.rx_page.specs.Written.{form_in, IsFormText, FormDenotes, text_of, Denoted}
+use Rattle.rx_page.specs.declared.forms.Form.{Form}
+use Rattle.rx_page.specs.declared.outcomes.Outcome.{Outcome}
+use Rattle.rx_page.specs.declared.outcomes.Outcome.TheVariants as found
 use Rattle.rx_command.specs.declared.pages.Approach.{Approach}
-use Rattle.rx_command.proofs.MadeLemmas.{list_written}
 use denote.Ref.{Bor}
+use Rattle.rx_page.proofs.FormLemmas.{text_made}
 
 -- ---- the context file
 
@@ -174,48 +174,6 @@ pub page_right : (syntax : Syntax) (context : Context) (name named : List ℕ) (
 page_right syntax context name named done e x y c =
     let right : IsRight syntax context c.bytes ok_line = record { tree = c.gives.tree; is = record { page = c.gives.page; accepted = c.gives.accepted }; spelled = refl } in
     record { bytes = c.bytes; file = sym (ap (λ n. file_of x.files n) e) ∙ c.file; gives = right; graph = λ read. right; left = c.left }
-
--- a form writes what its format does
-module _ (graph : Option Chars) (context : Context) where
-  same_text : (f : Format) (list : List (Triple ℕ)) (text : List ℕ) → IsFormText (form_in f graph context) list text → IsTextAs f graph context list text
-  same_text format.Nquads list text is = is
-  same_text format.Turtle list text is = is
-  same_text format.Nested list text is = is
-  same_text format.Jsonld list text is = is
-
-  same_meaning : (f : Format) (text : List ℕ) (triples : List (Triple ℕ)) → FormDenotes (form_in f graph context) text triples → DenotesAs f graph text triples
-  same_meaning format.Nquads text triples d = d
-  same_meaning format.Turtle text triples d = d
-  same_meaning format.Nested text triples d = d
-  same_meaning format.Jsonld text triples d = d
-
--- what is made of the triples of a page that was read
-pub text_made : (e : Extraction) (context : Context) (form : Form) (outcome : Outcome) (list : List CodeTriple) (bytes : List ℕ) → form ≡ form_in e.format e.graph context
-    → IsFormText form (numbered nat_eq (copied nat_eq (triples_seen list))) (text_of outcome) → (Denoted outcome → FormDenotes form (text_of outcome) (numbered nat_eq (copied nat_eq (triples_seen list))))
-    → GivesList e.syntax context e.address bytes list → HasText e context bytes (text_of outcome) × (Denoted outcome → Denotes e context bytes (text_of outcome))
-text_made e context form outcome list bytes f spelled denotes given =
-    let triples : List (Triple ℕ) = written (base_in e.address given.tree) (facts_in context given.tree) in
-    let made : numbered nat_eq (copied nat_eq (triples_seen list)) ≡ triples = list_written e.address context given.tree list given.made in
-    let is : IsAccepted e.syntax context bytes given.tree = record { page = given.page; accepted = given.accepted } in (
-      record {
-        tree = given.tree;
-        is = is;
-        spelled =
-            subst (λ ts. IsFormatText e context ts (text_of outcome)) made
-            (same_text e.graph context e.format (numbered nat_eq (copied nat_eq (triples_seen list))) (text_of outcome)
-            (subst (λ (k : Form). IsFormText k (numbered nat_eq (copied nat_eq (triples_seen list))) (text_of outcome)) f spelled));
-      },
-      λ read. record {
-        tree = given.tree;
-        is = is;
-        triples = triples;
-        denotes =
-            subst (λ ts. FormatDenotes e (text_of outcome) ts) made
-            (same_meaning e.graph context e.format (text_of outcome) (numbered nat_eq (copied nat_eq (triples_seen list)))
-            (subst (λ (k : Form). FormDenotes k (text_of outcome) (numbered nat_eq (copied nat_eq (triples_seen list)))) f (denotes read)));
-        renamed = written_denotes (base_in e.address given.tree) (facts_in context given.tree);
-      },
-    )
 
 pub page_text : (e : Extraction) (context : Context) (name named : List ℕ) (form : Form) (outcome : Outcome) (list : List CodeTriple) → named ≡ name → form ≡ form_in e.format e.graph context
     → IsFormText form (numbered nat_eq (copied nat_eq (triples_seen list))) (text_of outcome) → (Denoted outcome → FormDenotes form (text_of outcome) (numbered nat_eq (copied nat_eq (triples_seen list))))

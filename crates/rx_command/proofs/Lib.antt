@@ -1,13 +1,8 @@
 pub mod FileLemmas
 pub mod InputLemmas
 pub mod RunLemmas
-pub mod KindLemmas
-pub mod OutcomeLemmas
-pub mod TextLemmas
 pub mod HeadlineLemmas
-pub mod FaultLemmas
 pub mod ReadLemmas
-pub mod MadeLemmas
 pub mod GatheringLemmas
 pub mod SeveralLemmas
 pub mod SampleLemmas

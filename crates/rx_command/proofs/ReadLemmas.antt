@@ -1,24 +1,17 @@
 -- A page that is read as its bytes come.
-use Rattle.std.proofs.Common.{◌≡◌, ◌∙◌, ℕ, ◌+◌, ◌≤◌, ◌<◌, List, [], ◌∷◌, ◌++◌, length, take, sym, ap, subst, refl, arith, Option, Some, None, Result, Ok, Err, append_assoc, append-nil, length-append, length-take}
+use Rattle.std.proofs.Common.{◌≡◌, ◌∙◌, ℕ, ◌+◌, ◌≤◌, ◌<◌, List, [], ◌∷◌, ◌++◌, length, take, sym, ap, subst, refl, arith, Option, Some, Result, Ok, Err, append_assoc, append-nil, length-append, length-take}
 use Rattle.rx_terms.specs.Text.{Chars}
 use Rattle.rx_chars.specs.declared.syntax.Syntax.{Syntax}
 use Rattle.rx_grammar.specs.declared.faults.Fault.{Fault}
-use Rattle.rx_grammar.specs.declared.faults.Kind.TheVariants.{Unended}
 use Rattle.rx_grammar.specs.declared.limits.Limits.{Limits}
 use Rattle.rx_grammar.specs.PageFaults.{FaultAt}
-use Rattle.rx_pages.specs.PageReader.{Progress, page_read, no_page}
 use Rattle.rx_grammar.specs.declared.stops.Stop.{Stop}
-use Rattle.rx_nest.specs.Nests as nests
-use Rattle.rx_nest.specs.Nests.{Nested}
-use Rattle.rx_nest.specs.Signs.{Sign, Sight, sees, nothing_seen}
 use Rattle.rx_pages.proofs.Sizes.{read_size}
-use Rattle.rx_nest.specs.Faults.{for_form, Stops}
-use Rattle.rx_nest.specs.Ways.{Way, IsRefusal, none_refuses}
+use Rattle.rx_nest.specs.Faults.{Stops}
+use Rattle.rx_nest.specs.Ways.{Way}
 use Rattle.rx_rdfa.specs.Names.{Context}
 use Rattle.rx_walk.specs.Walks as walks
 use Rattle.rx_walk.specs.Walks.{Walked}
-use Rattle.rx_walk.specs.RefusalLaws.{refusal_laws}
-use Rattle.rx_nest.specs.Readings.{OwesNone}
 use Rattle.rx_items.specs.Walks as item
 use Rattle.rx_walk.specs.Checks as checks
 use Rattle.rx_walk.specs.Checks.{Checked}
@@ -30,11 +23,10 @@ use Rattle.rx_command.specs.declared.errors.InputError.TheVariants as error
 use Rattle.rx_command.specs.declared.passes.Pass.{Pass}
 use Rattle.rx_command.specs.declared.passes.Pass.TheVariants as reader
 use Rattle.rx_command.specs.Files.{HasRead, TakesSome}
-use Rattle.rx_command.specs.Reading.{standard, Aim, for_triples, for_items, for_faults, refused_for, setting_for, item_setting_for, way_for, Reached, FeedGives, HasFirst, Decides, Adds, AddsNone, NextGives, EndFails, EndGives, ReadsWhole, Finds, ReadsClean, TakesToFirst, IsFile, Fed, PageFails, PageGives}
-use Rattle.rx_command.proofs.FaultLemmas.{no_meaning_in, only_unended, refused_from}
-
-pub limits_are : (l : Limits) → l.depth ≡ 512 → l.tag ≡ 1048576 → l.page ≡ 1073741824 → l ≡ standard
-limits_are l d t p = ap (λ x. record { depth = x; tag = l.tag; page = l.page }) d ∙ (ap (λ x. record { depth = 512; tag = x; page = l.page }) t ∙ ap (λ x. record { depth = 512; tag = 1048576; page = x }) p)
+use Rattle.rx_page.specs.Aims.{standard, Aim, for_triples, for_items, for_faults, setting_for, item_setting_for, way_for, HasFirst}
+use Rattle.rx_command.specs.Reading.{Reached, FeedGives, Decides, Adds, AddsNone, NextGives, EndFails, EndGives, ReadsWhole, Finds, ReadsClean, TakesToFirst, IsFile, Fed, PageFails, PageGives}
+use Rattle.rx_page.proofs.FaultLemmas.{refused_from}
+use Rattle.rx_page.proofs.FrontLemmas.{refuses_so, IsRead, shown_read, end_first, no_bytes_read, clean_of}
 
 pub start_reached : (syntax : Syntax) (context : Context) (address : Chars) (l : Limits) (v : Walked) → l ≡ standard → walks.WalkStands (record { syntax = syntax; limits = l; context = context }) address v [] → Reached syntax (for_triples context address) (reader.Walks v) []
 start_reached syntax context address l v e st = subst (λ (x : Limits). walks.WalkStands (record { syntax = syntax; limits = x; context = context }) address v []) e st
@@ -80,23 +72,6 @@ feeds_check syntax (for_triples context address) old new bytes piece r g s = abs
 feeds_check syntax (for_items address) old new bytes piece r g s = absurd s
 feeds_check syntax (for_faults context) old new bytes piece r g s = check_fed syntax context bytes piece r new (g context s)
 
--- what refuses start tags does so one after another
-pub refuses_so : (aim : Aim) → IsRefusal (refused_for aim)
-refuses_so (for_triples context address) = refusal_laws context
-refuses_so (for_items address) = none_refuses
-refuses_so (for_faults context) = refusal_laws context
-
--- bytes that were read without a fault
-pub record IsRead (way : Way) (bytes : List ℕ) : Type 0 where
-  pub now : Progress
-  pub read : page_read way.syntax way.limits bytes ≡ Ok now
-  pub accepted : way.refused (sees nothing_seen now.told).signs ≡ None
-
-pub shown_read : (way : Way) (bytes : List ℕ) (nest : Nested) (signs : List Sign) → nests.NestStands way.syntax way.limits nest bytes signs → OwesNone nest → way.refused signs ≡ None → IsRead way bytes
-shown_read way bytes nest signs shown paid accepted =
-    let signs_are : (sees nothing_seen shown.told).signs ≡ signs = ap (λ (x : Sight). x.signs) shown.sight ∙ (ap (λ x. signs ++ x) paid ∙ append-nil signs) in
-    record { now = record { now = shown.at.now; told = shown.told }; read = shown.at.read; accepted = ap way.refused signs_are ∙ accepted }
-
 pub is_read : (syntax : Syntax) (aim : Aim) (v : Pass) (bytes : List ℕ) → Reached syntax aim v bytes → IsRead (way_for syntax aim) bytes
 is_read syntax (for_triples context address) (reader.Walks v) bytes r = shown_read (way_for syntax (for_triples context address)) bytes v.nest r.goes.signs r.goes.shown r.paid r.goes.known.accepted
 is_read syntax (for_triples context address) (reader.Itemizes v) bytes r = absurd r
@@ -108,9 +83,6 @@ is_read syntax (for_faults context) (reader.Walks v) bytes r = absurd r
 is_read syntax (for_faults context) (reader.Itemizes v) bytes r = absurd r
 is_read syntax (for_faults context) (reader.Checks v) bytes r = shown_read (way_for syntax (for_faults context)) bytes v.nest r.goes.signs r.goes.shown r.paid r.goes.known.accepted
 
-no_bytes_read : (syntax : Syntax) (aim : Aim) → IsRead (way_for syntax aim) []
-no_bytes_read syntax aim = record { now = record { now = no_page; told = [] }; read = refl; accepted = (refuses_so aim).none }
-
 -- a piece that is refused
 pub piece_refused : (syntax : Syntax) (aim : Aim) (v : Pass) (bytes piece : List ℕ) (fault : Fault) → Reached syntax aim v bytes → Stops (way_for syntax aim) (bytes ++ piece) fault → Decides (way_for syntax aim) bytes piece fault
 piece_refused syntax aim v bytes piece fault r s =
@@ -119,9 +91,7 @@ piece_refused syntax aim v bytes piece fault r s =
 
 -- the end of a page that isn't whole
 pub end_refused : (syntax : Syntax) (aim : Aim) (v : Pass) (bytes : List ℕ) (fault : Fault) → Reached syntax aim v bytes → FaultAt syntax standard bytes fault → HasFirst (way_for syntax aim) bytes fault
-end_refused syntax aim v bytes fault r f =
-    let i = is_read syntax aim v bytes r in
-    for_form f (λ other m. no_meaning_in (way_for syntax aim) (refuses_so aim) bytes i.now i.read i.accepted other m)
+end_refused syntax aim v bytes fault r f = end_first syntax aim bytes fault (is_read syntax aim v bytes r) f
 
 -- a read
 pub read_adds : (buf : List ℕ) (k : ℕ) (x y : ShelfContent) → Reads buf (Ok k) x y → 0 < length buf → k ≤ length buf → Adds (take k buf) x y
@@ -160,9 +130,6 @@ more_so_far syntax aim name v w n k before now later s g =
 -- a page isn't longer than the largest
 pub not_longer : (syntax : Syntax) (aim : Aim) (v : Pass) (bytes : List ℕ) → Reached syntax aim v bytes → length bytes ≤ 1073741824
 not_longer syntax aim v bytes r = let i = is_read syntax aim v bytes r in (read_size syntax standard bytes i.now i.read).1
-
-clean_of : (syntax : Syntax) (aim : Aim) (bytes : List ℕ) → IsRead (way_for syntax aim) bytes → (fault : Fault) → HasFirst (way_for syntax aim) bytes fault → fault.kind ≡ Unended
-clean_of syntax aim bytes i fault f = only_unended (way_for syntax aim) (refuses_so aim) bytes i.now i.read i.accepted fault f
 
 some_file : (a b : List ℕ) → ◌≡◌ {A = Option (List ℕ)} (Some a) (Some b) → a ≡ b
 some_file a b e = cc

@@ -16,7 +16,7 @@ use Rattle.rx_nest.specs.Signs.{sees, nothing_seen}
 use Rattle.rx_base.specs.Lines.{line_of}
 use Rattle.rx_walk.specs.Walks.{Walked, WalkStands, Ended, open_line}
 use Rattle.rx_nest.specs.Ways.{Way}
-use Rattle.rx_command.specs.Reading.{standard, Aim, for_triples, setting_for, way_for}
+use Rattle.rx_page.specs.Aims.{standard, Aim, for_triples, setting_for, way_for}
 use Rattle.rx_job.specs.Words.{most_items}
 use Rattle.rx_command.specs.Samples.{head, item_before, item_behind, items_to, cut_in, sample_page, tail, depth_at, open_after, larger, deepest, deepest_in, sample_setting, sample_address, triples_in, line_with, line_for, IsSample}
 use Rattle.rx_nest.specs.Faults.{Refuses, Stops}
@@ -25,10 +25,11 @@ use Rattle.rx_command.specs.Feeding.{Fed, FedTo, FedWhole, IsDue, TakesPiece}
 use Rattle.rx_command.specs.declared.samples.Feeding.{Feeding}
 use Rattle.rx_grammar.specs.PageFaults.{FaultAt}
 use Rattle.rx_pages.proofs.OneOf.{not_both}
-use Rattle.rx_command.proofs.FaultLemmas.{page_has_none}
-use Rattle.rx_command.proofs.MadeLemmas.{list_written}
+use Rattle.rx_page.proofs.FaultLemmas.{page_has_none}
+use Rattle.rx_page.proofs.MadeLemmas.{list_written}
 use Rattle.rx_command.proofs.SampleNodes.{samples_are_pages}
-use Rattle.rx_command.proofs.ReadLemmas.{not_longer, refuses_so}
+use Rattle.rx_command.proofs.ReadLemmas.{not_longer}
+use Rattle.rx_page.proofs.FrontLemmas.{refuses_so}
 
 -- how a sample page is read
 abbrev pub sample_aim : Aim

@@ -11,7 +11,7 @@ use Rattle.rx_job.specs.Words.{Task}
 use Rattle.rx_nest.specs.Ways.{Way}
 use Rattle.rx_command.specs.Reading.{ReadsClean}
 use Rattle.rx_command.specs.Inputs.{PageText, PageRefused, TellsThat}
-use Rattle.rx_command.specs.declared.outcomes.Outcome.{Outcome}
+use Rattle.rx_page.specs.declared.outcomes.Outcome.{Outcome}
 
 -- where the call gives something, the shelf moved so
 abbrev pub GivesBy :

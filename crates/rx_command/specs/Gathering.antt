@@ -16,10 +16,11 @@ use Rattle.rx_many.specs.Writing.{gathered}
 use Rattle.rx_many.specs.Dataset.{DenotesPages}
 use Rattle.rx_job.specs.Words.{Gathering, Listed, gathering_asked}
 use Rattle.rx_nest.specs.Ways.{Way}
-use Rattle.rx_command.specs.Reading.{largest_piece, page_limit, for_triples, way_for, HasFirst}
+use Rattle.rx_command.specs.Reading.{largest_piece, page_limit}
+use Rattle.rx_page.specs.Aims.{for_triples, way_for, HasFirst}
 use Rattle.rx_command.specs.Files.{size_of}
 use Rattle.rx_command.specs.Contexts.{IsContext, HasContext, context_size, context_limit}
-use Rattle.rx_command.specs.Outcome.{IsAccepted, base_in, facts_in}
+use Rattle.rx_page.specs.Tasks.{IsAccepted, base_in, facts_in}
 
 -- files by their names
 abbrev pub FileList : Type 0

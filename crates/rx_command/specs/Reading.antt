@@ -5,31 +5,21 @@ use Rattle.rx_terms.specs.declared.triples.Triple.{Triple as CodeTriple}
 use Rattle.rx_chars.specs.declared.syntax.Syntax.{Syntax}
 use Rattle.rx_grammar.specs.declared.faults.Fault.{Fault}
 use Rattle.rx_grammar.specs.declared.faults.Kind.TheVariants.{Unended}
-use Rattle.rx_grammar.specs.declared.limits.Limits.{Limits}
 use Rattle.rx_rdfa.specs.Names.{Context}
 use Rattle.rx_grammar.specs.declared.stops.Stop.{Stop}
-use Rattle.rx_nest.specs.Signs.{Sign}
-use Rattle.rx_nest.specs.Faults.{Refuses, StopGives}
-use Rattle.rx_nest.specs.Ways.{Way, refuses_none}
-use Rattle.rx_walk.specs.Refused.{refused_in}
-use Rattle.rx_walk.specs.Settings.{Setting}
+use Rattle.rx_nest.specs.Faults.{StopGives}
+use Rattle.rx_nest.specs.Ways.{Way}
 use Rattle.rx_walk.specs.Walks as walk
-use Rattle.rx_walk.specs.Walks.{Ended}
-use Rattle.rx_items.specs.Collecting.{Setting as ItemSetting}
 use Rattle.rx_items.specs.Walks as item
 use Rattle.rx_items.specs.declared.kept.Kept.{Kept}
 use Rattle.rx_walk.specs.Checks as check
-use Rattle.rx_walk.specs.Checks.{Accepted}
 use Rattle.rx_ports.specs.Files.{file_of}
 use Rattle.rx_ports.specs.Shelves.{ShelfContent, WhereKnown}
 use Rattle.rx_command.specs.declared.errors.InputError.{InputError}
 use Rattle.rx_command.specs.declared.errors.InputError.TheVariants as error
 use Rattle.rx_command.specs.declared.passes.Pass.{Pass}
 use Rattle.rx_command.specs.declared.passes.Pass.TheVariants as reader
-
--- 512 levels, tags of 1 MiB, pages of 1 GiB
-abbrev pub standard : Limits
-standard = record { depth = 512; tag = 1048576; page = 1073741824 }
+use Rattle.rx_page.specs.Aims.{standard, setting_for, item_setting_for, Aim, for_triples, for_items, for_faults, way_for, HasFirst, GivesList, GivesItems, GivesRight}
 
 -- the most bytes that a read asks for
 abbrev pub largest_piece : ℕ
@@ -38,31 +28,6 @@ largest_piece = 65536
 -- how much is read of a page at most
 abbrev pub page_limit : ℕ
 page_limit = standard.page + largest_piece
-
--- how a page is read under these names
-abbrev pub setting_for : Syntax → Context → Setting
-setting_for syntax context = record { syntax = syntax; limits = standard; context = context }
-
--- how its items are read at an address
-abbrev pub item_setting_for : Syntax → Chars → ItemSetting
-item_setting_for syntax address = record { syntax = syntax; limits = standard; address = address }
-
--- what a page is read for: its triples, where these names hold in it and this is its address; its items, where this is its
--- address; or its faults alone
-pub data Aim : Type 0 where
-  for_triples : Context → Chars → Aim
-  for_items : Chars → Aim
-  for_faults : Context → Aim
-
--- the fault of the first start tag that is refused for what it means
-abbrev pub refused_for : Aim → List Sign → Option Fault
-refused_for (for_triples context address) = refused_in context []
-refused_for (for_items address) = refuses_none
-refused_for (for_faults context) = refused_in context []
-
--- how a page of this syntax is read for it
-abbrev pub way_for : Syntax → Aim → Way
-way_for syntax aim = record { syntax = syntax; limits = standard; refused = refused_for aim }
 
 -- the reader, which was made for this, stands where these bytes of a page lead
 abbrev pub Reached : Syntax → Aim → Pass → List ℕ → Type 0
@@ -80,10 +45,6 @@ Reached syntax (for_faults context) (reader.Checks v) bytes = check.CheckStands 
 abbrev pub FeedGives : Syntax → Aim → List ℕ → List ℕ → Result (Unit {0}) Stop → Pass → Type 0
 FeedGives syntax aim bytes piece (Ok done) new = Reached syntax aim new (bytes ++ piece)
 FeedGives syntax aim bytes piece (Err why) new = StopGives (way_for syntax aim) (bytes ++ piece) why
-
--- the bytes have this fault, the first of their form and of what their tags mean
-abbrev pub HasFirst : Way → List ℕ → Fault → Type 0
-HasFirst way bytes fault = Refuses way bytes fault
 
 -- A byte of the piece decides the fault, whatever follows.
 pub record Decides (way : Way) (bytes piece : List ℕ) (fault : Fault) : Type 0 where
@@ -123,18 +84,6 @@ EndFails way bytes error.NoMemory = Unit {0}
 abbrev pub EndGives : {A : Type 0} → Way → (List ℕ → A → Type 0) → List ℕ → Result A InputError → Type 0
 EndGives way holds bytes (Ok given) = holds bytes given
 EndGives way holds bytes (Err why) = EndFails way bytes why
-
--- the bytes are a page with this list of triples
-abbrev pub GivesList : Syntax → Context → Chars → List ℕ → List CodeTriple → Type 0
-GivesList syntax context address bytes list = Ended (setting_for syntax context) address bytes list
-
--- the bytes are a page with these items
-abbrev pub GivesItems : Syntax → Chars → List ℕ → Kept → Type 0
-GivesItems syntax address bytes found = item.Ended (item_setting_for syntax address) bytes found
-
--- the bytes are a page of which no start tag is refused
-abbrev pub GivesRight : Syntax → Context → List ℕ → Unit {0} → Type 0
-GivesRight syntax context bytes done = Accepted (setting_for syntax context) bytes
 
 -- whatever the reader was made for, this holds where it is before the first byte of a page
 abbrev pub FromStart : Pass → (Syntax → Aim → Type 0) → Type 0

@@ -7,7 +7,7 @@ use Rattle.rx_nquads.specs.Graphs.{lent_name}
 use Rattle.rx_job.specs.Words.{Extraction, Task, extracts, itemizes}
 use Rattle.rx_job.specs.declared.formats.Format.{Format}
 use Rattle.rx_nest.specs.Ways.{Way}
-use Rattle.rx_command.specs.Reading.{for_triples, way_for, GivesList}
+use Rattle.rx_page.specs.Aims.{for_triples, way_for, GivesList}
 use Rattle.rx_command.specs.declared.pages.Approach.{Approach}
 use denote.Ref.{Bor}
 

@@ -8,15 +8,15 @@ ghost use Rattle.rx_command.specs.Gathering.{AddsPage, AddsPages, GathersPages, 
 ghost use Rattle.rx_command.specs.Inputs.{WhereTold};
 ghost use Rattle.rx_command.specs.Outcome.{LacksOne, LacksPage};
 ghost use Rattle.rx_command.specs.Calls.{FailedOr, FailedOrLacks};
-ghost use Rattle.rx_command.specs.Written.{graph_made};
+ghost use Rattle.rx_page.specs.Written.{graph_made};
 
 use crate::errors::InputError;
 use crate::inputs::read_context;
-use crate::outcomes::graph_of;
 use crate::pages::{Approach, new_piece, read_page_by};
 use rx_job::{Pages, Several};
 use rx_many::Many;
 use rx_names::Context;
+use rx_page::graph_of;
 use rx_ports::Shelf;
 use rx_terms::{Iri, NoMemory, Text, TripleList};
 use rx_walk::{Fault, Syntax};

@@ -5,7 +5,7 @@ ghost use Rattle.rx_job.specs.Words.{checks};
 ghost use Rattle.rx_job.specs.Jobs.{page_by, reads_page, has_context, text_in};
 ghost use Rattle.rx_command.specs.Files.{TakesOf};
 ghost use Rattle.rx_rdfa.specs.Names.{Context as RulesContext};
-ghost use Rattle.rx_command.specs.Reading.{for_items, for_faults, way_for};
+ghost use Rattle.rx_page.specs.Aims.{for_items, for_faults, way_for};
 ghost use Rattle.rx_command.specs.Ways.{way_of, extracts_by, itemizes_by};
 ghost use Rattle.rx_command.specs.Contexts.{IsContextFile, IsFileOf, ReadsContext, TakesContext, LacksContext, HasOther};
 ghost use Rattle.rx_command.specs.Outcome.{IsLacking};
@@ -15,19 +15,14 @@ ghost use Rattle.rx_command.specs.Calls.{GivesBy, GivesText, RefusesBy, RefusesP
 
 use crate::errors::InputError;
 use crate::files::{ReadError, read_file};
-use crate::forms::Form;
-use crate::json_texts::text_of_items;
-use crate::outcomes::Outcome;
 use crate::pages::{Approach, check_page, read_items, read_page};
 use rx_job::{Format, Job};
 use rx_names::{Context, ContextError};
+use rx_page::{Form, LARGEST_CONTEXT, Outcome, text_of_items};
 use rx_ports::Shelf;
 use rx_terms::{Iri, Text};
 use rx_walk::{Fault, Stop, Syntax};
 use std::alloc::Global;
-
-/// The most bytes that a context file has.
-pub const LARGEST_CONTEXT: usize = 65_536;
 
 /// What the job's page gives, which is read after the context file, where one is named.
 pub(crate) fn outcome_of_job<F: Shelf>(

@@ -2,7 +2,8 @@
 ghost use Rattle.std.specs.Prelude.{◌≡◌, ◌<◌, ◌≤◌, IfOk, IsErrOf, length, vec_len};
 ghost use Rattle.rx_ports.specs.Counts.{Rose};
 ghost use Rattle.rx_ports.specs.Shelves.{WhereKnown};
-ghost use Rattle.rx_command.specs.Reading.{for_items, for_faults, way_for, Starts, MakesTriples, FindsItems, FindsFaults, ReadsNext, GivesItems, GivesRight, FileGives, PageGives, TakesToFirst, FromStart, EndsWithList, EndsWithItems, EndsRight};
+ghost use Rattle.rx_page.specs.Aims.{for_items, for_faults, way_for, GivesItems, GivesRight};
+ghost use Rattle.rx_command.specs.Reading.{Starts, MakesTriples, FindsItems, FindsFaults, ReadsNext, FileGives, PageGives, TakesToFirst, FromStart, EndsWithList, EndsWithItems, EndsRight};
 ghost use Rattle.rx_command.specs.Files.{TakesSome, TakesOf};
 ghost use Rattle.rx_command.specs.Ways.{way_of, GivesListOf};
 ghost use Rattle.rx_command.specs.Calls.{FailedOrLacks};

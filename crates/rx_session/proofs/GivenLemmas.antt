@@ -14,14 +14,13 @@ use Rattle.rx_rdfa.proofs.Whole.{written_denotes}
 use Rattle.rx_model.specs.Copied.{copied}
 use Rattle.rx_pages.proofs.Trees.{one_tree}
 use Rattle.rx_nquads.specs.Quads.{Quad, quads}
-use Rattle.rx_job.specs.declared.formats.Format.{Format}
-use Rattle.rx_job.specs.declared.formats.Format.TheVariants as format
 use Rattle.rx_job.specs.Words.{Extraction, extracts}
-use Rattle.rx_command.specs.Outcome.{IsAccepted, IsTextAs, DenotesAs, base_in, facts_in}
-use Rattle.rx_command.specs.Reading.{standard, GivesList}
-use Rattle.rx_command.specs.Written.{form_in, IsFormText, FormDenotes, graph_made}
-use Rattle.rx_command.proofs.MadeLemmas.{list_written}
-use Rattle.rx_command.proofs.OutcomeLemmas.{the_tree}
+use Rattle.rx_page.specs.Tasks.{IsAccepted, base_in, facts_in}
+use Rattle.rx_page.specs.Texts.{IsTextAs, DenotesAs}
+use Rattle.rx_page.specs.Aims.{standard, GivesList}
+use Rattle.rx_page.specs.Written.{form_in, IsFormText, FormDenotes, graph_made}
+use Rattle.rx_page.proofs.MadeLemmas.{list_written}
+use Rattle.rx_page.proofs.OutcomeLemmas.{the_tree}
 use Rattle.rx_quads.specs.Raised.{raised, AreFrom, past}
 use Rattle.rx_quads.specs.Listed.{Listed, quads_of}
 use Rattle.rx_quads.proofs.CountLemmas.{numbers_without_gaps, renamed_then}
@@ -32,24 +31,10 @@ use Rattle.rx_session.specs.declared.given.Given.{Given}
 use Rattle.rx_session.specs.declared.given.Given.TheVariants as given
 use Rattle.rx_session.specs.declared.outputs.Plan.{Plan}
 use Rattle.rx_session.specs.declared.outputs.Plan.TheVariants as plans
-use Rattle.rx_command.specs.declared.forms.Form.{Form}
+use Rattle.rx_page.specs.declared.forms.Form.{Form}
 use Rattle.std.specs.declared.alloc.Global.{Global}
-use Rattle.rx_command.proofs.TextLemmas.{one_text_as}
-
--- ---- a form writes what its format does
-
-module _ (graph : Option Chars) (context : Context) where
-  same_text : (f : Format) (list : List (Triple ℕ)) (text : List ℕ) → IsFormText (form_in f graph context) list text → IsTextAs f graph context list text
-  same_text format.Nquads list text is = is
-  same_text format.Turtle list text is = is
-  same_text format.Nested list text is = is
-  same_text format.Jsonld list text is = is
-
-  same_meaning : (f : Format) (text : List ℕ) (triples : List (Triple ℕ)) → FormDenotes (form_in f graph context) text triples → DenotesAs f graph text triples
-  same_meaning format.Nquads text triples d = d
-  same_meaning format.Turtle text triples d = d
-  same_meaning format.Nested text triples d = d
-  same_meaning format.Jsonld text triples d = d
+use Rattle.rx_page.proofs.FormLemmas.{same_text, same_meaning}
+use Rattle.rx_page.proofs.TextLemmas.{one_text_as}
 
 -- ---- a page has one text and one list of quads
 

@@ -9,9 +9,6 @@ use Rattle.rx_grammar.specs.Trees.{Tree}
 use Rattle.rx_rdfa.specs.Names.{Context}
 use Rattle.rx_grammar.specs.declared.stops.Stop.{Stop}
 use Rattle.rx_grammar.specs.declared.stops.Stop.TheVariants as stop
-use Rattle.rx_grammar.specs.PageFaults.{FaultAt}
-use Rattle.rx_nest.specs.Nests as nests
-use Rattle.rx_nest.specs.Faults.{for_form}
 use Rattle.rx_nest.specs.Readings.{Unfinished}
 use Rattle.rx_walk.specs.Settings.{Setting, way_of}
 use Rattle.rx_walk.specs.Walks as walks
@@ -20,14 +17,14 @@ use Rattle.rx_items.specs.Collecting.{Setting as ItemSetting}
 use Rattle.rx_items.specs.Walks as items
 use Rattle.rx_items.specs.declared.kept.Kept.{Kept}
 use Rattle.rx_job.specs.Words.{Task, Extraction, Itemization, extracts, itemizes, checks}
-use Rattle.rx_command.specs.Headline.{IsTheText}
-use Rattle.rx_command.specs.JsonTexts.{AreItems, JsonTextGives}
-use Rattle.rx_command.specs.Outcome.{HasItems, IsRight, ok_line}
-use Rattle.rx_command.specs.Reading.{standard, setting_for, item_setting_for, for_triples, for_items, for_faults, Aim, way_for, HasFirst}
-use Rattle.rx_command.proofs.OutcomeLemmas.{the_fault}
-use Rattle.rx_command.proofs.FaultLemmas.{no_meaning_in}
-use Rattle.rx_command.proofs.ReadLemmas.{IsRead, refuses_so, shown_read}
-use Rattle.rx_command.proofs.TextLemmas.{the_text}
+use Rattle.rx_page.specs.Outcomes.{IsTheText}
+use Rattle.rx_page.specs.JsonTexts.{AreItems, JsonTextGives}
+use Rattle.rx_page.specs.Tasks.{HasItems, IsRight}
+use Rattle.rx_page.specs.Texts.{ok_line}
+use Rattle.rx_page.specs.Aims.{setting_for, item_setting_for, for_triples, for_items, for_faults, way_for}
+use Rattle.rx_page.proofs.OutcomeLemmas.{the_fault}
+use Rattle.rx_page.proofs.FrontLemmas.{end_first, shown_read}
+use Rattle.rx_page.proofs.TextLemmas.{the_text}
 use Rattle.rx_session.specs.Wants.{plan_for}
 use Rattle.rx_session.specs.Works.{Reads, Takes, Ends}
 use Rattle.rx_session.specs.declared.given.Given.{Given}
@@ -68,10 +65,6 @@ feeds_check (checks syntax) first singly context old new bytes piece (Err (stop.
 feeds_check (checks syntax) first singly context old new bytes piece (Err stop.NoMemory) gives at = tt
 
 -- ---- the page's end
-
--- that they are no page is their first fault
-end_first : (syntax : Syntax) (aim : Aim) (bytes : List ℕ) (fault : Fault) → IsRead (way_for syntax aim) bytes → FaultAt syntax standard bytes fault → HasFirst (way_for syntax aim) bytes fault
-end_first syntax aim bytes fault i f = for_form f (λ other m. no_meaning_in (way_for syntax aim) (refuses_so aim) bytes i.now i.read i.accepted other m)
 
 pub walk_stops : (e : Extraction) (first : ℕ) (singly : Bool) (context : Context) (walk : walks.Walked) (bytes : List ℕ) (why : Stop) → walks.WalkStands (setting_for e.syntax context) e.address walk bytes
     → Unfinished (way_of (setting_for e.syntax context)) bytes why → Ends (extracts e) first singly context bytes (Err why)

@@ -8,9 +8,10 @@ use Rattle.rx_rdfa.specs.Whole.{written, graph_of}
 use Rattle.rx_grammar.specs.Trees.{Tree}
 use Rattle.rx_nquads.specs.Quads.{Quad, quads}
 use Rattle.rx_job.specs.Words.{Task, Extraction, extracts, itemizes, checks}
-use Rattle.rx_command.specs.Headline.{IsTheTree, IsTheText}
-use Rattle.rx_command.specs.Outcome.{IsAccepted, IsFormatText, Denotes, base_in, facts_in}
-use Rattle.rx_command.specs.Written.{IsFormText, FormDenotes}
+use Rattle.rx_page.specs.Outcomes.{IsTheTree, IsTheText}
+use Rattle.rx_page.specs.Tasks.{IsAccepted, Denotes, base_in, facts_in}
+use Rattle.rx_page.specs.Texts.{IsFormatText}
+use Rattle.rx_page.specs.Written.{IsFormText, FormDenotes}
 use Rattle.rx_quads.specs.Raised.{raised, AreFrom, past}
 use Rattle.rx_quads.specs.Listed.{Listed, Shows, quads_of}
 use Rattle.rx_quads.specs.declared.terms.ShownQuad.{ShownQuad}

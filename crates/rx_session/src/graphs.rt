@@ -1,7 +1,7 @@
 //! The graph of a page's triples.
 ghost use Rattle.std.specs.Prelude.{◌≡◌, IfOk};
 ghost use Rattle.rx_model.specs.Seen.{triples_seen};
-ghost use Rattle.rx_command.specs.Written.{graph_made};
+ghost use Rattle.rx_page.specs.Written.{graph_made};
 ghost use Rattle.rx_quads.specs.Raised.{raised, past};
 
 use rx_graph::{Graph, copy_patterns_owned, relabel_owned};

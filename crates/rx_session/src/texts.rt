@@ -1,13 +1,13 @@
 //! What a page gives, as a text in memory.
 ghost use Rattle.std.specs.Prelude.{◌≡◌, ◌++◌, IfOk, codes};
 ghost use Rattle.rx_model.specs.Seen.{triples_seen};
-ghost use Rattle.rx_command.specs.Outcome.{IsNestedText, IsJsonldText, JsonDenotes, ok_line};
-ghost use Rattle.rx_command.specs.Written.{IsFormText, FormDenotes};
-ghost use Rattle.rx_command.specs.declared.forms.Form.TheVariants as forms;
+ghost use Rattle.rx_page.specs.Texts.{IsNestedText, IsJsonldText, JsonDenotes, ok_line};
+ghost use Rattle.rx_page.specs.Written.{IsFormText, FormDenotes};
+ghost use Rattle.rx_page.specs.declared.forms.Form.TheVariants as forms;
 
-use rx_command::Form;
 use rx_graph::Graph;
 use rx_names::Context;
+use rx_page::Form;
 use rx_shapes::Shapes;
 use rx_terms::{Iri, NoMemory};
 use std::alloc::Global;

@@ -6,9 +6,9 @@ ghost use Rattle.rx_session.specs.Wants.{names_graphs};
 use crate::errors::OpenError;
 use crate::outputs::Output;
 use rx_chars::Syntax;
-use rx_command::LARGEST_CONTEXT;
 use rx_job::Format;
 use rx_names::{Context, ContextError};
+use rx_page::LARGEST_CONTEXT;
 use rx_terms::{Iri, IriError};
 use std::alloc::Global;
 

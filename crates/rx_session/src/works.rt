@@ -1,7 +1,7 @@
 //! A page that is being read, for its triples, for its items or for its faults.
 ghost use Rattle.std.specs.Prelude.{ℕ, List, IfOk};
 ghost use Rattle.rx_rdfa.specs.Names.{Context as RulesContext};
-ghost use Rattle.rx_command.specs.Written.{graph_made};
+ghost use Rattle.rx_page.specs.Written.{graph_made};
 ghost use Rattle.rx_session.specs.Given.{IsGiven};
 ghost use Rattle.rx_session.specs.Wants.{Want};
 ghost use Rattle.rx_session.specs.Works.{IsAt, PieceGives, EndGives, CheckEnds, ExtractionEnds, ItemizationEnds};
@@ -10,8 +10,8 @@ use crate::given::Given;
 use crate::graphs::{Counted, graph_of};
 use crate::outputs::Plan;
 use crate::texts::{right_text, text_of};
-use rx_command::text_of_items;
 use rx_items::ItemWalk;
+use rx_page::text_of_items;
 use rx_quads::Quads;
 use rx_terms::{NoMemory, TripleList};
 use rx_walk::{Check, Stop, Walk};

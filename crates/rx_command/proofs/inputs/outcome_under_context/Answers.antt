@@ -7,8 +7,9 @@ use Rattle.rx_job.specs.Words.{Asked, Task, Extraction}
 use Rattle.rx_job.specs.Jobs.{page_by}
 use Rattle.rx_command.specs.Files.{TakesOf}
 use Rattle.rx_nest.specs.Ways.{Way}
-use Rattle.rx_command.specs.Reading.{for_triples, for_faults, way_for, ReadsClean}
-use Rattle.rx_command.specs.Outcome.{way_in}
+use Rattle.rx_page.specs.Aims.{for_triples, for_faults, way_for}
+use Rattle.rx_command.specs.Reading.{ReadsClean}
+use Rattle.rx_page.specs.Tasks.{way_in}
 use Rattle.rx_command.specs.Inputs.{PageText, PageRefused, JobRefused}
 use Rattle.rx_command.specs.Runs.{TakesFiles, StopsCleanly}
 use Rattle.rx_command.proofs.InputLemmas.{takes_before, takes_both, if_job, job_refused, page_failed, context_stops, page_stops, for_extraction, for_check}

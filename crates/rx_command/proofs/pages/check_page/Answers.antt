@@ -1,5 +1,6 @@
-use Rattle.rx_command.specs.Reading.{for_faults, GivesRight}
-use Rattle.rx_command.proofs.ReadLemmas.{limits_are, start_checked, fed_ends}
+use Rattle.rx_page.specs.Aims.{for_faults, GivesRight}
+use Rattle.rx_page.proofs.FrontLemmas.{limits_are}
+use Rattle.rx_command.proofs.ReadLemmas.{start_checked, fed_ends}
 use Rattle.rx_command.proofs.pages.check_page.Goals as goal
 
 pub feed_file-requires : goal.feed_file-requires

@@ -1,6 +1,7 @@
 use Rattle.std.proofs.Common.{subst}
 use Rattle.rx_command.specs.declared.passes.Pass.{Pass}
-use Rattle.rx_command.specs.Reading.{setting_for, for_faults, Reached}
+use Rattle.rx_page.specs.Aims.{setting_for, for_faults}
+use Rattle.rx_command.specs.Reading.{Reached}
 use Rattle.rx_command.proofs.ReadLemmas.{end_refused}
 use Rattle.rx_command.proofs.pages.checked.Goals as goal
 

@@ -1,6 +1,7 @@
 use Rattle.std.proofs.Common.{arith}
 use Rattle.rx_ports.proofs.MoveLemmas.{moves_same}
-use Rattle.rx_command.specs.Reading.{way_for, TakesToFirst}
+use Rattle.rx_page.specs.Aims.{way_for}
+use Rattle.rx_command.specs.Reading.{TakesToFirst}
 use Rattle.rx_command.proofs.ReadLemmas.{unread_first}
 use Rattle.rx_command.proofs.pages.feed_file.Goals as goal
 

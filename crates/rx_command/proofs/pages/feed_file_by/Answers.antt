@@ -3,7 +3,8 @@ use Rattle.rx_ports.proofs.MoveLemmas.{moves_weaker, moves_then}
 use Rattle.rx_command.specs.Files.{HasRead, TakesOf}
 use Rattle.rx_command.specs.declared.errors.InputError.TheVariants.{Failed}
 use Rattle.rx_command.proofs.InputLemmas.{rose_before}
-use Rattle.rx_command.specs.Reading.{way_for, ReadsClean, TakesToFirst}
+use Rattle.rx_page.specs.Aims.{way_for}
+use Rattle.rx_command.specs.Reading.{ReadsClean, TakesToFirst}
 use Rattle.rx_command.proofs.FileLemmas.{read_start, takes_none, takes_more}
 use Rattle.rx_command.proofs.ReadLemmas.{more_so_far, not_longer, next_found, file_fed, unread_clean, unread_first, to_first}
 use Rattle.rx_command.proofs.pages.feed_file_by.Goals as goal

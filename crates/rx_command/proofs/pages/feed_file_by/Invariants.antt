@@ -1,6 +1,7 @@
 use Rattle.std.proofs.Common.{◌≤◌, ◌≡◌, ◌+◌, ◌-◌, [], length}
 use Rattle.rx_chars.specs.declared.syntax.Syntax.{Syntax}
-use Rattle.rx_command.specs.Reading.{Aim, Reached}
+use Rattle.rx_page.specs.Aims.{Aim}
+use Rattle.rx_command.specs.Reading.{Reached}
 use Rattle.rx_command.proofs.ReadLemmas.{SoFar}
 use Rattle.rx_command.proofs.pages.feed_file_by.Given as goal
 

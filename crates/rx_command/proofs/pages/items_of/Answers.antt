@@ -1,6 +1,7 @@
 use Rattle.std.proofs.Common.{subst}
 use Rattle.rx_command.specs.declared.passes.Pass.{Pass}
-use Rattle.rx_command.specs.Reading.{item_setting_for, for_items, Reached}
+use Rattle.rx_page.specs.Aims.{item_setting_for, for_items}
+use Rattle.rx_command.specs.Reading.{Reached}
 use Rattle.rx_command.proofs.ReadLemmas.{end_refused}
 use Rattle.rx_command.proofs.pages.items_of.Goals as goal
 

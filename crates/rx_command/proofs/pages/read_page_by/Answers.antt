@@ -1,8 +1,10 @@
 use Rattle.std.proofs.Common.{arith}
 use Rattle.rx_ports.proofs.MoveLemmas.{moves_same}
-use Rattle.rx_command.specs.Reading.{for_triples, GivesList, TakesToFirst}
+use Rattle.rx_page.specs.Aims.{for_triples, GivesList}
+use Rattle.rx_command.specs.Reading.{TakesToFirst}
 use Rattle.rx_command.specs.Ways.{way_of}
-use Rattle.rx_command.proofs.ReadLemmas.{limits_are, start_reached, fed_ends, unread_first}
+use Rattle.rx_page.proofs.FrontLemmas.{limits_are}
+use Rattle.rx_command.proofs.ReadLemmas.{start_reached, fed_ends, unread_first}
 use Rattle.rx_command.proofs.pages.read_page_by.Goals as goal
 
 pub feed_file_by-requires-clause-starts : goal.feed_file_by-requires-clause-starts

@@ -3,7 +3,7 @@ use Rattle.rx_ports.specs.Shelves.{WhereKnown}
 use Rattle.rx_command.specs.Outcome.{HasPageFault}
 use Rattle.rx_job.specs.Jobs.{page_by}
 use Rattle.rx_command.specs.Runs.{TakesToFault}
-use Rattle.rx_command.specs.Written.{text_of}
+use Rattle.rx_page.specs.Written.{text_of}
 use Rattle.rx_job.specs.Words.{page_asked}
 use Rattle.rx_grammar.specs.declared.faults.Fault.{Fault}
 use Rattle.rx_command.specs.declared.statuses.Status.TheVariants.{Refused}

@@ -1,6 +1,7 @@
 use Rattle.std.proofs.Common.{subst}
 use Rattle.rx_command.specs.declared.passes.Pass.{Pass}
-use Rattle.rx_command.specs.Reading.{setting_for, item_setting_for, Reached}
+use Rattle.rx_page.specs.Aims.{setting_for, item_setting_for}
+use Rattle.rx_command.specs.Reading.{Reached}
 use Rattle.rx_command.proofs.ReadLemmas.{feeds_walk, feeds_items, feeds_check}
 use Rattle.rx_command.proofs.passes.Pass.feed.Goals as goal
 

@@ -1,0 +1,8 @@
+pub mod KindLemmas
+pub mod OutcomeLemmas
+pub mod TextLemmas
+pub mod FaultLemmas
+pub mod FrontLemmas
+pub mod MadeLemmas
+pub mod ItemLemmas
+pub mod FormLemmas

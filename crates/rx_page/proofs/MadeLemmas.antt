@@ -1,0 +1,30 @@
+-- The list that a walk gives is written as the rules have it.
+use Rattle.std.proofs.Common.{◌≡◌, ◌∙◌, ℕ, nat_eq, List, ap}
+use Rattle.rx_terms.specs.Text.{Chars}
+use Rattle.rx_terms.specs.declared.triples.Triple.{Triple as CodeTriple}
+use Rattle.rx_model.specs.Copied.{copied}
+use Rattle.rx_model.specs.Numbered.{numbered}
+use Rattle.rx_model.specs.Seen.{triples_seen}
+use Rattle.rx_model.specs.Terms.{Triple}
+use Rattle.rx_model.proofs.Names.{names_do_not_matter}
+use Rattle.rx_rdfa.specs.Blanks.{same_bnode, model}
+use Rattle.rx_rdfa.specs.Facts.{Facts}
+use Rattle.rx_rdfa.specs.Made.{made}
+use Rattle.rx_rdfa.specs.Names.{Context}
+use Rattle.rx_rdfa.specs.Tree.{Nodes}
+use Rattle.rx_rdfa.specs.Whole.{written}
+use Rattle.rx_rdfa.proofs.Exact.{exact_bnodes}
+use Rattle.rx_grammar.specs.Trees.{Tree}
+use Rattle.rx_eval.specs.Numbering.{Numbering}
+use Rattle.rx_eval.specs.Standing.{Makes, number_in}
+use Rattle.rx_walk.specs.Walks.{IsMade}
+use Rattle.rx_page.specs.Tasks.{base_in, facts_in}
+
+-- what is written of a list with numbers in place of the rules' blank nodes
+pub written_so : (to : Numbering) (base : Chars) (tree : Nodes Facts) (triples : List (Triple ℕ)) → Makes to base tree triples → numbered nat_eq (copied nat_eq triples) ≡ written base tree
+written_so to base tree triples m =
+    ap (λ xs. numbered nat_eq (copied nat_eq xs)) m.list ∙ names_do_not_matter same_bnode exact_bnodes (made model base tree) (number_in to) m.one_to_one
+
+-- what is written of the list that a walk gives is what the rules have written of the page's tree
+pub list_written : (address : Chars) (context : Context) (tree : Tree) (list : List CodeTriple) → IsMade context address tree list → numbered nat_eq (copied nat_eq (triples_seen list)) ≡ written (base_in address tree) (facts_in context tree)
+list_written address context tree list m = written_so m.to (base_in address tree) (facts_in context tree) (triples_seen list) m.makes
