@@ -7,6 +7,7 @@ module _ (u v : Underway) (held kept : List ℕ) (f g : ℕ) (bytes : List ℕ) 
   begun fine = record {
     told = record { same = refl; taken = λ before after e d. let is : after ≡ before = cc in subst (λ (b : Bool). SentBut b u.waiting u.waiting before after) (sym fine) ([], is ∙ sym (append-nil before), refl) };
     later = omega arith;
+    steady = λ still. refl;
     cause = λ failed. absurd (cc);
   }
 

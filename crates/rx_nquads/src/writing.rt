@@ -35,6 +35,7 @@ pub fn write<S: Sink>(
     ensures cause { IsErrOf result WriteError.Failed → Rose (S.faults sink.old) (S.faults sink.new) }
     ensures untouched { IsErrOf result WriteError.NoMemory → sink.new ≡ sink.old }
     ensures later { S.faults sink.old ≤ S.faults sink.new }
+    ensures steady { OnOk result (S.faults sink.new ≡ S.faults sink.old) }
 {
     let mut pieces = Pieces::new(alloc)?;
     push_lines(&mut pieces, sink, graph, name);

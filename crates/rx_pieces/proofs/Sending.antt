@@ -58,6 +58,7 @@ lost {start} {before} {text} {now} more failed s = record {
       let part : GrowsByPart text x y = subst (λ (b : Bool). SentBut b now.underway.waiting text x y) failed p in
       subst (λ (b : Bool). SentBut b now.underway.waiting (text ++ more) x y) (sym failed) (part_longer text more x y part)) s.told;
   later = s.later;
+  steady = s.steady;
   cause = s.cause;
 }
 
@@ -71,16 +72,18 @@ kept old new held faults bytes e = subst (λ (u : Underway). AddsBytes (delivery
   stands = λ start before text s. record {
     told = moves_weaker _ (more_waits old.failed old.waiting text bytes) s.told;
     later = s.later;
+    steady = s.steady;
     cause = s.cause;
   };
 })
 
 module _ (now : Underway) (held next : Option (List ℕ)) (faults after : ℕ) (fine : now.failed ≡ false) (later : faults ≤ after) where
-  sent_whole : WhereKnown (GrowsBy now.waiting) held next → AddsBytes (delivery now held faults) (delivery (nothing_waits false) next after) []
-  sent_whole moves = record {
+  sent_whole : WhereKnown (GrowsBy now.waiting) held next → after ≡ faults → AddsBytes (delivery now held faults) (delivery (nothing_waits false) next after) []
+  sent_whole moves same = record {
     stands = λ start before text s. stands_by (sym (append-nil text)) (record {
       told = moves_then _ (λ x y z p q. all_sent now.waiting text x y z (subst (λ (b : Bool). SentBut b now.waiting text x y) fine p) q) s.told moves;
       later = omega (arith, s.later, later);
+      steady = λ e. same ∙ s.steady fine;
       cause = λ e. absurd (cc);
     });
   }
@@ -90,15 +93,16 @@ module _ (now : Underway) (held next : Option (List ℕ)) (faults after : ℕ) (
     stands = λ start before text s. stands_by (sym (append-nil text)) (record {
       told = moves_then _ (λ x y z p q. part_sent now.waiting text x y z (subst (λ (b : Bool). SentBut b now.waiting text x y) fine p) q) s.told moves;
       later = omega (arith, s.later, later);
+      steady = λ e. absurd (cc);
       cause = λ _. later_rose before faults after s.later rose;
     });
   }
 
   -- what waited was given to the sink
-  pub sent : (r : Result (Unit {0}) Failed) → OnOk r (WhereKnown (GrowsBy now.waiting) held next) → OnErr r (WhereKnown (GrowsByPart now.waiting) held next) → OnErr r (Rose faults after)
+  pub sent : (r : Result (Unit {0}) Failed) → OnOk r (WhereKnown (GrowsBy now.waiting) held next) → OnErr r (WhereKnown (GrowsByPart now.waiting) held next) → OnOk r (after ≡ faults) → OnErr r (Rose faults after)
       → AddsBytes (delivery now held faults) (delivery (nothing_waits (is_err r)) next after) []
-  sent (Ok u) whole part rose = sent_whole whole
-  sent (Err f) whole part rose = sent_part part rose
+  sent (Ok u) whole part same rose = sent_whole whole same
+  sent (Err f) whole part same rose = sent_part part rose
 
 -- a sink that failed is given nothing
 pub sent_nothing : (now : Underway) (held : Option (List ℕ)) (faults : ℕ) → now.failed ≡ true → AddsBytes (delivery now held faults) (delivery (nothing_waits true) held faults) []
@@ -106,6 +110,7 @@ sent_nothing now held faults failed = record {
   stands = λ start before text s. stands_by (sym (append-nil text)) (record {
     told = subst (λ (b : Bool). WhereKnown (SentBut b now.waiting text) start held) failed s.told;
     later = s.later;
+    steady = λ e. absurd (cc);
     cause = λ _. s.cause failed;
   });
 }
@@ -138,6 +143,7 @@ start_stands : (first : Underway) (held : Option (List ℕ)) (faults : ℕ) → 
 start_stands first held faults e = subst (λ (u : Underway). IsUnderway held faults [] (delivery u held faults)) (sym e) (record {
   told = moves_same _ (λ x. ([], sym (append-nil x), refl)) held;
   later = omega arith;
+  steady = λ f. refl;
   cause = λ f. absurd (cc);
 })
 

@@ -41,6 +41,7 @@ SentBut false waiting text old new = (sent : List ℕ) × (new ≡ old ++ sent) 
 pub record IsUnderway (start : Option (List ℕ)) (before : ℕ) (text : List ℕ) (now : Delivery) : Type 0 where
   pub told : WhereKnown (SentBut now.underway.failed now.underway.waiting text) start now.held
   pub later : before ≤ now.faults
+  pub steady : now.underway.failed ≡ false → now.faults ≡ before
   pub cause : now.underway.failed ≡ true → Rose before now.faults
 
 -- the bytes were handed over, whatever was before

@@ -1,5 +1,5 @@
 //! A shelf in memory.
-ghost use Rattle.std.specs.Prelude.{◌≡◌, ◌+◌, ◌^◌, ◌<◌, ◌≤◌, ◌⊎◌, IfOk, OnErr, MatchResult, Some, length, take};
+ghost use Rattle.std.specs.Prelude.{◌≡◌, ◌+◌, ◌^◌, ◌<◌, ◌≤◌, ◌⊎◌, IfOk, OnOk, OnErr, MatchResult, Some, length, take};
 ghost use Rattle.rx_ports.specs.Counts.{Rose, raised};
 ghost use Rattle.rx_ports.specs.Shelves.{WhereKnown, Starts, Reads, Lacks};
 ghost use Rattle.rx_ports.specs.MemShelf.{MemoryShelf, new_shelf, told_by, after_start, start_gives, after_read, read_gives, left_of, IsPlace};
@@ -85,6 +85,7 @@ impl Shelf for MemShelf {
         ensures state { self.new ≡ after_start self.old name.now }
         ensures told { WhereKnown (Starts name.now result) (Some (told_by self.old)) (Some (told_by self.new)) }
         ensures later { self.old.faults ≤ self.new.faults }
+        ensures steady { OnOk result (self.new.faults ≡ self.old.faults) }
         ensures cause { OnErr result (Rose self.old.faults self.new.faults ⊎ Lacks (Some (told_by self.old)) name.now) }
     {
         self.calls = raise(self.calls);
@@ -109,6 +110,7 @@ impl Shelf for MemShelf {
         ensures bound { IfOk result (λ n. n ≤ length buf.new) }
         ensures told { WhereKnown (Reads buf.new result) (Some (told_by self.old)) (Some (told_by self.new)) }
         ensures later { self.old.faults ≤ self.new.faults }
+        ensures steady { OnOk result (self.new.faults ≡ self.old.faults) }
         ensures cause { OnErr result (Rose self.old.faults self.new.faults) }
     {
         self.calls = raise(self.calls);

@@ -1,5 +1,5 @@
 //! A sink in memory.
-ghost use Rattle.std.specs.Prelude.{◌≡◌, ◌<◌, ◌≤◌, IfOk, OnErr, Some};
+ghost use Rattle.std.specs.Prelude.{◌≡◌, ◌<◌, ◌≤◌, IfOk, OnOk, OnErr, Some};
 ghost use Rattle.rx_ports.specs.Counts.{Rose, raised};
 ghost use Rattle.rx_ports.specs.Shelves.{WhereKnown, Takes, IsProgress};
 ghost use Rattle.rx_ports.specs.MemSink.{MemorySink, new_sink, after_write, write_gives};
@@ -85,6 +85,7 @@ impl Sink for MemSink {
         ensures bound { IfOk result (IsProgress piece.now) }
         ensures held { WhereKnown (Takes piece.now result) (Some self.old.held) (Some self.new.held) }
         ensures later { self.old.faults ≤ self.new.faults }
+        ensures steady { OnOk result (self.new.faults ≡ self.old.faults) }
         ensures cause { OnErr result (Rose self.old.faults self.new.faults) }
     {
         self.calls = raise(self.calls);

@@ -1,5 +1,5 @@
 //! A shelf of files.
-ghost use Rattle.std.specs.Prelude.{◌≤◌, ◌⊎◌, ℕ, IfOk, OnErr, Option, length};
+ghost use Rattle.std.specs.Prelude.{◌≡◌, ◌≤◌, ◌⊎◌, ℕ, IfOk, OnOk, OnErr, Option, length};
 ghost use Rattle.rx_ports.specs.Counts.{Rose};
 ghost use Rattle.rx_ports.specs.Shelves.{ShelfContent, WhereKnown, Starts, Reads, Lacks};
 
@@ -11,7 +11,7 @@ pub struct Failed;
 ///
 /// A contract sees what the shelf tells of itself: its files, the bytes of the started file that are left, and how
 /// many bytes all reads have given. A shelf tells all of these or none, always. It sees besides a count of faults,
-/// which never falls.
+/// which never falls, and rises only in a call that fails.
 pub trait Shelf {
     ghost told: { Self → Option ShelfContent };
 
@@ -22,6 +22,7 @@ pub trait Shelf {
     fn start_file(&mut self, name: &str) -> Result<(), Failed>
         ensures told { WhereKnown (Starts name.now result) (told self.old) (told self.new) }
         ensures later { faults self.old ≤ faults self.new }
+        ensures steady { OnOk result (faults self.new ≡ faults self.old) }
         ensures cause { OnErr result (Rose (faults self.old) (faults self.new) ⊎ Lacks (told self.old) name.now) };
 
     /// Reads the next bytes into the front of the buffer, and answers how many. For a buffer that isn't empty, 0 is
@@ -30,5 +31,6 @@ pub trait Shelf {
         ensures bound { IfOk result (λ n. n ≤ length buf.new) }
         ensures told { WhereKnown (Reads buf.new result) (told self.old) (told self.new) }
         ensures later { faults self.old ≤ faults self.new }
+        ensures steady { OnOk result (faults self.new ≡ faults self.old) }
         ensures cause { OnErr result (Rose (faults self.old) (faults self.new)) };
 }

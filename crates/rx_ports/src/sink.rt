@@ -1,5 +1,5 @@
 //! A sink of bytes.
-ghost use Rattle.std.specs.Prelude.{◌≤◌, ℕ, List, IfOk, OnErr, Option};
+ghost use Rattle.std.specs.Prelude.{◌≡◌, ◌≤◌, ℕ, List, IfOk, OnOk, OnErr, Option};
 ghost use Rattle.rx_ports.specs.Counts.{Rose};
 ghost use Rattle.rx_ports.specs.Shelves.{WhereKnown, Takes, IsProgress};
 
@@ -7,7 +7,8 @@ use crate::shelf::Failed;
 
 /// Where bytes are written.
 ///
-/// A contract sees the bytes that the sink holds, where it tells them, and a count of faults, which never falls.
+/// A contract sees the bytes that the sink holds, where it tells them, and a count of faults, which never falls, and
+/// rises only in a call that fails.
 /// Whether it tells what it holds never changes.
 pub trait Sink {
     ghost held: { Self → Option (List ℕ) };
@@ -20,5 +21,6 @@ pub trait Sink {
         ensures bound { IfOk result (IsProgress piece.now) }
         ensures held { WhereKnown (Takes piece.now result) (held self.old) (held self.new) }
         ensures later { faults self.old ≤ faults self.new }
+        ensures steady { OnOk result (faults self.new ≡ faults self.old) }
         ensures cause { OnErr result (Rose (faults self.old) (faults self.new)) };
 }

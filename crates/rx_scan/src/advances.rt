@@ -3,7 +3,7 @@ ghost use Rattle.std.specs.Prelude.{◌+◌, ◌<◌, ◌^◌, IsOk};
 ghost use Rattle.rx_scan.specs.Entries as entries;
 ghost use Rattle.rx_tags.specs.TagBufs.{MayStep};
 
-use crate::answers::What;
+use crate::answers::TokenKind;
 use crate::marks::{Brackets, Move, TokenState};
 use crate::readers::Reader;
 use rx_chars::Utf8;

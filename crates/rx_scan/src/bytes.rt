@@ -7,9 +7,9 @@ ghost use Rattle.rx_scan.specs.Entries as entries;
 ghost use Rattle.rx_scan.specs.declared.places.Setting.{Setting};
 ghost use Rattle.rx_tags.specs.TagBufs.{MayStep};
 
-use crate::answers::What;
+use crate::answers::TokenKind;
 use crate::known_tags::{is_tag, is_tag_with};
-use crate::marks::Mark;
+use crate::marks::TokenState;
 use crate::places::{Position, reaches};
 use crate::readers::Reader;
 use rx_chars::{Utf8, Utf8Step};

@@ -3,7 +3,7 @@ ghost use Rattle.std.specs.Prelude.{◌≡◌, ◌+◌, ◌<◌, ◌^◌};
 ghost use Rattle.rx_scan.specs.Entries as entries;
 ghost use Rattle.rx_tags.specs.TagBufs.{MayStep};
 
-use crate::answers::What;
+use crate::answers::TokenKind;
 use crate::marks::{First, Move, TokenState};
 use crate::readers::Reader;
 use crate::settings::is_bracket;

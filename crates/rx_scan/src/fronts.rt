@@ -6,7 +6,7 @@ ghost use Rattle.rx_scan.specs.Openings.{OpensFront, OpensTag, TakesFront};
 ghost use Rattle.rx_scan.specs.declared.places.Setting.{Setting};
 
 use crate::bytes::is_of_tag;
-use crate::marks::Mark;
+use crate::marks::TokenState;
 use crate::plain::plain_text;
 use crate::readers::Reader;
 use crate::runs::ROOM;

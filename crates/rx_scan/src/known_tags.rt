@@ -3,7 +3,7 @@ ghost use Rattle.std.specs.Prelude.{◌≡◌, slice_get};
 ghost use Rattle.rx_scan.specs.KnownTags as known;
 ghost use Rattle.rx_scan.specs.Marks as marks;
 
-use crate::marks::Mark;
+use crate::marks::TokenState;
 use crate::raw_ends::end_word;
 use crate::words::char_at;
 use rx_chars::Syntax;

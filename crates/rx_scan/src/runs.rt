@@ -5,8 +5,8 @@ ghost use Rattle.rx_tags.specs.TagBufs.{MayStep};
 ghost use Rattle.rx_scan.specs.Entries.{IsNoMemory, LiesAt};
 ghost use Rattle.rx_scan.specs.Steps.{ReadsAs, Runs, RunsReady, RunsTake, is_quiet, is_tag, is_token, stopped_at};
 
-use crate::answers::What;
-use crate::marks::Mark;
+use crate::answers::TokenKind;
+use crate::marks::TokenState;
 use crate::readers::Reader;
 use rx_tags::Stop;
 

@@ -3,7 +3,7 @@ ghost use Rattle.std.specs.Prelude.{◌≡◌, true, false, IfOk};
 
 use crate::answers::{Token, TokenKind};
 use crate::buffers::Buffer;
-use crate::marks::Mark;
+use crate::marks::TokenState;
 use crate::pending::Unfinished;
 use crate::places::{Position, Setting};
 use crate::readers::Reader;

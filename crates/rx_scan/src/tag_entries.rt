@@ -4,8 +4,8 @@ ghost use Rattle.rx_reader.specs.Tables.{is_last};
 ghost use Rattle.rx_scan.specs.Entries as entries;
 ghost use Rattle.rx_tags.specs.TagBufs.{MayStep};
 
-use crate::answers::What;
-use crate::marks::Mark;
+use crate::answers::TokenKind;
+use crate::marks::TokenState;
 use crate::readers::Reader;
 use rx_chars::Utf8;
 use rx_grammar::{Fault, Kind};

@@ -37,6 +37,7 @@ pub fn write_nested<S: Sink>(
     ensures cause { IsErrOf result WriteError.Failed → Rose (S.faults sink.old) (S.faults sink.new) }
     ensures untouched { IsErrOf result WriteError.NoMemory → sink.new ≡ sink.old }
     ensures later { S.faults sink.old ≤ S.faults sink.new }
+    ensures steady { OnOk result (S.faults sink.new ≡ S.faults sink.old) }
 {
     let plan = NestedPlan::of(alloc, graph, shapes, context)?;
     let Ok(mut pieces) = Pieces::new(alloc) else {

@@ -33,6 +33,7 @@ pub fn write<S: Sink>(
     ensures cause { IsErrOf result WriteError.Failed → Rose (S.faults sink.old) (S.faults sink.new) }
     ensures untouched { IsErrOf result WriteError.NoMemory → sink.new ≡ sink.old }
     ensures later { S.faults sink.old ≤ S.faults sink.new }
+    ensures steady { OnOk result (S.faults sink.new ≡ S.faults sink.old) }
 {
     let plan = Plan::of(alloc, graph, context)?;
     let Ok(mut pieces) = Pieces::new(alloc) else {

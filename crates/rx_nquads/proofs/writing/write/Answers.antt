@@ -8,6 +8,9 @@ returns-clause-ok g c = whole_sent _ (end_stands c.in_ok-pieces.ensures c.push_l
 pub returns-clause-later : goal.returns-clause-later
 returns-clause-later g c = (end_stands c.in_ok-pieces.ensures c.push_lines.ensures.adds.bytes c.in_ok-send.ensures.adds).later
 
+pub returns-clause-steady : goal.returns-clause-steady
+returns-clause-steady g c = (end_stands c.in_ok-pieces.ensures c.push_lines.ensures.adds.bytes c.in_ok-send.ensures.adds).steady refl
+
 pub returns-in_err-send-clause-partly : goal.returns-in_err-send-clause-partly
 returns-in_err-send-clause-partly g c = λ _. (end_stands c.in_ok-pieces.ensures c.push_lines.ensures.adds.bytes c.in_err-send.ensures.adds).told
 

@@ -14,9 +14,15 @@ pub loop-at-preserved : goal.loop-at-preserved
 loop-at-preserved g c = record {
   within = omega (arith, c.in-Ok.ensures.bound.0, length-drop c.loop-at.at c.args.piece.now);
   grown = moves_then _ (λ x y z p q. further c.loop-at.at c.in-Ok.count c.args.piece.now x y z p q) c.loop-at.invariant.grown c.in-Ok.ensures.held;
-  later = omega (arith, c.loop-at.invariant.later, c.in-Ok.ensures.later);
+  steady = c.in-Ok.ensures.steady ∙ c.loop-at.invariant.steady;
 }
 
 pub returns-in-Err-clause-err : goal.returns-in-Err-clause-err
 returns-in-Err-clause-err g c =
     moves_then _ (λ x y z p q. (c.loop-at.at, c.loop-at-test.true, q ∙ p)) c.loop-at.invariant.grown c.in-Err.ensures.held
+
+pub returns-in-Err-clause-later : goal.returns-in-Err-clause-later
+returns-in-Err-clause-later g c = omega (arith, c.loop-at.invariant.steady, c.in-Err.ensures.later)
+
+pub returns-in-Err-clause-cause : goal.returns-in-Err-clause-cause
+returns-in-Err-clause-cause g c = omega (arith, c.loop-at.invariant.steady, c.in-Err.ensures.cause)

@@ -9,6 +9,9 @@ returns-clause-ok g c = whole_sent _ (end_stands c.in-Ok.ensures (adds_by c.in_o
 pub returns-clause-later : goal.returns-clause-later
 returns-clause-later g c = (end_stands c.in-Ok.ensures (adds_by c.in_ok-plan.ensures.text c.push_plan.ensures).bytes c.in_ok-send.ensures.adds).later
 
+pub returns-clause-steady : goal.returns-clause-steady
+returns-clause-steady g c = (end_stands c.in-Ok.ensures (adds_by c.in_ok-plan.ensures.text c.push_plan.ensures).bytes c.in_ok-send.ensures.adds).steady refl
+
 pub returns-in_err-send-clause-partly : goal.returns-in_err-send-clause-partly
 returns-in_err-send-clause-partly g c = λ _. (end_stands c.in-Ok.ensures (adds_by c.in_ok-plan.ensures.text c.push_plan.ensures).bytes c.in_err-send.ensures.adds).told
 

@@ -8,4 +8,4 @@ pub returns-clause-adds : goal.returns-clause-adds
 returns-clause-adds g c =
     let p = c.put_all in
     let waiting = c.as_slice.ensures.value in
-    rw (← c.self.view_is) (sent _ _ _ _ _ c.if-self.false p.ensures.later p.result (rw waiting at p.ensures.ok) (rw waiting at p.ensures.err) p.ensures.cause)
+    rw (← c.self.view_is) (sent _ _ _ _ _ c.if-self.false p.ensures.later p.result (rw waiting at p.ensures.ok) (rw waiting at p.ensures.err) p.ensures.steady p.ensures.cause)
