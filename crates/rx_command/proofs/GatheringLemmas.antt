@@ -20,7 +20,7 @@ use Rattle.rx_many.specs.Pages.{Page, Judgement, refused, accepted, refused_page
 use Rattle.rx_job.specs.Words.{Gathering, Listed}
 use Rattle.rx_nest.specs.Ways.{Way}
 use Rattle.rx_command.specs.declared.pages.Approach.{Approach}
-use Rattle.rx_page.specs.Aims.{HasFirst, GivesList}
+use Rattle.rx_page.specs.Settings.{rdfa_way, HasFirst, GivesList}
 use Rattle.rx_command.specs.Reading.{ReadsWhole, Finds, TakesToFirst}
 use Rattle.rx_command.specs.Files.{TakesOf, size_of}
 use Rattle.rx_command.specs.Contexts.{IsContext, LacksContext, TakesContext, ReadsContext}
@@ -28,7 +28,7 @@ use Rattle.rx_command.specs.Inputs.{TellsThat}
 use Rattle.rx_command.specs.Outcome.{LacksPage, LacksOne}
 use Rattle.rx_page.specs.Tasks.{base_in, facts_in}
 use Rattle.rx_command.specs.Ways.{way_of}
-use Rattle.rx_command.specs.Gathering.{FileList, page_way, GivesTriples, GivesGraph, IsJudged, Judges, JudgesEach, IsPart, AreParts, total, TakesGathering, IsThat, TakesPart, TakesParts, ReadsListed, ReadsEach, AddsPage, AddsPages, GathersPages}
+use Rattle.rx_command.specs.Gathering.{FileList, GivesTriples, GivesGraph, IsJudged, Judges, JudgesEach, IsPart, AreParts, total, TakesGathering, IsThat, TakesPart, TakesParts, ReadsListed, ReadsEach, AddsPage, AddsPages, GathersPages}
 use Rattle.rx_command.proofs.InputLemmas.{one_context, has_context, rose_before}
 use Rattle.rx_page.proofs.MadeLemmas.{list_written}
 
@@ -138,7 +138,7 @@ module _ (a : Approach) (syntax : Syntax) (context : Context) (address page name
   same_approach : a ≡ record { syntax = syntax; context = context; address = address }
   same_approach = λ i. record { syntax = s i; context = k i; address = n i }
 
-  same_way : way_of a ≡ page_way syntax context address
+  same_way : way_of a ≡ rdfa_way syntax context
   same_way = ap (λ (b : Approach). way_of b) same_approach
 
   -- how much of it was read
@@ -152,7 +152,7 @@ module _ (a : Approach) (syntax : Syntax) (context : Context) (address page name
           size = omega (arith, t.file, size);
           most = omega (arith, t.most);
           to_fault = λ other h bytes g fault first.
-              let under : HasFirst (page_way syntax context address) bytes fault = subst (λ (c : Context). HasFirst (page_way syntax c address) bytes fault) (sym h) first in
+              let under : HasFirst (rdfa_way syntax context) bytes fault = subst (λ (c : Context). HasFirst (rdfa_way syntax c) bytes fault) (sym h) first in
               let here : HasFirst (way_of a) bytes fault = subst (λ (w : Way). HasFirst w bytes fault) (sym same_way) under in
               let most = f bytes (ap (λ z. file_of x.files z) named ∙ g) fault here in
               omega (arith, most);

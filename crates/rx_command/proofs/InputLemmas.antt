@@ -22,13 +22,14 @@ use Rattle.rx_nest.specs.Ways.{Way}
 use Rattle.rx_command.specs.declared.errors.InputError.{InputError}
 use Rattle.rx_command.specs.declared.errors.InputError.TheVariants as error
 use Rattle.rx_command.specs.Reading.{largest_piece, page_limit, ReadsWhole, Finds, ReadsClean, IsClean, PageFails}
-use Rattle.rx_page.specs.Aims.{HasFirst, GivesList, GivesRight}
+use Rattle.rx_page.specs.Settings.{HasFirst, GivesList, GivesRight}
 use Rattle.rx_command.proofs.ReadLemmas.{unread_clean}
+use Rattle.rx_page.proofs.FrontLemmas.{refuses_so}
 use Rattle.rx_command.specs.Files.{ReadsFile, TakesOf, size_of}
 use Rattle.rx_command.specs.Contexts.{IsContextFile, IsFileOf, IsContext, HasContext, TakesContext, ReadsContext, context_size}
 use Rattle.rx_page.specs.Contexts.{is_context}
 use Rattle.rx_command.specs.Inputs.{PageText, PageRefused, JobText, JobRefused, TellsThat, WhereTold}
-use Rattle.rx_page.specs.Tasks.{IsRight, TaskRefuses, syntax_in, aim_in, way_in}
+use Rattle.rx_page.specs.Tasks.{IsRight, TaskRefuses, way_in}
 use Rattle.rx_command.specs.Outcome.{IsLacking, ReadsTo}
 use Rattle.rx_page.specs.Texts.{ok_line}
 use Rattle.rx_command.specs.Runs.{TakesFiles, StopsCleanly}
@@ -254,7 +255,7 @@ page_failed told mid asked file context name a b c e named m low (inr lacks) = i
 pub context_stops : (asked : Asked) (file : Option (List ℕ)) → file ≡ asked.context → (x y : ShelfContent) → TakesContext file x y → StopsCleanly (Some asked) x y
 context_stops asked file e x y t context holds bytes f =
     let m : TakesContext asked.context x y = subst (λ f. TakesContext f x y) e t in
-    let c = unread_clean (syntax_in asked.task) (aim_in asked.task context) (encode_utf8_all asked.page) (record { files = x.files; left = x.left; taken = x.taken + context_size asked.context x }) y m.size bytes f in
+    let c = unread_clean (way_in asked.task context) (refuses_so asked.task context) (encode_utf8_all asked.page) (record { files = x.files; left = x.left; taken = x.taken + context_size asked.context x }) y m.size bytes f in
     record { bytes = c.bytes; rest = c.rest; are = c.are; taken = c.taken; clean = c.clean }
 
 -- the page

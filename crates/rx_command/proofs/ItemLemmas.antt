@@ -15,7 +15,7 @@ use Rattle.rx_page.specs.declared.outcomes.Outcome.{Outcome as Found}
 use Rattle.rx_command.specs.Inputs.{PageText, PageRefused}
 use Rattle.rx_page.specs.Texts.{JsonText}
 use Rattle.rx_page.specs.Tasks.{HasItems}
-use Rattle.rx_page.specs.Aims.{GivesItems}
+use Rattle.rx_page.specs.Settings.{GivesItems}
 use Rattle.rx_command.specs.Reading.{ReadsWhole}
 use Rattle.rx_page.specs.Written.{text_of}
 use Rattle.rx_page.proofs.ItemLemmas.{item_of_items}

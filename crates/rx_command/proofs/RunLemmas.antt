@@ -14,14 +14,14 @@ use Rattle.rx_job.specs.Words.{Asked, Gathering, Job, Task, extracts, itemizes, 
 use Rattle.rx_pages.proofs.Trees.{one_tree}
 use Rattle.rx_microdata.specs.Json.{Refused, outcome}
 use Rattle.rx_microdata.specs.Visits.{standard_bounds}
-use Rattle.rx_page.specs.Aims.{standard}
+use Rattle.rx_page.specs.Settings.{standard}
 use Rattle.rx_page.proofs.FaultLemmas.{page_has_none}
 use Rattle.rx_page.proofs.FrontLemmas.{refuses_so}
 use Rattle.rx_job.proofs.NumberLemmas.{few_counted}
 use Rattle.rx_command.specs.Contexts.{IsContext, HasContext, HasOther, LacksContext, TakesContext, context_in, context_asked}
 use Rattle.rx_page.specs.Contexts.{is_context}
 use Rattle.rx_command.proofs.InputLemmas.{has_context, one_context}
-use Rattle.rx_page.specs.Tasks.{TaskGives, TaskRefuses, aim_in, way_in}
+use Rattle.rx_page.specs.Tasks.{TaskGives, TaskRefuses, way_in}
 use Rattle.rx_command.specs.Outcome.{NamesPage, HasPageFault, Meets, IsLacking, JobLacks, LacksFile, HasBadContext}
 use Rattle.rx_command.specs.Gathering.{HasAll}
 use Rattle.rx_command.proofs.GatheringLemmas.{context_taken}
@@ -73,12 +73,12 @@ same_context words told bytes others p q =
     (subst (λ s. IsContext q.asked.context s p.context) (one_shelf told p.shelf q.shelf p.tells q.tells) (subst (λ k. IsContext k.context p.shelf p.context) (one_asked words p.asked q.asked p.asks q.asks) p.holds)) q.holds
 
 no_both : (task : Task) (context : Context) (bytes text : List ℕ) (fault : Fault) → TaskGives task context bytes text → TaskRefuses task context bytes fault → ⊥
-no_both (extracts e) context bytes text fault h n = page_has_none (way_in (extracts e) context) (refuses_so (aim_in (extracts e) context)) bytes h.tree h.is.page h.is.accepted fault n
-no_both (itemizes i) context bytes text fault h (inl n) = page_has_none (way_in (itemizes i) context) (refuses_so (aim_in (itemizes i) context)) bytes h.tree h.page refl fault n
+no_both (extracts e) context bytes text fault h n = page_has_none (way_in (extracts e) context) (refuses_so (extracts e) context) bytes h.tree h.is.page h.is.accepted fault n
+no_both (itemizes i) context bytes text fault h (inl n) = page_has_none (way_in (itemizes i) context) (refuses_so (itemizes i) context) bytes h.tree h.page refl fault n
 no_both (itemizes i) context bytes text fault h (inr n) =
     let same : h.tree ≡ n.tree = one_tree i.syntax standard bytes h.tree n.tree h.page n.page in
     given_not_refused h.json.value fault (sym h.json.given ∙ (ap (outcome standard_bounds i.address) same ∙ n.refused))
-no_both (checks syntax) context bytes text fault h n = page_has_none (way_in (checks syntax) context) (refuses_so (aim_in (checks syntax) context)) bytes h.tree h.is.page h.is.accepted fault n
+no_both (checks syntax) context bytes text fault h n = page_has_none (way_in (checks syntax) context) (refuses_so (checks syntax) context) bytes h.tree h.is.page h.is.accepted fault n
 
 -- what holds of the page that is named holds of it where it is named again
 pub moved : (holds : Task → Context → List ℕ → Type 0) (words : List (List ℕ)) (told : Option ShelfContent) (bytes others : List ℕ) (p : NamesPage words told bytes) (q : NamesPage words told others) → holds p.asked.task p.context bytes → holds q.asked.task q.context others

@@ -13,7 +13,7 @@ use Rattle.rx_nest.specs.Signs.{sees, nothing_seen}
 use Rattle.rx_nquads.specs.Writing.{nquads}
 use Rattle.rx_base.specs.Lines.{line_of}
 use Rattle.rx_walk.specs.Settings.{Setting}
-use Rattle.rx_page.specs.Aims.{standard, setting_for}
+use Rattle.rx_page.specs.Settings.{standard, setting_for}
 use Rattle.rx_ports.specs.Shelves.{ShelfContent}
 use Rattle.rx_job.specs.Words.{job, samples, most_items}
 use Rattle.rx_page.specs.Tasks.{IsAccepted, base_in, facts_in}

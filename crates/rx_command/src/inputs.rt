@@ -5,7 +5,7 @@ ghost use Rattle.rx_job.specs.Words.{checks};
 ghost use Rattle.rx_job.specs.Jobs.{page_by, reads_page, has_context, text_in};
 ghost use Rattle.rx_command.specs.Files.{TakesOf};
 ghost use Rattle.rx_rdfa.specs.Names.{Context as RulesContext};
-ghost use Rattle.rx_page.specs.Aims.{for_items, for_faults, way_for};
+ghost use Rattle.rx_page.specs.Settings.{item_way, rdfa_way};
 ghost use Rattle.rx_command.specs.Ways.{way_of, extracts_by, itemizes_by};
 ghost use Rattle.rx_command.specs.Contexts.{IsContextFile, IsFileOf, ReadsContext, TakesContext, LacksContext, HasOther};
 ghost use Rattle.rx_command.specs.Outcome.{IsLacking};
@@ -164,7 +164,7 @@ fn itemize<F: Shelf>(
     ensures takes { WhereKnown (TakesOf (encode_utf8_all page.now) 1073807359) (F.told shelf.old) (F.told shelf.new) }
     ensures no_context { IsErrOf result InputError.BadContext → ⊥ }
     ensures failed { IsErrOf result InputError.Failed → FailedOrLacks F.told F.faults shelf.old shelf.new (encode_utf8_all page.now) }
-    ensures cleanly { StopsBy result (way_for syntax (for_items address)) (encode_utf8_all page.now) (F.told shelf.old) (F.told shelf.new) }
+    ensures cleanly { StopsBy result (item_way syntax) (encode_utf8_all page.now) (F.told shelf.old) (F.told shelf.new) }
     ensures later { F.faults shelf.old ≤ F.faults shelf.new }
 {
     let found = match read_items(alloc, shelf, page.as_str(), syntax, address) {
@@ -200,7 +200,7 @@ fn check<F: Shelf>(
     ensures takes { WhereKnown (TakesOf (encode_utf8_all page.now) 1073807359) (F.told shelf.old) (F.told shelf.new) }
     ensures no_context { IsErrOf result InputError.BadContext → ⊥ }
     ensures failed { IsErrOf result InputError.Failed → FailedOrLacks F.told F.faults shelf.old shelf.new (encode_utf8_all page.now) }
-    ensures cleanly { StopsBy result (way_for syntax (for_faults context)) (encode_utf8_all page.now) (F.told shelf.old) (F.told shelf.new) }
+    ensures cleanly { StopsBy result (rdfa_way syntax context) (encode_utf8_all page.now) (F.told shelf.old) (F.told shelf.new) }
     ensures later { F.faults shelf.old ≤ F.faults shelf.new }
 {
     match check_page(alloc, shelf, page.as_str(), syntax, context) {

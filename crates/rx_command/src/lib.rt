@@ -12,7 +12,6 @@ mod files;
 mod gathering;
 mod inputs;
 mod pages;
-mod passes;
 mod samples;
 mod statuses;
 mod top;

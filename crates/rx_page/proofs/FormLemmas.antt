@@ -12,7 +12,7 @@ use Rattle.rx_rdfa.specs.Names.{Context}
 use Rattle.rx_job.specs.declared.formats.Format.{Format}
 use Rattle.rx_job.specs.declared.formats.Format.TheVariants as format
 use Rattle.rx_job.specs.Words.{Extraction}
-use Rattle.rx_page.specs.Aims.{GivesList}
+use Rattle.rx_page.specs.Settings.{GivesList}
 use Rattle.rx_page.specs.Tasks.{IsAccepted, HasText, Denotes, base_in, facts_in}
 use Rattle.rx_page.specs.Texts.{IsTextAs, IsFormatText, DenotesAs, FormatDenotes}
 use Rattle.rx_page.specs.Written.{form_in, IsFormText, FormDenotes, text_of, Denoted}

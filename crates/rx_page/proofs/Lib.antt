@@ -3,6 +3,7 @@ pub mod OutcomeLemmas
 pub mod TextLemmas
 pub mod FaultLemmas
 pub mod FrontLemmas
+pub mod ReaderLemmas
 pub mod MadeLemmas
 pub mod ItemLemmas
 pub mod FormLemmas

@@ -22,8 +22,8 @@ use Rattle.rx_rdfa.specs.Names.{Context}
 use Rattle.rx_microdata.specs.Json.{Outcome, Given, Refused, outcome}
 use Rattle.rx_microdata.specs.Visits.{standard_bounds}
 use Rattle.rx_job.specs.Words.{Task, Itemization, extracts, itemizes, checks}
-use Rattle.rx_page.specs.Aims.{standard, Aim, refused_for, way_for}
-use Rattle.rx_page.specs.Tasks.{TaskRefuses, aim_in, syntax_in, way_in, is_of_items}
+use Rattle.rx_page.specs.Settings.{standard}
+use Rattle.rx_page.specs.Tasks.{TaskRefuses, syntax_in, way_in, is_of_items}
 use Rattle.rx_page.specs.Outcomes.{TaskAccepts, IsTheTree, IsTheFault, OneOutcome, may_refuse}
 use Rattle.rx_grammar.specs.Kinds.{is_of_meaning}
 use Rattle.rx_page.proofs.FaultLemmas.{fronts, no_meaning_in, page_has_none, one_first}
@@ -124,10 +124,9 @@ module _ (way : Way) (law : IsRefusal way.refused) where
 -- ---- a task's outcome
 
 -- what refuses a page for its form or for RDFa isn't of items
-kind_of_first : (task : Task) (context : Context) (aim : Aim) (bytes : List ℕ) (fault : Fault)
-    → ((front : List Sign) → refused_for aim front ≡ Some fault → is_of_items fault.kind ≡ false) → Refuses (way_for (syntax_in task) aim) bytes fault → is_of_items fault.kind ≡ false
-kind_of_first task context aim bytes fault of (for_form f n) = (form_kind (syntax_in task) standard bytes fault f).0
-kind_of_first task context aim bytes fault of (for_meaning m n) = of (sees nothing_seen m.now.told).signs m.refused
+kind_of_first : (way : Way) (bytes : List ℕ) (fault : Fault) → ((front : List Sign) → way.refused front ≡ Some fault → is_of_items fault.kind ≡ false) → Refuses way bytes fault → is_of_items fault.kind ≡ false
+kind_of_first way bytes fault of (for_form f n) = (form_kind way.syntax way.limits bytes fault f).0
+kind_of_first way bytes fault of (for_meaning m n) = of (sees nothing_seen m.now.told).signs m.refused
 
 -- what refuses it for its form where items are wanted isn't of meaning
 form_of_first : (i : Itemization) (context : Context) (bytes : List ℕ) (fault : Fault) → Refuses (way_in (itemizes i) context) bytes fault → is_of_meaning fault.kind ≡ false
@@ -135,8 +134,8 @@ form_of_first i context bytes fault (for_form f n) = (form_kind i.syntax standar
 form_of_first i context bytes fault (for_meaning m n) = let none : None ≡ Some fault = m.refused in absurd (cc)
 
 refusable : (task : Task) (context : Context) (bytes : List ℕ) (fault : Fault) → TaskRefuses task context bytes fault → may_refuse task fault.kind ≡ true
-refusable (extracts e) context bytes fault r = ap not (kind_of_first (extracts e) context (aim_in (extracts e) context) bytes fault (λ signs k. meaning_kind context [] signs fault k) r)
-refusable (checks syntax) context bytes fault r = ap not (kind_of_first (checks syntax) context (aim_in (checks syntax) context) bytes fault (λ signs k. meaning_kind context [] signs fault k) r)
+refusable (extracts e) context bytes fault r = ap not (kind_of_first (way_in (extracts e) context) bytes fault (λ signs k. meaning_kind context [] signs fault k) r)
+refusable (checks syntax) context bytes fault r = ap not (kind_of_first (way_in (checks syntax) context) bytes fault (λ signs k. meaning_kind context [] signs fault k) r)
 refusable (itemizes i) context bytes fault (inl r) = ap not (form_of_first i context bytes fault r)
 refusable (itemizes i) context bytes fault (inr r) = ap not (item_kind (λ kind. is_of_meaning kind ≡ false) refl refl refl i.address r.tree fault r.refused)
 
@@ -157,20 +156,20 @@ refused_same a b e = cc
 
 -- there is one refusal
 pub one_of_task : (task : Task) (context : Context) (bytes : List ℕ) (a b : Fault) → TaskRefuses task context bytes a → TaskRefuses task context bytes b → a ≡ b
-one_of_task (extracts e) context bytes a b p q = one_first (way_in (extracts e) context) (refuses_so (aim_in (extracts e) context)) bytes a b p q
-one_of_task (checks syntax) context bytes a b p q = one_first (way_in (checks syntax) context) (refuses_so (aim_in (checks syntax) context)) bytes a b p q
-one_of_task (itemizes i) context bytes a b (inl p) (inl q) = one_first (way_in (itemizes i) context) (refuses_so (aim_in (itemizes i) context)) bytes a b p q
-one_of_task (itemizes i) context bytes a b (inl p) (inr q) = absurd (page_has_none (way_in (itemizes i) context) (refuses_so (aim_in (itemizes i) context)) bytes q.tree q.page refl a p)
-one_of_task (itemizes i) context bytes a b (inr p) (inl q) = absurd (page_has_none (way_in (itemizes i) context) (refuses_so (aim_in (itemizes i) context)) bytes p.tree p.page refl b q)
+one_of_task (extracts e) context bytes a b p q = one_first (way_in (extracts e) context) (refuses_so (extracts e) context) bytes a b p q
+one_of_task (checks syntax) context bytes a b p q = one_first (way_in (checks syntax) context) (refuses_so (checks syntax) context) bytes a b p q
+one_of_task (itemizes i) context bytes a b (inl p) (inl q) = one_first (way_in (itemizes i) context) (refuses_so (itemizes i) context) bytes a b p q
+one_of_task (itemizes i) context bytes a b (inl p) (inr q) = absurd (page_has_none (way_in (itemizes i) context) (refuses_so (itemizes i) context) bytes q.tree q.page refl a p)
+one_of_task (itemizes i) context bytes a b (inr p) (inl q) = absurd (page_has_none (way_in (itemizes i) context) (refuses_so (itemizes i) context) bytes p.tree p.page refl b q)
 one_of_task (itemizes i) context bytes a b (inr p) (inr q) =
     let same : p.tree ≡ q.tree = one_tree i.syntax standard bytes p.tree q.tree p.page q.page in
     refused_same a b (sym p.refused ∙ (ap (outcome standard_bounds i.address) same ∙ q.refused))
 
 -- no bytes are accepted and refused
 never_both : (task : Task) (context : Context) (bytes : List ℕ) (tree : Tree) (fault : Fault) → TaskAccepts task context bytes tree → TaskRefuses task context bytes fault → ⊥
-never_both (extracts e) context bytes tree fault a r = page_has_none (way_in (extracts e) context) (refuses_so (aim_in (extracts e) context)) bytes tree a.page a.accepted fault r
-never_both (checks syntax) context bytes tree fault a r = page_has_none (way_in (checks syntax) context) (refuses_so (aim_in (checks syntax) context)) bytes tree a.page a.accepted fault r
-never_both (itemizes i) context bytes tree fault a (inl r) = page_has_none (way_in (itemizes i) context) (refuses_so (aim_in (itemizes i) context)) bytes tree a.page refl fault r
+never_both (extracts e) context bytes tree fault a r = page_has_none (way_in (extracts e) context) (refuses_so (extracts e) context) bytes tree a.page a.accepted fault r
+never_both (checks syntax) context bytes tree fault a r = page_has_none (way_in (checks syntax) context) (refuses_so (checks syntax) context) bytes tree a.page a.accepted fault r
+never_both (itemizes i) context bytes tree fault a (inl r) = page_has_none (way_in (itemizes i) context) (refuses_so (itemizes i) context) bytes tree a.page refl fault r
 never_both (itemizes i) context bytes tree fault a (inr r) =
     let same : tree ≡ r.tree = one_tree i.syntax standard bytes tree r.tree a.page r.page in
     given_not_refused a.value fault (sym a.given ∙ (ap (outcome standard_bounds i.address) same ∙ r.refused))
@@ -197,11 +196,11 @@ item_ends i context bytes tree page (Refused fault) e = inr (fault, inr (record 
 
 ends : (task : Task) (context : Context) (bytes : List ℕ) → Ends task context bytes
 ends (extracts e) context bytes =
-    ⊎_elim (λ p. inl (p.0, record { page = p.1; accepted = p.2 })) (λ r. inr (r.0, r.1)) (right_or_refused (way_in (extracts e) context) (refuses_so (aim_in (extracts e) context)) bytes)
+    ⊎_elim (λ p. inl (p.0, record { page = p.1; accepted = p.2 })) (λ r. inr (r.0, r.1)) (right_or_refused (way_in (extracts e) context) (refuses_so (extracts e) context) bytes)
 ends (checks syntax) context bytes =
-    ⊎_elim (λ p. inl (p.0, record { page = p.1; accepted = p.2 })) (λ r. inr (r.0, r.1)) (right_or_refused (way_in (checks syntax) context) (refuses_so (aim_in (checks syntax) context)) bytes)
+    ⊎_elim (λ p. inl (p.0, record { page = p.1; accepted = p.2 })) (λ r. inr (r.0, r.1)) (right_or_refused (way_in (checks syntax) context) (refuses_so (checks syntax) context) bytes)
 ends (itemizes i) context bytes =
-    ⊎_elim (λ p. item_ends i context bytes p.0 p.1 (outcome standard_bounds i.address p.0) refl) (λ r. inr (r.0, inl r.1)) (right_or_refused (way_in (itemizes i) context) (refuses_so (aim_in (itemizes i) context)) bytes)
+    ⊎_elim (λ p. item_ends i context bytes p.0 p.1 (outcome standard_bounds i.address p.0) refl) (λ r. inr (r.0, inl r.1)) (right_or_refused (way_in (itemizes i) context) (refuses_so (itemizes i) context) bytes)
 
 pub one_outcome : OneOutcome
 one_outcome task context bytes = ⊎_elim (λ a. inl (a.0, the_tree task context bytes a.0 a.1)) (λ r. inr (r.0, the_fault task context bytes r.0 r.1)) (ends task context bytes)

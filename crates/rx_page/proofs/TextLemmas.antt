@@ -21,7 +21,7 @@ use Rattle.rx_job.specs.Words.{Task, Extraction, extracts, itemizes, checks}
 use Rattle.rx_page.specs.Outcomes.{IsTheTree, IsTheText}
 use Rattle.rx_page.specs.Texts.{IsTextAs, JsonText}
 use Rattle.rx_page.specs.Tasks.{HasText, TaskGives, TaskDenotes, base_in, facts_in}
-use Rattle.rx_page.specs.Aims.{standard}
+use Rattle.rx_page.specs.Settings.{standard}
 use Rattle.rx_page.proofs.OutcomeLemmas.{the_tree}
 
 -- ---- a node has one shape

@@ -1,4 +1,5 @@
-pub mod Aims
+pub mod Settings
+pub mod Readers
 pub mod Texts
 pub mod Tasks
 pub mod Outcomes

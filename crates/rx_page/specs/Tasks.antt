@@ -21,7 +21,7 @@ use Rattle.rx_microdata.specs.Json.{Refused, outcome}
 use Rattle.rx_microdata.specs.Visits.{standard_bounds}
 use Rattle.rx_job.specs.Words.{Task, Extraction, Itemization, extracts, itemizes, checks}
 use Rattle.rx_nest.specs.Ways.{Way}
-use Rattle.rx_page.specs.Aims.{standard, Aim, for_triples, for_faults, for_items, way_for, HasFirst}
+use Rattle.rx_page.specs.Settings.{standard, rdfa_way, item_way, HasFirst}
 use Rattle.rx_page.specs.Texts.{IsFormatText, FormatDenotes, ok_line, JsonText}
 
 -- the bytes are a page with this tree, and none of its start tags is refused
@@ -68,20 +68,17 @@ pub record HasItemFault (i : Itemization) (bytes : List ℕ) (fault : Fault) : T
   pub page : Page i.syntax standard bytes tree
   pub refused : outcome standard_bounds i.address tree ≡ Refused fault
 
--- the syntax of the page, and what it is read for
+-- the syntax of the page
 abbrev pub syntax_in : Task → Syntax
 syntax_in (extracts e) = e.syntax
 syntax_in (itemizes i) = i.syntax
 syntax_in (checks syntax) = syntax
 
-abbrev pub aim_in : Task → Context → Aim
-aim_in (extracts e) context = for_triples context e.address
-aim_in (itemizes i) context = for_items i.address
-aim_in (checks syntax) context = for_faults context
-
 -- how the task reads a page
 abbrev pub way_in : Task → Context → Way
-way_in task context = way_for (syntax_in task) (aim_in task context)
+way_in (extracts e) context = rdfa_way e.syntax context
+way_in (itemizes i) context = item_way i.syntax
+way_in (checks syntax) context = rdfa_way syntax context
 
 -- what a task makes of a page: an extraction gives the text of its triples, and a search for items that of these; a check
 -- says that the page is one

@@ -11,12 +11,15 @@ mod contexts;
 mod forms;
 mod json_texts;
 mod outcomes;
+mod readers;
 mod shaped;
+mod walks;
 
 pub use contexts::LARGEST_CONTEXT;
 pub use forms::Form;
 pub use json_texts::text_of_items;
 pub use outcomes::{Outcome, graph_of};
+pub use readers::PageReader;
 
 /// Whatever its bytes, a page has under a context exactly one outcome: one tree in which nothing is refused, or one first
 /// fault, which for `extract` and `check` is one of its form or of what a start tag says to RDFa, and for `items` one of its

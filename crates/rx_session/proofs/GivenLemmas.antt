@@ -17,7 +17,7 @@ use Rattle.rx_nquads.specs.Quads.{Quad, quads}
 use Rattle.rx_job.specs.Words.{Extraction, extracts}
 use Rattle.rx_page.specs.Tasks.{IsAccepted, base_in, facts_in}
 use Rattle.rx_page.specs.Texts.{IsTextAs, DenotesAs}
-use Rattle.rx_page.specs.Aims.{standard, GivesList}
+use Rattle.rx_page.specs.Settings.{standard, GivesList}
 use Rattle.rx_page.specs.Written.{form_in, IsFormText, FormDenotes, graph_made}
 use Rattle.rx_page.proofs.MadeLemmas.{list_written}
 use Rattle.rx_page.proofs.OutcomeLemmas.{the_tree}

@@ -19,11 +19,12 @@ use Rattle.rx_items.specs.declared.kept.Kept.{Kept}
 use Rattle.rx_job.specs.Words.{Task, Extraction, Itemization, extracts, itemizes, checks}
 use Rattle.rx_page.specs.Outcomes.{IsTheText}
 use Rattle.rx_page.specs.JsonTexts.{AreItems, JsonTextGives}
-use Rattle.rx_page.specs.Tasks.{HasItems, IsRight}
+use Rattle.rx_page.specs.Tasks.{HasItems, IsRight, way_in}
 use Rattle.rx_page.specs.Texts.{ok_line}
-use Rattle.rx_page.specs.Aims.{setting_for, item_setting_for, for_triples, for_items, for_faults, way_for}
+use Rattle.rx_page.specs.Settings.{setting_for, item_setting_for}
 use Rattle.rx_page.proofs.OutcomeLemmas.{the_fault}
-use Rattle.rx_page.proofs.FrontLemmas.{end_first, shown_read}
+use Rattle.rx_page.specs.Readers.{shown_read}
+use Rattle.rx_page.proofs.FrontLemmas.{refuses_so, end_first}
 use Rattle.rx_page.proofs.TextLemmas.{the_text}
 use Rattle.rx_session.specs.Wants.{plan_for}
 use Rattle.rx_session.specs.Works.{Reads, Takes, Ends}
@@ -69,15 +70,15 @@ feeds_check (checks syntax) first singly context old new bytes piece (Err stop.N
 pub walk_stops : (e : Extraction) (first : ℕ) (singly : Bool) (context : Context) (walk : walks.Walked) (bytes : List ℕ) (why : Stop) → walks.WalkStands (setting_for e.syntax context) e.address walk bytes
     → Unfinished (way_of (setting_for e.syntax context)) bytes why → Ends (extracts e) first singly context bytes (Err why)
 walk_stops e first singly context walk bytes (stop.Fault fault) at ends =
-    the_fault (extracts e) context bytes fault (end_first e.syntax (for_triples context e.address) bytes fault
-    (shown_read (way_for e.syntax (for_triples context e.address)) bytes walk.nest at.goes.signs at.goes.shown at.paid at.goes.known.accepted) ends.0)
+    the_fault (extracts e) context bytes fault (end_first (way_in (extracts e) context) (refuses_so (extracts e) context) bytes fault
+    (shown_read (way_in (extracts e) context) bytes walk.nest at.goes.signs at.goes.shown at.paid at.goes.known.accepted) ends.0)
 walk_stops e first singly context walk bytes stop.NoMemory at ends = tt
 
 pub items_stop : (i : Itemization) (first : ℕ) (singly : Bool) (context : Context) (walk : items.Walked) (bytes : List ℕ) (why : Stop) → items.ItemWalkStands (item_setting_for i.syntax i.address) walk bytes
     → items.EndGives (item_setting_for i.syntax i.address) bytes (Err why) → Ends (itemizes i) first singly context bytes (Err why)
 items_stop i first singly context walk bytes (stop.Fault fault) at ends =
-    the_fault (itemizes i) context bytes fault (inl (end_first i.syntax (for_items i.address) bytes fault
-    (shown_read (way_for i.syntax (for_items i.address)) bytes walk.nest at.goes.signs at.goes.shown at.paid refl) ends.0))
+    the_fault (itemizes i) context bytes fault (inl (end_first (way_in (itemizes i) context) (refuses_so (itemizes i) context) bytes fault
+    (shown_read (way_in (itemizes i) context) bytes walk.nest at.goes.signs at.goes.shown at.paid refl) ends.0))
 items_stop i first singly context walk bytes stop.NoMemory at ends = tt
 
 pub items_text : (i : Itemization) (first : ℕ) (singly : Bool) (context : Context) (bytes : List ℕ) (kept : Kept) (text : Vec ℕ Global) → items.Ended (item_setting_for i.syntax i.address) bytes kept
@@ -97,8 +98,8 @@ items_refused i first singly context bytes kept stop.NoMemory ended gives = tt
 pub check_stops : (syntax : Syntax) (first : ℕ) (singly : Bool) (context : Context) (v : check.Checked) (bytes : List ℕ) (why : Stop) → check.CheckStands (setting_for syntax context) v bytes
     → Unfinished (way_of (setting_for syntax context)) bytes why → Ends (checks syntax) first singly context bytes (Err why)
 check_stops syntax first singly context v bytes (stop.Fault fault) at ends =
-    the_fault (checks syntax) context bytes fault (end_first syntax (for_faults context) bytes fault
-    (shown_read (way_for syntax (for_faults context)) bytes v.nest at.goes.signs at.goes.shown at.paid at.goes.known.accepted) ends.0)
+    the_fault (checks syntax) context bytes fault (end_first (way_in (checks syntax) context) (refuses_so (checks syntax) context) bytes fault
+    (shown_read (way_in (checks syntax) context) bytes v.nest at.goes.signs at.goes.shown at.paid at.goes.known.accepted) ends.0)
 check_stops syntax first singly context v bytes stop.NoMemory at ends = tt
 
 pub check_ends : (syntax : Syntax) (first : ℕ) (singly : Bool) (context : Context) (bytes : List ℕ) (text : Vec ℕ Global) → check.Accepted (setting_for syntax context) bytes → text.items ≡ ok_line

@@ -10,7 +10,7 @@ use Rattle.rx_items.specs.Walks as items
 use Rattle.rx_chars.specs.declared.syntax.Syntax.{Syntax}
 use Rattle.rx_job.specs.Words.{Extraction, Itemization, Task, extracts, itemizes, checks}
 use Rattle.rx_page.specs.Outcomes.{IsTheFault}
-use Rattle.rx_page.specs.Aims.{setting_for, item_setting_for}
+use Rattle.rx_page.specs.Settings.{setting_for, item_setting_for}
 use Rattle.rx_session.specs.Given.{GivesWanted}
 use Rattle.rx_session.specs.Wants.{Want, plan_for}
 use Rattle.rx_session.specs.declared.given.Given.{Given}

@@ -10,7 +10,7 @@ use Rattle.rx_job.specs.Words.{Asked, Task, Itemization, itemizes}
 use Rattle.rx_job.specs.Jobs.{page_by}
 use Rattle.rx_nest.specs.Ways.{Way}
 use Rattle.rx_command.specs.Files.{TakesOf}
-use Rattle.rx_page.specs.Aims.{for_items, way_for}
+use Rattle.rx_page.specs.Settings.{item_way}
 use Rattle.rx_command.specs.Reading.{ReadsClean}
 use Rattle.rx_page.specs.Tasks.{way_in}
 use Rattle.rx_command.specs.Inputs.{PageText, PageRefused, JobRefused}
@@ -52,6 +52,6 @@ returns-in_ok-address-in-Items-clause-failed g c is =
 pub returns-in_ok-address-in-Items-clause-cleanly : goal.returns-in_ok-address-in-Items-clause-cleanly
 returns-in_ok-address-in-Items-clause-cleanly g c is =
     let asked : Asked = page_by c.args.job.now in
-    let way : Way = way_for c.in-Items.syntax (for_items c.in-Items.address) in
+    let way : Way = item_way c.in-Items.syntax in
     moves_then (StopsCleanly (Some asked)) (λ x y z r p. page_stops asked None standard way (sym (ap (λ (k : Asked). k.context) (ap page_by c.in-Items.is))) (sym (ap (λ (k : Asked). way_in k.task standard) (ap page_by c.in-Items.is))) x y z r p) (standard_stays (g.F.Shelf.told c.args.shelf.now))
     (subst (λ (k : Asked). WhereKnown (ReadsClean way (encode_utf8_all k.page)) (g.F.Shelf.told c.args.shelf.now) (g.F.Shelf.told c.itemize.new.shelf)) (sym (ap page_by c.in-Items.is)) (c.itemize.ensures.cleanly is))

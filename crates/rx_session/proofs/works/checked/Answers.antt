@@ -1,4 +1,4 @@
-use Rattle.rx_page.specs.Aims.{setting_for}
+use Rattle.rx_page.specs.Settings.{setting_for}
 use Rattle.rx_session.proofs.WorkLemmas.{check_stops, check_ends}
 use Rattle.rx_session.proofs.works.checked.Goals as goal
 

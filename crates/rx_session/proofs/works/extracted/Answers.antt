@@ -1,4 +1,4 @@
-use Rattle.rx_page.specs.Aims.{setting_for}
+use Rattle.rx_page.specs.Settings.{setting_for}
 use Rattle.rx_session.proofs.GivenLemmas.{walk_ends}
 use Rattle.rx_session.proofs.WorkLemmas.{walk_stops}
 use Rattle.rx_session.proofs.works.extracted.Goals as goal

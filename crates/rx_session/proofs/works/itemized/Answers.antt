@@ -1,4 +1,4 @@
-use Rattle.rx_page.specs.Aims.{item_setting_for}
+use Rattle.rx_page.specs.Settings.{item_setting_for}
 use Rattle.rx_session.proofs.WorkLemmas.{items_stop, items_text, items_refused}
 use Rattle.rx_session.proofs.works.itemized.Goals as goal
 

@@ -1,15 +1,13 @@
 use Rattle.std.proofs.Common.{◌≤◌, ◌≡◌, ◌+◌, ◌-◌, [], length}
-use Rattle.rx_chars.specs.declared.syntax.Syntax.{Syntax}
-use Rattle.rx_page.specs.Aims.{Aim}
-use Rattle.rx_command.specs.Reading.{Reached}
 use Rattle.rx_command.proofs.ReadLemmas.{SoFar}
-use Rattle.rx_command.proofs.pages.feed_file_by.Given as goal
+use Rattle.rx_command.proofs.pages.feed_file.Given as goal
 
 abbrev pub invariant-loop-taken : goal.invariant-loop-taken
 invariant-loop-taken g l = record {
   piece : length l.piece ≡ 65536;
   most : l.taken ≤ 1073741824 + 65536;
-  so_far : (syntax : Syntax) (aim : Aim) → Reached syntax aim l.fn.reader [] → SoFar syntax aim l.name l.reader l.taken (g.F.Shelf.told l.fn.shelf) (g.F.Shelf.told l.shelf);
+  so_far : (setting : g.R.PageReader.Setting) → g.R.PageReader.stands setting l.fn.reader []
+      → SoFar (g.R.PageReader.stands setting) l.name l.reader l.taken (g.F.Shelf.told l.fn.shelf) (g.F.Shelf.told l.shelf);
   later : g.F.Shelf.faults l.fn.shelf ≤ g.F.Shelf.faults l.shelf;
 }
 

@@ -1,16 +1,14 @@
--- What a page is read for, and how.
-use Rattle.std.specs.Prelude.{ℕ, List, [], Option}
+-- How a page is read, by what it is read for.
+use Rattle.std.specs.Prelude.{ℕ, List}
 use Rattle.rx_terms.specs.Text.{Chars}
 use Rattle.rx_terms.specs.declared.triples.Triple.{Triple as CodeTriple}
 use Rattle.rx_chars.specs.declared.syntax.Syntax.{Syntax}
 use Rattle.rx_grammar.specs.declared.faults.Fault.{Fault}
 use Rattle.rx_grammar.specs.declared.limits.Limits.{Limits}
 use Rattle.rx_rdfa.specs.Names.{Context}
-use Rattle.rx_nest.specs.Signs.{Sign}
 use Rattle.rx_nest.specs.Faults.{Refuses}
 use Rattle.rx_nest.specs.Ways.{Way, refuses_none}
-use Rattle.rx_walk.specs.Refused.{refused_in}
-use Rattle.rx_walk.specs.Settings.{Setting}
+use Rattle.rx_walk.specs.Settings.{Setting, way_of}
 use Rattle.rx_walk.specs.Walks.{Ended}
 use Rattle.rx_items.specs.Collecting.{Setting as ItemSetting}
 use Rattle.rx_items.specs.Walks as item
@@ -29,22 +27,13 @@ setting_for syntax context = record { syntax = syntax; limits = standard; contex
 abbrev pub item_setting_for : Syntax → Chars → ItemSetting
 item_setting_for syntax address = record { syntax = syntax; limits = standard; address = address }
 
--- what a page is read for: its triples, where these names hold in it and this is its address; its items, where this is its
--- address; or its faults alone
-pub data Aim : Type 0 where
-  for_triples : Context → Chars → Aim
-  for_items : Chars → Aim
-  for_faults : Context → Aim
+-- the way of a page whose triples are read, or its faults: a start tag is refused for what it says to RDFa under these names
+abbrev pub rdfa_way : Syntax → Context → Way
+rdfa_way syntax context = way_of (setting_for syntax context)
 
--- the fault of the first start tag that is refused for what it means
-abbrev pub refused_for : Aim → List Sign → Option Fault
-refused_for (for_triples context address) = refused_in context []
-refused_for (for_items address) = refuses_none
-refused_for (for_faults context) = refused_in context []
-
--- how a page of this syntax is read for it
-abbrev pub way_for : Syntax → Aim → Way
-way_for syntax aim = record { syntax = syntax; limits = standard; refused = refused_for aim }
+-- that of a page whose items are read: no start tag is refused for what it means
+abbrev pub item_way : Syntax → Way
+item_way syntax = record { syntax = syntax; limits = standard; refused = refuses_none }
 
 -- the bytes have this fault, the first of their form and of what their tags mean
 abbrev pub HasFirst : Way → List ℕ → Fault → Type 0
