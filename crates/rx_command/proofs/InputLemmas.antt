@@ -25,22 +25,24 @@ use Rattle.rx_command.specs.Reading.{largest_piece, page_limit, ReadsWhole, Find
 use Rattle.rx_page.specs.Settings.{HasFirst, GivesList, GivesRight}
 use Rattle.rx_command.proofs.ReadLemmas.{unread_clean}
 use Rattle.rx_page.proofs.FrontLemmas.{refuses_so}
+use Rattle.rx_page.proofs.OutcomeLemmas.{refuses_first}
 use Rattle.rx_command.specs.Files.{ReadsFile, TakesOf, size_of}
 use Rattle.rx_command.specs.Contexts.{IsContextFile, IsFileOf, IsContext, HasContext, TakesContext, ReadsContext, context_size}
 use Rattle.rx_page.specs.Contexts.{is_context}
 use Rattle.rx_command.specs.Inputs.{PageText, PageRefused, JobText, JobRefused, TellsThat, WhereTold}
-use Rattle.rx_page.specs.Tasks.{IsRight, TaskRefuses, way_in}
+use Rattle.rx_page.specs.Tasks.{IsRight, way_in}
 use Rattle.rx_command.specs.Outcome.{IsLacking, ReadsTo}
 use Rattle.rx_page.specs.Texts.{ok_line}
 use Rattle.rx_command.specs.Runs.{TakesFiles, StopsCleanly}
 use Rattle.rx_command.specs.Ways.{extraction_of}
-use Rattle.rx_page.specs.Written.{form_in, IsFormText, FormDenotes, text_of, Denoted}
+use Rattle.rx_page.specs.Forms.{form_in, IsFormText, FormDenotes}
+use Rattle.rx_page.specs.Written.{text_of, Denoted}
 use Rattle.rx_page.specs.declared.forms.Form.{Form}
 use Rattle.rx_page.specs.declared.outcomes.Outcome.{Outcome}
 use Rattle.rx_page.specs.declared.outcomes.Outcome.TheVariants as found
 use Rattle.rx_command.specs.declared.pages.Approach.{Approach}
 use denote.Ref.{Bor}
-use Rattle.rx_page.proofs.FormLemmas.{text_made}
+use Rattle.rx_page.proofs.MadeLemmas.{text_made}
 
 -- ---- the context file
 
@@ -117,12 +119,7 @@ has_context (Some name) shelf context h =
 
 -- ---- refusals
 
--- a first fault refuses, whatever the task, and no more was read than a piece past it
-refuses_first : (task : Task) (context : Context) (bytes : List ℕ) (fault : Fault) → HasFirst (way_in task context) bytes fault → TaskRefuses task context bytes fault
-refuses_first (extracts e) context bytes fault f = f
-refuses_first (itemizes i) context bytes fault f = inl f
-refuses_first (checks syntax) context bytes fault f = f
-
+-- no more was read than a piece past a first fault, whatever the task
 reads_to : (task : Task) (fault : Fault) (before now : ℕ) → now ≤ before + (fault.at + largest_piece) → ReadsTo task fault before now
 reads_to (extracts e) fault before now l = l
 reads_to (itemizes i) fault before now l = λ k. l

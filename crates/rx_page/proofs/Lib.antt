@@ -6,4 +6,3 @@ pub mod FrontLemmas
 pub mod ReaderLemmas
 pub mod MadeLemmas
 pub mod ItemLemmas
-pub mod FormLemmas

@@ -22,7 +22,7 @@ use Rattle.rx_rdfa.specs.Names.{Context}
 use Rattle.rx_microdata.specs.Json.{Outcome, Given, Refused, outcome}
 use Rattle.rx_microdata.specs.Visits.{standard_bounds}
 use Rattle.rx_job.specs.Words.{Task, Itemization, extracts, itemizes, checks}
-use Rattle.rx_page.specs.Settings.{standard}
+use Rattle.rx_page.specs.Settings.{standard, HasFirst}
 use Rattle.rx_page.specs.Tasks.{TaskRefuses, syntax_in, way_in, is_of_items}
 use Rattle.rx_page.specs.Outcomes.{TaskAccepts, IsTheTree, IsTheFault, OneOutcome, may_refuse}
 use Rattle.rx_grammar.specs.Kinds.{is_of_meaning}
@@ -173,6 +173,12 @@ never_both (itemizes i) context bytes tree fault a (inl r) = page_has_none (way_
 never_both (itemizes i) context bytes tree fault a (inr r) =
     let same : tree ≡ r.tree = one_tree i.syntax standard bytes tree r.tree a.page r.page in
     given_not_refused a.value fault (sym a.given ∙ (ap (outcome standard_bounds i.address) same ∙ r.refused))
+
+-- a first fault refuses, whatever the task
+pub refuses_first : (task : Task) (context : Context) (bytes : List ℕ) (fault : Fault) → HasFirst (way_in task context) bytes fault → TaskRefuses task context bytes fault
+refuses_first (extracts e) context bytes fault f = f
+refuses_first (itemizes i) context bytes fault f = inl f
+refuses_first (checks syntax) context bytes fault f = f
 
 pub the_tree : (task : Task) (context : Context) (bytes : List ℕ) (tree : Tree) → TaskAccepts task context bytes tree → IsTheTree task context bytes tree
 the_tree task context bytes tree a =

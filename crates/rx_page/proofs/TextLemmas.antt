@@ -1,6 +1,6 @@
 -- A task makes one text of a page.
 use Rattle.std.proofs.Common.{◌≡◌, ◌∙◌, ℕ, List, ◌++◌, refl, sym, ap, subst, encode_utf8_all}
-use Rattle.std.specs.Prelude.{codes, Option}
+use Rattle.std.specs.Prelude.{codes}
 use Rattle.rx_terms.specs.Text.{Chars}
 use Rattle.rx_model.specs.Terms.{Triple, Graph, set_of}
 use Rattle.rx_shapes.specs.Shapes.{Inner, Cell, last_cell, next_cell, IsShape, HaveShapes}
@@ -15,11 +15,12 @@ use Rattle.rx_rdfa.specs.Whole.{written}
 use Rattle.rx_microdata.specs.Json.{Given}
 use Rattle.serde_json.specs.Data.{Data}
 use Rattle.serde_json.specs.Written.{compact_text}
-use Rattle.rx_job.specs.declared.formats.Format.{Format}
-use Rattle.rx_job.specs.declared.formats.Format.TheVariants as format
 use Rattle.rx_job.specs.Words.{Task, Extraction, extracts, itemizes, checks}
 use Rattle.rx_page.specs.Outcomes.{IsTheTree, IsTheText}
-use Rattle.rx_page.specs.Texts.{IsTextAs, JsonText}
+use Rattle.rx_page.specs.Texts.{JsonText}
+use Rattle.rx_page.specs.Forms.{form_of, IsFormText}
+use Rattle.rx_page.specs.declared.forms.Form.{Form}
+use Rattle.rx_page.specs.declared.forms.Form.TheVariants as forms
 use Rattle.rx_page.specs.Tasks.{HasText, TaskGives, TaskDenotes, base_in, facts_in}
 use Rattle.rx_page.specs.Settings.{standard}
 use Rattle.rx_page.proofs.OutcomeLemmas.{the_tree}
@@ -44,14 +45,14 @@ one_shape g b shape.Labelled shape.Labelled p q = refl
 pub same_shapes : (list : List (Triple ℕ)) (s t : ℕ → Shape) → HaveShapes list s → HaveShapes list t → s ≡ t
 same_shapes list s t p q = λ i n. one_shape (set_of list) n (s n) (t n) (p n) (q n) i
 
--- ---- a list has one text in a format
+-- ---- a list has one text in a form
 
-pub one_text_as : (f : Format) (graph : Option Chars) (context : Context) (list : List (Triple ℕ)) (a b : List ℕ) → IsTextAs f graph context list a → IsTextAs f graph context list b → a ≡ b
-one_text_as format.Nquads graph context list a b p q = p ∙ sym q
-one_text_as format.Turtle graph context list a b p q = p ∙ sym q
-one_text_as format.Nested graph context list a b p q =
+pub one_text_in : (form : Form) (list : List (Triple ℕ)) (a b : List ℕ) → IsFormText form list a → IsFormText form list b → a ≡ b
+one_text_in (forms.Nquads name) list a b p q = p ∙ sym q
+one_text_in (forms.Turtle context) list a b p q = p ∙ sym q
+one_text_in (forms.Nested context) list a b p q =
     p.spelled ∙ (ap (λ (s : ℕ → Shape). encode_utf8_all (nested context.prefixes list s)) (same_shapes list p.shapes q.shapes p.have q.have) ∙ sym q.spelled)
-one_text_as format.Jsonld graph context list a b p q =
+one_text_in forms.Jsonld list a b p q =
     p.spelled ∙ (ap (λ (s : ℕ → Shape). compact_text (jsonld list s) ++ codes "\n") (same_shapes list p.shapes q.shapes p.have q.have) ∙ sym q.spelled)
 
 -- ---- a page has one text
@@ -59,8 +60,8 @@ one_text_as format.Jsonld graph context list a b p q =
 one_extracted : (e : Extraction) (context : Context) (bytes a b : List ℕ) → HasText e context bytes a → HasText e context bytes b → a ≡ b
 one_extracted e context bytes a b p q =
     let same : p.tree ≡ q.tree = one_tree e.syntax standard bytes p.tree q.tree p.is.page q.is.page in
-    one_text_as e.format e.graph context (written (base_in e.address q.tree) (facts_in context q.tree)) a b
-    (subst (λ t. IsTextAs e.format e.graph context (written (base_in e.address t) (facts_in context t)) a) same p.spelled) q.spelled
+    one_text_in (form_of e context) (written (base_in e.address q.tree) (facts_in context q.tree)) a b
+    (subst (λ t. IsFormText (form_of e context) (written (base_in e.address t) (facts_in context t)) a) same p.spelled) q.spelled
 
 given_same : (a b : Data) → Given a ≡ Given b → a ≡ b
 given_same a b e = cc

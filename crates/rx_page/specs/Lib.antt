@@ -1,6 +1,7 @@
 pub mod Settings
 pub mod Readers
 pub mod Texts
+pub mod Forms
 pub mod Tasks
 pub mod Outcomes
 pub mod Contexts

@@ -22,7 +22,8 @@ use Rattle.rx_microdata.specs.Visits.{standard_bounds}
 use Rattle.rx_job.specs.Words.{Task, Extraction, Itemization, extracts, itemizes, checks}
 use Rattle.rx_nest.specs.Ways.{Way}
 use Rattle.rx_page.specs.Settings.{standard, rdfa_way, item_way, HasFirst}
-use Rattle.rx_page.specs.Texts.{IsFormatText, FormatDenotes, ok_line, JsonText}
+use Rattle.rx_page.specs.Texts.{ok_line, JsonText}
+use Rattle.rx_page.specs.Forms.{form_of, IsFormText, FormDenotes}
 
 -- the bytes are a page with this tree, and none of its start tags is refused
 pub record IsAccepted (syntax : Syntax) (context : Context) (bytes : List ℕ) (tree : Tree) : Type 0 where
@@ -40,14 +41,14 @@ base_in address tree = base_of (tags_of tree) address
 pub record HasText (e : Extraction) (context : Context) (bytes text : List ℕ) : Type 0 where
   pub tree : Tree
   pub is : IsAccepted e.syntax context bytes tree
-  pub spelled : IsFormatText e context (written (base_in e.address tree) (facts_in context tree)) text
+  pub spelled : IsFormText (form_of e context) (written (base_in e.address tree) (facts_in context tree)) text
 
 -- the text denotes exactly the graph that RDFa's rules give the page's tree, its blank nodes renamed one to one
 pub record Denotes (e : Extraction) (context : Context) (bytes text : List ℕ) : Type 0 where
   pub tree : Tree
   pub is : IsAccepted e.syntax context bytes tree
   pub triples : List (Triple ℕ)
-  pub denotes : FormatDenotes e text triples
+  pub denotes : FormDenotes (form_of e context) text triples
   pub renamed : Renamed (graph_of (base_in e.address tree) (facts_in context tree)) (set_of triples)
 
 -- the page is one of the grammar, no start tag of it is refused, and the text says so

@@ -1,7 +1,6 @@
 -- What is written of what a page gives.
-use Rattle.std.specs.Prelude.{◌≡◌, ℕ, nat_eq, List, map, Option, encode_utf8_all}
+use Rattle.std.specs.Prelude.{ℕ, nat_eq, List, map, encode_utf8_all}
 use Rattle.std.specs.Str.{chars}
-use Rattle.rx_terms.specs.Text.{Chars}
 use Rattle.rx_terms.specs.declared.triples.Triple.{Triple as CodeTriple}
 use Rattle.rx_model.specs.Copied.{copied}
 use Rattle.rx_model.specs.Numbered.{numbered}
@@ -15,35 +14,10 @@ use Rattle.rx_notation.specs.Layout.{turtle}
 use Rattle.rx_notation.specs.Meaning.{Turtle, NestedTurtle}
 use Rattle.rx_shapes.specs.Table.{shape_in}
 use Rattle.rx_notation.specs.Nesting.{nested}
-use Rattle.rx_job.specs.declared.formats.Format.{Format}
-use Rattle.rx_job.specs.declared.formats.Format.TheVariants as format
-use Rattle.rx_page.specs.Texts.{IsNestedText, IsJsonldText, JsonDenotes, ok_line}
+use Rattle.rx_page.specs.Texts.{ok_line}
 use Rattle.rx_page.specs.Shaped.{Shaped}
-use Rattle.rx_page.specs.declared.forms.Form.{Form}
-use Rattle.rx_page.specs.declared.forms.Form.TheVariants as forms
 use Rattle.rx_page.specs.declared.outcomes.Outcome.{Outcome}
 use Rattle.rx_page.specs.declared.outcomes.Outcome.TheVariants as outcome
-
--- how triples are written: in a format, in the graph of this name, under the context's prefixes
-abbrev pub form_in : Format → Option Chars → Context → Form
-form_in format.Nquads graph context = forms.Nquads graph
-form_in format.Turtle graph context = forms.Turtle context
-form_in format.Nested graph context = forms.Nested context
-form_in format.Jsonld graph context = forms.Jsonld
-
--- the text is that of the triples in this form
-abbrev pub IsFormText : Form → List (Triple ℕ) → List ℕ → Type 0
-IsFormText (forms.Nquads name) list text = text ≡ encode_utf8_all (nquads list name)
-IsFormText (forms.Turtle context) list text = text ≡ encode_utf8_all (turtle context.prefixes list)
-IsFormText (forms.Nested context) list text = IsNestedText context list text
-IsFormText forms.Jsonld list text = IsJsonldText list text
-
--- the text in this form denotes exactly the triples
-abbrev pub FormDenotes : Form → List ℕ → List (Triple ℕ) → Type 0
-FormDenotes (forms.Nquads name) text triples = Nquads (chars text) (quads triples name)
-FormDenotes (forms.Turtle context) text triples = Turtle (chars text) (map proper_triple triples)
-FormDenotes (forms.Nested context) text triples = NestedTurtle (chars text) (map proper_triple triples)
-FormDenotes forms.Jsonld text triples = JsonDenotes text triples
 
 abbrev pub nested_text : Context → Shaped → List ℕ
 nested_text context shaped = encode_utf8_all (nested context.prefixes shaped.triples (shape_in shaped.table))

@@ -1,7 +1,7 @@
 //! How triples are written.
 ghost use Rattle.std.specs.Prelude.{◌≡◌, IfOk};
 ghost use Rattle.rx_nquads.specs.Graphs.{lent_name};
-ghost use Rattle.rx_page.specs.Written.{form_in};
+ghost use Rattle.rx_page.specs.Forms.{form_in};
 
 use rx_job::Format;
 use rx_names::Context;

@@ -4,20 +4,19 @@ ghost use Rattle.rx_model.specs.Copied.{copied};
 ghost use Rattle.rx_model.specs.Seen.{triples_seen};
 ghost use Rattle.rx_ports.specs.Counts.{Rose};
 ghost use Rattle.rx_ports.specs.Shelves.{WhereKnown, GrowsBy, GrowsByPart};
-ghost use Rattle.rx_page.specs.Written.{IsFormText, FormDenotes, text_of, Denoted, graph_made};
+ghost use Rattle.rx_page.specs.Forms.{IsFormText, FormDenotes};
+ghost use Rattle.rx_page.specs.Written.{text_of, Denoted, graph_made};
 
 use crate::forms::Form;
 use crate::json_texts::text_of_graph;
 use crate::shaped::Shaped;
+use crate::texts::RIGHT;
 use rx_graph::{Graph, copy_patterns_owned, relabel_owned};
 use rx_names::Context;
 use rx_nquads::WriteError;
 use rx_ports::{Sink, put_all};
 use rx_terms::{Iri, NoMemory, TripleList};
 use std::alloc::Global;
-
-/// What is written of a page that is right.
-const RIGHT: &[u8] = b"ok\n";
 
 /// What a page gives.
 #[derive(Drop)]

@@ -14,7 +14,6 @@ mod kinds;
 mod outputs;
 mod requests;
 mod sessions;
-mod texts;
 mod values;
 mod works;
 

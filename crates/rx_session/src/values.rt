@@ -6,7 +6,7 @@ ghost use Rattle.rx_session.specs.Wants.{names_graphs};
 use crate::errors::OpenError;
 use crate::outputs::Output;
 use rx_chars::Syntax;
-use rx_job::Format;
+use rx_job::{Format, names_graphs};
 use rx_names::{Context, ContextError};
 use rx_page::LARGEST_CONTEXT;
 use rx_terms::{Iri, IriError};
@@ -76,7 +76,7 @@ pub(crate) fn graph_of(
     let Some(name) = name else {
         return Ok(None);
     };
-    if !names_graphs(output) {
+    if !may_be_named(output) {
         return Err(OpenError::Usage);
     }
     match iri_of(alloc, name) {
@@ -85,14 +85,12 @@ pub(crate) fn graph_of(
     }
 }
 
-fn names_graphs(output: Output) -> bool
+/// Whether the graph of what is handed over may have a name.
+fn may_be_named(output: Output) -> bool
     ensures { result ≡ names_graphs output }
 {
     match output {
-        Output::Text(Format::Nquads) => true,
-        Output::Text(Format::Turtle) => false,
-        Output::Text(Format::Nested) => false,
-        Output::Text(Format::Jsonld) => false,
+        Output::Text(format) => names_graphs(format),
         Output::Quads => true,
     }
 }

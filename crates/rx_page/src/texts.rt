@@ -1,22 +1,23 @@
 //! What a page gives, as a text in memory.
-ghost use Rattle.std.specs.Prelude.{◌≡◌, ◌++◌, IfOk, codes};
+ghost use Rattle.std.specs.Prelude.{◌≡◌, IfOk};
 ghost use Rattle.rx_model.specs.Seen.{triples_seen};
-ghost use Rattle.rx_page.specs.Texts.{IsNestedText, IsJsonldText, JsonDenotes, ok_line};
-ghost use Rattle.rx_page.specs.Written.{IsFormText, FormDenotes};
+ghost use Rattle.rx_page.specs.Texts.{IsNestedText, ok_line};
+ghost use Rattle.rx_page.specs.Forms.{IsFormText, FormDenotes};
 ghost use Rattle.rx_page.specs.declared.forms.Form.TheVariants as forms;
 
+use crate::forms::Form;
+use crate::json_texts::text_of_graph;
 use rx_graph::Graph;
 use rx_names::Context;
-use rx_page::Form;
 use rx_shapes::Shapes;
 use rx_terms::{Iri, NoMemory};
 use std::alloc::Global;
 
 /// What is written of a page that is right.
-const RIGHT: &[u8] = b"ok\n";
+pub(crate) const RIGHT: &[u8] = b"ok\n";
 
 /// The graph's text in this form.
-pub(crate) fn text_of(alloc: Global, graph: Graph, form: Form) -> Result<Vec<u8>, NoMemory>
+pub fn text_of(alloc: Global, graph: Graph, form: Form) -> Result<Vec<u8>, NoMemory>
     ensures spelled { IfOk result (λ text. IsFormText form (triples_seen graph) text.items) }
     ensures denotes { IfOk result (λ text. FormDenotes form text.items (triples_seen graph)) }
 {
@@ -72,32 +73,13 @@ fn jsonld_of(alloc: Global, graph: Graph) -> Result<Vec<u8>, NoMemory>
     ensures spelled { IfOk result (λ text. IsFormText forms.Jsonld (triples_seen graph) text.items) }
     ensures denotes { IfOk result (λ text. FormDenotes forms.Jsonld text.items (triples_seen graph)) }
 {
-    let text = jsonld_text(alloc, &graph);
+    let text = text_of_graph(alloc, &graph);
     drop(graph);
     Ok(text?)
 }
 
-fn jsonld_text(alloc: Global, graph: &Graph) -> Result<Vec<u8>, NoMemory>
-    ensures spelled { IfOk result (λ text. IsJsonldText (triples_seen graph.now) text.items) }
-    ensures denotes { IfOk result (λ text. JsonDenotes text.items (triples_seen graph.now)) }
-{
-    let shapes = Shapes::of(alloc, graph)?;
-    let found = rx_jsonld::text(alloc, graph, &shapes);
-    drop(shapes);
-    Ok(ended(found?)?)
-}
-
-/// The text, and a line feed.
-fn ended(text: Vec<u8>) -> Result<Vec<u8>, NoMemory>
-    ensures { IfOk result (λ line. line.items ≡ text.items ++ codes "\n") }
-{
-    let mut text = text;
-    text.push(b'\n')?;
-    Ok(text)
-}
-
 /// The text of a page that is right.
-pub(crate) fn right_text(alloc: Global) -> Result<Vec<u8>, NoMemory>
+pub fn right_text(alloc: Global) -> Result<Vec<u8>, NoMemory>
     ensures { IfOk result (λ text. text.items ≡ ok_line) }
 {
     let mut text = Vec::with_capacity(alloc, RIGHT.len())?;
