@@ -21,7 +21,7 @@ use Rattle.rx_job.specs.Words.{Gathering, Listed}
 use Rattle.rx_nest.specs.Ways.{Way}
 use Rattle.rx_command.specs.declared.pages.Approach.{Approach}
 use Rattle.rx_page.specs.Settings.{rdfa_way, HasFirst, GivesList}
-use Rattle.rx_command.specs.Reading.{ReadsWhole, Finds, TakesToFirst}
+use Rattle.rx_command.specs.Reading.{page_limit, ReadsWhole, Finds, TakesToFirst}
 use Rattle.rx_command.specs.Files.{TakesOf, size_of}
 use Rattle.rx_command.specs.Contexts.{IsContext, LacksContext, TakesContext, ReadsContext}
 use Rattle.rx_command.specs.Inputs.{TellsThat}
@@ -142,7 +142,7 @@ module _ (a : Approach) (syntax : Syntax) (context : Context) (address page name
   same_way = ap (λ (b : Approach). way_of b) same_approach
 
   -- how much of it was read
-  part_of : (x y : ShelfContent) → TakesOf name 1073807359 x y → TakesToFirst (way_of a) name x y → TakesPart context syntax One x y
+  part_of : (x y : ShelfContent) → TakesOf name page_limit x y → TakesToFirst (way_of a) name x y → TakesPart context syntax One x y
   part_of x y t f =
       let size : size_of (file_of x.files name) ≡ size_of (file_of x.files (encode_utf8_all page)) = ap (λ z. size_of (file_of x.files z)) named in
       record {
@@ -160,7 +160,7 @@ module _ (a : Approach) (syntax : Syntax) (context : Context) (address page name
         taken = omega arith;
       }
 
-  pub page_takes : (told now : Option ShelfContent) → WhereKnown (TakesOf name 1073807359) told now → WhereKnown (TakesToFirst (way_of a) name) told now → WhereKnown (TakesPart context syntax One) told now
+  pub page_takes : (told now : Option ShelfContent) → WhereKnown (TakesOf name page_limit) told now → WhereKnown (TakesToFirst (way_of a) name) told now → WhereKnown (TakesPart context syntax One) told now
   page_takes told now t f = both_moves (TakesPart context syntax One) (λ x y p q. part_of x y p q) t f
 
   -- what it gives
@@ -184,13 +184,13 @@ module _ (a : Approach) (syntax : Syntax) (context : Context) (address page name
     judged = subst (λ (w : Way). HasFirst w c.bytes fault) same_way c.is;
   }
 
-  pub adds_accepted : (told now : Option ShelfContent) (before after : List Page) (list : List CodeTriple) → WhereKnown (TakesOf name 1073807359) told now → WhereKnown (TakesToFirst (way_of a) name) told now
+  pub adds_accepted : (told now : Option ShelfContent) (before after : List Page) (list : List CodeTriple) → WhereKnown (TakesOf name page_limit) told now → WhereKnown (TakesToFirst (way_of a) name) told now
       → WhereKnown (ReadsWhole (GivesList a.syntax a.context a.address) name list) told now → after ≡ before ++ accepted_page address (numbered nat_eq (copied nat_eq (triples_seen list))) ∷ [] → AddsPage context syntax One before after told now
   adds_accepted told now before after list t f m e =
       let page : Page = accepted_page address (numbered nat_eq (copied nat_eq (triples_seen list))) in
       record { page = page; adds = e; reads = both_moves (ReadsListed context syntax One page) (λ x y c p. record { judged = gives_triples list x y c; takes = p }) m (page_takes told now t f) }
 
-  pub adds_refused : (told now : Option ShelfContent) (before after : List Page) (fault : Fault) → WhereKnown (TakesOf name 1073807359) told now → WhereKnown (TakesToFirst (way_of a) name) told now
+  pub adds_refused : (told now : Option ShelfContent) (before after : List Page) (fault : Fault) → WhereKnown (TakesOf name page_limit) told now → WhereKnown (TakesToFirst (way_of a) name) told now
       → WhereKnown (Finds (way_of a) name fault) told now → after ≡ before ++ refused_page address fault ∷ [] → AddsPage context syntax One before after told now
   adds_refused told now before after fault t f m e =
       let page : Page = refused_page address fault in

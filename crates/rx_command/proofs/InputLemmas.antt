@@ -28,7 +28,7 @@ use Rattle.rx_page.proofs.FrontLemmas.{refuses_so}
 use Rattle.rx_page.proofs.OutcomeLemmas.{refuses_first}
 use Rattle.rx_command.specs.Files.{ReadsFile, TakesOf, size_of}
 use Rattle.rx_command.specs.Contexts.{IsContextFile, IsFileOf, IsContext, HasContext, TakesContext, ReadsContext, context_size}
-use Rattle.rx_page.specs.Contexts.{is_context}
+use Rattle.rx_page.specs.Contexts.{largest_context, is_context}
 use Rattle.rx_command.specs.Inputs.{PageText, PageRefused, JobText, JobRefused, TellsThat, WhereTold}
 use Rattle.rx_page.specs.Tasks.{IsRight, way_in}
 use Rattle.rx_command.specs.Outcome.{IsLacking, ReadsTo}
@@ -46,18 +46,18 @@ use Rattle.rx_page.proofs.MadeLemmas.{text_made}
 
 -- ---- the context file
 
-short : (n : ℕ) → n ≤ 65536 → nat_le n 65536 ≡ true
+short : (n : ℕ) → n ≤ largest_context → nat_le n largest_context ≡ true
 short n e = grind (arith, nat_tests)
 
-long : (n : ℕ) → 65536 < n → nat_le n 65536 ≡ false
+long : (n : ℕ) → largest_context < n → nat_le n largest_context ≡ false
 long n e = grind (arith, nat_tests)
 
-whole_is : (bytes left : List ℕ) (valid : Bool) → (length bytes ≤ 65536 → left ≡ []) → length bytes ≤ 65536 → is_some (context_of bytes) ≡ valid → is_context (bytes ++ left) ≡ valid
+whole_is : (bytes left : List ℕ) (valid : Bool) → (length bytes ≤ largest_context → left ≡ []) → length bytes ≤ largest_context → is_some (context_of bytes) ≡ valid → is_context (bytes ++ left) ≡ valid
 whole_is bytes left valid w small e =
     ap is_context (ap (λ l. bytes ++ l) (w small) ∙ append-nil bytes) ∙ ap (λ b. b && is_some (context_of bytes)) (short (length bytes) small) ∙ e
 
-pub was_tested : (told now : Option ShelfContent) (file name bytes : List ℕ) (valid : Bool) → name ≡ encode_utf8_all file → WhereKnown (ReadsFile name 65536 bytes) told now
-    → length bytes ≤ 65536 → is_some (context_of bytes) ≡ valid → WhereTold (IsContextFile file valid) told
+pub was_tested : (told now : Option ShelfContent) (file name bytes : List ℕ) (valid : Bool) → name ≡ encode_utf8_all file → WhereKnown (ReadsFile name largest_context bytes) told now
+    → length bytes ≤ largest_context → is_some (context_of bytes) ≡ valid → WhereTold (IsContextFile file valid) told
 was_tested None now file name bytes valid named m small e = tt
 was_tested (Some t) now file name bytes valid named m small e =
     let r = moves_at t m refl in
@@ -67,25 +67,25 @@ was_tested (Some t) now file name bytes valid named m small e =
       tested = whole_is bytes (r.0).left valid (r.1).whole small e;
     }
 
-pub was_long : (told now : Option ShelfContent) (file name bytes : List ℕ) → name ≡ encode_utf8_all file → WhereKnown (ReadsFile name 65536 bytes) told now
-    → 65536 < length bytes → WhereTold (IsContextFile file false) told
+pub was_long : (told now : Option ShelfContent) (file name bytes : List ℕ) → name ≡ encode_utf8_all file → WhereKnown (ReadsFile name largest_context bytes) told now
+    → largest_context < length bytes → WhereTold (IsContextFile file false) told
 was_long None now file name bytes named m past = tt
 was_long (Some t) now file name bytes named m past =
     let r = moves_at t m refl in
-    let all : 65536 < length (bytes ++ (r.0).left) = omega (arith, length-append bytes (r.0).left) in
+    let all : largest_context < length (bytes ++ (r.0).left) = omega (arith, length-append bytes (r.0).left) in
     record {
       bytes = bytes ++ (r.0).left;
       file = ap (file_of t.files) (sym named) ∙ (r.1).read.file;
       tested = ap (λ b. b && is_some (context_of (bytes ++ (r.0).left))) (long (length (bytes ++ (r.0).left)) all);
     }
 
-pub takes_context : (file name : List ℕ) → name ≡ encode_utf8_all file → (x y : ShelfContent) → TakesOf name 65536 x y → TakesContext (Some file) x y
+pub takes_context : (file name : List ℕ) → name ≡ encode_utf8_all file → (x y : ShelfContent) → TakesOf name (largest_context + 1) x y → TakesContext (Some file) x y
 takes_context file name named x y t =
     let size : size_of (file_of x.files name) ≡ size_of (file_of x.files (encode_utf8_all file)) = ap (λ n. size_of (file_of x.files n)) named in
     record { files = t.files; size = omega (arith, t.file, size); most = t.most }
 
-pub was_context : (told now : Option ShelfContent) (file name bytes : List ℕ) (context : Context) → name ≡ encode_utf8_all file → WhereKnown (ReadsFile name 65536 bytes) told now
-    → length bytes ≤ 65536 → context_of bytes ≡ Some context → WhereTold (λ t. IsFileOf file t context) told
+pub was_context : (told now : Option ShelfContent) (file name bytes : List ℕ) (context : Context) → name ≡ encode_utf8_all file → WhereKnown (ReadsFile name largest_context bytes) told now
+    → length bytes ≤ largest_context → context_of bytes ≡ Some context → WhereTold (λ t. IsFileOf file t context) told
 was_context None now file name bytes context named m small e = tt
 was_context (Some t) now file name bytes context named m small e =
     let r = moves_at t m refl in
@@ -137,11 +137,11 @@ takes_before asked file e x y t =
     let m : TakesContext asked.context x y = subst (λ f. TakesContext f x y) e t in
     record { files = m.files; size = omega (arith, m.size); most = omega (arith, m.most) }
 
-pub takes_both : (asked : Asked) (file : Option (List ℕ)) (limit : ℕ) → file ≡ asked.context → page_limit ≡ limit + 1 → (x y z : ShelfContent) → TakesContext file x y → TakesOf (encode_utf8_all asked.page) limit y z → TakesFiles (Some asked) x z
-takes_both asked file limit e l x y z t p =
+pub takes_both : (asked : Asked) (file : Option (List ℕ)) → file ≡ asked.context → (x y z : ShelfContent) → TakesContext file x y → TakesOf (encode_utf8_all asked.page) page_limit y z → TakesFiles (Some asked) x z
+takes_both asked file e x y z t p =
     let m : TakesContext asked.context x y = subst (λ f. TakesContext f x y) e t in
     let size : size_of (file_of y.files (encode_utf8_all asked.page)) ≡ size_of (file_of x.files (encode_utf8_all asked.page)) = ap (λ f. size_of (file_of f (encode_utf8_all asked.page))) m.files in
-    record { files = p.files ∙ m.files; size = omega (arith, m.size, p.file, size); most = omega (arith, m.most, p.most, l) }
+    record { files = p.files ∙ m.files; size = omega (arith, m.size, p.file, size); most = omega (arith, m.most, p.most) }
 
 there_before : (asked : Asked) (file : Option (List ℕ)) (context : Context) (bytes : List ℕ) (x y : ShelfContent) → ReadsContext file context x y → file_of y.files (encode_utf8_all asked.page) ≡ Some bytes → file_of x.files (encode_utf8_all asked.page) ≡ Some bytes
 there_before asked file context bytes x y c h = sym (ap (λ f. file_of f (encode_utf8_all asked.page)) c.takes.files) ∙ h

@@ -19,7 +19,7 @@ use Rattle.rx_command.specs.declared.errors.InputError.{InputError}
 use Rattle.rx_command.specs.declared.errors.InputError.TheVariants as error
 use Rattle.rx_command.specs.Files.{HasRead, TakesSome}
 use Rattle.rx_page.specs.Settings.{standard, setting_for, item_setting_for, HasFirst}
-use Rattle.rx_command.specs.Reading.{Decides, Adds, AddsNone, NextGives, EndFails, EndGives, ReadsWhole, Finds, ReadsClean, TakesToFirst, IsFile, Fed, PageFails, PageGives}
+use Rattle.rx_command.specs.Reading.{largest_piece, Decides, Adds, AddsNone, NextGives, EndFails, EndGives, ReadsWhole, Finds, ReadsClean, TakesToFirst, IsFile, Fed, PageFails, PageGives}
 use Rattle.rx_page.proofs.FaultLemmas.{refused_from}
 use Rattle.rx_page.specs.Readers.{IsRead}
 use Rattle.rx_page.proofs.FrontLemmas.{no_bytes_read, clean_of}
@@ -63,7 +63,7 @@ pub unread_first : (way : Way) (name : List ℕ) (x y : ShelfContent) → y.take
 unread_first way name x y t file f fault first = omega (arith, t)
 
 -- the first fault
-found : (way : Way) (name bytes more : List ℕ) (fault : Fault) (x y z : ShelfContent) → HasRead name bytes x y → Adds more y z → length more ≤ 65536 → Decides way bytes more fault → Finds way name fault x z
+found : (way : Way) (name bytes more : List ℕ) (fault : Fault) (x y z : ShelfContent) → HasRead name bytes x y → Adds more y z → length more ≤ largest_piece → Decides way bytes more fault → Finds way name fault x z
 found way name bytes more fault x y z h a small f =
     let r = has_more name bytes more x y z h a in
     record { bytes = (bytes ++ more) ++ z.left; file = r.file; is = f.stays z.left; read = omega (arith, r.taken, length-append bytes more, f.from) }
@@ -85,7 +85,7 @@ module _ (way : Way) (law : IsRefusal way.refused) where
   unread_clean name x y t file f = record { bytes = []; rest = file; are = refl; taken = omega (arith, t); clean = clean_of way law [] (no_bytes_read way law) }
 
   -- some bytes were read, and no more than a piece was taken behind them
-  pub to_first : (name bytes : List ℕ) (room : ℕ) (x y z : ShelfContent) → IsRead way bytes → HasRead name bytes x y → TakesSome room y z → room ≤ 65536 → TakesToFirst way name x z
+  pub to_first : (name bytes : List ℕ) (room : ℕ) (x y z : ShelfContent) → IsRead way bytes → HasRead name bytes x y → TakesSome room y z → room ≤ largest_piece → TakesToFirst way name x z
   to_first name bytes room x y z i h t small file f fault first =
       let same : file ≡ bytes ++ y.left = some_file file (bytes ++ y.left) (sym f ∙ h.file) in
       let from = refused_from way law bytes y.left i.now i.read i.accepted fault (subst (λ b. HasFirst way b fault) same first) in

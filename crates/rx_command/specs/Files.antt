@@ -34,8 +34,8 @@ abbrev pub size_of : Option (List ℕ) → ℕ
 size_of None = 0
 size_of (Some bytes) = length bytes
 
--- no more was taken than the file has, and at most one byte past the limit
+-- no more was taken than the file has, nor than this
 pub record TakesOf (name : List ℕ) (limit : ℕ) (old new : ShelfContent) : Type 0 where
   pub files : new.files ≡ old.files
   pub file : new.taken ≤ old.taken + size_of (file_of old.files name)
-  pub most : new.taken ≤ old.taken + (limit + 1)
+  pub most : new.taken ≤ old.taken + limit

@@ -23,7 +23,7 @@ pub fn read_file<F: Shelf>(
 ) -> Result<Vec<u8>, ReadError>
     requires { limit < 2 ^ 60 }
     ensures ok { IfOk result (λ bytes. WhereKnown (ReadsFile name.now limit bytes.items) (F.told shelf.old) (F.told shelf.new)) }
-    ensures takes { WhereKnown (TakesOf name.now limit) (F.told shelf.old) (F.told shelf.new) }
+    ensures takes { WhereKnown (TakesOf name.now (limit + 1)) (F.told shelf.old) (F.told shelf.new) }
     ensures later { F.faults shelf.old ≤ F.faults shelf.new }
     ensures failed { IsErrOf result ReadError.Failed → Rose (F.faults shelf.old) (F.faults shelf.new) ⊎ Lacks (F.told shelf.old) name.now }
 {

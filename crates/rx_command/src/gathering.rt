@@ -8,6 +8,7 @@ ghost use Rattle.rx_command.specs.Gathering.{AddsPage, AddsPages, GathersPages, 
 ghost use Rattle.rx_command.specs.Inputs.{WhereTold};
 ghost use Rattle.rx_command.specs.Outcome.{LacksOne, LacksPage};
 ghost use Rattle.rx_command.specs.Calls.{FailedOr, FailedOrLacks};
+ghost use Rattle.rx_command.specs.Reading.{largest_piece};
 ghost use Rattle.rx_page.specs.Written.{graph_made};
 
 use crate::errors::InputError;
@@ -93,7 +94,7 @@ fn gather_by<F: Shelf>(
     piece: &mut [u8],
     many: &mut Many,
 ) -> Result<(), InputError>
-    requires { length piece.old ≡ 65536 }
+    requires { length piece.old ≡ largest_piece }
     ensures ok { OnOk result (AddsPages context.now syntax pages.now many.old many.new (F.told shelf.old) (F.told shelf.new)) }
     ensures takes { WhereKnown (TakesParts context.now syntax pages.now) (F.told shelf.old) (F.told shelf.new) }
     ensures not_refused { (fault : Fault) → result ≡ Err (InputError.Refused fault) → ⊥ }
@@ -121,7 +122,7 @@ fn gather_page<F: Shelf>(
     piece: &mut [u8],
     many: &mut Many,
 ) -> Result<(), InputError>
-    requires { length piece.old ≡ 65536 }
+    requires { length piece.old ≡ largest_piece }
     ensures ok { OnOk result (AddsPage context.now syntax (page_at address.now page.now) many.old many.new (F.told shelf.old) (F.told shelf.new)) }
     ensures takes { WhereKnown (TakesPart context.now syntax (page_at address.now page.now)) (F.told shelf.old) (F.told shelf.new) }
     ensures not_refused { (fault : Fault) → result ≡ Err (InputError.Refused fault) → ⊥ }

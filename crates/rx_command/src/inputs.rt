@@ -4,6 +4,7 @@ ghost use Rattle.rx_ports.specs.Shelves.{WhereKnown};
 ghost use Rattle.rx_job.specs.Words.{checks};
 ghost use Rattle.rx_job.specs.Jobs.{page_by, reads_page, has_context, text_in};
 ghost use Rattle.rx_command.specs.Files.{TakesOf};
+ghost use Rattle.rx_command.specs.Reading.{page_limit};
 ghost use Rattle.rx_rdfa.specs.Names.{Context as RulesContext};
 ghost use Rattle.rx_page.specs.Settings.{item_way, rdfa_way};
 ghost use Rattle.rx_command.specs.Ways.{way_of, extracts_by, itemizes_by};
@@ -131,7 +132,7 @@ fn extract<F: Shelf>(
 ) -> Result<Outcome, InputError>
     ensures ok { GivesText result (extracts_by approach format graph.entry) approach.context page.now (F.told shelf.old) (F.told shelf.new) }
     ensures refused { RefusesPage result (extracts_by approach format graph.entry) approach.context page.now (F.told shelf.old) (F.told shelf.new) }
-    ensures takes { WhereKnown (TakesOf (encode_utf8_all page.now) 1073807359) (F.told shelf.old) (F.told shelf.new) }
+    ensures takes { WhereKnown (TakesOf (encode_utf8_all page.now) page_limit) (F.told shelf.old) (F.told shelf.new) }
     ensures context { IsErrOf result InputError.BadContext → ⊥ }
     ensures failed { IsErrOf result InputError.Failed → FailedOrLacks F.told F.faults shelf.old shelf.new (encode_utf8_all page.now) }
     ensures cleanly { StopsBy result (way_of approach) (encode_utf8_all page.now) (F.told shelf.old) (F.told shelf.new) }
@@ -161,7 +162,7 @@ fn itemize<F: Shelf>(
 ) -> Result<Outcome, InputError>
     ensures ok { (context : RulesContext) → GivesText result (itemizes_by syntax address) context page.now (F.told shelf.old) (F.told shelf.new) }
     ensures refused { (context : RulesContext) → RefusesPage result (itemizes_by syntax address) context page.now (F.told shelf.old) (F.told shelf.new) }
-    ensures takes { WhereKnown (TakesOf (encode_utf8_all page.now) 1073807359) (F.told shelf.old) (F.told shelf.new) }
+    ensures takes { WhereKnown (TakesOf (encode_utf8_all page.now) page_limit) (F.told shelf.old) (F.told shelf.new) }
     ensures no_context { IsErrOf result InputError.BadContext → ⊥ }
     ensures failed { IsErrOf result InputError.Failed → FailedOrLacks F.told F.faults shelf.old shelf.new (encode_utf8_all page.now) }
     ensures cleanly { StopsBy result (item_way syntax) (encode_utf8_all page.now) (F.told shelf.old) (F.told shelf.new) }
@@ -197,7 +198,7 @@ fn check<F: Shelf>(
 ) -> Result<Outcome, InputError>
     ensures ok { GivesText result (checks syntax) context page.now (F.told shelf.old) (F.told shelf.new) }
     ensures refused { RefusesPage result (checks syntax) context page.now (F.told shelf.old) (F.told shelf.new) }
-    ensures takes { WhereKnown (TakesOf (encode_utf8_all page.now) 1073807359) (F.told shelf.old) (F.told shelf.new) }
+    ensures takes { WhereKnown (TakesOf (encode_utf8_all page.now) page_limit) (F.told shelf.old) (F.told shelf.new) }
     ensures no_context { IsErrOf result InputError.BadContext → ⊥ }
     ensures failed { IsErrOf result InputError.Failed → FailedOrLacks F.told F.faults shelf.old shelf.new (encode_utf8_all page.now) }
     ensures cleanly { StopsBy result (rdfa_way syntax context) (encode_utf8_all page.now) (F.told shelf.old) (F.told shelf.new) }

@@ -3,7 +3,7 @@ ghost use Rattle.std.specs.Prelude.{◌≡◌, ◌<◌, ◌≤◌, IfOk, IsErrOf
 ghost use Rattle.rx_ports.specs.Counts.{Rose};
 ghost use Rattle.rx_ports.specs.Shelves.{WhereKnown};
 ghost use Rattle.rx_page.specs.Settings.{GivesItems, GivesRight, item_way, rdfa_way};
-ghost use Rattle.rx_command.specs.Reading.{largest_piece, Starts, ReadsNext, FileGives, PageGives, TakesToFirst, FromStart, Ends};
+ghost use Rattle.rx_command.specs.Reading.{largest_piece, page_limit, Starts, ReadsNext, FileGives, PageGives, TakesToFirst, FromStart, Ends};
 ghost use Rattle.rx_command.specs.Files.{TakesSome, TakesOf};
 ghost use Rattle.rx_command.specs.Ways.{way_of, GivesListOf};
 ghost use Rattle.rx_command.specs.Calls.{FailedOrLacks};
@@ -37,7 +37,7 @@ pub(crate) fn read_page<F: Shelf>(
     approach: Approach,
 ) -> Result<TripleList, InputError>
     ensures gives { PageGives (way_of approach) (GivesListOf approach) name.now result (F.told shelf.old) (F.told shelf.new) }
-    ensures takes { WhereKnown (TakesOf name.now 1073807359) (F.told shelf.old) (F.told shelf.new) }
+    ensures takes { WhereKnown (TakesOf name.now page_limit) (F.told shelf.old) (F.told shelf.new) }
     ensures to_first { WhereKnown (TakesToFirst (way_of approach) name.now) (F.told shelf.old) (F.told shelf.new) }
     ensures later { F.faults shelf.old ≤ F.faults shelf.new }
     ensures failed { IsErrOf result InputError.Failed → FailedOrLacks F.told F.faults shelf.old shelf.new name.now }
@@ -57,9 +57,9 @@ pub(crate) fn read_page_by<F: Shelf>(
     approach: Approach,
     piece: &mut [u8],
 ) -> Result<TripleList, InputError>
-    requires { length piece.old ≡ 65536 }
+    requires { length piece.old ≡ largest_piece }
     ensures gives { PageGives (way_of approach) (GivesListOf approach) name.now result (F.told shelf.old) (F.told shelf.new) }
-    ensures takes { WhereKnown (TakesOf name.now 1073807359) (F.told shelf.old) (F.told shelf.new) }
+    ensures takes { WhereKnown (TakesOf name.now page_limit) (F.told shelf.old) (F.told shelf.new) }
     ensures to_first { WhereKnown (TakesToFirst (way_of approach) name.now) (F.told shelf.old) (F.told shelf.new) }
     ensures later { F.faults shelf.old ≤ F.faults shelf.new }
     ensures failed { IsErrOf result InputError.Failed → FailedOrLacks F.told F.faults shelf.old shelf.new name.now }
@@ -82,7 +82,7 @@ pub(crate) fn read_items<F: Shelf>(
     address: Iri,
 ) -> Result<Items, InputError>
     ensures gives { PageGives (item_way syntax) (GivesItems syntax address) name.now result (F.told shelf.old) (F.told shelf.new) }
-    ensures takes { WhereKnown (TakesOf name.now 1073807359) (F.told shelf.old) (F.told shelf.new) }
+    ensures takes { WhereKnown (TakesOf name.now page_limit) (F.told shelf.old) (F.told shelf.new) }
     ensures later { F.faults shelf.old ≤ F.faults shelf.new }
     ensures failed { IsErrOf result InputError.Failed → FailedOrLacks F.told F.faults shelf.old shelf.new name.now }
 {
@@ -99,7 +99,7 @@ pub(crate) fn check_page<F: Shelf>(
     context: Context,
 ) -> Result<(), InputError>
     ensures gives { PageGives (rdfa_way syntax context) (GivesRight syntax context) name.now result (F.told shelf.old) (F.told shelf.new) }
-    ensures takes { WhereKnown (TakesOf name.now 1073807359) (F.told shelf.old) (F.told shelf.new) }
+    ensures takes { WhereKnown (TakesOf name.now page_limit) (F.told shelf.old) (F.told shelf.new) }
     ensures later { F.faults shelf.old ≤ F.faults shelf.new }
     ensures failed { IsErrOf result InputError.Failed → FailedOrLacks F.told F.faults shelf.old shelf.new name.now }
 {
@@ -109,7 +109,7 @@ pub(crate) fn check_page<F: Shelf>(
 
 /// Room for one read.
 pub(crate) fn new_piece(alloc: Global) -> Result<Vec<u8>, NoMemory>
-    ensures { IfOk result (λ piece. vec_len piece ≡ 65536) }
+    ensures { IfOk result (λ piece. vec_len piece ≡ largest_piece) }
 {
     let piece = vec![in alloc; 0u8; PIECE]?;
     Ok(piece)
@@ -124,7 +124,7 @@ fn read<F: Shelf, R: PageReader + Drop>(
 ) -> Result<R::Given, InputError>
     requires { Starts R.way R.stands reader }
     ensures gives { FromStart R.stands reader (λ setting. PageGives (R.way setting) (R.gives setting) name.now result (F.told shelf.old) (F.told shelf.new)) }
-    ensures takes { WhereKnown (TakesOf name.now 1073807359) (F.told shelf.old) (F.told shelf.new) }
+    ensures takes { WhereKnown (TakesOf name.now page_limit) (F.told shelf.old) (F.told shelf.new) }
     ensures later { F.faults shelf.old ≤ F.faults shelf.new }
     ensures failed { IsErrOf result InputError.Failed → FailedOrLacks F.told F.faults shelf.old shelf.new name.now }
 {
@@ -143,9 +143,9 @@ fn read_by<F: Shelf, R: PageReader + Drop>(
     piece: &mut [u8],
 ) -> Result<R::Given, InputError>
     requires starts { Starts R.way R.stands reader }
-    requires room { length piece.old ≡ 65536 }
+    requires room { length piece.old ≡ largest_piece }
     ensures gives { FromStart R.stands reader (λ setting. PageGives (R.way setting) (R.gives setting) name.now result (F.told shelf.old) (F.told shelf.new)) }
-    ensures takes { WhereKnown (TakesOf name.now 1073807359) (F.told shelf.old) (F.told shelf.new) }
+    ensures takes { WhereKnown (TakesOf name.now page_limit) (F.told shelf.old) (F.told shelf.new) }
     ensures to_first { FromStart R.stands reader (λ setting. WhereKnown (TakesToFirst (R.way setting) name.now) (F.told shelf.old) (F.told shelf.new)) }
     ensures later { F.faults shelf.old ≤ F.faults shelf.new }
     ensures failed { IsErrOf result InputError.Failed → FailedOrLacks F.told F.faults shelf.old shelf.new name.now }
@@ -168,9 +168,9 @@ fn feed_file<F: Shelf, R: PageReader>(
     piece: &mut [u8],
 ) -> Result<(), InputError>
     requires starts { Starts R.way R.stands reader.old }
-    requires room { length piece.old ≡ 65536 }
+    requires room { length piece.old ≡ largest_piece }
     ensures gives { FromStart R.stands reader.old (λ setting. FileGives (R.way setting) (R.stands setting) name.now result reader.new (F.told shelf.old) (F.told shelf.new)) }
-    ensures takes { WhereKnown (TakesOf name.now 1073807359) (F.told shelf.old) (F.told shelf.new) }
+    ensures takes { WhereKnown (TakesOf name.now page_limit) (F.told shelf.old) (F.told shelf.new) }
     ensures to_first { FromStart R.stands reader.old (λ setting. WhereKnown (TakesToFirst (R.way setting) name.now) (F.told shelf.old) (F.told shelf.new)) }
     ensures later { F.faults shelf.old ≤ F.faults shelf.new }
     ensures failed { IsErrOf result InputError.Failed → FailedOrLacks F.told F.faults shelf.old shelf.new name.now }

@@ -11,7 +11,7 @@ use Rattle.rx_job.specs.Jobs.{page_by}
 use Rattle.rx_nest.specs.Ways.{Way}
 use Rattle.rx_command.specs.Files.{TakesOf}
 use Rattle.rx_page.specs.Settings.{item_way}
-use Rattle.rx_command.specs.Reading.{ReadsClean}
+use Rattle.rx_command.specs.Reading.{page_limit, ReadsClean}
 use Rattle.rx_page.specs.Tasks.{way_in}
 use Rattle.rx_command.specs.Inputs.{PageText, PageRefused, JobRefused}
 use Rattle.rx_command.specs.Runs.{TakesFiles, StopsCleanly}
@@ -40,8 +40,8 @@ returns-in_ok-address-in-Items-clause-refused g c fault is =
 pub returns-in_ok-address-in-Items-clause-takes : goal.returns-in_ok-address-in-Items-clause-takes
 returns-in_ok-address-in-Items-clause-takes g c =
     let asked : Asked = page_by c.args.job.now in
-    moves_then (TakesFiles (Some asked)) (λ x y z r p. takes_both asked None 1073807359 (sym (ap (λ (k : Asked). k.context) (ap page_by c.in-Items.is))) refl x y z r.takes p) (standard_stays (g.F.Shelf.told c.args.shelf.now))
-    (subst (λ (k : Asked). WhereKnown (TakesOf (encode_utf8_all k.page) 1073807359) (g.F.Shelf.told c.args.shelf.now) (g.F.Shelf.told c.itemize.new.shelf)) (sym (ap page_by c.in-Items.is)) c.itemize.ensures.takes)
+    moves_then (TakesFiles (Some asked)) (λ x y z r p. takes_both asked None (sym (ap (λ (k : Asked). k.context) (ap page_by c.in-Items.is))) x y z r.takes p) (standard_stays (g.F.Shelf.told c.args.shelf.now))
+    (subst (λ (k : Asked). WhereKnown (TakesOf (encode_utf8_all k.page) page_limit) (g.F.Shelf.told c.args.shelf.now) (g.F.Shelf.told c.itemize.new.shelf)) (sym (ap page_by c.in-Items.is)) c.itemize.ensures.takes)
 
 pub returns-in_ok-address-in-Items-clause-failed : goal.returns-in_ok-address-in-Items-clause-failed
 returns-in_ok-address-in-Items-clause-failed g c is =

@@ -8,7 +8,7 @@ use Rattle.rx_job.specs.Jobs.{page_by}
 use Rattle.rx_command.specs.Files.{TakesOf}
 use Rattle.rx_nest.specs.Ways.{Way}
 use Rattle.rx_page.specs.Settings.{rdfa_way}
-use Rattle.rx_command.specs.Reading.{ReadsClean}
+use Rattle.rx_command.specs.Reading.{page_limit, ReadsClean}
 use Rattle.rx_page.specs.Tasks.{way_in}
 use Rattle.rx_command.specs.Inputs.{PageText, PageRefused, JobRefused}
 use Rattle.rx_command.specs.Runs.{TakesFiles, StopsCleanly}
@@ -43,8 +43,8 @@ returns-in-Ok-try_clone-clause-refused g c fault is =
 pub returns-in-Ok-try_clone-clause-takes : goal.returns-in-Ok-try_clone-clause-takes
 returns-in-Ok-try_clone-clause-takes g c =
     let asked : Asked = page_by c.args.job.now in
-    moves_then (TakesFiles (Some asked)) (λ x y z r p. takes_both asked _ 1073807359 c.context.ensures refl x y z r p) c.read_context.ensures.takes
-    (subst (λ (k : Asked). WhereKnown (TakesOf (encode_utf8_all k.page) 1073807359) (g.F.Shelf.told c.read_context.new.shelf) (g.F.Shelf.told c.extract.new.shelf)) (sym (ap page_by c.in-Extract.is)) c.extract.ensures.takes)
+    moves_then (TakesFiles (Some asked)) (λ x y z r p. takes_both asked _ c.context.ensures x y z r p) c.read_context.ensures.takes
+    (subst (λ (k : Asked). WhereKnown (TakesOf (encode_utf8_all k.page) page_limit) (g.F.Shelf.told c.read_context.new.shelf) (g.F.Shelf.told c.extract.new.shelf)) (sym (ap page_by c.in-Extract.is)) c.extract.ensures.takes)
 
 pub returns-in-Ok-try_clone-clause-failed : goal.returns-in-Ok-try_clone-clause-failed
 returns-in-Ok-try_clone-clause-failed g c is =
@@ -76,8 +76,8 @@ returns-in-Check-clause-refused g c fault is =
 pub returns-in-Check-clause-takes : goal.returns-in-Check-clause-takes
 returns-in-Check-clause-takes g c =
     let asked : Asked = page_by c.args.job.now in
-    moves_then (TakesFiles (Some asked)) (λ x y z r p. takes_both asked _ 1073807359 c.context.ensures refl x y z r p) c.read_context.ensures.takes
-    (subst (λ (k : Asked). WhereKnown (TakesOf (encode_utf8_all k.page) 1073807359) (g.F.Shelf.told c.read_context.new.shelf) (g.F.Shelf.told c.check.new.shelf)) (sym (ap page_by c.in-Check.is)) c.check.ensures.takes)
+    moves_then (TakesFiles (Some asked)) (λ x y z r p. takes_both asked _ c.context.ensures x y z r p) c.read_context.ensures.takes
+    (subst (λ (k : Asked). WhereKnown (TakesOf (encode_utf8_all k.page) page_limit) (g.F.Shelf.told c.read_context.new.shelf) (g.F.Shelf.told c.check.new.shelf)) (sym (ap page_by c.in-Check.is)) c.check.ensures.takes)
 
 pub returns-in-Check-clause-failed : goal.returns-in-Check-clause-failed
 returns-in-Check-clause-failed g c is =

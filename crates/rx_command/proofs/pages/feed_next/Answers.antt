@@ -1,6 +1,6 @@
 use Rattle.std.proofs.Common.{arith, ◌≡◌, ◌<◌, ◌≤◌, List, ℕ, length, take, length-take}
 use Rattle.rx_ports.proofs.MoveLemmas.{moves_weaker}
-use Rattle.rx_command.specs.Reading.{Adds}
+use Rattle.rx_command.specs.Reading.{largest_piece, Adds}
 use Rattle.rx_command.proofs.FileLemmas.{reads_some}
 use Rattle.rx_command.proofs.ReadLemmas.{read_adds, piece_refused}
 use Rattle.rx_command.proofs.pages.feed_next.Goals as goal
@@ -21,7 +21,7 @@ pub returns-in-Err-Fault-clause-gives : goal.returns-in-Err-Fault-clause-gives
 returns-in-Err-Fault-clause-gives g c setting bytes s small =
     let room : 0 < length c.read.new.buf = omega (arith, c.read.auto.buf, c.requires) in
     let more : List ℕ = take c.in-Ok.count c.read.new.buf in
-    let size : length more ≤ 65536 = omega (arith, length-take c.in-Ok.count c.read.new.buf, c.in-Ok.ensures.bound, c.read.auto.buf, small) in
+    let size : length more ≤ largest_piece = omega (arith, length-take c.in-Ok.count c.read.new.buf, c.in-Ok.ensures.bound, c.read.auto.buf, small) in
     let stops = rw c.in-Err-Fault.field-0-is at c.in-Err-Fault.ensures in
     let shown = g.met.R.PageReader.shows setting c.args.reader.now bytes s in (
       more,
