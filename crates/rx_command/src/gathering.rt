@@ -7,7 +7,7 @@ ghost use Rattle.rx_command.specs.Contexts.{HasOther, TakesContext};
 ghost use Rattle.rx_command.specs.Gathering.{AddsPage, AddsPages, GathersPages, TakesGathering, TakesPart, TakesParts};
 ghost use Rattle.rx_command.specs.Inputs.{WhereTold};
 ghost use Rattle.rx_command.specs.Outcome.{LacksOne, LacksPage};
-ghost use Rattle.rx_command.specs.Calls.{FailedOr, FailedOrLacks};
+ghost use Rattle.rx_command.specs.Calls.{FailedOr, FailedOrLacks, Steady};
 ghost use Rattle.rx_command.specs.Reading.{largest_piece};
 ghost use Rattle.rx_page.specs.Written.{graph_made};
 
@@ -38,6 +38,7 @@ pub(crate) fn gather<F: Shelf>(
         WhereKnown (TakesContext (several_seen several.entry).context) (F.told shelf.old) (F.told shelf.new) }
     ensures named { IsErrOf result InputError.BadContext → is_some (several_seen several.entry).context ≡ true }
     ensures failed { IsErrOf result InputError.Failed → FailedOr F.told F.faults shelf.old shelf.new (LacksOne (several_seen several.entry)) }
+    ensures steady { Steady result (F.faults shelf.old) (F.faults shelf.new) }
 {
     let Several {
         syntax,
@@ -79,6 +80,7 @@ fn gather_pages<F: Shelf>(
     ensures not_refused { (fault : Fault) → result ≡ Err (InputError.Refused fault) → ⊥ }
     ensures no_context { IsErrOf result InputError.BadContext → ⊥ }
     ensures failed { IsErrOf result InputError.Failed → FailedOr F.told F.faults shelf.old shelf.new (λ told. LacksPage told.files pages.now) }
+    ensures steady { Steady result (F.faults shelf.old) (F.faults shelf.new) }
 {
     let mut piece = new_piece(alloc)?;
     gather_by(alloc, shelf, syntax, context, pages, &mut piece[..], many)
@@ -100,6 +102,7 @@ fn gather_by<F: Shelf>(
     ensures not_refused { (fault : Fault) → result ≡ Err (InputError.Refused fault) → ⊥ }
     ensures no_context { IsErrOf result InputError.BadContext → ⊥ }
     ensures failed { IsErrOf result InputError.Failed → FailedOr F.told F.faults shelf.old shelf.new (λ told. LacksPage told.files pages.now) }
+    ensures steady { Steady result (F.faults shelf.old) (F.faults shelf.new) }
 {
     for i in 0..pages.len() {
         let (address, page) = pages.at(i);
@@ -129,6 +132,7 @@ fn gather_page<F: Shelf>(
     ensures no_context { IsErrOf result InputError.BadContext → ⊥ }
     ensures failed { IsErrOf result InputError.Failed → FailedOrLacks F.told F.faults shelf.old shelf.new (encode_utf8_all page.now) }
     ensures later { F.faults shelf.old ≤ F.faults shelf.new }
+    ensures steady { Steady result (F.faults shelf.old) (F.faults shelf.new) }
 {
     let approach = approach_of(alloc, syntax, context, address)?;
     match read_page_by(alloc, shelf, page.as_str(), approach, piece) {

@@ -12,7 +12,7 @@ ghost use Rattle.rx_command.specs.Contexts.{IsContextFile, IsFileOf, ReadsContex
 ghost use Rattle.rx_command.specs.Outcome.{IsLacking};
 ghost use Rattle.rx_command.specs.Inputs.{JobText, JobRefused, WhereTold};
 ghost use Rattle.rx_command.specs.Runs.{TakesFiles, StopsCleanly};
-ghost use Rattle.rx_command.specs.Calls.{GivesBy, GivesText, RefusesBy, RefusesPage, StopsBy, FailedOr, FailedOrLacks};
+ghost use Rattle.rx_command.specs.Calls.{GivesBy, GivesText, RefusesBy, RefusesPage, StopsBy, FailedOr, FailedOrLacks, Steady};
 
 use crate::errors::InputError;
 use crate::files::{ReadError, read_file};
@@ -41,6 +41,7 @@ pub(crate) fn outcome_of_job<F: Shelf>(
     ensures failed { IsErrOf result InputError.Failed → FailedOr F.told F.faults shelf.old shelf.new (IsLacking (page_by job)) }
     ensures cleanly { IsErrOf result InputError.Failed → WhereKnown (StopsCleanly (Some (page_by job))) (F.told shelf.old) (F.told shelf.new) }
     ensures later { F.faults shelf.old ≤ F.faults shelf.new }
+    ensures steady { Steady result (F.faults shelf.old) (F.faults shelf.new) }
 {
     let outcome = outcome_by(alloc, shelf, &job);
     drop(job);
@@ -59,6 +60,7 @@ fn outcome_by<F: Shelf>(alloc: Global, shelf: &mut F, job: &Job) -> Result<Outco
     ensures failed { IsErrOf result InputError.Failed → FailedOr F.told F.faults shelf.old shelf.new (IsLacking (page_by job.now)) }
     ensures cleanly { IsErrOf result InputError.Failed → WhereKnown (StopsCleanly (Some (page_by job.now))) (F.told shelf.old) (F.told shelf.new) }
     ensures later { F.faults shelf.old ≤ F.faults shelf.new }
+    ensures steady { Steady result (F.faults shelf.old) (F.faults shelf.new) }
 {
     match job {
         Job::Items {
@@ -89,6 +91,7 @@ fn outcome_under_context<F: Shelf>(
     ensures failed { IsErrOf result InputError.Failed → FailedOr F.told F.faults shelf.old shelf.new (IsLacking (page_by job.now)) }
     ensures cleanly { IsErrOf result InputError.Failed → WhereKnown (StopsCleanly (Some (page_by job.now))) (F.told shelf.old) (F.told shelf.new) }
     ensures later { F.faults shelf.old ≤ F.faults shelf.new }
+    ensures steady { Steady result (F.faults shelf.old) (F.faults shelf.new) }
 {
     let context = match read_context(alloc, shelf, job.context()) {
         Ok(context) => context,
@@ -137,6 +140,7 @@ fn extract<F: Shelf>(
     ensures failed { IsErrOf result InputError.Failed → FailedOrLacks F.told F.faults shelf.old shelf.new (encode_utf8_all page.now) }
     ensures cleanly { StopsBy result (way_of approach) (encode_utf8_all page.now) (F.told shelf.old) (F.told shelf.new) }
     ensures later { F.faults shelf.old ≤ F.faults shelf.new }
+    ensures steady { Steady result (F.faults shelf.old) (F.faults shelf.new) }
 {
     let Ok(form) = Form::of(alloc, format, graph, &approach.context) else {
         drop(approach);
@@ -167,6 +171,7 @@ fn itemize<F: Shelf>(
     ensures failed { IsErrOf result InputError.Failed → FailedOrLacks F.told F.faults shelf.old shelf.new (encode_utf8_all page.now) }
     ensures cleanly { StopsBy result (item_way syntax) (encode_utf8_all page.now) (F.told shelf.old) (F.told shelf.new) }
     ensures later { F.faults shelf.old ≤ F.faults shelf.new }
+    ensures steady { Steady result (F.faults shelf.old) (F.faults shelf.new) }
 {
     let found = match read_items(alloc, shelf, page.as_str(), syntax, address) {
         Ok(found) => found,
@@ -203,6 +208,7 @@ fn check<F: Shelf>(
     ensures failed { IsErrOf result InputError.Failed → FailedOrLacks F.told F.faults shelf.old shelf.new (encode_utf8_all page.now) }
     ensures cleanly { StopsBy result (rdfa_way syntax context) (encode_utf8_all page.now) (F.told shelf.old) (F.told shelf.new) }
     ensures later { F.faults shelf.old ≤ F.faults shelf.new }
+    ensures steady { Steady result (F.faults shelf.old) (F.faults shelf.new) }
 {
     match check_page(alloc, shelf, page.as_str(), syntax, context) {
         Ok(()) => Ok(Outcome::Right),
@@ -223,6 +229,7 @@ pub(crate) fn read_context<F: Shelf>(
     ensures not_refused { (fault : Fault) → result ≡ Err (InputError.Refused fault) → ⊥ }
     ensures failed { IsErrOf result InputError.Failed → FailedOr F.told F.faults shelf.old shelf.new (LacksContext (text_in file.entry)) }
     ensures later { F.faults shelf.old ≤ F.faults shelf.new }
+    ensures steady { Steady result (F.faults shelf.old) (F.faults shelf.new) }
 {
     match file {
         None => Ok(Context::standard(alloc)?),
@@ -241,6 +248,7 @@ fn read_named_context<F: Shelf>(
     ensures not_refused { (fault : Fault) → result ≡ Err (InputError.Refused fault) → ⊥ }
     ensures failed { IsErrOf result InputError.Failed → FailedOr F.told F.faults shelf.old shelf.new (LacksContext (Some file.now)) }
     ensures later { F.faults shelf.old ≤ F.faults shelf.new }
+    ensures steady { Steady result (F.faults shelf.old) (F.faults shelf.new) }
 {
     let bytes = match read_file(alloc, shelf, file.as_str(), LARGEST_CONTEXT) {
         Ok(bytes) => bytes,

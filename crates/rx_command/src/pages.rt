@@ -6,7 +6,7 @@ ghost use Rattle.rx_page.specs.Settings.{GivesItems, GivesRight, item_way, rdfa_
 ghost use Rattle.rx_command.specs.Reading.{largest_piece, page_limit, Starts, ReadsNext, FileGives, PageGives, TakesToFirst, FromStart, Ends};
 ghost use Rattle.rx_command.specs.Files.{TakesSome, TakesOf};
 ghost use Rattle.rx_command.specs.Ways.{way_of, GivesListOf};
-ghost use Rattle.rx_command.specs.Calls.{FailedOrLacks};
+ghost use Rattle.rx_command.specs.Calls.{FailedOrLacks, Steady};
 
 use crate::errors::InputError;
 use rx_items::{ItemWalk, Items};
@@ -40,6 +40,7 @@ pub(crate) fn read_page<F: Shelf>(
     ensures takes { WhereKnown (TakesOf name.now page_limit) (F.told shelf.old) (F.told shelf.new) }
     ensures to_first { WhereKnown (TakesToFirst (way_of approach) name.now) (F.told shelf.old) (F.told shelf.new) }
     ensures later { F.faults shelf.old ≤ F.faults shelf.new }
+    ensures steady { Steady result (F.faults shelf.old) (F.faults shelf.new) }
     ensures failed { IsErrOf result InputError.Failed → FailedOrLacks F.told F.faults shelf.old shelf.new name.now }
 {
     let Ok(mut piece) = new_piece(alloc) else {
@@ -62,6 +63,7 @@ pub(crate) fn read_page_by<F: Shelf>(
     ensures takes { WhereKnown (TakesOf name.now page_limit) (F.told shelf.old) (F.told shelf.new) }
     ensures to_first { WhereKnown (TakesToFirst (way_of approach) name.now) (F.told shelf.old) (F.told shelf.new) }
     ensures later { F.faults shelf.old ≤ F.faults shelf.new }
+    ensures steady { Steady result (F.faults shelf.old) (F.faults shelf.new) }
     ensures failed { IsErrOf result InputError.Failed → FailedOrLacks F.told F.faults shelf.old shelf.new name.now }
 {
     let Approach {
@@ -84,6 +86,7 @@ pub(crate) fn read_items<F: Shelf>(
     ensures gives { PageGives (item_way syntax) (GivesItems syntax address) name.now result (F.told shelf.old) (F.told shelf.new) }
     ensures takes { WhereKnown (TakesOf name.now page_limit) (F.told shelf.old) (F.told shelf.new) }
     ensures later { F.faults shelf.old ≤ F.faults shelf.new }
+    ensures steady { Steady result (F.faults shelf.old) (F.faults shelf.new) }
     ensures failed { IsErrOf result InputError.Failed → FailedOrLacks F.told F.faults shelf.old shelf.new name.now }
 {
     let walk = ItemWalk::new(alloc, syntax, address, Limits::standard())?;
@@ -101,6 +104,7 @@ pub(crate) fn check_page<F: Shelf>(
     ensures gives { PageGives (rdfa_way syntax context) (GivesRight syntax context) name.now result (F.told shelf.old) (F.told shelf.new) }
     ensures takes { WhereKnown (TakesOf name.now page_limit) (F.told shelf.old) (F.told shelf.new) }
     ensures later { F.faults shelf.old ≤ F.faults shelf.new }
+    ensures steady { Steady result (F.faults shelf.old) (F.faults shelf.new) }
     ensures failed { IsErrOf result InputError.Failed → FailedOrLacks F.told F.faults shelf.old shelf.new name.now }
 {
     let check = Check::new(alloc, syntax, context, Limits::standard())?;
@@ -126,6 +130,7 @@ fn read<F: Shelf, R: PageReader + Drop>(
     ensures gives { FromStart R.stands reader (λ setting. PageGives (R.way setting) (R.gives setting) name.now result (F.told shelf.old) (F.told shelf.new)) }
     ensures takes { WhereKnown (TakesOf name.now page_limit) (F.told shelf.old) (F.told shelf.new) }
     ensures later { F.faults shelf.old ≤ F.faults shelf.new }
+    ensures steady { Steady result (F.faults shelf.old) (F.faults shelf.new) }
     ensures failed { IsErrOf result InputError.Failed → FailedOrLacks F.told F.faults shelf.old shelf.new name.now }
 {
     let Ok(mut piece) = new_piece(alloc) else {
@@ -148,6 +153,7 @@ fn read_by<F: Shelf, R: PageReader + Drop>(
     ensures takes { WhereKnown (TakesOf name.now page_limit) (F.told shelf.old) (F.told shelf.new) }
     ensures to_first { FromStart R.stands reader (λ setting. WhereKnown (TakesToFirst (R.way setting) name.now) (F.told shelf.old) (F.told shelf.new)) }
     ensures later { F.faults shelf.old ≤ F.faults shelf.new }
+    ensures steady { Steady result (F.faults shelf.old) (F.faults shelf.new) }
     ensures failed { IsErrOf result InputError.Failed → FailedOrLacks F.told F.faults shelf.old shelf.new name.now }
 {
     let mut reader = reader;
@@ -173,6 +179,7 @@ fn feed_file<F: Shelf, R: PageReader>(
     ensures takes { WhereKnown (TakesOf name.now page_limit) (F.told shelf.old) (F.told shelf.new) }
     ensures to_first { FromStart R.stands reader.old (λ setting. WhereKnown (TakesToFirst (R.way setting) name.now) (F.told shelf.old) (F.told shelf.new)) }
     ensures later { F.faults shelf.old ≤ F.faults shelf.new }
+    ensures steady { Steady result (F.faults shelf.old) (F.faults shelf.new) }
     ensures failed { IsErrOf result InputError.Failed → FailedOrLacks F.told F.faults shelf.old shelf.new name.now }
 {
     let Ok(()) = shelf.start_file(name) else {
@@ -200,6 +207,7 @@ fn feed_next<F: Shelf, R: PageReader>(
     ensures gives { ReadsNext R.way R.stands reader.old (length piece.old) result reader.new (F.told shelf.old) (F.told shelf.new) }
     ensures takes { WhereKnown (TakesSome (length piece.old)) (F.told shelf.old) (F.told shelf.new) }
     ensures later { F.faults shelf.old ≤ F.faults shelf.new }
+    ensures steady { Steady result (F.faults shelf.old) (F.faults shelf.new) }
     ensures failed { IsErrOf result InputError.Failed → Rose (F.faults shelf.old) (F.faults shelf.new) }
 {
     let Ok(count) = shelf.read(piece) else {

@@ -93,12 +93,15 @@ pub fn run<F: Shelf, O: Sink, E: Sink>(
     // ReadFault comes only where the shelf failed, or lacks the context file, or lacks a page where the context file is a
     // context; and where it lacks one of them there is no other answer but want of memory.
     ensures read_fault { result ≡ Status.ReadFault → ReadCause words.now (F.told shelf.old) (F.faults shelf.old) (F.faults shelf.new) }
+    // A shelf that failed ends the run: where its count of faults isn't what it was, there is no other answer.
+    ensures reads_on { result ≢ Status.ReadFault → F.faults shelf.new ≡ F.faults shelf.old }
     // What was read of a page that alone is asked for, where it is there, holds no fault then but that it ends.
     ensures cleanly { result ≡ Status.ReadFault → WhereKnown (StopsCleanly (page_asked words.now)) (F.told shelf.old) (F.told shelf.new) }
     ensures lacking { LacksFile words.now (F.told shelf.old) → EndsSo result Status.ReadFault }
 
     // WriteFault comes only where out failed, which then holds a proper front of the text more than before.
     ensures write_fault { result ≡ Status.WriteFault → Rose (O.faults out.old) (O.faults out.new) }
+    ensures writes_on { result ≢ Status.WriteFault → O.faults out.new ≡ O.faults out.old }
     ensures partly { result ≡ Status.WriteFault → Writes (F.told shelf.old) (Yields words.now (F.told shelf.old)) GrowsByPart (O.held out.old) (O.held out.new) }
 
     // On any other status nothing is written.
@@ -188,6 +191,7 @@ fn write<O: Sink>(alloc: Global, outcome: Outcome, out: &mut O) -> Result<(), Wr
     ensures denoted { OnOk result (Denoted outcome) }
     ensures partly { IsErrOf result WriteError.Failed → WhereKnown (GrowsByPart (text_of outcome)) (O.held out.old) (O.held out.new) }
     ensures cause { IsErrOf result WriteError.Failed → Rose (O.faults out.old) (O.faults out.new) }
+    ensures steady { OnOk result (O.faults out.new ≡ O.faults out.old) }
     ensures untouched { IsErrOf result WriteError.NoMemory → out.new ≡ out.old }
 {
     let written = outcome.write(alloc, out);
@@ -199,7 +203,8 @@ fn write<O: Sink>(alloc: Global, outcome: Outcome, out: &mut O) -> Result<(), Wr
 /// Writes the line that is said of the sample page.
 fn run_sample<O: Sink>(alloc: Global, count: u32, out: &mut O) -> Status
     requires { count ≤ most_items }
-    ensures { SampleEnds count result (O.held out.old) (O.held out.new) (O.faults out.old) (O.faults out.new) }
+    ensures ends { SampleEnds count result (O.held out.old) (O.held out.new) (O.faults out.old) (O.faults out.new) }
+    ensures writes_on { result ≢ Status.WriteFault → O.faults out.new ≡ O.faults out.old }
 {
     match sample(alloc, count) {
         Ok(line) => match put_all(out, line.as_slice()) {
@@ -218,7 +223,9 @@ fn run_several<F: Shelf, O: Sink, E: Sink>(
     out: &mut O,
     err: &mut E,
 ) -> Status
-    ensures { GatheringEnds (several_seen several.entry) result
+    ensures reads_on { result ≢ Status.ReadFault → F.faults shelf.new ≡ F.faults shelf.old }
+    ensures writes_on { result ≢ Status.WriteFault → O.faults out.new ≡ O.faults out.old }
+    ensures ends { GatheringEnds (several_seen several.entry) result
         (record {
           told = F.told shelf.old;
           read_faults = F.faults shelf.old;

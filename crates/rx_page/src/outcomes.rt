@@ -67,6 +67,7 @@ impl Outcome {
         ensures denoted { OnOk result (Denoted self.now) }
         ensures partly { IsErrOf result WriteError.Failed → WhereKnown (GrowsByPart (text_of self.now)) (O.held out.old) (O.held out.new) }
         ensures cause { IsErrOf result WriteError.Failed → Rose (O.faults out.old) (O.faults out.new) }
+        ensures steady { OnOk result (O.faults out.new ≡ O.faults out.old) }
         ensures untouched { IsErrOf result WriteError.NoMemory → out.new ≡ out.old }
     {
         match self {
@@ -108,6 +109,7 @@ fn write_whole<O: Sink>(out: &mut O, text: &[u8]) -> Result<(), WriteError>
     ensures ok { OnOk result (WhereKnown (GrowsBy text.now) (O.held out.old) (O.held out.new)) }
     ensures partly { IsErrOf result WriteError.Failed → WhereKnown (GrowsByPart text.now) (O.held out.old) (O.held out.new) }
     ensures cause { IsErrOf result WriteError.Failed → Rose (O.faults out.old) (O.faults out.new) }
+    ensures steady { OnOk result (O.faults out.new ≡ O.faults out.old) }
     ensures memory { IsErrOf result WriteError.NoMemory → ⊥ }
 {
     match put_all(out, text) {

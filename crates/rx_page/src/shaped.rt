@@ -62,6 +62,7 @@ impl Shaped {
         ensures denoted { OnOk result (NestedTurtle (chars (nested_text context.now self.now)) (map proper_triple self.now.triples)) }
         ensures partly { IsErrOf result WriteError.Failed → WhereKnown (GrowsByPart (nested_text context.now self.now)) (O.held out.old) (O.held out.new) }
         ensures cause { IsErrOf result WriteError.Failed → Rose (O.faults out.old) (O.faults out.new) }
+        ensures steady { OnOk result (O.faults out.new ≡ O.faults out.old) }
         ensures untouched { IsErrOf result WriteError.NoMemory → out.new ≡ out.old }
     {
         rx_turtle::write_nested(alloc, &self.graph, &self.shapes, context, out)

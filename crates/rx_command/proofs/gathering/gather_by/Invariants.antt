@@ -8,4 +8,5 @@ invariant-loop-i g l = record {
   piece : length l.piece ≡ largest_piece;
   adds : AddsPages l.context l.syntax (take l.i l.pages) l.fn.many l.many (g.F.Shelf.told l.fn.shelf) (g.F.Shelf.told l.shelf);
   later : g.F.Shelf.faults l.fn.shelf ≤ g.F.Shelf.faults l.shelf;
+  same : g.F.Shelf.faults l.shelf ≡ g.F.Shelf.faults l.fn.shelf;
 }

@@ -30,6 +30,7 @@ loop-taken-init g c = record {
     read = moves_weaker (HasRead c.args.name.now []) (λ x y t. read_start c.args.name.now [] x y refl t) c.in-Ok.ensures.told;
   };
   later = c.in-Ok.ensures.later;
+  same = c.in-Ok.ensures.steady;
 }
 
 pub returns-in-Ok-eq0-clause-gives : goal.returns-in-Ok-eq0-clause-gives
@@ -56,6 +57,7 @@ loop-taken-preserved g c =
           more_so_far (g.R.PageReader.way setting) (g.R.PageReader.stands setting) c.args.name.now c.loop-taken.reader c.feed_next.new.reader c.loop-taken.taken c.in-Ok-feed_next.count _ _ _ s
           (c.in-Ok-feed_next.ensures.gives setting s.bytes s.at small);
       later = omega (arith, c.loop-taken.invariant.later, c.in-Ok-feed_next.ensures.later);
+      same = c.in-Ok-feed_next.ensures.steady ∙ c.loop-taken.invariant.same;
     }
 
 pub returns-in-Err-clause-gives : goal.returns-in-Err-clause-gives

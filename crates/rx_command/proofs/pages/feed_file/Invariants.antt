@@ -11,6 +11,7 @@ invariant-loop-taken g l = record {
   so_far : (setting : g.R.PageReader.Setting) → g.R.PageReader.stands setting l.fn.reader []
       → SoFar (g.R.PageReader.stands setting) l.name l.reader l.taken (g.F.Shelf.told l.fn.shelf) (g.F.Shelf.told l.shelf);
   later : g.F.Shelf.faults l.fn.shelf ≤ g.F.Shelf.faults l.shelf;
+  same : g.F.Shelf.faults l.shelf ≡ g.F.Shelf.faults l.fn.shelf;
 }
 
 abbrev pub decreases-loop-taken : goal.decreases-loop-taken

@@ -85,10 +85,10 @@ pub run_sample-requires : goal.run_sample-requires
 run_sample-requires g c = few_asked c.args.words.now c.in-Sample.count (c.in-Ok.ensures ∙ ap Some c.in-Sample.ensures)
 
 pub returns-in-Sample-clause-nothing_written : goal.returns-in-Sample-clause-nothing_written
-returns-in-Sample-clause-nothing_written g c = λ d w. sample_nothing c.in-Sample.count c.run_sample.result _ _ _ _ c.run_sample.ensures d w
+returns-in-Sample-clause-nothing_written g c = λ d w. sample_nothing c.in-Sample.count c.run_sample.result _ _ _ _ c.run_sample.ensures.ends d w
 
 pub returns-in-Sample-clause-completes : goal.returns-in-Sample-clause-completes
-returns-in-Sample-clause-completes g c = λ text y quiet calm. sample_completes c.in-Sample.count c.run_sample.result _ _ _ _ calm c.run_sample.ensures
+returns-in-Sample-clause-completes g c = λ text y quiet calm. sample_completes c.in-Sample.count c.run_sample.result _ _ _ _ calm c.run_sample.ensures.ends
 
 pub returns-in-Sample-clause-refuses : goal.returns-in-Sample-clause-refuses
 returns-in-Sample-clause-refuses g c = λ fault r quiet. absurd (not_sample c.args.words.now r.page.asked c.in-Sample.count r.page.asks (c.in-Ok.ensures ∙ ap Some c.in-Sample.ensures))
@@ -106,91 +106,91 @@ pub returns-in-Sample-clause-takes : goal.returns-in-Sample-clause-takes
 returns-in-Sample-clause-takes g c = took_nothing c.args.words.now _
 
 pub returns-in-Several-clause-usage : goal.returns-in-Several-clause-usage
-returns-in-Several-clause-usage g c = λ is. absurd (never_usage c.args.words.now _ (c.in-Ok.ensures ∙ ap Some c.in-Several.ensures) _ _ _ c.run_several-status.ensures is)
+returns-in-Several-clause-usage g c = λ is. absurd (never_usage c.args.words.now _ (c.in-Ok.ensures ∙ ap Some c.in-Several.ensures) _ _ _ c.run_several-status.ensures.ends is)
 
 pub returns-in-Several-clause-only_usage : goal.returns-in-Several-clause-only_usage
-returns-in-Several-clause-only_usage g c = λ none. absurd (never_nothing c.args.words.now _ (c.in-Ok.ensures ∙ ap Some c.in-Several.ensures) _ _ _ c.run_several-status.ensures none)
+returns-in-Several-clause-only_usage g c = λ none. absurd (never_nothing c.args.words.now _ (c.in-Ok.ensures ∙ ap Some c.in-Several.ensures) _ _ _ c.run_several-status.ensures.ends none)
 
 pub returns-in-Several-clause-untouched : goal.returns-in-Several-clause-untouched
-returns-in-Several-clause-untouched g c = λ is. absurd (never_usage c.args.words.now _ (c.in-Ok.ensures ∙ ap Some c.in-Several.ensures) _ _ _ c.run_several-status.ensures is)
+returns-in-Several-clause-untouched g c = λ is. absurd (never_usage c.args.words.now _ (c.in-Ok.ensures ∙ ap Some c.in-Several.ensures) _ _ _ c.run_several-status.ensures.ends is)
 
 pub returns-in-Several-clause-done : goal.returns-in-Several-clause-done
-returns-in-Several-clause-done g c = λ is t tells. several_done c.args.words.now _ (c.in-Ok.ensures ∙ ap Some c.in-Several.ensures) _ _ _ c.run_several-status.ensures is t tells
+returns-in-Several-clause-done g c = λ is t tells. several_done c.args.words.now _ (c.in-Ok.ensures ∙ ap Some c.in-Several.ensures) _ _ _ c.run_several-status.ensures.ends is t tells
 
 pub returns-in-Several-clause-denotes : goal.returns-in-Several-clause-denotes
-returns-in-Several-clause-denotes g c = λ is t tells. several_denote c.args.words.now _ (c.in-Ok.ensures ∙ ap Some c.in-Several.ensures) _ _ _ c.run_several-status.ensures is t tells
+returns-in-Several-clause-denotes g c = λ is t tells. several_denote c.args.words.now _ (c.in-Ok.ensures ∙ ap Some c.in-Several.ensures) _ _ _ c.run_several-status.ensures.ends is t tells
 
 pub returns-in-Several-clause-to_end : goal.returns-in-Several-clause-to_end
-returns-in-Several-clause-to_end g c = λ is. several_at_end c.args.words.now _ (c.in-Ok.ensures ∙ ap Some c.in-Several.ensures) _ _ _ c.run_several-status.ensures
+returns-in-Several-clause-to_end g c = λ is. several_at_end c.args.words.now _ (c.in-Ok.ensures ∙ ap Some c.in-Several.ensures) _ _ _ c.run_several-status.ensures.ends
 
 pub returns-in-Several-clause-refused : goal.returns-in-Several-clause-refused
-returns-in-Several-clause-refused g c = λ fault is t tells. absurd (never_refused c.args.words.now _ (c.in-Ok.ensures ∙ ap Some c.in-Several.ensures) _ _ _ c.run_several-status.ensures fault is)
+returns-in-Several-clause-refused g c = λ fault is t tells. absurd (never_refused c.args.words.now _ (c.in-Ok.ensures ∙ ap Some c.in-Several.ensures) _ _ _ c.run_several-status.ensures.ends fault is)
 
 pub returns-in-Several-clause-refuses_one : goal.returns-in-Several-clause-refuses_one
-returns-in-Several-clause-refuses_one g c = λ fault is. absurd (never_refused c.args.words.now _ (c.in-Ok.ensures ∙ ap Some c.in-Several.ensures) _ _ _ c.run_several-status.ensures fault is)
+returns-in-Several-clause-refuses_one g c = λ fault is. absurd (never_refused c.args.words.now _ (c.in-Ok.ensures ∙ ap Some c.in-Several.ensures) _ _ _ c.run_several-status.ensures.ends fault is)
 
 pub returns-in-Several-clause-refused_takes : goal.returns-in-Several-clause-refused_takes
-returns-in-Several-clause-refused_takes g c = λ fault is. absurd (never_refused c.args.words.now _ (c.in-Ok.ensures ∙ ap Some c.in-Several.ensures) _ _ _ c.run_several-status.ensures fault is)
+returns-in-Several-clause-refused_takes g c = λ fault is. absurd (never_refused c.args.words.now _ (c.in-Ok.ensures ∙ ap Some c.in-Several.ensures) _ _ _ c.run_several-status.ensures.ends fault is)
 
 pub returns-in-Several-clause-read_fault : goal.returns-in-Several-clause-read_fault
-returns-in-Several-clause-read_fault g c = λ is. several_failed c.args.words.now _ (c.in-Ok.ensures ∙ ap Some c.in-Several.ensures) _ _ _ c.run_several-status.ensures is
+returns-in-Several-clause-read_fault g c = λ is. several_failed c.args.words.now _ (c.in-Ok.ensures ∙ ap Some c.in-Several.ensures) _ _ _ c.run_several-status.ensures.ends is
 
 pub returns-in-Several-clause-cleanly : goal.returns-in-Several-clause-cleanly
-returns-in-Several-clause-cleanly g c = λ is. several_cleanly c.args.words.now _ (c.in-Ok.ensures ∙ ap Some c.in-Several.ensures) _ _ _ c.run_several-status.ensures
+returns-in-Several-clause-cleanly g c = λ is. several_cleanly c.args.words.now _ (c.in-Ok.ensures ∙ ap Some c.in-Several.ensures) _ _ _ c.run_several-status.ensures.ends
 
 pub returns-in-Several-clause-lacking : goal.returns-in-Several-clause-lacking
-returns-in-Several-clause-lacking g c = λ lacks. several_lacking c.args.words.now _ (c.in-Ok.ensures ∙ ap Some c.in-Several.ensures) _ _ _ c.run_several-status.ensures lacks
+returns-in-Several-clause-lacking g c = λ lacks. several_lacking c.args.words.now _ (c.in-Ok.ensures ∙ ap Some c.in-Several.ensures) _ _ _ c.run_several-status.ensures.ends lacks
 
 pub returns-in-Several-clause-write_fault : goal.returns-in-Several-clause-write_fault
-returns-in-Several-clause-write_fault g c = λ is. several_write_fault c.args.words.now _ (c.in-Ok.ensures ∙ ap Some c.in-Several.ensures) _ _ _ c.run_several-status.ensures is
+returns-in-Several-clause-write_fault g c = λ is. several_write_fault c.args.words.now _ (c.in-Ok.ensures ∙ ap Some c.in-Several.ensures) _ _ _ c.run_several-status.ensures.ends is
 
 pub returns-in-Several-clause-partly : goal.returns-in-Several-clause-partly
-returns-in-Several-clause-partly g c = λ is t tells. several_partly c.args.words.now _ (c.in-Ok.ensures ∙ ap Some c.in-Several.ensures) _ _ _ c.run_several-status.ensures is t tells
+returns-in-Several-clause-partly g c = λ is t tells. several_partly c.args.words.now _ (c.in-Ok.ensures ∙ ap Some c.in-Several.ensures) _ _ _ c.run_several-status.ensures.ends is t tells
 
 pub returns-in-Several-clause-nothing_written : goal.returns-in-Several-clause-nothing_written
-returns-in-Several-clause-nothing_written g c = λ d w. several_unwritten c.args.words.now _ (c.in-Ok.ensures ∙ ap Some c.in-Several.ensures) _ _ _ c.run_several-status.ensures d w
+returns-in-Several-clause-nothing_written g c = λ d w. several_unwritten c.args.words.now _ (c.in-Ok.ensures ∙ ap Some c.in-Several.ensures) _ _ _ c.run_several-status.ensures.ends d w
 
 pub returns-in-Several-clause-names_context : goal.returns-in-Several-clause-names_context
-returns-in-Several-clause-names_context g c = λ is. several_name_context c.args.words.now _ (c.in-Ok.ensures ∙ ap Some c.in-Several.ensures) _ _ _ c.run_several-status.ensures is
+returns-in-Several-clause-names_context g c = λ is. several_name_context c.args.words.now _ (c.in-Ok.ensures ∙ ap Some c.in-Several.ensures) _ _ _ c.run_several-status.ensures.ends is
 
 pub returns-in-Several-clause-bad_context : goal.returns-in-Several-clause-bad_context
-returns-in-Several-clause-bad_context g c = λ is t tells. several_bad_context c.args.words.now _ (c.in-Ok.ensures ∙ ap Some c.in-Several.ensures) _ _ _ c.run_several-status.ensures is t tells
+returns-in-Several-clause-bad_context g c = λ is t tells. several_bad_context c.args.words.now _ (c.in-Ok.ensures ∙ ap Some c.in-Several.ensures) _ _ _ c.run_several-status.ensures.ends is t tells
 
 pub returns-in-Several-clause-refuses_context : goal.returns-in-Several-clause-refuses_context
-returns-in-Several-clause-refuses_context g c = λ bad quiet. several_refuse_context c.args.words.now _ (c.in-Ok.ensures ∙ ap Some c.in-Several.ensures) _ _ _ c.run_several-status.ensures bad quiet
+returns-in-Several-clause-refuses_context g c = λ bad quiet. several_refuse_context c.args.words.now _ (c.in-Ok.ensures ∙ ap Some c.in-Several.ensures) _ _ _ c.run_several-status.ensures.ends bad quiet
 
 pub returns-in-Several-clause-takes_context : goal.returns-in-Several-clause-takes_context
-returns-in-Several-clause-takes_context g c = λ is. several_take_context c.args.words.now _ (c.in-Ok.ensures ∙ ap Some c.in-Several.ensures) _ _ _ c.run_several-status.ensures is
+returns-in-Several-clause-takes_context g c = λ is. several_take_context c.args.words.now _ (c.in-Ok.ensures ∙ ap Some c.in-Several.ensures) _ _ _ c.run_several-status.ensures.ends is
 
 pub returns-in-Several-clause-says_usage : goal.returns-in-Several-clause-says_usage
-returns-in-Several-clause-says_usage g c = λ is. absurd (never_usage c.args.words.now _ (c.in-Ok.ensures ∙ ap Some c.in-Several.ensures) _ _ _ c.run_several-status.ensures is)
+returns-in-Several-clause-says_usage g c = λ is. absurd (never_usage c.args.words.now _ (c.in-Ok.ensures ∙ ap Some c.in-Several.ensures) _ _ _ c.run_several-status.ensures.ends is)
 
 pub returns-in-Several-clause-says_refused : goal.returns-in-Several-clause-says_refused
-returns-in-Several-clause-says_refused g c = λ fault is. absurd (never_refused c.args.words.now _ (c.in-Ok.ensures ∙ ap Some c.in-Several.ensures) _ _ _ c.run_several-status.ensures fault is)
+returns-in-Several-clause-says_refused g c = λ fault is. absurd (never_refused c.args.words.now _ (c.in-Ok.ensures ∙ ap Some c.in-Several.ensures) _ _ _ c.run_several-status.ensures.ends fault is)
 
 pub returns-in-Several-clause-says_context : goal.returns-in-Several-clause-says_context
-returns-in-Several-clause-says_context g c = λ is. several_say_context c.args.words.now _ (c.in-Ok.ensures ∙ ap Some c.in-Several.ensures) _ _ _ c.run_several-status.ensures is
+returns-in-Several-clause-says_context g c = λ is. several_say_context c.args.words.now _ (c.in-Ok.ensures ∙ ap Some c.in-Several.ensures) _ _ _ c.run_several-status.ensures.ends is
 
 pub returns-in-Several-clause-says_nothing : goal.returns-in-Several-clause-says_nothing
-returns-in-Several-clause-says_nothing g c = λ u b r. several_say_nothing c.args.words.now _ (c.in-Ok.ensures ∙ ap Some c.in-Several.ensures) _ _ _ c.run_several-status.ensures b
+returns-in-Several-clause-says_nothing g c = λ u b r. several_say_nothing c.args.words.now _ (c.in-Ok.ensures ∙ ap Some c.in-Several.ensures) _ _ _ c.run_several-status.ensures.ends b
 
 pub returns-in-Several-clause-takes : goal.returns-in-Several-clause-takes
-returns-in-Several-clause-takes g c = several_take c.args.words.now _ (c.in-Ok.ensures ∙ ap Some c.in-Several.ensures) _ _ _ c.run_several-status.ensures
+returns-in-Several-clause-takes g c = several_take c.args.words.now _ (c.in-Ok.ensures ∙ ap Some c.in-Several.ensures) _ _ _ c.run_several-status.ensures.ends
 
 pub returns-in-Several-clause-sample : goal.returns-in-Several-clause-sample
-returns-in-Several-clause-sample g c = λ count is. absurd (never_sample c.args.words.now _ (c.in-Ok.ensures ∙ ap Some c.in-Several.ensures) _ _ _ c.run_several-status.ensures count is)
+returns-in-Several-clause-sample g c = λ count is. absurd (never_sample c.args.words.now _ (c.in-Ok.ensures ∙ ap Some c.in-Several.ensures) _ _ _ c.run_several-status.ensures.ends count is)
 
 pub returns-in-Several-clause-sample_reads : goal.returns-in-Several-clause-sample_reads
-returns-in-Several-clause-sample_reads g c = λ count is. absurd (never_sample c.args.words.now _ (c.in-Ok.ensures ∙ ap Some c.in-Several.ensures) _ _ _ c.run_several-status.ensures count is)
+returns-in-Several-clause-sample_reads g c = λ count is. absurd (never_sample c.args.words.now _ (c.in-Ok.ensures ∙ ap Some c.in-Several.ensures) _ _ _ c.run_several-status.ensures.ends count is)
 
 pub returns-in-Several-clause-completes : goal.returns-in-Several-clause-completes
-returns-in-Several-clause-completes g c = λ text y quiet calm. several_complete c.args.words.now _ (c.in-Ok.ensures ∙ ap Some c.in-Several.ensures) _ _ _ c.run_several-status.ensures text y quiet calm
+returns-in-Several-clause-completes g c = λ text y quiet calm. several_complete c.args.words.now _ (c.in-Ok.ensures ∙ ap Some c.in-Several.ensures) _ _ _ c.run_several-status.ensures.ends text y quiet calm
 
 pub returns-in-Several-clause-completes_all : goal.returns-in-Several-clause-completes_all
-returns-in-Several-clause-completes_all g c = λ all quiet calm. several_complete_all c.args.words.now _ (c.in-Ok.ensures ∙ ap Some c.in-Several.ensures) _ _ _ c.run_several-status.ensures all quiet calm
+returns-in-Several-clause-completes_all g c = λ all quiet calm. several_complete_all c.args.words.now _ (c.in-Ok.ensures ∙ ap Some c.in-Several.ensures) _ _ _ c.run_several-status.ensures.ends all quiet calm
 
 pub returns-in-Several-clause-refuses : goal.returns-in-Several-clause-refuses
-returns-in-Several-clause-refuses g c = λ fault r quiet. absurd (several_faultless c.args.words.now _ (c.in-Ok.ensures ∙ ap Some c.in-Several.ensures) _ _ _ c.run_several-status.ensures fault r)
+returns-in-Several-clause-refuses g c = λ fault r quiet. absurd (several_faultless c.args.words.now _ (c.in-Ok.ensures ∙ ap Some c.in-Several.ensures) _ _ _ c.run_several-status.ensures.ends fault r)
 
 pub returns-in-Err-Failed-write-clause-completes_all : goal.returns-in-Err-Failed-write-clause-completes_all
 returns-in-Err-Failed-write-clause-completes_all g c = λ all quiet calm. absurd (not_all c.args.words.now _ _ (asks_page c.args.words.now c.in-Ok.job c.in-Ok.ensures c.in-Page.ensures) all)
