@@ -23,8 +23,8 @@ use Rattle.rx_grammar.specs.declared.stops.Stop.{Stop}
 use Rattle.rx_grammar.specs.declared.stops.Stop.TheVariants as stop
 use Rattle.rx_tags.specs.declared.tags.Tag.{Tag}
 use Rattle.rx_tags.specs.Seen.{tag_seen}
-use Rattle.rx_scan.specs.declared.answers.What.{What}
-use Rattle.rx_scan.specs.declared.answers.What.TheVariants as what
+use Rattle.rx_scan.specs.declared.answers.TokenKind.{TokenKind}
+use Rattle.rx_scan.specs.declared.answers.TokenKind.TheVariants as what
 use Rattle.rx_scan.specs.declared.answers.Token.{Token}
 use Rattle.rx_scan.specs.declared.answers.Token.TheVariants as token
 use Rattle.rx_scan.specs.declared.places.Setting.{Setting}
@@ -49,7 +49,7 @@ use Rattle.rx_nest.proofs.TextSteps.{said_by, Quiet, none_quiet, texts_quiet, co
 use Rattle.rx_nest.proofs.Heeding.{front_rest, scan_fails, scan_is, quiet_at, quiet_shows, said_is, behind_is, doctype_at, tag_stops, tag_leads}
 
 -- the text that is shown is the one that was told
-text_is : (answer : What) (v : Scanner) → v.what ≡ answer → (text : _) → Shows answer v.reading (token.Text text) → (chars text.now ≡ last_text v) × (has_text v.what ≡ true)
+text_is : (answer : TokenKind) (v : Scanner) → v.what ≡ answer → (text : _) → Shows answer v.reading (token.Text text) → (chars text.now ≡ last_text v) × (has_text v.what ≡ true)
 text_is what.Text v e text s = rw e (s, refl)
 text_is what.Section v e text s = rw e (s, refl)
 text_is what.Nothing v e text s = absurd (let w : token.Text text ≡ token.More = s in cc)
@@ -61,7 +61,7 @@ pub record TagShown (v : Scanner) (closing : Bool) (t : Tag) : Type 0 where
   pub what_is : v.what ≡ what.Tag
   pub shows : ShowsTag v.reading closing t
 
-start_is : (answer : What) (v : Scanner) → v.what ≡ answer → (t : Tag) → Shows answer v.reading (token.Start t) → TagShown v false t
+start_is : (answer : TokenKind) (v : Scanner) → v.what ≡ answer → (t : Tag) → Shows answer v.reading (token.Start t) → TagShown v false t
 start_is what.Tag v e t s = record { what_is = e; shows = s }
 start_is what.Text v e t s = elim s [ ]
 start_is what.Section v e t s = elim s [ ]
@@ -69,7 +69,7 @@ start_is what.Nothing v e t s = absurd (let w : token.Start t ≡ token.More = s
 start_is what.Skipped v e t s = absurd (let w : token.Start t ≡ token.Skipped = s in cc)
 start_is what.Doctype v e t s = absurd (let w : token.Start t ≡ token.Doctype = s in cc)
 
-end_is : (answer : What) (v : Scanner) → v.what ≡ answer → (t : Tag) → Shows answer v.reading (token.End t) → TagShown v true t
+end_is : (answer : TokenKind) (v : Scanner) → v.what ≡ answer → (t : Tag) → Shows answer v.reading (token.End t) → TagShown v true t
 end_is what.Tag v e t s = record { what_is = e; shows = s }
 end_is what.Text v e t s = elim s [ ]
 end_is what.Section v e t s = elim s [ ]

@@ -21,8 +21,8 @@ use Rattle.rx_grammar.specs.declared.stops.Stop.{Stop}
 use Rattle.rx_grammar.specs.declared.stops.Stop.TheVariants as stop
 use Rattle.rx_tags.specs.declared.tags.Tag.{Tag}
 use Rattle.rx_tags.specs.Seen.{tag_seen}
-use Rattle.rx_scan.specs.declared.answers.What.{What}
-use Rattle.rx_scan.specs.declared.answers.What.TheVariants as what
+use Rattle.rx_scan.specs.declared.answers.TokenKind.{TokenKind}
+use Rattle.rx_scan.specs.declared.answers.TokenKind.TheVariants as what
 use Rattle.rx_scan.specs.declared.places.Setting.{Setting}
 use Rattle.rx_scan.specs.Scanner.{Scanner}
 use Rattle.rx_scan.specs.Steps as scan
@@ -60,14 +60,14 @@ tag_shown t = start_seen (tag_seen t) t.token t.at
 abbrev pub last_tag : Scanner → StartTag
 last_tag v = start_seen (parts_of v.reading.pending.tag.state) v.reading.place.token v.reading.end
 
-abbrev pub text_by : What → Scanner → Chars
+abbrev pub text_by : TokenKind → Scanner → Chars
 text_by what.Section v = v.reading.pending.run
 text_by _ v = v.reading.text.text
 
 abbrev pub last_text : Scanner → Chars
 last_text v = text_by v.what v
 
-abbrev pub has_text : What → Bool
+abbrev pub has_text : TokenKind → Bool
 has_text what.Text = true
 has_text what.Section = true
 has_text _ = false

@@ -7,7 +7,7 @@ ghost use Rattle.rx_grammar.specs.Names.{same, is_among};
 ghost use Rattle.rx_grammar.specs.Names as the_names;
 ghost use Rattle.rx_grammar.specs.Contents as contents;
 ghost use Rattle.rx_grammar.specs.Omission as omission;
-ghost use Rattle.rx_nest.specs.Ordinary.{IsOrdinary};
+ghost use Rattle.rx_nest.specs.Ordinary.{IsPlain, IsOrdinary};
 ghost use Rattle.rx_nest.specs.Rows.{row_seen};
 
 use crate::places::Place;
@@ -33,6 +33,13 @@ pub(crate) fn is_ordinary(name: &str) -> bool
     ensures { result ≡ true → IsOrdinary (chars name.now) }
 {
     tables::is_ordinary(name)
+}
+
+/// Whether the name surely stands in none of the tables but that of omitted end tags.
+pub(crate) fn is_omissible(name: &str) -> bool
+    ensures { result ≡ true → IsPlain (chars name.now) }
+{
+    tables::is_omissible(name)
 }
 
 /// The row of the name, where its end tag may be omitted (HTML, 13.1.2.4).

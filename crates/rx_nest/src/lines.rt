@@ -5,7 +5,7 @@ ghost use Rattle.rx_grammar.specs.PageFaults.{first_row};
 ghost use Rattle.rx_tags.specs.Seen.{tag_seen};
 ghost use Rattle.rx_nest.specs.Levels as levels;
 ghost use Rattle.rx_nest.specs.Lines as lines;
-ghost use Rattle.rx_nest.specs.Ordinary.{IsOrdinaryUnder};
+ghost use Rattle.rx_nest.specs.Ordinary.{IsOrdinaryUnder, IsPlainUnder};
 
 use crate::element_names;
 use crate::levels::{Levels, Traits};
@@ -172,6 +172,8 @@ impl OpenElements {
         }
         if self.is_ordinary(tag) {
             self.begin_ordinary(tag, ends)
+        } else if self.is_omissible(tag) {
+            self.begin_omissible(tag, ends)
         } else {
             self.begin_own(tag, ends)
         }
@@ -198,6 +200,39 @@ impl OpenElements {
             inside: Place::of(Content::Html),
             row: None,
             held: false,
+            shown: !hidden,
+            hides: hidden,
+        };
+        self.begun = true;
+        self.levels.push(tag.name(), traits)?;
+        Ok(TagEffect {
+            ends,
+            own,
+            drops: false,
+        })
+    }
+
+    // Whether an element begins of which one table alone says something, that of omitted end tags.
+    fn is_omissible(&self, tag: &Tag<'_>) -> bool
+        ensures { result ≡ true → IsPlainUnder self.now.syntax self.now.levels (tag_seen tag.now).name }
+    {
+        self.syntax == Syntax::Html
+            && self.levels.place().is_html()
+            && element_names::is_omissible(tag.name())
+    }
+
+    // What `begin_own` does, with a look at that table alone.
+    fn begin_omissible(&mut self, tag: &Tag<'_>, ends: usize) -> Result<TagEffect, Refused>
+        requires room { nat_le self.old.depth (length self.old.levels) ≡ false }
+        requires plain { IsPlainUnder self.old.syntax self.old.levels (tag_seen tag.now).name }
+        ensures { lines.OwnGives ends self.old (tag_seen tag.now) result self.new }
+    {
+        let own = self.own_of_start(false);
+        let hidden = self.levels.hides();
+        let traits = Traits {
+            inside: Place::of(Content::Html),
+            row: element_names::row_of(tag.name()),
+            held: element_names::is_held(self.levels.name(), tag.name()),
             shown: !hidden,
             hides: hidden,
         };

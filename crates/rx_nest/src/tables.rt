@@ -3,7 +3,7 @@ ghost use Rattle.std.specs.Prelude.{◌≡◌, option_map, codes, [], ◌∷◌,
 ghost use Rattle.rx_grammar.specs.Names.{same, is_among};
 ghost use Rattle.rx_grammar.specs.Names as names;
 ghost use Rattle.rx_grammar.specs.Contents as contents;
-ghost use Rattle.rx_nest.specs.Ordinary.{ordinary_names};
+ghost use Rattle.rx_nest.specs.Ordinary.{ordinary_names, omissible_names};
 ghost use Rattle.rx_nest.specs.Rows.{row_seen};
 
 use crate::places::Place;
@@ -158,8 +158,29 @@ pub(crate) fn is_ordinary(name: &str) -> bool
 {
     matches!(
         name,
-        "a" | "b" | "i" | "ul" | "h1" | "h2" | "h3" | "em" | "div" | "span" | "strong"
+        "span"
+            | "code"
+            | "div"
+            | "strong"
+            | "em"
+            | "dl"
+            | "ul"
+            | "section"
+            | "h3"
+            | "h2"
+            | "h4"
+            | "h1"
+            | "a"
+            | "b"
+            | "i"
     )
+}
+
+/// Whether the name is one of those that stand in the table of omitted end tags alone and that most pages have most often.
+pub(crate) fn is_omissible(name: &str) -> bool
+    ensures { result ≡ is_among omissible_names name.now }
+{
+    matches!(name, "p" | "li" | "dd" | "dt" | "td" | "th" | "tr")
 }
 
 pub(crate) fn is_holding(name: &str) -> bool

@@ -20,6 +20,9 @@ const STRICT_PAGE: &[u8] = b"<html><p about='#s' property='e:p'>Ho</p></html>";
 const NODES_PAGE: &[u8] = b"<html><body><p about='_:x' property='e:p' lang=en>Hi</p>\
 <p about='_:y' rel='e:q' resource='_:x'></p><p about='#s' property='e:n' datatype='e:d'>1</p></body></html>";
 
+const CYCLE_PAGE: &[u8] = b"<html><div itemscope itemref=x></div>\
+<div id=x itemprop=p itemscope itemref=y></div><div id=y itemprop=q itemscope itemref=x></div></html>";
+
 const GRAPH: &[u8] = b"http://h.example/g";
 
 const NAMES: &[u8] = b"{\"prefixes\":{\"e\":\"http://v.example/\"}}";
@@ -189,6 +192,15 @@ fn tell_others(rt: &HostRuntime) -> io::Result<()> {
     tell(rt, open_check(alloc, 0, None), b"<html></p></html>")
 }
 
+/// Pages whose fault shows only where they end.
+fn tell_ends(rt: &HostRuntime) -> io::Result<()> {
+    let alloc = rt.alloc();
+    let cut = open_extraction(alloc, 0, 0, 0, ADDRESS, None, None);
+    tell(rt, cut, b"<html><p>")?;
+    tell(rt, open_items(alloc, 0, ADDRESS), b"<html>")?;
+    tell(rt, open_items(alloc, 0, ADDRESS), CYCLE_PAGE)
+}
+
 /// What is refused before a page is read: a context, addresses, names of graphs and numbers.
 fn tell_refused(rt: &HostRuntime) -> io::Result<()> {
     let alloc = rt.alloc();
@@ -213,6 +225,7 @@ fn tell_all(rt: &HostRuntime) -> io::Result<()> {
     tell_triples(rt)?;
     tell_numbered(rt)?;
     tell_others(rt)?;
+    tell_ends(rt)?;
     tell_refused(rt)
 }
 
