@@ -17,7 +17,7 @@ mod shaped;
 mod texts;
 mod walks;
 
-pub use contexts::LARGEST_CONTEXT;
+pub use contexts::{LARGEST_CONTEXT, context_of};
 pub use forms::Form;
 pub use json_texts::text_of_items;
 pub use outcomes::{Outcome, graph_of};
