@@ -59,8 +59,8 @@ none_is : (bytes left : List ℕ) → (length bytes ≤ largest_context → left
 none_is bytes left whole none =
     by_test (nat_le (length bytes) largest_context) (λ small. ap is_context (ap (λ l. bytes ++ l) (whole (fits (length bytes) small)) ∙ append-nil bytes) ∙ none)
     (λ past.
-        let more : largest_context < length bytes = over (length bytes) past in
-        too_long (bytes ++ left) (omega (arith, more, length-append bytes left)))
+    let more : largest_context < length bytes = over (length bytes) past in
+    too_long (bytes ++ left) (omega (arith, more, length-append bytes left)))
 
 pub was_none : (told now : Option ShelfContent) (file name bytes : List ℕ) → name ≡ encode_utf8_all file → WhereKnown (ReadsFile name largest_context bytes) told now
     → is_context bytes ≡ false → WhereTold (IsContextFile file false) told
