@@ -1,6 +1,6 @@
 -- From what was read of the files that a job names to what they are.
 use Rattle.std.specs.Prelude.{option_map}
-use Rattle.std.proofs.Common.{nat_eq, ◌≡◌, ◌∙◌, ◌+◌, ◌≤◌, ◌<◌, ◌⊎◌, inl, inr, ℕ, nat_le, Bool, true, false, ◌&&◌, List, [], ◌++◌, length, sym, ap, subst, refl, arith, Option, Some, None, Result, Ok, Err, IfOk, is_some, encode_utf8_all, length-append, append-nil}
+use Rattle.std.proofs.Common.{nat_eq, ◌≡◌, ◌∙◌, ◌+◌, ◌≤◌, ◌<◌, ◌⊎◌, inl, inr, ℕ, nat_le, true, false, ◌&&◌, List, [], ◌++◌, length, sym, ap, subst, refl, arith, Option, Some, None, Result, Ok, Err, IfOk, is_some, encode_utf8_all, length-append, append-nil}
 use Rattle.std.proofs.lemmas.Bool.Decides.{nat_tests}
 use Rattle.rx_ports.specs.Counts.{Rose}
 use Rattle.rx_ports.specs.Files.{file_of}
@@ -29,6 +29,8 @@ use Rattle.rx_page.proofs.OutcomeLemmas.{refuses_first}
 use Rattle.rx_command.specs.Files.{ReadsFile, TakesOf, size_of}
 use Rattle.rx_command.specs.Contexts.{IsContextFile, IsFileOf, IsContext, HasContext, TakesContext, ReadsContext, context_size}
 use Rattle.rx_page.specs.Contexts.{largest_context, is_context}
+use Rattle.rx_page.proofs.ContextLemmas.{short, too_long}
+use Rattle.rx_terms.proofs.Bools.{by_test}
 use Rattle.rx_command.specs.Inputs.{PageText, PageRefused, JobText, JobRefused, TellsThat, WhereTold}
 use Rattle.rx_page.specs.Tasks.{IsRight, way_in}
 use Rattle.rx_command.specs.Outcome.{IsLacking, ReadsTo}
@@ -46,37 +48,29 @@ use Rattle.rx_page.proofs.MadeLemmas.{text_made}
 
 -- ---- the context file
 
-short : (n : ℕ) → n ≤ largest_context → nat_le n largest_context ≡ true
-short n e = grind (arith, nat_tests)
+fits : (n : ℕ) → nat_le n largest_context ≡ true → n ≤ largest_context
+fits n e = grind (arith, nat_tests)
 
-long : (n : ℕ) → largest_context < n → nat_le n largest_context ≡ false
-long n e = grind (arith, nat_tests)
+over : (n : ℕ) → nat_le n largest_context ≡ false → largest_context < n
+over n e = grind (arith, nat_tests)
 
-whole_is : (bytes left : List ℕ) (valid : Bool) → (length bytes ≤ largest_context → left ≡ []) → length bytes ≤ largest_context → is_some (context_of bytes) ≡ valid → is_context (bytes ++ left) ≡ valid
-whole_is bytes left valid w small e =
-    ap is_context (ap (λ l. bytes ++ l) (w small) ∙ append-nil bytes) ∙ ap (λ b. b && is_some (context_of bytes)) (short (length bytes) small) ∙ e
+-- bytes that are no context, of a file that was read to its end, or past the largest
+none_is : (bytes left : List ℕ) → (length bytes ≤ largest_context → left ≡ []) → is_context bytes ≡ false → is_context (bytes ++ left) ≡ false
+none_is bytes left whole none =
+    by_test (nat_le (length bytes) largest_context) (λ small. ap is_context (ap (λ l. bytes ++ l) (whole (fits (length bytes) small)) ∙ append-nil bytes) ∙ none)
+    (λ past.
+    let more : largest_context < length bytes = over (length bytes) past in
+    too_long (bytes ++ left) (omega (arith, more, length-append bytes left)))
 
-pub was_tested : (told now : Option ShelfContent) (file name bytes : List ℕ) (valid : Bool) → name ≡ encode_utf8_all file → WhereKnown (ReadsFile name largest_context bytes) told now
-    → length bytes ≤ largest_context → is_some (context_of bytes) ≡ valid → WhereTold (IsContextFile file valid) told
-was_tested None now file name bytes valid named m small e = tt
-was_tested (Some t) now file name bytes valid named m small e =
+pub was_none : (told now : Option ShelfContent) (file name bytes : List ℕ) → name ≡ encode_utf8_all file → WhereKnown (ReadsFile name largest_context bytes) told now
+    → is_context bytes ≡ false → WhereTold (IsContextFile file false) told
+was_none None now file name bytes named m none = tt
+was_none (Some t) now file name bytes named m none =
     let r = moves_at t m refl in
     record {
       bytes = bytes ++ (r.0).left;
       file = ap (file_of t.files) (sym named) ∙ (r.1).read.file;
-      tested = whole_is bytes (r.0).left valid (r.1).whole small e;
-    }
-
-pub was_long : (told now : Option ShelfContent) (file name bytes : List ℕ) → name ≡ encode_utf8_all file → WhereKnown (ReadsFile name largest_context bytes) told now
-    → largest_context < length bytes → WhereTold (IsContextFile file false) told
-was_long None now file name bytes named m past = tt
-was_long (Some t) now file name bytes named m past =
-    let r = moves_at t m refl in
-    let all : largest_context < length (bytes ++ (r.0).left) = omega (arith, length-append bytes (r.0).left) in
-    record {
-      bytes = bytes ++ (r.0).left;
-      file = ap (file_of t.files) (sym named) ∙ (r.1).read.file;
-      tested = ap (λ b. b && is_some (context_of (bytes ++ (r.0).left))) (long (length (bytes ++ (r.0).left)) all);
+      tested = none_is bytes (r.0).left (r.1).whole none;
     }
 
 pub takes_context : (file name : List ℕ) → name ≡ encode_utf8_all file → (x y : ShelfContent) → TakesOf name (largest_context + 1) x y → TakesContext (Some file) x y

@@ -19,7 +19,7 @@ use crate::files::{ReadError, read_file};
 use crate::pages::{Approach, check_page, read_items, read_page};
 use rx_job::{Format, Job};
 use rx_names::{Context, ContextError};
-use rx_page::{Form, LARGEST_CONTEXT, Outcome, text_of_items};
+use rx_page::{Form, LARGEST_CONTEXT, Outcome, context_of, text_of_items};
 use rx_ports::Shelf;
 use rx_terms::{Iri, Text};
 use rx_walk::{Fault, Stop, Syntax};
@@ -255,10 +255,7 @@ fn read_named_context<F: Shelf>(
         Err(ReadError::Failed) => return Err(InputError::Failed),
         Err(ReadError::NoMemory) => return Err(InputError::NoMemory),
     };
-    if bytes.len() > LARGEST_CONTEXT {
-        return Err(InputError::BadContext);
-    }
-    match Context::of_json(alloc, bytes.as_slice()) {
+    match context_of(alloc, bytes.as_slice()) {
         Ok(context) => Ok(context),
         Err(ContextError::BadContext) => Err(InputError::BadContext),
         Err(ContextError::NoMemory) => Err(InputError::NoMemory),

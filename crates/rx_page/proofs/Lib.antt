@@ -1,3 +1,4 @@
+pub mod ContextLemmas
 pub mod KindLemmas
 pub mod OutcomeLemmas
 pub mod TextLemmas

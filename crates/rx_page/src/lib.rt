@@ -1,8 +1,8 @@
 //! A page that is read in pieces, and what comes of it for a task: its one text, or its one fault.
 //!
 //! What a task makes of a page's bytes is said here, and that it is one thing or the other (`Tasks`, `Outcomes`). A
-//! [`PageReader`] is fed a page's bytes, and gives its triples, its items, or that it is a page; [`graph_of`], [`text_of`],
-//! [`text_of_items`] and [`right_text`] make a text of that in memory, and [`Outcome`] writes it piece by piece. Nothing is read or written here: where the
+//! [`PageReader`] is fed a page's bytes, and gives its triples, its items, or that it is a page. [`graph_of`], [`text_of`],
+//! [`text_of_items`] and [`right_text`] make a text of that in memory, and [`Outcome`] writes it piece by piece. Where the
 //! bytes come from, and where the text goes, is the caller's.
 #![tactic(auto)]
 
@@ -17,7 +17,7 @@ mod shaped;
 mod texts;
 mod walks;
 
-pub use contexts::LARGEST_CONTEXT;
+pub use contexts::{LARGEST_CONTEXT, context_of};
 pub use forms::Form;
 pub use json_texts::text_of_items;
 pub use outcomes::{Outcome, graph_of};

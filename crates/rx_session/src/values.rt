@@ -8,7 +8,6 @@ use crate::outputs::Output;
 use rx_chars::Syntax;
 use rx_job::{Format, names_graphs};
 use rx_names::{Context, ContextError};
-use rx_page::LARGEST_CONTEXT;
 use rx_terms::{Iri, IriError};
 use std::alloc::Global;
 
@@ -102,10 +101,7 @@ pub(crate) fn context_of(alloc: Global, file: Option<&[u8]>) -> Result<Context, 
     let Some(file) = file else {
         return Ok(Context::standard(alloc)?);
     };
-    if file.len() > LARGEST_CONTEXT {
-        return Err(OpenError::BadContext);
-    }
-    match Context::of_json(alloc, file) {
+    match rx_page::context_of(alloc, file) {
         Ok(context) => Ok(context),
         Err(ContextError::BadContext) => Err(OpenError::BadContext),
         Err(ContextError::NoMemory) => Err(OpenError::NoMemory),
