@@ -11,3 +11,4 @@ pub mod WrittenNodes
 pub mod SampleTokens
 pub mod SampleNodes
 pub mod ItemLemmas
+pub mod EndingLemmas

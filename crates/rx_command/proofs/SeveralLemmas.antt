@@ -14,7 +14,7 @@ use Rattle.rx_job.specs.Words.{Gathering, Listed, gathers, samples, job, page_in
 use Rattle.rx_command.specs.Contexts.{HasContext, HasOther, LacksContext, TakesContext, context_in, context_asked}
 use Rattle.rx_command.specs.Outcome.{HasPageFault, LacksPage, LacksOne, JobLacks, LacksFile, HasBadContext}
 use Rattle.rx_command.specs.Gathering.{FileList, GivesTriples, JudgesEach, IsGathered, DenotesGathered, GatheredText, HasPages, HasAll, TakesGathering, GathersPages}
-use Rattle.rx_command.specs.Samples.{Yields, YieldsGraph}
+use Rattle.rx_command.specs.Samples.{Yields, YieldsBoth}
 use Rattle.rx_command.specs.Inputs.{TellsThat, WhereTold}
 use Rattle.rx_command.specs.declared.statuses.Status.{Status}
 use Rattle.rx_command.specs.declared.statuses.Status.TheVariants as status
@@ -181,15 +181,16 @@ module _ (words : List (List ℕ)) (g : Gathering) (j : job words ≡ Some (gath
   pub several_faultless : (fault : Fault) → HasPageFault words old.told fault → ⊥
   several_faultless fault r = no_fault_of_page fault r
 
-  pub several_done : s ≡ status.Done → (t : ShelfContent) → old.told ≡ Some t → (text : List ℕ) × Yields words old.told text × WhereKnown (GrowsBy text) old.held new.held
+  pub several_done : s ≡ status.Done → (t : ShelfContent) → old.told ≡ Some t → (text : List ℕ) × YieldsBoth words old.told text × WhereKnown (GrowsBy text) old.held new.held
   several_done is t tells =
-      let d = ends_at status.Done is in
-      (d.0, inr (inr (record { gathering = g; shelf = t; asks = asks_several; tells = tells; is = where_at (IsGathered g d.0) old.told t tells d.1 })), d.3)
-
-  pub several_denote : s ≡ status.Done → (t : ShelfContent) → old.told ≡ Some t → (text : List ℕ) × YieldsGraph words old.told text × WhereKnown (GrowsBy text) old.held new.held
-  several_denote is t tells =
-      let d = ends_at status.Done is in
-      (d.0, inr (inr (record { gathering = g; shelf = t; asks = asks_several; tells = tells; denotes = where_at (DenotesGathered g d.0) old.told t tells d.2 })), d.3)
+      let d = ends_at status.Done is in (
+        d.0,
+        (
+          inr (inr (record { gathering = g; shelf = t; asks = asks_several; tells = tells; is = where_at (IsGathered g d.0) old.told t tells d.1 })),
+          inr (inr (record { gathering = g; shelf = t; asks = asks_several; tells = tells; denotes = where_at (DenotesGathered g d.0) old.told t tells d.2 })),
+        ),
+        d.3,
+      )
 
   pub several_partly : s ≡ status.WriteFault → (t : ShelfContent) → old.told ≡ Some t → (text : List ℕ) × Yields words old.told text × WhereKnown (GrowsByPart text) old.held new.held
   several_partly is t tells =

@@ -1,5 +1,6 @@
 pub mod Reading
 pub mod Ways
+pub mod Endings
 pub mod Files
 pub mod Contexts
 pub mod Outcome

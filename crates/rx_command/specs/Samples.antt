@@ -114,3 +114,7 @@ Yields words told text = HasPageText words told text ⊎ (SaysOfSample words tex
 -- the outcome is this text, which, where pages are read, denotes exactly their graphs
 abbrev pub YieldsGraph : List Chars → Option ShelfContent → List ℕ → Type 0
 YieldsGraph words told text = HasPageGraph words told text ⊎ (SaysOfSample words text ⊎ GatheredGraphs words told text)
+
+-- the outcome is this text, and it denotes what it has to
+abbrev pub YieldsBoth : List Chars → Option ShelfContent → List ℕ → Type 0
+YieldsBoth words told text = Yields words told text × YieldsGraph words told text
