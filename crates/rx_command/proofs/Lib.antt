@@ -12,3 +12,4 @@ pub mod SampleTokens
 pub mod SampleNodes
 pub mod ItemLemmas
 pub mod EndingLemmas
+pub mod OneAnswer

@@ -209,7 +209,7 @@ pub not_missing : (file : Option (List ℕ)) (shelf : ShelfContent) → HasConte
 not_missing None shelf h l = l
 not_missing (Some name) shelf h l = there _ h.bytes h.file l
 
-not_lack : (asked : Asked) (bytes : List ℕ) (x : ShelfContent) → HasContext asked.context x → file_of x.files (encode_utf8_all asked.page) ≡ Some bytes → IsLacking asked x → ⊥
+pub not_lack : (asked : Asked) (bytes : List ℕ) (x : ShelfContent) → HasContext asked.context x → file_of x.files (encode_utf8_all asked.page) ≡ Some bytes → IsLacking asked x → ⊥
 not_lack asked bytes x c f (inl l) = not_missing asked.context x c l
 not_lack asked bytes x c f (inr l) = there _ bytes f l.1
 

@@ -5,6 +5,7 @@
 //! each status comes exactly where its clause says.
 #![tactic(auto)]
 
+ghost use Rattle.rx_command.specs.Endings.{OneAnswer};
 ghost use Rattle.rx_command.specs.Samples.{SamplesArePages};
 
 mod errors;
@@ -23,4 +24,9 @@ pub use top::run;
 /// The sample page of each number that may be asked for is a page, and none of its start tags is refused.
 pub fn samples_are_pages()
     ensures { SamplesArePages }
+{}
+
+/// Whatever is asked for, and whatever files there are, one answer is right: one status with one text and one line.
+pub fn there_is_one_answer()
+    ensures { OneAnswer }
 {}
