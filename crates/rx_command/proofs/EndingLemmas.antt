@@ -44,11 +44,11 @@ grown_by_none old new m = moves_weaker (GrowsBy []) (λ x y e. e ∙ sym (append
 silent : (old new : Option (List ℕ)) (before now : ℕ) → SaysNothing old new before now → Says [] old new before now
 silent old new before now m = inl (grown_by_none old new m.0)
 
-one_told : (told : Option ShelfContent) (a b : ShelfContent) → told ≡ Some a → told ≡ Some b → a ≡ b
+pub one_told : (told : Option ShelfContent) (a b : ShelfContent) → told ≡ Some a → told ≡ Some b → a ≡ b
 one_told told a b e f = let both : Some a ≡ Some b = sym e ∙ f in (cc)
 
 -- the job in which several pages are asked for
-several_of : (k : Option Job) (g : Gathering) → gathering_in k ≡ Some g → k ≡ Some (gathers g)
+pub several_of : (k : Option Job) (g : Gathering) → gathering_in k ≡ Some g → k ≡ Some (gathers g)
 several_of None g p = absurd (cc)
 several_of (Some (reads a)) g p = absurd (cc)
 several_of (Some (gathers a)) g p = let same : a ≡ g = (cc) in ap (λ (z : Gathering). Some (gathers z)) same
@@ -58,7 +58,7 @@ no_several_sample : (k : Option Job) (g : Gathering) (count : ℕ) → gathering
 no_several_sample k g count p e = let both : None ≡ Some g = sym (ap gathering_in e) ∙ p in absurd (cc)
 
 -- a page that is named is there
-page_there : (words : List Chars) (told : Option ShelfContent) (shelf : ShelfContent) (tells : told ≡ Some shelf) (holds : Context → List ℕ → Type 0) (bytes : List ℕ) (p : NamesPage words told bytes)
+pub page_there : (words : List Chars) (told : Option ShelfContent) (shelf : ShelfContent) (tells : told ≡ Some shelf) (holds : Context → List ℕ → Type 0) (bytes : List ℕ) (p : NamesPage words told bytes)
     → holds p.context bytes → OfPage p.asked shelf holds
 page_there words told shelf tells holds bytes p h =
     let same : p.shelf ≡ shelf = one_told told p.shelf shelf p.tells tells in
@@ -70,13 +70,13 @@ page_there words told shelf tells holds bytes p h =
       holds_so = h;
     }
 
-lacks_answer : (shelf : ShelfContent) (k : Option Job) → JobLacks k shelf → IsAnswer shelf k status.ReadFault [] []
+pub lacks_answer : (shelf : ShelfContent) (k : Option Job) → JobLacks k shelf → IsAnswer shelf k status.ReadFault [] []
 lacks_answer shelf None h = absurd h
 lacks_answer shelf (Some (reads asked)) h = no_file asked h
 lacks_answer shelf (Some (gathers g)) h = no_file_of_several g h
 lacks_answer shelf (Some (samples count)) h = absurd h
 
-bad_answer : (shelf : ShelfContent) (k : Option Job) → HasOther (context_in k) shelf → IsAnswer shelf k status.BadContext [] context_line
+pub bad_answer : (shelf : ShelfContent) (k : Option Job) → HasOther (context_in k) shelf → IsAnswer shelf k status.BadContext [] context_line
 bad_answer shelf None h = absurd h
 bad_answer shelf (Some (reads asked)) h = no_context asked h
 bad_answer shelf (Some (gathers g)) h = no_context_of_several g h
@@ -86,7 +86,7 @@ module _ (words : List Chars) (old new : Devices) (shelf : ShelfContent) (tells 
   at_job : (k : Option Job) (s : Status) (text line : List ℕ) → job words ≡ k → IsAnswer shelf k s text line → IsAnswer shelf (job words) s text line
   at_job k s text line e a = subst (λ z. IsAnswer shelf z s text line) (sym e) a
 
-  due : (text : List ℕ) → Yields words old.told text → IsDue shelf (job words) text
+  pub due : (text : List ℕ) → Yields words old.told text → IsDue shelf (job words) text
   due text (inl p) =
       subst (λ z. IsDue shelf z text) (sym (page_job words p.page.asked p.page.asks))
       (page_there words old.told shelf tells (λ context bytes. TaskGives p.page.asked.task context bytes text) p.bytes p.page p.has_text)

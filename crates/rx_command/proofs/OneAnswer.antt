@@ -18,8 +18,8 @@ use Rattle.rx_rdfa.specs.Whole.{written}
 use Rattle.rx_page.specs.Tasks.{base_in, facts_in}
 use Rattle.rx_page.specs.Outcomes.{IsTheFault, IsTheText}
 use Rattle.rx_page.proofs.FaultLemmas.{one_first, page_has_none}
-use Rattle.rx_command.specs.Contexts.{HasContext, HasOther, LacksContext}
-use Rattle.rx_command.specs.Outcome.{IsLacking, LacksPage, LacksOne}
+use Rattle.rx_command.specs.Contexts.{HasOther}
+use Rattle.rx_command.specs.Outcome.{IsLacking, LacksOne}
 use Rattle.rx_command.specs.Gathering.{FileList, GivesTriples, IsJudged, Judges, JudgesEach, IsGathered}
 use Rattle.rx_command.specs.Samples.{IsSample, line_for, triples_in, sample_page}
 use Rattle.rx_command.specs.Runs.{refused_line, usage_line, context_line}
@@ -27,7 +27,8 @@ use Rattle.rx_command.specs.Endings.{OfPage, IsAnswer, nothing_asked, of_sample,
 use Rattle.rx_command.specs.declared.statuses.Status.{Status}
 use Rattle.rx_command.specs.declared.statuses.Status.TheVariants as status
 use Rattle.rx_command.proofs.InputLemmas.{has_context, one_context}
-use Rattle.rx_command.proofs.RunLemmas.{there, not_other, not_missing, not_lack}
+use Rattle.rx_command.proofs.RunLemmas.{not_other, not_lack}
+use Rattle.rx_command.proofs.SeveralLemmas.{other_context, gathered_lacks, gathered_other}
 
 -- ---- several pages are judged in one way
 
@@ -56,32 +57,14 @@ module _ (syntax : Syntax) (context : Context) (files : FileList) where
   one_list (l ∷ more) (p ∷ ps) [] h k = absurd k
   one_list (l ∷ more) (p ∷ ps) (q ∷ qs) h k = ap₂ (λ x y. x ∷ y) (one_page l p q h.0 k.0) (one_list more ps qs h.1 k.1)
 
-  none_lacks : (listed : List Listed) (a : List Page) → JudgesEach GivesTriples syntax context files listed a → LacksPage files listed → ⊥
-  none_lacks [] a h l = l
-  none_lacks (listed ∷ more) [] h l = h
-  none_lacks (listed ∷ more) (p ∷ ps) h (inl l) = there _ (h.0).bytes (h.0).file l
-  none_lacks (listed ∷ more) (p ∷ ps) h (inr l) = none_lacks more ps h.1 l
-
--- a context file that is there isn't missing
-other_there : (file : Option Chars) (shelf : ShelfContent) → HasOther file shelf → LacksContext file shelf → ⊥
-other_there None shelf h l = h
-other_there (Some name) shelf h l = there _ h.bytes h.file l
-
 module _ (shelf : ShelfContent) where
   no_other_lacks : (asked : Asked) → HasOther asked.context shelf → IsLacking asked shelf → ⊥
-  no_other_lacks asked o (inl l) = other_there asked.context shelf o l
+  no_other_lacks asked o (inl l) = other_context asked.context shelf l o
   no_other_lacks asked o (inr l) = not_other asked.context shelf l.0 o
 
   no_other_lacks_one : (g : Gathering) → HasOther g.context shelf → LacksOne g shelf → ⊥
-  no_other_lacks_one g o (inl l) = other_there g.context shelf o l
+  no_other_lacks_one g o (inl l) = other_context g.context shelf l o
   no_other_lacks_one g o (inr l) = not_other g.context shelf l.0 o
-
-  gathered_lacks : (g : Gathering) (text : List ℕ) → IsGathered g text shelf → LacksOne g shelf → ⊥
-  gathered_lacks g text i (inl l) = not_missing g.context shelf (has_context g.context shelf i.context i.holds) l
-  gathered_lacks g text i (inr l) = none_lacks g.syntax i.context shelf.files g.pages i.pages i.judged l.1
-
-  gathered_other : (g : Gathering) (text : List ℕ) → IsGathered g text shelf → HasOther g.context shelf → ⊥
-  gathered_other g text i o = not_other g.context shelf (has_context g.context shelf i.context i.holds) o
 
   gathered_once : (g : Gathering) (text other : List ℕ) → IsGathered g text shelf → IsGathered g other shelf → text ≡ other
   gathered_once g text other i k =
@@ -91,16 +74,16 @@ module _ (shelf : ShelfContent) where
       i.spelled ∙ ap (λ (l : List Page). encode_utf8_all (gathered l)) pages ∙ sym k.spelled
 
   -- what holds of the page is what holds of it
-  at_same : (asked : Asked) (First Second : Context → List ℕ → Type 0) (a : OfPage asked shelf First) (b : OfPage asked shelf Second) → Second a.context a.bytes
+  pub at_same : (asked : Asked) (First Second : Context → List ℕ → Type 0) (a : OfPage asked shelf First) (b : OfPage asked shelf Second) → Second a.context a.bytes
   at_same asked First Second a b =
       let both : Some b.bytes ≡ Some a.bytes = sym b.file ∙ a.file in
       let same : b.bytes ≡ a.bytes = (cc) in
       subst (λ c. Second c a.bytes) (one_context asked.context shelf b.context a.context b.is_context a.is_context) (subst (λ x. Second b.context x) same b.holds_so)
 
-  page_lacks : (asked : Asked) (Holds : Context → List ℕ → Type 0) → OfPage asked shelf Holds → IsLacking asked shelf → ⊥
+  pub page_lacks : (asked : Asked) (Holds : Context → List ℕ → Type 0) → OfPage asked shelf Holds → IsLacking asked shelf → ⊥
   page_lacks asked Holds a l = not_lack asked a.bytes shelf (has_context asked.context shelf a.context a.is_context) a.file l
 
-  page_other : (asked : Asked) (Holds : Context → List ℕ → Type 0) → OfPage asked shelf Holds → HasOther asked.context shelf → ⊥
+  pub page_other : (asked : Asked) (Holds : Context → List ℕ → Type 0) → OfPage asked shelf Holds → HasOther asked.context shelf → ⊥
   page_other asked Holds a o = not_other asked.context shelf (has_context asked.context shelf a.context a.is_context) o
 
   abbrev HasOnly : Asked → List ℕ → Context → List ℕ → Type 0
@@ -209,8 +192,8 @@ module _ (shelf : ShelfContent) where
   beside_pages g text i (of_pages of other k d) e =
       let same : of ≡ g = (cc) in
       record { status_is = refl; text_is = gathered_once g text other i (subst (λ (x : Gathering). IsGathered x other shelf) same k); line_is = refl }
-  beside_pages g text i (no_file_of_several of l) e = let same : of ≡ g = (cc) in absurd (gathered_lacks g text i (subst (λ (x : Gathering). LacksOne x shelf) same l))
-  beside_pages g text i (no_context_of_several of o) e = let same : of ≡ g = (cc) in absurd (gathered_other g text i (subst (λ (x : Gathering). HasOther x.context shelf) same o))
+  beside_pages g text i (no_file_of_several of l) e = let same : of ≡ g = (cc) in absurd (gathered_lacks g shelf text i (subst (λ (x : Gathering). LacksOne x shelf) same l))
+  beside_pages g text i (no_context_of_several of o) e = let same : of ≡ g = (cc) in absurd (gathered_other g shelf text i (subst (λ (x : Gathering). HasOther x.context shelf) same o))
 
   beside_lack_of_several : {k : Option Job} {t : Status} {other said : List ℕ} (g : Gathering) → LacksOne g shelf → IsAnswer shelf k t other said → k ≡ Some (gathers g) → IsSame status.ReadFault t [] other [] said
   beside_lack_of_several g l nothing_asked e = absurd (cc)
@@ -219,7 +202,7 @@ module _ (shelf : ShelfContent) where
   beside_lack_of_several g l (of_fault asked fault a) e = absurd (cc)
   beside_lack_of_several g l (no_file asked m) e = absurd (cc)
   beside_lack_of_several g l (no_context asked o) e = absurd (cc)
-  beside_lack_of_several g l (of_pages of text i d) e = let same : of ≡ g = (cc) in absurd (gathered_lacks g text (subst (λ (x : Gathering). IsGathered x text shelf) same i) l)
+  beside_lack_of_several g l (of_pages of text i d) e = let same : of ≡ g = (cc) in absurd (gathered_lacks g shelf text (subst (λ (x : Gathering). IsGathered x text shelf) same i) l)
   beside_lack_of_several g l (no_file_of_several of m) e = record { status_is = refl; text_is = refl; line_is = refl }
   beside_lack_of_several g l (no_context_of_several of o) e = let same : of ≡ g = (cc) in absurd (no_other_lacks_one g (subst (λ (x : Gathering). HasOther x.context shelf) same o) l)
 
@@ -230,11 +213,11 @@ module _ (shelf : ShelfContent) where
   beside_other_of_several g o (of_fault asked fault a) e = absurd (cc)
   beside_other_of_several g o (no_file asked m) e = absurd (cc)
   beside_other_of_several g o (no_context asked p) e = absurd (cc)
-  beside_other_of_several g o (of_pages of text i d) e = let same : of ≡ g = (cc) in absurd (gathered_other g text (subst (λ (x : Gathering). IsGathered x text shelf) same i) o)
+  beside_other_of_several g o (of_pages of text i d) e = let same : of ≡ g = (cc) in absurd (gathered_other g shelf text (subst (λ (x : Gathering). IsGathered x text shelf) same i) o)
   beside_other_of_several g o (no_file_of_several of m) e = let same : of ≡ g = (cc) in absurd (no_other_lacks_one g o (subst (λ (x : Gathering). LacksOne x shelf) same m))
   beside_other_of_several g o (no_context_of_several of p) e = record { status_is = refl; text_is = refl; line_is = refl }
 
-  beside : {k : Option Job} {s t : Status} {text other line said : List ℕ} → IsAnswer shelf k s text line → IsAnswer shelf k t other said → IsSame s t text other line said
+  pub beside : {k : Option Job} {s t : Status} {text other line said : List ℕ} → IsAnswer shelf k s text line → IsAnswer shelf k t other said → IsSame s t text other line said
   beside nothing_asked b = beside_nothing b refl
   beside (of_sample count line i) b = beside_sample count line i b refl
   beside (of_page asked text a) b = beside_page asked text a b refl

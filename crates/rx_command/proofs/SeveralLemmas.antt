@@ -59,7 +59,7 @@ module _ (g : Gathering) (old new : Devices) where
 
 -- ---- files that are there and missing
 
-other_context : (file : Option (List ℕ)) (shelf : ShelfContent) → LacksContext file shelf → HasOther file shelf → ⊥
+pub other_context : (file : Option (List ℕ)) (shelf : ShelfContent) → LacksContext file shelf → HasOther file shelf → ⊥
 other_context None shelf l o = o
 other_context (Some name) shelf l o = there _ o.bytes o.file l
 
@@ -72,7 +72,7 @@ has_pages syntax context files (one ∷ listed) (page ∷ pages) j = (ap is_some
 some_none : (file : Option (List ℕ)) → is_some file ≡ true → file ≡ None → ⊥
 some_none file e f = let g : false ≡ true = sym (ap is_some f) ∙ e in absurd (cc)
 
-not_page : (files : FileList) (listed : List Listed) → HasPages files listed → LacksPage files listed → ⊥
+pub not_page : (files : FileList) (listed : List Listed) → HasPages files listed → LacksPage files listed → ⊥
 not_page files [] h l = l
 not_page files (one ∷ listed) h (inl l) = some_none _ h.0 l
 not_page files (one ∷ listed) h (inr l) = not_page files listed h.1 l
@@ -82,10 +82,10 @@ module _ (g : Gathering) (t : ShelfContent) where
   not_lacks c p (inl l) = not_missing g.context t c l
   not_lacks c p (inr l) = not_page t.files g.pages p l.1
 
-  gathered_lacks : (text : List ℕ) → IsGathered g text t → LacksOne g t → ⊥
+  pub gathered_lacks : (text : List ℕ) → IsGathered g text t → LacksOne g t → ⊥
   gathered_lacks text i l = not_lacks (has_context g.context t i.context i.holds) (has_pages g.syntax i.context t.files g.pages i.pages i.judged) l
 
-  gathered_other : (text : List ℕ) → IsGathered g text t → HasOther g.context t → ⊥
+  pub gathered_other : (text : List ℕ) → IsGathered g text t → HasOther g.context t → ⊥
   gathered_other text i o = not_other g.context t (has_context g.context t i.context i.holds) o
 
   other_lacks : HasOther g.context t → LacksOne g t → ⊥

@@ -10,10 +10,10 @@ use Rattle.rx_job.specs.Words.{Job, Asked, Gathering, reads, gathers, samples, j
 use Rattle.rx_page.specs.Tasks.{TaskGives}
 use Rattle.rx_page.specs.Outcomes.{IsTheFault, IsTheText}
 use Rattle.rx_command.specs.Contexts.{IsContext, HasOther}
-use Rattle.rx_command.specs.Outcome.{IsLacking, LacksOne}
-use Rattle.rx_command.specs.Gathering.{IsGathered, DenotesGathered}
-use Rattle.rx_command.specs.Samples.{IsSample}
-use Rattle.rx_command.specs.Runs.{Devices, Says, SaysNothing, usage_line, context_line, refused_line}
+use Rattle.rx_command.specs.Outcome.{IsLacking, LacksOne, LacksFile, HasBadContext, HasPageFault}
+use Rattle.rx_command.specs.Gathering.{IsGathered, DenotesGathered, HasAll}
+use Rattle.rx_command.specs.Samples.{IsSample, Yields, YieldsBoth}
+use Rattle.rx_command.specs.Runs.{Devices, EndsSo, IfTold, Writes, WhereRefused, Says, SaysNothing, usage_line, context_line, refused_line}
 use Rattle.rx_command.specs.declared.statuses.Status.{Status}
 use Rattle.rx_command.specs.declared.statuses.Status.TheVariants as status
 
@@ -75,3 +75,23 @@ abbrev pub OneAnswer : Type 0
 OneAnswer =
     (shelf : ShelfContent) (asked : Option Job) (s t : Status) (text other line said : List ℕ)
     → IsAnswer shelf asked s text line → IsAnswer shelf asked t other said → IsSame s t text other line said
+
+-- What follows from how a run ends over a shelf that tells its files.
+pub record Follows (words : List Chars) (s : Status) (old new : Devices) : Type 0 where
+  -- a text that was written is the outcome, and denotes what it has to; so is one of which a front was written
+  pub done : s ≡ status.Done → Writes old.told (YieldsBoth words old.told) GrowsBy old.held new.held
+  pub partly : s ≡ status.WriteFault → Writes old.told (Yields words old.told) GrowsByPart old.held new.held
+  -- a page that is refused has the fault, and a context file that is refused is none
+  pub refused : WhereRefused s (λ fault. IfTold old.told (HasPageFault words old.told fault))
+  pub bad_context : s ≡ status.BadContext → IfTold old.told (HasBadContext words old.told)
+  -- where a file is missing, where the context file is none, and where there is a text or a fault, the run says so, unless a device
+  -- failed or there was no memory
+  pub lacking : LacksFile words old.told → EndsSo s status.ReadFault
+  pub refuses_context : HasBadContext words old.told → ¬ Rose old.read_faults new.read_faults → EndsSo s status.BadContext
+  pub refuses : (fault : Fault) → HasPageFault words old.told fault → ¬ Rose old.read_faults new.read_faults → EndsSo s (status.Refused fault)
+  pub completes : (text : List ℕ) → Yields words old.told text → ¬ Rose old.read_faults new.read_faults → ¬ Rose old.write_faults new.write_faults → EndsSo s status.Done
+  pub completes_all : HasAll words old.told → ¬ Rose old.read_faults new.read_faults → ¬ Rose old.write_faults new.write_faults → EndsSo s status.Done
+
+-- law
+abbrev pub EndingsSay : Type 0
+EndingsSay = (words : List Chars) (s : Status) (old new : Devices) (shelf : ShelfContent) → old.told ≡ Some shelf → Ends shelf (job words) s old new → Follows words s old new

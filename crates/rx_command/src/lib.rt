@@ -5,7 +5,7 @@
 //! each status comes exactly where its clause says.
 #![tactic(auto)]
 
-ghost use Rattle.rx_command.specs.Endings.{OneAnswer};
+ghost use Rattle.rx_command.specs.Endings.{OneAnswer, EndingsSay};
 ghost use Rattle.rx_command.specs.Samples.{SamplesArePages};
 
 mod errors;
@@ -29,4 +29,10 @@ pub fn samples_are_pages()
 /// Whatever is asked for, and whatever files there are, one answer is right: one status with one text and one line.
 pub fn there_is_one_answer()
     ensures { OneAnswer }
+{}
+
+/// What follows from the one statement of how a run ends: that what is written denotes what it has to, that each refusal has its
+/// cause, and which status comes where nothing failed.
+pub fn endings_say_the_rest()
+    ensures { EndingsSay }
 {}
