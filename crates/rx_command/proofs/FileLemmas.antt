@@ -65,7 +65,7 @@ takes_none name limit error x y s = record { files = s.files; file = omega (arit
 size-read : (name bytes : List ℕ) (x y : ShelfContent) → HasRead name bytes x y → size_of (file_of x.files name) ≡ length bytes + length y.left
 size-read name bytes x y h = ap size_of h.file ∙ length-append bytes y.left
 
-pub takes_read : (name bytes : List ℕ) (limit : ℕ) (x y : ShelfContent) → HasRead name bytes x y → length bytes ≤ limit + 1 → TakesOf name limit x y
+pub takes_read : (name bytes : List ℕ) (limit : ℕ) (x y : ShelfContent) → HasRead name bytes x y → length bytes ≤ limit → TakesOf name limit x y
 takes_read name bytes limit x y h most = record {
   files = h.files;
   file = omega (arith, h.taken, size-read name bytes x y h);
@@ -73,7 +73,7 @@ takes_read name bytes limit x y h most = record {
 }
 
 -- some of the file was read, and some more was taken and lost
-pub takes_more : (name bytes : List ℕ) (limit room : ℕ) (x y z : ShelfContent) → HasRead name bytes x y → TakesSome room y z → length bytes + room ≤ limit + 1 → TakesOf name limit x z
+pub takes_more : (name bytes : List ℕ) (limit room : ℕ) (x y z : ShelfContent) → HasRead name bytes x y → TakesSome room y z → length bytes + room ≤ limit → TakesOf name limit x z
 takes_more name bytes limit room x y z h t within = record {
   files = t.files ∙ h.files;
   file = omega (arith, h.taken, size-read name bytes x y h, t.sum);

@@ -20,15 +20,17 @@ use Rattle.rx_many.specs.Pages.{Page, Judgement, refused, accepted, refused_page
 use Rattle.rx_job.specs.Words.{Gathering, Listed}
 use Rattle.rx_nest.specs.Ways.{Way}
 use Rattle.rx_command.specs.declared.pages.Approach.{Approach}
-use Rattle.rx_command.specs.Reading.{HasFirst, GivesList, ReadsWhole, Finds, TakesToFirst}
+use Rattle.rx_page.specs.Settings.{rdfa_way, HasFirst, GivesList}
+use Rattle.rx_command.specs.Reading.{page_limit, ReadsWhole, Finds, TakesToFirst}
 use Rattle.rx_command.specs.Files.{TakesOf, size_of}
 use Rattle.rx_command.specs.Contexts.{IsContext, LacksContext, TakesContext, ReadsContext}
 use Rattle.rx_command.specs.Inputs.{TellsThat}
-use Rattle.rx_command.specs.Outcome.{LacksPage, LacksOne, base_in, facts_in}
+use Rattle.rx_command.specs.Outcome.{LacksPage, LacksOne}
+use Rattle.rx_page.specs.Tasks.{base_in, facts_in}
 use Rattle.rx_command.specs.Ways.{way_of}
-use Rattle.rx_command.specs.Gathering.{FileList, page_way, GivesTriples, GivesGraph, IsJudged, Judges, JudgesEach, IsPart, AreParts, total, TakesGathering, IsThat, TakesPart, TakesParts, ReadsListed, ReadsEach, AddsPage, AddsPages, GathersPages}
+use Rattle.rx_command.specs.Gathering.{FileList, GivesTriples, GivesGraph, IsJudged, Judges, JudgesEach, IsPart, AreParts, total, TakesGathering, IsThat, TakesPart, TakesParts, ReadsListed, ReadsEach, AddsPage, AddsPages, GathersPages}
 use Rattle.rx_command.proofs.InputLemmas.{one_context, has_context, rose_before}
-use Rattle.rx_command.proofs.MadeLemmas.{list_written}
+use Rattle.rx_page.proofs.MadeLemmas.{list_written}
 
 -- ---- lists
 
@@ -136,11 +138,11 @@ module _ (a : Approach) (syntax : Syntax) (context : Context) (address page name
   same_approach : a ≡ record { syntax = syntax; context = context; address = address }
   same_approach = λ i. record { syntax = s i; context = k i; address = n i }
 
-  same_way : way_of a ≡ page_way syntax context address
+  same_way : way_of a ≡ rdfa_way syntax context
   same_way = ap (λ (b : Approach). way_of b) same_approach
 
   -- how much of it was read
-  part_of : (x y : ShelfContent) → TakesOf name 1073807359 x y → TakesToFirst (way_of a) name x y → TakesPart context syntax One x y
+  part_of : (x y : ShelfContent) → TakesOf name page_limit x y → TakesToFirst (way_of a) name x y → TakesPart context syntax One x y
   part_of x y t f =
       let size : size_of (file_of x.files name) ≡ size_of (file_of x.files (encode_utf8_all page)) = ap (λ z. size_of (file_of x.files z)) named in
       record {
@@ -150,7 +152,7 @@ module _ (a : Approach) (syntax : Syntax) (context : Context) (address page name
           size = omega (arith, t.file, size);
           most = omega (arith, t.most);
           to_fault = λ other h bytes g fault first.
-              let under : HasFirst (page_way syntax context address) bytes fault = subst (λ (c : Context). HasFirst (page_way syntax c address) bytes fault) (sym h) first in
+              let under : HasFirst (rdfa_way syntax context) bytes fault = subst (λ (c : Context). HasFirst (rdfa_way syntax c) bytes fault) (sym h) first in
               let here : HasFirst (way_of a) bytes fault = subst (λ (w : Way). HasFirst w bytes fault) (sym same_way) under in
               let most = f bytes (ap (λ z. file_of x.files z) named ∙ g) fault here in
               omega (arith, most);
@@ -158,7 +160,7 @@ module _ (a : Approach) (syntax : Syntax) (context : Context) (address page name
         taken = omega arith;
       }
 
-  pub page_takes : (told now : Option ShelfContent) → WhereKnown (TakesOf name 1073807359) told now → WhereKnown (TakesToFirst (way_of a) name) told now → WhereKnown (TakesPart context syntax One) told now
+  pub page_takes : (told now : Option ShelfContent) → WhereKnown (TakesOf name page_limit) told now → WhereKnown (TakesToFirst (way_of a) name) told now → WhereKnown (TakesPart context syntax One) told now
   page_takes told now t f = both_moves (TakesPart context syntax One) (λ x y p q. part_of x y p q) t f
 
   -- what it gives
@@ -182,13 +184,13 @@ module _ (a : Approach) (syntax : Syntax) (context : Context) (address page name
     judged = subst (λ (w : Way). HasFirst w c.bytes fault) same_way c.is;
   }
 
-  pub adds_accepted : (told now : Option ShelfContent) (before after : List Page) (list : List CodeTriple) → WhereKnown (TakesOf name 1073807359) told now → WhereKnown (TakesToFirst (way_of a) name) told now
+  pub adds_accepted : (told now : Option ShelfContent) (before after : List Page) (list : List CodeTriple) → WhereKnown (TakesOf name page_limit) told now → WhereKnown (TakesToFirst (way_of a) name) told now
       → WhereKnown (ReadsWhole (GivesList a.syntax a.context a.address) name list) told now → after ≡ before ++ accepted_page address (numbered nat_eq (copied nat_eq (triples_seen list))) ∷ [] → AddsPage context syntax One before after told now
   adds_accepted told now before after list t f m e =
       let page : Page = accepted_page address (numbered nat_eq (copied nat_eq (triples_seen list))) in
       record { page = page; adds = e; reads = both_moves (ReadsListed context syntax One page) (λ x y c p. record { judged = gives_triples list x y c; takes = p }) m (page_takes told now t f) }
 
-  pub adds_refused : (told now : Option ShelfContent) (before after : List Page) (fault : Fault) → WhereKnown (TakesOf name 1073807359) told now → WhereKnown (TakesToFirst (way_of a) name) told now
+  pub adds_refused : (told now : Option ShelfContent) (before after : List Page) (fault : Fault) → WhereKnown (TakesOf name page_limit) told now → WhereKnown (TakesToFirst (way_of a) name) told now
       → WhereKnown (Finds (way_of a) name fault) told now → after ≡ before ++ refused_page address fault ∷ [] → AddsPage context syntax One before after told now
   adds_refused told now before after fault t f m e =
       let page : Page = refused_page address fault in

@@ -8,14 +8,16 @@ use Rattle.rx_ports.specs.Files.{file_of}
 use Rattle.rx_rdfa.specs.Names.{Context}
 use Rattle.rx_job.specs.Words.{Asked, Gathering, Task, gathers, samples, job, page_asked, gathering_in}
 use Rattle.rx_command.specs.Contexts.{IsContext, HasOther}
-use Rattle.rx_command.specs.Headline.{IsTheText, IsTheFault, IsRead}
+use Rattle.rx_page.specs.Outcomes.{IsTheText, IsTheFault}
+use Rattle.rx_command.specs.Headline.{IsRead}
 use Rattle.rx_command.specs.Inputs.{JobText, JobRefused, TellsThat, WhereTold}
-use Rattle.rx_command.specs.Outcome.{TaskGives, NamesPage, IsLacking}
-use Rattle.rx_command.specs.Written.{text_of, Denoted}
-use Rattle.rx_command.specs.declared.outcomes.Outcome.{Outcome}
-use Rattle.rx_command.proofs.OutcomeLemmas.{the_fault}
+use Rattle.rx_page.specs.Tasks.{TaskGives}
+use Rattle.rx_command.specs.Outcome.{NamesPage, IsLacking}
+use Rattle.rx_page.specs.Written.{text_of, Denoted}
+use Rattle.rx_page.specs.declared.outcomes.Outcome.{Outcome}
+use Rattle.rx_page.proofs.OutcomeLemmas.{the_fault}
 use Rattle.rx_command.proofs.RunLemmas.{moved, named_there, named_right, not_sample, not_gathering}
-use Rattle.rx_command.proofs.TextLemmas.{the_text}
+use Rattle.rx_page.proofs.TextLemmas.{the_text}
 
 read_to_end : (asked : Asked) (found : Outcome) (told now : Option ShelfContent) (shelf : ShelfContent) → told ≡ Some shelf → WhereKnown (JobText asked found) told now → IsRead now
 read_to_end asked found None now shelf e m = absurd (cc)

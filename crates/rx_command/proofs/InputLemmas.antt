@@ -1,6 +1,6 @@
 -- From what was read of the files that a job names to what they are.
 use Rattle.std.specs.Prelude.{option_map}
-use Rattle.std.proofs.Common.{nat_eq, ◌≡◌, ◌∙◌, ◌+◌, ◌≤◌, ◌<◌, ◌⊎◌, inl, inr, ℕ, nat_le, Bool, true, false, ◌&&◌, List, [], ◌++◌, length, sym, ap, subst, refl, arith, Option, Some, None, Result, Ok, Err, IfOk, is_some, encode_utf8_all, length-append, append-nil}
+use Rattle.std.proofs.Common.{nat_eq, ◌≡◌, ◌∙◌, ◌+◌, ◌≤◌, ◌<◌, ◌⊎◌, inl, inr, ℕ, nat_le, true, false, ◌&&◌, List, [], ◌++◌, length, sym, ap, subst, refl, arith, Option, Some, None, Result, Ok, Err, IfOk, is_some, encode_utf8_all, length-append, append-nil}
 use Rattle.std.proofs.lemmas.Bool.Decides.{nat_tests}
 use Rattle.rx_ports.specs.Counts.{Rose}
 use Rattle.rx_ports.specs.Files.{file_of}
@@ -14,75 +14,72 @@ use Rattle.rx_terms.specs.declared.triples.Triple.{Triple as CodeTriple}
 use Rattle.rx_model.specs.Copied.{copied}
 use Rattle.rx_model.specs.Numbered.{numbered}
 use Rattle.rx_model.specs.Seen.{triples_seen}
-use Rattle.rx_model.specs.Terms.{Triple}
-use Rattle.rx_rdfa.specs.Whole.{written}
-use Rattle.rx_rdfa.proofs.Whole.{written_denotes}
 use Rattle.rx_rdfa.specs.Names.{Context}
 use Rattle.rx_rdfa.specs.Standard.{standard}
 use Rattle.rx_job.specs.declared.formats.Format.{Format}
-use Rattle.rx_job.specs.declared.formats.Format.TheVariants as format
 use Rattle.rx_job.specs.Words.{Asked, Task, Extraction, Itemization, extracts, itemizes, checks}
 use Rattle.rx_nest.specs.Ways.{Way}
 use Rattle.rx_command.specs.declared.errors.InputError.{InputError}
 use Rattle.rx_command.specs.declared.errors.InputError.TheVariants as error
-use Rattle.rx_command.specs.Reading.{largest_piece, page_limit, HasFirst, GivesList, GivesRight, ReadsWhole, Finds, ReadsClean, IsClean, PageFails}
+use Rattle.rx_command.specs.Reading.{largest_piece, page_limit, ReadsWhole, Finds, ReadsClean, IsClean, PageFails}
+use Rattle.rx_page.specs.Settings.{HasFirst, GivesList, GivesRight}
 use Rattle.rx_command.proofs.ReadLemmas.{unread_clean}
+use Rattle.rx_page.proofs.FrontLemmas.{refuses_so}
+use Rattle.rx_page.proofs.OutcomeLemmas.{refuses_first}
 use Rattle.rx_command.specs.Files.{ReadsFile, TakesOf, size_of}
-use Rattle.rx_command.specs.Contexts.{IsContextFile, IsFileOf, IsContext, HasContext, TakesContext, ReadsContext, context_size, is_context}
+use Rattle.rx_command.specs.Contexts.{IsContextFile, IsFileOf, IsContext, HasContext, TakesContext, ReadsContext, context_size}
+use Rattle.rx_page.specs.Contexts.{largest_context, is_context}
+use Rattle.rx_page.proofs.ContextLemmas.{short, too_long}
+use Rattle.rx_terms.proofs.Bools.{by_test}
 use Rattle.rx_command.specs.Inputs.{PageText, PageRefused, JobText, JobRefused, TellsThat, WhereTold}
-use Rattle.rx_command.specs.Outcome.{IsAccepted, IsLacking, IsRight, HasText, Denotes, TaskRefuses, ReadsTo, base_in, facts_in, syntax_in, aim_in, way_in, ok_line, IsTextAs, IsFormatText, DenotesAs, FormatDenotes}
+use Rattle.rx_page.specs.Tasks.{IsRight, way_in}
+use Rattle.rx_command.specs.Outcome.{IsLacking, ReadsTo}
+use Rattle.rx_page.specs.Texts.{ok_line}
 use Rattle.rx_command.specs.Runs.{TakesFiles, StopsCleanly}
 use Rattle.rx_command.specs.Ways.{extraction_of}
-use Rattle.rx_command.specs.Written.{form_in, IsFormText, FormDenotes, text_of, Denoted}
-use Rattle.rx_command.specs.declared.forms.Form.{Form}
-use Rattle.rx_command.specs.declared.outcomes.Outcome.{Outcome}
-use Rattle.rx_command.specs.declared.outcomes.Outcome.TheVariants as found
+use Rattle.rx_page.specs.Forms.{form_in, IsFormText, FormDenotes}
+use Rattle.rx_page.specs.Written.{text_of, Denoted}
+use Rattle.rx_page.specs.declared.forms.Form.{Form}
+use Rattle.rx_page.specs.declared.outcomes.Outcome.{Outcome}
+use Rattle.rx_page.specs.declared.outcomes.Outcome.TheVariants as found
 use Rattle.rx_command.specs.declared.pages.Approach.{Approach}
-use Rattle.rx_command.proofs.MadeLemmas.{list_written}
 use denote.Ref.{Bor}
+use Rattle.rx_page.proofs.MadeLemmas.{text_made}
 
 -- ---- the context file
 
-short : (n : ℕ) → n ≤ 65536 → nat_le n 65536 ≡ true
-short n e = grind (arith, nat_tests)
+fits : (n : ℕ) → nat_le n largest_context ≡ true → n ≤ largest_context
+fits n e = grind (arith, nat_tests)
 
-long : (n : ℕ) → 65536 < n → nat_le n 65536 ≡ false
-long n e = grind (arith, nat_tests)
+over : (n : ℕ) → nat_le n largest_context ≡ false → largest_context < n
+over n e = grind (arith, nat_tests)
 
-whole_is : (bytes left : List ℕ) (valid : Bool) → (length bytes ≤ 65536 → left ≡ []) → length bytes ≤ 65536 → is_some (context_of bytes) ≡ valid → is_context (bytes ++ left) ≡ valid
-whole_is bytes left valid w small e =
-    ap is_context (ap (λ l. bytes ++ l) (w small) ∙ append-nil bytes) ∙ ap (λ b. b && is_some (context_of bytes)) (short (length bytes) small) ∙ e
+-- bytes that are no context, of a file that was read to its end, or past the largest
+none_is : (bytes left : List ℕ) → (length bytes ≤ largest_context → left ≡ []) → is_context bytes ≡ false → is_context (bytes ++ left) ≡ false
+none_is bytes left whole none =
+    by_test (nat_le (length bytes) largest_context) (λ small. ap is_context (ap (λ l. bytes ++ l) (whole (fits (length bytes) small)) ∙ append-nil bytes) ∙ none)
+    (λ past.
+    let more : largest_context < length bytes = over (length bytes) past in
+    too_long (bytes ++ left) (omega (arith, more, length-append bytes left)))
 
-pub was_tested : (told now : Option ShelfContent) (file name bytes : List ℕ) (valid : Bool) → name ≡ encode_utf8_all file → WhereKnown (ReadsFile name 65536 bytes) told now
-    → length bytes ≤ 65536 → is_some (context_of bytes) ≡ valid → WhereTold (IsContextFile file valid) told
-was_tested None now file name bytes valid named m small e = tt
-was_tested (Some t) now file name bytes valid named m small e =
+pub was_none : (told now : Option ShelfContent) (file name bytes : List ℕ) → name ≡ encode_utf8_all file → WhereKnown (ReadsFile name largest_context bytes) told now
+    → is_context bytes ≡ false → WhereTold (IsContextFile file false) told
+was_none None now file name bytes named m none = tt
+was_none (Some t) now file name bytes named m none =
     let r = moves_at t m refl in
     record {
       bytes = bytes ++ (r.0).left;
       file = ap (file_of t.files) (sym named) ∙ (r.1).read.file;
-      tested = whole_is bytes (r.0).left valid (r.1).whole small e;
+      tested = none_is bytes (r.0).left (r.1).whole none;
     }
 
-pub was_long : (told now : Option ShelfContent) (file name bytes : List ℕ) → name ≡ encode_utf8_all file → WhereKnown (ReadsFile name 65536 bytes) told now
-    → 65536 < length bytes → WhereTold (IsContextFile file false) told
-was_long None now file name bytes named m past = tt
-was_long (Some t) now file name bytes named m past =
-    let r = moves_at t m refl in
-    let all : 65536 < length (bytes ++ (r.0).left) = omega (arith, length-append bytes (r.0).left) in
-    record {
-      bytes = bytes ++ (r.0).left;
-      file = ap (file_of t.files) (sym named) ∙ (r.1).read.file;
-      tested = ap (λ b. b && is_some (context_of (bytes ++ (r.0).left))) (long (length (bytes ++ (r.0).left)) all);
-    }
-
-pub takes_context : (file name : List ℕ) → name ≡ encode_utf8_all file → (x y : ShelfContent) → TakesOf name 65536 x y → TakesContext (Some file) x y
+pub takes_context : (file name : List ℕ) → name ≡ encode_utf8_all file → (x y : ShelfContent) → TakesOf name (largest_context + 1) x y → TakesContext (Some file) x y
 takes_context file name named x y t =
     let size : size_of (file_of x.files name) ≡ size_of (file_of x.files (encode_utf8_all file)) = ap (λ n. size_of (file_of x.files n)) named in
     record { files = t.files; size = omega (arith, t.file, size); most = t.most }
 
-pub was_context : (told now : Option ShelfContent) (file name bytes : List ℕ) (context : Context) → name ≡ encode_utf8_all file → WhereKnown (ReadsFile name 65536 bytes) told now
-    → length bytes ≤ 65536 → context_of bytes ≡ Some context → WhereTold (λ t. IsFileOf file t context) told
+pub was_context : (told now : Option ShelfContent) (file name bytes : List ℕ) (context : Context) → name ≡ encode_utf8_all file → WhereKnown (ReadsFile name largest_context bytes) told now
+    → length bytes ≤ largest_context → context_of bytes ≡ Some context → WhereTold (λ t. IsFileOf file t context) told
 was_context None now file name bytes context named m small e = tt
 was_context (Some t) now file name bytes context named m small e =
     let r = moves_at t m refl in
@@ -116,12 +113,7 @@ has_context (Some name) shelf context h =
 
 -- ---- refusals
 
--- a first fault refuses, whatever the task, and no more was read than a piece past it
-refuses_first : (task : Task) (context : Context) (bytes : List ℕ) (fault : Fault) → HasFirst (way_in task context) bytes fault → TaskRefuses task context bytes fault
-refuses_first (extracts e) context bytes fault f = f
-refuses_first (itemizes i) context bytes fault f = inl f
-refuses_first (checks syntax) context bytes fault f = f
-
+-- no more was read than a piece past a first fault, whatever the task
 reads_to : (task : Task) (fault : Fault) (before now : ℕ) → now ≤ before + (fault.at + largest_piece) → ReadsTo task fault before now
 reads_to (extracts e) fault before now l = l
 reads_to (itemizes i) fault before now l = λ k. l
@@ -139,11 +131,11 @@ takes_before asked file e x y t =
     let m : TakesContext asked.context x y = subst (λ f. TakesContext f x y) e t in
     record { files = m.files; size = omega (arith, m.size); most = omega (arith, m.most) }
 
-pub takes_both : (asked : Asked) (file : Option (List ℕ)) (limit : ℕ) → file ≡ asked.context → page_limit ≡ limit + 1 → (x y z : ShelfContent) → TakesContext file x y → TakesOf (encode_utf8_all asked.page) limit y z → TakesFiles (Some asked) x z
-takes_both asked file limit e l x y z t p =
+pub takes_both : (asked : Asked) (file : Option (List ℕ)) → file ≡ asked.context → (x y z : ShelfContent) → TakesContext file x y → TakesOf (encode_utf8_all asked.page) page_limit y z → TakesFiles (Some asked) x z
+takes_both asked file e x y z t p =
     let m : TakesContext asked.context x y = subst (λ f. TakesContext f x y) e t in
     let size : size_of (file_of y.files (encode_utf8_all asked.page)) ≡ size_of (file_of x.files (encode_utf8_all asked.page)) = ap (λ f. size_of (file_of f (encode_utf8_all asked.page))) m.files in
-    record { files = p.files ∙ m.files; size = omega (arith, m.size, p.file, size); most = omega (arith, m.most, p.most, l) }
+    record { files = p.files ∙ m.files; size = omega (arith, m.size, p.file, size); most = omega (arith, m.most, p.most) }
 
 there_before : (asked : Asked) (file : Option (List ℕ)) (context : Context) (bytes : List ℕ) (x y : ShelfContent) → ReadsContext file context x y → file_of y.files (encode_utf8_all asked.page) ≡ Some bytes → file_of x.files (encode_utf8_all asked.page) ≡ Some bytes
 there_before asked file context bytes x y c h = sym (ap (λ f. file_of f (encode_utf8_all asked.page)) c.takes.files) ∙ h
@@ -174,48 +166,6 @@ pub page_right : (syntax : Syntax) (context : Context) (name named : List ℕ) (
 page_right syntax context name named done e x y c =
     let right : IsRight syntax context c.bytes ok_line = record { tree = c.gives.tree; is = record { page = c.gives.page; accepted = c.gives.accepted }; spelled = refl } in
     record { bytes = c.bytes; file = sym (ap (λ n. file_of x.files n) e) ∙ c.file; gives = right; graph = λ read. right; left = c.left }
-
--- a form writes what its format does
-module _ (graph : Option Chars) (context : Context) where
-  same_text : (f : Format) (list : List (Triple ℕ)) (text : List ℕ) → IsFormText (form_in f graph context) list text → IsTextAs f graph context list text
-  same_text format.Nquads list text is = is
-  same_text format.Turtle list text is = is
-  same_text format.Nested list text is = is
-  same_text format.Jsonld list text is = is
-
-  same_meaning : (f : Format) (text : List ℕ) (triples : List (Triple ℕ)) → FormDenotes (form_in f graph context) text triples → DenotesAs f graph text triples
-  same_meaning format.Nquads text triples d = d
-  same_meaning format.Turtle text triples d = d
-  same_meaning format.Nested text triples d = d
-  same_meaning format.Jsonld text triples d = d
-
--- what is made of the triples of a page that was read
-pub text_made : (e : Extraction) (context : Context) (form : Form) (outcome : Outcome) (list : List CodeTriple) (bytes : List ℕ) → form ≡ form_in e.format e.graph context
-    → IsFormText form (numbered nat_eq (copied nat_eq (triples_seen list))) (text_of outcome) → (Denoted outcome → FormDenotes form (text_of outcome) (numbered nat_eq (copied nat_eq (triples_seen list))))
-    → GivesList e.syntax context e.address bytes list → HasText e context bytes (text_of outcome) × (Denoted outcome → Denotes e context bytes (text_of outcome))
-text_made e context form outcome list bytes f spelled denotes given =
-    let triples : List (Triple ℕ) = written (base_in e.address given.tree) (facts_in context given.tree) in
-    let made : numbered nat_eq (copied nat_eq (triples_seen list)) ≡ triples = list_written e.address context given.tree list given.made in
-    let is : IsAccepted e.syntax context bytes given.tree = record { page = given.page; accepted = given.accepted } in (
-      record {
-        tree = given.tree;
-        is = is;
-        spelled =
-            subst (λ ts. IsFormatText e context ts (text_of outcome)) made
-            (same_text e.graph context e.format (numbered nat_eq (copied nat_eq (triples_seen list))) (text_of outcome)
-            (subst (λ (k : Form). IsFormText k (numbered nat_eq (copied nat_eq (triples_seen list))) (text_of outcome)) f spelled));
-      },
-      λ read. record {
-        tree = given.tree;
-        is = is;
-        triples = triples;
-        denotes =
-            subst (λ ts. FormatDenotes e (text_of outcome) ts) made
-            (same_meaning e.graph context e.format (text_of outcome) (numbered nat_eq (copied nat_eq (triples_seen list)))
-            (subst (λ (k : Form). FormDenotes k (text_of outcome) (numbered nat_eq (copied nat_eq (triples_seen list)))) f (denotes read)));
-        renamed = written_denotes (base_in e.address given.tree) (facts_in context given.tree);
-      },
-    )
 
 pub page_text : (e : Extraction) (context : Context) (name named : List ℕ) (form : Form) (outcome : Outcome) (list : List CodeTriple) → named ≡ name → form ≡ form_in e.format e.graph context
     → IsFormText form (numbered nat_eq (copied nat_eq (triples_seen list))) (text_of outcome) → (Denoted outcome → FormDenotes form (text_of outcome) (numbered nat_eq (copied nat_eq (triples_seen list))))
@@ -296,7 +246,7 @@ page_failed told mid asked file context name a b c e named m low (inr lacks) = i
 pub context_stops : (asked : Asked) (file : Option (List ℕ)) → file ≡ asked.context → (x y : ShelfContent) → TakesContext file x y → StopsCleanly (Some asked) x y
 context_stops asked file e x y t context holds bytes f =
     let m : TakesContext asked.context x y = subst (λ f. TakesContext f x y) e t in
-    let c = unread_clean (syntax_in asked.task) (aim_in asked.task context) (encode_utf8_all asked.page) (record { files = x.files; left = x.left; taken = x.taken + context_size asked.context x }) y m.size bytes f in
+    let c = unread_clean (way_in asked.task context) (refuses_so asked.task context) (encode_utf8_all asked.page) (record { files = x.files; left = x.left; taken = x.taken + context_size asked.context x }) y m.size bytes f in
     record { bytes = c.bytes; rest = c.rest; are = c.are; taken = c.taken; clean = c.clean }
 
 -- the page

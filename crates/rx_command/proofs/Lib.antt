@@ -1,13 +1,8 @@
 pub mod FileLemmas
 pub mod InputLemmas
 pub mod RunLemmas
-pub mod KindLemmas
-pub mod OutcomeLemmas
-pub mod TextLemmas
 pub mod HeadlineLemmas
-pub mod FaultLemmas
 pub mod ReadLemmas
-pub mod MadeLemmas
 pub mod GatheringLemmas
 pub mod SeveralLemmas
 pub mod SampleLemmas
@@ -16,3 +11,6 @@ pub mod WrittenNodes
 pub mod SampleTokens
 pub mod SampleNodes
 pub mod ItemLemmas
+pub mod EndingLemmas
+pub mod OneAnswer
+pub mod EndingsSaid

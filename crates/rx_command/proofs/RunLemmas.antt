@@ -12,25 +12,27 @@ use Rattle.rx_job.specs.declared.jobs.Job.{Job as CodeJob}
 use Rattle.rx_job.specs.Jobs.{asked_by, page_by, ReadsPage}
 use Rattle.rx_job.specs.Words.{Asked, Gathering, Job, Task, extracts, itemizes, checks, reads, gathers, samples, count_of, sampling, several, extraction, itemization, checking, given, is_word, most_items, job, page_in, page_asked, gathering_in, gathering_asked}
 use Rattle.rx_pages.proofs.Trees.{one_tree}
-use Rattle.rx_microdata.specs.Json.{Given, Refused, outcome}
+use Rattle.rx_microdata.specs.Json.{Refused, outcome}
 use Rattle.rx_microdata.specs.Visits.{standard_bounds}
-use Rattle.serde_json.specs.Data.{Data}
-use Rattle.rx_command.specs.Reading.{standard}
-use Rattle.rx_command.proofs.FaultLemmas.{one_first, page_has_none}
-use Rattle.rx_command.proofs.ReadLemmas.{refuses_so}
+use Rattle.rx_page.specs.Settings.{standard}
+use Rattle.rx_page.proofs.FaultLemmas.{page_has_none}
+use Rattle.rx_page.proofs.FrontLemmas.{refuses_so}
 use Rattle.rx_job.proofs.NumberLemmas.{few_counted}
-use Rattle.rx_command.specs.Contexts.{IsContext, HasContext, HasOther, LacksContext, TakesContext, context_in, context_asked, is_context}
+use Rattle.rx_command.specs.Contexts.{IsContext, HasContext, HasOther, LacksContext, TakesContext, context_in, context_asked}
+use Rattle.rx_page.specs.Contexts.{is_context}
 use Rattle.rx_command.proofs.InputLemmas.{has_context, one_context}
-use Rattle.rx_command.specs.Outcome.{TaskGives, TaskRefuses, aim_in, way_in, NamesPage, HasPageFault, Meets, IsLacking, JobLacks, LacksFile, HasBadContext}
+use Rattle.rx_page.specs.Tasks.{TaskGives, TaskRefuses, way_in}
+use Rattle.rx_command.specs.Outcome.{NamesPage, HasPageFault, Meets, IsLacking, JobLacks, LacksFile, HasBadContext}
 use Rattle.rx_command.specs.Gathering.{HasAll}
 use Rattle.rx_command.proofs.GatheringLemmas.{context_taken}
 use Rattle.rx_command.specs.Samples.{Yields, YieldsGraph}
 use Rattle.rx_command.specs.Inputs.{JobText, JobRefused, TellsThat, WhereTold}
-use Rattle.rx_command.specs.Written.{text_of, Denoted}
-use Rattle.rx_command.specs.declared.outcomes.Outcome.{Outcome}
+use Rattle.rx_page.specs.Written.{text_of, Denoted}
+use Rattle.rx_page.specs.declared.outcomes.Outcome.{Outcome}
 use Rattle.rx_command.specs.declared.statuses.Status.{Status}
 use Rattle.rx_command.specs.declared.statuses.Status.TheVariants as status
 use Rattle.rx_command.specs.Runs.{SampleEnds, ReadCause, TakesFiles, TakesJob, TakesToFault, StopsCleanly, IsAtEnd, reads_files}
+use Rattle.rx_page.proofs.OutcomeLemmas.{given_not_refused, one_of_task}
 
 pub yields : (words : List (List ℕ)) (told now : Option ShelfContent) (asked : Asked) (found : Outcome) (t : ShelfContent) → page_asked words ≡ Some asked → WhereKnown (JobText asked found) told now → told ≡ Some t → Yields words told (text_of found)
 yields words told now asked found t a m e =
@@ -70,19 +72,13 @@ same_context words told bytes others p q =
     one_context q.asked.context q.shelf p.context q.context
     (subst (λ s. IsContext q.asked.context s p.context) (one_shelf told p.shelf q.shelf p.tells q.tells) (subst (λ k. IsContext k.context p.shelf p.context) (one_asked words p.asked q.asked p.asks q.asks) p.holds)) q.holds
 
-pub given_not_refused : (value : Data) (fault : Fault) → Given value ≡ Refused fault → ⊥
-given_not_refused value fault e = cc
-
-pub refused_same : (a b : Fault) → Refused a ≡ Refused b → a ≡ b
-refused_same a b e = cc
-
 no_both : (task : Task) (context : Context) (bytes text : List ℕ) (fault : Fault) → TaskGives task context bytes text → TaskRefuses task context bytes fault → ⊥
-no_both (extracts e) context bytes text fault h n = page_has_none (way_in (extracts e) context) (refuses_so (aim_in (extracts e) context)) bytes h.tree h.is.page h.is.accepted fault n
-no_both (itemizes i) context bytes text fault h (inl n) = page_has_none (way_in (itemizes i) context) (refuses_so (aim_in (itemizes i) context)) bytes h.tree h.page refl fault n
+no_both (extracts e) context bytes text fault h n = page_has_none (way_in (extracts e) context) (refuses_so (extracts e) context) bytes h.tree h.is.page h.is.accepted fault n
+no_both (itemizes i) context bytes text fault h (inl n) = page_has_none (way_in (itemizes i) context) (refuses_so (itemizes i) context) bytes h.tree h.page refl fault n
 no_both (itemizes i) context bytes text fault h (inr n) =
     let same : h.tree ≡ n.tree = one_tree i.syntax standard bytes h.tree n.tree h.page n.page in
     given_not_refused h.json.value fault (sym h.json.given ∙ (ap (outcome standard_bounds i.address) same ∙ n.refused))
-no_both (checks syntax) context bytes text fault h n = page_has_none (way_in (checks syntax) context) (refuses_so (aim_in (checks syntax) context)) bytes h.tree h.is.page h.is.accepted fault n
+no_both (checks syntax) context bytes text fault h n = page_has_none (way_in (checks syntax) context) (refuses_so (checks syntax) context) bytes h.tree h.is.page h.is.accepted fault n
 
 -- what holds of the page that is named holds of it where it is named again
 pub moved : (holds : Task → Context → List ℕ → Type 0) (words : List (List ℕ)) (told : Option ShelfContent) (bytes others : List ℕ) (p : NamesPage words told bytes) (q : NamesPage words told others) → holds p.asked.task p.context bytes → holds q.asked.task q.context others
@@ -124,17 +120,6 @@ pub not_both : (words : List (List ℕ)) (told : Option ShelfContent) (text : Li
 not_both words told text fault (inl y) r = no_both y.page.asked.task y.page.context y.bytes text fault y.has_text (same_page words told r.bytes y.bytes fault r.page y.page r.refused)
 not_both words told text fault (inr (inl y)) r = not_sample words r.page.asked y.count r.page.asks y.asks
 not_both words told text fault (inr (inr y)) r = not_gathering words r.page.asked y.gathering r.page.asks y.asks
-
--- there is one refusal
-pub one_of_task : (task : Task) (context : Context) (bytes : List ℕ) (a b : Fault) → TaskRefuses task context bytes a → TaskRefuses task context bytes b → a ≡ b
-one_of_task (extracts e) context bytes a b p q = one_first (way_in (extracts e) context) (refuses_so (aim_in (extracts e) context)) bytes a b p q
-one_of_task (checks syntax) context bytes a b p q = one_first (way_in (checks syntax) context) (refuses_so (aim_in (checks syntax) context)) bytes a b p q
-one_of_task (itemizes i) context bytes a b (inl p) (inl q) = one_first (way_in (itemizes i) context) (refuses_so (aim_in (itemizes i) context)) bytes a b p q
-one_of_task (itemizes i) context bytes a b (inl p) (inr q) = absurd (page_has_none (way_in (itemizes i) context) (refuses_so (aim_in (itemizes i) context)) bytes q.tree q.page refl a p)
-one_of_task (itemizes i) context bytes a b (inr p) (inl q) = absurd (page_has_none (way_in (itemizes i) context) (refuses_so (aim_in (itemizes i) context)) bytes p.tree p.page refl b q)
-one_of_task (itemizes i) context bytes a b (inr p) (inr q) =
-    let same : p.tree ≡ q.tree = one_tree i.syntax standard bytes p.tree q.tree p.page q.page in
-    refused_same a b (sym p.refused ∙ (ap (outcome standard_bounds i.address) same ∙ q.refused))
 
 pub one_refusal : (words : List (List ℕ)) (told : Option ShelfContent) (a b : Fault) → HasPageFault words told a → HasPageFault words told b → a ≡ b
 one_refusal words told a b p q =
@@ -224,7 +209,7 @@ pub not_missing : (file : Option (List ℕ)) (shelf : ShelfContent) → HasConte
 not_missing None shelf h l = l
 not_missing (Some name) shelf h l = there _ h.bytes h.file l
 
-not_lack : (asked : Asked) (bytes : List ℕ) (x : ShelfContent) → HasContext asked.context x → file_of x.files (encode_utf8_all asked.page) ≡ Some bytes → IsLacking asked x → ⊥
+pub not_lack : (asked : Asked) (bytes : List ℕ) (x : ShelfContent) → HasContext asked.context x → file_of x.files (encode_utf8_all asked.page) ≡ Some bytes → IsLacking asked x → ⊥
 not_lack asked bytes x c f (inl l) = not_missing asked.context x c l
 not_lack asked bytes x c f (inr l) = there _ bytes f l.1
 

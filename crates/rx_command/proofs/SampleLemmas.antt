@@ -16,32 +16,30 @@ use Rattle.rx_nest.specs.Signs.{sees, nothing_seen}
 use Rattle.rx_base.specs.Lines.{line_of}
 use Rattle.rx_walk.specs.Walks.{Walked, WalkStands, Ended, open_line}
 use Rattle.rx_nest.specs.Ways.{Way}
-use Rattle.rx_command.specs.Reading.{standard, Aim, for_triples, setting_for, way_for}
+use Rattle.rx_page.specs.Settings.{standard, setting_for, rdfa_way}
 use Rattle.rx_job.specs.Words.{most_items}
 use Rattle.rx_command.specs.Samples.{head, item_before, item_behind, items_to, cut_in, sample_page, tail, depth_at, open_after, larger, deepest, deepest_in, sample_setting, sample_address, triples_in, line_with, line_for, IsSample}
 use Rattle.rx_nest.specs.Faults.{Refuses, Stops}
-use Rattle.rx_command.specs.declared.passes.Pass.TheVariants as reader
 use Rattle.rx_command.specs.Feeding.{Fed, FedTo, FedWhole, IsDue, TakesPiece}
 use Rattle.rx_command.specs.declared.samples.Feeding.{Feeding}
 use Rattle.rx_grammar.specs.PageFaults.{FaultAt}
 use Rattle.rx_pages.proofs.OneOf.{not_both}
-use Rattle.rx_command.proofs.FaultLemmas.{page_has_none}
-use Rattle.rx_command.proofs.MadeLemmas.{list_written}
+use Rattle.rx_page.proofs.FaultLemmas.{page_has_none}
+use Rattle.rx_page.proofs.MadeLemmas.{list_written}
 use Rattle.rx_command.proofs.SampleNodes.{samples_are_pages}
-use Rattle.rx_command.proofs.ReadLemmas.{not_longer, refuses_so}
+use Rattle.rx_page.specs.Readers.{shown_read}
+use Rattle.rx_page.proofs.FrontLemmas.{not_longer}
+use Rattle.rx_walk.specs.RefusalLaws.{refusal_laws}
 
 -- how a sample page is read
-abbrev pub sample_aim : Aim
-sample_aim = for_triples names.standard sample_address
-
 abbrev pub sample_way : Way
-sample_way = way_for Html sample_aim
+sample_way = rdfa_way Html names.standard
 
 -- ---- no fault is found
 
 -- a page of a sample has no fault
 no_fault : (count : ℕ) (fault : Fault) → count ≤ most_items → Refuses sample_way (sample_page count) fault → ⊥
-no_fault count fault few r = let page = samples_are_pages count few in page_has_none sample_way (refuses_so sample_aim) (sample_page count) page.0 (page.1).page (page.1).accepted fault r
+no_fault count fault few r = let page = samples_are_pages count few in page_has_none sample_way (refusal_laws names.standard) (sample_page count) page.0 (page.1).page (page.1).accepted fault r
 
 -- nor has what is fed of it
 pub no_stop : (s : Feeding) (lent : List ℕ) (fault : Fault) (d : IsDue s) → lent ≡ s.piece.items → Stops sample_way (d.bytes ++ lent) fault → ⊥
@@ -61,7 +59,7 @@ depth_is walk bytes s =
     sym (ap open_after shown.at.read ∙ ap (λ x. length (line_of [] x)) signs_are)
 
 pub size_fits : (walk : Walked) (bytes : List ℕ) → WalkStands sample_setting sample_address walk bytes → length bytes ≤ 1073741824
-size_fits walk bytes s = not_longer Html sample_aim (reader.Walks walk) bytes s
+size_fits walk bytes s = not_longer sample_way bytes (shown_read sample_way bytes walk.nest s.goes.signs s.goes.shown s.paid s.goes.known.accepted)
 
 -- ---- the line
 

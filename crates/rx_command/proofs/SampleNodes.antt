@@ -9,7 +9,7 @@ use Rattle.rx_grammar.specs.Trees.{Tree, end, element}
 use Rattle.rx_grammar.specs.Items.{start_of}
 use Rattle.rx_grammar.specs.Pages.{no_more, passed, a_doctype, Document, Page, nothing}
 use Rattle.rx_rdfa.specs.Standard as names
-use Rattle.rx_command.specs.Reading.{standard}
+use Rattle.rx_page.specs.Settings.{standard}
 use Rattle.rx_command.specs.Samples.{SamplesArePages}
 use Rattle.rx_command.proofs.WrittenTokens.{Written, chars_in, item_of, items_at, letter, letters, start_token, end_token, page_written}
 use Rattle.rx_command.proofs.WrittenNodes.{Encloses, enclosed, Held, HeldAnywhere, held_none, held_letters, held_element, taken_all, element_taken}

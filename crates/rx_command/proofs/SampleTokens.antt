@@ -15,7 +15,7 @@ use Rattle.rx_grammar.specs.declared.contents.Content.TheVariants as content
 use Rattle.rx_grammar.specs.Tokens.{Attribute, Tag, character, doctype}
 use Rattle.rx_grammar.specs.Spelling.{a_character, a_doctype}
 use Rattle.rx_reader.proofs.TagLaws.{spells_each}
-use Rattle.rx_command.specs.Reading.{standard}
+use Rattle.rx_page.specs.Settings.{standard}
 use Rattle.rx_job.specs.Words.{most_items}
 use Rattle.rx_command.specs.Samples.{head, item_before, item_behind, items_to, tail, sample_page}
 use Rattle.rx_job.proofs.NumberLemmas.{tells}

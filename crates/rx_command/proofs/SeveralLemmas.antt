@@ -14,7 +14,7 @@ use Rattle.rx_job.specs.Words.{Gathering, Listed, gathers, samples, job, page_in
 use Rattle.rx_command.specs.Contexts.{HasContext, HasOther, LacksContext, TakesContext, context_in, context_asked}
 use Rattle.rx_command.specs.Outcome.{HasPageFault, LacksPage, LacksOne, JobLacks, LacksFile, HasBadContext}
 use Rattle.rx_command.specs.Gathering.{FileList, GivesTriples, JudgesEach, IsGathered, DenotesGathered, GatheredText, HasPages, HasAll, TakesGathering, GathersPages}
-use Rattle.rx_command.specs.Samples.{Yields, YieldsGraph}
+use Rattle.rx_command.specs.Samples.{Yields, YieldsBoth}
 use Rattle.rx_command.specs.Inputs.{TellsThat, WhereTold}
 use Rattle.rx_command.specs.declared.statuses.Status.{Status}
 use Rattle.rx_command.specs.declared.statuses.Status.TheVariants as status
@@ -59,7 +59,7 @@ module _ (g : Gathering) (old new : Devices) where
 
 -- ---- files that are there and missing
 
-other_context : (file : Option (List ℕ)) (shelf : ShelfContent) → LacksContext file shelf → HasOther file shelf → ⊥
+pub other_context : (file : Option (List ℕ)) (shelf : ShelfContent) → LacksContext file shelf → HasOther file shelf → ⊥
 other_context None shelf l o = o
 other_context (Some name) shelf l o = there _ o.bytes o.file l
 
@@ -72,7 +72,7 @@ has_pages syntax context files (one ∷ listed) (page ∷ pages) j = (ap is_some
 some_none : (file : Option (List ℕ)) → is_some file ≡ true → file ≡ None → ⊥
 some_none file e f = let g : false ≡ true = sym (ap is_some f) ∙ e in absurd (cc)
 
-not_page : (files : FileList) (listed : List Listed) → HasPages files listed → LacksPage files listed → ⊥
+pub not_page : (files : FileList) (listed : List Listed) → HasPages files listed → LacksPage files listed → ⊥
 not_page files [] h l = l
 not_page files (one ∷ listed) h (inl l) = some_none _ h.0 l
 not_page files (one ∷ listed) h (inr l) = not_page files listed h.1 l
@@ -82,10 +82,10 @@ module _ (g : Gathering) (t : ShelfContent) where
   not_lacks c p (inl l) = not_missing g.context t c l
   not_lacks c p (inr l) = not_page t.files g.pages p l.1
 
-  gathered_lacks : (text : List ℕ) → IsGathered g text t → LacksOne g t → ⊥
+  pub gathered_lacks : (text : List ℕ) → IsGathered g text t → LacksOne g t → ⊥
   gathered_lacks text i l = not_lacks (has_context g.context t i.context i.holds) (has_pages g.syntax i.context t.files g.pages i.pages i.judged) l
 
-  gathered_other : (text : List ℕ) → IsGathered g text t → HasOther g.context t → ⊥
+  pub gathered_other : (text : List ℕ) → IsGathered g text t → HasOther g.context t → ⊥
   gathered_other text i o = not_other g.context t (has_context g.context t i.context i.holds) o
 
   other_lacks : HasOther g.context t → LacksOne g t → ⊥
@@ -181,15 +181,16 @@ module _ (words : List (List ℕ)) (g : Gathering) (j : job words ≡ Some (gath
   pub several_faultless : (fault : Fault) → HasPageFault words old.told fault → ⊥
   several_faultless fault r = no_fault_of_page fault r
 
-  pub several_done : s ≡ status.Done → (t : ShelfContent) → old.told ≡ Some t → (text : List ℕ) × Yields words old.told text × WhereKnown (GrowsBy text) old.held new.held
+  pub several_done : s ≡ status.Done → (t : ShelfContent) → old.told ≡ Some t → (text : List ℕ) × YieldsBoth words old.told text × WhereKnown (GrowsBy text) old.held new.held
   several_done is t tells =
-      let d = ends_at status.Done is in
-      (d.0, inr (inr (record { gathering = g; shelf = t; asks = asks_several; tells = tells; is = where_at (IsGathered g d.0) old.told t tells d.1 })), d.3)
-
-  pub several_denote : s ≡ status.Done → (t : ShelfContent) → old.told ≡ Some t → (text : List ℕ) × YieldsGraph words old.told text × WhereKnown (GrowsBy text) old.held new.held
-  several_denote is t tells =
-      let d = ends_at status.Done is in
-      (d.0, inr (inr (record { gathering = g; shelf = t; asks = asks_several; tells = tells; denotes = where_at (DenotesGathered g d.0) old.told t tells d.2 })), d.3)
+      let d = ends_at status.Done is in (
+        d.0,
+        (
+          inr (inr (record { gathering = g; shelf = t; asks = asks_several; tells = tells; is = where_at (IsGathered g d.0) old.told t tells d.1 })),
+          inr (inr (record { gathering = g; shelf = t; asks = asks_several; tells = tells; denotes = where_at (DenotesGathered g d.0) old.told t tells d.2 })),
+        ),
+        d.3,
+      )
 
   pub several_partly : s ≡ status.WriteFault → (t : ShelfContent) → old.told ≡ Some t → (text : List ℕ) × Yields words old.told text × WhereKnown (GrowsByPart text) old.held new.held
   several_partly is t tells =

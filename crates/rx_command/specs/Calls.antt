@@ -1,5 +1,5 @@
 -- What a call says of a shelf that may tell its files.
-use Rattle.std.specs.Prelude.{◌≡◌, ◌⊎◌, ℕ, List, Option, Result, Err, IfOk, IsErrOf, encode_utf8_all}
+use Rattle.std.specs.Prelude.{◌≡◌, ◌⊎◌, ℕ, List, Option, Result, Ok, Err, IfOk, IsErrOf, encode_utf8_all}
 use Rattle.rx_terms.specs.Text.{Chars}
 use Rattle.rx_ports.specs.Counts.{Rose}
 use Rattle.rx_ports.specs.Shelves.{ShelfContent, WhereKnown, Lacks}
@@ -11,7 +11,7 @@ use Rattle.rx_job.specs.Words.{Task}
 use Rattle.rx_nest.specs.Ways.{Way}
 use Rattle.rx_command.specs.Reading.{ReadsClean}
 use Rattle.rx_command.specs.Inputs.{PageText, PageRefused, TellsThat}
-use Rattle.rx_command.specs.declared.outcomes.Outcome.{Outcome}
+use Rattle.rx_page.specs.declared.outcomes.Outcome.{Outcome}
 
 -- where the call gives something, the shelf moved so
 abbrev pub GivesBy :
@@ -42,3 +42,14 @@ FailedOr told faults old new lacks = Rose (faults old) (faults new) ⊎ TellsTha
 -- the shelf failed, or tells that this file is missing
 abbrev pub FailedOrLacks : {F : Type 0} → (F → Option ShelfContent) → (F → ℕ) → F → F → List ℕ → Type 0
 FailedOrLacks told faults old new name = Rose (faults old) (faults new) ⊎ Lacks (told old) name
+
+-- unless the shelf failed, its count of faults stayed
+abbrev pub SteadyBut : InputError → ℕ → ℕ → Type 0
+SteadyBut error.Failed before now = Unit {0}
+SteadyBut (error.Refused fault) before now = now ≡ before
+SteadyBut error.BadContext before now = now ≡ before
+SteadyBut error.NoMemory before now = now ≡ before
+
+abbrev pub Steady : {A : Type 0} → Result A InputError → ℕ → ℕ → Type 0
+Steady (Ok given) before now = now ≡ before
+Steady (Err why) before now = SteadyBut why before now

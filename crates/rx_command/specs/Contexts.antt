@@ -1,5 +1,5 @@
 -- Context files of a job.
-use Rattle.std.specs.Prelude.{◌≡◌, ℕ, ◌+◌, ◌≤◌, nat_le, Bool, true, false, ◌&&◌, List, length, Option, Some, None, is_some, encode_utf8_all}
+use Rattle.std.specs.Prelude.{◌≡◌, ℕ, ◌+◌, ◌≤◌, Bool, true, false, List, length, Option, Some, None, encode_utf8_all}
 use Rattle.rx_ports.specs.Files.{file_of}
 use Rattle.rx_ports.specs.Shelves.{ShelfContent}
 use Rattle.rx_terms.specs.Text.{Chars}
@@ -8,6 +8,7 @@ use Rattle.rx_rdfa.specs.Standard.{standard}
 use Rattle.rx_names.specs.ContextFiles.{context_of}
 use Rattle.rx_job.specs.Words.{Job, reads, gathers, samples, job}
 use Rattle.rx_command.specs.Files.{size_of}
+use Rattle.rx_page.specs.Contexts.{largest_context, is_context}
 
 -- the context file that a job names, and the one that the words name
 abbrev pub context_in : Option Job → Option Chars
@@ -18,13 +19,6 @@ context_in (Some (samples count)) = None
 
 abbrev pub context_asked : List Chars → Option Chars
 context_asked words = context_in (job words)
-
-abbrev pub largest_context : ℕ
-largest_context = 65536
-
--- the bytes are those of a context file that is taken
-abbrev pub is_context : List ℕ → Bool
-is_context bytes = nat_le (length bytes) largest_context && is_some (context_of bytes)
 
 -- the file is there, and whether it is a context is this
 pub record IsContextFile (name : Chars) (valid : Bool) (shelf : ShelfContent) : Type 0 where

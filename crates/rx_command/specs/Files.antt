@@ -1,7 +1,9 @@
 -- What reading a file does to a shelf that tells of itself.
-use Rattle.std.specs.Prelude.{◌≡◌, ℕ, ◌+◌, ◌≤◌, List, [], ◌++◌, length, Option, Some, None}
+use Rattle.std.specs.Prelude.{◌≡◌, ℕ, ◌+◌, ◌≤◌, List, [], ◌++◌, length, Option, Some, None, Result, Ok, Err}
 use Rattle.rx_ports.specs.Shelves.{ShelfContent}
 use Rattle.rx_ports.specs.Files.{file_of}
+use Rattle.rx_command.specs.declared.files.ReadError.{ReadError}
+use Rattle.rx_command.specs.declared.files.ReadError.TheVariants as failure
 
 -- these bytes of the file were read
 pub record HasRead (name bytes : List ℕ) (old new : ShelfContent) : Type 0 where
@@ -34,8 +36,14 @@ abbrev pub size_of : Option (List ℕ) → ℕ
 size_of None = 0
 size_of (Some bytes) = length bytes
 
--- no more was taken than the file has, and at most one byte past the limit
+-- no more was taken than the file has, nor than this
 pub record TakesOf (name : List ℕ) (limit : ℕ) (old new : ShelfContent) : Type 0 where
   pub files : new.files ≡ old.files
   pub file : new.taken ≤ old.taken + size_of (file_of old.files name)
-  pub most : new.taken ≤ old.taken + (limit + 1)
+  pub most : new.taken ≤ old.taken + limit
+
+-- unless the shelf failed, its count of faults stayed
+abbrev pub SteadyFile : {A : Type 0} → Result A ReadError → ℕ → ℕ → Type 0
+SteadyFile (Ok given) before now = now ≡ before
+SteadyFile (Err failure.Failed) before now = Unit {0}
+SteadyFile (Err failure.NoMemory) before now = now ≡ before

@@ -15,19 +15,15 @@ use Rattle.rx_many.specs.Pages.{Page, Judgement, refused, accepted}
 use Rattle.rx_many.specs.Writing.{gathered}
 use Rattle.rx_many.specs.Dataset.{DenotesPages}
 use Rattle.rx_job.specs.Words.{Gathering, Listed, gathering_asked}
-use Rattle.rx_nest.specs.Ways.{Way}
-use Rattle.rx_command.specs.Reading.{largest_piece, page_limit, for_triples, way_for, HasFirst}
+use Rattle.rx_command.specs.Reading.{largest_piece, page_limit}
+use Rattle.rx_page.specs.Settings.{rdfa_way, HasFirst}
 use Rattle.rx_command.specs.Files.{size_of}
 use Rattle.rx_command.specs.Contexts.{IsContext, HasContext, context_size, context_limit}
-use Rattle.rx_command.specs.Outcome.{IsAccepted, base_in, facts_in}
+use Rattle.rx_page.specs.Tasks.{IsAccepted, base_in, facts_in}
 
 -- files by their names
 abbrev pub FileList : Type 0
 FileList = List (List ℕ × List ℕ)
-
--- how a page of this address is read
-abbrev pub page_way : Syntax → Context → Chars → Way
-page_way syntax context address = way_for syntax (for_triples context address)
 
 -- the bytes are a page, none of its start tags is refused, and these are the triples that RDFa's rules give its tree, as they
 -- are written
@@ -45,7 +41,7 @@ pub record GivesGraph (syntax : Syntax) (context : Context) (address : Chars) (b
 -- the bytes are refused with their first fault, or accepted with triples of which this holds
 abbrev pub IsJudged : (Syntax → Context → Chars → List ℕ → List (Triple ℕ) → Type 0)
     → Syntax → Context → Chars → List ℕ → Judgement → Type 0
-IsJudged gives syntax context address bytes (refused fault) = HasFirst (page_way syntax context address) bytes fault
+IsJudged gives syntax context address bytes (refused fault) = HasFirst (rdfa_way syntax context) bytes fault
 IsJudged gives syntax context address bytes (accepted triples) = gives syntax context address bytes triples
 
 -- the listed page is there, and under its address it is judged so
@@ -119,7 +115,7 @@ pub record IsPart (holds : Context → Type 0) (syntax : Syntax) (files : FileLi
   pub size : part ≤ size_of (file_of files (encode_utf8_all listed.page))
   pub most : part ≤ page_limit
   pub to_fault : (context : Context) → holds context → (bytes : List ℕ) → file_of files (encode_utf8_all listed.page) ≡ Some bytes
-      → (fault : Fault) → HasFirst (page_way syntax context listed.address) bytes fault → part ≤ fault.at + largest_piece
+      → (fault : Fault) → HasFirst (rdfa_way syntax context) bytes fault → part ≤ fault.at + largest_piece
 
 -- one part for each page
 abbrev pub AreParts : (Context → Type 0) → Syntax → FileList → List Listed → List ℕ → Type 0

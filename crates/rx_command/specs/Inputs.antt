@@ -7,9 +7,10 @@ use Rattle.rx_grammar.specs.declared.faults.Fault.{Fault}
 use Rattle.rx_job.specs.Words.{Asked, Task}
 use Rattle.rx_command.specs.Reading.{IsClean}
 use Rattle.rx_command.specs.Contexts.{IsContext, context_size}
-use Rattle.rx_command.specs.Outcome.{TaskGives, TaskDenotes, TaskRefuses, ReadsTo, way_in}
-use Rattle.rx_command.specs.Written.{text_of, Denoted}
-use Rattle.rx_command.specs.declared.outcomes.Outcome.{Outcome}
+use Rattle.rx_page.specs.Tasks.{TaskGives, TaskDenotes, TaskRefuses, way_in}
+use Rattle.rx_command.specs.Outcome.{ReadsTo}
+use Rattle.rx_page.specs.Written.{text_of, Denoted}
+use Rattle.rx_page.specs.declared.outcomes.Outcome.{Outcome}
 
 -- the page of this name is there, and what it gives has the text that the task makes of it; it was read to its end
 pub record PageText (task : Task) (context : Context) (name : List ℕ) (outcome : Outcome) (old new : ShelfContent) : Type 0 where

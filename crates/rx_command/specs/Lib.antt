@@ -1,12 +1,10 @@
 pub mod Reading
 pub mod Ways
+pub mod Endings
 pub mod Files
 pub mod Contexts
 pub mod Outcome
 pub mod Gathering
-pub mod JsonTexts
-pub mod Shaped
-pub mod Written
 pub mod Inputs
 pub mod Calls
 pub mod Runs

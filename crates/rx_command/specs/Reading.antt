@@ -1,35 +1,13 @@
 -- Reading a page as its bytes come.
 use Rattle.std.specs.Prelude.{◌≡◌, ℕ, ◌+◌, ◌≤◌, List, [], ◌++◌, length, Option, Some, Result, Ok, Err}
-use Rattle.rx_terms.specs.Text.{Chars}
-use Rattle.rx_terms.specs.declared.triples.Triple.{Triple as CodeTriple}
-use Rattle.rx_chars.specs.declared.syntax.Syntax.{Syntax}
 use Rattle.rx_grammar.specs.declared.faults.Fault.{Fault}
 use Rattle.rx_grammar.specs.declared.faults.Kind.TheVariants.{Unended}
-use Rattle.rx_grammar.specs.declared.limits.Limits.{Limits}
-use Rattle.rx_rdfa.specs.Names.{Context}
-use Rattle.rx_grammar.specs.declared.stops.Stop.{Stop}
-use Rattle.rx_nest.specs.Signs.{Sign}
-use Rattle.rx_nest.specs.Faults.{Refuses, StopGives}
-use Rattle.rx_nest.specs.Ways.{Way, refuses_none}
-use Rattle.rx_walk.specs.Refused.{refused_in}
-use Rattle.rx_walk.specs.Settings.{Setting}
-use Rattle.rx_walk.specs.Walks as walk
-use Rattle.rx_walk.specs.Walks.{Ended}
-use Rattle.rx_items.specs.Collecting.{Setting as ItemSetting}
-use Rattle.rx_items.specs.Walks as item
-use Rattle.rx_items.specs.declared.kept.Kept.{Kept}
-use Rattle.rx_walk.specs.Checks as check
-use Rattle.rx_walk.specs.Checks.{Accepted}
+use Rattle.rx_nest.specs.Ways.{Way}
 use Rattle.rx_ports.specs.Files.{file_of}
 use Rattle.rx_ports.specs.Shelves.{ShelfContent, WhereKnown}
 use Rattle.rx_command.specs.declared.errors.InputError.{InputError}
 use Rattle.rx_command.specs.declared.errors.InputError.TheVariants as error
-use Rattle.rx_command.specs.declared.passes.Pass.{Pass}
-use Rattle.rx_command.specs.declared.passes.Pass.TheVariants as reader
-
--- 512 levels, tags of 1 MiB, pages of 1 GiB
-abbrev pub standard : Limits
-standard = record { depth = 512; tag = 1048576; page = 1073741824 }
+use Rattle.rx_page.specs.Settings.{standard, HasFirst}
 
 -- the most bytes that a read asks for
 abbrev pub largest_piece : ℕ
@@ -38,52 +16,6 @@ largest_piece = 65536
 -- how much is read of a page at most
 abbrev pub page_limit : ℕ
 page_limit = standard.page + largest_piece
-
--- how a page is read under these names
-abbrev pub setting_for : Syntax → Context → Setting
-setting_for syntax context = record { syntax = syntax; limits = standard; context = context }
-
--- how its items are read at an address
-abbrev pub item_setting_for : Syntax → Chars → ItemSetting
-item_setting_for syntax address = record { syntax = syntax; limits = standard; address = address }
-
--- what a page is read for: its triples, where these names hold in it and this is its address; its items, where this is its
--- address; or its faults alone
-pub data Aim : Type 0 where
-  for_triples : Context → Chars → Aim
-  for_items : Chars → Aim
-  for_faults : Context → Aim
-
--- the fault of the first start tag that is refused for what it means
-abbrev pub refused_for : Aim → List Sign → Option Fault
-refused_for (for_triples context address) = refused_in context []
-refused_for (for_items address) = refuses_none
-refused_for (for_faults context) = refused_in context []
-
--- how a page of this syntax is read for it
-abbrev pub way_for : Syntax → Aim → Way
-way_for syntax aim = record { syntax = syntax; limits = standard; refused = refused_for aim }
-
--- the reader, which was made for this, stands where these bytes of a page lead
-abbrev pub Reached : Syntax → Aim → Pass → List ℕ → Type 0
-Reached syntax (for_triples context address) (reader.Walks v) bytes = walk.WalkStands (setting_for syntax context) address v bytes
-Reached syntax (for_triples context address) (reader.Itemizes v) bytes = ⊥
-Reached syntax (for_triples context address) (reader.Checks v) bytes = ⊥
-Reached syntax (for_items address) (reader.Walks v) bytes = ⊥
-Reached syntax (for_items address) (reader.Itemizes v) bytes = item.ItemWalkStands (item_setting_for syntax address) v bytes
-Reached syntax (for_items address) (reader.Checks v) bytes = ⊥
-Reached syntax (for_faults context) (reader.Walks v) bytes = ⊥
-Reached syntax (for_faults context) (reader.Itemizes v) bytes = ⊥
-Reached syntax (for_faults context) (reader.Checks v) bytes = check.CheckStands (setting_for syntax context) v bytes
-
--- a piece was taken, or stops the reader
-abbrev pub FeedGives : Syntax → Aim → List ℕ → List ℕ → Result (Unit {0}) Stop → Pass → Type 0
-FeedGives syntax aim bytes piece (Ok done) new = Reached syntax aim new (bytes ++ piece)
-FeedGives syntax aim bytes piece (Err why) new = StopGives (way_for syntax aim) (bytes ++ piece) why
-
--- the bytes have this fault, the first of their form and of what their tags mean
-abbrev pub HasFirst : Way → List ℕ → Fault → Type 0
-HasFirst way bytes fault = Refuses way bytes fault
 
 -- A byte of the piece decides the fault, whatever follows.
 pub record Decides (way : Way) (bytes piece : List ℕ) (fault : Fault) : Type 0 where
@@ -103,14 +35,13 @@ pub record AddsNone (old new : ShelfContent) : Type 0 where
   pub taken : new.taken ≡ old.taken
 
 -- a read gave some bytes, which were taken
-abbrev pub NextGives : Syntax → Aim → List ℕ → Result ℕ InputError → Pass → Option ShelfContent → Option ShelfContent → Type 0
-NextGives syntax aim bytes (Ok n) new before now =
-    (more : List ℕ) × (length more ≡ n) × Reached syntax aim new (bytes ++ more) × WhereKnown (Adds more) before now
-NextGives syntax aim bytes (Err (error.Refused fault)) new before now =
-    (more : List ℕ) × (length more ≤ largest_piece) × Decides (way_for syntax aim) bytes more fault × WhereKnown (Adds more) before now
-NextGives syntax aim bytes (Err error.Failed) new before now = WhereKnown AddsNone before now
-NextGives syntax aim bytes (Err error.BadContext) new before now = ⊥
-NextGives syntax aim bytes (Err error.NoMemory) new before now = Unit {0}
+abbrev pub NextGives : {R : Type 0} → Way → (R → List ℕ → Type 0) → List ℕ → Result ℕ InputError → R → Option ShelfContent → Option ShelfContent → Type 0
+NextGives way stands bytes (Ok n) new before now = (more : List ℕ) × (length more ≡ n) × stands new (bytes ++ more) × WhereKnown (Adds more) before now
+NextGives way stands bytes (Err (error.Refused fault)) new before now =
+    (more : List ℕ) × (length more ≤ largest_piece) × Decides way bytes more fault × WhereKnown (Adds more) before now
+NextGives way stands bytes (Err error.Failed) new before now = WhereKnown AddsNone before now
+NextGives way stands bytes (Err error.BadContext) new before now = ⊥
+NextGives way stands bytes (Err error.NoMemory) new before now = Unit {0}
 
 -- the page's end shows a fault, or there was no memory
 abbrev pub EndFails : Way → List ℕ → InputError → Type 0
@@ -124,45 +55,18 @@ abbrev pub EndGives : {A : Type 0} → Way → (List ℕ → A → Type 0) → L
 EndGives way holds bytes (Ok given) = holds bytes given
 EndGives way holds bytes (Err why) = EndFails way bytes why
 
--- the bytes are a page with this list of triples
-abbrev pub GivesList : Syntax → Context → Chars → List ℕ → List CodeTriple → Type 0
-GivesList syntax context address bytes list = Ended (setting_for syntax context) address bytes list
-
--- the bytes are a page with these items
-abbrev pub GivesItems : Syntax → Chars → List ℕ → Kept → Type 0
-GivesItems syntax address bytes found = item.Ended (item_setting_for syntax address) bytes found
-
--- the bytes are a page of which no start tag is refused
-abbrev pub GivesRight : Syntax → Context → List ℕ → Unit {0} → Type 0
-GivesRight syntax context bytes done = Accepted (setting_for syntax context) bytes
-
--- whatever the reader was made for, this holds where it is before the first byte of a page
-abbrev pub FromStart : Pass → (Syntax → Aim → Type 0) → Type 0
-FromStart v holds = (syntax : Syntax) (aim : Aim) → Reached syntax aim v [] → holds syntax aim
-
--- whatever it was made for, and whatever bytes lead to where it stands, this holds
-abbrev pub FromWhere : Pass → (Syntax → Aim → List ℕ → Type 0) → Type 0
-FromWhere v holds = (syntax : Syntax) (aim : Aim) (bytes : List ℕ) → Reached syntax aim v bytes → holds syntax aim bytes
+-- whatever the reader was made with, this holds where it is before the first byte of a page
+abbrev pub FromStart : {S R : Type 0} → (S → R → List ℕ → Type 0) → R → (S → Type 0) → Type 0
+FromStart stands reader holds = (setting : _) → stands setting reader [] → holds setting
 
 -- a read gave some bytes, no more than a piece, which whatever the reader stood for went on with
-abbrev pub ReadsNext : Pass → ℕ → Result ℕ InputError → Pass → Option ShelfContent → Option ShelfContent → Type 0
-ReadsNext old room result new before now = FromWhere old (λ syntax aim bytes. room ≤ 65536 → NextGives syntax aim bytes result new before now)
+abbrev pub ReadsNext : {S R : Type 0} → (S → Way) → (S → R → List ℕ → Type 0) → R → ℕ → Result ℕ InputError → R → Option ShelfContent → Option ShelfContent → Type 0
+ReadsNext way stands old room result new before now =
+    (setting : _) (bytes : List ℕ) → stands setting old bytes → room ≤ largest_piece → NextGives (way setting) (stands setting) bytes result new before now
 
--- the page's end, where triples are wanted, items, or faults alone
-abbrev pub EndsWithList : Pass → Result (List CodeTriple) InputError → Type 0
-EndsWithList v result =
-    (syntax : Syntax) (context : Context) (address : Chars) (bytes : List ℕ) → Reached syntax (for_triples context address) v bytes
-    → EndGives (way_for syntax (for_triples context address)) (GivesList syntax context address) bytes result
-
-abbrev pub EndsWithItems : Pass → Result Kept InputError → Type 0
-EndsWithItems v result =
-    (syntax : Syntax) (address : Chars) (bytes : List ℕ) → Reached syntax (for_items address) v bytes
-    → EndGives (way_for syntax (for_items address)) (GivesItems syntax address) bytes result
-
-abbrev pub EndsRight : Pass → Result (Unit {0}) InputError → Type 0
-EndsRight v result =
-    (syntax : Syntax) (context : Context) (bytes : List ℕ) → Reached syntax (for_faults context) v bytes
-    → EndGives (way_for syntax (for_faults context)) (GivesRight syntax context) bytes result
+-- the page's end, whatever the reader was made with, and whatever bytes lead to where it stands
+abbrev pub Ends : {S R A : Type 0} → (S → Way) → (S → R → List ℕ → Type 0) → (S → List ℕ → A → Type 0) → R → Result A InputError → Type 0
+Ends way stands gives reader result = (setting : _) (bytes : List ℕ) → stands setting reader bytes → EndGives (way setting) (gives setting) bytes result
 
 -- The file was read to its end, and this holds of its bytes and of what they give.
 pub record ReadsWhole {A : Type 0} (holds : List ℕ → A → Type 0) (name : List ℕ) (given : A) (old new : ShelfContent) : Type 0 where
@@ -201,36 +105,16 @@ pub record IsFile (name bytes : List ℕ) (old new : ShelfContent) : Type 0 wher
   pub left : new.left ≡ []
   pub taken : new.taken ≡ old.taken + length bytes
 
--- the reader, which was made for this, is before the first byte of a page
-pub record Starts (v : Pass) : Type 0 where
-  pub syntax : Syntax
-  pub aim : Aim
-  pub reached : Reached syntax aim v []
-
--- the reader was made for triples, for items or for faults, and stands somewhere in a page
-pub record MakesTriples (v : Pass) : Type 0 where
-  pub syntax : Syntax
-  pub context : Context
-  pub address : Chars
-  pub bytes : List ℕ
-  pub reached : Reached syntax (for_triples context address) v bytes
-
-pub record FindsItems (v : Pass) : Type 0 where
-  pub syntax : Syntax
-  pub address : Chars
-  pub bytes : List ℕ
-  pub reached : Reached syntax (for_items address) v bytes
-
-pub record FindsFaults (v : Pass) : Type 0 where
-  pub syntax : Syntax
-  pub context : Context
-  pub bytes : List ℕ
-  pub reached : Reached syntax (for_faults context) v bytes
+-- the reader, which was made with this, is before the first byte of a page, which may be as large as any
+pub record Starts {S R : Type 0} (way : S → Way) (stands : S → R → List ℕ → Type 0) (reader : R) : Type 0 where
+  pub setting : S
+  pub limits : (way setting).limits ≡ standard
+  pub at : stands setting reader []
 
 -- the reader stands where the whole file leads
-pub record Fed (syntax : Syntax) (aim : Aim) (name : List ℕ) (v : Pass) (before now : Option ShelfContent) : Type 0 where
+pub record Fed {R : Type 0} (stands : R → List ℕ → Type 0) (name : List ℕ) (reader : R) (before now : Option ShelfContent) : Type 0 where
   pub bytes : List ℕ
-  pub reached : Reached syntax aim v bytes
+  pub at : stands reader bytes
   pub read : WhereKnown (IsFile name bytes) before now
 
 -- the file has a fault, or reading it failed, or there was no memory
@@ -240,9 +124,9 @@ PageFails way name error.Failed before now = WhereKnown (ReadsClean way name) be
 PageFails way name error.BadContext before now = ⊥
 PageFails way name error.NoMemory before now = Unit {0}
 
-abbrev pub FileGives : Syntax → Aim → List ℕ → Result (Unit {0}) InputError → Pass → Option ShelfContent → Option ShelfContent → Type 0
-FileGives syntax aim name (Ok done) v before now = Fed syntax aim name v before now
-FileGives syntax aim name (Err why) v before now = PageFails (way_for syntax aim) name why before now
+abbrev pub FileGives : {R : Type 0} → Way → (R → List ℕ → Type 0) → List ℕ → Result (Unit {0}) InputError → R → Option ShelfContent → Option ShelfContent → Type 0
+FileGives way stands name (Ok done) reader before now = Fed stands name reader before now
+FileGives way stands name (Err why) reader before now = PageFails way name why before now
 
 -- the file was read to its end, and this holds of its bytes and of what they give; or it wasn't
 abbrev pub PageGives : {A : Type 0} → Way → (List ℕ → A → Type 0) → List ℕ → Result A InputError → Option ShelfContent → Option ShelfContent → Type 0

@@ -13,10 +13,11 @@ use Rattle.rx_nest.specs.Signs.{sees, nothing_seen}
 use Rattle.rx_nquads.specs.Writing.{nquads}
 use Rattle.rx_base.specs.Lines.{line_of}
 use Rattle.rx_walk.specs.Settings.{Setting}
-use Rattle.rx_command.specs.Reading.{standard, setting_for}
+use Rattle.rx_page.specs.Settings.{standard, setting_for}
 use Rattle.rx_ports.specs.Shelves.{ShelfContent}
 use Rattle.rx_job.specs.Words.{job, samples, most_items}
-use Rattle.rx_command.specs.Outcome.{IsAccepted, base_in, facts_in, HasPageText, HasPageGraph}
+use Rattle.rx_page.specs.Tasks.{IsAccepted, base_in, facts_in}
+use Rattle.rx_command.specs.Outcome.{HasPageText, HasPageGraph}
 use Rattle.rx_command.specs.Gathering.{GatheredText, GatheredGraphs}
 
 -- what stands before the items
@@ -113,3 +114,7 @@ Yields words told text = HasPageText words told text ⊎ (SaysOfSample words tex
 -- the outcome is this text, which, where pages are read, denotes exactly their graphs
 abbrev pub YieldsGraph : List Chars → Option ShelfContent → List ℕ → Type 0
 YieldsGraph words told text = HasPageGraph words told text ⊎ (SaysOfSample words text ⊎ GatheredGraphs words told text)
+
+-- the outcome is this text, and it denotes what it has to
+abbrev pub YieldsBoth : List Chars → Option ShelfContent → List ℕ → Type 0
+YieldsBoth words told text = Yields words told text × YieldsGraph words told text

@@ -7,12 +7,12 @@ use Rattle.rx_nquads.specs.Graphs.{lent_name}
 use Rattle.rx_job.specs.Words.{Extraction, Task, extracts, itemizes}
 use Rattle.rx_job.specs.declared.formats.Format.{Format}
 use Rattle.rx_nest.specs.Ways.{Way}
-use Rattle.rx_command.specs.Reading.{for_triples, way_for, GivesList}
+use Rattle.rx_page.specs.Settings.{rdfa_way, GivesList}
 use Rattle.rx_command.specs.declared.pages.Approach.{Approach}
 use denote.Ref.{Bor}
 
 abbrev pub way_of : Approach → Way
-way_of approach = way_for approach.syntax (for_triples approach.context approach.address)
+way_of approach = rdfa_way approach.syntax approach.context
 
 abbrev pub extraction_of : Approach → Format → Option (Bor Chars) → Extraction
 extraction_of approach format graph =

@@ -2,7 +2,7 @@
 ghost use Rattle.std.specs.Prelude.{◌≡◌, ◌+◌, ◌≤◌, ◌<◌, ◌^◌, ◌⊎◌, IfOk, IsErrOf, length, vec_len};
 ghost use Rattle.rx_ports.specs.Counts.{Rose};
 ghost use Rattle.rx_ports.specs.Shelves.{WhereKnown, Lacks};
-ghost use Rattle.rx_command.specs.Files.{ReadsFile, ReadsOn, TakesSome, TakesOf};
+ghost use Rattle.rx_command.specs.Files.{ReadsFile, ReadsOn, SteadyFile, TakesSome, TakesOf};
 
 use rx_ports::{PIECE, Shelf};
 use std::alloc::Global;
@@ -23,8 +23,9 @@ pub fn read_file<F: Shelf>(
 ) -> Result<Vec<u8>, ReadError>
     requires { limit < 2 ^ 60 }
     ensures ok { IfOk result (λ bytes. WhereKnown (ReadsFile name.now limit bytes.items) (F.told shelf.old) (F.told shelf.new)) }
-    ensures takes { WhereKnown (TakesOf name.now limit) (F.told shelf.old) (F.told shelf.new) }
+    ensures takes { WhereKnown (TakesOf name.now (limit + 1)) (F.told shelf.old) (F.told shelf.new) }
     ensures later { F.faults shelf.old ≤ F.faults shelf.new }
+    ensures steady { SteadyFile result (F.faults shelf.old) (F.faults shelf.new) }
     ensures failed { IsErrOf result ReadError.Failed → Rose (F.faults shelf.old) (F.faults shelf.new) ⊎ Lacks (F.told shelf.old) name.now }
 {
     let Ok(mut piece) = vec![in alloc; 0u8; PIECE] else {
@@ -57,6 +58,7 @@ fn read_on<F: Shelf>(
     ensures told { IfOk result (λ n. WhereKnown (ReadsOn bytes.old.items bytes.new.items n) (F.told shelf.old) (F.told shelf.new)) }
     ensures takes { WhereKnown (TakesSome (length part.old)) (F.told shelf.old) (F.told shelf.new) }
     ensures later { F.faults shelf.old ≤ F.faults shelf.new }
+    ensures steady { SteadyFile result (F.faults shelf.old) (F.faults shelf.new) }
     ensures failed { IsErrOf result ReadError.Failed → Rose (F.faults shelf.old) (F.faults shelf.new) }
 {
     let Ok(count) = shelf.read(part) else {

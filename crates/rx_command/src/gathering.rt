@@ -7,16 +7,17 @@ ghost use Rattle.rx_command.specs.Contexts.{HasOther, TakesContext};
 ghost use Rattle.rx_command.specs.Gathering.{AddsPage, AddsPages, GathersPages, TakesGathering, TakesPart, TakesParts};
 ghost use Rattle.rx_command.specs.Inputs.{WhereTold};
 ghost use Rattle.rx_command.specs.Outcome.{LacksOne, LacksPage};
-ghost use Rattle.rx_command.specs.Calls.{FailedOr, FailedOrLacks};
-ghost use Rattle.rx_command.specs.Written.{graph_made};
+ghost use Rattle.rx_command.specs.Calls.{FailedOr, FailedOrLacks, Steady};
+ghost use Rattle.rx_command.specs.Reading.{largest_piece};
+ghost use Rattle.rx_page.specs.Written.{graph_made};
 
 use crate::errors::InputError;
 use crate::inputs::read_context;
-use crate::outcomes::graph_of;
 use crate::pages::{Approach, new_piece, read_page_by};
 use rx_job::{Pages, Several};
 use rx_many::Many;
 use rx_names::Context;
+use rx_page::graph_of;
 use rx_ports::Shelf;
 use rx_terms::{Iri, NoMemory, Text, TripleList};
 use rx_walk::{Fault, Syntax};
@@ -37,6 +38,7 @@ pub(crate) fn gather<F: Shelf>(
         WhereKnown (TakesContext (several_seen several.entry).context) (F.told shelf.old) (F.told shelf.new) }
     ensures named { IsErrOf result InputError.BadContext → is_some (several_seen several.entry).context ≡ true }
     ensures failed { IsErrOf result InputError.Failed → FailedOr F.told F.faults shelf.old shelf.new (LacksOne (several_seen several.entry)) }
+    ensures steady { Steady result (F.faults shelf.old) (F.faults shelf.new) }
 {
     let Several {
         syntax,
@@ -78,6 +80,7 @@ fn gather_pages<F: Shelf>(
     ensures not_refused { (fault : Fault) → result ≡ Err (InputError.Refused fault) → ⊥ }
     ensures no_context { IsErrOf result InputError.BadContext → ⊥ }
     ensures failed { IsErrOf result InputError.Failed → FailedOr F.told F.faults shelf.old shelf.new (λ told. LacksPage told.files pages.now) }
+    ensures steady { Steady result (F.faults shelf.old) (F.faults shelf.new) }
 {
     let mut piece = new_piece(alloc)?;
     gather_by(alloc, shelf, syntax, context, pages, &mut piece[..], many)
@@ -93,12 +96,13 @@ fn gather_by<F: Shelf>(
     piece: &mut [u8],
     many: &mut Many,
 ) -> Result<(), InputError>
-    requires { length piece.old ≡ 65536 }
+    requires { length piece.old ≡ largest_piece }
     ensures ok { OnOk result (AddsPages context.now syntax pages.now many.old many.new (F.told shelf.old) (F.told shelf.new)) }
     ensures takes { WhereKnown (TakesParts context.now syntax pages.now) (F.told shelf.old) (F.told shelf.new) }
     ensures not_refused { (fault : Fault) → result ≡ Err (InputError.Refused fault) → ⊥ }
     ensures no_context { IsErrOf result InputError.BadContext → ⊥ }
     ensures failed { IsErrOf result InputError.Failed → FailedOr F.told F.faults shelf.old shelf.new (λ told. LacksPage told.files pages.now) }
+    ensures steady { Steady result (F.faults shelf.old) (F.faults shelf.new) }
 {
     for i in 0..pages.len() {
         let (address, page) = pages.at(i);
@@ -121,13 +125,14 @@ fn gather_page<F: Shelf>(
     piece: &mut [u8],
     many: &mut Many,
 ) -> Result<(), InputError>
-    requires { length piece.old ≡ 65536 }
+    requires { length piece.old ≡ largest_piece }
     ensures ok { OnOk result (AddsPage context.now syntax (page_at address.now page.now) many.old many.new (F.told shelf.old) (F.told shelf.new)) }
     ensures takes { WhereKnown (TakesPart context.now syntax (page_at address.now page.now)) (F.told shelf.old) (F.told shelf.new) }
     ensures not_refused { (fault : Fault) → result ≡ Err (InputError.Refused fault) → ⊥ }
     ensures no_context { IsErrOf result InputError.BadContext → ⊥ }
     ensures failed { IsErrOf result InputError.Failed → FailedOrLacks F.told F.faults shelf.old shelf.new (encode_utf8_all page.now) }
     ensures later { F.faults shelf.old ≤ F.faults shelf.new }
+    ensures steady { Steady result (F.faults shelf.old) (F.faults shelf.new) }
 {
     let approach = approach_of(alloc, syntax, context, address)?;
     match read_page_by(alloc, shelf, page.as_str(), approach, piece) {

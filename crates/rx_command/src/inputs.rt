@@ -4,30 +4,26 @@ ghost use Rattle.rx_ports.specs.Shelves.{WhereKnown};
 ghost use Rattle.rx_job.specs.Words.{checks};
 ghost use Rattle.rx_job.specs.Jobs.{page_by, reads_page, has_context, text_in};
 ghost use Rattle.rx_command.specs.Files.{TakesOf};
+ghost use Rattle.rx_command.specs.Reading.{page_limit};
 ghost use Rattle.rx_rdfa.specs.Names.{Context as RulesContext};
-ghost use Rattle.rx_command.specs.Reading.{for_items, for_faults, way_for};
+ghost use Rattle.rx_page.specs.Settings.{item_way, rdfa_way};
 ghost use Rattle.rx_command.specs.Ways.{way_of, extracts_by, itemizes_by};
 ghost use Rattle.rx_command.specs.Contexts.{IsContextFile, IsFileOf, ReadsContext, TakesContext, LacksContext, HasOther};
 ghost use Rattle.rx_command.specs.Outcome.{IsLacking};
 ghost use Rattle.rx_command.specs.Inputs.{JobText, JobRefused, WhereTold};
 ghost use Rattle.rx_command.specs.Runs.{TakesFiles, StopsCleanly};
-ghost use Rattle.rx_command.specs.Calls.{GivesBy, GivesText, RefusesBy, RefusesPage, StopsBy, FailedOr, FailedOrLacks};
+ghost use Rattle.rx_command.specs.Calls.{GivesBy, GivesText, RefusesBy, RefusesPage, StopsBy, FailedOr, FailedOrLacks, Steady};
 
 use crate::errors::InputError;
 use crate::files::{ReadError, read_file};
-use crate::forms::Form;
-use crate::json_texts::text_of_items;
-use crate::outcomes::Outcome;
 use crate::pages::{Approach, check_page, read_items, read_page};
 use rx_job::{Format, Job};
 use rx_names::{Context, ContextError};
+use rx_page::{Form, LARGEST_CONTEXT, Outcome, context_of, text_of_items};
 use rx_ports::Shelf;
 use rx_terms::{Iri, Text};
 use rx_walk::{Fault, Stop, Syntax};
 use std::alloc::Global;
-
-/// The most bytes that a context file has.
-pub const LARGEST_CONTEXT: usize = 65_536;
 
 /// What the job's page gives, which is read after the context file, where one is named.
 pub(crate) fn outcome_of_job<F: Shelf>(
@@ -45,6 +41,7 @@ pub(crate) fn outcome_of_job<F: Shelf>(
     ensures failed { IsErrOf result InputError.Failed → FailedOr F.told F.faults shelf.old shelf.new (IsLacking (page_by job)) }
     ensures cleanly { IsErrOf result InputError.Failed → WhereKnown (StopsCleanly (Some (page_by job))) (F.told shelf.old) (F.told shelf.new) }
     ensures later { F.faults shelf.old ≤ F.faults shelf.new }
+    ensures steady { Steady result (F.faults shelf.old) (F.faults shelf.new) }
 {
     let outcome = outcome_by(alloc, shelf, &job);
     drop(job);
@@ -63,6 +60,7 @@ fn outcome_by<F: Shelf>(alloc: Global, shelf: &mut F, job: &Job) -> Result<Outco
     ensures failed { IsErrOf result InputError.Failed → FailedOr F.told F.faults shelf.old shelf.new (IsLacking (page_by job.now)) }
     ensures cleanly { IsErrOf result InputError.Failed → WhereKnown (StopsCleanly (Some (page_by job.now))) (F.told shelf.old) (F.told shelf.new) }
     ensures later { F.faults shelf.old ≤ F.faults shelf.new }
+    ensures steady { Steady result (F.faults shelf.old) (F.faults shelf.new) }
 {
     match job {
         Job::Items {
@@ -93,6 +91,7 @@ fn outcome_under_context<F: Shelf>(
     ensures failed { IsErrOf result InputError.Failed → FailedOr F.told F.faults shelf.old shelf.new (IsLacking (page_by job.now)) }
     ensures cleanly { IsErrOf result InputError.Failed → WhereKnown (StopsCleanly (Some (page_by job.now))) (F.told shelf.old) (F.told shelf.new) }
     ensures later { F.faults shelf.old ≤ F.faults shelf.new }
+    ensures steady { Steady result (F.faults shelf.old) (F.faults shelf.new) }
 {
     let context = match read_context(alloc, shelf, job.context()) {
         Ok(context) => context,
@@ -136,11 +135,12 @@ fn extract<F: Shelf>(
 ) -> Result<Outcome, InputError>
     ensures ok { GivesText result (extracts_by approach format graph.entry) approach.context page.now (F.told shelf.old) (F.told shelf.new) }
     ensures refused { RefusesPage result (extracts_by approach format graph.entry) approach.context page.now (F.told shelf.old) (F.told shelf.new) }
-    ensures takes { WhereKnown (TakesOf (encode_utf8_all page.now) 1073807359) (F.told shelf.old) (F.told shelf.new) }
+    ensures takes { WhereKnown (TakesOf (encode_utf8_all page.now) page_limit) (F.told shelf.old) (F.told shelf.new) }
     ensures context { IsErrOf result InputError.BadContext → ⊥ }
     ensures failed { IsErrOf result InputError.Failed → FailedOrLacks F.told F.faults shelf.old shelf.new (encode_utf8_all page.now) }
     ensures cleanly { StopsBy result (way_of approach) (encode_utf8_all page.now) (F.told shelf.old) (F.told shelf.new) }
     ensures later { F.faults shelf.old ≤ F.faults shelf.new }
+    ensures steady { Steady result (F.faults shelf.old) (F.faults shelf.new) }
 {
     let Ok(form) = Form::of(alloc, format, graph, &approach.context) else {
         drop(approach);
@@ -166,11 +166,12 @@ fn itemize<F: Shelf>(
 ) -> Result<Outcome, InputError>
     ensures ok { (context : RulesContext) → GivesText result (itemizes_by syntax address) context page.now (F.told shelf.old) (F.told shelf.new) }
     ensures refused { (context : RulesContext) → RefusesPage result (itemizes_by syntax address) context page.now (F.told shelf.old) (F.told shelf.new) }
-    ensures takes { WhereKnown (TakesOf (encode_utf8_all page.now) 1073807359) (F.told shelf.old) (F.told shelf.new) }
+    ensures takes { WhereKnown (TakesOf (encode_utf8_all page.now) page_limit) (F.told shelf.old) (F.told shelf.new) }
     ensures no_context { IsErrOf result InputError.BadContext → ⊥ }
     ensures failed { IsErrOf result InputError.Failed → FailedOrLacks F.told F.faults shelf.old shelf.new (encode_utf8_all page.now) }
-    ensures cleanly { StopsBy result (way_for syntax (for_items address)) (encode_utf8_all page.now) (F.told shelf.old) (F.told shelf.new) }
+    ensures cleanly { StopsBy result (item_way syntax) (encode_utf8_all page.now) (F.told shelf.old) (F.told shelf.new) }
     ensures later { F.faults shelf.old ≤ F.faults shelf.new }
+    ensures steady { Steady result (F.faults shelf.old) (F.faults shelf.new) }
 {
     let found = match read_items(alloc, shelf, page.as_str(), syntax, address) {
         Ok(found) => found,
@@ -202,11 +203,12 @@ fn check<F: Shelf>(
 ) -> Result<Outcome, InputError>
     ensures ok { GivesText result (checks syntax) context page.now (F.told shelf.old) (F.told shelf.new) }
     ensures refused { RefusesPage result (checks syntax) context page.now (F.told shelf.old) (F.told shelf.new) }
-    ensures takes { WhereKnown (TakesOf (encode_utf8_all page.now) 1073807359) (F.told shelf.old) (F.told shelf.new) }
+    ensures takes { WhereKnown (TakesOf (encode_utf8_all page.now) page_limit) (F.told shelf.old) (F.told shelf.new) }
     ensures no_context { IsErrOf result InputError.BadContext → ⊥ }
     ensures failed { IsErrOf result InputError.Failed → FailedOrLacks F.told F.faults shelf.old shelf.new (encode_utf8_all page.now) }
-    ensures cleanly { StopsBy result (way_for syntax (for_faults context)) (encode_utf8_all page.now) (F.told shelf.old) (F.told shelf.new) }
+    ensures cleanly { StopsBy result (rdfa_way syntax context) (encode_utf8_all page.now) (F.told shelf.old) (F.told shelf.new) }
     ensures later { F.faults shelf.old ≤ F.faults shelf.new }
+    ensures steady { Steady result (F.faults shelf.old) (F.faults shelf.new) }
 {
     match check_page(alloc, shelf, page.as_str(), syntax, context) {
         Ok(()) => Ok(Outcome::Right),
@@ -227,6 +229,7 @@ pub(crate) fn read_context<F: Shelf>(
     ensures not_refused { (fault : Fault) → result ≡ Err (InputError.Refused fault) → ⊥ }
     ensures failed { IsErrOf result InputError.Failed → FailedOr F.told F.faults shelf.old shelf.new (LacksContext (text_in file.entry)) }
     ensures later { F.faults shelf.old ≤ F.faults shelf.new }
+    ensures steady { Steady result (F.faults shelf.old) (F.faults shelf.new) }
 {
     match file {
         None => Ok(Context::standard(alloc)?),
@@ -245,16 +248,14 @@ fn read_named_context<F: Shelf>(
     ensures not_refused { (fault : Fault) → result ≡ Err (InputError.Refused fault) → ⊥ }
     ensures failed { IsErrOf result InputError.Failed → FailedOr F.told F.faults shelf.old shelf.new (LacksContext (Some file.now)) }
     ensures later { F.faults shelf.old ≤ F.faults shelf.new }
+    ensures steady { Steady result (F.faults shelf.old) (F.faults shelf.new) }
 {
     let bytes = match read_file(alloc, shelf, file.as_str(), LARGEST_CONTEXT) {
         Ok(bytes) => bytes,
         Err(ReadError::Failed) => return Err(InputError::Failed),
         Err(ReadError::NoMemory) => return Err(InputError::NoMemory),
     };
-    if bytes.len() > LARGEST_CONTEXT {
-        return Err(InputError::BadContext);
-    }
-    match Context::of_json(alloc, bytes.as_slice()) {
+    match context_of(alloc, bytes.as_slice()) {
         Ok(context) => Ok(context),
         Err(ContextError::BadContext) => Err(InputError::BadContext),
         Err(ContextError::NoMemory) => Err(InputError::NoMemory),

@@ -2,15 +2,16 @@
 ghost use Rattle.std.specs.Prelude.{◌≡◌, ◌<◌, ◌≤◌, IfOk, IsErrOf, length, vec_len};
 ghost use Rattle.rx_ports.specs.Counts.{Rose};
 ghost use Rattle.rx_ports.specs.Shelves.{WhereKnown};
-ghost use Rattle.rx_command.specs.Reading.{for_items, for_faults, way_for, Starts, MakesTriples, FindsItems, FindsFaults, ReadsNext, GivesItems, GivesRight, FileGives, PageGives, TakesToFirst, FromStart, EndsWithList, EndsWithItems, EndsRight};
+ghost use Rattle.rx_page.specs.Settings.{GivesItems, GivesRight, item_way, rdfa_way};
+ghost use Rattle.rx_command.specs.Reading.{largest_piece, page_limit, Starts, ReadsNext, FileGives, PageGives, TakesToFirst, FromStart, Ends};
 ghost use Rattle.rx_command.specs.Files.{TakesSome, TakesOf};
 ghost use Rattle.rx_command.specs.Ways.{way_of, GivesListOf};
-ghost use Rattle.rx_command.specs.Calls.{FailedOrLacks};
+ghost use Rattle.rx_command.specs.Calls.{FailedOrLacks, Steady};
 
 use crate::errors::InputError;
-use crate::passes::Pass;
 use rx_items::{ItemWalk, Items};
 use rx_names::Context;
+use rx_page::PageReader;
 use rx_ports::{PIECE, Shelf};
 use rx_terms::{Iri, NoMemory, TripleList};
 use rx_walk::{Check, Limits, Stop, Syntax, Walk};
@@ -36,9 +37,10 @@ pub(crate) fn read_page<F: Shelf>(
     approach: Approach,
 ) -> Result<TripleList, InputError>
     ensures gives { PageGives (way_of approach) (GivesListOf approach) name.now result (F.told shelf.old) (F.told shelf.new) }
-    ensures takes { WhereKnown (TakesOf name.now 1073807359) (F.told shelf.old) (F.told shelf.new) }
+    ensures takes { WhereKnown (TakesOf name.now page_limit) (F.told shelf.old) (F.told shelf.new) }
     ensures to_first { WhereKnown (TakesToFirst (way_of approach) name.now) (F.told shelf.old) (F.told shelf.new) }
     ensures later { F.faults shelf.old ≤ F.faults shelf.new }
+    ensures steady { Steady result (F.faults shelf.old) (F.faults shelf.new) }
     ensures failed { IsErrOf result InputError.Failed → FailedOrLacks F.told F.faults shelf.old shelf.new name.now }
 {
     let Ok(mut piece) = new_piece(alloc) else {
@@ -56,11 +58,12 @@ pub(crate) fn read_page_by<F: Shelf>(
     approach: Approach,
     piece: &mut [u8],
 ) -> Result<TripleList, InputError>
-    requires { length piece.old ≡ 65536 }
+    requires { length piece.old ≡ largest_piece }
     ensures gives { PageGives (way_of approach) (GivesListOf approach) name.now result (F.told shelf.old) (F.told shelf.new) }
-    ensures takes { WhereKnown (TakesOf name.now 1073807359) (F.told shelf.old) (F.told shelf.new) }
+    ensures takes { WhereKnown (TakesOf name.now page_limit) (F.told shelf.old) (F.told shelf.new) }
     ensures to_first { WhereKnown (TakesToFirst (way_of approach) name.now) (F.told shelf.old) (F.told shelf.new) }
     ensures later { F.faults shelf.old ≤ F.faults shelf.new }
+    ensures steady { Steady result (F.faults shelf.old) (F.faults shelf.new) }
     ensures failed { IsErrOf result InputError.Failed → FailedOrLacks F.told F.faults shelf.old shelf.new name.now }
 {
     let Approach {
@@ -69,14 +72,7 @@ pub(crate) fn read_page_by<F: Shelf>(
         address,
     } = approach;
     let walk = Walk::new(alloc, syntax, context, address, Limits::standard())?;
-    let mut reader = Pass::Walks(walk);
-    match feed_file_by(shelf, name, &mut reader, piece) {
-        Ok(()) => list_of(reader),
-        Err(error) => {
-            drop(reader);
-            Err(error)
-        }
-    }
+    read_by(shelf, name, walk, piece)
 }
 
 /// Reads a page as [`read_page`] does, but for its items. No start tag is refused for what it means.
@@ -87,20 +83,14 @@ pub(crate) fn read_items<F: Shelf>(
     syntax: Syntax,
     address: Iri,
 ) -> Result<Items, InputError>
-    ensures gives { PageGives (way_for syntax (for_items address)) (GivesItems syntax address) name.now result (F.told shelf.old) (F.told shelf.new) }
-    ensures takes { WhereKnown (TakesOf name.now 1073807359) (F.told shelf.old) (F.told shelf.new) }
+    ensures gives { PageGives (item_way syntax) (GivesItems syntax address) name.now result (F.told shelf.old) (F.told shelf.new) }
+    ensures takes { WhereKnown (TakesOf name.now page_limit) (F.told shelf.old) (F.told shelf.new) }
     ensures later { F.faults shelf.old ≤ F.faults shelf.new }
+    ensures steady { Steady result (F.faults shelf.old) (F.faults shelf.new) }
     ensures failed { IsErrOf result InputError.Failed → FailedOrLacks F.told F.faults shelf.old shelf.new name.now }
 {
     let walk = ItemWalk::new(alloc, syntax, address, Limits::standard())?;
-    let mut reader = Pass::Itemizes(walk);
-    match feed_file(alloc, shelf, name, &mut reader) {
-        Ok(()) => items_of(reader),
-        Err(error) => {
-            drop(reader);
-            Err(error)
-        }
-    }
+    read(alloc, shelf, name, walk)
 }
 
 /// Reads a page as [`read_page`] does, but only for its faults: no triples are made, and so no address is needed.
@@ -111,15 +101,64 @@ pub(crate) fn check_page<F: Shelf>(
     syntax: Syntax,
     context: Context,
 ) -> Result<(), InputError>
-    ensures gives { PageGives (way_for syntax (for_faults context)) (GivesRight syntax context) name.now result (F.told shelf.old) (F.told shelf.new) }
-    ensures takes { WhereKnown (TakesOf name.now 1073807359) (F.told shelf.old) (F.told shelf.new) }
+    ensures gives { PageGives (rdfa_way syntax context) (GivesRight syntax context) name.now result (F.told shelf.old) (F.told shelf.new) }
+    ensures takes { WhereKnown (TakesOf name.now page_limit) (F.told shelf.old) (F.told shelf.new) }
     ensures later { F.faults shelf.old ≤ F.faults shelf.new }
+    ensures steady { Steady result (F.faults shelf.old) (F.faults shelf.new) }
     ensures failed { IsErrOf result InputError.Failed → FailedOrLacks F.told F.faults shelf.old shelf.new name.now }
 {
     let check = Check::new(alloc, syntax, context, Limits::standard())?;
-    let mut reader = Pass::Checks(check);
-    match feed_file(alloc, shelf, name, &mut reader) {
-        Ok(()) => checked(reader),
+    read(alloc, shelf, name, check)
+}
+
+/// Room for one read.
+pub(crate) fn new_piece(alloc: Global) -> Result<Vec<u8>, NoMemory>
+    ensures { IfOk result (λ piece. vec_len piece ≡ largest_piece) }
+{
+    let piece = vec![in alloc; 0u8; PIECE]?;
+    Ok(piece)
+}
+
+/// Reads a page by this reader, for what it gives.
+fn read<F: Shelf, R: PageReader + Drop>(
+    alloc: Global,
+    shelf: &mut F,
+    name: &str,
+    reader: R,
+) -> Result<R::Given, InputError>
+    requires { Starts R.way R.stands reader }
+    ensures gives { FromStart R.stands reader (λ setting. PageGives (R.way setting) (R.gives setting) name.now result (F.told shelf.old) (F.told shelf.new)) }
+    ensures takes { WhereKnown (TakesOf name.now page_limit) (F.told shelf.old) (F.told shelf.new) }
+    ensures later { F.faults shelf.old ≤ F.faults shelf.new }
+    ensures steady { Steady result (F.faults shelf.old) (F.faults shelf.new) }
+    ensures failed { IsErrOf result InputError.Failed → FailedOrLacks F.told F.faults shelf.old shelf.new name.now }
+{
+    let Ok(mut piece) = new_piece(alloc) else {
+        drop(reader);
+        return Err(InputError::NoMemory);
+    };
+    read_by(shelf, name, reader, &mut piece[..])
+}
+
+/// Reads a page as [`read`] does, by a piece that is lent.
+fn read_by<F: Shelf, R: PageReader + Drop>(
+    shelf: &mut F,
+    name: &str,
+    reader: R,
+    piece: &mut [u8],
+) -> Result<R::Given, InputError>
+    requires starts { Starts R.way R.stands reader }
+    requires room { length piece.old ≡ largest_piece }
+    ensures gives { FromStart R.stands reader (λ setting. PageGives (R.way setting) (R.gives setting) name.now result (F.told shelf.old) (F.told shelf.new)) }
+    ensures takes { WhereKnown (TakesOf name.now page_limit) (F.told shelf.old) (F.told shelf.new) }
+    ensures to_first { FromStart R.stands reader (λ setting. WhereKnown (TakesToFirst (R.way setting) name.now) (F.told shelf.old) (F.told shelf.new)) }
+    ensures later { F.faults shelf.old ≤ F.faults shelf.new }
+    ensures steady { Steady result (F.faults shelf.old) (F.faults shelf.new) }
+    ensures failed { IsErrOf result InputError.Failed → FailedOrLacks F.told F.faults shelf.old shelf.new name.now }
+{
+    let mut reader = reader;
+    match feed_file(shelf, name, &mut reader, piece) {
+        Ok(()) => end_of(reader),
         Err(error) => {
             drop(reader);
             Err(error)
@@ -127,45 +166,20 @@ pub(crate) fn check_page<F: Shelf>(
     }
 }
 
-/// Room for one read.
-pub(crate) fn new_piece(alloc: Global) -> Result<Vec<u8>, NoMemory>
-    ensures { IfOk result (λ piece. vec_len piece ≡ 65536) }
-{
-    let piece = vec![in alloc; 0u8; PIECE]?;
-    Ok(piece)
-}
-
-// Feeds the reader the whole file.
-fn feed_file<F: Shelf>(
-    alloc: Global,
+/// Feeds the reader the whole file.
+fn feed_file<F: Shelf, R: PageReader>(
     shelf: &mut F,
     name: &str,
-    reader: &mut Pass,
-) -> Result<(), InputError>
-    requires { Starts reader.old }
-    ensures gives { FromStart reader.old (λ syntax aim. FileGives syntax aim name.now result reader.new (F.told shelf.old) (F.told shelf.new)) }
-    ensures takes { WhereKnown (TakesOf name.now 1073807359) (F.told shelf.old) (F.told shelf.new) }
-    ensures to_first { FromStart reader.old (λ syntax aim. WhereKnown (TakesToFirst (way_for syntax aim) name.now) (F.told shelf.old) (F.told shelf.new)) }
-    ensures later { F.faults shelf.old ≤ F.faults shelf.new }
-    ensures failed { IsErrOf result InputError.Failed → FailedOrLacks F.told F.faults shelf.old shelf.new name.now }
-{
-    let mut piece = new_piece(alloc)?;
-    feed_file_by(shelf, name, reader, &mut piece[..])
-}
-
-// Feeds the reader the whole file by this piece.
-fn feed_file_by<F: Shelf>(
-    shelf: &mut F,
-    name: &str,
-    reader: &mut Pass,
+    reader: &mut R,
     piece: &mut [u8],
 ) -> Result<(), InputError>
-    requires starts { Starts reader.old }
-    requires room { length piece.old ≡ 65536 }
-    ensures gives { FromStart reader.old (λ syntax aim. FileGives syntax aim name.now result reader.new (F.told shelf.old) (F.told shelf.new)) }
-    ensures takes { WhereKnown (TakesOf name.now 1073807359) (F.told shelf.old) (F.told shelf.new) }
-    ensures to_first { FromStart reader.old (λ syntax aim. WhereKnown (TakesToFirst (way_for syntax aim) name.now) (F.told shelf.old) (F.told shelf.new)) }
+    requires starts { Starts R.way R.stands reader.old }
+    requires room { length piece.old ≡ largest_piece }
+    ensures gives { FromStart R.stands reader.old (λ setting. FileGives (R.way setting) (R.stands setting) name.now result reader.new (F.told shelf.old) (F.told shelf.new)) }
+    ensures takes { WhereKnown (TakesOf name.now page_limit) (F.told shelf.old) (F.told shelf.new) }
+    ensures to_first { FromStart R.stands reader.old (λ setting. WhereKnown (TakesToFirst (R.way setting) name.now) (F.told shelf.old) (F.told shelf.new)) }
     ensures later { F.faults shelf.old ≤ F.faults shelf.new }
+    ensures steady { Steady result (F.faults shelf.old) (F.faults shelf.new) }
     ensures failed { IsErrOf result InputError.Failed → FailedOrLacks F.told F.faults shelf.old shelf.new name.now }
 {
     let Ok(()) = shelf.start_file(name) else {
@@ -182,17 +196,18 @@ fn feed_file_by<F: Shelf>(
     unreachable!()
 }
 
-// Reads on once, and takes what was read.
-fn feed_next<F: Shelf>(
+/// Reads on once, and takes what was read.
+fn feed_next<F: Shelf, R: PageReader>(
     shelf: &mut F,
-    reader: &mut Pass,
+    reader: &mut R,
     piece: &mut [u8],
 ) -> Result<usize, InputError>
     requires { 0 < length piece.old }
     ensures bound { IfOk result (λ n. n ≤ length piece.new) }
-    ensures gives { ReadsNext reader.old (length piece.old) result reader.new (F.told shelf.old) (F.told shelf.new) }
+    ensures gives { ReadsNext R.way R.stands reader.old (length piece.old) result reader.new (F.told shelf.old) (F.told shelf.new) }
     ensures takes { WhereKnown (TakesSome (length piece.old)) (F.told shelf.old) (F.told shelf.new) }
     ensures later { F.faults shelf.old ≤ F.faults shelf.new }
+    ensures steady { Steady result (F.faults shelf.old) (F.faults shelf.new) }
     ensures failed { IsErrOf result InputError.Failed → Rose (F.faults shelf.old) (F.faults shelf.new) }
 {
     let Ok(count) = shelf.read(piece) else {
@@ -205,55 +220,13 @@ fn feed_next<F: Shelf>(
     }
 }
 
-// The page's end, where its triples are wanted.
-fn list_of(reader: Pass) -> Result<TripleList, InputError>
-    requires { MakesTriples reader }
-    ensures gives { EndsWithList reader result }
+/// The page's end, and what it gives.
+fn end_of<R: PageReader>(reader: R) -> Result<R::Given, InputError>
+    ensures gives { Ends R.way R.stands R.gives reader result }
     ensures reads_none { IsErrOf result InputError.Failed → ⊥ }
 {
-    let walk = match reader {
-        Pass::Walks(walk) => walk,
-        Pass::Itemizes(_walk) => unreachable!(),
-        Pass::Checks(_check) => unreachable!(),
-    };
-    match walk.finish() {
-        Ok(list) => Ok(list),
-        Err(Stop::Fault(fault)) => Err(InputError::Refused(fault)),
-        Err(Stop::NoMemory) => Err(InputError::NoMemory),
-    }
-}
-
-// The page's end, where its items are wanted.
-fn items_of(reader: Pass) -> Result<Items, InputError>
-    requires { FindsItems reader }
-    ensures gives { EndsWithItems reader result }
-    ensures reads_none { IsErrOf result InputError.Failed → ⊥ }
-{
-    let walk = match reader {
-        Pass::Walks(_walk) => unreachable!(),
-        Pass::Itemizes(walk) => walk,
-        Pass::Checks(_check) => unreachable!(),
-    };
-    match walk.finish() {
-        Ok(items) => Ok(items),
-        Err(Stop::Fault(fault)) => Err(InputError::Refused(fault)),
-        Err(Stop::NoMemory) => Err(InputError::NoMemory),
-    }
-}
-
-// The page's end, where only its faults are wanted.
-fn checked(reader: Pass) -> Result<(), InputError>
-    requires { FindsFaults reader }
-    ensures gives { EndsRight reader result }
-    ensures reads_none { IsErrOf result InputError.Failed → ⊥ }
-{
-    let check = match reader {
-        Pass::Walks(_walk) => unreachable!(),
-        Pass::Itemizes(_walk) => unreachable!(),
-        Pass::Checks(check) => check,
-    };
-    match check.finish() {
-        Ok(()) => Ok(()),
+    match reader.finish() {
+        Ok(given) => Ok(given),
         Err(Stop::Fault(fault)) => Err(InputError::Refused(fault)),
         Err(Stop::NoMemory) => Err(InputError::NoMemory),
     }

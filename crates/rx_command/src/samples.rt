@@ -4,11 +4,11 @@ ghost use Rattle.rx_nquads.specs.Writing.{nquads};
 ghost use Rattle.rx_job.specs.Words.{most_items};
 ghost use Rattle.rx_command.specs.Samples.{IsSample, item_before, larger, line_with, sample_address};
 ghost use Rattle.rx_command.specs.Feeding.{Fed, FedTo, FedWhole, IsDue, TakesPiece};
-ghost use Rattle.rx_command.specs.Written.{graph_made};
+ghost use Rattle.rx_page.specs.Written.{graph_made};
 
-use crate::outcomes::graph_of;
 use rx_names::Context;
 use rx_nquads::text;
+use rx_page::graph_of;
 use rx_terms::{Iri, IriError, NoMemory, TripleList};
 use rx_walk::{Limits, Stop, Syntax, Walk};
 use std::alloc::{AllocError, Global};

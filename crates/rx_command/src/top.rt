@@ -6,21 +6,22 @@ ghost use Rattle.rx_job.specs.Jobs.{several_seen};
 ghost use Rattle.rx_job.specs.Words.{gathering_asked, job, most_items, page_asked, samples};
 ghost use Rattle.rx_command.specs.Contexts.{TakesContext, context_asked};
 ghost use Rattle.rx_command.specs.Gathering.{HasAll};
+ghost use Rattle.rx_command.specs.Endings.{RunEnds};
 ghost use Rattle.rx_command.specs.Headline.{AnswersPage};
 ghost use Rattle.rx_command.specs.Outcome.{HasBadContext, HasPageFault, LacksFile};
-ghost use Rattle.rx_command.specs.Samples.{Yields, YieldsGraph};
+ghost use Rattle.rx_command.specs.Samples.{Yields, YieldsBoth};
 ghost use Rattle.rx_command.specs.Runs.{EndsSo, IfTold, WhereRefused, WhereSample, Writes, ReadCause, TakesJob, TakesToFault, StopsCleanly, IsAtEnd, GatheringEnds, SampleEnds, Says, SaysNothing, usage_line, refused_line, context_line, refused_with};
-ghost use Rattle.rx_command.specs.Written.{Denoted, text_of};
+ghost use Rattle.rx_page.specs.Written.{Denoted, text_of};
 
 use crate::errors::InputError;
 use crate::gathering::gather;
 use crate::inputs::outcome_of_job;
-use crate::outcomes::Outcome;
 use crate::samples::sample;
 use crate::statuses::Status;
 use rx_grammar::name_of;
 use rx_job::{Asking, Job, JobError, Several};
 use rx_nquads::WriteError;
+use rx_page::Outcome;
 use rx_ports::{Shelf, Sink, put_all};
 use rx_terms::{NoMemory, Text};
 use rx_walk::Fault;
@@ -45,11 +46,82 @@ pub fn run<F: Shelf, O: Sink, E: Sink>(
     out: &mut O,
     err: &mut E,
 ) -> Status
-    // The promise as one statement. Where the words name a page, their context file, if any, is a context, and the shelf
-    // tells its files, the answer is Done: the page has one tree and nothing in it is refused, out has grown by the one text
-    // that the task makes of it, which denotes exactly the graph that RDFa's rules give that tree (or is the JSON of exactly
-    // its items), and the page was read to its end; or Refused with the one fault that the page has, out unchanged; or the
-    // shelf or out failed; or there was no memory.
+    // The promise as one statement, for all words, and for all shelves that tell their files. There is one answer that is right
+    // for them: a status, a text and a line. The words ask for nothing, or for a sample; or a page has one text for the task,
+    // which denotes exactly what the task finds in the page's one tree, or one fault; or several pages have one document; or a
+    // file is missing, or the context file is none. The run gives this answer, out having grown by the text, and err by the line,
+    // or by a front of it where err failed; or the shelf failed, or out, which has then grown by a proper front of the text; or
+    // there was no memory.
+    ensures ends { RunEnds words.now result
+        (record {
+          told = F.told shelf.old;
+          read_faults = F.faults shelf.old;
+          held = O.held out.old;
+          write_faults = O.faults out.old;
+          said = E.held err.old;
+          say_faults = E.faults err.old;
+        })
+        (record {
+          told = F.told shelf.new;
+          read_faults = F.faults shelf.new;
+          held = O.held out.new;
+          write_faults = O.faults out.new;
+          said = E.held err.new;
+          say_faults = E.faults err.new;
+        }) }
+    // A shelf that failed ends the run, and so does out: where its count of faults isn't what it was, there is no other answer.
+    ensures reads_on { result ≢ Status.ReadFault → F.faults shelf.new ≡ F.faults shelf.old }
+    ensures writes_on { result ≢ Status.WriteFault → O.faults out.new ≡ O.faults out.old }
+
+    // What a shelf that tells nothing leaves to be said. Usage comes only where the words ask for nothing, and then the shelf is
+    // as it was. Where they ask for nothing there is no other answer but want of memory.
+    ensures usage { result ≡ Status.Usage → job words.now ≡ None }
+    ensures only_usage { job words.now ≡ None → EndsSo result Status.Usage }
+    ensures untouched { result ≡ Status.Usage → shelf.new ≡ shelf.old }
+    // Refused never comes where several pages are asked for, and BadContext only where the words name a context file.
+    ensures refuses_one { WhereRefused result (λ fault. gathering_asked words.now ≡ None) }
+    ensures names_context { result ≡ Status.BadContext → is_some (context_asked words.now) ≡ true }
+    // ReadFault comes only where the shelf failed, or lacks a file that is wanted, and WriteFault only where out failed.
+    ensures read_fault { result ≡ Status.ReadFault → ReadCause words.now (F.told shelf.old) (F.faults shelf.old) (F.faults shelf.new) }
+    ensures write_fault { result ≡ Status.WriteFault → Rose (O.faults out.old) (O.faults out.new) }
+    // On any other status but Done nothing is written.
+    ensures nothing_written { result ≢ Status.Done → result ≢ Status.WriteFault → WhereKnown Stays (O.held out.old) (O.held out.new) }
+    // What err is told: one line on Usage, on Refused and on BadContext, or a front of it where err failed. On other
+    // statuses it is told nothing, and didn't fail.
+    ensures says_usage { result ≡ Status.Usage → Says usage_line (E.held err.old) (E.held err.new) (E.faults err.old) (E.faults err.new) }
+    ensures says_refused { WhereRefused result (λ fault. Says (refused_line fault) (E.held err.old) (E.held err.new) (E.faults err.old) (E.faults err.new)) }
+    ensures says_context { result ≡ Status.BadContext → Says context_line (E.held err.old) (E.held err.new) (E.faults err.old) (E.faults err.new) }
+    ensures says_nothing { result ≢ Status.Usage → result ≢ Status.BadContext → ((fault : Fault) → result ≢ Status.Refused fault) →
+        SaysNothing (E.held err.old) (E.held err.new) (E.faults err.old) (E.faults err.new) }
+    // A sample leaves the shelf as it was, and ends with its line written, or a front of it where out failed, or in want of memory,
+    // whatever the shelf and the sinks tell: no page of a sample is refused.
+    ensures sample { WhereSample (job words.now) (λ count. SampleEnds count result (O.held out.old) (O.held out.new) (O.faults out.old) (O.faults out.new)) }
+    ensures sample_reads { WhereSample (job words.now) (λ count. shelf.new ≡ shelf.old) }
+
+    // How much is read: no more than the named files have together, nor more than a piece past the limit of each page and,
+    // where a context file is named, one byte past the largest of these. Of several pages each that has a fault is read no
+    // further than a piece past the byte that decides it.
+    ensures takes { WhereKnown (TakesJob (job words.now)) (F.told shelf.old) (F.told shelf.new) }
+    // A page that alone is asked for was read to its end where its text is written. One that is refused is read no further than
+    // 65,536 bytes past the byte that decides the fault, unless that is an item's, which is found once the page has ended. Where
+    // the shelf failed, what was read of it holds no fault but that it ends.
+    ensures to_end { result ≡ Status.Done → IsAtEnd (page_asked words.now) (F.told shelf.new) }
+    ensures refused_takes { WhereRefused result (λ fault. WhereKnown (TakesToFault (page_asked words.now) fault) (F.told shelf.old) (F.told shelf.new)) }
+    ensures cleanly { result ≡ Status.ReadFault → WhereKnown (StopsCleanly (page_asked words.now)) (F.told shelf.old) (F.told shelf.new) }
+    // Of a context file that is none no more is read than it has.
+    ensures takes_context { result ≡ Status.BadContext → WhereKnown (TakesContext (context_asked words.now)) (F.told shelf.old) (F.told shelf.new) }
+{
+    run_by(alloc, words, shelf, out, err)
+}
+
+/// The same, status by status.
+fn run_by<F: Shelf, O: Sink, E: Sink>(
+    alloc: Global,
+    words: &[Text],
+    shelf: &mut F,
+    out: &mut O,
+    err: &mut E,
+) -> Status
     ensures answers { AnswersPage words.now result
         (record {
           told = F.told shelf.old;
@@ -67,71 +139,35 @@ pub fn run<F: Shelf, O: Sink, E: Sink>(
           said = E.held err.new;
           say_faults = E.faults err.new;
         }) }
-
-    // Usage comes only where the words ask for nothing, and then the shelf is as it was. Where they ask for nothing there is no
-    // other answer but want of memory.
     ensures usage { result ≡ Status.Usage → job words.now ≡ None }
     ensures only_usage { job words.now ≡ None → EndsSo result Status.Usage }
     ensures untouched { result ≡ Status.Usage → shelf.new ≡ shelf.old }
-
-    // Done comes only where there is a text, that of the page, of several pages or of a sample: out has then grown by
-    // exactly that, and a page that alone is asked for was read to its end.
-    ensures done { result ≡ Status.Done → Writes (F.told shelf.old) (Yields words.now (F.told shelf.old)) GrowsBy (O.held out.old) (O.held out.new) }
-    // The text of an extraction denotes exactly the graph that RDFa's rules give the page's tree, its blank nodes renamed
-    // one to one; that of several pages denotes the graphs of those that are accepted, each under its address, and no two
-    // share a blank node.
-    ensures denotes { result ≡ Status.Done → Writes (F.told shelf.old) (YieldsGraph words.now (F.told shelf.old)) GrowsBy (O.held out.old) (O.held out.new) }
+    ensures done { result ≡ Status.Done → Writes (F.told shelf.old) (YieldsBoth words.now (F.told shelf.old)) GrowsBy (O.held out.old) (O.held out.new) }
     ensures to_end { result ≡ Status.Done → IsAtEnd (page_asked words.now) (F.told shelf.new) }
-
-    // Refused comes only where the page has this fault, and never where several pages are asked for.
     ensures refused { WhereRefused result (λ fault. IfTold (F.told shelf.old) (HasPageFault words.now (F.told shelf.old) fault)) }
     ensures refuses_one { WhereRefused result (λ fault. gathering_asked words.now ≡ None) }
-    // The page is then read no further than 65,536 bytes past the byte that decides the fault, unless that is an item's,
-    // which is found once the page has ended.
     ensures refused_takes { WhereRefused result (λ fault. WhereKnown (TakesToFault (page_asked words.now) fault) (F.told shelf.old) (F.told shelf.new)) }
-
-    // ReadFault comes only where the shelf failed, or lacks the context file, or lacks a page where the context file is a
-    // context; and where it lacks one of them there is no other answer but want of memory.
     ensures read_fault { result ≡ Status.ReadFault → ReadCause words.now (F.told shelf.old) (F.faults shelf.old) (F.faults shelf.new) }
-    // What was read of a page that alone is asked for, where it is there, holds no fault then but that it ends.
+    ensures reads_on { result ≢ Status.ReadFault → F.faults shelf.new ≡ F.faults shelf.old }
     ensures cleanly { result ≡ Status.ReadFault → WhereKnown (StopsCleanly (page_asked words.now)) (F.told shelf.old) (F.told shelf.new) }
     ensures lacking { LacksFile words.now (F.told shelf.old) → EndsSo result Status.ReadFault }
-
-    // WriteFault comes only where out failed, which then holds a proper front of the text more than before.
     ensures write_fault { result ≡ Status.WriteFault → Rose (O.faults out.old) (O.faults out.new) }
+    ensures writes_on { result ≢ Status.WriteFault → O.faults out.new ≡ O.faults out.old }
     ensures partly { result ≡ Status.WriteFault → Writes (F.told shelf.old) (Yields words.now (F.told shelf.old)) GrowsByPart (O.held out.old) (O.held out.new) }
-
-    // On any other status nothing is written.
     ensures nothing_written { result ≢ Status.Done → result ≢ Status.WriteFault → WhereKnown Stays (O.held out.old) (O.held out.new) }
-
-    // BadContext comes only where the words name a context file, which is there and has another shape or is too long; and
-    // then, where nothing failed, there is no other answer but want of memory. No more is read than that file has.
     ensures names_context { result ≡ Status.BadContext → is_some (context_asked words.now) ≡ true }
     ensures bad_context { result ≡ Status.BadContext → IfTold (F.told shelf.old) (HasBadContext words.now (F.told shelf.old)) }
     ensures refuses_context { HasBadContext words.now (F.told shelf.old) → ¬ Rose (F.faults shelf.old) (F.faults shelf.new)
         → EndsSo result Status.BadContext }
     ensures takes_context { result ≡ Status.BadContext → WhereKnown (TakesContext (context_asked words.now)) (F.told shelf.old) (F.told shelf.new) }
-
-    // What err is told: one line on Usage, on Refused and on BadContext, or a front of it where err failed. On other
-    // statuses it is told nothing, and didn't fail.
     ensures says_usage { result ≡ Status.Usage → Says usage_line (E.held err.old) (E.held err.new) (E.faults err.old) (E.faults err.new) }
     ensures says_refused { WhereRefused result (λ fault. Says (refused_line fault) (E.held err.old) (E.held err.new) (E.faults err.old) (E.faults err.new)) }
     ensures says_context { result ≡ Status.BadContext → Says context_line (E.held err.old) (E.held err.new) (E.faults err.old) (E.faults err.new) }
     ensures says_nothing { result ≢ Status.Usage → result ≢ Status.BadContext → ((fault : Fault) → result ≢ Status.Refused fault) →
         SaysNothing (E.held err.old) (E.held err.new) (E.faults err.old) (E.faults err.new) }
-
-    // How much is read: no more than the named files have together, nor more than a piece past the limit of each page and,
-    // where a context file is named, one byte past the largest of these. Of several pages each that has a fault is read no
-    // further than a piece past the byte that decides it.
     ensures takes { WhereKnown (TakesJob (job words.now)) (F.told shelf.old) (F.told shelf.new) }
-
-    // A sample leaves the shelf as it was, and ends with its line written, or a front of it where out failed, or in want of memory,
-    // whatever the shelf and the sinks tell: no page of a sample is refused.
     ensures sample { WhereSample (job words.now) (λ count. SampleEnds count result (O.held out.old) (O.held out.new) (O.faults out.old) (O.faults out.new)) }
     ensures sample_reads { WhereSample (job words.now) (λ count. shelf.new ≡ shelf.old) }
-
-    // Where nothing failed, a page that has a text, or a sample, is done, and so are several pages that are all there, where
-    // the context file is a context; and a page that has a fault is refused; unless memory runs out.
     ensures completes { (text : List ℕ) → Yields words.now (F.told shelf.old) text → ¬ Rose (F.faults shelf.old) (F.faults shelf.new)
         → ¬ Rose (O.faults out.old) (O.faults out.new) → EndsSo result Status.Done }
     ensures completes_all { HasAll words.now (F.told shelf.old) → ¬ Rose (F.faults shelf.old) (F.faults shelf.new)
@@ -188,6 +224,7 @@ fn write<O: Sink>(alloc: Global, outcome: Outcome, out: &mut O) -> Result<(), Wr
     ensures denoted { OnOk result (Denoted outcome) }
     ensures partly { IsErrOf result WriteError.Failed → WhereKnown (GrowsByPart (text_of outcome)) (O.held out.old) (O.held out.new) }
     ensures cause { IsErrOf result WriteError.Failed → Rose (O.faults out.old) (O.faults out.new) }
+    ensures steady { OnOk result (O.faults out.new ≡ O.faults out.old) }
     ensures untouched { IsErrOf result WriteError.NoMemory → out.new ≡ out.old }
 {
     let written = outcome.write(alloc, out);
@@ -199,7 +236,8 @@ fn write<O: Sink>(alloc: Global, outcome: Outcome, out: &mut O) -> Result<(), Wr
 /// Writes the line that is said of the sample page.
 fn run_sample<O: Sink>(alloc: Global, count: u32, out: &mut O) -> Status
     requires { count ≤ most_items }
-    ensures { SampleEnds count result (O.held out.old) (O.held out.new) (O.faults out.old) (O.faults out.new) }
+    ensures ends { SampleEnds count result (O.held out.old) (O.held out.new) (O.faults out.old) (O.faults out.new) }
+    ensures writes_on { result ≢ Status.WriteFault → O.faults out.new ≡ O.faults out.old }
 {
     match sample(alloc, count) {
         Ok(line) => match put_all(out, line.as_slice()) {
@@ -218,7 +256,9 @@ fn run_several<F: Shelf, O: Sink, E: Sink>(
     out: &mut O,
     err: &mut E,
 ) -> Status
-    ensures { GatheringEnds (several_seen several.entry) result
+    ensures reads_on { result ≢ Status.ReadFault → F.faults shelf.new ≡ F.faults shelf.old }
+    ensures writes_on { result ≢ Status.WriteFault → O.faults out.new ≡ O.faults out.old }
+    ensures ends { GatheringEnds (several_seen several.entry) result
         (record {
           told = F.told shelf.old;
           read_faults = F.faults shelf.old;

@@ -42,7 +42,7 @@ pub(crate) fn format_of(name: Option<&Text>) -> Option<Format>
 }
 
 /// Whether a text in the format can name the graph in which its triples stand.
-pub(crate) fn names_graphs(format: Format) -> bool
+pub fn names_graphs(format: Format) -> bool
     ensures { result ≡ names_graphs format }
 {
     match format {

@@ -17,6 +17,6 @@ mod words;
 
 pub use asking::{Asking, Several};
 pub use errors::JobError;
-pub use formats::Format;
+pub use formats::{Format, names_graphs};
 pub use jobs::Job;
 pub use pages::Pages;

@@ -14,14 +14,13 @@ use Rattle.rx_rdfa.proofs.Whole.{written_denotes}
 use Rattle.rx_model.specs.Copied.{copied}
 use Rattle.rx_pages.proofs.Trees.{one_tree}
 use Rattle.rx_nquads.specs.Quads.{Quad, quads}
-use Rattle.rx_job.specs.declared.formats.Format.{Format}
-use Rattle.rx_job.specs.declared.formats.Format.TheVariants as format
 use Rattle.rx_job.specs.Words.{Extraction, extracts}
-use Rattle.rx_command.specs.Outcome.{IsAccepted, IsTextAs, DenotesAs, base_in, facts_in}
-use Rattle.rx_command.specs.Reading.{standard, GivesList}
-use Rattle.rx_command.specs.Written.{form_in, IsFormText, FormDenotes, graph_made}
-use Rattle.rx_command.proofs.MadeLemmas.{list_written}
-use Rattle.rx_command.proofs.OutcomeLemmas.{the_tree}
+use Rattle.rx_page.specs.Tasks.{IsAccepted, base_in, facts_in}
+use Rattle.rx_page.specs.Settings.{standard, GivesList}
+use Rattle.rx_page.specs.Forms.{form_of, IsFormText, FormDenotes}
+use Rattle.rx_page.specs.Written.{graph_made}
+use Rattle.rx_page.proofs.MadeLemmas.{list_written}
+use Rattle.rx_page.proofs.OutcomeLemmas.{the_tree}
 use Rattle.rx_quads.specs.Raised.{raised, AreFrom, past}
 use Rattle.rx_quads.specs.Listed.{Listed, quads_of}
 use Rattle.rx_quads.proofs.CountLemmas.{numbers_without_gaps, renamed_then}
@@ -32,24 +31,9 @@ use Rattle.rx_session.specs.declared.given.Given.{Given}
 use Rattle.rx_session.specs.declared.given.Given.TheVariants as given
 use Rattle.rx_session.specs.declared.outputs.Plan.{Plan}
 use Rattle.rx_session.specs.declared.outputs.Plan.TheVariants as plans
-use Rattle.rx_command.specs.declared.forms.Form.{Form}
+use Rattle.rx_page.specs.declared.forms.Form.{Form}
 use Rattle.std.specs.declared.alloc.Global.{Global}
-use Rattle.rx_command.proofs.TextLemmas.{one_text_as}
-
--- ---- a form writes what its format does
-
-module _ (graph : Option Chars) (context : Context) where
-  same_text : (f : Format) (list : List (Triple ℕ)) (text : List ℕ) → IsFormText (form_in f graph context) list text → IsTextAs f graph context list text
-  same_text format.Nquads list text is = is
-  same_text format.Turtle list text is = is
-  same_text format.Nested list text is = is
-  same_text format.Jsonld list text is = is
-
-  same_meaning : (f : Format) (text : List ℕ) (triples : List (Triple ℕ)) → FormDenotes (form_in f graph context) text triples → DenotesAs f graph text triples
-  same_meaning format.Nquads text triples d = d
-  same_meaning format.Turtle text triples d = d
-  same_meaning format.Nested text triples d = d
-  same_meaning format.Jsonld text triples d = d
+use Rattle.rx_page.proofs.TextLemmas.{one_text_in}
 
 -- ---- a page has one text and one list of quads
 
@@ -57,8 +41,8 @@ module _ (first : ℕ) (e : Extraction) (context : Context) (bytes : List ℕ) w
   one_text_from : (a b : List ℕ) → HasTextFrom first e context bytes a → HasTextFrom first e context bytes b → a ≡ b
   one_text_from a b p q =
       let same : p.tree ≡ q.tree = one_tree e.syntax standard bytes p.tree q.tree p.is.page q.is.page in
-      one_text_as e.format e.graph context (triples_from first e context q.tree) a b
-      (subst (λ t. IsTextAs e.format e.graph context (triples_from first e context t) a) same p.spelled) q.spelled
+      one_text_in (form_of e context) (triples_from first e context q.tree) a b
+      (subst (λ t. IsFormText (form_of e context) (triples_from first e context t) a) same p.spelled) q.spelled
 
   one_quads_from : (a b : List Quad) → HasQuadsFrom first e context bytes a → HasQuadsFrom first e context bytes b → a ≡ b
   one_quads_from a b p q =
@@ -91,15 +75,14 @@ module _ (e : Extraction) (context : Context) (bytes : List ℕ) (list : List Co
       renamed_then (graph_of (base_in e.address ended.tree) (facts_in context ended.tree)) (set_of graph) (set_of (raised first graph))
       (written_denotes (base_in e.address ended.tree) (facts_in context ended.tree)) (raises_one_to_one first graph)
 
-  text_from : (text : List ℕ) → IsFormText (form_in e.format e.graph context) (raised first (graph_made list)) text
-      → FormDenotes (form_in e.format e.graph context) text (raised first (graph_made list)) → IsTheTextFrom first e context bytes text
+  text_from : (text : List ℕ) → IsFormText (form_of e context) (raised first (graph_made list)) text
+      → FormDenotes (form_of e context) text (raised first (graph_made list)) → IsTheTextFrom first e context bytes text
   text_from text spelled denotes =
       let has : HasTextFrom first e context bytes text = record {
         tree = ended.tree;
         is = accepted;
         spelled =
-            subst (λ ts. IsTextAs e.format e.graph context (raised first ts) text) same_graph
-            (same_text e.graph context e.format (raised first (graph_made list)) text spelled);
+            subst (λ ts. IsFormText (form_of e context) (raised first ts) text) same_graph spelled;
       } in
       record {
         tree = ended.tree;
@@ -111,8 +94,7 @@ module _ (e : Extraction) (context : Context) (bytes : List ℕ) (list : List Co
           is = accepted;
           triples = triples_from first e context ended.tree;
           denotes =
-              subst (λ ts. DenotesAs e.format e.graph text (raised first ts)) same_graph
-              (same_meaning e.graph context e.format text (raised first (graph_made list)) denotes);
+              subst (λ ts. FormDenotes (form_of e context) text (raised first ts)) same_graph denotes;
           renamed = renamed_from;
         };
       }

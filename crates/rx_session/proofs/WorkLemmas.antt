@@ -1,5 +1,5 @@
 -- A page that is being read, and what its calls answer.
-use Rattle.std.proofs.Common.{◌≡◌, ℕ, List, ◌++◌, refl, sym, subst, inl, inr, Result, Ok, Err}
+use Rattle.std.proofs.Common.{◌≡◌, ℕ, List, ◌++◌, refl, sym, subst, inr, Result, Ok, Err}
 use Rattle.std.specs.Prelude.{Bool, Vec}
 use Rattle.std.specs.declared.alloc.Global.{Global}
 use Rattle.rx_terms.specs.Text.{Chars}
@@ -9,83 +9,76 @@ use Rattle.rx_grammar.specs.Trees.{Tree}
 use Rattle.rx_rdfa.specs.Names.{Context}
 use Rattle.rx_grammar.specs.declared.stops.Stop.{Stop}
 use Rattle.rx_grammar.specs.declared.stops.Stop.TheVariants as stop
-use Rattle.rx_grammar.specs.PageFaults.{FaultAt}
-use Rattle.rx_nest.specs.Nests as nests
-use Rattle.rx_nest.specs.Faults.{for_form}
-use Rattle.rx_nest.specs.Readings.{Unfinished}
 use Rattle.rx_walk.specs.Settings.{Setting, way_of}
 use Rattle.rx_walk.specs.Walks as walks
 use Rattle.rx_walk.specs.Checks as check
-use Rattle.rx_items.specs.Collecting.{Setting as ItemSetting}
+use Rattle.rx_items.specs.Collecting.{Setting as ItemSetting, way_of as item_way_of}
 use Rattle.rx_items.specs.Walks as items
 use Rattle.rx_items.specs.declared.kept.Kept.{Kept}
 use Rattle.rx_job.specs.Words.{Task, Extraction, Itemization, extracts, itemizes, checks}
-use Rattle.rx_command.specs.Headline.{IsTheText}
-use Rattle.rx_command.specs.JsonTexts.{AreItems, JsonTextGives}
-use Rattle.rx_command.specs.Outcome.{HasItems, IsRight, ok_line}
-use Rattle.rx_command.specs.Reading.{standard, setting_for, item_setting_for, for_triples, for_items, for_faults, Aim, way_for, HasFirst}
-use Rattle.rx_command.proofs.OutcomeLemmas.{the_fault}
-use Rattle.rx_command.proofs.FaultLemmas.{no_meaning_in}
-use Rattle.rx_command.proofs.ReadLemmas.{IsRead, refuses_so, shown_read}
-use Rattle.rx_command.proofs.TextLemmas.{the_text}
+use Rattle.rx_page.specs.Outcomes.{IsTheText}
+use Rattle.rx_page.specs.JsonTexts.{AreItems, JsonTextGives}
+use Rattle.rx_page.specs.Tasks.{HasItems, IsRight, way_in}
+use Rattle.rx_page.specs.Texts.{ok_line}
+use Rattle.rx_page.specs.Settings.{setting_for, item_setting_for}
+use Rattle.rx_page.proofs.OutcomeLemmas.{refuses_first, the_fault}
+use Rattle.rx_page.specs.Readers.{FeedGives, EndStops}
+use Rattle.rx_page.proofs.TextLemmas.{the_text}
 use Rattle.rx_session.specs.Wants.{plan_for}
 use Rattle.rx_session.specs.Works.{Reads, Takes, Ends}
 use Rattle.rx_session.specs.declared.given.Given.{Given}
 use Rattle.rx_session.specs.declared.given.Given.TheVariants as given
 use Rattle.rx_session.specs.declared.outputs.Plan.{Plan}
+use Rattle.rx_session.specs.declared.works.Work.{Work}
 use Rattle.rx_session.specs.declared.works.Work.TheVariants as work
 
 -- ---- a piece
 
+-- whatever reads the page for the task
+on_piece : {R : Type 0} (task : Task) (first : ℕ) (singly : Bool) (context : Context) (stands : R → List ℕ → Type 0) (holding : R → Work)
+    → ((v : R) (bytes : List ℕ) → stands v bytes → Reads task first singly context (holding v) bytes)
+    → (bytes piece : List ℕ) (r : Result (Unit {0}) Stop) (new : R) → FeedGives (way_in task context) stands bytes piece r new
+    → Takes task first singly context bytes piece r (holding new)
+on_piece task first singly context stands holding reads bytes piece (Ok done) new gives = reads new (bytes ++ piece) gives
+on_piece task first singly context stands holding reads bytes piece (Err (stop.Fault fault)) new gives =
+    λ rest. the_fault task context ((bytes ++ piece) ++ rest) fault (refuses_first task context ((bytes ++ piece) ++ rest) fault (gives.stays rest))
+on_piece task first singly context stands holding reads bytes piece (Err stop.NoMemory) new gives = tt
+
 pub feeds_walk : (task : Task) (first : ℕ) (singly : Bool) (context : Context) (old new : walks.Walked) (plan : Plan) (from : ℕ) (bytes piece : List ℕ) (r : Result (Unit {0}) Stop)
-    → ((setting : Setting) (address : Chars) (bytes : List ℕ) → walks.WalkStands setting address old bytes → walks.FeedGives setting address bytes piece r new)
+    → ((made : Setting × Chars) (bytes : List ℕ) → walks.WalkStands made.0 made.1 old bytes
+    → FeedGives (way_of made.0) (λ v b. walks.WalkStands made.0 made.1 v b) bytes piece r new)
     → Reads task first singly context (work.Extracts old plan from) bytes → Takes task first singly context bytes piece r (work.Extracts new plan from)
-feeds_walk (extracts e) first singly context old new plan from bytes piece (Ok done) gives at = (gives (setting_for e.syntax context) e.address bytes at.0, at.1, at.2)
-feeds_walk (extracts e) first singly context old new plan from bytes piece (Err (stop.Fault fault)) gives at =
-    λ rest. the_fault (extracts e) context ((bytes ++ piece) ++ rest) fault ((gives (setting_for e.syntax context) e.address bytes at.0).0.stays rest)
-feeds_walk (extracts e) first singly context old new plan from bytes piece (Err stop.NoMemory) gives at = tt
+feeds_walk (extracts e) first singly context old new plan from bytes piece r gives at =
+    on_piece (extracts e) first singly context (λ v b. walks.WalkStands (setting_for e.syntax context) e.address v b) (λ v. work.Extracts v plan from)
+    (λ v b s. (s, at.1, at.2)) bytes piece r new (gives (setting_for e.syntax context, e.address) bytes at.0)
 feeds_walk (itemizes i) first singly context old new plan from bytes piece r gives at = absurd at
 feeds_walk (checks syntax) first singly context old new plan from bytes piece r gives at = absurd at
 
 pub feeds_items : (task : Task) (first : ℕ) (singly : Bool) (context : Context) (old new : items.Walked) (bytes piece : List ℕ) (r : Result (Unit {0}) Stop)
-    → ((setting : ItemSetting) (bytes : List ℕ) → items.ItemWalkStands setting old bytes → items.FeedGives setting bytes piece r new)
+    → ((setting : ItemSetting) (bytes : List ℕ) → items.ItemWalkStands setting old bytes → FeedGives (item_way_of setting) (items.ItemWalkStands setting) bytes piece r new)
     → Reads task first singly context (work.Itemizes old) bytes → Takes task first singly context bytes piece r (work.Itemizes new)
 feeds_items (extracts e) first singly context old new bytes piece r gives at = absurd at
-feeds_items (itemizes i) first singly context old new bytes piece (Ok done) gives at = gives (item_setting_for i.syntax i.address) bytes at
-feeds_items (itemizes i) first singly context old new bytes piece (Err (stop.Fault fault)) gives at =
-    λ rest. the_fault (itemizes i) context ((bytes ++ piece) ++ rest) fault (inl ((gives (item_setting_for i.syntax i.address) bytes at).0.stays rest))
-feeds_items (itemizes i) first singly context old new bytes piece (Err stop.NoMemory) gives at = tt
+feeds_items (itemizes i) first singly context old new bytes piece r gives at =
+    on_piece (itemizes i) first singly context (items.ItemWalkStands (item_setting_for i.syntax i.address)) (λ v. work.Itemizes v) (λ v b s. s) bytes piece r new
+    (gives (item_setting_for i.syntax i.address) bytes at)
 feeds_items (checks syntax) first singly context old new bytes piece r gives at = absurd at
 
 pub feeds_check : (task : Task) (first : ℕ) (singly : Bool) (context : Context) (old new : check.Checked) (bytes piece : List ℕ) (r : Result (Unit {0}) Stop)
-    → ((setting : Setting) (bytes : List ℕ) → check.CheckStands setting old bytes → check.FeedGives setting bytes piece r new)
+    → ((setting : Setting) (bytes : List ℕ) → check.CheckStands setting old bytes → FeedGives (way_of setting) (check.CheckStands setting) bytes piece r new)
     → Reads task first singly context (work.Checks old) bytes → Takes task first singly context bytes piece r (work.Checks new)
 feeds_check (extracts e) first singly context old new bytes piece r gives at = absurd at
 feeds_check (itemizes i) first singly context old new bytes piece r gives at = absurd at
-feeds_check (checks syntax) first singly context old new bytes piece (Ok done) gives at = gives (setting_for syntax context) bytes at
-feeds_check (checks syntax) first singly context old new bytes piece (Err (stop.Fault fault)) gives at =
-    λ rest. the_fault (checks syntax) context ((bytes ++ piece) ++ rest) fault ((gives (setting_for syntax context) bytes at).0.stays rest)
-feeds_check (checks syntax) first singly context old new bytes piece (Err stop.NoMemory) gives at = tt
+feeds_check (checks syntax) first singly context old new bytes piece r gives at =
+    on_piece (checks syntax) first singly context (check.CheckStands (setting_for syntax context)) (λ v. work.Checks v) (λ v b s. s) bytes piece r new
+    (gives (setting_for syntax context) bytes at)
 
 -- ---- the page's end
 
--- that they are no page is their first fault
-end_first : (syntax : Syntax) (aim : Aim) (bytes : List ℕ) (fault : Fault) → IsRead (way_for syntax aim) bytes → FaultAt syntax standard bytes fault → HasFirst (way_for syntax aim) bytes fault
-end_first syntax aim bytes fault i f = for_form f (λ other m. no_meaning_in (way_for syntax aim) (refuses_so aim) bytes i.now i.read i.accepted other m)
-
-pub walk_stops : (e : Extraction) (first : ℕ) (singly : Bool) (context : Context) (walk : walks.Walked) (bytes : List ℕ) (why : Stop) → walks.WalkStands (setting_for e.syntax context) e.address walk bytes
-    → Unfinished (way_of (setting_for e.syntax context)) bytes why → Ends (extracts e) first singly context bytes (Err why)
-walk_stops e first singly context walk bytes (stop.Fault fault) at ends =
-    the_fault (extracts e) context bytes fault (end_first e.syntax (for_triples context e.address) bytes fault
-    (shown_read (way_for e.syntax (for_triples context e.address)) bytes walk.nest at.goes.signs at.goes.shown at.paid at.goes.known.accepted) ends.0)
-walk_stops e first singly context walk bytes stop.NoMemory at ends = tt
-
-pub items_stop : (i : Itemization) (first : ℕ) (singly : Bool) (context : Context) (walk : items.Walked) (bytes : List ℕ) (why : Stop) → items.ItemWalkStands (item_setting_for i.syntax i.address) walk bytes
-    → items.EndGives (item_setting_for i.syntax i.address) bytes (Err why) → Ends (itemizes i) first singly context bytes (Err why)
-items_stop i first singly context walk bytes (stop.Fault fault) at ends =
-    the_fault (itemizes i) context bytes fault (inl (end_first i.syntax (for_items i.address) bytes fault
-    (shown_read (way_for i.syntax (for_items i.address)) bytes walk.nest at.goes.signs at.goes.shown at.paid refl) ends.0))
-items_stop i first singly context walk bytes stop.NoMemory at ends = tt
+-- it stops what reads the page for the task
+pub stops : (task : Task) (first : ℕ) (singly : Bool) (context : Context) (bytes : List ℕ) (why : Stop) → EndStops (way_in task context) bytes why
+    → Ends task first singly context bytes (Err why)
+stops task first singly context bytes (stop.Fault fault) e = the_fault task context bytes fault (refuses_first task context bytes fault e.0)
+stops task first singly context bytes stop.NoMemory e = tt
 
 pub items_text : (i : Itemization) (first : ℕ) (singly : Bool) (context : Context) (bytes : List ℕ) (kept : Kept) (text : Vec ℕ Global) → items.Ended (item_setting_for i.syntax i.address) bytes kept
     → ((address : Chars) (tree : Tree) → AreItems address tree kept → JsonTextGives {V = Vec ℕ Global} (λ text. text.items) address tree (Ok text))
@@ -100,13 +93,6 @@ pub items_refused : (i : Itemization) (first : ℕ) (singly : Bool) (context : C
 items_refused i first singly context bytes kept (stop.Fault fault) ended gives =
     the_fault (itemizes i) context bytes fault (inr (record { tree = ended.tree; page = ended.page; refused = gives i.address ended.tree ended.holds }))
 items_refused i first singly context bytes kept stop.NoMemory ended gives = tt
-
-pub check_stops : (syntax : Syntax) (first : ℕ) (singly : Bool) (context : Context) (v : check.Checked) (bytes : List ℕ) (why : Stop) → check.CheckStands (setting_for syntax context) v bytes
-    → Unfinished (way_of (setting_for syntax context)) bytes why → Ends (checks syntax) first singly context bytes (Err why)
-check_stops syntax first singly context v bytes (stop.Fault fault) at ends =
-    the_fault (checks syntax) context bytes fault (end_first syntax (for_faults context) bytes fault
-    (shown_read (way_for syntax (for_faults context)) bytes v.nest at.goes.signs at.goes.shown at.paid at.goes.known.accepted) ends.0)
-check_stops syntax first singly context v bytes stop.NoMemory at ends = tt
 
 pub check_ends : (syntax : Syntax) (first : ℕ) (singly : Bool) (context : Context) (bytes : List ℕ) (text : Vec ℕ Global) → check.Accepted (setting_for syntax context) bytes → text.items ≡ ok_line
     → Ends (checks syntax) first singly context bytes (Ok (given.Text text 0))

@@ -8,9 +8,9 @@ use Rattle.rx_rdfa.specs.Whole.{written, graph_of}
 use Rattle.rx_grammar.specs.Trees.{Tree}
 use Rattle.rx_nquads.specs.Quads.{Quad, quads}
 use Rattle.rx_job.specs.Words.{Task, Extraction, extracts, itemizes, checks}
-use Rattle.rx_command.specs.Headline.{IsTheTree, IsTheText}
-use Rattle.rx_command.specs.Outcome.{IsAccepted, IsFormatText, Denotes, base_in, facts_in}
-use Rattle.rx_command.specs.Written.{IsFormText, FormDenotes}
+use Rattle.rx_page.specs.Outcomes.{IsTheTree, IsTheText}
+use Rattle.rx_page.specs.Tasks.{IsAccepted, Denotes, base_in, facts_in}
+use Rattle.rx_page.specs.Forms.{form_of, IsFormText, FormDenotes}
 use Rattle.rx_quads.specs.Raised.{raised, AreFrom, past}
 use Rattle.rx_quads.specs.Listed.{Listed, Shows, quads_of}
 use Rattle.rx_quads.specs.declared.terms.ShownQuad.{ShownQuad}
@@ -30,7 +30,7 @@ triples_from first e context tree = raised first (written (base_in e.address tre
 pub record HasTextFrom (first : ℕ) (e : Extraction) (context : Context) (bytes text : List ℕ) : Type 0 where
   pub tree : Tree
   pub is : IsAccepted e.syntax context bytes tree
-  pub spelled : IsFormatText e context (triples_from first e context tree) text
+  pub spelled : IsFormText (form_of e context) (triples_from first e context tree) text
 
 -- the text is what is made of the bytes, which have one tree, and no other text is; and it denotes that tree's graph, its
 -- blank nodes renamed one to one

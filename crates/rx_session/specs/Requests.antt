@@ -10,7 +10,7 @@ use Rattle.rx_rdfa.specs.Standard.{standard}
 use Rattle.rx_names.specs.ContextFiles.{context_of}
 use Rattle.rx_job.specs.declared.formats.Format.TheVariants.{Nquads, Turtle, Nested, Jsonld}
 use Rattle.rx_job.specs.Words.{itemizes, checks}
-use Rattle.rx_command.specs.Contexts.{is_context, largest_context}
+use Rattle.rx_page.specs.Contexts.{is_context, largest_context}
 use Rattle.rx_session.specs.Sessions.{IsFed}
 use Rattle.rx_session.specs.Wants.{Want, plain, names_graphs, extraction_seen}
 use Rattle.rx_session.specs.declared.outputs.Output.{Output}

@@ -5,7 +5,7 @@ use Rattle.rx_rdfa.specs.Names.{Context}
 use Rattle.rx_grammar.specs.declared.stops.Stop.{Stop}
 use Rattle.rx_grammar.specs.declared.stops.Stop.TheVariants as stop
 use Rattle.rx_nquads.specs.Quads.{Quad}
-use Rattle.rx_command.specs.Headline.{IsTheFault}
+use Rattle.rx_page.specs.Outcomes.{IsTheFault}
 use Rattle.rx_quads.specs.declared.terms.ShownQuad.{ShownQuad}
 use Rattle.rx_session.specs.Given.{GivesWanted, KeepsGiven, ShowsGiven, text_given, nodes_given, quads_given, shown_given}
 use Rattle.rx_session.specs.Wants.{Want}

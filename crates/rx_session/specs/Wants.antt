@@ -6,7 +6,7 @@ use Rattle.rx_job.specs.declared.formats.Format.{Format}
 use Rattle.rx_job.specs.declared.formats.Format.TheVariants as format
 use Rattle.rx_job.specs.Words as words
 use Rattle.rx_job.specs.Words.{Task, Extraction, extracts}
-use Rattle.rx_command.specs.Written.{form_in}
+use Rattle.rx_page.specs.Forms.{form_in}
 use Rattle.rx_session.specs.declared.outputs.Output.{Output}
 use Rattle.rx_session.specs.declared.outputs.Output.TheVariants as output
 use Rattle.rx_session.specs.declared.outputs.Plan.{Plan}

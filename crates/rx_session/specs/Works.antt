@@ -9,8 +9,8 @@ use Rattle.rx_walk.specs.Checks as check
 use Rattle.rx_items.specs.Walks as items
 use Rattle.rx_chars.specs.declared.syntax.Syntax.{Syntax}
 use Rattle.rx_job.specs.Words.{Extraction, Itemization, Task, extracts, itemizes, checks}
-use Rattle.rx_command.specs.Headline.{IsTheFault}
-use Rattle.rx_command.specs.Reading.{setting_for, item_setting_for}
+use Rattle.rx_page.specs.Outcomes.{IsTheFault}
+use Rattle.rx_page.specs.Settings.{setting_for, item_setting_for}
 use Rattle.rx_session.specs.Given.{GivesWanted}
 use Rattle.rx_session.specs.Wants.{Want, plan_for}
 use Rattle.rx_session.specs.declared.given.Given.{Given}
@@ -22,14 +22,9 @@ use Rattle.rx_session.specs.declared.works.Work.TheVariants as work
 abbrev pub Reads : Task → ℕ → Bool → Context → Work → List ℕ → Type 0
 Reads (extracts e) first singly context (work.Extracts walk plan from) bytes =
     walks.WalkStands (setting_for e.syntax context) e.address walk bytes × (plan ≡ plan_for singly e.format e.graph context) × (from ≡ first)
-Reads (extracts e) first singly context (work.Itemizes walk) bytes = ⊥
-Reads (extracts e) first singly context (work.Checks check) bytes = ⊥
-Reads (itemizes i) first singly context (work.Extracts walk plan from) bytes = ⊥
 Reads (itemizes i) first singly context (work.Itemizes walk) bytes = items.ItemWalkStands (item_setting_for i.syntax i.address) walk bytes
-Reads (itemizes i) first singly context (work.Checks check) bytes = ⊥
-Reads (checks syntax) first singly context (work.Extracts walk plan from) bytes = ⊥
-Reads (checks syntax) first singly context (work.Itemizes walk) bytes = ⊥
 Reads (checks syntax) first singly context (work.Checks v) bytes = check.CheckStands (setting_for syntax context) v bytes
+Reads task first singly context work bytes = ⊥
 
 abbrev pub IsAt : Want → Context → Work → List ℕ → Type 0
 IsAt want context work bytes = Reads want.task want.first want.singly context work bytes

@@ -2,7 +2,7 @@
 ghost use Rattle.std.specs.Prelude.{◌≡◌};
 ghost use Rattle.rx_session.specs.Kinds.{kind_number};
 
-use rx_command::Kind;
+use rx_walk::Kind;
 
 /// The number of the kind, from 1.
 pub fn kind_number(kind: Kind) -> u32

@@ -14,7 +14,6 @@ mod kinds;
 mod outputs;
 mod requests;
 mod sessions;
-mod texts;
 mod values;
 mod works;
 
@@ -23,7 +22,8 @@ pub use errors::{OpenError, SessionError};
 pub use kinds::kind_number;
 pub use outputs::Output;
 pub use requests::{open_check, open_extraction, open_items};
-pub use rx_command::{Fault, Format, Kind};
 pub use rx_grammar::name_of;
+pub use rx_job::Format;
 pub use rx_quads::{ShownQuad, ShownTerm, TermKind};
+pub use rx_walk::{Fault, Kind};
 pub use sessions::{Extraction, Session};

@@ -3,9 +3,9 @@ ghost use Rattle.std.specs.Prelude.{◌≡◌, IfOk};
 ghost use Rattle.rx_nquads.specs.Graphs.{lent_name};
 ghost use Rattle.rx_session.specs.Wants.{format_of, is_singly, plan_for};
 
-use rx_command::Form;
 use rx_job::Format;
 use rx_names::Context;
+use rx_page::Form;
 use rx_terms::{Iri, NoMemory};
 use std::alloc::Global;
 

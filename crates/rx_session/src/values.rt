@@ -6,8 +6,7 @@ ghost use Rattle.rx_session.specs.Wants.{names_graphs};
 use crate::errors::OpenError;
 use crate::outputs::Output;
 use rx_chars::Syntax;
-use rx_command::LARGEST_CONTEXT;
-use rx_job::Format;
+use rx_job::{Format, names_graphs};
 use rx_names::{Context, ContextError};
 use rx_terms::{Iri, IriError};
 use std::alloc::Global;
@@ -76,7 +75,7 @@ pub(crate) fn graph_of(
     let Some(name) = name else {
         return Ok(None);
     };
-    if !names_graphs(output) {
+    if !may_be_named(output) {
         return Err(OpenError::Usage);
     }
     match iri_of(alloc, name) {
@@ -85,14 +84,12 @@ pub(crate) fn graph_of(
     }
 }
 
-fn names_graphs(output: Output) -> bool
+/// Whether the graph of what is handed over may have a name.
+fn may_be_named(output: Output) -> bool
     ensures { result ≡ names_graphs output }
 {
     match output {
-        Output::Text(Format::Nquads) => true,
-        Output::Text(Format::Turtle) => false,
-        Output::Text(Format::Nested) => false,
-        Output::Text(Format::Jsonld) => false,
+        Output::Text(format) => names_graphs(format),
         Output::Quads => true,
     }
 }
@@ -104,10 +101,7 @@ pub(crate) fn context_of(alloc: Global, file: Option<&[u8]>) -> Result<Context, 
     let Some(file) = file else {
         return Ok(Context::standard(alloc)?);
     };
-    if file.len() > LARGEST_CONTEXT {
-        return Err(OpenError::BadContext);
-    }
-    match Context::of_json(alloc, file) {
+    match rx_page::context_of(alloc, file) {
         Ok(context) => Ok(context),
         Err(ContextError::BadContext) => Err(OpenError::BadContext),
         Err(ContextError::NoMemory) => Err(OpenError::NoMemory),

@@ -1,17 +1,16 @@
 //! A page that is being read, for its triples, for its items or for its faults.
 ghost use Rattle.std.specs.Prelude.{ℕ, List, IfOk};
 ghost use Rattle.rx_rdfa.specs.Names.{Context as RulesContext};
-ghost use Rattle.rx_command.specs.Written.{graph_made};
+ghost use Rattle.rx_page.specs.Written.{graph_made};
 ghost use Rattle.rx_session.specs.Given.{IsGiven};
 ghost use Rattle.rx_session.specs.Wants.{Want};
 ghost use Rattle.rx_session.specs.Works.{IsAt, PieceGives, EndGives, CheckEnds, ExtractionEnds, ItemizationEnds};
 
 use crate::given::Given;
-use crate::graphs::{Counted, graph_of};
+use crate::graphs::Counted;
 use crate::outputs::Plan;
-use crate::texts::{right_text, text_of};
-use rx_command::text_of_items;
 use rx_items::ItemWalk;
+use rx_page::{PageReader, right_text, text_of, text_of_items};
 use rx_quads::Quads;
 use rx_terms::{NoMemory, TripleList};
 use rx_walk::{Check, Stop, Walk};
@@ -33,9 +32,9 @@ impl Work {
             → PieceGives want context bytes piece.now result self.new }
     {
         match self {
-            Work::Extracts { walk, .. } => walk.feed(piece),
-            Work::Itemizes(walk) => walk.feed(piece),
-            Work::Checks(check) => check.feed(piece),
+            Work::Extracts { walk, .. } => PageReader::feed(walk, piece),
+            Work::Itemizes(walk) => PageReader::feed(walk, piece),
+            Work::Checks(check) => PageReader::feed(check, piece),
         }
     }
 
@@ -55,7 +54,7 @@ impl Work {
 fn extracted(alloc: Global, walk: Walk, plan: Plan, first: u64) -> Result<Given, Stop>
     ensures { ExtractionEnds walk plan first result }
 {
-    let list = match walk.finish() {
+    let list = match PageReader::finish(walk) {
         Ok(list) => list,
         Err(stop) => {
             drop(plan);
@@ -68,7 +67,7 @@ fn extracted(alloc: Global, walk: Walk, plan: Plan, first: u64) -> Result<Given,
 fn given_of(alloc: Global, list: TripleList, plan: Plan, first: u64) -> Result<Given, NoMemory>
     ensures { IfOk result (λ given. IsGiven plan first (graph_made list) given) }
 {
-    let Ok(counted) = graph_of(alloc, list, first) else {
+    let Ok(counted) = Counted::of(alloc, list, first) else {
         drop(plan);
         return Err(NoMemory);
     };
@@ -89,7 +88,7 @@ fn given_of(alloc: Global, list: TripleList, plan: Plan, first: u64) -> Result<G
 fn itemized(alloc: Global, walk: ItemWalk) -> Result<Given, Stop>
     ensures { ItemizationEnds walk result }
 {
-    let found = match walk.finish() {
+    let found = match PageReader::finish(walk) {
         Ok(found) => found,
         Err(stop) => return Err(stop),
     };
@@ -109,7 +108,7 @@ fn itemized(alloc: Global, walk: ItemWalk) -> Result<Given, Stop>
 fn checked(alloc: Global, check: Check) -> Result<Given, Stop>
     ensures { CheckEnds check result }
 {
-    match check.finish() {
+    match PageReader::finish(check) {
         Ok(()) => {}
         Err(stop) => return Err(stop),
     }

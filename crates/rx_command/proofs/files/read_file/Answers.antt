@@ -9,6 +9,7 @@ loop-bytes-init g c = record {
   most = omega (arith, c.new-bytes.ensures.len);
   read = moves_weaker _ (λ x y s. read_start _ _ x y c.new-bytes.ensures.items s) c.in-Ok-start_file.ensures.told;
   later = c.in-Ok-start_file.ensures.later;
+  same = c.in-Ok-start_file.ensures.steady;
 }
 
 pub returns-clause-ok : goal.returns-clause-ok
@@ -29,6 +30,7 @@ loop-bytes-preserved g c = record {
   most = search rules;
   read = moves_then _ (λ x y z h r. read_more _ _ _ _ x y z h r) c.loop-bytes.invariant.read c.in-Ok-read_on.ensures.told;
   later = omega (arith, c.loop-bytes.invariant.later, c.in-Ok-read_on.ensures.later);
+  same = c.in-Ok-read_on.ensures.steady ∙ c.loop-bytes.invariant.same;
 }
 
 pub returns-in_default-start_file-clause-takes : goal.returns-in_default-start_file-clause-takes

@@ -5,7 +5,7 @@ use Rattle.rx_command.proofs.GatheringLemmas.{none_added, next_added, all_added,
 use Rattle.rx_command.proofs.gathering.gather_by.Goals as goal
 
 pub loop-i-init : goal.loop-i-init
-loop-i-init g c = record { piece = c.requires; adds = none_added c.args.context.now c.args.syntax c.args.many.now (g.F.Shelf.told c.args.shelf.now); later = omega arith }
+loop-i-init g c = record { piece = c.requires; adds = none_added c.args.context.now c.args.syntax c.args.many.now (g.F.Shelf.told c.args.shelf.now); later = omega arith; same = refl }
 
 pub loop-i-preserved : goal.loop-i-preserved
 loop-i-preserved g c =
@@ -14,6 +14,7 @@ loop-i-preserved g c =
       piece = omega (arith, c.gather_page.auto.piece, c.loop-i.invariant.piece);
       adds = next_added c.args.context.now c.args.syntax c.args.pages.now c.loop-i.i one _ _ _ _ _ _ c.at.ensures c.loop-i.invariant.adds c.in-Ok.ensures.ok;
       later = omega (arith, c.loop-i.invariant.later, c.in-Ok.ensures.later);
+      same = c.in-Ok.ensures.steady ∙ c.loop-i.invariant.same;
     }
 
 pub returns-clause-ok : goal.returns-clause-ok

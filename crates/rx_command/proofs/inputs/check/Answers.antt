@@ -2,9 +2,9 @@ use Rattle.std.proofs.Common.{◌≡◌, refl, encode_utf8_all}
 use Rattle.rx_ports.proofs.MoveLemmas.{moves_weaker}
 use Rattle.rx_command.specs.declared.errors.InputError.TheVariants as error
 use Rattle.rx_job.specs.Words.{checks}
-use Rattle.rx_command.specs.Reading.{for_faults, way_for}
+use Rattle.rx_page.specs.Settings.{rdfa_way}
 use Rattle.rx_command.specs.Inputs.{PageText, PageRefused}
-use Rattle.rx_command.specs.declared.outcomes.Outcome.TheVariants.{Right}
+use Rattle.rx_page.specs.declared.outcomes.Outcome.TheVariants.{Right}
 use Rattle.rx_command.proofs.InputLemmas.{page_right, page_found, fails_refused, fails_clean, fails_no_context}
 use Rattle.rx_command.proofs.inputs.check.Goals as goal
 
@@ -16,11 +16,11 @@ pub returns-in-Err-clause-refused : goal.returns-in-Err-clause-refused
 returns-in-Err-clause-refused g c fault is =
     let same : c.in-Err.error ≡ error.Refused fault = (cc) in
     moves_weaker (PageRefused (checks c.args.syntax) c.args.context (encode_utf8_all c.args.page.now) fault)
-    (λ x y f. page_found (checks c.args.syntax) (way_for c.args.syntax (for_faults c.args.context)) c.args.context _ _ fault (c.as_str.ensures.bytes) refl x y f)
-    (fails_refused (way_for c.args.syntax (for_faults c.args.context)) _ _ c.in-Err.error fault _ _ (λ i. c.as_str.result.now) c.in-Err.ensures.gives same)
+    (λ x y f. page_found (checks c.args.syntax) (rdfa_way c.args.syntax c.args.context) c.args.context _ _ fault (c.as_str.ensures.bytes) refl x y f)
+    (fails_refused (rdfa_way c.args.syntax c.args.context) _ _ c.in-Err.error fault _ _ (λ i. c.as_str.result.now) c.in-Err.ensures.gives same)
 
 pub returns-in-Err-clause-cleanly : goal.returns-in-Err-clause-cleanly
-returns-in-Err-clause-cleanly g c is = fails_clean (way_for c.args.syntax (for_faults c.args.context)) _ _ c.in-Err.error _ _ c.as_str.ensures.bytes c.in-Err.ensures.gives (cc)
+returns-in-Err-clause-cleanly g c is = fails_clean (rdfa_way c.args.syntax c.args.context) _ _ c.in-Err.error _ _ c.as_str.ensures.bytes c.in-Err.ensures.gives (cc)
 
 pub returns-in-Err-clause-no_context : goal.returns-in-Err-clause-no_context
-returns-in-Err-clause-no_context g c is = fails_no_context (way_for c.args.syntax (for_faults c.args.context)) _ c.in-Err.error _ _ c.in-Err.ensures.gives (cc)
+returns-in-Err-clause-no_context g c is = fails_no_context (rdfa_way c.args.syntax c.args.context) _ c.in-Err.error _ _ c.in-Err.ensures.gives (cc)

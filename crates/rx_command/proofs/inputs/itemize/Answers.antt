@@ -3,9 +3,9 @@ use Rattle.rx_grammar.specs.declared.faults.Fault.{Fault}
 use Rattle.rx_ports.specs.Shelves.{WhereKnown}
 use Rattle.rx_ports.proofs.MoveLemmas.{moves_weaker}
 use Rattle.rx_command.specs.declared.errors.InputError.TheVariants as error
-use Rattle.rx_command.specs.declared.outcomes.Outcome.TheVariants.{Json}
+use Rattle.rx_page.specs.declared.outcomes.Outcome.TheVariants.{Json}
 use Rattle.rx_job.specs.Words.{Itemization, itemizes}
-use Rattle.rx_command.specs.Reading.{for_items, way_for}
+use Rattle.rx_page.specs.Settings.{item_way}
 use Rattle.rx_command.specs.Inputs.{PageText, PageRefused}
 use Rattle.rx_command.proofs.InputLemmas.{page_found, fails_refused, fails_clean, fails_no_context}
 use Rattle.rx_command.proofs.ItemLemmas.{page_items, page_item_fault}
@@ -31,11 +31,11 @@ returns-in-Err-clause-refused g c context fault is =
     let i : Itemization = record { syntax = c.args.syntax; address = c.args.address } in
     let same : c.in-Err.error ≡ error.Refused fault = (cc) in
     moves_weaker (PageRefused (itemizes i) context (encode_utf8_all c.args.page.now) fault)
-    (λ x y f. page_found (itemizes i) (way_for c.args.syntax (for_items c.args.address)) context _ _ fault (c.as_str.ensures.bytes) refl x y f)
-    (fails_refused (way_for c.args.syntax (for_items c.args.address)) _ _ c.in-Err.error fault _ _ (λ i. c.as_str.result.now) c.in-Err.ensures.gives same)
+    (λ x y f. page_found (itemizes i) (item_way c.args.syntax) context _ _ fault (c.as_str.ensures.bytes) refl x y f)
+    (fails_refused (item_way c.args.syntax) _ _ c.in-Err.error fault _ _ (λ i. c.as_str.result.now) c.in-Err.ensures.gives same)
 
 pub returns-in-Err-clause-cleanly : goal.returns-in-Err-clause-cleanly
-returns-in-Err-clause-cleanly g c is = fails_clean (way_for c.args.syntax (for_items c.args.address)) _ _ c.in-Err.error _ _ c.as_str.ensures.bytes c.in-Err.ensures.gives (cc)
+returns-in-Err-clause-cleanly g c is = fails_clean (item_way c.args.syntax) _ _ c.in-Err.error _ _ c.as_str.ensures.bytes c.in-Err.ensures.gives (cc)
 
 pub returns-in-Err-clause-no_context : goal.returns-in-Err-clause-no_context
-returns-in-Err-clause-no_context g c is = fails_no_context (way_for c.args.syntax (for_items c.args.address)) _ c.in-Err.error _ _ c.in-Err.ensures.gives (cc)
+returns-in-Err-clause-no_context g c is = fails_no_context (item_way c.args.syntax) _ c.in-Err.error _ _ c.in-Err.ensures.gives (cc)

@@ -10,8 +10,9 @@ use Rattle.rx_job.specs.Words.{Asked, Task, Itemization, itemizes}
 use Rattle.rx_job.specs.Jobs.{page_by}
 use Rattle.rx_nest.specs.Ways.{Way}
 use Rattle.rx_command.specs.Files.{TakesOf}
-use Rattle.rx_command.specs.Reading.{for_items, way_for, ReadsClean}
-use Rattle.rx_command.specs.Outcome.{way_in}
+use Rattle.rx_page.specs.Settings.{item_way}
+use Rattle.rx_command.specs.Reading.{page_limit, ReadsClean}
+use Rattle.rx_page.specs.Tasks.{way_in}
 use Rattle.rx_command.specs.Inputs.{PageText, PageRefused, JobRefused}
 use Rattle.rx_command.specs.Runs.{TakesFiles, StopsCleanly}
 use Rattle.rx_command.proofs.InputLemmas.{takes_both, if_job, job_refused, page_failed, page_stops, for_itemization, standard_stays}
@@ -39,8 +40,8 @@ returns-in_ok-address-in-Items-clause-refused g c fault is =
 pub returns-in_ok-address-in-Items-clause-takes : goal.returns-in_ok-address-in-Items-clause-takes
 returns-in_ok-address-in-Items-clause-takes g c =
     let asked : Asked = page_by c.args.job.now in
-    moves_then (TakesFiles (Some asked)) (λ x y z r p. takes_both asked None 1073807359 (sym (ap (λ (k : Asked). k.context) (ap page_by c.in-Items.is))) refl x y z r.takes p) (standard_stays (g.F.Shelf.told c.args.shelf.now))
-    (subst (λ (k : Asked). WhereKnown (TakesOf (encode_utf8_all k.page) 1073807359) (g.F.Shelf.told c.args.shelf.now) (g.F.Shelf.told c.itemize.new.shelf)) (sym (ap page_by c.in-Items.is)) c.itemize.ensures.takes)
+    moves_then (TakesFiles (Some asked)) (λ x y z r p. takes_both asked None (sym (ap (λ (k : Asked). k.context) (ap page_by c.in-Items.is))) x y z r.takes p) (standard_stays (g.F.Shelf.told c.args.shelf.now))
+    (subst (λ (k : Asked). WhereKnown (TakesOf (encode_utf8_all k.page) page_limit) (g.F.Shelf.told c.args.shelf.now) (g.F.Shelf.told c.itemize.new.shelf)) (sym (ap page_by c.in-Items.is)) c.itemize.ensures.takes)
 
 pub returns-in_ok-address-in-Items-clause-failed : goal.returns-in_ok-address-in-Items-clause-failed
 returns-in_ok-address-in-Items-clause-failed g c is =
@@ -51,6 +52,6 @@ returns-in_ok-address-in-Items-clause-failed g c is =
 pub returns-in_ok-address-in-Items-clause-cleanly : goal.returns-in_ok-address-in-Items-clause-cleanly
 returns-in_ok-address-in-Items-clause-cleanly g c is =
     let asked : Asked = page_by c.args.job.now in
-    let way : Way = way_for c.in-Items.syntax (for_items c.in-Items.address) in
+    let way : Way = item_way c.in-Items.syntax in
     moves_then (StopsCleanly (Some asked)) (λ x y z r p. page_stops asked None standard way (sym (ap (λ (k : Asked). k.context) (ap page_by c.in-Items.is))) (sym (ap (λ (k : Asked). way_in k.task standard) (ap page_by c.in-Items.is))) x y z r p) (standard_stays (g.F.Shelf.told c.args.shelf.now))
     (subst (λ (k : Asked). WhereKnown (ReadsClean way (encode_utf8_all k.page)) (g.F.Shelf.told c.args.shelf.now) (g.F.Shelf.told c.itemize.new.shelf)) (sym (ap page_by c.in-Items.is)) (c.itemize.ensures.cleanly is))

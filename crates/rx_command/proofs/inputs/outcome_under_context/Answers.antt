@@ -7,8 +7,9 @@ use Rattle.rx_job.specs.Words.{Asked, Task, Extraction}
 use Rattle.rx_job.specs.Jobs.{page_by}
 use Rattle.rx_command.specs.Files.{TakesOf}
 use Rattle.rx_nest.specs.Ways.{Way}
-use Rattle.rx_command.specs.Reading.{for_triples, for_faults, way_for, ReadsClean}
-use Rattle.rx_command.specs.Outcome.{way_in}
+use Rattle.rx_page.specs.Settings.{rdfa_way}
+use Rattle.rx_command.specs.Reading.{page_limit, ReadsClean}
+use Rattle.rx_page.specs.Tasks.{way_in}
 use Rattle.rx_command.specs.Inputs.{PageText, PageRefused, JobRefused}
 use Rattle.rx_command.specs.Runs.{TakesFiles, StopsCleanly}
 use Rattle.rx_command.proofs.InputLemmas.{takes_before, takes_both, if_job, job_refused, page_failed, context_stops, page_stops, for_extraction, for_check}
@@ -42,8 +43,8 @@ returns-in-Ok-try_clone-clause-refused g c fault is =
 pub returns-in-Ok-try_clone-clause-takes : goal.returns-in-Ok-try_clone-clause-takes
 returns-in-Ok-try_clone-clause-takes g c =
     let asked : Asked = page_by c.args.job.now in
-    moves_then (TakesFiles (Some asked)) (λ x y z r p. takes_both asked _ 1073807359 c.context.ensures refl x y z r p) c.read_context.ensures.takes
-    (subst (λ (k : Asked). WhereKnown (TakesOf (encode_utf8_all k.page) 1073807359) (g.F.Shelf.told c.read_context.new.shelf) (g.F.Shelf.told c.extract.new.shelf)) (sym (ap page_by c.in-Extract.is)) c.extract.ensures.takes)
+    moves_then (TakesFiles (Some asked)) (λ x y z r p. takes_both asked _ c.context.ensures x y z r p) c.read_context.ensures.takes
+    (subst (λ (k : Asked). WhereKnown (TakesOf (encode_utf8_all k.page) page_limit) (g.F.Shelf.told c.read_context.new.shelf) (g.F.Shelf.told c.extract.new.shelf)) (sym (ap page_by c.in-Extract.is)) c.extract.ensures.takes)
 
 pub returns-in-Ok-try_clone-clause-failed : goal.returns-in-Ok-try_clone-clause-failed
 returns-in-Ok-try_clone-clause-failed g c is =
@@ -54,7 +55,7 @@ returns-in-Ok-try_clone-clause-failed g c is =
 pub returns-in-Ok-try_clone-clause-cleanly : goal.returns-in-Ok-try_clone-clause-cleanly
 returns-in-Ok-try_clone-clause-cleanly g c is =
     let asked : Asked = page_by c.args.job.now in
-    let way : Way = way_for c.in-Extract.syntax (for_triples c.in-Ok.context c.in-Extract.address) in
+    let way : Way = rdfa_way c.in-Extract.syntax c.in-Ok.context in
     moves_then (StopsCleanly (Some asked)) (λ x y z r p. page_stops asked _ c.in-Ok.context way c.context.ensures (sym (ap (λ (k : Asked). way_in k.task c.in-Ok.context) (ap page_by c.in-Extract.is))) x y z r p) c.in-Ok.ensures.ok
     (subst (λ (k : Asked). WhereKnown (ReadsClean way (encode_utf8_all k.page)) (g.F.Shelf.told c.read_context.new.shelf) (g.F.Shelf.told c.extract.new.shelf)) (sym (ap page_by c.in-Extract.is)) (c.extract.ensures.cleanly is))
 
@@ -75,8 +76,8 @@ returns-in-Check-clause-refused g c fault is =
 pub returns-in-Check-clause-takes : goal.returns-in-Check-clause-takes
 returns-in-Check-clause-takes g c =
     let asked : Asked = page_by c.args.job.now in
-    moves_then (TakesFiles (Some asked)) (λ x y z r p. takes_both asked _ 1073807359 c.context.ensures refl x y z r p) c.read_context.ensures.takes
-    (subst (λ (k : Asked). WhereKnown (TakesOf (encode_utf8_all k.page) 1073807359) (g.F.Shelf.told c.read_context.new.shelf) (g.F.Shelf.told c.check.new.shelf)) (sym (ap page_by c.in-Check.is)) c.check.ensures.takes)
+    moves_then (TakesFiles (Some asked)) (λ x y z r p. takes_both asked _ c.context.ensures x y z r p) c.read_context.ensures.takes
+    (subst (λ (k : Asked). WhereKnown (TakesOf (encode_utf8_all k.page) page_limit) (g.F.Shelf.told c.read_context.new.shelf) (g.F.Shelf.told c.check.new.shelf)) (sym (ap page_by c.in-Check.is)) c.check.ensures.takes)
 
 pub returns-in-Check-clause-failed : goal.returns-in-Check-clause-failed
 returns-in-Check-clause-failed g c is =
@@ -87,6 +88,6 @@ returns-in-Check-clause-failed g c is =
 pub returns-in-Check-clause-cleanly : goal.returns-in-Check-clause-cleanly
 returns-in-Check-clause-cleanly g c is =
     let asked : Asked = page_by c.args.job.now in
-    let way : Way = way_for c.in-Check.syntax (for_faults c.in-Ok.context) in
+    let way : Way = rdfa_way c.in-Check.syntax c.in-Ok.context in
     moves_then (StopsCleanly (Some asked)) (λ x y z r p. page_stops asked _ c.in-Ok.context way c.context.ensures (sym (ap (λ (k : Asked). way_in k.task c.in-Ok.context) (ap page_by c.in-Check.is))) x y z r p) c.in-Ok.ensures.ok
     (subst (λ (k : Asked). WhereKnown (ReadsClean way (encode_utf8_all k.page)) (g.F.Shelf.told c.read_context.new.shelf) (g.F.Shelf.told c.check.new.shelf)) (sym (ap page_by c.in-Check.is)) (c.check.ensures.cleanly is))

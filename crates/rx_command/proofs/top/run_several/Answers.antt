@@ -5,25 +5,25 @@ use Rattle.rx_job.specs.Jobs.{several_seen}
 use Rattle.rx_command.proofs.SeveralLemmas.{ends_done, ends_partly}
 use Rattle.rx_command.proofs.top.run_several.Goals as goal
 
-pub returns-in-Ok-put_all : goal.returns-in-Ok-put_all
-returns-in-Ok-put_all g c =
+pub returns-in-Ok-put_all-clause-ends : goal.returns-in-Ok-put_all-clause-ends
+returns-in-Ok-put_all-clause-ends g c =
     ends_done (several_seen c.args.several) _ _ c.in-Ok.many c.in-Ok-text.text.items c.as_slice.result.now c.as_slice.ensures.value c.in-Ok-text.ensures.bytes c.in-Ok-text.ensures.denotes c.in-Ok.ensures.ok c.gather.ensures.takes c.in-Ok-put_all.ensures.ok
     (moves_same Stays (λ x. refl) (g.E.Sink.held c.args.err.now), refl)
 
-pub returns-in-Ok-text : goal.returns-in-Ok-text
-returns-in-Ok-text g c =
+pub returns-in-Ok-text-clause-ends : goal.returns-in-Ok-text-clause-ends
+returns-in-Ok-text-clause-ends g c =
     ends_partly (several_seen c.args.several) _ _ c.in-Ok.many c.in-Ok-text.text.items c.as_slice.result.now c.as_slice.ensures.value c.in-Ok-text.ensures.bytes c.in-Ok.ensures.ok c.gather.ensures.takes c.in-Err-put_all.ensures.err c.in-Err-put_all.ensures.cause
     (moves_same Stays (λ x. refl) (g.E.Sink.held c.args.err.now), refl)
 
-pub returns-in-Err-Failed : goal.returns-in-Err-Failed
-returns-in-Err-Failed g c = record {
+pub returns-in-Err-Failed-clause-ends : goal.returns-in-Err-Failed-clause-ends
+returns-in-Err-Failed-clause-ends g c = record {
   ends = (c.in-Err-Failed.ensures.failed (ap Err c.in-Err-Failed.field-0-is), moves_same Stays (λ x. refl) (g.O.Sink.held c.args.out.now));
   takes = c.gather.ensures.takes;
   says = (moves_same Stays (λ x. refl) (g.E.Sink.held c.args.err.now), refl);
 }
 
-pub returns-in-Err-BadContext : goal.returns-in-Err-BadContext
-returns-in-Err-BadContext g c = record {
+pub returns-in-Err-BadContext-clause-ends : goal.returns-in-Err-BadContext-clause-ends
+returns-in-Err-BadContext-clause-ends g c = record {
   ends = (
     c.in-Err-BadContext.ensures.named (ap Err c.in-Err-BadContext.field-0-is),
     c.in-Err-BadContext.ensures.bad (ap Err c.in-Err-BadContext.field-0-is),
@@ -34,15 +34,15 @@ returns-in-Err-BadContext g c = record {
   says = c.say.ensures;
 }
 
-pub returns-in-Err-NoMemory : goal.returns-in-Err-NoMemory
-returns-in-Err-NoMemory g c = record {
+pub returns-in-Err-NoMemory-clause-ends : goal.returns-in-Err-NoMemory-clause-ends
+returns-in-Err-NoMemory-clause-ends g c = record {
   ends = moves_same Stays (λ x. refl) (g.O.Sink.held c.args.out.now);
   takes = c.gather.ensures.takes;
   says = (moves_same Stays (λ x. refl) (g.E.Sink.held c.args.err.now), refl);
 }
 
-pub returns : goal.returns
-returns g c = record {
+pub returns-clause-ends : goal.returns-clause-ends
+returns-clause-ends g c = record {
   ends = moves_same Stays (λ x. refl) (g.O.Sink.held c.args.out.now);
   takes = c.gather.ensures.takes;
   says = (moves_same Stays (λ x. refl) (g.E.Sink.held c.args.err.now), refl);

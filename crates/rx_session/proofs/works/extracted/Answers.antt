@@ -1,13 +1,14 @@
-use Rattle.rx_command.specs.Reading.{setting_for}
+use Rattle.rx_job.specs.Words.{extracts}
+use Rattle.rx_page.specs.Settings.{setting_for}
 use Rattle.rx_session.proofs.GivenLemmas.{walk_ends}
-use Rattle.rx_session.proofs.WorkLemmas.{walk_stops}
+use Rattle.rx_session.proofs.WorkLemmas.{stops}
 use Rattle.rx_session.proofs.works.extracted.Goals as goal
 
 pub returns-in-Err : goal.returns-in-Err
 returns-in-Err c e singly context bytes at plan =
-    walk_stops e c.args.first singly context c.args.walk bytes c.in-Err.stop at (c.in-Err.ensures.gives (setting_for e.syntax context) e.address bytes at)
+    stops (extracts e) c.args.first singly context bytes c.in-Err.stop (c.in-Err.ensures (setting_for e.syntax context, e.address) bytes at)
 
 pub returns : goal.returns
 returns c e singly context bytes at plan =
-    walk_ends e context bytes c.in-Ok.list (c.in-Ok.ensures.gives (setting_for e.syntax context) e.address bytes at)
+    walk_ends e context bytes c.in-Ok.list (c.in-Ok.ensures (setting_for e.syntax context, e.address) bytes at)
     c.args.first singly c.args.plan c.in_ok-given_of.field-0 plan c.in_ok-given_of.ensures

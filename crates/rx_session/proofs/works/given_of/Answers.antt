@@ -1,4 +1,4 @@
-use Rattle.rx_command.specs.Written.{graph_made}
+use Rattle.rx_page.specs.Written.{graph_made}
 use Rattle.rx_session.proofs.GivenLemmas.{given_text, given_quads}
 use Rattle.rx_session.proofs.works.given_of.Goals as goal
 

@@ -1,0 +1,217 @@
+-- What follows from how a run ends.
+use Rattle.std.proofs.Common.{◌≡◌, ◌∙◌, ℕ, ◌⊎◌, inl, inr, List, [], ◌∷◌, refl, sym, ap, subst, Option, Some, None}
+use Rattle.rx_ports.specs.Counts.{Rose}
+use Rattle.rx_ports.specs.Shelves.{ShelfContent, WhereKnown, GrowsBy, GrowsByPart}
+use Rattle.rx_terms.specs.Text.{Chars}
+use Rattle.rx_rdfa.specs.Names.{Context}
+use Rattle.rx_grammar.specs.declared.faults.Fault.{Fault}
+use Rattle.rx_job.specs.Words.{Job, Asked, Gathering, reads, gathers, samples, job, page_in, gathering_in}
+use Rattle.rx_page.specs.Tasks.{TaskGives}
+use Rattle.rx_page.specs.Outcomes.{IsTheFault, IsTheText}
+use Rattle.rx_page.proofs.OutcomeLemmas.{the_fault}
+use Rattle.rx_page.proofs.TextLemmas.{tree_of_text}
+use Rattle.rx_command.specs.Contexts.{HasContext, HasOther, LacksContext, context_in}
+use Rattle.rx_command.specs.Outcome.{NamesPage, HasPageFault, HasBadContext, JobLacks, LacksFile, LacksPage}
+use Rattle.rx_command.specs.Gathering.{HasAll, HasPages}
+use Rattle.rx_command.specs.Samples.{Yields, YieldsBoth}
+use Rattle.rx_command.specs.Runs.{Devices, EndsSo}
+use Rattle.rx_command.specs.Endings.{OfPage, IsAnswer, nothing_asked, of_sample, of_page, of_fault, no_file, no_context, of_pages, no_file_of_several, no_context_of_several, IsDue, Ends, answers, shelf_failed, out_failed, no_memory, Follows, EndingsSay}
+use Rattle.rx_command.specs.declared.statuses.Status.{Status}
+use Rattle.rx_command.specs.declared.statuses.Status.TheVariants as status
+use Rattle.rx_command.proofs.RunLemmas.{page_job, not_missing, not_other}
+use Rattle.rx_command.proofs.SeveralLemmas.{not_page, gathered_lacks, gathered_other}
+use Rattle.rx_command.proofs.EndingLemmas.{one_told, several_of, page_there, lacks_answer, bad_answer, due}
+use Rattle.rx_command.proofs.OneAnswer.{page_lacks, page_other, at_same, beside}
+
+module _ (shelf : ShelfContent) where
+  abbrev HasText : Asked → List ℕ → Context → List ℕ → Type 0
+  HasText asked text context bytes = TaskGives asked.task context bytes text
+
+  abbrev HasFault : Asked → Fault → Context → List ℕ → Type 0
+  HasFault asked fault context bytes = IsTheFault asked.task context bytes fault
+
+  text_or_fault : (asked : Asked) (text : List ℕ) (fault : Fault) → OfPage asked shelf (HasText asked text) → OfPage asked shelf (HasFault asked fault) → ⊥
+  text_or_fault asked text fault a b =
+      let h = at_same shelf asked (HasText asked text) (HasFault asked fault) a b in
+      let t = tree_of_text asked.task a.context a.bytes text a.holds_so in
+      h.treeless t.0 (t.1).accepted
+
+  -- a text that is due is written
+  due_done : {k : Option Job} {s : Status} {other line : List ℕ} (text : List ℕ) → IsAnswer shelf k s other line → IsDue shelf k text → s ≡ status.Done
+  due_done text nothing_asked d = absurd d
+  due_done text (of_sample count line i) d = refl
+  due_done text (of_page asked other a) d = refl
+  due_done text (of_fault asked fault a) d = absurd (text_or_fault asked text fault d a)
+  due_done text (no_file asked l) d = absurd (page_lacks shelf asked (HasText asked text) d l)
+  due_done text (no_context asked o) d = absurd (page_other shelf asked (HasText asked text) d o)
+  due_done text (of_pages g other i e) d = refl
+  due_done text (no_file_of_several g l) d = absurd (gathered_lacks g shelf text d l)
+  due_done text (no_context_of_several g o) d = absurd (gathered_other g shelf text d o)
+
+  due_lacks : (k : Option Job) (text : List ℕ) → IsDue shelf k text → JobLacks k shelf → ⊥
+  due_lacks None text d l = d
+  due_lacks (Some (reads asked)) text d l = page_lacks shelf asked (HasText asked text) d l
+  due_lacks (Some (gathers g)) text d l = gathered_lacks g shelf text d l
+  due_lacks (Some (samples count)) text d l = l
+
+  due_other : (k : Option Job) (text : List ℕ) → IsDue shelf k text → HasOther (context_in k) shelf → ⊥
+  due_other None text d o = d
+  due_other (Some (reads asked)) text d o = page_other shelf asked (HasText asked text) d o
+  due_other (Some (gathers g)) text d o = gathered_other g shelf text d o
+  due_other (Some (samples count)) text d o = o
+
+  -- pages that are all there have their document
+  all_done : {k : Option Job} {s : Status} {other line : List ℕ} (g : Gathering) → HasContext g.context shelf → HasPages shelf.files g.pages → IsAnswer shelf k s other line → k ≡ Some (gathers g) → s ≡ status.Done
+  all_done g c p nothing_asked e = absurd (cc)
+  all_done g c p (of_sample count line i) e = absurd (cc)
+  all_done g c p (of_page asked text a) e = absurd (cc)
+  all_done g c p (of_fault asked fault a) e = absurd (cc)
+  all_done g c p (no_file asked l) e = absurd (cc)
+  all_done g c p (no_context asked o) e = absurd (cc)
+  all_done g c p (of_pages of text i d) e = refl
+  all_done g c p (no_file_of_several of (inl l)) e = let same : of ≡ g = (cc) in absurd (not_missing g.context shelf c (subst (λ (x : Gathering). LacksContext x.context shelf) same l))
+  all_done g c p (no_file_of_several of (inr l)) e = let same : of ≡ g = (cc) in absurd (not_page shelf.files g.pages p (subst (λ (x : Gathering). LacksPage shelf.files x.pages) same l.1))
+  all_done g c p (no_context_of_several of o) e = let same : of ≡ g = (cc) in absurd (not_other g.context shelf c (subst (λ (x : Gathering). HasOther x.context shelf) same o))
+
+module _ (words : List Chars) (old new : Devices) (shelf : ShelfContent) (tells : old.told ≡ Some shelf) where
+  named : (asked : Asked) (Holds : Context → List ℕ → Type 0) (a : OfPage asked shelf Holds) → Some (reads asked) ≡ job words → NamesPage words old.told a.bytes
+  named asked Holds a j = record { asked = asked; shelf = shelf; context = a.context; asks = sym (ap page_in j); tells = tells; holds = a.is_context; file = a.file }
+
+  answer_yields : {k : Option Job} {t : Status} {text line : List ℕ} → IsAnswer shelf k t text line → t ≡ status.Done → k ≡ job words → YieldsBoth words old.told text
+  answer_yields nothing_asked e j = absurd (cc)
+  answer_yields (of_sample count line i) e j = let s = record { count = count; asks = sym j; is = i } in (inr (inl s), inr (inl s))
+  answer_yields (of_page asked text a) e j =
+      let p = named asked (λ context bytes. IsTheText asked.task context bytes text) a j in
+      (inl (record { bytes = a.bytes; page = p; has_text = (a.holds_so).gives }), inl (record { bytes = a.bytes; page = p; graph = (a.holds_so).denotes }))
+  answer_yields (of_fault asked fault a) e j = absurd (cc)
+  answer_yields (no_file asked l) e j = absurd (cc)
+  answer_yields (no_context asked o) e j = absurd (cc)
+  answer_yields (of_pages g text i d) e j =
+      let asks = sym (ap gathering_in j) in
+      (inr (inr (record { gathering = g; shelf = shelf; asks = asks; tells = tells; is = i })), inr (inr (record { gathering = g; shelf = shelf; asks = asks; tells = tells; denotes = d })))
+  answer_yields (no_file_of_several g l) e j = absurd (cc)
+  answer_yields (no_context_of_several g o) e j = absurd (cc)
+
+  due_yields : (k : Option Job) (text : List ℕ) → k ≡ job words → IsDue shelf k text → Yields words old.told text
+  due_yields None text j d = absurd d
+  due_yields (Some (reads asked)) text j d = inl (record { bytes = d.bytes; page = named asked (λ context bytes. TaskGives asked.task context bytes text) d j; has_text = d.holds_so })
+  due_yields (Some (gathers g)) text j d = inr (inr (record { gathering = g; shelf = shelf; asks = sym (ap gathering_in j); tells = tells; is = d }))
+  due_yields (Some (samples count)) text j d = inr (inl (record { count = count; asks = sym j; is = d }))
+
+  answer_refuses : {k : Option Job} {t : Status} {text line : List ℕ} (fault : Fault) → IsAnswer shelf k t text line → t ≡ status.Refused fault → k ≡ job words → HasPageFault words old.told fault
+  answer_refuses fault nothing_asked e j = absurd (cc)
+  answer_refuses fault (of_sample count line i) e j = absurd (cc)
+  answer_refuses fault (of_page asked text a) e j = absurd (cc)
+  answer_refuses fault (of_fault asked other a) e j =
+      let same : other ≡ fault = (cc) in
+      subst (HasPageFault words old.told) same
+      (record { bytes = a.bytes; page = named asked (λ context bytes. IsTheFault asked.task context bytes other) a j; refused = (a.holds_so).refused })
+  answer_refuses fault (no_file asked l) e j = absurd (cc)
+  answer_refuses fault (no_context asked o) e j = absurd (cc)
+  answer_refuses fault (of_pages g text i d) e j = absurd (cc)
+  answer_refuses fault (no_file_of_several g l) e j = absurd (cc)
+  answer_refuses fault (no_context_of_several g o) e j = absurd (cc)
+
+  answer_bad : {k : Option Job} {t : Status} {text line : List ℕ} → IsAnswer shelf k t text line → t ≡ status.BadContext → k ≡ job words → HasBadContext words old.told
+  answer_bad nothing_asked e j = absurd (cc)
+  answer_bad (of_sample count line i) e j = absurd (cc)
+  answer_bad (of_page asked text a) e j = absurd (cc)
+  answer_bad (of_fault asked fault a) e j = absurd (cc)
+  answer_bad (no_file asked l) e j = absurd (cc)
+  answer_bad (no_context asked o) e j = record { shelf = shelf; tells = tells; holds = subst (λ z. HasOther (context_in z) shelf) j o }
+  answer_bad (of_pages g text i d) e j = absurd (cc)
+  answer_bad (no_file_of_several g l) e j = absurd (cc)
+  answer_bad (no_context_of_several g o) e j = record { shelf = shelf; tells = tells; holds = subst (λ z. HasOther (context_in z) shelf) j o }
+
+  module _ (s : Status) where
+    done : Ends shelf (job words) s old new → s ≡ status.Done → (told : ShelfContent) → old.told ≡ Some told → (text : List ℕ) × YieldsBoth words old.told text × WhereKnown (GrowsBy text) old.held new.held
+    done (answers text line a grows says) is told e = (text, answer_yields a is refl, grows)
+    done (shelf_failed f rose stays) is told e = absurd (cc)
+    done (out_failed text f rose d part) is told e = absurd (cc)
+    done (no_memory f stays) is told e = absurd (cc)
+
+    partly : Ends shelf (job words) s old new → s ≡ status.WriteFault → (told : ShelfContent) → old.told ≡ Some told → (text : List ℕ) × Yields words old.told text × WhereKnown (GrowsByPart text) old.held new.held
+    partly (answers text line a grows says) is told e = absurd (never_write a is)
+      where
+        never_write : {k : Option Job} {t : Status} {text line : List ℕ} → IsAnswer shelf k t text line → t ≡ status.WriteFault → ⊥
+        never_write nothing_asked e = absurd (cc)
+        never_write (of_sample count line i) e = absurd (cc)
+        never_write (of_page asked text a) e = absurd (cc)
+        never_write (of_fault asked fault a) e = absurd (cc)
+        never_write (no_file asked l) e = absurd (cc)
+        never_write (no_context asked o) e = absurd (cc)
+        never_write (of_pages g text i d) e = absurd (cc)
+        never_write (no_file_of_several g l) e = absurd (cc)
+        never_write (no_context_of_several g o) e = absurd (cc)
+    partly (shelf_failed f rose stays) is told e = absurd (cc)
+    partly (out_failed text f rose d part) is told e = (text, due_yields (job words) text refl d, part)
+    partly (no_memory f stays) is told e = absurd (cc)
+
+    refused : Ends shelf (job words) s old new → (fault : Fault) → s ≡ status.Refused fault → (told : ShelfContent) → old.told ≡ Some told → HasPageFault words old.told fault
+    refused (answers text line a grows says) fault is told e = answer_refuses fault a is refl
+    refused (shelf_failed f rose stays) fault is told e = absurd (cc)
+    refused (out_failed text f rose d part) fault is told e = absurd (cc)
+    refused (no_memory f stays) fault is told e = absurd (cc)
+
+    bad_context : Ends shelf (job words) s old new → s ≡ status.BadContext → (told : ShelfContent) → old.told ≡ Some told → HasBadContext words old.told
+    bad_context (answers text line a grows says) is told e = answer_bad a is refl
+    bad_context (shelf_failed f rose stays) is told e = absurd (cc)
+    bad_context (out_failed text f rose d part) is told e = absurd (cc)
+    bad_context (no_memory f stays) is told e = absurd (cc)
+
+    lacking : Ends shelf (job words) s old new → JobLacks (job words) shelf → EndsSo s status.ReadFault
+    lacking (answers text line a grows says) l = inl (beside shelf a (lacks_answer shelf (job words) l)).status_is
+    lacking (shelf_failed f rose stays) l = inl f
+    lacking (out_failed text f rose d part) l = absurd (due_lacks shelf (job words) text d l)
+    lacking (no_memory f stays) l = inr f
+
+    refuses_context : Ends shelf (job words) s old new → HasOther (context_in (job words)) shelf → ¬ Rose old.read_faults new.read_faults → EndsSo s status.BadContext
+    refuses_context (answers text line a grows says) o quiet = inl (beside shelf a (bad_answer shelf (job words) o)).status_is
+    refuses_context (shelf_failed f rose stays) o quiet = absurd (quiet rose)
+    refuses_context (out_failed text f rose d part) o quiet = absurd (due_other shelf (job words) text d o)
+    refuses_context (no_memory f stays) o quiet = inr f
+
+    refuses : Ends shelf (job words) s old new → (fault : Fault) → HasPageFault words old.told fault → ¬ Rose old.read_faults new.read_faults → EndsSo s (status.Refused fault)
+    refuses ends fault h quiet = by ends
+      where
+        asked : Asked
+        asked = h.page.asked
+
+        j : job words ≡ Some (reads asked)
+        j = page_job words asked h.page.asks
+
+        there : OfPage asked shelf (HasFault shelf asked fault)
+        there = page_there words old.told shelf tells (HasFault shelf asked fault) h.bytes h.page (the_fault asked.task h.page.context h.bytes fault h.refused)
+
+        by : Ends shelf (job words) s old new → EndsSo s (status.Refused fault)
+        by (answers text line a grows says) = inl (beside shelf (subst (λ z. IsAnswer shelf z s text line) j a) (of_fault asked fault there)).status_is
+        by (shelf_failed f rose stays) = absurd (quiet rose)
+        by (out_failed text f rose d part) = absurd (text_or_fault shelf asked text fault (subst (λ z. IsDue shelf z text) j d) there)
+        by (no_memory f stays) = inr f
+
+    completes : Ends shelf (job words) s old new → (text : List ℕ) → Yields words old.told text → ¬ Rose old.read_faults new.read_faults → ¬ Rose old.write_faults new.write_faults → EndsSo s status.Done
+    completes (answers other line a grows says) text y quiet calm = inl (due_done shelf text a (due words old new shelf tells text y))
+    completes (shelf_failed f rose stays) text y quiet calm = absurd (quiet rose)
+    completes (out_failed other f rose d part) text y quiet calm = absurd (calm rose)
+    completes (no_memory f stays) text y quiet calm = inr f
+
+    completes_all : Ends shelf (job words) s old new → HasAll words old.told → ¬ Rose old.read_faults new.read_faults → ¬ Rose old.write_faults new.write_faults → EndsSo s status.Done
+    completes_all (answers other line a grows says) h quiet calm =
+        let same : h.shelf ≡ shelf = one_told old.told h.shelf shelf h.tells tells in
+        inl (all_done shelf h.gathering (subst (λ (x : ShelfContent). HasContext h.gathering.context x) same h.context) (subst (λ (x : ShelfContent). HasPages x.files h.gathering.pages) same h.pages) a (several_of (job words) h.gathering h.asks))
+    completes_all (shelf_failed f rose stays) h quiet calm = absurd (quiet rose)
+    completes_all (out_failed other f rose d part) h quiet calm = absurd (calm rose)
+    completes_all (no_memory f stays) h quiet calm = inr f
+
+pub endings_say : EndingsSay
+endings_say words s old new shelf tells ends = record {
+  done = done words old new shelf tells s ends;
+  partly = partly words old new shelf tells s ends;
+  refused = refused words old new shelf tells s ends;
+  bad_context = bad_context words old new shelf tells s ends;
+  lacking = λ l. lacking words old new shelf tells s ends (subst (JobLacks (job words)) (one_told old.told l.shelf shelf l.tells tells) l.holds);
+  refuses_context = λ b quiet. refuses_context words old new shelf tells s ends (subst (HasOther (context_in (job words))) (one_told old.told b.shelf shelf b.tells tells) b.holds) quiet;
+  refuses = refuses words old new shelf tells s ends;
+  completes = completes words old new shelf tells s ends;
+  completes_all = completes_all words old new shelf tells s ends;
+}

@@ -1,5 +1,0 @@
-use Rattle.rx_command.proofs.OutcomeLemmas.{one_outcome}
-use Rattle.rx_command.proofs.a_page_has_one_outcome.Goals as goal
-
-pub returns : goal.returns
-returns c = one_outcome

@@ -1,0 +1,63 @@
+-- What is made of the list that a walk gives is what the rules have of the page.
+use Rattle.std.proofs.Common.{◌≡◌, ◌∙◌, ℕ, nat_eq, List, ap, subst}
+use Rattle.rx_terms.specs.Text.{Chars}
+use Rattle.rx_terms.specs.declared.triples.Triple.{Triple as CodeTriple}
+use Rattle.rx_model.specs.Copied.{copied}
+use Rattle.rx_model.specs.Numbered.{numbered}
+use Rattle.rx_model.specs.Seen.{triples_seen}
+use Rattle.rx_model.specs.Terms.{Triple}
+use Rattle.rx_model.proofs.Names.{names_do_not_matter}
+use Rattle.rx_rdfa.specs.Blanks.{same_bnode, model}
+use Rattle.rx_rdfa.specs.Facts.{Facts}
+use Rattle.rx_rdfa.specs.Made.{made}
+use Rattle.rx_rdfa.specs.Names.{Context}
+use Rattle.rx_rdfa.specs.Tree.{Nodes}
+use Rattle.rx_rdfa.specs.Whole.{written}
+use Rattle.rx_rdfa.proofs.Exact.{exact_bnodes}
+use Rattle.rx_grammar.specs.Trees.{Tree}
+use Rattle.rx_eval.specs.Numbering.{Numbering}
+use Rattle.rx_eval.specs.Standing.{Makes, number_in}
+use Rattle.rx_walk.specs.Walks.{IsMade}
+use Rattle.rx_page.specs.Tasks.{base_in, facts_in, IsAccepted, HasText, Denotes}
+use Rattle.rx_rdfa.proofs.Whole.{written_denotes}
+use Rattle.rx_job.specs.Words.{Extraction}
+use Rattle.rx_page.specs.Settings.{GivesList}
+use Rattle.rx_page.specs.Forms.{IsFormText, FormDenotes, form_of}
+use Rattle.rx_page.specs.Written.{text_of, Denoted, graph_made}
+use Rattle.rx_page.specs.declared.forms.Form.{Form}
+use Rattle.rx_page.specs.declared.outcomes.Outcome.{Outcome}
+
+-- what is written of a list with numbers in place of the rules' blank nodes
+pub written_so : (to : Numbering) (base : Chars) (tree : Nodes Facts) (triples : List (Triple ℕ)) → Makes to base tree triples → numbered nat_eq (copied nat_eq triples) ≡ written base tree
+written_so to base tree triples m =
+    ap (λ xs. numbered nat_eq (copied nat_eq xs)) m.list ∙ names_do_not_matter same_bnode exact_bnodes (made model base tree) (number_in to) m.one_to_one
+
+-- what is written of the list that a walk gives is what the rules have written of the page's tree
+pub list_written : (address : Chars) (context : Context) (tree : Tree) (list : List CodeTriple) → IsMade context address tree list → numbered nat_eq (copied nat_eq (triples_seen list)) ≡ written (base_in address tree) (facts_in context tree)
+list_written address context tree list m = written_so m.to (base_in address tree) (facts_in context tree) (triples_seen list) m.makes
+
+-- what is made of the triples of a page that was read
+pub text_made : (e : Extraction) (context : Context) (form : Form) (outcome : Outcome) (list : List CodeTriple) (bytes : List ℕ) → form ≡ form_of e context
+    → IsFormText form (graph_made list) (text_of outcome) → (Denoted outcome → FormDenotes form (text_of outcome) (graph_made list))
+    → GivesList e.syntax context e.address bytes list → HasText e context bytes (text_of outcome) × (Denoted outcome → Denotes e context bytes (text_of outcome))
+text_made e context form outcome list bytes f spelled denotes given =
+    let triples : List (Triple ℕ) = written (base_in e.address given.tree) (facts_in context given.tree) in
+    let same : graph_made list ≡ triples = list_written e.address context given.tree list given.made in
+    let is : IsAccepted e.syntax context bytes given.tree = record { page = given.page; accepted = given.accepted } in (
+      record {
+        tree = given.tree;
+        is = is;
+        spelled =
+            subst (λ ts. IsFormText (form_of e context) ts (text_of outcome)) same
+            (subst (λ (k : Form). IsFormText k (graph_made list) (text_of outcome)) f spelled);
+      },
+      λ read. record {
+        tree = given.tree;
+        is = is;
+        triples = triples;
+        denotes =
+            subst (λ ts. FormDenotes (form_of e context) (text_of outcome) ts) same
+            (subst (λ (k : Form). FormDenotes k (text_of outcome) (graph_made list)) f (denotes read));
+        renamed = written_denotes (base_in e.address given.tree) (facts_in context given.tree);
+      },
+    )

@@ -1,0 +1,10 @@
+use Rattle.std.proofs.Common.{refl}
+use Rattle.rx_items.specs.Collecting.{way_of}
+use Rattle.rx_page.specs.Readers.{shown_read}
+use Rattle.rx_page.proofs.ReaderLemmas.{items_ended}
+use Rattle.rx_page.proofs.walks.ItemWalkPageReader.finish.Goals as goal
+
+pub returns : goal.returns
+returns c setting bytes s =
+    items_ended setting bytes c.finish.result (shown_read (way_of setting) bytes c.args.self.nest s.goes.signs s.goes.shown s.paid refl)
+    (c.finish.ensures.gives setting bytes s)

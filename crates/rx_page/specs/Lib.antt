@@ -1,0 +1,10 @@
+pub mod Settings
+pub mod Readers
+pub mod Texts
+pub mod Forms
+pub mod Tasks
+pub mod Outcomes
+pub mod Contexts
+pub mod JsonTexts
+pub mod Shaped
+pub mod Written
