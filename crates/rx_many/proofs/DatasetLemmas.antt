@@ -25,11 +25,12 @@ use Rattle.rx_nquads.proofs.Joining.{denotes_none, denotes_comment, denotes_line
 use Rattle.rx_many.specs.Dataset.{Gives, HasBlank, GivesQuad, DenotesPages}
 use Rattle.rx_many.specs.Lines.{Line, PageBlank, comment, statement, statement_at, at_place, lines_by, lines_of, lines_from, line_blanks, same_blank, table, rename_line, numbered_lines, same_line, kept_after, kept}
 use Rattle.rx_many.specs.Pages.{Page, Judgement, refused, accepted, accepted_page}
-use Rattle.rx_many.specs.Standing.{WritableComment, WritableLine, Keeps}
+use Rattle.rx_many.specs.Standing.{WritableComment, WritableLine, Spells}
 use Rattle.rx_many.specs.Writing.{comment_text, line_text}
 use Rattle.rx_grammar.specs.Kinds.{kind_name}
 use Rattle.rx_many.proofs.CommentLemmas.{names, ascii_decimal}
-use Rattle.rx_many.proofs.KeyLemmas.{exact_blanks, alike}
+use Rattle.rx_many.proofs.FreshLemmas.{contained}
+use Rattle.rx_many.proofs.KeyLemmas.{exact_blanks}
 
 -- ---- a line
 
@@ -83,10 +84,6 @@ texts_writable [] w = literally [] refl
 texts_writable (l ∷ lines) w = joined (text_writable l (w l (inl refl))) (texts_writable lines (λ m h. w m (inr h)))
 
 -- ---- what is kept is all that is stated
-
-contained : (lines : List (Line ℕ)) (x : Line ℕ) → contains same_line lines x ≡ true → Among lines x
-contained [] x h = absurd (true≢false (sym h))
-contained (y ∷ lines) x h = elim (or_cases (same_line y x) (contains same_line lines x) h) [ inl e ↦ inl (alike y x e) | inr k ↦ inr (contained lines x k) ]
 
 here_or_earlier : (earlier rest : List (Line ℕ)) (y : Line ℕ) → Among earlier y ⊎ Among ((if contains same_line earlier y then [] else y ∷ []) ++ rest) y
 here_or_earlier earlier rest y = go (contains same_line earlier y) refl
@@ -278,8 +275,8 @@ module _ (pages : List Page) where
           let s = Among_of_map (rename_line (place_in same_blank (table (lines_from 0 pages)))) (lines_from 0 pages) (statement name u) (kept_among [] (numbered_lines (lines_from 0 pages)) (statement name u) k) in
           given_of name u q s.0 s.1 s.2 e
 
-  pub denotes_pages : (text : List ℕ) (statements : List (Line ℕ)) → Keeps text statements (numbered_lines (lines_from 0 pages)) → DenotesPages (chars text) pages
-  denotes_pages text statements k =
+  pub denotes_pages : (text : List ℕ) → Spells text (numbered_lines (lines_from 0 pages)) → DenotesPages (chars text) pages
+  denotes_pages text k =
       let lines : List (Line ℕ) = kept (numbered_lines (lines_from 0 pages)) in
       let whole : Chars = flat_map line_text lines in
       let read : chars text ≡ whole = ap chars k.spelled ∙ chars-encodes whole (texts_writable lines k.writable).scalars in

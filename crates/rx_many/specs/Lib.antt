@@ -5,4 +5,5 @@ pub mod Numbering
 pub mod Dataset
 pub mod Rows
 pub mod Seen
+pub mod Names
 pub mod Standing

@@ -3,6 +3,7 @@ use Rattle.std.specs.Prelude.{◌≡◌, ℕ, ◌<◌, ◌^◌, true, false, Lis
 use Rattle.rx_terms.specs.Text.{Chars}
 use Rattle.rx_grammar.specs.declared.faults.Fault.{Fault}
 use Rattle.rx_model.specs.Sets.{Among, contains}
+use Rattle.rx_model.specs.Terms.{Triple}
 use Rattle.rx_pieces.specs.Writable.{WritableIri, WritableTriple}
 use Rattle.rx_many.specs.Lines.{Line, PageBlank, comment, statement, table, numbered_lines, same_line, kept}
 use Rattle.rx_many.specs.Writing.{line_text, text_of}
@@ -18,16 +19,20 @@ abbrev pub WritableLine : Line ℕ → Type 0
 WritableLine (comment address fault) = WritableComment address fault
 WritableLine (statement name t) = WritableTriple (Some name) t
 
--- the text is that of the lines, and these are the statements among them
-pub record Keeps (text : List ℕ) (statements lines : List (Line ℕ)) : Type 0 where
+-- the text is that of the lines
+pub record Spells (text : List ℕ) (lines : List (Line ℕ)) : Type 0 where
   pub spelled : text ≡ encode_utf8_all (text_of lines)
-  pub held : (line : Line ℕ) → contains same_line statements line ≡ contains same_line lines line
   pub writable : (line : Line ℕ) → Among (kept lines) line → WritableLine line
 
--- the document is that of these lines
-pub record DocumentStands (document : Document) (lines : List (Line PageBlank)) : Type 0 where
+-- these are the statements among the lines in graphs of names that several pages have
+abbrev pub Holds : List Chars → List (Line ℕ) → List (Line ℕ) → Type 0
+Holds shared statements lines = (name : Chars) (t : Triple ℕ) → Among shared name → contains same_line statements (statement name t) ≡ contains same_line lines (statement name t)
+
+-- the document is that of these lines, where these names are of several pages
+pub record DocumentStands (shared : List Chars) (document : Document) (lines : List (Line PageBlank)) : Type 0 where
   pub numbers : document.blanks ≡ table lines
-  pub keeps : Keeps document.text document.statements (numbered_lines lines)
+  pub spells : Spells document.text (numbered_lines lines)
+  pub holds : Holds shared document.statements (numbered_lines lines)
 
 -- the line was added at its end, where it isn't among them, and stands at this place
 pub record IsAdded (old : List (Line ℕ)) (line : Line ℕ) (new : List (Line ℕ)) (place : ℕ) : Type 0 where
@@ -39,9 +44,27 @@ pub record IsAdded (old : List (Line ℕ)) (line : Line ℕ) (new : List (Line �
 abbrev pub AddsWhereNew : List (Line ℕ) → Line ℕ → List (Line ℕ) → Option ℕ → Type 0
 AddsWhereNew old line new place = MatchOption place (contains same_line old line ≡ true) (λ i. IsAdded old line new i)
 
--- of whatever lines the document was, it is of these and those that were added
-abbrev pub AddsLines : {T E : Type 0} → Result T E → Document → Document → List (Line PageBlank) → Type 0
-AddsLines result old new more = (lines : List (Line PageBlank)) → DocumentStands old lines → OnOk result (DocumentStands new (lines ++ more))
+-- no line in the graph of this name is among those that stand before
+abbrev pub AreNewIn : Chars → List (Line PageBlank) → List (Line PageBlank) → Type 0
+AreNewIn name lines more = (t : Triple PageBlank) → Among more (statement name t) → Among lines (statement name t) → ⊥
+
+-- of whatever lines the document was, it is of these and those that were added, where those in graphs of one page are new
+abbrev pub AddsLines : {T E : Type 0} → Result T E → List Chars → Document → Document → List (Line PageBlank) → Type 0
+AddsLines result shared old new more = (lines : List (Line PageBlank)) → DocumentStands shared old lines → ((name : Chars) → (Among shared name → ⊥) → AreNewIn name lines more)
+    → OnOk result (DocumentStands shared new (lines ++ more))
+
+-- the same of a comment
+abbrev pub AddsComment : {T E : Type 0} → Result T E → Document → Document → List (Line PageBlank) → Type 0
+AddsComment result old new more = (shared : List Chars) (lines : List (Line PageBlank)) → DocumentStands shared old lines → OnOk result (DocumentStands shared new (lines ++ more))
+
+-- the same of lines in the graph of a name that several pages have
+abbrev pub AddsShared : {T E : Type 0} → Result T E → Chars → Document → Document → List (Line PageBlank) → Type 0
+AddsShared result name old new more = (shared : List Chars) (lines : List (Line PageBlank)) → DocumentStands shared old lines → Among shared name → OnOk result (DocumentStands shared new (lines ++ more))
+
+-- the same of new lines in the graph of a name that one page has
+abbrev pub AddsNew : {T E : Type 0} → Result T E → Chars → Document → Document → List (Line PageBlank) → Type 0
+AddsNew result name old new more = (shared : List Chars) (lines : List (Line PageBlank)) → DocumentStands shared old lines → (Among shared name → ⊥) → AreNewIn name lines more
+    → OnOk result (DocumentStands shared new (lines ++ more))
 
 -- the line's text was added
 pub record Writes (old : Document) (line : Line ℕ) (new : Document) : Type 0 where

@@ -1,12 +1,15 @@
 //! A document that is being written.
-ghost use Rattle.std.specs.Prelude.{◌≡◌, ◌<◌, ℕ, [], ◌∷◌, IfOk, OnOk, Some, length, map, slice_get};
+ghost use Rattle.std.specs.Prelude.{◌≡◌, ◌<◌, ℕ, List, [], ◌∷◌, IfOk, OnOk, Some, length, map, slice_get};
+ghost use Rattle.rx_terms.specs.Text.{Chars};
 ghost use Rattle.rx_model.specs.Seen.{triple_seen, triples_seen};
-ghost use Rattle.rx_many.specs.Lines.{Line, comment, statement_at, lines_of, lines_from};
+ghost use Rattle.rx_many.specs.Lines.{Line, comment, statement_at, lines_of, lines_from, numbered_lines};
 ghost use Rattle.rx_many.specs.Pages.{accepted_page};
 ghost use Rattle.rx_many.specs.Seen.{page_seen};
-ghost use Rattle.rx_many.specs.Standing.{AddsLines, DocumentStands, Writes};
+ghost use Rattle.rx_many.specs.Names.{AreApart};
+ghost use Rattle.rx_many.specs.Standing.{AddsComment, AddsLines, AddsNew, AddsShared, DocumentStands, Spells, Writes};
 
 use crate::blanks::Blanks;
+use crate::names::{is_shared, shared_names};
 use crate::pages::{Judgement, Page};
 use crate::refusals::comment_on;
 use crate::statements::{Statement, Statements};
@@ -15,9 +18,11 @@ use rx_graph::Graph;
 use rx_nquads::Lines;
 use rx_refs::without_fragment;
 use rx_terms::{Iri, NoMemory, Triple};
+use rx_unique::Unique;
 use std::alloc::Global;
 
-/// A document so far: its text, the numbers of its blank nodes, and what it states.
+/// A document so far: its text, the numbers of its blank nodes, and what it states in graphs that several pages have. What a
+/// page states in a graph of its own stands in no other line, since a page's graph has each triple once.
 #[derive(Drop)]
 pub(crate) struct Document {
     pub(crate) text: Lines,
@@ -27,11 +32,20 @@ pub(crate) struct Document {
 
 /// The document of the pages.
 pub(crate) fn document_of(alloc: Global, pages: &[Page]) -> Result<Document, NoMemory>
-    ensures { IfOk result (λ document. DocumentStands document (lines_from 0 (map page_seen pages.now))) }
+    ensures { IfOk result (λ document. Spells document.text (numbered_lines (lines_from 0 (map page_seen pages.now)))) }
+{
+    let shared = shared_names(alloc, pages)?;
+    document_by(alloc, pages, &shared)
+}
+
+/// The document of the pages, where these are the names that several of them have.
+fn document_by(alloc: Global, pages: &[Page], shared: &Unique<Iri>) -> Result<Document, NoMemory>
+    requires { AreApart shared.now pages.now }
+    ensures { IfOk result (λ document. DocumentStands shared.now document (lines_from 0 (map page_seen pages.now))) }
 {
     let mut document = Document::new(alloc)?;
     for i in 0..pages.len() {
-        let Ok(()) = document.put_page(alloc, i, &pages[i]) else {
+        let Ok(()) = document.put_page(alloc, i, &pages[i], shared) else {
             drop(document);
             return Err(NoMemory);
         };
@@ -41,7 +55,7 @@ pub(crate) fn document_of(alloc: Global, pages: &[Page]) -> Result<Document, NoM
 
 impl Document {
     fn new(alloc: Global) -> Result<Document, NoMemory>
-        ensures { IfOk result (λ document. DocumentStands document []) }
+        ensures { IfOk result (λ document. (shared : List Chars) → DocumentStands shared document []) }
     {
         let text = Lines::new(alloc)?;
         Ok(Document {
@@ -52,17 +66,29 @@ impl Document {
     }
 
     /// Adds the lines of the page at this place.
-    fn put_page(&mut self, alloc: Global, place: usize, page: &Page) -> Result<(), NoMemory>
-        ensures { AddsLines result self.old self.new (lines_of place (page_seen page.now)) }
+    fn put_page(
+        &mut self,
+        alloc: Global,
+        place: usize,
+        page: &Page,
+        shared: &Unique<Iri>,
+    ) -> Result<(), NoMemory>
+        ensures { AddsLines result shared.now self.old self.new (lines_of place (page_seen page.now)) }
     {
         match &page.judgement {
             Judgement::Refused(fault) => self.put_comment(alloc, &page.address, *fault),
-            Judgement::Accepted(graph) => self.put_graph(alloc, place, &page.address, graph),
+            Judgement::Accepted(graph) => self.put_graph(
+                alloc,
+                place,
+                &page.address,
+                graph,
+                shared,
+            ),
         }
     }
 
     fn put_comment(&mut self, alloc: Global, address: &Iri, fault: Fault) -> Result<(), NoMemory>
-        ensures { AddsLines result self.old self.new (comment address.now fault ∷ []) }
+        ensures { AddsComment result self.old self.new (comment address.now fault ∷ []) }
     {
         let line = comment_on(alloc, address, fault)?;
         let put = self.text.put_bytes(line.as_bytes());
@@ -77,16 +103,39 @@ impl Document {
         place: usize,
         address: &Iri,
         graph: &Graph,
+        shared: &Unique<Iri>,
     ) -> Result<(), NoMemory>
-        ensures { AddsLines result self.old self.new (lines_of place (accepted_page address.now (triples_seen graph.now))) }
+        ensures { AddsLines result shared.now self.old self.new (lines_of place (accepted_page address.now (triples_seen graph.now))) }
     {
         let name = without_fragment(alloc, address)?;
-        self.put_triples(place, &name, graph)
+        if is_shared(&name, shared) {
+            self.put_shared(place, &name, graph)
+        } else {
+            self.put_own(place, &name, graph)
+        }
     }
 
-    /// Adds the triples of the page at this place, in the graph of this name.
-    fn put_triples(&mut self, place: usize, name: &Iri, graph: &Graph) -> Result<(), NoMemory>
-        ensures { AddsLines result self.old self.new (map (statement_at place name.now) (triples_seen graph.now)) }
+    /// Adds the triples of the page at this place, in the graph of this name, which no page before it has.
+    fn put_own(&mut self, place: usize, name: &Iri, graph: &Graph) -> Result<(), NoMemory>
+        ensures { AddsNew result name.now self.old self.new (map (statement_at place name.now) (triples_seen graph.now)) }
+    {
+        for i in 0..graph.len() {
+            self.put_new(place, name, graph.at(i))?;
+        }
+        Ok(())
+    }
+
+    /// Adds the line of a triple of the page at this place, which no line states.
+    fn put_new(&mut self, place: usize, name: &Iri, triple: &Triple) -> Result<(), NoMemory>
+        ensures { AddsNew result name.now self.old self.new (statement_at place name.now (triple_seen triple.now) ∷ []) }
+    {
+        let triple = self.blanks.numbered(place, triple)?;
+        self.text.put(&triple, Some(name))
+    }
+
+    /// Adds the triples of the page at this place, in the graph of this name, which several pages have.
+    fn put_shared(&mut self, place: usize, name: &Iri, graph: &Graph) -> Result<(), NoMemory>
+        ensures { AddsShared result name.now self.old self.new (map (statement_at place name.now) (triples_seen graph.now)) }
     {
         for i in 0..graph.len() {
             self.put_triple(place, name, graph.at(i))?;
@@ -96,7 +145,7 @@ impl Document {
 
     /// Adds the line of a triple of the page at this place, where no earlier line states it.
     fn put_triple(&mut self, place: usize, name: &Iri, triple: &Triple) -> Result<(), NoMemory>
-        ensures { AddsLines result self.old self.new (statement_at place name.now (triple_seen triple.now) ∷ []) }
+        ensures { AddsShared result name.now self.old self.new (statement_at place name.now (triple_seen triple.now) ∷ []) }
     {
         let triple = self.blanks.numbered(place, triple)?;
         let name = name.try_clone()?;

@@ -1,0 +1,10 @@
+use Rattle.std.proofs.Common.{List, ◌++◌, map, take}
+use Rattle.rx_terms.specs.Text.{Chars}
+use Rattle.rx_model.specs.Sets.{Among}
+use Rattle.rx_model.specs.Seen.{triples_seen}
+use Rattle.rx_many.specs.Lines.{Line, PageBlank, statement_at}
+use Rattle.rx_many.specs.Standing.{DocumentStands}
+use Rattle.rx_many.proofs.documents.Document.put_shared.Given as goal
+
+abbrev pub invariant-loop-i : goal.invariant-loop-i
+invariant-loop-i l = (shared : List Chars) (lines : List (Line PageBlank)) → DocumentStands shared l.fn.self lines → Among shared l.name → DocumentStands shared l.self (lines ++ map (statement_at l.place l.name) (triples_seen (take l.i l.graph)))

@@ -1,8 +1,0 @@
-use Rattle.std.proofs.Common.{List, ◌++◌, map, take}
-use Rattle.rx_model.specs.Seen.{triples_seen}
-use Rattle.rx_many.specs.Lines.{Line, PageBlank, statement_at}
-use Rattle.rx_many.specs.Standing.{DocumentStands}
-use Rattle.rx_many.proofs.documents.Document.put_triples.Given as goal
-
-abbrev pub invariant-loop-i : goal.invariant-loop-i
-invariant-loop-i l = (lines : List (Line PageBlank)) → DocumentStands l.fn.self lines → DocumentStands l.self (lines ++ map (statement_at l.place l.name) (triples_seen (take l.i l.graph)))
