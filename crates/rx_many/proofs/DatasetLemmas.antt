@@ -31,6 +31,7 @@ use Rattle.rx_grammar.specs.Kinds.{kind_name}
 use Rattle.rx_many.proofs.CommentLemmas.{names, ascii_decimal}
 use Rattle.rx_many.proofs.FreshLemmas.{contained}
 use Rattle.rx_many.proofs.KeyLemmas.{exact_blanks}
+use Rattle.rx_many.proofs.PageLemmas.{twice}
 
 -- ---- a line
 
@@ -189,20 +190,9 @@ line_given start (page ∷ pages) name u m = go (Among_cases (lines_of start pag
     go (inl k) ih = first (line_here start page.address page.judgement name u k)
     go (inr k) ih = later (ih k)
 
--- ---- renaming twice
+-- ---- blank nodes that are renamed
 
-module _ (f : ℕ → PageBlank) (p : PageBlank → ℕ) where
-  node_twice : (n : Node ℕ) → rename_node p (rename_node f n) ≡ rename_node (λ b. p (f b)) n
-  node_twice (Iri iri) = refl
-  node_twice (Blank b) = refl
-
-  term_twice : (t : Term ℕ) → rename_term p (rename_term f t) ≡ rename_term (λ b. p (f b)) t
-  term_twice (Resource n) = ap Resource (node_twice n)
-  term_twice (Literal text kind) = refl
-
-  twice : (t : Triple ℕ) → rename p (rename f t) ≡ rename (λ b. p (f b)) t
-  twice t = let s = node_twice t.subject in let o = term_twice t.object in λ i. record { subject = s i; predicate = t.predicate; object = o i }
-
+module _ (f : ℕ → PageBlank) where
   node_blank : (n : Node ℕ) (b : ℕ) → Among (blank_of_node n) b → Among (blank_of_node (rename_node f n)) (f b)
   node_blank (Iri iri) b m = absurd m
   node_blank (Blank c) b (inl e) = inl (ap f e)
@@ -233,7 +223,7 @@ module _ (pages : List Page) where
   in_table place blank h =
       Among_distinct same_blank exact_blanks (flat_map line_blanks (lines_from 0 pages)) (at_place place blank)
       (Among_flat_map line_blanks (lines_from 0 pages) (statement_at place h.name h.triple) (at_place place blank) (stands_first place h.name h.triple h.gives)
-      (blank_renamed (at_place place) (place_in same_blank (table (lines_from 0 pages))) h.triple blank h.has))
+      (blank_renamed (at_place place) h.triple blank h.has))
 
   apart : (place blank other_place other : ℕ) → HasBlank pages place blank → HasBlank pages other_place other → name_of_blank place blank ≡ name_of_blank other_place other → (place ≡ other_place) × (blank ≡ other)
   unfolding name_of_blank

@@ -24,7 +24,7 @@ use Rattle.rx_many.specs.Writing.{line_text}
 use Rattle.rx_many.specs.declared.documents.Document.{Document}
 use Rattle.rx_many.specs.declared.pages.Page.{Page as CodePage}
 use Rattle.rx_many.proofs.KeyLemmas.{exact_blanks, alike}
-use Rattle.rx_many.proofs.LineLemmas.{numbers_stay, statement_now, stands_own}
+use Rattle.rx_many.proofs.LineLemmas.{numbers_stay}
 
 -- ---- what is renamed apart
 
@@ -164,25 +164,8 @@ lines_named start (page ∷ pages) name u m =
       | inr k ↦ inr (lines_named (suc start) pages name u k)
     ]
 
-pub page_new : (shared : List Chars) (pages : List CodePage) → AreApart shared pages → (i : ℕ) (page : CodePage) → slice_get pages i ≡ Some page
+pub page_is_new : (shared : List Chars) (pages : List CodePage) → AreApart shared pages → (i : ℕ) (page : CodePage) → slice_get pages i ≡ Some page
     → (name : Chars) → (Among shared name → ⊥) → AreNewIn name (lines_from 0 (map page_seen (take i pages))) (lines_of i (page_seen page))
-page_new shared pages apart i page at name own t m k =
+page_is_new shared pages apart i page at name own t m k =
     let named : name_of page ≡ name = line_named i page.address (page_seen page).judgement name t m in
     apart i page at (λ h. own (subst (λ (z : Chars). Among shared z) named h)) (subst (λ (z : Chars). Among (map name_of (take i pages)) z) (sym named) (lines_named 0 (take i pages) name t k))
-
--- ---- a statement in the graph of one page
-
-pub if_both : {A E P Q S : Type 0} (r : Result A E) → (P → Q → S) → OnOk r P → OnOk r Q → OnOk r S
-if_both (Ok a) f h k = f h k
-if_both (Err e) f h k = h
-
-pub own_statement : (shared : List Chars) (d new : Document) (lines : List (Line PageBlank)) → DocumentStands shared d lines → (place : ℕ) (name : Chars) (t u : Triple ℕ)
-    → new.blanks ≡ known same_blank d.blanks (blanks_of (rename (at_place place) t)) → u ≡ rename (place_in same_blank new.blanks) (rename (at_place place) t)
-    → (Among shared name → ⊥) → AreNewIn name lines (statement_at place name t ∷ [])
-    → new.text ≡ d.text ++ encode_utf8_all (line_text (statement name u)) → new.statements ≡ d.statements → WritableTriple (Some name) u
-    → DocumentStands shared new (lines ++ statement_at place name t ∷ [])
-own_statement shared d new lines s place name t u grows renamed own fresh e g w =
-    let lacks : contains same_line (numbered_lines lines) (statement name u) ≡ false =
-    ap (contains same_line (numbered_lines lines)) (statement_now shared d new lines s place name t u grows renamed)
-    ∙ still_new lines (statement_at place name t) (fresh (rename (at_place place) t) (inl refl)) in
-    stands_own shared d new lines s place name t u grows renamed own lacks e g w

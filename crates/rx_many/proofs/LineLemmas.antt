@@ -1,5 +1,5 @@
 -- A document that grows by one line.
-use Rattle.std.proofs.Common.{◌≡◌, ℕ, suc, zero, ◌+◌, Bool, true, false, ◌||◌, List, [], ◌∷◌, ◌++◌, map, flat_map, take, slice_get, Result, Ok, Err, OnOk, Some, refl, sym, ap, ap₂, ◌∙◌, inl, inr, subst, if◌then◌else◌, append_assoc, append-nil, arith}
+use Rattle.std.proofs.Common.{◌≡◌, ℕ, suc, zero, ◌+◌, Bool, true, false, ◌||◌, List, [], ◌∷◌, ◌++◌, map, flat_map, take, length, slice_get, Result, Ok, Err, OnOk, Some, refl, sym, ap, ap₂, ◌∙◌, inl, inr, subst, if◌then◌else◌, append_assoc, append-nil, arith}
 use Rattle.std.specs.Str.{encode_utf8_all}
 use Rattle.std.proofs.lemmas.Str.{encodes-append}
 use Rattle.std.proofs.lemmas.List.{map-append}
@@ -19,7 +19,7 @@ use Rattle.rx_many.specs.Numbering.{known}
 use Rattle.rx_refs.specs.Resolve.{without_fragment}
 use Rattle.rx_many.specs.Pages.{accepted_page}
 use Rattle.rx_many.specs.Seen.{page_seen}
-use Rattle.rx_many.specs.Standing.{WritableComment, WritableLine, Spells, Holds, DocumentStands}
+use Rattle.rx_many.specs.Standing.{WritableComment, WritableLine, Spells, Holds, Stands, DocumentStands, PageStands}
 use Rattle.rx_many.specs.Writing.{line_text, text_of}
 use Rattle.rx_many.specs.declared.documents.Document.{Document}
 use Rattle.rx_many.specs.declared.pages.Page.{Page as CodePage}
@@ -29,6 +29,10 @@ use Rattle.rx_many.proofs.KeyLemmas.{exact_blanks, alike}
 pub if_ok : {A E P Q : Type 0} (r : Result A E) → (P → Q) → OnOk r P → OnOk r Q
 if_ok (Ok a) f h = f h
 if_ok (Err e) f h = h
+
+pub if_both : {A E P Q S : Type 0} (r : Result A E) → (P → Q → S) → OnOk r P → OnOk r Q → OnOk r S
+if_both (Ok a) f h k = f h k
+if_both (Err e) f h k = h
 
 -- ---- tests of lists
 
@@ -154,40 +158,32 @@ numbered_more lines l =
 
 -- ---- one line more
 
-module _ (shared : List Chars) (d new : Document) (lines : List (Line PageBlank)) (s : DocumentStands shared d lines) where
-  pub stands_comment : (address : Chars) (fault : Fault) → new.text ≡ d.text ++ encode_utf8_all (line_text (comment address fault)) → new.blanks ≡ d.blanks → new.statements ≡ d.statements → WritableComment address fault
-      → DocumentStands shared new (lines ++ comment address fault ∷ [])
-  stands_comment address fault e f g w =
+module _ (shared : List Chars) (d new : Document) (lines : List (Line PageBlank)) (s : Stands shared d lines) where
+  comment_stands : (address : Chars) (fault : Fault) → new.text ≡ d.text ++ encode_utf8_all (line_text (comment address fault)) → new.statements ≡ d.statements → WritableComment address fault
+      → Stands shared new (lines ++ comment address fault ∷ [])
+  comment_stands address fault e g w =
       let l : Line PageBlank = comment address fault in
       let x : Line ℕ = comment address fault in
       let spells : Spells new.text (numbered_lines lines ++ x ∷ []) = spells_new d.text (numbered_lines lines) s.spells x new.text (no_comment (numbered_lines lines) address fault) e w in
       let holds : Holds shared d.statements (numbered_lines lines ++ x ∷ []) = holds_other shared d.statements (numbered_lines lines) s.holds x (λ name t m. refl) in
       record {
-        numbers = f ∙ s.numbers ∙ table_more lines l;
         spells = subst (λ (z : List (Line ℕ)). Spells new.text z) (numbered_more lines l) spells;
         holds = subst (λ (z : List (Line ℕ)). Holds shared new.statements z) (numbered_more lines l) (subst (λ (z : List (Line ℕ)). Holds shared z (numbered_lines lines ++ x ∷ [])) (sym g) holds);
       }
 
-  module _ (place : ℕ) (name : Chars) (t : Triple ℕ) (u : Triple ℕ) (grows : new.blanks ≡ known same_blank d.blanks (blanks_of (rename (at_place place) t)))
-      (renamed : u ≡ rename (place_in same_blank new.blanks) (rename (at_place place) t)) where
-    numbers_now : new.blanks ≡ table (lines ++ statement_at place name t ∷ [])
-    numbers_now = grows ∙ ap (λ z. known same_blank z (blanks_of (rename (at_place place) t))) s.numbers ∙ table_more lines (statement_at place name t)
-
-    pub statement_now : statement name u ≡ rename_line (place_in same_blank (table (lines ++ statement_at place name t ∷ []))) (statement_at place name t)
-    statement_now = ap (statement name) (renamed ∙ ap (λ z. rename (place_in same_blank z) (rename (at_place place) t)) numbers_now)
-
-    line_now : numbered_lines lines ++ statement name u ∷ [] ≡ numbered_lines (lines ++ statement_at place name t ∷ [])
-    line_now = ap (λ z. numbered_lines lines ++ z ∷ []) statement_now ∙ numbered_more lines (statement_at place name t)
+  -- a line whose blank nodes have the numbers that there are with it
+  module _ (l : Line PageBlank) (name : Chars) (u : Triple ℕ) (is : statement name u ≡ rename_line (place_in same_blank (table (lines ++ l ∷ []))) l) where
+    line_now : numbered_lines lines ++ statement name u ∷ [] ≡ numbered_lines (lines ++ l ∷ [])
+    line_now = ap (λ z. numbered_lines lines ++ z ∷ []) is ∙ numbered_more lines l
 
     stands_with : (text : List ℕ) (statements : List (Line ℕ)) → Spells text (numbered_lines lines ++ statement name u ∷ []) → Holds shared statements (numbered_lines lines ++ statement name u ∷ [])
-        → new.text ≡ text → new.statements ≡ statements → DocumentStands shared new (lines ++ statement_at place name t ∷ [])
+        → new.text ≡ text → new.statements ≡ statements → Stands shared new (lines ++ l ∷ [])
     stands_with text statements spells holds e g = record {
-      numbers = numbers_now;
       spells = subst (λ (z : List (Line ℕ)). Spells new.text z) line_now (subst (λ (z : List ℕ). Spells z (numbered_lines lines ++ statement name u ∷ [])) (sym e) spells);
       holds = subst (λ (z : List (Line ℕ)). Holds shared new.statements z) line_now (subst (λ (z : List (Line ℕ)). Holds shared z (numbered_lines lines ++ statement name u ∷ [])) (sym g) holds);
     }
 
-    pub stands_old : Among shared name → contains same_line d.statements (statement name u) ≡ true → new.text ≡ d.text → new.statements ≡ d.statements → DocumentStands shared new (lines ++ statement_at place name t ∷ [])
+    pub stands_old : Among shared name → contains same_line d.statements (statement name u) ≡ true → new.text ≡ d.text → new.statements ≡ d.statements → Stands shared new (lines ++ l ∷ [])
     stands_old m there e g =
         stands_with d.text d.statements
         (spells_old d.text (numbered_lines lines) s.spells (statement name u) (sym (s.holds name u m) ∙ there))
@@ -195,7 +191,7 @@ module _ (shared : List Chars) (d new : Document) (lines : List (Line PageBlank)
 
     pub stands_new : Among shared name → contains same_line d.statements (statement name u) ≡ false → new.text ≡ d.text ++ encode_utf8_all (line_text (statement name u))
         → new.statements ≡ (if contains same_line d.statements (statement name u) then d.statements else d.statements ++ statement name u ∷ []) → WritableTriple (Some name) u
-        → DocumentStands shared new (lines ++ statement_at place name t ∷ [])
+        → Stands shared new (lines ++ l ∷ [])
     stands_new m lacks e g w =
         let added : new.statements ≡ d.statements ++ statement name u ∷ [] = g ∙ ap (λ b. if b then d.statements else d.statements ++ statement name u ∷ []) lacks in
         stands_with new.text (d.statements ++ statement name u ∷ [])
@@ -204,16 +200,24 @@ module _ (shared : List Chars) (d new : Document) (lines : List (Line PageBlank)
 
     -- in the graph of one page
     pub stands_own : (Among shared name → ⊥) → contains same_line (numbered_lines lines) (statement name u) ≡ false → new.text ≡ d.text ++ encode_utf8_all (line_text (statement name u))
-        → new.statements ≡ d.statements → WritableTriple (Some name) u → DocumentStands shared new (lines ++ statement_at place name t ∷ [])
+        → new.statements ≡ d.statements → WritableTriple (Some name) u → Stands shared new (lines ++ l ∷ [])
     stands_own own lacks e g w =
         stands_with new.text d.statements
         (spells_new d.text (numbered_lines lines) s.spells (statement name u) new.text lacks e w)
         (holds_other shared d.statements (numbered_lines lines) s.holds (statement name u) (in_own shared name u own)) refl g
 
+pub stands_comment : (shared : List Chars) (d new : Document) (lines : List (Line PageBlank)) → DocumentStands shared d lines → (address : Chars) (fault : Fault)
+    → new.text ≡ d.text ++ encode_utf8_all (line_text (comment address fault)) → new.blanks ≡ d.blanks → new.statements ≡ d.statements → WritableComment address fault
+    → DocumentStands shared new (lines ++ comment address fault ∷ [])
+stands_comment shared d new lines s address fault e f g w = record {
+  counted = sym (ap length (table_more lines (comment address fault))) ∙ s.counted ∙ sym (ap (λ n. n.before + length n.here) f);
+  stands = comment_stands shared d new lines s.stands address fault e g w;
+}
+
 -- ---- the triples of a page, and the pages
 
-pub stands_none : {shared : List Chars} {d : Document} {lines : List (Line PageBlank)} → DocumentStands shared d lines → DocumentStands shared d (lines ++ [])
-stands_none {shared = shared} {d = d} {lines = lines} s = subst (λ (z : List (Line PageBlank)). DocumentStands shared d z) (sym (append-nil lines)) s
+pub page_begins : {shared : List Chars} {place : ℕ} {d : Document} {lines : List (Line PageBlank)} → PageStands shared place d lines → PageStands shared place d (lines ++ [])
+page_begins {shared = shared} {place = place} {d = d} {lines = lines} s = subst (λ (z : List (Line PageBlank)). PageStands shared place d z) (sym (append-nil lines)) s
 
 pub triples_more : (lines : List (Line PageBlank)) (place : ℕ) (name : Chars) (list : List CodeTriple) (i : ℕ) (t : CodeTriple) → slice_get list i ≡ Some t
     → (lines ++ map (statement_at place name) (triples_seen (take i list))) ++ statement_at place name (triple_seen t) ∷ [] ≡ lines ++ map (statement_at place name) (triples_seen (take (i + 1) list))
@@ -240,20 +244,3 @@ pages_more pages i page at =
     let here : i ≡ 0 + i = omega arith in
     let up : suc i ≡ i + 1 = omega arith in
     ap (λ n. lines_from 0 (map page_seen (take i pages)) ++ lines_of n (page_seen page)) here ∙ pages_on 0 pages i page at ∙ ap (λ n. lines_from 0 (map page_seen (take n pages))) up
-
--- the same where the name is at hand by another name
-module _ (shared : List Chars) (d new : Document) (lines : List (Line PageBlank)) (s : DocumentStands shared d lines) (place : ℕ) (name named : Chars) (m : Among shared name) (same : named ≡ name) (t u : Triple ℕ)
-    (grows : new.blanks ≡ known same_blank d.blanks (blanks_of (rename (at_place place) t))) (renamed : u ≡ rename (place_in same_blank new.blanks) (rename (at_place place) t)) where
-  pub old_statement : contains same_line d.statements (statement named u) ≡ true → new.text ≡ d.text → new.statements ≡ d.statements → DocumentStands shared new (lines ++ statement_at place name t ∷ [])
-  old_statement there e g = subst (λ (n : Chars). DocumentStands shared new (lines ++ statement_at place n t ∷ [])) same
-      (stands_old shared d new lines s place named t u grows renamed (subst (λ (n : Chars). Among shared n) (sym same) m) there e g)
-
-  pub new_statement : contains same_line d.statements (statement named u) ≡ false → new.text ≡ d.text ++ encode_utf8_all (line_text (statement named u))
-      → new.statements ≡ (if contains same_line d.statements (statement named u) then d.statements else d.statements ++ statement named u ∷ []) → WritableTriple (Some named) u
-      → DocumentStands shared new (lines ++ statement_at place name t ∷ [])
-  new_statement lacks e g w = subst (λ (n : Chars). DocumentStands shared new (lines ++ statement_at place n t ∷ [])) same
-      (stands_new shared d new lines s place named t u grows renamed (subst (λ (n : Chars). Among shared n) (sym same) m) lacks e g w)
-
-pub in_graph : (shared : List Chars) (new : Document) (lines : List (Line PageBlank)) (place : ℕ) (address name : Chars) (triples : List (Triple ℕ)) → name ≡ without_fragment address
-    → DocumentStands shared new (lines ++ map (statement_at place name) triples) → DocumentStands shared new (lines ++ lines_of place (accepted_page address triples))
-in_graph shared new lines place address name triples e s = subst (λ (n : Chars). DocumentStands shared new (lines ++ map (statement_at place n) triples)) e s

@@ -1,11 +1,13 @@
 -- A document of which some lines are there.
-use Rattle.std.specs.Prelude.{◌≡◌, ℕ, ◌<◌, ◌^◌, true, false, List, ◌++◌, length, slice_get, Option, Some, MatchOption, Result, OnOk, encode_utf8_all}
+use Rattle.std.specs.Prelude.{◌≡◌, ℕ, ◌<◌, ◌^◌, true, false, ◌+◌, List, ◌++◌, length, map, slice_get, Option, Some, MatchOption, Result, OnOk, encode_utf8_all}
 use Rattle.rx_terms.specs.Text.{Chars}
 use Rattle.rx_grammar.specs.declared.faults.Fault.{Fault}
 use Rattle.rx_model.specs.Sets.{Among, contains}
 use Rattle.rx_model.specs.Terms.{Triple}
 use Rattle.rx_pieces.specs.Writable.{WritableIri, WritableTriple}
-use Rattle.rx_many.specs.Lines.{Line, PageBlank, comment, statement, table, numbered_lines, same_line, kept}
+use Rattle.rx_many.specs.Lines.{Line, PageBlank, comment, statement, statement_at, at_place, same_blank, lines_of, table, numbered_lines, same_line, kept}
+use Rattle.rx_many.specs.Numbering.{Numbers}
+use Rattle.rx_many.specs.Pages.{Page}
 use Rattle.rx_many.specs.Writing.{line_text, text_of}
 use Rattle.rx_many.specs.declared.documents.Document.{Document}
 
@@ -28,11 +30,31 @@ pub record Spells (text : List ℕ) (lines : List (Line ℕ)) : Type 0 where
 abbrev pub Holds : List Chars → List (Line ℕ) → List (Line ℕ) → Type 0
 Holds shared statements lines = (name : Chars) (t : Triple ℕ) → Among shared name → contains same_line statements (statement name t) ≡ contains same_line lines (statement name t)
 
--- the document is that of these lines, where these names are of several pages
-pub record DocumentStands (shared : List Chars) (document : Document) (lines : List (Line PageBlank)) : Type 0 where
-  pub numbers : document.blanks ≡ table lines
+-- the document has the text of these lines, where these names are of several pages
+pub record Stands (shared : List Chars) (document : Document) (lines : List (Line PageBlank)) : Type 0 where
   pub spells : Spells document.text (numbered_lines lines)
   pub holds : Holds shared document.statements (numbered_lines lines)
+
+-- and their blank nodes are counted
+pub record DocumentStands (shared : List Chars) (document : Document) (lines : List (Line PageBlank)) : Type 0 where
+  pub counted : length (table lines) ≡ document.blanks.before + length document.blanks.here
+  pub stands : Stands shared document lines
+
+-- no blank node of these is of the page at the place
+abbrev pub AreBefore : ℕ → List PageBlank → Type 0
+AreBefore place blanks = (b : ℕ) → contains same_blank blanks (at_place place b) ≡ false
+
+-- the blank nodes of the page at the place come last in the table, in their order
+pub record ComeLast (place : ℕ) (numbers : Numbers) (blanks : List PageBlank) : Type 0 where
+  pub front : List PageBlank
+  pub is : blanks ≡ front ++ map (at_place place) numbers.here
+  pub count : length front ≡ numbers.before
+  pub apart : AreBefore place front
+
+-- the document is that of lines of which the last are of the page at the place
+pub record PageStands (shared : List Chars) (place : ℕ) (document : Document) (lines : List (Line PageBlank)) : Type 0 where
+  pub last : ComeLast place document.blanks (table lines)
+  pub stands : Stands shared document lines
 
 -- the line was added at its end, where it isn't among them, and stands at this place
 pub record IsAdded (old : List (Line ℕ)) (line : Line ℕ) (new : List (Line ℕ)) (place : ℕ) : Type 0 where
@@ -48,23 +70,25 @@ AddsWhereNew old line new place = MatchOption place (contains same_line old line
 abbrev pub AreNewIn : Chars → List (Line PageBlank) → List (Line PageBlank) → Type 0
 AreNewIn name lines more = (t : Triple PageBlank) → Among more (statement name t) → Among lines (statement name t) → ⊥
 
--- of whatever lines the document was, it is of these and those that were added, where those in graphs of one page are new
-abbrev pub AddsLines : {T E : Type 0} → Result T E → List Chars → Document → Document → List (Line PageBlank) → Type 0
-AddsLines result shared old new more = (lines : List (Line PageBlank)) → DocumentStands shared old lines → ((name : Chars) → (Among shared name → ⊥) → AreNewIn name lines more)
-    → OnOk result (DocumentStands shared new (lines ++ more))
+-- of whatever lines the document was, it is of these and those of the page that were added, where those in graphs of one page
+-- are new
+abbrev pub AddsPage : {T E : Type 0} → Result T E → List Chars → Document → Document → Page → Type 0
+AddsPage result shared old new page = (place : ℕ) (lines : List (Line PageBlank)) → DocumentStands shared old lines → AreBefore place (table lines)
+    → ((name : Chars) → (Among shared name → ⊥) → AreNewIn name lines (lines_of place page)) → OnOk result (DocumentStands shared new (lines ++ lines_of place page))
 
 -- the same of a comment
 abbrev pub AddsComment : {T E : Type 0} → Result T E → Document → Document → List (Line PageBlank) → Type 0
 AddsComment result old new more = (shared : List Chars) (lines : List (Line PageBlank)) → DocumentStands shared old lines → OnOk result (DocumentStands shared new (lines ++ more))
 
--- the same of lines in the graph of a name that several pages have
-abbrev pub AddsShared : {T E : Type 0} → Result T E → Chars → Document → Document → List (Line PageBlank) → Type 0
-AddsShared result name old new more = (shared : List Chars) (lines : List (Line PageBlank)) → DocumentStands shared old lines → Among shared name → OnOk result (DocumentStands shared new (lines ++ more))
+-- the same of triples of a page, in the graph of a name that several pages have
+abbrev pub AddsShared : {T E : Type 0} → Result T E → Chars → Document → Document → List (Triple ℕ) → Type 0
+AddsShared result name old new triples = (shared : List Chars) (place : ℕ) (lines : List (Line PageBlank)) → PageStands shared place old lines → Among shared name
+    → OnOk result (PageStands shared place new (lines ++ map (statement_at place name) triples))
 
--- the same of new lines in the graph of a name that one page has
-abbrev pub AddsNew : {T E : Type 0} → Result T E → Chars → Document → Document → List (Line PageBlank) → Type 0
-AddsNew result name old new more = (shared : List Chars) (lines : List (Line PageBlank)) → DocumentStands shared old lines → (Among shared name → ⊥) → AreNewIn name lines more
-    → OnOk result (DocumentStands shared new (lines ++ more))
+-- the same of triples that are new, in the graph of a name that one page has
+abbrev pub AddsNew : {T E : Type 0} → Result T E → Chars → Document → Document → List (Triple ℕ) → Type 0
+AddsNew result name old new triples = (shared : List Chars) (place : ℕ) (lines : List (Line PageBlank)) → PageStands shared place old lines → (Among shared name → ⊥)
+    → AreNewIn name lines (map (statement_at place name) triples) → OnOk result (PageStands shared place new (lines ++ map (statement_at place name) triples))
 
 -- the line's text was added
 pub record Writes (old : Document) (line : Line ℕ) (new : Document) : Type 0 where

@@ -2,11 +2,11 @@
 ghost use Rattle.std.specs.Prelude.{◌≡◌, ◌<◌, ℕ, List, [], ◌∷◌, IfOk, OnOk, Some, length, map, slice_get};
 ghost use Rattle.rx_terms.specs.Text.{Chars};
 ghost use Rattle.rx_model.specs.Seen.{triple_seen, triples_seen};
-ghost use Rattle.rx_many.specs.Lines.{Line, comment, statement_at, lines_of, lines_from, numbered_lines};
+ghost use Rattle.rx_many.specs.Lines.{Line, comment, lines_from, numbered_lines};
 ghost use Rattle.rx_many.specs.Pages.{accepted_page};
 ghost use Rattle.rx_many.specs.Seen.{page_seen};
 ghost use Rattle.rx_many.specs.Names.{AreApart};
-ghost use Rattle.rx_many.specs.Standing.{AddsComment, AddsLines, AddsNew, AddsShared, DocumentStands, Spells, Writes};
+ghost use Rattle.rx_many.specs.Standing.{AddsComment, AddsNew, AddsPage, AddsShared, DocumentStands, Spells, Writes};
 
 use crate::blanks::Blanks;
 use crate::names::{is_shared, shared_names};
@@ -45,7 +45,7 @@ fn document_by(alloc: Global, pages: &[Page], shared: &Unique<Iri>) -> Result<Do
 {
     let mut document = Document::new(alloc)?;
     for i in 0..pages.len() {
-        let Ok(()) = document.put_page(alloc, i, &pages[i], shared) else {
+        let Ok(()) = document.put_page(alloc, &pages[i], shared) else {
             drop(document);
             return Err(NoMemory);
         };
@@ -65,25 +65,13 @@ impl Document {
         })
     }
 
-    /// Adds the lines of the page at this place.
-    fn put_page(
-        &mut self,
-        alloc: Global,
-        place: usize,
-        page: &Page,
-        shared: &Unique<Iri>,
-    ) -> Result<(), NoMemory>
-        ensures { AddsLines result shared.now self.old self.new (lines_of place (page_seen page.now)) }
+    /// Adds the lines of the page, which comes behind those whose lines are there.
+    fn put_page(&mut self, alloc: Global, page: &Page, shared: &Unique<Iri>) -> Result<(), NoMemory>
+        ensures { AddsPage result shared.now self.old self.new (page_seen page.now) }
     {
         match &page.judgement {
             Judgement::Refused(fault) => self.put_comment(alloc, &page.address, *fault),
-            Judgement::Accepted(graph) => self.put_graph(
-                alloc,
-                place,
-                &page.address,
-                graph,
-                shared,
-            ),
+            Judgement::Accepted(graph) => self.put_graph(alloc, &page.address, graph, shared),
         }
     }
 
@@ -100,54 +88,54 @@ impl Document {
     fn put_graph(
         &mut self,
         alloc: Global,
-        place: usize,
         address: &Iri,
         graph: &Graph,
         shared: &Unique<Iri>,
     ) -> Result<(), NoMemory>
-        ensures { AddsLines result shared.now self.old self.new (lines_of place (accepted_page address.now (triples_seen graph.now))) }
+        ensures { AddsPage result shared.now self.old self.new (accepted_page address.now (triples_seen graph.now)) }
     {
+        self.blanks.turn(alloc)?;
         let name = without_fragment(alloc, address)?;
         if is_shared(&name, shared) {
-            self.put_shared(place, &name, graph)
+            self.put_shared(&name, graph)
         } else {
-            self.put_own(place, &name, graph)
+            self.put_own(&name, graph)
         }
     }
 
-    /// Adds the triples of the page at this place, in the graph of this name, which no page before it has.
-    fn put_own(&mut self, place: usize, name: &Iri, graph: &Graph) -> Result<(), NoMemory>
-        ensures { AddsNew result name.now self.old self.new (map (statement_at place name.now) (triples_seen graph.now)) }
+    /// Adds the triples of a page, in the graph of this name, which no page before it has.
+    fn put_own(&mut self, name: &Iri, graph: &Graph) -> Result<(), NoMemory>
+        ensures { AddsNew result name.now self.old self.new (triples_seen graph.now) }
     {
         for i in 0..graph.len() {
-            self.put_new(place, name, graph.at(i))?;
+            self.put_new(name, graph.at(i))?;
         }
         Ok(())
     }
 
-    /// Adds the line of a triple of the page at this place, which no line states.
-    fn put_new(&mut self, place: usize, name: &Iri, triple: &Triple) -> Result<(), NoMemory>
-        ensures { AddsNew result name.now self.old self.new (statement_at place name.now (triple_seen triple.now) ∷ []) }
+    /// Adds the line of a triple of the page, which no line states.
+    fn put_new(&mut self, name: &Iri, triple: &Triple) -> Result<(), NoMemory>
+        ensures { AddsNew result name.now self.old self.new (triple_seen triple.now ∷ []) }
     {
-        let triple = self.blanks.numbered(place, triple)?;
+        let triple = self.blanks.numbered(triple)?;
         self.text.put(&triple, Some(name))
     }
 
-    /// Adds the triples of the page at this place, in the graph of this name, which several pages have.
-    fn put_shared(&mut self, place: usize, name: &Iri, graph: &Graph) -> Result<(), NoMemory>
-        ensures { AddsShared result name.now self.old self.new (map (statement_at place name.now) (triples_seen graph.now)) }
+    /// Adds the triples of a page, in the graph of this name, which several pages have.
+    fn put_shared(&mut self, name: &Iri, graph: &Graph) -> Result<(), NoMemory>
+        ensures { AddsShared result name.now self.old self.new (triples_seen graph.now) }
     {
         for i in 0..graph.len() {
-            self.put_triple(place, name, graph.at(i))?;
+            self.put_triple(name, graph.at(i))?;
         }
         Ok(())
     }
 
-    /// Adds the line of a triple of the page at this place, where no earlier line states it.
-    fn put_triple(&mut self, place: usize, name: &Iri, triple: &Triple) -> Result<(), NoMemory>
-        ensures { AddsShared result name.now self.old self.new (statement_at place name.now (triple_seen triple.now) ∷ []) }
+    /// Adds the line of a triple of the page, where no earlier line states it.
+    fn put_triple(&mut self, name: &Iri, triple: &Triple) -> Result<(), NoMemory>
+        ensures { AddsShared result name.now self.old self.new (triple_seen triple.now ∷ []) }
     {
-        let triple = self.blanks.numbered(place, triple)?;
+        let triple = self.blanks.numbered(triple)?;
         let name = name.try_clone()?;
         match self.statements.add(Statement { name, triple })? {
             Some(place) => self.write(place),

@@ -1,11 +1,11 @@
-use Rattle.std.proofs.Common.{List, ◌++◌, map, take}
+use Rattle.std.proofs.Common.{ℕ, List, ◌++◌, map, take}
 use Rattle.rx_terms.specs.Text.{Chars}
 use Rattle.rx_model.specs.Sets.{Among}
 use Rattle.rx_model.specs.Seen.{triples_seen}
 use Rattle.rx_many.specs.Lines.{Line, PageBlank, statement_at}
-use Rattle.rx_many.specs.Standing.{AreNewIn, DocumentStands}
+use Rattle.rx_many.specs.Standing.{AreNewIn, PageStands}
 use Rattle.rx_many.proofs.documents.Document.put_own.Given as goal
 
 abbrev pub invariant-loop-i : goal.invariant-loop-i
-invariant-loop-i l = (shared : List Chars) (lines : List (Line PageBlank)) → DocumentStands shared l.fn.self lines → (Among shared l.name → ⊥) → AreNewIn l.name lines (map (statement_at l.place l.name) (triples_seen l.graph))
-    → DocumentStands shared l.self (lines ++ map (statement_at l.place l.name) (triples_seen (take l.i l.graph)))
+invariant-loop-i l = (shared : List Chars) (place : ℕ) (lines : List (Line PageBlank)) → PageStands shared place l.fn.self lines → (Among shared l.name → ⊥) → AreNewIn l.name lines (map (statement_at place l.name) (triples_seen l.graph))
+    → PageStands shared place l.self (lines ++ map (statement_at place l.name) (triples_seen (take l.i l.graph)))
