@@ -1,5 +1,5 @@
 -- What the document of several pages denotes.
-use Rattle.std.proofs.Common.{◌≡◌, ◌⊎◌, ℕ, zero, suc, ◌+◌, ◌<◌, ◌^◌, Bool, true, false, List, [], ◌∷◌, ◌++◌, flat_map, codes, Some, refl, sym, ap, ap₂, ◌∙◌, inl, inr, subst, true≢false, arith, if◌then◌else◌}
+use Rattle.std.proofs.Common.{◌≡◌, ◌⊎◌, ℕ, zero, suc, ◌+◌, ◌<◌, ◌^◌, Bool, true, false, List, [], ◌∷◌, ◌++◌, flat_map, codes, Some, refl, sym, ap, ap₂, ◌∙◌, inl, inr, subst, arith, if◌then◌else◌}
 use Rattle.std.specs.Str.{chars}
 use Rattle.std.specs.Fmt.{decimal}
 use Rattle.std.proofs.lemmas.Str.{chars-encodes}
@@ -12,7 +12,7 @@ use Rattle.rx_refs.specs.Resolve.{without_fragment}
 use Rattle.rx_model.specs.Sets.{Among, contains}
 use Rattle.rx_model.specs.Terms.{Node, Iri, Blank, Term, Resource, Literal, Triple}
 use Rattle.rx_model.specs.Numbered.{blank_of_node, blank_of_term, blanks_of, place_in, rename_node, rename_term, rename}
-use Rattle.rx_model.proofs.Sets.{or_cases, Among_cases, Among_left, Among_right, Among_map, Among_of_map, Among_flat_map, Among_of_flat_map, Among_distinct}
+use Rattle.rx_model.proofs.Sets.{Among_cases, Among_left, Among_right, Among_map, Among_of_map, Among_flat_map, Among_of_flat_map, Among_distinct}
 use Rattle.rx_model.proofs.Numbered.{place_tells}
 use Rattle.rx_pieces.specs.Writable.{WritableText}
 use Rattle.rx_pieces.proofs.Scalars.{joined, literally}

@@ -1,10 +1,8 @@
 -- What a page states in a graph of its own is in no line before.
-use Rattle.std.proofs.Common.{◌≡◌, ◌⊎◌, ℕ, zero, suc, ◌+◌, Bool, true, false, not, cond, List, [], ◌∷◌, ◌++◌, map, filter, flat_map, take, drop, slice_get, Some, Result, Ok, Err, OnOk, refl, sym, ap, ap₂, ◌∙◌, inl, inr, subst, true≢false, nat_eq, take-append-drop, append_assoc}
+use Rattle.std.proofs.Common.{◌≡◌, ℕ, zero, suc, ◌+◌, Bool, true, false, not, cond, List, [], ◌∷◌, ◌++◌, map, filter, flat_map, take, drop, slice_get, Some, refl, sym, ap, ap₂, ◌∙◌, inl, inr, subst, true≢false, nat_eq, take-append-drop, append_assoc}
 use Rattle.std.proofs.lemmas.List.{map-append}
 use Rattle.rx_terms.specs.Text.{Chars}
 use Rattle.rx_terms.specs.declared.triples.Triple.{Triple as CodeTriple}
-use Rattle.std.specs.Str.{encode_utf8_all}
-use Rattle.rx_pieces.specs.Writable.{WritableTriple}
 use Rattle.rx_refs.specs.Resolve.{without_fragment}
 use Rattle.rx_model.specs.Sets.{Among, IsExact, contains, distinct}
 use Rattle.rx_model.specs.Terms.{Node, Iri, Blank, Term, Resource, Literal, Triple, same_triple}
@@ -16,12 +14,9 @@ use Rattle.rx_model.proofs.Numbered.{place_tells}
 use Rattle.rx_graph.proofs.SetLemmas.{seen_more}
 use Rattle.rx_many.specs.Lines.{Line, PageBlank, comment, statement, statement_at, at_place, lines_by, lines_of, lines_from, line_blanks, same_blank, table, rename_line, same_line, numbered_lines}
 use Rattle.rx_many.specs.Names.{name_of, AreApart}
-use Rattle.rx_many.specs.Pages.{Judgement, refused, accepted, accepted_page}
+use Rattle.rx_many.specs.Pages.{Judgement, refused, accepted}
 use Rattle.rx_many.specs.Seen.{page_seen}
-use Rattle.rx_many.specs.Numbering.{known}
-use Rattle.rx_many.specs.Standing.{AreNewIn, DocumentStands}
-use Rattle.rx_many.specs.Writing.{line_text}
-use Rattle.rx_many.specs.declared.documents.Document.{Document}
+use Rattle.rx_many.specs.Standing.{AreNewIn}
 use Rattle.rx_many.specs.declared.pages.Page.{Page as CodePage}
 use Rattle.rx_many.proofs.KeyLemmas.{exact_blanks, alike}
 use Rattle.rx_many.proofs.LineLemmas.{numbers_stay}

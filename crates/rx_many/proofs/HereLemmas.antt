@@ -1,9 +1,9 @@
 -- Blank nodes of one page behind those of the pages before it.
-use Rattle.std.proofs.Common.{◌≡◌, ◌∙◌, ℕ, zero, suc, ◌+◌, ◌<◌, ◌≤◌, Bool, true, false, ◌||◌, ◌&&◌, List, [], ◌∷◌, ◌++◌, map, length, refl, sym, ap, ap₂, true≢false, if◌then◌else◌, nat_eq, arith, length-append, append_assoc, append-nil, cond, inl, inr, ⊎_elim}
+use Rattle.std.proofs.Common.{◌≡◌, ◌∙◌, ℕ, zero, suc, ◌+◌, ◌<◌, ◌≤◌, Bool, true, false, ◌||◌, ◌&&◌, List, [], ◌∷◌, ◌++◌, map, length, refl, sym, ap, ap₂, true≢false, if◌then◌else◌, nat_eq, arith, length-append, append_assoc, append-nil, cond, inl, ⊎_elim}
 use Rattle.std.proofs.lemmas.Bool.{cases_lt}
 use Rattle.std.proofs.lemmas.Bool.Decides.{nat_tests}
 use Rattle.std.proofs.lemmas.List.{map-append, length-map}
-use Rattle.rx_model.specs.Sets.{Among, contains}
+use Rattle.rx_model.specs.Sets.{contains}
 use Rattle.rx_model.specs.Numbered.{place_in, blank_of_node, rename_node}
 use Rattle.rx_model.proofs.Exact.{exact_numbers}
 use Rattle.rx_model.proofs.Sets.{Among-contains, Among_right}

@@ -8,16 +8,14 @@ use Rattle.rx_terms.specs.declared.triples.Triple.{Triple as CodeTriple}
 use Rattle.rx_grammar.specs.declared.faults.Fault.{Fault}
 use Rattle.rx_model.specs.Sets.{Among, contains, distinct}
 use Rattle.rx_model.specs.Terms.{Triple}
-use Rattle.rx_model.specs.Numbered.{rename, blanks_of, place_in}
+use Rattle.rx_model.specs.Numbered.{place_in}
 use Rattle.rx_model.specs.Seen.{triple_seen, triples_seen}
 use Rattle.rx_model.proofs.Sets.{Among_cases, Among_left, Among_right, false_unless}
 use Rattle.rx_graph.proofs.SetLemmas.{seen_more}
 use Rattle.rx_graph.proofs.NumberLemmas.{same_triple_by}
 use Rattle.rx_pieces.specs.Writable.{WritableTriple}
-use Rattle.rx_many.specs.Lines.{Line, PageBlank, comment, statement, statement_at, at_place, lines_of, lines_from, line_blanks, same_blank, table, rename_line, numbered_lines, same_line, kept_after, kept}
+use Rattle.rx_many.specs.Lines.{Line, PageBlank, comment, statement, statement_at, lines_of, lines_from, line_blanks, same_blank, table, rename_line, numbered_lines, same_line, kept_after, kept}
 use Rattle.rx_many.specs.Numbering.{known}
-use Rattle.rx_refs.specs.Resolve.{without_fragment}
-use Rattle.rx_many.specs.Pages.{accepted_page}
 use Rattle.rx_many.specs.Seen.{page_seen}
 use Rattle.rx_many.specs.Standing.{WritableComment, WritableLine, Spells, Holds, Stands, DocumentStands, PageStands}
 use Rattle.rx_many.specs.Writing.{line_text, text_of}

@@ -1,5 +1,5 @@
 -- Names that several pages have.
-use Rattle.std.proofs.Common.{◌≡◌, ◌⊎◌, ℕ, suc, ◌+◌, ◌<◌, ◌≤◌, Bool, true, false, not, ◌||◌, List, [], ◌∷◌, ◌++◌, map, take, length, slice_get, Some, refl, sym, ap, ◌∙◌, inl, inr, subst, true≢false, arith, rules, ⊎_elim, if◌then◌else◌}
+use Rattle.std.proofs.Common.{◌≡◌, ◌⊎◌, ℕ, ◌+◌, ◌<◌, ◌≤◌, Bool, true, false, not, ◌||◌, List, [], ◌∷◌, ◌++◌, map, take, length, slice_get, Some, refl, sym, ap, ◌∙◌, inl, inr, subst, true≢false, arith, rules, ⊎_elim, if◌then◌else◌}
 use Rattle.std.specs.List.{list_any}
 use Rattle.std.proofs.lemmas.Bool.{cases_lt}
 use Rattle.std.proofs.lemmas.List.{map-append}
@@ -72,9 +72,6 @@ noted_again seen shared more more_shared name e f = record {
 pub record NamesStand (seen shared : List Chars) (pages : List Page) (i : ℕ) : Type 0 where
   pub known : (name : Chars) → Among (map name_of (take i pages)) name → Among seen name
   pub apart : (k : ℕ) (page : Page) → k < i → slice_get pages k ≡ Some page → (Among shared (name_of page) → ⊥) → Among (map name_of (take k pages)) (name_of page) → ⊥
-
-pub no_names : (pages : List Page) → NamesStand [] [] pages 0
-no_names pages = record { known = λ name m. m; apart = λ k page h at own m. absurd (omega (arith, h)) }
 
 pub names_more : (seen shared more more_shared : List Chars) (pages : List Page) (i : ℕ) (page : Page) → NamesStand seen shared pages i → slice_get pages i ≡ Some page → Notes seen shared (name_of page) more more_shared
     → NamesStand more more_shared pages (i + 1)

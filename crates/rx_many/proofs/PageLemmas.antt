@@ -1,5 +1,5 @@
 -- The triples of one page, whose blank nodes come behind those of the pages before it.
-use Rattle.std.proofs.Common.{◌≡◌, ◌∙◌, ℕ, zero, suc, ◌+◌, ◌<◌, ◌≤◌, Bool, true, false, List, [], ◌∷◌, ◌++◌, map, flat_map, take, length, Some, Result, Ok, Err, OnOk, refl, sym, ap, ap₂, subst, inl, inr, arith, append-nil, length-append, if◌then◌else◌, nat_eq}
+use Rattle.std.proofs.Common.{◌≡◌, ◌∙◌, ℕ, zero, suc, ◌+◌, ◌<◌, ◌≤◌, true, false, List, [], ◌∷◌, ◌++◌, map, flat_map, take, length, Some, refl, sym, ap, ap₂, subst, inl, inr, arith, append-nil, length-append, if◌then◌else◌, nat_eq}
 use Rattle.std.specs.Str.{encode_utf8_all}
 use Rattle.std.proofs.lemmas.List.{map-append, length-map}
 use Rattle.rx_terms.specs.Text.{Chars}
