@@ -13,10 +13,10 @@ use Rattle.rx_model.proofs.Exact.{exact_numbers, exact_triples}
 use Rattle.rx_model.proofs.Numbered.{place_tells}
 use Rattle.rx_graph.proofs.SetLemmas.{seen_more}
 use Rattle.rx_many.specs.Lines.{Line, PageBlank, comment, statement, statement_at, at_place, lines_by, lines_of, lines_from, line_blanks, same_blank, table, rename_line, same_line, numbered_lines}
-use Rattle.rx_many.specs.Names.{name_of, AreApart}
+use Rattle.rx_many.specs.Names.{name_of}
 use Rattle.rx_many.specs.Pages.{Judgement, refused, accepted}
 use Rattle.rx_many.specs.Seen.{page_seen}
-use Rattle.rx_many.specs.Standing.{AreNewIn}
+use Rattle.rx_many.specs.Standing.{AreNew}
 use Rattle.rx_many.specs.declared.pages.Page.{Page as CodePage}
 use Rattle.rx_many.proofs.KeyLemmas.{exact_blanks, alike}
 use Rattle.rx_many.proofs.LineLemmas.{numbers_stay}
@@ -128,13 +128,13 @@ module _ (place : ℕ) (name : Chars) where
       (subst (λ (z : Triple ℕ). Among (triples_seen (take i list)) z) (same_statement s.0 (triple_seen t) s.2) s.1)
 
   -- where those of the page are new, the one at a place is new behind those before it
-  pub next_new : (lines : List (Line PageBlank)) (list : List CodeTriple) (i : ℕ) (t : CodeTriple) → slice_get list i ≡ Some t → distinct (same_triple nat_eq) (triples_seen list) ≡ triples_seen list
-      → AreNewIn name lines (map (statement_at place name) (triples_seen list))
-      → AreNewIn name (lines ++ map (statement_at place name) (triples_seen (take i list))) (statement_at place name (triple_seen t) ∷ [])
-  next_new lines list i t at once new u (inr m) k = m
-  next_new lines list i t at once new u (inl e) k =
-      elim (Among_cases lines (map (statement_at place name) (triples_seen (take i list))) (statement name u) k) [
-        | inl h ↦ new u (subst (λ (z : Line PageBlank). Among (map (statement_at place name) (triples_seen list)) z) e there) h
+  pub next_new : (shared : List Chars) (lines : List (Line PageBlank)) (list : List CodeTriple) (i : ℕ) (t : CodeTriple) → slice_get list i ≡ Some t
+      → distinct (same_triple nat_eq) (triples_seen list) ≡ triples_seen list → AreNew shared lines (map (statement_at place name) (triples_seen list))
+      → AreNew shared (lines ++ map (statement_at place name) (triples_seen (take i list))) (statement_at place name (triple_seen t) ∷ [])
+  next_new shared lines list i t at once new other u own (inr m) k = m
+  next_new shared lines list i t at once new other u own (inl e) k =
+      elim (Among_cases lines (map (statement_at place name) (triples_seen (take i list))) (statement other u) k) [
+        | inl h ↦ new other u own (subst (λ (z : Line PageBlank). Among (map (statement_at place name) (triples_seen list)) z) e there) h
         | inr h ↦ first_there list i t at once (subst (λ (z : Line PageBlank). Among (map (statement_at place name) (triples_seen (take i list))) z) (sym e) h)
       ]
     where
@@ -143,7 +143,7 @@ module _ (place : ℕ) (name : Chars) where
 
 -- ---- the pages
 
-line_named : (place : ℕ) (address : Chars) (judgement : Judgement) (name : Chars) (u : Triple PageBlank) → Among (lines_by place address judgement) (statement name u) → without_fragment address ≡ name
+pub line_named : (place : ℕ) (address : Chars) (judgement : Judgement) (name : Chars) (u : Triple PageBlank) → Among (lines_by place address judgement) (statement name u) → without_fragment address ≡ name
 line_named place address (refused fault) name u (inl e) = absurd (cc)
 line_named place address (refused fault) name u (inr n) = absurd n
 line_named place address (accepted triples) name u m =
@@ -151,16 +151,10 @@ line_named place address (accepted triples) name u m =
     let is : statement (without_fragment address) (rename (at_place place) s.0) ≡ statement name u = s.2 in
     cc
 
-lines_named : (start : ℕ) (pages : List CodePage) (name : Chars) (u : Triple PageBlank) → Among (lines_from start (map page_seen pages)) (statement name u) → Among (map name_of pages) name
+pub lines_named : (start : ℕ) (pages : List CodePage) (name : Chars) (u : Triple PageBlank) → Among (lines_from start (map page_seen pages)) (statement name u) → Among (map name_of pages) name
 lines_named start [] name u m = m
 lines_named start (page ∷ pages) name u m =
     elim (Among_cases (lines_of start (page_seen page)) (lines_from (suc start) (map page_seen pages)) (statement name u) m) [
       | inl h ↦ inl (line_named start page.address (page_seen page).judgement name u h)
       | inr k ↦ inr (lines_named (suc start) pages name u k)
     ]
-
-pub page_is_new : (shared : List Chars) (pages : List CodePage) → AreApart shared pages → (i : ℕ) (page : CodePage) → slice_get pages i ≡ Some page
-    → (name : Chars) → (Among shared name → ⊥) → AreNewIn name (lines_from 0 (map page_seen (take i pages))) (lines_of i (page_seen page))
-page_is_new shared pages apart i page at name own t m k =
-    let named : name_of page ≡ name = line_named i page.address (page_seen page).judgement name t m in
-    apart i page at (λ h. own (subst (λ (z : Chars). Among shared z) named h)) (subst (λ (z : Chars). Among (map name_of (take i pages)) z) (sym named) (lines_named 0 (take i pages) name t k))

@@ -14,6 +14,7 @@ use Rattle.rx_model.proofs.Sets.{Among_cases, Among_left, Among_right, false_unl
 use Rattle.rx_graph.proofs.SetLemmas.{seen_more}
 use Rattle.rx_graph.proofs.NumberLemmas.{same_triple_by}
 use Rattle.rx_pieces.specs.Writable.{WritableTriple}
+use Rattle.rx_many.specs.Blank.{has_blank}
 use Rattle.rx_many.specs.Lines.{Line, PageBlank, comment, statement, statement_at, lines_of, lines_from, line_blanks, same_blank, table, rename_line, numbered_lines, same_line, kept_after, kept}
 use Rattle.rx_many.specs.Numbering.{known}
 use Rattle.rx_many.specs.Seen.{page_seen}
@@ -94,29 +95,32 @@ module _ (text : List ℕ) (lines : List (Line ℕ)) (k : Spells text lines) (x 
 
 module _ (shared : List Chars) (statements lines : List (Line ℕ)) (k : Holds shared statements lines) (x : Line ℕ) where
   holds_old : contains same_line statements x ≡ true → Holds shared statements (lines ++ x ∷ [])
-  holds_old there name t m = go (same_line x (statement name t)) refl ∙ sym (contains_both same_line lines (x ∷ []) (statement name t))
+  holds_old there name t m n = go (same_line x (statement name t)) refl ∙ sym (contains_both same_line lines (x ∷ []) (statement name t))
     where
       go : (b : Bool) → same_line x (statement name t) ≡ b → contains same_line statements (statement name t) ≡ (contains same_line lines (statement name t) || (same_line x (statement name t) || false))
       go true e =
           let is : x ≡ statement name t = alike x (statement name t) e in
           ap (contains same_line statements) (sym is) ∙ there ∙ sym (ap (λ b. contains same_line lines (statement name t) || (b || false)) e ∙ or_true (contains same_line lines (statement name t)))
-      go false e = k name t m ∙ sym (ap (λ b. contains same_line lines (statement name t) || (b || false)) e ∙ or_false (contains same_line lines (statement name t)))
+      go false e = k name t m n ∙ sym (ap (λ b. contains same_line lines (statement name t) || (b || false)) e ∙ or_false (contains same_line lines (statement name t)))
 
   holds_new : Holds shared (statements ++ x ∷ []) (lines ++ x ∷ [])
-  holds_new name t m =
-      contains_both same_line statements (x ∷ []) (statement name t) ∙ ap (λ b. b || (same_line x (statement name t) || false)) (k name t m)
+  holds_new name t m n =
+      contains_both same_line statements (x ∷ []) (statement name t) ∙ ap (λ b. b || (same_line x (statement name t) || false)) (k name t m n)
       ∙ sym (contains_both same_line lines (x ∷ []) (statement name t))
 
   -- it is in none of these graphs
-  holds_other : ((name : Chars) (t : Triple ℕ) → Among shared name → same_line x (statement name t) ≡ false) → Holds shared statements (lines ++ x ∷ [])
-  holds_other other name t m =
-      k name t m
-      ∙ sym (contains_both same_line lines (x ∷ []) (statement name t) ∙ ap (λ b. contains same_line lines (statement name t) || (b || false)) (other name t m) ∙ or_false (contains same_line lines (statement name t)))
+  holds_other : ((name : Chars) (t : Triple ℕ) → Among shared name → has_blank t ≡ false → same_line x (statement name t) ≡ false) → Holds shared statements (lines ++ x ∷ [])
+  holds_other other name t m n =
+      k name t m n
+      ∙ sym (contains_both same_line lines (x ∷ []) (statement name t) ∙ ap (λ b. contains same_line lines (statement name t) || (b || false)) (other name t m n) ∙ or_false (contains same_line lines (statement name t)))
 
-in_own : (shared : List Chars) (name : Chars) (u : Triple ℕ) → (Among shared name → ⊥) → (other : Chars) (t : Triple ℕ) → Among shared other → same_line (statement name u) (statement other t) ≡ false
-in_own shared name u own other t m = false_unless (same_line (statement name u) (statement other t))
+in_own : (shared : List Chars) (name : Chars) (u : Triple ℕ) → (Among shared name → has_blank u ≡ false → ⊥) → (other : Chars) (t : Triple ℕ) → Among shared other → has_blank t ≡ false
+    → same_line (statement name u) (statement other t) ≡ false
+in_own shared name u own other t m n = false_unless (same_line (statement name u) (statement other t))
     (λ h. let is : statement name u ≡ statement other t = alike (statement name u) (statement other t) h in
-    own (subst (λ (z : Chars). Among shared z) (let same : other ≡ name = cc in same) m))
+    let names : other ≡ name = cc in
+    let triples : t ≡ u = cc in
+    own (subst (λ (z : Chars). Among shared z) names m) (ap has_blank (sym triples) ∙ n))
 
 -- no line is the same as a comment
 no_comment : (lines : List (Line ℕ)) (address : Chars) (fault : Fault) → contains same_line lines (comment address fault) ≡ false
@@ -163,7 +167,7 @@ module _ (shared : List Chars) (d new : Document) (lines : List (Line PageBlank)
       let l : Line PageBlank = comment address fault in
       let x : Line ℕ = comment address fault in
       let spells : Spells new.text (numbered_lines lines ++ x ∷ []) = spells_new d.text (numbered_lines lines) s.spells x new.text (no_comment (numbered_lines lines) address fault) e w in
-      let holds : Holds shared d.statements (numbered_lines lines ++ x ∷ []) = holds_other shared d.statements (numbered_lines lines) s.holds x (λ name t m. refl) in
+      let holds : Holds shared d.statements (numbered_lines lines ++ x ∷ []) = holds_other shared d.statements (numbered_lines lines) s.holds x (λ name t m n. refl) in
       record {
         spells = subst (λ (z : List (Line ℕ)). Spells new.text z) (numbered_more lines l) spells;
         holds = subst (λ (z : List (Line ℕ)). Holds shared new.statements z) (numbered_more lines l) (subst (λ (z : List (Line ℕ)). Holds shared z (numbered_lines lines ++ x ∷ [])) (sym g) holds);
@@ -181,23 +185,23 @@ module _ (shared : List Chars) (d new : Document) (lines : List (Line PageBlank)
       holds = subst (λ (z : List (Line ℕ)). Holds shared new.statements z) line_now (subst (λ (z : List (Line ℕ)). Holds shared z (numbered_lines lines ++ statement name u ∷ [])) (sym g) holds);
     }
 
-    pub stands_old : Among shared name → contains same_line d.statements (statement name u) ≡ true → new.text ≡ d.text → new.statements ≡ d.statements → Stands shared new (lines ++ l ∷ [])
-    stands_old m there e g =
+    pub stands_old : Among shared name → has_blank u ≡ false → contains same_line d.statements (statement name u) ≡ true → new.text ≡ d.text → new.statements ≡ d.statements → Stands shared new (lines ++ l ∷ [])
+    stands_old m n there e g =
         stands_with d.text d.statements
-        (spells_old d.text (numbered_lines lines) s.spells (statement name u) (sym (s.holds name u m) ∙ there))
+        (spells_old d.text (numbered_lines lines) s.spells (statement name u) (sym (s.holds name u m n) ∙ there))
         (holds_old shared d.statements (numbered_lines lines) s.holds (statement name u) there) e g
 
-    pub stands_new : Among shared name → contains same_line d.statements (statement name u) ≡ false → new.text ≡ d.text ++ encode_utf8_all (line_text (statement name u))
+    pub stands_new : Among shared name → has_blank u ≡ false → contains same_line d.statements (statement name u) ≡ false → new.text ≡ d.text ++ encode_utf8_all (line_text (statement name u))
         → new.statements ≡ (if contains same_line d.statements (statement name u) then d.statements else d.statements ++ statement name u ∷ []) → WritableTriple (Some name) u
         → Stands shared new (lines ++ l ∷ [])
-    stands_new m lacks e g w =
+    stands_new m n lacks e g w =
         let added : new.statements ≡ d.statements ++ statement name u ∷ [] = g ∙ ap (λ b. if b then d.statements else d.statements ++ statement name u ∷ []) lacks in
         stands_with new.text (d.statements ++ statement name u ∷ [])
-        (spells_new d.text (numbered_lines lines) s.spells (statement name u) new.text (sym (s.holds name u m) ∙ lacks) e w)
+        (spells_new d.text (numbered_lines lines) s.spells (statement name u) new.text (sym (s.holds name u m n) ∙ lacks) e w)
         (holds_new shared d.statements (numbered_lines lines) s.holds (statement name u)) refl added
 
     -- in the graph of one page
-    pub stands_own : (Among shared name → ⊥) → contains same_line (numbered_lines lines) (statement name u) ≡ false → new.text ≡ d.text ++ encode_utf8_all (line_text (statement name u))
+    pub stands_own : (Among shared name → has_blank u ≡ false → ⊥) → contains same_line (numbered_lines lines) (statement name u) ≡ false → new.text ≡ d.text ++ encode_utf8_all (line_text (statement name u))
         → new.statements ≡ d.statements → WritableTriple (Some name) u → Stands shared new (lines ++ l ∷ [])
     stands_own own lacks e g w =
         stands_with new.text d.statements

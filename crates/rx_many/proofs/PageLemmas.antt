@@ -1,5 +1,5 @@
 -- The triples of one page, whose blank nodes come behind those of the pages before it.
-use Rattle.std.proofs.Common.{◌≡◌, ◌∙◌, ℕ, zero, suc, ◌+◌, ◌<◌, ◌≤◌, true, false, List, [], ◌∷◌, ◌++◌, map, flat_map, take, length, Some, refl, sym, ap, ap₂, subst, inl, inr, arith, append-nil, length-append, if◌then◌else◌, nat_eq}
+use Rattle.std.proofs.Common.{◌≡◌, ◌∙◌, ℕ, zero, suc, ◌+◌, ◌<◌, ◌≤◌, true, false, List, [], ◌∷◌, ◌++◌, map, flat_map, take, length, Some, refl, sym, ap, ap₂, subst, inl, inr, arith, append-nil, length-append, if◌then◌else◌, nat_eq, ◌||◌, ◌&&◌, true≢false, Bool, not, slice_get}
 use Rattle.std.specs.Str.{encode_utf8_all}
 use Rattle.std.proofs.lemmas.List.{map-append, length-map}
 use Rattle.rx_terms.specs.Text.{Chars}
@@ -7,18 +7,20 @@ use Rattle.rx_refs.specs.Resolve.{without_fragment}
 use Rattle.rx_model.specs.Sets.{Among, contains}
 use Rattle.rx_model.specs.Terms.{Node, Iri, Blank, Term, Resource, Literal, Triple}
 use Rattle.rx_model.specs.Numbered.{blank_of_node, blank_of_term, blanks_of, place_in, rename_node, rename_term, rename}
-use Rattle.rx_model.proofs.Sets.{false_unless, Among_cases, Among_of_map, Among_flat_map, Among_of_flat_map, Among_of_distinct, Among_by_contains}
+use Rattle.rx_model.proofs.Sets.{or_cases, and_left, and_right, and_both, not_true, Among_left, Among_right, false_unless, Among_cases, Among_of_map, Among_flat_map, Among_of_flat_map, Among_of_distinct, Among_by_contains}
 use Rattle.rx_graph.proofs.NumberLemmas.{same_triple_by}
 use Rattle.rx_pieces.specs.Writable.{WritableTriple}
+use Rattle.rx_many.specs.Blank.{has_blank, is_blank_node, is_blank_term}
+use Rattle.rx_many.specs.Names.{name_of, AreApart}
 use Rattle.rx_many.specs.Lines.{Line, PageBlank, statement, statement_at, at_place, line_blanks, lines_by, lines_of, lines_from, same_blank, same_line, table, rename_line, numbered_lines}
 use Rattle.rx_many.specs.Numbering.{Numbers, known, number_at}
 use Rattle.rx_many.specs.Pages.{Judgement, refused, accepted, accepted_page}
 use Rattle.rx_many.specs.Seen.{page_seen}
 use Rattle.rx_many.specs.declared.pages.Page.{Page as CodePage}
-use Rattle.rx_many.specs.Standing.{AreBefore, AreNewIn, ComeLast, DocumentStands, PageStands, Stands}
+use Rattle.rx_many.specs.Standing.{AreBefore, AreNew, ComeLast, DocumentStands, PageStands, Stands, Tells}
 use Rattle.rx_many.specs.Writing.{line_text}
 use Rattle.rx_many.specs.declared.documents.Document.{Document}
-use Rattle.rx_many.proofs.FreshLemmas.{still_new}
+use Rattle.rx_many.proofs.FreshLemmas.{still_new, line_named, lines_named}
 use Rattle.rx_many.proofs.KeyLemmas.{exact_blanks}
 use Rattle.rx_many.proofs.HereLemmas.{known_here, number_here}
 use Rattle.rx_many.proofs.LineLemmas.{table_more, stands_old, stands_new, stands_own}
@@ -48,6 +50,45 @@ module _ (f : ℕ → PageBlank) (p : PageBlank → ℕ) where
 
   pub twice : (t : Triple ℕ) → rename p (rename f t) ≡ rename (λ b. p (f b)) t
   twice t = let s = node_twice t.subject in let o = term_twice t.object in λ i. record { subject = s i; predicate = t.predicate; object = o i }
+
+-- ---- triples with a blank node
+
+module _ {A B : Type 0} (to : A → B) where
+  node_same : (n : Node A) → is_blank_node (rename_node to n) ≡ is_blank_node n
+  node_same (Iri iri) = refl
+  node_same (Blank b) = refl
+
+  term_same : (t : Term A) → is_blank_term (rename_term to t) ≡ is_blank_term t
+  term_same (Resource n) = node_same n
+  term_same (Literal lexical kind) = refl
+
+  pub same_blanks : (t : Triple A) → has_blank (rename to t) ≡ has_blank t
+  same_blanks t = ap₂ ◌||◌ (node_same t.subject) (term_same t.object)
+
+node_blank : {A : Type 0} (n : Node A) → is_blank_node n ≡ true → (b : A) × Among (blank_of_node n) b
+node_blank (Iri iri) e = absurd (true≢false (sym e))
+node_blank (Blank b) e = (b, inl refl)
+
+term_blank : {A : Type 0} (t : Term A) → is_blank_term t ≡ true → (b : A) × Among (blank_of_term t) b
+term_blank (Resource n) e = node_blank n e
+term_blank (Literal lexical kind) e = absurd (true≢false (sym e))
+
+its_blank : {A : Type 0} (t : Triple A) → has_blank t ≡ true → (b : A) × Among (blanks_of t) b
+its_blank t e = elim (or_cases (is_blank_node t.subject) (is_blank_term t.object) e) [
+  | inl h ↦ (let b = node_blank t.subject h in (b.0, Among_left (blank_of_node t.subject) (blank_of_term t.object) b.0 b.1))
+  | inr h ↦ (let b = term_blank t.object h in (b.0, Among_right (blank_of_node t.subject) (blank_of_term t.object) b.0 b.1))
+]
+
+-- whether several pages may state it
+pub repeats : (is_shared blank : Bool) → (is_shared && not blank) ≡ true → (is_shared ≡ true) × (blank ≡ false)
+repeats is_shared blank e = (and_left is_shared (not blank) e, not_true blank (and_right is_shared (not blank) e))
+
+pub repeats_not : (is_shared : Bool) (t : Triple ℕ) (shared : List Chars) (name : Chars) → Tells is_shared shared name → (is_shared && not (has_blank t)) ≡ false → Among shared name → has_blank t ≡ false → ⊥
+repeats_not is_shared t shared name tells e m n = go is_shared refl
+  where
+    go : (b : Bool) → is_shared ≡ b → ⊥
+    go true y = true≢false (sym (and_both is_shared (not (has_blank t)) y (ap not n)) ∙ e)
+    go false y = tells.no y m
 
 -- ---- one triple more
 
@@ -82,36 +123,39 @@ module _ (shared : List Chars) (place : ℕ) (d new : Document) (lines : List (L
   is_line : statement name u ≡ rename_line (place_in same_blank (table (lines ++ statement_at place name t ∷ []))) (statement_at place name t)
   is_line = numbered_here place name t lines d.blanks new.blanks s.last stays grows u renamed
 
+  as_before : has_blank u ≡ has_blank t
+  as_before = ap has_blank renamed ∙ same_blanks (number_at new.blanks) t
+
   -- it is stated in a line before
-  page_old : Among shared name → contains same_line d.statements (statement name u) ≡ true → new.text ≡ d.text → new.statements ≡ d.statements → PageStands shared place new (lines ++ statement_at place name t ∷ [])
-  page_old m there e g = with_last (stands_old shared d new lines s.stands (statement_at place name t) name u is_line m there e g)
+  page_old : Among shared name → has_blank t ≡ false → contains same_line d.statements (statement name u) ≡ true → new.text ≡ d.text → new.statements ≡ d.statements
+      → PageStands shared place new (lines ++ statement_at place name t ∷ [])
+  page_old m n there e g = with_last (stands_old shared d new lines s.stands (statement_at place name t) name u is_line m (as_before ∙ n) there e g)
 
   -- it isn't
-  page_new : Among shared name → contains same_line d.statements (statement name u) ≡ false → new.text ≡ d.text ++ encode_utf8_all (line_text (statement name u))
+  page_new : Among shared name → has_blank t ≡ false → contains same_line d.statements (statement name u) ≡ false → new.text ≡ d.text ++ encode_utf8_all (line_text (statement name u))
       → new.statements ≡ (if contains same_line d.statements (statement name u) then d.statements else d.statements ++ statement name u ∷ []) → WritableTriple (Some name) u
       → PageStands shared place new (lines ++ statement_at place name t ∷ [])
-  page_new m lacks e g w = with_last (stands_new shared d new lines s.stands (statement_at place name t) name u is_line m lacks e g w)
+  page_new m n lacks e g w = with_last (stands_new shared d new lines s.stands (statement_at place name t) name u is_line m (as_before ∙ n) lacks e g w)
 
-  -- it is in the graph of one page
-  pub own_statement : (Among shared name → ⊥) → AreNewIn name lines (statement_at place name t ∷ []) → new.text ≡ d.text ++ encode_utf8_all (line_text (statement name u)) → new.statements ≡ d.statements → WritableTriple (Some name) u
-      → PageStands shared place new (lines ++ statement_at place name t ∷ [])
+  -- no other page states it
+  pub own_statement : (Among shared name → has_blank t ≡ false → ⊥) → (Among lines (statement_at place name t) → ⊥) → new.text ≡ d.text ++ encode_utf8_all (line_text (statement name u))
+      → new.statements ≡ d.statements → WritableTriple (Some name) u → PageStands shared place new (lines ++ statement_at place name t ∷ [])
   own_statement own fresh e g w =
-      let lacks : contains same_line (numbered_lines lines) (statement name u) ≡ false =
-      ap (contains same_line (numbered_lines lines)) is_line ∙ still_new lines (statement_at place name t) (fresh (rename (at_place place) t) (inl refl)) in
-      with_last (stands_own shared d new lines s.stands (statement_at place name t) name u is_line own lacks e g w)
+      let lacks : contains same_line (numbered_lines lines) (statement name u) ≡ false = ap (contains same_line (numbered_lines lines)) is_line ∙ still_new lines (statement_at place name t) fresh in
+      with_last (stands_own shared d new lines s.stands (statement_at place name t) name u is_line (λ m n. own m (sym as_before ∙ n)) lacks e g w)
 
 -- the same of the first two where the name is at hand by another name
-module _ (shared : List Chars) (place : ℕ) (d new : Document) (lines : List (Line PageBlank)) (s : PageStands shared place d lines) (name named : Chars) (same : named ≡ name) (m : Among shared name) (t u : Triple ℕ)
+module _ (shared : List Chars) (place : ℕ) (d new : Document) (lines : List (Line PageBlank)) (s : PageStands shared place d lines) (name named : Chars) (same : named ≡ name) (m : Among shared name) (t u : Triple ℕ) (n : has_blank t ≡ false)
     (stays : new.blanks.before ≡ d.blanks.before) (grows : new.blanks.here ≡ known nat_eq d.blanks.here (blanks_of t)) (renamed : u ≡ rename (number_at new.blanks) t) where
   pub old_statement : contains same_line d.statements (statement named u) ≡ true → new.text ≡ d.text → new.statements ≡ d.statements → PageStands shared place new (lines ++ statement_at place name t ∷ [])
-  old_statement there e g = subst (λ (n : Chars). PageStands shared place new (lines ++ statement_at place n t ∷ [])) same
-      (page_old shared place d new lines s named t u stays grows renamed (subst (λ (n : Chars). Among shared n) (sym same) m) there e g)
+  old_statement there e g = subst (λ (z : Chars). PageStands shared place new (lines ++ statement_at place z t ∷ [])) same
+      (page_old shared place d new lines s named t u stays grows renamed (subst (λ (z : Chars). Among shared z) (sym same) m) n there e g)
 
   pub new_statement : contains same_line d.statements (statement named u) ≡ false → new.text ≡ d.text ++ encode_utf8_all (line_text (statement named u))
       → new.statements ≡ (if contains same_line d.statements (statement named u) then d.statements else d.statements ++ statement named u ∷ []) → WritableTriple (Some named) u
       → PageStands shared place new (lines ++ statement_at place name t ∷ [])
-  new_statement lacks e g w = subst (λ (n : Chars). PageStands shared place new (lines ++ statement_at place n t ∷ [])) same
-      (page_new shared place d new lines s named t u stays grows renamed (subst (λ (n : Chars). Among shared n) (sym same) m) lacks e g w)
+  new_statement lacks e g w = subst (λ (z : Chars). PageStands shared place new (lines ++ statement_at place z t ∷ [])) same
+      (page_new shared place d new lines s named t u stays grows renamed (subst (λ (z : Chars). Among shared z) (sym same) m) n lacks e g w)
 
 -- ---- a page begins and ends
 
@@ -173,3 +217,22 @@ pages_before pages i b =
     (λ h. let below = places_below 0 (take i pages) (at_place i b) (Among_of_distinct same_blank (flat_map line_blanks lines) (at_place i b) (Among_by_contains same_blank exact_blanks (table lines) (at_place i b) h)) in
     let short = take_short i pages in
     let apart : i < i = omega (arith, below, short) in omega (arith, apart))
+
+-- what a page states is in no line of those before, where it has a blank node or its graph's name is of this page alone
+pub page_is_new : (shared : List Chars) (pages : List CodePage) → AreApart shared pages → (i : ℕ) (page : CodePage) → slice_get pages i ≡ Some page
+    → AreNew shared (lines_from 0 (map page_seen (take i pages))) (lines_of i (page_seen page))
+page_is_new shared pages apart i page at name t own m k = go (has_blank t) refl
+  where
+    named : name_of page ≡ name
+    named = line_named i page.address (page_seen page).judgement name t m
+
+    go : (b : Bool) → has_blank t ≡ b → ⊥
+    go true e =
+        let x = its_blank t e in
+        let here = line_place i page.address (page_seen page).judgement (statement name t) x.0 m x.1 in
+        let below = places_below 0 (take i pages) x.0 (Among_flat_map line_blanks (lines_from 0 (map page_seen (take i pages))) (statement name t) x.0 k x.1) in
+        let short = take_short i pages in
+        omega (arith, here, below, short)
+    go false e =
+        apart i page at (λ h. own (subst (λ (z : Chars). Among shared z) named h) e)
+        (subst (λ (z : Chars). Among (map name_of (take i pages)) z) (sym named) (lines_named 0 (take i pages) name t k))

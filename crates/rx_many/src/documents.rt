@@ -6,13 +6,13 @@ ghost use Rattle.rx_many.specs.Lines.{Line, comment, lines_from, numbered_lines}
 ghost use Rattle.rx_many.specs.Pages.{accepted_page};
 ghost use Rattle.rx_many.specs.Seen.{page_seen};
 ghost use Rattle.rx_many.specs.Names.{AreApart};
-ghost use Rattle.rx_many.specs.Standing.{AddsComment, AddsNew, AddsPage, AddsShared, DocumentStands, Spells, Writes};
+ghost use Rattle.rx_many.specs.Standing.{AddsComment, AddsNew, AddsOnce, AddsPage, AddsTriples, DocumentStands, Spells, Writes};
 
 use crate::blanks::Blanks;
 use crate::names::{is_shared, shared_names};
 use crate::pages::{Judgement, Page};
 use crate::refusals::comment_on;
-use crate::statements::{Statement, Statements};
+use crate::statements::{Statement, Statements, may_repeat};
 use rx_grammar::Fault;
 use rx_graph::Graph;
 use rx_nquads::Lines;
@@ -21,8 +21,8 @@ use rx_terms::{Iri, NoMemory, Triple};
 use rx_unique::Unique;
 use std::alloc::Global;
 
-/// A document so far: its text, the numbers of its blank nodes, and what it states in graphs that several pages have. What a
-/// page states in a graph of its own stands in no other line, since a page's graph has each triple once.
+/// A document so far: its text, the numbers of its blank nodes, and what it states without them in graphs that several pages
+/// have. What else a page states stands in no other line, since its graph has each triple once.
 #[derive(Drop)]
 pub(crate) struct Document {
     pub(crate) text: Lines,
@@ -96,44 +96,42 @@ impl Document {
     {
         self.blanks.turn(alloc)?;
         let name = without_fragment(alloc, address)?;
-        if is_shared(&name, shared) {
-            self.put_shared(&name, graph)
-        } else {
-            self.put_own(&name, graph)
-        }
+        let is_shared = is_shared(&name, shared);
+        self.put_triples(&name, is_shared, graph)
     }
 
-    /// Adds the triples of a page, in the graph of this name, which no page before it has.
-    fn put_own(&mut self, name: &Iri, graph: &Graph) -> Result<(), NoMemory>
-        ensures { AddsNew result name.now self.old self.new (triples_seen graph.now) }
+    /// Adds the triples of a page, in the graph of this name, which several pages may have.
+    fn put_triples(&mut self, name: &Iri, is_shared: bool, graph: &Graph) -> Result<(), NoMemory>
+        ensures { AddsTriples result is_shared name.now self.old self.new (triples_seen graph.now) }
     {
         for i in 0..graph.len() {
-            self.put_new(name, graph.at(i))?;
-        }
-        Ok(())
-    }
-
-    /// Adds the line of a triple of the page, which no line states.
-    fn put_new(&mut self, name: &Iri, triple: &Triple) -> Result<(), NoMemory>
-        ensures { AddsNew result name.now self.old self.new (triple_seen triple.now ∷ []) }
-    {
-        let triple = self.blanks.numbered(triple)?;
-        self.text.put(&triple, Some(name))
-    }
-
-    /// Adds the triples of a page, in the graph of this name, which several pages have.
-    fn put_shared(&mut self, name: &Iri, graph: &Graph) -> Result<(), NoMemory>
-        ensures { AddsShared result name.now self.old self.new (triples_seen graph.now) }
-    {
-        for i in 0..graph.len() {
-            self.put_triple(name, graph.at(i))?;
+            self.put_triple(name, is_shared, graph.at(i))?;
         }
         Ok(())
     }
 
     /// Adds the line of a triple of the page, where no earlier line states it.
-    fn put_triple(&mut self, name: &Iri, triple: &Triple) -> Result<(), NoMemory>
-        ensures { AddsShared result name.now self.old self.new (triple_seen triple.now ∷ []) }
+    fn put_triple(&mut self, name: &Iri, is_shared: bool, triple: &Triple) -> Result<(), NoMemory>
+        ensures { AddsTriples result is_shared name.now self.old self.new (triple_seen triple.now ∷ []) }
+    {
+        if may_repeat(is_shared, triple) {
+            self.put_once(name, triple)
+        } else {
+            self.put_new(name, triple)
+        }
+    }
+
+    /// Adds the line of a triple of the page, which no line states.
+    fn put_new(&mut self, name: &Iri, triple: &Triple) -> Result<(), NoMemory>
+        ensures { AddsNew result name.now self.old self.new (triple_seen triple.now) }
+    {
+        let triple = self.blanks.numbered(triple)?;
+        self.text.put(&triple, Some(name))
+    }
+
+    /// Adds the line of a triple that several pages may state, where no earlier line states it.
+    fn put_once(&mut self, name: &Iri, triple: &Triple) -> Result<(), NoMemory>
+        ensures { AddsOnce result name.now self.old self.new (triple_seen triple.now) }
     {
         let triple = self.blanks.numbered(triple)?;
         let name = name.try_clone()?;

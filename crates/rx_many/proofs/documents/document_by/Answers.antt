@@ -3,9 +3,8 @@ use Rattle.std.proofs.lemmas.Option.{slice_get-get_or}
 use Rattle.rx_many.specs.Lines.{Line, PageBlank, lines_from}
 use Rattle.rx_many.specs.Seen.{page_seen}
 use Rattle.rx_many.specs.Standing.{DocumentStands}
-use Rattle.rx_many.proofs.FreshLemmas.{page_is_new}
 use Rattle.rx_many.proofs.LineLemmas.{pages_more}
-use Rattle.rx_many.proofs.PageLemmas.{pages_before}
+use Rattle.rx_many.proofs.PageLemmas.{page_is_new, pages_before}
 use Rattle.rx_many.proofs.documents.document_by.Goals as goal
 
 pub loop-i-preserved : goal.loop-i-preserved
