@@ -6,11 +6,11 @@
     python3 bench/hashes.py --instructions --count 10000    # by callgrind (apt-get install valgrind)
 
 Each shape is a set of keys in the program: `label` has the labels of blank nodes, `list` the predicates of lists, `quad` the
-quads of several pages, and `node` the nodes of a text in Turtle or JSON-LD. The program finds these by a tree, so both pages
-should cost the same. `triple` has the triples of a page, `copied` those of one that copies a pattern, and `repeated` those of
-one where each stands twice. These are found in a table, by a key that hangs on all of them: they are chosen for the key that
-the page has without them, so that they'd meet if it stayed, and both pages should cost the same, too. bench/hashes.c finds
-texts that meet in a table like that of the kit's indexmap, and counts what that table would do.
+quads of two pages of one address, and `node` the nodes of a text in Turtle or JSON-LD. The program finds these by a tree, so
+both pages should cost the same. `triple` has the triples of a page, `copied` those of one that copies a pattern, and
+`repeated` those of one where each stands twice. These are found in a table, by a key that hangs on all of them: they are
+chosen for the key that the page has without them, so that they'd meet if it stayed, and both pages should cost the same, too.
+bench/hashes.c finds texts that meet in a table like that of the kit's indexmap, and counts what that table would do.
 """
 
 import argparse
@@ -30,6 +30,8 @@ MEBIBYTE = 1_048_576
 TYPES = '<p about="" typeof="{}"></p>'
 COPY = '<link about="" property="rdfa:copy" href="v:none">'
 EXTRACT = ["extract", "--base", ADDRESS]
+# where the page stands among the words before the last one, which it is too
+PAGE = "PAGE"
 
 
 def labels(texts):
@@ -52,7 +54,7 @@ def nodes(texts):
 SHAPES = {
     "label": ("label", EXTRACT, labels, 100_000),
     "list": ("list", EXTRACT, predicates, 100_000),
-    "quad": ("quad", ["many", ADDRESS], types, 100_000),
+    "quad": ("quad", ["many", ADDRESS, PAGE, ADDRESS], types, 100_000),
     "triple": ("triple", EXTRACT, types, 100_000),
     "copied": ("copied", EXTRACT, lambda texts: COPY + types(texts), 100_000),
     "repeated": ("triple", EXTRACT, lambda texts: types(texts) + types(texts), 70_000),
@@ -128,7 +130,8 @@ def main():
             count = given.count or most
             for kind, texts in (("at random", at_random(count)), ("that meet", finder.texts(shape, count))):
                 path = page_file(folder, name, body(texts))
-                print(f"{name}, {count} keys {kind}, {os.path.getsize(path)} bytes: {cost(given, [given.program, *words, path])}")
+                command = [given.program, *(path if word == PAGE else word for word in words), path]
+                print(f"{name}, {count} keys {kind}, {os.path.getsize(path)} bytes: {cost(given, command)}")
                 print(f"  once in the table: {finder.cost(shape, texts)}", flush=True)
 
 

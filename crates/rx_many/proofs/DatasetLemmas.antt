@@ -1,5 +1,5 @@
 -- What the document of several pages denotes.
-use Rattle.std.proofs.Common.{◌≡◌, ◌⊎◌, ℕ, zero, suc, ◌+◌, ◌<◌, ◌^◌, Bool, true, false, List, [], ◌∷◌, ◌++◌, flat_map, codes, Some, refl, sym, ap, ap₂, ◌∙◌, inl, inr, subst, true≢false, arith, if◌then◌else◌}
+use Rattle.std.proofs.Common.{◌≡◌, ◌⊎◌, ℕ, zero, suc, ◌+◌, ◌<◌, ◌^◌, Bool, true, false, List, [], ◌∷◌, ◌++◌, flat_map, codes, Some, refl, sym, ap, ap₂, ◌∙◌, inl, inr, subst, arith, if◌then◌else◌}
 use Rattle.std.specs.Str.{chars}
 use Rattle.std.specs.Fmt.{decimal}
 use Rattle.std.proofs.lemmas.Str.{chars-encodes}
@@ -12,7 +12,7 @@ use Rattle.rx_refs.specs.Resolve.{without_fragment}
 use Rattle.rx_model.specs.Sets.{Among, contains}
 use Rattle.rx_model.specs.Terms.{Node, Iri, Blank, Term, Resource, Literal, Triple}
 use Rattle.rx_model.specs.Numbered.{blank_of_node, blank_of_term, blanks_of, place_in, rename_node, rename_term, rename}
-use Rattle.rx_model.proofs.Sets.{or_cases, Among_cases, Among_left, Among_right, Among_map, Among_of_map, Among_flat_map, Among_of_flat_map, Among_distinct}
+use Rattle.rx_model.proofs.Sets.{Among_cases, Among_left, Among_right, Among_map, Among_of_map, Among_flat_map, Among_of_flat_map, Among_distinct}
 use Rattle.rx_model.proofs.Numbered.{place_tells}
 use Rattle.rx_pieces.specs.Writable.{WritableText}
 use Rattle.rx_pieces.proofs.Scalars.{joined, literally}
@@ -25,11 +25,13 @@ use Rattle.rx_nquads.proofs.Joining.{denotes_none, denotes_comment, denotes_line
 use Rattle.rx_many.specs.Dataset.{Gives, HasBlank, GivesQuad, DenotesPages}
 use Rattle.rx_many.specs.Lines.{Line, PageBlank, comment, statement, statement_at, at_place, lines_by, lines_of, lines_from, line_blanks, same_blank, table, rename_line, numbered_lines, same_line, kept_after, kept}
 use Rattle.rx_many.specs.Pages.{Page, Judgement, refused, accepted, accepted_page}
-use Rattle.rx_many.specs.Standing.{WritableComment, WritableLine, Keeps}
+use Rattle.rx_many.specs.Standing.{WritableComment, WritableLine, Spells}
 use Rattle.rx_many.specs.Writing.{comment_text, line_text}
 use Rattle.rx_grammar.specs.Kinds.{kind_name}
 use Rattle.rx_many.proofs.CommentLemmas.{names, ascii_decimal}
-use Rattle.rx_many.proofs.KeyLemmas.{exact_blanks, alike}
+use Rattle.rx_many.proofs.FreshLemmas.{contained}
+use Rattle.rx_many.proofs.KeyLemmas.{exact_blanks}
+use Rattle.rx_many.proofs.PageLemmas.{twice}
 
 -- ---- a line
 
@@ -83,10 +85,6 @@ texts_writable [] w = literally [] refl
 texts_writable (l ∷ lines) w = joined (text_writable l (w l (inl refl))) (texts_writable lines (λ m h. w m (inr h)))
 
 -- ---- what is kept is all that is stated
-
-contained : (lines : List (Line ℕ)) (x : Line ℕ) → contains same_line lines x ≡ true → Among lines x
-contained [] x h = absurd (true≢false (sym h))
-contained (y ∷ lines) x h = elim (or_cases (same_line y x) (contains same_line lines x) h) [ inl e ↦ inl (alike y x e) | inr k ↦ inr (contained lines x k) ]
 
 here_or_earlier : (earlier rest : List (Line ℕ)) (y : Line ℕ) → Among earlier y ⊎ Among ((if contains same_line earlier y then [] else y ∷ []) ++ rest) y
 here_or_earlier earlier rest y = go (contains same_line earlier y) refl
@@ -192,20 +190,9 @@ line_given start (page ∷ pages) name u m = go (Among_cases (lines_of start pag
     go (inl k) ih = first (line_here start page.address page.judgement name u k)
     go (inr k) ih = later (ih k)
 
--- ---- renaming twice
+-- ---- blank nodes that are renamed
 
-module _ (f : ℕ → PageBlank) (p : PageBlank → ℕ) where
-  node_twice : (n : Node ℕ) → rename_node p (rename_node f n) ≡ rename_node (λ b. p (f b)) n
-  node_twice (Iri iri) = refl
-  node_twice (Blank b) = refl
-
-  term_twice : (t : Term ℕ) → rename_term p (rename_term f t) ≡ rename_term (λ b. p (f b)) t
-  term_twice (Resource n) = ap Resource (node_twice n)
-  term_twice (Literal text kind) = refl
-
-  twice : (t : Triple ℕ) → rename p (rename f t) ≡ rename (λ b. p (f b)) t
-  twice t = let s = node_twice t.subject in let o = term_twice t.object in λ i. record { subject = s i; predicate = t.predicate; object = o i }
-
+module _ (f : ℕ → PageBlank) where
   node_blank : (n : Node ℕ) (b : ℕ) → Among (blank_of_node n) b → Among (blank_of_node (rename_node f n)) (f b)
   node_blank (Iri iri) b m = absurd m
   node_blank (Blank c) b (inl e) = inl (ap f e)
@@ -236,7 +223,7 @@ module _ (pages : List Page) where
   in_table place blank h =
       Among_distinct same_blank exact_blanks (flat_map line_blanks (lines_from 0 pages)) (at_place place blank)
       (Among_flat_map line_blanks (lines_from 0 pages) (statement_at place h.name h.triple) (at_place place blank) (stands_first place h.name h.triple h.gives)
-      (blank_renamed (at_place place) (place_in same_blank (table (lines_from 0 pages))) h.triple blank h.has))
+      (blank_renamed (at_place place) h.triple blank h.has))
 
   apart : (place blank other_place other : ℕ) → HasBlank pages place blank → HasBlank pages other_place other → name_of_blank place blank ≡ name_of_blank other_place other → (place ≡ other_place) × (blank ≡ other)
   unfolding name_of_blank
@@ -278,8 +265,8 @@ module _ (pages : List Page) where
           let s = Among_of_map (rename_line (place_in same_blank (table (lines_from 0 pages)))) (lines_from 0 pages) (statement name u) (kept_among [] (numbered_lines (lines_from 0 pages)) (statement name u) k) in
           given_of name u q s.0 s.1 s.2 e
 
-  pub denotes_pages : (text : List ℕ) (statements : List (Line ℕ)) → Keeps text statements (numbered_lines (lines_from 0 pages)) → DenotesPages (chars text) pages
-  denotes_pages text statements k =
+  pub denotes_pages : (text : List ℕ) → Spells text (numbered_lines (lines_from 0 pages)) → DenotesPages (chars text) pages
+  denotes_pages text k =
       let lines : List (Line ℕ) = kept (numbered_lines (lines_from 0 pages)) in
       let whole : Chars = flat_map line_text lines in
       let read : chars text ≡ whole = ap chars k.spelled ∙ chars-encodes whole (texts_writable lines k.writable).scalars in

@@ -72,13 +72,3 @@ module _ {B : Type 0} (same : B → B → Bool) (exact : IsExact same) where
   place_stays list more b m =
       let inside : contains same (distinct same list) b ≡ true = Among-contains same exact (distinct same list) b (Among_distinct same exact list b m) in
       sym ((kept_known (distinct same list) more).places b inside) ∙ ap (λ z. place_in same z b) (known_distinct list more)
-
-  place_new : (xs : List B) (b : B) → place_in same (known_one same xs b) b ≡ place_in same (xs ++ b ∷ []) b
-  place_new xs b = go (contains same xs b) refl
-    where
-      go : (t : Bool) → contains same xs b ≡ t → place_in same (if t then xs else xs ++ b ∷ []) b ≡ place_in same (xs ++ b ∷ []) b
-      go true e = sym (place_append xs (b ∷ []) b e)
-      go false e = refl
-
-  pub place_of_known : (xs : List B) (b : B) → place_in same (xs ++ b ∷ []) b ≡ place_in same (known_one same xs b) b
-  place_of_known xs b = sym (place_new xs b)

@@ -1,29 +1,22 @@
 -- The keys of the code's sets, and what they are in the model.
-use Rattle.std.proofs.Common.{◌≡◌, ℕ, ◌+◌, Bool, true, false, not, List, [], ◌∷◌, ◌++◌, length, slice_get, Some, option_map, map, suc, refl, sym, ap, ap₂, ◌∙◌, rules, nat_eq, bytes_eq, cond, arith, true≢false, if◌then◌else◌}
-use Rattle.std.specs.List.{list_any, position_or_len}
-use Rattle.std.proofs.lemmas.List.Recursion.{is_position_or_len}
+use Rattle.std.proofs.Common.{◌≡◌, ℕ, Bool, true, false, not, List, [], ◌∷◌, ◌++◌, length, slice_get, Some, option_map, map, suc, refl, sym, ap, ap₂, ◌∙◌, rules, nat_eq, bytes_eq, arith, true≢false, if◌then◌else◌}
+use Rattle.std.specs.List.{list_any}
 use Rattle.std.proofs.lemmas.Option.{slice_get-map, slice_get_within}
 use Rattle.rx_unique.specs.Unique.{insert_key}
 use Rattle.rx_terms.specs.Text.{Chars}
 use Rattle.rx_model.specs.Sets.{IsExact, contains}
-use Rattle.rx_model.specs.Terms.{Node, Triple, same_triple}
-use Rattle.rx_model.specs.Numbered.{place_in, blank_of_node, rename_node, rename_term, rename}
+use Rattle.rx_model.specs.Terms.{Triple, same_triple}
 use Rattle.rx_model.specs.Seen.{triple_seen}
 use Rattle.rx_model.proofs.Sets.{and_left, and_right, and_both}
 use Rattle.rx_model.proofs.Exact.{exact_numbers, exact_texts, exact_triples}
 use Rattle.rx_model.proofs.Seen.{triple_tells}
 use Rattle.rx_terms.proofs.Bools.{same_truth}
 use Rattle.rx_graph.proofs.SetLemmas.{any_seen, insert_seen}
-use Rattle.rx_graph.proofs.NumberLemmas.{same_node_by}
-use Rattle.rx_many.specs.declared.blanks.PageBlank.{PageBlank as CodeBlank}
-use Rattle.rx_many.specs.contracts.blanks.PageBlankPartialEq.TheImpl as blank_impl
 use Rattle.rx_many.specs.declared.statements.Statement.{Statement}
 use Rattle.rx_many.specs.contracts.statements.StatementPartialEq.TheImpl as statement_impl
 use Rattle.rx_many.specs.Lines.{Line, PageBlank, comment, statement, same_blank, same_line}
-use Rattle.rx_many.specs.Numbering.{known_one, known}
-use Rattle.rx_many.specs.Seen.{blank_seen, statement_seen}
+use Rattle.rx_many.specs.Seen.{statement_seen}
 use Rattle.rx_many.specs.Standing.{IsAdded}
-use Rattle.rx_many.proofs.Growing.{all_known, kept_known, place_of_known}
 
 -- ---- blank nodes of pages
 
@@ -35,51 +28,6 @@ exact_blanks a b = (
   λ h. pair_path a b ((exact_numbers a.0 b.0).0 (and_left (nat_eq a.0 b.0) (nat_eq a.1 b.1) h)) ((exact_numbers a.1 b.1).0 (and_right (nat_eq a.0 b.0) (nat_eq a.1 b.1) h)),
   λ e. and_both (nat_eq a.0 b.0) (nat_eq a.1 b.1) ((exact_numbers a.0 b.0).1 (ap (λ (p : PageBlank). p.0) e)) ((exact_numbers a.1 b.1).1 (ap (λ (p : PageBlank). p.1) e)),
 )
-
-abbrev pub blank_eq : CodeBlank → CodeBlank → Bool
-blank_eq = (blank_impl.ghosts).eq
-
-exact_code : IsExact blank_eq
-exact_code a b = search rules
-
-blank_tells : (a b : CodeBlank) → blank_seen a ≡ blank_seen b → a ≡ b
-blank_tells a b e =
-    let p = ap (λ (x : PageBlank). x.0) e in
-    let q = ap (λ (x : PageBlank). x.1) e in
-    λ i. record { page = p i; blank = record { 0 = q i } }
-
-pub blanks_agree : (a b : CodeBlank) → blank_eq a b ≡ same_blank (blank_seen b) (blank_seen a)
-blanks_agree a b = same_truth (blank_eq a b) (same_blank (blank_seen b) (blank_seen a))
-    (λ h. (exact_blanks (blank_seen b) (blank_seen a)).1 (ap blank_seen (sym ((exact_code a b).0 h))))
-    (λ h. (exact_code a b).1 (sym (blank_tells b a ((exact_blanks (blank_seen b) (blank_seen a)).0 h))))
-
-pub known_seen : (list : List CodeBlank) (b : CodeBlank) → map blank_seen (insert_key blank_eq list b) ≡ known_one same_blank (map blank_seen list) (blank_seen b)
-known_seen list b = insert_seen blank_seen blank_eq same_blank blanks_agree list b
-
-place_known : (list : List CodeBlank) (b : CodeBlank) → position_or_len (blank_eq b) list ≡ place_in same_blank (known_one same_blank (map blank_seen list) (blank_seen b)) (blank_seen b)
-place_known list b =
-    sym (is_position_or_len (λ xs. place_in same_blank (map blank_seen xs ++ blank_seen b ∷ []) (blank_seen b)) (blank_eq b) none step list)
-    ∙ place_of_known same_blank exact_blanks (map blank_seen list) (blank_seen b)
-  where
-    none : place_in same_blank (blank_seen b ∷ []) (blank_seen b) ≡ 0
-    none = ap (λ t. cond t 0 1) ((exact_blanks (blank_seen b) (blank_seen b)).1 refl)
-
-    step : (x : CodeBlank) (xs : List CodeBlank)
-        → place_in same_blank (blank_seen x ∷ (map blank_seen xs ++ blank_seen b ∷ [])) (blank_seen b) ≡ cond (blank_eq b x) 0 (1 + place_in same_blank (map blank_seen xs ++ blank_seen b ∷ []) (blank_seen b))
-    step x xs = ap₂ (λ t n. cond t 0 n) (sym (blanks_agree b x)) (omega arith)
-
-pub place_by : (list new : List CodeBlank) (b : CodeBlank) (place : ℕ) → new ≡ insert_key blank_eq list b → place ≡ position_or_len (blank_eq b) list → place ≡ place_in same_blank (map blank_seen new) (blank_seen b)
-place_by list new b place e f = f ∙ place_known list b ∙ ap (λ z. place_in same_blank z (blank_seen b)) (sym (ap (map blank_seen) e ∙ known_seen list b))
-
--- what a node is renamed to stays
-pub subject_stays : (old mid new more : List PageBlank) (n : Node PageBlank) → mid ≡ known same_blank old (blank_of_node n) → new ≡ known same_blank mid more
-    → rename_node (place_in same_blank mid) n ≡ rename_node (place_in same_blank new) n
-subject_stays old mid new more n e f =
-    same_node_by (place_in same_blank mid) (place_in same_blank new) n
-    (λ b m. rw f (sym ((kept_known same_blank exact_blanks mid more).places b (ap (λ z. contains same_blank z b) e ∙ all_known same_blank exact_blanks old (blank_of_node n) b m))))
-
-pub renamed_triple : (p : PageBlank → ℕ) (t : Triple PageBlank) (u : Triple ℕ) → u.subject ≡ rename_node p t.subject → u.predicate ≡ t.predicate → u.object ≡ rename_term p t.object → u ≡ rename p t
-renamed_triple p t u a b c = λ i. record { subject = a i; predicate = b i; object = c i }
 
 -- ---- statements
 

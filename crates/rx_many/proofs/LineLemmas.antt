@@ -1,5 +1,5 @@
 -- A document that grows by one line.
-use Rattle.std.proofs.Common.{◌≡◌, ℕ, suc, zero, ◌+◌, Bool, true, false, ◌||◌, List, [], ◌∷◌, ◌++◌, map, flat_map, take, slice_get, Result, Ok, Err, OnOk, Some, refl, sym, ap, ap₂, ◌∙◌, inl, inr, subst, if◌then◌else◌, append_assoc, append-nil, arith}
+use Rattle.std.proofs.Common.{◌≡◌, ℕ, suc, zero, ◌+◌, Bool, true, false, ◌||◌, List, [], ◌∷◌, ◌++◌, map, flat_map, take, length, slice_get, Result, Ok, Err, OnOk, Some, refl, sym, ap, ap₂, ◌∙◌, inl, inr, subst, if◌then◌else◌, append_assoc, append-nil, arith}
 use Rattle.std.specs.Str.{encode_utf8_all}
 use Rattle.std.proofs.lemmas.Str.{encodes-append}
 use Rattle.std.proofs.lemmas.List.{map-append}
@@ -8,18 +8,17 @@ use Rattle.rx_terms.specs.declared.triples.Triple.{Triple as CodeTriple}
 use Rattle.rx_grammar.specs.declared.faults.Fault.{Fault}
 use Rattle.rx_model.specs.Sets.{Among, contains, distinct}
 use Rattle.rx_model.specs.Terms.{Triple}
-use Rattle.rx_model.specs.Numbered.{rename, blanks_of, place_in}
+use Rattle.rx_model.specs.Numbered.{place_in}
 use Rattle.rx_model.specs.Seen.{triple_seen, triples_seen}
-use Rattle.rx_model.proofs.Sets.{Among_cases, Among_left, Among_right}
+use Rattle.rx_model.proofs.Sets.{Among_cases, Among_left, Among_right, false_unless}
 use Rattle.rx_graph.proofs.SetLemmas.{seen_more}
 use Rattle.rx_graph.proofs.NumberLemmas.{same_triple_by}
 use Rattle.rx_pieces.specs.Writable.{WritableTriple}
-use Rattle.rx_many.specs.Lines.{Line, PageBlank, comment, statement, statement_at, at_place, lines_of, lines_from, line_blanks, same_blank, table, rename_line, numbered_lines, same_line, kept_after, kept}
+use Rattle.rx_many.specs.Blank.{has_blank}
+use Rattle.rx_many.specs.Lines.{Line, PageBlank, comment, statement, statement_at, lines_of, lines_from, line_blanks, same_blank, table, rename_line, numbered_lines, same_line, kept_after, kept}
 use Rattle.rx_many.specs.Numbering.{known}
-use Rattle.rx_refs.specs.Resolve.{without_fragment}
-use Rattle.rx_many.specs.Pages.{accepted_page}
 use Rattle.rx_many.specs.Seen.{page_seen}
-use Rattle.rx_many.specs.Standing.{WritableComment, WritableLine, Keeps, DocumentStands}
+use Rattle.rx_many.specs.Standing.{WritableComment, WritableLine, Spells, Holds, Stands, DocumentStands, PageStands}
 use Rattle.rx_many.specs.Writing.{line_text, text_of}
 use Rattle.rx_many.specs.declared.documents.Document.{Document}
 use Rattle.rx_many.specs.declared.pages.Page.{Page as CodePage}
@@ -29,6 +28,10 @@ use Rattle.rx_many.proofs.KeyLemmas.{exact_blanks, alike}
 pub if_ok : {A E P Q : Type 0} (r : Result A E) → (P → Q) → OnOk r P → OnOk r Q
 if_ok (Ok a) f h = f h
 if_ok (Err e) f h = h
+
+pub if_both : {A E P Q S : Type 0} (r : Result A E) → (P → Q → S) → OnOk r P → OnOk r Q → OnOk r S
+if_both (Ok a) f h k = f h k
+if_both (Err e) f h k = h
 
 -- ---- tests of lists
 
@@ -65,64 +68,65 @@ texts_more : (lines : List (Line ℕ)) (x : Line ℕ) → flat_map line_text (li
 texts_more [] x = append-nil (line_text x)
 texts_more (y ∷ lines) x = ap (λ z. line_text y ++ z) (texts_more lines x) ∙ sym (append_assoc (line_text y) (flat_map line_text lines) (line_text x))
 
-module _ (text : List ℕ) (statements lines : List (Line ℕ)) (k : Keeps text statements lines) (x : Line ℕ) where
+module _ (text : List ℕ) (lines : List (Line ℕ)) (k : Spells text lines) (x : Line ℕ) where
   -- the line states what an earlier one does
-  pub keeps_old : contains same_line statements x ≡ true → Keeps text statements (lines ++ x ∷ [])
-  keeps_old there =
-      let same : kept (lines ++ x ∷ []) ≡ kept lines =
-      kept_more [] lines x ∙ ap (λ b. kept lines ++ unless b x) (sym (k.held x) ∙ there) ∙ append-nil (kept lines) in
+  spells_old : contains same_line lines x ≡ true → Spells text (lines ++ x ∷ [])
+  spells_old there =
+      let same : kept (lines ++ x ∷ []) ≡ kept lines = kept_more [] lines x ∙ ap (λ b. kept lines ++ unless b x) there ∙ append-nil (kept lines) in
       record {
         spelled = k.spelled ∙ ap (λ z. encode_utf8_all (flat_map line_text z)) (sym same);
-        held = λ line. go line (same_line x line) refl ∙ sym (contains_both same_line lines (x ∷ []) line);
         writable = λ line m. k.writable line (subst (λ (z : List (Line ℕ)). Among z line) same m);
       }
-    where
-      go : (line : Line ℕ) (b : Bool) → same_line x line ≡ b → contains same_line statements line ≡ (contains same_line lines line || (same_line x line || false))
-      go line true e =
-          let is : x ≡ line = alike x line e in
-          ap (contains same_line statements) (sym is) ∙ there ∙ sym (ap (λ b. contains same_line lines line || (b || false)) e ∙ or_true (contains same_line lines line))
-      go line false e = k.held line ∙ sym (ap (λ b. contains same_line lines line || (b || false)) e ∙ or_false (contains same_line lines line))
 
   -- it is written
-  written : (next : List ℕ) → contains same_line lines x ≡ false → next ≡ text ++ encode_utf8_all (line_text x) → next ≡ encode_utf8_all (text_of (lines ++ x ∷ []))
-  written next new e =
-      e ∙ ap (λ z. z ++ encode_utf8_all (line_text x)) k.spelled
-      ∙ sym (encodes-append (text_of lines) (line_text x)) ∙ ap encode_utf8_all (sym (texts_more (kept lines) x))
-      ∙ ap (λ z. encode_utf8_all (flat_map line_text z)) (sym (kept_more [] lines x ∙ ap (λ b. kept lines ++ unless b x) new))
-
-  writables : contains same_line lines x ≡ false → WritableLine x → (line : Line ℕ) → Among (kept (lines ++ x ∷ [])) line → WritableLine line
-  writables new w line m =
+  spells_new : (next : List ℕ) → contains same_line lines x ≡ false → next ≡ text ++ encode_utf8_all (line_text x) → WritableLine x → Spells next (lines ++ x ∷ [])
+  spells_new next new e w =
       let same : kept (lines ++ x ∷ []) ≡ kept lines ++ x ∷ [] = kept_more [] lines x ∙ ap (λ b. kept lines ++ unless b x) new in
-      elim (Among_cases (kept lines) (x ∷ []) line (subst (λ (z : List (Line ℕ)). Among z line) same m)) [
-        | inl h ↦ k.writable line h
-        | inr h ↦ elim h [ inl e ↦ subst WritableLine e w | inr n ↦ absurd n ]
-      ]
-
-  pub keeps_new : (next : List ℕ) (more : List (Line ℕ)) → contains same_line statements x ≡ false → next ≡ text ++ encode_utf8_all (line_text x) → more ≡ statements ++ x ∷ [] → WritableLine x
-      → Keeps next more (lines ++ x ∷ [])
-  keeps_new next more new e f w =
-      let lacks : contains same_line lines x ≡ false = sym (k.held x) ∙ new in
       record {
-        spelled = written next lacks e;
-        held = λ line. ap (λ z. contains same_line z line) f ∙ contains_both same_line statements (x ∷ []) line ∙ ap (λ b. b || (same_line x line || false)) (k.held line) ∙ sym (contains_both same_line lines (x ∷ []) line);
-        writable = writables lacks w;
+        spelled =
+            e ∙ ap (λ z. z ++ encode_utf8_all (line_text x)) k.spelled
+            ∙ sym (encodes-append (text_of lines) (line_text x)) ∙ ap encode_utf8_all (sym (texts_more (kept lines) x))
+            ∙ ap (λ z. encode_utf8_all (flat_map line_text z)) (sym same);
+        writable = λ line m. elim (Among_cases (kept lines) (x ∷ []) line (subst (λ (z : List (Line ℕ)). Among z line) same m)) [
+          | inl h ↦ k.writable line h
+          | inr h ↦ elim h [ inl e ↦ subst WritableLine e w | inr n ↦ absurd n ]
+        ];
       }
+
+module _ (shared : List Chars) (statements lines : List (Line ℕ)) (k : Holds shared statements lines) (x : Line ℕ) where
+  holds_old : contains same_line statements x ≡ true → Holds shared statements (lines ++ x ∷ [])
+  holds_old there name t m n = go (same_line x (statement name t)) refl ∙ sym (contains_both same_line lines (x ∷ []) (statement name t))
+    where
+      go : (b : Bool) → same_line x (statement name t) ≡ b → contains same_line statements (statement name t) ≡ (contains same_line lines (statement name t) || (same_line x (statement name t) || false))
+      go true e =
+          let is : x ≡ statement name t = alike x (statement name t) e in
+          ap (contains same_line statements) (sym is) ∙ there ∙ sym (ap (λ b. contains same_line lines (statement name t) || (b || false)) e ∙ or_true (contains same_line lines (statement name t)))
+      go false e = k name t m n ∙ sym (ap (λ b. contains same_line lines (statement name t) || (b || false)) e ∙ or_false (contains same_line lines (statement name t)))
+
+  holds_new : Holds shared (statements ++ x ∷ []) (lines ++ x ∷ [])
+  holds_new name t m n =
+      contains_both same_line statements (x ∷ []) (statement name t) ∙ ap (λ b. b || (same_line x (statement name t) || false)) (k name t m n)
+      ∙ sym (contains_both same_line lines (x ∷ []) (statement name t))
+
+  -- it is in none of these graphs
+  holds_other : ((name : Chars) (t : Triple ℕ) → Among shared name → has_blank t ≡ false → same_line x (statement name t) ≡ false) → Holds shared statements (lines ++ x ∷ [])
+  holds_other other name t m n =
+      k name t m n
+      ∙ sym (contains_both same_line lines (x ∷ []) (statement name t) ∙ ap (λ b. contains same_line lines (statement name t) || (b || false)) (other name t m n) ∙ or_false (contains same_line lines (statement name t)))
+
+in_own : (shared : List Chars) (name : Chars) (u : Triple ℕ) → (Among shared name → has_blank u ≡ false → ⊥) → (other : Chars) (t : Triple ℕ) → Among shared other → has_blank t ≡ false
+    → same_line (statement name u) (statement other t) ≡ false
+in_own shared name u own other t m n = false_unless (same_line (statement name u) (statement other t))
+    (λ h. let is : statement name u ≡ statement other t = alike (statement name u) (statement other t) h in
+    let names : other ≡ name = cc in
+    let triples : t ≡ u = cc in
+    own (subst (λ (z : Chars). Among shared z) names m) (ap has_blank (sym triples) ∙ n))
 
 -- no line is the same as a comment
 no_comment : (lines : List (Line ℕ)) (address : Chars) (fault : Fault) → contains same_line lines (comment address fault) ≡ false
 no_comment [] address fault = refl
 no_comment (statement n t ∷ lines) address fault = no_comment lines address fault
 no_comment (comment a f ∷ lines) address fault = no_comment lines address fault
-
-pub keeps_comment : (text : List ℕ) (statements lines : List (Line ℕ)) → Keeps text statements lines → (address : Chars) (fault : Fault) (next : List ℕ) → next ≡ text ++ encode_utf8_all (line_text (comment address fault)) → WritableComment address fault
-    → Keeps next statements (lines ++ comment address fault ∷ [])
-keeps_comment text statements lines k address fault next e w =
-    let lacks = no_comment lines address fault in
-    record {
-      spelled = written text statements lines k (comment address fault) next lacks e;
-      held = λ line. k.held line ∙ sym (contains_both same_line lines (comment address fault ∷ []) line ∙ or_false (contains same_line lines line));
-      writable = writables text statements lines k (comment address fault) lacks w;
-    }
 
 -- ---- numbers
 
@@ -143,60 +147,79 @@ lines_stay p q (l ∷ lines) h =
     ap₂ ◌∷◌ (line_stays p q l (λ b m. h b (Among_left (line_blanks l) (flat_map line_blanks lines) b m)))
     (lines_stay p q lines (λ b m. h b (Among_right (line_blanks l) (flat_map line_blanks lines) b m)))
 
+-- the lines by the numbers that there are with one more line
+pub numbers_stay : (lines : List (Line PageBlank)) (l : Line PageBlank) → numbered_lines lines ≡ map (rename_line (place_in same_blank (table (lines ++ l ∷ [])))) lines
+numbers_stay lines l = lines_stay (place_in same_blank (table lines)) (place_in same_blank (table (lines ++ l ∷ []))) lines
+    (λ b m. place_stays same_blank exact_blanks (flat_map line_blanks lines) (line_blanks l) b m ∙ ap (λ z. place_in same_blank (distinct same_blank z) b) (sym (blanks_more lines l)))
+
 pub numbered_more : (lines : List (Line PageBlank)) (l : Line PageBlank) → numbered_lines lines ++ rename_line (place_in same_blank (table (lines ++ l ∷ []))) l ∷ [] ≡ numbered_lines (lines ++ l ∷ [])
 numbered_more lines l =
     let next : PageBlank → ℕ = place_in same_blank (table (lines ++ l ∷ [])) in
-    ap (λ z. z ++ rename_line next l ∷ []) (lines_stay (place_in same_blank (table lines)) next lines (λ b m. place_stays same_blank exact_blanks (flat_map line_blanks lines) (line_blanks l) b m ∙ ap (λ z. place_in same_blank (distinct same_blank z) b) (sym (blanks_more lines l))))
+    ap (λ z. z ++ rename_line next l ∷ []) (numbers_stay lines l)
     ∙ sym (map-append (rename_line next) lines (l ∷ []))
 
 -- ---- one line more
 
-module _ (d new : Document) (lines : List (Line PageBlank)) (s : DocumentStands d lines) where
-  pub stands_comment : (address : Chars) (fault : Fault) → new.text ≡ d.text ++ encode_utf8_all (line_text (comment address fault)) → new.blanks ≡ d.blanks → new.statements ≡ d.statements → WritableComment address fault
-      → DocumentStands new (lines ++ comment address fault ∷ [])
-  stands_comment address fault e f g w =
+module _ (shared : List Chars) (d new : Document) (lines : List (Line PageBlank)) (s : Stands shared d lines) where
+  comment_stands : (address : Chars) (fault : Fault) → new.text ≡ d.text ++ encode_utf8_all (line_text (comment address fault)) → new.statements ≡ d.statements → WritableComment address fault
+      → Stands shared new (lines ++ comment address fault ∷ [])
+  comment_stands address fault e g w =
       let l : Line PageBlank = comment address fault in
-      let keeps : Keeps new.text d.statements (numbered_lines lines ++ comment address fault ∷ []) = keeps_comment d.text d.statements (numbered_lines lines) s.keeps address fault new.text e w in
+      let x : Line ℕ = comment address fault in
+      let spells : Spells new.text (numbered_lines lines ++ x ∷ []) = spells_new d.text (numbered_lines lines) s.spells x new.text (no_comment (numbered_lines lines) address fault) e w in
+      let holds : Holds shared d.statements (numbered_lines lines ++ x ∷ []) = holds_other shared d.statements (numbered_lines lines) s.holds x (λ name t m n. refl) in
       record {
-        numbers = f ∙ s.numbers ∙ table_more lines l;
-        keeps = subst (λ (z : List (Line ℕ)). Keeps new.text z (numbered_lines (lines ++ l ∷ []))) (sym g) (subst (λ (z : List (Line ℕ)). Keeps new.text d.statements z) (numbered_more lines l) keeps);
+        spells = subst (λ (z : List (Line ℕ)). Spells new.text z) (numbered_more lines l) spells;
+        holds = subst (λ (z : List (Line ℕ)). Holds shared new.statements z) (numbered_more lines l) (subst (λ (z : List (Line ℕ)). Holds shared z (numbered_lines lines ++ x ∷ [])) (sym g) holds);
       }
 
-  module _ (place : ℕ) (name : Chars) (t : Triple ℕ) (u : Triple ℕ) (grows : new.blanks ≡ known same_blank d.blanks (blanks_of (rename (at_place place) t)))
-      (renamed : u ≡ rename (place_in same_blank new.blanks) (rename (at_place place) t)) where
-    numbers_now : new.blanks ≡ table (lines ++ statement_at place name t ∷ [])
-    numbers_now = grows ∙ ap (λ z. known same_blank z (blanks_of (rename (at_place place) t))) s.numbers ∙ table_more lines (statement_at place name t)
+  -- a line whose blank nodes have the numbers that there are with it
+  module _ (l : Line PageBlank) (name : Chars) (u : Triple ℕ) (is : statement name u ≡ rename_line (place_in same_blank (table (lines ++ l ∷ []))) l) where
+    line_now : numbered_lines lines ++ statement name u ∷ [] ≡ numbered_lines (lines ++ l ∷ [])
+    line_now = ap (λ z. numbered_lines lines ++ z ∷ []) is ∙ numbered_more lines l
 
-    line_now : numbered_lines lines ++ statement name u ∷ [] ≡ numbered_lines (lines ++ statement_at place name t ∷ [])
-    line_now =
-        ap (λ z. numbered_lines lines ++ statement name z ∷ []) (renamed ∙ ap (λ z. rename (place_in same_blank z) (rename (at_place place) t)) numbers_now)
-        ∙ numbered_more lines (statement_at place name t)
+    stands_with : (text : List ℕ) (statements : List (Line ℕ)) → Spells text (numbered_lines lines ++ statement name u ∷ []) → Holds shared statements (numbered_lines lines ++ statement name u ∷ [])
+        → new.text ≡ text → new.statements ≡ statements → Stands shared new (lines ++ l ∷ [])
+    stands_with text statements spells holds e g = record {
+      spells = subst (λ (z : List (Line ℕ)). Spells new.text z) line_now (subst (λ (z : List ℕ). Spells z (numbered_lines lines ++ statement name u ∷ [])) (sym e) spells);
+      holds = subst (λ (z : List (Line ℕ)). Holds shared new.statements z) line_now (subst (λ (z : List (Line ℕ)). Holds shared z (numbered_lines lines ++ statement name u ∷ [])) (sym g) holds);
+    }
 
-    pub stands_old : contains same_line d.statements (statement name u) ≡ true → new.text ≡ d.text → new.statements ≡ d.statements → DocumentStands new (lines ++ statement_at place name t ∷ [])
-    stands_old there e g =
-        let l : Line PageBlank = statement_at place name t in
-        let keeps : Keeps d.text d.statements (numbered_lines lines ++ statement name u ∷ []) = keeps_old d.text d.statements (numbered_lines lines) s.keeps (statement name u) there in
-        let moved : Keeps new.text d.statements (numbered_lines lines ++ statement name u ∷ []) = subst (λ (z : List ℕ). Keeps z d.statements (numbered_lines lines ++ statement name u ∷ [])) (sym e) keeps in
-        record {
-          numbers = numbers_now;
-          keeps = subst (λ (z : List (Line ℕ)). Keeps new.text z (numbered_lines (lines ++ l ∷ []))) (sym g) (subst (λ (z : List (Line ℕ)). Keeps new.text d.statements z) line_now moved);
-        }
+    pub stands_old : Among shared name → has_blank u ≡ false → contains same_line d.statements (statement name u) ≡ true → new.text ≡ d.text → new.statements ≡ d.statements → Stands shared new (lines ++ l ∷ [])
+    stands_old m n there e g =
+        stands_with d.text d.statements
+        (spells_old d.text (numbered_lines lines) s.spells (statement name u) (sym (s.holds name u m n) ∙ there))
+        (holds_old shared d.statements (numbered_lines lines) s.holds (statement name u) there) e g
 
-    pub stands_new : contains same_line d.statements (statement name u) ≡ false → new.text ≡ d.text ++ encode_utf8_all (line_text (statement name u))
+    pub stands_new : Among shared name → has_blank u ≡ false → contains same_line d.statements (statement name u) ≡ false → new.text ≡ d.text ++ encode_utf8_all (line_text (statement name u))
         → new.statements ≡ (if contains same_line d.statements (statement name u) then d.statements else d.statements ++ statement name u ∷ []) → WritableTriple (Some name) u
-        → DocumentStands new (lines ++ statement_at place name t ∷ [])
-    stands_new lacks e g w =
+        → Stands shared new (lines ++ l ∷ [])
+    stands_new m n lacks e g w =
         let added : new.statements ≡ d.statements ++ statement name u ∷ [] = g ∙ ap (λ b. if b then d.statements else d.statements ++ statement name u ∷ []) lacks in
-        let keeps : Keeps new.text new.statements (numbered_lines lines ++ statement name u ∷ []) = keeps_new d.text d.statements (numbered_lines lines) s.keeps (statement name u) new.text new.statements lacks e added w in
-        record {
-          numbers = numbers_now;
-          keeps = subst (λ (z : List (Line ℕ)). Keeps new.text new.statements z) line_now keeps;
-        }
+        stands_with new.text (d.statements ++ statement name u ∷ [])
+        (spells_new d.text (numbered_lines lines) s.spells (statement name u) new.text (sym (s.holds name u m n) ∙ lacks) e w)
+        (holds_new shared d.statements (numbered_lines lines) s.holds (statement name u)) refl added
+
+    -- in the graph of one page
+    pub stands_own : (Among shared name → has_blank u ≡ false → ⊥) → contains same_line (numbered_lines lines) (statement name u) ≡ false → new.text ≡ d.text ++ encode_utf8_all (line_text (statement name u))
+        → new.statements ≡ d.statements → WritableTriple (Some name) u → Stands shared new (lines ++ l ∷ [])
+    stands_own own lacks e g w =
+        stands_with new.text d.statements
+        (spells_new d.text (numbered_lines lines) s.spells (statement name u) new.text lacks e w)
+        (holds_other shared d.statements (numbered_lines lines) s.holds (statement name u) (in_own shared name u own)) refl g
+
+pub stands_comment : (shared : List Chars) (d new : Document) (lines : List (Line PageBlank)) → DocumentStands shared d lines → (address : Chars) (fault : Fault)
+    → new.text ≡ d.text ++ encode_utf8_all (line_text (comment address fault)) → new.blanks ≡ d.blanks → new.statements ≡ d.statements → WritableComment address fault
+    → DocumentStands shared new (lines ++ comment address fault ∷ [])
+stands_comment shared d new lines s address fault e f g w = record {
+  counted = sym (ap length (table_more lines (comment address fault))) ∙ s.counted ∙ sym (ap (λ n. n.before + length n.here) f);
+  stands = comment_stands shared d new lines s.stands address fault e g w;
+}
 
 -- ---- the triples of a page, and the pages
 
-pub stands_none : {d : Document} {lines : List (Line PageBlank)} → DocumentStands d lines → DocumentStands d (lines ++ [])
-stands_none {d = d} {lines = lines} s = subst (λ (z : List (Line PageBlank)). DocumentStands d z) (sym (append-nil lines)) s
+pub page_begins : {shared : List Chars} {place : ℕ} {d : Document} {lines : List (Line PageBlank)} → PageStands shared place d lines → PageStands shared place d (lines ++ [])
+page_begins {shared = shared} {place = place} {d = d} {lines = lines} s = subst (λ (z : List (Line PageBlank)). PageStands shared place d z) (sym (append-nil lines)) s
 
 pub triples_more : (lines : List (Line PageBlank)) (place : ℕ) (name : Chars) (list : List CodeTriple) (i : ℕ) (t : CodeTriple) → slice_get list i ≡ Some t
     → (lines ++ map (statement_at place name) (triples_seen (take i list))) ++ statement_at place name (triple_seen t) ∷ [] ≡ lines ++ map (statement_at place name) (triples_seen (take (i + 1) list))
@@ -223,18 +246,3 @@ pages_more pages i page at =
     let here : i ≡ 0 + i = omega arith in
     let up : suc i ≡ i + 1 = omega arith in
     ap (λ n. lines_from 0 (map page_seen (take i pages)) ++ lines_of n (page_seen page)) here ∙ pages_on 0 pages i page at ∙ ap (λ n. lines_from 0 (map page_seen (take n pages))) up
-
--- the same where the name is at hand by another name
-module _ (d new : Document) (lines : List (Line PageBlank)) (s : DocumentStands d lines) (place : ℕ) (name named : Chars) (same : named ≡ name) (t u : Triple ℕ)
-    (grows : new.blanks ≡ known same_blank d.blanks (blanks_of (rename (at_place place) t))) (renamed : u ≡ rename (place_in same_blank new.blanks) (rename (at_place place) t)) where
-  pub old_statement : contains same_line d.statements (statement named u) ≡ true → new.text ≡ d.text → new.statements ≡ d.statements → DocumentStands new (lines ++ statement_at place name t ∷ [])
-  old_statement there e g = subst (λ (n : Chars). DocumentStands new (lines ++ statement_at place n t ∷ [])) same (stands_old d new lines s place named t u grows renamed there e g)
-
-  pub new_statement : contains same_line d.statements (statement named u) ≡ false → new.text ≡ d.text ++ encode_utf8_all (line_text (statement named u))
-      → new.statements ≡ (if contains same_line d.statements (statement named u) then d.statements else d.statements ++ statement named u ∷ []) → WritableTriple (Some named) u
-      → DocumentStands new (lines ++ statement_at place name t ∷ [])
-  new_statement lacks e g w = subst (λ (n : Chars). DocumentStands new (lines ++ statement_at place n t ∷ [])) same (stands_new d new lines s place named t u grows renamed lacks e g w)
-
-pub in_graph : (new : Document) (lines : List (Line PageBlank)) (place : ℕ) (address name : Chars) (triples : List (Triple ℕ)) → name ≡ without_fragment address
-    → DocumentStands new (lines ++ map (statement_at place name) triples) → DocumentStands new (lines ++ lines_of place (accepted_page address triples))
-in_graph new lines place address name triples e s = subst (λ (n : Chars). DocumentStands new (lines ++ map (statement_at place n) triples)) e s

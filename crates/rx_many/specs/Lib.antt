@@ -4,5 +4,7 @@ pub mod Writing
 pub mod Numbering
 pub mod Dataset
 pub mod Rows
+pub mod Blank
 pub mod Seen
+pub mod Names
 pub mod Standing

@@ -1,6 +1,8 @@
 -- Blank nodes in order of first occurrence, from left to right: what numbering has at each place of a list.
-use Rattle.std.specs.Prelude.{Bool, List, [], ◌∷◌, ◌++◌, if◌then◌else◌}
+use Rattle.std.specs.Prelude.{ℕ, ◌+◌, Bool, List, [], ◌∷◌, ◌++◌, map, nat_eq, if◌then◌else◌}
+use Rattle.rx_terms.specs.declared.triples.Blank.{Blank}
 use Rattle.rx_model.specs.Sets.{contains}
+use Rattle.rx_model.specs.Numbered.{place_in}
 
 module _ {B : Type 0} (same : B → B → Bool) where
   -- one more, where it isn't there yet
@@ -11,3 +13,15 @@ module _ {B : Type 0} (same : B → B → Bool) where
   abbrev pub known : List B → List B → List B
   known seen [] = seen
   known seen (b ∷ more) = known (known_one seen b) more
+
+-- how many blank nodes the pages before have, and those of a page so far
+pub record Numbers : Type 0 where
+  pub before : ℕ
+  pub here : List ℕ
+
+-- the number of one of the page
+abbrev pub number_at : Numbers → ℕ → ℕ
+number_at numbers b = numbers.before + place_in nat_eq numbers.here b
+
+abbrev pub numbers_of : List Blank → List ℕ
+numbers_of blanks = map (λ b. b.0) blanks

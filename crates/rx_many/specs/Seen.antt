@@ -2,11 +2,10 @@
 use Rattle.std.specs.Prelude.{ℕ}
 use Rattle.rx_model.specs.Seen.{triple_seen, triples_seen}
 use Rattle.rx_many.specs.Pages.{Page, Judgement, refused, accepted}
-use Rattle.rx_many.specs.Lines.{Line, PageBlank, statement}
+use Rattle.rx_many.specs.Lines.{Line, statement}
 use Rattle.rx_many.specs.declared.pages.Page.{Page as CodePage}
 use Rattle.rx_many.specs.declared.pages.Judgement.{Judgement as CodeJudgement}
 use Rattle.rx_many.specs.declared.pages.Judgement.TheVariants as code
-use Rattle.rx_many.specs.declared.blanks.PageBlank.{PageBlank as CodeBlank}
 use Rattle.rx_many.specs.declared.statements.Statement.{Statement}
 
 abbrev pub judgement_seen : CodeJudgement → Judgement
@@ -15,9 +14,6 @@ judgement_seen (code.Accepted graph) = accepted (triples_seen graph)
 
 abbrev pub page_seen : CodePage → Page
 page_seen page = record { address = page.address; judgement = judgement_seen page.judgement }
-
-abbrev pub blank_seen : CodeBlank → PageBlank
-blank_seen b = (b.page, b.blank.0)
 
 abbrev pub statement_seen : Statement → Line ℕ
 statement_seen s = statement s.name (triple_seen s.triple)

@@ -1,59 +1,76 @@
 //! The numbering of the blank nodes of several pages.
-ghost use Rattle.std.specs.Prelude.{◌≡◌, [], IfOk, OnOk};
-ghost use Rattle.rx_model.specs.Numbered.{blank_of_node, blank_of_term, blanks_of, rename_node, rename_term, rename};
+ghost use Rattle.std.specs.Prelude.{◌≡◌, ◌<◌, ◌+◌, [], IfOk, IsTrue, OnOk, length, nat_eq};
+ghost use Rattle.rx_model.specs.Numbered.{blank_of_node, blank_of_term, blanks_of, place_in, rename_node, rename_term, rename};
 ghost use Rattle.rx_model.specs.Seen.{node_seen, term_seen, triple_seen};
-ghost use Rattle.rx_many.specs.Lines.{at_place, number_in, same_blank};
-ghost use Rattle.rx_many.specs.Numbering.{known_one, known};
+ghost use Rattle.rx_many.specs.Numbering.{known_one, known, number_at, numbers_of};
 
-use indexmap::IndexSet;
 use rx_terms::{Blank, NoMemory, Node, Term, Triple};
+use rx_unique::Unique;
 use std::alloc::Global;
-use std::hash::{BuildHasherDefault, FoldHasher};
 use std::marker::Model;
+use std::mem;
 
-/// A blank node of a page, with the page's place.
-#[derive(Clone, Copy, PartialEq, Eq, Hash)]
-pub(crate) struct PageBlank {
-    page: usize,
-    blank: Blank,
-}
-
-// A page's blank nodes have numbers in order, so a page can't choose many with one hash, however quick it is.
-type PageBlanks = IndexSet<PageBlank, BuildHasherDefault<FoldHasher>>;
-
-/// Blank nodes of pages in order of first occurrence. The number of each is its place. A contract sees the list.
+/// The blank nodes of the page that is being written, in order of first occurrence. The number of each is its place, behind
+/// the blank nodes of all pages before. A contract sees how many these have, and the list.
+///
+/// A page's graph mostly has the blank nodes 0, 1, 2 and so on in this order, and such ones aren't looked up.
 #[derive(Drop)]
 pub(crate) struct Blanks {
-    blanks: PageBlanks,
+    before: u64,
+    // the first ones of the page are 0, 1, 2 and so on up to this one
+    next: u64,
+    // those behind them
+    others: Unique<Blank>,
 }
 
 impl Model for Blanks {
-    ghost use Rattle.std.specs.Prelude.{List, map};
-    ghost use Rattle.rx_many.specs.Lines.{PageBlank as PairedBlank};
-    ghost use Rattle.rx_many.specs.Seen.{blank_seen};
+    ghost use Rattle.std.specs.Prelude.{◌++◌};
+    ghost use Rattle.rx_graph.specs.Numbering.{numbers_to};
+    ghost use Rattle.rx_many.specs.Numbering.{Numbers, numbers_of};
 
-    ghost Value = { List PairedBlank };
+    ghost Value = { Numbers };
 
-    ghost view = { λ blanks. map blank_seen blanks.blanks.keys };
+    ghost view = { λ blanks. record { before = blanks.before; here = numbers_to blanks.next ++ numbers_of blanks.others } };
 }
 
 impl Blanks {
     pub(crate) fn new(alloc: Global) -> Blanks
-        ensures { result ≡ [] }
+        ensures before { result.before ≡ 0 }
+        ensures here { result.here ≡ [] }
     {
         Blanks {
-            blanks: PageBlanks::with_hasher(alloc, BuildHasherDefault::new()),
+            before: 0,
+            next: 0,
+            others: Unique::new(alloc),
         }
     }
 
-    /// The triple of the page at this place, with their numbers in place of its blank nodes. Those that are new come after
-    /// those that were seen.
-    pub(crate) fn numbered(&mut self, page: usize, triple: &Triple) -> Result<Triple, NoMemory>
-        ensures known { OnOk result (self.new ≡ known same_blank self.old (blanks_of (rename (at_place page) (triple_seen triple.now)))) }
-        ensures renamed { IfOk result (λ numbered. triple_seen numbered ≡ rename (number_in self.new) (rename (at_place page) (triple_seen triple.now))) }
+    /// Goes on to the next page. So many blank nodes that 64 bits can't number them have no room in any memory.
+    pub(crate) fn turn(&mut self, alloc: Global) -> Result<(), NoMemory>
+        ensures before { OnOk result (self.new.before ≡ self.old.before + length self.old.here) }
+        ensures here { OnOk result (self.new.here ≡ []) }
     {
-        let subject = self.numbered_node(page, &triple.subject)?;
-        let object = self.numbered_term(page, &triple.object)?;
+        let Some(here) = self.next.checked_add(self.others.len() as u64) else {
+            return Err(NoMemory);
+        };
+        let Some(before) = self.before.checked_add(here) else {
+            return Err(NoMemory);
+        };
+        self.before = before;
+        self.next = 0;
+        drop(mem::replace(&mut self.others, Unique::new(alloc)));
+        Ok(())
+    }
+
+    /// The triple of the page, with their numbers in place of its blank nodes. Those that are new come after those that were
+    /// seen.
+    pub(crate) fn numbered(&mut self, triple: &Triple) -> Result<Triple, NoMemory>
+        ensures before { OnOk result (self.new.before ≡ self.old.before) }
+        ensures known { OnOk result (self.new.here ≡ known nat_eq self.old.here (blanks_of (triple_seen triple.now))) }
+        ensures renamed { IfOk result (λ numbered. triple_seen numbered ≡ rename (number_at self.new) (triple_seen triple.now)) }
+    {
+        let subject = self.numbered_node(&triple.subject)?;
+        let object = self.numbered_term(&triple.object)?;
         let predicate = triple.predicate.try_clone()?;
         Ok(Triple {
             subject,
@@ -62,32 +79,75 @@ impl Blanks {
         })
     }
 
-    fn numbered_node(&mut self, page: usize, node: &Node) -> Result<Node, NoMemory>
-        ensures known { OnOk result (self.new ≡ known same_blank self.old (blank_of_node (rename_node (at_place page) (node_seen node.now)))) }
-        ensures renamed { IfOk result (λ named. node_seen named ≡ rename_node (number_in self.new) (rename_node (at_place page) (node_seen node.now))) }
+    fn numbered_node(&mut self, node: &Node) -> Result<Node, NoMemory>
+        ensures before { OnOk result (self.new.before ≡ self.old.before) }
+        ensures known { OnOk result (self.new.here ≡ known nat_eq self.old.here (blank_of_node (node_seen node.now))) }
+        ensures renamed { IfOk result (λ named. node_seen named ≡ rename_node (number_at self.new) (node_seen node.now)) }
     {
         match node {
             Node::Iri(iri) => Ok(Node::Iri(iri.try_clone()?)),
-            Node::Blank(blank) => Ok(Node::Blank(self.number(page, *blank)?)),
+            Node::Blank(blank) => Ok(Node::Blank(self.number(*blank)?)),
         }
     }
 
-    fn numbered_term(&mut self, page: usize, term: &Term) -> Result<Term, NoMemory>
-        ensures known { OnOk result (self.new ≡ known same_blank self.old (blank_of_term (rename_term (at_place page) (term_seen term.now)))) }
-        ensures renamed { IfOk result (λ named. term_seen named ≡ rename_term (number_in self.new) (rename_term (at_place page) (term_seen term.now))) }
+    fn numbered_term(&mut self, term: &Term) -> Result<Term, NoMemory>
+        ensures before { OnOk result (self.new.before ≡ self.old.before) }
+        ensures known { OnOk result (self.new.here ≡ known nat_eq self.old.here (blank_of_term (term_seen term.now))) }
+        ensures renamed { IfOk result (λ named. term_seen named ≡ rename_term (number_at self.new) (term_seen term.now)) }
     {
         match term {
             Term::Iri(iri) => Ok(Term::Iri(iri.try_clone()?)),
-            Term::Blank(blank) => Ok(Term::Blank(self.number(page, *blank)?)),
+            Term::Blank(blank) => Ok(Term::Blank(self.number(*blank)?)),
             Term::Literal(literal) => Ok(Term::Literal(literal.try_clone()?)),
         }
     }
 
-    fn number(&mut self, page: usize, blank: Blank) -> Result<Blank, NoMemory>
-        ensures known { OnOk result (self.new ≡ known_one same_blank self.old (at_place page blank.0)) }
-        ensures place { IfOk result (λ number. number.0 ≡ number_in self.new (at_place page blank.0)) }
+    fn number(&mut self, blank: Blank) -> Result<Blank, NoMemory>
+        ensures before { OnOk result (self.new.before ≡ self.old.before) }
+        ensures known { OnOk result (self.new.here ≡ known_one nat_eq self.old.here blank.0) }
+        ensures number { IfOk result (λ number. number.0 ≡ number_at self.new blank.0) }
     {
-        let (place, _is_new) = self.blanks.insert_full(PageBlank { page, blank })?;
-        Ok(Blank(place as u64))
+        let place = self.place(blank)?;
+        let Some(number) = self.before.checked_add(place) else {
+            return Err(NoMemory);
+        };
+        Ok(Blank(number))
     }
+
+    /// The place of the blank node among those of the page.
+    fn place(&mut self, blank: Blank) -> Result<u64, NoMemory>
+        ensures before { OnOk result (self.new.before ≡ self.old.before) }
+        ensures known { OnOk result (self.new.here ≡ known_one nat_eq self.old.here blank.0) }
+        ensures place { IfOk result (λ place. place ≡ place_in nat_eq self.new.here blank.0) }
+    {
+        if blank.0 < self.next {
+            return Ok(blank.0);
+        }
+        if is_next(blank, self.next, &self.others) {
+            self.next += 1;
+            return Ok(blank.0);
+        }
+        Ok(place_behind(self.next, &mut self.others, blank)?)
+    }
+}
+
+/// Whether the blank node has this number, and no other one stands behind those with the numbers before it.
+fn is_next(blank: Blank, next: u64, others: &Unique<Blank>) -> bool
+    ensures next { IsTrue result → blank.0 ≡ next }
+    ensures none { IsTrue result → length others.now ≡ 0 }
+    ensures room { IsTrue result → next < 18446744073709551615 }
+{
+    blank.0 == next && others.len() == 0 && next < u64::MAX
+}
+
+/// The place of the blank node among the others, of which the first one has the place `next`.
+fn place_behind(next: u64, others: &mut Unique<Blank>, blank: Blank) -> Result<u64, NoMemory>
+    ensures known { OnOk result (numbers_of others.new ≡ known_one nat_eq (numbers_of others.old) blank.0) }
+    ensures place { IfOk result (λ place. place ≡ next + place_in nat_eq (numbers_of others.new) blank.0) }
+{
+    let (place, _is_new) = others.insert_full(blank)?;
+    let Some(behind) = next.checked_add(place as u64) else {
+        return Err(NoMemory);
+    };
+    Ok(behind)
 }

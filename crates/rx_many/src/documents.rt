@@ -1,23 +1,28 @@
 //! A document that is being written.
-ghost use Rattle.std.specs.Prelude.{◌≡◌, ◌<◌, ℕ, [], ◌∷◌, IfOk, OnOk, Some, length, map, slice_get};
+ghost use Rattle.std.specs.Prelude.{◌≡◌, ◌<◌, ℕ, List, [], ◌∷◌, IfOk, OnOk, Some, length, map, slice_get};
+ghost use Rattle.rx_terms.specs.Text.{Chars};
 ghost use Rattle.rx_model.specs.Seen.{triple_seen, triples_seen};
-ghost use Rattle.rx_many.specs.Lines.{Line, comment, statement_at, lines_of, lines_from};
+ghost use Rattle.rx_many.specs.Lines.{Line, comment, lines_from, numbered_lines};
 ghost use Rattle.rx_many.specs.Pages.{accepted_page};
 ghost use Rattle.rx_many.specs.Seen.{page_seen};
-ghost use Rattle.rx_many.specs.Standing.{AddsLines, DocumentStands, Writes};
+ghost use Rattle.rx_many.specs.Names.{AreApart};
+ghost use Rattle.rx_many.specs.Standing.{AddsComment, AddsNew, AddsOnce, AddsPage, AddsTriples, DocumentStands, Spells, Writes};
 
 use crate::blanks::Blanks;
+use crate::names::{is_shared, shared_names};
 use crate::pages::{Judgement, Page};
 use crate::refusals::comment_on;
-use crate::statements::{Statement, Statements};
+use crate::statements::{Statement, Statements, may_repeat};
 use rx_grammar::Fault;
 use rx_graph::Graph;
 use rx_nquads::Lines;
 use rx_refs::without_fragment;
 use rx_terms::{Iri, NoMemory, Triple};
+use rx_unique::Unique;
 use std::alloc::Global;
 
-/// A document so far: its text, the numbers of its blank nodes, and what it states.
+/// A document so far: its text, the numbers of its blank nodes, and what it states without them in graphs that several pages
+/// have. What else a page states stands in no other line, since its graph has each triple once.
 #[derive(Drop)]
 pub(crate) struct Document {
     pub(crate) text: Lines,
@@ -27,11 +32,20 @@ pub(crate) struct Document {
 
 /// The document of the pages.
 pub(crate) fn document_of(alloc: Global, pages: &[Page]) -> Result<Document, NoMemory>
-    ensures { IfOk result (λ document. DocumentStands document (lines_from 0 (map page_seen pages.now))) }
+    ensures { IfOk result (λ document. Spells document.text (numbered_lines (lines_from 0 (map page_seen pages.now)))) }
+{
+    let shared = shared_names(alloc, pages)?;
+    document_by(alloc, pages, &shared)
+}
+
+/// The document of the pages, where these are the names that several of them have.
+fn document_by(alloc: Global, pages: &[Page], shared: &Unique<Iri>) -> Result<Document, NoMemory>
+    requires { AreApart shared.now pages.now }
+    ensures { IfOk result (λ document. DocumentStands shared.now document (lines_from 0 (map page_seen pages.now))) }
 {
     let mut document = Document::new(alloc)?;
     for i in 0..pages.len() {
-        let Ok(()) = document.put_page(alloc, i, &pages[i]) else {
+        let Ok(()) = document.put_page(alloc, &pages[i], shared) else {
             drop(document);
             return Err(NoMemory);
         };
@@ -41,7 +55,7 @@ pub(crate) fn document_of(alloc: Global, pages: &[Page]) -> Result<Document, NoM
 
 impl Document {
     fn new(alloc: Global) -> Result<Document, NoMemory>
-        ensures { IfOk result (λ document. DocumentStands document []) }
+        ensures { IfOk result (λ document. (shared : List Chars) → DocumentStands shared document []) }
     {
         let text = Lines::new(alloc)?;
         Ok(Document {
@@ -51,18 +65,18 @@ impl Document {
         })
     }
 
-    /// Adds the lines of the page at this place.
-    fn put_page(&mut self, alloc: Global, place: usize, page: &Page) -> Result<(), NoMemory>
-        ensures { AddsLines result self.old self.new (lines_of place (page_seen page.now)) }
+    /// Adds the lines of the page, which comes behind those whose lines are there.
+    fn put_page(&mut self, alloc: Global, page: &Page, shared: &Unique<Iri>) -> Result<(), NoMemory>
+        ensures { AddsPage result shared.now self.old self.new (page_seen page.now) }
     {
         match &page.judgement {
             Judgement::Refused(fault) => self.put_comment(alloc, &page.address, *fault),
-            Judgement::Accepted(graph) => self.put_graph(alloc, place, &page.address, graph),
+            Judgement::Accepted(graph) => self.put_graph(alloc, &page.address, graph, shared),
         }
     }
 
     fn put_comment(&mut self, alloc: Global, address: &Iri, fault: Fault) -> Result<(), NoMemory>
-        ensures { AddsLines result self.old self.new (comment address.now fault ∷ []) }
+        ensures { AddsComment result self.old self.new (comment address.now fault ∷ []) }
     {
         let line = comment_on(alloc, address, fault)?;
         let put = self.text.put_bytes(line.as_bytes());
@@ -74,31 +88,52 @@ impl Document {
     fn put_graph(
         &mut self,
         alloc: Global,
-        place: usize,
         address: &Iri,
         graph: &Graph,
+        shared: &Unique<Iri>,
     ) -> Result<(), NoMemory>
-        ensures { AddsLines result self.old self.new (lines_of place (accepted_page address.now (triples_seen graph.now))) }
+        ensures { AddsPage result shared.now self.old self.new (accepted_page address.now (triples_seen graph.now)) }
     {
+        self.blanks.turn(alloc)?;
         let name = without_fragment(alloc, address)?;
-        self.put_triples(place, &name, graph)
+        let is_shared = is_shared(&name, shared);
+        self.put_triples(&name, is_shared, graph)
     }
 
-    /// Adds the triples of the page at this place, in the graph of this name.
-    fn put_triples(&mut self, place: usize, name: &Iri, graph: &Graph) -> Result<(), NoMemory>
-        ensures { AddsLines result self.old self.new (map (statement_at place name.now) (triples_seen graph.now)) }
+    /// Adds the triples of a page, in the graph of this name, which several pages may have.
+    fn put_triples(&mut self, name: &Iri, is_shared: bool, graph: &Graph) -> Result<(), NoMemory>
+        ensures { AddsTriples result is_shared name.now self.old self.new (triples_seen graph.now) }
     {
         for i in 0..graph.len() {
-            self.put_triple(place, name, graph.at(i))?;
+            self.put_triple(name, is_shared, graph.at(i))?;
         }
         Ok(())
     }
 
-    /// Adds the line of a triple of the page at this place, where no earlier line states it.
-    fn put_triple(&mut self, place: usize, name: &Iri, triple: &Triple) -> Result<(), NoMemory>
-        ensures { AddsLines result self.old self.new (statement_at place name.now (triple_seen triple.now) ∷ []) }
+    /// Adds the line of a triple of the page, where no earlier line states it.
+    fn put_triple(&mut self, name: &Iri, is_shared: bool, triple: &Triple) -> Result<(), NoMemory>
+        ensures { AddsTriples result is_shared name.now self.old self.new (triple_seen triple.now ∷ []) }
     {
-        let triple = self.blanks.numbered(place, triple)?;
+        if may_repeat(is_shared, triple) {
+            self.put_once(name, triple)
+        } else {
+            self.put_new(name, triple)
+        }
+    }
+
+    /// Adds the line of a triple of the page, which no line states.
+    fn put_new(&mut self, name: &Iri, triple: &Triple) -> Result<(), NoMemory>
+        ensures { AddsNew result name.now self.old self.new (triple_seen triple.now) }
+    {
+        let triple = self.blanks.numbered(triple)?;
+        self.text.put(&triple, Some(name))
+    }
+
+    /// Adds the line of a triple that several pages may state, where no earlier line states it.
+    fn put_once(&mut self, name: &Iri, triple: &Triple) -> Result<(), NoMemory>
+        ensures { AddsOnce result name.now self.old self.new (triple_seen triple.now) }
+    {
+        let triple = self.blanks.numbered(triple)?;
         let name = name.try_clone()?;
         match self.statements.add(Statement { name, triple })? {
             Some(place) => self.write(place),

@@ -10,6 +10,7 @@ ghost use Rattle.rx_many.specs.Rows.{RowsHold};
 mod blanks;
 mod documents;
 mod many;
+mod names;
 mod pages;
 mod refusals;
 mod statements;

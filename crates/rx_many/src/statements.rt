@@ -1,11 +1,13 @@
 //! The statements of a document.
-ghost use Rattle.std.specs.Prelude.{◌≡◌, ◌<◌, [], IfOk, OnOk, Some, length, slice_get};
+ghost use Rattle.std.specs.Prelude.{◌≡◌, ◌<◌, ◌&&◌, [], IfOk, OnOk, Some, length, not, slice_get};
+ghost use Rattle.rx_model.specs.Seen.{node_seen, term_seen, triple_seen};
+ghost use Rattle.rx_many.specs.Blank.{has_blank, is_blank_node, is_blank_term};
 ghost use Rattle.rx_many.specs.Lines.{same_line};
 ghost use Rattle.rx_many.specs.Numbering.{known_one};
 ghost use Rattle.rx_many.specs.Seen.{statement_seen};
 ghost use Rattle.rx_many.specs.Standing.{AddsWhereNew};
 
-use rx_terms::{Iri, NoMemory, Triple};
+use rx_terms::{Iri, NoMemory, Node, Term, Triple};
 use rx_unique::Unique;
 use std::alloc::Global;
 use std::marker::Model;
@@ -61,5 +63,39 @@ impl Statements {
         ensures { slice_get self.now place ≡ Some (statement_seen result.now) }
     {
         self.statements.at(place)
+    }
+}
+
+/// Whether another page may state the triple too, where its graph's name may be of several pages. No other page has its blank
+/// nodes.
+pub(crate) fn may_repeat(is_shared: bool, triple: &Triple) -> bool
+    ensures { result ≡ (is_shared && not (has_blank (triple_seen triple.now))) }
+{
+    is_shared && !has_blank(triple)
+}
+
+/// Whether the triple has a blank node.
+fn has_blank(triple: &Triple) -> bool
+    ensures { result ≡ has_blank (triple_seen triple.now) }
+{
+    is_blank_node(&triple.subject) || is_blank_term(&triple.object)
+}
+
+fn is_blank_node(node: &Node) -> bool
+    ensures { result ≡ is_blank_node (node_seen node.now) }
+{
+    match node {
+        Node::Iri(_iri) => false,
+        Node::Blank(_blank) => true,
+    }
+}
+
+fn is_blank_term(term: &Term) -> bool
+    ensures { result ≡ is_blank_term (term_seen term.now) }
+{
+    match term {
+        Term::Iri(_iri) => false,
+        Term::Blank(_blank) => true,
+        Term::Literal(_literal) => false,
     }
 }

@@ -1,11 +1,11 @@
 use Rattle.std.proofs.Common.{◌∙◌}
-use Rattle.rx_model.specs.Numbered.{blank_of_term, rename_term}
+use Rattle.rx_model.specs.Numbered.{blank_of_term}
 use Rattle.rx_model.specs.Seen.{term_seen}
-use Rattle.rx_many.specs.Lines.{at_place}
-use Rattle.rx_many.proofs.KeyLemmas.{renamed_triple, subject_stays}
+use Rattle.rx_graph.proofs.NumberLemmas.{renamed_triple}
+use Rattle.rx_many.proofs.HereLemmas.{subject_stays}
 use Rattle.rx_many.proofs.blanks.Blanks.numbered.Goals as goal
 
 pub returns-clause-renamed : goal.returns-clause-renamed
 returns-clause-renamed c = renamed_triple _ _ _
-    (c.in_ok-subject.ensures.renamed ∙ subject_stays _ _ _ (blank_of_term (rename_term (at_place c.args.page) (term_seen c.args.triple.now.object))) _ c.in_ok-subject.ensures.known c.in_ok-object.ensures.known)
+    (c.in_ok-subject.ensures.renamed ∙ subject_stays _ _ _ (blank_of_term (term_seen c.args.triple.now.object)) _ c.in_ok-object.ensures.before c.in_ok-subject.ensures.known c.in_ok-object.ensures.known)
     c.in_ok-predicate.ensures c.in_ok-object.ensures.renamed

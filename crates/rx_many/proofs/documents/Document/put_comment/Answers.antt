@@ -3,8 +3,8 @@ use Rattle.rx_many.proofs.LineLemmas.{if_ok, stands_comment}
 use Rattle.rx_many.proofs.documents.Document.put_comment.Goals as goal
 
 pub returns : goal.returns
-returns c lines s =
+returns c shared lines s =
     if_ok c.put_bytes-put.result
-    (λ put. stands_comment c.args.self.now _ lines s c.args.address.now c.args.fault
+    (λ put. stands_comment shared c.args.self.now _ lines s c.args.address.now c.args.fault
     (put ∙ ap (λ z. c.args.self.now.text ++ z) (c.as_bytes.ensures.value ∙ c.in_ok-line.ensures.spelled)) refl refl c.in_ok-line.ensures.writable)
     c.put_bytes-put.ensures

@@ -1,23 +1,18 @@
-use Rattle.std.proofs.Common.{◌∙◌, ◌++◌, ◌∷◌, [], refl, sym, ap, if◌then◌else◌}
+use Rattle.std.proofs.Common.{◌∙◌, sym, refl, inl}
+use Rattle.rx_model.specs.Numbered.{rename}
 use Rattle.rx_model.specs.Seen.{triple_seen}
-use Rattle.rx_model.specs.Numbered.{rename, place_in}
-use Rattle.rx_many.specs.Lines.{statement, at_place, same_blank}
-use Rattle.rx_many.proofs.LineLemmas.{if_ok, old_statement, new_statement}
+use Rattle.rx_many.specs.Blank.{has_blank}
+use Rattle.rx_many.specs.Lines.{at_place}
+use Rattle.rx_many.proofs.PageLemmas.{repeats, repeats_not, same_blanks}
 use Rattle.rx_many.proofs.documents.Document.put_triple.Goals as goal
 
-pub returns-in-Some : goal.returns-in-Some
-returns-in-Some c lines s =
-    let added = rw c.in-Some.is at c.in_ok-place.ensures.place in
-    if_ok c.write.result
-    (λ w. new_statement c.args.self.now _ lines s c.args.place c.args.name.now c.in_ok-name.name c.in_ok-name.ensures (triple_seen c.args.triple.now) (triple_seen c.in_ok-triple.triple)
-    (w.blanks ∙ c.in_ok-triple.ensures.known)
-    (c.in_ok-triple.ensures.renamed ∙ ap (λ z. rename (place_in same_blank z) (rename (at_place c.args.place) (triple_seen c.args.triple.now))) (sym w.blanks))
-    added.lacks w.text (w.statements ∙ c.in_ok-place.ensures.list) w.writable)
-    (c.write.ensures (statement c.in_ok-name.name (triple_seen c.in_ok-triple.triple)) added.at)
+pub returns-then-may_repeat : goal.returns-then-may_repeat
+returns-then-may_repeat c shared place lines s tells new =
+    let may = repeats c.args.is_shared (has_blank (triple_seen c.args.triple.now)) (sym c.may_repeat.ensures ∙ c.if-may_repeat.true) in
+    c.put_once.ensures shared place lines s (tells.yes may.0) may.1
 
-pub returns-in-None : goal.returns-in-None
-returns-in-None c lines s =
-    let there = rw c.in-None.is at c.in_ok-place.ensures.place in
-    old_statement c.args.self.now _ lines s c.args.place c.args.name.now c.in_ok-name.name c.in_ok-name.ensures (triple_seen c.args.triple.now) (triple_seen c.in_ok-triple.triple)
-    c.in_ok-triple.ensures.known c.in_ok-triple.ensures.renamed there refl
-    (c.in_ok-place.ensures.list ∙ ap (λ b. if b then c.args.self.now.statements else c.args.self.now.statements ++ statement c.in_ok-name.name (triple_seen c.in_ok-triple.triple) ∷ []) there)
+pub returns-else-may_repeat : goal.returns-else-may_repeat
+returns-else-may_repeat c shared place lines s tells new =
+    let own = repeats_not c.args.is_shared (triple_seen c.args.triple.now) shared c.args.name.now tells (sym c.may_repeat.ensures ∙ c.if-may_repeat.false) in
+    c.put_new.ensures shared place lines s own
+    (new c.args.name.now (rename (at_place place) (triple_seen c.args.triple.now)) (λ m n. own m (sym (same_blanks (at_place place) (triple_seen c.args.triple.now)) ∙ n)) (inl refl))

@@ -1,8 +1,10 @@
-use Rattle.std.proofs.Common.{List, ◌++◌, map, take}
+use Rattle.std.proofs.Common.{ℕ, List, ◌++◌, map, take}
+use Rattle.rx_terms.specs.Text.{Chars}
 use Rattle.rx_model.specs.Seen.{triples_seen}
 use Rattle.rx_many.specs.Lines.{Line, PageBlank, statement_at}
-use Rattle.rx_many.specs.Standing.{DocumentStands}
+use Rattle.rx_many.specs.Standing.{AreNew, PageStands, Tells}
 use Rattle.rx_many.proofs.documents.Document.put_triples.Given as goal
 
 abbrev pub invariant-loop-i : goal.invariant-loop-i
-invariant-loop-i l = (lines : List (Line PageBlank)) → DocumentStands l.fn.self lines → DocumentStands l.self (lines ++ map (statement_at l.place l.name) (triples_seen (take l.i l.graph)))
+invariant-loop-i l = (shared : List Chars) (place : ℕ) (lines : List (Line PageBlank)) → PageStands shared place l.fn.self lines → Tells l.is_shared shared l.name → AreNew shared lines (map (statement_at place l.name) (triples_seen l.graph))
+    → PageStands shared place l.self (lines ++ map (statement_at place l.name) (triples_seen (take l.i l.graph)))

@@ -2,7 +2,7 @@ use Rattle.std.proofs.Common.{map, take}
 use Rattle.rx_many.specs.Lines.{lines_from}
 use Rattle.rx_many.specs.Seen.{page_seen}
 use Rattle.rx_many.specs.Standing.{DocumentStands}
-use Rattle.rx_many.proofs.documents.document_of.Given as goal
+use Rattle.rx_many.proofs.documents.document_by.Given as goal
 
 abbrev pub invariant-loop-i : goal.invariant-loop-i
-invariant-loop-i l = DocumentStands l.document (lines_from 0 (map page_seen (take l.i l.pages)))
+invariant-loop-i l = DocumentStands l.shared l.document (lines_from 0 (map page_seen (take l.i l.pages)))
