@@ -287,7 +287,8 @@ fn run_several<F: Shelf, O: Sink, E: Sink>(
         Err(InputError::NoMemory) => return Status::Memory,
     };
     let text = many.text(alloc);
-    drop(many);
+    // As in `write`.
+    let _kept = ManuallyDrop::new(many);
     match text {
         Ok(text) => match put_all(out, text.as_slice()) {
             Ok(()) => Status::Done,
