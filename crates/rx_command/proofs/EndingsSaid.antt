@@ -13,7 +13,7 @@ use Rattle.rx_page.proofs.TextLemmas.{tree_of_text}
 use Rattle.rx_command.specs.Contexts.{HasContext, HasOther, LacksContext, context_in}
 use Rattle.rx_command.specs.Outcome.{NamesPage, HasPageFault, HasBadContext, JobLacks, LacksFile, LacksPage}
 use Rattle.rx_command.specs.Gathering.{HasAll, HasPages}
-use Rattle.rx_command.specs.Samples.{Yields, YieldsBoth}
+use Rattle.rx_command.specs.Samples.{SaysOfSample, Yields, YieldsBoth}
 use Rattle.rx_command.specs.Runs.{Devices, EndsSo}
 use Rattle.rx_command.specs.Endings.{OfPage, IsAnswer, nothing_asked, of_sample, of_page, of_fault, no_file, no_context, of_pages, no_file_of_several, no_context_of_several, IsDue, Ends, answers, shelf_failed, out_failed, no_memory, Follows, EndingsSay}
 use Rattle.rx_command.specs.declared.statuses.Status.{Status}
@@ -74,12 +74,12 @@ module _ (shelf : ShelfContent) where
   all_done g c p (no_context_of_several of o) e = let same : of ≡ g = (cc) in absurd (not_other g.context shelf c (subst (λ (x : Gathering). HasOther x.context shelf) same o))
 
 module _ (words : List Chars) (old new : Devices) (shelf : ShelfContent) (tells : old.told ≡ Some shelf) where
-  named : (asked : Asked) (Holds : Context → List ℕ → Type 0) (a : OfPage asked shelf Holds) → Some (reads asked) ≡ job words → NamesPage words old.told a.bytes
+  abbrev named : (asked : Asked) (Holds : Context → List ℕ → Type 0) (a : OfPage asked shelf Holds) → Some (reads asked) ≡ job words → NamesPage words old.told a.bytes
   named asked Holds a j = record { asked = asked; shelf = shelf; context = a.context; asks = sym (ap page_in j); tells = tells; holds = a.is_context; file = a.file }
 
   answer_yields : {k : Option Job} {t : Status} {text line : List ℕ} → IsAnswer shelf k t text line → t ≡ status.Done → k ≡ job words → YieldsBoth words old.told text
   answer_yields nothing_asked e j = absurd (cc)
-  answer_yields (of_sample count line i) e j = let s = record { count = count; asks = sym j; is = i } in (inr (inl s), inr (inl s))
+  answer_yields (of_sample count line i) e j = let s : SaysOfSample words line = record { count = count; asks = sym j; is = i } in (inr (inl s), inr (inl s))
   answer_yields (of_page asked text a) e j =
       let p = named asked (λ context bytes. IsTheText asked.task context bytes text) a j in
       (inl (record { bytes = a.bytes; page = p; has_text = (a.holds_so).gives }), inl (record { bytes = a.bytes; page = p; graph = (a.holds_so).denotes }))

@@ -1,4 +1,4 @@
-use Rattle.std.proofs.Common.{arith, ap, subst, inl, ◌≡◌, ◌≤◌, ◌+◌, [], length, refl, Err}
+use Rattle.std.proofs.Common.{arith, ap, subst, inl, ◌≡◌, ◌≤◌, ◌+◌, [], length, refl, Err, ◌∙◌}
 use Rattle.rx_ports.proofs.MoveLemmas.{moves_weaker, moves_then}
 use Rattle.rx_grammar.specs.declared.limits.Limits.{Limits}
 use Rattle.rx_command.specs.Files.{HasRead, TakesOf}
