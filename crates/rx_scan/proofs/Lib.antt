@@ -20,6 +20,9 @@ pub mod SaidLemmas
 pub mod FrontLemmas
 pub mod LoopLemmas
 pub mod SpelledLemmas
+pub mod AheadLemmas
+pub mod BackLemmas
+pub mod ExactLemmas
 pub mod MarkFronts
 pub mod Snoc
 pub mod Behinds

@@ -1,0 +1,468 @@
+-- What is spelled from where nothing is unfinished is scanned so, byte by byte.
+use Rattle.std.proofs.Common.{◌≡◌, ◌≢◌, ◌∙◌, inl, inr, ⊎_elim, ℕ, ◌+◌, ◌-◌, ◌≤◌, ◌<◌, Bool, true, false, List, [], ◌∷◌, ◌++◌, refl, sym, ap, subst, length, append_assoc, append-nil, Some, None, Result, Ok, Err, arith}
+use Rattle.std.specs.Prelude.{◌&&◌, ◌||◌, ◌==◌, nat_le, not, if◌then◌else◌}
+use Rattle.std.specs.Char.{IsScalar, len_utf8}
+use Rattle.std.specs.Str.{all_scalars}
+use lib.Utf8.{encode, encodes, scalar}
+use Rattle.std.proofs.lemmas.List.{length-append}
+use Rattle.std.proofs.lemmas.Str.{length-encode}
+use Rattle.std.proofs.lemmas.Bool.{and_parts, cond-true, cond-false}
+use Rattle.std.proofs.lemmas.Bool.Decides.{nat_tests}
+use Rattle.rx_chars.specs.declared.syntax.Syntax.{Syntax}
+use Rattle.rx_chars.specs.declared.utf8.Utf8Step.{Utf8Step}
+use Rattle.rx_chars.specs.declared.utf8.Utf8Step.TheVariants.{More, Char}
+use Rattle.rx_chars.specs.Utf8.{answer_of, BeginsCharacter, IsCharacter}
+use Rattle.rx_chars.specs.Characters.{Entry, byte_order_mark, line_feed, carriage_return, as_line_end, placed, entered}
+use Rattle.rx_chars.proofs.Utf8Exact.{answer_is}
+use Rattle.rx_chars.proofs.Utf8Forms.{character_of_form}
+use Rattle.rx_grammar.specs.declared.contents.Content.{Content}
+use Rattle.rx_grammar.specs.declared.faults.Kind.{Kind}
+use Rattle.rx_grammar.specs.declared.faults.Kind.TheVariants.{Nul, PageTooLong, TagTooLong}
+use Rattle.rx_grammar.specs.declared.limits.Limits.{Limits}
+use Rattle.rx_grammar.specs.Items.{values, Item}
+use Rattle.rx_grammar.specs.Pages.{has_no_nul}
+use Rattle.rx_grammar.specs.PageFaults.{IsPart, is_known_tag}
+use Rattle.rx_reader.proofs.Fronts.{two_fronts}
+use Rattle.rx_terms.proofs.Bools.{by_test, untrue}
+use Rattle.rx_pages.specs.Scanner.{GoesOn, verdict}
+use Rattle.rx_pages.specs.PageReader.{Spot, Scanning, Scanned, first_of, starts_at, token_at, holding, passed, entering, is_too_long, told, read_char, read_answer, read_byte, with_items, scan_on, scan_from}
+use Rattle.rx_pages.proofs.Pends.{occurs}
+use Rattle.rx_pages.proofs.FaultsRead.{pending_goes}
+use Rattle.rx_pages.proofs.CharSteps.{passes, entry_at}
+use Rattle.rx_pages.proofs.CharWalk.{first_among, len_positive, no_mark, no_return}
+use Rattle.rx_pages.proofs.FrontRead.{rises}
+use Rattle.rx_pages.proofs.ByteSteps.{not_le, not_long}
+use Rattle.rx_pages.proofs.TokensWalk.{Rises, flags_behind}
+use Rattle.rx_scan.specs.Spelled.{entries_at, AllBefore, is_some, ends_in_return, Spells, IsBetween}
+use Rattle.rx_scan.proofs.SpelledLemmas.{first_known, same_flags}
+use Rattle.rx_scan.proofs.AheadLemmas.{Tail, at_end, Reads, reads_entry, bound_with, bound_run}
+
+-- the first character, and what is entered of the others
+passes_entries : (started after_return : Bool) (at c : ℕ) (cs : List ℕ) → passes started after_return c ≡ true → entries_at started after_return at (c ∷ cs) ≡ entries_at true false (at + len_utf8 c) cs
+passes_entries true after_return at c cs h = cond-true _ _ _ h
+passes_entries false after_return at c cs h =
+    by_test {G = entries_at false after_return at (c ∷ cs) ≡ entries_at true false (at + len_utf8 c) cs} (c == byte_order_mark)
+    (λ t. cond-true _ _ _ t)
+    (λ t. cond-false _ _ _ t ∙ cond-true _ _ _ (sym (ap (λ b. b || after_return && c == line_feed) t) ∙ h))
+
+enters_entries : (started after_return : Bool) (at c : ℕ) (cs : List ℕ) → passes started after_return c ≡ false
+    → entries_at started after_return at (c ∷ cs) ≡ entry_at c at (at + len_utf8 c - 1) ∷ entries_at true (c == carriage_return) (at + len_utf8 c) cs
+enters_entries true after_return at c cs h = cond-false _ _ _ h
+enters_entries false after_return at c cs h =
+    by_test {G = entries_at false after_return at (c ∷ cs) ≡ entry_at c at (at + len_utf8 c - 1) ∷ entries_at true (c == carriage_return) (at + len_utf8 c) cs} (c == byte_order_mark)
+    (λ t. absurd (true_false (sym (ap (λ b. b || after_return && c == line_feed) t) ∙ h)))
+    (λ t. cond-false _ _ _ t ∙ cond-false _ _ _ (sym (ap (λ b. b || after_return && c == line_feed) t) ∙ h))
+  where
+    true_false : true ≡ false → ⊥
+    true_false e = cc
+
+none_entered : (started after_return : Bool) (at : ℕ) → entries_at started after_return at [] ≡ []
+none_entered true after_return at = refl
+none_entered false after_return at = refl
+
+rises_at : (started after_return : Bool) (at : ℕ) (cs : List ℕ) → Rises (entries_at started after_return at cs)
+rises_at true after_return at cs = rises after_return at cs
+rises_at false after_return at [] = tt
+rises_at false after_return at (c ∷ cs) =
+    by_test {G = Rises (entries_at false after_return at (c ∷ cs))} (c == byte_order_mark)
+    (λ t. subst Rises (sym (cond-true _ _ _ t)) (rises false (at + len_utf8 c) cs))
+    (λ t. subst Rises (sym (cond-false _ _ _ t)) (rises after_return at (c ∷ cs)))
+
+size_of : (c : ℕ) (cs : List ℕ) → length (encodes (c ∷ cs)) ≡ len_utf8 c + length (encodes cs)
+size_of c cs = length-append (encode c) (encodes cs) ∙ ap (λ n. n + length (encodes cs)) (length-encode c)
+
+-- where the first entry ends
+first_ends : (started after_return : Bool) (at c : ℕ) (cs : List ℕ) (e : Entry) (es : List Entry) → entries_at started after_return at (c ∷ cs) ≡ e ∷ es → (at + len_utf8 c ≤ e.last + 1) × (e.last < at + length (encodes (c ∷ cs)))
+first_ends started after_return at c cs e es h =
+    by_test {G = (at + len_utf8 c ≤ e.last + 1) × (e.last < at + length (encodes (c ∷ cs)))} (passes started after_return c)
+    (λ t.
+    let a = first_among false (at + len_utf8 c) cs e es (sym (passes_entries started after_return at c cs t) ∙ h) in
+    let f = a.from in
+    let o = a.order in
+    let l = a.to in
+    let z = size_of c cs in
+    (omega arith, omega arith))
+    (λ t.
+    let same : entry_at c at (at + len_utf8 c - 1) ∷ entries_at true (c == carriage_return) (at + len_utf8 c) cs ≡ e ∷ es = sym (enters_entries started after_return at c cs t) ∙ h in
+    let first : entry_at c at (at + len_utf8 c - 1) ≡ e = cc in
+    let l : at + len_utf8 c - 1 ≡ e.last = ap (λ (x : Entry). x.last) first in
+    let p = len_positive c in
+    let z = size_of c cs in
+    (omega arith, omega arith))
+
+-- a character is U+0000 where an entry is
+nul_entry : (c : ℕ) → (c == 0) ≡ true → (as_line_end c == 0) ≡ true
+nul_entry c h = grind (arith, nat_tests)
+
+line_feed_some : (c : ℕ) → (c == line_feed) ≡ true → (c == 0) ≡ false
+line_feed_some c h = grind (arith, nat_tests)
+
+mark_some : (c : ℕ) → (c == byte_order_mark) ≡ true → (c == 0) ≡ false
+mark_some c h = grind (arith, nat_tests)
+
+passing_is : (started after_return : Bool) (c : ℕ) (G : Type 0) → passes started after_return c ≡ true → ((c == byte_order_mark) ≡ true → G) → ((c == line_feed) ≡ true → G) → G
+passing_is started after_return c G h on_mark on_feed =
+    by_test {G = G} (not started && c == byte_order_mark)
+    (λ t. on_mark (and_parts (not started) (c == byte_order_mark) t).1)
+    (λ t. on_feed (and_parts after_return (c == line_feed) (sym (ap (λ b. b || after_return && c == line_feed) t) ∙ h)).1)
+
+nonzero_of : (started after_return : Bool) (at c : ℕ) (cs : List ℕ) → has_no_nul (entries_at started after_return at (c ∷ cs)) ≡ true → (c == 0) ≡ false
+nonzero_of started after_return at c cs h =
+    by_test {G = (c == 0) ≡ false} (passes started after_return c) (λ t. passing_is started after_return c ((c == 0) ≡ false) t (mark_some c) (line_feed_some c))
+    (λ t.
+    let k : (not (as_line_end c == 0) && has_no_nul (entries_at true (c == carriage_return) (at + len_utf8 c) cs)) ≡ true = sym (ap has_no_nul (enters_entries started after_return at c cs t)) ∙ h in
+    by_test {G = (c == 0) ≡ false} (c == 0) (λ z. absurd (false_true (sym (ap not (nul_entry c z)) ∙ (and_parts (not (as_line_end c == 0)) (has_no_nul (entries_at true (c == carriage_return) (at + len_utf8 c) cs)) k).0))) (λ z. z))
+  where
+    false_true : false ≡ true → ⊥
+    false_true e = cc
+
+no_nul_behind : (started after_return : Bool) (at c : ℕ) (cs : List ℕ) (es : List Entry) → has_no_nul (entries_at started after_return at (c ∷ cs)) ≡ true → (e : Entry) → entries_at started after_return at (c ∷ cs) ≡ e ∷ es → has_no_nul es ≡ true
+no_nul_behind started after_return at c cs es h e k = (and_parts (not (e.value == 0)) (has_no_nul es) (sym (ap has_no_nul k) ∙ h)).1
+
+-- the bytes that are held are fewer than those of the character that they begin
+abbrev IsBegun : List ℕ → List ℕ → Type 0
+IsBegun held [] = Unit {0}
+IsBegun held (c ∷ cs) = length held < len_utf8 c
+
+none_begun : (cs : List ℕ) → IsBegun [] cs
+none_begun [] = tt
+none_begun (c ∷ cs) = let p = len_positive c in omega arith
+
+or_true : (b : Bool) → (b || true) ≡ true
+or_true true = refl
+or_true false = refl
+
+or_none : (b : Bool) → (b || false) ≡ b
+or_none true = refl
+or_none false = refl
+
+module _ (syntax : Syntax) (limits : Limits) (spot : Spot) (o : occurs syntax spot.inside ≡ true) (final : Scanned) (part : List ℕ) (is_part : IsPart part) (held_is : final.next.held ≡ part) (going : GoesOn syntax spot.inside [] (values final.next.run))
+    (fits : is_known_tag syntax spot.inside (values final.next.run) ≡ true → final.next.at ≤ first_of final.next.run final.next.at + limits.tag) where
+  abbrev inside : Content
+  inside = spot.inside
+
+  abbrev flags_end : Bool × Bool
+  flags_end = (final.next.two, final.next.last)
+
+  abbrev Spelled_on : List Entry → List Entry → Bool → Bool → List Item → Type 0
+  Spelled_on run es two last items = Tail syntax limits spot o final.next.run going flags_end run es two last items
+
+  -- what is ahead of a state
+  record Ahead (rest : List ℕ) (s : Scanning) (items : List Item) : Type 0 where
+    start : ℕ
+    cs : List ℕ
+    bytes : s.held ++ rest ≡ encodes cs ++ part
+    scalars : all_scalars cs ≡ true
+    begun : IsBegun s.held cs
+    at_is : s.at ≡ start + length s.held
+    left : List Item
+    tail : Spelled_on s.run (entries_at s.started s.after_return start cs) s.two s.last left
+    no_nul : has_no_nul (entries_at s.started s.after_return start cs) ≡ true
+    within : AllBefore limits.page s.at rest
+    end_is : final.next.at ≡ s.at + length rest
+    started : final.next.started ≡ (s.started || is_some cs)
+    after_return : final.next.after_return ≡ ends_in_return s.after_return cs
+    items_are : final.items ≡ items ++ left
+
+  -- nothing is ahead
+  is_final : (s : Scanning) (items : List Item) → Ahead [] s items → record { next = s; items = items } ≡ final
+  is_final s items a = by a.cs a.bytes a.begun a.tail a.started a.after_return
+    where
+      by : (cs : List ℕ) → s.held ++ [] ≡ encodes cs ++ part → IsBegun s.held cs → Spelled_on s.run (entries_at s.started s.after_return a.start cs) s.two s.last a.left → final.next.started ≡ (s.started || is_some cs) → final.next.after_return ≡ ends_in_return s.after_return cs
+          → record { next = s; items = items } ≡ final
+      by (c ∷ cs) e b t st ar =
+          let l : length (s.held ++ []) ≡ length (encodes (c ∷ cs)) + length part = ap length e ∙ length-append (encodes (c ∷ cs)) part in
+          let n : length (s.held ++ []) ≡ length s.held = ap length (append-nil s.held) in
+          let z = size_of c cs in
+          absurd (omega arith)
+      by [] e b t st ar =
+          let u = subst (λ es. Spelled_on s.run es s.two s.last a.left) (none_entered s.started s.after_return a.start) t in
+          let p = at_end syntax limits spot o final.next.run going flags_end s.run s.two s.last a.left u in
+          let f : (s.two, s.last) ≡ flags_end = ap (λ x. flags_behind x s.two s.last) (sym p.1) ∙ u.flags in
+          let at : s.at ≡ final.next.at = (let w = a.end_is in omega arith) in
+          let held : s.held ≡ final.next.held = sym (append-nil s.held) ∙ (e ∙ sym held_is) in
+          let started : s.started ≡ final.next.started = sym (st ∙ or_none s.started) in
+          let is : items ≡ final.items = sym (a.items_are ∙ (ap (λ x. items ++ x) p.1 ∙ append-nil items)) in
+          λ i. record { next = record { at = at i; held = held i; started = started i; after_return = sym ar i; run = p.0 i; two = (f i).0; last = (f i).1 }; items = is i }
+
+  record Goes (byte : ℕ) (rest : List ℕ) (s : Scanning) (items : List Item) : Type 0 where
+    r : Scanned
+    is : read_byte syntax limits spot byte s ≡ Ok r
+    ahead : Ahead rest r.next (items ++ r.items)
+
+  -- one byte
+  module _ (byte : ℕ) (rest : List ℕ) (s : Scanning) (items : List Item) (a : Ahead (byte ∷ rest) s items) where
+    abbrev more : List ℕ
+    more = s.held ++ byte ∷ []
+
+    more_size : length more ≡ length s.held + 1
+    more_size = length-append s.held (byte ∷ [])
+
+    starts_is : starts_at s ≡ a.start
+    starts_is = let w = a.at_is in omega arith
+
+    page : nat_le limits.page s.at ≡ false
+    page = not_le limits.page s.at a.within.0
+
+    abbrev known : Bool
+    known = is_known_tag syntax inside (values s.run)
+
+    entries_end : (e : Entry) (es : List Entry) → entries_at s.started s.after_return a.start a.cs ≡ e ∷ es → (s.at ≤ e.last) × (e.last < final.next.at)
+    entries_end e es h = by a.cs a.bytes a.begun h
+      where
+        by : (cs : List ℕ) → s.held ++ byte ∷ rest ≡ encodes cs ++ part → IsBegun s.held cs → entries_at s.started s.after_return a.start cs ≡ e ∷ es → (s.at ≤ e.last) × (e.last < final.next.at)
+        by [] q b k = absurd (let w = sym (none_entered s.started s.after_return a.start) ∙ k in cc)
+        by (c ∷ cs) q b k =
+            let f = first_ends s.started s.after_return a.start c cs e es k in
+            let l : length s.held + length (byte ∷ rest) ≡ length (encodes (c ∷ cs)) + length part = sym (length-append s.held (byte ∷ rest)) ∙ (ap length q ∙ length-append (encodes (c ∷ cs)) part) in
+            let n = f.0 in
+            let m = f.1 in
+            let w = a.at_is in
+            let v = a.end_is in
+            (omega arith, omega arith)
+
+    room : known ≡ true → s.at < token_at s + limits.tag
+    room = bound_run syntax limits spot o final.next.run going flags_end final.next.at fits s.run (entries_at s.started s.after_return a.start a.cs) s.two s.last a.left s.at (starts_at s) a.tail (rises_at s.started s.after_return a.start a.cs)
+        entries_end (λ e. let v = a.end_is in omega arith)
+
+    short_run : (known && nat_le (token_at s + limits.tag) s.at) ≡ false
+    short_run = not_long known (token_at s + limits.tag) s.at room
+
+    held_read : answer_of more ≡ More → read_byte syntax limits spot byte s ≡ Ok (record { next = holding more s; items = [] })
+    held_read h = cond-false _ _ _ page ∙ (ap (λ x. read_answer syntax limits spot more s x) h ∙ cond-false _ _ _ short_run)
+
+    whole_read : (c : ℕ) → answer_of more ≡ Char c → (c == 0) ≡ false → read_byte syntax limits spot byte s ≡ read_char syntax limits spot c s
+    whole_read c h z = cond-false _ _ _ page ∙ (ap (λ x. read_answer syntax limits spot more s x) h ∙ (cond-false _ _ _ z ∙ cond-false _ _ _ short_run))
+
+    -- a byte of a character that isn't whole
+    held_on : BeginsCharacter more → IsBegun more a.cs → Goes byte rest s items
+    held_on b begun =
+        record {
+          r = record { next = holding more s; items = [] };
+          is = held_read (sym (answer_is more More b));
+          ahead = record {
+            start = a.start;
+            cs = a.cs;
+            bytes = append_assoc s.held (byte ∷ []) rest ∙ a.bytes;
+            scalars = a.scalars;
+            begun = begun;
+            at_is = (let w = a.at_is in let n = more_size in omega arith);
+            left = a.left;
+            tail = a.tail;
+            no_nul = a.no_nul;
+            within = a.within.1;
+            end_is = (let v = a.end_is in omega arith);
+            started = a.started;
+            after_return = a.after_return;
+            items_are = a.items_are ∙ ap (λ x. x ++ a.left) (sym (append-nil items));
+          };
+        }
+
+    no_append : (xs : List ℕ) (b : ℕ) (ys : List ℕ) → xs ++ b ∷ ys ≡ [] → ⊥
+    no_append [] b ys h = cc
+    no_append (x ∷ xs) b ys h = cc
+
+    no_front : (xs ys : List ℕ) → ys ≢ [] → xs ++ ys ≢ []
+    no_front [] ys n = n
+    no_front (x ∷ xs) ys n = λ h. cc
+
+    -- the bytes of the last character, which isn't whole
+    in_part : a.cs ≡ [] → s.held ++ byte ∷ rest ≡ part → Goes byte rest s items
+    in_part none e = ⊎_elim (λ p. absurd (no_append s.held byte rest (e ∙ p))) (λ b. held_on (begins b) (subst (λ cs. IsBegun more cs) (sym none) tt)) is_part
+      where
+        begins : BeginsCharacter part → BeginsCharacter more
+        begins b =
+            record {
+              more = rest ++ b.more;
+              value = b.value;
+              longer = no_front rest b.more b.longer;
+              character = subst (λ x. IsCharacter x b.value) (ap (λ x. x ++ b.more) (sym (append_assoc s.held (byte ∷ []) rest ∙ e)) ∙ append_assoc more rest b.more) b.character;
+            }
+
+    -- the bytes of the next character
+    module _ (c : ℕ) (cs : List ℕ) (are : a.cs ≡ c ∷ cs) (is : IsScalar c) where
+      abbrev entries : List Entry
+      entries = entries_at s.started s.after_return a.start (c ∷ cs)
+
+      tail_is : Spelled_on s.run entries s.two s.last a.left
+      tail_is = subst (λ x. Spelled_on s.run (entries_at s.started s.after_return a.start x) s.two s.last a.left) are a.tail
+
+      no_nul_is : has_no_nul entries ≡ true
+      no_nul_is = subst (λ x. has_no_nul (entries_at s.started s.after_return a.start x) ≡ true) are a.no_nul
+
+      nonzero : (c == 0) ≡ false
+      nonzero = nonzero_of s.started s.after_return a.start c cs no_nul_is
+
+      scalars_on : all_scalars cs ≡ true
+      scalars_on = (and_parts (scalar c) (all_scalars cs) (subst (λ x. all_scalars x ≡ true) are a.scalars)).1
+
+      goes_held : (d : ℕ) (z : List ℕ) → encode c ≡ more ++ d ∷ z → Goes byte rest s items
+      goes_held d z e =
+          held_on (record { more = d ∷ z; value = c; longer = λ h. cc; character = subst (λ x. IsCharacter x c) e (character_of_form c is) })
+          (subst (λ x. IsBegun more x) (sym are) (let l : len_utf8 c ≡ length more + length (d ∷ z) = sym (length-encode c) ∙ (ap length e ∙ length-append more (d ∷ z)) in omega arith))
+
+      -- its last one
+      module _ (form : encode c ≡ more) (behind : rest ≡ encodes cs ++ part) where
+        size : len_utf8 c ≡ length s.held + 1
+        size = sym (length-encode c) ∙ (ap length form ∙ more_size)
+
+        reads : read_byte syntax limits spot byte s ≡ read_char syntax limits spot c s
+        reads = whole_read c (sym (answer_is more (Char c) (subst (λ x. IsCharacter x c) form (character_of_form c is)))) nonzero
+
+        next_at : s.at + 1 ≡ a.start + len_utf8 c + 0
+        next_at = let w = a.at_is in let z = size in omega arith
+
+        end_on : final.next.at ≡ s.at + 1 + length rest
+        end_on = let v = a.end_is in omega arith
+
+        started_on : final.next.started ≡ true
+        started_on = a.started ∙ (ap (λ x. s.started || is_some x) are ∙ or_true s.started)
+
+        return_on : final.next.after_return ≡ ends_in_return (c == carriage_return) cs
+        return_on = a.after_return ∙ ap (λ x. ends_in_return s.after_return x) are
+
+        goes_passed : passes s.started s.after_return c ≡ true → Goes byte rest s items
+        goes_passed p =
+            record {
+              r = record { next = passed s; items = [] };
+              is = reads ∙ cond-true _ _ _ p;
+              ahead = record {
+                start = a.start + len_utf8 c;
+                cs = cs;
+                bytes = behind;
+                scalars = scalars_on;
+                begun = none_begun cs;
+                at_is = next_at;
+                left = a.left;
+                tail = subst (λ es. Spelled_on s.run es s.two s.last a.left) (passes_entries s.started s.after_return a.start c cs p) tail_is;
+                no_nul = subst (λ es. has_no_nul es ≡ true) (passes_entries s.started s.after_return a.start c cs p) no_nul_is;
+                within = a.within.1;
+                end_is = end_on;
+                started = started_on;
+                after_return = return_on ∙ ap (λ b. ends_in_return b cs) (passing_is s.started s.after_return c ((c == carriage_return) ≡ false) p (no_mark c) (no_return c));
+                items_are = a.items_are ∙ ap (λ x. x ++ a.left) (sym (append-nil items));
+              };
+            }
+
+        goes_entered : passes s.started s.after_return c ≡ false → Goes byte rest s items
+        goes_entered p = from (reads_entry syntax limits spot o final.next.run going flags_end s (c == carriage_return) e others a.left tail_here)
+          where
+            e : Entry
+            e = record { value = as_line_end c; first = starts_at s; last = s.at }
+
+            others : List Entry
+            others = entries_at true (c == carriage_return) (a.start + len_utf8 c) cs
+
+            last_is : a.start + len_utf8 c - 1 ≡ s.at
+            last_is = let w = a.at_is in let z = size in omega arith
+
+            entries_are : entries ≡ record { value = as_line_end c; first = starts_at s; last = s.at } ∷ entries_at true (c == carriage_return) (a.start + len_utf8 c) cs
+            entries_are = enters_entries s.started s.after_return a.start c cs p ∙ (λ i. record { value = as_line_end c; first = sym starts_is i; last = last_is i } ∷ entries_at true (c == carriage_return) (a.start + len_utf8 c) cs)
+
+            tail_here : Spelled_on s.run (record { value = as_line_end c; first = starts_at s; last = s.at } ∷ entries_at true (c == carriage_return) (a.start + len_utf8 c) cs) s.two s.last a.left
+            tail_here = subst (λ es. Spelled_on s.run es s.two s.last a.left) entries_are tail_is
+
+            below : s.at < final.next.at
+            below = let v = a.end_is in omega arith
+
+            short_with : is_too_long syntax limits spot (s.run ++ (record { value = as_line_end c; first = starts_at s; last = s.at }) ∷ []) (first_of s.run (starts_at s)) s.at ≡ false
+            short_with =
+                not_long _ (first_of s.run (starts_at s) + limits.tag) s.at
+                (bound_with syntax limits spot o final.next.run going flags_end final.next.at fits s.run (record { value = as_line_end c; first = starts_at s; last = s.at }) (entries_at true (c == carriage_return) (a.start + len_utf8 c) cs) s.two s.last a.left tail_here
+                (subst Rises entries_are (rises_at s.started s.after_return a.start (c ∷ cs))) below)
+
+            from : Reads syntax limits spot o final.next.run going flags_end s (c == carriage_return) (entries_at true (c == carriage_return) (a.start + len_utf8 c) cs) a.left
+                (told syntax limits spot (c == carriage_return) (record { value = as_line_end c; first = starts_at s; last = s.at }) s (verdict syntax inside (values s.run) (as_line_end c))) → Goes byte rest s items
+            from r =
+                record {
+                  r = record { next = entering (c == carriage_return) r.run r.two r.last s; items = r.told };
+                  is = reads ∙ (cond-false _ _ _ p ∙ (cond-false _ _ _ short_with ∙ r.is));
+                  ahead = record {
+                    start = a.start + len_utf8 c;
+                    cs = cs;
+                    bytes = behind;
+                    scalars = scalars_on;
+                    begun = none_begun cs;
+                    at_is = next_at;
+                    left = r.left;
+                    tail = r.tail;
+                    no_nul = no_nul_behind s.started s.after_return a.start c cs (entries_at true (c == carriage_return) (a.start + len_utf8 c) cs) no_nul_is (record { value = as_line_end c; first = starts_at s; last = s.at }) entries_are;
+                    within = a.within.1;
+                    end_is = end_on;
+                    started = started_on;
+                    after_return = return_on;
+                    items_are = a.items_are ∙ (ap (λ x. items ++ x) r.are ∙ sym (append_assoc items r.told r.left));
+                  };
+                }
+
+        goes_whole : Goes byte rest s items
+        goes_whole = by_test {G = Goes byte rest s items} (passes s.started s.after_return c) goes_passed goes_entered
+
+      in_char : IsBegun s.held (c ∷ cs) → s.held ++ byte ∷ rest ≡ encodes (c ∷ cs) ++ part → Goes byte rest s items
+      in_char begun e = elim (two_fronts more (encode c) rest (encodes cs ++ part) (append_assoc s.held (byte ∷ []) rest ∙ (e ∙ append_assoc (encode c) (encodes cs) part))) [
+        | inl f ↦ shorter f.z f.is f.rest
+        | inr f ↦ longer f.z f.is f.rest
+      ]
+        where
+          shorter : (z : List ℕ) → encode c ≡ more ++ z → rest ≡ z ++ (encodes cs ++ part) → Goes byte rest s items
+          shorter [] is rest_is = goes_whole (is ∙ append-nil more) rest_is
+          shorter (d ∷ z) is rest_is = goes_held d z is
+
+          longer : (z : List ℕ) → more ≡ encode c ++ z → encodes cs ++ part ≡ z ++ rest → Goes byte rest s items
+          longer [] is rest_is = goes_whole (sym (is ∙ append-nil (encode c))) (sym rest_is)
+          longer (d ∷ z) is rest_is =
+              let l : length more ≡ length (encode c) + length (d ∷ z) = ap length is ∙ length-append (encode c) (d ∷ z) in
+              let n = length-encode c in
+              let m = more_size in
+              let b : length s.held < len_utf8 c = begun in
+              absurd (omega arith)
+
+    one_byte : Goes byte rest s items
+    one_byte = by a.cs refl
+      where
+        by : (cs : List ℕ) → a.cs ≡ cs → Goes byte rest s items
+        by [] h = in_part h (subst (λ x. s.held ++ byte ∷ rest ≡ encodes x ++ part) h a.bytes)
+        by (c ∷ cs) h =
+            in_char c cs h (and_parts (scalar c) (all_scalars cs) (subst (λ x. all_scalars x ≡ true) h a.scalars)).0 (subst (λ x. IsBegun s.held x) h a.begun) (subst (λ x. s.held ++ byte ∷ rest ≡ encodes x ++ part) h a.bytes)
+
+  -- and then the others
+  scans_on : (rest : List ℕ) (s : Scanning) (items : List Item) → Ahead rest s items → scan_on syntax limits spot (Ok (record { next = s; items = items })) rest ≡ Ok final
+  scans_on [] s items a = ap (λ x. Ok x) (is_final s items a)
+  scans_on (byte ∷ rest) s items a =
+      let g = one_byte byte rest s items a in
+      ap (λ x. scan_on syntax limits spot (with_items s items x) rest) g.is ∙ scans_on rest g.r.next (items ++ g.r.items) g.ahead
+
+pub spelled_back : (syntax : Syntax) (limits : Limits) (spot : Spot) (s : Scanning) (bytes : List ℕ) (scanned : Scanned) → occurs syntax spot.inside ≡ true → IsBetween s → Spells syntax limits spot s bytes scanned → scan_from syntax limits spot s bytes ≡ Ok scanned
+spelled_back syntax limits spot s bytes scanned o b sp =
+    scans_on syntax limits spot o scanned sp.part sp.is_part sp.part_is going fits bytes s [] (record {
+      start = s.at;
+      cs = sp.characters;
+      bytes = ap (λ x. x ++ bytes) b.held ∙ sp.are;
+      scalars = sp.scalars;
+      begun = subst (λ x. IsBegun x sp.characters) (sym b.held) (none_begun sp.characters);
+      at_is = (let n : length s.held ≡ 0 = ap length b.held in omega arith);
+      left = scanned.items;
+      tail = record {
+        front = sp.front;
+        are = ap (λ x. x ++ entries_at s.started s.after_return s.at sp.characters) b.run ∙ sym sp.read;
+        spelled = sp.spelled;
+        inside_is = sp.inside_is;
+        come = sp.come;
+        fit = sp.fit;
+        sections = sp.sections;
+        goes = subst (λ es. GoesOn syntax spot.inside [] (values es)) (sym b.run) tt;
+        flags = same_flags scanned.items s.two s.last ∙ (λ i. (sym sp.two_is i, sym sp.last_is i));
+      };
+      no_nul = subst (λ es. has_no_nul es ≡ true) sp.read sp.no_nul;
+      within = sp.within;
+      end_is = sp.at_is;
+      started = sp.started_is;
+      after_return = sp.return_is;
+      items_are = refl;
+    })
+  where
+    going : GoesOn syntax spot.inside [] (values scanned.next.run)
+    going = pending_goes syntax spot.inside (values scanned.next.run) sp.pending
+
+    fits : is_known_tag syntax spot.inside (values scanned.next.run) ≡ true → scanned.next.at ≤ first_of scanned.next.run scanned.next.at + limits.tag
+    fits k = let w = sp.short k in let z = first_known syntax spot.inside scanned.next.run (starts_at scanned.next) scanned.next.at k in omega arith
