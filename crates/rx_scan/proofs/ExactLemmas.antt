@@ -1,6 +1,6 @@
 -- A byte that the grammar refuses is refused; so what is scanned, and what is refused, is exactly what the grammar says.
-use Rattle.std.proofs.Common.{◌≡◌, ◌≢◌, ◌∙◌, ℕ, ◌+◌, ◌≤◌, ◌<◌, Bool, true, false, List, [], ◌∷◌, ◌++◌, refl, sym, ap, subst, length, nat_le, eqb-true, Option, Some, None, Result, Ok, Err, arith}
-use Rattle.std.specs.Prelude.{◌&&◌, ◌==◌, not, codes, if◌then◌else◌}
+use Rattle.std.proofs.Common.{◌≡◌, ◌≢◌, ◌∙◌, ℕ, ◌+◌, ◌≤◌, ◌<◌, Bool, true, false, List, [], ◌∷◌, ◌++◌, refl, sym, ap, subst, nat_le, eqb-true, Option, Some, None, Result, Ok, Err}
+use Rattle.std.specs.Prelude.{◌&&◌, ◌==◌, not, codes}
 use Rattle.std.proofs.lemmas.Bool.{and_from, cond-true, cond-false}
 use Rattle.rx_terms.specs.Ascii.{greater_than_sign}
 use Rattle.rx_terms.specs.Text.{Chars}
@@ -17,7 +17,7 @@ use Rattle.rx_grammar.specs.declared.faults.Fault.{Fault}
 use Rattle.rx_grammar.specs.declared.faults.Kind.{Kind}
 use Rattle.rx_grammar.specs.declared.faults.Kind.TheVariants as kind
 use Rattle.rx_grammar.specs.declared.limits.Limits.{Limits}
-use Rattle.rx_grammar.specs.Tokens.{Token, tag, doctype, character}
+use Rattle.rx_grammar.specs.Tokens.{Token, tag, doctype}
 use Rattle.rx_grammar.specs.Spelling as spelling
 use Rattle.rx_grammar.specs.Spelling.{keeps_runs}
 use Rattle.rx_grammar.specs.Shapes.{begins, begins_tag}
@@ -25,8 +25,8 @@ use Rattle.rx_grammar.specs.Items.{values, Item, is_literal, is_strict_literal}
 use Rattle.rx_grammar.specs.Begun.{Line, Phase, before}
 use Rattle.rx_grammar.specs.PageFaults.{is_known_tag, Faulty}
 use Rattle.rx_grammar.specs.PageFaults as faults
-use Rattle.rx_pages.specs.Scanner.{GoesOn, Verdict, goes_on, whole, ended, refused, verdict, ReadAs, at_last, at_next}
-use Rattle.rx_pages.specs.PageReader.{Spot, Scanning, Scanned, first_of, starts_at, token_at, fault_in, item_of, is_doctype, is_too_long, completed, told_first, with_item, after_token, told, read_char, read_entry, read_answer, read_byte, with_items, scan_on, scan_from}
+use Rattle.rx_pages.specs.Scanner.{GoesOn, Verdict, whole, ended, refused, verdict, ReadAs, at_last, at_next}
+use Rattle.rx_pages.specs.PageReader.{Spot, Scanning, Scanned, starts_at, token_at, fault_in, item_of, is_doctype, is_too_long, told_first, with_item, after_token, told, read_char, read_entry, read_answer, read_byte, with_items, scan_on, scan_from}
 use Rattle.rx_pages.proofs.Pends.{occurs}
 use Rattle.rx_pages.proofs.Pending.{goes_at, not_whole}
 use Rattle.rx_pages.proofs.Refusals.{IsRefused, refuses_run, refuses_comment, refuses_text, refuses_less_than, refuses_section}

@@ -31,14 +31,13 @@ use Rattle.rx_grammar.specs.PageFaults.{IsPending, IsPart, is_known_tag}
 use Rattle.rx_grammar.specs.PageFaults as faults
 use Rattle.rx_terms.proofs.Bools.{by_test}
 use Rattle.rx_pages.specs.Scanner.{GoesOn, Verdict, goes_on, whole, ended, refused, verdict, at_first, ReadAs, at_last, at_next}
-use Rattle.rx_pages.specs.PageReader.{Spot, Scanning, Scanned, first_of, starts_at, token_at, fault_in, holding, passed, entering, item_of, is_doctype, is_too_long, completed, told_first, with_item, after_token, told, read_entry, read_char, read_answer, read_byte, with_items, scan_byte_on, scan_on, scan_from}
+use Rattle.rx_pages.specs.PageReader.{Spot, Scanning, Scanned, first_of, starts_at, token_at, fault_in, holding, passed, entering, item_of, is_doctype, completed, told_first, with_item, after_token, told, read_entry, read_char, read_answer, read_byte, with_items, scan_byte_on, scan_on, scan_from}
 use Rattle.rx_pages.proofs.Tokens.{values_append}
 use Rattle.rx_pages.proofs.Prefix.{any_next}
 use Rattle.rx_pages.proofs.Pends.{occurs}
 use Rattle.rx_pages.proofs.PendsOn.{spells_read, faulty_read, pends, unfinished}
 use Rattle.rx_pages.proofs.FrontOn.{goes_more, known_one}
 use Rattle.rx_pages.proofs.KnownSpelled.{spelled_known}
-use Rattle.rx_pages.proofs.KnownTags.{known_more}
 use Rattle.rx_pages.proofs.ByteFacts.{item_last}
 use Rattle.rx_pages.proofs.Spellings.{reads_each}
 use Rattle.rx_pages.proofs.TokensWalk.{two_lasts}
@@ -84,7 +83,7 @@ never_ended i c token h = by (c == less_than_sign || (c == ampersand && spelling
     by false false q = cc
 
 -- what it tells whole is a character
-pub at_character : (i : Content) (c : ℕ) (token : Token) → at_first i c ≡ whole token → (x : ℕ) × (token ≡ character x)
+at_character : (i : Content) (c : ℕ) (token : Token) → at_first i c ≡ whole token → (x : ℕ) × (token ≡ character x)
 at_character i c token h = by (c == less_than_sign || (c == ampersand && spelling.has_references i)) (spelling.is_text i c) h
   where
     by : (a b : Bool) → (if a then goes_on else if b then whole (character c) else refused Outside) ≡ whole token → (x : ℕ) × (token ≡ character x)
@@ -92,7 +91,7 @@ at_character i c token h = by (c == less_than_sign || (c == ampersand && spellin
     by false true q = (c, (let w : character c ≡ token = cc in sym w))
     by false false q = absurd (cc)
 
-pub at_least : (a b : ℕ) → nat_le a b ≡ true → a ≤ b
+at_least : (a b : ℕ) → nat_le a b ≡ true → a ≤ b
 at_least a b h = grind (arith, nat_tests)
 
 -- one character behind others
@@ -186,7 +185,7 @@ pub first_known : (syntax : Syntax) (inside : Content) (run : List Entry) (a b :
 first_known syntax inside [] a b k = absurd (cc)
 first_known syntax inside (e ∷ run) a b k = refl
 
-pub first_snoc : (run : List Entry) (e : Entry) (at : ℕ) → first_of (run ++ e ∷ []) at ≡ first_of run e.first
+first_snoc : (run : List Entry) (e : Entry) (at : ℕ) → first_of (run ++ e ∷ []) at ≡ first_of run e.first
 first_snoc [] e at = refl
 first_snoc (d ∷ run) e at = refl
 
@@ -194,11 +193,11 @@ item_first : (i : Content) (token : Token) (run : List Entry) (e : Entry) → (i
 item_first i token [] e = refl
 item_first i token (d ∷ run) e = refl
 
-pub some_is : (cs : List ℕ) → is_started cs ≡ is_some cs
+some_is : (cs : List ℕ) → is_started cs ≡ is_some cs
 some_is [] = refl
 some_is (c ∷ cs) = refl
 
-pub ends_is : (before : Bool) (cs : List ℕ) → ends_return before cs ≡ ends_in_return before cs
+ends_is : (before : Bool) (cs : List ℕ) → ends_return before cs ≡ ends_in_return before cs
 ends_is before [] = refl
 ends_is before (c ∷ cs) = ends_is (c == carriage_return) cs
 

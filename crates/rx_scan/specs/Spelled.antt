@@ -67,8 +67,9 @@ abbrev pub ends_in_return : Bool → List ℕ → Bool
 ends_in_return before [] = before
 ends_in_return before (c ∷ characters) = ends_in_return (c == carriage_return) characters
 
--- The bytes from this state on are whole characters, none of them U+0000, and a part of one, and stand within the page's limit. They spell the tokens in
--- this content, of which the tags fit; and what is left of them begins one, of which no more stands there than a tag may have. So is the state behind them.
+-- The bytes from this state on stand within the page's limit, and are whole characters, none of them U+0000, and a part of one. They spell these tokens in
+-- this content, no tag among them too long; and what is left of them begins one, and is too long for no tag either. The state behind them has what is left,
+-- its offset, and what is to be known of the characters and tokens before it: nothing else is open.
 pub record Spells (syntax : Syntax) (limits : Limits) (spot : Spot) (s : Scanning) (bytes : List ℕ) (scanned : Scanned) : Type 0 where
   pub characters : List ℕ
   pub part : List ℕ
@@ -114,7 +115,7 @@ pub record Enters (limits : Limits) (next : Scanning) (byte c : ℕ) : Type 0 wh
   pub no_nul : c ≢ 0
   pub enters : is_passed next c ≡ false
 
--- With it too, what is known to be a tag fits.
+-- what is known to be a tag, with this character at the latest, isn't too long through it
 abbrev pub FitsWith : Syntax → Limits → Spot → Scanning → ℕ → Type 0
 FitsWith syntax limits spot next c = is_known_tag syntax spot.inside (values next.run ++ as_line_end c ∷ []) ≡ true → next.at < token_at next + limits.tag
 
@@ -123,7 +124,7 @@ abbrev pub IsNoToken : Syntax → Content → Chars → Type 0
 IsNoToken syntax inside text = (token : Token) → grammar.Spells syntax inside text None token → ⊥
 
 -- The byte behind this state decides a fault of this kind, whatever stands before and whichever elements are open: by a limit, as no character or as
--- U+0000, or by the grammar's rows. That `]]>` ends text of XHTML, and that a document type may not come, the tokens before tell. The first that holds.
+-- U+0000, or by the grammar's rows. That `]]>` ends text of XHTML, and that a document type may not come, the tokens before tell. One kind at most is right.
 pub data Refuses (syntax : Syntax) (limits : Limits) (spot : Spot) (next : Scanning) (byte : ℕ) : Kind → Type 0 where
   page_too_long : limits.page ≤ next.at → Refuses syntax limits spot next byte kind.PageTooLong
   not_utf8 : next.at < limits.page → BeginNone (next.held ++ byte ∷ []) → Refuses syntax limits spot next byte kind.NotUtf8
@@ -135,7 +136,7 @@ pub data Refuses (syntax : Syntax) (limits : Limits) (spot : Spot) (next : Scann
   known_too_long : (c : ℕ) → Enters limits next byte c → is_known_tag syntax spot.inside (values next.run) ≡ false
       → is_known_tag syntax spot.inside (values next.run ++ as_line_end c ∷ []) ≡ true → token_at next + limits.tag ≤ next.at
       → Refuses syntax limits spot next byte kind.TagTooLong
-  -- it completes no token, and what it begins or goes on with is none
+  -- it completes no token
   decided : {found : Kind} (c : ℕ) (run : Chars) → Enters limits next byte c → FitsWith syntax limits spot next c
       → Left syntax spot.inside (values next.run) (as_line_end c) run → IsNoToken syntax spot.inside (run ++ as_line_end c ∷ [])
       → ((depth : ℕ) (items : List Item) (line : Line) (phase : Phase) → Faulty syntax depth items line phase spot.inside found (run ++ as_line_end c ∷ []))
@@ -160,7 +161,7 @@ pub record FirstFault (syntax : Syntax) (limits : Limits) (spot : Spot) (s : Sca
   pub at_is : fault.at ≡ s.at + length front
   pub token_is : fault.token ≡ token_at scanned.next
 
--- law: and a byte is refused for what the grammar says of it, exactly so
+-- law: and they are refused with exactly their first fault
 abbrev pub RefusesWhatIsFaulty : Type 0
 RefusesWhatIsFaulty = (syntax : Syntax) (limits : Limits) (spot : Spot) (s : Scanning) (bytes : List ℕ) (fault : Fault)
     → is_of_syntax syntax spot.inside ≡ true → IsBetween s

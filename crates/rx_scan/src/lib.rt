@@ -45,13 +45,14 @@ pub use rx_grammar::{Content, Fault, Kind, Limits, RawName};
 pub use rx_tags::{Stop, Tag};
 pub use scans::Scan;
 
-/// From where nothing is unfinished, and in whatever content of the syntax, exactly the tokens are scanned that the characters
-/// spell, and what is left of them begins one.
+/// From where nothing is unfinished, and in whatever content of the syntax, bytes are scanned as these tokens, with this state
+/// behind them, exactly where they spell them so: within the limits, and what is left of them begins a token.
 pub fn scans_what_is_spelled()
     ensures { ScansWhatIsSpelled }
 {}
 
-/// There a byte is refused for what the grammar says of it and of the characters before it, whichever elements are open.
+/// There bytes are refused with this fault exactly where it is their first one, by what the grammar says of a byte and of the
+/// characters before it, whichever elements are open.
 pub fn refuses_what_is_faulty()
     ensures { RefusesWhatIsFaulty }
 {}
