@@ -30,8 +30,7 @@ use Rattle.rx_nest.specs.Signs.{Sight, sees, nothing_seen, signs_of}
 use Rattle.rx_nest.proofs.TextSteps.{sees_append}
 use Rattle.rx_nest.proofs.TagPlaces.{shows_more}
 use Rattle.rx_nest.specs.Ways.{Way, IsRefusal}
-use Rattle.rx_nest.specs.Faults.{MeaningAt}
-use Rattle.rx_nest.specs.RefusedTags.{RefusesLast, RefusedTagsAreLast}
+use Rattle.rx_nest.specs.RefusedTags.{ReaderRefuses, RefusesLast}
 use Rattle.rx_nest.proofs.Firsts.{meaning_within}
 use Rattle.rx_nest.proofs.FaultPlacing.{take_length, read_front, shown, refused_of, through}
 use Rattle.rx_nest.proofs.PlaceLaws.{accepted_front, bare_accepted}
@@ -171,11 +170,11 @@ module _ (way : Way) (law : IsRefusal way.refused) where
   take_one (suc n) (x ∷ xs) l = let r = take_one n xs (omega arith) in let e : suc n + 1 ≡ suc (n + 1) = omega arith in (r.0, ap (λ k. take k (x ∷ xs)) e ∙ ap (λ ys. x ∷ ys) r.1)
 
   -- so are the bytes through the tag
-  module _ (bytes : List ℕ) (fault : Fault) (m : MeaningAt way bytes fault) where
+  module _ (bytes : List ℕ) (fault : Fault) (m : ReaderRefuses way bytes fault) where
     abbrev front : List ℕ
     front = take (fault.at + 1) bytes
 
-    long : fault.at < length bytes
+    pub long : fault.at < length bytes
     long = let l = meaning_within way law bytes fault m in let a = ap length m.are in let k = length-append m.front m.rest in omega arith
 
     settled : Settled (through way law bytes fault m).now
@@ -194,7 +193,7 @@ module _ (way : Way) (law : IsRefusal way.refused) where
             let more = shows_more way.syntax way.limits init rest p q r s in
             let both : Some other ≡ Some fault = sym (law.stays (shown p) more.signs other k) ∙ (ap way.refused (sym more.are) ∙ some) in
             let is : other ≡ fault = cc in
-            let early : MeaningAt way init fault = record { front = init; rest = []; are = sym (append-nil init); now = p; read = r; refused = subst (λ (f : Fault). way.refused (shown p) ≡ Some f) is k } in
+            let early : ReaderRefuses way init fault = record { front = init; rest = []; are = sym (append-nil init); now = p; read = r; refused = subst (λ (f : Fault). way.refused (shown p) ≡ Some f) is k } in
             let l = meaning_within way law init fault early in
             absurd (omega (arith, l, size))
 
@@ -212,6 +211,3 @@ module _ (way : Way) (law : IsRefusal way.refused) where
           refused = refused;
           is_tag = λ rest tree page. law.lies [] (signs_of tree) fault law.none (refused rest tree page);
         }
-
-pub refused_tags_are_last : RefusedTagsAreLast
-refused_tags_are_last way law bytes fault m = refuses_last way law bytes fault m
