@@ -14,18 +14,18 @@ use Rattle.rx_grammar.specs.declared.faults.Fault.{Fault}
 use Rattle.rx_grammar.specs.declared.faults.Kind.{Kind}
 use Rattle.rx_grammar.specs.declared.faults.Kind.TheVariants.{Nul, PageTooLong, TagTooLong}
 use Rattle.rx_grammar.specs.declared.limits.Limits.{Limits}
-use Rattle.rx_grammar.specs.Begun.{Line, Phase, Begun, before, within, after, parent_of, inside_of}
+use Rattle.rx_grammar.specs.Begun.{Line, Phase, Begun, parent_of, inside_of}
 use Rattle.rx_grammar.specs.Contents.{is_plaintext, is_self_closed}
-use Rattle.rx_grammar.specs.Items.{values, Item, is_line_feed}
+use Rattle.rx_grammar.specs.Items.{values, Item}
 use Rattle.rx_grammar.specs.Names.{same}
 use Rattle.rx_grammar.specs.Omission.{is_omissible, is_held}
 use Rattle.rx_grammar.specs.PageFaults.{first_row, tag_rows, end_rows, start_rows, under_start, after_end, has_ended, is_before}
 use Rattle.rx_grammar.specs.Pages.{Page, root_name}
-use Rattle.rx_grammar.specs.Tokens.{Tag, Token, tag, character, reference, kept, section, comment, doctype}
+use Rattle.rx_grammar.specs.Tokens.{Tag}
 use Rattle.rx_grammar.specs.Trees.{Tree}
 use Rattle.rx_pages.specs.Closings.{closed, IsWide, Bare, ClosedTells}
 use Rattle.rx_pages.specs.Fronts.{ReadsTo}
-use Rattle.rx_pages.specs.Nesting.{Event, begins, says, finishes, Nesting, Step, nest_step, step_by, unless_refused, tag_passes, ended_by_end, ended_under, begun_under, over, line_above, text_step, told as told_text, doctype_step}
+use Rattle.rx_pages.specs.Nesting.{Event, finishes, Nesting, Step, nest_step, unless_refused, tag_passes, ended_by_end, ended_under, begun_under, over, line_above}
 use Rattle.rx_pages.specs.PageReader as reader
 use Rattle.rx_pages.specs.PageReader.{Spot, spot_of, Scanning, starts_at, Scanned, first_of, is_too_long, completed, told_first, with_item, after_token, item_of, read_entry, read_char, read_answer, read_byte, Progress, with_events, step_on, steps_on, no_step, progress_of, nested_items, page_byte, page_byte_on, telling, page_on, page_read, Reading, nothing_read}
 use Rattle.rx_pages.specs.Scanner.{Verdict, goes_on, whole, ended, refused, verdict}
@@ -41,7 +41,7 @@ use Rattle.rx_nest.proofs.FaultPlacing.{take_length, page_shows, shown, through}
 use Rattle.rx_nest.proofs.Firsts.{seen_long}
 use Rattle.rx_nest.proofs.Pieces.{front_back}
 use Rattle.rx_nest.proofs.PlaceLaws.{bare_accepted}
-use Rattle.rx_nest.proofs.RefusedTags.{refuses_last, long}
+use Rattle.rx_nest.proofs.RefusedTags.{bare_append, BareStep, item_bare, refuses_last, long}
 use Rattle.rx_nest.proofs.Refusing.{at_from}
 use Rattle.rx_nest.proofs.TagPlaces.{shows_more}
 use Rattle.rx_nest.proofs.TextSteps.{sees_append}
@@ -119,16 +119,6 @@ module _ (syntax : Syntax) (limits : Limits) where
 
 -- where no element may be open, none begins
 
-bare_append : (xs ys : List Event) → Bare xs → Bare ys → Bare (xs ++ ys)
-bare_append [] ys a b = b
-bare_append (begins t hidden ∷ xs) ys a b = (a.0, bare_append xs ys a.1 b)
-bare_append (says chars ∷ xs) ys a b = bare_append xs ys a b
-bare_append (finishes ∷ xs) ys a b = bare_append xs ys a b
-
-abbrev BareStep : Result Step Kind → Type 0
-BareStep (Ok step) = Bare step.events
-BareStep (Err kind) = Unit {0}
-
 module _ (syntax : Syntax) where
   ended_bare : (name : Chars) (line : Line) → Bare (ended_by_end syntax name line)
   ended_bare name [] = tt
@@ -154,42 +144,16 @@ module _ (syntax : Syntax) where
     where
       by : (closing : Bool)
           → BareStep
-              (unless_refused (first_row (if closing then end_rows syntax m.line t else start_rows syntax 0 m.line m.phase t))
-              (if closing then record { next = over (line_above (after_end syntax t.name m.line)); events = ended_by_end syntax t.name m.line ++ finishes ∷ [] }
-              else begun_under syntax item t (under_start syntax t.name m.line) (ended_under syntax t.name m.line)))
+          (unless_refused (first_row (if closing then end_rows syntax m.line t else start_rows syntax 0 m.line m.phase t))
+          (if closing then record { next = over (line_above (after_end syntax t.name m.line)); events = ended_by_end syntax t.name m.line ++ finishes ∷ [] }
+          else begun_under syntax item t (under_start syntax t.name m.line) (ended_under syntax t.name m.line)))
       by true = end_tag_bare (first_row (end_rows syntax m.line t)) m t.name (over (line_above (after_end syntax t.name m.line)))
       by false = start_tag_bare m t (begun_under syntax item t (under_start syntax t.name m.line) (ended_under syntax t.name m.line))
-
-  said_bare : (p : Phase) (chars : Chars) → Bare (told_text p chars)
-  said_bare (before stood) chars = tt
-  said_bare within chars = tt
-  said_bare after chars = tt
-
-  text_bare : (m : Nesting) (dropped : Bool) (chars : Chars) → Bare (text_step m dropped chars).events
-  text_bare m dropped chars = split Bare (m.drops && dropped) _ _ (λ e. tt) (λ e. said_bare m.phase chars)
-
-  doctype_bare : (p : Phase) → BareStep (doctype_step p)
-  doctype_bare (before true) = tt
-  doctype_bare (before false) = tt
-  doctype_bare within = tt
-  doctype_bare after = tt
-
-  item_bare : (m : Nesting) (item : Item) → BareStep (nest_step syntax 0 m item)
-  item_bare m item = by item.token
-    where
-      by : (token : Token) → BareStep (step_by syntax 0 m item token)
-      by (tag t) = tag_bare m item t
-      by (character c) = text_bare m (is_line_feed (character c)) (c ∷ [])
-      by (reference c) = text_bare m (is_line_feed (reference c)) (c ∷ [])
-      by (kept chars) = text_bare m false chars
-      by (section chars) = text_bare m false chars
-      by comment = tt
-      by doctype = doctype_bare m.phase
 
   items_bare : (items : List Item) (x : Result Step Kind) → BareStep x → BareStep (steps_on syntax 0 x items)
   items_bare [] x s = s
   items_bare (item ∷ items) (Err kind) s = items_bare items (Err kind) tt
-  items_bare (item ∷ items) (Ok step) s = items_bare items (step_on syntax 0 (Ok step) item) (by (nest_step syntax 0 step.next item) (item_bare step.next item))
+  items_bare (item ∷ items) (Ok step) s = items_bare items (step_on syntax 0 (Ok step) item) (by (nest_step syntax 0 step.next item) (item_bare syntax 0 step.next item (λ t k. tag_bare step.next item t)))
     where
       by : (x : Result Step Kind) → BareStep x → BareStep (with_events step.events x)
       by (Ok next) k = bare_append step.events next.events s k

@@ -88,13 +88,13 @@ module _ (syntax : Syntax) (limits : Limits) (spot : Spot) where
   byte_where s byte = split Where (nat_le limits.page s.at) _ _ (λ k. tt) (λ k. answer_where s (s.held ++ byte ∷ []) (answer_of (s.held ++ byte ∷ [])))
 
 -- tokens that are no tags begin no element
-bare_append : (xs ys : List Event) → Bare xs → Bare ys → Bare (xs ++ ys)
+pub bare_append : (xs ys : List Event) → Bare xs → Bare ys → Bare (xs ++ ys)
 bare_append [] ys a b = b
 bare_append (begins t hidden ∷ xs) ys a b = (a.0, bare_append xs ys a.1 b)
 bare_append (says chars ∷ xs) ys a b = bare_append xs ys a b
 bare_append (finishes ∷ xs) ys a b = bare_append xs ys a b
 
-abbrev BareStep : Result Step Kind → Type 0
+abbrev pub BareStep : Result Step Kind → Type 0
 BareStep (Ok step) = Bare step.events
 BareStep (Err kind) = Unit {0}
 
@@ -113,11 +113,12 @@ module _ (syntax : Syntax) (depth : ℕ) where
   doctype_bare within = tt
   doctype_bare after = tt
 
-  item_bare : (m : Nesting) (item : Item) → ((t : Tag) → item.token ≡ tag t → ⊥) → BareStep (nest_step syntax depth m item)
+  -- a token begins no element with attributes, where no tag does
+  pub item_bare : (m : Nesting) (item : Item) → ((t : Tag) → item.token ≡ tag t → BareStep (step_by syntax depth m item (tag t))) → BareStep (nest_step syntax depth m item)
   item_bare m item h = by item.token h
     where
-      by : (token : Token) → ((t : Tag) → token ≡ tag t → ⊥) → BareStep (step_by syntax depth m item token)
-      by (tag t) k = absurd (k t refl)
+      by : (token : Token) → ((t : Tag) → token ≡ tag t → BareStep (step_by syntax depth m item (tag t))) → BareStep (step_by syntax depth m item token)
+      by (tag t) k = k t refl
       by (character c) k = text_bare m (is_line_feed (character c)) (c ∷ [])
       by (reference c) k = text_bare m (is_line_feed (reference c)) (c ∷ [])
       by (kept chars) k = text_bare m false chars
@@ -128,7 +129,7 @@ module _ (syntax : Syntax) (depth : ℕ) where
   items_bare : (items : List Item) → HasNoTag items → (x : Result Step Kind) → BareStep x → BareStep (steps_on syntax depth x items)
   items_bare [] h x s = s
   items_bare (item ∷ items) h (Err kind) s = items_bare items h.1 (Err kind) tt
-  items_bare (item ∷ items) h (Ok step) s = items_bare items h.1 (step_on syntax depth (Ok step) item) (by (nest_step syntax depth step.next item) (item_bare step.next item h.0))
+  items_bare (item ∷ items) h (Ok step) s = items_bare items h.1 (step_on syntax depth (Ok step) item) (by (nest_step syntax depth step.next item) (item_bare step.next item (λ t k. absurd (h.0 t k))))
     where
       by : (x : Result Step Kind) → BareStep x → BareStep (with_events step.events x)
       by (Ok next) k = bare_append step.events next.events s k
