@@ -1,8 +1,6 @@
 -- Where a page's fault lies.
 use Rattle.std.proofs.Common.{◌≡◌, ◌∙◌, ℕ, ◌+◌, ◌<◌, ◌≤◌, List, [], ◌∷◌, ◌++◌, length, refl, sym, ap, Option, Some, None, Result, Ok, Err, arith, zero, suc, Bool, true, false, take, drop}
-use Rattle.std.proofs.lemmas.Bool.Decides.{nat_tests}
-use Rattle.std.specs.Prelude.{nat_le, if◌then◌else◌}
-use Rattle.rx_terms.proofs.Bools.{by_test}
+use Rattle.std.specs.Prelude.{if◌then◌else◌}
 use Rattle.rx_chars.specs.declared.syntax.Syntax.{Syntax}
 use Rattle.rx_grammar.specs.declared.faults.Fault.{Fault}
 use Rattle.rx_grammar.specs.declared.faults.Kind.TheVariants.{Unended}
@@ -23,10 +21,10 @@ use Rattle.rx_pages.proofs.Sizes.{read_size}
 use Rattle.rx_nest.proofs.TagPlaces.{shows_more}
 use Rattle.rx_nest.proofs.TreeSeen.{whole}
 use Rattle.rx_nest.specs.Ways.{Way, IsRefusal}
-use Rattle.rx_nest.specs.Faults.{MeaningAt, Refuses, for_form, for_meaning}
+use Rattle.rx_nest.specs.RefusedTags.{ReaderRefuses}
 use Rattle.rx_nest.specs.FaultPlaces.{BeginsNone, BeginsRefused}
 use Rattle.rx_nest.proofs.Refusing.{at_from}
-use Rattle.rx_nest.proofs.Firsts.{meaning_within, page_behind}
+use Rattle.rx_nest.proofs.Firsts.{meaning_within}
 use Rattle.rx_nest.proofs.TokenPlacing.{take_front}
 use Rattle.rx_nest.proofs.Pieces.{front_back}
 
@@ -125,7 +123,7 @@ module _ (way : Way) (law : IsRefusal way.refused) where
           let far = at_from (length front) (length (front ++ rest)) signs fault lie (law.lies (shown p) signs fault k w) in
           absurd (omega (arith, far, l))
 
-  pub through : (bytes : List ℕ) (fault : Fault) (m : MeaningAt way bytes fault) → Shown way (take (fault.at + 1) bytes) fault
+  pub through : (bytes : List ℕ) (fault : Fault) (m : ReaderRefuses way bytes fault) → Shown way (take (fault.at + 1) bytes) fault
   through bytes fault m =
       let n : ℕ = fault.at + 1 in
       let l = meaning_within way law bytes fault m in
@@ -146,25 +144,3 @@ module _ (way : Way) (law : IsRefusal way.refused) where
       let p = page_shows way.syntax way.limits (bytes ++ rest) tree page in
       let more = shows_more way.syntax way.limits bytes rest s.now p.final s.read p.read in
       ap way.refused (sym p.signs_are ∙ more.are) ∙ law.stays (shown s.now) more.signs fault s.refused
-
-  -- a fault lies behind what was read without one
-  pub lies_behind : (bytes piece : List ℕ) (p : Progress) (fault : Fault) → page_read way.syntax way.limits bytes ≡ Ok p → way.refused (shown p) ≡ None
-      → Refuses way (bytes ++ piece) fault → length bytes ≤ fault.at
-  lies_behind bytes piece p fault r a (for_form f none) = page_behind way.syntax way.limits bytes piece p fault r f
-  lies_behind bytes piece p fault r a (for_meaning m first) = by_within (through (bytes ++ piece) fault m)
-    where
-      -- what is shown of the bytes through a place before their end
-      none : (x : Option Fault) → x ≡ None → x ≡ Some fault → ⊥
-      none x e f = let w : None ≡ Some fault = sym e ∙ f in cc
-
-      early : fault.at + 1 ≤ length bytes → Shown way (take (fault.at + 1) (bytes ++ piece)) fault → ⊥
-      early l s =
-          let n : ℕ = fault.at + 1 in
-          let same : take n (bytes ++ piece) ≡ take n bytes = take_front n bytes piece l in
-          let read : page_read way.syntax way.limits (take n bytes) ≡ Ok s.now = ap (λ b. page_read way.syntax way.limits b) (sym same) ∙ s.read in
-          let all : page_read way.syntax way.limits (take n bytes ++ drop n bytes) ≡ Ok p = ap (λ b. page_read way.syntax way.limits b) (front_back n bytes) ∙ r in
-          let more = shows_more way.syntax way.limits (take n bytes) (drop n bytes) s.now p read all in
-          none (way.refused (shown p)) a (ap way.refused more.are ∙ law.stays (shown s.now) more.signs fault s.refused)
-
-      by_within : Shown way (take (fault.at + 1) (bytes ++ piece)) fault → length bytes ≤ fault.at
-      by_within s = by_test (nat_le (length bytes) fault.at) (λ t. grind (arith, nat_tests)) (λ t. absurd (early (grind (arith, nat_tests)) s))

@@ -21,7 +21,7 @@ use Rattle.rx_pages.proofs.Sizes.{read_size}
 use Rattle.rx_nest.proofs.TextSteps.{sees_append}
 use Rattle.rx_nest.specs.Ways.{Way, IsRefusal}
 use Rattle.rx_nest.specs.TagPlaces.{ToldBefore, BegunBefore}
-use Rattle.rx_nest.specs.Faults.{MeaningAt}
+use Rattle.rx_nest.specs.RefusedTags.{ReaderRefuses}
 use Rattle.rx_nest.proofs.Placing.{page_told}
 use Rattle.rx_nest.proofs.Refusing.{refused_before}
 
@@ -77,14 +77,14 @@ module _ (syntax : Syntax) (limits : Limits) where
       by (Err fault) k e = let is : fault ≡ other = cc in subst (λ (x : Fault). length front ≤ x.at) is (within_so syntax limits front rest p fault r k).from
 
 module _ (way : Way) (law : IsRefusal way.refused) where
-  pub meaning_within : (bytes : List ℕ) (fault : Fault) (m : MeaningAt way bytes fault) → fault.at < length m.front
+  pub meaning_within : (bytes : List ℕ) (fault : Fault) (m : ReaderRefuses way bytes fault) → fault.at < length m.front
   meaning_within bytes fault m =
       let before = all_seen m.now.now.scan.at m.now.told nothing_seen tt (page_told way.syntax way.limits m.front m.now m.read) in
       let l : fault.at < m.now.now.scan.at = refused_before way.refused law m.now.now.scan.at (sees nothing_seen m.now.told).signs fault before m.refused in
       omega (arith, l, (read_size way.syntax way.limits m.front m.now m.read).0)
 
   -- a tag that is refused stands before the page's fault
-  pub meaning_first : (bytes : List ℕ) (fault : Fault) → MeaningAt way bytes fault → (other : Fault) → FaultAt way.syntax way.limits bytes other → fault.at < other.at
+  pub meaning_first : (bytes : List ℕ) (fault : Fault) → ReaderRefuses way bytes fault → (other : Fault) → FaultAt way.syntax way.limits bytes other → fault.at < other.at
   meaning_first bytes fault m other f =
       let behind = page_behind way.syntax way.limits m.front m.rest m.now other m.read (subst (λ b. FaultAt way.syntax way.limits b other) m.are f) in
       omega (arith, behind, meaning_within bytes fault m)
@@ -109,9 +109,9 @@ take_all (x ∷ xs) ys = ap (λ l. x ∷ l) (take_all xs ys)
 
 -- more bytes tell more, and more events show more
 
-record Longer {A : Type 0} (xs ys : List A) : Type 0 where
-  more : List A
-  is : ys ≡ xs ++ more
+pub record Longer {A : Type 0} (xs ys : List A) : Type 0 where
+  pub more : List A
+  pub is : ys ≡ xs ++ more
 
 longer_then : {A : Type 0} (xs ys zs : List A) → Longer xs ys → Longer ys zs → Longer xs zs
 longer_then xs ys zs a b = record { more = a.more ++ b.more; is = b.is ∙ (ap (λ l. l ++ b.more) a.is ∙ append_assoc xs a.more b.more) }
@@ -131,7 +131,7 @@ finished_long : (flags : Flags) (signs : List Sign) → Longer signs (ended_sigh
 finished_long [] signs = same_long signs
 finished_long (flag ∷ flags) signs = record { more = _; is = refl }
 
-seen_long : (events : List Event) (sight : Sight) → Longer sight.signs (sees sight events).signs
+pub seen_long : (events : List Event) (sight : Sight) → Longer sight.signs (sees sight events).signs
 seen_long [] sight = same_long sight.signs
 seen_long (begins t hides ∷ events) sight =
     let next : Sight = see (begins t hides) sight.flags sight.signs in
@@ -190,7 +190,7 @@ module _ (way : Way) (law : IsRefusal way.refused) (bytes piece : List ℕ) (sig
 
   -- no start tag is refused that stands before the page's fault
   pub no_meaning : {p : Progress} → page_read way.syntax way.limits bytes ≡ Ok p → nests.Faults way.syntax way.limits bytes piece fault → nests.Unshown way.syntax way.limits bytes signs piece → way.refused signs ≡ None
-      → (rest : List ℕ) (other : Fault) → MeaningAt way ((bytes ++ piece) ++ rest) other → ⊥
+      → (rest : List ℕ) (other : Fault) → ReaderRefuses way ((bytes ++ piece) ++ rest) other → ⊥
   no_meaning {p} r f u a rest other m = ⊎_elim reaches falls_short (cut bytes (piece ++ rest) m.front m.rest (sym (append_assoc bytes piece rest) ∙ m.are))
     where
       shown : (sees nothing_seen p.told).signs ≡ signs

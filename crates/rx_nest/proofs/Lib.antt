@@ -23,6 +23,8 @@ pub mod Firsts
 pub mod FaultPlacing
 pub mod PlaceLaws
 pub mod RefusedTags
+pub mod Meanings
+pub mod FaultsOfPieces
 pub mod Stopping
 pub mod Turning
 pub mod QuietReading

@@ -1,5 +1,5 @@
 -- Where the faults lie that a piece of a page brings, and what stands before them.
-use Rattle.std.proofs.Common.{◌≡◌, ◌∙◌, ℕ, ◌+◌, ◌≤◌, ◌<◌, Bool, true, false, List, [], ◌∷◌, ◌++◌, map, length, take, drop, refl, sym, ap, subst, Option, Some, None, Result, Ok, arith, append-nil}
+use Rattle.std.proofs.Common.{◌≡◌, ◌∙◌, ℕ, ◌+◌, ◌≤◌, ◌<◌, Bool, true, false, List, [], ◌∷◌, ◌++◌, map, length, take, drop, refl, sym, ap, subst, Option, Some, None, Result, Ok, arith}
 use Rattle.std.specs.Prelude.{if◌then◌else◌}
 use Rattle.rx_terms.specs.Text.{Chars}
 use Rattle.rx_terms.specs.Ascii.{less_than_sign}
@@ -13,18 +13,15 @@ use Rattle.rx_pages.specs.Closings.{closed, IsWide, IsFront, Bare, AllEnd, Close
 use Rattle.rx_pages.specs.Nesting.{Event, begins, says, finishes, Nesting, Goes, stands, goes}
 use Rattle.rx_pages.specs.PageReader.{Progress, page_read}
 use Rattle.rx_pages.proofs.ClosedTold.{fronts_tell}
-use Rattle.rx_pages.proofs.FaultFronts.{faults_follow_fronts}
-use Rattle.rx_nest.specs.Nests.{Nested}
 use Rattle.rx_nest.specs.Signs.{Sign, begun, said, Flags, Sight, is_hidden, ended_sight, see, sees, nothing_seen, signs_of}
 use Rattle.rx_pages.proofs.Sizes.{read_size}
 use Rattle.rx_nest.proofs.TagPlaces.{shows_more}
 use Rattle.rx_nest.proofs.TextSteps.{sees_append}
-use Rattle.rx_nest.specs.Faults.{MeaningAt, Refuses, Stops, for_form, for_meaning}
-use Rattle.rx_nest.specs.FaultPlaces.{IsAcceptedPage, IsAcceptedFront, PlaceLaw, of_form, of_meaning, Placed}
+use Rattle.rx_nest.specs.RefusedTags.{ReaderRefuses}
+use Rattle.rx_nest.specs.FaultPlaces.{IsAcceptedPage, IsAcceptedFront}
 use Rattle.rx_nest.specs.Ways.{Way, IsRefusal}
 use Rattle.rx_nest.specs.TagPlaces.{ToldBefore}
-use Rattle.rx_nest.specs.Readings.{Goes as ReadingGoes, OwesNone}
-use Rattle.rx_nest.proofs.FaultPlacing.{take_length, read_front, page_shows, refused_of, through, lies_behind, begins_none}
+use Rattle.rx_nest.proofs.FaultPlacing.{take_length, read_front, page_shows}
 use Rattle.rx_nest.proofs.Refusing.{at_from, said_accepted, ended_accepted, refused_before}
 use Rattle.rx_nest.proofs.Firsts.{all_seen}
 use Rattle.rx_nest.proofs.Placing.{told_append, StepBefore, item_before}
@@ -68,7 +65,7 @@ module _ (refused : List Sign → Option Fault) (law : IsRefusal refused) where
 
 -- before a start tag that is refused stands the front of a page without such tags
 
-module _ (way : Way) (law : IsRefusal way.refused) (bytes : List ℕ) (fault : Fault) (m : MeaningAt way bytes fault) where
+module _ (way : Way) (law : IsRefusal way.refused) (bytes : List ℕ) (fault : Fault) (m : ReaderRefuses way bytes fault) where
   abbrev front : List ℕ
   front = take fault.token bytes
 
@@ -152,20 +149,3 @@ module _ (way : Way) (law : IsRefusal way.refused) (bytes : List ℕ) (fault : F
   accepted_front =
       let f = subst (λ b. IsFront way.syntax way.limits (take fault.token b)) (sym m.are) (refused_fronts way law m.front m.rest m.now fault m.read m.refused) in
       record { next = f.next; line = f.line; phase = f.phase; begun = f.begun; closes = closes_accepted f }
-
--- where a fault lies that a piece brings
-pub placed : {L : Type 0} (way : Way) (knows : L → List Sign → Type 0) (law : IsRefusal way.refused) (bytes piece : List ℕ) (nest : Nested) (listener : L) (fault : Fault)
-    → (g : ReadingGoes way knows nest listener bytes) → way.refused g.signs ≡ None → OwesNone nest → Stops way (bytes ++ piece) fault → Placed way bytes piece fault
-placed way knows law bytes piece nest listener fault g accepted paid st =
-    let now : Progress = record { now = g.shown.at.now; told = g.shown.told } in
-    let seen : (sees nothing_seen g.shown.told).signs ≡ g.signs = ap (λ (x : Sight). x.signs) g.shown.sight ∙ (ap (λ x. g.signs ++ x) paid ∙ append-nil g.signs) in
-    let refuses : Refuses way (bytes ++ piece) fault = subst (λ b. Refuses way b fault) (append-nil (bytes ++ piece)) (st.stays []) in
-    record {
-      from = lies_behind way law bytes piece now fault g.shown.at.read (ap way.refused seen ∙ accepted) refuses;
-      law = by refuses;
-    }
-  where
-    by : Refuses way (bytes ++ piece) fault → PlaceLaw way (bytes ++ piece) fault
-    by (for_form f none) = of_form f (begins_none way.syntax way.limits (bytes ++ piece) fault f st.within) (faults_follow_fronts way.syntax way.limits (bytes ++ piece) fault f)
-    by (for_meaning m first) =
-        of_meaning m (refused_of way law (take (fault.at + 1) (bytes ++ piece)) fault (through way law (bytes ++ piece) fault m)) (accepted_front way law (bytes ++ piece) fault m)

@@ -30,8 +30,7 @@ use Rattle.rx_nest.specs.Signs.{Sight, sees, nothing_seen, signs_of}
 use Rattle.rx_nest.proofs.TextSteps.{sees_append}
 use Rattle.rx_nest.proofs.TagPlaces.{shows_more}
 use Rattle.rx_nest.specs.Ways.{Way, IsRefusal}
-use Rattle.rx_nest.specs.Faults.{MeaningAt}
-use Rattle.rx_nest.specs.RefusedTags.{RefusesLast, RefusedTagsAreLast}
+use Rattle.rx_nest.specs.RefusedTags.{ReaderRefuses, RefusesLast}
 use Rattle.rx_nest.proofs.Firsts.{meaning_within}
 use Rattle.rx_nest.proofs.FaultPlacing.{take_length, read_front, shown, refused_of, through}
 use Rattle.rx_nest.proofs.PlaceLaws.{accepted_front, bare_accepted}
@@ -89,13 +88,13 @@ module _ (syntax : Syntax) (limits : Limits) (spot : Spot) where
   byte_where s byte = split Where (nat_le limits.page s.at) _ _ (λ k. tt) (λ k. answer_where s (s.held ++ byte ∷ []) (answer_of (s.held ++ byte ∷ [])))
 
 -- tokens that are no tags begin no element
-bare_append : (xs ys : List Event) → Bare xs → Bare ys → Bare (xs ++ ys)
+pub bare_append : (xs ys : List Event) → Bare xs → Bare ys → Bare (xs ++ ys)
 bare_append [] ys a b = b
 bare_append (begins t hidden ∷ xs) ys a b = (a.0, bare_append xs ys a.1 b)
 bare_append (says chars ∷ xs) ys a b = bare_append xs ys a b
 bare_append (finishes ∷ xs) ys a b = bare_append xs ys a b
 
-abbrev BareStep : Result Step Kind → Type 0
+abbrev pub BareStep : Result Step Kind → Type 0
 BareStep (Ok step) = Bare step.events
 BareStep (Err kind) = Unit {0}
 
@@ -114,11 +113,12 @@ module _ (syntax : Syntax) (depth : ℕ) where
   doctype_bare within = tt
   doctype_bare after = tt
 
-  item_bare : (m : Nesting) (item : Item) → ((t : Tag) → item.token ≡ tag t → ⊥) → BareStep (nest_step syntax depth m item)
+  -- a token begins no element with attributes, where no tag does
+  pub item_bare : (m : Nesting) (item : Item) → ((t : Tag) → item.token ≡ tag t → BareStep (step_by syntax depth m item (tag t))) → BareStep (nest_step syntax depth m item)
   item_bare m item h = by item.token h
     where
-      by : (token : Token) → ((t : Tag) → token ≡ tag t → ⊥) → BareStep (step_by syntax depth m item token)
-      by (tag t) k = absurd (k t refl)
+      by : (token : Token) → ((t : Tag) → token ≡ tag t → BareStep (step_by syntax depth m item (tag t))) → BareStep (step_by syntax depth m item token)
+      by (tag t) k = k t refl
       by (character c) k = text_bare m (is_line_feed (character c)) (c ∷ [])
       by (reference c) k = text_bare m (is_line_feed (reference c)) (c ∷ [])
       by (kept chars) k = text_bare m false chars
@@ -129,7 +129,7 @@ module _ (syntax : Syntax) (depth : ℕ) where
   items_bare : (items : List Item) → HasNoTag items → (x : Result Step Kind) → BareStep x → BareStep (steps_on syntax depth x items)
   items_bare [] h x s = s
   items_bare (item ∷ items) h (Err kind) s = items_bare items h.1 (Err kind) tt
-  items_bare (item ∷ items) h (Ok step) s = items_bare items h.1 (step_on syntax depth (Ok step) item) (by (nest_step syntax depth step.next item) (item_bare step.next item h.0))
+  items_bare (item ∷ items) h (Ok step) s = items_bare items h.1 (step_on syntax depth (Ok step) item) (by (nest_step syntax depth step.next item) (item_bare step.next item (λ t k. absurd (h.0 t k))))
     where
       by : (x : Result Step Kind) → BareStep x → BareStep (with_events step.events x)
       by (Ok next) k = bare_append step.events next.events s k
@@ -171,11 +171,11 @@ module _ (way : Way) (law : IsRefusal way.refused) where
   take_one (suc n) (x ∷ xs) l = let r = take_one n xs (omega arith) in let e : suc n + 1 ≡ suc (n + 1) = omega arith in (r.0, ap (λ k. take k (x ∷ xs)) e ∙ ap (λ ys. x ∷ ys) r.1)
 
   -- so are the bytes through the tag
-  module _ (bytes : List ℕ) (fault : Fault) (m : MeaningAt way bytes fault) where
+  module _ (bytes : List ℕ) (fault : Fault) (m : ReaderRefuses way bytes fault) where
     abbrev front : List ℕ
     front = take (fault.at + 1) bytes
 
-    long : fault.at < length bytes
+    pub long : fault.at < length bytes
     long = let l = meaning_within way law bytes fault m in let a = ap length m.are in let k = length-append m.front m.rest in omega arith
 
     settled : Settled (through way law bytes fault m).now
@@ -194,7 +194,7 @@ module _ (way : Way) (law : IsRefusal way.refused) where
             let more = shows_more way.syntax way.limits init rest p q r s in
             let both : Some other ≡ Some fault = sym (law.stays (shown p) more.signs other k) ∙ (ap way.refused (sym more.are) ∙ some) in
             let is : other ≡ fault = cc in
-            let early : MeaningAt way init fault = record { front = init; rest = []; are = sym (append-nil init); now = p; read = r; refused = subst (λ (f : Fault). way.refused (shown p) ≡ Some f) is k } in
+            let early : ReaderRefuses way init fault = record { front = init; rest = []; are = sym (append-nil init); now = p; read = r; refused = subst (λ (f : Fault). way.refused (shown p) ≡ Some f) is k } in
             let l = meaning_within way law init fault early in
             absurd (omega (arith, l, size))
 
@@ -212,6 +212,3 @@ module _ (way : Way) (law : IsRefusal way.refused) where
           refused = refused;
           is_tag = λ rest tree page. law.lies [] (signs_of tree) fault law.none (refused rest tree page);
         }
-
-pub refused_tags_are_last : RefusedTagsAreLast
-refused_tags_are_last way law bytes fault m = refuses_last way law bytes fault m

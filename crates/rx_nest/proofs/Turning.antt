@@ -14,10 +14,12 @@ use Rattle.rx_nest.specs.Signs.{Sign, Sight, signs_of}
 use Rattle.rx_nest.specs.declared.turns.Turn.TheVariants as turn
 use Rattle.rx_nest.specs.Ways.{Way, IsRefusal}
 use Rattle.rx_nest.specs.Listening.{Hears}
-use Rattle.rx_nest.specs.Faults.{MeaningAt, for_form, for_meaning, StopGives}
+use Rattle.rx_nest.specs.Faults.{for_form, for_meaning, StopGives}
+use Rattle.rx_nest.specs.RefusedTags.{ReaderRefuses}
 use Rattle.rx_nest.specs.Readings.{Goes, Somewhere, OwesNone, TurnGives, PieceGives, Whole, Unfinished}
 use Rattle.rx_nest.proofs.Pieces.{front_back, every}
 use Rattle.rx_nest.proofs.Firsts.{meaning_first, meaning_within, no_meaning}
+use Rattle.rx_nest.proofs.Meanings.{meant, read_as_meant}
 
 -- where nothing is due, nothing more is shown
 pub paid_up : (owed : PendingEvents) (t : StartTag) → left owed ≡ 0 → nests.owed_signs owed t ≡ []
@@ -47,7 +49,7 @@ module _ {L : Type 0} (way : Way) (knows : L → List Sign → Type 0) (law : Is
       paid_up nest.owed (nests.last_tag nest.scan) p,
     )
 
-    abbrev heard_meaning : (rest : List ℕ) (fault : Fault) → way.refused (signs ++ event_signs e) ≡ Some fault → MeaningAt way ((bytes ++ piece) ++ rest) fault
+    abbrev heard_meaning : (rest : List ℕ) (fault : Fault) → way.refused (signs ++ event_signs e) ≡ Some fault → ReaderRefuses way ((bytes ++ piece) ++ rest) fault
     heard_meaning rest fault r = record {
       front = bytes ++ take n piece;
       rest = drop n piece ++ rest;
@@ -64,7 +66,7 @@ module _ {L : Type 0} (way : Way) (knows : L → List Sign → Type 0) (law : Is
     heard_fault : (fault : Fault) → way.refused (signs ++ event_signs e) ≡ Some fault → StopGives way (bytes ++ piece) (stop.Fault fault)
     heard_fault fault r =
         record {
-          stays = λ rest. for_meaning (heard_meaning rest fault r) (meaning_first way law ((bytes ++ piece) ++ rest) fault (heard_meaning rest fault r));
+          stays = λ rest. for_meaning (meant way law ((bytes ++ piece) ++ rest) fault (heard_meaning rest fault r)) (meaning_first way law ((bytes ++ piece) ++ rest) fault (heard_meaning rest fault r));
           within =
               let l : fault.at < length (bytes ++ take n piece) = meaning_within way law ((bytes ++ piece) ++ []) fault (heard_meaning [] fault r) in
               omega (arith, l, length-append bytes (take n piece), length-append bytes piece, length-take n piece);
@@ -78,7 +80,8 @@ module _ {L : Type 0} (way : Way) (knows : L → List Sign → Type 0) (law : Is
       → StepGives way.syntax way.limits bytes g.signs piece (Err why) new → StopGives way (bytes ++ piece) why
   step_stop bytes piece nest new listener g a (stop.Fault fault) s =
       record {
-        stays = λ rest. for_form (s.0.stays rest) (no_meaning way law bytes piece g.signs fault g.shown.at.read s.0 s.2 a rest);
+        stays = λ rest. for_form (s.0.stays rest)
+            (λ other m. no_meaning way law bytes piece g.signs fault g.shown.at.read s.0 s.2 a rest other (read_as_meant way law ((bytes ++ piece) ++ rest) other m));
         within = s.0.within;
       }
   step_stop bytes piece nest new listener g a stop.NoMemory s = tt

@@ -1,21 +1,29 @@
 -- Why the bytes of a page are refused.
-use Rattle.std.specs.Prelude.{◌≡◌, ◌<◌, ℕ, List, ◌++◌, length, Some, Ok}
+use Rattle.std.specs.Prelude.{◌≡◌, ◌<◌, ◌+◌, ℕ, List, ◌++◌, length, take, Some, None}
 use Rattle.rx_grammar.specs.declared.faults.Fault.{Fault}
+use Rattle.rx_grammar.specs.declared.limits.Limits.{Limits}
+use Rattle.rx_grammar.specs.Begun.{Line, Phase, Begun}
 use Rattle.rx_grammar.specs.PageFaults.{FaultAt}
-use Rattle.rx_pages.specs.PageReader.{Progress, page_read}
+use Rattle.rx_grammar.specs.Pages.{Page}
+use Rattle.rx_grammar.specs.Trees.{Tree}
+use Rattle.rx_pages.specs.Closings.{closed, IsWide}
 use Rattle.rx_grammar.specs.declared.stops.Stop.{Stop}
 use Rattle.rx_grammar.specs.declared.stops.Stop.TheVariants as stop
-use Rattle.rx_nest.specs.Signs.{sees, nothing_seen}
+use Rattle.rx_nest.specs.Signs.{signs_of}
 use Rattle.rx_nest.specs.Ways.{Way}
 
--- A front of the bytes shows a start tag that is refused, and none before it.
+-- A start tag is refused for what it means, and none before it. The bytes through its last one are the front of a page, with nothing
+-- unfinished; and of the page that they are once what is open is closed, apart from the limits of tag and page, it is the first start tag
+-- that is refused. So it stands outside `template`, whose inside no tree has, and it is the last one in the bytes.
 pub record MeaningAt (way : Way) (bytes : List ℕ) (fault : Fault) : Type 0 where
-  pub front : List ℕ
-  pub rest : List ℕ
-  pub are : bytes ≡ front ++ rest
-  pub now : Progress
-  pub read : page_read way.syntax way.limits front ≡ Ok now
-  pub refused : way.refused (sees nothing_seen now.told).signs ≡ Some fault
+  pub within : fault.at < length bytes
+  pub line : Line
+  pub phase : Phase
+  pub begun : Begun way.syntax way.limits (take (fault.at + 1) bytes) None line phase
+  pub tree : Tree
+  pub page : (wide : Limits) → IsWide way.limits wide (length (closed (take (fault.at + 1) bytes) line phase))
+      → Page way.syntax wide (closed (take (fault.at + 1) bytes) line phase) tree
+  pub refused : way.refused (signs_of tree) ≡ Some fault
 
 -- Why the bytes are refused: for their form, where no start tag that stands before is refused; or for what a start tag
 -- means that stands before any fault of their form.

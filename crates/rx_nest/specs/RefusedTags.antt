@@ -1,10 +1,11 @@
--- A start tag that is refused for what it means, by the grammar alone.
-use Rattle.std.specs.Prelude.{◌+◌, ℕ, List, ◌++◌, take, None}
+-- A start tag that is refused for what it means, by the grammar and by the reader.
+use Rattle.std.specs.Prelude.{◌≡◌, ◌↔◌, ◌+◌, ℕ, List, ◌++◌, take, Some, None, Ok}
 use Rattle.rx_grammar.specs.declared.faults.Fault.{Fault}
 use Rattle.rx_grammar.specs.Pages.{Page}
 use Rattle.rx_grammar.specs.Trees.{Tree}
 use Rattle.rx_grammar.specs.Begun.{Line, Phase, Begun}
-use Rattle.rx_nest.specs.Signs.{signs_of}
+use Rattle.rx_pages.specs.PageReader.{Progress, page_read}
+use Rattle.rx_nest.specs.Signs.{sees, nothing_seen, signs_of}
 use Rattle.rx_nest.specs.Ways.{Way, IsAtOne, IsRefusal}
 use Rattle.rx_nest.specs.Faults.{MeaningAt}
 use Rattle.rx_nest.specs.FaultPlaces.{BeginsRefused, IsAcceptedFront}
@@ -19,6 +20,19 @@ pub record RefusesLast (way : Way) (bytes : List ℕ) (fault : Fault) : Type 0 w
   pub refused : BeginsRefused way (take (fault.at + 1) bytes) fault
   pub is_tag : (rest : List ℕ) (tree : Tree) → Page way.syntax way.limits (take (fault.at + 1) bytes ++ rest) tree → IsAtOne fault (signs_of tree)
 
--- law: so is each fault of a meaning
+-- The reader reads a front of the bytes, and shows a start tag that is refused, and none before it.
+pub record ReaderRefuses (way : Way) (bytes : List ℕ) (fault : Fault) : Type 0 where
+  pub front : List ℕ
+  pub rest : List ℕ
+  pub are : bytes ≡ front ++ rest
+  pub now : Progress
+  pub read : page_read way.syntax way.limits front ≡ Ok now
+  pub refused : way.refused (sees nothing_seen now.told).signs ≡ Some fault
+
+-- law: exactly the faults of a meaning are those that the reader shows, and each lies so
+pub record IsRefusedTag (way : Way) (bytes : List ℕ) (fault : Fault) : Type 0 where
+  pub shown : MeaningAt way bytes fault ↔ ReaderRefuses way bytes fault
+  pub lies : MeaningAt way bytes fault → RefusesLast way bytes fault
+
 abbrev pub RefusedTagsAreLast : Type 0
-RefusedTagsAreLast = (way : Way) → IsRefusal way.refused → (bytes : List ℕ) (fault : Fault) → MeaningAt way bytes fault → RefusesLast way bytes fault
+RefusedTagsAreLast = (way : Way) → IsRefusal way.refused → (bytes : List ℕ) (fault : Fault) → IsRefusedTag way bytes fault

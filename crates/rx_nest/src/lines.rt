@@ -1,15 +1,19 @@
 //! What a tag does to the open elements.
-ghost use Rattle.std.specs.Prelude.{◌≡◌, OnOk, true, false, nat_le, length, not, ◌&&◌, if◌then◌else◌};
+ghost use Rattle.std.specs.Prelude.{◌≡◌, OnOk, true, false, nat_le, length, not, ◌&&◌, if◌then◌else◌, option_map};
 ghost use Rattle.rx_grammar.specs.Contents as contents;
+ghost use Rattle.rx_grammar.specs.Names.{row_of};
+ghost use Rattle.rx_grammar.specs.Omission.{is_held};
 ghost use Rattle.rx_grammar.specs.PageFaults.{first_row};
 ghost use Rattle.rx_tags.specs.Seen.{tag_seen};
 ghost use Rattle.rx_nest.specs.Levels as levels;
+ghost use Rattle.rx_nest.specs.Rows.{row_seen};
 ghost use Rattle.rx_nest.specs.Lines as lines;
 ghost use Rattle.rx_nest.specs.Ordinary.{IsOrdinaryUnder, IsPlainUnder};
 
 use crate::element_names;
 use crate::levels::{Levels, Traits};
 use crate::places::Place;
+use crate::tables::OmittedEnd;
 use rx_chars::Syntax;
 use rx_grammar::{Content, Kind};
 use rx_tags::Tag;
@@ -171,9 +175,11 @@ impl OpenElements {
             return Err(Refused::Fault(Kind::TooDeep));
         }
         if self.is_ordinary(tag) {
-            self.begin_ordinary(tag, ends)
+            self.begin_plain(tag, ends, None, false)
         } else if self.is_omissible(tag) {
-            self.begin_omissible(tag, ends)
+            let row = element_names::row_of(tag.name());
+            let held = element_names::is_held(self.levels.name(), tag.name());
+            self.begin_plain(tag, ends, row, held)
         } else {
             self.begin_own(tag, ends)
         }
@@ -188,30 +194,6 @@ impl OpenElements {
             && element_names::is_ordinary(tag.name())
     }
 
-    // What `begin_own` does, without a look at the tables. Most elements of a page are such.
-    fn begin_ordinary(&mut self, tag: &Tag<'_>, ends: usize) -> Result<TagEffect, Refused>
-        requires room { nat_le self.old.depth (length self.old.levels) ≡ false }
-        requires ordinary { IsOrdinaryUnder self.old.syntax self.old.levels (tag_seen tag.now).name }
-        ensures { lines.OwnGives ends self.old (tag_seen tag.now) result self.new }
-    {
-        let own = self.own_of_start(false);
-        let hidden = self.levels.hides();
-        let traits = Traits {
-            inside: Place::of(Content::Html),
-            row: None,
-            held: false,
-            shown: !hidden,
-            hides: hidden,
-        };
-        self.begun = true;
-        self.levels.push(tag.name(), traits)?;
-        Ok(TagEffect {
-            ends,
-            own,
-            drops: false,
-        })
-    }
-
     // Whether an element begins of which one table alone says something, that of omitted end tags.
     fn is_omissible(&self, tag: &Tag<'_>) -> bool
         ensures { result ≡ true → IsPlainUnder self.now.syntax self.now.levels (tag_seen tag.now).name }
@@ -221,18 +203,27 @@ impl OpenElements {
             && element_names::is_omissible(tag.name())
     }
 
-    // What `begin_own` does, with a look at that table alone.
-    fn begin_omissible(&mut self, tag: &Tag<'_>, ends: usize) -> Result<TagEffect, Refused>
+    // What `begin_own` does, where the table of omitted end tags alone says something of the name: this row, and whether
+    // the parent holds the element open.
+    fn begin_plain(
+        &mut self,
+        tag: &Tag<'_>,
+        ends: usize,
+        row: Option<OmittedEnd>,
+        held: bool,
+    ) -> Result<TagEffect, Refused>
         requires room { nat_le self.old.depth (length self.old.levels) ≡ false }
         requires plain { IsPlainUnder self.old.syntax self.old.levels (tag_seen tag.now).name }
+        requires row { option_map row_seen row ≡ row_of (tag_seen tag.now).name }
+        requires held { held ≡ is_held (levels.name_under self.old.levels) (tag_seen tag.now).name }
         ensures { lines.OwnGives ends self.old (tag_seen tag.now) result self.new }
     {
         let own = self.own_of_start(false);
         let hidden = self.levels.hides();
         let traits = Traits {
             inside: Place::of(Content::Html),
-            row: element_names::row_of(tag.name()),
-            held: element_names::is_held(self.levels.name(), tag.name()),
+            row,
+            held,
             shown: !hidden,
             hides: hidden,
         };

@@ -17,7 +17,9 @@ use Rattle.rx_pages.proofs.Sizes.{read_size}
 use Rattle.rx_nest.proofs.TagPlaces.{shows_more}
 use Rattle.rx_nest.proofs.TreeSeen.{whole}
 use Rattle.rx_nest.specs.Faults.{MeaningAt, Refuses, for_form, for_meaning}
+use Rattle.rx_nest.specs.RefusedTags.{ReaderRefuses}
 use Rattle.rx_nest.specs.Ways.{Way, IsRefusal}
+use Rattle.rx_nest.proofs.Meanings.{read_as_meant}
 use Rattle.rx_nest.proofs.Refusing.{at_from}
 
 -- of two fronts of a list one is a front of the other
@@ -43,13 +45,16 @@ module _ (way : Way) (law : IsRefusal way.refused) where
       ap way.refused s.are ∙ law.stays (SignsOf p) s.signs fault r
 
   -- bytes that show no refused tag have no fault of meaning
-  pub no_meaning_in : (bytes : List ℕ) (p : Progress) → page_read way.syntax way.limits bytes ≡ Ok p → way.refused (SignsOf p) ≡ None → (fault : Fault) → MeaningAt way bytes fault → ⊥
-  no_meaning_in bytes p h none fault m =
+  pub none_read : (bytes : List ℕ) (p : Progress) → page_read way.syntax way.limits bytes ≡ Ok p → way.refused (SignsOf p) ≡ None → (fault : Fault) → ReaderRefuses way bytes fault → ⊥
+  none_read bytes p h none fault m =
       let w : Some fault ≡ None = sym (refused_on m.front m.rest m.now p fault m.read (ap (λ x. page_read way.syntax way.limits x) (sym m.are) ∙ h) m.refused) ∙ none in
       absurd (cc)
 
-  one_meaning : (bytes : List ℕ) (a b : Fault) → MeaningAt way bytes a → MeaningAt way bytes b → a ≡ b
-  one_meaning bytes a b m n =
+  pub no_meaning_in : (bytes : List ℕ) (p : Progress) → page_read way.syntax way.limits bytes ≡ Ok p → way.refused (SignsOf p) ≡ None → (fault : Fault) → MeaningAt way bytes fault → ⊥
+  no_meaning_in bytes p h none fault m = none_read bytes p h none fault (read_as_meant way law bytes fault m)
+
+  one_read : (bytes : List ℕ) (a b : Fault) → ReaderRefuses way bytes a → ReaderRefuses way bytes b → a ≡ b
+  one_read bytes a b m n =
       ⊎_elim
       (λ r. some_same a b (sym (refused_on m.front r.0 m.now n.now a m.read (ap (λ x. page_read way.syntax way.limits x) (sym r.1) ∙ n.read) m.refused) ∙ n.refused))
       (λ r. some_same a b (sym m.refused ∙ refused_on n.front r.0 n.now m.now b n.read (ap (λ x. page_read way.syntax way.limits x) (sym r.1) ∙ m.read) n.refused))
@@ -60,7 +65,7 @@ module _ (way : Way) (law : IsRefusal way.refused) where
   one_first bytes a b (for_form f n) (for_form g m) = one_fault way.syntax way.limits bytes a b f g
   one_first bytes a b (for_form f n) (for_meaning g m) = absurd (n b g)
   one_first bytes a b (for_meaning f n) (for_form g m) = absurd (m a f)
-  one_first bytes a b (for_meaning f n) (for_meaning g m) = one_meaning bytes a b f g
+  one_first bytes a b (for_meaning f n) (for_meaning g m) = one_read bytes a b (read_as_meant way law bytes a f) (read_as_meant way law bytes b g)
 
   -- an accepted page has none
   pub page_has_none : (bytes : List ℕ) (tree : Tree) → Page way.syntax way.limits bytes tree → way.refused (signs_of tree) ≡ None → (fault : Fault) → Refuses way bytes fault → ⊥
@@ -110,13 +115,15 @@ module _ (way : Way) (law : IsRefusal way.refused) where
 
   pub refused_from : (bytes more : List ℕ) (p : Progress) → page_read way.syntax way.limits bytes ≡ Ok p → way.refused (SignsOf p) ≡ None → (fault : Fault) → Refuses way (bytes ++ more) fault → length bytes ≤ fault.at
   refused_from bytes more p h none fault (for_form f n) = at_least bytes more p h fault f
-  refused_from bytes more p h none fault (for_meaning m n) =
-      ⊎_elim (λ r. absurd (none_before r.0 r.1)) (λ r. behind r.0 r.1) (fronts m.front m.rest bytes more (sym m.are))
+  refused_from bytes more p h none fault (for_meaning meaning n) = by (read_as_meant way law (bytes ++ more) fault meaning)
     where
-      none_before : (mid : List ℕ) → bytes ≡ m.front ++ mid → ⊥
-      none_before mid e = no_meaning_in bytes p h none fault (record { front = m.front; rest = mid; are = e; now = m.now; read = m.read; refused = m.refused })
+      none_before : (m : ReaderRefuses way (bytes ++ more) fault) (mid : List ℕ) → bytes ≡ m.front ++ mid → ⊥
+      none_before m mid e = none_read bytes p h none fault (record { front = m.front; rest = mid; are = e; now = m.now; read = m.read; refused = m.refused })
 
-      behind : (mid : List ℕ) → m.front ≡ bytes ++ mid → length bytes ≤ fault.at
-      behind mid e =
+      behind : (m : ReaderRefuses way (bytes ++ more) fault) (mid : List ℕ) → m.front ≡ bytes ++ mid → length bytes ≤ fault.at
+      behind m mid e =
           let s = shows_more way.syntax way.limits bytes mid p m.now h (ap (λ x. page_read way.syntax way.limits x) (sym e) ∙ m.read) in
           at_from (length bytes) (length (bytes ++ mid)) s.signs fault s.lie (law.lies (SignsOf p) s.signs fault none (ap way.refused (sym s.are) ∙ m.refused))
+
+      by : ReaderRefuses way (bytes ++ more) fault → length bytes ≤ fault.at
+      by m = ⊎_elim (λ r. absurd (none_before m r.0 r.1)) (λ r. behind m r.0 r.1) (fronts m.front m.rest bytes more (sym m.are))

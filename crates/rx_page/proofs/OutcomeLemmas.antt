@@ -18,6 +18,7 @@ use Rattle.rx_nest.proofs.TreeSeen.{whole}
 use Rattle.rx_nest.specs.Faults.{MeaningAt, Refuses, for_form, for_meaning}
 use Rattle.rx_nest.specs.Ways.{Way, IsRefusal}
 use Rattle.rx_nest.proofs.Firsts.{meaning_first}
+use Rattle.rx_nest.proofs.Meanings.{meant, read_as_meant}
 use Rattle.rx_rdfa.specs.Names.{Context}
 use Rattle.rx_microdata.specs.Json.{Outcome, Given, Refused, outcome}
 use Rattle.rx_microdata.specs.Visits.{standard_bounds}
@@ -26,7 +27,7 @@ use Rattle.rx_page.specs.Settings.{standard, HasFirst}
 use Rattle.rx_page.specs.Tasks.{TaskRefuses, syntax_in, way_in, is_of_items}
 use Rattle.rx_page.specs.Outcomes.{TaskAccepts, IsTheTree, IsTheFault, OneOutcome, may_refuse}
 use Rattle.rx_grammar.specs.Kinds.{is_of_meaning}
-use Rattle.rx_page.proofs.FaultLemmas.{fronts, no_meaning_in, page_has_none, one_first}
+use Rattle.rx_page.proofs.FaultLemmas.{fronts, none_read, page_has_none, one_first}
 use Rattle.rx_page.proofs.ItemLemmas.{item_kind}
 use Rattle.rx_page.proofs.KindLemmas.{form_kind, meaning_kind}
 use Rattle.rx_page.proofs.FrontLemmas.{refuses_so}
@@ -85,9 +86,10 @@ module _ (way : Way) (law : IsRefusal way.refused) where
     where
       on : (l : Longest bytes) (x : Option Fault) → way.refused (SignsOf l.now) ≡ x → ((fault : Fault) → MeaningAt way bytes fault → ⊥) ⊎ ((fault : Fault) × MeaningAt way bytes fault)
       on l None h =
-          inl (λ fault m. let mid = l.most m.front m.rest m.now m.are m.read in
-          no_meaning_in way law l.front l.now l.read h fault (record { front = m.front; rest = mid.0; are = mid.1; now = m.now; read = m.read; refused = m.refused }))
-      on l (Some fault) h = inr (fault, record { front = l.front; rest = l.rest; are = l.are; now = l.now; read = l.read; refused = h })
+          inl (λ fault meaning. let m = read_as_meant way law bytes fault meaning in
+          let mid = l.most m.front m.rest m.now m.are m.read in
+          none_read way law l.front l.now l.read h fault (record { front = m.front; rest = mid.0; are = mid.1; now = m.now; read = m.read; refused = m.refused }))
+      on l (Some fault) h = inr (fault, meant way law bytes fault (record { front = l.front; rest = l.rest; are = l.are; now = l.now; read = l.read; refused = h }))
 
       by : Longest bytes → ((fault : Fault) → MeaningAt way bytes fault → ⊥) ⊎ ((fault : Fault) × MeaningAt way bytes fault)
       by l = on l (way.refused (SignsOf l.now)) refl
@@ -106,7 +108,7 @@ module _ (way : Way) (law : IsRefusal way.refused) where
 
       on : (p : Progress) → Read bytes ≡ Ok p → SignsOf p ≡ signs_of tree → (x : Option Fault) → way.refused (signs_of tree) ≡ x → x ≡ None
       on p h s None r = refl
-      on p h s (Some fault) r = absurd (none fault (record { front = bytes; rest = []; are = sym (append-nil bytes); now = p; read = h; refused = ap way.refused s ∙ r }))
+      on p h s (Some fault) r = absurd (none fault (meant way law bytes fault (record { front = bytes; rest = []; are = sym (append-nil bytes); now = p; read = h; refused = ap way.refused s ∙ r })))
 
       by : (x : Result Progress Fault) → Read bytes ≡ x → (final : Progress) → end_of x ≡ Ok final → SignsOf final ≡ signs_of tree → way.refused (signs_of tree) ≡ None
       by (Ok p) h final e s = on p h (ap SignsOf (is_final p final (may_end p.now) e) ∙ s) (way.refused (signs_of tree)) refl
@@ -114,7 +116,7 @@ module _ (way : Way) (law : IsRefusal way.refused) where
 
   -- whatever the bytes, they are a page of which no tag is refused, or they have a first fault
   pub right_or_refused : (bytes : List ℕ) → ((tree : Tree) × Page way.syntax way.limits bytes tree × (way.refused (signs_of tree) ≡ None)) ⊎ ((fault : Fault) × Refuses way bytes fault)
-  right_or_refused bytes = ⊎_elim (λ none. by none (page_or_fault way.syntax way.limits bytes)) (λ m. inr (m.0, for_meaning m.1 (meaning_first way law bytes m.0 m.1))) (none_or_one bytes)
+  right_or_refused bytes = ⊎_elim (λ none. by none (page_or_fault way.syntax way.limits bytes)) (λ m. inr (m.0, for_meaning m.1 (meaning_first way law bytes m.0 (read_as_meant way law bytes m.0 m.1)))) (none_or_one bytes)
     where
       by : ((fault : Fault) → MeaningAt way bytes fault → ⊥) → ((tree : Tree) × Page way.syntax way.limits bytes tree) ⊎ ((fault : Fault) × FaultAt way.syntax way.limits bytes fault)
           → ((tree : Tree) × Page way.syntax way.limits bytes tree × (way.refused (signs_of tree) ≡ None)) ⊎ ((fault : Fault) × Refuses way bytes fault)
@@ -126,7 +128,7 @@ module _ (way : Way) (law : IsRefusal way.refused) where
 -- what refuses a page for its form or for RDFa isn't of items
 kind_of_first : (way : Way) (bytes : List ℕ) (fault : Fault) → ((front : List Sign) → way.refused front ≡ Some fault → is_of_items fault.kind ≡ false) → Refuses way bytes fault → is_of_items fault.kind ≡ false
 kind_of_first way bytes fault of (for_form f n) = (form_kind way.syntax way.limits bytes fault f).0
-kind_of_first way bytes fault of (for_meaning m n) = of (sees nothing_seen m.now.told).signs m.refused
+kind_of_first way bytes fault of (for_meaning m n) = of (signs_of m.tree) m.refused
 
 -- what refuses it for its form where items are wanted isn't of meaning
 form_of_first : (i : Itemization) (context : Context) (bytes : List ℕ) (fault : Fault) → Refuses (way_in (itemizes i) context) bytes fault → is_of_meaning fault.kind ≡ false

@@ -1,6 +1,6 @@
 use Rattle.std.proofs.Common.{◌++◌, refl, sym, subst}
 use Rattle.rx_nest.specs.Readings.{Read, ReadingStands}
-use Rattle.rx_nest.proofs.PlaceLaws.{placed}
+use Rattle.rx_nest.proofs.FaultsOfPieces.{placed}
 use Rattle.rx_nest.proofs.readings.Reading.feed.Goals as goal
 
 pub invariant_of-self : goal.invariant_of-self

@@ -1,0 +1,61 @@
+-- Where a fault lies that a piece of a page brings.
+use Rattle.std.proofs.Common.{◌≡◌, ◌∙◌, ℕ, ◌+◌, ◌≤◌, List, [], ◌++◌, length, sym, ap, subst, Option, Some, None, Ok, arith, take, drop, append-nil}
+use Rattle.std.proofs.lemmas.Bool.Decides.{nat_tests}
+use Rattle.std.specs.Prelude.{nat_le}
+use Rattle.rx_terms.proofs.Bools.{by_test}
+use Rattle.rx_grammar.specs.declared.faults.Fault.{Fault}
+use Rattle.rx_pages.specs.PageReader.{Progress, page_read}
+use Rattle.rx_pages.proofs.FaultFronts.{faults_follow_fronts}
+use Rattle.rx_nest.specs.Nests.{Nested}
+use Rattle.rx_nest.specs.Signs.{Sign, Sight, sees, nothing_seen}
+use Rattle.rx_nest.specs.Faults.{Refuses, Stops, for_form, for_meaning}
+use Rattle.rx_nest.specs.FaultPlaces.{PlaceLaw, of_form, of_meaning, Placed}
+use Rattle.rx_nest.specs.Readings.{Goes as ReadingGoes, OwesNone}
+use Rattle.rx_nest.specs.Ways.{Way, IsRefusal}
+use Rattle.rx_nest.proofs.FaultPlacing.{Shown, shown, refused_of, through, begins_none}
+use Rattle.rx_nest.proofs.Firsts.{page_behind}
+use Rattle.rx_nest.proofs.Meanings.{read_as_meant}
+use Rattle.rx_nest.proofs.Pieces.{front_back}
+use Rattle.rx_nest.proofs.PlaceLaws.{accepted_front}
+use Rattle.rx_nest.proofs.TagPlaces.{shows_more}
+use Rattle.rx_nest.proofs.TokenPlacing.{take_front}
+
+module _ (way : Way) (law : IsRefusal way.refused) where
+  -- a fault lies behind what was read without one
+  lies_behind : (bytes piece : List ℕ) (p : Progress) (fault : Fault) → page_read way.syntax way.limits bytes ≡ Ok p → way.refused (shown p) ≡ None
+      → Refuses way (bytes ++ piece) fault → length bytes ≤ fault.at
+  lies_behind bytes piece p fault r a (for_form f none) = page_behind way.syntax way.limits bytes piece p fault r f
+  lies_behind bytes piece p fault r a (for_meaning m first) = by_within (through way law (bytes ++ piece) fault (read_as_meant way law (bytes ++ piece) fault m))
+    where
+      -- what is shown of the bytes through a place before their end
+      none : (x : Option Fault) → x ≡ None → x ≡ Some fault → ⊥
+      none x e f = let w : None ≡ Some fault = sym e ∙ f in cc
+
+      early : fault.at + 1 ≤ length bytes → Shown way (take (fault.at + 1) (bytes ++ piece)) fault → ⊥
+      early l s =
+          let n : ℕ = fault.at + 1 in
+          let same : take n (bytes ++ piece) ≡ take n bytes = take_front n bytes piece l in
+          let read : page_read way.syntax way.limits (take n bytes) ≡ Ok s.now = ap (λ b. page_read way.syntax way.limits b) (sym same) ∙ s.read in
+          let all : page_read way.syntax way.limits (take n bytes ++ drop n bytes) ≡ Ok p = ap (λ b. page_read way.syntax way.limits b) (front_back n bytes) ∙ r in
+          let more = shows_more way.syntax way.limits (take n bytes) (drop n bytes) s.now p read all in
+          none (way.refused (shown p)) a (ap way.refused more.are ∙ law.stays (shown s.now) more.signs fault s.refused)
+
+      by_within : Shown way (take (fault.at + 1) (bytes ++ piece)) fault → length bytes ≤ fault.at
+      by_within s = by_test (nat_le (length bytes) fault.at) (λ t. grind (arith, nat_tests)) (λ t. absurd (early (grind (arith, nat_tests)) s))
+
+-- where a fault lies that a piece brings
+pub placed : {L : Type 0} (way : Way) (knows : L → List Sign → Type 0) (law : IsRefusal way.refused) (bytes piece : List ℕ) (nest : Nested) (listener : L) (fault : Fault)
+    → (g : ReadingGoes way knows nest listener bytes) → way.refused g.signs ≡ None → OwesNone nest → Stops way (bytes ++ piece) fault → Placed way bytes piece fault
+placed way knows law bytes piece nest listener fault g accepted paid st =
+    let now : Progress = record { now = g.shown.at.now; told = g.shown.told } in
+    let seen : (sees nothing_seen g.shown.told).signs ≡ g.signs = ap (λ (x : Sight). x.signs) g.shown.sight ∙ (ap (λ x. g.signs ++ x) paid ∙ append-nil g.signs) in
+    let refuses : Refuses way (bytes ++ piece) fault = subst (λ b. Refuses way b fault) (append-nil (bytes ++ piece)) (st.stays []) in
+    record {
+      from = lies_behind way law bytes piece now fault g.shown.at.read (ap way.refused seen ∙ accepted) refuses;
+      law = by refuses;
+    }
+  where
+    by : Refuses way (bytes ++ piece) fault → PlaceLaw way (bytes ++ piece) fault
+    by (for_form f none) = of_form f (begins_none way.syntax way.limits (bytes ++ piece) fault f st.within) (faults_follow_fronts way.syntax way.limits (bytes ++ piece) fault f)
+    by (for_meaning m first) =
+        of_meaning m (refused_of way law (take (fault.at + 1) (bytes ++ piece)) fault (through way law (bytes ++ piece) fault (read_as_meant way law (bytes ++ piece) fault m))) (accepted_front way law (bytes ++ piece) fault (read_as_meant way law (bytes ++ piece) fault m))
