@@ -161,15 +161,15 @@ numbered_more lines l =
 -- ---- one line more
 
 module _ (shared : List Chars) (d new : Document) (lines : List (Line PageBlank)) (s : Stands shared d lines) where
-  comment_stands : (address : Chars) (fault : Fault) → new.text ≡ d.text ++ encode_utf8_all (line_text (comment address fault)) → new.statements ≡ d.statements → WritableComment address fault
+  comment_stands : (address : Chars) (fault : Fault) → new.text.bytes ≡ d.text.bytes ++ encode_utf8_all (line_text (comment address fault)) → new.statements ≡ d.statements → WritableComment address fault
       → Stands shared new (lines ++ comment address fault ∷ [])
   comment_stands address fault e g w =
       let l : Line PageBlank = comment address fault in
       let x : Line ℕ = comment address fault in
-      let spells : Spells new.text (numbered_lines lines ++ x ∷ []) = spells_new d.text (numbered_lines lines) s.spells x new.text (no_comment (numbered_lines lines) address fault) e w in
+      let spells : Spells new.text.bytes (numbered_lines lines ++ x ∷ []) = spells_new d.text.bytes (numbered_lines lines) s.spells x new.text.bytes (no_comment (numbered_lines lines) address fault) e w in
       let holds : Holds shared d.statements (numbered_lines lines ++ x ∷ []) = holds_other shared d.statements (numbered_lines lines) s.holds x (λ name t m n. refl) in
       record {
-        spells = subst (λ (z : List (Line ℕ)). Spells new.text z) (numbered_more lines l) spells;
+        spells = subst (λ (z : List (Line ℕ)). Spells new.text.bytes z) (numbered_more lines l) spells;
         holds = subst (λ (z : List (Line ℕ)). Holds shared new.statements z) (numbered_more lines l) (subst (λ (z : List (Line ℕ)). Holds shared z (numbered_lines lines ++ x ∷ [])) (sym g) holds);
       }
 
@@ -179,37 +179,37 @@ module _ (shared : List Chars) (d new : Document) (lines : List (Line PageBlank)
     line_now = ap (λ z. numbered_lines lines ++ z ∷ []) is ∙ numbered_more lines l
 
     stands_with : (text : List ℕ) (statements : List (Line ℕ)) → Spells text (numbered_lines lines ++ statement name u ∷ []) → Holds shared statements (numbered_lines lines ++ statement name u ∷ [])
-        → new.text ≡ text → new.statements ≡ statements → Stands shared new (lines ++ l ∷ [])
+        → new.text.bytes ≡ text → new.statements ≡ statements → Stands shared new (lines ++ l ∷ [])
     stands_with text statements spells holds e g = record {
-      spells = subst (λ (z : List (Line ℕ)). Spells new.text z) line_now (subst (λ (z : List ℕ). Spells z (numbered_lines lines ++ statement name u ∷ [])) (sym e) spells);
+      spells = subst (λ (z : List (Line ℕ)). Spells new.text.bytes z) line_now (subst (λ (z : List ℕ). Spells z (numbered_lines lines ++ statement name u ∷ [])) (sym e) spells);
       holds = subst (λ (z : List (Line ℕ)). Holds shared new.statements z) line_now (subst (λ (z : List (Line ℕ)). Holds shared z (numbered_lines lines ++ statement name u ∷ [])) (sym g) holds);
     }
 
-    pub stands_old : Among shared name → has_blank u ≡ false → contains same_line d.statements (statement name u) ≡ true → new.text ≡ d.text → new.statements ≡ d.statements → Stands shared new (lines ++ l ∷ [])
+    pub stands_old : Among shared name → has_blank u ≡ false → contains same_line d.statements (statement name u) ≡ true → new.text.bytes ≡ d.text.bytes → new.statements ≡ d.statements → Stands shared new (lines ++ l ∷ [])
     stands_old m n there e g =
-        stands_with d.text d.statements
-        (spells_old d.text (numbered_lines lines) s.spells (statement name u) (sym (s.holds name u m n) ∙ there))
+        stands_with d.text.bytes d.statements
+        (spells_old d.text.bytes (numbered_lines lines) s.spells (statement name u) (sym (s.holds name u m n) ∙ there))
         (holds_old shared d.statements (numbered_lines lines) s.holds (statement name u) there) e g
 
-    pub stands_new : Among shared name → has_blank u ≡ false → contains same_line d.statements (statement name u) ≡ false → new.text ≡ d.text ++ encode_utf8_all (line_text (statement name u))
+    pub stands_new : Among shared name → has_blank u ≡ false → contains same_line d.statements (statement name u) ≡ false → new.text.bytes ≡ d.text.bytes ++ encode_utf8_all (line_text (statement name u))
         → new.statements ≡ (if contains same_line d.statements (statement name u) then d.statements else d.statements ++ statement name u ∷ []) → WritableTriple (Some name) u
         → Stands shared new (lines ++ l ∷ [])
     stands_new m n lacks e g w =
         let added : new.statements ≡ d.statements ++ statement name u ∷ [] = g ∙ ap (λ b. if b then d.statements else d.statements ++ statement name u ∷ []) lacks in
-        stands_with new.text (d.statements ++ statement name u ∷ [])
-        (spells_new d.text (numbered_lines lines) s.spells (statement name u) new.text (sym (s.holds name u m n) ∙ lacks) e w)
+        stands_with new.text.bytes (d.statements ++ statement name u ∷ [])
+        (spells_new d.text.bytes (numbered_lines lines) s.spells (statement name u) new.text.bytes (sym (s.holds name u m n) ∙ lacks) e w)
         (holds_new shared d.statements (numbered_lines lines) s.holds (statement name u)) refl added
 
     -- in the graph of one page
-    pub stands_own : (Among shared name → has_blank u ≡ false → ⊥) → contains same_line (numbered_lines lines) (statement name u) ≡ false → new.text ≡ d.text ++ encode_utf8_all (line_text (statement name u))
+    pub stands_own : (Among shared name → has_blank u ≡ false → ⊥) → contains same_line (numbered_lines lines) (statement name u) ≡ false → new.text.bytes ≡ d.text.bytes ++ encode_utf8_all (line_text (statement name u))
         → new.statements ≡ d.statements → WritableTriple (Some name) u → Stands shared new (lines ++ l ∷ [])
     stands_own own lacks e g w =
-        stands_with new.text d.statements
-        (spells_new d.text (numbered_lines lines) s.spells (statement name u) new.text lacks e w)
+        stands_with new.text.bytes d.statements
+        (spells_new d.text.bytes (numbered_lines lines) s.spells (statement name u) new.text.bytes lacks e w)
         (holds_other shared d.statements (numbered_lines lines) s.holds (statement name u) (in_own shared name u own)) refl g
 
 pub stands_comment : (shared : List Chars) (d new : Document) (lines : List (Line PageBlank)) → DocumentStands shared d lines → (address : Chars) (fault : Fault)
-    → new.text ≡ d.text ++ encode_utf8_all (line_text (comment address fault)) → new.blanks ≡ d.blanks → new.statements ≡ d.statements → WritableComment address fault
+    → new.text.bytes ≡ d.text.bytes ++ encode_utf8_all (line_text (comment address fault)) → new.blanks ≡ d.blanks → new.statements ≡ d.statements → WritableComment address fault
     → DocumentStands shared new (lines ++ comment address fault ∷ [])
 stands_comment shared d new lines s address fault e f g w = record {
   counted = sym (ap length (table_more lines (comment address fault))) ∙ s.counted ∙ sym (ap (λ n. n.before + length n.here) f);

@@ -127,18 +127,18 @@ module _ (shared : List Chars) (place : ℕ) (d new : Document) (lines : List (L
   as_before = ap has_blank renamed ∙ same_blanks (number_at new.blanks) t
 
   -- it is stated in a line before
-  page_old : Among shared name → has_blank t ≡ false → contains same_line d.statements (statement name u) ≡ true → new.text ≡ d.text → new.statements ≡ d.statements
+  page_old : Among shared name → has_blank t ≡ false → contains same_line d.statements (statement name u) ≡ true → new.text.bytes ≡ d.text.bytes → new.statements ≡ d.statements
       → PageStands shared place new (lines ++ statement_at place name t ∷ [])
   page_old m n there e g = with_last (stands_old shared d new lines s.stands (statement_at place name t) name u is_line m (as_before ∙ n) there e g)
 
   -- it isn't
-  page_new : Among shared name → has_blank t ≡ false → contains same_line d.statements (statement name u) ≡ false → new.text ≡ d.text ++ encode_utf8_all (line_text (statement name u))
+  page_new : Among shared name → has_blank t ≡ false → contains same_line d.statements (statement name u) ≡ false → new.text.bytes ≡ d.text.bytes ++ encode_utf8_all (line_text (statement name u))
       → new.statements ≡ (if contains same_line d.statements (statement name u) then d.statements else d.statements ++ statement name u ∷ []) → WritableTriple (Some name) u
       → PageStands shared place new (lines ++ statement_at place name t ∷ [])
   page_new m n lacks e g w = with_last (stands_new shared d new lines s.stands (statement_at place name t) name u is_line m (as_before ∙ n) lacks e g w)
 
   -- no other page states it
-  pub own_statement : (Among shared name → has_blank t ≡ false → ⊥) → (Among lines (statement_at place name t) → ⊥) → new.text ≡ d.text ++ encode_utf8_all (line_text (statement name u))
+  pub own_statement : (Among shared name → has_blank t ≡ false → ⊥) → (Among lines (statement_at place name t) → ⊥) → new.text.bytes ≡ d.text.bytes ++ encode_utf8_all (line_text (statement name u))
       → new.statements ≡ d.statements → WritableTriple (Some name) u → PageStands shared place new (lines ++ statement_at place name t ∷ [])
   own_statement own fresh e g w =
       let lacks : contains same_line (numbered_lines lines) (statement name u) ≡ false = ap (contains same_line (numbered_lines lines)) is_line ∙ still_new lines (statement_at place name t) fresh in
@@ -147,11 +147,11 @@ module _ (shared : List Chars) (place : ℕ) (d new : Document) (lines : List (L
 -- the same of the first two where the name is at hand by another name
 module _ (shared : List Chars) (place : ℕ) (d new : Document) (lines : List (Line PageBlank)) (s : PageStands shared place d lines) (name named : Chars) (same : named ≡ name) (m : Among shared name) (t u : Triple ℕ) (n : has_blank t ≡ false)
     (stays : new.blanks.before ≡ d.blanks.before) (grows : new.blanks.here ≡ known nat_eq d.blanks.here (blanks_of t)) (renamed : u ≡ rename (number_at new.blanks) t) where
-  pub old_statement : contains same_line d.statements (statement named u) ≡ true → new.text ≡ d.text → new.statements ≡ d.statements → PageStands shared place new (lines ++ statement_at place name t ∷ [])
+  pub old_statement : contains same_line d.statements (statement named u) ≡ true → new.text.bytes ≡ d.text.bytes → new.statements ≡ d.statements → PageStands shared place new (lines ++ statement_at place name t ∷ [])
   old_statement there e g = subst (λ (z : Chars). PageStands shared place new (lines ++ statement_at place z t ∷ [])) same
       (page_old shared place d new lines s named t u stays grows renamed (subst (λ (z : Chars). Among shared z) (sym same) m) n there e g)
 
-  pub new_statement : contains same_line d.statements (statement named u) ≡ false → new.text ≡ d.text ++ encode_utf8_all (line_text (statement named u))
+  pub new_statement : contains same_line d.statements (statement named u) ≡ false → new.text.bytes ≡ d.text.bytes ++ encode_utf8_all (line_text (statement named u))
       → new.statements ≡ (if contains same_line d.statements (statement named u) then d.statements else d.statements ++ statement named u ∷ []) → WritableTriple (Some named) u
       → PageStands shared place new (lines ++ statement_at place name t ∷ [])
   new_statement lacks e g w = subst (λ (z : Chars). PageStands shared place new (lines ++ statement_at place z t ∷ [])) same
@@ -160,7 +160,7 @@ module _ (shared : List Chars) (place : ℕ) (d new : Document) (lines : List (L
 -- ---- a page begins and ends
 
 pub turned : (shared : List Chars) (place : ℕ) (d new : Document) (lines : List (Line PageBlank)) → DocumentStands shared d lines → AreBefore place (table lines)
-    → new.blanks.before ≡ d.blanks.before + length d.blanks.here → new.blanks.here ≡ [] → new.text ≡ d.text → new.statements ≡ d.statements → PageStands shared place new lines
+    → new.blanks.before ≡ d.blanks.before + length d.blanks.here → new.blanks.here ≡ [] → new.text.bytes ≡ d.text.bytes → new.statements ≡ d.statements → PageStands shared place new lines
 turned shared place d new lines s before e f g h = record {
   last = record {
     front = table lines;

@@ -4,6 +4,7 @@ use Rattle.rx_terms.specs.Text.{Chars}
 use Rattle.rx_grammar.specs.declared.faults.Fault.{Fault}
 use Rattle.rx_model.specs.Sets.{Among, contains}
 use Rattle.rx_model.specs.Terms.{Triple}
+use Rattle.rx_nquads.specs.Lines.{written}
 use Rattle.rx_pieces.specs.Writable.{WritableIri, WritableTriple}
 use Rattle.rx_many.specs.Blank.{has_blank}
 use Rattle.rx_many.specs.Lines.{Line, PageBlank, comment, statement, statement_at, at_place, same_blank, lines_of, table, numbered_lines, same_line, kept}
@@ -34,7 +35,7 @@ Holds shared statements lines =
 
 -- the document has the text of these lines, where these names are of several pages
 pub record Stands (shared : List Chars) (document : Document) (lines : List (Line PageBlank)) : Type 0 where
-  pub spells : Spells document.text (numbered_lines lines)
+  pub spells : Spells document.text.bytes (numbered_lines lines)
   pub holds : Holds shared document.statements (numbered_lines lines)
 
 -- and their blank nodes are counted
@@ -103,7 +104,7 @@ AddsOnce result name old new t = (shared : List Chars) (place : ℕ) (lines : Li
 
 -- the line's text was added
 pub record Writes (old : Document) (line : Line ℕ) (new : Document) : Type 0 where
-  pub text : new.text ≡ old.text ++ encode_utf8_all (line_text line)
+  pub text : new.text ≡ written (old.text.bytes ++ encode_utf8_all (line_text line))
   pub writable : WritableLine line
   pub blanks : new.blanks ≡ old.blanks
   pub statements : new.statements ≡ old.statements

@@ -32,7 +32,7 @@ pub(crate) struct Document {
 
 /// The document of the pages.
 pub(crate) fn document_of(alloc: Global, pages: &[Page]) -> Result<Document, NoMemory>
-    ensures { IfOk result (λ document. Spells document.text (numbered_lines (lines_from 0 (map page_seen pages.now)))) }
+    ensures { IfOk result (λ document. Spells document.text.bytes (numbered_lines (lines_from 0 (map page_seen pages.now)))) }
 {
     let shared = shared_names(alloc, pages)?;
     document_by(alloc, pages, &shared)

@@ -3,3 +3,4 @@ pub mod Spelling
 pub mod Document
 pub mod Writing
 pub mod Graphs
+pub mod Lines

@@ -1,7 +1,8 @@
 //! Lines of N-Quads in memory.
-ghost use Rattle.std.specs.Prelude.{◌≡◌, ◌++◌, [], option_map, IfOk, OnOk, encode_utf8_all};
+ghost use Rattle.std.specs.Prelude.{◌≡◌, ◌++◌, [], option_map, true, IfOk, IsErr, OnErr, OnOk, encode_utf8_all};
 ghost use Rattle.rx_model.specs.Seen.{triple_seen};
 ghost use Rattle.rx_nquads.specs.Graphs.{lent_name, line_bytes};
+ghost use Rattle.rx_nquads.specs.Lines.{written};
 ghost use Rattle.rx_pieces.specs.Writable.{WritableTriple};
 
 use crate::writing::push_line;
@@ -11,7 +12,8 @@ use std::alloc::Global;
 use std::marker::Model;
 
 /// Lines of N-Quads, one after another, which are made without memory for each. A contract sees their bytes, which are
-/// UTF-8. Once there was no memory, no line is taken any more.
+/// UTF-8, and whether memory ran out. Once there was no memory, no line is taken any more: each later call fails, and
+/// changes nothing.
 #[derive(Drop)]
 pub struct Lines {
     pieces: Pieces,
@@ -19,17 +21,18 @@ pub struct Lines {
 }
 
 impl Model for Lines {
-    ghost use Rattle.std.specs.Prelude.{List, ℕ, ◌++◌};
+    ghost use Rattle.std.specs.Prelude.{◌++◌};
+    ghost use Rattle.rx_nquads.specs.Lines.{WrittenLines};
 
-    ghost Value = { List ℕ };
+    ghost Value = { WrittenLines };
 
-    ghost view = { λ lines. lines.whole.held ++ lines.pieces.waiting };
+    ghost view = { λ lines. record { bytes = lines.whole.held ++ lines.pieces.waiting; out_of_memory = lines.pieces.failed } };
 }
 
 impl Lines {
     /// No line.
     pub fn new(alloc: Global) -> Result<Lines, NoMemory>
-        ensures { IfOk result (λ lines. lines ≡ []) }
+        ensures { IfOk result (λ lines. lines ≡ written []) }
     {
         let whole = Whole::with_room(alloc, 0)?;
         let Ok(pieces) = Pieces::new(alloc) else {
@@ -41,10 +44,13 @@ impl Lines {
 
     /// Adds the line of a triple, its quad in the graph of this name where one is given.
     pub fn put(&mut self, triple: &Triple, name: Option<&Iri>) -> Result<(), NoMemory>
-        ensures line { OnOk result (self.new ≡ self.old ++ line_bytes name.entry triple.now) }
+        ensures line { OnOk result (self.new ≡ written (self.old.bytes ++ line_bytes name.entry triple.now)) }
         ensures writable { OnOk result (WritableTriple (lent_name name.entry) (triple_seen triple.now)) }
+        ensures out_of_memory { OnErr result (self.new.out_of_memory ≡ true) }
+        ensures spent { self.old.out_of_memory ≡ true → IsErr result × (self.new ≡ self.old) }
     {
         if self.pieces.has_failed() {
+            // without memory once, nothing more is written
             return Err(NoMemory);
         }
         push_line(&mut self.pieces, &mut self.whole, triple, name);
@@ -56,7 +62,9 @@ impl Lines {
 
     /// Adds bytes, as those of a comment.
     pub fn put_bytes(&mut self, bytes: &[u8]) -> Result<(), NoMemory>
-        ensures { OnOk result (self.new ≡ self.old ++ bytes.now) }
+        ensures bytes { OnOk result (self.new ≡ written (self.old.bytes ++ bytes.now)) }
+        ensures out_of_memory { OnErr result (self.new.out_of_memory ≡ true) }
+        ensures spent { self.old.out_of_memory ≡ true → IsErr result × (self.new ≡ self.old) }
     {
         if self.pieces.has_failed() {
             return Err(NoMemory);
@@ -68,9 +76,10 @@ impl Lines {
         Ok(())
     }
 
-    /// The bytes of all lines.
+    /// The bytes of all lines, where there was memory for them.
     pub fn into_bytes(self) -> Result<Vec<u8>, NoMemory>
-        ensures { IfOk result (λ bytes. bytes.items ≡ self) }
+        ensures bytes { IfOk result (λ bytes. bytes.items ≡ self.bytes) }
+        ensures spent { self.out_of_memory ≡ true → IsErr result }
     {
         let Lines { pieces, mut whole } = self;
         match pieces.send(&mut whole) {

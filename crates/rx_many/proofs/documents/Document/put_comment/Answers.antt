@@ -6,5 +6,5 @@ pub returns : goal.returns
 returns c shared lines s =
     if_ok c.put_bytes-put.result
     (λ put. stands_comment shared c.args.self.now _ lines s c.args.address.now c.args.fault
-    (put ∙ ap (λ z. c.args.self.now.text ++ z) (c.as_bytes.ensures.value ∙ c.in_ok-line.ensures.spelled)) refl refl c.in_ok-line.ensures.writable)
-    c.put_bytes-put.ensures
+    (ap (λ lines. lines.bytes) put ∙ ap (λ z. c.args.self.now.text.bytes ++ z) (c.as_bytes.ensures.value ∙ c.in_ok-line.ensures.spelled)) refl refl c.in_ok-line.ensures.writable)
+    c.put_bytes-put.ensures.bytes

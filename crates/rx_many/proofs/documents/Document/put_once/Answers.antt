@@ -14,7 +14,7 @@ returns-in-Some c shared place lines s m n =
     (λ w. new_statement shared place c.args.self.now _ lines s c.args.name.now c.in_ok-name.name c.in_ok-name.ensures m (triple_seen c.args.triple.now) (triple_seen c.in_ok-triple.triple) n
     (ap (λ z. z.before) w.blanks ∙ c.in_ok-triple.ensures.before) (ap (λ z. z.here) w.blanks ∙ c.in_ok-triple.ensures.known)
     (c.in_ok-triple.ensures.renamed ∙ ap (λ z. rename (number_at z) (triple_seen c.args.triple.now)) (sym w.blanks))
-    added.lacks w.text (w.statements ∙ c.in_ok-place.ensures.list) w.writable)
+    added.lacks (ap (λ lines. lines.bytes) w.text) (w.statements ∙ c.in_ok-place.ensures.list) w.writable)
     (c.write.ensures (statement c.in_ok-name.name (triple_seen c.in_ok-triple.triple)) added.at)
 
 pub returns-in-None : goal.returns-in-None

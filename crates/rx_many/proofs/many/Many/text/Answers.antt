@@ -9,6 +9,6 @@ use Rattle.rx_many.proofs.many.Many.text.Goals as goal
 pub returns-clause-denotes : goal.returns-clause-denotes
 returns-clause-denotes c =
     rw (← c.self.view_is)
-    (subst (λ (z : List ℕ). DenotesPages (chars z) (map page_seen c.self.inside.pages.items)) (sym c.in_ok-bytes.ensures)
-    (subst (λ (z : List Page). DenotesPages (chars c.in_ok-text.field-0.text) (map page_seen z)) c.as_slice.ensures.value
-    (denotes_pages (map page_seen c.as_slice.result.now) c.in_ok-text.field-0.text c.in_ok-text.ensures)))
+    (subst (λ (z : List ℕ). DenotesPages (chars z) (map page_seen c.self.inside.pages.items)) (sym c.in_ok-bytes.ensures.bytes)
+    (subst (λ (z : List Page). DenotesPages (chars c.in_ok-text.field-0.text.bytes) (map page_seen z)) c.as_slice.ensures.value
+    (denotes_pages (map page_seen c.as_slice.result.now) c.in_ok-text.field-0.text.bytes c.in_ok-text.ensures)))
