@@ -27,3 +27,4 @@ pub mod Stopping
 pub mod Turning
 pub mod QuietReading
 pub mod Quieting
+pub mod ShownLines
