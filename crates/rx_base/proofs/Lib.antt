@@ -2,3 +2,4 @@ pub mod Lines
 pub mod Found
 pub mod TagLemmas
 pub mod MomentLemmas
+pub mod CutTrees
