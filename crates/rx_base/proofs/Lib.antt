@@ -3,3 +3,6 @@ pub mod Found
 pub mod TagLemmas
 pub mod MomentLemmas
 pub mod CutTrees
+pub mod WideReading
+pub mod TagEnds
+pub mod KnownOver

@@ -1,5 +1,5 @@
 -- When a page's base is known, by its bytes: by a front of them, and the tree that this front has once it is closed.
-use Rattle.std.specs.Prelude.{◌≡◌, ◌↔◌, ◌≤◌, ℕ, Bool, false, true, not, ◌&&◌, ◌||◌, nat_lt, nat_le, is_some, List, [], ◌∷◌, ◌++◌, length, Option, None, Ok, codes, bytes_eq}
+use Rattle.std.specs.Prelude.{◌≡◌, ◌↔◌, ◌≤◌, ℕ, Bool, false, true, not, ◌&&◌, ◌||◌, nat_lt, nat_le, is_some, List, ◌++◌, length, Option, None, codes, bytes_eq}
 use Rattle.rx_terms.specs.Text.{Chars}
 use Rattle.rx_chars.specs.declared.syntax.Syntax.{Syntax}
 use Rattle.rx_grammar.specs.declared.limits.Limits.{Limits}
