@@ -20,7 +20,7 @@ known_stays [] href (finished ∷ signs) = known_stays [] href signs
 known_stays (t ∷ line) href (finished ∷ signs) = known_stays line href signs
 
 -- nodes, and what follows them
-seeks_nodes : (line : List Tag) (s : Seeking) (nodes : Tree) (signs : List Sign) → seeks line s (signs_of nodes ++ signs) ≡ seeks line (seeks line s (signs_of nodes)) signs
+pub seeks_nodes : (line : List Tag) (s : Seeking) (nodes : Tree) (signs : List Sign) → seeks line s (signs_of nodes ++ signs) ≡ seeks line (seeks line s (signs_of nodes)) signs
 seeks_nodes line s nodes signs = seeks_append line s (signs_of nodes) signs ∙ ap (λ l. seeks l (seeks line s (signs_of nodes)) signs) (tree_line line nodes)
 
 -- an element, and what follows it
@@ -37,13 +37,13 @@ seeks_text line s chars rest =
 not_two : (n : ℕ) → (suc (suc (suc n)) == 2) ≡ false
 not_two n = grind (arith, nat_tests)
 
-deep_begun : (n : ℕ) (t : StartTag) → seek (suc (suc (suc n))) base_child (begun t) ≡ base_child
+pub deep_begun : (n : ℕ) (t : StartTag) → seek (suc (suc (suc n))) base_child (begun t) ≡ base_child
 deep_begun n t = ap (λ b. if b then known_by (base_href (read_tag t)) else base_child) (not_two n)
 
-deep_finished : (n : ℕ) → seek (suc (suc (suc n))) base_child finished ≡ base_child
+pub deep_finished : (n : ℕ) → seek (suc (suc (suc n))) base_child finished ≡ base_child
 deep_finished n = ap (λ b. if b then known None else base_child) (not_two n)
 
-deep : (a b c : Tag) (line : List Tag) (nodes : Tree) → seeks (a ∷ b ∷ c ∷ line) base_child (signs_of nodes) ≡ base_child
+pub deep : (a b c : Tag) (line : List Tag) (nodes : Tree) → seeks (a ∷ b ∷ c ∷ line) base_child (signs_of nodes) ≡ base_child
 deep a b c line end = refl
 deep a b c line (text chars rest) = seeks_text (a ∷ b ∷ c ∷ line) base_child chars rest ∙ deep a b c line rest
 deep a b c line (element t inside rest) =
@@ -54,7 +54,7 @@ deep a b c line (element t inside rest) =
     ∙ deep a b c line rest
 
 -- the children of the head
-in_head : (a b : Tag) (nodes : Tree) → seeks (a ∷ b ∷ []) base_child (signs_of nodes) ≡ known_by (first_href (tags_of nodes))
+pub in_head : (a b : Tag) (nodes : Tree) → seeks (a ∷ b ∷ []) base_child (signs_of nodes) ≡ known_by (first_href (tags_of nodes))
 in_head a b end = refl
 in_head a b (text chars rest) = seeks_text (a ∷ b ∷ []) base_child chars rest ∙ in_head a b rest
 in_head a b (element t inside rest) = seeks_element (a ∷ b ∷ []) base_child t inside rest ∙ by (base_href (read_tag t)) (in_head a b rest)
@@ -67,7 +67,7 @@ in_head a b (element t inside rest) = seeks_element (a ∷ b ∷ []) base_child 
         ∙ known_stays (a ∷ b ∷ []) (Some href) (signs_of rest)
 
 -- at the head's end
-head_ends : (href : Option Chars) → seek 2 (known_by href) finished ≡ known href
+pub head_ends : (href : Option Chars) → seek 2 (known_by href) finished ≡ known href
 head_ends None = refl
 head_ends (Some href) = refl
 

@@ -2,3 +2,7 @@ pub mod Lines
 pub mod Found
 pub mod TagLemmas
 pub mod MomentLemmas
+pub mod CutTrees
+pub mod WideReading
+pub mod TagEnds
+pub mod KnownOver

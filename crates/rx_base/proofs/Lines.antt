@@ -1,9 +1,11 @@
 -- The elements that are open after some signs, and what is sought then.
 use Rattle.std.proofs.Common.{◌≡◌, ◌∙◌, List, [], ◌∷◌, ◌++◌, map, refl, ap}
 use Rattle.rx_terms.specs.Text.{Chars}
+use Rattle.rx_grammar.specs.Begun.{Line}
 use Rattle.rx_grammar.specs.Trees.{Tree, end, element, text}
 use Rattle.rx_rdfa.specs.Tree.{Tag}
-use Rattle.rx_nest.specs.Signs.{Sign, said, finished, signs_of}
+use Rattle.rx_nest.specs.Signs.{Sign, begun, said, finished, signs_of}
+use Rattle.rx_nest.specs.ShownLines.{open_after}
 use Rattle.rx_base.specs.Lines.{read_tag, line_on, line_of}
 use Rattle.rx_base.specs.Seekings.{Seeking, seek, seeks}
 
@@ -31,3 +33,11 @@ tree_line line (element t inside rest) =
     line_append (read_tag t ∷ line) (signs_of inside) (finished ∷ signs_of rest)
     ∙ ap (λ l. line_of l (finished ∷ signs_of rest)) (tree_line (read_tag t ∷ line) inside)
     ∙ tree_line line rest
+
+-- RDFa reads the tags of the elements that are open after the signs
+pub line_is : (line : Line) (signs : List Sign) → line_of (map read_tag line) signs ≡ map read_tag (open_after line signs)
+line_is line [] = refl
+line_is line (begun t ∷ signs) = line_is (t ∷ line) signs
+line_is line (said c ∷ signs) = line_is line signs
+line_is [] (finished ∷ signs) = line_is [] signs
+line_is (t ∷ line) (finished ∷ signs) = line_is line signs

@@ -3,3 +3,4 @@ pub mod Tags
 pub mod Seekings
 pub mod Sought
 pub mod Moments
+pub mod KnownBases

@@ -20,3 +20,12 @@ pub fn base_is_found()
 pub fn base_is_known_at_the_first_moment()
     ensures { KnowsAtTheFirstMoment }
 {}
+
+ghost use Rattle.rx_base.specs.KnownBases.{KnowsOverBytes};
+
+/// Over a page's bytes the base is known exactly from the first front on that decides it, closed from the innermost element
+/// on: the root's first child has begun and is no head, or it is a head in which a base with href has begun, or a head that
+/// isn't open any more, or the root has ended without a child.
+pub fn base_is_known_over_bytes()
+    ensures { KnowsOverBytes }
+{}

@@ -29,3 +29,4 @@ pub mod Stopping
 pub mod Turning
 pub mod QuietReading
 pub mod Quieting
+pub mod ShownLines

@@ -18,3 +18,4 @@ pub mod Listening
 pub mod Turns
 pub mod Readings
 pub mod Quiets
+pub mod ShownLines

@@ -50,3 +50,12 @@ pub fn depth_is_of_what_is_underway()
 pub fn refused_tags_are_last()
     ensures { RefusedTagsAreLast }
 {}
+
+ghost use Rattle.rx_nest.specs.ShownLines.{ShowsOpenOnes, StandsUnderway};
+
+/// The elements that were shown to begin, and not to end, are the open ones that the page's tree shows: those that no
+/// template hides. And the bytes are underway, so that there is a line of open elements.
+pub fn the_signs_lead_to_the_open_elements()
+    ensures open { ShowsOpenOnes }
+    ensures some { StandsUnderway }
+{}

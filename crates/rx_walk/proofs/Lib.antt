@@ -14,3 +14,4 @@ pub mod SeenStates
 pub mod AlikeStates
 pub mod StandsAlike
 pub mod GrownNumbers
+pub mod OpenLines

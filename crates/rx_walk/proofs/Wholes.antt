@@ -27,11 +27,12 @@ use Rattle.rx_base.specs.Sought.{sought_seen}
 use Rattle.rx_walk.specs.Courses.{Runs, runs_at, way_at}
 use Rattle.rx_walk.specs.Settings.{Setting, way_of}
 use Rattle.rx_walk.proofs.Making.{list_made}
-use Rattle.rx_walk.specs.Walks.{Walked, WalkStands, open_line, state_of, FramesFit, Lists, IsWhole, Ended}
+use Rattle.rx_walk.specs.Walks.{Walked, WalkStands, OverOpen, state_of, FramesFit, Lists, IsWhole, Ended}
 use Rattle.rx_base.proofs.Lines.{tree_line}
 use Rattle.rx_base.proofs.Found.{base_found}
 use Rattle.rx_walk.proofs.Idling.{all_unspent}
 use Rattle.rx_walk.proofs.Moving.{led_at, is_ended}
+use Rattle.rx_walk.proofs.OpenLines.{open_is}
 use Rattle.rx_walk.proofs.Fronting.{may_counts, root_ended}
 
 pub known_at : (address : Chars) (levels : ℕ) (seeking : Seeking) (list : List Call) (x : Stage) (state : State) → Staged address levels seeking list x → state_of x ≡ Some state → Known address levels seeking list state
@@ -45,8 +46,10 @@ runs_fit context address levels course signs r state e =
     let at = led_at (base_by k.href address) levels (calls_of context [] signs) state r.may.front k.led r.may.leads in
     at.frames ∙ may_counts context levels signs r.may
 
-pub depth_line : (setting : Setting) (address : Chars) (walk : Walked) (bytes : List ℕ) (s : WalkStands setting address walk bytes) → (walk.listener.count ≡ length (open_line s)) × FramesFit walk (open_line s)
-depth_line setting address walk bytes s = (s.goes.known.count_is, λ state e. runs_fit setting.context address setting.limits.depth walk.listener s.goes.signs s.goes.known state e)
+pub depth_line : (setting : Setting) (address : Chars) (walk : Walked) (bytes : List ℕ) (s : WalkStands setting address walk bytes) → OverOpen setting bytes (λ line. (walk.listener.count ≡ length line) × FramesFit walk line)
+depth_line setting address walk bytes s line phase run part u =
+    subst (λ l. (walk.listener.count ≡ length l) × FramesFit walk l) (open_is setting address walk bytes s line phase run part u)
+    (s.goes.known.count_is, λ state e. runs_fit setting.context address setting.limits.depth walk.listener s.goes.signs s.goes.known state e)
 
 -- a whole page
 

@@ -1,8 +1,10 @@
 -- What a walk stands for, and what its calls answer of a page's bytes.
-use Rattle.std.specs.Prelude.{◌≡◌, ◌≤◌, ◌||◌, ◌==◌, ℕ, true, false, List, [], length, Option, Some, None, Result, Ok, Err, if◌then◌else◌}
+use Rattle.std.specs.Prelude.{◌≡◌, ◌≤◌, ◌||◌, ◌==◌, ℕ, true, false, List, [], map, length, Option, Some, None, Result, Ok, Err, if◌then◌else◌}
 use Rattle.rx_terms.specs.Text.{Chars}
 use Rattle.rx_terms.specs.declared.triples.Triple.{Triple as CodeTriple}
 use Rattle.rx_model.specs.Seen.{triples_seen}
+use Rattle.rx_chars.specs.Characters.{Entry}
+use Rattle.rx_grammar.specs.Begun.{Line, Phase}
 use Rattle.rx_grammar.specs.Pages.{Page}
 use Rattle.rx_grammar.specs.Trees.{StartTag, Tree, end, element}
 use Rattle.rx_rdfa.specs.Base.{base_of}
@@ -12,9 +14,10 @@ use Rattle.rx_rdfa.specs.Tree.{Tag}
 use Rattle.rx_grammar.specs.declared.stops.Stop.{Stop}
 use Rattle.rx_scan.specs.Entries.{IsNoMemory}
 use Rattle.rx_scan.specs.Steps.{is_quiet}
+use Rattle.rx_pages.specs.Fronts.{IsUnderway}
 use Rattle.rx_nest.specs.Nests.{IsBetween}
-use Rattle.rx_nest.specs.Signs.{Sign, signs_of}
-use Rattle.rx_nest.specs.Ways.{Way}
+use Rattle.rx_nest.specs.Signs.{signs_of}
+use Rattle.rx_nest.specs.ShownLines.{shown_line}
 use Rattle.rx_nest.specs.Readings as readings
 use Rattle.rx_nest.specs.Readings.{Read, Unfinished, has_failed}
 use Rattle.rx_eval.specs.Numbering.{Numbering}
@@ -27,7 +30,7 @@ use Rattle.rx_eval.specs.declared.inherited.Inherited.{Inherited}
 use Rattle.rx_walk.specs.declared.courses.RdfaListener.{RdfaListener}
 use Rattle.rx_walk.specs.declared.stages.Stage.{Stage}
 use Rattle.rx_walk.specs.declared.stages.Stage.TheVariants as stage
-use Rattle.rx_base.specs.Lines.{tags_of, line_of}
+use Rattle.rx_base.specs.Lines.{read_tag, tags_of}
 use Rattle.rx_walk.specs.CallsOf.{calls_of}
 use Rattle.rx_walk.specs.Refused.{refused_in}
 use Rattle.rx_walk.specs.Settings.{Setting, way_of}
@@ -50,9 +53,10 @@ WalkStands setting address walk bytes = readings.ReadingStands (way_of setting) 
 abbrev pub WhereStands : Walked → (Setting → Chars → List ℕ → Type 0) → Type 0
 WhereStands walk holds = (setting : Setting) (address : Chars) (bytes : List ℕ) → WalkStands setting address walk bytes → holds setting address bytes
 
--- the start tags of the open elements, the innermost first
-abbrev pub open_line : {way : Way} {knows : RdfaListener → List Sign → Type 0} {walk : Walked} {bytes : List ℕ} → readings.ReadingStands way knows walk bytes → List Tag
-open_line s = line_of [] s.goes.signs
+-- what holds of the open elements that the tree shows, as RDFa reads them, the innermost first
+abbrev pub OverOpen : Setting → List ℕ → (List Tag → Type 0) → Type 0
+OverOpen setting bytes holds = (line : Line) (phase : Phase) (run : List Entry) (part : List ℕ)
+    → IsUnderway setting.syntax setting.limits bytes line phase run part → holds (map read_tag (shown_line setting.syntax line))
 
 -- so many frames are open as there are such elements, once the evaluator is at work
 abbrev pub FramesFit : Walked → List Tag → Type 0
@@ -61,13 +65,11 @@ FramesFit walk line = (state : State) → state_of walk.listener.stage ≡ Some 
 -- that many elements are open, by the grammar and in the evaluator
 abbrev pub DepthGives : Walked → ℕ → Type 0
 DepthGives walk depth =
-    (setting : Setting) (address : Chars) (bytes : List ℕ) (s : WalkStands setting address walk bytes)
-    → (depth ≡ length (open_line s)) × FramesFit walk (open_line s)
+    WhereStands walk (λ setting address bytes. OverOpen setting bytes (λ line. (depth ≡ length line) × FramesFit walk line))
 
 -- a bound that the line of open elements gives
 abbrev pub IsBoundedBy : Walked → (List Tag → ℕ) → ℕ → Type 0
-IsBoundedBy walk most count =
-    (setting : Setting) (address : Chars) (bytes : List ℕ) (s : WalkStands setting address walk bytes) → count ≤ most (open_line s)
+IsBoundedBy walk most count = WhereStands walk (λ setting address bytes. OverOpen setting bytes (λ line. count ≤ most line))
 
 -- Between two tokens a piece without `<` and `&` wants no memory, where the base is known and no open element gathers its
 -- text.

@@ -5,6 +5,6 @@ use Rattle.rx_walk.proofs.Wholes.{depth_line}
 use Rattle.rx_walk.proofs.walks.Walk.depth.Goals as goal
 
 pub returns-clause-line : goal.returns-clause-line
-returns-clause-line c setting address bytes s =
-    let d = depth_line setting address c.args.self.now bytes s in
+returns-clause-line c setting address bytes s line phase run part u =
+    let d = depth_line setting address c.args.self.now bytes s line phase run part u in
     (ap (λ (x : RdfaListener). x.count) c.listener.ensures ∙ (ap (λ (w : Walked). w.listener.count) c.self.view_is ∙ d.0), d.1)

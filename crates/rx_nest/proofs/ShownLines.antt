@@ -1,0 +1,294 @@
+-- What a nest has shown to begin, and not to end, are the open elements that the tree shows.
+use Rattle.std.proofs.Common.{◌≡◌, ◌∙◌, ℕ, Bool, true, false, List, [], ◌∷◌, ◌++◌, refl, sym, ap, subst, append_assoc, append-nil, Option, Some, None, Result, Ok, Err}
+use Rattle.std.specs.Prelude.{◌&&◌, ◌||◌, not, map, if◌then◌else◌}
+use Rattle.rx_terms.specs.Text.{Chars}
+use Rattle.rx_terms.proofs.Bools.{by_test}
+use Rattle.rx_chars.specs.declared.syntax.Syntax.{Syntax}
+use Rattle.rx_grammar.specs.declared.faults.Fault.{Fault}
+use Rattle.rx_grammar.specs.declared.faults.Kind.{Kind}
+use Rattle.rx_grammar.specs.declared.limits.Limits.{Limits}
+use Rattle.rx_grammar.specs.Names.{same, is_among}
+use Rattle.rx_grammar.specs.Tokens.{Tag, Token, tag, character, reference, kept, section, comment, doctype}
+use Rattle.rx_grammar.specs.Contents.{is_alone, is_html, hides}
+use Rattle.rx_grammar.specs.Trees.{StartTag}
+use Rattle.rx_grammar.specs.Items.{Item, is_line_feed, start_of}
+use Rattle.rx_grammar.specs.Omission.{enders, is_omissible, is_held}
+use Rattle.rx_grammar.specs.Begun.{Line, inside_of, parent_of, Phase, before, within, after}
+use Rattle.rx_grammar.specs.PageFaults.{Rows, first_row, tag_rows, under_start, after_start, after_end}
+use Rattle.rx_pages.specs.Nesting.{Event, begins, says, finishes, Nesting, not_begun, Step, nest_step, step_by, unless_refused, tag_passes, begun_under, over, line_above, text_step, told, doctype_step, ended_by_start, ended_under, ended_by_end}
+use Rattle.rx_pages.specs.PageReader.{Scanned, Progress, spot_of, read_byte, with_events, steps_on, no_step, progress_of, nested_items, page_byte_on, telling, page_on, page_read, nothing_read}
+use Rattle.rx_pages.proofs.FaultWalk.{fault_stays}
+use Rattle.rx_pages.proofs.Underway.{reads_to, is_underway}
+use Rattle.rx_nest.specs.Signs.{Sign, begun, said, finished, Flags, is_hidden, Sight, see, sees, ended_sight, nothing_seen}
+use Rattle.rx_nest.specs.ShownLines.{tag_of, is_hidden_in, shown_line, outer, open_on, open_after, StandsUnderway, ShowsOpenOnes}
+
+-- What holds of the first place of a page, and goes on with each token, holds wherever a page's bytes lead.
+module _ (syntax : Syntax) (limits : Limits) (holds : Nesting → List Event → Type 0) where
+  -- it goes on with a token
+  pub record GoesOn : Type 0 where
+    pub quiet : (n : Nesting) (events : List Event) → holds n events → holds n (events ++ [])
+    pub steps : (n : Nesting) (events : List Event) (item : Item) (step : Step) → holds n events → nest_step syntax limits.depth n item ≡ Ok step → holds step.next (events ++ step.events)
+
+  module _ (on : GoesOn) where
+    items_hold : (n : Nesting) (events : List Event) (items : List Item) (step reached : Step) → holds step.next (events ++ step.events) → steps_on syntax limits.depth (Ok step) items ≡ Ok reached → holds reached.next (events ++ reached.events)
+    items_hold n events [] step reached h e = let is : step ≡ reached = cc in subst (λ (x : Step). holds x.next (events ++ x.events)) is h
+    items_hold n events (item ∷ items) step reached h e = by (λ next. items_hold n events items next reached) (nest_step syntax limits.depth step.next item) refl e
+      where
+        none : (kind : Kind) (items : List Item) → steps_on syntax limits.depth (Err kind) items ≡ Err kind
+        none kind [] = refl
+        none kind (item ∷ items) = none kind items
+
+        by : ((next : Step) → holds next.next (events ++ next.events) → steps_on syntax limits.depth (Ok next) items ≡ Ok reached → holds reached.next (events ++ reached.events)) → (x : Result Step Kind) → nest_step syntax limits.depth step.next item ≡ x
+            → steps_on syntax limits.depth (with_events step.events x) items ≡ Ok reached → holds reached.next (events ++ reached.events)
+        by rest (Ok next) k w =
+            rest (record { next = next.next; events = step.events ++ next.events })
+            (subst (λ es. holds next.next es) (append_assoc events step.events next.events) (on.steps step.next (events ++ step.events) item next h k)) w
+        by rest (Err kind) k w = absurd (let z : Err kind ≡ Ok reached = sym (none kind items) ∙ w in cc)
+
+    byte_holds : (p q : Progress) (byte : ℕ) → holds p.now.nest p.told → page_byte_on syntax limits (Ok p) byte ≡ Ok q → holds q.now.nest q.told
+    byte_holds p q byte h e = by (read_byte syntax limits (spot_of syntax p.now.nest) byte p.now.scan) e
+      where
+        at : (scanned : Scanned) (x : Result Step Kind) → steps_on syntax limits.depth (Ok (no_step p.now.nest)) scanned.items ≡ x → telling p.told (progress_of p.now.scan scanned.next x) ≡ Ok q → holds q.now.nest q.told
+        at scanned (Ok step) k w =
+            let is : record { now = record { scan = scanned.next; nest = step.next }; told = p.told ++ step.events } ≡ q = cc in
+            subst (λ (x : Progress). holds x.now.nest x.told) is (items_hold p.now.nest p.told scanned.items (no_step p.now.nest) step (on.quiet p.now.nest p.told h) k)
+        at scanned (Err kind) k w = absurd (cc)
+
+        by : (x : Result Scanned Kind) → telling p.told (nested_items syntax limits.depth p.now x) ≡ Ok q → holds q.now.nest q.told
+        by (Ok scanned) w = at scanned (steps_on syntax limits.depth (Ok (no_step p.now.nest)) scanned.items) refl w
+        by (Err kind) w = absurd (cc)
+
+    bytes_hold : (bytes : List ℕ) (p q : Progress) → holds p.now.nest p.told → page_on syntax limits (Ok p) bytes ≡ Ok q → holds q.now.nest q.told
+    bytes_hold [] p q h e = let is : p ≡ q = cc in subst (λ (x : Progress). holds x.now.nest x.told) is h
+    bytes_hold (byte ∷ bytes) p q h e = by (λ r. bytes_hold bytes r q) (page_byte_on syntax limits (Ok p) byte) refl e
+      where
+        by : ((r : Progress) → holds r.now.nest r.told → page_on syntax limits (Ok r) bytes ≡ Ok q → holds q.now.nest q.told) → (x : Result Progress Fault) → page_byte_on syntax limits (Ok p) byte ≡ x → page_on syntax limits x bytes ≡ Ok q → holds q.now.nest q.told
+        by rest (Ok r) k w = rest r (byte_holds p r byte h k) w
+        by rest (Err fault) k w = absurd (let z : Err fault ≡ Ok q = sym (fault_stays syntax limits fault bytes) ∙ w in cc)
+
+    pub page_holds : (bytes : List ℕ) (q : Progress) → holds not_begun [] → page_read syntax limits bytes ≡ Ok q → holds q.now.nest q.told
+    page_holds bytes q h e = bytes_hold bytes nothing_read q h e
+
+-- a tag that isn't refused takes its step
+pub taken : (rows : Rows) (step reached : Step) → unless_refused (first_row rows) step ≡ Ok reached → step ≡ reached
+taken rows step reached e = by (first_row rows) e
+  where
+    by : (x : Option Kind) → unless_refused x step ≡ Ok reached → step ≡ reached
+    by None w = cc
+    by (Some kind) w = absurd (cc)
+
+pub sees_append : (sight : Sight) (xs ys : List Event) → sees sight (xs ++ ys) ≡ sees (sees sight xs) ys
+sees_append sight [] ys = refl
+sees_append sight (x ∷ xs) ys = sees_append (see x sight.flags sight.signs) xs ys
+
+pub open_append : (line : Line) (xs ys : List Sign) → open_after line (xs ++ ys) ≡ open_after (open_after line xs) ys
+open_append line [] ys = refl
+open_append line (x ∷ xs) ys = open_append (open_on line x) xs ys
+
+open_said : (line : Line) (chars : Chars) → open_after line (map said chars) ≡ line
+open_said line [] = refl
+open_said line (c ∷ chars) = open_said line chars
+
+-- the flags of the open elements
+abbrev pub flags_over : Syntax → Line → Flags
+flags_over syntax [] = []
+flags_over syntax (t ∷ above) = (not (is_hidden_in syntax above), is_hidden_in syntax (t ∷ above)) ∷ flags_over syntax above
+
+hidden_is : (syntax : Syntax) (line : Line) → is_hidden (flags_over syntax line) ≡ is_hidden_in syntax line
+hidden_is syntax [] = refl
+hidden_is syntax (t ∷ above) = refl
+
+module _ (syntax : Syntax) where
+  -- what was seen stands for these open elements
+  pub record Marks (line : Line) (sight : Sight) : Type 0 where
+    pub flags_are : sight.flags ≡ flags_over syntax line
+    pub open_are : open_after [] sight.signs ≡ shown_line syntax line
+
+  -- an element begins
+  begin_marks : (t : StartTag) (line : Line) (sight : Sight) → Marks line sight → Marks (t ∷ line) (see (begins t (hides (inside_of syntax line) (tag_of t))) sight.flags sight.signs)
+  begin_marks t line sight m = by (is_hidden sight.flags) (ap is_hidden m.flags_are ∙ hidden_is syntax line)
+    where
+      by : (b : Bool) → b ≡ is_hidden_in syntax line
+          → Marks (t ∷ line) (if b then record { flags = (false, true) ∷ sight.flags; signs = sight.signs } else record { flags = (true, hides (inside_of syntax line) (tag_of t)) ∷ sight.flags; signs = sight.signs ++ begun t ∷ [] })
+      by true e = record {
+        flags_are = ap (λ (fs : Flags). (false, true) ∷ fs) m.flags_are ∙ ap (λ b. (not b, b || hides (inside_of syntax line) (tag_of t)) ∷ flags_over syntax line) e;
+        open_are = m.open_are ∙ ap (λ b. if b then shown_line syntax line else t ∷ shown_line syntax line) e;
+      }
+      by false e = record {
+        flags_are = ap (λ (fs : Flags). (true, hides (inside_of syntax line) (tag_of t)) ∷ fs) m.flags_are ∙ ap (λ b. (not b, b || hides (inside_of syntax line) (tag_of t)) ∷ flags_over syntax line) e;
+        open_are = open_append [] sight.signs (begun t ∷ []) ∙ (ap (λ (x : Line). t ∷ x) m.open_are ∙ ap (λ b. if b then shown_line syntax line else t ∷ shown_line syntax line) e);
+      }
+
+  -- it ends
+  closes : (b : Bool) (signs : List Sign) (t : StartTag) (rest : Line) → open_after [] signs ≡ (if b then rest else t ∷ rest) → open_after [] (signs ++ (if not b then finished ∷ [] else [])) ≡ rest
+  closes true signs t rest e = ap (λ x. open_after [] x) (append-nil signs) ∙ e
+  closes false signs t rest e = open_append [] signs (finished ∷ []) ∙ ap outer e
+
+  finish_marks : (t : StartTag) (line : Line) (sight : Sight) → Marks (t ∷ line) sight → Marks line (see finishes sight.flags sight.signs)
+  finish_marks t line sight m =
+      subst (λ (fs : Flags). Marks line (ended_sight fs sight.signs)) (sym m.flags_are) (record { flags_are = refl; open_are = closes (is_hidden_in syntax line) sight.signs t (shown_line syntax line) m.open_are })
+
+  -- text
+  says_marks : (b : Bool) (signs : List Sign) (chars : Chars) (line : Line) → open_after [] signs ≡ line → open_after [] (if b then signs else signs ++ map said chars) ≡ line
+  says_marks true signs chars line e = e
+  says_marks false signs chars line e = open_append [] signs (map said chars) ∙ (open_said (open_after [] signs) chars ∙ e)
+
+  say_marks : (chars : Chars) (line : Line) (sight : Sight) → Marks line sight → Marks line (see (says chars) sight.flags sight.signs)
+  say_marks chars line sight m = record { flags_are = m.flags_are; open_are = says_marks (is_hidden sight.flags) sight.signs chars (shown_line syntax line) m.open_are }
+
+  -- elements that end by omission
+  start_marks : (name : Chars) (line : Line) (sight : Sight) → Marks line sight → Marks (after_start syntax name line) (sees sight (ended_by_start syntax name line))
+  start_marks name [] sight m = m
+  start_marks name (t ∷ line) sight m =
+      by_test (is_among (enders (inside_of syntax line) t.name) name)
+      (λ e. rw e (start_marks name line (see finishes sight.flags sight.signs) (finish_marks t line sight m)))
+      (λ e. rw e m)
+
+  under_marks : (name : Chars) (line : Line) (sight : Sight) → Marks line sight → Marks (under_start syntax name line) (sees sight (ended_under syntax name line))
+  under_marks name line sight m = by_test (is_html (inside_of syntax line).content) (λ e. rw e (start_marks name line sight m)) (λ e. rw e m)
+
+  end_marks : (name : Chars) (line : Line) (sight : Sight) → Marks line sight → Marks (after_end syntax name line) (sees sight (ended_by_end syntax name line))
+  end_marks name [] sight m = m
+  end_marks name (t ∷ line) sight m =
+      by_test (is_omissible (inside_of syntax line) t.name && not (same t.name name) && not (is_held (parent_of line) t.name))
+      (λ e. rw e (end_marks name line (see finishes sight.flags sight.signs) (finish_marks t line sight m)))
+      (λ e. rw e m)
+
+  -- the innermost one ends, where there is one
+  last_marks : (line : Line) (sight : Sight) → Marks line sight → Marks (line_above line) (see finishes sight.flags sight.signs)
+  last_marks [] sight m = subst (λ (fs : Flags). Marks [] (ended_sight fs sight.signs)) (sym m.flags_are) (record { flags_are = refl; open_are = m.open_are })
+  last_marks (t ∷ line) sight m = finish_marks t line sight m
+
+  -- what was told stands for the open elements
+  pub record Held (n : Nesting) (events : List Event) : Type 0 where
+    pub marks : Marks n.line (sees nothing_seen events)
+    pub none : (stood : Bool) → n.phase ≡ before stood → n.line ≡ []
+
+  more_marks : (line : Line) (events more : List Event) → Marks line (sees (sees nothing_seen events) more) → Marks line (sees nothing_seen (events ++ more))
+  more_marks line events more m = subst (λ (s : Sight). Marks line s) (sym (sees_append nothing_seen events more)) m
+
+  over_held : (line : Line) (events : List Event) → Marks line (sees nothing_seen events) → Held (over line) events
+  over_held [] events m = record { marks = m; none = λ stood e. refl }
+  over_held (t ∷ above) events m = record { marks = m; none = λ stood e. absurd (cc) }
+
+  module _ (n : Nesting) (events : List Event) (h : Held n events) (item : Item) (t : Tag) where
+    abbrev left : Line
+    left = under_start syntax t.name n.line
+
+    abbrev gone : List Event
+    gone = ended_under syntax t.name n.line
+
+    abbrev own : Event
+    own = begins (start_of item t) (hides (inside_of syntax left) t)
+
+    abbrev stood : Sight
+    stood = sees (sees nothing_seen events) gone
+
+    begun_held : Held (begun_under syntax item t left gone).next (events ++ (begun_under syntax item t left gone).events)
+    begun_held =
+        let b = begin_marks (start_of item t) left stood (under_marks t.name n.line (sees nothing_seen events) h.marks) in
+        by_test (is_alone syntax (inside_of syntax left) t)
+        (λ e. rw e (over_held left (events ++ (gone ++ own ∷ finishes ∷ []))
+        (more_marks left events (gone ++ own ∷ finishes ∷ [])
+        (subst (λ (s : Sight). Marks left s) (sym (sees_append (sees nothing_seen events) gone (own ∷ finishes ∷ [])))
+        (finish_marks (start_of item t) left (see own stood.flags stood.signs) b)))))
+        (λ e. rw e (record {
+          marks = more_marks (start_of item t ∷ left) events (gone ++ own ∷ [])
+              (subst (λ (s : Sight). Marks (start_of item t ∷ left) s) (sym (sees_append (sees nothing_seen events) gone (own ∷ []))) b);
+          none = λ s k. absurd (cc);
+        }))
+
+    ended_held : Held (over (line_above (after_end syntax t.name n.line))) (events ++ (ended_by_end syntax t.name n.line ++ finishes ∷ []))
+    ended_held =
+        over_held (line_above (after_end syntax t.name n.line)) (events ++ (ended_by_end syntax t.name n.line ++ finishes ∷ []))
+        (more_marks (line_above (after_end syntax t.name n.line)) events (ended_by_end syntax t.name n.line ++ finishes ∷ [])
+        (subst (λ (s : Sight). Marks (line_above (after_end syntax t.name n.line)) s) (sym (sees_append (sees nothing_seen events) (ended_by_end syntax t.name n.line) (finishes ∷ [])))
+        (last_marks (after_end syntax t.name n.line) (sees (sees nothing_seen events) (ended_by_end syntax t.name n.line)) (end_marks t.name n.line (sees nothing_seen events) h.marks))))
+
+    abbrev end_step : Step
+    end_step = record { next = over (line_above (after_end syntax t.name n.line)); events = ended_by_end syntax t.name n.line ++ finishes ∷ [] }
+
+    tag_held : (depth : ℕ) (step : Step) → unless_refused (first_row (tag_rows syntax depth n.line n.phase t)) (tag_passes syntax n.line item t) ≡ Ok step → Held step.next (events ++ step.events)
+    tag_held depth step e = subst (λ (x : Step). Held x.next (events ++ x.events)) (taken (tag_rows syntax depth n.line n.phase t) (tag_passes syntax n.line item t) step e) (by t.closing)
+      where
+        by : (b : Bool) → Held (if b then end_step else begun_under syntax item t left gone).next (events ++ (if b then end_step else begun_under syntax item t left gone).events)
+        by true = ended_held
+        by false = begun_held
+
+  -- a token that isn't a tag
+  quiet_held : (n m : Nesting) (events : List Event) → m.line ≡ n.line → m.phase ≡ n.phase → Held n events → Held m (events ++ [])
+  quiet_held n m events l p h = record {
+    marks = subst (λ es. Marks m.line (sees nothing_seen es)) (sym (append-nil events)) (subst (λ x. Marks x (sees nothing_seen events)) (sym l) h.marks);
+    none = λ stood e. l ∙ h.none stood (sym p ∙ e);
+  }
+
+  said_held : (n : Nesting) (events : List Event) (chars : Chars) → Held n events → Held (record { line = n.line; phase = n.phase; drops = false }) (events ++ told n.phase chars)
+  said_held n events chars h = by n.phase
+    where
+      by : (p : Phase) → Held (record { line = n.line; phase = n.phase; drops = false }) (events ++ told p chars)
+      by (before s) = quiet_held n (record { line = n.line; phase = n.phase; drops = false }) events refl refl h
+      by after = quiet_held n (record { line = n.line; phase = n.phase; drops = false }) events refl refl h
+      by within = record { marks = more_marks n.line events (says chars ∷ []) (say_marks chars n.line (sees nothing_seen events) h.marks); none = h.none }
+
+  text_held : (n : Nesting) (events : List Event) (is_dropped : Bool) (chars : Chars) (step : Step) → Held n events → ◌≡◌ {A = Result Step Kind} (Ok (text_step n is_dropped chars)) (Ok step) → Held step.next (events ++ step.events)
+  text_held n events is_dropped chars step h e =
+      let is : text_step n is_dropped chars ≡ step = cc in
+      subst (λ (x : Step). Held x.next (events ++ x.events)) is
+      (by_test (n.drops && is_dropped) (λ d. rw d (quiet_held n (record { line = n.line; phase = n.phase; drops = false }) events refl refl h)) (λ d. rw d (said_held n events chars h)))
+
+  doctype_held : (n : Nesting) (events : List Event) (step : Step) → Held n events → doctype_step n.phase ≡ Ok step → Held step.next (events ++ step.events)
+  doctype_held n events step h e = by n.phase refl e
+    where
+      by : (p : Phase) → n.phase ≡ p → doctype_step p ≡ Ok step → Held step.next (events ++ step.events)
+      by (before false) k d =
+          let is : record { next = record { line = []; phase = before true; drops = false }; events = [] } ≡ step = cc in
+          subst (λ (x : Step). Held x.next (events ++ x.events)) is
+          (record {
+            marks = subst (λ es. Marks [] (sees nothing_seen es)) (sym (append-nil events)) (subst (λ x. Marks x (sees nothing_seen events)) (h.none false k) h.marks);
+            none = λ stood w. refl;
+          })
+      by (before true) k d = absurd (cc)
+      by within k d = absurd (cc)
+      by after k d = absurd (cc)
+
+  item_held : (depth : ℕ) (n : Nesting) (events : List Event) (item : Item) (step : Step) → Held n events → nest_step syntax depth n item ≡ Ok step → Held step.next (events ++ step.events)
+  item_held depth n events item step h e = by item.token e
+    where
+      by : (token : Token) → step_by syntax depth n item token ≡ Ok step → Held step.next (events ++ step.events)
+      by (tag t) k = tag_held n events h item t depth step k
+      by (character c) k = text_held n events (is_line_feed (character c)) (c ∷ []) step h k
+      by (reference c) k = text_held n events (is_line_feed (reference c)) (c ∷ []) step h k
+      by (kept chars) k = text_held n events false chars step h k
+      by (section chars) k = text_held n events false chars step h k
+      by comment k = let is : record { next = record { line = n.line; phase = n.phase; drops = false }; events = [] } ≡ step = cc in subst (λ (x : Step). Held x.next (events ++ x.events)) is (quiet_held n (record { line = n.line; phase = n.phase; drops = false }) events refl refl h)
+      by doctype k = doctype_held n events step h k
+
+  pub page_held : (limits : Limits) (bytes : List ℕ) (q : Progress) → page_read syntax limits bytes ≡ Ok q → Held q.now.nest q.told
+  page_held limits bytes q e =
+      page_holds syntax limits Held (record { quiet = λ n events h. quiet_held n n events refl refl h; steps = item_held limits.depth }) bytes q
+      (record { marks = record { flags_are = refl; open_are = refl }; none = λ stood k. refl }) e
+
+ok_is : (a b : Progress) (r : Result Progress Fault) → r ≡ Ok a → r ≡ Ok b → a ≡ b
+ok_is a b r h k = let e : Ok a ≡ Ok b = sym h ∙ k in cc
+
+pub shows_open_ones : ShowsOpenOnes
+shows_open_ones syntax limits nest bytes signs st paid line phase run part u =
+    let here : Progress = record { now = st.at.now; told = st.told } in
+    let r = reads_to syntax limits bytes line phase run part u in
+    let same = ok_is here r.now (page_read syntax limits bytes) st.at.read r.read in
+    let line_is : st.at.now.nest.line ≡ line = ap (λ (p : Progress). p.now.nest.line) same ∙ r.is_at.line_is in
+    let h = page_held syntax limits bytes here st.at.read in
+    let signs_are : (sees nothing_seen st.told).signs ≡ signs = ap (λ (s : Sight). s.signs) st.sight ∙ (ap (λ x. signs ++ x) paid ∙ append-nil signs) in
+    ap (λ x. open_after [] x) (sym signs_are) ∙ (h.marks.open_are ∙ ap (λ x. shown_line syntax x) line_is)
+
+pub stands_underway : StandsUnderway
+stands_underway syntax limits nest bytes signs st =
+    let n = st.at.now.nest in
+    let s = st.at.now.scan in
+    record {
+      line = n.line;
+      phase = n.phase;
+      run = s.run;
+      part = s.held;
+      underway = is_underway syntax limits bytes n.line n.phase s.run s.held (record { now = record { now = st.at.now; told = st.told }; read = st.at.read; is_at = record { line_is = refl; phase_is = refl }; run_is = refl; part_is = refl });
+    }
