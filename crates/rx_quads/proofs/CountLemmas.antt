@@ -1,5 +1,5 @@
 -- How many blank nodes a list has that was numbered.
-use Rattle.std.proofs.Common.{◌≡◌, ◌∙◌, ◌↔◌, ◌⊎◌, ℕ, zero, suc, ◌+◌, ◌<◌, ◌≤◌, Bool, true, false, not, cond, List, [], ◌∷◌, ◌++◌, map, filter, length, take, slice_get, Some, refl, sym, ap, ap₂, subst, inl, inr, true≢false, nat_lt, if◌then◌else◌, arith, take_all}
+use Rattle.std.proofs.Common.{◌≡◌, ◌∙◌, ◌↔◌, ◌⊎◌, ℕ, zero, suc, ◌+◌, ◌^◌, ◌<◌, ◌≤◌, Bool, true, false, not, cond, List, [], ◌∷◌, ◌++◌, map, filter, length, take, slice_get, Some, Result, Ok, Err, IsErrAnd, refl, sym, ap, ap₂, subst, inl, inr, true≢false, nat_lt, if◌then◌else◌, arith, take_all}
 use Rattle.std.proofs.lemmas.List.{map-append}
 use Rattle.std.proofs.lemmas.Bool.Decides.{nat_tests}
 use Rattle.rx_terms.specs.declared.triples.Triple.{Triple as CodeTriple}
@@ -9,7 +9,7 @@ use Rattle.rx_model.specs.Numbered.{rename_node, rename_term, rename, blank_of_n
 use Rattle.rx_model.specs.Seen.{triple_seen, triples_seen}
 use Rattle.rx_model.proofs.Sets.{Among_map, Among_of_map, Among_of_filter, Among_distinct, Among_of_distinct, not_true}
 use Rattle.rx_graph.proofs.SetLemmas.{seen_more}
-use Rattle.rx_quads.specs.Raised.{raised, AreFrom, past_one, past_all, past, NumbersWithoutGaps}
+use Rattle.rx_quads.specs.Raised.{Counts, raised, AreFrom, past_one, past_all, past, NumbersWithoutGaps}
 use Rattle.rx_graph.proofs.NumberLemmas.{blanks_more}
 
 -- ---- one more than the largest
@@ -63,6 +63,30 @@ past_turn list i t count new at before is =
 
 pub past_end : (list : List CodeTriple) (i count : ℕ) → length list ≤ i → count ≡ past (triples_seen (take i list)) → count ≡ past (triples_seen list)
 past_end list i count h e = e ∙ ap (λ ts. past (triples_seen ts)) (take_all i list h)
+
+-- a triple counts no further than the whole list
+at_most : (list : List CodeTriple) (i : ℕ) (t : CodeTriple) (start : ℕ) → slice_get list i ≡ Some t
+    → past_all (past_all start (blanks (triples_seen (take i list)))) (blanks_of (triple_seen t)) ≤ past_all start (blanks (triples_seen list))
+at_most [] i t start at = absurd (cc)
+at_most (x ∷ list) zero t start at =
+    let same : t ≡ x = cc in
+    subst (λ y. past_all start (blanks_of (triple_seen y)) ≤ past_all start (blanks_of (triple_seen x) ++ blanks (triples_seen list))) (sym same)
+    (rw (past_append start (blanks_of (triple_seen x)) (blanks (triples_seen list))) (count_below (past_all start (blanks_of (triple_seen x))) (blanks (triples_seen list))))
+at_most (x ∷ list) (suc i) t start at =
+    rw (past_append start (blanks_of (triple_seen x)) (blanks (triples_seen (take i list))), past_append start (blanks_of (triple_seen x)) (blanks (triples_seen list)))
+    (at_most list i t (past_all start (blanks_of (triple_seen x))) at)
+
+too_many : (list : List CodeTriple) (i : ℕ) (t : CodeTriple) (count most : ℕ) → slice_get list i ≡ Some t → count ≡ past (triples_seen (take i list))
+    → most ≤ past_all count (blanks_of (triple_seen t)) → most ≤ past (triples_seen list)
+too_many list i t count most at before h =
+    let whole = at_most list i t 0 at in let here : most ≤ past_all (past (triples_seen (take i list))) (blanks_of (triple_seen t)) = subst (λ n. most ≤ past_all n (blanks_of (triple_seen t))) before h in
+    omega (arith, whole, here)
+
+-- the count of a list fails where that of a triple does
+pub past_fails : {E : Type 0} (result : Result ℕ E) (why : E) (list : List CodeTriple) (i : ℕ) (t : CodeTriple) (count : ℕ) → slice_get list i ≡ Some t
+    → count ≡ past (triples_seen (take i list)) → Counts {E = E} (Err why) (past_all count (blanks_of (triple_seen t))) → IsErrAnd result (λ e. e ≡ why) → Counts result (past (triples_seen list))
+past_fails (Ok n) why list i t count at before h is = absurd is
+past_fails (Err e) why list i t count at before h is = too_many list i t count (2 ^ 64) at before h
 
 -- ---- renamed blank nodes
 

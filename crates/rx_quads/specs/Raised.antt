@@ -1,5 +1,5 @@
 -- Blank nodes that are numbered from a number on, and how many there are.
-use Rattle.std.specs.Prelude.{◌↔◌, ℕ, zero, suc, ◌+◌, ◌<◌, ◌≤◌, Bool, List, [], ◌∷◌, map, nat_lt, if◌then◌else◌}
+use Rattle.std.specs.Prelude.{◌≡◌, ◌↔◌, ℕ, zero, suc, ◌+◌, ◌^◌, ◌<◌, ◌≤◌, Bool, List, [], ◌∷◌, map, nat_lt, if◌then◌else◌, Result, MatchResult}
 use Rattle.rx_model.specs.Sets.{Among}
 use Rattle.rx_model.specs.Terms.{Triple, set_of}
 use Rattle.rx_model.specs.Numbered.{rename, blanks, numbered, Renamed}
@@ -24,6 +24,10 @@ past_all count (b ∷ more) = past_all (past_one count b) more
 -- one more than the largest number of a blank node; 0 where there is none
 abbrev pub past : List (Triple ℕ) → ℕ
 past list = past_all 0 (blanks list)
+
+-- this is the count, or 64 bits can't hold it
+abbrev pub Counts : {E : Type 0} → Result ℕ E → ℕ → Type 0
+Counts result count = MatchResult result (λ n. n ≡ count) (λ _. 2 ^ 64 ≤ count)
 
 -- law: raising renames one to one
 abbrev pub RaisesOneToOne : Type 0

@@ -1,15 +1,15 @@
 //! How many blank nodes a graph has.
-ghost use Rattle.std.specs.Prelude.{◌≡◌, IfOk};
 ghost use Rattle.rx_model.specs.Numbered.{blank_of_node, blank_of_term, blanks_of};
 ghost use Rattle.rx_model.specs.Seen.{node_seen, term_seen, triple_seen, triples_seen};
-ghost use Rattle.rx_quads.specs.Raised.{past, past_one, past_all};
+ghost use Rattle.rx_quads.specs.Raised.{Counts, past, past_one, past_all};
 
 use rx_graph::Graph;
 use rx_terms::{Blank, NoMemory, Node, Term, Triple};
 
-/// How many blank nodes the graph has, where they are numbered from 0 on: one more than the largest number.
+/// How many blank nodes the graph has, where they are numbered from 0 on: one more than the largest number. It takes no
+/// memory, and fails only where a number of 64 bits can't hold the count: such a graph has no room in any memory.
 pub fn count_nodes(graph: &Graph) -> Result<u64, NoMemory>
-    ensures { IfOk result (λ count. count ≡ past (triples_seen graph.now)) }
+    ensures { Counts result (past (triples_seen graph.now)) }
 {
     let mut count = 0;
     for i in 0..graph.len() {
@@ -19,14 +19,14 @@ pub fn count_nodes(graph: &Graph) -> Result<u64, NoMemory>
 }
 
 fn past_triple(triple: &Triple, count: u64) -> Result<u64, NoMemory>
-    ensures { IfOk result (λ new. new ≡ past_all count (blanks_of (triple_seen triple.now))) }
+    ensures { Counts result (past_all count (blanks_of (triple_seen triple.now))) }
 {
     let behind_subject = past_node(&triple.subject, count)?;
     past_term(&triple.object, behind_subject)
 }
 
 fn past_node(node: &Node, count: u64) -> Result<u64, NoMemory>
-    ensures { IfOk result (λ new. new ≡ past_all count (blank_of_node (node_seen node.now))) }
+    ensures { Counts result (past_all count (blank_of_node (node_seen node.now))) }
 {
     match node {
         Node::Iri(_iri) => Ok(count),
@@ -35,7 +35,7 @@ fn past_node(node: &Node, count: u64) -> Result<u64, NoMemory>
 }
 
 fn past_term(term: &Term, count: u64) -> Result<u64, NoMemory>
-    ensures { IfOk result (λ new. new ≡ past_all count (blank_of_term (term_seen term.now))) }
+    ensures { Counts result (past_all count (blank_of_term (term_seen term.now))) }
 {
     match term {
         Term::Iri(_iri) => Ok(count),
@@ -44,9 +44,8 @@ fn past_term(term: &Term, count: u64) -> Result<u64, NoMemory>
     }
 }
 
-/// A graph whose numbers pass 64 bits has no room in any memory.
 fn past_blank(blank: Blank, count: u64) -> Result<u64, NoMemory>
-    ensures { IfOk result (λ new. new ≡ past_one count blank.0) }
+    ensures { Counts result (past_one count blank.0) }
 {
     if blank.0 < count {
         return Ok(count);

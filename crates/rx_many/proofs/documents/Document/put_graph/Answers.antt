@@ -1,15 +1,15 @@
 use Rattle.std.proofs.Common.{map, refl, sym, subst}
+use Rattle.std.proofs.lemmas.Result.{on_ok_weaker}
 use Rattle.rx_terms.specs.Text.{Chars}
 use Rattle.rx_model.specs.Seen.{triples_seen}
 use Rattle.rx_many.specs.Lines.{statement_at}
 use Rattle.rx_many.specs.Standing.{AreNew}
-use Rattle.rx_many.proofs.LineLemmas.{if_ok}
 use Rattle.rx_many.proofs.PageLemmas.{turned, in_graph}
 use Rattle.rx_many.proofs.documents.Document.put_graph.Goals as goal
 
 pub returns : goal.returns
 returns c place lines s before new =
-    if_ok c.put_triples.result
+    on_ok_weaker c.put_triples.result
     (λ p. in_graph c.args.shared.now place _ lines c.args.address.now _ (triples_seen c.args.graph.now) c.in_ok-name.ensures.text p)
     (c.put_triples.ensures c.args.shared.now place lines
     (turned c.args.shared.now place c.args.self.now _ lines s before c.in_ok-turn.ensures.before c.in_ok-turn.ensures.here refl refl)

@@ -1,16 +1,16 @@
 use Rattle.std.proofs.Common.{◌∙◌, ◌++◌, ◌∷◌, [], refl, sym, ap, if◌then◌else◌}
+use Rattle.std.proofs.lemmas.Result.{on_ok_weaker}
 use Rattle.rx_model.specs.Numbered.{rename}
 use Rattle.rx_model.specs.Seen.{triple_seen}
 use Rattle.rx_many.specs.Lines.{statement}
 use Rattle.rx_many.specs.Numbering.{number_at}
-use Rattle.rx_many.proofs.LineLemmas.{if_ok}
 use Rattle.rx_many.proofs.PageLemmas.{old_statement, new_statement}
 use Rattle.rx_many.proofs.documents.Document.put_once.Goals as goal
 
 pub returns-in-Some : goal.returns-in-Some
 returns-in-Some c shared place lines s m n =
     let added = rw c.in-Some.is at c.in_ok-place.ensures.place in
-    if_ok c.write.result
+    on_ok_weaker c.write.result
     (λ w. new_statement shared place c.args.self.now _ lines s c.args.name.now c.in_ok-name.name c.in_ok-name.ensures m (triple_seen c.args.triple.now) (triple_seen c.in_ok-triple.triple) n
     (ap (λ z. z.before) w.blanks ∙ c.in_ok-triple.ensures.before) (ap (λ z. z.here) w.blanks ∙ c.in_ok-triple.ensures.known)
     (c.in_ok-triple.ensures.renamed ∙ ap (λ z. rename (number_at z) (triple_seen c.args.triple.now)) (sym w.blanks))
