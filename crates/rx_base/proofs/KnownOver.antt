@@ -1,5 +1,5 @@
 -- The seeking knows the base exactly over the bytes of which a front decides it.
-use Rattle.std.proofs.Common.{◌≡◌, ◌∙◌, ℕ, ◌+◌, ◌≤◌, Bool, true, false, List, [], ◌∷◌, ◌++◌, map, length, refl, sym, ap, subst, append_assoc, append-nil, Option, None, Result, Ok, Err, arith}
+use Rattle.std.proofs.Common.{⊎_elim, ◌≡◌, ◌∙◌, ℕ, ◌+◌, ◌≤◌, Bool, true, false, List, [], ◌∷◌, ◌++◌, map, length, refl, sym, ap, subst, append_assoc, append-nil, Option, None, Result, Ok, Err, arith}
 use Rattle.std.specs.Prelude.{if◌then◌else◌}
 use Rattle.std.specs.Str.{encode_utf8_all}
 use Rattle.std.proofs.lemmas.List.{length-map}
@@ -32,6 +32,7 @@ use Rattle.rx_base.proofs.Lines.{line_is, seeks_append, said_seeks}
 use Rattle.rx_base.proofs.Found.{known_stays}
 use Rattle.rx_base.proofs.CutTrees.{prefix, Gives, sought_cut}
 use Rattle.rx_base.proofs.WideReading.{read_wide}
+use Rattle.rx_base.proofs.Depths.{deep_or_none}
 use Rattle.rx_base.proofs.TagEnds.{Says, Settles, settled, says_more, byte_settles}
 
 abbrev shown : Progress → List Sign
@@ -148,12 +149,16 @@ module _ (syntax : Syntax) (limits : Limits) where
   is_so true href s e g = g
   is_so false href s e g = absurd (cc)
 
-  pub known_over : (bytes : List ℕ) (href : Option Chars) (q : Progress) → 1 ≤ limits.depth → page_read syntax limits bytes ≡ Ok q → sought (shown q) ≡ known href → IsKnownOver syntax limits bytes href
-  known_over bytes href q deep r k =
+  has_level : (bytes : List ℕ) (href : Option Chars) (q : Progress) → page_read syntax limits bytes ≡ Ok q → sought (shown q) ≡ known href → 1 ≤ limits.depth
+  has_level bytes href q r k =
+      ⊎_elim (λ d. d) (λ e. (let w : first_child ≡ known href = sym (ap (λ es. sought (sees nothing_seen es).signs) e) ∙ k in absurd (cc))) (deep_or_none syntax limits bytes q r)
+
+  pub known_over : (bytes : List ℕ) (href : Option Chars) (q : Progress) → page_read syntax limits bytes ≡ Ok q → sought (shown q) ≡ known href → IsKnownOver syntax limits bytes href
+  known_over bytes href q r k =
       let f = find bytes [] nothing_read q href refl (λ h m. cc) r k in
       let n = f.now.now.nest in
       let begun = (nothing_unfinished syntax limits f.front n.line n.phase).1 (record { now = f.now; read = f.read; is_at = record { line_is = refl; phase_is = refl }; run_is = f.run; part_is = f.held }) in
-      let c = fronts_close syntax limits f.front None n.line n.phase deep begun in
+      let c = fronts_close syntax limits f.front None n.line n.phase (has_level bytes href q r k) begun in
       let g = is_true (is_decided (length f.front) (length (shown_line syntax n.line)) c.tree) (root_href (tags_of c.tree)) href (sought (shown f.now)) (front_gives f.front f.now f.read n.line n.phase refl c.tree c.page) f.is in
       record { front = f.front; rest = f.rest; are = f.are; line = n.line; phase = n.phase; begun = begun; tree = c.tree; page = c.page; decided = g.0; href_is = g.1 }
 
@@ -165,7 +170,7 @@ module _ (syntax : Syntax) (limits : Limits) where
       ap sought more.are ∙ (known_more (shown t.now) more.signs (root_href (tags_of k.tree)) s ∙ ap (λ h. known h) k.href_is)
 
 pub knows_over_bytes : KnowsOverBytes
-knows_over_bytes syntax limits nest bytes signs href deep st paid =
+knows_over_bytes syntax limits nest bytes signs href st paid =
     let here : Progress = record { now = st.at.now; told = st.told } in
     let same : shown here ≡ signs = ap (λ (x : Sight). x.signs) st.sight ∙ (ap (λ x. signs ++ x) paid ∙ append-nil signs) in
-    (λ e. known_over syntax limits bytes href here deep st.at.read (ap sought same ∙ e), λ k. ap sought (sym same) ∙ over_known syntax limits bytes href here st.at.read k)
+    (λ e. known_over syntax limits bytes href here st.at.read (ap sought same ∙ e), λ k. ap sought (sym same) ∙ over_known syntax limits bytes href here st.at.read k)

@@ -6,3 +6,4 @@ pub mod CutTrees
 pub mod WideReading
 pub mod TagEnds
 pub mod KnownOver
+pub mod Depths

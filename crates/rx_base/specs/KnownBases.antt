@@ -1,5 +1,5 @@
 -- When a page's base is known, by its bytes: by a front of them, and the tree that this front has once it is closed.
-use Rattle.std.specs.Prelude.{◌≡◌, ◌↔◌, ◌≤◌, ℕ, Bool, false, true, not, ◌&&◌, ◌||◌, nat_lt, nat_le, is_some, List, ◌++◌, length, Option, None, codes, bytes_eq}
+use Rattle.std.specs.Prelude.{◌≡◌, ◌↔◌, ℕ, Bool, false, true, not, ◌&&◌, ◌||◌, nat_lt, nat_le, is_some, List, ◌++◌, length, Option, None, codes, bytes_eq}
 use Rattle.rx_terms.specs.Text.{Chars}
 use Rattle.rx_chars.specs.declared.syntax.Syntax.{Syntax}
 use Rattle.rx_grammar.specs.declared.limits.Limits.{Limits}
@@ -59,5 +59,5 @@ pub record IsKnownOver (syntax : Syntax) (limits : Limits) (bytes : List ℕ) (h
 
 -- law: the seeking knows the base exactly over such bytes
 abbrev pub KnowsOverBytes : Type 0
-KnowsOverBytes = (syntax : Syntax) (limits : Limits) (nest : Nested) (bytes : List ℕ) (signs : List Sign) (href : Option Chars) → 1 ≤ limits.depth
+KnowsOverBytes = (syntax : Syntax) (limits : Limits) (nest : Nested) (bytes : List ℕ) (signs : List Sign) (href : Option Chars)
     → NestStands syntax limits nest bytes signs → OwesNone nest → (sought signs ≡ known href) ↔ IsKnownOver syntax limits bytes href

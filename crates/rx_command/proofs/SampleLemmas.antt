@@ -14,7 +14,7 @@ use Rattle.rx_nquads.specs.Writing.{nquads}
 use Rattle.rx_rdfa.specs.Standard as names
 use Rattle.rx_nest.specs.Signs.{sees, nothing_seen}
 use Rattle.rx_base.specs.Lines.{line_of}
-use Rattle.rx_walk.specs.Walks.{Walked, WalkStands, Ended, open_line}
+use Rattle.rx_walk.specs.Walks.{Walked, WalkStands, Ended}
 use Rattle.rx_nest.specs.Ways.{Way}
 use Rattle.rx_page.specs.Settings.{standard, setting_for, rdfa_way}
 use Rattle.rx_job.specs.Words.{most_items}
@@ -52,7 +52,7 @@ no_fault_at_end count fault few f = let page = samples_are_pages count few in no
 
 -- ---- behind a piece
 
-pub depth_is : (walk : Walked) (bytes : List ℕ) (s : WalkStands sample_setting sample_address walk bytes) → length (open_line s) ≡ depth_at bytes
+pub depth_is : (walk : Walked) (bytes : List ℕ) (s : WalkStands sample_setting sample_address walk bytes) → length (line_of [] s.goes.signs) ≡ depth_at bytes
 depth_is walk bytes s =
     let shown = s.goes.shown in
     let signs_are : (sees nothing_seen shown.told).signs ≡ s.goes.signs = ap (λ x. x.signs) shown.sight ∙ (ap (λ x. s.goes.signs ++ x) s.paid ∙ append-nil s.goes.signs) in
@@ -98,7 +98,7 @@ fed_piece bytes piece lent old new n f e s l k =
 pub fits_on : (bytes piece lent : List ℕ) (old : Feeding) (walk : Walked) (n : ℕ) → Fed bytes old → lent ≡ piece → WalkStands sample_setting sample_address walk (bytes ++ lent) → n ≡ length lent → old.size + n ≤ 1073741824
 fits_on bytes piece lent old walk n f e s l = omega (arith, size_fits walk (bytes ++ lent) s, length-append bytes lent, l, f.size)
 
-pub deeper : (walk : Walked) (bytes piece lent : List ℕ) (depth now then : ℕ) → lent ≡ piece → (s : WalkStands sample_setting sample_address walk (bytes ++ lent)) → now ≡ length (open_line s) → then ≡ larger depth now → then ≡ larger depth (depth_at (bytes ++ piece))
+pub deeper : (walk : Walked) (bytes piece lent : List ℕ) (depth now then : ℕ) → lent ≡ piece → (s : WalkStands sample_setting sample_address walk (bytes ++ lent)) → now ≡ length (line_of [] s.goes.signs) → then ≡ larger depth now → then ≡ larger depth (depth_at (bytes ++ piece))
 deeper walk bytes piece lent depth now then e s n t = t ∙ ap (λ k. larger depth k) (n ∙ (depth_is walk (bytes ++ lent) s ∙ ap (λ p. depth_at (bytes ++ p)) e))
 
 -- the cut in the item

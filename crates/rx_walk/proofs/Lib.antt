@@ -15,3 +15,4 @@ pub mod AlikeStates
 pub mod StandsAlike
 pub mod GrownNumbers
 pub mod OpenLines
+pub mod Inheriting

@@ -1,5 +1,5 @@
 -- The elements that the signs of a walk leave open are those that the page's tree shows, by the grammar.
-use Rattle.std.proofs.Common.{◌≡◌, ◌∙◌, ℕ, ◌≤◌, List, [], map, sym, ap, subst, length}
+use Rattle.std.proofs.Common.{◌≡◌, ◌∙◌, ℕ, List, [], map, sym, ap, subst, length}
 use Rattle.rx_chars.specs.Characters.{Entry}
 use Rattle.rx_terms.specs.Text.{Chars}
 use Rattle.rx_grammar.specs.Begun.{Line, Phase}
@@ -10,7 +10,7 @@ use Rattle.rx_nest.proofs.ShownLines.{shows_open_ones, stands_underway}
 use Rattle.rx_base.specs.Lines.{read_tag, line_of}
 use Rattle.rx_base.proofs.Lines.{line_is}
 use Rattle.rx_walk.specs.Settings.{Setting}
-use Rattle.rx_walk.specs.Walks.{Walked, WalkStands, OverOpen, FramesFit, DepthGives, IsBoundedBy}
+use Rattle.rx_walk.specs.Walks.{Walked, WalkStands, OverOpen, FramesFit, DepthGives}
 
 module _ (setting : Setting) (address : Chars) (walk : Walked) (bytes : List ℕ) (s : WalkStands setting address walk bytes) where
   pub open_is : (line : Line) (phase : Phase) (run : List Entry) (part : List ℕ) → IsUnderway setting.syntax setting.limits bytes line phase run part
@@ -24,9 +24,6 @@ module _ (setting : Setting) (address : Chars) (walk : Walked) (bytes : List ℕ
       let u = stands_underway setting.syntax setting.limits walk.nest bytes s.goes.signs s.goes.shown in
       subst holds (sym (open_is u.line u.phase u.run u.part u.underway)) (h u.line u.phase u.run u.part u.underway)
 
-  -- so what the clauses say of that line they say of the one that the signs lead to
+  -- so what a clause says of that line it says of the one that the signs lead to
   pub depth_by_signs : (depth : ℕ) → DepthGives walk depth → (depth ≡ length (line_of [] s.goes.signs)) × FramesFit walk (line_of [] s.goes.signs)
   depth_by_signs depth d = over_open (λ line. (depth ≡ length line) × FramesFit walk line) (d setting address bytes s)
-
-  pub bound_by_signs : (most : List Tag → ℕ) (count : ℕ) → IsBoundedBy walk most count → count ≤ most (line_of [] s.goes.signs)
-  bound_by_signs most count b = over_open (λ line. count ≤ most line) (b setting address bytes s)

@@ -53,7 +53,7 @@ depth_line setting address walk bytes s line phase run part u =
 
 -- a whole page
 
-no_sought : (x : Sought) (href : Option Chars) → sought_seen x ≡ known href → ⊥
+pub no_sought : (x : Sought) (href : Option Chars) → sought_seen x ≡ known href → ⊥
 no_sought looks.FirstChild href e = cc
 no_sought looks.BaseChild href e = cc
 

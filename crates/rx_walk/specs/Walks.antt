@@ -1,5 +1,5 @@
 -- What a walk stands for, and what its calls answer of a page's bytes.
-use Rattle.std.specs.Prelude.{◌≡◌, ◌≤◌, ◌||◌, ◌==◌, ℕ, true, false, List, [], map, length, Option, Some, None, Result, Ok, Err, if◌then◌else◌}
+use Rattle.std.specs.Prelude.{◌≡◌, ◌≢◌, ◌↔◌, is_some, ◌≤◌, ◌||◌, ◌==◌, ℕ, true, false, List, [], map, length, Option, Some, None, Result, Ok, Err, if◌then◌else◌}
 use Rattle.rx_terms.specs.Text.{Chars}
 use Rattle.rx_terms.specs.declared.triples.Triple.{Triple as CodeTriple}
 use Rattle.rx_model.specs.Seen.{triples_seen}
@@ -30,6 +30,7 @@ use Rattle.rx_eval.specs.declared.inherited.Inherited.{Inherited}
 use Rattle.rx_walk.specs.declared.courses.RdfaListener.{RdfaListener}
 use Rattle.rx_walk.specs.declared.stages.Stage.{Stage}
 use Rattle.rx_walk.specs.declared.stages.Stage.TheVariants as stage
+use Rattle.rx_base.specs.KnownBases.{IsKnownOver}
 use Rattle.rx_base.specs.Lines.{read_tag, tags_of}
 use Rattle.rx_walk.specs.CallsOf.{calls_of}
 use Rattle.rx_walk.specs.Refused.{refused_in}
@@ -131,3 +132,13 @@ state_open walk = if has_failed walk || walk.listener.count == 0 then None else 
 -- what is shown is what a child of the innermost open element inherits
 abbrev pub ShowsOpen : Walked → Inherited → Type 0
 ShowsOpen walk shown = (state : State) × (state_open walk ≡ Some state) × Shows shown (handed_on state.page state.frames)
+
+-- the base of the page that begins with the bytes is known, by the bytes alone
+pub record HasBase (setting : Setting) (bytes : List ℕ) : Type 0 where
+  pub href : Option Chars
+  pub known : IsKnownOver setting.syntax setting.limits bytes href
+
+-- Nothing is shown where the walk has failed; else something is exactly where an element is open and the page's base is known.
+pub record ShowsOnceKnown (walk : Walked) (shown : Option Inherited) : Type 0 where
+  pub failed : has_failed walk ≡ true → is_some shown ≡ false
+  pub line : WhereStands walk (λ setting address bytes. OverOpen setting bytes (λ line. (is_some shown ≡ true) ↔ ((line ≢ []) × HasBase setting bytes)))

@@ -123,7 +123,8 @@ impl Walk {
     /// The context in which a child of the innermost open element would stand; none before the page's base is known, where no
     /// element is open, and after a fault or want of memory.
     pub fn inherited(&self) -> Option<Inherited<'_>>
-        ensures { MatchOption result (walks.state_open self.now ≡ None) (walks.ShowsOpen self.now) }
+        ensures open { MatchOption result (walks.state_open self.now ≡ None) (walks.ShowsOpen self.now) }
+        ensures line { walks.ShowsOnceKnown self.now result }
     {
         if self.reading.has_failed() || self.reading.listener().count == 0 {
             return None;
