@@ -10,6 +10,7 @@ pub record MemoryShelf : Type 0 where
   pub files : List (List ℕ × List ℕ)
   pub left : List ℕ
   pub taken : ℕ
+  pub starts : ℕ
   pub chunk : ℕ
   pub failing : List ℕ
   pub calls : ℕ
@@ -21,23 +22,36 @@ left_of files None at = []
 left_of files (Some file) at = drop at (file_bytes files file)
 
 abbrev pub told_by : MemoryShelf → ShelfContent
-told_by shelf = record { files = shelf.files; left = shelf.left; taken = shelf.taken }
+told_by shelf = record { files = shelf.files; left = shelf.left; taken = shelf.taken; starts = shelf.starts }
 
 abbrev pub new_shelf : List (List ℕ × List ℕ) → ℕ → List ℕ → MemoryShelf
-new_shelf files chunk failing = record { files = files; left = []; taken = 0; chunk = chunk; failing = failing; calls = 0; faults = 0 }
+new_shelf files chunk failing = record { files = files; left = []; taken = 0; starts = 0; chunk = chunk; failing = failing; calls = 0; faults = 0 }
 
 -- whether the next call is one of those that fail
 abbrev pub is_listed : MemoryShelf → Bool
 is_listed shelf = list_any (λ number. number == raised shelf.calls) shelf.failing
 
+-- whether the next start fails, whatever file it asks for: its number is listed, or it couldn't be counted
+abbrev pub start_fails : MemoryShelf → Bool
+start_fails shelf = is_listed shelf || nat_le (2 ^ 64) (shelf.starts + 1)
+
 abbrev pub start_gives : MemoryShelf → List ℕ → Result (Unit {0}) Failed
-start_gives shelf name = if is_listed shelf || is_none (file_of shelf.files name) then Err (record {}) else Ok tt
+start_gives shelf name = if start_fails shelf || is_none (file_of shelf.files name) then Err (record {}) else Ok tt
+
+-- how many files were started after a start that doesn't fail: one more, where there is a file
+abbrev pub starts_after : Option (List ℕ) → ℕ → ℕ
+starts_after None starts = starts
+starts_after (Some bytes) starts = starts + 1
 
 abbrev pub after_start : MemoryShelf → List ℕ → MemoryShelf
 after_start shelf name =
-    if is_listed shelf
+    if start_fails shelf
     then record shelf { calls = raised shelf.calls; faults = raised shelf.faults }
-    else record shelf { calls = raised shelf.calls; left = unwrap_or (file_of shelf.files name) shelf.left }
+    else record shelf {
+      calls = raised shelf.calls;
+      left = unwrap_or (file_of shelf.files name) shelf.left;
+      starts = starts_after (file_of shelf.files name) shelf.starts;
+    }
 
 -- how many bytes a read gives
 abbrev pub read_count : MemoryShelf → ℕ → ℕ

@@ -3,11 +3,13 @@ use Rattle.std.specs.Prelude.{◌≡◌, ℕ, ◌+◌, ◌<◌, ◌≤◌, List,
 use Rattle.rx_ports.specs.Files.{file_of}
 use Rattle.rx_ports.specs.declared.shelf.Failed.{Failed}
 
--- files by their names, the bytes of the started file that weren't read yet, and how many bytes reads have given
+-- files by their names, the bytes of the started file that weren't read yet, how many bytes reads have given, and how
+-- many files were started
 pub record ShelfContent : Type 0 where
   pub files : List (List ℕ × List ℕ)
   pub left : List ℕ
   pub taken : ℕ
+  pub starts : ℕ
 
 -- Whether something is told stays; what is told takes a step.
 pub record WhereKnown {A : Type 0} (step : A → A → Type 0) (old new : Option A) : Type 0 where
@@ -19,15 +21,17 @@ abbrev pub Lacks : Option ShelfContent → List ℕ → Type 0
 Lacks None name = ⊥
 Lacks (Some told) name = file_of told.files name ≡ None
 
--- the file of this name was started, or nothing was
+-- the file of this name was started, which counts as one start, or nothing was
 pub record Starts (name : List ℕ) (result : Result (Unit {0}) Failed) (old new : ShelfContent) : Type 0 where
   pub files : new.files ≡ old.files
   pub taken : new.taken ≡ old.taken
+  pub starts : MatchResult result (λ _. new.starts ≡ old.starts + 1) (λ _. new.starts ≡ old.starts)
   pub left : MatchResult result (λ _. file_of old.files name ≡ Some new.left) (λ _. new.left ≡ old.left)
 
 -- the first n bytes of the buffer were the next of the file, or nothing was read
 pub record Reads (buf : List ℕ) (result : Result ℕ Failed) (old new : ShelfContent) : Type 0 where
   pub files : new.files ≡ old.files
+  pub starts : new.starts ≡ old.starts
   pub taken : MatchResult result (λ n. new.taken ≡ old.taken + n) (λ _. new.taken ≡ old.taken)
   pub left : MatchResult result (λ n. old.left ≡ take n buf ++ new.left) (λ _. new.left ≡ old.left)
   pub at_end : MatchResult result (λ n. n ≡ 0 → 0 < length buf → old.left ≡ []) (λ _. Unit {0})

@@ -12,13 +12,15 @@ use std::marker::Model;
 /// A shelf in memory, which fails when it is told to. A contract sees all of it.
 ///
 /// The calls of `start_file` and `read` together are numbered from 1, and the number stays at 2^64 - 1 once it is
-/// reached. Of two files of one name the first counts. With nothing started nothing is left.
+/// reached. Of two files of one name the first counts. With nothing started nothing is left. A start or a read that
+/// would take a count past what a `u64` holds is a fault.
 #[derive(Drop)]
 pub struct MemShelf {
     files: FileList,
     started: Option<usize>,
     at: usize,
     taken: u64,
+    starts: u64,
     chunk: usize,
     failing: Vec<u64>,
     calls: u64,
@@ -35,6 +37,7 @@ impl Model for MemShelf {
       files = s.files;
       left = left_of s.files s.started s.at;
       taken = s.taken;
+      starts = s.starts;
       chunk = s.chunk;
       failing = s.failing.items;
       calls = s.calls;
@@ -55,6 +58,7 @@ impl MemShelf {
             started: None,
             at: 0,
             taken: 0,
+            starts: 0,
             chunk,
             failing,
             calls: 0,
@@ -89,17 +93,21 @@ impl Shelf for MemShelf {
         ensures cause { OnErr result (Rose self.old.faults self.new.faults ⊎ Lacks (Some (told_by self.old)) name.now) }
     {
         self.calls = raise(self.calls);
-        if self.failing.contains(&self.calls) {
-            self.faults = raise(self.faults);
-            return Err(Failed);
-        }
-        match self.files.find(name) {
-            Some(file) => {
-                self.started = Some(file);
-                self.at = 0;
-                Ok(())
+        let listed = self.failing.contains(&self.calls);
+        match self.starts.checked_add(1) {
+            Some(starts) if !listed => match self.files.find(name) {
+                Some(file) => {
+                    self.started = Some(file);
+                    self.at = 0;
+                    self.starts = starts;
+                    Ok(())
+                }
+                None => Err(Failed),
+            },
+            _ => {
+                self.faults = raise(self.faults);
+                Err(Failed)
             }
-            None => Err(Failed),
         }
     }
 

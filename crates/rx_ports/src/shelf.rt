@@ -9,15 +9,15 @@ pub struct Failed;
 
 /// Files that are read one after another, each from its start.
 ///
-/// A contract sees what the shelf tells of itself: its files, the bytes of the started file that are left, and how
-/// many bytes all reads have given. A shelf tells all of these or none, always. It sees besides a count of faults,
-/// which never falls, and rises only in a call that fails.
+/// A contract sees what the shelf tells of itself: its files, the bytes of the started file that are left, how many
+/// bytes all reads have given, and how many files were started. A shelf tells all of these or none, always. It sees
+/// besides a count of faults, which never falls, and rises only in a call that fails.
 pub trait Shelf {
     ghost told: { Self → Option ShelfContent };
 
     ghost faults: { Self → ℕ };
 
-    /// Goes to the start of the file of this name. It fails only where the count of faults rose, or where the shelf
+    /// Goes to the start of the file of this name, which counts as one start. It fails only where the count of faults rose, or where the shelf
     /// tells its files and this is none of them; then what is left stays as it was.
     fn start_file(&mut self, name: &str) -> Result<(), Failed>
         ensures told { WhereKnown (Starts name.now result) (told self.old) (told self.new) }

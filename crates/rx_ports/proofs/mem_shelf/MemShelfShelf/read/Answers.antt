@@ -16,6 +16,7 @@ given files (Some file) at n left e h =
 pub returns-in-Some-clause-told : goal.returns-in-Some-clause-told
 returns-in-Some-clause-told c = moves_some _ _ _ (record {
   files = ap (λ m. m.files) c.self.view_is;
+  starts = ap (λ m. m.starts) c.self.view_is;
   taken = grind (arith, common_steps);
   left = let e = given c.self.inside.files c.self.inside.started c.self.inside.at c.min-count.result c.args.self.now.left (sym (ap (λ m. m.left) c.self.view_is)) (grind (arith, common_steps)) in grind (arith, common_steps, e);
   at_end = grind (arith, common_steps);
