@@ -1,5 +1,5 @@
 -- What follows from how a run ends.
-use Rattle.std.proofs.Common.{◌≡◌, ◌∙◌, ℕ, ◌⊎◌, inl, inr, List, [], ◌∷◌, refl, sym, ap, subst, Option, Some, None}
+use Rattle.std.proofs.Common.{◌≡◌, ℕ, inl, inr, List, refl, sym, ap, subst, Option, Some, None}
 use Rattle.rx_ports.specs.Counts.{Rose}
 use Rattle.rx_ports.specs.Shelves.{ShelfContent, WhereKnown, GrowsBy, GrowsByPart}
 use Rattle.rx_terms.specs.Text.{Chars}
@@ -9,39 +9,26 @@ use Rattle.rx_job.specs.Words.{Job, Asked, Gathering, reads, gathers, samples, j
 use Rattle.rx_page.specs.Tasks.{TaskGives}
 use Rattle.rx_page.specs.Outcomes.{IsTheFault, IsTheText}
 use Rattle.rx_page.proofs.OutcomeLemmas.{the_fault}
-use Rattle.rx_page.proofs.TextLemmas.{tree_of_text}
 use Rattle.rx_command.specs.Contexts.{HasContext, HasOther, LacksContext, context_in}
-use Rattle.rx_command.specs.Outcome.{NamesPage, HasPageFault, HasBadContext, JobLacks, LacksFile, LacksPage}
+use Rattle.rx_command.specs.Outcome.{NamesPage, HasPageFault, HasBadContext, JobLacks, LacksPage}
 use Rattle.rx_command.specs.Gathering.{HasAll, HasPages}
 use Rattle.rx_command.specs.Samples.{SaysOfSample, Yields, YieldsBoth}
 use Rattle.rx_command.specs.Runs.{Devices, EndsSo}
-use Rattle.rx_command.specs.Endings.{OfPage, IsAnswer, nothing_asked, of_sample, of_page, of_fault, no_file, no_context, of_pages, no_file_of_several, no_context_of_several, IsDue, Ends, answers, shelf_failed, out_failed, no_memory, Follows, EndingsSay}
+use Rattle.rx_command.specs.Endings.{OfPage, IsAnswer, nothing_asked, of_sample, of_page, of_fault, no_file, no_context, of_pages, no_file_of_several, no_context_of_several, IsDue, Ends, answers, shelf_failed, out_failed, no_memory, EndingsSay}
 use Rattle.rx_command.specs.declared.statuses.Status.{Status}
 use Rattle.rx_command.specs.declared.statuses.Status.TheVariants as status
-use Rattle.rx_command.proofs.RunLemmas.{page_job, not_missing, not_other}
+use Rattle.rx_command.proofs.RunLemmas.{one_shelf, page_job, not_missing, not_other}
 use Rattle.rx_command.proofs.SeveralLemmas.{not_page, gathered_lacks, gathered_other}
-use Rattle.rx_command.proofs.EndingLemmas.{one_told, several_of, page_there, lacks_answer, bad_answer, due}
-use Rattle.rx_command.proofs.OneAnswer.{page_lacks, page_other, at_same, beside}
+use Rattle.rx_command.proofs.EndingLemmas.{several_of, page_there, lacks_answer, bad_answer, due}
+use Rattle.rx_command.proofs.OneAnswer.{HasText, HasFault, page_lacks, page_other, text_or_fault, beside}
 
 module _ (shelf : ShelfContent) where
-  abbrev HasText : Asked → List ℕ → Context → List ℕ → Type 0
-  HasText asked text context bytes = TaskGives asked.task context bytes text
-
-  abbrev HasFault : Asked → Fault → Context → List ℕ → Type 0
-  HasFault asked fault context bytes = IsTheFault asked.task context bytes fault
-
-  text_or_fault : (asked : Asked) (text : List ℕ) (fault : Fault) → OfPage asked shelf (HasText asked text) → OfPage asked shelf (HasFault asked fault) → ⊥
-  text_or_fault asked text fault a b =
-      let h = at_same shelf asked (HasText asked text) (HasFault asked fault) a b in
-      let t = tree_of_text asked.task a.context a.bytes text a.holds_so in
-      h.treeless t.0 (t.1).accepted
-
   -- a text that is due is written
   due_done : {k : Option Job} {s : Status} {other line : List ℕ} (text : List ℕ) → IsAnswer shelf k s other line → IsDue shelf k text → s ≡ status.Done
   due_done text nothing_asked d = absurd d
   due_done text (of_sample count line i) d = refl
   due_done text (of_page asked other a) d = refl
-  due_done text (of_fault asked fault a) d = absurd (text_or_fault asked text fault d a)
+  due_done text (of_fault asked fault a) d = absurd (text_or_fault shelf asked text fault d a)
   due_done text (no_file asked l) d = absurd (page_lacks shelf asked (HasText asked text) d l)
   due_done text (no_context asked o) d = absurd (page_other shelf asked (HasText asked text) d o)
   due_done text (of_pages g other i e) d = refl
@@ -180,8 +167,8 @@ module _ (words : List Chars) (old new : Devices) (shelf : ShelfContent) (tells 
         j : job words ≡ Some (reads asked)
         j = page_job words asked h.page.asks
 
-        there : OfPage asked shelf (HasFault shelf asked fault)
-        there = page_there words old.told shelf tells (HasFault shelf asked fault) h.bytes h.page (the_fault asked.task h.page.context h.bytes fault h.refused)
+        there : OfPage asked shelf (HasFault asked fault)
+        there = page_there words old.told shelf tells (HasFault asked fault) h.bytes h.page (the_fault asked.task h.page.context h.bytes fault h.refused)
 
         by : Ends shelf (job words) s old new → EndsSo s (status.Refused fault)
         by (answers text line a grows says) = inl (beside shelf (subst (λ z. IsAnswer shelf z s text line) j a) (of_fault asked fault there)).status_is
@@ -197,7 +184,7 @@ module _ (words : List Chars) (old new : Devices) (shelf : ShelfContent) (tells 
 
     completes_all : Ends shelf (job words) s old new → HasAll words old.told → ¬ Rose old.read_faults new.read_faults → ¬ Rose old.write_faults new.write_faults → EndsSo s status.Done
     completes_all (answers other line a grows says) h quiet calm =
-        let same : h.shelf ≡ shelf = one_told old.told h.shelf shelf h.tells tells in
+        let same : h.shelf ≡ shelf = one_shelf old.told h.shelf shelf h.tells tells in
         inl (all_done shelf h.gathering (subst (λ (x : ShelfContent). HasContext h.gathering.context x) same h.context) (subst (λ (x : ShelfContent). HasPages x.files h.gathering.pages) same h.pages) a (several_of (job words) h.gathering h.asks))
     completes_all (shelf_failed f rose stays) h quiet calm = absurd (quiet rose)
     completes_all (out_failed other f rose d part) h quiet calm = absurd (calm rose)
@@ -209,8 +196,8 @@ endings_say words s old new shelf tells ends = record {
   partly = partly words old new shelf tells s ends;
   refused = refused words old new shelf tells s ends;
   bad_context = bad_context words old new shelf tells s ends;
-  lacking = λ l. lacking words old new shelf tells s ends (subst (JobLacks (job words)) (one_told old.told l.shelf shelf l.tells tells) l.holds);
-  refuses_context = λ b quiet. refuses_context words old new shelf tells s ends (subst (HasOther (context_in (job words))) (one_told old.told b.shelf shelf b.tells tells) b.holds) quiet;
+  lacking = λ l. lacking words old new shelf tells s ends (subst (JobLacks (job words)) (one_shelf old.told l.shelf shelf l.tells tells) l.holds);
+  refuses_context = λ b quiet. refuses_context words old new shelf tells s ends (subst (HasOther (context_in (job words))) (one_shelf old.told b.shelf shelf b.tells tells) b.holds) quiet;
   refuses = refuses words old new shelf tells s ends;
   completes = completes words old new shelf tells s ends;
   completes_all = completes_all words old new shelf tells s ends;

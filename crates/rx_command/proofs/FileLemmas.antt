@@ -11,6 +11,7 @@ read_start name bytes x y e s = record {
   files = s.files;
   file = s.left ∙ ap (λ b. Some (b ++ y.left)) (sym e);
   taken = rw e (omega (arith, s.taken));
+  starts = s.starts;
 }
 
 -- nothing was left, and as much was read as before
@@ -26,6 +27,7 @@ reads_on buf before now k x y r room within e = record {
   taken = r.taken;
   len = rw e (omega (arith, length-append before (take k buf), length-take k buf));
   at_end = λ none. r.at_end none room;
+  starts = r.starts;
 }
 
 -- a read went on
@@ -34,6 +36,7 @@ read_more name bytes next k x y z h r = record {
   files = r.files ∙ h.files;
   file = h.file ∙ ap Some r.bytes;
   taken = omega (arith, h.taken, r.taken, r.len);
+  starts = r.starts ∙ h.starts;
 }
 
 -- a read gave nothing
@@ -56,11 +59,14 @@ reads_some buf k x y r within = record {
   files = r.files;
   sum = omega (arith, ap length r.left, length-append (take k buf) y.left, length-take k buf, r.taken);
   most = omega (arith, r.taken);
+  starts = r.starts;
 }
 
 -- nothing was started
 pub takes_none : (name : List ℕ) (limit : ℕ) (error : Failed) (x y : ShelfContent) → Starts name (Err error) x y → TakesOf name limit x y
-takes_none name limit error x y s = record { files = s.files; file = omega (arith, s.taken); most = omega (arith, s.taken) }
+takes_none name limit error x y s =
+    let same : y.starts ≡ x.starts = s.starts in
+    record { files = s.files; file = omega (arith, s.taken); most = omega (arith, s.taken); starts = omega (arith, same) }
 
 size-read : (name bytes : List ℕ) (x y : ShelfContent) → HasRead name bytes x y → size_of (file_of x.files name) ≡ length bytes + length y.left
 size-read name bytes x y h = ap size_of h.file ∙ length-append bytes y.left
@@ -70,6 +76,7 @@ takes_read name bytes limit x y h most = record {
   files = h.files;
   file = omega (arith, h.taken, size-read name bytes x y h);
   most = omega (arith, h.taken);
+  starts = omega (arith, h.starts);
 }
 
 -- some of the file was read, and some more was taken and lost
@@ -78,4 +85,5 @@ takes_more name bytes limit room x y z h t within = record {
   files = t.files ∙ h.files;
   file = omega (arith, h.taken, size-read name bytes x y h, t.sum);
   most = omega (arith, h.taken, t.most);
+  starts = omega (arith, h.starts, t.starts);
 }

@@ -1,5 +1,5 @@
 -- Several pages that are read one after another.
-use Rattle.std.proofs.Common.{◌≡◌, ◌∙◌, ◌+◌, ◌-◌, ◌≤◌, ◌⊎◌, inl, inr, ℕ, zero, suc, nat_eq, List, [], ◌∷◌, ◌++◌, length, take, drop, sym, ap, subst, refl, arith, Option, Some, None, encode_utf8_all, append_assoc}
+use Rattle.std.proofs.Common.{◌≡◌, ◌∙◌, ◌+◌, ◌-◌, ◌≤◌, ◌⊎◌, inl, inr, ℕ, zero, suc, nat_eq, List, [], ◌∷◌, ◌++◌, length, take, drop, sym, ap, subst, refl, arith, Option, Some, None, encode_utf8_all, append_assoc, length-append}
 use Rattle.std.specs.Prelude.{slice_get}
 use Rattle.rx_ports.specs.Counts.{Rose}
 use Rattle.rx_ports.specs.Files.{file_of}
@@ -30,7 +30,9 @@ use Rattle.rx_page.specs.Tasks.{base_in, facts_in}
 use Rattle.rx_command.specs.Ways.{way_of}
 use Rattle.rx_command.specs.Gathering.{FileList, GivesTriples, GivesGraph, IsJudged, Judges, JudgesEach, IsPart, AreParts, total, TakesGathering, IsThat, TakesPart, TakesParts, ReadsListed, ReadsEach, AddsPage, AddsPages, GathersPages}
 use Rattle.rx_command.proofs.InputLemmas.{one_context, has_context, rose_before}
+use Rattle.rx_page.specs.Texts.{as_read}
 use Rattle.rx_page.proofs.MadeLemmas.{list_written}
+use Rattle.rx_page.proofs.ProperLemmas.{written_read}
 
 -- ---- lists
 
@@ -107,6 +109,7 @@ judged_graph syntax context address bytes (accepted triples) h = record {
   is = h.is;
   renamed =
       subst (λ (ts : List (Triple ℕ)). Renamed (graph_of (base_in address h.tree) (facts_in context h.tree)) (set_of ts)) (sym h.given) (written_denotes (base_in address h.tree) (facts_in context h.tree));
+  proper = subst (λ (ts : List (Triple ℕ)). as_read ts ≡ ts) (sym h.given) (written_read (base_in address h.tree) (facts_in context h.tree));
 }
 
 pub judged_graphs : (syntax : Syntax) (context : Context) (files : FileList) (listed : List Listed) (pages : List Page) → JudgesEach GivesTriples syntax context files listed pages → JudgesEach GivesGraph syntax context files listed pages
@@ -123,13 +126,13 @@ both_moves : {first second : ShelfContent → ShelfContent → Type 0} {a b : Op
 both_moves both f m n = record { same = m.same; taken = λ x y p q. f x y (m.taken x y p q) (n.taken x y p q) }
 
 pub takes_nothing : (context : Context) (syntax : Syntax) (one : Listed) (x : ShelfContent) → TakesPart context syntax one x x
-takes_nothing context syntax one x = record { files = refl; part = 0; is = nothing_of (IsThat context) syntax x.files one; taken = omega arith }
+takes_nothing context syntax one x = record { files = refl; part = 0; is = nothing_of (IsThat context) syntax x.files one; taken = omega arith; starts = omega arith }
 
 -- nor of any of them
 pub none_taken : (context : Context) (syntax : Syntax) (listed : List Listed) (x : ShelfContent) → TakesParts context syntax listed x x
 none_taken context syntax listed x =
     let none : total (none_of listed) ≡ 0 = total_none listed in
-    record { files = refl; parts = none_of listed; are = are_none (IsThat context) syntax x.files listed; taken = omega (arith, none) }
+    record { files = refl; parts = none_of listed; are = are_none (IsThat context) syntax x.files listed; taken = omega (arith, none); starts = omega arith }
 
 module _ (a : Approach) (syntax : Syntax) (context : Context) (address page name : List ℕ) (s : a.syntax ≡ syntax) (k : a.context ≡ context) (n : a.address ≡ address) (named : name ≡ encode_utf8_all page) where
   abbrev One : Listed
@@ -158,6 +161,7 @@ module _ (a : Approach) (syntax : Syntax) (context : Context) (address page name
               omega (arith, most);
         };
         taken = omega arith;
+        starts = t.starts;
       }
 
   pub page_takes : (told now : Option ShelfContent) → WhereKnown (TakesOf name page_limit) told now → WhereKnown (TakesToFirst (way_of a) name) told now → WhereKnown (TakesPart context syntax One) told now
@@ -188,13 +192,13 @@ module _ (a : Approach) (syntax : Syntax) (context : Context) (address page name
       → WhereKnown (ReadsWhole (GivesList a.syntax a.context a.address) name list) told now → after ≡ before ++ accepted_page address (numbered nat_eq (copied nat_eq (triples_seen list))) ∷ [] → AddsPage context syntax One before after told now
   adds_accepted told now before after list t f m e =
       let page : Page = accepted_page address (numbered nat_eq (copied nat_eq (triples_seen list))) in
-      record { page = page; adds = e; reads = both_moves (ReadsListed context syntax One page) (λ x y c p. record { judged = gives_triples list x y c; takes = p }) m (page_takes told now t f) }
+      record { page = page; adds = e; reads = both_moves (ReadsListed context syntax One page) (λ x y c p. record { judged = gives_triples list x y c; takes = p; starts = c.starts }) m (page_takes told now t f) }
 
   pub adds_refused : (told now : Option ShelfContent) (before after : List Page) (fault : Fault) → WhereKnown (TakesOf name page_limit) told now → WhereKnown (TakesToFirst (way_of a) name) told now
       → WhereKnown (Finds (way_of a) name fault) told now → after ≡ before ++ refused_page address fault ∷ [] → AddsPage context syntax One before after told now
   adds_refused told now before after fault t f m e =
       let page : Page = refused_page address fault in
-      record { page = page; adds = e; reads = both_moves (ReadsListed context syntax One page) (λ x y c p. record { judged = gives_fault fault x y c; takes = p }) m (page_takes told now t f) }
+      record { page = page; adds = e; reads = both_moves (ReadsListed context syntax One page) (λ x y c p. record { judged = gives_fault fault x y c; takes = p; starts = c.starts }) m (page_takes told now t f) }
 
 -- ---- page after page
 
@@ -208,6 +212,7 @@ module _ (context : Context) (syntax : Syntax) where
         parts = p.parts ++ q.part ∷ [];
         are = parts_both (IsThat context) syntax x.files listed (one ∷ []) p.parts (q.part ∷ []) p.are (is, tt);
         taken = omega (arith, p.taken, q.taken, sum);
+        starts = omega (arith, p.starts, q.starts, length-append listed (one ∷ []));
       }
 
   -- nothing of those behind
@@ -219,15 +224,16 @@ module _ (context : Context) (syntax : Syntax) where
         parts = p.parts ++ none_of rest;
         are = parts_both (IsThat context) syntax x.files listed rest p.parts (none_of rest) p.are (are_none (IsThat context) syntax x.files rest);
         taken = omega (arith, p.taken, sum);
+        starts = omega (arith, p.starts, length-append listed rest);
       }
 
   read_then : (listed : List Listed) (one : Listed) (pages : List Page) (page : Page) (x y z : ShelfContent) → ReadsEach context syntax listed pages x y → ReadsListed context syntax one page y z → ReadsEach context syntax (listed ++ one ∷ []) (pages ++ page ∷ []) x z
   read_then listed one pages page x y z r q =
       let judged : Judges GivesTriples syntax context x.files one page = subst (λ (f : FileList). Judges GivesTriples syntax context f one page) r.takes.files q.judged in
-      record { judged = judges_both GivesTriples syntax context x.files listed (one ∷ []) pages (page ∷ []) r.judged (judged, tt); takes = part_then listed one x y z r.takes q.takes }
+      record { judged = judges_both GivesTriples syntax context x.files listed (one ∷ []) pages (page ∷ []) r.judged (judged, tt); takes = part_then listed one x y z r.takes q.takes; starts = omega (arith, r.starts, q.starts, length-append listed (one ∷ [])) }
 
   reads_none : (x : ShelfContent) → ReadsEach context syntax [] [] x x
-  reads_none x = record { judged = tt; takes = record { files = refl; parts = []; are = tt; taken = omega arith } }
+  reads_none x = record { judged = tt; takes = record { files = refl; parts = []; are = tt; taken = omega arith; starts = omega arith }; starts = omega arith }
 
   -- before the first
   pub none_added : (now : List Page) (told : Option ShelfContent) → AddsPages context syntax [] now now told told
@@ -302,6 +308,7 @@ module _ (g : Gathering) where
         are = are_none (IsContext g.context x) g.syntax x.files g.pages;
         size = omega (arith, t.size, none);
         most = omega (arith, t.most, none);
+        starts = omega (arith, t.starts);
       }
 
   gathering_taken : (context : Context) (x y z : ShelfContent) → ReadsContext g.context context x y → TakesParts context g.syntax g.pages y z → TakesGathering g x z
@@ -313,6 +320,7 @@ module _ (g : Gathering) where
         are = parts_under (IsThat context) g.syntax x.files (IsContext g.context x) (λ k h. one_context g.context x context k r.is h) g.pages p.parts here;
         size = omega (arith, p.taken, r.takes.size);
         most = omega (arith, p.taken, r.takes.most);
+        starts = omega (arith, p.starts, r.takes.starts);
       }
 
   pub gathering_takes : (context : Context) (told mid late : Option ShelfContent) → WhereKnown (ReadsContext g.context context) told mid → WhereKnown (TakesParts context g.syntax g.pages) mid late → WhereKnown (TakesGathering g) told late
@@ -328,6 +336,7 @@ module _ (g : Gathering) where
         judged =
             subst (λ (ps : List Page). JudgesEach GivesTriples g.syntax context x.files g.pages ps) same
             (subst (λ (f : FileList). JudgesEach GivesTriples g.syntax context f g.pages a.pages) c.takes.files q.judged);
+        starts = omega (arith, c.starts, q.starts);
       }) r a.reads
 
   context_lacks : (told : Option ShelfContent) → TellsThat (LacksContext g.context) told → TellsThat (LacksOne g) told

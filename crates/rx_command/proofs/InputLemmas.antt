@@ -27,14 +27,14 @@ use Rattle.rx_command.proofs.ReadLemmas.{unread_clean}
 use Rattle.rx_page.proofs.FrontLemmas.{refuses_so}
 use Rattle.rx_page.proofs.OutcomeLemmas.{refuses_first}
 use Rattle.rx_command.specs.Files.{ReadsFile, TakesOf, size_of}
-use Rattle.rx_command.specs.Contexts.{IsContextFile, IsFileOf, IsContext, HasContext, TakesContext, ReadsContext, context_size}
+use Rattle.rx_command.specs.Contexts.{IsContextFile, IsContext, HasContext, TakesContext, ReadsContext, context_size, context_count}
 use Rattle.rx_page.specs.Contexts.{largest_context, is_context}
 use Rattle.rx_page.proofs.ContextLemmas.{short, too_long}
 use Rattle.rx_terms.proofs.Bools.{by_test}
 use Rattle.rx_command.specs.Inputs.{PageText, PageRefused, JobText, JobRefused, TellsThat, WhereTold}
 use Rattle.rx_page.specs.Tasks.{IsRight, way_in}
 use Rattle.rx_command.specs.Outcome.{IsLacking, ReadsTo}
-use Rattle.rx_page.specs.Texts.{ok_line}
+use Rattle.rx_page.specs.Texts.{as_read, ok_line}
 use Rattle.rx_command.specs.Runs.{TakesFiles, StopsCleanly}
 use Rattle.rx_command.specs.Ways.{extraction_of}
 use Rattle.rx_page.specs.Forms.{form_in, IsFormText, FormDenotes}
@@ -76,25 +76,25 @@ was_none (Some t) now file name bytes named m none =
 pub takes_context : (file name : List ℕ) → name ≡ encode_utf8_all file → (x y : ShelfContent) → TakesOf name (largest_context + 1) x y → TakesContext (Some file) x y
 takes_context file name named x y t =
     let size : size_of (file_of x.files name) ≡ size_of (file_of x.files (encode_utf8_all file)) = ap (λ n. size_of (file_of x.files n)) named in
-    record { files = t.files; size = omega (arith, t.file, size); most = t.most }
+    record { files = t.files; size = omega (arith, t.file, size); most = t.most; starts = t.starts }
 
 pub was_context : (told now : Option ShelfContent) (file name bytes : List ℕ) (context : Context) → name ≡ encode_utf8_all file → WhereKnown (ReadsFile name largest_context bytes) told now
-    → length bytes ≤ largest_context → context_of bytes ≡ Some context → WhereTold (λ t. IsFileOf file t context) told
-was_context None now file name bytes context named m small e = tt
-was_context (Some t) now file name bytes context named m small e =
-    let r = moves_at t m refl in
-    record { bytes = bytes; file = ap (file_of t.files) (sym named) ∙ ((r.1).read.file ∙ ap Some (ap (λ l. bytes ++ l) ((r.1).whole small) ∙ append-nil bytes)); small = small; reads = e }
-
-reads_context : (told now : Option ShelfContent) (file : List ℕ) (context : Context) → WhereTold (λ t. IsFileOf file t context) told → WhereKnown (TakesContext (Some file)) told now → WhereKnown (ReadsContext (Some file) context) told now
-reads_context told now file context w m = record {
+    → WhereKnown (TakesContext (Some file)) told now → length bytes ≤ largest_context → context_of bytes ≡ Some context → WhereKnown (ReadsContext (Some file) context) told now
+was_context told now file name bytes context named m t small e = record {
   same = m.same;
-  taken = λ x y p q. record { is = subst (WhereTold (λ t. IsFileOf file t context)) p w; takes = m.taken x y p q };
+  taken = λ x y p q.
+      let r = m.taken x y p q in
+      record {
+        is = record { bytes = bytes; file = ap (file_of x.files) (sym named) ∙ (r.read.file ∙ ap Some (ap (λ l. bytes ++ l) (r.whole small) ∙ append-nil bytes)); small = small; reads = e };
+        takes = t.taken x y p q;
+        starts = r.read.starts;
+      };
 }
 
-pub if_context : {E : Type 0} (r : Result Context E) (told now : Option ShelfContent) (lent : Option (List ℕ)) (file : List ℕ) → lent ≡ Some file → IfOk r (λ context. WhereTold (λ t. IsFileOf file t context) told) → WhereKnown (TakesContext (Some file)) told now
+pub if_context : {E : Type 0} (r : Result Context E) (told now : Option ShelfContent) (lent : Option (List ℕ)) (file : List ℕ) → lent ≡ Some file → IfOk r (λ context. WhereKnown (ReadsContext (Some file) context) told now)
     → IfOk r (λ context. WhereKnown (ReadsContext lent context) told now)
-if_context (Ok context) told now lent file e w m = subst (λ f. WhereKnown (ReadsContext f context) told now) (sym e) (reads_context told now file context w m)
-if_context (Err error) told now lent file e w m = tt
+if_context (Ok context) told now lent file e m = subst (λ f. WhereKnown (ReadsContext f context) told now) (sym e) m
+if_context (Err error) told now lent file e m = tt
 
 -- one context holds
 pub one_context : (file : Option (List ℕ)) (shelf : ShelfContent) (a b : Context) → IsContext file shelf a → IsContext file shelf b → a ≡ b
@@ -129,23 +129,25 @@ reads_later (checks syntax) fault a b now l r = omega (arith, l, r)
 pub takes_before : (asked : Asked) (file : Option (List ℕ)) → file ≡ asked.context → (x y : ShelfContent) → TakesContext file x y → TakesFiles (Some asked) x y
 takes_before asked file e x y t =
     let m : TakesContext asked.context x y = subst (λ f. TakesContext f x y) e t in
-    record { files = m.files; size = omega (arith, m.size); most = omega (arith, m.most) }
+    record { files = m.files; size = omega (arith, m.size); most = omega (arith, m.most); starts = omega (arith, m.starts) }
 
 pub takes_both : (asked : Asked) (file : Option (List ℕ)) → file ≡ asked.context → (x y z : ShelfContent) → TakesContext file x y → TakesOf (encode_utf8_all asked.page) page_limit y z → TakesFiles (Some asked) x z
 takes_both asked file e x y z t p =
     let m : TakesContext asked.context x y = subst (λ f. TakesContext f x y) e t in
     let size : size_of (file_of y.files (encode_utf8_all asked.page)) ≡ size_of (file_of x.files (encode_utf8_all asked.page)) = ap (λ f. size_of (file_of f (encode_utf8_all asked.page))) m.files in
-    record { files = p.files ∙ m.files; size = omega (arith, m.size, p.file, size); most = omega (arith, m.most, p.most) }
+    record { files = p.files ∙ m.files; size = omega (arith, m.size, p.file, size); most = omega (arith, m.most, p.most); starts = omega (arith, m.starts, p.starts) }
 
 there_before : (asked : Asked) (file : Option (List ℕ)) (context : Context) (bytes : List ℕ) (x y : ShelfContent) → ReadsContext file context x y → file_of y.files (encode_utf8_all asked.page) ≡ Some bytes → file_of x.files (encode_utf8_all asked.page) ≡ Some bytes
 there_before asked file context bytes x y c h = sym (ap (λ f. file_of f (encode_utf8_all asked.page)) c.takes.files) ∙ h
 
 pub job_text : (asked : Asked) (file : Option (List ℕ)) (context : Context) (outcome : Outcome) → file ≡ asked.context → (x y z : ShelfContent) → ReadsContext file context x y → PageText asked.task context (encode_utf8_all asked.page) outcome y z → JobText asked outcome x z
 job_text asked file context outcome e x y z c p =
+    let before : y.starts ≡ x.starts + context_count asked.context = subst (λ f. y.starts ≡ x.starts + context_count f) e c.starts in
     record {
       context = context;
       holds = subst (λ f. IsContext f x context) e c.is;
-      page = record { bytes = p.bytes; file = there_before asked file context p.bytes x y c p.file; gives = p.gives; graph = p.graph; left = p.left };
+      page = record { bytes = p.page.bytes; file = there_before asked file context p.page.bytes x y c p.page.file; gives = p.page.gives; graph = p.page.graph; left = p.page.left };
+      starts = omega (arith, before, p.starts);
     }
 
 pub job_refused : (asked : Asked) (file : Option (List ℕ)) (context : Context) (fault : Fault) → file ≡ asked.context → (x y z : ShelfContent) → ReadsContext file context x y → PageRefused asked.task context (encode_utf8_all asked.page) fault y z → JobRefused asked fault x z
@@ -165,14 +167,14 @@ job_refused asked file context fault e x y z c p =
 pub page_right : (syntax : Syntax) (context : Context) (name named : List ℕ) (done : Unit {0}) → named ≡ name → (x y : ShelfContent) → ReadsWhole (GivesRight syntax context) named done x y → PageText (checks syntax) context name found.Right x y
 page_right syntax context name named done e x y c =
     let right : IsRight syntax context c.bytes ok_line = record { tree = c.gives.tree; is = record { page = c.gives.page; accepted = c.gives.accepted }; spelled = refl } in
-    record { bytes = c.bytes; file = sym (ap (λ n. file_of x.files n) e) ∙ c.file; gives = right; graph = λ read. right; left = c.left }
+    record { page = record { bytes = c.bytes; file = sym (ap (λ n. file_of x.files n) e) ∙ c.file; gives = right; graph = λ read. right; left = c.left }; starts = c.starts }
 
 pub page_text : (e : Extraction) (context : Context) (name named : List ℕ) (form : Form) (outcome : Outcome) (list : List CodeTriple) → named ≡ name → form ≡ form_in e.format e.graph context
-    → IsFormText form (numbered nat_eq (copied nat_eq (triples_seen list))) (text_of outcome) → (Denoted outcome → FormDenotes form (text_of outcome) (numbered nat_eq (copied nat_eq (triples_seen list))))
+    → IsFormText form (numbered nat_eq (copied nat_eq (triples_seen list))) (text_of outcome) → (Denoted outcome → FormDenotes form (text_of outcome) (as_read (numbered nat_eq (copied nat_eq (triples_seen list)))))
     → (x y : ShelfContent) → ReadsWhole (GivesList e.syntax context e.address) named list x y → PageText (extracts e) context name outcome x y
 page_text e context name named form outcome list n f spelled denotes x y c =
     let made = text_made e context form outcome list c.bytes f spelled denotes c.gives in
-    record { bytes = c.bytes; file = sym (ap (λ n. file_of x.files n) n) ∙ c.file; gives = made.0; graph = made.1; left = c.left }
+    record { page = record { bytes = c.bytes; file = sym (ap (λ n. file_of x.files n) n) ∙ c.file; gives = made.0; graph = made.1; left = c.left }; starts = c.starts }
 
 -- of a job that is known to be an extraction, or a check
 pub for_extraction : (holds : Task → Context → List ℕ → Type 0) (asked : Asked) (approach : Approach) (f : Format) (graph : Option (Bor Chars)) (e : Extraction) (file : Option Chars) (page : Chars)
@@ -206,7 +208,7 @@ for_itemization holds asked i page context is h = subst (λ (k : Asked). holds k
 
 -- where no context file is named the standard context holds, and nothing is read
 standard_holds : (x : ShelfContent) → ReadsContext None standard x x
-standard_holds x = record { is = refl; takes = record { files = refl; size = omega arith; most = omega arith } }
+standard_holds x = record { is = refl; takes = record { files = refl; size = omega arith; most = omega arith; starts = omega arith }; starts = omega arith }
 
 pub standard_stays : (told : Option ShelfContent) → WhereKnown (ReadsContext None standard) told told
 standard_stays None = record { same = refl; taken = λ x y p q. absurd (cc) }
@@ -246,7 +248,7 @@ page_failed told mid asked file context name a b c e named m low (inr lacks) = i
 pub context_stops : (asked : Asked) (file : Option (List ℕ)) → file ≡ asked.context → (x y : ShelfContent) → TakesContext file x y → StopsCleanly (Some asked) x y
 context_stops asked file e x y t context holds bytes f =
     let m : TakesContext asked.context x y = subst (λ f. TakesContext f x y) e t in
-    let c = unread_clean (way_in asked.task context) (refuses_so asked.task context) (encode_utf8_all asked.page) (record { files = x.files; left = x.left; taken = x.taken + context_size asked.context x }) y m.size bytes f in
+    let c = unread_clean (way_in asked.task context) (refuses_so asked.task context) (encode_utf8_all asked.page) (record { files = x.files; left = x.left; taken = x.taken + context_size asked.context x; starts = x.starts }) y m.size bytes f in
     record { bytes = c.bytes; rest = c.rest; are = c.are; taken = c.taken; clean = c.clean }
 
 -- the page

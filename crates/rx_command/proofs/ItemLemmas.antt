@@ -24,7 +24,7 @@ pub page_items : (i : Itemization) (context : Context) (name named : List ℕ) (
     → (x y : ShelfContent) → ReadsWhole (GivesItems i.syntax i.address) named kept x y → PageText (itemizes i) context name outcome_is x y
 page_items i context name named kept outcome_is n json x y c =
     let has : HasItems i c.bytes (text_of outcome_is) = record { tree = c.gives.tree; page = c.gives.page; json = json i.address c.gives.tree c.gives.holds } in
-    record { bytes = c.bytes; file = sym (ap (λ n. file_of x.files n) n) ∙ c.file; gives = has; graph = λ read. has; left = c.left }
+    record { page = record { bytes = c.bytes; file = sym (ap (λ n. file_of x.files n) n) ∙ c.file; gives = has; graph = λ read. has; left = c.left }; starts = c.starts }
 
 pub page_item_fault : (i : Itemization) (context : Context) (name named : List ℕ) (kept : Kept) (fault : Fault) → named ≡ name → ((address : Chars) (tree : Tree) → AreItems address tree kept → outcome standard_bounds address tree ≡ Refused fault)
     → (x y : ShelfContent) → ReadsWhole (GivesItems i.syntax i.address) named kept x y → PageRefused (itemizes i) context name fault x y

@@ -1,7 +1,6 @@
 pub mod FileLemmas
 pub mod InputLemmas
 pub mod RunLemmas
-pub mod HeadlineLemmas
 pub mod ReadLemmas
 pub mod GatheringLemmas
 pub mod SeveralLemmas

@@ -1,6 +1,5 @@
 -- There is one answer to what is asked for.
-use Rattle.std.proofs.Common.{◌≡◌, ◌∙◌, ℕ, ◌⊎◌, inl, inr, List, [], ◌∷◌, refl, sym, ap, ap₂, subst, Option, Some, None, encode_utf8_all}
-use Rattle.rx_ports.specs.Files.{file_of}
+use Rattle.std.proofs.Common.{◌≡◌, ◌∙◌, ℕ, inl, inr, List, [], ◌∷◌, refl, sym, ap, ap₂, subst, Option, Some, None, encode_utf8_all}
 use Rattle.rx_ports.specs.Shelves.{ShelfContent}
 use Rattle.rx_terms.specs.Text.{Chars}
 use Rattle.rx_chars.specs.declared.syntax.Syntax.{Syntax}
@@ -15,9 +14,10 @@ use Rattle.rx_grammar.specs.Trees.{Tree}
 use Rattle.rx_job.specs.Words.{Job, Asked, Gathering, Listed, reads, gathers, samples}
 use Rattle.rx_page.specs.Settings.{standard, rdfa_way}
 use Rattle.rx_rdfa.specs.Whole.{written}
-use Rattle.rx_page.specs.Tasks.{base_in, facts_in}
+use Rattle.rx_page.specs.Tasks.{base_in, facts_in, TaskGives}
 use Rattle.rx_page.specs.Outcomes.{IsTheFault, IsTheText}
 use Rattle.rx_page.proofs.FaultLemmas.{one_first, page_has_none}
+use Rattle.rx_page.proofs.TextLemmas.{tree_of_text}
 use Rattle.rx_command.specs.Contexts.{HasOther}
 use Rattle.rx_command.specs.Outcome.{IsLacking, LacksOne}
 use Rattle.rx_command.specs.Gathering.{FileList, GivesTriples, IsJudged, Judges, JudgesEach, IsGathered}
@@ -57,6 +57,17 @@ module _ (syntax : Syntax) (context : Context) (files : FileList) where
   one_list (l ∷ more) (p ∷ ps) [] h k = absurd k
   one_list (l ∷ more) (p ∷ ps) (q ∷ qs) h k = ap₂ (λ x y. x ∷ y) (one_page l p q h.0 k.0) (one_list more ps qs h.1 k.1)
 
+-- ---- what a page has
+
+abbrev pub HasText : Asked → List ℕ → Context → List ℕ → Type 0
+HasText asked text context bytes = TaskGives asked.task context bytes text
+
+abbrev HasOnly : Asked → List ℕ → Context → List ℕ → Type 0
+HasOnly asked text context bytes = IsTheText asked.task context bytes text
+
+abbrev pub HasFault : Asked → Fault → Context → List ℕ → Type 0
+HasFault asked fault context bytes = IsTheFault asked.task context bytes fault
+
 module _ (shelf : ShelfContent) where
   no_other_lacks : (asked : Asked) → HasOther asked.context shelf → IsLacking asked shelf → ⊥
   no_other_lacks asked o (inl l) = other_context asked.context shelf l o
@@ -86,14 +97,15 @@ module _ (shelf : ShelfContent) where
   pub page_other : (asked : Asked) (Holds : Context → List ℕ → Type 0) → OfPage asked shelf Holds → HasOther asked.context shelf → ⊥
   page_other asked Holds a o = not_other asked.context shelf (has_context asked.context shelf a.context a.is_context) o
 
-  abbrev HasOnly : Asked → List ℕ → Context → List ℕ → Type 0
-  HasOnly asked text context bytes = IsTheText asked.task context bytes text
-
-  abbrev HasFault : Asked → Fault → Context → List ℕ → Type 0
-  HasFault asked fault context bytes = IsTheFault asked.task context bytes fault
+  -- a text that the task makes of the page isn't there beside a fault
+  pub text_or_fault : (asked : Asked) (text : List ℕ) (fault : Fault) → OfPage asked shelf (HasText asked text) → OfPage asked shelf (HasFault asked fault) → ⊥
+  text_or_fault asked text fault a b =
+      let h = at_same asked (HasText asked text) (HasFault asked fault) a b in
+      let t = tree_of_text asked.task a.context a.bytes text a.holds_so in
+      h.treeless t.0 (t.1).accepted
 
   no_both : (asked : Asked) (text : List ℕ) (fault : Fault) → OfPage asked shelf (HasOnly asked text) → OfPage asked shelf (HasFault asked fault) → ⊥
-  no_both asked text fault a b = let h = at_same asked (HasOnly asked text) (HasFault asked fault) a b in h.treeless (a.holds_so).tree (a.holds_so).is.accepted
+  no_both asked text fault a b = text_or_fault asked text fault (record { context = a.context; bytes = a.bytes; is_context = a.is_context; file = a.file; holds_so = (a.holds_so).gives }) b
 
   once_text : (asked : Asked) (text other : List ℕ) → OfPage asked shelf (HasOnly asked text) → OfPage asked shelf (HasOnly asked other) → text ≡ other
   once_text asked text other a b = let h = at_same asked (HasOnly asked text) (HasOnly asked other) a b in sym ((a.holds_so).alone other h.gives)

@@ -45,6 +45,7 @@ read_adds buf k x y r room within =
       left = r.left;
       taken = omega (arith, r.taken, length-take k buf);
       at_end = λ none. r.at_end (omega (arith, ap length none, length-take k buf)) room;
+      starts = r.starts;
     }
 
 some_file : (a b : List ℕ) → ◌≡◌ {A = Option (List ℕ)} (Some a) (Some b) → a ≡ b
@@ -56,6 +57,7 @@ has_more name bytes more x y z h a =
       files = a.files ∙ h.files;
       file = h.file ∙ ap Some (ap (λ l. bytes ++ l) a.left ∙ sym (append_assoc bytes more z.left));
       taken = omega (arith, h.taken, a.taken, length-append bytes more);
+      starts = a.starts ∙ h.starts;
     }
 
 -- nothing was read of the file
@@ -66,7 +68,7 @@ unread_first way name x y t file f fault first = omega (arith, t)
 found : (way : Way) (name bytes more : List ℕ) (fault : Fault) (x y z : ShelfContent) → HasRead name bytes x y → Adds more y z → length more ≤ largest_piece → Decides way bytes more fault → Finds way name fault x z
 found way name bytes more fault x y z h a small f =
     let r = has_more name bytes more x y z h a in
-    record { bytes = (bytes ++ more) ++ z.left; file = r.file; is = f.stays z.left; read = omega (arith, r.taken, length-append bytes more, f.from) }
+    record { bytes = (bytes ++ more) ++ z.left; file = r.file; is = f.stays z.left; read = omega (arith, r.taken, length-append bytes more, f.from); starts = r.starts }
 
 -- ---- bytes that were read without a fault
 
@@ -139,19 +141,19 @@ file_fed way stands name v w n k before now later s g none =
       at = g.2;
       read =
           moves_then (IsFile name (s.bytes ++ g.0))
-          (λ x y z h a. record { file = ended_file name s.bytes g.0 x y z h a (nothing_more g.0 (g.1 ∙ none)); left = at_end g.0 y z a (nothing_more g.0 (g.1 ∙ none)); taken = (has_more name s.bytes g.0 x y z h a).taken }) s.read g.3;
+          (λ x y z h a. record { file = ended_file name s.bytes g.0 x y z h a (nothing_more g.0 (g.1 ∙ none)); left = at_end g.0 y z a (nothing_more g.0 (g.1 ∙ none)); taken = (has_more name s.bytes g.0 x y z h a).taken; starts = (has_more name s.bytes g.0 x y z h a).starts }) s.read g.3;
     }
 
 -- the page
 fails_at_end : {R : Type 0} (way : Way) (stands : R → List ℕ → Type 0) (name : List ℕ) (v : R) (before now : Option ShelfContent) (f : Fed stands name v before now) (e : InputError)
     → EndFails way f.bytes e → PageFails way name e before now
 fails_at_end way stands name v before now f (error.Refused fault) e =
-    moves_weaker (Finds way name fault) (λ x y i. record { bytes = f.bytes; file = i.file; is = e.0; read = omega (arith, i.taken, e.1) }) f.read
+    moves_weaker (Finds way name fault) (λ x y i. record { bytes = f.bytes; file = i.file; is = e.0; read = omega (arith, i.taken, e.1); starts = i.starts }) f.read
 fails_at_end way stands name v before now f error.Failed e = absurd e
 fails_at_end way stands name v before now f error.BadContext e = absurd e
 fails_at_end way stands name v before now f error.NoMemory e = tt
 
 pub fed_ends : {R A : Type 0} (way : Way) (stands : R → List ℕ → Type 0) (holds : List ℕ → A → Type 0) (name : List ℕ) (v : R) (before now : Option ShelfContent) (f : Fed stands name v before now) (result : Result A InputError)
     → EndGives way holds f.bytes result → PageGives way holds name result before now
-fed_ends way stands holds name v before now f (Ok given) e = moves_weaker (ReadsWhole holds name given) (λ x y i. record { bytes = f.bytes; file = i.file; left = i.left; gives = e }) f.read
+fed_ends way stands holds name v before now f (Ok given) e = moves_weaker (ReadsWhole holds name given) (λ x y i. record { bytes = f.bytes; file = i.file; left = i.left; starts = i.starts; gives = e }) f.read
 fed_ends way stands holds name v before now f (Err why) e = fails_at_end way stands name v before now f why e

@@ -10,15 +10,14 @@ use Rattle.rx_chars.specs.declared.syntax.Syntax.{Syntax}
 use Rattle.rx_many.specs.Pages.{Page}
 use Rattle.rx_many.specs.Writing.{gathered}
 use Rattle.rx_many.specs.Dataset.{DenotesPages}
-use Rattle.rx_job.specs.Words.{Gathering, Listed, gathers, samples, job, page_in, page_asked, gathering_in, gathering_asked}
+use Rattle.rx_job.specs.Words.{Gathering, Listed, gathers, samples, job, page_in, page_asked}
 use Rattle.rx_command.specs.Contexts.{HasContext, HasOther, LacksContext, TakesContext, context_in, context_asked}
-use Rattle.rx_command.specs.Outcome.{HasPageFault, LacksPage, LacksOne, JobLacks, LacksFile, HasBadContext}
-use Rattle.rx_command.specs.Gathering.{FileList, GivesTriples, JudgesEach, IsGathered, DenotesGathered, GatheredText, HasPages, HasAll, TakesGathering, GathersPages}
-use Rattle.rx_command.specs.Samples.{Yields, YieldsBoth}
+use Rattle.rx_command.specs.Outcome.{LacksPage, LacksOne, JobLacks, LacksFile}
+use Rattle.rx_command.specs.Gathering.{FileList, GivesTriples, JudgesEach, IsGathered, DenotesGathered, HasPages, TakesGathering, GathersPages}
 use Rattle.rx_command.specs.Inputs.{TellsThat, WhereTold}
 use Rattle.rx_command.specs.declared.statuses.Status.{Status}
 use Rattle.rx_command.specs.declared.statuses.Status.TheVariants as status
-use Rattle.rx_command.specs.Runs.{Devices, EndsAs, SaysAs, GatheringEnds, ReadCause, TakesJob, StopsCleanly, IsAtEnd, Says, SaysNothing, reads_files, context_line}
+use Rattle.rx_command.specs.Runs.{Devices, EndsAs, SaysAs, GatheringEnds, ReadCause, TakesJob, StopsCleanly, StartsEach, ReadsAll, Says, SaysNothing, reads_files, context_line}
 use Rattle.rx_command.proofs.InputLemmas.{has_context}
 use Rattle.rx_command.proofs.GatheringLemmas.{judged_graphs}
 use Rattle.rx_command.proofs.RunLemmas.{there, not_other, not_missing, meets}
@@ -44,6 +43,7 @@ module _ (g : Gathering) (old new : Devices) where
       where_moved (IsGathered g text) old.told new.told (λ x y p. is_gathered g pages text e x y p) m,
       where_moved (DenotesGathered g text) old.told new.told (λ x y p. denotes_gathered g pages text d x y p) m,
       subst (λ z. WhereKnown (GrowsBy z) old.held new.held) same w,
+      moves_weaker (StartsEach g) (λ x y p. p.starts) m,
     );
     takes = t;
     says = s;
@@ -88,47 +88,7 @@ module _ (g : Gathering) (t : ShelfContent) where
   pub gathered_other : (text : List ℕ) → IsGathered g text t → HasOther g.context t → ⊥
   gathered_other text i o = not_other g.context t (has_context g.context t i.context i.holds) o
 
-  other_lacks : HasOther g.context t → LacksOne g t → ⊥
-  other_lacks o (inl l) = other_context g.context t l o
-  other_lacks o (inr l) = not_other g.context t l.0 o
-
-where_at : (holds : ShelfContent → Type 0) (told : Option ShelfContent) (t : ShelfContent) → told ≡ Some t → WhereTold holds told → holds t
-where_at holds told t e w = subst (WhereTold holds) e w
-
-tells_at : (holds : ShelfContent → Type 0) (told : Option ShelfContent) (t : ShelfContent) → told ≡ Some t → TellsThat holds told → holds t
-tells_at holds told t e w = subst (TellsThat holds) e w
-
 -- ---- what that says of each status
-
-module _ (g : Gathering) (old new : Devices) (t : ShelfContent) (tells : old.told ≡ Some t) where
-  when_lacking : (s : Status) → EndsAs g s old new → LacksOne g t → (s ≡ status.ReadFault) ⊎ (s ≡ status.Memory)
-  when_lacking status.Done e l = absurd (gathered_lacks g t e.0 (where_at (IsGathered g e.0) old.told t tells e.1) l)
-  when_lacking status.WriteFault e l = absurd (gathered_lacks g t e.0 (where_at (IsGathered g e.0) old.told t tells e.1) l)
-  when_lacking status.ReadFault e l = inl refl
-  when_lacking status.BadContext e l = absurd (other_lacks g t (where_at (HasOther g.context) old.told t tells e.1) l)
-  when_lacking status.Memory e l = inr refl
-  when_lacking (status.Refused fault) e l = absurd e
-  when_lacking status.Usage e l = absurd e
-
-  when_other : (s : Status) → EndsAs g s old new → HasOther g.context t → ¬ Rose old.read_faults new.read_faults → (s ≡ status.BadContext) ⊎ (s ≡ status.Memory)
-  when_other status.Done e o quiet = absurd (gathered_other g t e.0 (where_at (IsGathered g e.0) old.told t tells e.1) o)
-  when_other status.WriteFault e o quiet = absurd (gathered_other g t e.0 (where_at (IsGathered g e.0) old.told t tells e.1) o)
-  when_other status.ReadFault (inl rose, held) o quiet = absurd (quiet rose)
-  when_other status.ReadFault (inr lacks, held) o quiet = absurd (other_lacks g t o (tells_at (LacksOne g) old.told t tells lacks))
-  when_other status.BadContext e o quiet = inl refl
-  when_other status.Memory e o quiet = inr refl
-  when_other (status.Refused fault) e o quiet = absurd e
-  when_other status.Usage e o quiet = absurd e
-
-  when_there : (s : Status) → EndsAs g s old new → HasContext g.context t → HasPages t.files g.pages → ¬ Rose old.read_faults new.read_faults → ¬ Rose old.write_faults new.write_faults → (s ≡ status.Done) ⊎ (s ≡ status.Memory)
-  when_there status.Done e c p quiet calm = inl refl
-  when_there status.WriteFault e c p quiet calm = absurd (calm e.3)
-  when_there status.ReadFault (inl rose, held) c p quiet calm = absurd (quiet rose)
-  when_there status.ReadFault (inr lacks, held) c p quiet calm = absurd (not_lacks g t c p (tells_at (LacksOne g) old.told t tells lacks))
-  when_there status.BadContext e c p quiet calm = absurd (not_other g.context t c (where_at (HasOther g.context) old.told t tells e.1))
-  when_there status.Memory e c p quiet calm = inr refl
-  when_there (status.Refused fault) e c p quiet calm = absurd e
-  when_there status.Usage e c p quiet calm = absurd e
 
 ends_unwritten : (g : Gathering) (old new : Devices) (s : Status) → EndsAs g s old new → s ≢ status.Done → s ≢ status.WriteFault → WhereKnown Stays old.held new.held
 ends_unwritten g old new status.Done e d w = absurd (d refl)
@@ -151,9 +111,6 @@ ends_unsaid old new status.Usage e b = e
 -- ---- the run
 
 module _ (words : List (List ℕ)) (g : Gathering) (j : job words ≡ Some (gathers g)) (s : Status) (old new : Devices) (e : GatheringEnds g s old new) where
-  asks_several : gathering_asked words ≡ Some g
-  asks_several = ap gathering_in j
-
   no_page : page_asked words ≡ None
   no_page = ap page_in j
 
@@ -175,30 +132,9 @@ module _ (words : List (List ℕ)) (g : Gathering) (j : job words ≡ Some (gath
   pub never_sample : (count : ℕ) → job words ≡ Some (samples count) → ⊥
   never_sample count is = let both : Some (samples count) ≡ Some (gathers g) = sym is ∙ j in absurd (cc)
 
-  no_fault_of_page : (fault : Fault) → HasPageFault words old.told fault → ⊥
-  no_fault_of_page fault r = let both : None ≡ Some r.page.asked = sym no_page ∙ r.page.asks in absurd (cc)
-
-  pub several_faultless : (fault : Fault) → HasPageFault words old.told fault → ⊥
-  several_faultless fault r = no_fault_of_page fault r
-
-  pub several_done : s ≡ status.Done → (t : ShelfContent) → old.told ≡ Some t → (text : List ℕ) × YieldsBoth words old.told text × WhereKnown (GrowsBy text) old.held new.held
-  several_done is t tells =
-      let d = ends_at status.Done is in (
-        d.0,
-        (
-          inr (inr (record { gathering = g; shelf = t; asks = asks_several; tells = tells; is = where_at (IsGathered g d.0) old.told t tells d.1 })),
-          inr (inr (record { gathering = g; shelf = t; asks = asks_several; tells = tells; denotes = where_at (DenotesGathered g d.0) old.told t tells d.2 })),
-        ),
-        d.3,
-      )
-
-  pub several_partly : s ≡ status.WriteFault → (t : ShelfContent) → old.told ≡ Some t → (text : List ℕ) × Yields words old.told text × WhereKnown (GrowsByPart text) old.held new.held
-  several_partly is t tells =
-      let d = ends_at status.WriteFault is in
-      (d.0, inr (inr (record { gathering = g; shelf = t; asks = asks_several; tells = tells; is = where_at (IsGathered g d.0) old.told t tells d.1 })), d.2)
-
-  pub several_at_end : IsAtEnd (page_asked words) new.told
-  several_at_end = subst (λ k. IsAtEnd k new.told) (sym no_page) tt
+  pub several_reads_all : s ≡ status.Done → WhereKnown (ReadsAll (job words)) old.told new.told
+  several_reads_all is =
+      subst (λ k. WhereKnown (ReadsAll k) old.told new.told) (sym j) (moves_weaker (ReadsAll (Some (gathers g))) (λ x y e. record { starts = e; left = tt }) (ends_at status.Done is).4)
 
   pub several_cleanly : WhereKnown (StopsCleanly (page_asked words)) old.told new.told
   several_cleanly = subst (λ k. WhereKnown (StopsCleanly k) old.told new.told) (sym no_page) (moves_weaker (StopsCleanly None) (λ x y t. tt) e.takes)
@@ -210,9 +146,6 @@ module _ (words : List (List ℕ)) (g : Gathering) (j : job words ≡ Some (gath
   pub several_failed : s ≡ status.ReadFault → ReadCause words old.told old.read_faults new.read_faults
   several_failed is = let d = ends_at status.ReadFault is in record { asks = ap reads_files j; cause = cause_of d.0 }
 
-  pub several_lacking : LacksFile words old.told → (s ≡ status.ReadFault) ⊎ (s ≡ status.Memory)
-  several_lacking l = when_lacking g old new l.shelf l.tells s e.ends (subst (λ k. JobLacks k l.shelf) j l.holds)
-
   pub several_write_fault : s ≡ status.WriteFault → Rose old.write_faults new.write_faults
   several_write_fault is = (ends_at status.WriteFault is).3
 
@@ -221,14 +154,6 @@ module _ (words : List (List ℕ)) (g : Gathering) (j : job words ≡ Some (gath
 
   pub several_name_context : s ≡ status.BadContext → is_some (context_asked words) ≡ true
   several_name_context is = ap is_some its_context ∙ (ends_at status.BadContext is).0
-
-  pub several_bad_context : s ≡ status.BadContext → (t : ShelfContent) → old.told ≡ Some t → HasBadContext words old.told
-  several_bad_context is t tells =
-      let d = ends_at status.BadContext is in
-      record { shelf = t; tells = tells; holds = subst (λ k. HasOther k t) (sym its_context) (where_at (HasOther g.context) old.told t tells d.1) }
-
-  pub several_refuse_context : HasBadContext words old.told → ¬ Rose old.read_faults new.read_faults → (s ≡ status.BadContext) ⊎ (s ≡ status.Memory)
-  several_refuse_context b quiet = when_other g old new b.shelf b.tells s e.ends (subst (λ k. HasOther k b.shelf) its_context b.holds) quiet
 
   pub several_take_context : s ≡ status.BadContext → WhereKnown (TakesContext (context_asked words)) old.told new.told
   several_take_context is = subst (λ k. WhereKnown (TakesContext k) old.told new.told) (sym its_context) (ends_at status.BadContext is).2
@@ -241,26 +166,3 @@ module _ (words : List (List ℕ)) (g : Gathering) (j : job words ≡ Some (gath
 
   pub several_take : WhereKnown (TakesJob (job words)) old.told new.told
   several_take = subst (λ k. WhereKnown (TakesJob k) old.told new.told) (sym j) e.takes
-
-  same_gathering : (other : Gathering) → gathering_asked words ≡ Some other → other ≡ g
-  same_gathering other o = let both : Some other ≡ Some g = sym o ∙ asks_several in (cc)
-
-  pub several_complete_all : HasAll words old.told → ¬ Rose old.read_faults new.read_faults → ¬ Rose old.write_faults new.write_faults → (s ≡ status.Done) ⊎ (s ≡ status.Memory)
-  several_complete_all h quiet calm =
-      let same : h.gathering ≡ g = same_gathering h.gathering h.asks in
-      when_there g old new h.shelf h.tells s e.ends (subst (λ (k : Gathering). HasContext k.context h.shelf) same h.context) (subst (λ (k : Gathering). HasPages h.shelf.files k.pages) same h.pages) quiet calm
-
-  all_there : (text : List ℕ) → GatheredText words old.told text → HasAll words old.told
-  all_there text y = record {
-    gathering = y.gathering;
-    shelf = y.shelf;
-    asks = y.asks;
-    tells = y.tells;
-    context = has_context y.gathering.context y.shelf y.is.context y.is.holds;
-    pages = has_pages y.gathering.syntax y.is.context y.shelf.files y.gathering.pages y.is.pages y.is.judged;
-  }
-
-  pub several_complete : (text : List ℕ) → Yields words old.told text → ¬ Rose old.read_faults new.read_faults → ¬ Rose old.write_faults new.write_faults → (s ≡ status.Done) ⊎ (s ≡ status.Memory)
-  several_complete text (inl y) quiet calm = let both : None ≡ Some y.page.asked = sym no_page ∙ y.page.asks in absurd (cc)
-  several_complete text (inr (inl y)) quiet calm = absurd (never_sample y.count y.asks)
-  several_complete text (inr (inr y)) quiet calm = several_complete_all (all_there text y) quiet calm

@@ -62,13 +62,20 @@ abbrev pub context_limit : Option Chars → ℕ
 context_limit None = 0
 context_limit (Some name) = largest_context + 1
 
--- no more was taken than the context file has, nor more than its limit
+-- how many files that are: one, where a context file is named
+abbrev pub context_count : Option Chars → ℕ
+context_count None = 0
+context_count (Some name) = 1
+
+-- no more was taken than the context file has, nor more than its limit, and no other file was started, nor this one twice
 pub record TakesContext (file : Option Chars) (old new : ShelfContent) : Type 0 where
   pub files : new.files ≡ old.files
   pub size : new.taken ≤ old.taken + context_size file old
   pub most : new.taken ≤ old.taken + context_limit file
+  pub starts : new.starts ≤ old.starts + context_count file
 
--- the context file was read, where one is named, and this is the context that holds
+-- the context file was started once and read, where one is named, and this is the context that holds
 pub record ReadsContext (file : Option Chars) (context : Context) (old new : ShelfContent) : Type 0 where
   pub is : IsContext file old context
   pub takes : TakesContext file old new
+  pub starts : new.starts ≡ old.starts + context_count file

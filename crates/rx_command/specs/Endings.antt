@@ -13,7 +13,7 @@ use Rattle.rx_command.specs.Contexts.{IsContext, HasOther}
 use Rattle.rx_command.specs.Outcome.{IsLacking, LacksOne, LacksFile, HasBadContext, HasPageFault}
 use Rattle.rx_command.specs.Gathering.{IsGathered, DenotesGathered, HasAll}
 use Rattle.rx_command.specs.Samples.{IsSample, Yields, YieldsBoth}
-use Rattle.rx_command.specs.Runs.{Devices, EndsSo, IfTold, Writes, WhereRefused, Says, SaysNothing, usage_line, context_line, refused_line}
+use Rattle.rx_command.specs.Runs.{Devices, EndsSo, IfTold, Writes, WhereRefused, Says, usage_line, context_line, refused_line}
 use Rattle.rx_command.specs.declared.statuses.Status.{Status}
 use Rattle.rx_command.specs.declared.statuses.Status.TheVariants as status
 

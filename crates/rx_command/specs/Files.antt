@@ -5,11 +5,12 @@ use Rattle.rx_ports.specs.Files.{file_of}
 use Rattle.rx_command.specs.declared.files.ReadError.{ReadError}
 use Rattle.rx_command.specs.declared.files.ReadError.TheVariants as failure
 
--- these bytes of the file were read
+-- the file was started, and these bytes of it were read
 pub record HasRead (name bytes : List ℕ) (old new : ShelfContent) : Type 0 where
   pub files : new.files ≡ old.files
   pub file : file_of old.files name ≡ Some (bytes ++ new.left)
   pub taken : new.taken ≡ old.taken + length bytes
+  pub starts : new.starts ≡ old.starts + 1
 
 -- a read gave n bytes, which were added to those before; none only at the end
 pub record ReadsOn (before now : List ℕ) (n : ℕ) (old new : ShelfContent) : Type 0 where
@@ -18,12 +19,14 @@ pub record ReadsOn (before now : List ℕ) (n : ℕ) (old new : ShelfContent) : 
   pub taken : new.taken ≡ old.taken + n
   pub len : length now ≡ length before + n
   pub at_end : n ≡ 0 → old.left ≡ []
+  pub starts : new.starts ≡ old.starts
 
--- at most so many bytes of what was left were taken
+-- at most so many bytes of what was left were taken, and no file was started
 pub record TakesSome (room : ℕ) (old new : ShelfContent) : Type 0 where
   pub files : new.files ≡ old.files
   pub sum : length new.left + new.taken ≡ length old.left + old.taken
   pub most : new.taken ≤ old.taken + room
+  pub starts : new.starts ≡ old.starts
 
 -- the file was read to its end, or to one byte past the limit
 pub record ReadsFile (name : List ℕ) (limit : ℕ) (bytes : List ℕ) (old new : ShelfContent) : Type 0 where
@@ -36,11 +39,12 @@ abbrev pub size_of : Option (List ℕ) → ℕ
 size_of None = 0
 size_of (Some bytes) = length bytes
 
--- no more was taken than the file has, nor than this
+-- no more was taken than the file has, nor than this, and no more than one file was started
 pub record TakesOf (name : List ℕ) (limit : ℕ) (old new : ShelfContent) : Type 0 where
   pub files : new.files ≡ old.files
   pub file : new.taken ≤ old.taken + size_of (file_of old.files name)
   pub most : new.taken ≤ old.taken + limit
+  pub starts : new.starts ≤ old.starts + 1
 
 -- unless the shelf failed, its count of faults stayed
 abbrev pub SteadyFile : {A : Type 0} → Result A ReadError → ℕ → ℕ → Type 0

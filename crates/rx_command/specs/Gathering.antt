@@ -1,5 +1,5 @@
 -- Several pages in one dataset: what each is judged to be, and how much is read of it.
-use Rattle.std.specs.Prelude.{◌≡◌, ℕ, ◌+◌, ◌≤◌, List, [], ◌∷◌, ◌++◌, Option, Some, is_some, true, encode_utf8_all}
+use Rattle.std.specs.Prelude.{◌≡◌, ℕ, ◌+◌, ◌≤◌, List, [], ◌∷◌, ◌++◌, length, Option, Some, is_some, true, encode_utf8_all}
 use Rattle.std.specs.Str.{chars}
 use Rattle.rx_ports.specs.Files.{file_of}
 use Rattle.rx_ports.specs.Shelves.{ShelfContent, WhereKnown}
@@ -18,8 +18,9 @@ use Rattle.rx_job.specs.Words.{Gathering, Listed, gathering_asked}
 use Rattle.rx_command.specs.Reading.{largest_piece, page_limit}
 use Rattle.rx_page.specs.Settings.{rdfa_way, HasFirst}
 use Rattle.rx_command.specs.Files.{size_of}
-use Rattle.rx_command.specs.Contexts.{IsContext, HasContext, context_size, context_limit}
+use Rattle.rx_command.specs.Contexts.{IsContext, HasContext, context_size, context_limit, context_count}
 use Rattle.rx_page.specs.Tasks.{IsAccepted, base_in, facts_in}
+use Rattle.rx_page.specs.Texts.{as_read}
 
 -- files by their names
 abbrev pub FileList : Type 0
@@ -32,11 +33,13 @@ pub record GivesTriples (syntax : Syntax) (context : Context) (address : Chars) 
   pub is : IsAccepted syntax context bytes tree
   pub given : triples ≡ written (base_in address tree) (facts_in context tree)
 
--- .. and the triples are exactly the graph that RDFa's rules give its tree, blank nodes renamed one to one
+-- .. and the triples are exactly the graph that RDFa's rules give its tree, blank nodes renamed one to one. None of their literals
+-- is typed xsd:string, so that the quad of each has this triple and no other.
 pub record GivesGraph (syntax : Syntax) (context : Context) (address : Chars) (bytes : List ℕ) (triples : List (Triple ℕ)) : Type 0 where
   pub tree : Tree
   pub is : IsAccepted syntax context bytes tree
   pub renamed : Renamed (graph_of (base_in address tree) (facts_in context tree)) (set_of triples)
+  pub proper : as_read triples ≡ triples
 
 -- the bytes are refused with their first fault, or accepted with triples of which this holds
 abbrev pub IsJudged : (Syntax → Context → Chars → List ℕ → List (Triple ℕ) → Type 0)
@@ -127,25 +130,28 @@ abbrev pub total : List ℕ → ℕ
 total [] = 0
 total (part ∷ parts) = part + total parts
 
--- no more was taken than the context file has, nor than is read of it at most, and one part of each page
+-- no more was taken than the context file has, nor than is read of it at most, and one part of each page; and no more files were
+-- started than these
 pub record TakesGathering (gathering : Gathering) (old new : ShelfContent) : Type 0 where
   pub files : new.files ≡ old.files
   pub parts : List ℕ
   pub are : AreParts (IsContext gathering.context old) gathering.syntax old.files gathering.pages parts
   pub size : new.taken ≤ old.taken + (context_size gathering.context old + total parts)
   pub most : new.taken ≤ old.taken + (context_limit gathering.context + total parts)
+  pub starts : new.starts ≤ old.starts + (context_count gathering.context + length gathering.pages)
 
 -- ---- step by step
 
 abbrev pub IsThat : Context → Context → Type 0
 IsThat context other = context ≡ other
 
--- no more was taken than a part of the page
+-- no more was taken than a part of the page, and no more than one file was started
 pub record TakesPart (context : Context) (syntax : Syntax) (listed : Listed) (old new : ShelfContent) : Type 0 where
   pub files : new.files ≡ old.files
   pub part : ℕ
   pub is : IsPart (IsThat context) syntax old.files listed part
   pub taken : new.taken ≤ old.taken + part
+  pub starts : new.starts ≤ old.starts + 1
 
 -- of each page
 pub record TakesParts (context : Context) (syntax : Syntax) (listed : List Listed) (old new : ShelfContent) : Type 0 where
@@ -153,16 +159,19 @@ pub record TakesParts (context : Context) (syntax : Syntax) (listed : List Liste
   pub parts : List ℕ
   pub are : AreParts (IsThat context) syntax old.files listed parts
   pub taken : new.taken ≤ old.taken + total parts
+  pub starts : new.starts ≤ old.starts + length listed
 
--- the page was read and is judged so
+-- the page was started once and read, and is judged so
 pub record ReadsListed (context : Context) (syntax : Syntax) (listed : Listed) (page : Page) (old new : ShelfContent) : Type 0 where
   pub judged : Judges GivesTriples syntax context old.files listed page
   pub takes : TakesPart context syntax listed old new
+  pub starts : new.starts ≡ old.starts + 1
 
 -- all of them were
 pub record ReadsEach (context : Context) (syntax : Syntax) (listed : List Listed) (pages : List Page) (old new : ShelfContent) : Type 0 where
   pub judged : JudgesEach GivesTriples syntax context old.files listed pages
   pub takes : TakesParts context syntax listed old new
+  pub starts : new.starts ≡ old.starts + length listed
 
 -- this page was read, and added
 pub record AddsPage (context : Context) (syntax : Syntax) (listed : Listed) (before now : List Page) (old new : Option ShelfContent) : Type 0 where
@@ -176,8 +185,9 @@ pub record AddsPages (context : Context) (syntax : Syntax) (listed : List Listed
   pub adds : now ≡ before ++ pages
   pub reads : WhereKnown (ReadsEach context syntax listed pages) old new
 
--- the context file was read, where one is named, and then the pages, which are judged so
+-- the context file was read, where one is named, and then the pages, which are judged so; each file was started once
 pub record GathersPages (gathering : Gathering) (pages : List Page) (old new : ShelfContent) : Type 0 where
   pub context : Context
   pub holds : IsContext gathering.context old context
   pub judged : JudgesEach GivesTriples gathering.syntax context old.files gathering.pages pages
+  pub starts : new.starts ≡ old.starts + (context_count gathering.context + length gathering.pages)

@@ -6,19 +6,24 @@ use Rattle.rx_rdfa.specs.Names.{Context}
 use Rattle.rx_grammar.specs.declared.faults.Fault.{Fault}
 use Rattle.rx_job.specs.Words.{Asked, Task}
 use Rattle.rx_command.specs.Reading.{IsClean}
-use Rattle.rx_command.specs.Contexts.{IsContext, context_size}
+use Rattle.rx_command.specs.Contexts.{IsContext, context_size, context_count}
 use Rattle.rx_page.specs.Tasks.{TaskGives, TaskDenotes, TaskRefuses, way_in}
 use Rattle.rx_command.specs.Outcome.{ReadsTo}
 use Rattle.rx_page.specs.Written.{text_of, Denoted}
 use Rattle.rx_page.specs.declared.outcomes.Outcome.{Outcome}
 
 -- the page of this name is there, and what it gives has the text that the task makes of it; it was read to its end
-pub record PageText (task : Task) (context : Context) (name : List ℕ) (outcome : Outcome) (old new : ShelfContent) : Type 0 where
+pub record GivesPage (task : Task) (context : Context) (name : List ℕ) (outcome : Outcome) (old new : ShelfContent) : Type 0 where
   pub bytes : List ℕ
   pub file : file_of old.files name ≡ Some bytes
   pub gives : TaskGives task context bytes (text_of outcome)
   pub graph : Denoted outcome → TaskDenotes task context bytes (text_of outcome)
   pub left : new.left ≡ []
+
+-- .. and was started once
+pub record PageText (task : Task) (context : Context) (name : List ℕ) (outcome : Outcome) (old new : ShelfContent) : Type 0 where
+  pub page : GivesPage task context name outcome old new
+  pub starts : new.starts ≡ old.starts + 1
 
 -- it is there, and the task refuses it with this fault, past which no more than a piece was read
 pub record PageRefused (task : Task) (context : Context) (name : List ℕ) (fault : Fault) (old new : ShelfContent) : Type 0 where
@@ -27,11 +32,12 @@ pub record PageRefused (task : Task) (context : Context) (name : List ℕ) (faul
   pub refused : TaskRefuses task context bytes fault
   pub reads : ReadsTo task fault old.taken new.taken
 
--- a context holds, and under it the page gives this
+-- a context holds, and under it the page gives this; the context file, where one is named, was started once, and so was the page
 pub record JobText (asked : Asked) (outcome : Outcome) (old new : ShelfContent) : Type 0 where
   pub context : Context
   pub holds : IsContext asked.context old context
-  pub page : PageText asked.task context (encode_utf8_all asked.page) outcome old new
+  pub page : GivesPage asked.task context (encode_utf8_all asked.page) outcome old new
+  pub starts : new.starts ≡ old.starts + (context_count asked.context + 1)
 
 -- or this fault
 pub record JobRefused (asked : Asked) (fault : Fault) (old new : ShelfContent) : Type 0 where

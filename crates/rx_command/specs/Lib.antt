@@ -8,6 +8,5 @@ pub mod Gathering
 pub mod Inputs
 pub mod Calls
 pub mod Runs
-pub mod Headline
 pub mod Samples
 pub mod Feeding

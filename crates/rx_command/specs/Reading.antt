@@ -28,6 +28,7 @@ pub record Adds (more : List ℕ) (old new : ShelfContent) : Type 0 where
   pub left : old.left ≡ more ++ new.left
   pub taken : new.taken ≡ old.taken + length more
   pub at_end : more ≡ [] → old.left ≡ []
+  pub starts : new.starts ≡ old.starts
 
 -- nothing was read
 pub record AddsNone (old new : ShelfContent) : Type 0 where
@@ -68,19 +69,21 @@ ReadsNext way stands old room result new before now =
 abbrev pub Ends : {S R A : Type 0} → (S → Way) → (S → R → List ℕ → Type 0) → (S → List ℕ → A → Type 0) → R → Result A InputError → Type 0
 Ends way stands gives reader result = (setting : _) (bytes : List ℕ) → stands setting reader bytes → EndGives (way setting) (gives setting) bytes result
 
--- The file was read to its end, and this holds of its bytes and of what they give.
+-- The file was started once and read to its end, and this holds of its bytes and of what they give.
 pub record ReadsWhole {A : Type 0} (holds : List ℕ → A → Type 0) (name : List ℕ) (given : A) (old new : ShelfContent) : Type 0 where
   pub bytes : List ℕ
   pub file : file_of old.files name ≡ Some bytes
   pub left : new.left ≡ []
+  pub starts : new.starts ≡ old.starts + 1
   pub gives : holds bytes given
 
--- The file has this fault, and was read no further than a piece past it.
+-- The file has this fault, and was started once and read no further than a piece past it.
 pub record Finds (way : Way) (name : List ℕ) (fault : Fault) (old new : ShelfContent) : Type 0 where
   pub bytes : List ℕ
   pub file : file_of old.files name ≡ Some bytes
   pub is : HasFirst way bytes fault
   pub read : new.taken ≤ old.taken + (fault.at + largest_piece)
+  pub starts : new.starts ≡ old.starts + 1
 
 -- The bytes that were read of the file hold no fault but that they end.
 pub record IsClean (way : Way) (file : List ℕ) (before now : ℕ) : Type 0 where
@@ -99,11 +102,12 @@ TakesToFirst way name old new =
     (file : List ℕ) → file_of old.files name ≡ Some file → (fault : Fault) → HasFirst way file fault
     → new.taken ≤ old.taken + (fault.at + largest_piece)
 
--- these bytes are the file's, which was read to its end
+-- these bytes are the file's, which was started once and read to its end
 pub record IsFile (name bytes : List ℕ) (old new : ShelfContent) : Type 0 where
   pub file : file_of old.files name ≡ Some bytes
   pub left : new.left ≡ []
   pub taken : new.taken ≡ old.taken + length bytes
+  pub starts : new.starts ≡ old.starts + 1
 
 -- the reader, which was made with this, is before the first byte of a page, which may be as large as any
 pub record Starts {S R : Type 0} (way : S → Way) (stands : S → R → List ℕ → Type 0) (reader : R) : Type 0 where

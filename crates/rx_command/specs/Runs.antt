@@ -1,14 +1,14 @@
 -- How a run ends.
-use Rattle.std.specs.Prelude.{◌≡◌, ◌⊎◌, ℕ, ◌+◌, ◌≤◌, Bool, true, false, List, [], ◌++◌, Option, Some, None, is_some, encode_utf8_all, codes}
+use Rattle.std.specs.Prelude.{◌≡◌, ◌⊎◌, ℕ, ◌+◌, ◌≤◌, Bool, true, false, List, [], ◌++◌, length, Option, Some, None, is_some, encode_utf8_all, codes}
 use Rattle.std.specs.Fmt.{decimal}
 use Rattle.rx_ports.specs.Counts.{Rose}
 use Rattle.rx_ports.specs.Files.{file_of}
 use Rattle.rx_ports.specs.Shelves.{ShelfContent, WhereKnown, GrowsBy, GrowsByPart, Stays}
 use Rattle.rx_terms.specs.Text.{Chars}
-use Rattle.rx_job.specs.Words.{Job, Asked, Gathering, reads, gathers, samples, job}
+use Rattle.rx_job.specs.Words.{Job, Asked, Gathering, reads, gathers, samples, job, page_in}
 use Rattle.rx_grammar.specs.Kinds.{kind_name}
 use Rattle.rx_command.specs.Files.{size_of}
-use Rattle.rx_command.specs.Contexts.{HasOther, TakesContext, context_size, context_limit}
+use Rattle.rx_command.specs.Contexts.{HasOther, TakesContext, context_size, context_limit, context_count}
 use Rattle.rx_command.specs.Outcome.{LacksFile, LacksOne, ReadsTo}
 use Rattle.rx_command.specs.Gathering.{IsGathered, DenotesGathered, TakesGathering}
 use Rattle.rx_command.specs.Inputs.{StopsClean, TellsThat, WhereTold}
@@ -69,12 +69,18 @@ abbrev pub named_limit : Option Asked → ℕ
 named_limit None = 0
 named_limit (Some asked) = context_limit asked.context + page_limit
 
+-- how many files are named
+abbrev pub named_count : Option Asked → ℕ
+named_count None = 0
+named_count (Some asked) = context_count asked.context + 1
+
 -- no more was taken than the files have that are named, nor more than the limit of the page and, where a context file
--- is named, one byte past the largest of these
+-- is named, one byte past the largest of these; and no more files were started than are named
 pub record TakesFiles (asked : Option Asked) (old new : ShelfContent) : Type 0 where
   pub files : new.files ≡ old.files
   pub size : new.taken ≤ old.taken + named_size asked old
   pub most : new.taken ≤ old.taken + named_limit asked
+  pub starts : new.starts ≤ old.starts + named_count asked
 
 -- how much is taken for what is asked for
 abbrev pub TakesJob : Option Job → ShelfContent → ShelfContent → Type 0
@@ -83,11 +89,22 @@ TakesJob (Some (reads asked)) old new = TakesFiles (Some asked) old new
 TakesJob (Some (gathers gathering)) old new = TakesGathering gathering old new
 TakesJob (Some (samples count)) old new = TakesFiles None old new
 
--- the page that is asked for was read to its end
-abbrev pub IsAtEnd : Option Asked → Option ShelfContent → Type 0
-IsAtEnd None told = Unit {0}
-IsAtEnd (Some asked) None = Unit {0}
-IsAtEnd (Some asked) (Some told) = told.left ≡ []
+-- how many files what is asked for names: the context file, where one is named, and the page, or each of the listed pages
+abbrev pub files_named : Option Job → ℕ
+files_named None = 0
+files_named (Some (reads asked)) = context_count asked.context + 1
+files_named (Some (gathers gathering)) = context_count gathering.context + length gathering.pages
+files_named (Some (samples count)) = 0
+
+-- the page that alone is asked for was read to its end
+abbrev pub IsAtEnd : Option Asked → ShelfContent → Type 0
+IsAtEnd None shelf = Unit {0}
+IsAtEnd (Some asked) shelf = shelf.left ≡ []
+
+-- so many files were started as are named, and the page that alone is asked for was read to its end
+pub record ReadsAll (asked : Option Job) (old new : ShelfContent) : Type 0 where
+  pub starts : new.starts ≡ old.starts + files_named asked
+  pub left : IsAtEnd (page_in asked) new
 
 abbrev pub usage_line : List ℕ
 usage_line = codes "usage: rdfax extract|items|check|sample\n"
@@ -131,12 +148,16 @@ pub record Devices : Type 0 where
   pub said : Option (List ℕ)
   pub say_faults : ℕ
 
+-- so many files were started as are named
+abbrev pub StartsEach : Gathering → ShelfContent → ShelfContent → Type 0
+StartsEach gathering old new = new.starts ≡ old.starts + (context_count gathering.context + length gathering.pages)
+
 -- how a job of several pages ends: their document was written, or a front of it, where out failed; or nothing was, since the
 -- shelf failed or lacks a file, the context file is no context, or there was no memory
 abbrev pub EndsAs : Gathering → Status → Devices → Devices → Type 0
 EndsAs gathering status.Done old new =
     (text : List ℕ) × WhereTold (IsGathered gathering text) old.told × WhereTold (DenotesGathered gathering text) old.told
-    × WhereKnown (GrowsBy text) old.held new.held
+    × WhereKnown (GrowsBy text) old.held new.held × WhereKnown (StartsEach gathering) old.told new.told
 EndsAs gathering status.WriteFault old new =
     (text : List ℕ) × WhereTold (IsGathered gathering text) old.told × WhereKnown (GrowsByPart text) old.held new.held × Rose old.write_faults new.write_faults
 EndsAs gathering status.ReadFault old new = (Rose old.read_faults new.read_faults ⊎ TellsThat (LacksOne gathering) old.told) × WhereKnown Stays old.held new.held

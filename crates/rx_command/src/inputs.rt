@@ -8,7 +8,7 @@ ghost use Rattle.rx_command.specs.Reading.{page_limit};
 ghost use Rattle.rx_rdfa.specs.Names.{Context as RulesContext};
 ghost use Rattle.rx_page.specs.Settings.{item_way, rdfa_way};
 ghost use Rattle.rx_command.specs.Ways.{way_of, extracts_by, itemizes_by};
-ghost use Rattle.rx_command.specs.Contexts.{IsContextFile, IsFileOf, ReadsContext, TakesContext, LacksContext, HasOther};
+ghost use Rattle.rx_command.specs.Contexts.{IsContextFile, ReadsContext, TakesContext, LacksContext, HasOther};
 ghost use Rattle.rx_command.specs.Outcome.{IsLacking};
 ghost use Rattle.rx_command.specs.Inputs.{JobText, JobRefused, WhereTold};
 ghost use Rattle.rx_command.specs.Runs.{TakesFiles, StopsCleanly};
@@ -242,7 +242,7 @@ fn read_named_context<F: Shelf>(
     shelf: &mut F,
     file: &Text,
 ) -> Result<Context, InputError>
-    ensures ok { IfOk result (λ context. WhereTold (λ told. IsFileOf file.now told context) (F.told shelf.old)) }
+    ensures ok { IfOk result (λ context. WhereKnown (ReadsContext (Some file.now) context) (F.told shelf.old) (F.told shelf.new)) }
     ensures takes { WhereKnown (TakesContext (Some file.now)) (F.told shelf.old) (F.told shelf.new) }
     ensures bad { IsErrOf result InputError.BadContext → WhereTold (IsContextFile file.now false) (F.told shelf.old) }
     ensures not_refused { (fault : Fault) → result ≡ Err (InputError.Refused fault) → ⊥ }

@@ -5,12 +5,8 @@ ghost use Rattle.rx_ports.specs.Shelves.{WhereKnown, GrowsBy, GrowsByPart, Stays
 ghost use Rattle.rx_job.specs.Jobs.{several_seen};
 ghost use Rattle.rx_job.specs.Words.{gathering_asked, job, most_items, page_asked, samples};
 ghost use Rattle.rx_command.specs.Contexts.{TakesContext, context_asked};
-ghost use Rattle.rx_command.specs.Gathering.{HasAll};
 ghost use Rattle.rx_command.specs.Endings.{RunEnds};
-ghost use Rattle.rx_command.specs.Headline.{AnswersPage};
-ghost use Rattle.rx_command.specs.Outcome.{HasBadContext, HasPageFault, LacksFile};
-ghost use Rattle.rx_command.specs.Samples.{Yields, YieldsBoth};
-ghost use Rattle.rx_command.specs.Runs.{EndsSo, IfTold, WhereRefused, WhereSample, Writes, ReadCause, TakesJob, TakesToFault, StopsCleanly, IsAtEnd, GatheringEnds, SampleEnds, Says, SaysNothing, usage_line, refused_line, context_line, refused_with};
+ghost use Rattle.rx_command.specs.Runs.{EndsSo, WhereRefused, WhereSample, ReadCause, TakesJob, TakesToFault, StopsCleanly, ReadsAll, GatheringEnds, SampleEnds, Says, SaysNothing, usage_line, refused_line, context_line, refused_with};
 ghost use Rattle.rx_page.specs.Written.{Denoted, text_of};
 
 use crate::errors::InputError;
@@ -100,80 +96,17 @@ pub fn run<F: Shelf, O: Sink, E: Sink>(
 
     // How much is read: no more than the named files have together, nor more than a piece past the limit of each page and,
     // where a context file is named, one byte past the largest of these. Of several pages each that has a fault is read no
-    // further than a piece past the byte that decides it.
+    // further than a piece past the byte that decides it. No more files are started than are named.
     ensures takes { WhereKnown (TakesJob (job words.now)) (F.told shelf.old) (F.told shelf.new) }
-    // A page that alone is asked for was read to its end where its text is written. One that is refused is read no further than
+    // Where the text is written, as many files were started as are named, so that each of them, which all had to be read, was
+    // started once; and a page that alone is asked for was read to its end. One that is refused is read no further than
     // 65,536 bytes past the byte that decides the fault, unless that is an item's, which is found once the page has ended. Where
     // the shelf failed, what was read of it holds no fault but that it ends.
-    ensures to_end { result ≡ Status.Done → IsAtEnd (page_asked words.now) (F.told shelf.new) }
+    ensures to_end { result ≡ Status.Done → WhereKnown (ReadsAll (job words.now)) (F.told shelf.old) (F.told shelf.new) }
     ensures refused_takes { WhereRefused result (λ fault. WhereKnown (TakesToFault (page_asked words.now) fault) (F.told shelf.old) (F.told shelf.new)) }
     ensures cleanly { result ≡ Status.ReadFault → WhereKnown (StopsCleanly (page_asked words.now)) (F.told shelf.old) (F.told shelf.new) }
     // Of a context file that is none no more is read than it has.
     ensures takes_context { result ≡ Status.BadContext → WhereKnown (TakesContext (context_asked words.now)) (F.told shelf.old) (F.told shelf.new) }
-{
-    run_by(alloc, words, shelf, out, err)
-}
-
-/// The same, status by status.
-fn run_by<F: Shelf, O: Sink, E: Sink>(
-    alloc: Global,
-    words: &[Text],
-    shelf: &mut F,
-    out: &mut O,
-    err: &mut E,
-) -> Status
-    ensures answers { AnswersPage words.now result
-        (record {
-          told = F.told shelf.old;
-          read_faults = F.faults shelf.old;
-          held = O.held out.old;
-          write_faults = O.faults out.old;
-          said = E.held err.old;
-          say_faults = E.faults err.old;
-        })
-        (record {
-          told = F.told shelf.new;
-          read_faults = F.faults shelf.new;
-          held = O.held out.new;
-          write_faults = O.faults out.new;
-          said = E.held err.new;
-          say_faults = E.faults err.new;
-        }) }
-    ensures usage { result ≡ Status.Usage → job words.now ≡ None }
-    ensures only_usage { job words.now ≡ None → EndsSo result Status.Usage }
-    ensures untouched { result ≡ Status.Usage → shelf.new ≡ shelf.old }
-    ensures done { result ≡ Status.Done → Writes (F.told shelf.old) (YieldsBoth words.now (F.told shelf.old)) GrowsBy (O.held out.old) (O.held out.new) }
-    ensures to_end { result ≡ Status.Done → IsAtEnd (page_asked words.now) (F.told shelf.new) }
-    ensures refused { WhereRefused result (λ fault. IfTold (F.told shelf.old) (HasPageFault words.now (F.told shelf.old) fault)) }
-    ensures refuses_one { WhereRefused result (λ fault. gathering_asked words.now ≡ None) }
-    ensures refused_takes { WhereRefused result (λ fault. WhereKnown (TakesToFault (page_asked words.now) fault) (F.told shelf.old) (F.told shelf.new)) }
-    ensures read_fault { result ≡ Status.ReadFault → ReadCause words.now (F.told shelf.old) (F.faults shelf.old) (F.faults shelf.new) }
-    ensures reads_on { result ≢ Status.ReadFault → F.faults shelf.new ≡ F.faults shelf.old }
-    ensures cleanly { result ≡ Status.ReadFault → WhereKnown (StopsCleanly (page_asked words.now)) (F.told shelf.old) (F.told shelf.new) }
-    ensures lacking { LacksFile words.now (F.told shelf.old) → EndsSo result Status.ReadFault }
-    ensures write_fault { result ≡ Status.WriteFault → Rose (O.faults out.old) (O.faults out.new) }
-    ensures writes_on { result ≢ Status.WriteFault → O.faults out.new ≡ O.faults out.old }
-    ensures partly { result ≡ Status.WriteFault → Writes (F.told shelf.old) (Yields words.now (F.told shelf.old)) GrowsByPart (O.held out.old) (O.held out.new) }
-    ensures nothing_written { result ≢ Status.Done → result ≢ Status.WriteFault → WhereKnown Stays (O.held out.old) (O.held out.new) }
-    ensures names_context { result ≡ Status.BadContext → is_some (context_asked words.now) ≡ true }
-    ensures bad_context { result ≡ Status.BadContext → IfTold (F.told shelf.old) (HasBadContext words.now (F.told shelf.old)) }
-    ensures refuses_context { HasBadContext words.now (F.told shelf.old) → ¬ Rose (F.faults shelf.old) (F.faults shelf.new)
-        → EndsSo result Status.BadContext }
-    ensures takes_context { result ≡ Status.BadContext → WhereKnown (TakesContext (context_asked words.now)) (F.told shelf.old) (F.told shelf.new) }
-    ensures says_usage { result ≡ Status.Usage → Says usage_line (E.held err.old) (E.held err.new) (E.faults err.old) (E.faults err.new) }
-    ensures says_refused { WhereRefused result (λ fault. Says (refused_line fault) (E.held err.old) (E.held err.new) (E.faults err.old) (E.faults err.new)) }
-    ensures says_context { result ≡ Status.BadContext → Says context_line (E.held err.old) (E.held err.new) (E.faults err.old) (E.faults err.new) }
-    ensures says_nothing { result ≢ Status.Usage → result ≢ Status.BadContext → ((fault : Fault) → result ≢ Status.Refused fault) →
-        SaysNothing (E.held err.old) (E.held err.new) (E.faults err.old) (E.faults err.new) }
-    ensures takes { WhereKnown (TakesJob (job words.now)) (F.told shelf.old) (F.told shelf.new) }
-    ensures sample { WhereSample (job words.now) (λ count. SampleEnds count result (O.held out.old) (O.held out.new) (O.faults out.old) (O.faults out.new)) }
-    ensures sample_reads { WhereSample (job words.now) (λ count. shelf.new ≡ shelf.old) }
-    ensures completes { (text : List ℕ) → Yields words.now (F.told shelf.old) text → ¬ Rose (F.faults shelf.old) (F.faults shelf.new)
-        → ¬ Rose (O.faults out.old) (O.faults out.new) → EndsSo result Status.Done }
-    ensures completes_all { HasAll words.now (F.told shelf.old) → ¬ Rose (F.faults shelf.old) (F.faults shelf.new)
-        → ¬ Rose (O.faults out.old) (O.faults out.new) → EndsSo result Status.Done }
-    ensures refuses { (fault : Fault) → HasPageFault words.now (F.told shelf.old) fault → ¬ Rose (F.faults shelf.old) (F.faults shelf.new)
-        → EndsSo result (Status.Refused fault) }
 {
     let job = match Job::of(alloc, words) {
         Ok(job) => job,

@@ -7,3 +7,4 @@ pub mod FrontLemmas
 pub mod ReaderLemmas
 pub mod MadeLemmas
 pub mod ItemLemmas
+pub mod ProperLemmas

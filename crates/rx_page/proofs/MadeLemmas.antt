@@ -23,7 +23,9 @@ use Rattle.rx_rdfa.proofs.Whole.{written_denotes}
 use Rattle.rx_job.specs.Words.{Extraction}
 use Rattle.rx_page.specs.Settings.{GivesList}
 use Rattle.rx_page.specs.Forms.{IsFormText, FormDenotes, form_of}
+use Rattle.rx_page.specs.Texts.{as_read}
 use Rattle.rx_page.specs.Written.{text_of, Denoted, graph_made}
+use Rattle.rx_page.proofs.ProperLemmas.{written_read}
 use Rattle.rx_page.specs.declared.forms.Form.{Form}
 use Rattle.rx_page.specs.declared.outcomes.Outcome.{Outcome}
 
@@ -38,7 +40,7 @@ list_written address context tree list m = written_so m.to (base_in address tree
 
 -- what is made of the triples of a page that was read
 pub text_made : (e : Extraction) (context : Context) (form : Form) (outcome : Outcome) (list : List CodeTriple) (bytes : List ℕ) → form ≡ form_of e context
-    → IsFormText form (graph_made list) (text_of outcome) → (Denoted outcome → FormDenotes form (text_of outcome) (graph_made list))
+    → IsFormText form (graph_made list) (text_of outcome) → (Denoted outcome → FormDenotes form (text_of outcome) (as_read (graph_made list)))
     → GivesList e.syntax context e.address bytes list → HasText e context bytes (text_of outcome) × (Denoted outcome → Denotes e context bytes (text_of outcome))
 text_made e context form outcome list bytes f spelled denotes given =
     let triples : List (Triple ℕ) = written (base_in e.address given.tree) (facts_in context given.tree) in
@@ -56,8 +58,9 @@ text_made e context form outcome list bytes f spelled denotes given =
         is = is;
         triples = triples;
         denotes =
-            subst (λ ts. FormDenotes (form_of e context) (text_of outcome) ts) same
-            (subst (λ (k : Form). FormDenotes k (text_of outcome) (graph_made list)) f (denotes read));
+            subst (λ ts. FormDenotes (form_of e context) (text_of outcome) ts)
+            (ap as_read same ∙ written_read (base_in e.address given.tree) (facts_in context given.tree))
+            (subst (λ (k : Form). FormDenotes k (text_of outcome) (as_read (graph_made list))) f (denotes read));
         renamed = written_denotes (base_in e.address given.tree) (facts_in context given.tree);
       },
     )

@@ -1,11 +1,11 @@
 -- How triples are written, and what such a text denotes.
-use Rattle.std.specs.Prelude.{◌≡◌, ℕ, List, map, Option, encode_utf8_all}
+use Rattle.std.specs.Prelude.{◌≡◌, ℕ, List, map, Option, option_map, encode_utf8_all}
 use Rattle.std.specs.Str.{chars}
 use Rattle.rx_terms.specs.Text.{Chars}
-use Rattle.rx_model.specs.Terms.{Triple}
+use Rattle.rx_model.specs.Terms.{Iri, Triple}
 use Rattle.rx_rdfa.specs.Names.{Context}
 use Rattle.rx_nquads.specs.Document.{Nquads}
-use Rattle.rx_nquads.specs.Quads.{quads, proper_triple}
+use Rattle.rx_nquads.specs.Quads.{Quad}
 use Rattle.rx_nquads.specs.Writing.{nquads}
 use Rattle.rx_notation.specs.Layout.{turtle}
 use Rattle.rx_notation.specs.Meaning.{Turtle, NestedTurtle}
@@ -34,9 +34,13 @@ IsFormText (forms.Turtle context) list text = text ≡ encode_utf8_all (turtle c
 IsFormText (forms.Nested context) list text = IsNestedText context list text
 IsFormText forms.Jsonld list text = IsJsonldText list text
 
--- the text in this form denotes exactly the triples
+-- the triple itself, in the graph of this name, or in the default graph
+abbrev pub in_graph : Option Chars → Triple ℕ → Quad
+in_graph name t = record { triple = t; graph = option_map (λ iri. Iri iri) name }
+
+-- the text in this form denotes exactly these triples
 abbrev pub FormDenotes : Form → List ℕ → List (Triple ℕ) → Type 0
-FormDenotes (forms.Nquads name) text triples = Nquads (chars text) (quads triples name)
-FormDenotes (forms.Turtle context) text triples = Turtle (chars text) (map proper_triple triples)
-FormDenotes (forms.Nested context) text triples = NestedTurtle (chars text) (map proper_triple triples)
+FormDenotes (forms.Nquads name) text triples = Nquads (chars text) (map (in_graph name) triples)
+FormDenotes (forms.Turtle context) text triples = Turtle (chars text) triples
+FormDenotes (forms.Nested context) text triples = NestedTurtle (chars text) triples
 FormDenotes forms.Jsonld text triples = JsonDenotes text triples

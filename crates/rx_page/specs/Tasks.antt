@@ -43,7 +43,8 @@ pub record HasText (e : Extraction) (context : Context) (bytes text : List ℕ) 
   pub is : IsAccepted e.syntax context bytes tree
   pub spelled : IsFormText (form_of e context) (written (base_in e.address tree) (facts_in context tree)) text
 
--- the text denotes exactly the graph that RDFa's rules give the page's tree, its blank nodes renamed one to one
+-- The text denotes exactly these triples, and they are the graph that RDFa's rules give the page's tree, its blank nodes renamed
+-- one to one. So the text denotes that graph.
 pub record Denotes (e : Extraction) (context : Context) (bytes text : List ℕ) : Type 0 where
   pub tree : Tree
   pub is : IsAccepted e.syntax context bytes tree

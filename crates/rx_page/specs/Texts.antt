@@ -27,11 +27,15 @@ pub record IsJsonldText (list : List (Triple ℕ)) (text : List ℕ) : Type 0 wh
   pub have : HaveShapes list shapes
   pub spelled : text ≡ compact_text (jsonld list shapes) ++ codes "\n"
 
+-- the triples as they are read: a literal that is typed xsd:string is the plain one
+abbrev pub as_read : List (Triple ℕ) → List (Triple ℕ)
+as_read list = map proper_triple list
+
 -- the text is the compact JSON of a value that denotes exactly the triples, with LF
 pub record JsonDenotes (text : List ℕ) (triples : List (Triple ℕ)) : Type 0 where
   pub value : Data
   pub spelled : text ≡ compact_text value ++ codes "\n"
-  pub denotes : JsonLd value (map proper_triple triples)
+  pub denotes : JsonLd value triples
 
 -- the text of a page that is right
 abbrev pub ok_line : List ℕ

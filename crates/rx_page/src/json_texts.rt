@@ -4,7 +4,7 @@ ghost use Rattle.rx_terms.specs.Text.{Chars};
 ghost use Rattle.rx_grammar.specs.Trees.{Tree};
 ghost use Rattle.rx_model.specs.Seen.{triples_seen};
 ghost use Rattle.rx_page.specs.JsonTexts.{AreItems, JsonTextGives};
-ghost use Rattle.rx_page.specs.Texts.{IsJsonldText, JsonDenotes};
+ghost use Rattle.rx_page.specs.Texts.{as_read, IsJsonldText, JsonDenotes};
 
 use rx_graph::Graph;
 use rx_items::Items;
@@ -27,7 +27,7 @@ pub fn text_of_items(alloc: Global, items: &Items) -> Result<Vec<u8>, Stop>
 /// The compact JSON of the graph as JSON-LD, and a line feed.
 pub(crate) fn text_of_graph(alloc: Global, graph: &Graph) -> Result<Vec<u8>, NoMemory>
     ensures spelled { IfOk result (λ text. IsJsonldText (triples_seen graph.now) text.items) }
-    ensures denotes { IfOk result (λ text. JsonDenotes text.items (triples_seen graph.now)) }
+    ensures denotes { IfOk result (λ text. JsonDenotes text.items (as_read (triples_seen graph.now))) }
 {
     let shapes = Shapes::of(alloc, graph)?;
     let found = rx_jsonld::text(alloc, graph, &shapes);

@@ -5,6 +5,7 @@ ghost use Rattle.rx_model.specs.Seen.{triples_seen};
 ghost use Rattle.rx_ports.specs.Counts.{Rose};
 ghost use Rattle.rx_ports.specs.Shelves.{WhereKnown, GrowsBy, GrowsByPart};
 ghost use Rattle.rx_page.specs.Forms.{IsFormText, FormDenotes};
+ghost use Rattle.rx_page.specs.Texts.{as_read};
 ghost use Rattle.rx_page.specs.Written.{text_of, Denoted, graph_made};
 
 use crate::forms::Form;
@@ -37,7 +38,7 @@ impl Outcome {
     /// The graph of the triples, which is written in this form.
     pub fn of(alloc: Global, list: TripleList, form: Form) -> Result<Outcome, NoMemory>
         ensures spelled { IfOk result (λ outcome. IsFormText form (graph_made list) (text_of outcome)) }
-        ensures denoted { IfOk result (λ outcome. Denoted outcome → FormDenotes form (text_of outcome) (graph_made list)) }
+        ensures denoted { IfOk result (λ outcome. Denoted outcome → FormDenotes form (text_of outcome) (as_read (graph_made list))) }
     {
         match graph_of(alloc, list) {
             Ok(graph) => Outcome::of_graph(alloc, graph, form),
@@ -51,7 +52,7 @@ impl Outcome {
     /// The graph, which is written in this form.
     fn of_graph(alloc: Global, graph: Graph, form: Form) -> Result<Outcome, NoMemory>
         ensures spelled { IfOk result (λ outcome. IsFormText form (triples_seen graph) (text_of outcome)) }
-        ensures denoted { IfOk result (λ outcome. Denoted outcome → FormDenotes form (text_of outcome) (triples_seen graph)) }
+        ensures denoted { IfOk result (λ outcome. Denoted outcome → FormDenotes form (text_of outcome) (as_read (triples_seen graph))) }
     {
         match form {
             Form::Nquads(name) => Ok(Outcome::Quads { graph, name }),
@@ -83,7 +84,7 @@ impl Outcome {
 /// The graph, which is written as nested Turtle.
 fn nested_of(alloc: Global, graph: Graph, context: Context) -> Result<Outcome, NoMemory>
     ensures spelled { IfOk result (λ outcome. IsFormText (Form.Nested context) (triples_seen graph) (text_of outcome)) }
-    ensures denoted { IfOk result (λ outcome. Denoted outcome → FormDenotes (Form.Nested context) (text_of outcome) (triples_seen graph)) }
+    ensures denoted { IfOk result (λ outcome. Denoted outcome → FormDenotes (Form.Nested context) (text_of outcome) (as_read (triples_seen graph))) }
 {
     match Shaped::of(alloc, graph) {
         Ok(shaped) => Ok(Outcome::Nested { shaped, context }),
@@ -97,7 +98,7 @@ fn nested_of(alloc: Global, graph: Graph, context: Context) -> Result<Outcome, N
 /// The graph's text as JSON-LD.
 fn json_of(alloc: Global, graph: Graph) -> Result<Outcome, NoMemory>
     ensures spelled { IfOk result (λ outcome. IsFormText Form.Jsonld (triples_seen graph) (text_of outcome)) }
-    ensures denoted { IfOk result (λ outcome. FormDenotes Form.Jsonld (text_of outcome) (triples_seen graph)) }
+    ensures denoted { IfOk result (λ outcome. FormDenotes Form.Jsonld (text_of outcome) (as_read (triples_seen graph))) }
 {
     let text = text_of_graph(alloc, &graph);
     drop(graph);

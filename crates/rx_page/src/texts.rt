@@ -1,7 +1,7 @@
 //! What a page gives, as a text in memory.
 ghost use Rattle.std.specs.Prelude.{◌≡◌, IfOk};
 ghost use Rattle.rx_model.specs.Seen.{triples_seen};
-ghost use Rattle.rx_page.specs.Texts.{IsNestedText, ok_line};
+ghost use Rattle.rx_page.specs.Texts.{as_read, IsNestedText, ok_line};
 ghost use Rattle.rx_page.specs.Forms.{IsFormText, FormDenotes};
 ghost use Rattle.rx_page.specs.declared.forms.Form.TheVariants as forms;
 
@@ -19,7 +19,7 @@ pub(crate) const RIGHT: &[u8] = b"ok\n";
 /// The graph's text in this form.
 pub fn text_of(alloc: Global, graph: Graph, form: Form) -> Result<Vec<u8>, NoMemory>
     ensures spelled { IfOk result (λ text. IsFormText form (triples_seen graph) text.items) }
-    ensures denotes { IfOk result (λ text. FormDenotes form text.items (triples_seen graph)) }
+    ensures denotes { IfOk result (λ text. FormDenotes form text.items (as_read (triples_seen graph))) }
 {
     match form {
         Form::Nquads(name) => nquads_of(alloc, graph, name),
@@ -31,7 +31,7 @@ pub fn text_of(alloc: Global, graph: Graph, form: Form) -> Result<Vec<u8>, NoMem
 
 fn nquads_of(alloc: Global, graph: Graph, name: Option<Iri>) -> Result<Vec<u8>, NoMemory>
     ensures spelled { IfOk result (λ text. IsFormText (forms.Nquads name) (triples_seen graph) text.items) }
-    ensures denotes { IfOk result (λ text. FormDenotes (forms.Nquads name) text.items (triples_seen graph)) }
+    ensures denotes { IfOk result (λ text. FormDenotes (forms.Nquads name) text.items (as_read (triples_seen graph))) }
 {
     let text = rx_nquads::text(alloc, &graph, name.as_ref());
     drop(graph);
@@ -41,7 +41,7 @@ fn nquads_of(alloc: Global, graph: Graph, name: Option<Iri>) -> Result<Vec<u8>, 
 
 fn turtle_of(alloc: Global, graph: Graph, context: Context) -> Result<Vec<u8>, NoMemory>
     ensures spelled { IfOk result (λ text. IsFormText (forms.Turtle context) (triples_seen graph) text.items) }
-    ensures denotes { IfOk result (λ text. FormDenotes (forms.Turtle context) text.items (triples_seen graph)) }
+    ensures denotes { IfOk result (λ text. FormDenotes (forms.Turtle context) text.items (as_read (triples_seen graph))) }
 {
     let text = rx_turtle::text(alloc, &graph, &context);
     drop(graph);
@@ -51,7 +51,7 @@ fn turtle_of(alloc: Global, graph: Graph, context: Context) -> Result<Vec<u8>, N
 
 fn nested_of(alloc: Global, graph: Graph, context: Context) -> Result<Vec<u8>, NoMemory>
     ensures spelled { IfOk result (λ text. IsFormText (forms.Nested context) (triples_seen graph) text.items) }
-    ensures denotes { IfOk result (λ text. FormDenotes (forms.Nested context) text.items (triples_seen graph)) }
+    ensures denotes { IfOk result (λ text. FormDenotes (forms.Nested context) text.items (as_read (triples_seen graph))) }
 {
     let text = nested_text(alloc, &graph, &context);
     drop(graph);
@@ -61,7 +61,7 @@ fn nested_of(alloc: Global, graph: Graph, context: Context) -> Result<Vec<u8>, N
 
 fn nested_text(alloc: Global, graph: &Graph, context: &Context) -> Result<Vec<u8>, NoMemory>
     ensures spelled { IfOk result (λ text. IsNestedText context.now (triples_seen graph.now) text.items) }
-    ensures denotes { IfOk result (λ text. FormDenotes (forms.Nested context.now) text.items (triples_seen graph.now)) }
+    ensures denotes { IfOk result (λ text. FormDenotes (forms.Nested context.now) text.items (as_read (triples_seen graph.now))) }
 {
     let shapes = Shapes::of(alloc, graph)?;
     let text = rx_turtle::nested(alloc, graph, &shapes, context);
@@ -71,7 +71,7 @@ fn nested_text(alloc: Global, graph: &Graph, context: &Context) -> Result<Vec<u8
 
 fn jsonld_of(alloc: Global, graph: Graph) -> Result<Vec<u8>, NoMemory>
     ensures spelled { IfOk result (λ text. IsFormText forms.Jsonld (triples_seen graph) text.items) }
-    ensures denotes { IfOk result (λ text. FormDenotes forms.Jsonld text.items (triples_seen graph)) }
+    ensures denotes { IfOk result (λ text. FormDenotes forms.Jsonld text.items (as_read (triples_seen graph))) }
 {
     let text = text_of_graph(alloc, &graph);
     drop(graph);

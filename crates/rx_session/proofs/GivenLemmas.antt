@@ -1,10 +1,10 @@
 -- What is made of the triples of a page that was read.
-use Rattle.std.proofs.Common.{◌≡◌, ◌∙◌, ℕ, zero, suc, Bool, true, false, List, sym, ap, subst}
+use Rattle.std.proofs.Common.{◌≡◌, ◌∙◌, ℕ, zero, suc, Bool, true, false, List, [], ◌∷◌, ◌+◌, map, refl, sym, ap, ap₂, subst}
 use Rattle.std.specs.Prelude.{Option, Vec}
 use Rattle.rx_terms.specs.Text.{Chars}
 use Rattle.rx_terms.specs.declared.triples.Triple.{Triple as CodeTriple}
-use Rattle.rx_model.specs.Terms.{Triple, set_of}
-use Rattle.rx_model.specs.Numbered.{Renamed}
+use Rattle.rx_model.specs.Terms.{Term, Resource, Literal, Triple, set_of}
+use Rattle.rx_model.specs.Numbered.{rename_node, rename_term, rename, Renamed}
 use Rattle.rx_rdfa.specs.Blanks.{same_bnode, model}
 use Rattle.rx_rdfa.specs.Made.{made}
 use Rattle.rx_rdfa.specs.Names.{Context}
@@ -13,11 +13,13 @@ use Rattle.rx_rdfa.proofs.Exact.{exact_bnodes}
 use Rattle.rx_rdfa.proofs.Whole.{written_denotes}
 use Rattle.rx_model.specs.Copied.{copied}
 use Rattle.rx_pages.proofs.Trees.{one_tree}
-use Rattle.rx_nquads.specs.Quads.{Quad, quads}
+use Rattle.rx_nquads.specs.Quads.{Quad, quads, proper_term}
 use Rattle.rx_job.specs.Words.{Extraction, extracts}
 use Rattle.rx_page.specs.Tasks.{IsAccepted, base_in, facts_in}
 use Rattle.rx_page.specs.Settings.{standard, GivesList}
-use Rattle.rx_page.specs.Forms.{form_of, IsFormText, FormDenotes}
+use Rattle.rx_page.specs.Forms.{form_of, in_graph, IsFormText, FormDenotes}
+use Rattle.rx_page.specs.Texts.{as_read}
+use Rattle.rx_page.proofs.ProperLemmas.{quads_read, written_read}
 use Rattle.rx_page.specs.Written.{graph_made}
 use Rattle.rx_page.proofs.MadeLemmas.{list_written}
 use Rattle.rx_page.proofs.OutcomeLemmas.{the_tree}
@@ -47,7 +49,7 @@ module _ (first : ℕ) (e : Extraction) (context : Context) (bytes : List ℕ) w
   one_quads_from : (a b : List Quad) → HasQuadsFrom first e context bytes a → HasQuadsFrom first e context bytes b → a ≡ b
   one_quads_from a b p q =
       let same : p.tree ≡ q.tree = one_tree e.syntax standard bytes p.tree q.tree p.is.page q.is.page in
-      p.are ∙ (ap (λ t. quads (triples_from first e context t) e.graph) same ∙ sym q.are)
+      p.are ∙ (ap (λ t. map (in_graph e.graph) (triples_from first e context t)) same ∙ sym q.are)
 
 -- from 0 on it is the text that the command writes
 text_of : (first : ℕ) (e : Extraction) (context : Context) (bytes text : List ℕ) → IsTheTextFrom first e context bytes text → IsTheTextOf first e context bytes text
@@ -59,6 +61,22 @@ text_of zero e context bytes text t = record {
   denotes = t.denotes;
 }
 text_of (suc n) e context bytes text t = t
+
+-- ---- blank nodes with other numbers change no literal
+
+term_read : (f : ℕ → ℕ) (term : Term ℕ) → proper_term (rename_term f term) ≡ rename_term f (proper_term term)
+term_read f (Resource node) = refl
+term_read f (Literal text kind) = refl
+
+list_read : (f : ℕ → ℕ) (list : List (Triple ℕ)) → as_read (map (rename f) list) ≡ map (rename f) (as_read list)
+list_read f [] = refl
+list_read f (t ∷ list) =
+    let o = term_read f t.object in
+    ap₂ (λ (object : Term ℕ) (more : List (Triple ℕ)). (record { subject = rename_node f t.subject; predicate = t.predicate; object = object }) ∷ more) o (list_read f list)
+
+raised_read : (first : ℕ) (list : List (Triple ℕ)) → as_read list ≡ list → as_read (raised first list) ≡ raised first list
+raised_read zero list e = e
+raised_read (suc n) list e = list_read (λ b. suc n + b) list ∙ ap (map (rename (λ b. suc n + b))) e
 
 -- ---- what is made of a list that a walk gives
 
@@ -75,8 +93,13 @@ module _ (e : Extraction) (context : Context) (bytes : List ℕ) (list : List Co
       renamed_then (graph_of (base_in e.address ended.tree) (facts_in context ended.tree)) (set_of graph) (set_of (raised first graph))
       (written_denotes (base_in e.address ended.tree) (facts_in context ended.tree)) (raises_one_to_one first graph)
 
+  -- the triples that are written are read as they are
+  read_from : as_read (triples_from first e context ended.tree) ≡ triples_from first e context ended.tree
+  read_from =
+      raised_read first (written (base_in e.address ended.tree) (facts_in context ended.tree)) (written_read (base_in e.address ended.tree) (facts_in context ended.tree))
+
   text_from : (text : List ℕ) → IsFormText (form_of e context) (raised first (graph_made list)) text
-      → FormDenotes (form_of e context) text (raised first (graph_made list)) → IsTheTextFrom first e context bytes text
+      → FormDenotes (form_of e context) text (as_read (raised first (graph_made list))) → IsTheTextFrom first e context bytes text
   text_from text spelled denotes =
       let has : HasTextFrom first e context bytes text = record {
         tree = ended.tree;
@@ -94,14 +117,16 @@ module _ (e : Extraction) (context : Context) (bytes : List ℕ) (list : List Co
           is = accepted;
           triples = triples_from first e context ended.tree;
           denotes =
-              subst (λ ts. FormDenotes (form_of e context) text (raised first ts)) same_graph denotes;
+              subst (λ ts. FormDenotes (form_of e context) text ts) (ap (λ ts. as_read (raised first ts)) same_graph ∙ read_from) denotes;
           renamed = renamed_from;
         };
       }
 
   quads_from : (of : List Quad) → of ≡ quads (raised first (graph_made list)) e.graph → AreTheQuads first e context bytes of
   quads_from of is =
-      let same : of ≡ quads (triples_from first e context ended.tree) e.graph = is ∙ ap (λ ts. quads (raised first ts) e.graph) same_graph in
+      let triples : List (Triple ℕ) = triples_from first e context ended.tree in
+      let same : of ≡ map (in_graph e.graph) triples =
+      is ∙ (ap (λ ts. quads (raised first ts) e.graph) same_graph ∙ (quads_read e.graph triples ∙ ap (map (in_graph e.graph)) read_from)) in
       record {
         tree = ended.tree;
         is = the_tree (extracts e) context bytes ended.tree accepted;
@@ -134,10 +159,10 @@ module _ (e : Extraction) (context : Context) (bytes : List ℕ) (list : List Co
 -- ---- what is given
 
 pub given_text : (plan : Plan) (form : Form) (first : ℕ) (list seen : List (Triple ℕ)) (text : Vec ℕ Global) (nodes : ℕ) → plan ≡ plans.Text form → seen ≡ raised first list
-    → IsFormText form seen text.items → FormDenotes form text.items seen → nodes ≡ past list → IsGiven plan first list (given.Text text nodes)
+    → IsFormText form seen text.items → FormDenotes form text.items (as_read seen) → nodes ≡ past list → IsGiven plan first list (given.Text text nodes)
 given_text plan form first list seen text nodes is e spelled denotes n =
     subst (λ (p : Plan). IsGiven p first list (given.Text text nodes)) (sym is)
-    (subst (λ ts. IsFormText form ts text.items) e spelled, subst (λ ts. FormDenotes form text.items ts) e denotes, n)
+    (subst (λ ts. IsFormText form ts text.items) e spelled, subst (λ ts. FormDenotes form text.items (as_read ts)) e denotes, n)
 
 pub given_quads : (plan : Plan) (name : Option Chars) (first : ℕ) (list seen : List (Triple ℕ)) (q : Listed) (nodes : ℕ) → plan ≡ plans.Quads name → seen ≡ raised first list
     → quads_of q ≡ quads seen name → nodes ≡ past list → IsGiven plan first list (given.Quads q nodes)

@@ -1,6 +1,5 @@
 -- What a page that was read gives.
-use Rattle.std.specs.Prelude.{◌≡◌, ℕ, zero, suc, Bool, true, false, List, [], Option, Some, None, option_map}
-use Rattle.rx_terms.specs.Text.{Chars}
+use Rattle.std.specs.Prelude.{◌≡◌, ℕ, zero, suc, Bool, true, false, List, [], map, Option, Some, None, option_map}
 use Rattle.rx_model.specs.Terms.{Triple, set_of}
 use Rattle.rx_model.specs.Numbered.{Renamed}
 use Rattle.rx_rdfa.specs.Names.{Context}
@@ -10,9 +9,10 @@ use Rattle.rx_nquads.specs.Quads.{Quad, quads}
 use Rattle.rx_job.specs.Words.{Task, Extraction, extracts, itemizes, checks}
 use Rattle.rx_page.specs.Outcomes.{IsTheTree, IsTheText}
 use Rattle.rx_page.specs.Tasks.{IsAccepted, Denotes, base_in, facts_in}
-use Rattle.rx_page.specs.Forms.{form_of, IsFormText, FormDenotes}
+use Rattle.rx_page.specs.Forms.{form_of, in_graph, IsFormText, FormDenotes}
+use Rattle.rx_page.specs.Texts.{as_read}
 use Rattle.rx_quads.specs.Raised.{raised, AreFrom, past}
-use Rattle.rx_quads.specs.Listed.{Listed, Shows, quads_of}
+use Rattle.rx_quads.specs.Listed.{Shows, quads_of}
 use Rattle.rx_quads.specs.declared.terms.ShownQuad.{ShownQuad}
 use Rattle.rx_session.specs.declared.given.Given.{Given}
 use Rattle.rx_session.specs.declared.given.Given.TheVariants as given
@@ -46,18 +46,18 @@ abbrev pub IsTheTextOf : ℕ → Extraction → Context → List ℕ → List �
 IsTheTextOf zero e context bytes text = IsTheText (extracts e) context bytes text
 IsTheTextOf (suc n) e context bytes text = IsTheTextFrom (suc n) e context bytes text
 
--- the quads are those of the same triples, in their order, in the graph of the extraction's name
+-- the quads are the same triples, in their order, in the graph of the extraction's name
 pub record HasQuadsFrom (first : ℕ) (e : Extraction) (context : Context) (bytes : List ℕ) (list : List Quad) : Type 0 where
   pub tree : Tree
   pub is : IsAccepted e.syntax context bytes tree
-  pub are : list ≡ quads (triples_from first e context tree) e.graph
+  pub are : list ≡ map (in_graph e.graph) (triples_from first e context tree)
 
--- the bytes have one tree, the quads are its, and no others are; and their triples are that tree's graph, its blank nodes
--- renamed one to one
+-- the bytes have one tree, the quads are its, and no others are: they are exactly the triples that are written, and these are
+-- that tree's graph, its blank nodes renamed one to one
 pub record AreTheQuads (first : ℕ) (e : Extraction) (context : Context) (bytes : List ℕ) (list : List Quad) : Type 0 where
   pub tree : Tree
   pub is : IsTheTree (extracts e) context bytes tree
-  pub gives : list ≡ quads (triples_from first e context tree) e.graph
+  pub gives : list ≡ map (in_graph e.graph) (triples_from first e context tree)
   pub alone : (other : List Quad) → HasQuadsFrom first e context bytes other → other ≡ list
   pub renamed : Renamed (graph_of (base_in e.address tree) (facts_in context tree)) (set_of (triples_from first e context tree))
 
@@ -73,7 +73,7 @@ pub record HasNodes (first : ℕ) (e : Extraction) (context : Context) (bytes : 
 -- are
 abbrev pub IsGiven : Plan → ℕ → List (Triple ℕ) → Given → Type 0
 IsGiven (plan.Text form) first list (given.Text text nodes) =
-    IsFormText form (raised first list) text.items × FormDenotes form text.items (raised first list) × (nodes ≡ past list)
+    IsFormText form (raised first list) text.items × FormDenotes form text.items (as_read (raised first list)) × (nodes ≡ past list)
 IsGiven (plan.Text form) first list (given.Quads q nodes) = ⊥
 IsGiven (plan.Quads name) first list (given.Text text nodes) = ⊥
 IsGiven (plan.Quads name) first list (given.Quads q nodes) = (quads_of q ≡ quads (raised first list) name) × (nodes ≡ past list)

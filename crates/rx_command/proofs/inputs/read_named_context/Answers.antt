@@ -1,6 +1,5 @@
-use Rattle.std.proofs.Common.{◌≡◌, ◌∙◌, ap, sym, subst, false, Ok, Err, List, ℕ}
+use Rattle.std.proofs.Common.{◌≡◌, ◌∙◌, ap, sym, subst, false, Ok, List, ℕ}
 use Rattle.rx_ports.proofs.MoveLemmas.{moves_weaker}
-use Rattle.rx_names.specs.ContextFiles.{context_of}
 use Rattle.rx_page.specs.Contexts.{is_context, ContextGives}
 use Rattle.rx_command.proofs.InputLemmas.{was_none, was_context, takes_context}
 use Rattle.rx_command.proofs.inputs.read_named_context.Goals as goal
@@ -14,7 +13,8 @@ returns-in-Err-NoMemory-clause-takes g c = moves_weaker _ (λ x y t. takes_conte
 pub returns-in-Ok-context_of-clause-ok : goal.returns-in-Ok-context_of-clause-ok
 returns-in-Ok-context_of-clause-ok g c =
     let gives = subst (λ (b : List ℕ). ContextGives b (Ok c.in-Ok-context_of.context)) c.as_slice.ensures.value c.in-Ok-context_of.ensures in
-    was_context _ _ c.args.file.now _ c.in-Ok.bytes.items c.in-Ok-context_of.context c.as_str.ensures.bytes c.in-Ok.ensures.ok gives.0 gives.1
+    was_context _ _ c.args.file.now _ c.in-Ok.bytes.items c.in-Ok-context_of.context c.as_str.ensures.bytes c.in-Ok.ensures.ok
+    (moves_weaker _ (λ x y t. takes_context _ _ c.as_str.ensures.bytes x y t) c.read_file.ensures.takes) gives.0 gives.1
 
 pub returns-in-Ok-context_of-clause-takes : goal.returns-in-Ok-context_of-clause-takes
 returns-in-Ok-context_of-clause-takes g c = moves_weaker _ (λ x y t. takes_context _ _ c.as_str.ensures.bytes x y t) c.read_file.ensures.takes

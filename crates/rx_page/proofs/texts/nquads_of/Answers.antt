@@ -1,0 +1,15 @@
+use Rattle.std.proofs.Common.{refl, subst}
+use Rattle.std.specs.Prelude.{Option}
+use Rattle.std.specs.Str.{chars}
+use Rattle.rx_terms.specs.Text.{Chars}
+use Rattle.rx_model.specs.Seen.{triples_seen}
+use Rattle.rx_nquads.specs.Document.{Nquads}
+use Rattle.rx_nquads.specs.Quads.{quads}
+use Rattle.rx_page.specs.declared.forms.Form.TheVariants as forms
+use Rattle.rx_page.proofs.ProperLemmas.{quads_denote}
+use Rattle.rx_page.proofs.texts.nquads_of.Goals as goal
+
+pub returns-clause-denotes : goal.returns-clause-denotes
+returns-clause-denotes c =
+    quads_denote (forms.Nquads c.args.name) c.args.name (triples_seen c.args.graph) _ refl
+    (subst (λ (name : Option Chars). Nquads (chars c.in_ok-text.field-0.items) (quads (triples_seen c.args.graph) name)) c.as_ref.ensures.value c.in_ok-text.ensures.denotes)
