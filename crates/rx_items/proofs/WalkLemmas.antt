@@ -14,10 +14,6 @@ use Rattle.rx_items.proofs.BuildLemmas.{same_row}
 use Rattle.rx_items.proofs.MemberLemmas.{same_number}
 use Rattle.rx_items.proofs.ReachLemmas.{same_default}
 
-pub if_ok : {A E P Q : Type 0} (r : Result A E) → (P → Q) → OnOk r P → OnOk r Q
-if_ok (Ok a) f p = f p
-if_ok (Err e) f p = tt
-
 pub row_within : (rows : List Row) (i : ℕ) (row : Row) → slice_get rows i ≡ Some row → i < length rows
 row_within [] i row g = absurd (cc (g))
 row_within (r ∷ rows) zero row g = omega arith

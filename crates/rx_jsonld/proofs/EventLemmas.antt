@@ -37,10 +37,6 @@ pub of_writable : {X E : Type 0} (list : List (Triple ℕ)) (old new : Log) (val
 of_writable list old new value (Ok x) all = all
 of_writable list old new value (Err e) all = tt
 
-pub if_ok : {X E : Type 0} {P Q : X → Type 0} (r : Result X E) → ((x : X) → P x → Q x) → IfOk r P → IfOk r Q
-if_ok (Ok x) f p = f x p
-if_ok (Err e) f p = p
-
 -- ---- values in a row
 
 pub cells_turn : {A : Type 0} (f : ℕ → Data) (g : A → ℕ) (xs : List A) (i : ℕ) (x : A) → i < length xs

@@ -1,7 +1,8 @@
 use Rattle.std.proofs.Common.{get_or}
 use Rattle.std.proofs.lemmas.Option.{slice_get-get_or}
+use Rattle.std.proofs.lemmas.Result.{on_ok_weaker}
 use Rattle.rx_items.specs.Growing.{nothing_kept}
-use Rattle.rx_items.proofs.WalkLemmas.{item_none, item_some, if_ok}
+use Rattle.rx_items.proofs.WalkLemmas.{item_none, item_some}
 use Rattle.rx_items.proofs.members.add_inside.Goals as goal
 
 pub returns-then-not-row : goal.returns-then-not-row
@@ -14,5 +15,5 @@ pub returns : goal.returns
 returns c =
     let rows = c.args.rows.now in
     let place = c.args.place in
-    if_ok c.add_members.result
+    on_ok_weaker c.add_members.result
     (λ adds. item_some rows place (get_or rows place nothing_kept) c.args.members.now.items c.add_members.new.members.items (slice_get-get_or rows place nothing_kept c.requires) adds) c.add_members.ensures

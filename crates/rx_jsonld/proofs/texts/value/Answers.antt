@@ -1,3 +1,4 @@
+use Rattle.std.proofs.lemmas.Result.{IfOk-weaker}
 use Rattle.std.proofs.Common.{◌∙◌, ap, map, subst, sym}
 use Rattle.serde_json.specs.Data.{Data}
 use Rattle.serde_json.specs.Written.{has_float}
@@ -6,7 +7,6 @@ use Rattle.rx_shapes.specs.Table.{shape_in}
 use Rattle.rx_nquads.specs.Quads.{proper_triple}
 use Rattle.rx_jsonld.specs.Meaning.{JsonLd}
 use Rattle.rx_jsonld.proofs.Denotes.{value_denotes}
-use Rattle.rx_jsonld.proofs.EventLemmas.{if_ok}
 use Rattle.rx_jsonld.proofs.Flat.{values_are_flat}
 use Rattle.rx_jsonld.proofs.texts.value.Goals as goal
 
@@ -14,10 +14,10 @@ pub returns-clause-denotes : goal.returns-clause-denotes
 returns-clause-denotes c =
     let list = triples_seen c.args.graph.now in
     let shapes = shape_in c.args.shapes.now in
-    if_ok c.made-value.result
+    IfOk-weaker c.made-value.result _ _
     (λ value is. subst (λ (d : Data). JsonLd d (map proper_triple list)) (sym is) (value_denotes list shapes c.in_ok-cells.ensures.writable c.in_ok-cells.ensures.once c.requires.shapes.shape))
     c.made-value.ensures
 
 pub returns-clause-written : goal.returns-clause-written
 returns-clause-written c =
-    if_ok c.made-value.result (λ value is. ap has_float is ∙ values_are_flat.no_float (triples_seen c.args.graph.now) (shape_in c.args.shapes.now)) c.made-value.ensures
+    IfOk-weaker c.made-value.result _ _ (λ value is. ap has_float is ∙ values_are_flat.no_float (triples_seen c.args.graph.now) (shape_in c.args.shapes.now)) c.made-value.ensures
