@@ -38,13 +38,14 @@ child_decides size open_count (text chars rest) = child_decides size open_count 
 child_decides size open_count (element t inside rest) =
     nat_lt t.at size && (not (is_head t) || (has_base size inside || (nat_le open_count 1 || has_begun size rest)))
 
--- Of the tree's first `size` bytes, behind which so many elements are open: the root has begun, and it has ended or a child decides.
+-- Of a tree's first `size` bytes, behind which so many elements are open: the root has begun, and it has ended or its first child decides.
 abbrev pub is_decided : ℕ → ℕ → Tree → Bool
 is_decided size open_count end = false
 is_decided size open_count (text chars rest) = false
 is_decided size open_count (element root inside rest) = nat_lt root.at size && (nat_le open_count 0 || child_decides size open_count inside)
 
--- A front of the bytes decides the base: closed it is a page whose base has this href, or whose base has none.
+-- A front of the bytes, behind which nothing is unfinished, decides the base: closed it is a page of which the rules take this href, or none. What
+-- closes it are end tags, and an empty root where none has begun, whose tag doesn't end in the front.
 pub record IsKnownOver (syntax : Syntax) (limits : Limits) (bytes : List ℕ) (href : Option Chars) : Type 0 where
   pub front : List ℕ
   pub rest : List ℕ

@@ -23,9 +23,9 @@ pub fn base_is_known_at_the_first_moment()
 
 ghost use Rattle.rx_base.specs.KnownBases.{KnowsOverBytes};
 
-/// Over a page's bytes the base is known exactly from the first front on that decides it, closed from the innermost element
-/// on: the root's first child has begun and is no head, or it is a head in which a base with href has begun, or a head that
-/// isn't open any more, or the root has ended without a child.
+/// The base is known exactly over the bytes of which a front decides it. In the tree that this front has once it is closed
+/// the root's first child has begun and is no head; or it is a head in which a base with href has begun, or one that isn't
+/// open any more; or the root has ended. The href is the one that the rules take of that tree.
 pub fn base_is_known_over_bytes()
     ensures { KnowsOverBytes }
 {}

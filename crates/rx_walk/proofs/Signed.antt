@@ -10,7 +10,7 @@ use Rattle.rx_rdfa.specs.Tree.{Tag}
 use Rattle.rx_nest.specs.Signs.{Sign, said, finished, signs_of}
 use Rattle.rx_base.specs.Lines.{read_tag, tags_of, line_on, line_of}
 use Rattle.rx_walk.specs.CallsOf.{call_of, calls_of, singles, singly}
-use Rattle.rx_base.proofs.Lines.{said_line, tree_line}
+use Rattle.rx_base.proofs.Lines.{line_append, said_line, tree_line}
 use Rattle.rx_walk.specs.Refused.{refused_in}
 pub use Rattle.rx_walk.specs.RefusalLaws.{refused_append}
 

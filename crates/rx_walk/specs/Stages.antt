@@ -1,6 +1,6 @@
 -- How far the seeking of the base has come, and what was told until then.
 use Rattle.std.specs.Prelude.{◌≡◌, ℕ, List, [], ◌∷◌, ◌++◌, Option, Some, None, Result, IfOk}
-use Rattle.rx_terms.specs.Text.{Chars}
+use Rattle.rx_terms.specs.Text.{Chars, seen_slice}
 use Rattle.rx_terms.specs.declared.texts.NoMemory.{NoMemory}
 use Rattle.rx_rdfa.specs.Base.{base_by}
 use Rattle.rx_rdfa.specs.Calls.{Call, Enter, Leave}
@@ -9,6 +9,7 @@ use Rattle.rx_nest.specs.Fronts.{Front, unbegun}
 use Rattle.rx_eval.specs.States.{State}
 use Rattle.rx_walk.specs.declared.calls.Call.{Call as CodeCall}
 use Rattle.rx_walk.specs.declared.calls.Call.TheVariants as code
+use Rattle.rx_base.specs.declared.seeking.Sought.{Sought}
 use Rattle.rx_base.specs.Sought.{sought_seen}
 use Rattle.rx_walk.specs.declared.origins.Origin.{Origin}
 use Rattle.rx_walk.specs.declared.stages.PendingBase.{PendingBase}
