@@ -98,10 +98,10 @@ pub fn run<F: Shelf, O: Sink, E: Sink>(
     // where a context file is named, one byte past the largest of these. Of several pages each that has a fault is read no
     // further than a piece past the byte that decides it. No more files are started than are named.
     ensures takes { WhereKnown (TakesJob (job words.now)) (F.told shelf.old) (F.told shelf.new) }
-    // Where the text is written, as many files were started as are named, so that each of them, which all had to be read, was
-    // started once; and a page that alone is asked for was read to its end. One that is refused is read no further than
-    // 65,536 bytes past the byte that decides the fault, unless that is an item's, which is found once the page has ended. Where
-    // the shelf failed, what was read of it holds no fault but that it ends.
+    // Where the text is written, exactly as many files were started as are named: none twice, since each had to be read. A page that
+    // alone is asked for was read to its end then. One that is refused is read no further than 65,536 bytes past the byte that
+    // decides the fault, unless that is an item's, which is found once the page has ended. Where the shelf failed, what was read of
+    // it holds no fault but that it ends.
     ensures to_end { result ≡ Status.Done → WhereKnown (ReadsAll (job words.now)) (F.told shelf.old) (F.told shelf.new) }
     ensures refused_takes { WhereRefused result (λ fault. WhereKnown (TakesToFault (page_asked words.now) fault) (F.told shelf.old) (F.told shelf.new)) }
     ensures cleanly { result ≡ Status.ReadFault → WhereKnown (StopsCleanly (page_asked words.now)) (F.told shelf.old) (F.told shelf.new) }
