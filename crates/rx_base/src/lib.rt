@@ -1,6 +1,7 @@
 //! The base of a page (HTML, 4.2.3), which is RDFa's and Microdata's alike: how it is looked for as the page is read.
 #![tactic(auto)]
 
+ghost use Rattle.rx_base.specs.KnownBases.{KnowsOverBytes};
 ghost use Rattle.rx_base.specs.Moments.{KnowsAtTheFirstMoment};
 ghost use Rattle.rx_base.specs.Seekings.{BaseIsFound};
 
@@ -20,8 +21,6 @@ pub fn base_is_found()
 pub fn base_is_known_at_the_first_moment()
     ensures { KnowsAtTheFirstMoment }
 {}
-
-ghost use Rattle.rx_base.specs.KnownBases.{KnowsOverBytes};
 
 /// The base is known exactly over the bytes of which a front decides it. In the tree that this front has once it is closed
 /// the root's first child has begun and is no head; or it is a head in which a base with href has begun, or one that isn't

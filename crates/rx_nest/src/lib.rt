@@ -4,6 +4,7 @@
 ghost use Rattle.rx_nest.specs.Fronts.{ShowsOneElement, TagsLieInTheirBytes};
 ghost use Rattle.rx_nest.specs.OpenElements.{HasOpenOfFronts, HasOpenUnderway};
 ghost use Rattle.rx_nest.specs.RefusedTags.{RefusedTagsAreLast};
+ghost use Rattle.rx_nest.specs.ShownLines.{ShowsOpenOnes, StandsUnderway};
 
 mod element_names;
 mod levels;
@@ -50,8 +51,6 @@ pub fn depth_is_of_what_is_underway()
 pub fn refused_tags_are_last()
     ensures { RefusedTagsAreLast }
 {}
-
-ghost use Rattle.rx_nest.specs.ShownLines.{ShowsOpenOnes, StandsUnderway};
 
 /// The elements that were shown to begin, and not to end, are the open ones that the page's tree shows: those that no
 /// template hides. And the bytes are underway, so that there is a line of open elements.
