@@ -1,5 +1,5 @@
 -- Reading a page as its bytes come.
-use Rattle.std.specs.Prelude.{◌≡◌, ℕ, ◌+◌, ◌≤◌, List, [], ◌++◌, length, Option, Some, Result, Ok, Err}
+use Rattle.std.specs.Prelude.{◌≡◌, ℕ, ◌+◌, ◌<◌, ◌≤◌, List, [], ◌++◌, length, Option, Some, Result, Ok, Err}
 use Rattle.rx_grammar.specs.declared.faults.Fault.{Fault}
 use Rattle.rx_grammar.specs.declared.faults.Kind.TheVariants.{Unended}
 use Rattle.rx_nest.specs.Ways.{Way}
@@ -12,6 +12,10 @@ use Rattle.rx_page.specs.Settings.{standard, HasFirst}
 -- the most bytes that a read asks for
 abbrev pub largest_piece : ℕ
 largest_piece = 65536
+
+-- so many bytes a read may ask for: one at least
+abbrev pub IsPiece : ℕ → Type 0
+IsPiece room = (0 < room) × (room ≤ largest_piece)
 
 -- how much is read of a page at most
 abbrev pub page_limit : ℕ

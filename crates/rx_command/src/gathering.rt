@@ -1,5 +1,5 @@
 //! Several pages in one dataset: the context file is read, and then each page in order.
-ghost use Rattle.std.specs.Prelude.{◌≡◌, ◌≤◌, ◌++◌, [], ◌∷◌, length, IfOk, OnOk, IsErrOf, Err, is_some, true, encode_utf8_all};
+ghost use Rattle.std.specs.Prelude.{◌≡◌, ◌≤◌, ◌++◌, [], ◌∷◌, vec_len, IfOk, OnOk, IsErrOf, Err, is_some, true, encode_utf8_all};
 ghost use Rattle.rx_many.specs.Pages.{accepted_page};
 ghost use Rattle.rx_ports.specs.Shelves.{WhereKnown};
 ghost use Rattle.rx_job.specs.Jobs.{several_seen, page_at};
@@ -8,7 +8,7 @@ ghost use Rattle.rx_command.specs.Gathering.{AddsPage, AddsPages, GathersPages, 
 ghost use Rattle.rx_command.specs.Inputs.{WhereTold};
 ghost use Rattle.rx_command.specs.Outcome.{LacksOne, LacksPage};
 ghost use Rattle.rx_command.specs.Calls.{FailedOr, FailedOrLacks, Steady};
-ghost use Rattle.rx_command.specs.Reading.{largest_piece};
+ghost use Rattle.rx_command.specs.Reading.{IsPiece};
 ghost use Rattle.rx_page.specs.Written.{graph_made};
 
 use crate::errors::InputError;
@@ -83,7 +83,7 @@ fn gather_pages<F: Shelf>(
     ensures steady { Steady result (F.faults shelf.old) (F.faults shelf.new) }
 {
     let mut piece = new_piece(alloc)?;
-    gather_by(alloc, shelf, syntax, context, pages, &mut piece[..], many)
+    gather_by(alloc, shelf, syntax, context, pages, &mut piece, many)
 }
 
 /// Reads the pages one after another by this piece, and adds what each gives.
@@ -93,10 +93,10 @@ fn gather_by<F: Shelf>(
     syntax: Syntax,
     context: &Context,
     pages: &Pages,
-    piece: &mut [u8],
+    piece: &mut Vec<u8>,
     many: &mut Many,
 ) -> Result<(), InputError>
-    requires { length piece.old ≡ largest_piece }
+    requires { IsPiece (vec_len piece.old) }
     ensures ok { OnOk result (AddsPages context.now syntax pages.now many.old many.new (F.told shelf.old) (F.told shelf.new)) }
     ensures takes { WhereKnown (TakesParts context.now syntax pages.now) (F.told shelf.old) (F.told shelf.new) }
     ensures not_refused { (fault : Fault) → result ≡ Err (InputError.Refused fault) → ⊥ }
@@ -122,15 +122,16 @@ fn gather_page<F: Shelf>(
     context: &Context,
     address: &Iri,
     page: &Text,
-    piece: &mut [u8],
+    piece: &mut Vec<u8>,
     many: &mut Many,
 ) -> Result<(), InputError>
-    requires { length piece.old ≡ largest_piece }
+    requires { IsPiece (vec_len piece.old) }
     ensures ok { OnOk result (AddsPage context.now syntax (page_at address.now page.now) many.old many.new (F.told shelf.old) (F.told shelf.new)) }
     ensures takes { WhereKnown (TakesPart context.now syntax (page_at address.now page.now)) (F.told shelf.old) (F.told shelf.new) }
     ensures not_refused { (fault : Fault) → result ≡ Err (InputError.Refused fault) → ⊥ }
     ensures no_context { IsErrOf result InputError.BadContext → ⊥ }
     ensures failed { IsErrOf result InputError.Failed → FailedOrLacks F.told F.faults shelf.old shelf.new (encode_utf8_all page.now) }
+    ensures room { IsPiece (vec_len piece.new) }
     ensures later { F.faults shelf.old ≤ F.faults shelf.new }
     ensures steady { Steady result (F.faults shelf.old) (F.faults shelf.new) }
 {

@@ -1,9 +1,9 @@
 //! Reading a page as its bytes come.
-ghost use Rattle.std.specs.Prelude.{◌≡◌, ◌<◌, ◌≤◌, IfOk, IsErrOf, length, vec_len};
+ghost use Rattle.std.specs.Prelude.{◌<◌, ◌≤◌, IfOk, IsErrOf, length, vec_len};
 ghost use Rattle.rx_ports.specs.Counts.{Rose};
 ghost use Rattle.rx_ports.specs.Shelves.{WhereKnown};
 ghost use Rattle.rx_page.specs.Settings.{GivesItems, GivesRight, item_way, rdfa_way};
-ghost use Rattle.rx_command.specs.Reading.{largest_piece, page_limit, Starts, ReadsNext, FileGives, PageGives, TakesToFirst, FromStart, Ends};
+ghost use Rattle.rx_command.specs.Reading.{IsPiece, page_limit, Starts, ReadsNext, FileGives, PageGives, TakesToFirst, FromStart, Ends};
 ghost use Rattle.rx_command.specs.Files.{TakesSome, TakesOf};
 ghost use Rattle.rx_command.specs.Ways.{way_of, GivesListOf};
 ghost use Rattle.rx_command.specs.Calls.{FailedOrLacks, Steady};
@@ -16,6 +16,7 @@ use rx_ports::{PIECE, Shelf};
 use rx_terms::{Iri, NoMemory, TripleList};
 use rx_walk::{Check, Limits, Stop, Syntax, Walk};
 use std::alloc::Global;
+use std::mem;
 
 /// How a page is read whose triples are wanted: its syntax, the names that hold in it, and its address.
 #[derive(Drop)]
@@ -24,6 +25,9 @@ pub(crate) struct Approach {
     pub(crate) context: Context,
     pub(crate) address: Iri,
 }
+
+/// The room of the first reads, which many pages fit into.
+const FIRST_PIECE: usize = 4_096;
 
 /// The most bytes that a page has.
 const LARGEST_PAGE: usize = 1_073_741_824;
@@ -47,7 +51,7 @@ pub(crate) fn read_page<F: Shelf>(
         drop(approach);
         return Err(InputError::NoMemory);
     };
-    read_page_by(alloc, shelf, name, approach, &mut piece[..])
+    read_page_by(alloc, shelf, name, approach, &mut piece)
 }
 
 /// Reads a page as [`read_page`] does, by a piece that is lent: who reads many pages makes it once.
@@ -56,15 +60,16 @@ pub(crate) fn read_page_by<F: Shelf>(
     shelf: &mut F,
     name: &str,
     approach: Approach,
-    piece: &mut [u8],
+    piece: &mut Vec<u8>,
 ) -> Result<TripleList, InputError>
-    requires { length piece.old ≡ largest_piece }
+    requires { IsPiece (vec_len piece.old) }
     ensures gives { PageGives (way_of approach) (GivesListOf approach) name.now result (F.told shelf.old) (F.told shelf.new) }
     ensures takes { WhereKnown (TakesOf name.now page_limit) (F.told shelf.old) (F.told shelf.new) }
     ensures to_first { WhereKnown (TakesToFirst (way_of approach) name.now) (F.told shelf.old) (F.told shelf.new) }
     ensures later { F.faults shelf.old ≤ F.faults shelf.new }
     ensures steady { Steady result (F.faults shelf.old) (F.faults shelf.new) }
     ensures failed { IsErrOf result InputError.Failed → FailedOrLacks F.told F.faults shelf.old shelf.new name.now }
+    ensures room { IsPiece (vec_len piece.new) }
 {
     let Approach {
         syntax,
@@ -72,7 +77,7 @@ pub(crate) fn read_page_by<F: Shelf>(
         address,
     } = approach;
     let walk = Walk::new(alloc, syntax, context, address, Limits::standard())?;
-    read_by(shelf, name, walk, piece)
+    read_by(alloc, shelf, name, walk, piece)
 }
 
 /// Reads a page as [`read_page`] does, but for its items. No start tag is refused for what it means.
@@ -111,12 +116,26 @@ pub(crate) fn check_page<F: Shelf>(
     read(alloc, shelf, name, check)
 }
 
-/// Room for one read.
+/// Room for the first read.
 pub(crate) fn new_piece(alloc: Global) -> Result<Vec<u8>, NoMemory>
-    ensures { IfOk result (λ piece. vec_len piece ≡ largest_piece) }
+    ensures { IfOk result (λ piece. IsPiece (vec_len piece)) }
 {
-    let piece = vec![in alloc; 0u8; PIECE]?;
+    let piece = vec![in alloc; 0u8; FIRST_PIECE]?;
     Ok(piece)
+}
+
+/// Makes the room as large as it may be once a read filled it. Where there is no memory for that, it stays.
+fn widen(alloc: Global, piece: &mut Vec<u8>, count: usize)
+    requires { IsPiece (vec_len piece.old) }
+    ensures { IsPiece (vec_len piece.new) }
+{
+    if count < piece.len() || piece.len() == PIECE {
+        return;
+    }
+    let Ok(large) = vec![in alloc; 0u8; PIECE] else {
+        return;
+    };
+    drop(mem::replace(piece, large));
 }
 
 /// Reads a page by this reader, for what it gives.
@@ -137,27 +156,29 @@ fn read<F: Shelf, R: PageReader + Drop>(
         drop(reader);
         return Err(InputError::NoMemory);
     };
-    read_by(shelf, name, reader, &mut piece[..])
+    read_by(alloc, shelf, name, reader, &mut piece)
 }
 
 /// Reads a page as [`read`] does, by a piece that is lent.
 fn read_by<F: Shelf, R: PageReader + Drop>(
+    alloc: Global,
     shelf: &mut F,
     name: &str,
     reader: R,
-    piece: &mut [u8],
+    piece: &mut Vec<u8>,
 ) -> Result<R::Given, InputError>
     requires starts { Starts R.way R.stands reader }
-    requires room { length piece.old ≡ largest_piece }
+    requires room { IsPiece (vec_len piece.old) }
     ensures gives { FromStart R.stands reader (λ setting. PageGives (R.way setting) (R.gives setting) name.now result (F.told shelf.old) (F.told shelf.new)) }
     ensures takes { WhereKnown (TakesOf name.now page_limit) (F.told shelf.old) (F.told shelf.new) }
     ensures to_first { FromStart R.stands reader (λ setting. WhereKnown (TakesToFirst (R.way setting) name.now) (F.told shelf.old) (F.told shelf.new)) }
     ensures later { F.faults shelf.old ≤ F.faults shelf.new }
     ensures steady { Steady result (F.faults shelf.old) (F.faults shelf.new) }
     ensures failed { IsErrOf result InputError.Failed → FailedOrLacks F.told F.faults shelf.old shelf.new name.now }
+    ensures room { IsPiece (vec_len piece.new) }
 {
     let mut reader = reader;
-    match feed_file(shelf, name, &mut reader, piece) {
+    match feed_file(alloc, shelf, name, &mut reader, piece) {
         Ok(()) => end_of(reader),
         Err(error) => {
             drop(reader);
@@ -168,28 +189,33 @@ fn read_by<F: Shelf, R: PageReader + Drop>(
 
 /// Feeds the reader the whole file.
 fn feed_file<F: Shelf, R: PageReader>(
+    alloc: Global,
     shelf: &mut F,
     name: &str,
     reader: &mut R,
-    piece: &mut [u8],
+    piece: &mut Vec<u8>,
 ) -> Result<(), InputError>
     requires starts { Starts R.way R.stands reader.old }
-    requires room { length piece.old ≡ largest_piece }
+    requires room { IsPiece (vec_len piece.old) }
     ensures gives { FromStart R.stands reader.old (λ setting. FileGives (R.way setting) (R.stands setting) name.now result reader.new (F.told shelf.old) (F.told shelf.new)) }
     ensures takes { WhereKnown (TakesOf name.now page_limit) (F.told shelf.old) (F.told shelf.new) }
     ensures to_first { FromStart R.stands reader.old (λ setting. WhereKnown (TakesToFirst (R.way setting) name.now) (F.told shelf.old) (F.told shelf.new)) }
     ensures later { F.faults shelf.old ≤ F.faults shelf.new }
     ensures steady { Steady result (F.faults shelf.old) (F.faults shelf.new) }
     ensures failed { IsErrOf result InputError.Failed → FailedOrLacks F.told F.faults shelf.old shelf.new name.now }
+    ensures room { IsPiece (vec_len piece.new) }
 {
     let Ok(()) = shelf.start_file(name) else {
         return Err(InputError::Failed);
     };
     let mut taken = 0;
     while taken <= LARGEST_PAGE {
-        match feed_next(shelf, reader, piece) {
+        match feed_next(shelf, reader, &mut piece[..]) {
             Ok(0) => return Ok(()),
-            Ok(count) => taken += count,
+            Ok(count) => {
+                taken += count;
+                widen(alloc, piece, count);
+            }
             Err(error) => return Err(error),
         }
     }

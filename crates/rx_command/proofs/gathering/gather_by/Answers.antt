@@ -11,7 +11,7 @@ pub loop-i-preserved : goal.loop-i-preserved
 loop-i-preserved g c =
     let one : Listed = record { address = c.at.result.0.now; page = c.at.result.1.now } in
     record {
-      piece = omega (arith, c.gather_page.auto.piece, c.loop-i.invariant.piece);
+      piece = c.in-Ok.ensures.room;
       adds = next_added c.args.context.now c.args.syntax c.args.pages.now c.loop-i.i one _ _ _ _ _ _ c.at.ensures c.loop-i.invariant.adds c.in-Ok.ensures.ok;
       later = omega (arith, c.loop-i.invariant.later, c.in-Ok.ensures.later);
       same = c.in-Ok.ensures.steady ∙ c.loop-i.invariant.same;

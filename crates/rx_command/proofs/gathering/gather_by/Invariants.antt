@@ -1,11 +1,11 @@
-use Rattle.std.proofs.Common.{◌≡◌, ◌≤◌, length, take}
-use Rattle.rx_command.specs.Reading.{largest_piece}
+use Rattle.std.proofs.Common.{◌≡◌, ◌≤◌, take, vec_len}
+use Rattle.rx_command.specs.Reading.{IsPiece}
 use Rattle.rx_command.specs.Gathering.{AddsPages}
 use Rattle.rx_command.proofs.gathering.gather_by.Given as goal
 
 abbrev pub invariant-loop-i : goal.invariant-loop-i
 invariant-loop-i g l = record {
-  piece : length l.piece ≡ largest_piece;
+  piece : IsPiece (vec_len l.piece);
   adds : AddsPages l.context l.syntax (take l.i l.pages) l.fn.many l.many (g.F.Shelf.told l.fn.shelf) (g.F.Shelf.told l.shelf);
   later : g.F.Shelf.faults l.fn.shelf ≤ g.F.Shelf.faults l.shelf;
   same : g.F.Shelf.faults l.shelf ≡ g.F.Shelf.faults l.fn.shelf;

@@ -36,22 +36,22 @@ loop-taken-init g c = record {
 pub returns-in-Ok-eq0-clause-gives : goal.returns-in-Ok-eq0-clause-gives
 returns-in-Ok-eq0-clause-gives g c setting first =
     let s = c.loop-taken.invariant.so_far setting first in
-    let small : length c.loop-taken.piece ≤ largest_piece = omega (arith, c.loop-taken.invariant.piece) in
+    let small : length c.deref_mut.result.now ≤ largest_piece = omega (arith, c.deref_mut.ensures.len, c.loop-taken.invariant.piece.1) in
     file_fed (g.R.PageReader.way setting) (g.R.PageReader.stands setting) c.args.name.now c.loop-taken.reader c.feed_next.new.reader c.loop-taken.taken c.in-Ok-eq0.field-0 _ _ _ s
     (c.in-Ok-eq0.ensures.gives setting s.bytes s.at small) c.in-Ok-eq0.field-0-test
 
 pub returns-in-Ok-eq0-clause-takes : goal.returns-in-Ok-eq0-clause-takes
 returns-in-Ok-eq0-clause-takes g c =
     let s = c.loop-taken.invariant.so_far c.requires.starts.setting c.requires.starts.at in
-    let within : length s.bytes + length c.loop-taken.piece ≤ page_limit = omega (arith, s.size, c.loop-taken-test.true, c.loop-taken.invariant.piece) in
-    moves_then (TakesOf c.args.name.now page_limit) (λ x y z h t. takes_more c.args.name.now s.bytes page_limit (length c.loop-taken.piece) x y z h t within) s.read c.in-Ok-eq0.ensures.takes
+    let within : length s.bytes + length c.deref_mut.result.now ≤ page_limit = omega (arith, s.size, c.loop-taken-test.true, c.deref_mut.ensures.len, c.loop-taken.invariant.piece.1) in
+    moves_then (TakesOf c.args.name.now page_limit) (λ x y z h t. takes_more c.args.name.now s.bytes page_limit (length c.deref_mut.result.now) x y z h t within) s.read c.in-Ok-eq0.ensures.takes
 
 pub loop-taken-preserved : goal.loop-taken-preserved
 loop-taken-preserved g c =
-    let small : length c.loop-taken.piece ≤ largest_piece = omega (arith, c.loop-taken.invariant.piece) in
+    let small : length c.deref_mut.result.now ≤ largest_piece = omega (arith, c.deref_mut.ensures.len, c.loop-taken.invariant.piece.1) in
     record {
-      piece = omega (arith, c.feed_next.auto.piece, c.loop-taken.invariant.piece);
-      most = omega (arith, c.loop-taken-test.true, c.in-Ok-feed_next.ensures.bound, c.feed_next.auto.piece, c.loop-taken.invariant.piece);
+      piece = c.widen.ensures;
+      most = omega (arith, c.loop-taken-test.true, c.in-Ok-feed_next.ensures.bound, c.feed_next.auto.piece, c.deref_mut.ensures.len, c.loop-taken.invariant.piece.1);
       so_far = λ setting first.
           let s = c.loop-taken.invariant.so_far setting first in
           more_so_far (g.R.PageReader.way setting) (g.R.PageReader.stands setting) c.args.name.now c.loop-taken.reader c.feed_next.new.reader c.loop-taken.taken c.in-Ok-feed_next.count _ _ _ s
@@ -63,15 +63,15 @@ loop-taken-preserved g c =
 pub returns-in-Err-clause-gives : goal.returns-in-Err-clause-gives
 returns-in-Err-clause-gives g c setting first =
     let s = c.loop-taken.invariant.so_far setting first in
-    let small : length c.loop-taken.piece ≤ largest_piece = omega (arith, c.loop-taken.invariant.piece) in
+    let small : length c.deref_mut.result.now ≤ largest_piece = omega (arith, c.deref_mut.ensures.len, c.loop-taken.invariant.piece.1) in
     next_found (g.R.PageReader.way setting) (g.R.PageReader.stands setting) c.args.name.now (g.met.R.PageReader.refuses setting) c.loop-taken.reader c.feed_next.new.reader c.loop-taken.taken c.in-Err.error _ _ _ s
     (g.met.R.PageReader.shows setting c.loop-taken.reader s.bytes s.at) (c.in-Err.ensures.gives setting s.bytes s.at small)
 
 pub returns-in-Err-clause-takes : goal.returns-in-Err-clause-takes
 returns-in-Err-clause-takes g c =
     let s = c.loop-taken.invariant.so_far c.requires.starts.setting c.requires.starts.at in
-    let within : length s.bytes + length c.loop-taken.piece ≤ page_limit = omega (arith, s.size, c.loop-taken-test.true, c.loop-taken.invariant.piece) in
-    moves_then (TakesOf c.args.name.now page_limit) (λ x y z h t. takes_more c.args.name.now s.bytes page_limit (length c.loop-taken.piece) x y z h t within) s.read c.in-Err.ensures.takes
+    let within : length s.bytes + length c.deref_mut.result.now ≤ page_limit = omega (arith, s.size, c.loop-taken-test.true, c.deref_mut.ensures.len, c.loop-taken.invariant.piece.1) in
+    moves_then (TakesOf c.args.name.now page_limit) (λ x y z h t. takes_more c.args.name.now s.bytes page_limit (length c.deref_mut.result.now) x y z h t within) s.read c.in-Err.ensures.takes
 
 pub unreachable-requires : goal.unreachable-requires
 unreachable-requires g c =
@@ -95,15 +95,15 @@ returns-in-Ok-eq0-clause-to_first g c setting first =
     let way = g.R.PageReader.way setting in
     let s = c.loop-taken.invariant.so_far setting first in
     let shown = g.met.R.PageReader.shows setting c.loop-taken.reader s.bytes s.at in
-    let small : length c.loop-taken.piece ≤ largest_piece = omega (arith, c.loop-taken.invariant.piece) in
+    let small : length c.deref_mut.result.now ≤ largest_piece = omega (arith, c.deref_mut.ensures.len, c.loop-taken.invariant.piece.1) in
     moves_then (TakesToFirst way c.args.name.now)
-    (λ x y z h t. to_first way (g.met.R.PageReader.refuses setting) c.args.name.now s.bytes (length c.loop-taken.piece) x y z shown h t small) s.read c.in-Ok-eq0.ensures.takes
+    (λ x y z h t. to_first way (g.met.R.PageReader.refuses setting) c.args.name.now s.bytes (length c.deref_mut.result.now) x y z shown h t small) s.read c.in-Ok-eq0.ensures.takes
 
 pub returns-in-Err-clause-to_first : goal.returns-in-Err-clause-to_first
 returns-in-Err-clause-to_first g c setting first =
     let way = g.R.PageReader.way setting in
     let s = c.loop-taken.invariant.so_far setting first in
     let shown = g.met.R.PageReader.shows setting c.loop-taken.reader s.bytes s.at in
-    let small : length c.loop-taken.piece ≤ largest_piece = omega (arith, c.loop-taken.invariant.piece) in
+    let small : length c.deref_mut.result.now ≤ largest_piece = omega (arith, c.deref_mut.ensures.len, c.loop-taken.invariant.piece.1) in
     moves_then (TakesToFirst way c.args.name.now)
-    (λ x y z h t. to_first way (g.met.R.PageReader.refuses setting) c.args.name.now s.bytes (length c.loop-taken.piece) x y z shown h t small) s.read c.in-Err.ensures.takes
+    (λ x y z h t. to_first way (g.met.R.PageReader.refuses setting) c.args.name.now s.bytes (length c.deref_mut.result.now) x y z shown h t small) s.read c.in-Err.ensures.takes

@@ -1,12 +1,12 @@
-use Rattle.std.proofs.Common.{◌≤◌, ◌≡◌, ◌+◌, ◌-◌, [], length}
+use Rattle.std.proofs.Common.{◌≤◌, ◌≡◌, ◌+◌, ◌-◌, [], vec_len}
 use Rattle.rx_page.specs.Settings.{standard}
-use Rattle.rx_command.specs.Reading.{largest_piece, page_limit}
+use Rattle.rx_command.specs.Reading.{IsPiece, page_limit}
 use Rattle.rx_command.proofs.ReadLemmas.{SoFar}
 use Rattle.rx_command.proofs.pages.feed_file.Given as goal
 
 abbrev pub invariant-loop-taken : goal.invariant-loop-taken
 invariant-loop-taken g l = record {
-  piece : length l.piece ≡ largest_piece;
+  piece : IsPiece (vec_len l.piece);
   most : l.taken ≤ page_limit;
   so_far : (setting : g.R.PageReader.Setting) → g.R.PageReader.stands setting l.fn.reader []
       → SoFar (g.R.PageReader.stands setting) l.name l.reader l.taken (g.F.Shelf.told l.fn.shelf) (g.F.Shelf.told l.shelf);
