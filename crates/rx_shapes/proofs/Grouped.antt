@@ -1,6 +1,7 @@
 -- The triples of a list by subject and predicate.
-use Rattle.std.proofs.Common.{◌≡◌, ◌↔◌, ℕ, nat_eq, List, map, filter, flat_map, bytes_eq, refl, subst}
+use Rattle.std.proofs.Common.{◌≡◌, ◌↔◌, ℕ, nat_eq, List, map, filter, flat_map, bytes_eq, refl, sym, subst}
 use Rattle.rx_terms.specs.Text.{Chars}
+use Rattle.rx_terms.proofs.Bools.{same_truth}
 use Rattle.rx_model.specs.Sets.{Among, IsExact}
 use Rattle.rx_model.specs.Terms.{Node, Term, Triple, same_node}
 use Rattle.rx_model.specs.Copied.{spo}
@@ -10,6 +11,9 @@ use Rattle.rx_shapes.specs.Subjects.{has_subject, has_predicate, subjects, about
 
 pub same_nodes : IsExact (same_node nat_eq)
 same_nodes = exact_nodes nat_eq exact_numbers
+
+pub same_back : (a b : Node ℕ) → same_node nat_eq a b ≡ same_node nat_eq b a
+same_back a b = same_truth (same_node nat_eq a b) (same_node nat_eq b a) (λ h. (same_nodes b a).1 (sym ((same_nodes a b).0 h))) (λ h. (same_nodes a b).1 (sym ((same_nodes b a).0 h)))
 
 triple_path : (t : Triple ℕ) (s : Node ℕ) (p : Chars) (o : Term ℕ) → t.subject ≡ s → t.predicate ≡ p → t.object ≡ o → t ≡ spo s p o
 triple_path t s p o e f g = λ i. record { subject = e i; predicate = f i; object = g i }
