@@ -1,8 +1,0 @@
-use Rattle.std.proofs.Common.{◌≡◌, drop}
-use Rattle.rx_model.specs.Seen.{triples_seen}
-use Rattle.rx_jsonld.specs.Places.{object_among, predicate_of}
-use Rattle.rx_jsonld.proofs.chains.object_among.Given as goal
-
-abbrev pub invariant-loop-place : goal.invariant-loop-place
-invariant-loop-place l =
-    object_among (triples_seen l.graph) (drop l.place-index l.places) (predicate_of l.part) ≡ object_among (triples_seen l.graph) l.places (predicate_of l.part)
