@@ -19,7 +19,7 @@ triple_path : (t : Triple ℕ) (s : Node ℕ) (p : Chars) (o : Term ℕ) → t.s
 triple_path t s p o e f g = λ i. record { subject = e i; predicate = f i; object = g i }
 
 module _ (list : List (Triple ℕ)) where
-  about_there : (t : Triple ℕ) → Among list t → Among (about list t.subject) t
+  pub about_there : (t : Triple ℕ) → Among list t → Among (about list t.subject) t
   about_there t m = Among_filter (has_subject t.subject) list t m ((same_nodes t.subject t.subject).1 refl)
 
   pub subject_there : (t : Triple ℕ) → Among list t → Among (subjects list) t.subject
@@ -35,7 +35,7 @@ module _ (list : List (Triple ℕ)) where
       (Among_filter (has_predicate t.predicate) (about list t.subject) t (about_there t m) ((exact_texts t.predicate t.predicate).1 refl))
 
   -- a triple of a subject
-  of_about : (s : Node ℕ) (t : Triple ℕ) → Among (about list s) t → Among list t × (t.subject ≡ s)
+  pub of_about : (s : Node ℕ) (t : Triple ℕ) → Among (about list s) t → Among list t × (t.subject ≡ s)
   of_about s t m = let found = Among_of_filter (has_subject s) list t m in (found.0, (same_nodes t.subject s).0 found.1)
 
   -- a subject has a predicate
