@@ -14,11 +14,12 @@ use Rattle.rx_model.proofs.Exact.{exact_nodes, exact_numbers}
 use Rattle.rx_graph.specs.Resources.{node_added, AreDistinct}
 use Rattle.rx_terms.proofs.Bools.{same_truth}
 use Rattle.rx_graph.proofs.SetLemmas.{one_more}
+use Rattle.rx_shapes.proofs.Grouped.{same_back}
 use Rattle.rx_turtle.specs.declared.keys.By.{By}
 use Rattle.rx_turtle.specs.declared.keys.By.TheVariants as by
 use Rattle.rx_turtle.specs.Groups.{Keyed, key_by, has_key, keys_by, keys_in, grouped}
 use Rattle.rx_turtle.specs.Runs.{all_in, put_before, runs, starts, like_first, Said, said_by, said_in, by_predicate}
-use Rattle.rx_turtle.proofs.GroupLemmas.{lent_seen, lent_at, lent_more, same_back, same_self, keys_more, rows_by}
+use Rattle.rx_turtle.proofs.GroupLemmas.{lent_seen, lent_at, lent_more, same_self, keys_more, rows_by}
 use Rattle.rx_turtle.proofs.TakenLemmas.{keys_of_pairs}
 
 -- ---- cutting where the key changes
