@@ -1,14 +1,15 @@
 -- What is found by the places of a node's triples.
-use Rattle.std.proofs.Common.{◌≡◌, ◌∙◌, ℕ, zero, suc, ◌+◌, ◌-◌, ◌<◌, nat_eq, Bool, true, false, not, ◌&&◌, ◌||◌, cond, List, [], ◌∷◌, ◌++◌, map, filter, flat_map, take, bytes_eq, slice_get, Option, Some, None, option_to_list, refl, sym, ap, ap₂, subst, inl, inr, arith, append-nil, append_assoc}
+use Rattle.std.proofs.Common.{◌≡◌, ◌∙◌, ℕ, zero, suc, ◌+◌, ◌-◌, ◌<◌, nat_eq, Bool, true, false, not, ◌&&◌, ◌||◌, cond, List, [], ◌∷◌, ◌++◌, map, filter, flat_map, take, slice_get, Option, Some, None, option_to_list, refl, sym, ap, ap₂, subst, inl, inr, arith, append-nil, append_assoc}
 use Rattle.std.proofs.lemmas.Bool.Decides.{nat_tests}
-use Rattle.std.proofs.lemmas.List.{map-append}
+use Rattle.std.proofs.lemmas.Grind.{flat_map-append}
+use Rattle.std.proofs.lemmas.List.{map-append, take-map}
 use Rattle.std.proofs.lemmas.List.Elements.{filter-append}
 use Rattle.serde_json.specs.Data.{Data, Members}
 use Rattle.rx_terms.specs.Text.{Chars}
 use Rattle.rx_terms.specs.declared.triples.Blank.{Blank as Number}
 use Rattle.rx_terms.specs.declared.triples.Triple.{Triple as CodeTriple}
 use Rattle.rx_model.specs.Sets.{Among, contains, distinct}
-use Rattle.rx_model.specs.Terms.{Node, Iri, Blank, Term, Triple, same_node}
+use Rattle.rx_model.specs.Terms.{Node, Iri, Blank, Triple, same_node}
 use Rattle.rx_model.specs.Seen.{node_seen, triple_seen, triples_seen}
 use Rattle.rx_model.proofs.Sets.{Among_cases, Among-contains, Among_by_contains, Among_distinct, Among_of_distinct}
 use Rattle.rx_graph.specs.Resources.{node_added}
@@ -85,12 +86,6 @@ module _ (list : List CodeTriple) (shapes : ℕ → Shape) where
   abbrev pub nodes_until : List CodeTriple → List Data
   nodes_until front = map (node_value seen shapes) (filter is_top (subjects (triples_seen front)))
 
-  seen_take : (list : List CodeTriple) (i : ℕ) → triples_seen (take i list) ≡ take i (triples_seen list)
-  seen_take [] zero = refl
-  seen_take [] (suc i) = refl
-  seen_take (t ∷ list) zero = refl
-  seen_take (t ∷ list) (suc i) = ap (λ z. triple_seen t ∷ z) (seen_take list i)
-
   grown : (nodes : List (Node ℕ)) (s : Node ℕ) (b : Bool) → contains (same_node nat_eq) nodes s ≡ b
       → map (node_value seen shapes) (filter is_top (cond b nodes (nodes ++ s ∷ [])))
       ≡ map (node_value seen shapes) (filter is_top nodes) ++ cond (not b && is_top s) (node_value seen shapes s ∷ []) []
@@ -112,7 +107,7 @@ module _ (list : List CodeTriple) (shapes : ℕ → Shape) where
       starts_from s 0 i seen (triple_seen t) (seen_at list i t at) ((same_nodes s s).1 refl) in
       let same : 0 + i ≡ i = omega arith in
       let starting : starts (places_of nat_eq seen s) i ≡ not (contains (same_node nat_eq) (subjects front) s) =
-      ap (starts (places_of nat_eq seen s)) (sym same) ∙ first ∙ ap (λ z. not (contains (same_node nat_eq) (map subject_in z) s)) (sym (seen_take list i))
+      ap (starts (places_of nat_eq seen s)) (sym same) ∙ first ∙ ap (λ z. not (contains (same_node nat_eq) (map subject_in z) s)) (take-map triple_seen i list)
       ∙ ap not (among_distinct (map subject_in front) s) in
       let more : subjects (triples_seen (take (i + 1) list)) ≡ node_added (subjects front) s =
       ap subjects (seen_more list i t at) ∙ ap (distinct (same_node nat_eq)) (map-append subject_in front (triple_seen t ∷ []))
@@ -128,8 +123,7 @@ added_more nodes [] ys = refl
 added_more nodes (x ∷ xs) ys = added_more (node_added nodes (Blank x)) xs ys
 
 flat_map_more : {A B : Type 0} (f : A → List B) (xs : List A) (x : A) → flat_map f (xs ++ x ∷ []) ≡ flat_map f xs ++ f x
-flat_map_more f [] x = append-nil (f x)
-flat_map_more f (y ∷ xs) x = ap (λ z. f y ++ z) (flat_map_more f xs x) ∙ sym (append_assoc (f y) (flat_map f xs) (f x))
+flat_map_more f xs x = flat_map-append f xs (x ∷ []) ∙ ap (λ z. flat_map f xs ++ z) (append-nil (f x))
 
 pub record Gathered (list : List CodeTriple) (shapes : ℕ → Shape) (i : ℕ) (now : List (Node ℕ)) : Type 0 where
   pub cells : now ≡ nodes_added [] (flat_map (cells_at shapes (triples_seen list)) (triples_seen (take i list)))
