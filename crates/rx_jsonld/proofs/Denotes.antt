@@ -17,10 +17,10 @@ use Rattle.rx_pieces.specs.Writable.{WritableNode, WritableTerm, IsWritable}
 use Rattle.rx_model.specs.Vocabulary.{rdf_first, rdf_rest}
 use Rattle.rx_shapes.specs.declared.shapes.Shape.{Shape}
 use Rattle.rx_shapes.specs.Subjects.{has_subject, about, subjects}
-use Rattle.rx_shapes.proofs.Grouped.{same_nodes, subject_there}
+use Rattle.rx_shapes.proofs.Grouped.{same_nodes, about_there, subject_there, of_about}
 use Rattle.rx_shapes.specs.Shapes.{HaveShapes}
 use Rattle.rx_shapes.proofs.Heights.{Differ}
-use Rattle.rx_shapes.proofs.Times.{times, one_if, once_differ, differ_filter, distinct_differ}
+use Rattle.rx_shapes.proofs.Times.{times, times_append, times_there, one_if, once_differ, differ_filter, distinct_differ}
 use Rattle.rx_jsonld.specs.Lists.{cells_at, listed, is_listed}
 use Rattle.rx_jsonld.specs.Value.{node_value, tops, jsonld}
 use Rattle.rx_jsonld.specs.Meaning.{all_triples, Name, Label, Place, JsonLd}
@@ -28,7 +28,6 @@ use Rattle.rx_jsonld.specs.Laws.{ValueDenotes}
 use Rattle.rx_jsonld.proofs.Cells.{IsChain, cells_chain, chain_differs, one_root, of_listed, to_listed, listed_there, there_listed, root_subject}
 use Rattle.rx_jsonld.proofs.Parts.{PartStands, Naming, FreeNode, label_of, item_is, cell_triples, told}
 use Rattle.rx_jsonld.proofs.Docs.{Docs, docs}
-use Rattle.rx_shapes.proofs.Times.{times_append}
 
 -- ---- counts
 
@@ -39,11 +38,6 @@ times_none b (x ∷ xs) h = go (nat_eq b x) refl (times_none b xs (λ m. h (inr 
     go : (t : Bool) → nat_eq b x ≡ t → times b xs ≡ 0 → one_if t + times b xs ≡ 0
     go true e k = absurd (h (inl (sym ((exact_numbers b x).0 e))))
     go false e k = omega (arith, k)
-
-times_some : (b : ℕ) (xs : List ℕ) → Among xs b → 1 ≤ times b xs
-times_some b [] m = absurd m
-times_some b (x ∷ xs) (inl e) = let one : one_if (nat_eq b x) ≡ 1 = ap one_if ((exact_numbers b x).1 (sym e)) in omega (arith, one)
-times_some b (x ∷ xs) (inr m) = let some : 1 ≤ times b xs = times_some b xs m in omega (arith, some)
 
 is_there : (b : ℕ) (xs : List ℕ) → 1 ≤ times b xs → Among xs b
 is_there b xs h = go (contains nat_eq xs b) refl
@@ -219,12 +213,6 @@ module _ (cells : List ℕ) where
 -- ---- the triples of a list
 
 module _ (list : List (Triple ℕ)) (shapes : ℕ → Shape) (writable : IsWritable list) (each_once : Differ list) (have : HaveShapes list shapes) where
-  of_about : (s : Node ℕ) (t : Triple ℕ) → Among (about list s) t → Among list t × (t.subject ≡ s)
-  of_about s t m = let f = Among_of_filter (has_subject s) list t m in (f.0, (same_nodes t.subject s).0 f.1)
-
-  about_there : (t : Triple ℕ) → Among list t → Among (about list t.subject) t
-  about_there t m = Among_filter (has_subject t.subject) list t m ((same_nodes t.subject t.subject).1 refl)
-
   objects_writable : (t : Triple ℕ) → Among list t → WritableTerm t.object
   objects_writable t m = (writable.parts t m).object
 
@@ -248,7 +236,7 @@ module _ (list : List (Triple ℕ)) (shapes : ℕ → Shape) (writable : IsWrita
   top_there t m e = Among_filter (λ (r : Node ℕ). not (is_listed shapes list r)) (subjects list) t.subject (subject_there list t m) (ap not e)
 
   the_docs : Docs list shapes have objects_writable predicate_iris (tops list shapes)
-  the_docs = docs list shapes have objects_writable predicate_iris (tops list shapes) (λ s m. (top_free s m, top_node s m)) of_about
+  the_docs = docs list shapes have objects_writable predicate_iris (tops list shapes) (λ s m. (top_free s m, top_node s m)) (of_about list)
 
   -- ---- the cells
 
@@ -264,13 +252,13 @@ module _ (list : List (Triple ℕ)) (shapes : ℕ → Shape) (writable : IsWrita
   at : (s : Node ℕ) (b : ℕ) → Among (cells_about s) b → At s b
   at s b m =
       let f = Among_of_flat_map (cells_at shapes list) (about list s) b m in
-      let o = of_about s f.0 f.1 in
+      let o = of_about list s f.0 f.1 in
       record { triple = f.0; there = o.0; of = o.1; cell = f.2 }
 
   one_at : (b : ℕ) (s : Node ℕ) → times b (cells_about s) ≤ 1
   one_at b s = once_in_all (cells_at shapes list) b (about list s) (differ_filter (has_subject s) list each_once)
       (λ t m. differ_once b (cells_at shapes list t) (chain_differs list (cells_at shapes list t) (cells_chain list shapes have t)))
-      (λ t u m n. one_root list shapes have t u b (of_about s t m).0 (of_about s u n).0)
+      (λ t u m n. one_root list shapes have t u b (of_about list s t m).0 (of_about list s u n).0)
 
   one_subject : (b : ℕ) (r s : Node ℕ) → Among (cells_about r) b → Among (cells_about s) b → r ≡ s
   one_subject b r s m n =
@@ -293,7 +281,7 @@ module _ (list : List (Triple ℕ)) (shapes : ℕ → Shape) (writable : IsWrita
 
   cell_listed : (b : ℕ) → Among the_docs.cells b → Among (listed shapes list) b
   cell_listed b m =
-      let some : 1 ≤ times b the_docs.cells = times_some b the_docs.cells m in
+      let some : 1 ≤ times b the_docs.cells = times_there b the_docs.cells m in
       let same = the_docs.count b in
       let s = Among_of_flat_map cells_about (tops list shapes) b (is_there b (flat_map cells_about (tops list shapes)) (omega (arith, some, same))) in
       let x = at s.0 b s.2 in
@@ -334,7 +322,7 @@ module _ (list : List (Triple ℕ)) (shapes : ℕ → Shape) (writable : IsWrita
   of_docs u m =
       let s = the_docs.from u m in
       let t = Among_of_flat_map (told list shapes) (about list s.0) u s.2 in
-      told_there t.0 u (of_about s.0 t.0 t.1).0 t.2
+      told_there t.0 u (of_about list s.0 t.0 t.1).0 t.2
 
   cell_told : (cells : List ℕ) → IsChain list cells → (b : ℕ) → Among cells b → (u : Triple ℕ) → Among list u → u.subject ≡ Blank b → Among (cell_triples list shapes cells) (proper_triple u)
   cell_told [] links b k u m e = absurd k
@@ -345,7 +333,7 @@ module _ (list : List (Triple ℕ)) (shapes : ℕ → Shape) (writable : IsWrita
   ]
 
   put_there : (t : Triple ℕ) (u : Triple ℕ) → Among list t → is_listed shapes list t.subject ≡ false → Among (told list shapes t) u → Among the_docs.triples u
-  put_there t u m e k = the_docs.put t.subject u (top_there t m e) (Among_flat_map (told list shapes) (about list t.subject) t u (about_there t m) k)
+  put_there t u m e k = the_docs.put t.subject u (top_there t m e) (Among_flat_map (told list shapes) (about list t.subject) t u (about_there list t m) k)
 
   listed_put : (u : Triple ℕ) → Among list u → (s : Node ℕ) → u.subject ≡ s → is_listed shapes list s ≡ true → Among the_docs.triples (proper_triple u)
   listed_put u m (Iri iri) q e = absurd (true≢false (sym e))

@@ -19,7 +19,8 @@ use Rattle.rx_pieces.specs.Writable.{WritableKind, WritableTerm}
 use Rattle.rx_model.specs.Vocabulary.{rdf_first, rdf_rest, rdf_nil}
 use Rattle.rx_shapes.specs.declared.shapes.Shape.{Shape}
 use Rattle.rx_shapes.specs.Shapes.{HaveShapes}
-use Rattle.rx_jsonld.specs.Lists.{object_at, first_cell, cells_at, is_listed}
+use Rattle.rx_shapes.specs.Subjects.{object_at}
+use Rattle.rx_jsonld.specs.Lists.{first_cell, cells_at, is_listed}
 use Rattle.rx_jsonld.specs.Value.{id_text, literal_members, term_value, list_value, item_by, item_value, is_empty_list, may_be_empty, object_by, object_value}
 use Rattle.rx_jsonld.specs.Document as doc
 use Rattle.rx_jsonld.specs.Document.{Item, Reference, Object, Single, ListObject, Entry, Id, Types, Property, NamesNode, SpellsEach, SpellsArray, SpellsText, SpellsItem, SpellsObject, SpellsEntry, SpellsEntries, id_in, ids}

@@ -1,96 +1,54 @@
 -- What is found by the places of a node's triples.
-use Rattle.std.proofs.Common.{◌≡◌, ◌∙◌, ℕ, zero, suc, ◌+◌, ◌-◌, ◌<◌, nat_eq, Bool, true, false, not, ◌&&◌, ◌||◌, cond, List, [], ◌∷◌, ◌++◌, map, filter, flat_map, take, bytes_eq, slice_get, Option, Some, None, refl, sym, ap, ap₂, subst, inl, inr, arith, append-nil, append_assoc}
+use Rattle.std.proofs.Common.{◌≡◌, ◌∙◌, ℕ, zero, suc, ◌+◌, ◌-◌, ◌<◌, nat_eq, Bool, true, false, not, ◌&&◌, ◌||◌, cond, List, [], ◌∷◌, ◌++◌, map, filter, flat_map, take, slice_get, Option, Some, None, option_to_list, refl, sym, ap, ap₂, subst, inl, inr, arith, append-nil, append_assoc}
 use Rattle.std.proofs.lemmas.Bool.Decides.{nat_tests}
-use Rattle.std.specs.Option.{option_or}
-use Rattle.std.proofs.lemmas.List.{map-append}
+use Rattle.std.proofs.lemmas.Grind.{flat_map-append}
+use Rattle.std.proofs.lemmas.List.{map-append, take-map}
 use Rattle.std.proofs.lemmas.List.Elements.{filter-append}
 use Rattle.serde_json.specs.Data.{Data, Members}
 use Rattle.rx_terms.specs.Text.{Chars}
 use Rattle.rx_terms.specs.declared.triples.Blank.{Blank as Number}
 use Rattle.rx_terms.specs.declared.triples.Triple.{Triple as CodeTriple}
 use Rattle.rx_model.specs.Sets.{Among, contains, distinct}
-use Rattle.rx_model.specs.Terms.{Node, Iri, Blank, Term, Triple, same_node}
+use Rattle.rx_model.specs.Terms.{Node, Iri, Blank, Triple, same_node}
 use Rattle.rx_model.specs.Seen.{node_seen, triple_seen, triples_seen}
 use Rattle.rx_model.proofs.Sets.{Among_cases, Among-contains, Among_by_contains, Among_distinct, Among_of_distinct}
 use Rattle.rx_graph.specs.Resources.{node_added}
 use Rattle.rx_terms.proofs.Bools.{same_truth}
+use Rattle.rx_graph.proofs.PatternLemmas.{contains_added}
 use Rattle.rx_graph.proofs.SetLemmas.{distinct_grows, seen_more}
 use Rattle.rx_pieces.specs.Writable.{WritableTriple}
 use Rattle.rx_model.specs.Vocabulary.{rdf_rest}
 use Rattle.rx_shapes.specs.Rows.{positions}
-use Rattle.rx_shapes.specs.Places.{places_of}
+use Rattle.rx_shapes.specs.Places.{places_of, picked}
 use Rattle.rx_shapes.specs.declared.shapes.Shape.{Shape}
 use Rattle.rx_shapes.proofs.IndexLemmas.{seen_at}
-use Rattle.rx_shapes.specs.Subjects.{has_subject, has_predicate, about, subjects}
-use Rattle.rx_shapes.proofs.Grouped.{same_nodes}
-use Rattle.rx_jsonld.specs.Lists.{first_of, object_at, blank_in, numbers_from, chain, cells_at, listed, is_listed}
+use Rattle.rx_shapes.specs.Subjects.{about, subjects, object_at}
+use Rattle.rx_shapes.proofs.Grouped.{same_nodes, same_back}
+use Rattle.rx_shapes.proofs.PlaceLemmas.{picked_about}
+use Rattle.rx_jsonld.specs.Lists.{blank_in, numbers_from, chain, cells_at, listed, is_listed}
 use Rattle.rx_jsonld.specs.Value.{with_said, with_all, node_value}
-use Rattle.rx_jsonld.specs.Places.{object_if, object_among, nodes_added, with_found, with_places, starts, node_at}
+use Rattle.rx_jsonld.specs.Places.{nodes_added, with_found, with_places, starts, node_at}
 
--- ---- the triples at the places of those that pass a test
+-- ---- what the triples of a node say
 
-module _ (whole : List (Triple ℕ)) (test : Triple ℕ → Bool) where
-  -- the rest stands in the whole from a place on
-  abbrev StandsFrom : ℕ → List (Triple ℕ) → Type 0
-  StandsFrom j rest = (k : ℕ) → slice_get whole (j + k) ≡ slice_get rest k
-
-  next_stands : (j : ℕ) (t : Triple ℕ) (rest : List (Triple ℕ)) → StandsFrom j (t ∷ rest) → StandsFrom (suc j) rest
-  next_stands j t rest at k = let next : suc j + k ≡ j + suc k = omega arith in ap (slice_get whole) next ∙ at (suc k)
-
-  first_stands : (j : ℕ) (t : Triple ℕ) (rest : List (Triple ℕ)) → StandsFrom j (t ∷ rest) → slice_get whole j ≡ Some t
-  first_stands j t rest at = let same : j ≡ j + 0 = omega arith in ap (slice_get whole) same ∙ at 0
-
-  abbrev first_object : Chars → List (Triple ℕ) → Option (Term ℕ)
-  first_object p rest = first_of (map (λ (t : Triple ℕ). t.object) (filter (has_predicate p) rest))
-
-  first_object_of : (p : Chars) (t : Triple ℕ) (rest : List (Triple ℕ)) → option_or (object_if (Some t) p) (first_object p rest) ≡ first_object p (t ∷ rest)
-  first_object_of p t rest = go (bytes_eq t.predicate p)
+module _ (list : List (Triple ℕ)) (shapes : ℕ → Shape) where
+  said_picked : (places : List ℕ) (ms : Members) → with_places list shapes places ms ≡ with_all list shapes (picked list places) ms
+  said_picked [] ms = refl
+  said_picked (place ∷ more) ms = go (slice_get list place) (λ ns. said_picked more ns)
     where
-      go : (b : Bool) → option_or (cond {A = Option (Term ℕ)} b (Some t.object) None) (first_object p rest)
-          ≡ first_of (map (λ (t : Triple ℕ). t.object) (cond b (t ∷ filter (has_predicate p) rest) (filter (has_predicate p) rest)))
-      go true = refl
-      go false = refl
+      go : (o : Option (Triple ℕ)) → ((ns : Members) → with_places list shapes more ns ≡ with_all list shapes (picked list more) ns)
+          → with_places list shapes more (with_found list shapes o ms) ≡ with_all list shapes (option_to_list o ++ picked list more) ms
+      go (Some t) ih = ih (with_said list shapes t ms)
+      go None ih = ih ms
 
-  among_from : (p : Chars) (j : ℕ) (rest : List (Triple ℕ)) → StandsFrom j rest → object_among whole (positions test j rest) p ≡ first_object p (filter test rest)
-  among_from p j [] at = refl
-  among_from p j (t ∷ rest) at = go (test t) (among_from p (suc j) rest (next_stands j t rest at))
-    where
-      go : (b : Bool) → object_among whole (positions test (suc j) rest) p ≡ first_object p (filter test rest)
-          → object_among whole (cond b (j ∷ positions test (suc j) rest) (positions test (suc j) rest)) p ≡ first_object p (cond b (t ∷ filter test rest) (filter test rest))
-      go true ih = ap₂ (λ a b. option_or (object_if a p) b) (first_stands j t rest at) ih ∙ first_object_of p t (filter test rest)
-      go false ih = ih
+  pub said_found : (node : Node ℕ) (places : List ℕ) (ms : Members) → places ≡ places_of nat_eq list node → with_places list shapes places ms ≡ with_all list shapes (about list node) ms
+  said_found node places ms are = said_picked places ms ∙ ap (λ z. with_all list shapes z ms) (picked_about list node places are)
 
-  module _ (shapes : ℕ → Shape) where
-    said_from : (j : ℕ) (rest : List (Triple ℕ)) (ms : Members) → StandsFrom j rest → with_places whole shapes (positions test j rest) ms ≡ with_all whole shapes (filter test rest) ms
-    said_from j [] ms at = refl
-    said_from j (t ∷ rest) ms at = go (test t) (λ ns. said_from (suc j) rest ns (next_stands j t rest at))
-      where
-        go : (b : Bool) → ((ns : Members) → with_places whole shapes (positions test (suc j) rest) ns ≡ with_all whole shapes (filter test rest) ns)
-            → with_places whole shapes (cond b (j ∷ positions test (suc j) rest) (positions test (suc j) rest)) ms ≡ with_all whole shapes (cond b (t ∷ filter test rest) (filter test rest)) ms
-        go true ih = ap (λ o. with_places whole shapes (positions test (suc j) rest) (with_found whole shapes o ms)) (first_stands j t rest at) ∙ ih (with_said whole shapes t ms)
-        go false ih = ih ms
-
-from_start : (list : List (Triple ℕ)) (k : ℕ) → slice_get list (0 + k) ≡ slice_get list k
-from_start list k = let same : 0 + k ≡ k = omega arith in ap (slice_get list) same
+-- ---- the first place of a subject
 
 -- the test of places has its sides exchanged
 abbrev stands_for : Node ℕ → Triple ℕ → Bool
 stands_for node t = same_node nat_eq node t.subject
-
-turned : (node : Node ℕ) (t : Triple ℕ) → stands_for node t ≡ has_subject node t
-turned node t = same_truth (stands_for node t) (has_subject node t) (λ h. (same_nodes t.subject node).1 (sym ((same_nodes node t.subject).0 h))) (λ h. (same_nodes node t.subject).1 (sym ((same_nodes t.subject node).0 h)))
-
-about_turned : (node : Node ℕ) (list : List (Triple ℕ)) → filter (stands_for node) list ≡ about list node
-about_turned node [] = refl
-about_turned node (t ∷ list) = ap₂ (λ b z. cond b (t ∷ z) z) (turned node t) (about_turned node list)
-
-pub object_found : (list : List (Triple ℕ)) (node : Node ℕ) (p : Chars) → object_among list (places_of nat_eq list node) p ≡ object_at list node p
-object_found list node p = among_from list (stands_for node) p 0 list (from_start list) ∙ ap (λ z. first_of (map (λ (t : Triple ℕ). t.object) (filter (has_predicate p) z))) (about_turned node list)
-
-pub said_found : (list : List (Triple ℕ)) (shapes : ℕ → Shape) (node : Node ℕ) (ms : Members) → with_places list shapes (places_of nat_eq list node) ms ≡ with_all list shapes (about list node) ms
-said_found list shapes node ms = said_from list (stands_for node) shapes 0 list ms (from_start list) ∙ ap (λ z. with_all list shapes z ms) (about_turned node list)
-
--- ---- the first place of a subject
 
 abbrev subject_in : Triple ℕ → Node ℕ
 subject_in t = t.subject
@@ -104,7 +62,7 @@ starts_from s j zero (x ∷ rest) t at is =
     let here : nat_eq j (j + 0) ≡ true = grind (arith, nat_tests) in
     ap (λ b. starts (cond b (j ∷ positions (stands_for s) (suc j) rest) (positions (stands_for s) (suc j) rest)) (j + 0)) test ∙ here
 starts_from s j (suc k) (x ∷ rest) t at is =
-    go (stands_for s x) (starts_from s (suc j) k rest t at is) ∙ ap (λ b. not (b || contains (same_node nat_eq) (map subject_in (take k rest)) s)) (turned s x)
+    go (stands_for s x) (starts_from s (suc j) k rest t at is) ∙ ap (λ b. not (b || contains (same_node nat_eq) (map subject_in (take k rest)) s)) (same_back s x.subject)
   where
     go : (b : Bool) → starts (positions (stands_for s) (suc j) rest) (suc j + k) ≡ not (contains (same_node nat_eq) (map subject_in (take k rest)) s)
         → starts (cond b (j ∷ positions (stands_for s) (suc j) rest) (positions (stands_for s) (suc j) rest)) (j + suc k) ≡ not (b || contains (same_node nat_eq) (map subject_in (take k rest)) s)
@@ -128,12 +86,6 @@ module _ (list : List CodeTriple) (shapes : ℕ → Shape) where
   abbrev pub nodes_until : List CodeTriple → List Data
   nodes_until front = map (node_value seen shapes) (filter is_top (subjects (triples_seen front)))
 
-  seen_take : (list : List CodeTriple) (i : ℕ) → triples_seen (take i list) ≡ take i (triples_seen list)
-  seen_take [] zero = refl
-  seen_take [] (suc i) = refl
-  seen_take (t ∷ list) zero = refl
-  seen_take (t ∷ list) (suc i) = ap (λ z. triple_seen t ∷ z) (seen_take list i)
-
   grown : (nodes : List (Node ℕ)) (s : Node ℕ) (b : Bool) → contains (same_node nat_eq) nodes s ≡ b
       → map (node_value seen shapes) (filter is_top (cond b nodes (nodes ++ s ∷ [])))
       ≡ map (node_value seen shapes) (filter is_top nodes) ++ cond (not b && is_top s) (node_value seen shapes s ∷ []) []
@@ -151,12 +103,11 @@ module _ (list : List CodeTriple) (shapes : ℕ → Shape) where
   node_turn i t old new at turn before =
       let s : Node ℕ = node_seen t.subject in
       let front : List (Triple ℕ) = triples_seen (take i list) in
-      let found : slice_get seen (0 + i) ≡ Some (triple_seen t) = from_start seen i ∙ seen_at list i t at in
       let first : starts (places_of nat_eq seen s) (0 + i) ≡ not (contains (same_node nat_eq) (map subject_in (take i seen)) s) =
       starts_from s 0 i seen (triple_seen t) (seen_at list i t at) ((same_nodes s s).1 refl) in
       let same : 0 + i ≡ i = omega arith in
       let starting : starts (places_of nat_eq seen s) i ≡ not (contains (same_node nat_eq) (subjects front) s) =
-      ap (starts (places_of nat_eq seen s)) (sym same) ∙ first ∙ ap (λ z. not (contains (same_node nat_eq) (map subject_in z) s)) (sym (seen_take list i))
+      ap (starts (places_of nat_eq seen s)) (sym same) ∙ first ∙ ap (λ z. not (contains (same_node nat_eq) (map subject_in z) s)) (take-map triple_seen i list)
       ∙ ap not (among_distinct (map subject_in front) s) in
       let more : subjects (triples_seen (take (i + 1) list)) ≡ node_added (subjects front) s =
       ap subjects (seen_more list i t at) ∙ ap (distinct (same_node nat_eq)) (map-append subject_in front (triple_seen t ∷ []))
@@ -172,8 +123,7 @@ added_more nodes [] ys = refl
 added_more nodes (x ∷ xs) ys = added_more (node_added nodes (Blank x)) xs ys
 
 flat_map_more : {A B : Type 0} (f : A → List B) (xs : List A) (x : A) → flat_map f (xs ++ x ∷ []) ≡ flat_map f xs ++ f x
-flat_map_more f [] x = append-nil (f x)
-flat_map_more f (y ∷ xs) x = ap (λ z. f y ++ z) (flat_map_more f xs x) ∙ sym (append_assoc (f y) (flat_map f xs) (f x))
+flat_map_more f xs x = flat_map-append f xs (x ∷ []) ∙ ap (λ z. flat_map f xs ++ z) (append-nil (f x))
 
 pub record Gathered (list : List CodeTriple) (shapes : ℕ → Shape) (i : ℕ) (now : List (Node ℕ)) : Type 0 where
   pub cells : now ≡ nodes_added [] (flat_map (cells_at shapes (triples_seen list)) (triples_seen (take i list)))
@@ -198,29 +148,6 @@ gathered_turn list shapes i t old new at turn writable h =
 or_swap : (a b c : Bool) → ((a || b) || c) ≡ (a || (b || c))
 or_swap true b c = refl
 or_swap false b c = refl
-
-contains_more : (nodes : List (Node ℕ)) (x s : Node ℕ) → contains (same_node nat_eq) (nodes ++ x ∷ []) s ≡ (contains (same_node nat_eq) nodes s || same_node nat_eq x s)
-contains_more [] x s = last (same_node nat_eq x s)
-  where
-    last : (b : Bool) → (b || false) ≡ b
-    last true = refl
-    last false = refl
-contains_more (y ∷ nodes) x s = ap (λ b. same_node nat_eq y s || b) (contains_more nodes x s) ∙ sym (or_swap (same_node nat_eq y s) (contains (same_node nat_eq) nodes s) (same_node nat_eq x s))
-
-contains_added : (nodes : List (Node ℕ)) (x s : Node ℕ) → contains (same_node nat_eq) (node_added nodes x) s ≡ (contains (same_node nat_eq) nodes s || same_node nat_eq x s)
-contains_added nodes x s = go (contains (same_node nat_eq) nodes x) refl
-  where
-    there : contains (same_node nat_eq) nodes x ≡ true → (b : Bool) → same_node nat_eq x s ≡ b → contains (same_node nat_eq) nodes s ≡ (contains (same_node nat_eq) nodes s || b)
-    there h true e = let is : contains (same_node nat_eq) nodes s ≡ true = ap (contains (same_node nat_eq) nodes) (sym ((same_nodes x s).0 e)) ∙ h in is ∙ sym (ap (λ b. b || true) is)
-    there h false e = plain (contains (same_node nat_eq) nodes s)
-      where
-        plain : (b : Bool) → b ≡ (b || false)
-        plain true = refl
-        plain false = refl
-
-    go : (b : Bool) → contains (same_node nat_eq) nodes x ≡ b → contains (same_node nat_eq) (cond b nodes (nodes ++ x ∷ [])) s ≡ (contains (same_node nat_eq) nodes s || same_node nat_eq x s)
-    go true e = there e (same_node nat_eq x s) refl
-    go false e = contains_more nodes x s
 
 contains_all : (nodes : List (Node ℕ)) (xs : List ℕ) (b : ℕ) → contains (same_node nat_eq) (nodes_added nodes xs) (Blank b) ≡ (contains (same_node nat_eq) nodes (Blank b) || contains nat_eq xs b)
 contains_all nodes [] b = plain (contains (same_node nat_eq) nodes (Blank b))

@@ -9,10 +9,10 @@ use Rattle.rx_terms.specs.Text.{Chars}
 use Rattle.rx_model.specs.Terms.{Kind, Plain, Tagged, Typed, Node, Blank, Term, Resource, Literal, Triple}
 use Rattle.rx_model.specs.Vocabulary.{rdf_first}
 use Rattle.rx_shapes.specs.declared.shapes.Shape.{Shape}
-use Rattle.rx_shapes.specs.Subjects.{about}
+use Rattle.rx_shapes.specs.Subjects.{about, object_at}
 use Rattle.rx_json.specs.Plain.{Leads, IsPlain, ArePlain, MembersArePlain}
 use Rattle.rx_json.proofs.PlainLemmas.{turned, leads_one, leads_through}
-use Rattle.rx_jsonld.specs.Lists.{object_at, first_cell, cells_at}
+use Rattle.rx_jsonld.specs.Lists.{first_cell, cells_at}
 use Rattle.rx_jsonld.specs.Value.{string_of, id_text, literal_members, term_value, list_value, item_by, item_value, is_empty_list, plain_value, type_of, object_by, said_by, with_all, node_value, tops, jsonld}
 use Rattle.rx_jsonld.specs.Members.{items_and, behind, with_last}
 use Rattle.rx_jsonld.specs.Document.{keys, KeysDiffer}

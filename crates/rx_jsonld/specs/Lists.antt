@@ -9,7 +9,7 @@ use Rattle.rx_model.specs.Vocabulary.{rdf_type, rdf_first, rdf_rest}
 use Rattle.rx_shapes.specs.Shapes.{Cell}
 use Rattle.rx_shapes.specs.declared.shapes.Shape.{Shape}
 use Rattle.rx_shapes.specs.declared.shapes.Shape.TheVariants as shape
-use Rattle.rx_shapes.specs.Subjects.{objects_of}
+use Rattle.rx_shapes.specs.Subjects.{object_at}
 
 -- ---- listed cells, in words
 
@@ -25,14 +25,6 @@ pub data IsListed {B : Type 0} (g : Graph B) : B → Type 0 where
   later_one : {b c : B} → IsListed g b → g (spo (Blank b) rdf_rest (Resource (Blank c))) → IsListed g c
 
 -- ---- chains of cells
-
-abbrev pub first_of : {A : Type 0} → List A → Option A
-first_of [] = None
-first_of (a ∷ more) = Some a
-
--- the first object of a node's predicate
-abbrev pub object_at : List (Triple ℕ) → Node ℕ → Chars → Option (Term ℕ)
-object_at list node predicate = first_of (objects_of list node predicate)
 
 abbrev pub blank_in : Option (Term ℕ) → Option ℕ
 blank_in (Some (Resource (Blank b))) = Some b

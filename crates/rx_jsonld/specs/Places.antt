@@ -1,33 +1,13 @@
 -- What the code works out by the places of triples in a list.
-use Rattle.std.specs.Prelude.{◌≡◌, ℕ, nat_eq, Bool, false, not, ◌&&◌, List, [], ◌∷◌, bytes_eq, slice_get, Option, Some, None, if◌then◌else◌}
-use Rattle.std.specs.Option.{option_or}
+use Rattle.std.specs.Prelude.{◌≡◌, ℕ, nat_eq, Bool, false, not, ◌&&◌, List, [], ◌∷◌, slice_get, Option, Some, None, if◌then◌else◌}
 use Rattle.serde_json.specs.Data.{Data, Members}
-use Rattle.rx_terms.specs.Text.{Chars}
-use Rattle.rx_model.specs.Terms.{Node, Blank, Term, Triple}
+use Rattle.rx_model.specs.Terms.{Node, Blank, Triple}
 use Rattle.rx_graph.specs.Resources.{node_added}
-use Rattle.rx_model.specs.Vocabulary.{rdf_first, rdf_rest}
 use Rattle.rx_shapes.specs.Places.{places_of}
 use Rattle.rx_shapes.specs.Table.{Table, places_in}
 use Rattle.rx_shapes.specs.declared.shapes.Shape.{Shape}
-use Rattle.rx_jsonld.specs.declared.chains.Part.{Part}
-use Rattle.rx_jsonld.specs.declared.chains.Part.TheVariants as part
 use Rattle.rx_jsonld.specs.Lists.{is_listed}
 use Rattle.rx_jsonld.specs.Value.{with_said, node_value}
-
--- the predicate of a part of a cell
-abbrev pub predicate_of : Part → Chars
-predicate_of part.Item = rdf_first
-predicate_of part.Rest = rdf_rest
-
--- the object of a triple that has this predicate
-abbrev pub object_if : Option (Triple ℕ) → Chars → Option (Term ℕ)
-object_if (Some t) predicate = if bytes_eq t.predicate predicate then Some t.object else None
-object_if None predicate = None
-
--- the first object of the predicate among the triples at these places
-abbrev pub object_among : List (Triple ℕ) → List ℕ → Chars → Option (Term ℕ)
-object_among list [] predicate = None
-object_among list (place ∷ more) predicate = option_or (object_if (slice_get list place) predicate) (object_among list more predicate)
 
 -- the nodes, and the blank nodes of these numbers that aren't there yet
 abbrev pub nodes_added : List (Node ℕ) → List ℕ → List (Node ℕ)

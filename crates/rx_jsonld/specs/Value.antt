@@ -9,9 +9,9 @@ use Rattle.rx_model.specs.Vocabulary.{rdf_type, rdf_first, rdf_rest, rdf_nil}
 use Rattle.rx_graph.specs.Resources.{resource_of}
 use Rattle.rx_pieces.specs.Writing.{blank_text}
 use Rattle.rx_shapes.specs.declared.shapes.Shape.{Shape}
-use Rattle.rx_shapes.specs.Subjects.{about, subjects}
+use Rattle.rx_shapes.specs.Subjects.{about, subjects, object_at}
 use Rattle.rx_jsonld.specs.Members.{with_last}
-use Rattle.rx_jsonld.specs.Lists.{object_at, chain, first_cell, cells_at, is_listed}
+use Rattle.rx_jsonld.specs.Lists.{chain, first_cell, cells_at, is_listed}
 
 -- ---- terms
 

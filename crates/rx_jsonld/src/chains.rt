@@ -1,25 +1,18 @@
 //! Chains of cells, and which of them are listed.
-ghost use Rattle.std.specs.Prelude.{◌≡◌, length, map, option_map, IfOk, slice_get, bytes_eq};
+ghost use Rattle.std.specs.Prelude.{◌≡◌, length, map, option_map, IfOk};
 ghost use Rattle.rx_model.specs.Terms as model;
 ghost use Rattle.rx_model.specs.Seen.{node_seen, term_seen, triple_seen, triples_seen};
 ghost use Rattle.rx_model.specs.Vocabulary.{rdf_rest};
 ghost use Rattle.rx_shapes.specs.Table.{shape_in};
-ghost use Rattle.rx_jsonld.specs.Lists.{blank_in, cell_by, cell_listed, chain, first_cell, is_cell, is_cell_by, may_hold_list, may_list, object_at};
-ghost use Rattle.rx_jsonld.specs.Places.{PlacesAre, object_among, object_if, predicate_of};
+ghost use Rattle.rx_shapes.specs.Subjects.{object_at};
+ghost use Rattle.rx_shapes.specs.Cells.{predicate_of};
+ghost use Rattle.rx_jsonld.specs.Lists.{blank_in, cell_by, cell_listed, chain, first_cell, is_cell, is_cell_by, may_hold_list, may_list};
+ghost use Rattle.rx_jsonld.specs.Places.{PlacesAre};
 
 use rx_graph::Graph;
-use rx_shapes::{Shape, Shapes, is_first, is_rest, is_type};
+use rx_shapes::{CellPart, Shape, Shapes, is_first, is_rest, is_type, object_of};
 use rx_terms::{Blank, Iri, NoMemory, Node, Term, Triple};
 use std::alloc::Global;
-
-/// What a cell has.
-#[derive(Clone, Copy)]
-pub(crate) enum Part {
-    /// Its item, by rdf:first.
-    Item,
-    /// The cells behind it, by rdf:rest.
-    Rest,
-}
 
 // ---- which chains are listed
 
@@ -103,7 +96,7 @@ fn cell_after(graph: &Graph, shapes: &Shapes, cell: Blank) -> Option<Blank>
     requires { PlacesAre (triples_seen graph.now) shapes.now }
     ensures { option_map (λ b. b.0) result ≡ blank_in (object_at (triples_seen graph.now) (model.Blank cell.0) rdf_rest) }
 {
-    blank_in(object_at(graph, shapes, cell, Part::Rest))
+    blank_in(object_at(graph, shapes, cell, CellPart::Rest))
 }
 
 fn blank_in(object: Option<&Term>) -> Option<Blank>
@@ -122,52 +115,13 @@ pub(crate) fn object_at<'a>(
     graph: &'a Graph,
     shapes: &Shapes,
     cell: Blank,
-    part: Part,
+    part: CellPart,
 ) -> Option<&'a Term>
     requires { PlacesAre (triples_seen graph.now) shapes.now }
     ensures { option_map (λ o. term_seen o.now) result ≡ object_at (triples_seen graph.now) (model.Blank cell.0) (predicate_of part) }
 {
     let node = Node::Blank(cell);
-    let found = object_among(graph, shapes.places(&node), part);
+    let found = object_of(graph, shapes.places(&node), part);
     drop(node);
     found
-}
-
-fn object_among<'a>(graph: &'a Graph, places: &[usize], part: Part) -> Option<&'a Term>
-    ensures { option_map (λ o. term_seen o.now) result ≡ object_among (triples_seen graph.now) places.now (predicate_of part) }
-{
-    for place in places {
-        if let Some(object) = object_if(graph, *place, part) {
-            return Some(object);
-        }
-    }
-    None
-}
-
-fn object_if<'a>(graph: &'a Graph, place: usize, part: Part) -> Option<&'a Term>
-    ensures { option_map (λ o. term_seen o.now) result ≡ object_if (slice_get (triples_seen graph.now) place) (predicate_of part) }
-{
-    if place >= graph.len() {
-        return None;
-    }
-    object_of(graph.at(place), part)
-}
-
-fn object_of(triple: &Triple, part: Part) -> Option<&Term>
-    ensures { option_map (λ o. term_seen o.now) result ≡ object_if (Some (triple_seen triple.now)) (predicate_of part) }
-{
-    if has_part(triple, part) {
-        Some(&triple.object)
-    } else {
-        None
-    }
-}
-
-fn has_part(triple: &Triple, part: Part) -> bool
-    ensures { result ≡ bytes_eq triple.now.predicate (predicate_of part) }
-{
-    match part {
-        Part::Item => is_first(&triple.predicate),
-        Part::Rest => is_rest(&triple.predicate),
-    }
 }

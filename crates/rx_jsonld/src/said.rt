@@ -13,11 +13,11 @@ ghost use Rattle.rx_json.specs.Events.{Grows, members_events};
 ghost use Rattle.rx_jsonld.specs.Places.{PlacesAre};
 ghost use Rattle.rx_jsonld.specs.Value.{id_text, item_value, list_from, list_value, literal_members, object_value, object_with, plain_value, string_of, term_value};
 
-use crate::chains::{Part, chain, first_cell, object_at};
+use crate::chains::{chain, first_cell, object_at};
 use crate::objects::{is_empty_list, type_of};
 use rx_graph::{Graph, Resource};
 use rx_json::OUT_OF_MEMORY;
-use rx_shapes::Shapes;
+use rx_shapes::{CellPart, Shapes};
 use rx_terms::{Blank, Iri, Literal, LiteralKind, NoMemory, Term, Triple};
 use serde::Serializer;
 use std::alloc::Global;
@@ -156,7 +156,7 @@ fn write_item<S: Serializer>(
     requires { PlacesAre (triples_seen graph.now) shapes.now }
     ensures { OnOk result (Writes (item_value (triples_seen graph.now) cell.0) (S.written out.old) (S.written out.new)) }
 {
-    match object_at(graph, shapes, cell, Part::Item) {
+    match object_at(graph, shapes, cell, CellPart::Item) {
         Some(item) => write_term(alloc, item, out),
         None => out.unit(),
     }

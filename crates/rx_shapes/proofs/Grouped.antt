@@ -1,6 +1,7 @@
 -- The triples of a list by subject and predicate.
-use Rattle.std.proofs.Common.{◌≡◌, ◌↔◌, ℕ, nat_eq, List, map, filter, flat_map, bytes_eq, refl, subst}
+use Rattle.std.proofs.Common.{◌≡◌, ◌↔◌, ℕ, nat_eq, List, map, filter, flat_map, bytes_eq, refl, sym, subst}
 use Rattle.rx_terms.specs.Text.{Chars}
+use Rattle.rx_terms.proofs.Bools.{same_truth}
 use Rattle.rx_model.specs.Sets.{Among, IsExact}
 use Rattle.rx_model.specs.Terms.{Node, Term, Triple, same_node}
 use Rattle.rx_model.specs.Copied.{spo}
@@ -11,11 +12,14 @@ use Rattle.rx_shapes.specs.Subjects.{has_subject, has_predicate, subjects, about
 pub same_nodes : IsExact (same_node nat_eq)
 same_nodes = exact_nodes nat_eq exact_numbers
 
+pub same_back : (a b : Node ℕ) → same_node nat_eq a b ≡ same_node nat_eq b a
+same_back a b = same_truth (same_node nat_eq a b) (same_node nat_eq b a) (λ h. (same_nodes b a).1 (sym ((same_nodes a b).0 h))) (λ h. (same_nodes a b).1 (sym ((same_nodes b a).0 h)))
+
 triple_path : (t : Triple ℕ) (s : Node ℕ) (p : Chars) (o : Term ℕ) → t.subject ≡ s → t.predicate ≡ p → t.object ≡ o → t ≡ spo s p o
 triple_path t s p o e f g = λ i. record { subject = e i; predicate = f i; object = g i }
 
 module _ (list : List (Triple ℕ)) where
-  about_there : (t : Triple ℕ) → Among list t → Among (about list t.subject) t
+  pub about_there : (t : Triple ℕ) → Among list t → Among (about list t.subject) t
   about_there t m = Among_filter (has_subject t.subject) list t m ((same_nodes t.subject t.subject).1 refl)
 
   pub subject_there : (t : Triple ℕ) → Among list t → Among (subjects list) t.subject
@@ -31,7 +35,7 @@ module _ (list : List (Triple ℕ)) where
       (Among_filter (has_predicate t.predicate) (about list t.subject) t (about_there t m) ((exact_texts t.predicate t.predicate).1 refl))
 
   -- a triple of a subject
-  of_about : (s : Node ℕ) (t : Triple ℕ) → Among (about list s) t → Among list t × (t.subject ≡ s)
+  pub of_about : (s : Node ℕ) (t : Triple ℕ) → Among (about list s) t → Among list t × (t.subject ≡ s)
   of_about s t m = let found = Among_of_filter (has_subject s) list t m in (found.0, (same_nodes t.subject s).0 found.1)
 
   -- a subject has a predicate

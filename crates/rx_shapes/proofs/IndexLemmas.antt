@@ -1,8 +1,7 @@
 -- Nodes by number.
-use Rattle.std.proofs.Common.{◌≡◌, ℕ, suc, zero, ◌+◌, ◌<◌, ◌≤◌, Bool, true, false, nat_eq, nat_lt, List, [], ◌∷◌, ◌++◌, map, length, take, position, slice_get, Option, Some, None, option_map, refl, sym, ap, subst, ◌∙◌, inl, inr, true≢false, arith, rules, if◌then◌else◌, ◌↔◌}
+use Rattle.std.proofs.Common.{◌≡◌, ℕ, suc, zero, ◌+◌, ◌≤◌, Bool, true, false, nat_eq, nat_lt, List, [], ◌∷◌, ◌++◌, map, length, take, position, slice_get, Some, option_map, refl, sym, ap, subst, ◌∙◌, inl, inr, true≢false, arith, rules, if◌then◌else◌, ◌↔◌}
 use Rattle.std.specs.List.{position_or_len}
 use Rattle.std.proofs.lemmas.Bool.Decides.{nat_tests}
-use Rattle.std.proofs.lemmas.Option.{slice_get_within}
 use Rattle.std.proofs.lemmas.List.{take_all}
 use Rattle.rx_unique.specs.Unique.{insert_key}
 use Rattle.rx_terms.specs.declared.triples.Node.{Node as CodeNode}
@@ -17,10 +16,10 @@ use Rattle.rx_model.proofs.Sets.{false_unless, or_left, or_right, Among_cases}
 use Rattle.rx_graph.specs.Resources.{node_added, number_in}
 use Rattle.rx_terms.proofs.Bools.{same_truth}
 use Rattle.rx_graph.proofs.SetLemmas.{insert_seen, seen_more}
-use Rattle.rx_graph.proofs.PatternLemmas.{contains_added, none_there}
+use Rattle.rx_graph.proofs.PatternLemmas.{contains_added, number_same}
 use Rattle.rx_shapes.specs.Rows.{is_number}
 use Rattle.rx_shapes.specs.Links.{object_number, object_added, triple_added, HasNodes}
-use Rattle.rx_shapes.proofs.RowLemmas.{is_number_true, true_number, same_some}
+use Rattle.rx_shapes.proofs.RowLemmas.{is_number_true, true_number}
 
 -- ---- the code's test
 
@@ -61,41 +60,18 @@ number_seen (x ∷ list) n = position_more (node_eq n) x list ∙ rw (nodes_agre
 
 -- ---- a node's number
 
-pub number_get : (nodes : List (Node ℕ)) (s : Node ℕ) (k : ℕ) → number_in nodes s ≡ Some k → slice_get nodes k ≡ Some s
-number_get [] s k h = absurd (cc)
-number_get (t ∷ nodes) s k h = go (same_node nat_eq t s) refl (number_in nodes s) refl h (λ m. number_get nodes s m)
-  where
-    go : (b : Bool) → same_node nat_eq t s ≡ b → (o : Option ℕ) → number_in nodes s ≡ o → (if b then Some 0 else option_map suc o) ≡ Some k → ((m : ℕ) → number_in nodes s ≡ Some m → slice_get nodes m ≡ Some s) → slice_get (t ∷ nodes) k ≡ Some s
-    go true e o q r ih = let first : 0 ≡ k = cc in ap (slice_get (t ∷ nodes)) (sym first) ∙ ap Some ((exact_nodes nat_eq exact_numbers t s).0 e)
-    go false e (Some m) q r ih = let next : suc m ≡ k = cc in ap (slice_get (t ∷ nodes)) (sym next) ∙ ih m q
-    go false e None q r ih = cc
-
-pub number_within : (nodes : List (Node ℕ)) (s : Node ℕ) (k : ℕ) → number_in nodes s ≡ Some k → k < length nodes
-number_within nodes s k h = slice_get_within nodes k s (number_get nodes s k h)
-
--- one number is that of one node
-pub number_one : (nodes : List (Node ℕ)) (s t : Node ℕ) (k : ℕ) → number_in nodes s ≡ Some k → number_in nodes t ≡ Some k → s ≡ t
-number_one nodes s t k h i = same_some (slice_get nodes k) s t (number_get nodes s k h) (number_get nodes t k i)
-
-pub number_found : (nodes : List (Node ℕ)) (s : Node ℕ) → contains (same_node nat_eq) nodes s ≡ true → (k : ℕ) × (number_in nodes s ≡ Some k)
-number_found nodes s h = go (number_in nodes s) refl
-  where
-    go : (o : Option ℕ) → number_in nodes s ≡ o → (k : ℕ) × (number_in nodes s ≡ Some k)
-    go (Some k) e = (k, e)
-    go None e = absurd (true≢false (sym h ∙ none_there nodes s e))
-
 pub number_test : (nodes : List (Node ℕ)) (n : Node ℕ) (k : ℕ) → number_in nodes n ≡ Some k → (s : Node ℕ) → is_number k (number_in nodes s) ≡ same_node nat_eq n s
 number_test nodes n k e s =
     let model = exact_nodes nat_eq exact_numbers n s in
     same_truth (is_number k (number_in nodes s)) (same_node nat_eq n s)
-    (λ h. model.1 (number_one nodes n s k e (is_number_true k (number_in nodes s) h)))
+    (λ h. model.1 (number_same nodes n s k e (is_number_true k (number_in nodes s) h)))
     (λ h. true_number k (number_in nodes s) (ap (number_in nodes) (sym (model.0 h)) ∙ e))
 
 -- ---- an object's number
 
 pub object_is : (nodes : List (Node ℕ)) (b k : ℕ) → number_in nodes (Blank b) ≡ Some k → (o : Term ℕ) → is_number k (object_number nodes o) ≡ true → o ≡ Resource (Blank b)
 object_is nodes b k e (Resource (Iri iri)) h = absurd (true≢false (sym h))
-object_is nodes b k e (Resource (Blank c)) h = ap Resource (number_one nodes (Blank c) (Blank b) k (is_number_true k (number_in nodes (Blank c)) h) e)
+object_is nodes b k e (Resource (Blank c)) h = ap Resource (number_same nodes (Blank c) (Blank b) k (is_number_true k (number_in nodes (Blank c)) h) e)
 object_is nodes b k e (Literal text kind) h = absurd (true≢false (sym h))
 
 pub is_object : (nodes : List (Node ℕ)) (b k : ℕ) → number_in nodes (Blank b) ≡ Some k → (o : Term ℕ) → o ≡ Resource (Blank b) → is_number k (object_number nodes o) ≡ true
@@ -103,7 +79,7 @@ is_object nodes b k e o q = subst (λ (z : Term ℕ). is_number k (object_number
 
 pub no_object : (nodes : List (Node ℕ)) (iri : List ℕ) (k : ℕ) → number_in nodes (Iri iri) ≡ Some k → (o : Term ℕ) → is_number k (object_number nodes o) ≡ false
 no_object nodes iri k e (Resource (Iri other)) = refl
-no_object nodes iri k e (Resource (Blank c)) = false_unless (is_number k (number_in nodes (Blank c))) (λ h. unlike_nodes c (number_one nodes (Blank c) (Iri iri) k (is_number_true k (number_in nodes (Blank c)) h) e))
+no_object nodes iri k e (Resource (Blank c)) = false_unless (is_number k (number_in nodes (Blank c))) (λ h. unlike_nodes c (number_same nodes (Blank c) (Iri iri) k (is_number_true k (number_in nodes (Blank c)) h) e))
   where
     unlike_nodes : (c : ℕ) → Blank c ≡ Iri iri → ⊥
     unlike_nodes c q = cc

@@ -10,3 +10,4 @@ pub mod Grouped
 pub mod Heights
 pub mod Times
 pub mod CellLemmas
+pub mod PlaceLemmas

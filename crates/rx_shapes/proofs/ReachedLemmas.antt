@@ -79,7 +79,7 @@ unfolding unmarked
 all_start zero = refl
 all_start (suc n) = ap suc (all_start n)
 
-none_start : (n a : ℕ) → get_or (replicate n false) a false ≡ false
+pub none_start : (n a : ℕ) → get_or (replicate n false) a false ≡ false
 none_start zero a = refl
 none_start (suc n) zero = refl
 none_start (suc n) (suc a) = none_start n a

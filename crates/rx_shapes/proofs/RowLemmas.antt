@@ -70,11 +70,6 @@ module _ {A : Type 0} where
 
 -- ---- a number that is filed
 
-pub pushed_outside : (rows : List (List ℕ)) (k i : ℕ) → length rows ≤ k → pushed rows k i ≡ rows
-pushed_outside [] k i h = refl
-pushed_outside (row ∷ rows) zero i h = absurd (omega (arith, h))
-pushed_outside (row ∷ rows) (suc k) i h = let past : length rows ≤ k = omega (arith, h) in ap (λ z. row ∷ z) (pushed_outside rows k i past)
-
 -- the rows with i at the end of row m
 put : (ℕ → List ℕ) → ℕ → ℕ → ℕ → List ℕ
 put f m i k = f k ++ (if nat_eq k m then i ∷ [] else [])

@@ -7,6 +7,7 @@ use Rattle.rx_model.specs.Copied.{spo}
 use Rattle.rx_model.proofs.Exact.{exact_texts, exact_numbers, exact_nodes, exact_triples}
 use Rattle.rx_model.proofs.Sets.{false_unless, and_left, and_right, and_both}
 use Rattle.rx_graph.specs.Resources.{number_in}
+use Rattle.rx_graph.proofs.PatternLemmas.{number_small, number_same, number_there}
 use Rattle.rx_shapes.specs.declared.chains.Link.{Link}
 use Rattle.rx_shapes.specs.declared.chains.Link.TheVariants as link
 use Rattle.rx_shapes.specs.declared.shapes.Shape.{Shape}
@@ -20,7 +21,7 @@ use Rattle.rx_shapes.specs.Links.{object_number, link_to, subject_link, parent_l
 use Rattle.rx_shapes.specs.Table.{shape_at, places_at, AreShapes}
 use Rattle.rx_shapes.proofs.RowLemmas.{is_number_true, true_number, got, got_or, same_some, among_get, positions_same, positions_none}
 use Rattle.rx_shapes.proofs.OnceLemmas.{Once, once, single, Double, double, one_at, two_at}
-use Rattle.rx_shapes.proofs.IndexLemmas.{number_within, number_one, number_found, number_test, object_is, is_object, no_object}
+use Rattle.rx_shapes.proofs.IndexLemmas.{number_test, object_is, is_object, no_object}
 
 -- ---- words over variables
 
@@ -109,7 +110,7 @@ module _ (list : List (Triple ℕ)) (nodes : List (Node ℕ)) (each : Once list)
   link_at : (n : Node ℕ) (k : ℕ) → number_in nodes n ≡ Some k → slice_get links k ≡ Some (parent_link list nodes (uses k))
   unfolding links uses
   link_at n k e =
-      let less = number_within nodes n k e in
+      let less = number_small nodes n k e in
       got (λ (k : ℕ). parent_link list nodes (get_or (object_rows list nodes) k [])) (length nodes) k less
       ∙ ap (λ (z : List ℕ). Some (parent_link list nodes z)) (got_or (filed (λ (t : Triple ℕ). object_number nodes t.object) list) (length nodes) k [] less)
 
@@ -163,7 +164,7 @@ module _ (list : List (Triple ℕ)) (nodes : List (Node ℕ)) (each : Once list)
   led_by (at_top {b} none) k e = ending (link_at (Blank b) k e ∙ ap Some (top_link b k e none))
   led_by (onward {b} {parent = n} p rest) k e =
       let r = parent_row b k n e p in
-      let number = number_found nodes n (has.subjects (spo n p.predicate (Resource (Blank b))) p.held) in
+      let number = number_there nodes n (has.subjects (spo n p.predicate (Resource (Blank b))) p.held) in
       let is : parent_link list nodes (uses k) ≡ link.To number.0 = ap (parent_link list nodes) r.1 ∙ ap (subject_link nodes) r.2 ∙ ap link_to number.1 in
       linked (link_at (Blank b) k e ∙ ap Some is) (led_by rest number.0 number.1)
 
@@ -176,7 +177,7 @@ module _ (list : List (Triple ℕ)) (nodes : List (Node ℕ)) (each : Once list)
   inner_at : (ends : List Bool) (b k : ℕ) → number_in nodes (Blank b) ≡ Some k → get_or (inner_marks ends (object_rows list nodes) (length nodes)) k false ≡ (get_or ends k false && (length (uses k) == 1))
   unfolding uses
   inner_at ends b k e =
-      let less = number_within nodes (Blank b) k e in
+      let less = number_small nodes (Blank b) k e in
       got_or (λ (k : ℕ). is_inner_by (get_or ends k false) (get_or (object_rows list nodes) k [])) (length nodes) k false less
       ∙ ap (is_inner_by (get_or ends k false)) (got_or (filed (λ (t : Triple ℕ). object_number nodes t.object) list) (length nodes) k [] less)
 
@@ -220,7 +221,7 @@ module _ (list : List (Triple ℕ)) (nodes : List (Node ℕ)) (each : Once list)
 
   said_is : (n : Node ℕ) (k : ℕ) → number_in nodes n ≡ Some k → (t : Triple ℕ) → said_of k t ≡ true → t.subject ≡ n
   unfolding said_of
-  said_is n k e t h = number_one nodes t.subject n k (is_number_true k (number_in nodes t.subject) h) e
+  said_is n k e t h = number_same nodes t.subject n k (is_number_true k (number_in nodes t.subject) h) e
 
   is_said : (n : Node ℕ) (k : ℕ) → number_in nodes n ≡ Some k → (t : Triple ℕ) → t.subject ≡ n → said_of k t ≡ true
   unfolding said_of
@@ -307,7 +308,7 @@ module _ (list : List (Triple ℕ)) (nodes : List (Node ℕ)) (each : Once list)
     rest_at : (n : Node ℕ) (k : ℕ) → number_in nodes n ≡ Some k → slice_get rests k ≡ Some (inner_link list nodes (get_or inner k false) (places k))
     unfolding rests places
     rest_at n k e =
-        let less = number_within nodes n k e in
+        let less = number_small nodes n k e in
         got (λ (k : ℕ). inner_link list nodes (get_or inner k false) (get_or (subject_rows list nodes) k [])) (length nodes) k less
         ∙ ap (λ (z : List ℕ). Some (inner_link list nodes (get_or inner k false) z)) (got_or (filed (λ (t : Triple ℕ). number_in nodes t.subject) list) (length nodes) k [] less)
 
@@ -344,7 +345,7 @@ module _ (list : List (Triple ℕ)) (nodes : List (Node ℕ)) (each : Once list)
     cell_leads : {c : ℕ} → Cell (set_of list) c → (k : ℕ) → number_in nodes (Blank c) ≡ Some k → Leads rests k
     cell_leads (last_cell {b = c} {item} i p) k e = ending (inner_rest c k item (Resource (Iri rdf_nil)) e i p ∙ ap Some nil_is)
     cell_leads (next_cell {b = c} {c = d} {item} i p rest) k e =
-        let number = number_found nodes (Blank d) (has.objects (spo (Blank c) rdf_rest (Resource (Blank d))) d p.rest refl) in
+        let number = number_there nodes (Blank d) (has.objects (spo (Blank c) rdf_rest (Resource (Blank d))) d p.rest refl) in
         linked (inner_rest c k item (Resource (Blank d)) e i p ∙ ap (λ (z : Option ℕ). Some (link_to z)) number.1) (cell_leads rest number.0 number.1)
 
     pub cell_nodes : (marks : List Bool) (those : List Link) (rows : List (List ℕ)) → rows ≡ subject_rows list nodes → those ≡ cell_links list nodes inner rows (length nodes) → Settled those marks → AreCells list nodes marks
@@ -360,7 +361,7 @@ module _ (list : List (Triple ℕ)) (nodes : List (Node ℕ)) (each : Once list)
       where
         shape_is : (b k : ℕ) → number_in nodes (Blank b) ≡ Some k → get_or shapes k shape.Labelled ≡ shape_by (get_or inner k false) (get_or cells k false)
         shape_is b k e = ap (λ (z : List Shape). get_or z k shape.Labelled) shapes_are
-            ∙ got_or (λ (k : ℕ). shape_by (get_or inner k false) (get_or cells k false)) (length nodes) k shape.Labelled (number_within nodes (Blank b) k e)
+            ∙ got_or (λ (k : ℕ). shape_by (get_or inner k false) (get_or cells k false)) (length nodes) k shape.Labelled (number_small nodes (Blank b) k e)
 
         go : (b k : ℕ) → number_in nodes (Blank b) ≡ Some k → (c : Bool) → get_or cells k false ≡ c → (i : Bool) → get_or inner k false ≡ i
             → IsShape (set_of list) b (shape_by (get_or inner k false) (get_or cells k false))
@@ -383,18 +384,18 @@ module _ (list : List (Triple ℕ)) (nodes : List (Node ℕ)) (each : Once list)
       shape_go : (b : ℕ) (o : Option ℕ) → number_in nodes (Blank b) ≡ o → IsShape (set_of list) b (shape_at shapes (number_in nodes (Blank b)))
       shape_go b (Some k) e = subst (λ (z : Option ℕ). IsShape (set_of list) b (shape_at shapes z)) (sym e) (have.each b k e)
       shape_go b None e = subst (λ (z : Option ℕ). IsShape (set_of list) b (shape_at shapes z)) (sym e)
-          (λ (i : Inner (set_of list) b). no_number (Blank b) e (number_found nodes (Blank b) (has.objects (spo i.parent i.has.predicate (Resource (Blank b))) b i.has.held refl)))
+          (λ (i : Inner (set_of list) b). no_number (Blank b) e (number_there nodes (Blank b) (has.objects (spo i.parent i.has.predicate (Resource (Blank b))) b i.has.held refl)))
 
       places_go : (node : Node ℕ) (o : Option ℕ) → number_in nodes node ≡ o → places_at rows (number_in nodes node) ≡ places_of nat_eq list node
       places_go node (Some k) e =
           ap (places_at rows) e ∙ ap (λ (z : List (List ℕ)). get_or z k []) rows_are
-          ∙ got_or (filed (λ (t : Triple ℕ). number_in nodes t.subject) list) (length nodes) k [] (number_within nodes node k e)
+          ∙ got_or (filed (λ (t : Triple ℕ). number_in nodes t.subject) list) (length nodes) k [] (number_small nodes node k e)
           ∙ positions_same (λ (t : Triple ℕ). is_number k (number_in nodes t.subject)) (λ (t : Triple ℕ). same_node nat_eq node t.subject) 0 list (λ t. number_test nodes node k e t.subject)
       places_go node None e =
           ap (places_at rows) e
           ∙ sym (positions_none (λ (t : Triple ℕ). same_node nat_eq node t.subject) 0 list
           (λ t m. false_unless (same_node nat_eq node t.subject)
-          (λ h. no_number t.subject (ap (number_in nodes) (sym ((exact_nodes nat_eq exact_numbers node t.subject).0 h)) ∙ e) (number_found nodes t.subject (has.subjects t m)))))
+          (λ h. no_number t.subject (ap (number_in nodes) (sym ((exact_nodes nat_eq exact_numbers node t.subject).0 h)) ∙ e) (number_there nodes t.subject (has.subjects t m)))))
 
 -- ---- the same of an index
 

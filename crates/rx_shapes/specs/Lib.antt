@@ -8,3 +8,4 @@ pub mod Table
 pub mod Examples
 pub mod Laws
 pub mod Subjects
+pub mod Cells

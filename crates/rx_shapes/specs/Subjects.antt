@@ -1,5 +1,5 @@
 -- What a list of triples says of each subject, in order of first occurrence.
-use Rattle.std.specs.Prelude.{ℕ, nat_eq, Bool, List, map, filter, bytes_eq}
+use Rattle.std.specs.Prelude.{ℕ, nat_eq, Bool, List, [], ◌∷◌, map, filter, bytes_eq, Option, Some, None}
 use Rattle.rx_terms.specs.Text.{Chars}
 use Rattle.rx_model.specs.Sets.{distinct}
 use Rattle.rx_model.specs.Terms.{Node, Term, Triple, same_node}
@@ -25,3 +25,11 @@ predicates_of list node = distinct bytes_eq (map (λ (t : Triple ℕ). t.predica
 -- the objects of a subject's predicate, in their order
 abbrev pub objects_of : List (Triple ℕ) → Node ℕ → Chars → List (Term ℕ)
 objects_of list node predicate = map (λ (t : Triple ℕ). t.object) (filter (has_predicate predicate) (about list node))
+
+abbrev pub first_of : {A : Type 0} → List A → Option A
+first_of [] = None
+first_of (a ∷ more) = Some a
+
+-- the first object of a subject's predicate
+abbrev pub object_at : List (Triple ℕ) → Node ℕ → Chars → Option (Term ℕ)
+object_at list node predicate = first_of (objects_of list node predicate)

@@ -8,6 +8,7 @@ ghost use Rattle.std.specs.Prelude.{ℕ};
 ghost use Rattle.rx_shapes.specs.Examples.{ExamplesHold};
 ghost use Rattle.rx_shapes.specs.Laws.{ShapesForgetNames};
 
+mod cells;
 mod chains;
 mod index;
 mod links;
@@ -16,6 +17,7 @@ mod rows;
 mod shapes;
 mod vocabulary;
 
+pub use cells::{CellPart, object_of};
 pub use shapes::{Shape, Shapes};
 pub use vocabulary::{is_first, is_nil, is_rest, is_type};
 

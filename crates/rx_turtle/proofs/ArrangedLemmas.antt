@@ -3,6 +3,7 @@ use Rattle.std.proofs.Common.{◌≡◌, ◌∙◌, ℕ, zero, suc, ◌+◌, ◌
 use Rattle.std.specs.List.{list_all}
 use Rattle.std.proofs.lemmas.Bool.{and_from, and_parts, or_parts}
 use Rattle.std.proofs.lemmas.Bool.Decides.{nat_tests}
+use Rattle.std.proofs.lemmas.Grind.{flat_map-append}
 use Rattle.std.proofs.lemmas.List.{take_all, length-map, map-append, take-map, drop-map}
 use Rattle.std.proofs.lemmas.List.Elements.{filter-append}
 use Rattle.std.proofs.lemmas.List.Folds.{list_all-append}
@@ -14,11 +15,12 @@ use Rattle.rx_model.proofs.Exact.{exact_nodes, exact_numbers}
 use Rattle.rx_graph.specs.Resources.{node_added, AreDistinct}
 use Rattle.rx_terms.proofs.Bools.{same_truth}
 use Rattle.rx_graph.proofs.SetLemmas.{one_more}
+use Rattle.rx_shapes.proofs.Grouped.{same_back}
 use Rattle.rx_turtle.specs.declared.keys.By.{By}
 use Rattle.rx_turtle.specs.declared.keys.By.TheVariants as by
 use Rattle.rx_turtle.specs.Groups.{Keyed, key_by, has_key, keys_by, keys_in, grouped}
 use Rattle.rx_turtle.specs.Runs.{all_in, put_before, runs, starts, like_first, Said, said_by, said_in, by_predicate}
-use Rattle.rx_turtle.proofs.GroupLemmas.{lent_seen, lent_at, lent_more, same_back, same_self, keys_more, rows_by}
+use Rattle.rx_turtle.proofs.GroupLemmas.{lent_seen, lent_at, lent_more, same_self, keys_more, rows_by}
 use Rattle.rx_turtle.proofs.TakenLemmas.{keys_of_pairs}
 
 -- ---- cutting where the key changes
@@ -211,14 +213,10 @@ all_both (x ∷ xs) ys = ap (λ z. x.1 ++ z) (all_both xs ys) ∙ sym (append_as
 
 -- rows that are added one after another
 module _ {A B : Type 0} (f : A → List B) where
-  rows_both : (xs ys : List A) → flat_map f (xs ++ ys) ≡ flat_map f xs ++ flat_map f ys
-  rows_both [] ys = refl
-  rows_both (x ∷ xs) ys = ap (λ z. f x ++ z) (rows_both xs ys) ∙ sym (append_assoc (f x) (flat_map f xs) (flat_map f ys))
-
   pub rows_turn : (list : List A) (i : ℕ) (a : A) (start old new : List B) → slice_get list i ≡ Some a → new ≡ old ++ f a → old ≡ start ++ flat_map f (take i list) → new ≡ start ++ flat_map f (take (i + 1) list)
   rows_turn list i a start old new at grows before =
       grows ∙ ap (λ z. z ++ f a) before ∙ append_assoc start (flat_map f (take i list)) (f a)
-      ∙ ap (λ z. start ++ z) (sym (ap (flat_map f) (one_more list i a at) ∙ rows_both (take i list) (a ∷ []) ∙ ap (λ z. flat_map f (take i list) ++ z) (append-nil (f a))))
+      ∙ ap (λ z. start ++ z) (sym (ap (flat_map f) (one_more list i a at) ∙ flat_map-append f (take i list) (a ∷ []) ∙ ap (λ z. flat_map f (take i list) ++ z) (append-nil (f a))))
 
   pub rows_end : (list : List A) (i : ℕ) (start now : List B) → length list ≤ i → now ≡ start ++ flat_map f (take i list) → now ≡ start ++ flat_map f list
   rows_end list i start now past h = h ∙ ap (λ z. start ++ flat_map f z) (take_all i list past)

@@ -15,6 +15,7 @@ use Rattle.rx_model.proofs.Exact.{exact_texts}
 use Rattle.rx_terms.proofs.Bools.{same_truth}
 use Rattle.rx_notation.specs.Short.{Prefix, Prefixes, is_before, is_name_char, is_prefix_name, is_local_name, local_name, shortens, preferred, best, prefix_of, names_rise}
 use Rattle.rx_notation.proofs.Chosen.{best_among, front_and_rest}
+use Rattle.rx_notation.proofs.OneText.{local_chars}
 use Rattle.rx_notation.proofs.Ordered.{before_all, not_after, passes}
 use Rattle.rx_turtle.specs.Shorts.{begins_local, stands_for, place_from, place_at, place_below, place_of, IsPlace}
 
@@ -112,13 +113,6 @@ names_are_ascii : (text : Chars) → list_all is_name_char text ≡ true → lis
 names_are_ascii [] h = refl
 names_are_ascii (c ∷ text) h = let parts = and_parts _ _ h in and_from _ _ (name_is_ascii c parts.0) (names_are_ascii text parts.1)
 
-begins_name_char : (c : ℕ) → begins_local c ≡ true → is_name_char c ≡ true
-begins_name_char c h = grind (arith, nat_tests, h)
-
-pub local_is_name : (text : Chars) → is_local_name text ≡ true → list_all is_name_char text ≡ true
-local_is_name [] h = refl
-local_is_name (c ∷ text) h = let parts = and_parts _ _ h in and_from _ _ (begins_name_char c parts.0) parts.1
-
 one_or_more : (text : Chars) → is_local_name text ≡ true → 0 < length text
 one_or_more [] h = absurd (true≢false (sym h))
 one_or_more (c ∷ text) h = omega arith
@@ -162,7 +156,7 @@ cut_of iri p h =
     let more = and_parts (begins_with p.1 iri) _ parts.1 in
     let local : Chars = local_name p iri in
     let whole : p.1 ++ local ≡ iri = front_and_rest p.1 iri more.0 in
-    let plain : encode_utf8_all local ≡ local = (ascii-same local (names_are_ascii local (local_is_name local more.1))).0 in
+    let plain : encode_utf8_all local ≡ local = (ascii-same local (names_are_ascii local (local_chars local more.1))).0 in
     let spelled : encode_utf8_all iri ≡ encode_utf8_all p.1 ++ local = ap encode_utf8_all (sym whole) ∙ encodes-append p.1 local ∙ ap (λ z. encode_utf8_all p.1 ++ z) plain in
     record {
       is_name = parts.0;
@@ -176,7 +170,7 @@ cut_of iri p h =
 cut_shortens : (iri : Chars) (p : Prefix) (n : ℕ) → is_prefix_name p.0 ≡ true → encode_utf8_all p.1 ≡ take n (encode_utf8_all iri) → is_local_name (drop n (encode_utf8_all iri)) ≡ true → shortens iri p ≡ true
 cut_shortens iri p n name front local =
     let rest : Chars = drop n (encode_utf8_all iri) in
-    let plain : encode_utf8_all rest ≡ rest = (ascii-same rest (names_are_ascii rest (local_is_name rest local))).0 in
+    let plain : encode_utf8_all rest ≡ rest = (ascii-same rest (names_are_ascii rest (local_chars rest local))).0 in
     let spelled : encode_utf8_all (p.1 ++ rest) ≡ encode_utf8_all iri =
     encodes-append p.1 rest ∙ ap₂ ◌++◌ front plain ∙ take-append-drop n (encode_utf8_all iri) in
     let whole : p.1 ++ rest ≡ iri = encodes_same (p.1 ++ rest) iri spelled in
@@ -262,7 +256,7 @@ module _ (context : Prefixes) (rise : names_rise context ≡ true) (iri : Chars)
       let test : nat_lt (end_of p) (suc n) ≡ true = parts.1 in
       let before : end_of p < suc n = grind (arith, nat_tests, test) in
       let at : end_of p + (n - end_of p) ≡ n = omega (arith, before) in
-      let all : list_all is_name_char (drop (end_of p) text) ≡ true = ap (list_all is_name_char) (sym cut.rest) ∙ local_is_name (local_name p iri) cut.is_local in
+      let all : list_all is_name_char (drop (end_of p) text) ≡ true = ap (list_all is_name_char) (sym cut.rest) ∙ local_chars (local_name p iri) cut.is_local in
       let inside : n - end_of p < length (drop (end_of p) text) = omega (arith, before, less, cut.bytes, ap length cut.rest) in
       let name : is_name_char (get_or text n 0) ≡ true =
       ap (λ k. is_name_char (get_or text k 0)) (sym at) ∙ ap is_name_char (sym (get_drop text (end_of p) (n - end_of p))) ∙ all_get is_name_char (drop (end_of p) text) (n - end_of p) all inside in

@@ -8,8 +8,8 @@ use Rattle.rx_model.specs.Terms.{Node, Triple, same_node}
 use Rattle.rx_model.specs.Seen.{triple_seen}
 use Rattle.rx_model.proofs.Exact.{exact_nodes, exact_numbers}
 use Rattle.rx_graph.specs.Resources.{resource_seen, node_added, number_in, AreDistinct}
-use Rattle.rx_terms.proofs.Bools.{same_truth}
 use Rattle.rx_graph.proofs.SetLemmas.{distinct_grows, one_more}
+use Rattle.rx_shapes.proofs.Grouped.{same_back}
 use Rattle.rx_turtle.specs.declared.keys.By.{By}
 use Rattle.rx_turtle.specs.declared.groups.Group.{Group}
 use Rattle.rx_turtle.specs.Groups.{Keyed, group_seen, key_by, has_key, keys_by, put_in}
@@ -20,21 +20,13 @@ lent_seen t = triple_seen t.now
 pub lent_more : (list : List (Bor CodeTriple)) (i : ℕ) (t : Bor CodeTriple) → slice_get list i ≡ Some t → map lent_seen (take (i + 1) list) ≡ map lent_seen (take i list) ++ lent_seen t ∷ []
 lent_more list i t at = ap (map lent_seen) (one_more list i t at) ∙ map-append lent_seen (take i list) (t ∷ [])
 
-pub lent_at : (list : List (Bor CodeTriple)) (i : ℕ) (t : Bor CodeTriple) → slice_get list i ≡ Some t → slice_get (map lent_seen list) i ≡ Some (lent_seen t)
-lent_at [] i t at = absurd (cc)
-lent_at (x ∷ list) zero t at = let same : x ≡ t = cc in ap (λ z. Some (lent_seen z)) same
-lent_at (x ∷ list) (suc i) t at = lent_at list i t at
-
 pub seen_at : {A B : Type 0} (f : A → B) (list : List A) (i : ℕ) (a : A) → slice_get list i ≡ Some a → slice_get (map f list) i ≡ Some (f a)
 seen_at f [] i a at = absurd (cc)
 seen_at f (x ∷ list) zero a at = let same : x ≡ a = cc in ap (λ z. Some (f z)) same
 seen_at f (x ∷ list) (suc i) a at = seen_at f list i a at
 
-pub same_back : (a b : Node ℕ) → same_node nat_eq a b ≡ same_node nat_eq b a
-same_back a b =
-    let one = exact_nodes nat_eq exact_numbers a b in
-    let other = exact_nodes nat_eq exact_numbers b a in
-    same_truth (same_node nat_eq a b) (same_node nat_eq b a) (λ h. other.1 (sym (one.0 h))) (λ h. one.1 (sym (other.0 h)))
+pub lent_at : (list : List (Bor CodeTriple)) (i : ℕ) (t : Bor CodeTriple) → slice_get list i ≡ Some t → slice_get (map lent_seen list) i ≡ Some (lent_seen t)
+lent_at = seen_at lent_seen
 
 pub same_self : (a : Node ℕ) → same_node nat_eq a a ≡ true
 same_self a = (exact_nodes nat_eq exact_numbers a a).1 refl

@@ -2,6 +2,7 @@
 use Rattle.std.proofs.Common.{◌≡◌, ◌∙◌, ℕ, zero, suc, ◌+◌, Bool, true, false, ◌==◌, List, [], ◌∷◌, ◌++◌, map, flat_map, length, take, drop, slice_get, Some, refl, sym, ap, ap₂, arith, append_assoc, append-nil, codes, true≢false, if◌then◌else◌, take-append-drop}
 use Rattle.std.specs.Str.{chars}
 use Rattle.std.specs.List.{list_all, list_any}
+use Rattle.std.proofs.lemmas.Grind.{flat_map-append}
 use Rattle.std.proofs.lemmas.List.{map-append}
 use Rattle.std.proofs.lemmas.Bool.Decides.{nat_tests}
 use Rattle.rx_terms.specs.Ascii.{is_ascii}
@@ -46,17 +47,13 @@ module _ {A : Type 0} (f : A → Chars) (between : Chars) (plain : list_all is_a
 -- ---- one behind another
 
 module _ {A : Type 0} (f : A → Chars) where
-  texts_both : (xs ys : List A) → flat_map f (xs ++ ys) ≡ flat_map f xs ++ flat_map f ys
-  texts_both [] ys = refl
-  texts_both (x ∷ xs) ys = ap (λ z. f x ++ z) (texts_both xs ys) ∙ sym (append_assoc (f x) (flat_map f xs) (flat_map f ys))
-
   pub joined : {start now next : Delivery} (list : List A) (i : ℕ) (a : A) → slice_get list i ≡ Some a → Adds start now (flat_map f (take i list)) → Adds now next (f a) → Adds start next (flat_map f (take (i + 1) list))
   joined list i a at so_far last =
-      adds_by (sym (ap (flat_map f) (one_more list i a at) ∙ texts_both (take i list) (a ∷ []) ∙ ap (λ z. flat_map f (take i list) ++ z) (append-nil (f a)))) (adds_then so_far last)
+      adds_by (sym (ap (flat_map f) (one_more list i a at) ∙ flat_map-append f (take i list) (a ∷ []) ∙ ap (λ z. flat_map f (take i list) ++ z) (append-nil (f a)))) (adds_then so_far last)
 
   -- the sink failed, and no more is written
   pub joined_failed : {start now : Delivery} (list : List A) (i : ℕ) → now.underway.failed ≡ true → Adds start now (flat_map f (take i list)) → Adds start now (flat_map f list)
-  joined_failed list i failed h = adds_by (sym (texts_both (take i list) (drop i list)) ∙ ap (flat_map f) (take-append-drop i list)) (adds_failed (flat_map f (drop i list)) failed h)
+  joined_failed list i failed h = adds_by (sym (flat_map-append f (take i list) (drop i list)) ∙ ap (flat_map f) (take-append-drop i list)) (adds_failed (flat_map f (drop i list)) failed h)
 
 -- ---- prefixes
 
@@ -80,7 +77,7 @@ pub prefix_turn : {start now next : Delivery} (marks : List Bool) (context : Pre
     → Adds start now (flat_map prefix_text (chosen (take i marks) (take i context))) → Adds now next (if mark then prefix_text row else [])
     → Adds start next (flat_map prefix_text (chosen (take (i + 1) marks) (take (i + 1) context)))
 prefix_turn marks context i mark row at there so_far last =
-    adds_by (sym (ap (flat_map prefix_text) (chosen_more marks context i mark row at there) ∙ texts_both prefix_text (chosen (take i marks) (take i context)) (one_chosen mark row) ∙ ap (λ z. flat_map prefix_text (chosen (take i marks) (take i context)) ++ z) (line mark)))
+    adds_by (sym (ap (flat_map prefix_text) (chosen_more marks context i mark row at there) ∙ flat_map-append prefix_text (chosen (take i marks) (take i context)) (one_chosen mark row) ∙ ap (λ z. flat_map prefix_text (chosen (take i marks) (take i context)) ++ z) (line mark)))
     (adds_then so_far last)
   where
     line : (b : Bool) → flat_map prefix_text (one_chosen b row) ≡ (if b then prefix_text row else [])

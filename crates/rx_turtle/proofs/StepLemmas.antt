@@ -9,7 +9,7 @@ use Rattle.rx_model.specs.Vocabulary.{rdf_first, rdf_rest, rdf_nil}
 use Rattle.rx_shapes.specs.declared.shapes.Shape.{Shape}
 use Rattle.rx_shapes.specs.declared.shapes.Shape.TheVariants as shape
 use Rattle.rx_notation.specs.Short.{Prefixes}
-use Rattle.rx_shapes.specs.Subjects.{about, has_predicate, predicates_of, objects_of}
+use Rattle.rx_shapes.specs.Subjects.{about, has_predicate, predicates_of, objects_of, first_of, object_at}
 use Rattle.rx_notation.specs.Syntax.{Named}
 use Rattle.rx_shapes.proofs.Grouped.{predicate_says}
 use Rattle.rx_notation.specs.Nesting.{reference_to, verb_of, statement_of}
@@ -23,7 +23,7 @@ use Rattle.rx_turtle.specs.declared.keys.By.TheVariants as by
 use Rattle.rx_turtle.specs.declared.tokens.Words.{Words}
 use Rattle.rx_turtle.specs.declared.tokens.Words.TheVariants as fixed
 use Rattle.rx_turtle.specs.Groups.{Keyed, has_key}
-use Rattle.rx_turtle.specs.Said.{first_of, object_with, said_of}
+use Rattle.rx_turtle.specs.Said.{said_of}
 use Rattle.rx_turtle.specs.Tokens.{Shown, Fixed, IriOrLabel, words_text, piece_of}
 use Rattle.rx_turtle.specs.Due.{Due, Say, Object, After, behind, parted, object_due, objects_due, line_due, lines_due, bracket_due, item_due, rest_due, iri_due, statement_due, cell_due, node_due, term_due, opened, AreCells, step_of, due_pieces}
 use Rattle.rx_turtle.proofs.GroupLemmas.{map_twice}
@@ -115,7 +115,7 @@ module _ (context : Prefixes) where
 
     cell_is : (number : ℕ) → steps (cell_due list number) ≡ cell_steps list number
     cell_is number =
-        map-append (step_of context) (item_due (object_with list (Blank number) rdf_first)) (rest_due (object_with list (Blank number) rdf_rest))
+        map-append (step_of context) (item_due (object_at list (Blank number) rdf_first)) (rest_due (object_at list (Blank number) rdf_rest))
         ∙ ap₂ ◌++◌ (item_is (objects_of list (Blank number) rdf_first)) (rest_is (objects_of list (Blank number) rdf_rest))
 
     node_is : (s : Shape) (number : ℕ) → steps (node_due list s number) ≡ node_steps context list s number
@@ -175,7 +175,7 @@ module _ (list : List (Triple ℕ)) where
     | inr found ↦ let same : found.0 ≡ d = let both : Resource (Blank found.0) ≡ Resource (Blank d) = sym found.1 ∙ e in cc in subst (Cell (set_of list)) same found.2
   ]
 
-  rest_cells : (number : ℕ) → CellOf list number → AreCells list (rest_due (object_with list (Blank number) rdf_rest))
+  rest_cells : (number : ℕ) → CellOf list number → AreCells list (rest_due (object_at list (Blank number) rdf_rest))
   rest_cells number c = go (objects_of list (Blank number) rdf_rest) (λ o m. rest_each list number c o m)
     where
       go : (rests : List (Term ℕ)) → ((o : Term ℕ) → Among rests o → o ≡ c.after) → AreCells list (rest_due (first_of rests))
@@ -186,8 +186,8 @@ module _ (list : List (Triple ℕ)) where
 
   cell_cells : (number : ℕ) → Cell (set_of list) number → AreCells list (cell_due list number)
   cell_cells number h =
-      cells_both list (item_due (object_with list (Blank number) rdf_first)) (rest_due (object_with list (Blank number) rdf_rest))
-      (item_cells (object_with list (Blank number) rdf_first)) (rest_cells number (cell_of list number h))
+      cells_both list (item_due (object_at list (Blank number) rdf_first)) (rest_due (object_at list (Blank number) rdf_rest))
+      (item_cells (object_at list (Blank number) rdf_first)) (rest_cells number (cell_of list number h))
 
   node_cells : (s : Shape) (number : ℕ) → IsShape (set_of list) number s → AreCells list (node_due list s number)
   node_cells shape.Labelled number h = tt

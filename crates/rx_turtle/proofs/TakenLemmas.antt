@@ -7,10 +7,11 @@ use Rattle.rx_model.specs.Sets.{contains}
 use Rattle.rx_model.specs.Terms.{Node, Triple, same_node}
 use Rattle.rx_model.proofs.Exact.{exact_nodes, exact_numbers}
 use Rattle.rx_graph.specs.Resources.{node_added, number_in, AreDistinct}
-use Rattle.rx_graph.proofs.PatternLemmas.{contains_more, contains_added}
+use Rattle.rx_graph.proofs.PatternLemmas.{contains_more, contains_added, none_there}
+use Rattle.rx_shapes.proofs.Grouped.{same_back}
 use Rattle.rx_turtle.specs.declared.keys.By.{By}
 use Rattle.rx_turtle.specs.Groups.{Keyed, key_by, has_key, keys_by, keys_in, grouped, put_in, taken_at, taken_in}
-use Rattle.rx_turtle.proofs.GroupLemmas.{lent_seen, lent_more, same_back, same_self, paired, rows_by, keys_more, others_stay, one_put, last_in}
+use Rattle.rx_turtle.proofs.GroupLemmas.{lent_seen, lent_more, same_self, paired, rows_by, keys_more, others_stay, one_put, last_in}
 
 -- ---- a key more
 
@@ -49,16 +50,6 @@ there (x ∷ keys) s n h = go (same_node nat_eq x s) refl (number_in keys s) ref
     go true e o f q ih = refl
     go false e (Some m) f q ih = ih m f
     go false e None f q ih = absurd (cc)
-
-pub not_there : (keys : List (Node ℕ)) (s : Node ℕ) → number_in keys s ≡ None → contains (same_node nat_eq) keys s ≡ false
-not_there [] s h = refl
-not_there (x ∷ keys) s h = go (same_node nat_eq x s) refl (number_in keys s) refl h (not_there keys s)
-  where
-    go : (b : Bool) → same_node nat_eq x s ≡ b → (o : Option ℕ) → number_in keys s ≡ o → (if b then Some 0 else option_map suc o) ≡ None
-        → (number_in keys s ≡ None → contains (same_node nat_eq) keys s ≡ false) → (b || contains (same_node nat_eq) keys s) ≡ false
-    go true e o f q ih = absurd (cc)
-    go false e (Some m) f q ih = absurd (cc)
-    go false e None f q ih = ih f
 
 pub keys_of_pairs : (f : Node ℕ → List (Triple ℕ)) (kind : By) (keys : List (Node ℕ)) → keys_in (paired kind f keys) ≡ keys
 keys_of_pairs f kind [] = refl
@@ -103,7 +94,7 @@ module _ (kind : By) where
     -- it isn't
     begun : ((k : Node ℕ) → contains (same_node nat_eq) keys k ≡ false → rows k ≡ []) → number_in keys key ≡ None → grouped kind list ++ (key, t ∷ []) ∷ [] ≡ grouped kind (list ++ t ∷ [])
     begun none h =
-        let new : contains (same_node nat_eq) keys key ≡ false = not_there keys key h in
+        let new : contains (same_node nat_eq) keys key ≡ false = none_there keys key h in
         let more : keys_by kind (list ++ t ∷ []) ≡ keys ++ key ∷ [] = keys_more kind list t ∙ ap (λ b. if b then keys else keys ++ key ∷ []) new in
         let own : has_key kind key t ≡ true = same_self key in
         let row : filter (has_key kind key) (list ++ t ∷ []) ≡ t ∷ [] = filter-append (has_key kind key) list (t ∷ []) ∙ rw (none key new, own) refl in
@@ -152,7 +143,7 @@ keys_put (g ∷ groups) (suc n) t = ap (λ z. g.0 ∷ z) (keys_put groups n t)
 
 pub keys_begun : (groups : List Keyed) (keys : List (Node ℕ)) (key : Node ℕ) (t : Triple ℕ) → keys ≡ keys_in groups → number_in keys key ≡ None → node_added keys key ≡ keys_in (groups ++ (key, t ∷ []) ∷ [])
 keys_begun groups keys key t are none =
-    ap (λ b. if b then keys else keys ++ key ∷ []) (not_there keys key none) ∙ ap (λ z. z ++ key ∷ []) are ∙ sym (map-append (λ (group : Keyed). group.0) groups ((key, t ∷ []) ∷ []))
+    ap (λ b. if b then keys else keys ++ key ∷ []) (none_there keys key none) ∙ ap (λ z. z ++ key ∷ []) are ∙ sym (map-append (λ (group : Keyed). group.0) groups ((key, t ∷ []) ∷ []))
 
 -- a group at this place has the key: so the key is found there
 pub key_at : (groups : List Keyed) (n : ℕ) (key : Node ℕ) (has : Bool) → n < length groups → ((g : Keyed) → slice_get groups n ≡ Some g → has ≡ same_node nat_eq g.0 key) → has ≡ true → AreDistinct (keys_in groups)

@@ -9,7 +9,7 @@ use Rattle.rx_model.specs.Vocabulary.{rdf_first, rdf_rest, rdf_nil}
 use Rattle.rx_shapes.specs.Table.{AreShapes, shape_in}
 use Rattle.rx_shapes.specs.declared.shapes.Shape.{Shape}
 use Rattle.rx_shapes.specs.declared.shapes.Shape.TheVariants as shape
-use Rattle.rx_shapes.specs.Subjects.{about}
+use Rattle.rx_shapes.specs.Subjects.{about, object_at}
 use Rattle.rx_notation.specs.Short.{Prefixes}
 use Rattle.rx_notation.specs.Nesting.{is_top, statement_of, statements}
 use Rattle.rx_notation.specs.Pieces.{Piece, statement_pieces, all_pieces}
@@ -23,7 +23,7 @@ use Rattle.rx_turtle.specs.declared.tokens.Words.{Words}
 use Rattle.rx_turtle.specs.declared.tokens.Words.TheVariants as fixed
 use Rattle.rx_turtle.specs.declared.keys.By.TheVariants as by
 use Rattle.rx_turtle.specs.Groups.{Keyed, key_by, has_key}
-use Rattle.rx_turtle.specs.Said.{object_with, said_of}
+use Rattle.rx_turtle.specs.Said.{said_of}
 use Rattle.rx_turtle.specs.Tokens.{Shown, Fixed, IriOrLabel, Verb, Quoted, token_seen, tokens_seen, piece_of, pieces_of}
 
 -- a token, an object, or what comes after an item of a collection, with this cell
@@ -130,7 +130,7 @@ statement_due subject groups = Say (IriOrLabel subject) ∷ Say (Fixed fixed.Spa
 module _ (list : List (Triple ℕ)) where
   -- the item of a cell, and what comes after it
   abbrev pub cell_due : ℕ → List Due
-  cell_due number = item_due (object_with list (Blank number) rdf_first) ++ rest_due (object_with list (Blank number) rdf_rest)
+  cell_due number = item_due (object_at list (Blank number) rdf_first) ++ rest_due (object_at list (Blank number) rdf_rest)
 
   abbrev pub node_due : Shape → ℕ → List Due
   node_due shape.Labelled number = Say (IriOrLabel (Blank number)) ∷ []

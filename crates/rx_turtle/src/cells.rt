@@ -3,10 +3,10 @@ ghost use Rattle.std.specs.Prelude.{◌≡◌, ◌++◌, OnOk, option_map};
 ghost use Rattle.rx_model.specs.Seen.{term_seen};
 ghost use Rattle.rx_turtle.specs.Due.{item_due, rest_due, cell_due, list_of, IsSource};
 
-use crate::said::{Half, object_with};
 use crate::source::Source;
 use crate::stack::{Stack, Task};
 use crate::tokens::Words;
+use rx_shapes::{CellPart, object_of};
 use rx_terms::{Blank, NoMemory, Node, Term};
 
 /// A cell: its item, and what comes after it.
@@ -20,8 +20,8 @@ pub(crate) fn push_cell<'a>(
 {
     let node = Node::Blank(cell);
     let places = source.shapes.places(&node);
-    push_rest(stack, object_with(source.graph, places, Half::Rest))?;
-    push_item(stack, object_with(source.graph, places, Half::Item))?;
+    push_rest(stack, object_of(source.graph, places, CellPart::Rest))?;
+    push_item(stack, object_of(source.graph, places, CellPart::Item))?;
     Ok(())
 }
 

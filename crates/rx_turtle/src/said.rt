@@ -1,24 +1,18 @@
 //! What is said of a node, by the places of its triples.
-ghost use Rattle.std.specs.Prelude.{◌≡◌, ◌++◌, IfOk, OnOk, slice_get, option_map, option_to_list, bytes_eq, if◌then◌else◌};
-ghost use Rattle.rx_model.specs.Seen.{node_seen, term_seen, triple_seen, triples_seen};
+ghost use Rattle.std.specs.Prelude.{◌≡◌, ◌++◌, IfOk, OnOk, slice_get, option_map, option_to_list};
+ghost use Rattle.rx_model.specs.Seen.{node_seen, triple_seen, triples_seen};
+ghost use Rattle.rx_shapes.specs.Places.{picked};
 ghost use Rattle.rx_shapes.specs.Table.{AreShapes};
 ghost use Rattle.rx_turtle.specs.Runs.{runs};
 ghost use Rattle.rx_turtle.specs.declared.keys.By.TheVariants as by;
-ghost use Rattle.rx_turtle.specs.Said.{picked, predicate_of, object_by, found, said_of};
+ghost use Rattle.rx_turtle.specs.Said.{said_of};
 ghost use Rattle.rx_turtle.specs.Groups.{lent_triples, Appends};
 
 use crate::arranging::by_predicate;
 use rx_graph::Graph;
-use rx_shapes::{Shapes, is_first, is_rest};
-use rx_terms::{Iri, NoMemory, Node, Term, Triple};
+use rx_shapes::Shapes;
+use rx_terms::{NoMemory, Node, Triple};
 use std::alloc::Global;
-
-/// A half of a cell: its item, or what comes after it.
-#[derive(Clone, Copy)]
-pub(crate) enum Half {
-    Item,
-    Rest,
-}
 
 /// The triples of the node, with those of one predicate side by side. The time is that of their number.
 pub(crate) fn said_of<'a>(
@@ -66,35 +60,4 @@ fn triple_at(graph: &Graph, place: usize) -> Option<&Triple>
         return None;
     }
     Some(graph.at(place))
-}
-
-/// The object of the first triple at the places that says this half of a cell.
-pub(crate) fn object_with<'a>(graph: &'a Graph, places: &[usize], half: Half) -> Option<&'a Term>
-    ensures { option_map (λ o. term_seen o.now) result ≡ found (triples_seen graph.now) (predicate_of half) places.now }
-{
-    for i in 0..places.len() {
-        if let Some(object) = object_at(graph, places[i], half) {
-            return Some(object);
-        }
-    }
-    None
-}
-
-fn object_at(graph: &Graph, place: usize, half: Half) -> Option<&Term>
-    ensures { option_map (λ o. term_seen o.now) result ≡ object_by (predicate_of half) (slice_get (triples_seen graph.now) place) }
-{
-    let triple = triple_at(graph, place)?;
-    if !is_half(&triple.predicate, half) {
-        return None;
-    }
-    Some(&triple.object)
-}
-
-fn is_half(predicate: &Iri, half: Half) -> bool
-    ensures { result ≡ bytes_eq predicate.now (predicate_of half) }
-{
-    match half {
-        Half::Item => is_first(predicate),
-        Half::Rest => is_rest(predicate),
-    }
 }

@@ -4,7 +4,6 @@ use Rattle.rx_model.specs.Seen.{node_seen, triples_seen}
 use Rattle.rx_shapes.specs.Table.{shape_in}
 use Rattle.rx_json.specs.Events.{data_events}
 use Rattle.rx_json.proofs.GrowLemmas.{told_as, then_ok}
-use Rattle.rx_jsonld.specs.Places.{with_places}
 use Rattle.rx_jsonld.specs.Value.{id_text, string_of}
 use Rattle.rx_jsonld.proofs.GroupLemmas.{node_made}
 use Rattle.rx_jsonld.proofs.PlaceLemmas.{said_found}
@@ -15,6 +14,6 @@ returns g c writable =
     let list = triples_seen c.args.graph.now in
     let shapes = shape_in c.args.shapes.now in
     let subject = node_seen c.args.subject.now in
-    let said = c.in-Ok.ensures shapes ∙ ap (λ places. with_places list shapes places no_members) c.requires.places ∙ said_found list shapes subject no_members in
+    let said = c.in-Ok.ensures shapes ∙ said_found list shapes subject c.args.places.now no_members c.requires.places in
     let whole = ap (λ (ms : Members). object (member (codes "@id") (string_of (id_text subject)) ms)) said ∙ node_made list shapes subject writable in
     then_ok c.write_object-written.result (λ written. told_as _ _ (ap data_events whole) written) c.write_object-written.ensures

@@ -9,5 +9,5 @@ use Rattle.rx_turtle.proofs.said.said_of.Goals as goal
 
 pub returns : goal.returns
 returns c =
-    said_is (triples_seen c.args.graph.now) c.args.shapes.now c.requires (node_seen c.args.node.now) c.places.result.now c.places.ensures (map lent_seen c.in_ok-triples.triples.items) (runs by.Predicate (map lent_seen c.in_ok-by_predicate.field-0.items))
-    c.in_ok-triples.ensures (c.in_ok-by_predicate.ensures ∙ ap (λ z. grouped by.Predicate (map lent_seen z)) c.deref.ensures.value)
+    said_is (triples_seen c.args.graph.now) (node_seen c.args.node.now) c.places.result.now (map lent_seen c.in_ok-triples.triples.items) (runs by.Predicate (map lent_seen c.in_ok-by_predicate.field-0.items))
+    (c.places.ensures ∙ c.requires.places (node_seen c.args.node.now)) c.in_ok-triples.ensures (c.in_ok-by_predicate.ensures ∙ ap (λ z. grouped by.Predicate (map lent_seen z)) c.deref.ensures.value)

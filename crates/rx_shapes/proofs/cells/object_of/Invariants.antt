@@ -1,7 +1,7 @@
 use Rattle.std.proofs.Common.{◌≡◌, drop}
 use Rattle.rx_model.specs.Seen.{triples_seen}
-use Rattle.rx_jsonld.specs.Places.{object_among, predicate_of}
-use Rattle.rx_jsonld.proofs.chains.object_among.Given as goal
+use Rattle.rx_shapes.specs.Cells.{object_among, predicate_of}
+use Rattle.rx_shapes.proofs.cells.object_of.Given as goal
 
 abbrev pub invariant-loop-place : goal.invariant-loop-place
 invariant-loop-place l =
