@@ -19,3 +19,4 @@ pub mod Turns
 pub mod Readings
 pub mod Quiets
 pub mod ShownLines
+pub mod Sized
