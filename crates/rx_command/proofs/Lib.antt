@@ -13,3 +13,4 @@ pub mod ItemLemmas
 pub mod EndingLemmas
 pub mod OneAnswer
 pub mod EndingsSaid
+pub mod RowLemmas
