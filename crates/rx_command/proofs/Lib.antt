@@ -13,4 +13,5 @@ pub mod ItemLemmas
 pub mod EndingLemmas
 pub mod OneAnswer
 pub mod EndingsSaid
+pub mod WorkedPages
 pub mod RowLemmas

@@ -8,7 +8,7 @@ use Rattle.json.specs.Json.{value}
 use Rattle.json.specs.Lex.{lex, punctuate}
 use Rattle.rx_chars.specs.declared.syntax.Syntax.TheVariants.{Html}
 use Rattle.rx_grammar.specs.declared.faults.Fault.{Fault}
-use Rattle.rx_grammar.specs.declared.faults.Kind.TheVariants.{Unended}
+use Rattle.rx_grammar.specs.declared.faults.Kind.TheVariants.{Unended, Mismatch, RelativeVocab}
 use Rattle.rx_pages.specs.PageReader.{Progress, page_read, nothing_read, end_of}
 use Rattle.rx_pages.proofs.OnlyPages.{finds_only_faults}
 use Rattle.rx_rdfa.specs.Standard as names
@@ -24,9 +24,10 @@ use Rattle.rx_page.proofs.TextLemmas.{the_text}
 use Rattle.rx_command.specs.Samples.{sample_page}
 use Rattle.rx_command.specs.Endings.{IsAnswer, nothing_asked, of_page, of_fault, no_file, no_context, no_file_of_several}
 use Rattle.rx_command.specs.Runs.{refused_line}
-use Rattle.rx_command.specs.Rows.{RowsAreAnswered, Row, file, small_page, usage, check_words, extract_words, many_words}
+use Rattle.rx_command.specs.Rows.{RowsAreAnswered, Row, file, small_page, small_text, usage, check_words, extract_words, many_words}
 use Rattle.rx_command.specs.declared.statuses.Status.TheVariants as status
 use Rattle.rx_command.proofs.SampleNodes.{samples_are_pages}
+use Rattle.rx_command.proofs.WorkedPages.{read_to, small_is, extraction, small_has, small_denotes, mismatched, mismatch_first, relative, relative_first}
 
 -- what the words ask for
 abbrev a_check : Asked
@@ -97,8 +98,18 @@ right_sample count few =
     let is : IsRight Html names.standard (sample_page count) (codes "ok\n") = record { tree = p.0; is = p.1; spelled = refl } in
     of_page a_check (codes "ok\n") (record { context = names.standard; bytes = sample_page count; is_context = refl; file = refl; holds_so = the_text (checks Html) names.standard (sample_page count) (codes "ok\n") is is })
 
+right_small : IsRight Html names.standard small_page (codes "ok\n")
+right_small = record { tree = _; is = small_is; spelled = refl }
+
 pub right : Row check_words (file small_page) status.Done (codes "ok\n") []
-right = right_sample 0 (omega arith)
+unfolding encode
+right = of_page a_check (codes "ok\n") (record { context = names.standard; bytes = small_page; is_context = refl; file = refl; holds_so = the_text (checks Html) names.standard small_page (codes "ok\n") right_small right_small })
+
+pub extracted : Row (codes "extract" ∷ codes "--base" ∷ codes "http://localhost/" ∷ codes "page.html" ∷ []) (file small_page) status.Done small_text []
+unfolding encode
+extracted =
+    of_page (record { task = extracts extraction; context = None; page = codes "page.html" }) small_text
+    (record { context = names.standard; bytes = small_page; is_context = refl; file = refl; holds_so = the_text (extracts extraction) names.standard small_page small_text small_has small_denotes })
 
 -- ---- a file that is no page
 
@@ -135,11 +146,6 @@ empty =
 abbrev cut_page : List ℕ
 cut_page = codes "<html><p>a</p>"
 
--- where the reader stands behind it
-abbrev read_to : Result Progress Fault → Progress
-read_to (Ok now) = now
-read_to (Err fault) = nothing_read
-
 cut_read : IsRead (rdfa_way Html names.standard) cut_page
 cut_read = record { now = read_to (page_read Html standard cut_page); read = refl; accepted = refl }
 
@@ -147,6 +153,29 @@ pub cut_short : Row check_words (file (codes "<html><p>a</p>")) (status.Refused 
 cut_short =
     let fault : Fault = record { kind = Unended; token = 14; at = 14 } in
     subst (λ line. Row check_words (file cut_page) (status.Refused fault) [] line) cut_line (refused_so cut_page fault (unended_so cut_page fault cut_read refl))
+
+nine : decimal 9 ≡ codes "9"
+nine = decimal_digit 9 (omega arith)
+
+twelve : decimal 12 ≡ codes "12"
+twelve = decimal_step 12 (omega arith) (omega arith) ∙ ap (λ z. z ++ 50 ∷ []) one_digit
+
+fifteen : decimal 15 ≡ codes "15"
+fifteen = decimal_step 15 (omega arith) (omega arith) ∙ ap (λ z. z ++ 53 ∷ []) one_digit
+
+mismatch_line : refused_line mismatched ≡ codes "refused: Mismatch at byte 12 in token 9\n"
+mismatch_line = rw (twelve, nine) refl
+
+relative_line : refused_line relative ≡ codes "refused: RelativeVocab at byte 15 in token 0\n"
+relative_line = rw (fifteen, zero_digit) refl
+
+pub mismatch : Row check_words (file (codes "<html><b></i></b></html>")) (status.Refused (record { kind = Mismatch; token = 9; at = 12 })) [] (codes "refused: Mismatch at byte 12 in token 9\n")
+mismatch =
+    subst (λ line. Row check_words (file (codes "<html><b></i></b></html>")) (status.Refused mismatched) [] line) mismatch_line (refused_so (codes "<html><b></i></b></html>") mismatched mismatch_first)
+
+pub relative_vocab : Row check_words (file (codes "<html vocab=\"x\"></html>")) (status.Refused (record { kind = RelativeVocab; token = 0; at = 15 })) [] (codes "refused: RelativeVocab at byte 15 in token 0\n")
+relative_vocab =
+    subst (λ line. Row check_words (file (codes "<html vocab=\"x\"></html>")) (status.Refused relative) [] line) relative_line (refused_so (codes "<html vocab=\"x\"></html>") relative relative_first)
 
 pub rows_are_answered : RowsAreAnswered
 rows_are_answered = record {
@@ -167,4 +196,7 @@ rows_are_answered = record {
   right_sample = right_sample;
   empty = empty;
   cut_short = cut_short;
+  mismatch = mismatch;
+  relative_vocab = relative_vocab;
+  extracted = extracted;
 }

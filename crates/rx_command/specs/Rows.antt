@@ -3,7 +3,7 @@ use Rattle.std.specs.Prelude.{ℕ, ◌≤◌, List, [], ◌∷◌, codes}
 use Rattle.rx_ports.specs.Shelves.{ShelfContent}
 use Rattle.rx_terms.specs.Text.{Chars}
 use Rattle.rx_grammar.specs.declared.faults.Fault.{Fault}
-use Rattle.rx_grammar.specs.declared.faults.Kind.TheVariants.{Unended}
+use Rattle.rx_grammar.specs.declared.faults.Kind.TheVariants.{Unended, Mismatch, RelativeVocab}
 use Rattle.rx_job.specs.Words.{job, most_items}
 use Rattle.rx_command.specs.Gathering.{FileList}
 use Rattle.rx_command.specs.Samples.{sample_page}
@@ -22,9 +22,12 @@ Row words files s text line = IsAnswer (shelf_with files) (job words) s text lin
 abbrev pub usage : List ℕ
 usage = codes "usage: rdfax extract|items|check|sample\n"
 
--- a page without a triple, and its file
+-- a page with one triple, its triples' text, and its file
 abbrev pub small_page : List ℕ
-small_page = codes "<!DOCTYPE html>\n<html vocab=\"http://schema.org/\">\n<body typeof=\"ItemList\">\n</body>\n</html>\n"
+small_page = codes "<html><p property=\"http://v.example/name\">Ann</p></html>"
+
+abbrev pub small_text : List ℕ
+small_text = codes "<http://localhost/> <http://v.example/name> \"Ann\" .\n"
 
 abbrev pub file : List ℕ → FileList
 file bytes = (codes "page.html", bytes) ∷ []
@@ -59,6 +62,9 @@ pub record RowsAreAnswered : Type 0 where
   -- a page
   pub right : Row check_words (file small_page) status.Done (codes "ok\n") []
   pub right_sample : (count : ℕ) → count ≤ most_items → Row check_words (file (sample_page count)) status.Done (codes "ok\n") []
+  pub extracted : Row (codes "extract" ∷ codes "--base" ∷ codes "http://localhost/" ∷ codes "page.html" ∷ []) (file small_page) status.Done small_text []
   -- a file that is none
   pub empty : Row check_words (file []) (status.Refused (record { kind = Unended; token = 0; at = 0 })) [] (codes "refused: Unended at byte 0 in token 0\n")
   pub cut_short : Row check_words (file (codes "<html><p>a</p>")) (status.Refused (record { kind = Unended; token = 14; at = 14 })) [] (codes "refused: Unended at byte 14 in token 14\n")
+  pub mismatch : Row check_words (file (codes "<html><b></i></b></html>")) (status.Refused (record { kind = Mismatch; token = 9; at = 12 })) [] (codes "refused: Mismatch at byte 12 in token 9\n")
+  pub relative_vocab : Row check_words (file (codes "<html vocab=\"x\"></html>")) (status.Refused (record { kind = RelativeVocab; token = 0; at = 15 })) [] (codes "refused: RelativeVocab at byte 15 in token 0\n")
