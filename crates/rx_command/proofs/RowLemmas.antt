@@ -1,5 +1,5 @@
 -- Each worked row by its rule.
-use Rattle.std.proofs.Common.{◌≡◌, ◌∙◌, ℕ, ◌≤◌, inl, inr, List, [], ◌∷◌, ◌++◌, refl, ap, subst, arith, Some, None, Result, Ok, Err, codes}
+use Rattle.std.proofs.Common.{◌≡◌, ◌∙◌, ℕ, ◌≤◌, inl, inr, List, [], ◌∷◌, ◌++◌, refl, ap, subst, arith, Some, None, Err, codes}
 use Rattle.std.specs.Fmt.{decimal}
 use Rattle.std.proofs.lemmas.Fmt.{decimal_digit, decimal_step}
 use lib.Utf8.{encode}
@@ -9,7 +9,7 @@ use Rattle.json.specs.Lex.{lex, punctuate}
 use Rattle.rx_chars.specs.declared.syntax.Syntax.TheVariants.{Html}
 use Rattle.rx_grammar.specs.declared.faults.Fault.{Fault}
 use Rattle.rx_grammar.specs.declared.faults.Kind.TheVariants.{Unended, Mismatch, RelativeVocab}
-use Rattle.rx_pages.specs.PageReader.{Progress, page_read, nothing_read, end_of}
+use Rattle.rx_pages.specs.PageReader.{page_read, end_of}
 use Rattle.rx_pages.proofs.OnlyPages.{finds_only_faults}
 use Rattle.rx_rdfa.specs.Standard as names
 use Rattle.rx_walk.specs.RefusalLaws.{refusal_laws}
@@ -17,12 +17,12 @@ use Rattle.rx_page.specs.Settings.{standard, rdfa_way, HasFirst}
 use Rattle.rx_page.specs.Readers.{IsRead}
 use Rattle.rx_page.proofs.FrontLemmas.{end_first, no_bytes_read}
 use Rattle.rx_page.proofs.OutcomeLemmas.{the_fault}
-use Rattle.rx_job.specs.Words.{Asked, Gathering, job, reads, gathers, extracts, checks, most_items}
+use Rattle.rx_job.specs.Words.{Asked, Gathering, extracts, checks, most_items}
 use Rattle.rx_job.specs.declared.formats.Format.TheVariants.{Nquads}
 use Rattle.rx_page.specs.Tasks.{IsRight}
 use Rattle.rx_page.proofs.TextLemmas.{the_text}
 use Rattle.rx_command.specs.Samples.{sample_page}
-use Rattle.rx_command.specs.Endings.{IsAnswer, nothing_asked, of_page, of_fault, no_file, no_context, no_file_of_several}
+use Rattle.rx_command.specs.Endings.{nothing_asked, of_page, of_fault, no_file, no_context, no_file_of_several}
 use Rattle.rx_command.specs.Runs.{refused_line}
 use Rattle.rx_command.specs.Rows.{RowsAreAnswered, Row, file, small_page, small_text, usage, check_words, extract_words, many_words}
 use Rattle.rx_command.specs.declared.statuses.Status.TheVariants as status

@@ -1,5 +1,5 @@
 -- Pages and faults of the worked rows, read byte by byte.
-use Rattle.std.proofs.Common.{◌≡◌, ◌∙◌, ⊎_elim, inl, inr, ℕ, true, false, List, [], ◌∷◌, ◌++◌, refl, sym, ap, subst, Option, Some, None, Result, Ok, Err, codes, encode_utf8_all, append_assoc, append-nil}
+use Rattle.std.proofs.Common.{◌≡◌, ◌∙◌, ⊎_elim, inl, inr, ℕ, true, false, List, [], ◌∷◌, ◌++◌, refl, sym, ap, subst, None, Result, Ok, Err, codes, encode_utf8_all, append_assoc, append-nil}
 use Rattle.std.proofs.lemmas.List.{append_cancel_left}
 use Rattle.std.specs.Str.{chars, all_scalars}
 use lib.Utf8.{encode}
@@ -13,7 +13,7 @@ use Rattle.rx_grammar.specs.PageFaults.{FaultAt}
 use Rattle.rx_grammar.specs.Pages.{Page}
 use Rattle.rx_grammar.specs.Trees.{Tree, end}
 use Rattle.rx_pages.specs.Nesting.{told_trees}
-use Rattle.rx_pages.specs.PageReader.{Progress, page_read, page_on, nothing_read, spot_of, end_of}
+use Rattle.rx_pages.specs.PageReader.{Progress, page_read, page_on, nothing_read, spot_of}
 use Rattle.rx_pages.proofs.OnlyPages.{finds_only_faults, reads_only_pages}
 use Rattle.rx_pages.proofs.FaultWalk.{fault_stays}
 use Rattle.rx_pages.proofs.ScanSteps.{page_append}

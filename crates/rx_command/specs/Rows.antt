@@ -2,7 +2,6 @@
 use Rattle.std.specs.Prelude.{ℕ, ◌≤◌, List, [], ◌∷◌, codes}
 use Rattle.rx_ports.specs.Shelves.{ShelfContent}
 use Rattle.rx_terms.specs.Text.{Chars}
-use Rattle.rx_grammar.specs.declared.faults.Fault.{Fault}
 use Rattle.rx_grammar.specs.declared.faults.Kind.TheVariants.{Unended, Mismatch, RelativeVocab}
 use Rattle.rx_job.specs.Words.{job, most_items}
 use Rattle.rx_command.specs.Gathering.{FileList}
