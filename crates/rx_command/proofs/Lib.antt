@@ -14,4 +14,5 @@ pub mod EndingLemmas
 pub mod OneAnswer
 pub mod EndingsSaid
 pub mod WorkedPages
+pub mod MoreRows
 pub mod RowLemmas

@@ -15,7 +15,7 @@ use Rattle.rx_rdfa.specs.Standard as names
 use Rattle.rx_walk.specs.RefusalLaws.{refusal_laws}
 use Rattle.rx_page.specs.Settings.{standard, rdfa_way, HasFirst}
 use Rattle.rx_page.specs.Readers.{IsRead}
-use Rattle.rx_page.proofs.FrontLemmas.{end_first, no_bytes_read}
+use Rattle.rx_page.proofs.FrontLemmas.{end_first}
 use Rattle.rx_page.proofs.OutcomeLemmas.{the_fault}
 use Rattle.rx_job.specs.Words.{Asked, Gathering, extracts, checks, most_items}
 use Rattle.rx_job.specs.declared.formats.Format.TheVariants.{Nquads}
@@ -27,6 +27,7 @@ use Rattle.rx_command.specs.Runs.{refused_line}
 use Rattle.rx_command.specs.Rows.{RowsAreAnswered, Row, file, small_page, small_text, usage, check_words, extract_words, many_words}
 use Rattle.rx_command.specs.declared.statuses.Status.TheVariants as status
 use Rattle.rx_command.proofs.SampleNodes.{samples_are_pages}
+use Rattle.rx_command.proofs.MoreRows.{two_pages, ended, empty_first, gathered_row, items_row}
 use Rattle.rx_command.proofs.WorkedPages.{read_to, small_is, extraction, small_has, small_denotes, mismatched, mismatch_first, relative, relative_first}
 
 -- what the words ask for
@@ -38,13 +39,6 @@ an_extraction = record {
   task = extracts (record { syntax = Html; format = Nquads; graph = None; address = codes "http://localhost/" });
   context = Some (codes "names.json");
   page = codes "page.html";
-}
-
-abbrev two_pages : Gathering
-two_pages = record {
-  syntax = Html;
-  context = None;
-  pages = record { address = codes "http://a.example/"; page = codes "page.html" } ∷ record { address = codes "http://b.example/"; page = codes "other.html" } ∷ [];
 }
 
 pub no_words : Row [] [] status.Usage [] usage
@@ -140,8 +134,7 @@ cut_line = rw fourteen refl
 
 pub empty : Row check_words (file []) (status.Refused (record { kind = Unended; token = 0; at = 0 })) [] (codes "refused: Unended at byte 0 in token 0\n")
 empty =
-    let fault : Fault = record { kind = Unended; token = 0; at = 0 } in
-    subst (λ line. Row check_words (file []) (status.Refused fault) [] line) empty_line (refused_so [] fault (unended_so [] fault (no_bytes_read (rdfa_way Html names.standard) (refusal_laws names.standard)) refl))
+    subst (λ line. Row check_words (file []) (status.Refused ended) [] line) empty_line (refused_so [] ended empty_first)
 
 abbrev cut_page : List ℕ
 cut_page = codes "<html><p>a</p>"
@@ -199,4 +192,6 @@ rows_are_answered = record {
   mismatch = mismatch;
   relative_vocab = relative_vocab;
   extracted = extracted;
+  itemized = items_row;
+  gathered = gathered_row;
 }

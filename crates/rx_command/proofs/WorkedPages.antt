@@ -58,11 +58,11 @@ abbrev pub read_to : Result Progress Fault → Progress
 read_to (Ok now) = now
 read_to (Err fault) = nothing_read
 
-abbrev first_tree : List Tree → Tree
+abbrev pub first_tree : List Tree → Tree
 first_tree [] = end
 first_tree (tree ∷ trees) = tree
 
-abbrev small_tree : Tree
+abbrev pub small_tree : Tree
 small_tree = first_tree (told_trees (read_to (page_read Html standard small_page)).told)
 
 pub small_is : IsAccepted Html names.standard small_page small_tree
@@ -82,7 +82,7 @@ small_made : written (base_in address small_tree) (facts_in names.standard small
 unfolding time_kind components_of step without_dots target resolved resources below start_of element_end entries_at cells
 small_made = refl
 
-iri_writable : (iri : Chars) → all_scalars iri ≡ true → has_scheme iri ≡ true → has_forbidden iri ≡ false → WritableIri iri
+pub iri_writable : (iri : Chars) → all_scalars iri ≡ true → has_scheme iri ≡ true → has_forbidden iri ≡ false → WritableIri iri
 iri_writable iri a s f = record { text = record { scalars = a }; is_iri = record { scheme = s; clean = f } }
 
 triple_writable : WritableTriple None (spo (Iri (codes "http://localhost/")) (codes "http://v.example/name") (Literal (codes "Ann") Plain))

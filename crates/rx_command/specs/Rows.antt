@@ -40,6 +40,22 @@ extract_words = codes "extract" ∷ codes "--context" ∷ codes "names.json" ∷
 abbrev pub many_words : List Chars
 many_words = codes "many" ∷ codes "http://a.example/" ∷ codes "page.html" ∷ codes "http://b.example/" ∷ codes "other.html" ∷ []
 
+abbrev pub many_files : FileList
+many_files = (codes "page.html", small_page) ∷ (codes "other.html", []) ∷ []
+
+abbrev pub many_text : List ℕ
+many_text = codes "<http://a.example/> <http://v.example/name> \"Ann\" <http://a.example/> .\n# refused: Unended at byte 0 in token 0 of http://b.example/\n"
+
+-- a page with one item, and its items
+abbrev pub item_page : List ℕ
+item_page = codes "<html><p itemscope itemtype=\"http://v.example/Person\"><b itemprop=\"name\">Ann</b></p></html>"
+
+abbrev pub item_text : List ℕ
+item_text = codes "{\"items\":[{\"properties\":{\"name\":[\"Ann\"]},\"type\":[\"http://v.example/Person\"]}]}\n"
+
+abbrev pub item_words : List Chars
+item_words = codes "items" ∷ codes "--base" ∷ codes "http://localhost/" ∷ codes "page.html" ∷ []
+
 -- law
 pub record RowsAreAnswered : Type 0 where
   -- words that ask for nothing, whatever files there are
@@ -62,6 +78,9 @@ pub record RowsAreAnswered : Type 0 where
   pub right : Row check_words (file small_page) status.Done (codes "ok\n") []
   pub right_sample : (count : ℕ) → count ≤ most_items → Row check_words (file (sample_page count)) status.Done (codes "ok\n") []
   pub extracted : Row (codes "extract" ∷ codes "--base" ∷ codes "http://localhost/" ∷ codes "page.html" ∷ []) (file small_page) status.Done small_text []
+  pub itemized : Row item_words (file item_page) status.Done item_text []
+  -- of two pages one is empty
+  pub gathered : Row many_words many_files status.Done many_text []
   -- a file that is none
   pub empty : Row check_words (file []) (status.Refused (record { kind = Unended; token = 0; at = 0 })) [] (codes "refused: Unended at byte 0 in token 0\n")
   pub cut_short : Row check_words (file (codes "<html><p>a</p>")) (status.Refused (record { kind = Unended; token = 14; at = 14 })) [] (codes "refused: Unended at byte 14 in token 14\n")
