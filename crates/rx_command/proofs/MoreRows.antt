@@ -1,11 +1,10 @@
 -- The worked row of two pages in one document, and that of a page's items.
-use Rattle.std.proofs.Common.{◌≡◌, ◌∙◌, inl, inr, ℕ, true, false, List, [], ◌∷◌, ◌++◌, refl, sym, ap, subst, arith, Some, None, Ok, Err, codes, encode_utf8_all}
+use Rattle.std.proofs.Common.{◌≡◌, inl, inr, ℕ, List, [], ◌∷◌, refl, sym, ap, subst, arith, Some, None, codes, encode_utf8_all}
 use Rattle.std.specs.Fmt.{decimal}
 use Rattle.std.proofs.lemmas.Fmt.{decimal_digit}
 use lib.Utf8.{encode}
 use Rattle.json.specs.Print.{escape_byte}
 use Rattle.serde_json.specs.Data.{Data, null}
-use Rattle.rx_terms.specs.Text.{Chars}
 use Rattle.rx_chars.specs.declared.syntax.Syntax.TheVariants.{Html}
 use Rattle.rx_grammar.specs.declared.faults.Fault.{Fault}
 use Rattle.rx_grammar.specs.declared.faults.Kind.TheVariants.{Unended}
@@ -35,14 +34,14 @@ use Rattle.rx_many.specs.Pages.{Page, refused_page, accepted_page}
 use Rattle.rx_many.specs.Standing.{WritableLine, Spells}
 use Rattle.rx_many.specs.Writing.{gathered}
 use Rattle.rx_many.proofs.DatasetLemmas.{denotes_pages}
-use Rattle.rx_job.specs.Words.{Asked, Gathering, Itemization, reads, gathers, itemizes}
+use Rattle.rx_job.specs.Words.{Gathering, Itemization, itemizes}
 use Rattle.rx_page.specs.Settings.{standard, rdfa_way, HasFirst}
 use Rattle.rx_page.specs.Tasks.{base_in, facts_in, HasItems}
 use Rattle.rx_page.specs.Texts.{JsonText}
 use Rattle.rx_page.proofs.FrontLemmas.{end_first, no_bytes_read}
 use Rattle.rx_page.proofs.TextLemmas.{the_text}
 use Rattle.rx_command.specs.Gathering.{GivesTriples, JudgesEach, IsGathered, DenotesGathered}
-use Rattle.rx_command.specs.Endings.{IsAnswer, of_page, of_pages}
+use Rattle.rx_command.specs.Endings.{of_page, of_pages}
 use Rattle.rx_command.specs.Rows.{Row, file, shelf_with, small_page, item_page, item_text, item_words, many_words, many_files, many_text}
 use Rattle.rx_command.specs.declared.statuses.Status.TheVariants as status
 use Rattle.rx_command.proofs.GatheringLemmas.{judged_graphs}

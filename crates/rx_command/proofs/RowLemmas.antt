@@ -17,7 +17,7 @@ use Rattle.rx_page.specs.Settings.{standard, rdfa_way, HasFirst}
 use Rattle.rx_page.specs.Readers.{IsRead}
 use Rattle.rx_page.proofs.FrontLemmas.{end_first}
 use Rattle.rx_page.proofs.OutcomeLemmas.{the_fault}
-use Rattle.rx_job.specs.Words.{Asked, Gathering, extracts, checks, most_items}
+use Rattle.rx_job.specs.Words.{Asked, extracts, checks, most_items}
 use Rattle.rx_job.specs.declared.formats.Format.TheVariants.{Nquads}
 use Rattle.rx_page.specs.Tasks.{IsRight}
 use Rattle.rx_page.proofs.TextLemmas.{the_text}
