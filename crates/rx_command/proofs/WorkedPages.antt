@@ -124,7 +124,7 @@ small_denotes = record {
 -- ---- a fault behind bytes that are read
 
 module _ (way : Way) (law : IsRefusal way.refused) (clean : List ℕ) (p : Progress) (h : page_read way.syntax way.limits clean ≡ Ok p) (none : way.refused (sees nothing_seen p.told).signs ≡ None)
-         (byte : ℕ) (fault : Fault) (k : page_read way.syntax way.limits (clean ++ byte ∷ []) ≡ Err fault) where
+    (byte : ℕ) (fault : Fault) (k : page_read way.syntax way.limits (clean ++ byte ∷ []) ≡ Err fault) where
   -- no more is read
   none_on : (more : List ℕ) (q : Progress) → page_read way.syntax way.limits (clean ++ byte ∷ more) ≡ Ok q → ⊥
   none_on more q e =
