@@ -58,7 +58,7 @@ item_words = codes "items" ∷ codes "--base" ∷ codes "http://localhost/" ∷ 
 
 -- law
 pub record RowsAreAnswered : Type 0 where
-  -- words that ask for nothing, whatever files there are
+  -- words that ask for nothing
   pub no_words : Row [] [] status.Usage [] usage
   pub no_page_named : Row (codes "check" ∷ []) (file small_page) status.Usage [] usage
   pub no_task : Row (codes "page.html" ∷ []) (file small_page) status.Usage [] usage
