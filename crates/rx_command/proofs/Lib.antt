@@ -15,4 +15,5 @@ pub mod OneAnswer
 pub mod EndingsSaid
 pub mod WorkedPages
 pub mod MoreRows
+pub mod SampleRow
 pub mod RowLemmas

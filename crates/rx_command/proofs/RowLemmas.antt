@@ -28,6 +28,7 @@ use Rattle.rx_command.specs.Rows.{RowsAreAnswered, Row, file, small_page, small_
 use Rattle.rx_command.specs.declared.statuses.Status.TheVariants as status
 use Rattle.rx_command.proofs.SampleNodes.{samples_are_pages}
 use Rattle.rx_command.proofs.MoreRows.{two_pages, ended, empty_first, gathered_row, items_row}
+use Rattle.rx_command.proofs.SampleRow.{sample_row}
 use Rattle.rx_command.proofs.WorkedPages.{read_to, small_is, extraction, small_has, small_denotes, mismatched, mismatch_first, relative, relative_first}
 
 -- what the words ask for
@@ -192,6 +193,7 @@ rows_are_answered = record {
   mismatch = mismatch;
   relative_vocab = relative_vocab;
   extracted = extracted;
+  one_item = sample_row;
   itemized = items_row;
   gathered = gathered_row;
 }

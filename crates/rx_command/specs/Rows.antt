@@ -56,6 +56,9 @@ item_text = codes "{\"items\":[{\"properties\":{\"name\":[\"Ann\"]},\"type\":[\"
 abbrev pub item_words : List Chars
 item_words = codes "items" ∷ codes "--base" ∷ codes "http://localhost/" ∷ codes "page.html" ∷ []
 
+abbrev pub one_line : List ℕ
+one_line = codes "sample 1: 182 bytes, 5 triples, 376 output bytes, depth 4\n"
+
 -- law
 pub record RowsAreAnswered : Type 0 where
   -- words that ask for nothing
@@ -66,6 +69,8 @@ pub record RowsAreAnswered : Type 0 where
   pub twice_an_option : Row (codes "check" ∷ codes "--syntax" ∷ codes "html" ∷ codes "--syntax" ∷ codes "html" ∷ codes "page.html" ∷ []) (file small_page) status.Usage [] usage
   pub no_items : Row (codes "sample" ∷ codes "0" ∷ []) [] status.Usage [] usage
   pub too_many_items : Row (codes "sample" ∷ codes "100001" ∷ []) [] status.Usage [] usage
+  -- a sample
+  pub one_item : Row (codes "sample" ∷ codes "1" ∷ []) [] status.Done one_line []
   -- a file is missing
   pub no_page : Row check_words [] status.ReadFault [] []
   pub other_page : Row check_words ((codes "other.html", small_page) ∷ []) status.ReadFault [] []
