@@ -13,3 +13,7 @@ pub mod ItemLemmas
 pub mod EndingLemmas
 pub mod OneAnswer
 pub mod EndingsSaid
+pub mod WorkedPages
+pub mod MoreRows
+pub mod SampleRow
+pub mod RowLemmas

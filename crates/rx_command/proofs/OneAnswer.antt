@@ -28,6 +28,7 @@ use Rattle.rx_command.specs.declared.statuses.Status.{Status}
 use Rattle.rx_command.specs.declared.statuses.Status.TheVariants as status
 use Rattle.rx_command.proofs.InputLemmas.{has_context, one_context}
 use Rattle.rx_command.proofs.RunLemmas.{not_other, not_lack}
+use Rattle.rx_command.proofs.SampleLemmas.{one_deepest}
 use Rattle.rx_command.proofs.SeveralLemmas.{other_context, gathered_lacks, gathered_other}
 
 -- ---- several pages are judged in one way
@@ -116,7 +117,8 @@ module _ (shelf : ShelfContent) where
   once_sample : (count : ℕ) (line other : List ℕ) → IsSample count line → IsSample count other → line ≡ other
   once_sample count line other a b =
       let same : a.tree ≡ b.tree = one_tree Html standard (sample_page count) a.tree b.tree a.is.page b.is.page in
-      a.spelled ∙ ap (λ (x : Tree). line_for count (triples_in x)) same ∙ sym b.spelled
+      let deep : a.depth ≡ b.depth = one_deepest count a.depth b.depth a.deepest b.deepest in
+      a.spelled ∙ (ap₂ (λ n (x : Tree). line_for count n (triples_in x)) deep same ∙ sym b.spelled)
 
   -- ---- the second answer, beside each first one
 

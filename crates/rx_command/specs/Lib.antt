@@ -10,3 +10,4 @@ pub mod Calls
 pub mod Runs
 pub mod Samples
 pub mod Feeding
+pub mod Rows

@@ -1,17 +1,17 @@
 -- The sample page, and the line that is said of it. Own.
-use Rattle.std.specs.Prelude.{◌≡◌, ◌≤◌, ◌⊎◌, ℕ, zero, suc, List, [], ◌++◌, length, Result, Ok, Err, Option, Some, None, encode_utf8_all, codes, nat_lt, if◌then◌else◌}
+use Rattle.std.specs.Prelude.{◌≡◌, ◌≤◌, ◌<◌, ◌⊎◌, ℕ, zero, suc, List, ◌++◌, length, Option, Some, None, encode_utf8_all, codes}
 use Rattle.std.specs.Fmt.{decimal}
 use Rattle.rx_terms.specs.Text.{Chars}
 use Rattle.rx_model.specs.Terms.{Triple}
 use Rattle.rx_rdfa.specs.Standard as names
 use Rattle.rx_rdfa.specs.Whole.{written}
 use Rattle.rx_chars.specs.declared.syntax.Syntax.TheVariants.{Html}
-use Rattle.rx_grammar.specs.declared.faults.Fault.{Fault}
+use Rattle.rx_chars.specs.Characters.{Entry}
 use Rattle.rx_grammar.specs.Trees.{Tree}
-use Rattle.rx_pages.specs.PageReader.{Progress, page_read}
-use Rattle.rx_nest.specs.Signs.{sees, nothing_seen}
+use Rattle.rx_grammar.specs.Begun.{Line, Phase}
+use Rattle.rx_pages.specs.Fronts.{IsUnderway}
+use Rattle.rx_nest.specs.ShownLines.{shown_line}
 use Rattle.rx_nquads.specs.Writing.{nquads}
-use Rattle.rx_base.specs.Lines.{line_of}
 use Rattle.rx_walk.specs.Settings.{Setting}
 use Rattle.rx_page.specs.Settings.{standard, setting_for}
 use Rattle.rx_ports.specs.Shelves.{ShelfContent}
@@ -48,25 +48,26 @@ sample_page count = items_to count ++ tail
 abbrev pub cut_in : ℕ → List ℕ
 cut_in i = items_to i ++ item_before i
 
--- how many elements are open behind these bytes of a page
-abbrev pub open_after : Result Progress Fault → ℕ
-open_after (Ok now) = length (line_of [] (sees nothing_seen now.told).signs)
-open_after (Err fault) = 0
+-- where a piece of the page ends: before the end tag of the name of each item, and at the page's end
+pub data IsCut (count : ℕ) : List ℕ → Type 0 where
+  in_item : (i : ℕ) → i < count → IsCut count (cut_in i)
+  at_end : IsCut count (sample_page count)
 
-abbrev pub depth_at : List ℕ → ℕ
-depth_at bytes = open_after (page_read Html standard bytes)
+-- so many elements are open behind these bytes of a page, by the grammar: those that the page's tree shows
+pub record HasDepth (bytes : List ℕ) (depth : ℕ) : Type 0 where
+  pub line : Line
+  pub phase : Phase
+  pub run : List Entry
+  pub part : List ℕ
+  pub underway : IsUnderway Html standard bytes line phase run part
+  pub is : depth ≡ length (shown_line Html line)
 
-abbrev pub larger : ℕ → ℕ → ℕ
-larger m n = if nat_lt m n then n else m
-
--- the most elements that are open where the pieces of the first items end
-abbrev pub deepest_in : ℕ → ℕ
-deepest_in zero = 0
-deepest_in (suc i) = larger (deepest_in i) (depth_at (cut_in i))
-
--- where the pieces of the page end, of which the last ends with the page
-abbrev pub deepest : ℕ → ℕ
-deepest count = larger (deepest_in count) (depth_at (sample_page count))
+-- the most elements that are open where a piece of the page ends
+pub record IsDeepest (count depth : ℕ) : Type 0 where
+  pub bytes : List ℕ
+  pub cut : IsCut count bytes
+  pub has : HasDepth bytes depth
+  pub most : (others : List ℕ) → IsCut count others → (other : ℕ) × HasDepth others other × (other ≤ depth)
 
 -- The page of each number that may be asked for is one of the grammar, and no start tag of it is refused.
 abbrev pub SamplesArePages : Type 0
@@ -90,16 +91,18 @@ line_with count size triples output depth =
     codes "sample " ++ (decimal count ++ (codes ": " ++ (decimal size ++ (codes " bytes, " ++ (decimal triples
     ++ (codes " triples, " ++ (decimal output ++ (codes " output bytes, depth " ++ (decimal depth ++ codes "\n")))))))))
 
--- the line that is said of a page of so many items with these triples
-abbrev pub line_for : ℕ → List (Triple ℕ) → List ℕ
-line_for count triples = line_with count (length (sample_page count)) (length triples) (length (encode_utf8_all (nquads triples None))) (deepest count)
+-- the line that is said of a page of so many items and of this depth with these triples
+abbrev pub line_for : ℕ → ℕ → List (Triple ℕ) → List ℕ
+line_for count depth triples = line_with count (length (sample_page count)) (length triples) (length (encode_utf8_all (nquads triples None))) depth
 
 -- the line says how large the page is, how many triples RDFa's rules give it, how large their text is, and how deep the
 -- page is
 pub record IsSample (count : ℕ) (line : List ℕ) : Type 0 where
   pub tree : Tree
   pub is : IsAccepted Html names.standard (sample_page count) tree
-  pub spelled : line ≡ line_for count (triples_in tree)
+  pub depth : ℕ
+  pub deepest : IsDeepest count depth
+  pub spelled : line ≡ line_for count depth (triples_in tree)
 
 -- the words ask for a sample, of which this line is said
 pub record SaysOfSample (words : List Chars) (line : List ℕ) : Type 0 where

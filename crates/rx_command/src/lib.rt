@@ -7,6 +7,7 @@
 
 ghost use Rattle.rx_command.specs.Endings.{OneAnswer, EndingsSay};
 ghost use Rattle.rx_command.specs.Samples.{SamplesArePages};
+ghost use Rattle.rx_command.specs.Rows.{RowsAreAnswered};
 
 mod errors;
 mod files;
@@ -35,4 +36,9 @@ pub fn there_is_one_answer()
 /// cause, and which status comes where nothing failed.
 pub fn endings_say_the_rest()
     ensures { EndingsSay }
+{}
+
+/// Worked rows: of these words and files this status, this text and this line are right.
+pub fn rows_are_answered()
+    ensures { RowsAreAnswered }
 {}

@@ -2,8 +2,8 @@
 ghost use Rattle.std.specs.Prelude.{◌≡◌, ◌≤◌, ◌<◌, List, ℕ, suc, length, IfOk, OnOk, string_bytes, None, encode_utf8_all};
 ghost use Rattle.rx_nquads.specs.Writing.{nquads};
 ghost use Rattle.rx_job.specs.Words.{most_items};
-ghost use Rattle.rx_command.specs.Samples.{IsSample, item_before, larger, line_with, sample_address};
-ghost use Rattle.rx_command.specs.Feeding.{Fed, FedTo, FedWhole, IsDue, TakesPiece};
+ghost use Rattle.rx_command.specs.Samples.{IsSample, item_before, line_with, sample_address};
+ghost use Rattle.rx_command.specs.Feeding.{Fed, FedTo, FedWhole, IsDue, TakesPiece, larger};
 ghost use Rattle.rx_page.specs.Written.{graph_made};
 
 use rx_names::Context;

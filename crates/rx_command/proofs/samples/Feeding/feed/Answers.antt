@@ -1,6 +1,6 @@
 use Rattle.std.proofs.Common.{◌≡◌, ◌∙◌, ℕ, ◌+◌, suc, ap, subst, arith}
-use Rattle.rx_command.specs.Feeding.{FedTo}
-use Rattle.rx_command.specs.Samples.{deepest_in, items_to}
+use Rattle.rx_command.specs.Feeding.{FedTo, IsDeepestTo}
+use Rattle.rx_command.specs.Samples.{items_to}
 use Rattle.rx_command.specs.declared.samples.Feeding.{Feeding}
 use Rattle.rx_command.proofs.SampleLemmas.{whole_due, if_whole, tail_due}
 use Rattle.rx_command.proofs.samples.Feeding.feed.Goals as goal
@@ -16,7 +16,7 @@ returns c =
     let i = c.loop-number.invariant in
     let all : c.loop-number.number ≡ c.args.count = omega (arith, c.loop-number-test.false, c.loop-number.auto.number-end) in
     let due : Feeding = record { walk = c.loop-number.self.walk; piece = c.extend_from_slice.new.self; size = c.loop-number.self.size; depth = c.loop-number.self.depth } in
-    if_whole c.args.count i.bytes due c.take.new.self c.take.result (tail_due c.args.count i.bytes c.loop-number.self.piece.items _ (i.due ∙ ap items_to all) c.in_ok-extend_from_slice.ensures.items) (i.depth ∙ ap deepest_in all)
+    if_whole c.args.count i.bytes due c.take.new.self c.take.result (tail_due c.args.count i.bytes c.loop-number.self.piece.items _ (i.due ∙ ap items_to all) c.in_ok-extend_from_slice.ensures.items) (subst (λ n. IsDeepestTo n c.loop-number.self.depth) all i.depth)
     (c.take.ensures i.bytes (record { stands = i.fed.stands; size = i.fed.size }))
 
 pub loop-number-preserved : goal.loop-number-preserved

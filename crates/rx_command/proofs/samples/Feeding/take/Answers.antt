@@ -1,8 +1,7 @@
 use Rattle.std.proofs.Common.{◌++◌, subst, refl, arith}
 use Rattle.rx_nest.specs.Faults.{StopGives}
-use Rattle.rx_walk.proofs.OpenLines.{depth_by_signs}
 use Rattle.rx_command.specs.Samples.{sample_setting, sample_address}
-use Rattle.rx_command.proofs.SampleLemmas.{sample_way, no_stop, fed_piece, fits_on, deeper}
+use Rattle.rx_command.proofs.SampleLemmas.{sample_way, no_stop, fed_piece, fits_on, deepens}
 use Rattle.rx_command.proofs.samples.Feeding.take.Goals as goal
 
 pub unreachable-requires : goal.unreachable-requires
@@ -21,5 +20,5 @@ returns c bytes fed =
     record {
       fed = fed_piece bytes c.args.self.now.piece.items c.as_slice.result.now c.args.self.now _ c.len.result fed c.as_slice.ensures.value s (omega (arith, c.len.ensures, c.as_slice.ensures.len)) refl;
       empty = c.clear.ensures.items;
-      depth = deeper c.feed.new.self bytes c.args.self.now.piece.items c.as_slice.result.now c.args.self.now.depth c.depth.result c.larger-self.result c.as_slice.ensures.value s (depth_by_signs sample_setting sample_address c.feed.new.self (bytes ++ c.as_slice.result.now) s c.depth.result c.depth.ensures.line).0 c.larger-self.ensures;
+      depth = deepens c.feed.new.self bytes c.args.self.now.piece.items c.as_slice.result.now c.args.self.now.depth c.depth.result c.larger-self.result c.as_slice.ensures.value s c.depth.ensures.line c.larger-self.ensures;
     }

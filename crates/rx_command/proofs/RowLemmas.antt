@@ -1,0 +1,199 @@
+-- Each worked row by its rule.
+use Rattle.std.proofs.Common.{◌≡◌, ◌∙◌, ℕ, ◌≤◌, inl, inr, List, [], ◌∷◌, ◌++◌, refl, ap, subst, arith, Some, None, Err, codes}
+use Rattle.std.specs.Fmt.{decimal}
+use Rattle.std.proofs.lemmas.Fmt.{decimal_digit, decimal_step}
+use lib.Utf8.{encode}
+use Rattle.std.specs.Str.{is_utf8, chars}
+use Rattle.json.specs.Json.{value}
+use Rattle.json.specs.Lex.{lex, punctuate}
+use Rattle.rx_chars.specs.declared.syntax.Syntax.TheVariants.{Html}
+use Rattle.rx_grammar.specs.declared.faults.Fault.{Fault}
+use Rattle.rx_grammar.specs.declared.faults.Kind.TheVariants.{Unended, Mismatch, RelativeVocab}
+use Rattle.rx_pages.specs.PageReader.{page_read, end_of}
+use Rattle.rx_pages.proofs.OnlyPages.{finds_only_faults}
+use Rattle.rx_rdfa.specs.Standard as names
+use Rattle.rx_walk.specs.RefusalLaws.{refusal_laws}
+use Rattle.rx_page.specs.Settings.{standard, rdfa_way, HasFirst}
+use Rattle.rx_page.specs.Readers.{IsRead}
+use Rattle.rx_page.proofs.FrontLemmas.{end_first}
+use Rattle.rx_page.proofs.OutcomeLemmas.{the_fault}
+use Rattle.rx_job.specs.Words.{Asked, extracts, checks, most_items}
+use Rattle.rx_job.specs.declared.formats.Format.TheVariants.{Nquads}
+use Rattle.rx_page.specs.Tasks.{IsRight}
+use Rattle.rx_page.proofs.TextLemmas.{the_text}
+use Rattle.rx_command.specs.Samples.{sample_page}
+use Rattle.rx_command.specs.Endings.{nothing_asked, of_page, of_fault, no_file, no_context, no_file_of_several}
+use Rattle.rx_command.specs.Runs.{refused_line}
+use Rattle.rx_command.specs.Rows.{RowsAreAnswered, Row, file, small_page, small_text, usage, check_words, extract_words, many_words}
+use Rattle.rx_command.specs.declared.statuses.Status.TheVariants as status
+use Rattle.rx_command.proofs.SampleNodes.{samples_are_pages}
+use Rattle.rx_command.proofs.MoreRows.{two_pages, ended, empty_first, gathered_row, items_row}
+use Rattle.rx_command.proofs.SampleRow.{sample_row}
+use Rattle.rx_command.proofs.WorkedPages.{read_to, small_is, extraction, small_has, small_denotes, mismatched, mismatch_first, relative, relative_first}
+
+-- what the words ask for
+abbrev a_check : Asked
+a_check = record { task = checks Html; context = None; page = codes "page.html" }
+
+abbrev an_extraction : Asked
+an_extraction = record {
+  task = extracts (record { syntax = Html; format = Nquads; graph = None; address = codes "http://localhost/" });
+  context = Some (codes "names.json");
+  page = codes "page.html";
+}
+
+pub no_words : Row [] [] status.Usage [] usage
+no_words = nothing_asked
+
+pub no_page_named : Row (codes "check" ∷ []) (file small_page) status.Usage [] usage
+no_page_named = nothing_asked
+
+pub no_task : Row (codes "page.html" ∷ []) (file small_page) status.Usage [] usage
+no_task = nothing_asked
+
+pub no_address : Row (codes "extract" ∷ codes "page.html" ∷ []) (file small_page) status.Usage [] usage
+no_address = nothing_asked
+
+pub twice_an_option : Row (codes "check" ∷ codes "--syntax" ∷ codes "html" ∷ codes "--syntax" ∷ codes "html" ∷ codes "page.html" ∷ []) (file small_page) status.Usage [] usage
+twice_an_option = nothing_asked
+
+pub no_items : Row (codes "sample" ∷ codes "0" ∷ []) [] status.Usage [] usage
+no_items = nothing_asked
+
+pub too_many_items : Row (codes "sample" ∷ codes "100001" ∷ []) [] status.Usage [] usage
+too_many_items = nothing_asked
+
+pub no_page : Row check_words [] status.ReadFault [] []
+no_page = no_file a_check (inr (tt, refl))
+
+pub other_page : Row check_words ((codes "other.html", small_page) ∷ []) status.ReadFault [] []
+unfolding encode
+other_page = no_file a_check (inr (tt, refl))
+
+pub no_context_file : Row extract_words (file small_page) status.ReadFault [] []
+unfolding encode
+no_context_file = no_file an_extraction (inl refl)
+
+pub no_page_beside_context : Row extract_words ((codes "names.json", codes "{}") ∷ []) status.ReadFault [] []
+unfolding encode is_utf8 chars value lex punctuate
+no_page_beside_context = no_file an_extraction (inr (record { bytes = codes "{}"; file = refl; tested = refl }, refl))
+
+pub one_page_of_two : Row many_words (file small_page) status.ReadFault [] []
+unfolding encode
+one_page_of_two = no_file_of_several two_pages (inr (tt, inr (inl refl)))
+
+pub empty_context_file : Row extract_words ((codes "names.json", []) ∷ file small_page) status.BadContext [] (codes "refused: context file\n")
+unfolding encode is_utf8 chars value lex punctuate
+empty_context_file = no_context an_extraction (record { bytes = []; file = refl; tested = refl })
+
+pub right_sample : (count : ℕ) → count ≤ most_items → Row check_words (file (sample_page count)) status.Done (codes "ok\n") []
+unfolding encode
+right_sample count few =
+    let p = samples_are_pages count few in
+    let is : IsRight Html names.standard (sample_page count) (codes "ok\n") = record { tree = p.0; is = p.1; spelled = refl } in
+    of_page a_check (codes "ok\n") (record { context = names.standard; bytes = sample_page count; is_context = refl; file = refl; holds_so = the_text (checks Html) names.standard (sample_page count) (codes "ok\n") is is })
+
+right_small : IsRight Html names.standard small_page (codes "ok\n")
+right_small = record { tree = _; is = small_is; spelled = refl }
+
+pub right : Row check_words (file small_page) status.Done (codes "ok\n") []
+unfolding encode
+right = of_page a_check (codes "ok\n") (record { context = names.standard; bytes = small_page; is_context = refl; file = refl; holds_so = the_text (checks Html) names.standard small_page (codes "ok\n") right_small right_small })
+
+pub extracted : Row (codes "extract" ∷ codes "--base" ∷ codes "http://localhost/" ∷ codes "page.html" ∷ []) (file small_page) status.Done small_text []
+unfolding encode
+extracted =
+    of_page (record { task = extracts extraction; context = None; page = codes "page.html" }) small_text
+    (record { context = names.standard; bytes = small_page; is_context = refl; file = refl; holds_so = the_text (extracts extraction) names.standard small_page small_text small_has small_denotes })
+
+-- ---- a file that is no page
+
+-- a first fault is the answer to a check
+refused_so : (bytes : List ℕ) (fault : Fault) → HasFirst (rdfa_way Html names.standard) bytes fault → Row check_words (file bytes) (status.Refused fault) [] (refused_line fault)
+unfolding encode
+refused_so bytes fault first =
+    of_fault a_check fault (record { context = names.standard; bytes = bytes; is_context = refl; file = refl; holds_so = the_fault (checks Html) names.standard bytes fault first })
+
+-- bytes that are read, and end too early
+unended_so : (bytes : List ℕ) (fault : Fault) → IsRead (rdfa_way Html names.standard) bytes → end_of (page_read Html standard bytes) ≡ Err fault → HasFirst (rdfa_way Html names.standard) bytes fault
+unended_so bytes fault read e = end_first (rdfa_way Html names.standard) (refusal_laws names.standard) bytes fault read (finds_only_faults Html standard bytes fault e)
+
+zero_digit : decimal 0 ≡ codes "0"
+zero_digit = decimal_digit 0 (omega arith)
+
+one_digit : decimal 1 ≡ codes "1"
+one_digit = decimal_digit 1 (omega arith)
+
+fourteen : decimal 14 ≡ codes "14"
+fourteen = decimal_step 14 (omega arith) (omega arith) ∙ ap (λ z. z ++ 52 ∷ []) one_digit
+
+empty_line : refused_line (record { kind = Unended; token = 0; at = 0 }) ≡ codes "refused: Unended at byte 0 in token 0\n"
+empty_line = rw zero_digit refl
+
+cut_line : refused_line (record { kind = Unended; token = 14; at = 14 }) ≡ codes "refused: Unended at byte 14 in token 14\n"
+cut_line = rw fourteen refl
+
+pub empty : Row check_words (file []) (status.Refused (record { kind = Unended; token = 0; at = 0 })) [] (codes "refused: Unended at byte 0 in token 0\n")
+empty =
+    subst (λ line. Row check_words (file []) (status.Refused ended) [] line) empty_line (refused_so [] ended empty_first)
+
+abbrev cut_page : List ℕ
+cut_page = codes "<html><p>a</p>"
+
+cut_read : IsRead (rdfa_way Html names.standard) cut_page
+cut_read = record { now = read_to (page_read Html standard cut_page); read = refl; accepted = refl }
+
+pub cut_short : Row check_words (file (codes "<html><p>a</p>")) (status.Refused (record { kind = Unended; token = 14; at = 14 })) [] (codes "refused: Unended at byte 14 in token 14\n")
+cut_short =
+    let fault : Fault = record { kind = Unended; token = 14; at = 14 } in
+    subst (λ line. Row check_words (file cut_page) (status.Refused fault) [] line) cut_line (refused_so cut_page fault (unended_so cut_page fault cut_read refl))
+
+nine : decimal 9 ≡ codes "9"
+nine = decimal_digit 9 (omega arith)
+
+twelve : decimal 12 ≡ codes "12"
+twelve = decimal_step 12 (omega arith) (omega arith) ∙ ap (λ z. z ++ 50 ∷ []) one_digit
+
+fifteen : decimal 15 ≡ codes "15"
+fifteen = decimal_step 15 (omega arith) (omega arith) ∙ ap (λ z. z ++ 53 ∷ []) one_digit
+
+mismatch_line : refused_line mismatched ≡ codes "refused: Mismatch at byte 12 in token 9\n"
+mismatch_line = rw (twelve, nine) refl
+
+relative_line : refused_line relative ≡ codes "refused: RelativeVocab at byte 15 in token 0\n"
+relative_line = rw (fifteen, zero_digit) refl
+
+pub mismatch : Row check_words (file (codes "<html><b></i></b></html>")) (status.Refused (record { kind = Mismatch; token = 9; at = 12 })) [] (codes "refused: Mismatch at byte 12 in token 9\n")
+mismatch =
+    subst (λ line. Row check_words (file (codes "<html><b></i></b></html>")) (status.Refused mismatched) [] line) mismatch_line (refused_so (codes "<html><b></i></b></html>") mismatched mismatch_first)
+
+pub relative_vocab : Row check_words (file (codes "<html vocab=\"x\"></html>")) (status.Refused (record { kind = RelativeVocab; token = 0; at = 15 })) [] (codes "refused: RelativeVocab at byte 15 in token 0\n")
+relative_vocab =
+    subst (λ line. Row check_words (file (codes "<html vocab=\"x\"></html>")) (status.Refused relative) [] line) relative_line (refused_so (codes "<html vocab=\"x\"></html>") relative relative_first)
+
+pub rows_are_answered : RowsAreAnswered
+rows_are_answered = record {
+  no_words = no_words;
+  no_page_named = no_page_named;
+  no_task = no_task;
+  no_address = no_address;
+  twice_an_option = twice_an_option;
+  no_items = no_items;
+  too_many_items = too_many_items;
+  no_page = no_page;
+  other_page = other_page;
+  no_context_file = no_context_file;
+  no_page_beside_context = no_page_beside_context;
+  one_page_of_two = one_page_of_two;
+  empty_context_file = empty_context_file;
+  right = right;
+  right_sample = right_sample;
+  empty = empty;
+  cut_short = cut_short;
+  mismatch = mismatch;
+  relative_vocab = relative_vocab;
+  extracted = extracted;
+  one_item = sample_row;
+  itemized = items_row;
+  gathered = gathered_row;
+}

@@ -1,0 +1,187 @@
+-- Pages and faults of the worked rows, read byte by byte.
+use Rattle.std.proofs.Common.{◌≡◌, ◌∙◌, ⊎_elim, inl, inr, ℕ, true, false, List, [], ◌∷◌, ◌++◌, refl, sym, ap, subst, None, Result, Ok, Err, codes, encode_utf8_all, append_assoc, append-nil}
+use Rattle.std.proofs.lemmas.List.{append_cancel_left}
+use Rattle.std.specs.Str.{chars, all_scalars}
+use lib.Utf8.{encode}
+use Rattle.rx_terms.specs.Text.{Chars}
+use Rattle.rx_terms.specs.Iri.{has_scheme, has_forbidden}
+use Rattle.rx_terms.proofs.CharLemmas.{ascii-chars}
+use Rattle.rx_chars.specs.declared.syntax.Syntax.TheVariants.{Html}
+use Rattle.rx_grammar.specs.declared.faults.Fault.{Fault}
+use Rattle.rx_grammar.specs.declared.faults.Kind.TheVariants.{Mismatch, RelativeVocab}
+use Rattle.rx_grammar.specs.PageFaults.{FaultAt}
+use Rattle.rx_grammar.specs.Pages.{Page}
+use Rattle.rx_grammar.specs.Trees.{Tree, end}
+use Rattle.rx_pages.specs.Nesting.{told_trees}
+use Rattle.rx_pages.specs.PageReader.{Progress, page_read, page_on, nothing_read, spot_of}
+use Rattle.rx_pages.proofs.OnlyPages.{finds_only_faults, reads_only_pages}
+use Rattle.rx_pages.proofs.FaultWalk.{fault_stays}
+use Rattle.rx_pages.proofs.ScanSteps.{page_append}
+use Rattle.rx_nest.specs.Signs.{sees, nothing_seen}
+use Rattle.rx_nest.specs.Faults.{MeaningAt, for_form, for_meaning}
+use Rattle.rx_nest.specs.RefusedTags.{ReaderRefuses}
+use Rattle.rx_nest.specs.Ways.{Way, IsRefusal}
+use Rattle.rx_nest.proofs.Firsts.{meaning_first}
+use Rattle.rx_nest.proofs.Meanings.{meant, read_as_meant}
+use Rattle.rx_refs.specs.Parts.{components_of}
+use Rattle.rx_refs.specs.Dots.{step, without_dots}
+use Rattle.rx_refs.specs.Resolve.{target, resolved}
+use Rattle.rx_model.specs.Terms.{Iri, Literal, Plain, Triple, set_of}
+use Rattle.rx_model.specs.Copied.{spo}
+use Rattle.rx_model.specs.Numbered.{Renamed}
+use Rattle.rx_model.specs.Sets.{Among}
+use Rattle.rx_rdfa.specs.Resources.{resources}
+use Rattle.rx_rdfa.specs.Inherited.{below}
+use Rattle.rx_rdfa.specs.Times.{time_kind}
+use Rattle.rx_rdfa.specs.Element.{start_of, end_of as element_end}
+use Rattle.rx_rdfa.specs.Lists.{entries_at, cells}
+use Rattle.rx_rdfa.specs.Whole.{written, graph_of}
+use Rattle.rx_rdfa.proofs.Whole.{written_denotes}
+use Rattle.rx_rdfa.specs.Standard as names
+use Rattle.rx_walk.specs.RefusalLaws.{refusal_laws}
+use Rattle.rx_nquads.specs.Document.{Nquads}
+use Rattle.rx_nquads.specs.Quads.{quads}
+use Rattle.rx_nquads.specs.Writing.{nquads}
+use Rattle.rx_nquads.proofs.Denoting.{denotes}
+use Rattle.rx_pieces.specs.Writable.{WritableTriple, WritableIri}
+use Rattle.rx_job.specs.Words.{Extraction}
+use Rattle.rx_job.specs.declared.formats.Format.TheVariants as format
+use Rattle.rx_page.specs.Settings.{standard, rdfa_way, HasFirst}
+use Rattle.rx_page.specs.Tasks.{IsAccepted, HasText, Denotes, base_in, facts_in}
+use Rattle.rx_page.proofs.FaultLemmas.{fronts, none_read}
+use Rattle.rx_command.specs.Rows.{small_page, small_text}
+
+-- ---- a page with one triple
+
+-- where the reader stands
+abbrev pub read_to : Result Progress Fault → Progress
+read_to (Ok now) = now
+read_to (Err fault) = nothing_read
+
+abbrev pub first_tree : List Tree → Tree
+first_tree [] = end
+first_tree (tree ∷ trees) = tree
+
+abbrev pub small_tree : Tree
+small_tree = first_tree (told_trees (read_to (page_read Html standard small_page)).told)
+
+pub small_is : IsAccepted Html names.standard small_page small_tree
+unfolding time_kind components_of step without_dots target resolved resources below start_of element_end entries_at cells
+small_is =
+    let r = reads_only_pages Html standard small_page (read_to (page_read Html standard small_page)) refl in
+    let same : small_tree ≡ r.tree = ap first_tree r.trees in
+    record { page = subst (λ t. Page Html standard small_page t) (sym same) r.page; accepted = refl }
+
+abbrev small_list : List (Triple ℕ)
+small_list = spo (Iri (codes "http://localhost/")) (codes "http://v.example/name") (Literal (codes "Ann") Plain) ∷ []
+
+abbrev address : Chars
+address = codes "http://localhost/"
+
+small_made : written (base_in address small_tree) (facts_in names.standard small_tree) ≡ small_list
+unfolding time_kind components_of step without_dots target resolved resources below start_of element_end entries_at cells
+small_made = refl
+
+pub iri_writable : (iri : Chars) → all_scalars iri ≡ true → has_scheme iri ≡ true → has_forbidden iri ≡ false → WritableIri iri
+iri_writable iri a s f = record { text = record { scalars = a }; is_iri = record { scheme = s; clean = f } }
+
+triple_writable : WritableTriple None (spo (Iri (codes "http://localhost/")) (codes "http://v.example/name") (Literal (codes "Ann") Plain))
+triple_writable = record {
+  subject = iri_writable (codes "http://localhost/") refl refl refl;
+  predicate = iri_writable (codes "http://v.example/name") refl refl refl;
+  object = (record { scalars = refl }, tt);
+  graph = tt;
+}
+
+small_writable : (t : Triple ℕ) → Among small_list t → WritableTriple None t
+small_writable t (inl e) = subst (λ (x : Triple ℕ). WritableTriple None x) e triple_writable
+small_writable t (inr m) = absurd m
+
+abbrev pub extraction : Extraction
+extraction = record { syntax = Html; format = format.Nquads; graph = None; address = address }
+
+small_spelled : small_text ≡ encode_utf8_all (nquads small_list None)
+unfolding encode
+small_spelled = refl
+
+pub small_has : HasText extraction names.standard small_page small_text
+small_has = record { tree = small_tree; is = small_is; spelled = small_spelled ∙ ap (λ (ts : List (Triple ℕ)). encode_utf8_all (nquads ts None)) (sym small_made) }
+
+small_chars : chars small_text ≡ nquads small_list None
+small_chars = ascii-chars small_text refl
+
+pub small_denotes : Denotes extraction names.standard small_page small_text
+small_denotes = record {
+  tree = small_tree;
+  is = small_is;
+  triples = small_list;
+  denotes = subst (λ x. Nquads x (quads small_list None)) (sym small_chars) (denotes None small_list small_writable);
+  renamed =
+      subst (λ ts. Renamed (graph_of (base_in address small_tree) (facts_in names.standard small_tree)) (set_of ts)) small_made
+      (written_denotes (base_in address small_tree) (facts_in names.standard small_tree));
+}
+
+-- ---- a fault behind bytes that are read
+
+module _ (way : Way) (law : IsRefusal way.refused) (clean : List ℕ) (p : Progress) (h : page_read way.syntax way.limits clean ≡ Ok p) (none : way.refused (sees nothing_seen p.told).signs ≡ None)
+    (byte : ℕ) (fault : Fault) (k : page_read way.syntax way.limits (clean ++ byte ∷ []) ≡ Err fault) where
+  -- no more is read
+  none_on : (more : List ℕ) (q : Progress) → page_read way.syntax way.limits (clean ++ byte ∷ more) ≡ Ok q → ⊥
+  none_on more q e =
+      let on : page_read way.syntax way.limits (clean ++ byte ∷ more) ≡ Err fault =
+      ap (λ x. page_read way.syntax way.limits x) (sym (append_assoc clean (byte ∷ []) more))
+      ∙ (page_append way.syntax way.limits (spot_of way.syntax p.now.nest) (Ok nothing_read) (clean ++ byte ∷ []) more
+      ∙ (ap (λ x. page_on way.syntax way.limits x more) k ∙ fault_stays way.syntax way.limits fault more)) in
+      let both : Err fault ≡ Ok q = sym on ∙ e in
+      absurd (cc)
+
+  no_meaning : (rest : List ℕ) (other : Fault) → MeaningAt way (clean ++ byte ∷ rest) other → ⊥
+  no_meaning rest other meaning = by (read_as_meant way law (clean ++ byte ∷ rest) other meaning)
+    where
+      within : (m : ReaderRefuses way (clean ++ byte ∷ rest) other) (mid : List ℕ) → clean ≡ m.front ++ mid → ⊥
+      within m mid e = none_read way law clean p h none other (record { front = m.front; rest = mid; are = e; now = m.now; read = m.read; refused = m.refused })
+
+      beyond : (m : ReaderRefuses way (clean ++ byte ∷ rest) other) (mid : List ℕ) → m.front ≡ clean ++ mid → ⊥
+      beyond m [] e = within m [] (sym (append-nil clean) ∙ (sym e ∙ sym (append-nil m.front)))
+      beyond m (next ∷ mid) e =
+          let tails : byte ∷ rest ≡ (next ∷ mid) ++ m.rest = append_cancel_left clean (byte ∷ rest) ((next ∷ mid) ++ m.rest) (m.are ∙ (ap (λ x. x ++ m.rest) e ∙ append_assoc clean (next ∷ mid) m.rest)) in
+          let same : next ≡ byte = cc in
+          none_on mid m.now (ap (λ n. page_read way.syntax way.limits (clean ++ n ∷ mid)) (sym same) ∙ (ap (λ x. page_read way.syntax way.limits x) (sym e) ∙ m.read))
+
+      by : ReaderRefuses way (clean ++ byte ∷ rest) other → ⊥
+      by m = ⊎_elim (λ r. beyond m r.0 r.1) (λ r. within m r.0 r.1) (fronts clean (byte ∷ rest) m.front m.rest m.are)
+
+  pub form_first : (rest : List ℕ) → FaultAt way.syntax way.limits (clean ++ byte ∷ rest) fault → HasFirst way (clean ++ byte ∷ rest) fault
+  form_first rest f = for_form f (λ other m. no_meaning rest other m)
+
+abbrev pub check_way : Way
+check_way = rdfa_way Html names.standard
+
+abbrev pub mismatched : Fault
+mismatched = record { kind = Mismatch; token = 9; at = 12 }
+
+pub mismatch_first : HasFirst check_way (codes "<html><b></i></b></html>") mismatched
+mismatch_first =
+    form_first check_way (refusal_laws names.standard) (codes "<html><b></i") (read_to (page_read Html standard (codes "<html><b></i"))) refl refl 62 mismatched refl (codes "</b></html>")
+    (finds_only_faults Html standard (codes "<html><b></i></b></html>") mismatched refl)
+
+-- ---- a start tag that is refused for what it means
+
+abbrev pub relative : Fault
+relative = record { kind = RelativeVocab; token = 0; at = 15 }
+
+relative_read : ReaderRefuses check_way (codes "<html vocab=\"x\"></html>") relative
+unfolding time_kind components_of step without_dots target resolved resources below start_of element_end entries_at cells
+relative_read = record {
+  front = codes "<html vocab=\"x\">";
+  rest = codes "</html>";
+  are = refl;
+  now = read_to (page_read Html standard (codes "<html vocab=\"x\">"));
+  read = refl;
+  refused = refl;
+}
+
+pub relative_first : HasFirst check_way (codes "<html vocab=\"x\"></html>") relative
+relative_first =
+    for_meaning (meant check_way (refusal_laws names.standard) (codes "<html vocab=\"x\"></html>") relative relative_read)
+    (meaning_first check_way (refusal_laws names.standard) (codes "<html vocab=\"x\"></html>") relative relative_read)
