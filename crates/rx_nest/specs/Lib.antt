@@ -19,4 +19,3 @@ pub mod Turns
 pub mod Readings
 pub mod Quiets
 pub mod ShownLines
-pub mod Sized

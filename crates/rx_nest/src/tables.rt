@@ -1,6 +1,5 @@
 //! The tables of names, on the bytes of a name.
 ghost use Rattle.std.specs.Prelude.{◌≡◌, option_map, codes, [], ◌∷◌, take, drop};
-ghost use Rattle.rx_nest.specs.Sized.{with_length, is_letter, is_pair, is_longer, is_short, is_long};
 ghost use Rattle.rx_grammar.specs.Names.{same, is_among};
 ghost use Rattle.rx_grammar.specs.Names as names;
 ghost use Rattle.rx_grammar.specs.Contents as contents;
@@ -43,79 +42,73 @@ fn is_part(name: &str) -> bool
     matches!(name, "thead" | "tbody" | "tfoot")
 }
 
-// The names by their lengths, so that few are compared.
+// The names in parts, since the check of a match takes time with the square of its length.
 fn ends_paragraph(name: &str) -> bool
     ensures { result ≡ is_among names.paragraph_enders name.now }
 {
-    let size = name.len();
-    if size == 2 {
-        return ends_paragraph_pair(name);
-    }
-    if size < 6 {
-        return ends_paragraph_short(name);
-    }
-    ends_paragraph_long(name)
+    ends_paragraph_early(name) || ends_paragraph_amid(name) || ends_paragraph_late(name)
 }
 
-fn ends_paragraph_pair(name: &str) -> bool
-    ensures { result ≡ is_among (with_length is_pair names.paragraph_enders) name.now }
+fn ends_paragraph_early(name: &str) -> bool
+    ensures { result ≡ is_among (take 13 names.paragraph_enders) name.now }
 {
     matches!(
         name,
-        "dd" | "dl"
+        "address"
+            | "article"
+            | "aside"
+            | "blockquote"
+            | "dd"
+            | "details"
+            | "div"
+            | "dl"
             | "dt"
+            | "fieldset"
+            | "figcaption"
+            | "figure"
+            | "footer"
+    )
+}
+
+fn ends_paragraph_amid(name: &str) -> bool
+    ensures { result ≡ is_among (take 13 (drop 13 names.paragraph_enders)) name.now }
+{
+    matches!(
+        name,
+        "form"
             | "h1"
             | "h2"
             | "h3"
             | "h4"
             | "h5"
             | "h6"
-            | "hr"
-            | "li"
-            | "ol"
-            | "td"
-            | "th"
-            | "tr"
-            | "ul"
-    )
-}
-
-fn ends_paragraph_short(name: &str) -> bool
-    ensures { result ≡ is_among (with_length is_short names.paragraph_enders) name.now }
-{
-    matches!(
-        name,
-        "aside"
-            | "div"
-            | "form"
-            | "main"
-            | "menu"
-            | "nav"
-            | "p"
-            | "pre"
-            | "table"
-            | "tbody"
-            | "tfoot"
-            | "thead"
-    )
-}
-
-fn ends_paragraph_long(name: &str) -> bool
-    ensures { result ≡ is_among (with_length is_long names.paragraph_enders) name.now }
-{
-    matches!(
-        name,
-        "address"
-            | "article"
-            | "blockquote"
-            | "details"
-            | "fieldset"
-            | "figcaption"
-            | "figure"
-            | "footer"
             | "header"
             | "hgroup"
+            | "hr"
+            | "li"
+            | "main"
+            | "menu"
+    )
+}
+
+fn ends_paragraph_late(name: &str) -> bool
+    ensures { result ≡ is_among (drop 26 names.paragraph_enders) name.now }
+{
+    matches!(
+        name,
+        "nav"
+            | "ol"
+            | "p"
+            | "pre"
             | "section"
+            | "table"
+            | "tbody"
+            | "td"
+            | "tfoot"
+            | "th"
+            | "thead"
+            | "tr"
+            | "ul"
     )
 }
 
@@ -124,7 +117,7 @@ pub(crate) fn has(row: OmittedEnd, name: &str) -> bool
     ensures { result ≡ is_among (row_seen row) name.now }
 {
     match row {
-        OmittedEnd::Item => is_word(name, "li"),
+        OmittedEnd::Item => name == "li",
         OmittedEnd::Definition => matches!(name, "dt" | "dd"),
         OmittedEnd::Paragraph => ends_paragraph(name),
         OmittedEnd::Choice => matches!(name, "option" | "optgroup" | "hr"),
@@ -163,32 +156,24 @@ fn is_late_void(name: &str) -> bool
 pub(crate) fn is_ordinary(name: &str) -> bool
     ensures { result ≡ is_among ordinary_names name.now }
 {
-    let size = name.len();
-    if size == 1 {
-        return is_ordinary_letter(name);
-    }
-    if size == 2 {
-        return is_ordinary_pair(name);
-    }
-    is_ordinary_word(name)
-}
-
-fn is_ordinary_letter(name: &str) -> bool
-    ensures { result ≡ is_among (with_length is_letter ordinary_names) name.now }
-{
-    matches!(name, "a" | "b" | "i")
-}
-
-fn is_ordinary_pair(name: &str) -> bool
-    ensures { result ≡ is_among (with_length is_pair ordinary_names) name.now }
-{
-    matches!(name, "em" | "dl" | "ul" | "h3" | "h2" | "h4" | "h1")
-}
-
-fn is_ordinary_word(name: &str) -> bool
-    ensures { result ≡ is_among (with_length is_longer ordinary_names) name.now }
-{
-    matches!(name, "span" | "code" | "div" | "strong" | "section")
+    matches!(
+        name,
+        "span"
+            | "code"
+            | "div"
+            | "strong"
+            | "em"
+            | "dl"
+            | "ul"
+            | "section"
+            | "h3"
+            | "h2"
+            | "h4"
+            | "h1"
+            | "a"
+            | "b"
+            | "i"
+    )
 }
 
 /// Whether the name is one of those that stand in the table of omitted end tags alone and that most pages have most often.
@@ -245,12 +230,8 @@ pub(crate) fn is_foreign_root(name: &str) -> bool
 }
 
 /// Whether the name is this word of ASCII.
-#[inline(always)]
 pub(crate) fn is_word(name: &str, word: &str) -> bool
     ensures { result ≡ same name.now word.now }
 {
-    if name.len() != word.len() {
-        return false;
-    }
     name == word
 }
