@@ -13,7 +13,7 @@ use Rattle.rx_command.specs.Contexts.{IsContext, HasOther}
 use Rattle.rx_command.specs.Outcome.{IsLacking, LacksOne, LacksFile, HasBadContext, HasPageFault}
 use Rattle.rx_command.specs.Gathering.{IsGathered, DenotesGathered, HasAll}
 use Rattle.rx_command.specs.Samples.{IsSample, Yields, YieldsBoth}
-use Rattle.rx_command.specs.Runs.{Devices, EndsSo, IfTold, Writes, WhereRefused, Says, usage_line, context_line, refused_line}
+use Rattle.rx_command.specs.Runs.{TakesJob, ReadsAll, Devices, EndsSo, IfTold, Writes, WhereRefused, Says, usage_line, context_line, refused_line}
 use Rattle.rx_command.specs.declared.statuses.Status.{Status}
 use Rattle.rx_command.specs.declared.statuses.Status.TheVariants as status
 
@@ -61,9 +61,12 @@ pub data Ends (shelf : ShelfContent) (asked : Option Job) (s : Status) (old new 
   out_failed : (text : List ℕ) → s ≡ status.WriteFault → Rose old.write_faults new.write_faults → IsDue shelf asked text → WhereKnown (GrowsByPart text) old.held new.held → Ends shelf asked s old new
   no_memory : s ≡ status.Memory → WhereKnown Stays old.held new.held → Ends shelf asked s old new
 
--- so a run ends over a shelf that tells its files
-abbrev pub RunEnds : List Chars → Status → Devices → Devices → Type 0
-RunEnds words s old new = (shelf : ShelfContent) → old.told ≡ Some shelf → Ends shelf (job words) s old new
+-- So a run ends over a shelf that tells its files. It reads no more of them than what is asked for takes, and starts no more than
+-- are named; where a text was written it has read all that is asked for, having started each file once.
+pub record RunEnds (words : List Chars) (s : Status) (old new : Devices) : Type 0 where
+  pub gives : (shelf : ShelfContent) → old.told ≡ Some shelf → Ends shelf (job words) s old new
+  pub reads : WhereKnown (TakesJob (job words)) old.told new.told
+  pub whole : s ≡ status.Done → WhereKnown (ReadsAll (job words)) old.told new.told
 
 -- law: two answers to the same are one
 pub record IsSame (s t : Status) (text other line said : List ℕ) : Type 0 where

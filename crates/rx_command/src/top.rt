@@ -6,7 +6,7 @@ ghost use Rattle.rx_job.specs.Jobs.{several_seen};
 ghost use Rattle.rx_job.specs.Words.{gathering_asked, job, most_items, page_asked, samples};
 ghost use Rattle.rx_command.specs.Contexts.{TakesContext, context_asked};
 ghost use Rattle.rx_command.specs.Endings.{RunEnds};
-ghost use Rattle.rx_command.specs.Runs.{EndsSo, WhereRefused, WhereSample, ReadCause, TakesJob, TakesToFault, StopsCleanly, ReadsAll, GatheringEnds, SampleEnds, Says, SaysNothing, usage_line, refused_line, context_line, refused_with};
+ghost use Rattle.rx_command.specs.Runs.{EndsSo, WhereRefused, WhereSample, ReadCause, TakesToFault, StopsCleanly, GatheringEnds, SampleEnds, Says, SaysNothing, usage_line, refused_line, context_line, refused_with};
 ghost use Rattle.rx_page.specs.Written.{Denoted, text_of};
 
 use crate::errors::InputError;
@@ -48,6 +48,10 @@ pub fn run<F: Shelf, O: Sink, E: Sink>(
     // file is missing, or the context file is none. The run gives this answer, out having grown by the text, and err by the line,
     // or by a front of it where err failed; or the shelf failed, or out, which has then grown by a proper front of the text; or
     // there was no memory.
+    // No more is read than the named files have together, nor more than a piece past the limit of each page and, where a context
+    // file is named, one byte past the largest of these; of several pages each that has a fault is read no further than a piece
+    // past the byte that decides it. No more files are started than are named. Where a text was written, exactly as many were:
+    // none twice, since each had to be read; and a page that alone is asked for was read to its end.
     ensures ends { RunEnds words.now result
         (record {
           told = F.told shelf.old;
@@ -94,15 +98,9 @@ pub fn run<F: Shelf, O: Sink, E: Sink>(
     ensures sample { WhereSample (job words.now) (λ count. SampleEnds count result (O.held out.old) (O.held out.new) (O.faults out.old) (O.faults out.new)) }
     ensures sample_reads { WhereSample (job words.now) (λ count. shelf.new ≡ shelf.old) }
 
-    // How much is read: no more than the named files have together, nor more than a piece past the limit of each page and,
-    // where a context file is named, one byte past the largest of these. Of several pages each that has a fault is read no
-    // further than a piece past the byte that decides it. No more files are started than are named.
-    ensures takes { WhereKnown (TakesJob (job words.now)) (F.told shelf.old) (F.told shelf.new) }
-    // Where the text is written, exactly as many files were started as are named: none twice, since each had to be read. A page that
-    // alone is asked for was read to its end then. One that is refused is read no further than 65,536 bytes past the byte that
-    // decides the fault, unless that is an item's, which is found once the page has ended. Where the shelf failed, what was read of
-    // it holds no fault but that it ends.
-    ensures to_end { result ≡ Status.Done → WhereKnown (ReadsAll (job words.now)) (F.told shelf.old) (F.told shelf.new) }
+    // What of a page that alone is asked for is read, where no text was written. One that is refused is read no further than 65,536
+    // bytes past the byte that decides the fault, unless that is an item's, which is found once the page has ended. Where the shelf
+    // failed, what was read of it holds no fault but that it ends.
     ensures refused_takes { WhereRefused result (λ fault. WhereKnown (TakesToFault (page_asked words.now) fault) (F.told shelf.old) (F.told shelf.new)) }
     ensures cleanly { result ≡ Status.ReadFault → WhereKnown (StopsCleanly (page_asked words.now)) (F.told shelf.old) (F.told shelf.new) }
     // Of a context file that is none no more is read than it has.
