@@ -9,7 +9,7 @@ ghost use Rattle.rx_curie.specs.TermIris.{IsTermIri};
 use crate::comparisons::are_text;
 use crate::term_iris::TermIri;
 use rx_refs::{clean, push_clean};
-use rx_terms::{Iri, NoMemory, Text};
+use rx_terms::{Iri, NoMemory};
 use std::alloc::Global;
 
 /// How many IRIs a maker keeps.
@@ -168,7 +168,7 @@ fn cleaned(alloc: Global, iri: &str) -> Result<Iri, NoMemory>
     ensures { IfOk result (λ made. made ≡ cleaned (chars iri.now)) }
 {
     let text = clean(alloc, iri)?;
-    Iri::of_text(alloc, text)
+    Iri::of_string(alloc, text)
 }
 
 /// A new IRI of these two parts, with the same escapes.
@@ -179,6 +179,5 @@ fn joined(alloc: Global, iri: &str, more: &str) -> Result<Iri, NoMemory>
     let mut text = String::with_capacity(alloc, iri.len().saturating_add(more.len()))?;
     push_clean(&mut text, iri)?;
     push_clean(&mut text, more)?;
-    let made = Text::of_string(alloc, text)?;
-    Iri::of_text(alloc, made)
+    Iri::of_string(alloc, text)
 }

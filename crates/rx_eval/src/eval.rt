@@ -28,6 +28,7 @@ use crate::places::{Surroundings, level_at};
 use crate::resources::says_nothing;
 use rx_curie::Facts;
 use rx_lists::{Lists, Owner};
+use rx_refs::Base;
 use rx_terms::{Iri, NoMemory, Node, TripleList};
 use rx_values::TextStore;
 use std::alloc::Global;
@@ -44,7 +45,7 @@ const CELLS: u64 = 1 << 61;
 #[derive(Drop)]
 pub struct Eval {
     alloc: Global,
-    base: Iri,
+    base: Base,
     iris: OwnIris,
     levels: u32,
     page: EvaluationContext,
@@ -133,7 +134,7 @@ impl Eval {
         };
         Ok(Eval {
             alloc,
-            base,
+            base: Base::of(base),
             iris: OwnIris::new(alloc)?,
             levels,
             page,

@@ -7,7 +7,7 @@ ghost use Rattle.rx_rdfa.specs.Iris.{uses_vocabulary, xsd};
 ghost use Rattle.rx_model.specs.Vocabulary.{rdf_type};
 ghost use Rattle.rx_values.specs.Kinds.{kind_name};
 
-use rx_terms::{Iri, NoMemory, Text};
+use rx_terms::{Iri, NoMemory};
 use rx_values::TimeKind;
 use std::alloc::Global;
 use std::marker::Model;
@@ -77,6 +77,6 @@ fn iri(alloc: Global, text: &str) -> Result<Iri, NoMemory>
     requires form { IsIri text.now }
     ensures { IfOk result (λ iri. iri ≡ text.now) }
 {
-    let text = Text::of(alloc, text)?;
-    Iri::of_text(alloc, text)
+    let text = String::from_str(alloc, text)?;
+    Iri::of_string(alloc, text)
 }

@@ -20,6 +20,7 @@ use crate::resources::{ElementResources, clone_option};
 use crate::values::{TextRule, value_now};
 use rx_curie::Facts;
 use rx_lists::Owner;
+use rx_refs::Base;
 use rx_terms::{Iri, NoMemory, Node, Term};
 use std::alloc::Global;
 
@@ -58,7 +59,7 @@ impl Placed {
         alloc: Global,
         facts: &Facts,
         level: u32,
-        base: &Iri,
+        base: &Base,
         subject: &Node,
         object: &Node,
         next_blank: u64,
@@ -109,7 +110,7 @@ pub fn value_of(
     alloc: Global,
     facts: &Facts,
     placed: &Placed,
-    base: &Iri,
+    base: &Base,
     labels: &Labels,
     text: &str,
 ) -> Result<Term, NoMemory>

@@ -7,8 +7,8 @@ ghost use Rattle.rx_eval.specs.Places.{level_at, named};
 use crate::contexts::EvaluationContext;
 use crate::labels::Labels;
 use rx_curie::Ref;
-use rx_refs::resolve;
-use rx_terms::{Blank, Iri, NoMemory, Node};
+use rx_refs::Base;
+use rx_terms::{Blank, NoMemory, Node};
 use std::alloc::Global;
 
 /// How deep an element stands, as far as the rules ask.
@@ -26,7 +26,7 @@ pub enum Level {
 #[derive(Clone, Copy)]
 pub struct Surroundings<'a> {
     pub alloc: Global,
-    pub base: &'a Iri,
+    pub base: &'a Base,
     /// What the element inherits.
     pub around: &'a EvaluationContext,
     pub level: Level,
@@ -50,7 +50,7 @@ pub fn level_at(around: usize) -> Level
 /// The node that is named.
 pub(crate) fn named(
     alloc: Global,
-    base: &Iri,
+    base: &Base,
     labels: &Labels,
     name: &Ref,
 ) -> Result<Node, NoMemory>
@@ -59,6 +59,6 @@ pub(crate) fn named(
     match name {
         Ref::Iri(iri) => Ok(Node::Iri(iri.try_clone()?)),
         Ref::Label(label) => Ok(Node::Blank(Blank(labels.number_or_zero(label)))),
-        Ref::Relative(reference) => Ok(Node::Iri(resolve(alloc, base, reference.as_str())?)),
+        Ref::Relative(reference) => Ok(Node::Iri(base.resolve(alloc, reference.as_str())?)),
     }
 }

@@ -123,7 +123,7 @@ impl<'a> Surroundings<'a> {
     fn page(&self) -> Result<Node, NoMemory>
         ensures { IfOk result (λ node. node_seen node ≡ page_node self.now.base.now) }
     {
-        Ok(Node::Iri(self.base.try_clone()?))
+        Ok(Node::Iri(self.base.iri().try_clone()?))
     }
 
     /// Whether it is the head or the body of the page.

@@ -17,6 +17,7 @@ use crate::resources::ElementResources;
 use crate::triples::{push_completed, push_each};
 use crate::values::{into_term, node_term, value_now};
 use rx_curie::{Facts, Ref, TypeList};
+use rx_refs::Base;
 use rx_terms::{Iri, Iris, NoMemory, Node, Term, Triple, TripleList};
 
 /// What the start of an element finds: its resources, and the value of its property where that isn't its text.
@@ -30,14 +31,14 @@ pub struct Started {
 fn push_vocabulary(
     out: &mut TripleList,
     iris: &OwnIris,
-    base: &Iri,
+    base: &Base,
     vocab: &Option<Iri>,
 ) -> Result<(), NoMemory>
     ensures { OnOk result (Appends out.old out.new (vocabulary_by base.now vocab.now)) }
 {
     match vocab {
         Some(vocab) => out.push(Triple {
-            subject: Node::Iri(base.try_clone()?),
+            subject: Node::Iri(base.iri().try_clone()?),
             predicate: iris.uses_vocabulary().try_clone()?,
             object: Term::Iri(vocab.try_clone()?),
         }),

@@ -14,6 +14,7 @@ use crate::labels::Labels;
 use crate::places::named;
 use crate::resources::{ElementResources, has_link, linked_ref};
 use rx_curie::{Datatype, ElementKind, Facts};
+use rx_refs::Base;
 use rx_terms::{Iri, Lang, Literal, LiteralKind, NoMemory, Node, Term, Text};
 use rx_values::pattern;
 use std::alloc::Global;
@@ -146,7 +147,7 @@ fn value_of_datatype(facts: &Facts, datatype: &Datatype) -> Result<Option<Term>,
 /// The value of an element's property, and None where that is the element's text.
 pub(crate) fn value_now(
     alloc: Global,
-    base: &Iri,
+    base: &Base,
     labels: &Labels,
     facts: &Facts,
     found: &ElementResources,
@@ -171,7 +172,7 @@ pub(crate) fn value_now(
 /// The resource that is the value, if any.
 fn value_of_resource(
     alloc: Global,
-    base: &Iri,
+    base: &Base,
     labels: &Labels,
     facts: &Facts,
     found: &ElementResources,

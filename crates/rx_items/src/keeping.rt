@@ -8,6 +8,7 @@ use crate::ids::ids_of;
 use crate::kept::{BesideRow, Kept};
 use crate::members::members_of;
 use crate::rows::{PageRows, Row};
+use rx_refs::Base;
 use rx_terms::{Iri, NoMemory};
 use rx_values::TextStore;
 use std::alloc::Global;
@@ -38,7 +39,7 @@ pub fn kept_of(alloc: Global, page: PageRows, base: Iri) -> Result<Kept, NoMemor
         words,
         text,
         times,
-        base,
+        base: Base::of(base),
     })
 }
 

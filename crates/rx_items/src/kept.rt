@@ -1,7 +1,8 @@
 //! What is kept of a page's elements once the page has ended.
 use crate::rows::{Row, RowValue};
 use crate::spans::Span;
-use rx_terms::{Iri, Text};
+use rx_refs::Base;
+use rx_terms::Text;
 use rx_values::TextStore;
 
 /// Some of the members, from one place of their list to another.
@@ -74,5 +75,5 @@ pub struct Kept {
     pub words: TextStore,
     pub text: TextStore,
     pub times: Vec<TextStore>,
-    pub base: Iri,
+    pub base: Base,
 }

@@ -13,8 +13,8 @@ use crate::kept::{Kept, Tokens};
 use crate::rows::RowValue;
 use crate::spans::{Span, text_of};
 use rx_json::OUT_OF_MEMORY;
-use rx_refs::resolve;
-use rx_terms::{Iri, Text};
+use rx_refs::Base;
+use rx_terms::Text;
 use rx_values::TextStore;
 use serde::Serializer;
 use std::alloc::Global;
@@ -115,13 +115,13 @@ fn write_own<S: Serializer>(times: &[TextStore], number: usize, out: &mut S) -> 
 /// Writes what a reference is resolved to.
 fn write_reference<S: Serializer>(
     alloc: Global,
-    base: &Iri,
+    base: &Base,
     reference: &str,
     out: &mut S,
 ) -> Result<(), S::Error>
     ensures { OnOk result (Grows (S.written out.old) (S.written out.new) (data_events (string_of (resolved base.now (chars reference.now))))) }
 {
-    let Ok(iri) = resolve(alloc, base, reference) else {
+    let Ok(iri) = base.resolve(alloc, reference) else {
         return Err(out.custom(OUT_OF_MEMORY));
     };
     write_text(iri.as_str(), out)

@@ -5,7 +5,7 @@ ghost use Rattle.rx_terms.specs.Ascii.{is_ascii};
 ghost use Rattle.rx_terms.specs.Iri.{IsIri};
 ghost use Rattle.rx_model.specs.Vocabulary.{rdf_first, rdf_rest, rdf_nil};
 
-use rx_terms::{Iri, NoMemory, Text};
+use rx_terms::{Iri, NoMemory};
 use std::alloc::Global;
 use std::marker::Model;
 
@@ -72,6 +72,6 @@ fn iri(alloc: Global, text: &str) -> Result<Iri, NoMemory>
     requires form { IsIri text.now }
     ensures { IfOk result (λ iri. iri ≡ text.now) }
 {
-    let text = Text::of(alloc, text)?;
-    Iri::of_text(alloc, text)
+    let text = String::from_str(alloc, text)?;
+    Iri::of_string(alloc, text)
 }

@@ -16,7 +16,8 @@ use Rattle.rx_terms.specs.Iri.{is_forbidden, has_forbidden, IsIri, is_scheme}
 use Rattle.rx_refs.specs.Parts.{before, hierarchical_part}
 use Rattle.rx_refs.specs.Dots.{holds}
 use Rattle.rx_refs.specs.Resolve.{through_last_slash, resolved}
-use Rattle.rx_refs.specs.Plain.{no_dots, ends_path, is_plain_from, is_plain, is_site_byte, is_scheme_byte, IsSchemeEnd, IsSite, folder_from, is_one_slash, begins_path, keeps_all, fragment_from, begins_query, path_end_from, IsWhole}
+use Rattle.rx_refs.specs.Plain.{no_dots, ends_path, is_plain_from, is_plain, is_site_byte, is_scheme_byte, IsSchemeEnd, IsSite, IsSplit, folder_from, is_one_slash, begins_path, keeps_all, fragment_from, begins_query, path_end_from, IsWhole}
+use Rattle.rx_refs.specs.declared.plain.Split.{Split}
 use Rattle.rx_terms.proofs.Bools.{by_test, untrue}
 use Rattle.rx_terms.proofs.CharLemmas.{ascii-chars, ascii-utf8}
 use Rattle.rx_refs.proofs.CutLemmas.{past-slash, through-none}
@@ -395,6 +396,21 @@ kept-relative bs ref b r t n f e g d u v iri s plain begins folder =
     let parts = folder-parts 0 0 false (47 ∷ at_bs.rest) f (ap (folder_from 0 0 false) (sym t_is) ∙ sym folder) in
     let kept = relative-at ref at_bs.scheme at_bs.authority at_bs.rest at_bs.before_colon at_bs.before_path f (subst IsUtf8 bs_is u) (subst (λ (x : List ℕ). IsIri (chars x)) bs_is iri) p k parts in
     subst (λ (x : List ℕ). Kept x ref (n + f)) (sym bs_is) (subst (λ (m : ℕ). Kept (front ++ 47 ∷ at_bs.rest) ref (m + f)) (sym at_bs.size) kept)
+
+-- the same where it is told how the base may be cut
+
+pub cut-of : (bs : List ℕ) (o : Option Split) (s : Split) → o ≡ Some s → IfSome o (IsSplit bs) → IsSplit bs s
+cut-of bs o s is held = subst (λ (x : Option Split). IfSome x (IsSplit bs)) is held
+
+pub cut-rooted : (bs ref r : List ℕ) (o : Option Split) (s : Split) → o ≡ Some s → IfSome o (IsSplit bs) → r ≡ ref → IsUtf8 bs → IsUtf8 ref → IsIri (chars bs) → true ≡ is_plain r → true ≡ is_one_slash r
+    → Kept bs ref s.site
+cut-rooted bs ref r o s is held f u v iri plain slash = kept-rooted bs ref bs r s.site refl f u v iri (cut-of bs o s is held).site plain slash
+
+pub cut-relative : (bs ref r : List ℕ) (o : Option Split) (s : Split) (f : ℕ) → o ≡ Some s → s.folder ≡ Some f → IfSome o (IsSplit bs) → r ≡ ref → IsUtf8 bs → IsUtf8 ref → IsIri (chars bs)
+    → true ≡ is_plain r → true ≡ begins_path r → Kept bs ref (s.site + f)
+cut-relative bs ref r o s f is folder held g u v iri plain begins =
+    let cut = cut-of bs o s is held in
+    kept-relative bs ref bs r (drop s.site bs) s.site f refl g refl u v iri cut.site plain begins (sym folder ∙ cut.folder)
 
 -- An empty reference, and a fragment
 

@@ -21,10 +21,6 @@ use Rattle.rx_refs.proofs.PlainLemmas.{IsCutBase, HasRelative, base-parts, none-
 
 -- A path without dots is moved whole, whatever follows
 
-starts_flat : Chars → Bool
-starts_flat [] = true
-starts_flat (c ∷ text) = not (c == 46)
-
 slash-step : (d : ℕ) (input output : Chars) → (46 == d) ≡ false → step (at (47 ∷ d ∷ input) output) ≡ at (from_first 47 (d ∷ input)) (output ++ 47 ∷ before 47 (d ∷ input))
 unfolding step
 slash-step d input output h = rw h refl

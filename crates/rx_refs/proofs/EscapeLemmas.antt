@@ -1,17 +1,19 @@
 -- The bytes of an escape, and the loop that writes them.
-use Rattle.std.proofs.Common.{◌≡◌, ◌∙◌, ℕ, zero, suc, ◌<◌, ◌/◌, ◌%◌, Bool, true, false, List, [], ◌∷◌, ◌++◌, length, get_or, sym, ap, refl, arith}
-use Rattle.std.specs.Prelude.{codes, encode_utf8}
+use Rattle.std.proofs.Common.{◌≡◌, ◌∙◌, ℕ, zero, suc, ◌+◌, ◌<◌, ◌/◌, ◌%◌, Bool, true, false, List, [], ◌∷◌, ◌++◌, length, length-append, take, get_or, sym, ap, subst, refl, arith}
+use Rattle.std.specs.Prelude.{codes, encode_utf8, if◌then◌else◌}
 use Rattle.std.specs.List.{list_all}
-use Rattle.std.specs.Str.{chars, IsUtf8, all_scalars}
+use Rattle.std.specs.Str.{chars, IsUtf8, IsCharBoundary, all_scalars}
 use Rattle.std.proofs.lemmas.Bool.{and_parts, and_from}
 use Rattle.std.proofs.lemmas.List.{append_assoc, append-nil}
-use Rattle.std.proofs.lemmas.Str.{chars-append, chars-encodes, chars_past_char, scalars-chars, encode_ascii}
+use Rattle.std.proofs.lemmas.Str.{chars-append, chars-encodes, chars_past_char, scalars-chars, encode_ascii, IsCharBoundary-from_take}
+use Rattle.std.proofs.Math.Seq.{take-append_seam}
 use borrow.Author.Tests.{ltb-true}
 use Rattle.rx_terms.specs.Ascii.{is_ascii}
 use Rattle.rx_terms.specs.Text.{Chars}
 use Rattle.rx_terms.specs.Iri.{is_forbidden}
 use Rattle.rx_terms.proofs.CharLemmas.{ascii-chars}
 use Rattle.rx_refs.specs.Resolve.{digit, escaped, cleaned}
+use Rattle.rx_refs.specs.Views.{Keeps}
 use Rattle.rx_refs.proofs.SchemeLemmas.{forbidden-small}
 
 all_at : (p : ℕ → Bool) (xs : List ℕ) (n : ℕ) → list_all p xs ≡ true → n < length xs → p (get_or xs n 0) ≡ true
@@ -55,3 +57,23 @@ pushed-char old new bs rest c u v e w =
     let one : all_scalars (c ∷ []) ≡ true = and_from _ _ (and_parts _ _ all).0 refl in
     let alone : chars (encode_utf8 c) ≡ c ∷ [] = ap chars (sym (append-nil (encode_utf8 c))) ∙ chars-encodes (c ∷ []) one in
     ap chars w ∙ chars-append old (encode_utf8 c) u ∙ ap (λ (x : Chars). chars old ++ x) alone
+
+-- what stood there before
+
+pub keeps-same : (old : List ℕ) → Keeps old old
+keeps-same old = ([], sym (append-nil old))
+
+pub keeps-pushed : (old one two more : List ℕ) (done : Bool) → Keeps old one → two ≡ (if done then one ++ more else one) → Keeps old two
+keeps-pushed old one two more true k e = (k.0 ++ more, e ∙ ap (λ (x : List ℕ). x ++ more) k.1 ∙ append_assoc old k.0 more)
+keeps-pushed old one two more false k e = (k.0, e ∙ k.1)
+
+pub keeps-further : (old one two : List ℕ) → Keeps old one → Keeps one two → Keeps old two
+keeps-further old one two k l = (k.0 ++ l.0, l.1 ∙ ap (λ (x : List ℕ). x ++ l.0) k.1 ∙ append_assoc old k.0 l.0)
+
+pub kept-front : (old new : List ℕ) → Keeps old new → take (length old) new ≡ old
+kept-front old new k = ap (take (length old)) k.1 ∙ take-append_seam old k.0
+
+pub kept-boundary : (old new : List ℕ) → IsUtf8 old → IsUtf8 new → Keeps old new → IsCharBoundary new (length old)
+kept-boundary old new u v k =
+    let size : length new ≡ length old + length k.0 = ap length k.1 ∙ length-append old k.0 in
+    IsCharBoundary-from_take new (length old) v (omega (arith, size)) (subst IsUtf8 (sym (kept-front old new k)) u)

@@ -1,6 +1,6 @@
 -- `../` at the front, from the bytes that the code looks at.
-use Rattle.std.proofs.Common.{◌≡◌, ◌∙◌, ℕ, zero, suc, ◌+◌, ◌-◌, ◌*◌, ◌<◌, ◌≤◌, true, false, ◌==◌, ◌&&◌, List, [], ◌∷◌, ◌++◌, length, take, drop, Some, sym, ap, subst, refl, arith, length-append}
-use Rattle.std.specs.Prelude.{if◌then◌else◌}
+use Rattle.std.proofs.Common.{◌≡◌, ◌∙◌, ℕ, zero, suc, ◌+◌, ◌-◌, ◌*◌, ◌<◌, ◌≤◌, true, false, ◌==◌, ◌&&◌, List, [], ◌∷◌, ◌++◌, length, take, drop, Option, Some, sym, ap, subst, refl, arith, length-append}
+use Rattle.std.specs.Prelude.{if◌then◌else◌, IfSome}
 use Rattle.std.specs.List.{list_all}
 use Rattle.std.proofs.lemmas.Bool.{and_parts, and_from}
 use Rattle.std.proofs.lemmas.List.{append_assoc, append-nil, take-take, length-take, length-drop, drop-drop}
@@ -14,12 +14,13 @@ use Rattle.rx_terms.specs.Iri.{IsIri}
 use Rattle.rx_refs.specs.Parts.{hierarchical_part}
 use Rattle.rx_refs.specs.Resolve.{through_last_slash, resolved}
 use Rattle.rx_refs.specs.Dots.{holds, without_last_segment}
-use Rattle.rx_refs.specs.Plain.{climbs, ups, count_of, last_from, begins_climb, no_dots, is_plain_from, is_scheme_byte, is_site_byte, IsSite, folder_from}
+use Rattle.rx_refs.specs.Plain.{climbs, ups, count_of, last_from, begins_climb, no_dots, is_plain_from, is_scheme_byte, is_site_byte, IsSite, IsSplit, folder_from}
+use Rattle.rx_refs.specs.declared.plain.Split.{Split}
 use Rattle.rx_terms.proofs.Bools.{by_test}
 use Rattle.rx_words.proofs.EndLemmas.{same_char}
 use Rattle.rx_refs.proofs.CutLemmas.{without-none, past-slash}
 use Rattle.rx_refs.proofs.PlainLemmas.{hier-lacking}
-use Rattle.rx_refs.proofs.ByteLemmas.{FolderParts, folder-parts, ascii-front, front-ascii, scheme-ascii, site-ascii, ends-hier, ends_here, through-rest, plain-encoded, cut}
+use Rattle.rx_refs.proofs.ByteLemmas.{FolderParts, folder-parts, ascii-front, front-ascii, scheme-ascii, site-ascii, ends-hier, ends_here, through-rest, plain-encoded, cut, cut-of}
 use Rattle.rx_refs.proofs.ClimbLemmas.{through-without, plain-climbs}
 
 pub count-rest : (text : List ℕ) → (rest : List ℕ) × (text ≡ climbs (count_of text) ++ rest)
@@ -226,3 +227,10 @@ kept-climbs bs ref b r path rest n f place (suc k) e g u v iri counted some rest
     let w = ascii-front (climbs (suc k)) last (climbs-all_ascii (suc k)) (subst IsUtf8 cut_is v) in
     let boundary : IsCharBoundary ref (suc k * 3) = subst (λ (x : List ℕ). IsCharBoundary x (suc k * 3)) (sym cut_is) (subst (λ (m : ℕ). IsCharBoundary (climbs (suc k) ++ last) m) (climbs-length (suc k)) w.boundary) in
     (there.0, boundary, there.1)
+
+pub cut-climbs : (bs ref r path rest : List ℕ) (o : Option Split) (s : Split) (f place count : ℕ) → o ≡ Some s → s.folder ≡ Some f → IfSome o (IsSplit bs) → r ≡ ref → IsUtf8 bs → IsUtf8 ref → IsIri (chars bs)
+    → count ≡ count_of r → 0 < count → rest ≡ drop (count * 3) r → true ≡ is_plain_from false true rest → path ≡ drop s.site bs → place < length path → take place path ≡ ups count (take (f - 1) path)
+    → KeptBoth bs ref (s.site + place + 1) (count * 3)
+cut-climbs bs ref r path rest o s f place count is folder held g u v iri counted some rest_is plain path_is within left =
+    let cut = cut-of bs o s is held in
+    kept-climbs bs ref bs r path rest s.site f place count refl g u v iri counted some rest_is plain cut.site path_is (sym folder ∙ cut.folder ∙ ap (folder_from 0 0 false) (sym path_is)) within left

@@ -1,10 +1,11 @@
 -- References that only take the place of the base's end: nothing in them is worked out.
-use Rattle.std.specs.Prelude.{◌≡◌, ℕ, zero, suc, ◌+◌, Bool, true, false, not, ◌||◌, ◌&&◌, ◌==◌, nat_lt, List, [], ◌∷◌, ◌++◌, length, codes, Option, Some, None, if◌then◌else◌}
+use Rattle.std.specs.Prelude.{◌≡◌, ℕ, zero, suc, ◌+◌, Bool, true, false, not, ◌||◌, ◌&&◌, ◌==◌, nat_lt, List, [], ◌∷◌, ◌++◌, length, codes, Option, Some, None, if◌then◌else◌, IfSome, drop, ◌≤◌}
 use Rattle.std.specs.List.{list_all}
 use Rattle.rx_terms.specs.Ascii.{colon, solidus, question_mark, number_sign, full_stop}
 use Rattle.rx_terms.specs.Text.{Chars, begins_with}
 use Rattle.rx_refs.specs.Dots.{without_last_segment}
 use Rattle.rx_terms.specs.Iri.{is_forbidden, has_forbidden, is_scheme}
+use Rattle.rx_refs.specs.declared.plain.Split.{Split}
 
 -- no segment begins with `.`, where `start` says whether one begins here
 abbrev pub no_dots : Bool → Chars → Bool
@@ -62,6 +63,13 @@ folder_from here folder start (c ∷ text) =
     else if not (nat_lt c 128) then None
     else if start && c == full_stop then None
     else folder_from (suc here) (if c == solidus then suc here else folder) (c == solidus) text
+
+-- So a base may be cut: where its path begins, and how much of the path stands up to its last `/`.
+pub record IsSplit (base : List ℕ) (split : Split) : Type 0 where
+  pub site : IsSite base split.site
+  pub fits : split.site ≤ length base
+  pub folder : split.folder ≡ folder_from 0 0 false (drop split.site base)
+  pub within : IfSome split.folder (λ n. n ≤ length (drop split.site base))
 
 abbrev pub is_one_slash : Chars → Bool
 is_one_slash text = begins_with (codes "/") text && not (begins_with (codes "//") text)

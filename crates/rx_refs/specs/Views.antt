@@ -1,5 +1,5 @@
 -- What the code's values stand for.
-use Rattle.std.specs.Prelude.{◌≡◌, ◌++◌, String, string_bytes}
+use Rattle.std.specs.Prelude.{◌≡◌, ◌++◌, List, ℕ, String, string_bytes}
 use Rattle.std.specs.Str.{chars}
 use Rattle.rx_terms.specs.Text.{Chars, seen_slice}
 use Rattle.rx_refs.specs.Parts.{Components}
@@ -36,3 +36,7 @@ seen_target target = record {
 -- the new buffer is the old one with this text behind it
 abbrev pub Grows : {Z : Type 0} → String Z → String Z → Chars → Type 0
 Grows old new more = chars (string_bytes new) ≡ chars (string_bytes old) ++ more
+
+-- what stood there is the front of what stands there now
+abbrev pub Keeps : List ℕ → List ℕ → Type 0
+Keeps old new = (more : List ℕ) × (new ≡ old ++ more)

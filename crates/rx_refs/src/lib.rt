@@ -1,13 +1,14 @@
 //! References as RFC 3986 has them: their five components, and what a reference means against a base.
 //!
 //! [`resolve`] gives for every base and every text the IRI of RFC 3986, section 5.2, strict, and refuses nothing: the
-//! text is trimmed first, and a character that no IRI may have becomes its escape last. [`split`] and [`has_scheme`]
-//! take no memory.
+//! text is trimmed first, and a character that no IRI may have becomes its escape last. [`Base`] does the same for many
+//! references against one base, whose parts it tells once. [`split`] and [`has_scheme`] take no memory.
 #![tactic(auto)]
 
 ghost use Rattle.rx_refs.specs.Rules.{DotsByRules};
 ghost use Rattle.rx_refs.specs.Laws.{AbsoluteStandsAlone, PartsAreWhole, ResolvedIsIri, ExamplesHold};
 
+mod bases;
 mod dots;
 mod escapes;
 mod parts;
@@ -17,6 +18,7 @@ mod resolution;
 mod slices;
 mod targets;
 
+pub use bases::Base;
 pub use escapes::{clean, push_clean};
 pub use parts::{Parts, split};
 pub use resolution::{resolve, without_fragment};

@@ -5,7 +5,7 @@ ghost use Rattle.rx_terms.specs.Iri.{is_forbidden, has_forbidden, IsIri, is_sche
 ghost use Rattle.std.specs.Str.{chars, IsCharBoundary};
 ghost use Rattle.rx_terms.specs.Text.{Chars, begins_with};
 ghost use Rattle.rx_refs.specs.Resolve.{resolved};
-ghost use Rattle.rx_refs.specs.Plain.{is_plain, begins_climb, ups, count_of, last_from, is_plain_from, keeps_all, fragment_from, begins_query, path_end_from, IsWhole, is_scheme_byte, is_site_byte, IsSchemeEnd, IsSite, folder_from, is_one_slash, begins_path};
+ghost use Rattle.rx_refs.specs.Plain.{is_plain, begins_climb, ups, count_of, last_from, is_plain_from, keeps_all, fragment_from, begins_query, path_end_from, IsWhole, is_scheme_byte, is_site_byte, IsSchemeEnd, IsSite, IsSplit, folder_from, is_one_slash, begins_path};
 
 /// Whether no IRI has the character of this byte.
 #[inline(always)]
@@ -322,9 +322,30 @@ pub fn stands_alone(reference: &str) -> bool
     is_whole(reference.as_bytes())
 }
 
+/// Where a base may be cut, as far as its references ask for that.
+#[derive(Clone, Copy, Debug)]
+pub struct Split {
+    /// How many bytes stand before its path.
+    pub site: usize,
+    /// How many bytes of the path stand up to its last `/`, that one included, where it has no dot segment and is ASCII.
+    pub folder: Option<usize>,
+}
+
+/// Where the base may be cut, where that is told at once.
+pub fn split_of(base: &str) -> Option<Split>
+    ensures { IfSome result (IsSplit base.now) }
+{
+    let Some(site) = site_of(base.as_bytes()) else {
+        return None;
+    };
+    let folder = folder_of(behind(base.as_bytes(), site));
+    Some(Split { site, folder })
+}
+
 /// How much of the base stands before the reference in what that means, where nothing of it is worked out.
-pub fn front_length(base: &str, reference: &str) -> Option<usize>
-    requires { IsIri (chars base.now) }
+pub fn front_length(base: &str, split: Option<Split>, reference: &str) -> Option<usize>
+    requires iri { IsIri (chars base.now) }
+    requires split { IfSome split (IsSplit base.now) }
     ensures { IfSome result (λ n. IsCharBoundary base.now n × (resolved (chars base.now) (chars reference.now) ≡ chars (take n base.now) ++ chars reference.now)) }
 {
     let text = reference.as_bytes();
@@ -340,19 +361,19 @@ pub fn front_length(base: &str, reference: &str) -> Option<usize>
     if has_authority(text) {
         return scheme_end_of(base.as_bytes());
     }
-    let Some(site) = site_of(base.as_bytes()) else {
+    let Some(cut) = split else {
         return None;
     };
     if is_rooted(text) {
-        return Some(site);
+        return Some(cut.site);
     }
     if !is_relative(text) {
         return None;
     }
-    match folder_of(behind(base.as_bytes(), site)) {
-        Some(folder) => Some(site + folder),
-        None => None,
-    }
+    let Some(folder) = cut.folder else {
+        return None;
+    };
+    Some(cut.site + folder)
 }
 
 /// Whether `../` stands at the front.
@@ -409,8 +430,9 @@ fn up_place(path: &[u8], place: usize, count: usize) -> usize
 
 /// Of a reference that begins with `../`: how much of the base stands in what it means, and how much of the reference
 /// doesn't, where nothing else is worked out.
-pub fn climbed(base: &str, reference: &str) -> Option<(usize, usize)>
-    requires { IsIri (chars base.now) }
+pub fn climbed(base: &str, split: Option<Split>, reference: &str) -> Option<(usize, usize)>
+    requires iri { IsIri (chars base.now) }
+    requires split { IfSome split (IsSplit base.now) }
     ensures { IfSome result (λ cut. IsCharBoundary base.now cut.0 × IsCharBoundary reference.now cut.1 × (resolved (chars base.now) (chars reference.now) ≡ chars (take cut.0 base.now) ++ chars (drop cut.1 reference.now))) }
 {
     let text = reference.as_bytes();
@@ -421,19 +443,19 @@ pub fn climbed(base: &str, reference: &str) -> Option<(usize, usize)>
     if !is_plain_from(behind(text, count * 3), false) {
         return None;
     }
-    let Some(site) = site_of(base.as_bytes()) else {
+    let Some(cut) = split else {
         return None;
     };
-    let path = behind(base.as_bytes(), site);
-    let Some(folder) = folder_of(path) else {
+    let Some(folder) = cut.folder else {
         return None;
     };
     if folder == 0 {
         return None;
     }
+    let path = behind(base.as_bytes(), cut.site);
     let place = up_place(path, folder - 1, count);
     if place >= path.len() {
         return None;
     }
-    Some((site + place + 1, count * 3))
+    Some((cut.site + place + 1, count * 3))
 }

@@ -1,16 +1,17 @@
 //! What a reference means against a base.
-ghost use Rattle.std.specs.Prelude.{◌≡◌, ◌++◌, IfOk, take, drop, string_bytes, encode_utf8_all};
+ghost use Rattle.std.specs.Prelude.{◌≡◌, ◌++◌, IfOk, IfSome, take, drop, string_bytes, encode_utf8_all};
 ghost use Rattle.std.specs.Str.{chars, IsCharBoundary};
 ghost use Rattle.rx_refs.specs.Resolve.{resolved, without_fragment};
+ghost use Rattle.rx_refs.specs.Plain.{IsSplit};
 ghost use Rattle.rx_terms.specs.Iri.{IsIri};
 
 use crate::escapes::clean_string;
 use crate::parts::split;
-use crate::plain::{climbed, front_length, stands_alone};
+use crate::plain::{Split, climbed, front_length, split_of, stands_alone};
 use crate::recomposition::recompose;
 use crate::slices::cut;
 use crate::targets::target_of;
-use rx_terms::{Iri, NoMemory, Text};
+use rx_terms::{Iri, NoMemory};
 use rx_words::trim;
 use std::alloc::Global;
 
@@ -20,10 +21,24 @@ pub fn resolve(alloc: Global, base: &Iri, reference: &str) -> Result<Iri, NoMemo
     ensures meaning { IfOk result (λ iri. iri ≡ resolved base.now (chars reference.now)) }
     ensures iri { IfOk result (λ iri. IsIri iri) }
 {
-    if let Some(front) = front_length(base.as_str(), reference) {
+    resolve_split(alloc, base, split_of(base.as_str()), reference)
+}
+
+/// The same, where it is told how the base may be cut.
+pub(crate) fn resolve_split(
+    alloc: Global,
+    base: &Iri,
+    split: Option<Split>,
+    reference: &str,
+) -> Result<Iri, NoMemory>
+    requires { IfSome split (IsSplit (encode_utf8_all base.now)) }
+    ensures meaning { IfOk result (λ iri. iri ≡ resolved base.now (chars reference.now)) }
+    ensures iri { IfOk result (λ iri. IsIri iri) }
+{
+    if let Some(front) = front_length(base.as_str(), split, reference) {
         return behind_front(alloc, base, front, reference);
     }
-    if let Some((front, left_out)) = climbed(base.as_str(), reference) {
+    if let Some((front, left_out)) = climbed(base.as_str(), split, reference) {
         return behind_climbs(alloc, base, front, reference, left_out);
     }
     if stands_alone(reference) {
@@ -39,8 +54,8 @@ fn itself(alloc: Global, base: &Iri, reference: &str) -> Result<Iri, NoMemory>
     ensures iri { IfOk result (λ iri. IsIri iri) }
 {
     let _base = base.as_str();
-    let text = Text::of(alloc, reference)?;
-    Iri::of_text(alloc, text)
+    let text = String::from_str(alloc, reference)?;
+    Iri::of_string(alloc, text)
 }
 
 /// The base up to a place and then the reference, where that is what it means.
@@ -51,8 +66,7 @@ fn behind_front(alloc: Global, base: &Iri, front: usize, reference: &str) -> Res
     ensures iri { IfOk result (λ iri. IsIri iri) }
 {
     let whole = joined(alloc, &base.as_str()[..front], reference)?;
-    let text = Text::of_string(alloc, whole)?;
-    Iri::of_text(alloc, text)
+    Iri::of_string(alloc, whole)
 }
 
 /// The base up to a place and then the reference from a place on, where that is what it means.
@@ -70,8 +84,7 @@ fn behind_climbs(
     ensures iri { IfOk result (λ iri. IsIri iri) }
 {
     let whole = joined(alloc, &base.as_str()[..front], &reference[left_out..])?;
-    let text = Text::of_string(alloc, whole)?;
-    Iri::of_text(alloc, text)
+    Iri::of_string(alloc, whole)
 }
 
 /// The one text behind the other.
@@ -93,7 +106,7 @@ fn resolve_by_parts(alloc: Global, base: &Iri, reference: &str) -> Result<Iri, N
     let target = target_of(split(base.as_str()), split(trim(reference)));
     let text = recompose(alloc, &target)?;
     let clean = clean_string(alloc, text)?;
-    Iri::of_text(alloc, clean)
+    Iri::of_string(alloc, clean)
 }
 
 /// The IRI up to its first `#`.
@@ -102,6 +115,6 @@ pub fn without_fragment(alloc: Global, iri: &Iri) -> Result<Iri, NoMemory>
     ensures iri { IfOk result (λ front. IsIri front) }
 {
     let (front, _fragment) = cut(iri.as_str(), '#');
-    let text = Text::of(alloc, front)?;
-    Iri::of_text(alloc, text)
+    let text = String::from_str(alloc, front)?;
+    Iri::of_string(alloc, text)
 }

@@ -1,5 +1,5 @@
 //! Internationalized resource identifiers (RFC 3987), as far as N-Quads and Turtle take them.
-ghost use Rattle.std.specs.Prelude.{◌≡◌, IfOk, IsErrOf, ◌↔◌, true, false, encode_utf8_all, nat_eq};
+ghost use Rattle.std.specs.Prelude.{◌≡◌, IfOk, IsErrOf, ◌↔◌, true, false, encode_utf8_all, nat_eq, string_bytes};
 ghost use Rattle.std.specs.List.{list_all};
 ghost use Rattle.std.specs.Str.{chars};
 ghost use Rattle.std.specs.Cmp.Lexicographic.{pointwise, nat_list_eq_equiv};
@@ -9,7 +9,7 @@ ghost use Rattle.std.specs.Cmp.Rules.{hashing};
 ghost use Rattle.std.proofs.Common.{rules};
 ghost use Rattle.rx_terms.specs.Iri.{is_scheme_char, is_scheme, begins_with_letter, has_scheme, is_forbidden, has_forbidden, IsIri, number_of};
 
-use crate::texts::{NoMemory, Text};
+use crate::texts::NoMemory;
 use std::alloc::Global;
 use std::hash::{DefaultHasher, Hash, Hasher};
 use std::marker::Model;
@@ -27,21 +27,22 @@ pub struct Iri {
 /// What is kept of an IRI.
 #[derive(Debug, Drop)]
 struct Kept {
-    text: Text,
+    text: String,
     /// The SipHash of the text's UTF-8, by which sets find the IRI.
     number: u64,
 }
 
 impl Model for Iri {
-    ghost use Rattle.std.specs.Prelude.{◌≡◌, ℕ, List};
+    ghost use Rattle.std.specs.Prelude.{◌≡◌, ℕ, List, string_bytes};
+    ghost use Rattle.std.specs.Str.{chars};
 
     ghost Value = { List ℕ };
 
     ghost use Rattle.rx_terms.specs.Iri.{IsKept};
 
-    ghost view = { λ iri. iri.kept.value.text };
+    ghost view = { λ iri. chars (string_bytes iri.kept.value.text) };
 
-    ghost invariant = { λ iri. IsKept iri.kept.value.text iri.kept.value.number };
+    ghost invariant = { λ iri. IsKept (chars (string_bytes iri.kept.value.text)) iri.kept.value.number };
 }
 
 /// Why a text is no IRI.
@@ -84,10 +85,10 @@ impl Iri {
         Ok(copied(alloc, text)?)
     }
 
-    /// The IRI that a text is of which this is known, so that its form isn't looked at and its characters aren't copied.
-    pub fn of_text(alloc: Global, text: Text) -> Result<Iri, NoMemory>
-        requires { IsIri text }
-        ensures { IfOk result (λ iri. iri ≡ text) }
+    /// The IRI that a string holds of which this is known, so that its form isn't looked at and its characters aren't copied.
+    pub fn of_string(alloc: Global, text: String) -> Result<Iri, NoMemory>
+        requires { IsIri (chars (string_bytes text)) }
+        ensures { IfOk result (λ iri. iri ≡ chars (string_bytes text)) }
     {
         let number = number_of(text.as_str());
         let kept = Rc::new(alloc, Kept { text, number })?;
@@ -142,8 +143,8 @@ fn copied(alloc: Global, text: &str) -> Result<Iri, NoMemory>
     requires { IsIri (chars text.now) }
     ensures { IfOk result (λ iri. iri ≡ chars text.now) }
 {
-    let text = Text::of(alloc, text)?;
-    Iri::of_text(alloc, text)
+    let text = String::from_str(alloc, text)?;
+    Iri::of_string(alloc, text)
 }
 
 /// The SipHash of the text's UTF-8.

@@ -1,10 +1,11 @@
+use Rattle.std.specs.Prelude.{string_bytes}
 use Rattle.std.specs.Str.{chars}
 use Rattle.rx_terms.proofs.OkLemmas.{ok_is}
 use Rattle.rx_curie.proofs.MadeLemmas.{text-iri}
 use Rattle.rx_curie.proofs.makers.cleaned.Goals as goal
 
-pub of_text-requires : goal.of_text-requires
-of_text-requires c = text-iri (chars c.args.iri.now) c.in_ok-text.text c.requires c.in_ok-text.ensures
+pub of_string-requires : goal.of_string-requires
+of_string-requires c = text-iri (chars c.args.iri.now) (chars (string_bytes c.in_ok-text.text)) c.requires c.in_ok-text.ensures
 
 pub returns : goal.returns
-returns c = ok_is c.of_text.result c.in_ok-text.ensures c.of_text.ensures
+returns c = ok_is c.of_string.result c.in_ok-text.ensures c.of_string.ensures

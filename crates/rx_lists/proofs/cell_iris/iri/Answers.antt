@@ -1,11 +1,17 @@
-use Rattle.std.proofs.Common.{◌∙◌, subst, sym}
+use Rattle.std.proofs.Common.{◌≡◌, ◌∙◌, subst, sym, ap}
+use Rattle.std.specs.Prelude.{string_bytes}
+use Rattle.std.specs.Str.{chars}
 use Rattle.rx_terms.specs.Iri.{IsIri}
 use Rattle.rx_terms.proofs.CharLemmas.{ascii-chars}
 use Rattle.rx_terms.proofs.OkLemmas.{ok_is}
 use Rattle.rx_lists.proofs.cell_iris.iri.Goals as goal
+use Rattle.rx_lists.proofs.cell_iris.iri.Goals.{In_ok-text}
 
-pub of_text-requires : goal.of_text-requires
-of_text-requires c = subst IsIri (sym (ascii-chars c.args.text.now c.requires.ascii) ∙ sym c.in_ok-text.ensures) c.requires.form
+copied : (c : In_ok-text) → chars (string_bytes c.in_ok-text.text) ≡ c.args.text.now
+copied c = ap chars c.in_ok-text.ensures.ok ∙ ascii-chars c.args.text.now c.requires.ascii
+
+pub of_string-requires : goal.of_string-requires
+of_string-requires c = subst IsIri (sym (copied c)) c.requires.form
 
 pub returns : goal.returns
-returns c = ok_is c.of_text.result (c.in_ok-text.ensures ∙ ascii-chars c.args.text.now c.requires.ascii) c.of_text.ensures
+returns c = ok_is c.of_string.result (copied (goal.at.returns c).In_ok-text) c.of_string.ensures

@@ -2,11 +2,10 @@ use Rattle.std.proofs.Common.{◌∙◌, sym, ap, List, ℕ}
 use Rattle.std.specs.Prelude.{string_bytes}
 use Rattle.std.specs.Str.{chars}
 use Rattle.rx_terms.specs.Iri.{has_forbidden}
-use Rattle.rx_terms.proofs.OkLemmas.{ok_is}
 use Rattle.rx_refs.proofs.SchemeLemmas.{uncleaned}
 use Rattle.rx_refs.proofs.escapes.clean_string.Goals as goal
 
 pub returns : goal.returns
 returns c =
     let clean = ap (λ (bs : List ℕ). has_forbidden (chars bs)) (sym c.as_str.ensures.value) ∙ sym c.if-has_forbidden.ensures in
-    ok_is c.of_string.result (sym (uncleaned (chars (string_bytes c.args.text)) clean)) c.of_string.ensures
+    sym (uncleaned (chars (string_bytes c.args.text)) clean)

@@ -6,8 +6,8 @@ use Rattle.rx_terms.specs.Text.{Chars}
 use Rattle.rx_refs.proofs.SchemeLemmas.{uncleaned}
 use Rattle.rx_refs.proofs.escapes.push_clean.Goals as goal
 
-pub returns : goal.returns
-returns c =
+pub returns-clause-ok : goal.returns-clause-ok
+returns-clause-ok c =
     let out = string_bytes c.args.out.now in
     let none = sym (sym c.if-has_forbidden.false ∙ c.has_forbidden.ensures) in
     ap chars c.in_ok-push_str.ensures.bytes ∙ chars-append out c.args.text.now (IsUtf8-string_bytes c.args.out.now)

@@ -3,6 +3,7 @@ use Rattle.std.specs.Prelude.{string_bytes}
 use Rattle.std.specs.Str.{chars, IsUtf8}
 use Rattle.std.specs.Str.Iter.{chars_rest}
 use Rattle.rx_refs.specs.Resolve.{cleaned}
+use Rattle.rx_refs.specs.Views.{Keeps}
 use Rattle.rx_refs.proofs.escapes.push_escaping.Given as goal
 
 abbrev pub invariant-loop-c : goal.invariant-loop-c
@@ -10,5 +11,6 @@ invariant-loop-c l = record {
   can_next : (goal.iterator-loop-c).can_next l.c-iterator;
   finite : (goal.iterator-loop-c).is_finite l.c-iterator;
   utf8 : IsUtf8 (chars_rest l.c-iterator);
+  front : Keeps (string_bytes l.fn.out) (string_bytes l.out);
   wrote : chars (string_bytes l.fn.out) ++ cleaned (chars l.text) ≡ chars (string_bytes l.out) ++ cleaned (chars (chars_rest l.c-iterator));
 }

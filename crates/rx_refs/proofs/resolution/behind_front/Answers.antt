@@ -1,15 +1,16 @@
 use Rattle.std.proofs.Common.{◌≡◌, ◌∙◌, ◌++◌, sym, subst, ap, take, List, ℕ, ◌-◌, arith}
+use Rattle.std.specs.Prelude.{string_bytes}
 use Rattle.std.specs.Str.{chars, encode_utf8_all}
 use Rattle.rx_terms.specs.Iri.{IsIri}
 use Rattle.rx_refs.specs.Resolve.{resolved}
 use Rattle.rx_refs.proofs.WholeLemmas.{resolved-iri}
 use Rattle.rx_refs.proofs.resolution.behind_front.Goals as goal
 
-pub of_text-requires : goal.of_text-requires
-of_text-requires c =
+pub of_string-requires : goal.of_string-requires
+of_string-requires c =
     let all : c.args.front - 0 ≡ c.args.front = omega arith in
     let front : c.range.result.now ≡ take c.args.front (encode_utf8_all c.args.base.now) =
     c.range.ensures.value ∙ ap (λ (k : ℕ). take k c.as_str.result.now) all ∙ ap (take c.args.front) c.as_str.ensures.bytes in
-    let meaning : c.in_ok-text.text ≡ resolved c.args.base.now (chars c.args.reference.now) =
-    c.in_ok-text.ensures ∙ c.in_ok-whole.ensures ∙ ap (λ (x : List ℕ). chars x ++ chars c.args.reference.now) front ∙ sym c.requires.meaning in
+    let meaning : chars (string_bytes c.in_ok-whole.whole) ≡ resolved c.args.base.now (chars c.args.reference.now) =
+    c.in_ok-whole.ensures ∙ ap (λ (x : List ℕ). chars x ++ chars c.args.reference.now) front ∙ sym c.requires.meaning in
     subst IsIri (sym meaning) ((resolved-iri c.args.base.now (chars c.args.reference.now)).iri c.as_str.ensures.form)

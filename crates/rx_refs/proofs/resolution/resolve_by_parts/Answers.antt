@@ -16,14 +16,14 @@ together : (base reference base_text trim clean text : Chars) (t b r : Component
 unfolding resolved
 together base reference base_text trim clean text t b r cleans joins aims splits same cuts trims = rw (cleans, joins, aims, splits, same, cuts, trims) refl
 
-meaning : (c : In_ok-clean) → c.in_ok-clean.clean ≡ resolved c.args.base.now (chars c.args.reference.now)
+meaning : (c : In_ok-clean) → chars (string_bytes c.in_ok-clean.clean) ≡ resolved c.args.base.now (chars c.args.reference.now)
 meaning c =
-    together c.args.base.now (chars c.args.reference.now) (chars c.as_str.result.now) (chars c.trim.result.now) c.in_ok-clean.clean (chars (string_bytes c.in_ok-text.text))
+    together c.args.base.now (chars c.args.reference.now) (chars c.as_str.result.now) (chars c.trim.result.now) (chars (string_bytes c.in_ok-clean.clean)) (chars (string_bytes c.in_ok-text.text))
     (seen_target c.target_of-target.result) (seen c.split.result) (seen c.split-2.result)
     c.in_ok-clean.ensures c.in_ok-text.ensures c.target_of-target.ensures c.split.ensures c.as_str.ensures.characters c.split-2.ensures c.trim.ensures
 
-pub of_text-requires : goal.of_text-requires
-of_text-requires c = subst IsIri (sym (meaning c)) ((resolved-iri c.args.base.now (chars c.args.reference.now)).iri c.as_str.ensures.form)
+pub of_string-requires : goal.of_string-requires
+of_string-requires c = subst IsIri (sym (meaning c)) ((resolved-iri c.args.base.now (chars c.args.reference.now)).iri c.as_str.ensures.form)
 
 pub returns-clause-meaning : goal.returns-clause-meaning
-returns-clause-meaning c = ok_is c.of_text.result (meaning (goal.at.returns-clause-meaning c).In_ok-clean) c.of_text.ensures
+returns-clause-meaning c = ok_is c.of_string.result (meaning (goal.at.returns-clause-meaning c).In_ok-clean) c.of_string.ensures

@@ -1,10 +1,12 @@
 use Rattle.std.proofs.Common.{◌≡◌, ◌∙◌, sym, ap, subst}
+use Rattle.std.specs.Prelude.{string_bytes}
+use Rattle.std.specs.Str.{chars}
 use Rattle.rx_terms.specs.Iri.{IsIri}
 use Rattle.rx_refs.specs.Parts.{before}
 use Rattle.rx_refs.proofs.SchemeLemmas.{iri-front}
 use Rattle.rx_refs.proofs.resolution.without_fragment.Goals as goal
 
-pub of_text-requires : goal.of_text-requires
-of_text-requires c =
-    let front : c.in_ok-text.text ≡ before 35 c.args.iri.now = c.in_ok-text.ensures ∙ c.cut.ensures.front ∙ ap (before 35) c.as_str.ensures.characters in
+pub of_string-requires : goal.of_string-requires
+of_string-requires c =
+    let front : chars (string_bytes c.in_ok-text.text) ≡ before 35 c.args.iri.now = ap chars c.in_ok-text.ensures.ok ∙ c.cut.ensures.front ∙ ap (before 35) c.as_str.ensures.characters in
     subst IsIri (sym front) (iri-front c.args.iri.now c.as_str.ensures.form)
