@@ -12,7 +12,8 @@ use rx_terms::NoMemory;
 use std::alloc::Global;
 use std::marker::Model;
 
-/// Where an attribute stands in the buffer: its name from `start` to `middle`, its value from there to `end`.
+/// Where an attribute stands in the buffer: its name from `start` to `middle`, its value from `value` to `end`. Between them
+/// stands nothing, or the `="` of an attribute that was copied as it is written.
 #[derive(Clone, Copy, Drop)]
 pub(crate) struct AttributeSpan {
     // The fields stand so that `start` and `middle`, which were written apart shortly before a row is made of them, aren't
@@ -20,6 +21,7 @@ pub(crate) struct AttributeSpan {
     pub(crate) start: usize,
     pub(crate) end: usize,
     pub(crate) middle: usize,
+    pub(crate) value: usize,
 }
 
 /// Names and values one after another in one buffer: those of the attributes that are whole, and of the one that is read.
@@ -163,6 +165,7 @@ impl Attributes {
         let row = AttributeSpan {
             start: self.start,
             middle: self.middle,
+            value: self.middle,
             end,
         };
         if self.rows.push(row).is_err() {
@@ -203,6 +206,7 @@ impl Attributes {
         let row = AttributeSpan {
             start: self.start,
             middle,
+            value: middle,
             end,
         };
         if self.rows.push(row).is_err() {
@@ -225,6 +229,7 @@ impl Attributes {
         let row = AttributeSpan {
             start: self.start,
             middle: self.middle,
+            value: self.middle,
             end,
         };
         if self.rows.push(row).is_err() {
@@ -259,7 +264,7 @@ impl Attributes {
         let row = self.rows[i];
         (
             text_between(&self.text, row.start, row.middle),
-            text_between(&self.text, row.middle, row.end),
+            text_between(&self.text, row.value, row.end),
         )
     }
 }
@@ -298,6 +303,7 @@ impl Attributes {
         let row = AttributeSpan {
             start: self.start,
             middle: self.middle,
+            value: self.middle,
             end,
         };
         if self.rows.push(row).is_err() {
