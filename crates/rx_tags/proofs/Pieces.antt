@@ -27,7 +27,7 @@ piece_on text more from to h k =
 pub piece_rest : (text : List ℕ) (from to : ℕ) → to ≡ length text → piece text from to ≡ drop from text
 piece_rest text from to h = take_all (to - from) (drop from text) (omega (arith, length-drop from text))
 
-drop_two : (n m : ℕ) (text : List ℕ) → drop m (drop n text) ≡ drop (n + m) text
+pub drop_two : (n m : ℕ) (text : List ℕ) → drop m (drop n text) ≡ drop (n + m) text
 drop_two n m text = grind (arith, common_steps)
 
 pub piece_then : (text : List ℕ) (from to : ℕ) → from ≤ to → drop from text ≡ piece text from to ++ drop to text
@@ -72,7 +72,7 @@ rows_fit_off : (text more : List ℕ) (limit : ℕ) (rows : List AttributeSpan) 
 rows_fit_off text more limit [] l f = tt
 rows_fit_off text more limit (row ∷ rows) l f = (row_fit_off text more limit row l f.0, rows_fit_off text more limit rows l f.1)
 
-nothing_past : (text : List ℕ) (n : ℕ) → n ≡ length text → IsUtf8 (drop n text) × (chars (drop n text) ≡ [])
+pub nothing_past : (text : List ℕ) (n : ℕ) → n ≡ length text → IsUtf8 (drop n text) × (chars (drop n text) ≡ [])
 nothing_past text n h = let e = drop_all n text h in (rw e IsUtf8-nil, rw e chars-nil)
 
 -- the value's front alone: the text is cut where the run begins
@@ -289,7 +289,7 @@ key_pushed_ascii text grown rows start middle end n more f a g h k p =
     let all = key_pushed_all text grown rows start middle end n more f (ascii-utf8 more a) g h k p in
     (all.0, all.1 ∙ ap (λ (x : List ℕ). key_on (read_as text rows start middle end) x) (ascii-chars more a))
 
-rows_fit_append : (text : List ℕ) (limit : ℕ) (rows : List AttributeSpan) (row : AttributeSpan) → RowsFit text limit rows → RowFits text limit row → RowsFit text limit (rows ++ row ∷ [])
+pub rows_fit_append : (text : List ℕ) (limit : ℕ) (rows : List AttributeSpan) (row : AttributeSpan) → RowsFit text limit rows → RowFits text limit row → RowsFit text limit (rows ++ row ∷ [])
 rows_fit_append text limit [] row f r = (r, tt)
 rows_fit_append text limit (first ∷ rows) row f r = (f.0, rows_fit_append text limit rows row f.1 r)
 
