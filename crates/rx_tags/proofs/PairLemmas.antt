@@ -4,7 +4,7 @@ use Rattle.std.proofs.lemmas.Bool.Decides.{nat_tests}
 use Rattle.std.proofs.lemmas.Bool.{and_parts, and_from}
 use Rattle.std.proofs.lemmas.List.{append-nil, append_assoc}
 use Rattle.std.specs.List.{list_all}
-use Rattle.std.specs.Prelude.{encode_utf8_all, OnOk}
+use Rattle.std.specs.Prelude.{encode_utf8_all, OnOk, OnErr}
 use Rattle.std.specs.Result.{is_err}
 use Rattle.rx_terms.specs.declared.texts.NoMemory.{NoMemory}
 use Rattle.rx_terms.proofs.CharLemmas.{ascii-same}
@@ -157,6 +157,10 @@ run_is s p pending c h e =
 pub on_ok : {P : Type 0} (r : Result (Unit {0}) NoMemory) → false ≡ is_err r → OnOk r P → P
 on_ok (Ok x) e h = h
 on_ok (Err x) e h = absurd (cc)
+
+pub on_err : {P : Type 0} (r : Result (Unit {0}) NoMemory) → true ≡ is_err r → OnErr r P → P
+on_err (Ok x) e h = absurd (cc)
+on_err (Err x) e h = h
 
 pub pushed_value : (known pending : Chars) (c : ℕ) → known_as ((known ++ pending) ++ c ∷ []) ≡ record { phase = run.Plain; known = known ++ (pending ++ c ∷ []); run = [] }
 pushed_value known pending c = ap known_as (append_assoc known pending (c ∷ []))

@@ -27,7 +27,7 @@ piece_on text more from to h k =
 pub piece_rest : (text : List ℕ) (from to : ℕ) → to ≡ length text → piece text from to ≡ drop from text
 piece_rest text from to h = take_all (to - from) (drop from text) (omega (arith, length-drop from text))
 
-drop_two : (n m : ℕ) (text : List ℕ) → drop m (drop n text) ≡ drop (n + m) text
+pub drop_two : (n m : ℕ) (text : List ℕ) → drop m (drop n text) ≡ drop (n + m) text
 drop_two n m text = grind (arith, common_steps)
 
 pub piece_then : (text : List ℕ) (from to : ℕ) → from ≤ to → drop from text ≡ piece text from to ++ drop to text
@@ -37,7 +37,7 @@ piece_then text from to h =
 
 pub row_on : (text more : List ℕ) (limit : ℕ) (row : AttributeSpan) → limit ≤ length text → RowFits text limit row → row_read (text ++ more) row ≡ row_read text row
 row_on text more limit row l f =
-    rw (piece_on text more row.start row.middle f.rises (omega (arith, f.on, f.within)), piece_on text more row.middle row.end f.on (omega (arith, f.within))) refl
+    rw (piece_on text more row.start row.middle f.rises (omega (arith, f.apart, f.on, f.within)), piece_on text more row.value row.end f.on (omega (arith, f.within))) refl
 
 pub rows_on : (text more : List ℕ) (limit : ℕ) (rows : List AttributeSpan) → limit ≤ length text → RowsFit text limit rows → rows_read (text ++ more) rows ≡ rows_read text rows
 rows_on text more limit [] l f = refl
@@ -46,10 +46,11 @@ rows_on text more limit (row ∷ rows) l f = rw (row_on text more limit row l f.
 pub row_fit_on : (text more : List ℕ) (limit past : ℕ) (row : AttributeSpan) → limit ≤ length text → limit ≤ past → RowFits text limit row → RowFits (text ++ more) past row
 row_fit_on text more limit past row l p f = record {
   rises = f.rises;
+  apart = f.apart;
   on = f.on;
   within = omega (arith, f.within);
-  name = rw (piece_on text more row.start row.middle f.rises (omega (arith, f.on, f.within))) f.name;
-  value = rw (piece_on text more row.middle row.end f.on (omega (arith, f.within))) f.value;
+  name = rw (piece_on text more row.start row.middle f.rises (omega (arith, f.apart, f.on, f.within))) f.name;
+  value = rw (piece_on text more row.value row.end f.on (omega (arith, f.within))) f.value;
 }
 
 pub rows_fit_on : (text more : List ℕ) (limit past : ℕ) (rows : List AttributeSpan) → limit ≤ length text → limit ≤ past → RowsFit text limit rows → RowsFit (text ++ more) past rows
@@ -60,17 +61,18 @@ rows_fit_on text more limit past (row ∷ rows) l p f = (row_fit_on text more li
 row_fit_off : (text more : List ℕ) (limit : ℕ) (row : AttributeSpan) → limit ≤ length text → RowFits (text ++ more) limit row → RowFits text limit row
 row_fit_off text more limit row l f = record {
   rises = f.rises;
+  apart = f.apart;
   on = f.on;
   within = f.within;
-  name = rw (piece_on text more row.start row.middle f.rises (omega (arith, f.on, f.within))) at f.name;
-  value = rw (piece_on text more row.middle row.end f.on (omega (arith, f.within))) at f.value;
+  name = rw (piece_on text more row.start row.middle f.rises (omega (arith, f.apart, f.on, f.within))) at f.name;
+  value = rw (piece_on text more row.value row.end f.on (omega (arith, f.within))) at f.value;
 }
 
 rows_fit_off : (text more : List ℕ) (limit : ℕ) (rows : List AttributeSpan) → limit ≤ length text → RowsFit (text ++ more) limit rows → RowsFit text limit rows
 rows_fit_off text more limit [] l f = tt
 rows_fit_off text more limit (row ∷ rows) l f = (row_fit_off text more limit row l f.0, rows_fit_off text more limit rows l f.1)
 
-nothing_past : (text : List ℕ) (n : ℕ) → n ≡ length text → IsUtf8 (drop n text) × (chars (drop n text) ≡ [])
+pub nothing_past : (text : List ℕ) (n : ℕ) → n ≡ length text → IsUtf8 (drop n text) × (chars (drop n text) ≡ [])
 nothing_past text n h = let e = drop_all n text h in (rw e IsUtf8-nil, rw e chars-nil)
 
 -- the value's front alone: the text is cut where the run begins
@@ -287,18 +289,18 @@ key_pushed_ascii text grown rows start middle end n more f a g h k p =
     let all = key_pushed_all text grown rows start middle end n more f (ascii-utf8 more a) g h k p in
     (all.0, all.1 ∙ ap (λ (x : List ℕ). key_on (read_as text rows start middle end) x) (ascii-chars more a))
 
-rows_fit_append : (text : List ℕ) (limit : ℕ) (rows : List AttributeSpan) (row : AttributeSpan) → RowsFit text limit rows → RowFits text limit row → RowsFit text limit (rows ++ row ∷ [])
+pub rows_fit_append : (text : List ℕ) (limit : ℕ) (rows : List AttributeSpan) (row : AttributeSpan) → RowsFit text limit rows → RowFits text limit row → RowsFit text limit (rows ++ row ∷ [])
 rows_fit_append text limit [] row f r = (r, tt)
 rows_fit_append text limit (first ∷ rows) row f r = (f.0, rows_fit_append text limit rows row f.1 r)
 
 rows_fit_past : (text : List ℕ) (limit past : ℕ) (rows : List AttributeSpan) → limit ≤ past → RowsFit text limit rows → RowsFit text past rows
 rows_fit_past text limit past [] p f = tt
 rows_fit_past text limit past (row ∷ rows) p f =
-    (record { rises = f.0.rises; on = f.0.on; within = omega (arith, f.0.within, p); name = f.0.name; value = f.0.value }, rows_fit_past text limit past rows p f.1)
+    (record { rises = f.0.rises; apart = f.0.apart; on = f.0.on; within = omega (arith, f.0.within, p); name = f.0.name; value = f.0.value }, rows_fit_past text limit past rows p f.1)
 
 -- an attribute is whole
 pub added : (text : List ℕ) (rows grown : List AttributeSpan) (start middle end n : ℕ) → Fits text rows start middle end
-    → grown ≡ rows ++ record { start = start; middle = middle; end = n } ∷ [] → n ≡ length text
+    → grown ≡ rows ++ record { start = start; middle = middle; value = middle; end = n } ∷ [] → n ≡ length text
     → Fits text grown n n n
     × (read_as text grown n n n ≡ record { whole = rows_read text rows ++ (chars (piece text start middle), chars (piece text middle end) ++ chars (drop end text)) ∷ []; key = []; known = []; pending = [] })
 added text rows grown start middle end n f g h =
@@ -307,10 +309,10 @@ added text rows grown start middle end n f g h =
     let past = nothing_past text n h in
     let z : n - n ≡ 0 = omega arith in
     let none : piece text n n ≡ [] = rw z refl in
-    let row : AttributeSpan = record { start = start; middle = middle; end = n } in
+    let row : AttributeSpan = record { start = start; middle = middle; value = middle; end = n } in
     rw g (
       record {
-        rows_fit = rows_fit_append text n rows row (rows_fit_past text start n rows (omega (arith, f.rises, f.on, f.within, h)) f.rows_fit) (record { rises = f.rises; on = omega (arith, f.on, f.within, h); within = omega arith; name = f.key; value = rw value m.0 });
+        rows_fit = rows_fit_append text n rows row (rows_fit_past text start n rows (omega (arith, f.rises, f.on, f.within, h)) f.rows_fit) (record { rises = f.rises; apart = omega arith; on = omega (arith, f.on, f.within, h); within = omega arith; name = f.key; value = rw value m.0 });
         rises = omega arith;
         on = omega arith;
         within = omega (arith, h);
@@ -356,7 +358,7 @@ row_at text limit rows i row other f h e = rw e (row_of text limit rows i other 
 
 -- an attribute is whole, and the next one's name begins
 pub key_added : (text grown : List ℕ) (rows more : List AttributeSpan) (start middle end n m c : ℕ) → Fits text rows start middle end → IsScalar c
-    → grown ≡ text ++ encode_utf8 c → more ≡ rows ++ record { start = start; middle = middle; end = n } ∷ [] → n ≡ length text → m ≡ length grown
+    → grown ≡ text ++ encode_utf8 c → more ≡ rows ++ record { start = start; middle = middle; value = middle; end = n } ∷ [] → n ≡ length text → m ≡ length grown
     → Fits grown more n m m
     × (read_as grown more n m m ≡ record { whole = rows_read text rows ++ (chars (piece text start middle), chars (piece text middle end) ++ chars (drop end text)) ∷ []; key = c ∷ []; known = []; pending = [] })
 key_added text grown rows more start middle end n m c f s g h k l =
@@ -382,7 +384,7 @@ cut_front old bytes n count most h l e =
 
 -- the rest of a name and a value of ASCII are pushed, and the attribute is whole
 pub whole_pushed : (text named grown : List ℕ) (rows more : List AttributeSpan) (start middle end m n : ℕ) (name value : List ℕ) → Fits text rows start middle end → list_all is_ascii name ≡ true → list_all is_ascii value ≡ true
-    → named ≡ text ++ name → m ≡ length named → grown ≡ named ++ value → n ≡ length grown → more ≡ rows ++ record { start = start; middle = m; end = n } ∷ []
+    → named ≡ text ++ name → m ≡ length named → grown ≡ named ++ value → n ≡ length grown → more ≡ rows ++ record { start = start; middle = m; value = m; end = n } ∷ []
     → chars (piece text middle end) ≡ [] → chars (drop end text) ≡ []
     → Fits grown more n n n
     × (read_as grown more n n n ≡ record { whole = rows_read text rows ++ (chars (piece text start middle) ++ name, value) ∷ []; key = []; known = []; pending = [] })

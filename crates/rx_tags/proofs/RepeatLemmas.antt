@@ -136,10 +136,10 @@ not_true b false e h = absurd (cc)
 
 -- the row at a place
 abbrev pub at : List AttributeSpan → ℕ → AttributeSpan
-at rows i = slice_index_or rows i (record { start = 0; middle = 0; end = 0 })
+at rows i = slice_index_or rows i (record { start = 0; middle = 0; value = 0; end = 0 })
 
 take_more : (rows : List AttributeSpan) (i : ℕ) → i < length rows → take (i + 1) rows ≡ take i rows ++ at rows i ∷ []
-take_more rows i h = let e : i + 1 ≡ suc i = omega arith in ap (λ n. take n rows) e ∙ take-suc rows i (record { start = 0; middle = 0; end = 0 }) h
+take_more rows i h = let e : i + 1 ≡ suc i = omega arith in ap (λ n. take n rows) e ∙ take-suc rows i (record { start = 0; middle = 0; value = 0; end = 0 }) h
 
 pub fit_at : (text : List ℕ) (limit : ℕ) (rows : List AttributeSpan) (i : ℕ) → RowsFit text limit rows → i < length rows → RowFits text limit (at rows i)
 fit_at text limit [] i f h = absurd (omega (arith, h))
@@ -159,7 +159,7 @@ pub kept_fit : (text : List ℕ) (limit : ℕ) (rows kept : List AttributeSpan) 
 kept_fit text limit rows kept i h f g = fit_more text limit kept (at rows i) g (fit_at text limit rows i f h)
 
 row_within : (text : List ℕ) (limit past : ℕ) (row : AttributeSpan) → limit ≤ past → RowFits text limit row → RowFits text past row
-row_within text limit past row h f = record { rises = f.rises; on = f.on; within = omega (arith, h, f.within); name = f.name; value = f.value }
+row_within text limit past row h f = record { rises = f.rises; apart = f.apart; on = f.on; within = omega (arith, h, f.within); name = f.name; value = f.value }
 
 pub rows_within : (text : List ℕ) (limit past : ℕ) (rows : List AttributeSpan) → limit ≤ past → RowsFit text limit rows → RowsFit text past rows
 rows_within text limit past [] h f = tt

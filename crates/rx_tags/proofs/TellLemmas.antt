@@ -1,5 +1,7 @@
 -- What the reader's answers tell of the characters so far, and they of the answers, by the grammar.
-use Rattle.std.proofs.Common.{◌≡◌, ◌∙◌, sym, ap, subst, refl, ℕ, true, false, List, [], ◌∷◌, ◌++◌, take, Result, Ok, Err, inl, inr}
+use Rattle.std.proofs.Common.{◌≡◌, ◌∙◌, sym, ap, subst, refl, ℕ, ◌+◌, true, false, List, [], ◌∷◌, ◌++◌, take, append_assoc, Result, Ok, Err, inl, inr}
+use Rattle.std.proofs.lemmas.List.{take_more}
+use Rattle.rx_terms.specs.Ascii.{greater_than_sign}
 use Rattle.rx_terms.specs.Text.{Chars}
 use Rattle.rx_chars.specs.declared.syntax.Syntax.{Syntax}
 use Rattle.rx_grammar.specs.declared.faults.Kind.{Kind}
@@ -17,7 +19,7 @@ use Rattle.rx_tags.specs.declared.tag_text.TagStep.TheVariants.{More, Done}
 use Rattle.rx_tags.specs.declared.pairs.TagError.{TagError}
 use Rattle.rx_tags.specs.declared.pairs.TagError.TheVariants.{Bad, NoMemory}
 use Rattle.rx_tags.specs.TagReads.{Ends}
-use Rattle.rx_tags.specs.TagBufs.{TagSoFar, TagStands, GoesOn, StepGives, TakesMore, StepTells, AnswersAll}
+use Rattle.rx_tags.specs.TagBufs.{TagSoFar, TagStands, GoesOn, StepGives, TakesMore, TakesWhole, StepTells, AnswersAll}
 use Rattle.rx_tags.proofs.TakeLemmas.{goes_read, may_step}
 
 on : (s : Syntax) (st : TagState) (chars : Chars) (c : ℕ) (r : Result TagState Kind) → tag_on s (meaning s) (Ok fresh) chars ≡ Ok st → tag_step s (meaning s) st c ≡ r
@@ -61,6 +63,15 @@ front_tells old new bytes n t chars h =
       begins = begins_from s all (record { reached = new.state; run = run; unfinished = open_yet });
       unspelled = no_tag_yet s new.state all run open_yet;
     })
+
+-- a tag that stands whole is the one that is spelled
+pub whole_tells : (old new : TagSoFar) (bytes : List ℕ) (n : ℕ) → TakesWhole old bytes n new → (chars : Chars) → TagStands old chars → SpellsTag new.syntax (chars ++ take n bytes) (parts_of new.state)
+whole_tells old new bytes n t chars h =
+    let front = front_tells old t.before bytes t.at t.front chars h in
+    let closes = t.closes in
+    let last : take (t.at + 1) bytes ≡ take t.at bytes ++ greater_than_sign ∷ [] = take_more bytes t.at 0 closes.fits ∙ ap (λ c. take t.at bytes ++ c ∷ []) closes.closes in
+    let all : chars ++ take n bytes ≡ (chars ++ take t.at bytes) ++ greater_than_sign ∷ [] = ap (λ k. chars ++ take k bytes) t.count ∙ ap (λ x. chars ++ x) last ∙ sym (append_assoc chars (take t.at bytes) (greater_than_sign ∷ [])) in
+    subst (λ (x : Chars). SpellsTag new.syntax x (parts_of new.state)) (sym all) (tells t.before new greater_than_sign (Ok Done) t.ends (chars ++ take t.at bytes) front.stands)
 
 -- the characters are read to here, to a tag's end, or not at all
 module _ (s : Syntax) (chars : Chars) where

@@ -16,7 +16,7 @@ use Rattle.rx_tags.proofs.OnLemmas.{skips, ends}
 use Rattle.rx_tags.proofs.TakeLemmas.{chosen, on_key, keyed, valued, key_front, value_front, takes_one, takes_then}
 
 -- one character more, known by its place
-taken_at : (s : Syntax) (a b c : TagState) (bytes : List ℕ) (i d : ℕ) → i < length bytes → get_or bytes i 0 ≡ d → TakesFront s a bytes i b → is_printed d ≡ true → GoesTo s b d c → TakesFront s a bytes (i + 1) c
+pub taken_at : (s : Syntax) (a b c : TagState) (bytes : List ℕ) (i d : ℕ) → i < length bytes → get_or bytes i 0 ≡ d → TakesFront s a bytes i b → is_printed d ≡ true → GoesTo s b d c → TakesFront s a bytes (i + 1) c
 taken_at s a b c bytes i d k e f p g =
     takes_one s a b c bytes i k f (subst (λ (x : ℕ). is_printed x ≡ true) (sym e) p) (subst (λ (x : ℕ). GoesTo s b x c) (sym e) g)
 

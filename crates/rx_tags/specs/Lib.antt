@@ -4,6 +4,7 @@ pub mod ValueMoves
 pub mod Pairs
 pub mod TagReads
 pub mod Fronts
+pub mod Lists
 pub mod Lanes
 pub mod Seen
 pub mod Repeats

@@ -30,7 +30,7 @@ piece text from to = take (to - from) (drop from text)
 
 -- the name and the value that a row marks
 abbrev pub row_read : List ℕ → AttributeSpan → Attribute
-row_read text row = (chars (piece text row.start row.middle), chars (piece text row.middle row.end))
+row_read text row = (chars (piece text row.start row.middle), chars (piece text row.value row.end))
 
 abbrev pub rows_read : List ℕ → List AttributeSpan → List Attribute
 rows_read text rows = map (row_read text) rows
@@ -42,10 +42,11 @@ read_as text rows start middle end =
 -- a row ends before a place, and marks text
 pub record RowFits (text : List ℕ) (limit : ℕ) (row : AttributeSpan) : Type 0 where
   pub rises : row.start ≤ row.middle
-  pub on : row.middle ≤ row.end
+  pub apart : row.middle ≤ row.value
+  pub on : row.value ≤ row.end
   pub within : row.end ≤ limit
   pub name : IsUtf8 (piece text row.start row.middle)
-  pub value : IsUtf8 (piece text row.middle row.end)
+  pub value : IsUtf8 (piece text row.value row.end)
 
 abbrev pub RowsFit : List ℕ → ℕ → List AttributeSpan → Type 0
 RowsFit text limit [] = Unit {0}

@@ -1,5 +1,5 @@
 -- The names of a tag's attributes, as a sorted set of texts has them.
-use Rattle.std.specs.Prelude.{◌≡◌, ◌+◌, ◌*◌, ◌%◌, ℕ, Bool, true, List, [], ◌∷◌, length}
+use Rattle.std.specs.Prelude.{◌≡◌, ◌+◌, ◌*◌, ◌%◌, ℕ, Bool, true, List, [], ◌∷◌, length, get_or}
 use Rattle.std.specs.BTreeSet.{BTreeSet, contains_by}
 use Rattle.std.specs.Cmp.Lexicographic.{slice_cmp}
 use Rattle.std.specs.List.{list_any}
@@ -18,10 +18,11 @@ has_text names text = contains_by (λ name. slice_cmp nat_cmp text name.now) nam
 abbrev pub is_named : List ℕ → List AttributeSpan → List ℕ → Bool
 is_named text rows name = list_any (λ row. same (piece text row.start row.middle) name) rows
 
--- a name's mark, by its first byte and its length: most names of a tag have different ones
+-- a name's mark, by its first byte, its last one and its length: most names of a tag have different ones
 abbrev pub mark_of : List ℕ → ℕ
 mark_of [] = 0
-mark_of (first ∷ rest) = (first * 5 + length (first ∷ rest) % 64) % 64
+mark_of (only ∷ []) = 0
+mark_of (first ∷ next ∷ rest) = (first * 42 + get_or (next ∷ rest) (length rest) 0 * 39 + length (first ∷ next ∷ rest) % 64) % 64
 
 -- a name stands twice in the rows, and these are the first ones of each name
 pub record KeepsFirsts (text : List ℕ) (rows kept : List AttributeSpan) : Type 0 where

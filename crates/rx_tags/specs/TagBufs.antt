@@ -1,5 +1,6 @@
 -- One tag while it is read: what contracts see, and what each answer tells of the characters so far.
-use Rattle.std.specs.Prelude.{◌≡◌, ◌⊎◌, ℕ, Bool, true, false, List, Result, Ok, Err}
+use Rattle.std.specs.Prelude.{◌≡◌, ◌+◌, ◌<◌, ◌⊎◌, ℕ, Bool, true, false, List, Result, Ok, Err}
+use Rattle.rx_terms.specs.Ascii.{greater_than_sign}
 use Rattle.rx_terms.specs.Text.{Chars}
 use Rattle.rx_chars.specs.declared.syntax.Syntax.{Syntax}
 use Rattle.rx_grammar.specs.declared.faults.Kind.{Kind}
@@ -15,6 +16,7 @@ use Rattle.rx_tags.specs.declared.pairs.TagError.{TagError}
 use Rattle.rx_tags.specs.declared.pairs.TagError.TheVariants.{Bad, NoMemory}
 use Rattle.rx_tags.specs.TagReads.{TagRead, ReadGives}
 use Rattle.rx_tags.specs.Fronts.{TakesFront}
+use Rattle.rx_tags.specs.Lists.{ClosesAt}
 
 -- A tag so far. `refused` says that a fault was answered since the buffer was made or cleared.
 pub record TagSoFar : Type 0 where
@@ -45,6 +47,16 @@ StepGives old c (Err NoMemory) new = new ≡ old
 pub record TakesMore (old : TagSoFar) (bytes : List ℕ) (n : ℕ) (new : TagSoFar) : Type 0 where
   pub front : TakesFront old.syntax old.state bytes n new.state
   pub is : new ≡ record { syntax = old.syntax; state = new.state; refused = old.refused }
+
+-- A tag stands whole at the front in n bytes: it goes on with those before its `>`, by which it is whole.
+pub record TakesWhole (old : TagSoFar) (bytes : List ℕ) (n : ℕ) (new : TagSoFar) : Type 0 where
+  pub at : ℕ
+  pub count : n ≡ at + 1
+  pub some : 0 < at
+  pub closes : ClosesAt bytes at
+  pub before : TagSoFar
+  pub front : TakesMore old bytes at before
+  pub ends : StepGives before greater_than_sign (Ok Done) new
 
 -- These are the characters since the buffer was made or cleared, and no fault was answered.
 pub record TagStands (tag : TagSoFar) (chars : Chars) : Type 0 where

@@ -6,13 +6,15 @@ ghost use Rattle.rx_terms.specs.Ascii.{is_ascii};
 ghost use Rattle.rx_grammar.specs.Tags.{firsts, has_repeat};
 ghost use Rattle.rx_tags.specs.Reading.{all_read, begun_behind};
 
+use crate::lists::list_rows;
 use crate::repeats::{are_apart, unrepeated};
 use crate::texts::{push_char, push_front, text_between};
 use rx_terms::NoMemory;
 use std::alloc::Global;
 use std::marker::Model;
 
-/// Where an attribute stands in the buffer: its name from `start` to `middle`, its value from there to `end`.
+/// Where an attribute stands in the buffer: its name from `start` to `middle`, its value from `value` to `end`. Between them
+/// stands nothing, or the `="` of an attribute that was copied as it is written.
 #[derive(Clone, Copy, Drop)]
 pub(crate) struct AttributeSpan {
     // The fields stand so that `start` and `middle`, which were written apart shortly before a row is made of them, aren't
@@ -20,6 +22,7 @@ pub(crate) struct AttributeSpan {
     pub(crate) start: usize,
     pub(crate) end: usize,
     pub(crate) middle: usize,
+    pub(crate) value: usize,
 }
 
 /// Names and values one after another in one buffer: those of the attributes that are whole, and of the one that is read.
@@ -163,6 +166,7 @@ impl Attributes {
         let row = AttributeSpan {
             start: self.start,
             middle: self.middle,
+            value: self.middle,
             end,
         };
         if self.rows.push(row).is_err() {
@@ -203,6 +207,7 @@ impl Attributes {
         let row = AttributeSpan {
             start: self.start,
             middle,
+            value: middle,
             end,
         };
         if self.rows.push(row).is_err() {
@@ -225,6 +230,7 @@ impl Attributes {
         let row = AttributeSpan {
             start: self.start,
             middle: self.middle,
+            value: self.middle,
             end,
         };
         if self.rows.push(row).is_err() {
@@ -259,8 +265,52 @@ impl Attributes {
         let row = self.rows[i];
         (
             text_between(&self.text, row.start, row.middle),
-            text_between(&self.text, row.middle, row.end),
+            text_between(&self.text, row.value, row.end),
         )
+    }
+}
+
+impl Attributes {
+    ghost use Rattle.rx_reader.specs.declared.phases.TagPhase.TheVariants as phase;
+    ghost use Rattle.rx_tags.specs.Lists.{ClosesAt, ListsTo};
+    ghost use Rattle.rx_tags.specs.Reading.{nothing_read};
+
+    /// Whether surely nothing was read.
+    #[inline(always)]
+    pub(crate) fn are_none(&self) -> bool
+        ensures { result ≡ true → self.now ≡ nothing_read }
+    {
+        self.text.is_empty() && self.rows.is_empty()
+    }
+
+    /// Takes the attributes that stand whole at the front, a space apart, where a tag's `>` stands behind the last one and
+    /// there is memory, and tells the place of the `>`; else 0. They are copied as they are written.
+    #[inline(always)]
+    pub(crate) fn take_list(&mut self, bytes: &[u8]) -> usize
+        requires { self.old ≡ nothing_read }
+        ensures none { result ≡ 0 → self.new ≡ self.old }
+        ensures closes { 0 < result → ClosesAt bytes.now result }
+        ensures lists { 0 < result → ListsTo phase.AfterValue bytes.now result self.new.whole }
+        ensures is { 0 < result → self.new ≡ begun_behind self.new.whole [] }
+    {
+        self.text.clear();
+        self.rows.clear();
+        self.start = 0;
+        self.middle = 0;
+        self.end = 0;
+        let end = list_rows(&mut self.rows, bytes);
+        if end == 0 {
+            self.rows.clear();
+            return 0;
+        }
+        if push_front(&mut self.text, bytes, end).is_err() {
+            self.rows.clear();
+            return 0;
+        }
+        self.start = end;
+        self.middle = end;
+        self.end = end;
+        end
     }
 }
 
@@ -298,6 +348,7 @@ impl Attributes {
         let row = AttributeSpan {
             start: self.start,
             middle: self.middle,
+            value: self.middle,
             end,
         };
         if self.rows.push(row).is_err() {

@@ -3,12 +3,14 @@
 //! [`TagBuf::step`] answers `Done` exactly where the characters after a tag's `<` spell a tag, which is the one that is
 //! lent; `More` exactly where they begin one in which no fault stands, and spell none; and `Bad` exactly where the last of
 //! them decides the tag's fault, with its kind, in HTML and in XHTML. Only want of memory is free: it leaves the tag as it
-//! was. [`TagBuf::take_front`] takes many bytes at once, as by so many steps that answer `More`. A whole [`Tag`] lends its name, and the names and values of its attributes, from the buffer in which they were
-//! decoded, and the buffer keeps its memory from tag to tag.
+//! was. [`TagBuf::take_front`] takes many bytes at once, as by so many steps that answer `More`, and [`TagBuf::take_whole`] a tag
+//! that stands whole, as by so many steps of which the last answers `Done`. A whole [`Tag`] lends its name, and the names and
+//! values of its attributes, from the buffer in which they were decoded, and the buffer keeps its memory from tag to tag.
 #![tactic(auto)]
 
 mod attributes;
 mod fronts;
+mod lists;
 mod moves;
 mod pairs;
 mod references;

@@ -206,6 +206,62 @@ impl Pairs {
 }
 
 impl Pairs {
+    ghost use Rattle.std.specs.Prelude.{◌<◌, true, length};
+    ghost use Rattle.rx_tags.specs.Lists.{TakesBehind, TakesList};
+    ghost use Rattle.rx_tags.specs.Pairs.{no_pairs};
+
+    /// Whether surely nothing was read.
+    #[inline(always)]
+    pub(crate) fn are_none(&self) -> bool
+        ensures { result ≡ true → self.now ≡ no_pairs }
+    {
+        self.attributes.are_none()
+    }
+
+    // Takes the attributes that stand whole at the front, a space apart, where a tag's `>` stands behind the last one, surely
+    // no name stands twice and there is memory, and tells the place of the `>`; else 0.
+    #[inline(always)]
+    fn take_list(&mut self, bytes: &[u8]) -> usize
+        requires { self.old ≡ no_pairs }
+        ensures none { result ≡ 0 → self.new ≡ self.old }
+        ensures takes { 0 < result → TakesList bytes.now result self.new }
+    {
+        let end = self.attributes.take_list(bytes);
+        if end == 0 {
+            return 0;
+        }
+        if !self.attributes.are_apart() {
+            self.attributes.clear();
+            return 0;
+        }
+        end
+    }
+
+    /// Takes what stands behind a tag's name of so many bytes: nothing, or a list of attributes. Tells the place of the `>`
+    /// behind it, or 0 where something else stands there.
+    #[inline(always)]
+    pub(crate) fn take_behind(&mut self, bytes: &[u8], count: usize) -> usize
+        requires none { self.old ≡ no_pairs }
+        requires some { 0 < count }
+        requires fits { count < length bytes.now }
+        ensures none { result ≡ 0 → self.new ≡ self.old }
+        ensures takes { 0 < result → TakesBehind bytes.now count result self.new }
+    {
+        if bytes[count] == b'>' {
+            return count;
+        }
+        if bytes[count] != b' ' {
+            return 0;
+        }
+        let end = self.take_list(&bytes[count + 1..]);
+        if end == 0 {
+            return 0;
+        }
+        count + 1 + end
+    }
+}
+
+impl Pairs {
     ghost use Rattle.std.specs.Prelude.{IfOk, true, false};
     ghost use Rattle.rx_grammar.specs.Tags.{firsts, has_repeat};
     ghost use Rattle.rx_tags.specs.Pairs.{AddLastGives};

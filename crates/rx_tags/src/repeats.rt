@@ -56,9 +56,11 @@ fn mark_of(name: &str) -> usize
     ensures mark { result ≡ mark_of name.now }
     ensures fits { result < MARKS }
 {
-    match name.as_bytes().first() {
-        Some(first) => (usize::from(*first) * 5 + name.len() % MARKS) % MARKS,
-        None => 0,
+    match name.as_bytes() {
+        [first, .., last] => {
+            (usize::from(*first) * 42 + usize::from(*last) * 39 + name.len() % MARKS) % MARKS
+        }
+        _ => 0,
     }
 }
 

@@ -1,10 +1,11 @@
 //! One tag that is read a character at a time.
-ghost use Rattle.std.specs.Prelude.{◌≡◌, true, [], ◌∷◌, ◌++◌, IfOk, take};
+ghost use Rattle.std.specs.Prelude.{◌≡◌, ◌<◌, true, [], ◌∷◌, ◌++◌, IfOk, take};
 ghost use Rattle.rx_terms.specs.Text.{Chars};
+ghost use Rattle.rx_grammar.specs.Tags.{SpellsTag};
 ghost use Rattle.rx_reader.specs.Tables.{is_last};
 ghost use Rattle.rx_reader.specs.TagReader.{parts_of};
 ghost use Rattle.rx_tags.specs.Seen.{tag_seen};
-ghost use Rattle.rx_tags.specs.TagBufs.{no_tag, MayStep, StepGives, TakesMore, TagStands, GoesOn, StepTells, AnswersAll};
+ghost use Rattle.rx_tags.specs.TagBufs.{no_tag, MayStep, StepGives, TakesMore, TakesWhole, TagStands, GoesOn, StepTells, AnswersAll};
 
 use crate::pairs::TagError;
 use crate::tag_text::{TagStep, TagText};
@@ -106,6 +107,28 @@ impl TagBuf {
         ensures { TakesMore self.old bytes.now result self.new }
     {
         self.text.take_front(bytes)
+    }
+
+    /// Takes a tag that stands whole at the front with its `>`, in its usual form: small letters, or `/` and small letters, and
+    /// behind the former attributes with different names in small letters, a space apart, their values in `"` without a
+    /// reference and in printed ASCII. They are read as by so many steps, of which the last one answers `Done`, and how many
+    /// they are is told. Where the tag has another form, a character of it was read before, or there is no memory, 0 is told,
+    /// and nothing is changed.
+    #[inline(always)]
+    pub fn take_whole(&mut self, bytes: &[u8]) -> usize
+        ensures none { result ≡ 0 → self.new ≡ self.old }
+        ensures takes { 0 < result → TakesWhole self.old bytes.now result self.new }
+        ensures tells { 0 < result → (chars : Chars) → TagStands self.old chars → SpellsTag self.new.syntax (chars ++ take result bytes.now) (parts_of self.new.state) }
+    {
+        self.read_whole(bytes)
+    }
+
+    #[inline(always)]
+    fn read_whole(&mut self, bytes: &[u8]) -> usize
+        ensures none { result ≡ 0 → self.new ≡ self.old }
+        ensures takes { 0 < result → TakesWhole self.old bytes.now result self.new }
+    {
+        self.text.take_tag(bytes)
     }
 
     /// The tag that was read, with the byte offsets of its `<` and its `>`.

@@ -1,7 +1,8 @@
 //! The name of one tag while it is read.
-ghost use Rattle.std.specs.Prelude.{◌≡◌, ◌≤◌, ◌==◌, [], ◌∷◌, ◌++◌, MatchBool, OnErr, OnOk, length, take};
+ghost use Rattle.std.specs.Prelude.{◌≡◌, ◌≤◌, ◌==◌, [], ◌∷◌, ◌++◌, MatchBool, OnErr, OnOk, length, take, true};
+ghost use Rattle.std.specs.List.{list_all};
 ghost use Rattle.std.specs.Str.{chars};
-ghost use Rattle.rx_tags.specs.Fronts.{GainsName};
+ghost use Rattle.rx_tags.specs.Fronts.{GainsName, is_small};
 
 use crate::fronts::small_length;
 use crate::texts::{push_char, push_front};
@@ -51,6 +52,18 @@ impl TagName {
         Ok(())
     }
 
+    /// So many small letters at the front.
+    #[inline(always)]
+    pub(crate) fn put(&mut self, bytes: &[u8], count: usize) -> Result<(), NoMemory>
+        requires fits { count ≤ length bytes.now }
+        requires small { list_all is_small (take count bytes.now) ≡ true }
+        ensures ok { OnOk result (GainsName self.old (take count bytes.now) self.new) }
+        ensures err { OnErr result (self.new ≡ self.old) }
+    {
+        push_front(&mut self.text, bytes, count)?;
+        Ok(())
+    }
+
     /// Takes the small letters at the front, where there is memory, and tells how many.
     #[inline(always)]
     pub(crate) fn take_small(&mut self, bytes: &[u8]) -> usize
@@ -61,7 +74,7 @@ impl TagName {
         if count == 0 {
             return 0;
         }
-        if push_front(&mut self.text, bytes, count).is_err() {
+        if self.put(bytes, count).is_err() {
             return 0;
         }
         count

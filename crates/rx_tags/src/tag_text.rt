@@ -6,7 +6,8 @@ ghost use Rattle.rx_reader.specs.Values.{no_value_yet};
 ghost use Rattle.rx_tags.specs.TagReads.{ActGives, CanEnd, EndGives};
 
 use crate::fronts::{
-    closed, ends_value, is_naming, is_printed, is_quoted, named, opens_key, skip, whole_lengths,
+    closed, ends_value, is_naming, is_printed, is_quoted, named, opens_key, skip, small_length,
+    whole_lengths,
 };
 use crate::moves::{is_last, move_at};
 use crate::pairs::{Pairs, TagError};
@@ -381,6 +382,90 @@ impl TagText {
             Ok(()) => true,
             Err(_) => false,
         }
+    }
+}
+
+impl TagText {
+    ghost use Rattle.std.specs.Prelude.{◌<◌, get_or};
+    ghost use Rattle.rx_terms.specs.Ascii.{solidus};
+    ghost use Rattle.rx_tags.specs.Lists.{IsBegun, TakesTag};
+
+    /// Takes a tag that stands whole at the front in its usual form, where nothing was read before and there is memory, and
+    /// tells how many bytes it has. Else 0 is told, and the tag is as it was.
+    #[inline(always)]
+    pub(crate) fn take_tag(&mut self, bytes: &[u8]) -> usize
+        ensures none { result ≡ 0 → self.new ≡ self.old }
+        ensures takes { 0 < result → TakesTag self.old bytes.now result self.new.state }
+        ensures syntax { self.new.syntax ≡ self.old.syntax }
+    {
+        if self.phase != TagPhase::Start {
+            return 0;
+        }
+        if !self.pairs.are_none() {
+            return 0;
+        }
+        if bytes.is_empty() {
+            return 0;
+        }
+        if bytes[0] == b'/' {
+            return self.take_end_tag(bytes);
+        }
+        self.take_start_tag(bytes)
+    }
+
+    // An end tag that stands whole: `/`, small letters and `>`.
+    #[inline(always)]
+    fn take_end_tag(&mut self, bytes: &[u8]) -> usize
+        requires begun { IsBegun self.old.state }
+        requires some { 0 < length bytes.now }
+        requires first { get_or bytes.now 0 0 ≡ solidus }
+        ensures none { result ≡ 0 → self.new ≡ self.old }
+        ensures takes { 0 < result → TakesTag self.old bytes.now result self.new.state }
+        ensures syntax { self.new.syntax ≡ self.old.syntax }
+    {
+        let letters = &bytes[1..];
+        let count = small_length(letters);
+        if count == 0 {
+            return 0;
+        }
+        if count == letters.len() {
+            return 0;
+        }
+        if letters[count] != b'>' {
+            return 0;
+        }
+        if self.name.put(letters, count).is_err() {
+            return 0;
+        }
+        self.phase = TagPhase::Closed;
+        count + 2
+    }
+
+    // A start tag that stands whole: small letters, a list of attributes or none, and `>`.
+    #[inline(always)]
+    fn take_start_tag(&mut self, bytes: &[u8]) -> usize
+        requires begun { IsBegun self.old.state }
+        ensures none { result ≡ 0 → self.new ≡ self.old }
+        ensures takes { 0 < result → TakesTag self.old bytes.now result self.new.state }
+        ensures syntax { self.new.syntax ≡ self.old.syntax }
+    {
+        let count = small_length(bytes);
+        if count == 0 {
+            return 0;
+        }
+        if count == bytes.len() {
+            return 0;
+        }
+        let end = self.pairs.take_behind(bytes, count);
+        if end == 0 {
+            return 0;
+        }
+        if self.name.put(bytes, count).is_err() {
+            self.pairs.clear();
+            return 0;
+        }
+        self.phase = TagPhase::Opened;
+        end + 1
     }
 }
 

@@ -6,7 +6,7 @@ pub text_between-name-requires-clause-rises : goal.text_between-name-requires-cl
 text_between-name-requires-clause-rises c = let f = fit_at _ _ c.args.rows.now c.loop-i.i c.requires c.loop-i-test.true in f.rises
 
 pub text_between-name-requires-clause-within : goal.text_between-name-requires-clause-within
-text_between-name-requires-clause-within c = let f = fit_at _ _ c.args.rows.now c.loop-i.i c.requires c.loop-i-test.true in omega (arith, f.on, f.within)
+text_between-name-requires-clause-within c = let f = fit_at _ _ c.args.rows.now c.loop-i.i c.requires c.loop-i-test.true in omega (arith, f.apart, f.on, f.within)
 
 pub text_between-name-requires-clause-utf8 : goal.text_between-name-requires-clause-utf8
 text_between-name-requires-clause-utf8 c = let f = fit_at _ _ c.args.rows.now c.loop-i.i c.requires c.loop-i-test.true in f.name

@@ -15,7 +15,7 @@ pub text_between-requires-clause-rises : goal.text_between-requires-clause-rises
 text_between-requires-clause-rises c = let d = (goal.at.text_between-requires-clause-rises c).After-deref in let r = (row_is d).0 in r.rises
 
 pub text_between-requires-clause-within : goal.text_between-requires-clause-within
-text_between-requires-clause-within c = let d = (goal.at.text_between-requires-clause-within c).After-deref in let r = (row_is d).0 in omega (arith, r.on, r.within, d.self.invariant.rises, d.self.invariant.on, d.self.invariant.within, ap length d.deref.ensures.value)
+text_between-requires-clause-within c = let d = (goal.at.text_between-requires-clause-within c).After-deref in let r = (row_is d).0 in omega (arith, r.apart, r.on, r.within, d.self.invariant.rises, d.self.invariant.on, d.self.invariant.within, ap length d.deref.ensures.value)
 
 pub text_between-requires-clause-utf8 : goal.text_between-requires-clause-utf8
 text_between-requires-clause-utf8 c = let d = (goal.at.text_between-requires-clause-utf8 c).After-deref in let r = (row_is d).0 in rw d.deref.ensures.value r.name
