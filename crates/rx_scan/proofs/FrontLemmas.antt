@@ -14,6 +14,7 @@ use Rattle.rx_scan.specs.Fronts.{TellsFront}
 use Rattle.rx_scan.specs.Openings.{TakesFront, of_text, of_tag, of_opening, in_tag}
 use Rattle.rx_scan.specs.Places.{said}
 use Rattle.rx_scan.specs.Plain.{is_plain}
+use Rattle.rx_scan.specs.Pending.{Pending}
 use Rattle.rx_scan.specs.Scanner.{Reading}
 use Rattle.rx_scan.specs.Steps.{ReadsAs}
 use Rattle.rx_scan.proofs.ByteLemmas.{match_by}
@@ -21,40 +22,14 @@ use Rattle.rx_scan.proofs.FeedLemmas.{feed_on, feeds_steps}
 use Rattle.rx_scan.proofs.OpenLemmas.{open_on}
 use Rattle.rx_scan.proofs.PlainLemmas.{chars_plain}
 use Rattle.rx_scan.proofs.RunLemmas.{ReadsOn, reads_none}
-use Rattle.rx_scan.proofs.SaidLemmas.{TellsChars, chars_on}
+use Rattle.rx_scan.proofs.WholeTexts.{text_on, text_pending, text_between}
 
 pub some_count : (n : ℕ) → (n ≡ 0 → ⊥) → 0 < n
 some_count n z = elim (cases_lt 0 n) [ inl a ↦ a | inr b ↦ absurd (z (omega (arith, b))) ]
 
--- text that is told at once is its characters
-tells_chars : (l new : Reading) (front cs : List ℕ) → all_scalars cs ≡ true → encode_utf8_all cs ≡ front → TellsFront l front new → TellsChars l cs new
-tells_chars l new front cs k e t =
-    record {
-      between = t.may.between;
-      held = t.may.may.held;
-      inside = t.may.may.inside;
-      undropped = t.may.may.undropped;
-      started = t.may.may.started;
-      on_a_line = t.may.may.on_a_line;
-      plain = chars_plain cs (ap (list_all is_plain) e ∙ t.may.plain);
-      scalars = k;
-      page = subst (λ (x : List ℕ). l.place.at + length x ≤ l.setting.limits.page) (sym e) t.may.page;
-      text = t.text ∙ ap (λ x. l.text.text ++ x) (sym (chars_from_encodes cs front t.may.text e));
-      size = t.size ∙ ap (λ x. l.text.size + length x) (sym e);
-      room = t.room;
-      is = subst (λ (x : List ℕ). new ≡ entries.with_parts l (entries.undropped l.setting) (said (length x) l.place) l.pending new.text) (sym e) t.is;
-    }
-
 module _ (old new : Reading) (s : reader.Scanning) where
-  text_on : (front : List ℕ) (l : Reading) (bytes : List ℕ) → 0 < length front → ReadsOn old s bytes l → TellsFront l front new → ReadsOn old s (bytes ++ front) new
-  text_on front l bytes k r t = let u = t.may.text in by u.0 u.1.0 u.1.1
-    where
-      by : (cs : List ℕ) → all_scalars cs ≡ true → encode_utf8_all cs ≡ front → ReadsOn old s (bytes ++ front) new
-      by [] q e = absurd (omega (arith, ap length e))
-      by (c ∷ cs) q e = subst (λ (x : List ℕ). ReadsOn old s (bytes ++ x) new) e (chars_on old s new cs c l bytes r (tells_chars l new front (c ∷ cs) q e t))
-
   some_front : (front : List ℕ) (l : Reading) (bytes : List ℕ) → 0 < length front → ReadsOn old s bytes l → TakesFront l front new → ReadsOn old s (bytes ++ front) new
-  some_front front l bytes k r (of_text t) = text_on front l bytes k r t
+  some_front front l bytes k r (of_text t) = text_on old s l bytes r front new t
   some_front [] l bytes k r (of_tag t) = absurd (omega arith)
   some_front (b ∷ front) l bytes k r (of_tag t) = feed_on old new s b front l bytes r t
   some_front [] l bytes k r (of_opening t) = absurd (omega arith)
@@ -90,9 +65,9 @@ kept l new front n m =
   where
     by : (n == 0) ≡ false → TakesFront l front new → IsKept l n new
     by z (of_text t) = record {
-      between = λ m. ap (λ (x : Reading). x.pending.mark) t.is ∙ m;
-      steps = λ k. subst (λ (x : Reading). MayStep x.pending.tag) (sym t.is) k;
-      apart = inr t.may.between;
+      between = λ m. ap (λ (x : Pending). x.mark) (text_pending l front new t) ∙ m;
+      steps = λ k. subst (λ (x : Pending). MayStep x.tag) (sym (text_pending l front new t)) k;
+      apart = inr (text_between l front new t);
       none = λ q. absurd (eqb-false n 0 z q);
     }
     by z (of_tag t) = record {

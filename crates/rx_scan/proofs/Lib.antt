@@ -16,7 +16,10 @@ pub mod QuietLemmas
 pub mod FeedLemmas
 pub mod OpenLemmas
 pub mod PlainLemmas
+pub mod WideLemmas
 pub mod SaidLemmas
+pub mod ReferenceLemmas
+pub mod WholeTexts
 pub mod FrontLemmas
 pub mod LoopLemmas
 pub mod SpelledLemmas

@@ -43,7 +43,7 @@ pub ascii_text : (xs : List ℕ) → list_all is_plain_ascii xs ≡ true → IsU
 ascii_text xs h = ascii-utf8 xs (weaker is_plain_ascii is_ascii one_ascii xs h)
 
 -- no character above ASCII is a stop
-high_plain : (c : ℕ) → 128 ≤ c → is_plain c ≡ true
+pub high_plain : (c : ℕ) → 128 ≤ c → is_plain c ≡ true
 high_plain c h = grind (arith, nat_tests)
 
 char_plain : (c : ℕ) → list_all is_plain (encode_utf8 c) ≡ true → is_plain c ≡ true

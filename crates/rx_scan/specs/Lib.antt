@@ -1,10 +1,12 @@
 pub mod Buffers
 pub mod Places
 pub mod Plain
+pub mod WideChars
 pub mod Scanner
 pub mod Bytes
 pub mod Entries
 pub mod Fronts
+pub mod WholeReferences
 pub mod Openings
 pub mod Steps
 pub mod Spelled

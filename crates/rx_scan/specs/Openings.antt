@@ -1,11 +1,12 @@
--- What may be taken at once: plain text, characters of a tag, and those with which a tag begins behind its `<`.
+-- What may be taken at once: text, characters of a tag, and those with which a tag begins behind its `<`.
 use Rattle.std.specs.Prelude.{◌≡◌, ℕ, List, [], ◌∷◌}
 use Rattle.rx_scan.specs.declared.marks.TokenState.TheVariants as mark
 use Rattle.rx_scan.specs.declared.places.Setting.{Setting}
 use Rattle.rx_scan.specs.Bytes.{IsOfTag}
 use Rattle.rx_scan.specs.Entries.{marked}
-use Rattle.rx_scan.specs.Fronts.{TellsFront, FeedsFront}
+use Rattle.rx_scan.specs.Fronts.{FeedsFront}
 use Rattle.rx_scan.specs.Scanner.{Reading}
+use Rattle.rx_scan.specs.WholeReferences.{TellsText}
 
 -- the first byte surely begins a tag
 abbrev pub OpensTag : Setting → List ℕ → Type 0
@@ -24,6 +25,6 @@ pub record OpensFront (old : Reading) (front : List ℕ) (new : Reading) : Type 
 
 -- They are taken: they are told, the tag goes on with them, or it begins with them.
 pub data TakesFront (old : Reading) (front : List ℕ) (new : Reading) : Type 0 where
-  of_text : TellsFront old front new → TakesFront old front new
+  of_text : TellsText old front new → TakesFront old front new
   of_tag : FeedsFront old front new → TakesFront old front new
   of_opening : OpensFront old front new → TakesFront old front new

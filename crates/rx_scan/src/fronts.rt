@@ -3,6 +3,7 @@ ghost use Rattle.std.specs.Prelude.{◌≡◌, ◌+◌, ◌<◌, ◌≤◌, ◌^
 ghost use Rattle.rx_tags.specs.TagBufs.{MayStep};
 ghost use Rattle.rx_scan.specs.Fronts.{FeedsFront, IsFront, TellsFront, TellsPlain, has_text};
 ghost use Rattle.rx_scan.specs.Openings.{OpensFront, OpensTag, TakesFront};
+ghost use Rattle.rx_scan.specs.WholeReferences.{TellsText};
 ghost use Rattle.rx_scan.specs.declared.places.Setting.{Setting};
 
 use crate::bytes::is_of_tag;
@@ -125,8 +126,8 @@ impl Reader {
         count
     }
 
-    // How many bytes of text have room, and aren't past the page's limit.
-    fn front_limit(&self, length: usize) -> usize
+    /// How many bytes of text have room, and aren't past the page's limit.
+    pub(crate) fn front_limit(&self, length: usize) -> usize
         requires { self.now.text.size + 4 ≤ ROOM }
         ensures fits { result ≤ length }
         ensures room { (self.now.text.size + result) + 4 ≤ ROOM }
@@ -138,9 +139,9 @@ impl Reader {
         at_most(rest, at_most(room as u64, length))
     }
 
-    // Whether plain text is told at once where no token is begun. A byte order mark may stand first, and a line feed may be
-    // dropped or belong to a CR before it.
-    fn tells_plain(&self) -> bool
+    /// Whether plain text is told at once where no token is begun. A byte order mark may stand first, and a line feed may be
+    /// dropped or belong to a CR before it.
+    pub(crate) fn tells_plain(&self) -> bool
         ensures { result ≡ true → TellsPlain self.now }
     {
         if !self.utf8.is_whole() {
@@ -167,7 +168,7 @@ impl Reader {
         plain_text(&bytes[..self.front_limit(bytes.len())])
     }
 
-    // Takes the plain text at the front. Where a tag comes next, which is often, nothing else is looked at.
+    // Takes the text at the front. Where a tag comes next, which is often, nothing else is looked at.
     #[inline(always)]
     fn tell_front(&mut self, bytes: &[u8]) -> usize
         requires between { self.old.pending.mark ≡ TokenState.Nothing }
@@ -176,17 +177,16 @@ impl Reader {
         ensures fits { result ≤ length bytes.now }
         ensures size { self.new.text.size + 4 ≤ ROOM }
         ensures room { ROOM ≤ self.new.text.room }
-        ensures says { MatchBool (result == 0) (self.new ≡ self.old) (TellsFront self.old (take result bytes.now) self.new) }
+        ensures says { MatchBool (result == 0) (self.new ≡ self.old) (TellsText self.old (take result bytes.now) self.new) }
     {
         if matches!(bytes.first(), None | Some(b'<')) {
             return 0;
         }
-        self.say_front(bytes)
+        self.say_text(bytes)
     }
 
-    // Takes the plain text at the front, as far as it has room, and tells how many bytes it has.
-    #[inline(never)]
-    fn say_front(&mut self, bytes: &[u8]) -> usize
+    /// Takes the plain text at the front, as far as it has room, and tells how many bytes it has.
+    pub(crate) fn say_front(&mut self, bytes: &[u8]) -> usize
         requires between { self.old.pending.mark ≡ TokenState.Nothing }
         requires size { self.old.text.size + 4 ≤ ROOM }
         requires room { ROOM ≤ self.old.text.room }

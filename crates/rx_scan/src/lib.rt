@@ -37,6 +37,8 @@ mod scans;
 mod settings;
 mod tag_entries;
 mod texts;
+mod whole_references;
+mod wide_chars;
 mod words;
 
 pub use answers::Token;

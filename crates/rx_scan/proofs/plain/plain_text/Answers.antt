@@ -11,6 +11,3 @@ pub returns-then-is_stop-clause-plain : goal.returns-then-is_stop-clause-plain
 returns-then-is_stop-clause-plain c =
     subst (λ (x : List ℕ). list_all is_plain x ≡ true) (sym c.from_utf8_unchecked.ensures)
     (ascii_plain (take c.ascii_length-count.result c.args.bytes.now) c.ascii_length-count.ensures.plain)
-
-pub wide_text-requires-clause-plain : goal.wide_text-requires-clause-plain
-wide_text-requires-clause-plain c = ascii_plain (take c.ascii_length-count.result c.args.bytes.now) c.ascii_length-count.ensures.plain

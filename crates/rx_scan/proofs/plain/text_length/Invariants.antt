@@ -1,10 +1,15 @@
 use Rattle.std.proofs.Common.{◌≡◌, ◌-◌, ◌≤◌, true, length, take}
 use Rattle.std.specs.List.{list_all}
+use Rattle.std.specs.Str.{IsUtf8}
 use Rattle.rx_scan.specs.Plain.{is_plain}
-use Rattle.rx_scan.proofs.plain.plain_slowly.Given as goal
+use Rattle.rx_scan.proofs.plain.text_length.Given as goal
 
 abbrev pub invariant-loop-count : goal.invariant-loop-count
-invariant-loop-count l = record { fits : l.count ≤ length l.bytes; plain : list_all is_plain (take l.count l.bytes) ≡ true }
+invariant-loop-count l = record {
+  fits : l.count ≤ length l.bytes;
+  text : IsUtf8 (take l.count l.bytes);
+  plain : list_all is_plain (take l.count l.bytes) ≡ true;
+}
 
 abbrev pub decreases-loop-count : goal.decreases-loop-count
 decreases-loop-count l = length l.bytes - l.count

@@ -1,0 +1,254 @@
+-- A reference that is taken at once is read like its bytes one after another.
+use Rattle.std.proofs.Common.{◌≡◌, ◌∙◌, ℕ, ◌+◌, ◌≤◌, ◌<◌, Bool, true, false, List, [], ◌∷◌, ◌++◌, length, take, refl, ap, sym, subst, Option, Some, Ok, append_assoc, append-nil, arith, encode_utf8_all}
+use Rattle.std.specs.Prelude.{◌&&◌, ◌==◌, not, nat_le, codes, if◌then◌else◌}
+use Rattle.std.specs.List.{list_all}
+use Rattle.std.proofs.lemmas.Bool.{cond-true, cond-false, lt-leb, and_parts, and_from, or_from, or_left}
+use Rattle.std.proofs.lemmas.Bool.Decides.{nat_tests}
+use Rattle.std.proofs.lemmas.List.{length-append}
+use Rattle.rx_terms.specs.Ascii.{ampersand, semicolon, is_ascii, is_letter, is_letter_or_digit}
+use Rattle.rx_terms.specs.Text.{Chars}
+use Rattle.rx_terms.proofs.CharLemmas.{ascii-same}
+use Rattle.rx_chars.specs.Characters.{as_line_end}
+use Rattle.rx_chars.specs.Utf8.{answer_of}
+use Rattle.rx_chars.specs.declared.utf8.Utf8Step.{Utf8Step}
+use Rattle.rx_chars.specs.declared.utf8.Utf8Step.TheVariants.{Char}
+use Rattle.rx_chars.proofs.Utf8Answers.{first_whole}
+use Rattle.rx_grammar.specs.References.{meaning}
+use Rattle.rx_grammar.specs.Spelling.{has_references}
+use Rattle.rx_grammar.specs.Items.{values}
+use Rattle.rx_pages.specs.PageReader as reader
+use Rattle.rx_reader.specs.declared.phases.RunPhase.{RunPhase}
+use Rattle.rx_reader.specs.declared.phases.RunPhase.TheVariants as run
+use Rattle.rx_reader.specs.declared.phases.RunMove.{RunMove}
+use Rattle.rx_reader.specs.declared.phases.RunMove.TheVariants as run_moves
+use Rattle.rx_reader.specs.Tables.{run_move}
+use Rattle.rx_tags.specs.TagBufs.{no_tag}
+use Rattle.rx_scan.specs.declared.answers.TokenKind.TheVariants as what
+use Rattle.rx_scan.specs.declared.marks.TokenState.{TokenState}
+use Rattle.rx_scan.specs.declared.marks.TokenState.TheVariants as mark
+use Rattle.rx_scan.specs.declared.marks.Move.{Move}
+use Rattle.rx_scan.specs.declared.marks.Move.TheVariants as move
+use Rattle.rx_scan.specs.declared.places.Position.{Position}
+use Rattle.rx_scan.specs.KnownTags as known_tags
+use Rattle.rx_scan.specs.Marks as marks
+use Rattle.rx_scan.specs.Pending.{PendsAs}
+use Rattle.rx_scan.specs.Buffers.{Buffered}
+use Rattle.rx_scan.specs.Entries as entries
+use Rattle.rx_scan.specs.Places.{said, ended, entered}
+use Rattle.rx_scan.specs.Scanner.{Reading}
+use Rattle.rx_scan.specs.Steps.{ReadsAs}
+use Rattle.rx_scan.specs.WholeReferences.{IsReference, TellsReference}
+use Rattle.rx_scan.proofs.FeedLemmas.{chosen}
+use Rattle.rx_scan.proofs.RunLemmas.{ReadsOn, reads_more}
+use Rattle.rx_scan.proofs.Snoc.{and_false}
+
+-- Outside tags and between characters, this byte is a character that enters.
+record IsAlone (v : Reading) (b : ℕ) : Type 0 where
+  held : v.held ≡ []
+  started : v.place.started ≡ true
+  on_a_line : v.place.after_return ≡ false
+  page : v.place.at < v.setting.limits.page
+  no_tag : known_tags.is_tag v.pending.mark ≡ false
+  never_tag : (c : ℕ) → known_tags.is_tag_with v.setting.syntax v.setting.inside v.pending.mark c ≡ false
+  some : (b == 0) ≡ false
+  no_return : (b == 13) ≡ false
+  ascii : b ≤ 127
+
+module _ (v new : Reading) (b : ℕ) (t : IsAlone v b) (does : entries.Enters v b false (entries.move_at v b) (Ok what.Nothing) new) where
+  enters : entries.Enters v (as_line_end b) (b == 13) (entries.move_at v (as_line_end b)) (Ok what.Nothing) new
+  enters =
+      subst (λ (x : Bool). entries.Enters v (as_line_end b) x (entries.move_at v (as_line_end b)) (Ok what.Nothing) new) (sym t.no_return)
+      (subst (λ (x : ℕ). entries.Enters v x false (entries.move_at v x) (Ok what.Nothing) new) (sym (cond-false _ _ _ t.no_return)) does)
+
+  not_long : (known : Bool) → known ≡ false → entries.is_long v known ≡ false
+  not_long known e = ap (λ (x : Bool). entries.is_long v x) e
+
+  not_passed : entries.is_passed v.place b ≡ false
+  not_passed = or_from _ _ (ap (λ x. not x && (b == 65279)) t.started) (ap (λ x. x && (b == 10)) t.on_a_line)
+
+  as_char : entries.ReadsAnswer v (b ∷ []) (Char b) (Ok what.Nothing) new
+  as_char =
+      chosen (b == 0) _ _ t.some
+      (chosen (entries.is_long v (known_tags.is_tag v.pending.mark)) _ _ (not_long (known_tags.is_tag v.pending.mark) t.no_tag)
+      (chosen (entries.is_passed v.place b) _ _ not_passed
+      (chosen (entries.is_long v (known_tags.is_tag_with v.setting.syntax v.setting.inside v.pending.mark (as_line_end b))) _ _ (not_long (known_tags.is_tag_with v.setting.syntax v.setting.inside v.pending.mark (as_line_end b)) (t.never_tag (as_line_end b))) enters)))
+
+  reads_alone : entries.Reads v b (Ok what.Nothing) new
+  reads_alone =
+      chosen (nat_le v.setting.limits.page v.place.at) _ _ (lt-leb v.setting.limits.page v.place.at t.page)
+      (subst (λ (x : List ℕ). entries.ReadsAnswer v (x ++ b ∷ []) (answer_of (x ++ b ∷ [])) (Ok what.Nothing) new) (sym t.held)
+      (subst (λ (a : Utf8Step). entries.ReadsAnswer v (b ∷ []) a (Ok what.Nothing) new) (first_whole b t.ascii) as_char))
+
+-- behind so many bytes of the reference
+abbrev within : ℕ → Position → Position
+within n p = record { at = p.at + n; starts = p.at + n; token = p.starts; started = true; after_return = false; two = p.two; last = p.last }
+
+abbrev in_reference : Reading → ℕ → RunPhase → Chars → Reading
+in_reference l n p kept = entries.with_parts l l.setting (within n l.place) (record { mark = mark.Run p; run = kept; tag = no_tag l.pending.tag.syntax }) l.text
+
+within_on : (n : ℕ) (p : Position) → entered false (within n p) ≡ within (n + 1) p
+within_on n p =
+    let e : (p.at + n) + 1 ≡ p.at + (n + 1) = omega arith in
+    λ i. record { at = e i; starts = e i; token = p.starts; started = true; after_return = false; two = p.two; last = p.last }
+
+letter_ascii : (c : ℕ) → is_letter_or_digit c ≡ true → c ≤ 127
+letter_ascii c h = grind (arith, nat_tests)
+
+letter_is : (c d : ℕ) → is_letter_or_digit c ≡ true → is_letter_or_digit d ≡ false → (c == d) ≡ false
+letter_is c d h k = grind (arith, nat_tests)
+
+letters_ascii : (text : Chars) → list_all is_letter_or_digit text ≡ true → list_all is_ascii text ≡ true
+letters_ascii [] h = refl
+letters_ascii (c ∷ text) h = let k = and_parts (is_letter_or_digit c) _ h in and_from (is_ascii c) _ (let q = letter_ascii c k.0 in grind (arith, nat_tests)) (letters_ascii text k.1)
+
+-- the ampersand
+module _ (l new : Reading) (front : List ℕ) (t : TellsReference l front new) (room : l.place.at < l.setting.limits.page) where
+  begins_is : entries.move_at l 38 ≡ move.Begins (mark.Run run.Ampersand)
+  begins_is =
+      ap (λ (x : TokenState). entries.judged l.setting l.place.two 38 (marks.move_of l.setting.syntax l.setting.inside x 38)) t.between
+      ∙ ap (λ x. entries.judged l.setting l.place.two 38 (marks.of_first x)) (cond-true _ _ _ t.reads)
+
+  reads_ampersand : entries.Reads l 38 (Ok what.Nothing) (in_reference l 1 run.Ampersand [])
+  reads_ampersand =
+      reads_alone l (in_reference l 1 run.Ampersand []) 38
+      (record {
+        held = t.may.held;
+        started = t.may.started;
+        on_a_line = t.may.on_a_line;
+        page = room;
+        no_tag = ap known_tags.is_tag t.between;
+        never_tag = λ c. ap (λ (x : TokenState). known_tags.is_tag_with l.setting.syntax l.setting.inside x c) t.between;
+        some = refl;
+        no_return = refl;
+        ascii = omega arith;
+      })
+      (subst (λ (x : Move). entries.Enters l 38 false x (Ok what.Nothing) (in_reference l 1 run.Ampersand [])) (sym begins_is) (refl, refl))
+
+-- a letter or digit of the name
+reads_letter : (l : Reading) (n : ℕ) (p : RunPhase) (kept : Chars) (b : ℕ) → l.place.at + n < l.setting.limits.page → is_letter_or_digit b ≡ true → run_move p b ≡ run_moves.Goes run.Named
+    → entries.Reads (in_reference l n p kept) b (Ok what.Nothing) (in_reference l (n + 1) run.Named (kept ++ b ∷ []))
+reads_letter l n p kept b room h e =
+    let v : Reading = in_reference l n p kept in
+    let new : Reading = in_reference l (n + 1) run.Named (kept ++ b ∷ []) in
+    reads_alone v new b
+    (record {
+      held = refl;
+      started = refl;
+      on_a_line = refl;
+      page = room;
+      no_tag = refl;
+      never_tag = λ c. refl;
+      some = letter_is b 0 h refl;
+      no_return = letter_is b 13 h refl;
+      ascii = letter_ascii b h;
+    })
+    (subst (λ (x : Move). entries.Enters v b false x (Ok what.Nothing) new)
+    (sym (ap (λ x. entries.judged l.setting l.place.two b (marks.in_run l.setting.inside x)) e))
+    (refl, ap (λ (x : Position). entries.with_parts l l.setting x (record { mark = mark.Run run.Named; run = kept ++ b ∷ []; tag = no_tag l.pending.tag.syntax }) l.text) (sym (within_on n l.place))))
+
+-- the semicolon behind it
+abbrev behind : Reading → ℕ → Chars → Buffered → Reading
+behind l n kept text =
+    entries.with_parts l (entries.undropped l.setting) (ended false false (within n l.place)) (record { mark = mark.Nothing; run = kept; tag = no_tag l.pending.tag.syntax }) text
+
+reads_semicolon : (l : Reading) (n : ℕ) (kept : Chars) (c : ℕ) (text : Buffered) → l.place.at + n < l.setting.limits.page → l.setting.drops ≡ false → meaning l.setting.syntax (encode_utf8_all kept) ≡ Some c → entries.TextGains l.text text c
+    → entries.Reads (in_reference l n run.Named kept) 59 (Ok what.Nothing) (behind l n kept text)
+reads_semicolon l n kept c text room drops means gains =
+    let v : Reading = in_reference l n run.Named kept in
+    let new : Reading = behind l n kept text in
+    reads_alone v new 59
+    (record {
+      held = refl;
+      started = refl;
+      on_a_line = refl;
+      page = room;
+      no_tag = refl;
+      never_tag = λ c. refl;
+      some = refl;
+      no_return = refl;
+      ascii = omega arith;
+    })
+    (subst (λ (x : Option ℕ). entries.Closes v false x (Ok what.Nothing) new) (sym means) (ap (λ x. x && (c == 10)) drops, record { text = gains; is = refl }))
+
+module _ (old : Reading) (s : reader.Scanning) where
+  moved : (l : Reading) (bytes more : List ℕ) (n m : ℕ) (kept run_now : Chars) → bytes ≡ more → n ≡ m → kept ≡ run_now → ReadsOn old s bytes (in_reference l n run.Named kept) → ReadsOn old s more (in_reference l m run.Named run_now)
+  moved l bytes more n m kept run_now e f g r =
+      subst (λ (x : List ℕ). ReadsOn old s x (in_reference l m run.Named run_now)) e
+      (subst (λ (x : ℕ). ReadsOn old s bytes (in_reference l x run.Named run_now)) f
+      (subst (λ (x : Chars). ReadsOn old s bytes (in_reference l n run.Named x)) g r))
+
+  -- the name
+  name_on : (l : Reading) (more : Chars) (n : ℕ) (kept : Chars) (bytes : List ℕ) → list_all is_letter_or_digit more ≡ true → l.place.at + (n + length more) ≤ l.setting.limits.page
+      → ReadsOn old s bytes (in_reference l n run.Named kept) → ReadsOn old s (bytes ++ more) (in_reference l (n + length more) run.Named (kept ++ more))
+  name_on l [] n kept bytes h k r = moved l bytes (bytes ++ []) n (n + length {A = ℕ} []) kept (kept ++ []) (sym (append-nil bytes)) (omega arith) (sym (append-nil kept)) r
+  name_on l (b ∷ more) n kept bytes h k r =
+      let q = and_parts (is_letter_or_digit b) _ h in
+      moved l ((bytes ++ b ∷ []) ++ more) (bytes ++ b ∷ more) ((n + 1) + length more) (n + length (b ∷ more)) ((kept ++ b ∷ []) ++ more) (kept ++ b ∷ more)
+      (append_assoc bytes (b ∷ []) more) (omega arith) (append_assoc kept (b ∷ []) more)
+      (name_on l more (n + 1) (kept ++ b ∷ []) (bytes ++ b ∷ []) q.1 (omega (arith, k))
+      (reads_more old (in_reference l n run.Named kept) s bytes r b (in_reference l (n + 1) run.Named (kept ++ b ∷ [])) (reads_letter l n run.Named kept b (omega (arith, k)) q.0 (cond-true _ _ _ q.0))))
+
+  -- What is kept of the reference behind it, and where it began, doesn't matter.
+  as_said : (l : Reading) (bytes : List ℕ) (n m : ℕ) (kept : Chars) (text : Buffered) → l.pending.mark ≡ mark.Nothing → n + 1 ≡ m → ReadsOn old s bytes (behind l n kept text) → ReadsOn old s bytes (entries.with_parts l (entries.undropped l.setting) (said m l.place) l.pending text)
+  as_said l bytes n m kept text b e r =
+      let at : l.place.at + m ≡ (l.place.at + n) + 1 = omega (arith, e) in
+      let h = r.reads_as in
+      record {
+        scanned = r.scanned;
+        read = r.read;
+        reads_as = record {
+          at = at ∙ h.at;
+          starts = at ∙ h.starts;
+          held = h.held;
+          started = h.started;
+          after_return = h.after_return;
+          two = sym (and_false l.place.last) ∙ h.two;
+          last = h.last;
+          token = ap (λ (x : TokenState). entries.token_from x (said m l.place)) b ∙ (at ∙ h.token);
+          syntax = h.syntax;
+          pends = subst (λ (x : TokenState). PendsAs l.setting.syntax l.setting.inside x l.pending.run l.pending.tag (values r.scanned.next.run)) (sym b) h.pends;
+        };
+        texts = r.texts;
+        keeps = r.keeps;
+        setting = r.setting;
+        none = r.none;
+        started = r.started;
+        unmarked = r.unmarked;
+      }
+
+  -- the whole reference
+  pub reference_on : (new : Reading) (front : List ℕ) (l : Reading) (bytes : List ℕ) → ReadsOn old s bytes l → TellsReference l front new → ReadsOn old s (bytes ++ front) new
+  reference_on new front l bytes r t =
+      subst (λ (x : Reading). ReadsOn old s (bytes ++ front) x) (sym t.is)
+      (as_said l (bytes ++ front) (2 + length k.more) (length front) name new.text t.between (omega (arith, sizes))
+      (subst (λ (x : List ℕ). ReadsOn old s x (behind l (2 + length k.more) name new.text)) bytes_are
+      (reads_more old (in_reference l (2 + length k.more) run.Named name) s _ named 59 (behind l (2 + length k.more) name new.text)
+      (reads_semicolon l (2 + length k.more) name t.c new.text (omega (arith, sizes, t.page)) t.may.undropped means t.text))))
+    where
+      k : IsReference t.c front
+      k = t.reference
+
+      name : Chars
+      name = k.first ∷ k.more
+
+      letters : list_all is_letter_or_digit name ≡ true
+      letters = and_from (is_letter_or_digit k.first) _ (or_left (is_letter k.first) _ k.begins) k.goes_on
+
+      means : meaning l.setting.syntax (encode_utf8_all name) ≡ Some t.c
+      means = ap (meaning l.setting.syntax) (ascii-same name (letters_ascii name letters)).0 ∙ k.means l.setting.syntax
+
+      sizes : length front ≡ 3 + length k.more
+      sizes = ap length k.are ∙ omega (arith, length-append k.more (59 ∷ []))
+
+      begun : ReadsOn old s ((bytes ++ 38 ∷ []) ++ k.first ∷ []) (in_reference l 2 run.Named (k.first ∷ []))
+      begun =
+          reads_more old (in_reference l 1 run.Ampersand []) s (bytes ++ 38 ∷ []) (reads_more old l s bytes r 38 (in_reference l 1 run.Ampersand []) (reads_ampersand l new front t (omega (arith, sizes, t.page)))) k.first (in_reference l 2 run.Named (k.first ∷ []))
+          (reads_letter l 1 run.Ampersand [] k.first (omega (arith, sizes, t.page)) (and_parts (is_letter_or_digit k.first) _ letters).0 (cond-true _ _ _ k.begins))
+
+      named : ReadsOn old s (((bytes ++ 38 ∷ []) ++ k.first ∷ []) ++ k.more) (in_reference l (2 + length k.more) run.Named name)
+      named = name_on l k.more 2 (k.first ∷ []) ((bytes ++ 38 ∷ []) ++ k.first ∷ []) k.goes_on (omega (arith, sizes, t.page)) begun
+
+      bytes_are : (((bytes ++ 38 ∷ []) ++ k.first ∷ []) ++ k.more) ++ 59 ∷ [] ≡ bytes ++ front
+      bytes_are =
+          append_assoc ((bytes ++ 38 ∷ []) ++ k.first ∷ []) k.more (59 ∷ [])
+          ∙ (append_assoc (bytes ++ 38 ∷ []) (k.first ∷ []) (k.more ++ 59 ∷ []) ∙ (append_assoc bytes (38 ∷ []) (k.first ∷ (k.more ++ 59 ∷ [])) ∙ ap (λ x. bytes ++ x) (sym k.are)))

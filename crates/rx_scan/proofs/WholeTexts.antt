@@ -1,0 +1,167 @@
+-- Plain text and references that are taken at once, one after another.
+use Rattle.std.proofs.Common.{◌≡◌, ◌∙◌, ℕ, ◌+◌, ◌-◌, ◌≤◌, ◌<◌, Bool, true, false, List, [], ◌∷◌, ◌++◌, length, take, drop, refl, ap, sym, subst, Option, Some, None, append_assoc, arith, eqb-true, take-add, length-take-le, encode_utf8_all}
+use Rattle.std.specs.Prelude.{◌==◌, ◌&&◌, MatchBool, codes, if◌then◌else◌, IfSome}
+use Rattle.std.specs.List.{list_all}
+use Rattle.std.specs.Str.{all_scalars}
+use Rattle.std.proofs.lemmas.Bool.{and_parts, eqb-false}
+use Rattle.std.proofs.lemmas.List.{take_rest}
+use Rattle.std.proofs.lemmas.Str.{chars_from_encodes}
+use Rattle.rx_terms.specs.Text.{Chars, begins_with}
+use Rattle.rx_terms.proofs.Bools.{by_test}
+use Rattle.rx_chars.specs.declared.syntax.Syntax.{Syntax}
+use Rattle.rx_chars.specs.declared.syntax.Syntax.TheVariants.{Html, Xhtml}
+use Rattle.rx_chars.specs.Named.{named, named_table}
+use Rattle.rx_grammar.specs.References.{meaning}
+use Rattle.rx_pages.specs.PageReader as reader
+use Rattle.rx_tags.proofs.TakeLemmas.{chosen as some_taken}
+use Rattle.rx_scan.specs.declared.marks.TokenState.TheVariants as mark
+use Rattle.rx_scan.specs.Pending.{Pending}
+use Rattle.rx_scan.specs.Entries as entries
+use Rattle.rx_scan.specs.Fronts.{TellsFront}
+use Rattle.rx_scan.specs.Places.{said}
+use Rattle.rx_scan.specs.Plain.{is_plain}
+use Rattle.rx_scan.specs.Scanner.{Reading}
+use Rattle.rx_scan.specs.WholeReferences.{usual_reference, IsReference, BeginsReference, TellsReference, TellsOne, of_plain, of_reference, TellsText, one, more}
+use Rattle.rx_scan.proofs.ByteLemmas.{match_by}
+use Rattle.rx_scan.proofs.PlainLemmas.{chars_plain}
+use Rattle.rx_scan.proofs.ReferenceLemmas.{reference_on}
+use Rattle.rx_scan.proofs.RunLemmas.{ReadsOn}
+use Rattle.rx_scan.proofs.SaidLemmas.{TellsChars, chars_on}
+
+-- what stands at the front
+begins_taken : (front text : List ℕ) → begins_with front text ≡ true → (take (length front) text ≡ front) × (length front ≤ length text)
+begins_taken [] text h = (refl, omega arith)
+begins_taken (c ∷ front) [] h = absurd (cc)
+begins_taken (c ∷ front) (d ∷ text) h =
+    let k = and_parts (c == d) _ h in
+    let r = begins_taken front text k.1 in
+    (λ i. sym (eqb-true c d k.0) i ∷ r.0 i, omega (arith, r.1))
+
+-- the usual names
+amp_is : named (codes "amp") ≡ Some 38
+unfolding named_table
+amp_is = refl
+
+lt_is : named (codes "lt") ≡ Some 60
+unfolding named_table
+lt_is = refl
+
+gt_is : named (codes "gt") ≡ Some 62
+unfolding named_table
+gt_is = refl
+
+quot_is : named (codes "quot") ≡ Some 34
+unfolding named_table
+quot_is = refl
+
+means_in : (name : Chars) (c : ℕ) → meaning Html name ≡ Some c → meaning Xhtml name ≡ Some c → (syntax : Syntax) → meaning syntax name ≡ Some c
+means_in name c h x Html = h
+means_in name c h x Xhtml = x
+
+amp : IsReference 38 (codes "&amp;")
+amp = record { first = 97; more = codes "mp"; are = refl; begins = refl; goes_on = refl; means = means_in (codes "amp") 38 amp_is refl }
+
+lt : IsReference 60 (codes "&lt;")
+lt = record { first = 108; more = codes "t"; are = refl; begins = refl; goes_on = refl; means = means_in (codes "lt") 60 lt_is refl }
+
+gt : IsReference 62 (codes "&gt;")
+gt = record { first = 103; more = codes "t"; are = refl; begins = refl; goes_on = refl; means = means_in (codes "gt") 62 gt_is refl }
+
+quot : IsReference 34 (codes "&quot;")
+quot = record { first = 113; more = codes "uot"; are = refl; begins = refl; goes_on = refl; means = means_in (codes "quot") 34 quot_is refl }
+
+stands_there : (bytes front : List ℕ) (c : ℕ) → 4 ≤ length front → IsReference c front → begins_with front bytes ≡ true → BeginsReference bytes c (length front)
+stands_there bytes front c k r h =
+    let t = begins_taken front bytes h in
+    record { is = subst (λ (x : List ℕ). IsReference c x) (sym t.0) r; some = k; fits = t.1 }
+
+abbrev Is : List ℕ → Option (ℕ × ℕ) → Type 0
+Is bytes o = IfSome o (λ r. BeginsReference bytes r.0 r.1)
+
+-- what is found is a reference
+pub usual_is : (bytes : List ℕ) → IfSome (usual_reference bytes) (λ r. BeginsReference bytes r.0 r.1)
+usual_is bytes =
+    tested (begins_with (codes "&amp;") bytes) (Some (38, 5)) _ (stands_there bytes (codes "&amp;") 38 (omega arith) amp)
+    (tested (begins_with (codes "&lt;") bytes) (Some (60, 4)) _ (stands_there bytes (codes "&lt;") 60 (omega arith) lt)
+    (tested (begins_with (codes "&gt;") bytes) (Some (62, 4)) _ (stands_there bytes (codes "&gt;") 62 (omega arith) gt)
+    (tested (begins_with (codes "&quot;") bytes) (Some (34, 6)) None (stands_there bytes (codes "&quot;") 34 (omega arith) quot) tt)))
+  where
+    tested : (b : Bool) (found other : Option (ℕ × ℕ)) → (b ≡ true → Is bytes found) → Is bytes other → Is bytes (if b then found else other)
+    tested true found other f g = f refl
+    tested false found other f g = g
+
+-- text that is told at once is its characters
+tells_chars : (l new : Reading) (front cs : List ℕ) → all_scalars cs ≡ true → encode_utf8_all cs ≡ front → TellsFront l front new → TellsChars l cs new
+tells_chars l new front cs k e t =
+    record {
+      between = t.may.between;
+      held = t.may.may.held;
+      inside = t.may.may.inside;
+      undropped = t.may.may.undropped;
+      started = t.may.may.started;
+      on_a_line = t.may.may.on_a_line;
+      plain = chars_plain cs (ap (list_all is_plain) e ∙ t.may.plain);
+      scalars = k;
+      page = subst (λ (x : List ℕ). l.place.at + length x ≤ l.setting.limits.page) (sym e) t.may.page;
+      text = t.text ∙ ap (λ x. l.text.text ++ x) (sym (chars_from_encodes cs front t.may.text e));
+      size = t.size ∙ ap (λ x. l.text.size + length x) (sym e);
+      room = t.room;
+      is = subst (λ (x : List ℕ). new ≡ entries.with_parts l (entries.undropped l.setting) (said (length x) l.place) l.pending new.text) (sym e) t.is;
+    }
+
+module _ (old : Reading) (s : reader.Scanning) where
+  plain_on : (new : Reading) (front : List ℕ) (l : Reading) (bytes : List ℕ) → 0 < length front → ReadsOn old s bytes l → TellsFront l front new → ReadsOn old s (bytes ++ front) new
+  plain_on new front l bytes k r t = let u = t.may.text in by u.0 u.1.0 u.1.1
+    where
+      by : (cs : List ℕ) → all_scalars cs ≡ true → encode_utf8_all cs ≡ front → ReadsOn old s (bytes ++ front) new
+      by [] q e = absurd (omega (arith, ap length e))
+      by (c ∷ cs) q e = subst (λ (x : List ℕ). ReadsOn old s (bytes ++ x) new) e (chars_on old s new cs c l bytes r (tells_chars l new front (c ∷ cs) q e t))
+
+  one_on : (new : Reading) (front : List ℕ) (l : Reading) (bytes : List ℕ) → 0 < length front → ReadsOn old s bytes l → TellsOne l front new → ReadsOn old s (bytes ++ front) new
+  one_on new front l bytes k r (of_plain t) = plain_on new front l bytes k r t
+  one_on new front l bytes k r (of_reference t) = reference_on old s new front l bytes r t
+
+  -- all of it
+  pub text_on : (l : Reading) (bytes : List ℕ) → ReadsOn old s bytes l → (front : List ℕ) (new : Reading) → TellsText l front new → ReadsOn old s (bytes ++ front) new
+  text_on l bytes r front new (one k t) = one_on new front l bytes k r t
+  text_on l bytes r _ new (more {front} {next} {middle} t k u) =
+      subst (λ (x : List ℕ). ReadsOn old s x new) (append_assoc bytes front next) (one_on new next middle (bytes ++ front) k (text_on l bytes r front middle t) u)
+
+one_pending : (l new : Reading) (front : List ℕ) → TellsOne l front new → new.pending ≡ l.pending
+one_pending l new front (of_plain t) = ap (λ (x : Reading). x.pending) t.is
+one_pending l new front (of_reference t) = ap (λ (x : Reading). x.pending) t.is
+
+-- no token is begun before or behind it
+pub text_pending : (l : Reading) (front : List ℕ) (new : Reading) → TellsText l front new → new.pending ≡ l.pending
+text_pending l front new (one k t) = one_pending l new front t
+text_pending l _ new (more {front} {next} {middle} t k u) = one_pending middle new next u ∙ text_pending l front middle t
+
+one_between : (l new : Reading) (front : List ℕ) → TellsOne l front new → l.pending.mark ≡ mark.Nothing
+one_between l new front (of_plain t) = t.may.between
+one_between l new front (of_reference t) = t.between
+
+pub text_between : (l : Reading) (front : List ℕ) (new : Reading) → TellsText l front new → l.pending.mark ≡ mark.Nothing
+text_between l front new (one k t) = one_between l new front t
+text_between l _ new (more {front} {next} {middle} t k u) = text_between l front middle t
+
+-- One more, behind what was taken of the bytes.
+pub text_more : (old l new : Reading) (bytes : List ℕ) (taken count : ℕ) → (count ≡ 0 → ⊥) → count ≤ length (drop taken bytes) → MatchBool (taken == 0) (l ≡ old) (TellsText old (take taken bytes) l) → TellsOne l (take count (drop taken bytes)) new
+    → TellsText old (take (taken + count) bytes) new
+text_more old l new bytes taken count z f m t =
+    match_by (taken == 0) _ _ m
+    (λ b e. let n : taken ≡ 0 = eqb-true taken 0 b in
+      subst (λ (x : List ℕ). TellsText old x new) (ap (λ x. take count (drop x bytes)) n ∙ ap (λ x. take x bytes) (omega (arith, n)))
+      (one some (subst (λ (x : Reading). TellsOne x (take count (drop taken bytes)) new) e t)))
+    (λ b w. subst (λ (x : List ℕ). TellsText old x new) (sym (take-add taken count bytes)) (more w some t))
+  where
+    some : 0 < length (take count (drop taken bytes))
+    some = subst (λ (x : ℕ). 0 < x) (sym (length-take-le count (drop taken bytes) f)) (omega (arith, z))
+
+-- the same for the turn of a loop, where a slice is what is left
+pub text_turns : (old l new : Reading) (bytes : List ℕ) (i n : ℕ) → (n ≡ 0 → ⊥) → n ≤ length (take (length bytes - i) (drop i bytes)) → MatchBool (i == 0) (l ≡ old) (TellsText old (take i bytes) l)
+    → MatchBool (n == 0) (new ≡ l) (TellsOne l (take n (take (length bytes - i) (drop i bytes))) new) → (new.pending ≡ l.pending) × MatchBool (i + n == 0) (new ≡ old) (TellsText old (take (i + n) bytes) new)
+text_turns old l new bytes i n z f m k =
+    let rest = take_rest bytes i in
+    match_by (n == 0) _ _ (subst (λ (x : List ℕ). MatchBool (n == 0) (new ≡ l) (TellsOne l (take n x) new)) rest k)
+    (λ b e. absurd (z (eqb-true n 0 b)))
+    (λ b t. (one_pending l new (take n (drop i bytes)) t, some_taken (i + n) (new ≡ old) _ (λ e. z (omega (arith, e))) (text_more old l new bytes i n z (subst (λ (x : List ℕ). n ≤ length x) rest f) m t)))

@@ -1,0 +1,27 @@
+use Rattle.std.proofs.Common.{◌≡◌, ℕ, List, true, take, subst}
+use Rattle.std.specs.List.{list_all}
+use Rattle.std.specs.Str.{IsUtf8}
+use Rattle.std.proofs.lemmas.List.{take_rest}
+use Rattle.rx_scan.specs.Plain.{is_plain}
+use Rattle.rx_scan.proofs.PlainLemmas.{ascii_plain, ascii_text}
+use Rattle.rx_scan.proofs.FrontLemmas.{front_within}
+use Rattle.rx_scan.proofs.WideLemmas.{plain_more, text_more}
+use Rattle.rx_scan.proofs.plain.text_length.Goals as goal
+
+pub loop-count-init : goal.loop-count-init
+loop-count-init c =
+    let front = take c.args.from c.args.bytes.now in
+    record { fits = c.requires.from; text = ascii_text front c.requires.plain; plain = ascii_plain front c.requires.plain }
+
+pub loop-count-preserved : goal.loop-count-preserved
+loop-count-preserved c =
+    let bytes = c.args.bytes.now in
+    let i = c.loop-count.count in
+    let n = c.run_length-more.result in
+    let run = c.run_length-more.ensures in
+    let rest = take_rest bytes i in
+    record {
+      fits = front_within bytes i n c.loop-count.invariant.fits run.fits;
+      text = text_more i n bytes c.loop-count.invariant.text (subst (λ (x : List ℕ). IsUtf8 (take n x)) rest run.text);
+      plain = plain_more i n bytes c.loop-count.invariant.plain (subst (λ (x : List ℕ). list_all is_plain (take n x) ≡ true) rest run.plain);
+    }

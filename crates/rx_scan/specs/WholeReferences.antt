@@ -1,0 +1,55 @@
+-- References of a name that stand whole in a piece, and are taken at once, and the text that stands around them.
+use Rattle.std.specs.Prelude.{◌≡◌, ◌+◌, ◌≤◌, ◌<◌, ℕ, true, List, [], ◌∷◌, ◌++◌, length, take, codes, Option, Some, None, if◌then◌else◌}
+use Rattle.std.specs.List.{list_all}
+use Rattle.rx_terms.specs.Ascii.{ampersand, semicolon, quotation_mark, less_than_sign, greater_than_sign, is_letter, is_letter_or_digit}
+use Rattle.rx_terms.specs.Text.{Chars, begins_with}
+use Rattle.rx_chars.specs.declared.syntax.Syntax.{Syntax}
+use Rattle.rx_grammar.specs.References.{meaning}
+use Rattle.rx_grammar.specs.Spelling.{has_references}
+use Rattle.rx_scan.specs.declared.marks.TokenState.TheVariants as mark
+use Rattle.rx_scan.specs.Entries.{TextGains, with_parts, undropped}
+use Rattle.rx_scan.specs.Fronts.{TellsPlain, TellsFront}
+use Rattle.rx_scan.specs.Places.{said}
+use Rattle.rx_scan.specs.Scanner.{Reading}
+
+-- the usual reference at the front, if one stands there whole: its character, and how many bytes it has
+abbrev pub usual_reference : List ℕ → Option (ℕ × ℕ)
+usual_reference bytes =
+    if begins_with (codes "&amp;") bytes then Some (ampersand, 5) else if begins_with (codes "&lt;") bytes then Some (less_than_sign, 4)
+    else if begins_with (codes "&gt;") bytes then Some (greater_than_sign, 4) else if begins_with (codes "&quot;") bytes then Some (quotation_mark, 6) else None
+
+-- These bytes are a reference of a name, which means this character whatever the page is written in.
+pub record IsReference (c : ℕ) (front : List ℕ) : Type 0 where
+  pub first : ℕ
+  pub more : Chars
+  pub are : front ≡ ampersand ∷ first ∷ (more ++ semicolon ∷ [])
+  pub begins : is_letter first ≡ true
+  pub goes_on : list_all is_letter_or_digit more ≡ true
+  pub means : (syntax : Syntax) → meaning syntax (first ∷ more) ≡ Some c
+
+-- So many bytes at the front are one. No character has more bytes.
+pub record BeginsReference (bytes : List ℕ) (c n : ℕ) : Type 0 where
+  pub is : IsReference c (take n bytes)
+  pub some : 4 ≤ n
+  pub fits : n ≤ length bytes
+
+-- Where plain text may be told, and references are read, its character is.
+pub record TellsReference (old : Reading) (front : List ℕ) (new : Reading) : Type 0 where
+  pub between : old.pending.mark ≡ mark.Nothing
+  pub may : TellsPlain old
+  pub reads : has_references old.setting.inside ≡ true
+  pub page : old.place.at + length front ≤ old.setting.limits.page
+  pub c : ℕ
+  pub reference : IsReference c front
+  pub text : TextGains old.text new.text c
+  pub is : new ≡ with_parts old (undropped old.setting) (said (length front) old.place) old.pending new.text
+
+-- plain text is told, or a reference
+pub data TellsOne (old : Reading) (front : List ℕ) (new : Reading) : Type 0 where
+  of_plain : TellsFront old front new → TellsOne old front new
+  of_reference : TellsReference old front new → TellsOne old front new
+
+-- One after another they are told, of which none is empty.
+pub data TellsText (old : Reading) : List ℕ → Reading → Type 0 where
+  one : {front : List ℕ} {new : Reading} → 0 < length front → TellsOne old front new → TellsText old front new
+  more : {front next : List ℕ} {middle new : Reading} → TellsText old front middle → 0 < length next → TellsOne middle next new → TellsText old (front ++ next) new

@@ -1,0 +1,11 @@
+-- Characters above ASCII at the front of some bytes.
+use Rattle.std.specs.Prelude.{◌≡◌, ◌≤◌, ℕ, true, List, length, take}
+use Rattle.std.specs.List.{list_all}
+use Rattle.std.specs.Str.{IsUtf8}
+use Rattle.rx_scan.specs.Plain.{is_plain}
+
+-- So many bytes at the front are one of them, and none of its bytes means anything else.
+pub record BeginsWide (bytes : List ℕ) (n : ℕ) : Type 0 where
+  pub fits : n ≤ length bytes
+  pub text : IsUtf8 (take n bytes)
+  pub plain : list_all is_plain (take n bytes) ≡ true

@@ -1,0 +1,108 @@
+//! The usual references, `&amp;`, `&lt;`, `&gt;` and `&quot;`, that stand whole in the piece, and the text around them. They
+//! are taken at once, so that the text isn't cut.
+ghost use Rattle.std.specs.Prelude.{◌≡◌, ◌+◌, ◌≤◌, ◌==◌, true, MatchBool, length, take, IfSome};
+ghost use Rattle.rx_grammar.specs.Spelling as spelling;
+ghost use Rattle.rx_scan.specs.Fronts.{TellsPlain};
+ghost use Rattle.rx_scan.specs.WholeReferences as references;
+
+use crate::marks::TokenState;
+use crate::phases::has_references;
+use crate::readers::Reader;
+use crate::runs::ROOM;
+
+// One of them at the front: the character that it stands for, and how many bytes it has.
+fn usual_reference(bytes: &[u8]) -> Option<(char, usize)>
+    ensures { result ≡ references.usual_reference bytes.now }
+{
+    match bytes {
+        [b'&', b'a', b'm', b'p', b';', ..] => Some(('&', 5)),
+        [b'&', b'l', b't', b';', ..] => Some(('<', 4)),
+        [b'&', b'g', b't', b';', ..] => Some(('>', 4)),
+        [b'&', b'q', b'u', b'o', b't', b';', ..] => Some(('"', 6)),
+        _ => None,
+    }
+}
+
+// The same, for what it is by the rules of references.
+fn whole_reference(bytes: &[u8]) -> Option<(char, usize)>
+    ensures { IfSome result (λ r. references.BeginsReference bytes.now r.0 r.1) }
+{
+    usual_reference(bytes)
+}
+
+impl Reader {
+    // Whether a reference is told at once where no token is begun.
+    fn tells_references(&self) -> bool
+        ensures plain { result ≡ true → TellsPlain self.now }
+        ensures reads { result ≡ true → spelling.has_references self.now.setting.inside ≡ true }
+    {
+        self.tells_plain() && has_references(self.setting.inside)
+    }
+
+    // Takes the reference at the front, and tells how many bytes it has.
+    fn say_reference(&mut self, bytes: &[u8]) -> usize
+        requires between { self.old.pending.mark ≡ TokenState.Nothing }
+        requires size { self.old.text.size + 4 ≤ ROOM }
+        requires room { ROOM ≤ self.old.text.room }
+        ensures fits { result ≤ length bytes.now }
+        ensures size { self.new.text.size + 4 ≤ ROOM }
+        ensures room { ROOM ≤ self.new.text.room }
+        ensures says { MatchBool (result == 0) (self.new ≡ self.old) (references.TellsReference self.old (take result bytes.now) self.new) }
+    {
+        if !self.tells_references() {
+            return 0;
+        }
+        let Some((c, count)) = whole_reference(bytes) else {
+            return 0;
+        };
+        if self.front_limit(bytes.len()) < count {
+            return 0;
+        }
+        if self.text.push(c).is_err() {
+            return 0;
+        }
+        self.place = self.place.said(count as u64);
+        self.setting.drop_none();
+        count
+    }
+
+    // Takes the reference or the plain text at the front.
+    #[inline(always)]
+    fn say_one(&mut self, bytes: &[u8]) -> usize
+        requires between { self.old.pending.mark ≡ TokenState.Nothing }
+        requires size { self.old.text.size + 4 ≤ ROOM }
+        requires room { ROOM ≤ self.old.text.room }
+        ensures fits { result ≤ length bytes.now }
+        ensures size { self.new.text.size + 4 ≤ ROOM }
+        ensures room { ROOM ≤ self.new.text.room }
+        ensures says { MatchBool (result == 0) (self.new ≡ self.old) (references.TellsOne self.old (take result bytes.now) self.new) }
+    {
+        match bytes.first() {
+            None | Some(b'<') => 0,
+            Some(b'&') => self.say_reference(bytes),
+            Some(_) => self.say_front(bytes),
+        }
+    }
+
+    /// Takes plain text and usual references at the front, as far as there is room, and tells how many bytes they have.
+    #[inline(never)]
+    pub(crate) fn say_text(&mut self, bytes: &[u8]) -> usize
+        requires between { self.old.pending.mark ≡ TokenState.Nothing }
+        requires size { self.old.text.size + 4 ≤ ROOM }
+        requires room { ROOM ≤ self.old.text.room }
+        ensures fits { result ≤ length bytes.now }
+        ensures size { self.new.text.size + 4 ≤ ROOM }
+        ensures room { ROOM ≤ self.new.text.room }
+        ensures says { MatchBool (result == 0) (self.new ≡ self.old) (references.TellsText self.old (take result bytes.now) self.new) }
+    {
+        let mut taken = 0;
+        while taken < bytes.len() {
+            let count = self.say_one(&bytes[taken..]);
+            if count == 0 {
+                return taken;
+            }
+            taken += count;
+        }
+        taken
+    }
+}
