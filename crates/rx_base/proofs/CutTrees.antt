@@ -9,7 +9,8 @@ use Rattle.rx_rdfa.specs.Base.{first_href, head_href, root_href}
 use Rattle.rx_rdfa.specs.Tree.{Tag}
 use Rattle.rx_nest.specs.Signs.{Sign, begun, said, finished, signs_of}
 use Rattle.rx_nest.specs.Fronts.{Lie}
-use Rattle.rx_base.specs.Lines.{read_tag, tags_of, line_of}
+use Rattle.rx_base.specs.Lines.{line_of}
+use Rattle.rx_rdfa.specs.Pages.{read_tag, tags_of}
 use Rattle.rx_base.specs.Seekings.{Seeking, first_child, base_child, known, base_href, known_by, seek, seeks, sought}
 use Rattle.rx_base.specs.KnownBases.{is_head, has_begun, has_base, child_decides, is_decided}
 use Rattle.rx_base.proofs.Lines.{line_append, seeks_append, said_line, said_seeks, tree_line}

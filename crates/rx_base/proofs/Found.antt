@@ -8,7 +8,7 @@ use Rattle.rx_grammar.specs.Trees.{StartTag, Tree, end, element, text}
 use Rattle.rx_rdfa.specs.Base.{first_href, head_href}
 use Rattle.rx_rdfa.specs.Tree.{Tag}
 use Rattle.rx_nest.specs.Signs.{Sign, begun, said, finished, signs_of}
-use Rattle.rx_base.specs.Lines.{read_tag, tags_of}
+use Rattle.rx_rdfa.specs.Pages.{read_tag, tags_of}
 use Rattle.rx_base.specs.Seekings.{Seeking, first_child, base_child, known, base_href, known_by, seek, seeks, BaseIsFound}
 use Rattle.rx_base.proofs.Lines.{seeks_append, said_line, said_seeks, tree_line}
 

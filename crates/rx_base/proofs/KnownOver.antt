@@ -25,7 +25,8 @@ use Rattle.rx_nest.specs.Signs.{Sign, said, is_hidden, Sight, see, sees, nothing
 use Rattle.rx_nest.proofs.FaultPlacing.{page_shows}
 use Rattle.rx_nest.proofs.ShownLines.{page_held, sees_append}
 use Rattle.rx_nest.proofs.TagPlaces.{shows_more}
-use Rattle.rx_base.specs.Lines.{read_tag, tags_of, line_of}
+use Rattle.rx_base.specs.Lines.{line_of}
+use Rattle.rx_rdfa.specs.Pages.{read_tag, tags_of}
 use Rattle.rx_base.specs.Seekings.{Seeking, first_child, base_child, known, seeks, sought}
 use Rattle.rx_base.specs.KnownBases.{is_decided, IsKnownOver, KnowsOverBytes}
 use Rattle.rx_base.proofs.Lines.{line_is, seeks_append, said_seeks}

@@ -6,7 +6,8 @@ use Rattle.rx_grammar.specs.Trees.{Tree, end, element, text}
 use Rattle.rx_rdfa.specs.Tree.{Tag}
 use Rattle.rx_nest.specs.Signs.{Sign, begun, said, finished, signs_of}
 use Rattle.rx_nest.specs.ShownLines.{open_after}
-use Rattle.rx_base.specs.Lines.{read_tag, line_on, line_of}
+use Rattle.rx_base.specs.Lines.{line_on, line_of}
+use Rattle.rx_rdfa.specs.Pages.{read_tag}
 use Rattle.rx_base.specs.Seekings.{Seeking, seek, seeks}
 
 pub line_append : (line : List Tag) (xs ys : List Sign) → line_of line (xs ++ ys) ≡ line_of (line_of line xs) ys

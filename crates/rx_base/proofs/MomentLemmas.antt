@@ -7,7 +7,8 @@ use Rattle.rx_terms.specs.Text.{Chars}
 use Rattle.rx_grammar.specs.Trees.{StartTag}
 use Rattle.rx_rdfa.specs.Tree.{Tag}
 use Rattle.rx_nest.specs.Signs.{Sign, begun, said, finished}
-use Rattle.rx_base.specs.Lines.{read_tag, line_on, line_of}
+use Rattle.rx_base.specs.Lines.{line_on, line_of}
+use Rattle.rx_rdfa.specs.Pages.{read_tag}
 use Rattle.rx_base.specs.Seekings.{Seeking, first_child, base_child, known, base_href, known_by, seek, seeks, sought}
 use Rattle.rx_base.specs.Moments.{children_on, children_of, Moment, base_begins, head_ends, body_begins, page_ends, MomentAt, NoneAmong, IsKnown, KnowsAtTheFirstMoment}
 use Rattle.rx_base.proofs.Lines.{line_append}

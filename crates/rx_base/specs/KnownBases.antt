@@ -12,7 +12,7 @@ use Rattle.rx_nest.specs.Signs.{Sign}
 use Rattle.rx_nest.specs.Nests.{Nested, NestStands}
 use Rattle.rx_nest.specs.Readings.{OwesNone}
 use Rattle.rx_nest.specs.ShownLines.{shown_line}
-use Rattle.rx_base.specs.Lines.{read_tag, tags_of}
+use Rattle.rx_rdfa.specs.Pages.{read_tag, tags_of}
 use Rattle.rx_base.specs.Seekings.{base_href, known, sought}
 
 abbrev pub is_head : StartTag → Bool

@@ -4,7 +4,8 @@ use Rattle.rx_terms.specs.Text.{Chars}
 use Rattle.rx_grammar.specs.Trees.{StartTag}
 use Rattle.rx_rdfa.specs.Tree.{Tag}
 use Rattle.rx_nest.specs.Signs.{Sign, begun, finished}
-use Rattle.rx_base.specs.Lines.{read_tag, line_on, line_of}
+use Rattle.rx_base.specs.Lines.{line_on, line_of}
+use Rattle.rx_rdfa.specs.Pages.{read_tag}
 use Rattle.rx_base.specs.Seekings.{base_href, known, sought}
 
 -- an element that begins where the root alone is open is its child

@@ -19,7 +19,7 @@ use Rattle.rx_rdfa.specs.Standard as names
 use Rattle.rx_pages.proofs.Underway.{reads_what_is_underway}
 use Rattle.rx_nest.specs.ShownLines.{shown_line}
 use Rattle.rx_nest.proofs.ShownLines.{stands_underway}
-use Rattle.rx_base.specs.Lines.{read_tag}
+use Rattle.rx_rdfa.specs.Pages.{read_tag}
 use Rattle.rx_walk.specs.Walks.{Walked, WalkStands, Ended, DepthGives}
 use Rattle.rx_nest.specs.Ways.{Way}
 use Rattle.rx_page.specs.Settings.{standard, setting_for, rdfa_way}

@@ -18,7 +18,7 @@ use Rattle.rx_rdfa.specs.Names.{Context}
 use Rattle.rx_rdfa.specs.Refusals.{Refusal, refusal}
 use Rattle.rx_rdfa.specs.Tree.{Tag as RulesTag}
 use Rattle.rx_nest.specs.Signs.{Sign, said, finished, signs_of}
-use Rattle.rx_base.specs.Lines.{read_tag}
+use Rattle.rx_rdfa.specs.Pages.{read_tag}
 use Rattle.rx_walk.specs.Refused.{fault_of, refused_in}
 use Rattle.rx_command.proofs.WrittenTokens.{Written, item_of, items_at, letters, start_token, end_tag, end_run, end_token}
 

@@ -154,6 +154,16 @@ pub row_grown : {V A E : Type 0} (items : V → List ℕ) (r : Result A E) (old 
 row_grown items (Ok a) old new row number e h k = h ∙ ap (λ z. items z ++ number ∷ []) k
 row_grown items (Err x) old new row number e h k = absurd (true≢false e)
 
+pub row_stays : {V : Type 0} (items : V → List ℕ) (rows : List V) (i : ℕ) (d new : V) → items new ≡ items (get_or rows i d) → map items (slice_set rows i new) ≡ map items rows
+row_stays items [] i d new e = refl
+row_stays items (row ∷ rows) zero d new e = ap (λ z. z ∷ map items rows) e
+row_stays items (row ∷ rows) (suc i) d new e = ap (λ z. items row ∷ z) (row_stays items rows i d new e)
+
+pub row_refused : {V A E : Type 0} (items : V → List ℕ) (r : Result A E) (old new row : V) (number : ℕ) → is_err r ≡ true
+    → items new ≡ (if is_ok r then items old ++ number ∷ [] else items old) → old ≡ row → items new ≡ items row
+row_refused items (Ok a) old new row number e h k = absurd (true≢false (sym e))
+row_refused items (Err x) old new row number e h k = h ∙ ap items k
+
 -- ---- a list that loses none
 
 filter_shorter : {A : Type 0} (p : A → Bool) (list : List A) → length (filter p list) ≤ length list

@@ -1,5 +1,5 @@
 //! Nodes that are borrowed from triples.
-ghost use Rattle.std.specs.Prelude.{◌≡◌, ◌<◌, [], length, OnOk, Some, slice_get, option_map, nat_eq};
+ghost use Rattle.std.specs.Prelude.{◌≡◌, ◌<◌, [], length, OnErr, OnOk, Some, slice_get, option_map, nat_eq};
 ghost use Rattle.rx_model.specs.Sets.{contains};
 ghost use Rattle.rx_model.specs.Terms.{same_node};
 ghost use Rattle.rx_model.specs.Seen.{node_seen, term_seen, triple_seen};
@@ -67,9 +67,10 @@ impl<'a> Nodes<'a> {
         }
     }
 
-    /// Adds the node at the end, where it isn't there yet.
+    /// Adds the node at the end, where it isn't there yet. Without memory nothing changes.
     pub fn add(&mut self, node: Resource<'a>) -> Result<(), NoMemory>
-        ensures { OnOk result (self.new ≡ node_added self.old (resource_seen node.entry)) }
+        ensures ok { OnOk result (self.new ≡ node_added self.old (resource_seen node.entry)) }
+        ensures err { OnErr result (self.new ≡ self.old) }
     {
         self.nodes.insert(node)?;
         Ok(())

@@ -1,5 +1,5 @@
 //! Lists of numbers.
-ghost use Rattle.std.specs.Prelude.{◌≡◌, ◌<◌, [], ◌∷◌, ◌++◌, length, IfOk, OnOk, Some, slice_get, slice_set, get_or};
+ghost use Rattle.std.specs.Prelude.{◌≡◌, ◌<◌, [], ◌∷◌, ◌++◌, length, IfOk, OnErr, OnOk, Some, slice_get, slice_set, get_or};
 ghost use Rattle.rx_graph.specs.Rows.{pushed, empty_rows};
 
 use rx_terms::NoMemory;
@@ -37,18 +37,20 @@ impl Rows {
         self.rows.len()
     }
 
-    /// Adds an empty row.
+    /// Adds an empty row. Without memory nothing changes.
     pub fn add(&mut self, alloc: Global) -> Result<(), NoMemory>
-        ensures { OnOk result (self.new ≡ self.old ++ [] ∷ []) }
+        ensures ok { OnOk result (self.new ≡ self.old ++ [] ∷ []) }
+        ensures err { OnErr result (self.new ≡ self.old) }
     {
         self.rows.push(Vec::new(alloc))?;
         Ok(())
     }
 
-    /// Adds the number at the end of a row.
+    /// Adds the number at the end of a row. Without memory nothing changes.
     pub fn push(&mut self, row: usize, number: usize) -> Result<(), NoMemory>
         requires { row < length self.old }
-        ensures { OnOk result (self.new ≡ pushed self.old row number) }
+        ensures ok { OnOk result (self.new ≡ pushed self.old row number) }
+        ensures err { OnErr result (self.new ≡ self.old) }
     {
         if self.rows[row].push(number).is_err() {
             return Err(NoMemory);
@@ -73,9 +75,10 @@ impl Rows {
         self.row(row)
     }
 
-    /// Adds the number at the end of a row, where there is such a row.
+    /// Adds the number at the end of a row, where there is such a row. Without memory nothing changes.
     pub(crate) fn put(&mut self, row: usize, number: usize) -> Result<(), NoMemory>
-        ensures { OnOk result (self.new ≡ pushed self.old row number) }
+        ensures ok { OnOk result (self.new ≡ pushed self.old row number) }
+        ensures err { OnErr result (self.new ≡ self.old) }
     {
         if row >= self.len() {
             return Ok(());

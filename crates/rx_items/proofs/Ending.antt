@@ -1,19 +1,16 @@
 -- The items of a whole page.
 use Rattle.std.specs.Prelude.{◌≡◌, List, ℕ, Option, Err}
-use Rattle.std.proofs.Common.{refl, sym, ap, ap₂, subst, ◌∙◌}
+use Rattle.std.proofs.Common.{sym, ap, subst, ◌∙◌}
 use Rattle.rx_terms.specs.Text.{Chars}
 use Rattle.rx_grammar.specs.Items.{start_of}
-use Rattle.rx_grammar.specs.Trees.{Tree, end, element, text}
+use Rattle.rx_grammar.specs.Trees.{Tree}
 use Rattle.rx_rdfa.specs.Base.{base_by, root_href}
-use Rattle.rx_rdfa.specs.Tree as rules
-use Rattle.rx_rdfa.specs.Tree.{Tag, Nodes}
+use Rattle.rx_rdfa.specs.Pages.{tags_of}
 use Rattle.rx_nest.specs.Signs.{signs_of}
-use Rattle.rx_microdata.specs.Base as microdata
 use Rattle.rx_microdata.specs.Base.{base_in}
 use Rattle.rx_grammar.specs.declared.stops.Stop.{Stop}
 use Rattle.rx_grammar.specs.declared.stops.Stop.TheVariants as stop
 use Rattle.rx_nest.specs.Readings.{IsWhole, Whole, Unfinished}
-use Rattle.rx_base.specs.Lines as lines
 use Rattle.rx_base.specs.Seekings.{known, sought}
 use Rattle.rx_base.specs.Sought.{sought_seen}
 use Rattle.rx_base.specs.declared.seeking.Sought.{Sought}
@@ -32,10 +29,10 @@ use Rattle.rx_items.proofs.Telling.{told_tree}
 
 -- the base of a page, once all of it is read
 whole_sought : (setting : Setting) (bytes : List ℕ) (collector : Collector) (w : Whole (way_of setting) (Collects setting) bytes collector)
-    → sought (signs_of w.tree) ≡ known (root_href (lines.tags_of w.tree))
+    → sought (signs_of w.tree) ≡ known (root_href (tags_of w.tree))
 whole_sought setting bytes collector w =
     let d = w.page.document in
-    subst (λ (t : Tree). sought (signs_of t) ≡ known (root_href (lines.tags_of t))) (sym d.tree_is) (base_found (start_of d.root d.t) d.inside)
+    subst (λ (t : Tree). sought (signs_of t) ≡ known (root_href (tags_of t))) (sym d.tree_is) (base_found (start_of d.root d.t) d.inside)
 
 no_sought : (x : Sought) (href : Option Chars) → known href ≡ sought_seen x → ⊥
 no_sought looks.FirstChild href e = cc
@@ -45,20 +42,15 @@ no_sought looks.BaseChild href e = cc
 pub base_known : (collector : Collector) (x : Sought) → collector.base ≡ base.Sought x → IsWhole way_of Collects collector → ⊥
 base_known collector x e w =
     let at : BaseIs w.setting.address (sought (signs_of w.whole.tree)) (base.Sought x) = subst (λ (b : Base). BaseIs w.setting.address (sought (signs_of w.whole.tree)) b) e w.whole.known.base_is in
-    no_sought x (root_href (lines.tags_of w.whole.tree)) (sym (whole_sought w.setting w.bytes collector w.whole) ∙ at)
-
-same_tags : (tree : Tree) → lines.tags_of tree ≡ microdata.tags_of tree
-same_tags end = refl
-same_tags (element t inside rest) = ap₂ (λ (x y : Nodes Tag). rules.element (lines.read_tag t) x y) (same_tags inside) (same_tags rest)
-same_tags (text chars rest) = ap (λ (x : Nodes Tag). rules.text chars x) (same_tags rest)
+    no_sought x (root_href (tags_of w.whole.tree)) (sym (whole_sought w.setting w.bytes collector w.whole) ∙ at)
 
 -- it is the page's
 pub base_is : (setting : Setting) (bytes : List ℕ) (collector : Collector) (w : Whole (way_of setting) (Collects setting) bytes collector) (iri : Chars) → BaseIs setting.address (sought (signs_of w.tree)) (base.Known iri)
     → iri ≡ base_in setting.address w.tree
 base_is setting bytes collector w iri h =
-    let same : known h.0 ≡ known (root_href (lines.tags_of w.tree)) = sym h.1 ∙ whole_sought setting bytes collector w in
-    let href : h.0 ≡ root_href (lines.tags_of w.tree) = cc in
-    h.2 ∙ ap (λ x. base_by x setting.address) href ∙ ap (λ (t : Nodes Tag). base_by (root_href t) setting.address) (same_tags w.tree)
+    let same : known h.0 ≡ known (root_href (tags_of w.tree)) = sym h.1 ∙ whole_sought setting bytes collector w in
+    let href : h.0 ≡ root_href (tags_of w.tree) = cc in
+    h.2 ∙ ap (λ x. base_by x setting.address) href
 
 -- the table has the rows of the page
 pub rows_shown : (setting : Setting) (bytes : List ℕ) (collector : Collector) (w : Whole (way_of setting) (Collects setting) bytes collector)

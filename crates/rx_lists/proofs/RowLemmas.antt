@@ -130,10 +130,6 @@ more_rows old subject ks more_ks ss more_ss k j s v e g f l =
     ∙ ap (λ (x : List ℕ). owned subject (rows ks ss ++ (x, s) ∷ [])) g
     ∙ ap (λ (o : Owned). owned o.subject (o.lists ++ (j, s) ∷ [])) v
 
-pub if_both : {A E P Q R : Type 0} (r : Result A E) → (P → Q → R) → OnOk r P → OnOk r Q → OnOk r R
-if_both (Ok a) f p q = f p q
-if_both (Err e) f p q = p
-
 pub if_ok : {A E P Q : Type 0} (r : Result A E) → (P → Q) → OnOk r P → OnOk r Q
 if_ok (Ok a) f p = f p
 if_ok (Err e) f p = p

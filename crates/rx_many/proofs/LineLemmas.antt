@@ -25,10 +25,6 @@ use Rattle.rx_many.specs.declared.pages.Page.{Page as CodePage}
 use Rattle.rx_many.proofs.Growing.{known_distinct, place_stays}
 use Rattle.rx_many.proofs.KeyLemmas.{exact_blanks, alike}
 
-pub if_both : {A E P Q S : Type 0} (r : Result A E) → (P → Q → S) → OnOk r P → OnOk r Q → OnOk r S
-if_both (Ok a) f h k = f h k
-if_both (Err e) f h k = h
-
 -- ---- tests of lists
 
 pub contains_both : {A : Type 0} (same : A → A → Bool) (xs ys : List A) (a : A) → contains same (xs ++ ys) a ≡ (contains same xs a || contains same ys a)

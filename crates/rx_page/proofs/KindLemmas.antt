@@ -16,7 +16,8 @@ use Rattle.rx_grammar.specs.TagFaults.{RunFault, unknown, bad, no_reference, Val
 use Rattle.rx_grammar.specs.TagFaults as tags
 use Rattle.rx_grammar.specs.Tokens.{Tag}
 use Rattle.rx_nest.specs.Signs.{Sign, begun, said, finished}
-use Rattle.rx_base.specs.Lines.{read_tag, line_on}
+use Rattle.rx_base.specs.Lines.{line_on}
+use Rattle.rx_rdfa.specs.Pages.{read_tag}
 use Rattle.rx_curie.specs.Given.{kind_of}
 use Rattle.rx_rdfa.specs.Facts.{facts}
 use Rattle.rx_rdfa.specs.Names.{Context}

@@ -15,7 +15,7 @@ use Rattle.rx_grammar.specs.declared.faults.Kind.TheVariants.{Cycle, ItemsTooNes
 use Rattle.rx_grammar.specs.Trees.{Tree}
 use Rattle.rx_grammar.specs.Pages.{Page}
 use Rattle.rx_nest.specs.Signs.{signs_of}
-use Rattle.rx_base.specs.Lines.{tags_of}
+use Rattle.rx_rdfa.specs.Pages.{tags_of}
 use Rattle.rx_walk.specs.Refused.{refused_in}
 use Rattle.rx_microdata.specs.Json.{Refused, outcome}
 use Rattle.rx_microdata.specs.Visits.{standard_bounds}

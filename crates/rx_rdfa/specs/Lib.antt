@@ -1,4 +1,5 @@
 pub mod Tree
+pub mod Pages
 pub mod Names
 pub mod Standard
 pub mod Readings

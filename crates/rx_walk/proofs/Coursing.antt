@@ -16,7 +16,8 @@ use Rattle.rx_nest.specs.Signs.{Sign, begun, said}
 use Rattle.rx_nest.specs.Fronts.{IsFront}
 use Rattle.rx_walk.specs.declared.courses.RdfaListener.{RdfaListener}
 use Rattle.rx_walk.specs.declared.origins.Origin.{Origin}
-use Rattle.rx_base.specs.Lines.{read_tag, around, line_on, line_of}
+use Rattle.rx_base.specs.Lines.{around, line_on, line_of}
+use Rattle.rx_rdfa.specs.Pages.{read_tag}
 use Rattle.rx_walk.specs.CallsOf.{call_of, calls_of, singles}
 use Rattle.rx_base.specs.Seekings.{seek, sought}
 use Rattle.rx_walk.specs.Refused.{refused_at, refused_in}

@@ -21,7 +21,8 @@ use Rattle.rx_eval.proofs.ShownLemmas.{shows_after}
 use Rattle.rx_eval.proofs.StandLemmas.{finish_makes}
 use Rattle.rx_walk.specs.CallsOf.{calls_of}
 use Rattle.rx_walk.specs.Leading.{Leads}
-use Rattle.rx_base.specs.Lines.{tags_of, line_of}
+use Rattle.rx_base.specs.Lines.{line_of}
+use Rattle.rx_rdfa.specs.Pages.{tags_of}
 use Rattle.rx_walk.specs.Numberings.{NumbersBy, NumbersGrow, ListIsNumbered}
 use Rattle.rx_base.specs.Seekings.{first_child, known, seeks, sought}
 use Rattle.rx_walk.specs.Settings.{Setting}

@@ -17,7 +17,7 @@ use Rattle.rx_eval.proofs.NameLemmas.{grown_same, grown_then}
 use Rattle.rx_eval.proofs.StandLemmas.{begun_stands, enter_stands, text_stands, finish_makes}
 use Rattle.rx_walk.specs.CallsOf.{singly}
 use Rattle.rx_walk.specs.Leading.{Steps, Leads}
-use Rattle.rx_base.specs.Lines.{tags_of}
+use Rattle.rx_rdfa.specs.Pages.{tags_of}
 use Rattle.rx_walk.specs.Walks.{Lists, IsMade}
 use Rattle.rx_walk.proofs.Alike.{pieces_lead}
 use Rattle.rx_walk.proofs.Signed.{calls_tree}

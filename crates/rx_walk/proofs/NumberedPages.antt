@@ -11,7 +11,8 @@ use Rattle.rx_eval.specs.Opened.{begun_state}
 use Rattle.rx_eval.proofs.ShownLemmas.{shows_after}
 use Rattle.rx_eval.proofs.StandLemmas.{begun_stands}
 use Rattle.rx_rdfa.specs.Base.{base_by}
-use Rattle.rx_base.specs.Lines.{around, read_tag, line_on, line_of}
+use Rattle.rx_base.specs.Lines.{around, line_on, line_of}
+use Rattle.rx_rdfa.specs.Pages.{read_tag}
 use Rattle.rx_walk.specs.CallsOf.{call_of, calls_of}
 use Rattle.rx_base.specs.Seekings.{sought}
 use Rattle.rx_walk.specs.Numberings.{facts_along, IsNumbered}

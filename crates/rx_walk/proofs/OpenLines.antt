@@ -7,7 +7,8 @@ use Rattle.rx_pages.specs.Fronts.{IsUnderway}
 use Rattle.rx_rdfa.specs.Tree.{Tag}
 use Rattle.rx_nest.specs.ShownLines.{shown_line}
 use Rattle.rx_nest.proofs.ShownLines.{shows_open_ones, stands_underway}
-use Rattle.rx_base.specs.Lines.{read_tag, line_of}
+use Rattle.rx_base.specs.Lines.{line_of}
+use Rattle.rx_rdfa.specs.Pages.{read_tag}
 use Rattle.rx_base.proofs.Lines.{line_is}
 use Rattle.rx_walk.specs.Settings.{Setting}
 use Rattle.rx_walk.specs.Walks.{Walked, WalkStands, OverOpen, FramesFit, DepthGives}

@@ -8,7 +8,8 @@ use Rattle.rx_rdfa.specs.Facts.{facts, with_facts}
 use Rattle.rx_rdfa.specs.Names.{Context}
 use Rattle.rx_rdfa.specs.Tree.{Tag}
 use Rattle.rx_nest.specs.Signs.{Sign, said, finished, signs_of}
-use Rattle.rx_base.specs.Lines.{read_tag, tags_of, line_on, line_of}
+use Rattle.rx_base.specs.Lines.{line_on, line_of}
+use Rattle.rx_rdfa.specs.Pages.{read_tag, tags_of}
 use Rattle.rx_walk.specs.CallsOf.{call_of, calls_of, singles, singly}
 use Rattle.rx_base.proofs.Lines.{line_append, said_line, tree_line}
 use Rattle.rx_walk.specs.Refused.{refused_in}

@@ -18,7 +18,8 @@ use Rattle.rx_walk.specs.declared.stages.Stage.{Stage}
 use Rattle.rx_walk.specs.declared.stages.Stage.TheVariants as stage
 use Rattle.rx_base.specs.declared.seeking.Sought.{Sought}
 use Rattle.rx_base.specs.declared.seeking.Sought.TheVariants as looks
-use Rattle.rx_base.specs.Lines.{tags_of, line_of}
+use Rattle.rx_base.specs.Lines.{line_of}
+use Rattle.rx_rdfa.specs.Pages.{tags_of}
 use Rattle.rx_walk.specs.CallsOf.{calls_of}
 use Rattle.rx_base.specs.Seekings.{Seeking, known, sought}
 use Rattle.rx_walk.specs.Leading.{Led}

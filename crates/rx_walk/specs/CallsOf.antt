@@ -9,7 +9,8 @@ use Rattle.rx_rdfa.specs.Machine.{Machine}
 use Rattle.rx_rdfa.specs.Names.{Context}
 use Rattle.rx_rdfa.specs.Tree.{Tag}
 use Rattle.rx_nest.specs.Signs.{Sign, begun, said, finished, signs_of}
-use Rattle.rx_base.specs.Lines.{read_tag, tags_of, line_on}
+use Rattle.rx_base.specs.Lines.{line_on}
+use Rattle.rx_rdfa.specs.Pages.{read_tag, tags_of}
 
 -- the call for a sign: a start tag with its facts below a line, a character, an end
 abbrev pub call_of : Context → List Tag → Sign → Call

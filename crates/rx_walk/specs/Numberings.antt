@@ -17,7 +17,8 @@ use Rattle.rx_eval.specs.Shown.{ShowsAfter}
 use Rattle.rx_eval.specs.Standing as eval
 use Rattle.rx_eval.specs.States.{State}
 use Rattle.rx_eval.specs.Waits.{Shows}
-use Rattle.rx_base.specs.Lines.{line_of, tags_of}
+use Rattle.rx_base.specs.Lines.{line_of}
+use Rattle.rx_rdfa.specs.Pages.{tags_of}
 use Rattle.rx_walk.specs.CallsOf.{calls_of}
 use Rattle.rx_walk.specs.Settings.{Setting}
 use Rattle.rx_walk.specs.Walks.{Walked, WalkStands, Ended, state_of}

@@ -10,7 +10,8 @@ use Rattle.rx_rdfa.specs.Refusals.{Refusal, refusal}
 use Rattle.rx_rdfa.specs.Tree.{Tag}
 use Rattle.rx_nest.specs.Signs.{Sign, begun, said, finished}
 use Rattle.rx_nest.specs.Ways.{IsAtTag, IsAtOne, IsRefusal}
-use Rattle.rx_base.specs.Lines.{read_tag, line_on, line_of}
+use Rattle.rx_base.specs.Lines.{line_on, line_of}
+use Rattle.rx_rdfa.specs.Pages.{read_tag}
 use Rattle.rx_walk.specs.Refused.{fault_of, refused_at, refused_in}
 
 or_assoc : (a b c : Option Fault) → option_or (option_or a b) c ≡ option_or a (option_or b c)

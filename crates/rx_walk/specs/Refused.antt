@@ -9,7 +9,8 @@ use Rattle.rx_rdfa.specs.Refusals.{Refusal, refusal}
 use Rattle.rx_rdfa.specs.Tree.{Tag}
 use Rattle.rx_curie.specs.Given.{kind_of}
 use Rattle.rx_nest.specs.Signs.{Sign, begun, said, finished}
-use Rattle.rx_base.specs.Lines.{read_tag, line_on}
+use Rattle.rx_base.specs.Lines.{line_on}
+use Rattle.rx_rdfa.specs.Pages.{read_tag}
 
 -- the fault of a tag that is refused for this
 abbrev pub fault_of : StartTag → Refusal → Fault

@@ -31,7 +31,7 @@ use Rattle.rx_walk.specs.declared.courses.RdfaListener.{RdfaListener}
 use Rattle.rx_walk.specs.declared.stages.Stage.{Stage}
 use Rattle.rx_walk.specs.declared.stages.Stage.TheVariants as stage
 use Rattle.rx_base.specs.KnownBases.{IsKnownOver}
-use Rattle.rx_base.specs.Lines.{read_tag, tags_of}
+use Rattle.rx_rdfa.specs.Pages.{read_tag, tags_of}
 use Rattle.rx_walk.specs.CallsOf.{calls_of}
 use Rattle.rx_walk.specs.Refused.{refused_in}
 use Rattle.rx_walk.specs.Settings.{Setting, way_of}

@@ -7,7 +7,7 @@ use Rattle.rx_graph.proofs.patterns.pattern_nodes.Goals as goal
 pub loop-i-preserved : goal.loop-i-preserved
 loop-i-preserved c = elim c.if-says_pattern.branch [
   | then-says_pattern+in_ok-add w ↦ rw w.nodes-is (patterns_found c.args.triples.now c.loop-i.i c.at-triple.result.now c.loop-i.nodes _ c.at-triple.ensures (sym c.says_pattern.ensures ∙ w.if-says_pattern.true)
-      (w.in_ok-add.ensures ∙ ap (node_added c.loop-i.nodes) w.of_node.ensures) c.loop-i.invariant)
+      (w.in_ok-add.ensures.ok ∙ ap (node_added c.loop-i.nodes) w.of_node.ensures) c.loop-i.invariant)
   | else-says_pattern w ↦ rw w.nodes-is (patterns_kept c.args.triples.now c.loop-i.i c.at-triple.result.now c.loop-i.nodes c.at-triple.ensures (sym c.says_pattern.ensures ∙ w.if-says_pattern.false) c.loop-i.invariant)
 ]
 

@@ -1,8 +1,9 @@
 use Rattle.std.proofs.Common.{◌∙◌, ap, sym}
+use Rattle.rx_terms.proofs.OkLemmas.{on_ok_both}
 use Rattle.rx_model.specs.Seen.{triple_seen}
 use Rattle.rx_graph.specs.Resources.{resource_seen}
 use Rattle.rx_turtle.specs.Groups.{keys_in}
-use Rattle.rx_turtle.proofs.TakenLemmas.{keys_put, keys_begun, on_ok_then, on_ok_both}
+use Rattle.rx_turtle.proofs.TakenLemmas.{keys_put, keys_begun, on_ok_then}
 use Rattle.rx_turtle.proofs.groups.Groups.take.Goals as goal
 
 pub returns-then-is_at-clause-keys : goal.returns-then-is_at-clause-keys
