@@ -1,13 +1,12 @@
 -- Plain text and references that are taken at once, one after another.
 use Rattle.std.proofs.Common.{◌≡◌, ◌∙◌, ℕ, ◌+◌, ◌-◌, ◌≤◌, ◌<◌, Bool, true, false, List, [], ◌∷◌, ◌++◌, length, take, drop, refl, ap, sym, subst, Option, Some, None, append_assoc, arith, eqb-true, take-add, length-take-le, encode_utf8_all}
-use Rattle.std.specs.Prelude.{◌==◌, ◌&&◌, MatchBool, codes, if◌then◌else◌, IfSome}
+use Rattle.std.specs.Prelude.{◌==◌, MatchBool, codes, if◌then◌else◌, IfSome}
 use Rattle.std.specs.List.{list_all}
 use Rattle.std.specs.Str.{all_scalars}
-use Rattle.std.proofs.lemmas.Bool.{and_parts, eqb-false}
+use Rattle.std.proofs.lemmas.Bool.{and_parts}
 use Rattle.std.proofs.lemmas.List.{take_rest}
 use Rattle.std.proofs.lemmas.Str.{chars_from_encodes}
 use Rattle.rx_terms.specs.Text.{Chars, begins_with}
-use Rattle.rx_terms.proofs.Bools.{by_test}
 use Rattle.rx_chars.specs.declared.syntax.Syntax.{Syntax}
 use Rattle.rx_chars.specs.declared.syntax.Syntax.TheVariants.{Html, Xhtml}
 use Rattle.rx_chars.specs.Named.{named, named_table}
@@ -15,13 +14,12 @@ use Rattle.rx_grammar.specs.References.{meaning}
 use Rattle.rx_pages.specs.PageReader as reader
 use Rattle.rx_tags.proofs.TakeLemmas.{chosen as some_taken}
 use Rattle.rx_scan.specs.declared.marks.TokenState.TheVariants as mark
-use Rattle.rx_scan.specs.Pending.{Pending}
 use Rattle.rx_scan.specs.Entries as entries
 use Rattle.rx_scan.specs.Fronts.{TellsFront}
 use Rattle.rx_scan.specs.Places.{said}
 use Rattle.rx_scan.specs.Plain.{is_plain}
 use Rattle.rx_scan.specs.Scanner.{Reading}
-use Rattle.rx_scan.specs.WholeReferences.{usual_reference, IsReference, BeginsReference, TellsReference, TellsOne, of_plain, of_reference, TellsText, one, more}
+use Rattle.rx_scan.specs.WholeReferences.{usual_reference, IsReference, BeginsReference, TellsOne, of_plain, of_reference, TellsText, one, more}
 use Rattle.rx_scan.proofs.ByteLemmas.{match_by}
 use Rattle.rx_scan.proofs.PlainLemmas.{chars_plain}
 use Rattle.rx_scan.proofs.ReferenceLemmas.{reference_on}
@@ -150,8 +148,8 @@ pub text_more : (old l new : Reading) (bytes : List ℕ) (taken count : ℕ) →
 text_more old l new bytes taken count z f m t =
     match_by (taken == 0) _ _ m
     (λ b e. let n : taken ≡ 0 = eqb-true taken 0 b in
-      subst (λ (x : List ℕ). TellsText old x new) (ap (λ x. take count (drop x bytes)) n ∙ ap (λ x. take x bytes) (omega (arith, n)))
-      (one some (subst (λ (x : Reading). TellsOne x (take count (drop taken bytes)) new) e t)))
+    subst (λ (x : List ℕ). TellsText old x new) (ap (λ x. take count (drop x bytes)) n ∙ ap (λ x. take x bytes) (omega (arith, n)))
+    (one some (subst (λ (x : Reading). TellsOne x (take count (drop taken bytes)) new) e t)))
     (λ b w. subst (λ (x : List ℕ). TellsText old x new) (sym (take-add taken count bytes)) (more w some t))
   where
     some : 0 < length (take count (drop taken bytes))
