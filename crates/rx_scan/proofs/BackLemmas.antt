@@ -30,7 +30,7 @@ use Rattle.rx_pages.proofs.CharWalk.{first_among, len_positive, no_mark, no_retu
 use Rattle.rx_pages.proofs.FrontRead.{rises}
 use Rattle.rx_pages.proofs.ByteSteps.{not_le, not_long}
 use Rattle.rx_pages.proofs.TokensWalk.{Rises, flags_behind}
-use Rattle.rx_scan.specs.Spelled.{entries_at, AllBefore, is_some, ends_in_return, Spells, IsBetween}
+use Rattle.rx_scan.specs.Spelled.{entries_at, AllBefore, has_character, ends_in_return, Spells, IsBetween}
 use Rattle.rx_scan.proofs.SpelledLemmas.{first_known, same_flags}
 use Rattle.rx_scan.proofs.AheadLemmas.{Tail, at_end, Reads, reads_entry, bound_with, bound_run}
 
@@ -157,7 +157,7 @@ module _ (syntax : Syntax) (limits : Limits) (spot : Spot) (o : occurs syntax sp
     no_nul : has_no_nul (entries_at s.started s.after_return start cs) ≡ true
     within : AllBefore limits.page s.at rest
     end_is : final.next.at ≡ s.at + length rest
-    started : final.next.started ≡ (s.started || is_some cs)
+    started : final.next.started ≡ (s.started || has_character cs)
     after_return : final.next.after_return ≡ ends_in_return s.after_return cs
     items_are : final.items ≡ items ++ left
 
@@ -165,7 +165,7 @@ module _ (syntax : Syntax) (limits : Limits) (spot : Spot) (o : occurs syntax sp
   is_final : (s : Scanning) (items : List Item) → Ahead [] s items → record { next = s; items = items } ≡ final
   is_final s items a = by a.cs a.bytes a.begun a.tail a.started a.after_return
     where
-      by : (cs : List ℕ) → s.held ++ [] ≡ encodes cs ++ part → IsBegun s.held cs → Spelled_on s.run (entries_at s.started s.after_return a.start cs) s.two s.last a.left → final.next.started ≡ (s.started || is_some cs) → final.next.after_return ≡ ends_in_return s.after_return cs
+      by : (cs : List ℕ) → s.held ++ [] ≡ encodes cs ++ part → IsBegun s.held cs → Spelled_on s.run (entries_at s.started s.after_return a.start cs) s.two s.last a.left → final.next.started ≡ (s.started || has_character cs) → final.next.after_return ≡ ends_in_return s.after_return cs
           → record { next = s; items = items } ≡ final
       by (c ∷ cs) e b t st ar =
           let l : length (s.held ++ []) ≡ length (encodes (c ∷ cs)) + length part = ap length e ∙ length-append (encodes (c ∷ cs)) part in
@@ -313,7 +313,7 @@ module _ (syntax : Syntax) (limits : Limits) (spot : Spot) (o : occurs syntax sp
         end_on = let v = a.end_is in omega arith
 
         started_on : final.next.started ≡ true
-        started_on = a.started ∙ (ap (λ x. s.started || is_some x) are ∙ or_true s.started)
+        started_on = a.started ∙ (ap (λ x. s.started || has_character x) are ∙ or_true s.started)
 
         return_on : final.next.after_return ≡ ends_in_return (c == carriage_return) cs
         return_on = a.after_return ∙ ap (λ x. ends_in_return s.after_return x) are

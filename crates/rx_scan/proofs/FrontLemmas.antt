@@ -1,26 +1,18 @@
 -- What is taken at once is read like its bytes one after another.
-use Rattle.std.proofs.Common.{◌≡◌, ◌∙◌, ℕ, ◌+◌, ◌-◌, ◌≤◌, ◌<◌, true, false, List, [], ◌∷◌, ◌++◌, length, take, drop, ap, sym, subst, arith, eqb-true, take-add, length-take-le, length-drop, inl, inr, ◌⊎◌, encode_utf8_all}
+use Rattle.std.proofs.Common.{◌≡◌, ◌∙◌, ℕ, ◌+◌, ◌-◌, ◌≤◌, ◌<◌, false, List, [], ◌∷◌, ◌++◌, length, take, drop, ap, sym, subst, arith, eqb-true, take-add, length-take-le, length-drop, inl, inr, ◌⊎◌}
 use Rattle.std.specs.Prelude.{◌==◌, MatchBool}
-use Rattle.std.specs.List.{list_all}
-use Rattle.std.specs.Str.{all_scalars}
 use Rattle.std.proofs.lemmas.Bool.{eqb-false, cases_lt}
 use Rattle.std.proofs.lemmas.List.{take_rest}
-use Rattle.std.proofs.lemmas.Str.{chars_from_encodes}
 use Rattle.rx_scan.specs.declared.marks.TokenState.TheVariants as mark
 use Rattle.rx_pages.specs.PageReader as reader
 use Rattle.rx_tags.specs.TagBufs.{MayStep}
-use Rattle.rx_scan.specs.Entries as entries
-use Rattle.rx_scan.specs.Fronts.{TellsFront}
 use Rattle.rx_scan.specs.Openings.{TakesFront, of_text, of_tag, of_opening, in_tag}
-use Rattle.rx_scan.specs.Places.{said}
-use Rattle.rx_scan.specs.Plain.{is_plain}
 use Rattle.rx_scan.specs.Pending.{Pending}
 use Rattle.rx_scan.specs.Scanner.{Reading}
 use Rattle.rx_scan.specs.Steps.{ReadsAs}
 use Rattle.rx_scan.proofs.ByteLemmas.{match_by}
 use Rattle.rx_scan.proofs.FeedLemmas.{feed_on, feeds_steps}
 use Rattle.rx_scan.proofs.OpenLemmas.{open_on}
-use Rattle.rx_scan.proofs.PlainLemmas.{chars_plain}
 use Rattle.rx_scan.proofs.RunLemmas.{ReadsOn, reads_none}
 use Rattle.rx_scan.proofs.WholeTexts.{text_on, text_pending, text_between}
 

@@ -1,5 +1,5 @@
 -- The characters with which a tag begins are read like its bytes one after another.
-use Rattle.std.proofs.Common.{◌≡◌, ◌∙◌, ℕ, ◌+◌, Bool, true, false, List, [], ◌∷◌, ◌++◌, length, take, refl, ap, sym, subst, Ok, append_assoc, arith, eqb-true, zero, suc}
+use Rattle.std.proofs.Common.{◌≡◌, ◌∙◌, ℕ, ◌+◌, Bool, false, List, [], ◌∷◌, ◌++◌, take, refl, ap, sym, subst, Ok, append_assoc, arith, eqb-true, zero, suc}
 use Rattle.std.specs.Prelude.{◌&&◌, ◌==◌, not, nat_le, MatchBool}
 use Rattle.std.proofs.lemmas.Bool.{cond-false, lt-leb, leb-true, and_parts, or_from}
 use Rattle.rx_chars.specs.Characters.{as_line_end}

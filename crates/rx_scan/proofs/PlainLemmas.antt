@@ -1,5 +1,5 @@
 -- Plain bytes, and the plain characters that they are.
-use Rattle.std.proofs.Common.{◌≡◌, ◌∙◌, inl, inr, ℕ, zero, suc, ◌≤◌, Bool, true, false, not, List, [], ◌∷◌, take, refl, ap, sym, arith, encode_utf8, encode_utf8_all}
+use Rattle.std.proofs.Common.{◌≡◌, ◌∙◌, inl, inr, ℕ, ◌≤◌, Bool, true, false, not, List, [], ◌∷◌, refl, ap, sym, arith, encode_utf8, encode_utf8_all}
 use Rattle.std.specs.Prelude.{◌||◌, ◌==◌, nat_le}
 use Rattle.std.specs.List.{list_all}
 use Rattle.std.specs.Str.{IsUtf8}
@@ -58,9 +58,3 @@ chars_plain [] h = refl
 chars_plain (c ∷ cs) h =
     let k = and_parts (list_all is_plain (encode_utf8 c)) _ (sym (list_all-append is_plain (encode_utf8 c) (encode_utf8_all cs)) ∙ h) in
     and_from (is_plain c) _ (char_plain c k.0) (chars_plain cs k.1)
-
--- of plain bytes each front is plain
-pub front_plain : (n : ℕ) (bytes : List ℕ) → list_all is_plain bytes ≡ true → list_all is_plain (take n bytes) ≡ true
-front_plain zero bytes h = refl
-front_plain (suc n) [] h = refl
-front_plain (suc n) (x ∷ bytes) h = let k = and_parts (is_plain x) _ h in and_from (is_plain x) _ k.0 (front_plain n bytes k.1)

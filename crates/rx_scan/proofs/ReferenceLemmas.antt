@@ -1,11 +1,11 @@
 -- A reference that is taken at once is read like its bytes one after another.
-use Rattle.std.proofs.Common.{◌≡◌, ◌∙◌, ℕ, ◌+◌, ◌≤◌, ◌<◌, Bool, true, false, List, [], ◌∷◌, ◌++◌, length, take, refl, ap, sym, subst, Option, Some, Ok, append_assoc, append-nil, arith, encode_utf8_all}
-use Rattle.std.specs.Prelude.{◌&&◌, ◌==◌, not, nat_le, codes, if◌then◌else◌}
+use Rattle.std.proofs.Common.{◌≡◌, ◌∙◌, ℕ, ◌+◌, ◌≤◌, ◌<◌, Bool, true, false, List, [], ◌∷◌, ◌++◌, length, refl, ap, sym, subst, Option, Some, Ok, append_assoc, append-nil, arith, encode_utf8_all}
+use Rattle.std.specs.Prelude.{◌&&◌, ◌==◌, not, nat_le}
 use Rattle.std.specs.List.{list_all}
 use Rattle.std.proofs.lemmas.Bool.{cond-true, cond-false, lt-leb, and_parts, and_from, or_from, or_left}
 use Rattle.std.proofs.lemmas.Bool.Decides.{nat_tests}
 use Rattle.std.proofs.lemmas.List.{length-append}
-use Rattle.rx_terms.specs.Ascii.{ampersand, semicolon, is_ascii, is_letter, is_letter_or_digit}
+use Rattle.rx_terms.specs.Ascii.{is_ascii, is_letter, is_letter_or_digit}
 use Rattle.rx_terms.specs.Text.{Chars}
 use Rattle.rx_terms.proofs.CharLemmas.{ascii-same}
 use Rattle.rx_chars.specs.Characters.{as_line_end}
@@ -14,12 +14,10 @@ use Rattle.rx_chars.specs.declared.utf8.Utf8Step.{Utf8Step}
 use Rattle.rx_chars.specs.declared.utf8.Utf8Step.TheVariants.{Char}
 use Rattle.rx_chars.proofs.Utf8Answers.{first_whole}
 use Rattle.rx_grammar.specs.References.{meaning}
-use Rattle.rx_grammar.specs.Spelling.{has_references}
 use Rattle.rx_grammar.specs.Items.{values}
 use Rattle.rx_pages.specs.PageReader as reader
 use Rattle.rx_reader.specs.declared.phases.RunPhase.{RunPhase}
 use Rattle.rx_reader.specs.declared.phases.RunPhase.TheVariants as run
-use Rattle.rx_reader.specs.declared.phases.RunMove.{RunMove}
 use Rattle.rx_reader.specs.declared.phases.RunMove.TheVariants as run_moves
 use Rattle.rx_reader.specs.Tables.{run_move}
 use Rattle.rx_tags.specs.TagBufs.{no_tag}
@@ -36,7 +34,6 @@ use Rattle.rx_scan.specs.Buffers.{Buffered}
 use Rattle.rx_scan.specs.Entries as entries
 use Rattle.rx_scan.specs.Places.{said, ended, entered}
 use Rattle.rx_scan.specs.Scanner.{Reading}
-use Rattle.rx_scan.specs.Steps.{ReadsAs}
 use Rattle.rx_scan.specs.WholeReferences.{IsReference, TellsReference}
 use Rattle.rx_scan.proofs.FeedLemmas.{chosen}
 use Rattle.rx_scan.proofs.RunLemmas.{ReadsOn, reads_more}

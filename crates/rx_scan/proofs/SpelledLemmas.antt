@@ -52,7 +52,7 @@ use Rattle.rx_pages.proofs.TokenWalk.{IsKept, is_kept}
 use Rattle.rx_pages.proofs.EndedRuns.{ended_kept}
 use Rattle.rx_pages.proofs.ScanSteps.{scan_fault}
 use Rattle.rx_scan.specs.Steps.{Steps, is_of_syntax}
-use Rattle.rx_scan.specs.Spelled.{brackets_behind, entries_at, AllInside, MayCome, AllMayCome, AllBefore, is_some, ends_in_return, Spells, IsBetween, is_over, Enters, FitsWith, IsNoToken, Refuses, page_too_long, not_utf8, nul, tag_too_long, known_too_long, decided, section_end, late_doctype, FirstFault, StepAnswers, StepsSpell}
+use Rattle.rx_scan.specs.Spelled.{brackets_behind, entries_at, AllInside, MayCome, AllMayCome, AllBefore, has_character, ends_in_return, Spells, IsBetween, is_over, Enters, FitsWith, IsNoToken, Refuses, page_too_long, not_utf8, nul, tag_too_long, known_too_long, decided, section_end, late_doctype, FirstFault, StepAnswers, StepsSpell}
 use Rattle.rx_scan.specs.Spelled as spelled
 use Rattle.rx_scan.specs.Scanner.{spot_of}
 use Rattle.rx_scan.specs.declared.answers.Token as shown
@@ -193,7 +193,7 @@ item_first : (i : Content) (token : Token) (run : List Entry) (e : Entry) → (i
 item_first i token [] e = refl
 item_first i token (d ∷ run) e = refl
 
-some_is : (cs : List ℕ) → is_started cs ≡ is_some cs
+some_is : (cs : List ℕ) → is_started cs ≡ has_character cs
 some_is [] = refl
 some_is (c ∷ cs) = refl
 

@@ -1,13 +1,12 @@
 -- Plain text and references that are taken at once, one after another.
 use Rattle.std.proofs.Common.{◌≡◌, ◌∙◌, ℕ, ◌+◌, ◌-◌, ◌≤◌, ◌<◌, Bool, true, false, List, [], ◌∷◌, ◌++◌, length, take, drop, refl, ap, sym, subst, Option, Some, None, append_assoc, arith, eqb-true, take-add, length-take-le, encode_utf8_all}
-use Rattle.std.specs.Prelude.{◌==◌, ◌&&◌, MatchBool, codes, if◌then◌else◌, IfSome}
+use Rattle.std.specs.Prelude.{◌==◌, MatchBool, codes, if◌then◌else◌, IfSome}
 use Rattle.std.specs.List.{list_all}
 use Rattle.std.specs.Str.{all_scalars}
 use Rattle.std.proofs.lemmas.Bool.{and_parts, eqb-false}
 use Rattle.std.proofs.lemmas.List.{take_rest}
 use Rattle.std.proofs.lemmas.Str.{chars_from_encodes}
 use Rattle.rx_terms.specs.Text.{Chars, begins_with}
-use Rattle.rx_terms.proofs.Bools.{by_test}
 use Rattle.rx_chars.specs.declared.syntax.Syntax.{Syntax}
 use Rattle.rx_chars.specs.declared.syntax.Syntax.TheVariants.{Html, Xhtml}
 use Rattle.rx_chars.specs.Named.{named, named_table}
@@ -15,13 +14,12 @@ use Rattle.rx_grammar.specs.References.{meaning}
 use Rattle.rx_pages.specs.PageReader as reader
 use Rattle.rx_tags.proofs.TakeLemmas.{chosen as some_taken}
 use Rattle.rx_scan.specs.declared.marks.TokenState.TheVariants as mark
-use Rattle.rx_scan.specs.Pending.{Pending}
 use Rattle.rx_scan.specs.Entries as entries
 use Rattle.rx_scan.specs.Fronts.{TellsFront}
 use Rattle.rx_scan.specs.Places.{said}
 use Rattle.rx_scan.specs.Plain.{is_plain}
 use Rattle.rx_scan.specs.Scanner.{Reading}
-use Rattle.rx_scan.specs.WholeReferences.{usual_reference, IsReference, BeginsReference, TellsReference, TellsOne, of_plain, of_reference, TellsText, one, more}
+use Rattle.rx_scan.specs.WholeReferences.{usual_reference, IsReference, BeginsReference, TellsOne, of_plain, of_reference, TellsText, one, more}
 use Rattle.rx_scan.proofs.ByteLemmas.{match_by}
 use Rattle.rx_scan.proofs.PlainLemmas.{chars_plain}
 use Rattle.rx_scan.proofs.ReferenceLemmas.{reference_on}
@@ -144,24 +142,41 @@ pub text_between : (l : Reading) (front : List ℕ) (new : Reading) → TellsTex
 text_between l front new (one k t) = one_between l new front t
 text_between l _ new (more {front} {next} {middle} t k u) = text_between l front middle t
 
--- One more, behind what was taken of the bytes.
-pub text_more : (old l new : Reading) (bytes : List ℕ) (taken count : ℕ) → (count ≡ 0 → ⊥) → count ≤ length (drop taken bytes) → MatchBool (taken == 0) (l ≡ old) (TellsText old (take taken bytes) l) → TellsOne l (take count (drop taken bytes)) new
-    → TellsText old (take (taken + count) bytes) new
-text_more old l new bytes taken count z f m t =
-    match_by (taken == 0) _ _ m
-    (λ b e. let n : taken ≡ 0 = eqb-true taken 0 b in
-      subst (λ (x : List ℕ). TellsText old x new) (ap (λ x. take count (drop x bytes)) n ∙ ap (λ x. take x bytes) (omega (arith, n)))
-      (one some (subst (λ (x : Reading). TellsOne x (take count (drop taken bytes)) new) e t)))
-    (λ b w. subst (λ (x : List ℕ). TellsText old x new) (sym (take-add taken count bytes)) (more w some t))
-  where
-    some : 0 < length (take count (drop taken bytes))
-    some = subst (λ (x : ℕ). 0 < x) (sym (length-take-le count (drop taken bytes) f)) (omega (arith, z))
+pub one_kept : (l new : Reading) (front : List ℕ) (n : ℕ) → MatchBool (n == 0) (new ≡ l) (TellsOne l front new) → new.pending ≡ l.pending
+one_kept l new front n m = match_by (n == 0) _ _ m (λ b e. ap (λ (x : Reading). x.pending) e) (λ b t. one_pending l new front t)
 
--- the same for the turn of a loop, where a slice is what is left
-pub text_turns : (old l new : Reading) (bytes : List ℕ) (i n : ℕ) → (n ≡ 0 → ⊥) → n ≤ length (take (length bytes - i) (drop i bytes)) → MatchBool (i == 0) (l ≡ old) (TellsText old (take i bytes) l)
-    → MatchBool (n == 0) (new ≡ l) (TellsOne l (take n (take (length bytes - i) (drop i bytes))) new) → (new.pending ≡ l.pending) × MatchBool (i + n == 0) (new ≡ old) (TellsText old (take (i + n) bytes) new)
-text_turns old l new bytes i n z f m k =
-    let rest = take_rest bytes i in
-    match_by (n == 0) _ _ (subst (λ (x : List ℕ). MatchBool (n == 0) (new ≡ l) (TellsOne l (take n x) new)) rest k)
-    (λ b e. absurd (z (eqb-true n 0 b)))
-    (λ b t. (one_pending l new (take n (drop i bytes)) t, some_taken (i + n) (new ≡ old) _ (λ e. z (omega (arith, e))) (text_more old l new bytes i n z (subst (λ (x : List ℕ). n ≤ length x) rest f) m t)))
+pub plain_one : (b : Bool) (old l : Reading) (front : List ℕ) → MatchBool b (l ≡ old) (TellsFront old front l) → MatchBool b (l ≡ old) (TellsOne old front l)
+plain_one true old l front m = m
+plain_one false old l front m = of_plain m
+
+-- what is taken of the bytes, where it is some
+pub one_text : (old l : Reading) (bytes : List ℕ) (n : ℕ) → n ≤ length bytes → MatchBool (n == 0) (l ≡ old) (TellsOne old (take n bytes) l) → MatchBool (n == 0) (l ≡ old) (TellsText old (take n bytes) l)
+one_text old l bytes n f m =
+    match_by {G = MatchBool (n == 0) (l ≡ old) (TellsText old (take n bytes) l)} (n == 0) _ _ m
+    (λ b e. subst (λ (x : Bool). MatchBool x (l ≡ old) (TellsText old (take n bytes) l)) (sym b) e)
+    (λ b t. some_taken n (l ≡ old) (TellsText old (take n bytes) l) (eqb-false n 0 b) (one (subst (λ (x : ℕ). 0 < x) (sym (length-take-le n bytes f)) (let z = eqb-false n 0 b in omega (arith, z))) t))
+
+text_both : (old l : Reading) (front : List ℕ) → TellsText old front l → (next : List ℕ) (new : Reading) → TellsText l next new → TellsText old (front ++ next) new
+text_both old l front t next new (one k u) = more t k u
+text_both old l front t _ new (more {front = a} {next = b} {middle} u k w) = subst (λ (x : List ℕ). TellsText old x new) (append_assoc front a b) (more (text_both old l front t a middle u) k w)
+
+-- Text behind text, where a slice is what is left.
+pub text_sum : (old l new : Reading) (bytes : List ℕ) (i n : ℕ) → MatchBool (i == 0) (l ≡ old) (TellsText old (take i bytes) l) → MatchBool (n == 0) (new ≡ l) (TellsText l (take n (take (length bytes - i) (drop i bytes))) new)
+    → MatchBool (i + n == 0) (new ≡ old) (TellsText old (take (i + n) bytes) new)
+text_sum old l new bytes i n m k =
+    match_by {G = MatchBool (i + n == 0) (new ≡ old) (TellsText old (take (i + n) bytes) new)} (i == 0) _ _ m
+    (λ b e. match_by (n == 0) _ _ rest
+    (λ c f. let z : 0 ≡ i + n = omega (arith, eqb-true i 0 b, eqb-true n 0 c) in subst (λ (x : ℕ). MatchBool (x == 0) (new ≡ old) (TellsText old (take x bytes) new)) z (f ∙ e))
+    (λ c u. let z : i ≡ 0 = eqb-true i 0 b in
+    some_taken (i + n) (new ≡ old) _ (λ q. eqb-false n 0 c (omega (arith, q)))
+    (subst (λ (x : List ℕ). TellsText old x new) (ap (λ x. take n (drop x bytes)) z ∙ ap (λ x. take x bytes) (omega (arith, z)))
+    (subst (λ (x : Reading). TellsText x (take n (drop i bytes)) new) e u))))
+    (λ b t. match_by (n == 0) _ _ rest
+    (λ c f. let z : i ≡ i + n = omega (arith, eqb-true n 0 c) in
+    some_taken (i + n) (new ≡ old) _ (λ q. eqb-false i 0 b (omega (arith, q)))
+    (subst (λ (x : ℕ). TellsText old (take x bytes) new) z (subst (λ (x : Reading). TellsText old (take i bytes) x) (sym f) t)))
+    (λ c u. some_taken (i + n) (new ≡ old) _ (λ q. eqb-false n 0 c (omega (arith, q)))
+    (subst (λ (x : List ℕ). TellsText old x new) (sym (take-add i n bytes)) (text_both old l (take i bytes) t (take n (drop i bytes)) new u))))
+  where
+    rest : MatchBool (n == 0) (new ≡ l) (TellsText l (take n (drop i bytes)) new)
+    rest = subst (λ (x : List ℕ). MatchBool (n == 0) (new ≡ l) (TellsText l (take n x) new)) (take_rest bytes i) k

@@ -1,6 +1,6 @@
 -- Characters above ASCII are text, and plain.
-use Rattle.std.proofs.Common.{◌≡◌, ◌∙◌, ℕ, zero, suc, ◌≤◌, ◌<◌, Bool, true, false, List, [], ◌∷◌, length, take, drop, get_or, refl, ap, sym, subst, arith, take-add}
-use Rattle.std.specs.Prelude.{◌&&◌, nat_le, ◌++◌, ◌+◌}
+use Rattle.std.proofs.Common.{◌≡◌, ◌∙◌, ℕ, ◌≤◌, true, List, [], ◌∷◌, length, take, drop, get_or, refl, sym, subst, arith, take-add}
+use Rattle.std.specs.Prelude.{◌&&◌, ◌+◌}
 use Rattle.std.specs.List.{list_all}
 use Rattle.std.specs.Str.{IsUtf8}
 use Rattle.std.proofs.lemmas.Bool.{and_from, and_parts}

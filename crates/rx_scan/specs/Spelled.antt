@@ -58,9 +58,9 @@ AllBefore limit at [] = Unit {0}
 AllBefore limit at (byte ∷ bytes) = (at < limit) × AllBefore limit (at + 1) bytes
 
 -- there is a character
-abbrev pub is_some : List ℕ → Bool
-is_some [] = false
-is_some (c ∷ characters) = true
+abbrev pub has_character : List ℕ → Bool
+has_character [] = false
+has_character (c ∷ characters) = true
 
 -- the last character is a CR, or the one before all was
 abbrev pub ends_in_return : Bool → List ℕ → Bool
@@ -89,7 +89,7 @@ pub record Spells (syntax : Syntax) (limits : Limits) (spot : Spot) (s : Scannin
   pub is_part : IsPart part
   pub at_is : scanned.next.at ≡ s.at + length bytes
   pub part_is : scanned.next.held ≡ part
-  pub started_is : scanned.next.started ≡ (s.started || is_some characters)
+  pub started_is : scanned.next.started ≡ (s.started || has_character characters)
   pub return_is : scanned.next.after_return ≡ ends_in_return s.after_return characters
   pub two_is : scanned.next.two ≡ (brackets_behind scanned.items s.two s.last).0
   pub last_is : scanned.next.last ≡ (brackets_behind scanned.items s.two s.last).1

@@ -186,6 +186,7 @@ impl Reader {
     }
 
     /// Takes the plain text at the front, as far as it has room, and tells how many bytes it has.
+    #[inline(never)]
     pub(crate) fn say_front(&mut self, bytes: &[u8]) -> usize
         requires between { self.old.pending.mark ≡ TokenState.Nothing }
         requires size { self.old.text.size + 4 ≤ ROOM }

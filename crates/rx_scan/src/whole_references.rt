@@ -1,6 +1,6 @@
 //! The usual references, `&amp;`, `&lt;`, `&gt;` and `&quot;`, that stand whole in the piece, and the text around them. They
 //! are taken at once, so that the text isn't cut.
-ghost use Rattle.std.specs.Prelude.{◌≡◌, ◌+◌, ◌≤◌, ◌==◌, true, MatchBool, length, take, IfSome};
+ghost use Rattle.std.specs.Prelude.{◌≡◌, ◌+◌, ◌<◌, ◌≤◌, ◌==◌, true, MatchBool, length, take, IfSome};
 ghost use Rattle.rx_grammar.specs.Spelling as spelling;
 ghost use Rattle.rx_scan.specs.Fronts.{TellsPlain};
 ghost use Rattle.rx_scan.specs.WholeReferences as references;
@@ -28,6 +28,13 @@ fn whole_reference(bytes: &[u8]) -> Option<(char, usize)>
     ensures { IfSome result (λ r. references.BeginsReference bytes.now r.0 r.1) }
 {
     usual_reference(bytes)
+}
+
+// Whether a reference may stand there.
+fn has_ampersand(bytes: &[u8], at: usize) -> bool
+    ensures { result ≡ true → at < length bytes.now }
+{
+    at < bytes.len() && bytes[at] == b'&'
 }
 
 impl Reader {
@@ -67,7 +74,6 @@ impl Reader {
     }
 
     // Takes the reference or the plain text at the front.
-    #[inline(always)]
     fn say_one(&mut self, bytes: &[u8]) -> usize
         requires between { self.old.pending.mark ≡ TokenState.Nothing }
         requires size { self.old.text.size + 4 ≤ ROOM }
@@ -84,9 +90,9 @@ impl Reader {
         }
     }
 
-    /// Takes plain text and usual references at the front, as far as there is room, and tells how many bytes they have.
+    // Takes references and plain text one after another.
     #[inline(never)]
-    pub(crate) fn say_text(&mut self, bytes: &[u8]) -> usize
+    fn say_more(&mut self, bytes: &[u8]) -> usize
         requires between { self.old.pending.mark ≡ TokenState.Nothing }
         requires size { self.old.text.size + 4 ≤ ROOM }
         requires room { ROOM ≤ self.old.text.room }
@@ -104,5 +110,24 @@ impl Reader {
             taken += count;
         }
         taken
+    }
+
+    /// Takes plain text and usual references at the front, as far as there is room, and tells how many bytes they have.
+    #[inline(always)]
+    pub(crate) fn say_text(&mut self, bytes: &[u8]) -> usize
+        requires between { self.old.pending.mark ≡ TokenState.Nothing }
+        requires size { self.old.text.size + 4 ≤ ROOM }
+        requires room { ROOM ≤ self.old.text.room }
+        ensures fits { result ≤ length bytes.now }
+        ensures size { self.new.text.size + 4 ≤ ROOM }
+        ensures room { ROOM ≤ self.new.text.room }
+        ensures says { MatchBool (result == 0) (self.new ≡ self.old) (references.TellsText self.old (take result bytes.now) self.new) }
+    {
+        let count = self.say_front(bytes);
+        if !has_ampersand(bytes, count) {
+            return count;
+        }
+        let more = self.say_more(&bytes[count..]);
+        count + more
     }
 }

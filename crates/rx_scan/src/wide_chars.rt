@@ -41,10 +41,7 @@ fn is_three(first: u8, second: u8, third: u8) -> bool
 fn is_four(first: u8, second: u8, third: u8, fourth: u8) -> bool
     ensures { result ≡ (is_in (0xF0, 0xF4) first && (held.fits_second first second && (is_in tail third && is_in tail fourth))) }
 {
-    matches!(first, 0xF0..=0xF4)
-        && fits_second(first, second)
-        && is_tail(third)
-        && is_tail(fourth)
+    matches!(first, 0xF0..=0xF4) && fits_second(first, second) && is_tail(third) && is_tail(fourth)
 }
 
 fn begins_two(bytes: &[u8]) -> bool

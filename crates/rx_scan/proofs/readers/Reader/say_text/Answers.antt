@@ -1,18 +1,32 @@
-use Rattle.std.proofs.Common.{◌∙◌, ap}
+use Rattle.std.proofs.Common.{◌∙◌, ap, take}
+use Rattle.std.specs.Prelude.{◌==◌}
 use Rattle.rx_scan.specs.Pending.{Pending}
 use Rattle.rx_scan.proofs.FrontLemmas.{front_within}
-use Rattle.rx_scan.proofs.WholeTexts.{text_turns}
+use Rattle.rx_scan.proofs.WholeTexts.{one_kept, one_text, plain_one, text_sum}
 use Rattle.rx_scan.proofs.readers.Reader.say_text.Goals as goal
 
-pub loop-taken-preserved : goal.loop-taken-preserved
-loop-taken-preserved c =
-    let l = c.loop-taken in
-    let told = c.say_one-count.ensures in
-    let turn = text_turns c.args.self.now l.self c.say_one-count.new.self c.args.bytes.now l.taken c.say_one-count.result c.if-count-eq0.false told.fits l.invariant.says told.says in
-    record {
-      within = front_within c.args.bytes.now l.taken c.say_one-count.result l.invariant.within told.fits;
-      between = ap (λ (x : Pending). x.mark) turn.0 ∙ l.invariant.between;
-      size = told.size;
-      room = told.room;
-      says = turn.1;
-    }
+pub say_more-more-requires-clause-between : goal.say_more-more-requires-clause-between
+say_more-more-requires-clause-between c =
+    let l = c.say_front-count.new.self in
+    let n = c.say_front-count.result in
+    let front = take n c.args.bytes.now in
+    ap (λ (x : Pending). x.mark) (one_kept c.args.self.now l front n (plain_one (n == 0) c.args.self.now l front c.say_front-count.ensures.says)) ∙ c.requires.between
+
+pub returns-then-not-has_ampersand-clause-says : goal.returns-then-not-has_ampersand-clause-says
+returns-then-not-has_ampersand-clause-says c =
+    let l = c.say_front-count.new.self in
+    let n = c.say_front-count.result in
+    let bytes = c.args.bytes.now in
+    one_text c.args.self.now l bytes n c.say_front-count.ensures.fits (plain_one (n == 0) c.args.self.now l (take n bytes) c.say_front-count.ensures.says)
+
+pub returns-clause-fits : goal.returns-clause-fits
+returns-clause-fits c = front_within c.args.bytes.now c.say_front-count.result c.say_more-more.result c.say_front-count.ensures.fits c.say_more-more.ensures.fits
+
+pub returns-clause-says : goal.returns-clause-says
+returns-clause-says c =
+    let old = c.args.self.now in
+    let l = c.say_front-count.new.self in
+    let n = c.say_front-count.result in
+    let bytes = c.args.bytes.now in
+    text_sum old l c.say_more-more.new.self bytes n c.say_more-more.result
+    (one_text old l bytes n c.say_front-count.ensures.fits (plain_one (n == 0) old l (take n bytes) c.say_front-count.ensures.says)) c.say_more-more.ensures.says

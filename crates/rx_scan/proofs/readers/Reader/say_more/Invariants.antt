@@ -2,7 +2,7 @@ use Rattle.std.proofs.Common.{◌≡◌, ◌+◌, ◌-◌, ◌≤◌, length, ta
 use Rattle.std.specs.Prelude.{◌==◌, MatchBool}
 use Rattle.rx_scan.specs.declared.marks.TokenState.TheVariants as mark
 use Rattle.rx_scan.specs.WholeReferences.{TellsText}
-use Rattle.rx_scan.proofs.readers.Reader.say_text.Given as goal
+use Rattle.rx_scan.proofs.readers.Reader.say_more.Given as goal
 
 abbrev pub invariant-loop-taken : goal.invariant-loop-taken
 invariant-loop-taken l = record {
