@@ -134,10 +134,6 @@ pub if_both : {A E P Q R : Type 0} (r : Result A E) → (P → Q → R) → OnOk
 if_both (Ok a) f p q = f p q
 if_both (Err e) f p q = p
 
-pub if_ok : {A E P Q : Type 0} (r : Result A E) → (P → Q) → OnOk r P → OnOk r Q
-if_ok (Ok a) f p = f p
-if_ok (Err e) f p = p
-
 pub keys_of : (o : Owned) (subject : Node) (ks : List (List ℕ)) (ss : List (List (Option Term))) → owned subject (rows ks ss) ≡ o → length ks ≡ length ss → predicates_of o.lists ≡ ks
 keys_of o subject ks ss v e = ap (λ (x : Owned). predicates_of x.lists) (sym v) ∙ keys_are ks ss e
 
