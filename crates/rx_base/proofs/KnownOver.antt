@@ -32,8 +32,8 @@ use Rattle.rx_base.specs.KnownBases.{is_decided, IsKnownOver, KnowsOverBytes}
 use Rattle.rx_base.proofs.Lines.{line_is, seeks_append, said_seeks}
 use Rattle.rx_base.proofs.Found.{known_stays}
 use Rattle.rx_base.proofs.CutTrees.{prefix, Gives, sought_cut}
-use Rattle.rx_base.proofs.WideReading.{read_wide}
-use Rattle.rx_base.proofs.Depths.{deep_or_none}
+use Rattle.rx_nest.proofs.WideReading.{read_wide}
+use Rattle.rx_nest.proofs.Depths.{deep_or_none}
 use Rattle.rx_base.proofs.TagEnds.{Says, Settles, settled, says_more, byte_settles}
 
 abbrev shown : Progress → List Sign

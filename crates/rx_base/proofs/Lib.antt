@@ -3,7 +3,5 @@ pub mod Found
 pub mod TagLemmas
 pub mod MomentLemmas
 pub mod CutTrees
-pub mod WideReading
 pub mod TagEnds
 pub mod KnownOver
-pub mod Depths

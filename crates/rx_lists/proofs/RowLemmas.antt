@@ -130,10 +130,6 @@ more_rows old subject ks more_ks ss more_ss k j s v e g f l =
     ∙ ap (λ (x : List ℕ). owned subject (rows ks ss ++ (x, s) ∷ [])) g
     ∙ ap (λ (o : Owned). owned o.subject (o.lists ++ (j, s) ∷ [])) v
 
-pub if_ok : {A E P Q : Type 0} (r : Result A E) → (P → Q) → OnOk r P → OnOk r Q
-if_ok (Ok a) f p = f p
-if_ok (Err e) f p = p
-
 pub keys_of : (o : Owned) (subject : Node) (ks : List (List ℕ)) (ss : List (List (Option Term))) → owned subject (rows ks ss) ≡ o → length ks ≡ length ss → predicates_of o.lists ≡ ks
 keys_of o subject ks ss v e = ap (λ (x : Owned). predicates_of x.lists) (sym v) ∙ keys_are ks ss e
 

@@ -23,6 +23,8 @@ pub mod Firsts
 pub mod FaultPlacing
 pub mod PlaceLaws
 pub mod RefusedTags
+pub mod WideReading
+pub mod Depths
 pub mod Meanings
 pub mod FaultsOfPieces
 pub mod Stopping

@@ -112,15 +112,18 @@ impl<L: Listener + Drop> Reading<L> {
     }
 
     /// Takes the whole piece. Text takes no memory where the listener needs none for it: a piece without `<` and `&` then
-    /// never wants memory where no token is unfinished.
+    /// never wants memory where no token is unfinished. After a fault or want of memory it answers the same again, and changes
+    /// nothing: the listener is told no more.
     pub fn feed(&mut self, piece: &[u8]) -> Result<(), Stop>
         ensures gives { readings.Feeds L.way L.knows self.old piece.now result self.new }
         ensures place { FeedsInPlace L.way L.knows self.old piece.now result }
         ensures quiet { quiets.FeedsQuietly L.way L.knows L.idle self.old piece.now result }
         ensures asked { MayAnswer self.old.failed self.old.out_of_memory result }
         ensures keeps { Answered result self.new.failed self.new.out_of_memory }
+        ensures stays { readings.has_failed self.old ≡ true → self.new ≡ self.old }
     {
         if self.out_of_memory {
+            // without memory once, nothing more is read
             return Err(Stop::NoMemory);
         }
         if let Some(fault) = self.failed {
