@@ -19,6 +19,7 @@ pub mod PlainLemmas
 pub mod SaidLemmas
 pub mod FrontLemmas
 pub mod LoopLemmas
+pub mod WholeTagLemmas
 pub mod SpelledLemmas
 pub mod AheadLemmas
 pub mod BackLemmas

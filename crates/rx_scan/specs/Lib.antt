@@ -6,6 +6,7 @@ pub mod Bytes
 pub mod Entries
 pub mod Fronts
 pub mod Openings
+pub mod WholeTags
 pub mod Steps
 pub mod Spelled
 pub mod Marks

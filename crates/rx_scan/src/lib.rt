@@ -37,6 +37,7 @@ mod scans;
 mod settings;
 mod tag_entries;
 mod texts;
+mod whole_tags;
 mod words;
 
 pub use answers::Token;
