@@ -22,6 +22,7 @@ pub mod ReferenceLemmas
 pub mod WholeTexts
 pub mod FrontLemmas
 pub mod LoopLemmas
+pub mod WholeTagLemmas
 pub mod SpelledLemmas
 pub mod AheadLemmas
 pub mod BackLemmas

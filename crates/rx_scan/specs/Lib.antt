@@ -8,6 +8,7 @@ pub mod Entries
 pub mod Fronts
 pub mod WholeReferences
 pub mod Openings
+pub mod WholeTags
 pub mod Steps
 pub mod Spelled
 pub mod Marks

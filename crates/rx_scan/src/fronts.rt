@@ -40,8 +40,8 @@ fn left_of(most: u64, taken: u64) -> u64
     most.saturating_sub(taken)
 }
 
-// Whether the first byte behind a `<` surely begins a tag.
-fn opens_tag(bytes: &[u8]) -> bool
+/// Whether the first byte behind a `<` surely begins a tag.
+pub(crate) fn opens_tag(bytes: &[u8]) -> bool
     ensures { result ≡ true → (setting : Setting) → OpensTag setting bytes.now }
 {
     match bytes.first() {
@@ -71,8 +71,8 @@ impl Reader {
         }
     }
 
-    // How many bytes of a tag are past neither the page's limit nor the tag's.
-    fn tag_limit(&self, length: usize) -> usize
+    /// How many bytes of a tag are past neither the page's limit nor the tag's.
+    pub(crate) fn tag_limit(&self, length: usize) -> usize
         ensures fits { result ≤ length }
         ensures page { 0 < result → self.now.place.at + result ≤ self.now.setting.limits.page }
         ensures tag { 0 < result → self.now.place.at + result ≤ self.now.place.token + self.now.setting.limits.tag }

@@ -38,6 +38,7 @@ mod settings;
 mod tag_entries;
 mod texts;
 mod whole_references;
+mod whole_tags;
 mod wide_chars;
 mod words;
 

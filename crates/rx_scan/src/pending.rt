@@ -1,9 +1,9 @@
 //! The characters since the last token.
-ghost use Rattle.std.specs.Prelude.{◌≡◌, true, [], ◌∷◌, ◌++◌, IfOk, Ok, OnOk};
+ghost use Rattle.std.specs.Prelude.{◌≡◌, ◌<◌, true, [], ◌∷◌, ◌++◌, IfOk, Ok, OnOk};
 ghost use Rattle.rx_reader.specs.Tables.{is_last};
 ghost use Rattle.rx_reader.specs.TagReader.{parts_of, is_closing};
 ghost use Rattle.rx_tags.specs.Seen.{tag_seen};
-ghost use Rattle.rx_tags.specs.TagBufs.{no_tag, MayStep, StepGives, TakesMore};
+ghost use Rattle.rx_tags.specs.TagBufs.{no_tag, MayStep, StepGives, TakesMore, TakesWhole};
 ghost use Rattle.rx_scan.specs.Pending.{bracket_text, in_section};
 
 use crate::buffers::Buffer;
@@ -125,6 +125,16 @@ impl Unfinished {
         ensures kept { self.new ≡ record self.old { tag = self.new.tag } }
     {
         self.tag.take_front(bytes)
+    }
+
+    /// A tag that stands whole at the front of some bytes. Tells how many bytes it has, and 0 where none does.
+    #[inline(always)]
+    pub(crate) fn take_whole(&mut self, bytes: &[u8]) -> usize
+        ensures none { result ≡ 0 → self.new ≡ self.old }
+        ensures takes { 0 < result → TakesWhole self.old.tag bytes.now result self.new.tag }
+        ensures kept { self.new ≡ record self.old { tag = self.new.tag } }
+    {
+        self.tag.take_whole(bytes)
     }
 
     /// Whether the tag is an end tag.

@@ -69,6 +69,10 @@ impl Reader {
         ensures quiet { self.old.pending.mark ≡ TokenState.Nothing → is_quiet piece.now ≡ true → IsNoMemory result ≡ false }
         ensures quiet_tells { self.old.pending.mark ≡ TokenState.Nothing → is_quiet piece.now ≡ true → IfOk result (λ answer. is_tag answer.1 ≡ false) }
     {
+        let whole = self.take_tag(piece);
+        if whole > 0 {
+            return Ok((whole, TokenKind::Tag));
+        }
         let mut taken = self.take_front(piece);
         while taken < piece.len() {
             match self.read(piece[taken]) {
@@ -82,6 +86,10 @@ impl Reader {
             }
             if self.must_show() {
                 return Ok((taken, TokenKind::Text));
+            }
+            let count = self.take_tag(&piece[taken..]);
+            if count > 0 {
+                return Ok((taken + count, TokenKind::Tag));
             }
             taken += self.take_front(&piece[taken..]);
         }

@@ -12,7 +12,8 @@ use rx_grammar::{Fault, Kind};
 use rx_tags::{Stop, TagError, TagStep};
 
 impl Reader {
-    fn end_tag(&mut self, after_return: bool)
+    /// The tag that was read is whole.
+    pub(crate) fn end_tag(&mut self, after_return: bool)
         requires last { is_last self.old.pending.tag.state.phase ≡ true }
         requires room { self.old.place.at + 1 < 2 ^ 64 }
         ensures { self.new ≡ entries.with_tag self.old after_return }

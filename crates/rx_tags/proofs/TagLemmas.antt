@@ -1,5 +1,5 @@
 -- A tag that stands whole is read like its characters one after another.
-use Rattle.std.proofs.Common.{◌≡◌, ◌∙◌, ℕ, ◌+◌, ◌-◌, ◌≤◌, ◌<◌, Bool, List, [], length, take, drop, refl, ap, sym, subst, arith, length-drop, get_or}
+use Rattle.std.proofs.Common.{◌≡◌, ◌∙◌, ℕ, ◌+◌, ◌-◌, ◌≤◌, ◌<◌, Bool, List, length, take, drop, refl, ap, sym, subst, arith, length-drop, get_or}
 use Rattle.std.proofs.lemmas.Grind.{common_steps}
 use Rattle.std.proofs.lemmas.List.{take_rest}
 use Rattle.rx_terms.specs.Ascii.{solidus, greater_than_sign}
@@ -13,7 +13,7 @@ use Rattle.rx_reader.specs.declared.phases.TagAction.TheVariants as action
 use Rattle.rx_reader.specs.Tables.{go, move_of}
 use Rattle.rx_reader.specs.TagReader.{TagState}
 use Rattle.rx_tags.specs.Fronts.{GainsName, TakesFront}
-use Rattle.rx_tags.specs.Lists.{only, ClosesAt, TakesList, TakesBehind, TakesTag}
+use Rattle.rx_tags.specs.Lists.{ClosesAt, TakesList, TakesBehind, TakesTag}
 use Rattle.rx_tags.specs.Pairs.{Pairs, no_pairs}
 use Rattle.rx_tags.specs.TagBufs.{TakesWhole}
 use Rattle.rx_tags.specs.TagReads.{TagRead, state_of}

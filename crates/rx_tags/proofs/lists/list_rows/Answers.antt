@@ -1,5 +1,4 @@
-use Rattle.std.proofs.Common.{◌<◌, ◌+◌, length, arith}
-use Rattle.rx_reader.specs.declared.phases.TagPhase.TheVariants as phase
+use Rattle.std.proofs.Common.{◌<◌, length, arith}
 use Rattle.rx_tags.proofs.ListLemmas.{row_added, space_added}
 use Rattle.rx_tags.proofs.lists.list_rows.Goals as goal
 

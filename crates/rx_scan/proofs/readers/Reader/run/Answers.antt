@@ -1,26 +1,47 @@
 use Rattle.std.proofs.Common.{◌≡◌, length, take, drop, ◌-◌, ◌<◌, ◌∙◌, ℕ, ◌+◌, sym, subst, inl, arith, refl, Result, get_or, false}
-use Rattle.std.specs.Prelude.{IfOk}
+use Rattle.std.specs.Prelude.{IfOk, MatchBool, ◌==◌, ◌≤◌}
 use Rattle.rx_grammar.specs.declared.stops.Stop.{Stop}
 use Rattle.rx_scan.specs.declared.answers.TokenKind.{TokenKind}
+use Rattle.rx_scan.specs.Buffers.{Buffered}
+use Rattle.rx_scan.specs.Openings.{TakesFront}
+use Rattle.rx_scan.specs.Scanner.{Reading}
 use Rattle.rx_scan.specs.Steps.{Runs, is_tag}
 use Rattle.rx_scan.proofs.RunLemmas.{took_text}
 use Rattle.rx_scan.proofs.LoopLemmas.{next_read, token_read, stopped, rest_took, lends, may_step}
 use Rattle.rx_scan.proofs.QuietLemmas.{quiet_tells, quiet_at, between_tells, stopped_tells, other_tells}
 use Rattle.rx_scan.proofs.FrontLemmas.{IsKept, kept, quiet_on, apart_on, later_on, front_first, front_next, front_within}
+use Rattle.rx_scan.proofs.WholeTagLemmas.{tag_first, tag_next, lends_tag, keeps_text, not_between}
 use Rattle.rx_scan.proofs.readers.Reader.run.Goals as goal
+
+pub returns-then-whole-gt0-clause-runs : goal.returns-then-whole-gt0-clause-runs
+returns-then-whole-gt0-clause-runs c =
+    λ s h. tag_first c.args.self.now c.take_tag-whole.new.self s c.args.piece.now c.take_tag-whole.result c.requires.none h (c.take_tag-whole.ensures.takes c.if-whole-gt0.true)
+
+pub returns-then-whole-gt0-clause-ready : goal.returns-then-whole-gt0-clause-ready
+returns-then-whole-gt0-clause-ready c =
+    let t = c.take_tag-whole.ensures.takes c.if-whole-gt0.true in (
+      lends_tag c.args.self.now c.take_tag-whole.new.self c.args.piece.now c.take_tag-whole.result t,
+      subst (λ (x : Buffered). 4096 ≤ x.room) (sym (keeps_text c.args.self.now c.take_tag-whole.new.self c.args.piece.now c.take_tag-whole.result t)) c.requires.room,
+    )
+
+pub returns-then-whole-gt0-clause-quiet_tells : goal.returns-then-whole-gt0-clause-quiet_tells
+returns-then-whole-gt0-clause-quiet_tells c =
+    λ m q. absurd (not_between c.args.self.now c.take_tag-whole.new.self c.args.piece.now c.take_tag-whole.result (c.take_tag-whole.ensures.takes c.if-whole-gt0.true) m)
 
 pub loop-taken-init : goal.loop-taken-init
 loop-taken-init c =
     let n = c.take_front-taken.result in
     let new = c.take_front-taken.new.self in
-    let k : IsKept c.args.self.now n new = kept c.args.self.now new (take n c.args.piece.now) n c.take_front-taken.ensures.takes in
+    let same : c.take_tag-whole.new.self ≡ c.args.self.now = c.take_tag-whole.ensures.none (omega (arith, c.if-whole-gt0.false)) in
+    let takes = subst (λ (x : Reading). MatchBool (n == 0) (new ≡ x) (TakesFront x (take n c.args.piece.now) new)) same c.take_front-taken.ensures.takes in
+    let k : IsKept c.args.self.now n new = kept c.args.self.now new (take n c.args.piece.now) n takes in
     record {
       within = c.take_front-taken.ensures.fits;
       may_step = k.steps c.requires.may_step;
       room = c.take_front-taken.ensures.room;
       fits = c.take_front-taken.ensures.size;
       apart = apart_on c.args.self.now new n k (inl c.requires.none);
-      so_far = λ s h. front_first c.args.self.now new s c.args.piece.now n c.requires.none c.take_front-taken.ensures.fits h c.take_front-taken.ensures.takes;
+      so_far = λ s h. front_first c.args.self.now new s c.args.piece.now n c.requires.none c.take_front-taken.ensures.fits h takes;
       later = λ x. subst (λ (z : ℕ). 0 < z) (omega arith) (later_on c.args.self.now new n k 0 (λ y. absurd (y c.requires.none)) x);
       quiet = λ m q. quiet_on c.args.self.now new n k m;
     }
@@ -48,6 +69,26 @@ pub returns-then-is_token-clause-quiet_tells : goal.returns-then-is_token-clause
 returns-then-is_token-clause-quiet_tells c =
     λ m q. between_tells c.loop-taken.self c.read.new.self (get_or c.args.piece.now c.loop-taken.taken 0) c.in-Ok.what (c.loop-taken.invariant.quiet m q) c.in-Ok.ensures.reads
 
+pub returns-then-count-gt0-clause-runs : goal.returns-then-count-gt0-clause-runs
+returns-then-count-gt0-clause-runs c =
+    let not_token = sym c.is_token.ensures ∙ c.if-is_token.false in
+    λ s h. tag_next c.args.self.now c.read.new.self c.take_tag-count.new.self s c.args.piece.now (c.loop-taken.taken + 1) c.take_tag-count.result (omega (arith, c.loop-taken-test.true))
+    (next_read c.args.self.now c.loop-taken.self c.read.new.self s c.args.piece.now c.loop-taken.taken c.loop-taken-test.true (c.loop-taken.invariant.so_far s h) c.in-Ok.what not_token c.in-Ok.ensures.reads)
+    (c.must_show.ensures.apart c.if-must_show.false) (c.take_tag-count.ensures.takes c.if-count-gt0.true)
+
+pub returns-then-count-gt0-clause-ready : goal.returns-then-count-gt0-clause-ready
+returns-then-count-gt0-clause-ready c =
+    let t = c.take_tag-count.ensures.takes c.if-count-gt0.true in
+    let same = keeps_text c.read.new.self c.take_tag-count.new.self _ c.take_tag-count.result t in (
+      lends_tag c.read.new.self c.take_tag-count.new.self _ c.take_tag-count.result t,
+      subst (λ (x : Buffered). 4096 ≤ x.room) (sym same) (omega (arith, c.loop-taken.invariant.room, c.in-Ok.ensures.ready.room)),
+    )
+
+pub returns-then-count-gt0-clause-quiet_tells : goal.returns-then-count-gt0-clause-quiet_tells
+returns-then-count-gt0-clause-quiet_tells c =
+    λ m q. absurd (not_between c.read.new.self c.take_tag-count.new.self _ c.take_tag-count.result (c.take_tag-count.ensures.takes c.if-count-gt0.true)
+    (quiet_tells c.loop-taken.self c.read.new.self (get_or c.args.piece.now c.loop-taken.taken 0) c.in-Ok.what (c.loop-taken.invariant.quiet m q) (quiet_at c.args.piece.now c.loop-taken.taken c.loop-taken-test.true q) c.in-Ok.ensures.reads))
+
 pub loop-taken-preserved : goal.loop-taken-preserved
 loop-taken-preserved c =
     let i = c.loop-taken.taken + 1 in
@@ -55,7 +96,10 @@ loop-taken-preserved c =
     let l = c.read.new.self in
     let new = c.take_front-taken-in-loop-taken.new.self in
     let told = c.take_front-taken-in-loop-taken.ensures in
-    let k : IsKept l n new = kept l new (take n (take (length c.args.piece.now - i) (drop i c.args.piece.now))) n told.takes in
+    let same : c.take_tag-count.new.self ≡ l = c.take_tag-count.ensures.none (omega (arith, c.if-count-gt0.false)) in
+    let front = take n (take (length c.args.piece.now - i) (drop i c.args.piece.now)) in
+    let takes = subst (λ (x : Reading). MatchBool (n == 0) (new ≡ x) (TakesFront x front new)) same told.takes in
+    let k : IsKept l n new = kept l new front n takes in
     let not_token = sym c.is_token.ensures ∙ c.if-is_token.false in
     record {
       within = front_within c.args.piece.now i n (omega (arith, c.loop-taken-test.true)) told.fits;
@@ -64,7 +108,7 @@ loop-taken-preserved c =
       fits = told.size;
       apart = apart_on l new n k (c.must_show.ensures.apart c.if-must_show.false);
       so_far = λ s h. front_next c.args.self.now l new s c.args.piece.now i n told.fits
-          (next_read c.args.self.now c.loop-taken.self l s c.args.piece.now c.loop-taken.taken c.loop-taken-test.true (c.loop-taken.invariant.so_far s h) c.in-Ok.what not_token c.in-Ok.ensures.reads) told.takes;
+          (next_read c.args.self.now c.loop-taken.self l s c.args.piece.now c.loop-taken.taken c.loop-taken-test.true (c.loop-taken.invariant.so_far s h) c.in-Ok.what not_token c.in-Ok.ensures.reads) takes;
       later = later_on l new n k i (λ x. omega arith);
       quiet = λ m q. quiet_on l new n k
           (quiet_tells c.loop-taken.self l (get_or c.args.piece.now c.loop-taken.taken 0) c.in-Ok.what (c.loop-taken.invariant.quiet m q) (quiet_at c.args.piece.now c.loop-taken.taken c.loop-taken-test.true q) c.in-Ok.ensures.reads);

@@ -1,0 +1,196 @@
+-- A tag that is taken whole is read like its bytes one after another.
+use Rattle.std.proofs.Common.{◌≡◌, ◌≢◌, ◌∙◌, ◌⊎◌, ℕ, ◌+◌, ◌-◌, ◌≤◌, ◌<◌, Bool, true, false, List, [], ◌∷◌, ◌++◌, length, take, drop, refl, ap, sym, subst, inl, inr, Ok, Result, arith, get_or, length-take-le, length-drop}
+use Rattle.std.specs.List.{list_all}
+use Rattle.std.specs.Prelude.{◌&&◌, ◌==◌, not, nat_le, MatchBool}
+use Rattle.std.proofs.lemmas.Bool.{lt-leb, or_from}
+use Rattle.std.proofs.lemmas.Grind.{common_steps}
+use Rattle.std.proofs.lemmas.List.{take_rest}
+use Rattle.rx_terms.specs.Ascii.{greater_than_sign}
+use Rattle.rx_chars.specs.Characters.{as_line_end}
+use Rattle.rx_chars.specs.Held.{is_none_held}
+use Rattle.rx_chars.specs.Utf8.{answer_of}
+use Rattle.rx_chars.specs.declared.utf8.Utf8Step.{Utf8Step}
+use Rattle.rx_chars.specs.declared.utf8.Utf8Step.TheVariants.{Char}
+use Rattle.rx_chars.proofs.Utf8Answers.{first_whole}
+use Rattle.rx_pages.specs.PageReader as reader
+use Rattle.rx_reader.specs.Tables.{is_last}
+use Rattle.rx_reader.specs.TagReader.{TagState, is_closing}
+use Rattle.rx_tags.specs.declared.tag_text.TagStep.TheVariants.{Done}
+use Rattle.rx_tags.specs.Fronts.{is_printed, GoesBy}
+use Rattle.rx_tags.specs.Lists.{ClosesAt}
+use Rattle.rx_tags.specs.TagBufs.{TagSoFar, StepGives, TakesWhole}
+use Rattle.rx_tags.specs.TagReads.{TagRead, Ends}
+use Rattle.rx_tags.proofs.TakeLemmas.{chosen as some_taken}
+use Rattle.rx_scan.specs.declared.answers.TokenKind.{TokenKind}
+use Rattle.rx_scan.specs.declared.answers.TokenKind.TheVariants as what
+use Rattle.rx_scan.specs.declared.marks.Move.{Move}
+use Rattle.rx_scan.specs.declared.marks.Move.TheVariants as move
+use Rattle.rx_scan.specs.declared.marks.TokenState.{TokenState}
+use Rattle.rx_scan.specs.declared.marks.TokenState.TheVariants as mark
+use Rattle.rx_scan.specs.declared.places.Position.{Position}
+use Rattle.rx_scan.specs.declared.places.Setting.{Setting}
+use Rattle.rx_scan.specs.Entries as entries
+use Rattle.rx_scan.specs.Fronts.{FeedsFront, with_state}
+use Rattle.rx_scan.specs.KnownTags as known_tags
+use Rattle.rx_scan.specs.Marks as marks
+use Rattle.rx_scan.specs.Openings.{OpensTag, OpensFront, TakesFront, of_opening, in_tag}
+use Rattle.rx_scan.specs.Pending.{Pending}
+use Rattle.rx_scan.specs.Places.{fed, ended}
+use Rattle.rx_scan.specs.Scanner.{Reading}
+use Rattle.rx_scan.specs.Steps.{ReadsAs, Took}
+use Rattle.rx_scan.specs.WholeTags.{TakesTag}
+use Rattle.rx_scan.proofs.FeedLemmas.{chosen}
+use Rattle.rx_scan.proofs.FrontLemmas.{front_read}
+use Rattle.rx_scan.proofs.LoopLemmas.{token_read}
+use Rattle.rx_scan.proofs.OpenLemmas.{opens_taken}
+use Rattle.rx_scan.proofs.RunLemmas.{ReadsOn, reads_none}
+use Rattle.rx_scan.proofs.Snoc.{and_false}
+
+-- the `>` that ends a tag is read as its last byte
+module _ (l new : Reading) (m : l.pending.mark ≡ mark.Tag) (held : l.held ≡ []) (page : l.place.at < l.setting.limits.page) (tag : l.place.at < l.place.token + l.setting.limits.tag)
+    (t : entries.Tags l 62 false (entries.marked mark.Tag l.pending) (Ok what.Tag) new) where
+  move_is : entries.move_at l 62 ≡ move.Tags
+  move_is = ap (λ (x : TokenState). entries.judged l.setting l.place.two 62 (marks.move_of l.setting.syntax l.setting.inside x 62)) m
+
+  enters : entries.Enters l 62 false (entries.move_at l 62) (Ok what.Tag) new
+  enters = subst (λ (x : Move). entries.Enters l 62 false x (Ok what.Tag) new) (sym move_is) t
+
+  within : nat_le (entries.token_from l.pending.mark l.place + l.setting.limits.tag) l.place.at ≡ false
+  within =
+      ap (λ (x : TokenState). nat_le (entries.token_from x l.place + l.setting.limits.tag) l.place.at) m
+      ∙ lt-leb (l.place.token + l.setting.limits.tag) l.place.at tag
+
+  not_long : (known : Bool) → entries.is_long l known ≡ false
+  not_long known = ap (λ x. known && x) within ∙ and_false known
+
+  not_passed : entries.is_passed l.place 62 ≡ false
+  not_passed = or_from _ _ (and_false (not l.place.started)) (and_false l.place.after_return)
+
+  as_char : entries.ReadsAnswer l (62 ∷ []) (Char 62) (Ok what.Tag) new
+  as_char =
+      chosen (entries.is_long l (known_tags.is_tag l.pending.mark)) _ _ (not_long (known_tags.is_tag l.pending.mark))
+      (chosen (entries.is_passed l.place 62) _ _ not_passed
+      (chosen (entries.is_long l (known_tags.is_tag_with l.setting.syntax l.setting.inside l.pending.mark (as_line_end 62))) _ _ (not_long (known_tags.is_tag_with l.setting.syntax l.setting.inside l.pending.mark (as_line_end 62))) enters))
+
+  pub ends_read : entries.Reads l 62 (Ok what.Tag) new
+  ends_read =
+      chosen (nat_le l.setting.limits.page l.place.at) _ _ (lt-leb l.setting.limits.page l.place.at page)
+      (subst (λ (x : List ℕ). entries.ReadsAnswer l (x ++ 62 ∷ []) (answer_of (x ++ 62 ∷ [])) (Ok what.Tag) new) (sym held)
+      (subst (λ (a : Utf8Step). entries.ReadsAnswer l (62 ∷ []) a (Ok what.Tag) new) (first_whole 62 (omega arith)) as_char))
+
+pub none_held : (held : List ℕ) → is_none_held held ≡ true → held ≡ []
+none_held [] h = refl
+none_held (x ∷ held) h = absurd (cc)
+
+-- what is taken of the tag, with its limits
+module _ (v : Reading) (p : Pending) (bytes : List ℕ) (limit n : ℕ) (o : v.pending.mark ≡ mark.LessThan) (held : v.held ≡ []) (opens : (setting : Setting) → OpensTag setting bytes) (f : limit ≤ length bytes)
+    (page : 0 < limit → v.place.at + limit ≤ v.setting.limits.page) (tag : 0 < limit → v.place.at + limit ≤ v.place.token + v.setting.limits.tag) (t : TakesWhole v.pending.tag (take limit bytes) n p.tag)
+    (k : p ≡ record { mark = v.pending.mark; run = v.pending.run; tag = p.tag }) where
+  less : t.at < limit
+  less = let c = t.closes in let q = c.fits in omega (arith, q, length-take-le limit bytes f)
+
+  bounds : (v.place.at + limit ≤ v.setting.limits.page) × (v.place.at + limit ≤ v.place.token + v.setting.limits.tag)
+  bounds = let some : 0 < limit = omega (arith, less) in (page some, tag some)
+
+  front_is : take t.at (take limit bytes) ≡ take t.at bytes
+  front_is = let q = less in grind (arith, common_steps)
+
+  at_is : get_or (take limit bytes) t.at 0 ≡ get_or bytes t.at 0
+  at_is = let q = less in grind (arith, common_steps)
+
+  long : length (take t.at bytes) ≡ t.at
+  long = length-take-le t.at bytes (omega (arith, less, f))
+
+  abbrev before : Reading
+  before = entries.with_parts v v.setting (fed (length (take t.at bytes)) v.place) (record { mark = mark.Tag; run = v.pending.run; tag = t.before }) v.text
+
+  feeds : FeedsFront (in_tag v) (take t.at bytes) before
+  feeds =
+      let b = bounds in
+      let all = t.front.front in
+      record {
+        in_tag = refl;
+        held = held;
+        printed = ap (list_all is_printed) (sym front_is) ∙ all.printed;
+        page = omega (arith, b.0, less, long);
+        tag = omega (arith, b.1, less, long);
+        state = t.before.state;
+        goes = subst (λ (x : List ℕ). GoesBy v.pending.tag.syntax v.pending.tag.state x t.before.state) front_is all.goes;
+        is = ap (λ (x : TagSoFar). entries.with_parts v v.setting (fed (length (take t.at bytes)) v.place) (record { mark = mark.Tag; run = v.pending.run; tag = x }) v.text) t.front.is;
+      }
+
+  abbrev fed_by : ℕ → Pending → Reading
+  fed_by m q = record { setting = v.setting; place = fed m v.place; held = v.held; pending = q; text = v.text; end = v.end }
+
+  count_is : n - 1 ≡ length (take t.at bytes)
+  count_is = omega (arith, t.count, long)
+
+  taken : TakesTag v bytes n (entries.with_tag (fed_by (n - 1) p) false)
+  taken =
+      let b = bounds in
+      let c = t.closes in
+      record {
+        at = t.at;
+        count = t.count;
+        closes = record { fits = omega (arith, less, f); closes = sym at_is ∙ c.closes };
+        before = before;
+        front = record { opened = o; begins = opens_taken v.setting bytes t.at (λ z. let s = t.some in omega (arith, s, z)) (opens v.setting); feeds = feeds };
+        page = omega (arith, b.0, less, long);
+        tag = omega (arith, b.1, less, long);
+        ends = (p.tag, t.ends, ap (λ (x : ℕ). entries.with_tag (fed_by x p) false) count_is ∙ ap (λ (q : Pending). entries.with_tag (fed_by (length (take t.at bytes)) q) false) k);
+      }
+
+  pub taken_as : (new : Reading) (place : Position) → place ≡ fed (n - 1) v.place → new ≡ entries.with_tag (record { setting = v.setting; place = place; held = v.held; pending = p; text = v.text; end = v.end }) false → TakesTag v bytes n new
+  taken_as new place e q =
+      subst (λ (x : Reading). TakesTag v bytes n x) (sym (q ∙ ap (λ (x : Position). entries.with_tag (record { setting = v.setting; place = x; held = v.held; pending = p; text = v.text; end = v.end }) false) e)) taken
+
+-- the tag is whole
+pub is_whole : (old tag : TagSoFar) (c : ℕ) → StepGives old c (Ok Done) tag → is_last tag.state.phase ≡ true
+is_whole old tag c g =
+    let e : Ends (record { syntax = old.syntax; state = old.state }) c tag.state = g.0 in
+    ap (λ (x : TagState). is_last x.phase) e.kept ∙ e.whole
+
+pub lends_tag : (l new : Reading) (bytes : List ℕ) (n : ℕ) → TakesTag l bytes n new → (is_last new.pending.tag.state.phase ≡ true) × (new.pending.mark ≡ mark.Nothing)
+lends_tag l new bytes n t =
+    let e = t.ends in (
+      ap (λ (x : Reading). is_last x.pending.tag.state.phase) e.2 ∙ is_whole t.before.pending.tag e.0 62 e.1,
+      ap (λ (x : Reading). x.pending.mark) e.2,
+    )
+
+pub keeps_text : (l new : Reading) (bytes : List ℕ) (n : ℕ) → TakesTag l bytes n new → new.text ≡ l.text
+keeps_text l new bytes n t = let e = t.ends in ap (λ (x : Reading). x.text) e.2 ∙ ap (λ (x : Reading). x.text) t.front.feeds.is
+
+-- no tag is taken between tokens
+pub not_between : (l new : Reading) (bytes : List ℕ) (n : ℕ) → TakesTag l bytes n new → l.pending.mark ≡ mark.Nothing → ⊥
+not_between l new bytes n t m = let e = sym t.front.opened ∙ m in cc
+
+get_behind : (bytes : List ℕ) (i n : ℕ) → get_or (drop i bytes) n 0 ≡ get_or bytes (i + n) 0
+get_behind bytes i n = grind (arith, common_steps)
+
+-- behind so many bytes of a piece it is the next token
+pub tag_took : (old l new : Reading) (s : reader.Scanning) (piece : List ℕ) (i n : ℕ) → i ≤ length piece → ReadsOn old s (take i piece) l → (l.text.text ≡ []) ⊎ (l.pending.mark ≡ mark.Nothing) → TakesTag l (drop i piece) n new → Took old s piece (i + n) what.Tag new
+tag_took old l new s piece i n k r o t =
+    let c = t.closes in
+    let f = t.front.feeds in
+    let inside : i + t.at < length piece = let q = c.fits in omega (arith, q, length-drop i piece, k) in
+    let some : t.at ≡ 0 → ⊥ = λ z. none z t.front.begins in
+    let front = front_read old t.before s l piece i t.at (let q = c.fits in omega (arith, q)) r (some_taken t.at _ _ some (of_opening t.front)) in
+    let text : t.before.text.text ≡ [] = ap (λ (x : Reading). x.text.text) f.is ∙ elim o [ inl e ↦ e | inr m ↦ absurd (not_between l new (drop i piece) n t m) ] in
+    let byte : get_or piece (i + t.at) 0 ≡ 62 = sym (get_behind piece i t.at) ∙ c.closes in
+    let mark_is : t.before.pending.mark ≡ mark.Tag = ap (λ (x : Reading). x.pending.mark) f.is in
+    let held_is : t.before.held ≡ [] = ap (λ (x : Reading). x.held) f.is in
+    let reads = subst (λ (x : ℕ). entries.Reads t.before x (Ok what.Tag) new) (sym byte) (ends_read t.before new mark_is held_is t.page t.tag t.ends) in
+    let took = token_read old t.before new s piece (i + t.at) inside front what.Tag refl (inl text) reads in
+    subst (λ (x : ℕ). Took old s piece x what.Tag new) (omega (arith, t.count)) took
+  where
+    none : t.at ≡ 0 → OpensTag l.setting (take t.at (drop i piece)) → ⊥
+    none z b = subst (λ (x : ℕ). OpensTag l.setting (take x (drop i piece))) z b
+
+-- further on, where a slice is what is left
+pub tag_next : (old l new : Reading) (s : reader.Scanning) (piece : List ℕ) (i n : ℕ) → i ≤ length piece → ReadsOn old s (take i piece) l → (l.text.text ≡ []) ⊎ (l.pending.mark ≡ mark.Nothing)
+    → TakesTag l (take (length piece - i) (drop i piece)) n new → Took old s piece (i + n) what.Tag new
+tag_next old l new s piece i n k r o t = tag_took old l new s piece i n k r o (subst (λ (x : List ℕ). TakesTag l x n new) (take_rest piece i) t)
+
+-- and at the first byte
+pub tag_first : (old new : Reading) (s : reader.Scanning) (piece : List ℕ) (n : ℕ) → old.text.text ≡ [] → ReadsAs old s → TakesTag old piece n new → Took old s piece n what.Tag new
+tag_first old new s piece n e h t = subst (λ (x : ℕ). Took old s piece x what.Tag new) (omega arith) (tag_took old old new s piece 0 n (omega arith) (reads_none old s e h) (inl e) t)
