@@ -1,11 +1,10 @@
 -- A tag that is taken whole is read like its bytes one after another.
-use Rattle.std.proofs.Common.{◌≡◌, ◌≢◌, ◌∙◌, ◌⊎◌, ℕ, ◌+◌, ◌-◌, ◌≤◌, ◌<◌, Bool, true, false, List, [], ◌∷◌, ◌++◌, length, take, drop, refl, ap, sym, subst, inl, inr, Ok, Result, arith, get_or, length-take-le, length-drop}
+use Rattle.std.proofs.Common.{◌≡◌, ◌∙◌, ◌⊎◌, ℕ, ◌+◌, ◌-◌, ◌≤◌, ◌<◌, Bool, true, false, List, [], ◌∷◌, ◌++◌, length, take, drop, refl, ap, sym, subst, inl, inr, Ok, arith, get_or, length-take-le, length-drop}
 use Rattle.std.specs.List.{list_all}
-use Rattle.std.specs.Prelude.{◌&&◌, ◌==◌, not, nat_le, MatchBool}
+use Rattle.std.specs.Prelude.{◌&&◌, not, nat_le}
 use Rattle.std.proofs.lemmas.Bool.{lt-leb, or_from}
 use Rattle.std.proofs.lemmas.Grind.{common_steps}
 use Rattle.std.proofs.lemmas.List.{take_rest}
-use Rattle.rx_terms.specs.Ascii.{greater_than_sign}
 use Rattle.rx_chars.specs.Characters.{as_line_end}
 use Rattle.rx_chars.specs.Held.{is_none_held}
 use Rattle.rx_chars.specs.Utf8.{answer_of}
@@ -14,14 +13,12 @@ use Rattle.rx_chars.specs.declared.utf8.Utf8Step.TheVariants.{Char}
 use Rattle.rx_chars.proofs.Utf8Answers.{first_whole}
 use Rattle.rx_pages.specs.PageReader as reader
 use Rattle.rx_reader.specs.Tables.{is_last}
-use Rattle.rx_reader.specs.TagReader.{TagState, is_closing}
+use Rattle.rx_reader.specs.TagReader.{TagState}
 use Rattle.rx_tags.specs.declared.tag_text.TagStep.TheVariants.{Done}
 use Rattle.rx_tags.specs.Fronts.{is_printed, GoesBy}
-use Rattle.rx_tags.specs.Lists.{ClosesAt}
 use Rattle.rx_tags.specs.TagBufs.{TagSoFar, StepGives, TakesWhole}
-use Rattle.rx_tags.specs.TagReads.{TagRead, Ends}
+use Rattle.rx_tags.specs.TagReads.{Ends}
 use Rattle.rx_tags.proofs.TakeLemmas.{chosen as some_taken}
-use Rattle.rx_scan.specs.declared.answers.TokenKind.{TokenKind}
 use Rattle.rx_scan.specs.declared.answers.TokenKind.TheVariants as what
 use Rattle.rx_scan.specs.declared.marks.Move.{Move}
 use Rattle.rx_scan.specs.declared.marks.Move.TheVariants as move
@@ -30,12 +27,12 @@ use Rattle.rx_scan.specs.declared.marks.TokenState.TheVariants as mark
 use Rattle.rx_scan.specs.declared.places.Position.{Position}
 use Rattle.rx_scan.specs.declared.places.Setting.{Setting}
 use Rattle.rx_scan.specs.Entries as entries
-use Rattle.rx_scan.specs.Fronts.{FeedsFront, with_state}
+use Rattle.rx_scan.specs.Fronts.{FeedsFront}
 use Rattle.rx_scan.specs.KnownTags as known_tags
 use Rattle.rx_scan.specs.Marks as marks
-use Rattle.rx_scan.specs.Openings.{OpensTag, OpensFront, TakesFront, of_opening, in_tag}
+use Rattle.rx_scan.specs.Openings.{OpensTag, of_opening, in_tag}
 use Rattle.rx_scan.specs.Pending.{Pending}
-use Rattle.rx_scan.specs.Places.{fed, ended}
+use Rattle.rx_scan.specs.Places.{fed}
 use Rattle.rx_scan.specs.Scanner.{Reading}
 use Rattle.rx_scan.specs.Steps.{ReadsAs, Took}
 use Rattle.rx_scan.specs.WholeTags.{TakesTag}

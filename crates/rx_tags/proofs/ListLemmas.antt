@@ -21,10 +21,6 @@ use Rattle.rx_tags.proofs.Pieces.{piece_on, drop_two, rows_on, rows_fit_on, rows
 use Rattle.rx_tags.proofs.TakeLemmas.{plain_ascii, small_ascii, takes_then}
 use Rattle.rx_tags.proofs.WholeLemmas.{taken_at, whole_front}
 
--- nothing is listed yet
-pub none_listed : (bytes : List ℕ) (rows : List AttributeSpan) → rows ≡ [] → MarksList phase.Gap bytes 0 rows
-none_listed bytes rows e = subst (λ (r : List AttributeSpan). MarksList phase.Gap bytes 0 r) (sym e) (record { fit = tt; lists = λ s tag. record { fits = omega arith; printed = refl; goes = refl } })
-
 -- what stands in a front
 in_front : (bytes : List ℕ) (n from to : ℕ) → from ≤ to → to ≤ n → n ≤ length bytes → piece (take n bytes) from to ≡ piece bytes from to
 in_front bytes n from to h k l =
@@ -175,17 +171,9 @@ none_pairs run.Mark r k e = absurd (let z = sym (ap (λ (x : Reading). x.pending
 none_pairs run.Hexadecimal r k e = absurd (let z = sym (ap (λ (x : Reading). x.pending) e) ∙ k.0 in cc)
 
 module _ (p : RunPhase) (r : Reading) (k : IsPending p r.pending) (e : pairs_read p r ≡ no_pairs) where
-  pub is_plain : p ≡ run.Plain
+  is_plain : p ≡ run.Plain
   is_plain = ap (λ (x : Pairs). x.value.phase) e
-
-  pub nothing_from : r ≡ nothing_read
-  nothing_from =
-      let z : r.pending ≡ [] = subst (λ (x : RunPhase). IsPending x r.pending) is_plain k in
-      λ i. record { whole = (e i).whole; key = (e i).key; known = (e i).value.known; pending = z i }
 
   -- behind the list nothing is read
   pub listed_pairs : (new : Reading) → new ≡ begun_behind new.whole [] → pairs_read p new ≡ only new.whole
   listed_pairs new q = ap (λ (x : RunPhase). pairs_read x new) is_plain ∙ ap (pairs_read run.Plain) q
-
-  pub listed_pending : (new : Reading) → new ≡ begun_behind new.whole [] → IsPending p new.pending
-  listed_pending new q = subst (λ (x : RunPhase). IsPending x new.pending) (sym is_plain) (ap (λ (x : Reading). x.pending) q)
