@@ -1,4 +1,4 @@
-use Rattle.std.proofs.Common.{List, None, refl, sym, subst, length}
+use Rattle.std.proofs.Common.{List, None, sym, subst, length}
 use Rattle.rx_items.specs.Rows.{rows_of}
 use Rattle.rx_items.specs.Showing.{ShowsRows}
 use Rattle.rx_items.specs.declared.rows.Row.{Row}
@@ -13,7 +13,7 @@ returns c tree shows =
     let fit = c.in_ok-parts.ensures page.text page.times.items tree rows in
     record {
       shown = shows;
-      base_is = refl;
+      base_is = c.of.ensures;
       numbered = numbered tree None 0;
       extras = subst (λ (rows : List Row). AllFit page.words (rows_of tree) c.in_ok-parts.parts.members.items rows (length rows) c.in_ok-parts.parts.extras.items) c.as_slice.ensures.value fit;
     }
