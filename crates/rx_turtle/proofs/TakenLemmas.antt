@@ -161,10 +161,6 @@ key_at (g ∷ groups) (suc n) key has less tells is d =
 
 -- ---- a call's answer, with what follows from it
 
-pub on_ok_then : {A E P Q : Type 0} (r : Result A E) → (P → Q) → OnOk r P → OnOk r Q
-on_ok_then (Ok a) f h = f h
-on_ok_then (Err e) f h = h
-
 pub on_ok_both : {A E P Q R : Type 0} (r : Result A E) → (P → Q → R) → OnOk r P → OnOk r Q → OnOk r R
 on_ok_both (Ok a) f h k = f h k
 on_ok_both (Err e) f h k = h
