@@ -16,8 +16,11 @@ use std::alloc::Global;
 use std::marker::Model;
 
 /// The elements of a page that matter: items, those with property names, and those with an id.
+///
+/// A call that finds no memory leaves it spent. The walk that holds it has then failed for good: it tells the table nothing
+/// more, and gives no items of it.
 #[derive(Drop)]
-pub struct Table {
+pub(crate) struct Table {
     rows: Vec<Row>,
     // the innermost one last
     line: Vec<Open>,
@@ -39,7 +42,7 @@ impl Table {
     ghost use Rattle.rx_items.specs.Growing.{innermost, passed, added, begun};
 
     /// The table of a page of which nothing was read.
-    pub fn new(alloc: Global) -> Table
+    pub(crate) fn new(alloc: Global) -> Table
         ensures { result ≡ record { rows = []; line = []; words = []; text = []; times = [] } }
     {
         Table {
@@ -65,8 +68,8 @@ impl Table {
         }
     }
 
-    /// An element begins.
-    pub fn begin(&mut self, alloc: Global, tag: &Tag<'_>) -> Result<(), NoMemory>
+    /// An element begins. Without memory the table is spent.
+    pub(crate) fn begin(&mut self, alloc: Global, tag: &Tag<'_>) -> Result<(), NoMemory>
         ensures { OnOk result (self.new ≡ begun self.old (tag_seen tag.now) tag.now.token tag.now.at) }
     {
         let marks = marks_of(tag);
@@ -140,14 +143,14 @@ impl Table {
     }
 
     /// How many elements are open.
-    pub fn depth(&self) -> usize
+    pub(crate) fn depth(&self) -> usize
         ensures { result ≡ length self.now.line }
     {
         self.line.len()
     }
 
-    /// Text. It takes no memory where no value gathers it.
-    pub fn text(&mut self, text: &str) -> Result<(), NoMemory>
+    /// Text. It takes no memory where no value gathers it. Without memory the table is spent.
+    pub(crate) fn text(&mut self, text: &str) -> Result<(), NoMemory>
         ensures says { OnOk result (self.new ≡ said self.old (chars text.now)) }
         ensures quiet { IsIdle self.old → IsOk result }
     {
@@ -172,7 +175,7 @@ impl Table {
     }
 
     /// The innermost element ends.
-    pub fn finish(&mut self)
+    pub(crate) fn finish(&mut self)
         ensures { self.new ≡ finished self.old }
     {
         let Some(last) = self.line.pop() else {
@@ -200,7 +203,7 @@ impl Table {
 
 impl Table {
     /// The page has ended: its rows.
-    pub fn into_rows(self) -> PageRows
+    pub(crate) fn into_rows(self) -> PageRows
         ensures rows { result.rows.items ≡ self.rows }
         ensures words { result.words ≡ self.words }
         ensures text { result.text ≡ self.text }

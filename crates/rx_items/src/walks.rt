@@ -1,8 +1,8 @@
 //! The items of a page that is read in pieces.
-ghost use Rattle.std.specs.Prelude.{◌≡◌, ℕ, List, [], IfOk};
+ghost use Rattle.std.specs.Prelude.{◌≡◌, ℕ, List, [], true, IfOk};
 ghost use Rattle.rx_nest.specs.Falling.{Answered, MayAnswer};
 ghost use Rattle.rx_nest.specs.FaultPlaces.{PlaceGives};
-ghost use Rattle.rx_nest.specs.Readings.{IsWhole};
+ghost use Rattle.rx_nest.specs.Readings.{IsWhole, has_failed};
 ghost use Rattle.rx_items.specs.Collecting.{Collects, Setting, way_of};
 ghost use Rattle.rx_items.specs.Walks as walks;
 
@@ -63,7 +63,7 @@ impl ItemWalk {
     }
 
     /// Takes the whole piece. Text takes no memory where no value gathers it: a piece without `<` and `&` then never wants
-    /// memory where no token is unfinished.
+    /// memory where no token is unfinished. After a fault or want of memory it answers the same again, and changes nothing.
     pub fn feed(&mut self, piece: &[u8]) -> Result<(), Stop>
         ensures gives { (setting : Setting) (bytes : List ℕ) → walks.ItemWalkStands setting self.old bytes
             → walks.FeedGives setting bytes piece.now result self.new }
@@ -72,6 +72,7 @@ impl ItemWalk {
         ensures quiet { walks.FeedsQuietly self.old piece.now result }
         ensures asked { MayAnswer self.old.failed self.old.out_of_memory result }
         ensures keeps { Answered result self.new.failed self.new.out_of_memory }
+        ensures stays { has_failed self.old ≡ true → self.new ≡ self.old }
     {
         self.reading.feed(piece)
     }

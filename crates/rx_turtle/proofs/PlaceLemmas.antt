@@ -1,5 +1,5 @@
 -- The index of the prefixes by IRI.
-use Rattle.std.proofs.Common.{◌≡◌, ◌∙◌, ℕ, zero, suc, ◌+◌, ◌-◌, ◌<◌, ◌≤◌, Bool, true, false, cond, ◌&&◌, nat_eq, List, [], ◌∷◌, ◌++◌, length, length-append, take, take_all, drop_at, inl, inr, drop, get_or, slice_get, Result, Ok, Err, OnOk, Option, Some, None, refl, sym, ap, subst, true≢false, arith, if◌then◌else◌}
+use Rattle.std.proofs.Common.{◌≡◌, ◌∙◌, ℕ, zero, suc, ◌+◌, ◌-◌, ◌<◌, ◌≤◌, Bool, true, false, cond, ◌&&◌, nat_eq, List, [], ◌∷◌, ◌++◌, length, length-append, take, take_all, drop_at, inl, inr, drop, get_or, slice_get, Option, Some, None, refl, sym, ap, subst, true≢false, arith, if◌then◌else◌}
 use Rattle.std.proofs.lemmas.List.{get_or-take, length-take-le}
 use Rattle.std.specs.Str.{chars, encode_utf8_all, IsUtf8}
 use Rattle.std.specs.Cmp.Lexicographic.{pointwise}
@@ -162,10 +162,6 @@ plain_none context places byte h plain bytes end some within last =
 
     ends : get_or (take end bytes) (length (take end bytes) - 1) 0 ≡ byte
     ends = ap (λ n. get_or (take end bytes) (n - 1) 0) size ∙ get_or-take end bytes (end - 1) 0 (omega (arith, some)) ∙ last
-
-pub on_ok_then : {A E P Q : Type 0} (r : Result A E) → (P → Q) → OnOk r P → OnOk r Q
-on_ok_then (Ok a) f h = f h
-on_ok_then (Err e) f h = h
 
 none_below : (bytes : List ℕ) (n : ℕ) → place_below [] bytes n ≡ None
 none_below bytes zero = refl

@@ -158,10 +158,3 @@ key_at (g ∷ groups) (suc n) key has less tells is d =
         let same : g.0 ≡ key = (exact_nodes nat_eq exact_numbers g.0 key).0 e in
         absurd (true≢false (sym (there (keys_in groups) key n found) ∙ ap (contains (same_node nat_eq) (keys_in groups)) (sym same) ∙ d.0))
     go false e found = ap (option_map suc) found
-
--- ---- a call's answer, with what follows from it
-
-pub on_ok_then : {A E P Q : Type 0} (r : Result A E) → (P → Q) → OnOk r P → OnOk r Q
-on_ok_then (Ok a) f h = f h
-on_ok_then (Err e) f h = h
-

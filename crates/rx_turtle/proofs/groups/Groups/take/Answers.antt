@@ -1,9 +1,10 @@
 use Rattle.std.proofs.Common.{◌∙◌, ap, sym}
+use Rattle.std.proofs.lemmas.Result.{on_ok_weaker}
 use Rattle.rx_terms.proofs.OkLemmas.{on_ok_both}
 use Rattle.rx_model.specs.Seen.{triple_seen}
 use Rattle.rx_graph.specs.Resources.{resource_seen}
 use Rattle.rx_turtle.specs.Groups.{keys_in}
-use Rattle.rx_turtle.proofs.TakenLemmas.{keys_put, keys_begun, on_ok_then}
+use Rattle.rx_turtle.proofs.TakenLemmas.{keys_put, keys_begun}
 use Rattle.rx_turtle.proofs.groups.Groups.take.Goals as goal
 
 pub returns-then-is_at-clause-keys : goal.returns-then-is_at-clause-keys
@@ -11,7 +12,7 @@ returns-then-is_at-clause-keys c = c.requires.keys ∙ keys_put c.args.self.now 
 
 pub returns-in-Some-clause-keys : goal.returns-in-Some-clause-keys
 returns-in-Some-clause-keys c =
-    on_ok_then c.take_known.result (λ put. c.requires.keys ∙ keys_put c.args.self.now c.in-Some.place (triple_seen c.args.triple.now) ∙ ap keys_in (sym put)) c.take_known.ensures
+    on_ok_weaker c.take_known.result (λ put. c.requires.keys ∙ keys_put c.args.self.now c.in-Some.place (triple_seen c.args.triple.now) ∙ ap keys_in (sym put)) c.take_known.ensures
 
 pub returns-in-None-clause-keys : goal.returns-in-None-clause-keys
 returns-in-None-clause-keys c =
