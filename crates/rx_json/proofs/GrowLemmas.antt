@@ -1,6 +1,6 @@
 -- Events one behind another.
 use Rattle.std.proofs.Common.{◌≡◌, ◌∙◌, ◌+◌, ◌<◌, ◌≤◌, suc, List, [], ◌∷◌, ◌++◌, length, map, drop, drop-cons, drop_of_length-le, get_or, refl, sym, ap, arith, append_assoc, append-nil, Some, None}
-use Rattle.std.specs.Prelude.{ℕ, OnOk, Result, Ok, Err}
+use Rattle.std.specs.Prelude.{ℕ}
 use Rattle.serde.specs.Event as event
 use Rattle.serde.specs.Event.{Event, Log, Logs}
 use Rattle.serde.specs.declared.name.Case.TheVariants.{AsIs}
@@ -67,10 +67,6 @@ array_made {old} {begun} {each} {new} ds b g e =
 pub group_made : {old begun each new : Log} (keyed : Log) (name : List ℕ) (ds : List Data) → Logs old keyed (event.field_key name AsIs) → Logs keyed begun (event.seq_begins None) → Grows begun each (each_events ds)
     → Logs each new event.seq_ends → Grows old new (event.field_key name AsIs ∷ data_events (array (items_of ds)))
 group_made {old} {begun} {each} {new} keyed name ds k b g e = both (one old keyed (event.field_key name AsIs) k) (array_made ds b g e)
-
-pub then_ok : {X E P Q : Type 0} (r : Result X E) → (P → Q) → OnOk r P → OnOk r Q
-then_ok (Ok x) f p = f p
-then_ok (Err e) f p = p
 
 -- ---- values in a row: one more is written, and none is left
 

@@ -1,7 +1,7 @@
 use Rattle.std.proofs.Common.{Some, None}
+use Rattle.std.proofs.lemmas.Result.{on_ok_weaker}
 use Rattle.std.specs.Prelude.{Option, OnOk}
 use Rattle.rx_json.specs.Events.{Grows, members_events}
-use Rattle.rx_json.proofs.GrowLemmas.{then_ok}
 use Rattle.serde_json.specs.Data.{no_members}
 use Rattle.rx_terms.specs.Text.{Chars}
 use Rattle.rx_microdata.specs.Json.{with_id}
@@ -16,4 +16,4 @@ returns g c word shows = by word (rw c.in-Some.is at shows)
         → OnOk c.write_reference.result (Grows (g.S.Serializer.written c.args.out.now) (g.S.Serializer.written c.write_reference.new.out) (members_events (with_id c.args.kept.now.base word no_members)))
     by None shown = absurd shown
     by (Some token) shown =
-        then_ok c.write_reference.result (λ wrote. id_told c.args.kept.now.base _ token (c.text_of-reference.ensures shown.front token shown.rest shown.is_run) c.in_ok-key.ensures wrote) c.write_reference.ensures
+        on_ok_weaker c.write_reference.result (λ wrote. id_told c.args.kept.now.base _ token (c.text_of-reference.ensures shown.front token shown.rest shown.is_run) c.in_ok-key.ensures wrote) c.write_reference.ensures

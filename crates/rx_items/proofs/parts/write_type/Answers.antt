@@ -1,11 +1,11 @@
 use Rattle.std.proofs.Common.{[], ◌∷◌}
+use Rattle.std.proofs.lemmas.Result.{on_ok_weaker}
 use Rattle.std.specs.Str.{chars}
-use Rattle.rx_json.proofs.GrowLemmas.{then_ok}
 use Rattle.rx_items.proofs.WritingLemmas.{several_made}
 use Rattle.rx_items.proofs.parts.write_type.Goals as goal
 
 pub returns : goal.returns
 returns g c =
-    then_ok c.end_seq.result
+    on_ok_weaker c.end_seq.result
     (λ ended. several_made _ (chars c.args.text.now ∷ []) (λ none. cc) c.in_ok-key.ensures c.in_ok-begin_seq.ensures c.in_ok-write_text.ensures ended)
     c.end_seq.ensures

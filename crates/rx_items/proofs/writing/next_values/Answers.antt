@@ -1,8 +1,9 @@
 use Rattle.std.proofs.Common.{◌≡◌, ◌∙◌, ◌∷◌, [], List, Bool, false, sym, ap, None, if◌then◌else◌}
+use Rattle.std.proofs.lemmas.Result.{on_ok_weaker}
 use Rattle.std.specs.Str.{bytes_eq}
 use Rattle.serde.specs.Event as event
 use Rattle.serde.specs.Event.{Event}
-use Rattle.rx_json.proofs.GrowLemmas.{one, both, told_as, then_ok}
+use Rattle.rx_json.proofs.GrowLemmas.{one, both, told_as}
 use Rattle.rx_items.specs.Named.{opening}
 use Rattle.rx_items.proofs.writing.next_values.Goals as goal
 
@@ -10,6 +11,6 @@ pub returns : goal.returns
 returns g c =
     let next : List Event = event.seq_ends ∷ opening None c.args.name.now in
     let off : bytes_eq c.args.before.now c.args.name.now ≡ false = sym c.eq.ensures ∙ c.if-eq.false in
-    then_ok c.begin_values.result
+    on_ok_weaker c.begin_values.result
     (λ began. told_as next _ (ap (λ (b : Bool). if b then [] else next) (sym off)) (both (one _ _ event.seq_ends c.in_ok-end_seq.ensures) began))
     c.begin_values.ensures

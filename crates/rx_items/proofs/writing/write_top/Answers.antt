@@ -1,10 +1,10 @@
 use Rattle.std.proofs.Common.{◌∙◌, ap, sym}
+use Rattle.std.proofs.lemmas.Result.{on_ok_weaker}
 use Rattle.rx_microdata.specs.Elements.{is_top_level}
 use Rattle.rx_items.specs.Held.{is_there}
 use Rattle.rx_items.proofs.HoldLemmas.{is_element}
 use Rattle.rx_items.proofs.VisitLemmas.{no_element}
 use Rattle.rx_items.proofs.PageLemmas.{item_of_top}
-use Rattle.rx_json.proofs.GrowLemmas.{then_ok}
 use Rattle.rx_items.proofs.WritingLemmas.{top_nothing, top_told}
 use Rattle.rx_items.proofs.writing.write_top.Goals as goal
 
@@ -19,4 +19,4 @@ pub returns : goal.returns
 returns g c rows base e holds row =
     let found = is_element c.args.kept.now rows c.args.place c.in-Some.element e row (c.in-Some.ensures rows base holds) in
     let top = sym (c.is_top_at.ensures rows base holds ∙ ap (is_there is_top_level) row) ∙ c.if-not-is_top_at.false in
-    then_ok c.write_item.result (λ wrote. top_told rows base e top wrote) (c.write_item.ensures rows base e holds row found (item_of_top e top))
+    on_ok_weaker c.write_item.result (λ wrote. top_told rows base e top wrote) (c.write_item.ensures rows base e holds row found (item_of_top e top))

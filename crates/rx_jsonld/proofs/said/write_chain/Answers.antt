@@ -1,8 +1,9 @@
 use Rattle.std.proofs.Common.{◌∙◌, ℕ, List, ap, map}
+use Rattle.std.proofs.lemmas.Result.{on_ok_weaker}
 use Rattle.rx_terms.specs.declared.triples.Blank.{Blank}
 use Rattle.rx_model.specs.Seen.{triples_seen}
 use Rattle.rx_json.specs.Events.{data_events}
-use Rattle.rx_json.proofs.GrowLemmas.{told_as, then_ok}
+use Rattle.rx_json.proofs.GrowLemmas.{told_as}
 use Rattle.rx_jsonld.specs.Value.{item_value, list_value}
 use Rattle.rx_jsonld.proofs.said.write_chain.Goals as goal
 
@@ -10,4 +11,4 @@ pub returns : goal.returns
 returns g c =
     let list = triples_seen c.args.graph.now in
     let cells = ap (λ (bs : List Blank). map (λ b. b.0) bs) c.deref.ensures.value ∙ c.in-Ok.ensures in
-    then_ok c.write_list-written.result (λ wrote. told_as _ _ (ap (λ (ns : List ℕ). data_events (list_value (map (item_value list) ns))) cells) wrote) c.write_list-written.ensures
+    on_ok_weaker c.write_list-written.result (λ wrote. told_as _ _ (ap (λ (ns : List ℕ). data_events (list_value (map (item_value list) ns))) cells) wrote) c.write_list-written.ensures

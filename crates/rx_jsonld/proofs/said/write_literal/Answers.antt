@@ -1,10 +1,11 @@
 use Rattle.std.proofs.Common.{refl}
+use Rattle.std.proofs.lemmas.Result.{on_ok_weaker}
 use Rattle.rx_model.specs.Seen.{kind_seen}
-use Rattle.rx_json.proofs.GrowLemmas.{object_made, then_ok}
+use Rattle.rx_json.proofs.GrowLemmas.{object_made}
 use Rattle.rx_jsonld.specs.Value.{literal_members}
 use Rattle.rx_jsonld.proofs.said.write_literal.Goals as goal
 
 pub returns : goal.returns
 returns g c =
-    then_ok c.end_map.result
+    on_ok_weaker c.end_map.result
     (λ ended. object_made _ (literal_members c.args.literal.now.lexical (kind_seen c.args.literal.now.kind)) refl c.in_ok-begin_map.ensures c.in_ok-write_members.ensures ended) c.end_map.ensures

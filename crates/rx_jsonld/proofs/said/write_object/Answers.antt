@@ -1,13 +1,14 @@
 use Rattle.std.proofs.Common.{ap}
+use Rattle.std.proofs.lemmas.Result.{on_ok_weaker}
 use Rattle.rx_model.specs.Seen.{triple_seen, triples_seen}
 use Rattle.rx_shapes.specs.Table.{shape_in}
 use Rattle.rx_json.specs.Events.{data_events}
-use Rattle.rx_json.proofs.GrowLemmas.{told_as, then_ok}
+use Rattle.rx_json.proofs.GrowLemmas.{told_as}
 use Rattle.rx_jsonld.proofs.EventLemmas.{first_told}
 use Rattle.rx_jsonld.proofs.said.write_object.Goals as goal
 
 pub returns-in-Some : goal.returns-in-Some
 returns-in-Some g c =
-    then_ok c.write_chain.result
+    on_ok_weaker c.write_chain.result
     (λ wrote. told_as _ _ (ap data_events (first_told (triples_seen c.args.graph.now) (shape_in c.args.shapes.now) (triple_seen c.args.triple.now) c.in-Some.first.0 c.in-Some.ensures)) wrote)
     c.write_chain.ensures

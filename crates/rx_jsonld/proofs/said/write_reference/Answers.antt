@@ -1,17 +1,18 @@
 use Rattle.std.proofs.Common.{◌∷◌, codes, refl}
+use Rattle.std.proofs.lemmas.Result.{on_ok_weaker}
 use Rattle.serde.specs.Event as event
 use Rattle.serde.specs.declared.name.Case.TheVariants.{AsIs}
 use Rattle.serde_json.specs.Data.{member, no_members}
 use Rattle.rx_graph.specs.Resources.{resource_seen}
 use Rattle.rx_json.specs.Events.{data_events}
-use Rattle.rx_json.proofs.GrowLemmas.{one, both, object_made, then_ok}
+use Rattle.rx_json.proofs.GrowLemmas.{one, both, object_made}
 use Rattle.rx_jsonld.specs.Value.{id_text, string_of}
 use Rattle.rx_jsonld.proofs.said.write_reference.Goals as goal
 
 pub returns : goal.returns
 returns g c =
     let id = string_of (id_text (resource_seen c.args.node)) in
-    then_ok c.end_map.result
+    on_ok_weaker c.end_map.result
     (λ ended. object_made (event.field_key (codes "@id") AsIs ∷ data_events id) (member (codes "@id") id no_members) refl c.in_ok-begin_map.ensures
     (both (one _ _ (event.field_key (codes "@id") AsIs) c.in_ok-key.ensures) c.in_ok-write_id.ensures) ended)
     c.end_map.ensures

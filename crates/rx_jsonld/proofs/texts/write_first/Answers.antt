@@ -1,7 +1,8 @@
 use Rattle.std.proofs.Common.{◌∙◌, ℕ, List, ap, sym, not, ◌&&◌}
+use Rattle.std.proofs.lemmas.Result.{on_ok_weaker}
 use Rattle.rx_model.specs.Seen.{node_seen, triples_seen}
 use Rattle.rx_shapes.specs.Table.{shape_in}
-use Rattle.rx_json.proofs.GrowLemmas.{told_as, then_ok}
+use Rattle.rx_json.proofs.GrowLemmas.{told_as}
 use Rattle.rx_jsonld.specs.Lists.{is_listed}
 use Rattle.rx_jsonld.specs.Places.{starts}
 use Rattle.rx_jsonld.proofs.EventLemmas.{node_told}
@@ -14,4 +15,4 @@ returns g c writable =
     let subject = node_seen c.args.subject.now in
     let begins =
     sym (ap (λ (ps : List ℕ). starts ps c.args.place && not (is_listed shapes list subject)) (c.places-places.ensures ∙ c.requires.shapes subject)) ∙ sym c.begins_node.ensures ∙ c.if-not-begins_node.false in
-    then_ok c.write_node.result (λ wrote. told_as _ _ (node_told list shapes subject _ begins) wrote) (c.write_node.ensures writable)
+    on_ok_weaker c.write_node.result (λ wrote. told_as _ _ (node_told list shapes subject _ begins) wrote) (c.write_node.ensures writable)

@@ -1,11 +1,12 @@
+use Rattle.std.proofs.lemmas.Result.{on_ok_weaker}
 use Rattle.rx_model.specs.Seen.{triples_seen}
 use Rattle.rx_shapes.specs.Table.{shape_in}
-use Rattle.rx_json.proofs.GrowLemmas.{group_made, then_ok}
+use Rattle.rx_json.proofs.GrowLemmas.{group_made}
 use Rattle.rx_jsonld.specs.Groups.{values_at}
 use Rattle.rx_jsonld.proofs.texts.write_group.Goals as goal
 
 pub returns : goal.returns
 returns g c =
-    then_ok c.end_seq.result
+    on_ok_weaker c.end_seq.result
     (λ ended. group_made _ c.args.key.now (values_at (triples_seen c.args.graph.now) (shape_in c.args.shapes.now) c.args.places.now) c.in_ok-key.ensures c.in_ok-begin_seq.ensures c.in_ok-write_places.ensures ended)
     c.end_seq.ensures

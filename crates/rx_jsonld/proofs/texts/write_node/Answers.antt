@@ -1,9 +1,10 @@
 use Rattle.std.proofs.Common.{◌∙◌, ap, codes}
+use Rattle.std.proofs.lemmas.Result.{on_ok_weaker}
 use Rattle.serde_json.specs.Data.{Members, object, member, no_members}
 use Rattle.rx_model.specs.Seen.{node_seen, triples_seen}
 use Rattle.rx_shapes.specs.Table.{shape_in}
 use Rattle.rx_json.specs.Events.{data_events}
-use Rattle.rx_json.proofs.GrowLemmas.{told_as, then_ok}
+use Rattle.rx_json.proofs.GrowLemmas.{told_as}
 use Rattle.rx_jsonld.specs.Value.{id_text, string_of}
 use Rattle.rx_jsonld.proofs.GroupLemmas.{node_made}
 use Rattle.rx_jsonld.proofs.PlaceLemmas.{said_found}
@@ -16,4 +17,4 @@ returns g c writable =
     let subject = node_seen c.args.subject.now in
     let said = c.in-Ok.ensures shapes ∙ said_found list shapes subject c.args.places.now no_members c.requires.places in
     let whole = ap (λ (ms : Members). object (member (codes "@id") (string_of (id_text subject)) ms)) said ∙ node_made list shapes subject writable in
-    then_ok c.write_object-written.result (λ written. told_as _ _ (ap data_events whole) written) c.write_object-written.ensures
+    on_ok_weaker c.write_object-written.result (λ written. told_as _ _ (ap data_events whole) written) c.write_object-written.ensures

@@ -1,4 +1,5 @@
 use Rattle.std.proofs.Common.{◌∷◌, ◌++◌, ℕ, codes, refl, ap}
+use Rattle.std.proofs.lemmas.Result.{on_ok_weaker}
 use Rattle.serde.specs.Event as event
 use Rattle.serde.specs.declared.name.Case.TheVariants.{AsIs}
 use Rattle.serde_json.specs.Data.{member}
@@ -6,7 +7,7 @@ use Rattle.rx_model.specs.Seen.{node_seen, triples_seen}
 use Rattle.rx_model.specs.Terms.{Node}
 use Rattle.rx_shapes.specs.Table.{shape_in}
 use Rattle.rx_json.specs.Events.{data_events, members_events}
-use Rattle.rx_json.proofs.GrowLemmas.{one, both, told_as, object_made, then_ok}
+use Rattle.rx_json.proofs.GrowLemmas.{one, both, told_as, object_made}
 use Rattle.rx_jsonld.specs.Groups.{grouped}
 use Rattle.rx_jsonld.specs.Value.{id_text, string_of}
 use Rattle.rx_jsonld.proofs.texts.write_object.Goals as goal
@@ -15,7 +16,7 @@ pub returns : goal.returns
 returns g c =
     let id = string_of (id_text (node_seen c.args.subject.now)) in
     let said = grouped (triples_seen c.args.graph.now) (shape_in c.args.shapes.now) c.args.groups.now.entries in
-    then_ok c.end_map.result
+    on_ok_weaker c.end_map.result
     (λ ended. object_made (event.field_key (codes "@id") AsIs ∷ (data_events id ++ members_events said)) (member (codes "@id") id said) refl c.in_ok-begin_map.ensures
     (both (one _ _ (event.field_key (codes "@id") AsIs) c.in_ok-key.ensures)
     (both (told_as _ (data_events id) (ap (λ (n : Node ℕ). data_events (string_of (id_text n))) c.of_node.ensures) c.in_ok-write_id.ensures) c.in_ok-write_groups.ensures)) ended)

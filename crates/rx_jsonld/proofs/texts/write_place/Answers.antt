@@ -1,11 +1,12 @@
 use Rattle.std.proofs.Common.{Option, ap, sym}
+use Rattle.std.proofs.lemmas.Result.{on_ok_weaker}
 use Rattle.rx_model.specs.Seen.{triples_seen}
 use Rattle.rx_model.specs.Terms.{Triple}
 use Rattle.std.proofs.Common.{ℕ}
 use Rattle.rx_shapes.specs.Table.{shape_in}
 use Rattle.rx_shapes.proofs.IndexLemmas.{seen_at}
 use Rattle.rx_json.specs.Events.{data_events}
-use Rattle.rx_json.proofs.GrowLemmas.{told_as, then_ok}
+use Rattle.rx_json.proofs.GrowLemmas.{told_as}
 use Rattle.rx_jsonld.specs.Groups.{value_if}
 use Rattle.rx_jsonld.proofs.texts.write_place.Goals as goal
 
@@ -13,5 +14,5 @@ pub returns : goal.returns
 returns g c =
     let list = triples_seen c.args.graph.now in
     let shapes = shape_in c.args.shapes.now in
-    then_ok c.write_said.result
+    on_ok_weaker c.write_said.result
     (λ wrote. told_as _ _ (ap (λ (o : Option (Triple ℕ)). data_events (value_if list shapes o)) (sym (seen_at c.args.graph.now c.args.place c.at.result.now c.at.ensures))) wrote) c.write_said.ensures
