@@ -1,5 +1,5 @@
 //! What a page that was read gives.
-ghost use Rattle.std.specs.Prelude.{◌≡◌, IfOk, length};
+ghost use Rattle.std.specs.Prelude.{◌≡◌, IfOk, OnErr, length};
 ghost use Rattle.rx_session.specs.Given.{text_given, nodes_given, quads_given, shown_given, lent_quad, KeepsGiven, ShowsGiven};
 
 use rx_quads::{Quads, ShownQuad};
@@ -45,6 +45,7 @@ impl Given {
     pub(crate) fn show(&mut self, alloc: Global, number: usize) -> Result<bool, NoMemory>
         ensures keeps { KeepsGiven self.old self.new }
         ensures shows { IfOk result (λ is_there. ShowsGiven self.old number is_there self.new) }
+        ensures err { OnErr result (self.new ≡ self.old) }
     {
         match self {
             Given::Text { .. } => Ok(false),

@@ -1,5 +1,5 @@
 //! A page that is handed over in pieces, then its text or its quads.
-ghost use Rattle.std.specs.Prelude.{◌≡◌, ◌++◌, [], IfOk, length, min, take, drop};
+ghost use Rattle.std.specs.Prelude.{◌≡◌, ◌++◌, [], IfOk, OnErr, length, min, take, drop};
 ghost use Rattle.rx_rdfa.specs.Names.{Context as RulesContext};
 ghost use Rattle.rx_job.specs.Words.{itemizes, checks};
 ghost use Rattle.rx_session.specs.Given.{lent_quad};
@@ -213,10 +213,11 @@ impl Session {
         }
     }
 
-    /// Shows the quad of this number, from 0, and answers whether there is one.
+    /// Shows the quad of this number, from 0, and answers whether there is one. Where there is no memory, nothing is changed.
     pub fn show(&mut self, alloc: Global, number: usize) -> Result<bool, NoMemory>
         ensures keeps { KeepsQuads self.old self.new }
         ensures shows { IfOk result (λ is_there. ShowsQuad self.old number is_there self.new) }
+        ensures err { OnErr result (self.new ≡ self.old) }
     {
         match &mut self.state {
             State::Reads(_) => Ok(false),
