@@ -149,7 +149,7 @@ impl Facts {
     }
 
     /// Reads what the tag says into these facts, in place of what they were, and answers as [`Facts::of`] does. So a page's
-    /// tags are read into one value, which isn't moved. After want of memory nothing is said of the facts.
+    /// tags are read into one value, which isn't moved. After want of memory the facts are [`Facts::none`].
     fn renew(
         &mut self,
         maker: &mut IriMaker,
@@ -172,8 +172,26 @@ impl Facts {
     }
 
     /// Reads what the tag with these attributes says into these facts, in place of what they were, where neither the tag nor
-    /// an element around declares a vocabulary without a scheme. After want of memory nothing is said of the facts.
+    /// an element around declares a vocabulary without a scheme. After want of memory the facts are [`Facts::none`].
     pub fn read(
+        &mut self,
+        maker: &mut IriMaker,
+        tag: &Attributes<'_>,
+        names: &NamesView<'_>,
+    ) -> Result<(), NoMemory>
+        requires own { is_relative (own_vocabulary tag.now) ≡ false }
+        requires vocabulary { is_relative (vocabulary_of (names_seen names.now)) ≡ false }
+        ensures ok { OnOk result (Along names.now (λ context line. facts_seen self.new ≡ the.facts_of context line tag.now)) }
+        ensures err { OnErr result (facts_seen self.new ≡ no_facts) }
+    {
+        if let Err(error) = self.read_attributes(maker, tag, names) {
+            *self = Facts::none();
+            return Err(error);
+        }
+        Ok(())
+    }
+
+    fn read_attributes(
         &mut self,
         maker: &mut IriMaker,
         tag: &Attributes<'_>,

@@ -8,7 +8,7 @@ ghost use Rattle.rx_curie.specs.TermIris.{IsTermIri};
 
 use crate::comparisons::are_text;
 use crate::term_iris::TermIri;
-use rx_refs::{clean, push_clean};
+use rx_refs::{clean_copy, push_clean};
 use rx_terms::{Iri, NoMemory};
 use std::alloc::Global;
 
@@ -167,7 +167,7 @@ fn cleaned(alloc: Global, iri: &str) -> Result<Iri, NoMemory>
     requires { has_scheme (chars iri.now) ≡ true }
     ensures { IfOk result (λ made. made ≡ cleaned (chars iri.now)) }
 {
-    let text = clean(alloc, iri)?;
+    let text = clean_copy(alloc, iri)?;
     Iri::of_string(alloc, text)
 }
 

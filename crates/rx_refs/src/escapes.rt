@@ -5,12 +5,20 @@ ghost use Rattle.rx_terms.specs.Iri.{is_forbidden, has_forbidden};
 ghost use Rattle.rx_refs.specs.Resolve.{cleaned, escaped};
 ghost use Rattle.rx_refs.specs.Views.{Keeps};
 
-use rx_terms::{NoMemory, is_forbidden};
+use rx_terms::{NoMemory, Text, is_forbidden};
 use std::alloc::Global;
 
 /// The text with each character that no IRI may have as `%` and the two digits of its one byte, in upper-case
 /// hexadecimal (RFC 3986, section 2.1). Everything else stays, so what is escaped already is not escaped again.
-pub fn clean(alloc: Global, text: &str) -> Result<String, NoMemory>
+pub fn clean(alloc: Global, text: &str) -> Result<Text, NoMemory>
+    ensures { IfOk result (λ clean. clean ≡ cleaned (chars text.now)) }
+{
+    let copy = clean_copy(alloc, text)?;
+    Text::of_string(alloc, copy)
+}
+
+/// The same as a string, which nobody shares.
+pub fn clean_copy(alloc: Global, text: &str) -> Result<String, NoMemory>
     ensures { IfOk result (λ clean. chars (string_bytes clean) ≡ cleaned (chars text.now)) }
 {
     let mut out = String::new(alloc);
@@ -23,7 +31,7 @@ pub fn clean_string(alloc: Global, text: String) -> Result<String, NoMemory>
     ensures { IfOk result (λ clean. chars (string_bytes clean) ≡ cleaned (chars (string_bytes text))) }
 {
     if has_forbidden(text.as_str()) {
-        return clean(alloc, text.as_str());
+        return clean_copy(alloc, text.as_str());
     }
     Ok(text)
 }

@@ -19,7 +19,7 @@ mod slices;
 mod targets;
 
 pub use bases::Base;
-pub use escapes::{clean, push_clean};
+pub use escapes::{clean, clean_copy, push_clean};
 pub use parts::{Parts, split};
 pub use resolution::{resolve, without_fragment};
 pub use rx_terms::has_scheme;

@@ -14,4 +14,4 @@ pub returns : goal.returns
 returns c =
     let tag = c.args.attributes.now in
     if_ok c.read.result (λ g (above : List Tag) stands. subst (λ (k : Kept). facts_seen c.read.new.self ≡ facts k.context above tag) c.view.ensures.same
-    (g (tag ∷ above) (subst (λ (k : Kept). NamesStand k (tag ∷ above)) (sym c.view.ensures.same) stands))) c.read.ensures
+    (g (tag ∷ above) (subst (λ (k : Kept). NamesStand k (tag ∷ above)) (sym c.view.ensures.same) stands))) c.read.ensures.ok

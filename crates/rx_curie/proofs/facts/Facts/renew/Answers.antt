@@ -13,7 +13,7 @@ returns-in-Some-clause-line c = λ above stands absolute.
 
 pub returns-clause-line : goal.returns-clause-line
 returns-clause-line c = λ above stands absolute. (
-  c.in_ok-read.ensures (tag_of c.args.tag.now ∷ above) stands ∙ ap (λ t. facts_of (names_seen c.args.names.now).context (tag_of c.args.tag.now ∷ above) t) c.of-attributes.ensures,
+  c.in_ok-read.ensures.ok (tag_of c.args.tag.now ∷ above) stands ∙ ap (λ t. facts_of (names_seen c.args.names.now).context (tag_of c.args.tag.now ∷ above) t) c.of-attributes.ensures,
   refuses-none (refusal (facts (names_seen c.args.names.now).context above (tag_of c.args.tag.now)))
       (sym c.in_default.is ∙ refused-line (names_seen c.args.names.now) c.of-attributes.result (tag_of c.args.tag.now) c.refusal_by.result c.of-attributes.ensures c.refusal_by.ensures.line above stands absolute),
 )
