@@ -59,7 +59,7 @@ impl Placed {
         alloc: Global,
         facts: &Facts,
         level: u32,
-        base: &Base,
+        base: &Iri,
         subject: &Node,
         object: &Node,
         next_blank: u64,
@@ -73,9 +73,11 @@ impl Placed {
     {
         let fresh = draw_labels(labels, facts, next_blank)?;
         let context = plain_context(alloc, subject, object)?;
+        let copy = base.try_clone()?;
+        let against = Base::of(copy);
         let place = Surroundings {
             alloc,
-            base,
+            base: &against,
             around: &context,
             level: level_at((level - 1) as usize),
             labels,
@@ -110,7 +112,7 @@ pub fn value_of(
     alloc: Global,
     facts: &Facts,
     placed: &Placed,
-    base: &Base,
+    base: &Iri,
     labels: &Labels,
     text: &str,
 ) -> Result<Term, NoMemory>
@@ -118,7 +120,9 @@ pub fn value_of(
         ≡ value_with (labelled labels.now) base.now (facts_seen facts.now) (placed_seen placed.now) (chars text.now)) }
 {
     let found = placed.found()?;
-    let value = value_now(alloc, base, labels, facts, &found)?;
+    let copy = base.try_clone()?;
+    let against = Base::of(copy);
+    let value = value_now(alloc, &against, labels, facts, &found)?;
     match value {
         Some(value) => Ok(value),
         None => TextRule::of(facts)?.value(alloc, text),

@@ -6,23 +6,22 @@ ghost use Rattle.rx_curie.specs.Seen.{facts_seen};
 use crate::tests::evaluator::{is_text, property};
 use rx_curie::{ElementKind, Facts, Ref};
 use rx_eval::{Labels, OwnIris, Placed, is_blank, value_of};
-use rx_refs::Base;
 use rx_terms::{Iri, Node, Text};
 use std::alloc::Global;
 use std::test::Fail;
 
 /// Where an element with these facts stands, and the labels that have numbers then.
-fn place(alloc: Global, facts: &Facts, base: &Base, labels: &mut Labels) -> Result<Placed, Fail>
+fn place(alloc: Global, facts: &Facts, base: &Iri, labels: &mut Labels) -> Result<Placed, Fail>
     requires { 7 + 1 + length (labels_of (facts_seen facts.now)) < 2 ^ 64 }
 {
-    let page = Node::Iri(base.iri().try_clone()?);
+    let page = Node::Iri(base.try_clone()?);
     let placed = Placed::of(alloc, facts, 2, base, &page, &page, 7, labels);
     drop(page);
     Ok(placed?)
 }
 
 /// An element about a label, and where it stands.
-fn placed(alloc: Global, base: &Base, labels: &mut Labels) -> Result<(Facts, Placed), Fail> {
+fn placed(alloc: Global, base: &Iri, labels: &mut Labels) -> Result<(Facts, Placed), Fail> {
     let property = property(alloc)?;
     let Ok(label) = Text::of(alloc, "x") else {
         drop(property);
@@ -66,14 +65,14 @@ fn is_value(
     alloc: Global,
     facts: &Facts,
     placed: &Placed,
-    base: &Base,
+    base: &Iri,
     labels: &Labels,
 ) -> Result<bool, Fail> {
     let value = value_of(alloc, facts, placed, base, labels, "Hi")?;
     Ok(is_text(&value, "Hi"))
 }
 
-fn holds_of(alloc: Global, base: &Base, labels: &mut Labels) -> Result<bool, Fail> {
+fn holds_of(alloc: Global, base: &Iri, labels: &mut Labels) -> Result<bool, Fail> {
     let (facts, placed) = placed(alloc, base, labels)?;
     let numbered = are_numbered(&placed, labels);
     let valued = is_value(alloc, &facts, &placed, base, labels);
@@ -83,7 +82,7 @@ fn holds_of(alloc: Global, base: &Base, labels: &mut Labels) -> Result<bool, Fai
     Ok(numbered && valued)
 }
 
-fn holds_at(alloc: Global, base: &Base) -> Result<bool, Fail> {
+fn holds_at(alloc: Global, base: &Iri) -> Result<bool, Fail> {
     let mut labels = Labels::new(alloc)?;
     let holds = holds_of(alloc, base, &mut labels);
     drop(labels);
@@ -92,7 +91,7 @@ fn holds_at(alloc: Global, base: &Base) -> Result<bool, Fail> {
 
 #[test]
 fn a_text_about_a_label(rt: HostRuntime) -> Result<(), Fail> {
-    let base = Base::of(Iri::of(rt.alloc(), "http://h.example/d")?);
+    let base = Iri::of(rt.alloc(), "http://h.example/d")?;
     let holds = holds_at(rt.alloc(), &base);
     drop(base);
     assert!(rt; holds?);

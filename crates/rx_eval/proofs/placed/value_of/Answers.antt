@@ -1,11 +1,14 @@
-use Rattle.std.proofs.Common.{◌≡◌, ◌∙◌, ap, sym, ℕ, option_map, None}
+use Rattle.std.proofs.Common.{◌≡◌, ◌∙◌, ap, subst, sym, ℕ, option_map, None}
+use Rattle.std.specs.Prelude.{IfOk}
 use Rattle.std.specs.Str.{chars}
+use Rattle.rx_terms.specs.Text.{Chars}
 use Rattle.rx_model.specs.Seen.{term_seen}
 use Rattle.rx_rdfa.specs.Resources.{Resources}
 use Rattle.rx_rdfa.specs.Value.{rule, value_now}
 use Rattle.rx_curie.specs.Seen.{facts_seen}
-use Rattle.rx_eval.specs.Moment.{moment}
+use Rattle.rx_eval.specs.Moment.{labelled, moment}
 use Rattle.rx_eval.specs.Placing.{placed_seen}
+use Rattle.rx_eval.specs.TextRules.{value_with}
 use Rattle.rx_eval.proofs.TextLemmas.{ok_text}
 use Rattle.rx_eval.proofs.placed.value_of.Goals as goal
 
@@ -14,8 +17,11 @@ returns c =
     let facts = facts_seen c.args.facts.now in
     let naming = moment c.args.labels.now 0 0 0 in
     let here = placed_seen c.args.placed.now in
-    let none : None ≡ value_now (rule naming c.args.base.now facts here) facts =
+    let against = c.of-against.result in
+    let none : None ≡ value_now (rule naming against facts here) facts =
     sym (ap (option_map term_seen) c.in-None.is) ∙ c.in_ok-value.ensures
-    ∙ ap (λ (h : Resources ℕ). value_now (rule naming c.args.base.now facts h) facts) c.in_ok-found.ensures in
-    ok_text facts (rule naming c.args.base.now facts here) _ (chars c.args.text.now) c.value.result none
-    (c.in_ok-of-in-None.ensures.literal naming c.args.base.now here (sym none) (chars c.args.text.now)) c.value.ensures
+    ∙ ap (λ (h : Resources ℕ). value_now (rule naming against facts h) facts) c.in_ok-found.ensures in
+    subst (λ (base : Chars). IfOk c.value.result (λ term. term_seen term ≡ value_with (labelled c.args.labels.now) base facts here (chars c.args.text.now)))
+    (c.of-against.ensures ∙ c.in_ok-copy.ensures)
+    (ok_text facts (rule naming against facts here) _ (chars c.args.text.now) c.value.result none
+    (c.in_ok-of-in-None.ensures.literal naming against here (sym none) (chars c.args.text.now)) c.value.ensures)
