@@ -1,5 +1,5 @@
 -- What a value denotes is made of terms that have their form.
-use Rattle.std.proofs.Common.{◌+◌, ℕ, suc, Bool, true, false, cond, List, [], ◌∷◌, ◌++◌, map, bytes_eq, Option, refl, sym, subst, inl, inr}
+use Rattle.std.proofs.Common.{◌+◌, ℕ, zero, suc, Bool, true, false, cond, List, [], ◌∷◌, ◌++◌, map, bytes_eq, Option, refl, sym, subst, inl, inr}
 use Rattle.serde_json.specs.Data.{Data, Items, Members, no_items, item, no_members, member}
 use Rattle.rx_terms.specs.Iri.{IsIri}
 use Rattle.rx_terms.specs.Literal.{xsd_string}
@@ -156,5 +156,5 @@ module _ {A B : Type 0} (to : A → B) where
 pub denotes_formed : DenotesFormed
 denotes_formed value graph h u m =
     let b = h.renamed.back u m in
-    let all : AllFormed (all_triples Label Place h.document 0) = document_formed Label Place h.spells.0 h.document 0 h.spells.2 in
-    subst IsFormedTriple b.2 (triple_renamed h.renamed.to b.0 (one_formed (all_triples Label Place h.document 0) b.0 all b.1))
+    let all : AllFormed (all_triples Label Place h.document zero) = document_formed Label Place h.spells.0 h.document zero h.spells.2 in
+    subst IsFormedTriple b.2 (triple_renamed h.renamed.to b.0 (one_formed (all_triples Label Place h.document zero) b.0 all b.1))

@@ -41,7 +41,7 @@ use Rattle.rx_nest.specs.Lines.{Lines, TagGives, GivesBy, Begins, Ends, own_of_e
 use Rattle.rx_nest.specs.Levels.{Levels, place_under, kept, ends_by}
 use Rattle.rx_nest.specs.Signs.{Sign, said, is_hidden, finishing}
 use Rattle.rx_nest.specs.Follows.{Follows, flags_of, phase_at, own_signs, own_tag, tag_by}
-use Rattle.rx_nest.specs.TreeTokens.{TakesToken, TakesTag, token_result}
+use Rattle.rx_nest.specs.TreeTokens.{TakesToken, TakesTagToken, token_result}
 use Rattle.rx_nest.specs.Nests.{Stops, IsBetween, begins_own, IsATag, hears_skipped, a_skipped_one, a_doctype, some_text, TokenOf, Completes, At, setting_of, start_seen, heard_signs, Lends, is_tag_heard, hears_more, Heeds, ReadGives, last_text, has_text, last_tag}
 use Rattle.rx_nest.proofs.LineLemmas.{place_is}
 use Rattle.rx_nest.proofs.Takes.{Taken, tag_steps}
@@ -267,7 +267,7 @@ module _ (syntax : Syntax) (limits : Limits) (bytes : List ℕ) (told : List Eve
           let steps : nest_step line.syntax line.depth nest item ≡ Err kind = tag_steps line new nest item (tag_seen g) (Err (refused.Fault kind)) at.follows is.is gives in
           tag_stops syntax limits bytes told v line at front st.scanned.next item reads_tag g is.is is.first_is is.last_is ends kind (steps_as (Err kind) steps) piece (drop n piece) (sym (front_rest n piece)) (λ rest m. unskips (st.mark rest m).0)
 
-      pub hears_refused : (fault : Fault) → TakesTag line g (Err (stop.Fault fault)) new → (shows_skipped t ≡ true → ⊥) → Stops syntax limits bytes told piece fault
+      pub hears_refused : (fault : Fault) → TakesTagToken line g (Err (stop.Fault fault)) new → (shows_skipped t ≡ true → ⊥) → Stops syntax limits bytes told piece fault
       hears_refused fault h unskips = by h.taken h.is h.gives
         where
           by : (taken : Result TagEffect Refused) → Err (stop.Fault fault) ≡ token_result g taken → TagGives line (tag_seen g) taken new → Stops syntax limits bytes told piece fault
@@ -361,7 +361,7 @@ module _ (syntax : Syntax) (limits : Limits) (bytes : List ℕ) (told : List Eve
           by [] = refl
           by (level ∷ levels) = refl
 
-    gives_of : (g : Tag) (new : Lines) (tells : TagEffect) → TakesTag line g (Ok (tree_token.Tag tells)) new → TagGives line (tag_seen g) (Ok tells) new
+    gives_of : (g : Tag) (new : Lines) (tells : TagEffect) → TakesTagToken line g (Ok (tree_token.Tag tells)) new → TagGives line (tag_seen g) (Ok tells) new
     gives_of g new tells h = by h.taken h.is h.gives
       where
         by : (taken : Result TagEffect Refused) → Ok (tree_token.Tag tells) ≡ token_result g taken → TagGives line (tag_seen g) taken new → TagGives line (tag_seen g) (Ok tells) new
@@ -369,7 +369,7 @@ module _ (syntax : Syntax) (limits : Limits) (bytes : List ℕ) (told : List Eve
         by (Err (refused.Fault kind)) e gives = absurd (let w : Ok (tree_token.Tag tells) ≡ Err (stop.Fault (record { kind = kind; token = g.token; at = g.at })) = e in cc)
         by (Err refused.NoMemory) e gives = absurd (let w : Ok (tree_token.Tag tells) ≡ Err stop.NoMemory = e in cc)
 
-    start_heeds : (g : Tag) → t ≡ token.Start g → Shows mid.what mid.reading t → (new : Lines) (tells : TagEffect) → TakesTag line g (Ok (tree_token.Tag tells)) new → scan.ScanStands (scan.inside_of (place_under new.levels).content tells.drops mid) st.scanned.next
+    start_heeds : (g : Tag) → t ≡ token.Start g → Shows mid.what mid.reading t → (new : Lines) (tells : TagEffect) → TakesTagToken line g (Ok (tree_token.Tag tells)) new → scan.ScanStands (scan.inside_of (place_under new.levels).content tells.drops mid) st.scanned.next
         → Heeds syntax limits bytes told piece n (tree_token.Tag tells) line (scan.inside_of (place_under new.levels).content tells.drops mid) new
     start_heeds g e shows new tells h stands =
         let are = subst (λ x. Are v.reading.setting.drops x s front items) e st.are in
@@ -382,7 +382,7 @@ module _ (syntax : Syntax) (limits : Limits) (bytes : List ℕ) (told : List Eve
     end_begins : (levels : Levels) → begins_own (own_of_end levels) ≡ false
     end_begins levels = by_test (shown_under levels) (λ e. rw e refl) (λ e. rw e refl)
 
-    end_heeds : (g : Tag) → t ≡ token.End g → Shows mid.what mid.reading t → (new : Lines) (tells : TagEffect) → TakesTag line g (Ok (tree_token.Tag tells)) new → scan.ScanStands (scan.inside_of (place_under new.levels).content tells.drops mid) st.scanned.next
+    end_heeds : (g : Tag) → t ≡ token.End g → Shows mid.what mid.reading t → (new : Lines) (tells : TagEffect) → TakesTagToken line g (Ok (tree_token.Tag tells)) new → scan.ScanStands (scan.inside_of (place_under new.levels).content tells.drops mid) st.scanned.next
         → Heeds syntax limits bytes told piece n (tree_token.Tag tells) line (scan.inside_of (place_under new.levels).content tells.drops mid) new
     end_heeds g e shows new tells h stands =
         let are = subst (λ x. Are v.reading.setting.drops x s front items) e st.are in
@@ -424,7 +424,7 @@ module _ (syntax : Syntax) (limits : Limits) (bytes : List ℕ) (told : List Eve
             let same : h ≡ a = cc in
             subst (λ y. Heeds syntax limits bytes told piece n h line mid y) (sym l) (subst (λ y. Heeds syntax limits bytes told piece n y line mid line) (sym same) x)
 
-        tag_no : (g : Tag) → TakesTag line g (Ok h) new → ⊥
+        tag_no : (g : Tag) → TakesTagToken line g (Ok h) new → ⊥
         tag_no g k = on k.taken k.is
           where
             on : (taken : Result TagEffect Refused) → Ok h ≡ token_result g taken → ⊥
@@ -483,7 +483,7 @@ module _ (syntax : Syntax) (limits : Limits) (bytes : List ℕ) (told : List Eve
             ∙ (ap (λ x. is_of_syntax mid.reading.setting.syntax (inside_of x m.line).content) (e ∙ at.syntax_is)
             ∙ (ap (λ x. is_of_syntax x (inside_of syntax m.line).content) mid_syntax ∙ inside_is syntax m.line))
 
-        tagged : (g : Tag) (is : IsTag (tag_seen g) g.token g.at items) → (tag_seen g).closing ≡ true ⊎ (tag_seen g).closing ≡ false → TakesTag line g (Ok (tree_token.Tag tells)) new → Goal
+        tagged : (g : Tag) (is : IsTag (tag_seen g) g.token g.at items) → (tag_seen g).closing ≡ true ⊎ (tag_seen g).closing ≡ false → TakesTagToken line g (Ok (tree_token.Tag tells)) new → Goal
         tagged g is which k =
             let gives : TagGives line (tag_seen g) (Ok tells) new = gives_of g new tells k in
             let taken : Taken line nest is.item tells new = tag_steps line new nest is.item (tag_seen g) (Ok tells) at.follows is.is gives in

@@ -24,7 +24,7 @@ token_result t (Ok told) = Ok (tree_token.Tag told)
 token_result t (Err (refused.Fault kind)) = Err (stop.Fault (record { kind = kind; token = t.token; at = t.at }))
 token_result t (Err refused.NoMemory) = Err stop.NoMemory
 
-pub record TakesTag (old : Lines) (t : Tag) (result : Result TreeToken Stop) (new : Lines) : Type 0 where
+pub record TakesTagToken (old : Lines) (t : Tag) (result : Result TreeToken Stop) (new : Lines) : Type 0 where
   pub taken : Result TagEffect Refused
   pub gives : TagGives old (tag_seen t) taken new
   pub is : result ≡ token_result t taken
@@ -38,8 +38,8 @@ TakesToken old token.More result new = OnlyTakes tree_token.More old result new
 TakesToken old token.Skipped result new = OnlyTakes tree_token.Skipped old result new
 TakesToken old token.Doctype result new = OnlyTakes tree_token.Skipped old result new
 TakesToken old (token.Text text) result new = OnlyTakes (if says_text old then tree_token.Text else tree_token.Skipped) old result new
-TakesToken old (token.Start t) result new = TakesTag old t result new
-TakesToken old (token.End t) result new = TakesTag old t result new
+TakesToken old (token.Start t) result new = TakesTagToken old t result new
+TakesToken old (token.End t) result new = TakesTagToken old t result new
 
 abbrev pub paid : PendingEvents
 paid = record { ends = 0; own = None }

@@ -53,7 +53,7 @@ impl OpenElements {
     }
 
     fn take_tag(&mut self, tag: &Tag<'_>) -> Result<TreeToken, Stop>
-        ensures { tree_token.TakesTag self.old tag.now result self.new }
+        ensures { tree_token.TakesTagToken self.old tag.now result self.new }
     {
         match self.take(tag) {
             Ok(told) => Ok(TreeToken::Tag(told)),

@@ -35,7 +35,7 @@ use Rattle.rx_scan.specs.Pending.{Pending}
 use Rattle.rx_scan.specs.Places.{fed}
 use Rattle.rx_scan.specs.Scanner.{Reading}
 use Rattle.rx_scan.specs.Steps.{ReadsAs, Took}
-use Rattle.rx_scan.specs.WholeTags.{TakesTag}
+use Rattle.rx_scan.specs.WholeTags.{ReadsWholeTag}
 use Rattle.rx_scan.proofs.FeedLemmas.{chosen}
 use Rattle.rx_scan.proofs.FrontLemmas.{front_read}
 use Rattle.rx_scan.proofs.LoopLemmas.{token_read}
@@ -122,7 +122,7 @@ module _ (v : Reading) (p : Pending) (bytes : List ℕ) (limit n : ℕ) (o : v.p
   count_is : n - 1 ≡ length (take t.at bytes)
   count_is = omega (arith, t.count, long)
 
-  taken : TakesTag v bytes n (entries.with_tag (fed_by (n - 1) p) false)
+  taken : ReadsWholeTag v bytes n (entries.with_tag (fed_by (n - 1) p) false)
   taken =
       let b = bounds in
       let c = t.closes in
@@ -137,9 +137,9 @@ module _ (v : Reading) (p : Pending) (bytes : List ℕ) (limit n : ℕ) (o : v.p
         ends = (p.tag, t.ends, ap (λ (x : ℕ). entries.with_tag (fed_by x p) false) count_is ∙ ap (λ (q : Pending). entries.with_tag (fed_by (length (take t.at bytes)) q) false) k);
       }
 
-  pub taken_as : (new : Reading) (place : Position) → place ≡ fed (n - 1) v.place → new ≡ entries.with_tag (record { setting = v.setting; place = place; held = v.held; pending = p; text = v.text; end = v.end }) false → TakesTag v bytes n new
+  pub taken_as : (new : Reading) (place : Position) → place ≡ fed (n - 1) v.place → new ≡ entries.with_tag (record { setting = v.setting; place = place; held = v.held; pending = p; text = v.text; end = v.end }) false → ReadsWholeTag v bytes n new
   taken_as new place e q =
-      subst (λ (x : Reading). TakesTag v bytes n x) (sym (q ∙ ap (λ (x : Position). entries.with_tag (record { setting = v.setting; place = x; held = v.held; pending = p; text = v.text; end = v.end }) false) e)) taken
+      subst (λ (x : Reading). ReadsWholeTag v bytes n x) (sym (q ∙ ap (λ (x : Position). entries.with_tag (record { setting = v.setting; place = x; held = v.held; pending = p; text = v.text; end = v.end }) false) e)) taken
 
 -- the tag is whole
 pub is_whole : (old tag : TagSoFar) (c : ℕ) → StepGives old c (Ok Done) tag → is_last tag.state.phase ≡ true
@@ -147,25 +147,25 @@ is_whole old tag c g =
     let e : Ends (record { syntax = old.syntax; state = old.state }) c tag.state = g.0 in
     ap (λ (x : TagState). is_last x.phase) e.kept ∙ e.whole
 
-pub lends_tag : (l new : Reading) (bytes : List ℕ) (n : ℕ) → TakesTag l bytes n new → (is_last new.pending.tag.state.phase ≡ true) × (new.pending.mark ≡ mark.Nothing)
+pub lends_tag : (l new : Reading) (bytes : List ℕ) (n : ℕ) → ReadsWholeTag l bytes n new → (is_last new.pending.tag.state.phase ≡ true) × (new.pending.mark ≡ mark.Nothing)
 lends_tag l new bytes n t =
     let e = t.ends in (
       ap (λ (x : Reading). is_last x.pending.tag.state.phase) e.2 ∙ is_whole t.before.pending.tag e.0 62 e.1,
       ap (λ (x : Reading). x.pending.mark) e.2,
     )
 
-pub keeps_text : (l new : Reading) (bytes : List ℕ) (n : ℕ) → TakesTag l bytes n new → new.text ≡ l.text
+pub keeps_text : (l new : Reading) (bytes : List ℕ) (n : ℕ) → ReadsWholeTag l bytes n new → new.text ≡ l.text
 keeps_text l new bytes n t = let e = t.ends in ap (λ (x : Reading). x.text) e.2 ∙ ap (λ (x : Reading). x.text) t.front.feeds.is
 
 -- no tag is taken between tokens
-pub not_between : (l new : Reading) (bytes : List ℕ) (n : ℕ) → TakesTag l bytes n new → l.pending.mark ≡ mark.Nothing → ⊥
+pub not_between : (l new : Reading) (bytes : List ℕ) (n : ℕ) → ReadsWholeTag l bytes n new → l.pending.mark ≡ mark.Nothing → ⊥
 not_between l new bytes n t m = let e = sym t.front.opened ∙ m in cc
 
 get_behind : (bytes : List ℕ) (i n : ℕ) → get_or (drop i bytes) n 0 ≡ get_or bytes (i + n) 0
 get_behind bytes i n = grind (arith, common_steps)
 
 -- behind so many bytes of a piece it is the next token
-pub tag_took : (old l new : Reading) (s : reader.Scanning) (piece : List ℕ) (i n : ℕ) → i ≤ length piece → ReadsOn old s (take i piece) l → (l.text.text ≡ []) ⊎ (l.pending.mark ≡ mark.Nothing) → TakesTag l (drop i piece) n new → Took old s piece (i + n) what.Tag new
+pub tag_took : (old l new : Reading) (s : reader.Scanning) (piece : List ℕ) (i n : ℕ) → i ≤ length piece → ReadsOn old s (take i piece) l → (l.text.text ≡ []) ⊎ (l.pending.mark ≡ mark.Nothing) → ReadsWholeTag l (drop i piece) n new → Took old s piece (i + n) what.Tag new
 tag_took old l new s piece i n k r o t =
     let c = t.closes in
     let f = t.front.feeds in
@@ -185,9 +185,9 @@ tag_took old l new s piece i n k r o t =
 
 -- further on, where a slice is what is left
 pub tag_next : (old l new : Reading) (s : reader.Scanning) (piece : List ℕ) (i n : ℕ) → i ≤ length piece → ReadsOn old s (take i piece) l → (l.text.text ≡ []) ⊎ (l.pending.mark ≡ mark.Nothing)
-    → TakesTag l (take (length piece - i) (drop i piece)) n new → Took old s piece (i + n) what.Tag new
-tag_next old l new s piece i n k r o t = tag_took old l new s piece i n k r o (subst (λ (x : List ℕ). TakesTag l x n new) (take_rest piece i) t)
+    → ReadsWholeTag l (take (length piece - i) (drop i piece)) n new → Took old s piece (i + n) what.Tag new
+tag_next old l new s piece i n k r o t = tag_took old l new s piece i n k r o (subst (λ (x : List ℕ). ReadsWholeTag l x n new) (take_rest piece i) t)
 
 -- and at the first byte
-pub tag_first : (old new : Reading) (s : reader.Scanning) (piece : List ℕ) (n : ℕ) → old.text.text ≡ [] → ReadsAs old s → TakesTag old piece n new → Took old s piece n what.Tag new
+pub tag_first : (old new : Reading) (s : reader.Scanning) (piece : List ℕ) (n : ℕ) → old.text.text ≡ [] → ReadsAs old s → ReadsWholeTag old piece n new → Took old s piece n what.Tag new
 tag_first old new s piece n e h t = subst (λ (x : ℕ). Took old s piece x what.Tag new) (omega arith) (tag_took old old new s piece 0 n (omega arith) (reads_none old s e h) (inl e) t)

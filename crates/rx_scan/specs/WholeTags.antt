@@ -10,7 +10,7 @@ use Rattle.rx_scan.specs.Scanner.{Reading}
 
 -- Behind a `<` a tag stands whole in n bytes: it begins and goes on with those before its `>`, by which it is whole. None is
 -- past the page's limit or the tag's.
-pub record TakesTag (old : Reading) (bytes : List ℕ) (n : ℕ) (new : Reading) : Type 0 where
+pub record ReadsWholeTag (old : Reading) (bytes : List ℕ) (n : ℕ) (new : Reading) : Type 0 where
   pub at : ℕ
   pub count : n ≡ at + 1
   pub closes : ClosesAt bytes at

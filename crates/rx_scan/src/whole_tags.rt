@@ -1,6 +1,6 @@
 //! Tags that stand whole behind their `<`, which are taken at once.
 ghost use Rattle.std.specs.Prelude.{◌≡◌, ◌<◌, ◌≤◌, length};
-ghost use Rattle.rx_scan.specs.WholeTags.{TakesTag};
+ghost use Rattle.rx_scan.specs.WholeTags.{ReadsWholeTag};
 
 use crate::fronts::opens_tag;
 use crate::marks::TokenState;
@@ -13,7 +13,7 @@ impl Reader {
     pub(crate) fn take_tag(&mut self, bytes: &[u8]) -> usize
         ensures fits { result ≤ length bytes.now }
         ensures none { result ≡ 0 → self.new ≡ self.old }
-        ensures takes { 0 < result → TakesTag self.old bytes.now result self.new }
+        ensures takes { 0 < result → ReadsWholeTag self.old bytes.now result self.new }
     {
         if self.pending.mark() != TokenState::LessThan {
             return 0;
@@ -26,7 +26,7 @@ impl Reader {
         requires { self.old.pending.mark ≡ TokenState.LessThan }
         ensures fits { result ≤ length bytes.now }
         ensures none { result ≡ 0 → self.new ≡ self.old }
-        ensures takes { 0 < result → TakesTag self.old bytes.now result self.new }
+        ensures takes { 0 < result → ReadsWholeTag self.old bytes.now result self.new }
     {
         if !self.utf8.is_whole() {
             return 0;

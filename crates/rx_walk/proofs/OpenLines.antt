@@ -1,30 +1,19 @@
 -- The elements that the signs of a walk leave open are those that the page's tree shows, by the grammar.
-use Rattle.std.proofs.Common.{◌≡◌, ◌∙◌, ℕ, List, [], map, sym, ap, subst, length}
+use Rattle.std.proofs.Common.{◌≡◌, ◌∙◌, ℕ, List, [], map, ap}
 use Rattle.rx_chars.specs.Characters.{Entry}
 use Rattle.rx_terms.specs.Text.{Chars}
 use Rattle.rx_grammar.specs.Begun.{Line, Phase}
 use Rattle.rx_pages.specs.Fronts.{IsUnderway}
-use Rattle.rx_rdfa.specs.Tree.{Tag}
 use Rattle.rx_nest.specs.ShownLines.{shown_line}
-use Rattle.rx_nest.proofs.ShownLines.{shows_open_ones, stands_underway}
+use Rattle.rx_nest.proofs.ShownLines.{shows_open_ones}
 use Rattle.rx_base.specs.Lines.{line_of}
 use Rattle.rx_rdfa.specs.Pages.{read_tag}
 use Rattle.rx_base.proofs.Lines.{line_is}
 use Rattle.rx_walk.specs.Settings.{Setting}
-use Rattle.rx_walk.specs.Walks.{Walked, WalkStands, OverOpen, FramesFit, DepthGives}
+use Rattle.rx_walk.specs.Walks.{Walked, WalkStands}
 
 module _ (setting : Setting) (address : Chars) (walk : Walked) (bytes : List ℕ) (s : WalkStands setting address walk bytes) where
   pub open_is : (line : Line) (phase : Phase) (run : List Entry) (part : List ℕ) → IsUnderway setting.syntax setting.limits bytes line phase run part
       → line_of [] s.goes.signs ≡ map read_tag (shown_line setting.syntax line)
   open_is line phase run part u =
       line_is [] s.goes.signs ∙ ap (λ x. map read_tag x) (shows_open_ones setting.syntax setting.limits walk.nest bytes s.goes.signs s.goes.shown s.paid line phase run part u)
-
-  -- such a line there is
-  pub over_open : (holds : List Tag → Type 0) → OverOpen setting bytes holds → holds (line_of [] s.goes.signs)
-  over_open holds h =
-      let u = stands_underway setting.syntax setting.limits walk.nest bytes s.goes.signs s.goes.shown in
-      subst holds (sym (open_is u.line u.phase u.run u.part u.underway)) (h u.line u.phase u.run u.part u.underway)
-
-  -- so what a clause says of that line it says of the one that the signs lead to
-  pub depth_by_signs : (depth : ℕ) → DepthGives walk depth → (depth ≡ length (line_of [] s.goes.signs)) × FramesFit walk (line_of [] s.goes.signs)
-  depth_by_signs depth d = over_open (λ line. (depth ≡ length line) × FramesFit walk line) (d setting address bytes s)

@@ -1,5 +1,5 @@
 -- What becomes of the stage.
-use Rattle.std.proofs.Common.{◌≡◌, ◌∙◌, ℕ, ◌<◌, Bool, true, false, List, [], ◌∷◌, ◌++◌, length, refl, sym, ap, subst, Option, Some, None, Result, Ok, Err, OnOk, zero, suc, ◌+◌, drop, get_or, slice_get, add-one, arith, append_assoc, append-nil}
+use Rattle.std.proofs.Common.{◌≡◌, ◌∙◌, ℕ, ◌<◌, Bool, true, false, List, [], ◌∷◌, ◌++◌, length, refl, sym, ap, subst, Option, Some, None, zero, suc, ◌+◌, drop, get_or, slice_get, add-one, arith, append_assoc, append-nil}
 use Rattle.std.specs.Prelude.{if◌then◌else◌}
 use Rattle.rx_terms.specs.Text.{Chars}
 use Rattle.rx_rdfa.specs.Base.{base_by}
@@ -61,10 +61,6 @@ pub one_leads : (call : Call) (old new : State) → Steps call old new → Leads
 one_leads call old new s = (new, s, refl)
 
 -- one call
-
-pub on_ok : {R E : Type 0} (r : Result R E) (P Q : Type 0) → (P → Q) → OnOk r P → OnOk r Q
-on_ok (Ok x) P Q f h = f h
-on_ok (Err e) P Q f h = tt
 
 pub follow_enter : (facts : Facts) (state : State) → MayFollow (Enter facts ∷ []) state → (length state.frames < state.levels) × (state.ended ≡ false)
 follow_enter facts state m = may_enter m.base m.levels m.before facts state m.led m.may

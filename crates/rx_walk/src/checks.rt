@@ -2,6 +2,7 @@
 ghost use Rattle.std.specs.Prelude.{◌≡◌, ℕ, List, [], true, Err, IfOk};
 ghost use Rattle.rx_nest.specs.Falling.{Answered, MayAnswer};
 ghost use Rattle.rx_nest.specs.FaultPlaces.{PlaceGives};
+ghost use Rattle.rx_nest.specs.Readings.{has_failed};
 ghost use Rattle.rx_walk.specs.Settings.{Setting, way_of};
 ghost use Rattle.rx_walk.specs.Checks as checks;
 
@@ -45,7 +46,7 @@ impl Check {
     }
 
     /// Takes the whole piece. Text takes no memory: a piece without `<` and `&` never wants memory where no token is
-    /// unfinished, whatever elements are open.
+    /// unfinished, whatever elements are open. After a fault or want of memory it answers the same again, and changes nothing.
     pub fn feed(&mut self, piece: &[u8]) -> Result<(), Stop>
         ensures gives { (setting : Setting) (bytes : List ℕ) → checks.CheckStands setting self.old bytes
             → checks.FeedGives setting bytes piece.now result self.new }
@@ -53,6 +54,7 @@ impl Check {
         ensures quiet { checks.TakesQuietly self.old piece.now result }
         ensures asked { MayAnswer self.old.failed self.old.out_of_memory result }
         ensures keeps { Answered result self.new.failed self.new.out_of_memory }
+        ensures stays { has_failed self.old ≡ true → self.new ≡ self.old }
     {
         self.reading.feed(piece)
     }

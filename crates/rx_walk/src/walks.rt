@@ -74,13 +74,15 @@ impl Walk {
     }
 
     /// Takes the whole piece. Text takes no memory where the base is known and no open element gathers its text: a piece
-    /// without `<` and `&` then never wants memory where no token is unfinished.
+    /// without `<` and `&` then never wants memory where no token is unfinished. After a fault or want of memory it answers the
+    /// same again, and changes nothing.
     pub fn feed(&mut self, piece: &[u8]) -> Result<(), Stop>
         ensures gives { walks.WhereStands self.old (λ setting address bytes. walks.FeedGives setting address bytes piece.now result self.new) }
         ensures place { walks.WhereStands self.old (λ setting address bytes. PlaceGives (way_of setting) bytes piece.now result) }
         ensures quiet { walks.TakesQuietly self.old piece.now result }
         ensures asked { MayAnswer self.old.failed self.old.out_of_memory result }
         ensures keeps { Answered result self.new.failed self.new.out_of_memory }
+        ensures stays { has_failed self.old ≡ true → self.new ≡ self.old }
     {
         self.reading.feed(piece)
     }

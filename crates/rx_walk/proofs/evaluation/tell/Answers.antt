@@ -1,9 +1,10 @@
 use Rattle.std.proofs.Common.{◌∙◌, sym, ap, subst}
+use Rattle.std.proofs.lemmas.Result.{on_ok_weaker}
 use Rattle.rx_curie.specs.Seen.{facts_seen}
 use Rattle.rx_eval.specs.Opened.{read_text}
 use Rattle.rx_walk.specs.Leading.{Leads}
 use Rattle.rx_walk.specs.Stages.{MayFollow, call_seen}
-use Rattle.rx_walk.proofs.Staging.{on_ok, follow_enter, follow_leave, text_leads}
+use Rattle.rx_walk.proofs.Staging.{follow_enter, follow_leave, text_leads}
 use Rattle.rx_walk.proofs.evaluation.tell.Goals as goal
 
 pub enter-requires-clause-level : goal.enter-requires-clause-level
@@ -17,7 +18,7 @@ leave-requires c unspent = follow_leave c.args.eval.now (subst (λ x. MayFollow 
 
 pub returns-in-Text : goal.returns-in-Text
 returns-in-Text c =
-    on_ok c.text.result _ _
+    on_ok_weaker c.text.result
     (λ e. subst (λ x. Leads (call_seen x) c.args.eval.now c.text.new.self) (sym c.in-Text.is)
     (text_leads c.in-Text.text c.args.eval.now c.text.new.self (e ∙ ap (λ t. read_text t c.args.eval.now) c.as_str.ensures.characters)))
     c.text.ensures.ok

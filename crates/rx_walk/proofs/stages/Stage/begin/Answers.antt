@@ -1,11 +1,12 @@
 use Rattle.std.proofs.Common.{[], ◌∷◌, refl, sym, subst}
+use Rattle.std.proofs.lemmas.Result.{on_ok_weaker}
 use Rattle.rx_rdfa.specs.Calls.{Enter}
 use Rattle.rx_curie.specs.Seen.{facts_seen}
 use Rattle.rx_names.specs.Tags.{tag_of}
 use Rattle.rx_base.specs.Seekings.{seek_begun}
 use Rattle.rx_walk.specs.Stages.{MayTake, Tells}
 use Rattle.rx_walk.specs.declared.stages.Stage.TheVariants as stage
-use Rattle.rx_walk.proofs.Staging.{on_ok, found_enters, found_tells, one_leads}
+use Rattle.rx_walk.proofs.Staging.{found_enters, found_tells, one_leads}
 use Rattle.rx_walk.proofs.stages.Stage.begin.Goals as goal
 
 pub enter-requires-clause-level : goal.enter-requires-clause-level
@@ -16,7 +17,7 @@ enter-requires-clause-root c = (found_enters c.args.origin.now.levels (facts_see
 
 pub returns-in-Found : goal.returns-in-Found
 returns-in-Found c =
-    on_ok c.enter.result _ _
+    on_ok_weaker c.enter.result
     (λ o. subst (λ x. Tells c.args.origin.now (λ s. seek_begun c.args.count s (tag_of c.args.tag.now)) (Enter (facts_seen c.args.facts.now) ∷ []) x (stage.Found c.enter.new.eval)) (sym c.in-Found.is)
     (found_tells c.args.origin.now (λ s. seek_begun c.args.count s (tag_of c.args.tag.now)) (Enter (facts_seen c.args.facts.now) ∷ []) c.in-Found.eval c.enter.new.eval (λ href. refl)
     (one_leads (Enter (facts_seen c.args.facts.now)) c.in-Found.eval c.enter.new.eval o)))

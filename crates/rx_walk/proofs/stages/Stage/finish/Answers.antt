@@ -1,9 +1,10 @@
 use Rattle.std.proofs.Common.{[], ◌∷◌, refl, sym, subst}
+use Rattle.std.proofs.lemmas.Result.{on_ok_weaker}
 use Rattle.rx_rdfa.specs.Calls.{Leave}
 use Rattle.rx_base.specs.Seekings.{seek_finished}
 use Rattle.rx_walk.specs.Stages.{MayTake, Tells}
 use Rattle.rx_walk.specs.declared.stages.Stage.TheVariants as stage
-use Rattle.rx_walk.proofs.Staging.{on_ok, found_leaves, found_tells, one_leads}
+use Rattle.rx_walk.proofs.Staging.{found_leaves, found_tells, one_leads}
 use Rattle.rx_walk.proofs.stages.Stage.finish.Goals as goal
 
 pub leave-requires : goal.leave-requires
@@ -11,7 +12,7 @@ leave-requires c unspent = found_leaves c.args.origin.now.levels c.in-Found.eval
 
 pub returns-in-Found : goal.returns-in-Found
 returns-in-Found c =
-    on_ok c.leave.result _ _
+    on_ok_weaker c.leave.result
     (λ o. subst (λ x. Tells c.args.origin.now (seek_finished c.args.count) (Leave ∷ []) x (stage.Found c.leave.new.self)) (sym c.in-Found.is)
     (found_tells c.args.origin.now (seek_finished c.args.count) (Leave ∷ []) c.in-Found.eval c.leave.new.self (λ href. refl) (one_leads Leave c.in-Found.eval c.leave.new.self o)))
     c.leave.ensures.ok

@@ -1,23 +1,24 @@
 use Rattle.std.proofs.Common.{refl, sym, subst}
 use Rattle.std.specs.Str.{chars}
+use Rattle.std.proofs.lemmas.Result.{on_ok_weaker}
 use Rattle.rx_walk.specs.CallsOf.{singles}
 use Rattle.rx_walk.specs.Stages.{Tells}
 use Rattle.rx_walk.specs.declared.stages.Stage.TheVariants as stage
-use Rattle.rx_walk.proofs.Staging.{on_ok, found_tells, text_leads, said_tells}
+use Rattle.rx_walk.proofs.Staging.{found_tells, text_leads, said_tells}
 use Rattle.rx_walk.specs.Quiets.{IsIdle}
 use Rattle.rx_walk.proofs.Idling.{text_idle}
 use Rattle.rx_walk.proofs.stages.Stage.text.Goals as goal
 
 pub returns-in-Found-clause-tells : goal.returns-in-Found-clause-tells
 returns-in-Found-clause-tells c =
-    on_ok c.text.result _ _
+    on_ok_weaker c.text.result
     (λ e. subst (λ x. Tells c.args.origin.now (λ s. s) (singles (chars c.args.text.now)) x (stage.Found c.text.new.self)) (sym c.in-Found.is)
     (found_tells c.args.origin.now (λ s. s) (singles (chars c.args.text.now)) c.in-Found.eval c.text.new.self (λ href. refl) (text_leads (chars c.args.text.now) c.in-Found.eval c.text.new.self e)))
     c.text.ensures.ok
 
 pub returns-in_ok-text-in-Seeking-clause-tells : goal.returns-in_ok-text-in-Seeking-clause-tells
 returns-in_ok-text-in-Seeking-clause-tells c =
-    on_ok c.push.result _ _
+    on_ok_weaker c.push.result
     (λ q. subst (λ x. Tells c.args.origin.now (λ s. s) (singles (chars c.args.text.now)) x (stage.Seeking c.push.new.self)) (sym c.in-Seeking.is)
     (said_tells c.args.origin.now c.in-Seeking.head c.push.new.self c.in_ok-text-in-Seeking.text (chars c.args.text.now) c.in_ok-text-in-Seeking.ensures q c.push.ensures.sought))
     c.push.ensures.queue
