@@ -21,7 +21,7 @@ use Rattle.rx_eval.specs.States.{State, Frame}
 use Rattle.rx_eval.proofs.EnterLemmas.{below_is_handed, below_skipped, lists_skipped, gathers_skipped}
 use Rattle.rx_eval.proofs.GatherLemmas.{no_own, no_below}
 
-none_is : {A : Type 0} (o : Option A) → is_none o ≡ true → o ≡ None
+pub none_is : {A : Type 0} (o : Option A) → is_none o ≡ true → o ≡ None
 none_is None h = refl
 none_is (Some a) h = absurd (cc)
 

@@ -10,7 +10,7 @@ use Rattle.rx_eval.proofs.SilentLemmas.{skipped_closes}
 use Rattle.rx_eval.proofs.SkippedLemmas.{one_more, rooted_above}
 use Rattle.rx_eval.specs.Opened.{handed_on}
 use Rattle.rx_eval.specs.Skipping.{all_frames}
-use Rattle.rx_eval.proofs.eval.Eval.close.Goals as goal
+use Rattle.rx_eval.proofs.stack.Stack.close.Goals as goal
 
 pub invariant_of-self : goal.invariant_of-self
 invariant_of-self c =
