@@ -95,7 +95,7 @@ impl From<NoMemory> for FactsError {
 }
 
 impl Facts {
-    ghost use Rattle.std.specs.Prelude.{◌≡◌, false, true, IfErr, IsErrOf, OnOk};
+    ghost use Rattle.std.specs.Prelude.{◌≡◌, false, true, IfErr, IsErrOf, OnErr, OnOk};
     ghost use Rattle.rx_rdfa.specs.Refusals.{is_relative};
     ghost use Rattle.rx_rdfa.specs.Facts as the;
     ghost use Rattle.rx_names.specs.Tags.{tag_of};
