@@ -1,6 +1,6 @@
 -- An element that says no more than what it refers to, where it may wait: what it opens and ends.
-use Rattle.std.proofs.Common.{◌≡◌, ◌∙◌, ◌<◌, ◌≤◌, ◌-◌, ◌+◌, ℕ, zero, suc, Bool, true, false, List, [], ◌∷◌, ◌++◌, length, Option, Some, None, refl, sym, ap, ap₂, subst, append-nil, append_assoc, length-append, arith}
-use Rattle.std.specs.Prelude.{is_none, ◌&&◌, ◌||◌, ◌==◌, is_some, nat_eq, filter_map, map, if◌then◌else◌}
+use Rattle.std.proofs.Common.{◌≡◌, ◌∙◌, ◌<◌, ◌-◌, ◌+◌, ℕ, suc, Bool, true, false, List, [], ◌∷◌, ◌++◌, length, Option, Some, None, refl, sym, ap, ap₂, subst, append-nil, append_assoc, length-append, arith}
+use Rattle.std.specs.Prelude.{is_none, ◌||◌, ◌==◌, is_some, nat_eq, filter_map, if◌then◌else◌}
 use Rattle.std.proofs.lemmas.Bool.Decides.{nat_tests}
 use Rattle.rx_terms.specs.Text.{Chars}
 use Rattle.rx_terms.proofs.Bools.{both, by_test}
@@ -13,8 +13,6 @@ use Rattle.rx_rdfa.specs.Resources.{Hanging, Inherited, Standing, Resources, res
 use Rattle.rx_rdfa.specs.Inherited.{below}
 use Rattle.rx_rdfa.specs.Element.{start_of, properties_by, completed}
 use Rattle.rx_rdfa.specs.Value.{rule, value_now}
-use Rattle.rx_rdfa.specs.Lists.{Entry, entries_by, awaited}
-use Rattle.rx_eval.specs.ElementResources.{says_nothing}
 use Rattle.rx_eval.specs.Ending.{Ending, Closes, ending, end_owner, cells_count}
 use Rattle.rx_eval.specs.Entering.{start_at, below_at, gathers_at, own_at, below_own_at, lists_at, owner_begun, begun_seen}
 use Rattle.rx_eval.specs.Keeping.{gathers_some}
@@ -31,7 +29,7 @@ use Rattle.rx_eval.specs.Skipping.{skipped_frame, skipped_frames}
 use Rattle.rx_eval.specs.States.{State, Frame}
 use Rattle.rx_eval.specs.Waits.{Shows, waits as waits_in}
 use Rattle.rx_eval.specs.declared.inherited.Inherited.{Inherited as Shown}
-use Rattle.rx_eval.proofs.SilentLemmas.{none_is, skipped_opens, skipped_closes}
+use Rattle.rx_eval.proofs.SilentLemmas.{none_is, skipped_closes}
 use Rattle.rx_eval.proofs.SkippedLemmas.{handed_skipped, handed_joined, skipped_more, length_skipped, none_gathers}
 
 -- ---- by the rules
@@ -122,8 +120,21 @@ opens_with : (old : State) (kind : ElementKind) (reference : Chars) (about resou
     → (handed_on old.page old.frames).hanging ≡ []
     → Opens old
     (record {
-      kind = kind; about = about; resource = resource; href = href; src = src; rel = rel; rev = rev; property = property; types = types;
-      content = content; datetime = datetime; datatype = datatype; inlist = inlist; vocab = vocab; lang = lang;
+      kind = kind;
+      about = about;
+      resource = resource;
+      href = href;
+      src = src;
+      rel = rel;
+      rev = rev;
+      property = property;
+      types = types;
+      content = content;
+      datetime = datetime;
+      datatype = datatype;
+      inlist = inlist;
+      vocab = vocab;
+      lang = lang;
     })
     (referred_by (Iri (resolved old.base reference)) 0 old)
 opens_with old kind reference about resource href src rel rev property types content datetime datatype inlist vocab lang a r h s l v p t c e =

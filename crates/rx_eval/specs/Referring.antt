@@ -1,6 +1,6 @@
 -- An element that says no more than what it refers to: where it stands, nothing waits for a subject, and its frame is known
 -- by the resource alone.
-use Rattle.std.specs.Prelude.{◌≡◌, ◌<◌, ◌≤◌, ◌+◌, true, false, ℕ, List, [], ◌∷◌, ◌++◌, Bool, Option, Some, None, is_none, ◌&&◌, length, nat_eq, if◌then◌else◌}
+use Rattle.std.specs.Prelude.{◌≡◌, ◌<◌, ◌≤◌, ◌+◌, true, false, ℕ, [], ◌∷◌, ◌++◌, Bool, Option, Some, None, is_none, ◌&&◌, length, nat_eq, if◌then◌else◌}
 use Rattle.rx_terms.specs.Text.{Chars}
 use Rattle.rx_model.specs.Seen.{node_seen}
 use Rattle.rx_model.specs.Terms.{Node, Iri, Blank, same_node}

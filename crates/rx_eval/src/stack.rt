@@ -129,9 +129,7 @@ impl Stack {
     pub(crate) fn resolve(&self, reference: &Text) -> Result<Node, NoMemory>
         ensures { IfOk result (λ node. node_seen node ≡ named_by (resolved self.now.base reference.now)) }
     {
-        Ok(Node::Iri(
-            self.base.resolve(self.alloc, reference.as_str())?,
-        ))
+        Ok(Node::Iri(self.base.resolve(self.alloc, reference.as_str())?))
     }
 
     /// Whether an element that says no more than what it refers to may wait inside the innermost one: it isn't the root, it

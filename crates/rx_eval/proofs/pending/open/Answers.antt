@@ -1,4 +1,4 @@
-use Rattle.std.proofs.Common.{◌<◌, ◌∙◌, ℕ, sym, ap, subst, length, arith}
+use Rattle.std.proofs.Common.{◌<◌, ◌∙◌, ℕ, sym, subst, length}
 use Rattle.rx_curie.specs.Seen.{facts_seen}
 use Rattle.rx_eval.specs.Opened.{Opens}
 use Rattle.rx_eval.specs.States.{State}
