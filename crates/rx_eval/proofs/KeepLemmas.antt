@@ -1,5 +1,5 @@
 -- Which text is kept.
-use Rattle.std.proofs.Common.{◌≡◌, ◌∙◌, ℕ, suc, ◌<◌, ◌-◌, ◌+◌, Bool, true, false, List, [], ◌∷◌, ◌++◌, map, length, Option, Some, None, option_map, is_some, refl, sym, ap, subst, arith, length-append}
+use Rattle.std.proofs.Common.{◌≡◌, ◌∙◌, ℕ, suc, ◌<◌, ◌≤◌, ◌-◌, ◌+◌, Bool, true, false, List, [], ◌∷◌, ◌++◌, length, Option, Some, None, option_map, is_some, refl, sym, ap, subst, arith, length-append}
 use Rattle.std.specs.Prelude.{◌||◌, ◌==◌, if◌then◌else◌}
 use Rattle.std.proofs.lemmas.Bool.Decides.{nat_tests}
 use Rattle.rx_terms.specs.Text.{Chars}
@@ -11,7 +11,7 @@ use Rattle.rx_rdfa.specs.Resources.{Inherited}
 use Rattle.rx_eval.specs.Contexts.{context_seen}
 use Rattle.rx_eval.specs.Skipping.{all_frames, IsRooted}
 use Rattle.rx_eval.specs.Keeping.{gathers_some, first_gathering, first_of, is_place, IsSound}
-use Rattle.rx_eval.proofs.SkippedLemmas.{framed_more, one_longer, skipped_fit, rooted_more, rooted_less, rooted_in, none_gathers, others_gather}
+use Rattle.rx_eval.proofs.SkippedLemmas.{framed_more, counted_length, one_longer, skipped_fit, rooted_more, rooted_less, rooted_in, none_gathers, others_gather}
 
 -- one more frame
 pub first_more : (fs : List CodeFrame) (f : CodeFrame) → first_gathering (fs ++ f ∷ []) ≡ first_of (first_gathering fs) (is_some f.gathered) (length fs)
@@ -73,6 +73,10 @@ not_none : (p : Option ℕ) → p ≡ None → true ≡ is_some p → ⊥
 not_none None z e = cc
 not_none (Some m) z e = cc
 
+none_there : (p : Option ℕ) → is_some p ≡ false → p ≡ None
+none_there None z = refl
+none_there (Some m) z = absurd (cc)
+
 module _ (levels depth : ℕ) (a : Inherited ℕ ℕ) (fs : List CodeFrame) (skipped : ℕ) (place : Option ℕ) (kept : Chars) (s : IsSound levels depth a fs skipped place kept) where
   pub gathers_is : gathers_some (all_frames a fs skipped) ≡ is_some place
   gathers_is = some_gathers a fs skipped ∙ ap (λ (o : Option ℕ). is_some o) (sym s.first)
@@ -82,6 +86,10 @@ module _ (levels depth : ℕ) (a : Inherited ℕ ℕ) (fs : List CodeFrame) (ski
   kept_is n =
       let text : Bool → Chars = λ b. if b then kept else [] in
       kept_by false place (first_gathering fs) kept s.first s.quiet ∙ ap text (sym (some_gathers a fs n))
+
+  -- the same by the frames
+  pub quiet_is : gathers_some (all_frames a fs skipped) ≡ false → kept ≡ []
+  quiet_is h = s.quiet (none_there place (sym gathers_is ∙ h))
 
   -- text is pushed where some frame gathers
   pub sound_grown : (now : Chars) (b : Bool) → b ≡ gathers_some (all_frames a fs skipped) → b ≡ true → IsSound levels depth a fs skipped place now
@@ -103,6 +111,20 @@ module _ (levels depth : ℕ) (a : Inherited ℕ ℕ) (fs : List CodeFrame) (ski
         ∙ ap first_gathering (sym e);
     quiet = λ z. s.quiet (was_none place (is_some f.gathered) n (sym h ∙ z));
   }
+
+  -- a frame more, and so many skipped elements in it
+  pub sound_framed : (n m : ℕ) (more : List CodeFrame) (f : CodeFrame) (after : Option ℕ) → depth + 1 + m ≤ levels → 0 < depth → f.skipped ≡ skipped → more ≡ fs ++ f ∷ [] → n ≡ length fs
+      → after ≡ first_of place (is_some f.gathered) n → IsSound levels (depth + (1 + m)) a more m after kept
+  sound_framed n m more f after r d k e l h =
+      let t : IsSound levels (depth + 1) a more 0 after kept = sound_more n more f after (omega (arith, r)) k e l h in
+      record {
+        room = omega (arith, r);
+        deep = omega (arith, t.deep, counted_length a more m);
+        within = omega arith;
+        rooted = rooted_in a more 0 m t.rooted (omega (arith, t.deep));
+        first = t.first;
+        quiet = t.quiet;
+      }
 
   -- a skipped element more
   pub sound_counted : depth < levels → 0 < depth → IsSound levels (depth + 1) a fs (skipped + 1) place kept

@@ -10,6 +10,7 @@ pub mod PlaceLemmas
 pub mod SkippedLemmas
 pub mod KeepLemmas
 pub mod SilentLemmas
+pub mod ReferringLemmas
 pub mod CountLemmas
 pub mod NameLemmas
 pub mod NumberLemmas

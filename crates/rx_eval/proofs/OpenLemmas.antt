@@ -1,6 +1,7 @@
 -- The start of an element on the stack.
-use Rattle.std.proofs.Common.{◌≡◌, ◌∙◌, ℕ, ◌+◌, ◌<◌, ◌≤◌, ◌^◌, List, [], ◌∷◌, map, length, Option, Some, None, is_some, option_map, refl, sym, ap, subst, arith}
-use Rattle.std.specs.Prelude.{IfSome}
+use Rattle.std.proofs.Common.{◌≡◌, ◌∙◌, ℕ, suc, Bool, true, ◌+◌, ◌<◌, ◌≤◌, ◌^◌, List, [], ◌∷◌, map, length, Option, Some, None, is_some, option_map, refl, sym, ap, subst, arith}
+use Rattle.std.specs.Prelude.{IfSome, ◌==◌}
+use Rattle.std.proofs.lemmas.Bool.Decides.{nat_tests}
 use Rattle.rx_terms.specs.Text.{Chars}
 use Rattle.rx_rdfa.specs.Facts.{Facts}
 use Rattle.rx_rdfa.specs.Resources.{Inherited}
@@ -50,3 +51,7 @@ waits_are (code.InList o p ∷ ws) = ap (λ (l : List Wait). wait_seen (code.InL
 
 pub shown_waits : (around : EvaluationContext) (ws : List IncompleteTriple) (context : Inherited ℕ ℕ) → ws ≡ around.hanging → context_seen around ≡ context → map wait_seen ws ≡ map wait_by context.hanging
 shown_waits around ws context e a = ap (map wait_seen) e ∙ waits_are around.hanging ∙ ap (λ (x : Inherited ℕ ℕ). map wait_by x.hanging) a
+
+pub none_hangs : (around : EvaluationContext) (ws : List IncompleteTriple) (context : Inherited ℕ ℕ) (b : Bool) → ws ≡ around.hanging → context_seen around ≡ context → b ≡ (length ws == 0) → b ≡ true → context.hanging ≡ []
+none_hangs around [] context b e a h t = sym (ap (λ (x : Inherited ℕ ℕ). x.hanging) a) ∙ ap (map waiting_seen) (sym e)
+none_hangs around (w ∷ ws) context b e a h t = absurd (let z : (suc (length ws) == 0) ≡ true = sym h ∙ t in grind (arith, nat_tests))

@@ -179,7 +179,7 @@ ended_one None [] = refl
 ended_one None (o ∷ more) = refl
 ended_one (Some p) more = refl
 
-ended_are : (owners : Owners) → owners_seen (trimmed owners) ≡ ended (owners_seen owners)
+pub ended_are : (owners : Owners) → owners_seen (trimmed owners) ≡ ended (owners_seen owners)
 ended_are [] = refl
 ended_are (o ∷ owners) = ended_one o (trimmed owners) ∙ ap (ended_by (option_map owning_seen o)) (ended_are owners)
 

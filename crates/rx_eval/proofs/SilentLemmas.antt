@@ -1,5 +1,5 @@
 -- An element of which nothing is said, below the root, by the rules: it is skipped, adds nothing and has no label.
-use Rattle.std.proofs.Common.{◌≡◌, ◌∙◌, ◌<◌, ℕ, zero, suc, Bool, true, false, List, [], ◌∷◌, ◌++◌, length, Option, Some, None, refl, sym, ap, append-nil, arith}
+use Rattle.std.proofs.Common.{◌≡◌, ◌∙◌, ◌<◌, ℕ, zero, suc, true, false, List, [], ◌∷◌, ◌++◌, length, Option, Some, None, refl, sym, ap, append-nil, arith}
 use Rattle.std.specs.Prelude.{is_none, ◌==◌, if◌then◌else◌}
 use Rattle.std.proofs.lemmas.Bool.Decides.{nat_tests}
 use Rattle.rx_terms.specs.Text.{Chars}
@@ -9,7 +9,7 @@ use Rattle.rx_rdfa.specs.Facts.{Facts}
 use Rattle.rx_rdfa.specs.Renaming.{labels}
 use Rattle.rx_rdfa.specs.Resources.{Inherited, Standing, Resources, resources, is_root}
 use Rattle.rx_rdfa.specs.Element.{start_of}
-use Rattle.rx_eval.specs.ElementResources.{names_nothing, says_nothing}
+use Rattle.rx_eval.specs.ElementResources.{says_nothing}
 use Rattle.rx_eval.specs.Labels.{Numbered, draw}
 use Rattle.rx_eval.specs.Moment.{moment}
 use Rattle.rx_eval.specs.Places.{level_at, path_at, standing_by}
@@ -21,7 +21,7 @@ use Rattle.rx_eval.specs.States.{State, Frame}
 use Rattle.rx_eval.proofs.EnterLemmas.{below_is_handed, below_skipped, lists_skipped, gathers_skipped}
 use Rattle.rx_eval.proofs.GatherLemmas.{no_own, no_below}
 
-none_is : {A : Type 0} (o : Option A) → is_none o ≡ true → o ≡ None
+pub none_is : {A : Type 0} (o : Option A) → is_none o ≡ true → o ≡ None
 none_is None h = refl
 none_is (Some a) h = absurd (cc)
 

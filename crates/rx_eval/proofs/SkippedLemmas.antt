@@ -1,5 +1,5 @@
 -- The frames of all open elements, where the skipped ones are counted.
-use Rattle.std.proofs.Common.{◌≡◌, ◌∙◌, ◌<◌, ◌≤◌, ◌-◌, ℕ, zero, suc, Bool, false, List, [], ◌∷◌, ◌++◌, length, refl, sym, ap, arith, append_assoc, length-append}
+use Rattle.std.proofs.Common.{◌≡◌, ◌∙◌, ◌<◌, ◌≤◌, ◌-◌, ◌+◌, ℕ, zero, suc, false, List, [], ◌∷◌, ◌++◌, length, refl, sym, ap, arith, append_assoc, length-append}
 use Rattle.rx_rdfa.specs.Resources.{Inherited}
 use Rattle.rx_eval.specs.Contexts.{context_seen}
 use Rattle.rx_eval.specs.declared.contexts.EvaluationContext.{EvaluationContext}
@@ -17,13 +17,26 @@ framed_more a (x ∷ fs) f =
     ap (λ (l : List Frame). skipped_frames a x.skipped ++ frame_seen x ∷ l) (framed_more (context_seen x.context) fs f)
     ∙ sym (append_assoc (skipped_frames a x.skipped) (frame_seen x ∷ all_frames (context_seen x.context) fs f.skipped) (frame_seen f ∷ []))
 
+-- the same, with so many skipped ones in it
+counted_all : (a : Inherited ℕ ℕ) (fs : List CodeFrame) (f : CodeFrame) (m : ℕ)
+    → all_frames a (fs ++ f ∷ []) m ≡ all_frames a fs f.skipped ++ frame_seen f ∷ skipped_frames (context_seen f.context) m
+counted_all a [] f m = refl
+counted_all a (x ∷ fs) f m =
+    ap (λ (l : List Frame). skipped_frames a x.skipped ++ frame_seen x ∷ l) (counted_all (context_seen x.context) fs f m)
+    ∙ sym (append_assoc (skipped_frames a x.skipped) (frame_seen x ∷ all_frames (context_seen x.context) fs f.skipped) (frame_seen f ∷ skipped_frames (context_seen f.context) m))
+
+pub framed_with : (a : Inherited ℕ ℕ) (fs : List CodeFrame) (f : CodeFrame) (m : ℕ) (seen : Frame) → frame_seen f ≡ seen
+    → all_frames a (fs ++ f ∷ []) m ≡ all_frames a fs f.skipped ++ seen ∷ skipped_frames seen.context m
+framed_with a fs f m seen e =
+    counted_all a fs f m ∙ ap (λ (x : Frame). all_frames a fs f.skipped ++ x ∷ skipped_frames x.context m) e
+
 -- ---- the context behind the frames
 
-handed_skipped : (a : Inherited ℕ ℕ) (n : ℕ) → handed_on a (skipped_frames a n) ≡ a
+pub handed_skipped : (a : Inherited ℕ ℕ) (n : ℕ) → handed_on a (skipped_frames a n) ≡ a
 handed_skipped a zero = refl
 handed_skipped a (suc n) = handed_skipped a n
 
-handed_joined : (a : Inherited ℕ ℕ) (xs ys : List Frame) → handed_on a (xs ++ ys) ≡ handed_on (handed_on a xs) ys
+pub handed_joined : (a : Inherited ℕ ℕ) (xs ys : List Frame) → handed_on a (xs ++ ys) ≡ handed_on (handed_on a xs) ys
 handed_joined a [] ys = refl
 handed_joined a (x ∷ xs) ys = handed_joined x.context xs ys
 
@@ -35,7 +48,7 @@ handed_all page (x ∷ fs) n =
 
 -- ---- one skipped more
 
-skipped_more : (a : Inherited ℕ ℕ) (n : ℕ) → skipped_frames a (suc n) ≡ skipped_frames a n ++ skipped_frame a ∷ []
+pub skipped_more : (a : Inherited ℕ ℕ) (n : ℕ) → skipped_frames a (suc n) ≡ skipped_frames a n ++ skipped_frame a ∷ []
 skipped_more a zero = refl
 skipped_more a (suc n) = ap (λ (l : List Frame). skipped_frame a ∷ l) (skipped_more a n)
 
@@ -54,7 +67,7 @@ one_more page fs m n e =
 
 -- ---- how many there are
 
-length_skipped : (a : Inherited ℕ ℕ) (n : ℕ) → length (skipped_frames a n) ≡ n
+pub length_skipped : (a : Inherited ℕ ℕ) (n : ℕ) → length (skipped_frames a n) ≡ n
 length_skipped a zero = refl
 length_skipped a (suc n) = ap suc (length_skipped a n)
 
@@ -67,6 +80,11 @@ grown a (x ∷ fs) n =
 
 pub one_longer : (a : Inherited ℕ ℕ) (fs : List CodeFrame) (m n : ℕ) → m ≡ suc n → length (all_frames a fs m) ≡ suc (length (all_frames a fs n))
 one_longer a fs m n e = ap (λ (k : ℕ). length (all_frames a fs k)) e ∙ grown a fs n
+
+-- so many more are skipped
+pub counted_length : (a : Inherited ℕ ℕ) (fs : List CodeFrame) (m : ℕ) → length (all_frames a fs m) ≡ length (all_frames a fs 0) + m
+counted_length a fs zero = omega arith
+counted_length a fs (suc m) = omega (arith, grown a fs m, counted_length a fs m)
 
 -- no more are skipped than are open
 pub skipped_fit : (a : Inherited ℕ ℕ) (fs : List CodeFrame) (n : ℕ) → n ≤ length (all_frames a fs n)

@@ -12,6 +12,7 @@ pub mod States
 pub mod Skipping
 pub mod Keeping
 pub mod Opened
+pub mod Referring
 pub mod Ending
 pub mod Waits
 pub mod Reserving

@@ -29,7 +29,7 @@ use rx_terms::{Iris, NoMemory, Node, Term, TripleList};
 use std::alloc::Global;
 
 /// The owner, or the other one where there is none.
-fn owner_or(owner: Option<Owner>, other: Owner) -> Owner
+pub(crate) fn owner_or(owner: Option<Owner>, other: Owner) -> Owner
     ensures { result ≡ owner_in owner other }
 {
     match owner {

@@ -5,10 +5,11 @@ ghost use Rattle.rx_rdfa.specs.Resources.{has_link, is_plain_property, resource_
 ghost use Rattle.rx_curie.specs.Seen.{ref_seen, facts_seen};
 ghost use Rattle.rx_eval.specs.ElementResources.{names_nothing, says_nothing, linked_ref, fresh_node, page_node, property_type, found_seen};
 ghost use Rattle.rx_eval.specs.Places.{path_at, naming, ruled};
+ghost use Rattle.rx_eval.specs.Referring.{says_no_more, only_reference};
 
 use crate::places::{Level, Surroundings, named};
 use rx_curie::{ElementKind, Facts, Ref};
-use rx_terms::{Blank, NoMemory, Node};
+use rx_terms::{Blank, NoMemory, Node, Text};
 
 /// The resources of an element; a skipped one has them for nothing.
 #[derive(Drop)]
@@ -66,6 +67,36 @@ pub fn says_nothing(facts: &Facts) -> bool
         && facts.types.is_none()
         && facts.vocab.is_none()
         && names_nothing(facts)
+}
+
+/// Whether an element with these facts says nothing, but for what `href` refers to.
+#[inline(always)]
+fn says_no_more(facts: &Facts) -> bool
+    ensures { result ≡ says_no_more (facts_seen facts.now) }
+{
+    facts.rev.is_none()
+        && facts.rel.is_none()
+        && facts.property.is_none()
+        && facts.types.is_none()
+        && facts.vocab.is_none()
+        && facts.about.is_none()
+        && facts.resource.is_none()
+        && facts.src.is_none()
+}
+
+/// The reference of `href`, where an element with these facts says nothing else.
+#[inline(always)]
+pub(crate) fn only_reference(facts: &Facts) -> Option<&Text>
+    ensures { option_copied result ≡ only_reference (facts_seen facts.now) }
+{
+    if !says_no_more(facts) {
+        return None;
+    }
+    match &facts.href {
+        Some(Ref::Relative(reference)) => Some(reference),
+        Some(_other) => None,
+        None => None,
+    }
 }
 
 /// The first present of `resource`, `href` and `src`.

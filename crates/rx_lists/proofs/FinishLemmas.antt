@@ -1,5 +1,6 @@
 -- The triples of an owner's lists, list by list.
-use Rattle.std.proofs.Common.{◌≡◌, ◌∙◌, ℕ, zero, suc, ◌+◌, ◌≤◌, ◌<◌, ◌^◌, List, [], ◌∷◌, ◌++◌, filter_map, length, drop, get_or, Option, Some, None, refl, sym, ap, ap₂, subst, arith, append_assoc, append-nil, drop-cons, add-one, slice_get, slice_set, true, false, ◌-◌, take, option_to_list, length-append}
+use Rattle.std.proofs.Common.{◌≡◌, ◌∙◌, ℕ, zero, suc, ◌+◌, ◌≤◌, ◌<◌, ◌^◌, List, [], ◌∷◌, ◌++◌, filter_map, length, drop, get_or, Option, Some, None, refl, sym, ap, ap₂, subst, arith, append_assoc, append-nil, drop-cons, add-one, slice_get, slice_set, Bool, true, false, ◌-◌, take, option_to_list, length-append}
+use Rattle.std.specs.Prelude.{not}
 use Rattle.std.proofs.Math.Seq.{take-append_seam}
 use Rattle.std.proofs.lemmas.List.{length-map}
 use Rattle.rx_terms.specs.declared.triples.Term.{Term as CodeTerm}
@@ -116,3 +117,7 @@ cut_last xs ys n e h = ap trimmed h ∙ last_gone xs n (omega (arith, e))
 -- as many numbers are left as the lists that are left may take
 pub record Fitting (numbers next : ℕ) (left lists : Slots) : Type 0 where
   pub path : numbers + (next + size lists) + 1 ≡ 2 ^ 64 + size left
+
+pub trim_unless : (xs : Owners) (b : Bool) → b ≡ is_finished (slice_get xs (length xs - 1)) → not b ≡ true → trimmed xs ≡ xs
+trim_unless xs true e h = absurd (cc)
+trim_unless xs false e h = trim_end xs (sym e)

@@ -1,5 +1,5 @@
 //! The lists of all owners that aren't finished.
-ghost use Rattle.std.specs.Prelude.{◌≡◌, slice_get, ◌-◌, ◌+◌, ◌<◌, ◌^◌, [], ◌∷◌, ◌++◌, length, OnOk, OnErr, IfOk, IsTrue, ◌↔◌, Some, None, slice_set};
+ghost use Rattle.std.specs.Prelude.{◌≡◌, slice_get, ◌-◌, ◌+◌, ◌<◌, ◌^◌, [], ◌∷◌, ◌++◌, length, true, OnOk, OnErr, IfOk, IsTrue, ◌↔◌, Some, None, slice_set};
 ghost use Rattle.rx_model.specs.Seen.{triples_seen};
 ghost use Rattle.rx_rdfa.specs.Tables.{put};
 ghost use Rattle.rx_lists.specs.Cells.{finished_cells, items_seen, size};
@@ -149,6 +149,13 @@ impl Lists {
         drop_owner(&mut self.owners, owner.0);
         trim(&mut self.owners);
         Ok(finished)
+    }
+
+    /// Whether no finished owner is the last: then it is known which number the next one gets.
+    pub fn ends_open(&self) -> bool
+        ensures { result ≡ true → trimmed self.now ≡ self.now }
+    {
+        !is_last_finished(&self.owners)
     }
 
     fn finished(&self, owner: Owner, next_blank: u64) -> Result<Finished, NoMemory>

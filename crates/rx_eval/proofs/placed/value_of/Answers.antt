@@ -1,16 +1,29 @@
-use Rattle.std.proofs.Common.{◌≡◌, ◌∙◌, ap, subst, sym, ℕ, option_map, None}
-use Rattle.std.specs.Prelude.{IfOk}
+use Rattle.std.proofs.Common.{◌≡◌, ◌∙◌, ap, subst, sym, ℕ, Option, option_map, None, Some, unwrap_or, IfOk}
 use Rattle.std.specs.Str.{chars}
 use Rattle.rx_terms.specs.Text.{Chars}
 use Rattle.rx_model.specs.Seen.{term_seen}
+use Rattle.rx_model.specs.Terms.{Term}
 use Rattle.rx_rdfa.specs.Resources.{Resources}
-use Rattle.rx_rdfa.specs.Value.{rule, value_now}
+use Rattle.rx_rdfa.specs.Value.{rule, value_now, value_of_text}
 use Rattle.rx_curie.specs.Seen.{facts_seen}
 use Rattle.rx_eval.specs.Moment.{labelled, moment}
 use Rattle.rx_eval.specs.Placing.{placed_seen}
 use Rattle.rx_eval.specs.TextRules.{value_with}
 use Rattle.rx_eval.proofs.TextLemmas.{ok_text}
 use Rattle.rx_eval.proofs.placed.value_of.Goals as goal
+
+pub returns-in-Some : goal.returns-in-Some
+returns-in-Some c =
+    let facts = facts_seen c.args.facts.now in
+    let naming = moment c.args.labels.now 0 0 0 in
+    let here = placed_seen c.args.placed.now in
+    let against = c.of-against.result in
+    let text = chars c.args.text.now in
+    let known : Some (term_seen c.in-Some.value) ≡ value_now (rule naming against facts here) facts =
+    sym (ap (option_map term_seen) c.in-Some.is) ∙ c.in_ok-value.ensures
+    ∙ ap (λ (h : Resources ℕ). value_now (rule naming against facts h) facts) c.in_ok-found.ensures in
+    subst (λ (base : Chars). term_seen c.in-Some.value ≡ value_with (labelled c.args.labels.now) base facts here text) (c.of-against.ensures ∙ c.in_ok-copy.ensures)
+    (ap (λ (o : Option (Term ℕ)). unwrap_or o (value_of_text (rule naming against facts here) facts text)) known)
 
 pub returns : goal.returns
 returns c =

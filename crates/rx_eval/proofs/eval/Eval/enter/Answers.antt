@@ -1,10 +1,13 @@
 use Rattle.std.proofs.Common.{rules}
 use Rattle.rx_curie.specs.Seen.{facts_seen}
 use Rattle.rx_eval.specs.Opened.{MayOpen}
+use Rattle.rx_eval.specs.Referring.{with_pending}
+use Rattle.rx_eval.specs.States.{State}
 use Rattle.rx_eval.proofs.StandLemmas.{enter_stands}
 use Rattle.rx_eval.proofs.eval.Eval.enter.Goals as goal
 
 pub returns-clause-stands : goal.returns-clause-stands
 returns-clause-stands c to list s =
     let may : MayOpen c.args.self.now (facts_seen c.args.facts.now) = c.requires (search rules) in
-    enter_stands to list c.args.self.now (facts_seen c.args.facts.now) c.open.new.self (search rules) may.root may.drawn s
+    let new : State = with_pending c.open.new.pending c.open.new.stack in
+    enter_stands to list c.args.self.now (facts_seen c.args.facts.now) new (search rules) may.root may.drawn s

@@ -1,17 +1,15 @@
-use Rattle.std.proofs.Common.{ap, ℕ}
-use Rattle.rx_rdfa.specs.Resources.{Inherited}
-use Rattle.rx_eval.proofs.OpenLemmas.{around_is, shown_waits}
+use Rattle.std.proofs.Common.{rules}
+use Rattle.rx_eval.proofs.ReferringLemmas.{shows_waits}
 use Rattle.rx_eval.proofs.ShownLemmas.{shows_after}
 use Rattle.rx_eval.proofs.eval.Eval.inherited.Goals as goal
 
-pub returns-clause-frames : goal.returns-clause-frames
-returns-clause-frames c =
-    let around = around_is c.self.inside.page _ _ c.self.inside.frames.items c.self.inside.skipped c.around-context.ensures c.as_slice.ensures.value in
-    rw (← c.self.view_is) (record {
-      subject = ap (λ (x : Inherited ℕ ℕ). x.subject) around;
-      object = ap (λ (x : Inherited ℕ ℕ). x.object) around;
-      hanging = shown_waits c.around-context.result.now _ _ c.as_slice-2.ensures around;
-    })
+pub returns-in-Some-clause-frames : goal.returns-in-Some-clause-frames
+returns-in-Some-clause-frames c =
+    rw (← c.self.view_is)
+    (shows_waits c.self.inside.pending c.in-Some.pending c.self.inside.stack c.in-Some.is c.referring.result c.referring.ensures.subject c.referring.ensures.object c.referring.ensures.hanging)
 
-pub returns-clause-stands : goal.returns-clause-stands
-returns-clause-stands c to list s = shows_after to list c.args.self.now _ (returns-clause-frames c) s
+pub returns-in-Some-clause-stands : goal.returns-in-Some-clause-stands
+returns-in-Some-clause-stands c to list s = shows_after to list c.args.self.now c.referring.result (returns-in-Some-clause-frames c) s
+
+pub returns-in-None-clause-stands : goal.returns-in-None-clause-stands
+returns-in-None-clause-stands c to list s = shows_after to list c.args.self.now c.inherited.result (search rules) s

@@ -1,6 +1,6 @@
 use Rattle.std.proofs.Common.{◌∙◌, [], refl, sym, ap, Bool, List, ℕ}
 use Rattle.std.specs.Prelude.{if◌then◌else◌}
-use Rattle.rx_eval.proofs.eval.forget.Goals as goal
+use Rattle.rx_eval.proofs.stack.forget.Goals as goal
 
 pub returns-then-ends : goal.returns-then-ends
 returns-then-ends c =

@@ -1,4 +1,4 @@
-use Rattle.std.proofs.Common.{◌≡◌, ◌∙◌, ◌<◌, ◌-◌, refl, sym, ap, length, ℕ, true, arith}
+use Rattle.std.proofs.Common.{◌≡◌, ◌∙◌, ◌-◌, refl, ap, length, ℕ, true, arith}
 use Rattle.std.specs.Prelude.{Option, Some, None, option_map, ◌==◌, if◌then◌else◌}
 use Rattle.rx_model.specs.Seen.{triples_seen}
 use Rattle.rx_eval.specs.Contexts.{context_seen}
@@ -10,7 +10,7 @@ use Rattle.rx_eval.proofs.SilentLemmas.{skipped_closes}
 use Rattle.rx_eval.proofs.SkippedLemmas.{one_more, rooted_above}
 use Rattle.rx_eval.specs.Opened.{handed_on}
 use Rattle.rx_eval.specs.Skipping.{all_frames}
-use Rattle.rx_eval.proofs.eval.Eval.close.Goals as goal
+use Rattle.rx_eval.proofs.stack.Stack.close.Goals as goal
 
 pub invariant_of-self : goal.invariant_of-self
 invariant_of-self c =

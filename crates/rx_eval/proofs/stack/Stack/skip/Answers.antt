@@ -1,4 +1,4 @@
-use Rattle.std.proofs.Common.{◌≡◌, ◌∙◌, ◌<◌, ◌+◌, ℕ, List, [], ◌∷◌, ◌++◌, ap, ap₂, arith}
+use Rattle.std.proofs.Common.{◌∙◌, ◌+◌, ℕ, List, [], ◌∷◌, ◌++◌, ap, ap₂, arith}
 use Rattle.rx_rdfa.specs.Resources.{Inherited}
 use Rattle.rx_eval.specs.Contexts.{context_seen}
 use Rattle.rx_eval.specs.States.{State, Frame}
@@ -8,7 +8,7 @@ use Rattle.rx_eval.specs.Skipping.{skipped_frame, all_frames}
 use Rattle.rx_eval.proofs.OpenLemmas.{around_is}
 use Rattle.rx_eval.proofs.SkippedLemmas.{one_more}
 use Rattle.rx_eval.proofs.KeepLemmas.{sound_counted}
-use Rattle.rx_eval.proofs.eval.Eval.skip.Goals as goal
+use Rattle.rx_eval.proofs.stack.Stack.skip.Goals as goal
 
 pub invariant_of-self : goal.invariant_of-self
 invariant_of-self c =

@@ -16,7 +16,7 @@ use Rattle.rx_eval.proofs.SkippedLemmas.{framed_more}
 use Rattle.rx_eval.specs.Keeping.{first_of}
 use Rattle.rx_eval.proofs.KeepLemmas.{sound_more}
 use Rattle.rx_eval.proofs.OpenLemmas.{around_is, text_is, opened_text, fresh_fits}
-use Rattle.rx_eval.proofs.eval.Eval.open_framed.Goals as goal
+use Rattle.rx_eval.proofs.stack.Stack.open_framed.Goals as goal
 
 pub next_number-drawn-requires : goal.next_number-drawn-requires
 next_number-drawn-requires c =
