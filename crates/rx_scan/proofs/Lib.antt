@@ -18,6 +18,7 @@ pub mod OpenLemmas
 pub mod PlainLemmas
 pub mod WideLemmas
 pub mod SaidLemmas
+pub mod LineEndLemmas
 pub mod ReferenceLemmas
 pub mod WholeTexts
 pub mod FrontLemmas

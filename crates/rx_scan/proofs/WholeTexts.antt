@@ -19,8 +19,9 @@ use Rattle.rx_scan.specs.Fronts.{TellsFront}
 use Rattle.rx_scan.specs.Places.{said}
 use Rattle.rx_scan.specs.Plain.{is_plain}
 use Rattle.rx_scan.specs.Scanner.{Reading}
-use Rattle.rx_scan.specs.WholeReferences.{usual_reference, IsReference, BeginsReference, TellsOne, of_plain, of_reference, TellsText, one, more}
+use Rattle.rx_scan.specs.WholeReferences.{usual_reference, IsReference, BeginsReference, TellsOne, of_plain, of_reference, of_line_end, TellsText, one, more}
 use Rattle.rx_scan.proofs.ByteLemmas.{match_by}
+use Rattle.rx_scan.proofs.LineEndLemmas.{line_end_on}
 use Rattle.rx_scan.proofs.PlainLemmas.{chars_plain}
 use Rattle.rx_scan.proofs.ReferenceLemmas.{reference_on}
 use Rattle.rx_scan.proofs.RunLemmas.{ReadsOn}
@@ -118,6 +119,7 @@ module _ (old : Reading) (s : reader.Scanning) where
   one_on : (new : Reading) (front : List ℕ) (l : Reading) (bytes : List ℕ) → 0 < length front → ReadsOn old s bytes l → TellsOne l front new → ReadsOn old s (bytes ++ front) new
   one_on new front l bytes k r (of_plain t) = plain_on new front l bytes k r t
   one_on new front l bytes k r (of_reference t) = reference_on old s new front l bytes r t
+  one_on new front l bytes k r (of_line_end t) = line_end_on old s new front l bytes r t
 
   -- all of it
   pub text_on : (l : Reading) (bytes : List ℕ) → ReadsOn old s bytes l → (front : List ℕ) (new : Reading) → TellsText l front new → ReadsOn old s (bytes ++ front) new
@@ -128,6 +130,7 @@ module _ (old : Reading) (s : reader.Scanning) where
 one_pending : (l new : Reading) (front : List ℕ) → TellsOne l front new → new.pending ≡ l.pending
 one_pending l new front (of_plain t) = ap (λ (x : Reading). x.pending) t.is
 one_pending l new front (of_reference t) = ap (λ (x : Reading). x.pending) t.is
+one_pending l new front (of_line_end t) = ap (λ (x : Reading). x.pending) t.is
 
 -- no token is begun before or behind it
 pub text_pending : (l : Reading) (front : List ℕ) (new : Reading) → TellsText l front new → new.pending ≡ l.pending
@@ -137,6 +140,7 @@ text_pending l _ new (more {front} {next} {middle} t k u) = one_pending middle n
 one_between : (l new : Reading) (front : List ℕ) → TellsOne l front new → l.pending.mark ≡ mark.Nothing
 one_between l new front (of_plain t) = t.may.between
 one_between l new front (of_reference t) = t.between
+one_between l new front (of_line_end t) = t.between
 
 pub text_between : (l : Reading) (front : List ℕ) (new : Reading) → TellsText l front new → l.pending.mark ≡ mark.Nothing
 text_between l front new (one k t) = one_between l new front t

@@ -1,9 +1,10 @@
--- References of a name that stand whole in a piece, and are taken at once, and the text that stands around them.
+-- References of a name and line ends that stand whole in a piece, and are taken at once, and the text that stands around them.
 use Rattle.std.specs.Prelude.{◌≡◌, ◌+◌, ◌≤◌, ◌<◌, ℕ, true, List, [], ◌∷◌, ◌++◌, length, take, codes, Option, Some, None, if◌then◌else◌}
 use Rattle.std.specs.List.{list_all}
-use Rattle.rx_terms.specs.Ascii.{ampersand, semicolon, quotation_mark, less_than_sign, greater_than_sign, is_letter, is_letter_or_digit}
+use Rattle.rx_terms.specs.Ascii.{line_feed, ampersand, semicolon, quotation_mark, less_than_sign, greater_than_sign, is_letter, is_letter_or_digit}
 use Rattle.rx_terms.specs.Text.{Chars, begins_with}
 use Rattle.rx_chars.specs.declared.syntax.Syntax.{Syntax}
+use Rattle.rx_chars.specs.Characters.{carriage_return}
 use Rattle.rx_grammar.specs.References.{meaning}
 use Rattle.rx_grammar.specs.Spelling.{has_references}
 use Rattle.rx_scan.specs.declared.marks.TokenState.TheVariants as mark
@@ -44,10 +45,25 @@ pub record TellsReference (old : Reading) (front : List ℕ) (new : Reading) : T
   pub text : TextGains old.text new.text c
   pub is : new ≡ with_parts old (undropped old.setting) (said (length front) old.place) old.pending new.text
 
--- plain text is told, or a reference
+-- A CR and an LF stand at the front.
+pub record BeginsLineEnd (bytes : List ℕ) : Type 0 where
+  pub is : take 2 bytes ≡ carriage_return ∷ line_feed ∷ []
+  pub fits : 2 ≤ length bytes
+
+-- Where plain text may be told, they are one LF of text (HTML, 13.2.3.5, preprocessing the input stream; XML 1.0, 2.11).
+pub record TellsLineEnd (old : Reading) (front : List ℕ) (new : Reading) : Type 0 where
+  pub between : old.pending.mark ≡ mark.Nothing
+  pub may : TellsPlain old
+  pub page : old.place.at + 2 ≤ old.setting.limits.page
+  pub are : front ≡ carriage_return ∷ line_feed ∷ []
+  pub text : TextGains old.text new.text line_feed
+  pub is : new ≡ with_parts old (undropped old.setting) (said 2 old.place) old.pending new.text
+
+-- plain text is told, a reference, or a line end
 pub data TellsOne (old : Reading) (front : List ℕ) (new : Reading) : Type 0 where
   of_plain : TellsFront old front new → TellsOne old front new
   of_reference : TellsReference old front new → TellsOne old front new
+  of_line_end : TellsLineEnd old front new → TellsOne old front new
 
 -- One after another they are told, of which none is empty.
 pub data TellsText (old : Reading) : List ℕ → Reading → Type 0 where

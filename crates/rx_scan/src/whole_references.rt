@@ -1,5 +1,5 @@
-//! The usual references, `&amp;`, `&lt;`, `&gt;` and `&quot;`, that stand whole in the piece, and the text around them. They
-//! are taken at once, so that the text isn't cut.
+//! The usual references, `&amp;`, `&lt;`, `&gt;` and `&quot;`, and line ends of CR and LF, that stand whole in the piece, and
+//! the text around them. They are taken at once, so that the text isn't cut.
 ghost use Rattle.std.specs.Prelude.{◌≡◌, ◌+◌, ◌<◌, ◌≤◌, ◌==◌, true, MatchBool, length, take, IfSome};
 ghost use Rattle.rx_grammar.specs.Spelling as spelling;
 ghost use Rattle.rx_scan.specs.Fronts.{TellsPlain};
@@ -30,11 +30,18 @@ fn whole_reference(bytes: &[u8]) -> Option<(char, usize)>
     usual_reference(bytes)
 }
 
-// Whether a reference may stand there.
-fn has_ampersand(bytes: &[u8], at: usize) -> bool
+// Whether a CR and an LF stand at the front.
+fn begins_line_end(bytes: &[u8]) -> bool
+    ensures { result ≡ true → references.BeginsLineEnd bytes.now }
+{
+    matches!(bytes, [b'\r', b'\n', ..])
+}
+
+// Whether a reference or a line end may stand there.
+fn may_go_on(bytes: &[u8], at: usize) -> bool
     ensures { result ≡ true → at < length bytes.now }
 {
-    at < bytes.len() && bytes[at] == b'&'
+    at < bytes.len() && matches!(bytes[at], b'&' | b'\r')
 }
 
 impl Reader {
@@ -73,7 +80,35 @@ impl Reader {
         count
     }
 
-    // Takes the reference or the plain text at the front.
+    // Takes the line end at the front, which is one LF of text, and tells how many bytes it has.
+    fn say_line_end(&mut self, bytes: &[u8]) -> usize
+        requires between { self.old.pending.mark ≡ TokenState.Nothing }
+        requires size { self.old.text.size + 4 ≤ ROOM }
+        requires room { ROOM ≤ self.old.text.room }
+        ensures fits { result ≤ length bytes.now }
+        ensures size { self.new.text.size + 4 ≤ ROOM }
+        ensures room { ROOM ≤ self.new.text.room }
+        ensures says { MatchBool (result == 0) (self.new ≡ self.old) (references.TellsLineEnd self.old (take result bytes.now) self.new) }
+    {
+        if !self.tells_plain() {
+            return 0;
+        }
+        if !begins_line_end(bytes) {
+            return 0;
+        }
+        // As much room as any character may have.
+        if self.front_limit(bytes.len()) < 4 {
+            return 0;
+        }
+        if self.text.push('\n').is_err() {
+            return 0;
+        }
+        self.place = self.place.said(2);
+        self.setting.drop_none();
+        2
+    }
+
+    // Takes the reference, the line end or the plain text at the front.
     fn say_one(&mut self, bytes: &[u8]) -> usize
         requires between { self.old.pending.mark ≡ TokenState.Nothing }
         requires size { self.old.text.size + 4 ≤ ROOM }
@@ -86,11 +121,12 @@ impl Reader {
         match bytes.first() {
             None | Some(b'<') => 0,
             Some(b'&') => self.say_reference(bytes),
+            Some(b'\r') => self.say_line_end(bytes),
             Some(_) => self.say_front(bytes),
         }
     }
 
-    // Takes references and plain text one after another.
+    // Takes references, line ends and plain text one after another.
     #[inline(never)]
     fn say_more(&mut self, bytes: &[u8]) -> usize
         requires between { self.old.pending.mark ≡ TokenState.Nothing }
@@ -112,7 +148,8 @@ impl Reader {
         taken
     }
 
-    /// Takes plain text and usual references at the front, as far as there is room, and tells how many bytes they have.
+    /// Takes plain text, usual references and line ends at the front, as far as there is room, and tells how many bytes they
+    /// have.
     #[inline(always)]
     pub(crate) fn say_text(&mut self, bytes: &[u8]) -> usize
         requires between { self.old.pending.mark ≡ TokenState.Nothing }
@@ -124,7 +161,7 @@ impl Reader {
         ensures says { MatchBool (result == 0) (self.new ≡ self.old) (references.TellsText self.old (take result bytes.now) self.new) }
     {
         let count = self.say_front(bytes);
-        if !has_ampersand(bytes, count) {
+        if !may_go_on(bytes, count) {
             return count;
         }
         let more = self.say_more(&bytes[count..]);
