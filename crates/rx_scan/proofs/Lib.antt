@@ -20,6 +20,7 @@ pub mod WideLemmas
 pub mod SaidLemmas
 pub mod LineEndLemmas
 pub mod ReferenceLemmas
+pub mod BodyLemmas
 pub mod WholeTexts
 pub mod FrontLemmas
 pub mod LoopLemmas

@@ -1,6 +1,7 @@
-//! The usual references, `&amp;`, `&lt;`, `&gt;` and `&quot;`, and line ends of CR and LF, that stand whole in the piece, and
-//! the text around them. They are taken at once, so that the text isn't cut.
-ghost use Rattle.std.specs.Prelude.{◌≡◌, ◌+◌, ◌<◌, ◌≤◌, ◌==◌, true, MatchBool, length, take, IfSome};
+//! References and line ends of CR and LF that stand whole in the piece, and the text around them. They are taken at once, so
+//! that the text isn't cut.
+ghost use Rattle.std.specs.Prelude.{◌≡◌, ◌+◌, ◌<◌, ◌≤◌, ◌==◌, true, ◌∷◌, MatchBool, length, take, IfSome};
+ghost use Rattle.rx_terms.specs.Ascii.{ampersand};
 ghost use Rattle.rx_grammar.specs.Spelling as spelling;
 ghost use Rattle.rx_scan.specs.Fronts.{TellsPlain};
 ghost use Rattle.rx_scan.specs.WholeReferences as references;
@@ -9,8 +10,11 @@ use crate::marks::TokenState;
 use crate::phases::has_references;
 use crate::readers::Reader;
 use crate::runs::ROOM;
+use rx_chars::Syntax;
+use rx_reader::{RunMove, RunPhase};
+use rx_tags::{meaning, run_move};
 
-// One of them at the front: the character that it stands for, and how many bytes it has.
+// One of those that stand most at the front: the character that it stands for, and how many bytes it has.
 fn usual_reference(bytes: &[u8]) -> Option<(char, usize)>
     ensures { result ≡ references.usual_reference bytes.now }
 {
@@ -23,11 +27,53 @@ fn usual_reference(bytes: &[u8]) -> Option<(char, usize)>
     }
 }
 
-// The same, for what it is by the rules of references.
-fn whole_reference(bytes: &[u8]) -> Option<(char, usize)>
-    ensures { IfSome result (λ r. references.BeginsReference bytes.now r.0 r.1) }
+// How many bytes stand behind an `&` through the `;` of its reference, or 0 where it is none.
+fn body_length(bytes: &[u8]) -> usize
+    ensures is { result ≡ references.body_length bytes.now }
+    ensures fits { result ≤ length bytes.now }
 {
-    usual_reference(bytes)
+    let mut phase = RunPhase::Ampersand;
+    let mut count = 0;
+    for byte in bytes {
+        count += 1;
+        match run_move(phase, char::from(*byte)) {
+            RunMove::Goes(next) => phase = next,
+            RunMove::Closes => return count,
+            RunMove::Stops => return 0,
+        }
+    }
+    0
+}
+
+// Any reference of four bytes or more, of a name or of a number, behind its `&`.
+#[inline(never)]
+fn other_reference(syntax: Syntax, behind: &[u8]) -> Option<(char, usize)>
+    ensures { IfSome result (λ r. references.BeginsReference syntax (ampersand ∷ behind.now) r.0 r.1) }
+{
+    let count = body_length(behind);
+    if count < 3 {
+        return None;
+    }
+    let Ok(body) = str::from_utf8(&behind[..count - 1]) else {
+        return None;
+    };
+    match meaning(syntax, body) {
+        Some(c) => Some((c, count + 1)),
+        None => None,
+    }
+}
+
+// The reference at the front.
+fn whole_reference(syntax: Syntax, bytes: &[u8]) -> Option<(char, usize)>
+    ensures { IfSome result (λ r. references.BeginsReference syntax bytes.now r.0 r.1) }
+{
+    if let Some(found) = usual_reference(bytes) {
+        return Some(found);
+    }
+    match bytes {
+        [b'&', behind @ ..] => other_reference(syntax, behind),
+        _ => None,
+    }
 }
 
 // Whether a CR and an LF stand at the front.
@@ -66,7 +112,7 @@ impl Reader {
         if !self.tells_references() {
             return 0;
         }
-        let Some((c, count)) = whole_reference(bytes) else {
+        let Some((c, count)) = whole_reference(self.setting.syntax, bytes) else {
             return 0;
         };
         if self.front_limit(bytes.len()) < count {
@@ -148,8 +194,7 @@ impl Reader {
         taken
     }
 
-    /// Takes plain text, usual references and line ends at the front, as far as there is room, and tells how many bytes they
-    /// have.
+    /// Takes plain text, references and line ends at the front, as far as there is room, and tells how many bytes they have.
     #[inline(always)]
     pub(crate) fn say_text(&mut self, bytes: &[u8]) -> usize
         requires between { self.old.pending.mark ≡ TokenState.Nothing }
