@@ -18,7 +18,9 @@ pub mod OpenLemmas
 pub mod PlainLemmas
 pub mod WideLemmas
 pub mod SaidLemmas
+pub mod LineEndLemmas
 pub mod ReferenceLemmas
+pub mod BodyLemmas
 pub mod WholeTexts
 pub mod FrontLemmas
 pub mod LoopLemmas

@@ -2,11 +2,13 @@
 use Rattle.std.proofs.Common.{◌≡◌, ◌∙◌, ℕ, ◌+◌, ◌≤◌, ◌<◌, Bool, true, false, List, [], ◌∷◌, ◌++◌, length, refl, ap, sym, subst, Option, Some, Ok, append_assoc, append-nil, arith, encode_utf8_all}
 use Rattle.std.specs.Prelude.{◌&&◌, ◌==◌, not, nat_le}
 use Rattle.std.specs.List.{list_all}
-use Rattle.std.proofs.lemmas.Bool.{cond-true, cond-false, lt-leb, and_parts, and_from, or_from, or_left}
+use Rattle.std.proofs.lemmas.Bool.{cond-true, cond-false, lt-leb, and_parts, or_from, eqb-true}
 use Rattle.std.proofs.lemmas.Bool.Decides.{nat_tests}
 use Rattle.std.proofs.lemmas.List.{length-append}
-use Rattle.rx_terms.specs.Ascii.{is_ascii, is_letter, is_letter_or_digit}
+use Rattle.std.proofs.lemmas.List.Folds.{list_all-append}
+use Rattle.rx_terms.specs.Ascii.{is_ascii}
 use Rattle.rx_terms.specs.Text.{Chars}
+use Rattle.rx_terms.proofs.Bools.{by_test}
 use Rattle.rx_terms.proofs.CharLemmas.{ascii-same}
 use Rattle.rx_chars.specs.Characters.{as_line_end}
 use Rattle.rx_chars.specs.Utf8.{answer_of}
@@ -18,8 +20,10 @@ use Rattle.rx_grammar.specs.Items.{values}
 use Rattle.rx_pages.specs.PageReader as reader
 use Rattle.rx_reader.specs.declared.phases.RunPhase.{RunPhase}
 use Rattle.rx_reader.specs.declared.phases.RunPhase.TheVariants as run
+use Rattle.rx_reader.specs.declared.phases.RunMove.{RunMove}
 use Rattle.rx_reader.specs.declared.phases.RunMove.TheVariants as run_moves
 use Rattle.rx_reader.specs.Tables.{run_move}
+use Rattle.rx_reader.proofs.Runs.{RunIs, at_ampersand, goes_on}
 use Rattle.rx_tags.specs.TagBufs.{no_tag}
 use Rattle.rx_scan.specs.declared.answers.TokenKind.TheVariants as what
 use Rattle.rx_scan.specs.declared.marks.TokenState.{TokenState}
@@ -29,13 +33,14 @@ use Rattle.rx_scan.specs.declared.marks.Move.TheVariants as move
 use Rattle.rx_scan.specs.declared.places.Position.{Position}
 use Rattle.rx_scan.specs.KnownTags as known_tags
 use Rattle.rx_scan.specs.Marks as marks
-use Rattle.rx_scan.specs.Pending.{PendsAs}
+use Rattle.rx_scan.specs.Pending.{PendsAs, run_on}
 use Rattle.rx_scan.specs.Buffers.{Buffered}
 use Rattle.rx_scan.specs.Entries as entries
 use Rattle.rx_scan.specs.Places.{said, ended, entered}
 use Rattle.rx_scan.specs.Scanner.{Reading}
 use Rattle.rx_scan.specs.WholeReferences.{IsReference, TellsReference}
 use Rattle.rx_scan.proofs.FeedLemmas.{chosen}
+use Rattle.rx_scan.proofs.References.{no_closes, no_stops, run_is, run_ascii}
 use Rattle.rx_scan.proofs.RunLemmas.{ReadsOn, reads_more}
 use Rattle.rx_scan.proofs.Snoc.{and_false}
 
@@ -88,15 +93,39 @@ within_on n p =
     let e : (p.at + n) + 1 ≡ p.at + (n + 1) = omega arith in
     λ i. record { at = e i; starts = e i; token = p.starts; started = true; after_return = false; two = p.two; last = p.last }
 
-letter_ascii : (c : ℕ) → is_letter_or_digit c ≡ true → c ≤ 127
-letter_ascii c h = grind (arith, nat_tests)
+-- the moves of characters that belong to no reference
+nul_stops : (p : RunPhase) → run_move p 0 ≡ run_moves.Stops
+nul_stops run.Plain = refl
+nul_stops run.Ampersand = refl
+nul_stops run.Named = refl
+nul_stops run.Hash = refl
+nul_stops run.Decimal = refl
+nul_stops run.Mark = refl
+nul_stops run.Hexadecimal = refl
 
-letter_is : (c d : ℕ) → is_letter_or_digit c ≡ true → is_letter_or_digit d ≡ false → (c == d) ≡ false
-letter_is c d h k = grind (arith, nat_tests)
+return_stops : (p : RunPhase) → run_move p 13 ≡ run_moves.Stops
+return_stops run.Plain = refl
+return_stops run.Ampersand = refl
+return_stops run.Named = refl
+return_stops run.Hash = refl
+return_stops run.Decimal = refl
+return_stops run.Mark = refl
+return_stops run.Hexadecimal = refl
 
-letters_ascii : (text : Chars) → list_all is_letter_or_digit text ≡ true → list_all is_ascii text ≡ true
-letters_ascii [] h = refl
-letters_ascii (c ∷ text) h = let k = and_parts (is_letter_or_digit c) _ h in and_from (is_ascii c) _ (let q = letter_ascii c k.0 in grind (arith, nat_tests)) (letters_ascii text k.1)
+goes_no_stop : (q : RunPhase) (m : RunMove) → m ≡ run_moves.Goes q → m ≡ run_moves.Stops → ⊥
+goes_no_stop q m e f = absurd (cc)
+
+is_none : (d : ℕ) (p q : RunPhase) (b : ℕ) → run_move p d ≡ run_moves.Stops → run_move p b ≡ run_moves.Goes q → (b == d) ≡ false
+is_none d p q b h e = by_test {G = (b == d) ≡ false} (b == d) (λ k. absurd (goes_no_stop q (run_move p d) (ap (run_move p) (sym (eqb-true b d k)) ∙ e) h)) (λ k. k)
+
+last_ascii : (kept : Chars) (b : ℕ) → list_all is_ascii (kept ++ b ∷ []) ≡ true → b ≤ 127
+last_ascii kept b h =
+    let k = (and_parts (is_ascii b) true (and_parts (list_all is_ascii kept) _ (sym (list_all-append is_ascii kept (b ∷ [])) ∙ h)).1).0 in
+    grind (arith, nat_tests)
+
+run_ends : (text : Chars) (p q : RunPhase) → run_on (run_moves.Goes p) text ≡ run_moves.Goes q → text ≡ [] → p ≡ q
+run_ends [] p q e f = cc
+run_ends (c ∷ text) p q e f = absurd (cc)
 
 -- the ampersand
 module _ (l new : Reading) (front : List ℕ) (t : TellsReference l front new) (room : l.place.at < l.setting.limits.page) where
@@ -121,12 +150,12 @@ module _ (l new : Reading) (front : List ℕ) (t : TellsReference l front new) (
       })
       (subst (λ (x : Move). entries.Enters l 38 false x (Ok what.Nothing) (in_reference l 1 run.Ampersand [])) (sym begins_is) (refl, refl))
 
--- a letter or digit of the name
-reads_letter : (l : Reading) (n : ℕ) (p : RunPhase) (kept : Chars) (b : ℕ) → l.place.at + n < l.setting.limits.page → is_letter_or_digit b ≡ true → run_move p b ≡ run_moves.Goes run.Named
-    → entries.Reads (in_reference l n p kept) b (Ok what.Nothing) (in_reference l (n + 1) run.Named (kept ++ b ∷ []))
-reads_letter l n p kept b room h e =
+-- one more character of it
+reads_kept : (l : Reading) (n : ℕ) (p q : RunPhase) (kept : Chars) (b : ℕ) → l.place.at + n < l.setting.limits.page → RunIs p kept → run_move p b ≡ run_moves.Goes q
+    → entries.Reads (in_reference l n p kept) b (Ok what.Nothing) (in_reference l (n + 1) q (kept ++ b ∷ []))
+reads_kept l n p q kept b room r e =
     let v : Reading = in_reference l n p kept in
-    let new : Reading = in_reference l (n + 1) run.Named (kept ++ b ∷ []) in
+    let new : Reading = in_reference l (n + 1) q (kept ++ b ∷ []) in
     reads_alone v new b
     (record {
       held = refl;
@@ -135,23 +164,23 @@ reads_letter l n p kept b room h e =
       page = room;
       no_tag = refl;
       never_tag = λ c. refl;
-      some = letter_is b 0 h refl;
-      no_return = letter_is b 13 h refl;
-      ascii = letter_ascii b h;
+      some = is_none 0 p q b (nul_stops p) e;
+      no_return = is_none 13 p q b (return_stops p) e;
+      ascii = last_ascii kept b (run_ascii (goes_on b q r e));
     })
     (subst (λ (x : Move). entries.Enters v b false x (Ok what.Nothing) new)
     (sym (ap (λ x. entries.judged l.setting l.place.two b (marks.in_run l.setting.inside x)) e))
-    (refl, ap (λ (x : Position). entries.with_parts l l.setting x (record { mark = mark.Run run.Named; run = kept ++ b ∷ []; tag = no_tag l.pending.tag.syntax }) l.text) (sym (within_on n l.place))))
+    (refl, ap (λ (x : Position). entries.with_parts l l.setting x (record { mark = mark.Run q; run = kept ++ b ∷ []; tag = no_tag l.pending.tag.syntax }) l.text) (sym (within_on n l.place))))
 
 -- the semicolon behind it
 abbrev behind : Reading → ℕ → Chars → Buffered → Reading
 behind l n kept text =
     entries.with_parts l (entries.undropped l.setting) (ended false false (within n l.place)) (record { mark = mark.Nothing; run = kept; tag = no_tag l.pending.tag.syntax }) text
 
-reads_semicolon : (l : Reading) (n : ℕ) (kept : Chars) (c : ℕ) (text : Buffered) → l.place.at + n < l.setting.limits.page → l.setting.drops ≡ false → meaning l.setting.syntax (encode_utf8_all kept) ≡ Some c → entries.TextGains l.text text c
-    → entries.Reads (in_reference l n run.Named kept) 59 (Ok what.Nothing) (behind l n kept text)
-reads_semicolon l n kept c text room drops means gains =
-    let v : Reading = in_reference l n run.Named kept in
+reads_semicolon : (l : Reading) (n : ℕ) (p : RunPhase) (kept : Chars) (c : ℕ) (text : Buffered) → l.place.at + n < l.setting.limits.page → l.setting.drops ≡ false → run_move p 59 ≡ run_moves.Closes
+    → meaning l.setting.syntax (encode_utf8_all kept) ≡ Some c → entries.TextGains l.text text c → entries.Reads (in_reference l n p kept) 59 (Ok what.Nothing) (behind l n kept text)
+reads_semicolon l n p kept c text room drops closes means gains =
+    let v : Reading = in_reference l n p kept in
     let new : Reading = behind l n kept text in
     reads_alone v new 59
     (record {
@@ -165,25 +194,38 @@ reads_semicolon l n kept c text room drops means gains =
       no_return = refl;
       ascii = omega arith;
     })
-    (subst (λ (x : Option ℕ). entries.Closes v false x (Ok what.Nothing) new) (sym means) (ap (λ x. x && (c == 10)) drops, record { text = gains; is = refl }))
+    (subst (λ (x : Move). entries.Enters v 59 false x (Ok what.Nothing) new)
+    (sym (ap (λ x. entries.judged l.setting l.place.two 59 (marks.in_run l.setting.inside x)) closes))
+    (subst (λ (x : Option ℕ). entries.Closes v false x (Ok what.Nothing) new) (sym means) (ap (λ x. x && (c == 10)) drops, record { text = gains; is = refl })))
 
 module _ (old : Reading) (s : reader.Scanning) where
-  moved : (l : Reading) (bytes more : List ℕ) (n m : ℕ) (kept run_now : Chars) → bytes ≡ more → n ≡ m → kept ≡ run_now → ReadsOn old s bytes (in_reference l n run.Named kept) → ReadsOn old s more (in_reference l m run.Named run_now)
-  moved l bytes more n m kept run_now e f g r =
-      subst (λ (x : List ℕ). ReadsOn old s x (in_reference l m run.Named run_now)) e
-      (subst (λ (x : ℕ). ReadsOn old s bytes (in_reference l x run.Named run_now)) f
-      (subst (λ (x : Chars). ReadsOn old s bytes (in_reference l n run.Named x)) g r))
+  moved : (l : Reading) (bytes more : List ℕ) (n m : ℕ) (p q : RunPhase) (kept run_now : Chars) → bytes ≡ more → n ≡ m → p ≡ q → kept ≡ run_now → ReadsOn old s bytes (in_reference l n p kept) → ReadsOn old s more (in_reference l m q run_now)
+  moved l bytes more n m p q kept run_now e f h g r =
+      subst (λ (x : List ℕ). ReadsOn old s x (in_reference l m q run_now)) e
+      (subst (λ (x : ℕ). ReadsOn old s bytes (in_reference l x q run_now)) f
+      (subst (λ (x : RunPhase). ReadsOn old s bytes (in_reference l n x run_now)) h
+      (subst (λ (x : Chars). ReadsOn old s bytes (in_reference l n p x)) g r)))
 
-  -- the name
-  name_on : (l : Reading) (more : Chars) (n : ℕ) (kept : Chars) (bytes : List ℕ) → list_all is_letter_or_digit more ≡ true → l.place.at + (n + length more) ≤ l.setting.limits.page
-      → ReadsOn old s bytes (in_reference l n run.Named kept) → ReadsOn old s (bytes ++ more) (in_reference l (n + length more) run.Named (kept ++ more))
-  name_on l [] n kept bytes h k r = moved l bytes (bytes ++ []) n (n + length {A = ℕ} []) kept (kept ++ []) (sym (append-nil bytes)) (omega arith) (sym (append-nil kept)) r
-  name_on l (b ∷ more) n kept bytes h k r =
-      let q = and_parts (is_letter_or_digit b) _ h in
-      moved l ((bytes ++ b ∷ []) ++ more) (bytes ++ b ∷ more) ((n + 1) + length more) (n + length (b ∷ more)) ((kept ++ b ∷ []) ++ more) (kept ++ b ∷ more)
-      (append_assoc bytes (b ∷ []) more) (omega arith) (append_assoc kept (b ∷ []) more)
-      (name_on l more (n + 1) (kept ++ b ∷ []) (bytes ++ b ∷ []) q.1 (omega (arith, k))
-      (reads_more old (in_reference l n run.Named kept) s bytes r b (in_reference l (n + 1) run.Named (kept ++ b ∷ [])) (reads_letter l n run.Named kept b (omega (arith, k)) q.0 (cond-true _ _ _ q.0))))
+  abbrev BodyOn : Reading → Chars → RunPhase → Type 0
+  BodyOn l more last =
+      (n : ℕ) (p : RunPhase) (kept : Chars) (bytes : List ℕ) → RunIs p kept → run_on (run_moves.Goes p) more ≡ run_moves.Goes last → l.place.at + (n + length more) ≤ l.setting.limits.page
+      → ReadsOn old s bytes (in_reference l n p kept) → ReadsOn old s (bytes ++ more) (in_reference l (n + length more) last (kept ++ more))
+
+  -- its first character
+  body_first : (l : Reading) (b : ℕ) (more : Chars) (last : RunPhase) → BodyOn l more last → (n : ℕ) (p : RunPhase) (kept : Chars) (bytes : List ℕ) → RunIs p kept → l.place.at + (n + length (b ∷ more)) ≤ l.setting.limits.page
+      → ReadsOn old s bytes (in_reference l n p kept) → (m : RunMove) → run_move p b ≡ m → run_on m more ≡ run_moves.Goes last → ReadsOn old s (bytes ++ b ∷ more) (in_reference l (n + length (b ∷ more)) last (kept ++ b ∷ more))
+  body_first l b more last ih n p kept bytes i k r (run_moves.Goes q) e g =
+      moved l ((bytes ++ b ∷ []) ++ more) (bytes ++ b ∷ more) ((n + 1) + length more) (n + length (b ∷ more)) last last ((kept ++ b ∷ []) ++ more) (kept ++ b ∷ more)
+      (append_assoc bytes (b ∷ []) more) (omega arith) refl (append_assoc kept (b ∷ []) more)
+      (ih (n + 1) q (kept ++ b ∷ []) (bytes ++ b ∷ []) (goes_on b q i e) g (omega (arith, k))
+      (reads_more old (in_reference l n p kept) s bytes r b (in_reference l (n + 1) q (kept ++ b ∷ [])) (reads_kept l n p q kept b (omega (arith, k)) i e)))
+  body_first l b more last ih n p kept bytes i k r run_moves.Closes e g = absurd (no_closes more last g)
+  body_first l b more last ih n p kept bytes i k r run_moves.Stops e g = absurd (no_stops more last g)
+
+  -- what stands between the ampersand and the semicolon
+  body_on : (l : Reading) (more : Chars) (last : RunPhase) → BodyOn l more last
+  body_on l [] last n p kept bytes i g k r = moved l bytes (bytes ++ []) n (n + length {A = ℕ} []) p last kept (kept ++ []) (sym (append-nil bytes)) (omega arith) (run_ends [] p last g refl) (sym (append-nil kept)) r
+  body_on l (b ∷ more) last n p kept bytes i g k r = body_first l b more last (body_on l more last) n p kept bytes i k r (run_move p b) refl g
 
   -- What is kept of the reference behind it, and where it began, doesn't matter.
   as_said : (l : Reading) (bytes : List ℕ) (n m : ℕ) (kept : Chars) (text : Buffered) → l.pending.mark ≡ mark.Nothing → n + 1 ≡ m → ReadsOn old s bytes (behind l n kept text) → ReadsOn old s bytes (entries.with_parts l (entries.undropped l.setting) (said m l.place) l.pending text)
@@ -217,35 +259,29 @@ module _ (old : Reading) (s : reader.Scanning) where
   pub reference_on : (new : Reading) (front : List ℕ) (l : Reading) (bytes : List ℕ) → ReadsOn old s bytes l → TellsReference l front new → ReadsOn old s (bytes ++ front) new
   reference_on new front l bytes r t =
       subst (λ (x : Reading). ReadsOn old s (bytes ++ front) x) (sym t.is)
-      (as_said l (bytes ++ front) (2 + length k.more) (length front) name new.text t.between (omega (arith, sizes))
-      (subst (λ (x : List ℕ). ReadsOn old s x (behind l (2 + length k.more) name new.text)) bytes_are
-      (reads_more old (in_reference l (2 + length k.more) run.Named name) s _ named 59 (behind l (2 + length k.more) name new.text)
-      (reads_semicolon l (2 + length k.more) name t.c new.text (omega (arith, sizes, t.page)) t.may.undropped means t.text))))
+      (as_said l (bytes ++ front) (1 + length k.body) (length front) k.body new.text t.between (omega (arith, sizes))
+      (subst (λ (x : List ℕ). ReadsOn old s x (behind l (1 + length k.body) k.body new.text)) bytes_are
+      (reads_more old (in_reference l (1 + length k.body) k.last k.body) s _ told 59 (behind l (1 + length k.body) k.body new.text)
+      (reads_semicolon l (1 + length k.body) k.last k.body t.c new.text (omega (arith, sizes, t.page)) t.may.undropped k.closes means t.text))))
     where
-      k : IsReference t.c front
+      k : IsReference l.setting.syntax t.c front
       k = t.reference
 
-      name : Chars
-      name = k.first ∷ k.more
+      run_of : RunIs k.last k.body
+      run_of = run_is k.body run.Ampersand [] k.last at_ampersand k.goes
 
-      letters : list_all is_letter_or_digit name ≡ true
-      letters = and_from (is_letter_or_digit k.first) _ (or_left (is_letter k.first) _ k.begins) k.goes_on
+      means : meaning l.setting.syntax (encode_utf8_all k.body) ≡ Some t.c
+      means = ap (meaning l.setting.syntax) (ascii-same k.body (run_ascii run_of)).0 ∙ k.means
 
-      means : meaning l.setting.syntax (encode_utf8_all name) ≡ Some t.c
-      means = ap (meaning l.setting.syntax) (ascii-same name (letters_ascii name letters)).0 ∙ k.means l.setting.syntax
+      sizes : length front ≡ 2 + length k.body
+      sizes = ap length k.are ∙ omega (arith, length-append k.body (59 ∷ []))
 
-      sizes : length front ≡ 3 + length k.more
-      sizes = ap length k.are ∙ omega (arith, length-append k.more (59 ∷ []))
+      told : ReadsOn old s ((bytes ++ 38 ∷ []) ++ k.body) (in_reference l (1 + length k.body) k.last k.body)
+      told =
+          body_on l k.body k.last 1 run.Ampersand [] (bytes ++ 38 ∷ []) at_ampersand k.goes (omega (arith, sizes, t.page))
+          (reads_more old l s bytes r 38 (in_reference l 1 run.Ampersand []) (reads_ampersand l new front t (omega (arith, sizes, t.page))))
 
-      begun : ReadsOn old s ((bytes ++ 38 ∷ []) ++ k.first ∷ []) (in_reference l 2 run.Named (k.first ∷ []))
-      begun =
-          reads_more old (in_reference l 1 run.Ampersand []) s (bytes ++ 38 ∷ []) (reads_more old l s bytes r 38 (in_reference l 1 run.Ampersand []) (reads_ampersand l new front t (omega (arith, sizes, t.page)))) k.first (in_reference l 2 run.Named (k.first ∷ []))
-          (reads_letter l 1 run.Ampersand [] k.first (omega (arith, sizes, t.page)) (and_parts (is_letter_or_digit k.first) _ letters).0 (cond-true _ _ _ k.begins))
-
-      named : ReadsOn old s (((bytes ++ 38 ∷ []) ++ k.first ∷ []) ++ k.more) (in_reference l (2 + length k.more) run.Named name)
-      named = name_on l k.more 2 (k.first ∷ []) ((bytes ++ 38 ∷ []) ++ k.first ∷ []) k.goes_on (omega (arith, sizes, t.page)) begun
-
-      bytes_are : (((bytes ++ 38 ∷ []) ++ k.first ∷ []) ++ k.more) ++ 59 ∷ [] ≡ bytes ++ front
+      bytes_are : ((bytes ++ 38 ∷ []) ++ k.body) ++ 59 ∷ [] ≡ bytes ++ front
       bytes_are =
-          append_assoc ((bytes ++ 38 ∷ []) ++ k.first ∷ []) k.more (59 ∷ [])
-          ∙ (append_assoc (bytes ++ 38 ∷ []) (k.first ∷ []) (k.more ++ 59 ∷ []) ∙ (append_assoc bytes (38 ∷ []) (k.first ∷ (k.more ++ 59 ∷ [])) ∙ ap (λ x. bytes ++ x) (sym k.are)))
+          append_assoc (bytes ++ 38 ∷ []) k.body (59 ∷ [])
+          ∙ (append_assoc bytes (38 ∷ []) (k.body ++ 59 ∷ []) ∙ ap (λ x. bytes ++ x) (sym k.are))

@@ -30,11 +30,11 @@ use Rattle.rx_scan.specs.Marks as marks
 use Rattle.rx_scan.specs.Pending.{Pending, first_char, phase_of, InRun, run_on}
 use Rattle.rx_scan.specs.Meant.{Means}
 
-no_closes : (text : Chars) (p : RunPhase) → run_on run_moves.Closes text ≡ run_moves.Goes p → ⊥
+pub no_closes : (text : Chars) (p : RunPhase) → run_on run_moves.Closes text ≡ run_moves.Goes p → ⊥
 no_closes [] p e = cc
 no_closes (c ∷ text) p e = cc
 
-no_stops : (text : Chars) (p : RunPhase) → run_on run_moves.Stops text ≡ run_moves.Goes p → ⊥
+pub no_stops : (text : Chars) (p : RunPhase) → run_on run_moves.Stops text ≡ run_moves.Goes p → ⊥
 no_stops [] p e = cc
 no_stops (c ∷ text) p e = cc
 

@@ -39,7 +39,7 @@ use Rattle.rx_scan.proofs.PlainLemmas.{is_none}
 use Rattle.rx_scan.proofs.RunLemmas.{ReadsOn, reads_more}
 
 -- in a content that has text a plain character is text
-is_said : (i : Content) (c : ℕ) → has_text i ≡ true → is_plain c ≡ true → marks.of_first (marks.at_first i c) ≡ move.EmitText
+pub is_said : (i : Content) (c : ℕ) → has_text i ≡ true → is_plain c ≡ true → marks.of_first (marks.at_first i c) ≡ move.EmitText
 is_said i c t h =
     ap marks.of_first (cond-false _ _ _ (is_none c 60 h refl) ∙ (cond-false _ _ _ (ap (λ x. x && has_references i) (is_none c 38 h refl)) ∙ cond-true _ _ _ (text i t)))
   where
@@ -52,7 +52,7 @@ is_said i c t h =
     text (content.Rcdata name) t = rw (is_none c 60 h refl, is_none c 38 h refl) refl
 
 -- and no bracket that counts
-no_literal_at : (d : ℕ) (i : Content) (c : ℕ) → (d == c) ≡ false → is_strict_literal d i (character c) ≡ false
+pub no_literal_at : (d : ℕ) (i : Content) (c : ℕ) → (d == c) ≡ false → is_strict_literal d i (character c) ≡ false
 no_literal_at d content.Outside c h = refl
 no_literal_at d content.Html c h = refl
 no_literal_at d content.Foreign c h = refl
@@ -66,7 +66,7 @@ said_one p bracket e =
     let two : false ≡ (p.last && bracket) = sym (ap (λ x. p.last && x) e ∙ and_false p.last) in
     λ i. record { at = p.at + 1; starts = p.at + 1; token = p.token; started = true; after_return = false; two = two i; last = last i }
 
-unmarked : (p : Pending) → p.mark ≡ mark.Nothing → p ≡ entries.marked mark.Nothing p
+pub unmarked : (p : Pending) → p.mark ≡ mark.Nothing → p ≡ entries.marked mark.Nothing p
 unmarked p e = λ i. record { mark = e i; run = p.run; tag = p.tag }
 
 -- Behind the held bytes of a plain character these are left of it, and with the last one it is told.

@@ -12,6 +12,7 @@ use Rattle.rx_chars.specs.declared.syntax.Syntax.TheVariants.{Html, Xhtml}
 use Rattle.rx_chars.specs.Named.{named, named_table}
 use Rattle.rx_grammar.specs.References.{meaning}
 use Rattle.rx_pages.specs.PageReader as reader
+use Rattle.rx_reader.specs.declared.phases.RunPhase.TheVariants as run
 use Rattle.rx_tags.proofs.TakeLemmas.{chosen as some_taken}
 use Rattle.rx_scan.specs.declared.marks.TokenState.TheVariants as mark
 use Rattle.rx_scan.specs.Entries as entries
@@ -19,8 +20,9 @@ use Rattle.rx_scan.specs.Fronts.{TellsFront}
 use Rattle.rx_scan.specs.Places.{said}
 use Rattle.rx_scan.specs.Plain.{is_plain}
 use Rattle.rx_scan.specs.Scanner.{Reading}
-use Rattle.rx_scan.specs.WholeReferences.{usual_reference, IsReference, BeginsReference, TellsOne, of_plain, of_reference, TellsText, one, more}
+use Rattle.rx_scan.specs.WholeReferences.{usual_reference, IsReference, BeginsReference, TellsOne, of_plain, of_reference, of_line_end, TellsText, one, more}
 use Rattle.rx_scan.proofs.ByteLemmas.{match_by}
+use Rattle.rx_scan.proofs.LineEndLemmas.{line_end_on}
 use Rattle.rx_scan.proofs.PlainLemmas.{chars_plain}
 use Rattle.rx_scan.proofs.ReferenceLemmas.{reference_on}
 use Rattle.rx_scan.proofs.RunLemmas.{ReadsOn}
@@ -52,41 +54,42 @@ quot_is : named (codes "quot") ≡ Some 34
 unfolding named_table
 quot_is = refl
 
-means_in : (name : Chars) (c : ℕ) → meaning Html name ≡ Some c → meaning Xhtml name ≡ Some c → (syntax : Syntax) → meaning syntax name ≡ Some c
-means_in name c h x Html = h
-means_in name c h x Xhtml = x
+means_in : (syntax : Syntax) (name : Chars) (c : ℕ) → meaning Html name ≡ Some c → meaning Xhtml name ≡ Some c → meaning syntax name ≡ Some c
+means_in Html name c h x = h
+means_in Xhtml name c h x = x
 
-amp : IsReference 38 (codes "&amp;")
-amp = record { first = 97; more = codes "mp"; are = refl; begins = refl; goes_on = refl; means = means_in (codes "amp") 38 amp_is refl }
+module _ (syntax : Syntax) where
+  amp : IsReference syntax 38 (codes "&amp;")
+  amp = record { body = codes "amp"; are = refl; last = run.Named; goes = refl; closes = refl; means = means_in syntax (codes "amp") 38 amp_is refl }
 
-lt : IsReference 60 (codes "&lt;")
-lt = record { first = 108; more = codes "t"; are = refl; begins = refl; goes_on = refl; means = means_in (codes "lt") 60 lt_is refl }
+  lt : IsReference syntax 60 (codes "&lt;")
+  lt = record { body = codes "lt"; are = refl; last = run.Named; goes = refl; closes = refl; means = means_in syntax (codes "lt") 60 lt_is refl }
 
-gt : IsReference 62 (codes "&gt;")
-gt = record { first = 103; more = codes "t"; are = refl; begins = refl; goes_on = refl; means = means_in (codes "gt") 62 gt_is refl }
+  gt : IsReference syntax 62 (codes "&gt;")
+  gt = record { body = codes "gt"; are = refl; last = run.Named; goes = refl; closes = refl; means = means_in syntax (codes "gt") 62 gt_is refl }
 
-quot : IsReference 34 (codes "&quot;")
-quot = record { first = 113; more = codes "uot"; are = refl; begins = refl; goes_on = refl; means = means_in (codes "quot") 34 quot_is refl }
+  quot : IsReference syntax 34 (codes "&quot;")
+  quot = record { body = codes "quot"; are = refl; last = run.Named; goes = refl; closes = refl; means = means_in syntax (codes "quot") 34 quot_is refl }
 
-stands_there : (bytes front : List ℕ) (c : ℕ) → 4 ≤ length front → IsReference c front → begins_with front bytes ≡ true → BeginsReference bytes c (length front)
-stands_there bytes front c k r h =
-    let t = begins_taken front bytes h in
-    record { is = subst (λ (x : List ℕ). IsReference c x) (sym t.0) r; some = k; fits = t.1 }
+  stands_there : (bytes front : List ℕ) (c : ℕ) → 4 ≤ length front → IsReference syntax c front → begins_with front bytes ≡ true → BeginsReference syntax bytes c (length front)
+  stands_there bytes front c k r h =
+      let t = begins_taken front bytes h in
+      record { is = subst (λ (x : List ℕ). IsReference syntax c x) (sym t.0) r; some = k; fits = t.1 }
 
-abbrev Is : List ℕ → Option (ℕ × ℕ) → Type 0
-Is bytes o = IfSome o (λ r. BeginsReference bytes r.0 r.1)
+  abbrev Is : List ℕ → Option (ℕ × ℕ) → Type 0
+  Is bytes o = IfSome o (λ r. BeginsReference syntax bytes r.0 r.1)
 
--- what is found is a reference
-pub usual_is : (bytes : List ℕ) → IfSome (usual_reference bytes) (λ r. BeginsReference bytes r.0 r.1)
-usual_is bytes =
-    tested (begins_with (codes "&amp;") bytes) (Some (38, 5)) _ (stands_there bytes (codes "&amp;") 38 (omega arith) amp)
-    (tested (begins_with (codes "&lt;") bytes) (Some (60, 4)) _ (stands_there bytes (codes "&lt;") 60 (omega arith) lt)
-    (tested (begins_with (codes "&gt;") bytes) (Some (62, 4)) _ (stands_there bytes (codes "&gt;") 62 (omega arith) gt)
-    (tested (begins_with (codes "&quot;") bytes) (Some (34, 6)) None (stands_there bytes (codes "&quot;") 34 (omega arith) quot) tt)))
-  where
-    tested : (b : Bool) (found other : Option (ℕ × ℕ)) → (b ≡ true → Is bytes found) → Is bytes other → Is bytes (if b then found else other)
-    tested true found other f g = f refl
-    tested false found other f g = g
+  tested : (bytes : List ℕ) (b : Bool) (found other : Option (ℕ × ℕ)) → (b ≡ true → Is bytes found) → Is bytes other → Is bytes (if b then found else other)
+  tested bytes true found other f g = f refl
+  tested bytes false found other f g = g
+
+  -- what is found is a reference
+  pub usual_is : (bytes : List ℕ) → IfSome (usual_reference bytes) (λ r. BeginsReference syntax bytes r.0 r.1)
+  usual_is bytes =
+      tested bytes (begins_with (codes "&amp;") bytes) (Some (38, 5)) _ (stands_there bytes (codes "&amp;") 38 (omega arith) amp)
+      (tested bytes (begins_with (codes "&lt;") bytes) (Some (60, 4)) _ (stands_there bytes (codes "&lt;") 60 (omega arith) lt)
+      (tested bytes (begins_with (codes "&gt;") bytes) (Some (62, 4)) _ (stands_there bytes (codes "&gt;") 62 (omega arith) gt)
+      (tested bytes (begins_with (codes "&quot;") bytes) (Some (34, 6)) None (stands_there bytes (codes "&quot;") 34 (omega arith) quot) tt)))
 
 -- text that is told at once is its characters
 tells_chars : (l new : Reading) (front cs : List ℕ) → all_scalars cs ≡ true → encode_utf8_all cs ≡ front → TellsFront l front new → TellsChars l cs new
@@ -118,6 +121,7 @@ module _ (old : Reading) (s : reader.Scanning) where
   one_on : (new : Reading) (front : List ℕ) (l : Reading) (bytes : List ℕ) → 0 < length front → ReadsOn old s bytes l → TellsOne l front new → ReadsOn old s (bytes ++ front) new
   one_on new front l bytes k r (of_plain t) = plain_on new front l bytes k r t
   one_on new front l bytes k r (of_reference t) = reference_on old s new front l bytes r t
+  one_on new front l bytes k r (of_line_end t) = line_end_on old s new front l bytes r t
 
   -- all of it
   pub text_on : (l : Reading) (bytes : List ℕ) → ReadsOn old s bytes l → (front : List ℕ) (new : Reading) → TellsText l front new → ReadsOn old s (bytes ++ front) new
@@ -128,6 +132,7 @@ module _ (old : Reading) (s : reader.Scanning) where
 one_pending : (l new : Reading) (front : List ℕ) → TellsOne l front new → new.pending ≡ l.pending
 one_pending l new front (of_plain t) = ap (λ (x : Reading). x.pending) t.is
 one_pending l new front (of_reference t) = ap (λ (x : Reading). x.pending) t.is
+one_pending l new front (of_line_end t) = ap (λ (x : Reading). x.pending) t.is
 
 -- no token is begun before or behind it
 pub text_pending : (l : Reading) (front : List ℕ) (new : Reading) → TellsText l front new → new.pending ≡ l.pending
@@ -137,6 +142,7 @@ text_pending l _ new (more {front} {next} {middle} t k u) = one_pending middle n
 one_between : (l new : Reading) (front : List ℕ) → TellsOne l front new → l.pending.mark ≡ mark.Nothing
 one_between l new front (of_plain t) = t.may.between
 one_between l new front (of_reference t) = t.between
+one_between l new front (of_line_end t) = t.between
 
 pub text_between : (l : Reading) (front : List ℕ) (new : Reading) → TellsText l front new → l.pending.mark ≡ mark.Nothing
 text_between l front new (one k t) = one_between l new front t

@@ -12,8 +12,8 @@ say_more-more-requires-clause-between c =
     let front = take n c.args.bytes.now in
     ap (λ (x : Pending). x.mark) (one_kept c.args.self.now l front n (plain_one (n == 0) c.args.self.now l front c.say_front-count.ensures.says)) ∙ c.requires.between
 
-pub returns-then-not-has_ampersand-clause-says : goal.returns-then-not-has_ampersand-clause-says
-returns-then-not-has_ampersand-clause-says c =
+pub returns-then-not-may_go_on-clause-says : goal.returns-then-not-may_go_on-clause-says
+returns-then-not-may_go_on-clause-says c =
     let l = c.say_front-count.new.self in
     let n = c.say_front-count.result in
     let bytes = c.args.bytes.now in
