@@ -1,22 +1,24 @@
 -- A tag that is taken whole is read like its bytes one after another.
-use Rattle.std.proofs.Common.{◌≡◌, ◌∙◌, ◌⊎◌, ℕ, ◌+◌, ◌-◌, ◌≤◌, ◌<◌, Bool, true, false, List, [], ◌∷◌, ◌++◌, length, take, drop, refl, ap, sym, subst, inl, inr, Ok, arith, get_or, length-take-le, length-drop}
+use Rattle.std.proofs.Common.{◌≡◌, ◌∙◌, ℕ, ◌+◌, ◌-◌, ◌≤◌, ◌<◌, Bool, true, false, List, [], ◌∷◌, ◌++◌, length, take, drop, refl, ap, sym, subst, inl, Ok, arith, get_or, length-take-le, length-drop}
 use Rattle.std.specs.List.{list_all}
 use Rattle.std.specs.Prelude.{◌&&◌, not, nat_le}
 use Rattle.std.proofs.lemmas.Bool.{lt-leb, or_from}
 use Rattle.std.proofs.lemmas.Grind.{common_steps}
-use Rattle.std.proofs.lemmas.List.{take_rest}
 use Rattle.rx_chars.specs.Characters.{as_line_end}
 use Rattle.rx_chars.specs.Held.{is_none_held}
 use Rattle.rx_chars.specs.Utf8.{answer_of}
 use Rattle.rx_chars.specs.declared.utf8.Utf8Step.{Utf8Step}
 use Rattle.rx_chars.specs.declared.utf8.Utf8Step.TheVariants.{Char}
 use Rattle.rx_chars.proofs.Utf8Answers.{first_whole}
+use Rattle.rx_grammar.specs.Spelling.{has_markup}
+use Rattle.rx_grammar.specs.declared.contents.Content.{Content}
+use Rattle.rx_grammar.specs.declared.contents.Content.TheVariants as content
 use Rattle.rx_pages.specs.PageReader as reader
 use Rattle.rx_reader.specs.Tables.{is_last}
 use Rattle.rx_reader.specs.TagReader.{TagState}
 use Rattle.rx_tags.specs.declared.tag_text.TagStep.TheVariants.{Done}
 use Rattle.rx_tags.specs.Fronts.{is_printed, GoesBy}
-use Rattle.rx_tags.specs.TagBufs.{TagSoFar, StepGives, TakesWhole}
+use Rattle.rx_tags.specs.TagBufs.{TagSoFar, StepGives, TakesWhole, no_tag}
 use Rattle.rx_tags.specs.TagReads.{Ends}
 use Rattle.rx_tags.proofs.TakeLemmas.{chosen as some_taken}
 use Rattle.rx_scan.specs.declared.answers.TokenKind.TheVariants as what
@@ -32,13 +34,14 @@ use Rattle.rx_scan.specs.KnownTags as known_tags
 use Rattle.rx_scan.specs.Marks as marks
 use Rattle.rx_scan.specs.Openings.{OpensTag, of_opening, in_tag}
 use Rattle.rx_scan.specs.Pending.{Pending}
+use Rattle.rx_scan.specs.Places as places
 use Rattle.rx_scan.specs.Places.{fed}
 use Rattle.rx_scan.specs.Scanner.{Reading}
-use Rattle.rx_scan.specs.Steps.{ReadsAs, Took}
-use Rattle.rx_scan.specs.WholeTags.{ReadsWholeTag}
+use Rattle.rx_scan.specs.Steps.{ReadsAs, Took, is_quiet}
+use Rattle.rx_scan.specs.WholeTags.{ReadsOpened, ReadsBehind, ReadsWholeTag}
 use Rattle.rx_scan.proofs.FeedLemmas.{chosen}
 use Rattle.rx_scan.proofs.FrontLemmas.{front_read}
-use Rattle.rx_scan.proofs.LoopLemmas.{token_read}
+use Rattle.rx_scan.proofs.LoopLemmas.{next_read, token_read}
 use Rattle.rx_scan.proofs.OpenLemmas.{opens_taken}
 use Rattle.rx_scan.proofs.RunLemmas.{ReadsOn, reads_none}
 use Rattle.rx_scan.proofs.Snoc.{and_false}
@@ -82,7 +85,7 @@ none_held (x ∷ held) h = absurd (cc)
 -- what is taken of the tag, with its limits
 module _ (v : Reading) (p : Pending) (bytes : List ℕ) (limit n : ℕ) (o : v.pending.mark ≡ mark.LessThan) (held : v.held ≡ []) (opens : (setting : Setting) → OpensTag setting bytes) (f : limit ≤ length bytes)
     (page : 0 < limit → v.place.at + limit ≤ v.setting.limits.page) (tag : 0 < limit → v.place.at + limit ≤ v.place.token + v.setting.limits.tag) (t : TakesWhole v.pending.tag (take limit bytes) n p.tag)
-    (k : p ≡ record { mark = v.pending.mark; run = v.pending.run; tag = p.tag }) where
+    (m : TokenState) (k : p ≡ record { mark = m; run = v.pending.run; tag = p.tag }) where
   less : t.at < limit
   less = let c = t.closes in let q = c.fits in omega (arith, q, length-take-le limit bytes f)
 
@@ -117,12 +120,12 @@ module _ (v : Reading) (p : Pending) (bytes : List ℕ) (limit n : ℕ) (o : v.p
       }
 
   abbrev fed_by : ℕ → Pending → Reading
-  fed_by m q = record { setting = v.setting; place = fed m v.place; held = v.held; pending = q; text = v.text; end = v.end }
+  fed_by i q = record { setting = v.setting; place = fed i v.place; held = v.held; pending = q; text = v.text; end = v.end }
 
   count_is : n - 1 ≡ length (take t.at bytes)
   count_is = omega (arith, t.count, long)
 
-  taken : ReadsWholeTag v bytes n (entries.with_tag (fed_by (n - 1) p) false)
+  taken : ReadsOpened v bytes n (entries.with_tag (fed_by (n - 1) p) false)
   taken =
       let b = bounds in
       let c = t.closes in
@@ -137,9 +140,9 @@ module _ (v : Reading) (p : Pending) (bytes : List ℕ) (limit n : ℕ) (o : v.p
         ends = (p.tag, t.ends, ap (λ (x : ℕ). entries.with_tag (fed_by x p) false) count_is ∙ ap (λ (q : Pending). entries.with_tag (fed_by (length (take t.at bytes)) q) false) k);
       }
 
-  pub taken_as : (new : Reading) (place : Position) → place ≡ fed (n - 1) v.place → new ≡ entries.with_tag (record { setting = v.setting; place = place; held = v.held; pending = p; text = v.text; end = v.end }) false → ReadsWholeTag v bytes n new
+  pub taken_as : (new : Reading) (place : Position) → place ≡ fed (n - 1) v.place → new ≡ entries.with_tag (record { setting = v.setting; place = place; held = v.held; pending = p; text = v.text; end = v.end }) false → ReadsOpened v bytes n new
   taken_as new place e q =
-      subst (λ (x : Reading). ReadsWholeTag v bytes n x) (sym (q ∙ ap (λ (x : Position). entries.with_tag (record { setting = v.setting; place = x; held = v.held; pending = p; text = v.text; end = v.end }) false) e)) taken
+      subst (λ (x : Reading). ReadsOpened v bytes n x) (sym (q ∙ ap (λ (x : Position). entries.with_tag (record { setting = v.setting; place = x; held = v.held; pending = p; text = v.text; end = v.end }) false) e)) taken
 
 -- the tag is whole
 pub is_whole : (old tag : TagSoFar) (c : ℕ) → StepGives old c (Ok Done) tag → is_last tag.state.phase ≡ true
@@ -149,30 +152,81 @@ is_whole old tag c g =
 
 pub lends_tag : (l new : Reading) (bytes : List ℕ) (n : ℕ) → ReadsWholeTag l bytes n new → (is_last new.pending.tag.state.phase ≡ true) × (new.pending.mark ≡ mark.Nothing)
 lends_tag l new bytes n t =
-    let e = t.ends in (
-      ap (λ (x : Reading). is_last x.pending.tag.state.phase) e.2 ∙ is_whole t.before.pending.tag e.0 62 e.1,
+    let o = t.reads.opened in
+    let e = o.ends in (
+      ap (λ (x : Reading). is_last x.pending.tag.state.phase) e.2 ∙ is_whole o.before.pending.tag e.0 62 e.1,
       ap (λ (x : Reading). x.pending.mark) e.2,
     )
 
 pub keeps_text : (l new : Reading) (bytes : List ℕ) (n : ℕ) → ReadsWholeTag l bytes n new → new.text ≡ l.text
-keeps_text l new bytes n t = let e = t.ends in ap (λ (x : Reading). x.text) e.2 ∙ ap (λ (x : Reading). x.text) t.front.feeds.is
+keeps_text l new bytes n t = let o = t.reads.opened in let e = o.ends in ap (λ (x : Reading). x.text) e.2 ∙ ap (λ (x : Reading). x.text) o.front.feeds.is
 
--- no tag is taken between tokens
-pub not_between : (l new : Reading) (bytes : List ℕ) (n : ℕ) → ReadsWholeTag l bytes n new → l.pending.mark ≡ mark.Nothing → ⊥
-not_between l new bytes n t m = let e = sym t.front.opened ∙ m in cc
+-- a piece without `<` has no tag at its front
+pub not_quiet : (l new : Reading) (bytes : List ℕ) (n : ℕ) → ReadsWholeTag l bytes n new → is_quiet bytes ≡ true → ⊥
+not_quiet l new bytes n t q = let z = ap is_quiet (sym t.opens) ∙ q in cc
+
+opens_markup : (inside : Content) → has_markup inside ≡ true → marks.less_than_mark inside ≡ mark.LessThan
+opens_markup content.Outside h = refl
+opens_markup content.Html h = refl
+opens_markup content.Foreign h = refl
+opens_markup content.Strict h = refl
+opens_markup (content.Raw name) h = absurd (cc)
+opens_markup (content.Rcdata name) h = absurd (cc)
+
+-- the `<` of a tag is read where no token is begun
+module _ (l : Reading) (m : l.pending.mark ≡ mark.Nothing) (held : l.held ≡ []) (page : l.place.at < l.setting.limits.page) (markup : has_markup l.setting.inside ≡ true) where
+  abbrev begun : Reading
+  begun = entries.with_begun l false mark.LessThan
+
+  begins : entries.move_at l 60 ≡ move.Begins mark.LessThan
+  begins =
+      ap (λ (x : TokenState). entries.judged l.setting l.place.two 60 (marks.move_of l.setting.syntax l.setting.inside x 60)) m
+      ∙ ap (λ (x : TokenState). entries.judged l.setting l.place.two 60 (move.Begins x)) (opens_markup l.setting.inside markup)
+
+  enters_begun : entries.Enters l 60 false (entries.move_at l 60) (Ok what.Nothing) begun
+  enters_begun = subst (λ (x : Move). entries.Enters l 60 false x (Ok what.Nothing) begun) (sym begins) (refl, refl)
+
+  short : (known : Bool) → known ≡ false → entries.is_long l known ≡ false
+  short known e = ap (λ x. x && nat_le (entries.token_from l.pending.mark l.place + l.setting.limits.tag) l.place.at) e
+
+  less_than_char : entries.ReadsAnswer l (60 ∷ []) (Char 60) (Ok what.Nothing) begun
+  less_than_char =
+      chosen (entries.is_long l (known_tags.is_tag l.pending.mark)) _ _ (short (known_tags.is_tag l.pending.mark) (ap known_tags.is_tag m))
+      (chosen (entries.is_passed l.place 60) _ _ (or_from _ _ (and_false (not l.place.started)) (and_false l.place.after_return))
+      (chosen (entries.is_long l (known_tags.is_tag_with l.setting.syntax l.setting.inside l.pending.mark (as_line_end 60))) _ _
+      (short (known_tags.is_tag_with l.setting.syntax l.setting.inside l.pending.mark (as_line_end 60)) (ap (λ (x : TokenState). known_tags.is_tag_with l.setting.syntax l.setting.inside x 60) m)) enters_begun))
+
+  pub less_than_read : entries.Reads l 60 (Ok what.Nothing) begun
+  less_than_read =
+      chosen (nat_le l.setting.limits.page l.place.at) _ _ (lt-leb l.setting.limits.page l.place.at page)
+      (subst (λ (x : List ℕ). entries.ReadsAnswer l (x ++ 60 ∷ []) (answer_of (x ++ 60 ∷ [])) (Ok what.Nothing) begun) (sym held)
+      (subst (λ (a : Utf8Step). entries.ReadsAnswer l (60 ∷ []) a (Ok what.Nothing) begun) (first_whole 60 (omega arith)) less_than_char))
+
+  -- and what stands whole behind it is the tag
+  pub behind_taken : (bytes : List ℕ) (limit n : ℕ) → ((setting : Setting) → OpensTag setting bytes) → limit ≤ length bytes
+      → (place : Position) → place ≡ places.begun false l.place → (0 < limit → place.at + limit ≤ l.setting.limits.page) → (0 < limit → place.at + limit ≤ place.token + l.setting.limits.tag)
+      → (p : Pending) → TakesWhole (no_tag l.pending.tag.syntax) (take limit bytes) n p.tag → p ≡ record { mark = l.pending.mark; run = []; tag = p.tag }
+      → (behind : Position) → behind ≡ fed (n - 1) place → (new : Reading) → new ≡ entries.with_tag (record { setting = l.setting; place = behind; held = l.held; pending = p; text = l.text; end = l.end }) false → ReadsBehind l bytes n new
+  behind_taken bytes limit n opens f place is page_is tag_is p t k behind b new e = record {
+    between = m;
+    held = held;
+    page = page;
+    markup = markup;
+    opened = taken_as begun p bytes limit n refl refl opens f (subst (λ (x : Position). 0 < limit → x.at + limit ≤ l.setting.limits.page) is page_is) (subst (λ (x : Position). 0 < limit → x.at + limit ≤ x.token + l.setting.limits.tag) is tag_is) t l.pending.mark k new behind (b ∙ ap (fed (n - 1)) is) e;
+  }
 
 get_behind : (bytes : List ℕ) (i n : ℕ) → get_or (drop i bytes) n 0 ≡ get_or bytes (i + n) 0
 get_behind bytes i n = grind (arith, common_steps)
 
--- behind so many bytes of a piece it is the next token
-pub tag_took : (old l new : Reading) (s : reader.Scanning) (piece : List ℕ) (i n : ℕ) → i ≤ length piece → ReadsOn old s (take i piece) l → (l.text.text ≡ []) ⊎ (l.pending.mark ≡ mark.Nothing) → ReadsWholeTag l (drop i piece) n new → Took old s piece (i + n) what.Tag new
-tag_took old l new s piece i n k r o t =
+-- behind so many bytes of a piece, of which the last one is its `<`, it is the next token
+opened_took : (old l new : Reading) (s : reader.Scanning) (piece : List ℕ) (i n : ℕ) → i ≤ length piece → ReadsOn old s (take i piece) l → l.text.text ≡ [] → ReadsOpened l (drop i piece) n new → Took old s piece (i + n) what.Tag new
+opened_took old l new s piece i n k r e t =
     let c = t.closes in
     let f = t.front.feeds in
     let inside : i + t.at < length piece = let q = c.fits in omega (arith, q, length-drop i piece, k) in
     let some : t.at ≡ 0 → ⊥ = λ z. none z t.front.begins in
     let front = front_read old t.before s l piece i t.at (let q = c.fits in omega (arith, q)) r (some_taken t.at _ _ some (of_opening t.front)) in
-    let text : t.before.text.text ≡ [] = ap (λ (x : Reading). x.text.text) f.is ∙ elim o [ inl e ↦ e | inr m ↦ absurd (not_between l new (drop i piece) n t m) ] in
+    let text : t.before.text.text ≡ [] = ap (λ (x : Reading). x.text.text) f.is ∙ e in
     let byte : get_or piece (i + t.at) 0 ≡ 62 = sym (get_behind piece i t.at) ∙ c.closes in
     let mark_is : t.before.pending.mark ≡ mark.Tag = ap (λ (x : Reading). x.pending.mark) f.is in
     let held_is : t.before.held ≡ [] = ap (λ (x : Reading). x.held) f.is in
@@ -183,11 +237,14 @@ tag_took old l new s piece i n k r o t =
     none : t.at ≡ 0 → OpensTag l.setting (take t.at (drop i piece)) → ⊥
     none z b = subst (λ (x : ℕ). OpensTag l.setting (take x (drop i piece))) z b
 
--- further on, where a slice is what is left
-pub tag_next : (old l new : Reading) (s : reader.Scanning) (piece : List ℕ) (i n : ℕ) → i ≤ length piece → ReadsOn old s (take i piece) l → (l.text.text ≡ []) ⊎ (l.pending.mark ≡ mark.Nothing)
-    → ReadsWholeTag l (take (length piece - i) (drop i piece)) n new → Took old s piece (i + n) what.Tag new
-tag_next old l new s piece i n k r o t = tag_took old l new s piece i n k r o (subst (λ (x : List ℕ). ReadsWholeTag l x n new) (take_rest piece i) t)
-
--- and at the first byte
+-- at the front of a piece
 pub tag_first : (old new : Reading) (s : reader.Scanning) (piece : List ℕ) (n : ℕ) → old.text.text ≡ [] → ReadsAs old s → ReadsWholeTag old piece n new → Took old s piece n what.Tag new
-tag_first old new s piece n e h t = subst (λ (x : ℕ). Took old s piece x what.Tag new) (omega arith) (tag_took old old new s piece 0 n (omega arith) (reads_none old s e h) (inl e) t)
+tag_first old new s piece n e h t =
+    let b = t.reads in
+    let first : get_or piece 0 0 ≡ 60 = ap (λ (x : List ℕ). get_or x 0 0) t.opens in
+    let rest : drop 1 piece ≡ t.rest = ap (λ (x : List ℕ). drop 1 x) t.opens in
+    let some : 0 < length piece = subst (λ (x : List ℕ). 0 < length x) (sym t.opens) (omega arith) in
+    let reads = subst (λ (x : ℕ). entries.Reads old x (Ok what.Nothing) (begun old b.between b.held b.page b.markup)) (sym first) (less_than_read old b.between b.held b.page b.markup) in
+    let on = next_read old old (begun old b.between b.held b.page b.markup) s piece 0 some (reads_none old s e h) what.Nothing refl reads in
+    let took = opened_took old (begun old b.between b.held b.page b.markup) new s piece 1 t.behind (omega (arith, some)) on e (subst (λ (x : List ℕ). ReadsOpened (begun old b.between b.held b.page b.markup) x t.behind new) (sym rest) b.opened) in
+    subst (λ (x : ℕ). Took old s piece x what.Tag new) (omega (arith, t.count)) took

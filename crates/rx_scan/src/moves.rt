@@ -40,7 +40,8 @@ pub fn move_of(syntax: Syntax, inside: Content, mark: TokenState, c: char) -> Mo
     }
 }
 
-fn has_markup(inside: Content) -> bool
+/// Whether markup may stand in the content.
+pub(crate) fn has_markup(inside: Content) -> bool
     ensures { result ≡ spelling.has_markup inside }
 {
     !matches!(inside, Content::Raw(_) | Content::Rcdata(_))

@@ -127,14 +127,20 @@ impl Unfinished {
         self.tag.take_front(bytes)
     }
 
-    /// A tag that stands whole at the front of some bytes. Tells how many bytes it has, and 0 where none does.
+    /// A tag that stands whole at the front of some bytes, where nothing was read of one. Tells how many bytes it has, and 0 where
+    /// none does.
     #[inline(always)]
     pub(crate) fn take_whole(&mut self, bytes: &[u8]) -> usize
         ensures none { result ≡ 0 → self.new ≡ self.old }
-        ensures takes { 0 < result → TakesWhole self.old.tag bytes.now result self.new.tag }
-        ensures kept { self.new ≡ record self.old { tag = self.new.tag } }
+        ensures takes { 0 < result → TakesWhole (no_tag self.old.tag.syntax) bytes.now result self.new.tag }
+        ensures kept { 0 < result → self.new ≡ record { mark = self.old.mark; run = []; tag = self.new.tag } }
     {
-        self.tag.take_whole(bytes)
+        let count = self.tag.take_whole(bytes);
+        if count == 0 {
+            return 0;
+        }
+        self.run.clear();
+        count
     }
 
     /// Whether the tag is an end tag.

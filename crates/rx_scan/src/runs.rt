@@ -43,6 +43,13 @@ impl Reader {
         self.pending.mark() != TokenState::Nothing || self.text.len() > ROOM - 4
     }
 
+    // Whether text is to be handed out before this byte, with which a tag may begin: then the tag is taken as a whole.
+    fn ends_text(&self, byte: u8) -> bool
+        ensures { result ≡ true → self.now.text.text ≢ [] }
+    {
+        byte == b'<' && !self.text.is_empty()
+    }
+
     // What the piece tells at its end.
     fn rest(&self) -> TokenKind
         ensures text { result ≡ TokenKind.Text → self.now.text.text ≢ [] }
@@ -75,6 +82,9 @@ impl Reader {
         }
         let mut taken = self.take_front(piece);
         while taken < piece.len() {
+            if self.ends_text(piece[taken]) {
+                return Ok((taken, TokenKind::Text));
+            }
             match self.read(piece[taken]) {
                 Err(stop) => return self.stopped(taken, stop),
                 Ok(what) => {
@@ -86,10 +96,6 @@ impl Reader {
             }
             if self.must_show() {
                 return Ok((taken, TokenKind::Text));
-            }
-            let count = self.take_tag(&piece[taken..]);
-            if count > 0 {
-                return Ok((taken + count, TokenKind::Tag));
             }
             taken += self.take_front(&piece[taken..]);
         }

@@ -118,6 +118,7 @@ impl TagBuf {
     pub fn take_whole(&mut self, bytes: &[u8]) -> usize
         ensures none { result ≡ 0 → self.new ≡ self.old }
         ensures takes { 0 < result → TakesWhole self.old bytes.now result self.new }
+        ensures fresh { 0 < result → self.old ≡ no_tag self.old.syntax }
         ensures tells { 0 < result → (chars : Chars) → TagStands self.old chars → SpellsTag self.new.syntax (chars ++ take result bytes.now) (parts_of self.new.state) }
     {
         self.read_whole(bytes)
@@ -127,7 +128,11 @@ impl TagBuf {
     fn read_whole(&mut self, bytes: &[u8]) -> usize
         ensures none { result ≡ 0 → self.new ≡ self.old }
         ensures takes { 0 < result → TakesWhole self.old bytes.now result self.new }
+        ensures fresh { 0 < result → self.old ≡ no_tag self.old.syntax }
     {
+        if self.refused {
+            return 0;
+        }
         self.text.take_tag(bytes)
     }
 

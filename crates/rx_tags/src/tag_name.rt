@@ -43,6 +43,13 @@ impl TagName {
         self.text.clear();
     }
 
+    /// Whether nothing of the name was read.
+    pub(crate) fn is_empty(&self) -> bool
+        ensures { result ≡ true → self.now ≡ [] }
+    {
+        self.text.is_empty()
+    }
+
     /// One more character.
     pub(crate) fn push(&mut self, c: char) -> Result<(), NoMemory>
         ensures ok { OnOk result (self.new ≡ self.old ++ c ∷ []) }

@@ -388,6 +388,7 @@ impl TagText {
 impl TagText {
     ghost use Rattle.std.specs.Prelude.{◌<◌, get_or};
     ghost use Rattle.rx_terms.specs.Ascii.{solidus};
+    ghost use Rattle.rx_reader.specs.TagReader.{fresh};
     ghost use Rattle.rx_tags.specs.Lists.{IsBegun, TakesTag};
 
     /// Takes a tag that stands whole at the front in its usual form, where nothing was read before and there is memory, and
@@ -396,9 +397,13 @@ impl TagText {
     pub(crate) fn take_tag(&mut self, bytes: &[u8]) -> usize
         ensures none { result ≡ 0 → self.new ≡ self.old }
         ensures takes { 0 < result → TakesTag self.old bytes.now result self.new.state }
+        ensures fresh { 0 < result → self.old.state ≡ fresh }
         ensures syntax { self.new.syntax ≡ self.old.syntax }
     {
         if self.phase != TagPhase::Start {
+            return 0;
+        }
+        if !self.name.is_empty() {
             return 0;
         }
         if !self.pairs.are_none() {

@@ -10,7 +10,7 @@ use Rattle.rx_scan.proofs.RunLemmas.{took_text}
 use Rattle.rx_scan.proofs.LoopLemmas.{next_read, token_read, stopped, rest_took, lends, may_step}
 use Rattle.rx_scan.proofs.QuietLemmas.{quiet_tells, quiet_at, between_tells, stopped_tells, other_tells}
 use Rattle.rx_scan.proofs.FrontLemmas.{IsKept, kept, quiet_on, apart_on, later_on, front_first, front_next, front_within}
-use Rattle.rx_scan.proofs.WholeTagLemmas.{tag_first, tag_next, lends_tag, keeps_text, not_between}
+use Rattle.rx_scan.proofs.WholeTagLemmas.{tag_first, lends_tag, keeps_text, not_quiet}
 use Rattle.rx_scan.proofs.readers.Reader.run.Goals as goal
 
 pub returns-then-whole-gt0-clause-runs : goal.returns-then-whole-gt0-clause-runs
@@ -26,7 +26,7 @@ returns-then-whole-gt0-clause-ready c =
 
 pub returns-then-whole-gt0-clause-quiet_tells : goal.returns-then-whole-gt0-clause-quiet_tells
 returns-then-whole-gt0-clause-quiet_tells c =
-    λ m q. absurd (not_between c.args.self.now c.take_tag-whole.new.self c.args.piece.now c.take_tag-whole.result (c.take_tag-whole.ensures.takes c.if-whole-gt0.true) m)
+    λ m q. absurd (not_quiet c.args.self.now c.take_tag-whole.new.self c.args.piece.now c.take_tag-whole.result (c.take_tag-whole.ensures.takes c.if-whole-gt0.true) q)
 
 pub loop-taken-init : goal.loop-taken-init
 loop-taken-init c =
@@ -69,25 +69,10 @@ pub returns-then-is_token-clause-quiet_tells : goal.returns-then-is_token-clause
 returns-then-is_token-clause-quiet_tells c =
     λ m q. between_tells c.loop-taken.self c.read.new.self (get_or c.args.piece.now c.loop-taken.taken 0) c.in-Ok.what (c.loop-taken.invariant.quiet m q) c.in-Ok.ensures.reads
 
-pub returns-then-count-gt0-clause-runs : goal.returns-then-count-gt0-clause-runs
-returns-then-count-gt0-clause-runs c =
-    let not_token = sym c.is_token.ensures ∙ c.if-is_token.false in
-    λ s h. tag_next c.args.self.now c.read.new.self c.take_tag-count.new.self s c.args.piece.now (c.loop-taken.taken + 1) c.take_tag-count.result (omega (arith, c.loop-taken-test.true))
-    (next_read c.args.self.now c.loop-taken.self c.read.new.self s c.args.piece.now c.loop-taken.taken c.loop-taken-test.true (c.loop-taken.invariant.so_far s h) c.in-Ok.what not_token c.in-Ok.ensures.reads)
-    (c.must_show.ensures.apart c.if-must_show.false) (c.take_tag-count.ensures.takes c.if-count-gt0.true)
-
-pub returns-then-count-gt0-clause-ready : goal.returns-then-count-gt0-clause-ready
-returns-then-count-gt0-clause-ready c =
-    let t = c.take_tag-count.ensures.takes c.if-count-gt0.true in
-    let same = keeps_text c.read.new.self c.take_tag-count.new.self _ c.take_tag-count.result t in (
-      lends_tag c.read.new.self c.take_tag-count.new.self _ c.take_tag-count.result t,
-      subst (λ (x : Buffered). 4096 ≤ x.room) (sym same) (omega (arith, c.loop-taken.invariant.room, c.in-Ok.ensures.ready.room)),
-    )
-
-pub returns-then-count-gt0-clause-quiet_tells : goal.returns-then-count-gt0-clause-quiet_tells
-returns-then-count-gt0-clause-quiet_tells c =
-    λ m q. absurd (not_between c.read.new.self c.take_tag-count.new.self _ c.take_tag-count.result (c.take_tag-count.ensures.takes c.if-count-gt0.true)
-    (quiet_tells c.loop-taken.self c.read.new.self (get_or c.args.piece.now c.loop-taken.taken 0) c.in-Ok.what (c.loop-taken.invariant.quiet m q) (quiet_at c.args.piece.now c.loop-taken.taken c.loop-taken-test.true q) c.in-Ok.ensures.reads))
+pub returns-then-ends_text-clause-runs : goal.returns-then-ends_text-clause-runs
+returns-then-ends_text-clause-runs c =
+    let some = c.ends_text.ensures c.if-ends_text.true in
+    λ s h. took_text c.args.self.now c.loop-taken.self s c.args.piece.now c.loop-taken.taken (omega (arith, c.loop-taken-test.true)) (c.loop-taken.invariant.later some) (c.loop-taken.invariant.so_far s h) some
 
 pub loop-taken-preserved : goal.loop-taken-preserved
 loop-taken-preserved c =
@@ -96,9 +81,8 @@ loop-taken-preserved c =
     let l = c.read.new.self in
     let new = c.take_front-taken-in-loop-taken.new.self in
     let told = c.take_front-taken-in-loop-taken.ensures in
-    let same : c.take_tag-count.new.self ≡ l = c.take_tag-count.ensures.none (omega (arith, c.if-count-gt0.false)) in
     let front = take n (take (length c.args.piece.now - i) (drop i c.args.piece.now)) in
-    let takes = subst (λ (x : Reading). MatchBool (n == 0) (new ≡ x) (TakesFront x front new)) same told.takes in
+    let takes = told.takes in
     let k : IsKept l n new = kept l new front n takes in
     let not_token = sym c.is_token.ensures ∙ c.if-is_token.false in
     record {
