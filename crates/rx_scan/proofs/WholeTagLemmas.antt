@@ -1,7 +1,7 @@
 -- A tag that is taken whole is read like its bytes one after another.
-use Rattle.std.proofs.Common.{◌≡◌, ◌∙◌, ℕ, ◌+◌, ◌-◌, ◌≤◌, ◌<◌, Bool, true, false, List, [], ◌∷◌, ◌++◌, length, take, drop, refl, ap, sym, subst, inl, Ok, arith, get_or, length-take-le, length-drop}
+use Rattle.std.proofs.Common.{◌≡◌, ◌∙◌, ℕ, ◌+◌, ◌-◌, ◌≤◌, ◌<◌, Bool, true, false, List, [], ◌∷◌, ◌++◌, length, take, drop, refl, ap, sym, subst, inl, Ok, arith, get_or, length-take-le, length-drop, Some, zero, suc}
 use Rattle.std.specs.List.{list_all}
-use Rattle.std.specs.Prelude.{◌&&◌, not, nat_le}
+use Rattle.std.specs.Prelude.{◌&&◌, not, nat_le, slice_get}
 use Rattle.std.proofs.lemmas.Bool.{lt-leb, or_from}
 use Rattle.std.proofs.lemmas.Grind.{common_steps}
 use Rattle.rx_chars.specs.Characters.{as_line_end}
@@ -38,7 +38,7 @@ use Rattle.rx_scan.specs.Places as places
 use Rattle.rx_scan.specs.Places.{fed}
 use Rattle.rx_scan.specs.Scanner.{Reading}
 use Rattle.rx_scan.specs.Steps.{ReadsAs, Took, is_quiet}
-use Rattle.rx_scan.specs.WholeTags.{ReadsOpened, ReadsBehind, ReadsWholeTag}
+use Rattle.rx_scan.specs.WholeTags.{ReadsOpened, ReadsWholeTag}
 use Rattle.rx_scan.proofs.FeedLemmas.{chosen}
 use Rattle.rx_scan.proofs.FrontLemmas.{front_read}
 use Rattle.rx_scan.proofs.LoopLemmas.{next_read, token_read}
@@ -173,6 +173,15 @@ opens_markup content.Strict h = refl
 opens_markup (content.Raw name) h = absurd (cc)
 opens_markup (content.Rcdata name) h = absurd (cc)
 
+first_is : (bytes : List ℕ) (c : ℕ) → slice_get bytes 0 ≡ Some c → bytes ≡ c ∷ drop 1 bytes
+first_is [] c e = absurd (cc)
+first_is (x ∷ bytes) c e = let q : x ≡ c = cc in ap (λ (y : ℕ). y ∷ bytes) q
+
+opens_more : (setting : Setting) (n : ℕ) (bytes : List ℕ) → OpensTag setting (take n bytes) → OpensTag setting bytes
+opens_more setting zero bytes o = absurd o
+opens_more setting (suc n) [] o = o
+opens_more setting (suc n) (x ∷ bytes) o = o
+
 -- the `<` of a tag is read where no token is begun
 module _ (l : Reading) (m : l.pending.mark ≡ mark.Nothing) (held : l.held ≡ []) (page : l.place.at < l.setting.limits.page) (markup : has_markup l.setting.inside ≡ true) where
   abbrev begun : Reading
@@ -203,16 +212,23 @@ module _ (l : Reading) (m : l.pending.mark ≡ mark.Nothing) (held : l.held ≡ 
       (subst (λ (a : Utf8Step). entries.ReadsAnswer l (60 ∷ []) a (Ok what.Nothing) begun) (first_whole 60 (omega arith)) less_than_char))
 
   -- and what stands whole behind it is the tag
-  pub behind_taken : (bytes : List ℕ) (limit n : ℕ) → ((setting : Setting) → OpensTag setting bytes) → limit ≤ length bytes
-      → (place : Position) → place ≡ places.begun false l.place → (0 < limit → place.at + limit ≤ l.setting.limits.page) → (0 < limit → place.at + limit ≤ place.token + l.setting.limits.tag)
-      → (p : Pending) → TakesWhole (no_tag l.pending.tag.syntax) (take limit bytes) n p.tag → p ≡ record { mark = l.pending.mark; run = []; tag = p.tag }
-      → (behind : Position) → behind ≡ fed (n - 1) place → (new : Reading) → new ≡ entries.with_tag (record { setting = l.setting; place = behind; held = l.held; pending = p; text = l.text; end = l.end }) false → ReadsBehind l bytes n new
-  behind_taken bytes limit n opens f place is page_is tag_is p t k behind b new e = record {
-    between = m;
-    held = held;
-    page = page;
-    markup = markup;
-    opened = taken_as begun p bytes limit n refl refl opens f (subst (λ (x : Position). 0 < limit → x.at + limit ≤ l.setting.limits.page) is page_is) (subst (λ (x : Position). 0 < limit → x.at + limit ≤ x.token + l.setting.limits.tag) is tag_is) t l.pending.mark k new behind (b ∙ ap (fed (n - 1)) is) e;
+  pub whole_taken : (bytes : List ℕ) (limit count : ℕ) → slice_get bytes 0 ≡ Some 60 → (limit ≡ 0 → ⊥) → limit ≤ length bytes → l.place.at + limit ≤ l.setting.limits.page → limit ≤ l.setting.limits.tag
+      → l.place.starts ≡ l.place.at → ((setting : Setting) → OpensTag setting (take (limit - 1) (drop 1 bytes)))
+      → (p : Pending) → TakesWhole (no_tag l.pending.tag.syntax) (take (limit - 1) (drop 1 bytes)) count p.tag → p ≡ record { mark = l.pending.mark; run = []; tag = p.tag }
+      → (place : Position) → place ≡ fed (count - 1) (places.begun false l.place) → (new : Reading) → new ≡ entries.with_tag (record { setting = l.setting; place = place; held = l.held; pending = p; text = l.text; end = l.end }) false
+      → ReadsWholeTag l bytes (count + 1) new
+  whole_taken bytes limit count first some f page_is tag_is starts opens p t k place b new e = record {
+    rest = drop 1 bytes;
+    opens = first_is bytes 60 first;
+    behind = count;
+    count = refl;
+    reads = record {
+      between = m;
+      held = held;
+      page = page;
+      markup = markup;
+      opened = taken_as begun p (drop 1 bytes) (limit - 1) count refl refl (λ setting. opens_more setting (limit - 1) (drop 1 bytes) (opens setting)) (omega (arith, f, some, length-drop 1 bytes)) (λ _. omega (arith, page_is, some)) (λ _. omega (arith, tag_is, starts, some)) t l.pending.mark k new place b e;
+    };
   }
 
 get_behind : (bytes : List ℕ) (i n : ℕ) → get_or (drop i bytes) n 0 ≡ get_or bytes (i + n) 0

@@ -8,11 +8,10 @@ ghost use Rattle.rx_scan.specs.declared.places.Setting.{Setting};
 
 use crate::bytes::is_of_tag;
 use crate::marks::TokenState;
-use crate::places::Position;
 use crate::plain::plain_text;
 use crate::readers::Reader;
 use crate::runs::ROOM;
-use rx_grammar::{Content, Limits};
+use rx_grammar::Content;
 
 // Outside the root white space alone is text.
 fn has_text(inside: Content) -> bool
@@ -21,8 +20,8 @@ fn has_text(inside: Content) -> bool
     inside != Content::Outside
 }
 
-// The lesser of both.
-fn at_most(most: u64, length: usize) -> usize
+/// The lesser of both.
+pub(crate) fn at_most(most: u64, length: usize) -> usize
     ensures most { result ≤ most }
     ensures fits { result ≤ length }
 {
@@ -39,19 +38,6 @@ fn left_of(most: u64, taken: u64) -> u64
     ensures place { 0 < result → taken + result < 2 ^ 64 }
 {
     most.saturating_sub(taken)
-}
-
-/// How many bytes of a tag are past neither the page's limit nor the tag's.
-pub(crate) fn tag_limit(place: Position, limits: Limits, length: usize) -> usize
-    ensures fits { result ≤ length }
-    ensures page { 0 < result → place.at + result ≤ limits.page }
-    ensures tag { 0 < result → place.at + result ≤ place.token + limits.tag }
-    ensures room { place.at + result < 2 ^ 64 }
-{
-    let read = place.at.saturating_sub(place.token);
-    let tag = limits.tag.saturating_sub(read);
-    let rest = limits.page.saturating_sub(place.at);
-    at_most(tag, at_most(rest, length))
 }
 
 /// Whether the first byte behind a `<` surely begins a tag.
@@ -85,6 +71,19 @@ impl Reader {
         }
     }
 
+    /// How many bytes of a tag are past neither the page's limit nor the tag's.
+    pub(crate) fn tag_limit(&self, length: usize) -> usize
+        ensures fits { result ≤ length }
+        ensures page { 0 < result → self.now.place.at + result ≤ self.now.setting.limits.page }
+        ensures tag { 0 < result → self.now.place.at + result ≤ self.now.place.token + self.now.setting.limits.tag }
+        ensures room { self.now.place.at + result < 2 ^ 64 }
+    {
+        let read = self.place.at.saturating_sub(self.place.token);
+        let tag = self.setting.limits.tag.saturating_sub(read);
+        let rest = self.setting.limits.page.saturating_sub(self.place.at);
+        at_most(tag, at_most(rest, length))
+    }
+
     // Takes the characters at the front with which the tag goes on, and tells how many.
     #[inline(never)]
     fn feed_front(&mut self, bytes: &[u8]) -> usize
@@ -97,7 +96,7 @@ impl Reader {
         if !self.utf8.is_whole() {
             return 0;
         }
-        let limit = tag_limit(self.place, self.setting.limits, bytes.len());
+        let limit = self.tag_limit(bytes.len());
         let count = self.pending.feed_front(&bytes[..limit]);
         if count == 0 {
             return 0;
