@@ -89,6 +89,8 @@ impl RdfaListener {
         })
     }
 
+    // It stands apart, so that texts and ends, which are told here too, need no room for what a tag says.
+    #[inline(never)]
     fn begin(&mut self, tag: &Tag<'_>) -> Result<(), Stop>
         requires { MayHear self.old (begun (tag_shown tag.now) ∷ []) }
         ensures { HearsOn self.old (begun (tag_shown tag.now) ∷ []) result self.new }
@@ -134,7 +136,7 @@ impl Listener for RdfaListener {
 
     ghost idle = { λ course. IsIdle course.stage };
 
-    #[inline]
+    #[inline(always)]
     fn hear(&mut self, event: Event<'_>) -> Result<(), Stop> {
         match event {
             Event::More | Event::Skipped => Ok(()),
