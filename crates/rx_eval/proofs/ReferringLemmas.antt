@@ -23,7 +23,8 @@ use Rattle.rx_eval.specs.Opening.{drawn_after}
 use Rattle.rx_eval.specs.OwnersSeen.{Owning, owning, open_seen, cells_seen, ended_by, ended, forgotten_seen}
 use Rattle.rx_eval.specs.Places.{level_at, standing_by}
 use Rattle.rx_eval.specs.declared.places.Level.{Level}
-use Rattle.rx_eval.specs.Referring.{says_no_more, reference_in, only_reference, referring_context, referring_frame, referred_by, with_pending, is_named, LetsWait, MayWait, IsKept}
+use Rattle.rx_eval.specs.ElementResources.{claims_nothing}
+use Rattle.rx_eval.specs.Referring.{says_no_more, reference_in, only_reference, referring_context, referring_frame, referred_by, with_pending, is_iri, LetsWait, MayWait, IsKept}
 use Rattle.rx_eval.specs.declared.pending.Pending.{Pending}
 use Rattle.rx_eval.specs.Skipping.{skipped_frame, skipped_frames}
 use Rattle.rx_eval.specs.States.{State, Frame}
@@ -153,12 +154,12 @@ record SaysNoMore (facts : Facts) : Type 0 where
 
 no_more : (facts : Facts) → says_no_more facts ≡ true → SaysNoMore facts
 no_more facts h =
-    let rev = both (is_none facts.rev) _ h in
-    let rel = both (is_none facts.rel) _ rev.1 in
-    let property = both (is_none facts.property) _ rel.1 in
+    let parts = both (claims_nothing facts) _ h in
+    let rel = both (is_none facts.rel) _ parts.0 in
+    let rev = both (is_none facts.rev) _ rel.1 in
+    let property = both (is_none facts.property) _ rev.1 in
     let types = both (is_none facts.types) _ property.1 in
-    let vocab = both (is_none facts.vocab) _ types.1 in
-    let about = both (is_none facts.about) _ vocab.1 in
+    let about = both (is_none facts.about) _ parts.1 in
     let resource = both (is_none facts.resource) _ about.1 in
     record {
       about = none_is facts.about about.0;
@@ -168,7 +169,7 @@ no_more facts h =
       rev = none_is facts.rev rev.0;
       property = none_is facts.property property.0;
       types = none_is facts.types types.0;
-      vocab = none_is facts.vocab vocab.0;
+      vocab = none_is facts.vocab types.1;
     }
 
 reference_is : (href : Option Ref) (reference : Chars) → reference_in href ≡ Some reference → href ≡ Some (RelativeRef reference)
@@ -190,7 +191,7 @@ opens_referring old facts reference o e = by_test (says_no_more facts) (λ t. al
 -- ---- its frame among the others
 
 -- no number is drawn inside
-draws_none : (around : Inherited ℕ ℕ) (n : ℕ) (subject : Node ℕ) (drawn : ℕ) → is_named subject ≡ true → drawn ≡ drawn_after (referring_context around n subject) drawn
+draws_none : (around : Inherited ℕ ℕ) (n : ℕ) (subject : Node ℕ) (drawn : ℕ) → is_iri subject ≡ true → drawn ≡ drawn_after (referring_context around n subject) drawn
 draws_none around n (Iri iri) drawn h = refl
 draws_none around n (Blank b) drawn h = absurd (cc h)
 
@@ -229,7 +230,7 @@ module _ (node : Node ℕ) (old : State) where
       ∙ ap (λ (c : Inherited ℕ ℕ). frames n ++ skipped_frame c ∷ []) (sym (hands_referring n))
 
   -- one more in it of which nothing is said
-  pub skips_referring : is_named node ≡ true → (n : ℕ) → referred_by node (suc n) old ≡ skipped_state (referred_by node n old)
+  pub skips_referring : is_iri node ≡ true → (n : ℕ) → referred_by node (suc n) old ≡ skipped_state (referred_by node n old)
   skips_referring h n =
       ap₂ (λ (fs : List Frame) (d : ℕ). record (referred_by node n old) { frames = fs; drawn = d }) (more_frames n)
       (draws_none around (length old.owners) node old.drawn h ∙ ap (λ (c : Inherited ℕ ℕ). drawn_after c old.drawn) (sym (hands_referring n)))

@@ -9,7 +9,7 @@ use Rattle.rx_rdfa.specs.Facts.{Facts}
 use Rattle.rx_rdfa.specs.Renaming.{labels}
 use Rattle.rx_rdfa.specs.Resources.{Inherited, Standing, Resources, resources, is_root}
 use Rattle.rx_rdfa.specs.Element.{start_of}
-use Rattle.rx_eval.specs.ElementResources.{says_nothing}
+use Rattle.rx_eval.specs.ElementResources.{claims_nothing, says_nothing}
 use Rattle.rx_eval.specs.Labels.{Numbered, draw}
 use Rattle.rx_eval.specs.Moment.{moment}
 use Rattle.rx_eval.specs.Places.{level_at, path_at, standing_by}
@@ -38,12 +38,12 @@ record Silent (facts : Facts) : Type 0 where
 
 silent : (facts : Facts) → says_nothing facts ≡ true → Silent facts
 silent facts h =
-    let rel = both (is_none facts.rel) _ h in
+    let parts = both (claims_nothing facts) _ h in
+    let rel = both (is_none facts.rel) _ parts.0 in
     let rev = both (is_none facts.rev) _ rel.1 in
     let property = both (is_none facts.property) _ rev.1 in
     let types = both (is_none facts.types) _ property.1 in
-    let vocab = both (is_none facts.vocab) _ types.1 in
-    let about = both (is_none facts.about) _ vocab.1 in
+    let about = both (is_none facts.about) _ parts.1 in
     let resource = both (is_none facts.resource) _ about.1 in
     let href = both (is_none facts.href) _ resource.1 in
     record {
@@ -55,7 +55,7 @@ silent facts h =
       rev = none_is facts.rev rev.0;
       property = none_is facts.property property.0;
       types = none_is facts.types types.0;
-      vocab = none_is facts.vocab vocab.0;
+      vocab = none_is facts.vocab types.1;
     }
 
 no_labels : (facts : Facts) → Silent facts → labels facts ≡ []

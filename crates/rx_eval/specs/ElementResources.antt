@@ -18,11 +18,13 @@ linked_ref facts = option_or facts.resource (option_or facts.href facts.src)
 abbrev pub names_nothing : Facts → Bool
 names_nothing facts = is_none facts.about && (is_none facts.resource && (is_none facts.href && is_none facts.src))
 
+-- no attribute has predicates, types or a vocabulary
+abbrev pub claims_nothing : Facts → Bool
+claims_nothing facts = is_none facts.rel && (is_none facts.rev && (is_none facts.property && (is_none facts.types && is_none facts.vocab)))
+
 -- of an element with these facts nothing is said
 abbrev pub says_nothing : Facts → Bool
-says_nothing facts =
-    is_none facts.rel
-    && (is_none facts.rev && (is_none facts.property && (is_none facts.types && (is_none facts.vocab && names_nothing facts))))
+says_nothing facts = claims_nothing facts && names_nothing facts
 
 -- the new node of the element
 abbrev pub fresh_node : Surroundings → Node ℕ

@@ -6,6 +6,7 @@ use Rattle.rx_model.specs.Seen.{node_seen}
 use Rattle.rx_model.specs.Terms.{Node, Iri, Blank, same_node}
 use Rattle.rx_rdfa.specs.Facts.{Facts, Ref, IriRef, LabelRef, RelativeRef}
 use Rattle.rx_rdfa.specs.Resources.{Inherited}
+use Rattle.rx_eval.specs.ElementResources.{claims_nothing}
 use Rattle.rx_eval.specs.OwnersSeen.{ended}
 use Rattle.rx_eval.specs.Entering.{begun_seen, owner_begun}
 use Rattle.rx_eval.specs.Keeping.{gathers_some}
@@ -16,10 +17,7 @@ use Rattle.rx_eval.specs.declared.pending.Pending.{Pending}
 
 -- nothing is said, but for what href refers to
 abbrev pub says_no_more : Facts → Bool
-says_no_more facts =
-    is_none facts.rev
-    && (is_none facts.rel
-    && (is_none facts.property && (is_none facts.types && (is_none facts.vocab && (is_none facts.about && (is_none facts.resource && is_none facts.src))))))
+says_no_more facts = claims_nothing facts && (is_none facts.about && (is_none facts.resource && is_none facts.src))
 
 abbrev pub reference_in : Option Ref → Option Chars
 reference_in None = None
@@ -74,14 +72,14 @@ pub record LetsWait (state : State) : Type 0 where
   pub quiet : gathers_some state.frames ≡ false → state.kept ≡ []
 
 -- this is an IRI
-abbrev pub is_named : Node ℕ → Bool
-is_named (Iri iri) = true
-is_named (Blank n) = false
+abbrev pub is_iri : Node ℕ → Bool
+is_iri (Iri iri) = true
+is_iri (Blank n) = false
 
 -- an element that refers to this may wait inside the last frame, with so many in it
 pub record MayWait (subject : Node ℕ) (inside : ℕ) (state : State) : Type 0 where
   pub lets : LetsWait state
-  pub iri : is_named subject ≡ true
+  pub iri : is_iri subject ≡ true
   pub room : length state.frames + 1 + inside ≤ state.levels
 
 -- an element that waits may do so

@@ -51,6 +51,7 @@ impl Eval {
         ensures frames { result ≡ length self.now.frames }
         ensures stands { (to : Numbering) (list : List Call) → EvaluatorStands to list self.now → result ≡ length (line_after list no_line).facts }
     {
+        // No more elements are open than levels, whose number has 32 bits.
         let _levels = self.stack.levels();
         match &self.pending {
             Some(pending) => self.stack.depth() + 1 + pending.inside,
@@ -65,7 +66,7 @@ impl Eval {
         ensures stands { (to : Numbering) (list : List Call) → EvaluatorStands to list self.now → ShowsAfter to self.now.base list result }
     {
         match &self.pending {
-            Some(pending) => referring(&pending.subject),
+            Some(pending) => inside_referring(&pending.subject),
             None => self.stack.inherited(),
         }
     }
@@ -156,7 +157,7 @@ impl Eval {
 }
 
 /// The context inside an element that says no more than what it refers to.
-fn referring(subject: &Node) -> Inherited<'_>
+fn inside_referring(subject: &Node) -> Inherited<'_>
     ensures subject { node_seen result.subject.now ≡ node_seen subject.now }
     ensures object { node_seen result.object.now ≡ node_seen subject.now }
     ensures hanging { waits result ≡ [] }

@@ -49,6 +49,7 @@ fn open_silent(stack: &mut Stack, pending: &mut Option<Pending>)
     ensures state { with_pending pending.new stack.new ≡ skipped_state (with_pending pending.old stack.old) }
     ensures kept { IsKept pending.new stack.new }
 {
+    // Elements that are open have levels, whose number has 32 bits.
     let _levels = stack.levels();
     match pending {
         Some(pending) => pending.inside += 1,

@@ -3,7 +3,7 @@ ghost use Rattle.std.specs.Prelude.{◌≡◌, ◌&&◌, IfOk, option_map, optio
 ghost use Rattle.rx_model.specs.Seen.{node_seen};
 ghost use Rattle.rx_rdfa.specs.Resources.{has_link, is_plain_property, resource_named, linked_resource, default_subject, of_link, of_property, of_no_link, resources, is_root_child, is_head_or_body};
 ghost use Rattle.rx_curie.specs.Seen.{ref_seen, facts_seen};
-ghost use Rattle.rx_eval.specs.ElementResources.{names_nothing, says_nothing, linked_ref, fresh_node, page_node, property_type, found_seen};
+ghost use Rattle.rx_eval.specs.ElementResources.{claims_nothing, names_nothing, says_nothing, linked_ref, fresh_node, page_node, property_type, found_seen};
 ghost use Rattle.rx_eval.specs.Places.{path_at, naming, ruled};
 ghost use Rattle.rx_eval.specs.Referring.{says_no_more, only_reference};
 
@@ -56,17 +56,24 @@ fn names_nothing(facts: &Facts) -> bool
     facts.about.is_none() && facts.resource.is_none() && facts.href.is_none() && facts.src.is_none()
 }
 
-/// Whether an element with these facts says nothing. Below the root such a one is skipped, adds no triple and has no label.
+/// Whether no attribute has predicates, types or a vocabulary.
 #[inline(always)]
-pub fn says_nothing(facts: &Facts) -> bool
-    ensures { result ≡ says_nothing (facts_seen facts.now) }
+fn claims_nothing(facts: &Facts) -> bool
+    ensures { result ≡ claims_nothing (facts_seen facts.now) }
 {
     facts.rel.is_none()
         && facts.rev.is_none()
         && facts.property.is_none()
         && facts.types.is_none()
         && facts.vocab.is_none()
-        && names_nothing(facts)
+}
+
+/// Whether an element with these facts says nothing. Below the root such a one is skipped, adds no triple and has no label.
+#[inline(always)]
+pub fn says_nothing(facts: &Facts) -> bool
+    ensures { result ≡ says_nothing (facts_seen facts.now) }
+{
+    claims_nothing(facts) && names_nothing(facts)
 }
 
 /// Whether an element with these facts says nothing, but for what `href` refers to.
@@ -74,11 +81,7 @@ pub fn says_nothing(facts: &Facts) -> bool
 fn says_no_more(facts: &Facts) -> bool
     ensures { result ≡ says_no_more (facts_seen facts.now) }
 {
-    facts.rev.is_none()
-        && facts.rel.is_none()
-        && facts.property.is_none()
-        && facts.types.is_none()
-        && facts.vocab.is_none()
+    claims_nothing(facts)
         && facts.about.is_none()
         && facts.resource.is_none()
         && facts.src.is_none()

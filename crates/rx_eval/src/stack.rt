@@ -284,6 +284,7 @@ impl Stack {
         requires level { length self.old.frames < self.old.levels }
         ensures { self.new ≡ skipped_state self.old }
     {
+        // Elements that are open have levels, whose number has 32 bits.
         let _levels = self.levels;
         let context = around(&self.page, self.frames.as_slice());
         self.drawn = next_number(context, self.drawn);
@@ -298,6 +299,7 @@ impl Stack {
         requires level { length self.old.frames < self.old.levels }
         ensures { OnOk result (Opens self.old (facts_seen facts.now) self.new) }
     {
+        // Elements that are open have levels, whose number has 32 bits.
         let _levels = self.levels;
         let fresh = draw_labels(&mut self.labels, facts, self.drawn)?;
         let frames = self.frames.as_slice();
@@ -338,11 +340,12 @@ impl Stack {
         requires level { length self.old.frames + 1 + inside ≤ self.old.levels }
         ensures { OnOk result (self.new ≡ referred_by (node_seen subject) inside self.old) }
     {
+        // Elements that are open have levels, whose number has 32 bits.
         let _levels = self.levels;
         let frames = self.frames.as_slice();
         let place = frames.len();
         let around = around(&self.page, frames);
-        let frame = referring(around, &mut self.lists, subject, self.skipped)?;
+        let frame = frame_referring(around, &mut self.lists, subject, self.skipped)?;
         self.frames.push(frame)?;
         self.skipped = inside;
         self.depth += 1 + inside;
@@ -352,7 +355,7 @@ impl Stack {
 }
 
 /// The frame of an element that refers to the subject and says no more, around which so many say nothing.
-fn referring(
+fn frame_referring(
     around: &EvaluationContext,
     lists: &mut Lists,
     subject: Node,

@@ -1,5 +1,5 @@
 //! The lists of all owners that aren't finished.
-ghost use Rattle.std.specs.Prelude.{◌≡◌, slice_get, ◌-◌, ◌+◌, ◌<◌, ◌^◌, [], ◌∷◌, ◌++◌, length, true, OnOk, OnErr, IfOk, IsTrue, ◌↔◌, Some, None, slice_set};
+ghost use Rattle.std.specs.Prelude.{◌≡◌, slice_get, ◌-◌, ◌+◌, ◌<◌, ◌^◌, [], ◌∷◌, ◌++◌, length, true, not, OnOk, OnErr, IfOk, IsTrue, ◌↔◌, Some, None, slice_set};
 ghost use Rattle.rx_model.specs.Seen.{triples_seen};
 ghost use Rattle.rx_rdfa.specs.Tables.{put};
 ghost use Rattle.rx_lists.specs.Cells.{finished_cells, items_seen, size};
@@ -153,7 +153,8 @@ impl Lists {
 
     /// Whether no finished owner is the last: then it is known which number the next one gets.
     pub fn ends_open(&self) -> bool
-        ensures { result ≡ true → trimmed self.now ≡ self.now }
+        ensures open { result ≡ not (is_finished (slice_get self.now (length self.now - 1))) }
+        ensures trimmed { result ≡ true → trimmed self.now ≡ self.now }
     {
         !is_last_finished(&self.owners)
     }

@@ -2,7 +2,7 @@ use Rattle.std.proofs.Common.{ℕ, sym, ap, subst, arith}
 use Rattle.rx_model.specs.Terms.{Node}
 use Rattle.rx_curie.specs.Seen.{facts_seen}
 use Rattle.rx_eval.specs.Opened.{Opens}
-use Rattle.rx_eval.specs.Referring.{referred_by, is_named}
+use Rattle.rx_eval.specs.Referring.{referred_by, is_iri}
 use Rattle.rx_eval.proofs.ReferringLemmas.{opens_referring}
 use Rattle.rx_eval.proofs.pending.open_settled.Goals as goal
 
@@ -12,4 +12,4 @@ returns-then-lets_wait-clause-ok c =
     (opens_referring c.args.stack.now (facts_seen c.args.facts.now) c.in-Some.reference.now c.in-Some.ensures (c.lets_wait.ensures c.if-lets_wait.true).nothing_hangs)
 
 pub returns-then-lets_wait-clause-kept : goal.returns-then-lets_wait-clause-kept
-returns-then-lets_wait-clause-kept c = record { lets = c.lets_wait.ensures c.if-lets_wait.true; iri = ap is_named c.in_ok-resolve.ensures; room = omega (arith, c.requires.level) }
+returns-then-lets_wait-clause-kept c = record { lets = c.lets_wait.ensures c.if-lets_wait.true; iri = ap is_iri c.in_ok-resolve.ensures; room = omega (arith, c.requires.level) }
