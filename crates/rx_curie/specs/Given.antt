@@ -1,5 +1,5 @@
 -- What the code answers of a start tag.
-use Rattle.std.specs.Prelude.{◌≡◌, Bool, true, false, List, ◌∷◌, Option, Some, None, codes, is_some, option_and_then, option_map, Result, MatchResult, if◌then◌else◌}
+use Rattle.std.specs.Prelude.{◌≡◌, Bool, true, false, not, ◌&&◌, List, ◌∷◌, Option, Some, None, codes, is_some, is_none, option_and_then, option_map, Result, MatchResult, if◌then◌else◌}
 use Rattle.rx_terms.specs.Text.{Chars, trimmed}
 use Rattle.rx_rdfa.specs.Tree.{Tag, attribute}
 use Rattle.rx_rdfa.specs.Names.{Context, unless_empty, vocab}
@@ -86,6 +86,18 @@ no_facts = record {
   vocab = None;
   lang = None;
 }
+
+-- neither a resource nor a predicate is said
+abbrev pub refers_to_nothing : Facts → Bool
+refers_to_nothing facts =
+    is_none facts.about
+    && (is_none facts.resource
+    && (is_none facts.href && (is_none facts.src && (is_none facts.rel && (is_none facts.rev && (is_none facts.property && is_none facts.types))))))
+
+-- no attribute says anything
+abbrev pub is_silent : Facts → Bool
+is_silent facts =
+    refers_to_nothing facts && (is_none facts.content && (is_none facts.datetime && (is_none facts.datatype && (not facts.inlist && is_none facts.vocab))))
 
 abbrev pub is_for_meaning : FactsError → Bool
 is_for_meaning (error.Meaning k) = is_of_meaning k

@@ -101,7 +101,7 @@ impl Facts {
     ghost use Rattle.rx_names.specs.Tags.{tag_of};
     ghost use Rattle.rx_names.specs.Lines.{vocabulary_of};
     ghost use Rattle.rx_names.specs.Views.{names_seen, Along};
-    ghost use Rattle.rx_curie.specs.Given.{own_vocabulary, no_facts, Gives, GivesIn, IsRefused, is_for_meaning, OnFacts};
+    ghost use Rattle.rx_curie.specs.Given.{own_vocabulary, no_facts, is_silent, refers_to_nothing, Gives, GivesIn, IsRefused, is_for_meaning, OnFacts};
     ghost use Rattle.rx_curie.specs.Seen.{facts_seen};
 
     /// What the tag says under these names, which have its own declarations already. The first refusal that holds is
@@ -192,6 +192,54 @@ impl Facts {
     }
 
     fn read_attributes(
+        &mut self,
+        maker: &mut IriMaker,
+        tag: &Attributes<'_>,
+        names: &NamesView<'_>,
+    ) -> Result<(), NoMemory>
+        requires own { is_relative (own_vocabulary tag.now) ≡ false }
+        requires vocabulary { is_relative (vocabulary_of (names_seen names.now)) ≡ false }
+        ensures { OnOk result (Along names.now (λ context line. facts_seen self.new ≡ the.facts_of context line tag.now)) }
+    {
+        if !tag.may_say() && self.is_silent() {
+            // Nothing but the language may be another one.
+            self.element = kind_of(tag.name());
+            return put_language(&mut self.lang, maker.alloc, names);
+        }
+        self.read_all(maker, tag, names)
+    }
+
+    /// Whether no attribute says anything here.
+    #[inline(always)]
+    fn is_silent(&self) -> bool
+        ensures { result ≡ is_silent (facts_seen self.now) }
+    {
+        self.refers_to_nothing()
+            && self.content.is_none()
+            && self.datetime.is_none()
+            && self.datatype.is_none()
+            && !self.inlist
+            && self.vocab.is_none()
+    }
+
+    /// Whether neither a resource nor a predicate is said.
+    #[inline(always)]
+    fn refers_to_nothing(&self) -> bool
+        ensures { result ≡ refers_to_nothing (facts_seen self.now) }
+    {
+        self.about.is_none()
+            && self.resource.is_none()
+            && self.href.is_none()
+            && self.src.is_none()
+            && self.rel.is_none()
+            && self.rev.is_none()
+            && self.property.is_none()
+            && self.types.is_none()
+    }
+
+    /// The same, where the tag may say something, or the facts do.
+    #[inline(always)]
+    fn read_all(
         &mut self,
         maker: &mut IriMaker,
         tag: &Attributes<'_>,

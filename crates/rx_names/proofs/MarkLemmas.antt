@@ -112,3 +112,12 @@ declares_none tag false false false true lang n p v x l e = absurd (cc e)
 declares_none tag false false true xml_lang lang n p v x l e = absurd (cc e)
 declares_none tag false true vocab xml_lang lang n p v x l e = absurd (cc e)
 declares_none tag true prefix vocab xml_lang lang n p v x l e = absurd (cc e)
+
+-- none of five
+pub none_of_all : (a b c d e : Bool) → (a || b || c || d || e) ≡ false → (a ≡ false) × (b ≡ false) × (c ≡ false) × (d ≡ false) × (e ≡ false)
+none_of_all false false false false false h = (refl, refl, refl, refl, refl)
+none_of_all false false false false true h = absurd (cc h)
+none_of_all false false false true e h = absurd (cc h)
+none_of_all false false true d e h = absurd (cc h)
+none_of_all false true c d e h = absurd (cc h)
+none_of_all true b c d e h = absurd (cc h)

@@ -7,6 +7,7 @@ ghost use Rattle.rx_rdfa.specs.Tree.{attribute};
 ghost use Rattle.rx_terms.specs.Text.{seen_slice, begins_with};
 ghost use Rattle.rx_names.specs.Marks.{mark_of, name_mark, has_mark};
 ghost use Rattle.rx_names.specs.Rows.{rows_of};
+ghost use Rattle.rx_names.specs.Silence.{IsSilent};
 ghost use Rattle.rx_names.specs.Tags.{tag_of};
 
 use rx_tags::Tag;
@@ -81,6 +82,30 @@ impl<'a> Attributes<'a> {
         is_any(self.namespaces, prefix, vocab, xml_lang, lang)
     }
 
+    /// Whether the tag may have an attribute that RDFa reads, but for those that declare a prefix or a language. Of nearly all
+    /// tags that have none that is told by the marks alone.
+    pub fn may_say(&self) -> bool
+        ensures { result ≡ false → IsSilent self.now }
+    {
+        let about = self.may_have("about");
+        let resource = self.may_have("resource");
+        let href = self.may_have("href");
+        let src = self.may_have("src");
+        let rel = self.may_have("rel");
+        let rev = self.may_have("rev");
+        let property = self.may_have("property");
+        let types = self.may_have("typeof");
+        let content = self.may_have("content");
+        let datetime = self.may_have("datetime");
+        let datatype = self.may_have("datatype");
+        let inlist = self.may_have("inlist");
+        let vocab = self.may_have("vocab");
+        let resources = is_any(about, resource, href, src, vocab);
+        let predicates = is_any(rel, rev, property, types, inlist);
+        let values = is_any(content, datetime, datatype, false, false);
+        is_any(resources, predicates, values, false, false)
+    }
+
     /// Whether there may be an attribute of that name, which is ASCII.
     fn may_have(&self, name: &str) -> bool
         requires { list_all is_ascii name.now ≡ true }
@@ -109,10 +134,10 @@ impl<'a> Attributes<'a> {
 }
 
 /// Whether one of these is so.
-fn is_any(namespaces: bool, prefix: bool, vocab: bool, xml_lang: bool, lang: bool) -> bool
-    ensures { result ≡ (namespaces || prefix || vocab || xml_lang || lang) }
+fn is_any(a: bool, b: bool, c: bool, d: bool, e: bool) -> bool
+    ensures { result ≡ (a || b || c || d || e) }
 {
-    namespaces || prefix || vocab || xml_lang || lang
+    a || b || c || d || e
 }
 
 /// Whether an attribute `xmlns:NAME` was there before, or the name is that of one.

@@ -5,7 +5,7 @@ use Rattle.rx_refs.specs.Resolve.{cleaned}
 use Rattle.rx_rdfa.specs.Facts as the
 use Rattle.rx_names.specs.Views.{names_seen}
 use Rattle.rx_curie.proofs.FactLemmas.{is_some-seen, link-is}
-use Rattle.rx_curie.proofs.facts.Facts.read_attributes.Goals as goal
+use Rattle.rx_curie.proofs.facts.Facts.read_all.Goals as goal
 
 pub returns : goal.returns
 returns c = λ line stands.
