@@ -28,6 +28,7 @@ use crate::labels::Labels;
 use crate::numbers::label_count;
 use crate::opening::{around, next_number};
 use crate::places::{Surroundings, level_at};
+use crate::resources::says_nothing;
 use rx_curie::Facts;
 use rx_lists::{Lists, Owner};
 use rx_refs::Base;
@@ -196,8 +197,21 @@ impl Stack {
         })
     }
 
-    /// Whether there are numbers for the blank nodes of one more element, whatever labels it has.
+    /// Whether there are numbers for the blank nodes of one more element, whatever labels it has. Where nothing is said it has
+    /// none, and is told first.
+    #[inline(always)]
     pub(crate) fn has_numbers(&self, facts: &Facts) -> bool
+        ensures { result ≡ nat_le (self.now.drawn + 1 + length (labels_of (facts_seen facts.now))) (2 ^ 61) }
+    {
+        if says_nothing(facts) {
+            return self.drawn < CELLS;
+        }
+        self.has_numbers_of_labels(facts)
+    }
+
+    /// The same by its labels.
+    #[inline(never)]
+    fn has_numbers_of_labels(&self, facts: &Facts) -> bool
         ensures { result ≡ nat_le (self.now.drawn + 1 + length (labels_of (facts_seen facts.now))) (2 ^ 61) }
     {
         u128::from(self.drawn) + 1 + label_count(facts) <= u128::from(CELLS)
