@@ -1,5 +1,5 @@
 -- What is due and what is read are told in turn.
-use Rattle.std.proofs.Common.{◌≡◌, ◌∙◌, ℕ, zero, suc, ◌+◌, Bool, true, false, List, [], ◌++◌, refl, sym, ap, subst, append_assoc, append-nil, Option, Some, None, arith}
+use Rattle.std.proofs.Common.{◌≡◌, ◌∙◌, ℕ, zero, suc, ◌+◌, Bool, true, false, List, [], ◌++◌, refl, sym, ap, subst, append_assoc, append-nil, Option, Some, None, Err, arith}
 use Rattle.std.proofs.lemmas.Bool.Decides.{nat_tests}
 use Rattle.std.specs.Prelude.{◌-◌, nat_lt, take, drop, if◌then◌else◌}
 use Rattle.rx_chars.specs.declared.syntax.Syntax.{Syntax}
@@ -22,10 +22,14 @@ use Rattle.rx_nest.specs.Signs.{Sign, sees, nothing_seen}
 use Rattle.rx_nest.specs.Follows.{flags_of, own_signs}
 use Rattle.rx_scan.proofs.MarkLemmas.{none_marked}
 use Rattle.rx_nest.specs.TreeTokens.{first_own, own_next, next_own, next_owed, first_of, paid}
-use Rattle.rx_nest.specs.Nests.{Nested, At, NestStands, Stops, Unshown, LendsStart, begins_own, IsATag, a_tag, read_before, read_now, TokenOf, DidOf, Done, DidLends, did_signs, did_more, did_skipped, heard_signs, hears_more, hears_skipped, Lends, Heeds, last_tag, owed_signs, owes_begin, left, own_left}
+use Rattle.rx_grammar.specs.declared.stops.Stop.{Stop}
+use Rattle.rx_grammar.specs.declared.stops.Stop.TheVariants as stop
+use Rattle.rx_nest.specs.Falling.{FallsBy}
+use Rattle.rx_nest.specs.Nests.{ReadGives, StaysAtFault, FaultGives, OpenBefore, Nested, At, NestStands, Stops, Unshown, LendsStart, begins_own, IsATag, a_tag, read_before, read_now, TokenOf, DidOf, Done, DidLends, did_signs, did_more, did_skipped, heard_signs, hears_more, hears_skipped, Lends, Heeds, last_tag, owed_signs, owes_begin, left, own_left}
 use Rattle.rx_nest.proofs.TextSteps.{sees_append}
 use Rattle.rx_nest.proofs.Heeding.{front_rest}
-use Rattle.rx_nest.proofs.Sizes.{still_so}
+use Rattle.rx_nest.proofs.Sizes.{faults_so, still_so}
+use Rattle.rx_nest.proofs.OpenElements.{open_before}
 
 -- before the first byte
 pub new_at : (syntax : Syntax) (limits : Limits) (v : Scanner) (line : Lines) → v.reading.setting ≡ scan.first_setting syntax limits → scan.ScanStands v no_bytes → line ≡ record { syntax = syntax; depth = limits.depth; begun = false; levels = [] }
@@ -289,3 +293,14 @@ module _ (syntax : Syntax) (limits : Limits) (old : Nested) (bytes : List ℕ) (
       let same = still_so syntax limits bytes piece st.at.now st.told fault st.at.read stops (take k piece) (drop k piece) p (sym (front_rest k piece)) h in
       let paid_up : signs ++ owed_signs old.owed (last_tag old.scan) ≡ signs = ap (λ x. signs ++ x) (none_due old.owed (last_tag old.scan) none) ∙ append-nil signs in
       ap (λ es. (sees nothing_seen es).signs) same ∙ (ap (λ x. x.signs) st.sight ∙ paid_up)
+
+  -- after a fault, or without memory, nothing else is answered
+  pub read_stopped : (why : Stop) (new : Nested) → next_owed old.owed ≡ None → ReadGives syntax limits bytes st.told piece old.line (Err why) new.scan new.line → StaysAtFault {A = ℕ × TreeToken} (Err why) old.line new.line
+      → FallsBy why new.failed new.out_of_memory → FaultGives syntax limits bytes signs piece why new
+  read_stopped (stop.Fault fault) new none stops same falls = (
+    faults_so syntax limits bytes piece _ st.told fault st.at.read stops,
+    record { failed = falls.0; unspent = falls.1 },
+    unshown fault none stops,
+    subst (λ (l : Lines). OpenBefore syntax limits (bytes ++ piece) fault.token l) (sym same) (open_before syntax limits bytes st.told old.scan old.line st.at piece fault stops),
+  )
+  read_stopped stop.NoMemory new none stops same falls = falls

@@ -1,5 +1,5 @@
 -- Where a fault lies that a piece of a page brings.
-use Rattle.std.proofs.Common.{◌≡◌, ◌∙◌, ℕ, ◌+◌, ◌≤◌, List, [], ◌++◌, length, sym, ap, subst, Option, Some, None, Ok, arith, take, drop, append-nil}
+use Rattle.std.proofs.Common.{◌≡◌, ◌∙◌, ℕ, ◌+◌, ◌≤◌, List, [], ◌++◌, length, sym, ap, subst, Option, Some, None, Ok, Err, arith, take, drop, append-nil}
 use Rattle.std.proofs.lemmas.Bool.Decides.{nat_tests}
 use Rattle.std.specs.Prelude.{nat_le}
 use Rattle.rx_terms.proofs.Bools.{by_test}
@@ -8,8 +8,10 @@ use Rattle.rx_pages.specs.PageReader.{Progress, page_read}
 use Rattle.rx_pages.proofs.FaultFronts.{faults_follow_fronts}
 use Rattle.rx_nest.specs.Nests.{Nested}
 use Rattle.rx_nest.specs.Signs.{Sign, Sight, sees, nothing_seen}
-use Rattle.rx_nest.specs.Faults.{Refuses, Stops, for_form, for_meaning}
-use Rattle.rx_nest.specs.FaultPlaces.{PlaceLaw, of_form, of_meaning, Placed}
+use Rattle.rx_grammar.specs.declared.stops.Stop.{Stop}
+use Rattle.rx_grammar.specs.declared.stops.Stop.TheVariants as stop
+use Rattle.rx_nest.specs.Faults.{Refuses, Stops, StopGives, for_form, for_meaning}
+use Rattle.rx_nest.specs.FaultPlaces.{PlaceGives, PlaceLaw, of_form, of_meaning, Placed}
 use Rattle.rx_nest.specs.Readings.{Goes as ReadingGoes, OwesNone}
 use Rattle.rx_nest.specs.Ways.{Way, IsRefusal}
 use Rattle.rx_nest.proofs.FaultPlacing.{Shown, shown, refused_of, through, begins_none}
@@ -59,3 +61,8 @@ placed way knows law bytes piece nest listener fault g accepted paid st =
     by (for_form f none) = of_form f (begins_none way.syntax way.limits (bytes ++ piece) fault f st.within) (faults_follow_fronts way.syntax way.limits (bytes ++ piece) fault f)
     by (for_meaning m first) =
         of_meaning m (refused_of way law (take (fault.at + 1) (bytes ++ piece)) fault (through way law (bytes ++ piece) fault (read_as_meant way law (bytes ++ piece) fault m))) (accepted_front way law (bytes ++ piece) fault (read_as_meant way law (bytes ++ piece) fault m))
+
+pub placed_by : {L : Type 0} (way : Way) (knows : L → List Sign → Type 0) (law : IsRefusal way.refused) (bytes piece : List ℕ) (nest : Nested) (listener : L) (why : Stop)
+    → (g : ReadingGoes way knows nest listener bytes) → way.refused g.signs ≡ None → OwesNone nest → StopGives way (bytes ++ piece) why → PlaceGives way bytes piece (Err why)
+placed_by way knows law bytes piece nest listener (stop.Fault fault) g accepted paid st = placed way knows law bytes piece nest listener fault g accepted paid st
+placed_by way knows law bytes piece nest listener stop.NoMemory g accepted paid st = tt

@@ -28,6 +28,7 @@ pub mod Depths
 pub mod Meanings
 pub mod FaultsOfPieces
 pub mod Stopping
+pub mod LatchLemmas
 pub mod Turning
 pub mod QuietReading
 pub mod Quieting

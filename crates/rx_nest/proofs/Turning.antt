@@ -1,5 +1,5 @@
 -- What becomes of a reading, turn by turn.
-use Rattle.std.proofs.Common.{◌≡◌, ◌∙◌, ℕ, zero, suc, ◌<◌, true, List, [], ◌++◌, length, take, drop, refl, sym, ap, subst, Option, Some, None, Ok, Err, arith, length-append, length-take, append-nil, append_assoc, ◌≢◌}
+use Rattle.std.proofs.Common.{◌≡◌, ◌∙◌, ℕ, zero, suc, ◌<◌, true, List, [], ◌++◌, length, take, drop, refl, sym, ap, subst, Option, Some, None, Ok, Err, arith, length-append, length-take, append-nil, append_assoc}
 use Rattle.rx_grammar.specs.declared.faults.Fault.{Fault}
 use Rattle.rx_grammar.specs.Trees.{StartTag}
 use Rattle.rx_grammar.specs.declared.stops.Stop.{Stop}
@@ -132,10 +132,6 @@ module _ {L : Type 0} (way : Way) (knows : L → List Sign → Type 0) where
 pub end_stops : (way : Way) (bytes : List ℕ) (signs : List Sign) (old new : Nested) (why : Stop) → nests.EndGives way.syntax way.limits bytes signs old (Err why) new → Unfinished way bytes why
 end_stops way bytes signs old new (stop.Fault fault) g = g
 end_stops way bytes signs old new stop.NoMemory g = g
-
-pub no_fault : (o : Option Fault) → ((x : Fault) → o ≢ Some x) → o ≡ None
-no_fault None n = refl
-no_fault (Some x) n = absurd (n x refl)
 
 -- what was read stays so
 module _ {S L : Type 0} (way : S → Way) (knows : S → L → List Sign → Type 0) where

@@ -7,7 +7,7 @@ use crate::lines::OpenElements;
 use crate::reads::read;
 use crate::tree_tokens::{EventKind, PendingEvents, first_of, next_owed};
 use rx_grammar::{Fault, Kind, Limits};
-use rx_scan::{Scan, Syntax, Token};
+use rx_scan::{Latch, Scan, Syntax, Token};
 use rx_tags::{Stop, Tag};
 use rx_terms::NoMemory;
 use std::alloc::Global;
@@ -36,8 +36,7 @@ pub struct Nest {
     scan: Scan,
     line: OpenElements,
     owed: PendingEvents,
-    failed: Option<Fault>,
-    out_of_memory: bool,
+    latch: Latch,
 }
 
 impl Model for Nest {
@@ -45,9 +44,9 @@ impl Model for Nest {
 
     ghost Value = { Nested };
 
-    ghost view = { λ n. record { scan = n.scan; line = n.line; owed = n.owed; failed = n.failed; out_of_memory = n.out_of_memory } };
+    ghost view = { λ n. record { scan = n.scan; line = n.line; owed = n.owed; failed = n.latch.failed; out_of_memory = n.latch.out_of_memory } };
 
-    ghost invariant = { λ n. Ready n.scan n.line n.owed n.failed n.out_of_memory };
+    ghost invariant = { λ n. Ready n.scan n.line n.owed n.latch.failed n.latch.out_of_memory };
 }
 
 impl Nest {
@@ -62,8 +61,7 @@ impl Nest {
             scan,
             line,
             owed: PendingEvents::NONE,
-            failed: None,
-            out_of_memory: false,
+            latch: Latch::new(),
         })
     }
 
@@ -81,12 +79,7 @@ impl Nest {
         ensures lends { IfOk result (λ done. nests.DidLends done.1 self.new.scan) }
         ensures quiet { nests.IsQuiet self.old piece.now result }
     {
-        if self.out_of_memory {
-            return Err(Stop::NoMemory);
-        }
-        if let Some(fault) = self.failed {
-            return Err(Stop::Fault(fault));
-        }
+        self.latch.repeat()?;
         if let Some((did, owed)) = next_owed(self.owed) {
             self.owed = owed;
             return Ok((0, did));
@@ -97,13 +90,9 @@ impl Nest {
                 self.owed = owed;
                 Ok((taken, did))
             }
-            Err(Stop::Fault(fault)) => {
-                self.failed = Some(fault);
-                Err(Stop::Fault(fault))
-            }
-            Err(Stop::NoMemory) => {
-                self.out_of_memory = true;
-                Err(Stop::NoMemory)
+            Err(stop) => {
+                self.latch.keep(stop);
+                Err(stop)
             }
         }
     }
@@ -158,14 +147,9 @@ impl Nest {
         ensures ends { nests.Ends self.old result self.new }
         ensures keeps { nests.KeepsEnd self.old result self.new }
     {
-        if self.out_of_memory {
-            return Err(Stop::NoMemory);
-        }
-        if let Some(fault) = self.failed {
-            return Err(Stop::Fault(fault));
-        }
+        self.latch.repeat()?;
         if let Some(fault) = ending(&mut self.scan, &self.line) {
-            self.failed = Some(fault);
+            self.latch.keep(Stop::Fault(fault));
             return Err(Stop::Fault(fault));
         }
         Ok(())

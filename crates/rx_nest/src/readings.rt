@@ -9,8 +9,8 @@ ghost use Rattle.rx_nest.specs.Turns.{TurnTakes, TakesByte};
 use crate::listener::Listener;
 use crate::nests::Nest;
 use crate::turns::{Turn, is_more};
-use rx_grammar::{Fault, Limits};
-use rx_scan::Syntax;
+use rx_grammar::Limits;
+use rx_scan::{Latch, Syntax};
 use rx_tags::Stop;
 use rx_terms::NoMemory;
 use std::alloc::Global;
@@ -23,8 +23,7 @@ use std::marker::Model;
 pub struct Reading<L: Listener> {
     nest: Nest,
     listener: L,
-    failed: Option<Fault>,
-    out_of_memory: bool,
+    latch: Latch,
 }
 
 impl<L: Listener> Model for Reading<L> {
@@ -32,9 +31,9 @@ impl<L: Listener> Model for Reading<L> {
 
     ghost Value = { Read L };
 
-    ghost view = { λ r. record { nest = r.nest; listener = r.listener; failed = r.failed; out_of_memory = r.out_of_memory } };
+    ghost view = { λ r. record { nest = r.nest; listener = r.listener; failed = r.latch.failed; out_of_memory = r.latch.out_of_memory } };
 
-    ghost invariant = { λ r. Ready L.way L.knows r.nest r.listener r.failed r.out_of_memory };
+    ghost invariant = { λ r. Ready L.way L.knows r.nest r.listener r.latch.failed r.latch.out_of_memory };
 }
 
 /// Takes what comes next of the page's tree.
@@ -106,8 +105,7 @@ impl<L: Listener + Drop> Reading<L> {
         Ok(Reading {
             nest,
             listener,
-            failed: None,
-            out_of_memory: false,
+            latch: Latch::new(),
         })
     }
 
@@ -122,22 +120,12 @@ impl<L: Listener + Drop> Reading<L> {
         ensures keeps { Answered result self.new.failed self.new.out_of_memory }
         ensures stays { readings.has_failed self.old ≡ true → self.new ≡ self.old }
     {
-        if self.out_of_memory {
-            // without memory once, nothing more is read
-            return Err(Stop::NoMemory);
-        }
-        if let Some(fault) = self.failed {
-            return Err(Stop::Fault(fault));
-        }
+        self.latch.repeat()?;
         match take_all(&mut self.nest, &mut self.listener, piece) {
             Ok(()) => Ok(()),
-            Err(Stop::Fault(fault)) => {
-                self.failed = Some(fault);
-                Err(Stop::Fault(fault))
-            }
-            Err(Stop::NoMemory) => {
-                self.out_of_memory = true;
-                Err(Stop::NoMemory)
+            Err(stop) => {
+                self.latch.keep(stop);
+                Err(stop)
             }
         }
     }
@@ -153,18 +141,12 @@ impl<L: Listener + Drop> Reading<L> {
         let Reading {
             mut nest,
             listener,
-            failed,
-            out_of_memory,
+            latch,
         } = self;
-        if out_of_memory {
+        if let Err(stop) = latch.repeat() {
             drop(nest);
             drop(listener);
-            return Err(Stop::NoMemory);
-        }
-        if let Some(fault) = failed {
-            drop(nest);
-            drop(listener);
-            return Err(Stop::Fault(fault));
+            return Err(stop);
         }
         match nest.end() {
             Ok(()) => {
@@ -192,6 +174,6 @@ impl<L: Listener + Drop> Reading<L> {
     pub fn has_failed(&self) -> bool
         ensures { result ≡ readings.has_failed self.now }
     {
-        self.failed.is_some() || self.out_of_memory
+        self.latch.has_answered()
     }
 }

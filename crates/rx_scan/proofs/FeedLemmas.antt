@@ -1,11 +1,8 @@
 -- Characters of a tag that are taken at once are read like its bytes one after another.
 use Rattle.std.proofs.Common.{◌≡◌, ◌∙◌, ℕ, ◌+◌, ◌≤◌, ◌<◌, Bool, true, false, List, [], ◌∷◌, ◌++◌, length, take, refl, ap, sym, subst, Ok, append_assoc, arith, length-take-le}
-use Rattle.std.specs.Prelude.{◌&&◌, ◌==◌, ◌^◌, not, nat_le, MatchBool}
-use Rattle.std.proofs.lemmas.Bool.{cond-false, lt-leb, leb-true, and_parts, and_from, or_from}
+use Rattle.std.specs.Prelude.{◌&&◌, ◌==◌, ◌^◌, not, nat_le}
+use Rattle.std.proofs.lemmas.Bool.{leb-true, and_parts, and_from, or_from}
 use Rattle.rx_chars.specs.Characters.{as_line_end}
-use Rattle.rx_chars.specs.Utf8.{answer_of}
-use Rattle.rx_chars.specs.declared.utf8.Utf8Step.{Utf8Step}
-use Rattle.rx_chars.specs.declared.utf8.Utf8Step.TheVariants.{Char}
 use Rattle.rx_chars.proofs.Utf8Answers.{first_whole}
 use Rattle.rx_scan.specs.declared.marks.TokenState.{TokenState}
 use Rattle.rx_scan.specs.declared.marks.TokenState.TheVariants as mark
@@ -25,11 +22,8 @@ use Rattle.rx_scan.specs.Entries as entries
 use Rattle.rx_scan.specs.Fronts.{FeedsFront, with_state}
 use Rattle.rx_scan.specs.Places.{fed}
 use Rattle.rx_scan.specs.Scanner.{Reading}
+use Rattle.rx_scan.proofs.CharacterLemmas.{other_read, within_limit}
 use Rattle.rx_scan.proofs.RunLemmas.{ReadsOn, reads_more}
-
-pub chosen : (b : Bool) (P Q : Type 0) → b ≡ false → Q → MatchBool b P Q
-chosen true P Q e q = absurd (cc)
-chosen false P Q e q = q
 
 -- one such character is read as a tag's
 module _ (l new : Reading) (b : ℕ) (t : FeedsFront l (b ∷ []) new) where
@@ -51,37 +45,21 @@ module _ (l new : Reading) (b : ℕ) (t : FeedsFront l (b ∷ []) new) where
   tags : entries.Tags l b false (entries.marked mark.Tag l.pending) (Ok what.Nothing) new
   tags = (fed_tag, (subst (λ (x : TagState). GoesTo l.pending.tag.syntax l.pending.tag.state b x) (sym t.goes.2) t.goes.1, refl), t.is ∙ ap gone_by t.in_tag)
 
-  enters : entries.Enters l (as_line_end b) (b == 13) (entries.move_at l (as_line_end b)) (Ok what.Nothing) new
-  enters =
-      subst (λ (x : Bool). entries.Enters l (as_line_end b) x (entries.move_at l (as_line_end b)) (Ok what.Nothing) new) (sym no_return)
-      (subst (λ (x : ℕ). entries.Enters l x false (entries.move_at l x) (Ok what.Nothing) new) (sym (cond-false _ _ _ no_return))
-      (subst (λ (x : Move). entries.Enters l b false x (Ok what.Nothing) new) (sym move_is) tags))
-
-  within : nat_le (entries.token_from l.pending.mark l.place + l.setting.limits.tag) l.place.at ≡ false
-  within =
-      ap (λ (x : TokenState). nat_le (entries.token_from x l.place + l.setting.limits.tag) l.place.at) t.in_tag
-      ∙ lt-leb (l.place.token + l.setting.limits.tag) l.place.at (omega (arith, t.tag))
+  enters : entries.Enters l b false (entries.move_at l b) (Ok what.Nothing) new
+  enters = subst (λ (x : Move). entries.Enters l b false x (Ok what.Nothing) new) (sym move_is) tags
 
   not_long : (known : Bool) → entries.is_long l known ≡ false
-  not_long known = ap (λ x. known && x) within ∙ and_false known
+  not_long = within_limit l (subst (λ (x : TokenState). l.place.at < entries.token_from x l.place + l.setting.limits.tag) (sym t.in_tag) (omega (arith, t.tag)))
 
   not_passed : entries.is_passed l.place b ≡ false
   not_passed =
       or_from _ _ (ap (λ x. not l.place.started && x) (is_none is_printed b 65279 printed refl) ∙ and_false (not l.place.started))
       (ap (λ x. l.place.after_return && x) (is_none is_printed b 10 printed refl) ∙ and_false l.place.after_return)
 
-  as_char : entries.ReadsAnswer l (b ∷ []) (Char b) (Ok what.Nothing) new
-  as_char =
-      chosen (b == 0) _ _ (is_none is_printed b 0 printed refl)
-      (chosen (entries.is_long l (known_tags.is_tag l.pending.mark)) _ _ (not_long (known_tags.is_tag l.pending.mark))
-      (chosen (entries.is_passed l.place b) _ _ not_passed
-      (chosen (entries.is_long l (known_tags.is_tag_with l.setting.syntax l.setting.inside l.pending.mark (as_line_end b))) _ _ (not_long (known_tags.is_tag_with l.setting.syntax l.setting.inside l.pending.mark (as_line_end b))) enters)))
-
   reads_one : entries.Reads l b (Ok what.Nothing) new
   reads_one =
-      chosen (nat_le l.setting.limits.page l.place.at) _ _ (lt-leb l.setting.limits.page l.place.at (omega (arith, t.page)))
-      (subst (λ (x : List ℕ). entries.ReadsAnswer l (x ++ b ∷ []) (answer_of (x ++ b ∷ [])) (Ok what.Nothing) new) (sym t.held)
-      (subst (λ (a : Utf8Step). entries.ReadsAnswer l (b ∷ []) a (Ok what.Nothing) new) (first_whole b (let k = leb-true b 126 (and_parts (nat_le 32 b) (nat_le b 126) printed).1 in omega arith)) as_char))
+      other_read l new [] b b (Ok what.Nothing) t.held (first_whole b (let k = leb-true b 126 (and_parts (nat_le 32 b) (nat_le b 126) printed).1 in omega arith)) (omega (arith, t.page))
+      (is_none is_printed b 0 printed refl) (not_long (known_tags.is_tag l.pending.mark)) (not_long (known_tags.is_tag_with l.setting.syntax l.setting.inside l.pending.mark (as_line_end b))) not_passed no_return enters
 
 -- behind the first one
 abbrev pub middle : Reading → TagState → Reading

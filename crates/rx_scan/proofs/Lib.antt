@@ -13,6 +13,7 @@ pub mod ByteLemmas
 pub mod StandLemmas
 pub mod RunLemmas
 pub mod QuietLemmas
+pub mod CharacterLemmas
 pub mod FeedLemmas
 pub mod OpenLemmas
 pub mod PlainLemmas

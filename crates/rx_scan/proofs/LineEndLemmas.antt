@@ -2,9 +2,7 @@
 use Rattle.std.proofs.Common.{◌≡◌, ◌∙◌, ℕ, ◌+◌, Bool, true, false, List, [], ◌∷◌, ◌++◌, refl, ap, sym, subst, Ok, append_assoc, arith}
 use Rattle.std.specs.Prelude.{◌&&◌, ◌==◌, not, nat_le}
 use Rattle.std.proofs.lemmas.Bool.{cond-false, lt-leb, or_from}
-use Rattle.rx_chars.specs.Utf8.{answer_of}
 use Rattle.rx_chars.specs.declared.utf8.Utf8Step.{Utf8Step}
-use Rattle.rx_chars.specs.declared.utf8.Utf8Step.TheVariants.{Char}
 use Rattle.rx_chars.proofs.Utf8Answers.{first_whole}
 use Rattle.rx_pages.specs.PageReader as reader
 use Rattle.rx_scan.specs.declared.answers.TokenKind.TheVariants as what
@@ -20,7 +18,7 @@ use Rattle.rx_scan.specs.Entries as entries
 use Rattle.rx_scan.specs.Places.{said, ended, entered}
 use Rattle.rx_scan.specs.Scanner.{Reading}
 use Rattle.rx_scan.specs.WholeReferences.{TellsLineEnd}
-use Rattle.rx_scan.proofs.FeedLemmas.{chosen}
+use Rattle.rx_scan.proofs.CharacterLemmas.{chosen, character_read}
 use Rattle.rx_scan.proofs.RunLemmas.{ReadsOn, reads_more}
 use Rattle.rx_scan.proofs.SaidLemmas.{is_said, no_literal_at, unmarked}
 use Rattle.rx_scan.proofs.Snoc.{and_false}
@@ -51,26 +49,11 @@ module _ (l new : Reading) (front : List ℕ) (t : TellsLineEnd l front new) whe
       subst (λ (x : Move). entries.Enters l 10 true x (Ok what.Nothing) behind_return) (sym move_is)
       (ap (λ x. x && (10 == 10)) t.may.undropped, record { text = t.text; is = refl })
 
-  not_long : entries.is_long l (known_tags.is_tag l.pending.mark) ≡ false
-  not_long = ap (λ (x : TokenState). entries.is_long l (known_tags.is_tag x)) t.between
-
-  not_long_with : entries.is_long l (known_tags.is_tag_with l.setting.syntax l.setting.inside l.pending.mark 10) ≡ false
-  not_long_with = ap (λ (x : TokenState). entries.is_long l (known_tags.is_tag_with l.setting.syntax l.setting.inside x 10)) t.between
-
-  not_passed : entries.is_passed l.place 13 ≡ false
-  not_passed = or_from _ _ (ap (λ x. not x && (13 == 65279)) t.may.started) (ap (λ x. x && (13 == 10)) t.may.on_a_line)
-
-  as_return : entries.ReadsAnswer l (13 ∷ []) (Char 13) (Ok what.Nothing) behind_return
-  as_return =
-      chosen (entries.is_long l (known_tags.is_tag l.pending.mark)) _ _ not_long
-      (chosen (entries.is_passed l.place 13) _ _ not_passed
-      (chosen (entries.is_long l (known_tags.is_tag_with l.setting.syntax l.setting.inside l.pending.mark 10)) _ _ not_long_with enters))
-
   reads_return : entries.Reads l 13 (Ok what.Nothing) behind_return
   reads_return =
-      chosen (nat_le l.setting.limits.page l.place.at) _ _ (lt-leb l.setting.limits.page l.place.at (omega (arith, t.page)))
-      (subst (λ (x : List ℕ). entries.ReadsAnswer l (x ++ 13 ∷ []) (answer_of (x ++ 13 ∷ [])) (Ok what.Nothing) behind_return) (sym t.may.held)
-      (subst (λ (a : Utf8Step). entries.ReadsAnswer l (13 ∷ []) a (Ok what.Nothing) behind_return) (first_whole 13 (omega arith)) as_return))
+      character_read l behind_return [] 13 13 (Ok what.Nothing) t.may.held (first_whole 13 (omega arith)) (omega (arith, t.page)) refl (ap (λ (x : TokenState). entries.is_long l (known_tags.is_tag x)) t.between)
+      (ap (λ (x : TokenState). entries.is_long l (known_tags.is_tag_with l.setting.syntax l.setting.inside x 10)) t.between)
+      (or_from _ _ (ap (λ x. not x && (13 == 65279)) t.may.started) (ap (λ x. x && (13 == 10)) t.may.on_a_line)) enters
 
   -- the LF is passed
   reads_feed : entries.Reads behind_return 10 (Ok what.Nothing) (entries.with_passed behind_return)

@@ -1,11 +1,8 @@
 -- The characters with which a tag begins are read like its bytes one after another.
-use Rattle.std.proofs.Common.{◌≡◌, ◌∙◌, ℕ, ◌+◌, Bool, false, List, [], ◌∷◌, ◌++◌, take, refl, ap, sym, subst, Ok, append_assoc, arith, eqb-true, zero, suc}
+use Rattle.std.proofs.Common.{◌≡◌, ◌∙◌, ℕ, ◌+◌, ◌<◌, Bool, false, List, [], ◌∷◌, ◌++◌, take, refl, ap, sym, subst, Ok, append_assoc, arith, eqb-true, zero, suc}
 use Rattle.std.specs.Prelude.{◌&&◌, ◌==◌, not, nat_le, MatchBool}
-use Rattle.std.proofs.lemmas.Bool.{cond-false, lt-leb, leb-true, and_parts, or_from}
+use Rattle.std.proofs.lemmas.Bool.{leb-true, and_parts, or_from}
 use Rattle.rx_chars.specs.Characters.{as_line_end}
-use Rattle.rx_chars.specs.Utf8.{answer_of}
-use Rattle.rx_chars.specs.declared.utf8.Utf8Step.{Utf8Step}
-use Rattle.rx_chars.specs.declared.utf8.Utf8Step.TheVariants.{Char}
 use Rattle.rx_chars.proofs.Utf8Answers.{first_whole}
 use Rattle.rx_scan.specs.declared.marks.TokenState.{TokenState}
 use Rattle.rx_scan.specs.declared.marks.TokenState.TheVariants as mark
@@ -27,7 +24,8 @@ use Rattle.rx_scan.specs.Fronts.{FeedsFront, with_state}
 use Rattle.rx_scan.specs.Openings.{OpensTag, OpensFront, in_tag}
 use Rattle.rx_scan.specs.Scanner.{Reading}
 use Rattle.rx_scan.proofs.ByteLemmas.{match_by}
-use Rattle.rx_scan.proofs.FeedLemmas.{chosen, middle, first_feeds, rest_feeds, feed_on}
+use Rattle.rx_scan.proofs.CharacterLemmas.{other_read, within_limit}
+use Rattle.rx_scan.proofs.FeedLemmas.{middle, first_feeds, rest_feeds, feed_on}
 use Rattle.rx_scan.proofs.RunLemmas.{ReadsOn, reads_more}
 
 -- the first of them is read as a tag's
@@ -44,37 +42,21 @@ module _ (l new : Reading) (b : ℕ) (m : l.pending.mark ≡ mark.LessThan) (k :
   tags : entries.Tags l b false (entries.marked mark.Tag l.pending) (Ok what.Nothing) new
   tags = (fed_tag, (subst (λ (x : TagState). GoesTo l.pending.tag.syntax l.pending.tag.state b x) (sym t.goes.2) t.goes.1, refl), t.is)
 
-  enters : entries.Enters l (as_line_end b) (b == 13) (entries.move_at l (as_line_end b)) (Ok what.Nothing) new
-  enters =
-      subst (λ (x : Bool). entries.Enters l (as_line_end b) x (entries.move_at l (as_line_end b)) (Ok what.Nothing) new) (sym known.on_a_line)
-      (subst (λ (x : ℕ). entries.Enters l x false (entries.move_at l x) (Ok what.Nothing) new) (sym (cond-false _ _ _ known.on_a_line))
-      (subst (λ (x : Move). entries.Enters l b false x (Ok what.Nothing) new) (sym move_is) tags))
-
-  within : nat_le (entries.token_from l.pending.mark l.place + l.setting.limits.tag) l.place.at ≡ false
-  within =
-      ap (λ (x : TokenState). nat_le (entries.token_from x l.place + l.setting.limits.tag) l.place.at) m
-      ∙ lt-leb (l.place.token + l.setting.limits.tag) l.place.at (omega (arith, t.tag))
+  enters : entries.Enters l b false (entries.move_at l b) (Ok what.Nothing) new
+  enters = subst (λ (x : Move). entries.Enters l b false x (Ok what.Nothing) new) (sym move_is) tags
 
   not_long : (is : Bool) → entries.is_long l is ≡ false
-  not_long is = ap (λ x. is && x) within ∙ and_false is
+  not_long = within_limit l (subst (λ (x : TokenState). l.place.at < entries.token_from x l.place + l.setting.limits.tag) (sym m) (omega (arith, t.tag)))
 
   not_passed : entries.is_passed l.place b ≡ false
   not_passed =
       or_from _ _ (ap (λ x. not l.place.started && x) known.unmarked ∙ and_false (not l.place.started))
       (ap (λ x. l.place.after_return && x) known.goes_on ∙ and_false l.place.after_return)
 
-  as_char : entries.ReadsAnswer l (b ∷ []) (Char b) (Ok what.Nothing) new
-  as_char =
-      chosen (b == 0) _ _ known.some
-      (chosen (entries.is_long l (known_tags.is_tag l.pending.mark)) _ _ (not_long (known_tags.is_tag l.pending.mark))
-      (chosen (entries.is_passed l.place b) _ _ not_passed
-      (chosen (entries.is_long l (known_tags.is_tag_with l.setting.syntax l.setting.inside l.pending.mark (as_line_end b))) _ _ (not_long (known_tags.is_tag_with l.setting.syntax l.setting.inside l.pending.mark (as_line_end b))) enters)))
-
   opens_one : entries.Reads l b (Ok what.Nothing) new
   opens_one =
-      chosen (nat_le l.setting.limits.page l.place.at) _ _ (lt-leb l.setting.limits.page l.place.at (omega (arith, t.page)))
-      (subst (λ (x : List ℕ). entries.ReadsAnswer l (x ++ b ∷ []) (answer_of (x ++ b ∷ [])) (Ok what.Nothing) new) (sym t.held)
-      (subst (λ (a : Utf8Step). entries.ReadsAnswer l (b ∷ []) a (Ok what.Nothing) new) (first_whole b (let h = leb-true b 126 (and_parts (nat_le 32 b) (nat_le b 126) (and_parts (is_printed b) _ t.printed).0).1 in omega arith)) as_char))
+      other_read l new [] b b (Ok what.Nothing) t.held (first_whole b (let h = leb-true b 126 (and_parts (nat_le 32 b) (nat_le b 126) (and_parts (is_printed b) _ t.printed).0).1 in omega arith)) (omega (arith, t.page))
+      known.some (not_long (known_tags.is_tag l.pending.mark)) (not_long (known_tags.is_tag_with l.setting.syntax l.setting.inside l.pending.mark (as_line_end b))) not_passed known.on_a_line enters
 
 pub open_on : (old new : Reading) (s : reader.Scanning) (b : ℕ) (front : List ℕ) (l : Reading) (bytes : List ℕ) → ReadsOn old s bytes l → OpensFront l (b ∷ front) new → ReadsOn old s (bytes ++ b ∷ front) new
 open_on old new s b [] l bytes r t = reads_more old l s bytes r b new (opens_one l new b t.opened t.begins t.feeds)

@@ -1,8 +1,8 @@
 -- A reference that is taken at once is read like its bytes one after another.
-use Rattle.std.proofs.Common.{◌≡◌, ◌∙◌, ℕ, ◌+◌, ◌≤◌, ◌<◌, Bool, true, false, List, [], ◌∷◌, ◌++◌, length, refl, ap, sym, subst, Option, Some, Ok, append_assoc, append-nil, arith, encode_utf8_all}
-use Rattle.std.specs.Prelude.{◌&&◌, ◌==◌, not, nat_le}
+use Rattle.std.proofs.Common.{◌≡◌, ◌∙◌, ℕ, ◌+◌, ◌≤◌, ◌<◌, true, false, List, [], ◌∷◌, ◌++◌, length, refl, ap, sym, subst, Option, Some, Ok, append_assoc, append-nil, arith, encode_utf8_all}
+use Rattle.std.specs.Prelude.{◌&&◌, ◌==◌, not}
 use Rattle.std.specs.List.{list_all}
-use Rattle.std.proofs.lemmas.Bool.{cond-true, cond-false, lt-leb, and_parts, or_from, eqb-true}
+use Rattle.std.proofs.lemmas.Bool.{cond-true, and_parts, or_from, eqb-true}
 use Rattle.std.proofs.lemmas.Bool.Decides.{nat_tests}
 use Rattle.std.proofs.lemmas.List.{length-append}
 use Rattle.std.proofs.lemmas.List.Folds.{list_all-append}
@@ -11,9 +11,6 @@ use Rattle.rx_terms.specs.Text.{Chars}
 use Rattle.rx_terms.proofs.Bools.{by_test}
 use Rattle.rx_terms.proofs.CharLemmas.{ascii-same}
 use Rattle.rx_chars.specs.Characters.{as_line_end}
-use Rattle.rx_chars.specs.Utf8.{answer_of}
-use Rattle.rx_chars.specs.declared.utf8.Utf8Step.{Utf8Step}
-use Rattle.rx_chars.specs.declared.utf8.Utf8Step.TheVariants.{Char}
 use Rattle.rx_chars.proofs.Utf8Answers.{first_whole}
 use Rattle.rx_grammar.specs.References.{meaning}
 use Rattle.rx_grammar.specs.Items.{values}
@@ -39,7 +36,7 @@ use Rattle.rx_scan.specs.Entries as entries
 use Rattle.rx_scan.specs.Places.{said, ended, entered}
 use Rattle.rx_scan.specs.Scanner.{Reading}
 use Rattle.rx_scan.specs.WholeReferences.{IsReference, TellsReference}
-use Rattle.rx_scan.proofs.FeedLemmas.{chosen}
+use Rattle.rx_scan.proofs.CharacterLemmas.{other_read}
 use Rattle.rx_scan.proofs.References.{no_closes, no_stops, run_is, run_ascii}
 use Rattle.rx_scan.proofs.RunLemmas.{ReadsOn, reads_more}
 use Rattle.rx_scan.proofs.Snoc.{and_false}
@@ -57,29 +54,10 @@ record IsAlone (v : Reading) (b : ℕ) : Type 0 where
   ascii : b ≤ 127
 
 module _ (v new : Reading) (b : ℕ) (t : IsAlone v b) (does : entries.Enters v b false (entries.move_at v b) (Ok what.Nothing) new) where
-  enters : entries.Enters v (as_line_end b) (b == 13) (entries.move_at v (as_line_end b)) (Ok what.Nothing) new
-  enters =
-      subst (λ (x : Bool). entries.Enters v (as_line_end b) x (entries.move_at v (as_line_end b)) (Ok what.Nothing) new) (sym t.no_return)
-      (subst (λ (x : ℕ). entries.Enters v x false (entries.move_at v x) (Ok what.Nothing) new) (sym (cond-false _ _ _ t.no_return)) does)
-
-  not_long : (known : Bool) → known ≡ false → entries.is_long v known ≡ false
-  not_long known e = ap (λ (x : Bool). entries.is_long v x) e
-
-  not_passed : entries.is_passed v.place b ≡ false
-  not_passed = or_from _ _ (ap (λ x. not x && (b == 65279)) t.started) (ap (λ x. x && (b == 10)) t.on_a_line)
-
-  as_char : entries.ReadsAnswer v (b ∷ []) (Char b) (Ok what.Nothing) new
-  as_char =
-      chosen (b == 0) _ _ t.some
-      (chosen (entries.is_long v (known_tags.is_tag v.pending.mark)) _ _ (not_long (known_tags.is_tag v.pending.mark) t.no_tag)
-      (chosen (entries.is_passed v.place b) _ _ not_passed
-      (chosen (entries.is_long v (known_tags.is_tag_with v.setting.syntax v.setting.inside v.pending.mark (as_line_end b))) _ _ (not_long (known_tags.is_tag_with v.setting.syntax v.setting.inside v.pending.mark (as_line_end b)) (t.never_tag (as_line_end b))) enters)))
-
   reads_alone : entries.Reads v b (Ok what.Nothing) new
   reads_alone =
-      chosen (nat_le v.setting.limits.page v.place.at) _ _ (lt-leb v.setting.limits.page v.place.at t.page)
-      (subst (λ (x : List ℕ). entries.ReadsAnswer v (x ++ b ∷ []) (answer_of (x ++ b ∷ [])) (Ok what.Nothing) new) (sym t.held)
-      (subst (λ (a : Utf8Step). entries.ReadsAnswer v (b ∷ []) a (Ok what.Nothing) new) (first_whole b t.ascii) as_char))
+      other_read v new [] b b (Ok what.Nothing) t.held (first_whole b t.ascii) t.page t.some (ap (entries.is_long v) t.no_tag) (ap (entries.is_long v) (t.never_tag (as_line_end b)))
+      (or_from _ _ (ap (λ x. not x && (b == 65279)) t.started) (ap (λ x. x && (b == 10)) t.on_a_line)) t.no_return does
 
 -- behind so many bytes of the reference
 abbrev within : ℕ → Position → Position

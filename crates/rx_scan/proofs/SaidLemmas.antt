@@ -34,7 +34,7 @@ use Rattle.rx_scan.specs.Fronts.{has_text}
 use Rattle.rx_scan.specs.Places.{said, ended, holding}
 use Rattle.rx_scan.specs.Plain.{is_plain}
 use Rattle.rx_scan.specs.Scanner.{Reading}
-use Rattle.rx_scan.proofs.FeedLemmas.{chosen}
+use Rattle.rx_scan.proofs.CharacterLemmas.{chosen, other_read}
 use Rattle.rx_scan.proofs.PlainLemmas.{is_none}
 use Rattle.rx_scan.proofs.RunLemmas.{ReadsOn, reads_more}
 
@@ -111,35 +111,14 @@ module _ (l new : Reading) (held : List ℕ) (b c : ℕ) (t : Leads l held (b �
       subst (λ (x : Move). entries.Enters l c false x (Ok what.Nothing) new) (sym move_is)
       (ap (λ x. x && (c == 10)) t.undropped, tells)
 
-  enters : entries.Enters l (as_line_end c) (c == 13) (entries.move_at l (as_line_end c)) (Ok what.Nothing) new
-  enters =
-      subst (λ (x : Bool). entries.Enters l (as_line_end c) x (entries.move_at l (as_line_end c)) (Ok what.Nothing) new) (sym (is_none c 13 t.plain refl))
-      (subst (λ (x : ℕ). entries.Enters l x false (entries.move_at l x) (Ok what.Nothing) new) (sym (cond-false _ _ _ (is_none c 13 t.plain refl))) says)
-
-  not_long : entries.is_long l (known_tags.is_tag l.pending.mark) ≡ false
-  not_long = ap (λ (x : TokenState). entries.is_long l (known_tags.is_tag x)) t.between
-
-  not_long_with : entries.is_long l (known_tags.is_tag_with l.setting.syntax l.setting.inside l.pending.mark (as_line_end c)) ≡ false
-  not_long_with = ap (λ (x : TokenState). entries.is_long l (known_tags.is_tag_with l.setting.syntax l.setting.inside x (as_line_end c))) t.between
-
-  not_passed : entries.is_passed l.place c ≡ false
-  not_passed = or_from _ _ (ap (λ x. not x && (c == 65279)) t.started) (ap (λ x. x && (c == 10)) t.on_a_line)
-
-  as_char : entries.ReadsAnswer l (held ++ b ∷ []) (Char c) (Ok what.Nothing) new
-  as_char =
-      chosen (c == 0) _ _ (is_none c 0 t.plain refl)
-      (chosen (entries.is_long l (known_tags.is_tag l.pending.mark)) _ _ not_long
-      (chosen (entries.is_passed l.place c) _ _ not_passed
-      (chosen (entries.is_long l (known_tags.is_tag_with l.setting.syntax l.setting.inside l.pending.mark (as_line_end c))) _ _ not_long_with enters)))
-
   answers : Char c ≡ answer_of (held ++ b ∷ [])
   answers = answer_is (held ++ b ∷ []) (Char c) ((tables_agree (held ++ b ∷ []) c).1 (t.scalar, t.spelled))
 
   reads_last : entries.Reads l b (Ok what.Nothing) new
   reads_last =
-      chosen (nat_le l.setting.limits.page l.place.at) _ _ (lt-leb l.setting.limits.page l.place.at (omega (arith, t.page)))
-      (subst (λ (x : List ℕ). entries.ReadsAnswer l (x ++ b ∷ []) (answer_of (x ++ b ∷ [])) (Ok what.Nothing) new) (sym t.held_is)
-      (subst (λ (a : Utf8Step). entries.ReadsAnswer l (held ++ b ∷ []) a (Ok what.Nothing) new) answers as_char))
+      other_read l new held b c (Ok what.Nothing) t.held_is answers (omega (arith, t.page)) (is_none c 0 t.plain refl) (ap (λ (x : TokenState). entries.is_long l (known_tags.is_tag x)) t.between)
+      (ap (λ (x : TokenState). entries.is_long l (known_tags.is_tag_with l.setting.syntax l.setting.inside x (as_line_end c))) t.between)
+      (or_from _ _ (ap (λ x. not x && (c == 65279)) t.started) (ap (λ x. x && (c == 10)) t.on_a_line)) (is_none c 13 t.plain refl) says
 
 holding_on : (m n : ℕ) (p : Position) → m ≡ n + 1 → said m p ≡ said n (holding p)
 holding_on m n p q =

@@ -1,14 +1,11 @@
 -- A tag that is taken whole is read like its bytes one after another.
-use Rattle.std.proofs.Common.{◌≡◌, ◌∙◌, ℕ, ◌+◌, ◌-◌, ◌≤◌, ◌<◌, Bool, true, false, List, [], ◌∷◌, ◌++◌, length, take, drop, refl, ap, sym, subst, inl, Ok, arith, get_or, length-take-le, length-drop, Some, zero, suc}
+use Rattle.std.proofs.Common.{◌≡◌, ◌∙◌, ℕ, ◌+◌, ◌-◌, ◌≤◌, ◌<◌, Bool, true, false, List, [], ◌∷◌, length, take, drop, refl, ap, sym, subst, inl, Ok, arith, get_or, length-take-le, length-drop, Some, zero, suc}
 use Rattle.std.specs.List.{list_all}
-use Rattle.std.specs.Prelude.{◌&&◌, not, nat_le, slice_get}
-use Rattle.std.proofs.lemmas.Bool.{lt-leb, or_from}
+use Rattle.std.specs.Prelude.{not, slice_get}
+use Rattle.std.proofs.lemmas.Bool.{or_from}
 use Rattle.std.proofs.lemmas.Grind.{common_steps}
 use Rattle.rx_chars.specs.Characters.{as_line_end}
 use Rattle.rx_chars.specs.Held.{is_none_held}
-use Rattle.rx_chars.specs.Utf8.{answer_of}
-use Rattle.rx_chars.specs.declared.utf8.Utf8Step.{Utf8Step}
-use Rattle.rx_chars.specs.declared.utf8.Utf8Step.TheVariants.{Char}
 use Rattle.rx_chars.proofs.Utf8Answers.{first_whole}
 use Rattle.rx_grammar.specs.Spelling.{has_markup}
 use Rattle.rx_grammar.specs.declared.contents.Content.{Content}
@@ -39,7 +36,7 @@ use Rattle.rx_scan.specs.Places.{fed}
 use Rattle.rx_scan.specs.Scanner.{Reading}
 use Rattle.rx_scan.specs.Steps.{ReadsAs, Took, is_quiet}
 use Rattle.rx_scan.specs.WholeTags.{ReadsOpened, ReadsWholeTag}
-use Rattle.rx_scan.proofs.FeedLemmas.{chosen}
+use Rattle.rx_scan.proofs.CharacterLemmas.{character_read, within_limit}
 use Rattle.rx_scan.proofs.FrontLemmas.{front_read}
 use Rattle.rx_scan.proofs.LoopLemmas.{next_read, token_read}
 use Rattle.rx_scan.proofs.OpenLemmas.{opens_taken}
@@ -55,28 +52,13 @@ module _ (l new : Reading) (m : l.pending.mark ≡ mark.Tag) (held : l.held ≡ 
   enters : entries.Enters l 62 false (entries.move_at l 62) (Ok what.Tag) new
   enters = subst (λ (x : Move). entries.Enters l 62 false x (Ok what.Tag) new) (sym move_is) t
 
-  within : nat_le (entries.token_from l.pending.mark l.place + l.setting.limits.tag) l.place.at ≡ false
-  within =
-      ap (λ (x : TokenState). nat_le (entries.token_from x l.place + l.setting.limits.tag) l.place.at) m
-      ∙ lt-leb (l.place.token + l.setting.limits.tag) l.place.at tag
-
   not_long : (known : Bool) → entries.is_long l known ≡ false
-  not_long known = ap (λ x. known && x) within ∙ and_false known
-
-  not_passed : entries.is_passed l.place 62 ≡ false
-  not_passed = or_from _ _ (and_false (not l.place.started)) (and_false l.place.after_return)
-
-  as_char : entries.ReadsAnswer l (62 ∷ []) (Char 62) (Ok what.Tag) new
-  as_char =
-      chosen (entries.is_long l (known_tags.is_tag l.pending.mark)) _ _ (not_long (known_tags.is_tag l.pending.mark))
-      (chosen (entries.is_passed l.place 62) _ _ not_passed
-      (chosen (entries.is_long l (known_tags.is_tag_with l.setting.syntax l.setting.inside l.pending.mark (as_line_end 62))) _ _ (not_long (known_tags.is_tag_with l.setting.syntax l.setting.inside l.pending.mark (as_line_end 62))) enters))
+  not_long = within_limit l (subst (λ (x : TokenState). l.place.at < entries.token_from x l.place + l.setting.limits.tag) (sym m) tag)
 
   pub ends_read : entries.Reads l 62 (Ok what.Tag) new
   ends_read =
-      chosen (nat_le l.setting.limits.page l.place.at) _ _ (lt-leb l.setting.limits.page l.place.at page)
-      (subst (λ (x : List ℕ). entries.ReadsAnswer l (x ++ 62 ∷ []) (answer_of (x ++ 62 ∷ [])) (Ok what.Tag) new) (sym held)
-      (subst (λ (a : Utf8Step). entries.ReadsAnswer l (62 ∷ []) a (Ok what.Tag) new) (first_whole 62 (omega arith)) as_char))
+      character_read l new [] 62 62 (Ok what.Tag) held (first_whole 62 (omega arith)) page refl (not_long (known_tags.is_tag l.pending.mark))
+      (not_long (known_tags.is_tag_with l.setting.syntax l.setting.inside l.pending.mark (as_line_end 62))) (or_from _ _ (and_false (not l.place.started)) (and_false l.place.after_return)) enters
 
 pub none_held : (held : List ℕ) → is_none_held held ≡ true → held ≡ []
 none_held [] h = refl
@@ -195,21 +177,10 @@ module _ (l : Reading) (m : l.pending.mark ≡ mark.Nothing) (held : l.held ≡ 
   enters_begun : entries.Enters l 60 false (entries.move_at l 60) (Ok what.Nothing) begun
   enters_begun = subst (λ (x : Move). entries.Enters l 60 false x (Ok what.Nothing) begun) (sym begins) (refl, refl)
 
-  short : (known : Bool) → known ≡ false → entries.is_long l known ≡ false
-  short known e = ap (λ x. x && nat_le (entries.token_from l.pending.mark l.place + l.setting.limits.tag) l.place.at) e
-
-  less_than_char : entries.ReadsAnswer l (60 ∷ []) (Char 60) (Ok what.Nothing) begun
-  less_than_char =
-      chosen (entries.is_long l (known_tags.is_tag l.pending.mark)) _ _ (short (known_tags.is_tag l.pending.mark) (ap known_tags.is_tag m))
-      (chosen (entries.is_passed l.place 60) _ _ (or_from _ _ (and_false (not l.place.started)) (and_false l.place.after_return))
-      (chosen (entries.is_long l (known_tags.is_tag_with l.setting.syntax l.setting.inside l.pending.mark (as_line_end 60))) _ _
-      (short (known_tags.is_tag_with l.setting.syntax l.setting.inside l.pending.mark (as_line_end 60)) (ap (λ (x : TokenState). known_tags.is_tag_with l.setting.syntax l.setting.inside x 60) m)) enters_begun))
-
   pub less_than_read : entries.Reads l 60 (Ok what.Nothing) begun
   less_than_read =
-      chosen (nat_le l.setting.limits.page l.place.at) _ _ (lt-leb l.setting.limits.page l.place.at page)
-      (subst (λ (x : List ℕ). entries.ReadsAnswer l (x ++ 60 ∷ []) (answer_of (x ++ 60 ∷ [])) (Ok what.Nothing) begun) (sym held)
-      (subst (λ (a : Utf8Step). entries.ReadsAnswer l (60 ∷ []) a (Ok what.Nothing) begun) (first_whole 60 (omega arith)) less_than_char))
+      character_read l begun [] 60 60 (Ok what.Nothing) held (first_whole 60 (omega arith)) page refl (ap (λ (x : TokenState). entries.is_long l (known_tags.is_tag x)) m)
+      (ap (λ (x : TokenState). entries.is_long l (known_tags.is_tag_with l.setting.syntax l.setting.inside x (as_line_end 60))) m) (or_from _ _ (and_false (not l.place.started)) (and_false l.place.after_return)) enters_begun
 
   -- and what stands whole behind it is the tag
   pub whole_taken : (bytes : List ℕ) (limit count : ℕ) → slice_get bytes 0 ≡ Some 60 → (limit ≡ 0 → ⊥) → limit ≤ length bytes → l.place.at + limit ≤ l.setting.limits.page → limit ≤ l.setting.limits.tag

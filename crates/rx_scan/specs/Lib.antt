@@ -2,6 +2,7 @@ pub mod Buffers
 pub mod Places
 pub mod Plain
 pub mod WideChars
+pub mod Latches
 pub mod Scanner
 pub mod Bytes
 pub mod Entries

@@ -23,6 +23,7 @@ mod endings;
 mod entries;
 mod fronts;
 mod known_tags;
+mod latch;
 mod marks;
 mod moves;
 mod pending;
@@ -43,6 +44,7 @@ mod wide_chars;
 mod words;
 
 pub use answers::Token;
+pub use latch::Latch;
 pub use rx_chars::Syntax;
 pub use rx_grammar::{Content, Fault, Kind, Limits, RawName};
 pub use rx_tags::{Stop, Tag};

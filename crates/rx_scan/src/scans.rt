@@ -3,13 +3,14 @@ ghost use Rattle.std.specs.Prelude.{◌≡◌, true, false, IfOk};
 
 use crate::answers::{Token, TokenKind};
 use crate::buffers::Buffer;
+use crate::latch::Latch;
 use crate::marks::TokenState;
 use crate::pending::Unfinished;
 use crate::places::{Position, Setting};
 use crate::readers::Reader;
 use crate::runs::ROOM;
 use rx_chars::{Syntax, Utf8};
-use rx_grammar::{Content, Fault, Kind, Limits};
+use rx_grammar::{Content, Kind, Limits};
 use rx_tags::{Stop, Tag};
 use rx_terms::NoMemory;
 use std::alloc::Global;
@@ -23,8 +24,7 @@ pub struct Scan {
     reader: Reader,
     what: TokenKind,
     stepped: bool,
-    failed: Option<Fault>,
-    out_of_memory: bool,
+    latch: Latch,
 }
 
 impl Model for Scan {
@@ -33,9 +33,9 @@ impl Model for Scan {
 
     ghost Value = { Scanner };
 
-    ghost view = { λ s. record { reading = s.reader; what = s.what; stepped = s.stepped; failed = s.failed; out_of_memory = s.out_of_memory } };
+    ghost view = { λ s. record { reading = s.reader; what = s.what; stepped = s.stepped; failed = s.latch.failed; out_of_memory = s.latch.out_of_memory } };
 
-    ghost invariant = { λ s. MayShow s.what s.stepped s.failed s.reader };
+    ghost invariant = { λ s. MayShow s.what s.stepped s.latch.failed s.reader };
 }
 
 impl Scan {
@@ -70,8 +70,7 @@ impl Scan {
             },
             what: TokenKind::Nothing,
             stepped: false,
-            failed: None,
-            out_of_memory: false,
+            latch: Latch::new(),
         })
     }
 
@@ -98,18 +97,13 @@ impl Scan {
     pub fn end(&mut self) -> Result<(), Stop>
         ensures { Finishes self.old result self.new }
     {
-        if self.out_of_memory {
-            return Err(Stop::NoMemory);
-        }
-        if let Some(fault) = self.failed {
-            return Err(Stop::Fault(fault));
-        }
+        self.latch.repeat()?;
         if self.reader.is_whole() {
             return Ok(());
         }
-        let fault = self.reader.fault_at(Kind::Unended);
-        self.failed = Some(fault);
-        Err(Stop::Fault(fault))
+        let stop = Stop::Fault(self.reader.fault_at(Kind::Unended));
+        self.latch.keep(stop);
+        Err(stop)
     }
 
     /// The number of bytes taken.
@@ -148,10 +142,7 @@ impl Scan {
         requires place { LiesThere stop self.old.reading.place.at }
         ensures { FailsBy stop self.old self.new }
     {
-        match stop {
-            Stop::Fault(fault) => self.failed = Some(fault),
-            Stop::NoMemory => self.out_of_memory = true,
-        }
+        self.latch.keep(stop);
     }
 
     fn advance(&mut self, piece: &[u8]) -> Result<usize, Stop>
@@ -160,15 +151,8 @@ impl Scan {
         ensures quiet { IsQuiet self.old piece.now result }
         ensures quiet_tells { NoTagOfText self.old piece.now (OnOk result (is_tag self.new.what ≡ false)) }
     {
-        if self.out_of_memory {
-            self.prepare();
-            return Err(Stop::NoMemory);
-        }
-        if let Some(fault) = self.failed {
-            self.prepare();
-            return Err(Stop::Fault(fault));
-        }
         self.prepare();
+        self.latch.repeat()?;
         match self.reader.run(piece) {
             Ok((taken, what)) => {
                 self.what = what;

@@ -1,4 +1,5 @@
-use Rattle.std.proofs.Common.{refl, []}
+use Rattle.std.proofs.Common.{ap, refl, []}
+use Rattle.rx_scan.specs.Latches.{Latched}
 use Rattle.rx_nest.proofs.Advancing.{new_at}
 use Rattle.rx_nest.proofs.nests.Nest.new.Goals as goal
 
@@ -22,6 +23,6 @@ returns-clause-stands c =
       at = at;
       sight = rw c.in_ok-line.ensures refl;
       lends = λ h. absurd (cc);
-      unfailed = refl;
-      unspent = refl;
+      unfailed = ap (λ (l : Latched). l.failed) c.new-3.ensures;
+      unspent = ap (λ (l : Latched). l.out_of_memory) c.new-3.ensures;
     }

@@ -1,6 +1,7 @@
 use Rattle.std.proofs.Common.{sym, subst}
 use Rattle.rx_nest.specs.Readings.{ReadingStands}
-use Rattle.rx_nest.proofs.Turning.{ends_whole, end_stops, no_fault}
+use Rattle.rx_nest.proofs.LatchLemmas.{goes_on}
+use Rattle.rx_nest.proofs.Turning.{ends_whole, end_stops}
 use Rattle.rx_nest.proofs.readings.Reading.finish.Goals as goal
 
 pub returns-in-Ok-clause-gives : goal.returns-in-Ok-clause-gives
@@ -13,7 +14,8 @@ returns-in-Ok-clause-gives g c setting bytes s =
 
 pub returns-in-Ok-clause-whole : goal.returns-in-Ok-clause-whole
 returns-in-Ok-clause-whole g c =
-    let kept = c.self.invariant (no_fault c.self.inside.failed c.in_default.not-Some) c.if-out_of_memory.false in
+    let on = goes_on c.self.inside.latch c.repeat.result c.repeat.ensures c.in_default.not-Err in
+    let kept = c.self.invariant on.0 on.1 in
     let s = kept.0 in
     let way = g.L.Listener.way s.setting in
     record {
@@ -24,8 +26,8 @@ returns-in-Ok-clause-whole g c =
           (c.in-Ok.ensures.ends way.syntax way.limits s.bytes s.goes.signs s.goes.shown);
     }
 
-pub returns-in-Err-clause-gives : goal.returns-in-Err-clause-gives
-returns-in-Err-clause-gives g c setting bytes s =
+pub returns-in-Err-end-clause-gives : goal.returns-in-Err-end-clause-gives
+returns-in-Err-end-clause-gives g c setting bytes s =
     let way = g.L.Listener.way setting in
     let was = subst (λ v. ReadingStands way (g.L.Listener.knows setting) v bytes) (sym c.self.view_is) s in
-    end_stops way bytes was.goes.signs c.self.inside.nest c.end.new.self c.in-Err.stop (c.in-Err.ensures.ends way.syntax way.limits bytes was.goes.signs was.goes.shown)
+    end_stops way bytes was.goes.signs c.self.inside.nest c.end.new.self c.in-Err-end.stop (c.in-Err-end.ensures.ends way.syntax way.limits bytes was.goes.signs was.goes.shown)

@@ -1,0 +1,25 @@
+-- What was answered comes again, and nothing is promised after it but that.
+use Rattle.std.proofs.Common.{◌≡◌, ◌≢◌, ◌∙◌, true, false, None, Some, Result, Ok, Err, refl, sym, ap}
+use Rattle.rx_grammar.specs.declared.stops.Stop.{Stop}
+use Rattle.rx_grammar.specs.declared.stops.Stop.TheVariants as stop
+use Rattle.rx_scan.specs.Entries.{IsNoMemory}
+use Rattle.rx_scan.specs.Latches.{Latched, Repeats, latched_by}
+use Rattle.rx_nest.specs.Falling.{FallsBy}
+use Rattle.rx_nest.specs.Quiets.{HasMemory}
+
+pub falls_by : (why : Stop) (old : Latched) → old.out_of_memory ≡ false → FallsBy why (latched_by why old).failed (latched_by why old).out_of_memory
+falls_by (stop.Fault fault) old e = (refl, e)
+falls_by stop.NoMemory old e = refl
+
+pub has_fallen : {P : Type 0} (why : Stop) (old new : Latched) → new ≡ latched_by why old → new.failed ≡ None → new.out_of_memory ≡ false → P
+has_fallen (stop.Fault fault) old new e unfailed unspent = absurd (let w : None ≡ Some fault = sym unfailed ∙ ap (λ (l : Latched). l.failed) e in cc)
+has_fallen stop.NoMemory old new e unfailed unspent = absurd (let w : false ≡ true = sym unspent ∙ ap (λ (l : Latched). l.out_of_memory) e in cc)
+
+-- nothing is answered again where nothing was answered
+pub goes_on : (l : Latched) (r : Result (Unit {0}) Stop) → Repeats l r → ((why : Stop) → r ≢ Err why) → (l.failed ≡ None) × (l.out_of_memory ≡ false)
+goes_on l (Ok done) again none = again
+goes_on l (Err why) again none = absurd (none why refl)
+
+pub no_want : (why : Stop) → HasMemory why → IsNoMemory {A = Unit {0}} (Err why) ≡ false
+no_want (stop.Fault fault) has = refl
+no_want stop.NoMemory has = absurd has
