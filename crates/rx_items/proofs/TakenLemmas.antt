@@ -4,10 +4,9 @@ use Rattle.std.proofs.Common.{refl, sym, ap, subst, ◌∙◌}
 use Rattle.rx_terms.specs.Text.{Chars, tokens}
 use Rattle.rx_grammar.specs.Tokens.{Attribute, value_of}
 use Rattle.rx_grammar.specs.Trees.{StartTag, Tree}
-use Rattle.rx_microdata.specs.Facts.{Value, Written, Reference, attribute, facts_of, all_text, own_text, distinct_tokens, without_repeats_of, referred as referred_value}
+use Rattle.rx_microdata.specs.Facts.{Value, Written, Reference, Source, AsWritten, AsReference, OrOwnText, AllText, source_of, value_from, value_of_element, attribute, facts_of, all_text, own_text, distinct_tokens, without_repeats_of, referred as referred_value}
 use Rattle.rx_microdata.specs.Properties.{is_any}
 use Rattle.rx_items.specs.Rows.{matters, is_valued, needed}
-use Rattle.rx_items.specs.Rules.{rule_of, value_by}
 use Rattle.rx_items.specs.Spans.{mark_of}
 use Rattle.rx_items.specs.Words.{word_text, word_span, span_if, names_in, id_in, types_in, item_id_in, references_in, is_marked, after_names, after_id, after_types, after_item_id, text_of_words, words_of}
 use Rattle.rx_items.specs.Values.{is_asked, taken_of, text_taken, taken_by, text_by, written, referred, own_unless}
@@ -15,11 +14,8 @@ use Rattle.rx_items.specs.Showing.{ShowsPart, ShowsWord, tag_in}
 use Rattle.rx_items.specs.declared.spans.Span.{Span}
 use Rattle.rx_items.specs.declared.values.Taken.{Taken}
 use Rattle.rx_items.specs.declared.values.Taken.TheVariants as taken
-use Rattle.rx_items.specs.declared.rules.ValueRule.{ValueRule}
-use Rattle.rx_items.specs.declared.rules.ValueRule.TheVariants as rule
 use Rattle.rx_items.proofs.ListLemmas.{append_nil, append_assoc}
 use Rattle.rx_items.proofs.ShowLemmas.{word_more}
-use Rattle.rx_items.proofs.RuleLemmas.{value-by-rule}
 
 -- one text is another with more at its end
 abbrev pub More : Chars → Chars → Type 0
@@ -142,42 +138,33 @@ own_shown : (text : Chars) (o : Option Chars) (all own : Chars) → ShowsTaken (
 own_shown text None all own = refl
 own_shown text (Some part) all own = (part, refl, word_shown text (Some part))
 
-rule_shown : (r : ValueRule) (text : Chars) (t : StartTag) (inner : Tree)
-    → ShowsTaken (text_by r text t.attributes) (taken_by r text t.attributes) (value_by r t inner) (all_text inner) (own_text inner)
-rule_shown rule.Content text t inner = written_shown text (attribute t "content") (all_text inner) (own_text inner)
-rule_shown rule.Src text t inner = referred_shown text (attribute t "src") (all_text inner) (own_text inner)
-rule_shown rule.Href text t inner = referred_shown text (attribute t "href") (all_text inner) (own_text inner)
-rule_shown rule.Data text t inner = referred_shown text (attribute t "data") (all_text inner) (own_text inner)
-rule_shown rule.Value text t inner = written_shown text (attribute t "value") (all_text inner) (own_text inner)
-rule_shown rule.Time text t inner = own_shown text (attribute t "datetime") (all_text inner) (own_text inner)
-rule_shown rule.Text text t inner = refl
+source_shown : (s : Source) (text : Chars) (t : StartTag) (inner : Tree)
+    → ShowsTaken (text_by s text t.attributes) (taken_by s text t.attributes) (value_from s t inner) (all_text inner) (own_text inner)
+source_shown (AsWritten name) text t inner = written_shown text (value_of t.attributes name) (all_text inner) (own_text inner)
+source_shown (AsReference name) text t inner = referred_shown text (value_of t.attributes name) (all_text inner) (own_text inner)
+source_shown (OrOwnText name) text t inner = own_shown text (value_of t.attributes name) (all_text inner) (own_text inner)
+source_shown AllText text t inner = refl
 
-asked_shown : (b : Bool) (r : ValueRule) (text : Chars) (t : StartTag) (inner : Tree)
-    → ShowsTaken (cond b (text_by r text t.attributes) text) (cond b (taken_by r text t.attributes) taken.Empty) (cond b (value_by r t inner) (Written [])) (all_text inner) (own_text inner)
-asked_shown true r text t inner = rule_shown r text t inner
-asked_shown false r text t inner = refl
+asked_shown : (b : Bool) (s : Source) (text : Chars) (t : StartTag) (inner : Tree)
+    → ShowsTaken (cond b (text_by s text t.attributes) text) (cond b (taken_by s text t.attributes) taken.Empty) (cond b (value_from s t inner) (Written [])) (all_text inner) (own_text inner)
+asked_shown true s text t inner = source_shown s text t inner
+asked_shown false s text t inner = refl
 
 pub taken_shown : (text : Chars) (t : StartTag) (inner : Tree)
     → ShowsTaken (text_taken text (tag_in t)) (taken_of text (tag_in t)) (needed (facts_of t inner)).value (all_text inner) (own_text inner)
 taken_shown text t inner =
-    let e = asked t inner in
-    let v = value-by-rule t inner in
-    let same : (needed (facts_of t inner)).value ≡ cond (is_asked t.attributes) (value_by (rule_of t.name) t inner) (Written []) = λ i. cond (e i) (v i) (Written []) in
-    subst (λ w. ShowsTaken (text_taken text (tag_in t)) (taken_of text (tag_in t)) w (all_text inner) (own_text inner)) (sym same)
-    (asked_shown (is_asked t.attributes) (rule_of t.name) text t inner)
+    subst (λ b. ShowsTaken (text_taken text (tag_in t)) (taken_of text (tag_in t)) (cond b (value_of_element t inner) (Written [])) (all_text inner) (own_text inner)) (sym (asked t inner))
+    (asked_shown (is_asked t.attributes) (source_of t.name) text t inner)
 
-text_by_on : (r : ValueRule) (text : Chars) (attributes : List Attribute) → More text (text_by r text attributes)
-text_by_on rule.Content text attributes = word_on text (value_of attributes (codes "content"))
-text_by_on rule.Src text attributes = word_on text (value_of attributes (codes "src"))
-text_by_on rule.Href text attributes = word_on text (value_of attributes (codes "href"))
-text_by_on rule.Data text attributes = word_on text (value_of attributes (codes "data"))
-text_by_on rule.Value text attributes = word_on text (value_of attributes (codes "value"))
-text_by_on rule.Time text attributes = word_on text (value_of attributes (codes "datetime"))
-text_by_on rule.Text text attributes = no_more text
+text_by_on : (s : Source) (text : Chars) (attributes : List Attribute) → More text (text_by s text attributes)
+text_by_on (AsWritten name) text attributes = word_on text (value_of attributes name)
+text_by_on (AsReference name) text attributes = word_on text (value_of attributes name)
+text_by_on (OrOwnText name) text attributes = word_on text (value_of attributes name)
+text_by_on AllText text attributes = no_more text
 
 cond_on : (b : Bool) (text longer : Chars) → More text longer → More text (cond b longer text)
 cond_on true text longer m = m
 cond_on false text longer m = no_more text
 
 pub taken_on : (text : Chars) (t : StartTag) → More text (text_taken text (tag_in t))
-taken_on text t = cond_on (is_asked t.attributes) text (text_by (rule_of t.name) text t.attributes) (text_by_on (rule_of t.name) text t.attributes)
+taken_on text t = cond_on (is_asked t.attributes) text (text_by (source_of t.name) text t.attributes) (text_by_on (source_of t.name) text t.attributes)

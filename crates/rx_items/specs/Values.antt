@@ -2,12 +2,10 @@
 use Rattle.std.specs.Prelude.{Bool, not, ◌&&◌, List, [], Option, Some, None, is_some, unwrap_or, codes, if◌then◌else◌}
 use Rattle.rx_terms.specs.Text.{Chars, tokens}
 use Rattle.rx_grammar.specs.Tokens.{Attribute, Tag, value_of}
+use Rattle.rx_microdata.specs.Facts.{Source, AsWritten, AsReference, OrOwnText, AllText, source_of}
 use Rattle.rx_microdata.specs.Properties.{is_any}
 use Rattle.rx_items.specs.Words.{word_span, word_text}
-use Rattle.rx_items.specs.Rules.{rule_of}
 use Rattle.rx_items.specs.declared.spans.Span.{Span}
-use Rattle.rx_items.specs.declared.rules.ValueRule.{ValueRule}
-use Rattle.rx_items.specs.declared.rules.ValueRule.TheVariants as rule
 use Rattle.rx_items.specs.declared.values.Taken.{Taken}
 use Rattle.rx_items.specs.declared.values.Taken.TheVariants as taken
 
@@ -31,30 +29,24 @@ is_named attributes = is_any (tokens (unwrap_or (value_of attributes (codes "ite
 abbrev pub is_asked : List Attribute → Bool
 is_asked attributes = not (is_some (value_of attributes (codes "itemscope"))) && is_named attributes
 
-abbrev pub taken_by : ValueRule → Chars → List Attribute → Taken
-taken_by rule.Content text attributes = written (word_span text (value_of attributes (codes "content")))
-taken_by rule.Src text attributes = referred (word_span text (value_of attributes (codes "src")))
-taken_by rule.Href text attributes = referred (word_span text (value_of attributes (codes "href")))
-taken_by rule.Data text attributes = referred (word_span text (value_of attributes (codes "data")))
-taken_by rule.Value text attributes = written (word_span text (value_of attributes (codes "value")))
-taken_by rule.Time text attributes = own_unless (word_span text (value_of attributes (codes "datetime")))
-taken_by rule.Text text attributes = taken.Text
+abbrev pub taken_by : Source → Chars → List Attribute → Taken
+taken_by (AsWritten name) text attributes = written (word_span text (value_of attributes name))
+taken_by (AsReference name) text attributes = referred (word_span text (value_of attributes name))
+taken_by (OrOwnText name) text attributes = own_unless (word_span text (value_of attributes name))
+taken_by AllText text attributes = taken.Text
 
-abbrev pub text_by : ValueRule → Chars → List Attribute → Chars
-text_by rule.Content text attributes = word_text text (value_of attributes (codes "content"))
-text_by rule.Src text attributes = word_text text (value_of attributes (codes "src"))
-text_by rule.Href text attributes = word_text text (value_of attributes (codes "href"))
-text_by rule.Data text attributes = word_text text (value_of attributes (codes "data"))
-text_by rule.Value text attributes = word_text text (value_of attributes (codes "value"))
-text_by rule.Time text attributes = word_text text (value_of attributes (codes "datetime"))
-text_by rule.Text text attributes = text
+abbrev pub text_by : Source → Chars → List Attribute → Chars
+text_by (AsWritten name) text attributes = word_text text (value_of attributes name)
+text_by (AsReference name) text attributes = word_text text (value_of attributes name)
+text_by (OrOwnText name) text attributes = word_text text (value_of attributes name)
+text_by AllText text attributes = text
 
 -- where it is asked for
 abbrev pub taken_if : Bool → Chars → Tag → Taken
-taken_if asked text tag = if asked then taken_by (rule_of tag.name) text tag.attributes else taken.Empty
+taken_if asked text tag = if asked then taken_by (source_of tag.name) text tag.attributes else taken.Empty
 
 abbrev pub text_if : Bool → Chars → Tag → Chars
-text_if asked text tag = if asked then text_by (rule_of tag.name) text tag.attributes else text
+text_if asked text tag = if asked then text_by (source_of tag.name) text tag.attributes else text
 
 abbrev pub taken_of : Chars → Tag → Taken
 taken_of text tag = taken_if (is_asked tag.attributes) text tag

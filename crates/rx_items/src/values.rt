@@ -1,13 +1,16 @@
 //! What a tag says of the value of its element.
-ghost use Rattle.std.specs.Prelude.{◌≡◌, [], IfOk, OnOk, unwrap_or};
+ghost use Rattle.std.specs.Prelude.{◌≡◌, true, [], IfOk, OnOk, unwrap_or};
+ghost use Rattle.std.specs.List.{list_all};
 ghost use Rattle.std.specs.Str.{chars};
+ghost use Rattle.rx_terms.specs.Ascii.{is_ascii};
 ghost use Rattle.rx_terms.specs.Text.{tokens, seen_slice};
+ghost use Rattle.rx_microdata.specs.Facts as facts;
 ghost use Rattle.rx_microdata.specs.Properties.{is_any};
 ghost use Rattle.rx_tags.specs.Seen.{tag_seen};
 ghost use Rattle.rx_items.specs.Values.{taken_by, taken_if, text_by, text_if, written, referred, own_unless};
-ghost use Rattle.rx_items.specs.Rules.{rule_of as the_rule};
+ghost use Rattle.rx_items.specs.Rules.{name_in, source_seen};
 
-use crate::rules::{ValueRule, rule_of};
+use crate::rules::{ValueSource, source_of};
 use crate::spans::Span;
 use crate::words::keep_attribute;
 use rx_tags::Tag;
@@ -85,26 +88,25 @@ pub(crate) fn take_value(
     if !is_asked {
         return Ok(Taken::Empty);
     }
-    take_by(words, tag, rule_for(tag))
+    take_by(words, tag, source_for(tag))
 }
 
-fn rule_for(tag: &Tag<'_>) -> ValueRule
-    ensures { result ≡ the_rule (tag_seen tag.now).name }
+fn source_for(tag: &Tag<'_>) -> ValueSource
+    ensures source { source_seen result ≡ facts.source_of (tag_seen tag.now).name }
+    ensures ascii { list_all is_ascii (name_in (source_seen result)) ≡ true }
 {
-    rule_of(tag.name())
+    source_of(tag.name())
 }
 
-fn take_by(words: &mut TextStore, tag: &Tag<'_>, rule: ValueRule) -> Result<Taken, NoMemory>
-    ensures text { OnOk result (words.new ≡ text_by rule words.old (tag_seen tag.now).attributes) }
-    ensures value { IfOk result (λ taken. taken ≡ taken_by rule words.old (tag_seen tag.now).attributes) }
+fn take_by(words: &mut TextStore, tag: &Tag<'_>, source: ValueSource) -> Result<Taken, NoMemory>
+    requires { list_all is_ascii (name_in (source_seen source)) ≡ true }
+    ensures text { OnOk result (words.new ≡ text_by (source_seen source) words.old (tag_seen tag.now).attributes) }
+    ensures value { IfOk result (λ taken. taken ≡ taken_by (source_seen source) words.old (tag_seen tag.now).attributes) }
 {
-    match rule {
-        ValueRule::Content => Ok(written(keep_attribute(words, tag, "content")?)),
-        ValueRule::Src => Ok(referred(keep_attribute(words, tag, "src")?)),
-        ValueRule::Href => Ok(referred(keep_attribute(words, tag, "href")?)),
-        ValueRule::Data => Ok(referred(keep_attribute(words, tag, "data")?)),
-        ValueRule::Value => Ok(written(keep_attribute(words, tag, "value")?)),
-        ValueRule::Time => Ok(own_unless(keep_attribute(words, tag, "datetime")?)),
-        ValueRule::Text => Ok(Taken::Text),
+    match source {
+        ValueSource::AsWritten(name) => Ok(written(keep_attribute(words, tag, name)?)),
+        ValueSource::AsReference(name) => Ok(referred(keep_attribute(words, tag, name)?)),
+        ValueSource::OrOwnText(name) => Ok(own_unless(keep_attribute(words, tag, name)?)),
+        ValueSource::AllText => Ok(Taken::Text),
     }
 }

@@ -12,6 +12,14 @@ pub data Value : Type 0 where
   Written : Chars → Value
   Reference : Chars → Value
 
+-- where the value of an element that is no item stands: in the attribute of a name, there as a reference, there or else in the
+-- element's own text, or in all of its text
+pub data Source : Type 0 where
+  AsWritten : Chars → Source
+  AsReference : Chars → Source
+  OrOwnText : Chars → Source
+  AllText : Source
+
 pub record Facts : Type 0 where
   pub token : ℕ  -- the offset of the start tag's `<`
   pub at : ℕ  -- that of its `>`
@@ -71,16 +79,27 @@ abbrev pub referred : Option Chars → Value
 referred None = Written []
 referred (Some reference) = Reference reference
 
--- HTML, 5.2.4: the value of an element that is no item, by the first line that applies
+-- HTML, 5.2.4: where a value stands, by the element's name: the first line that applies
+abbrev pub source_of : Chars → Source
+source_of name =
+    if same name (codes "meta") then AsWritten (codes "content")
+    else if is_among embedding_names name then AsReference (codes "src")
+    else if is_among linking_names name then AsReference (codes "href")
+    else if same name (codes "object") then AsReference (codes "data")
+    else if is_among valued_names name then AsWritten (codes "value")
+    else if same name (codes "time") then OrOwnText (codes "datetime")
+    else AllText
+
+-- what stands there
+abbrev pub value_from : Source → StartTag → Tree → Value
+value_from (AsWritten name) tag inner = Written (unwrap_or (value_of tag.attributes name) [])
+value_from (AsReference name) tag inner = referred (value_of tag.attributes name)
+value_from (OrOwnText name) tag inner = Written (unwrap_or (value_of tag.attributes name) (own_text inner))
+value_from AllText tag inner = Written (all_text inner)
+
+-- the value of an element that is no item
 abbrev pub value_of_element : StartTag → Tree → Value
-value_of_element tag inner =
-    if same tag.name (codes "meta") then Written (given tag "content")
-    else if is_among embedding_names tag.name then referred (attribute tag "src")
-    else if is_among linking_names tag.name then referred (attribute tag "href")
-    else if same tag.name (codes "object") then referred (attribute tag "data")
-    else if is_among valued_names tag.name then Written (given tag "value")
-    else if same tag.name (codes "time") then Written (unwrap_or (attribute tag "datetime") (own_text inner))
-    else Written (all_text inner)
+value_of_element tag inner = value_from (source_of tag.name) tag inner
 
 -- the characters of a value
 abbrev pub said : Chars → Value → Chars
