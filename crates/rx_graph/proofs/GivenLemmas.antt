@@ -3,13 +3,12 @@ use Rattle.std.proofs.Common.{◌≡◌, ℕ, zero, suc, ◌+◌, ◌<◌, ◌�
 use Rattle.std.proofs.lemmas.List.{map-append, take_all}
 use Rattle.std.proofs.lemmas.Option.{slice_get-get_or}
 use Rattle.rx_terms.specs.declared.triples.Triple.{Triple as CodeTriple}
-use Rattle.rx_model.specs.Sets.{distinct}
+use Rattle.rx_model.specs.Sets.{distinct, with_all}
 use Rattle.rx_model.specs.Terms.{same_triple, set_of}
 use Rattle.rx_model.specs.Numbered.{blanks_of, blanks, place_in, rename, numbered, Renamed}
 use Rattle.rx_model.specs.Seen.{triple_seen, triples_seen}
 use Rattle.rx_model.proofs.Numbered.{numbers_one_to_one}
 use Rattle.rx_model.proofs.Exact.{exact_numbers}
-use Rattle.rx_graph.specs.Numbering.{known}
 use Rattle.rx_graph.proofs.NumberLemmas.{numbers_turn, front_turn, numbered_once}
 
 -- ---- one element of a list is set
@@ -57,7 +56,7 @@ pub given_start : (list : List CodeTriple) (numbers : List ℕ) → numbers ≡ 
 given_start list numbers e = record { size = refl; known = e; front = refl; rest = refl }
 
 pub given_turn : (list now : List CodeTriple) (i : ℕ) (numbers more : List ℕ) (d t u : CodeTriple) → Given list now i numbers → i < length list → t ≡ get_or now i d
-    → more ≡ known numbers (blanks_of (triple_seen t)) → triple_seen u ≡ rename (place_in nat_eq more) (triple_seen t)
+    → more ≡ with_all nat_eq numbers (blanks_of (triple_seen t)) → triple_seen u ≡ rename (place_in nat_eq more) (triple_seen t)
     → Given list (slice_set now i u) (i + 1) more
 given_turn list now i numbers more d t u g within is grows renamed =
     let here : get_or list i d ≡ t = get_first list i d ∙ ap (λ z. get_or z 0 d) (sym g.rest) ∙ sym (get_first now i d) ∙ sym is in

@@ -1,4 +1,5 @@
 pub mod SetLemmas
+pub mod Growing
 pub mod CodeEq
 pub mod NumberLemmas
 pub mod NodeLemmas

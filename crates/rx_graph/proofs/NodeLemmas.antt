@@ -3,14 +3,14 @@ use Rattle.std.proofs.Common.{◌≡◌, suc, ◌+◌, Bool, true, false, nat_lt
 use Rattle.std.specs.List.{IsDistinct, AllByRecursion, position_or_len}
 use Rattle.std.proofs.lemmas.Bool.Decides.{nat_tests}
 use Rattle.rx_graph.specs.declared.resources.Resource.{Resource}
-use Rattle.rx_graph.specs.Resources.{resource_seen, node_added, number_in, AreDistinct}
+use Rattle.rx_graph.specs.Resources.{resource_seen, number_in, AreDistinct}
 use Rattle.rx_unique.specs.Unique.{insert_key}
-use Rattle.rx_model.specs.Sets.{contains}
+use Rattle.rx_model.specs.Sets.{contains, with_one}
 use Rattle.rx_model.specs.Terms.{same_node}
 use Rattle.rx_graph.proofs.CodeEq.{resource_eq, resources_agree_back}
 use Rattle.rx_graph.proofs.SetLemmas.{insert_seen}
 
-pub node_added_seen : (list : List Resource) (r : Resource) → map resource_seen (insert_key resource_eq list r) ≡ node_added (map resource_seen list) (resource_seen r)
+pub node_added_seen : (list : List Resource) (r : Resource) → map resource_seen (insert_key resource_eq list r) ≡ with_one (same_node nat_eq) (map resource_seen list) (resource_seen r)
 node_added_seen list r = insert_seen resource_seen resource_eq (same_node nat_eq) resources_agree_back list r
 
 none_alike : (x : Resource) (list : List Resource) → AllByRecursion (λ y. resource_eq x y ≡ false) list → contains (same_node nat_eq) (map resource_seen list) (resource_seen x) ≡ false

@@ -1,12 +1,11 @@
 -- Numbering from left to right.
-use Rattle.std.proofs.Common.{◌≡◌, ℕ, suc, ◌+◌, Bool, true, false, ◌||◌, List, [], ◌∷◌, ◌++◌, map, refl, sym, ap, ap₂, ◌∙◌, inl, inr, true≢false, if◌then◌else◌, nat_eq, arith, append_assoc, append-nil, cond, take, slice_get, Some}
-use Rattle.rx_model.specs.Sets.{Among, contains, distinct}
+use Rattle.std.proofs.Common.{◌≡◌, ℕ, ◌+◌, Bool, true, false, List, [], ◌∷◌, ◌++◌, map, refl, sym, ap, ap₂, ◌∙◌, inl, if◌then◌else◌, nat_eq, arith, append_assoc, append-nil, cond, take, slice_get, Some}
+use Rattle.rx_model.specs.Sets.{Among, contains, distinct, with_one, with_all}
 use Rattle.rx_model.specs.Terms.{Node, Iri, Blank, Term, Resource, Literal, Triple, same_triple}
 use Rattle.rx_model.specs.Numbered.{blank_of_node, blank_of_term, blanks_of, blanks, place_in, rename_node, rename_term, rename, numbered}
-use Rattle.rx_model.proofs.Sets.{Among_left, Among_right, Among-contains, Among_distinct, Among_flat_map}
+use Rattle.rx_model.proofs.Sets.{Among_left, Among_right, Among_distinct, Among_flat_map}
 use Rattle.rx_model.proofs.Exact.{exact_numbers, exact_triples}
 use Rattle.rx_model.proofs.Numbered.{place_tells}
-use Rattle.rx_graph.specs.Numbering.{known_one, known}
 use Rattle.rx_terms.specs.declared.triples.Blank.{Blank as CodeBlank}
 use Rattle.rx_terms.specs.declared.triples.Triple.{Triple as CodeTriple}
 use Rattle.rx_model.specs.Seen.{triple_seen, triples_seen}
@@ -16,7 +15,8 @@ use Rattle.std.proofs.lemmas.List.{map-append}
 use Rattle.std.proofs.lemmas.List.Recursion.{is_position_or_len}
 use Rattle.rx_graph.proofs.CodeEq.{blank_eq, exact_blank}
 use Rattle.rx_terms.proofs.Bools.{same_truth}
-use Rattle.rx_graph.proofs.SetLemmas.{distinct_grows, insert_seen, seen_more, distinct_apart}
+use Rattle.rx_graph.proofs.Growing.{place_append, kept_all, has_all, all_distinct, in_distinct}
+use Rattle.rx_graph.proofs.SetLemmas.{insert_seen, seen_more, distinct_apart}
 
 abbrev pub number_of : CodeBlank → ℕ
 number_of b = b.0
@@ -26,75 +26,8 @@ blanks_agree a b = same_truth (blank_eq a b) (nat_eq b.0 a.0)
     (λ h. (exact_numbers b.0 a.0).1 (ap number_of (sym ((exact_blank a b).0 h))))
     (λ h. (exact_blank a b).1 (λ i. record { 0 = sym ((exact_numbers b.0 a.0).0 h) i }))
 
-pub known_seen : (list : List CodeBlank) (b : CodeBlank) → map number_of (insert_key blank_eq list b) ≡ known_one (map number_of list) b.0
+pub known_seen : (list : List CodeBlank) (b : CodeBlank) → map number_of (insert_key blank_eq list b) ≡ with_one nat_eq (map number_of list) b.0
 known_seen list b = insert_seen number_of blank_eq nat_eq blanks_agree list b
-
--- ---- what is known grows at its end
-
-pub contains_append : (xs ys : List ℕ) (b : ℕ) → contains nat_eq xs b ≡ true → contains nat_eq (xs ++ ys) b ≡ true
-contains_append [] ys b h = absurd (true≢false (sym h))
-contains_append (x ∷ xs) ys b h = go (nat_eq x b) refl h (contains_append xs ys b)
-  where
-    go : (t : Bool) → nat_eq x b ≡ t → (t || contains nat_eq xs b) ≡ true → (contains nat_eq xs b ≡ true → contains nat_eq (xs ++ ys) b ≡ true) → (t || contains nat_eq (xs ++ ys) b) ≡ true
-    go true e k ih = refl
-    go false e k ih = ih k
-
-pub place_append : (xs ys : List ℕ) (b : ℕ) → contains nat_eq xs b ≡ true → place_in nat_eq (xs ++ ys) b ≡ place_in nat_eq xs b
-place_append [] ys b h = absurd (true≢false (sym h))
-place_append (x ∷ xs) ys b h = go (nat_eq x b) refl h (place_append xs ys b)
-  where
-    go : (t : Bool) → nat_eq x b ≡ t → (t || contains nat_eq xs b) ≡ true → (contains nat_eq xs b ≡ true → place_in nat_eq (xs ++ ys) b ≡ place_in nat_eq xs b) → cond t 0 (suc (place_in nat_eq (xs ++ ys) b)) ≡ cond t 0 (suc (place_in nat_eq xs b))
-    go true e k ih = refl
-    go false e k ih = ap suc (ih k)
-
--- xs is known among ys, at the same places
-pub record Kept (xs ys : List ℕ) : Type 0 where
-  pub among : (b : ℕ) → contains nat_eq xs b ≡ true → contains nat_eq ys b ≡ true
-  pub places : (b : ℕ) → contains nat_eq xs b ≡ true → place_in nat_eq ys b ≡ place_in nat_eq xs b
-
-kept_self : (xs : List ℕ) → Kept xs xs
-kept_self xs = record { among = λ b h. h; places = λ b h. refl }
-
-kept_then : (xs ys zs : List ℕ) → Kept xs ys → Kept ys zs → Kept xs zs
-kept_then xs ys zs k l = record { among = λ b h. l.among b (k.among b h); places = λ b h. l.places b (k.among b h) ∙ k.places b h }
-
-kept_append : (xs ys : List ℕ) → Kept xs (xs ++ ys)
-kept_append xs ys = record { among = contains_append xs ys; places = place_append xs ys }
-
-kept_one : (seen : List ℕ) (b : ℕ) → Kept seen (known_one seen b)
-kept_one seen b = go (contains nat_eq seen b)
-  where
-    go : (t : Bool) → Kept seen (if t then seen else seen ++ b ∷ [])
-    go true = kept_self seen
-    go false = kept_append seen (b ∷ [])
-
-pub kept_known : (seen more : List ℕ) → Kept seen (known seen more)
-kept_known seen [] = kept_self seen
-kept_known seen (b ∷ more) = kept_then seen (known_one seen b) (known (known_one seen b) more) (kept_one seen b) (kept_known (known_one seen b) more)
-
-pub contains_last : (xs : List ℕ) (b : ℕ) → contains nat_eq (xs ++ b ∷ []) b ≡ true
-contains_last xs b = Among-contains nat_eq exact_numbers (xs ++ b ∷ []) b (Among_right xs (b ∷ []) b (inl refl))
-
-one_known : (seen : List ℕ) (b : ℕ) → contains nat_eq (known_one seen b) b ≡ true
-one_known seen b = go (contains nat_eq seen b) refl
-  where
-    go : (t : Bool) → contains nat_eq seen b ≡ t → contains nat_eq (if t then seen else seen ++ b ∷ []) b ≡ true
-    go true e = e
-    go false e = contains_last seen b
-
-pub all_known : (seen more : List ℕ) (b : ℕ) → Among more b → contains nat_eq (known seen more) b ≡ true
-all_known seen [] b h = absurd h
-all_known seen (c ∷ more) b (inl e) = (kept_known (known_one seen c) more).among b (ap (contains nat_eq (known_one seen c)) (sym e) ∙ one_known seen c)
-all_known seen (c ∷ more) b (inr h) = all_known (known_one seen c) more b h
-
--- ---- from left to right it is `distinct`
-
-pub known_distinct : (list more : List ℕ) → known (distinct nat_eq list) more ≡ distinct nat_eq (list ++ more)
-known_distinct list [] = ap (distinct nat_eq) (sym (append-nil list))
-known_distinct list (b ∷ more) = ap (λ z. known z more) (sym (distinct_grows nat_eq exact_numbers list b)) ∙ known_distinct (list ++ b ∷ []) more ∙ ap (distinct nat_eq) (append_assoc list (b ∷ []) more)
-
-pub all_in_distinct : (list : List ℕ) (b : ℕ) → Among list b → contains nat_eq (distinct nat_eq list) b ≡ true
-all_in_distinct list b m = ap (λ xs. contains nat_eq xs b) (sym (known_distinct [] list)) ∙ all_known [] list b m
 
 -- ---- renaming by two functions that agree
 
@@ -119,13 +52,10 @@ module _ {A B : Type 0} (p q : A → B) where
 
 -- ---- one more triple
 
-in_table : (list : List (Triple ℕ)) (b : ℕ) → Among (blanks list) b → contains nat_eq (distinct nat_eq (blanks list)) b ≡ true
-in_table list b m = Among-contains nat_eq exact_numbers (distinct nat_eq (blanks list)) b (Among_distinct nat_eq exact_numbers (blanks list) b m)
-
 -- what a node is renamed to stays
-pub subject_stays : (old mid new more : List ℕ) (n : Node ℕ) → mid ≡ known old (blank_of_node n) → new ≡ known mid more → rename_node (place_in nat_eq mid) n ≡ rename_node (place_in nat_eq new) n
+pub subject_stays : (old mid new more : List ℕ) (n : Node ℕ) → mid ≡ with_all nat_eq old (blank_of_node n) → new ≡ with_all nat_eq mid more → rename_node (place_in nat_eq mid) n ≡ rename_node (place_in nat_eq new) n
 subject_stays old mid new more n e f = same_node_by (place_in nat_eq mid) (place_in nat_eq new) n
-    (λ b m. rw f (sym ((kept_known mid more).places b (ap (λ z. contains nat_eq z b) e ∙ all_known old (blank_of_node n) b m))))
+    (λ b m. rw f (sym ((kept_all nat_eq mid more).places b (ap (λ z. contains nat_eq z b) e ∙ has_all nat_eq exact_numbers old (blank_of_node n) b m))))
 
 pub renamed_triple : (p : ℕ → ℕ) (t u : Triple ℕ) → u.subject ≡ rename_node p t.subject → u.predicate ≡ t.predicate → u.object ≡ rename_term p t.object → u ≡ rename p t
 renamed_triple p t u a b c = λ i. record { subject = a i; predicate = b i; object = c i }
@@ -135,13 +65,13 @@ blanks_more [] t = append-nil (blanks_of t)
 blanks_more (u ∷ list) t = ap (λ z. blanks_of u ++ z) (blanks_more list t) ∙ sym (append_assoc (blanks_of u) (blanks list) (blanks_of t))
 
 module _ (list : List CodeTriple) (i : ℕ) (t : CodeTriple) (at : slice_get list i ≡ Some t) (numbers more : List ℕ)
-    (before : numbers ≡ distinct nat_eq (blanks (triples_seen (take i list)))) (grows : more ≡ known numbers (blanks_of (triple_seen t))) where
+    (before : numbers ≡ distinct nat_eq (blanks (triples_seen (take i list)))) (grows : more ≡ with_all nat_eq numbers (blanks_of (triple_seen t))) where
   pub numbers_turn : more ≡ distinct nat_eq (blanks (triples_seen (take (i + 1) list)))
-  numbers_turn = grows ∙ ap (λ z. known z (blanks_of (triple_seen t))) before ∙ known_distinct (blanks (triples_seen (take i list))) (blanks_of (triple_seen t))
+  numbers_turn = grows ∙ ap (λ z. with_all nat_eq z (blanks_of (triple_seen t))) before ∙ all_distinct nat_eq exact_numbers (blanks (triples_seen (take i list))) (blanks_of (triple_seen t))
       ∙ ap (distinct nat_eq) (sym (blanks_more (triples_seen (take i list)) (triple_seen t)) ∙ ap blanks (sym (seen_more list i t at)))
 
   places_stay : (b : ℕ) → Among (blanks (triples_seen (take i list))) b → place_in nat_eq numbers b ≡ place_in nat_eq more b
-  places_stay b m = rw grows (sym ((kept_known numbers (blanks_of (triple_seen t))).places b (ap (λ z. contains nat_eq z b) before ∙ in_table (triples_seen (take i list)) b m)))
+  places_stay b m = rw grows (sym ((kept_all nat_eq numbers (blanks_of (triple_seen t))).places b (ap (λ z. contains nat_eq z b) before ∙ in_distinct nat_eq exact_numbers (blanks (triples_seen (take i list))) b m)))
 
   -- and its number in place of each of its blank nodes
   pub front_turn : (old new : List (Triple ℕ)) (u : Triple ℕ)
@@ -191,14 +121,14 @@ numbered_once list once =
 
 -- ---- the place of one that is known
 
-place_new : (xs : List ℕ) (b : ℕ) → place_in nat_eq (known_one xs b) b ≡ place_in nat_eq (xs ++ b ∷ []) b
+place_new : (xs : List ℕ) (b : ℕ) → place_in nat_eq (with_one nat_eq xs b) b ≡ place_in nat_eq (xs ++ b ∷ []) b
 place_new xs b = go (contains nat_eq xs b) refl
   where
     go : (t : Bool) → contains nat_eq xs b ≡ t → place_in nat_eq (if t then xs else xs ++ b ∷ []) b ≡ place_in nat_eq (xs ++ b ∷ []) b
-    go true e = sym (place_append xs (b ∷ []) b e)
+    go true e = sym (place_append nat_eq xs (b ∷ []) b e)
     go false e = refl
 
-pub place_known : (list : List CodeBlank) (b : CodeBlank) → position_or_len (blank_eq b) list ≡ place_in nat_eq (known_one (map number_of list) b.0) b.0
+pub place_known : (list : List CodeBlank) (b : CodeBlank) → position_or_len (blank_eq b) list ≡ place_in nat_eq (with_one nat_eq (map number_of list) b.0) b.0
 place_known list b = sym (is_position_or_len (λ xs. place_in nat_eq (map number_of xs ++ b.0 ∷ []) b.0) (blank_eq b) none step list) ∙ sym (place_new (map number_of list) b.0)
   where
     none : place_in nat_eq (b.0 ∷ []) b.0 ≡ 0

@@ -1,60 +1,46 @@
 -- Blank nodes that have their numbers already.
-use Rattle.std.proofs.Common.{◌≡◌, ◌∙◌, ℕ, zero, suc, ◌<◌, ◌≤◌, Bool, true, false, ◌||◌, List, [], ◌∷◌, ◌++◌, map, length, refl, sym, ap, ap₂, true≢false, if◌then◌else◌, nat_eq, arith, length-append, ◌+◌, take, take_all, slice_get, Option, Some, None, IfSome, MatchOption, is_some, ⊎_elim}
+use Rattle.std.proofs.Common.{◌≡◌, ◌∙◌, ℕ, zero, suc, ◌<◌, ◌≤◌, true, false, ◌||◌, List, [], ◌∷◌, ◌++◌, map, length, refl, sym, ap, ap₂, true≢false, if◌then◌else◌, nat_eq, cond, arith, length-append, ◌+◌, take, take_all, slice_get, Option, Some, None, IfSome, MatchOption, is_some, ⊎_elim}
 use Rattle.std.proofs.lemmas.Bool.{cases_lt}
 use Rattle.std.proofs.lemmas.Bool.Decides.{nat_tests}
-use Rattle.rx_model.specs.Sets.{Among, contains, distinct}
+use Rattle.rx_model.specs.Sets.{Among, contains, distinct, with_one, with_all}
 use Rattle.rx_model.specs.Terms.{Node, Iri, Blank, Term, Resource, Literal, Triple}
 use Rattle.rx_model.specs.Numbered.{blanks, place_in, rename_node, rename_term, rename, numbered, blanks_of}
 use Rattle.rx_model.proofs.Exact.{exact_numbers}
 use Rattle.rx_terms.specs.declared.triples.Triple.{Triple as CodeTriple}
 use Rattle.rx_model.specs.Seen.{triple_seen, triples_seen}
-use Rattle.rx_graph.specs.Numbering.{known_one, known, numbers_to}
-use Rattle.rx_graph.proofs.NumberLemmas.{contains_append, place_append, contains_last, all_in_distinct, same_list_by, numbers_turn}
+use Rattle.rx_graph.specs.Numbering.{numbers_to}
+use Rattle.rx_graph.proofs.Growing.{contains_append, place_append, contains_behind, place_behind, has_last, in_distinct}
+use Rattle.rx_graph.proofs.NumberLemmas.{same_list_by, numbers_turn}
 
 differ : (n b : ℕ) → n < b → nat_eq n b ≡ false
 differ n b l = grind (arith, nat_tests)
 
 -- which numbers there are
-below : (n b : ℕ) → b < n → contains nat_eq (numbers_to n) b ≡ true
+pub below : (n b : ℕ) → b < n → contains nat_eq (numbers_to n) b ≡ true
 below zero b l = absurd (omega arith)
-below (suc n) b l = ⊎_elim (λ k. contains_append (numbers_to n) (n ∷ []) b (below n b k)) (λ (k : n ≤ b). let same : n ≡ b = omega arith in ap (λ m. contains nat_eq (numbers_to n ++ n ∷ []) m) (sym same) ∙ contains_last (numbers_to n) n) (cases_lt b n)
+below (suc n) b l = ⊎_elim (λ k. contains_append nat_eq (numbers_to n) (n ∷ []) b (below n b k)) (λ (k : n ≤ b). let same : n ≡ b = omega arith in ap (λ m. contains nat_eq (numbers_to n ++ n ∷ []) m) (sym same) ∙ has_last nat_eq exact_numbers (numbers_to n) n) (cases_lt b n)
 
-or_last : (xs : List ℕ) (c b : ℕ) → contains nat_eq xs b ≡ false → nat_eq c b ≡ false → contains nat_eq (xs ++ c ∷ []) b ≡ false
-or_last [] c b e f = ap (λ t. t || false) f
-or_last (x ∷ xs) c b e f = go (nat_eq x b) e (λ h. or_last xs c b h f)
-  where
-    go : (t : Bool) → (t || contains nat_eq xs b) ≡ false → (contains nat_eq xs b ≡ false → contains nat_eq (xs ++ c ∷ []) b ≡ false) → (t || contains nat_eq (xs ++ c ∷ []) b) ≡ false
-    go true h on = absurd (true≢false h)
-    go false h on = on h
-
-above : (n b : ℕ) → n ≤ b → contains nat_eq (numbers_to n) b ≡ false
+pub above : (n b : ℕ) → n ≤ b → contains nat_eq (numbers_to n) b ≡ false
 above zero b l = refl
-above (suc n) b l = or_last (numbers_to n) n b (above n b (omega arith)) (differ n b (omega arith))
+above (suc n) b l = contains_behind nat_eq (numbers_to n) (n ∷ []) b (above n b (omega arith)) ∙ ap (λ t. t || false) (differ n b (omega arith))
 
-pub stays : (n b : ℕ) → b < n → known_one (numbers_to n) b ≡ numbers_to n
+pub stays : (n b : ℕ) → b < n → with_one nat_eq (numbers_to n) b ≡ numbers_to n
 stays n b l = ap (λ t. if t then numbers_to n else numbers_to n ++ b ∷ []) (below n b l)
 
-pub goes_on : (n b after : ℕ) → b ≡ n → after ≡ suc n → known_one (numbers_to n) b ≡ numbers_to after
+pub goes_on : (n b after : ℕ) → b ≡ n → after ≡ suc n → with_one nat_eq (numbers_to n) b ≡ numbers_to after
 goes_on n b after e k = ap (λ t. if t then numbers_to n else numbers_to n ++ b ∷ []) (above n b (omega (arith, e))) ∙ (ap (λ m. numbers_to n ++ m ∷ []) e ∙ ap numbers_to (sym k))
 
 -- each has its own place
-size : (n : ℕ) → length (numbers_to n) ≡ n
+pub size : (n : ℕ) → length (numbers_to n) ≡ n
 size zero = refl
 size (suc n) = omega (arith, length-append (numbers_to n) (n ∷ []), size n)
 
-last_place : (xs : List ℕ) (b : ℕ) → contains nat_eq xs b ≡ false → place_in nat_eq (xs ++ b ∷ []) b ≡ length xs
-last_place [] b e = ap (λ t. if t then 0 else 1) ((exact_numbers b b).1 refl)
-last_place (x ∷ xs) b e = go (nat_eq x b) e (λ h. last_place xs b h)
-  where
-    go : (t : Bool) → (t || contains nat_eq xs b) ≡ false → (contains nat_eq xs b ≡ false → place_in nat_eq (xs ++ b ∷ []) b ≡ length xs) → (if t then 0 else suc (place_in nat_eq (xs ++ b ∷ []) b)) ≡ suc (length xs)
-    go true h on = absurd (true≢false h)
-    go false h on = ap suc (on h)
-
-own_place : (n b : ℕ) → b < n → place_in nat_eq (numbers_to n) b ≡ b
+pub own_place : (n b : ℕ) → b < n → place_in nat_eq (numbers_to n) b ≡ b
 own_place zero b l = absurd (omega arith)
 own_place (suc n) b l =
-    ⊎_elim (λ k. place_append (numbers_to n) (n ∷ []) b (below n b k) ∙ own_place n b k)
-    (λ (k : n ≤ b). let same : n ≡ b = omega arith in ap (λ m. place_in nat_eq (numbers_to n ++ m ∷ []) b) same ∙ (last_place (numbers_to n) b (above n b k) ∙ (size n ∙ same)))
+    ⊎_elim (λ k. place_append nat_eq (numbers_to n) (n ∷ []) b (below n b k) ∙ own_place n b k)
+    (λ (k : n ≤ b). let same : n ≡ b = omega arith in
+    place_behind nat_eq (numbers_to n) (n ∷ []) b (above n b k) ∙ ap (λ t. length (numbers_to n) + cond t 0 1) ((exact_numbers n b).1 same) ∙ (let long = size n in omega (arith, long, same)))
     (cases_lt b n)
 
 -- names that stay
@@ -80,13 +66,13 @@ numbered_already list n e = same_list_by (place_in nat_eq (distinct nat_eq (blan
     in_numbers b h = ⊎_elim (λ k. k) (λ (k : n ≤ b). absurd (true≢false (sym h ∙ above n b k))) (cases_lt b n)
 
     places : (b : ℕ) → Among (blanks list) b → place_in nat_eq (distinct nat_eq (blanks list)) b ≡ b
-    places b m = ap (λ xs. place_in nat_eq xs b) (sym e) ∙ own_place n b (in_numbers b (ap (λ xs. contains nat_eq xs b) e ∙ all_in_distinct (blanks list) b m))
+    places b m = ap (λ xs. place_in nat_eq xs b) (sym e) ∙ own_place n b (in_numbers b (ap (λ xs. contains nat_eq xs b) e ∙ in_distinct nat_eq exact_numbers (blanks list) b m))
 
 -- ---- a walk through a list, which may have lost count
 
 pub next_turn : (list : List CodeTriple) (i : ℕ) (t : CodeTriple) → slice_get list i ≡ Some t → (before after : Option ℕ)
     → IfSome before (λ n. numbers_to n ≡ distinct nat_eq (blanks (triples_seen (take i list))))
-    → IfSome after (λ m. MatchOption before ⊥ (λ n. known (numbers_to n) (blanks_of (triple_seen t)) ≡ numbers_to m))
+    → IfSome after (λ m. MatchOption before ⊥ (λ n. with_all nat_eq (numbers_to n) (blanks_of (triple_seen t)) ≡ numbers_to m))
     → IfSome after (λ n. numbers_to n ≡ distinct nat_eq (blanks (triples_seen (take (i + 1) list))))
 next_turn list i t at before None h k = k
 next_turn list i t at None (Some m) h k = absurd k

@@ -6,13 +6,13 @@ use Rattle.std.proofs.lemmas.List.{take_all}
 use Rattle.std.proofs.lemmas.Option.{slice_get_within}
 use Rattle.std.specs.List.{cons_option, list_any}
 use Rattle.rx_terms.specs.declared.triples.Triple.{Triple as CodeTriple}
-use Rattle.rx_model.specs.Sets.{contains, distinct}
+use Rattle.rx_model.specs.Sets.{contains, distinct, with_one}
 use Rattle.rx_model.specs.Terms.{Node, Iri, Term, Resource, Literal, Triple, same_node, same_term, same_triple}
 use Rattle.rx_model.specs.Copied.{rdfa_copy, rdfa_pattern, type_pattern, is_pattern, pattern_object, live, edge, says_pattern, is_referenced, replaced, treated, copied}
 use Rattle.rx_model.specs.Vocabulary.{rdf_type}
 use Rattle.rx_model.specs.Seen.{triple_seen, triples_seen}
 use Rattle.rx_model.proofs.Exact.{exact_numbers, exact_nodes}
-use Rattle.rx_graph.specs.Resources.{node_added, number_in, object_by, live_by}
+use Rattle.rx_graph.specs.Resources.{number_in, object_by, live_by}
 use Rattle.rx_graph.specs.Rows.{empty_rows}
 use Rattle.rx_graph.specs.Patterns.{copies, places, ArePatterns, AreReferenced, edge_by, edges_by}
 use Rattle.rx_graph.proofs.SetLemmas.{seen_more}
@@ -35,7 +35,7 @@ pub referenced_more : (pairs : List (Node ℕ × Node ℕ)) (e : Node ℕ × Nod
 referenced_more [] e t = or_none (same_node nat_eq e.1 t)
 referenced_more (f ∷ pairs) e t = ap (λ b. same_node nat_eq f.1 t || b) (referenced_more pairs e t) ∙ or_last (same_node nat_eq f.1 t) (is_referenced nat_eq pairs t) (same_node nat_eq e.1 t)
 
-pub contains_added : (nodes : List (Node ℕ)) (s t : Node ℕ) → contains (same_node nat_eq) (node_added nodes s) t ≡ (contains (same_node nat_eq) nodes t || same_node nat_eq s t)
+pub contains_added : (nodes : List (Node ℕ)) (s t : Node ℕ) → contains (same_node nat_eq) (with_one (same_node nat_eq) nodes s) t ≡ (contains (same_node nat_eq) nodes t || same_node nat_eq s t)
 contains_added nodes s t = go (contains (same_node nat_eq) nodes s) refl (same_node nat_eq s t) refl
   where
     go : (b : Bool) → contains (same_node nat_eq) nodes s ≡ b → (c : Bool) → same_node nat_eq s t ≡ c
@@ -69,7 +69,7 @@ says_of : (u : Triple ℕ) (t : Node ℕ) → same_triple nat_eq u (type_pattern
 says_of u t = three (same_node nat_eq u.subject t) (bytes_eq u.predicate rdf_type) (same_term nat_eq u.object (Resource (Iri rdfa_pattern)))
 
 pub patterns_found : (list : List CodeTriple) (i : ℕ) (u : CodeTriple) (nodes new : List (Node ℕ)) → slice_get list i ≡ Some u
-    → says_pattern nat_eq (triple_seen u).predicate (triple_seen u).object ≡ true → new ≡ node_added nodes (triple_seen u).subject
+    → says_pattern nat_eq (triple_seen u).predicate (triple_seen u).object ≡ true → new ≡ with_one (same_node nat_eq) nodes (triple_seen u).subject
     → ArePatterns (triples_seen (take i list)) nodes → ArePatterns (triples_seen (take (i + 1) list)) new
 patterns_found list i u nodes new at says grows h = record {
   each = λ t. ap (λ z. contains (same_node nat_eq) z t) grows ∙ contains_added nodes (triple_seen u).subject t ∙ ap (λ b. b || same_node nat_eq (triple_seen u).subject t) (h.each t)
@@ -109,7 +109,7 @@ pub edges_more : (nodes : List (Node ℕ)) (list : List CodeTriple) (i : ℕ) (u
 edges_more nodes list i u at = ap (edges_by nodes) (seen_more list i u at) ∙ filter_map-append (edge_by nodes) (triples_seen (take i list)) (triple_seen u ∷ [])
 
 pub references_found : (nodes : List (Node ℕ)) (list : List CodeTriple) (i : ℕ) (u : CodeTriple) (copied : Node ℕ) (old new : List (Node ℕ)) → slice_get list i ≡ Some u
-    → live_by nodes (triple_seen u) ≡ Some copied → new ≡ node_added old copied
+    → live_by nodes (triple_seen u) ≡ Some copied → new ≡ with_one (same_node nat_eq) old copied
     → AreReferenced (edges_by nodes (triples_seen (take i list))) old → AreReferenced (edges_by nodes (triples_seen (take (i + 1) list))) new
 references_found nodes list i u copied old new at says grows h =
     let one : edges_by nodes (triple_seen u ∷ []) ≡ ((triple_seen u).subject, copied) ∷ [] = rw says refl in

@@ -10,17 +10,17 @@ use Rattle.std.proofs.lemmas.List.Sorted.{IsPermutation-refl, IsPermutation-tran
 use Rattle.std.proofs.lemmas.List.Sums.{sum_by-cons}
 use Rattle.std.proofs.lemmas.Grind.{flat_map-append}
 use Rattle.rx_terms.specs.declared.triples.Triple.{Triple as CodeTriple}
-use Rattle.rx_model.specs.Sets.{Among, contains, distinct}
+use Rattle.rx_model.specs.Sets.{Among, contains, with_one, with_all}
 use Rattle.rx_model.specs.Terms.{Node, Triple, same_node, same_triple}
 use Rattle.rx_model.specs.Copied.{live, edges, leads, given, treated, copied, is_referenced, says_pattern, spo}
 use Rattle.rx_model.specs.Seen.{triple_seen, triples_seen}
-use Rattle.rx_model.proofs.Exact.{exact_numbers}
+use Rattle.rx_model.proofs.Exact.{exact_numbers, exact_triples}
 use Rattle.rx_model.proofs.Sets.{Among-contains, or_cases, or_left, or_right}
-use Rattle.rx_graph.specs.Graph.{added, added_all}
 use Rattle.rx_graph.specs.Patterns.{places, ArePatterns, AreReferenced, edges_by, given_one}
 use Rattle.rx_graph.specs.Copying.{gives, contents, given_from, given_at}
 use Rattle.rx_graph.specs.Ways.{EachOnce}
-use Rattle.rx_graph.proofs.SetLemmas.{one_more, seen_more, graph_grows}
+use Rattle.rx_graph.proofs.Growing.{all_append, all_distinct}
+use Rattle.rx_graph.proofs.SetLemmas.{one_more, seen_more}
 use Rattle.rx_graph.proofs.PatternLemmas.{edges_are}
 
 -- ---- places and triples
@@ -211,17 +211,6 @@ pub same_places : (p q : Triple ℕ → Bool) (j : ℕ) (list : List (Triple ℕ
 same_places p q j [] h = refl
 same_places p q j (t ∷ list) h = ap₂ (λ (b : Bool) (z : List ℕ). if b then j ∷ z else z) (h t (inl refl)) (same_places p q (suc j) list (λ u m. h u (inr m)))
 
--- ---- what is added, one list after another
-
-pub added_append : (graph xs ys : List (Triple ℕ)) → added_all graph (xs ++ ys) ≡ added_all (added_all graph xs) ys
-added_append graph [] ys = refl
-added_append graph (x ∷ xs) ys = added_append (added graph x) xs ys
-
--- it is the graph of all
-pub added_distinct : (list more : List (Triple ℕ)) → added_all (distinct (same_triple nat_eq) list) more ≡ distinct (same_triple nat_eq) (list ++ more)
-added_distinct list [] = ap (distinct (same_triple nat_eq)) (sym (append-nil list))
-added_distinct list (t ∷ more) = ap (λ z. added_all z more) (graph_grows list t) ∙ added_distinct (list ++ t ∷ []) more ∙ ap (distinct (same_triple nat_eq)) (append_assoc list (t ∷ []) more)
-
 -- ---- what is given at the places
 
 listed : (o : Option (Triple ℕ)) → cons_option o [] ≡ option_to_list o
@@ -230,16 +219,16 @@ listed (Some t) = refl
 
 -- one place more
 pub given_turn : (list : List (Triple ℕ)) (s : Node ℕ) (places : List ℕ) (k i : ℕ) (start old new : List (Triple ℕ)) → slice_get places k ≡ Some i
-    → new ≡ added_all old (option_to_list (given_at list s i))
-    → old ≡ added_all start (filter_map (given_at list s) (take k places)) → new ≡ added_all start (filter_map (given_at list s) (take (k + 1) places))
+    → new ≡ with_all (same_triple nat_eq) old (option_to_list (given_at list s i))
+    → old ≡ with_all (same_triple nat_eq) start (filter_map (given_at list s) (take k places)) → new ≡ with_all (same_triple nat_eq) start (filter_map (given_at list s) (take (k + 1) places))
 given_turn list s places k i start old new at turn before =
-    turn ∙ ap (λ z. added_all z (option_to_list (given_at list s i))) before
-    ∙ sym (added_append start (filter_map (given_at list s) (take k places)) (option_to_list (given_at list s i)))
-    ∙ ap (added_all start) (ap (λ z. filter_map (given_at list s) (take k places) ++ z) (sym (listed (given_at list s i))) ∙ sym (filter_map-append (given_at list s) (take k places) (i ∷ [])) ∙ ap (filter_map (given_at list s)) (sym (one_more places k i at)))
+    turn ∙ ap (λ z. with_all (same_triple nat_eq) z (option_to_list (given_at list s i))) before
+    ∙ sym (all_append (same_triple nat_eq) start (filter_map (given_at list s) (take k places)) (option_to_list (given_at list s i)))
+    ∙ ap (with_all (same_triple nat_eq) start) (ap (λ z. filter_map (given_at list s) (take k places) ++ z) (sym (listed (given_at list s i))) ∙ sym (filter_map-append (given_at list s) (take k places) (i ∷ [])) ∙ ap (filter_map (given_at list s)) (sym (one_more places k i at)))
 
 pub given_all : (list : List (Triple ℕ)) (s : Node ℕ) (places : List ℕ) (k : ℕ) (start new : List (Triple ℕ)) → length places ≤ k
-    → new ≡ added_all start (filter_map (given_at list s) (take k places)) → new ≡ added_all start (filter_map (given_at list s) places)
-given_all list s places k start new past h = h ∙ ap (λ z. added_all start (filter_map (given_at list s) z)) (take_all k places past)
+    → new ≡ with_all (same_triple nat_eq) start (filter_map (given_at list s) (take k places)) → new ≡ with_all (same_triple nat_eq) start (filter_map (given_at list s) places)
+given_all list s places k start new past h = h ∙ ap (λ z. with_all (same_triple nat_eq) start (filter_map (given_at list s) z)) (take_all k places past)
 
 if_given : (list : List (Triple ℕ)) (s : Node ℕ) (test : Triple ℕ → Bool) → Triple ℕ → Option (Triple ℕ)
 if_given list s test u = if test u then given_one list s u else None
@@ -277,9 +266,9 @@ given_is list s t (u ∷ rest) = ap₂ cons_option
     (given_is list s t rest)
 
 pub given_end : (list : List (Triple ℕ)) (s t : Node ℕ) (found : List ℕ) (start new : List (Triple ℕ)) → found ≡ contents list t
-    → new ≡ added_all start (filter_map (given_at list s) found) → new ≡ added_all start (filter_map (given nat_eq list (edges nat_eq list) s t) list)
+    → new ≡ with_all (same_triple nat_eq) start (filter_map (given_at list s) found) → new ≡ with_all (same_triple nat_eq) start (filter_map (given nat_eq list (edges nat_eq list) s t) list)
 given_end list s t found start new e turn =
-    turn ∙ ap (added_all start) (ap (filter_map (given_at list s)) e ∙ all_given list s (gives list t) 0 list (λ n. zero_more n) ∙ given_is list s t list)
+    turn ∙ ap (with_all (same_triple nat_eq) start) (ap (filter_map (given_at list s)) e ∙ all_given list s (gives list t) 0 list (λ n. zero_more n) ∙ given_is list s t list)
   where
     zero_more : (n : ℕ) → slice_get list (0 + n) ≡ slice_get list n
     zero_more n = let same : 0 + n ≡ n = omega arith in ap (slice_get list) same
@@ -287,11 +276,11 @@ given_end list s t found start new e turn =
 -- ---- what is treated
 
 pub treated_kept : (list : List (Triple ℕ)) (u : Triple ℕ) (start new : List (Triple ℕ)) → is_referenced nat_eq (edges nat_eq list) u.subject ≡ false → live nat_eq list u.predicate u.object ≡ None
-    → new ≡ added start u → new ≡ added_all start (treated nat_eq list (edges nat_eq list) u)
+    → new ≡ with_one (same_triple nat_eq) start u → new ≡ with_all (same_triple nat_eq) start (treated nat_eq list (edges nat_eq list) u)
 treated_kept list u start new h k e = e ∙ rw (h, k) refl
 
 pub treated_live : (list : List (Triple ℕ)) (u : Triple ℕ) (t : Node ℕ) (start new : List (Triple ℕ)) → is_referenced nat_eq (edges nat_eq list) u.subject ≡ false → live nat_eq list u.predicate u.object ≡ Some t
-    → new ≡ added_all start (filter_map (given nat_eq list (edges nat_eq list) u.subject t) list) → new ≡ added_all start (treated nat_eq list (edges nat_eq list) u)
+    → new ≡ with_all (same_triple nat_eq) start (filter_map (given nat_eq list (edges nat_eq list) u.subject t) list) → new ≡ with_all (same_triple nat_eq) start (treated nat_eq list (edges nat_eq list) u)
 treated_live list u t start new h k e = e ∙ rw (h, k) refl
 
 pub referenced_is : (list : List (Triple ℕ)) (nodes referenced : List (Node ℕ)) → ArePatterns list nodes → AreReferenced (edges_by nodes list) referenced → (t : Node ℕ) → contains (same_node nat_eq) referenced t ≡ is_referenced nat_eq (edges nat_eq list) t
@@ -299,16 +288,16 @@ referenced_is list nodes referenced h r t = r.each t ∙ ap (λ z. is_referenced
 
 -- one triple more
 pub treated_turn : (list : List CodeTriple) (i : ℕ) (u : CodeTriple) (old new : List (Triple ℕ)) → slice_get list i ≡ Some u
-    → new ≡ added_all old (treated nat_eq (triples_seen list) (edges nat_eq (triples_seen list)) (triple_seen u))
-    → old ≡ added_all [] (flat_map (treated nat_eq (triples_seen list) (edges nat_eq (triples_seen list))) (triples_seen (take i list)))
-    → new ≡ added_all [] (flat_map (treated nat_eq (triples_seen list) (edges nat_eq (triples_seen list))) (triples_seen (take (i + 1) list)))
+    → new ≡ with_all (same_triple nat_eq) old (treated nat_eq (triples_seen list) (edges nat_eq (triples_seen list)) (triple_seen u))
+    → old ≡ with_all (same_triple nat_eq) [] (flat_map (treated nat_eq (triples_seen list) (edges nat_eq (triples_seen list))) (triples_seen (take i list)))
+    → new ≡ with_all (same_triple nat_eq) [] (flat_map (treated nat_eq (triples_seen list) (edges nat_eq (triples_seen list))) (triples_seen (take (i + 1) list)))
 treated_turn list i u old new at turn before =
     let f : Triple ℕ → List (Triple ℕ) = treated nat_eq (triples_seen list) (edges nat_eq (triples_seen list)) in
-    turn ∙ ap (λ z. added_all z (f (triple_seen u))) before ∙ sym (added_append [] (flat_map f (triples_seen (take i list))) (f (triple_seen u)))
-    ∙ ap (added_all []) (sym (ap (flat_map f) (seen_more list i u at) ∙ flat_map-append f (triples_seen (take i list)) (triple_seen u ∷ []) ∙ ap (λ z. flat_map f (triples_seen (take i list)) ++ z) (append-nil (f (triple_seen u)))))
+    turn ∙ ap (λ z. with_all (same_triple nat_eq) z (f (triple_seen u))) before ∙ sym (all_append (same_triple nat_eq) [] (flat_map f (triples_seen (take i list))) (f (triple_seen u)))
+    ∙ ap (with_all (same_triple nat_eq) []) (sym (ap (flat_map f) (seen_more list i u at) ∙ flat_map-append f (triples_seen (take i list)) (triple_seen u ∷ []) ∙ ap (λ z. flat_map f (triples_seen (take i list)) ++ z) (append-nil (f (triple_seen u)))))
 
 pub treated_end : (list : List CodeTriple) (i : ℕ) (new : List (Triple ℕ)) → length list ≤ i
-    → new ≡ added_all [] (flat_map (treated nat_eq (triples_seen list) (edges nat_eq (triples_seen list))) (triples_seen (take i list))) → new ≡ copied nat_eq (triples_seen list)
+    → new ≡ with_all (same_triple nat_eq) [] (flat_map (treated nat_eq (triples_seen list) (edges nat_eq (triples_seen list))) (triples_seen (take i list))) → new ≡ copied nat_eq (triples_seen list)
 treated_end list i new past h =
     let f : Triple ℕ → List (Triple ℕ) = treated nat_eq (triples_seen list) (edges nat_eq (triples_seen list)) in
-    h ∙ ap (λ z. added_all [] (flat_map f (triples_seen z))) (take_all i list past) ∙ added_distinct [] (flat_map f (triples_seen list))
+    h ∙ ap (λ z. with_all (same_triple nat_eq) [] (flat_map f (triples_seen z))) (take_all i list past) ∙ all_distinct (same_triple nat_eq) (exact_triples nat_eq exact_numbers) [] (flat_map f (triples_seen list))

@@ -2,25 +2,25 @@
 use Rattle.std.proofs.Common.{◌≡◌, ◌∙◌, List, [], ◌∷◌, ◌++◌, reverse, sym, ap, ap₂, nat_eq}
 use Rattle.std.proofs.lemmas.List.{reverse-append, reverse-reverse}
 use Rattle.rx_terms.specs.declared.triples.Triple.{Triple as CodeTriple}
-use Rattle.rx_model.specs.Sets.{distinct}
+use Rattle.rx_model.specs.Sets.{distinct, with_one, with_all}
 use Rattle.rx_model.specs.Terms.{same_triple}
 use Rattle.rx_model.specs.Seen.{triple_seen, triples_seen}
-use Rattle.rx_graph.specs.Graph.{added, added_all}
-use Rattle.rx_graph.proofs.PlaceLemmas.{added_distinct}
+use Rattle.rx_model.proofs.Exact.{exact_numbers, exact_triples}
+use Rattle.rx_graph.proofs.Growing.{all_distinct}
 
 -- what is there and what is left, the last of it first, come to the graph of the list
 abbrev pub Rest : List CodeTriple → List CodeTriple → List CodeTriple → Type 0
-Rest list set rest = added_all (triples_seen set) (triples_seen (reverse rest)) ≡ distinct (same_triple nat_eq) (triples_seen list)
+Rest list set rest = with_all (same_triple nat_eq) (triples_seen set) (triples_seen (reverse rest)) ≡ distinct (same_triple nat_eq) (triples_seen list)
 
 pub rest_start : (list set rest : List CodeTriple) → set ≡ [] → rest ≡ reverse list → Rest list set rest
 rest_start list set rest none turned =
-    ap₂ (λ (s r : List CodeTriple). added_all (triples_seen s) (triples_seen r)) none (ap reverse turned ∙ reverse-reverse list) ∙ added_distinct [] (triples_seen list)
+    ap₂ (λ (s r : List CodeTriple). with_all (same_triple nat_eq) (triples_seen s) (triples_seen r)) none (ap reverse turned ∙ reverse-reverse list) ∙ all_distinct (same_triple nat_eq) (exact_triples nat_eq exact_numbers) [] (triples_seen list)
 
-pub rest_turn : (list set more rest less : List CodeTriple) (t : CodeTriple) → rest ≡ less ++ t ∷ [] → triples_seen more ≡ added (triples_seen set) (triple_seen t) → Rest list set rest → Rest list more less
+pub rest_turn : (list set more rest less : List CodeTriple) (t : CodeTriple) → rest ≡ less ++ t ∷ [] → triples_seen more ≡ with_one (same_triple nat_eq) (triples_seen set) (triple_seen t) → Rest list set rest → Rest list more less
 rest_turn list set more rest less t is grows h =
-    ap (λ z. added_all z (triples_seen (reverse less))) grows
-    ∙ sym (ap (λ (z : List CodeTriple). added_all (triples_seen set) (triples_seen z)) (ap reverse is ∙ reverse-append less (t ∷ [])))
+    ap (λ z. with_all (same_triple nat_eq) z (triples_seen (reverse less))) grows
+    ∙ sym (ap (λ (z : List CodeTriple). with_all (same_triple nat_eq) (triples_seen set) (triples_seen z)) (ap reverse is ∙ reverse-append less (t ∷ [])))
     ∙ h
 
 pub rest_end : (list set rest : List CodeTriple) → rest ≡ [] → Rest list set rest → triples_seen set ≡ distinct (same_triple nat_eq) (triples_seen list)
-rest_end list set rest none h = sym (ap (λ (z : List CodeTriple). added_all (triples_seen set) (triples_seen (reverse z))) none) ∙ h
+rest_end list set rest none h = sym (ap (λ (z : List CodeTriple). with_all (same_triple nat_eq) (triples_seen set) (triples_seen (reverse z))) none) ∙ h

@@ -8,13 +8,13 @@ use Rattle.std.proofs.lemmas.List.{map-append, length-map}
 use Rattle.rx_terms.proofs.Bools.{same_truth}
 use Rattle.rx_unique.specs.Unique.{insert_key}
 use Rattle.rx_terms.specs.declared.triples.Triple.{Triple as CodeTriple}
-use Rattle.rx_model.specs.Sets.{Among, IsExact, contains, distinct}
-use Rattle.rx_model.specs.Terms.{Triple, same_triple}
+use Rattle.rx_model.specs.Sets.{Among, IsExact, contains, distinct, with_one}
+use Rattle.rx_model.specs.Terms.{same_triple}
 use Rattle.rx_model.specs.Seen.{triple_seen, triples_seen}
 use Rattle.rx_model.proofs.Sets.{Among_of_distinct, and_left, and_right}
 use Rattle.rx_model.proofs.Exact.{exact_numbers, exact_triples}
 use Rattle.rx_model.proofs.Seen.{triple_tells, list_tells}
-use Rattle.rx_graph.specs.Graph.{added, IsNumbered}
+use Rattle.rx_graph.specs.Graph.{IsNumbered}
 use Rattle.rx_graph.specs.Rows.{pushed}
 
 -- ---- a set of the code and its list in the model
@@ -24,10 +24,10 @@ module _ {A B : Type 0} (seen : A → B) (eq : A → A → Bool) (same : B → B
   any_seen [] a = refl
   any_seen (x ∷ list) a = ap₂ ◌||◌ (agrees a x) (any_seen list a)
 
-  pub insert_seen : (list : List A) (a : A) → map seen (insert_key eq list a) ≡ (if contains same (map seen list) (seen a) then map seen list else map seen list ++ seen a ∷ [])
+  pub insert_seen : (list : List A) (a : A) → map seen (insert_key eq list a) ≡ with_one same (map seen list) (seen a)
   insert_seen list a = go (list_any (eq a) list) refl
     where
-      go : (b : Bool) → list_any (eq a) list ≡ b → map seen (insert_key eq list a) ≡ (if contains same (map seen list) (seen a) then map seen list else map seen list ++ seen a ∷ [])
+      go : (b : Bool) → list_any (eq a) list ≡ b → map seen (insert_key eq list a) ≡ with_one same (map seen list) (seen a)
       go true e = rw (sym (any_seen list a) ∙ e, e) refl
       go false e = rw (sym (any_seen list a) ∙ e, e) (map-append seen list (a ∷ []))
 
@@ -45,7 +45,7 @@ triples_agree_on eq exact a b =
     (λ h. model.1 (ap triple_seen ((exact a b).0 h)))
     (λ h. (exact a b).1 (triple_tells a b (model.0 h)))
 
-pub added_seen : (eq : CodeTriple → CodeTriple → Bool) → IsExact eq → (list : List CodeTriple) (t : CodeTriple) → triples_seen (insert_key eq list t) ≡ added (triples_seen list) (triple_seen t)
+pub added_seen : (eq : CodeTriple → CodeTriple → Bool) → IsExact eq → (list : List CodeTriple) (t : CodeTriple) → triples_seen (insert_key eq list t) ≡ with_one (same_triple nat_eq) (triples_seen list) (triple_seen t)
 added_seen eq exact list t = insert_seen triple_seen eq (same_triple nat_eq) (triples_agree eq exact) list t
 
 -- ---- `distinct` from left to right
@@ -61,11 +61,7 @@ module _ {A : Type 0} (same : A → A → Bool) (exact : IsExact same) where
       go true e ih = ih ∙ ap (λ b. b || contains same list a) (sym h ∙ ap (λ z. same z a) ((exact x y).0 e))
       go false e ih = ap (λ b. same y a || b) ih
 
-  -- one more element
-  abbrev pub grown : List A → A → List A
-  grown list a = if contains same list a then list else list ++ a ∷ []
-
-  pub distinct_grows : (list : List A) (a : A) → distinct same (list ++ a ∷ []) ≡ grown (distinct same list) a
+  pub distinct_grows : (list : List A) (a : A) → distinct same (list ++ a ∷ []) ≡ with_one same (distinct same list) a
   distinct_grows [] a = refl
   distinct_grows (x ∷ list) a = ap (λ z. x ∷ filter (λ y. not (same x y)) z) (distinct_grows list a) ∙ go (same x a) refl (contains same (distinct same list) a) refl
     where
@@ -74,15 +70,11 @@ module _ {A : Type 0} (same : A → A → Bool) (exact : IsExact same) where
       keeps p rest false e q = filter-append p rest (a ∷ []) ∙ rw (q, e) refl
 
       go : (b : Bool) → same x a ≡ b → (c : Bool) → contains same (distinct same list) a ≡ c
-          → x ∷ filter (λ y. not (same x y)) (if contains same (distinct same list) a then distinct same list else distinct same list ++ a ∷ []) ≡ grown (x ∷ filter (λ y. not (same x y)) (distinct same list)) a
+          → x ∷ filter (λ y. not (same x y)) (with_one same (distinct same list) a) ≡ with_one same (x ∷ filter (λ y. not (same x y)) (distinct same list)) a
       go true e true f = rw (e, f) refl
       go true e false f = rw (e, f) (ap (λ z. x ∷ z) (keeps (λ y. not (same x y)) (distinct same list) true e refl))
       go false e true f = rw (e, f, contains_filter x a e (distinct same list) ∙ f) refl
       go false e false f = rw (e, f, contains_filter x a e (distinct same list) ∙ f) (ap (λ z. x ∷ z) (keeps (λ y. not (same x y)) (distinct same list) false e refl))
-
--- what a list grows to is the graph of it
-pub graph_grows : (list : List (Triple ℕ)) (t : Triple ℕ) → added (distinct (same_triple nat_eq) list) t ≡ distinct (same_triple nat_eq) (list ++ t ∷ [])
-graph_grows list t = sym (distinct_grows (same_triple nat_eq) (exact_triples nat_eq exact_numbers) list t)
 
 -- what holds of a result that is no error
 pub of_ok : {A E P : Type 0} (r : Result A E) → is_err r ≡ false → IfOk r (λ a. P) → P

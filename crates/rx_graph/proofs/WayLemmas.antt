@@ -4,14 +4,15 @@ use Rattle.std.proofs.lemmas.Bool.{cases_lt}
 use Rattle.std.proofs.lemmas.Bool.Decides.{nat_tests, Decides-eqb}
 use Rattle.std.proofs.lemmas.List.{length-set}
 use Rattle.std.proofs.lemmas.Option.{slice_get_within}
-use Rattle.rx_model.specs.Sets.{Among, contains}
+use Rattle.rx_model.specs.Sets.{Among, contains, with_one}
 use Rattle.rx_model.proofs.Sets.{Among_left, Among_right, Among_cases, Among-contains, Among_by_contains}
 use Rattle.rx_model.proofs.Exact.{exact_numbers}
 use Rattle.std.specs.List.{IsDistinct, AllByRecursion, list_any}
 use Rattle.rx_unique.specs.Unique.{insert_key}
 use Rattle.rx_terms.proofs.Bools.{same_truth}
+use Rattle.rx_graph.proofs.Growing.{has_one}
 use Rattle.rx_graph.specs.Rows.{pushed, empty_rows}
-use Rattle.rx_graph.specs.Numbering.{known_one, numbers_to}
+use Rattle.rx_graph.specs.Numbering.{numbers_to}
 use Rattle.rx_graph.specs.Ways.{mark_at, Step, Goes, stays, goes_on, turned_row, IsTurned, spread_one, spread_all, Marked, LeadsToMark, Joined, next_row, AreNexts, merged, only_lead, all_led, is_led, AreLed, led_one, led_all, Led, led_here, led_on, EachOnce, IsWalk}
 
 -- ---- ways
@@ -428,25 +429,21 @@ led_own nexts own lead n e = record {
 
 -- ---- numbers that are added
 
-known_behind : (numbers : List ℕ) (x : ℕ) → (more : List ℕ) × (known_one numbers x ≡ numbers ++ more) × ((v : ℕ) → Among more v → x ≡ v)
+known_behind : (numbers : List ℕ) (x : ℕ) → (more : List ℕ) × (with_one nat_eq numbers x ≡ numbers ++ more) × ((v : ℕ) → Among more v → x ≡ v)
 known_behind numbers x = go (contains nat_eq numbers x)
   where
     go : (b : Bool) → (more : List ℕ) × ((if b then numbers else numbers ++ x ∷ []) ≡ numbers ++ more) × ((v : ℕ) → Among more v → x ≡ v)
     go true = ([], sym (append-nil numbers), λ v m. absurd m)
     go false = (x ∷ [], refl, λ v m. elim m [ inl e ↦ e | inr n ↦ absurd n ])
 
-known_has : (numbers : List ℕ) (x : ℕ) → Among (known_one numbers x) x
-known_has numbers x = go (contains nat_eq numbers x) refl
-  where
-    go : (b : Bool) → contains nat_eq numbers x ≡ b → Among (if b then numbers else numbers ++ x ∷ []) x
-    go true e = Among_by_contains nat_eq exact_numbers numbers x e
-    go false e = Among_right numbers (x ∷ []) x (inl refl)
+known_has : (numbers : List ℕ) (x : ℕ) → Among (with_one nat_eq numbers x) x
+known_has numbers x = Among_by_contains nat_eq exact_numbers (with_one nat_eq numbers x) x (has_one nat_eq exact_numbers numbers x)
 
 led_one_behind : (lead reached : List ℕ) (b : ℕ) → (more : List ℕ) × (led_one lead reached b ≡ reached ++ more) × ((v : ℕ) → Among more v → (mark_at lead b ≡ v) × (v < length lead))
 led_one_behind lead reached b = go (nat_lt (mark_at lead b) (length lead)) refl
   where
     go : (t : Bool) → nat_lt (mark_at lead b) (length lead) ≡ t
-        → (more : List ℕ) × ((if t then known_one reached (mark_at lead b) else reached) ≡ reached ++ more) × ((v : ℕ) → Among more v → (mark_at lead b ≡ v) × (v < length lead))
+        → (more : List ℕ) × ((if t then with_one nat_eq reached (mark_at lead b) else reached) ≡ reached ++ more) × ((v : ℕ) → Among more v → (mark_at lead b ≡ v) × (v < length lead))
     go true e =
         let less : mark_at lead b < length lead = grind (arith, nat_tests, e) in
         let k = known_behind reached (mark_at lead b) in
@@ -493,9 +490,9 @@ pub record Walking (nexts : List (List ℕ)) (lead : List ℕ) (from : ℕ) (rea
   pub sound : (a : ℕ) → Among reached a → Led nexts lead from a
   pub closed : (k a b : ℕ) → k < done → slice_get reached k ≡ Some a → Step nexts a b → mark_at lead b < length lead → Among reached (mark_at lead b)
 
-pub walking_start : (nexts : List (List ℕ)) (lead : List ℕ) (from : ℕ) (empty reached : List ℕ) (n : ℕ) → n ≡ length lead → empty ≡ [] → reached ≡ (if nat_lt from n then known_one empty from else empty) → Walking nexts lead from reached 0
+pub walking_start : (nexts : List (List ℕ)) (lead : List ℕ) (from : ℕ) (empty reached : List ℕ) (n : ℕ) → n ≡ length lead → empty ≡ [] → reached ≡ (if nat_lt from n then with_one nat_eq empty from else empty) → Walking nexts lead from reached 0
 walking_start nexts lead from empty reached n size none is =
-    subst (λ (z : List ℕ). Walking nexts lead from z 0) (sym (is ∙ ap (λ (z : List ℕ). if nat_lt from n then known_one z from else z) none ∙ ap (λ (m : ℕ). if nat_lt from m then from ∷ [] else []) size)) (go (nat_lt from (length lead)) refl)
+    subst (λ (z : List ℕ). Walking nexts lead from z 0) (sym (is ∙ ap (λ (z : List ℕ). if nat_lt from n then with_one nat_eq z from else z) none ∙ ap (λ (m : ℕ). if nat_lt from m then from ∷ [] else []) size)) (go (nat_lt from (length lead)) refl)
   where
     go : (t : Bool) → nat_lt from (length lead) ≡ t → Walking nexts lead from (if t then from ∷ [] else []) 0
     go true e =
@@ -615,7 +612,7 @@ any_number : (numbers : List ℕ) (x : ℕ) → list_any (nat_eq x) numbers ≡ 
 any_number [] x = refl
 any_number (y ∷ numbers) x = ap₂ ◌||◌ (same_truth (nat_eq x y) (nat_eq y x) (λ h. (exact_numbers y x).1 (sym ((exact_numbers x y).0 h))) (λ h. (exact_numbers x y).1 (sym ((exact_numbers y x).0 h)))) (any_number numbers x)
 
-pub insert_known : (numbers : List ℕ) (x : ℕ) → insert_key nat_eq numbers x ≡ known_one numbers x
+pub insert_known : (numbers : List ℕ) (x : ℕ) → insert_key nat_eq numbers x ≡ with_one nat_eq numbers x
 insert_known numbers x = ap (λ b. if b then numbers else numbers ++ x ∷ []) (any_number numbers x)
 
 others_unlike : (x : ℕ) (numbers : List ℕ) → AllByRecursion (λ y. nat_eq x y ≡ false) numbers → contains nat_eq numbers x ≡ false

@@ -1,23 +1,14 @@
 -- A graph as the list of its triples, each once.
-use Rattle.std.specs.Prelude.{◌≡◌, ℕ, Bool, true, List, [], ◌∷◌, ◌++◌, nat_eq, if◌then◌else◌}
+use Rattle.std.specs.Prelude.{◌≡◌, ℕ, Bool, true, List, nat_eq}
 use Rattle.rx_terms.specs.declared.triples.Triple.{Triple as CodeTriple}
-use Rattle.rx_model.specs.Sets.{contains}
+use Rattle.rx_model.specs.Sets.{with_all}
 use Rattle.rx_model.specs.Terms.{Triple, same_triple}
 use Rattle.rx_model.specs.Numbered.{numbered}
 use Rattle.rx_model.specs.Seen.{triples_seen}
 
--- the triple last, where it isn't there yet
-abbrev pub added : List (Triple ℕ) → Triple ℕ → List (Triple ℕ)
-added list t = if contains (same_triple nat_eq) list t then list else list ++ t ∷ []
-
--- one after another
-abbrev pub added_all : List (Triple ℕ) → List (Triple ℕ) → List (Triple ℕ)
-added_all list [] = list
-added_all list (t ∷ more) = added_all (added list t) more
-
 -- Behind the code's triples of one list stand these, each where it isn't there yet.
 abbrev pub Adds : List (Triple ℕ) → List CodeTriple → List CodeTriple → Type 0
-Adds more old new = triples_seen new ≡ added_all (triples_seen old) more
+Adds more old new = triples_seen new ≡ with_all (same_triple nat_eq) (triples_seen old) more
 
 -- the blank nodes are 0, 1, 2 in order of first occurrence
 abbrev pub IsNumbered : List (Triple ℕ) → Type 0

@@ -1,5 +1,5 @@
 -- Nodes that are borrowed from triples.
-use Rattle.std.specs.Prelude.{◌≡◌, ℕ, suc, false, List, [], ◌∷◌, ◌++◌, Option, Some, None, option_map, nat_eq, bytes_eq, if◌then◌else◌}
+use Rattle.std.specs.Prelude.{◌≡◌, ℕ, suc, false, List, [], ◌∷◌, Option, Some, None, option_map, nat_eq, bytes_eq, if◌then◌else◌}
 use Rattle.rx_graph.specs.declared.resources.Resource.{Resource}
 use Rattle.rx_graph.specs.declared.resources.Resource.TheVariants as borrowed
 use Rattle.rx_model.specs.Sets.{contains}
@@ -15,10 +15,6 @@ resource_seen (borrowed.Blank b) = Blank b.0
 abbrev pub resource_of : Term ℕ → Option (Node ℕ)
 resource_of (model.Resource node) = Some node
 resource_of (Literal text kind) = None
-
--- the node last, where it isn't there yet
-abbrev pub node_added : List (Node ℕ) → Node ℕ → List (Node ℕ)
-node_added nodes t = if contains (same_node nat_eq) nodes t then nodes else nodes ++ t ∷ []
 
 -- the place of the first that is alike
 abbrev pub number_in : List (Node ℕ) → Node ℕ → Option ℕ

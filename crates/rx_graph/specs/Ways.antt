@@ -1,8 +1,7 @@
 -- Numbers that lead to numbers: which lead to each other, and which of them stand for others.
 use Rattle.std.specs.Prelude.{◌≡◌, ◌<◌, ◌⊎◌, ℕ, Bool, true, false, not, ◌&&◌, ◌||◌, List, [], ◌∷◌, length, get_or, slice_set, nat_eq, nat_lt, if◌then◌else◌}
-use Rattle.rx_model.specs.Sets.{Among, contains}
+use Rattle.rx_model.specs.Sets.{Among, contains, with_one}
 use Rattle.rx_graph.specs.Rows.{pushed}
-use Rattle.rx_graph.specs.Numbering.{known_one}
 
 -- the number that stands for a; a itself where there is none
 abbrev pub mark_at : List ℕ → ℕ → ℕ
@@ -94,7 +93,7 @@ pub record AreLed (nexts own : List (List ℕ)) (lead : List ℕ) : Type 0 where
 
 -- what stands for b, where something does
 abbrev pub led_one : List ℕ → List ℕ → ℕ → List ℕ
-led_one lead reached b = if nat_lt (mark_at lead b) (length lead) then known_one reached (mark_at lead b) else reached
+led_one lead reached b = if nat_lt (mark_at lead b) (length lead) then with_one nat_eq reached (mark_at lead b) else reached
 
 abbrev pub led_all : List ℕ → List ℕ → List ℕ → List ℕ
 led_all lead reached [] = reached

@@ -1,10 +1,11 @@
 //! The numbering of blank nodes.
 ghost use Rattle.std.specs.Prelude.{◌≡◌, [], true, IfOk, IfSome, MatchOption, OnOk, nat_eq};
+ghost use Rattle.rx_model.specs.Sets.{with_one, with_all};
 ghost use Rattle.rx_model.specs.Terms.{set_of};
 ghost use Rattle.rx_model.specs.Numbered.{blank_of_node, blank_of_term, blanks_of, place_in, rename_node, rename_term, rename, numbered, Renamed};
 ghost use Rattle.rx_model.specs.Seen.{node_seen, term_seen, triple_seen, triples_seen};
 ghost use Rattle.rx_graph.specs.Graph.{IsNumbered};
-ghost use Rattle.rx_graph.specs.Numbering.{known_one, known, numbers_to};
+ghost use Rattle.rx_graph.specs.Numbering.{numbers_to};
 
 use crate::graphs::Graph;
 use crate::sets::TripleSet;
@@ -59,7 +60,7 @@ fn is_numbered(graph: &Graph) -> bool
 
 /// The same where there may be no such number before the triple. Then there is none behind it.
 pub(crate) fn next_behind(triple: &Triple, next: Option<u64>) -> Option<u64>
-    ensures { IfSome result (λ after. MatchOption next ⊥ (λ before. known (numbers_to before) (blanks_of (triple_seen triple.now)) ≡ numbers_to after)) }
+    ensures { IfSome result (λ after. MatchOption next ⊥ (λ before. with_all nat_eq (numbers_to before) (blanks_of (triple_seen triple.now)) ≡ numbers_to after)) }
 {
     match next {
         Some(next) => next_after(triple, next),
@@ -70,7 +71,7 @@ pub(crate) fn next_behind(triple: &Triple, next: Option<u64>) -> Option<u64>
 /// The number that a new blank node has behind the triple, where `next` is that before it; none where one of its blank nodes
 /// is new and has another number.
 fn next_after(triple: &Triple, next: u64) -> Option<u64>
-    ensures { IfSome result (λ after. known (numbers_to next) (blanks_of (triple_seen triple.now)) ≡ numbers_to after) }
+    ensures { IfSome result (λ after. with_all nat_eq (numbers_to next) (blanks_of (triple_seen triple.now)) ≡ numbers_to after) }
 {
     match next_after_node(&triple.subject, next) {
         Some(after) => next_after_term(&triple.object, after),
@@ -79,7 +80,7 @@ fn next_after(triple: &Triple, next: u64) -> Option<u64>
 }
 
 fn next_after_node(node: &Node, next: u64) -> Option<u64>
-    ensures { IfSome result (λ after. known (numbers_to next) (blank_of_node (node_seen node.now)) ≡ numbers_to after) }
+    ensures { IfSome result (λ after. with_all nat_eq (numbers_to next) (blank_of_node (node_seen node.now)) ≡ numbers_to after) }
 {
     match node {
         Node::Iri(_iri) => Some(next),
@@ -88,7 +89,7 @@ fn next_after_node(node: &Node, next: u64) -> Option<u64>
 }
 
 fn next_after_term(term: &Term, next: u64) -> Option<u64>
-    ensures { IfSome result (λ after. known (numbers_to next) (blank_of_term (term_seen term.now)) ≡ numbers_to after) }
+    ensures { IfSome result (λ after. with_all nat_eq (numbers_to next) (blank_of_term (term_seen term.now)) ≡ numbers_to after) }
 {
     match term {
         Term::Iri(_iri) => Some(next),
@@ -98,7 +99,7 @@ fn next_after_term(term: &Term, next: u64) -> Option<u64>
 }
 
 fn next_after_blank(blank: Blank, next: u64) -> Option<u64>
-    ensures { IfSome result (λ after. known_one (numbers_to next) blank.0 ≡ numbers_to after) }
+    ensures { IfSome result (λ after. with_one nat_eq (numbers_to next) blank.0 ≡ numbers_to after) }
 {
     if blank.0 < next {
         return Some(next);
@@ -133,7 +134,7 @@ impl Numbers {
     }
 
     fn blank(&mut self, blank: Blank) -> Result<Blank, NoMemory>
-        ensures known { OnOk result (self.new ≡ known_one self.old blank.0) }
+        ensures known { OnOk result (self.new ≡ with_one nat_eq self.old blank.0) }
         ensures place { IfOk result (λ number. number.0 ≡ place_in nat_eq self.new blank.0) }
     {
         let (place, _is_new) = self.blanks.insert_full(blank)?;
@@ -142,7 +143,7 @@ impl Numbers {
 
     /// Puts its number in place of the blank node that the node may be.
     fn give_node(&mut self, node: &mut Node) -> Result<(), NoMemory>
-        ensures known { OnOk result (self.new ≡ known self.old (blank_of_node (node_seen node.old))) }
+        ensures known { OnOk result (self.new ≡ with_all nat_eq self.old (blank_of_node (node_seen node.old))) }
         ensures renamed { OnOk result (node_seen node.new ≡ rename_node (place_in nat_eq self.new) (node_seen node.old)) }
     {
         if let Node::Blank(blank) = node {
@@ -153,7 +154,7 @@ impl Numbers {
 
     /// Puts its number in place of the blank node that the term may be.
     fn give_term(&mut self, term: &mut Term) -> Result<(), NoMemory>
-        ensures known { OnOk result (self.new ≡ known self.old (blank_of_term (term_seen term.old))) }
+        ensures known { OnOk result (self.new ≡ with_all nat_eq self.old (blank_of_term (term_seen term.old))) }
         ensures renamed { OnOk result (term_seen term.new ≡ rename_term (place_in nat_eq self.new) (term_seen term.old)) }
     {
         if let Term::Blank(blank) = term {
@@ -164,7 +165,7 @@ impl Numbers {
 
     /// Puts their numbers in place of the triple's blank nodes. Those that are new come after those that were seen.
     fn give(&mut self, triple: &mut Triple) -> Result<(), NoMemory>
-        ensures known { OnOk result (self.new ≡ known self.old (blanks_of (triple_seen triple.old))) }
+        ensures known { OnOk result (self.new ≡ with_all nat_eq self.old (blanks_of (triple_seen triple.old))) }
         ensures renamed { OnOk result (triple_seen triple.new ≡ rename (place_in nat_eq self.new) (triple_seen triple.old)) }
     {
         self.give_node(&mut triple.subject)?;

@@ -1,6 +1,6 @@
 //! Numbers that are reached.
-ghost use Rattle.std.specs.Prelude.{◌≡◌, ◌<◌, [], length, nat_lt, IfOk, OnOk, Some, slice_get, if◌then◌else◌};
-ghost use Rattle.rx_graph.specs.Numbering.{known_one};
+ghost use Rattle.std.specs.Prelude.{◌≡◌, ◌<◌, [], length, nat_lt, IfOk, OnOk, Some, slice_get, if◌then◌else◌, nat_eq};
+ghost use Rattle.rx_model.specs.Sets.{with_one};
 ghost use Rattle.rx_graph.specs.Ways.{led_one, led_all, EachOnce, IsWalk};
 
 use crate::marks::Marks;
@@ -37,7 +37,7 @@ impl Reached {
 
     /// Adds the number at the end, where it isn't there yet.
     fn add(&mut self, number: usize) -> Result<(), NoMemory>
-        ensures { OnOk result (self.new ≡ known_one self.old number) }
+        ensures { OnOk result (self.new ≡ with_one nat_eq self.old number) }
     {
         self.numbers.insert(number)?;
         Ok(())
@@ -71,7 +71,7 @@ impl Reached {
 
     /// Adds the number where it is below the size.
     fn add_below(&mut self, number: usize, size: usize) -> Result<(), NoMemory>
-        ensures { OnOk result (self.new ≡ (if nat_lt number size then known_one self.old number else self.old)) }
+        ensures { OnOk result (self.new ≡ (if nat_lt number size then with_one nat_eq self.old number else self.old)) }
     {
         if number >= size {
             return Ok(());

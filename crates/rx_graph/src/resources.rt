@@ -1,9 +1,9 @@
 //! Nodes that are borrowed from triples.
 ghost use Rattle.std.specs.Prelude.{◌≡◌, ◌<◌, [], length, OnErr, OnOk, Some, slice_get, option_map, nat_eq};
-ghost use Rattle.rx_model.specs.Sets.{contains};
+ghost use Rattle.rx_model.specs.Sets.{contains, with_one};
 ghost use Rattle.rx_model.specs.Terms.{same_node};
 ghost use Rattle.rx_model.specs.Seen.{node_seen, term_seen, triple_seen};
-ghost use Rattle.rx_graph.specs.Resources.{resource_seen, resource_of, node_added, number_in, live_by, AreDistinct};
+ghost use Rattle.rx_graph.specs.Resources.{resource_seen, resource_of, number_in, live_by, AreDistinct};
 
 use crate::vocabulary::copies;
 use rx_terms::{Blank, Iri, NoMemory, Node, Term, Triple};
@@ -69,7 +69,7 @@ impl<'a> Nodes<'a> {
 
     /// Adds the node at the end, where it isn't there yet. Without memory nothing changes.
     pub fn add(&mut self, node: Resource<'a>) -> Result<(), NoMemory>
-        ensures ok { OnOk result (self.new ≡ node_added self.old (resource_seen node.entry)) }
+        ensures ok { OnOk result (self.new ≡ with_one (same_node nat_eq) self.old (resource_seen node.entry)) }
         ensures err { OnErr result (self.new ≡ self.old) }
     {
         self.nodes.insert(node)?;

@@ -1,9 +1,8 @@
 //! Triples, each once.
 ghost use Rattle.std.specs.Prelude.{◌≡◌, ◌<◌, [], length, IfOk, OnOk, Some, slice_get, nat_eq};
-ghost use Rattle.rx_model.specs.Sets.{distinct};
+ghost use Rattle.rx_model.specs.Sets.{distinct, with_one};
 ghost use Rattle.rx_model.specs.Terms.{same_triple};
 ghost use Rattle.rx_model.specs.Seen.{triple_seen, triples_seen};
-ghost use Rattle.rx_graph.specs.Graph.{added};
 
 use crate::keyed::Keyed;
 use indexmap::IndexSet;
@@ -68,7 +67,7 @@ impl TripleSet {
 
     /// Adds the triple at the end, where it isn't there yet.
     pub(crate) fn add(&mut self, triple: Triple) -> Result<(), NoMemory>
-        ensures { OnOk result (triples_seen self.new ≡ added (triples_seen self.old) (triple_seen triple)) }
+        ensures { OnOk result (triples_seen self.new ≡ with_one (same_triple nat_eq) (triples_seen self.old) (triple_seen triple)) }
     {
         self.triples.insert(triple)?;
         Ok(())

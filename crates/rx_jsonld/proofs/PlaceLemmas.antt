@@ -8,11 +8,10 @@ use Rattle.serde_json.specs.Data.{Data, Members}
 use Rattle.rx_terms.specs.Text.{Chars}
 use Rattle.rx_terms.specs.declared.triples.Blank.{Blank as Number}
 use Rattle.rx_terms.specs.declared.triples.Triple.{Triple as CodeTriple}
-use Rattle.rx_model.specs.Sets.{Among, contains, distinct}
+use Rattle.rx_model.specs.Sets.{Among, contains, distinct, with_one}
 use Rattle.rx_model.specs.Terms.{Node, Iri, Blank, Triple, same_node}
 use Rattle.rx_model.specs.Seen.{node_seen, triple_seen, triples_seen}
 use Rattle.rx_model.proofs.Sets.{Among_cases, Among-contains, Among_by_contains, Among_distinct, Among_of_distinct}
-use Rattle.rx_graph.specs.Resources.{node_added}
 use Rattle.rx_terms.proofs.Bools.{same_truth}
 use Rattle.rx_graph.proofs.PatternLemmas.{contains_added}
 use Rattle.rx_graph.proofs.SetLemmas.{distinct_grows, seen_more}
@@ -109,7 +108,7 @@ module _ (list : List CodeTriple) (shapes : ℕ → Shape) where
       let starting : starts (places_of nat_eq seen s) i ≡ not (contains (same_node nat_eq) (subjects front) s) =
       ap (starts (places_of nat_eq seen s)) (sym same) ∙ first ∙ ap (λ z. not (contains (same_node nat_eq) (map subject_in z) s)) (take-map triple_seen i list)
       ∙ ap not (among_distinct (map subject_in front) s) in
-      let more : subjects (triples_seen (take (i + 1) list)) ≡ node_added (subjects front) s =
+      let more : subjects (triples_seen (take (i + 1) list)) ≡ with_one (same_node nat_eq) (subjects front) s =
       ap subjects (seen_more list i t at) ∙ ap (distinct (same_node nat_eq)) (map-append subject_in front (triple_seen t ∷ []))
       ∙ distinct_grows (same_node nat_eq) same_nodes (map subject_in front) s in
       turn ∙ ap₂ (λ z b. z ++ cond (b && is_top s) (node_value seen shapes s ∷ []) []) before starting
@@ -120,7 +119,7 @@ module _ (list : List CodeTriple) (shapes : ℕ → Shape) where
 
 added_more : (nodes : List (Node ℕ)) (xs ys : List ℕ) → nodes_added nodes (xs ++ ys) ≡ nodes_added (nodes_added nodes xs) ys
 added_more nodes [] ys = refl
-added_more nodes (x ∷ xs) ys = added_more (node_added nodes (Blank x)) xs ys
+added_more nodes (x ∷ xs) ys = added_more (with_one (same_node nat_eq) nodes (Blank x)) xs ys
 
 flat_map_more : {A B : Type 0} (f : A → List B) (xs : List A) (x : A) → flat_map f (xs ++ x ∷ []) ≡ flat_map f xs ++ f x
 flat_map_more f xs x = flat_map-append f xs (x ∷ []) ∙ ap (λ z. flat_map f xs ++ z) (append-nil (f x))
@@ -156,12 +155,12 @@ contains_all nodes [] b = plain (contains (same_node nat_eq) nodes (Blank b))
     plain true = refl
     plain false = refl
 contains_all nodes (x ∷ xs) b =
-    contains_all (node_added nodes (Blank x)) xs b ∙ ap (λ z. z || contains nat_eq xs b) (contains_added nodes (Blank x) (Blank b))
+    contains_all (with_one (same_node nat_eq) nodes (Blank x)) xs b ∙ ap (λ z. z || contains nat_eq xs b) (contains_added nodes (Blank x) (Blank b))
     ∙ or_swap (contains (same_node nat_eq) nodes (Blank b)) (nat_eq x b) (contains nat_eq xs b)
 
 no_iri : (nodes : List (Node ℕ)) (xs : List ℕ) (iri : Chars) → contains (same_node nat_eq) nodes (Iri iri) ≡ false → contains (same_node nat_eq) (nodes_added nodes xs) (Iri iri) ≡ false
 no_iri nodes [] iri h = h
-no_iri nodes (x ∷ xs) iri h = no_iri (node_added nodes (Blank x)) xs iri (contains_added nodes (Blank x) (Iri iri) ∙ ap (λ b. b || false) h)
+no_iri nodes (x ∷ xs) iri h = no_iri (with_one (same_node nat_eq) nodes (Blank x)) xs iri (contains_added nodes (Blank x) (Iri iri) ∙ ap (λ b. b || false) h)
 
 pub listed_found : (shapes : ℕ → Shape) (list : List (Triple ℕ)) (nodes : List (Node ℕ)) (node : Node ℕ) → nodes ≡ nodes_added [] (listed shapes list)
     → contains (same_node nat_eq) nodes node ≡ is_listed shapes list node

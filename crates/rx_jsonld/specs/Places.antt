@@ -1,8 +1,8 @@
 -- What the code works out by the places of triples in a list.
 use Rattle.std.specs.Prelude.{◌≡◌, ℕ, nat_eq, Bool, false, not, ◌&&◌, List, [], ◌∷◌, slice_get, Option, Some, None, if◌then◌else◌}
 use Rattle.serde_json.specs.Data.{Data, Members}
-use Rattle.rx_model.specs.Terms.{Node, Blank, Triple}
-use Rattle.rx_graph.specs.Resources.{node_added}
+use Rattle.rx_model.specs.Sets.{with_one}
+use Rattle.rx_model.specs.Terms.{Node, Blank, Triple, same_node}
 use Rattle.rx_shapes.specs.Places.{places_of}
 use Rattle.rx_shapes.specs.Table.{Table, places_in}
 use Rattle.rx_shapes.specs.declared.shapes.Shape.{Shape}
@@ -12,7 +12,7 @@ use Rattle.rx_jsonld.specs.Value.{with_said, node_value}
 -- the nodes, and the blank nodes of these numbers that aren't there yet
 abbrev pub nodes_added : List (Node ℕ) → List ℕ → List (Node ℕ)
 nodes_added nodes [] = nodes
-nodes_added nodes (b ∷ more) = nodes_added (node_added nodes (Blank b)) more
+nodes_added nodes (b ∷ more) = nodes_added (with_one (same_node nat_eq) nodes (Blank b)) more
 
 -- the place is the first one
 abbrev pub starts : List ℕ → ℕ → Bool

@@ -1,10 +1,10 @@
 -- The keys of the code's sets, and what they are in the model.
-use Rattle.std.proofs.Common.{◌≡◌, ℕ, Bool, true, false, not, List, [], ◌∷◌, ◌++◌, length, slice_get, Some, option_map, map, suc, refl, sym, ap, ap₂, ◌∙◌, rules, nat_eq, bytes_eq, arith, true≢false, if◌then◌else◌}
+use Rattle.std.proofs.Common.{◌≡◌, ℕ, Bool, true, false, not, List, [], ◌∷◌, length, slice_get, Some, option_map, map, suc, refl, sym, ap, ap₂, ◌∙◌, rules, nat_eq, bytes_eq, arith, true≢false}
 use Rattle.std.specs.List.{list_any}
 use Rattle.std.proofs.lemmas.Option.{slice_get-map, slice_get_within}
 use Rattle.rx_unique.specs.Unique.{insert_key}
 use Rattle.rx_terms.specs.Text.{Chars}
-use Rattle.rx_model.specs.Sets.{IsExact, contains}
+use Rattle.rx_model.specs.Sets.{IsExact, contains, with_one}
 use Rattle.rx_model.specs.Terms.{Triple, same_triple}
 use Rattle.rx_model.specs.Seen.{triple_seen}
 use Rattle.rx_model.proofs.Sets.{and_left, and_right, and_both}
@@ -61,8 +61,7 @@ statements_agree a b = same_truth (statement_eq a b) (same_line (statement_seen 
     (λ h. ap (λ z. same_line z (statement_seen a)) (ap statement_seen (sym ((exact_statements a b).0 h))) ∙ same_as_itself a.name (triple_seen a.triple))
     (λ h. (exact_statements a b).1 (sym (statement_tells b a h)))
 
-pub statement_added : (list : List Statement) (s : Statement)
-    → map statement_seen (insert_key statement_eq list s) ≡ (if contains same_line (map statement_seen list) (statement_seen s) then map statement_seen list else map statement_seen list ++ statement_seen s ∷ [])
+pub statement_added : (list : List Statement) (s : Statement) → map statement_seen (insert_key statement_eq list s) ≡ with_one same_line (map statement_seen list) (statement_seen s)
 statement_added list s = insert_seen statement_seen statement_eq same_line statements_agree list s
 
 pub statement_among : (list : List Statement) (s : Statement) → list_any (statement_eq s) list ≡ contains same_line (map statement_seen list) (statement_seen s)

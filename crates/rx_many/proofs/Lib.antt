@@ -1,4 +1,3 @@
-pub mod Growing
 pub mod KeyLemmas
 pub mod LineLemmas
 pub mod FreshLemmas

@@ -1,28 +1,27 @@
 -- A document that grows by one line.
-use Rattle.std.proofs.Common.{◌≡◌, ℕ, suc, zero, ◌+◌, Bool, true, false, ◌||◌, List, [], ◌∷◌, ◌++◌, map, flat_map, take, length, slice_get, Result, Ok, Err, OnOk, Some, refl, sym, ap, ap₂, ◌∙◌, inl, inr, subst, if◌then◌else◌, append_assoc, append-nil, arith}
+use Rattle.std.proofs.Common.{◌≡◌, ℕ, suc, zero, ◌+◌, Bool, true, false, ◌||◌, List, [], ◌∷◌, ◌++◌, map, flat_map, take, length, slice_get, Some, refl, sym, ap, ap₂, ◌∙◌, inl, inr, subst, if◌then◌else◌, append_assoc, append-nil, arith}
 use Rattle.std.specs.Str.{encode_utf8_all}
 use Rattle.std.proofs.lemmas.Str.{encodes-append}
 use Rattle.std.proofs.lemmas.List.{map-append}
 use Rattle.rx_terms.specs.Text.{Chars}
 use Rattle.rx_terms.specs.declared.triples.Triple.{Triple as CodeTriple}
 use Rattle.rx_grammar.specs.declared.faults.Fault.{Fault}
-use Rattle.rx_model.specs.Sets.{Among, contains, distinct}
+use Rattle.rx_model.specs.Sets.{Among, contains, distinct, with_one, with_all}
 use Rattle.rx_model.specs.Terms.{Triple}
 use Rattle.rx_model.specs.Numbered.{place_in}
 use Rattle.rx_model.specs.Seen.{triple_seen, triples_seen}
 use Rattle.rx_model.proofs.Sets.{Among_cases, Among_left, Among_right, false_unless}
 use Rattle.rx_graph.proofs.SetLemmas.{seen_more}
+use Rattle.rx_graph.proofs.Growing.{all_distinct, place_stays}
 use Rattle.rx_graph.proofs.NumberLemmas.{same_triple_by}
 use Rattle.rx_pieces.specs.Writable.{WritableTriple}
 use Rattle.rx_many.specs.Blank.{has_blank}
 use Rattle.rx_many.specs.Lines.{Line, PageBlank, comment, statement, statement_at, lines_of, lines_from, line_blanks, same_blank, table, rename_line, numbered_lines, same_line, kept_after, kept}
-use Rattle.rx_many.specs.Numbering.{known}
 use Rattle.rx_many.specs.Seen.{page_seen}
 use Rattle.rx_many.specs.Standing.{WritableComment, WritableLine, Spells, Holds, Stands, DocumentStands, PageStands}
 use Rattle.rx_many.specs.Writing.{line_text, text_of}
 use Rattle.rx_many.specs.declared.documents.Document.{Document}
 use Rattle.rx_many.specs.declared.pages.Page.{Page as CodePage}
-use Rattle.rx_many.proofs.Growing.{known_distinct, place_stays}
 use Rattle.rx_many.proofs.KeyLemmas.{exact_blanks, alike}
 
 -- ---- tests of lists
@@ -126,8 +125,8 @@ blanks_more : (lines : List (Line PageBlank)) (l : Line PageBlank) → flat_map 
 blanks_more [] l = append-nil (line_blanks l)
 blanks_more (y ∷ lines) l = ap (λ z. line_blanks y ++ z) (blanks_more lines l) ∙ sym (append_assoc (line_blanks y) (flat_map line_blanks lines) (line_blanks l))
 
-pub table_more : (lines : List (Line PageBlank)) (l : Line PageBlank) → known same_blank (table lines) (line_blanks l) ≡ table (lines ++ l ∷ [])
-table_more lines l = known_distinct same_blank exact_blanks (flat_map line_blanks lines) (line_blanks l) ∙ ap (distinct same_blank) (sym (blanks_more lines l))
+pub table_more : (lines : List (Line PageBlank)) (l : Line PageBlank) → with_all same_blank (table lines) (line_blanks l) ≡ table (lines ++ l ∷ [])
+table_more lines l = all_distinct same_blank exact_blanks (flat_map line_blanks lines) (line_blanks l) ∙ ap (distinct same_blank) (sym (blanks_more lines l))
 
 line_stays : (p q : PageBlank → ℕ) (l : Line PageBlank) → ((b : PageBlank) → Among (line_blanks l) b → p b ≡ q b) → rename_line p l ≡ rename_line q l
 line_stays p q (comment a f) h = refl
@@ -184,7 +183,7 @@ module _ (shared : List Chars) (d new : Document) (lines : List (Line PageBlank)
         (holds_old shared d.statements (numbered_lines lines) s.holds (statement name u) there) e g
 
     pub stands_new : Among shared name → has_blank u ≡ false → contains same_line d.statements (statement name u) ≡ false → new.text.bytes ≡ d.text.bytes ++ encode_utf8_all (line_text (statement name u))
-        → new.statements ≡ (if contains same_line d.statements (statement name u) then d.statements else d.statements ++ statement name u ∷ []) → WritableTriple (Some name) u
+        → new.statements ≡ with_one same_line d.statements (statement name u) → WritableTriple (Some name) u
         → Stands shared new (lines ++ l ∷ [])
     stands_new m n lacks e g w =
         let added : new.statements ≡ d.statements ++ statement name u ∷ [] = g ∙ ap (λ b. if b then d.statements else d.statements ++ statement name u ∷ []) lacks in

@@ -1,10 +1,10 @@
 -- The triples of one page, whose blank nodes come behind those of the pages before it.
-use Rattle.std.proofs.Common.{◌≡◌, ◌∙◌, ℕ, zero, suc, ◌+◌, ◌<◌, ◌≤◌, true, false, List, [], ◌∷◌, ◌++◌, map, flat_map, take, length, Some, refl, sym, ap, ap₂, subst, inl, inr, arith, append-nil, length-append, if◌then◌else◌, nat_eq, ◌||◌, ◌&&◌, true≢false, Bool, not, slice_get}
+use Rattle.std.proofs.Common.{◌≡◌, ◌∙◌, ℕ, zero, suc, ◌+◌, ◌<◌, ◌≤◌, true, false, List, [], ◌∷◌, ◌++◌, map, flat_map, take, length, Some, refl, sym, ap, ap₂, subst, inl, inr, arith, append-nil, length-append, nat_eq, ◌||◌, ◌&&◌, true≢false, Bool, not, slice_get}
 use Rattle.std.specs.Str.{encode_utf8_all}
 use Rattle.std.proofs.lemmas.List.{map-append, length-map}
 use Rattle.rx_terms.specs.Text.{Chars}
 use Rattle.rx_refs.specs.Resolve.{without_fragment}
-use Rattle.rx_model.specs.Sets.{Among, contains}
+use Rattle.rx_model.specs.Sets.{Among, contains, with_one, with_all}
 use Rattle.rx_model.specs.Terms.{Node, Iri, Blank, Term, Resource, Literal, Triple}
 use Rattle.rx_model.specs.Numbered.{blank_of_node, blank_of_term, blanks_of, place_in, rename_node, rename_term, rename}
 use Rattle.rx_model.proofs.Sets.{or_cases, and_left, and_right, and_both, not_true, Among_left, Among_right, false_unless, Among_cases, Among_of_map, Among_flat_map, Among_of_flat_map, Among_of_distinct, Among_by_contains}
@@ -13,7 +13,7 @@ use Rattle.rx_pieces.specs.Writable.{WritableTriple}
 use Rattle.rx_many.specs.Blank.{has_blank, is_blank_node, is_blank_term}
 use Rattle.rx_many.specs.Names.{name_of, AreApart}
 use Rattle.rx_many.specs.Lines.{Line, PageBlank, statement, statement_at, at_place, line_blanks, lines_by, lines_of, lines_from, same_blank, same_line, table, rename_line, numbered_lines}
-use Rattle.rx_many.specs.Numbering.{Numbers, known, number_at}
+use Rattle.rx_many.specs.Numbering.{Numbers, number_at}
 use Rattle.rx_many.specs.Pages.{Judgement, refused, accepted, accepted_page}
 use Rattle.rx_many.specs.Seen.{page_seen}
 use Rattle.rx_many.specs.declared.pages.Page.{Page as CodePage}
@@ -93,13 +93,13 @@ repeats_not is_shared t shared name tells e m n = go is_shared refl
 -- ---- one triple more
 
 module _ (place : ℕ) (name : Chars) (t : Triple ℕ) (lines : List (Line PageBlank)) (old new : Numbers) (last : ComeLast place old (table lines))
-    (stays : new.before ≡ old.before) (grows : new.here ≡ known nat_eq old.here (blanks_of t)) where
+    (stays : new.before ≡ old.before) (grows : new.here ≡ with_all nat_eq old.here (blanks_of t)) where
   still_last : ComeLast place new (table (lines ++ statement_at place name t ∷ []))
   still_last = record {
     front = last.front;
     is =
         sym (table_more lines (statement_at place name t))
-        ∙ ap₂ (known same_blank) last.is (triple_blanks (at_place place) t)
+        ∙ ap₂ (with_all same_blank) last.is (triple_blanks (at_place place) t)
         ∙ known_here place last.front last.apart old.here (blanks_of t) ∙ ap (λ z. last.front ++ map (at_place place) z) (sym grows);
     count = last.count ∙ sym stays;
     apart = last.apart;
@@ -116,7 +116,7 @@ module _ (place : ℕ) (name : Chars) (t : Triple ℕ) (lines : List (Line PageB
       (λ b m. ap (λ z. place_in same_blank z (at_place place b)) now.is ∙ number_here place now.front now.apart new.here b ∙ ap (λ n. n + place_in nat_eq new.here b) now.count)))
 
 module _ (shared : List Chars) (place : ℕ) (d new : Document) (lines : List (Line PageBlank)) (s : PageStands shared place d lines) (name : Chars) (t u : Triple ℕ)
-    (stays : new.blanks.before ≡ d.blanks.before) (grows : new.blanks.here ≡ known nat_eq d.blanks.here (blanks_of t)) (renamed : u ≡ rename (number_at new.blanks) t) where
+    (stays : new.blanks.before ≡ d.blanks.before) (grows : new.blanks.here ≡ with_all nat_eq d.blanks.here (blanks_of t)) (renamed : u ≡ rename (number_at new.blanks) t) where
   with_last : Stands shared new (lines ++ statement_at place name t ∷ []) → PageStands shared place new (lines ++ statement_at place name t ∷ [])
   with_last stands = record { last = still_last place name t lines d.blanks new.blanks s.last stays grows; stands = stands }
 
@@ -133,7 +133,7 @@ module _ (shared : List Chars) (place : ℕ) (d new : Document) (lines : List (L
 
   -- it isn't
   page_new : Among shared name → has_blank t ≡ false → contains same_line d.statements (statement name u) ≡ false → new.text.bytes ≡ d.text.bytes ++ encode_utf8_all (line_text (statement name u))
-      → new.statements ≡ (if contains same_line d.statements (statement name u) then d.statements else d.statements ++ statement name u ∷ []) → WritableTriple (Some name) u
+      → new.statements ≡ with_one same_line d.statements (statement name u) → WritableTriple (Some name) u
       → PageStands shared place new (lines ++ statement_at place name t ∷ [])
   page_new m n lacks e g w = with_last (stands_new shared d new lines s.stands (statement_at place name t) name u is_line m (as_before ∙ n) lacks e g w)
 
@@ -146,13 +146,13 @@ module _ (shared : List Chars) (place : ℕ) (d new : Document) (lines : List (L
 
 -- the same of the first two where the name is at hand by another name
 module _ (shared : List Chars) (place : ℕ) (d new : Document) (lines : List (Line PageBlank)) (s : PageStands shared place d lines) (name named : Chars) (same : named ≡ name) (m : Among shared name) (t u : Triple ℕ) (n : has_blank t ≡ false)
-    (stays : new.blanks.before ≡ d.blanks.before) (grows : new.blanks.here ≡ known nat_eq d.blanks.here (blanks_of t)) (renamed : u ≡ rename (number_at new.blanks) t) where
+    (stays : new.blanks.before ≡ d.blanks.before) (grows : new.blanks.here ≡ with_all nat_eq d.blanks.here (blanks_of t)) (renamed : u ≡ rename (number_at new.blanks) t) where
   pub old_statement : contains same_line d.statements (statement named u) ≡ true → new.text.bytes ≡ d.text.bytes → new.statements ≡ d.statements → PageStands shared place new (lines ++ statement_at place name t ∷ [])
   old_statement there e g = subst (λ (z : Chars). PageStands shared place new (lines ++ statement_at place z t ∷ [])) same
       (page_old shared place d new lines s named t u stays grows renamed (subst (λ (z : Chars). Among shared z) (sym same) m) n there e g)
 
   pub new_statement : contains same_line d.statements (statement named u) ≡ false → new.text.bytes ≡ d.text.bytes ++ encode_utf8_all (line_text (statement named u))
-      → new.statements ≡ (if contains same_line d.statements (statement named u) then d.statements else d.statements ++ statement named u ∷ []) → WritableTriple (Some named) u
+      → new.statements ≡ with_one same_line d.statements (statement named u) → WritableTriple (Some named) u
       → PageStands shared place new (lines ++ statement_at place name t ∷ [])
   new_statement lacks e g w = subst (λ (z : Chars). PageStands shared place new (lines ++ statement_at place z t ∷ [])) same
       (page_new shared place d new lines s named t u stays grows renamed (subst (λ (z : Chars). Among shared z) (sym same) m) n lacks e g w)

@@ -1,8 +1,9 @@
 //! The numbering of the blank nodes of several pages.
 ghost use Rattle.std.specs.Prelude.{◌≡◌, ◌<◌, ◌+◌, [], IfOk, IsTrue, OnOk, length, nat_eq};
+ghost use Rattle.rx_model.specs.Sets.{with_one, with_all};
 ghost use Rattle.rx_model.specs.Numbered.{blank_of_node, blank_of_term, blanks_of, place_in, rename_node, rename_term, rename};
 ghost use Rattle.rx_model.specs.Seen.{node_seen, term_seen, triple_seen};
-ghost use Rattle.rx_many.specs.Numbering.{known_one, known, number_at, numbers_of};
+ghost use Rattle.rx_many.specs.Numbering.{number_at, numbers_of};
 
 use rx_terms::{Blank, NoMemory, Node, Term, Triple};
 use rx_unique::Unique;
@@ -66,7 +67,7 @@ impl Blanks {
     /// seen.
     pub(crate) fn numbered(&mut self, triple: &Triple) -> Result<Triple, NoMemory>
         ensures before { OnOk result (self.new.before ≡ self.old.before) }
-        ensures known { OnOk result (self.new.here ≡ known nat_eq self.old.here (blanks_of (triple_seen triple.now))) }
+        ensures known { OnOk result (self.new.here ≡ with_all nat_eq self.old.here (blanks_of (triple_seen triple.now))) }
         ensures renamed { IfOk result (λ numbered. triple_seen numbered ≡ rename (number_at self.new) (triple_seen triple.now)) }
     {
         let subject = self.numbered_node(&triple.subject)?;
@@ -81,7 +82,7 @@ impl Blanks {
 
     fn numbered_node(&mut self, node: &Node) -> Result<Node, NoMemory>
         ensures before { OnOk result (self.new.before ≡ self.old.before) }
-        ensures known { OnOk result (self.new.here ≡ known nat_eq self.old.here (blank_of_node (node_seen node.now))) }
+        ensures known { OnOk result (self.new.here ≡ with_all nat_eq self.old.here (blank_of_node (node_seen node.now))) }
         ensures renamed { IfOk result (λ named. node_seen named ≡ rename_node (number_at self.new) (node_seen node.now)) }
     {
         match node {
@@ -92,7 +93,7 @@ impl Blanks {
 
     fn numbered_term(&mut self, term: &Term) -> Result<Term, NoMemory>
         ensures before { OnOk result (self.new.before ≡ self.old.before) }
-        ensures known { OnOk result (self.new.here ≡ known nat_eq self.old.here (blank_of_term (term_seen term.now))) }
+        ensures known { OnOk result (self.new.here ≡ with_all nat_eq self.old.here (blank_of_term (term_seen term.now))) }
         ensures renamed { IfOk result (λ named. term_seen named ≡ rename_term (number_at self.new) (term_seen term.now)) }
     {
         match term {
@@ -104,7 +105,7 @@ impl Blanks {
 
     fn number(&mut self, blank: Blank) -> Result<Blank, NoMemory>
         ensures before { OnOk result (self.new.before ≡ self.old.before) }
-        ensures known { OnOk result (self.new.here ≡ known_one nat_eq self.old.here blank.0) }
+        ensures known { OnOk result (self.new.here ≡ with_one nat_eq self.old.here blank.0) }
         ensures number { IfOk result (λ number. number.0 ≡ number_at self.new blank.0) }
     {
         let place = self.place(blank)?;
@@ -117,7 +118,7 @@ impl Blanks {
     /// The place of the blank node among those of the page.
     fn place(&mut self, blank: Blank) -> Result<u64, NoMemory>
         ensures before { OnOk result (self.new.before ≡ self.old.before) }
-        ensures known { OnOk result (self.new.here ≡ known_one nat_eq self.old.here blank.0) }
+        ensures known { OnOk result (self.new.here ≡ with_one nat_eq self.old.here blank.0) }
         ensures place { IfOk result (λ place. place ≡ place_in nat_eq self.new.here blank.0) }
     {
         if blank.0 < self.next {
@@ -142,7 +143,7 @@ fn is_next(blank: Blank, next: u64, others: &Unique<Blank>) -> bool
 
 /// The place of the blank node among the others, of which the first one has the place `next`.
 fn place_behind(next: u64, others: &mut Unique<Blank>, blank: Blank) -> Result<u64, NoMemory>
-    ensures known { OnOk result (numbers_of others.new ≡ known_one nat_eq (numbers_of others.old) blank.0) }
+    ensures known { OnOk result (numbers_of others.new ≡ with_one nat_eq (numbers_of others.old) blank.0) }
     ensures place { IfOk result (λ place. place ≡ next + place_in nat_eq (numbers_of others.new) blank.0) }
 {
     let (place, _is_new) = others.insert_full(blank)?;

@@ -1,9 +1,9 @@
 //! The statements of a document.
 ghost use Rattle.std.specs.Prelude.{◌≡◌, ◌<◌, ◌&&◌, [], IfOk, OnOk, Some, length, not, slice_get};
+ghost use Rattle.rx_model.specs.Sets.{with_one};
 ghost use Rattle.rx_model.specs.Seen.{node_seen, term_seen, triple_seen};
 ghost use Rattle.rx_many.specs.Blank.{has_blank, is_blank_node, is_blank_term};
 ghost use Rattle.rx_many.specs.Lines.{same_line};
-ghost use Rattle.rx_many.specs.Numbering.{known_one};
 ghost use Rattle.rx_many.specs.Seen.{statement_seen};
 ghost use Rattle.rx_many.specs.Standing.{AddsWhereNew};
 
@@ -28,7 +28,6 @@ pub(crate) struct Statements {
 impl Model for Statements {
     ghost use Rattle.std.specs.Prelude.{ℕ, List, map};
     ghost use Rattle.rx_many.specs.Lines.{Line};
-    ghost use Rattle.rx_many.specs.Numbering.{known_one};
     ghost use Rattle.rx_many.specs.Seen.{statement_seen};
 
     ghost Value = { List (Line ℕ) };
@@ -47,7 +46,7 @@ impl Statements {
 
     /// Adds the statement at the end, where it isn't there yet, and gives its place then.
     pub(crate) fn add(&mut self, statement: Statement) -> Result<Option<usize>, NoMemory>
-        ensures list { OnOk result (self.new ≡ known_one same_line self.old (statement_seen statement)) }
+        ensures list { OnOk result (self.new ≡ with_one same_line self.old (statement_seen statement)) }
         ensures place { IfOk result (AddsWhereNew self.old (statement_seen statement) self.new) }
     {
         let (place, is_new) = self.statements.insert_full(statement)?;

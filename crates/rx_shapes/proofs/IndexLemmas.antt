@@ -7,13 +7,13 @@ use Rattle.rx_unique.specs.Unique.{insert_key}
 use Rattle.rx_terms.specs.declared.triples.Node.{Node as CodeNode}
 use Rattle.rx_terms.specs.declared.triples.Triple.{Triple as CodeTriple}
 use Rattle.rx_terms.specs.contracts.triples.NodePartialEq.TheImpl as node_impl
-use Rattle.rx_model.specs.Sets.{contains}
+use Rattle.rx_model.specs.Sets.{contains, with_one}
 use Rattle.rx_model.specs.Terms.{Node, Iri, Blank, Term, Resource, Literal, Triple, same_node}
 use Rattle.rx_model.specs.Seen.{node_seen, triple_seen, triples_seen}
 use Rattle.rx_model.proofs.Exact.{exact_numbers, exact_nodes}
 use Rattle.rx_model.proofs.Seen.{node_tells}
 use Rattle.rx_model.proofs.Sets.{false_unless, or_left, or_right, Among_cases}
-use Rattle.rx_graph.specs.Resources.{node_added, number_in}
+use Rattle.rx_graph.specs.Resources.{number_in}
 use Rattle.rx_terms.proofs.Bools.{same_truth}
 use Rattle.rx_graph.proofs.SetLemmas.{insert_seen, seen_more}
 use Rattle.rx_graph.proofs.PatternLemmas.{contains_added, number_same}
@@ -36,7 +36,7 @@ nodes_agree_back a b =
     (λ h. model.1 (ap node_seen (sym ((exact_code_node a b).0 h))))
     (λ h. (exact_code_node a b).1 (sym (node_tells b a (model.0 h))))
 
-pub node_added_seen : (list : List CodeNode) (n : CodeNode) → map node_seen (insert_key node_eq list n) ≡ node_added (map node_seen list) (node_seen n)
+pub node_added_seen : (list : List CodeNode) (n : CodeNode) → map node_seen (insert_key node_eq list n) ≡ with_one (same_node nat_eq) (map node_seen list) (node_seen n)
 node_added_seen list n = insert_seen node_seen node_eq (same_node nat_eq) nodes_agree_back list n
 
 position_more : (p : CodeNode → Bool) (x : CodeNode) (list : List CodeNode) → position p (x ∷ list) ≡ (if p x then Some 0 else option_map suc (position p list))
@@ -87,10 +87,10 @@ no_object nodes iri k e (Literal text kind) = refl
 
 -- ---- the nodes of a list
 
-keeps_node : (nodes : List (Node ℕ)) (s t : Node ℕ) → contains (same_node nat_eq) nodes t ≡ true → contains (same_node nat_eq) (node_added nodes s) t ≡ true
+keeps_node : (nodes : List (Node ℕ)) (s t : Node ℕ) → contains (same_node nat_eq) nodes t ≡ true → contains (same_node nat_eq) (with_one (same_node nat_eq) nodes s) t ≡ true
 keeps_node nodes s t h = contains_added nodes s t ∙ or_left (contains (same_node nat_eq) nodes t) (same_node nat_eq s t) h
 
-has_node : (nodes : List (Node ℕ)) (s t : Node ℕ) → s ≡ t → contains (same_node nat_eq) (node_added nodes s) t ≡ true
+has_node : (nodes : List (Node ℕ)) (s t : Node ℕ) → s ≡ t → contains (same_node nat_eq) (with_one (same_node nat_eq) nodes s) t ≡ true
 has_node nodes s t e = contains_added nodes s t ∙ or_right (contains (same_node nat_eq) nodes t) (same_node nat_eq s t) ((exact_nodes nat_eq exact_numbers s t).1 e)
 
 keeps_object : (nodes : List (Node ℕ)) (o : Term ℕ) (t : Node ℕ) → contains (same_node nat_eq) nodes t ≡ true → contains (same_node nat_eq) (object_added nodes o) t ≡ true
@@ -102,7 +102,7 @@ has_object : (nodes : List (Node ℕ)) (o : Term ℕ) (b : ℕ) → o ≡ Resour
 has_object nodes o b e = subst (λ (z : Term ℕ). contains (same_node nat_eq) (object_added nodes z) (Blank b) ≡ true) (sym e) (has_node nodes (Blank b) (Blank b) refl)
 
 keeps_triple : (nodes : List (Node ℕ)) (t : Triple ℕ) (s : Node ℕ) → contains (same_node nat_eq) nodes s ≡ true → contains (same_node nat_eq) (triple_added nodes t) s ≡ true
-keeps_triple nodes t s h = keeps_object (node_added nodes t.subject) t.object s (keeps_node nodes t.subject s h)
+keeps_triple nodes t s h = keeps_object (with_one (same_node nat_eq) nodes t.subject) t.object s (keeps_node nodes t.subject s h)
 
 pub has_none : (nodes : List (Node ℕ)) → HasNodes [] nodes
 has_none nodes = record { subjects = λ t m. absurd m; objects = λ t b m. absurd m }
@@ -112,14 +112,14 @@ nodes_more list t nodes h = record {
   subjects = λ u m. elim (Among_cases list (t ∷ []) u m) [
     | inl k ↦ keeps_triple nodes t u.subject (h.subjects u k)
     | inr k ↦ elim k [
-      | inl e ↦ keeps_object (node_added nodes t.subject) t.object u.subject (has_node nodes t.subject u.subject (ap (λ (z : Triple ℕ). z.subject) e))
+      | inl e ↦ keeps_object (with_one (same_node nat_eq) nodes t.subject) t.object u.subject (has_node nodes t.subject u.subject (ap (λ (z : Triple ℕ). z.subject) e))
       | inr z ↦ absurd z
     ]
   ];
   objects = λ u b m q. elim (Among_cases list (t ∷ []) u m) [
     | inl k ↦ keeps_triple nodes t (Blank b) (h.objects u b k q)
     | inr k ↦ elim k [
-      | inl e ↦ has_object (node_added nodes t.subject) t.object b (ap (λ (z : Triple ℕ). z.object) e ∙ q)
+      | inl e ↦ has_object (with_one (same_node nat_eq) nodes t.subject) t.object b (ap (λ (z : Triple ℕ). z.object) e ∙ q)
       | inr z ↦ absurd z
     ]
   ];

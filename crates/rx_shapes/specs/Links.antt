@@ -1,8 +1,8 @@
 -- The chains of parents and of lists, by the numbers of nodes.
 use Rattle.std.specs.Prelude.{◌≡◌, ◌↔◌, ℕ, Bool, nat_eq, true, false, ◌&&◌, ◌==◌, List, [], ◌∷◌, length, Option, Some, None, slice_get, get_or, bytes_eq, if◌then◌else◌}
 use Rattle.rx_model.specs.Terms.{Node, Iri, Blank, Term, Resource, Literal, Triple, same_node, same_triple, set_of}
-use Rattle.rx_model.specs.Sets.{Among, contains, distinct}
-use Rattle.rx_graph.specs.Resources.{node_added, number_in}
+use Rattle.rx_model.specs.Sets.{Among, contains, distinct, with_one}
+use Rattle.rx_graph.specs.Resources.{number_in}
 use Rattle.rx_shapes.specs.Rows.{filed, table}
 use Rattle.rx_shapes.specs.declared.chains.Link.{Link}
 use Rattle.rx_shapes.specs.declared.chains.Link.TheVariants as link
@@ -76,11 +76,11 @@ shape_by is_inner is_cell = if is_cell then shape.Cell else (if is_inner then sh
 -- the nodes, and those of the triple that aren't there yet
 abbrev pub object_added : List (Node ℕ) → Term ℕ → List (Node ℕ)
 object_added nodes (Resource (Iri iri)) = nodes
-object_added nodes (Resource (Blank b)) = node_added nodes (Blank b)
+object_added nodes (Resource (Blank b)) = with_one (same_node nat_eq) nodes (Blank b)
 object_added nodes (Literal text kind) = nodes
 
 abbrev pub triple_added : List (Node ℕ) → Triple ℕ → List (Node ℕ)
-triple_added nodes t = object_added (node_added nodes t.subject) t.object
+triple_added nodes t = object_added (with_one (same_node nat_eq) nodes t.subject) t.object
 
 -- the subjects and blank nodes of the list are among the nodes
 pub record HasNodes (list : List (Triple ℕ)) (nodes : List (Node ℕ)) : Type 0 where

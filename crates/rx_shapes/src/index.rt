@@ -1,7 +1,9 @@
 //! Nodes by number.
-ghost use Rattle.std.specs.Prelude.{◌≡◌, [], length, IfOk, OnOk};
+ghost use Rattle.std.specs.Prelude.{◌≡◌, [], length, IfOk, OnOk, nat_eq};
+ghost use Rattle.rx_model.specs.Terms.{same_node};
+ghost use Rattle.rx_model.specs.Sets.{with_one};
 ghost use Rattle.rx_model.specs.Seen.{node_seen, term_seen, triple_seen, triples_seen};
-ghost use Rattle.rx_graph.specs.Resources.{node_added, number_in};
+ghost use Rattle.rx_graph.specs.Resources.{number_in};
 ghost use Rattle.rx_shapes.specs.Links.{object_number, triple_added, IsIndex};
 
 use rx_graph::Graph;
@@ -65,7 +67,7 @@ impl Index {
 
     /// Adds the node at the end, where it isn't there yet.
     fn add(&mut self, node: Node) -> Result<(), NoMemory>
-        ensures { OnOk result (self.new ≡ node_added self.old (node_seen node)) }
+        ensures { OnOk result (self.new ≡ with_one (same_node nat_eq) self.old (node_seen node)) }
     {
         self.nodes.insert(node)?;
         Ok(())

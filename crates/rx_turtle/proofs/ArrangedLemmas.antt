@@ -8,11 +8,11 @@ use Rattle.std.proofs.lemmas.List.{take_all, length-map, map-append, take-map, d
 use Rattle.std.proofs.lemmas.List.Elements.{filter-append}
 use Rattle.std.proofs.lemmas.List.Folds.{list_all-append}
 use Rattle.rx_terms.specs.declared.triples.Triple.{Triple as CodeTriple}
-use Rattle.rx_model.specs.Sets.{Among, contains, distinct}
+use Rattle.rx_model.specs.Sets.{Among, contains, distinct, with_one}
 use Rattle.rx_model.specs.Terms.{Node, Triple, same_node}
 use Rattle.rx_model.proofs.Sets.{Among-contains, Among_by_contains, Among_of_distinct, Among_distinct}
 use Rattle.rx_model.proofs.Exact.{exact_nodes, exact_numbers}
-use Rattle.rx_graph.specs.Resources.{node_added, AreDistinct}
+use Rattle.rx_graph.specs.Resources.{AreDistinct}
 use Rattle.rx_terms.proofs.Bools.{same_truth}
 use Rattle.rx_graph.proofs.SetLemmas.{one_more}
 use Rattle.rx_shapes.proofs.Grouped.{same_back}
@@ -248,13 +248,13 @@ module _ (kind : By) where
   like_turn list i t start old new at grows before =
       let key : Node ℕ = key_by kind t in
       let keys : List (Node ℕ) = keys_by kind (take i list) in
-      let more : keys_by kind (take (i + 1) list) ≡ node_added keys key = ap (keys_by kind) (one_more list i t at) ∙ keys_more kind (take i list) t in
+      let more : keys_by kind (take (i + 1) list) ≡ with_one (same_node nat_eq) keys key = ap (keys_by kind) (one_more list i t at) ∙ keys_more kind (take i list) t in
       grows ∙ ap₂ (λ o z. o ++ like_first kind (take i list) z) before (front_at list i t at)
       ∙ go (contains (same_node nat_eq) (map (key_by kind) (take i list)) key) refl
       ∙ ap (λ z. start ++ all_in (rows_by kind list z)) (sym more)
     where
       go : (b : Bool) → contains (same_node nat_eq) (map (key_by kind) (take i list)) (key_by kind t) ≡ b
-          → (start ++ all_in (rows_by kind list (keys_by kind (take i list)))) ++ like_first kind (take i list) (t ∷ drop (suc i) list) ≡ start ++ all_in (rows_by kind list (node_added (keys_by kind (take i list)) (key_by kind t)))
+          → (start ++ all_in (rows_by kind list (keys_by kind (take i list)))) ++ like_first kind (take i list) (t ∷ drop (suc i) list) ≡ start ++ all_in (rows_by kind list (with_one (same_node nat_eq) (keys_by kind (take i list)) (key_by kind t)))
       go true e =
           let there : contains (same_node nat_eq) (keys_by kind (take i list)) (key_by kind t) ≡ true = same_there (map (key_by kind) (take i list)) (key_by kind t) ∙ e in
           rw (e, there) (append-nil (start ++ all_in (rows_by kind list (keys_by kind (take i list)))))
@@ -269,7 +269,7 @@ module _ (kind : By) where
           let last : all_in (rows_by kind list (key ∷ [])) ≡ filter (has_key kind key) list = append-nil (filter (has_key kind key) list) in
           let both : all_in (rows_by kind list (keys ++ key ∷ [])) ≡ all_in (rows_by kind list keys) ++ filter (has_key kind key) list =
           ap all_in (map-append {B = Keyed} (λ k. (k, filter (has_key kind k) list)) keys (key ∷ [])) ∙ all_both (rows_by kind list keys) (rows_by kind list (key ∷ [])) ∙ ap (λ z. all_in (rows_by kind list keys) ++ z) last in
-          let added : node_added keys key ≡ keys ++ key ∷ [] = ap (λ b. if b then keys else keys ++ key ∷ []) there in
+          let added : with_one (same_node nat_eq) keys key ≡ keys ++ key ∷ [] = ap (λ b. if b then keys else keys ++ key ∷ []) there in
           ap (λ z. (start ++ all_in (rows_by kind list keys)) ++ z) (front ∙ row) ∙ append_assoc start (all_in (rows_by kind list keys)) (filter (has_key kind key) list)
           ∙ ap (λ z. start ++ z) (sym both) ∙ ap (λ z. start ++ all_in (rows_by kind list z)) (sym added)
 

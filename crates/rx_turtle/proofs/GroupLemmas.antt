@@ -3,11 +3,11 @@ use Rattle.std.proofs.Common.{◌≡◌, ◌∙◌, ℕ, zero, suc, ◌+◌, ◌
 use Rattle.std.proofs.lemmas.List.{map-append}
 use Rattle.std.proofs.lemmas.List.Elements.{filter-append}
 use Rattle.rx_terms.specs.declared.triples.Triple.{Triple as CodeTriple}
-use Rattle.rx_model.specs.Sets.{contains, distinct}
+use Rattle.rx_model.specs.Sets.{contains, distinct, with_one}
 use Rattle.rx_model.specs.Terms.{Node, Triple, same_node}
 use Rattle.rx_model.specs.Seen.{triple_seen}
 use Rattle.rx_model.proofs.Exact.{exact_nodes, exact_numbers}
-use Rattle.rx_graph.specs.Resources.{resource_seen, node_added, number_in, AreDistinct}
+use Rattle.rx_graph.specs.Resources.{resource_seen, number_in, AreDistinct}
 use Rattle.rx_graph.proofs.SetLemmas.{distinct_grows, one_more}
 use Rattle.rx_shapes.proofs.Grouped.{same_back}
 use Rattle.rx_turtle.specs.declared.keys.By.{By}
@@ -34,7 +34,7 @@ same_self a = (exact_nodes nat_eq exact_numbers a a).1 refl
 module _ (kind : By) where
   -- ---- the keys
 
-  pub keys_more : (list : List (Triple ℕ)) (t : Triple ℕ) → keys_by kind (list ++ t ∷ []) ≡ node_added (keys_by kind list) (key_by kind t)
+  pub keys_more : (list : List (Triple ℕ)) (t : Triple ℕ) → keys_by kind (list ++ t ∷ []) ≡ with_one (same_node nat_eq) (keys_by kind list) (key_by kind t)
   keys_more list t = ap (distinct (same_node nat_eq)) (map-append (key_by kind) list (t ∷ [])) ∙ distinct_grows (same_node nat_eq) (exact_nodes nat_eq exact_numbers) (map (key_by kind) list) (key_by kind t)
 
   -- ---- the triples of each key

@@ -3,10 +3,10 @@ use Rattle.std.proofs.Common.{◌≡◌, ◌∙◌, ℕ, zero, suc, ◌+◌, ◌
 use Rattle.std.proofs.lemmas.List.{take_all, map-append}
 use Rattle.std.proofs.lemmas.List.Elements.{filter-append}
 use Rattle.rx_terms.specs.declared.triples.Triple.{Triple as CodeTriple}
-use Rattle.rx_model.specs.Sets.{contains}
+use Rattle.rx_model.specs.Sets.{contains, with_one}
 use Rattle.rx_model.specs.Terms.{Node, Triple, same_node}
 use Rattle.rx_model.proofs.Exact.{exact_nodes, exact_numbers}
-use Rattle.rx_graph.specs.Resources.{node_added, number_in, AreDistinct}
+use Rattle.rx_graph.specs.Resources.{number_in, AreDistinct}
 use Rattle.rx_graph.proofs.PatternLemmas.{contains_more, contains_added, none_there}
 use Rattle.rx_shapes.proofs.Grouped.{same_back}
 use Rattle.rx_turtle.specs.declared.keys.By.{By}
@@ -34,7 +34,7 @@ last_distinct (x ∷ keys) s h d = (
   last_distinct keys s (rest_of (same_node nat_eq x s) (contains (same_node nat_eq) keys s) h) d.1,
 )
 
-added_distinct : (keys : List (Node ℕ)) (s : Node ℕ) → AreDistinct keys → AreDistinct (node_added keys s)
+added_distinct : (keys : List (Node ℕ)) (s : Node ℕ) → AreDistinct keys → AreDistinct (with_one (same_node nat_eq) keys s)
 added_distinct keys s d = go (contains (same_node nat_eq) keys s) refl
   where
     go : (b : Bool) → contains (same_node nat_eq) keys s ≡ b → AreDistinct (if b then keys else keys ++ s ∷ [])
@@ -141,7 +141,7 @@ keys_put [] n t = refl
 keys_put (g ∷ groups) zero t = refl
 keys_put (g ∷ groups) (suc n) t = ap (λ z. g.0 ∷ z) (keys_put groups n t)
 
-pub keys_begun : (groups : List Keyed) (keys : List (Node ℕ)) (key : Node ℕ) (t : Triple ℕ) → keys ≡ keys_in groups → number_in keys key ≡ None → node_added keys key ≡ keys_in (groups ++ (key, t ∷ []) ∷ [])
+pub keys_begun : (groups : List Keyed) (keys : List (Node ℕ)) (key : Node ℕ) (t : Triple ℕ) → keys ≡ keys_in groups → number_in keys key ≡ None → with_one (same_node nat_eq) keys key ≡ keys_in (groups ++ (key, t ∷ []) ∷ [])
 keys_begun groups keys key t are none =
     ap (λ b. if b then keys else keys ++ key ∷ []) (none_there keys key none) ∙ ap (λ z. z ++ key ∷ []) are ∙ sym (map-append (λ (group : Keyed). group.0) groups ((key, t ∷ []) ∷ []))
 

@@ -1,8 +1,9 @@
 //! Triples in groups.
 ghost use Rattle.std.specs.Prelude.{◌≡◌, ◌<◌, [], ◌∷◌, ◌++◌, true, length, map, nat_eq, IfOk, OnOk, Some, slice_get};
+ghost use Rattle.rx_model.specs.Sets.{with_one};
 ghost use Rattle.rx_model.specs.Terms.{same_node};
 ghost use Rattle.rx_model.specs.Seen.{triple_seen};
-ghost use Rattle.rx_graph.specs.Resources.{resource_seen, node_added, number_in, AreDistinct};
+ghost use Rattle.rx_graph.specs.Resources.{resource_seen, number_in, AreDistinct};
 ghost use Rattle.rx_turtle.specs.Groups.{Keyed, keys_in, grouped, put_in, taken_in, lent_triples};
 
 use crate::hints::Hints;
@@ -100,7 +101,7 @@ impl<'a> Groups<'a> {
         triple: &'a Triple,
     ) -> Result<usize, NoMemory>
         ensures taken { OnOk result (self.new ≡ self.old ++ (resource_seen key.entry, triple_seen triple.now ∷ []) ∷ []) }
-        ensures keys { OnOk result (keys.new ≡ node_added keys.old (resource_seen key.entry)) }
+        ensures keys { OnOk result (keys.new ≡ with_one (same_node nat_eq) keys.old (resource_seen key.entry)) }
     {
         let place = self.len();
         keys.add(key)?;

@@ -1,14 +1,15 @@
 use Rattle.std.proofs.Common.{◌∙◌, ap, arith, List, nat_eq}
 use Rattle.rx_terms.specs.declared.triples.Triple.{Triple}
+use Rattle.rx_model.specs.Terms.{same_triple}
+use Rattle.rx_model.specs.Sets.{with_all}
 use Rattle.rx_model.specs.Copied.{treated, edges}
 use Rattle.rx_model.specs.Seen.{triple_seen, triples_seen}
-use Rattle.rx_graph.specs.Graph.{added_all}
 use Rattle.rx_graph.proofs.PlaceLemmas.{treated_turn, treated_end}
 use Rattle.rx_graph.proofs.copying.copy_patterns.Goals as goal
 
 pub loop-i-preserved : goal.loop-i-preserved
 loop-i-preserved c = treated_turn c.args.triples.now c.loop-i.i c.at.result.now _ _ c.at.ensures
-    (c.in_ok-treat.ensures ∙ ap (λ (z : List Triple). added_all (triples_seen c.loop-i.gathering) (treated nat_eq (triples_seen z) (edges nat_eq (triples_seen z)) (triple_seen c.at.result.now))) c.in_ok-patterns.ensures)
+    (c.in_ok-treat.ensures ∙ ap (λ (z : List Triple). with_all (same_triple nat_eq) (triples_seen c.loop-i.gathering) (treated nat_eq (triples_seen z) (edges nat_eq (triples_seen z)) (triple_seen c.at.result.now))) c.in_ok-patterns.ensures)
     c.loop-i.invariant
 
 pub returns : goal.returns

@@ -1,5 +1,6 @@
-use Rattle.std.proofs.Common.{◌∙◌, ap, sym, arith}
-use Rattle.rx_graph.specs.Resources.{node_added}
+use Rattle.std.proofs.Common.{◌∙◌, ap, sym, arith, nat_eq}
+use Rattle.rx_model.specs.Terms.{same_node}
+use Rattle.rx_model.specs.Sets.{with_one}
 use Rattle.rx_graph.proofs.PatternLemmas.{patterns_found, patterns_kept, patterns_end}
 use Rattle.rx_graph.proofs.patterns.pattern_nodes.Goals.{then-says_pattern+in_ok-add, else-says_pattern}
 use Rattle.rx_graph.proofs.patterns.pattern_nodes.Goals as goal
@@ -7,7 +8,7 @@ use Rattle.rx_graph.proofs.patterns.pattern_nodes.Goals as goal
 pub loop-i-preserved : goal.loop-i-preserved
 loop-i-preserved c = elim c.if-says_pattern.branch [
   | then-says_pattern+in_ok-add w ↦ rw w.nodes-is (patterns_found c.args.triples.now c.loop-i.i c.at-triple.result.now c.loop-i.nodes _ c.at-triple.ensures (sym c.says_pattern.ensures ∙ w.if-says_pattern.true)
-      (w.in_ok-add.ensures.ok ∙ ap (node_added c.loop-i.nodes) w.of_node.ensures) c.loop-i.invariant)
+      (w.in_ok-add.ensures.ok ∙ ap (with_one (same_node nat_eq) c.loop-i.nodes) w.of_node.ensures) c.loop-i.invariant)
   | else-says_pattern w ↦ rw w.nodes-is (patterns_kept c.args.triples.now c.loop-i.i c.at-triple.result.now c.loop-i.nodes c.at-triple.ensures (sym c.says_pattern.ensures ∙ w.if-says_pattern.false) c.loop-i.invariant)
 ]
 

@@ -1,11 +1,10 @@
 use Rattle.std.proofs.Common.{◌≡◌, ◌∙◌, ap, sym, subst, List, false, Some, None, nat_eq, option_map}
 use Rattle.std.proofs.lemmas.Result.{on_ok_weaker}
 use Rattle.rx_terms.specs.declared.triples.Triple.{Triple}
-use Rattle.rx_model.specs.Sets.{contains}
-use Rattle.rx_model.specs.Terms.{same_node}
+use Rattle.rx_model.specs.Sets.{contains, with_one}
+use Rattle.rx_model.specs.Terms.{same_node, same_triple}
 use Rattle.rx_model.specs.Copied.{edges, is_referenced, live}
 use Rattle.rx_model.specs.Seen.{triple_seen, triples_seen, node_seen}
-use Rattle.rx_graph.specs.Graph.{added}
 use Rattle.rx_graph.specs.Resources.{resource_seen}
 use Rattle.rx_graph.proofs.PatternLemmas.{live_is}
 use Rattle.rx_graph.proofs.PlaceLemmas.{treated_kept, treated_live, referenced_is}
@@ -20,7 +19,7 @@ returns-in_ok-try_clone-in-None c =
     let none : live nat_eq (triples_seen list) (triple_seen c.args.triple.now).predicate (triple_seen c.args.triple.now).object ≡ None =
     sym (live_is (triples_seen list) c.self.inside.index.nodes c.self.invariant.index.patterns (triple_seen c.args.triple.now)) ∙ sym c.live.ensures ∙ ap (option_map resource_seen) c.in-None.is in
     on_ok_weaker c.add.result
-    (λ h. rw (← c.self.view_is) (treated_kept (triples_seen list) (triple_seen c.args.triple.now) _ _ kept none (h ∙ ap (λ t. added (triples_seen c.args.gathering.now) (triple_seen t)) c.in_ok-try_clone-in-None.ensures)))
+    (λ h. rw (← c.self.view_is) (treated_kept (triples_seen list) (triple_seen c.args.triple.now) _ _ kept none (h ∙ ap (λ t. with_one (same_triple nat_eq) (triples_seen c.args.gathering.now) (triple_seen t)) c.in_ok-try_clone-in-None.ensures)))
     c.add.ensures
 
 pub returns-in-Some : goal.returns-in-Some

@@ -1,0 +1,111 @@
+-- Lists to which each element comes once, from left to right, and the places of the elements.
+use Rattle.std.proofs.Common.{◌≡◌, suc, ◌+◌, Bool, true, false, ◌||◌, List, [], ◌∷◌, ◌++◌, length, refl, sym, ap, ◌∙◌, inl, inr, true≢false, if◌then◌else◌, append_assoc, append-nil, cond, arith}
+use Rattle.rx_model.specs.Sets.{Among, IsExact, contains, distinct, with_one, with_all}
+use Rattle.rx_model.specs.Numbered.{place_in}
+use Rattle.rx_model.proofs.Sets.{Among_right, Among-contains, Among_distinct}
+use Rattle.rx_graph.proofs.SetLemmas.{distinct_grows}
+
+module _ {B : Type 0} (same : B → B → Bool) where
+  -- ---- what the front has
+
+  pub contains_append : (xs ys : List B) (b : B) → contains same xs b ≡ true → contains same (xs ++ ys) b ≡ true
+  contains_append [] ys b h = absurd (true≢false (sym h))
+  contains_append (x ∷ xs) ys b h = go (same x b) h (contains_append xs ys b)
+    where
+      go : (t : Bool) → (t || contains same xs b) ≡ true → (contains same xs b ≡ true → contains same (xs ++ ys) b ≡ true) → (t || contains same (xs ++ ys) b) ≡ true
+      go true k ih = refl
+      go false k ih = ih k
+
+  pub place_append : (xs ys : List B) (b : B) → contains same xs b ≡ true → place_in same (xs ++ ys) b ≡ place_in same xs b
+  place_append [] ys b h = absurd (true≢false (sym h))
+  place_append (x ∷ xs) ys b h = go (same x b) h (place_append xs ys b)
+    where
+      go : (t : Bool) → (t || contains same xs b) ≡ true → (contains same xs b ≡ true → place_in same (xs ++ ys) b ≡ place_in same xs b) → cond t 0 (suc (place_in same (xs ++ ys) b)) ≡ cond t 0 (suc (place_in same xs b))
+      go true k ih = refl
+      go false k ih = ap suc (ih k)
+
+  -- ---- what the front lacks
+
+  pub contains_behind : (front xs : List B) (b : B) → contains same front b ≡ false → contains same (front ++ xs) b ≡ contains same xs b
+  contains_behind [] xs b h = refl
+  contains_behind (x ∷ front) xs b h = go (same x b) h (contains_behind front xs b)
+    where
+      go : (t : Bool) → (t || contains same front b) ≡ false → (contains same front b ≡ false → contains same (front ++ xs) b ≡ contains same xs b) → (t || contains same (front ++ xs) b) ≡ contains same xs b
+      go true k ih = absurd (true≢false k)
+      go false k ih = ih k
+
+  pub place_behind : (front xs : List B) (b : B) → contains same front b ≡ false → place_in same (front ++ xs) b ≡ length front + place_in same xs b
+  place_behind [] xs b h = omega arith
+  place_behind (x ∷ front) xs b h = go (same x b) h (place_behind front xs b)
+    where
+      go : (t : Bool) → (t || contains same front b) ≡ false → (contains same front b ≡ false → place_in same (front ++ xs) b ≡ length front + place_in same xs b)
+          → cond t 0 (suc (place_in same (front ++ xs) b)) ≡ suc (length front) + place_in same xs b
+      go true k ih = absurd (true≢false k)
+      go false k ih = let it = ih k in omega (arith, it)
+
+  pub one_behind : (front xs : List B) (b : B) → contains same front b ≡ false → with_one same (front ++ xs) b ≡ front ++ with_one same xs b
+  one_behind front xs b h = ap (λ t. if t then front ++ xs else (front ++ xs) ++ b ∷ []) (contains_behind front xs b h) ∙ go (contains same xs b)
+    where
+      go : (t : Bool) → (if t then front ++ xs else (front ++ xs) ++ b ∷ []) ≡ front ++ (if t then xs else xs ++ b ∷ [])
+      go true = refl
+      go false = append_assoc front xs (b ∷ [])
+
+  -- ---- one list after another
+
+  pub all_append : (list xs ys : List B) → with_all same list (xs ++ ys) ≡ with_all same (with_all same list xs) ys
+  all_append list [] ys = refl
+  all_append list (x ∷ xs) ys = all_append (with_one same list x) xs ys
+
+  -- xs is known among ys, at the same places
+  pub record Kept (xs ys : List B) : Type 0 where
+    pub among : (b : B) → contains same xs b ≡ true → contains same ys b ≡ true
+    pub places : (b : B) → contains same xs b ≡ true → place_in same ys b ≡ place_in same xs b
+
+  kept_self : (xs : List B) → Kept xs xs
+  kept_self xs = record { among = λ b h. h; places = λ b h. refl }
+
+  kept_then : (xs ys zs : List B) → Kept xs ys → Kept ys zs → Kept xs zs
+  kept_then xs ys zs k l = record { among = λ b h. l.among b (k.among b h); places = λ b h. l.places b (k.among b h) ∙ k.places b h }
+
+  kept_append : (xs ys : List B) → Kept xs (xs ++ ys)
+  kept_append xs ys = record { among = contains_append xs ys; places = place_append xs ys }
+
+  kept_one : (seen : List B) (b : B) → Kept seen (with_one same seen b)
+  kept_one seen b = go (contains same seen b)
+    where
+      go : (t : Bool) → Kept seen (if t then seen else seen ++ b ∷ [])
+      go true = kept_self seen
+      go false = kept_append seen (b ∷ [])
+
+  pub kept_all : (seen more : List B) → Kept seen (with_all same seen more)
+  kept_all seen [] = kept_self seen
+  kept_all seen (b ∷ more) = kept_then seen (with_one same seen b) (with_all same (with_one same seen b) more) (kept_one seen b) (kept_all (with_one same seen b) more)
+
+module _ {B : Type 0} (same : B → B → Bool) (exact : IsExact same) where
+  pub has_last : (xs : List B) (b : B) → contains same (xs ++ b ∷ []) b ≡ true
+  has_last xs b = Among-contains same exact (xs ++ b ∷ []) b (Among_right xs (b ∷ []) b (inl refl))
+
+  pub has_one : (seen : List B) (b : B) → contains same (with_one same seen b) b ≡ true
+  has_one seen b = go (contains same seen b) refl
+    where
+      go : (t : Bool) → contains same seen b ≡ t → contains same (if t then seen else seen ++ b ∷ []) b ≡ true
+      go true e = e
+      go false e = has_last seen b
+
+  pub has_all : (seen more : List B) (b : B) → Among more b → contains same (with_all same seen more) b ≡ true
+  has_all seen [] b h = absurd h
+  has_all seen (c ∷ more) b (inl e) = (kept_all same (with_one same seen c) more).among b (ap (contains same (with_one same seen c)) (sym e) ∙ has_one seen c)
+  has_all seen (c ∷ more) b (inr h) = has_all (with_one same seen c) more b h
+
+  -- ---- from left to right it is `distinct`
+
+  pub all_distinct : (list more : List B) → with_all same (distinct same list) more ≡ distinct same (list ++ more)
+  all_distinct list [] = ap (distinct same) (sym (append-nil list))
+  all_distinct list (b ∷ more) = ap (λ z. with_all same z more) (sym (distinct_grows same exact list b)) ∙ all_distinct (list ++ b ∷ []) more ∙ ap (distinct same) (append_assoc list (b ∷ []) more)
+
+  pub in_distinct : (list : List B) (b : B) → Among list b → contains same (distinct same list) b ≡ true
+  in_distinct list b m = Among-contains same exact (distinct same list) b (Among_distinct same exact list b m)
+
+  -- what is among the list has a place in its table, and keeps it when the list grows
+  pub place_stays : (list more : List B) (b : B) → Among list b → place_in same (distinct same list) b ≡ place_in same (distinct same (list ++ more)) b
+  place_stays list more b m = sym ((kept_all same (distinct same list) more).places b (in_distinct list b m)) ∙ ap (λ z. place_in same z b) (all_distinct list more)
