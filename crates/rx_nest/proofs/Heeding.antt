@@ -33,12 +33,7 @@ use Rattle.rx_nest.specs.Follows.{AreLevels, Follows, flags_of, phase_at}
 use Rattle.rx_nest.specs.Nests.{Stops, At, setting_of, heard_signs}
 use Rattle.rx_nest.proofs.Takes.{hidden_flags}
 use Rattle.rx_nest.proofs.TextSteps.{said_by, Quiet}
-
--- the front of a list and the rest
-pub front_rest : (n : ℕ) (xs : List ℕ) → take n xs ++ drop n xs ≡ xs
-front_rest zero xs = refl
-front_rest (suc n) [] = refl
-front_rest (suc n) (x ∷ xs) = ap (λ r. x ∷ r) (front_rest n xs)
+use Rattle.rx_nest.proofs.Pieces.{front_back as front_rest}
 
 pub byte_at : (n : ℕ) (xs : List ℕ) (byte : ℕ) → slice_get xs n ≡ Some byte → (rest : List ℕ) × (xs ≡ take n xs ++ byte ∷ rest)
 byte_at n [] byte h = absurd (cc)

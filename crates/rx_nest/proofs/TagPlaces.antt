@@ -33,15 +33,12 @@ use Rattle.rx_nest.specs.Signs.{Sign, begun, said, finished, Flags, is_hidden, S
 use Rattle.rx_nest.specs.Fronts.{Lie, ShowsMore}
 use Rattle.rx_pages.proofs.Sizes.{read_size}
 use Rattle.rx_nest.proofs.TextSteps.{sees_append}
+use Rattle.rx_pages.proofs.LastToken.{token_of_item}
 
 -- each token ends at the offset, or is a run that stays text
 abbrev EndAt : ℕ → List Item → Type 0
 EndAt at [] = Unit {0}
 EndAt at (item ∷ items) = (IsKept item.token ⊎ (item.last ≡ at)) × EndAt at items
-
-token_of_item : (i : Content) (token : Token) (run : List Entry) → (item_of i token run).token ≡ token
-token_of_item i token [] = refl
-token_of_item i token (e ∷ run) = refl
 
 module _ (syntax : Syntax) (limits : Limits) (spot : Spot) where
   abbrev Ends : ℕ → Result Scanned Kind → Type 0

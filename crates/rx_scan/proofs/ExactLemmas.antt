@@ -45,15 +45,7 @@ use Rattle.rx_scan.specs.Spelled.{Spells, IsBetween, Left, is_over, Enters, Fits
 use Rattle.rx_scan.specs.Spelled as spelled
 use Rattle.rx_scan.proofs.SpelledLemmas.{same_content, scans_so, refuses_so, scan_append}
 use Rattle.rx_scan.proofs.BackLemmas.{spelled_back}
-
--- XHTML keeps no runs
-strict_keeps : (i : Content) → occurs Xhtml i ≡ true → keeps_runs i ≡ false
-strict_keeps content.Outside o = refl
-strict_keeps content.Strict o = refl
-strict_keeps content.Html o = absurd (cc)
-strict_keeps content.Foreign o = absurd (cc)
-strict_keeps (content.Raw r) o = absurd (cc)
-strict_keeps (content.Rcdata r) o = absurd (cc)
+use Rattle.rx_pages.proofs.Judged.{strict_keeps}
 
 -- characters that are no token, and have a fault whatever stands before, are refused at their last one
 refused_by : (s : Syntax) (i : Content) → occurs s i ≡ true → (depth : ℕ) (line : Line) (phase : Phase) {found : Kind} {chars : Chars} → Faulty s depth [] line phase i found chars → IsNoToken s i chars → IsRefused s i found chars
