@@ -1,25 +1,13 @@
 -- Behind the byte that completes a tag nothing is unfinished; any other byte tells text alone.
-use Rattle.std.proofs.Common.{◌≡◌, ◌∙◌, ⊎_elim, inl, inr, ℕ, Bool, true, false, List, [], ◌∷◌, ◌++◌, refl, sym, ap, subst, nat_le, Result, Ok, Err}
-use Rattle.std.specs.Prelude.{◌⊎◌, ◌&&◌, ◌||◌, ◌==◌, not}
-use Rattle.rx_terms.specs.Ascii.{greater_than_sign}
-use Rattle.rx_terms.specs.Text.{Chars}
+use Rattle.std.proofs.Common.{◌≡◌, ◌∙◌, ⊎_elim, ℕ, true, false, List, [], ◌∷◌, ◌++◌, refl, sym, ap, Result, Ok, Err}
 use Rattle.rx_chars.specs.declared.syntax.Syntax.{Syntax}
-use Rattle.rx_chars.specs.declared.utf8.Utf8Step.{Utf8Step}
-use Rattle.rx_chars.specs.declared.utf8.Utf8Step.TheVariants.{More, Char, Bad}
-use Rattle.rx_chars.specs.Utf8.{answer_of}
-use Rattle.rx_chars.specs.Characters.{Entry, byte_order_mark, line_feed, carriage_return, as_line_end}
-use Rattle.rx_terms.proofs.Bools.{split}
 use Rattle.rx_grammar.specs.declared.faults.Kind.{Kind}
 use Rattle.rx_grammar.specs.declared.limits.Limits.{Limits}
 use Rattle.rx_grammar.specs.Tokens.{Tag, Token, tag, character, reference, kept, section, comment, doctype}
-use Rattle.rx_grammar.specs.Items.{values, Item, is_literal, is_line_feed}
+use Rattle.rx_grammar.specs.Items.{Item, is_line_feed}
 use Rattle.rx_grammar.specs.Begun.{Phase, before, within, after}
-use Rattle.rx_pages.specs.Scanner.{Verdict, goes_on, whole, ended, refused, verdict}
-use Rattle.rx_pages.specs.Nesting.{Event, begins, says, finishes, Nesting, Step, nest_step, step_by, text_step, told as told_text, doctype_step}
-use Rattle.rx_pages.specs.PageReader as reader
-use Rattle.rx_pages.specs.PageReader.{Spot, spot_of, Scanning, starts_at, Scanned, first_of, token_at, is_doctype, item_of, is_too_long, completed, told_first, with_item, after_token, read_char, read_answer, read_byte, Progress, with_events, step_on, steps_on, no_step, progress_of, nested_items, telling, page_byte_on}
-use Rattle.rx_pages.proofs.EndedRuns.{ended_kept}
-use Rattle.rx_pages.proofs.TokenWalk.{IsKept}
+use Rattle.rx_pages.specs.Nesting.{Event, Nesting, Step, nest_step, step_by, doctype_step}
+use Rattle.rx_pages.specs.PageReader.{spot_of, Scanned, read_byte, Progress, with_events, step_on, steps_on, no_step, progress_of, nested_items, telling, page_byte_on}
 use Rattle.rx_nest.proofs.QuietReading.{AllSay, say_append, StepSays, text_says}
 use Rattle.rx_nest.proofs.RefusedTags.{HasNoTag, Where, byte_where}
 

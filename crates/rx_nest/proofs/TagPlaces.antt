@@ -9,7 +9,6 @@ use Rattle.rx_chars.specs.declared.utf8.Utf8Step.TheVariants.{More, Char, Bad}
 use Rattle.rx_chars.specs.Utf8.{answer_of}
 use Rattle.rx_chars.specs.Characters.{Entry, byte_order_mark, line_feed, carriage_return, as_line_end}
 use Rattle.rx_terms.proofs.Bools.{by_test, split}
-use Rattle.rx_grammar.specs.declared.contents.Content.{Content}
 use Rattle.rx_grammar.specs.declared.faults.Fault.{Fault}
 use Rattle.rx_grammar.specs.declared.faults.Kind.{Kind}
 use Rattle.rx_grammar.specs.declared.faults.Kind.TheVariants.{BadDoctype, NotUtf8, Nul, PageTooLong, StrictText, TagTooLong}

@@ -7,12 +7,11 @@ use Rattle.rx_terms.specs.Text.{Chars}
 use Rattle.rx_chars.specs.declared.syntax.Syntax.{Syntax}
 use Rattle.rx_chars.specs.Characters.{Entry}
 use Rattle.rx_grammar.specs.declared.contents.Content.{Content}
-use Rattle.rx_grammar.specs.declared.contents.Content.TheVariants as content
 use Rattle.rx_grammar.specs.declared.faults.Kind.{Kind}
 use Rattle.rx_grammar.specs.declared.limits.Limits.{Limits}
 use Rattle.rx_grammar.specs.Tokens.{Token, tag, character, reference, kept, section, comment, doctype}
 use Rattle.rx_grammar.specs.Spelling as spelling
-use Rattle.rx_grammar.specs.Items.{values, next_of, last_from, Item, Spelled, no_more, one, Fits, AllFit, is_literal, is_strict_literal, no_section_end}
+use Rattle.rx_grammar.specs.Items.{values, next_of, last_from, Item, Spelled, no_more, one, Fits, AllFit, is_literal, no_section_end}
 use Rattle.rx_grammar.specs.PageFaults.{is_known_tag}
 use Rattle.rx_pages.specs.Scanner.{GoesOn, Verdict, goes_on, whole, ended, refused, verdict, ReadAs, at_last, at_next}
 use Rattle.rx_pages.specs.PageReader.{Spot, Scanning, Scanned, first_of, entering, item_of, is_doctype, completed, told_first, with_item, after_token, told}
@@ -21,7 +20,7 @@ use Rattle.rx_pages.proofs.Pending.{goes_at, goes_within, not_whole}
 use Rattle.rx_pages.proofs.FrontOn.{goes_more}
 use Rattle.rx_pages.proofs.Spellings.{reads_each}
 use Rattle.rx_pages.proofs.Tokens.{values_append}
-use Rattle.rx_pages.proofs.TokenWalk.{IsKept, is_kept}
+use Rattle.rx_pages.proofs.TokenWalk.{IsKept}
 use Rattle.rx_pages.proofs.TokensWalk.{RisesFrom, Rises, rises_front, rises_last, flags_behind, two_lasts, kept_literal, item_is}
 use Rattle.rx_pages.proofs.EndedRuns.{ended_kept}
 use Rattle.rx_pages.proofs.KnownTags.{TagVerdict, on, a_tag, a_fault, known_more, known_verdict}

@@ -12,7 +12,6 @@ use Rattle.rx_chars.specs.Utf8.{answer_of, IsCharacter}
 use Rattle.rx_chars.specs.Characters.{Entry, carriage_return, as_line_end}
 use Rattle.rx_chars.proofs.Utf8Exact.{answer_is}
 use Rattle.rx_grammar.specs.declared.contents.Content.{Content}
-use Rattle.rx_grammar.specs.declared.contents.Content.TheVariants as content
 use Rattle.rx_grammar.specs.declared.faults.Fault.{Fault}
 use Rattle.rx_grammar.specs.declared.faults.Kind.{Kind}
 use Rattle.rx_grammar.specs.declared.faults.Kind.TheVariants as kind
