@@ -23,7 +23,8 @@ use Rattle.rx_nest.specs.Fronts.{Lie}
 use Rattle.rx_nest.specs.ShownLines.{shown_line, open_after}
 use Rattle.rx_nest.specs.Signs.{Sign, said, is_hidden, Sight, see, sees, nothing_seen, signs_of}
 use Rattle.rx_nest.proofs.FaultPlacing.{page_shows}
-use Rattle.rx_nest.proofs.ShownLines.{page_held, sees_append}
+use Rattle.rx_nest.proofs.ShownLines.{page_held}
+use Rattle.rx_nest.proofs.TextSteps.{sees_append}
 use Rattle.rx_nest.proofs.TagPlaces.{shows_more}
 use Rattle.rx_base.specs.Lines.{line_of}
 use Rattle.rx_rdfa.specs.Pages.{read_tag, tags_of}
@@ -34,7 +35,8 @@ use Rattle.rx_base.proofs.Found.{known_stays}
 use Rattle.rx_base.proofs.CutTrees.{prefix, Gives, sought_cut}
 use Rattle.rx_nest.proofs.WideReading.{read_wide}
 use Rattle.rx_nest.proofs.Depths.{deep_or_none}
-use Rattle.rx_base.proofs.TagEnds.{Says, Settles, settled, says_more, byte_settles}
+use Rattle.rx_nest.proofs.QuietReading.{AllSay}
+use Rattle.rx_base.proofs.TagEnds.{Settles, settled, says_more, byte_settles}
 
 abbrev shown : Progress → List Sign
 shown p = (sees nothing_seen p.told).signs
@@ -49,7 +51,7 @@ said_sought : (b : Bool) (signs : List Sign) (chars : Chars) → sought (if b th
 said_sought true signs chars = refl
 said_sought false signs chars = seeks_append [] first_child signs (map said chars) ∙ said_seeks (line_of [] signs) (sought signs) chars
 
-says_sought : (events : List Event) (sight : Sight) → Says events → sought (sees sight events).signs ≡ sought sight.signs
+says_sought : (events : List Event) (sight : Sight) → AllSay events → sought (sees sight events).signs ≡ sought sight.signs
 says_sought [] sight s = refl
 says_sought (begins t hidden ∷ events) sight s = elim s [ ]
 says_sought (says chars ∷ events) sight s = says_sought events (see (says chars) sight.flags sight.signs) s ∙ said_sought (is_hidden sight.flags) sight.signs chars

@@ -27,7 +27,7 @@ use Rattle.rx_grammar.specs.declared.stops.Stop.TheVariants as stop
 use Rattle.rx_nest.specs.Falling.{FallsBy}
 use Rattle.rx_nest.specs.Nests.{ReadGives, StaysAtFault, FaultGives, OpenBefore, Nested, At, NestStands, Stops, Unshown, LendsStart, begins_own, IsATag, a_tag, read_before, read_now, TokenOf, DidOf, Done, DidLends, did_signs, did_more, did_skipped, heard_signs, hears_more, hears_skipped, Lends, Heeds, last_tag, owed_signs, owes_begin, left, own_left}
 use Rattle.rx_nest.proofs.TextSteps.{sees_append}
-use Rattle.rx_nest.proofs.Heeding.{front_rest}
+use Rattle.rx_nest.proofs.Pieces.{front_back as front_rest}
 use Rattle.rx_nest.proofs.Sizes.{faults_so, still_so}
 use Rattle.rx_nest.proofs.OpenElements.{open_before}
 

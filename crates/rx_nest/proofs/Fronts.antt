@@ -23,6 +23,7 @@ use Rattle.rx_pages.proofs.FaultWalk.{fault_stays}
 use Rattle.rx_nest.specs.Signs.{Sign, begun, said, finished, Flags, is_hidden, Sight, see, sees, nothing_seen}
 use Rattle.rx_nest.specs.Nests.{Nested, NestStands, owed_signs, last_tag}
 use Rattle.rx_nest.specs.Fronts.{Front, unbegun, inside, over as ended, goes, goes_on, front_of, levels_of, IsFront}
+use Rattle.rx_nest.proofs.TextSteps.{sees_append}
 
 -- the signs lead from one front to another, at no time past the limit
 abbrev Along : ℕ → Front → List Sign → Front → Type 0
@@ -193,10 +194,6 @@ module _ (depth : ℕ) where
       by [] signs (u ∷ line) a d e = absurd (cc)
       by (flag ∷ flags) signs [] a d e = absurd (cc)
       by (flag ∷ flags) signs (u ∷ line) a d e = absurd (cc)
-
-sees_append : (sight : Sight) (xs ys : List Event) → sees sight (xs ++ ys) ≡ sees (sees sight xs) ys
-sees_append sight [] ys = refl
-sees_append sight (x ∷ xs) ys = sees_append (see x sight.flags sight.signs) xs ys
 
 module _ (syntax : Syntax) (depth : ℕ) where
   -- elements that end by omission: the root never

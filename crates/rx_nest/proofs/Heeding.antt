@@ -1,6 +1,6 @@
 -- What the scanner tells, and the elements take, is what the page's bytes lead to.
 use Rattle.std.proofs.Common.{◌≡◌, ◌≢◌, ◌∙◌, ℕ, zero, suc, ◌+◌, Bool, true, false, List, [], ◌∷◌, ◌++◌, refl, sym, ap, subst, append_assoc, append-nil, Some, Result, Ok, Err}
-use Rattle.std.specs.Prelude.{◌&&◌, not, map, take, drop, slice_get, if◌then◌else◌}
+use Rattle.std.specs.Prelude.{◌&&◌, not, map, take, slice_get, if◌then◌else◌}
 use Rattle.rx_terms.specs.Text.{Chars}
 use Rattle.rx_chars.specs.declared.syntax.Syntax.{Syntax}
 use Rattle.rx_grammar.specs.declared.faults.Fault.{Fault}
@@ -33,12 +33,6 @@ use Rattle.rx_nest.specs.Follows.{AreLevels, Follows, flags_of, phase_at}
 use Rattle.rx_nest.specs.Nests.{Stops, At, setting_of, heard_signs}
 use Rattle.rx_nest.proofs.Takes.{hidden_flags}
 use Rattle.rx_nest.proofs.TextSteps.{said_by, Quiet}
-
--- the front of a list and the rest
-pub front_rest : (n : ℕ) (xs : List ℕ) → take n xs ++ drop n xs ≡ xs
-front_rest zero xs = refl
-front_rest (suc n) [] = refl
-front_rest (suc n) (x ∷ xs) = ap (λ r. x ∷ r) (front_rest n xs)
 
 pub byte_at : (n : ℕ) (xs : List ℕ) (byte : ℕ) → slice_get xs n ≡ Some byte → (rest : List ℕ) × (xs ≡ take n xs ++ byte ∷ rest)
 byte_at n [] byte h = absurd (cc)

@@ -1,5 +1,5 @@
 -- What a tag does to the levels, it does to the open elements.
-use Rattle.std.proofs.Common.{◌≡◌, ◌∙◌, ℕ, suc, ◌+◌, Bool, true, false, cond, List, [], ◌∷◌, ◌++◌, refl, sym, ap, length, arith}
+use Rattle.std.proofs.Common.{◌≡◌, ◌∙◌, ℕ, suc, ◌+◌, Bool, true, false, cond, List, [], ◌∷◌, ◌++◌, append_assoc, append-nil, refl, sym, ap, length, arith}
 use Rattle.std.specs.Prelude.{◌&&◌, not}
 use Rattle.rx_terms.specs.Text.{Chars}
 use Rattle.rx_chars.specs.declared.syntax.Syntax.{Syntax}
@@ -80,24 +80,16 @@ module _ (syntax : Syntax) where
       (λ e. rw (e, sym (end_test name level levels t above h) ∙ e) (end_kept name levels above h.4))
       (λ e. rw (e, sym (end_test name level levels t above h) ∙ e) h)
 
-append_assoc : (a b c : List Sign) → (a ++ b) ++ c ≡ a ++ (b ++ c)
-append_assoc [] b c = refl
-append_assoc (x ∷ a) b c = ap (λ l. x ∷ l) (append_assoc a b c)
-
-append_nil : (a : List Sign) → a ++ [] ≡ a
-append_nil [] = refl
-append_nil (x ∷ a) = ap (λ l. x ∷ l) (append_nil a)
-
 pub ends_one : (shown : Bool) (n : ℕ) (signs : List Sign) → (signs ++ cond shown (finished ∷ []) []) ++ finishing n ≡ signs ++ finishing (one_if shown + n)
 ends_one true n signs = let z : 1 + n ≡ suc n = omega arith in append_assoc signs (finished ∷ []) (finishing n) ∙ ap (λ m. signs ++ finishing m) (sym z)
-ends_one false n signs = let z : 0 + n ≡ n = omega arith in ap (λ l. l ++ finishing n) (append_nil signs) ∙ ap (λ m. signs ++ finishing m) (sym z)
+ends_one false n signs = let z : 0 + n ≡ n = omega arith in ap (λ l. l ++ finishing n) (append-nil signs) ∙ ap (λ m. signs ++ finishing m) (sym z)
 
 module _ (syntax : Syntax) where
   -- and what their ends show
   pub start_seen : (name : Chars) (levels : Levels) (line : Line) (signs : List Sign) (more : List Event) → AreLevels syntax levels line
       → sees (record { flags = flags_of levels; signs = signs }) (ended_by_start syntax name line ++ more)
       ≡ sees (record { flags = flags_of (kept (ends_by false name) levels); signs = signs ++ finishing (ended (ends_by false name) levels) }) more
-  start_seen name [] [] signs more h = ap (λ l. sees (record { flags = []; signs = l }) more) (sym (append_nil signs))
+  start_seen name [] [] signs more h = ap (λ l. sees (record { flags = []; signs = l }) more) (sym (append-nil signs))
   start_seen name [] (t ∷ above) signs more h = elim h [ ]
   start_seen name (level ∷ levels) [] signs more h = elim h [ ]
   start_seen name (level ∷ levels) (t ∷ above) signs more h =
@@ -106,12 +98,12 @@ module _ (syntax : Syntax) where
       (start_seen name levels above (signs ++ cond level.shown (finished ∷ []) []) more h.4
       ∙ ap (λ l. sees (record { flags = flags_of (kept (ends_by false name) levels); signs = l }) more) (ends_one level.shown (ended (ends_by false name) levels) signs)))
       (λ e. rw (e, sym (start_test syntax name level levels t above h) ∙ e)
-      (ap (λ l. sees (record { flags = flags_of (level ∷ levels); signs = l }) more) (sym (append_nil signs))))
+      (ap (λ l. sees (record { flags = flags_of (level ∷ levels); signs = l }) more) (sym (append-nil signs))))
 
   pub end_seen : (name : Chars) (levels : Levels) (line : Line) (signs : List Sign) (more : List Event) → AreLevels syntax levels line
       → sees (record { flags = flags_of levels; signs = signs }) (ended_by_end syntax name line ++ more)
       ≡ sees (record { flags = flags_of (kept (ends_by true name) levels); signs = signs ++ finishing (ended (ends_by true name) levels) }) more
-  end_seen name [] [] signs more h = ap (λ l. sees (record { flags = []; signs = l }) more) (sym (append_nil signs))
+  end_seen name [] [] signs more h = ap (λ l. sees (record { flags = []; signs = l }) more) (sym (append-nil signs))
   end_seen name [] (t ∷ above) signs more h = elim h [ ]
   end_seen name (level ∷ levels) [] signs more h = elim h [ ]
   end_seen name (level ∷ levels) (t ∷ above) signs more h =
@@ -120,7 +112,7 @@ module _ (syntax : Syntax) where
       (end_seen name levels above (signs ++ cond level.shown (finished ∷ []) []) more h.4
       ∙ ap (λ l. sees (record { flags = flags_of (kept (ends_by true name) levels); signs = l }) more) (ends_one level.shown (ended (ends_by true name) levels) signs)))
       (λ e. rw (e, sym (end_test syntax name level levels t above h) ∙ e)
-      (ap (λ l. sees (record { flags = flags_of (level ∷ levels); signs = l }) more) (sym (append_nil signs))))
+      (ap (λ l. sees (record { flags = flags_of (level ∷ levels); signs = l }) more) (sym (append-nil signs))))
 
   pub under_kept : (name : Chars) (levels : Levels) (line : Line) → AreLevels syntax levels line → AreLevels syntax (kept_at_start name levels) (under_start syntax name line)
   under_kept name levels line h =
@@ -135,4 +127,4 @@ module _ (syntax : Syntax) where
       by_test (is_html (place_under levels).content)
       (λ e. rw (e, sym (ap (λ (p : Place). is_html p.content) (place_is syntax levels line h)) ∙ e) (start_seen name levels line signs more h))
       (λ e. rw (e, sym (ap (λ (p : Place). is_html p.content) (place_is syntax levels line h)) ∙ e)
-      (ap (λ l. sees (record { flags = flags_of levels; signs = l }) more) (sym (append_nil signs))))
+      (ap (λ l. sees (record { flags = flags_of levels; signs = l }) more) (sym (append-nil signs))))

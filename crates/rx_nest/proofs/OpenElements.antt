@@ -12,7 +12,7 @@ use Rattle.rx_pages.specs.Nesting.{Event, Step}
 use Rattle.rx_pages.specs.PageReader.{Scanned, Progress, read_byte, scan_from, spot_of, steps_on, no_step, progress_of, nested_items, page_byte_on, page_on, page_read, nothing_read, telling, token_at}
 use Rattle.rx_pages.specs.Fronts.{ReadsTo}
 use Rattle.rx_pages.proofs.ScanSteps.{page_append}
-use Rattle.rx_pages.proofs.Underway.{reads_to, nothing_unfinished, unfinished_follows_front}
+use Rattle.rx_pages.proofs.Underway.{reads_to, nothing_unfinished, unfinished_follows_front, ok_is}
 use Rattle.rx_grammar.specs.declared.stops.Stop.{Stop}
 use Rattle.rx_grammar.specs.declared.stops.Stop.TheVariants as stop
 use Rattle.rx_tags.specs.declared.tags.Tag.{Tag}
@@ -30,9 +30,6 @@ use Rattle.rx_nest.specs.Nests.{At, Stops, StaysAtFault, OpenBefore}
 use Rattle.rx_nest.specs.OpenElements.{HasOpen, HasOpenUnderway, HasOpenOfFronts}
 use Rattle.rx_nest.proofs.LineLemmas.{length_is}
 use Rattle.rx_nest.proofs.Heeding.{quiet_front}
-
-ok_is : (a b : Progress) (r : Result Progress Fault) → r ≡ Ok a → r ≡ Ok b → a ≡ b
-ok_is a b r h k = let e : Ok a ≡ Ok b = sym h ∙ k in cc
 
 -- a tag that is refused
 tag_stays : (closing : Bool) (old new : Lines) (t : _) (kind : Kind) → GivesBy closing old t (Err (refused.Fault kind)) new → new ≡ old

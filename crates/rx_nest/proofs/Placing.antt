@@ -28,6 +28,7 @@ use Rattle.rx_pages.proofs.EndedRuns.{ended_kept}
 use Rattle.rx_pages.proofs.TokenWalk.{IsKept}
 use Rattle.rx_nest.specs.TagPlaces.{ToldBefore}
 use Rattle.rx_nest.proofs.TokenPlacing.{kept_no_tag}
+use Rattle.rx_pages.proofs.LastToken.{token_of_item}
 
 -- lists of events
 
@@ -53,10 +54,6 @@ Here at (item ∷ items) = ((t : Tag) → item.token ≡ tag t → item.last ≡
 abbrev At : ℕ → Result Scanned Kind → Type 0
 At at (Ok r) = Here at r.items
 At at (Err kind) = Unit {0}
-
-token_of_item : (i : _) (token : Token) (run : List Entry) → (item_of i token run).token ≡ token
-token_of_item i token [] = refl
-token_of_item i token (e ∷ run) = refl
 
 module _ (syntax : Syntax) (limits : Limits) (spot : Spot) (n : ℕ) where
   completed_here : (s : Scanning) (after_return : Bool) (item : Item) → item.last ≡ n → At n (completed syntax limits spot after_return item s)

@@ -43,6 +43,7 @@ use Rattle.rx_nest.specs.Readings.{OwesNone}
 use Rattle.rx_nest.specs.Listening.{is_calm}
 use Rattle.rx_nest.specs.Quiets.{HasMemory}
 use Rattle.rx_scan.proofs.QuietLemmas.{last_byte, begins_line}
+use Rattle.rx_pages.proofs.LastToken.{token_of_item}
 
 unlike : (held : List ℕ) (byte c d : ℕ) → (byte == d) ≡ false → answer_of (held ++ byte ∷ []) ≡ Char c → (10 == d) ≡ false → d < 128 → (as_line_end c == d) ≡ false
 unlike held byte c d q e n l =
@@ -80,10 +81,6 @@ abbrev Calm : Result Scanned Kind → Type 0
 Calm (Ok r) = (r.next.run ≡ []) × AllChars r.items
 Calm (Err kind) = Unit {0}
 
-token_of_item : (i : Content) (token : Token) (run : List Entry) → (item_of i token run).token ≡ token
-token_of_item i token [] = refl
-token_of_item i token (e ∷ run) = refl
-
 module _ (syntax : Syntax) (limits : Limits) (spot : Spot) where
   completed_calm : (s : Scanning) (after_return : Bool) (item : Item) → IsChar item.token → Calm (completed syntax limits spot after_return item s)
   completed_calm s after_return item k =
@@ -117,19 +114,19 @@ module _ (syntax : Syntax) (limits : Limits) (spot : Spot) where
 
 -- what is told says text alone
 
-abbrev AllSay : List Event → Type 0
+abbrev pub AllSay : List Event → Type 0
 AllSay [] = Unit {0}
 AllSay (begins t hidden ∷ events) = ⊥
 AllSay (says chars ∷ events) = AllSay events
 AllSay (finishes ∷ events) = ⊥
 
-say_append : (xs ys : List Event) → AllSay xs → AllSay ys → AllSay (xs ++ ys)
+pub say_append : (xs ys : List Event) → AllSay xs → AllSay ys → AllSay (xs ++ ys)
 say_append [] ys a b = b
 say_append (begins t hidden ∷ xs) ys a b = absurd a
 say_append (says chars ∷ xs) ys a b = say_append xs ys a b
 say_append (finishes ∷ xs) ys a b = absurd a
 
-abbrev StepSays : Result Step Kind → Type 0
+abbrev pub StepSays : Result Step Kind → Type 0
 StepSays (Ok step) = AllSay step.events
 StepSays (Err kind) = Unit {0}
 
@@ -138,7 +135,7 @@ told_says (before stood) chars = tt
 told_says within chars = tt
 told_says after chars = tt
 
-text_says : (n : Nesting) (dropped : Bool) (chars : Chars) → AllSay (text_step n dropped chars).events
+pub text_says : (n : Nesting) (dropped : Bool) (chars : Chars) → AllSay (text_step n dropped chars).events
 text_says n dropped chars = split AllSay (n.drops && dropped) _ _ (λ e. tt) (λ e. told_says n.phase chars)
 
 item_says : (syntax : Syntax) (depth : ℕ) (n : Nesting) (item : Item) → IsChar item.token → StepSays (nest_step syntax depth n item)

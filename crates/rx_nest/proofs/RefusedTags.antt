@@ -36,12 +36,12 @@ use Rattle.rx_nest.proofs.FaultPlacing.{take_length, read_front, shown, refused_
 use Rattle.rx_nest.proofs.PlaceLaws.{accepted_front, bare_accepted}
 use Rattle.rx_nest.proofs.TokenPlacing.{kept_no_tag}
 
-abbrev HasNoTag : List Item → Type 0
+abbrev pub HasNoTag : List Item → Type 0
 HasNoTag [] = Unit {0}
 HasNoTag (item ∷ items) = ((t : Tag) → item.token ≡ tag t → ⊥) × HasNoTag items
 
 -- a byte completes no tag, or nothing is unfinished behind it
-abbrev Where : Result Scanned Kind → Type 0
+abbrev pub Where : Result Scanned Kind → Type 0
 Where (Ok r) = HasNoTag r.items ⊎ ((r.next.run ≡ []) × (r.next.held ≡ []))
 Where (Err kind) = Unit {0}
 
@@ -84,7 +84,7 @@ module _ (syntax : Syntax) (limits : Limits) (spot : Spot) where
   answer_where s held More = split Where (is_too_long syntax limits spot s.run (token_at s) s.at) _ _ (λ k. tt) (λ k. inl tt)
   answer_where s held (Char c) = split Where (c == 0) _ _ (λ k. tt) (λ k. split Where (is_too_long syntax limits spot s.run (token_at s) s.at) _ _ (λ m. tt) (λ m. char_where s c))
 
-  byte_where : (s : Scanning) (byte : ℕ) → Where (read_byte syntax limits spot byte s)
+  pub byte_where : (s : Scanning) (byte : ℕ) → Where (read_byte syntax limits spot byte s)
   byte_where s byte = split Where (nat_le limits.page s.at) _ _ (λ k. tt) (λ k. answer_where s (s.held ++ byte ∷ []) (answer_of (s.held ++ byte ∷ [])))
 
 -- tokens that are no tags begin no element

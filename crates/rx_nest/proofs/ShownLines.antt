@@ -18,9 +18,10 @@ use Rattle.rx_grammar.specs.PageFaults.{Rows, first_row, tag_rows, under_start, 
 use Rattle.rx_pages.specs.Nesting.{Event, begins, says, finishes, Nesting, not_begun, Step, nest_step, step_by, unless_refused, tag_passes, begun_under, over, line_above, text_step, told, doctype_step, ended_by_start, ended_under, ended_by_end}
 use Rattle.rx_pages.specs.PageReader.{Scanned, Progress, spot_of, read_byte, with_events, steps_on, no_step, progress_of, nested_items, page_byte_on, telling, page_on, page_read, nothing_read}
 use Rattle.rx_pages.proofs.FaultWalk.{fault_stays}
-use Rattle.rx_pages.proofs.Underway.{reads_to, is_underway}
+use Rattle.rx_pages.proofs.Underway.{reads_to, is_underway, ok_is}
 use Rattle.rx_nest.specs.Signs.{Sign, begun, said, finished, Flags, is_hidden, Sight, see, sees, ended_sight, nothing_seen}
 use Rattle.rx_nest.specs.ShownLines.{tag_of, is_hidden_in, shown_line, outer, open_on, open_after, StandsUnderway, ShowsOpenOnes}
+use Rattle.rx_nest.proofs.TextSteps.{sees_append}
 
 -- What holds of the first place of a page, and goes on with each token, holds wherever a page's bytes lead.
 module _ (syntax : Syntax) (limits : Limits) (holds : Nesting → List Event → Type 0) where
@@ -76,10 +77,6 @@ taken rows step reached e = by (first_row rows) e
     by : (x : Option Kind) → unless_refused x step ≡ Ok reached → step ≡ reached
     by None w = cc
     by (Some kind) w = absurd (cc)
-
-pub sees_append : (sight : Sight) (xs ys : List Event) → sees sight (xs ++ ys) ≡ sees (sees sight xs) ys
-sees_append sight [] ys = refl
-sees_append sight (x ∷ xs) ys = sees_append (see x sight.flags sight.signs) xs ys
 
 pub open_append : (line : Line) (xs ys : List Sign) → open_after line (xs ++ ys) ≡ open_after (open_after line xs) ys
 open_append line [] ys = refl
@@ -267,9 +264,6 @@ module _ (syntax : Syntax) where
   page_held limits bytes q e =
       page_holds syntax limits Held (record { quiet = λ n events h. quiet_held n n events refl refl h; steps = item_held limits.depth }) bytes q
       (record { marks = record { flags_are = refl; open_are = refl }; none = λ stood k. refl }) e
-
-ok_is : (a b : Progress) (r : Result Progress Fault) → r ≡ Ok a → r ≡ Ok b → a ≡ b
-ok_is a b r h k = let e : Ok a ≡ Ok b = sym h ∙ k in cc
 
 pub shows_open_ones : ShowsOpenOnes
 shows_open_ones syntax limits nest bytes signs st paid line phase run part u =

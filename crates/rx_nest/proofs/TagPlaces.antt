@@ -9,7 +9,6 @@ use Rattle.rx_chars.specs.declared.utf8.Utf8Step.TheVariants.{More, Char, Bad}
 use Rattle.rx_chars.specs.Utf8.{answer_of}
 use Rattle.rx_chars.specs.Characters.{Entry, byte_order_mark, line_feed, carriage_return, as_line_end}
 use Rattle.rx_terms.proofs.Bools.{by_test, split}
-use Rattle.rx_grammar.specs.declared.contents.Content.{Content}
 use Rattle.rx_grammar.specs.declared.faults.Fault.{Fault}
 use Rattle.rx_grammar.specs.declared.faults.Kind.{Kind}
 use Rattle.rx_grammar.specs.declared.faults.Kind.TheVariants.{BadDoctype, NotUtf8, Nul, PageTooLong, StrictText, TagTooLong}
@@ -33,15 +32,12 @@ use Rattle.rx_nest.specs.Signs.{Sign, begun, said, finished, Flags, is_hidden, S
 use Rattle.rx_nest.specs.Fronts.{Lie, ShowsMore}
 use Rattle.rx_pages.proofs.Sizes.{read_size}
 use Rattle.rx_nest.proofs.TextSteps.{sees_append}
+use Rattle.rx_pages.proofs.LastToken.{token_of_item}
 
 -- each token ends at the offset, or is a run that stays text
 abbrev EndAt : ℕ → List Item → Type 0
 EndAt at [] = Unit {0}
 EndAt at (item ∷ items) = (IsKept item.token ⊎ (item.last ≡ at)) × EndAt at items
-
-token_of_item : (i : Content) (token : Token) (run : List Entry) → (item_of i token run).token ≡ token
-token_of_item i token [] = refl
-token_of_item i token (e ∷ run) = refl
 
 module _ (syntax : Syntax) (limits : Limits) (spot : Spot) where
   abbrev Ends : ℕ → Result Scanned Kind → Type 0

@@ -1,5 +1,5 @@
 -- A tag is taken as the tables of nesting say.
-use Rattle.std.proofs.Common.{◌≡◌, ◌∙◌, ⊎_elim, ℕ, Bool, true, false, cond, List, [], ◌∷◌, ◌++◌, refl, sym, ap, subst, length, nat_le, Option, Some, None, Result, Ok, Err}
+use Rattle.std.proofs.Common.{◌≡◌, ◌∙◌, ⊎_elim, ℕ, Bool, true, false, cond, List, [], ◌∷◌, ◌++◌, append_assoc, append-nil, refl, sym, ap, subst, length, nat_le, Option, Some, None, Result, Ok, Err}
 use Rattle.std.specs.Prelude.{◌&&◌, ◌||◌, not, drop, if◌then◌else◌}
 use Rattle.rx_terms.specs.Text.{Chars}
 use Rattle.rx_chars.specs.declared.syntax.Syntax.{Syntax}
@@ -112,14 +112,6 @@ pub hidden_flags : (levels : Levels) → is_hidden (flags_of levels) ≡ hidden_
 hidden_flags [] = refl
 hidden_flags (level ∷ levels) = refl
 
-append_assoc : (a b c : List Sign) → (a ++ b) ++ c ≡ a ++ (b ++ c)
-append_assoc [] b c = refl
-append_assoc (x ∷ a) b c = ap (λ l. x ∷ l) (append_assoc a b c)
-
-append_nil : (a : List Sign) → a ++ [] ≡ a
-append_nil [] = refl
-append_nil (x ∷ a) = ap (λ l. x ∷ l) (append_nil a)
-
 module _ (flags : Flags) (signs : List Sign) (s : StartTag) (h : Bool) where
   abbrev alone_seen : Bool → Sight
   alone_seen hidden = sees (if hidden then record { flags = (false, true) ∷ flags; signs = signs } else record { flags = (true, h) ∷ flags; signs = signs ++ begun s ∷ [] }) (finishes ∷ [])
@@ -130,7 +122,7 @@ module _ (flags : Flags) (signs : List Sign) (s : StartTag) (h : Bool) where
 
   begin_shows : (hidden : Bool) → sees (if hidden then record { flags = (false, true) ∷ flags; signs = signs } else record { flags = (true, h) ∷ flags; signs = signs ++ begun s ∷ [] }) []
       ≡ record { flags = (not hidden, hidden || h) ∷ flags; signs = signs ++ own_signs (if hidden then Nothing else Begin) s }
-  begin_shows true = ap (λ l. record { flags = (false, true) ∷ flags; signs = l }) (sym (append_nil signs))
+  begin_shows true = ap (λ l. record { flags = (false, true) ∷ flags; signs = l }) (sym (append-nil signs))
   begin_shows false = refl
 
 -- the step of a start tag, by whether it is the whole element

@@ -36,6 +36,8 @@ use Rattle.rx_pages.proofs.TokenWalk.{IsKept, is_kept}
 use Rattle.rx_nest.specs.Signs.{Sign, begun, said, finished, Flags, Sight, is_hidden, ended_sight, see, sees, nothing_seen}
 use Rattle.rx_pages.proofs.Sizes.{read_size}
 use Rattle.rx_nest.specs.Ways.{Way, IsAtTag, IsAtOne, IsRefusal}
+use Rattle.rx_pages.proofs.ByteFacts.{item_first}
+use Rattle.rx_pages.proofs.LastToken.{token_of_item}
 
 -- the tags among the tokens that a byte completes begin at this offset
 
@@ -66,14 +68,6 @@ token_fits s h = by s.run h
 abbrev After : ℕ → Result Scanned Kind → Type 0
 After n (Ok r) = TagsAt n r.items × Fits r.next.run r.next.at
 After n (Err kind) = Unit {0}
-
-item_first : (i : Content) (token : Token) (run : List Entry) (e : Entry) → (item_of i token (run ++ e ∷ [])).first ≡ first_of run e.first
-item_first i token [] e = refl
-item_first i token (d ∷ run) e = refl
-
-token_of_item : (i : Content) (token : Token) (run : List Entry) → (item_of i token run).token ≡ token
-token_of_item i token [] = refl
-token_of_item i token (e ∷ run) = refl
 
 pub kept_no_tag : (token : Token) (t : Tag) → IsKept token → token ≡ tag t → ⊥
 kept_no_tag token t (is_kept text e) h = cc

@@ -26,7 +26,7 @@ item_last i token (d ∷ run) e = by d.last run
     by last [] = refl
     by last (x ∷ run) = by x.last run
 
-item_first : (i : Content) (token : Token) (run : List Entry) (e : Entry) → (item_of i token (run ++ e ∷ [])).first ≡ first_of run e.first
+pub item_first : (i : Content) (token : Token) (run : List Entry) (e : Entry) → (item_of i token (run ++ e ∷ [])).first ≡ first_of run e.first
 item_first i token [] e = refl
 item_first i token (d ∷ run) e = refl
 

@@ -50,7 +50,7 @@ pub pending : (s : Syntax) (line : Line) (run : Chars) → GoesOn s (inside_of s
 pending s line [] g = inl refl
 pending s line (c ∷ run) g = inr ((unfinished_goes_on s line c run).1 g)
 
-no_nul_more : (a b : List Entry) → has_no_nul a ≡ true → has_no_nul b ≡ true → has_no_nul (a ++ b) ≡ true
+pub no_nul_more : (a b : List Entry) → has_no_nul a ≡ true → has_no_nul b ≡ true → has_no_nul (a ++ b) ≡ true
 no_nul_more [] b h k = k
 no_nul_more (e ∷ a) b h k = let p = and_parts (not (e.value == 0)) (has_no_nul a) h in and_from (not (e.value == 0)) (has_no_nul (a ++ b)) p.0 (no_nul_more a b p.1 k)
 

@@ -80,7 +80,7 @@ unfinished_goes_on s line c run =
 pub spells_each_token : SpellsEachToken
 spells_each_token s line text next token r = spells_read s (inside_of s line).content (inside_occurs s line) text next token r
 
-strict_keeps : (i : Content) → occurs Xhtml i ≡ true → keeps_runs i ≡ false
+pub strict_keeps : (i : Content) → occurs Xhtml i ≡ true → keeps_runs i ≡ false
 strict_keeps content.Outside o = refl
 strict_keeps content.Strict o = refl
 strict_keeps content.Html o = absurd (cc)

@@ -73,7 +73,7 @@ two_lasts (c ∷ []) [] x y e = absurd (cc)
 two_lasts (c ∷ d ∷ a) [] x y e = absurd (cc)
 two_lasts (c ∷ a) (d ∷ b) x y e = let r = two_lasts a b x y (cc) in let h : c ≡ d = cc in (ap (λ z. z ∷ a) h ∙ ap (λ z. d ∷ z) r.0, r.1)
 
-kept_literal : (c : ℕ) (item : Item) → IsKept item.token → is_literal c item ≡ false
+pub kept_literal : (c : ℕ) (item : Item) → IsKept item.token → is_literal c item ≡ false
 kept_literal c item (is_kept text e) = ap (λ token. is_strict_literal c item.content token) e ∙ by item.content
   where
     by : (i : Content) → is_strict_literal c i (kept text) ≡ false
@@ -84,7 +84,7 @@ kept_literal c item (is_kept text e) = ap (λ token. is_strict_literal c item.co
     by (content.Raw name) = refl
     by (content.Rcdata name) = refl
 
-item_is : (inside : Content) (item : Item) (c : Entry) (r : List Entry) → item.content ≡ inside → item.first ≡ c.first → item.last ≡ last_from c.last r → item_of inside item.token (c ∷ r) ≡ item
+pub item_is : (inside : Content) (item : Item) (c : Entry) (r : List Entry) → item.content ≡ inside → item.first ≡ c.first → item.last ≡ last_from c.last r → item_of inside item.token (c ∷ r) ≡ item
 item_is inside item c r ci f l = λ i. record { token = item.token; content = sym ci i; first = sym f i; last = sym l i }
 
 and_false : (b : Bool) → (b && false) ≡ false

@@ -22,7 +22,7 @@ use Rattle.rx_pages.proofs.FrontOn.{pending}
 use Rattle.rx_pages.proofs.BytesOn.{Begun, Reads, through, up_to, reads, reached_here}
 use Rattle.rx_pages.proofs.Sizes.{read_size}
 
-ok_is : (a b : Progress) (r : Result Progress Fault) → r ≡ Ok a → r ≡ Ok b → a ≡ b
+pub ok_is : (a b : Progress) (r : Result Progress Fault) → r ≡ Ok a → r ≡ Ok b → a ≡ b
 ok_is a b r h k = let e : Ok a ≡ Ok b = sym h ∙ k in cc
 
 -- a fault of what was read is that of the page's end

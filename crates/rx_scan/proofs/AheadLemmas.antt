@@ -7,12 +7,11 @@ use Rattle.rx_terms.specs.Text.{Chars}
 use Rattle.rx_chars.specs.declared.syntax.Syntax.{Syntax}
 use Rattle.rx_chars.specs.Characters.{Entry}
 use Rattle.rx_grammar.specs.declared.contents.Content.{Content}
-use Rattle.rx_grammar.specs.declared.contents.Content.TheVariants as content
 use Rattle.rx_grammar.specs.declared.faults.Kind.{Kind}
 use Rattle.rx_grammar.specs.declared.limits.Limits.{Limits}
 use Rattle.rx_grammar.specs.Tokens.{Token, tag, character, reference, kept, section, comment, doctype}
 use Rattle.rx_grammar.specs.Spelling as spelling
-use Rattle.rx_grammar.specs.Items.{values, next_of, last_from, Item, Spelled, no_more, one, Fits, AllFit, is_literal, is_strict_literal, no_section_end}
+use Rattle.rx_grammar.specs.Items.{values, next_of, last_from, Item, Spelled, no_more, one, Fits, AllFit, is_literal, no_section_end}
 use Rattle.rx_grammar.specs.PageFaults.{is_known_tag}
 use Rattle.rx_pages.specs.Scanner.{GoesOn, Verdict, goes_on, whole, ended, refused, verdict, ReadAs, at_last, at_next}
 use Rattle.rx_pages.specs.PageReader.{Spot, Scanning, Scanned, first_of, entering, item_of, is_doctype, completed, told_first, with_item, after_token, told}
@@ -21,12 +20,13 @@ use Rattle.rx_pages.proofs.Pending.{goes_at, goes_within, not_whole}
 use Rattle.rx_pages.proofs.FrontOn.{goes_more}
 use Rattle.rx_pages.proofs.Spellings.{reads_each}
 use Rattle.rx_pages.proofs.Tokens.{values_append}
-use Rattle.rx_pages.proofs.TokenWalk.{IsKept, is_kept}
-use Rattle.rx_pages.proofs.TokensWalk.{RisesFrom, Rises, rises_front, rises_last, flags_behind, two_lasts}
+use Rattle.rx_pages.proofs.TokenWalk.{IsKept}
+use Rattle.rx_pages.proofs.TokensWalk.{RisesFrom, Rises, rises_front, rises_last, flags_behind, two_lasts, kept_literal, item_is}
 use Rattle.rx_pages.proofs.EndedRuns.{ended_kept}
 use Rattle.rx_pages.proofs.KnownTags.{TagVerdict, on, a_tag, a_fault, known_more, known_verdict}
 use Rattle.rx_scan.specs.Spelled.{AllInside, MayCome, AllMayCome}
 use Rattle.rx_scan.proofs.SpelledLemmas.{never_ended, first_known}
+use Rattle.rx_scan.proofs.Snoc.{and_false}
 
 -- one list of entries is a front of the other
 record Longer (xs ys m n : List Entry) : Type 0 where
@@ -54,24 +54,6 @@ last_in c r [] e p h = let same : c ≡ e = cc in let rest : r ≡ p = cc in ap 
 last_in c [] (d ∷ []) e p h = absurd (cc)
 last_in c [] (d ∷ f ∷ run) e p h = absurd (cc)
 last_in c (d ∷ r) (f ∷ run) e p h = let same : d ∷ r ≡ run ++ e ∷ p = cc in last_in d r run e p same
-
-pub item_is : (inside : Content) (item : Item) (c : Entry) (r : List Entry) → item.content ≡ inside → item.first ≡ c.first → item.last ≡ last_from c.last r → item_of inside item.token (c ∷ r) ≡ item
-item_is inside item c r ci f l = λ i. record { token = item.token; content = sym ci i; first = sym f i; last = sym l i }
-
-kept_literal : (c : ℕ) (item : Item) → IsKept item.token → is_literal c item ≡ false
-kept_literal c item (is_kept text e) = ap (λ token. is_strict_literal c item.content token) e ∙ by item.content
-  where
-    by : (i : Content) → is_strict_literal c i (kept text) ≡ false
-    by content.Outside = refl
-    by content.Html = refl
-    by content.Foreign = refl
-    by content.Strict = refl
-    by (content.Raw name) = refl
-    by (content.Rcdata name) = refl
-
-and_false : (b : Bool) → (b && false) ≡ false
-and_false true = refl
-and_false false = refl
 
 sec_first : (a x : Bool) → (if a then false else x) ≡ true → (a ≡ false) × (x ≡ true)
 sec_first true x h = absurd (cc)

@@ -12,7 +12,6 @@ use Rattle.rx_chars.specs.Utf8.{answer_of, IsCharacter}
 use Rattle.rx_chars.specs.Characters.{Entry, carriage_return, as_line_end}
 use Rattle.rx_chars.proofs.Utf8Exact.{answer_is}
 use Rattle.rx_grammar.specs.declared.contents.Content.{Content}
-use Rattle.rx_grammar.specs.declared.contents.Content.TheVariants as content
 use Rattle.rx_grammar.specs.declared.faults.Fault.{Fault}
 use Rattle.rx_grammar.specs.declared.faults.Kind.{Kind}
 use Rattle.rx_grammar.specs.declared.faults.Kind.TheVariants as kind
@@ -45,15 +44,7 @@ use Rattle.rx_scan.specs.Spelled.{Spells, IsBetween, Left, is_over, Enters, Fits
 use Rattle.rx_scan.specs.Spelled as spelled
 use Rattle.rx_scan.proofs.SpelledLemmas.{same_content, scans_so, refuses_so, scan_append}
 use Rattle.rx_scan.proofs.BackLemmas.{spelled_back}
-
--- XHTML keeps no runs
-strict_keeps : (i : Content) → occurs Xhtml i ≡ true → keeps_runs i ≡ false
-strict_keeps content.Outside o = refl
-strict_keeps content.Strict o = refl
-strict_keeps content.Html o = absurd (cc)
-strict_keeps content.Foreign o = absurd (cc)
-strict_keeps (content.Raw r) o = absurd (cc)
-strict_keeps (content.Rcdata r) o = absurd (cc)
+use Rattle.rx_pages.proofs.Judged.{strict_keeps}
 
 -- characters that are no token, and have a fault whatever stands before, are refused at their last one
 refused_by : (s : Syntax) (i : Content) → occurs s i ≡ true → (depth : ℕ) (line : Line) (phase : Phase) {found : Kind} {chars : Chars} → Faulty s depth [] line phase i found chars → IsNoToken s i chars → IsRefused s i found chars

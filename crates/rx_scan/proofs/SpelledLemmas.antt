@@ -36,9 +36,9 @@ use Rattle.rx_pages.proofs.Tokens.{values_append}
 use Rattle.rx_pages.proofs.Prefix.{any_next}
 use Rattle.rx_pages.proofs.Pends.{occurs}
 use Rattle.rx_pages.proofs.PendsOn.{spells_read, faulty_read, pends, unfinished}
-use Rattle.rx_pages.proofs.FrontOn.{goes_more, known_one}
+use Rattle.rx_pages.proofs.FrontOn.{goes_more, known_one, no_nul_more}
 use Rattle.rx_pages.proofs.KnownSpelled.{spelled_known}
-use Rattle.rx_pages.proofs.ByteFacts.{item_last}
+use Rattle.rx_pages.proofs.ByteFacts.{item_last, item_first}
 use Rattle.rx_pages.proofs.Spellings.{reads_each}
 use Rattle.rx_pages.proofs.TokensWalk.{two_lasts}
 use Rattle.rx_pages.proofs.FaultsRead.{item_content}
@@ -119,10 +119,6 @@ entries_snoc false after_return at (d ∷ cs) c =
     ∙ (entered_snoc after_return at (d ∷ cs) c
     ∙ ap (λ es. es ++ entered_one (ends_return (d == carriage_return) cs && c == line_feed) (at + length (encodes (d ∷ cs))) c) (sym (cond-false _ _ _ t))))
 
-no_nul_more : (a b : List Entry) → has_no_nul a ≡ true → has_no_nul b ≡ true → has_no_nul (a ++ b) ≡ true
-no_nul_more [] b h k = k
-no_nul_more (e ∷ a) b h k = let p = and_parts (not (e.value == 0)) (has_no_nul a) h in and_from (not (e.value == 0)) (has_no_nul (a ++ b)) p.0 (no_nul_more a b p.1 k)
-
 inside_more : (inside : Content) (items : List Item) (item : Item) → AllInside inside items → item.content ≡ inside → AllInside inside (items ++ item ∷ [])
 inside_more inside [] item a e = (e, tt)
 inside_more inside (i ∷ items) item a e = (a.0, inside_more inside items item a.1 e)
@@ -188,10 +184,6 @@ first_known syntax inside (e ∷ run) a b k = refl
 first_snoc : (run : List Entry) (e : Entry) (at : ℕ) → first_of (run ++ e ∷ []) at ≡ first_of run e.first
 first_snoc [] e at = refl
 first_snoc (d ∷ run) e at = refl
-
-item_first : (i : Content) (token : Token) (run : List Entry) (e : Entry) → (item_of i token (run ++ e ∷ [])).first ≡ first_of run e.first
-item_first i token [] e = refl
-item_first i token (d ∷ run) e = refl
 
 some_is : (cs : List ℕ) → is_started cs ≡ has_character cs
 some_is [] = refl
