@@ -1,5 +1,5 @@
 -- What nodes mean that are written where they are used.
-use Rattle.std.proofs.Common.{◌≡◌, ◌∙◌, ◌⊎◌, ◌↔◌, ◌≤◌, ◌<◌, ℕ, zero, suc, ◌+◌, List, [], ◌∷◌, ◌++◌, length, bytes_eq, refl, sym, ap, inl, inr, subst, true≢false, arith}
+use Rattle.std.proofs.Common.{◌≡◌, ◌∙◌, ◌⊎◌, ◌↔◌, ℕ, zero, suc, ◌+◌, List, [], ◌∷◌, ◌++◌, length, refl, sym, ap, inl, inr, subst, arith}
 use Rattle.std.proofs.lemmas.List.{length-append}
 use Rattle.rx_terms.specs.Text.{Chars}
 use Rattle.rx_model.specs.Sets.{Among}
@@ -7,7 +7,7 @@ use Rattle.rx_model.specs.Terms.{Node, Iri, Blank, Term, Resource, Literal, Trip
 use Rattle.rx_model.specs.Copied.{spo}
 use Rattle.rx_model.proofs.Sets.{Among_left, Among_right, Among_cases}
 use Rattle.rx_nquads.specs.Quads.{proper_term, proper_triple}
-use Rattle.rx_shapes.specs.Shapes.{Ends, onward, Inner, Pair, Cell, last_cell, next_cell, IsShape, HaveShapes}
+use Rattle.rx_shapes.specs.Shapes.{Inner, Cell, IsShape, HaveShapes}
 use Rattle.rx_model.specs.Vocabulary.{rdf_first, rdf_rest, rdf_nil}
 use Rattle.rx_shapes.specs.declared.shapes.Shape.{Shape}
 use Rattle.rx_shapes.specs.declared.shapes.Shape.TheVariants as shape
@@ -20,7 +20,6 @@ use Rattle.rx_shapes.proofs.Grouped.{predicate_there, object_there, predicate_sa
 use Rattle.rx_notation.specs.Nesting.{names_in, predicates_after, bracketed, object_by, one_object, items_by, cells, node_by, written}
 use Rattle.rx_notation.proofs.Declared.{in_left, in_right}
 use Rattle.rx_shapes.proofs.CellLemmas.{CellOf, cell_of, cell_inner, first_some, rest_some, first_each, rest_each, Enough, none_left, child_enough}
-use Rattle.rx_shapes.proofs.Heights.{height, height_once, heights_alike, height_bound}
 use Rattle.rx_notation.proofs.Means.{in_term, in_first, in_cells, in_predicates, in_shape, ordered, NamedSo, named_front, named_behind, In, Under, under_left, under_right, under_cases, Means, iri_means, literal_means, labelled_means, SaidBy, MeansPredicates, AllSay, predicates_mean}
 
 module _ (context declared : Prefixes) (names : List Chars) (covers : (p : Prefix) → Among context p → Among names p.0 → Among declared p) (apart : Apart declared) (list : List (Triple ℕ)) (place : ℕ → ℕ) where

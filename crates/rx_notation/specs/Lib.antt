@@ -12,4 +12,3 @@ pub mod Nesting
 pub mod NestedLaws
 pub mod NestedRows
 pub mod Pieces
-pub mod Steps

@@ -29,7 +29,7 @@ use Rattle.rx_notation.specs.Nesting.{reference_to, name_in, names_of_verb, pref
 use Rattle.rx_notation.specs.Writing.{reference_text, verb_text, statement_text}
 use Rattle.rx_notation.specs.Pieces.{piece_text, piece_names}
 use Rattle.rx_notation.proofs.Declared.{of_named}
-use Rattle.rx_notation.proofs.Stepping.{pieces_are_text}
+use Rattle.rx_notation.proofs.PieceTexts.{pieces_are_text}
 use Rattle.rx_notation.proofs.NestedMeaning.{nested_denotes}
 use Rattle.rx_turtle.specs.declared.source.Source.{Source}
 use Rattle.rx_turtle.specs.declared.tokens.Token.{Token}
