@@ -11,4 +11,3 @@ pub mod Writing
 pub mod Nesting
 pub mod NestedLaws
 pub mod NestedRows
-pub mod Pieces

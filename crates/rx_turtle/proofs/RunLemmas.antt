@@ -13,7 +13,7 @@ use Rattle.rx_shapes.specs.Subjects.{subjects, predicates_of}
 use Rattle.rx_shapes.proofs.Grouped.{subject_says}
 use Rattle.rx_shapes.specs.Shapes.{HaveShapes}
 use Rattle.rx_notation.specs.Nesting.{is_top, statement_of}
-use Rattle.rx_notation.specs.Pieces.{Piece, statement_pieces, all_pieces}
+use Rattle.rx_notation.specs.Writing.{Piece, statement_pieces, all_pieces}
 use Rattle.rx_turtle.specs.declared.keys.By.TheVariants as by
 use Rattle.rx_turtle.specs.declared.source.Source.{Source}
 use Rattle.rx_turtle.specs.declared.tokens.Token.{Token}

@@ -14,8 +14,7 @@ use Rattle.rx_notation.specs.Short.{Prefixes}
 use Rattle.rx_notation.specs.Syntax.{Named, Object as An_object, Items, Part, IriOrLabel as Noun, Nil}
 use Rattle.rx_notation.specs.Nesting.{reference_to, verb_of, subject_of, objects_after, some_objects, predicates_after, bracketed, some_predicates, one_object, items_by, node_by, object_by, written, statement_of}
 use Rattle.rx_notation.specs.Nesting as nesting
-use Rattle.rx_notation.specs.Writing.{inside_gap, line_gap}
-use Rattle.rx_notation.specs.Pieces.{Piece, words, subject, verb, pieces, statement_pieces}
+use Rattle.rx_notation.specs.Writing.{Piece, words, subject, verb, inside_gap, line_gap, pieces, statement_pieces}
 use Rattle.rx_notation.proofs.Unfolded.{node_unfolds, cell_unfolds}
 use Rattle.rx_turtle.specs.declared.keys.By.TheVariants as by
 use Rattle.rx_turtle.specs.declared.tokens.Words.{Words}

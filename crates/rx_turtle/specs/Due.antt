@@ -13,8 +13,7 @@ use Rattle.rx_shapes.specs.Subjects.{about, object_at}
 use Rattle.rx_notation.specs.Short.{Prefixes}
 use Rattle.rx_notation.specs.Nesting.{written, is_top, statement_of, statements}
 use Rattle.rx_notation.specs.Nesting as nesting
-use Rattle.rx_notation.specs.Writing.{inside_gap}
-use Rattle.rx_notation.specs.Pieces.{Piece, pieces, statement_pieces, all_pieces}
+use Rattle.rx_notation.specs.Writing.{Piece, inside_gap, pieces, statement_pieces, all_pieces}
 use Rattle.rx_turtle.specs.declared.stack.Task.{Task}
 use Rattle.rx_turtle.specs.declared.stack.Task.TheVariants as task
 use Rattle.rx_turtle.specs.declared.source.Source.{Source}
