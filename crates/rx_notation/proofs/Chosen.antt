@@ -1,5 +1,5 @@
 -- The prefixes that a text uses.
-use Rattle.std.proofs.Common.{◌≡◌, ◌∙◌, ◌⊎◌, ℕ, Bool, true, false, not, cond, ◌==◌, List, [], ◌∷◌, ◌++◌, map, filter, flat_map, length, drop, Option, Some, None, bytes_eq, refl, sym, ap, ap₂, inl, inr, subst, true≢false, arith}
+use Rattle.std.proofs.Common.{◌≡◌, ◌∙◌, ◌⊎◌, ℕ, Bool, true, false, not, cond, ◌||◌, ◌==◌, List, [], ◌∷◌, ◌++◌, map, filter, flat_map, length, drop, Option, Some, None, bytes_eq, refl, sym, ap, ap₂, inl, inr, subst, true≢false, arith}
 use Rattle.std.proofs.lemmas.Bool.{and_parts, and_from}
 use Rattle.std.proofs.lemmas.Bool.Decides.{nat_tests}
 use Rattle.rx_terms.specs.Text.{Chars, begins_with}
@@ -65,6 +65,14 @@ names_apart (p ∷ ps) h = (differs, names_apart ps (and_parts _ _ h).1)
     differs q m e =
         let there : contains bytes_eq (map name_of ps) p.0 ≡ true = Among-contains bytes_eq exact_texts (map name_of ps) p.0 (subst (Among (map name_of ps)) (sym e) (Among_map name_of ps q m)) in
         true≢false (sym (and_parts _ _ h).0 ∙ ap not there)
+
+-- one of them, by its name
+pub one_of : (ps : Prefixes) → Apart ps → (p q : Prefix) → Among ps p → Among ps q → q.0 ≡ p.0 → q ≡ p
+one_of [] a p q m n e = absurd m
+one_of (x ∷ ps) a p q (inl i) (inl j) e = sym j ∙ i
+one_of (x ∷ ps) a p q (inl i) (inr n) e = absurd (a.0 q n (ap name_of i ∙ sym e))
+one_of (x ∷ ps) a p q (inr m) (inl j) e = absurd (a.0 p m (ap name_of j ∙ e))
+one_of (x ∷ ps) a p q (inr m) (inr n) e = one_of ps a.1 p q m n e
 
 pub apart_names : (ps : Prefixes) → Apart ps → names_differ (map (λ (p : Prefix). p.0) ps) ≡ true
 apart_names [] h = refl
@@ -155,16 +163,19 @@ module _ (context : Prefixes) (list : List (Triple ℕ)) where
       let there : Among (those_among (used context list) context) p = Among_filter (contains same_prefix (used context list)) context p (prefix_fits context iri p e).there (Among-contains same_prefix exact_prefixes (used context list) p among) in
       ordered_there (those_among (used context list) context) p there
 
--- what stands among prefixes of different names is declared, and its IRI is found
-pub iri_found : (ps : Prefixes) (p : Prefix) → Apart ps → Among ps p → iri_at ps p.0 ≡ p.1
-iri_found [] p a h = absurd h
-iri_found (q ∷ ps) p a (inl e) = rw ((exact_texts q.0 p.0).1 (ap (λ (z : Prefix). z.0) e)) (ap (λ (z : Prefix). z.1) e)
-iri_found (q ∷ ps) p a (inr m) = go (bytes_eq q.0 p.0) refl (iri_found ps p a.1 m)
-  where
-    go : (b : Bool) → bytes_eq q.0 p.0 ≡ b → iri_at ps p.0 ≡ p.1 → cond b q.1 (iri_at ps p.0) ≡ p.1
-    go true e ih = absurd (a.0 p m ((exact_texts q.0 p.0).0 e))
-    go false e ih = ih
+-- a short form by a prefix of the context that is declared means by this prefix
+abbrev pub Agree : Prefixes → Prefixes → Type 0
+Agree context declared = (p : Prefix) (local : Chars) → Among context p → is_known declared (Short p.0 local) ≡ true → iri_at declared p.0 ≡ p.1
 
+pub declared_agree : (context : Prefixes) → Apart context → (ps : Prefixes) → ((q : Prefix) → Among ps q → Among context q) → Agree context ps
+declared_agree context apart [] of p local m k = absurd (true≢false (sym k))
+declared_agree context apart (q ∷ ps) of p local m k = go (bytes_eq q.0 p.0) refl k (declared_agree context apart ps (λ r n. of r (inr n)) p local m)
+  where
+    go : (b : Bool) → bytes_eq q.0 p.0 ≡ b → (b || is_known ps (Short p.0 local)) ≡ true → (is_known ps (Short p.0 local) ≡ true → iri_at ps p.0 ≡ p.1) → cond b q.1 (iri_at ps p.0) ≡ p.1
+    go true e k ih = ap (λ (z : Prefix). z.1) (one_of context apart p q m (of q (inl refl)) ((exact_texts q.0 p.0).0 e))
+    go false e k ih = ih k
+
+-- what stands among prefixes is declared
 pub known_there : (ps : Prefixes) (p : Prefix) (local : Chars) → Among ps p → is_known ps (Short p.0 local) ≡ true
 known_there [] p local h = absurd h
 known_there (q ∷ ps) p local (inl e) = or_left (bytes_eq q.0 p.0) _ ((exact_texts q.0 p.0).1 (ap (λ (z : Prefix). z.0) e))

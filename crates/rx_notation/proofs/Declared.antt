@@ -1,5 +1,5 @@
 -- The prefixes that a document declares are those of its short forms.
-use Rattle.std.proofs.Common.{◌≡◌, ◌∙◌, ℕ, Bool, true, false, cond, List, [], ◌∷◌, ◌++◌, filter, Option, Some, None, bytes_eq, refl, sym, ap, inl, inr, subst}
+use Rattle.std.proofs.Common.{◌≡◌, ◌∙◌, ◌&&◌, ℕ, Bool, true, false, cond, List, [], ◌∷◌, ◌++◌, filter, flat_map, codes, Option, Some, None, bytes_eq, refl, sym, ap, inl, inr, subst}
 use Rattle.std.proofs.lemmas.Bool.{and_from}
 use Rattle.rx_terms.specs.Text.{Chars}
 use Rattle.rx_terms.specs.Iri.{IsIri}
@@ -13,8 +13,9 @@ use Rattle.rx_notation.specs.Short.{Prefix, Prefixes, is_prefix_name, local_name
 use Rattle.rx_notation.specs.Layout.{in_byte_order}
 use Rattle.rx_notation.specs.Syntax.{Reference, Full, Short, Subject, Named, Labelled, Verb, By, Type_of, Suffix, Bare, Language, Datatype, Sort, Part, IriOrLabel, Quoted, Anonymous, Nil, Bracketed, Collection, Single, Comma, Last, Item, Predicate, Done, Semicolon, Also}
 use Rattle.rx_notation.specs.Meaning.{iri_of, is_known, is_known_subject, is_known_verb, is_known_suffix, all_known, predicate_of, kind_by}
-use Rattle.rx_notation.proofs.Chosen.{Apart, prefix_fits, front_and_rest, iri_found, known_there, of_ordered, ordered_there, apart_filter, apart_ordered}
-use Rattle.rx_notation.specs.Nesting.{reference_by, reference_to, verb_of, suffix_of, name_in, names_of_subject, names_of_verb, names_of_suffix, names_in, prefixes_named}
+use Rattle.rx_notation.proofs.Chosen.{Apart, Agree, prefix_fits, front_and_rest, known_there, of_ordered, ordered_there, apart_filter, apart_ordered}
+use Rattle.rx_notation.specs.Nesting.{reference_by, reference_to, verb_of, suffix_of, name_in, names_of_subject, names_of_verb, names_of_suffix, piece_names, prefixes_named}
+use Rattle.rx_notation.specs.Writing.{Piece, words, subject, verb, quoted, inside_gap, pieces}
 use Rattle.rx_notation.proofs.Spelled.{GoodReference, GoodSubject, GoodVerb, GoodSuffix, Good}
 
 -- ---- the prefixes of some names
@@ -40,8 +41,8 @@ module _ (context : Prefixes) (free : ℕ → Type 0) where
   abbrev AllNames : List Chars → Type 0
   AllNames names = (n : Chars) → Among names n → is_prefix_name n ≡ true
 
-  both_names : (a b : List Chars) → AllNames a → AllNames b → AllNames (a ++ b)
-  both_names a b f g n m = elim (Among_cases a b n m) [ inl k ↦ f n k | inr k ↦ g n k ]
+  abbrev pub Proper : List Piece → Type 0
+  Proper ps = AllNames (flat_map piece_names ps)
 
   reference_names : (r : Reference) → GoodReference context free r → AllNames (name_in r)
   reference_names (Full iri) h n m = absurd m
@@ -61,22 +62,26 @@ module _ (context : Prefixes) (free : ℕ → Type 0) where
   suffix_names (Language tag) h n m = absurd m
   suffix_names (Datatype r) h n m = reference_names r h n m
 
-  pub part_names : {sort : Sort} (p : Part sort) → Good context free p → AllNames (names_in p)
-  part_names (IriOrLabel subject) h n m = subject_names subject h n m
-  part_names (Quoted text suffix) h n m = suffix_names suffix h n m
-  part_names Anonymous h n m = absurd m
-  part_names Nil h n m = absurd m
-  part_names (Bracketed predicates) h n m = part_names predicates h n m
-  part_names (Collection items) h n m = part_names items h n m
-  part_names (Single object) h n m = part_names object h n m
-  part_names (Comma object objects) h n m = both_names (names_in object) (names_in objects) (part_names object h.0) (part_names objects h.1) n m
-  part_names (Last object) h n m = part_names object h n m
-  part_names (Item object items) h n m = both_names (names_in object) (names_in items) (part_names object h.0) (part_names items h.1) n m
-  part_names (Predicate verb objects further) h n m =
-      both_names (names_of_verb verb) (names_in objects ++ names_in further) (verb_names verb h.0) (both_names (names_in objects) (names_in further) (part_names objects h.1.0) (part_names further h.1.1)) n m
-  part_names Done h n m = absurd m
-  part_names (Semicolon further) h n m = absurd h
-  part_names (Also predicates) h n m = part_names predicates h n m
+  pub proper_more : (p : Piece) (rest : List Piece) → AllNames (piece_names p) → Proper rest → Proper (p ∷ rest)
+  proper_more p rest f g n m = elim (Among_cases (piece_names p) (flat_map piece_names rest) n m) [ inl k ↦ f n k | inr k ↦ g n k ]
+
+  pub part_names : {sort : Sort} (p : Part sort) → Good context free p → (gap : Chars) (rest : List Piece) → Proper rest → Proper (pieces gap p rest)
+  part_names (IriOrLabel s) h gap rest k = proper_more (subject s) rest (subject_names s h) k
+  part_names (Quoted text suffix) h gap rest k = proper_more (quoted text suffix) rest (suffix_names suffix h) k
+  part_names Anonymous h gap rest k = k
+  part_names Nil h gap rest k = k
+  part_names (Bracketed ps) h gap rest k = part_names ps h inside_gap (words (codes " ]") ∷ rest) k
+  part_names (Collection items) h gap rest k = part_names items h gap (words (codes " )") ∷ rest) k
+  part_names (Single o) h gap rest k = part_names o h gap rest k
+  part_names (Comma o os) h gap rest k = part_names o h.0 gap (words (codes " , ") ∷ pieces gap os rest) (part_names os h.1 gap rest k)
+  part_names (Last o) h gap rest k = part_names o h gap rest k
+  part_names (Item o items) h gap rest k = part_names o h.0 gap (words (codes " ") ∷ pieces gap items rest) (part_names items h.1 gap rest k)
+  part_names (Predicate v os further) h gap rest k =
+      proper_more (verb v) (words (codes " ") ∷ pieces inside_gap os (pieces gap further rest)) (verb_names v h.0)
+      (part_names os h.1.0 inside_gap (pieces gap further rest) (part_names further h.1.1 gap rest k))
+  part_names Done h gap rest k = k
+  part_names (Semicolon further) h gap rest k = absurd h
+  part_names (Also ps) h gap rest k = part_names ps h gap rest k
 
 -- nothing is declared where no name is used
 pub none_named : (context : Prefixes) → prefixes_named context [] ≡ []
@@ -96,72 +101,74 @@ good_reference context free iri h = go (prefix_of context iri) refl
     go (Some p) e = let fits = prefix_fits context iri p e in (fits.is_name, fits.is_local, (p.1, fits.there))
 
 -- these names are declared, and what is named is said of prefixes of the context
-module _ (context declared : Prefixes) (names : List Chars) (covers : (p : Prefix) → Among context p → Among names p.0 → Among declared p) where
-  abbrev pub Within : List Chars → Type 0
+module _ (context declared : Prefixes) (names : List Chars) (covers : (p : Prefix) → Among context p → Among names p.0 → Among declared p) (free : ℕ → Type 0) where
+  abbrev Within : List Chars → Type 0
   Within some = (n : Chars) → Among some n → Among names n
 
-  reference_known : (free : ℕ → Type 0) (r : Reference) → GoodReference context free r → Within (name_in r) → is_known declared r ≡ true
-  reference_known free (Full iri) h w = refl
-  reference_known free (Short name local) h w = known_there declared (name, h.2.0) local (covers (name, h.2.0) h.2.1 (w name (inl refl)))
+  abbrev pub AllWithin : List Piece → Type 0
+  AllWithin ps = Within (flat_map piece_names ps)
 
-  pub subject_known : (free : ℕ → Type 0) (s : Subject) → GoodSubject context free s → Within (names_of_subject s) → is_known_subject declared s ≡ true
-  subject_known free (Named r) h w = reference_known free r h w
-  subject_known free (Labelled number) h w = refl
+  reference_known : (r : Reference) → GoodReference context free r → Within (name_in r) → is_known declared r ≡ true
+  reference_known (Full iri) h w = refl
+  reference_known (Short name local) h w = known_there declared (name, h.2.0) local (covers (name, h.2.0) h.2.1 (w name (inl refl)))
 
-  verb_known : (free : ℕ → Type 0) (v : Verb) → GoodVerb context free v → Within (names_of_verb v) → is_known_verb declared v ≡ true
-  verb_known free (By r) h w = reference_known free r h w
-  verb_known free Type_of h w = refl
+  pub subject_known : (s : Subject) → GoodSubject context free s → Within (names_of_subject s) → is_known_subject declared s ≡ true
+  subject_known (Named r) h w = reference_known r h w
+  subject_known (Labelled number) h w = refl
 
-  suffix_known : (free : ℕ → Type 0) (s : Suffix) → GoodSuffix context free s → Within (names_of_suffix s) → is_known_suffix declared s ≡ true
-  suffix_known free Bare h w = refl
-  suffix_known free (Language tag) h w = refl
-  suffix_known free (Datatype r) h w = reference_known free r h w
+  verb_known : (v : Verb) → GoodVerb context free v → Within (names_of_verb v) → is_known_verb declared v ≡ true
+  verb_known (By r) h w = reference_known r h w
+  verb_known Type_of h w = refl
 
-  pub in_left : (a b : List Chars) → Within (a ++ b) → Within a
-  in_left a b w n m = w n (Among_left a b n m)
+  suffix_known : (s : Suffix) → GoodSuffix context free s → Within (names_of_suffix s) → is_known_suffix declared s ≡ true
+  suffix_known Bare h w = refl
+  suffix_known (Language tag) h w = refl
+  suffix_known (Datatype r) h w = reference_known r h w
 
-  pub in_right : (a b : List Chars) → Within (a ++ b) → Within b
-  in_right a b w n m = w n (Among_right a b n m)
+  pub both_known : {a b : Bool} {V W : Type 0} → (a ≡ true) × V → (V → (b ≡ true) × W) → ((a && b) ≡ true) × W
+  both_known x f = (and_from _ _ x.0 (f x.1).0, (f x.1).1)
 
-  pub part_known : (free : ℕ → Type 0) {sort : Sort} (p : Part sort) → Good context free p → Within (names_in p) → all_known declared p ≡ true
-  part_known free (IriOrLabel subject) h w = subject_known free subject h w
-  part_known free (Quoted text suffix) h w = suffix_known free suffix h w
-  part_known free Anonymous h w = refl
-  part_known free Nil h w = refl
-  part_known free (Bracketed predicates) h w = part_known free predicates h w
-  part_known free (Collection items) h w = part_known free items h w
-  part_known free (Single object) h w = part_known free object h w
-  part_known free (Comma object objects) h w = and_from _ _ (part_known free object h.0 (in_left (names_in object) (names_in objects) w)) (part_known free objects h.1 (in_right (names_in object) (names_in objects) w))
-  part_known free (Last object) h w = part_known free object h w
-  part_known free (Item object items) h w = and_from _ _ (part_known free object h.0 (in_left (names_in object) (names_in items) w)) (part_known free items h.1 (in_right (names_in object) (names_in items) w))
-  part_known free (Predicate verb objects further) h w =
-      let inner : Within (names_in objects ++ names_in further) = in_right (names_of_verb verb) (names_in objects ++ names_in further) w in
-      and_from _ _ (verb_known free verb h.0 (in_left (names_of_verb verb) (names_in objects ++ names_in further) w))
-      (and_from _ _ (part_known free objects h.1.0 (in_left (names_in objects) (names_in further) inner)) (part_known free further h.1.1 (in_right (names_in objects) (names_in further) inner)))
-  part_known free Done h w = refl
-  part_known free (Semicolon further) h w = absurd h
-  part_known free (Also predicates) h w = part_known free predicates h w
+  pub head_known : {b : Bool} (p : Piece) (rest : List Piece) → (Within (piece_names p) → b ≡ true) → AllWithin (p ∷ rest) → (b ≡ true) × AllWithin rest
+  head_known p rest f w = (f (λ n m. w n (Among_left (piece_names p) (flat_map piece_names rest) n m)), λ n m. w n (Among_right (piece_names p) (flat_map piece_names rest) n m))
 
-  -- ---- what they mean
+  pub part_known : {sort : Sort} (p : Part sort) → Good context free p → (gap : Chars) (rest : List Piece) → AllWithin (pieces gap p rest) → (all_known declared p ≡ true) × AllWithin rest
+  part_known (IriOrLabel s) h gap rest w = head_known (subject s) rest (subject_known s h) w
+  part_known (Quoted text suffix) h gap rest w = head_known (quoted text suffix) rest (suffix_known suffix h) w
+  part_known Anonymous h gap rest w = (refl, w)
+  part_known Nil h gap rest w = (refl, w)
+  part_known (Bracketed ps) h gap rest w = part_known ps h inside_gap (words (codes " ]") ∷ rest) w
+  part_known (Collection items) h gap rest w = part_known items h gap (words (codes " )") ∷ rest) w
+  part_known (Single o) h gap rest w = part_known o h gap rest w
+  part_known (Comma o os) h gap rest w = both_known (part_known o h.0 gap (words (codes " , ") ∷ pieces gap os rest) w) (λ v. part_known os h.1 gap rest v)
+  part_known (Last o) h gap rest w = part_known o h gap rest w
+  part_known (Item o items) h gap rest w = both_known (part_known o h.0 gap (words (codes " ") ∷ pieces gap items rest) w) (λ v. part_known items h.1 gap rest v)
+  part_known (Predicate v os further) h gap rest w =
+      both_known (head_known (verb v) (words (codes " ") ∷ pieces inside_gap os (pieces gap further rest)) (verb_known v h.0) w)
+      (λ u. both_known (part_known os h.1.0 inside_gap (pieces gap further rest) u) (λ v. part_known further h.1.1 gap rest v))
+  part_known Done h gap rest w = (refl, w)
+  part_known (Semicolon further) h gap rest w = absurd h
+  part_known (Also ps) h gap rest w = part_known ps h gap rest w
 
-  module _ (apart : Apart declared) where
-    pub reference_means : (iri : Chars) → Within (name_in (reference_to context iri)) → iri_of declared (reference_to context iri) ≡ iri
-    reference_means iri = go (prefix_of context iri) refl
-      where
-        go : (o : Option Prefix) → prefix_of context iri ≡ o → Within (name_in (reference_by o iri)) → iri_of declared (reference_by o iri) ≡ iri
-        go None e w = refl
-        go (Some p) e w =
-            let fits = prefix_fits context iri p e in
-            ap (λ z. z ++ local_name p iri) (iri_found declared p apart (covers p fits.there (w p.0 (inl refl)))) ∙ front_and_rest p.1 iri fits.begins
+-- ---- what they mean
 
-    pub verb_means : (p : Chars) → Within (names_of_verb (verb_of context p)) → predicate_of declared (verb_of context p) ≡ p
-    verb_means p = go (bytes_eq p rdf_type) refl
-      where
-        go : (b : Bool) → bytes_eq p rdf_type ≡ b → Within (names_of_verb (cond b Type_of (By (reference_to context p)))) → predicate_of declared (cond b Type_of (By (reference_to context p))) ≡ p
-        go true e w = sym ((exact_texts p rdf_type).0 e)
-        go false e w = reference_means p w
+module _ (context declared : Prefixes) (agree : Agree context declared) where
+  pub reference_means : (iri : Chars) → is_known declared (reference_to context iri) ≡ true → iri_of declared (reference_to context iri) ≡ iri
+  reference_means iri = go (prefix_of context iri) refl
+    where
+      go : (o : Option Prefix) → prefix_of context iri ≡ o → is_known declared (reference_by o iri) ≡ true → iri_of declared (reference_by o iri) ≡ iri
+      go None e k = refl
+      go (Some p) e k =
+          let fits = prefix_fits context iri p e in
+          ap (λ z. z ++ local_name p iri) (agree p (local_name p iri) fits.there k) ∙ front_and_rest p.1 iri fits.begins
 
-    pub kind_means : (kind : Kind) → Within (names_of_suffix (suffix_of context kind)) → kind_by declared (suffix_of context kind) ≡ proper_kind kind
-    kind_means Plain w = refl
-    kind_means (Tagged tag) w = refl
-    kind_means (Typed datatype) w = ap kind_of (reference_means datatype w)
+  pub verb_means : (p : Chars) → is_known_verb declared (verb_of context p) ≡ true → predicate_of declared (verb_of context p) ≡ p
+  verb_means p = go (bytes_eq p rdf_type) refl
+    where
+      go : (b : Bool) → bytes_eq p rdf_type ≡ b → is_known_verb declared (cond b Type_of (By (reference_to context p))) ≡ true → predicate_of declared (cond b Type_of (By (reference_to context p))) ≡ p
+      go true e k = sym ((exact_texts p rdf_type).0 e)
+      go false e k = reference_means p k
+
+  pub kind_means : (kind : Kind) → is_known_suffix declared (suffix_of context kind) ≡ true → kind_by declared (suffix_of context kind) ≡ proper_kind kind
+  kind_means Plain k = refl
+  kind_means (Tagged tag) k = refl
+  kind_means (Typed datatype) k = ap kind_of (reference_means datatype k)

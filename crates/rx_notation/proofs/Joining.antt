@@ -25,8 +25,14 @@ pub behind_gap : (gap text : Chars) (ts : List Token) → is_gap gap ≡ true �
 behind_gap gap text [] g h = absurd h
 behind_gap gap text (t ∷ ts) g (spelling, rest, s, b, e) = (gap, spelling, rest, g, s, b, ap (λ z. gap ++ z) e)
 
+pub opens_token : (text : Chars) (t : Token) → SpellsToken text t → (rest : Chars) (ts : List Token) → SpellsBehind rest ts → Opens (text ++ rest) (t ∷ ts)
+opens_token text t h rest ts b = (text, rest, h, b, refl)
+
+pub behind_token : (gap text : Chars) (t : Token) → is_gap gap ≡ true → SpellsToken text t → (rest : Chars) (ts : List Token) → SpellsBehind rest ts → SpellsBehind (gap ++ (text ++ rest)) (t ∷ ts)
+behind_token gap text t g h rest ts b = (gap, text, rest, g, h, b, refl)
+
 pub puts_token : (text : Chars) (t : Token) → SpellsToken text t → Puts text (λ ts. t ∷ ts)
-puts_token text t h = record { puts = λ rest ts b. (text, rest, h, b, refl) }
+puts_token text t h = record { puts = opens_token text t h }
 
 pub puts_then : {a b : Chars} {f g : List Token → List Token} → Puts a f → Adds b g → Puts (a ++ b) (λ ts. f (g ts))
 puts_then {a} {b} {f} {g} p q = record { puts = λ rest ts k. subst (λ z. Opens z (f (g ts))) (sym (append_assoc a b rest)) (p.puts (b ++ rest) (g ts) (q.adds rest ts k)) }

@@ -199,7 +199,7 @@ module _ (context : Prefixes) where
 
 -- ---- statements
 
-pub moved : (a gap b stop end rest : Chars) → (a ++ (gap ++ (b ++ stop))) ++ (end ++ rest) ≡ (a ++ (gap ++ (b ++ (stop ++ end)))) ++ rest
+moved : (a gap b stop end rest : Chars) → (a ++ (gap ++ (b ++ stop))) ++ (end ++ rest) ≡ (a ++ (gap ++ (b ++ (stop ++ end)))) ++ rest
 moved a gap b stop end rest =
     append_assoc a (gap ++ (b ++ stop)) (end ++ rest)
     ∙ ap (λ z. a ++ z) (append_assoc gap (b ++ stop) (end ++ rest) ∙ ap (λ z. gap ++ z) (append_assoc b stop (end ++ rest) ∙ ap (λ z. b ++ z) (sym (append_assoc stop end rest)) ∙ sym (append_assoc b (stop ++ end) rest))

@@ -21,7 +21,7 @@ use Rattle.rx_notation.specs.Grammar.{statement_tokens, prefix_tokens}
 use Rattle.rx_notation.specs.Spelling.{SpellsTokens, Spells}
 use Rattle.rx_notation.specs.Meaning.{Turtle, iri_of, is_known, is_known_subject, is_known_verb, is_known_suffix, all_known, are_known, predicate_of, kind_by, unlabelled, node_of, term_of, triples, all_triples}
 use Rattle.rx_notation.specs.Laws.{IsContext, LayoutDenotes}
-use Rattle.rx_notation.proofs.Chosen.{Apart, prefix_fits, front_and_rest, names_apart, apart_names, used_apart, used_of, used_fits, used_there, none_used, iri_found, known_there}
+use Rattle.rx_notation.proofs.Chosen.{Apart, prefix_fits, front_and_rest, names_apart, apart_names, used_apart, used_of, used_fits, used_there, none_used, declared_agree, known_there}
 use Rattle.rx_notation.proofs.LaidOut.{reference_by, reference_for, subject_for, verb_for, suffix_for, object_for, objects_after, objects_for, predicates_after, predicates_for, statement_for, some_predicates_flat, GoodNode, GoodKind, GoodTerm, GoodPredicate, GoodSubject, GoodPrefix, statements_open, prefixes_spelled}
 use Rattle.rx_shapes.proofs.Grouped.{subject_says, predicate_says, object_says, said_of, grouped, grouped_same}
 
@@ -39,10 +39,9 @@ resolved context list iri apart m =
     by : (o : Option Prefix) → prefix_of context iri ≡ o → (is_known (prefixes_used context list) (reference_by o iri) ≡ true) × (iri_of (prefixes_used context list) (reference_by o iri) ≡ iri)
     by None e = (refl, refl)
     by (Some p) e =
-        let there = used_there context list iri p m e in (
-          known_there (prefixes_used context list) p (local_name p iri) there,
-          ap (λ z. z ++ local_name p iri) (iri_found (prefixes_used context list) p (used_apart context list apart) there) ∙ front_and_rest p.1 iri (prefix_fits context iri p e).begins,
-        )
+        let known = known_there (prefixes_used context list) p (local_name p iri) (used_there context list iri p m e) in
+        let fits = prefix_fits context iri p e in
+        (known, ap (λ z. z ++ local_name p iri) (declared_agree context apart (prefixes_used context list) (used_of context list) p (local_name p iri) fits.there known) ∙ front_and_rest p.1 iri fits.begins)
 
 module _ (context declared : Prefixes) where
   abbrev ResolvedNode : Node ℕ → Type 0

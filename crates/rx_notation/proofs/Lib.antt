@@ -17,4 +17,3 @@ pub mod Once
 pub mod There
 pub mod NestedMeaning
 pub mod Unfolded
-pub mod Stepping

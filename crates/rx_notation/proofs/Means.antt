@@ -1,5 +1,6 @@
 -- What the nested parts of a document mean.
-use Rattle.std.proofs.Common.{◌≡◌, ◌∙◌, ◌⊎◌, ◌↔◌, ℕ, zero, suc, ◌+◌, Bool, true, false, cond, List, [], ◌∷◌, ◌++◌, flat_map, length, bytes_eq, refl, sym, ap, inl, inr, subst, arith}
+use Rattle.std.proofs.Common.{◌≡◌, ◌∙◌, ◌⊎◌, ◌↔◌, ℕ, zero, suc, ◌+◌, Bool, true, false, cond, ◌&&◌, List, [], ◌∷◌, ◌++◌, flat_map, length, bytes_eq, refl, sym, ap, inl, inr, subst, arith}
+use Rattle.std.proofs.lemmas.Bool.{and_parts}
 use Rattle.std.proofs.lemmas.List.{length-append}
 use Rattle.rx_terms.specs.Text.{Chars}
 use Rattle.rx_model.specs.Sets.{Among}
@@ -11,13 +12,13 @@ use Rattle.rx_nquads.specs.Quads.{proper_term, proper_triple}
 use Rattle.rx_model.specs.Vocabulary.{rdf_first, rdf_rest, rdf_nil}
 use Rattle.rx_shapes.specs.declared.shapes.Shape.{Shape}
 use Rattle.rx_shapes.specs.declared.shapes.Shape.TheVariants as shape
-use Rattle.rx_notation.specs.Short.{Prefix, Prefixes}
+use Rattle.rx_notation.specs.Short.{Prefixes}
 use Rattle.rx_shapes.specs.Subjects.{predicates_of, objects_of}
-use Rattle.rx_notation.specs.Syntax.{Named, Labelled, Object, Objects, Predicates, Part, IriOrLabel, Quoted, Nil, Single, Comma, Predicate, Done, Also}
-use Rattle.rx_notation.specs.Meaning.{predicate_of, unlabelled, term_of, triples}
-use Rattle.rx_notation.proofs.Chosen.{Apart}
-use Rattle.rx_notation.specs.Nesting.{reference_to, verb_of, suffix_of, names_of_verb, names_in, objects_after, some_objects, predicates_after, object_by}
-use Rattle.rx_notation.proofs.Declared.{Within, in_left, in_right, reference_means, verb_means, kind_means}
+use Rattle.rx_notation.specs.Syntax.{Named, Labelled, Sort, Object, Objects, Predicates, Part, IriOrLabel, Quoted, Nil, Single, Comma, Predicate, Done, Also}
+use Rattle.rx_notation.specs.Meaning.{is_known_verb, all_known, predicate_of, unlabelled, term_of, triples}
+use Rattle.rx_notation.specs.Nesting.{reference_to, verb_of, suffix_of, objects_after, some_objects, predicates_after, object_by}
+use Rattle.rx_notation.proofs.Chosen.{Agree}
+use Rattle.rx_notation.proofs.Declared.{reference_means, verb_means, kind_means}
 
 -- ---- the nodes that a part has without a label, in order
 
@@ -67,9 +68,12 @@ pub named_behind : (place : ℕ → ℕ) (n : ℕ) (xs ys : List ℕ) → NamedS
 named_behind place n [] ys h = let e : n ≡ n + 0 = omega arith in subst (λ k. NamedSo place k ys) e h
 named_behind place n (x ∷ xs) ys h = let e : suc n + length xs ≡ n + suc (length xs) = omega arith in subst (λ k. NamedSo place k ys) e (named_behind place (suc n) xs ys h.1)
 
-module _ (context declared : Prefixes) (names : List Chars) (covers : (p : Prefix) → Among context p → Among names p.0 → Among declared p) (apart : Apart declared) (list : List (Triple ℕ)) (place : ℕ → ℕ) where
-  abbrev pub In : List Chars → Type 0
-  In some = Within context declared names covers some
+three_parts : (a b c : Bool) → (a && (b && c)) ≡ true → (a ≡ true) × (b ≡ true) × (c ≡ true)
+three_parts a b c h = let outer = and_parts a (b && c) h in let inner = and_parts b c outer.1 in (outer.0, inner.0, inner.1)
+
+module _ (context declared : Prefixes) (agree : Agree context declared) (list : List (Triple ℕ)) (place : ℕ → ℕ) where
+  abbrev pub Known : {sort : Sort} → Part sort → Type 0
+  Known part = all_known declared part ≡ true
 
   abbrev pub label : ℕ → ℕ
   label number = number
@@ -101,12 +105,12 @@ module _ (context declared : Prefixes) (names : List Chars) (covers : (p : Prefi
   -- the part is this object, in which these nodes are written
   pub record Means (part : Part Object) (o : Term ℕ) (ns : List ℕ) : Type 0 where
     pub size : unlabelled part ≡ length ns
-    pub term : (n : ℕ) → In (names_in part) → NamedSo place n ns → term_of declared label place part n ≡ proper_term o
-    pub says : (n : ℕ) → In (names_in part) → NamedSo place n ns → (t : Triple ℕ) → Among (triples declared label place part tt n) t ↔ Under ns t
+    pub term : (n : ℕ) → Known part → NamedSo place n ns → term_of declared label place part n ≡ proper_term o
+    pub says : (n : ℕ) → Known part → NamedSo place n ns → (t : Triple ℕ) → Among (triples declared label place part tt n) t ↔ Under ns t
 
   -- ---- parts without nodes inside
 
-  noun_means : (s : Node ℕ) (part : Part Object) → ((n : ℕ) → In (names_in part) → term_of declared label place part n ≡ Resource s) → ((n : ℕ) → triples declared label place part tt n ≡ []) → unlabelled part ≡ 0 → Means part (Resource s) []
+  noun_means : (s : Node ℕ) (part : Part Object) → ((n : ℕ) → Known part → term_of declared label place part n ≡ Resource s) → ((n : ℕ) → triples declared label place part tt n ≡ []) → unlabelled part ≡ 0 → Means part (Resource s) []
   noun_means s part term none size = record { size = size; term = λ n w h. term n w; says = λ n w h t. (λ m. absurd (subst (λ (z : List (Triple ℕ)). Among z t) (none n) m), λ u. absurd (under_none t u)) }
 
   pub iri_means : (node : ℕ → Part Object) (iri : Chars) → Means (object_by context node (Resource (Iri iri))) (Resource (Iri iri)) []
@@ -114,12 +118,12 @@ module _ (context declared : Prefixes) (names : List Chars) (covers : (p : Prefi
     where
       go : (b : Bool) → bytes_eq iri rdf_nil ≡ b → Means (cond b Nil (IriOrLabel (Named (reference_to context iri)))) (Resource (Iri iri)) []
       go true e = noun_means (Iri iri) Nil (λ n w. ap (λ z. Resource (Iri z)) (sym ((exact_texts iri rdf_nil).0 e))) (λ n. refl) refl
-      go false e = noun_means (Iri iri) (IriOrLabel (Named (reference_to context iri))) (λ n w. ap (λ z. Resource (Iri z)) (reference_means context declared names covers apart iri w)) (λ n. refl) refl
+      go false e = noun_means (Iri iri) (IriOrLabel (Named (reference_to context iri))) (λ n w. ap (λ z. Resource (Iri z)) (reference_means context declared agree iri w)) (λ n. refl) refl
 
   pub literal_means : (text : Chars) (kind : Kind) → Means (Quoted text (suffix_of context kind)) (Literal text kind) []
   literal_means text kind = record {
     size = refl;
-    term = λ n w h. ap (Literal text) (kind_means context declared names covers apart kind w);
+    term = λ n w h. ap (Literal text) (kind_means context declared agree kind w);
     says = λ n w h t. (λ m. absurd m, λ u. absurd (under_none t u));
   }
 
@@ -149,7 +153,7 @@ module _ (context declared : Prefixes) (names : List Chars) (covers : (p : Prefi
 
     pub record MeansObjects (part : Part Objects) (objects : List (Term ℕ)) : Type 0 where
       pub size : unlabelled part ≡ length (in_objects nodes objects)
-      pub says : (s : Node ℕ) (p : Chars) (n : ℕ) → In (names_in part) → NamedSo place n (in_objects nodes objects) → (t : Triple ℕ)
+      pub says : (s : Node ℕ) (p : Chars) (n : ℕ) → Known part → NamedSo place n (in_objects nodes objects) → (t : Triple ℕ)
           → Among (triples declared label place part (s, p) n) t ↔ (Said s p objects t ⊎ Under (in_objects nodes objects) t)
 
     single_means : (first : Term ℕ) → Means (object first) first (in_term nodes first) → MeansObjects (Single (object first)) (first ∷ [])
@@ -161,7 +165,7 @@ module _ (context declared : Prefixes) (names : List Chars) (covers : (p : Prefi
         sized : unlabelled (object first) ≡ length (ns ++ [])
         sized = let e = length-append ns [] in let f : unlabelled (object first) ≡ length ns = m.size in omega (arith, e, f)
 
-        says : (s : Node ℕ) (p : Chars) (n : ℕ) → In (names_in (object first)) → NamedSo place n (ns ++ []) → (t : Triple ℕ)
+        says : (s : Node ℕ) (p : Chars) (n : ℕ) → Known (object first) → NamedSo place n (ns ++ []) → (t : Triple ℕ)
             → Among (spo s p (term_of declared label place (object first) n) ∷ triples declared label place (object first) tt n) t ↔ (Said s p (first ∷ []) t ⊎ Under (ns ++ []) t)
         says s p n w h t = (forth, back)
           where
@@ -188,7 +192,7 @@ module _ (context declared : Prefixes) (names : List Chars) (covers : (p : Prefi
         sized : unlabelled (object first) + unlabelled others ≡ length (ns ++ ms)
         sized = let e = length-append ns ms in let f : unlabelled (object first) ≡ length ns = m.size in let g : unlabelled others ≡ length ms = rest.size in omega (arith, e, f, g)
 
-        says : (s : Node ℕ) (p : Chars) (n : ℕ) → In (names_in (object first) ++ names_in others) → NamedSo place n (ns ++ ms) → (t : Triple ℕ)
+        says : (s : Node ℕ) (p : Chars) (n : ℕ) → Known (Comma (object first) others) → NamedSo place n (ns ++ ms) → (t : Triple ℕ)
             → Among (spo s p (term_of declared label place (object first) n) ∷ (triples declared label place (object first) tt n ++ triples declared label place others (s, p) (n + unlabelled (object first)))) t
             ↔ (Said s p (first ∷ behind) t ⊎ Under (ns ++ ms) t)
         says s p n w h t = (forth, back)
@@ -199,11 +203,8 @@ module _ (context declared : Prefixes) (names : List Chars) (covers : (p : Prefi
             l : NamedSo place (n + unlabelled (object first)) ms
             l = subst (λ z. NamedSo place (n + z) ms) (sym m.size) (named_behind place n ns ms h)
 
-            v : In (names_in (object first))
-            v = in_left context declared names covers (names_in (object first)) (names_in others) w
-
-            x : In (names_in others)
-            x = in_right context declared names covers (names_in (object first)) (names_in others) w
+            parts : Known (object first) × Known others
+            parts = and_parts (all_known declared (object first)) (all_known declared others) w
 
             mine : List (Triple ℕ)
             mine = triples declared label place (object first) tt n
@@ -216,21 +217,21 @@ module _ (context declared : Prefixes) (names : List Chars) (covers : (p : Prefi
             said_behind (inr u) = inr (under_right ns ms t u)
 
             forth : Among (spo s p (term_of declared label place (object first) n) ∷ (mine ++ theirs)) t → Said s p (first ∷ behind) t ⊎ Under (ns ++ ms) t
-            forth (inl e) = inl (record { object = first; among = inl refl; is = ap (λ z. spo s p z) (sym (m.term n v k)) ∙ e })
+            forth (inl e) = inl (record { object = first; among = inl refl; is = ap (λ z. spo s p z) (sym (m.term n parts.0 k)) ∙ e })
             forth (inr a) = elim (Among_cases mine theirs t a) [
-              | inl b ↦ inr (under_left ns ms t ((m.says n v k t).0 b))
-              | inr b ↦ said_behind ((rest.says s p (n + unlabelled (object first)) x l t).0 b)
+              | inl b ↦ inr (under_left ns ms t ((m.says n parts.0 k t).0 b))
+              | inr b ↦ said_behind ((rest.says s p (n + unlabelled (object first)) parts.1 l t).0 b)
             ]
 
             on : Said s p behind t ⊎ Under ms t → Among (spo s p (term_of declared label place (object first) n) ∷ (mine ++ theirs)) t
-            on y = inr (Among_right mine theirs t ((rest.says s p (n + unlabelled (object first)) x l t).1 y))
+            on y = inr (Among_right mine theirs t ((rest.says s p (n + unlabelled (object first)) parts.1 l t).1 y))
 
             back : Said s p (first ∷ behind) t ⊎ Under (ns ++ ms) t → Among (spo s p (term_of declared label place (object first) n) ∷ (mine ++ theirs)) t
             back (inl y) = elim y.among [
-              | inl e ↦ inl (ap (λ z. spo s p z) (m.term n v k ∙ ap proper_term e) ∙ y.is)
+              | inl e ↦ inl (ap (λ z. spo s p z) (m.term n parts.0 k ∙ ap proper_term e) ∙ y.is)
               | inr a ↦ on (inl (record { object = y.object; among = a; is = y.is }))
             ]
-            back (inr u) = elim (under_cases ns ms t u) [ inl y ↦ inr (Among_left mine theirs t ((m.says n v k t).1 y)) | inr y ↦ on (inr y) ]
+            back (inr u) = elim (under_cases ns ms t u) [ inl y ↦ inr (Among_left mine theirs t ((m.says n parts.0 k t).1 y)) | inr y ↦ on (inr y) ]
 
     objects_mean : (first : Term ℕ) (more : List (Term ℕ)) → AllMean (first ∷ more) → MeansObjects (objects_after object first more) (first ∷ more)
     objects_mean first [] all = single_means first (all first (inl refl))
@@ -245,7 +246,7 @@ module _ (context declared : Prefixes) (names : List Chars) (covers : (p : Prefi
     module _ (objects : Chars → List (Term ℕ)) where
       pub record MeansPredicates (part : Part Predicates) (ps : List Chars) : Type 0 where
         pub size : unlabelled part ≡ length (in_predicates nodes objects ps)
-        pub says : (s : Node ℕ) (n : ℕ) → In (names_in part) → NamedSo place n (in_predicates nodes objects ps) → (t : Triple ℕ)
+        pub says : (s : Node ℕ) (n : ℕ) → Known part → NamedSo place n (in_predicates nodes objects ps) → (t : Triple ℕ)
             → Among (triples declared label place part s n) t ↔ (SaidBy s objects ps t ⊎ Under (in_predicates nodes objects ps) t)
 
       abbrev line : Chars → Part Objects
@@ -258,10 +259,10 @@ module _ (context declared : Prefixes) (names : List Chars) (covers : (p : Prefi
       line_means p all = some_objects_mean (objects p) all.0.0 all.0.1 all.1
 
       -- what is said by a predicate, with the verb's own IRI
-      line_says : (p : Chars) → MeansObjects (line p) (objects p) → (s : Node ℕ) (n : ℕ) → In (names_of_verb (verb_of context p)) → In (names_in (line p)) → NamedSo place n (in_objects nodes (objects p)) → (t : Triple ℕ)
+      line_says : (p : Chars) → MeansObjects (line p) (objects p) → (s : Node ℕ) (n : ℕ) → is_known_verb declared (verb_of context p) ≡ true → Known (line p) → NamedSo place n (in_objects nodes (objects p)) → (t : Triple ℕ)
           → Among (triples declared label place (line p) (s, predicate_of declared (verb_of context p)) n) t ↔ (Said s p (objects p) t ⊎ Under (in_objects nodes (objects p)) t)
       line_says p m s n v w h t =
-          subst (λ z. Among (triples declared label place (line p) (s, z) n) t ↔ (Said s p (objects p) t ⊎ Under (in_objects nodes (objects p)) t)) (sym (verb_means context declared names covers apart p v)) (m.says s p n w h t)
+          subst (λ z. Among (triples declared label place (line p) (s, z) n) t ↔ (Said s p (objects p) t ⊎ Under (in_objects nodes (objects p)) t)) (sym (verb_means context declared agree p v)) (m.says s p n w h t)
 
       done_means : (first : Chars) → MeansObjects (line first) (objects first) → MeansPredicates (Predicate (verb_of context first) (line first) Done) (first ∷ [])
       done_means first m = record { size = sized; says = says }
@@ -272,13 +273,15 @@ module _ (context declared : Prefixes) (names : List Chars) (covers : (p : Prefi
           sized : unlabelled (line first) + 0 ≡ length (ns ++ [])
           sized = let e = length-append ns [] in let f : unlabelled (line first) ≡ length ns = m.size in omega (arith, e, f)
 
-          says : (s : Node ℕ) (n : ℕ) → In (names_of_verb (verb_of context first) ++ (names_in (line first) ++ [])) → NamedSo place n (ns ++ []) → (t : Triple ℕ)
+          says : (s : Node ℕ) (n : ℕ) → Known (Predicate (verb_of context first) (line first) Done) → NamedSo place n (ns ++ []) → (t : Triple ℕ)
               → Among (triples declared label place (line first) (s, predicate_of declared (verb_of context first)) n ++ []) t ↔ (SaidBy s objects (first ∷ []) t ⊎ Under (ns ++ []) t)
           says s n w h t = (forth, back)
             where
+              parts : (is_known_verb declared (verb_of context first) ≡ true) × Known (line first) × (true ≡ true)
+              parts = three_parts (is_known_verb declared (verb_of context first)) (all_known declared (line first)) true w
+
               by : Among (triples declared label place (line first) (s, predicate_of declared (verb_of context first)) n) t ↔ (Said s first (objects first) t ⊎ Under ns t)
-              by = line_says first m s n (in_left context declared names covers (names_of_verb (verb_of context first)) (names_in (line first) ++ []) w)
-                  (in_left context declared names covers (names_in (line first)) [] (in_right context declared names covers (names_of_verb (verb_of context first)) (names_in (line first) ++ []) w)) (named_front place n ns [] h) t
+              by = line_says first m s n parts.0 parts.1 (named_front place n ns [] h) t
 
               mine : List (Triple ℕ)
               mine = triples declared label place (line first) (s, predicate_of declared (verb_of context first)) n
@@ -307,23 +310,22 @@ module _ (context declared : Prefixes) (names : List Chars) (covers : (p : Prefi
           sized : unlabelled (line first) + unlabelled others ≡ length (ns ++ ms)
           sized = let e = length-append ns ms in let f : unlabelled (line first) ≡ length ns = m.size in let g : unlabelled others ≡ length ms = rest.size in omega (arith, e, f, g)
 
-          says : (s : Node ℕ) (n : ℕ) → In (names_of_verb (verb_of context first) ++ (names_in (line first) ++ names_in others)) → NamedSo place n (ns ++ ms) → (t : Triple ℕ)
+          says : (s : Node ℕ) (n : ℕ) → Known (Predicate (verb_of context first) (line first) (Also others)) → NamedSo place n (ns ++ ms) → (t : Triple ℕ)
               → Among (triples declared label place (line first) (s, predicate_of declared (verb_of context first)) n ++ triples declared label place others s (n + unlabelled (line first))) t
               ↔ (SaidBy s objects (first ∷ behind) t ⊎ Under (ns ++ ms) t)
           says s n w h t = (forth, back)
             where
-              inner : In (names_in (line first) ++ names_in others)
-              inner = in_right context declared names covers (names_of_verb (verb_of context first)) (names_in (line first) ++ names_in others) w
+              parts : (is_known_verb declared (verb_of context first) ≡ true) × Known (line first) × Known others
+              parts = three_parts (is_known_verb declared (verb_of context first)) (all_known declared (line first)) (all_known declared others) w
 
               by : Among (triples declared label place (line first) (s, predicate_of declared (verb_of context first)) n) t ↔ (Said s first (objects first) t ⊎ Under ns t)
-              by = line_says first m s n (in_left context declared names covers (names_of_verb (verb_of context first)) (names_in (line first) ++ names_in others) w)
-                  (in_left context declared names covers (names_in (line first)) (names_in others) inner) (named_front place n ns ms h) t
+              by = line_says first m s n parts.0 parts.1 (named_front place n ns ms h) t
 
               l : NamedSo place (n + unlabelled (line first)) ms
               l = subst (λ z. NamedSo place (n + z) ms) (sym m.size) (named_behind place n ns ms h)
 
               on : Among (triples declared label place others s (n + unlabelled (line first))) t ↔ (SaidBy s objects behind t ⊎ Under ms t)
-              on = rest.says s (n + unlabelled (line first)) (in_right context declared names covers (names_in (line first)) (names_in others) inner) l t
+              on = rest.says s (n + unlabelled (line first)) parts.2 l t
 
               mine : List (Triple ℕ)
               mine = triples declared label place (line first) (s, predicate_of declared (verb_of context first)) n

@@ -1,17 +1,16 @@
 -- The triples of a document under other names of its blank nodes.
-use Rattle.std.proofs.Common.{◌≡◌, ◌∙◌, ◌⊎◌, ◌↔◌, ℕ, suc, ◌+◌, Bool, true, false, ◌&&◌, List, [], ◌∷◌, ◌++◌, map, refl, sym, ap, ap₂, inl, inr, subst, true≢false}
-use Rattle.std.specs.List.{list_all}
+use Rattle.std.proofs.Common.{◌≡◌, ◌∙◌, ℕ, suc, ◌+◌, true, List, [], ◌∷◌, ◌++◌, map, refl, sym, ap, ap₂, inl, inr, subst, true≢false}
 use Rattle.std.proofs.lemmas.Bool.{and_parts}
 use Rattle.std.proofs.lemmas.List.{map-append}
 use Rattle.rx_terms.specs.Text.{Chars}
 use Rattle.rx_model.specs.Sets.{Among}
 use Rattle.rx_model.specs.Terms.{Node, Iri, Blank, Term, Resource, Literal, Triple, set_of}
 use Rattle.rx_model.specs.Copied.{spo}
-use Rattle.rx_model.specs.Numbered.{rename_node, rename_term, rename, blank_of_node, blank_of_term, blanks_of, Has, Renamed}
+use Rattle.rx_model.specs.Numbered.{rename_node, rename_term, rename, blank_of_node, blank_of_term, blanks_of, Has}
 use Rattle.rx_model.proofs.Sets.{Among_map, Among_of_map, Among_cases}
 use Rattle.rx_notation.specs.Short.{Prefixes}
-use Rattle.rx_notation.specs.Syntax.{Full, Short, Subject, Named, Labelled, Sort, Object, Objects, Items, Predicates, Further, Part, IriOrLabel, Quoted, Anonymous, Nil, Bracketed, Collection, Single, Comma, Last, Item, Predicate, Done, Semicolon, Also, Statement, Document, is_flat, are_flat}
-use Rattle.rx_notation.specs.Meaning.{rdf_first, rdf_rest, rdf_nil, predicate_of, unlabelled, Of, node_of, term_of, triples, all_triples, Turtle, Name, Label, Place, NestedTurtle, FlatIsNested}
+use Rattle.rx_notation.specs.Syntax.{Subject, Named, Labelled, Sort, Object, Objects, Items, Predicates, Further, Part, IriOrLabel, Quoted, Anonymous, Nil, Bracketed, Collection, Single, Comma, Last, Item, Predicate, Done, Semicolon, Also, Statement, is_flat, are_flat}
+use Rattle.rx_notation.specs.Meaning.{rdf_first, rdf_rest, rdf_nil, predicate_of, unlabelled, Of, node_of, term_of, triples, all_triples, Name, Label, Place, FlatIsNested}
 
 triple_path : {B : Type 0} (p : Chars) {s r : Node B} {o q : Term B} → s ≡ r → o ≡ q → spo s p o ≡ spo r p q
 triple_path p e f = λ i. record { subject = e i; predicate = p; object = f i }

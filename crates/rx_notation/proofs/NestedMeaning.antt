@@ -1,6 +1,6 @@
 -- The nested text denotes its list.
-use Rattle.std.proofs.Common.{◌≡◌, ◌∙◌, ◌⊎◌, ◌↔◌, ◌<◌, ℕ, zero, suc, ◌+◌, nat_eq, true, List, [], ◌∷◌, ◌++◌, map, filter, length, refl, sym, ap, inl, inr, subst, true≢false, arith}
-use Rattle.std.proofs.lemmas.Bool.{and_from}
+use Rattle.std.proofs.Common.{◌≡◌, ◌∙◌, ◌⊎◌, ◌↔◌, ◌<◌, ℕ, zero, suc, ◌+◌, nat_eq, true, List, [], ◌∷◌, ◌++◌, map, filter, length, codes, refl, sym, ap, inl, inr, subst, true≢false, arith}
+use Rattle.std.proofs.lemmas.Bool.{and_from, and_parts}
 use Rattle.std.proofs.lemmas.List.{length-append}
 use Rattle.rx_terms.specs.Text.{Chars}
 use Rattle.rx_model.specs.Sets.{Among}
@@ -13,22 +13,24 @@ use Rattle.rx_shapes.specs.Shapes.{Inner, Cell, IsShape, HaveShapes}
 use Rattle.rx_shapes.specs.declared.shapes.Shape.{Shape}
 use Rattle.rx_shapes.specs.declared.shapes.Shape.TheVariants as shape
 use Rattle.rx_shapes.specs.Shapes as shapes_of
-use Rattle.rx_notation.specs.Short.{Prefix, Prefixes, is_prefix_name}
+use Rattle.rx_notation.specs.Short.{Prefix, Prefixes}
 use Rattle.rx_shapes.specs.Subjects.{subjects, predicates_of, objects_of}
 use Rattle.rx_notation.specs.Syntax.{Object, Predicates, Part, Statement}
 use Rattle.rx_notation.specs.Spelling.{Spells}
-use Rattle.rx_notation.specs.Meaning.{are_known, unlabelled, node_of, triples, all_triples, Name, Label, Place, NestedTurtle}
+use Rattle.rx_notation.specs.Meaning.{is_known_subject, all_known, are_known, unlabelled, node_of, triples, all_triples, Name, Label, Place, NestedTurtle}
 use Rattle.rx_notation.specs.Laws.{IsContext}
 use Rattle.rx_nquads.specs.Quads.{proper_triple}
 use Rattle.rx_pieces.specs.Writable.{IsWritable}
-use Rattle.rx_notation.proofs.Chosen.{Apart, names_apart, apart_names}
+use Rattle.rx_notation.proofs.Chosen.{Apart, names_apart, apart_names, Agree, declared_agree}
 use Rattle.rx_notation.proofs.LaidOut.{GoodPrefix}
 use Rattle.rx_shapes.proofs.Grouped.{same_nodes, subject_there, predicate_there, object_there, subject_says, predicate_says, object_says}
 use Rattle.rx_notation.proofs.Naming.{triples_renamed}
-use Rattle.rx_notation.specs.Nesting.{subject_of, object_by, written, some_predicates, said_of, is_top, is_top_by, statement_of, names_of_subject, names_in, names_used, prefixes_named, document_of, nested}
+use Rattle.rx_notation.specs.Nesting.{subject_of, object_by, written, some_predicates, said_of, is_top, is_top_by, statement_of, names_used, prefixes_named, document_of, nested}
+use Rattle.rx_notation.specs.Writing.{Piece, words, line_gap, pieces, all_pieces}
+use Rattle.rx_notation.specs.Writing as piece
 use Rattle.rx_notation.specs.NestedLaws.{NestedDenotes}
 use Rattle.rx_notation.proofs.Spelled.{GoodSubject, Good, GoodStatement, document_spelled}
-use Rattle.rx_notation.proofs.Declared.{subject_names, part_names, none_named, Within, in_left, in_right, named_there, of_named, named_apart, good_reference, subject_known, part_known, reference_means}
+use Rattle.rx_notation.proofs.Declared.{subject_names, Proper, proper_more, part_names, none_named, AllWithin, both_known, head_known, named_there, of_named, named_apart, good_reference, subject_known, part_known, reference_means}
 use Rattle.rx_shapes.proofs.Heights.{Differ}
 use Rattle.rx_notation.proofs.Means.{in_predicates, NamedSo, named_front, named_behind, Under, under_left, under_right, under_cases, SaidBy, MeansPredicates, AllSay, predicates_mean}
 use Rattle.rx_notation.proofs.Nodes.{all_mean, term_means}
@@ -85,8 +87,11 @@ module _ (context : Prefixes) (list : List (Triple ℕ)) (shapes : ℕ → Shape
   covers : (p : Prefix) → Among context p → Among names p.0 → Among declared p
   covers p m n = named_there context names p m n
 
-  apart : Apart declared
-  apart = named_apart context names (names_apart context c.once)
+  apart : Apart context
+  apart = names_apart context c.once
+
+  agree : Agree context declared
+  agree = declared_agree context apart declared (λ p m. (of_named context names p m).0)
 
   abbrev order : List ℕ
   order = below_all list shapes have tops
@@ -154,17 +159,12 @@ module _ (context : Prefixes) (list : List (Triple ℕ)) (shapes : ℕ → Shape
 
   -- ---- the text is spelled, and its prefixes are declared
 
-  names_good : (some : List Statement) → ((s : Statement) → Among some s → GoodStatement context (Free context list w) s) → (n : Chars) → Among (names_used some) n → is_prefix_name n ≡ true
-  names_good [] good n m = absurd m
-  names_good (s ∷ more) good n m =
+  names_good : (some : List Statement) → ((s : Statement) → Among some s → GoodStatement context (Free context list w) s) → Proper context (Free context list w) (all_pieces some)
+  names_good [] good = λ n m. absurd m
+  names_good (s ∷ more) good =
       let first = good s (inl refl) in
-      elim (Among_cases (names_of_subject s.subject ++ names_in s.predicates) (names_used more) n m) [
-        | inl k ↦ elim (Among_cases (names_of_subject s.subject) (names_in s.predicates) n k) [
-          | inl l ↦ subject_names context (Free context list w) s.subject first.0 n l
-          | inr l ↦ part_names context (Free context list w) s.predicates first.1 n l
-        ]
-        | inr k ↦ names_good more (λ r l. good r (inr l)) n k
-      ]
+      proper_more context (Free context list w) (piece.subject s.subject) (words (codes " ") ∷ pieces line_gap s.predicates (words (codes " .\n") ∷ all_pieces more)) (subject_names context (Free context list w) s.subject first.0)
+      (part_names context (Free context list w) s.predicates first.1 line_gap (words (codes " .\n") ∷ all_pieces more) (names_good more (λ r l. good r (inr l))))
 
   prefixes_good : (p : Prefix) → Among declared p → GoodPrefix p
   prefixes_good p m = let found = of_named context names p m in record { is_name = names_good all_statements statements_good p.0 found.1; is_iri = c.iris p found.0 }
@@ -175,29 +175,29 @@ module _ (context : Prefixes) (list : List (Triple ℕ)) (shapes : ℕ → Shape
   spelled : Spells (nested context list shapes) (document_of context list shapes)
   spelled = record {
     spelled = document_spelled context (Free context list w) (document_of context list shapes) prefixes_good statements_good none_said;
-    once = apart_names declared apart;
+    once = apart_names declared (named_apart context names apart);
   }
 
-  abbrev In : List Chars → Type 0
-  In some = Within context declared names covers some
-
-  known_by : (some : List Statement) → ((s : Statement) → Among some s → GoodStatement context (Free context list w) s) → In (names_used some) → are_known declared some ≡ true
+  known_by : (some : List Statement) → ((s : Statement) → Among some s → GoodStatement context (Free context list w) s) → AllWithin context declared names covers (Free context list w) (all_pieces some) → are_known declared some ≡ true
   known_by [] good within = refl
   known_by (s ∷ more) good within =
-      let mine : In (names_of_subject s.subject ++ names_in s.predicates) = in_left context declared names covers (names_of_subject s.subject ++ names_in s.predicates) (names_used more) within in
       let first = good s (inl refl) in
-      and_from _ _
-      (and_from _ _ (subject_known context declared names covers (Free context list w) s.subject first.0 (in_left context declared names covers (names_of_subject s.subject) (names_in s.predicates) mine))
-      (part_known context declared names covers (Free context list w) s.predicates first.1 (in_right context declared names covers (names_of_subject s.subject) (names_in s.predicates) mine)))
-      (known_by more (λ r m. good r (inr m)) (in_right context declared names covers (names_of_subject s.subject ++ names_in s.predicates) (names_used more) within))
+      let behind : List Piece = words (codes " .\n") ∷ all_pieces more in
+      let mine = both_known context declared names covers (Free context list w)
+      (head_known context declared names covers (Free context list w) (piece.subject s.subject) (words (codes " ") ∷ pieces line_gap s.predicates behind) (subject_known context declared names covers (Free context list w) s.subject first.0) within)
+      (λ v. part_known context declared names covers (Free context list w) s.predicates first.1 line_gap behind v) in
+      and_from _ _ mine.0 (known_by more (λ r m. good r (inr m)) mine.1)
+
+  known : are_known declared all_statements ≡ true
+  known = known_by all_statements statements_good (λ n m. m)
 
   -- ---- what it means
 
   abbrev IsTold : List ℕ → Triple ℕ → Type 0
-  IsTold ns t = Under context declared names covers apart list place ns t
+  IsTold ns t = Under context declared agree list place ns t
 
   abbrev Spoken : Node ℕ → Triple ℕ → Type 0
-  Spoken s t = SaidBy context declared names covers apart list place s (objects_of list s) (predicates_of list s) t
+  Spoken s t = SaidBy context declared agree list place s (objects_of list s) (predicates_of list s) t
 
   record SaidTop (nodes : List (Node ℕ)) (t : Triple ℕ) : Type 0 where
     subject : Node ℕ
@@ -211,23 +211,23 @@ module _ (context : Prefixes) (list : List (Triple ℕ)) (shapes : ℕ → Shape
   below_one s = in_predicates nodes_in (objects_of list s) (predicates_of list s)
 
   said_means : (s : Node ℕ) → Among (subjects list) s
-      → MeansPredicates context declared names covers apart list place node_at nodes_in (objects_of list s) (said_of context object_at list s) (predicates_of list s)
+      → MeansPredicates context declared agree list place node_at nodes_in (objects_of list s) (said_of context object_at list s) (predicates_of list s)
   said_means s m = go (predicates_of list s) (subject_says list s m).0 (subject_says list s m).1 all
     where
-      all : AllSay context declared names covers apart list place node_at nodes_in (objects_of list s) (predicates_of list s)
+      all : AllSay context declared agree list place node_at nodes_in (objects_of list s) (predicates_of list s)
       all p k = (
         predicate_says list s p k,
-        λ o l. term_means context declared names covers apart list place shapes have (length list) (all_mean context declared names covers apart list place shapes have (length list)).0 o (λ n e i. child_enough n i),
+        λ o l. term_means context declared agree list place shapes have (length list) (all_mean context declared agree list place shapes have (length list)).0 o (λ n e i. child_enough n i),
       )
 
-      go : (ps : List Chars) (some : Chars) → Among ps some → AllSay context declared names covers apart list place node_at nodes_in (objects_of list s) ps
-          → MeansPredicates context declared names covers apart list place node_at nodes_in (objects_of list s) (some_predicates context object_at (objects_of list s) ps) ps
+      go : (ps : List Chars) (some : Chars) → Among ps some → AllSay context declared agree list place node_at nodes_in (objects_of list s) ps
+          → MeansPredicates context declared agree list place node_at nodes_in (objects_of list s) (some_predicates context object_at (objects_of list s) ps) ps
       go [] some h a = absurd h
-      go (first ∷ more) some h a = predicates_mean context declared names covers apart list place node_at nodes_in (objects_of list s) first more a
+      go (first ∷ more) some h a = predicates_mean context declared agree list place node_at nodes_in (objects_of list s) first more a
 
-  node_means : (s : Node ℕ) → In (names_of_subject (subject_of context s)) → node_of declared (λ number. number) place (subject_of context s) ≡ s
-  node_means (Iri iri) within = ap Iri (reference_means context declared names covers apart iri within)
-  node_means (Blank a) within = refl
+  node_means : (s : Node ℕ) → is_known_subject declared (subject_of context s) ≡ true → node_of declared (λ number. number) place (subject_of context s) ≡ s
+  node_means (Iri iri) k = ap Iri (reference_means context declared agree iri k)
+  node_means (Blank a) k = refl
 
   abbrev state : Node ℕ → Statement
   state s = statement_of context list shapes s
@@ -242,12 +242,12 @@ module _ (context : Prefixes) (list : List (Triple ℕ)) (shapes : ℕ → Shape
 
   -- a statement, and those behind it
   statement_and : (s : Node ℕ) (more : List (Node ℕ)) (n : ℕ) (t : Triple ℕ)
-      → (means : MeansPredicates context declared names covers apart list place node_at nodes_in (objects_of list s) (said_of context object_at list s) (predicates_of list s))
-      → In (names_of_subject (subject_of context s) ++ names_in (said_of context object_at list s)) → NamedSo place n (below_one s ++ below_all list shapes have more)
+      → (means : MeansPredicates context declared agree list place node_at nodes_in (objects_of list s) (said_of context object_at list s) (predicates_of list s))
+      → (is_known_subject declared (subject_of context s) ≡ true) × (all_known declared (said_of context object_at list s) ≡ true) → NamedSo place n (below_one s ++ below_all list shapes have more)
       → (NamedSo place (n + unlabelled (said_of context object_at list s)) (below_all list shapes have more)
       → Among (all_triples declared (λ number. number) place (map state more) (n + unlabelled (said_of context object_at list s))) t ↔ (SaidTop more t ⊎ IsTold (below_all list shapes have more) t))
       → Among (all_triples declared (λ number. number) place (map state (s ∷ more)) n) t ↔ (SaidTop (s ∷ more) t ⊎ IsTold (below_all list shapes have (s ∷ more)) t)
-  statement_and s more n t means mine_within h rest = (forth, back)
+  statement_and s more n t means known_mine h rest = (forth, back)
     where
       part : Part Predicates
       part = said_of context object_at list s
@@ -266,19 +266,19 @@ module _ (context : Prefixes) (list : List (Triple ℕ)) (shapes : ℕ → Shape
 
       by : Among mine t ↔ (Spoken s t ⊎ IsTold ns t)
       by = subst (λ (z : Node ℕ). Among (triples declared (λ number. number) place part z n) t ↔ (Spoken s t ⊎ IsTold ns t))
-          (sym (node_means s (in_left context declared names covers (names_of_subject (subject_of context s)) (names_in part) mine_within)))
-          (means.says s n (in_right context declared names covers (names_of_subject (subject_of context s)) (names_in part) mine_within) (named_front place n ns ms h) t)
+          (sym (node_means s known_mine.0))
+          (means.says s n known_mine.1 (named_front place n ns ms h) t)
 
       on : Among theirs t ↔ (SaidTop more t ⊎ IsTold ms t)
       on = rest (subst (λ z. NamedSo place (n + z) ms) (sym means.size) (named_behind place n ns ms h))
 
       told : Spoken s t ⊎ IsTold ns t → SaidTop (s ∷ more) t ⊎ IsTold (ns ++ ms) t
       told (inl y) = inl (record { subject = s; among = inl refl; said = y })
-      told (inr u) = inr (under_left context declared names covers apart list place ns ms t u)
+      told (inr u) = inr (under_left context declared agree list place ns ms t u)
 
       told_behind : SaidTop more t ⊎ IsTold ms t → SaidTop (s ∷ more) t ⊎ IsTold (ns ++ ms) t
       told_behind (inl y) = inl (record { subject = y.subject; among = inr y.among; said = y.said })
-      told_behind (inr u) = inr (under_right context declared names covers apart list place ns ms t u)
+      told_behind (inr u) = inr (under_right context declared agree list place ns ms t u)
 
       forth : Among (mine ++ theirs) t → SaidTop (s ∷ more) t ⊎ IsTold (ns ++ ms) t
       forth a = elim (Among_cases mine theirs t a) [ inl b ↦ told (by.0 b) | inr b ↦ told_behind (on.0 b) ]
@@ -288,21 +288,21 @@ module _ (context : Prefixes) (list : List (Triple ℕ)) (shapes : ℕ → Shape
         | inl e ↦ Among_left mine theirs t (by.1 (inl (subst (λ (z : Node ℕ). Spoken z t) (sym e) y.said)))
         | inr a ↦ Among_right mine theirs t (on.1 (inl (record { subject = y.subject; among = a; said = y.said })))
       ]
-      back (inr u) = elim (under_cases context declared names covers apart list place ns ms t u) [ inl v ↦ Among_left mine theirs t (by.1 (inr v)) | inr v ↦ Among_right mine theirs t (on.1 (inr v)) ]
+      back (inr u) = elim (under_cases context declared agree list place ns ms t u) [ inl v ↦ Among_left mine theirs t (by.1 (inr v)) | inr v ↦ Among_right mine theirs t (on.1 (inr v)) ]
 
-  statements_mean : (nodes : List (Node ℕ)) → ((s : Node ℕ) → Among nodes s → Among (subjects list) s) → In (names_used (map state nodes)) → (n : ℕ) → NamedSo place n (below_all list shapes have nodes)
+  statements_mean : (nodes : List (Node ℕ)) → ((s : Node ℕ) → Among nodes s → Among (subjects list) s) → are_known declared (map state nodes) ≡ true → (n : ℕ) → NamedSo place n (below_all list shapes have nodes)
       → (t : Triple ℕ) → Among (all_triples declared (λ number. number) place (map state nodes) n) t ↔ (SaidTop nodes t ⊎ IsTold (below_all list shapes have nodes) t)
-  statements_mean [] there within n h t = (λ a. absurd a, λ y. elim y [ inl z ↦ absurd z.among | inr u ↦ absurd u.among ])
-  statements_mean (s ∷ more) there within n h t =
-      statement_and s more n t (said_means s (there s (inl refl))) (in_left context declared names covers (names_of_subject (subject_of context s) ++ names_in (said_of context object_at list s)) (names_used (map state more)) within) h
-      (λ l. statements_mean more (λ r m. there r (inr m)) (in_right context declared names covers (names_of_subject (subject_of context s) ++ names_in (said_of context object_at list s)) (names_used (map state more)) within)
+  statements_mean [] there k n h t = (λ a. absurd a, λ y. elim y [ inl z ↦ absurd z.among | inr u ↦ absurd u.among ])
+  statements_mean (s ∷ more) there k n h t =
+      statement_and s more n t (said_means s (there s (inl refl))) (and_parts _ _ (and_parts _ _ k).0) h
+      (λ l. statements_mean more (λ r m. there r (inr m)) (and_parts _ _ k).1
       (n + unlabelled (said_of context object_at list s)) l t)
 
   abbrev meant : List (Triple ℕ)
   meant = all_triples declared (λ number. number) place all_statements 0
 
   all_means : (t : Triple ℕ) → Among meant t ↔ (SaidTop tops t ⊎ IsTold order t)
-  all_means t = statements_mean tops top_subject (λ n m. m) 0 (at_named order) t
+  all_means t = statements_mean tops top_subject known 0 (at_named order) t
 
   -- each triple is said of a subject that has a statement, or of a node that is written where it is used
   in_or_below : (u : Triple ℕ) → Among list u → (t : Triple ℕ) → proper_triple u ≡ t → SaidTop tops t ⊎ IsTold order t
@@ -375,7 +375,7 @@ module _ (context : Prefixes) (list : List (Triple ℕ)) (shapes : ℕ → Shape
   means = record {
     document = document_of context list shapes;
     spells = spelled;
-    known = known_by all_statements statements_good (λ n m. m);
+    known = known;
     renamed = record {
       to = number_of;
       one_to_one = λ a b h k e. one_to_one a b (bound a h) (bound b k) e;

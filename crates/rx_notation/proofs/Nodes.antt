@@ -1,5 +1,6 @@
 -- What nodes mean that are written where they are used.
-use Rattle.std.proofs.Common.{◌≡◌, ◌∙◌, ◌⊎◌, ◌↔◌, ◌≤◌, ◌<◌, ℕ, zero, suc, ◌+◌, List, [], ◌∷◌, ◌++◌, length, bytes_eq, refl, sym, ap, inl, inr, subst, true≢false, arith}
+use Rattle.std.proofs.Common.{◌≡◌, ◌∙◌, ◌⊎◌, ◌↔◌, ℕ, zero, suc, ◌+◌, List, [], ◌∷◌, ◌++◌, length, refl, sym, ap, inl, inr, subst, arith}
+use Rattle.std.proofs.lemmas.Bool.{and_parts}
 use Rattle.std.proofs.lemmas.List.{length-append}
 use Rattle.rx_terms.specs.Text.{Chars}
 use Rattle.rx_model.specs.Sets.{Among}
@@ -7,37 +8,35 @@ use Rattle.rx_model.specs.Terms.{Node, Iri, Blank, Term, Resource, Literal, Trip
 use Rattle.rx_model.specs.Copied.{spo}
 use Rattle.rx_model.proofs.Sets.{Among_left, Among_right, Among_cases}
 use Rattle.rx_nquads.specs.Quads.{proper_term, proper_triple}
-use Rattle.rx_shapes.specs.Shapes.{Ends, onward, Inner, Pair, Cell, last_cell, next_cell, IsShape, HaveShapes}
+use Rattle.rx_shapes.specs.Shapes.{Inner, Cell, IsShape, HaveShapes}
 use Rattle.rx_model.specs.Vocabulary.{rdf_first, rdf_rest, rdf_nil}
 use Rattle.rx_shapes.specs.declared.shapes.Shape.{Shape}
 use Rattle.rx_shapes.specs.declared.shapes.Shape.TheVariants as shape
-use Rattle.rx_notation.specs.Short.{Prefix, Prefixes}
+use Rattle.rx_notation.specs.Short.{Prefixes}
 use Rattle.rx_shapes.specs.Subjects.{predicates_of, objects_of}
-use Rattle.rx_notation.specs.Syntax.{Object, Items, Predicates, Part, Last, Item}
-use Rattle.rx_notation.specs.Meaning.{unlabelled, term_of, triples}
-use Rattle.rx_notation.proofs.Chosen.{Apart}
+use Rattle.rx_notation.specs.Syntax.{Sort, Object, Items, Predicates, Part, Last, Item}
+use Rattle.rx_notation.specs.Meaning.{all_known, unlabelled, term_of, triples}
 use Rattle.rx_shapes.proofs.Grouped.{predicate_there, object_there, predicate_says, object_says}
-use Rattle.rx_notation.specs.Nesting.{names_in, predicates_after, bracketed, object_by, one_object, items_by, cells, node_by, written}
-use Rattle.rx_notation.proofs.Declared.{in_left, in_right}
+use Rattle.rx_notation.specs.Nesting.{predicates_after, bracketed, object_by, one_object, items_by, cells, node_by, written}
+use Rattle.rx_notation.proofs.Chosen.{Agree}
 use Rattle.rx_shapes.proofs.CellLemmas.{CellOf, cell_of, cell_inner, first_some, rest_some, first_each, rest_each, Enough, none_left, child_enough}
-use Rattle.rx_shapes.proofs.Heights.{height, height_once, heights_alike, height_bound}
-use Rattle.rx_notation.proofs.Means.{in_term, in_first, in_cells, in_predicates, in_shape, ordered, NamedSo, named_front, named_behind, In, Under, under_left, under_right, under_cases, Means, iri_means, literal_means, labelled_means, SaidBy, MeansPredicates, AllSay, predicates_mean}
+use Rattle.rx_notation.proofs.Means.{in_term, in_first, in_cells, in_predicates, in_shape, ordered, NamedSo, named_front, named_behind, Known, Under, under_left, under_right, under_cases, Means, iri_means, literal_means, labelled_means, SaidBy, MeansPredicates, AllSay, predicates_mean}
 
-module _ (context declared : Prefixes) (names : List Chars) (covers : (p : Prefix) → Among context p → Among names p.0 → Among declared p) (apart : Apart declared) (list : List (Triple ℕ)) (place : ℕ → ℕ) where
+module _ (context declared : Prefixes) (agree : Agree context declared) (list : List (Triple ℕ)) (place : ℕ → ℕ) where
   abbrev MeansTerm : Part Object → Term ℕ → List ℕ → Type 0
-  MeansTerm part o ns = Means context declared names covers apart list place part o ns
+  MeansTerm part o ns = Means context declared agree list place part o ns
 
   abbrev IsTold : List ℕ → Triple ℕ → Type 0
-  IsTold ns t = Under context declared names covers apart list place ns t
+  IsTold ns t = Under context declared agree list place ns t
 
-  abbrev Inside_names : List Chars → Type 0
-  Inside_names some = In context declared names covers apart list place some
+  abbrev Is_known : {sort : Sort} → Part sort → Type 0
+  Is_known part = Known context declared agree list place part
 
   -- the part is the cells of a list from this one on
   pub record MeansItems (part : Part Items) (number : ℕ) (ns : List ℕ) : Type 0 where
     pub size : unlabelled part ≡ length ns
     pub head : (n : ℕ) → NamedSo place n ns → place n ≡ number
-    pub says : (n : ℕ) → Inside_names (names_in part) → NamedSo place n ns → (t : Triple ℕ)
+    pub says : (n : ℕ) → Is_known part → NamedSo place n ns → (t : Triple ℕ)
         → Among (triples declared (λ number. number) place part tt n) t ↔ IsTold ns t
 
   -- ---- a node in brackets
@@ -46,7 +45,7 @@ module _ (context declared : Prefixes) (names : List Chars) (covers : (p : Prefi
   AllMeanOf node nodes number = (p : Chars) (o : Term ℕ) → Among list (spo (Blank number) p o) → MeansTerm (object_by context node o) o (in_term nodes o)
 
   abbrev Spoken : ℕ → List Chars → Triple ℕ → Type 0
-  Spoken number ps t = SaidBy context declared names covers apart list place (Blank number) (objects_of list (Blank number)) ps t
+  Spoken number ps t = SaidBy context declared agree list place (Blank number) (objects_of list (Blank number)) ps t
 
   abbrev Speaks : ℕ → List Chars → Type 0
   Speaks number ps = (t : Triple ℕ) → Among list t → t.subject ≡ Blank number → Among ps t.predicate
@@ -64,7 +63,7 @@ module _ (context declared : Prefixes) (names : List Chars) (covers : (p : Prefi
         among = inl refl;
         said = refl;
       }
-      forth (inr u) = under_right context declared names covers apart list place (number ∷ []) ns t u
+      forth (inr u) = under_right context declared agree list place (number ∷ []) ns t u
 
       spoken : (u : Triple ℕ) → Among list u → u.subject ≡ Blank number → proper_triple u ≡ t → Spoken number ps t
       spoken u m e r = record {
@@ -100,11 +99,11 @@ module _ (context declared : Prefixes) (names : List Chars) (covers : (p : Prefi
       objects : Chars → List (Term ℕ)
       objects = objects_of list (Blank number)
 
-      all : AllSay context declared names covers apart list place node nodes objects (first ∷ more)
+      all : AllSay context declared agree list place node nodes objects (first ∷ more)
       all p k = (predicate_says list (Blank number) p (there p k), λ o l. each p o (object_says list (Blank number) p o l))
 
-      m : MeansPredicates context declared names covers apart list place node nodes objects (predicates_after context (object_by context node) objects first more) (first ∷ more)
-      m = predicates_mean context declared names covers apart list place node nodes objects first more all
+      m : MeansPredicates context declared agree list place node nodes objects (predicates_after context (object_by context node) objects first more) (first ∷ more)
+      m = predicates_mean context declared agree list place node nodes objects first more all
 
       ns : List ℕ
       ns = in_predicates nodes objects (first ∷ more)
@@ -112,7 +111,7 @@ module _ (context declared : Prefixes) (names : List Chars) (covers : (p : Prefi
       part : Part Predicates
       part = predicates_after context (object_by context node) objects first more
 
-      says : (n : ℕ) → Inside_names (names_in part) → NamedSo place n (number ∷ ns) → (t : Triple ℕ) → Among (triples declared (λ number. number) place part (Blank (place n)) (suc n)) t ↔ IsTold (number ∷ ns) t
+      says : (n : ℕ) → Is_known part → NamedSo place n (number ∷ ns) → (t : Triple ℕ) → Among (triples declared (λ number. number) place part (Blank (place n)) (suc n)) t ↔ IsTold (number ∷ ns) t
       says n w h t =
           let own = own_said number (first ∷ more) ns speaks t in
           let by : Among (triples declared (λ number. number) place part (Blank (place n)) (suc n)) t ↔ (Spoken number (first ∷ more) t ⊎ IsTold ns t) =
@@ -137,16 +136,16 @@ module _ (context declared : Prefixes) (names : List Chars) (covers : (p : Prefi
       own u k e r = record { triple = u; there = k; read = r; node = number; among = inl refl; said = e }
 
       inner : IsTold (xs ++ ys) t → IsTold (number ∷ (xs ++ ys)) t
-      inner u = under_right context declared names covers apart list place (number ∷ []) (xs ++ ys) t u
+      inner u = under_right context declared agree list place (number ∷ []) (xs ++ ys) t u
 
       forth_behind : Among (rest ∷ tail) t → IsTold (number ∷ (xs ++ ys)) t
       forth_behind (inl e) = own (spo (Blank number) rdf_rest c.after) c.pair.rest refl (sym is_rest ∙ e)
-      forth_behind (inr a) = inner (under_right context declared names covers apart list place xs ys t (l.0 a))
+      forth_behind (inr a) = inner (under_right context declared agree list place xs ys t (l.0 a))
 
       forth : Among (first ∷ (mine ++ rest ∷ tail)) t → IsTold (number ∷ (xs ++ ys)) t
       forth (inl e) = own (spo (Blank number) rdf_first c.item) c.pair.first refl (sym is_first ∙ e)
       forth (inr a) = elim (Among_cases mine (rest ∷ tail) t a) [
-        | inl b ↦ inner (under_left context declared names covers apart list place xs ys t (m.0 b))
+        | inl b ↦ inner (under_left context declared agree list place xs ys t (m.0 b))
         | inr b ↦ forth_behind b
       ]
 
@@ -157,7 +156,7 @@ module _ (context declared : Prefixes) (names : List Chars) (covers : (p : Prefi
       ]
 
       back_below : IsTold (xs ++ ys) t → Among (first ∷ (mine ++ rest ∷ tail)) t
-      back_below u = elim (under_cases context declared names covers apart list place xs ys t u) [
+      back_below u = elim (under_cases context declared agree list place xs ys t u) [
         | inl v ↦ inr (Among_left mine (rest ∷ tail) t (m.1 v))
         | inr v ↦ inr (Among_right mine (rest ∷ tail) t (inr (l.1 v)))
       ]
@@ -183,7 +182,7 @@ module _ (context declared : Prefixes) (names : List Chars) (covers : (p : Prefi
         sized : suc (unlabelled part) ≡ suc (length (ns ++ []))
         sized = let f = length-append ns [] in let g : unlabelled part ≡ length ns = item.size in omega (arith, f, g)
 
-        says : (n : ℕ) → Inside_names (names_in part) → NamedSo place n (number ∷ (ns ++ [])) → (t : Triple ℕ)
+        says : (n : ℕ) → Is_known part → NamedSo place n (number ∷ (ns ++ [])) → (t : Triple ℕ)
             → Among (triples declared (λ number. number) place (Last part) tt n) t ↔ IsTold (number ∷ (ns ++ [])) t
         says n w h t =
             let k : NamedSo place (suc n) ns = named_front place (suc n) ns [] h.1 in
@@ -204,18 +203,17 @@ module _ (context declared : Prefixes) (names : List Chars) (covers : (p : Prefi
         sized : suc (unlabelled part) + unlabelled (cell d) ≡ suc (length (ns ++ below d))
         sized = let f = length-append ns (below d) in let g : unlabelled part ≡ length ns = item.size in let k : unlabelled (cell d) ≡ length (below d) = behind.size in omega (arith, f, g, k)
 
-        says : (n : ℕ) → Inside_names (names_in part ++ names_in (cell d)) → NamedSo place n (number ∷ (ns ++ below d)) → (t : Triple ℕ)
+        says : (n : ℕ) → Is_known (Item part (cell d)) → NamedSo place n (number ∷ (ns ++ below d)) → (t : Triple ℕ)
             → Among (triples declared (λ number. number) place (Item part (cell d)) tt n) t ↔ IsTold (number ∷ (ns ++ below d)) t
         says n w h t =
             let k : NamedSo place (suc n) ns = named_front place (suc n) ns (below d) h.1 in
             let l : NamedSo place (suc n + unlabelled part) (below d) = subst (λ z. NamedSo place (suc n + z) (below d)) (sym item.size) (named_behind place (suc n) ns (below d) h.1) in
-            let v : Inside_names (names_in part) = in_left context declared names covers (names_in part) (names_in (cell d)) w in
-            let x : Inside_names (names_in (cell d)) = in_right context declared names covers (names_in part) (names_in (cell d)) w in
+            let parts : Is_known part × Is_known (cell d) = and_parts (all_known declared part) (all_known declared (cell d)) w in
             let first : place (suc n + unlabelled part) ≡ d = behind.head (suc n + unlabelled part) l in
             cell_said number c (triples declared (λ number. number) place part tt (suc n)) (triples declared (λ number. number) place (cell d) tt (suc n + unlabelled part)) ns (below d) t
             (spo (Blank (place n)) rdf_first (term_of declared (λ number. number) place part (suc n))) (spo (Blank (place n)) rdf_rest (Resource (Blank (place (suc n + unlabelled part)))))
-            (λ i. spo (Blank (h.0 i)) rdf_first (item.term (suc n) v k i)) (λ i. spo (Blank (h.0 i)) rdf_rest (((ap (λ z. Resource (Blank z)) first ∙ ap proper_term (sym e)) i)))
-            (item.says (suc n) v k t) (behind.says (suc n + unlabelled part) x l t)
+            (λ i. spo (Blank (h.0 i)) rdf_first (item.term (suc n) parts.0 k i)) (λ i. spo (Blank (h.0 i)) rdf_rest (((ap (λ z. Resource (Blank z)) first ∙ ap proper_term (sym e)) i)))
+            (item.says (suc n) parts.0 k t) (behind.says (suc n + unlabelled part) parts.1 l t)
 
   cells_mean : (node : ℕ → Part Object) (cell : ℕ → Part Items) (nodes below : ℕ → List ℕ) (number : ℕ) (c : CellOf list number)
       → MeansTerm (object_by context node c.item) c.item (in_term nodes c.item) → ((d : ℕ) → c.after ≡ Resource (Blank d) → Cell (set_of list) d → MeansItems (cell d) d (below d))
@@ -266,9 +264,9 @@ module _ (context declared : Prefixes) (names : List Chars) (covers : (p : Prefi
 
     pub term_means : (left : ℕ) → ((n : ℕ) → MeansNode left n) → (o : Term ℕ) → ((n : ℕ) → o ≡ Resource (Blank n) → Inner (set_of list) n → Enough list left n)
         → MeansTerm (object_by context (node_at left) o) o (in_term (nodes_at left) o)
-    term_means left node (Resource (Iri iri)) enough = iri_means context declared names covers apart list place (node_at left) iri
+    term_means left node (Resource (Iri iri)) enough = iri_means context declared agree list place (node_at left) iri
     term_means left node (Resource (Blank n)) enough = node n (enough n refl)
-    term_means left node (Literal text kind) enough = literal_means context declared names covers apart list place text kind
+    term_means left node (Literal text kind) enough = literal_means context declared agree list place text kind
 
     cells_at : (left : ℕ) → ((n : ℕ) → MeansNode left n) → ((n : ℕ) → MeansCells left n) → (number : ℕ) → Cell (set_of list) number → Enough list (suc left) number
         → MeansItems (cells (object_by context (node_at left)) (λ n. (written context list shapes left n).1) list number) number
@@ -287,7 +285,7 @@ module _ (context declared : Prefixes) (names : List Chars) (covers : (p : Prefi
         go : (s : Shape) → IsShape (set_of list) number s
             → MeansTerm (node_by context list shapes (object_by context (node_at left)) (λ n. (written context list shapes left n).1) s number) (Resource (Blank number))
             (in_shape list shapes (nodes_at left) (λ n. (ordered list shapes left n).1) s number)
-        go shape.Labelled h = labelled_means context declared names covers apart list place number
+        go shape.Labelled h = labelled_means context declared agree list place number
         go shape.Inside h =
             inside_means (node_at left) (nodes_at left) number (λ p o m. term_means left node o (λ n e i. child_enough list left number n p (enough h.0) (subst (λ (z : Term ℕ). Among list (spo (Blank number) p z)) e m) i))
         go shape.Cell h =
@@ -296,7 +294,7 @@ module _ (context declared : Prefixes) (names : List Chars) (covers : (p : Prefi
 
     pub all_mean : (left : ℕ) → ((n : ℕ) → MeansNode left n) × ((n : ℕ) → MeansCells left n)
     all_mean zero = (
-      λ n enough. labelled_means context declared names covers apart list place n,
+      λ n enough. labelled_means context declared agree list place n,
       λ n is_cell enough. absurd (none_left list n (cell_inner list n is_cell) enough),
     )
     all_mean (suc left) =

@@ -1,7 +1,7 @@
 -- Each node that is written where it is used is written once.
-use Rattle.std.proofs.Common.{◌≡◌, ◌∙◌, ◌≤◌, ℕ, zero, suc, ◌+◌, nat_eq, Bool, true, false, not, cond, bytes_eq, List, [], ◌∷◌, ◌++◌, map, filter, flat_map, length, refl, sym, ap, inl, inr, subst, true≢false, arith}
+use Rattle.std.proofs.Common.{◌≡◌, ◌∙◌, ◌≤◌, ℕ, zero, suc, ◌+◌, nat_eq, Bool, true, false, bytes_eq, List, [], ◌∷◌, ◌++◌, map, filter, flat_map, length, refl, sym, ap, inl, inr, subst, true≢false, arith}
 use Rattle.rx_terms.specs.Text.{Chars}
-use Rattle.rx_model.specs.Sets.{Among, IsExact, distinct}
+use Rattle.rx_model.specs.Sets.{Among}
 use Rattle.rx_model.specs.Terms.{Node, Iri, Blank, Term, Resource, Literal, Triple, same_node, set_of}
 use Rattle.rx_model.specs.Copied.{spo}
 use Rattle.rx_model.proofs.Sets.{Among_cases, Among_of_filter, Among_of_map}
@@ -13,7 +13,7 @@ use Rattle.rx_shapes.specs.declared.shapes.Shape.TheVariants as shape
 use Rattle.rx_shapes.specs.Subjects.{has_subject, has_predicate, about, predicates_of, objects_of}
 use Rattle.rx_shapes.proofs.Grouped.{same_nodes, object_says}
 use Rattle.rx_shapes.proofs.Heights.{Differ}
-use Rattle.rx_shapes.proofs.Times.{one_if, times, times_append, times_there, once_differ, differ_filter, distinct_differ}
+use Rattle.rx_shapes.proofs.Times.{one_if, times, times_append, once_differ, differ_filter, distinct_differ}
 use Rattle.rx_notation.proofs.Means.{in_term, in_first, in_cells, in_objects, in_predicates, in_shape, ordered}
 use Rattle.rx_shapes.proofs.CellLemmas.{CellOf, cell_of, cell_inner, first_some, first_each, rest_some, rest_each}
 

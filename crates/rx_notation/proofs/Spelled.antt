@@ -1,5 +1,5 @@
 -- The text of a document spells it.
-use Rattle.std.proofs.Common.{◌≡◌, ℕ, ◌<◌, ◌^◌, true, List, [], ◌∷◌, ◌++◌, flat_map, codes, refl, sym, ◌∙◌, ap, inl, inr, subst, append_assoc}
+use Rattle.std.proofs.Common.{◌≡◌, ℕ, ◌<◌, ◌^◌, true, List, [], ◌∷◌, ◌++◌, flat_map, codes, refl, sym, ap, inl, inr, subst, append_assoc}
 use Rattle.rx_terms.specs.Ascii.{line_feed, quotation_mark}
 use Rattle.rx_terms.specs.Text.{Chars}
 use Rattle.rx_terms.specs.Iri.{IsIri}
@@ -12,9 +12,9 @@ use Rattle.rx_notation.specs.Layout.{prefixes_text}
 use Rattle.rx_notation.specs.Syntax.{Reference, Full, Short, Subject, Named, Labelled, Verb, By, Type_of, Suffix, Bare, Language, Datatype, Sort, Object, Objects, Items, Predicates, Further, Part, IriOrLabel, Quoted, Anonymous, Nil, Bracketed, Collection, Single, Comma, Last, Item, Predicate, Done, Semicolon, Also, Statement, Document}
 use Rattle.rx_notation.specs.Grammar.{Full_stop, Semicolon_sign, Comma_sign, Left_bracket, Right_bracket, Brackets, Left_parenthesis, Right_parenthesis, Parentheses, Token, terminal, iri_or_label, quoted, verb_token, tokens, statement_tokens, prefix_tokens, document_tokens}
 use Rattle.rx_notation.specs.Spelling.{SpellsReference, SpellsSubject, SpellsSuffix, SpellsToken, is_gap, SpellsBehind, SpellsTokens}
-use Rattle.rx_notation.proofs.Joining.{Opens, Puts, Adds, behind_gap, puts_token, puts_then, adds_gap, adds_nothing}
-use Rattle.rx_notation.proofs.LaidOut.{GoodPrefix, moved, prefixes_spelled}
-use Rattle.rx_notation.specs.Writing.{reference_text, subject_text, verb_text, suffix_text, inside_gap, line_gap, part_text, statement_text, document_text}
+use Rattle.rx_notation.proofs.Joining.{Opens, behind_gap, behind_token, opens_token}
+use Rattle.rx_notation.proofs.LaidOut.{GoodPrefix, prefixes_spelled}
+use Rattle.rx_notation.specs.Writing.{reference_text, subject_text, verb_text, suffix_text, Piece, words, piece_text, inside_gap, line_gap, pieces, all_pieces, document_text}
 
 -- ---- what is asked of the parts, where a short form has a prefix of the context, and labels are free
 
@@ -73,65 +73,62 @@ module _ (context : Prefixes) (free : ℕ → Type 0) where
 
   -- ---- parts
 
-  -- what follows a predicate begins with a gap, or is empty; all else begins with a token
-  abbrev Joined : Sort → Chars → (List Token → List Token) → Type 0
-  Joined Object text f = Puts text f
-  Joined Objects text f = Puts text f
-  Joined Items text f = Puts text f
-  Joined Predicates text f = Puts text f
-  Joined Further text f = Adds text f
+  abbrev texts : List Piece → Chars
+  texts ps = flat_map piece_text ps
 
-  part_spelled : {sort : Sort} (gap : Chars) → is_gap gap ≡ true → (p : Part sort) → Good p → Joined sort (part_text gap p) (tokens p)
-  part_spelled gap g (IriOrLabel subject) h = puts_token (subject_text subject) (iri_or_label subject) (subject_spelled subject h)
-  part_spelled gap g (Quoted text suffix) h = puts_token (string_text text ++ suffix_text suffix) (quoted text suffix) (record {
+  -- what follows a predicate begins with a gap, or is empty; all else begins with a token
+  abbrev Joined : Sort → Chars → List Token → Type 0
+  Joined Object text ts = Opens text ts
+  Joined Objects text ts = Opens text ts
+  Joined Items text ts = Opens text ts
+  Joined Predicates text ts = Opens text ts
+  Joined Further text ts = SpellsBehind text ts
+
+  part_spelled : {sort : Sort} (gap : Chars) → is_gap gap ≡ true → (p : Part sort) → Good p → (rest : List Piece) (ts : List Token) → SpellsBehind (texts rest) ts → Joined sort (texts (pieces gap p rest)) (tokens p ts)
+  part_spelled gap g (IriOrLabel subject) h rest ts b = opens_token (subject_text subject) (iri_or_label subject) (subject_spelled subject h) _ _ b
+  part_spelled gap g (Quoted text suffix) h rest ts b = opens_token (string_text text ++ suffix_text suffix) (quoted text suffix) (record {
     inside = escaped_text text;
     behind = suffix_text suffix;
     string = string_spelled text;
     suffix_spelled = suffix_spelled suffix h;
     spelled = ap (λ z. quotation_mark ∷ z) (append_assoc (escaped_text text) (quotation_mark ∷ []) (suffix_text suffix));
-  })
-  part_spelled gap g Anonymous h = puts_token (codes "[]") (terminal Brackets) refl
-  part_spelled gap g Nil h = puts_token (codes "()") (terminal Parentheses) refl
-  part_spelled gap g (Bracketed predicates) h =
-      puts_then (puts_token (codes "[") (terminal Left_bracket) refl) (adds_gap (codes " ") refl
-      (puts_then (part_spelled inside_gap refl predicates h) (adds_gap (codes " ") refl (puts_token (codes "]") (terminal Right_bracket) refl))))
-  part_spelled gap g (Collection items) h =
-      puts_then (puts_token (codes "(") (terminal Left_parenthesis) refl) (adds_gap (codes " ") refl
-      (puts_then (part_spelled gap g items h) (adds_gap (codes " ") refl (puts_token (codes ")") (terminal Right_parenthesis) refl))))
-  part_spelled gap g (Single object) h = part_spelled gap g object h
-  part_spelled gap g (Comma object objects) h =
-      puts_then (part_spelled gap g object h.0) (adds_gap (codes " ") refl
-      (puts_then (puts_token (codes ",") (terminal Comma_sign) refl) (adds_gap (codes " ") refl (part_spelled gap g objects h.1))))
-  part_spelled gap g (Last object) h = part_spelled gap g object h
-  part_spelled gap g (Item object items) h = puts_then (part_spelled gap g object h.0) (adds_gap (codes " ") refl (part_spelled gap g items h.1))
-  part_spelled gap g (Predicate verb objects further) h =
-      puts_then (puts_token (verb_text verb) (verb_token verb) (verb_spelled verb h.0)) (adds_gap (codes " ") refl
-      (puts_then (part_spelled inside_gap refl objects h.1.0) (part_spelled gap g further h.1.1)))
-  part_spelled gap g Done h = adds_nothing
-  part_spelled gap g (Semicolon further) h = absurd h
-  part_spelled gap g (Also predicates) h =
-      adds_gap (codes " ") refl (puts_then (puts_token (codes ";") (terminal Semicolon_sign) refl) (adds_gap gap g (part_spelled gap g predicates h)))
+  }) _ _ b
+  part_spelled gap g Anonymous h rest ts b = opens_token (codes "[]") (terminal Brackets) refl _ _ b
+  part_spelled gap g Nil h rest ts b = opens_token (codes "()") (terminal Parentheses) refl _ _ b
+  part_spelled gap g (Bracketed predicates) h rest ts b =
+      opens_token (codes "[") (terminal Left_bracket) refl _ _ (behind_gap (codes " ") _ _ refl
+      (part_spelled inside_gap refl predicates h (words (codes " ]") ∷ rest) (terminal Right_bracket ∷ ts) (behind_token (codes " ") (codes "]") (terminal Right_bracket) refl refl _ _ b)))
+  part_spelled gap g (Collection items) h rest ts b =
+      opens_token (codes "(") (terminal Left_parenthesis) refl _ _ (behind_gap (codes " ") _ _ refl
+      (part_spelled gap g items h (words (codes " )") ∷ rest) (terminal Right_parenthesis ∷ ts) (behind_token (codes " ") (codes ")") (terminal Right_parenthesis) refl refl _ _ b)))
+  part_spelled gap g (Single object) h rest ts b = part_spelled gap g object h rest ts b
+  part_spelled gap g (Comma object objects) h rest ts b =
+      part_spelled gap g object h.0 (words (codes " , ") ∷ pieces gap objects rest) (terminal Comma_sign ∷ tokens objects ts)
+      (behind_token (codes " ") (codes ",") (terminal Comma_sign) refl refl _ _ (behind_gap (codes " ") _ _ refl (part_spelled gap g objects h.1 rest ts b)))
+  part_spelled gap g (Last object) h rest ts b = part_spelled gap g object h rest ts b
+  part_spelled gap g (Item object items) h rest ts b =
+      part_spelled gap g object h.0 (words (codes " ") ∷ pieces gap items rest) (tokens items ts) (behind_gap (codes " ") _ _ refl (part_spelled gap g items h.1 rest ts b))
+  part_spelled gap g (Predicate verb objects further) h rest ts b =
+      opens_token (verb_text verb) (verb_token verb) (verb_spelled verb h.0) _ _ (behind_gap (codes " ") _ _ refl
+      (part_spelled inside_gap refl objects h.1.0 (pieces gap further rest) (tokens further ts) (part_spelled gap g further h.1.1 rest ts b)))
+  part_spelled gap g Done h rest ts b = b
+  part_spelled gap g (Semicolon further) h rest ts b = absurd h
+  part_spelled gap g (Also predicates) h rest ts b =
+      behind_token (codes " ") (codes ";") (terminal Semicolon_sign) refl refl _ _ (behind_gap gap _ _ g (part_spelled gap g predicates h rest ts b))
 
   -- ---- statements
 
   abbrev pub GoodStatement : Statement → Type 0
   GoodStatement s = GoodSubject s.subject × Good s.predicates
 
-  abbrev body : Statement → Chars
-  body s = subject_text s.subject ++ (codes " " ++ (part_text line_gap s.predicates ++ codes " ."))
-
-  body_puts : (s : Statement) → GoodStatement s → Puts (body s) (λ ts. iri_or_label s.subject ∷ tokens s.predicates (terminal Full_stop ∷ ts))
-  body_puts s h =
-      puts_then (puts_token (subject_text s.subject) (iri_or_label s.subject) (subject_spelled s.subject h.0)) (adds_gap (codes " ") refl
-      (puts_then (part_spelled line_gap refl s.predicates h.1) (adds_gap (codes " ") refl (puts_token (codes ".") (terminal Full_stop) refl))))
-
   abbrev statements_text : List Statement → Chars
-  statements_text statements = flat_map statement_text statements
+  statements_text statements = texts (all_pieces statements)
 
   statement_opens : (s : Statement) (more : List Statement) → GoodStatement s → SpellsBehind (line_feed ∷ statements_text more) (statement_tokens more) → Opens (statements_text (s ∷ more)) (statement_tokens (s ∷ more))
   statement_opens s more h behind =
-      subst (λ z. Opens z (statement_tokens (s ∷ more))) (moved (subject_text s.subject) (codes " ") (part_text line_gap s.predicates) (codes " .") (codes "\n") (statements_text more))
-      ((body_puts s h).puts (line_feed ∷ statements_text more) (statement_tokens more) behind)
+      opens_token (subject_text s.subject) (iri_or_label s.subject) (subject_spelled s.subject h.0) _ _ (behind_gap (codes " ") _ _ refl
+      (part_spelled line_gap refl s.predicates h.1 (words (codes " .\n") ∷ all_pieces more) (terminal Full_stop ∷ statement_tokens more)
+      (behind_token (codes " ") (codes ".") (terminal Full_stop) refl refl _ _ behind)))
 
   statements_behind : (statements : List Statement) → ((s : Statement) → Among statements s → GoodStatement s) → SpellsBehind (line_feed ∷ statements_text statements) (statement_tokens statements)
   statements_behind [] good = refl

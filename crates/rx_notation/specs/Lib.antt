@@ -11,5 +11,3 @@ pub mod Writing
 pub mod Nesting
 pub mod NestedLaws
 pub mod NestedRows
-pub mod Pieces
-pub mod Steps

@@ -1,6 +1,6 @@
 -- The document of a list of triples in which blank nodes are written where they are used, as far as their shapes allow
 -- (RDF 1.1 Turtle, 2.7 and 2.8; which nodes are written so is our own choice).
-use Rattle.std.specs.Prelude.{ℕ, zero, suc, Bool, true, false, List, [], ◌∷◌, ◌++◌, map, filter, flat_map, length, bytes_eq, Option, Some, None, if◌then◌else◌}
+use Rattle.std.specs.Prelude.{ℕ, zero, suc, Bool, true, false, List, [], ◌∷◌, map, filter, flat_map, length, bytes_eq, Option, Some, None, if◌then◌else◌}
 use Rattle.rx_terms.specs.Text.{Chars}
 use Rattle.rx_model.specs.Sets.{contains}
 use Rattle.rx_model.specs.Terms.{Kind, Plain, Tagged, Typed, Node, Iri, Blank, Term, Resource, Literal, Triple}
@@ -10,8 +10,8 @@ use Rattle.rx_shapes.specs.declared.shapes.Shape.TheVariants as shape
 use Rattle.rx_notation.specs.Short.{Prefix, Prefixes, prefix_of, local_name}
 use Rattle.rx_notation.specs.Layout.{in_byte_order}
 use Rattle.rx_shapes.specs.Subjects.{subjects, predicates_of, objects_of}
-use Rattle.rx_notation.specs.Syntax.{Reference, Full, Short, Subject, Named, Labelled, Verb, By, Type_of, Suffix, Bare, Language, Datatype, Sort, Object, Objects, Items, Predicates, Part, IriOrLabel, Quoted, Anonymous, Nil, Bracketed, Collection, Single, Comma, Last, Item, Predicate, Done, Semicolon, Also, Statement, Document}
-use Rattle.rx_notation.specs.Writing.{document_text}
+use Rattle.rx_notation.specs.Syntax.{Reference, Full, Short, Subject, Named, Labelled, Verb, By, Type_of, Suffix, Bare, Language, Datatype, Object, Objects, Items, Predicates, Part, IriOrLabel, Quoted, Anonymous, Nil, Bracketed, Collection, Single, Comma, Last, Item, Predicate, Done, Also, Statement, Document}
+use Rattle.rx_notation.specs.Writing.{Piece, words, subject, verb, quoted, all_pieces, document_text}
 
 -- ---- lists of parts, of which each has at least one
 
@@ -149,24 +149,14 @@ names_of_suffix Bare = []
 names_of_suffix (Language tag) = []
 names_of_suffix (Datatype reference) = name_in reference
 
-abbrev pub names_in : {sort : Sort} → Part sort → List Chars
-names_in (IriOrLabel subject) = names_of_subject subject
-names_in (Quoted text suffix) = names_of_suffix suffix
-names_in Anonymous = []
-names_in Nil = []
-names_in (Bracketed predicates) = names_in predicates
-names_in (Collection items) = names_in items
-names_in (Single object) = names_in object
-names_in (Comma object objects) = names_in object ++ names_in objects
-names_in (Last object) = names_in object
-names_in (Item object items) = names_in object ++ names_in items
-names_in (Predicate verb objects further) = names_of_verb verb ++ (names_in objects ++ names_in further)
-names_in Done = []
-names_in (Semicolon further) = names_in further
-names_in (Also predicates) = names_in predicates
+abbrev pub piece_names : Piece → List Chars
+piece_names (words chars) = []
+piece_names (subject s) = names_of_subject s
+piece_names (verb v) = names_of_verb v
+piece_names (quoted text suffix) = names_of_suffix suffix
 
 abbrev pub names_used : List Statement → List Chars
-names_used statements = flat_map (λ (s : Statement). names_of_subject s.subject ++ names_in s.predicates) statements
+names_used statements = flat_map piece_names (all_pieces statements)
 
 -- the prefixes of these names, in byte order of the names
 abbrev pub prefixes_named : Prefixes → List Chars → Prefixes

@@ -1,6 +1,6 @@
 -- How a document of Turtle is written (the choice of the layout is our own): the lines of its prefixes, an empty line, and
--- its statements.
-use Rattle.std.specs.Prelude.{[], ◌++◌, flat_map, codes}
+-- its statements in pieces, which are words that are always the same, and terms.
+use Rattle.std.specs.Prelude.{List, [], ◌∷◌, ◌++◌, flat_map, codes}
 use Rattle.rx_terms.specs.Text.{Chars}
 use Rattle.rx_pieces.specs.Writing.{string_text, iri_text, blank_text}
 use Rattle.rx_notation.specs.Layout.{prefixes_text}
@@ -23,6 +23,18 @@ suffix_text Bare = []
 suffix_text (Language tag) = codes "@" ++ tag
 suffix_text (Datatype reference) = codes "^^" ++ reference_text reference
 
+pub data Piece : Type 0 where
+  words : Chars → Piece
+  subject : Subject → Piece
+  verb : Verb → Piece
+  quoted : Chars → Suffix → Piece
+
+abbrev pub piece_text : Piece → Chars
+piece_text (words chars) = chars
+piece_text (subject s) = subject_text s
+piece_text (verb v) = verb_text v
+piece_text (quoted text suffix) = string_text text ++ suffix_text suffix
+
 -- what stands between the semicolon behind a predicate and the next one: of a subject, and of a node in brackets
 abbrev pub line_gap : Chars
 line_gap = codes "\n    "
@@ -30,25 +42,30 @@ line_gap = codes "\n    "
 abbrev pub inside_gap : Chars
 inside_gap = codes " "
 
--- a part, with this gap between its own predicates; where it has none the gap makes no difference
-abbrev pub part_text : {sort : Sort} → Chars → Part sort → Chars
-part_text gap (IriOrLabel subject) = subject_text subject
-part_text gap (Quoted text suffix) = string_text text ++ suffix_text suffix
-part_text gap Anonymous = codes "[]"
-part_text gap Nil = codes "()"
-part_text gap (Bracketed predicates) = codes "[ " ++ (part_text inside_gap predicates ++ codes " ]")
-part_text gap (Collection items) = codes "( " ++ (part_text gap items ++ codes " )")
-part_text gap (Single object) = part_text gap object
-part_text gap (Comma object objects) = part_text gap object ++ (codes " , " ++ part_text gap objects)
-part_text gap (Last object) = part_text gap object
-part_text gap (Item object items) = part_text gap object ++ (codes " " ++ part_text gap items)
-part_text gap (Predicate verb objects further) = verb_text verb ++ (codes " " ++ (part_text inside_gap objects ++ part_text gap further))
-part_text gap Done = []
-part_text gap (Semicolon further) = codes " ;" ++ part_text gap further
-part_text gap (Also predicates) = codes " ;" ++ (gap ++ part_text gap predicates)
+-- the pieces of a part, and those that follow it, with this gap between its own predicates; where it has none the gap makes
+-- no difference
+abbrev pub pieces : {sort : Sort} → Chars → Part sort → List Piece → List Piece
+pieces gap (IriOrLabel s) rest = subject s ∷ rest
+pieces gap (Quoted text suffix) rest = quoted text suffix ∷ rest
+pieces gap Anonymous rest = words (codes "[]") ∷ rest
+pieces gap Nil rest = words (codes "()") ∷ rest
+pieces gap (Bracketed predicates) rest = words (codes "[ ") ∷ pieces inside_gap predicates (words (codes " ]") ∷ rest)
+pieces gap (Collection items) rest = words (codes "( ") ∷ pieces gap items (words (codes " )") ∷ rest)
+pieces gap (Single object) rest = pieces gap object rest
+pieces gap (Comma object objects) rest = pieces gap object (words (codes " , ") ∷ pieces gap objects rest)
+pieces gap (Last object) rest = pieces gap object rest
+pieces gap (Item object items) rest = pieces gap object (words (codes " ") ∷ pieces gap items rest)
+pieces gap (Predicate v objects further) rest = verb v ∷ words (codes " ") ∷ pieces inside_gap objects (pieces gap further rest)
+pieces gap Done rest = rest
+pieces gap (Semicolon further) rest = words (codes " ;") ∷ pieces gap further rest
+pieces gap (Also predicates) rest = words (codes " ;" ++ gap) ∷ pieces gap predicates rest
 
-abbrev pub statement_text : Statement → Chars
-statement_text s = subject_text s.subject ++ (codes " " ++ (part_text line_gap s.predicates ++ codes " .\n"))
+abbrev pub statement_pieces : Statement → List Piece → List Piece
+statement_pieces s rest = subject s.subject ∷ words (codes " ") ∷ pieces line_gap s.predicates (words (codes " .\n") ∷ rest)
+
+abbrev pub all_pieces : List Statement → List Piece
+all_pieces [] = []
+all_pieces (s ∷ more) = statement_pieces s (all_pieces more)
 
 abbrev pub document_text : Document → Chars
-document_text document = prefixes_text document.prefixes ++ flat_map statement_text document.statements
+document_text document = prefixes_text document.prefixes ++ flat_map piece_text (all_pieces document.statements)

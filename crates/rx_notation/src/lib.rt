@@ -9,10 +9,8 @@ ghost use Rattle.rx_notation.specs.Laws.{LayoutDenotes, RisingContexts};
 ghost use Rattle.rx_notation.specs.Meaning.{DenotesOne, FlatIsNested, NestedDenotesOne};
 ghost use Rattle.rx_notation.specs.NestedLaws.{NestedDenotes};
 ghost use Rattle.rx_notation.specs.NestedRows.{NestedRowsHold};
-ghost use Rattle.rx_notation.specs.Pieces.{PiecesAreText};
 ghost use Rattle.rx_notation.specs.Rows.{RowsHold};
 ghost use Rattle.rx_notation.specs.Spelling.{SpellsOne};
-ghost use Rattle.rx_notation.specs.Steps.{StepsArePieces};
 ghost use Rattle.rx_notation.specs.Texts.{TextsHold};
 
 /// The worked examples of the layout hold.
@@ -69,14 +67,4 @@ pub fn nested_rows_hold()
 /// typed xsd:string is read as the plain one.
 pub fn a_nested_layout_denotes_its_triples()
     ensures { NestedDenotes }
-{}
-
-/// The text of a document's statements, and the prefixes that they use, are those of their pieces.
-pub fn pieces_are_text()
-    ensures { PiecesAreText }
-{}
-
-/// An object, the cells behind an item, and a statement come to what their steps come to.
-pub fn steps_are_pieces()
-    ensures { StepsArePieces }
 {}

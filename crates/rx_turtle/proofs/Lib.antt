@@ -4,7 +4,7 @@ pub mod NestedLemmas
 pub mod PredicateLemmas
 pub mod DueLemmas
 pub mod SaidLemmas
-pub mod StepLemmas
+pub mod TurnLemmas
 pub mod RunLemmas
 pub mod Finding
 pub mod SlotLemmas

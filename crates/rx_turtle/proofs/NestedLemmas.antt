@@ -23,13 +23,11 @@ use Rattle.rx_notation.specs.Laws.{IsContext}
 use Rattle.rx_nquads.specs.Quads.{proper_triple}
 use Rattle.rx_notation.specs.Meaning.{NestedTurtle}
 use Rattle.rx_notation.specs.Syntax.{Type_of, By}
-use Rattle.rx_notation.proofs.Chosen.{Apart, names_apart, exact_prefixes, prefix_fits}
+use Rattle.rx_notation.proofs.Chosen.{Apart, names_apart, one_of, exact_prefixes, prefix_fits}
 use Rattle.rx_notation.proofs.Ordered.{rising}
-use Rattle.rx_notation.specs.Nesting.{reference_to, name_in, names_of_verb, prefixes_named, names_used, statements, nested}
-use Rattle.rx_notation.specs.Writing.{reference_text, verb_text, statement_text}
-use Rattle.rx_notation.specs.Pieces.{piece_text, piece_names}
+use Rattle.rx_notation.specs.Nesting.{reference_to, name_in, names_of_verb, piece_names, prefixes_named, names_used, statements, nested}
+use Rattle.rx_notation.specs.Writing.{reference_text, verb_text, piece_text, all_pieces}
 use Rattle.rx_notation.proofs.Declared.{of_named}
-use Rattle.rx_notation.proofs.Stepping.{pieces_are_text}
 use Rattle.rx_notation.proofs.NestedMeaning.{nested_denotes}
 use Rattle.rx_turtle.specs.declared.source.Source.{Source}
 use Rattle.rx_turtle.specs.declared.tokens.Token.{Token}
@@ -172,13 +170,6 @@ module _ (context : Prefixes) where
     apart : Apart context
     apart = names_apart context (rising.once context rise)
 
-    one_of : (ps : Prefixes) → Apart ps → (p q : Prefix) → Among ps p → Among ps q → q.0 ≡ p.0 → q ≡ p
-    one_of [] a p q m n e = absurd m
-    one_of (x ∷ ps) a p q (inl i) (inl j) e = sym j ∙ i
-    one_of (x ∷ ps) a p q (inl i) (inr n) e = absurd (a.0 q n (ap (λ (z : Prefix). z.0) i ∙ sym e))
-    one_of (x ∷ ps) a p q (inr m) (inl j) e = absurd (a.0 p m (ap (λ (z : Prefix). z.0) j ∙ e))
-    one_of (x ∷ ps) a p q (inr m) (inr n) e = one_of ps a.1 p q m n e
-
     used_named : (iris : List Chars) (p : Prefix) → Among context p → contains same_prefix (filter_map (prefix_of context) iris) p ≡ contains bytes_eq (names_by iris) p.0
     used_named iris p m =
         let some : Prefixes = filter_map (prefix_of context) iris in
@@ -240,10 +231,10 @@ module _ (context : Prefixes) (source : Source) (tokens : List Token) (are : Are
   those = tokens_seen tokens
 
   names_there : names_used (statements context (list_of source) (shapes_of source)) ≡ names_by context (iris_of_tokens tokens)
-  names_there = sym (pieces_are_text.names (statements context (list_of source) (shapes_of source))) ∙ ap (flat_map piece_names) (sym (are.each context)) ∙ names_are context those
+  names_there = ap (flat_map piece_names) (sym (are.each context)) ∙ names_are context those
 
-  text_there : shown_texts context those ≡ flat_map statement_text (statements context (list_of source) (shapes_of source))
-  text_there = texts_are context those ∙ ap (flat_map piece_text) (are.each context) ∙ pieces_are_text.text (statements context (list_of source) (shapes_of source))
+  text_there : shown_texts context those ≡ flat_map piece_text (all_pieces (statements context (list_of source) (shapes_of source)))
+  text_there = texts_are context those ∙ ap (flat_map piece_text) (are.each context)
 
   named_is : prefixes_text (prefixes_named context (names_by context (iris_of_tokens tokens))) ++ shown_texts context those ≡ nested context (list_of source) (shapes_of source)
   named_is = ap₂ (λ (n : List Chars) (z : Chars). prefixes_text (prefixes_named context n) ++ z) (sym names_there) text_there

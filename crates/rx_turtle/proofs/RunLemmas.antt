@@ -13,14 +13,14 @@ use Rattle.rx_shapes.specs.Subjects.{subjects, predicates_of}
 use Rattle.rx_shapes.proofs.Grouped.{subject_says}
 use Rattle.rx_shapes.specs.Shapes.{HaveShapes}
 use Rattle.rx_notation.specs.Nesting.{is_top, statement_of}
-use Rattle.rx_notation.specs.Pieces.{Piece, statement_pieces, all_pieces}
+use Rattle.rx_notation.specs.Writing.{Piece, statement_pieces, all_pieces}
 use Rattle.rx_turtle.specs.declared.keys.By.TheVariants as by
 use Rattle.rx_turtle.specs.declared.source.Source.{Source}
 use Rattle.rx_turtle.specs.declared.tokens.Token.{Token}
 use Rattle.rx_turtle.specs.Groups.{Keyed, has_key, keys_by, grouped}
 use Rattle.rx_turtle.specs.Tokens.{Shown, token_seen, tokens_seen, piece_of, pieces_of}
 use Rattle.rx_turtle.specs.Due.{Due, Say, statement_due, opened, AreCells, due_pieces, one_said, all_said, list_of, shapes_of, IsSource, Comes, Says, AreTokens, IsSubject}
-use Rattle.rx_turtle.proofs.StepLemmas.{cells_turn, comes_turn, statement_cells, statement_comes}
+use Rattle.rx_turtle.proofs.TurnLemmas.{cells_turn, comes_turn, statement_cells, statement_comes}
 
 pub have_shapes : (source : Source) → IsSource source → HaveShapes (list_of source) (shapes_of source)
 have_shapes source is number = is.shape number

@@ -1,5 +1,5 @@
 -- What is due: the tokens that are still to come, of which some are known and others come of an object or of a cell.
-use Rattle.std.specs.Prelude.{◌≡◌, ℕ, zero, suc, List, [], ◌∷◌, ◌++◌, map, bytes_eq, Option, Some, None, Bool, true, false, if◌then◌else◌}
+use Rattle.std.specs.Prelude.{◌≡◌, ℕ, zero, suc, List, [], ◌∷◌, ◌++◌, map, length, bytes_eq, Option, Some, None, Bool, true, false, if◌then◌else◌}
 use Rattle.rx_terms.specs.Text.{Chars}
 use Rattle.rx_model.specs.Sets.{Among}
 use Rattle.rx_model.specs.Seen.{term_seen, triples_seen}
@@ -11,10 +11,9 @@ use Rattle.rx_shapes.specs.declared.shapes.Shape.{Shape}
 use Rattle.rx_shapes.specs.declared.shapes.Shape.TheVariants as shape
 use Rattle.rx_shapes.specs.Subjects.{about, object_at}
 use Rattle.rx_notation.specs.Short.{Prefixes}
-use Rattle.rx_notation.specs.Nesting.{is_top, statement_of, statements}
-use Rattle.rx_notation.specs.Pieces.{Piece, statement_pieces, all_pieces}
-use Rattle.rx_notation.specs.Steps.{Step, steps_pieces}
-use Rattle.rx_notation.specs.Steps as step
+use Rattle.rx_notation.specs.Nesting.{written, is_top, statement_of, statements}
+use Rattle.rx_notation.specs.Nesting as nesting
+use Rattle.rx_notation.specs.Writing.{Piece, inside_gap, pieces, statement_pieces, all_pieces}
 use Rattle.rx_turtle.specs.declared.stack.Task.{Task}
 use Rattle.rx_turtle.specs.declared.stack.Task.TheVariants as task
 use Rattle.rx_turtle.specs.declared.source.Source.{Source}
@@ -158,24 +157,24 @@ module _ (list : List (Triple ℕ)) where
 
 -- ---- the pieces that are due
 
-module _ (context : Prefixes) where
-  abbrev pub step_of : Due → Step
-  step_of (Say token) = step.say (piece_of context token)
-  step_of (Object o) = step.object o
-  step_of (After number) = step.after number
+module _ (context : Prefixes) (list : List (Triple ℕ)) (shapes : ℕ → Shape) where
+  abbrev pub one_due : Due → List Piece → List Piece
+  one_due (Say token) rest = piece_of context token ∷ rest
+  one_due (Object o) rest = pieces inside_gap (nesting.object_at context list shapes o) rest
+  one_due (After number) rest = piece_of context (Fixed fixed.Space) ∷ pieces inside_gap (written context list shapes (length list) number).1 rest
 
-  module _ (list : List (Triple ℕ)) (shapes : ℕ → Shape) where
-    abbrev pub due_pieces : List Due → List Piece → List Piece
-    due_pieces due rest = steps_pieces context list shapes (map step_of due) rest
+  abbrev pub due_pieces : List Due → List Piece → List Piece
+  due_pieces [] rest = rest
+  due_pieces (d ∷ more) rest = one_due d (due_pieces more rest)
 
-    abbrev pub one_said : Bool → Node ℕ → List Piece → List Piece
-    one_said true node rest = statement_pieces (statement_of context list shapes node) rest
-    one_said false node rest = rest
+  abbrev pub one_said : Bool → Node ℕ → List Piece → List Piece
+  one_said true node rest = statement_pieces (statement_of context list shapes node) rest
+  one_said false node rest = rest
 
-    -- the statements of those subjects that have one
-    abbrev pub all_said : List Keyed → List Piece → List Piece
-    all_said [] rest = rest
-    all_said (group ∷ more) rest = one_said (is_top shapes group.0) group.0 (all_said more rest)
+  -- the statements of those subjects that have one
+  abbrev pub all_said : List Keyed → List Piece → List Piece
+  all_said [] rest = rest
+  all_said (group ∷ more) rest = one_said (is_top shapes group.0) group.0 (all_said more rest)
 
 -- ---- the graph that is written
 

@@ -8,10 +8,9 @@ use Rattle.rx_pieces.specs.Writable.{WritableText, WritableNode, WritableKind}
 use Rattle.rx_notation.specs.Short.{Prefixes}
 use Rattle.rx_notation.specs.Layout.{resource_text, object_text, iris_of_node, iris_of_kind}
 use Rattle.rx_notation.specs.Syntax.{Labelled}
-use Rattle.rx_notation.specs.Pieces.{Piece}
-use Rattle.rx_notation.specs.Pieces as piece
 use Rattle.rx_notation.specs.Nesting.{subject_of, verb_of, suffix_of}
-use Rattle.rx_notation.specs.Writing.{inside_gap, line_gap}
+use Rattle.rx_notation.specs.Writing.{Piece, inside_gap, line_gap}
+use Rattle.rx_notation.specs.Writing as piece
 use Rattle.rx_turtle.specs.declared.tokens.Words.{Words}
 use Rattle.rx_turtle.specs.declared.tokens.Words.TheVariants as fixed
 use Rattle.rx_turtle.specs.declared.tokens.Token.{Token}
