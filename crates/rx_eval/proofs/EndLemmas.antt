@@ -30,7 +30,7 @@ use Rattle.rx_eval.specs.Numbering.{Numbering, Name, Number, named, Grown}
 use Rattle.rx_eval.specs.Slots.{Slots, owner_place, slot_waits, waits, Fills, FillUp, Within}
 use Rattle.rx_eval.specs.Standing.{Layer, frames_in, paths_in, begun_by, own_in, under_in, open_in, places_of, waiter_of, said_of, KeptAt, LayerStands, LayersStand, Coming, Pending, owner_depth, WaitsFor, AllWaitFor, RunsBy, Runs, IsOver, page_context, Phase, EvaluatorStands, StandsOn}
 use Rattle.rx_eval.proofs.NameLemmas.{grown_then, node_later}
-use Rattle.rx_eval.proofs.FillLemmas.{within_more, or_false, fill_quiet, of_filled, snoc_last, snoc_front}
+use Rattle.rx_eval.proofs.FillLemmas.{within_more, or_false, fill_quiet, of_filled, snoc_parts}
 use Rattle.rx_eval.proofs.CellLemmas.{IsFull, AllFull}
 use Rattle.rx_eval.proofs.ComingLemmas.{coming_not}
 use Rattle.rx_eval.proofs.LayerLemmas.{some_as, place_none, begun_none, deeper_none, all_within, frames_length, layers_later}
@@ -306,10 +306,10 @@ module _ (to : Numbering) (m : Machine Bnode Owner) (state : State) (l : Layer) 
 
   module _ (new : State) (c : Closes state new) where
     frames_are : new.frames ≡ frames_in lower
-    frames_are = snoc_front new.frames (frames_in lower) c.frame l.frame (sym c.popped ∙ r.frames)
+    frames_are = (snoc_parts new.frames (frames_in lower) c.frame l.frame (sym c.popped ∙ r.frames)).0
 
     frame_is : c.frame ≡ l.frame
-    frame_is = snoc_last new.frames (frames_in lower) c.frame l.frame (sym c.popped ∙ r.frames)
+    frame_is = (snoc_parts new.frames (frames_in lower) c.frame l.frame (sym c.popped ∙ r.frames)).1
 
     text_at : (t : Option Text) → IfSome t (λ t. KeptAt state.kept t.mark l.text) → (front : Chars) × TextAt t state.kept front l.text
     text_at None k = ([], tt)
@@ -322,35 +322,17 @@ module _ (to : Numbering) (m : Machine Bnode Owner) (state : State) (l : Layer) 
         ∙ ap₂ (λ (n : List Frame) (f : Frame). end_owner (if length n == 0 then Some state.page.owner else None) (end_frame f l.text at_start)) frames_are frame_is
 
     abbrev state_with : Ending → State
-    state_with e = record {
-      base = state.base;
-      levels = new.levels;
-      page = new.page;
-      frames = frames_in lower;
-      labels = state.labels;
-      drawn = state.drawn;
-      cells = e.cells;
-      owners = e.owners;
-      kept = new.kept;
-      out = e.out;
-      ended = new.ended;
-      out_of_memory = new.out_of_memory;
-    }
+    state_with e = record new { base = state.base; frames = frames_in lower; labels = state.labels; drawn = state.drawn; cells = e.cells; owners = e.owners; out = e.out }
 
     state_is : (e : Ending) → ending new.out new.owners new.cells ≡ e → state_with e ≡ new
-    state_is e q = λ i. record {
+    state_is e q = λ i. record new {
       base = sym c.rest.0 i;
-      levels = new.levels;
-      page = new.page;
       frames = sym frames_are i;
       labels = sym c.rest.3 i;
       drawn = sym c.rest.4 i;
       cells = sym (ap (λ (x : Ending). x.cells) q) i;
       owners = sym (ap (λ (x : Ending). x.owners) q) i;
-      kept = new.kept;
       out = sym (ap (λ (x : Ending). x.out) q) i;
-      ended = new.ended;
-      out_of_memory = new.out_of_memory;
     }
 
     kept_is : new.kept ≡ (if gathers_some (frames_in lower) then state.kept else [])

@@ -1,5 +1,5 @@
 -- The entries of an element that is opened: which of them are empty, and how they are filled at its end.
-use Rattle.std.proofs.Common.{◌≡◌, ◌∙◌, ℕ, suc, ◌<◌, ◌≤◌, ◌⊎◌, inl, inr, Bool, true, false, ◌||◌, List, [], ◌∷◌, ◌++◌, map, filter_map, length, Option, Some, None, option_map, bytes_eq, refl, sym, ap, ap₂, subst, arith, append_assoc}
+use Rattle.std.proofs.Common.{◌≡◌, ◌∙◌, ℕ, ◌<◌, ◌≤◌, ◌⊎◌, inl, inr, Bool, true, false, ◌||◌, List, [], ◌∷◌, ◌++◌, map, filter_map, length, Option, Some, None, option_map, bytes_eq, refl, sym, ap, ap₂, subst, arith, append_assoc}
 use Rattle.std.specs.Prelude.{if◌then◌else◌}
 use Rattle.std.proofs.lemmas.List.{map-append}
 use Rattle.rx_terms.specs.Text.{Chars}
@@ -18,10 +18,12 @@ use Rattle.rx_rdfa.proofs.Exact.{exact_owners}
 use Rattle.rx_terms.proofs.Bools.{by_test}
 use Rattle.rx_eval.specs.OwnersSeen.{Owning, put_at, put_entries, places_for, fill_all}
 use Rattle.rx_eval.specs.Numbering.{Name, Number}
-use Rattle.rx_eval.specs.Slots.{Slots, Open, owner_place, item_of, slot_waits, waits, HasPlace, HasPlaces, WithinPlaces}
+use Rattle.rx_eval.specs.Slots.{Slots, Open, owner_place, item_of, slot_waits, waits, HasPlaces, WithinPlaces}
 use Rattle.rx_eval.specs.Standing.{owner_depth, WaitsFor, AllWaitFor}
-use Rattle.rx_eval.proofs.PlaceLemmas.{still_at, has_at, reserved_are_filled}
-use Rattle.rx_eval.proofs.ListLemmas.{number_is, Puts, Match, by_number, by_name}
+use Rattle.rx_eval.proofs.PlaceLemmas.{has_at, reserved_are_filled}
+use Rattle.rx_eval.proofs.FillLemmas.{place_put}
+use Rattle.rx_eval.proofs.SeenLemmas.{entries_then}
+use Rattle.rx_eval.proofs.ListLemmas.{suc_is, number_is, Puts, Match, by_number, by_name}
 
 -- ---- what holds of each item
 
@@ -128,11 +130,8 @@ match_quiet own r (x ∷ xs) (y ∷ ys) m h =
 pub place_bound : (xs : Open) (o : Owner) (n : ℕ) → owner_place xs o ≡ Some n → n < length xs
 place_bound [] o n h = absurd (cc)
 place_bound (x ∷ xs) o n h =
-    by_test (same_owner x.0 o) (λ t. let e : Some 0 ≡ Some n = rw t at h in let q : 0 ≡ n = cc e in omega (arith, q)) (λ f. go (owner_place xs o) refl (rw f at h) (place_bound xs o))
-  where
-    go : (p : Option ℕ) → owner_place xs o ≡ p → option_map suc p ≡ Some n → ((k : ℕ) → owner_place xs o ≡ Some k → k < length xs) → n < suc (length xs)
-    go None e k more = absurd (cc)
-    go (Some i) e k more = let q : suc i ≡ n = cc k in let b = more i e in omega (arith, q, b)
+    by_test (same_owner x.0 o) (λ t. let e : Some 0 ≡ Some n = rw t at h in let q : 0 ≡ n = cc e in omega (arith, q))
+    (λ f. let m = suc_is (owner_place xs o) n (rw f at h) in let b = place_bound xs o m.0 m.1 in let q = m.2 in omega (arith, q, b))
 
 pub match_bound : (open_owners : Open) (xs : Puts) (ys : Slots) → Match (owner_place open_owners) xs ys → (x : Entry ℕ (Option (Term ℕ))) → Among xs x → x.owner < length open_owners
 match_bound open_owners [] ys m x a = absurd a
@@ -227,18 +226,10 @@ match_valued own path u (x ∷ xs) (y ∷ ys) m h =
 
 -- ---- places that are reserved
 
-entries_then : (xs ys : Puts) (owners : List (Option Owning)) → put_entries (xs ++ ys) owners ≡ put_entries ys (put_entries xs owners)
-entries_then [] ys owners = refl
-entries_then (e ∷ xs) ys owners = entries_then xs ys (put_at e.owner e.predicate e.item owners)
-
-still_all : (xs : Puts) (n l i : ℕ) (os : List (Option Owning)) → HasPlace n l i os → HasPlace n l i (put_entries xs os)
-still_all [] n l i os h = h
-still_all (x ∷ xs) n l i os h = still_all xs n l i _ (still_at x.owner x.predicate x.item n l i os h)
-
 has_places : (o : ℕ) (ps : List Chars) (back : Puts) (os : List (Option Owning)) → HasPlaces (places_for o ps os) (put_entries (map (entry o (Some None)) ps ++ back) os)
 has_places o [] back os = tt
 has_places o (p ∷ ps) back os =
-    (still_all (map (entry o (Some None)) ps ++ back) o _ _ (put_at o p (Some None) os) (has_at o p None os), has_places o ps back (put_at o p (Some None) os))
+    (place_put (map (entry o (Some None)) ps ++ back) o _ _ (put_at o p (Some None) os) (has_at o p None os), has_places o ps back (put_at o p (Some None) os))
 
 module _ (o : ℕ) (ps : List Chars) (front back : Puts) (owners : List (Option Owning)) where
   abbrev reserved_all : Puts

@@ -15,12 +15,11 @@ use Rattle.rx_terms.proofs.Bools.{by_test}
 use Rattle.rx_eval.specs.OwnersSeen.{Owning, owning, put_at, put_entries}
 use Rattle.rx_eval.specs.Numbering.{Name, Number, name_by, named}
 use Rattle.rx_eval.specs.Slots.{Slots, Open, owner_place, item_of, table_in, owners_of, Apart}
+use Rattle.rx_lists.proofs.RowLemmas.{turned}
 use Rattle.rx_eval.proofs.ElementLemmas.{slot_value}
 
 pub owner_turned : (a b : Owner) → same_owner a b ≡ same_owner b a
-owner_turned a b =
-    by_test (same_owner a b) (λ t. t ∙ sym ((exact_owners b a).1 (sym ((exact_owners a b).0 t))))
-    (λ f. by_test (same_owner b a) (λ t. absurd (cc (f, (exact_owners a b).1 (sym ((exact_owners b a).0 t))))) (λ g. f ∙ sym g))
+owner_turned = turned same_owner same_owner exact_owners exact_owners
 
 -- ---- one more slot
 
@@ -41,11 +40,11 @@ out_table : (slots : Slots) (y : Entry Owner (Slot ℕ)) (o : Owner) → same_ow
 out_table slots y o t =
     ap (λ (l : Slots). table_from [] (map (map_entry item_of) l)) (of_more slots y o ∙ ap (λ (b : Bool). of_owner same_owner o slots ++ (if b then y ∷ [] else [])) t ∙ append-nil (of_owner same_owner o slots))
 
-no_suc : (o : Option ℕ) → option_map suc o ≡ None → o ≡ None
+pub no_suc : (o : Option ℕ) → option_map suc o ≡ None → o ≡ None
 no_suc None h = refl
 no_suc (Some n) h = absurd (cc)
 
-suc_is : (o : Option ℕ) (n : ℕ) → option_map suc o ≡ Some n → (m : ℕ) × (o ≡ Some m) × (n ≡ suc m)
+pub suc_is : (o : Option ℕ) (n : ℕ) → option_map suc o ≡ Some n → (m : ℕ) × (o ≡ Some m) × (n ≡ suc m)
 suc_is None n h = absurd (cc)
 suc_is (Some m) n h = (m, refl, let e : suc m ≡ n = cc in sym e)
 

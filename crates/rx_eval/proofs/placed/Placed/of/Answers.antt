@@ -1,13 +1,9 @@
-use Rattle.std.proofs.Common.{◌∙◌, ◌-◌, ap, ap₂, ℕ}
-use Rattle.rx_terms.specs.Text.{Chars}
-use Rattle.rx_model.specs.Seen.{node_seen}
-use Rattle.rx_rdfa.specs.Resources.{Inherited, resources}
+use Rattle.std.proofs.Common.{◌∙◌}
+use Rattle.rx_rdfa.specs.Resources.{resources}
 use Rattle.rx_curie.specs.Seen.{facts_seen}
-use Rattle.rx_eval.specs.declared.places.Level.{Level}
 use Rattle.rx_eval.specs.Moment.{moment}
-use Rattle.rx_eval.specs.Places.{level_at, standing_by}
-use Rattle.rx_eval.specs.Placing.{plain_context}
-use Rattle.rx_eval.proofs.PlacedLemmas.{fresh_room}
+use Rattle.rx_eval.specs.Places.{standing_by}
+use Rattle.rx_eval.proofs.OpenLemmas.{fresh_room}
 use Rattle.rx_eval.proofs.DrawLemmas.{all_of_them, on_err}
 use Rattle.rx_eval.proofs.placed.Placed.of.Goals as goal
 
@@ -20,10 +16,7 @@ returns-clause-ok c = record {
   drawing = c.in_ok-fresh.ensures.ok.path;
   found =
       c.in_ok-found.ensures
-      ∙ ap₂ (λ (l : Level) (a : Inherited ℕ ℕ). resources (moment c.draw_labels.new.labels c.in_ok-fresh.fresh 0 0) c.of-against.result (standing_by l a (facts_seen c.args.facts.now)))
-      c.level_at.ensures c.in_ok-context.ensures
-      ∙ ap (λ (base : Chars). resources (moment c.draw_labels.new.labels c.in_ok-fresh.fresh 0 0) base (standing_by (level_at (c.args.level - 1)) (plain_context (node_seen c.args.subject.now) (node_seen c.args.object.now)) (facts_seen c.args.facts.now)))
-      (c.of-against.ensures ∙ c.in_ok-copy.ensures);
+      ∙ (λ i. resources (moment c.draw_labels.new.labels c.in_ok-fresh.fresh 0 0) ((c.of-against.ensures ∙ c.in_ok-copy.ensures) i) (standing_by (c.level_at.ensures i) (c.in_ok-context.ensures i) (facts_seen c.args.facts.now)));
   counted = c.number_after-next_blank.ensures;
 }
 
