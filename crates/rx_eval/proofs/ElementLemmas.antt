@@ -144,10 +144,9 @@ module _ (facts : Facts) (base : Chars) (depth : ℕ) (path : Path) (to : Number
     abbrev here : Resources N
     here = rename_resources Number here_by
 
-    at_level : (d : ℕ) (r : Path) → length r ≡ suc d
-        → resources Q base (record { facts = facts; path = r; around = rename_inherited Number Number seen }) ≡ resources Q base (record { facts = facts; path = path_at (level_at d); around = rename_inherited Number Number seen })
+    at_level : resources Q base at ≡ resources Q base there
     unfolding resources
-    at_level d r e = let l = level_is d r e in rw (l.0, l.1) refl
+    at_level = let l = level_is depth path meets.deep in rw (l.0, l.1) (refl {a = resources Q base there})
 
     here_now : rename_resources Number here_by ≡ resources Q base there
     unfolding resources
@@ -163,7 +162,7 @@ module _ (facts : Facts) (base : Chars) (depth : ℕ) (path : Path) (to : Number
     here_named : resources P base at ≡ here
     here_named =
         resources_other Q base at (f (Made path)) (g (Of path)) (g (Below path)) (λ h. ap Blank (new_name (or_left _ _ h)))
-        ∙ at_level depth path meets.deep ∙ sym here_now
+        ∙ at_level ∙ sym here_now
 
     here_model : rename_resources f (resources model base by_names) ≡ here
     here_model = resources_rename f g model P base by_names agree_names ∙ moves (resources P base) ∙ here_named

@@ -8,12 +8,9 @@ use Rattle.rx_eval.specs.ElementResources.{found_seen}
 use Rattle.rx_eval.specs.Places.{standing}
 use Rattle.rx_eval.specs.OwnersSeen.{owners_seen}
 use Rattle.rx_eval.specs.States.{owner_seen}
-use Rattle.rx_eval.proofs.GatherLemmas.{gathers_found, own_found, below_found, no_own, no_below, no_text}
+use Rattle.rx_eval.proofs.GatherLemmas.{gathers_found, own_found, below_found, no_own, no_below}
 use Rattle.rx_eval.proofs.EnterLemmas.{below_is_handed, below_skipped, lists_skipped, lists_entered, gathers_entered, gathers_skipped, gathers_is, on_always}
 use Rattle.rx_eval.proofs.elements.enter.Goals as goal
-
-pub returns-then-started-clause-start : goal.returns-then-started-clause-start
-returns-then-started-clause-start c = on_always c.skipped.result c.in_ok-started.ensures.triples
 
 pub returns-then-started-clause-context : goal.returns-then-started-clause-context
 returns-then-started-clause-context c =
@@ -35,9 +32,6 @@ returns-then-started-clause-gathers c =
     (found_seen c.in_ok-started.started.found) c.in_ok-started.ensures.found c.if-started.true in
     IfOk-weaker c.skipped.result _ _ (λ frame e. ap is_some e.2 ∙ skips) c.skipped.ensures.nothing
 
-pub returns-clause-start : goal.returns-clause-start
-returns-clause-start c = on_always c.enter_found.result c.in_ok-started.ensures.triples
-
 pub returns-clause-context : goal.returns-clause-context
 returns-clause-context c =
     let below = below_is_handed c.args.place.now.labels.now c.args.place.now.fresh c.args.place.now.base.now (standing c.args.place.now (facts_seen c.args.facts.now))
@@ -58,9 +52,6 @@ returns-clause-gathers c =
     let gathers = gathers_entered c.args.place.now.labels.now c.args.place.now.fresh c.args.place.now.base.now (standing c.args.place.now (facts_seen c.args.facts.now))
     (found_seen c.in_ok-started.started.found) c.in_ok-started.ensures.found (option_map term_seen c.in_ok-started.started.value) c.if-started.false c.in_ok-started.ensures.value in
     IfOk-weaker c.enter_found.result _ _ (λ frame e. e ∙ gathers_is c.in_ok-started.started.value (facts_seen c.args.facts.now) ∙ gathers) c.enter_found.ensures.gathers
-
-pub returns-then-started-clause-text : goal.returns-then-started-clause-text
-returns-then-started-clause-text c = IfOk-weaker c.skipped.result _ _ (λ frame e. no_text _ frame.gathered e.2) c.skipped.ensures.nothing
 
 pub returns-then-started-clause-own : goal.returns-then-started-clause-own
 returns-then-started-clause-own c =
