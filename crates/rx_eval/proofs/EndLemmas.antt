@@ -30,7 +30,7 @@ use Rattle.rx_eval.specs.Numbering.{Numbering, Name, Number, named, Grown}
 use Rattle.rx_eval.specs.Slots.{Slots, owner_place, slot_waits, waits, Fills, FillUp, Within}
 use Rattle.rx_eval.specs.Standing.{Layer, frames_in, paths_in, begun_by, own_in, under_in, open_in, places_of, waiter_of, said_of, KeptAt, LayerStands, LayersStand, Coming, Pending, owner_depth, WaitsFor, AllWaitFor, RunsBy, Runs, IsOver, page_context, Phase, EvaluatorStands, StandsOn}
 use Rattle.rx_eval.proofs.NameLemmas.{grown_then, node_later}
-use Rattle.rx_eval.proofs.FillLemmas.{within_more, or_false, fill_quiet, of_filled, snoc_parts}
+use Rattle.rx_eval.proofs.FillLemmas.{within_more, or_false, fill_quiet, of_filled, snoc_last, snoc_front}
 use Rattle.rx_eval.proofs.CellLemmas.{IsFull, AllFull}
 use Rattle.rx_eval.proofs.ComingLemmas.{coming_not}
 use Rattle.rx_eval.proofs.LayerLemmas.{some_as, place_none, begun_none, deeper_none, all_within, frames_length, layers_later}
@@ -306,10 +306,10 @@ module _ (to : Numbering) (m : Machine Bnode Owner) (state : State) (l : Layer) 
 
   module _ (new : State) (c : Closes state new) where
     frames_are : new.frames ≡ frames_in lower
-    frames_are = (snoc_parts new.frames (frames_in lower) c.frame l.frame (sym c.popped ∙ r.frames)).0
+    frames_are = snoc_front new.frames (frames_in lower) c.frame l.frame (sym c.popped ∙ r.frames)
 
     frame_is : c.frame ≡ l.frame
-    frame_is = (snoc_parts new.frames (frames_in lower) c.frame l.frame (sym c.popped ∙ r.frames)).1
+    frame_is = snoc_last new.frames (frames_in lower) c.frame l.frame (sym c.popped ∙ r.frames)
 
     text_at : (t : Option Text) → IfSome t (λ t. KeptAt state.kept t.mark l.text) → (front : Chars) × TextAt t state.kept front l.text
     text_at None k = ([], tt)

@@ -166,7 +166,7 @@ places_both (s ∷ slots) os x b =
     let more = places_both slots os x b.1 in
     (λ h. (one.0 h.0, more.0 h.1), λ h. (one.1 h.0, more.1 h.1))
 
-pub snoc_parts : {A : Type 0} (xs ys : List A) (x y : A) → xs ++ x ∷ [] ≡ ys ++ y ∷ [] → (xs ≡ ys) × (x ≡ y)
+snoc_parts : {A : Type 0} (xs ys : List A) (x y : A) → xs ++ x ∷ [] ≡ ys ++ y ∷ [] → (xs ≡ ys) × (x ≡ y)
 snoc_parts [] [] x y e = (refl, cc)
 snoc_parts [] (z ∷ ys) x y e = let n = ap length e in absurd (omega (arith, n, length-append ys (y ∷ [])))
 snoc_parts (z ∷ xs) [] x y e = let n = ap length e in absurd (omega (arith, n, length-append xs (x ∷ [])))
@@ -175,6 +175,12 @@ snoc_parts (z ∷ xs) (w ∷ ys) x y e =
     let t : xs ++ x ∷ [] ≡ ys ++ y ∷ [] = cc in
     let more = snoc_parts xs ys x y t in
     (ap₂ ◌∷◌ h more.0, more.1)
+
+pub snoc_front : {A : Type 0} (xs ys : List A) (x y : A) → xs ++ x ∷ [] ≡ ys ++ y ∷ [] → xs ≡ ys
+snoc_front xs ys x y e = (snoc_parts xs ys x y e).0
+
+pub snoc_last : {A : Type 0} (xs ys : List A) (x y : A) → xs ++ x ∷ [] ≡ ys ++ y ∷ [] → x ≡ y
+snoc_last xs ys x y e = (snoc_parts xs ys x y e).1
 
 module _ (open_owners : Open) (o : Owner) (s : Node ℕ) where
   begin_owners : (owners : Many) (slots : Slots) → of_owner same_owner o slots ≡ [] → owners ≡ owners_of slots open_owners → owners ++ Some (owning s []) ∷ [] ≡ owners_of slots (open_owners ++ (o, s) ∷ [])
@@ -198,7 +204,7 @@ module _ (open_owners : Open) (o : Owner) (s : Node ℕ) where
       )
 
   end_owners : (owners : Many) (slots : Slots) (x : Option Owning) → owners ++ x ∷ [] ≡ owners_of slots (open_owners ++ (o, s) ∷ []) → owners ≡ owners_of slots open_owners
-  end_owners owners slots x h = (snoc_parts owners (owners_of slots open_owners) x _ (h ∙ owners_more slots open_owners o s)).0
+  end_owners owners slots x h = snoc_front owners (owners_of slots open_owners) x _ (h ∙ owners_more slots open_owners o s)
 
   pub end_fill_up : (waiters : List Waiter) (owners : Many) (slots : Slots) (x : Option Owning) → Within (length owners) waiters → FillUp (open_owners ++ (o, s) ∷ []) waiters (owners ++ x ∷ []) slots
       → FillUp open_owners waiters owners slots

@@ -1,7 +1,8 @@
 -- What is put into the code's lists, as the rules see it.
-use Rattle.std.proofs.Common.{◌≡◌, ◌∙◌, ℕ, Bool, zero, suc, List, [], ◌∷◌, ◌++◌, map, filter_map, Option, Some, None, option_map, option_to_list, slice_set, bytes_eq, refl, sym, ap, ap₂, length, drop, ◌≤◌, slice_index_or}
+use Rattle.std.proofs.Common.{◌≡◌, ◌∙◌, ℕ, Bool, zero, suc, List, [], ◌∷◌, ◌++◌, map, filter_map, Option, Some, None, option_map, option_to_list, slice_set, bytes_eq, refl, sym, ap, ap₂, length, drop, ◌≤◌, slice_index_or, Result, OnOk}
 use Rattle.std.specs.Prelude.{if◌then◌else◌}
 use Rattle.std.proofs.lemmas.List.{map-append, map-set, length-map}
+use Rattle.std.proofs.lemmas.Result.{on_ok_weaker}
 use Rattle.rx_terms.specs.Text.{Chars}
 use Rattle.rx_terms.specs.declared.triples.Node.{Node as CodeNode}
 use Rattle.rx_terms.specs.declared.triples.Node.TheVariants as code_node
@@ -77,6 +78,10 @@ entries_then (e ∷ xs) ys owners = entries_then xs ys (put_at e.owner e.predica
 
 pub two_put : (xs ys : Entries) (a b c : List (Option Owning)) → b ≡ put_entries xs a → c ≡ put_entries ys b → c ≡ put_entries (xs ++ ys) a
 two_put xs ys a b c e f = f ∙ ap (put_entries ys) e ∙ sym (entries_then xs ys a)
+
+-- std's, by the name that rx_walk asks for
+pub if_ok : {A E P Q : Type 0} (r : Result A E) → (P → Q) → OnOk r P → OnOk r Q
+if_ok = on_ok_weaker
 
 pub seen_each : (old new : Owners) (n : ℕ) (item : Option (Option CodeTerm)) (ps : List Chars) (entries : Entries) → map (entry n (item_seen item)) ps ≡ entries
     → new ≡ put_each n item ps old → owners_seen new ≡ put_entries entries (owners_seen old)
