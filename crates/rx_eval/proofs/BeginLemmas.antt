@@ -1,5 +1,5 @@
 -- The start of an element.
-use Rattle.std.proofs.Common.{◌≡◌, ◌∙◌, ℕ, suc, ◌+◌, ◌<◌, ◌≤◌, ◌^◌, ◌⊎◌, inl, inr, Bool, true, false, not, ◌&&◌, ◌||◌, List, [], ◌∷◌, ◌++◌, map, filter_map, length, Option, Some, None, option_map, is_none, unwrap_or, bytes_eq, nat_eq, refl, sym, ap, ap₂, subst, subst₂, arith, append-nil, length-append}
+use Rattle.std.proofs.Common.{◌≡◌, ◌∙◌, ℕ, suc, ◌+◌, ◌≤◌, ◌^◌, ◌⊎◌, inl, inr, Bool, true, false, not, ◌&&◌, ◌||◌, List, [], ◌∷◌, ◌++◌, map, filter_map, length, Option, Some, None, option_map, is_none, unwrap_or, bytes_eq, nat_eq, refl, sym, ap, ap₂, subst, subst₂, arith, append-nil, length-append}
 use Rattle.std.specs.Prelude.{IfSome, is_some, encode_utf8_all, if◌then◌else◌}
 use Rattle.std.proofs.lemmas.List.{map-append}
 use Rattle.std.proofs.lemmas.List.Elements.{filter-append}
@@ -22,7 +22,7 @@ use Rattle.rx_rdfa.specs.Machine.{Slot, Full, Waiting, fill, fill_slot, slot_of,
 use Rattle.rx_rdfa.specs.Renaming.{rename_slot, rename_inherited, labels}
 use Rattle.rx_rdfa.proofs.Exact.{exact_bnodes}
 use Rattle.rx_lists.specs.declared.lists.SlotId.{SlotId}
-use Rattle.rx_eval.specs.Labels.{Numbered, number_of, draw}
+use Rattle.rx_eval.specs.Labels.{Numbered, number_of}
 use Rattle.rx_eval.specs.Moment.{moment}
 use Rattle.rx_eval.specs.Places.{level_at, standing_by}
 use Rattle.rx_eval.specs.TextRules.{text_literal}
@@ -36,8 +36,9 @@ use Rattle.rx_eval.specs.Ending.{said_triples}
 use Rattle.rx_eval.specs.Numbering.{Numbering, Name, Number, name_by, named, Grown, with_number, Numbers}
 use Rattle.rx_eval.specs.Slots.{Slots, Open, owner_place, owners_of, waits, slot_waits, HasPlaces, Waiter, Fills, FillUp, Apart, Within, WithinPlaces, WithinOption}
 use Rattle.rx_eval.specs.Standing.{Layer, frames_in, path_in, paths_in, own_in, under_in, open_in, places_of, waiter_of, said_of, KeptAt, LayerStands, LayersStand, Coming, Pending, owner_depth, WaitsFor, AllWaitFor, RunsBy, page_context}
+use Rattle.rx_eval.proofs.DrawLemmas.{draw_most}
 use Rattle.rx_eval.proofs.NameLemmas.{grown_same, grown_then, triples_later, slots_later, inherited_later, same_names}
-use Rattle.rx_eval.proofs.NumberLemmas.{at_new, at_other, grown_with, numbers_with, Drew, drew}
+use Rattle.rx_eval.proofs.NumberLemmas.{raised, at_new, at_other, grown_with, numbers_with, Drew, drew}
 use Rattle.rx_eval.proofs.OtherLemmas.{makes_new}
 use Rattle.rx_eval.proofs.ElementLemmas.{Meets, ends_are, resources_meet, below_meets, start_meets, end_meets, value_meets, gathers_meet, entries_meet}
 use Rattle.rx_eval.proofs.ListLemmas.{Puts, Match, Merged, merged}
@@ -51,18 +52,8 @@ use Rattle.rx_eval.proofs.UsedLemmas.{new_drawn, drawn_least, handed_is, handed_
 
 -- ---- small facts
 
-draw_most : (labels : Numbered) (next : ℕ) (list : List Chars) → (draw labels next list).1 ≤ next + length list
-draw_most labels next [] = omega arith
-draw_most labels next (x ∷ list) =
-    by_test (is_some (number_of labels x)) (λ t. rw t (let h = draw_most labels next list in omega (arith, h)))
-    (λ f. rw f (let h = draw_most (labels ++ (x, next) ∷ []) (next + 1) list in omega (arith, h)))
-
 numbers_raised : (to : Numbering) (labels : Numbered) (drawn more cells : ℕ) → Numbers to labels drawn cells → drawn ≤ more → more ≤ 2 ^ 61 → Numbers to labels more cells
-numbers_raised to labels drawn more cells h a b = record { label = h.label; bounded = λ x n e. raised n (h.bounded x n e); one_to_one = h.one_to_one; low = b; high = h.high }
-  where
-    raised : (n : ℕ) → (n < drawn) ⊎ ((2 ^ 61 ≤ n) × (n < cells)) → (n < more) ⊎ ((2 ^ 61 ≤ n) × (n < cells))
-    raised n (inl x) = inl (omega (arith, x, a))
-    raised n (inr x) = inr x
+numbers_raised to labels drawn more cells h a b = record { label = h.label; bounded = λ x n e. raised n drawn more cells cells a (omega arith) (h.bounded x n e); one_to_one = h.one_to_one; low = b; high = h.high }
 
 path_length : (to : Numbering) (base kept : Chars) (layers : List Layer) → LayersStand to base kept layers → length (path_in layers) ≡ length layers
 path_length to base kept [] h = refl
@@ -349,6 +340,9 @@ module _ (to : Numbering) (m : Machine Bnode Owner) (state : State) (facts : Fac
 
   -- ---- the places of its text
 
+  abbrev Told : Text → Type 0
+  Told = Gathers facts here (places_at new.labels o.fresh base (level_at depth) seen facts state.owners) (length (encode_utf8_all state.kept))
+
   abbrev owner_here : ℕ
   owner_here = own_owner moments at_n here
 
@@ -411,8 +405,7 @@ module _ (to : Numbering) (m : Machine Bnode Owner) (state : State) (facts : Fac
         subst (WithinPlaces (length opened)) (sym q) tt,
       )
 
-  fill_text : (t : Option Text) → is_some t ≡ gathered
-      → IfSome t (Gathers facts here (places_at new.labels o.fresh base (level_at depth) seen facts state.owners) (length (encode_utf8_all state.kept))) → Fill t
+  fill_text : (t : Option Text) → is_some t ≡ gathered → IfSome t Told → Fill t
   fill_text None e g = ((no_value (λ b p a s. filled_by here.skipped facts.property v e s p a), tables_after xs ys merged_now.match only_ys), tt)
   fill_text (Some t) e g =
       let k = gathering here.skipped facts.property v e in
@@ -436,8 +429,7 @@ module _ (to : Numbering) (m : Machine Bnode Owner) (state : State) (facts : Fac
       no_property false (Some ps) e = absurd (cc)
   said_none false (Some ps) None chars p g = absurd (cc)
 
-  said_some : (t : Text) (chars : Chars) → here.skipped ≡ false → v ≡ None
-      → Gathers facts here (places_at new.labels o.fresh base (level_at depth) seen facts state.owners) (length (encode_utf8_all state.kept)) t
+  said_some : (t : Text) (chars : Chars) → here.skipped ≡ false → v ≡ None → Told t
       → said_triples t.said t.subject (text_literal t.by chars) ≡ (if here.skipped then [] else properties_by moments base at_n here (text_value v (value_of_text (rule moments base facts here) facts chars)))
   said_some t chars s e g =
       (λ i. said_triples (g.said i) (g.subject i) (g.rule.literal moments base here e chars i))
@@ -449,8 +441,7 @@ module _ (to : Numbering) (m : Machine Bnode Owner) (state : State) (facts : Fac
       both true = refl
       both false = refl
 
-  said_by : (t : Option Text) (chars : Chars) → is_some t ≡ gathered
-      → IfSome t (Gathers facts here (places_at new.labels o.fresh base (level_at depth) seen facts state.owners) (length (encode_utf8_all state.kept)))
+  said_by : (t : Option Text) (chars : Chars) → is_some t ≡ gathered → IfSome t Told
       → said_of t chars ≡ (if here.skipped then [] else properties_by moments base at_n here (text_value v (value_of_text (rule moments base facts here) facts chars)))
   said_by None chars e g = said_none here.skipped facts.property v chars refl e
   said_by (Some t) chars e g = let k = gathering here.skipped facts.property v e in said_some t chars k.0 k.1 g
@@ -460,9 +451,7 @@ module _ (to : Numbering) (m : Machine Bnode Owner) (state : State) (facts : Fac
       ap (map (rename Number)) (said_by o.frame.text chars o.gathers o.text ∙ sym (ends_are (moment new.labels o.fresh 0 0) base at_n chars))
       ∙ sym (end_meets facts base depth path now (owner_place opened) new.labels o.fresh n around seen meets chars)
 
-  value_by : (t : Option Text) → is_some t ≡ gathered
-      → IfSome t (Gathers facts here (places_at new.labels o.fresh base (level_at depth) seen facts state.owners) (length (encode_utf8_all state.kept)))
-      → IfSome t (λ t. (chars : Chars) → rename_term Number (text_literal t.by chars) ≡ rename_term (named now) (value_at model base at chars))
+  value_by : (t : Option Text) → is_some t ≡ gathered → IfSome t Told → IfSome t (λ t. (chars : Chars) → rename_term Number (text_literal t.by chars) ≡ rename_term (named now) (value_at model base at chars))
   value_by None e g = tt
   value_by (Some t) e g =
       let k = gathering here.skipped facts.property v e in
@@ -470,7 +459,7 @@ module _ (to : Numbering) (m : Machine Bnode Owner) (state : State) (facts : Fac
       ∙ ap (λ (w : Option (Term ℕ)). unwrap_or w (value_of_text (rule (moment new.labels o.fresh 0 0) base facts here) facts chars)) (sym k.1))
       ∙ sym (value_meets facts base depth path now (owner_place opened) new.labels o.fresh n around seen meets chars)
 
-  mark_by : (t : Option Text) → IfSome t (Gathers facts here (places_at new.labels o.fresh base (level_at depth) seen facts state.owners) (length (encode_utf8_all state.kept))) → IfSome t (λ t. KeptAt state.kept t.mark [])
+  mark_by : (t : Option Text) → IfSome t Told → IfSome t (λ t. KeptAt state.kept t.mark [])
   mark_by None g = tt
   mark_by (Some t) g = record { front = state.kept; cut = record { whole = sym (append-nil state.kept); size = g.begins } }
 
@@ -532,35 +521,16 @@ module _ (to : Numbering) (m : Machine Bnode Owner) (state : State) (facts : Fac
   started = start_of (moment new.labels o.fresh 0 0) base at_n
 
   abbrev state_now : State
-  state_now = record {
-    base = base;
-    levels = new.levels;
-    page = new.page;
-    frames = frames_in layers ++ o.frame ∷ [];
-    labels = new.labels;
-    drawn = new.drawn;
-    cells = state.cells;
-    owners = put_entries xs owners2;
-    kept = state.kept;
-    out = state.out ++ started;
-    ended = new.ended;
-    out_of_memory = new.out_of_memory;
-  }
+  state_now = record new { base = base; frames = frames_in layers ++ o.frame ∷ []; cells = state.cells; owners = put_entries xs owners2; kept = state.kept; out = state.out ++ started }
 
   state_is : state_now ≡ new
-  state_is = λ i. record {
+  state_is = λ i. record new {
     base = sym o.rest.0 i;
-    levels = new.levels;
-    page = new.page;
     frames = sym (o.pushed ∙ ap (λ (f : List Frame). f ++ o.frame ∷ []) r.frames) i;
-    labels = new.labels;
-    drawn = new.drawn;
     cells = sym o.rest.3 i;
     owners = sym lists_are i;
     kept = sym o.rest.4 i;
     out = sym o.start i;
-    ended = new.ended;
-    out_of_memory = new.out_of_memory;
   }
 
   started_is : map (rename Number) (state.out ++ started) ≡ map (rename (named now)) (m.out ++ start_of model base at)

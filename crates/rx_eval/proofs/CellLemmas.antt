@@ -28,7 +28,8 @@ use Rattle.rx_eval.specs.Labels.{Numbered}
 use Rattle.rx_terms.proofs.Bools.{by_test}
 use Rattle.rx_eval.specs.Numbering.{Numbering, Name, Number, name_by, named, Grown, Numbers}
 use Rattle.rx_eval.specs.Slots.{Slots, item_of, table_in}
-use Rattle.rx_eval.proofs.NameLemmas.{many_then, later, later_is, node_later}
+use Rattle.rx_eval.proofs.NumberLemmas.{raised}
+use Rattle.rx_eval.proofs.NameLemmas.{many_then, later, named_later, node_later}
 
 -- ---- slots of which none waits
 
@@ -166,17 +167,13 @@ module _ (to : Numbering) (o : Owner) (free : (p : Chars) (i : ℕ) → to (Cell
     high = omega (arith, h.high);
   }
     where
-      raised : (n : ℕ) → (n < drawn) ⊎ ((2 ^ 61 ≤ n) × (n < next)) → (n < drawn) ⊎ ((2 ^ 61 ≤ n) × (n < next + total rows))
-      raised n (inl x) = inl x
-      raised n (inr x) = inr (x.0, omega (arith, x.1))
-
       below_next : (n : ℕ) → (n < drawn) ⊎ ((2 ^ 61 ≤ n) × (n < next)) → n < next
       below_next n (inl x) = omega (arith, x, h.low, h.high)
       below_next n (inr x) = x.1
 
       bound : (b : Bnode) (n : ℕ) → ((p : Chars) × (i : ℕ) × (b ≡ Cell o p i) × (cell_number next rows p i ≡ Some n)) ⊎ (to b ≡ Some n) → (n < drawn) ⊎ ((2 ^ 61 ≤ n) × (n < next + total rows))
       bound b n (inl (p, i, e, c)) = let k = bounded_cell next rows p i n c in inr (omega (arith, h.high, k.0), k.1)
-      bound b n (inr e) = raised n (h.bounded b n e)
+      bound b n (inr e) = raised n drawn drawn next (next + total rows) (omega arith) (omega arith) (h.bounded b n e)
 
       one : (a b : Bnode) (n : ℕ) → ((p : Chars) × (i : ℕ) × (a ≡ Cell o p i) × (cell_number next rows p i ≡ Some n)) ⊎ (to a ≡ Some n)
           → ((p : Chars) × (i : ℕ) × (b ≡ Cell o p i) × (cell_number next rows p i ≡ Some n)) ⊎ (to b ≡ Some n) → a ≡ b
@@ -277,11 +274,12 @@ module _ {A : Type 0} (old new : A → Option ℕ) (grown : Grown old new) where
 
   pub entries_later : (xs : List (Entry Owner (Term ℕ))) (ys : List (Entry Owner (Term A))) → map (map_entry (rename_term Number)) xs ≡ map (map_entry (rename_term (named old))) ys
       → map (map_entry (rename_term Number)) xs ≡ map (map_entry (rename_term (named new))) ys
-  entries_later xs ys e =
-      many_then (map_entry (rename_term Number)) (map_entry (rename_term later_name)) (map_entry (rename_term Number)) (λ x i. record { owner = x.owner; predicate = x.predicate; item = entry_then later_name Number x.item i }) xs
-      ∙ ap (map (map_entry (rename_term later_name))) e
-      ∙ sym (many_then (map_entry (rename_term (λ a. later_name (named old a)))) (map_entry (rename_term later_name)) (map_entry (rename_term (named old))) (λ y i. record { owner = y.owner; predicate = y.predicate; item = entry_then later_name (named old) y.item i }) ys)
-      ∙ ap (λ (f : A → Name A). map (map_entry (rename_term f)) ys) (sym (later_is old new grown))
+  entries_later =
+      named_later old new grown (map (map_entry (rename_term Number))) (map (map_entry (rename_term later_name))) (λ f. map (map_entry (rename_term f))) (moves Number) (moves (named old))
+    where
+      moves : {B : Type 0} (f : B → Name A) (xs : List (Entry Owner (Term B))) → map (map_entry (rename_term (λ a. later_name (f a)))) xs ≡ map (map_entry (rename_term later_name)) (map (map_entry (rename_term f)) xs)
+      moves f =
+          many_then (map_entry (rename_term (λ a. later_name (f a)))) (map_entry (rename_term later_name)) (map_entry (rename_term f)) (λ x i. record { owner = x.owner; predicate = x.predicate; item = entry_then later_name f x.item i })
 
 module _ (to : Numbering) (o : Owner) (free : (p : Chars) (i : ℕ) → to (Cell o p i) ≡ None) (next : ℕ) (s : Node ℕ) (slots : Slots)
     (subject : Node Bnode) (names : List (Entry Owner (Slot Bnode))) where

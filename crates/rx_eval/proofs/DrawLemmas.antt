@@ -1,6 +1,8 @@
 -- Labels draw their numbers one after another.
 use Rattle.std.proofs.Common.{◌≡◌, ◌∙◌, Result, Ok, Err, IfOk, OnErr, ℕ, zero, suc, Some, slice_get, ◌+◌, ◌<◌, ◌≤◌, ◌^◌, List, [], ◌∷◌, ◌++◌, length, drop, take, flat_map, refl, sym, ap, subst, arith, length-append, append-nil, append_assoc, add-one}
 use Rattle.std.specs.Prelude.{is_some}
+use Rattle.std.proofs.lemmas.List.{at_drop_all}
+use Rattle.std.proofs.lemmas.Result.{IfOk-weaker, on_err_weaker}
 use Rattle.rx_terms.specs.Text.{Chars}
 use Rattle.rx_rdfa.specs.Renaming.{label_of}
 use Rattle.rx_curie.specs.declared.refs.Ref.{Ref as CodeRef}
@@ -14,10 +16,7 @@ drop_at (y ∷ xs) zero x h = let e : y ≡ x = cc in ap (λ (z : _). z ∷ xs) 
 drop_at (y ∷ xs) (suc i) x h = drop_at xs i x h
 
 pub nothing_left : {A : Type 0} (i : ℕ) (xs : List A) → length xs ≤ i → drop i xs ≡ []
-nothing_left zero [] h = refl
-nothing_left (suc i) [] h = refl
-nothing_left zero (x ∷ xs) h = absurd (omega arith)
-nothing_left (suc i) (x ∷ xs) h = nothing_left i xs (omega arith)
+nothing_left i xs h = at_drop_all (λ x. x) xs i h
 
 draw_then : (old : Numbered) (next : ℕ) (xs ys : List Chars) → draw old next (xs ++ ys) ≡ draw (draw old next xs).0 (draw old next xs).1 ys
 draw_then old next [] ys = refl
@@ -27,7 +26,7 @@ draw_then old next (x ∷ xs) ys =
 pub drawn_then : (old mid new : Numbered) (next middle after : ℕ) (xs ys : List Chars) → Drawn old next xs mid middle → Drawn mid middle ys new after → Drawn old next (xs ++ ys) new after
 drawn_then old mid new next middle after xs ys a b = record { path = draw_then old next xs ys ∙ ap (λ (p : Numbered × ℕ). draw p.0 p.1 ys) a.path ∙ b.path }
 
-draw_most : (old : Numbered) (next : ℕ) (xs : List Chars) → (draw old next xs).1 ≤ next + length xs
+pub draw_most : (old : Numbered) (next : ℕ) (xs : List Chars) → (draw old next xs).1 ≤ next + length xs
 draw_most old next [] = omega arith
 draw_most old next (x ∷ xs) =
     by_test (is_some (number_of old x)) (λ t. rw t (omega (arith, draw_most old next xs))) (λ f. rw f (omega (arith, draw_most (old ++ (x, next) ∷ []) (next + 1) xs)))
@@ -115,31 +114,33 @@ some_types old labels new next after i types s e = record {
   path = ap (λ (p : Numbered × ℕ). p.0) s.drawn.path ∙ sym e;
 }
 
-pub five_some : {R E : Type 0} (l0 l1 l2 l3 l4 new : Numbered) (n0 n1 n2 n3 n4 : ℕ) (a b c d e : List Chars) (r : Result R E)
-    → Drawn l0 n0 a l1 n1 → Drawn l1 n1 b l2 n2 → Drawn l2 n2 c l3 n3 → Drawn l3 n3 d l4 n4 → OnErr r (DrawnSome l4 n4 e new)
-    → OnErr r (DrawnSome l0 n0 (a ++ (b ++ (c ++ (d ++ e)))) new)
-five_some l0 l1 l2 l3 l4 new n0 n1 n2 n3 n4 a b c d e (Ok x) da db dc dd h = h
-five_some l0 l1 l2 l3 l4 new n0 n1 n2 n3 n4 a b c d e (Err x) da db dc dd h =
-    after_drawn l0 l1 new n0 n1 a _ da (after_drawn l1 l2 new n1 n2 b _ db (after_drawn l2 l3 new n2 n3 c _ dc (after_drawn l3 l4 new n3 n4 d e dd h)))
+-- five draws, one after another
+module _ {l0 l1 l2 l3 l4 : Numbered} {n0 n1 n2 n3 n4 : ℕ} {a b c d : List Chars} (e : List Chars) (da : Drawn l0 n0 a l1 n1) (db : Drawn l1 n1 b l2 n2) (dc : Drawn l2 n2 c l3 n3) (dd : Drawn l3 n3 d l4 n4) where
+  abbrev all : List Chars
+  all = a ++ (b ++ (c ++ (d ++ e)))
 
-pub five_drawn : (l0 l1 l2 l3 l4 l5 : Numbered) (n0 n1 n2 n3 n4 n5 : ℕ) (a b c d e : List Chars)
-    → Drawn l0 n0 a l1 n1 → Drawn l1 n1 b l2 n2 → Drawn l2 n2 c l3 n3 → Drawn l3 n3 d l4 n4 → Drawn l4 n4 e l5 n5
-    → Drawn l0 n0 (a ++ (b ++ (c ++ (d ++ e)))) l5 n5
-five_drawn l0 l1 l2 l3 l4 l5 n0 n1 n2 n3 n4 n5 a b c d e da db dc dd de =
-    drawn_then l0 l1 l5 n0 n1 n5 a _ da
-    (drawn_then l1 l2 l5 n1 n2 n5 b _ db (drawn_then l2 l3 l5 n2 n3 n5 c _ dc (drawn_then l3 l4 l5 n3 n4 n5 d e dd de)))
+  pub five_some : {R E : Type 0} (new : Numbered) (r : Result R E) → OnErr r (DrawnSome l4 n4 e new) → OnErr r (DrawnSome l0 n0 all new)
+  five_some new r h =
+      on_err_weaker r
+      (λ s. after_drawn l0 l1 new n0 n1 a _ da (after_drawn l1 l2 new n1 n2 b _ db (after_drawn l2 l3 new n2 n3 c _ dc (after_drawn l3 l4 new n3 n4 d e dd s)))) h
 
-pub five_room : (l0 l1 l2 l3 l4 : Numbered) (n0 n1 n2 n3 n4 : ℕ) (a b c d e : List Chars)
-    → Drawn l0 n0 a l1 n1 → Drawn l1 n1 b l2 n2 → Drawn l2 n2 c l3 n3 → Drawn l3 n3 d l4 n4 → n0 + length (a ++ (b ++ (c ++ (d ++ e)))) < 2 ^ 64 → n4 + length e < 2 ^ 64
-five_room l0 l1 l2 l3 l4 n0 n1 n2 n3 n4 a b c d e da db dc dd h =
-    let ma = drawn_most l0 l1 n0 n1 a da in
-    let mb = drawn_most l1 l2 n1 n2 b db in
-    let mc = drawn_most l2 l3 n2 n3 c dc in
-    let md = drawn_most l3 l4 n3 n4 d dd in
-    omega (arith, h, length-append a (b ++ (c ++ (d ++ e))), length-append b (c ++ (d ++ e)), length-append c (d ++ e), length-append d e)
+  pub five_room : n0 + length all < 2 ^ 64 → n4 + length e < 2 ^ 64
+  five_room h =
+      omega (
+        arith,
+        h,
+        drawn_most l0 l1 n0 n1 a da,
+        drawn_most l1 l2 n1 n2 b db,
+        drawn_most l2 l3 n2 n3 c dc,
+        drawn_most l3 l4 n3 n4 d dd,
+        length-append a (b ++ (c ++ (d ++ e))),
+        length-append b (c ++ (d ++ e)),
+        length-append c (d ++ e),
+        length-append d e,
+      )
 
-pub five_ok : {E : Type 0} (l0 l1 l2 l3 l4 l5 : Numbered) (n0 n1 n2 n3 n4 : ℕ) (a b c d e : List Chars) (r : Result ℕ E)
-    → Drawn l0 n0 a l1 n1 → Drawn l1 n1 b l2 n2 → Drawn l2 n2 c l3 n3 → Drawn l3 n3 d l4 n4 → IfOk r (λ n5. Drawn l4 n4 e l5 n5)
-    → IfOk r (λ n5. Drawn l0 n0 (a ++ (b ++ (c ++ (d ++ e)))) l5 n5)
-five_ok l0 l1 l2 l3 l4 l5 n0 n1 n2 n3 n4 a b c d e (Ok n5) da db dc dd h = five_drawn l0 l1 l2 l3 l4 l5 n0 n1 n2 n3 n4 n5 a b c d e da db dc dd h
-five_ok l0 l1 l2 l3 l4 l5 n0 n1 n2 n3 n4 a b c d e (Err x) da db dc dd h = h
+  pub five_ok : {E : Type 0} (l5 : Numbered) (r : Result ℕ E) → IfOk r (λ n5. Drawn l4 n4 e l5 n5) → IfOk r (λ n5. Drawn l0 n0 all l5 n5)
+  five_ok l5 r h =
+      IfOk-weaker r _ _
+      (λ n5 de. drawn_then l0 l1 l5 n0 n1 n5 a _ da
+      (drawn_then l1 l2 l5 n1 n2 n5 b _ db (drawn_then l2 l3 l5 n2 n3 n5 c _ dc (drawn_then l3 l4 l5 n3 n4 n5 d e dd de)))) h

@@ -1,5 +1,5 @@
 -- One element by the rules' names and by numbers.
-use Rattle.std.proofs.Common.{◌≡◌, ◌∙◌, ℕ, zero, suc, Bool, true, false, not, ◌&&◌, List, [], ◌∷◌, ◌++◌, map, filter_map, length, Option, Some, None, option_map, is_some, is_none, unwrap_or, nat_eq, refl, sym, ap, ap₂, arith}
+use Rattle.std.proofs.Common.{◌≡◌, ◌∙◌, ℕ, suc, Bool, true, false, not, ◌&&◌, List, [], ◌++◌, map, filter_map, length, Option, Some, None, option_map, is_some, is_none, unwrap_or, nat_eq, refl, sym, ap, ap₂}
 use Rattle.std.specs.Prelude.{if◌then◌else◌}
 use Rattle.std.specs.Option.{option_or}
 use Rattle.std.specs.Bool.{then_some}
@@ -28,7 +28,7 @@ use Rattle.rx_eval.specs.Places.{level_at, path_at, standing_by}
 use Rattle.rx_eval.specs.Numbering.{Numbering, Name, Number, name_by, named, same_name}
 use Rattle.rx_eval.specs.Entering.{next_number, owner_begun, owner_for}
 use Rattle.rx_eval.specs.Standing.{gathers_text}
-use Rattle.rx_eval.proofs.OtherLemmas.{makes_resource, makes_new, other, resources_other, handed_other, entries_other}
+use Rattle.rx_eval.proofs.OtherLemmas.{level_is, makes_resource, makes_new, other, resources_other, handed_other, entries_other}
 
 -- the value that is in a slot
 abbrev pub slot_value : {B C : Type 0} → (B → C) → Slot B → Option (Term C)
@@ -144,18 +144,9 @@ module _ (facts : Facts) (base : Chars) (depth : ℕ) (path : Path) (to : Number
     abbrev here : Resources N
     here = rename_resources Number here_by
 
-    at_level : (d : ℕ) (r : Path) → length r ≡ suc d
-        → resources Q base (record { facts = facts; path = r; around = rename_inherited Number Number seen }) ≡ resources Q base (record { facts = facts; path = path_at (level_at d); around = rename_inherited Number Number seen })
+    at_level : resources Q base at ≡ resources Q base there
     unfolding resources
-    at_level d [] e = absurd (omega arith)
-    at_level zero (i ∷ []) e = refl
-    at_level zero (i ∷ j ∷ r) e = absurd (omega arith)
-    at_level (suc zero) (i ∷ []) e = absurd (omega arith)
-    at_level (suc zero) (i ∷ j ∷ []) e = refl
-    at_level (suc zero) (i ∷ j ∷ k ∷ r) e = absurd (omega arith)
-    at_level (suc (suc d)) (i ∷ []) e = absurd (omega arith)
-    at_level (suc (suc d)) (i ∷ j ∷ []) e = absurd (omega arith)
-    at_level (suc (suc d)) (i ∷ j ∷ k ∷ r) e = refl
+    at_level = let l = level_is depth path meets.deep in rw (l.0, l.1) (refl {a = resources Q base there})
 
     here_now : rename_resources Number here_by ≡ resources Q base there
     unfolding resources
@@ -171,7 +162,7 @@ module _ (facts : Facts) (base : Chars) (depth : ℕ) (path : Path) (to : Number
     here_named : resources P base at ≡ here
     here_named =
         resources_other Q base at (f (Made path)) (g (Of path)) (g (Below path)) (λ h. ap Blank (new_name (or_left _ _ h)))
-        ∙ at_level depth path meets.deep ∙ sym here_now
+        ∙ at_level ∙ sym here_now
 
     here_model : rename_resources f (resources model base by_names) ≡ here
     here_model = resources_rename f g model P base by_names agree_names ∙ moves (resources P base) ∙ here_named

@@ -322,35 +322,17 @@ module _ (to : Numbering) (m : Machine Bnode Owner) (state : State) (l : Layer) 
         ∙ ap₂ (λ (n : List Frame) (f : Frame). end_owner (if length n == 0 then Some state.page.owner else None) (end_frame f l.text at_start)) frames_are frame_is
 
     abbrev state_with : Ending → State
-    state_with e = record {
-      base = state.base;
-      levels = new.levels;
-      page = new.page;
-      frames = frames_in lower;
-      labels = state.labels;
-      drawn = state.drawn;
-      cells = e.cells;
-      owners = e.owners;
-      kept = new.kept;
-      out = e.out;
-      ended = new.ended;
-      out_of_memory = new.out_of_memory;
-    }
+    state_with e = record new { base = state.base; frames = frames_in lower; labels = state.labels; drawn = state.drawn; cells = e.cells; owners = e.owners; out = e.out }
 
     state_is : (e : Ending) → ending new.out new.owners new.cells ≡ e → state_with e ≡ new
-    state_is e q = λ i. record {
+    state_is e q = λ i. record new {
       base = sym c.rest.0 i;
-      levels = new.levels;
-      page = new.page;
       frames = sym frames_are i;
       labels = sym c.rest.3 i;
       drawn = sym c.rest.4 i;
       cells = sym (ap (λ (x : Ending). x.cells) q) i;
       owners = sym (ap (λ (x : Ending). x.owners) q) i;
-      kept = new.kept;
       out = sym (ap (λ (x : Ending). x.out) q) i;
-      ended = new.ended;
-      out_of_memory = new.out_of_memory;
     }
 
     kept_is : new.kept ≡ (if gathers_some (frames_in lower) then state.kept else [])

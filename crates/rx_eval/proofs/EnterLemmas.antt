@@ -1,5 +1,5 @@
 -- The start of an element: what its parts come to is what the rules say.
-use Rattle.std.proofs.Common.{◌≡◌, ◌∙◌, ℕ, suc, Bool, true, false, List, [], ◌∷◌, ◌++◌, map, filter_map, length, Option, Some, None, option_map, unwrap_or, nat_eq, refl, sym, ap, ap₂, arith, append_assoc, length-append, Result, Ok, Err, OnOk, IfOk}
+use Rattle.std.proofs.Common.{◌≡◌, ◌∙◌, ℕ, suc, Bool, true, false, List, [], ◌∷◌, ◌++◌, map, filter_map, length, Option, Some, None, option_map, nat_eq, refl, sym, ap, ap₂, arith, append_assoc, length-append, Result, Ok, Err, OnOk}
 use Rattle.std.specs.Prelude.{not, ◌&&◌, is_some, is_none, if◌then◌else◌}
 use Rattle.std.proofs.lemmas.List.{map-append}
 use Rattle.rx_terms.specs.Text.{Chars}
@@ -20,7 +20,6 @@ use Rattle.rx_eval.specs.Moment.{moment}
 use Rattle.rx_eval.specs.TextRules.{resource_term}
 use Rattle.rx_terms.proofs.Bools.{by_test}
 use Rattle.rx_eval.specs.Handing.{begun, begun_number}
-use Rattle.rx_eval.specs.Frames.{hanging_by}
 use Rattle.rx_eval.specs.Elements.{handed_by, owner_in, begun_below, begun_below_number}
 use Rattle.rx_eval.specs.OwnersSeen.{Owning, owning_seen, owners_seen, put_entries}
 use Rattle.rx_eval.specs.Listing.{Entries, linked_entries, awaited_entry, entries_in}
@@ -90,7 +89,7 @@ pub handed_is : (labels : Numbered) (fresh : ℕ) (at : Standing ℕ ℕ) (here 
 handed_is labels fresh at here s a object own below around context old mid k e f z o w m b h =
     h ∙ ap₂ (λ (x y : ℕ). handed_by at.facts here (option_map node_seen object) x y) is_own (last_owner object below b)
     ∙ ap (λ (x : Option (Node ℕ)). handed_by at.facts here x (own_number at here (length old)) (last_number x)) o
-    ∙ by_skip here.skipped k
+    ∙ by_skip
   where
     is_own : (owner_in own around).0 ≡ own_number at here (length old)
     is_own = own_is (moment labels fresh 0 0) at here s a object e f own around (length old) z w
@@ -106,17 +105,9 @@ handed_is labels fresh at here s a object own below around context old mid k e f
         ∙ ap₂ (λ (u v : ℕ). if same_node nat_eq (node_seen x) (node_seen s) then u else v) is_own (next_is (moment labels fresh 0 0) at here s a object e f old mid m)
         ∙ ap (λ (v : Node ℕ). if same_node nat_eq (node_seen x) v then own_number at here (length old) else next_number at here (length old)) e
 
-    by_skip : (t : Bool) → t ≡ false
-        → handed_by at.facts here (object_below (moment labels fresh 0 0) at here) (own_number at here (length old)) (last_number (object_below (moment labels fresh 0 0) at here))
-        ≡ (if t then at.around
-        else record {
-          subject = here.subject;
-          object = unwrap_or (object_below (naming_by labels fresh at here (length old)) at here) here.subject;
-          hanging = (if hangs at.facts here then hanging_by at.facts (own_number at here (length old)) else []);
-          owner = last_number (object_below (naming_by labels fresh at here (length old)) at here);
-        })
-    by_skip false g = refl
-    by_skip true g = absurd (cc)
+    by_skip : handed_by at.facts here (object_below (moment labels fresh 0 0) at here) (own_number at here (length old)) (last_number (object_below (moment labels fresh 0 0) at here))
+        ≡ handed (naming_by labels fresh at here (length old)) at here
+    by_skip = rw k refl
 
 -- an element with its labels' numbers, the number of a new node, and the base
 module _ (labels : Numbered) (fresh : ℕ) (base : Chars) (at : Standing ℕ ℕ) where
@@ -188,13 +179,7 @@ module _ (labels : Numbered) (fresh : ℕ) (base : Chars) (at : Standing ℕ ℕ
 
   pub lists_skipped : (owners : List (Option Owning)) → here.skipped ≡ true
       → owners ≡ lists_with (length owners) owners (resources (moment labels fresh 0 0) base at)
-  lists_skipped owners k = skips here.skipped k ∙ ap (lists_with (length owners) owners) r
-    where
-      skips : (b : Bool) → b ≡ true → owners ≡ (if b then owners else put_entries
-          (entries_by (naming_by labels fresh at here (length owners)) Some (value_now (rule (moment labels fresh 0 0) base at.facts here) at.facts) at here)
-          (owners_begun (moment labels fresh 0 0) at here owners))
-      skips true g = refl
-      skips false g = absurd (cc)
+  lists_skipped owners k = let skips : owners ≡ lists_with (length owners) owners here = rw k refl in skips ∙ ap (lists_with (length owners) owners) r
 
   pub lists_entered : (value : Option (Term ℕ)) (old new : List (Option Owning)) (n : ℕ) → n ≡ length old → here.skipped ≡ false
       → value ≡ only (is_some at.facts.property) (value_now (rule (moment labels fresh 0 0) base at.facts here) at.facts)
@@ -206,7 +191,7 @@ module _ (labels : Numbered) (fresh : ℕ) (base : Chars) (at : Standing ℕ ℕ
       (ap (λ (x : Option (Term ℕ)). entries_in (own_number at here (length old)) at.facts here x at.around.hanging) e
       ∙ no_value (own_number at here (length old)) at.facts here at.around.hanging at.facts.property refl V
       ∙ entries_are (naming_by labels fresh at here (length old)) at here V k)
-      ∙ skips here.skipped k ∙ ap (lists_with (length old) old) r
+      ∙ skips ∙ ap (lists_with (length old) old) r
     where
       V : Option (Term ℕ)
       V = value_now (rule (moment labels fresh 0 0) base at.facts here) at.facts
@@ -216,9 +201,8 @@ module _ (labels : Numbered) (fresh : ℕ) (base : Chars) (at : Standing ℕ ℕ
           (entries_by (naming_by labels fresh at here (length old)) Some (value_now (rule (moment labels fresh 0 0) base at.facts here) at.facts) at here)
           (owners_begun (moment labels fresh 0 0) at here old)
 
-      skips : (b : Bool) → b ≡ false → E ≡ (if b then old else E)
-      skips false g = refl
-      skips true g = absurd (cc)
+      skips : E ≡ lists_with (length old) old here
+      skips = rw k refl
 
   -- ---- the text
 
@@ -227,28 +211,17 @@ module _ (labels : Numbered) (fresh : ℕ) (base : Chars) (at : Standing ℕ ℕ
       ≡ (not (resources (moment labels fresh 0 0) base at).skipped && gathers (moment labels fresh 0 0) base at.facts (resources (moment labels fresh 0 0) base at))
   gathers_entered value k e =
       ap (λ (x : Option (Term ℕ)). is_some at.facts.property && is_none x) e
-      ∙ none_of (is_some at.facts.property) (value_now (rule (moment labels fresh 0 0) base at.facts here) at.facts) ∙ not_skipped here.skipped k
+      ∙ none_of (is_some at.facts.property) (value_now (rule (moment labels fresh 0 0) base at.facts here) at.facts) ∙ not_skipped
       ∙ ap (λ (h : Resources ℕ). not h.skipped && gathers (moment labels fresh 0 0) base at.facts h) r
     where
-      not_skipped : (b : Bool) → b ≡ false → gathers (moment labels fresh 0 0) base at.facts here ≡ (not b && gathers (moment labels fresh 0 0) base at.facts here)
-      not_skipped false g = refl
-      not_skipped true g = absurd (cc)
+      not_skipped : gathers (moment labels fresh 0 0) base at.facts here ≡ (not here.skipped && gathers (moment labels fresh 0 0) base at.facts here)
+      not_skipped = rw k refl
 
   pub gathers_skipped : here.skipped ≡ true
       → false ≡ (not (resources (moment labels fresh 0 0) base at).skipped && gathers (moment labels fresh 0 0) base at.facts (resources (moment labels fresh 0 0) base at))
-  gathers_skipped k = skips here.skipped k ∙ ap (λ (h : Resources ℕ). not h.skipped && gathers (moment labels fresh 0 0) base at.facts h) r
-    where
-      skips : (b : Bool) → b ≡ true → false ≡ (not b && gathers (moment labels fresh 0 0) base at.facts here)
-      skips true g = refl
-      skips false g = absurd (cc)
-
-pub ok_then : {A E : Type 0} {P Q : A → Type 0} (r : Result A E) → ((a : A) → P a → Q a) → IfOk r P → IfOk r Q
-ok_then (Ok a) f h = f a h
-ok_then (Err e) f h = h
-
-pub on_then : {A E P Q : Type 0} (r : Result A E) → (P → Q) → OnOk r P → OnOk r Q
-on_then (Ok a) f h = f h
-on_then (Err e) f h = h
+  gathers_skipped k =
+      let skips : false ≡ (not here.skipped && gathers (moment labels fresh 0 0) base at.facts here) = rw k refl in
+      skips ∙ ap (λ (h : Resources ℕ). not h.skipped && gathers (moment labels fresh 0 0) base at.facts h) r
 
 pub on_always : {A E Q : Type 0} (r : Result A E) → Q → OnOk r Q
 on_always (Ok a) q = q

@@ -1,5 +1,5 @@
 -- Places are filled at the ends of elements: what becomes of that when slots are put, and owners begin and end.
-use Rattle.std.proofs.Common.{◌≡◌, ◌∙◌, ℕ, zero, suc, ◌<◌, ◌≤◌, Bool, true, false, ◌||◌, List, [], ◌∷◌, ◌++◌, map, length, Option, Some, None, option_map, refl, sym, ap, ap₂, subst, subst₂, arith}
+use Rattle.std.proofs.Common.{◌≡◌, ◌∙◌, ℕ, zero, suc, ◌<◌, ◌≤◌, Bool, true, false, ◌||◌, List, [], ◌∷◌, ◌++◌, map, length, Option, Some, None, option_map, refl, sym, ap, ap₂, subst, subst₂, arith, length-append}
 use Rattle.std.proofs.lemmas.List.{map-append}
 use Rattle.rx_model.specs.Terms.{Node, Term}
 use Rattle.rx_rdfa.specs.Naming.{Path}
@@ -72,7 +72,7 @@ places_filled : (w m j : ℕ) (v : Term ℕ) (slots : List SlotId) (os : Many) �
 places_filled w m j v [] os h = tt
 places_filled w m j v (s ∷ slots) os h = (place_filled w m j v s.owner.0 s.list s.place os h.0, places_filled w m j v slots os h.1)
 
-place_put : (xs : Puts) (n l i : ℕ) (os : Many) → HasPlace n l i os → HasPlace n l i (put_entries xs os)
+pub place_put : (xs : Puts) (n l i : ℕ) (os : Many) → HasPlace n l i os → HasPlace n l i (put_entries xs os)
 place_put [] n l i os h = h
 place_put (x ∷ xs) n l i os h = place_put xs n l i _ (still_at x.owner x.predicate x.item n l i os h)
 
@@ -152,41 +152,35 @@ fills_front (s ∷ slots) v os x h =
     ∙ fills_front slots v (fill_seen s.list s.place v os s.owner.0) x
     (within_length (length os) (length (fill_seen s.list s.place v os s.owner.0)) slots (same_count _ _ (sym (fill_length s.list s.place v os s.owner.0))) h.1)
 
-place_front : (n l i : ℕ) (os : Many) (x : Option Owning) → n < length os → HasPlace n l i os → HasPlace n l i (os ++ x ∷ [])
-place_front n l i [] x b h = absurd (omega arith)
-place_front zero l i (None ∷ os) x b h = tt
-place_front zero l i (Some o ∷ os) x b h = h
-place_front (suc n) l i (o ∷ os) x b h = place_front n l i os x (omega arith) h
+-- an owner more at the end takes no place and gives none
+place_both : (n l i : ℕ) (os : Many) (x : Option Owning) → n < length os → (HasPlace n l i os → HasPlace n l i (os ++ x ∷ [])) × (HasPlace n l i (os ++ x ∷ []) → HasPlace n l i os)
+place_both n l i [] x b = absurd (omega arith)
+place_both zero l i (None ∷ os) x b = (λ h. h, λ h. h)
+place_both zero l i (Some o ∷ os) x b = (λ h. h, λ h. h)
+place_both (suc n) l i (o ∷ os) x b = place_both n l i os x (omega arith)
 
-place_back : (n l i : ℕ) (os : Many) (x : Option Owning) → n < length os → HasPlace n l i (os ++ x ∷ []) → HasPlace n l i os
-place_back n l i [] x b h = tt
-place_back zero l i (None ∷ os) x b h = tt
-place_back zero l i (Some o ∷ os) x b h = h
-place_back (suc n) l i (o ∷ os) x b h = place_back n l i os x (omega arith) h
+places_both : (slots : List SlotId) (os : Many) (x : Option Owning) → WithinPlaces (length os) slots → (HasPlaces slots os → HasPlaces slots (os ++ x ∷ [])) × (HasPlaces slots (os ++ x ∷ []) → HasPlaces slots os)
+places_both [] os x b = (λ h. h, λ h. h)
+places_both (s ∷ slots) os x b =
+    let one = place_both s.owner.0 s.list s.place os x b.0 in
+    let more = places_both slots os x b.1 in
+    (λ h. (one.0 h.0, more.0 h.1), λ h. (one.1 h.0, more.1 h.1))
 
-places_front : (slots : List SlotId) (os : Many) (x : Option Owning) → WithinPlaces (length os) slots → HasPlaces slots os → HasPlaces slots (os ++ x ∷ [])
-places_front [] os x b h = tt
-places_front (s ∷ slots) os x b h = (place_front s.owner.0 s.list s.place os x b.0 h.0, places_front slots os x b.1 h.1)
-
-places_back : (slots : List SlotId) (os : Many) (x : Option Owning) → WithinPlaces (length os) slots → HasPlaces slots (os ++ x ∷ []) → HasPlaces slots os
-places_back [] os x b h = tt
-places_back (s ∷ slots) os x b h = (place_back s.owner.0 s.list s.place os x b.0 h.0, places_back slots os x b.1 h.1)
+snoc_parts : {A : Type 0} (xs ys : List A) (x y : A) → xs ++ x ∷ [] ≡ ys ++ y ∷ [] → (xs ≡ ys) × (x ≡ y)
+snoc_parts [] [] x y e = (refl, cc)
+snoc_parts [] (z ∷ ys) x y e = let n = ap length e in absurd (omega (arith, n, length-append ys (y ∷ [])))
+snoc_parts (z ∷ xs) [] x y e = let n = ap length e in absurd (omega (arith, n, length-append xs (x ∷ [])))
+snoc_parts (z ∷ xs) (w ∷ ys) x y e =
+    let h : z ≡ w = cc in
+    let t : xs ++ x ∷ [] ≡ ys ++ y ∷ [] = cc in
+    let more = snoc_parts xs ys x y t in
+    (ap₂ ◌∷◌ h more.0, more.1)
 
 pub snoc_front : {A : Type 0} (xs ys : List A) (x y : A) → xs ++ x ∷ [] ≡ ys ++ y ∷ [] → xs ≡ ys
-snoc_front [] [] x y e = refl
-snoc_front [] (z ∷ []) x y e = absurd (cc)
-snoc_front [] (z ∷ w ∷ ys) x y e = absurd (cc)
-snoc_front (z ∷ []) [] x y e = absurd (cc)
-snoc_front (z ∷ w ∷ xs) [] x y e = absurd (cc)
-snoc_front (z ∷ xs) (w ∷ ys) x y e = let h : z ≡ w = cc in let t : xs ++ x ∷ [] ≡ ys ++ y ∷ [] = cc in ap₂ ◌∷◌ h (snoc_front xs ys x y t)
+snoc_front xs ys x y e = (snoc_parts xs ys x y e).0
 
 pub snoc_last : {A : Type 0} (xs ys : List A) (x y : A) → xs ++ x ∷ [] ≡ ys ++ y ∷ [] → x ≡ y
-snoc_last [] [] x y e = cc
-snoc_last [] (z ∷ []) x y e = absurd (cc)
-snoc_last [] (z ∷ w ∷ ys) x y e = absurd (cc)
-snoc_last (z ∷ []) [] x y e = absurd (cc)
-snoc_last (z ∷ w ∷ xs) [] x y e = absurd (cc)
-snoc_last (z ∷ xs) (w ∷ ys) x y e = let t : xs ++ x ∷ [] ≡ ys ++ y ∷ [] = cc in snoc_last xs ys x y t
+snoc_last xs ys x y e = (snoc_parts xs ys x y e).1
 
 module _ (open_owners : Open) (o : Owner) (s : Node ℕ) where
   begin_owners : (owners : Many) (slots : Slots) → of_owner same_owner o slots ≡ [] → owners ≡ owners_of slots open_owners → owners ++ Some (owning s []) ∷ [] ≡ owners_of slots (open_owners ++ (o, s) ∷ [])
@@ -204,7 +198,7 @@ module _ (open_owners : Open) (o : Owner) (s : Node ℕ) where
           → Fills w.path places (λ o' s'. FillUp (open_owners ++ (o, s) ∷ []) waiters o' s') (owners ++ Some (owning s []) ∷ []) slots
       fills None c k more = (k.0, more owners slots e refl k.1)
       fills (Some places) c k more = (
-        places_front places owners (Some (owning s [])) c k.0,
+        (places_both places owners (Some (owning s [])) c).0 k.0,
         λ v. subst (λ (l : Many). FillUp (open_owners ++ (o, s) ∷ []) waiters l (fill w.path v slots)) (sym (fills_front places v owners (Some (owning s [])) c))
             (more (fill_all places v owners) (fill w.path v slots) (none_filled o w.path v slots e) (sym (fill_all_length places v owners)) (k.1 v)),
       )
@@ -223,7 +217,7 @@ module _ (open_owners : Open) (o : Owner) (s : Node ℕ) where
           → Fills w.path places (λ o s. FillUp open_owners waiters o s) owners slots
       fills None c k more = (k.0, more owners slots refl k.1)
       fills (Some places) c k more = (
-        places_back places owners x c k.0,
+        (places_both places owners x c).1 k.0,
         λ v. more (fill_all places v owners) (fill w.path v slots) (sym (fill_all_length places v owners))
             (subst (λ (l : Many). FillUp (open_owners ++ (o, s) ∷ []) waiters l (fill w.path v slots)) (fills_front places v owners x c) (k.1 v)),
       )

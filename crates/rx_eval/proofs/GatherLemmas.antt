@@ -1,5 +1,5 @@
 -- The frame of an element that is opened: its owners, and its text where it gathers that.
-use Rattle.std.proofs.Common.{◌≡◌, ◌∙◌, ℕ, Bool, true, false, List, [], ◌++◌, Option, Some, None, refl, sym, ap, subst}
+use Rattle.std.proofs.Common.{◌≡◌, ◌∙◌, ℕ, Bool, true, false, List, [], ◌++◌, Option, Some, None, refl, ap, subst}
 use Rattle.std.specs.Prelude.{◌&&◌, is_some, IfSome, if◌then◌else◌}
 use Rattle.rx_terms.specs.Text.{Chars}
 use Rattle.rx_rdfa.specs.Naming.{Naming}
@@ -46,9 +46,6 @@ gathers_places M at here owner mark has waits slots old owners (Some x) o u s e 
     ap (λ (n : ℕ). own_places n at.facts here old) o ∙ ap (own_places (own_owner M at here) at.facts here) u ∙ places_are M at here owners in
     let same = if_same at.facts.inlist waits slots _ _ (second has waits s) e own in
     record { subject = h.subject; rule = h.rule; said = h.said; slots = h.slots ∙ same; begins = h.begins }
-
-pub no_text : (P : Gathered → Type 0) (g : Option Gathered) → g ≡ None → IfSome g P
-no_text P g e = subst (λ (x : Option Gathered). IfSome x P) (sym e) tt
 
 -- ---- by the rules' resources
 

@@ -1,5 +1,5 @@
 -- The entries of an element that is opened: which of them are empty, and how they are filled at its end.
-use Rattle.std.proofs.Common.{◌≡◌, ◌∙◌, ℕ, suc, ◌<◌, ◌≤◌, ◌⊎◌, inl, inr, Bool, true, false, ◌||◌, List, [], ◌∷◌, ◌++◌, map, filter_map, length, Option, Some, None, option_map, bytes_eq, refl, sym, ap, ap₂, subst, arith, append_assoc}
+use Rattle.std.proofs.Common.{◌≡◌, ◌∙◌, ℕ, ◌<◌, ◌≤◌, inl, inr, Bool, true, false, ◌||◌, List, [], ◌∷◌, ◌++◌, map, filter_map, length, Option, Some, None, option_map, bytes_eq, refl, sym, ap, ap₂, subst, arith, append_assoc}
 use Rattle.std.specs.Prelude.{if◌then◌else◌}
 use Rattle.std.proofs.lemmas.List.{map-append}
 use Rattle.rx_terms.specs.Text.{Chars}
@@ -18,10 +18,12 @@ use Rattle.rx_rdfa.proofs.Exact.{exact_owners}
 use Rattle.rx_terms.proofs.Bools.{by_test}
 use Rattle.rx_eval.specs.OwnersSeen.{Owning, put_at, put_entries, places_for, fill_all}
 use Rattle.rx_eval.specs.Numbering.{Name, Number}
-use Rattle.rx_eval.specs.Slots.{Slots, Open, owner_place, item_of, slot_waits, waits, HasPlace, HasPlaces, WithinPlaces}
+use Rattle.rx_eval.specs.Slots.{Slots, Open, owner_place, item_of, slot_waits, waits, HasPlaces, WithinPlaces}
 use Rattle.rx_eval.specs.Standing.{owner_depth, WaitsFor, AllWaitFor}
-use Rattle.rx_eval.proofs.PlaceLemmas.{still_at, has_at, reserved_are_filled}
-use Rattle.rx_eval.proofs.ListLemmas.{number_is, Puts, Match, by_number, by_name}
+use Rattle.rx_eval.proofs.PlaceLemmas.{has_at, reserved_are_filled}
+use Rattle.rx_eval.proofs.FillLemmas.{place_put}
+use Rattle.rx_eval.proofs.SeenLemmas.{entries_then}
+use Rattle.rx_eval.proofs.ListLemmas.{suc_is, Puts, Match, firsts}
 
 -- ---- what holds of each item
 
@@ -114,10 +116,8 @@ pub match_quiet : (own : Owner → Option ℕ) (r : Path) (xs : Puts) (ys : Slot
 match_quiet own r xs [] m h = refl
 match_quiet own r [] (y ∷ ys) m h = let q = m.path in absurd (cc q)
 match_quiet own r (x ∷ xs) (y ∷ ys) m h =
-    let q = m.path in
-    let first : by_number x ≡ by_name own y = cc q in
-    let rest : map by_number xs ≡ map (by_name own) ys = cc q in
-    ap₂ (λ (a b : Bool). a || b) (item x.item y.item (ap (λ (e : Entry (Name Owner) (Option (Term ℕ))). e.item) first) h.0) (match_quiet own r xs ys (record { path = rest }) h.1)
+    let q = firsts own x y xs ys m in
+    ap₂ (λ (a b : Bool). a || b) (item x.item y.item q.item h.0) (match_quiet own r xs ys q.rest h.1)
   where
     item : (i : Option (Option (Term ℕ))) (j : Option (Slot ℕ)) → i ≡ option_map item_of j → Filled i → slot_waits r j ≡ false
     item i None e k = refl
@@ -128,24 +128,15 @@ match_quiet own r (x ∷ xs) (y ∷ ys) m h =
 pub place_bound : (xs : Open) (o : Owner) (n : ℕ) → owner_place xs o ≡ Some n → n < length xs
 place_bound [] o n h = absurd (cc)
 place_bound (x ∷ xs) o n h =
-    by_test (same_owner x.0 o) (λ t. let e : Some 0 ≡ Some n = rw t at h in let q : 0 ≡ n = cc e in omega (arith, q)) (λ f. go (owner_place xs o) refl (rw f at h) (place_bound xs o))
-  where
-    go : (p : Option ℕ) → owner_place xs o ≡ p → option_map suc p ≡ Some n → ((k : ℕ) → owner_place xs o ≡ Some k → k < length xs) → n < suc (length xs)
-    go None e k more = absurd (cc)
-    go (Some i) e k more = let q : suc i ≡ n = cc k in let b = more i e in omega (arith, q, b)
+    by_test (same_owner x.0 o) (λ t. let e : Some 0 ≡ Some n = rw t at h in let q : 0 ≡ n = cc e in omega (arith, q))
+    (λ f. let m = suc_is (owner_place xs o) n (rw f at h) in let b = place_bound xs o m.0 m.1 in let q = m.2 in omega (arith, q, b))
 
 pub match_bound : (open_owners : Open) (xs : Puts) (ys : Slots) → Match (owner_place open_owners) xs ys → (x : Entry ℕ (Option (Term ℕ))) → Among xs x → x.owner < length open_owners
 match_bound open_owners [] ys m x a = absurd a
 match_bound open_owners (z ∷ xs) [] m x a = let q = m.path in absurd (cc q)
-match_bound open_owners (z ∷ xs) (y ∷ ys) m x a = go a (λ b. match_bound open_owners xs ys (record { path = (let q = m.path in cc q) }) x b)
-  where
-    go : (z ≡ x) ⊎ Among xs x → (Among xs x → x.owner < length open_owners) → x.owner < length open_owners
-    go (inl e) more =
-        let q = m.path in
-        let first : by_number z ≡ by_name (owner_place open_owners) y = cc q in
-        let o = number_is y.owner (owner_place open_owners y.owner) z.owner (ap (λ (e : Entry (Name Owner) (Option (Term ℕ))). e.owner) first) in
-        subst (λ (w : Entry ℕ (Option (Term ℕ))). w.owner < length open_owners) e (place_bound open_owners y.owner z.owner o)
-    go (inr b) more = more b
+match_bound open_owners (z ∷ xs) (y ∷ ys) m x (inl e) =
+    subst (λ (w : Entry ℕ (Option (Term ℕ))). w.owner < length open_owners) e (place_bound open_owners y.owner z.owner (firsts (owner_place open_owners) z y xs ys m).owner)
+match_bound open_owners (z ∷ xs) (y ∷ ys) m x (inr b) = match_bound open_owners xs ys (firsts (owner_place open_owners) z y xs ys m).rest x b
 
 -- each slot's owner is open, and waits are for the path
 pub match_waits : (open_owners : Open) (path : Path) (paths : List Path) → ((o : Owner) (n : ℕ) → owner_place open_owners o ≡ Some n → owner_depth o ≤ length path)
@@ -153,11 +144,8 @@ pub match_waits : (open_owners : Open) (path : Path) (paths : List Path) → ((o
 match_waits open_owners path paths d xs [] m h = tt
 match_waits open_owners path paths d [] (y ∷ ys) m h = let q = m.path in absurd (cc q)
 match_waits open_owners path paths d (x ∷ xs) (y ∷ ys) m h =
-    let q = m.path in
-    let first : by_number x ≡ by_name (owner_place open_owners) y = cc q in
-    let rest : map by_number xs ≡ map (by_name (owner_place open_owners)) ys = cc q in
-    let o = number_is y.owner (owner_place open_owners y.owner) x.owner (ap (λ (e : Entry (Name Owner) (Option (Term ℕ))). e.owner) first) in
-    (item y.item h.0 (d y.owner x.owner o), match_waits open_owners path paths d xs ys (record { path = rest }) h.1)
+    let q = firsts (owner_place open_owners) x y xs ys m in
+    (item y.item h.0 (d y.owner x.owner q.owner), match_waits open_owners path paths d xs ys q.rest h.1)
   where
     item : (i : Option (Slot ℕ)) → Only path i → owner_depth y.owner ≤ length path → WaitsFor (path ∷ paths) y.owner i
     item None k b = tt
@@ -168,16 +156,11 @@ match_waits open_owners path paths d (x ∷ xs) (y ∷ ys) m h =
 pub match_none : (open_owners : Open) (o : Owner) → owner_place open_owners o ≡ None → (xs : Puts) (ys : Slots) → Match (owner_place open_owners) xs ys → ((y : Entry Owner (Slot ℕ)) → Among ys y → same_owner y.owner o ≡ false)
 match_none open_owners o n xs [] m y a = absurd a
 match_none open_owners o n [] (z ∷ ys) m y a = let q = m.path in absurd (cc q)
-match_none open_owners o n (x ∷ xs) (z ∷ ys) m y a = go a (λ b. match_none open_owners o n xs ys (record { path = (let q = m.path in cc q) }) y b)
-  where
-    go : (z ≡ y) ⊎ Among ys y → (Among ys y → same_owner y.owner o ≡ false) → same_owner y.owner o ≡ false
-    go (inl e) more =
-        let q = m.path in
-        let first : by_number x ≡ by_name (owner_place open_owners) z = cc q in
-        let p = number_is z.owner (owner_place open_owners z.owner) x.owner (ap (λ (e : Entry (Name Owner) (Option (Term ℕ))). e.owner) first) in
-        subst (λ (w : Entry Owner (Slot ℕ)). same_owner w.owner o ≡ false) e
-        (false_unless (same_owner z.owner o) (λ t. absurd (cc (ap (owner_place open_owners) ((exact_owners z.owner o).0 t), n, p))))
-    go (inr b) more = more b
+match_none open_owners o n (x ∷ xs) (z ∷ ys) m y (inl e) =
+    let p = (firsts (owner_place open_owners) x z xs ys m).owner in
+    subst (λ (w : Entry Owner (Slot ℕ)). same_owner w.owner o ≡ false) e
+    (false_unless (same_owner z.owner o) (λ t. absurd (cc (ap (owner_place open_owners) ((exact_owners z.owner o).0 t), n, p))))
+match_none open_owners o n (x ∷ xs) (z ∷ ys) m y (inr b) = match_none open_owners o n xs ys (firsts (owner_place open_owners) x z xs ys m).rest y b
 
 -- ---- a value for the empty ones
 
@@ -213,12 +196,10 @@ match_valued own path u [] [] m h = record { path = refl }
 match_valued own path u [] (y ∷ ys) m h = let q = m.path in absurd (cc q)
 match_valued own path u (x ∷ xs) [] m h = let q = m.path in absurd (cc q)
 match_valued own path u (x ∷ xs) (y ∷ ys) m h =
-    let q = m.path in
-    let first : by_number x ≡ by_name own y = cc q in
-    let rest : map by_number xs ≡ map (by_name own) ys = cc q in
-    let more = match_valued own path u xs ys (record { path = rest }) h.1 in
-    let i = item x.item y.item (ap (λ (e : Entry (Name Owner) (Option (Term ℕ))). e.item) first) h.0 in
-    record { path = λ j. record { owner = (first j).owner; predicate = (first j).predicate; item = i j } ∷ more.path j }
+    let q = firsts own x y xs ys m in
+    let more = match_valued own path u xs ys q.rest h.1 in
+    let i = item x.item y.item q.item h.0 in
+    record { path = λ j. record { owner = (q.first j).owner; predicate = (q.first j).predicate; item = i j } ∷ more.path j }
   where
     item : (i : Option (Option (Term ℕ))) (s : Option (Slot ℕ)) → i ≡ option_map item_of s → Only path s → value_item u i ≡ option_map item_of (option_map (fill_slot path u) s)
     item i None e k = ap (value_item u) e
@@ -227,18 +208,10 @@ match_valued own path u (x ∷ xs) (y ∷ ys) m h =
 
 -- ---- places that are reserved
 
-entries_then : (xs ys : Puts) (owners : List (Option Owning)) → put_entries (xs ++ ys) owners ≡ put_entries ys (put_entries xs owners)
-entries_then [] ys owners = refl
-entries_then (e ∷ xs) ys owners = entries_then xs ys (put_at e.owner e.predicate e.item owners)
-
-still_all : (xs : Puts) (n l i : ℕ) (os : List (Option Owning)) → HasPlace n l i os → HasPlace n l i (put_entries xs os)
-still_all [] n l i os h = h
-still_all (x ∷ xs) n l i os h = still_all xs n l i _ (still_at x.owner x.predicate x.item n l i os h)
-
 has_places : (o : ℕ) (ps : List Chars) (back : Puts) (os : List (Option Owning)) → HasPlaces (places_for o ps os) (put_entries (map (entry o (Some None)) ps ++ back) os)
 has_places o [] back os = tt
 has_places o (p ∷ ps) back os =
-    (still_all (map (entry o (Some None)) ps ++ back) o _ _ (put_at o p (Some None) os) (has_at o p None os), has_places o ps back (put_at o p (Some None) os))
+    (place_put (map (entry o (Some None)) ps ++ back) o _ _ (put_at o p (Some None) os) (has_at o p None os), has_places o ps back (put_at o p (Some None) os))
 
 module _ (o : ℕ) (ps : List Chars) (front back : Puts) (owners : List (Option Owning)) where
   abbrev reserved_all : Puts

@@ -11,6 +11,8 @@ use Rattle.rx_rdfa.specs.Resources.{Inherited}
 use Rattle.rx_eval.specs.Contexts.{context_seen}
 use Rattle.rx_eval.specs.Skipping.{all_frames, IsRooted}
 use Rattle.rx_eval.specs.Keeping.{gathers_some, first_gathering, first_of, is_place, IsSound}
+use Rattle.rx_eval.proofs.ListLemmas.{suc_is}
+use Rattle.rx_eval.proofs.NumberLemmas.{none_is}
 use Rattle.rx_eval.proofs.SkippedLemmas.{framed_more, counted_length, one_longer, skipped_fit, rooted_more, rooted_less, rooted_in, none_gathers, others_gather}
 
 -- one more frame
@@ -27,11 +29,8 @@ first_more (x ∷ fs) f = by_test (is_some x.gathered) (λ t. rw t refl) (λ n. 
 bounded : (fs : List CodeFrame) (m : ℕ) → first_gathering fs ≡ Some m → m < length fs
 bounded [] m h = absurd (cc)
 bounded (x ∷ fs) m h =
-    by_test (is_some x.gathered) (λ t. let z : 0 ≡ m = cc (rw t at h) in omega (arith, z)) (λ n. next (first_gathering fs) (λ k. bounded fs k) (rw n at h))
-  where
-    next : (r : Option ℕ) → ((k : ℕ) → r ≡ Some k → k < length fs) → option_map suc r ≡ Some m → m < suc (length fs)
-    next None b g = absurd (cc)
-    next (Some k) b g = let l = b k refl in let z : suc k ≡ m = cc in omega (arith, l, z)
+    by_test (is_some x.gathered) (λ t. let z : 0 ≡ m = cc (rw t at h) in omega (arith, z))
+    (λ n. let k = suc_is (first_gathering fs) m (rw n at h) in let l = bounded fs k.0 k.1 in let z = k.2 in omega (arith, l, z))
 
 -- the last one is gone
 pub first_less : (fs : List CodeFrame) (f : CodeFrame) (old : Option ℕ) → old ≡ first_gathering (fs ++ f ∷ []) → (if is_place old (length fs) then None else old) ≡ first_gathering fs
@@ -73,11 +72,7 @@ not_none : (p : Option ℕ) → p ≡ None → true ≡ is_some p → ⊥
 not_none None z e = cc
 not_none (Some m) z e = cc
 
-none_there : (p : Option ℕ) → is_some p ≡ false → p ≡ None
-none_there None z = refl
-none_there (Some m) z = absurd (cc)
-
-module _ (levels depth : ℕ) (a : Inherited ℕ ℕ) (fs : List CodeFrame) (skipped : ℕ) (place : Option ℕ) (kept : Chars) (s : IsSound levels depth a fs skipped place kept) where
+module _ {levels depth : ℕ} {a : Inherited ℕ ℕ} {fs : List CodeFrame} {skipped : ℕ} {place : Option ℕ} {kept : Chars} (s : IsSound levels depth a fs skipped place kept) where
   pub gathers_is : gathers_some (all_frames a fs skipped) ≡ is_some place
   gathers_is = some_gathers a fs skipped ∙ ap (λ (o : Option ℕ). is_some o) (sym s.first)
 
@@ -89,16 +84,16 @@ module _ (levels depth : ℕ) (a : Inherited ℕ ℕ) (fs : List CodeFrame) (ski
 
   -- the same by the frames
   pub quiet_is : gathers_some (all_frames a fs skipped) ≡ false → kept ≡ []
-  quiet_is h = s.quiet (none_there place (sym gathers_is ∙ h))
+  quiet_is h = s.quiet (none_is place (sym gathers_is ∙ h))
 
   -- text is pushed where some frame gathers
   pub sound_grown : (now : Chars) (b : Bool) → b ≡ gathers_some (all_frames a fs skipped) → b ≡ true → IsSound levels depth a fs skipped place now
   sound_grown now b g t = record { room = s.room; deep = s.deep; within = s.within; rooted = s.rooted; first = s.first; quiet = λ z. absurd (not_none place z (sym t ∙ g ∙ gathers_is)) }
 
   -- a frame more
-  pub sound_more : (n : ℕ) (more : List CodeFrame) (f : CodeFrame) (after : Option ℕ) → depth < levels → f.skipped ≡ skipped → more ≡ fs ++ f ∷ [] → n ≡ length fs
+  pub sound_more : {n : ℕ} {more : List CodeFrame} (f : CodeFrame) {after : Option ℕ} → depth < levels → f.skipped ≡ skipped → more ≡ fs ++ f ∷ [] → n ≡ length fs
       → after ≡ first_of place (is_some f.gathered) n → IsSound levels (depth + 1) a more 0 after kept
-  sound_more n more f after r k e l h = record {
+  sound_more {n} {more} f {after} r k e l h = record {
     room = omega (arith, r);
     deep =
         let c : length (all_frames a more 0) ≡ length (all_frames a fs skipped ++ frame_seen f ∷ []) =
@@ -113,10 +108,10 @@ module _ (levels depth : ℕ) (a : Inherited ℕ ℕ) (fs : List CodeFrame) (ski
   }
 
   -- a frame more, and so many skipped elements in it
-  pub sound_framed : (n m : ℕ) (more : List CodeFrame) (f : CodeFrame) (after : Option ℕ) → depth + 1 + m ≤ levels → 0 < depth → f.skipped ≡ skipped → more ≡ fs ++ f ∷ [] → n ≡ length fs
+  pub sound_framed : {n : ℕ} (m : ℕ) {more : List CodeFrame} (f : CodeFrame) {after : Option ℕ} → depth + 1 + m ≤ levels → 0 < depth → f.skipped ≡ skipped → more ≡ fs ++ f ∷ [] → n ≡ length fs
       → after ≡ first_of place (is_some f.gathered) n → IsSound levels (depth + (1 + m)) a more m after kept
-  sound_framed n m more f after r d k e l h =
-      let t : IsSound levels (depth + 1) a more 0 after kept = sound_more n more f after (omega (arith, r)) k e l h in
+  sound_framed {n} m {more} f {after} r d k e l h =
+      let t : IsSound levels (depth + 1) a more 0 after kept = sound_more f (omega (arith, r)) k e l h in
       record {
         room = omega (arith, r);
         deep = omega (arith, t.deep, counted_length a more m);
@@ -149,8 +144,8 @@ module _ (levels depth : ℕ) (a : Inherited ℕ ℕ) (fs : List CodeFrame) (ski
   }
 
 -- the last frame f was taken from the old ones
-module _ (levels depth : ℕ) (a : Inherited ℕ ℕ) (old : List CodeFrame) (skipped : ℕ) (place : Option ℕ) (kept : Chars) (s : IsSound levels depth a old skipped place kept) (k : skipped ≡ 0)
-    (n : ℕ) (fs : List CodeFrame) (f : CodeFrame) (was : Bool) (e : old ≡ fs ++ f ∷ []) (l : n ≡ length fs) (w : was ≡ is_place place n) where
+module _ {levels depth : ℕ} {a : Inherited ℕ ℕ} {old : List CodeFrame} {skipped : ℕ} {place : Option ℕ} {kept : Chars} (s : IsSound levels depth a old skipped place kept) (k : skipped ≡ 0)
+    {n : ℕ} (fs : List CodeFrame) (f : CodeFrame) {was : Bool} (e : old ≡ fs ++ f ∷ []) (l : n ≡ length fs) (w : was ≡ is_place place n) where
   first_left : (if was then None else place) ≡ first_gathering fs
   first_left =
       ap (λ (b : Bool). if b then None else place) (w ∙ ap (is_place place) l) ∙ first_less fs f place (s.first ∙ ap first_gathering e)
@@ -159,8 +154,8 @@ module _ (levels depth : ℕ) (a : Inherited ℕ ℕ) (old : List CodeFrame) (sk
   frames_left = ap (all_frames a old) k ∙ ap (λ (x : List CodeFrame). all_frames a x 0) e ∙ framed_more a fs f
 
   -- text that nothing gathers any more is dropped
-  pub kept_left : (now : Chars) → now ≡ (if was then [] else kept) → now ≡ (if gathers_some (all_frames a fs f.skipped) then kept else [])
-  kept_left now h =
+  pub kept_left : {now : Chars} → now ≡ (if was then [] else kept) → now ≡ (if gathers_some (all_frames a fs f.skipped) then kept else [])
+  kept_left {now} h =
       let text : Bool → Chars = λ b. if b then kept else [] in
       h ∙ kept_by was place (first_gathering fs) kept first_left s.quiet ∙ ap text (sym (some_gathers a fs f.skipped))
 
@@ -169,8 +164,8 @@ module _ (levels depth : ℕ) (a : Inherited ℕ ℕ) (old : List CodeFrame) (sk
       let c : length (all_frames a old skipped) ≡ length (all_frames a fs f.skipped ++ frame_seen f ∷ []) = ap length frames_left in
       omega (arith, c, s.deep, length-append (all_frames a fs f.skipped) (frame_seen f ∷ []))
 
-  pub sound_left : (after : Option ℕ) (now : Chars) → after ≡ (if was then None else place) → now ≡ (if was then [] else kept) → IsSound levels (depth - 1) a fs f.skipped after now
-  sound_left after now o h = record {
+  pub sound_left : {after : Option ℕ} {now : Chars} → after ≡ (if was then None else place) → now ≡ (if was then [] else kept) → IsSound levels (depth - 1) a fs f.skipped after now
+  sound_left {after} {now} o h = record {
     room = omega (arith, s.room);
     deep = depth_left;
     within = omega (arith, depth_left, skipped_fit a fs f.skipped);

@@ -1,67 +1,37 @@
 -- Labels and their numbers.
-use Rattle.std.proofs.Common.{◌≡◌, ◌∙◌, ℕ, suc, ◌+◌, ◌<◌, ◌≤◌, false, cond, List, [], ◌∷◌, ◌++◌, map, length, get_or, Some, None, bytes_eq, refl, sym, ap, ap₂, subst, arith, Result, Ok, Err, OnOk}
+use Rattle.std.proofs.Common.{◌≡◌, ◌∙◌, ℕ, ◌+◌, ◌<◌, false, cond, List, [], ◌∷◌, ◌++◌, map, length, get_or, Some, None, bytes_eq, refl, sym, ap, ap₂, subst, arith, Result, Ok, Err, OnOk}
 use Rattle.std.specs.List.{position, position_or_len, list_any}
 use Rattle.std.specs.Prelude.{nat_lt}
 use Rattle.std.specs.Str.{chars, IsUtf8}
 use Rattle.std.proofs.lemmas.List.{map-append, length-map}
-use Rattle.std.proofs.lemmas.Bool.Decides.{nat_tests}
 use Rattle.rx_terms.proofs.Bools.{by_test}
 use Rattle.rx_terms.proofs.CharLemmas.{same-chars}
 use Rattle.rx_model.proofs.Exact.{exact_texts}
-use Rattle.rx_lists.specs.Rows.{first_place}
+use Rattle.rx_lists.specs.Rows.{first_place, FoundAt}
+use Rattle.rx_lists.proofs.RowLemmas.{found_in, same_turned, not_first, behind}
 use Rattle.rx_eval.specs.Labels.{Numbered, number_of}
 use Rattle.rx_eval.specs.Rows.{rows, IsNew}
-
-pub either_way : (a b : List ℕ) → bytes_eq a b ≡ bytes_eq b a
-either_way a b =
-    by_test (bytes_eq a b) (λ t. t ∙ sym ((exact_texts b a).1 (sym ((exact_texts a b).0 t))))
-    (λ f. by_test (bytes_eq b a) (λ t. absurd (cc (f, (exact_texts a b).1 (sym ((exact_texts b a).0 t))))) (λ g. f ∙ sym g))
-
-or_len : (p : List ℕ) (ks : List (List ℕ)) → position_or_len (bytes_eq p) ks ≡ first_place p ks
-or_len p [] = refl
-or_len p (k ∷ ks) = rw (either_way p k) (by_test (bytes_eq k p) (λ t. rw t refl) (λ f. rw f (add-one-left _ ∙ ap suc (or_len p ks)))) where
-  add-one-left : (n : ℕ) → 1 + n ≡ suc n
-  add-one-left n = omega arith
-
-at_most : (p : List ℕ) (ks : List (List ℕ)) → first_place p ks ≤ length ks
-at_most p [] = omega arith
-at_most p (k ∷ ks) = by_test (bytes_eq k p) (λ t. rw t (omega arith)) (λ f. rw f (omega (arith, at_most p ks)))
-
-first_is : (p : List ℕ) (ks : List (List ℕ)) (n i : ℕ) → n ≡ first_place p ks → cond (nat_lt n (length ks)) (Some n) None ≡ Some i → (i ≡ first_place p ks) × (i < length ks)
-first_is p ks n i e h = by_test (nat_lt n (length ks)) (λ t. let s : n ≡ i = cc (rw t at h) in let b : n < length ks = grind (arith, nat_tests) in (sym s ∙ e, subst (λ (x : ℕ). x < length ks) s b)) (λ f. absurd (cc (rw f at h)))
-
-none_is : (p : List ℕ) (ks : List (List ℕ)) (n : ℕ) → n ≡ first_place p ks → cond (nat_lt n (length ks)) (Some n) None ≡ None → first_place p ks ≡ length ks
-none_is p ks n e h =
-    by_test (nat_lt n (length ks)) (λ t. absurd (cc (rw t at h)))
-    (λ f. let least = at_most p ks in let b : length ks ≤ n = grind (arith, nat_tests) in omega arith)
 
 number_at : (p : List ℕ) (ks : List (List ℕ)) (ns : List ℕ) (d : ℕ) → length ks ≡ length ns → first_place p ks < length ks → Some (get_or ns (first_place p ks) d) ≡ number_of (rows ks ns) p
 number_at p [] ns d e h = absurd (omega arith)
 number_at p (k ∷ ks) [] d e h = absurd (omega arith)
 number_at p (k ∷ ks) (n ∷ ns) d e h =
-    by_test (bytes_eq k p) (λ t. rw t refl)
-    (λ f.
-    let z : first_place p (k ∷ ks) ≡ suc (first_place p ks) = rw f refl in
-    rw f (number_at p ks ns d (omega arith) (omega (arith, z, h))))
+    by_test (bytes_eq k p) (λ t. rw t refl) (λ f. rw f (number_at p ks ns d (omega arith) (behind p k ks f h)))
 
 no_number : (p : List ℕ) (ks : List (List ℕ)) (ns : List ℕ) → first_place p ks ≡ length ks → None ≡ number_of (rows ks ns) p
 no_number p [] ns h = refl
 no_number p (k ∷ ks) [] h = refl
-no_number p (k ∷ ks) (n ∷ ns) h =
-    by_test (bytes_eq k p) (λ t. let z : first_place p (k ∷ ks) ≡ 0 = rw t refl in absurd (omega (arith, z, h)))
-    (λ f.
-    let z : first_place p (k ∷ ks) ≡ suc (first_place p ks) = rw f refl in
-    rw f (no_number p ks ns (omega (arith, z, h))))
+no_number p (k ∷ ks) (n ∷ ns) h = let q = not_first p k ks h in rw q.0 (no_number p ks ns q.1)
 
 pub found : (p : List ℕ) (ks : List (List ℕ)) (ns : List ℕ) (all : Numbered) (i n : ℕ) → rows ks ns ≡ all → length ks ≡ length ns → Some i ≡ position (bytes_eq p) ks → n ≡ get_or ns i n
     → Some n ≡ number_of all p
 found p ks ns all i n v e s g =
-    let at = first_is p ks (position_or_len (bytes_eq p) ks) i (or_len p ks) (sym s) in
+    let at : FoundAt p ks (Some i) = subst (FoundAt p ks) (sym s) (found_in bytes_eq exact_texts p ks) in
     let w : first_place p ks < length ks = subst (λ (x : ℕ). x < length ks) at.0 at.1 in
     ap Some (g ∙ ap (λ (x : ℕ). get_or ns x n) at.0) ∙ number_at p ks ns n e w ∙ ap (λ (x : Numbered). number_of x p) v
 
 pub missing : (p : List ℕ) (ks : List (List ℕ)) (ns : List ℕ) (all : Numbered) → rows ks ns ≡ all → None ≡ position (bytes_eq p) ks → None ≡ number_of all p
-missing p ks ns all v s = no_number p ks ns (none_is p ks (position_or_len (bytes_eq p) ks) (or_len p ks) (sym s)) ∙ ap (λ (x : Numbered). number_of x p) v
+missing p ks ns all v s = no_number p ks ns (subst (FoundAt p ks) (sym s) (found_in bytes_eq exact_texts p ks)) ∙ ap (λ (x : Numbered). number_of x p) v
 
 is_new : (p : List ℕ) (ks : List (List ℕ)) (ns : List ℕ) → length ks ≡ length ns → number_of (rows ks ns) p ≡ None → IsNew p ks
 is_new p [] ns e h = refl
@@ -100,7 +70,7 @@ module _ {K : Type 0} (bytes : K → List ℕ) (ok : (k : K) → IsUtf8 (bytes k
   none_kept k [] h = refl
   none_kept k (x ∷ ks) h =
       by_test (bytes_eq (chars (bytes x)) (chars (bytes k))) (λ t. absurd (cc (rw t at h)))
-      (λ f. rw (same-chars (bytes k) (bytes x) (ok k) (ok x), either_way (chars (bytes k)) (chars (bytes x)), f) (none_kept k ks (rw f at h)))
+      (λ f. rw (same-chars (bytes k) (bytes x) (ok k) (ok x), same_turned bytes_eq exact_texts (chars (bytes k)) (chars (bytes x)), f) (none_kept k ks (rw f at h)))
 
   pub texts_more : (xs ys : List K) (k : K) → ys ≡ xs ++ k ∷ [] → texts ys ≡ texts xs ++ chars (bytes k) ∷ []
   texts_more xs ys k e = ap texts e ∙ map-append (λ k. chars (bytes k)) xs (k ∷ [])

@@ -21,6 +21,7 @@ use Rattle.rx_eval.specs.Slots.{Open, owner_place, Apart, Within}
 use Rattle.rx_eval.specs.Standing.{Layer, frames_in, begun_by, own_in, under_in, open_in, waiter_of, said_of, LayerStands, LayersStand, owner_depth, page_context}
 use Rattle.rx_eval.proofs.NameLemmas.{grown_same, node_later, term_later, triples_later, inherited_later}
 use Rattle.rx_eval.proofs.FillLemmas.{within_more}
+use Rattle.rx_eval.proofs.ListLemmas.{owner_turned, no_suc, suc_is}
 
 -- ---- owners and their numbers
 
@@ -28,11 +29,7 @@ pub place_front : (xs ys : Open) (o : Owner) (n : ℕ) → owner_place xs o ≡ 
 place_front [] ys o n h = absurd (cc)
 place_front (x ∷ xs) ys o n h =
     by_test (same_owner x.0 o) (λ t. rw t (rw t at h))
-    (λ f. rw f (go (owner_place xs o) refl (rw f at h) (place_front xs ys o)))
-  where
-    go : (p : Option ℕ) → owner_place xs o ≡ p → option_map suc p ≡ Some n → ((m : ℕ) → owner_place xs o ≡ Some m → owner_place (xs ++ ys) o ≡ Some m) → option_map suc (owner_place (xs ++ ys) o) ≡ Some n
-    go None e k more = absurd (cc)
-    go (Some m) e k more = ap (option_map suc) (more m e) ∙ k
+    (λ f. rw f (let m = suc_is (owner_place xs o) n (rw f at h) in ap (option_map suc) (place_front xs ys o m.0 m.1) ∙ ap Some (sym m.2)))
 
 pub grown_open : (xs ys : Open) → Grown (owner_place xs) (owner_place (xs ++ ys))
 grown_open xs ys = record { keeps = place_front xs ys }
@@ -45,12 +42,8 @@ place_back [] ys o h = shifted (owner_place ys o)
     shifted (Some n) = let e : n ≡ 0 + n = omega arith in ap Some e
 place_back (x ∷ xs) ys o h =
     by_test (same_owner x.0 o) (λ t. absurd (cc (rw t at h)))
-    (λ f. rw f (ap (option_map suc) (place_back xs ys o (go (owner_place xs o) (rw f at h))) ∙ shifted (owner_place ys o)))
+    (λ f. rw f (ap (option_map suc) (place_back xs ys o (no_suc (owner_place xs o) (rw f at h))) ∙ shifted (owner_place ys o)))
   where
-    go : (p : Option ℕ) → option_map suc p ≡ None → p ≡ None
-    go None k = refl
-    go (Some m) k = absurd (cc)
-
     shifted : (p : Option ℕ) → option_map suc (option_map (λ n. length xs + n) p) ≡ option_map (λ n. suc (length xs) + n) p
     shifted None = refl
     shifted (Some n) = let e : suc (length xs + n) ≡ suc (length xs) + n = omega arith in ap Some e
@@ -69,14 +62,7 @@ apart_more : (xs : Open) (o : Owner) (s : Node ℕ) → Apart xs → owner_place
 apart_more [] o s a h = (refl, tt)
 apart_more (x ∷ xs) o s a h =
     by_test (same_owner x.0 o) (λ t. absurd (cc (rw t at h)))
-    (λ f. (place_none xs ((o, s) ∷ []) x.0 a.0 (rw (turned f) refl), apart_more xs o s a.1 (go (owner_place xs o) (rw f at h))))
-  where
-    turned : same_owner x.0 o ≡ false → same_owner o x.0 ≡ false
-    turned f = false_unless (same_owner o x.0) (λ t. absurd (cc (f, (exact_owners x.0 o).1 (sym ((exact_owners o x.0).0 t)))))
-
-    go : (p : Option ℕ) → option_map suc p ≡ None → p ≡ None
-    go None k = refl
-    go (Some m) k = absurd (cc)
+    (λ f. (place_none xs ((o, s) ∷ []) x.0 a.0 (rw (owner_turned o x.0 ∙ f) refl), apart_more xs o s a.1 (no_suc (owner_place xs o) (rw f at h))))
 
 pub apart_begun : (xs : Open) (own : Option ℕ) (o : Owner) (s : Node ℕ) → Apart xs → owner_place xs o ≡ None → Apart (xs ++ begun_by own o s)
 apart_begun xs None o s a h = subst Apart (sym (append-nil xs)) a

@@ -1,5 +1,5 @@
 -- Text, and the end of an element.
-use Rattle.std.proofs.Common.{◌≡◌, ◌∙◌, ℕ, suc, inl, inr, Bool, true, false, ◌||◌, List, [], ◌∷◌, ◌++◌, map, length, Option, Some, None, refl, sym, ap, subst, subst₂, append_assoc}
+use Rattle.std.proofs.Common.{◌≡◌, ◌∙◌, ℕ, suc, inl, inr, Bool, true, false, ◌||◌, List, [], ◌∷◌, ◌++◌, map, length, Option, Some, None, refl, sym, ap, ap₂, subst, subst₂, append_assoc}
 use Rattle.std.specs.Prelude.{IfSome, is_some, if◌then◌else◌}
 use Rattle.rx_terms.specs.Text.{Chars}
 use Rattle.rx_model.specs.Sets.{Among}
@@ -9,6 +9,7 @@ use Rattle.rx_rdfa.specs.Resources.{Standing}
 use Rattle.rx_rdfa.specs.Inherited.{below}
 use Rattle.rx_rdfa.specs.Machine.{Machine, read}
 use Rattle.rx_rdfa.specs.Renaming.{rename_inherited}
+use Rattle.rx_eval.proofs.FillLemmas.{or_false}
 use Rattle.rx_eval.proofs.LayerLemmas.{some_as}
 use Rattle.rx_eval.specs.States.{Frame, State}
 use Rattle.rx_eval.specs.Keeping.{gathers_some}
@@ -91,16 +92,11 @@ module _ (to : Numbering) (base kept : Chars) where
       (read_stands chars (kept ++ chars) l lower h.0 (some_as _ _ l.frame.text (λ t k. kept_more chars t.mark l.text k) h.0.marked), layers_read chars lower h.1)
 
   any_front : (frames : List Frame) (frame : Frame) → gathers_some (frames ++ frame ∷ []) ≡ false → (gathers_some frames ≡ false) × (is_some frame.text ≡ false)
-  any_front [] frame h = (refl, first_false (is_some frame.text) false h)
-    where
-      first_false : (a b : Bool) → (a || b) ≡ false → a ≡ false
-      first_false true b h = absurd (cc)
-      first_false false b h = refl
-  any_front (f ∷ frames) frame h = split_or (is_some f.text) (gathers_some (frames ++ frame ∷ [])) h (λ k. any_front frames frame k)
-    where
-      split_or : (a b : Bool) → (a || b) ≡ false → (b ≡ false → (gathers_some frames ≡ false) × (is_some frame.text ≡ false)) → ((a || gathers_some frames) ≡ false) × (is_some frame.text ≡ false)
-      split_or true b h k = absurd (cc)
-      split_or false b h k = k h
+  any_front [] frame h = (refl, (or_false (is_some frame.text) false h).0)
+  any_front (f ∷ frames) frame h =
+      let q = or_false (is_some f.text) (gathers_some (frames ++ frame ∷ [])) h in
+      let more = any_front frames frame q.1 in
+      (ap₂ (λ (a b : Bool). a || b) q.0 more.0, more.1)
 
   layers_quiet : (chars more : Chars) (layers : List Layer) → gathers_some (frames_in layers) ≡ false → LayersStand to base kept layers → LayersStand to base more (read_layers chars layers)
   layers_quiet chars more [] q h = tt

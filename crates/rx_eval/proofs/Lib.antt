@@ -36,4 +36,3 @@ pub mod DrawLemmas
 pub mod TripleLemmas
 pub mod StartLemmas
 pub mod TextLemmas
-pub mod PlacedLemmas

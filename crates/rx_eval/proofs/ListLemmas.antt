@@ -15,12 +15,11 @@ use Rattle.rx_terms.proofs.Bools.{by_test}
 use Rattle.rx_eval.specs.OwnersSeen.{Owning, owning, put_at, put_entries}
 use Rattle.rx_eval.specs.Numbering.{Name, Number, name_by, named}
 use Rattle.rx_eval.specs.Slots.{Slots, Open, owner_place, item_of, table_in, owners_of, Apart}
+use Rattle.rx_lists.proofs.RowLemmas.{turned}
 use Rattle.rx_eval.proofs.ElementLemmas.{slot_value}
 
 pub owner_turned : (a b : Owner) → same_owner a b ≡ same_owner b a
-owner_turned a b =
-    by_test (same_owner a b) (λ t. t ∙ sym ((exact_owners b a).1 (sym ((exact_owners a b).0 t))))
-    (λ f. by_test (same_owner b a) (λ t. absurd (cc (f, (exact_owners a b).1 (sym ((exact_owners b a).0 t))))) (λ g. f ∙ sym g))
+owner_turned = turned same_owner same_owner exact_owners exact_owners
 
 -- ---- one more slot
 
@@ -41,11 +40,11 @@ out_table : (slots : Slots) (y : Entry Owner (Slot ℕ)) (o : Owner) → same_ow
 out_table slots y o t =
     ap (λ (l : Slots). table_from [] (map (map_entry item_of) l)) (of_more slots y o ∙ ap (λ (b : Bool). of_owner same_owner o slots ++ (if b then y ∷ [] else [])) t ∙ append-nil (of_owner same_owner o slots))
 
-no_suc : (o : Option ℕ) → option_map suc o ≡ None → o ≡ None
+pub no_suc : (o : Option ℕ) → option_map suc o ≡ None → o ≡ None
 no_suc None h = refl
 no_suc (Some n) h = absurd (cc)
 
-suc_is : (o : Option ℕ) (n : ℕ) → option_map suc o ≡ Some n → (m : ℕ) × (o ≡ Some m) × (n ≡ suc m)
+pub suc_is : (o : Option ℕ) (n : ℕ) → option_map suc o ≡ Some n → (m : ℕ) × (o ≡ Some m) × (n ≡ suc m)
 suc_is None n h = absurd (cc)
 suc_is (Some m) n h = (m, refl, let e : suc m ≡ n = cc in sym e)
 
@@ -91,21 +90,31 @@ by_name own y = record { owner = named own y.owner; predicate = y.predicate; ite
 pub record Match (own : Owner → Option ℕ) (xs : Puts) (ys : Slots) : Type 0 where
   pub path : map by_number xs ≡ map (by_name own) ys
 
-pub number_is : {A : Type 0} (a : A) (o : Option ℕ) (n : ℕ) → Number n ≡ name_by a o → o ≡ Some n
+number_is : {A : Type 0} (a : A) (o : Option ℕ) (n : ℕ) → Number n ≡ name_by a o → o ≡ Some n
 number_is a None n e = absurd (cc)
 number_is a (Some m) n e = let q : n ≡ m = cc in ap Some (sym q)
+
+-- of the first two, and of the others
+pub record Firsts (own : Owner → Option ℕ) (x : Entry ℕ (Option (Term ℕ))) (y : Entry Owner (Slot ℕ)) (xs : Puts) (ys : Slots) : Type 0 where
+  pub first : by_number x ≡ by_name own y
+  pub owner : own y.owner ≡ Some x.owner
+  pub item : x.item ≡ option_map item_of y.item
+  pub rest : Match own xs ys
+
+pub firsts : (own : Owner → Option ℕ) (x : Entry ℕ (Option (Term ℕ))) (y : Entry Owner (Slot ℕ)) (xs : Puts) (ys : Slots) → Match own (x ∷ xs) (y ∷ ys) → Firsts own x y xs ys
+firsts own x y xs ys m =
+    let q = m.path in
+    let e : by_number x ≡ by_name own y = cc q in
+    record { first = e; owner = number_is y.owner (own y.owner) x.owner (λ i. (e i).owner); item = λ i. (e i).item; rest = record { path = cc q } }
 
 pub put_all : (open_owners : Open) → Apart open_owners → (xs : Puts) (ys slots : Slots) → Match (owner_place open_owners) xs ys → put_entries xs (owners_of slots open_owners) ≡ owners_of (slots ++ ys) open_owners
 put_all open_owners a [] [] slots e = ap (λ (s : Slots). owners_of s open_owners) (sym (append-nil slots))
 put_all open_owners a [] (y ∷ ys) slots e = let q = e.path in absurd (cc q)
 put_all open_owners a (x ∷ xs) [] slots e = let q = e.path in absurd (cc q)
 put_all open_owners a (x ∷ xs) (y ∷ ys) slots e =
-    let q = e.path in
-    let first : by_number x ≡ by_name (owner_place open_owners) y = cc q in
-    let rest : map by_number xs ≡ map (by_name (owner_place open_owners)) ys = cc q in
-    let o = number_is y.owner (owner_place open_owners y.owner) x.owner (ap (λ (e : Entry (Name Owner) (Option (Term ℕ))). e.owner) first) in
-    ap (put_entries xs) ((λ i. put_at x.owner (first i).predicate (first i).item (owners_of slots open_owners)) ∙ put_one open_owners slots y x.owner a o)
-    ∙ put_all open_owners a xs ys (slots ++ y ∷ []) (record { path = rest })
+    let q = firsts (owner_place open_owners) x y xs ys e in
+    ap (put_entries xs) ((λ i. put_at x.owner (q.first i).predicate (q.first i).item (owners_of slots open_owners)) ∙ put_one open_owners slots y x.owner a q.owner)
+    ∙ put_all open_owners a xs ys (slots ++ y ∷ []) q.rest
     ∙ ap (λ (s : Slots). owners_of s open_owners) (append_assoc slots (y ∷ []) ys)
 
 -- slots by numbers, from entries by numbers and slots by the rules' names

@@ -40,21 +40,21 @@ module _ {A : Type 0} (old new : A → Option ℕ) (grown : Grown old new) where
   abbrev later_name : Name A → Name A
   later_name = later old new grown
 
+  -- of whatever is renamed by numbers and by names, if it is renamed in two steps too
+  pub named_later : {X Y Z : Type 0} (number : X → Z) (moved : Z → Z) (name : (A → Name A) → Y → Z) → ((x : X) → number x ≡ moved (number x)) → ((y : Y) → name (λ a. later_name (named old a)) y ≡ moved (name (named old) y))
+      → (x : X) (y : Y) → number x ≡ name (named old) y → number x ≡ name (named new) y
+  named_later number moved name n m x y e = n x ∙ ap moved e ∙ sym (m y) ∙ ap (λ (f : A → Name A). name f y) (sym (later_is old new grown))
+
   pub node_later : (x : Node ℕ) (y : Node A) → rename_node Number x ≡ rename_node (named old) y → rename_node Number x ≡ rename_node (named new) y
-  node_later x y e =
-      node_then later_name Number x ∙ ap (rename_node later_name) e ∙ sym (node_then later_name (named old) y)
-      ∙ ap (λ (f : A → Name A). rename_node f y) (sym (later_is old new grown))
+  node_later = named_later (rename_node Number) (rename_node later_name) rename_node (node_then later_name Number) (node_then later_name (named old))
 
   pub term_later : (x : Term ℕ) (y : Term A) → rename_term Number x ≡ rename_term (named old) y → rename_term Number x ≡ rename_term (named new) y
-  term_later x y e =
-      term_then later_name Number x ∙ ap (rename_term later_name) e ∙ sym (term_then later_name (named old) y)
-      ∙ ap (λ (f : A → Name A). rename_term f y) (sym (later_is old new grown))
+  term_later = named_later (rename_term Number) (rename_term later_name) rename_term (term_then later_name Number) (term_then later_name (named old))
 
   pub triples_later : (xs : List (Triple ℕ)) (ys : List (Triple A)) → map (rename Number) xs ≡ map (rename (named old)) ys → map (rename Number) xs ≡ map (rename (named new)) ys
-  triples_later xs ys e =
-      many_then (rename Number) (rename later_name) (rename Number) (triple_then later_name Number) xs ∙ ap (map (rename later_name)) e
-      ∙ sym (many_then (rename (λ a. later_name (named old a))) (rename later_name) (rename (named old)) (triple_then later_name (named old)) ys)
-      ∙ ap (λ (f : A → Name A). map (rename f) ys) (sym (later_is old new grown))
+  triples_later =
+      named_later (map (rename Number)) (map (rename later_name)) (λ f. map (rename f)) (many_then (rename Number) (rename later_name) (rename Number) (triple_then later_name Number))
+      (many_then (rename (λ a. later_name (named old a))) (rename later_name) (rename (named old)) (triple_then later_name (named old)))
 
   slot_then : {X Y Z : Type 0} (h : Y → Z) (f : X → Y) (s : Slot X) → rename_slot (λ a. h (f a)) s ≡ rename_slot h (rename_slot f s)
   slot_then h f (Full t) = ap Full (term_then h f t)
@@ -66,11 +66,12 @@ module _ {A : Type 0} (old new : A → Option ℕ) (grown : Grown old new) where
 
   pub slots_later : {O : Type 0} (xs : List (Entry O (Slot ℕ))) (ys : List (Entry O (Slot A))) → map (map_entry (rename_slot Number)) xs ≡ map (map_entry (rename_slot (named old))) ys
       → map (map_entry (rename_slot Number)) xs ≡ map (map_entry (rename_slot (named new))) ys
-  slots_later xs ys e =
-      many_then (map_entry (rename_slot Number)) (map_entry (rename_slot later_name)) (map_entry (rename_slot Number)) (λ x i. record { owner = x.owner; predicate = x.predicate; item = item_then later_name Number x.item i }) xs
-      ∙ ap (map (map_entry (rename_slot later_name))) e
-      ∙ sym (many_then (map_entry (rename_slot (λ a. later_name (named old a)))) (map_entry (rename_slot later_name)) (map_entry (rename_slot (named old))) (λ y i. record { owner = y.owner; predicate = y.predicate; item = item_then later_name (named old) y.item i }) ys)
-      ∙ ap (λ (f : A → Name A). map (map_entry (rename_slot f)) ys) (sym (later_is old new grown))
+  slots_later {O} =
+      named_later (map (map_entry (rename_slot Number))) (map (map_entry (rename_slot later_name))) (λ f. map (map_entry (rename_slot f))) (moves Number) (moves (named old))
+    where
+      moves : {X : Type 0} (f : X → Name A) (xs : List (Entry O (Slot X))) → map (map_entry (rename_slot (λ a. later_name (f a)))) xs ≡ map (map_entry (rename_slot later_name)) (map (map_entry (rename_slot f)) xs)
+      moves f =
+          many_then (map_entry (rename_slot (λ a. later_name (f a)))) (map_entry (rename_slot later_name)) (map_entry (rename_slot f)) (λ x i. record { owner = x.owner; predicate = x.predicate; item = item_then later_name f x.item i })
 
 -- ---- the same for what has two kinds of names
 

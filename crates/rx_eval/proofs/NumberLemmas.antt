@@ -23,6 +23,11 @@ none_is (Some n) h = absurd (cc)
 
 -- ---- one more number
 
+-- a number that is drawn, or a cell's, is so when more are
+pub raised : (n drawn more cells more_cells : ℕ) → drawn ≤ more → cells ≤ more_cells → (n < drawn) ⊎ ((2 ^ 61 ≤ n) × (n < cells)) → (n < more) ⊎ ((2 ^ 61 ≤ n) × (n < more_cells))
+raised n drawn more cells more_cells a b (inl x) = inl (omega (arith, x, a))
+raised n drawn more cells more_cells a b (inr x) = inr (x.0, omega (arith, x.1, b))
+
 module _ (to : Numbering) (new : Bnode) (k : ℕ) where
   pub at_new : with_number to new k new ≡ Some k
   at_new = rw ((exact_bnodes new new).1 refl) refl
@@ -50,11 +55,7 @@ module _ (to : Numbering) (new : Bnode) (k : ℕ) where
     where
       bound : (b : Bnode) (n : ℕ) → ((b ≡ new) × (k ≡ n)) ⊎ (to b ≡ Some n) → (n < after) ⊎ ((2 ^ 61 ≤ n) × (n < cells))
       bound b n (inl q) = inl (omega (arith, q.1, hi))
-      bound b n (inr q) = raised (h.bounded b n q)
-        where
-          raised : (n < drawn) ⊎ ((2 ^ 61 ≤ n) × (n < cells)) → (n < after) ⊎ ((2 ^ 61 ≤ n) × (n < cells))
-          raised (inl x) = inl (omega (arith, x, lo, hi))
-          raised (inr x) = inr x
+      bound b n (inr q) = raised n drawn after cells cells (omega (arith, lo, hi)) (omega arith) (h.bounded b n q)
 
       clash : (n : ℕ) → k ≡ n → (n < drawn) ⊎ ((2 ^ 61 ≤ n) × (n < cells)) → ⊥
       clash n q (inl x) = omega (arith, x, q, lo)

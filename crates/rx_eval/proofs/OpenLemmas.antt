@@ -1,5 +1,5 @@
 -- The start of an element on the stack.
-use Rattle.std.proofs.Common.{◌≡◌, ◌∙◌, ℕ, suc, Bool, true, ◌+◌, ◌<◌, ◌≤◌, ◌^◌, List, [], ◌∷◌, map, length, Option, Some, None, is_some, option_map, refl, sym, ap, subst, arith}
+use Rattle.std.proofs.Common.{◌≡◌, ◌∙◌, ℕ, suc, Bool, true, ◌+◌, ◌<◌, ◌^◌, List, [], ◌∷◌, map, length, Option, Some, None, is_some, option_map, refl, sym, ap, subst, arith}
 use Rattle.std.specs.Prelude.{IfSome, ◌==◌}
 use Rattle.std.proofs.lemmas.Bool.Decides.{nat_tests}
 use Rattle.rx_terms.specs.Text.{Chars}
@@ -40,8 +40,9 @@ opened_text labels fresh base facts owners l m a b n k (Some x) d e f h =
     (subst (λ (c : Inherited ℕ ℕ). Gathers facts (resources_by labels fresh base m c facts) (places_at labels fresh base m c facts owners) n (text_seen x)) e
     (subst (λ (j : Level). Gathers facts (resources_by labels fresh base j a facts) (places_at labels fresh base j a facts owners) n (text_seen x)) d h))
 
-pub fresh_fits : (old new : Numbered) (drawn fresh : ℕ) (labels : List Chars) → Drawn old drawn labels new fresh → drawn + 1 + length labels ≤ 2 ^ 61 → fresh + 1 < 2 ^ 64
-fresh_fits old new drawn fresh labels d h = omega (arith, drawn_most old new drawn fresh labels d, h)
+-- the numbers of one element's labels and of its new node
+pub fresh_room : (old new : Numbered) (next fresh : ℕ) (labels : List Chars) → Drawn old next labels new fresh → next + 1 + length labels < 2 ^ 64 → fresh + 1 < 2 ^ 64
+fresh_room old new next fresh labels d h = omega (arith, drawn_most old new next fresh labels d, h)
 
 waits_are : (ws : List IncompleteTriple) → map wait_seen ws ≡ map wait_by (map waiting_seen ws)
 waits_are [] = refl

@@ -1,6 +1,6 @@
 -- An element by two namings that differ only in names for which it isn't asked: that of a new node which it doesn't make,
 -- and those of owners which it doesn't begin.
-use Rattle.std.proofs.Common.{◌≡◌, ◌∙◌, ◌⊎◌, inl, inr, Bool, true, false, cond, not, ◌&&◌, ◌||◌, List, [], ◌∷◌, ◌++◌, map, filter_map, Option, Some, None, option_map, is_none, is_some, unwrap_or, refl, ap, ap₂}
+use Rattle.std.proofs.Common.{◌≡◌, ◌∙◌, ◌⊎◌, inl, inr, ℕ, zero, suc, length, arith, Bool, true, false, cond, not, ◌&&◌, ◌||◌, List, [], ◌∷◌, ◌++◌, map, filter_map, Option, Some, None, option_map, is_none, is_some, unwrap_or, refl, ap, ap₂}
 use Rattle.std.specs.Option.{option_or}
 use Rattle.std.specs.Bool.{then_some}
 use Rattle.rx_terms.specs.Text.{Chars}
@@ -10,6 +10,7 @@ use Rattle.rx_rdfa.specs.Facts.{Facts}
 use Rattle.rx_rdfa.specs.Resources.{Hanging, Forward, Reverse, InList, Standing, Resources, resource_named, has_link, is_plain_property, is_root, is_root_child, is_head_or_body, only, about, linked_resource, base_at_root, default_subject, new_blank, of_property, of_no_link, of_link, resources}
 use Rattle.rx_rdfa.specs.Inherited.{listed, hangs, object_below, own_owner, hanging_of, owner_below, handed}
 use Rattle.rx_rdfa.specs.Lists.{Entry, entry, linked, awaited, entries_by}
+use Rattle.rx_eval.specs.Places.{level_at, path_at}
 
 -- ---- options of which the last isn't asked, or is what is had
 
@@ -112,6 +113,18 @@ chosen_is W false false a c x y z k f g h = h k
 never_both : (x t : Bool) → t ≡ true → (x && not t) ≡ false
 never_both true t e = rw e refl
 never_both false t e = refl
+
+-- a path's level tells whether it is the root's, or a child's of the root
+pub level_is : (d : ℕ) (path : Path) → length path ≡ suc d → (is_root path ≡ is_root (path_at (level_at d))) × (is_root_child path ≡ is_root_child (path_at (level_at d)))
+level_is d [] e = absurd (omega arith)
+level_is zero (i ∷ []) e = (refl, refl)
+level_is zero (i ∷ j ∷ r) e = absurd (omega arith)
+level_is (suc zero) (i ∷ []) e = absurd (omega arith)
+level_is (suc zero) (i ∷ j ∷ []) e = (refl, refl)
+level_is (suc zero) (i ∷ j ∷ k ∷ r) e = absurd (omega arith)
+level_is (suc (suc d)) (i ∷ []) e = absurd (omega arith)
+level_is (suc (suc d)) (i ∷ j ∷ []) e = absurd (omega arith)
+level_is (suc (suc d)) (i ∷ j ∷ k ∷ r) e = (refl, refl)
 
 -- the naming with other names for the element's new node and its owners
 abbrev pub other : {B O : Type 0} → Naming B O → B → O → O → Naming B O

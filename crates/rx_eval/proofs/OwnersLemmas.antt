@@ -37,7 +37,7 @@ pub owners_length : (slots : Slots) (open_owners : Open) → length (owners_of s
 owners_length slots [] = refl
 owners_length slots (x ∷ xs) = ap suc (owners_length slots xs)
 
-last_seen : (xs : List (Option Owning)) (x : Option Owning) → open_seen (xs ++ x ∷ []) (length xs) ≡ x
+pub last_seen : (xs : List (Option Owning)) (x : Option Owning) → open_seen (xs ++ x ∷ []) (length xs) ≡ x
 last_seen [] x = refl
 last_seen (y ∷ xs) x = last_seen xs x
 

@@ -1,14 +1,14 @@
 -- An element that says no more than what it refers to, where it may wait: what it opens and ends.
 use Rattle.std.proofs.Common.{◌≡◌, ◌∙◌, ◌<◌, ◌-◌, ◌+◌, ℕ, suc, Bool, true, false, List, [], ◌∷◌, ◌++◌, length, Option, Some, None, refl, sym, ap, ap₂, subst, append-nil, append_assoc, length-append, arith}
-use Rattle.std.specs.Prelude.{is_none, ◌||◌, ◌==◌, is_some, nat_eq, filter_map, if◌then◌else◌}
+use Rattle.std.specs.Prelude.{◌||◌, ◌==◌, is_some, nat_eq, filter_map, if◌then◌else◌}
 use Rattle.std.proofs.lemmas.Bool.Decides.{nat_tests}
 use Rattle.rx_terms.specs.Text.{Chars}
-use Rattle.rx_terms.proofs.Bools.{both, by_test}
+use Rattle.rx_terms.proofs.Bools.{by_test}
 use Rattle.rx_refs.specs.Resolve.{resolved}
 use Rattle.rx_model.specs.Seen.{node_seen}
 use Rattle.rx_model.specs.Terms.{Node, Iri, Blank, Term, Triple, same_node}
 use Rattle.rx_rdfa.specs.Naming.{Naming}
-use Rattle.rx_rdfa.specs.Facts.{Facts, ElementKind, Datatype, Ref, IriRef, LabelRef, RelativeRef}
+use Rattle.rx_rdfa.specs.Facts.{Facts, Ref, IriRef, LabelRef, RelativeRef}
 use Rattle.rx_rdfa.specs.Resources.{Hanging, Inherited, Standing, Resources, resources}
 use Rattle.rx_rdfa.specs.Inherited.{below}
 use Rattle.rx_rdfa.specs.Element.{start_of, properties_by, completed}
@@ -20,40 +20,24 @@ use Rattle.rx_eval.specs.Labels.{Numbered}
 use Rattle.rx_eval.specs.Moment.{moment}
 use Rattle.rx_eval.specs.Opened.{handed_on, skipped_state, read_text, Opens}
 use Rattle.rx_eval.specs.Opening.{drawn_after}
-use Rattle.rx_eval.specs.OwnersSeen.{Owning, owning, open_seen, cells_seen, ended_by, ended, forgotten_seen}
+use Rattle.rx_eval.specs.OwnersSeen.{Owning, owning, cells_seen, ended_by, ended, forgotten_seen}
 use Rattle.rx_eval.specs.Places.{level_at, standing_by}
 use Rattle.rx_eval.specs.declared.places.Level.{Level}
-use Rattle.rx_eval.specs.ElementResources.{claims_nothing}
 use Rattle.rx_eval.specs.Referring.{says_no_more, reference_in, only_reference, referring_context, referring_frame, referred_by, with_pending, is_iri, LetsWait, MayWait, IsKept}
 use Rattle.rx_eval.specs.declared.pending.Pending.{Pending}
 use Rattle.rx_eval.specs.Skipping.{skipped_frame, skipped_frames}
 use Rattle.rx_eval.specs.States.{State, Frame}
 use Rattle.rx_eval.specs.Waits.{Shows, waits as waits_in}
 use Rattle.rx_eval.specs.declared.inherited.Inherited.{Inherited as Shown}
-use Rattle.rx_eval.proofs.SilentLemmas.{none_is, skipped_closes}
+use Rattle.rx_eval.proofs.OwnersLemmas.{last_seen}
+use Rattle.rx_eval.proofs.SilentLemmas.{SaysNoMore, no_more, skipped_closes}
 use Rattle.rx_eval.proofs.SkippedLemmas.{handed_skipped, handed_joined, skipped_more, length_skipped, none_gathers}
 
 -- ---- by the rules
 
-module _ (kind : ElementKind) (reference : Chars) (content datetime : Option Chars) (datatype : Option Datatype) (inlist : Bool) (lang : Option Chars) where
-  abbrev facts : Facts
-  facts = record {
-    kind = kind;
-    about = None;
-    resource = None;
-    href = Some (RelativeRef reference);
-    src = None;
-    rel = None;
-    rev = None;
-    property = None;
-    types = None;
-    content = content;
-    datetime = datetime;
-    datatype = datatype;
-    inlist = inlist;
-    vocab = None;
-    lang = lang;
-  }
+module _ (given : Facts) (reference : Chars) where
+  abbrev plain : Facts
+  plain = record given { about = None; resource = None; href = Some (RelativeRef reference); src = None; rel = None; rev = None; property = None; types = None; vocab = None }
 
   module _ (labels : Numbered) (fresh : ℕ) (base : Chars) (level : Level) (around : Inherited ℕ ℕ) where
     abbrev subject : Node ℕ
@@ -62,39 +46,39 @@ module _ (kind : ElementKind) (reference : Chars) (content datetime : Option Cha
     abbrev here : Resources ℕ
     here = record { subject = subject; typed = None; object = None; skipped = false }
 
-    hands : (n : ℕ) → referring_context around n subject ≡ below_at labels fresh base level around facts n
+    hands : (n : ℕ) → referring_context around n subject ≡ below_at labels fresh base level around plain n
     unfolding below resources
     hands n = refl
 
-    says_none : (naming : Naming ℕ ℕ) (value : Option (Term ℕ)) → properties_by naming base (standing_by level around facts) here value ≡ []
+    says_none : (naming : Naming ℕ ℕ) (value : Option (Term ℕ)) → properties_by naming base (standing_by level around plain) here value ≡ []
     says_none naming None = refl
-    says_none naming (Some value) = by_test inlist (λ t. rw t refl) (λ f. rw f refl)
+    says_none naming (Some value) = by_test given.inlist (λ t. rw t refl) (λ f. rw f refl)
 
-    adds : around.hanging ≡ [] → start_at labels fresh base level around facts ≡ []
+    adds : around.hanging ≡ [] → start_at labels fresh base level around plain ≡ []
     unfolding start_of resources
     adds e =
         let naming : Naming ℕ ℕ = moment labels fresh 0 0 in
-        let at : Standing ℕ ℕ = standing_by level around facts in
+        let at : Standing ℕ ℕ = standing_by level around plain in
         let rest : List (Triple ℕ) → List (Hanging ℕ) → List (Triple ℕ) = λ l hs. l ++ filter_map (completed naming base at here) hs in
-        ap₂ rest (says_none naming (value_now (rule naming base facts here) facts)) e
+        ap₂ rest (says_none naming (value_now (rule naming base plain here) plain)) e
 
-    begins : (owners : List (Option Owning)) → around.hanging ≡ [] → begun_seen subject around.object owners ≡ lists_at labels fresh base level around facts owners
+    begins : (owners : List (Option Owning)) → around.hanging ≡ [] → begun_seen subject around.object owners ≡ lists_at labels fresh base level around plain owners
     unfolding resources
-    begins owners e = by_test inlist (λ t. rw (t, e) refl) (λ f. rw (f, e) refl)
+    begins owners e = by_test given.inlist (λ t. rw (t, e) refl) (λ f. rw (f, e) refl)
 
-    keeps : false ≡ gathers_at labels fresh base level around facts
+    keeps : false ≡ gathers_at labels fresh base level around plain
     unfolding resources
     keeps = refl
 
-    owns : (n : ℕ) → owner_begun subject around.object n ≡ own_at labels fresh base level around facts n
+    owns : (n : ℕ) → owner_begun subject around.object n ≡ own_at labels fresh base level around plain n
     unfolding resources
     owns n = refl
 
-    owns_below : (n : ℕ) → None ≡ below_own_at labels fresh base level around facts n
+    owns_below : (n : ℕ) → None ≡ below_own_at labels fresh base level around plain n
     unfolding resources
     owns_below n = refl
 
-  opens_plain : (old : State) → (handed_on old.page old.frames).hanging ≡ [] → Opens old facts (referred_by (Iri (resolved old.base reference)) 0 old)
+  opens_plain : (old : State) → (handed_on old.page old.frames).hanging ≡ [] → Opens old plain (referred_by (Iri (resolved old.base reference)) 0 old)
   opens_plain old e =
       let level : Level = level_at (length old.frames) in
       let around : Inherited ℕ ℕ = handed_on old.page old.frames in
@@ -114,64 +98,6 @@ module _ (kind : ElementKind) (reference : Chars) (content datetime : Option Cha
         rest = (refl, refl, refl, refl, refl, refl, refl);
       }
 
--- any facts of which these parts are absent
-opens_with : (old : State) (kind : ElementKind) (reference : Chars) (about resource href src : Option Ref) (rel rev property : Option (List Chars)) (types : Option (List Ref))
-    (content datetime : Option Chars) (datatype : Option Datatype) (inlist : Bool) (vocab lang : Option Chars)
-    → about ≡ None → resource ≡ None → href ≡ Some (RelativeRef reference) → src ≡ None → rel ≡ None → rev ≡ None → property ≡ None → types ≡ None → vocab ≡ None
-    → (handed_on old.page old.frames).hanging ≡ []
-    → Opens old
-    (record {
-      kind = kind;
-      about = about;
-      resource = resource;
-      href = href;
-      src = src;
-      rel = rel;
-      rev = rev;
-      property = property;
-      types = types;
-      content = content;
-      datetime = datetime;
-      datatype = datatype;
-      inlist = inlist;
-      vocab = vocab;
-      lang = lang;
-    })
-    (referred_by (Iri (resolved old.base reference)) 0 old)
-opens_with old kind reference about resource href src rel rev property types content datetime datatype inlist vocab lang a r h s l v p t c e =
-    rw (a, r, h, s, l, v, p, t, c) (opens_plain kind reference content datetime datatype inlist lang old e)
-
--- what is absent, where nothing else is said
-record SaysNoMore (facts : Facts) : Type 0 where
-  about : facts.about ≡ None
-  resource : facts.resource ≡ None
-  src : facts.src ≡ None
-  rel : facts.rel ≡ None
-  rev : facts.rev ≡ None
-  property : facts.property ≡ None
-  types : facts.types ≡ None
-  vocab : facts.vocab ≡ None
-
-no_more : (facts : Facts) → says_no_more facts ≡ true → SaysNoMore facts
-no_more facts h =
-    let parts = both (claims_nothing facts) _ h in
-    let rel = both (is_none facts.rel) _ parts.0 in
-    let rev = both (is_none facts.rev) _ rel.1 in
-    let property = both (is_none facts.property) _ rev.1 in
-    let types = both (is_none facts.types) _ property.1 in
-    let about = both (is_none facts.about) _ parts.1 in
-    let resource = both (is_none facts.resource) _ about.1 in
-    record {
-      about = none_is facts.about about.0;
-      resource = none_is facts.resource resource.0;
-      src = none_is facts.src resource.1;
-      rel = none_is facts.rel rel.0;
-      rev = none_is facts.rev rev.0;
-      property = none_is facts.property property.0;
-      types = none_is facts.types types.0;
-      vocab = none_is facts.vocab types.1;
-    }
-
 reference_is : (href : Option Ref) (reference : Chars) → reference_in href ≡ Some reference → href ≡ Some (RelativeRef reference)
 reference_is None reference e = absurd (cc)
 reference_is (Some (IriRef iri)) reference e = absurd (cc)
@@ -185,8 +111,10 @@ opens_referring old facts reference o e = by_test (says_no_more facts) (λ t. al
     alone : says_no_more facts ≡ true → Some reference ≡ reference_in facts.href → Opens old facts (referred_by (Iri (resolved old.base reference)) 0 old)
     alone t h =
         let s : SaysNoMore facts = no_more facts t in
-        opens_with old facts.kind reference facts.about facts.resource facts.href facts.src facts.rel facts.rev facts.property facts.types facts.content facts.datetime facts.datatype facts.inlist facts.vocab facts.lang
-        s.about s.resource (reference_is facts.href reference (sym h)) s.src s.rel s.rev s.property s.types s.vocab e
+        let href = reference_is facts.href reference (sym h) in
+        let same : plain facts reference ≡ facts =
+        λ i. record facts { about = sym s.about i; resource = sym s.resource i; href = sym href i; src = sym s.src i; rel = sym s.rel i; rev = sym s.rev i; property = sym s.property i; types = sym s.types i; vocab = sym s.vocab i } in
+        subst (λ (f : Facts). Opens old f (referred_by (Iri (resolved old.base reference)) 0 old)) same (opens_plain facts reference old e)
 
 -- ---- its frame among the others
 
@@ -251,10 +179,6 @@ module _ (node : Node ℕ) (old : State) where
 
 -- ---- its own lists
 
-last_open : (xs : List (Option Owning)) (x : Option Owning) → open_seen (xs ++ x ∷ []) (length xs) ≡ x
-last_open [] x = refl
-last_open (y ∷ xs) x = last_open xs x
-
 last_gone : (xs : List (Option Owning)) (x : Option Owning) → forgotten_seen (xs ++ x ∷ []) (length xs) ≡ ended xs
 last_gone [] x = refl
 last_gone (y ∷ xs) x = ap (ended_by y) (last_gone xs x)
@@ -267,7 +191,7 @@ ends_nothing subject other out owners cells e = by_test (same_node nat_eq subjec
     begun =
         let x : Option Owning = Some (owning subject []) in
         let rest : Option Owning → List (Option Owning) → Ending = λ o l. ending (out ++ cells_seen cells o) l (cells + cells_count o) in
-        sym (ap₂ rest (last_open owners x) (last_gone owners x ∙ e) ∙ ap₂ (λ (l : List (Triple ℕ)) (n : ℕ). ending l owners n) (append-nil out) (omega arith))
+        sym (ap₂ rest (last_seen owners x) (last_gone owners x ∙ e) ∙ ap₂ (λ (l : List (Triple ℕ)) (n : ℕ). ending l owners n) (append-nil out) (omega arith))
 
 -- the element itself is closed
 pub closes_referring : (subject : Node ℕ) (old : State) → LetsWait old → Closes (referred_by subject 0 old) old

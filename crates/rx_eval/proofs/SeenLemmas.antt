@@ -1,7 +1,8 @@
 -- What is put into the code's lists, as the rules see it.
-use Rattle.std.proofs.Common.{◌≡◌, ◌∙◌, ℕ, Bool, zero, suc, List, [], ◌∷◌, ◌++◌, map, filter_map, Option, Some, None, option_map, option_to_list, slice_set, bytes_eq, refl, sym, ap, ap₂, length, drop, ◌≤◌, slice_index_or, Result, Ok, Err, OnOk, IfOk}
+use Rattle.std.proofs.Common.{◌≡◌, ◌∙◌, ℕ, Bool, zero, suc, List, [], ◌∷◌, ◌++◌, map, filter_map, Option, Some, None, option_map, option_to_list, slice_set, bytes_eq, refl, sym, ap, ap₂, length, drop, ◌≤◌, slice_index_or, Result, OnOk}
 use Rattle.std.specs.Prelude.{if◌then◌else◌}
 use Rattle.std.proofs.lemmas.List.{map-append, map-set, length-map}
+use Rattle.std.proofs.lemmas.Result.{on_ok_weaker}
 use Rattle.rx_terms.specs.Text.{Chars}
 use Rattle.rx_terms.specs.declared.triples.Node.{Node as CodeNode}
 use Rattle.rx_terms.specs.declared.triples.Node.TheVariants as code_node
@@ -71,16 +72,16 @@ awaited_seen subject (InList owner p ∷ waiting) owners =
     term_is (code_node.Iri iri) = refl
     term_is (code_node.Blank b) = refl
 
-entries_then : (xs ys : Entries) (owners : List (Option Owning)) → put_entries (xs ++ ys) owners ≡ put_entries ys (put_entries xs owners)
+pub entries_then : (xs ys : Entries) (owners : List (Option Owning)) → put_entries (xs ++ ys) owners ≡ put_entries ys (put_entries xs owners)
 entries_then [] ys owners = refl
 entries_then (e ∷ xs) ys owners = entries_then xs ys (put_at e.owner e.predicate e.item owners)
 
 pub two_put : (xs ys : Entries) (a b c : List (Option Owning)) → b ≡ put_entries xs a → c ≡ put_entries ys b → c ≡ put_entries (xs ++ ys) a
 two_put xs ys a b c e f = f ∙ ap (put_entries ys) e ∙ sym (entries_then xs ys a)
 
+-- std's, by the name that rx_walk asks for
 pub if_ok : {A E P Q : Type 0} (r : Result A E) → (P → Q) → OnOk r P → OnOk r Q
-if_ok (Ok a) f h = f h
-if_ok (Err e) f h = h
+if_ok = on_ok_weaker
 
 pub seen_each : (old new : Owners) (n : ℕ) (item : Option (Option CodeTerm)) (ps : List Chars) (entries : Entries) → map (entry n (item_seen item)) ps ≡ entries
     → new ≡ put_each n item ps old → owners_seen new ≡ put_entries entries (owners_seen old)
@@ -134,13 +135,10 @@ row_at [] i = refl
 row_at (row ∷ lists) zero = refl
 row_at (row ∷ lists) (suc i) = row_at lists i
 
-set_mapped : {A B : Type 0} (f : A → B) (xs : List A) (i : ℕ) (x : A) → map f (slice_set xs i x) ≡ slice_set (map f xs) i (f x)
-set_mapped f xs i x = map-set f xs i x
-
 term_filled : (l p : ℕ) (t : CodeTerm) (lists : Slots) → slots_seen (with_term l p t lists) ≡ with_item l p (term_seen t) (slots_seen lists)
 term_filled l p t lists =
-    set_mapped row_seen lists l ((slice_index_or lists l ([], [])).0, slice_set (slice_index_or lists l ([], [])).1 p (Some t))
-    ∙ ap (λ (s : List (Option (Term ℕ))). slice_set (slots_seen lists) l ((slice_index_or lists l ([], [])).0, s)) (set_mapped (option_map term_seen) (slice_index_or lists l ([], [])).1 p (Some t))
+    map-set row_seen lists l ((slice_index_or lists l ([], [])).0, slice_set (slice_index_or lists l ([], [])).1 p (Some t))
+    ∙ ap (λ (s : List (Option (Term ℕ))). slice_set (slots_seen lists) l ((slice_index_or lists l ([], [])).0, s)) (map-set (option_map term_seen) (slice_index_or lists l ([], [])).1 p (Some t))
     ∙ ap (λ (r : List ℕ × List (Option (Term ℕ))). slice_set (slots_seen lists) l (r.0, slice_set r.1 p (Some (term_seen t)))) (row_at lists l)
 
 fill_is : (l p : ℕ) (t : CodeTerm) (owners : Owners) (n : ℕ) → owners_seen (changed (with_term l p t) owners n) ≡ fill_seen l p (term_seen t) (owners_seen owners) n
@@ -184,7 +182,7 @@ ended_are [] = refl
 ended_are (o ∷ owners) = ended_one o (trimmed owners) ∙ ap (ended_by (option_map owning_seen o)) (ended_are owners)
 
 pub seen_forgotten : (old new : Owners) (n : ℕ) → new ≡ forgotten old n → owners_seen new ≡ forgotten_seen (owners_seen old) n
-seen_forgotten old new n h = ap owners_seen h ∙ ended_are (slice_set old n None) ∙ ap ended (set_mapped (option_map owning_seen) old n None)
+seen_forgotten old new n h = ap owners_seen h ∙ ended_are (slice_set old n None) ∙ ap ended (map-set (option_map owning_seen) old n None)
 
 pub all_filled : (slots : List SlotId) (i : ℕ) (t : CodeTerm) (now whole : Owners) → length slots ≤ i → filled_in (drop i slots) t now ≡ whole → now ≡ whole
 all_filled slots i t now whole h e = ap (λ (l : List SlotId). filled_in l t now) (sym (nothing_left i slots h)) ∙ e
@@ -201,7 +199,3 @@ seen_count owners n = count_is (open_at owners n) ∙ ap cells_count (open_is ow
 pub places_then : (waits : Bool) (owner : ℕ) (xs ys : Entries) (ps : List Chars) (slots : List SlotId) (a b c : List (Option Owning)) → b ≡ put_entries xs a → c ≡ put_entries ys b
     → slots ≡ (if waits then places_for owner ps c else []) → slots ≡ (if waits then places_for owner ps (put_entries (xs ++ ys) a) else [])
 places_then waits owner xs ys ps slots a b c e f h = h ∙ ap (λ (l : List (Option Owning)). if waits then places_for owner ps l else []) (two_put xs ys a b c e f)
-
-pub ok_both : {A E : Type 0} {P Q : A → Type 0} (r : Result A E) → ((a : A) → P a → Q a) → IfOk r P → IfOk r Q
-ok_both (Ok a) f h = f a h
-ok_both (Err e) f h = h

@@ -11,6 +11,7 @@ use Rattle.rx_rdfa.specs.Resources.{Inherited, Standing, Resources, resources, i
 use Rattle.rx_rdfa.specs.Element.{start_of}
 use Rattle.rx_eval.specs.ElementResources.{claims_nothing, says_nothing}
 use Rattle.rx_eval.specs.Labels.{Numbered, draw}
+use Rattle.rx_eval.specs.Referring.{says_no_more}
 use Rattle.rx_eval.specs.Moment.{moment}
 use Rattle.rx_eval.specs.Places.{level_at, path_at, standing_by}
 use Rattle.rx_eval.specs.Ending.{Closes}
@@ -25,19 +26,19 @@ pub none_is : {A : Type 0} (o : Option A) → is_none o ≡ true → o ≡ None
 none_is None h = refl
 none_is (Some a) h = absurd (cc)
 
-record Silent (facts : Facts) : Type 0 where
-  about : facts.about ≡ None
-  resource : facts.resource ≡ None
-  href : facts.href ≡ None
-  src : facts.src ≡ None
-  rel : facts.rel ≡ None
-  rev : facts.rev ≡ None
-  property : facts.property ≡ None
-  types : facts.types ≡ None
-  vocab : facts.vocab ≡ None
+-- what is absent, where nothing is said but for href
+pub record SaysNoMore (facts : Facts) : Type 0 where
+  pub about : facts.about ≡ None
+  pub resource : facts.resource ≡ None
+  pub src : facts.src ≡ None
+  pub rel : facts.rel ≡ None
+  pub rev : facts.rev ≡ None
+  pub property : facts.property ≡ None
+  pub types : facts.types ≡ None
+  pub vocab : facts.vocab ≡ None
 
-silent : (facts : Facts) → says_nothing facts ≡ true → Silent facts
-silent facts h =
+pub no_more : (facts : Facts) → says_no_more facts ≡ true → SaysNoMore facts
+no_more facts h =
     let parts = both (claims_nothing facts) _ h in
     let rel = both (is_none facts.rel) _ parts.0 in
     let rev = both (is_none facts.rev) _ rel.1 in
@@ -45,12 +46,10 @@ silent facts h =
     let types = both (is_none facts.types) _ property.1 in
     let about = both (is_none facts.about) _ parts.1 in
     let resource = both (is_none facts.resource) _ about.1 in
-    let href = both (is_none facts.href) _ resource.1 in
     record {
       about = none_is facts.about about.0;
       resource = none_is facts.resource resource.0;
-      href = none_is facts.href href.0;
-      src = none_is facts.src href.1;
+      src = none_is facts.src resource.1;
       rel = none_is facts.rel rel.0;
       rev = none_is facts.rev rev.0;
       property = none_is facts.property property.0;
@@ -58,8 +57,20 @@ silent facts h =
       vocab = none_is facts.vocab types.1;
     }
 
+record Silent (facts : Facts) : Type 0 where
+  others : SaysNoMore facts
+  href : facts.href ≡ None
+
+silent : (facts : Facts) → says_nothing facts ≡ true → Silent facts
+silent facts h =
+    let parts = both (claims_nothing facts) _ h in
+    let about = both (is_none facts.about) _ parts.1 in
+    let resource = both (is_none facts.resource) _ about.1 in
+    let href = both (is_none facts.href) _ resource.1 in
+    record { others = no_more facts (rw (parts.0, about.0, resource.0, href.1) refl); href = none_is facts.href href.0 }
+
 no_labels : (facts : Facts) → Silent facts → labels facts ≡ []
-no_labels facts s = rw (s.about, s.resource, s.href, s.src, s.types) refl
+no_labels facts s = rw (s.others.about, s.others.resource, s.href, s.others.src, s.others.types) refl
 
 no_root : (depth : ℕ) → 0 < depth → is_root (path_at (level_at depth)) ≡ false
 no_root zero h = absurd (omega (arith, h))
@@ -72,11 +83,11 @@ module _ (drawn : Numbered) (fresh : ℕ) (base : Chars) (depth : ℕ) (around :
 
   skips : (resources (moment drawn fresh 0 0) base at).skipped ≡ true
   unfolding resources
-  skips = rw (s.rel, s.rev, s.property, s.about, s.resource, s.href, s.src, s.types, no_root depth h) refl
+  skips = rw (s.others.rel, s.others.rev, s.others.property, s.others.about, s.others.resource, s.href, s.others.src, s.others.types, no_root depth h) refl
 
   nothing : start_of (moment drawn fresh 0 0) base at ≡ []
   unfolding start_of resources
-  nothing = rw (s.vocab, skips) refl
+  nothing = rw (s.others.vocab, skips) refl
 
 -- ---- on the stack
 

@@ -10,20 +10,16 @@ use Rattle.rx_eval.specs.States.{Frame, frame_seen}
 use Rattle.rx_eval.specs.Keeping.{gathers_some}
 use Rattle.rx_eval.specs.Skipping.{skipped_frame, skipped_frames, all_frames, IsRooted}
 
--- one more with a frame of its own, inside as many skipped ones as it counts
-pub framed_more : (a : Inherited ℕ ℕ) (fs : List CodeFrame) (f : CodeFrame) → all_frames a (fs ++ f ∷ []) 0 ≡ all_frames a fs f.skipped ++ frame_seen f ∷ []
-framed_more a [] f = refl
-framed_more a (x ∷ fs) f =
-    ap (λ (l : List Frame). skipped_frames a x.skipped ++ frame_seen x ∷ l) (framed_more (context_seen x.context) fs f)
-    ∙ sym (append_assoc (skipped_frames a x.skipped) (frame_seen x ∷ all_frames (context_seen x.context) fs f.skipped) (frame_seen f ∷ []))
-
--- the same, with so many skipped ones in it
+-- one more with a frame of its own, inside as many skipped ones as it counts, and so many skipped ones in it
 counted_all : (a : Inherited ℕ ℕ) (fs : List CodeFrame) (f : CodeFrame) (m : ℕ)
     → all_frames a (fs ++ f ∷ []) m ≡ all_frames a fs f.skipped ++ frame_seen f ∷ skipped_frames (context_seen f.context) m
 counted_all a [] f m = refl
 counted_all a (x ∷ fs) f m =
     ap (λ (l : List Frame). skipped_frames a x.skipped ++ frame_seen x ∷ l) (counted_all (context_seen x.context) fs f m)
     ∙ sym (append_assoc (skipped_frames a x.skipped) (frame_seen x ∷ all_frames (context_seen x.context) fs f.skipped) (frame_seen f ∷ skipped_frames (context_seen f.context) m))
+
+pub framed_more : (a : Inherited ℕ ℕ) (fs : List CodeFrame) (f : CodeFrame) → all_frames a (fs ++ f ∷ []) 0 ≡ all_frames a fs f.skipped ++ frame_seen f ∷ []
+framed_more a fs f = counted_all a fs f 0
 
 pub framed_with : (a : Inherited ℕ ℕ) (fs : List CodeFrame) (f : CodeFrame) (m : ℕ) (seen : Frame) → frame_seen f ≡ seen
     → all_frames a (fs ++ f ∷ []) m ≡ all_frames a fs f.skipped ++ seen ∷ skipped_frames seen.context m

@@ -23,7 +23,7 @@ use Rattle.rx_eval.specs.States.{State}
 use Rattle.rx_eval.specs.Opened.{handed_on, Opens, begun_state, read_text}
 use Rattle.rx_eval.specs.Numbering.{Numbering, Name, Number, Itself, name_by, named, Numbers}
 use Rattle.rx_eval.specs.Slots.{owner_place}
-use Rattle.rx_eval.specs.Standing.{Layer, open_in, Runs, Phase, EvaluatorStands, StandsOn, page_context, no_numbers, number_in, Makes, HandsOn}
+use Rattle.rx_eval.specs.Standing.{Layer, LayersStand, frames_in, open_in, Runs, Phase, EvaluatorStands, StandsOn, page_context, no_numbers, number_in, Makes, HandsOn}
 use Rattle.rx_eval.proofs.LayerLemmas.{frames_length, handed_now}
 use Rattle.rx_eval.proofs.LeavesLemmas.{text_read}
 use Rattle.rx_eval.proofs.BeginLemmas.{entered_runs}
@@ -95,21 +95,18 @@ module _ (to : Numbering) (list : List Call) (state : State) where
 
   -- ---- the frames
 
+  hands_by : (layers : List Layer) → state.frames ≡ frames_in layers → machine.standings ≡ map (λ l. l.at) layers → LayersStand to state.base state.kept layers → state.page ≡ page_context state.base → HandsOn to list state
+  hands_by layers f s each page = record {
+    own = owner_place (open_in state.base layers);
+    path =
+        ap₂ (λ (c : Inherited ℕ ℕ) (f : List _). rename_inherited Number Number (handed_on c f)) page f
+        ∙ handed_now to state.base state.kept layers each
+        ∙ ap (rename_inherited (named to) (named (owner_place (open_in state.base layers)))) (ap (inherit model state.base) (sym s) ∙ (frames_at model state.base list).context);
+  }
+
   hands_in : (b : Bool) → Phase b to machine state → state.page ≡ page_context state.base → HandsOn to list state
-  hands_in true p page = record {
-    own = owner_place (open_in state.base []);
-    path =
-        ap₂ (λ (c : Inherited ℕ ℕ) (f : List _). rename_inherited Number Number (handed_on c f)) page p.frames
-        ∙ handed_now to state.base [] [] tt
-        ∙ ap (rename_inherited (named to) (named (owner_place (open_in state.base [])))) (ap (inherit model state.base) (sym p.standings) ∙ (frames_at model state.base list).context);
-  }
-  hands_in false p page = record {
-    own = owner_place (open_in state.base p.layers);
-    path =
-        ap₂ (λ (c : Inherited ℕ ℕ) (f : List _). rename_inherited Number Number (handed_on c f)) page p.by.frames
-        ∙ handed_now to state.base state.kept p.layers p.by.each
-        ∙ ap (rename_inherited (named to) (named (owner_place (open_in state.base p.layers)))) (ap (inherit model state.base) (sym p.by.standings) ∙ (frames_at model state.base list).context);
-  }
+  hands_in true p = hands_by [] p.frames p.standings tt
+  hands_in false p = hands_by p.layers p.by.frames p.by.standings p.by.each
 
   pub hands_on : EvaluatorStands to list state → HandsOn to list state
   hands_on s = hands_in state.ended s.phase s.page

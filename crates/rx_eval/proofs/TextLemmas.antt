@@ -1,6 +1,7 @@
 -- The text of an element as its value.
-use Rattle.std.proofs.Common.{◌≡◌, ◌∙◌, ℕ, Option, Some, None, refl, ap, Result, Ok, Err, IfOk}
+use Rattle.std.proofs.Common.{◌≡◌, ◌∙◌, ℕ, Option, Some, None, refl, ap, Result, IfOk}
 use Rattle.std.specs.Prelude.{unwrap_or, if◌then◌else◌, not, ◌&&◌, is_some, is_none}
+use Rattle.std.proofs.lemmas.Result.{IfOk-weaker}
 use Rattle.rx_terms.specs.Text.{Chars}
 use Rattle.rx_terms.specs.declared.triples.Term.{Term as CodeTerm}
 use Rattle.rx_model.specs.Terms.{Node, Term}
@@ -46,8 +47,7 @@ is_text_rule facts by e = record {
 }
 
 pub ok_text_rule : {E : Type 0} (facts : Facts) (r : Result TextRule E) → IfOk r (λ by. by ≡ text_rule facts) → IfOk r (IsTextRule facts)
-ok_text_rule facts (Ok by) h = is_text_rule facts by h
-ok_text_rule facts (Err e) h = h
+ok_text_rule facts r = IfOk-weaker r _ _ (is_text_rule facts)
 
 given_value : (v : Option (Term ℕ)) (w : Term ℕ) → None ≡ v → w ≡ unwrap_or v w
 given_value v w e = ap (λ (x : Option (Term ℕ)). unwrap_or x w) e
@@ -55,5 +55,4 @@ given_value v w e = ap (λ (x : Option (Term ℕ)). unwrap_or x w) e
 -- where the value is the text, it is the literal that the text is
 pub ok_text : {E : Type 0} (facts : Facts) (by : Rule ℕ) (literal : Term ℕ) (text : Chars) (r : Result CodeTerm E) → None ≡ value_now by facts → literal ≡ value_of_text by facts text
     → IfOk r (λ term. term_seen term ≡ literal) → IfOk r (λ term. term_seen term ≡ value by facts text)
-ok_text facts by literal text (Ok term) e l h = h ∙ l ∙ given_value (value_now by facts) (value_of_text by facts text) e
-ok_text facts by literal text (Err x) e l h = h
+ok_text facts by literal text r e l = IfOk-weaker r _ _ (λ term h. h ∙ l ∙ given_value (value_now by facts) (value_of_text by facts text) e)

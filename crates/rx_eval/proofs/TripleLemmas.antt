@@ -1,6 +1,7 @@
 -- Triples that are added one after another.
-use Rattle.std.proofs.Common.{◌≡◌, ◌∙◌, ℕ, zero, suc, ◌+◌, ◌≤◌, arith, List, [], ◌∷◌, ◌++◌, map, length, drop, Some, slice_get, refl, sym, ap, append_assoc, append-nil, add-one, Result, Ok, Err}
+use Rattle.std.proofs.Common.{◌≡◌, ◌∙◌, ℕ, zero, suc, ◌+◌, ◌≤◌, arith, List, [], ◌∷◌, ◌++◌, map, length, drop, Some, slice_get, refl, sym, ap, append_assoc, append-nil, add-one, Result}
 use Rattle.std.specs.Prelude.{OnOk}
+use Rattle.std.proofs.lemmas.Result.{on_ok_weaker}
 use Rattle.rx_terms.specs.Text.{Chars}
 use Rattle.rx_model.specs.Terms.{Node, Term, Triple}
 use Rattle.rx_model.specs.Copied.{spo}
@@ -37,8 +38,7 @@ last_came f xs i x out more whole g h m w = all_came more (map f (drop (i + 1) x
 
 pub last_pushed : {A E : Type 0} (r : Result (Unit {0}) E) (f : A → Triple ℕ) (xs : List A) (i : ℕ) (x : A) (out more whole : List (Triple ℕ)) → slice_get xs i ≡ Some x → length xs ≤ i + 1
     → OnOk r (more ≡ out ++ f x ∷ []) → ToCome out (map f (drop i xs)) whole → OnOk r (more ≡ whole)
-last_pushed (Ok done) f xs i x out more whole g h m w = last_came f xs i x out more whole g h m w
-last_pushed (Err error) f xs i x out more whole g h m w = m
+last_pushed r f xs i x out more whole g h m w = on_ok_weaker r (λ k. last_came f xs i x out more whole g h k w) m
 
 -- the only one
 all_left : {A : Type 0} (xs : List A) → drop 0 xs ≡ xs

@@ -1,5 +1,5 @@
 -- The number of a new node, and the owners that an element begins.
-use Rattle.std.proofs.Common.{◌≡◌, ◌∙◌, ℕ, zero, suc, ◌+◌, ◌≤◌, ◌⊎◌, inl, inr, Bool, true, false, not, ◌&&◌, ◌||◌, ◌==◌, List, [], ◌∷◌, ◌++◌, length, Option, Some, None, is_none, unwrap_or, nat_eq, refl, sym, ap, subst, arith, append-nil, length-append}
+use Rattle.std.proofs.Common.{◌≡◌, ◌∙◌, ℕ, suc, ◌+◌, ◌≤◌, ◌⊎◌, inl, inr, Bool, true, false, not, ◌&&◌, ◌||◌, ◌==◌, List, [], ◌∷◌, ◌++◌, length, Option, Some, None, is_none, unwrap_or, nat_eq, refl, sym, ap, subst, arith, append-nil, length-append}
 use Rattle.std.specs.Prelude.{IfSome, if◌then◌else◌}
 use Rattle.std.specs.Option.{option_or}
 use Rattle.std.specs.Bool.{then_some}
@@ -22,21 +22,13 @@ use Rattle.rx_eval.specs.Opening.{drawn_after}
 use Rattle.rx_eval.specs.Entering.{next_number, owner_begun, owner_for, begun_for, owners_begun}
 use Rattle.rx_eval.specs.Slots.{Slots, Open, Waiter, FillUp, Within}
 use Rattle.rx_eval.specs.Standing.{begun_by}
-use Rattle.rx_eval.proofs.OtherLemmas.{MadeIn, made_in, makes_resource, makes_new}
+use Rattle.rx_eval.proofs.OtherLemmas.{level_is, MadeIn, made_in, makes_resource, makes_new}
 use Rattle.rx_eval.proofs.FillLemmas.{begin_fill_up}
 
 -- ---- the number of a new node
 
 makes_level : (facts : Facts) (d : ℕ) (path : Path) → length path ≡ suc d → makes_resource facts path ≡ makes_resource facts (path_at (level_at d))
-makes_level facts d [] e = absurd (omega arith)
-makes_level facts zero (i ∷ []) e = refl
-makes_level facts zero (i ∷ j ∷ r) e = absurd (omega arith)
-makes_level facts (suc zero) (i ∷ []) e = absurd (omega arith)
-makes_level facts (suc zero) (i ∷ j ∷ []) e = refl
-makes_level facts (suc zero) (i ∷ j ∷ k ∷ r) e = absurd (omega arith)
-makes_level facts (suc (suc d)) (i ∷ []) e = absurd (omega arith)
-makes_level facts (suc (suc d)) (i ∷ j ∷ []) e = absurd (omega arith)
-makes_level facts (suc (suc d)) (i ∷ j ∷ k ∷ r) e = refl
+makes_level facts d path e = let l = level_is d path e in rw (l.0, l.1) refl
 
 module _ (M : Naming ℕ ℕ) (base : Chars) (at : Standing ℕ ℕ) (here : Resources ℕ) where
   -- what an element that isn't skipped hands on
@@ -172,14 +164,11 @@ module _ (facts : Facts) (base : Chars) (depth : ℕ) (path : Path) (list : Numb
   unfolding resources
   made_now k = made_in moment_now base at_now k
 
-  handed_below : below moment_now base at_now ≡ handed moment_now at_now here_now
+  pub handed_is : below moment_now base at_now ≡ handed moment_now at_now here_now
   unfolding below resources
-  handed_below = refl
+  handed_is = refl
 
   pub new_drawn : length path ≡ suc depth → makes_new facts path here_now ≡ true → drawn_after (below moment_now base at_now) fresh ≡ fresh + 1
-  new_drawn d k = ap (λ (x : Inherited ℕ ℕ). drawn_after x fresh) handed_below
+  new_drawn d k = ap (λ (x : Inherited ℕ ℕ). drawn_after x fresh) handed_is
       ∙ drawn_used (handed moment_now at_now here_now) fresh
       (used moment_now base at_now here_now made_now (ap (λ (b : Bool). b || (not here_now.skipped && hangs facts here_now)) (sym (makes_level facts depth path d)) ∙ k))
-
-  pub handed_is : below moment_now base at_now ≡ handed moment_now at_now here_now
-  handed_is = handed_below

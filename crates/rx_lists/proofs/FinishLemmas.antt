@@ -2,7 +2,7 @@
 use Rattle.std.proofs.Common.{◌≡◌, ◌∙◌, ℕ, zero, suc, ◌+◌, ◌≤◌, ◌<◌, ◌^◌, List, [], ◌∷◌, ◌++◌, filter_map, length, drop, get_or, Option, Some, None, refl, sym, ap, ap₂, subst, arith, append_assoc, append-nil, drop-cons, add-one, slice_get, slice_set, Bool, true, false, ◌-◌, take, option_to_list, length-append}
 use Rattle.std.specs.Prelude.{not}
 use Rattle.std.proofs.Math.Seq.{take-append_seam}
-use Rattle.std.proofs.lemmas.List.{length-map}
+use Rattle.std.proofs.lemmas.List.{at_drop_all, length-map}
 use Rattle.rx_terms.specs.declared.triples.Term.{Term as CodeTerm}
 use Rattle.rx_terms.specs.Text.{Chars}
 use Rattle.rx_model.specs.Terms.{Node, Triple}
@@ -50,16 +50,10 @@ room_for subject out next first i s lists h t l =
 pub all_written : (subject : Node ℕ) (out : List (Triple ℕ)) (next first i : ℕ) (lists : Slots) → length lists ≤ i
     → LeftOver subject out next (drop i lists) first lists → (out ≡ cells_of first subject (items_seen lists)) × (next ≡ first + size (items_seen lists))
 all_written subject out next first i lists h l =
-    let none : drop i lists ≡ [] = nothing i lists h in
+    let none : drop i lists ≡ [] = at_drop_all (λ x. x) lists i h in
     let e1 : out ++ cells_of next subject (items_seen []) ≡ cells_of first subject (items_seen lists) = ap (λ (x : Slots). out ++ cells_of next subject (items_seen x)) (sym none) ∙ l.triples in
     let e2 : next + size (items_seen []) ≡ first + size (items_seen lists) = ap (λ (x : Slots). next + size (items_seen x)) (sym none) ∙ l.cells in
     (sym (append-nil out) ∙ e1, omega (arith, e2))
-  where
-    nothing : (j : ℕ) (xs : Slots) → length xs ≤ j → drop j xs ≡ []
-    nothing zero [] g = refl
-    nothing (suc j) [] g = refl
-    nothing zero (x ∷ xs) g = absurd (omega arith)
-    nothing (suc j) (x ∷ xs) g = nothing j xs (omega arith)
 
 pub got : {A : Type 0} (xs : List A) (i : ℕ) (d x : A) → slice_get xs i ≡ Some x → x ≡ get_or xs i d
 got [] i d x h = absurd (cc)

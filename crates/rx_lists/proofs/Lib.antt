@@ -1,4 +1,4 @@
-mod RowLemmas
+pub mod RowLemmas
 mod CellLemmas
 mod SlotLemmas
 mod FinishLemmas

@@ -1,5 +1,5 @@
 -- Predicates and their slots, side by side, as a table.
-use Rattle.std.proofs.Common.{◌≡◌, ◌∙◌, ℕ, zero, suc, ◌+◌, ◌<◌, ◌≤◌, Bool, false, cond, List, [], ◌∷◌, ◌++◌, length, Option, Some, None, option_to_list, bytes_eq, refl, sym, ap, ap₂, Result, Ok, Err, OnOk, subst, arith, append-nil, rules, slice_set, slice_index_or}
+use Rattle.std.proofs.Common.{◌≡◌, ◌∙◌, ℕ, zero, suc, ◌+◌, ◌<◌, ◌≤◌, Bool, false, cond, List, [], ◌∷◌, ◌++◌, length, Option, Some, None, option_to_list, bytes_eq, refl, sym, ap, subst, arith, append-nil, rules, slice_set, slice_index_or}
 use Rattle.std.specs.List.{position, position_or_len, list_any}
 use Rattle.std.specs.Prelude.{nat_lt}
 use Rattle.std.proofs.lemmas.Bool.Decides.{nat_tests}
@@ -20,18 +20,6 @@ iri_eq = (iri_impl.ghosts).eq
 exact_iri : IsExact iri_eq
 exact_iri a b = search rules
 
--- the code's test is the tables'
-same_either_way : (a b : List ℕ) → iri_eq a b ≡ bytes_eq b a
-same_either_way a b =
-    by_test (iri_eq a b) (λ t. t ∙ sym ((exact_texts b a).1 (sym ((exact_iri a b).0 t))))
-    (λ f. by_test (bytes_eq b a) (λ t. absurd (cc (f, (exact_iri a b).1 (sym ((exact_texts b a).0 t))))) (λ g. f ∙ sym g))
-
-or_len : (p : List ℕ) (ks : List (List ℕ)) → position_or_len (iri_eq p) ks ≡ first_place p ks
-or_len p [] = refl
-or_len p (k ∷ ks) = rw (same_either_way p k) (by_test (bytes_eq k p) (λ t. rw t refl) (λ f. rw f (add-one-left _ ∙ ap suc (or_len p ks)))) where
-  add-one-left : (n : ℕ) → 1 + n ≡ suc n
-  add-one-left n = omega arith
-
 at_most : (p : List ℕ) (ks : List (List ℕ)) → first_place p ks ≤ length ks
 at_most p [] = omega arith
 at_most p (k ∷ ks) = by_test (bytes_eq k p) (λ t. rw t (omega arith)) (λ f. rw f (omega (arith, at_most p ks)))
@@ -42,8 +30,33 @@ chosen p ks n e = by_test (nat_lt n (length ks)) (λ t. rw t (e, grind (arith, n
     not_below : nat_lt n (length ks) ≡ false → length ks ≤ n
     not_below f = grind (arith, nat_tests)
 
-found_in : (p : List ℕ) (ks : List (List ℕ)) → FoundAt p ks (position (iri_eq p) ks)
-found_in p ks = chosen p ks (position_or_len (iri_eq p) ks) (or_len p ks)
+-- two tests of equality give the same, whichever comes first
+pub turned : {A : Type 0} (same other : A → A → Bool) → IsExact same → IsExact other → (a b : A) → same a b ≡ other b a
+turned same other e o a b =
+    by_test (same a b) (λ t. t ∙ sym ((o b a).1 (sym ((e a b).0 t)))) (λ f. by_test (other b a) (λ t. absurd (cc (f, (e a b).1 (sym ((o b a).0 t))))) (λ g. f ∙ sym g))
+
+-- the code's test is the tables'
+module _ (same : List ℕ → List ℕ → Bool) (exact : IsExact same) where
+  pub same_turned : (a b : List ℕ) → same a b ≡ bytes_eq b a
+  same_turned = turned same bytes_eq exact exact_texts
+
+  or_len : (p : List ℕ) (ks : List (List ℕ)) → position_or_len (same p) ks ≡ first_place p ks
+  or_len p [] = refl
+  or_len p (k ∷ ks) = rw (same_turned p k) (by_test (bytes_eq k p) (λ t. rw t refl) (λ f. rw f (add-one-left _ ∙ ap suc (or_len p ks)))) where
+    add-one-left : (n : ℕ) → 1 + n ≡ suc n
+    add-one-left n = omega arith
+
+  pub found_in : (p : List ℕ) (ks : List (List ℕ)) → FoundAt p ks (position (same p) ks)
+  found_in p ks = chosen p ks (position_or_len (same p) ks) (or_len p ks)
+
+-- it isn't the first one, where it stands nowhere or behind
+pub not_first : (p k : List ℕ) (ks : List (List ℕ)) → first_place p (k ∷ ks) ≡ length (k ∷ ks) → (bytes_eq k p ≡ false) × (first_place p ks ≡ length ks)
+not_first p k ks n =
+    by_test (bytes_eq k p) (λ t. let z : first_place p (k ∷ ks) ≡ 0 = rw t refl in absurd (omega (arith, z, n)))
+    (λ f. let z : first_place p (k ∷ ks) ≡ suc (first_place p ks) = rw f refl in (f, omega (arith, z, n)))
+
+pub behind : (p k : List ℕ) (ks : List (List ℕ)) → bytes_eq k p ≡ false → first_place p (k ∷ ks) < length (k ∷ ks) → first_place p ks < length ks
+behind p k ks f n = let z : first_place p (k ∷ ks) ≡ suc (first_place p ks) = rw f refl in omega (arith, z, n)
 
 pub keys_are : (ks : List (List ℕ)) (ss : List (List (Option Term))) → length ks ≡ length ss → predicates_of (rows ks ss) ≡ ks
 keys_are [] ss e = refl
@@ -51,7 +64,7 @@ keys_are (k ∷ ks) [] e = absurd (omega arith)
 keys_are (k ∷ ks) (s ∷ ss) e = ap (λ (x : List (List ℕ)). k ∷ x) (keys_are ks ss (omega arith))
 
 pub found_at : (p : List ℕ) (lists : Slots) (ks : List (List ℕ)) (o : Option ℕ) → predicates_of lists ≡ ks → o ≡ position (iri_eq p) ks → FoundAt p (predicates_of lists) o
-found_at p lists ks o e f = rw (e, f) (found_in p ks)
+found_at p lists ks o e f = rw (e, f) (found_in iri_eq exact_iri p ks)
 
 pub rows_more : (ks : List (List ℕ)) (ss : List (List (Option Term))) (k : List ℕ) (s : List (Option Term)) → length ks ≡ length ss
     → rows (ks ++ k ∷ []) (ss ++ s ∷ []) ≡ rows ks ss ++ (k, s) ∷ []
@@ -60,7 +73,7 @@ rows_more [] (t ∷ ss) k s e = absurd (omega arith)
 rows_more (j ∷ ks) [] k s e = absurd (omega arith)
 rows_more (j ∷ ks) (t ∷ ss) k s e = ap (λ (x : Slots). (j, t) ∷ x) (rows_more ks ss k s (omega arith))
 
-pub rows_at : (ks : List (List ℕ)) (ss : List (List (Option Term))) (i : ℕ) → length ks ≡ length ss → (slice_index_or (rows ks ss) i ([], [])).1 ≡ slice_index_or ss i []
+rows_at : (ks : List (List ℕ)) (ss : List (List (Option Term))) (i : ℕ) → length ks ≡ length ss → slice_index_or (rows ks ss) i ([], []) ≡ (slice_index_or ks i [], slice_index_or ss i [])
 rows_at [] [] i e = refl
 rows_at [] (t ∷ ss) i e = absurd (omega arith)
 rows_at (j ∷ ks) [] i e = absurd (omega arith)
@@ -88,10 +101,8 @@ pub put_new : (p : List ℕ) (item : Option (Option Term)) (lists : Slots) → f
     → put p item lists ≡ lists ++ (p, option_to_list item) ∷ []
 put_new p item [] n = refl
 put_new p item (row ∷ lists) n =
-    by_test (bytes_eq row.0 p) (λ t. let z : first_place p (predicates_of (row ∷ lists)) ≡ 0 = rw t refl in absurd (omega (arith, z, n)))
-    (λ f.
-    let z : first_place p (predicates_of (row ∷ lists)) ≡ suc (first_place p (predicates_of lists)) = rw f refl in
-    rw f (ap (λ (x : Slots). row ∷ x) (put_new p item lists (omega (arith, z, n)))))
+    let q = not_first p row.0 (predicates_of lists) n in
+    rw q.0 (ap (λ (x : Slots). row ∷ x) (put_new p item lists q.1))
 
 -- an old one has one more slot
 pub put_old : (p : List ℕ) (slot : Option Term) (lists : Slots) → first_place p (predicates_of lists) < length (predicates_of lists)
@@ -100,35 +111,24 @@ pub put_old : (p : List ℕ) (slot : Option Term) (lists : Slots) → first_plac
 put_old p slot [] n = absurd (omega arith)
 put_old p slot (row ∷ lists) n =
     by_test (bytes_eq row.0 p) (λ t. rw t refl)
-    (λ f.
-    let z : first_place p (predicates_of (row ∷ lists)) ≡ suc (first_place p (predicates_of lists)) = rw f refl in
-    rw f (ap (λ (x : Slots). row ∷ x) (put_old p slot lists (omega (arith, z, n)))))
+    (λ f. rw f (ap (λ (x : Slots). row ∷ x) (put_old p slot lists (behind p row.0 (predicates_of lists) f n))))
 
 -- a touch of an old one changes nothing
 pub touch_old : (p : List ℕ) (lists : Slots) → first_place p (predicates_of lists) < length (predicates_of lists) → put p None lists ≡ lists
 touch_old p [] n = absurd (omega arith)
 touch_old p (row ∷ lists) n =
     by_test (bytes_eq row.0 p) (λ t. rw t (ap (λ (x : List (Option Term)). (row.0, x) ∷ lists) (append-nil row.1)))
-    (λ f.
-    let z : first_place p (predicates_of (row ∷ lists)) ≡ suc (first_place p (predicates_of lists)) = rw f refl in
-    rw f (ap (λ (x : Slots). row ∷ x) (touch_old p lists (omega (arith, z, n)))))
+    (λ f. rw f (ap (λ (x : Slots). row ∷ x) (touch_old p lists (behind p row.0 (predicates_of lists) f n))))
 
 pub none_alike : (p : List ℕ) (ks : List (List ℕ)) → first_place p ks ≡ length ks → list_any (iri_eq p) ks ≡ false
 none_alike p [] n = refl
-none_alike p (k ∷ ks) n =
-    by_test (bytes_eq k p) (λ t. let z : first_place p (k ∷ ks) ≡ 0 = rw t refl in absurd (omega (arith, z, n)))
-    (λ f.
-    let z : first_place p (k ∷ ks) ≡ suc (first_place p ks) = rw f refl in
-    rw (same_either_way p k, f) (none_alike p ks (omega (arith, z, n))))
+none_alike p (k ∷ ks) n = let q = not_first p k ks n in rw (same_turned iri_eq exact_iri p k, q.0) (none_alike p ks q.1)
 
 pub more_rows : (old : Owned) (subject : Node) (ks more_ks : List (List ℕ)) (ss more_ss : List (List (Option Term))) (k j : List ℕ) (s : List (Option Term))
     → owned subject (rows ks ss) ≡ old → more_ks ≡ ks ++ k ∷ [] → k ≡ j → more_ss ≡ ss ++ s ∷ [] → length ks ≡ length ss
     → owned subject (rows more_ks more_ss) ≡ owned old.subject (old.lists ++ (j, s) ∷ [])
 more_rows old subject ks more_ks ss more_ss k j s v e g f l =
-    ap₂ (λ (x : List (List ℕ)) (y : List (List (Option Term))). owned subject (rows x y)) e f
-    ∙ ap (owned subject) (rows_more ks ss k s l)
-    ∙ ap (λ (x : List ℕ). owned subject (rows ks ss ++ (x, s) ∷ [])) g
-    ∙ ap (λ (o : Owned). owned o.subject (o.lists ++ (j, s) ∷ [])) v
+    (λ i. owned subject (rows (e i) (f i))) ∙ ap (owned subject) (rows_more ks ss k s l) ∙ (λ i. owned (v i).subject ((v i).lists ++ (g i, s) ∷ []))
 
 pub keys_of : (o : Owned) (subject : Node) (ks : List (List ℕ)) (ss : List (List (Option Term))) → owned subject (rows ks ss) ≡ o → length ks ≡ length ss → predicates_of o.lists ≡ ks
 keys_of o subject ks ss v e = ap (λ (x : Owned). predicates_of x.lists) (sym v) ∙ keys_are ks ss e
@@ -156,7 +156,7 @@ module _ (o : Owned) (subject : Node) (ks : List (List ℕ)) (ss : List (List (O
   as_many = ap (λ (x : Owned). length x.lists) (sym v) ∙ rows_length ks ss e
 
   pub same_slots : (i : ℕ) → slots_at o.lists i ≡ slice_index_or ss i []
-  same_slots i = ap (λ (x : Owned). slots_at x.lists i) (sym v) ∙ rows_at ks ss i e
+  same_slots i = ap (λ (x : Owned). slots_at x.lists i) (sym v) ∙ ap (λ (r : List ℕ × List (Option Term)). r.1) (rows_at ks ss i e)
 
   pub row_view : (i : ℕ) (s : List (Option Term)) (new : List (List (Option Term))) → new ≡ slice_set ss i s
       → owned subject (rows ks new) ≡ with_lists (λ l. slice_set l i ((slice_index_or l i ([], [])).0, s)) o
@@ -191,21 +191,11 @@ list_new o p f = sym (length-map o.lists (λ row. row.0)) ∙ sym f ∙ sym (pla
 
 none_of : (p : List ℕ) (lists : Slots) → first_place p (predicates_of lists) ≡ length (predicates_of lists) → 0 ≡ length (slots_of p lists)
 none_of p [] f = refl
-none_of p (row ∷ lists) n =
-    by_test (bytes_eq row.0 p) (λ t. let z : first_place p (predicates_of (row ∷ lists)) ≡ 0 = rw t refl in absurd (omega (arith, z, n)))
-    (λ f.
-    let z : first_place p (predicates_of (row ∷ lists)) ≡ suc (first_place p (predicates_of lists)) = rw f refl in
-    rw f (none_of p lists (omega (arith, z, n))))
+none_of p (row ∷ lists) n = let q = not_first p row.0 (predicates_of lists) n in rw q.0 (none_of p lists q.1)
 
 pub place_new : (o : Owned) (p : List ℕ) → FoundAt p (predicates_of o.lists) None → 0 ≡ length (slots_of p o.lists)
 place_new o p f = none_of p o.lists f
 
-rows_key : (ks : List (List ℕ)) (ss : List (List (Option Term))) (i : ℕ) → length ks ≡ length ss → (slice_index_or (rows ks ss) i ([], [])).0 ≡ slice_index_or ks i []
-rows_key [] ss i e = refl
-rows_key (j ∷ ks) [] i e = absurd (omega arith)
-rows_key (j ∷ ks) (t ∷ ss) zero e = refl
-rows_key (j ∷ ks) (t ∷ ss) (suc i) e = rows_key ks ss i (omega arith)
-
 pub same_key : (o : Owned) (subject : Node) (ks : List (List ℕ)) (ss : List (List (Option Term))) → owned subject (rows ks ss) ≡ o → length ks ≡ length ss
     → (i : ℕ) → (slice_index_or o.lists i ([], [])).0 ≡ slice_index_or ks i []
-same_key o subject ks ss v e i = ap (λ (x : Owned). (slice_index_or x.lists i ([], [])).0) (sym v) ∙ rows_key ks ss i e
+same_key o subject ks ss v e i = ap (λ (x : Owned). (slice_index_or x.lists i ([], [])).0) (sym v) ∙ ap (λ (r : List ℕ × List (Option Term)). r.0) (rows_at ks ss i e)

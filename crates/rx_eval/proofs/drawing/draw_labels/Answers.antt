@@ -3,11 +3,11 @@ use Rattle.rx_eval.proofs.drawing.draw_labels.Goals as goal
 
 pub draw_all_types-requires : goal.draw_all_types-requires
 draw_all_types-requires c =
-    five_room _ _ _ _ _ c.args.next _ _ _ _ _ _ _ _ _ c.in_ok-next.ensures.ok c.in_ok-next-2.ensures.ok c.in_ok-next-3.ensures.ok c.in_ok-next-4.ensures.ok c.requires
+    five_room _ c.in_ok-next.ensures.ok c.in_ok-next-2.ensures.ok c.in_ok-next-3.ensures.ok c.in_ok-next-4.ensures.ok c.requires
 
 pub returns-clause-ok : goal.returns-clause-ok
 returns-clause-ok c =
-    five_ok _ _ _ _ _ _ c.args.next _ _ _ _ _ _ _ _ _ c.draw_all_types.result c.in_ok-next.ensures.ok c.in_ok-next-2.ensures.ok c.in_ok-next-3.ensures.ok c.in_ok-next-4.ensures.ok c.draw_all_types.ensures.ok
+    five_ok _ c.in_ok-next.ensures.ok c.in_ok-next-2.ensures.ok c.in_ok-next-3.ensures.ok c.in_ok-next-4.ensures.ok _ c.draw_all_types.result c.draw_all_types.ensures.ok
 
 pub returns-in_err-next-3-clause-err : goal.returns-in_err-next-3-clause-err
 returns-in_err-next-3-clause-err c =
@@ -22,4 +22,4 @@ returns-in_err-next-4-clause-err c =
 
 pub returns-clause-err : goal.returns-clause-err
 returns-clause-err c =
-    five_some _ _ _ _ _ _ c.args.next _ _ _ _ _ _ _ _ _ c.draw_all_types.result c.in_ok-next.ensures.ok c.in_ok-next-2.ensures.ok c.in_ok-next-3.ensures.ok c.in_ok-next-4.ensures.ok c.draw_all_types.ensures.err
+    five_some _ c.in_ok-next.ensures.ok c.in_ok-next-2.ensures.ok c.in_ok-next-3.ensures.ok c.in_ok-next-4.ensures.ok _ c.draw_all_types.result c.draw_all_types.ensures.err

@@ -1,5 +1,6 @@
 use Rattle.std.proofs.Common.{◌∙◌, ap, sym, length, is_some, option_map}
 use Rattle.std.proofs.lemmas.List.{length-map}
+use Rattle.std.proofs.lemmas.Result.{IfOk-weaker, on_ok_weaker}
 use Rattle.rx_model.specs.Seen.{term_seen}
 use Rattle.rx_curie.specs.Seen.{facts_seen}
 use Rattle.rx_eval.specs.Contexts.{context_seen}
@@ -7,12 +8,9 @@ use Rattle.rx_eval.specs.ElementResources.{found_seen}
 use Rattle.rx_eval.specs.Places.{standing}
 use Rattle.rx_eval.specs.OwnersSeen.{owners_seen}
 use Rattle.rx_eval.specs.States.{owner_seen}
-use Rattle.rx_eval.proofs.GatherLemmas.{gathers_found, own_found, below_found, no_own, no_below, no_text}
-use Rattle.rx_eval.proofs.EnterLemmas.{below_is_handed, below_skipped, lists_skipped, lists_entered, gathers_entered, gathers_skipped, gathers_is, ok_then, on_then, on_always}
+use Rattle.rx_eval.proofs.GatherLemmas.{gathers_found, own_found, below_found, no_own, no_below}
+use Rattle.rx_eval.proofs.EnterLemmas.{below_is_handed, below_skipped, lists_skipped, lists_entered, gathers_entered, gathers_skipped, gathers_is, on_always}
 use Rattle.rx_eval.proofs.elements.enter.Goals as goal
-
-pub returns-then-started-clause-start : goal.returns-then-started-clause-start
-returns-then-started-clause-start c = on_always c.skipped.result c.in_ok-started.ensures.triples
 
 pub returns-then-started-clause-context : goal.returns-then-started-clause-context
 returns-then-started-clause-context c =
@@ -20,7 +18,7 @@ returns-then-started-clause-context c =
     let here = found_seen c.in_ok-started.started.found in
     let below = below_is_handed c.args.place.now.labels.now c.args.place.now.fresh c.args.place.now.base.now at here (length c.args.lists.now) in
     let same = below_skipped c.args.place.now.labels.now c.args.place.now.fresh c.args.place.now.base.now at here (length c.args.lists.now) c.if-started.true in
-    ok_then c.skipped.result (λ frame e. below (context_seen frame.context) c.in_ok-started.ensures.found (ap context_seen e ∙ same)) c.skipped.ensures.context
+    IfOk-weaker c.skipped.result _ _ (λ frame e. below (context_seen frame.context) c.in_ok-started.ensures.found (ap context_seen e ∙ same)) c.skipped.ensures.context
 
 pub returns-then-started-clause-lists : goal.returns-then-started-clause-lists
 returns-then-started-clause-lists c =
@@ -32,20 +30,17 @@ pub returns-then-started-clause-gathers : goal.returns-then-started-clause-gathe
 returns-then-started-clause-gathers c =
     let skips = gathers_skipped c.args.place.now.labels.now c.args.place.now.fresh c.args.place.now.base.now (standing c.args.place.now (facts_seen c.args.facts.now))
     (found_seen c.in_ok-started.started.found) c.in_ok-started.ensures.found c.if-started.true in
-    ok_then c.skipped.result (λ frame e. ap is_some e.2 ∙ skips) c.skipped.ensures.nothing
-
-pub returns-clause-start : goal.returns-clause-start
-returns-clause-start c = on_always c.enter_found.result c.in_ok-started.ensures.triples
+    IfOk-weaker c.skipped.result _ _ (λ frame e. ap is_some e.2 ∙ skips) c.skipped.ensures.nothing
 
 pub returns-clause-context : goal.returns-clause-context
 returns-clause-context c =
     let below = below_is_handed c.args.place.now.labels.now c.args.place.now.fresh c.args.place.now.base.now (standing c.args.place.now (facts_seen c.args.facts.now))
     (found_seen c.in_ok-started.started.found) (length c.args.lists.now) in
-    ok_then c.enter_found.result (λ frame e. below (context_seen frame.context) c.in_ok-started.ensures.found e) c.enter_found.ensures.context
+    IfOk-weaker c.enter_found.result _ _ (λ frame e. below (context_seen frame.context) c.in_ok-started.ensures.found e) c.enter_found.ensures.context
 
 pub returns-clause-lists : goal.returns-clause-lists
 returns-clause-lists c =
-    on_then c.enter_found.result
+    on_ok_weaker c.enter_found.result
     (λ e.
     lists_entered c.args.place.now.labels.now c.args.place.now.fresh c.args.place.now.base.now (standing c.args.place.now (facts_seen c.args.facts.now))
     (found_seen c.in_ok-started.started.found) c.in_ok-started.ensures.found (option_map term_seen c.in_ok-started.started.value) (owners_seen c.args.lists.now)
@@ -56,37 +51,34 @@ pub returns-clause-gathers : goal.returns-clause-gathers
 returns-clause-gathers c =
     let gathers = gathers_entered c.args.place.now.labels.now c.args.place.now.fresh c.args.place.now.base.now (standing c.args.place.now (facts_seen c.args.facts.now))
     (found_seen c.in_ok-started.started.found) c.in_ok-started.ensures.found (option_map term_seen c.in_ok-started.started.value) c.if-started.false c.in_ok-started.ensures.value in
-    ok_then c.enter_found.result (λ frame e. e ∙ gathers_is c.in_ok-started.started.value (facts_seen c.args.facts.now) ∙ gathers) c.enter_found.ensures.gathers
-
-pub returns-then-started-clause-text : goal.returns-then-started-clause-text
-returns-then-started-clause-text c = ok_then c.skipped.result (λ frame e. no_text _ frame.gathered e.2) c.skipped.ensures.nothing
+    IfOk-weaker c.enter_found.result _ _ (λ frame e. e ∙ gathers_is c.in_ok-started.started.value (facts_seen c.args.facts.now) ∙ gathers) c.enter_found.ensures.gathers
 
 pub returns-then-started-clause-own : goal.returns-then-started-clause-own
 returns-then-started-clause-own c =
     let none = no_own c.args.place.now.labels.now c.args.place.now.fresh c.args.place.now.base.now (standing c.args.place.now (facts_seen c.args.facts.now)) (found_seen c.in_ok-started.started.found)
     c.in_ok-started.ensures.found (length c.args.lists.now) c.if-started.true in
-    ok_then c.skipped.result (λ frame e. ap (option_map owner_seen) e.0 ∙ none) c.skipped.ensures.nothing
+    IfOk-weaker c.skipped.result _ _ (λ frame e. ap (option_map owner_seen) e.0 ∙ none) c.skipped.ensures.nothing
 
 pub returns-then-started-clause-below : goal.returns-then-started-clause-below
 returns-then-started-clause-below c =
     let none = no_below c.args.place.now.labels.now c.args.place.now.fresh c.args.place.now.base.now (standing c.args.place.now (facts_seen c.args.facts.now)) (found_seen c.in_ok-started.started.found)
     c.in_ok-started.ensures.found (length c.args.lists.now) c.if-started.true in
-    ok_then c.skipped.result (λ frame e. ap (option_map owner_seen) e.1 ∙ none) c.skipped.ensures.nothing
+    IfOk-weaker c.skipped.result _ _ (λ frame e. ap (option_map owner_seen) e.1 ∙ none) c.skipped.ensures.nothing
 
 pub returns-clause-text : goal.returns-clause-text
 returns-clause-text c =
     let text = gathers_found c.args.place.now.labels.now c.args.place.now.fresh c.args.place.now.base.now (standing c.args.place.now (facts_seen c.args.facts.now)) (found_seen c.in_ok-started.started.found)
     c.in_ok-started.ensures.found (length c.args.lists.now) (length (owners_seen c.args.lists.now)) c.args.mark (owners_seen c.args.lists.now) in
-    ok_then c.enter_found.result (λ frame e. text frame.gathered (sym (length-map c.args.lists.now _)) e) c.enter_found.ensures.text
+    IfOk-weaker c.enter_found.result _ _ (λ frame e. text frame.gathered (sym (length-map c.args.lists.now _)) e) c.enter_found.ensures.text
 
 pub returns-clause-own : goal.returns-clause-own
 returns-clause-own c =
     let own = own_found c.args.place.now.labels.now c.args.place.now.fresh c.args.place.now.base.now (standing c.args.place.now (facts_seen c.args.facts.now)) (found_seen c.in_ok-started.started.found)
     c.in_ok-started.ensures.found (length c.args.lists.now) in
-    ok_then c.enter_found.result (λ frame e. own (option_map owner_seen frame.own) c.if-started.false e) c.enter_found.ensures.own
+    IfOk-weaker c.enter_found.result _ _ (λ frame e. own (option_map owner_seen frame.own) c.if-started.false e) c.enter_found.ensures.own
 
 pub returns-clause-below : goal.returns-clause-below
 returns-clause-below c =
     let own = below_found c.args.place.now.labels.now c.args.place.now.fresh c.args.place.now.base.now (standing c.args.place.now (facts_seen c.args.facts.now)) (found_seen c.in_ok-started.started.found)
     c.in_ok-started.ensures.found (length c.args.lists.now) in
-    ok_then c.enter_found.result (λ frame e. own (option_map owner_seen frame.below) c.if-started.false e) c.enter_found.ensures.below
+    IfOk-weaker c.enter_found.result _ _ (λ frame e. own (option_map owner_seen frame.below) c.if-started.false e) c.enter_found.ensures.below

@@ -1,15 +1,14 @@
-use Rattle.std.proofs.Common.{◌∙◌, ap, ap₂, ℕ, List, length, map, option_map, refl}
-use Rattle.std.specs.Prelude.{Option, is_some, is_none}
+use Rattle.std.proofs.Common.{◌∙◌, ap, ap₂, length, map, option_map, refl}
+use Rattle.std.specs.Prelude.{is_some, is_none}
 use Rattle.rx_model.specs.Seen.{node_seen, term_seen}
 use Rattle.rx_curie.specs.Seen.{facts_seen}
 use Rattle.rx_lists.specs.declared.lists.Owner.{Owner}
 use Rattle.rx_eval.specs.Contexts.{context_seen, waiting_seen}
 use Rattle.rx_eval.specs.ElementResources.{found_seen}
 use Rattle.rx_eval.specs.Places.{naming, standing}
-use Rattle.rx_eval.specs.declared.contexts.IncompleteTriple.{IncompleteTriple}
 use Rattle.rx_eval.specs.Elements.{handed_by, owner_in}
-use Rattle.rx_eval.specs.Entering.{own_number, naming_by}
-use Rattle.rx_eval.specs.OwnersSeen.{Owning, owners_seen, put_entries}
+use Rattle.rx_eval.specs.Entering.{naming_by}
+use Rattle.rx_eval.specs.OwnersSeen.{owners_seen, put_entries}
 use Rattle.rx_eval.specs.Listing.{entries_in}
 use Rattle.rx_eval.proofs.EnterLemmas.{handed_is, owners_are, own_is, own_seen, below_seen}
 use Rattle.rx_eval.proofs.GatherLemmas.{gathers_places}
@@ -28,15 +27,15 @@ pub returns-clause-lists : goal.returns-clause-lists
 returns-clause-lists c =
     let at = standing c.args.place.now (facts_seen c.args.facts.now) in
     let here = found_seen c.args.found.now in
-    c.in_ok-slots.ensures.lists
-    ∙ ap (λ (n : ℕ). put_entries (entries_in n (facts_seen c.args.facts.now) here (option_map term_seen c.args.value.now) (map waiting_seen c.as_slice-waiting.result.now)) (owners_seen c.begin_below.new.lists))
-    (ap (λ (o : Owner). o.0) c.owner_or-owner.ensures
+    let own =
+    ap (λ (o : Owner). o.0) c.owner_or-owner.ensures
     ∙ own_is (naming c.args.place.now) at here c.args.found.now.subject c.args.place.now.around.now.object c.in_ok-object.object refl refl c.in_ok-own.own
-    c.args.place.now.around.now.owner (length c.args.lists.now) refl c.in_ok-own.ensures.owner)
-    ∙ ap₂ (λ (w : List IncompleteTriple) (l : List (Option Owning)). put_entries (entries_in (own_number at here (length c.args.lists.now)) (facts_seen c.args.facts.now) here (option_map term_seen c.args.value.now) (map waiting_seen w)) l)
-    c.as_slice-waiting.ensures
-    (owners_are (naming c.args.place.now) at here c.args.found.now.subject c.args.place.now.around.now.object c.in_ok-object.object refl refl c.args.lists.now c.begin.new.lists
-    c.begin_below.new.lists c.in_ok-object.ensures c.in_ok-own.ensures.lists c.in_ok-below.ensures.lists)
+    c.args.place.now.around.now.owner (length c.args.lists.now) refl c.in_ok-own.ensures.owner in
+    let owners =
+    owners_are (naming c.args.place.now) at here c.args.found.now.subject c.args.place.now.around.now.object c.in_ok-object.object refl refl c.args.lists.now c.begin.new.lists
+    c.begin_below.new.lists c.in_ok-object.ensures c.in_ok-own.ensures.lists c.in_ok-below.ensures.lists in
+    c.in_ok-slots.ensures.lists
+    ∙ (λ i. put_entries (entries_in (own i) (facts_seen c.args.facts.now) here (option_map term_seen c.args.value.now) (map waiting_seen (c.as_slice-waiting.ensures i))) (owners i))
 
 pub returns-clause-own : goal.returns-clause-own
 returns-clause-own c =

@@ -1,3 +1,4 @@
+use Rattle.std.proofs.lemmas.Result.{IfOk-weaker, on_ok_weaker}
 use Rattle.std.proofs.Common.{◌∙◌, ap, Some, option_map, Bool}
 use Rattle.std.specs.Prelude.{is_none}
 use Rattle.rx_model.specs.Seen.{node_seen, term_seen}
@@ -6,12 +7,12 @@ use Rattle.rx_curie.specs.Seen.{facts_seen}
 use Rattle.rx_eval.specs.ElementResources.{found_seen}
 use Rattle.rx_eval.specs.OwnersSeen.{owners_seen, put_entries}
 use Rattle.rx_eval.specs.Listing.{linked_entries, touched_entries, entries_for}
-use Rattle.rx_eval.proofs.SeenLemmas.{if_ok, ok_both, three_put, places_then}
+use Rattle.rx_eval.proofs.SeenLemmas.{three_put, places_then}
 use Rattle.rx_eval.proofs.listing.put_own.Goals as goal
 
 pub returns-clause-lists : goal.returns-clause-lists
 returns-clause-lists c =
-    if_ok c.put_valued.result
+    on_ok_weaker c.put_valued.result
     (λ h.
     three_put (linked_entries c.args.owner.0 c.args.facts.now.rel (option_map node_seen c.args.found.now.object))
     (touched_entries c.args.owner.0 c.args.facts.now.rel (hangs (facts_seen c.args.facts.now) (found_seen c.args.found.now)))
@@ -22,7 +23,7 @@ returns-clause-lists c =
 
 pub returns-clause-slots : goal.returns-clause-slots
 returns-clause-slots c =
-    ok_both c.put_valued.result
+    IfOk-weaker c.put_valued.result _ _
     (λ slots h.
     places_then (is_none c.args.value.now) c.args.owner.0 (linked_entries c.args.owner.0 c.args.facts.now.rel (option_map node_seen c.args.found.now.object))
     (touched_entries c.args.owner.0 c.args.facts.now.rel (hangs (facts_seen c.args.facts.now) (found_seen c.args.found.now))) (listed c.args.facts.now.property) slots.items

@@ -1,8 +1,8 @@
-use Rattle.std.proofs.Common.{ℕ, sym, ap, subst, arith}
+use Rattle.std.proofs.Common.{ℕ, sym, subst}
 use Rattle.rx_model.specs.Terms.{Node}
 use Rattle.rx_curie.specs.Seen.{facts_seen}
 use Rattle.rx_eval.specs.Opened.{Opens}
-use Rattle.rx_eval.specs.Referring.{referred_by, is_iri}
+use Rattle.rx_eval.specs.Referring.{referred_by}
 use Rattle.rx_eval.proofs.ReferringLemmas.{opens_referring}
 use Rattle.rx_eval.proofs.pending.open_settled.Goals as goal
 
@@ -10,6 +10,3 @@ pub returns-then-lets_wait-clause-ok : goal.returns-then-lets_wait-clause-ok
 returns-then-lets_wait-clause-ok c =
     subst (λ (x : Node ℕ). Opens c.args.stack.now (facts_seen c.args.facts.now) (referred_by x 0 c.args.stack.now)) (sym c.in_ok-resolve.ensures)
     (opens_referring c.args.stack.now (facts_seen c.args.facts.now) c.in-Some.reference.now c.in-Some.ensures (c.lets_wait.ensures c.if-lets_wait.true).nothing_hangs)
-
-pub returns-then-lets_wait-clause-kept : goal.returns-then-lets_wait-clause-kept
-returns-then-lets_wait-clause-kept c = record { lets = c.lets_wait.ensures c.if-lets_wait.true; iri = ap is_iri c.in_ok-resolve.ensures; room = omega (arith, c.requires.level) }

@@ -1,5 +1,4 @@
 use Rattle.std.proofs.Common.{◌∙◌, sym, ap, arith}
-use Rattle.rx_eval.specs.Contexts.{context_seen}
 use Rattle.rx_eval.specs.OwnersSeen.{owners_seen}
 use Rattle.rx_eval.proofs.KeepLemmas.{quiet_is}
 use Rattle.rx_eval.proofs.OpenLemmas.{around_is, none_hangs}
@@ -13,5 +12,5 @@ returns c h =
       rooted = omega (arith, c.if-self-eq0.false, c.self.invariant.deep);
       nothing_hangs = none_hangs c.around.result.now _ _ c.is_empty.result c.as_slice-2.ensures around c.is_empty.ensures h;
       tidy = sym (ended_are c.self.inside.lists) ∙ ap owners_seen (c.ends_open.ensures.trimmed c.if-not-ends_open.false);
-      quiet = quiet_is c.self.inside.levels c.self.inside.depth (context_seen c.self.inside.page) c.self.inside.frames.items c.self.inside.skipped c.self.inside.outermost c.self.inside.text c.self.invariant;
+      quiet = quiet_is c.self.invariant;
     })

@@ -22,8 +22,7 @@ use Rattle.rx_eval.proofs.stack.Stack.open_referring.Goals as goal
 
 pub invariant_of-self-2 : goal.invariant_of-self-2
 invariant_of-self-2 c =
-    sound_framed c.self.inside.levels c.self.inside.depth (context_seen c.self.inside.page) c.self.inside.frames.items c.self.inside.skipped c.self.inside.outermost c.self.inside.text c.self.invariant
-    (length c.as_slice-frames.result.now) c.args.inside c.push.new.self.items c.in_ok-frame.frame c.first_of-self-inside.result
+    sound_framed c.self.invariant c.args.inside c.in_ok-frame.frame
     (omega (arith, (rw (← c.self.view_is) at c.requires.level), c.self.invariant.deep)) (omega (arith, (rw (← c.self.view_is) at c.requires.rooted), c.self.invariant.deep))
     c.in_ok-frame.ensures.skipped.0 c.in_ok-push.ensures.items (ap length c.as_slice-frames.ensures.value)
     (c.first_of-self-inside.ensures ∙ ap (λ (g : Option Gathered). first_of c.self.inside.outermost (is_some g) (length c.as_slice-frames.result.now)) (sym c.in_ok-frame.ensures.skipped.1))

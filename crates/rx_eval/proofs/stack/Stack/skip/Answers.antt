@@ -12,8 +12,7 @@ use Rattle.rx_eval.proofs.stack.Stack.skip.Goals as goal
 
 pub invariant_of-self : goal.invariant_of-self
 invariant_of-self c =
-    sound_counted c.self.inside.levels c.self.inside.depth (context_seen c.self.inside.page) c.self.inside.frames.items c.self.inside.skipped c.self.inside.outermost c.self.inside.text c.self.invariant
-    (omega (arith, (rw (← c.self.view_is) at c.requires.level), c.self.invariant.deep)) (omega (arith, (rw (← c.self.view_is) at c.requires.inside), c.self.invariant.deep))
+    sound_counted c.self.invariant (omega (arith, (rw (← c.self.view_is) at c.requires.level), c.self.invariant.deep)) (omega (arith, (rw (← c.self.view_is) at c.requires.inside), c.self.invariant.deep))
 
 pub returns : goal.returns
 returns c =
