@@ -7,13 +7,13 @@ use Rattle.rx_scan.specs.Latches.{Latched, Repeats, latched_by}
 use Rattle.rx_nest.specs.Falling.{FallsBy}
 use Rattle.rx_nest.specs.Quiets.{HasMemory}
 
-pub falls_by : (why : Stop) (old : Latched) → old.out_of_memory ≡ false → FallsBy why (latched_by why old).failed (latched_by why old).out_of_memory
-falls_by (stop.Fault fault) old e = (refl, e)
-falls_by stop.NoMemory old e = refl
+pub falls_by : (why : Stop) → FallsBy why (latched_by why).failed (latched_by why).out_of_memory
+falls_by (stop.Fault fault) = (refl, refl)
+falls_by stop.NoMemory = refl
 
-pub has_fallen : {P : Type 0} (why : Stop) (old new : Latched) → new ≡ latched_by why old → new.failed ≡ None → new.out_of_memory ≡ false → P
-has_fallen (stop.Fault fault) old new e unfailed unspent = absurd (let w : None ≡ Some fault = sym unfailed ∙ ap (λ (l : Latched). l.failed) e in cc)
-has_fallen stop.NoMemory old new e unfailed unspent = absurd (let w : false ≡ true = sym unspent ∙ ap (λ (l : Latched). l.out_of_memory) e in cc)
+pub has_fallen : {P : Type 0} (why : Stop) (new : Latched) → new ≡ latched_by why → new.failed ≡ None → new.out_of_memory ≡ false → P
+has_fallen (stop.Fault fault) new e unfailed unspent = absurd (let w : None ≡ Some fault = sym unfailed ∙ ap (λ (l : Latched). l.failed) e in cc)
+has_fallen stop.NoMemory new e unfailed unspent = absurd (let w : false ≡ true = sym unspent ∙ ap (λ (l : Latched). l.out_of_memory) e in cc)
 
 -- nothing is answered again where nothing was answered
 pub goes_on : (l : Latched) (r : Result (Unit {0}) Stop) → Repeats l r → ((why : Stop) → r ≢ Err why) → (l.failed ≡ None) × (l.out_of_memory ≡ false)

@@ -241,8 +241,8 @@ LiesThere stop.NoMemory at = Unit {0}
 -- after this nothing else is answered
 abbrev pub FailsBy : Stop → Scanner → Scanner → Type 0
 FailsBy (stop.Fault fault) old new =
-    (new.failed ≡ Some fault) × (new.out_of_memory ≡ old.out_of_memory) × (new.what ≡ old.what) × (new.stepped ≡ old.stepped) × (new.reading ≡ old.reading)
-FailsBy stop.NoMemory old new = (new.failed ≡ old.failed) × (new.out_of_memory ≡ true) × (new.what ≡ old.what) × (new.stepped ≡ old.stepped)
+    (new.failed ≡ Some fault) × (new.out_of_memory ≡ false) × (new.what ≡ old.what) × (new.stepped ≡ old.stepped) × (new.reading ≡ old.reading)
+FailsBy stop.NoMemory old new = (new.out_of_memory ≡ true) × (new.what ≡ old.what) × (new.stepped ≡ old.stepped)
 
 -- the first setting: nothing stands before the root
 abbrev pub first_setting : Syntax → Limits → Setting

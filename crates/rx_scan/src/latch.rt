@@ -2,22 +2,21 @@
 ghost use Rattle.std.specs.Prelude.{◌≡◌};
 ghost use Rattle.rx_scan.specs.Latches.{Repeats, has_answered, latched_by, nothing_answered};
 
-use rx_grammar::{Fault, Stop};
+use rx_grammar::Stop;
 use std::marker::Model;
 
 /// Whether a fault or want of memory was answered, which then comes again at each later call.
 #[derive(Drop)]
 pub struct Latch {
-    failed: Option<Fault>,
-    out_of_memory: bool,
+    answered: Option<Stop>,
 }
 
 impl Model for Latch {
-    ghost use Rattle.rx_scan.specs.Latches.{Latched};
+    ghost use Rattle.rx_scan.specs.Latches.{Latched, latched};
 
     ghost Value = { Latched };
 
-    ghost view = { λ l. record { failed = l.failed; out_of_memory = l.out_of_memory } };
+    ghost view = { λ l. latched l.answered };
 }
 
 impl Latch {
@@ -25,10 +24,7 @@ impl Latch {
     pub fn new() -> Latch
         ensures { result ≡ nothing_answered }
     {
-        Latch {
-            failed: None,
-            out_of_memory: false,
-        }
+        Latch { answered: None }
     }
 
     /// Answers what was answered before, and `Ok` exactly where nothing was.
@@ -36,23 +32,17 @@ impl Latch {
     pub fn repeat(&self) -> Result<(), Stop>
         ensures { Repeats self.now result }
     {
-        if self.out_of_memory {
-            return Err(Stop::NoMemory);
+        match self.answered {
+            None => Ok(()),
+            Some(stop) => Err(stop),
         }
-        if let Some(fault) = self.failed {
-            return Err(Stop::Fault(fault));
-        }
-        Ok(())
     }
 
     /// Answers this from now on.
     pub fn keep(&mut self, stop: Stop)
-        ensures { self.new ≡ latched_by stop self.old }
+        ensures { self.new ≡ latched_by stop }
     {
-        match stop {
-            Stop::Fault(fault) => self.failed = Some(fault),
-            Stop::NoMemory => self.out_of_memory = true,
-        }
+        self.answered = Some(stop);
     }
 
     /// Whether a fault or want of memory was answered.
@@ -60,6 +50,6 @@ impl Latch {
     pub fn has_answered(&self) -> bool
         ensures { result ≡ has_answered self.now }
     {
-        self.failed.is_some() || self.out_of_memory
+        self.answered.is_some()
     }
 }

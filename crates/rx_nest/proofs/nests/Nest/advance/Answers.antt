@@ -25,7 +25,7 @@ invariant_of-self-in-Ok c unfailed unspent =
     )
 
 pub invariant_of-self-in-Err : goal.invariant_of-self-in-Err
-invariant_of-self-in-Err c unfailed unspent = has_fallen c.in-Err.stop c.self.inside.latch c.keep.new.self c.keep.ensures unfailed unspent
+invariant_of-self-in-Err c unfailed unspent = has_fallen c.in-Err.stop c.keep.new.self c.keep.ensures unfailed unspent
 
 -- what is due lends what was lent
 pub invariant_of-self : goal.invariant_of-self
@@ -59,7 +59,7 @@ returns-in-Err-clause-steps c syntax limits bytes signs st =
     let new : Nested = record { scan = c.read.new.scan; line = c.read.new.line; owed = c.self.inside.owed; failed = c.keep.new.self.failed; out_of_memory = c.keep.new.self.out_of_memory } in
     let was = subst (λ v. NestStands syntax limits v bytes signs) (sym c.self.view_is) st in
     let none = sym c.next_owed.ensures ∙ none_of c.next_owed.result c.in_default.not-Some in
-    read_stopped syntax limits old bytes signs was c.args.piece.now c.in-Err.stop new none (c.in-Err.ensures.reads syntax limits bytes was.told was.at) c.in-Err.ensures.stays (rw c.keep.ensures (falls_by c.in-Err.stop c.self.inside.latch was.unspent))
+    read_stopped syntax limits old bytes signs was c.args.piece.now c.in-Err.stop new none (c.in-Err.ensures.reads syntax limits bytes was.told was.at) c.in-Err.ensures.stays (rw c.keep.ensures (falls_by c.in-Err.stop))
 
 pub returns-in-Err-clause-quiet : goal.returns-in-Err-clause-quiet
 returns-in-Err-clause-quiet c syntax limits bytes signs st b q =

@@ -11,7 +11,7 @@ invariant_of-self g c unfailed unspent =
     (record { setting = s.setting; bytes = s.bytes ++ c.args.piece.now; goes = k.0 }, k.1)
 
 pub invariant_of-self-in-Err : goal.invariant_of-self-in-Err
-invariant_of-self-in-Err g c unfailed unspent = has_fallen c.in-Err.stop c.self.inside.latch c.keep.new.self c.keep.ensures unfailed unspent
+invariant_of-self-in-Err g c unfailed unspent = has_fallen c.in-Err.stop c.keep.new.self c.keep.ensures unfailed unspent
 
 pub returns-in-Ok-clause-gives : goal.returns-in-Ok-clause-gives
 returns-in-Ok-clause-gives g c setting bytes s =
@@ -22,7 +22,7 @@ returns-in-Ok-clause-gives g c setting bytes s =
 pub returns-in-Err-clause-gives : goal.returns-in-Err-clause-gives
 returns-in-Err-clause-gives g c setting bytes s =
     let was = subst (λ v. ReadingStands (g.L.Listener.way setting) (g.L.Listener.knows setting) v bytes) (sym c.self.view_is) s in
-    (c.in-Err.ensures.gives setting bytes was.goes, rw c.keep.ensures (falls_by c.in-Err.stop c.self.inside.latch was.unspent))
+    (c.in-Err.ensures.gives setting bytes was.goes, rw c.keep.ensures (falls_by c.in-Err.stop))
 
 pub returns-in-Err-clause-place : goal.returns-in-Err-clause-place
 returns-in-Err-clause-place g c setting bytes s =
