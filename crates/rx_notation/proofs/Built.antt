@@ -19,6 +19,40 @@ use Rattle.rx_notation.proofs.Spelled.{GoodVerb, GoodSuffix, Good}
 use Rattle.rx_notation.proofs.Declared.{good_reference}
 use Rattle.rx_shapes.proofs.CellLemmas.{CellOf, cell_of, cell_inner, first_some, first_each, rest_some, rest_each, Enough, none_left, child_enough}
 
+-- ---- lists of parts
+
+module _ (context declared : Prefixes) (free : ℕ → Type 0) (object : Term ℕ → Part Object) where
+  abbrev FineTerm : Term ℕ → Type 0
+  FineTerm o = Good declared free (object o)
+
+  objects_good : (first : Term ℕ) (more : List (Term ℕ)) → ((o : Term ℕ) → Among (first ∷ more) o → FineTerm o) → Good declared free (objects_after object first more)
+  objects_good first [] good = good first (inl refl)
+  objects_good first (next ∷ more) good = (good first (inl refl), objects_good next more (λ o m. good o (inr m)))
+
+  some_objects_good : (objects : List (Term ℕ)) → ((o : Term ℕ) → Among objects o → FineTerm o) → Good declared free (some_objects object objects)
+  some_objects_good [] good = tt
+  some_objects_good (first ∷ more) good = objects_good first more good
+
+  module _ (objects : Chars → List (Term ℕ)) where
+    abbrev GoodLine : Chars → Type 0
+    GoodLine p = GoodVerb declared free (verb_of context p) × ((o : Term ℕ) → Among (objects p) o → FineTerm o)
+
+    predicates_good : (first : Chars) (more : List Chars) → ((p : Chars) → Among (first ∷ more) p → GoodLine p) → Good declared free (predicates_after context object objects first more)
+    predicates_good first [] good = let g = good first (inl refl) in (g.0, (some_objects_good (objects first) g.1, tt))
+    predicates_good first (next ∷ more) good = let g = good first (inl refl) in (g.0, (some_objects_good (objects first) g.1, predicates_good next more (λ p m. good p (inr m))))
+
+    pub some_predicates_good : (ps : List Chars) → ((p : Chars) → Among ps p → GoodLine p) → Good declared free (some_predicates context object objects ps)
+    some_predicates_good [] good = (tt, (tt, tt))
+    some_predicates_good (first ∷ more) good = predicates_good first more good
+
+    bracketed_good : (ps : List Chars) → ((p : Chars) → Among ps p → GoodLine p) → Good declared free (bracketed context object objects ps)
+    bracketed_good [] good = tt
+    bracketed_good (first ∷ more) good = predicates_good first more good
+
+  -- what is said of a node, where it is good triple by triple
+  pub line_by : (list : List (Triple ℕ)) (s : Node ℕ) → ((p : Chars) (o : Term ℕ) → Among list (spo s p o) → GoodVerb declared free (verb_of context p) × FineTerm o) → (p : Chars) → Among (predicates_of list s) p → GoodLine (objects_of list s) p
+  line_by list s each p m = let o = predicate_says list s p m in ((each p o.0 (object_says list s p o.0 o.1)).0, λ q k. (each p q (object_says list s p q k)).1)
+
 module _ (context : Prefixes) (list : List (Triple ℕ)) (w : IsWritable list) where
   -- a label is that of a node that isn't written where it is used
   abbrev pub Free : ℕ → Type 0
@@ -46,39 +80,10 @@ module _ (context : Prefixes) (list : List (Triple ℕ)) (w : IsWritable list) w
       go true = tt
       go false = good_reference context Free iri h
 
-  -- ---- lists of parts
-
-  module _ (object : Term ℕ → Part Object) where
-    objects_good : (first : Term ℕ) (more : List (Term ℕ)) → ((o : Term ℕ) → Among (first ∷ more) o → Fine (object o)) → Good context Free (objects_after object first more)
-    objects_good first [] good = good first (inl refl)
-    objects_good first (next ∷ more) good = (good first (inl refl), objects_good next more (λ o m. good o (inr m)))
-
-    some_objects_good : (objects : List (Term ℕ)) → ((o : Term ℕ) → Among objects o → Fine (object o)) → Good context Free (some_objects object objects)
-    some_objects_good [] good = tt
-    some_objects_good (first ∷ more) good = objects_good first more good
-
-    module _ (objects : Chars → List (Term ℕ)) where
-      abbrev GoodLine : Chars → Type 0
-      GoodLine p = IsIri p × ((o : Term ℕ) → Among (objects p) o → Fine (object o))
-
-      predicates_good : (first : Chars) (more : List Chars) → ((p : Chars) → Among (first ∷ more) p → GoodLine p) → Good context Free (predicates_after context object objects first more)
-      predicates_good first [] good = let g = good first (inl refl) in (good_verb first g.0, (some_objects_good (objects first) g.1, tt))
-      predicates_good first (next ∷ more) good = let g = good first (inl refl) in (good_verb first g.0, (some_objects_good (objects first) g.1, predicates_good next more (λ p m. good p (inr m))))
-
-      pub some_predicates_good : (ps : List Chars) → ((p : Chars) → Among ps p → GoodLine p) → Good context Free (some_predicates context object objects ps)
-      some_predicates_good [] good = (tt, (tt, tt))
-      some_predicates_good (first ∷ more) good = predicates_good first more good
-
-      bracketed_good : (ps : List Chars) → ((p : Chars) → Among ps p → GoodLine p) → Fine (bracketed context object objects ps)
-      bracketed_good [] good = tt
-      bracketed_good (first ∷ more) good = predicates_good first more good
-
   -- ---- what is said of a node, where each of its objects is good
 
-  pub line_good : (object : Term ℕ → Part Object) (s : Node ℕ) → ((p : Chars) (o : Term ℕ) → Among list (spo s p o) → Fine (object o)) → (p : Chars) → Among (predicates_of list s) p → GoodLine object (objects_of list s) p
-  line_good object s each p m =
-      let o = predicate_says list s p m in
-      ((w.parts (spo s p o.0) (object_says list s p o.0 o.1)).predicate.is_iri, λ q k. each p q (object_says list s p q k))
+  pub line_good : (object : Term ℕ → Part Object) (s : Node ℕ) → ((p : Chars) (o : Term ℕ) → Among list (spo s p o) → Fine (object o)) → (p : Chars) → Among (predicates_of list s) p → GoodLine context context Free object (objects_of list s) p
+  line_good object s each = line_by context context Free object list s (λ p o m. (good_verb p (w.parts (spo s p o) m).predicate.is_iri, each p o m))
 
   items_good : (object : Term ℕ → Part Object) (cell : ℕ → Part Items) (number : ℕ) (c : CellOf list number) → Fine (object c.item) → ((d : ℕ) → c.after ≡ Resource (Blank d) → Cell (set_of list) d → Good context Free (cell d))
       → Good context Free (cells object cell list number)
@@ -145,7 +150,7 @@ module _ (context : Prefixes) (list : List (Triple ℕ)) (w : IsWritable list) w
         go : (s : Shape) → IsShape (set_of list) number s → Fine (node_by context list shapes (object_by context (node_at left)) (cells_at left) s number)
         go shape.Labelled h = (small, h)
         go shape.Inside h =
-            bracketed_good (object_by context (node_at left)) (objects_of list (Blank number)) (predicates_of list (Blank number))
+            bracketed_good context context Free (object_by context (node_at left)) (objects_of list (Blank number)) (predicates_of list (Blank number))
             (line_good (object_by context (node_at left)) (Blank number) (child_good left node number (enough h.0)))
         go shape.Cell h = cells_good left node below number h (enough (cell_inner list number h))
 

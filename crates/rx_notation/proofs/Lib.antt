@@ -17,3 +17,4 @@ pub mod Once
 pub mod There
 pub mod NestedMeaning
 pub mod Unfolded
+pub mod Stated

@@ -110,7 +110,7 @@ module _ (context declared : Prefixes) (agree : Agree context declared) (list : 
 
   -- ---- parts without nodes inside
 
-  noun_means : (s : Node ℕ) (part : Part Object) → ((n : ℕ) → Known part → term_of declared label place part n ≡ Resource s) → ((n : ℕ) → triples declared label place part tt n ≡ []) → unlabelled part ≡ 0 → Means part (Resource s) []
+  pub noun_means : (s : Node ℕ) (part : Part Object) → ((n : ℕ) → Known part → term_of declared label place part n ≡ Resource s) → ((n : ℕ) → triples declared label place part tt n ≡ []) → unlabelled part ≡ 0 → Means part (Resource s) []
   noun_means s part term none size = record { size = size; term = λ n w h. term n w; says = λ n w h t. (λ m. absurd (subst (λ (z : List (Triple ℕ)). Among z t) (none n) m), λ u. absurd (under_none t u)) }
 
   pub iri_means : (node : ℕ → Part Object) (iri : Chars) → Means (object_by context node (Resource (Iri iri))) (Resource (Iri iri)) []
@@ -143,10 +143,7 @@ module _ (context declared : Prefixes) (agree : Agree context declared) (list : 
     pub among : Among ps predicate
     pub said : Said s predicate (objects predicate) t
 
-  module _ (node : ℕ → Part Object) (nodes : ℕ → List ℕ) where
-    abbrev object : Term ℕ → Part Object
-    object o = object_by context node o
-
+  module _ (object : Term ℕ → Part Object) (nodes : ℕ → List ℕ) where
     -- each object is written as it is meant
     abbrev pub AllMean : List (Term ℕ) → Type 0
     AllMean objects = (o : Term ℕ) → Among objects o → Means (object o) o (in_term nodes o)

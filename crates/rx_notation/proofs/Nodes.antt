@@ -99,11 +99,11 @@ module _ (context declared : Prefixes) (agree : Agree context declared) (list : 
       objects : Chars → List (Term ℕ)
       objects = objects_of list (Blank number)
 
-      all : AllSay context declared agree list place node nodes objects (first ∷ more)
+      all : AllSay context declared agree list place (object_by context node) nodes objects (first ∷ more)
       all p k = (predicate_says list (Blank number) p (there p k), λ o l. each p o (object_says list (Blank number) p o l))
 
-      m : MeansPredicates context declared agree list place node nodes objects (predicates_after context (object_by context node) objects first more) (first ∷ more)
-      m = predicates_mean context declared agree list place node nodes objects first more all
+      m : MeansPredicates context declared agree list place (object_by context node) nodes objects (predicates_after context (object_by context node) objects first more) (first ∷ more)
+      m = predicates_mean context declared agree list place (object_by context node) nodes objects first more all
 
       ns : List ℕ
       ns = in_predicates nodes objects (first ∷ more)
