@@ -42,7 +42,7 @@ module _ (context : Prefixes) where
 
   -- ---- texts of terms
 
-  reference_is : (iri : Chars) → reference_text (reference_to context iri) ≡ flat.short_iri context iri
+  pub reference_is : (iri : Chars) → reference_text (reference_to context iri) ≡ flat.short_iri context iri
   reference_is iri = go (prefix_of context iri)
     where
       go : (o : Option Prefix) → reference_text (reference_by o iri) ≡ flat.iri_by o iri
@@ -53,14 +53,14 @@ module _ (context : Prefixes) where
   subject_is (Iri iri) = reference_is iri
   subject_is (Blank number) = refl
 
-  verb_is : (p : Chars) → verb_text (verb_of context p) ≡ flat.verb_text context p
+  pub verb_is : (p : Chars) → verb_text (verb_of context p) ≡ flat.verb_text context p
   verb_is p = go (bytes_eq p rdf_type)
     where
       go : (b : Bool) → verb_text (cond b Type_of (By (reference_to context p))) ≡ cond b (codes "a") (flat.short_iri context p)
       go true = refl
       go false = reference_is p
 
-  suffix_is : (kind : Kind) → suffix_text (suffix_of context kind) ≡ flat.suffix_text context kind
+  pub suffix_is : (kind : Kind) → suffix_text (suffix_of context kind) ≡ flat.suffix_text context kind
   suffix_is Plain = refl
   suffix_is (Tagged tag) = refl
   suffix_is (Typed datatype) = ap (λ z. codes "^^" ++ z) (reference_is datatype)

@@ -7,10 +7,9 @@ use Rattle.rx_model.specs.Copied.{spo}
 use Rattle.rx_model.specs.Numbered.{rename, Has}
 use Rattle.rx_model.proofs.Sets.{Among_filter, Among_of_filter, Among_map, Among_of_map}
 use Rattle.rx_model.proofs.Exact.{exact_numbers, exact_triples}
-use Rattle.rx_shapes.specs.Shapes.{Inner, Cell, IsShape, HaveShapes}
+use Rattle.rx_shapes.specs.Shapes.{Inner, IsShape, HaveShapes}
 use Rattle.rx_shapes.specs.declared.shapes.Shape.{Shape}
 use Rattle.rx_shapes.specs.declared.shapes.Shape.TheVariants as shape
-use Rattle.rx_shapes.specs.Shapes as shapes_of
 use Rattle.rx_notation.specs.Short.{Prefix, Prefixes}
 use Rattle.rx_shapes.specs.Subjects.{subjects, predicates_of, objects_of}
 use Rattle.rx_notation.specs.Syntax.{Object, Part, Statement}
@@ -33,7 +32,7 @@ use Rattle.rx_shapes.proofs.Heights.{Differ}
 use Rattle.rx_notation.proofs.Means.{in_term, NamedSo, Under, Means}
 use Rattle.rx_notation.proofs.Stated.{SaidTop, size_of, said_top, stated}
 use Rattle.rx_notation.proofs.Nodes.{all_mean, term_means}
-use Rattle.rx_shapes.proofs.CellLemmas.{Enough, first_enough}
+use Rattle.rx_shapes.proofs.CellLemmas.{cell_inner, Enough, first_enough}
 use Rattle.rx_notation.proofs.Built.{Free, all_good, object_good, line_good, some_predicates_good}
 use Rattle.rx_notation.proofs.Bounds.{all_unlabelled, BoundName, names_bound}
 use Rattle.rx_notation.proofs.Once.{nodes_at, below_all, below_inner, below_differ}
@@ -112,14 +111,10 @@ module _ (context : Prefixes) (list : List (Triple ℕ)) (shapes : ℕ → Shape
   is_outer (Iri iri) h = refl
   is_outer (Blank a) h = go (shapes a) (have a)
     where
-      cell_in : Cell (set_of list) a → Inner (set_of list) a
-      cell_in (shapes_of.last_cell i p) = i
-      cell_in (shapes_of.next_cell i p k) = i
-
       go : (s : Shape) → IsShape (set_of list) a s → is_top_by s ≡ true
       go shape.Labelled k = refl
       go shape.Inside k = absurd (h a refl k.0)
-      go shape.Cell k = absurd (h a refl (cell_in k))
+      go shape.Cell k = absurd (h a refl (cell_inner list a k))
 
   outer_there : (s : Node ℕ) (p : Chars) (o : Term ℕ) → Among list (spo s p o) → ((a : ℕ) → s ≡ Blank a → ¬ (Inner (set_of list) a)) → Among tops s
   outer_there s p o m h = Among_filter (is_top shapes) (subjects list) s (subject_there list (spo s p o) m) (is_outer s h)
@@ -201,17 +196,13 @@ module _ (context : Prefixes) (list : List (Triple ℕ)) (shapes : ℕ → Shape
       below : (a : ℕ) → u.subject ≡ Blank a → Inner (set_of list) a → Told t
       below a f i = inr (record { triple = u; there = m; read = e; node = a; among = inner_there list shapes have tops outer_there a i; said = f })
 
-      cell_in : (a : ℕ) → Cell (set_of list) a → Inner (set_of list) a
-      cell_in a (shapes_of.last_cell i p) = i
-      cell_in a (shapes_of.next_cell i p k) = i
-
       blanks_alike : (x y : ℕ) → Blank x ≡ Blank y → x ≡ y
       blanks_alike x y f = cc
 
       by_shape : (a : ℕ) → u.subject ≡ Blank a → (s : Shape) → IsShape (set_of list) a s → Told t
       by_shape a f shape.Labelled h = top (outer_there u.subject u.predicate u.object m (λ x g i. h (subst (Inner (set_of list)) (blanks_alike x a (sym g ∙ f)) i)))
       by_shape a f shape.Inside h = below a f h.0
-      by_shape a f shape.Cell h = below a f (cell_in a h)
+      by_shape a f shape.Cell h = below a f (cell_inner list a h)
 
       go : (s : Node ℕ) → u.subject ≡ s → Told t
       go (Iri iri) f = top (outer_there u.subject u.predicate u.object m (λ x g i. absurd (cc (sym f ∙ g))))

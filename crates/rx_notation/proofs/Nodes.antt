@@ -56,9 +56,9 @@ module _ (context declared : Prefixes) (agree : Agree context declared) (list : 
     where
       forth : Spoken number ps t ⊎ IsTold ns t → IsTold (number ∷ ns) t
       forth (inl y) = record {
-        triple = spo (Blank number) y.predicate y.said.object;
-        there = object_says list (Blank number) y.predicate y.said.object y.said.among;
-        read = y.said.is;
+        triple = spo (Blank number) y.it y.holds.it;
+        there = object_says list (Blank number) y.it y.holds.it y.holds.among;
+        read = y.holds.holds;
         node = number;
         among = inl refl;
         said = refl;
@@ -67,12 +67,12 @@ module _ (context declared : Prefixes) (agree : Agree context declared) (list : 
 
       spoken : (u : Triple ℕ) → Among list u → u.subject ≡ Blank number → proper_triple u ≡ t → Spoken number ps t
       spoken u m e r = record {
-        predicate = u.predicate;
+        it = u.predicate;
         among = speaks u m e;
-        said = record {
-          object = u.object;
+        holds = record {
+          it = u.object;
           among = subst (λ (z : Node ℕ). Among (objects_of list z u.predicate) u.object) e (object_there list u m);
-          is = ap (λ (z : Node ℕ). spo z u.predicate (proper_term u.object)) (sym e) ∙ r;
+          holds = ap (λ (z : Node ℕ). spo z u.predicate (proper_term u.object)) (sym e) ∙ r;
         };
       }
 

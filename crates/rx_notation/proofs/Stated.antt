@@ -1,12 +1,12 @@
 -- What statements mean whose objects are each written as it is meant.
-use Rattle.std.proofs.Common.{◌≡◌, ◌⊎◌, ◌↔◌, ℕ, ◌+◌, true, List, [], ◌∷◌, ◌++◌, map, flat_map, length, refl, sym, ap, inl, inr, subst, arith}
+use Rattle.std.proofs.Common.{◌≡◌, ◌⊎◌, ◌↔◌, ℕ, ◌+◌, true, List, [], ◌∷◌, map, flat_map, length, refl, sym, ap, inl, inr, subst, arith}
 use Rattle.std.proofs.lemmas.Bool.{and_parts}
 use Rattle.std.proofs.lemmas.List.{length-append}
 use Rattle.rx_terms.specs.Text.{Chars}
 use Rattle.rx_model.specs.Sets.{Among}
 use Rattle.rx_model.specs.Terms.{Node, Iri, Blank, Term, Triple}
 use Rattle.rx_model.specs.Copied.{spo}
-use Rattle.rx_model.proofs.Sets.{Among_left, Among_right, Among_cases, Among_map, Among_of_map}
+use Rattle.rx_model.proofs.Sets.{Among_map, Among_of_map}
 use Rattle.rx_nquads.specs.Quads.{proper_triple}
 use Rattle.rx_notation.specs.Short.{Prefixes}
 use Rattle.rx_shapes.specs.Subjects.{subjects, predicates_of, objects_of}
@@ -16,7 +16,7 @@ use Rattle.rx_notation.specs.Meaning.{is_known_subject, all_known, are_known, un
 use Rattle.rx_notation.specs.Nesting.{subject_of, some_predicates, said_of}
 use Rattle.rx_notation.proofs.Chosen.{Agree}
 use Rattle.rx_notation.proofs.Declared.{reference_means}
-use Rattle.rx_notation.proofs.Means.{in_term, in_predicates, NamedSo, named_front, named_behind, Under, under_left, under_right, under_cases, Means, SaidBy, MeansPredicates, AllSay, predicates_mean}
+use Rattle.rx_notation.proofs.Means.{in_term, in_predicates, NamedSo, named_front, named_behind, Under, Means, OneOf, none_told, joined, SaidBy, MeansPredicates, AllSay, predicates_mean}
 use Rattle.rx_notation.proofs.Bounds.{all_unlabelled}
 
 module _ (context declared : Prefixes) (agree : Agree context declared) (list : List (Triple ℕ)) (place : ℕ → ℕ) (object : Term ℕ → Part Object) (inner : ℕ → List ℕ)
@@ -28,10 +28,8 @@ module _ (context declared : Prefixes) (agree : Agree context declared) (list : 
   Spoken s t = SaidBy context declared agree list place s (objects_of list s) (predicates_of list s) t
 
   -- of one of these subjects it is said
-  pub record SaidTop (nodes : List (Node ℕ)) (t : Triple ℕ) : Type 0 where
-    pub subject : Node ℕ
-    pub among : Among nodes subject
-    pub said : Spoken subject t
+  abbrev pub SaidTop : List (Node ℕ) → Triple ℕ → Type 0
+  SaidTop nodes t = OneOf (λ (s : Node ℕ). Spoken s t) nodes
 
   abbrev below_one : Node ℕ → List ℕ
   below_one s = in_predicates inner (objects_of list s) (predicates_of list s)
@@ -64,73 +62,29 @@ module _ (context declared : Prefixes) (agree : Agree context declared) (list : 
       let both = length-append (below_one s) (below more) in
       omega (arith, first, rest, both)
 
-  -- a statement, and those behind it
-  statement_and : (s : Node ℕ) (more : List (Node ℕ)) (n : ℕ) (t : Triple ℕ)
-      → (means : MeansPredicates context declared agree list place object inner (objects_of list s) (said_of context object list s) (predicates_of list s))
-      → (is_known_subject declared (subject_of context s) ≡ true) × (all_known declared (said_of context object list s) ≡ true) → NamedSo place n (below_one s ++ below more)
-      → (NamedSo place (n + unlabelled (said_of context object list s)) (below more)
-      → Among (all_triples declared (λ number. number) place (map state more) (n + unlabelled (said_of context object list s))) t ↔ (SaidTop more t ⊎ IsTold (below more) t))
-      → Among (all_triples declared (λ number. number) place (map state (s ∷ more)) n) t ↔ (SaidTop (s ∷ more) t ⊎ IsTold (below (s ∷ more)) t)
-  statement_and s more n t means known_mine h rest = (forth, back)
-    where
-      part : Part Predicates
-      part = said_of context object list s
-
-      ns : List ℕ
-      ns = below_one s
-
-      ms : List ℕ
-      ms = below more
-
-      mine : List (Triple ℕ)
-      mine = triples declared (λ number. number) place part (node_of declared (λ number. number) place (subject_of context s)) n
-
-      theirs : List (Triple ℕ)
-      theirs = all_triples declared (λ number. number) place (map state more) (n + unlabelled part)
-
-      by : Among mine t ↔ (Spoken s t ⊎ IsTold ns t)
-      by = subst (λ (z : Node ℕ). Among (triples declared (λ number. number) place part z n) t ↔ (Spoken s t ⊎ IsTold ns t))
-          (sym (node_means s known_mine.0))
-          (means.says s n known_mine.1 (named_front place n ns ms h) t)
-
-      on : Among theirs t ↔ (SaidTop more t ⊎ IsTold ms t)
-      on = rest (subst (λ z. NamedSo place (n + z) ms) (sym means.size) (named_behind place n ns ms h))
-
-      told : Spoken s t ⊎ IsTold ns t → SaidTop (s ∷ more) t ⊎ IsTold (ns ++ ms) t
-      told (inl y) = inl (record { subject = s; among = inl refl; said = y })
-      told (inr u) = inr (under_left context declared agree list place ns ms t u)
-
-      told_behind : SaidTop more t ⊎ IsTold ms t → SaidTop (s ∷ more) t ⊎ IsTold (ns ++ ms) t
-      told_behind (inl y) = inl (record { subject = y.subject; among = inr y.among; said = y.said })
-      told_behind (inr u) = inr (under_right context declared agree list place ns ms t u)
-
-      forth : Among (mine ++ theirs) t → SaidTop (s ∷ more) t ⊎ IsTold (ns ++ ms) t
-      forth a = elim (Among_cases mine theirs t a) [ inl b ↦ told (by.0 b) | inr b ↦ told_behind (on.0 b) ]
-
-      back : SaidTop (s ∷ more) t ⊎ IsTold (ns ++ ms) t → Among (mine ++ theirs) t
-      back (inl y) = elim y.among [
-        | inl e ↦ Among_left mine theirs t (by.1 (inl (subst (λ (z : Node ℕ). Spoken z t) (sym e) y.said)))
-        | inr a ↦ Among_right mine theirs t (on.1 (inl (record { subject = y.subject; among = a; said = y.said })))
-      ]
-      back (inr u) = elim (under_cases context declared agree list place ns ms t u) [ inl v ↦ Among_left mine theirs t (by.1 (inr v)) | inr v ↦ Among_right mine theirs t (on.1 (inr v)) ]
-
   statements_mean : (nodes : List (Node ℕ)) → ((s : Node ℕ) → Among nodes s → Among (subjects list) s) → are_known declared (map state nodes) ≡ true → (n : ℕ) → NamedSo place n (below nodes)
       → (t : Triple ℕ) → Among (all_triples declared (λ number. number) place (map state nodes) n) t ↔ (SaidTop nodes t ⊎ IsTold (below nodes) t)
-  statements_mean [] there k n h t = (λ a. absurd a, λ y. elim y [ inl z ↦ absurd z.among | inr u ↦ absurd u.among ])
+  statements_mean [] there k n h t = none_told context declared agree list place (λ (s : Node ℕ). Spoken s t) t
   statements_mean (s ∷ more) there k n h t =
-      statement_and s more n t (said_means s (there s (inl refl))) (and_parts _ _ (and_parts _ _ k).0) h
-      (λ l. statements_mean more (λ r m. there r (inr m)) (and_parts _ _ k).1
-      (n + unlabelled (said_of context object list s)) l t)
+      let part : Part Predicates = said_of context object list s in
+      let known = and_parts (is_known_subject declared (subject_of context s)) (all_known declared part) (and_parts _ _ k).0 in
+      let means = said_means s (there s (inl refl)) in
+      let mine : Node ℕ → List (Triple ℕ) = λ z. triples declared (λ number. number) place part z n in
+      let l : NamedSo place (n + unlabelled part) (below more) = subst (λ z. NamedSo place (n + z) (below more)) (sym means.size) (named_behind place n (below_one s) (below more) h) in
+      joined context declared agree list place (λ (s : Node ℕ). Spoken s t) t s more (below_one s) (below more)
+      (mine (node_of declared (λ number. number) place (subject_of context s))) (all_triples declared (λ number. number) place (map state more) (n + unlabelled part))
+      (subst (λ (z : Node ℕ). Among (mine z) t ↔ (Spoken s t ⊎ IsTold (below_one s) t)) (sym (node_means s known.0)) (means.says s n known.1 (named_front place n (below_one s) (below more) h) t))
+      (statements_mean more (λ r m. there r (inr m)) (and_parts _ _ k).1 (n + unlabelled part) l t)
 
   -- what is said of a subject that has a statement
   pub said_top : (nodes : List (Node ℕ)) (u : Triple ℕ) → Among list u → (t : Triple ℕ) → proper_triple u ≡ t → Among nodes u.subject → SaidTop nodes t
   said_top nodes u m t e k =
-      record { subject = u.subject; among = k; said = record { predicate = u.predicate; among = predicate_there list u m; said = record { object = u.object; among = object_there list u m; is = e } } }
+      record { it = u.subject; among = k; holds = record { it = u.predicate; among = predicate_there list u m; holds = record { it = u.object; among = object_there list u m; holds = e } } }
 
   of_list : (nodes : List (Node ℕ)) (t : Triple ℕ) → SaidTop nodes t ⊎ IsTold (below nodes) t → Among (map proper_triple list) t
   of_list nodes t (inl y) =
-      let s : Node ℕ = y.subject in let p : Chars = y.said.predicate in let o : Term ℕ = y.said.said.object in
-      subst (Among (map proper_triple list)) y.said.said.is (Among_map proper_triple list (spo s p o) (object_says list s p o y.said.said.among))
+      let s : Node ℕ = y.it in let p : Chars = y.holds.it in let o : Term ℕ = y.holds.holds.it in
+      subst (Among (map proper_triple list)) y.holds.holds.holds (Among_map proper_triple list (spo s p o) (object_says list s p o y.holds.holds.among))
   of_list nodes t (inr u) = subst (Among (map proper_triple list)) u.read (Among_map proper_triple list u.triple u.there)
 
   -- the statements mean the list, where each of its triples is said of their subjects, or below them
