@@ -10,17 +10,19 @@ use Rattle.std.proofs.lemmas.List.Folds.{list_all-append}
 use Rattle.rx_terms.specs.declared.triples.Triple.{Triple as CodeTriple}
 use Rattle.rx_model.specs.Sets.{Among, contains, distinct, with_one}
 use Rattle.rx_model.specs.Terms.{Node, Triple, same_node}
-use Rattle.rx_model.proofs.Sets.{Among-contains, Among_by_contains, Among_of_distinct, Among_distinct}
+use Rattle.rx_model.proofs.Sets.{Among-contains, Among_by_contains, Among_of_distinct, Among_distinct, false_unless}
 use Rattle.rx_model.proofs.Exact.{exact_nodes, exact_numbers}
 use Rattle.rx_graph.specs.Resources.{AreDistinct}
 use Rattle.rx_terms.proofs.Bools.{same_truth}
 use Rattle.rx_graph.proofs.SetLemmas.{one_more}
-use Rattle.rx_shapes.proofs.Grouped.{same_back}
+use Rattle.rx_shapes.proofs.Grouped.{same_nodes, same_back}
+use Rattle.rx_shapes.proofs.Heights.{Differ}
+use Rattle.rx_shapes.proofs.Times.{distinct_differ}
 use Rattle.rx_turtle.specs.declared.keys.By.{By}
 use Rattle.rx_turtle.specs.declared.keys.By.TheVariants as by
 use Rattle.rx_turtle.specs.Groups.{Keyed, key_by, has_key, keys_by, keys_in, grouped}
 use Rattle.rx_turtle.specs.Runs.{all_in, put_before, runs, starts, like_first, Said, said_by, said_in, by_predicate}
-use Rattle.rx_turtle.proofs.GroupLemmas.{lent_seen, lent_at, lent_more, same_self, keys_more, rows_by}
+use Rattle.rx_turtle.proofs.GroupLemmas.{lent_seen, lent_at, mapped_more, same_self, keys_more, rows_by}
 use Rattle.rx_turtle.proofs.TakenLemmas.{keys_of_pairs}
 
 -- ---- cutting where the key changes
@@ -80,36 +82,12 @@ module _ (kind : By) where
 
 -- ---- the groups of a list are apart
 
-kept_apart : (p : Node ℕ → Bool) (keys : List (Node ℕ)) (k : Node ℕ) → contains (same_node nat_eq) keys k ≡ false → contains (same_node nat_eq) (filter p keys) k ≡ false
-kept_apart p [] k h = refl
-kept_apart p (x ∷ keys) k h =
-    let parts = or_parts (same_node nat_eq x k) (contains (same_node nat_eq) keys k) h in
-    go (p x) parts.0 (kept_apart p keys k parts.1)
-  where
-    go : (b : Bool) → same_node nat_eq x k ≡ false → contains (same_node nat_eq) (filter p keys) k ≡ false → contains (same_node nat_eq) (cond b (x ∷ filter p keys) (filter p keys)) k ≡ false
-    go true e ih = rw e ih
-    go false e ih = ih
-
-kept_distinct : (p : Node ℕ → Bool) (keys : List (Node ℕ)) → AreDistinct keys → AreDistinct (filter p keys)
-kept_distinct p [] d = tt
-kept_distinct p (x ∷ keys) d = go (p x) (kept_distinct p keys d.1)
-  where
-    go : (b : Bool) → AreDistinct (filter p keys) → AreDistinct (cond b (x ∷ filter p keys) (filter p keys))
-    go true ih = (kept_apart p keys x d.0, ih)
-    go false ih = ih
-
-left_out : (x : Node ℕ) (keys : List (Node ℕ)) → contains (same_node nat_eq) (filter (λ y. not (same_node nat_eq x y)) keys) x ≡ false
-left_out x [] = refl
-left_out x (y ∷ keys) = go (same_node nat_eq x y) refl (left_out x keys)
-  where
-    go : (b : Bool) → same_node nat_eq x y ≡ b → contains (same_node nat_eq) (filter (λ y. not (same_node nat_eq x y)) keys) x ≡ false
-        → contains (same_node nat_eq) (cond (not b) (y ∷ filter (λ y. not (same_node nat_eq x y)) keys) (filter (λ y. not (same_node nat_eq x y)) keys)) x ≡ false
-    go true e ih = ih
-    go false e ih = let back : same_node nat_eq y x ≡ false = same_back y x ∙ e in rw back ih
+are_distinct : (keys : List (Node ℕ)) → Differ keys → AreDistinct keys
+are_distinct [] d = tt
+are_distinct (x ∷ keys) d = (false_unless (contains (same_node nat_eq) keys x) (λ c. d.0 (Among_by_contains (same_node nat_eq) same_nodes keys x c)), are_distinct keys d.1)
 
 distinct_keys : (keys : List (Node ℕ)) → AreDistinct (distinct (same_node nat_eq) keys)
-distinct_keys [] = tt
-distinct_keys (x ∷ keys) = (left_out x (distinct (same_node nat_eq) keys), kept_distinct (λ y. not (same_node nat_eq x y)) (distinct (same_node nat_eq) keys) (distinct_keys keys))
+distinct_keys keys = are_distinct (distinct (same_node nat_eq) keys) (distinct_differ (same_node nat_eq) same_nodes keys)
 
 all_kept : (p : Triple ℕ → Bool) (list : List (Triple ℕ)) → list_all p (filter p list) ≡ true
 all_kept p [] = refl
@@ -354,7 +332,7 @@ pub all_turn : (list : List (Bor CodeTriple)) (i : ℕ) (t : Bor CodeTriple) (st
     → map lent_seen old ≡ start ++ map lent_seen (take i list) → map lent_seen new ≡ start ++ map lent_seen (take (i + 1) list)
 all_turn list i t start old new at grows before =
     ap (map lent_seen) grows ∙ map-append lent_seen old (t ∷ []) ∙ ap (λ z. z ++ lent_seen t ∷ []) before ∙ append_assoc start (map lent_seen (take i list)) (lent_seen t ∷ [])
-    ∙ ap (λ z. start ++ z) (sym (lent_more list i t at))
+    ∙ ap (λ z. start ++ z) (sym (mapped_more lent_seen list i t at))
 
 pub all_end : (list : List (Bor CodeTriple)) (i : ℕ) (start now : List (Triple ℕ)) → length list ≤ i → now ≡ start ++ map lent_seen (take i list) → now ≡ start ++ map lent_seen list
 all_end list i start now past h = h ∙ ap (λ z. start ++ map lent_seen z) (take_all i list past)

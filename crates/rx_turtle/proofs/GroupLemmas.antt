@@ -17,8 +17,8 @@ use Rattle.rx_turtle.specs.Groups.{Keyed, group_seen, key_by, has_key, keys_by, 
 abbrev pub lent_seen : Bor CodeTriple → Triple ℕ
 lent_seen t = triple_seen t.now
 
-pub lent_more : (list : List (Bor CodeTriple)) (i : ℕ) (t : Bor CodeTriple) → slice_get list i ≡ Some t → map lent_seen (take (i + 1) list) ≡ map lent_seen (take i list) ++ lent_seen t ∷ []
-lent_more list i t at = ap (map lent_seen) (one_more list i t at) ∙ map-append lent_seen (take i list) (t ∷ [])
+pub mapped_more : {A B : Type 0} (f : A → B) (list : List A) (i : ℕ) (a : A) → slice_get list i ≡ Some a → map f (take (i + 1) list) ≡ map f (take i list) ++ f a ∷ []
+mapped_more f list i a at = ap (map f) (one_more list i a at) ∙ map-append f (take i list) (a ∷ [])
 
 pub seen_at : {A B : Type 0} (f : A → B) (list : List A) (i : ℕ) (a : A) → slice_get list i ≡ Some a → slice_get (map f list) i ≡ Some (f a)
 seen_at f [] i a at = absurd (cc)

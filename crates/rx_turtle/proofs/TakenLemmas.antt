@@ -11,7 +11,7 @@ use Rattle.rx_graph.proofs.PatternLemmas.{contains_more, contains_added, none_th
 use Rattle.rx_shapes.proofs.Grouped.{same_back}
 use Rattle.rx_turtle.specs.declared.keys.By.{By}
 use Rattle.rx_turtle.specs.Groups.{Keyed, key_by, has_key, keys_by, keys_in, grouped, put_in, taken_at, taken_in}
-use Rattle.rx_turtle.proofs.GroupLemmas.{lent_seen, lent_more, same_self, paired, rows_by, keys_more, others_stay, one_put, last_in}
+use Rattle.rx_turtle.proofs.GroupLemmas.{lent_seen, mapped_more, same_self, paired, rows_by, keys_more, others_stay, one_put, last_in}
 
 -- ---- a key more
 
@@ -118,7 +118,7 @@ module _ (kind : By) where
 
   pub taken_turn : (list : List (Bor CodeTriple)) (i : ℕ) (t : Bor CodeTriple) (old new : List Keyed) → slice_get list i ≡ Some t → new ≡ taken_in kind old (lent_seen t)
       → Taken kind (map lent_seen (take i list)) old → Taken kind (map lent_seen (take (i + 1) list)) new
-  taken_turn list i t old new at turn before = subst (λ z. Taken kind z new) (sym (lent_more list i t at)) (taken_more (map lent_seen (take i list)) (lent_seen t) old new turn before)
+  taken_turn list i t old new at turn before = subst (λ z. Taken kind z new) (sym (mapped_more lent_seen list i t at)) (taken_more (map lent_seen (take i list)) (lent_seen t) old new turn before)
 
   pub taken_end : (list : List (Bor CodeTriple)) (i : ℕ) (groups : List Keyed) → length list ≤ i → Taken kind (map lent_seen (take i list)) groups → groups ≡ grouped kind (map lent_seen list)
   taken_end list i groups past h = h.is ∙ ap (λ z. grouped kind (map lent_seen z)) (take_all i list past)
