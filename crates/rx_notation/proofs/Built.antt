@@ -1,5 +1,5 @@
 -- The parts of the nested document are good ones.
-use Rattle.std.proofs.Common.{◌≡◌, ◌∙◌, ℕ, zero, suc, ◌<◌, ◌^◌, Bool, true, false, cond, List, [], ◌∷◌, bytes_eq, refl, sym, inl, inr, subst}
+use Rattle.std.proofs.Common.{◌≡◌, ℕ, zero, suc, ◌<◌, ◌^◌, Bool, true, false, cond, List, [], ◌∷◌, bytes_eq, refl, sym, inl, inr, subst}
 use Rattle.rx_terms.specs.Text.{Chars}
 use Rattle.rx_terms.specs.Iri.{IsIri}
 use Rattle.rx_model.specs.Sets.{Among}
@@ -14,10 +14,11 @@ use Rattle.rx_notation.specs.Short.{Prefixes}
 use Rattle.rx_shapes.specs.Subjects.{predicates_of, objects_of}
 use Rattle.rx_notation.specs.Syntax.{Named, By, Type_of, Object, Items, Part, IriOrLabel, Nil}
 use Rattle.rx_shapes.proofs.Grouped.{predicate_says, object_says}
-use Rattle.rx_notation.specs.Nesting.{reference_to, verb_of, suffix_of, objects_after, some_objects, predicates_after, some_predicates, bracketed, object_by, one_object, items_by, cells, node_by, written}
+use Rattle.rx_notation.specs.Nesting.{reference_to, verb_of, suffix_of, objects_after, some_objects, predicates_after, some_predicates, bracketed, object_by, cells, node_by, written}
 use Rattle.rx_notation.proofs.Spelled.{GoodVerb, GoodSuffix, Good}
 use Rattle.rx_notation.proofs.Declared.{good_reference}
-use Rattle.rx_shapes.proofs.CellLemmas.{CellOf, cell_of, cell_inner, first_some, first_each, rest_some, rest_each, Enough, none_left, child_enough}
+use Rattle.rx_notation.proofs.CellParts.{cell_last, cell_more}
+use Rattle.rx_shapes.proofs.CellLemmas.{CellOf, cell_of, cell_inner, Enough, none_left, child_enough}
 
 -- ---- lists of parts
 
@@ -87,28 +88,10 @@ module _ (context : Prefixes) (list : List (Triple ℕ)) (w : IsWritable list) w
 
   items_good : (object : Term ℕ → Part Object) (cell : ℕ → Part Items) (number : ℕ) (c : CellOf list number) → Fine (object c.item) → ((d : ℕ) → c.after ≡ Resource (Blank d) → Cell (set_of list) d → Good context Free (cell d))
       → Good context Free (cells object cell list number)
-  items_good object cell number c item behind = by_first (objects_of list (Blank number) rdf_first) (first_some list number c) (first_each list number c)
-    where
-      blank_alike : (a b : ℕ) → Resource (Blank a) ≡ Resource (Blank b) → a ≡ b
-      blank_alike a b e = cc
-
-      by_rest : (part : Part Object) → Fine part → (rests : List (Term ℕ)) → Among rests c.after → ((o : Term ℕ) → Among rests o → o ≡ c.after) → Good context Free (items_by cell part rests)
-      by_rest part good [] some each = good
-      by_rest part good (Resource (Iri iri) ∷ more) some each = good
-      by_rest part good (Resource (Blank b) ∷ more) some each = (
-        good,
-        elim c.next [
-          | inl e ↦ absurd (cc (each (Resource (Blank b)) (inl refl) ∙ e))
-          | inr d ↦ behind b (sym (each (Resource (Blank b)) (inl refl))) (subst (Cell (set_of list)) (sym (blank_alike b d.0 (each (Resource (Blank b)) (inl refl) ∙ d.1))) d.2)
-        ],
-      )
-      by_rest part good (Literal text kind ∷ more) some each = good
-
-      by_first : (firsts : List (Term ℕ)) → Among firsts c.item → ((o : Term ℕ) → Among firsts o → o ≡ c.item)
-          → Good context Free (items_by cell (one_object object firsts) (objects_of list (Blank number) rdf_rest))
-      by_first [] some each = absurd some
-      by_first (o ∷ firsts) some each =
-          by_rest (object o) (subst (λ (z : Term ℕ). Fine (object z)) (sym (each o (inl refl))) item) (objects_of list (Blank number) rdf_rest) (rest_some list number c) (rest_each list number c)
+  items_good object cell number c item behind = elim c.next [
+    | inl e ↦ subst (λ (z : Part Items). Good context Free z) (sym (cell_last list number c object cell e)) item
+    | inr d ↦ subst (λ (z : Part Items). Good context Free z) (sym (cell_more list number c object cell d.0 d.1)) (item, behind d.0 d.1 d.2)
+  ]
 
   -- ---- all nodes
 

@@ -18,3 +18,4 @@ pub mod There
 pub mod NestedMeaning
 pub mod Unfolded
 pub mod Stated
+pub mod CellParts
