@@ -17,7 +17,7 @@ module _ (list : List (Triple ℕ)) (number : ℕ) (c : CellOf list number) wher
   firsts : (more : List (Term ℕ)) × (objects_of list (Blank number) rdf_first ≡ c.item ∷ more)
   firsts = head_is (objects_of list (Blank number) rdf_first) c.item (first_some list number c) (first_each list number c)
 
-  rests : (more : List (Term ℕ)) × (objects_of list (Blank number) rdf_rest ≡ c.after ∷ more)
+  pub rests : (more : List (Term ℕ)) × (objects_of list (Blank number) rdf_rest ≡ c.after ∷ more)
   rests = head_is (objects_of list (Blank number) rdf_rest) c.after (rest_some list number c) (rest_each list number c)
 
   -- its nodes without a label

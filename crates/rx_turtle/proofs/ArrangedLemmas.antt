@@ -19,7 +19,7 @@ use Rattle.rx_turtle.specs.declared.keys.By.{By}
 use Rattle.rx_turtle.specs.declared.keys.By.TheVariants as by
 use Rattle.rx_turtle.specs.Groups.{Keyed, key_by, has_key, keys_by, keys_in, grouped}
 use Rattle.rx_turtle.specs.Runs.{all_in, put_before, runs, starts, like_first, Said, said_by, said_in, by_predicate}
-use Rattle.rx_turtle.proofs.GroupLemmas.{lent_seen, lent_at, mapped_more, same_self, keys_more, rows_by}
+use Rattle.rx_turtle.proofs.GroupLemmas.{lent_seen, lent_at, mapped_more, front_at, same_self, keys_more, rows_by}
 use Rattle.rx_turtle.proofs.TakenLemmas.{distinct_keys, same_there, none_with, keys_of_pairs}
 
 -- ---- cutting where the key changes
@@ -191,11 +191,6 @@ module _ {A B : Type 0} (f : A → List B) where
 
 -- those that are like one of them, for one after another
 module _ (kind : By) where
-  front_at : (list : List (Triple ℕ)) (i : ℕ) (t : Triple ℕ) → slice_get list i ≡ Some t → drop i list ≡ t ∷ drop (suc i) list
-  front_at [] i t at = absurd (cc)
-  front_at (x ∷ list) zero t at = let same : x ≡ t = cc in ap (λ z. z ∷ list) same
-  front_at (x ∷ list) (suc i) t at = front_at list i t at
-
   pub like_turn : (list : List (Triple ℕ)) (i : ℕ) (t : Triple ℕ) (start old new : List (Triple ℕ)) → slice_get list i ≡ Some t → new ≡ old ++ like_first kind (take i list) (drop i list)
       → old ≡ start ++ all_in (rows_by kind list (keys_by kind (take i list))) → new ≡ start ++ all_in (rows_by kind list (keys_by kind (take (i + 1) list)))
   like_turn list i t start old new at grows before =

@@ -1,5 +1,5 @@
 -- The text of a nested plan is that of the nested layout, and what it denotes.
-use Rattle.std.proofs.Common.{◌≡◌, ◌∙◌, ℕ, Bool, true, false, cond, nat_eq, List, [], ◌∷◌, ◌++◌, map, filter, filter_map, flat_map, length, bytes_eq, Option, Some, None, refl, sym, ap, ap₂, subst, inl, inr, codes, if◌then◌else◌}
+use Rattle.std.proofs.Common.{◌≡◌, ◌∙◌, ℕ, Bool, true, false, cond, nat_eq, List, [], ◌∷◌, ◌++◌, map, filter_map, flat_map, length, bytes_eq, Option, Some, None, refl, sym, ap, ap₂, subst, codes, if◌then◌else◌}
 use Rattle.std.specs.Str.{chars, encode_utf8_all}
 use Rattle.std.proofs.lemmas.Str.{chars-encodes}
 use Rattle.rx_terms.specs.Text.{Chars}
@@ -35,6 +35,7 @@ use Rattle.rx_turtle.specs.Uses.{marked_all, unmarked, chosen}
 use Rattle.rx_turtle.specs.Tokens.{Shown, Fixed, IriOrLabel, Verb, Quoted, tokens_seen, words_text, piece_of, pieces_of, shown_text, shown_texts, iris_of_shown, WritableShown}
 use Rattle.rx_turtle.specs.Due.{list_of, shapes_of, IsSource, AreTokens}
 use Rattle.rx_turtle.specs.Nested.{iris_of_tokens, AreWritable}
+use Rattle.rx_turtle.proofs.Finding.{filter_same}
 use Rattle.rx_turtle.proofs.RunLemmas.{have_shapes}
 use Rattle.rx_turtle.proofs.ScalarLemmas.{all_writable, resource_writable, verb_writable, object_writable, prefixes_writable}
 use Rattle.rx_turtle.proofs.UseLemmas.{chosen_used, marks_size}
@@ -112,16 +113,6 @@ module _ (context : Prefixes) where
         let same : q.0 ≡ p = one_of context apart p q.0 m (prefix_fits context iri.0 q.0 iri.2).there q.2 in
         Among-contains same_prefix exact_prefixes some p (subst (λ (z : Prefix). Among some z) same q.1))
 
-    filter_among : (f g : Prefix → Bool) (ps : Prefixes) → ((p : Prefix) → Among ps p → f p ≡ g p) → filter f ps ≡ filter g ps
-    filter_among f g [] h = refl
-    filter_among f g (p ∷ ps) h = go (f p) (g p) (h p (inl refl)) (filter_among f g ps (λ q m. h q (inr m)))
-      where
-        go : (a b : Bool) → a ≡ b → filter f ps ≡ filter g ps → cond a (p ∷ filter f ps) (filter f ps) ≡ cond b (p ∷ filter g ps) (filter g ps)
-        go true true e ih = ap (λ z. p ∷ z) ih
-        go false false e ih = ih
-        go true false e ih = absurd (cc)
-        go false true e ih = absurd (cc)
-
     -- triples that have these IRIs
     abbrev with_iris : List Chars → List (Triple ℕ)
     with_iris iris = map {B = Triple ℕ} (λ iri. spo (Iri iri) rdf_type (Literal [] Plain)) iris
@@ -137,7 +128,7 @@ module _ (context : Prefixes) where
         ap (λ z. chosen (marked_all context (unmarked context) z) context) (sym (have_iris iris))
         ∙ chosen_used context rise (with_iris iris)
         ∙ ap (λ z. in_byte_order (those_among (filter_map (prefix_of context) z) context)) (have_iris iris)
-        ∙ ap in_byte_order (filter_among (contains same_prefix (filter_map (prefix_of context) iris)) (λ (p : Prefix). contains bytes_eq (names_by iris) p.0) context (used_named iris))
+        ∙ ap in_byte_order (filter_same (contains same_prefix (filter_map (prefix_of context) iris)) (λ (p : Prefix). contains bytes_eq (names_by iris) p.0) context (used_named iris))
 
     pub marks_long : (iris : List Chars) → length (marked_all context (unmarked context) iris) ≡ length context
     marks_long iris = ap (λ z. length (marked_all context (unmarked context) z)) (sym (have_iris iris)) ∙ marks_size context rise (with_iris iris)
