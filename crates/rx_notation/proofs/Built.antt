@@ -51,7 +51,8 @@ module _ (context declared : Prefixes) (free : ℕ → Type 0) (object : Term �
     bracketed_good (first ∷ more) good = predicates_good first more good
 
   -- what is said of a node, where it is good triple by triple
-  pub line_by : (list : List (Triple ℕ)) (s : Node ℕ) → ((p : Chars) (o : Term ℕ) → Among list (spo s p o) → GoodVerb declared free (verb_of context p) × FineTerm o) → (p : Chars) → Among (predicates_of list s) p → GoodLine (objects_of list s) p
+  pub line_by : (list : List (Triple ℕ)) (s : Node ℕ) → ((p : Chars) (o : Term ℕ) → Among list (spo s p o) → GoodVerb declared free (verb_of context p) × FineTerm o)
+      → (p : Chars) → Among (predicates_of list s) p → GoodLine (objects_of list s) p
   line_by list s each p m = let o = predicate_says list s p m in ((each p o.0 (object_says list s p o.0 o.1)).0, λ q k. (each p q (object_says list s p q k)).1)
 
 module _ (context : Prefixes) (list : List (Triple ℕ)) (w : IsWritable list) where
@@ -83,7 +84,8 @@ module _ (context : Prefixes) (list : List (Triple ℕ)) (w : IsWritable list) w
 
   -- ---- what is said of a node, where each of its objects is good
 
-  pub line_good : (object : Term ℕ → Part Object) (s : Node ℕ) → ((p : Chars) (o : Term ℕ) → Among list (spo s p o) → Fine (object o)) → (p : Chars) → Among (predicates_of list s) p → GoodLine context context Free object (objects_of list s) p
+  pub line_good : (object : Term ℕ → Part Object) (s : Node ℕ) → ((p : Chars) (o : Term ℕ) → Among list (spo s p o) → Fine (object o))
+      → (p : Chars) → Among (predicates_of list s) p → GoodLine context context Free object (objects_of list s) p
   line_good object s each = line_by context context Free object list s (λ p o m. (good_verb p (w.parts (spo s p o) m).predicate.is_iri, each p o m))
 
   items_good : (object : Term ℕ → Part Object) (cell : ℕ → Part Items) (number : ℕ) (c : CellOf list number) → Fine (object c.item) → ((d : ℕ) → c.after ≡ Resource (Blank d) → Cell (set_of list) d → Good context Free (cell d))
