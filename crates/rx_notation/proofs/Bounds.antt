@@ -13,6 +13,10 @@ abbrev pub all_unlabelled : List Statement → ℕ
 all_unlabelled [] = 0
 all_unlabelled (s ∷ more) = unlabelled s.predicates + all_unlabelled more
 
+some_item : (items : Part Items) → 1 ≤ unlabelled items
+some_item (Last object) = omega arith
+some_item (Item object items) = omega arith
+
 module _ (free : ℕ → Type 0) (most : ℕ) where
   -- a label is free, and a place is one of so many
   abbrev pub BoundName : Name → Type 0
@@ -50,10 +54,6 @@ module _ (free : ℕ → Type 0) (most : ℕ) where
     term_bound Nil n h b k = tt
     term_bound (Bracketed predicates) n h b k = k (omega arith)
     term_bound (Collection items) n h b k = k (some_item items)
-      where
-        some_item : (items : Part Items) → 1 ≤ unlabelled items
-        some_item (Last object) = omega arith
-        some_item (Item object items) = omega arith
 
     object_bound : (o : Part Object) (n : ℕ) → Good context free o → n + unlabelled o ≤ most → BoundTerm (term_of prefixes Label Place o n)
     object_bound o n h b = term_bound o n h b (λ k. omega (arith, b, k))
@@ -100,10 +100,6 @@ module _ (free : ℕ → Type 0) (most : ℕ) where
       where
         below : n < most
         below = omega (arith, b)
-
-        some_item : (items : Part Items) → 1 ≤ unlabelled items
-        some_item (Last object) = omega arith
-        some_item (Item object items) = omega arith
 
         next_below : 1 ≤ unlabelled items → suc n + unlabelled object < most
         next_below q = omega (arith, b, q)

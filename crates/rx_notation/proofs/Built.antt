@@ -1,5 +1,5 @@
 -- The parts of the nested document are good ones.
-use Rattle.std.proofs.Common.{◌≡◌, ◌∙◌, ℕ, zero, suc, ◌<◌, ◌^◌, Bool, true, false, cond, List, [], ◌∷◌, bytes_eq, refl, sym, inl, inr, subst}
+use Rattle.std.proofs.Common.{◌≡◌, ℕ, zero, suc, ◌<◌, ◌^◌, Bool, true, false, cond, List, [], ◌∷◌, bytes_eq, refl, sym, inl, inr, subst}
 use Rattle.rx_terms.specs.Text.{Chars}
 use Rattle.rx_terms.specs.Iri.{IsIri}
 use Rattle.rx_model.specs.Sets.{Among}
@@ -14,10 +14,46 @@ use Rattle.rx_notation.specs.Short.{Prefixes}
 use Rattle.rx_shapes.specs.Subjects.{predicates_of, objects_of}
 use Rattle.rx_notation.specs.Syntax.{Named, By, Type_of, Object, Items, Part, IriOrLabel, Nil}
 use Rattle.rx_shapes.proofs.Grouped.{predicate_says, object_says}
-use Rattle.rx_notation.specs.Nesting.{reference_to, verb_of, suffix_of, objects_after, some_objects, predicates_after, some_predicates, bracketed, object_by, one_object, items_by, cells, node_by, written}
+use Rattle.rx_notation.specs.Nesting.{reference_to, verb_of, suffix_of, objects_after, some_objects, predicates_after, some_predicates, bracketed, object_by, cells, node_by, written}
 use Rattle.rx_notation.proofs.Spelled.{GoodVerb, GoodSuffix, Good}
 use Rattle.rx_notation.proofs.Declared.{good_reference}
-use Rattle.rx_shapes.proofs.CellLemmas.{CellOf, cell_of, cell_inner, first_some, first_each, rest_some, rest_each, Enough, none_left, child_enough}
+use Rattle.rx_notation.proofs.CellParts.{cell_last, cell_more}
+use Rattle.rx_shapes.proofs.CellLemmas.{CellOf, cell_of, cell_inner, Enough, none_left, child_enough}
+
+-- ---- lists of parts
+
+module _ (context declared : Prefixes) (free : ℕ → Type 0) (object : Term ℕ → Part Object) where
+  abbrev FineTerm : Term ℕ → Type 0
+  FineTerm o = Good declared free (object o)
+
+  objects_good : (first : Term ℕ) (more : List (Term ℕ)) → ((o : Term ℕ) → Among (first ∷ more) o → FineTerm o) → Good declared free (objects_after object first more)
+  objects_good first [] good = good first (inl refl)
+  objects_good first (next ∷ more) good = (good first (inl refl), objects_good next more (λ o m. good o (inr m)))
+
+  some_objects_good : (objects : List (Term ℕ)) → ((o : Term ℕ) → Among objects o → FineTerm o) → Good declared free (some_objects object objects)
+  some_objects_good [] good = tt
+  some_objects_good (first ∷ more) good = objects_good first more good
+
+  module _ (objects : Chars → List (Term ℕ)) where
+    abbrev GoodLine : Chars → Type 0
+    GoodLine p = GoodVerb declared free (verb_of context p) × ((o : Term ℕ) → Among (objects p) o → FineTerm o)
+
+    predicates_good : (first : Chars) (more : List Chars) → ((p : Chars) → Among (first ∷ more) p → GoodLine p) → Good declared free (predicates_after context object objects first more)
+    predicates_good first [] good = let g = good first (inl refl) in (g.0, (some_objects_good (objects first) g.1, tt))
+    predicates_good first (next ∷ more) good = let g = good first (inl refl) in (g.0, (some_objects_good (objects first) g.1, predicates_good next more (λ p m. good p (inr m))))
+
+    pub some_predicates_good : (ps : List Chars) → ((p : Chars) → Among ps p → GoodLine p) → Good declared free (some_predicates context object objects ps)
+    some_predicates_good [] good = (tt, (tt, tt))
+    some_predicates_good (first ∷ more) good = predicates_good first more good
+
+    bracketed_good : (ps : List Chars) → ((p : Chars) → Among ps p → GoodLine p) → Good declared free (bracketed context object objects ps)
+    bracketed_good [] good = tt
+    bracketed_good (first ∷ more) good = predicates_good first more good
+
+  -- what is said of a node, where it is good triple by triple
+  pub line_by : (list : List (Triple ℕ)) (s : Node ℕ) → ((p : Chars) (o : Term ℕ) → Among list (spo s p o) → GoodVerb declared free (verb_of context p) × FineTerm o)
+      → (p : Chars) → Among (predicates_of list s) p → GoodLine (objects_of list s) p
+  line_by list s each p m = let o = predicate_says list s p m in ((each p o.0 (object_says list s p o.0 o.1)).0, λ q k. (each p q (object_says list s p q k)).1)
 
 module _ (context : Prefixes) (list : List (Triple ℕ)) (w : IsWritable list) where
   -- a label is that of a node that isn't written where it is used
@@ -46,64 +82,18 @@ module _ (context : Prefixes) (list : List (Triple ℕ)) (w : IsWritable list) w
       go true = tt
       go false = good_reference context Free iri h
 
-  -- ---- lists of parts
-
-  module _ (object : Term ℕ → Part Object) where
-    objects_good : (first : Term ℕ) (more : List (Term ℕ)) → ((o : Term ℕ) → Among (first ∷ more) o → Fine (object o)) → Good context Free (objects_after object first more)
-    objects_good first [] good = good first (inl refl)
-    objects_good first (next ∷ more) good = (good first (inl refl), objects_good next more (λ o m. good o (inr m)))
-
-    some_objects_good : (objects : List (Term ℕ)) → ((o : Term ℕ) → Among objects o → Fine (object o)) → Good context Free (some_objects object objects)
-    some_objects_good [] good = tt
-    some_objects_good (first ∷ more) good = objects_good first more good
-
-    module _ (objects : Chars → List (Term ℕ)) where
-      abbrev GoodLine : Chars → Type 0
-      GoodLine p = IsIri p × ((o : Term ℕ) → Among (objects p) o → Fine (object o))
-
-      predicates_good : (first : Chars) (more : List Chars) → ((p : Chars) → Among (first ∷ more) p → GoodLine p) → Good context Free (predicates_after context object objects first more)
-      predicates_good first [] good = let g = good first (inl refl) in (good_verb first g.0, (some_objects_good (objects first) g.1, tt))
-      predicates_good first (next ∷ more) good = let g = good first (inl refl) in (good_verb first g.0, (some_objects_good (objects first) g.1, predicates_good next more (λ p m. good p (inr m))))
-
-      pub some_predicates_good : (ps : List Chars) → ((p : Chars) → Among ps p → GoodLine p) → Good context Free (some_predicates context object objects ps)
-      some_predicates_good [] good = (tt, (tt, tt))
-      some_predicates_good (first ∷ more) good = predicates_good first more good
-
-      bracketed_good : (ps : List Chars) → ((p : Chars) → Among ps p → GoodLine p) → Fine (bracketed context object objects ps)
-      bracketed_good [] good = tt
-      bracketed_good (first ∷ more) good = predicates_good first more good
-
   -- ---- what is said of a node, where each of its objects is good
 
-  pub line_good : (object : Term ℕ → Part Object) (s : Node ℕ) → ((p : Chars) (o : Term ℕ) → Among list (spo s p o) → Fine (object o)) → (p : Chars) → Among (predicates_of list s) p → GoodLine object (objects_of list s) p
-  line_good object s each p m =
-      let o = predicate_says list s p m in
-      ((w.parts (spo s p o.0) (object_says list s p o.0 o.1)).predicate.is_iri, λ q k. each p q (object_says list s p q k))
+  pub line_good : (object : Term ℕ → Part Object) (s : Node ℕ) → ((p : Chars) (o : Term ℕ) → Among list (spo s p o) → Fine (object o))
+      → (p : Chars) → Among (predicates_of list s) p → GoodLine context context Free object (objects_of list s) p
+  line_good object s each = line_by context context Free object list s (λ p o m. (good_verb p (w.parts (spo s p o) m).predicate.is_iri, each p o m))
 
   items_good : (object : Term ℕ → Part Object) (cell : ℕ → Part Items) (number : ℕ) (c : CellOf list number) → Fine (object c.item) → ((d : ℕ) → c.after ≡ Resource (Blank d) → Cell (set_of list) d → Good context Free (cell d))
       → Good context Free (cells object cell list number)
-  items_good object cell number c item behind = by_first (objects_of list (Blank number) rdf_first) (first_some list number c) (first_each list number c)
-    where
-      blank_alike : (a b : ℕ) → Resource (Blank a) ≡ Resource (Blank b) → a ≡ b
-      blank_alike a b e = cc
-
-      by_rest : (part : Part Object) → Fine part → (rests : List (Term ℕ)) → Among rests c.after → ((o : Term ℕ) → Among rests o → o ≡ c.after) → Good context Free (items_by cell part rests)
-      by_rest part good [] some each = good
-      by_rest part good (Resource (Iri iri) ∷ more) some each = good
-      by_rest part good (Resource (Blank b) ∷ more) some each = (
-        good,
-        elim c.next [
-          | inl e ↦ absurd (cc (each (Resource (Blank b)) (inl refl) ∙ e))
-          | inr d ↦ behind b (sym (each (Resource (Blank b)) (inl refl))) (subst (Cell (set_of list)) (sym (blank_alike b d.0 (each (Resource (Blank b)) (inl refl) ∙ d.1))) d.2)
-        ],
-      )
-      by_rest part good (Literal text kind ∷ more) some each = good
-
-      by_first : (firsts : List (Term ℕ)) → Among firsts c.item → ((o : Term ℕ) → Among firsts o → o ≡ c.item)
-          → Good context Free (items_by cell (one_object object firsts) (objects_of list (Blank number) rdf_rest))
-      by_first [] some each = absurd some
-      by_first (o ∷ firsts) some each =
-          by_rest (object o) (subst (λ (z : Term ℕ). Fine (object z)) (sym (each o (inl refl))) item) (objects_of list (Blank number) rdf_rest) (rest_some list number c) (rest_each list number c)
+  items_good object cell number c item behind = elim c.next [
+    | inl e ↦ subst (λ (z : Part Items). Good context Free z) (sym (cell_last list number c object cell e)) item
+    | inr d ↦ subst (λ (z : Part Items). Good context Free z) (sym (cell_more list number c object cell d.0 d.1)) (item, behind d.0 d.1 d.2)
+  ]
 
   -- ---- all nodes
 
@@ -145,7 +135,7 @@ module _ (context : Prefixes) (list : List (Triple ℕ)) (w : IsWritable list) w
         go : (s : Shape) → IsShape (set_of list) number s → Fine (node_by context list shapes (object_by context (node_at left)) (cells_at left) s number)
         go shape.Labelled h = (small, h)
         go shape.Inside h =
-            bracketed_good (object_by context (node_at left)) (objects_of list (Blank number)) (predicates_of list (Blank number))
+            bracketed_good context context Free (object_by context (node_at left)) (objects_of list (Blank number)) (predicates_of list (Blank number))
             (line_good (object_by context (node_at left)) (Blank number) (child_good left node number (enough h.0)))
         go shape.Cell h = cells_good left node below number h (enough (cell_inner list number h))
 

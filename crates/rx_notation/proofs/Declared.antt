@@ -11,12 +11,12 @@ use Rattle.rx_model.proofs.Exact.{exact_texts}
 use Rattle.rx_nquads.specs.Quads.{kind_of, proper_kind}
 use Rattle.rx_notation.specs.Short.{Prefix, Prefixes, is_prefix_name, local_name, prefix_of}
 use Rattle.rx_notation.specs.Layout.{in_byte_order}
-use Rattle.rx_notation.specs.Syntax.{Reference, Full, Short, Subject, Named, Labelled, Verb, By, Type_of, Suffix, Bare, Language, Datatype, Sort, Part, IriOrLabel, Quoted, Anonymous, Nil, Bracketed, Collection, Single, Comma, Last, Item, Predicate, Done, Semicolon, Also}
-use Rattle.rx_notation.specs.Meaning.{iri_of, is_known, is_known_subject, is_known_verb, is_known_suffix, all_known, predicate_of, kind_by}
+use Rattle.rx_notation.specs.Syntax.{Reference, Full, Short, Subject, Named, Labelled, Verb, By, Type_of, Suffix, Bare, Language, Datatype, Sort, Part, IriOrLabel, Quoted, Anonymous, Nil, Bracketed, Collection, Single, Comma, Last, Item, Predicate, Done, Semicolon, Also, Statement}
+use Rattle.rx_notation.specs.Meaning.{iri_of, is_known, is_known_subject, is_known_verb, is_known_suffix, all_known, are_known, predicate_of, kind_by}
 use Rattle.rx_notation.proofs.Chosen.{Apart, Agree, prefix_fits, front_and_rest, known_there, of_ordered, ordered_there, apart_filter, apart_ordered}
 use Rattle.rx_notation.specs.Nesting.{reference_by, reference_to, verb_of, suffix_of, name_in, names_of_subject, names_of_verb, names_of_suffix, piece_names, prefixes_named}
-use Rattle.rx_notation.specs.Writing.{Piece, words, subject, verb, quoted, inside_gap, pieces}
-use Rattle.rx_notation.proofs.Spelled.{GoodReference, GoodSubject, GoodVerb, GoodSuffix, Good}
+use Rattle.rx_notation.specs.Writing.{Piece, words, subject, verb, quoted, inside_gap, line_gap, pieces, all_pieces}
+use Rattle.rx_notation.proofs.Spelled.{GoodReference, GoodSubject, GoodVerb, GoodSuffix, Good, GoodStatement}
 
 -- ---- the prefixes of some names
 
@@ -93,12 +93,15 @@ none_named context = ap in_byte_order (go context)
 
 -- ---- references of a context
 
-pub good_reference : (context : Prefixes) (free : ℕ → Type 0) (iri : Chars) → IsIri iri → GoodReference context free (reference_to context iri)
-good_reference context free iri h = go (prefix_of context iri) refl
+pub declared_reference : (context declared : Prefixes) (free : ℕ → Type 0) (iri : Chars) → IsIri iri → ((p : Prefix) → prefix_of context iri ≡ Some p → Among declared p) → GoodReference declared free (reference_to context iri)
+declared_reference context declared free iri h there = go (prefix_of context iri) refl
   where
-    go : (o : Option Prefix) → prefix_of context iri ≡ o → GoodReference context free (reference_by o iri)
+    go : (o : Option Prefix) → prefix_of context iri ≡ o → GoodReference declared free (reference_by o iri)
     go None e = h
-    go (Some p) e = let fits = prefix_fits context iri p e in (fits.is_name, fits.is_local, (p.1, fits.there))
+    go (Some p) e = let fits = prefix_fits context iri p e in (fits.is_name, fits.is_local, (p.1, there p e))
+
+pub good_reference : (context : Prefixes) (free : ℕ → Type 0) (iri : Chars) → IsIri iri → GoodReference context free (reference_to context iri)
+good_reference context free iri h = declared_reference context context free iri h (λ p e. (prefix_fits context iri p e).there)
 
 -- these names are declared, and what is named is said of prefixes of the context
 module _ (context declared : Prefixes) (names : List Chars) (covers : (p : Prefix) → Among context p → Among names p.0 → Among declared p) (free : ℕ → Type 0) where
@@ -148,6 +151,16 @@ module _ (context declared : Prefixes) (names : List Chars) (covers : (p : Prefi
   part_known Done h gap rest w = (refl, w)
   part_known (Semicolon further) h gap rest w = absurd h
   part_known (Also ps) h gap rest w = part_known ps h gap rest w
+
+  pub known_by : (some : List Statement) → ((s : Statement) → Among some s → GoodStatement context free s) → AllWithin (all_pieces some) → are_known declared some ≡ true
+  known_by [] good within = refl
+  known_by (s ∷ more) good within =
+      let first = good s (inl refl) in
+      let behind : List Piece = words (codes " .\n") ∷ all_pieces more in
+      let mine = both_known
+      (head_known (subject s.subject) (words (codes " ") ∷ pieces line_gap s.predicates behind) (subject_known s.subject first.0) within)
+      (λ v. part_known s.predicates first.1 line_gap behind v) in
+      and_from _ _ mine.0 (known_by more (λ r m. good r (inr m)) mine.1)
 
 -- ---- what they mean
 

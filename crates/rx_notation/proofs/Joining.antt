@@ -39,9 +39,3 @@ puts_then {a} {b} {f} {g} p q = record { puts = λ rest ts k. subst (λ z. Opens
 
 pub adds_gap : (gap : Chars) {a : Chars} {f : List Token → List Token} → is_gap gap ≡ true → Puts a f → Adds (gap ++ a) f
 adds_gap gap {a} {f} g p = record { adds = λ rest ts k. subst (λ z. SpellsBehind z (f ts)) (sym (append_assoc gap a rest)) (behind_gap gap (a ++ rest) (f ts) g (p.puts rest ts k)) }
-
-pub adds_nothing : Adds [] (λ ts. ts)
-adds_nothing = record { adds = λ rest ts k. k }
-
-pub adds_by : {a b : Chars} {f : List Token → List Token} → a ≡ b → Adds a f → Adds b f
-adds_by {f = f} e p = subst (λ z. Adds z f) e p

@@ -17,3 +17,5 @@ pub mod Once
 pub mod There
 pub mod NestedMeaning
 pub mod Unfolded
+pub mod Stated
+pub mod CellParts

@@ -1,5 +1,5 @@
 -- What the nested parts of a document mean.
-use Rattle.std.proofs.Common.{◌≡◌, ◌∙◌, ◌⊎◌, ◌↔◌, ℕ, zero, suc, ◌+◌, Bool, true, false, cond, ◌&&◌, List, [], ◌∷◌, ◌++◌, flat_map, length, bytes_eq, refl, sym, ap, inl, inr, subst, arith}
+use Rattle.std.proofs.Common.{◌≡◌, ◌∙◌, ◌⊎◌, ◌↔◌, ℕ, zero, suc, ◌+◌, Bool, true, false, cond, ◌&&◌, List, [], ◌∷◌, ◌++◌, flat_map, length, bytes_eq, refl, sym, ap, inl, inr, subst, arith, append-nil}
 use Rattle.std.proofs.lemmas.Bool.{and_parts}
 use Rattle.std.proofs.lemmas.List.{length-append}
 use Rattle.rx_terms.specs.Text.{Chars}
@@ -14,7 +14,7 @@ use Rattle.rx_shapes.specs.declared.shapes.Shape.{Shape}
 use Rattle.rx_shapes.specs.declared.shapes.Shape.TheVariants as shape
 use Rattle.rx_notation.specs.Short.{Prefixes}
 use Rattle.rx_shapes.specs.Subjects.{predicates_of, objects_of}
-use Rattle.rx_notation.specs.Syntax.{Named, Labelled, Sort, Object, Objects, Predicates, Part, IriOrLabel, Quoted, Nil, Single, Comma, Predicate, Done, Also}
+use Rattle.rx_notation.specs.Syntax.{Named, Labelled, Sort, Object, Objects, Predicates, Further, Part, IriOrLabel, Quoted, Nil, Single, Comma, Predicate, Done, Also}
 use Rattle.rx_notation.specs.Meaning.{is_known_verb, all_known, predicate_of, unlabelled, term_of, triples}
 use Rattle.rx_notation.specs.Nesting.{reference_to, verb_of, suffix_of, objects_after, some_objects, predicates_after, object_by}
 use Rattle.rx_notation.proofs.Chosen.{Agree}
@@ -68,6 +68,12 @@ pub named_behind : (place : ℕ → ℕ) (n : ℕ) (xs ys : List ℕ) → NamedS
 named_behind place n [] ys h = let e : n ≡ n + 0 = omega arith in subst (λ k. NamedSo place k ys) e h
 named_behind place n (x ∷ xs) ys h = let e : suc n + length xs ≡ n + suc (length xs) = omega arith in subst (λ k. NamedSo place k ys) e (named_behind place (suc n) xs ys h.1)
 
+-- one of these of which it holds
+pub record OneOf {A : Type 0} (P : A → Type 0) (xs : List A) : Type 0 where
+  pub it : A
+  pub among : Among xs it
+  pub holds : P it
+
 three_parts : (a b c : Bool) → (a && (b && c)) ≡ true → (a ≡ true) × (b ≡ true) × (c ≡ true)
 three_parts a b c h = let outer = and_parts a (b && c) h in let inner = and_parts b c outer.1 in (outer.0, inner.0, inner.1)
 
@@ -102,6 +108,33 @@ module _ (context declared : Prefixes) (agree : Agree context declared) (list : 
   pub under_none : (t : Triple ℕ) → ¬ (Under [] t)
   under_none t u = absurd u.among
 
+  -- what some triples say and what those behind them say, where each says something of one, or a triple of these nodes
+  module _ {A : Type 0} (P : A → Type 0) (t : Triple ℕ) where
+    pub none_told : Among [] t ↔ (OneOf P [] ⊎ Under [] t)
+    none_told = (λ a. absurd a, λ y. elim y [ inl z ↦ absurd z.among | inr u ↦ absurd u.among ])
+
+    pub joined : (x : A) (xs : List A) (ns ms : List ℕ) (mine theirs : List (Triple ℕ)) → Among mine t ↔ (P x ⊎ Under ns t) → Among theirs t ↔ (OneOf P xs ⊎ Under ms t)
+        → Among (mine ++ theirs) t ↔ (OneOf P (x ∷ xs) ⊎ Under (ns ++ ms) t)
+    joined x xs ns ms mine theirs by on = (forth, back)
+      where
+        told : P x ⊎ Under ns t → OneOf P (x ∷ xs) ⊎ Under (ns ++ ms) t
+        told (inl y) = inl (record { it = x; among = inl refl; holds = y })
+        told (inr u) = inr (under_left ns ms t u)
+
+        told_behind : OneOf P xs ⊎ Under ms t → OneOf P (x ∷ xs) ⊎ Under (ns ++ ms) t
+        told_behind (inl y) = inl (record { it = y.it; among = inr y.among; holds = y.holds })
+        told_behind (inr u) = inr (under_right ns ms t u)
+
+        forth : Among (mine ++ theirs) t → OneOf P (x ∷ xs) ⊎ Under (ns ++ ms) t
+        forth a = elim (Among_cases mine theirs t a) [ inl b ↦ told (by.0 b) | inr b ↦ told_behind (on.0 b) ]
+
+        back : OneOf P (x ∷ xs) ⊎ Under (ns ++ ms) t → Among (mine ++ theirs) t
+        back (inl y) = elim y.among [
+          | inl e ↦ Among_left mine theirs t (by.1 (inl (subst P (sym e) y.holds)))
+          | inr a ↦ Among_right mine theirs t (on.1 (inl (record { it = y.it; among = a; holds = y.holds })))
+        ]
+        back (inr u) = elim (under_cases ns ms t u) [ inl v ↦ Among_left mine theirs t (by.1 (inr v)) | inr v ↦ Among_right mine theirs t (on.1 (inr v)) ]
+
   -- the part is this object, in which these nodes are written
   pub record Means (part : Part Object) (o : Term ℕ) (ns : List ℕ) : Type 0 where
     pub size : unlabelled part ≡ length ns
@@ -110,7 +143,7 @@ module _ (context declared : Prefixes) (agree : Agree context declared) (list : 
 
   -- ---- parts without nodes inside
 
-  noun_means : (s : Node ℕ) (part : Part Object) → ((n : ℕ) → Known part → term_of declared label place part n ≡ Resource s) → ((n : ℕ) → triples declared label place part tt n ≡ []) → unlabelled part ≡ 0 → Means part (Resource s) []
+  pub noun_means : (s : Node ℕ) (part : Part Object) → ((n : ℕ) → Known part → term_of declared label place part n ≡ Resource s) → ((n : ℕ) → triples declared label place part tt n ≡ []) → unlabelled part ≡ 0 → Means part (Resource s) []
   noun_means s part term none size = record { size = size; term = λ n w h. term n w; says = λ n w h t. (λ m. absurd (subst (λ (z : List (Triple ℕ)). Among z t) (none n) m), λ u. absurd (under_none t u)) }
 
   pub iri_means : (node : ℕ → Part Object) (iri : Chars) → Means (object_by context node (Resource (Iri iri))) (Resource (Iri iri)) []
@@ -133,20 +166,13 @@ module _ (context declared : Prefixes) (agree : Agree context declared) (list : 
   -- ---- lists of objects
 
   -- one of these objects is said of it
-  pub record Said (s : Node ℕ) (p : Chars) (objects : List (Term ℕ)) (t : Triple ℕ) : Type 0 where
-    pub object : Term ℕ
-    pub among : Among objects object
-    pub is : spo s p (proper_term object) ≡ t
+  abbrev pub Said : Node ℕ → Chars → List (Term ℕ) → Triple ℕ → Type 0
+  Said s p objects t = OneOf (λ (o : Term ℕ). spo s p (proper_term o) ≡ t) objects
 
-  pub record SaidBy (s : Node ℕ) (objects : Chars → List (Term ℕ)) (ps : List Chars) (t : Triple ℕ) : Type 0 where
-    pub predicate : Chars
-    pub among : Among ps predicate
-    pub said : Said s predicate (objects predicate) t
+  abbrev pub SaidBy : Node ℕ → (Chars → List (Term ℕ)) → List Chars → Triple ℕ → Type 0
+  SaidBy s objects ps t = OneOf (λ (p : Chars). Said s p (objects p) t) ps
 
-  module _ (node : ℕ → Part Object) (nodes : ℕ → List ℕ) where
-    abbrev object : Term ℕ → Part Object
-    object o = object_by context node o
-
+  module _ (object : Term ℕ → Part Object) (nodes : ℕ → List ℕ) where
     -- each object is written as it is meant
     abbrev pub AllMean : List (Term ℕ) → Type 0
     AllMean objects = (o : Term ℕ) → Among objects o → Means (object o) o (in_term nodes o)
@@ -155,6 +181,18 @@ module _ (context declared : Prefixes) (agree : Agree context declared) (list : 
       pub size : unlabelled part ≡ length (in_objects nodes objects)
       pub says : (s : Node ℕ) (p : Chars) (n : ℕ) → Known part → NamedSo place n (in_objects nodes objects) → (t : Triple ℕ)
           → Among (triples declared label place part (s, p) n) t ↔ (Said s p objects t ⊎ Under (in_objects nodes objects) t)
+
+    abbrev its_triples : Term ℕ → Node ℕ → Chars → ℕ → List (Triple ℕ)
+    its_triples o s p n = spo s p (term_of declared label place (object o) n) ∷ triples declared label place (object o) tt n
+
+    its_said : (o : Term ℕ) → Means (object o) o (in_term nodes o) → (s : Node ℕ) (p : Chars) (n : ℕ) → Known (object o) → NamedSo place n (in_term nodes o) → (t : Triple ℕ)
+        → Among (its_triples o s p n) t ↔ ((spo s p (proper_term o) ≡ t) ⊎ Under (in_term nodes o) t)
+    its_said o m s p n w k t =
+        let own : spo s p (term_of declared label place (object o) n) ≡ spo s p (proper_term o) = ap (λ z. spo s p z) (m.term n w k) in
+        let inside = m.says n w k t in (
+          λ a. elim a [ inl e ↦ inl (sym own ∙ e) | inr b ↦ inr (inside.0 b) ],
+          λ y. elim y [ inl e ↦ inl (own ∙ e) | inr u ↦ inr (inside.1 u) ],
+        )
 
     single_means : (first : Term ℕ) → Means (object first) first (in_term nodes first) → MeansObjects (Single (object first)) (first ∷ [])
     single_means first m = record { size = sized; says = says }
@@ -165,20 +203,11 @@ module _ (context declared : Prefixes) (agree : Agree context declared) (list : 
         sized : unlabelled (object first) ≡ length (ns ++ [])
         sized = let e = length-append ns [] in let f : unlabelled (object first) ≡ length ns = m.size in omega (arith, e, f)
 
-        says : (s : Node ℕ) (p : Chars) (n : ℕ) → Known (object first) → NamedSo place n (ns ++ []) → (t : Triple ℕ)
-            → Among (spo s p (term_of declared label place (object first) n) ∷ triples declared label place (object first) tt n) t ↔ (Said s p (first ∷ []) t ⊎ Under (ns ++ []) t)
-        says s p n w h t = (forth, back)
-          where
-            k : NamedSo place n ns
-            k = named_front place n ns [] h
-
-            forth : Among (spo s p (term_of declared label place (object first) n) ∷ triples declared label place (object first) tt n) t → Said s p (first ∷ []) t ⊎ Under (ns ++ []) t
-            forth (inl e) = inl (record { object = first; among = inl refl; is = ap (λ z. spo s p z) (sym (m.term n w k)) ∙ e })
-            forth (inr a) = inr (under_left ns [] t ((m.says n w k t).0 a))
-
-            back : Said s p (first ∷ []) t ⊎ Under (ns ++ []) t → Among (spo s p (term_of declared label place (object first) n) ∷ triples declared label place (object first) tt n) t
-            back (inl x) = elim x.among [ inl e ↦ inl (ap (λ z. spo s p z) (m.term n w k ∙ ap proper_term e) ∙ x.is) | inr a ↦ absurd a ]
-            back (inr u) = elim (under_cases ns [] t u) [ inl v ↦ inr ((m.says n w k t).1 v) | inr v ↦ absurd (under_none t v) ]
+        says : (s : Node ℕ) (p : Chars) (n : ℕ) → Known (object first) → NamedSo place n (ns ++ []) → (t : Triple ℕ) → Among (its_triples first s p n) t ↔ (Said s p (first ∷ []) t ⊎ Under (ns ++ []) t)
+        says s p n w h t =
+            let Says : Term ℕ → Type 0 = λ (o : Term ℕ). spo s p (proper_term o) ≡ t in
+            subst (λ z. Among z t ↔ (Said s p (first ∷ []) t ⊎ Under (ns ++ []) t)) (append-nil (its_triples first s p n))
+            (joined Says t first [] ns [] (its_triples first s p n) [] (its_said first m s p n w (named_front place n ns [] h) t) (none_told Says t))
 
     comma_means : (first : Term ℕ) (others : Part Objects) (behind : List (Term ℕ)) → Means (object first) first (in_term nodes first) → MeansObjects others behind → MeansObjects (Comma (object first) others) (first ∷ behind)
     comma_means first others behind m rest = record { size = sized; says = says }
@@ -193,45 +222,12 @@ module _ (context declared : Prefixes) (agree : Agree context declared) (list : 
         sized = let e = length-append ns ms in let f : unlabelled (object first) ≡ length ns = m.size in let g : unlabelled others ≡ length ms = rest.size in omega (arith, e, f, g)
 
         says : (s : Node ℕ) (p : Chars) (n : ℕ) → Known (Comma (object first) others) → NamedSo place n (ns ++ ms) → (t : Triple ℕ)
-            → Among (spo s p (term_of declared label place (object first) n) ∷ (triples declared label place (object first) tt n ++ triples declared label place others (s, p) (n + unlabelled (object first)))) t
-            ↔ (Said s p (first ∷ behind) t ⊎ Under (ns ++ ms) t)
-        says s p n w h t = (forth, back)
-          where
-            k : NamedSo place n ns
-            k = named_front place n ns ms h
-
-            l : NamedSo place (n + unlabelled (object first)) ms
-            l = subst (λ z. NamedSo place (n + z) ms) (sym m.size) (named_behind place n ns ms h)
-
-            parts : Known (object first) × Known others
-            parts = and_parts (all_known declared (object first)) (all_known declared others) w
-
-            mine : List (Triple ℕ)
-            mine = triples declared label place (object first) tt n
-
-            theirs : List (Triple ℕ)
-            theirs = triples declared label place others (s, p) (n + unlabelled (object first))
-
-            said_behind : Said s p behind t ⊎ Under ms t → Said s p (first ∷ behind) t ⊎ Under (ns ++ ms) t
-            said_behind (inl y) = inl (record { object = y.object; among = inr y.among; is = y.is })
-            said_behind (inr u) = inr (under_right ns ms t u)
-
-            forth : Among (spo s p (term_of declared label place (object first) n) ∷ (mine ++ theirs)) t → Said s p (first ∷ behind) t ⊎ Under (ns ++ ms) t
-            forth (inl e) = inl (record { object = first; among = inl refl; is = ap (λ z. spo s p z) (sym (m.term n parts.0 k)) ∙ e })
-            forth (inr a) = elim (Among_cases mine theirs t a) [
-              | inl b ↦ inr (under_left ns ms t ((m.says n parts.0 k t).0 b))
-              | inr b ↦ said_behind ((rest.says s p (n + unlabelled (object first)) parts.1 l t).0 b)
-            ]
-
-            on : Said s p behind t ⊎ Under ms t → Among (spo s p (term_of declared label place (object first) n) ∷ (mine ++ theirs)) t
-            on y = inr (Among_right mine theirs t ((rest.says s p (n + unlabelled (object first)) parts.1 l t).1 y))
-
-            back : Said s p (first ∷ behind) t ⊎ Under (ns ++ ms) t → Among (spo s p (term_of declared label place (object first) n) ∷ (mine ++ theirs)) t
-            back (inl y) = elim y.among [
-              | inl e ↦ inl (ap (λ z. spo s p z) (m.term n parts.0 k ∙ ap proper_term e) ∙ y.is)
-              | inr a ↦ on (inl (record { object = y.object; among = a; is = y.is }))
-            ]
-            back (inr u) = elim (under_cases ns ms t u) [ inl y ↦ inr (Among_left mine theirs t ((m.says n parts.0 k t).1 y)) | inr y ↦ on (inr y) ]
+            → Among (its_triples first s p n ++ triples declared label place others (s, p) (n + unlabelled (object first))) t ↔ (Said s p (first ∷ behind) t ⊎ Under (ns ++ ms) t)
+        says s p n w h t =
+            let parts : Known (object first) × Known others = and_parts (all_known declared (object first)) (all_known declared others) w in
+            let l : NamedSo place (n + unlabelled (object first)) ms = subst (λ z. NamedSo place (n + z) ms) (sym m.size) (named_behind place n ns ms h) in
+            joined (λ (o : Term ℕ). spo s p (proper_term o) ≡ t) t first behind ns ms (its_triples first s p n) (triples declared label place others (s, p) (n + unlabelled (object first)))
+            (its_said first m s p n parts.0 (named_front place n ns ms h) t) (rest.says s p (n + unlabelled (object first)) parts.1 l t)
 
     objects_mean : (first : Term ℕ) (more : List (Term ℕ)) → AllMean (first ∷ more) → MeansObjects (objects_after object first more) (first ∷ more)
     objects_mean first [] all = single_means first (all first (inl refl))
@@ -244,10 +240,13 @@ module _ (context declared : Prefixes) (agree : Agree context declared) (list : 
     -- ---- predicates
 
     module _ (objects : Chars → List (Term ℕ)) where
-      pub record MeansPredicates (part : Part Predicates) (ps : List Chars) : Type 0 where
+      pub record MeansFurther (part : Part Further) (ps : List Chars) : Type 0 where
         pub size : unlabelled part ≡ length (in_predicates nodes objects ps)
         pub says : (s : Node ℕ) (n : ℕ) → Known part → NamedSo place n (in_predicates nodes objects ps) → (t : Triple ℕ)
             → Among (triples declared label place part s n) t ↔ (SaidBy s objects ps t ⊎ Under (in_predicates nodes objects ps) t)
+
+      abbrev pub MeansPredicates : Part Predicates → List Chars → Type 0
+      MeansPredicates part ps = MeansFurther (Also part) ps
 
       abbrev line : Chars → Part Objects
       line p = some_objects object (objects p)
@@ -264,42 +263,12 @@ module _ (context declared : Prefixes) (agree : Agree context declared) (list : 
       line_says p m s n v w h t =
           subst (λ z. Among (triples declared label place (line p) (s, z) n) t ↔ (Said s p (objects p) t ⊎ Under (in_objects nodes (objects p)) t)) (sym (verb_means context declared agree p v)) (m.says s p n w h t)
 
-      done_means : (first : Chars) → MeansObjects (line first) (objects first) → MeansPredicates (Predicate (verb_of context first) (line first) Done) (first ∷ [])
-      done_means first m = record { size = sized; says = says }
-        where
-          ns : List ℕ
-          ns = in_objects nodes (objects first)
+      done_means : MeansFurther Done []
+      done_means = record { size = refl; says = λ s n w h t. none_told (λ (p : Chars). Said s p (objects p) t) t }
 
-          sized : unlabelled (line first) + 0 ≡ length (ns ++ [])
-          sized = let e = length-append ns [] in let f : unlabelled (line first) ≡ length ns = m.size in omega (arith, e, f)
-
-          says : (s : Node ℕ) (n : ℕ) → Known (Predicate (verb_of context first) (line first) Done) → NamedSo place n (ns ++ []) → (t : Triple ℕ)
-              → Among (triples declared label place (line first) (s, predicate_of declared (verb_of context first)) n ++ []) t ↔ (SaidBy s objects (first ∷ []) t ⊎ Under (ns ++ []) t)
-          says s n w h t = (forth, back)
-            where
-              parts : (is_known_verb declared (verb_of context first) ≡ true) × Known (line first) × (true ≡ true)
-              parts = three_parts (is_known_verb declared (verb_of context first)) (all_known declared (line first)) true w
-
-              by : Among (triples declared label place (line first) (s, predicate_of declared (verb_of context first)) n) t ↔ (Said s first (objects first) t ⊎ Under ns t)
-              by = line_says first m s n parts.0 parts.1 (named_front place n ns [] h) t
-
-              mine : List (Triple ℕ)
-              mine = triples declared label place (line first) (s, predicate_of declared (verb_of context first)) n
-
-              told : Said s first (objects first) t ⊎ Under ns t → SaidBy s objects (first ∷ []) t ⊎ Under (ns ++ []) t
-              told (inl y) = inl (record { predicate = first; among = inl refl; said = y })
-              told (inr u) = inr (under_left ns [] t u)
-
-              forth : Among (mine ++ []) t → SaidBy s objects (first ∷ []) t ⊎ Under (ns ++ []) t
-              forth a = elim (Among_cases mine [] t a) [ inl b ↦ told (by.0 b) | inr b ↦ absurd b ]
-
-              back : SaidBy s objects (first ∷ []) t ⊎ Under (ns ++ []) t → Among (mine ++ []) t
-              back (inl y) = elim y.among [ inl e ↦ Among_left mine [] t (by.1 (inl (subst (λ z. Said s z (objects z) t) (sym e) y.said))) | inr a ↦ absurd a ]
-              back (inr u) = elim (under_cases ns [] t u) [ inl v ↦ Among_left mine [] t (by.1 (inr v)) | inr v ↦ absurd (under_none t v) ]
-
-      also_means : (first : Chars) (others : Part Predicates) (behind : List Chars) → MeansObjects (line first) (objects first) → MeansPredicates others behind
-          → MeansPredicates (Predicate (verb_of context first) (line first) (Also others)) (first ∷ behind)
-      also_means first others behind m rest = record { size = sized; says = says }
+      predicate_means : (first : Chars) (further : Part Further) (behind : List Chars) → MeansObjects (line first) (objects first) → MeansFurther further behind
+          → MeansPredicates (Predicate (verb_of context first) (line first) further) (first ∷ behind)
+      predicate_means first further behind m rest = record { size = sized; says = says }
         where
           ns : List ℕ
           ns = in_objects nodes (objects first)
@@ -307,51 +276,19 @@ module _ (context declared : Prefixes) (agree : Agree context declared) (list : 
           ms : List ℕ
           ms = in_predicates nodes objects behind
 
-          sized : unlabelled (line first) + unlabelled others ≡ length (ns ++ ms)
-          sized = let e = length-append ns ms in let f : unlabelled (line first) ≡ length ns = m.size in let g : unlabelled others ≡ length ms = rest.size in omega (arith, e, f, g)
+          sized : unlabelled (line first) + unlabelled further ≡ length (ns ++ ms)
+          sized = let e = length-append ns ms in let f : unlabelled (line first) ≡ length ns = m.size in let g : unlabelled further ≡ length ms = rest.size in omega (arith, e, f, g)
 
-          says : (s : Node ℕ) (n : ℕ) → Known (Predicate (verb_of context first) (line first) (Also others)) → NamedSo place n (ns ++ ms) → (t : Triple ℕ)
-              → Among (triples declared label place (line first) (s, predicate_of declared (verb_of context first)) n ++ triples declared label place others s (n + unlabelled (line first))) t
-              ↔ (SaidBy s objects (first ∷ behind) t ⊎ Under (ns ++ ms) t)
-          says s n w h t = (forth, back)
-            where
-              parts : (is_known_verb declared (verb_of context first) ≡ true) × Known (line first) × Known others
-              parts = three_parts (is_known_verb declared (verb_of context first)) (all_known declared (line first)) (all_known declared others) w
-
-              by : Among (triples declared label place (line first) (s, predicate_of declared (verb_of context first)) n) t ↔ (Said s first (objects first) t ⊎ Under ns t)
-              by = line_says first m s n parts.0 parts.1 (named_front place n ns ms h) t
-
-              l : NamedSo place (n + unlabelled (line first)) ms
-              l = subst (λ z. NamedSo place (n + z) ms) (sym m.size) (named_behind place n ns ms h)
-
-              on : Among (triples declared label place others s (n + unlabelled (line first))) t ↔ (SaidBy s objects behind t ⊎ Under ms t)
-              on = rest.says s (n + unlabelled (line first)) parts.2 l t
-
-              mine : List (Triple ℕ)
-              mine = triples declared label place (line first) (s, predicate_of declared (verb_of context first)) n
-
-              theirs : List (Triple ℕ)
-              theirs = triples declared label place others s (n + unlabelled (line first))
-
-              told : Said s first (objects first) t ⊎ Under ns t → SaidBy s objects (first ∷ behind) t ⊎ Under (ns ++ ms) t
-              told (inl y) = inl (record { predicate = first; among = inl refl; said = y })
-              told (inr u) = inr (under_left ns ms t u)
-
-              told_behind : SaidBy s objects behind t ⊎ Under ms t → SaidBy s objects (first ∷ behind) t ⊎ Under (ns ++ ms) t
-              told_behind (inl y) = inl (record { predicate = y.predicate; among = inr y.among; said = y.said })
-              told_behind (inr u) = inr (under_right ns ms t u)
-
-              forth : Among (mine ++ theirs) t → SaidBy s objects (first ∷ behind) t ⊎ Under (ns ++ ms) t
-              forth a = elim (Among_cases mine theirs t a) [ inl b ↦ told (by.0 b) | inr b ↦ told_behind (on.0 b) ]
-
-              back : SaidBy s objects (first ∷ behind) t ⊎ Under (ns ++ ms) t → Among (mine ++ theirs) t
-              back (inl y) = elim y.among [
-                | inl e ↦ Among_left mine theirs t (by.1 (inl (subst (λ z. Said s z (objects z) t) (sym e) y.said)))
-                | inr a ↦ Among_right mine theirs t (on.1 (inl (record { predicate = y.predicate; among = a; said = y.said })))
-              ]
-              back (inr u) = elim (under_cases ns ms t u) [ inl v ↦ Among_left mine theirs t (by.1 (inr v)) | inr v ↦ Among_right mine theirs t (on.1 (inr v)) ]
+          says : (s : Node ℕ) (n : ℕ) → Known (Predicate (verb_of context first) (line first) further) → NamedSo place n (ns ++ ms) → (t : Triple ℕ)
+              → Among (triples declared label place (Predicate (verb_of context first) (line first) further) s n) t ↔ (SaidBy s objects (first ∷ behind) t ⊎ Under (ns ++ ms) t)
+          says s n w h t =
+              let parts = three_parts (is_known_verb declared (verb_of context first)) (all_known declared (line first)) (all_known declared further) w in
+              let l : NamedSo place (n + unlabelled (line first)) ms = subst (λ z. NamedSo place (n + z) ms) (sym m.size) (named_behind place n ns ms h) in
+              joined (λ (p : Chars). Said s p (objects p) t) t first behind ns ms
+              (triples declared label place (line first) (s, predicate_of declared (verb_of context first)) n) (triples declared label place further s (n + unlabelled (line first)))
+              (line_says first m s n parts.0 parts.1 (named_front place n ns ms h) t) (rest.says s (n + unlabelled (line first)) parts.2 l t)
 
       pub predicates_mean : (first : Chars) (more : List Chars) → AllSay (first ∷ more) → MeansPredicates (predicates_after context object objects first more) (first ∷ more)
-      predicates_mean first [] all = done_means first (line_means first (all first (inl refl)))
+      predicates_mean first [] all = predicate_means first Done [] (line_means first (all first (inl refl))) done_means
       predicates_mean first (next ∷ more) all =
-          also_means first (predicates_after context object objects next more) (next ∷ more) (line_means first (all first (inl refl))) (predicates_mean next more (λ p k. all p (inr k)))
+          predicate_means first (Also (predicates_after context object objects next more)) (next ∷ more) (line_means first (all first (inl refl))) (predicates_mean next more (λ p k. all p (inr k)))

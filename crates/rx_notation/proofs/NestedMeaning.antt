@@ -1,40 +1,38 @@
 -- The nested text denotes its list.
-use Rattle.std.proofs.Common.{◌≡◌, ◌∙◌, ◌⊎◌, ◌↔◌, ◌<◌, ℕ, zero, suc, ◌+◌, nat_eq, true, List, [], ◌∷◌, ◌++◌, map, filter, length, codes, refl, sym, ap, inl, inr, subst, true≢false, arith}
-use Rattle.std.proofs.lemmas.Bool.{and_from, and_parts}
-use Rattle.std.proofs.lemmas.List.{length-append}
+use Rattle.std.proofs.Common.{◌≡◌, ◌∙◌, ◌⊎◌, ◌↔◌, ◌<◌, ℕ, zero, suc, ◌+◌, nat_eq, true, List, [], ◌∷◌, map, filter, length, codes, refl, sym, ap, inl, inr, subst, true≢false, arith}
 use Rattle.rx_terms.specs.Text.{Chars}
 use Rattle.rx_model.specs.Sets.{Among}
 use Rattle.rx_model.specs.Terms.{Node, Iri, Blank, Term, Triple, same_node, same_triple, set_of}
 use Rattle.rx_model.specs.Copied.{spo}
 use Rattle.rx_model.specs.Numbered.{rename, Has}
-use Rattle.rx_model.proofs.Sets.{Among_left, Among_right, Among_cases, Among_filter, Among_of_filter, Among_map, Among_of_map}
+use Rattle.rx_model.proofs.Sets.{Among_filter, Among_of_filter, Among_map, Among_of_map}
 use Rattle.rx_model.proofs.Exact.{exact_numbers, exact_triples}
-use Rattle.rx_shapes.specs.Shapes.{Inner, Cell, IsShape, HaveShapes}
+use Rattle.rx_shapes.specs.Shapes.{Inner, IsShape, HaveShapes}
 use Rattle.rx_shapes.specs.declared.shapes.Shape.{Shape}
 use Rattle.rx_shapes.specs.declared.shapes.Shape.TheVariants as shape
-use Rattle.rx_shapes.specs.Shapes as shapes_of
 use Rattle.rx_notation.specs.Short.{Prefix, Prefixes}
 use Rattle.rx_shapes.specs.Subjects.{subjects, predicates_of, objects_of}
-use Rattle.rx_notation.specs.Syntax.{Object, Predicates, Part, Statement}
+use Rattle.rx_notation.specs.Syntax.{Object, Part, Statement}
 use Rattle.rx_notation.specs.Spelling.{Spells}
-use Rattle.rx_notation.specs.Meaning.{is_known_subject, all_known, are_known, unlabelled, node_of, triples, all_triples, Name, Label, Place, NestedTurtle}
+use Rattle.rx_notation.specs.Meaning.{are_known, all_triples, Name, Label, Place, NestedTurtle}
 use Rattle.rx_notation.specs.Laws.{IsContext}
 use Rattle.rx_nquads.specs.Quads.{proper_triple}
 use Rattle.rx_pieces.specs.Writable.{IsWritable}
 use Rattle.rx_notation.proofs.Chosen.{Apart, names_apart, apart_names, Agree, declared_agree}
-use Rattle.rx_notation.proofs.LaidOut.{GoodPrefix}
-use Rattle.rx_shapes.proofs.Grouped.{same_nodes, subject_there, predicate_there, object_there, subject_says, predicate_says, object_says}
+use Rattle.rx_notation.proofs.Spelled.{GoodPrefix}
+use Rattle.rx_shapes.proofs.Grouped.{same_nodes, subject_there, subject_says, predicate_says, object_says}
 use Rattle.rx_notation.proofs.Naming.{triples_renamed}
-use Rattle.rx_notation.specs.Nesting.{subject_of, object_by, written, some_predicates, said_of, is_top, is_top_by, statement_of, names_used, prefixes_named, document_of, nested}
+use Rattle.rx_notation.specs.Nesting.{subject_of, object_by, written, is_top, is_top_by, statement_of, names_used, prefixes_named, document_of, nested}
 use Rattle.rx_notation.specs.Writing.{Piece, words, line_gap, pieces, all_pieces}
 use Rattle.rx_notation.specs.Writing as piece
 use Rattle.rx_notation.specs.NestedLaws.{NestedDenotes}
 use Rattle.rx_notation.proofs.Spelled.{GoodSubject, Good, GoodStatement, document_spelled}
-use Rattle.rx_notation.proofs.Declared.{subject_names, Proper, proper_more, part_names, none_named, AllWithin, both_known, head_known, named_there, of_named, named_apart, good_reference, subject_known, part_known, reference_means}
+use Rattle.rx_notation.proofs.Declared.{subject_names, Proper, proper_more, part_names, none_named, known_by, named_there, of_named, named_apart, good_reference}
 use Rattle.rx_shapes.proofs.Heights.{Differ}
-use Rattle.rx_notation.proofs.Means.{in_predicates, NamedSo, named_front, named_behind, Under, under_left, under_right, under_cases, SaidBy, MeansPredicates, AllSay, predicates_mean}
+use Rattle.rx_notation.proofs.Means.{in_term, NamedSo, Under, Means}
+use Rattle.rx_notation.proofs.Stated.{SaidTop, size_of, said_top, stated}
 use Rattle.rx_notation.proofs.Nodes.{all_mean, term_means}
-use Rattle.rx_shapes.proofs.CellLemmas.{Enough, first_enough}
+use Rattle.rx_shapes.proofs.CellLemmas.{cell_inner, Enough, first_enough}
 use Rattle.rx_notation.proofs.Built.{Free, all_good, object_good, line_good, some_predicates_good}
 use Rattle.rx_notation.proofs.Bounds.{all_unlabelled, BoundName, names_bound}
 use Rattle.rx_notation.proofs.Once.{nodes_at, below_all, below_inner, below_differ}
@@ -113,14 +111,10 @@ module _ (context : Prefixes) (list : List (Triple ℕ)) (shapes : ℕ → Shape
   is_outer (Iri iri) h = refl
   is_outer (Blank a) h = go (shapes a) (have a)
     where
-      cell_in : Cell (set_of list) a → Inner (set_of list) a
-      cell_in (shapes_of.last_cell i p) = i
-      cell_in (shapes_of.next_cell i p k) = i
-
       go : (s : Shape) → IsShape (set_of list) a s → is_top_by s ≡ true
       go shape.Labelled k = refl
       go shape.Inside k = absurd (h a refl k.0)
-      go shape.Cell k = absurd (h a refl (cell_in k))
+      go shape.Cell k = absurd (h a refl (cell_inner list a k))
 
   outer_there : (s : Node ℕ) (p : Chars) (o : Term ℕ) → Among list (spo s p o) → ((a : ℕ) → s ≡ Blank a → ¬ (Inner (set_of list) a)) → Among tops s
   outer_there s p o m h = Among_filter (is_top shapes) (subjects list) s (subject_there list (spo s p o) m) (is_outer s h)
@@ -151,7 +145,7 @@ module _ (context : Prefixes) (list : List (Triple ℕ)) (shapes : ℕ → Shape
       let p = subject_says list s (top_subject s t) in
       let o = predicate_says list s p.0 p.1 in (
         subject_good s p.0 o.0 (object_says list s p.0 o.0 o.1) t,
-        some_predicates_good context list w object_at (objects_of list s) (predicates_of list s) (line_good context list w object_at s (line_is_good s)),
+        some_predicates_good context context (Free context list w) object_at (objects_of list s) (predicates_of list s) (line_good context list w object_at s (line_is_good s)),
       )
 
   statements_good : (s : Statement) → Among all_statements s → GoodStatement context (Free context list w) s
@@ -178,169 +172,47 @@ module _ (context : Prefixes) (list : List (Triple ℕ)) (shapes : ℕ → Shape
     once = apart_names declared (named_apart context names apart);
   }
 
-  known_by : (some : List Statement) → ((s : Statement) → Among some s → GoodStatement context (Free context list w) s) → AllWithin context declared names covers (Free context list w) (all_pieces some) → are_known declared some ≡ true
-  known_by [] good within = refl
-  known_by (s ∷ more) good within =
-      let first = good s (inl refl) in
-      let behind : List Piece = words (codes " .\n") ∷ all_pieces more in
-      let mine = both_known context declared names covers (Free context list w)
-      (head_known context declared names covers (Free context list w) (piece.subject s.subject) (words (codes " ") ∷ pieces line_gap s.predicates behind) (subject_known context declared names covers (Free context list w) s.subject first.0) within)
-      (λ v. part_known context declared names covers (Free context list w) s.predicates first.1 line_gap behind v) in
-      and_from _ _ mine.0 (known_by more (λ r m. good r (inr m)) mine.1)
-
   known : are_known declared all_statements ≡ true
-  known = known_by all_statements statements_good (λ n m. m)
+  known = known_by context declared names covers (Free context list w) all_statements statements_good (λ n m. m)
 
   -- ---- what it means
-
-  abbrev IsTold : List ℕ → Triple ℕ → Type 0
-  IsTold ns t = Under context declared agree list place ns t
-
-  abbrev Spoken : Node ℕ → Triple ℕ → Type 0
-  Spoken s t = SaidBy context declared agree list place s (objects_of list s) (predicates_of list s) t
-
-  record SaidTop (nodes : List (Node ℕ)) (t : Triple ℕ) : Type 0 where
-    subject : Node ℕ
-    among : Among nodes subject
-    said : Spoken subject t
 
   abbrev nodes_in : ℕ → List ℕ
   nodes_in n = nodes_at list shapes have (length list) n
 
-  abbrev below_one : Node ℕ → List ℕ
-  below_one s = in_predicates nodes_in (objects_of list s) (predicates_of list s)
+  each_means : (o : Term ℕ) → Means context declared agree list place (object_at o) o (in_term nodes_in o)
+  each_means o = term_means context declared agree list place shapes have (length list) (all_mean context declared agree list place shapes have (length list)).0 o (λ n e i. child_enough n i)
 
-  said_means : (s : Node ℕ) → Among (subjects list) s
-      → MeansPredicates context declared agree list place node_at nodes_in (objects_of list s) (said_of context object_at list s) (predicates_of list s)
-  said_means s m = go (predicates_of list s) (subject_says list s m).0 (subject_says list s m).1 all
-    where
-      all : AllSay context declared agree list place node_at nodes_in (objects_of list s) (predicates_of list s)
-      all p k = (
-        predicate_says list s p k,
-        λ o l. term_means context declared agree list place shapes have (length list) (all_mean context declared agree list place shapes have (length list)).0 o (λ n e i. child_enough n i),
-      )
-
-      go : (ps : List Chars) (some : Chars) → Among ps some → AllSay context declared agree list place node_at nodes_in (objects_of list s) ps
-          → MeansPredicates context declared agree list place node_at nodes_in (objects_of list s) (some_predicates context object_at (objects_of list s) ps) ps
-      go [] some h a = absurd h
-      go (first ∷ more) some h a = predicates_mean context declared agree list place node_at nodes_in (objects_of list s) first more a
-
-  node_means : (s : Node ℕ) → is_known_subject declared (subject_of context s) ≡ true → node_of declared (λ number. number) place (subject_of context s) ≡ s
-  node_means (Iri iri) k = ap Iri (reference_means context declared agree iri k)
-  node_means (Blank a) k = refl
-
-  abbrev state : Node ℕ → Statement
-  state s = statement_of context list shapes s
-
-  size_of : (nodes : List (Node ℕ)) → ((s : Node ℕ) → Among nodes s → Among (subjects list) s) → all_unlabelled (map state nodes) ≡ length (below_all list shapes have nodes)
-  size_of [] there = refl
-  size_of (s ∷ more) there =
-      let first : unlabelled (state s).predicates ≡ length (below_one s) = (said_means s (there s (inl refl))).size in
-      let rest : all_unlabelled (map state more) ≡ length (below_all list shapes have more) = size_of more (λ r m. there r (inr m)) in
-      let both = length-append (below_one s) (below_all list shapes have more) in
-      omega (arith, first, rest, both)
-
-  -- a statement, and those behind it
-  statement_and : (s : Node ℕ) (more : List (Node ℕ)) (n : ℕ) (t : Triple ℕ)
-      → (means : MeansPredicates context declared agree list place node_at nodes_in (objects_of list s) (said_of context object_at list s) (predicates_of list s))
-      → (is_known_subject declared (subject_of context s) ≡ true) × (all_known declared (said_of context object_at list s) ≡ true) → NamedSo place n (below_one s ++ below_all list shapes have more)
-      → (NamedSo place (n + unlabelled (said_of context object_at list s)) (below_all list shapes have more)
-      → Among (all_triples declared (λ number. number) place (map state more) (n + unlabelled (said_of context object_at list s))) t ↔ (SaidTop more t ⊎ IsTold (below_all list shapes have more) t))
-      → Among (all_triples declared (λ number. number) place (map state (s ∷ more)) n) t ↔ (SaidTop (s ∷ more) t ⊎ IsTold (below_all list shapes have (s ∷ more)) t)
-  statement_and s more n t means known_mine h rest = (forth, back)
-    where
-      part : Part Predicates
-      part = said_of context object_at list s
-
-      ns : List ℕ
-      ns = below_one s
-
-      ms : List ℕ
-      ms = below_all list shapes have more
-
-      mine : List (Triple ℕ)
-      mine = triples declared (λ number. number) place part (node_of declared (λ number. number) place (subject_of context s)) n
-
-      theirs : List (Triple ℕ)
-      theirs = all_triples declared (λ number. number) place (map state more) (n + unlabelled part)
-
-      by : Among mine t ↔ (Spoken s t ⊎ IsTold ns t)
-      by = subst (λ (z : Node ℕ). Among (triples declared (λ number. number) place part z n) t ↔ (Spoken s t ⊎ IsTold ns t))
-          (sym (node_means s known_mine.0))
-          (means.says s n known_mine.1 (named_front place n ns ms h) t)
-
-      on : Among theirs t ↔ (SaidTop more t ⊎ IsTold ms t)
-      on = rest (subst (λ z. NamedSo place (n + z) ms) (sym means.size) (named_behind place n ns ms h))
-
-      told : Spoken s t ⊎ IsTold ns t → SaidTop (s ∷ more) t ⊎ IsTold (ns ++ ms) t
-      told (inl y) = inl (record { subject = s; among = inl refl; said = y })
-      told (inr u) = inr (under_left context declared agree list place ns ms t u)
-
-      told_behind : SaidTop more t ⊎ IsTold ms t → SaidTop (s ∷ more) t ⊎ IsTold (ns ++ ms) t
-      told_behind (inl y) = inl (record { subject = y.subject; among = inr y.among; said = y.said })
-      told_behind (inr u) = inr (under_right context declared agree list place ns ms t u)
-
-      forth : Among (mine ++ theirs) t → SaidTop (s ∷ more) t ⊎ IsTold (ns ++ ms) t
-      forth a = elim (Among_cases mine theirs t a) [ inl b ↦ told (by.0 b) | inr b ↦ told_behind (on.0 b) ]
-
-      back : SaidTop (s ∷ more) t ⊎ IsTold (ns ++ ms) t → Among (mine ++ theirs) t
-      back (inl y) = elim y.among [
-        | inl e ↦ Among_left mine theirs t (by.1 (inl (subst (λ (z : Node ℕ). Spoken z t) (sym e) y.said)))
-        | inr a ↦ Among_right mine theirs t (on.1 (inl (record { subject = y.subject; among = a; said = y.said })))
-      ]
-      back (inr u) = elim (under_cases context declared agree list place ns ms t u) [ inl v ↦ Among_left mine theirs t (by.1 (inr v)) | inr v ↦ Among_right mine theirs t (on.1 (inr v)) ]
-
-  statements_mean : (nodes : List (Node ℕ)) → ((s : Node ℕ) → Among nodes s → Among (subjects list) s) → are_known declared (map state nodes) ≡ true → (n : ℕ) → NamedSo place n (below_all list shapes have nodes)
-      → (t : Triple ℕ) → Among (all_triples declared (λ number. number) place (map state nodes) n) t ↔ (SaidTop nodes t ⊎ IsTold (below_all list shapes have nodes) t)
-  statements_mean [] there k n h t = (λ a. absurd a, λ y. elim y [ inl z ↦ absurd z.among | inr u ↦ absurd u.among ])
-  statements_mean (s ∷ more) there k n h t =
-      statement_and s more n t (said_means s (there s (inl refl))) (and_parts _ _ (and_parts _ _ k).0) h
-      (λ l. statements_mean more (λ r m. there r (inr m)) (and_parts _ _ k).1
-      (n + unlabelled (said_of context object_at list s)) l t)
-
-  abbrev meant : List (Triple ℕ)
-  meant = all_triples declared (λ number. number) place all_statements 0
-
-  all_means : (t : Triple ℕ) → Among meant t ↔ (SaidTop tops t ⊎ IsTold order t)
-  all_means t = statements_mean tops top_subject known 0 (at_named order) t
+  abbrev Told : Triple ℕ → Type 0
+  Told t = SaidTop context declared agree list place object_at nodes_in each_means tops t ⊎ Under context declared agree list place order t
 
   -- each triple is said of a subject that has a statement, or of a node that is written where it is used
-  in_or_below : (u : Triple ℕ) → Among list u → (t : Triple ℕ) → proper_triple u ≡ t → SaidTop tops t ⊎ IsTold order t
+  in_or_below : (u : Triple ℕ) → Among list u → (t : Triple ℕ) → proper_triple u ≡ t → Told t
   in_or_below u m t e = go u.subject refl
     where
-      top : Among tops u.subject → SaidTop tops t ⊎ IsTold order t
-      top k = inl (record { subject = u.subject; among = k; said = record { predicate = u.predicate; among = predicate_there list u m; said = record { object = u.object; among = object_there list u m; is = e } } })
+      top : Among tops u.subject → Told t
+      top k = inl (said_top context declared agree list place object_at nodes_in each_means tops u m t e k)
 
-      below : (a : ℕ) → u.subject ≡ Blank a → Inner (set_of list) a → SaidTop tops t ⊎ IsTold order t
+      below : (a : ℕ) → u.subject ≡ Blank a → Inner (set_of list) a → Told t
       below a f i = inr (record { triple = u; there = m; read = e; node = a; among = inner_there list shapes have tops outer_there a i; said = f })
-
-      cell_in : (a : ℕ) → Cell (set_of list) a → Inner (set_of list) a
-      cell_in a (shapes_of.last_cell i p) = i
-      cell_in a (shapes_of.next_cell i p k) = i
 
       blanks_alike : (x y : ℕ) → Blank x ≡ Blank y → x ≡ y
       blanks_alike x y f = cc
 
-      by_shape : (a : ℕ) → u.subject ≡ Blank a → (s : Shape) → IsShape (set_of list) a s → SaidTop tops t ⊎ IsTold order t
+      by_shape : (a : ℕ) → u.subject ≡ Blank a → (s : Shape) → IsShape (set_of list) a s → Told t
       by_shape a f shape.Labelled h = top (outer_there u.subject u.predicate u.object m (λ x g i. h (subst (Inner (set_of list)) (blanks_alike x a (sym g ∙ f)) i)))
       by_shape a f shape.Inside h = below a f h.0
-      by_shape a f shape.Cell h = below a f (cell_in a h)
+      by_shape a f shape.Cell h = below a f (cell_inner list a h)
 
-      go : (s : Node ℕ) → u.subject ≡ s → SaidTop tops t ⊎ IsTold order t
+      go : (s : Node ℕ) → u.subject ≡ s → Told t
       go (Iri iri) f = top (outer_there u.subject u.predicate u.object m (λ x g i. absurd (cc (sym f ∙ g))))
       go (Blank a) f = by_shape a f (shapes a) (have a)
 
-  of_list : (t : Triple ℕ) → SaidTop tops t ⊎ IsTold order t → Among (map proper_triple list) t
-  of_list t (inl y) =
-      let s : Node ℕ = y.subject in let p : Chars = y.said.predicate in let o : Term ℕ = y.said.said.object in
-      subst (Among (map proper_triple list)) y.said.said.is (Among_map proper_triple list (spo s p o) (object_says list s p o y.said.said.among))
-  of_list t (inr u) = subst (Among (map proper_triple list)) u.read (Among_map proper_triple list u.triple u.there)
+  abbrev meant : List (Triple ℕ)
+  meant = all_triples declared (λ number. number) place all_statements 0
 
-  stated : (t : Triple ℕ) → Among (map proper_triple list) t ↔ Among meant t
-  stated t = (
-    λ m. let u = Among_of_map proper_triple list t m in (all_means t).1 (in_or_below u.0 u.1 t u.2),
-    λ m. of_list t ((all_means t).0 m),
-  )
+  all_stated : (t : Triple ℕ) → Among (map proper_triple list) t ↔ Among meant t
+  all_stated t = stated context declared agree list place object_at nodes_in each_means tops top_subject known (at_named order) in_or_below t
 
   -- ---- the names of its blank nodes
 
@@ -359,7 +231,7 @@ module _ (context : Prefixes) (list : List (Triple ℕ)) (shapes : ℕ → Shape
 
   bound : (name : Name) → Has (set_of named) name → BoundName (Free context list w) (length order) name
   bound name h =
-      let e : all_unlabelled all_statements ≡ length order = size_of tops top_subject in
+      let e : all_unlabelled all_statements ≡ length order = size_of context declared agree list place object_at nodes_in each_means tops top_subject in
       names_bound (Free context list w) (length order) context declared all_statements statements_good (omega (arith, e)) name h
 
   one_to_one : (a b : Name) → BoundName (Free context list w) (length order) a → BoundName (Free context list w) (length order) b → number_of a ≡ number_of b → a ≡ b
@@ -379,8 +251,8 @@ module _ (context : Prefixes) (list : List (Triple ℕ)) (shapes : ℕ → Shape
     renamed = record {
       to = number_of;
       one_to_one = λ a b h k e. one_to_one a b (bound a h) (bound b k) e;
-      forth = λ t m. (stated (rename number_of t)).1 (subst (λ (z : List (Triple ℕ)). Among z (rename number_of t)) same_triples (Among_map (rename number_of) named t m));
-      back = λ u m. Among_of_map (rename number_of) named u (subst (λ (z : List (Triple ℕ)). Among z u) (sym same_triples) ((stated u).0 m));
+      forth = λ t m. (all_stated (rename number_of t)).1 (subst (λ (z : List (Triple ℕ)). Among z (rename number_of t)) same_triples (Among_map (rename number_of) named t m));
+      back = λ u m. Among_of_map (rename number_of) named u (subst (λ (z : List (Triple ℕ)). Among z u) (sym same_triples) ((all_stated u).0 m));
     };
   }
 

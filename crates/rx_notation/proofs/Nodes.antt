@@ -17,10 +17,11 @@ use Rattle.rx_shapes.specs.Subjects.{predicates_of, objects_of}
 use Rattle.rx_notation.specs.Syntax.{Sort, Object, Items, Predicates, Part, Last, Item}
 use Rattle.rx_notation.specs.Meaning.{all_known, unlabelled, term_of, triples}
 use Rattle.rx_shapes.proofs.Grouped.{predicate_there, object_there, predicate_says, object_says}
-use Rattle.rx_notation.specs.Nesting.{predicates_after, bracketed, object_by, one_object, items_by, cells, node_by, written}
+use Rattle.rx_notation.specs.Nesting.{predicates_after, bracketed, object_by, cells, node_by, written}
 use Rattle.rx_notation.proofs.Chosen.{Agree}
-use Rattle.rx_shapes.proofs.CellLemmas.{CellOf, cell_of, cell_inner, first_some, rest_some, first_each, rest_each, Enough, none_left, child_enough}
-use Rattle.rx_notation.proofs.Means.{in_term, in_first, in_cells, in_predicates, in_shape, ordered, NamedSo, named_front, named_behind, Known, Under, under_left, under_right, under_cases, Means, iri_means, literal_means, labelled_means, SaidBy, MeansPredicates, AllSay, predicates_mean}
+use Rattle.rx_notation.proofs.CellParts.{in_cell, cell_last, cell_more}
+use Rattle.rx_shapes.proofs.CellLemmas.{CellOf, cell_of, cell_inner, Enough, none_left, child_enough}
+use Rattle.rx_notation.proofs.Means.{in_term, in_cells, in_predicates, in_shape, ordered, NamedSo, named_front, named_behind, Known, Under, under_left, under_right, under_cases, Means, iri_means, literal_means, labelled_means, SaidBy, MeansPredicates, AllSay, predicates_mean}
 
 module _ (context declared : Prefixes) (agree : Agree context declared) (list : List (Triple ℕ)) (place : ℕ → ℕ) where
   abbrev MeansTerm : Part Object → Term ℕ → List ℕ → Type 0
@@ -56,9 +57,9 @@ module _ (context declared : Prefixes) (agree : Agree context declared) (list : 
     where
       forth : Spoken number ps t ⊎ IsTold ns t → IsTold (number ∷ ns) t
       forth (inl y) = record {
-        triple = spo (Blank number) y.predicate y.said.object;
-        there = object_says list (Blank number) y.predicate y.said.object y.said.among;
-        read = y.said.is;
+        triple = spo (Blank number) y.it y.holds.it;
+        there = object_says list (Blank number) y.it y.holds.it y.holds.among;
+        read = y.holds.holds;
         node = number;
         among = inl refl;
         said = refl;
@@ -67,12 +68,12 @@ module _ (context declared : Prefixes) (agree : Agree context declared) (list : 
 
       spoken : (u : Triple ℕ) → Among list u → u.subject ≡ Blank number → proper_triple u ≡ t → Spoken number ps t
       spoken u m e r = record {
-        predicate = u.predicate;
+        it = u.predicate;
         among = speaks u m e;
-        said = record {
-          object = u.object;
+        holds = record {
+          it = u.object;
           among = subst (λ (z : Node ℕ). Among (objects_of list z u.predicate) u.object) e (object_there list u m);
-          is = ap (λ (z : Node ℕ). spo z u.predicate (proper_term u.object)) (sym e) ∙ r;
+          holds = ap (λ (z : Node ℕ). spo z u.predicate (proper_term u.object)) (sym e) ∙ r;
         };
       }
 
@@ -99,11 +100,11 @@ module _ (context declared : Prefixes) (agree : Agree context declared) (list : 
       objects : Chars → List (Term ℕ)
       objects = objects_of list (Blank number)
 
-      all : AllSay context declared agree list place node nodes objects (first ∷ more)
+      all : AllSay context declared agree list place (object_by context node) nodes objects (first ∷ more)
       all p k = (predicate_says list (Blank number) p (there p k), λ o l. each p o (object_says list (Blank number) p o l))
 
-      m : MeansPredicates context declared agree list place node nodes objects (predicates_after context (object_by context node) objects first more) (first ∷ more)
-      m = predicates_mean context declared agree list place node nodes objects first more all
+      m : MeansPredicates context declared agree list place (object_by context node) nodes objects (predicates_after context (object_by context node) objects first more) (first ∷ more)
+      m = predicates_mean context declared agree list place (object_by context node) nodes objects first more all
 
       ns : List ℕ
       ns = in_predicates nodes objects (first ∷ more)
@@ -218,34 +219,17 @@ module _ (context declared : Prefixes) (agree : Agree context declared) (list : 
   cells_mean : (node : ℕ → Part Object) (cell : ℕ → Part Items) (nodes below : ℕ → List ℕ) (number : ℕ) (c : CellOf list number)
       → MeansTerm (object_by context node c.item) c.item (in_term nodes c.item) → ((d : ℕ) → c.after ≡ Resource (Blank d) → Cell (set_of list) d → MeansItems (cell d) d (below d))
       → MeansItems (cells (object_by context node) cell list number) number (in_cells nodes below number (objects_of list (Blank number) rdf_first) (objects_of list (Blank number) rdf_rest))
-  cells_mean node cell nodes below number c item behind =
-      by_first (objects_of list (Blank number) rdf_first) (objects_of list (Blank number) rdf_rest) (first_some list number c) (first_each list number c) (rest_some list number c) (rest_each list number c)
+  cells_mean node cell nodes below number c item behind = elim c.next [
+    | inl e ↦ by (cell_last list number c (object_by context node) cell e) (within e) (last_means node cell nodes below number c item e)
+    | inr d ↦ by (cell_more list number c (object_by context node) cell d.0 d.1) (within d.1) (item_means node cell nodes below number c item d.0 d.1 (behind d.0 d.1 d.2))
+  ]
     where
-      blank_alike : (a b : ℕ) → Resource (Blank a) ≡ Resource (Blank b) → a ≡ b
-      blank_alike a b e = cc
+      by : {part other : Part Items} {ns ms : List ℕ} → part ≡ other → ns ≡ ms → MeansItems other number ms → MeansItems part number ns
+      by e f m = rw (e, f) m
 
-      by_rest : (rests : List (Term ℕ)) → Among rests c.after → ((o : Term ℕ) → Among rests o → o ≡ c.after)
-          → MeansItems (items_by cell (object_by context node c.item) rests) number (number ∷ (in_term nodes c.item ++ in_first below rests))
-      by_rest [] some each = absurd some
-      by_rest (Resource (Iri iri) ∷ more) some each = elim c.next [
-        | inl e ↦ last_means node cell nodes below number c item e
-        | inr d ↦ absurd (cc (each (Resource (Iri iri)) (inl refl) ∙ d.1))
-      ]
-      by_rest (Resource (Blank b) ∷ more) some each = elim c.next [
-        | inl e ↦ absurd (cc (each (Resource (Blank b)) (inl refl) ∙ e))
-        | inr d ↦ item_means node cell nodes below number c item b (sym (each (Resource (Blank b)) (inl refl)))
-            (behind b (sym (each (Resource (Blank b)) (inl refl))) (subst (Cell (set_of list)) (sym (blank_alike b d.0 (each (Resource (Blank b)) (inl refl) ∙ d.1))) d.2))
-      ]
-      by_rest (Literal text kind ∷ more) some each = elim c.next [
-        | inl e ↦ absurd (cc (each (Literal text kind) (inl refl) ∙ e))
-        | inr d ↦ absurd (cc (each (Literal text kind) (inl refl) ∙ d.1))
-      ]
-
-      by_first : (firsts rests : List (Term ℕ)) → Among firsts c.item → ((o : Term ℕ) → Among firsts o → o ≡ c.item) → Among rests c.after → ((o : Term ℕ) → Among rests o → o ≡ c.after)
-          → MeansItems (items_by cell (one_object (object_by context node) firsts) rests) number (in_cells nodes below number firsts rests)
-      by_first [] rests some each r q = absurd some
-      by_first (o ∷ firsts) rests some each r q =
-          subst (λ (z : Term ℕ). MeansItems (items_by cell (object_by context node z) rests) number (number ∷ (in_term nodes z ++ in_first below rests))) (sym (each o (inl refl))) (by_rest rests r q)
+      within : {after : Term ℕ} → c.after ≡ after
+          → in_cells nodes below number (objects_of list (Blank number) rdf_first) (objects_of list (Blank number) rdf_rest) ≡ number ∷ (in_term nodes c.item ++ in_term below after)
+      within e = in_cell list number c nodes below ∙ ap (λ (z : Term ℕ). number ∷ (in_term nodes c.item ++ in_term below z)) e
 
   -- ---- all nodes
 

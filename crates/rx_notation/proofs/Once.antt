@@ -14,8 +14,9 @@ use Rattle.rx_shapes.specs.Subjects.{has_subject, has_predicate, about, predicat
 use Rattle.rx_shapes.proofs.Grouped.{same_nodes, object_says}
 use Rattle.rx_shapes.proofs.Heights.{Differ}
 use Rattle.rx_shapes.proofs.Times.{one_if, times, times_append, once_differ, differ_filter, distinct_differ}
-use Rattle.rx_notation.proofs.Means.{in_term, in_first, in_cells, in_objects, in_predicates, in_shape, ordered}
-use Rattle.rx_shapes.proofs.CellLemmas.{CellOf, cell_of, cell_inner, first_some, first_each, rest_some, rest_each}
+use Rattle.rx_notation.proofs.Means.{in_term, in_cells, in_objects, in_predicates, in_shape, ordered}
+use Rattle.rx_shapes.proofs.CellLemmas.{CellOf, cell_of, cell_inner, first_is_not_rest}
+use Rattle.rx_notation.proofs.CellParts.{in_cell}
 
 -- ---- how often a node stands in a list
 
@@ -207,25 +208,12 @@ module _ (list : List (Triple ℕ)) (shapes : ℕ → Shape) (have : HaveShapes 
     predicates_inner objects [] x m = absurd m
     predicates_inner objects (p ∷ ps) x m = inner_append (in_objects nodes (objects p)) (in_predicates nodes objects ps) (objects_inner (objects p)) (predicates_inner objects ps) x m
 
-    first_inner : (os : List (Term ℕ)) → AreInner (in_first nodes os)
-    first_inner [] x m = absurd m
-    first_inner (o ∷ os) x m = term_inner o x m
-
-  blank_alike : (a c : ℕ) → Resource (Blank a) ≡ Resource (Blank c) → a ≡ c
-  blank_alike a c e = cc
-
   -- what comes after a cell is a cell
-  next_cells : (number : ℕ) (c : CellOf list number) (d : ℕ) (more : List (Term ℕ)) → ((o : Term ℕ) → Among (Resource (Blank d) ∷ more) o → o ≡ c.after) → Cell (set_of list) d
-  next_cells number c d more each = elim c.next [
-    | inl e ↦ absurd (cc (each (Resource (Blank d)) (inl refl) ∙ e))
-    | inr f ↦ subst (Cell (set_of list)) (sym (blank_alike d f.0 (each (Resource (Blank d)) (inl refl) ∙ f.1))) f.2
+  after_inner : (below : ℕ → List ℕ) → ((d : ℕ) → Cell (set_of list) d → AreInner (below d)) → (number : ℕ) (c : CellOf list number) → AreInner (in_term below c.after)
+  after_inner below inner number c = elim c.next [
+    | inl e ↦ subst (λ (z : Term ℕ). AreInner (in_term below z)) (sym e) (λ x m. absurd m)
+    | inr d ↦ subst (λ (z : Term ℕ). AreInner (in_term below z)) (sym d.1) (inner d.0 d.2)
   ]
-
-  rest_inner : (below : ℕ → List ℕ) → ((d : ℕ) → Cell (set_of list) d → AreInner (below d)) → (number : ℕ) (c : CellOf list number) → (os : List (Term ℕ)) → ((o : Term ℕ) → Among os o → o ≡ c.after) → AreInner (in_first below os)
-  rest_inner below inner number c [] each x m = absurd m
-  rest_inner below inner number c (Resource (Iri iri) ∷ os) each x m = absurd m
-  rest_inner below inner number c (Resource (Blank d) ∷ os) each x m = inner d (next_cells number c d os each) x m
-  rest_inner below inner number c (Literal text kind ∷ os) each x m = absurd m
 
   inner_step : (left : ℕ) → ((n : ℕ) → AreInner (nodes_at left n)) × ((n : ℕ) → Cell (set_of list) n → AreInner (cells_at left n))
       → ((n : ℕ) → AreInner (nodes_at (suc left) n)) × ((n : ℕ) → Cell (set_of list) n → AreInner (cells_at (suc left) n))
@@ -233,9 +221,9 @@ module _ (list : List (Triple ℕ)) (shapes : ℕ → Shape) (have : HaveShapes 
     where
       by_cells : (n : ℕ) → Cell (set_of list) n → AreInner (in_cells (nodes_at left) (cells_at left) n (objects_of list (Blank n) rdf_first) (objects_of list (Blank n) rdf_rest))
       by_cells n k =
-          inner_cons n _ (cell_inner list n k) (inner_append (in_first (nodes_at left) (objects_of list (Blank n) rdf_first)) (in_first (cells_at left) (objects_of list (Blank n) rdf_rest))
-          (first_inner (nodes_at left) before.0 (objects_of list (Blank n) rdf_first))
-          (rest_inner (cells_at left) before.1 n (cell_of list n k) (objects_of list (Blank n) rdf_rest) (rest_each list n (cell_of list n k))))
+          let c : CellOf list n = cell_of list n k in
+          subst AreInner (sym (in_cell list n c (nodes_at left) (cells_at left))) (inner_cons n _ (cell_inner list n k)
+          (inner_append (in_term (nodes_at left) c.item) (in_term (cells_at left) c.after) (term_inner (nodes_at left) before.0 c.item) (after_inner (cells_at left) before.1 n c)))
 
       by_shape : (n : ℕ) (s : Shape) → IsShape (set_of list) n s → AreInner (in_shape list shapes (nodes_at left) (cells_at left) s n)
       by_shape n shape.Labelled h = λ x m. absurd m
@@ -260,18 +248,11 @@ module _ (list : List (Triple ℕ)) (shapes : ℕ → Shape) (have : HaveShapes 
     term_few nodes few (Resource (Blank n)) = few n
     term_few nodes few (Literal text kind) = omega arith
 
-    first_few : (nodes : ℕ → List ℕ) → ((n : ℕ) → FewNodes n (nodes n)) → (item : Term ℕ) (os : List (Term ℕ)) → Among os item → ((o : Term ℕ) → Among os o → o ≡ item)
-        → times b (in_first nodes os) ≤ one_if (is_it b item) + times_of q (in_first nodes os)
-    first_few nodes few item [] some each = absurd some
-    first_few nodes few item (o ∷ os) some each = subst (λ (z : Term ℕ). times b (in_term nodes o) ≤ one_if (is_it b z) + times_of q (in_term nodes o)) (each o (inl refl)) (term_few nodes few o)
-
-    rest_few : (below : ℕ → List ℕ) → ((n : ℕ) → Cell (set_of list) n → FewNodes n (below n)) → (number : ℕ) (c : CellOf list number) (os : List (Term ℕ)) → Among os c.after → ((o : Term ℕ) → Among os o → o ≡ c.after)
-        → times b (in_first below os) ≤ one_if (is_it b c.after) + times_of q (in_first below os)
-    rest_few below few number c [] some each = absurd some
-    rest_few below few number c (Resource (Iri iri) ∷ os) some each = omega arith
-    rest_few below few number c (Resource (Blank d) ∷ os) some each =
-        subst (λ (z : Term ℕ). times b (below d) ≤ one_if (is_it b z) + times_of q (below d)) (each (Resource (Blank d)) (inl refl)) (few d (next_cells number c d os each))
-    rest_few below few number c (Literal text kind ∷ os) some each = omega arith
+    after_few : (below : ℕ → List ℕ) → ((n : ℕ) → Cell (set_of list) n → FewNodes n (below n)) → (number : ℕ) (c : CellOf list number) → Few list each_once b q has c.after (in_term below c.after)
+    after_few below few number c = elim c.next [
+      | inl e ↦ subst (λ (z : Term ℕ). Few list each_once b q has z (in_term below z)) (sym e) (omega arith)
+      | inr d ↦ subst (λ (z : Term ℕ). Few list each_once b q has z (in_term below z)) (sym d.1) (few d.0 d.2)
+    ]
 
     -- a cell has it as its item or behind, and then is its parent
     pair_few : (number : ℕ) (c : CellOf list number) → one_if (is_it b c.item) + one_if (is_it b c.after) ≤ one_if (is_number q number)
@@ -283,9 +264,6 @@ module _ (list : List (Triple ℕ)) (shapes : ℕ → Shape) (have : HaveShapes 
         number_of : (p : Chars) (o : Term ℕ) → spo (Blank number) p o ≡ spo q has.predicate (Resource (Blank b)) → is_number q number ≡ true
         number_of p o e = subst (λ (z : Node ℕ). is_number z number ≡ true) (ap (λ (t : Triple ℕ). t.subject) e) ((exact_numbers number number).1 refl)
 
-        first_or_rest : rdf_first ≡ rdf_rest → ⊥
-        first_or_rest e = true≢false (ap (bytes_eq rdf_first) e)
-
         go : (x y : Bool) → is_it b c.item ≡ x → is_it b c.after ≡ y → one_if x + one_if y ≤ one_if (is_number q number)
         go false false e f = omega arith
         go true false e f = let n : is_number q number ≡ true = number_of rdf_first c.item (of_triple rdf_first c.item c.pair.first (its b c.item e)) in rw n (omega arith)
@@ -293,7 +271,7 @@ module _ (list : List (Triple ℕ)) (shapes : ℕ → Shape) (have : HaveShapes 
         go true true e f =
             let first = of_triple rdf_first c.item c.pair.first (its b c.item e) in
             let rest = of_triple rdf_rest c.after c.pair.rest (its b c.after f) in
-            absurd (first_or_rest (ap (λ (t : Triple ℕ). t.predicate) first ∙ sym (ap (λ (t : Triple ℕ). t.predicate) rest)))
+            absurd (first_is_not_rest (ap (λ (t : Triple ℕ). t.predicate) first ∙ sym (ap (λ (t : Triple ℕ). t.predicate) rest)))
 
     few_step : (left : ℕ) → ((n : ℕ) → FewNodes n (nodes_at left n)) × ((n : ℕ) → Cell (set_of list) n → FewNodes n (cells_at left n))
         → ((n : ℕ) → FewNodes n (nodes_at (suc left) n)) × ((n : ℕ) → Cell (set_of list) n → FewNodes n (cells_at (suc left) n))
@@ -302,15 +280,15 @@ module _ (list : List (Triple ℕ)) (shapes : ℕ → Shape) (have : HaveShapes 
         by_cells : (n : ℕ) → Cell (set_of list) n → FewNodes n (in_cells (nodes_at left) (cells_at left) n (objects_of list (Blank n) rdf_first) (objects_of list (Blank n) rdf_rest))
         by_cells n k =
             let c : CellOf list n = cell_of list n k in
-            let xs : List ℕ = in_first (nodes_at left) (objects_of list (Blank n) rdf_first) in
-            let ys : List ℕ = in_first (cells_at left) (objects_of list (Blank n) rdf_rest) in
-            let first : times b xs ≤ one_if (is_it b c.item) + times_of q xs = first_few (nodes_at left) before.0 c.item (objects_of list (Blank n) rdf_first) (first_some list n c) (first_each list n c) in
-            let rest : times b ys ≤ one_if (is_it b c.after) + times_of q ys = rest_few (cells_at left) before.1 n c (objects_of list (Blank n) rdf_rest) (rest_some list n c) (rest_each list n c) in
+            let xs : List ℕ = in_term (nodes_at left) c.item in
+            let ys : List ℕ = in_term (cells_at left) c.after in
+            let first : times b xs ≤ one_if (is_it b c.item) + times_of q xs = term_few (nodes_at left) before.0 c.item in
+            let rest : times b ys ≤ one_if (is_it b c.after) + times_of q ys = after_few (cells_at left) before.1 n c in
             let pair : one_if (is_it b c.item) + one_if (is_it b c.after) ≤ one_if (is_number q n) = pair_few n c in
             let mine = times_append b xs ys in
             let parents = times_of_append q xs ys in
             let here = times_of_cons q n (xs ++ ys) in
-            omega (arith, first, rest, pair, mine, parents, here)
+            subst (FewNodes n) (sym (in_cell list n c (nodes_at left) (cells_at left))) (omega (arith, first, rest, pair, mine, parents, here))
 
         by_shape : (n : ℕ) (s : Shape) → IsShape (set_of list) n s → FewNodes n (in_shape list shapes (nodes_at left) (cells_at left) s n)
         by_shape n shape.Labelled h = omega arith

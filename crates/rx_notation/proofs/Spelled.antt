@@ -1,20 +1,68 @@
 -- The text of a document spells it.
-use Rattle.std.proofs.Common.{◌≡◌, ℕ, ◌<◌, ◌^◌, true, List, [], ◌∷◌, ◌++◌, flat_map, codes, refl, sym, ap, inl, inr, subst, append_assoc}
+use Rattle.std.proofs.Common.{◌≡◌, ℕ, ◌<◌, ◌^◌, true, List, [], ◌∷◌, ◌++◌, flat_map, codes, refl, sym, ap, inl, inr, subst, append_assoc, ◌∙◌}
 use Rattle.rx_terms.specs.Ascii.{line_feed, quotation_mark}
 use Rattle.rx_terms.specs.Text.{Chars}
 use Rattle.rx_terms.specs.Iri.{IsIri}
 use Rattle.rx_terms.specs.Lang.{is_lang}
 use Rattle.rx_model.specs.Sets.{Among}
-use Rattle.rx_pieces.specs.Writing.{escaped_text, string_text}
+use Rattle.rx_pieces.specs.Writing.{escaped_text, string_text, iri_text}
 use Rattle.rx_nquads.proofs.Denoting.{label_spelled, string_spelled}
 use Rattle.rx_notation.specs.Short.{Prefix, Prefixes, is_prefix_name, is_local_name}
-use Rattle.rx_notation.specs.Layout.{prefixes_text}
+use Rattle.rx_notation.specs.Layout.{prefix_text, prefixes_text}
 use Rattle.rx_notation.specs.Syntax.{Reference, Full, Short, Subject, Named, Labelled, Verb, By, Type_of, Suffix, Bare, Language, Datatype, Sort, Object, Objects, Items, Predicates, Further, Part, IriOrLabel, Quoted, Anonymous, Nil, Bracketed, Collection, Single, Comma, Last, Item, Predicate, Done, Semicolon, Also, Statement, Document}
-use Rattle.rx_notation.specs.Grammar.{Full_stop, Semicolon_sign, Comma_sign, Left_bracket, Right_bracket, Brackets, Left_parenthesis, Right_parenthesis, Parentheses, Token, terminal, iri_or_label, quoted, verb_token, tokens, statement_tokens, prefix_tokens, document_tokens}
+use Rattle.rx_notation.specs.Grammar.{At_prefix, Full_stop, Semicolon_sign, Comma_sign, Left_bracket, Right_bracket, Brackets, Left_parenthesis, Right_parenthesis, Parentheses, Token, terminal, declared, iri_or_label, quoted, verb_token, tokens, statement_tokens, prefix_tokens, document_tokens}
 use Rattle.rx_notation.specs.Spelling.{SpellsReference, SpellsSubject, SpellsSuffix, SpellsToken, is_gap, SpellsBehind, SpellsTokens}
-use Rattle.rx_notation.proofs.Joining.{Opens, behind_gap, behind_token, opens_token}
-use Rattle.rx_notation.proofs.LaidOut.{GoodPrefix, prefixes_spelled}
+use Rattle.rx_notation.proofs.Joining.{Opens, Puts, all_tokens, behind_gap, behind_token, opens_token, puts_token, puts_then, adds_gap}
 use Rattle.rx_notation.specs.Writing.{reference_text, subject_text, verb_text, suffix_text, Piece, words, piece_text, inside_gap, line_gap, pieces, all_pieces, document_text}
+
+-- ---- prefixes
+
+-- what is asked of a prefix that is declared
+pub record GoodPrefix (p : Prefix) : Type 0 where
+  pub is_name : is_prefix_name p.0 ≡ true
+  pub is_iri : IsIri p.1
+
+abbrev prefix_body : Prefix → Chars
+prefix_body p = codes "@prefix" ++ (codes " " ++ ((p.0 ++ codes ":") ++ (codes " " ++ (iri_text p.1 ++ (codes " " ++ codes ".")))))
+
+prefix_puts : (p : Prefix) → GoodPrefix p → Puts (prefix_body p) (λ ts. terminal At_prefix ∷ declared p.0 ∷ iri_or_label (Named (Full p.1)) ∷ terminal Full_stop ∷ ts)
+prefix_puts p good =
+    puts_then (puts_token (codes "@prefix") (terminal At_prefix) refl) (adds_gap (codes " ") refl
+    (puts_then (puts_token (p.0 ++ codes ":") (declared p.0) (record { is_name = good.is_name; spelled = refl })) (adds_gap (codes " ") refl
+    (puts_then (puts_token (iri_text p.1) (iri_or_label (Named (Full p.1))) (record { is_iri = good.is_iri; spelled = refl })) (adds_gap (codes " ") refl
+    (puts_token (codes ".") (terminal Full_stop) refl))))))
+
+prefix_moved : (name iri rest : Chars) → (codes "@prefix" ++ (codes " " ++ ((name ++ codes ":") ++ (codes " " ++ (iri ++ (codes " " ++ codes ".")))))) ++ (codes "\n" ++ rest)
+    ≡ (codes "@prefix " ++ (name ++ (codes ": " ++ (iri ++ codes " .\n")))) ++ rest
+prefix_moved name iri rest =
+    ap (λ z. codes "@prefix " ++ z) (ap (λ z. z ++ (codes "\n" ++ rest)) (append_assoc name (codes ":") (codes " " ++ (iri ++ codes " .")))
+    ∙ append_assoc name (codes ": " ++ (iri ++ codes " .")) (codes "\n" ++ rest)
+    ∙ ap (λ z. name ++ (codes ": " ++ z)) (append_assoc iri (codes " .") (codes "\n" ++ rest) ∙ sym (append_assoc iri (codes " .\n") rest))
+    ∙ sym (append_assoc name (codes ": " ++ (iri ++ codes " .\n")) rest))
+
+module _ (text : Chars) (ts : List Token) (opens : Opens text ts) where
+  abbrev lines : Prefixes → Chars
+  lines ps = flat_map prefix_text ps ++ (codes "\n" ++ text)
+
+  prefix_opens : (p : Prefix) (ps : Prefixes) → GoodPrefix p → SpellsBehind (line_feed ∷ lines ps) (prefix_tokens ps ts) → Opens (lines (p ∷ ps)) (prefix_tokens (p ∷ ps) ts)
+  prefix_opens p ps good behind =
+      subst (λ z. Opens z (prefix_tokens (p ∷ ps) ts)) (prefix_moved p.0 (iri_text p.1) (lines ps) ∙ sym (append_assoc (prefix_text p) (flat_map prefix_text ps) (codes "\n" ++ text)))
+      ((prefix_puts p good).puts (line_feed ∷ lines ps) (prefix_tokens ps ts) behind)
+
+  lines_behind : (ps : Prefixes) → ((p : Prefix) → Among ps p → GoodPrefix p) → SpellsBehind (line_feed ∷ lines ps) (prefix_tokens ps ts)
+  lines_behind [] good = behind_gap (codes "\n\n") text ts refl opens
+  lines_behind (p ∷ ps) good = behind_gap (codes "\n") (lines (p ∷ ps)) (prefix_tokens (p ∷ ps) ts) refl (prefix_opens p ps (good p (inl refl)) (lines_behind ps (λ q m. good q (inr m))))
+
+  pub prefixes_spelled : (ps : Prefixes) → ((p : Prefix) → Among ps p → GoodPrefix p) → SpellsTokens (prefixes_text ps ++ text) (prefix_tokens ps ts)
+  prefixes_spelled [] good = all_tokens text ts opens
+  prefixes_spelled (p ∷ ps) good =
+      subst (λ z. SpellsTokens z (prefix_tokens (p ∷ ps) ts)) (sym (append_assoc (flat_map prefix_text (p ∷ ps)) (codes "\n") text))
+      (all_tokens (lines (p ∷ ps)) (prefix_tokens (p ∷ ps) ts) (prefix_opens p ps (good p (inl refl)) (lines_behind ps (λ q m. good q (inr m)))))
+
+-- ---- texts of pieces
+
+abbrev pub texts : List Piece → Chars
+texts ps = flat_map piece_text ps
 
 -- ---- what is asked of the parts, where a short form has a prefix of the context, and labels are free
 
@@ -72,9 +120,6 @@ module _ (context : Prefixes) (free : ℕ → Type 0) where
   suffix_spelled (Datatype r) h = (reference_text r, reference_spelled r h, refl)
 
   -- ---- parts
-
-  abbrev texts : List Piece → Chars
-  texts ps = flat_map piece_text ps
 
   -- what follows a predicate begins with a gap, or is empty; all else begins with a token
   abbrev Joined : Sort → Chars → List Token → Type 0

@@ -1,5 +1,5 @@
 -- Each inner node of a list is written in its document.
-use Rattle.std.proofs.Common.{◌≡◌, ◌∙◌, ◌⊎◌, ℕ, zero, suc, List, [], ◌∷◌, length, refl, sym, ap, inl, inr, subst}
+use Rattle.std.proofs.Common.{◌≡◌, ◌∙◌, ◌⊎◌, ℕ, zero, suc, List, ◌∷◌, ◌++◌, length, refl, sym, ap, inl, inr, subst}
 use Rattle.rx_terms.specs.Text.{Chars}
 use Rattle.rx_model.specs.Sets.{Among}
 use Rattle.rx_model.specs.Terms.{Node, Iri, Blank, Term, Resource, Triple, set_of}
@@ -11,8 +11,9 @@ use Rattle.rx_shapes.specs.declared.shapes.Shape.{Shape}
 use Rattle.rx_shapes.specs.declared.shapes.Shape.TheVariants as shape
 use Rattle.rx_shapes.specs.Subjects.{predicates_of, objects_of}
 use Rattle.rx_shapes.proofs.Grouped.{predicate_there, object_there}
-use Rattle.rx_notation.proofs.Means.{in_term, in_first, in_cells, in_objects, in_predicates, in_shape}
-use Rattle.rx_shapes.proofs.CellLemmas.{CellOf, cell_of, first_some, first_each, rest_some, rest_each, Enough, none_left, child_enough, first_enough}
+use Rattle.rx_notation.proofs.Means.{in_term, in_cells, in_objects, in_predicates, in_shape}
+use Rattle.rx_shapes.proofs.CellLemmas.{CellOf, cell_of, Enough, none_left, child_enough, first_enough}
+use Rattle.rx_notation.proofs.CellParts.{in_cell}
 use Rattle.rx_notation.proofs.Once.{nodes_at, cells_at, below_all}
 
 module _ (list : List (Triple ℕ)) (shapes : ℕ → Shape) (have : HaveShapes list shapes) where
@@ -52,36 +53,29 @@ module _ (list : List (Triple ℕ)) (shapes : ℕ → Shape) (have : HaveShapes 
     cell_written : (b a left : ℕ) (p : Chars) → Among list (spo (Blank a) p (Resource (Blank b))) → Inner (set_of list) b → (k : Cell (set_of list) a) → Enough list (suc left) a
         → AllIn (in_cells (node_list left) (cell_list left) a (objects_of list (Blank a) rdf_first) (objects_of list (Blank a) rdf_rest)) order → Written b
     cell_written b a left p m i k enough all = elim (c.pair.alone (spo (Blank a) p (Resource (Blank b))) m refl) [
-      | inl e ↦ record { left = left; enough = enough_below; all = inl (λ x h. all x (inr (Among_left firsts rests x (as_item (sym (ap (λ (t : Triple ℕ). t.object) e)) (objects_of list (Blank a) rdf_first) (first_some list a c) (first_each list a c) x h)))) }
-      | inr e ↦ record {
-        left = left;
-        enough = enough_below;
-        all = inr (
-          is_cell (sym (ap (λ (t : Triple ℕ). t.object) e)),
-          λ x h. all x (inr (Among_right firsts rests x (behind (sym (ap (λ (t : Triple ℕ). t.object) e)) (objects_of list (Blank a) rdf_rest) (rest_some list a c) (rest_each list a c) x h))),
-        );
-      }
+      | inl e ↦ record { left = left; enough = enough_below; all = inl (λ x h. mine x (inr (Among_left firsts rests x (subst (λ (z : Term ℕ). Among (in_term (node_list left) z) x) (ap (λ (t : Triple ℕ). t.object) e) h)))) }
+      | inr e ↦ let same : Resource (Blank b) ≡ c.after = ap (λ (t : Triple ℕ). t.object) e in
+          record {
+            left = left;
+            enough = enough_below;
+            all = inr (is_cell (sym same), λ x h. mine x (inr (Among_right firsts rests x (subst (λ (z : Term ℕ). Among (in_term (cell_list left) z) x) same h))));
+          }
     ]
       where
         c : CellOf list a
         c = cell_of list a k
 
         firsts : List ℕ
-        firsts = in_first (node_list left) (objects_of list (Blank a) rdf_first)
+        firsts = in_term (node_list left) c.item
 
         rests : List ℕ
-        rests = in_first (cell_list left) (objects_of list (Blank a) rdf_rest)
+        rests = in_term (cell_list left) c.after
+
+        mine : AllIn (a ∷ (firsts ++ rests)) order
+        mine = subst (λ (ns : List ℕ). AllIn ns order) (in_cell list a c (node_list left) (cell_list left)) all
 
         enough_below : Enough list left b
         enough_below = child_enough list left a b p enough m i
-
-        as_item : c.item ≡ Resource (Blank b) → (os : List (Term ℕ)) → Among os c.item → ((o : Term ℕ) → Among os o → o ≡ c.item) → AllIn (node_list left b) (in_first (node_list left) os)
-        as_item e [] some each x h = absurd some
-        as_item e (o ∷ os) some each x h = subst (λ (z : Term ℕ). Among (in_term (node_list left) z) x) (sym (each o (inl refl) ∙ e)) h
-
-        behind : c.after ≡ Resource (Blank b) → (os : List (Term ℕ)) → Among os c.after → ((o : Term ℕ) → Among os o → o ≡ c.after) → AllIn (cell_list left b) (in_first (cell_list left) os)
-        behind e [] some each x h = absurd some
-        behind e (o ∷ os) some each x h = subst (λ (z : Term ℕ). Among (in_term (cell_list left) z) x) (sym (each o (inl refl) ∙ e)) h
 
         blank_alike : (x y : ℕ) → Resource (Blank x) ≡ Resource (Blank y) → x ≡ y
         blank_alike x y e = cc

@@ -13,9 +13,10 @@ use Rattle.rx_notation.specs.Short.{Prefixes}
 use Rattle.rx_shapes.specs.Subjects.{predicates_of, objects_of}
 use Rattle.rx_notation.specs.Syntax.{Labelled, Object, Objects, Items, Predicates, Part, IriOrLabel, Bracketed, Collection, Single, Comma, Last, Item, Predicate, Done, Also}
 use Rattle.rx_shapes.proofs.Grouped.{object_says}
-use Rattle.rx_notation.specs.Nesting.{objects_after, some_objects, one_object, items_by, cells, verb_of, predicates_after, bracketed, inside, object_by, node_by, written}
+use Rattle.rx_notation.specs.Nesting.{objects_after, some_objects, cells, verb_of, predicates_after, bracketed, inside, object_by, node_by, written}
 use Rattle.rx_shapes.proofs.Heights.{height}
-use Rattle.rx_shapes.proofs.CellLemmas.{CellOf, cell_of, cell_inner, rest_each, Enough, none_left, child_enough, first_enough}
+use Rattle.rx_shapes.proofs.CellLemmas.{CellOf, cell_of, cell_inner, Enough, none_left, child_enough, first_enough}
+use Rattle.rx_notation.proofs.CellParts.{cell_last, cell_more}
 
 -- ---- parts of objects that are written alike
 
@@ -30,10 +31,6 @@ module _ (f g : Term ℕ → Part Object) where
   some_alike : (objects : List (Term ℕ)) → Alike objects → some_objects f objects ≡ some_objects g objects
   some_alike [] h = refl
   some_alike (first ∷ more) h = objects_alike first more h
-
-  one_alike : (objects : List (Term ℕ)) → Alike objects → one_object f objects ≡ one_object g objects
-  one_alike [] h = refl
-  one_alike (first ∷ more) h = h first (inl refl)
 
   module _ (context : Prefixes) (objects : Chars → List (Term ℕ)) where
     abbrev AllAlike : List Chars → Type 0
@@ -79,34 +76,21 @@ module _ (context : Prefixes) (list : List (Triple ℕ)) (shapes : ℕ → Shape
 
   cells_same : (left most : ℕ) → ((n : ℕ) → SameNode left most n) → ((n : ℕ) → SameCell left most n) → (number : ℕ) → Cell (set_of list) number → Enough list (suc left) number → Enough list (suc most) number
       → cells (object_at left) (cell_at left) list number ≡ cells (object_at most) (cell_at most) list number
-  cells_same left most node below number is_cell h k =
-      by_rest (objects_of list (Blank number) rdf_rest) (rest_each list number c)
+  cells_same left most node below number is_cell h k = elim c.next [
+    | inl e ↦ cell_last list number c (object_at left) (cell_at left) e ∙ ap Last item ∙ sym (cell_last list number c (object_at most) (cell_at most) e)
+    | inr d ↦ cell_more list number c (object_at left) (cell_at left) d.0 d.1 ∙ ap₂ Item item (next d.0 d.1 d.2) ∙ sym (cell_more list number c (object_at most) (cell_at most) d.0 d.1)
+  ]
     where
       c : CellOf list number
       c = cell_of list number is_cell
 
-      item : one_object (object_at left) (objects_of list (Blank number) rdf_first) ≡ one_object (object_at most) (objects_of list (Blank number) rdf_first)
-      item = one_alike (object_at left) (object_at most) (objects_of list (Blank number) rdf_first) (λ o m. child_same left most node number h k rdf_first o (object_says list (Blank number) rdf_first o m))
+      item : object_at left c.item ≡ object_at most c.item
+      item = child_same left most node number h k rdf_first c.item c.pair.first
 
-      blank_alike : (a b : ℕ) → Resource (Blank a) ≡ Resource (Blank b) → a ≡ b
-      blank_alike a b e = cc
-
-      next : (b : ℕ) → Resource (Blank b) ≡ c.after → cell_at left b ≡ cell_at most b
-      next b e = elim c.next [
-        | inl f ↦ absurd (cc (e ∙ f))
-        | inr d ↦ below b (subst (Cell (set_of list)) (sym (blank_alike b d.0 (e ∙ d.1))) d.2) (child_enough list left number b rdf_rest h held (cell_inner list b (subst (Cell (set_of list)) (sym (blank_alike b d.0 (e ∙ d.1))) d.2)))
-            (child_enough list most number b rdf_rest k held (cell_inner list b (subst (Cell (set_of list)) (sym (blank_alike b d.0 (e ∙ d.1))) d.2)))
-      ]
-        where
-          held : Among list (spo (Blank number) rdf_rest (Resource (Blank b)))
-          held = subst (λ (z : Term ℕ). Among list (spo (Blank number) rdf_rest z)) (sym e) c.pair.rest
-
-      by_rest : (rests : List (Term ℕ)) → ((o : Term ℕ) → Among rests o → o ≡ c.after)
-          → items_by (cell_at left) (one_object (object_at left) (objects_of list (Blank number) rdf_first)) rests ≡ items_by (cell_at most) (one_object (object_at most) (objects_of list (Blank number) rdf_first)) rests
-      by_rest [] each = ap Last item
-      by_rest (Resource (Iri iri) ∷ more) each = ap Last item
-      by_rest (Resource (Blank b) ∷ more) each = ap₂ Item item (next b (each (Resource (Blank b)) (inl refl)))
-      by_rest (Literal text kind ∷ more) each = ap Last item
+      next : (d : ℕ) → c.after ≡ Resource (Blank d) → Cell (set_of list) d → cell_at left d ≡ cell_at most d
+      next d e is =
+          let held : Among list (spo (Blank number) rdf_rest (Resource (Blank d))) = subst (λ (z : Term ℕ). Among list (spo (Blank number) rdf_rest z)) e c.pair.rest in
+          below d is (child_enough list left number d rdf_rest h held (cell_inner list d is)) (child_enough list most number d rdf_rest k held (cell_inner list d is))
 
   inside_same : (left most : ℕ) → ((n : ℕ) → SameNode left most n) → (number : ℕ) → Enough list (suc left) number → Enough list (suc most) number
       → inside context (object_at left) list (Blank number) ≡ inside context (object_at most) list (Blank number)

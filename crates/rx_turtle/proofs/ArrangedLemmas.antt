@@ -8,20 +8,19 @@ use Rattle.std.proofs.lemmas.List.{take_all, length-map, map-append, take-map, d
 use Rattle.std.proofs.lemmas.List.Elements.{filter-append}
 use Rattle.std.proofs.lemmas.List.Folds.{list_all-append}
 use Rattle.rx_terms.specs.declared.triples.Triple.{Triple as CodeTriple}
-use Rattle.rx_model.specs.Sets.{Among, contains, distinct, with_one}
+use Rattle.rx_model.specs.Sets.{Among, contains, with_one}
 use Rattle.rx_model.specs.Terms.{Node, Triple, same_node}
-use Rattle.rx_model.proofs.Sets.{Among-contains, Among_by_contains, Among_of_distinct, Among_distinct}
+use Rattle.rx_model.proofs.Sets.{Among_of_distinct}
 use Rattle.rx_model.proofs.Exact.{exact_nodes, exact_numbers}
 use Rattle.rx_graph.specs.Resources.{AreDistinct}
-use Rattle.rx_terms.proofs.Bools.{same_truth}
 use Rattle.rx_graph.proofs.SetLemmas.{one_more}
 use Rattle.rx_shapes.proofs.Grouped.{same_back}
 use Rattle.rx_turtle.specs.declared.keys.By.{By}
 use Rattle.rx_turtle.specs.declared.keys.By.TheVariants as by
 use Rattle.rx_turtle.specs.Groups.{Keyed, key_by, has_key, keys_by, keys_in, grouped}
 use Rattle.rx_turtle.specs.Runs.{all_in, put_before, runs, starts, like_first, Said, said_by, said_in, by_predicate}
-use Rattle.rx_turtle.proofs.GroupLemmas.{lent_seen, lent_at, lent_more, same_self, keys_more, rows_by}
-use Rattle.rx_turtle.proofs.TakenLemmas.{keys_of_pairs}
+use Rattle.rx_turtle.proofs.GroupLemmas.{lent_seen, lent_at, mapped_more, front_at, same_self, keys_more, rows_by}
+use Rattle.rx_turtle.proofs.TakenLemmas.{distinct_keys, same_there, none_with, keys_of_pairs}
 
 -- ---- cutting where the key changes
 
@@ -79,37 +78,6 @@ module _ (kind : By) where
       go (t ∷ ts) all some ih = one_run group.0 t ts (all_in groups) all (next_starts group.0 groups h.3 h.2) ∙ ap (λ (z : List Keyed). (group.0, t ∷ ts) ∷ z) ih
 
 -- ---- the groups of a list are apart
-
-kept_apart : (p : Node ℕ → Bool) (keys : List (Node ℕ)) (k : Node ℕ) → contains (same_node nat_eq) keys k ≡ false → contains (same_node nat_eq) (filter p keys) k ≡ false
-kept_apart p [] k h = refl
-kept_apart p (x ∷ keys) k h =
-    let parts = or_parts (same_node nat_eq x k) (contains (same_node nat_eq) keys k) h in
-    go (p x) parts.0 (kept_apart p keys k parts.1)
-  where
-    go : (b : Bool) → same_node nat_eq x k ≡ false → contains (same_node nat_eq) (filter p keys) k ≡ false → contains (same_node nat_eq) (cond b (x ∷ filter p keys) (filter p keys)) k ≡ false
-    go true e ih = rw e ih
-    go false e ih = ih
-
-kept_distinct : (p : Node ℕ → Bool) (keys : List (Node ℕ)) → AreDistinct keys → AreDistinct (filter p keys)
-kept_distinct p [] d = tt
-kept_distinct p (x ∷ keys) d = go (p x) (kept_distinct p keys d.1)
-  where
-    go : (b : Bool) → AreDistinct (filter p keys) → AreDistinct (cond b (x ∷ filter p keys) (filter p keys))
-    go true ih = (kept_apart p keys x d.0, ih)
-    go false ih = ih
-
-left_out : (x : Node ℕ) (keys : List (Node ℕ)) → contains (same_node nat_eq) (filter (λ y. not (same_node nat_eq x y)) keys) x ≡ false
-left_out x [] = refl
-left_out x (y ∷ keys) = go (same_node nat_eq x y) refl (left_out x keys)
-  where
-    go : (b : Bool) → same_node nat_eq x y ≡ b → contains (same_node nat_eq) (filter (λ y. not (same_node nat_eq x y)) keys) x ≡ false
-        → contains (same_node nat_eq) (cond (not b) (y ∷ filter (λ y. not (same_node nat_eq x y)) keys) (filter (λ y. not (same_node nat_eq x y)) keys)) x ≡ false
-    go true e ih = ih
-    go false e ih = let back : same_node nat_eq y x ≡ false = same_back y x ∙ e in rw back ih
-
-distinct_keys : (keys : List (Node ℕ)) → AreDistinct (distinct (same_node nat_eq) keys)
-distinct_keys [] = tt
-distinct_keys (x ∷ keys) = (left_out x (distinct (same_node nat_eq) keys), kept_distinct (λ y. not (same_node nat_eq x y)) (distinct (same_node nat_eq) keys) (distinct_keys keys))
 
 all_kept : (p : Triple ℕ → Bool) (list : List (Triple ℕ)) → list_all p (filter p list) ≡ true
 all_kept p [] = refl
@@ -223,26 +191,6 @@ module _ {A B : Type 0} (f : A → List B) where
 
 -- those that are like one of them, for one after another
 module _ (kind : By) where
-  same_there : (keys : List (Node ℕ)) (k : Node ℕ) → contains (same_node nat_eq) (distinct (same_node nat_eq) keys) k ≡ contains (same_node nat_eq) keys k
-  same_there keys k =
-      let exact = exact_nodes nat_eq exact_numbers in
-      let same : Node ℕ → Node ℕ → Bool = same_node nat_eq in
-      same_truth (contains same (distinct same keys) k) (contains same keys k)
-      (λ h. Among-contains same exact keys k (Among_of_distinct same keys k (Among_by_contains same exact (distinct same keys) k h)))
-      (λ h. Among-contains same exact (distinct same keys) k (Among_distinct same exact keys k (Among_by_contains same exact keys k h)))
-
-  none_with : (list : List (Triple ℕ)) (k : Node ℕ) → contains (same_node nat_eq) (map (key_by kind) list) k ≡ false → filter (has_key kind k) list ≡ []
-  none_with [] k h = refl
-  none_with (t ∷ list) k h =
-      let parts = or_parts (has_key kind k t) (contains (same_node nat_eq) (map (key_by kind) list) k) h in
-      let none : has_key kind k t ≡ false = parts.0 in
-      rw none (none_with list k parts.1)
-
-  front_at : (list : List (Triple ℕ)) (i : ℕ) (t : Triple ℕ) → slice_get list i ≡ Some t → drop i list ≡ t ∷ drop (suc i) list
-  front_at [] i t at = absurd (cc)
-  front_at (x ∷ list) zero t at = let same : x ≡ t = cc in ap (λ z. z ∷ list) same
-  front_at (x ∷ list) (suc i) t at = front_at list i t at
-
   pub like_turn : (list : List (Triple ℕ)) (i : ℕ) (t : Triple ℕ) (start old new : List (Triple ℕ)) → slice_get list i ≡ Some t → new ≡ old ++ like_first kind (take i list) (drop i list)
       → old ≡ start ++ all_in (rows_by kind list (keys_by kind (take i list))) → new ≡ start ++ all_in (rows_by kind list (keys_by kind (take (i + 1) list)))
   like_turn list i t start old new at grows before =
@@ -264,7 +212,7 @@ module _ (kind : By) where
           let there : contains (same_node nat_eq) keys key ≡ false = same_there (map (key_by kind) (take i list)) key ∙ e in
           let front : like_first kind (take i list) (t ∷ drop (suc i) list) ≡ filter (has_key kind key) (t ∷ drop (suc i) list) = ap (λ b. if b then [] else filter (has_key kind key) (t ∷ drop (suc i) list)) e in
           let row : filter (has_key kind key) (t ∷ drop (suc i) list) ≡ filter (has_key kind key) list =
-          ap (filter (has_key kind key)) (sym (front_at list i t at)) ∙ ap (λ z. z ++ filter (has_key kind key) (drop i list)) (sym (none_with (take i list) key e))
+          ap (filter (has_key kind key)) (sym (front_at list i t at)) ∙ ap (λ z. z ++ filter (has_key kind key) (drop i list)) (sym (none_with kind (take i list) key e))
           ∙ sym (filter-append (has_key kind key) (take i list) (drop i list)) ∙ ap (filter (has_key kind key)) (take-append-drop i list) in
           let last : all_in (rows_by kind list (key ∷ [])) ≡ filter (has_key kind key) list = append-nil (filter (has_key kind key) list) in
           let both : all_in (rows_by kind list (keys ++ key ∷ [])) ≡ all_in (rows_by kind list keys) ++ filter (has_key kind key) list =
@@ -354,7 +302,7 @@ pub all_turn : (list : List (Bor CodeTriple)) (i : ℕ) (t : Bor CodeTriple) (st
     → map lent_seen old ≡ start ++ map lent_seen (take i list) → map lent_seen new ≡ start ++ map lent_seen (take (i + 1) list)
 all_turn list i t start old new at grows before =
     ap (map lent_seen) grows ∙ map-append lent_seen old (t ∷ []) ∙ ap (λ z. z ++ lent_seen t ∷ []) before ∙ append_assoc start (map lent_seen (take i list)) (lent_seen t ∷ [])
-    ∙ ap (λ z. start ++ z) (sym (lent_more list i t at))
+    ∙ ap (λ z. start ++ z) (sym (mapped_more lent_seen list i t at))
 
 pub all_end : (list : List (Bor CodeTriple)) (i : ℕ) (start now : List (Triple ℕ)) → length list ≤ i → now ≡ start ++ map lent_seen (take i list) → now ≡ start ++ map lent_seen list
 all_end list i start now past h = h ∙ ap (λ z. start ++ map lent_seen z) (take_all i list past)

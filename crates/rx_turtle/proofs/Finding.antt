@@ -1,15 +1,17 @@
 -- The place that is found by the end of an IRI is that of the prefix of its short form.
-use Rattle.std.proofs.Common.{◌≡◌, ◌∙◌, ℕ, zero, suc, ◌+◌, ◌-◌, ◌<◌, ◌≤◌, Bool, true, false, cond, ◌&&◌, ◌==◌, nat_lt, nat_eq, List, [], ◌∷◌, ◌++◌, filter, find, length, take, drop, drop_of_length-le, get_or, slice_get, Option, Some, None, refl, sym, ap, ap₂, subst, true≢false, arith, if◌then◌else◌}
+use Rattle.std.proofs.Common.{◌≡◌, ◌∙◌, ℕ, zero, suc, ◌+◌, ◌-◌, ◌<◌, ◌≤◌, Bool, true, false, cond, ◌&&◌, ◌==◌, nat_lt, nat_eq, List, [], ◌∷◌, ◌++◌, filter, find, length, take, drop, drop_of_length-le, get_or, slice_get, Option, Some, None, inl, inr, refl, sym, ap, ap₂, subst, true≢false, arith, if◌then◌else◌}
 use Rattle.std.specs.Str.{encode_utf8_all}
 use Rattle.std.specs.Option.{option_or}
 use Rattle.std.specs.List.{list_all}
 use Rattle.std.proofs.lemmas.Bool.{and_parts, and_from, and_right}
 use Rattle.std.proofs.lemmas.Bool.Decides.{nat_tests}
 use Rattle.std.proofs.lemmas.List.{length-take-le, take_at, drop_at, length-append, take-append-drop}
+use Rattle.std.proofs.lemmas.Option.{slice_get-get_or}
 use Rattle.std.proofs.lemmas.Str.{encodes-append, encodes_same}
 use Rattle.rx_terms.specs.Ascii.{is_ascii}
 use Rattle.rx_terms.specs.Text.{Chars, begins_with}
 use Rattle.rx_terms.proofs.CharLemmas.{ascii-same}
+use Rattle.rx_model.specs.Sets.{Among}
 use Rattle.rx_model.proofs.Sets.{Among_of_filter, false_unless}
 use Rattle.rx_model.proofs.Exact.{exact_texts}
 use Rattle.rx_terms.proofs.Bools.{same_truth}
@@ -17,6 +19,7 @@ use Rattle.rx_notation.specs.Short.{Prefix, Prefixes, is_before, is_name_char, i
 use Rattle.rx_notation.proofs.Chosen.{best_among, front_and_rest}
 use Rattle.rx_notation.proofs.OneText.{local_chars}
 use Rattle.rx_notation.proofs.Ordered.{before_all, not_after, passes}
+use Rattle.rx_turtle.proofs.GroupLemmas.{front_at}
 use Rattle.rx_turtle.specs.Shorts.{begins_local, stands_for, place_from, place_at, place_below, place_of, IsPlace}
 
 -- ---- lists
@@ -38,9 +41,9 @@ module _ {A : Type 0} where
   find_none [] = refl
   find_none (x ∷ list) = find_none list
 
-  filter_same : (f g : A → Bool) (list : List A) → ((a : A) → f a ≡ g a) → filter f list ≡ filter g list
+  pub filter_same : (f g : A → Bool) (list : List A) → ((a : A) → Among list a → f a ≡ g a) → filter f list ≡ filter g list
   filter_same f g [] h = refl
-  filter_same f g (x ∷ list) h = ap₂ (λ (b : Bool) (z : List A). cond b (x ∷ z) z) (h x) (filter_same f g list h)
+  filter_same f g (x ∷ list) h = ap₂ (λ (b : Bool) (z : List A). cond b (x ∷ z) z) (h x (inl refl)) (filter_same f g list (λ a m. h a (inr m)))
 
   filter_none : (f : A → Bool) (list : List A) → ((a : A) → f a ≡ false) → filter f list ≡ []
   filter_none f [] h = refl
@@ -127,9 +130,7 @@ all_get test (x ∷ list) zero h less = (and_parts _ _ h).0
 all_get test (x ∷ list) (suc i) h less = all_get test list i (and_parts _ _ h).1 (omega (arith, less))
 
 drop_here : (list : List ℕ) (n : ℕ) → n < length list → drop n list ≡ get_or list n 0 ∷ drop (suc n) list
-drop_here [] n h = absurd (omega (arith, h))
-drop_here (x ∷ list) zero h = refl
-drop_here (x ∷ list) (suc n) h = drop_here list n (omega (arith, h))
+drop_here list n h = front_at list n (get_or list n 0) (slice_get-get_or list n 0 h)
 
 get_drop : (list : List ℕ) (k i : ℕ) → get_or (drop k list) i 0 ≡ get_or list (k + i) 0
 get_drop list zero i = let same : i ≡ 0 + i = omega arith in ap (λ n. get_or list n 0) same
@@ -309,7 +310,7 @@ place_is context iri rise =
     let size : ℕ = length bytes in
     let end : drop size bytes ≡ [] = drop_of_length-le bytes (omega arith) in
     subst (λ (z : Option Prefix). IsPlace context z (place_of context iri))
-    (ap best (filter_same (below (shortens iri) end_of size) (shortens iri) context inside))
+    (ap best (filter_same (below (shortens iri) end_of size) (shortens iri) context (λ p m. inside p)))
     (place_within context rise iri size (omega arith) (ap (list_all is_name_char) end))
   where
     some_left : (p : Prefix) → Cut iri p → nat_lt (end_of p) (length (encode_utf8_all iri)) ≡ true

@@ -1,6 +1,7 @@
 -- Triples that are put into groups.
-use Rattle.std.proofs.Common.{◌≡◌, ◌∙◌, ℕ, zero, suc, ◌+◌, ◌<◌, ◌≤◌, Bool, true, false, ◌||◌, nat_eq, List, [], ◌∷◌, ◌++◌, map, filter, length, take, slice_get, slice_set, get_or, Result, Ok, Err, is_ok, is_err, Option, Some, None, option_map, Bor, refl, sym, ap, ap₂, true≢false, arith, append-nil, if◌then◌else◌}
+use Rattle.std.proofs.Common.{◌≡◌, ◌∙◌, ℕ, zero, suc, ◌+◌, ◌<◌, ◌≤◌, Bool, true, false, ◌||◌, nat_eq, List, [], ◌∷◌, ◌++◌, map, filter, length, take, drop, slice_get, slice_set, get_or, Result, Ok, Err, is_ok, is_err, Option, Some, None, option_map, Bor, refl, sym, ap, ap₂, true≢false, arith, append-nil, if◌then◌else◌}
 use Rattle.std.proofs.lemmas.List.{map-append}
+use Rattle.std.proofs.lemmas.Option.{slice_get-map}
 use Rattle.std.proofs.lemmas.List.Elements.{filter-append}
 use Rattle.rx_terms.specs.declared.triples.Triple.{Triple as CodeTriple}
 use Rattle.rx_model.specs.Sets.{contains, distinct, with_one}
@@ -17,13 +18,16 @@ use Rattle.rx_turtle.specs.Groups.{Keyed, group_seen, key_by, has_key, keys_by, 
 abbrev pub lent_seen : Bor CodeTriple → Triple ℕ
 lent_seen t = triple_seen t.now
 
-pub lent_more : (list : List (Bor CodeTriple)) (i : ℕ) (t : Bor CodeTriple) → slice_get list i ≡ Some t → map lent_seen (take (i + 1) list) ≡ map lent_seen (take i list) ++ lent_seen t ∷ []
-lent_more list i t at = ap (map lent_seen) (one_more list i t at) ∙ map-append lent_seen (take i list) (t ∷ [])
+pub mapped_more : {A B : Type 0} (f : A → B) (list : List A) (i : ℕ) (a : A) → slice_get list i ≡ Some a → map f (take (i + 1) list) ≡ map f (take i list) ++ f a ∷ []
+mapped_more f list i a at = ap (map f) (one_more list i a at) ∙ map-append f (take i list) (a ∷ [])
+
+pub front_at : {A : Type 0} (list : List A) (i : ℕ) (a : A) → slice_get list i ≡ Some a → drop i list ≡ a ∷ drop (suc i) list
+front_at [] i a at = absurd (cc)
+front_at (x ∷ list) zero a at = let same : x ≡ a = cc in ap (λ z. z ∷ list) same
+front_at (x ∷ list) (suc i) a at = front_at list i a at
 
 pub seen_at : {A B : Type 0} (f : A → B) (list : List A) (i : ℕ) (a : A) → slice_get list i ≡ Some a → slice_get (map f list) i ≡ Some (f a)
-seen_at f [] i a at = absurd (cc)
-seen_at f (x ∷ list) zero a at = let same : x ≡ a = cc in ap (λ z. Some (f z)) same
-seen_at f (x ∷ list) (suc i) a at = seen_at f list i a at
+seen_at f list i a at = slice_get-map f list i ∙ ap (option_map f) at
 
 pub lent_at : (list : List (Bor CodeTriple)) (i : ℕ) (t : Bor CodeTriple) → slice_get list i ≡ Some t → slice_get (map lent_seen list) i ≡ Some (lent_seen t)
 lent_at = seen_at lent_seen

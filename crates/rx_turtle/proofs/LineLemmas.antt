@@ -3,7 +3,6 @@ use Rattle.std.proofs.Common.{◌≡◌, ◌∙◌, ℕ, zero, suc, ◌+◌, Boo
 use Rattle.std.specs.Str.{chars}
 use Rattle.std.specs.List.{list_all, list_any}
 use Rattle.std.proofs.lemmas.Grind.{flat_map-append}
-use Rattle.std.proofs.lemmas.List.{map-append}
 use Rattle.std.proofs.lemmas.Bool.Decides.{nat_tests}
 use Rattle.rx_terms.specs.Ascii.{is_ascii}
 use Rattle.rx_terms.specs.Text.{Chars}
@@ -15,6 +14,12 @@ use Rattle.rx_pieces.specs.Underway.{Delivery}
 use Rattle.rx_pieces.specs.Writable.{Adds}
 use Rattle.rx_pieces.proofs.Adding.{adds_then, adds_by, adds_failed, iri_before}
 use Rattle.rx_turtle.specs.Uses.{chosen}
+use Rattle.rx_turtle.proofs.GroupLemmas.{mapped_more}
+
+-- ---- a list with one more
+
+pub flat_map_last : {A B : Type 0} (f : A → List B) (list : List A) (a : A) → flat_map f (list ++ a ∷ []) ≡ flat_map f list ++ f a
+flat_map_last f list a = flat_map-append f list (a ∷ []) ∙ ap (λ z. flat_map f list ++ z) (append-nil (f a))
 
 -- ---- with another text between neighbours
 
@@ -25,11 +30,8 @@ gap between (text ∷ texts) = between
 
 separated_more : (between : Chars) (texts : List Chars) (text : Chars) → separated between (texts ++ text ∷ []) ≡ separated between texts ++ (gap between texts ++ text)
 separated_more between [] text = append-nil text
-separated_more between (first ∷ texts) text = ap (λ z. first ++ z) (behind texts) ∙ sym (append_assoc first (flat_map (λ next. between ++ next) texts) (between ++ text))
-  where
-    behind : (list : List Chars) → flat_map (λ next. between ++ next) (list ++ text ∷ []) ≡ flat_map (λ next. between ++ next) list ++ (between ++ text)
-    behind [] = append-nil (between ++ text)
-    behind (next ∷ list) = ap (λ z. (between ++ next) ++ z) (behind list) ∙ sym (append_assoc (between ++ next) (flat_map (λ n. between ++ n) list) (between ++ text))
+separated_more between (first ∷ texts) text =
+    ap (λ z. first ++ z) (flat_map_last (λ next. between ++ next) texts text) ∙ sym (append_assoc first (flat_map (λ next. between ++ next) texts) (between ++ text))
 
 module _ {A : Type 0} (f : A → Chars) (between : Chars) (plain : list_all is_ascii between ≡ true) where
   gap_at : (list : List A) (i : ℕ) (a : A) → slice_get list i ≡ Some a → gap between (map f (take i list)) ≡ (if i == 0 then [] else between)
@@ -40,8 +42,7 @@ module _ {A : Type 0} (f : A → Chars) (between : Chars) (plain : list_all is_a
   pub listed : {start now mid next : Delivery} (list : List A) (i : ℕ) (a : A) → slice_get list i ≡ Some a → Adds start now (separated between (map f (take i list)))
       → Adds now mid (if i == 0 then [] else chars between) → Adds mid next (f a) → Adds start next (separated between (map f (take (i + 1) list)))
   listed list i a at so_far first last =
-      let more : map f (take (i + 1) list) ≡ map f (take i list) ++ f a ∷ [] = ap (map f) (one_more list i a at) ∙ map-append f (take i list) (a ∷ []) in
-      adds_by (sym (ap (separated between) more ∙ separated_more between (map f (take i list)) (f a)))
+      adds_by (sym (ap (separated between) (mapped_more f list i a at) ∙ separated_more between (map f (take i list)) (f a)))
       (adds_then so_far (adds_then (adds_by (ap (λ z. if i == 0 then [] else z) (ascii-chars between plain) ∙ sym (gap_at list i a at)) first) last))
 
 -- ---- one behind another
@@ -49,7 +50,7 @@ module _ {A : Type 0} (f : A → Chars) (between : Chars) (plain : list_all is_a
 module _ {A : Type 0} (f : A → Chars) where
   pub joined : {start now next : Delivery} (list : List A) (i : ℕ) (a : A) → slice_get list i ≡ Some a → Adds start now (flat_map f (take i list)) → Adds now next (f a) → Adds start next (flat_map f (take (i + 1) list))
   joined list i a at so_far last =
-      adds_by (sym (ap (flat_map f) (one_more list i a at) ∙ flat_map-append f (take i list) (a ∷ []) ∙ ap (λ z. flat_map f (take i list) ++ z) (append-nil (f a)))) (adds_then so_far last)
+      adds_by (sym (ap (flat_map f) (one_more list i a at) ∙ flat_map_last f (take i list) a)) (adds_then so_far last)
 
   -- the sink failed, and no more is written
   pub joined_failed : {start now : Delivery} (list : List A) (i : ℕ) → now.underway.failed ≡ true → Adds start now (flat_map f (take i list)) → Adds start now (flat_map f list)

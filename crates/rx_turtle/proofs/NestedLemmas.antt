@@ -1,24 +1,20 @@
 -- The text of a nested plan is that of the nested layout, and what it denotes.
-use Rattle.std.proofs.Common.{◌≡◌, ◌∙◌, ℕ, ◌+◌, ◌≤◌, Bool, true, false, cond, nat_eq, List, [], ◌∷◌, ◌++◌, map, filter, filter_map, flat_map, length, take, slice_get, bytes_eq, Option, Some, None, refl, sym, ap, ap₂, subst, inl, inr, append_assoc, append-nil, codes, if◌then◌else◌}
+use Rattle.std.proofs.Common.{◌≡◌, ◌∙◌, ℕ, Bool, true, false, cond, nat_eq, List, [], ◌∷◌, ◌++◌, map, filter_map, flat_map, length, bytes_eq, Option, Some, None, refl, sym, ap, ap₂, subst, codes, if◌then◌else◌}
 use Rattle.std.specs.Str.{chars, encode_utf8_all}
 use Rattle.std.proofs.lemmas.Str.{chars-encodes}
-use Rattle.std.proofs.lemmas.List.{take_all, map-append}
 use Rattle.rx_terms.specs.Text.{Chars}
-use Rattle.rx_terms.specs.declared.triples.Triple.{Triple as CodeTriple}
 use Rattle.rx_model.specs.Sets.{Among, contains, distinct}
 use Rattle.rx_model.specs.Terms.{Plain, Tagged, Typed, Iri, Blank, Literal, Triple, same_triple}
 use Rattle.rx_model.specs.Copied.{spo}
 use Rattle.rx_model.specs.Vocabulary.{rdf_type}
-use Rattle.rx_model.specs.Seen.{triple_seen, triples_seen}
-use Rattle.rx_model.proofs.Sets.{Among_cases, Among_map, Among_of_map, Among_of_filter_map, Among-contains, Among_by_contains}
+use Rattle.rx_model.proofs.Sets.{Among_map, Among_of_map, Among_of_filter_map, Among-contains, Among_by_contains}
 use Rattle.rx_model.proofs.Exact.{exact_texts}
 use Rattle.rx_terms.proofs.Bools.{same_truth}
-use Rattle.rx_graph.proofs.SetLemmas.{one_more, seen_more}
-use Rattle.rx_pieces.specs.Writable.{WritableText, WritableTriple, IsWritable}
+use Rattle.rx_pieces.specs.Writable.{WritableText, IsWritable}
 use Rattle.rx_pieces.specs.Writing.{string_text}
 use Rattle.rx_pieces.proofs.Scalars.{joined, literally}
 use Rattle.rx_notation.specs.Short.{Prefix, Prefixes, prefix_of, names_rise}
-use Rattle.rx_notation.specs.Layout.{iris_of, same_prefix, those_among, in_byte_order, prefixes_text, resource_text, iris_of_predicate}
+use Rattle.rx_notation.specs.Layout.{iris_of, same_prefix, those_among, in_byte_order, prefixes_text, iris_of_predicate}
 use Rattle.rx_notation.specs.Laws.{IsContext}
 use Rattle.rx_nquads.specs.Quads.{proper_triple}
 use Rattle.rx_notation.specs.Meaning.{NestedTurtle}
@@ -26,8 +22,9 @@ use Rattle.rx_notation.specs.Syntax.{Type_of, By}
 use Rattle.rx_notation.proofs.Chosen.{Apart, names_apart, one_of, exact_prefixes, prefix_fits}
 use Rattle.rx_notation.proofs.Ordered.{rising}
 use Rattle.rx_notation.specs.Nesting.{reference_to, name_in, names_of_verb, piece_names, prefixes_named, names_used, statements, nested}
-use Rattle.rx_notation.specs.Writing.{reference_text, verb_text, piece_text, all_pieces}
+use Rattle.rx_notation.specs.Writing.{piece_text, all_pieces}
 use Rattle.rx_notation.proofs.Declared.{of_named}
+use Rattle.rx_notation.proofs.LaidOut.{reference_is, verb_is, suffix_is}
 use Rattle.rx_notation.proofs.NestedMeaning.{nested_denotes}
 use Rattle.rx_turtle.specs.declared.source.Source.{Source}
 use Rattle.rx_turtle.specs.declared.tokens.Token.{Token}
@@ -35,89 +32,24 @@ use Rattle.rx_turtle.specs.declared.tokens.Words.{Words}
 use Rattle.rx_turtle.specs.declared.tokens.Words.TheVariants as fixed
 use Rattle.rx_turtle.specs.Rows.{AreRows}
 use Rattle.rx_turtle.specs.Uses.{marked_all, unmarked, chosen}
-use Rattle.rx_turtle.specs.Tokens.{Shown, Fixed, IriOrLabel, Verb, Quoted, token_seen, tokens_seen, words_text, piece_of, pieces_of, shown_text, shown_texts, iris_of_shown, WritableShown}
+use Rattle.rx_turtle.specs.Tokens.{Shown, Fixed, IriOrLabel, Verb, Quoted, tokens_seen, words_text, piece_of, pieces_of, shown_text, shown_texts, iris_of_shown, WritableShown}
 use Rattle.rx_turtle.specs.Due.{list_of, shapes_of, IsSource, AreTokens}
 use Rattle.rx_turtle.specs.Nested.{iris_of_tokens, AreWritable}
+use Rattle.rx_turtle.proofs.Finding.{filter_same}
 use Rattle.rx_turtle.proofs.RunLemmas.{have_shapes}
 use Rattle.rx_turtle.proofs.ScalarLemmas.{all_writable, resource_writable, verb_writable, object_writable, prefixes_writable}
-use Rattle.rx_turtle.proofs.UseLemmas.{chosen_used, marks_size, marked_both}
-
--- ---- the loops over tokens
-
-tokens_more : (tokens : List Token) (i : ℕ) (t : Token) → slice_get tokens i ≡ Some t → tokens_seen (take (i + 1) tokens) ≡ tokens_seen (take i tokens) ++ token_seen t ∷ []
-tokens_more tokens i t at = ap tokens_seen (one_more tokens i t at) ∙ map-append token_seen (take i tokens) (t ∷ [])
-
-iris_both : (xs : List Shown) (s : Shown) → flat_map iris_of_shown (xs ++ s ∷ []) ≡ flat_map iris_of_shown xs ++ iris_of_shown s
-iris_both [] s = append-nil (iris_of_shown s)
-iris_both (x ∷ xs) s = ap (λ z. iris_of_shown x ++ z) (iris_both xs s) ∙ sym (append_assoc (iris_of_shown x) (flat_map iris_of_shown xs) (iris_of_shown s))
-
--- the first tokens are looked at
-pub record Viewed (context : Prefixes) (start now : List Bool) (tokens : List Token) (i : ℕ) : Type 0 where
-  pub marks : now ≡ marked_all context start (iris_of_tokens (take i tokens))
-  pub writable : (s : Shown) → Among (tokens_seen (take i tokens)) s → WritableShown s
-
-pub viewed_start : (context : Prefixes) (start : List Bool) (tokens : List Token) → Viewed context start start tokens 0
-viewed_start context start tokens = record { marks = refl; writable = λ s m. absurd m }
-
-pub viewed_more : (context : Prefixes) (start now next : List Bool) (tokens : List Token) (i : ℕ) (t : Token) → slice_get tokens i ≡ Some t → next ≡ marked_all context now (iris_of_shown (token_seen t))
-    → WritableShown (token_seen t) → Viewed context start now tokens i → Viewed context start next tokens (i + 1)
-viewed_more context start now next tokens i t at turn writable h =
-    let more = tokens_more tokens i t at in
-    record {
-      marks =
-          turn ∙ ap (λ z. marked_all context z (iris_of_shown (token_seen t))) h.marks ∙ sym (marked_both context start (iris_of_tokens (take i tokens)) (iris_of_shown (token_seen t)))
-          ∙ ap (marked_all context start) (sym (ap (flat_map iris_of_shown) more ∙ iris_both (tokens_seen (take i tokens)) (token_seen t)));
-      writable = λ s m. elim (Among_cases (tokens_seen (take i tokens)) (token_seen t ∷ []) s (subst (λ (z : List Shown). Among z s) more m)) [
-        | inl k ↦ h.writable s k
-        | inr k ↦ elim k [ inl e ↦ subst WritableShown e writable | inr n ↦ absurd n ]
-      ];
-    }
-
-pub viewed_marks : (context : Prefixes) (start now : List Bool) (tokens : List Token) (i : ℕ) → length tokens ≤ i → Viewed context start now tokens i → now ≡ marked_all context start (iris_of_tokens tokens)
-viewed_marks context start now tokens i past h = h.marks ∙ ap (λ z. marked_all context start (iris_of_tokens z)) (take_all i tokens past)
-
-pub viewed_writable : (context : Prefixes) (start now : List Bool) (tokens : List Token) (i : ℕ) → length tokens ≤ i → Viewed context start now tokens i → AreWritable tokens
-viewed_writable context start now tokens i past h = record { each = λ s m. h.writable s (subst (λ (z : List Token). Among (tokens_seen z) s) (sym (take_all i tokens past)) m) }
-
-pub triples_start : (list : List CodeTriple) → IsWritable (triples_seen (take 0 list))
-triples_start list = record { parts = λ t m. absurd m }
-
-pub triples_more : (list : List CodeTriple) (i : ℕ) (t : CodeTriple) → slice_get list i ≡ Some t → WritableTriple None (triple_seen t) → IsWritable (triples_seen (take i list)) → IsWritable (triples_seen (take (i + 1) list))
-triples_more list i t at w h =
-    let more = seen_more list i t at in
-    record {
-      parts = λ u m. elim (Among_cases (triples_seen (take i list)) (triple_seen t ∷ []) u (subst (λ (z : List (Triple ℕ)). Among z u) more m)) [
-        | inl k ↦ h.parts u k
-        | inr k ↦ elim k [ inl e ↦ subst (WritableTriple None) e w | inr n ↦ absurd n ]
-      ];
-    }
-
-pub triples_end : (list : List CodeTriple) (i : ℕ) → length list ≤ i → IsWritable (triples_seen (take i list)) → IsWritable (triples_seen list)
-triples_end list i past h = record { parts = λ t m. h.parts t (subst (λ (z : List CodeTriple). Among (triples_seen z) t) (sym (take_all i list past)) m) }
+use Rattle.rx_turtle.proofs.UseLemmas.{chosen_used, marks_size}
 
 -- ---- tokens are written as their pieces
 
 module _ (context : Prefixes) where
-  reference_is : (iri : Chars) → reference_text (reference_to context iri) ≡ resource_text context (Iri iri)
-  reference_is iri = go (prefix_of context iri) refl
-    where
-      go : (o : Option Prefix) → prefix_of context iri ≡ o → reference_text (reference_to context iri) ≡ resource_text context (Iri iri)
-      go None e = rw e refl
-      go (Some p) e = rw e refl
-
   shown_is : (s : Shown) → shown_text context s ≡ piece_text (piece_of context s)
   shown_is (Fixed words) = refl
-  shown_is (IriOrLabel (Iri iri)) = sym (reference_is iri)
+  shown_is (IriOrLabel (Iri iri)) = sym (reference_is context iri)
   shown_is (IriOrLabel (Blank number)) = refl
-  shown_is (Verb (Iri iri)) = go (bytes_eq iri rdf_type)
-    where
-      go : (b : Bool) → cond b (codes "a") (resource_text context (Iri iri)) ≡ verb_text (cond b Type_of (By (reference_to context iri)))
-      go true = refl
-      go false = sym (reference_is iri)
+  shown_is (Verb (Iri iri)) = sym (verb_is context iri)
   shown_is (Verb (Blank number)) = refl
-  shown_is (Quoted text Plain) = refl
-  shown_is (Quoted text (Tagged tag)) = refl
-  shown_is (Quoted text (Typed datatype)) = ap (λ z. string_text text ++ (codes "^^" ++ z)) (sym (reference_is datatype))
+  shown_is (Quoted text kind) = ap (λ z. string_text text ++ z) (sym (suffix_is context kind))
 
   texts_are : (list : List Shown) → shown_texts context list ≡ flat_map piece_text (pieces_of context list)
   texts_are [] = refl
@@ -181,16 +113,6 @@ module _ (context : Prefixes) where
         let same : q.0 ≡ p = one_of context apart p q.0 m (prefix_fits context iri.0 q.0 iri.2).there q.2 in
         Among-contains same_prefix exact_prefixes some p (subst (λ (z : Prefix). Among some z) same q.1))
 
-    filter_among : (f g : Prefix → Bool) (ps : Prefixes) → ((p : Prefix) → Among ps p → f p ≡ g p) → filter f ps ≡ filter g ps
-    filter_among f g [] h = refl
-    filter_among f g (p ∷ ps) h = go (f p) (g p) (h p (inl refl)) (filter_among f g ps (λ q m. h q (inr m)))
-      where
-        go : (a b : Bool) → a ≡ b → filter f ps ≡ filter g ps → cond a (p ∷ filter f ps) (filter f ps) ≡ cond b (p ∷ filter g ps) (filter g ps)
-        go true true e ih = ap (λ z. p ∷ z) ih
-        go false false e ih = ih
-        go true false e ih = absurd (cc)
-        go false true e ih = absurd (cc)
-
     -- triples that have these IRIs
     abbrev with_iris : List Chars → List (Triple ℕ)
     with_iris iris = map {B = Triple ℕ} (λ iri. spo (Iri iri) rdf_type (Literal [] Plain)) iris
@@ -206,7 +128,7 @@ module _ (context : Prefixes) where
         ap (λ z. chosen (marked_all context (unmarked context) z) context) (sym (have_iris iris))
         ∙ chosen_used context rise (with_iris iris)
         ∙ ap (λ z. in_byte_order (those_among (filter_map (prefix_of context) z) context)) (have_iris iris)
-        ∙ ap in_byte_order (filter_among (contains same_prefix (filter_map (prefix_of context) iris)) (λ (p : Prefix). contains bytes_eq (names_by iris) p.0) context (used_named iris))
+        ∙ ap in_byte_order (filter_same (contains same_prefix (filter_map (prefix_of context) iris)) (λ (p : Prefix). contains bytes_eq (names_by iris) p.0) context (used_named iris))
 
     pub marks_long : (iris : List Chars) → length (marked_all context (unmarked context) iris) ≡ length context
     marks_long iris = ap (λ z. length (marked_all context (unmarked context) z)) (sym (have_iris iris)) ∙ marks_size context rise (with_iris iris)

@@ -20,6 +20,7 @@ use Rattle.rx_turtle.specs.Shorts.{begins_local, stands_for, place_from, place_a
 use Rattle.rx_turtle.specs.Rows.{IsRow, AreRows}
 use Rattle.rx_turtle.specs.Slots.{told, Tells}
 use Rattle.rx_turtle.specs.Places.{found_in, Knows, PutsBytes, Puts, Finds}
+use Rattle.rx_turtle.proofs.GroupLemmas.{front_at}
 use Rattle.rx_turtle.proofs.SlotLemmas.{so_also}
 
 pub rises : (context : Prefixes) → names_rise context ≡ rise context
@@ -84,16 +85,11 @@ put_named name bytes iri place old new named utf8 same h = record { each = λ ot
 
 -- ---- all places
 
-drop_at_place : (context : Prefixes) (i : ℕ) (row : Prefix) → slice_get context i ≡ Some row → drop i context ≡ row ∷ drop (suc i) context
-drop_at_place [] i row at = absurd (cc)
-drop_at_place (p ∷ context) zero row at = let same : p ≡ row = cc in ap (λ z. z ∷ context) same
-drop_at_place (p ∷ context) (suc i) row at = drop_at_place context i row at
-
 pub finds_one_more : (context : Prefixes) (n i : ℕ) (row : Prefix) (old new : Places) → n ≡ suc i → slice_get context i ≡ Some row → Puts row i old new → Finds n (drop n context) old → Finds i (drop i context) new
 finds_one_more context n i row old new up at put h = record {
   each = λ bytes.
       put.each bytes ∙ ap (λ o. if stands_for bytes row then Some i else o) (h.each bytes ∙ ap (λ m. place_from m (drop m context) bytes) up)
-      ∙ ap (λ z. place_from i z bytes) (sym (drop_at_place context i row at));
+      ∙ ap (λ z. place_from i z bytes) (sym (front_at context i row at));
   known = put.known h.known;
 }
 
@@ -101,7 +97,7 @@ pub row_of : (name iri : List ℕ) → IsUtf8 name → IsUtf8 iri → IsIri (cha
 row_of name iri p q h = record { name = text_of name (chars name) p refl; iri = iri_of iri (chars iri) q refl h }
 
 pub rows_one_more : (context : Prefixes) (n i : ℕ) (row : Prefix) → n ≡ suc i → slice_get context i ≡ Some row → IsRow row → AreRows (drop n context) → AreRows (drop i context)
-rows_one_more context n i row up at is h = record { each = λ p m. go p (subst (λ (z : Prefixes). Among z p) (drop_at_place context i row at) m) }
+rows_one_more context n i row up at is h = record { each = λ p m. go p (subst (λ (z : Prefixes). Among z p) (front_at context i row at) m) }
   where
     go : (p : Prefix) → Among (row ∷ drop (suc i) context) p → IsRow p
     go p (inl e) = subst IsRow e is

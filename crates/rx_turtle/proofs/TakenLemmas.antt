@@ -1,45 +1,46 @@
 -- Triples that are put into groups one after another.
-use Rattle.std.proofs.Common.{◌≡◌, ◌∙◌, ℕ, zero, suc, ◌+◌, ◌<◌, ◌≤◌, Bool, true, false, ◌||◌, nat_eq, List, [], ◌∷◌, ◌++◌, map, filter, length, take, slice_get, Option, Some, None, option_map, Bor, refl, sym, ap, ap₂, subst, true≢false, arith, append-nil, if◌then◌else◌}
+use Rattle.std.proofs.Common.{◌≡◌, ◌∙◌, ℕ, zero, suc, ◌+◌, ◌<◌, ◌≤◌, Bool, true, false, ◌||◌, nat_eq, List, [], ◌∷◌, ◌++◌, map, filter, length, take, slice_get, Option, Some, None, option_map, Bor, refl, sym, ap, ap₂, subst, true≢false, arith, if◌then◌else◌}
 use Rattle.std.proofs.lemmas.List.{take_all, map-append}
 use Rattle.std.proofs.lemmas.List.Elements.{filter-append}
 use Rattle.rx_terms.specs.declared.triples.Triple.{Triple as CodeTriple}
-use Rattle.rx_model.specs.Sets.{contains, with_one}
+use Rattle.rx_model.specs.Sets.{contains, distinct, with_one}
+use Rattle.rx_model.proofs.Sets.{Among-contains, Among_by_contains, Among_of_distinct, Among_distinct, false_unless}
+use Rattle.std.proofs.lemmas.Bool.{or_parts}
+use Rattle.rx_terms.proofs.Bools.{same_truth}
 use Rattle.rx_model.specs.Terms.{Node, Triple, same_node}
 use Rattle.rx_model.proofs.Exact.{exact_nodes, exact_numbers}
 use Rattle.rx_graph.specs.Resources.{number_in, AreDistinct}
-use Rattle.rx_graph.proofs.PatternLemmas.{contains_more, contains_added, none_there}
-use Rattle.rx_shapes.proofs.Grouped.{same_back}
+use Rattle.rx_graph.proofs.PatternLemmas.{none_there}
+use Rattle.rx_shapes.proofs.Grouped.{same_nodes}
+use Rattle.rx_shapes.proofs.Heights.{Differ}
+use Rattle.rx_shapes.proofs.Times.{distinct_differ}
 use Rattle.rx_turtle.specs.declared.keys.By.{By}
 use Rattle.rx_turtle.specs.Groups.{Keyed, key_by, has_key, keys_by, keys_in, grouped, put_in, taken_at, taken_in}
-use Rattle.rx_turtle.proofs.GroupLemmas.{lent_seen, lent_more, same_self, paired, rows_by, keys_more, others_stay, one_put, last_in}
+use Rattle.rx_turtle.proofs.GroupLemmas.{lent_seen, mapped_more, same_self, paired, rows_by, keys_more, others_stay, one_put, last_in}
 
--- ---- a key more
+-- ---- keys
 
-pub first_of : (a b : Bool) → (a || b) ≡ false → a ≡ false
-first_of true b e = absurd (true≢false e)
-first_of false b e = refl
+are_distinct : (keys : List (Node ℕ)) → Differ keys → AreDistinct keys
+are_distinct [] d = tt
+are_distinct (x ∷ keys) d = (false_unless (contains (same_node nat_eq) keys x) (λ c. d.0 (Among_by_contains (same_node nat_eq) same_nodes keys x c)), are_distinct keys d.1)
 
-rest_of : (a b : Bool) → (a || b) ≡ false → b ≡ false
-rest_of true b e = absurd (true≢false e)
-rest_of false b e = e
+pub distinct_keys : (keys : List (Node ℕ)) → AreDistinct (distinct (same_node nat_eq) keys)
+distinct_keys keys = are_distinct (distinct (same_node nat_eq) keys) (distinct_differ (same_node nat_eq) same_nodes keys)
 
-both_false : (a b : Bool) → a ≡ false → b ≡ false → (a || b) ≡ false
-both_false true b e f = absurd (true≢false e)
-both_false false b e f = f
+pub same_there : (keys : List (Node ℕ)) (k : Node ℕ) → contains (same_node nat_eq) (distinct (same_node nat_eq) keys) k ≡ contains (same_node nat_eq) keys k
+same_there keys k =
+    let exact = exact_nodes nat_eq exact_numbers in
+    let same : Node ℕ → Node ℕ → Bool = same_node nat_eq in
+    same_truth (contains same (distinct same keys) k) (contains same keys k)
+    (λ h. Among-contains same exact keys k (Among_of_distinct same keys k (Among_by_contains same exact (distinct same keys) k h)))
+    (λ h. Among-contains same exact (distinct same keys) k (Among_distinct same exact keys k (Among_by_contains same exact keys k h)))
 
-last_distinct : (keys : List (Node ℕ)) (s : Node ℕ) → contains (same_node nat_eq) keys s ≡ false → AreDistinct keys → AreDistinct (keys ++ s ∷ [])
-last_distinct [] s h d = (refl, tt)
-last_distinct (x ∷ keys) s h d = (
-  contains_more (same_node nat_eq) keys s x ∙ both_false (contains (same_node nat_eq) keys x) (same_node nat_eq s x) d.0 (same_back s x ∙ first_of (same_node nat_eq x s) (contains (same_node nat_eq) keys s) h),
-  last_distinct keys s (rest_of (same_node nat_eq x s) (contains (same_node nat_eq) keys s) h) d.1,
-)
-
-added_distinct : (keys : List (Node ℕ)) (s : Node ℕ) → AreDistinct keys → AreDistinct (with_one (same_node nat_eq) keys s)
-added_distinct keys s d = go (contains (same_node nat_eq) keys s) refl
-  where
-    go : (b : Bool) → contains (same_node nat_eq) keys s ≡ b → AreDistinct (if b then keys else keys ++ s ∷ [])
-    go true e = d
-    go false e = last_distinct keys s e d
+pub none_with : (kind : By) (list : List (Triple ℕ)) (k : Node ℕ) → contains (same_node nat_eq) (map (key_by kind) list) k ≡ false → filter (has_key kind k) list ≡ []
+none_with kind [] k h = refl
+none_with kind (t ∷ list) k h =
+    let parts = or_parts (has_key kind k t) (contains (same_node nat_eq) (map (key_by kind) list) k) h in
+    let none : has_key kind k t ≡ false = parts.0 in
+    rw none (none_with kind list k parts.1)
 
 pub there : (keys : List (Node ℕ)) (s : Node ℕ) (n : ℕ) → number_in keys s ≡ Some n → contains (same_node nat_eq) keys s ≡ true
 there [] s n h = absurd (cc)
@@ -57,16 +58,7 @@ keys_of_pairs f kind (x ∷ keys) = ap (λ z. x ∷ z) (keys_of_pairs f kind key
 
 -- ---- a triple more
 
--- the groups are those of the list. Of a key that isn't among the keys the list has no triple
-pub record Taken (kind : By) (list : List (Triple ℕ)) (groups : List Keyed) : Type 0 where
-  pub is : groups ≡ grouped kind list
-  pub once : AreDistinct (keys_by kind list)
-  pub none : (key : Node ℕ) → contains (same_node nat_eq) (keys_by kind list) key ≡ false → filter (has_key kind key) list ≡ []
-
 module _ (kind : By) where
-  pub taken_none : Taken kind [] []
-  taken_none = record { is = refl; once = tt; none = λ key h. refl }
-
   module _ (list : List (Triple ℕ)) (t : Triple ℕ) where
     abbrev keys : List (Node ℕ)
     keys = keys_by kind list
@@ -77,55 +69,43 @@ module _ (kind : By) where
     abbrev rows : Node ℕ → List (Triple ℕ)
     rows k = filter (has_key kind k) list
 
-    none_more : ((k : Node ℕ) → contains (same_node nat_eq) keys k ≡ false → rows k ≡ []) → (k : Node ℕ) → contains (same_node nat_eq) (keys_by kind (list ++ t ∷ [])) k ≡ false
-        → filter (has_key kind k) (list ++ t ∷ []) ≡ []
-    none_more none k h =
-        let both : (contains (same_node nat_eq) keys k || same_node nat_eq key k) ≡ false = sym (ap (λ z. contains (same_node nat_eq) z k) (keys_more kind list t) ∙ contains_added keys key k) ∙ h in
-        let before : rows k ≡ [] = none k (first_of (contains (same_node nat_eq) keys k) (same_node nat_eq key k) both) in
-        let other : has_key kind k t ≡ false = rest_of (contains (same_node nat_eq) keys k) (same_node nat_eq key k) both in
-        filter-append (has_key kind k) list (t ∷ []) ∙ rw other (append-nil (rows k) ∙ before)
-
     -- the key is there
-    put : (n : ℕ) → AreDistinct keys → number_in keys key ≡ Some n → put_in (grouped kind list) n t ≡ grouped kind (list ++ t ∷ [])
-    put n d h =
+    put : (n : ℕ) → number_in keys key ≡ Some n → put_in (grouped kind list) n t ≡ grouped kind (list ++ t ∷ [])
+    put n h =
         let same : keys_by kind (list ++ t ∷ []) ≡ keys = keys_more kind list t ∙ ap (λ b. if b then keys else keys ++ key ∷ []) (there keys key n h) in
-        one_put kind rows t keys n d h ∙ sym (last_in kind list t keys) ∙ ap (rows_by kind (list ++ t ∷ [])) (sym same)
+        one_put kind rows t keys n (distinct_keys (map (key_by kind) list)) h ∙ sym (last_in kind list t keys) ∙ ap (rows_by kind (list ++ t ∷ [])) (sym same)
 
     -- it isn't
-    begun : ((k : Node ℕ) → contains (same_node nat_eq) keys k ≡ false → rows k ≡ []) → number_in keys key ≡ None → grouped kind list ++ (key, t ∷ []) ∷ [] ≡ grouped kind (list ++ t ∷ [])
-    begun none h =
+    begun : number_in keys key ≡ None → grouped kind list ++ (key, t ∷ []) ∷ [] ≡ grouped kind (list ++ t ∷ [])
+    begun h =
         let new : contains (same_node nat_eq) keys key ≡ false = none_there keys key h in
         let more : keys_by kind (list ++ t ∷ []) ≡ keys ++ key ∷ [] = keys_more kind list t ∙ ap (λ b. if b then keys else keys ++ key ∷ []) new in
         let own : has_key kind key t ≡ true = same_self key in
-        let row : filter (has_key kind key) (list ++ t ∷ []) ≡ t ∷ [] = filter-append (has_key kind key) list (t ∷ []) ∙ rw (none key new, own) refl in
+        let none : rows key ≡ [] = none_with kind list key (sym (same_there (map (key_by kind) list) key) ∙ new) in
+        let row : filter (has_key kind key) (list ++ t ∷ []) ≡ t ∷ [] = filter-append (has_key kind key) list (t ∷ []) ∙ rw (none, own) refl in
         let front : rows_by kind (list ++ t ∷ []) keys ≡ grouped kind list = last_in kind list t keys ∙ others_stay kind rows t keys new in
         sym
         (ap (rows_by kind (list ++ t ∷ [])) more ∙ map-append {B = Keyed} (λ k. (k, filter (has_key kind k) (list ++ t ∷ []))) keys (key ∷ [])
         ∙ ap₂ (λ (z : List Keyed) (r : List (Triple ℕ)). z ++ (key, r) ∷ []) front row)
 
-    taken_by : (o : Option ℕ) → ((k : Node ℕ) → contains (same_node nat_eq) keys k ≡ false → rows k ≡ []) → AreDistinct keys → number_in keys key ≡ o → taken_at (grouped kind list) o key t ≡ grouped kind (list ++ t ∷ [])
-    taken_by (Some n) none d h = put n d h
-    taken_by None none d h = begun none h
+    taken_by : (o : Option ℕ) → number_in keys key ≡ o → taken_at (grouped kind list) o key t ≡ grouped kind (list ++ t ∷ [])
+    taken_by (Some n) h = put n h
+    taken_by None h = begun h
 
-    pub taken_more : (old new : List Keyed) → new ≡ taken_in kind old t → Taken kind list old → Taken kind (list ++ t ∷ []) new
-    taken_more old new turn before = record {
-      is =
-          turn ∙ ap (λ g. taken_in kind g t) before.is ∙ ap (λ z. taken_at (grouped kind list) (number_in z key) key t) (keys_of_pairs rows kind keys)
-          ∙ taken_by (number_in keys key) before.none before.once refl;
-      once = subst AreDistinct (sym (keys_more kind list t)) (added_distinct keys key before.once);
-      none = none_more before.none;
-    }
+    taken_more : (old new : List Keyed) → new ≡ taken_in kind old t → old ≡ grouped kind list → new ≡ grouped kind (list ++ t ∷ [])
+    taken_more old new turn before =
+        turn ∙ ap (λ g. taken_in kind g t) before ∙ ap (λ z. taken_at (grouped kind list) (number_in z key) key t) (keys_of_pairs rows kind keys) ∙ taken_by (number_in keys key) refl
 
   pub taken_turn : (list : List (Bor CodeTriple)) (i : ℕ) (t : Bor CodeTriple) (old new : List Keyed) → slice_get list i ≡ Some t → new ≡ taken_in kind old (lent_seen t)
-      → Taken kind (map lent_seen (take i list)) old → Taken kind (map lent_seen (take (i + 1) list)) new
-  taken_turn list i t old new at turn before = subst (λ z. Taken kind z new) (sym (lent_more list i t at)) (taken_more (map lent_seen (take i list)) (lent_seen t) old new turn before)
+      → old ≡ grouped kind (map lent_seen (take i list)) → new ≡ grouped kind (map lent_seen (take (i + 1) list))
+  taken_turn list i t old new at turn before = taken_more (map lent_seen (take i list)) (lent_seen t) old new turn before ∙ ap (grouped kind) (sym (mapped_more lent_seen list i t at))
 
-  pub taken_end : (list : List (Bor CodeTriple)) (i : ℕ) (groups : List Keyed) → length list ≤ i → Taken kind (map lent_seen (take i list)) groups → groups ≡ grouped kind (map lent_seen list)
-  taken_end list i groups past h = h.is ∙ ap (λ z. grouped kind (map lent_seen z)) (take_all i list past)
+  pub taken_end : (list : List (Bor CodeTriple)) (i : ℕ) (groups : List Keyed) → length list ≤ i → groups ≡ grouped kind (map lent_seen (take i list)) → groups ≡ grouped kind (map lent_seen list)
+  taken_end list i groups past h = h ∙ ap (λ z. grouped kind (map lent_seen z)) (take_all i list past)
 
   -- no two groups have one key
-  pub taken_once : (list : List (Triple ℕ)) (groups : List Keyed) → Taken kind list groups → AreDistinct (keys_in groups)
-  taken_once list groups h = subst AreDistinct (sym (ap keys_in h.is ∙ keys_of_pairs (λ key. filter (has_key kind key) list) kind (keys_by kind list))) h.once
+  pub taken_once : (list : List (Triple ℕ)) (groups : List Keyed) → groups ≡ grouped kind list → AreDistinct (keys_in groups)
+  taken_once list groups h = subst AreDistinct (sym (ap keys_in h ∙ keys_of_pairs (λ key. filter (has_key kind key) list) kind (keys_by kind list))) (distinct_keys (map (key_by kind) list))
 
 -- the triple in a group of its own, which is the last
 pub put_last : (groups : List Keyed) (key : Node ℕ) (t : Triple ℕ) (n : ℕ) → n ≡ length groups → put_in (groups ++ (key, []) ∷ []) n t ≡ groups ++ (key, t ∷ []) ∷ []

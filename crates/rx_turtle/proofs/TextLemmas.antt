@@ -22,11 +22,7 @@ use Rattle.rx_turtle.specs.Uses.{used_marks, chosen}
 use Rattle.rx_turtle.proofs.GroupLemmas.{map_twice}
 use Rattle.rx_turtle.proofs.PredicateLemmas.{keys_are}
 use Rattle.rx_turtle.proofs.ScalarLemmas.{turtle_writable}
-use Rattle.rx_turtle.proofs.UseLemmas.{chosen_used}
-
-map_like : {A B : Type 0} (f g : A → B) (list : List A) → ((a : A) → f a ≡ g a) → map f list ≡ map g list
-map_like f g [] h = refl
-map_like f g (x ∷ list) h = ap₂ ◌∷◌ (h x) (map_like f g list h)
+use Rattle.rx_turtle.proofs.UseLemmas.{map_same, chosen_used}
 
 texts_like : {A : Type 0} (f g : A → Chars) (list : List A) → ((a : A) → f a ≡ g a) → flat_map f list ≡ flat_map g list
 texts_like f g [] h = refl
@@ -45,7 +41,7 @@ module _ (context : Prefixes) (list : List (Triple ℕ)) where
       map_twice (group_text context) (λ key. (key, filter (has_key by.Predicate key) (about list s))) (keys_by by.Predicate (about list s))
       ∙ ap (map (λ (key : Node ℕ). group_text context (key, filter (has_key by.Predicate key) (about list s)))) (keys_are list s)
       ∙ map_twice (λ (key : Node ℕ). group_text context (key, filter (has_key by.Predicate key) (about list s))) (λ p. Iri p) (predicates_of list s)
-      ∙ map_like (λ (p : Chars). group_text context (Iri p, filter (has_key by.Predicate (Iri p)) (about list s))) (predicate_text context list s) (predicates_of list s) (one_group s)
+      ∙ map_same (λ (p : Chars). group_text context (Iri p, filter (has_key by.Predicate (Iri p)) (about list s))) (predicate_text context list s) (predicates_of list s) (λ p m. one_group s p)
 
   statement_is : (s : Node ℕ) → said_text context (said_by (s, filter (has_key by.Subject s) list)) ≡ statement_text context list s
   statement_is s = ap (λ z. resource_text context s ++ (codes " " ++ (separated (codes " ;\n    ") z ++ codes " .\n"))) (groups_are s)

@@ -8,13 +8,14 @@ use Rattle.rx_model.specs.Vocabulary.{rdf_first, rdf_rest, rdf_nil}
 use Rattle.rx_shapes.specs.declared.shapes.Shape.{Shape}
 use Rattle.rx_shapes.specs.declared.shapes.Shape.TheVariants as shape
 use Rattle.rx_shapes.specs.Subjects.{about, has_predicate, predicates_of, objects_of, first_of, object_at}
-use Rattle.rx_shapes.proofs.CellLemmas.{CellOf, cell_of, rest_each}
+use Rattle.rx_shapes.proofs.CellLemmas.{CellOf, cell_of}
 use Rattle.rx_shapes.proofs.Grouped.{predicate_says}
 use Rattle.rx_notation.specs.Short.{Prefixes}
 use Rattle.rx_notation.specs.Syntax.{Named, Object as An_object, Items, Part, IriOrLabel as Noun, Nil}
 use Rattle.rx_notation.specs.Nesting.{reference_to, verb_of, subject_of, objects_after, some_objects, predicates_after, bracketed, some_predicates, one_object, items_by, node_by, object_by, written, statement_of}
 use Rattle.rx_notation.specs.Nesting as nesting
 use Rattle.rx_notation.specs.Writing.{Piece, words, subject, verb, inside_gap, line_gap, pieces, statement_pieces}
+use Rattle.rx_notation.proofs.CellParts.{rests}
 use Rattle.rx_notation.proofs.Unfolded.{node_unfolds, cell_unfolds}
 use Rattle.rx_turtle.specs.declared.keys.By.TheVariants as by
 use Rattle.rx_turtle.specs.declared.tokens.Words.{Words}
@@ -158,20 +159,12 @@ module _ (list : List (Triple ℕ)) where
   item_cells None = tt
   item_cells (Some o) = tt
 
-  after_is : (number d : ℕ) (c : CellOf list number) → c.after ≡ Resource (Blank d) → Cell (set_of list) d
-  after_is number d c e = elim c.next [
-    | inl last ↦ let both : Resource (Blank d) ≡ Resource (Iri rdf_nil) = sym e ∙ last in absurd (cc)
-    | inr found ↦ let same : found.0 ≡ d = let both : Resource (Blank found.0) ≡ Resource (Blank d) = sym found.1 ∙ e in cc in subst (Cell (set_of list)) same found.2
-  ]
-
   rest_cells : (number : ℕ) → CellOf list number → AreCells list (rest_due (object_at list (Blank number) rdf_rest))
-  rest_cells number c = go (objects_of list (Blank number) rdf_rest) (λ o m. rest_each list number c o m)
-    where
-      go : (rests : List (Term ℕ)) → ((o : Term ℕ) → Among rests o → o ≡ c.after) → AreCells list (rest_due (first_of rests))
-      go [] h = tt
-      go (Resource (Blank d) ∷ more) h = (after_is number d c (sym (h (Resource (Blank d)) (inl refl))), tt)
-      go (Resource (Iri iri) ∷ more) h = tt
-      go (Literal text kind ∷ more) h = tt
+  rest_cells number c =
+      subst (λ (os : List (Term ℕ)). AreCells list (rest_due (first_of os))) (sym (rests list number c).1) (elim c.next [
+        | inl e ↦ subst (λ (z : Term ℕ). AreCells list (rest_due (Some z))) (sym e) tt
+        | inr d ↦ subst (λ (z : Term ℕ). AreCells list (rest_due (Some z))) (sym d.1) (d.2, tt)
+      ])
 
   cell_cells : (number : ℕ) → Cell (set_of list) number → AreCells list (cell_due list number)
   cell_cells number h =

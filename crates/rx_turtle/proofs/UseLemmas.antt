@@ -1,15 +1,11 @@
 -- Which prefixes are used.
-use Rattle.std.proofs.Common.{◌≡◌, ◌∙◌, ℕ, zero, suc, ◌+◌, ◌<◌, ◌≤◌, Bool, true, false, ◌||◌, List, [], ◌∷◌, ◌++◌, map, filter, filter_map, flat_map, length, take, slice_get, slice_set, Option, Some, None, refl, sym, ap, ap₂, subst, inl, inr, arith, append_assoc, append-nil, cond}
+use Rattle.std.proofs.Common.{◌≡◌, ◌∙◌, ℕ, zero, suc, ◌+◌, ◌<◌, ◌≤◌, Bool, true, false, ◌||◌, List, [], ◌∷◌, ◌++◌, map, filter, filter_map, flat_map, length, take, slice_get, slice_set, Option, Some, None, refl, sym, ap, ap₂, subst, inl, inr, arith, cond}
 use Rattle.std.proofs.lemmas.List.{take_all, length-map}
 use Rattle.std.proofs.lemmas.Bool.{or_right}
 use Rattle.rx_terms.specs.Text.{Chars}
-use Rattle.rx_terms.specs.declared.triples.Triple.{Triple as CodeTriple}
 use Rattle.rx_model.specs.Sets.{Among, contains}
 use Rattle.rx_model.specs.Terms.{Triple}
-use Rattle.rx_model.specs.Seen.{triple_seen, triples_seen}
 use Rattle.rx_model.proofs.Sets.{Among_cases, false_unless}
-use Rattle.rx_graph.proofs.SetLemmas.{seen_more}
-use Rattle.rx_pieces.specs.Writable.{WritableTriple, IsWritable}
 use Rattle.rx_notation.specs.Short.{Prefix, Prefixes, prefix_of, names_rise}
 use Rattle.rx_notation.specs.Layout.{iris_of, used, same_prefix, prefixes_used}
 use Rattle.rx_notation.proofs.Chosen.{Apart, names_apart, exact_prefixes}
@@ -17,6 +13,8 @@ use Rattle.rx_notation.proofs.Ordered.{rising}
 use Rattle.rx_turtle.specs.Shorts.{place_of, IsPlace}
 use Rattle.rx_turtle.specs.Uses.{marked, marked_all, unmarked, used_marks, chosen}
 use Rattle.rx_turtle.proofs.Finding.{place_is}
+use Rattle.rx_turtle.proofs.GroupLemmas.{mapped_more}
+use Rattle.rx_turtle.proofs.LineLemmas.{flat_map_last}
 
 -- ---- the loop over the triples
 
@@ -24,37 +22,39 @@ pub marked_both : (context : Prefixes) (marks : List Bool) (xs ys : List Chars) 
 marked_both context marks [] ys = refl
 marked_both context marks (x ∷ xs) ys = marked_both context (marked marks (place_of context x)) xs ys
 
-iris_more : (list : List (Triple ℕ)) (t : Triple ℕ) → flat_map iris_of (list ++ t ∷ []) ≡ flat_map iris_of list ++ iris_of t
-iris_more [] t = append-nil (iris_of t)
-iris_more (u ∷ list) t = ap (λ z. iris_of u ++ z) (iris_more list t) ∙ sym (append_assoc (iris_of u) (flat_map iris_of list) (iris_of t))
+-- the first of some things are looked at: the IRIs of each are marked, and each is fine
+module _ {A B : Type 0} (seen : A → B) (Fine : B → Type 0) where
+  abbrev pub AllFine : List A → Type 0
+  AllFine list = (b : B) → Among (map seen list) b → Fine b
 
--- the first triples are looked at
-pub record Looked (context : Prefixes) (start now : List Bool) (list : List CodeTriple) (i : ℕ) : Type 0 where
-  pub marks : now ≡ marked_all context start (flat_map iris_of (triples_seen (take i list)))
-  pub writable : (t : Triple ℕ) → Among (triples_seen (take i list)) t → WritableTriple None t
+  pub fine_more : (list : List A) (i : ℕ) (a : A) → slice_get list i ≡ Some a → Fine (seen a) → AllFine (take i list) → AllFine (take (i + 1) list)
+  fine_more list i a at fine h b m = elim (Among_cases (map seen (take i list)) (seen a ∷ []) b (subst (λ (z : List B). Among z b) (mapped_more seen list i a at) m)) [
+    | inl k ↦ h b k
+    | inr k ↦ elim k [ inl e ↦ subst Fine e fine | inr n ↦ absurd n ]
+  ]
 
-pub looked_start : (context : Prefixes) (start : List Bool) (list : List CodeTriple) → Looked context start start list 0
-looked_start context start list = record { marks = refl; writable = λ t m. absurd m }
+  pub fine_end : (list : List A) (i : ℕ) → length list ≤ i → AllFine (take i list) → AllFine list
+  fine_end list i past h b m = h b (subst (λ (z : List A). Among (map seen z) b) (sym (take_all i list past)) m)
 
-pub looked_more : (context : Prefixes) (start now next : List Bool) (list : List CodeTriple) (i : ℕ) (t : CodeTriple) → slice_get list i ≡ Some t → next ≡ marked_all context now (iris_of (triple_seen t)) → WritableTriple None (triple_seen t)
-    → Looked context start now list i → Looked context start next list (i + 1)
-looked_more context start now next list i t at turn writable h =
-    let more = seen_more list i t at in
-    record {
+  module _ (iris : B → List Chars) (context : Prefixes) (start : List Bool) where
+    pub record Looked (now : List Bool) (list : List A) (i : ℕ) : Type 0 where
+      pub marks : now ≡ marked_all context start (flat_map iris (map seen (take i list)))
+      pub fine : AllFine (take i list)
+
+    pub looked_start : (list : List A) → Looked start list 0
+    looked_start list = record { marks = refl; fine = λ b m. absurd m }
+
+    pub looked_more : (now next : List Bool) (list : List A) (i : ℕ) (a : A) → slice_get list i ≡ Some a → next ≡ marked_all context now (iris (seen a)) → Fine (seen a)
+        → Looked now list i → Looked next list (i + 1)
+    looked_more now next list i a at turn fine h = record {
       marks =
-          turn ∙ ap (λ z. marked_all context z (iris_of (triple_seen t))) h.marks ∙ sym (marked_both context start (flat_map iris_of (triples_seen (take i list))) (iris_of (triple_seen t)))
-          ∙ ap (marked_all context start) (sym (ap (flat_map iris_of) more ∙ iris_more (triples_seen (take i list)) (triple_seen t)));
-      writable = λ u m. elim (Among_cases (triples_seen (take i list)) (triple_seen t ∷ []) u (subst (λ (z : List (Triple ℕ)). Among z u) more m)) [
-        | inl k ↦ h.writable u k
-        | inr k ↦ elim k [ inl e ↦ subst (WritableTriple None) e writable | inr n ↦ absurd n ]
-      ];
+          turn ∙ ap (λ z. marked_all context z (iris (seen a))) h.marks ∙ sym (marked_both context start (flat_map iris (map seen (take i list))) (iris (seen a)))
+          ∙ ap (marked_all context start) (sym (ap (flat_map iris) (mapped_more seen list i a at) ∙ flat_map_last iris (map seen (take i list)) (seen a)));
+      fine = fine_more list i a at fine h.fine;
     }
 
-pub looked_marks : (context : Prefixes) (start now : List Bool) (list : List CodeTriple) (i : ℕ) → length list ≤ i → Looked context start now list i → now ≡ marked_all context start (flat_map iris_of (triples_seen list))
-looked_marks context start now list i past h = h.marks ∙ ap (λ z. marked_all context start (flat_map iris_of (triples_seen z))) (take_all i list past)
-
-pub looked_writable : (context : Prefixes) (start now : List Bool) (list : List CodeTriple) (i : ℕ) → length list ≤ i → Looked context start now list i → IsWritable (triples_seen list)
-looked_writable context start now list i past h = record { parts = λ t m. h.writable t (subst (λ (z : List CodeTriple). Among (triples_seen z) t) (sym (take_all i list past)) m) }
+    pub looked_marks : (now : List Bool) (list : List A) (i : ℕ) → length list ≤ i → Looked now list i → now ≡ marked_all context start (flat_map iris (map seen list))
+    looked_marks now list i past h = h.marks ∙ ap (λ (z : List A). marked_all context start (flat_map iris (map seen z))) (take_all i list past)
 
 -- ---- no marks
 
@@ -70,8 +70,8 @@ unmarked_turn context n old new within grows h = grows ∙ ap (λ z. z ++ false 
 
 -- ---- what the marks are
 
-module _ {A : Type 0} where
-  map_same : (f g : A → Bool) (list : List A) → ((a : A) → Among list a → f a ≡ g a) → map f list ≡ map g list
+module _ {A B : Type 0} where
+  pub map_same : (f g : A → B) (list : List A) → ((a : A) → Among list a → f a ≡ g a) → map f list ≡ map g list
   map_same f g [] h = refl
   map_same f g (x ∷ list) h = ap₂ ◌∷◌ (h x (inl refl)) (map_same f g list (λ a m. h a (inr m)))
 

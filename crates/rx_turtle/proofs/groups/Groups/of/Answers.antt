@@ -1,12 +1,12 @@
-use Rattle.std.proofs.Common.{◌∙◌, [], take, map, ap, sym, subst, arith, refl}
+use Rattle.std.proofs.Common.{◌∙◌, take, map, ap, sym, arith, refl}
 use Rattle.std.proofs.lemmas.Option.{slice_get_read}
 use Rattle.rx_turtle.specs.Groups.{keys_in}
 use Rattle.rx_turtle.proofs.GroupLemmas.{lent_seen}
-use Rattle.rx_turtle.proofs.TakenLemmas.{Taken, taken_none, taken_turn, taken_end, taken_once}
+use Rattle.rx_turtle.proofs.TakenLemmas.{taken_turn, taken_end, taken_once}
 use Rattle.rx_turtle.proofs.groups.Groups.of.Goals as goal
 
 pub loop-i-init : goal.loop-i-init
-loop-i-init c = (subst (Taken c.args.by []) (sym c.none-groups.ensures) (taken_none c.args.by), c.new-keys.ensures ∙ sym (ap keys_in c.none-groups.ensures))
+loop-i-init c = (c.none-groups.ensures, c.new-keys.ensures ∙ sym (ap keys_in c.none-groups.ensures))
 
 pub take-requires-clause-keys : goal.take-requires-clause-keys
 take-requires-clause-keys c = c.loop-i.invariant.1

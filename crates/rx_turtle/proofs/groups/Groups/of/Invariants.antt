@@ -1,8 +1,7 @@
 use Rattle.std.proofs.Common.{◌≡◌, take, map}
-use Rattle.rx_turtle.specs.Groups.{keys_in}
+use Rattle.rx_turtle.specs.Groups.{keys_in, grouped}
 use Rattle.rx_turtle.proofs.GroupLemmas.{lent_seen}
-use Rattle.rx_turtle.proofs.TakenLemmas.{Taken}
 use Rattle.rx_turtle.proofs.groups.Groups.of.Given as goal
 
 abbrev pub invariant-loop-i : goal.invariant-loop-i
-invariant-loop-i l = Taken l.by (map lent_seen (take l.i l.triples)) l.groups × (l.keys ≡ keys_in l.groups)
+invariant-loop-i l = (l.groups ≡ grouped l.by (map lent_seen (take l.i l.triples))) × (l.keys ≡ keys_in l.groups)
