@@ -1,11 +1,11 @@
 -- The triples of a list by subject and predicate.
-use Rattle.std.proofs.Common.{◌≡◌, ◌↔◌, ℕ, nat_eq, List, map, filter, flat_map, bytes_eq, refl, sym, subst}
+use Rattle.std.proofs.Common.{◌≡◌, ℕ, nat_eq, List, map, filter, bytes_eq, refl, sym, subst}
 use Rattle.rx_terms.specs.Text.{Chars}
 use Rattle.rx_terms.proofs.Bools.{same_truth}
 use Rattle.rx_model.specs.Sets.{Among, IsExact}
 use Rattle.rx_model.specs.Terms.{Node, Term, Triple, same_node}
 use Rattle.rx_model.specs.Copied.{spo}
-use Rattle.rx_model.proofs.Sets.{Among_filter, Among_of_filter, Among_map, Among_of_map, Among_flat_map, Among_of_flat_map, Among_distinct, Among_of_distinct}
+use Rattle.rx_model.proofs.Sets.{Among_filter, Among_of_filter, Among_map, Among_of_map, Among_distinct, Among_of_distinct}
 use Rattle.rx_model.proofs.Exact.{exact_texts, exact_nodes, exact_numbers}
 use Rattle.rx_shapes.specs.Subjects.{has_subject, has_predicate, subjects, about, predicates_of, objects_of}
 
@@ -57,20 +57,3 @@ module _ (list : List (Triple ℕ)) where
       let by = Among_of_filter (has_predicate p) (about list s) found.0 found.1 in
       let said = of_about s found.0 by.0 in
       subst (Among list) (triple_path found.0 s p o said.1 ((exact_texts found.0.predicate p).0 by.1) found.2) said.0
-
-  abbrev pub said_of : Node ℕ → Chars → List (Triple ℕ)
-  said_of s p = map (λ (o : Term ℕ). spo s p o) (objects_of list s p)
-
-  abbrev pub grouped : List (Triple ℕ)
-  grouped = flat_map (λ (s : Node ℕ). flat_map (said_of s) (predicates_of list s)) (subjects list)
-
-  pub grouped_same : (t : Triple ℕ) → Among list t ↔ Among grouped t
-  grouped_same t = (
-    λ m. Among_flat_map (λ (s : Node ℕ). flat_map (said_of s) (predicates_of list s)) (subjects list) t.subject t (subject_there t m)
-        (Among_flat_map (said_of t.subject) (predicates_of list t.subject) t.predicate t (predicate_there t m)
-        (Among_map (λ (o : Term ℕ). spo t.subject t.predicate o) (objects_of list t.subject t.predicate) t.object (object_there t m))),
-    λ m. let s = Among_of_flat_map (λ (s : Node ℕ). flat_map (said_of s) (predicates_of list s)) (subjects list) t m in
-        let p = Among_of_flat_map (said_of s.0) (predicates_of list s.0) t s.2 in
-        let o = Among_of_map (λ (o : Term ℕ). spo s.0 p.0 o) (objects_of list s.0 p.0) t p.2 in
-        subst (Among list) o.2 (object_says s.0 p.0 o.0 o.1),
-  )

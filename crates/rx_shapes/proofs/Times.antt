@@ -1,5 +1,5 @@
 -- How often a number stands in a list, and lists whose elements differ.
-use Rattle.std.proofs.Common.{◌≡◌, ◌∙◌, ◌≤◌, ℕ, zero, suc, ◌+◌, nat_eq, Bool, true, false, not, cond, bytes_eq, List, [], ◌∷◌, ◌++◌, map, filter, flat_map, length, refl, sym, ap, inl, inr, subst, true≢false, arith}
+use Rattle.std.proofs.Common.{◌≡◌, ◌∙◌, ◌≤◌, ℕ, ◌+◌, nat_eq, Bool, true, false, not, cond, List, [], ◌∷◌, ◌++◌, filter, refl, sym, ap, inl, inr, true≢false, arith}
 use Rattle.rx_model.specs.Sets.{Among, IsExact, distinct}
 use Rattle.rx_model.proofs.Sets.{Among_of_filter}
 use Rattle.rx_model.proofs.Exact.{exact_numbers}

@@ -1,6 +1,6 @@
 -- Which blank nodes a text can write where they are used: RDF 1.1 Turtle, 2.7 (nesting blank nodes) and 2.8
 -- (collections). The standard says how such a text is read; which nodes of a graph have which shape is our own.
-use Rattle.std.specs.Prelude.{◌≡◌, ◌⊎◌, ℕ, List, codes}
+use Rattle.std.specs.Prelude.{◌≡◌, ◌⊎◌, ℕ, List}
 use Rattle.rx_terms.specs.Text.{Chars}
 use Rattle.rx_model.specs.Terms.{Node, Iri, Blank, Term, Resource, Triple, Graph, set_of}
 use Rattle.rx_model.specs.Copied.{spo}
