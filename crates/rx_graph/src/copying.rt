@@ -20,11 +20,25 @@ pub fn copy_patterns(alloc: Global, triples: &TripleList) -> Result<Graph, NoMem
     ensures { IfOk result (λ graph. triples_seen graph ≡ copied nat_eq (triples_seen triples.now)) }
 {
     let patterns = Patterns::of(alloc, triples)?;
+    let set = treated(alloc, &patterns, triples);
+    drop(patterns);
+    Ok(Graph::of_set(set?))
+}
+
+/// What stands in place of each triple of the list, in order.
+fn treated<'a>(
+    alloc: Global,
+    patterns: &Patterns<'a>,
+    triples: &'a TripleList,
+) -> Result<TripleSet, NoMemory>
+    requires { patterns.now ≡ triples.now }
+    ensures { IfOk result (λ set. triples_seen set ≡ copied nat_eq (triples_seen triples.now)) }
+{
     let mut gathering = TripleSet::new(alloc, Keyed::by(Key::of(triples)));
     for i in 0..triples.len() {
         patterns.treat(alloc, triples.at(i), &mut gathering)?;
     }
-    Ok(Graph::of_set(gathering))
+    Ok(gathering)
 }
 
 /// The same of a list that is handed over: no triple is copied where none has the predicate rdfa:copy.

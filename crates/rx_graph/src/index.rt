@@ -45,18 +45,19 @@ impl<'a> Index<'a> {
         requires { ArePatterns (triples_seen triples.now) nodes }
         ensures { IfOk result (λ index. IsIndex (triples_seen triples.now) index.nodes index.roots index.lead index.nexts index.own) }
     {
-        let links = links(alloc, triples, &nodes)?;
-        let Joining { roots, tops } = join(alloc, &links)?;
-        let nexts = nexts(alloc, &links, &roots)?;
-        let own = own(alloc, triples, &nodes, &roots)?;
-        let lead = leading(alloc, &nexts, &own, &tops)?;
-        Ok(Index {
-            nodes,
-            roots,
-            lead,
-            nexts,
-            own,
-        })
+        match tables(alloc, triples, &nodes) {
+            Ok((roots, lead, nexts, own)) => Ok(Index {
+                nodes,
+                roots,
+                lead,
+                nexts,
+                own,
+            }),
+            Err(error) => {
+                drop(nodes);
+                Err(error)
+            }
+        }
     }
 
     /// What stands for the pattern.
@@ -120,6 +121,41 @@ impl<'a> Index<'a> {
         let places = self.content(alloc, from)?;
         rows.fill(from, places);
         Ok(())
+    }
+}
+
+/// What an index has beside its nodes: the root of each, what stands for each root, the roots that it leads to, and the
+/// places of what is given of those that it joins.
+fn tables<'a>(
+    alloc: Global,
+    triples: &'a TripleList,
+    nodes: &Nodes<'a>,
+) -> Result<(Marks, Marks, Rows, Rows), NoMemory>
+    requires { ArePatterns (triples_seen triples.now) nodes.now }
+    ensures { IfOk result (λ tables. IsIndex (triples_seen triples.now) nodes.now tables.0 tables.1 tables.2 tables.3) }
+{
+    let links = links(alloc, triples, nodes)?;
+    let Joining { roots, tops } = join(alloc, &links)?;
+    let nexts = nexts(alloc, &links, &roots)?;
+    drop(links);
+    let Ok(own) = own(alloc, triples, nodes, &roots) else {
+        drop(roots);
+        drop(tops);
+        drop(nexts);
+        return Err(NoMemory);
+    };
+    match leading(alloc, &nexts, &own, &tops) {
+        Ok(lead) => {
+            drop(tops);
+            Ok((roots, lead, nexts, own))
+        }
+        Err(error) => {
+            drop(roots);
+            drop(tops);
+            drop(nexts);
+            drop(own);
+            Err(error)
+        }
     }
 }
 

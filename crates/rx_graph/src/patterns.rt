@@ -45,15 +45,27 @@ impl<'a> Patterns<'a> {
         ensures { IfOk result (λ patterns. patterns ≡ triples.now) }
     {
         let nodes = pattern_nodes(alloc, triples)?;
-        let referenced = referenced(alloc, triples, &nodes)?;
-        let index = Index::of(alloc, triples, nodes)?;
-        let contents = index.contents(alloc, triples, &referenced)?;
-        Ok(Patterns {
-            triples,
-            referenced,
-            index,
-            contents,
-        })
+        let Ok(referenced) = referenced(alloc, triples, &nodes) else {
+            drop(nodes);
+            return Err(NoMemory);
+        };
+        let Ok(index) = Index::of(alloc, triples, nodes) else {
+            drop(referenced);
+            return Err(NoMemory);
+        };
+        match index.contents(alloc, triples, &referenced) {
+            Ok(contents) => Ok(Patterns {
+                triples,
+                referenced,
+                index,
+                contents,
+            }),
+            Err(error) => {
+                drop(index);
+                drop(referenced);
+                Err(error)
+            }
+        }
     }
 
     /// Adds what stands in place of a triple of the list.
