@@ -1,5 +1,5 @@
 //! The stack of contexts: the open elements that have their frames, and those of which nothing is said.
-ghost use Rattle.std.specs.Prelude.{◌≡◌, ◌<◌, ◌≤◌, ◌^◌, ◌+◌, ◌↔◌, ◌==◌, nat_le, true, false, [], None, Some, option_map, if◌then◌else◌, length, IfOk, OnOk, OnErr, IsOk, IsErr};
+ghost use Rattle.std.specs.Prelude.{◌≡◌, ◌∷◌, ◌<◌, ◌≤◌, ◌^◌, ◌+◌, ◌↔◌, ◌==◌, nat_le, true, false, [], None, Some, option_map, if◌then◌else◌, length, IfOk, OnOk, OnErr, IsOk, IsErr};
 ghost use Rattle.std.specs.Str.{chars};
 ghost use Rattle.rx_model.specs.Seen.{triples_seen, node_seen};
 ghost use Rattle.rx_model.specs.Terms.{Iri as named_by};
@@ -9,7 +9,7 @@ ghost use Rattle.rx_curie.specs.Seen.{facts_seen};
 ghost use Rattle.rx_eval.specs.Contexts.{context_seen};
 ghost use Rattle.rx_eval.specs.Keeping.{gathers_some, first_of, is_place};
 ghost use Rattle.rx_eval.specs.Opened.{handed_on, Opens, begun_state, read_text, skipped_state};
-ghost use Rattle.rx_eval.specs.OwnersSeen.{owners_seen};
+ghost use Rattle.rx_eval.specs.OwnersSeen.{owners_seen, owning};
 ghost use Rattle.rx_eval.specs.Entering.{begun_seen};
 ghost use Rattle.rx_eval.specs.Referring.{LetsWait, referred_by, referring_frame};
 ghost use Rattle.rx_eval.specs.Waits.{Shows};
@@ -64,6 +64,63 @@ pub(crate) struct Stack {
     out: TripleList,
     ended: bool,
     out_of_memory: bool,
+}
+
+/// What a new stack takes memory for.
+struct Begun {
+    page: EvaluationContext,
+    iris: OwnIris,
+    frames: Vec<Frame>,
+    labels: Labels,
+}
+
+/// What holds around the root: the page is subject and object, and the first owner of lists.
+fn around_root(alloc: Global, base: &Iri, lists: &mut Lists) -> Result<EvaluationContext, NoMemory>
+    requires { lists.old ≡ [] }
+    ensures context { IfOk result (λ context. context_seen context ≡ record { subject = named_by base.now; object = named_by base.now; hanging = []; owner = 0 }) }
+    ensures lists { OnOk result (owners_seen lists.new ≡ Some (owning (named_by base.now) []) ∷ []) }
+{
+    let page = Node::Iri(base.try_clone()?);
+    let owner = lists.start(page.try_clone()?)?;
+    Ok(EvaluationContext {
+        subject: page.try_clone()?,
+        object: page,
+        hanging: Hangings::of(alloc, Vec::new(alloc))?,
+        owner,
+    })
+}
+
+impl Begun {
+    fn of(alloc: Global, base: &Iri, lists: &mut Lists, levels: u32) -> Result<Begun, NoMemory>
+        requires { lists.old ≡ [] }
+        ensures page { IfOk result (λ begun. context_seen begun.page ≡ record { subject = named_by base.now; object = named_by base.now; hanging = []; owner = 0 }) }
+        ensures frames { IfOk result (λ begun. begun.frames.items ≡ []) }
+        ensures labels { IfOk result (λ begun. begun.labels ≡ []) }
+        ensures lists { OnOk result (owners_seen lists.new ≡ Some (owning (named_by base.now) []) ∷ []) }
+    {
+        let page = around_root(alloc, base, lists)?;
+        let Ok(iris) = OwnIris::new(alloc) else {
+            drop(page);
+            return Err(NoMemory);
+        };
+        let Ok(labels) = Labels::new(alloc) else {
+            drop(page);
+            drop(iris);
+            return Err(NoMemory);
+        };
+        let Ok(frames) = Vec::with_capacity(alloc, levels as usize) else {
+            drop(page);
+            drop(iris);
+            drop(labels);
+            return Err(NoMemory);
+        };
+        Ok(Begun {
+            page,
+            iris,
+            frames,
+            labels,
+        })
+    }
 }
 
 impl Model for Stack {
@@ -167,34 +224,43 @@ impl Stack {
     pub(crate) fn new(alloc: Global, base: Iri, levels: u32) -> Result<Stack, NoMemory>
         ensures { IfOk result (λ stack. stack ≡ begun_state base levels) }
     {
-        let page = Node::Iri(base.try_clone()?);
-        let mut lists = Lists::new(alloc)?;
-        let owner = lists.start(page.try_clone()?)?;
-        let page = EvaluationContext {
-            subject: page.try_clone()?,
-            object: page,
-            hanging: Hangings::of(alloc, Vec::new(alloc))?,
-            owner,
+        let Ok(mut lists) = Lists::new(alloc) else {
+            drop(base);
+            return Err(NoMemory);
         };
-        Ok(Stack {
-            alloc,
-            base: Base::of(base),
-            iris: OwnIris::new(alloc)?,
-            levels,
-            page,
-            depth: 0,
-            frames: Vec::with_capacity(alloc, levels as usize)?,
-            skipped: 0,
-            labels: Labels::new(alloc)?,
-            drawn: 0,
-            cells: CELLS,
-            lists,
-            text: TextStore::new(alloc),
-            outermost: None,
-            out: TripleList::new(alloc),
-            ended: false,
-            out_of_memory: false,
-        })
+        match Begun::of(alloc, &base, &mut lists, levels) {
+            Ok(
+                Begun {
+                    page,
+                    iris,
+                    frames,
+                    labels,
+                },
+            ) => Ok(Stack {
+                alloc,
+                base: Base::of(base),
+                iris,
+                levels,
+                page,
+                depth: 0,
+                frames,
+                skipped: 0,
+                labels,
+                drawn: 0,
+                cells: CELLS,
+                lists,
+                text: TextStore::new(alloc),
+                outermost: None,
+                out: TripleList::new(alloc),
+                ended: false,
+                out_of_memory: false,
+            }),
+            Err(error) => {
+                drop(base);
+                drop(lists);
+                Err(error)
+            }
+        }
     }
 
     /// Whether there are numbers for the blank nodes of one more element, whatever labels it has. Where nothing is said it has
