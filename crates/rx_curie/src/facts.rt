@@ -16,6 +16,7 @@ use rx_grammar::Kind;
 use rx_names::{Attributes, NamesView};
 use rx_tags::Tag;
 use rx_terms::{Iri, Iris, Lang, NoMemory, Text};
+use std::mem;
 
 /// The elements of which the rules speak by name (HTML+RDFa 1.1, section 3.1).
 #[derive(Clone, Copy, Debug, PartialEq, Eq)]
@@ -120,8 +121,13 @@ impl Facts {
         ensures kinds { IfErr result (λ why. is_for_meaning why ≡ true) }
     {
         let mut facts = Facts::none();
-        facts.renew(maker, tag, names)?;
-        Ok(facts)
+        match facts.renew(maker, tag, names) {
+            Ok(()) => Ok(facts),
+            Err(error) => {
+                drop(facts);
+                Err(error)
+            }
+        }
     }
 
     /// What a tag without attributes says, whose element the rules don't name and which is in no language: the facts into
@@ -185,7 +191,7 @@ impl Facts {
         ensures err { OnErr result (facts_seen self.new ≡ no_facts) }
     {
         if let Err(error) = self.read_attributes(maker, tag, names) {
-            *self = Facts::none();
+            drop(mem::replace(self, Facts::none()));
             return Err(error);
         }
         Ok(())
