@@ -67,7 +67,7 @@ pub(crate) struct Stack {
 }
 
 /// What a new stack takes memory for.
-struct Begun {
+struct StackParts {
     page: EvaluationContext,
     iris: OwnIris,
     frames: Vec<Frame>,
@@ -90,12 +90,12 @@ fn around_root(alloc: Global, base: &Iri, lists: &mut Lists) -> Result<Evaluatio
     })
 }
 
-impl Begun {
-    fn of(alloc: Global, base: &Iri, lists: &mut Lists, levels: u32) -> Result<Begun, NoMemory>
+impl StackParts {
+    fn of(alloc: Global, base: &Iri, lists: &mut Lists, levels: u32) -> Result<StackParts, NoMemory>
         requires { lists.old ≡ [] }
-        ensures page { IfOk result (λ begun. context_seen begun.page ≡ record { subject = named_by base.now; object = named_by base.now; hanging = []; owner = 0 }) }
-        ensures frames { IfOk result (λ begun. begun.frames.items ≡ []) }
-        ensures labels { IfOk result (λ begun. begun.labels ≡ []) }
+        ensures page { IfOk result (λ parts. context_seen parts.page ≡ record { subject = named_by base.now; object = named_by base.now; hanging = []; owner = 0 }) }
+        ensures frames { IfOk result (λ parts. parts.frames.items ≡ []) }
+        ensures labels { IfOk result (λ parts. parts.labels ≡ []) }
         ensures lists { OnOk result (owners_seen lists.new ≡ Some (owning (named_by base.now) []) ∷ []) }
     {
         let page = around_root(alloc, base, lists)?;
@@ -114,7 +114,7 @@ impl Begun {
             drop(labels);
             return Err(NoMemory);
         };
-        Ok(Begun {
+        Ok(StackParts {
             page,
             iris,
             frames,
@@ -228,9 +228,9 @@ impl Stack {
             drop(base);
             return Err(NoMemory);
         };
-        match Begun::of(alloc, &base, &mut lists, levels) {
+        match StackParts::of(alloc, &base, &mut lists, levels) {
             Ok(
-                Begun {
+                StackParts {
                     page,
                     iris,
                     frames,

@@ -20,13 +20,13 @@ pub fn copy_patterns(alloc: Global, triples: &TripleList) -> Result<Graph, NoMem
     ensures { IfOk result (λ graph. triples_seen graph ≡ copied nat_eq (triples_seen triples.now)) }
 {
     let patterns = Patterns::of(alloc, triples)?;
-    let set = treated(alloc, &patterns, triples);
+    let set = treat_each(alloc, &patterns, triples);
     drop(patterns);
     Ok(Graph::of_set(set?))
 }
 
 /// What stands in place of each triple of the list, in order.
-fn treated<'a>(
+fn treat_each<'a>(
     alloc: Global,
     patterns: &Patterns<'a>,
     triples: &'a TripleList,

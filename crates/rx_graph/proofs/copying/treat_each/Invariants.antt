@@ -3,7 +3,7 @@ use Rattle.rx_model.specs.Terms.{same_triple}
 use Rattle.rx_model.specs.Sets.{with_all}
 use Rattle.rx_model.specs.Seen.{triples_seen}
 use Rattle.rx_model.specs.Copied.{treated, edges}
-use Rattle.rx_graph.proofs.copying.treated.Given as goal
+use Rattle.rx_graph.proofs.copying.treat_each.Given as goal
 
 abbrev pub invariant-loop-i : goal.invariant-loop-i
 invariant-loop-i l = triples_seen l.gathering ≡ with_all (same_triple nat_eq) [] (flat_map (treated nat_eq (triples_seen l.triples) (edges nat_eq (triples_seen l.triples))) (triples_seen (take l.i l.triples)))

@@ -5,7 +5,7 @@ use Rattle.rx_model.specs.Sets.{with_all}
 use Rattle.rx_model.specs.Copied.{treated, edges}
 use Rattle.rx_model.specs.Seen.{triple_seen, triples_seen}
 use Rattle.rx_graph.proofs.PlaceLemmas.{treated_turn, treated_end}
-use Rattle.rx_graph.proofs.copying.treated.Goals as goal
+use Rattle.rx_graph.proofs.copying.treat_each.Goals as goal
 
 pub loop-i-preserved : goal.loop-i-preserved
 loop-i-preserved c = treated_turn c.args.triples.now c.loop-i.i c.at.result.now _ _ c.at.ensures
