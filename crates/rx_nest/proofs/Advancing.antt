@@ -67,16 +67,13 @@ pub record Turn (signs : List Sign) (d : EventKind) (owed : PendingEvents) (v : 
 
 own_turn : (o : TagAction) (v : Scanner) → Turn (own_signs o (last_tag v)) (first_own o).0 (first_own o).1 v
 own_turn own.Nothing v = record { signs_are = refl; begin_left = λ h. absurd (cc); quiet = refl; is_read = λ s bytes items t. a_tag t }
-own_turn own.Begin v = record { signs_are = refl; begin_left = λ h. absurd (cc); quiet = refl; is_read = λ s bytes items t. read_now t }
-own_turn own.Alone v = record { signs_are = refl; begin_left = λ h. absurd (cc); quiet = refl; is_read = λ s bytes items t. read_now t }
-own_turn own.Finish v = record { signs_are = refl; begin_left = λ h. absurd (cc); quiet = refl; is_read = λ s bytes items t. read_now t }
+own_turn _ v = record { signs_are = refl; begin_left = λ h. absurd (cc); quiet = refl; is_read = λ s bytes items t. read_now t }
 
 -- an own that begins no element lends nothing
 own_lends : (o : TagAction) (v : Scanner) → (owes_begin (Some o) ≡ true → LendsStart v) → DidLends (first_own o).0 v
-own_lends own.Nothing v h = tt
 own_lends own.Begin v h = h refl
 own_lends own.Alone v h = h refl
-own_lends own.Finish v h = tt
+own_lends _ v h = tt
 
 pub record Due (owed : PendingEvents) (d : EventKind) (next : PendingEvents) (v : Scanner) : Type 0 where
   pub signs_are : owed_signs owed (last_tag v) ≡ did_signs d v ++ owed_signs next (last_tag v)
@@ -177,9 +174,7 @@ passed_turn (tree_token.Tag told) s = by told.ends told.own refl refl
   where
     own_passed : (o : TagAction) → did_skipped (first_own o).0 ≡ true → left (first_own o).1 ≡ 0
     own_passed own.Nothing s = refl
-    own_passed own.Begin s = absurd (cc)
-    own_passed own.Finish s = absurd (cc)
-    own_passed own.Alone s = absurd (cc)
+    own_passed _ s = absurd (cc)
 
     by : (k : ℕ) (o : TagAction) → told.ends ≡ k → told.own ≡ o → Passed (tree_token.Tag told)
     by zero o e p =

@@ -34,12 +34,8 @@ no_row rows step reached e = by (first_row rows) e
     by (Some kind) w = absurd (cc)
 
 last_row : (a b d f g : Bool) (k l m n o : Kind) → first_row ((a, k) ∷ (b, l) ∷ (d, m) ∷ (f, n) ∷ (g, o) ∷ []) ≡ None → g ≡ false
-last_row true b d f g k l m n o e = absurd (cc)
-last_row false true d f g k l m n o e = absurd (cc)
-last_row false false true f g k l m n o e = absurd (cc)
-last_row false false false true g k l m n o e = absurd (cc)
-last_row false false false false true k l m n o e = absurd (cc)
 last_row false false false false false k l m n o e = refl
+last_row _ _ _ _ _ k l m n o e = absurd (cc)
 
 some_level : (depth : ℕ) → nat_le depth 0 ≡ false → 1 ≤ depth
 some_level depth e = grind (arith, nat_tests)

@@ -191,9 +191,7 @@ module _ (depth : ℕ) where
     where
       by : (flags : Flags) (signs : List Sign) (line : Line) → Along depth unbegun signs unbegun → length flags ≡ length line → line ≡ [] → Shown depth true (t ∷ line) (see (begins t hidden) flags signs)
       by [] signs [] a d e = record { along = along_one depth unbegun unbegun (inside 0) signs (begun t) a refl (omega (arith, l)); deep = refl; sized = omega (arith, l); well = (refl, tt); none = λ z. absurd (cc) }
-      by [] signs (u ∷ line) a d e = absurd (cc)
-      by (flag ∷ flags) signs [] a d e = absurd (cc)
-      by (flag ∷ flags) signs (u ∷ line) a d e = absurd (cc)
+      by _ signs _ a d e = absurd (cc)
 
 module _ (syntax : Syntax) (depth : ℕ) where
   -- elements that end by omission: the root never
@@ -360,9 +358,7 @@ module _ (syntax : Syntax) (depth : ℕ) where
           let is : record { next = record { line = []; phase = before true; drops = false }; events = [] } ≡ step = cc in
           subst (λ (x : Step). Held x.next (events ++ x.events)) is
           (record { has_begun = h.has_begun; shown = subst (λ x. Shown depth h.has_begun x (sees nothing_seen (events ++ []))) (h.shown.none at) (subst (λ es. Shown depth h.has_begun n.line (sees nothing_seen es)) (sym (append-nil events)) h.shown); phase_at = at })
-      by (before true) k d at = absurd (cc)
-      by within k d at = absurd (cc)
-      by after k d at = absurd (cc)
+      by _ k d at = absurd (cc)
 
   item_held : (n : Nesting) (events : List Event) (item : Item) (step : Step) → Held n events → nest_step syntax depth n item ≡ Ok step → Held step.next (events ++ step.events)
   item_held n events item step h e = by item.token e

@@ -167,9 +167,7 @@ module _ (syntax : Syntax) (limits : Limits) (bytes : List ℕ) (told : List Eve
 
       lead_phase : (p : Phase) → may_lead p ≡ true → p ≡ before false
       lead_phase (before false) h = refl
-      lead_phase (before true) h = absurd (cc)
-      lead_phase within h = absurd (cc)
-      lead_phase after h = absurd (cc)
+      lead_phase _ h = absurd (cc)
 
       phase_is : nest.phase ≡ before false
       phase_is = let b = o in lead_phase nest.phase (byte_leads syntax limits spot b.byte b.before (record { next = b.after; items = item ∷ [] }) item [] b.completes refl is)

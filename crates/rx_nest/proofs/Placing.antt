@@ -64,8 +64,7 @@ module _ (syntax : Syntax) (limits : Limits) (spot : Spot) (n : ℕ) where
   first_here : (t : Scanning) (after_return : Bool) (entry : Entry) (v : Verdict) → entry.last ≡ n → At n (told_first syntax limits spot after_return entry t v)
   first_here t after_return entry goes_on l = tt
   first_here t after_return entry (whole token) l = completed_here t after_return (item_of spot.inside token (t.run ++ entry ∷ [])) (item_last spot.inside token t.run entry ∙ l)
-  first_here t after_return entry (ended token) l = tt
-  first_here t after_return entry (refused kind) l = tt
+  first_here t after_return entry _ l = tt
 
   with_here : (item : Item) (x : Result Scanned Kind) → IsKept item.token → At n x → At n (with_item syntax limits spot item x)
   with_here item (Ok r) k h = ((λ t e. absurd (kept_no_tag item.token t k e)), h)
@@ -126,17 +125,14 @@ module _ (syntax : Syntax) (depth n : ℕ) where
 
   said_before : (p : Phase) (chars : Chars) → ToldBefore n (told p chars)
   said_before (before stood) chars = tt
-  said_before within chars = tt
-  said_before after chars = tt
+  said_before _ chars = tt
 
   text_before : (m : Nesting) (dropped : Bool) (chars : Chars) → ToldBefore n (text_step m dropped chars).events
   text_before m dropped chars = split (ToldBefore n) (m.drops && dropped) _ _ (λ e. tt) (λ e. said_before m.phase chars)
 
   doctype_before : (p : Phase) → StepBefore n (doctype_step p)
   doctype_before (before true) = tt
-  doctype_before (before false) = tt
-  doctype_before within = tt
-  doctype_before after = tt
+  doctype_before _ = tt
 
   pub item_before : (m : Nesting) (item : Item) → ((t : Tag) → item.token ≡ tag t → item.last < n) → StepBefore n (nest_step syntax depth m item)
   item_before m item h = by item.token h

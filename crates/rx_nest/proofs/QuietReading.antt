@@ -54,9 +54,8 @@ unlike held byte c d q e n l =
     again d = grind (arith, nat_tests)
 
 neither : (a b : Bool) → not (a || b) ≡ true → (a ≡ false) × (b ≡ false)
-neither true b h = absurd (cc)
-neither false true h = absurd (cc)
 neither false false h = (refl, refl)
+neither _ _ h = absurd (cc)
 
 pub record IsChar (token : Token) : Type 0 where
   value : ℕ
@@ -132,8 +131,7 @@ StepSays (Err kind) = Unit {0}
 
 told_says : (p : Phase) (chars : Chars) → AllSay (told_text p chars)
 told_says (before stood) chars = tt
-told_says within chars = tt
-told_says after chars = tt
+told_says _ chars = tt
 
 pub text_says : (n : Nesting) (dropped : Bool) (chars : Chars) → AllSay (text_step n dropped chars).events
 text_says n dropped chars = split AllSay (n.drops && dropped) _ _ (λ e. tt) (λ e. told_says n.phase chars)
@@ -217,14 +215,12 @@ module _ (syntax : Syntax) (limits : Limits) where
 -- the parts of a quiet piece are quiet
 
 pub quiet_take : (n : ℕ) (piece : List ℕ) → is_quiet piece ≡ true → is_quiet (take n piece) ≡ true
-quiet_take zero piece q = refl
-quiet_take (suc n) [] q = refl
 quiet_take (suc n) (x ∷ piece) q = let k = both (not (x == 60 || x == 38)) _ q in and_from (not (x == 60 || x == 38)) _ k.0 (quiet_take n piece k.1)
+quiet_take _ _ q = refl
 
 pub quiet_drop : (n : ℕ) (piece : List ℕ) → is_quiet piece ≡ true → is_quiet (drop n piece) ≡ true
-quiet_drop zero piece q = q
-quiet_drop (suc n) [] q = q
 quiet_drop (suc n) (x ∷ piece) q = quiet_drop n piece (both (not (x == 60 || x == 38)) _ q).1
+quiet_drop _ _ q = q
 
 -- nothing is due then, and no element begins or ends
 
@@ -253,13 +249,11 @@ none_owed owed t chars = by owed.ends owed.own chars
     by zero (Some own.Finish) (c ∷ chars) e = absurd (cc)
 
 calm_event : (e : Shown) (chars : Chars) (ys : List Sign) → map said chars ≡ event_signs e ++ ys → is_calm e ≡ true
-calm_event event.More chars ys h = refl
-calm_event event.Skipped chars ys h = refl
-calm_event (event.Text text) chars ys h = refl
 calm_event (event.Begin t) [] ys h = absurd (cc)
 calm_event (event.Begin t) (c ∷ chars) ys h = absurd (cc)
 calm_event event.Finish [] ys h = absurd (cc)
 calm_event event.Finish (c ∷ chars) ys h = absurd (cc)
+calm_event _ chars ys h = refl
 
 -- what a step does on a quiet piece
 pub record StepsQuietly (syntax : Syntax) (limits : Limits) (bytes piece : List ℕ) (n : ℕ) (e : Shown) (new : Nested) : Type 0 where

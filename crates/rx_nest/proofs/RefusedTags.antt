@@ -101,17 +101,14 @@ BareStep (Err kind) = Unit {0}
 module _ (syntax : Syntax) (depth : ℕ) where
   said_bare : (p : Phase) (chars : Chars) → Bare (told_text p chars)
   said_bare (before stood) chars = tt
-  said_bare within chars = tt
-  said_bare after chars = tt
+  said_bare _ chars = tt
 
   text_bare : (m : Nesting) (dropped : Bool) (chars : Chars) → Bare (text_step m dropped chars).events
   text_bare m dropped chars = split Bare (m.drops && dropped) _ _ (λ e. tt) (λ e. said_bare m.phase chars)
 
   doctype_bare : (p : Phase) → BareStep (doctype_step p)
   doctype_bare (before true) = tt
-  doctype_bare (before false) = tt
-  doctype_bare within = tt
-  doctype_bare after = tt
+  doctype_bare _ = tt
 
   -- a token begins no element with attributes, where no tag does
   pub item_bare : (m : Nesting) (item : Item) → ((t : Tag) → item.token ≡ tag t → BareStep (step_by syntax depth m item (tag t))) → BareStep (nest_step syntax depth m item)

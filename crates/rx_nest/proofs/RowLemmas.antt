@@ -11,12 +11,7 @@ use Rattle.rx_nest.proofs.NameLemmas.{are_ascii}
 
 pub row_ascii : (row : OmittedEnd) → are_ascii (row_seen row) ≡ true
 row_ascii Item = refl
-row_ascii Definition = refl
-row_ascii Paragraph = refl
-row_ascii Choice = refl
-row_ascii Part = refl
-row_ascii TableRow = refl
-row_ascii Cell = refl
+row_ascii _ = refl
 
 pub inside-chars : (bs : List ℕ) → IsUtf8 bs → inside_html bs ≡ inside_html (chars bs)
 inside-chars bs u =

@@ -244,9 +244,7 @@ module _ (syntax : Syntax) where
             marks = subst (λ es. Marks [] (sees nothing_seen es)) (sym (append-nil events)) (subst (λ x. Marks x (sees nothing_seen events)) (h.none false k) h.marks);
             none = λ stood w. refl;
           })
-      by (before true) k d = absurd (cc)
-      by within k d = absurd (cc)
-      by after k d = absurd (cc)
+      by _ k d = absurd (cc)
 
   item_held : (depth : ℕ) (n : Nesting) (events : List Event) (item : Item) (step : Step) → Held n events → nest_step syntax depth n item ≡ Ok step → Held step.next (events ++ step.events)
   item_held depth n events item step h e = by item.token e

@@ -134,8 +134,7 @@ module _ (syntax : Syntax) (depth : ℕ) (at : ℕ) where
     where
       by : (p : Phase) → BeginAt at (told_text p chars)
       by (before stood) = tt
-      by within = tt
-      by after = tt
+      by _ = tt
 
   ok_step : (x step : Step) → ◌≡◌ {A = Result Step Kind} (Ok x) (Ok step) → BeginAt at x.events → BeginAt at step.events
   ok_step x step e b = let same : x ≡ step = cc in subst (λ (y : Step). BeginAt at y.events) same b
@@ -153,9 +152,7 @@ module _ (syntax : Syntax) (depth : ℕ) (at : ℕ) where
 
       doctyped : (p : Phase) → doctype_step p ≡ Ok step → BeginAt at step.events
       doctyped (before false) w = ok_step (record { next = record { line = []; phase = before true; drops = false }; events = [] }) step w tt
-      doctyped (before true) w = absurd (cc)
-      doctyped within w = absurd (cc)
-      doctyped after w = absurd (cc)
+      doctyped _ w = absurd (cc)
 
       by : (token : Token) → item.token ≡ token → step_by syntax depth n item token ≡ Ok step → BeginAt at step.events
       by (tag t) is w = tagged t (first_row (tag_rows syntax depth n.line n.phase t)) is w
@@ -205,8 +202,7 @@ module _ (from to at : ℕ) (low : from ≤ at) (high : at < to) where
 
   split_begin : (event : Event) (events : List Event) → BeginAt at (event ∷ events) → BeginAt at (event ∷ []) × BeginAt at events
   split_begin (begins t hidden) events b = ((b.0, tt), b.1)
-  split_begin (says chars) events b = (tt, b)
-  split_begin finishes events b = (tt, b)
+  split_begin _ events b = (tt, b)
 
   seen_adds : (events : List Event) (sight : Sight) → BeginAt at events → Adds sight events from to
   seen_adds [] sight b = record { signs = []; are = sym (append-nil sight.signs); lie = tt }

@@ -41,14 +41,12 @@ rows_some (r ∷ rows) row kind h =
 
 -- the phase is told by what is kept
 ended_is : (b : Bool) (levels : Levels) (stood : Bool) → has_ended (phase_at b levels stood) ≡ (b && is_none_open levels)
-ended_is false levels stood = refl
-ended_is true [] stood = refl
 ended_is true (level ∷ levels) stood = refl
+ended_is _ _ stood = refl
 
 before_is : (b : Bool) (levels : Levels) (stood : Bool) → is_before (phase_at b levels stood) ≡ not b
-before_is false levels stood = refl
-before_is true [] stood = refl
 before_is true (level ∷ levels) stood = refl
+before_is _ _ stood = refl
 
 module _ (l : Lines) (n : Nesting) (f : Follows l n) where
   pub refusals_are : (t : Tag) → start_rows l.syntax l.depth n.line n.phase t ≡ start_refusals l t ++ (nat_le l.depth (length (kept_at_start t.name l.levels)), TooDeep) ∷ []
@@ -99,10 +97,9 @@ pub record Taken (l : Lines) (n : Nesting) (item : Item) (told : TagEffect) (new
 
 -- the phase after an element that is its start tag alone
 over_phase : (syntax : Syntax) (levels : Levels) (line : Line) (stood : Bool) → AreLevels syntax levels line → (over line).phase ≡ phase_at true levels stood
-over_phase syntax [] [] stood h = refl
 over_phase syntax [] (t ∷ above) stood h = elim h [ ]
 over_phase syntax (level ∷ levels) [] stood h = elim h [ ]
-over_phase syntax (level ∷ levels) (t ∷ above) stood h = refl
+over_phase syntax _ _ stood h = refl
 
 over_drops : (line : Line) → (over line).drops ≡ false
 over_drops [] = refl
@@ -240,9 +237,8 @@ module _ (syntax : Syntax) (levels : Levels) (line : Line) (are : AreLevels synt
     where
       go : (levels : Levels) (line : Line) → AreLevels syntax levels line → AreLevels syntax (drop 1 levels) (line_above line)
       go [] [] h = h
-      go [] (t ∷ above) h = elim h [ ]
-      go (level ∷ levels) [] h = elim h [ ]
       go (level ∷ levels) (t ∷ above) h = h.4
+      go _ _ h = elim h [ ]
 
 end_shows : (name : Chars) (levels : Levels) (signs : List Sign) (s : StartTag) → is_named name levels ≡ true
     → sees (record { flags = flags_of levels; signs = signs }) (finishes ∷ []) ≡ record { flags = flags_of (drop 1 levels); signs = signs ++ own_signs (own_of_end levels) s }

@@ -171,17 +171,14 @@ module _ (syntax : Syntax) (depth n : ℕ) where
 
   said_at : (p : Phase) (chars : Chars) → BeginAt n (told_text p chars)
   said_at (before stood) chars = tt
-  said_at within chars = tt
-  said_at after chars = tt
+  said_at _ chars = tt
 
   text_at : (m : Nesting) (dropped : Bool) (chars : Chars) → BeginAt n (text_step m dropped chars).events
   text_at m dropped chars = split (BeginAt n) (m.drops && dropped) _ _ (λ e. tt) (λ e. said_at m.phase chars)
 
   doctype_at : (p : Phase) → StepAt n (doctype_step p)
   doctype_at (before true) = tt
-  doctype_at (before false) = tt
-  doctype_at within = tt
-  doctype_at after = tt
+  doctype_at _ = tt
 
   item_at : (m : Nesting) (item : Item) → ((t : Tag) → item.token ≡ tag t → item.first ≡ n) → StepAt n (nest_step syntax depth m item)
   item_at m item h = by item.token h

@@ -27,9 +27,7 @@ paid_up owed t h = by owed.ends owed.own refl refl
   where
     no_own : (o : TagAction) → own_left (Some o) ≡ 0 → nests.owes_own (Some o) t ≡ []
     no_own own.Nothing e = refl
-    no_own own.Begin e = absurd (cc)
-    no_own own.Alone e = absurd (cc)
-    no_own own.Finish e = absurd (cc)
+    no_own _ e = absurd (cc)
 
     by : (k : ℕ) (o : Option TagAction) → owed.ends ≡ k → owed.own ≡ o → nests.owed_signs owed t ≡ []
     by zero None e p = rw (e, p) refl
