@@ -9,7 +9,7 @@ use Rattle.rx_grammar.specs.Begun.{Phase, before, within, after}
 use Rattle.rx_pages.specs.Nesting.{Event, Nesting, Step, nest_step, step_by, doctype_step}
 use Rattle.rx_pages.specs.PageReader.{spot_of, Scanned, read_byte, Progress, with_events, step_on, steps_on, no_step, progress_of, nested_items, telling, page_byte_on}
 use Rattle.rx_nest.proofs.QuietReading.{AllSay, say_append, StepSays, text_says}
-use Rattle.rx_nest.proofs.RefusedTags.{HasNoTag, Where, byte_where}
+use Rattle.rx_nest.proofs.TokenPlacing.{After, HasNoTag, Where, byte_tags}
 
 module _ (syntax : Syntax) (depth : ℕ) where
   doctype_alone : (p : Phase) → StepSays (doctype_step p)
@@ -46,16 +46,16 @@ pub data Settles (p q : Progress) : Type 0 where
 
 pub byte_settles : (syntax : Syntax) (limits : Limits) (byte : ℕ) (p q : Progress) → page_byte_on syntax limits (Ok p) byte ≡ Ok q → Settles p q
 byte_settles syntax limits byte p q e =
-    by (read_byte syntax limits (spot_of syntax p.now.nest) byte p.now.scan) (byte_where syntax limits (spot_of syntax p.now.nest) p.now.scan byte) e
+    by (read_byte syntax limits (spot_of syntax p.now.nest) byte p.now.scan) (byte_tags syntax limits (spot_of syntax p.now.nest) p.now.scan byte) e
   where
-    on : (scanned : Scanned) → Where (Ok scanned) → (x : Result Step Kind) → (HasNoTag scanned.items → StepSays x) → telling p.told (progress_of p.now.scan scanned.next x) ≡ Ok q → Settles p q
+    on : (scanned : Scanned) → Where scanned → (x : Result Step Kind) → (HasNoTag scanned.items → StepSays x) → telling p.told (progress_of p.now.scan scanned.next x) ≡ Ok q → Settles p q
     on scanned w (Err kind) b k = absurd (cc)
     on scanned w (Ok step) b k =
         let is : ◌≡◌ {A = Progress} (record { now = record { scan = scanned.next; nest = step.next }; told = p.told ++ step.events }) q = cc in
         ⊎_elim (λ n. says_more step.events (ap (λ (x : Progress). x.told) (sym is)) (b n))
         (λ s. settled (ap (λ (x : Progress). x.now.scan.run) (sym is) ∙ s.0) (ap (λ (x : Progress). x.now.scan.held) (sym is) ∙ s.1)) w
 
-    by : (x : Result Scanned Kind) → Where x → telling p.told (nested_items syntax limits.depth p.now x) ≡ Ok q → Settles p q
+    by : (x : Result Scanned Kind) → After p.now.scan x → telling p.told (nested_items syntax limits.depth p.now x) ≡ Ok q → Settles p q
     by (Ok scanned) w k =
-        on scanned w (steps_on syntax limits.depth (Ok (no_step p.now.nest)) scanned.items) (λ n. items_alone syntax limits.depth scanned.items n (Ok (no_step p.now.nest)) tt) k
+        on scanned w.settles (steps_on syntax limits.depth (Ok (no_step p.now.nest)) scanned.items) (λ n. items_alone syntax limits.depth scanned.items n (Ok (no_step p.now.nest)) tt) k
     by (Err kind) w k = absurd (cc)

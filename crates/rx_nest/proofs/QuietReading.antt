@@ -19,7 +19,7 @@ use Rattle.rx_grammar.specs.declared.limits.Limits.{Limits}
 use Rattle.rx_grammar.specs.Tokens.{Token, character}
 use Rattle.rx_grammar.specs.Spelling.{has_references, is_text}
 use Rattle.rx_grammar.specs.Items.{values, Item, is_literal, is_line_feed}
-use Rattle.rx_grammar.specs.Begun.{Phase, before, within, after}
+use Rattle.rx_grammar.specs.Begun.{Phase, before}
 use Rattle.rx_grammar.specs.Trees.{StartTag}
 use Rattle.rx_pages.specs.Scanner.{Verdict, goes_on, whole, ended, refused, verdict, at_first}
 use Rattle.rx_pages.specs.Nesting.{Event, begins, says, finishes, Nesting, Step, nest_step, step_by, text_step, told as told_text}

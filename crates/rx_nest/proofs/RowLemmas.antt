@@ -6,7 +6,7 @@ use Rattle.rx_terms.proofs.CharLemmas.{same-ascii}
 use Rattle.rx_grammar.specs.Contents.{inside_html}
 use Rattle.rx_nest.specs.Rows.{row_seen}
 use Rattle.rx_nest.specs.declared.tables.OmittedEnd.{OmittedEnd}
-use Rattle.rx_nest.specs.declared.tables.OmittedEnd.TheVariants.{Item, Definition, Paragraph, Choice, Part, TableRow, Cell}
+use Rattle.rx_nest.specs.declared.tables.OmittedEnd.TheVariants.{Item}
 use Rattle.rx_nest.proofs.NameLemmas.{are_ascii}
 
 pub row_ascii : (row : OmittedEnd) → are_ascii (row_seen row) ≡ true

@@ -32,7 +32,7 @@ module _ (syntax : Syntax) (limits : Limits) where
   found_behind bytes fault f spot rest =
       found_fault syntax limits (bytes ++ rest) fault (ap end_of (page_append syntax limits spot (Ok nothing_read) bytes rest ∙ (ap (λ x. page_on syntax limits x rest) f ∙ fault_stays syntax limits fault rest)))
 
-  take_front : (front more : List ℕ) → take (length front) (front ++ more) ≡ front
+  pub take_front : (front more : List ℕ) → take (length front) (front ++ more) ≡ front
   take_front [] more = refl
   take_front (x ∷ front) more = ap (λ z. x ∷ z) (take_front front more)
 
