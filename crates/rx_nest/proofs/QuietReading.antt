@@ -11,7 +11,7 @@ use Rattle.rx_chars.specs.declared.utf8.Utf8Step.{Utf8Step}
 use Rattle.rx_chars.specs.declared.utf8.Utf8Step.TheVariants.{More, Char, Bad}
 use Rattle.rx_chars.specs.Utf8.{answer_of}
 use Rattle.rx_chars.specs.Characters.{Entry, byte_order_mark, line_feed, carriage_return, as_line_end}
-use Rattle.rx_terms.proofs.Bools.{by_test, split, both}
+use Rattle.rx_terms.proofs.Bools.{by_test, split, both, neither, untrue}
 use Rattle.rx_grammar.specs.declared.contents.Content.{Content}
 use Rattle.rx_grammar.specs.declared.faults.Fault.{Fault}
 use Rattle.rx_grammar.specs.declared.faults.Kind.{Kind}
@@ -52,10 +52,6 @@ unlike held byte c d q e n l =
   where
     again : (d : ℕ) → (d == d) ≡ true
     again d = grind (arith, nat_tests)
-
-neither : (a b : Bool) → not (a || b) ≡ true → (a ≡ false) × (b ≡ false)
-neither false false h = (refl, refl)
-neither _ _ h = absurd (cc)
 
 pub record IsChar (token : Token) : Type 0 where
   value : ℕ
@@ -106,7 +102,7 @@ module _ (syntax : Syntax) (limits : Limits) (spot : Spot) where
       by Bad k = tt
       by More k = split Calm (is_too_long syntax limits spot s.run (token_at s) s.at) _ _ (λ m. tt) (λ m. (e, tt))
       by (Char c) k =
-          let n = neither (byte == 60) (byte == 38) q in
+          let n = neither (byte == 60) (byte == 38) (untrue (byte == 60 || byte == 38) q) in
           split Calm (c == 0) _ _ (λ m. tt)
           (λ m. split Calm (is_too_long syntax limits spot s.run (token_at s) s.at) _ _ (λ o. tt)
           (λ o. char_calm s c e (unlike s.held byte c 60 n.0 k refl (lit< tt)) (unlike s.held byte c 38 n.1 k refl (lit< tt))))
