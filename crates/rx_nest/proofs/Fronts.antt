@@ -45,11 +45,8 @@ first_passes true kind rows e = absurd (cc)
 first_passes false kind rows e = (refl, e)
 
 pub first_and_last : (a b d f g : Bool) (k l m n o : Kind) → first_row ((a, k) ∷ (b, l) ∷ (d, m) ∷ (f, n) ∷ (g, o) ∷ []) ≡ None → (a ≡ false) × (g ≡ false)
-first_and_last true b d f g k l m n o e = absurd (cc)
-first_and_last false true d f g k l m n o e = absurd (cc)
-first_and_last false false true f g k l m n o e = absurd (cc)
-first_and_last false false false true g k l m n o e = absurd (cc)
-first_and_last false false false false g k l m n o e = (refl, (first_passes g o [] e).0)
+first_and_last false false false false false k l m n o e = (refl, refl)
+first_and_last _ _ _ _ _ k l m n o e = absurd (cc)
 
 is_so : (b : Bool) → not b ≡ false → b ≡ true
 is_so true e = refl
@@ -182,9 +179,7 @@ module _ (depth : ℕ) where
     where
       by : (flags : Flags) (signs : List Sign) (line : Line) → Along depth unbegun signs unbegun → length flags ≡ length line → line ≡ [] → Shown depth true (t ∷ line) (see (begins t hidden) flags signs)
       by [] signs [] a d e = record { along = along_one depth unbegun unbegun (inside 0) signs (begun t) a refl (omega (arith, l)); deep = refl; sized = omega (arith, l); well = (refl, tt); none = λ z. absurd (cc) }
-      by [] signs (u ∷ line) a d e = absurd (cc)
-      by (flag ∷ flags) signs [] a d e = absurd (cc)
-      by (flag ∷ flags) signs (u ∷ line) a d e = absurd (cc)
+      by _ signs _ a d e = absurd (cc)
 
 module _ (syntax : Syntax) (depth : ℕ) where
   -- elements that end by omission: the root never

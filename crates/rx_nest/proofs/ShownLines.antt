@@ -45,9 +45,7 @@ module _ (syntax : Syntax) (limits : Limits) (holds : Nesting → List Event →
       where
         by : (b : Bool) (p : Phase) → n.phase ≡ p → holds (going_on n) (events ++ (if b then [] else told p chars))
         by false within e = on.saying n events chars e h
-        by false (before stood) e = on.quiet n (going_on n) events refl refl h
-        by false after e = on.quiet n (going_on n) events refl refl h
-        by true p e = on.quiet n (going_on n) events refl refl h
+        by _ _ e = on.quiet n (going_on n) events refl refl h
 
     item_holds : (n : Nesting) (events : List Event) (item : Item) → holds n events → Behind events (nest_step syntax limits.depth n item)
     item_holds n events item h = by item.token
@@ -58,9 +56,7 @@ module _ (syntax : Syntax) (limits : Limits) (holds : Nesting → List Event →
 
         stood : (p : Phase) → n.phase ≡ p → Behind events (doctype_step p)
         stood (before false) e = on.standing n events e h
-        stood (before true) e = tt
-        stood within e = tt
-        stood after e = tt
+        stood _ e = tt
 
         by : (token : Token) → Behind events (step_by syntax limits.depth n item token)
         by (tag t) = tagged t (first_row (tag_rows syntax limits.depth n.line n.phase t)) refl

@@ -201,8 +201,7 @@ module _ (Such : StartTag → Type 0) where
 
   both_begin : (event : Event) (events : List Event) → AllBegin (event ∷ events) → AllBegin (event ∷ []) × AllBegin events
   both_begin (begins t hidden) events b = ((b.0, tt), b.1)
-  both_begin (says chars) events b = (tt, b)
-  both_begin finishes events b = (tt, b)
+  both_begin _ events b = (tt, b)
 
   pub all_add : (events : List Event) (sight : Sight) → AllBegin events → Adds sight.signs (sees sight events).signs
   all_add [] sight b = record { signs = []; are = sym (append-nil sight.signs); begun_so = tt }
@@ -261,17 +260,14 @@ module _ (Such : StartTag → Type 0) (syntax : Syntax) (depth : ℕ) where
 
   said_at : (p : Phase) (chars : Chars) → AllBegin Such (told_text p chars)
   said_at (before stood) chars = tt
-  said_at within chars = tt
-  said_at after chars = tt
+  said_at _ chars = tt
 
   text_at : (m : Nesting) (dropped : Bool) (chars : Chars) → AllBegin Such (text_step m dropped chars).events
   text_at m dropped chars = split (AllBegin Such) (m.drops && dropped) _ _ (λ e. tt) (λ e. said_at m.phase chars)
 
   doctype_at : (p : Phase) → StepBegins Such (doctype_step p)
   doctype_at (before true) = tt
-  doctype_at (before false) = tt
-  doctype_at within = tt
-  doctype_at after = tt
+  doctype_at _ = tt
 
   pub item_such : (m : Nesting) (item : Item) → ((t : Tag) → item.token ≡ tag t → Such (start_of item t)) → StepBegins Such (nest_step syntax depth m item)
   item_such m item h = by item.token h
