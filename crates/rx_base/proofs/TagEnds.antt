@@ -14,9 +14,7 @@ use Rattle.rx_nest.proofs.TokenPlacing.{After, HasNoTag, Where, byte_tags}
 module _ (syntax : Syntax) (depth : ℕ) where
   doctype_alone : (p : Phase) → StepSays (doctype_step p)
   doctype_alone (before true) = tt
-  doctype_alone (before false) = tt
-  doctype_alone within = tt
-  doctype_alone after = tt
+  doctype_alone _ = tt
 
   item_alone : (m : Nesting) (item : Item) → ((t : Tag) → item.token ≡ tag t → ⊥) → StepSays (nest_step syntax depth m item)
   item_alone m item h = by item.token h
