@@ -12,7 +12,7 @@ use Rattle.rx_grammar.specs.Trees.{Tree, end, element}
 use Rattle.rx_grammar.specs.Pages.{Page}
 use Rattle.rx_grammar.specs.Begun.{Line, Phase}
 use Rattle.rx_pages.specs.Closings.{closing, closed, IsWide}
-use Rattle.rx_pages.specs.Nesting.{Event, begins, says, finishes}
+use Rattle.rx_pages.specs.Nesting.{Event, says}
 use Rattle.rx_pages.specs.PageReader.{spot_of, Progress, page_byte_on, page_on, page_read, nothing_read}
 use Rattle.rx_pages.proofs.Closings.{fronts_close}
 use Rattle.rx_pages.proofs.FaultWalk.{fault_stays}

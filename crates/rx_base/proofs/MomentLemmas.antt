@@ -1,7 +1,6 @@
 -- The seeking knows the base from the first of the moments on.
 use Rattle.std.proofs.Common.{◌≡◌, ◌∙◌, ℕ, suc, ◌≤◌, Bool, true, false, List, [], ◌∷◌, ◌++◌, length, refl, sym, ap, subst, append_assoc, append-nil, Option, Some, None, codes, bytes_eq, arith}
 use Rattle.std.proofs.lemmas.List.{length-append}
-use Rattle.std.proofs.lemmas.Bool.Decides.{nat_tests}
 use Rattle.std.specs.Prelude.{◌==◌, if◌then◌else◌}
 use Rattle.rx_terms.specs.Text.{Chars}
 use Rattle.rx_grammar.specs.Trees.{StartTag}
@@ -12,7 +11,7 @@ use Rattle.rx_rdfa.specs.Pages.{read_tag}
 use Rattle.rx_base.specs.Seekings.{Seeking, first_child, base_child, known, base_href, known_by, seek, seeks, sought}
 use Rattle.rx_base.specs.Moments.{children_on, children_of, Moment, base_begins, head_ends, body_begins, page_ends, MomentAt, NoneAmong, IsKnown, KnowsAtTheFirstMoment}
 use Rattle.rx_base.proofs.Lines.{line_append}
-use Rattle.rx_base.proofs.Found.{known_stays}
+use Rattle.rx_base.proofs.Found.{known_stays, not_two}
 
 children_append : (line children : List Tag) (xs ys : List Sign) → children_of line children (xs ++ ys) ≡ children_of (line_of line xs) (children_of line children xs) ys
 children_append line children [] ys = refl
@@ -50,9 +49,6 @@ none_head t _ e k h = absurd (cc)
 none_base : {line children : List Tag} {sign : Sign} {href : Option Chars} (t : StartTag) (head : Tag) → Moment line children sign href → children ≡ head ∷ [] → sign ≡ begun t → base_href (read_tag t) ≡ None → ⊥
 none_base t head (base_begins root other u href n b) e k h = (let same : u ≡ t = cc in let w : None ≡ Some href = sym h ∙ (ap (λ (x : StartTag). base_href (read_tag x)) (sym same) ∙ b) in cc)
 none_base t head _ e k h = absurd (cc)
-
-not_two : (n : ℕ) → (suc (suc (suc n)) == 2) ≡ false
-not_two n = grind (arith, nat_tests)
 
 deep_length : (x : Tag) (below : List Tag) (root head : Tag) → length (x ∷ (below ++ (head ∷ root ∷ []))) ≡ suc (suc (suc (length below)))
 deep_length x below root head = let l = length-append below (head ∷ root ∷ []) in omega arith

@@ -1,6 +1,5 @@
 -- Names that stand in no table, or in one alone.
 use Rattle.std.proofs.Common.{◌≡◌, true, List, [], ◌∷◌, refl, sym, subst, ⊎_elim}
-use Rattle.std.specs.Prelude.{codes}
 use Rattle.std.proofs.lemmas.Bool.{or_cases}
 use Rattle.rx_terms.specs.Text.{Chars}
 use Rattle.rx_grammar.specs.Names.{is_among, same}
@@ -17,34 +16,76 @@ each Holds (word ∷ words) all name h =
     ⊎_elim (λ e. subst Holds (sym (same_is name word e)) all.0) (λ e. each Holds words all.1 name e) (or_cases (same name word) (is_among words name) h)
 
 all_ordinary : AllAre IsOrdinary ordinary_names
-all_ordinary =
-    (record { plain = record { filled = refl; rootless = refl; inside = refl; seen = refl; whole = refl }; row = refl; free = refl },
-    (record { plain = record { filled = refl; rootless = refl; inside = refl; seen = refl; whole = refl }; row = refl; free = refl },
-    (record { plain = record { filled = refl; rootless = refl; inside = refl; seen = refl; whole = refl }; row = refl; free = refl },
-    (record { plain = record { filled = refl; rootless = refl; inside = refl; seen = refl; whole = refl }; row = refl; free = refl },
-    (record { plain = record { filled = refl; rootless = refl; inside = refl; seen = refl; whole = refl }; row = refl; free = refl },
-    (record { plain = record { filled = refl; rootless = refl; inside = refl; seen = refl; whole = refl }; row = refl; free = refl },
-    (record { plain = record { filled = refl; rootless = refl; inside = refl; seen = refl; whole = refl }; row = refl; free = refl },
-    (record { plain = record { filled = refl; rootless = refl; inside = refl; seen = refl; whole = refl }; row = refl; free = refl },
-    (record { plain = record { filled = refl; rootless = refl; inside = refl; seen = refl; whole = refl }; row = refl; free = refl },
-    (record { plain = record { filled = refl; rootless = refl; inside = refl; seen = refl; whole = refl }; row = refl; free = refl },
-    (record { plain = record { filled = refl; rootless = refl; inside = refl; seen = refl; whole = refl }; row = refl; free = refl },
-    (record { plain = record { filled = refl; rootless = refl; inside = refl; seen = refl; whole = refl }; row = refl; free = refl },
-    (record { plain = record { filled = refl; rootless = refl; inside = refl; seen = refl; whole = refl }; row = refl; free = refl },
-    (record { plain = record { filled = refl; rootless = refl; inside = refl; seen = refl; whole = refl }; row = refl; free = refl },
-    (record { plain = record { filled = refl; rootless = refl; inside = refl; seen = refl; whole = refl }; row = refl; free = refl },
-    tt)))))))))))))))
+all_ordinary = (
+  record { plain = record { filled = refl; rootless = refl; inside = refl; seen = refl; whole = refl }; row = refl; free = refl },
+  (
+    record { plain = record { filled = refl; rootless = refl; inside = refl; seen = refl; whole = refl }; row = refl; free = refl },
+    (
+      record { plain = record { filled = refl; rootless = refl; inside = refl; seen = refl; whole = refl }; row = refl; free = refl },
+      (
+        record { plain = record { filled = refl; rootless = refl; inside = refl; seen = refl; whole = refl }; row = refl; free = refl },
+        (
+          record { plain = record { filled = refl; rootless = refl; inside = refl; seen = refl; whole = refl }; row = refl; free = refl },
+          (
+            record { plain = record { filled = refl; rootless = refl; inside = refl; seen = refl; whole = refl }; row = refl; free = refl },
+            (
+              record { plain = record { filled = refl; rootless = refl; inside = refl; seen = refl; whole = refl }; row = refl; free = refl },
+              (
+                record { plain = record { filled = refl; rootless = refl; inside = refl; seen = refl; whole = refl }; row = refl; free = refl },
+                (
+                  record { plain = record { filled = refl; rootless = refl; inside = refl; seen = refl; whole = refl }; row = refl; free = refl },
+                  (
+                    record { plain = record { filled = refl; rootless = refl; inside = refl; seen = refl; whole = refl }; row = refl; free = refl },
+                    (
+                      record { plain = record { filled = refl; rootless = refl; inside = refl; seen = refl; whole = refl }; row = refl; free = refl },
+                      (
+                        record { plain = record { filled = refl; rootless = refl; inside = refl; seen = refl; whole = refl }; row = refl; free = refl },
+                        (
+                          record { plain = record { filled = refl; rootless = refl; inside = refl; seen = refl; whole = refl }; row = refl; free = refl },
+                          (
+                            record { plain = record { filled = refl; rootless = refl; inside = refl; seen = refl; whole = refl }; row = refl; free = refl },
+                            (
+                              record { plain = record { filled = refl; rootless = refl; inside = refl; seen = refl; whole = refl }; row = refl; free = refl },
+                              tt,
+                            ),
+                          ),
+                        ),
+                      ),
+                    ),
+                  ),
+                ),
+              ),
+            ),
+          ),
+        ),
+      ),
+    ),
+  ),
+)
 
 all_plain : AllAre IsPlain omissible_names
-all_plain =
-    (record { filled = refl; rootless = refl; inside = refl; seen = refl; whole = refl },
-    (record { filled = refl; rootless = refl; inside = refl; seen = refl; whole = refl },
-    (record { filled = refl; rootless = refl; inside = refl; seen = refl; whole = refl },
-    (record { filled = refl; rootless = refl; inside = refl; seen = refl; whole = refl },
-    (record { filled = refl; rootless = refl; inside = refl; seen = refl; whole = refl },
-    (record { filled = refl; rootless = refl; inside = refl; seen = refl; whole = refl },
-    (record { filled = refl; rootless = refl; inside = refl; seen = refl; whole = refl },
-    tt)))))))
+all_plain = (
+  record { filled = refl; rootless = refl; inside = refl; seen = refl; whole = refl },
+  (
+    record { filled = refl; rootless = refl; inside = refl; seen = refl; whole = refl },
+    (
+      record { filled = refl; rootless = refl; inside = refl; seen = refl; whole = refl },
+      (
+        record { filled = refl; rootless = refl; inside = refl; seen = refl; whole = refl },
+        (
+          record { filled = refl; rootless = refl; inside = refl; seen = refl; whole = refl },
+          (
+            record { filled = refl; rootless = refl; inside = refl; seen = refl; whole = refl },
+            (
+              record { filled = refl; rootless = refl; inside = refl; seen = refl; whole = refl },
+              tt,
+            ),
+          ),
+        ),
+      ),
+    ),
+  ),
+)
 
 pub ordinary : (name : Chars) → is_among ordinary_names name ≡ true → IsOrdinary name
 ordinary name h = each IsOrdinary ordinary_names all_ordinary name h

@@ -13,7 +13,7 @@ use Rattle.rx_grammar.specs.Contents.{is_alone, is_html, hides}
 use Rattle.rx_grammar.specs.Trees.{StartTag}
 use Rattle.rx_grammar.specs.Items.{Item, is_line_feed, start_of}
 use Rattle.rx_grammar.specs.Omission.{enders, is_omissible, is_held}
-use Rattle.rx_grammar.specs.Begun.{Line, inside_of, parent_of, Phase, before, within, after}
+use Rattle.rx_grammar.specs.Begun.{Line, inside_of, parent_of, Phase, before, within}
 use Rattle.rx_grammar.specs.PageFaults.{first_row, tag_rows, under_start, after_start, after_end}
 use Rattle.rx_pages.specs.Nesting.{Event, begins, says, finishes, Nesting, not_begun, Step, nest_step, step_by, unless_refused, tag_passes, begun_under, over, line_above, text_step, told, doctype_step, going_on, ended_by_start, ended_under, ended_by_end}
 use Rattle.rx_pages.specs.PageReader.{Scanned, Progress, spot_of, read_byte, with_events, step_on, steps_on, no_step, progress_of, nested_items, page_byte_on, telling, page_on, page_read, nothing_read}

@@ -21,7 +21,7 @@ use Rattle.rx_grammar.specs.Spelling.{has_references, is_text}
 use Rattle.rx_grammar.specs.Items.{start_of, values, Item, is_literal, is_line_feed}
 use Rattle.rx_grammar.specs.Names.{same, is_among}
 use Rattle.rx_grammar.specs.Omission.{enders, is_omissible, is_held}
-use Rattle.rx_grammar.specs.Begun.{Line, inside_of, parent_of, Phase, before, within, after}
+use Rattle.rx_grammar.specs.Begun.{Line, inside_of, parent_of, Phase, before}
 use Rattle.rx_grammar.specs.PageFaults.{first_row, tag_rows, under_start}
 use Rattle.rx_pages.specs.Closings.{IsFront}
 use Rattle.rx_pages.specs.Scanner.{Verdict, goes_on, whole, ended, refused, verdict, at_first}
