@@ -29,9 +29,8 @@ numbers_swap m n = grind (arith, nat_tests)
 
 pub same_swap : (a b : List ℕ) → same a b ≡ same b a
 same_swap [] [] = refl
-same_swap [] (x ∷ b) = refl
-same_swap (x ∷ a) [] = refl
 same_swap (x ∷ a) (y ∷ b) = rw (numbers_swap x y, same_swap a b) refl
+same_swap _ _ = refl
 
 without_append : (name : Chars) (xs ys : List Attribute) → without name (xs ++ ys) ≡ without name xs ++ without name ys
 without_append name [] ys = refl
@@ -60,10 +59,8 @@ firsts_same (y ∷ xs) x h =
     ap (λ rest. y ∷ without y.0 rest) (firsts_new xs x e) ∙ ap (λ rest. y ∷ rest) (without_append y.0 (firsts xs) (x ∷ []) ∙ rw back (append-nil (without y.0 (firsts xs)))))
 
 or_four : (a b c d : Bool) → ((a || b) || (c || d)) ≡ ((a || c) || (b || d))
-or_four true b c d = refl
 or_four false true true d = refl
-or_four false true false d = refl
-or_four false false c d = refl
+or_four _ _ _ d = refl
 
 pub repeat_more : (xs : List Attribute) (x : Attribute) → has_repeat (xs ++ x ∷ []) ≡ (has_repeat xs || has_name xs x.0)
 repeat_more [] x = refl
