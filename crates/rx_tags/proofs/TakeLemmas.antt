@@ -136,17 +136,14 @@ module _ (s : Syntax) (p : TagPhase) (name : Chars) (q : is_quoted p ≡ true) w
 
 -- a small letter of an attribute's name
 module _ (c : ℕ) (h : is_small c ≡ true) where
-  small_nc : is_nc c ≡ true
-  small_nc =
-      let low = small_from c h in
-      let parts = and_parts (nat_le 97 c) (nat_le c 122) h in
-      rw (le-leb 65 c (omega arith), lt-leb c 90 (omega arith), is_none is_small c 95 h refl, parts.0, parts.1) refl
-
   small_start : is_nc_start c ≡ true
   small_start =
       let low = small_from c h in
       let parts = and_parts (nat_le 97 c) (nat_le c 122) h in
       rw (le-leb 65 c (omega arith), lt-leb c 90 (omega arith), is_none is_small c 95 h refl, parts.0, parts.1) refl
+
+  small_nc : is_nc c ≡ true
+  small_nc = or_left _ _ (or_left _ _ (or_left _ _ (or_left _ _ (or_left _ _ (or_left (is_nc_start c) _ small_start)))))
 
   small_move : (s : Syntax) → move_of s phase.Key c ≡ go phase.Key action.Key
   small_move Html =
