@@ -3,6 +3,7 @@ use Rattle.std.proofs.Common.{◌≡◌, ◌∙◌, ℕ, suc, ◌≤◌, ◌<◌
 use Rattle.std.proofs.lemmas.Bool.Decides.{nat_tests}
 use Rattle.std.specs.Prelude.{not, ◌&&◌, ◌||◌, is_some, if◌then◌else◌}
 use Rattle.std.specs.Option.{option_or}
+use Rattle.std.proofs.Math.Bool.{or-false}
 use Rattle.rx_terms.specs.Text.{Chars}
 use Rattle.rx_grammar.specs.Trees.{StartTag, Tree, end, element, text}
 use Rattle.rx_rdfa.specs.Base.{first_href, head_href, root_href}
@@ -209,10 +210,6 @@ unknown : (s : Seeking) (href : Option Chars) (b : Bool) → s ≡ (if b then kn
 unknown s href true e = e
 unknown s href false e = λ other k. (let w : base_child ≡ known other = sym e ∙ k in cc)
 
-or_false : (b : Bool) → (b || false) ≡ b
-or_false true = refl
-or_false false = refl
-
 -- the children of the root
 abbrev Decides : ℕ → Tag → Tree → List Sign → Type 0
 Decides size root nodes zs = Gives (child_decides size (length (line_of (root ∷ []) zs)) nodes) (head_href (tags_of nodes)) (seeks (root ∷ []) first_child zs)
@@ -240,7 +237,7 @@ seeks_root {size = size} root (in_element t inside rest zs k u p) = by (is_head 
         let test : (nat_lt t.at size && (has_base size inside || (nat_le (length (line_of (read_tag t ∷ root ∷ []) zs)) 1 || has_begun size rest))) ≡ has_base size inside =
         ap (λ x. x && (has_base size inside || (nat_le (length (line_of (read_tag t ∷ root ∷ []) zs)) 1 || has_begun size rest))) (is_below t.at size k)
         ∙ (ap (λ x. has_base size inside || (x || has_begun size rest)) (isnt_most 1 (length (line_of (read_tag t ∷ root ∷ []) zs)) h)
-        ∙ (ap (λ x. has_base size inside || x) u ∙ or_false (has_base size inside))) in
+        ∙ (ap (λ x. has_base size inside || x) u ∙ or-false (has_base size inside))) in
         subst (λ x. Gives x (first_href (tags_of inside)) (seeks (read_tag t ∷ root ∷ []) base_child zs)) (sym test)
         (unknown (seeks (read_tag t ∷ root ∷ []) base_child zs) (first_href (tags_of inside)) (has_base size inside) (seeks_head (read_tag t) root p))
 seeks_root {size = size} root (past_element t inside rest zs k p) =

@@ -34,7 +34,7 @@ seeks_text line s chars rest =
     ∙ ap (λ x. seeks line x (signs_of rest)) (said_seeks line s chars)
 
 -- deeper than the head's children nothing is looked at
-not_two : (n : ℕ) → (suc (suc (suc n)) == 2) ≡ false
+pub not_two : (n : ℕ) → (suc (suc (suc n)) == 2) ≡ false
 not_two n = grind (arith, nat_tests)
 
 pub deep_begun : (n : ℕ) (t : StartTag) → seek (suc (suc (suc n))) base_child (begun t) ≡ base_child

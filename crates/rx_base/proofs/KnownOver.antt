@@ -12,7 +12,7 @@ use Rattle.rx_grammar.specs.Trees.{Tree, end, element}
 use Rattle.rx_grammar.specs.Pages.{Page}
 use Rattle.rx_grammar.specs.Begun.{Line, Phase}
 use Rattle.rx_pages.specs.Closings.{closing, closed, IsWide}
-use Rattle.rx_pages.specs.Nesting.{Event, begins, says, finishes}
+use Rattle.rx_pages.specs.Nesting.{Event, says}
 use Rattle.rx_pages.specs.PageReader.{spot_of, Progress, page_byte_on, page_on, page_read, nothing_read}
 use Rattle.rx_pages.proofs.Closings.{fronts_close}
 use Rattle.rx_pages.proofs.FaultWalk.{fault_stays}
@@ -53,9 +53,8 @@ said_sought false signs chars = seeks_append [] first_child signs (map said char
 
 says_sought : (events : List Event) (sight : Sight) → AllSay events → sought (sees sight events).signs ≡ sought sight.signs
 says_sought [] sight s = refl
-says_sought (begins t hidden ∷ events) sight s = elim s [ ]
 says_sought (says chars ∷ events) sight s = says_sought events (see (says chars) sight.flags sight.signs) s ∙ said_sought (is_hidden sight.flags) sight.signs chars
-says_sought (finishes ∷ events) sight s = elim s [ ]
+says_sought _ sight s = elim s [ ]
 
 module _ (syntax : Syntax) (limits : Limits) where
   -- ---- a front that decides the base

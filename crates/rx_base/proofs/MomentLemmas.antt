@@ -1,7 +1,6 @@
 -- The seeking knows the base from the first of the moments on.
 use Rattle.std.proofs.Common.{◌≡◌, ◌∙◌, ℕ, suc, ◌≤◌, Bool, true, false, List, [], ◌∷◌, ◌++◌, length, refl, sym, ap, subst, append_assoc, append-nil, Option, Some, None, codes, bytes_eq, arith}
 use Rattle.std.proofs.lemmas.List.{length-append}
-use Rattle.std.proofs.lemmas.Bool.Decides.{nat_tests}
 use Rattle.std.specs.Prelude.{◌==◌, if◌then◌else◌}
 use Rattle.rx_terms.specs.Text.{Chars}
 use Rattle.rx_grammar.specs.Trees.{StartTag}
@@ -12,7 +11,7 @@ use Rattle.rx_rdfa.specs.Pages.{read_tag}
 use Rattle.rx_base.specs.Seekings.{Seeking, first_child, base_child, known, base_href, known_by, seek, seeks, sought}
 use Rattle.rx_base.specs.Moments.{children_on, children_of, Moment, base_begins, head_ends, body_begins, page_ends, MomentAt, NoneAmong, IsKnown, KnowsAtTheFirstMoment}
 use Rattle.rx_base.proofs.Lines.{line_append}
-use Rattle.rx_base.proofs.Found.{known_stays}
+use Rattle.rx_base.proofs.Found.{known_stays, not_two}
 
 children_append : (line children : List Tag) (xs ys : List Sign) → children_of line children (xs ++ ys) ≡ children_of (line_of line xs) (children_of line children xs) ys
 children_append line children [] ys = refl
@@ -31,38 +30,25 @@ data Steps (line children : List Tag) (s : Seeking) (sign : Sign) : Type 0 where
 
 moment_short : {line children : List Tag} {sign : Sign} {href : Option Chars} → Moment line children sign href → length line ≤ 2
 moment_short (base_begins root head t href n b) = omega arith
-moment_short (head_ends root head n) = omega arith
-moment_short (body_begins root t n) = omega arith
-moment_short (page_ends root) = omega arith
+moment_short _ = omega arith
 
 moment_some : {line children : List Tag} {sign : Sign} {href : Option Chars} → Moment line children sign href → line ≡ [] → ⊥
 moment_some (base_begins root head t href n b) e = cc
-moment_some (head_ends root head n) e = cc
-moment_some (body_begins root t n) e = cc
-moment_some (page_ends root) e = cc
+moment_some _ e = cc
 
 none_said : {line children : List Tag} {sign : Sign} {href : Option Chars} (c : ℕ) → Moment line children sign href → sign ≡ said c → ⊥
 none_said c (base_begins root head t href n b) e = cc
-none_said c (head_ends root head n) e = cc
-none_said c (body_begins root t n) e = cc
-none_said c (page_ends root) e = cc
+none_said c _ e = cc
 
 -- in the root a child that is a head is none
 none_head : {line children : List Tag} {sign : Sign} {href : Option Chars} (t : StartTag) → Moment line children sign href → children ≡ [] → sign ≡ begun t → bytes_eq (read_tag t).name (codes "head") ≡ true → ⊥
-none_head t (base_begins root head u href n b) e k h = absurd (cc)
-none_head t (head_ends root head n) e k h = absurd (cc)
 none_head t (body_begins root u n) e k h = (let same : u ≡ t = cc in let w : true ≡ false = sym h ∙ (ap (λ (x : StartTag). bytes_eq (read_tag x).name (codes "head")) (sym same) ∙ n) in cc)
-none_head t (page_ends root) e k h = absurd (cc)
+none_head t _ e k h = absurd (cc)
 
 -- in the head a child that is never base is none
 none_base : {line children : List Tag} {sign : Sign} {href : Option Chars} (t : StartTag) (head : Tag) → Moment line children sign href → children ≡ head ∷ [] → sign ≡ begun t → base_href (read_tag t) ≡ None → ⊥
 none_base t head (base_begins root other u href n b) e k h = (let same : u ≡ t = cc in let w : None ≡ Some href = sym h ∙ (ap (λ (x : StartTag). base_href (read_tag x)) (sym same) ∙ b) in cc)
-none_base t head (head_ends root other n) e k h = absurd (cc)
-none_base t head (body_begins root u n) e k h = absurd (cc)
-none_base t head (page_ends root) e k h = absurd (cc)
-
-not_two : (n : ℕ) → (suc (suc (suc n)) == 2) ≡ false
-not_two n = grind (arith, nat_tests)
+none_base t head _ e k h = absurd (cc)
 
 deep_length : (x : Tag) (below : List Tag) (root head : Tag) → length (x ∷ (below ++ (head ∷ root ∷ []))) ≡ suc (suc (suc (length below)))
 deep_length x below root head = let l = length-append below (head ∷ root ∷ []) in omega arith
@@ -73,8 +59,7 @@ deep_child x (y ∷ below) root head children sign = refl
 
 by_unbegun : (sign : Sign) → Steps [] [] first_child sign
 by_unbegun (begun t) = goes_on (in_root (read_tag t) refl) (λ href m. moment_some m refl)
-by_unbegun (said c) = goes_on (unbegun refl) (λ href m. moment_some m refl)
-by_unbegun finished = goes_on (unbegun refl) (λ href m. moment_some m refl)
+by_unbegun _ = goes_on (unbegun refl) (λ href m. moment_some m refl)
 
 by_root : (root : Tag) (sign : Sign) → Steps (root ∷ []) [] first_child sign
 by_root root (said c) = goes_on (in_root root refl) (λ href m. none_said c m refl)
@@ -151,8 +136,7 @@ data Comes (signs : List Sign) (s : Seeking) : Type 0 where
 
 unknown : {line children : List Tag} {s : Seeking} → Seeks line children s → (href : Option Chars) → s ≡ known href → ⊥
 unknown (unbegun e) href k = cc
-unknown (in_root root e) href k = cc
-unknown (in_head below root head n e) href k = cc
+unknown _ href k = cc
 
 walk : (rest front : List Sign) (s : Seeking) → Seeks (line_of [] front) (children_of [] [] front) s → NoneAmong front → Comes (front ++ rest) (seeks (line_of [] front) s rest)
 walk [] front s k none = subst (λ xs. Comes xs s) (sym (append-nil front)) (is_sought (λ href e. unknown k href e) none)
@@ -183,17 +167,9 @@ one_href (base_begins root head t href n h) (head_ends root2 head2 n2) c s = abs
 one_href (base_begins root head t href n h) (body_begins root2 t2 n2) c s = absurd (cc)
 one_href (base_begins root head t href n h) (page_ends root2) c s = absurd (cc)
 one_href (head_ends root head n) (base_begins root2 head2 t2 href2 n2 h2) c s = absurd (cc)
-one_href (head_ends root head n) (head_ends root2 head2 n2) c s = refl
-one_href (head_ends root head n) (body_begins root2 t2 n2) c s = refl
-one_href (head_ends root head n) (page_ends root2) c s = refl
 one_href (body_begins root t n) (base_begins root2 head2 t2 href2 n2 h2) c s = absurd (cc)
-one_href (body_begins root t n) (head_ends root2 head2 n2) c s = refl
-one_href (body_begins root t n) (body_begins root2 t2 n2) c s = refl
-one_href (body_begins root t n) (page_ends root2) c s = refl
 one_href (page_ends root) (base_begins root2 head2 t2 href2 n2 h2) c s = absurd (cc)
-one_href (page_ends root) (head_ends root2 head2 n2) c s = refl
-one_href (page_ends root) (body_begins root2 t2 n2) c s = refl
-one_href (page_ends root) (page_ends root2) c s = refl
+one_href _ _ c s = refl
 
 one_known : (signs : List Sign) (a b : Option Chars) → IsKnown signs a → IsKnown signs b → a ≡ b
 one_known signs a b p q = by (splits p.front p.sign p.rest q.front q.sign q.rest (sym p.are ∙ q.are))

@@ -1,5 +1,5 @@
 -- What is due and what is read are told in turn.
-use Rattle.std.proofs.Common.{◌≡◌, ◌∙◌, ℕ, zero, suc, ◌+◌, Bool, true, false, List, [], ◌++◌, refl, sym, ap, subst, append_assoc, append-nil, Option, Some, None, Err, arith}
+use Rattle.std.proofs.Common.{◌≡◌, ◌∙◌, ℕ, zero, suc, Bool, true, false, List, [], ◌++◌, refl, sym, ap, subst, append_assoc, append-nil, Option, Some, None, Err, arith}
 use Rattle.std.proofs.lemmas.Bool.Decides.{nat_tests}
 use Rattle.std.specs.Prelude.{◌-◌, nat_lt, take, drop, if◌then◌else◌}
 use Rattle.rx_chars.specs.declared.syntax.Syntax.{Syntax}
@@ -21,11 +21,11 @@ use Rattle.rx_nest.specs.Lines.{Lines}
 use Rattle.rx_nest.specs.Signs.{Sign, sees, nothing_seen}
 use Rattle.rx_nest.specs.Follows.{flags_of, own_signs}
 use Rattle.rx_scan.proofs.MarkLemmas.{none_marked}
-use Rattle.rx_nest.specs.TreeTokens.{first_own, own_next, next_own, next_owed, first_of, paid}
+use Rattle.rx_nest.specs.TreeTokens.{first_own, next_own, next_owed, first_of, paid}
 use Rattle.rx_grammar.specs.declared.stops.Stop.{Stop}
 use Rattle.rx_grammar.specs.declared.stops.Stop.TheVariants as stop
 use Rattle.rx_nest.specs.Falling.{FallsBy}
-use Rattle.rx_nest.specs.Nests.{ReadGives, StaysAtFault, FaultGives, OpenBefore, Nested, At, NestStands, Stops, Unshown, LendsStart, begins_own, IsATag, a_tag, read_before, read_now, TokenOf, DidOf, Done, DidLends, did_signs, did_more, did_skipped, heard_signs, hears_more, hears_skipped, Lends, Heeds, last_tag, owed_signs, owes_begin, left, own_left}
+use Rattle.rx_nest.specs.Nests.{ReadGives, StaysAtFault, FaultGives, OpenBefore, Nested, At, NestStands, Stops, Unshown, LendsStart, begins_own, IsATag, a_tag, read_before, read_now, TokenOf, DidOf, Done, DidLends, did_signs, did_more, did_skipped, heard_signs, hears_more, hears_skipped, Lends, Heeds, last_tag, owed_signs, owes_begin, left}
 use Rattle.rx_nest.proofs.TextSteps.{sees_append}
 use Rattle.rx_nest.proofs.Pieces.{front_back as front_rest}
 use Rattle.rx_nest.proofs.Sizes.{faults_so, still_so}
@@ -67,102 +67,54 @@ pub record Turn (signs : List Sign) (d : EventKind) (owed : PendingEvents) (v : 
 
 own_turn : (o : TagAction) (v : Scanner) → Turn (own_signs o (last_tag v)) (first_own o).0 (first_own o).1 v
 own_turn own.Nothing v = record { signs_are = refl; begin_left = λ h. absurd (cc); quiet = refl; is_read = λ s bytes items t. a_tag t }
-own_turn own.Begin v = record { signs_are = refl; begin_left = λ h. absurd (cc); quiet = refl; is_read = λ s bytes items t. read_now t }
-own_turn own.Alone v = record { signs_are = refl; begin_left = λ h. absurd (cc); quiet = refl; is_read = λ s bytes items t. read_now t }
-own_turn own.Finish v = record { signs_are = refl; begin_left = λ h. absurd (cc); quiet = refl; is_read = λ s bytes items t. read_now t }
+own_turn _ v = record { signs_are = refl; begin_left = λ h. absurd (cc); quiet = refl; is_read = λ s bytes items t. read_now t }
 
 -- an own that begins no element lends nothing
 own_lends : (o : TagAction) (v : Scanner) → (owes_begin (Some o) ≡ true → LendsStart v) → DidLends (first_own o).0 v
-own_lends own.Nothing v h = tt
 own_lends own.Begin v h = h refl
 own_lends own.Alone v h = h refl
-own_lends own.Finish v h = tt
+own_lends _ v h = tt
 
 pub record Due (owed : PendingEvents) (d : EventKind) (next : PendingEvents) (v : Scanner) : Type 0 where
   pub signs_are : owed_signs owed (last_tag v) ≡ did_signs d v ++ owed_signs next (last_tag v)
   pub lends : DidLends d v
   pub begin_left : owes_begin next.own ≡ true → LendsStart v
   pub quiet : did_more d ≡ false
+  pub seen : did_skipped d ≡ false
   pub is_due : (s : Scanning) (bytes : List ℕ) (items : List Item) → items ≡ [] → DidOf d v s bytes items
 
 abbrev IsNext : PendingEvents → EventKind → PendingEvents → Type 0
 IsNext owed d next = ◌≡◌ {A = Option (EventKind × PendingEvents)} (next_owed owed) (Some (d, next))
 
 pub due : (owed : PendingEvents) (d : EventKind) (next : PendingEvents) (v : Scanner) → IsNext owed d next → (owes_begin owed.own ≡ true → LendsStart v) → Due owed d next v
-due owed d next v h lends = by owed.ends owed.own refl refl
+due owed d next v h lends = by owed.ends owed.own h lends
   where
-    by : (k : ℕ) (o : Option TagAction) → owed.ends ≡ k → owed.own ≡ o → Due owed d next v
-    by (suc k) o e p =
-        let is : next_owed owed ≡ Some (did.Finish, record { ends = k; own = o }) = ap next_owed (ap (λ x. record { ends = x; own = owed.own }) e ∙ ap (λ x. record { ends = suc k; own = x }) p) ∙ one_next k o in
-        let same : ◌≡◌ {A = Option (EventKind × PendingEvents)} (Some (did.Finish, record { ends = k; own = o })) (Some (d, next)) = sym is ∙ h in
-        let pair : ◌≡◌ {A = EventKind × PendingEvents} (did.Finish, record { ends = k; own = o }) (d, next) = cc in
-        let d_is : did.Finish ≡ d = ap (λ (x : EventKind × PendingEvents). x.0) pair in
-        let next_is : record { ends = k; own = o } ≡ next = ap (λ (x : EventKind × PendingEvents). x.1) pair in
-        let owed_is : owed ≡ record { ends = suc k; own = o } = ap (λ x. record { ends = x; own = owed.own }) e ∙ ap (λ x. record { ends = suc k; own = x }) p in
-        subst (λ x. Due owed x next v) d_is
-        (subst (λ x. Due owed did.Finish x v) next_is
-        (subst (λ x. Due x did.Finish (record { ends = k; own = o }) v) (sym owed_is)
-        (record { signs_are = refl; lends = tt; begin_left = λ b. lends (ap owes_begin p ∙ b); quiet = refl; is_due = λ s bytes items e. read_before e })))
-    by zero None e p = absurd (let is : next_owed owed ≡ None = rw (e, p) refl in let w : None ≡ Some (d, next) = sym is ∙ h in cc)
-    by zero (Some o) e p =
-        let is : next_owed owed ≡ own_next o = rw (e, p) refl in
-        let owed_is : owed ≡ record { ends = 0; own = Some o } = ap (λ x. record { ends = x; own = owed.own }) e ∙ ap (λ x. record { ends = 0; own = x }) p in
-        subst (λ x. Due x d next v) (sym owed_is) (own_due o (λ b. lends (ap owes_begin p ∙ b)) (sym is ∙ h))
-      where
-        own_due : (o : TagAction) → (owes_begin (Some o) ≡ true → LendsStart v) → ◌≡◌ {A = Option (EventKind × PendingEvents)} (own_next o) (Some (d, next)) → Due (record { ends = 0; own = Some o }) d next v
-        own_due own.Nothing l k = absurd (cc)
-        own_due own.Begin l k =
-            let pair : ◌≡◌ {A = EventKind × PendingEvents} (did.Begin, paid) (d, next) = cc in
-            subst (λ (x : EventKind × PendingEvents). Due (record { ends = 0; own = Some own.Begin }) x.0 x.1 v) pair (record { signs_are = refl; lends = l refl; begin_left = λ b. absurd (cc); quiet = refl; is_due = λ s bytes items e. read_before e })
-        own_due own.Finish l k =
-            let pair : ◌≡◌ {A = EventKind × PendingEvents} (did.Finish, paid) (d, next) = cc in
-            subst (λ (x : EventKind × PendingEvents). Due (record { ends = 0; own = Some own.Finish }) x.0 x.1 v) pair (record { signs_are = refl; lends = tt; begin_left = λ b. absurd (cc); quiet = refl; is_due = λ s bytes items e. read_before e })
-        own_due own.Alone l k =
-            let pair : ◌≡◌ {A = EventKind × PendingEvents} (did.Begin, record { ends = 0; own = Some own.Finish }) (d, next) = cc in
-            subst (λ (x : EventKind × PendingEvents). Due (record { ends = 0; own = Some own.Alone }) x.0 x.1 v) pair (record { signs_are = refl; lends = l refl; begin_left = λ b. absurd (cc); quiet = refl; is_due = λ s bytes items e. read_before e })
+    so : (owed : PendingEvents) (x : EventKind × PendingEvents) → Due owed x.0 x.1 v → ◌≡◌ {A = Option (EventKind × PendingEvents)} (Some x) (Some (d, next)) → Due owed d next v
+    so owed x u e = let pair : x ≡ (d, next) = cc in subst (λ (x : EventKind × PendingEvents). Due owed x.0 x.1 v) pair u
 
--- one event fewer is due, and it shows something
-pub record Fewer (owed : PendingEvents) (d : EventKind) (next : PendingEvents) : Type 0 where
-  pub one : left owed ≡ left next + 1
-  pub quiet : did_more d ≡ false
-  pub seen : did_skipped d ≡ false
-
-pub fewer : (owed : PendingEvents) (d : EventKind) (next : PendingEvents) → IsNext owed d next → Fewer owed d next
-fewer owed d next h = by owed.ends owed.own refl refl
-  where
-    by : (k : ℕ) (o : Option TagAction) → owed.ends ≡ k → owed.own ≡ o → Fewer owed d next
-    by (suc k) o e p =
-        let is : next_owed owed ≡ Some (did.Finish, record { ends = k; own = o }) = ap next_owed (ap (λ x. record { ends = x; own = owed.own }) e ∙ ap (λ x. record { ends = suc k; own = x }) p) ∙ one_next k o in
-        let same : ◌≡◌ {A = Option (EventKind × PendingEvents)} (Some (did.Finish, record { ends = k; own = o })) (Some (d, next)) = sym is ∙ h in
-        let pair : ◌≡◌ {A = EventKind × PendingEvents} (did.Finish, record { ends = k; own = o }) (d, next) = cc in
-        let q : own_left owed.own ≡ own_left o = ap own_left p in
-        subst (λ (x : EventKind × PendingEvents). Fewer owed x.0 x.1) pair (record { one = omega (arith, e, q); quiet = refl; seen = refl })
-    by zero None e p = absurd (let is : next_owed owed ≡ None = rw (e, p) refl in let w : None ≡ Some (d, next) = sym is ∙ h in cc)
-    by zero (Some o) e p = let is : next_owed owed ≡ own_next o = rw (e, p) refl in own_fewer o (ap own_left p) (sym is ∙ h)
-      where
-        own_fewer : (o : TagAction) → own_left owed.own ≡ own_left (Some o) → ◌≡◌ {A = Option (EventKind × PendingEvents)} (own_next o) (Some (d, next)) → Fewer owed d next
-        own_fewer own.Nothing q k = absurd (cc)
-        own_fewer own.Begin q k =
-            let pair : ◌≡◌ {A = EventKind × PendingEvents} (did.Begin, paid) (d, next) = cc in
-            subst (λ (x : EventKind × PendingEvents). Fewer owed x.0 x.1) pair (record { one = omega (arith, e, q); quiet = refl; seen = refl })
-        own_fewer own.Finish q k =
-            let pair : ◌≡◌ {A = EventKind × PendingEvents} (did.Finish, paid) (d, next) = cc in
-            subst (λ (x : EventKind × PendingEvents). Fewer owed x.0 x.1) pair (record { one = omega (arith, e, q); quiet = refl; seen = refl })
-        own_fewer own.Alone q k =
-            let pair : ◌≡◌ {A = EventKind × PendingEvents} (did.Begin, record { ends = 0; own = Some own.Finish }) (d, next) = cc in
-            subst (λ (x : EventKind × PendingEvents). Fewer owed x.0 x.1) pair (record { one = omega (arith, e, q); quiet = refl; seen = refl })
+    by : (k : ℕ) (o : Option TagAction) → IsNext (record { ends = k; own = o }) d next → (owes_begin o ≡ true → LendsStart v) → Due (record { ends = k; own = o }) d next v
+    by (suc k) o h l =
+        so (record { ends = suc k; own = o }) (did.Finish, record { ends = k; own = o }) (record { signs_are = refl; lends = tt; begin_left = l; quiet = refl; seen = refl; is_due = λ s bytes items e. read_before e }) (sym (one_next k o) ∙ h)
+    by zero (Some own.Begin) h l =
+        so (record { ends = 0; own = Some own.Begin }) (did.Begin, paid) (record { signs_are = refl; lends = l refl; begin_left = λ b. absurd (cc); quiet = refl; seen = refl; is_due = λ s bytes items e. read_before e }) h
+    by zero (Some own.Finish) h l =
+        so (record { ends = 0; own = Some own.Finish }) (did.Finish, paid) (record { signs_are = refl; lends = tt; begin_left = λ b. absurd (cc); quiet = refl; seen = refl; is_due = λ s bytes items e. read_before e }) h
+    by zero (Some own.Alone) h l =
+        so (record { ends = 0; own = Some own.Alone }) (did.Begin, record { ends = 0; own = Some own.Finish }) (record { signs_are = refl; lends = l refl; begin_left = λ b. absurd (cc); quiet = refl; seen = refl; is_due = λ s bytes items e. read_before e }) h
+    by zero (Some own.Nothing) h l = absurd (cc)
+    by zero None h l = absurd (cc)
 
 -- nothing is owed
 pub none_due : (owed : PendingEvents) (t : StartTag) → next_owed owed ≡ None → owed_signs owed t ≡ []
-none_due owed t h = by owed.ends owed.own refl refl
+none_due owed t h = by owed.ends owed.own h
   where
-    by : (k : ℕ) (o : Option TagAction) → owed.ends ≡ k → owed.own ≡ o → owed_signs owed t ≡ []
-    by (suc k) o e p = absurd (let is : next_owed owed ≡ Some (did.Finish, record { ends = k; own = o }) = ap next_owed (ap (λ x. record { ends = x; own = owed.own }) e ∙ ap (λ x. record { ends = suc k; own = x }) p) ∙ one_next k o in let w : None ≡ Some (did.Finish, record { ends = k; own = o }) = sym h ∙ is in cc)
-    by zero None e p = rw (e, p) refl
-    by zero (Some own.Nothing) e p = rw (e, p) refl
-    by zero (Some own.Begin) e p = absurd (let is : next_owed owed ≡ Some (did.Begin, paid) = rw (e, p) refl in let w : None ≡ Some (did.Begin, paid) = sym h ∙ is in cc)
-    by zero (Some own.Finish) e p = absurd (let is : next_owed owed ≡ Some (did.Finish, paid) = rw (e, p) refl in let w : None ≡ Some (did.Finish, paid) = sym h ∙ is in cc)
-    by zero (Some own.Alone) e p = absurd (let is : next_owed owed ≡ own_next own.Alone = rw (e, p) refl in let w : None ≡ own_next own.Alone = sym h ∙ is in cc)
+    by : (k : ℕ) (o : Option TagAction) → next_owed (record { ends = k; own = o }) ≡ None → owed_signs (record { ends = k; own = o }) t ≡ []
+    by (suc k) o h = absurd (let w : None ≡ Some (did.Finish, record { ends = k; own = o }) = sym h ∙ one_next k o in cc)
+    by zero None h = refl
+    by zero (Some own.Nothing) h = refl
+    by zero (Some own.Begin) h = absurd (cc)
+    by zero (Some own.Finish) h = absurd (cc)
+    by zero (Some own.Alone) h = absurd (cc)
 
 -- Behind what is skipped nothing is due.
 pub record Passed (h : TreeToken) : Type 0 where
@@ -173,21 +125,15 @@ pub passed_turn : (h : TreeToken) → did_skipped (first_of h).0 ≡ true → Pa
 passed_turn tree_token.More s = absurd (cc)
 passed_turn tree_token.Skipped s = record { some = refl; none = refl }
 passed_turn tree_token.Text s = absurd (cc)
-passed_turn (tree_token.Tag told) s = by told.ends told.own refl refl
+passed_turn (tree_token.Tag told) s = by told.ends told.own s
   where
     own_passed : (o : TagAction) → did_skipped (first_own o).0 ≡ true → left (first_own o).1 ≡ 0
     own_passed own.Nothing s = refl
-    own_passed own.Begin s = absurd (cc)
-    own_passed own.Finish s = absurd (cc)
-    own_passed own.Alone s = absurd (cc)
+    own_passed _ s = absurd (cc)
 
-    by : (k : ℕ) (o : TagAction) → told.ends ≡ k → told.own ≡ o → Passed (tree_token.Tag told)
-    by zero o e p =
-        let is : told ≡ record { ends = 0; own = o; drops = told.drops } = ap (λ x. record { ends = x; own = told.own; drops = told.drops }) e ∙ ap (λ x. record { ends = 0; own = x; drops = told.drops }) p in
-        record { some = refl; none = ap (λ x. left (first_of (tree_token.Tag x)).1) is ∙ own_passed o (ap (λ x. did_skipped (first_of (tree_token.Tag x)).0) (sym is) ∙ s) }
-    by (suc k) o e p =
-        let is : told ≡ record { ends = suc k; own = o; drops = told.drops } = ap (λ x. record { ends = x; own = told.own; drops = told.drops }) e ∙ ap (λ x. record { ends = suc k; own = x; drops = told.drops }) p in
-        absurd (let w : false ≡ true = ap (λ (x : EventKind × PendingEvents). did_skipped x.0) (sym (one_first k o told.drops)) ∙ (ap (λ x. did_skipped (first_of (tree_token.Tag x)).0) (sym is) ∙ s) in cc)
+    by : (k : ℕ) (o : TagAction) → did_skipped (first_of (tree_token.Tag (record { ends = k; own = o; drops = told.drops }))).0 ≡ true → Passed (tree_token.Tag (record { ends = k; own = o; drops = told.drops }))
+    by zero o s = record { some = refl; none = own_passed o s }
+    by (suc k) o s = absurd (let w : false ≡ true = ap (λ (x : EventKind × PendingEvents). did_skipped x.0) (sym (one_first k o told.drops)) ∙ s in cc)
 
 -- what was heard
 pub record First (h : TreeToken) (v : Scanner) : Type 0 where
@@ -202,25 +148,20 @@ pub first_turn : (h : TreeToken) (v : Scanner) → Lends h v → First h v
 first_turn tree_token.More v l = record { signs_are = refl; lends = tt; begin_left = λ b. absurd (cc); more = refl; skipped = λ b. b; is_read = λ s bytes items h. h }
 first_turn tree_token.Skipped v l = record { signs_are = refl; lends = tt; begin_left = λ b. absurd (cc); more = refl; skipped = λ b. b; is_read = λ s bytes items h. h }
 first_turn tree_token.Text v l = record { signs_are = sym (append-nil (did_signs did.Text v)); lends = l; begin_left = λ b. absurd (cc); more = refl; skipped = λ b. b; is_read = λ s bytes items h. h }
-first_turn (tree_token.Tag told) v l = by told.ends told.own refl refl
+first_turn (tree_token.Tag told) v l = by told.ends told.own l
   where
-    by : (k : ℕ) (o : TagAction) → told.ends ≡ k → told.own ≡ o → First (tree_token.Tag told) v
-    by zero o e p =
-        let is : told ≡ record { ends = 0; own = o; drops = told.drops } = ap (λ x. record { ends = x; own = told.own; drops = told.drops }) e ∙ ap (λ x. record { ends = 0; own = x; drops = told.drops }) p in
-        let t = own_turn o v in
-        subst (λ x. First (tree_token.Tag x) v) (sym is) (record { signs_are = t.signs_are; lends = own_lends o v (λ b. l (ap begins_own p ∙ b)); begin_left = t.begin_left; more = t.quiet; skipped = λ b. absurd (cc); is_read = t.is_read })
-    by (suc k) o e p =
-        let is : told ≡ record { ends = suc k; own = o; drops = told.drops } = ap (λ x. record { ends = x; own = told.own; drops = told.drops }) e ∙ ap (λ x. record { ends = suc k; own = x; drops = told.drops }) p in
+    by : (k : ℕ) (o : TagAction) → (begins_own o ≡ true → LendsStart v) → First (tree_token.Tag (record { ends = k; own = o; drops = told.drops })) v
+    by zero o l = let t = own_turn o v in record { signs_are = t.signs_are; lends = own_lends o v l; begin_left = t.begin_left; more = t.quiet; skipped = λ b. absurd (cc); is_read = t.is_read }
+    by (suc k) o l =
         let first = one_first k o told.drops in
-        subst (λ x. First (tree_token.Tag x) v) (sym is)
-        (record {
+        record {
           signs_are = ap (λ (x : EventKind × PendingEvents). did_signs x.0 v ++ owed_signs x.1 (last_tag v)) (sym first);
           lends = subst (λ (x : EventKind × PendingEvents). DidLends x.0 v) (sym first) tt;
-          begin_left = λ b. l (ap begins_own p ∙ (ap (λ (x : EventKind × PendingEvents). owes_begin x.1.own) (sym first) ∙ b));
+          begin_left = λ b. l (ap (λ (x : EventKind × PendingEvents). owes_begin x.1.own) (sym first) ∙ b);
           more = ap (λ (x : EventKind × PendingEvents). did_more x.0) first;
           skipped = λ b. absurd (cc);
           is_read = λ s bytes items t. subst (λ (x : EventKind × PendingEvents). DidOf x.0 v s bytes items) (sym first) (read_now t);
-        })
+        }
 
 module _ (syntax : Syntax) (limits : Limits) (old : Nested) (bytes : List ℕ) (signs : List Sign) (st : NestStands syntax limits old bytes signs) (piece : List ℕ) where
   -- what is due is told
@@ -240,7 +181,7 @@ module _ (syntax : Syntax) (limits : Limits) (old : Nested) (bytes : List ℕ) (
         };
         lends = u.lends;
         all = λ m. absurd (let w : true ≡ false = sym m ∙ u.quiet in cc);
-        passed = λ m. absurd (let w : true ≡ false = sym m ∙ (fewer old.owed d next h).seen in cc);
+        passed = λ m. absurd (let w : true ≡ false = sym m ∙ u.seen in cc);
         tokens = record {
           before = record { now = st.at.now; told = st.told };
           read = st.at.read;

@@ -34,9 +34,8 @@ module _ (syntax : Syntax) (limits : Limits) (bytes : List ℕ) (told : List Eve
   phase_over = ap is_over at.follows.phase_is ∙ by line.begun line.levels
     where
       by : (b : Bool) (levels : Levels) → is_over (phase_at b levels at.follows.stood) ≡ (b && is_none_open levels)
-      by true [] = refl
       by true (level ∷ levels) = refl
-      by false levels = refl
+      by _ _ = refl
 
   end_is : (b : Bool) → may_end at.now ≡ b → end_of (page_read syntax limits bytes) ≡ (if b then Ok (record { now = at.now; told = told }) else Err (fault_in at.now.scan Unended))
   end_is b e = ap end_of at.read ∙ ap (λ x. if x then Ok (record { now = at.now; told = told }) else Err (fault_in at.now.scan Unended)) e
@@ -76,11 +75,9 @@ some_said (c ∷ text) n h = absurd (cc)
 
 speaks_so : (e : shown.Event) (text : Chars) → event_signs e ≡ map said text → text ≢ [] → Speaks e
 speaks_so (event.Text text) told h n = not_said (chars text.now) (λ e. some_said told n (sym h ∙ e))
-speaks_so event.More told h n = tt
 speaks_so (event.Begin t) [] h n = absurd (n refl)
 speaks_so (event.Begin t) (c ∷ told) h n = absurd (cc)
-speaks_so event.Finish told h n = tt
-speaks_so event.Skipped told h n = tt
+speaks_so _ told h n = tt
 
 record Tells (d : EventKind) (v : Scanner) (e : shown.Event) : Type 0 where
   signs_are : event_signs e ≡ did_signs d v
@@ -92,10 +89,7 @@ record Tells (d : EventKind) (v : Scanner) (e : shown.Event) : Type 0 where
 -- what shows something isn't skipped
 not_skipped : (e : shown.Event) (signs : List Sign) → event_signs e ≡ signs → signs ≢ [] → is_skipped e ≡ false
 not_skipped event.Skipped signs h n = absurd (n (sym h))
-not_skipped event.More signs h n = refl
-not_skipped (event.Begin t) signs h n = refl
-not_skipped (event.Text text) signs h n = refl
-not_skipped event.Finish signs h n = refl
+not_skipped _ signs h n = refl
 
 tells : (d : EventKind) (v : Scanner) (e : shown.Event) → DidLends d v → Shown d v e → Tells d v e
 tells did.More v e l s = subst (λ x. Tells did.More v x) (sym s) (record { signs_are = refl; speaks = tt; more = refl; skipped = refl; tells = λ s bytes items h. h })
@@ -126,8 +120,6 @@ stepped syntax limits bytes signs piece n d e new done s =
 
 -- an event is nothing exactly where nothing was done
 pub shown_more : (d : EventKind) (v : Scanner) (e : shown.Event) → Shown d v e → is_more e ≡ did_more d
-shown_more did.More v e s = ap is_more s
-shown_more did.Skipped v e s = ap is_more s
-shown_more did.Finish v e s = ap is_more s
 shown_more did.Begin v e s = s.0
 shown_more did.Text v e s = s.0
+shown_more _ v e s = ap is_more s

@@ -10,21 +10,19 @@ use Rattle.rx_grammar.specs.PageFaults.{FaultAt}
 use Rattle.rx_grammar.specs.Trees.{Tree}
 use Rattle.rx_pages.specs.PageReader.{Progress, page_read, page_on, nothing_read, no_page, spot_of, end_of, may_end, fault_in}
 use Rattle.rx_pages.proofs.FaultWalk.{fault_stays}
-use Rattle.rx_pages.proofs.FaultsRead.{fault_is_read}
 use Rattle.rx_pages.proofs.PageRead.{page_is_read}
 use Rattle.rx_pages.proofs.ScanSteps.{page_append}
 use Rattle.rx_pages.proofs.Trees.{one_tree}
 use Rattle.rx_nest.specs.Signs.{Sign, Sight, sees, nothing_seen, signs_of}
 use Rattle.rx_nest.specs.Fronts.{Lie}
 use Rattle.rx_nest.proofs.Sizes.{within_so}
-use Rattle.rx_pages.proofs.Sizes.{read_size}
 use Rattle.rx_nest.proofs.TagPlaces.{shows_more}
 use Rattle.rx_nest.proofs.TreeSeen.{whole}
 use Rattle.rx_nest.specs.Ways.{Way, IsRefusal}
 use Rattle.rx_nest.specs.RefusedTags.{ReaderRefuses}
 use Rattle.rx_nest.specs.FaultPlaces.{BeginsNone, BeginsRefused}
 use Rattle.rx_nest.proofs.Refusing.{at_from}
-use Rattle.rx_nest.proofs.Firsts.{meaning_within}
+use Rattle.rx_nest.proofs.Firsts.{fault_read, meaning_within}
 use Rattle.rx_nest.proofs.TokenPlacing.{take_front}
 use Rattle.rx_nest.proofs.Pieces.{front_back}
 
@@ -74,27 +72,12 @@ module _ (syntax : Syntax) (limits : Limits) where
       by (Ok p) final e = ends p final (may_end p.now) e
       by (Err fault) final e = absurd (cc)
 
-  -- a fault of the form that one of the bytes decides is read
-  fault_read : (bytes : List ℕ) (fault : Fault) → FaultAt syntax limits bytes fault → fault.at < length bytes → page_read syntax limits bytes ≡ Err fault
-  fault_read bytes fault f l = by (page_read syntax limits bytes) refl (fault_is_read syntax limits bytes fault f)
-    where
-      ends : (q : Progress) (b : Bool) → length bytes ≡ q.now.scan.at → ◌≡◌ {A = Result Progress Fault} (if b then Ok q else Err (fault_in q.now.scan Unended)) (Err fault) → page_read syntax limits bytes ≡ Err fault
-      ends q true e w = absurd (cc)
-      ends q false e w =
-          let is : fault_in q.now.scan Unended ≡ fault = cc in
-          let at : q.now.scan.at ≡ fault.at = ap (λ (x : Fault). x.at) is in
-          absurd (omega (arith, l, at, e))
-
-      by : (x : Result Progress Fault) → page_read syntax limits bytes ≡ x → end_of x ≡ Err fault → page_read syntax limits bytes ≡ Err fault
-      by (Ok q) k w = ends q (may_end q.now) (sym (read_size syntax limits bytes q k).0) w
-      by (Err other) k w = k ∙ w
-
   -- no page begins with the bytes through its place
   pub begins_none : (bytes : List ℕ) (fault : Fault) → FaultAt syntax limits bytes fault → fault.at < length bytes → BeginsNone syntax limits (take (fault.at + 1) bytes)
   begins_none bytes fault f l rest tree page =
       let n : ℕ = fault.at + 1 in
       let front = read_front (take n bytes) rest (page_shows (take n bytes ++ rest) tree page).final (page_shows (take n bytes ++ rest) tree page).read in
-      let fails : page_read syntax limits (take n bytes ++ drop n bytes) ≡ Err fault = ap (λ b. page_read syntax limits b) (front_back n bytes) ∙ fault_read bytes fault f l in
+      let fails : page_read syntax limits (take n bytes ++ drop n bytes) ≡ Err fault = ap (λ b. page_read syntax limits b) (front_back n bytes) ∙ fault_read syntax limits bytes fault f l in
       let from = (within_so syntax limits (take n bytes) (drop n bytes) front.now fault front.is fails).from in
       let size = take_length n bytes (omega (arith, l)) in
       omega (arith, from, size)

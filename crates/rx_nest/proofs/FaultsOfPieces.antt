@@ -1,5 +1,5 @@
 -- Where a fault lies that a piece of a page brings.
-use Rattle.std.proofs.Common.{◌≡◌, ◌∙◌, ℕ, ◌+◌, ◌≤◌, List, [], ◌++◌, length, sym, ap, subst, Option, Some, None, Ok, Err, arith, take, drop, append-nil}
+use Rattle.std.proofs.Common.{◌≡◌, ◌∙◌, ℕ, ◌+◌, ◌≤◌, List, [], ◌++◌, length, sym, ap, subst, None, Ok, Err, arith, take, drop, append-nil}
 use Rattle.std.proofs.lemmas.Bool.Decides.{nat_tests}
 use Rattle.std.specs.Prelude.{nat_le}
 use Rattle.rx_terms.proofs.Bools.{by_test}
@@ -15,7 +15,7 @@ use Rattle.rx_nest.specs.FaultPlaces.{PlaceGives, PlaceLaw, of_form, of_meaning,
 use Rattle.rx_nest.specs.Readings.{Goes as ReadingGoes, OwesNone}
 use Rattle.rx_nest.specs.Ways.{Way, IsRefusal}
 use Rattle.rx_nest.proofs.FaultPlacing.{Shown, shown, refused_of, through, begins_none}
-use Rattle.rx_nest.proofs.Firsts.{page_behind}
+use Rattle.rx_nest.proofs.Firsts.{page_behind, some_none}
 use Rattle.rx_nest.proofs.Meanings.{read_as_meant}
 use Rattle.rx_nest.proofs.Pieces.{front_back}
 use Rattle.rx_nest.proofs.PlaceLaws.{accepted_front}
@@ -30,9 +30,6 @@ module _ (way : Way) (law : IsRefusal way.refused) where
   lies_behind bytes piece p fault r a (for_meaning m first) = by_within (through way law (bytes ++ piece) fault (read_as_meant way law (bytes ++ piece) fault m))
     where
       -- what is shown of the bytes through a place before their end
-      none : (x : Option Fault) → x ≡ None → x ≡ Some fault → ⊥
-      none x e f = let w : None ≡ Some fault = sym e ∙ f in cc
-
       early : fault.at + 1 ≤ length bytes → Shown way (take (fault.at + 1) (bytes ++ piece)) fault → ⊥
       early l s =
           let n : ℕ = fault.at + 1 in
@@ -40,7 +37,7 @@ module _ (way : Way) (law : IsRefusal way.refused) where
           let read : page_read way.syntax way.limits (take n bytes) ≡ Ok s.now = ap (λ b. page_read way.syntax way.limits b) (sym same) ∙ s.read in
           let all : page_read way.syntax way.limits (take n bytes ++ drop n bytes) ≡ Ok p = ap (λ b. page_read way.syntax way.limits b) (front_back n bytes) ∙ r in
           let more = shows_more way.syntax way.limits (take n bytes) (drop n bytes) s.now p read all in
-          none (way.refused (shown p)) a (ap way.refused more.are ∙ law.stays (shown s.now) more.signs fault s.refused)
+          some_none (way.refused (shown p)) fault a (ap way.refused more.are ∙ law.stays (shown s.now) more.signs fault s.refused)
 
       by_within : Shown way (take (fault.at + 1) (bytes ++ piece)) fault → length bytes ≤ fault.at
       by_within s = by_test (nat_le (length bytes) fault.at) (λ t. grind (arith, nat_tests)) (λ t. absurd (early (grind (arith, nat_tests)) s))

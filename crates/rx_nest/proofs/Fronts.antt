@@ -1,28 +1,27 @@
 -- What a page's bytes show at any time is the front of one element.
-use Rattle.std.proofs.Common.{◌≡◌, ◌≢◌, ◌∙◌, ℕ, zero, suc, ◌≤◌, ◌<◌, Bool, true, false, List, [], ◌∷◌, ◌++◌, refl, sym, ap, subst, length, append_assoc, append-nil, Option, Some, None, Result, Ok, Err, arith}
+use Rattle.std.proofs.Common.{◌≡◌, ◌≢◌, ◌∙◌, ℕ, zero, suc, ◌≤◌, ◌<◌, Bool, true, false, List, [], ◌∷◌, ◌++◌, refl, sym, ap, subst, length, append_assoc, append-nil, Some, None, Ok, arith}
 use Rattle.std.proofs.lemmas.Bool.Decides.{nat_tests}
 use Rattle.std.specs.Prelude.{◌&&◌, not, map, nat_le, if◌then◌else◌}
 use Rattle.rx_terms.specs.Text.{Chars}
 use Rattle.rx_chars.specs.declared.syntax.Syntax.{Syntax}
 use Rattle.rx_terms.proofs.Bools.{by_test}
-use Rattle.rx_grammar.specs.declared.faults.Fault.{Fault}
 use Rattle.rx_grammar.specs.declared.faults.Kind.{Kind}
 use Rattle.rx_grammar.specs.declared.limits.Limits.{Limits}
 use Rattle.rx_grammar.specs.Names.{same, is_among}
-use Rattle.rx_grammar.specs.Tokens.{Tag, Token, tag, character, reference, kept, section, comment, doctype}
+use Rattle.rx_grammar.specs.Tokens.{Tag}
 use Rattle.rx_grammar.specs.Contents.{is_alone, is_html, is_plaintext, is_self_closed, hides}
 use Rattle.rx_grammar.specs.Trees.{StartTag}
-use Rattle.rx_grammar.specs.Items.{Item, is_line_feed, start_of}
+use Rattle.rx_grammar.specs.Items.{Item, start_of}
 use Rattle.rx_grammar.specs.Omission.{enders, is_omissible, is_held}
 use Rattle.rx_grammar.specs.Pages.{root_name}
 use Rattle.rx_grammar.specs.Begun.{Line, inside_of, parent_of, Phase, before, within, after}
 use Rattle.rx_grammar.specs.PageFaults.{Rows, first_row, tag_rows, start_rows, end_rows, under_start, after_start, after_end, is_innermost, is_no_line, has_ended, is_before}
-use Rattle.rx_pages.specs.Nesting.{Event, begins, says, finishes, Nesting, Step, nest_step, step_by, unless_refused, tag_passes, begun_under, over, line_above, text_step, told, doctype_step, ended_by_start, ended_under, ended_by_end}
-use Rattle.rx_pages.specs.PageReader.{Scanned, Progress, spot_of, read_byte, with_events, steps_on, no_step, progress_of, nested_items, page_byte_on, telling, page_on, page_read, nothing_read}
-use Rattle.rx_pages.proofs.FaultWalk.{fault_stays}
+use Rattle.rx_pages.specs.Nesting.{Event, begins, says, finishes, Nesting, Step, tag_passes, begun_under, over, line_above, going_on, ended_by_start, ended_under, ended_by_end}
+use Rattle.rx_pages.specs.PageReader.{Progress, page_read}
 use Rattle.rx_nest.specs.Signs.{Sign, begun, said, finished, Flags, is_hidden, Sight, see, sees, nothing_seen}
 use Rattle.rx_nest.specs.Nests.{Nested, NestStands, owed_signs, last_tag}
 use Rattle.rx_nest.specs.Fronts.{Front, unbegun, inside, over as ended, goes, goes_on, front_of, levels_of, IsFront}
+use Rattle.rx_nest.proofs.ShownLines.{page_holds}
 use Rattle.rx_nest.proofs.TextSteps.{sees_append}
 
 -- the signs lead from one front to another, at no time past the limit
@@ -41,24 +40,13 @@ along_front depth from to (sign ∷ signs) more l a =
     (rest.0, ap (λ f. goes_on f signs) a.1 ∙ rest.1, rest.2)
 
 -- a row that isn't the first one to hold
-passes : (rows : Rows) (step reached : Step) → unless_refused (first_row rows) step ≡ Ok reached → (first_row rows ≡ None) × (step ≡ reached)
-passes rows step reached e = by (first_row rows) refl e
-  where
-    by : (x : Option Kind) → first_row rows ≡ x → unless_refused x step ≡ Ok reached → (first_row rows ≡ None) × (step ≡ reached)
-    by None k w = (k, cc)
-    by (Some kind) k w = absurd (cc)
-
 first_passes : (holds : Bool) (kind : Kind) (rows : Rows) → first_row ((holds, kind) ∷ rows) ≡ None → (holds ≡ false) × (first_row rows ≡ None)
 first_passes true kind rows e = absurd (cc)
 first_passes false kind rows e = (refl, e)
 
-first_and_last : (a b d f g : Bool) (k l m n o : Kind) → first_row ((a, k) ∷ (b, l) ∷ (d, m) ∷ (f, n) ∷ (g, o) ∷ []) ≡ None → (a ≡ false) × (g ≡ false)
-first_and_last a b d f g k l m n o e =
-    let p = first_passes a k ((b, l) ∷ (d, m) ∷ (f, n) ∷ (g, o) ∷ []) e in
-    let q = first_passes b l ((d, m) ∷ (f, n) ∷ (g, o) ∷ []) p.1 in
-    let r = first_passes d m ((f, n) ∷ (g, o) ∷ []) q.1 in
-    let s = first_passes f n ((g, o) ∷ []) r.1 in
-    (p.0, (first_passes g o [] s.1).0)
+pub first_and_last : (a b d f g : Bool) (k l m n o : Kind) → first_row ((a, k) ∷ (b, l) ∷ (d, m) ∷ (f, n) ∷ (g, o) ∷ []) ≡ None → (a ≡ false) × (g ≡ false)
+first_and_last false false false false false k l m n o e = (refl, refl)
+first_and_last _ _ _ _ _ k l m n o e = absurd (cc)
 
 is_so : (b : Bool) → not b ≡ false → b ≡ true
 is_so true e = refl
@@ -191,9 +179,7 @@ module _ (depth : ℕ) where
     where
       by : (flags : Flags) (signs : List Sign) (line : Line) → Along depth unbegun signs unbegun → length flags ≡ length line → line ≡ [] → Shown depth true (t ∷ line) (see (begins t hidden) flags signs)
       by [] signs [] a d e = record { along = along_one depth unbegun unbegun (inside 0) signs (begun t) a refl (omega (arith, l)); deep = refl; sized = omega (arith, l); well = (refl, tt); none = λ z. absurd (cc) }
-      by [] signs (u ∷ line) a d e = absurd (cc)
-      by (flag ∷ flags) signs [] a d e = absurd (cc)
-      by (flag ∷ flags) signs (u ∷ line) a d e = absurd (cc)
+      by _ signs _ a d e = absurd (cc)
 
 module _ (syntax : Syntax) (depth : ℕ) where
   -- elements that end by omission: the root never
@@ -301,27 +287,19 @@ module _ (syntax : Syntax) (depth : ℕ) where
     abbrev end_step : Step
     end_step = record { next = over (line_above (after_end syntax t.name n.line)); events = ended_by_end syntax t.name n.line ++ finishes ∷ [] }
 
-    abbrev On : Step → Bool → Type 0
-    On step b = unless_refused (first_row (if b then end_rows syntax n.line t else start_rows syntax depth n.line n.phase t)) (if b then end_step else begun_under syntax item t left gone) ≡ Ok step
-
-    tag_held : (step : Step) → unless_refused (first_row (tag_rows syntax depth n.line n.phase t)) (tag_passes syntax n.line item t) ≡ Ok step → Held step.next (events ++ step.events)
-    tag_held step e = by_test t.closing (λ c. closes c (subst (λ b. On step b) c e)) (λ c. opens c (subst (λ b. On step b) c e))
+    tag_held : first_row (tag_rows syntax depth n.line n.phase t) ≡ None → Held (tag_passes syntax n.line item t).next (events ++ (tag_passes syntax n.line item t).events)
+    tag_held e = by t.closing e
       where
-        closes : t.closing ≡ true → unless_refused (first_row (end_rows syntax n.line t)) end_step ≡ Ok step → Held step.next (events ++ step.events)
-        closes c w =
-            let p = passes (end_rows syntax n.line t) end_step step w in
-            let r = first_passes (is_no_line n.line) Kind.NothingOpen ((not (is_innermost t.name (after_end syntax t.name n.line)), Kind.Mismatch) ∷ []) p.0 in
-            let q = first_passes (not (is_innermost t.name (after_end syntax t.name n.line))) Kind.Mismatch [] r.1 in
-            subst (λ (x : Step). Held x.next (events ++ x.events)) p.1 (ended_held r.0 (is_so (is_innermost t.name (after_end syntax t.name n.line)) q.0))
-
-        opens : t.closing ≡ false → unless_refused (first_row (start_rows syntax depth n.line n.phase t)) (begun_under syntax item t left gone) ≡ Ok step → Held step.next (events ++ step.events)
-        opens c w =
-            let p = passes (start_rows syntax depth n.line n.phase t) (begun_under syntax item t left gone) step w in
+        by : (b : Bool) → first_row (if b then end_rows syntax n.line t else start_rows syntax depth n.line n.phase t) ≡ None → Held (if b then end_step else begun_under syntax item t left gone).next (events ++ (if b then end_step else begun_under syntax item t left gone).events)
+        by true k =
+            let r = first_passes (is_no_line n.line) Kind.NothingOpen ((not (is_innermost t.name (after_end syntax t.name n.line)), Kind.Mismatch) ∷ []) k in
+            ended_held r.0 (is_so (is_innermost t.name (after_end syntax t.name n.line)) (first_passes (not (is_innermost t.name (after_end syntax t.name n.line))) Kind.Mismatch [] r.1).0)
+        by false k =
             let f =
             first_and_last (has_ended n.phase) (is_before n.phase && not (same t.name root_name)) (is_plaintext syntax (inside_of syntax n.line) t) (is_self_closed syntax (inside_of syntax n.line) t) (nat_le depth (length left))
-            Kind.Outside Kind.RootNotHtml Kind.Plaintext Kind.SelfClosed Kind.TooDeep p.0 in
+            Kind.Outside Kind.RootNotHtml Kind.Plaintext Kind.SelfClosed Kind.TooDeep k in
             let full : nat_le depth (length left) ≡ false = f.1 in
-            subst (λ (x : Step). Held x.next (events ++ x.events)) p.1 (begun_held f.0 (grind (arith, nat_tests)))
+            begun_held f.0 (grind (arith, nat_tests))
 
   -- a token that isn't a tag
   same_held : (n m : Nesting) (events : List Event) → m.line ≡ n.line → m.phase ≡ n.phase → Held n events → Held m (events ++ [])
@@ -331,14 +309,12 @@ module _ (syntax : Syntax) (depth : ℕ) where
     phase_at = subst (λ x. PhaseAt h.has_begun x m.line) (sym p) (subst (λ x. PhaseAt h.has_begun n.phase x) (sym l) h.phase_at);
   }
 
-  said_held : (n : Nesting) (events : List Event) (chars : Chars) → Held n events → Held (record { line = n.line; phase = n.phase; drops = false }) (events ++ told n.phase chars)
-  said_held n events chars h = by n.phase n.line h.has_begun refl refl h.phase_at h.shown
+  said_held : (n : Nesting) (events : List Event) (chars : Chars) → n.phase ≡ within → Held n events → Held (going_on n) (events ++ says chars ∷ [])
+  said_held n events chars e h = by n.line h.has_begun refl (subst (λ p. PhaseAt h.has_begun p n.line) e h.phase_at) h.shown
     where
-      by : (p : Phase) (line : Line) (b : Bool) → n.phase ≡ p → n.line ≡ line → PhaseAt b p line → Shown depth b line (sees nothing_seen events) → Held (record { line = n.line; phase = n.phase; drops = false }) (events ++ told p chars)
-      by (before stood) line b e l at s = same_held n (record { line = n.line; phase = n.phase; drops = false }) events refl refl h
-      by after line b e l at s = same_held n (record { line = n.line; phase = n.phase; drops = false }) events refl refl h
-      by within [] b e l at s = absurd (at.1 refl)
-      by within (t ∷ line) b e l at s =
+      by : (line : Line) (b : Bool) → n.line ≡ line → PhaseAt b within line → Shown depth b line (sees nothing_seen events) → Held (going_on n) (events ++ says chars ∷ [])
+      by [] b l at s = absurd (at.1 refl)
+      by (t ∷ line) b l at s =
           let begun_shown : Shown depth true (t ∷ line) (sees nothing_seen events) = subst (λ x. Shown depth x (t ∷ line) (sees nothing_seen events)) at.0 s in
           record {
             has_begun = true;
@@ -346,79 +322,17 @@ module _ (syntax : Syntax) (depth : ℕ) where
             phase_at = subst (λ x. PhaseAt true x n.line) (sym e) (refl, λ w. at.1 (sym l ∙ w));
           }
 
-  text_held : (n : Nesting) (events : List Event) (is_dropped : Bool) (chars : Chars) (step : Step) → Held n events → ◌≡◌ {A = Result Step Kind} (Ok (text_step n is_dropped chars)) (Ok step) → Held step.next (events ++ step.events)
-  text_held n events is_dropped chars step h e =
-      let is : text_step n is_dropped chars ≡ step = cc in
-      subst (λ (x : Step). Held x.next (events ++ x.events)) is
-      (by_test (n.drops && is_dropped) (λ d. rw d (same_held n (record { line = n.line; phase = n.phase; drops = false }) events refl refl h)) (λ d. rw d (said_held n events chars h)))
+  stood_held : (n : Nesting) (events : List Event) → n.phase ≡ before false → Held n events → Held (record { line = []; phase = before true; drops = false }) (events ++ [])
+  stood_held n events e h =
+      let at : h.has_begun ≡ false = subst (λ p. PhaseAt h.has_begun p n.line) e h.phase_at in
+      same_held (record { line = []; phase = before true; drops = false }) _ events refl refl
+      (record { has_begun = h.has_begun; shown = subst (λ x. Shown depth h.has_begun x (sees nothing_seen events)) (h.shown.none at) h.shown; phase_at = at })
 
-  doctype_held : (n : Nesting) (events : List Event) (step : Step) → Held n events → doctype_step n.phase ≡ Ok step → Held step.next (events ++ step.events)
-  doctype_held n events step h e = by n.phase refl e h.phase_at
-    where
-      by : (p : Phase) → n.phase ≡ p → doctype_step p ≡ Ok step → PhaseAt h.has_begun p n.line → Held step.next (events ++ step.events)
-      by (before false) k d at =
-          let is : record { next = record { line = []; phase = before true; drops = false }; events = [] } ≡ step = cc in
-          subst (λ (x : Step). Held x.next (events ++ x.events)) is
-          (record { has_begun = h.has_begun; shown = subst (λ x. Shown depth h.has_begun x (sees nothing_seen (events ++ []))) (h.shown.none at) (subst (λ es. Shown depth h.has_begun n.line (sees nothing_seen es)) (sym (append-nil events)) h.shown); phase_at = at })
-      by (before true) k d at = absurd (cc)
-      by within k d at = absurd (cc)
-      by after k d at = absurd (cc)
-
-  item_held : (n : Nesting) (events : List Event) (item : Item) (step : Step) → Held n events → nest_step syntax depth n item ≡ Ok step → Held step.next (events ++ step.events)
-  item_held n events item step h e = by item.token e
-    where
-      by : (token : Token) → step_by syntax depth n item token ≡ Ok step → Held step.next (events ++ step.events)
-      by (tag t) k = tag_held n events h item t step k
-      by (character c) k = text_held n events (is_line_feed (character c)) (c ∷ []) step h k
-      by (reference c) k = text_held n events (is_line_feed (reference c)) (c ∷ []) step h k
-      by (kept chars) k = text_held n events false chars step h k
-      by (section chars) k = text_held n events false chars step h k
-      by comment k = let is : record { next = record { line = n.line; phase = n.phase; drops = false }; events = [] } ≡ step = cc in subst (λ (x : Step). Held x.next (events ++ x.events)) is (same_held n (record { line = n.line; phase = n.phase; drops = false }) events refl refl h)
-      by doctype k = doctype_held n events step h k
-
-  -- more tokens
-  items_held : (n : Nesting) (events : List Event) (items : List Item) (step reached : Step) → Held step.next (events ++ step.events) → steps_on syntax depth (Ok step) items ≡ Ok reached → Held reached.next (events ++ reached.events)
-  items_held n events [] step reached h e = let is : step ≡ reached = cc in subst (λ (x : Step). Held x.next (events ++ x.events)) is h
-  items_held n events (item ∷ items) step reached h e = by (λ next. items_held n events items next reached) (nest_step syntax depth step.next item) refl e
-    where
-      none : (kind : Kind) (items : List Item) → steps_on syntax depth (Err kind) items ≡ Err kind
-      none kind [] = refl
-      none kind (item ∷ items) = none kind items
-
-      by : ((next : Step) → Held next.next (events ++ next.events) → steps_on syntax depth (Ok next) items ≡ Ok reached → Held reached.next (events ++ reached.events)) → (x : Result Step Kind) → nest_step syntax depth step.next item ≡ x
-          → steps_on syntax depth (with_events step.events x) items ≡ Ok reached → Held reached.next (events ++ reached.events)
-      by on (Ok next) k w =
-          on (record { next = next.next; events = step.events ++ next.events })
-          (subst (λ es. Held next.next es) (append_assoc events step.events next.events) (item_held step.next (events ++ step.events) item next h k)) w
-      by on (Err kind) k w = absurd (let z : Err kind ≡ Ok reached = sym (none kind items) ∙ w in cc)
-
-module _ (syntax : Syntax) (limits : Limits) where
-  abbrev HeldAt : Progress → Type 0
-  HeldAt p = Held syntax limits.depth p.now.nest p.told
-
-  byte_held : (p q : Progress) (byte : ℕ) → HeldAt p → page_byte_on syntax limits (Ok p) byte ≡ Ok q → HeldAt q
-  byte_held p q byte h e = by (read_byte syntax limits (spot_of syntax p.now.nest) byte p.now.scan) e
-    where
-      on : (scanned : Scanned) (x : Result Step Kind) → steps_on syntax limits.depth (Ok (no_step p.now.nest)) scanned.items ≡ x → telling p.told (progress_of p.now.scan scanned.next x) ≡ Ok q → HeldAt q
-      on scanned (Ok step) k w =
-          let is : record { now = record { scan = scanned.next; nest = step.next }; told = p.told ++ step.events } ≡ q = cc in
-          subst (λ x. HeldAt x) is (items_held syntax limits.depth p.now.nest p.told scanned.items (no_step p.now.nest) step (subst (λ es. Held syntax limits.depth p.now.nest es) (sym (append-nil p.told)) h) k)
-      on scanned (Err kind) k w = absurd (cc)
-
-      by : (x : Result Scanned Kind) → telling p.told (nested_items syntax limits.depth p.now x) ≡ Ok q → HeldAt q
-      by (Ok scanned) w = on scanned (steps_on syntax limits.depth (Ok (no_step p.now.nest)) scanned.items) refl w
-      by (Err kind) w = absurd (cc)
-
-  bytes_held : (bytes : List ℕ) (p q : Progress) → HeldAt p → page_on syntax limits (Ok p) bytes ≡ Ok q → HeldAt q
-  bytes_held [] p q h e = let is : p ≡ q = cc in subst (λ x. HeldAt x) is h
-  bytes_held (byte ∷ bytes) p q h e = by (λ r. bytes_held bytes r q) (page_byte_on syntax limits (Ok p) byte) refl e
-    where
-      by : ((r : Progress) → HeldAt r → page_on syntax limits (Ok r) bytes ≡ Ok q → HeldAt q) → (x : Result Progress Fault) → page_byte_on syntax limits (Ok p) byte ≡ x → page_on syntax limits x bytes ≡ Ok q → HeldAt q
-      by on (Ok r) k w = on r (byte_held p r byte h k) w
-      by on (Err fault) k w = absurd (let z : Err fault ≡ Ok q = sym (fault_stays syntax limits fault bytes) ∙ w in cc)
-
-  page_held : (bytes : List ℕ) (q : Progress) → page_read syntax limits bytes ≡ Ok q → HeldAt q
-  page_held bytes q e = bytes_held bytes nothing_read q (record { has_begun = false; shown = record { along = refl; deep = refl; sized = omega arith; well = tt; none = λ z. refl }; phase_at = refl }) e
+page_held : (syntax : Syntax) (limits : Limits) (bytes : List ℕ) (q : Progress) → page_read syntax limits bytes ≡ Ok q → Held syntax limits.depth q.now.nest q.told
+page_held syntax limits bytes q e =
+    page_holds syntax limits (Held syntax limits.depth)
+    (record { quiet = same_held syntax limits.depth; saying = said_held syntax limits.depth; standing = stood_held syntax limits.depth; tagging = λ n events item t k h. tag_held syntax limits.depth n events h item t k }) bytes q
+    (record { has_begun = false; shown = record { along = refl; deep = refl; sized = omega arith; well = tt; none = λ z. refl }; phase_at = refl }) e
 
 pub shows_one : (syntax : Syntax) (limits : Limits) (nest : Nested) (bytes : List ℕ) (signs : List Sign) → NestStands syntax limits nest bytes signs → IsFront limits.depth signs
 shows_one syntax limits nest bytes signs st =

@@ -9,7 +9,7 @@ use Rattle.rx_grammar.specs.declared.limits.Limits.{Limits}
 use Rattle.rx_grammar.specs.Tokens as tokens
 use Rattle.rx_grammar.specs.Tokens.{doctype, tag}
 use Rattle.rx_grammar.specs.Items.{Item}
-use Rattle.rx_grammar.specs.Begun.{Line, inside_of, Phase, before, within, after}
+use Rattle.rx_grammar.specs.Begun.{Line, inside_of, Phase, before}
 use Rattle.rx_pages.specs.Nesting.{Event, Nesting, Step, content_at, doctype_step, step_by, nest_step}
 use Rattle.rx_pages.specs.PageReader.{Spot, spot_of, Scanning, Scanned, scan_from, read_byte, is_none_left, may_lead, steps_on, with_events, telling, no_step, progress_of, page_on, page_read, nothing_read}
 use Rattle.rx_pages.proofs.TokenWalk.{IsKept, is_kept}
@@ -167,9 +167,7 @@ module _ (syntax : Syntax) (limits : Limits) (bytes : List ℕ) (told : List Eve
 
       lead_phase : (p : Phase) → may_lead p ≡ true → p ≡ before false
       lead_phase (before false) h = refl
-      lead_phase (before true) h = absurd (cc)
-      lead_phase within h = absurd (cc)
-      lead_phase after h = absurd (cc)
+      lead_phase _ h = absurd (cc)
 
       phase_is : nest.phase ≡ before false
       phase_is = let b = o in lead_phase nest.phase (byte_leads syntax limits spot b.byte b.before (record { next = b.after; items = item ∷ [] }) item [] b.completes refl is)

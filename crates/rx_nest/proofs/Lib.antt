@@ -17,7 +17,6 @@ pub mod TagPlaces
 pub mod OpenElements
 pub mod Pieces
 pub mod Refusing
-pub mod Placing
 pub mod TokenPlacing
 pub mod Firsts
 pub mod FaultPlacing

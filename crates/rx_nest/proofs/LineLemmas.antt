@@ -25,33 +25,28 @@ has_row_at place name = by_test (is_html place.content) (λ t. rw t refl) (λ t.
 module _ (syntax : Syntax) where
   pub place_is : (levels : Levels) (line : Line) → AreLevels syntax levels line → place_under levels ≡ inside_of syntax line
   place_is [] [] h = refl
-  place_is [] (t ∷ above) h = elim h [ ]
-  place_is (level ∷ levels) [] h = elim h [ ]
   place_is (level ∷ levels) (t ∷ above) h = h.1
+  place_is _ _ h = elim h [ ]
 
   pub name_is : (levels : Levels) (line : Line) → AreLevels syntax levels line → name_under levels ≡ parent_of line
   name_is [] [] h = refl
-  name_is [] (t ∷ above) h = elim h [ ]
-  name_is (level ∷ levels) [] h = elim h [ ]
   name_is (level ∷ levels) (t ∷ above) h = h.0
+  name_is _ _ h = elim h [ ]
 
   pub length_is : (levels : Levels) (line : Line) → AreLevels syntax levels line → length levels ≡ length line
   length_is [] [] h = refl
-  length_is [] (t ∷ above) h = elim h [ ]
-  length_is (level ∷ levels) [] h = elim h [ ]
   length_is (level ∷ levels) (t ∷ above) h = ap suc (length_is levels above h.4)
+  length_is _ _ h = elim h [ ]
 
   pub none_is : (levels : Levels) (line : Line) → AreLevels syntax levels line → is_none_open levels ≡ is_no_line line
-  none_is [] [] h = refl
   none_is [] (t ∷ above) h = elim h [ ]
   none_is (level ∷ levels) [] h = elim h [ ]
-  none_is (level ∷ levels) (t ∷ above) h = refl
+  none_is _ _ h = refl
 
   pub named_is : (name : Chars) (levels : Levels) (line : Line) → AreLevels syntax levels line → is_named name levels ≡ is_innermost name line
   named_is name [] [] h = refl
-  named_is name [] (t ∷ above) h = elim h [ ]
-  named_is name (level ∷ levels) [] h = elim h [ ]
   named_is name (level ∷ levels) (t ∷ above) h = ap (λ n. same n name) h.0
+  named_is name _ _ h = elim h [ ]
 
   -- the tests of one element
   pub start_test : (name : Chars) (level : Level) (levels : Levels) (t : _) (above : Line) → AreLevels syntax (level ∷ levels) (t ∷ above) → ends_by false name level ≡ is_among (enders (inside_of syntax above) t.name) name

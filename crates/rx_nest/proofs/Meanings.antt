@@ -1,5 +1,5 @@
 -- The start tags that the grammar calls refused are those that the reader shows as refused.
-use Rattle.std.proofs.Common.{◌≡◌, ◌∙◌, ℕ, ◌+◌, ◌≤◌, ◌<◌, List, [], ◌∷◌, ◌++◌, length, take, drop, refl, sym, ap, ⊎_elim, Option, Some, None, Result, Ok, arith}
+use Rattle.std.proofs.Common.{◌≡◌, ◌∙◌, ℕ, ◌+◌, ◌≤◌, ◌<◌, List, [], ◌∷◌, ◌++◌, length, take, drop, refl, sym, ap, ⊎_elim, Option, Some, None, Ok, arith}
 use Rattle.rx_terms.specs.Ascii.{less_than_sign}
 use Rattle.rx_grammar.specs.declared.faults.Fault.{Fault}
 use Rattle.rx_grammar.specs.declared.limits.Limits.{Limits}
@@ -12,18 +12,18 @@ use Rattle.rx_pages.specs.PageReader.{Progress, page_read}
 use Rattle.rx_pages.proofs.ClosedTold.{fronts_tell}
 use Rattle.rx_pages.proofs.Underway.{nothing_unfinished}
 use Rattle.rx_nest.specs.Fronts.{ShowsMore}
-use Rattle.rx_nest.specs.Signs.{Sign, Sight, sees, nothing_seen, signs_of}
+use Rattle.rx_nest.specs.Signs.{Sign, sees, nothing_seen, signs_of}
 use Rattle.rx_nest.specs.Faults.{MeaningAt}
 use Rattle.rx_nest.specs.RefusedTags.{ReaderRefuses, RefusedTagsAreLast}
 use Rattle.rx_nest.specs.Ways.{Way, IsRefusal}
 use Rattle.rx_nest.proofs.FaultPlacing.{take_length, page_shows, shown, through}
-use Rattle.rx_nest.proofs.Firsts.{seen_long}
+use Rattle.rx_nest.proofs.Firsts.{some_none}
 use Rattle.rx_nest.proofs.Pieces.{front_back}
-use Rattle.rx_nest.proofs.PlaceLaws.{bare_accepted}
+use Rattle.rx_nest.proofs.PlaceLaws.{bare_such, closed_shows}
+use Rattle.rx_nest.proofs.TokenPlacing.{all_add}
 use Rattle.rx_nest.proofs.RefusedTags.{refuses_last, long}
-use Rattle.rx_nest.proofs.Refusing.{at_from}
+use Rattle.rx_nest.proofs.Refusing.{at_from, bare_accepted}
 use Rattle.rx_nest.proofs.TagPlaces.{shows_more}
-use Rattle.rx_nest.proofs.TextSteps.{sees_append}
 use Rattle.rx_nest.proofs.WideReading.{read_wide}
 use Rattle.rx_nest.proofs.Depths.{deep_or_none}
 
@@ -32,14 +32,11 @@ abbrev wider : Limits → Limits
 wider limits = record { depth = limits.depth; tag = limits.tag; page = limits.page + 1 }
 
 module _ (way : Way) (law : IsRefusal way.refused) where
-  neither : (x : Option Fault) (fault : Fault) → x ≡ None → x ≡ Some fault → ⊥
-  neither x fault a b = let w : None ≡ Some fault = sym a ∙ b in cc
-
   -- bytes that show a start tag which is refused are read under a limit on depth
   depth_needed : (limits : Limits) (bytes : List ℕ) (p : Progress) (fault : Fault) → page_read way.syntax limits bytes ≡ Ok p → way.refused (shown p) ≡ Some fault → 1 ≤ limits.depth
   depth_needed limits bytes p fault r e =
       ⊎_elim (λ deep. deep)
-      (λ none. absurd (neither (way.refused []) fault law.none (sym (ap (λ es. way.refused (sees nothing_seen es).signs) none) ∙ e)))
+      (λ none. absurd (some_none (way.refused []) fault law.none (sym (ap (λ es. way.refused (sees nothing_seen es).signs) none) ∙ e)))
       (deep_or_none way.syntax limits bytes p r)
 
   -- The bytes are the front of a page, with nothing unfinished, and were read; and this is the page that they are once they are closed.
@@ -67,27 +64,21 @@ module _ (way : Way) (law : IsRefusal way.refused) where
     abbrev wide : Limits
     wide = record { depth = way.limits.depth; tag = length (closed bytes line phase); page = length (closed bytes line phase) }
 
-    same_now : (p q : Progress) → ◌≡◌ {A = Result Progress Fault} (Ok p) (Ok q) → p ≡ q
-    same_now p q e = cc
-
-    -- closed they show what they showed, and no attributes besides
-    closed_shows : signs_of tree ≡ (sees (sees nothing_seen tells.events) tells.more).signs
-    closed_shows =
-        let p = page_shows way.syntax wide (closed bytes line phase) tree (page wide (record { depth = refl; tag = omega arith; page = omega arith })) in
-        let q = tells.whole wide (record { depth = refl; tag = omega arith; page = omega arith }) in
-        let is : p.final.told ≡ tells.events ++ tells.more = ap (λ (x : Progress). x.told) (same_now p.final q.now (sym p.read ∙ q.read)) ∙ q.told in
-        sym p.signs_are ∙ (ap (λ es. (sees nothing_seen es).signs) is ∙ ap (λ (x : Sight). x.signs) (sees_append nothing_seen tells.events tells.more))
+    shows : signs_of tree ≡ (sees (sees nothing_seen tells.events) tells.more).signs
+    shows =
+        let is_wide : IsWide way.limits wide (length (closed bytes line phase)) = record { depth = refl; tag = omega arith; page = omega arith } in
+        closed_shows way.syntax (wider way.limits) bytes line phase tells wide (record { depth = refl; tag = omega arith; page = omega arith }) tree (page wide is_wide)
 
     on : (fault : Fault) → way.refused told ≡ Some fault → way.refused (signs_of tree) ≡ Some fault
     on fault e =
-        let more = seen_long tells.more (sees nothing_seen tells.events) in
-        ap way.refused (closed_shows ∙ more.is) ∙ law.stays told more.more fault e
+        let more = all_add (λ t. t.attributes ≡ []) tells.more (sees nothing_seen tells.events) (bare_such tells.more tells.bare) in
+        ap way.refused (shows ∙ more.are) ∙ law.stays told more.signs fault e
 
     back : (fault : Fault) → way.refused (signs_of tree) ≡ Some fault → way.refused told ≡ Some fault
     back fault e = by (way.refused told) refl
       where
         by : (x : Option Fault) → way.refused told ≡ x → x ≡ Some fault
-        by None k = absurd (neither (way.refused (signs_of tree)) fault (ap way.refused closed_shows ∙ bare_accepted way.refused law tells.more (sees nothing_seen tells.events) tells.bare k) e)
+        by None k = absurd (some_none (way.refused (signs_of tree)) fault (ap way.refused shows ∙ bare_accepted way.refused law tells.more (sees nothing_seen tells.events) (bare_such tells.more tells.bare) k) e)
         by (Some other) k = sym (on other k) ∙ e
 
     -- a `<` behind them shows no start tag that ends before it

@@ -41,17 +41,13 @@ stays_heard A stop.NoMemory old new t h = tt
 stays_heard A (stop.Fault fault) old new t h = by t h
   where
     by_tag : (g : Tag) (taken : Result TagEffect Refused) → Err (stop.Fault fault) ≡ token_result g taken → TagGives old (tag_seen g) taken new → new ≡ old
-    by_tag g (Ok told) e gives = absurd (cc)
     by_tag g (Err (refused.Fault kind)) e gives = tag_stays (tag_seen g).closing old new (tag_seen g) kind gives
-    by_tag g (Err refused.NoMemory) e gives = absurd (cc)
+    by_tag g _ e gives = absurd (cc)
 
     by : (x : Token) → TakesToken old x (Err (stop.Fault fault)) new → new ≡ old
-    by token.More k = k.1
-    by token.Skipped k = k.1
-    by token.Doctype k = k.1
-    by (token.Text text) k = k.1
     by (token.Start g) k = by_tag g k.taken k.is k.gives
     by (token.End g) k = by_tag g k.taken k.is k.gives
+    by _ k = k.1
 
 pub stays_same : (A : Type 0) (why : Stop) (l : Lines) → StaysAtFault {A = A} (Err why) l l
 stays_same A (stop.Fault fault) l = refl

@@ -2,9 +2,8 @@
 use Rattle.std.proofs.Common.{◌≡◌, ◌∙◌, ℕ, zero, suc, ◌-◌, List, [], ◌∷◌, ◌++◌, length, take, drop, refl, ap, arith}
 
 pub front_back : (n : ℕ) (xs : List ℕ) → take n xs ++ drop n xs ≡ xs
-front_back zero xs = refl
-front_back (suc n) [] = refl
 front_back (suc n) (x ∷ xs) = ap (λ r. x ∷ r) (front_back n xs)
+front_back _ _ = refl
 
 pub every : (xs : List ℕ) → take (length xs) xs ≡ xs
 every [] = refl

@@ -1,67 +1,52 @@
 -- Where the faults lie that a piece of a page brings, and what stands before them.
-use Rattle.std.proofs.Common.{◌≡◌, ◌∙◌, ℕ, ◌+◌, ◌≤◌, ◌<◌, Bool, true, false, List, [], ◌∷◌, ◌++◌, map, length, take, drop, refl, sym, ap, subst, Option, Some, None, Result, Ok, arith}
-use Rattle.std.specs.Prelude.{if◌then◌else◌}
-use Rattle.rx_terms.specs.Text.{Chars}
+use Rattle.std.proofs.Common.{◌≡◌, ◌∙◌, ℕ, ◌+◌, ◌≤◌, ◌<◌, List, [], ◌∷◌, ◌++◌, length, take, drop, refl, sym, ap, subst, Option, Some, None, Result, Ok, arith}
 use Rattle.rx_terms.specs.Ascii.{less_than_sign}
 use Rattle.rx_chars.specs.declared.syntax.Syntax.{Syntax}
 use Rattle.rx_grammar.specs.declared.faults.Fault.{Fault}
 use Rattle.rx_grammar.specs.declared.limits.Limits.{Limits}
 use Rattle.rx_grammar.specs.Begun.{Line, Phase}
 use Rattle.rx_grammar.specs.Items.{Item}
-use Rattle.rx_grammar.specs.Trees.{StartTag}
 use Rattle.rx_pages.specs.Closings.{closed, IsWide, IsFront, Bare, AllEnd, ClosedTells}
 use Rattle.rx_pages.specs.Nesting.{Event, begins, says, finishes, Nesting, Goes, stands, goes}
 use Rattle.rx_pages.specs.PageReader.{Progress, page_read}
 use Rattle.rx_pages.proofs.ClosedTold.{fronts_tell}
-use Rattle.rx_nest.specs.Signs.{Sign, begun, said, Flags, Sight, is_hidden, ended_sight, see, sees, nothing_seen, signs_of}
+use Rattle.rx_nest.specs.Signs.{Sign, Sight, sees, nothing_seen, signs_of}
 use Rattle.rx_pages.proofs.Sizes.{read_size}
 use Rattle.rx_nest.proofs.TagPlaces.{shows_more}
 use Rattle.rx_nest.proofs.TextSteps.{sees_append}
 use Rattle.rx_nest.specs.RefusedTags.{ReaderRefuses}
 use Rattle.rx_nest.specs.FaultPlaces.{IsAcceptedPage, IsAcceptedFront}
 use Rattle.rx_nest.specs.Ways.{Way, IsRefusal}
-use Rattle.rx_nest.specs.TagPlaces.{ToldBefore}
 use Rattle.rx_nest.proofs.FaultPlacing.{take_length, read_front, page_shows}
-use Rattle.rx_nest.proofs.Refusing.{at_from, said_accepted, ended_accepted, refused_before}
-use Rattle.rx_nest.proofs.Firsts.{all_seen}
-use Rattle.rx_nest.proofs.Placing.{told_append, StepBefore, item_before}
-use Rattle.rx_nest.proofs.TokenPlacing.{take_front, token_before, refused_fronts}
+use Rattle.rx_nest.proofs.Refusing.{at_from, bare_accepted}
+use Rattle.rx_nest.proofs.TokenPlacing.{AllBegin, StepBegins, begin_append, item_such, refused_such, take_front, token_before, refused_fronts}
+use Rattle.rx_grammar.specs.Trees.{Tree}
+use Rattle.rx_grammar.specs.Pages.{Page}
 use Rattle.rx_nest.proofs.Pieces.{front_back}
 
 -- tags that are told end where their tokens do
 
-goes_before : (syntax : Syntax) (depth end : ℕ) (meant : Nesting → Type 0) {n : Nesting} {items : List Item} {events : List Event} → Goes syntax depth meant n items events → AllEnd end items → ToldBefore end events
+goes_before : (syntax : Syntax) (depth end : ℕ) (meant : Nesting → Type 0) {n : Nesting} {items : List Item} {events : List Event} → Goes syntax depth meant n items events → AllEnd end items → AllBegin (λ t. t.at < end) events
 goes_before syntax depth end meant (stands n p) h = tt
 goes_before syntax depth end meant (goes {n = n} {events = events} item step c e g) h =
-    told_append end step.events events (subst (StepBefore end) e (item_before syntax depth end n item (λ t k. h.0))) (goes_before syntax depth end meant g h.1)
+    begin_append (λ t. t.at < end) step.events events (subst (StepBegins (λ t. t.at < end)) e (item_such (λ t. t.at < end) syntax depth n item (λ t k. h.0))) (goes_before syntax depth end meant g h.1)
 
--- elements without attributes aren't refused
+pub bare_such : (events : List Event) → Bare events → AllBegin (λ t. t.attributes ≡ []) events
+bare_such [] b = tt
+bare_such (begins t hides ∷ events) b = (b.0, bare_such events b.1)
+bare_such (says chars ∷ events) b = bare_such events b
+bare_such (finishes ∷ events) b = bare_such events b
 
-module _ (refused : List Sign → Option Fault) (law : IsRefusal refused) where
-  abbrev Accepted : List Sign → Type 0
-  Accepted signs = refused signs ≡ None
-
-  abbrev begun_sight : StartTag → Bool → Bool → Flags → List Sign → Sight
-  begun_sight t hides b flags signs = if b then record { flags = (false, true) ∷ flags; signs = signs } else record { flags = (true, hides) ∷ flags; signs = signs ++ begun t ∷ [] }
-
-  begun_accepted : (t : StartTag) (hides b : Bool) (flags : Flags) (signs : List Sign) → t.attributes ≡ [] → Accepted signs → Accepted (begun_sight t hides b flags signs).signs
-  begun_accepted t hides true flags signs e h = h
-  begun_accepted t hides false flags signs e h = law.bare signs t e h
-
-  text_accepted : (chars : Chars) (b : Bool) (signs : List Sign) → Accepted signs → Accepted (if b then signs else signs ++ map said chars)
-  text_accepted chars true signs h = h
-  text_accepted chars false signs h = said_accepted refused law signs chars h
-
-  finished_accepted : (flags : Flags) (signs : List Sign) → Accepted signs → Accepted (ended_sight flags signs).signs
-  finished_accepted [] signs h = h
-  finished_accepted (flag ∷ flags) signs h = ended_accepted refused law signs flag.0 h
-
-  pub bare_accepted : (events : List Event) (sight : Sight) → Bare events → Accepted sight.signs → Accepted (sees sight events).signs
-  bare_accepted [] sight b h = h
-  bare_accepted (begins t hides ∷ events) sight b h =
-      bare_accepted events (see (begins t hides) sight.flags sight.signs) b.1 (begun_accepted t hides (is_hidden sight.flags) sight.flags sight.signs b.0 h)
-  bare_accepted (says chars ∷ events) sight b h = bare_accepted events (see (says chars) sight.flags sight.signs) b (text_accepted chars (is_hidden sight.flags) sight.signs h)
-  bare_accepted (finishes ∷ events) sight b h = bare_accepted events (see finishes sight.flags sight.signs) b (finished_accepted sight.flags sight.signs h)
+-- closed they show what they showed, and no attributes besides
+pub closed_shows : (syntax : Syntax) (limits : Limits) (bytes : List ℕ) (line : Line) (phase : Phase) (t : ClosedTells syntax limits bytes line phase) (wide : Limits) → IsWide limits wide (length (closed bytes line phase)) → (tree : Tree) → Page syntax wide (closed bytes line phase) tree
+    → signs_of tree ≡ (sees (sees nothing_seen t.events) t.more).signs
+closed_shows syntax limits bytes line phase t wide is_wide tree page =
+    let p = page_shows syntax wide (closed bytes line phase) tree page in
+    let q = t.whole wide is_wide in
+    let same : ◌≡◌ {A = Result Progress Fault} (Ok p.final) (Ok q.now) = sym p.read ∙ q.read in
+    let now : p.final ≡ q.now = cc in
+    let is : p.final.told ≡ t.events ++ t.more = ap (λ (x : Progress). x.told) now ∙ q.told in
+    sym p.signs_are ∙ (ap (λ es. (sees nothing_seen es).signs) is ∙ ap (λ (x : Sight). x.signs) (sees_append nothing_seen t.events t.more))
 
 -- before a start tag that is refused stands the front of a page without such tags
 
@@ -116,7 +101,9 @@ module _ (way : Way) (law : IsRefusal way.refused) (bytes : List ℕ) (fault : F
             at_from (length front) (length (front ++ less_than_sign ∷ [])) more.signs other more.lie (law.lies (sees nothing_seen q.now.told).signs more.signs other none there)
 
         early : (other : Fault) → way.refused told ≡ Some other → other.at < length front
-        early other k = refused_before way.refused law (length front) told other (all_seen (length front) t.events nothing_seen tt (goes_before way.syntax way.limits.depth (length front) (λ n. n ≡ t.place) t.going t.ends)) k
+        early other k =
+            let at = refused_such (λ t. t.at < length front) way.refused law t.events other (goes_before way.syntax way.limits.depth (length front) (λ n. n ≡ t.place) t.going t.ends) k in
+            omega (arith, at.1, at.2.at)
 
         by : (x : Option Fault) → way.refused told ≡ x → x ≡ None
         by None k = refl
@@ -128,17 +115,10 @@ module _ (way : Way) (law : IsRefusal way.refused) (bytes : List ℕ) (fault : F
     is_wide : IsWide way.limits wide (length (closed front line phase))
     is_wide = record { depth = refl; tag = omega arith; page = omega arith }
 
-    same_now : (p q : Progress) → ◌≡◌ {A = Result Progress Fault} (Ok p) (Ok q) → p ≡ q
-    same_now p q e = cc
-
     closed_accepted : way.refused (signs_of t.tree) ≡ None
     closed_accepted =
-        let p = page_shows way.syntax wide (closed front line phase) t.tree (t.page wide is_wide) in
-        let q = t.whole wide is_wide in
-        let is : p.final.told ≡ t.events ++ t.more = ap (λ (x : Progress). x.told) (same_now p.final q.now (sym p.read ∙ q.read)) ∙ q.told in
-        let shown : signs_of t.tree ≡ (sees (sees nothing_seen t.events) t.more).signs =
-        sym p.signs_are ∙ (ap (λ es. (sees nothing_seen es).signs) is ∙ ap (λ (x : Sight). x.signs) (sees_append nothing_seen t.events t.more)) in
-        ap way.refused shown ∙ bare_accepted way.refused law t.more (sees nothing_seen t.events) t.bare told_accepted
+        ap way.refused (closed_shows way.syntax way.limits front line phase t wide is_wide t.tree (t.page wide is_wide))
+        ∙ bare_accepted way.refused law t.more (sees nothing_seen t.events) (bare_such t.more t.bare) told_accepted
 
   closes_accepted : (f : IsFront way.syntax way.limits front) → 1 ≤ way.limits.depth → IsAcceptedPage way (closed front f.line f.phase)
   closes_accepted f d =

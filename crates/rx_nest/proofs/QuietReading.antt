@@ -3,7 +3,7 @@ use Rattle.std.proofs.Common.{◌≡◌, ◌∙◌, ℕ, zero, suc, ◌<◌, Boo
 use Rattle.std.specs.Prelude.{◌&&◌, ◌||◌, ◌==◌, not, nat_le, if◌then◌else◌}
 use Rattle.std.proofs.lemmas.Bool.{and_from}
 use Rattle.std.proofs.lemmas.Bool.Decides.{nat_tests}
-use Rattle.std.proofs.lemmas.List.{append_cancel_left}
+use Rattle.std.proofs.lemmas.List.{append_cancel_left, map-append}
 use Rattle.rx_terms.specs.Ascii.{less_than_sign, ampersand, greater_than_sign}
 use Rattle.rx_terms.specs.Text.{Chars}
 use Rattle.rx_chars.specs.declared.syntax.Syntax.{Syntax}
@@ -11,18 +11,18 @@ use Rattle.rx_chars.specs.declared.utf8.Utf8Step.{Utf8Step}
 use Rattle.rx_chars.specs.declared.utf8.Utf8Step.TheVariants.{More, Char, Bad}
 use Rattle.rx_chars.specs.Utf8.{answer_of}
 use Rattle.rx_chars.specs.Characters.{Entry, byte_order_mark, line_feed, carriage_return, as_line_end}
-use Rattle.rx_terms.proofs.Bools.{by_test, split, both}
+use Rattle.rx_terms.proofs.Bools.{by_test, split, both, neither, untrue}
 use Rattle.rx_grammar.specs.declared.contents.Content.{Content}
 use Rattle.rx_grammar.specs.declared.faults.Fault.{Fault}
 use Rattle.rx_grammar.specs.declared.faults.Kind.{Kind}
 use Rattle.rx_grammar.specs.declared.limits.Limits.{Limits}
-use Rattle.rx_grammar.specs.Tokens.{Token, character}
+use Rattle.rx_grammar.specs.Tokens.{Tag, Token, tag, character, reference, kept, section, comment, doctype}
 use Rattle.rx_grammar.specs.Spelling.{has_references, is_text}
 use Rattle.rx_grammar.specs.Items.{values, Item, is_literal, is_line_feed}
-use Rattle.rx_grammar.specs.Begun.{Phase, before, within, after}
+use Rattle.rx_grammar.specs.Begun.{Phase, before}
 use Rattle.rx_grammar.specs.Trees.{StartTag}
 use Rattle.rx_pages.specs.Scanner.{Verdict, goes_on, whole, ended, refused, verdict, at_first}
-use Rattle.rx_pages.specs.Nesting.{Event, begins, says, finishes, Nesting, Step, nest_step, step_by, text_step, told as told_text}
+use Rattle.rx_pages.specs.Nesting.{Event, begins, says, finishes, Nesting, Step, nest_step, step_by, text_step, told as told_text, doctype_step}
 use Rattle.rx_pages.specs.PageReader as reader
 use Rattle.rx_pages.specs.PageReader.{Spot, spot_of, Scanning, starts_at, Scanned, first_of, token_at, is_doctype, item_of, is_too_long, completed, read_char, read_answer, read_byte, Progress, with_events, step_on, steps_on, no_step, progress_of, nested_items, page_byte_on, telling, page_on, page_read, nothing_read}
 use Rattle.rx_pages.proofs.ScanSteps.{page_append}
@@ -39,6 +39,7 @@ use Rattle.rx_nest.specs.Nests as nests
 use Rattle.rx_nest.specs.Nests.{Nested, Stepped, event_signs, IsBetween}
 use Rattle.rx_nest.specs.Signs.{Sign, said, Sight, is_hidden, sees, nothing_seen, finishing}
 use Rattle.rx_nest.proofs.TextSteps.{sees_append}
+use Rattle.rx_nest.proofs.TokenPlacing.{HasNoTag}
 use Rattle.rx_nest.specs.Readings.{OwesNone}
 use Rattle.rx_nest.specs.Listening.{is_calm}
 use Rattle.rx_nest.specs.Quiets.{HasMemory}
@@ -53,43 +54,30 @@ unlike held byte c d q e n l =
     again : (d : ℕ) → (d == d) ≡ true
     again d = grind (arith, nat_tests)
 
-neither : (a b : Bool) → not (a || b) ≡ true → (a ≡ false) × (b ≡ false)
-neither true b h = absurd (cc)
-neither false true h = absurd (cc)
-neither false false h = (refl, refl)
-
-pub record IsChar (token : Token) : Type 0 where
-  value : ℕ
-  is : token ≡ character value
-
 abbrev Plain : Verdict → Type 0
 Plain goes_on = ⊥
-Plain (whole token) = IsChar token
+Plain (whole token) = (t : Tag) → token ≡ tag t → ⊥
 Plain (ended token) = ⊥
 Plain (refused kind) = Unit {0}
 
 first_plain : (inside : Content) (c : ℕ) → (c == less_than_sign) ≡ false → (c == ampersand) ≡ false → Plain (at_first inside c)
 first_plain inside c a b =
     split Plain (c == less_than_sign || (c == ampersand && has_references inside)) _ _ (λ t. absurd (let w : true ≡ false = sym t ∙ ap₂ (λ x y. x || (y && has_references inside)) a b in cc))
-    (λ f. split Plain (is_text inside c) _ _ (λ t. record { value = c; is = refl }) (λ t. tt))
-
-abbrev AllChars : List Item → Type 0
-AllChars [] = Unit {0}
-AllChars (item ∷ items) = IsChar item.token × AllChars items
+    (λ f. split Plain (is_text inside c) _ _ (λ t. λ u k. cc) (λ t. tt))
 
 abbrev Calm : Result Scanned Kind → Type 0
-Calm (Ok r) = (r.next.run ≡ []) × AllChars r.items
+Calm (Ok r) = (r.next.run ≡ []) × HasNoTag r.items
 Calm (Err kind) = Unit {0}
 
 module _ (syntax : Syntax) (limits : Limits) (spot : Spot) where
-  completed_calm : (s : Scanning) (after_return : Bool) (item : Item) → IsChar item.token → Calm (completed syntax limits spot after_return item s)
+  completed_calm : (s : Scanning) (after_return : Bool) (item : Item) → ((t : Tag) → item.token ≡ tag t → ⊥) → Calm (completed syntax limits spot after_return item s)
   completed_calm s after_return item k =
       split Calm (s.two && is_literal greater_than_sign item) _ _ (λ e. tt) (λ e. split Calm (is_doctype item.token && not spot.leads) _ _ (λ d. tt) (λ d. (refl, (k, tt))))
 
   told_calm : (s : Scanning) (after_return : Bool) (entry : Entry) (v : Verdict) → Plain v → Calm (reader.told syntax limits spot after_return entry s v)
   told_calm s after_return entry goes_on p = absurd p
   told_calm s after_return entry (whole token) p =
-      completed_calm s after_return (item_of spot.inside token (s.run ++ entry ∷ [])) (subst IsChar (sym (token_of_item spot.inside token (s.run ++ entry ∷ []))) p)
+      completed_calm s after_return (item_of spot.inside token (s.run ++ entry ∷ [])) (λ t e. p t (sym (token_of_item spot.inside token (s.run ++ entry ∷ [])) ∙ e))
   told_calm s after_return entry (ended token) p = absurd p
   told_calm s after_return entry (refused kind) p = tt
 
@@ -107,7 +95,7 @@ module _ (syntax : Syntax) (limits : Limits) (spot : Spot) where
       by Bad k = tt
       by More k = split Calm (is_too_long syntax limits spot s.run (token_at s) s.at) _ _ (λ m. tt) (λ m. (e, tt))
       by (Char c) k =
-          let n = neither (byte == 60) (byte == 38) q in
+          let n = neither (byte == 60) (byte == 38) (untrue (byte == 60 || byte == 38) q) in
           split Calm (c == 0) _ _ (λ m. tt)
           (λ m. split Calm (is_too_long syntax limits spot s.run (token_at s) s.at) _ _ (λ o. tt)
           (λ o. char_calm s c e (unlike s.held byte c 60 n.0 k refl (lit< tt)) (unlike s.held byte c 38 n.1 k refl (lit< tt))))
@@ -120,7 +108,7 @@ AllSay (begins t hidden ∷ events) = ⊥
 AllSay (says chars ∷ events) = AllSay events
 AllSay (finishes ∷ events) = ⊥
 
-pub say_append : (xs ys : List Event) → AllSay xs → AllSay ys → AllSay (xs ++ ys)
+say_append : (xs ys : List Event) → AllSay xs → AllSay ys → AllSay (xs ++ ys)
 say_append [] ys a b = b
 say_append (begins t hidden ∷ xs) ys a b = absurd a
 say_append (says chars ∷ xs) ys a b = say_append xs ys a b
@@ -132,23 +120,37 @@ StepSays (Err kind) = Unit {0}
 
 told_says : (p : Phase) (chars : Chars) → AllSay (told_text p chars)
 told_says (before stood) chars = tt
-told_says within chars = tt
-told_says after chars = tt
+told_says _ chars = tt
 
-pub text_says : (n : Nesting) (dropped : Bool) (chars : Chars) → AllSay (text_step n dropped chars).events
+text_says : (n : Nesting) (dropped : Bool) (chars : Chars) → AllSay (text_step n dropped chars).events
 text_says n dropped chars = split AllSay (n.drops && dropped) _ _ (λ e. tt) (λ e. told_says n.phase chars)
 
-item_says : (syntax : Syntax) (depth : ℕ) (n : Nesting) (item : Item) → IsChar item.token → StepSays (nest_step syntax depth n item)
-item_says syntax depth n item k = subst (λ t. StepSays (step_by syntax depth n item t)) (sym k.is) (text_says n (is_line_feed (character k.value)) (k.value ∷ []))
+-- tokens that are no tags say text alone
+module _ (syntax : Syntax) (depth : ℕ) where
+  doctype_says : (p : Phase) → StepSays (doctype_step p)
+  doctype_says (before true) = tt
+  doctype_says _ = tt
 
-items_say : (syntax : Syntax) (depth : ℕ) (items : List Item) → AllChars items → (x : Result Step Kind) → StepSays x → StepSays (steps_on syntax depth x items)
-items_say syntax depth [] h x s = s
-items_say syntax depth (item ∷ items) h (Err kind) s = items_say syntax depth items h.1 (Err kind) tt
-items_say syntax depth (item ∷ items) h (Ok step) s = items_say syntax depth items h.1 (step_on syntax depth (Ok step) item) (by (nest_step syntax depth step.next item) (item_says syntax depth step.next item h.0))
-  where
-    by : (x : Result Step Kind) → StepSays x → StepSays (with_events step.events x)
-    by (Ok next) k = say_append step.events next.events s k
-    by (Err kind) k = tt
+  item_says : (n : Nesting) (item : Item) → ((t : Tag) → item.token ≡ tag t → ⊥) → StepSays (nest_step syntax depth n item)
+  item_says n item h = by item.token h
+    where
+      by : (token : Token) → ((t : Tag) → token ≡ tag t → ⊥) → StepSays (step_by syntax depth n item token)
+      by (tag t) k = absurd (k t refl)
+      by (character c) k = text_says n (is_line_feed (character c)) (c ∷ [])
+      by (reference c) k = text_says n (is_line_feed (reference c)) (c ∷ [])
+      by (kept chars) k = text_says n false chars
+      by (section chars) k = text_says n false chars
+      by comment k = tt
+      by doctype k = doctype_says n.phase
+
+  pub items_say : (items : List Item) → HasNoTag items → (x : Result Step Kind) → StepSays x → StepSays (steps_on syntax depth x items)
+  items_say [] h x s = s
+  items_say (item ∷ items) h (Err kind) s = items_say items h.1 (Err kind) tt
+  items_say (item ∷ items) h (Ok step) s = items_say items h.1 (step_on syntax depth (Ok step) item) (by (nest_step syntax depth step.next item) (item_says step.next item h.0))
+    where
+      by : (x : Result Step Kind) → StepSays x → StepSays (with_events step.events x)
+      by (Ok next) k = say_append step.events next.events s k
+      by (Err kind) k = tt
 
 record Says (told new : List Event) : Type 0 where
   more : List Event
@@ -183,10 +185,6 @@ module _ (syntax : Syntax) (limits : Limits) where
     pub chars : Chars
     pub is : new ≡ old ++ map said chars
 
-  map_both : (a b : Chars) → map said a ++ map said b ≡ map said (a ++ b)
-  map_both [] b = refl
-  map_both (c ∷ a) b = ap (λ l. said c ∷ l) (map_both a b)
-
   seen_says : (events : List Event) (sight : Sight) → AllSay events → IsSaid sight.signs (sees sight events).signs
   seen_says [] sight a = record { chars = []; is = sym (append-nil sight.signs) }
   seen_says (begins t hidden ∷ events) sight a = absurd a
@@ -198,7 +196,7 @@ module _ (syntax : Syntax) (limits : Limits) where
       by true ih = ih sight.signs
       by false ih =
           let k = ih (sight.signs ++ map said text) in
-          record { chars = text ++ k.chars; is = k.is ∙ (append_assoc sight.signs (map said text) (map said k.chars) ∙ ap (λ l. sight.signs ++ l) (map_both text k.chars)) }
+          record { chars = text ++ k.chars; is = k.is ∙ (append_assoc sight.signs (map said text) (map said k.chars) ∙ ap (λ l. sight.signs ++ l) (sym (map-append said text k.chars))) }
 
   pub record Quietly (bytes piece : List ℕ) (p q : Progress) : Type 0 where
     pub run : q.now.scan.run ≡ []
@@ -217,14 +215,12 @@ module _ (syntax : Syntax) (limits : Limits) where
 -- the parts of a quiet piece are quiet
 
 pub quiet_take : (n : ℕ) (piece : List ℕ) → is_quiet piece ≡ true → is_quiet (take n piece) ≡ true
-quiet_take zero piece q = refl
-quiet_take (suc n) [] q = refl
 quiet_take (suc n) (x ∷ piece) q = let k = both (not (x == 60 || x == 38)) _ q in and_from (not (x == 60 || x == 38)) _ k.0 (quiet_take n piece k.1)
+quiet_take _ _ q = refl
 
 pub quiet_drop : (n : ℕ) (piece : List ℕ) → is_quiet piece ≡ true → is_quiet (drop n piece) ≡ true
-quiet_drop zero piece q = q
-quiet_drop (suc n) [] q = q
 quiet_drop (suc n) (x ∷ piece) q = quiet_drop n piece (both (not (x == 60 || x == 38)) _ q).1
+quiet_drop _ _ q = q
 
 -- nothing is due then, and no element begins or ends
 
@@ -253,13 +249,11 @@ none_owed owed t chars = by owed.ends owed.own chars
     by zero (Some own.Finish) (c ∷ chars) e = absurd (cc)
 
 calm_event : (e : Shown) (chars : Chars) (ys : List Sign) → map said chars ≡ event_signs e ++ ys → is_calm e ≡ true
-calm_event event.More chars ys h = refl
-calm_event event.Skipped chars ys h = refl
-calm_event (event.Text text) chars ys h = refl
 calm_event (event.Begin t) [] ys h = absurd (cc)
 calm_event (event.Begin t) (c ∷ chars) ys h = absurd (cc)
 calm_event event.Finish [] ys h = absurd (cc)
 calm_event event.Finish (c ∷ chars) ys h = absurd (cc)
+calm_event _ chars ys h = refl
 
 -- what a step does on a quiet piece
 pub record StepsQuietly (syntax : Syntax) (limits : Limits) (bytes piece : List ℕ) (n : ℕ) (e : Shown) (new : Nested) : Type 0 where

@@ -51,12 +51,11 @@ use Rattle.rx_nest.proofs.Heeding.{scan_fails, scan_is, quiet_at, quiet_shows, s
 
 -- the text that is shown is the one that was told
 text_is : (answer : TokenKind) (v : Scanner) → v.what ≡ answer → (text : _) → Shows answer v.reading (token.Text text) → (chars text.now ≡ last_text v) × (has_text v.what ≡ true)
-text_is what.Text v e text s = rw e (s, refl)
-text_is what.Section v e text s = rw e (s, refl)
 text_is what.Nothing v e text s = absurd (let w : token.Text text ≡ token.More = s in cc)
 text_is what.Skipped v e text s = absurd (let w : token.Text text ≡ token.Skipped = s in cc)
 text_is what.Doctype v e text s = absurd (let w : token.Text text ≡ token.Doctype = s in cc)
 text_is what.Tag v e text s = elim s [ ]
+text_is _ v e text s = rw e (s, refl)
 
 pub record TagShown (v : Scanner) (closing : Bool) (t : Tag) : Type 0 where
   pub what_is : v.what ≡ what.Tag
@@ -64,19 +63,17 @@ pub record TagShown (v : Scanner) (closing : Bool) (t : Tag) : Type 0 where
 
 start_is : (answer : TokenKind) (v : Scanner) → v.what ≡ answer → (t : Tag) → Shows answer v.reading (token.Start t) → TagShown v false t
 start_is what.Tag v e t s = record { what_is = e; shows = s }
-start_is what.Text v e t s = elim s [ ]
-start_is what.Section v e t s = elim s [ ]
 start_is what.Nothing v e t s = absurd (let w : token.Start t ≡ token.More = s in cc)
 start_is what.Skipped v e t s = absurd (let w : token.Start t ≡ token.Skipped = s in cc)
 start_is what.Doctype v e t s = absurd (let w : token.Start t ≡ token.Doctype = s in cc)
+start_is _ v e t s = elim s [ ]
 
 end_is : (answer : TokenKind) (v : Scanner) → v.what ≡ answer → (t : Tag) → Shows answer v.reading (token.End t) → TagShown v true t
 end_is what.Tag v e t s = record { what_is = e; shows = s }
-end_is what.Text v e t s = elim s [ ]
-end_is what.Section v e t s = elim s [ ]
 end_is what.Nothing v e t s = absurd (let w : token.End t ≡ token.More = s in cc)
 end_is what.Skipped v e t s = absurd (let w : token.End t ≡ token.Skipped = s in cc)
 end_is what.Doctype v e t s = absurd (let w : token.End t ≡ token.Doctype = s in cc)
+end_is _ v e t s = elim s [ ]
 
 -- the content inside open elements is one of the syntax
 module _ where
@@ -95,17 +92,12 @@ module _ where
 
   at_is : (c : Content) (in_svg : Bool) (name : Chars) → is_of_syntax Html (inside_at c in_svg name).content ≡ true
   at_is content.Foreign in_svg name = foreign_is in_svg name
-  at_is content.Outside in_svg name = html_is name
-  at_is content.Html in_svg name = html_is name
-  at_is content.Strict in_svg name = html_is name
-  at_is (content.Raw r) in_svg name = html_is name
-  at_is (content.Rcdata r) in_svg name = html_is name
+  at_is _ in_svg name = html_is name
 
   pub inside_is : (syntax : Syntax) (line : Line) → is_of_syntax syntax (inside_of syntax line).content ≡ true
-  inside_is Html [] = refl
   inside_is Xhtml [] = refl
   inside_is Html (t ∷ above) = at_is (inside_of Html above).content (inside_of Html above).in_svg t.name
-  inside_is Xhtml (t ∷ above) = refl
+  inside_is _ _ = refl
 
 -- nothing is heard exactly where no token is complete
 pub more_same : (t : Token) (h : TreeToken) (old new : Lines) → TakesToken old t (Ok h) new → is_more t ≡ hears_more h
@@ -531,5 +523,4 @@ quiet_heard B old new t why hears none = by t hears none
     by token.Skipped k e = absurd (let w : ◌≡◌ {A = Result TreeToken Stop} (Err why) (Ok tree_token.Skipped) = k.0 in cc)
     by token.Doctype k e = absurd (let w : ◌≡◌ {A = Result TreeToken Stop} (Err why) (Ok tree_token.Skipped) = k.0 in cc)
     by (token.Text text) k e = absurd (let w : ◌≡◌ {A = Result TreeToken Stop} (Err why) (Ok (if says_text old then tree_token.Text else tree_token.Skipped)) = k.0 in cc)
-    by (token.Start g) k e = absurd (cc)
-    by (token.End g) k e = absurd (cc)
+    by _ k e = absurd (cc)

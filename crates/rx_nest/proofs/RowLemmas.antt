@@ -6,17 +6,12 @@ use Rattle.rx_terms.proofs.CharLemmas.{same-ascii}
 use Rattle.rx_grammar.specs.Contents.{inside_html}
 use Rattle.rx_nest.specs.Rows.{row_seen}
 use Rattle.rx_nest.specs.declared.tables.OmittedEnd.{OmittedEnd}
-use Rattle.rx_nest.specs.declared.tables.OmittedEnd.TheVariants.{Item, Definition, Paragraph, Choice, Part, TableRow, Cell}
+use Rattle.rx_nest.specs.declared.tables.OmittedEnd.TheVariants.{Item}
 use Rattle.rx_nest.proofs.NameLemmas.{are_ascii}
 
 pub row_ascii : (row : OmittedEnd) → are_ascii (row_seen row) ≡ true
 row_ascii Item = refl
-row_ascii Definition = refl
-row_ascii Paragraph = refl
-row_ascii Choice = refl
-row_ascii Part = refl
-row_ascii TableRow = refl
-row_ascii Cell = refl
+row_ascii _ = refl
 
 pub inside-chars : (bs : List ℕ) → IsUtf8 bs → inside_html bs ≡ inside_html (chars bs)
 inside-chars bs u =

@@ -20,10 +20,9 @@ left_signs [] (nodes ∷ more) = signs_of nodes
 left_signs (flag ∷ flags) (nodes ∷ more) = (if flag.1 then [] else signs_of nodes) ++ (finish_of flag.0 ++ left_signs flags more)
 
 text_signs : (chars : Chars) (nodes : Tree) → signs_of (after_text chars nodes) ≡ map said chars ++ signs_of nodes
-text_signs [] nodes = refl
 text_signs (c ∷ chars) end = refl
-text_signs (c ∷ chars) (element t inside nodes) = refl
 text_signs (c ∷ chars) (text more nodes) = ap (λ x. said c ∷ x) (ap (λ x. x ++ signs_of nodes) (map-append said chars more) ∙ append_assoc (map said chars) (map said more) (signs_of nodes))
+text_signs _ _ = refl
 
 abbrev Sees : Flags → List Sign → List Event → Type 0
 Sees flags signs events = sees (record { flags = flags; signs = signs }) events ≡ record { flags = []; signs = signs ++ left_signs flags (told_trees events) }

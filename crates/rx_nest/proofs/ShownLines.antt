@@ -2,7 +2,7 @@
 use Rattle.std.proofs.Common.{◌≡◌, ◌∙◌, ℕ, Bool, true, false, List, [], ◌∷◌, ◌++◌, refl, sym, ap, subst, append_assoc, append-nil, Option, Some, None, Result, Ok, Err}
 use Rattle.std.specs.Prelude.{◌&&◌, ◌||◌, not, map, if◌then◌else◌}
 use Rattle.rx_terms.specs.Text.{Chars}
-use Rattle.rx_terms.proofs.Bools.{by_test}
+use Rattle.rx_terms.proofs.Bools.{by_test, split}
 use Rattle.rx_chars.specs.declared.syntax.Syntax.{Syntax}
 use Rattle.rx_grammar.specs.declared.faults.Fault.{Fault}
 use Rattle.rx_grammar.specs.declared.faults.Kind.{Kind}
@@ -13,11 +13,10 @@ use Rattle.rx_grammar.specs.Contents.{is_alone, is_html, hides}
 use Rattle.rx_grammar.specs.Trees.{StartTag}
 use Rattle.rx_grammar.specs.Items.{Item, is_line_feed, start_of}
 use Rattle.rx_grammar.specs.Omission.{enders, is_omissible, is_held}
-use Rattle.rx_grammar.specs.Begun.{Line, inside_of, parent_of, Phase, before, within, after}
-use Rattle.rx_grammar.specs.PageFaults.{Rows, first_row, tag_rows, under_start, after_start, after_end}
-use Rattle.rx_pages.specs.Nesting.{Event, begins, says, finishes, Nesting, not_begun, Step, nest_step, step_by, unless_refused, tag_passes, begun_under, over, line_above, text_step, told, doctype_step, ended_by_start, ended_under, ended_by_end}
-use Rattle.rx_pages.specs.PageReader.{Scanned, Progress, spot_of, read_byte, with_events, steps_on, no_step, progress_of, nested_items, page_byte_on, telling, page_on, page_read, nothing_read}
-use Rattle.rx_pages.proofs.FaultWalk.{fault_stays}
+use Rattle.rx_grammar.specs.Begun.{Line, inside_of, parent_of, Phase, before, within}
+use Rattle.rx_grammar.specs.PageFaults.{first_row, tag_rows, under_start, after_start, after_end}
+use Rattle.rx_pages.specs.Nesting.{Event, begins, says, finishes, Nesting, not_begun, Step, nest_step, step_by, unless_refused, tag_passes, begun_under, over, line_above, text_step, told, doctype_step, going_on, ended_by_start, ended_under, ended_by_end}
+use Rattle.rx_pages.specs.PageReader.{Scanned, Progress, spot_of, read_byte, with_events, step_on, steps_on, no_step, progress_of, nested_items, page_byte_on, telling, page_on, page_read, nothing_read}
 use Rattle.rx_pages.proofs.Underway.{reads_to, is_underway, ok_is}
 use Rattle.rx_nest.specs.Signs.{Sign, begun, said, finished, Flags, is_hidden, Sight, see, sees, ended_sight, nothing_seen}
 use Rattle.rx_nest.specs.ShownLines.{tag_of, is_hidden_in, shown_line, outer, open_on, open_after, StandsUnderway, ShowsOpenOnes}
@@ -25,58 +24,76 @@ use Rattle.rx_nest.proofs.TextSteps.{sees_append}
 
 -- What holds of the first place of a page, and goes on with each token, holds wherever a page's bytes lead.
 module _ (syntax : Syntax) (limits : Limits) (holds : Nesting → List Event → Type 0) where
-  -- it goes on with a token
+  -- it goes on with a token that tells nothing, with text in an element, with the document type and with a tag
   pub record GoesOn : Type 0 where
-    pub quiet : (n : Nesting) (events : List Event) → holds n events → holds n (events ++ [])
-    pub steps : (n : Nesting) (events : List Event) (item : Item) (step : Step) → holds n events → nest_step syntax limits.depth n item ≡ Ok step → holds step.next (events ++ step.events)
+    pub quiet : (n m : Nesting) (events : List Event) → m.line ≡ n.line → m.phase ≡ n.phase → holds n events → holds m (events ++ [])
+    pub saying : (n : Nesting) (events : List Event) (chars : Chars) → n.phase ≡ within → holds n events → holds (going_on n) (events ++ says chars ∷ [])
+    pub standing : (n : Nesting) (events : List Event) → n.phase ≡ before false → holds n events → holds (record { line = []; phase = before true; drops = false }) (events ++ [])
+    pub tagging : (n : Nesting) (events : List Event) (item : Item) (t : Tag) → first_row (tag_rows syntax limits.depth n.line n.phase t) ≡ None → holds n events → holds (tag_passes syntax n.line item t).next (events ++ (tag_passes syntax n.line item t).events)
+
+  abbrev Behind : List Event → Result Step Kind → Type 0
+  Behind events (Ok step) = holds step.next (events ++ step.events)
+  Behind events (Err kind) = Unit {0}
+
+  abbrev HoldsAt : Result Progress Fault → Type 0
+  HoldsAt (Ok p) = holds p.now.nest p.told
+  HoldsAt (Err fault) = Unit {0}
 
   module _ (on : GoesOn) where
-    items_hold : (n : Nesting) (events : List Event) (items : List Item) (step reached : Step) → holds step.next (events ++ step.events) → steps_on syntax limits.depth (Ok step) items ≡ Ok reached → holds reached.next (events ++ reached.events)
-    items_hold n events [] step reached h e = let is : step ≡ reached = cc in subst (λ (x : Step). holds x.next (events ++ x.events)) is h
-    items_hold n events (item ∷ items) step reached h e = by (λ next. items_hold n events items next reached) (nest_step syntax limits.depth step.next item) refl e
+    text_holds : (n : Nesting) (events : List Event) (is_dropped : Bool) (chars : Chars) → holds n events → Behind events (Ok (text_step n is_dropped chars))
+    text_holds n events is_dropped chars h = by (n.drops && is_dropped) n.phase refl
       where
-        none : (kind : Kind) (items : List Item) → steps_on syntax limits.depth (Err kind) items ≡ Err kind
-        none kind [] = refl
-        none kind (item ∷ items) = none kind items
+        by : (b : Bool) (p : Phase) → n.phase ≡ p → holds (going_on n) (events ++ (if b then [] else told p chars))
+        by false within e = on.saying n events chars e h
+        by _ _ e = on.quiet n (going_on n) events refl refl h
 
-        by : ((next : Step) → holds next.next (events ++ next.events) → steps_on syntax limits.depth (Ok next) items ≡ Ok reached → holds reached.next (events ++ reached.events)) → (x : Result Step Kind) → nest_step syntax limits.depth step.next item ≡ x
-            → steps_on syntax limits.depth (with_events step.events x) items ≡ Ok reached → holds reached.next (events ++ reached.events)
-        by rest (Ok next) k w =
-            rest (record { next = next.next; events = step.events ++ next.events })
-            (subst (λ es. holds next.next es) (append_assoc events step.events next.events) (on.steps step.next (events ++ step.events) item next h k)) w
-        by rest (Err kind) k w = absurd (let z : Err kind ≡ Ok reached = sym (none kind items) ∙ w in cc)
-
-    byte_holds : (p q : Progress) (byte : ℕ) → holds p.now.nest p.told → page_byte_on syntax limits (Ok p) byte ≡ Ok q → holds q.now.nest q.told
-    byte_holds p q byte h e = by (read_byte syntax limits (spot_of syntax p.now.nest) byte p.now.scan) e
+    item_holds : (n : Nesting) (events : List Event) (item : Item) → holds n events → Behind events (nest_step syntax limits.depth n item)
+    item_holds n events item h = by item.token
       where
-        at : (scanned : Scanned) (x : Result Step Kind) → steps_on syntax limits.depth (Ok (no_step p.now.nest)) scanned.items ≡ x → telling p.told (progress_of p.now.scan scanned.next x) ≡ Ok q → holds q.now.nest q.told
-        at scanned (Ok step) k w =
-            let is : record { now = record { scan = scanned.next; nest = step.next }; told = p.told ++ step.events } ≡ q = cc in
-            subst (λ (x : Progress). holds x.now.nest x.told) is (items_hold p.now.nest p.told scanned.items (no_step p.now.nest) step (on.quiet p.now.nest p.told h) k)
-        at scanned (Err kind) k w = absurd (cc)
+        tagged : (t : Tag) (x : Option Kind) → first_row (tag_rows syntax limits.depth n.line n.phase t) ≡ x → Behind events (unless_refused x (tag_passes syntax n.line item t))
+        tagged t None e = on.tagging n events item t e h
+        tagged t (Some kind) e = tt
 
-        by : (x : Result Scanned Kind) → telling p.told (nested_items syntax limits.depth p.now x) ≡ Ok q → holds q.now.nest q.told
-        by (Ok scanned) w = at scanned (steps_on syntax limits.depth (Ok (no_step p.now.nest)) scanned.items) refl w
-        by (Err kind) w = absurd (cc)
+        stood : (p : Phase) → n.phase ≡ p → Behind events (doctype_step p)
+        stood (before false) e = on.standing n events e h
+        stood _ e = tt
 
-    bytes_hold : (bytes : List ℕ) (p q : Progress) → holds p.now.nest p.told → page_on syntax limits (Ok p) bytes ≡ Ok q → holds q.now.nest q.told
-    bytes_hold [] p q h e = let is : p ≡ q = cc in subst (λ (x : Progress). holds x.now.nest x.told) is h
-    bytes_hold (byte ∷ bytes) p q h e = by (λ r. bytes_hold bytes r q) (page_byte_on syntax limits (Ok p) byte) refl e
+        by : (token : Token) → Behind events (step_by syntax limits.depth n item token)
+        by (tag t) = tagged t (first_row (tag_rows syntax limits.depth n.line n.phase t)) refl
+        by (character c) = text_holds n events (is_line_feed (character c)) (c ∷ []) h
+        by (reference c) = text_holds n events (is_line_feed (reference c)) (c ∷ []) h
+        by (kept chars) = text_holds n events false chars h
+        by (section chars) = text_holds n events false chars h
+        by comment = on.quiet n (going_on n) events refl refl h
+        by doctype = stood n.phase refl
+
+    items_hold : (events : List Event) (items : List Item) (x : Result Step Kind) → Behind events x → Behind events (steps_on syntax limits.depth x items)
+    items_hold events [] x h = h
+    items_hold events (item ∷ items) (Err kind) h = items_hold events items (Err kind) tt
+    items_hold events (item ∷ items) (Ok step) h = items_hold events items (step_on syntax limits.depth (Ok step) item) (by (nest_step syntax limits.depth step.next item) (item_holds step.next (events ++ step.events) item h))
       where
-        by : ((r : Progress) → holds r.now.nest r.told → page_on syntax limits (Ok r) bytes ≡ Ok q → holds q.now.nest q.told) → (x : Result Progress Fault) → page_byte_on syntax limits (Ok p) byte ≡ x → page_on syntax limits x bytes ≡ Ok q → holds q.now.nest q.told
-        by rest (Ok r) k w = rest r (byte_holds p r byte h k) w
-        by rest (Err fault) k w = absurd (let z : Err fault ≡ Ok q = sym (fault_stays syntax limits fault bytes) ∙ w in cc)
+        by : (x : Result Step Kind) → Behind (events ++ step.events) x → Behind events (with_events step.events x)
+        by (Ok next) k = subst (λ es. holds next.next es) (append_assoc events step.events next.events) k
+        by (Err kind) k = tt
+
+    byte_holds : (byte : ℕ) (x : Result Progress Fault) → HoldsAt x → HoldsAt (page_byte_on syntax limits x byte)
+    byte_holds byte (Err fault) h = tt
+    byte_holds byte (Ok p) h = by (read_byte syntax limits (spot_of syntax p.now.nest) byte p.now.scan)
+      where
+        at : (scanned : Scanned) (x : Result Step Kind) → Behind p.told x → HoldsAt (telling p.told (progress_of p.now.scan scanned.next x))
+        at scanned (Ok step) k = k
+        at scanned (Err kind) k = tt
+
+        by : (x : Result Scanned Kind) → HoldsAt (telling p.told (nested_items syntax limits.depth p.now x))
+        by (Ok scanned) = at scanned (steps_on syntax limits.depth (Ok (no_step p.now.nest)) scanned.items) (items_hold p.told scanned.items (Ok (no_step p.now.nest)) (on.quiet p.now.nest p.now.nest p.told refl refl h))
+        by (Err kind) = tt
+
+    bytes_hold : (bytes : List ℕ) (x : Result Progress Fault) → HoldsAt x → HoldsAt (page_on syntax limits x bytes)
+    bytes_hold [] x h = h
+    bytes_hold (byte ∷ bytes) x h = bytes_hold bytes (page_byte_on syntax limits x byte) (byte_holds byte x h)
 
     pub page_holds : (bytes : List ℕ) (q : Progress) → holds not_begun [] → page_read syntax limits bytes ≡ Ok q → holds q.now.nest q.told
-    page_holds bytes q h e = bytes_hold bytes nothing_read q h e
-
--- a tag that isn't refused takes its step
-pub taken : (rows : Rows) (step reached : Step) → unless_refused (first_row rows) step ≡ Ok reached → step ≡ reached
-taken rows step reached e = by (first_row rows) e
-  where
-    by : (x : Option Kind) → unless_refused x step ≡ Ok reached → step ≡ reached
-    by None w = cc
-    by (Some kind) w = absurd (cc)
+    page_holds bytes q h e = subst HoldsAt e (bytes_hold bytes (Ok nothing_read) h)
 
 pub open_append : (line : Line) (xs ys : List Sign) → open_after line (xs ++ ys) ≡ open_after (open_after line xs) ys
 open_append line [] ys = refl
@@ -202,15 +219,8 @@ module _ (syntax : Syntax) where
         (subst (λ (s : Sight). Marks (line_above (after_end syntax t.name n.line)) s) (sym (sees_append (sees nothing_seen events) (ended_by_end syntax t.name n.line) (finishes ∷ [])))
         (last_marks (after_end syntax t.name n.line) (sees (sees nothing_seen events) (ended_by_end syntax t.name n.line)) (end_marks t.name n.line (sees nothing_seen events) h.marks))))
 
-    abbrev end_step : Step
-    end_step = record { next = over (line_above (after_end syntax t.name n.line)); events = ended_by_end syntax t.name n.line ++ finishes ∷ [] }
-
-    tag_held : (depth : ℕ) (step : Step) → unless_refused (first_row (tag_rows syntax depth n.line n.phase t)) (tag_passes syntax n.line item t) ≡ Ok step → Held step.next (events ++ step.events)
-    tag_held depth step e = subst (λ (x : Step). Held x.next (events ++ x.events)) (taken (tag_rows syntax depth n.line n.phase t) (tag_passes syntax n.line item t) step e) (by t.closing)
-      where
-        by : (b : Bool) → Held (if b then end_step else begun_under syntax item t left gone).next (events ++ (if b then end_step else begun_under syntax item t left gone).events)
-        by true = ended_held
-        by false = begun_held
+    tag_held : Held (tag_passes syntax n.line item t).next (events ++ (tag_passes syntax n.line item t).events)
+    tag_held = split (λ (x : Step). Held x.next (events ++ x.events)) t.closing _ _ (λ c. ended_held) (λ c. begun_held)
 
   -- a token that isn't a tag
   quiet_held : (n m : Nesting) (events : List Event) → m.line ≡ n.line → m.phase ≡ n.phase → Held n events → Held m (events ++ [])
@@ -219,51 +229,16 @@ module _ (syntax : Syntax) where
     none = λ stood e. l ∙ h.none stood (sym p ∙ e);
   }
 
-  said_held : (n : Nesting) (events : List Event) (chars : Chars) → Held n events → Held (record { line = n.line; phase = n.phase; drops = false }) (events ++ told n.phase chars)
-  said_held n events chars h = by n.phase
-    where
-      by : (p : Phase) → Held (record { line = n.line; phase = n.phase; drops = false }) (events ++ told p chars)
-      by (before s) = quiet_held n (record { line = n.line; phase = n.phase; drops = false }) events refl refl h
-      by after = quiet_held n (record { line = n.line; phase = n.phase; drops = false }) events refl refl h
-      by within = record { marks = more_marks n.line events (says chars ∷ []) (say_marks chars n.line (sees nothing_seen events) h.marks); none = h.none }
-
-  text_held : (n : Nesting) (events : List Event) (is_dropped : Bool) (chars : Chars) (step : Step) → Held n events → ◌≡◌ {A = Result Step Kind} (Ok (text_step n is_dropped chars)) (Ok step) → Held step.next (events ++ step.events)
-  text_held n events is_dropped chars step h e =
-      let is : text_step n is_dropped chars ≡ step = cc in
-      subst (λ (x : Step). Held x.next (events ++ x.events)) is
-      (by_test (n.drops && is_dropped) (λ d. rw d (quiet_held n (record { line = n.line; phase = n.phase; drops = false }) events refl refl h)) (λ d. rw d (said_held n events chars h)))
-
-  doctype_held : (n : Nesting) (events : List Event) (step : Step) → Held n events → doctype_step n.phase ≡ Ok step → Held step.next (events ++ step.events)
-  doctype_held n events step h e = by n.phase refl e
-    where
-      by : (p : Phase) → n.phase ≡ p → doctype_step p ≡ Ok step → Held step.next (events ++ step.events)
-      by (before false) k d =
-          let is : record { next = record { line = []; phase = before true; drops = false }; events = [] } ≡ step = cc in
-          subst (λ (x : Step). Held x.next (events ++ x.events)) is
-          (record {
-            marks = subst (λ es. Marks [] (sees nothing_seen es)) (sym (append-nil events)) (subst (λ x. Marks x (sees nothing_seen events)) (h.none false k) h.marks);
-            none = λ stood w. refl;
-          })
-      by (before true) k d = absurd (cc)
-      by within k d = absurd (cc)
-      by after k d = absurd (cc)
-
-  item_held : (depth : ℕ) (n : Nesting) (events : List Event) (item : Item) (step : Step) → Held n events → nest_step syntax depth n item ≡ Ok step → Held step.next (events ++ step.events)
-  item_held depth n events item step h e = by item.token e
-    where
-      by : (token : Token) → step_by syntax depth n item token ≡ Ok step → Held step.next (events ++ step.events)
-      by (tag t) k = tag_held n events h item t depth step k
-      by (character c) k = text_held n events (is_line_feed (character c)) (c ∷ []) step h k
-      by (reference c) k = text_held n events (is_line_feed (reference c)) (c ∷ []) step h k
-      by (kept chars) k = text_held n events false chars step h k
-      by (section chars) k = text_held n events false chars step h k
-      by comment k = let is : record { next = record { line = n.line; phase = n.phase; drops = false }; events = [] } ≡ step = cc in subst (λ (x : Step). Held x.next (events ++ x.events)) is (quiet_held n (record { line = n.line; phase = n.phase; drops = false }) events refl refl h)
-      by doctype k = doctype_held n events step h k
-
   pub page_held : (limits : Limits) (bytes : List ℕ) (q : Progress) → page_read syntax limits bytes ≡ Ok q → Held q.now.nest q.told
   page_held limits bytes q e =
-      page_holds syntax limits Held (record { quiet = λ n events h. quiet_held n n events refl refl h; steps = item_held limits.depth }) bytes q
-      (record { marks = record { flags_are = refl; open_are = refl }; none = λ stood k. refl }) e
+      page_holds syntax limits Held
+      (record {
+        quiet = quiet_held;
+        saying = λ n events chars e h. record { marks = more_marks n.line events (says chars ∷ []) (say_marks chars n.line (sees nothing_seen events) h.marks); none = h.none };
+        standing = λ n events e h. quiet_held (record { line = []; phase = before true; drops = false }) _ events refl refl
+            (record { marks = subst (λ x. Marks x (sees nothing_seen events)) (h.none false e) h.marks; none = λ stood w. refl });
+        tagging = λ n events item t e h. tag_held n events h item t;
+      }) bytes q (record { marks = record { flags_are = refl; open_are = refl }; none = λ stood k. refl }) e
 
 pub shows_open_ones : ShowsOpenOnes
 shows_open_ones syntax limits nest bytes signs st paid line phase run part u =

@@ -32,7 +32,7 @@ module _ (syntax : Syntax) (limits : Limits) where
   found_behind bytes fault f spot rest =
       found_fault syntax limits (bytes ++ rest) fault (ap end_of (page_append syntax limits spot (Ok nothing_read) bytes rest ∙ (ap (λ x. page_on syntax limits x rest) f ∙ fault_stays syntax limits fault rest)))
 
-  take_front : (front more : List ℕ) → take (length front) (front ++ more) ≡ front
+  pub take_front : (front more : List ℕ) → take (length front) (front ++ more) ≡ front
   take_front [] more = refl
   take_front (x ∷ front) more = ap (λ z. x ∷ z) (take_front front more)
 
@@ -76,23 +76,24 @@ module _ (syntax : Syntax) (limits : Limits) where
     more : List Event
     is : q.told ≡ p.told ++ more
 
-  byte_grows : (p q : Progress) (byte : ℕ) → page_byte_on syntax limits (Ok p) byte ≡ Ok q → Grows p q
-  byte_grows p q byte e = by (page_byte syntax limits p.now byte) e
+  abbrev GrowsTo : Progress → Result Progress Fault → Type 0
+  GrowsTo p (Ok q) = Grows p q
+  GrowsTo p (Err fault) = Unit {0}
+
+  byte_grows : (p : Progress) (x : Result Progress Fault) (byte : ℕ) → GrowsTo p x → GrowsTo p (page_byte_on syntax limits x byte)
+  byte_grows p (Err fault) byte g = tt
+  byte_grows p (Ok q) byte g = by (page_byte syntax limits q.now byte)
     where
-      by : (x : Result Progress Fault) → telling p.told x ≡ Ok q → Grows p q
-      by (Ok r) w = let same : record { now = r.now; told = p.told ++ r.told } ≡ q = cc in record { more = r.told; is = ap (λ (z : Progress). z.told) (sym same) }
-      by (Err fault) w = absurd (cc)
+      by : (x : Result Progress Fault) → GrowsTo p (telling q.told x)
+      by (Ok r) = record { more = g.more ++ r.told; is = ap (λ z. z ++ r.told) g.is ∙ append_assoc p.told g.more r.told }
+      by (Err fault) = tt
+
+  all_grow : (bytes : List ℕ) (p : Progress) (x : Result Progress Fault) → GrowsTo p x → GrowsTo p (page_on syntax limits x bytes)
+  all_grow [] p x g = g
+  all_grow (byte ∷ bytes) p x g = all_grow bytes p (page_byte_on syntax limits x byte) (byte_grows p x byte g)
 
   grows : (bytes : List ℕ) (p q : Progress) → page_on syntax limits (Ok p) bytes ≡ Ok q → Grows p q
-  grows [] p q e = let same : p ≡ q = cc in record { more = []; is = ap (λ (z : Progress). z.told) (sym same) ∙ sym (append-nil p.told) }
-  grows (byte ∷ bytes) p q e = by (λ r. grows bytes r q) (page_byte_on syntax limits (Ok p) byte) refl e
-    where
-      by : ((r : Progress) → page_on syntax limits (Ok r) bytes ≡ Ok q → Grows r q) → (x : Result Progress Fault) → page_byte_on syntax limits (Ok p) byte ≡ x → page_on syntax limits x bytes ≡ Ok q → Grows p q
-      by on (Ok r) k w =
-          let a = byte_grows p r byte k in
-          let b = on r w in
-          record { more = a.more ++ b.more; is = b.is ∙ (ap (λ z. z ++ b.more) a.is ∙ append_assoc p.told a.more b.more) }
-      by on (Err fault) k w = absurd (let z : Err fault ≡ Ok q = sym (fault_stays syntax limits fault bytes) ∙ w in cc)
+  grows bytes p q e = subst (GrowsTo p) e (all_grow bytes p (Ok p) (record { more = []; is = sym (append-nil p.told) }))
 
   -- of two fronts of a list one is a front of the other
   fronts : (a b c d : List ℕ) (x : ℕ) → a ++ b ≡ c ++ x ∷ d → ((m : List ℕ) × (c ≡ a ++ m)) ⊎ ((m : List ℕ) × (a ≡ c ++ x ∷ m))

@@ -29,10 +29,7 @@ use Rattle.rx_nest.proofs.TreeSeen.{over_line}
 rows_none : (rows : Rows) (row : Bool × Kind) → first_row rows ≡ None → first_row (rows ++ row ∷ []) ≡ first_row (row ∷ [])
 rows_none [] row h = refl
 rows_none (r ∷ rows) row h =
-    by_test r.0 (λ e. absurd (none_some (sym (ap (λ b. cond b (Some r.1) (first_row rows)) (sym e) ∙ h)))) (λ e. rw e (rows_none rows row (ap (λ b. cond b (Some r.1) (first_row rows)) (sym e) ∙ h)))
-  where
-    none_some : None ≡ Some r.1 → ⊥
-    none_some p = cc
+    by_test r.0 (λ e. absurd (let w : None ≡ Some r.1 = sym (ap (λ b. cond b (Some r.1) (first_row rows)) (sym e) ∙ h) in cc)) (λ e. rw e (rows_none rows row (ap (λ b. cond b (Some r.1) (first_row rows)) (sym e) ∙ h)))
 
 pub rows_some : (rows : Rows) (row : Bool × Kind) (kind : Kind) → first_row rows ≡ Some kind → first_row (rows ++ row ∷ []) ≡ Some kind
 rows_some [] row kind h = absurd (cc)
@@ -41,14 +38,12 @@ rows_some (r ∷ rows) row kind h =
 
 -- the phase is told by what is kept
 ended_is : (b : Bool) (levels : Levels) (stood : Bool) → has_ended (phase_at b levels stood) ≡ (b && is_none_open levels)
-ended_is false levels stood = refl
-ended_is true [] stood = refl
 ended_is true (level ∷ levels) stood = refl
+ended_is _ _ stood = refl
 
 before_is : (b : Bool) (levels : Levels) (stood : Bool) → is_before (phase_at b levels stood) ≡ not b
-before_is false levels stood = refl
-before_is true [] stood = refl
 before_is true (level ∷ levels) stood = refl
+before_is _ _ stood = refl
 
 module _ (l : Lines) (n : Nesting) (f : Follows l n) where
   pub refusals_are : (t : Tag) → start_rows l.syntax l.depth n.line n.phase t ≡ start_refusals l t ++ (nat_le l.depth (length (kept_at_start t.name l.levels)), TooDeep) ∷ []
@@ -68,18 +63,12 @@ module _ (l : Lines) (n : Nesting) (f : Follows l n) where
   pub start_deep : (t : Tag) → first_row (start_refusals l t) ≡ None → is_room l t ≡ false → first_row (start_rows l.syntax l.depth n.line n.phase t) ≡ Some TooDeep
   start_deep t h r =
       ap first_row (refusals_are t) ∙ (rows_none (start_refusals l t) _ h
-      ∙ by_test (nat_le l.depth (length (kept_at_start t.name l.levels))) (λ e. rw e refl) (λ e. absurd (true_false (sym (ap not e) ∙ r))))
-    where
-      true_false : true ≡ false → ⊥
-      true_false p = cc
+      ∙ by_test (nat_le l.depth (length (kept_at_start t.name l.levels))) (λ e. rw e refl) (λ e. absurd (let w : true ≡ false = sym (ap not e) ∙ r in cc)))
 
   pub start_passes : (t : Tag) → first_row (start_refusals l t) ≡ None → is_room l t ≡ true → first_row (start_rows l.syntax l.depth n.line n.phase t) ≡ None
   start_passes t h r =
       ap first_row (refusals_are t) ∙ (rows_none (start_refusals l t) _ h
-      ∙ by_test (nat_le l.depth (length (kept_at_start t.name l.levels))) (λ e. absurd (false_true (sym (ap not e) ∙ r))) (λ e. rw e refl))
-    where
-      false_true : false ≡ true → ⊥
-      false_true p = cc
+      ∙ by_test (nat_le l.depth (length (kept_at_start t.name l.levels))) (λ e. absurd (let w : false ≡ true = sym (ap not e) ∙ r in cc)) (λ e. rw e refl))
 
   -- an end tag
   pub end_refusals_are : (t : Tag) → end_rows l.syntax n.line t ≡ (is_none_open l.levels, NothingOpen) ∷ (not (is_named t.name (kept (ends_by true t.name) l.levels)), Mismatch) ∷ []
@@ -99,10 +88,9 @@ pub record Taken (l : Lines) (n : Nesting) (item : Item) (told : TagEffect) (new
 
 -- the phase after an element that is its start tag alone
 over_phase : (syntax : Syntax) (levels : Levels) (line : Line) (stood : Bool) → AreLevels syntax levels line → (over line).phase ≡ phase_at true levels stood
-over_phase syntax [] [] stood h = refl
 over_phase syntax [] (t ∷ above) stood h = elim h [ ]
 over_phase syntax (level ∷ levels) [] stood h = elim h [ ]
-over_phase syntax (level ∷ levels) (t ∷ above) stood h = refl
+over_phase syntax _ _ stood h = refl
 
 over_drops : (line : Line) → (over line).drops ≡ false
 over_drops [] = refl
@@ -240,9 +228,8 @@ module _ (syntax : Syntax) (levels : Levels) (line : Line) (are : AreLevels synt
     where
       go : (levels : Levels) (line : Line) → AreLevels syntax levels line → AreLevels syntax (drop 1 levels) (line_above line)
       go [] [] h = h
-      go [] (t ∷ above) h = elim h [ ]
-      go (level ∷ levels) [] h = elim h [ ]
       go (level ∷ levels) (t ∷ above) h = h.4
+      go _ _ h = elim h [ ]
 
 end_shows : (name : Chars) (levels : Levels) (signs : List Sign) (s : StartTag) → is_named name levels ≡ true
     → sees (record { flags = flags_of levels; signs = signs }) (finishes ∷ []) ≡ record { flags = flags_of (drop 1 levels); signs = signs ++ own_signs (own_of_end levels) s }
@@ -250,10 +237,7 @@ end_shows name [] signs s h = absurd (cc)
 end_shows name (level ∷ levels) signs s h = by_test level.shown (λ e. rw e refl) (λ e. rw e refl)
 
 has_begun : (l : Lines) (n : Nesting) → Follows l n → is_none_open l.levels ≡ false → l.begun ≡ true
-has_begun l n f h = by_test l.begun (λ e. e) (λ e. absurd (true_false (sym (ap is_none_open (f.none_yet e)) ∙ h)))
-  where
-    true_false : true ≡ false → ⊥
-    true_false p = cc
+has_begun l n f h = by_test l.begun (λ e. e) (λ e. absurd (let w : true ≡ false = sym (ap is_none_open (f.none_yet e)) ∙ h in cc))
 
 module _ (syntax : Syntax) (depth : ℕ) (n : Nesting) (item : Item) (t : Tag) (is_tag : item.token ≡ tag t) (is_end : t.closing ≡ true) where
   abbrev end_step : Step
@@ -285,7 +269,7 @@ end_taken l new n item t told f is_tag is_end b =
             levels_are = subst (λ (x : Line). AreLevels l.syntax (drop 1 ls) x) (sym (over_line (line_above line))) above;
             stood = f.stood;
             phase_is = over_phase l.syntax (drop 1 ls) (line_above line) f.stood above ∙ ap (λ x. phase_at x (drop 1 ls) f.stood) (sym begun_is);
-            none_yet = λ e. absurd (true_false (sym begun_is ∙ e));
+            none_yet = λ e. absurd (let w : true ≡ false = sym begun_is ∙ e in cc);
           });
       drops_is = over_drops (line_above line) ∙ sym b.drops;
       seen = λ signs.
@@ -295,9 +279,6 @@ end_taken l new n item t told f is_tag is_end b =
           ∙ (ap (λ o. record { flags = flags_of (drop 1 ls); signs = (signs ++ finishing told.ends) ++ own_signs o (own_tag item) }) (sym b.own)
           ∙ ap (λ (x : Lines). record { flags = flags_of x.levels; signs = (signs ++ finishing told.ends) ++ own_signs told.own (own_tag item) }) (sym b.becomes))));
     }
-  where
-    true_false : true ≡ false → ⊥
-    true_false p = cc
 
 -- a tag that isn't taken
 pub start_is_refused : (l : Lines) (n : Nesting) (item : Item) (t : Tag) (kind : Kind) → Follows l n → item.token ≡ tag t → t.closing ≡ false → first_row (start_rows l.syntax l.depth n.line n.phase t) ≡ Some kind → nest_step l.syntax l.depth n item ≡ Err kind

@@ -1,14 +1,14 @@
 -- Tokens of text leave the elements as they are, and show their text.
-use Rattle.std.proofs.Common.{◌≡◌, ◌∙◌, Bool, true, false, List, [], ◌∷◌, ◌++◌, refl, sym, ap, append_assoc, append-nil, Option, Some, None, Ok}
+use Rattle.std.proofs.Common.{◌≡◌, ◌∙◌, Bool, true, false, List, [], ◌∷◌, ◌++◌, refl, sym, ap, append_assoc, append-nil, Option, Some, Ok}
 use Rattle.std.specs.Prelude.{◌&&◌, not, map, if◌then◌else◌}
 use Rattle.std.proofs.lemmas.List.{map-append}
 use Rattle.std.proofs.lemmas.Bool.{and_from}
 use Rattle.rx_terms.specs.Text.{Chars}
 use Rattle.rx_chars.specs.declared.syntax.Syntax.{Syntax}
 use Rattle.rx_grammar.specs.declared.limits.Limits.{Limits}
-use Rattle.rx_grammar.specs.Tokens.{Token, tag, character, reference, kept, section, comment, doctype}
+use Rattle.rx_grammar.specs.Tokens.{Token, character, reference, kept, section, comment}
 use Rattle.rx_grammar.specs.Items.{Item, text_of, is_line_feed}
-use Rattle.rx_grammar.specs.Begun.{Phase, before, within, after}
+use Rattle.rx_grammar.specs.Begun.{Phase, within}
 use Rattle.rx_pages.specs.Nesting.{Nesting, Event, Step, going_on, told, text_step, step_by, nest_step}
 use Rattle.rx_pages.specs.PageReader.{Spot, spot_of, is_none_left, steps_on, no_step, with_events}
 use Rattle.rx_pages.proofs.ScanSteps.{Stays, one_step}
@@ -25,16 +25,12 @@ said_by within hidden text = if hidden then [] else map said text
 said_by _ hidden text = []
 
 said_append : (phase : Phase) (hidden : Bool) (a b : Chars) → said_by phase hidden (a ++ b) ≡ said_by phase hidden a ++ said_by phase hidden b
-said_append within true a b = refl
 said_append within false a b = map-append said a b
-said_append (before stood) hidden a b = refl
-said_append after hidden a b = refl
+said_append _ _ a b = refl
 
 said_none : (phase : Phase) (hidden : Bool) → said_by phase hidden [] ≡ []
 said_none within true = refl
-said_none within false = refl
-said_none (before stood) hidden = refl
-said_none after hidden = refl
+said_none _ _ = refl
 
 -- the events of one text
 told_seen : (phase : Phase) (text : Chars) (flags : Flags) (signs : List Sign) → sees (record { flags = flags; signs = signs }) (told phase text) ≡ record { flags = flags; signs = signs ++ said_by phase (is_hidden flags) text }
@@ -43,8 +39,7 @@ told_seen within text flags signs = by (is_hidden flags)
     by : (hidden : Bool) → ◌≡◌ {A = Sight} (record { flags = flags; signs = if hidden then signs else signs ++ map said text }) (record { flags = flags; signs = signs ++ (if hidden then [] else map said text) })
     by true = ap (λ x. record { flags = flags; signs = x }) (sym (append-nil signs))
     by false = refl
-told_seen (before stood) text flags signs = ap (λ x. record { flags = flags; signs = x }) (sym (append-nil signs))
-told_seen after text flags signs = ap (λ x. record { flags = flags; signs = x }) (sym (append-nil signs))
+told_seen _ text flags signs = ap (λ x. record { flags = flags; signs = x }) (sym (append-nil signs))
 
 -- Tokens that leave the elements as they are, and show this.
 pub record Quiet (syntax : Syntax) (limits : Limits) (spot : Spot) (n : Nesting) (items : List Item) (shown : Bool → List Sign) : Type 0 where
@@ -68,9 +63,7 @@ module _ (syntax : Syntax) (limits : Limits) (spot : Spot) where
       by (reference c) k e = ap (λ t. step_by syntax limits.depth n item t) k ∙ ap (λ x. Ok (text_step n (is_line_feed (reference c)) x)) (some_is (c ∷ []) text e)
       by (kept x) k e = ap (λ t. step_by syntax limits.depth n item t) k ∙ ap (λ y. Ok (text_step n false y)) (some_is x text e)
       by (section x) k e = ap (λ t. step_by syntax limits.depth n item t) k ∙ ap (λ y. Ok (text_step n false y)) (some_is x text e)
-      by (tag t) k e = absurd (cc)
-      by comment k e = absurd (cc)
-      by doctype k e = absurd (cc)
+      by _ k e = absurd (cc)
 
   -- the parts of a text
   record Parts (item : Item) (items : List Item) (text : Chars) : Type 0 where
@@ -85,8 +78,7 @@ module _ (syntax : Syntax) (limits : Limits) (spot : Spot) where
     where
       by : (x y : Option Chars) → text_of item.token ≡ x → texts_of items ≡ y → joined x y ≡ Some text → Parts item items text
       by (Some a) (Some b) p q e = record { a = a; b = b; first = p; rest = q; are = (let w : a ++ b ≡ text = cc in sym w) }
-      by (Some a) None p q e = absurd (cc)
-      by None y p q e = absurd (cc)
+      by _ _ p q e = absurd (cc)
 
   keeps_false : (items : List Item) → keeps_first false items ≡ true
   keeps_false [] = refl
@@ -173,8 +165,4 @@ module _ (syntax : Syntax) (limits : Limits) (spot : Spot) where
       by : (token : Token) → item.token ≡ token → is_line_feed token ≡ true → Quiet syntax limits spot n (item ∷ []) (λ hidden. [])
       by (character c) k e = one_quiet n item s (record { next = going_on n; events = [] }) (text_ok n item (c ∷ []) (ap text_of k) ∙ ap (λ b. Ok (record { next = going_on n; events = if b then [] else told n.phase (c ∷ []) })) dropped) refl (λ flags signs. refl)
       by (reference c) k e = one_quiet n item s (record { next = going_on n; events = [] }) (text_ok n item (c ∷ []) (ap text_of k) ∙ ap (λ b. Ok (record { next = going_on n; events = if b then [] else told n.phase (c ∷ []) })) dropped) refl (λ flags signs. refl)
-      by (kept x) k e = absurd (cc)
-      by (section x) k e = absurd (cc)
-      by (tag t) k e = absurd (cc)
-      by comment k e = absurd (cc)
-      by doctype k e = absurd (cc)
+      by _ k e = absurd (cc)

@@ -94,10 +94,8 @@ module _ (syntax : Syntax) where
       }
     where
       by : (quiet : Bool) (phase : Phase) (rest : List Event) → Ends (length n.line) rest → Ends (length n.line) ((if quiet then [] else told phase text) ++ rest)
-      by true phase rest h = h
       by false within rest h = h
-      by false (before stood) rest h = h
-      by false after rest h = h
+      by _ _ rest h = h
 
   ok_is : (a b : Step) → ◌≡◌ {A = Result Step Kind} (Ok a) (Ok b) → a ≡ b
   ok_is a b e = cc
@@ -110,9 +108,8 @@ module _ (syntax : Syntax) where
   innermost name line all h = by (is_no_line all) (is_innermost name line) h
     where
       by : (a b : Bool) → first_row ((a, NothingOpen) ∷ (not b, Mismatch) ∷ []) ≡ None → b ≡ true
-      by true b e = absurd (cc)
       by false true e = refl
-      by false false e = absurd (cc)
+      by _ _ e = absurd (cc)
 
   tag_kept : (depth : ℕ) (n : Nesting) (item : Item) (t : Tag) (closing : Bool) → t.closing ≡ closing → first_row (tag_rows syntax depth n.line n.phase t) ≡ None → Kept n (tag_passes syntax n.line item t)
   tag_kept depth n item t true e none =
@@ -139,9 +136,7 @@ module _ (syntax : Syntax) where
   doctype_kept n s (before false) p step e =
       let is : record { next = record { line = []; phase = before true; drops = false }; events = [] } ≡ step = ok_is (record { next = record { line = []; phase = before true; drops = false }; events = [] }) step e in
       subst (λ x. Kept n x) is (record { sound = λ stood k. refl; ends = λ rest h. subst (λ (l : Line). Ends (length l) rest) (sym (s false p)) h })
-  doctype_kept n s (before true) p step e = absurd (cc)
-  doctype_kept n s within p step e = absurd (cc)
-  doctype_kept n s after p step e = absurd (cc)
+  doctype_kept n s _ p step e = absurd (cc)
 
   kept_by : (depth : ℕ) (n : Nesting) → Sound n → (item : Item) (token : Token) (step : Step) → step_by syntax depth n item token ≡ Ok step → Kept n step
   kept_by depth n s item (tag t) step e = let p = passes (first_row (tag_rows syntax depth n.line n.phase t)) (tag_passes syntax n.line item t) step e in subst (λ x. Kept n x) p.1 (tag_kept depth n item t t.closing refl p.0)

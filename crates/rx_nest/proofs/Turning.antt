@@ -1,5 +1,5 @@
 -- What becomes of a reading, turn by turn.
-use Rattle.std.proofs.Common.{◌≡◌, ◌∙◌, ℕ, zero, suc, ◌<◌, true, List, [], ◌++◌, length, take, drop, refl, sym, ap, subst, Option, Some, None, Ok, Err, arith, length-append, length-take, append-nil, append_assoc}
+use Rattle.std.proofs.Common.{◌+◌, ◌≡◌, ◌∙◌, ℕ, zero, suc, ◌<◌, true, List, [], ◌++◌, length, take, drop, refl, sym, ap, subst, Option, Some, None, Ok, Err, arith, length-append, length-take, append-nil, append_assoc}
 use Rattle.rx_grammar.specs.declared.faults.Fault.{Fault}
 use Rattle.rx_grammar.specs.Trees.{StartTag}
 use Rattle.rx_grammar.specs.declared.stops.Stop.{Stop}
@@ -23,18 +23,15 @@ use Rattle.rx_nest.proofs.Meanings.{meant, read_as_meant}
 
 -- where nothing is due, nothing more is shown
 pub paid_up : (owed : PendingEvents) (t : StartTag) → left owed ≡ 0 → nests.owed_signs owed t ≡ []
-paid_up owed t h = by owed.ends owed.own refl refl
+paid_up owed t h = by owed.ends owed.own h
   where
-    no_own : (o : TagAction) → own_left (Some o) ≡ 0 → nests.owes_own (Some o) t ≡ []
-    no_own own.Nothing e = refl
-    no_own own.Begin e = absurd (cc)
-    no_own own.Alone e = absurd (cc)
-    no_own own.Finish e = absurd (cc)
-
-    by : (k : ℕ) (o : Option TagAction) → owed.ends ≡ k → owed.own ≡ o → nests.owed_signs owed t ≡ []
-    by zero None e p = rw (e, p) refl
-    by zero (Some o) e p = rw (e, p) (no_own o (let w : own_left owed.own ≡ 0 = omega (arith, h) in ap own_left (sym p) ∙ w))
-    by (suc k) o e p = absurd (omega (arith, h, e))
+    by : (k : ℕ) (o : Option TagAction) → k + own_left o ≡ 0 → nests.owed_signs (record { ends = k; own = o }) t ≡ []
+    by zero None e = refl
+    by zero (Some own.Nothing) e = refl
+    by zero (Some own.Begin) e = absurd (cc)
+    by zero (Some own.Finish) e = absurd (cc)
+    by zero (Some own.Alone) e = absurd (cc)
+    by (suc k) o e = absurd (omega (arith, e))
 
 module _ {L : Type 0} (way : Way) (knows : L → List Sign → Type 0) (law : IsRefusal way.refused) where
   -- one turn

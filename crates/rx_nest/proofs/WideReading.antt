@@ -49,9 +49,7 @@ module _ (syntax : Syntax) (limits wide : Limits) (deep : wide.depth ≡ limits.
 
     first_is : (s : Scanning) (after_return : Bool) (entry : Entry) (v : Verdict) → told_first syntax wide spot after_return entry s v ≡ told_first syntax limits spot after_return entry s v
     first_is s after_return entry goes_on = refl
-    first_is s after_return entry (whole token) = refl
-    first_is s after_return entry (ended token) = refl
-    first_is s after_return entry (refused kind) = refl
+    first_is s after_return entry _ = refl
 
     with_is : (item : Item) (x : Result Scanned Kind) → with_item syntax wide spot item x ≡ with_item syntax limits spot item x
     with_is item (Ok r) = refl

@@ -1,6 +1,7 @@
 -- What is done at a tag's `>` is what the reader does.
 use Rattle.std.proofs.Common.{◌≡◌, ◌∙◌, sym, ap, subst, refl, ℕ, [], ◌∷◌, ◌++◌, List, Bool, true, false, not, Result, Ok, Err}
 use Rattle.std.specs.Prelude.{◌&&◌}
+use Rattle.std.proofs.Math.Bool.{and-false}
 use Rattle.rx_terms.specs.Ascii.{greater_than_sign}
 use Rattle.rx_terms.specs.Text.{Chars}
 use Rattle.rx_chars.specs.declared.syntax.Syntax.{Syntax}
@@ -53,15 +54,11 @@ finishes s a p q name old new repeated g u l = (
   ap (state_of q name) g.4,
 )
 
-apart : (s : Syntax) (attributes : List Attribute) → has_repeat attributes ≡ false → is_repeated s attributes ≡ false
-apart Html attributes h = refl
-apart Xhtml attributes h = h
-
 -- a `>` by which nothing but the phase changes, behind attributes of which no name stands twice
 pub closes : (s : Syntax) (p q : TagPhase) (c : ℕ) (name : Chars) (pairs : Pairs) → c ≡ greater_than_sign → Closes p q → has_repeat pairs.whole ≡ false → Ends (record { syntax = s; state = state_of p name pairs }) c (state_of q name pairs)
 closes s p q c name pairs e h few = record {
   last = state_of q name pairs;
-  step = rw e (ap (λ (m : Move). checked s (moved s (meaning s) (state_of p name pairs) greater_than_sign m)) (h.move s)) ∙ passes s (state_of q name pairs) h.whole (apart s pairs.whole few);
+  step = rw e (ap (λ (m : Move). checked s (moved s (meaning s) (state_of p name pairs) greater_than_sign m)) (h.move s)) ∙ passes s (state_of q name pairs) h.whole (once s pairs.whole false (sym few) (and-false (not (is_html s))));
   whole = h.whole;
   kept = ap (λ whole. state_of q name (record { whole = whole; key = pairs.key; value = pairs.value })) (sym (unrepeated pairs.whole few));
 }

@@ -163,12 +163,7 @@ nothing_in (x ∷ text) rows start middle end f t r = absurd (omega (arith, t))
 -- where nothing was read no run is
 pub none_pairs : (p : RunPhase) (r : Reading) → IsPending p r.pending → r ≡ nothing_read → pairs_read p r ≡ no_pairs
 none_pairs run.Plain r k e = ap (pairs_read run.Plain) e
-none_pairs run.Ampersand r k e = absurd (let z = sym (ap (λ (x : Reading). x.pending) e) ∙ k.0 in cc)
-none_pairs run.Named r k e = absurd (let z = sym (ap (λ (x : Reading). x.pending) e) ∙ k.0 in cc)
-none_pairs run.Hash r k e = absurd (let z = sym (ap (λ (x : Reading). x.pending) e) ∙ k.0 in cc)
-none_pairs run.Decimal r k e = absurd (let z = sym (ap (λ (x : Reading). x.pending) e) ∙ k.0 in cc)
-none_pairs run.Mark r k e = absurd (let z = sym (ap (λ (x : Reading). x.pending) e) ∙ k.0 in cc)
-none_pairs run.Hexadecimal r k e = absurd (let z = sym (ap (λ (x : Reading). x.pending) e) ∙ k.0 in cc)
+none_pairs _ r k e = absurd (let z = sym (ap (λ (x : Reading). x.pending) e) ∙ k.0 in cc)
 
 module _ (p : RunPhase) (r : Reading) (k : IsPending p r.pending) (e : pairs_read p r ≡ no_pairs) where
   is_plain : p ≡ run.Plain

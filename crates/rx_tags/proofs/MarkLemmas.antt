@@ -17,9 +17,8 @@ Marked text rows marks = (name : List ℕ) → is_named text rows name ≡ true 
 
 same_is : (a b : List ℕ) → same a b ≡ true → a ≡ b
 same_is [] [] h = refl
-same_is [] (y ∷ b) h = absurd (cc)
-same_is (x ∷ a) [] h = absurd (cc)
 same_is (x ∷ a) (y ∷ b) h = let k = and_parts (nat_eq x y) _ h in ap₂ (λ c l. c ∷ l) (eqb-true x y k.0) (same_is a b k.1)
+same_is _ _ h = absurd (cc)
 
 -- a mark stays
 stays : (marks : List Bool) (m j : ℕ) → m < length marks → get_or marks j false ≡ true → get_or (slice_set marks m true) j false ≡ true

@@ -30,40 +30,12 @@ skipped s p next name pairs bytes i k h start f =
 quote_move : (s : Syntax) (p : TagPhase) (c : ℕ) → ends_value p c ≡ true → move_of s p c ≡ go phase.AfterValue action.Add
 quote_move s phase.DoubleQuoted c h = cond-true _ _ _ h
 quote_move s phase.SingleQuoted c h = cond-true _ _ _ h
-quote_move s phase.Start c h = absurd (cc)
-quote_move s phase.Name c h = absurd (cc)
-quote_move s phase.Gap c h = absurd (cc)
-quote_move s phase.Solidus c h = absurd (cc)
-quote_move s phase.Key c h = absurd (cc)
-quote_move s phase.AfterKey c h = absurd (cc)
-quote_move s phase.BeforeValue c h = absurd (cc)
-quote_move s phase.Unquoted c h = absurd (cc)
-quote_move s phase.AfterValue c h = absurd (cc)
-quote_move s phase.EndStart c h = absurd (cc)
-quote_move s phase.EndName c h = absurd (cc)
-quote_move s phase.EndGap c h = absurd (cc)
-quote_move s phase.Opened c h = absurd (cc)
-quote_move s phase.Emptied c h = absurd (cc)
-quote_move s phase.Closed c h = absurd (cc)
+quote_move s _ c h = absurd (cc)
 
 quote_printed : (p : TagPhase) (c : ℕ) → ends_value p c ≡ true → is_printed c ≡ true
 quote_printed phase.DoubleQuoted c h = ap is_printed (eqb-true c 34 h)
 quote_printed phase.SingleQuoted c h = ap is_printed (eqb-true c 39 h)
-quote_printed phase.Start c h = absurd (cc)
-quote_printed phase.Name c h = absurd (cc)
-quote_printed phase.Gap c h = absurd (cc)
-quote_printed phase.Solidus c h = absurd (cc)
-quote_printed phase.Key c h = absurd (cc)
-quote_printed phase.AfterKey c h = absurd (cc)
-quote_printed phase.BeforeValue c h = absurd (cc)
-quote_printed phase.Unquoted c h = absurd (cc)
-quote_printed phase.AfterValue c h = absurd (cc)
-quote_printed phase.EndStart c h = absurd (cc)
-quote_printed phase.EndName c h = absurd (cc)
-quote_printed phase.EndGap c h = absurd (cc)
-quote_printed phase.Opened c h = absurd (cc)
-quote_printed phase.Emptied c h = absurd (cc)
-quote_printed phase.Closed c h = absurd (cc)
+quote_printed _ c h = absurd (cc)
 
 pub ends : (s : Syntax) (p : TagPhase) (name : Chars) (old new : Pairs) (c : ℕ) → ends_value p c ≡ true → AddGives s old (Ok tt) new → GoesTo s (state_of p name old) c (state_of phase.AfterValue name new)
 ends s p name old new c h g =

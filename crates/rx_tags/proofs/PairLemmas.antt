@@ -42,9 +42,8 @@ plain_law s means value text c =
 of_run_law : (s : Syntax) (means : Chars → Option ℕ) (value : Value) (text : Chars) (c : ℕ) (m : RunMove) → value.known ++ ampersand ∷ value.run ≡ text
     → run_step s means value c m ≡ applied means value text c (of_run s c m)
 of_run_law s means value text c (reader.Goes q) e = refl
-of_run_law s means value text c reader.Closes e = refl
 of_run_law Html means value text c reader.Stops e = ap (λ t. plain_step Html t c) e ∙ plain_law Html means value text c
-of_run_law Xhtml means value text c reader.Stops e = refl
+of_run_law _ means value text c _ e = refl
 
 in_run : (known pending : Chars) → pending ≡ ampersand ∷ after_first pending → known ++ ampersand ∷ after_first pending ≡ known ++ pending
 in_run known pending e = ap (λ rest. known ++ rest) (sym e)
@@ -89,30 +88,19 @@ plain_no_run s p c = split (GrowsByMove p c) (c == ampersand) _ _ (λ e. tt) (λ
 
 of_run_grows : (s : Syntax) (p : RunPhase) (c : ℕ) (m : RunMove) → GrowsBy p c m → GrowsByMove p c (of_run s c m)
 of_run_grows s p c (reader.Goes q) h = h
-of_run_grows s p c reader.Closes h = tt
 of_run_grows Html p c reader.Stops h = plain_no_run Html p c
-of_run_grows Xhtml p c reader.Stops h = tt
+of_run_grows _ p c _ h = tt
 
 pub move_grows : (s : Syntax) (p : RunPhase) (c : ℕ) → GrowsByMove p c (value_move s p c)
 move_grows s p c = split (GrowsByMove p c) (is_run p) _ _ (λ e. of_run_grows s p c (run_move p c) (grows p c)) (λ e. plain_no_run s p c)
 
 pub pending_of : (p : RunPhase) (pending : Chars) → is_run p ≡ true → IsPending p pending → (pending ≡ ampersand ∷ after_first pending) × (list_all is_ascii (after_first pending) ≡ true)
 pending_of run.Plain pending h k = absurd (cc)
-pending_of run.Ampersand pending h k = k
-pending_of run.Named pending h k = k
-pending_of run.Hash pending h k = k
-pending_of run.Decimal pending h k = k
-pending_of run.Mark pending h k = k
-pending_of run.Hexadecimal pending h k = k
+pending_of _ pending h k = k
 
 pending_from : (p : RunPhase) (pending : Chars) → is_run p ≡ true → (pending ≡ ampersand ∷ after_first pending) × (list_all is_ascii (after_first pending) ≡ true) → IsPending p pending
 pending_from run.Plain pending h k = absurd (cc)
-pending_from run.Ampersand pending h k = k
-pending_from run.Named pending h k = k
-pending_from run.Hash pending h k = k
-pending_from run.Decimal pending h k = k
-pending_from run.Mark pending h k = k
-pending_from run.Hexadecimal pending h k = k
+pending_from _ pending h k = k
 
 all_more : (text : Chars) (c : ℕ) → list_all is_ascii text ≡ true → is_ascii c ≡ true → list_all is_ascii (text ++ c ∷ []) ≡ true
 all_more [] c h k = rw k refl
@@ -138,10 +126,9 @@ plain_open : (s : Syntax) (p : RunPhase) (c : ℕ) → ClosesRun p (plain_move s
 plain_open s p c = split (ClosesRun p) (c == ampersand) _ _ (λ e. tt) (λ e. split (ClosesRun p) (is_plain s c) _ _ (λ f. tt) (λ f. tt))
 
 of_run_closes : (s : Syntax) (p : RunPhase) (c : ℕ) (m : RunMove) → is_run p ≡ true → ClosesRun p (of_run s c m)
-of_run_closes s p c (reader.Goes q) h = tt
 of_run_closes s p c reader.Closes h = h
 of_run_closes Html p c reader.Stops h = plain_open Html p c
-of_run_closes Xhtml p c reader.Stops h = tt
+of_run_closes _ p c _ h = tt
 
 closes_run : (s : Syntax) (p : RunPhase) (c : ℕ) → ClosesRun p (value_move s p c)
 closes_run s p c = split (ClosesRun p) (is_run p) _ _ (λ e. of_run_closes s p c (run_move p c) e) (λ e. plain_open s p c)
@@ -168,18 +155,13 @@ pushed_value known pending c = ap known_as (append_assoc known pending (c ∷ []
 -- the value that ends
 pub ends_as : (s : Syntax) (p : RunPhase) (known pending : Chars) → IsPending p pending → may_end s p ≡ true → value_end s (record { phase = p; known = known; run = after_first pending }) ≡ Ok (known ++ pending)
 ends_as s run.Plain known pending h k = ap Ok (sym (append-nil known) ∙ ap (λ rest. known ++ rest) (sym h))
-ends_as Html run.Ampersand known pending h k = ap Ok (in_run known pending h.0)
 ends_as Xhtml run.Ampersand known pending h k = absurd (cc)
-ends_as Html run.Named known pending h k = ap Ok (in_run known pending h.0)
 ends_as Xhtml run.Named known pending h k = absurd (cc)
-ends_as Html run.Hash known pending h k = ap Ok (in_run known pending h.0)
 ends_as Xhtml run.Hash known pending h k = absurd (cc)
-ends_as Html run.Decimal known pending h k = ap Ok (in_run known pending h.0)
 ends_as Xhtml run.Decimal known pending h k = absurd (cc)
-ends_as Html run.Mark known pending h k = ap Ok (in_run known pending h.0)
 ends_as Xhtml run.Mark known pending h k = absurd (cc)
-ends_as Html run.Hexadecimal known pending h k = ap Ok (in_run known pending h.0)
 ends_as Xhtml run.Hexadecimal known pending h k = absurd (cc)
+ends_as Html _ known pending h k = ap Ok (in_run known pending h.0)
 
 -- a reference that stands for nothing, and for a character
 pub closes_none : (s : Syntax) (means : Chars → Option ℕ) (p : RunPhase) (known pending body : Chars) (c : ℕ) → IsPending p pending → value_move s p c ≡ Closes → body ≡ after_first pending → means body ≡ None

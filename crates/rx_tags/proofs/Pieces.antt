@@ -293,7 +293,7 @@ pub rows_fit_append : (text : List ℕ) (limit : ℕ) (rows : List AttributeSpan
 rows_fit_append text limit [] row f r = (r, tt)
 rows_fit_append text limit (first ∷ rows) row f r = (f.0, rows_fit_append text limit rows row f.1 r)
 
-rows_fit_past : (text : List ℕ) (limit past : ℕ) (rows : List AttributeSpan) → limit ≤ past → RowsFit text limit rows → RowsFit text past rows
+pub rows_fit_past : (text : List ℕ) (limit past : ℕ) (rows : List AttributeSpan) → limit ≤ past → RowsFit text limit rows → RowsFit text past rows
 rows_fit_past text limit past [] p f = tt
 rows_fit_past text limit past (row ∷ rows) p f =
     (record { rises = f.0.rises; apart = f.0.apart; on = f.0.on; within = omega (arith, f.0.within, p); name = f.0.name; value = f.0.value }, rows_fit_past text limit past rows p f.1)

@@ -9,29 +9,26 @@ use Rattle.std.specs.Str.{chars, IsUtf8}
 use Rattle.std.proofs.lemmas.List.{length-drop, length-append, length-map, append_assoc, append-nil, map-append}
 use Rattle.std.proofs.lemmas.List.Folds.{list_any-append}
 use Rattle.std.proofs.lemmas.Bool.Decides.{nat_tests}
-use Rattle.std.proofs.Math.Seq.{take-suc}
+use Rattle.std.proofs.Math.Seq.{drop-cons, take-suc}
+use Rattle.std.proofs.Math.Bool.{or-false, or_comm}
 use Rattle.rx_terms.specs.Text.{Chars}
 use Rattle.rx_terms.proofs.CharLemmas.{same-chars}
 use Rattle.rx_grammar.specs.Names.{same}
 use Rattle.rx_grammar.specs.Tokens.{Attribute, has_name}
 use Rattle.rx_grammar.specs.Tags.{without, firsts, has_repeat}
 use Rattle.rx_terms.proofs.Bools.{by_test, neither}
+use Rattle.rx_tags.proofs.Pieces.{rows_fit_append}
 use Rattle.rx_tags.specs.declared.attributes.AttributeSpan.{AttributeSpan}
 use Rattle.rx_tags.specs.Reading.{Reading, piece, row_read, rows_read, read_as, RowFits, RowsFit, Fits}
 use Rattle.rx_tags.specs.Repeats.{is_named, KeepsFirsts}
-
-or_false : (b : Bool) → (b || false) ≡ b
-or_false true = refl
-or_false false = refl
 
 numbers_swap : (m n : ℕ) → nat_eq m n ≡ nat_eq n m
 numbers_swap m n = grind (arith, nat_tests)
 
 pub same_swap : (a b : List ℕ) → same a b ≡ same b a
 same_swap [] [] = refl
-same_swap [] (x ∷ b) = refl
-same_swap (x ∷ a) [] = refl
 same_swap (x ∷ a) (y ∷ b) = rw (numbers_swap x y, same_swap a b) refl
+same_swap _ _ = refl
 
 without_append : (name : Chars) (xs ys : List Attribute) → without name (xs ++ ys) ≡ without name xs ++ without name ys
 without_append name [] ys = refl
@@ -39,7 +36,7 @@ without_append name (x ∷ xs) ys =
     by_test (same x.0 name) (λ e. rw e (without_append name xs ys)) (λ e. rw e (ap (λ rest. x ∷ rest) (without_append name xs ys)))
 
 pub has_more : (xs : List Attribute) (x : Attribute) (name : Chars) → has_name (xs ++ x ∷ []) name ≡ (has_name xs name || same x.0 name)
-has_more xs x name = list_any-append (λ (a : Attribute). same a.0 name) xs (x ∷ []) ∙ ap (λ b. has_name xs name || b) (or_false (same x.0 name))
+has_more xs x name = list_any-append (λ (a : Attribute). same a.0 name) xs (x ∷ []) ∙ ap (λ b. has_name xs name || b) (or-false (same x.0 name))
 
 -- the first ones of a longer list, where its last name stands before
 firsts_new : (xs : List Attribute) (x : Attribute) → has_name xs x.0 ≡ false → firsts (xs ++ x ∷ []) ≡ firsts xs ++ x ∷ []
@@ -55,15 +52,13 @@ firsts_same (y ∷ xs) x h =
     by_test (has_name xs x.0)
     (λ e. ap (λ rest. y ∷ without y.0 rest) (firsts_same xs x e))
     (λ e.
-    let it : same y.0 x.0 ≡ true = sym (or_false (same y.0 x.0)) ∙ ap (λ b. same y.0 x.0 || b) (sym e) ∙ h in
+    let it : same y.0 x.0 ≡ true = sym (or-false (same y.0 x.0)) ∙ ap (λ b. same y.0 x.0 || b) (sym e) ∙ h in
     let back : same x.0 y.0 ≡ true = same_swap x.0 y.0 ∙ it in
     ap (λ rest. y ∷ without y.0 rest) (firsts_new xs x e) ∙ ap (λ rest. y ∷ rest) (without_append y.0 (firsts xs) (x ∷ []) ∙ rw back (append-nil (without y.0 (firsts xs)))))
 
 or_four : (a b c d : Bool) → ((a || b) || (c || d)) ≡ ((a || c) || (b || d))
-or_four true b c d = refl
 or_four false true true d = refl
-or_four false true false d = refl
-or_four false false c d = refl
+or_four _ _ _ d = refl
 
 pub repeat_more : (xs : List Attribute) (x : Attribute) → has_repeat (xs ++ x ∷ []) ≡ (has_repeat xs || has_name xs x.0)
 repeat_more [] x = refl
@@ -120,12 +115,6 @@ or_is false d = refl
 pub text_added : (name text : List ℕ) (before : Bool) → cond (is_eq (slice_cmp nat_cmp name text)) true before ≡ (same name text || before)
 text_added name text before = ap (λ b. cond b true before) (is_eq-slice_cmp name text) ∙ or_is (same name text) before
 
-or_swap : (b d : Bool) → (b || d) ≡ (d || b)
-or_swap true true = refl
-or_swap true false = refl
-or_swap false true = refl
-or_swap false false = refl
-
 not_false : (b d : Bool) → b ≡ not d → b ≡ true → d ≡ false
 not_false b true e h = absurd (cc)
 not_false b false e h = refl
@@ -151,19 +140,8 @@ fit_take text limit rows zero f = tt
 fit_take text limit [] (suc i) f = tt
 fit_take text limit (row ∷ rows) (suc i) f = (f.0, fit_take text limit rows i f.1)
 
-fit_more : (text : List ℕ) (limit : ℕ) (rows : List AttributeSpan) (row : AttributeSpan) → RowsFit text limit rows → RowFits text limit row → RowsFit text limit (rows ++ row ∷ [])
-fit_more text limit [] row f g = (g, tt)
-fit_more text limit (other ∷ rows) row f g = (f.0, fit_more text limit rows row f.1 g)
-
 pub kept_fit : (text : List ℕ) (limit : ℕ) (rows kept : List AttributeSpan) (i : ℕ) → i < length rows → RowsFit text limit rows → RowsFit text limit kept → RowsFit text limit (kept ++ at rows i ∷ [])
-kept_fit text limit rows kept i h f g = fit_more text limit kept (at rows i) g (fit_at text limit rows i f h)
-
-row_within : (text : List ℕ) (limit past : ℕ) (row : AttributeSpan) → limit ≤ past → RowFits text limit row → RowFits text past row
-row_within text limit past row h f = record { rises = f.rises; apart = f.apart; on = f.on; within = omega (arith, h, f.within); name = f.name; value = f.value }
-
-pub rows_within : (text : List ℕ) (limit past : ℕ) (rows : List AttributeSpan) → limit ≤ past → RowsFit text limit rows → RowsFit text past rows
-rows_within text limit past [] h f = tt
-rows_within text limit past (row ∷ rows) h f = (row_within text limit past row h f.0, rows_within text limit past rows h f.1)
+kept_fit text limit rows kept i h f g = rows_fit_append text limit kept (at rows i) g (fit_at text limit rows i f h)
 
 name_seen : (text : List ℕ) (limit : ℕ) (rows : List AttributeSpan) (name : List ℕ) → RowsFit text limit rows → IsUtf8 name → has_name (rows_read text rows) (chars name) ≡ is_named text rows name
 name_seen text limit [] name f u = refl
@@ -173,36 +151,35 @@ name_seen text limit (row ∷ rows) name f u =
 pub names_turn : (text : List ℕ) (rows : List AttributeSpan) (i : ℕ) (name : List ℕ) (before after : Bool) → i < length rows
     → before ≡ is_named text (take i rows) name → after ≡ (same (piece text (at rows i).start (at rows i).middle) name || before) → after ≡ is_named text (take (i + 1) rows) name
 names_turn text rows i name before after h b a =
-    a ∙ ap (λ d. same (piece text (at rows i).start (at rows i).middle) name || d) b ∙ or_swap (same (piece text (at rows i).start (at rows i).middle) name) (is_named text (take i rows) name)
-    ∙ ap (λ d. is_named text (take i rows) name || d) (sym (or_false (same (piece text (at rows i).start (at rows i).middle) name)))
+    a ∙ ap (λ d. same (piece text (at rows i).start (at rows i).middle) name || d) b ∙ or_comm (same (piece text (at rows i).start (at rows i).middle) name) (is_named text (take i rows) name)
+    ∙ ap (λ d. is_named text (take i rows) name || d) (sym (or-false (same (piece text (at rows i).start (at rows i).middle) name)))
     ∙ sym (list_any-append (λ (row : AttributeSpan). same (piece text row.start row.middle) name) (take i rows) (at rows i ∷ []))
     ∙ ap (λ some. is_named text some name) (sym (take_more rows i h))
 
-module _ (text : List ℕ) (limit : ℕ) (rows kept : List AttributeSpan) (i : ℕ) (fit : RowsFit text limit rows) (h : i < length rows)
-    (read : rows_read text kept ≡ firsts (rows_read text (take i rows))) (is_new before : Bool)
-    (b : before ≡ is_named text (take i rows) (piece text (at rows i).start (at rows i).middle)) (n : is_new ≡ not before) where
-  named : has_name (rows_read text (take i rows)) (chars (piece text (at rows i).start (at rows i).middle)) ≡ before
-  named = name_seen text limit (take i rows) (piece text (at rows i).start (at rows i).middle) (fit_take text limit rows i fit) (fit_at text limit rows i fit h).name ∙ sym b
+module _ (text : List ℕ) (limit : ℕ) (rows : List AttributeSpan) (i : ℕ) (fit : RowsFit text limit rows) (h : i < length rows) where
+  named : has_name (rows_read text (take i rows)) (chars (piece text (at rows i).start (at rows i).middle)) ≡ is_named text (take i rows) (piece text (at rows i).start (at rows i).middle)
+  named = name_seen text limit (take i rows) (piece text (at rows i).start (at rows i).middle) (fit_take text limit rows i fit) (fit_at text limit rows i fit h).name
 
   read_more : rows_read text (take (i + 1) rows) ≡ rows_read text (take i rows) ++ row_read text (at rows i) ∷ []
   read_more = ap (rows_read text) (take_more rows i h) ∙ map-append (row_read text) (take i rows) (at rows i ∷ [])
 
+  -- a row more, whose name stands in none before it
+  pub apart_turn : has_repeat (rows_read text (take i rows)) ≡ false → is_named text (take i rows) (piece text (at rows i).start (at rows i).middle) ≡ false → has_repeat (rows_read text (take (i + 1) rows)) ≡ false
+  apart_turn a n =
+      ap has_repeat read_more ∙ repeat_more (rows_read text (take i rows)) (row_read text (at rows i))
+      ∙ ap (λ b. b || has_name (rows_read text (take i rows)) (row_read text (at rows i)).0) a ∙ named ∙ n
+
+module _ (text : List ℕ) (limit : ℕ) (rows kept : List AttributeSpan) (i : ℕ) (fit : RowsFit text limit rows) (h : i < length rows)
+    (read : rows_read text kept ≡ firsts (rows_read text (take i rows))) (is_new before : Bool)
+    (b : before ≡ is_named text (take i rows) (piece text (at rows i).start (at rows i).middle)) (n : is_new ≡ not before) where
   pub new_turn : is_new ≡ true → rows_read text (kept ++ at rows i ∷ []) ≡ firsts (rows_read text (take (i + 1) rows))
   new_turn e =
       map-append (row_read text) kept (at rows i ∷ []) ∙ ap (λ front. front ++ row_read text (at rows i) ∷ []) read
-      ∙ sym (firsts_new (rows_read text (take i rows)) (row_read text (at rows i)) (named ∙ not_false is_new before n e)) ∙ ap firsts (sym read_more)
+      ∙ sym (firsts_new (rows_read text (take i rows)) (row_read text (at rows i)) (named text limit rows i fit h ∙ sym b ∙ not_false is_new before n e)) ∙ ap firsts (sym (read_more text limit rows i fit h))
 
   pub old_turn : is_new ≡ false → rows_read text kept ≡ firsts (rows_read text (take (i + 1) rows))
-  old_turn e = read ∙ sym (firsts_same (rows_read text (take i rows)) (row_read text (at rows i)) (named ∙ not_true is_new before n e)) ∙ ap firsts (sym read_more)
-
--- a row more, whose name stands in none before it
-pub apart_turn : (text : List ℕ) (limit : ℕ) (rows : List AttributeSpan) (i : ℕ) → RowsFit text limit rows → i < length rows → has_repeat (rows_read text (take i rows)) ≡ false
-    → is_named text (take i rows) (piece text (at rows i).start (at rows i).middle) ≡ false → has_repeat (rows_read text (take (i + 1) rows)) ≡ false
-apart_turn text limit rows i f h a n =
-    let name = piece text (at rows i).start (at rows i).middle in
-    ap has_repeat (ap (rows_read text) (take_more rows i h) ∙ map-append (row_read text) (take i rows) (at rows i ∷ []))
-    ∙ repeat_more (rows_read text (take i rows)) (row_read text (at rows i)) ∙ ap (λ b. b || has_name (rows_read text (take i rows)) (chars name)) a
-    ∙ name_seen text limit (take i rows) name (fit_take text limit rows i f) (fit_at text limit rows i f h).name ∙ n
+  old_turn e =
+      read ∙ sym (firsts_same (rows_read text (take i rows)) (row_read text (at rows i)) (named text limit rows i fit h ∙ sym b ∙ not_true is_new before n e)) ∙ ap firsts (sym (read_more text limit rows i fit h))
 
 counts : (text : List ℕ) (rows kept : List AttributeSpan) → rows_read text kept ≡ firsts (rows_read text rows) → length (firsts (rows_read text rows)) ≡ length kept
 counts text rows kept read = sym (ap length read) ∙ length-map kept (row_read text)
@@ -226,11 +203,6 @@ first_of text rows kept start middle end r e k =
     (λ i. record { whole = k.read i; key = chars (piece text start middle); known = chars (piece text middle end); pending = chars (drop end text) })
     ∙ ap (λ (x : Reading). record { whole = firsts x.whole; key = x.key; known = x.known; pending = x.pending }) e
 
-drop_more : (rows : List AttributeSpan) (i : ℕ) → i < length rows → drop i rows ≡ at rows i ∷ drop (suc i) rows
-drop_more [] i h = absurd (omega (arith, h))
-drop_more (row ∷ rows) zero h = refl
-drop_more (row ∷ rows) (suc i) h = drop_more rows i (omega (arith, h))
-
 pub fit_drop : (text : List ℕ) (limit : ℕ) (rows : List AttributeSpan) (i : ℕ) → RowsFit text limit rows → RowsFit text limit (drop i rows)
 fit_drop text limit rows zero f = f
 fit_drop text limit [] (suc i) f = tt
@@ -242,7 +214,7 @@ pub pair_turn : (text : List ℕ) (limit : ℕ) (rows : List AttributeSpan) (i :
 pair_turn text limit rows i f h =
     let n : suc i ≡ i + 1 = omega arith in
     let r = fit_at text limit rows i f h in
-    ap (λ some. has_repeat (rows_read text some)) (drop_more rows i h)
+    ap (λ some. has_repeat (rows_read text some)) (drop-cons rows i (record { start = 0; middle = 0; value = 0; end = 0 }) h)
     ∙ (ap (λ b. b || has_repeat (rows_read text (drop (suc i) rows))) (name_seen text limit (drop (suc i) rows) (piece text (at rows i).start (at rows i).middle) (fit_drop text limit rows (suc i) f) r.name)
     ∙ ap (λ m. is_named text (drop m rows) (piece text (at rows i).start (at rows i).middle) || has_repeat (rows_read text (drop m rows))) n)
 

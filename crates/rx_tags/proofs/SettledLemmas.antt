@@ -41,9 +41,7 @@ next_ok s phase.AfterValue c = choose phase.AfterValue (is_white_space c) _ _ re
 next_ok s phase.EndStart c = choose phase.EndStart (begins_tag s c) _ _ refl tt
 next_ok s phase.EndName c = choose phase.EndName (is_white_space c) _ _ refl (choose phase.EndName (c == greater_than_sign) _ _ refl (choose phase.EndName (is_tag_char s c) _ _ refl tt))
 next_ok s phase.EndGap c = choose phase.EndGap (is_white_space c) _ _ refl (choose phase.EndGap (c == greater_than_sign) _ _ refl tt)
-next_ok s phase.Opened c = tt
-next_ok s phase.Emptied c = tt
-next_ok s phase.Closed c = tt
+next_ok s _ c = tt
 
 abbrev value_in : Result TagState Kind → Value
 value_in (Ok s) = s.value
@@ -55,12 +53,10 @@ left q s key (Ok v) t h = ap value_in (sym h)
 left q s key (Err k) t h = absurd (cc)
 
 by_action : (s : Syntax) (p q : TagPhase) (a : TagAction) (c : ℕ) (name more : Chars) (old new : Pairs) → NextOk p (Some (q, a)) → IsSettled p old.value → ActGives s a c name old (Ok tt) more new → IsSettled q new.value
-by_action s p q action.Skip c name more old new n h g k = ap value_in (sym (g p q)) ∙ h n
-by_action s p q action.Name c name more old new n h g k = ap value_in (sym (g p q)) ∙ h n
-by_action s p q action.Key c name more old new n h g k = ap value_in (sym (g p q)) ∙ h n
 by_action s p q action.Value c name more old new n h g k = absurd (not_both_ways (is_value_phase q) n k)
 by_action s p q action.Add c name more old new n h g k = left q (state_of p name old) [] (value_end s old.value) (state_of q more new) (g p q)
 by_action s p q action.AddKey c name more old new n h g k = left q (state_of p name old) _ (value_end s old.value) (state_of q more new) (g p q)
+by_action s p q _ c name more old new n h g k = ap value_in (sym (g p q)) ∙ h n
 
 pub settled : (s : Syntax) (p q : TagPhase) (a : TagAction) (c : ℕ) (name more : Chars) (old new : Pairs) → move_of s p c ≡ Some (q, a) → IsSettled p old.value → ActGives s a c name old (Ok tt) more new → IsSettled q new.value
 settled s p q a c name more old new e h g = by_action s p q a c name more old new (subst (NextOk p) e (next_ok s p c)) h g
@@ -90,17 +86,12 @@ lasts s phase.AfterValue c = whichever (is_white_space c) _ _ refl (whichever (c
 lasts s phase.EndStart c = whichever (begins_tag s c) _ _ refl refl
 lasts s phase.EndName c = whichever (is_white_space c) _ _ refl (whichever (c == greater_than_sign) _ _ refl (whichever (is_tag_char s c) _ _ refl refl))
 lasts s phase.EndGap c = whichever (is_white_space c) _ _ refl (whichever (c == greater_than_sign) _ _ refl refl)
-lasts s phase.Opened c = refl
-lasts s phase.Emptied c = refl
-lasts s phase.Closed c = refl
+lasts s _ c = refl
 
 by_last : (p q : TagPhase) (a : TagAction) (value : Value) → NextOk p (Some (q, a)) → lasts_well (Some (q, a)) ≡ true → is_last q ≡ true → IsSettled p value → CanEnd a value
 by_last p q action.Skip value n w l h = h n
 by_last p q action.Add value n w l h = tt
-by_last p q action.Name value n w l h = absurd (cc)
-by_last p q action.Key value n w l h = absurd (cc)
-by_last p q action.Value value n w l h = absurd (cc)
-by_last p q action.AddKey value n w l h = absurd (cc)
+by_last p q _ value n w l h = absurd (cc)
 
 pub can_end : (s : Syntax) (p q : TagPhase) (a : TagAction) (c : ℕ) (value : Value) → move_of s p c ≡ Some (q, a) → is_last q ≡ true → IsSettled p value → CanEnd a value
 can_end s p q a c value e l h = by_last p q a value (subst (NextOk p) e (next_ok s p c)) (subst (λ m. lasts_well m ≡ true) e (lasts s p c)) l h

@@ -71,21 +71,7 @@ small_ascii front h = printed_ascii front (small_printed front h)
 on_quoted : (P : TagPhase → Type 0) (p : TagPhase) → is_quoted p ≡ true → P phase.DoubleQuoted → P phase.SingleQuoted → P p
 on_quoted P phase.DoubleQuoted q d s = d
 on_quoted P phase.SingleQuoted q d s = s
-on_quoted P phase.Start q d s = absurd (cc)
-on_quoted P phase.Name q d s = absurd (cc)
-on_quoted P phase.Gap q d s = absurd (cc)
-on_quoted P phase.Solidus q d s = absurd (cc)
-on_quoted P phase.Key q d s = absurd (cc)
-on_quoted P phase.AfterKey q d s = absurd (cc)
-on_quoted P phase.BeforeValue q d s = absurd (cc)
-on_quoted P phase.Unquoted q d s = absurd (cc)
-on_quoted P phase.AfterValue q d s = absurd (cc)
-on_quoted P phase.EndStart q d s = absurd (cc)
-on_quoted P phase.EndName q d s = absurd (cc)
-on_quoted P phase.EndGap q d s = absurd (cc)
-on_quoted P phase.Opened q d s = absurd (cc)
-on_quoted P phase.Emptied q d s = absurd (cc)
-on_quoted P phase.Closed q d s = absurd (cc)
+on_quoted P _ q d s = absurd (cc)
 
 -- of where a tag's name is read
 on_naming : (P : TagPhase → Type 0) (p : TagPhase) → is_naming p ≡ true → P phase.Start → P phase.Name → P phase.EndName → P phase.EndStart → P p
@@ -93,39 +79,13 @@ on_naming P phase.Start q w x y z = w
 on_naming P phase.Name q w x y z = x
 on_naming P phase.EndName q w x y z = y
 on_naming P phase.EndStart q w x y z = z
-on_naming P phase.Gap q w x y z = absurd (cc)
-on_naming P phase.Solidus q w x y z = absurd (cc)
-on_naming P phase.Key q w x y z = absurd (cc)
-on_naming P phase.AfterKey q w x y z = absurd (cc)
-on_naming P phase.BeforeValue q w x y z = absurd (cc)
-on_naming P phase.DoubleQuoted q w x y z = absurd (cc)
-on_naming P phase.SingleQuoted q w x y z = absurd (cc)
-on_naming P phase.Unquoted q w x y z = absurd (cc)
-on_naming P phase.AfterValue q w x y z = absurd (cc)
-on_naming P phase.EndGap q w x y z = absurd (cc)
-on_naming P phase.Opened q w x y z = absurd (cc)
-on_naming P phase.Emptied q w x y z = absurd (cc)
-on_naming P phase.Closed q w x y z = absurd (cc)
+on_naming P _ q w x y z = absurd (cc)
 
 -- of where an attribute's name is read
 pub on_key : (P : TagPhase → Type 0) (p : TagPhase) → opens_key p ≡ true → P phase.Gap → P phase.Key → P p
 on_key P phase.Gap q x y = x
 on_key P phase.Key q x y = y
-on_key P phase.Start q x y = absurd (cc)
-on_key P phase.Name q x y = absurd (cc)
-on_key P phase.Solidus q x y = absurd (cc)
-on_key P phase.AfterKey q x y = absurd (cc)
-on_key P phase.BeforeValue q x y = absurd (cc)
-on_key P phase.DoubleQuoted q x y = absurd (cc)
-on_key P phase.SingleQuoted q x y = absurd (cc)
-on_key P phase.Unquoted q x y = absurd (cc)
-on_key P phase.AfterValue q x y = absurd (cc)
-on_key P phase.EndStart q x y = absurd (cc)
-on_key P phase.EndName q x y = absurd (cc)
-on_key P phase.EndGap q x y = absurd (cc)
-on_key P phase.Opened q x y = absurd (cc)
-on_key P phase.Emptied q x y = absurd (cc)
-on_key P phase.Closed q x y = absurd (cc)
+on_key P _ q x y = absurd (cc)
 
 -- the state itself, where the tag isn't whole
 pub checked_open : (s : Syntax) (st : TagState) → is_last st.phase ≡ false → checked s (Ok st) ≡ Ok st
@@ -176,17 +136,14 @@ module _ (s : Syntax) (p : TagPhase) (name : Chars) (q : is_quoted p ≡ true) w
 
 -- a small letter of an attribute's name
 module _ (c : ℕ) (h : is_small c ≡ true) where
-  small_nc : is_nc c ≡ true
-  small_nc =
-      let low = small_from c h in
-      let parts = and_parts (nat_le 97 c) (nat_le c 122) h in
-      rw (le-leb 65 c (omega arith), lt-leb c 90 (omega arith), is_none is_small c 95 h refl, parts.0, parts.1) refl
-
   small_start : is_nc_start c ≡ true
   small_start =
       let low = small_from c h in
       let parts = and_parts (nat_le 97 c) (nat_le c 122) h in
       rw (le-leb 65 c (omega arith), lt-leb c 90 (omega arith), is_none is_small c 95 h refl, parts.0, parts.1) refl
+
+  small_nc : is_nc c ≡ true
+  small_nc = or_left _ _ (or_left _ _ (or_left _ _ (or_left _ _ (or_left _ _ (or_left (is_nc_start c) _ small_start)))))
 
   small_move : (s : Syntax) → move_of s phase.Key c ≡ go phase.Key action.Key
   small_move Html =
@@ -374,12 +331,7 @@ gains : (p : RunPhase) (old new : Reading) (front : Chars) → is_run p ≡ fals
     → new ≡ record { whole = old.whole; key = old.key; known = old.known ++ (old.pending ++ front); pending = [] } → GainsValue (pairs_read p old) front (pairs_read p new)
 gains run.Plain old new front r k h e =
     record { plain = h; outside = refl; is = ap (pairs_read run.Plain) e ∙ ap (λ (x : Chars). valued (pairs_read run.Plain old) (old.known ++ (x ++ front))) k }
-gains run.Ampersand old new front r k h e = absurd (cc)
-gains run.Named old new front r k h e = absurd (cc)
-gains run.Hash old new front r k h e = absurd (cc)
-gains run.Decimal old new front r k h e = absurd (cc)
-gains run.Mark old new front r k h e = absurd (cc)
-gains run.Hexadecimal old new front r k h e = absurd (cc)
+gains _ old new front r k h e = absurd (cc)
 
 pub gains_value : (p : RunPhase) (old new : Reading) (front : Chars) (n : ℕ) (P : Type 0) → (n ≡ 0 → ⊥) → is_run p ≡ false → IsPending p old.pending → list_all is_plain front ≡ true
     → new ≡ record { whole = old.whole; key = old.key; known = old.known ++ (old.pending ++ front); pending = [] } → MatchBool (n == 0) P (GainsValue (pairs_read p old) front (pairs_read p new))
@@ -387,12 +339,7 @@ gains_value p old new front n P z r k h e = chosen n P _ z (gains p old new fron
 
 pub stays_pending : (p : RunPhase) (old new : Reading) (front : Chars) → is_run p ≡ false → new ≡ record { whole = old.whole; key = old.key; known = old.known ++ (old.pending ++ front); pending = [] } → IsPending p new.pending
 stays_pending run.Plain old new front r e = ap (λ (x : Reading). x.pending) e
-stays_pending run.Ampersand old new front r e = absurd (cc)
-stays_pending run.Named old new front r e = absurd (cc)
-stays_pending run.Hash old new front r e = absurd (cc)
-stays_pending run.Decimal old new front r e = absurd (cc)
-stays_pending run.Mark old new front r e = absurd (cc)
-stays_pending run.Hexadecimal old new front r e = absurd (cc)
+stays_pending _ old new front r e = absurd (cc)
 
 pub gains_key : (p : RunPhase) (old new : Reading) (front : Chars) (n : ℕ) (P : Type 0) → (n ≡ 0 → ⊥) → list_all is_small front ≡ true
     → new ≡ record { whole = old.whole; key = old.key ++ front; known = old.known; pending = old.pending } → MatchBool (n == 0) P (GainsKey (pairs_read p old) front (pairs_read p new))

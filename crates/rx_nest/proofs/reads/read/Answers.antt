@@ -57,10 +57,8 @@ returns-in_default c =
     }
   where
     no_tag : (h : TreeToken) → ((told : _) → h ≢ tree_token.Tag told) → nests.is_tag_heard h ≡ false
-    no_tag tree_token.More n = refl
-    no_tag tree_token.Skipped n = refl
-    no_tag tree_token.Text n = refl
     no_tag (tree_token.Tag told) n = absurd (n told refl)
+    no_tag _ n = refl
 
 pub returns-in-Err-clause-stays : goal.returns-in-Err-clause-stays
 returns-in-Err-clause-stays c = stays_same (ℕ × TreeToken) c.in-Err.stop c.args.line.now

@@ -1,14 +1,14 @@
 use Rattle.std.proofs.Common.{◌∙◌, sym, ap, arith}
 use Rattle.rx_grammar.specs.Tags.{has_repeat}
 use Rattle.rx_tags.specs.Reading.{Reading}
-use Rattle.rx_tags.proofs.Pieces.{added}
-use Rattle.rx_tags.proofs.RepeatLemmas.{rows_within, nothing_left, first_of, keeps_fit}
+use Rattle.rx_tags.proofs.Pieces.{added, rows_fit_past}
+use Rattle.rx_tags.proofs.RepeatLemmas.{nothing_left, first_of, keeps_fit}
 use Rattle.rx_tags.proofs.attributes.Attributes.add_last.Goals as goal
 
 pub unrepeated-requires : goal.unrepeated-requires
 unrepeated-requires c =
     let a = added _ _ _ _ _ _ _ c.self.invariant (rw c.if-is_err.ensures.negation at c.push.ensures.items) (omega (arith, c.len-end.ensures, c.self.inside.text.ok.0)) in
-    rw (c.deref.ensures.value, c.deref-2.ensures.value) (rows_within _ c.len-end.result _ c.push.new.self.items a.0.within a.0.rows_fit)
+    rw (c.deref.ensures.value, c.deref-2.ensures.value) (rows_fit_past _ c.len-end.result _ c.push.new.self.items a.0.within a.0.rows_fit)
 
 pub invariant_of-self-in_default : goal.invariant_of-self-in_default
 invariant_of-self-in_default c =

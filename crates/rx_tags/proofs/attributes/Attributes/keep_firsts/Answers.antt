@@ -1,13 +1,14 @@
 use Rattle.std.proofs.Common.{◌∙◌, sym, ap, arith}
 use Rattle.rx_grammar.specs.Tags.{has_repeat}
 use Rattle.rx_tags.specs.Reading.{Reading}
-use Rattle.rx_tags.proofs.RepeatLemmas.{rows_within, nothing_left, keeps_fit}
+use Rattle.rx_tags.proofs.Pieces.{rows_fit_past}
+use Rattle.rx_tags.proofs.RepeatLemmas.{nothing_left, keeps_fit}
 use Rattle.rx_tags.proofs.attributes.Attributes.keep_firsts.Goals as goal
 
 pub unrepeated-requires : goal.unrepeated-requires
 unrepeated-requires c =
     rw (c.deref.ensures.value, c.deref-2.ensures.value)
-    (rows_within _ c.self.inside.start _ c.self.inside.rows.items (omega (arith, c.self.invariant.rises, c.self.invariant.on, c.self.invariant.within)) c.self.invariant.rows_fit)
+    (rows_fit_past _ c.self.inside.start _ c.self.inside.rows.items (omega (arith, c.self.invariant.rises, c.self.invariant.on, c.self.invariant.within)) c.self.invariant.rows_fit)
 
 pub returns-in_default-clause-kept : goal.returns-in_default-clause-kept
 returns-in_default-clause-kept c =
