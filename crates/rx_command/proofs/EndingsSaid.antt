@@ -26,14 +26,12 @@ module _ (shelf : ShelfContent) where
   -- a text that is due is written
   due_done : {k : Option Job} {s : Status} {other line : List ℕ} (text : List ℕ) → IsAnswer shelf k s other line → IsDue shelf k text → s ≡ status.Done
   due_done text nothing_asked d = absurd d
-  due_done text (of_sample count line i) d = refl
-  due_done text (of_page asked other a) d = refl
   due_done text (of_fault asked fault a) d = absurd (text_or_fault shelf asked text fault d a)
   due_done text (no_file asked l) d = absurd (page_lacks shelf asked (HasText asked text) d l)
   due_done text (no_context asked o) d = absurd (page_other shelf asked (HasText asked text) d o)
-  due_done text (of_pages g other i e) d = refl
   due_done text (no_file_of_several g l) d = absurd (gathered_lacks g shelf text d l)
   due_done text (no_context_of_several g o) d = absurd (gathered_other g shelf text d o)
+  due_done text _ d = refl
 
   due_lacks : (k : Option Job) (text : List ℕ) → IsDue shelf k text → JobLacks k shelf → ⊥
   due_lacks None text d l = d

@@ -45,9 +45,8 @@ front_more : {A : Type 0} (xs : List A) (i : ℕ) (x : A) → slice_get xs i ≡
 front_more xs i x e = let up : suc i ≡ i + 1 = omega arith in sym (front_suc xs i x e) ∙ ap (λ n. take n xs) up
 
 front_and_rest : {A : Type 0} (n : ℕ) (xs : List A) → take n xs ++ drop n xs ≡ xs
-front_and_rest zero xs = refl
-front_and_rest (suc n) [] = refl
 front_and_rest (suc n) (x ∷ xs) = ap (λ z. x ∷ z) (front_and_rest n xs)
+front_and_rest _ _ = refl
 
 all_of : {A : Type 0} (n : ℕ) (xs : List A) → length xs ≤ n → take n xs ≡ xs
 all_of zero [] l = refl
@@ -80,9 +79,8 @@ module _ (holds : Context → Type 0) (syntax : Syntax) (files : FileList) where
 
   parts_both : (listed more : List Listed) (parts rest : List ℕ) → AreParts holds syntax files listed parts → AreParts holds syntax files more rest → AreParts holds syntax files (listed ++ more) (parts ++ rest)
   parts_both [] more [] rest a b = b
-  parts_both [] more (n ∷ parts) rest a b = absurd a
-  parts_both (one ∷ listed) more [] rest a b = absurd a
   parts_both (one ∷ listed) more (n ∷ parts) rest a b = (a.0, parts_both listed more parts rest a.1 b)
+  parts_both _ more _ rest a b = absurd a
 
   -- under other contexts
   parts_under : (other : Context → Type 0) → ((k : Context) → other k → holds k) → (listed : List Listed) (parts : List ℕ) → AreParts holds syntax files listed parts → AreParts other syntax files listed parts
@@ -97,9 +95,8 @@ module _ (holds : Context → Type 0) (syntax : Syntax) (files : FileList) where
 module _ (gives : Syntax → Context → Chars → List ℕ → List (Triple ℕ) → Type 0) (syntax : Syntax) (context : Context) (files : FileList) where
   judges_both : (listed more : List Listed) (pages rest : List Page) → JudgesEach gives syntax context files listed pages → JudgesEach gives syntax context files more rest → JudgesEach gives syntax context files (listed ++ more) (pages ++ rest)
   judges_both [] more [] rest a b = b
-  judges_both [] more (page ∷ pages) rest a b = absurd a
-  judges_both (one ∷ listed) more [] rest a b = absurd a
   judges_both (one ∷ listed) more (page ∷ pages) rest a b = (a.0, judges_both listed more pages rest a.1 b)
+  judges_both _ more _ rest a b = absurd a
 
 -- what is written denotes the page's graph
 judged_graph : (syntax : Syntax) (context : Context) (address : Chars) (bytes : List ℕ) (judgement : Judgement) → IsJudged GivesTriples syntax context address bytes judgement → IsJudged GivesGraph syntax context address bytes judgement

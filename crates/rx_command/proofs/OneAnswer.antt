@@ -52,11 +52,10 @@ module _ (syntax : Syntax) (context : Context) (files : FileList) where
 
   one_list : (listed : List Listed) (a b : List Page) → JudgesEach GivesTriples syntax context files listed a → JudgesEach GivesTriples syntax context files listed b → a ≡ b
   one_list [] [] [] h k = refl
-  one_list [] [] (q ∷ qs) h k = absurd k
   one_list [] (p ∷ ps) b h k = absurd h
   one_list (l ∷ more) [] b h k = absurd h
-  one_list (l ∷ more) (p ∷ ps) [] h k = absurd k
   one_list (l ∷ more) (p ∷ ps) (q ∷ qs) h k = ap₂ (λ x y. x ∷ y) (one_page l p q h.0 k.0) (one_list more ps qs h.1 k.1)
+  one_list _ _ _ h k = absurd k
 
 -- ---- what a page has
 
