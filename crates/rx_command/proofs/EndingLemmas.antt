@@ -44,10 +44,8 @@ silent old new before now m = inl (grown_by_none old new m.0)
 
 -- the job in which several pages are asked for
 pub several_of : (k : Option Job) (g : Gathering) → gathering_in k ≡ Some g → k ≡ Some (gathers g)
-several_of None g p = absurd (cc)
-several_of (Some (reads a)) g p = absurd (cc)
 several_of (Some (gathers a)) g p = let same : a ≡ g = (cc) in ap (λ (z : Gathering). Some (gathers z)) same
-several_of (Some (samples a)) g p = absurd (cc)
+several_of _ g p = absurd (cc)
 
 -- a page that is named is there
 pub page_there : (words : List Chars) (told : Option ShelfContent) (shelf : ShelfContent) (tells : told ≡ Some shelf) (holds : Context → List ℕ → Type 0) (bytes : List ℕ) (p : NamesPage words told bytes)
@@ -63,16 +61,14 @@ page_there words told shelf tells holds bytes p h =
     }
 
 pub lacks_answer : (shelf : ShelfContent) (k : Option Job) → JobLacks k shelf → IsAnswer shelf k status.ReadFault [] []
-lacks_answer shelf None h = absurd h
 lacks_answer shelf (Some (reads asked)) h = no_file asked h
 lacks_answer shelf (Some (gathers g)) h = no_file_of_several g h
-lacks_answer shelf (Some (samples count)) h = absurd h
+lacks_answer shelf _ h = absurd h
 
 pub bad_answer : (shelf : ShelfContent) (k : Option Job) → HasOther (context_in k) shelf → IsAnswer shelf k status.BadContext [] context_line
-bad_answer shelf None h = absurd h
 bad_answer shelf (Some (reads asked)) h = no_context asked h
 bad_answer shelf (Some (gathers g)) h = no_context_of_several g h
-bad_answer shelf (Some (samples count)) h = absurd h
+bad_answer shelf _ h = absurd h
 
 module _ (words : List Chars) (old new : Devices) (shelf : ShelfContent) (tells : old.told ≡ Some shelf) where
   at_job : (k : Option Job) (s : Status) (text line : List ℕ) → job words ≡ k → IsAnswer shelf k s text line → IsAnswer shelf (job words) s text line
@@ -99,10 +95,7 @@ module _ (words : List Chars) (old new : Devices) (shelf : ShelfContent) (tells 
   ends_sample count j status.Done e says = answers e.0 [] (at_job (Some (samples count)) status.Done e.0 [] j (of_sample count e.0 e.1)) e.2 (silent old.said new.said old.say_faults new.say_faults says)
   ends_sample count j status.WriteFault e says = out_failed e.0 refl e.3 (subst (λ k. IsDue shelf k e.0) (sym j) e.1) e.2
   ends_sample count j status.Memory e says = no_memory refl e
-  ends_sample count j (status.Refused fault) e says = absurd e
-  ends_sample count j status.Usage e says = absurd e
-  ends_sample count j status.ReadFault e says = absurd e
-  ends_sample count j status.BadContext e says = absurd e
+  ends_sample count j _ e says = absurd e
 
   -- for several pages
   several_at : (g : Gathering) → job words ≡ Some (gathers g) → (s : Status) → EndsAs g s old new → SaysAs s old new → Ends shelf (job words) s old new
@@ -119,8 +112,7 @@ module _ (words : List Chars) (old new : Devices) (shelf : ShelfContent) (tells 
       answers [] context_line (at_job (Some (gathers g)) status.BadContext [] context_line j (no_context_of_several g (subst (WhereTold (HasOther g.context)) tells e.1)))
       (grown_by_none old.held new.held e.3) says
   several_at g j status.Memory e says = no_memory refl e
-  several_at g j (status.Refused fault) e says = absurd e
-  several_at g j status.Usage e says = absurd e
+  several_at g j _ e says = absurd e
 
   pub ends_several : (g : Gathering) → job words ≡ Some (gathers g) → (s : Status) → GatheringEnds g s old new → Ends shelf (job words) s old new
   ends_several g j s e = several_at g j s e.ends e.says

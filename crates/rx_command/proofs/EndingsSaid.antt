@@ -26,14 +26,12 @@ module _ (shelf : ShelfContent) where
   -- a text that is due is written
   due_done : {k : Option Job} {s : Status} {other line : List ℕ} (text : List ℕ) → IsAnswer shelf k s other line → IsDue shelf k text → s ≡ status.Done
   due_done text nothing_asked d = absurd d
-  due_done text (of_sample count line i) d = refl
-  due_done text (of_page asked other a) d = refl
   due_done text (of_fault asked fault a) d = absurd (text_or_fault shelf asked text fault d a)
   due_done text (no_file asked l) d = absurd (page_lacks shelf asked (HasText asked text) d l)
   due_done text (no_context asked o) d = absurd (page_other shelf asked (HasText asked text) d o)
-  due_done text (of_pages g other i e) d = refl
   due_done text (no_file_of_several g l) d = absurd (gathered_lacks g shelf text d l)
   due_done text (no_context_of_several g o) d = absurd (gathered_other g shelf text d o)
+  due_done text _ d = refl
 
   due_lacks : (k : Option Job) (text : List ℕ) → IsDue shelf k text → JobLacks k shelf → ⊥
   due_lacks None text d l = d
@@ -48,36 +46,24 @@ module _ (shelf : ShelfContent) where
   due_other (Some (samples count)) text d o = o
 
   -- pages that are all there have their document
-  all_done : {k : Option Job} {s : Status} {other line : List ℕ} (g : Gathering) → HasContext g.context shelf → HasPages shelf.files g.pages → IsAnswer shelf k s other line → k ≡ Some (gathers g) → s ≡ status.Done
-  all_done g c p nothing_asked e = absurd (cc)
-  all_done g c p (of_sample count line i) e = absurd (cc)
-  all_done g c p (of_page asked text a) e = absurd (cc)
-  all_done g c p (of_fault asked fault a) e = absurd (cc)
-  all_done g c p (no_file asked l) e = absurd (cc)
-  all_done g c p (no_context asked o) e = absurd (cc)
-  all_done g c p (of_pages of text i d) e = refl
-  all_done g c p (no_file_of_several of (inl l)) e = let same : of ≡ g = (cc) in absurd (not_missing g.context shelf c (subst (λ (x : Gathering). LacksContext x.context shelf) same l))
-  all_done g c p (no_file_of_several of (inr l)) e = let same : of ≡ g = (cc) in absurd (not_page shelf.files g.pages p (subst (λ (x : Gathering). LacksPage shelf.files x.pages) same l.1))
-  all_done g c p (no_context_of_several of o) e = let same : of ≡ g = (cc) in absurd (not_other g.context shelf c (subst (λ (x : Gathering). HasOther x.context shelf) same o))
+  all_done : {s : Status} {other line : List ℕ} (g : Gathering) → HasContext g.context shelf → HasPages shelf.files g.pages → IsAnswer shelf (Some (gathers g)) s other line → s ≡ status.Done
+  all_done g c p (of_pages _ text i d) = refl
+  all_done g c p (no_file_of_several _ (inl l)) = absurd (not_missing g.context shelf c l)
+  all_done g c p (no_file_of_several _ (inr l)) = absurd (not_page shelf.files g.pages p l.1)
+  all_done g c p (no_context_of_several _ o) = absurd (not_other g.context shelf c o)
 
 module _ (words : List Chars) (old new : Devices) (shelf : ShelfContent) (tells : old.told ≡ Some shelf) where
   abbrev named : (asked : Asked) (Holds : Context → List ℕ → Type 0) (a : OfPage asked shelf Holds) → Some (reads asked) ≡ job words → NamesPage words old.told a.bytes
   named asked Holds a j = record { asked = asked; shelf = shelf; context = a.context; asks = sym (ap page_in j); tells = tells; holds = a.is_context; file = a.file }
 
-  answer_yields : {k : Option Job} {t : Status} {text line : List ℕ} → IsAnswer shelf k t text line → t ≡ status.Done → k ≡ job words → YieldsBoth words old.told text
-  answer_yields nothing_asked e j = absurd (cc)
-  answer_yields (of_sample count line i) e j = let s : SaysOfSample words line = record { count = count; asks = sym j; is = i } in (inr (inl s), inr (inl s))
-  answer_yields (of_page asked text a) e j =
+  answer_yields : {k : Option Job} {text line : List ℕ} → IsAnswer shelf k status.Done text line → k ≡ job words → YieldsBoth words old.told text
+  answer_yields (of_sample count line i) j = let s : SaysOfSample words line = record { count = count; asks = sym j; is = i } in (inr (inl s), inr (inl s))
+  answer_yields (of_page asked text a) j =
       let p = named asked (λ context bytes. IsTheText asked.task context bytes text) a j in
       (inl (record { bytes = a.bytes; page = p; has_text = (a.holds_so).gives }), inl (record { bytes = a.bytes; page = p; graph = (a.holds_so).denotes }))
-  answer_yields (of_fault asked fault a) e j = absurd (cc)
-  answer_yields (no_file asked l) e j = absurd (cc)
-  answer_yields (no_context asked o) e j = absurd (cc)
-  answer_yields (of_pages g text i d) e j =
+  answer_yields (of_pages g text i d) j =
       let asks = sym (ap gathering_in j) in
       (inr (inr (record { gathering = g; shelf = shelf; asks = asks; tells = tells; is = i })), inr (inr (record { gathering = g; shelf = shelf; asks = asks; tells = tells; denotes = d })))
-  answer_yields (no_file_of_several g l) e j = absurd (cc)
-  answer_yields (no_context_of_several g o) e j = absurd (cc)
 
   due_yields : (k : Option Job) (text : List ℕ) → k ≡ job words → IsDue shelf k text → Yields words old.told text
   due_yields None text j d = absurd d
@@ -85,63 +71,40 @@ module _ (words : List Chars) (old new : Devices) (shelf : ShelfContent) (tells 
   due_yields (Some (gathers g)) text j d = inr (inr (record { gathering = g; shelf = shelf; asks = sym (ap gathering_in j); tells = tells; is = d }))
   due_yields (Some (samples count)) text j d = inr (inl (record { count = count; asks = sym j; is = d }))
 
-  answer_refuses : {k : Option Job} {t : Status} {text line : List ℕ} (fault : Fault) → IsAnswer shelf k t text line → t ≡ status.Refused fault → k ≡ job words → HasPageFault words old.told fault
-  answer_refuses fault nothing_asked e j = absurd (cc)
-  answer_refuses fault (of_sample count line i) e j = absurd (cc)
-  answer_refuses fault (of_page asked text a) e j = absurd (cc)
-  answer_refuses fault (of_fault asked other a) e j =
-      let same : other ≡ fault = (cc) in
-      subst (HasPageFault words old.told) same
-      (record { bytes = a.bytes; page = named asked (λ context bytes. IsTheFault asked.task context bytes other) a j; refused = (a.holds_so).refused })
-  answer_refuses fault (no_file asked l) e j = absurd (cc)
-  answer_refuses fault (no_context asked o) e j = absurd (cc)
-  answer_refuses fault (of_pages g text i d) e j = absurd (cc)
-  answer_refuses fault (no_file_of_several g l) e j = absurd (cc)
-  answer_refuses fault (no_context_of_several g o) e j = absurd (cc)
+  answer_refuses : {k : Option Job} {text line : List ℕ} (fault : Fault) → IsAnswer shelf k (status.Refused fault) text line → k ≡ job words → HasPageFault words old.told fault
+  answer_refuses fault (of_fault asked _ a) j = record { bytes = a.bytes; page = named asked (λ context bytes. IsTheFault asked.task context bytes fault) a j; refused = (a.holds_so).refused }
 
-  answer_bad : {k : Option Job} {t : Status} {text line : List ℕ} → IsAnswer shelf k t text line → t ≡ status.BadContext → k ≡ job words → HasBadContext words old.told
-  answer_bad nothing_asked e j = absurd (cc)
-  answer_bad (of_sample count line i) e j = absurd (cc)
-  answer_bad (of_page asked text a) e j = absurd (cc)
-  answer_bad (of_fault asked fault a) e j = absurd (cc)
-  answer_bad (no_file asked l) e j = absurd (cc)
-  answer_bad (no_context asked o) e j = record { shelf = shelf; tells = tells; holds = subst (λ z. HasOther (context_in z) shelf) j o }
-  answer_bad (of_pages g text i d) e j = absurd (cc)
-  answer_bad (no_file_of_several g l) e j = absurd (cc)
-  answer_bad (no_context_of_several g o) e j = record { shelf = shelf; tells = tells; holds = subst (λ z. HasOther (context_in z) shelf) j o }
+  answer_bad : {k : Option Job} {text line : List ℕ} → IsAnswer shelf k status.BadContext text line → k ≡ job words → HasBadContext words old.told
+  answer_bad (no_context asked o) j = record { shelf = shelf; tells = tells; holds = subst (λ z. HasOther (context_in z) shelf) j o }
+  answer_bad (no_context_of_several g o) j = record { shelf = shelf; tells = tells; holds = subst (λ z. HasOther (context_in z) shelf) j o }
+
+  never_write : {k : Option Job} {text line : List ℕ} → ¬ IsAnswer shelf k status.WriteFault text line
+  never_write a = elim a [ ]
+
+  at_status : {s : Status} {text line : List ℕ} (t : Status) → s ≡ t → IsAnswer shelf (job words) s text line → IsAnswer shelf (job words) t text line
+  at_status {text = text} {line = line} t is a = subst (λ x. IsAnswer shelf (job words) x text line) is a
 
   module _ (s : Status) where
     done : Ends shelf (job words) s old new → s ≡ status.Done → (told : ShelfContent) → old.told ≡ Some told → (text : List ℕ) × YieldsBoth words old.told text × WhereKnown (GrowsBy text) old.held new.held
-    done (answers text line a grows says) is told e = (text, answer_yields a is refl, grows)
+    done (answers text line a grows says) is told e = (text, answer_yields (at_status status.Done is a) refl, grows)
     done (shelf_failed f rose stays) is told e = absurd (cc)
     done (out_failed text f rose d part) is told e = absurd (cc)
     done (no_memory f stays) is told e = absurd (cc)
 
     partly : Ends shelf (job words) s old new → s ≡ status.WriteFault → (told : ShelfContent) → old.told ≡ Some told → (text : List ℕ) × Yields words old.told text × WhereKnown (GrowsByPart text) old.held new.held
-    partly (answers text line a grows says) is told e = absurd (never_write a is)
-      where
-        never_write : {k : Option Job} {t : Status} {text line : List ℕ} → IsAnswer shelf k t text line → t ≡ status.WriteFault → ⊥
-        never_write nothing_asked e = absurd (cc)
-        never_write (of_sample count line i) e = absurd (cc)
-        never_write (of_page asked text a) e = absurd (cc)
-        never_write (of_fault asked fault a) e = absurd (cc)
-        never_write (no_file asked l) e = absurd (cc)
-        never_write (no_context asked o) e = absurd (cc)
-        never_write (of_pages g text i d) e = absurd (cc)
-        never_write (no_file_of_several g l) e = absurd (cc)
-        never_write (no_context_of_several g o) e = absurd (cc)
+    partly (answers text line a grows says) is told e = absurd (never_write (at_status status.WriteFault is a))
     partly (shelf_failed f rose stays) is told e = absurd (cc)
     partly (out_failed text f rose d part) is told e = (text, due_yields (job words) text refl d, part)
     partly (no_memory f stays) is told e = absurd (cc)
 
     refused : Ends shelf (job words) s old new → (fault : Fault) → s ≡ status.Refused fault → (told : ShelfContent) → old.told ≡ Some told → HasPageFault words old.told fault
-    refused (answers text line a grows says) fault is told e = answer_refuses fault a is refl
+    refused (answers text line a grows says) fault is told e = answer_refuses fault (at_status (status.Refused fault) is a) refl
     refused (shelf_failed f rose stays) fault is told e = absurd (cc)
     refused (out_failed text f rose d part) fault is told e = absurd (cc)
     refused (no_memory f stays) fault is told e = absurd (cc)
 
     bad_context : Ends shelf (job words) s old new → s ≡ status.BadContext → (told : ShelfContent) → old.told ≡ Some told → HasBadContext words old.told
-    bad_context (answers text line a grows says) is told e = answer_bad a is refl
+    bad_context (answers text line a grows says) is told e = answer_bad (at_status status.BadContext is a) refl
     bad_context (shelf_failed f rose stays) is told e = absurd (cc)
     bad_context (out_failed text f rose d part) is told e = absurd (cc)
     bad_context (no_memory f stays) is told e = absurd (cc)
@@ -185,7 +148,7 @@ module _ (words : List Chars) (old new : Devices) (shelf : ShelfContent) (tells 
     completes_all : Ends shelf (job words) s old new → HasAll words old.told → ¬ Rose old.read_faults new.read_faults → ¬ Rose old.write_faults new.write_faults → EndsSo s status.Done
     completes_all (answers other line a grows says) h quiet calm =
         let same : h.shelf ≡ shelf = one_shelf old.told h.shelf shelf h.tells tells in
-        inl (all_done shelf h.gathering (subst (λ (x : ShelfContent). HasContext h.gathering.context x) same h.context) (subst (λ (x : ShelfContent). HasPages x.files h.gathering.pages) same h.pages) a (several_of (job words) h.gathering h.asks))
+        inl (all_done shelf h.gathering (subst (λ (x : ShelfContent). HasContext h.gathering.context x) same h.context) (subst (λ (x : ShelfContent). HasPages x.files h.gathering.pages) same h.pages) (subst (λ z. IsAnswer shelf z s other line) (several_of (job words) h.gathering h.asks) a))
     completes_all (shelf_failed f rose stays) h quiet calm = absurd (quiet rose)
     completes_all (out_failed other f rose d part) h quiet calm = absurd (calm rose)
     completes_all (no_memory f stays) h quiet calm = inr f

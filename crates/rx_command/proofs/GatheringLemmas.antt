@@ -1,6 +1,7 @@
 -- Several pages that are read one after another.
-use Rattle.std.proofs.Common.{◌≡◌, ◌∙◌, ◌+◌, ◌-◌, ◌≤◌, ◌⊎◌, inl, inr, ℕ, zero, suc, nat_eq, List, [], ◌∷◌, ◌++◌, length, take, drop, sym, ap, subst, refl, arith, Option, Some, None, encode_utf8_all, append_assoc, length-append}
+use Rattle.std.proofs.Common.{◌≡◌, ◌∙◌, ◌+◌, ◌-◌, ◌≤◌, ◌⊎◌, inl, inr, ℕ, zero, suc, nat_eq, List, [], ◌∷◌, ◌++◌, length, take, drop, sym, ap, subst, refl, arith, Option, Some, None, encode_utf8_all, append_assoc, length-append, add-one}
 use Rattle.std.specs.Prelude.{slice_get}
+use Rattle.std.proofs.lemmas.List.{take_all, take-append-drop}
 use Rattle.rx_ports.specs.Counts.{Rose}
 use Rattle.rx_ports.specs.Files.{file_of}
 use Rattle.rx_ports.specs.Shelves.{ShelfContent, WhereKnown, Lacks}
@@ -36,24 +37,10 @@ use Rattle.rx_page.proofs.ProperLemmas.{written_read}
 
 -- ---- lists
 
-front_suc : {A : Type 0} (xs : List A) (i : ℕ) (x : A) → slice_get xs i ≡ Some x → take (suc i) xs ≡ take i xs ++ x ∷ []
-front_suc [] i x e = absurd (cc)
-front_suc (y ∷ xs) zero x e = let same : y ≡ x = (cc) in ap (λ z. z ∷ []) same
-front_suc (y ∷ xs) (suc i) x e = ap (λ z. y ∷ z) (front_suc xs i x e)
-
 front_more : {A : Type 0} (xs : List A) (i : ℕ) (x : A) → slice_get xs i ≡ Some x → take i xs ++ x ∷ [] ≡ take (i + 1) xs
-front_more xs i x e = let up : suc i ≡ i + 1 = omega arith in sym (front_suc xs i x e) ∙ ap (λ n. take n xs) up
-
-front_and_rest : {A : Type 0} (n : ℕ) (xs : List A) → take n xs ++ drop n xs ≡ xs
-front_and_rest zero xs = refl
-front_and_rest (suc n) [] = refl
-front_and_rest (suc n) (x ∷ xs) = ap (λ z. x ∷ z) (front_and_rest n xs)
-
-all_of : {A : Type 0} (n : ℕ) (xs : List A) → length xs ≤ n → take n xs ≡ xs
-all_of zero [] l = refl
-all_of zero (x ∷ xs) l = absurd (omega (arith, l))
-all_of (suc n) [] l = refl
-all_of (suc n) (x ∷ xs) l = ap (λ z. x ∷ z) (all_of n xs (omega (arith, l)))
+front_more [] i x e = absurd (cc)
+front_more (y ∷ xs) zero x e = let same : y ≡ x = (cc) in ap (λ z. z ∷ []) (sym same)
+front_more (y ∷ xs) (suc i) x e = simp add-one (ap (λ z. y ∷ z) (simp add-one at (front_more xs i x e)))
 
 -- ---- parts
 
@@ -80,9 +67,8 @@ module _ (holds : Context → Type 0) (syntax : Syntax) (files : FileList) where
 
   parts_both : (listed more : List Listed) (parts rest : List ℕ) → AreParts holds syntax files listed parts → AreParts holds syntax files more rest → AreParts holds syntax files (listed ++ more) (parts ++ rest)
   parts_both [] more [] rest a b = b
-  parts_both [] more (n ∷ parts) rest a b = absurd a
-  parts_both (one ∷ listed) more [] rest a b = absurd a
   parts_both (one ∷ listed) more (n ∷ parts) rest a b = (a.0, parts_both listed more parts rest a.1 b)
+  parts_both _ more _ rest a b = absurd a
 
   -- under other contexts
   parts_under : (other : Context → Type 0) → ((k : Context) → other k → holds k) → (listed : List Listed) (parts : List ℕ) → AreParts holds syntax files listed parts → AreParts other syntax files listed parts
@@ -97,9 +83,8 @@ module _ (holds : Context → Type 0) (syntax : Syntax) (files : FileList) where
 module _ (gives : Syntax → Context → Chars → List ℕ → List (Triple ℕ) → Type 0) (syntax : Syntax) (context : Context) (files : FileList) where
   judges_both : (listed more : List Listed) (pages rest : List Page) → JudgesEach gives syntax context files listed pages → JudgesEach gives syntax context files more rest → JudgesEach gives syntax context files (listed ++ more) (pages ++ rest)
   judges_both [] more [] rest a b = b
-  judges_both [] more (page ∷ pages) rest a b = absurd a
-  judges_both (one ∷ listed) more [] rest a b = absurd a
   judges_both (one ∷ listed) more (page ∷ pages) rest a b = (a.0, judges_both listed more pages rest a.1 b)
+  judges_both _ more _ rest a b = absurd a
 
 -- what is written denotes the page's graph
 judged_graph : (syntax : Syntax) (context : Context) (address : Chars) (bytes : List ℕ) (judgement : Judgement) → IsJudged GivesTriples syntax context address bytes judgement → IsJudged GivesGraph syntax context address bytes judgement
@@ -262,7 +247,7 @@ module _ (context : Context) (syntax : Syntax) where
 
   -- all
   pub all_added : (listed : List Listed) (i : ℕ) (before now : List Page) (told late : Option ShelfContent) → length listed ≤ i → AddsPages context syntax (take i listed) before now told late → AddsPages context syntax listed before now told late
-  all_added listed i before now told late l a = subst (λ (ls : List Listed). AddsPages context syntax ls before now told late) (all_of i listed l) a
+  all_added listed i before now told late l a = subst (λ (ls : List Listed). AddsPages context syntax ls before now told late) (take_all i listed l) a
 
   pub all_taken : (listed : List Listed) (i : ℕ) (before now : List Page) (told late : Option ShelfContent) → length listed ≤ i → AddsPages context syntax (take i listed) before now told late → WhereKnown (TakesParts context syntax listed) told late
   all_taken listed i before now told late l a = let all = all_added listed i before now told late l a in record { same = all.reads.same; taken = λ x y p q. (all.reads.taken x y p q).takes }
@@ -273,7 +258,7 @@ module _ (context : Context) (syntax : Syntax) where
   some_taken listed i one before now told mid late at a p =
       moves_then (TakesParts context syntax listed)
       (λ x y z r q.
-      subst (λ (ls : List Listed). TakesParts context syntax ls x z) (front_and_rest (i + 1) listed)
+      subst (λ (ls : List Listed). TakesParts context syntax ls x z) (take-append-drop (i + 1) listed)
       (part_alone (take (i + 1) listed) (drop (i + 1) listed) x z
       (subst (λ (ls : List Listed). TakesParts context syntax ls x z) (front_more listed i one at) (part_then (take i listed) one x y z r.takes q)))) a.reads p
 

@@ -115,14 +115,12 @@ has_context (Some name) shelf context h =
 
 -- no more was read than a piece past a first fault, whatever the task
 reads_to : (task : Task) (fault : Fault) (before now : ℕ) → now ≤ before + (fault.at + largest_piece) → ReadsTo task fault before now
-reads_to (extracts e) fault before now l = l
 reads_to (itemizes i) fault before now l = λ k. l
-reads_to (checks syntax) fault before now l = l
+reads_to _ fault before now l = l
 
 reads_later : (task : Task) (fault : Fault) (a b now : ℕ) → a ≤ b → ReadsTo task fault a now → ReadsTo task fault b now
-reads_later (extracts e) fault a b now l r = omega (arith, l, r)
 reads_later (itemizes i) fault a b now l r = λ k. let m : now ≤ a + (fault.at + largest_piece) = r k in omega (arith, l, m)
-reads_later (checks syntax) fault a b now l r = omega (arith, l, r)
+reads_later _ fault a b now l r = omega (arith, l, r)
 
 -- ---- the page after it
 

@@ -52,11 +52,10 @@ module _ (syntax : Syntax) (context : Context) (files : FileList) where
 
   one_list : (listed : List Listed) (a b : List Page) → JudgesEach GivesTriples syntax context files listed a → JudgesEach GivesTriples syntax context files listed b → a ≡ b
   one_list [] [] [] h k = refl
-  one_list [] [] (q ∷ qs) h k = absurd k
   one_list [] (p ∷ ps) b h k = absurd h
   one_list (l ∷ more) [] b h k = absurd h
-  one_list (l ∷ more) (p ∷ ps) [] h k = absurd k
   one_list (l ∷ more) (p ∷ ps) (q ∷ qs) h k = ap₂ (λ x y. x ∷ y) (one_page l p q h.0 k.0) (one_list more ps qs h.1 k.1)
+  one_list _ _ _ h k = absurd k
 
 -- ---- what a page has
 
@@ -120,127 +119,40 @@ module _ (shelf : ShelfContent) where
       let deep : a.depth ≡ b.depth = one_deepest count a.depth b.depth a.deepest b.deepest in
       a.spelled ∙ (ap₂ (λ n (x : Tree). line_for count n (triples_in x)) deep same ∙ sym b.spelled)
 
-  -- ---- the second answer, beside each first one
-
-  beside_nothing : {k : Option Job} {t : Status} {other said : List ℕ} → IsAnswer shelf k t other said → k ≡ None → IsSame status.Usage t [] other usage_line said
-  beside_nothing nothing_asked e = record { status_is = refl; text_is = refl; line_is = refl }
-  beside_nothing (of_sample count line i) e = absurd (cc)
-  beside_nothing (of_page asked text a) e = absurd (cc)
-  beside_nothing (of_fault asked fault a) e = absurd (cc)
-  beside_nothing (no_file asked l) e = absurd (cc)
-  beside_nothing (no_context asked o) e = absurd (cc)
-  beside_nothing (of_pages g text i d) e = absurd (cc)
-  beside_nothing (no_file_of_several g l) e = absurd (cc)
-  beside_nothing (no_context_of_several g o) e = absurd (cc)
-
-  beside_sample : {k : Option Job} {t : Status} {other said : List ℕ} (count : ℕ) (line : List ℕ) → IsSample count line → IsAnswer shelf k t other said → k ≡ Some (samples count) → IsSame status.Done t line other [] said
-  beside_sample count line i nothing_asked e = absurd (cc)
-  beside_sample count line i (of_sample n other k) e =
-      let same : n ≡ count = (cc) in
-      record { status_is = refl; text_is = once_sample count line other i (subst (λ m. IsSample m other) same k); line_is = refl }
-  beside_sample count line i (of_page asked text a) e = absurd (cc)
-  beside_sample count line i (of_fault asked fault a) e = absurd (cc)
-  beside_sample count line i (no_file asked l) e = absurd (cc)
-  beside_sample count line i (no_context asked o) e = absurd (cc)
-  beside_sample count line i (of_pages g text k d) e = absurd (cc)
-  beside_sample count line i (no_file_of_several g l) e = absurd (cc)
-  beside_sample count line i (no_context_of_several g o) e = absurd (cc)
-
-  beside_page : {k : Option Job} {t : Status} {other said : List ℕ} (asked : Asked) (text : List ℕ) → OfPage asked shelf (HasOnly asked text) → IsAnswer shelf k t other said → k ≡ Some (reads asked) → IsSame status.Done t text other [] said
-  beside_page asked text a nothing_asked e = absurd (cc)
-  beside_page asked text a (of_sample count line i) e = absurd (cc)
-  beside_page asked text a (of_page of other b) e =
-      let same : of ≡ asked = (cc) in
-      record { status_is = refl; text_is = once_text asked text other a (subst (λ (x : Asked). OfPage x shelf (HasOnly x other)) same b); line_is = refl }
-  beside_page asked text a (of_fault of fault b) e = let same : of ≡ asked = (cc) in absurd (no_both asked text fault a (subst (λ (x : Asked). OfPage x shelf (HasFault x fault)) same b))
-  beside_page asked text a (no_file of l) e = let same : of ≡ asked = (cc) in absurd (page_lacks asked (HasOnly asked text) a (subst (λ (x : Asked). IsLacking x shelf) same l))
-  beside_page asked text a (no_context of o) e = let same : of ≡ asked = (cc) in absurd (page_other asked (HasOnly asked text) a (subst (λ (x : Asked). HasOther x.context shelf) same o))
-  beside_page asked text a (of_pages g other i d) e = absurd (cc)
-  beside_page asked text a (no_file_of_several g l) e = absurd (cc)
-  beside_page asked text a (no_context_of_several g o) e = absurd (cc)
-
-  beside_fault : {k : Option Job} {t : Status} {other said : List ℕ} (asked : Asked) (fault : Fault) → OfPage asked shelf (HasFault asked fault) → IsAnswer shelf k t other said → k ≡ Some (reads asked)
-      → IsSame (status.Refused fault) t [] other (refused_line fault) said
-  beside_fault asked fault a nothing_asked e = absurd (cc)
-  beside_fault asked fault a (of_sample count line i) e = absurd (cc)
-  beside_fault asked fault a (of_page of text b) e = let same : of ≡ asked = (cc) in absurd (no_both asked text fault (subst (λ (x : Asked). OfPage x shelf (HasOnly x text)) same b) a)
-  beside_fault asked fault a (of_fault of other b) e =
-      let same : of ≡ asked = (cc) in
-      let one : fault ≡ other = once_fault asked fault other a (subst (λ (x : Asked). OfPage x shelf (HasFault x other)) same b) in
-      record { status_is = ap (λ (f : Fault). status.Refused f) one; text_is = refl; line_is = ap refused_line one }
-  beside_fault asked fault a (no_file of l) e = let same : of ≡ asked = (cc) in absurd (page_lacks asked (HasFault asked fault) a (subst (λ (x : Asked). IsLacking x shelf) same l))
-  beside_fault asked fault a (no_context of o) e = let same : of ≡ asked = (cc) in absurd (page_other asked (HasFault asked fault) a (subst (λ (x : Asked). HasOther x.context shelf) same o))
-  beside_fault asked fault a (of_pages g other i d) e = absurd (cc)
-  beside_fault asked fault a (no_file_of_several g l) e = absurd (cc)
-  beside_fault asked fault a (no_context_of_several g o) e = absurd (cc)
-
-  beside_lack : {k : Option Job} {t : Status} {other said : List ℕ} (asked : Asked) → IsLacking asked shelf → IsAnswer shelf k t other said → k ≡ Some (reads asked) → IsSame status.ReadFault t [] other [] said
-  beside_lack asked l nothing_asked e = absurd (cc)
-  beside_lack asked l (of_sample count line i) e = absurd (cc)
-  beside_lack asked l (of_page of text b) e = let same : of ≡ asked = (cc) in absurd (page_lacks asked (HasOnly asked text) (subst (λ (x : Asked). OfPage x shelf (HasOnly x text)) same b) l)
-  beside_lack asked l (of_fault of fault b) e = let same : of ≡ asked = (cc) in absurd (page_lacks asked (HasFault asked fault) (subst (λ (x : Asked). OfPage x shelf (HasFault x fault)) same b) l)
-  beside_lack asked l (no_file of m) e = record { status_is = refl; text_is = refl; line_is = refl }
-  beside_lack asked l (no_context of o) e = let same : of ≡ asked = (cc) in absurd (no_other_lacks asked (subst (λ (x : Asked). HasOther x.context shelf) same o) l)
-  beside_lack asked l (of_pages g other i d) e = absurd (cc)
-  beside_lack asked l (no_file_of_several g m) e = absurd (cc)
-  beside_lack asked l (no_context_of_several g o) e = absurd (cc)
-
-  beside_other : {k : Option Job} {t : Status} {other said : List ℕ} (asked : Asked) → HasOther asked.context shelf → IsAnswer shelf k t other said → k ≡ Some (reads asked) → IsSame status.BadContext t [] other context_line said
-  beside_other asked o nothing_asked e = absurd (cc)
-  beside_other asked o (of_sample count line i) e = absurd (cc)
-  beside_other asked o (of_page of text b) e = let same : of ≡ asked = (cc) in absurd (page_other asked (HasOnly asked text) (subst (λ (x : Asked). OfPage x shelf (HasOnly x text)) same b) o)
-  beside_other asked o (of_fault of fault b) e = let same : of ≡ asked = (cc) in absurd (page_other asked (HasFault asked fault) (subst (λ (x : Asked). OfPage x shelf (HasFault x fault)) same b) o)
-  beside_other asked o (no_file of m) e = let same : of ≡ asked = (cc) in absurd (no_other_lacks asked o (subst (λ (x : Asked). IsLacking x shelf) same m))
-  beside_other asked o (no_context of p) e = record { status_is = refl; text_is = refl; line_is = refl }
-  beside_other asked o (of_pages g other i d) e = absurd (cc)
-  beside_other asked o (no_file_of_several g m) e = absurd (cc)
-  beside_other asked o (no_context_of_several g p) e = absurd (cc)
-
-  beside_pages : {k : Option Job} {t : Status} {other said : List ℕ} (g : Gathering) (text : List ℕ) → IsGathered g text shelf → IsAnswer shelf k t other said → k ≡ Some (gathers g) → IsSame status.Done t text other [] said
-  beside_pages g text i nothing_asked e = absurd (cc)
-  beside_pages g text i (of_sample count line k) e = absurd (cc)
-  beside_pages g text i (of_page asked other a) e = absurd (cc)
-  beside_pages g text i (of_fault asked fault a) e = absurd (cc)
-  beside_pages g text i (no_file asked l) e = absurd (cc)
-  beside_pages g text i (no_context asked o) e = absurd (cc)
-  beside_pages g text i (of_pages of other k d) e =
-      let same : of ≡ g = (cc) in
-      record { status_is = refl; text_is = gathered_once g text other i (subst (λ (x : Gathering). IsGathered x other shelf) same k); line_is = refl }
-  beside_pages g text i (no_file_of_several of l) e = let same : of ≡ g = (cc) in absurd (gathered_lacks g shelf text i (subst (λ (x : Gathering). LacksOne x shelf) same l))
-  beside_pages g text i (no_context_of_several of o) e = let same : of ≡ g = (cc) in absurd (gathered_other g shelf text i (subst (λ (x : Gathering). HasOther x.context shelf) same o))
-
-  beside_lack_of_several : {k : Option Job} {t : Status} {other said : List ℕ} (g : Gathering) → LacksOne g shelf → IsAnswer shelf k t other said → k ≡ Some (gathers g) → IsSame status.ReadFault t [] other [] said
-  beside_lack_of_several g l nothing_asked e = absurd (cc)
-  beside_lack_of_several g l (of_sample count line k) e = absurd (cc)
-  beside_lack_of_several g l (of_page asked other a) e = absurd (cc)
-  beside_lack_of_several g l (of_fault asked fault a) e = absurd (cc)
-  beside_lack_of_several g l (no_file asked m) e = absurd (cc)
-  beside_lack_of_several g l (no_context asked o) e = absurd (cc)
-  beside_lack_of_several g l (of_pages of text i d) e = let same : of ≡ g = (cc) in absurd (gathered_lacks g shelf text (subst (λ (x : Gathering). IsGathered x text shelf) same i) l)
-  beside_lack_of_several g l (no_file_of_several of m) e = record { status_is = refl; text_is = refl; line_is = refl }
-  beside_lack_of_several g l (no_context_of_several of o) e = let same : of ≡ g = (cc) in absurd (no_other_lacks_one g (subst (λ (x : Gathering). HasOther x.context shelf) same o) l)
-
-  beside_other_of_several : {k : Option Job} {t : Status} {other said : List ℕ} (g : Gathering) → HasOther g.context shelf → IsAnswer shelf k t other said → k ≡ Some (gathers g) → IsSame status.BadContext t [] other context_line said
-  beside_other_of_several g o nothing_asked e = absurd (cc)
-  beside_other_of_several g o (of_sample count line k) e = absurd (cc)
-  beside_other_of_several g o (of_page asked other a) e = absurd (cc)
-  beside_other_of_several g o (of_fault asked fault a) e = absurd (cc)
-  beside_other_of_several g o (no_file asked m) e = absurd (cc)
-  beside_other_of_several g o (no_context asked p) e = absurd (cc)
-  beside_other_of_several g o (of_pages of text i d) e = let same : of ≡ g = (cc) in absurd (gathered_other g shelf text (subst (λ (x : Gathering). IsGathered x text shelf) same i) o)
-  beside_other_of_several g o (no_file_of_several of m) e = let same : of ≡ g = (cc) in absurd (no_other_lacks_one g o (subst (λ (x : Gathering). LacksOne x shelf) same m))
-  beside_other_of_several g o (no_context_of_several of p) e = record { status_is = refl; text_is = refl; line_is = refl }
+  -- ---- the second answer, beside each first one to the same
+  one_text : {s : Status} {text other line : List ℕ} → text ≡ other → IsSame s s text other line line
+  one_text e = record { status_is = refl; text_is = e; line_is = refl }
 
   pub beside : {k : Option Job} {s t : Status} {text other line said : List ℕ} → IsAnswer shelf k s text line → IsAnswer shelf k t other said → IsSame s t text other line said
-  beside nothing_asked b = beside_nothing b refl
-  beside (of_sample count line i) b = beside_sample count line i b refl
-  beside (of_page asked text a) b = beside_page asked text a b refl
-  beside (of_fault asked fault a) b = beside_fault asked fault a b refl
-  beside (no_file asked l) b = beside_lack asked l b refl
-  beside (no_context asked o) b = beside_other asked o b refl
-  beside (of_pages g text i d) b = beside_pages g text i b refl
-  beside (no_file_of_several g l) b = beside_lack_of_several g l b refl
-  beside (no_context_of_several g o) b = beside_other_of_several g o b refl
+  beside nothing_asked nothing_asked = one_text refl
+  beside (of_sample count line i) (of_sample _ other k) = one_text (once_sample count line other i k)
+  beside (of_page asked text a) (of_page _ other b) = one_text (once_text asked text other a b)
+  beside (of_page asked text a) (of_fault _ fault b) = absurd (no_both asked text fault a b)
+  beside (of_page asked text a) (no_file _ l) = absurd (page_lacks asked (HasOnly asked text) a l)
+  beside (of_page asked text a) (no_context _ o) = absurd (page_other asked (HasOnly asked text) a o)
+  beside (of_fault asked fault a) (of_page _ text b) = absurd (no_both asked text fault b a)
+  beside (of_fault asked fault a) (of_fault _ other b) =
+      let one : fault ≡ other = once_fault asked fault other a b in
+      record { status_is = ap (λ (f : Fault). status.Refused f) one; text_is = refl; line_is = ap refused_line one }
+  beside (of_fault asked fault a) (no_file _ l) = absurd (page_lacks asked (HasFault asked fault) a l)
+  beside (of_fault asked fault a) (no_context _ o) = absurd (page_other asked (HasFault asked fault) a o)
+  beside (no_file asked l) (of_page _ text a) = absurd (page_lacks asked (HasOnly asked text) a l)
+  beside (no_file asked l) (of_fault _ fault a) = absurd (page_lacks asked (HasFault asked fault) a l)
+  beside (no_file asked l) (no_file _ m) = one_text refl
+  beside (no_file asked l) (no_context _ o) = absurd (no_other_lacks asked o l)
+  beside (no_context asked o) (of_page _ text a) = absurd (page_other asked (HasOnly asked text) a o)
+  beside (no_context asked o) (of_fault _ fault a) = absurd (page_other asked (HasFault asked fault) a o)
+  beside (no_context asked o) (no_file _ l) = absurd (no_other_lacks asked o l)
+  beside (no_context asked o) (no_context _ p) = one_text refl
+  beside (of_pages g text i d) (of_pages _ other k e) = one_text (gathered_once g text other i k)
+  beside (of_pages g text i d) (no_file_of_several _ l) = absurd (gathered_lacks g shelf text i l)
+  beside (of_pages g text i d) (no_context_of_several _ o) = absurd (gathered_other g shelf text i o)
+  beside (no_file_of_several g l) (of_pages _ text i d) = absurd (gathered_lacks g shelf text i l)
+  beside (no_file_of_several g l) (no_file_of_several _ m) = one_text refl
+  beside (no_file_of_several g l) (no_context_of_several _ o) = absurd (no_other_lacks_one g o l)
+  beside (no_context_of_several g o) (of_pages _ text i d) = absurd (gathered_other g shelf text i o)
+  beside (no_context_of_several g o) (no_file_of_several _ l) = absurd (no_other_lacks_one g o l)
+  beside (no_context_of_several g o) (no_context_of_several _ p) = one_text refl
 
 pub one_answer : OneAnswer
 one_answer shelf asked s t text other line said a b = beside shelf a b

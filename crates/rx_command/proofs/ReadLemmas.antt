@@ -149,9 +149,8 @@ fails_at_end : {R : Type 0} (way : Way) (stands : R → List ℕ → Type 0) (na
     → EndFails way f.bytes e → PageFails way name e before now
 fails_at_end way stands name v before now f (error.Refused fault) e =
     moves_weaker (Finds way name fault) (λ x y i. record { bytes = f.bytes; file = i.file; is = e.0; read = omega (arith, i.taken, e.1); starts = i.starts }) f.read
-fails_at_end way stands name v before now f error.Failed e = absurd e
-fails_at_end way stands name v before now f error.BadContext e = absurd e
 fails_at_end way stands name v before now f error.NoMemory e = tt
+fails_at_end way stands name v before now f _ e = absurd e
 
 pub fed_ends : {R A : Type 0} (way : Way) (stands : R → List ℕ → Type 0) (holds : List ℕ → A → Type 0) (name : List ℕ) (v : R) (before now : Option ShelfContent) (f : Fed stands name v before now) (result : Result A InputError)
     → EndGives way holds f.bytes result → PageGives way holds name result before now

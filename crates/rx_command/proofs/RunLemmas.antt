@@ -26,10 +26,8 @@ one_shelf told x y e f = let both : Some x ≡ Some y = sym e ∙ f in (cc)
 
 -- the job in which a page is asked for
 job_of : (k : Option Job) (asked : Asked) → page_in k ≡ Some asked → k ≡ Some (reads asked)
-job_of None asked p = absurd (cc)
 job_of (Some (reads a)) asked p = let same : a ≡ asked = (cc) in ap (λ (z : Asked). Some (reads z)) same
-job_of (Some (gathers a)) asked p = absurd (cc)
-job_of (Some (samples a)) asked p = absurd (cc)
+job_of _ asked p = absurd (cc)
 
 pub page_job : (words : List (List ℕ)) (asked : Asked) → page_asked words ≡ Some asked → job words ≡ Some (reads asked)
 page_job words asked p = job_of (job words) asked p
@@ -53,9 +51,8 @@ sampled None count e = absurd (cc)
 sampled (Some n) count e = cc
 
 few_sampled : (words : List (List ℕ)) (count : ℕ) → sampling words ≡ Some (samples count) → count ≤ most_items
-few_sampled [] count e = absurd (cc)
 few_sampled (word ∷ []) count e = few_counted word count (sampled (count_of word) count e)
-few_sampled (word ∷ second ∷ words) count e = absurd (cc)
+few_sampled _ count e = absurd (cc)
 
 abbrev IsFew : ℕ → Option Job → Type 0
 IsFew count found = ◌≡◌ {A = Option Job} found (Some (samples count)) → count ≤ most_items
@@ -74,11 +71,8 @@ few_asked (task ∷ words) count e =
 pub sample_nothing : (count : ℕ) (s : Status) (old new : Option (List ℕ)) (before now : ℕ) → SampleEnds count s old new before now → s ≢ status.Done → s ≢ status.WriteFault → WhereKnown Stays old new
 sample_nothing count status.Done old new before now e d w = absurd (d refl)
 sample_nothing count status.WriteFault old new before now e d w = absurd (w refl)
-sample_nothing count (status.Refused fault) old new before now e d w = absurd e
 sample_nothing count status.Memory old new before now e d w = e
-sample_nothing count status.Usage old new before now e d w = absurd e
-sample_nothing count status.ReadFault old new before now e d w = absurd e
-sample_nothing count status.BadContext old new before now e d w = absurd e
+sample_nothing count _ old new before now e d w = absurd e
 
 -- a file isn't there and missing
 pub there : (file : Option (List ℕ)) (bytes : List ℕ) → file ≡ Some bytes → file ≡ None → ⊥
@@ -129,10 +123,9 @@ no_file_taken : (asked : Option Asked) (x : ShelfContent) → TakesFiles asked x
 no_file_taken asked x = record { files = refl; size = omega arith; most = omega arith; starts = omega arith }
 
 none_taken : (k : Option Job) (x : ShelfContent) → TakesJob k x x
-none_taken None x = no_file_taken None x
 none_taken (Some (reads asked)) x = no_file_taken (Some asked) x
 none_taken (Some (gathers g)) x = context_taken g x x (record { files = refl; size = omega arith; most = omega arith; starts = omega arith })
-none_taken (Some (samples count)) x = no_file_taken None x
+none_taken _ x = no_file_taken None x
 
 -- nothing was read
 pub took_nothing : (words : List (List ℕ)) (told : Option ShelfContent) → WhereKnown (TakesJob (job words)) told told

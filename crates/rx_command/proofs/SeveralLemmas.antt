@@ -65,9 +65,8 @@ other_context (Some name) shelf l o = there _ o.bytes o.file l
 
 has_pages : (syntax : Syntax) (context : Context) (files : FileList) (listed : List Listed) (pages : List Page) → JudgesEach GivesTriples syntax context files listed pages → HasPages files listed
 has_pages syntax context files [] [] j = tt
-has_pages syntax context files [] (page ∷ pages) j = absurd j
-has_pages syntax context files (one ∷ listed) [] j = absurd j
 has_pages syntax context files (one ∷ listed) (page ∷ pages) j = (ap is_some (j.0).file, has_pages syntax context files listed pages j.1)
+has_pages syntax context files _ _ j = absurd j
 
 some_none : (file : Option (List ℕ)) → is_some file ≡ true → file ≡ None → ⊥
 some_none file e f = let g : false ≡ true = sym (ap is_some f) ∙ e in absurd (cc)
@@ -96,17 +95,11 @@ ends_unwritten g old new status.WriteFault e d w = absurd (w refl)
 ends_unwritten g old new status.ReadFault e d w = e.1
 ends_unwritten g old new status.BadContext e d w = e.3
 ends_unwritten g old new status.Memory e d w = e
-ends_unwritten g old new (status.Refused fault) e d w = absurd e
-ends_unwritten g old new status.Usage e d w = absurd e
+ends_unwritten g old new _ e d w = absurd e
 
 ends_unsaid : (old new : Devices) (s : Status) → SaysAs s old new → s ≢ status.BadContext → SaysNothing old.said new.said old.say_faults new.say_faults
-ends_unsaid old new status.Done e b = e
-ends_unsaid old new status.WriteFault e b = e
-ends_unsaid old new status.ReadFault e b = e
 ends_unsaid old new status.BadContext e b = absurd (b refl)
-ends_unsaid old new status.Memory e b = e
-ends_unsaid old new (status.Refused fault) e b = e
-ends_unsaid old new status.Usage e b = e
+ends_unsaid old new _ e b = e
 
 -- ---- the run
 

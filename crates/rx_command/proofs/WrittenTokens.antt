@@ -157,12 +157,7 @@ spelled limit at (w ∷ ws) h =
 
 fits : (limit : ℕ) (item : Item) (t : Token) → item.last + 1 ≤ item.first + limit → Fits limit item t
 fits limit item (tag t) l = l
-fits limit item (character c) l = tt
-fits limit item (reference c) l = tt
-fits limit item (kept text) l = tt
-fits limit item (section text) l = tt
-fits limit item comment l = tt
-fits limit item doctype l = tt
+fits limit item _ l = tt
 
 all_fit : (limit at : ℕ) (ws : List Written) → AreWritten limit ws → AllFit limit (items_at at ws)
 all_fit limit at [] h = tt
@@ -173,12 +168,8 @@ lenient limit at [] h = refl
 lenient limit at (w ∷ ws) h = ap (λ b. no_section_end (items_at (at + 1 + length w.run) ws) false b) ((h.0).lenient right_bracket) ∙ lenient limit (at + 1 + length w.run) ws h.1
 
 tag_lenient : (c : ℕ) (inside : Content) (t : Tag) → is_strict_literal c inside (tag t) ≡ false
-tag_lenient c content.Outside t = refl
-tag_lenient c content.Html t = refl
-tag_lenient c content.Foreign t = refl
-tag_lenient c content.Strict t = refl
 tag_lenient c (content.Raw name) t = refl
-tag_lenient c (content.Rcdata name) t = refl
+tag_lenient c _ t = refl
 
 pub tag_written : (limit : ℕ) (inside : Content) (t : Tag) (run : Chars) → has_markup inside ≡ true → SpellsTag Html run t → length run + 1 ≤ limit → list_all is_plain run ≡ true → IsWritten limit (tag_token inside t run)
 tag_written limit inside t run m s short plain = record { spells = λ next. a_tag run t m s; short = short; plain = and_from (is_plain less_than_sign) (list_all is_plain run) refl plain; lenient = λ c. tag_lenient c inside t }
