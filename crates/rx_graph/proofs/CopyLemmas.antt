@@ -223,8 +223,7 @@ module _ (list : List (Triple ℕ)) (nodes : List (Node ℕ)) (roots lead : List
         go : (g : Bool) → gives_by nodes u ≡ g → (o : Option ℕ) → number_in nodes u.subject ≡ o → is_key a (if g then option_map (mark_at roots) o else None) ≡ true
             → (m : ℕ) × (number_in nodes u.subject ≡ Some m) × (a ≡ mark_at roots m) × (gives_by nodes u ≡ true)
         go true p (Some m) q k = (m, q, (Decides-eqb a (mark_at roots m)).0 k, p)
-        go true p None q k = absurd (true≢false (sym k))
-        go false p o q k = absurd (true≢false (sym k))
+        go _ p _ q k = absurd (true≢false (sym k))
 
     owned_by : (u : Triple ℕ) (m : ℕ) → number_in nodes u.subject ≡ Some m → gives_by nodes u ≡ true → owned nodes roots (mark_at roots m) u ≡ true
     owned_by u m p q = ap₂ (λ (g : Bool) (o : Option ℕ). is_key (mark_at roots m) (if g then option_map (mark_at roots) o else None)) q p ∙ (Decides-eqb (mark_at roots m) (mark_at roots m)).1 refl
@@ -294,11 +293,9 @@ module _ (nodes : List (Node ℕ)) (roots lead : List ℕ) (nexts own : List (Li
   })
     where
       row_cases : (rows : List (List ℕ)) (a : ℕ) (found : List ℕ) (b : ℕ) → (get_or (slice_set rows a found) b [] ≡ get_or rows b []) ⊎ ((a ≡ b) × (get_or (slice_set rows a found) b [] ≡ found))
-      row_cases [] a found b = inl refl
       row_cases (y ∷ rows) zero found zero = inr (refl, refl)
-      row_cases (y ∷ rows) zero found (suc b) = inl refl
-      row_cases (y ∷ rows) (suc a) found zero = inl refl
       row_cases (y ∷ rows) (suc a) found (suc b) = elim (row_cases rows a found b) [ inl e ↦ inl e | inr e ↦ inr (ap suc e.0, e.1) ]
+      row_cases _ _ found _ = inl refl
 
   -- a row that isn't empty is what is given
   pub contents_at : (rows : List (List ℕ)) (a : ℕ) (row : List ℕ) → row ≡ get_or rows a [] → AreContents nodes roots lead nexts own rows → ¬ (row ≡ []) → IsContent nodes roots lead nexts own a row

@@ -15,9 +15,8 @@ use Rattle.rx_graph.proofs.NumberLemmas.{numbers_turn, front_turn, numbered_once
 
 module _ {A : Type 0} where
   set_length : (xs : List A) (i : ℕ) (x : A) → length (slice_set xs i x) ≡ length xs
-  set_length [] i x = refl
-  set_length (y ∷ xs) zero x = refl
   set_length (y ∷ xs) (suc i) x = ap suc (set_length xs i x)
+  set_length _ _ x = refl
 
   set_front : (xs : List A) (i : ℕ) (x : A) → i < length xs → take (suc i) (slice_set xs i x) ≡ take i xs ++ x ∷ []
   set_front [] i x h = absurd (omega arith)
@@ -25,21 +24,18 @@ module _ {A : Type 0} where
   set_front (y ∷ xs) (suc i) x h = ap (λ z. y ∷ z) (set_front xs i x (omega arith))
 
   set_rest : (xs : List A) (i : ℕ) (x : A) → drop (suc i) (slice_set xs i x) ≡ drop (suc i) xs
-  set_rest [] i x = refl
-  set_rest (y ∷ xs) zero x = refl
   set_rest (y ∷ xs) (suc i) x = set_rest xs i x
+  set_rest _ _ x = refl
 
   drop_one : (xs : List A) (i : ℕ) → drop (suc i) xs ≡ drop 1 (drop i xs)
-  drop_one [] zero = refl
   drop_one [] (suc i) = refl
-  drop_one (x ∷ xs) zero = refl
   drop_one (x ∷ xs) (suc i) = drop_one xs i
+  drop_one _ zero = refl
 
   get_first : (xs : List A) (i : ℕ) (d : A) → get_or xs i d ≡ get_or (drop i xs) 0 d
-  get_first [] zero d = refl
   get_first [] (suc i) d = refl
-  get_first (x ∷ xs) zero d = refl
   get_first (x ∷ xs) (suc i) d = get_first xs i d
+  get_first _ zero d = refl
 
 one_up : (n : ℕ) → n + 1 ≡ suc n
 one_up n = omega arith

@@ -92,15 +92,13 @@ module _ (table : List ℕ) where
       → rename_node (place_in nat_eq table) n ≡ rename_node (place_in nat_eq table) m → n ≡ m
   node_apart (Iri a) (Iri b) h k e = ap Iri (cc)
   node_apart (Blank a) (Blank b) h k e = ap Blank (place_tells nat_eq exact_numbers table a b (h a (inl refl)) (k b (inl refl)) (cc))
-  node_apart (Iri a) (Blank b) h k e = cc
-  node_apart (Blank a) (Iri b) h k e = cc
+  node_apart _ _ h k e = cc
 
   term_apart : (n m : Term ℕ) → ((b : ℕ) → Among (blank_of_term n) b → Among table b) → ((b : ℕ) → Among (blank_of_term m) b → Among table b)
       → rename_term (place_in nat_eq table) n ≡ rename_term (place_in nat_eq table) m → n ≡ m
   term_apart (Resource a) (Resource b) h k e = ap Resource (node_apart a b h k (cc))
   term_apart (Literal a l) (Literal b m) h k e = cc
-  term_apart (Resource a) (Literal b m) h k e = cc
-  term_apart (Literal a l) (Resource b) h k e = cc
+  term_apart _ _ h k e = cc
 
   triple_apart : (t u : Triple ℕ) → ((b : ℕ) → Among (blanks_of t) b → Among table b) → ((b : ℕ) → Among (blanks_of u) b → Among table b)
       → rename (place_in nat_eq table) t ≡ rename (place_in nat_eq table) u → t ≡ u

@@ -160,9 +160,8 @@ none_there [] s h = refl
 none_there (t ∷ nodes) s h = go (same_node nat_eq t s) refl (number_in nodes s) refl h (none_there nodes s)
   where
     go : (b : Bool) → same_node nat_eq t s ≡ b → (o : Option ℕ) → number_in nodes s ≡ o → (if b then Some 0 else option_map suc o) ≡ None → (number_in nodes s ≡ None → contains (same_node nat_eq) nodes s ≡ false) → (same_node nat_eq t s || contains (same_node nat_eq) nodes s) ≡ false
-    go true e o q k ih = cc
     go false e None q k ih = rw e (ih q)
-    go false e (Some m) q k ih = cc
+    go _ e _ q k ih = cc
 
 pub number_node : (nodes : List (Node ℕ)) (s : Node ℕ) (n : ℕ) → number_in nodes s ≡ Some n → slice_get nodes n ≡ Some s
 number_node [] s n h = cc

@@ -253,9 +253,7 @@ all_given whole s test j (t ∷ list) h = go (test t) refl (all_given whole s te
 
 nested : (a b c : Bool) (u : Triple ℕ) → (if a && (b && c) then (if b && c then Some u else None) else None) ≡ (if a && b && c then Some u else None)
 nested true true true u = refl
-nested true true false u = refl
-nested true false c u = refl
-nested false b c u = refl
+nested _ _ _ u = refl
 
 -- at the places of what t gives, that is what the definition gives
 given_is : (list : List (Triple ℕ)) (s t : Node ℕ) (rest : List (Triple ℕ)) → filter_map (if_given list s (gives list t)) rest ≡ filter_map (given nat_eq list (edges nat_eq list) s t) rest

@@ -39,22 +39,20 @@ goes_by rows nexts a _ h (goes_on x c k s) = goes_trans rows a x c (goes_by rows
 
 -- there is no row beyond the rows
 pub row_beyond : (rows : List (List ℕ)) (a : ℕ) → length rows ≤ a → get_or rows a [] ≡ []
-row_beyond [] zero h = refl
-row_beyond [] (suc a) h = refl
 row_beyond (row ∷ rows) zero h = absurd (omega (arith, h))
 row_beyond (row ∷ rows) (suc a) h = row_beyond rows a (omega (arith, h))
+row_beyond [] _ h = refl
 
 -- what leads to something is a row's number
 pub step_within : (rows : List (List ℕ)) (a b : ℕ) → Step rows a b → a < length rows
 step_within rows a b s = ⊎_elim (λ l. l) (λ l. absurd (subst (λ (z : List ℕ). Among z b) (row_beyond rows a (omega (arith, l))) s)) (cases_lt a (length rows))
 
 pub pushed_old : (rows : List (List ℕ)) (a n x b : ℕ) → Step rows x b → Step (pushed rows a n) x b
-pushed_old [] a n zero b h = absurd h
-pushed_old [] a n (suc x) b h = absurd h
 pushed_old (row ∷ rows) zero n zero b h = Among_left row (n ∷ []) b h
 pushed_old (row ∷ rows) zero n (suc x) b h = h
 pushed_old (row ∷ rows) (suc a) n zero b h = h
 pushed_old (row ∷ rows) (suc a) n (suc x) b h = pushed_old rows a n x b h
+pushed_old [] a n _ b h = absurd h
 
 pub pushed_new : (rows : List (List ℕ)) (a n : ℕ) → a < length rows → Step (pushed rows a n) a n
 pushed_new [] a n h = absurd (omega (arith, h))
@@ -62,17 +60,15 @@ pushed_new (row ∷ rows) zero n h = Among_right row (n ∷ []) n (inl refl)
 pushed_new (row ∷ rows) (suc a) n h = pushed_new rows a n (omega (arith, h))
 
 pub pushed_cases : (rows : List (List ℕ)) (a n x b : ℕ) → Step (pushed rows a n) x b → Step rows x b ⊎ ((x ≡ a) × (b ≡ n))
-pushed_cases [] a n zero b h = absurd h
-pushed_cases [] a n (suc x) b h = absurd h
 pushed_cases (row ∷ rows) zero n zero b h = elim (Among_cases row (n ∷ []) b h) [ inl k ↦ inl k | inr k ↦ elim k [ inl e ↦ inr (refl, sym e) | inr m ↦ absurd m ] ]
 pushed_cases (row ∷ rows) zero n (suc x) b h = inl h
 pushed_cases (row ∷ rows) (suc a) n zero b h = inl h
 pushed_cases (row ∷ rows) (suc a) n (suc x) b h = elim (pushed_cases rows a n x b h) [ inl k ↦ inl k | inr k ↦ inr (ap suc k.0, k.1) ]
+pushed_cases [] a n _ b h = absurd h
 
 pub pushed_length : (rows : List (List ℕ)) (a n : ℕ) → length (pushed rows a n) ≡ length rows
-pushed_length [] a n = refl
-pushed_length (row ∷ rows) zero n = refl
 pushed_length (row ∷ rows) (suc a) n = ap suc (pushed_length rows a n)
+pushed_length _ _ n = refl
 
 pub pushed_beyond : (rows : List (List ℕ)) (a n : ℕ) → length rows ≤ a → pushed rows a n ≡ rows
 pushed_beyond [] a n h = refl
@@ -88,16 +84,12 @@ pushed_row (row ∷ rows) (suc a) n zero h = let e : nat_eq 0 (suc a) ≡ false 
 pushed_row (row ∷ rows) (suc a) n (suc x) h = let e : nat_eq (suc x) (suc a) ≡ nat_eq x a = grind (arith, nat_tests) in rw e (pushed_row rows a n x (omega (arith, h)))
 
 pub empty_none : (n a b : ℕ) → Step (empty_rows n) a b → ⊥
-empty_none zero zero b h = h
-empty_none zero (suc a) b h = h
-empty_none (suc n) zero b h = h
 empty_none (suc n) (suc a) b h = empty_none n a b h
+empty_none _ _ b h = h
 
 pub empty_row : (n a : ℕ) → get_or (empty_rows n) a [] ≡ []
-empty_row zero zero = refl
-empty_row zero (suc a) = refl
-empty_row (suc n) zero = refl
 empty_row (suc n) (suc a) = empty_row n a
+empty_row _ _ = refl
 
 pub empty_length : (n : ℕ) → length (empty_rows n) ≡ n
 empty_length zero = refl
@@ -135,21 +127,18 @@ turned_turn rows old new a row here turn t = record {
 
 -- one mark is set, and the others stay
 pub set_cases : (xs : List ℕ) (a x b d : ℕ) → (get_or (slice_set xs a x) b d ≡ get_or xs b d) ⊎ ((a ≡ b) × (get_or (slice_set xs a x) b d ≡ x))
-set_cases [] a x b d = inl refl
 set_cases (y ∷ xs) zero x zero d = inr (refl, refl)
-set_cases (y ∷ xs) zero x (suc b) d = inl refl
-set_cases (y ∷ xs) (suc a) x zero d = inl refl
 set_cases (y ∷ xs) (suc a) x (suc b) d = elim (set_cases xs a x b d) [ inl e ↦ inl e | inr e ↦ inr (ap suc e.0, e.1) ]
+set_cases _ _ x _ d = inl refl
 
 replicate_length : (k n : ℕ) → length (replicate k n) ≡ k
 replicate_length zero n = refl
 replicate_length (suc k) n = ap suc (replicate_length k n)
 
 replicate_get : (k n a d : ℕ) → (get_or (replicate k n) a d ≡ n) ⊎ ((get_or (replicate k n) a d ≡ d) × (k ≤ a))
-replicate_get zero n zero d = inr (refl, omega arith)
-replicate_get zero n (suc a) d = inr (refl, omega arith)
 replicate_get (suc k) n zero d = inl refl
 replicate_get (suc k) n (suc a) d = elim (replicate_get k n a d) [ inl e ↦ inl e | inr e ↦ inr (e.0, omega (arith, e.1)) ]
+replicate_get zero n _ d = inr (refl, omega arith)
 
 numbers_length : (n : ℕ) → length (numbers_to n) ≡ n
 numbers_length zero = refl
@@ -157,16 +146,13 @@ numbers_length (suc n) = let rest = numbers_length n in omega (arith, length-app
 
 last_cases : (xs : List ℕ) (x a d : ℕ) → (get_or (xs ++ x ∷ []) a d ≡ get_or xs a d) ⊎ ((a ≡ length xs) × (get_or (xs ++ x ∷ []) a d ≡ x))
 last_cases [] x zero d = inr (refl, refl)
-last_cases [] x (suc zero) d = inl refl
-last_cases [] x (suc (suc a)) d = inl refl
-last_cases (y ∷ xs) x zero d = inl refl
 last_cases (y ∷ xs) x (suc a) d = elim (last_cases xs x a d) [ inl e ↦ inl e | inr e ↦ inr (ap suc e.0, e.1) ]
+last_cases _ x _ d = inl refl
 
 -- each is its own mark
 pub own_mark : (n a : ℕ) → mark_at (numbers_to n) a ≡ a
-own_mark zero zero = refl
-own_mark zero (suc a) = refl
 own_mark (suc n) a = elim (last_cases (numbers_to n) n a a) [ inl e ↦ e ∙ own_mark n a | inr e ↦ e.1 ∙ sym (e.0 ∙ numbers_length n) ]
+own_mark zero _ = refl
 
 below : (a b n : ℕ) → a ≡ b → a < n → b < n
 below a b n e l = subst (λ (z : ℕ). z < n) e l
@@ -625,6 +611,5 @@ numbers_once [] h = tt
 numbers_once (x ∷ numbers) h = (others_unlike x numbers h.0, numbers_once numbers h.1)
 
 pub rows_filled : {V : Type 0} (items : V → List ℕ) (rows : List V) (i : ℕ) (row : V) → map items (slice_set rows i row) ≡ slice_set (map items rows) i (items row)
-rows_filled items [] i row = refl
-rows_filled items (x ∷ rows) zero row = refl
 rows_filled items (x ∷ rows) (suc i) row = ap (λ z. items x ∷ z) (rows_filled items rows i row)
+rows_filled items _ _ row = refl

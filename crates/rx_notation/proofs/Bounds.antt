@@ -36,11 +36,10 @@ module _ (free : ℕ → Type 0) (most : ℕ) where
     object : BoundTerm t.object
 
   abbrev BoundOf : (sort : Sort) → Of Name sort → Type 0
-  BoundOf Object of = Unit {0}
   BoundOf Objects of = BoundNode of.0
-  BoundOf Items of = Unit {0}
   BoundOf Predicates of = BoundNode of
   BoundOf Further of = BoundNode of
+  BoundOf _ of = Unit {0}
 
   module _ (context prefixes : Prefixes) where
     node_bound : (s : Subject) → GoodSubject context free s → BoundNode (node_of prefixes Label Place s)
@@ -49,11 +48,10 @@ module _ (free : ℕ → Type 0) (most : ℕ) where
 
     term_bound : (o : Part Object) (n : ℕ) → Good context free o → n + unlabelled o ≤ most → (1 ≤ unlabelled o → n < most) → BoundTerm (term_of prefixes Label Place o n)
     term_bound (IriOrLabel s) n h b k = node_bound s h
-    term_bound (Quoted text suffix) n h b k = tt
     term_bound Anonymous n h b k = k (omega arith)
-    term_bound Nil n h b k = tt
     term_bound (Bracketed predicates) n h b k = k (omega arith)
     term_bound (Collection items) n h b k = k (some_item items)
+    term_bound _ n h b k = tt
 
     object_bound : (o : Part Object) (n : ℕ) → Good context free o → n + unlabelled o ≤ most → BoundTerm (term_of prefixes Label Place o n)
     object_bound o n h b = term_bound o n h b (λ k. omega (arith, b, k))

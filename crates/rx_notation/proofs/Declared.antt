@@ -58,9 +58,8 @@ module _ (context : Prefixes) (free : ℕ → Type 0) where
   verb_names Type_of h n m = absurd m
 
   suffix_names : (s : Suffix) → GoodSuffix context free s → AllNames (names_of_suffix s)
-  suffix_names Bare h n m = absurd m
-  suffix_names (Language tag) h n m = absurd m
   suffix_names (Datatype r) h n m = reference_names r h n m
+  suffix_names _ h n m = absurd m
 
   pub proper_more : (p : Piece) (rest : List Piece) → AllNames (piece_names p) → Proper rest → Proper (p ∷ rest)
   proper_more p rest f g n m = elim (Among_cases (piece_names p) (flat_map piece_names rest) n m) [ inl k ↦ f n k | inr k ↦ g n k ]
@@ -124,9 +123,8 @@ module _ (context declared : Prefixes) (names : List Chars) (covers : (p : Prefi
   verb_known Type_of h w = refl
 
   suffix_known : (s : Suffix) → GoodSuffix context free s → Within (names_of_suffix s) → is_known_suffix declared s ≡ true
-  suffix_known Bare h w = refl
-  suffix_known (Language tag) h w = refl
   suffix_known (Datatype r) h w = reference_known r h w
+  suffix_known _ h w = refl
 
   pub both_known : {a b : Bool} {V W : Type 0} → (a ≡ true) × V → (V → (b ≡ true) × W) → ((a && b) ≡ true) × W
   both_known x f = (and_from _ _ x.0 (f x.1).0, (f x.1).1)
@@ -182,6 +180,5 @@ module _ (context declared : Prefixes) (agree : Agree context declared) where
       go false e k = reference_means p k
 
   pub kind_means : (kind : Kind) → is_known_suffix declared (suffix_of context kind) ≡ true → kind_by declared (suffix_of context kind) ≡ proper_kind kind
-  kind_means Plain k = refl
-  kind_means (Tagged tag) k = refl
   kind_means (Typed datatype) k = ap kind_of (reference_means datatype k)
+  kind_means _ k = refl

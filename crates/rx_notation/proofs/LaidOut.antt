@@ -61,9 +61,8 @@ module _ (context : Prefixes) where
       go false = reference_is p
 
   pub suffix_is : (kind : Kind) → suffix_text (suffix_of context kind) ≡ flat.suffix_text context kind
-  suffix_is Plain = refl
-  suffix_is (Tagged tag) = refl
   suffix_is (Typed datatype) = ap (λ z. codes "^^" ++ z) (reference_is datatype)
+  suffix_is _ = refl
 
   object_is : (o : Term ℕ) (gap : Chars) (rest : List Piece) → texts (pieces gap (object_for o) rest) ≡ flat.object_text context o ++ texts rest
   object_is (Resource node) gap rest = ap (λ z. z ++ texts rest) (subject_is node)

@@ -40,8 +40,7 @@ none_below list nodes = none_in _ (λ s. none_in _ (λ p. none_in (in_term no_no
   where
     in_none : (o : Term ℕ) → in_term no_nodes o ≡ []
     in_none (Resource (Iri iri)) = refl
-    in_none (Resource (Blank number)) = refl
-    in_none (Literal text kind) = refl
+    in_none _ = refl
 
 module _ (context : Prefixes) (list : List (Triple ℕ)) (c : IsContext context) (w : IsWritable list) where
   apart : Apart context

@@ -17,11 +17,10 @@ triple_path p e f = λ i. record { subject = e i; predicate = p; object = f i }
 
 module _ {A B : Type 0} (to : A → B) (prefixes : Prefixes) (label place : ℕ → A) where
   abbrev pub rename_of : (sort : Sort) → Of A sort → Of B sort
-  rename_of Object of = tt
   rename_of Objects of = (rename_node to of.0, of.1)
-  rename_of Items of = tt
   rename_of Predicates of = rename_node to of
   rename_of Further of = rename_node to of
+  rename_of _ of = tt
 
   abbrev label_to : ℕ → B
   label_to n = to (label n)
@@ -35,11 +34,7 @@ module _ {A B : Type 0} (to : A → B) (prefixes : Prefixes) (label place : ℕ 
 
   term_renamed : (o : Part Object) (n : ℕ) → rename_term to (term_of prefixes label place o n) ≡ term_of prefixes label_to place_to o n
   term_renamed (IriOrLabel s) n = ap Resource (node_renamed s)
-  term_renamed (Quoted text suffix) n = refl
-  term_renamed Anonymous n = refl
-  term_renamed Nil n = refl
-  term_renamed (Bracketed predicates) n = refl
-  term_renamed (Collection items) n = refl
+  term_renamed _ n = refl
 
   part_renamed : {sort : Sort} (p : Part sort) (of : Of A sort) (n : ℕ) → map (rename to) (triples prefixes label place p of n) ≡ triples prefixes label_to place_to p (rename_of sort of) n
   part_renamed (IriOrLabel s) of n = refl
@@ -92,8 +87,7 @@ abbrev OfLabel : (sort : Sort) → Of Name sort → Type 0
 OfLabel Object of = Unit {0}
 OfLabel Objects of = HasLabel of.0
 OfLabel Items of = ⊥
-OfLabel Predicates of = HasLabel of
-OfLabel Further of = HasLabel of
+OfLabel _ of = HasLabel of
 
 record AllLabels (t : Triple Name) : Type 0 where
   subject : HasLabel t.subject
@@ -107,10 +101,8 @@ module _ (prefixes : Prefixes) where
   term_label : (o : Part Object) (n : ℕ) → is_flat o ≡ true → TermHasLabel (term_of prefixes Label Place o n)
   term_label (IriOrLabel s) n h = node_label s
   term_label (Quoted text suffix) n h = tt
-  term_label Anonymous n h = absurd (true≢false (sym h))
   term_label Nil n h = tt
-  term_label (Bracketed predicates) n h = absurd (true≢false (sym h))
-  term_label (Collection items) n h = absurd (true≢false (sym h))
+  term_label _ n h = absurd (true≢false (sym h))
 
   part_labels : {sort : Sort} (p : Part sort) (of : Of Name sort) (n : ℕ) → is_flat p ≡ true → OfLabel sort of → (t : Triple Name) → Among (triples prefixes Label Place p of n) t → AllLabels t
   part_labels (IriOrLabel s) of n h k t m = absurd m

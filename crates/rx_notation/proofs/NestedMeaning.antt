@@ -104,8 +104,7 @@ module _ (context : Prefixes) (list : List (Triple ℕ)) (shapes : ℕ → Shape
     where
       go : (s : Shape) → IsShape (set_of list) a s → is_top_by s ≡ true → ¬ (Inner (set_of list) a)
       go shape.Labelled h e i = h i
-      go shape.Inside h e i = absurd (true≢false (sym e))
-      go shape.Cell h e i = absurd (true≢false (sym e))
+      go _ h e i = absurd (true≢false (sym e))
 
   is_outer : (s : Node ℕ) → ((a : ℕ) → s ≡ Blank a → ¬ (Inner (set_of list) a)) → is_top shapes s ≡ true
   is_outer (Iri iri) h = refl

@@ -29,8 +29,7 @@ abbrev Ends : Sort → List Token → Type 0
 Ends Object rest = Unit {0}
 Ends Objects rest = begins ends_objects rest ≡ true
 Ends Items rest = begins ends_items rest ≡ true
-Ends Predicates rest = begins ends_predicates rest ≡ true
-Ends Further rest = begins ends_predicates rest ≡ true
+Ends _ rest = begins ends_predicates rest ≡ true
 
 not_comma : (rest more : List Token) → begins ends_objects rest ≡ true → rest ≡ terminal Comma_sign ∷ more → ⊥
 unfolding begins ends_objects
@@ -49,11 +48,7 @@ not_verb Type_of rest more h e = true≢false (sym h ∙ ap (begins ends_predica
 object_opens : (object : Part Object) (rest : List Token) → begins ends_items (tokens object rest) ≡ false
 unfolding begins ends_items
 object_opens (IriOrLabel subject) rest = refl
-object_opens (Quoted text suffix) rest = refl
-object_opens Anonymous rest = refl
-object_opens Nil rest = refl
-object_opens (Bracketed predicates) rest = refl
-object_opens (Collection items) rest = refl
+object_opens _ rest = refl
 
 items_open : (items : Part Items) (rest : List Token) → begins ends_items (tokens items rest) ≡ false
 items_open (Last object) rest = object_opens object rest
@@ -82,8 +77,7 @@ not_alone (Also predicates) Type_of rest more h e = cc
 one_verb : (v w : Verb) (x y : List Token) → verb_token v ∷ x ≡ verb_token w ∷ y → (v ≡ w) × (x ≡ y)
 one_verb (By r) (By q) x y e = (ap By (cc), cc)
 one_verb Type_of Type_of x y e = (refl, cc)
-one_verb (By r) Type_of x y e = absurd (cc)
-one_verb Type_of (By q) x y e = absurd (cc)
+one_verb _ _ x y e = absurd (cc)
 
 closes_brackets : (rest : List Token) → begins ends_predicates (terminal Right_bracket ∷ rest) ≡ true
 unfolding begins ends_predicates

@@ -114,16 +114,7 @@ suffix_inked spelling (Datatype r) h = ap inked h.2 ∙ reference_inked h.0 r h.
 
 sign_inked : (s : Terminal) → inked (terminal_text s) ≡ true
 sign_inked At_prefix = refl
-sign_inked Small_a = refl
-sign_inked Full_stop = refl
-sign_inked Semicolon_sign = refl
-sign_inked Comma_sign = refl
-sign_inked Left_bracket = refl
-sign_inked Right_bracket = refl
-sign_inked Brackets = refl
-sign_inked Left_parenthesis = refl
-sign_inked Right_parenthesis = refl
-sign_inked Parentheses = refl
+sign_inked _ = refl
 
 -- ---- what a token begins with tells its kind
 
@@ -146,16 +137,7 @@ token_kind (quoted text suffix) = 4
 sign_kind : (s : Terminal) → kind (terminal_text s) ≡ 0
 unfolding kind has_colon
 sign_kind At_prefix = refl
-sign_kind Small_a = refl
-sign_kind Full_stop = refl
-sign_kind Semicolon_sign = refl
-sign_kind Comma_sign = refl
-sign_kind Left_bracket = refl
-sign_kind Right_bracket = refl
-sign_kind Brackets = refl
-sign_kind Left_parenthesis = refl
-sign_kind Right_parenthesis = refl
-sign_kind Parentheses = refl
+sign_kind _ = refl
 
 colon_there : (name rest : Chars) → has_colon (name ++ colon ∷ rest) ≡ true
 unfolding has_colon
@@ -175,8 +157,7 @@ kind_spelled spelling (terminal s) h = ap kind h ∙ sign_kind s
 kind_spelled spelling (declared name) h = ap kind h.spelled ∙ by_colon name [] h.is_name
 kind_spelled spelling (iri_or_label (Named (Full iri))) h = ap kind h.spelled
 kind_spelled spelling (iri_or_label (Named (Short name local))) h = ap kind h.spelled ∙ by_colon name local h.is_name
-kind_spelled spelling (iri_or_label (Labelled number)) h = ap kind h.spelled
-kind_spelled spelling (quoted text suffix) h = ap kind h.spelled
+kind_spelled spelling _ h = ap kind h.spelled
 
 -- ---- a spelling is of one token
 
@@ -197,16 +178,7 @@ sign_in text =
 read_back : (s : Terminal) → sign_in (terminal_text s) ≡ s
 unfolding sign_in
 read_back At_prefix = refl
-read_back Small_a = refl
-read_back Full_stop = refl
-read_back Semicolon_sign = refl
-read_back Comma_sign = refl
-read_back Left_bracket = refl
-read_back Right_bracket = refl
-read_back Brackets = refl
-read_back Left_parenthesis = refl
-read_back Right_parenthesis = refl
-read_back Parentheses = refl
+read_back _ = refl
 
 one_sign : (s r : Terminal) → terminal_text s ≡ terminal_text r → s ≡ r
 one_sign s r e = sym (read_back s) ∙ ap sign_in e ∙ read_back r
@@ -289,12 +261,9 @@ no_quote (c ∷ spelling) x y n h small e =
 
 plain_small : (t : Token) → is_quoted t ≡ false → token_kind t < 4
 unfolding is_quoted token_kind
-plain_small (terminal s) n = omega arith
-plain_small (declared name) n = omega arith
 plain_small (iri_or_label (Named (Full iri))) n = omega arith
-plain_small (iri_or_label (Named (Short name local))) n = omega arith
-plain_small (iri_or_label (Labelled number)) n = omega arith
 plain_small (quoted text suffix) n = absurd (true≢false n)
+plain_small _ n = omega arith
 
 moved : (inside behind x : Chars) → (quotation_mark ∷ (inside ++ quotation_mark ∷ behind)) ++ x ≡ quotation_mark ∷ (inside ++ quotation_mark ∷ (behind ++ x))
 moved inside behind x = ap (λ z. quotation_mark ∷ z) (append_assoc inside (quotation_mark ∷ behind) x)
@@ -333,16 +302,7 @@ token_front s r x y t u h k p q e = plain_front s r x y t u refl refl h k p q e
 -- a token begins with no separator
 sign_opens : (s : Terminal) (x : Chars) → stops is_separator (terminal_text s ++ x) ≡ true
 sign_opens At_prefix x = refl
-sign_opens Small_a x = refl
-sign_opens Full_stop x = refl
-sign_opens Semicolon_sign x = refl
-sign_opens Comma_sign x = refl
-sign_opens Left_bracket x = refl
-sign_opens Right_bracket x = refl
-sign_opens Brackets x = refl
-sign_opens Left_parenthesis x = refl
-sign_opens Right_parenthesis x = refl
-sign_opens Parentheses x = refl
+sign_opens _ x = refl
 
 opens_by : (spelling x : Chars) → inked spelling ≡ true → (spelling ≡ [] → ⊥) → stops is_separator (spelling ++ x) ≡ true
 opens_by [] x h some = absurd (some refl)

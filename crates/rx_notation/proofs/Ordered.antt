@@ -20,9 +20,8 @@ pub not_after : (a b : Chars) → is_before a b ≡ true → is_before b a ≡ f
 not_after a b h = ap is_lt (nat_list_cmp_total.antisymm (encode_utf8_all b) (encode_utf8_all a)) ∙ reversed (slice_cmp nat_cmp (encode_utf8_all a) (encode_utf8_all b)) h
   where
     reversed : (o : Ordering) → is_lt o ≡ true → is_lt (ordering_reverse o) ≡ false
-    reversed Less k = refl
-    reversed Equal k = refl
     reversed Greater k = absurd (true≢false (sym k))
+    reversed _ k = refl
 
 -- the prefix comes before all of these
 abbrev pub before_all : Prefix → Prefixes → Bool

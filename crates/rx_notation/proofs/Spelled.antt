@@ -87,8 +87,6 @@ module _ (context : Prefixes) (free : ℕ → Type 0) where
   abbrev pub Good : {sort : Sort} → Part sort → Type 0
   Good (IriOrLabel subject) = GoodSubject subject
   Good (Quoted text suffix) = GoodSuffix suffix
-  Good Anonymous = Unit {0}
-  Good Nil = Unit {0}
   Good (Bracketed predicates) = Good predicates
   Good (Collection items) = Good items
   Good (Single object) = Good object
@@ -96,9 +94,9 @@ module _ (context : Prefixes) (free : ℕ → Type 0) where
   Good (Last object) = Good object
   Good (Item object items) = Good object × Good items
   Good (Predicate verb objects further) = GoodVerb verb × (Good objects × Good further)
-  Good Done = Unit {0}
   Good (Semicolon further) = ⊥
   Good (Also predicates) = Good predicates
+  Good _ = Unit {0}
 
   -- ---- terms
 
@@ -123,11 +121,8 @@ module _ (context : Prefixes) (free : ℕ → Type 0) where
 
   -- what follows a predicate begins with a gap, or is empty; all else begins with a token
   abbrev Joined : Sort → Chars → List Token → Type 0
-  Joined Object text ts = Opens text ts
-  Joined Objects text ts = Opens text ts
-  Joined Items text ts = Opens text ts
-  Joined Predicates text ts = Opens text ts
   Joined Further text ts = SpellsBehind text ts
+  Joined _ text ts = Opens text ts
 
   part_spelled : {sort : Sort} (gap : Chars) → is_gap gap ≡ true → (p : Part sort) → Good p → (rest : List Piece) (ts : List Token) → SpellsBehind (texts rest) ts → Joined sort (texts (pieces gap p rest)) (tokens p ts)
   part_spelled gap g (IriOrLabel subject) h rest ts b = opens_token (subject_text subject) (iri_or_label subject) (subject_spelled subject h) _ _ b

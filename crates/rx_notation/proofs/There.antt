@@ -121,5 +121,4 @@ module _ (list : List (Triple ℕ)) (shapes : ℕ → Shape) (have : HaveShapes 
           where
             by_shape : (s : Shape) → IsShape (set_of list) b s → Among (in_shape list shapes (node_list left) (cell_list left) s b) b
             by_shape shape.Labelled h = absurd (h i)
-            by_shape shape.Inside h = inl refl
-            by_shape shape.Cell h = inl refl
+            by_shape _ h = inl refl

@@ -49,9 +49,8 @@ module _ {B O : Type 0} (n : Naming B O) (base : Chars) where
   leave_at : (m : Machine B O) (line : Line) → At m line → (facts : List Facts) (path : Path) (texts : List Chars) → line.facts ≡ facts → line.path ≡ path
       → length texts ≡ length facts → length path ≡ length facts → At (leave_with n base m (standings_of facts path) texts) (closed line facts path)
   leave_at m line h [] path texts e q t d = h
-  leave_at m line h (f ∷ above) [] texts e q t d = absurd (omega arith)
-  leave_at m line h (f ∷ above) (i ∷ path) [] e q t d = absurd (omega arith)
   leave_at m line h (f ∷ above) (i ∷ path) (chars ∷ texts) e q t d = record { standings = refl; path = refl; next = refl; texts = omega arith; deep = omega arith }
+  leave_at m line h (f ∷ above) _ _ e q t d = absurd (omega arith)
 
   pub at_step : (call : Call) (m : Machine B O) (line : Line) → At m line → At (step n base call m) (move call line)
   at_step (Enter facts) m line h = record {

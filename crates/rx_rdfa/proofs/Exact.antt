@@ -10,12 +10,7 @@ pub exact_owners : IsExact same_owner
 exact_owners First First = (λ h. refl, λ e. refl)
 exact_owners (Of a) (Of b) = (λ h. ap Of ((exact_texts a b).0 h), λ e. (exact_texts a b).1 (cc))
 exact_owners (Below a) (Below b) = (λ h. ap Below ((exact_texts a b).0 h), λ e. (exact_texts a b).1 (cc))
-exact_owners First (Of b) = (λ h. cc, λ e. cc)
-exact_owners First (Below b) = (λ h. cc, λ e. cc)
-exact_owners (Of a) First = (λ h. cc, λ e. cc)
-exact_owners (Of a) (Below b) = (λ h. cc, λ e. cc)
-exact_owners (Below a) First = (λ h. cc, λ e. cc)
-exact_owners (Below a) (Of b) = (λ h. cc, λ e. cc)
+exact_owners _ _ = (λ h. cc, λ e. cc)
 
 pub exact_bnodes : IsExact same_bnode
 exact_bnodes (Author a) (Author b) = (λ h. ap Author ((exact_texts a b).0 h), λ e. (exact_texts a b).1 (cc))

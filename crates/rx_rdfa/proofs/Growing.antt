@@ -24,8 +24,7 @@ module _ {A B C : Type 0} (h : B → C) (f : A → B) where
 module _ {O P Q : Type 0} (h : P → Q) (f : O → P) where
   hanging_then : (x : Hanging O) → rename_hanging (λ o. h (f o)) x ≡ rename_hanging h (rename_hanging f x)
   hanging_then (Forward p) = refl
-  hanging_then (Reverse p) = refl
-  hanging_then (InList owner p) = refl
+  hanging_then _ = refl
 
 module _ {A B C O P Q : Type 0} (h : B → C) (f : A → B) (h' : P → Q) (f' : O → P) where
   pub inherited_then : (x : Inherited A O) → rename_inherited (λ a. h (f a)) (λ o. h' (f' o)) x ≡ rename_inherited h h' (rename_inherited f f' x)

@@ -47,19 +47,16 @@ OwnerUnder r (Of s) = Under s r
 OwnerUnder r (Below s) = Under s r
 
 abbrev pub HangingUnder : Path → Hanging Owner → Type 0
-HangingUnder r (Forward p) = Unit {0}
-HangingUnder r (Reverse p) = Unit {0}
 HangingUnder r (InList o p) = OwnerUnder r o
+HangingUnder r _ = Unit {0}
 
 pub owner_inner : (i : ℕ) (r : Path) (o : Owner) → OwnerUnder r o → OwnerUnder (i ∷ r) o
 owner_inner i r First h = tt
-owner_inner i r (Of s) h = inner h
-owner_inner i r (Below s) h = inner h
+owner_inner i r _ h = inner h
 
 pub hanging_inner : (i : ℕ) (r : Path) (h : Hanging Owner) → HangingUnder r h → HangingUnder (i ∷ r) h
-hanging_inner i r (Forward p) k = tt
-hanging_inner i r (Reverse p) k = tt
 hanging_inner i r (InList o p) k = owner_inner i r o k
+hanging_inner i r _ k = tt
 
 pub owner_from_up : (r : Path) (o : Owner) → OwnerUnder (up r) o → OwnerUnder r o
 owner_from_up [] o h = h
@@ -144,9 +141,8 @@ module _ {T : Type 0} (full : Term Bnode → T) (v : T) (at : Standing Bnode Own
   linked_under (Some object) e m = mapped_under at.path (own_owner model at here) (Some (full (Resource object))) (listed at.facts.rel) (own_under at here k.own) e m
 
   pub awaited_under : (h : Hanging Owner) → HangingUnder at.path h → (e : Entry Owner T) → awaited model full v at here h ≡ Some e → OwnerUnder at.path e.owner
-  awaited_under (Forward p) w e q = cc
-  awaited_under (Reverse p) w e q = cc
   awaited_under (InList o p) w e q = let s : entry o (Some (full (Resource here.subject))) p ≡ e = cc in subst (λ (x : Entry Owner T). OwnerUnder at.path x.owner) s w
+  awaited_under _ w e q = cc
 
   pub by_under : (e : Entry Owner T) → Among (entries_by model full v at here) e → OwnerUnder at.path e.owner
   by_under e m =

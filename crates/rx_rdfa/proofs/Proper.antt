@@ -141,19 +141,12 @@ module _ {B : Type 0} where
   now_proper (ByDatatype d) facts = by_each_proper B d facts.lang (option_or facts.content facts.datetime)
   now_proper (ByContent content) facts = plain_proper B facts.lang content
   now_proper (ByDatetime datetime) facts = time_proper B facts.lang datetime
-  now_proper ByTimeText facts = tt
-  now_proper (ByResource node) facts = tt
-  now_proper (ByTyped node) facts = tt
-  now_proper ByText facts = tt
+  now_proper _ facts = tt
 
   of_text_proper : (by : Rule B) (facts : Facts) (text : Chars) → IsTerm (value_of_text by facts text)
   of_text_proper (ByDatatype d) facts text = by_proper B d facts.lang text
-  of_text_proper (ByContent content) facts text = plain_proper B facts.lang text
-  of_text_proper (ByDatetime datetime) facts text = plain_proper B facts.lang text
   of_text_proper ByTimeText facts text = time_proper B facts.lang text
-  of_text_proper (ByResource node) facts text = plain_proper B facts.lang text
-  of_text_proper (ByTyped node) facts text = plain_proper B facts.lang text
-  of_text_proper ByText facts text = plain_proper B facts.lang text
+  of_text_proper _ facts text = plain_proper B facts.lang text
 
   or_proper : (o : Option (Term B)) (v : Term B) → IfThere IsTerm o → IsTerm v → IsTerm (unwrap_or o v)
   or_proper None v h k = k
@@ -232,8 +225,7 @@ module _ {B O : Type 0} (n : Naming B O) (base : Chars) (at : Standing B O) wher
 
     completed_proper : (h : Hanging O) → IfThere HasProper (completed n base at here h)
     completed_proper (Forward p) = tt
-    completed_proper (Reverse p) = tt
-    completed_proper (InList owner p) = tt
+    completed_proper _ = tt
 
     -- of the entries each kind, in the order of the steps
     module _ (v : Term B) (k : IsTerm v) where
@@ -251,8 +243,7 @@ module _ {B O : Type 0} (n : Naming B O) (base : Chars) (at : Standing B O) wher
 
       awaited_proper : (h : Hanging O) → IfThere HasProperItem (awaited n (λ w. w) v at here h)
       awaited_proper (Forward p) = tt
-      awaited_proper (Reverse p) = tt
-      awaited_proper (InList owner p) = tt
+      awaited_proper _ = tt
 
       entries_by_proper : All HasProperItem (entries_by n (λ w. w) v at here)
       entries_by_proper =

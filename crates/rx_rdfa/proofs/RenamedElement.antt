@@ -63,21 +63,13 @@ module _ {B C : Type 0} (f : B → C) where
 
   pub value_now_rename : (r : Rule B) (facts : Facts) → option_map (rename_term f) (value_now r facts) ≡ value_now (rename_rule f r) facts
   value_now_rename (ByDatatype d) facts = literals_are d facts.lang (option_or facts.content facts.datetime)
-  value_now_rename (ByContent content) facts = refl
   value_now_rename (ByDatetime datetime) facts = ap Some (time_is (time_datatype datetime) facts.lang datetime)
-  value_now_rename ByTimeText facts = refl
-  value_now_rename (ByResource node) facts = refl
-  value_now_rename (ByTyped node) facts = refl
-  value_now_rename ByText facts = refl
+  value_now_rename _ facts = refl
 
   pub value_of_text_rename : (r : Rule B) (facts : Facts) (s : Chars) → rename_term f (value_of_text r facts s) ≡ value_of_text (rename_rule f r) facts s
   value_of_text_rename (ByDatatype d) facts s = literal_is d facts.lang s
-  value_of_text_rename (ByContent content) facts s = refl
-  value_of_text_rename (ByDatetime datetime) facts s = refl
   value_of_text_rename ByTimeText facts s = time_is (time_datatype s) facts.lang s
-  value_of_text_rename (ByResource node) facts s = refl
-  value_of_text_rename (ByTyped node) facts s = refl
-  value_of_text_rename ByText facts s = refl
+  value_of_text_rename _ facts s = refl
 
   pub value_rename : (r : Rule B) (facts : Facts) (s : Chars) → rename_term f (value r facts s) ≡ value (rename_rule f r) facts s
   value_rename r facts s = map_unwrap (rename_term f) (value_now r facts) (value_of_text r facts s)

@@ -101,9 +101,8 @@ module _ {O P T U : Type 0} (g : O → P) (h : T → U) where
       go : (b : Bool) (item : Option T) → map h (items p list) ≡ items p (map (rename_entry g h) list)
           → map h (filter_map (λ (x : Entry O T). x.item) (cond b (record { owner = e.owner; predicate = e.predicate; item = item } ∷ filter (λ x. bytes_eq x.predicate p) list) (filter (λ x. bytes_eq x.predicate p) list)))
           ≡ filter_map (λ (x : Entry P U). x.item) (cond b (record { owner = g e.owner; predicate = e.predicate; item = option_map h item } ∷ filter (λ x. bytes_eq x.predicate p) (map (rename_entry g h) list)) (filter (λ x. bytes_eq x.predicate p) (map (rename_entry g h) list)))
-      go true None ih = ih
       go true (Some x) ih = ap (λ z. h x ∷ z) ih
-      go false item ih = ih
+      go _ _ ih = ih
 
 -- ---- cells
 

@@ -129,9 +129,8 @@ module _ {B O C P : Type 0} (f : B → C) (g : O → P) (n : Naming B O) (m : Na
 
   leave_with_is : (x : Machine B O) (standings : List (Standing B O)) (texts : List Chars)
       → rename_machine f g (leave_with n base x standings texts) ≡ leave_with m base (rename_machine f g x) (map (rename_standing f g) standings) texts
-  leave_with_is x [] texts = refl
-  leave_with_is x (at ∷ more) [] = refl
   leave_with_is x (at ∷ more) (s ∷ texts) = left_is at more s texts x.slots x.out
+  leave_with_is x _ _ = refl
 
   pub leave_rename : (x : Machine B O) → rename_machine f g (leave n base x) ≡ leave m base (rename_machine f g x)
   leave_rename x = leave_with_is x x.standings x.texts

@@ -18,16 +18,14 @@ use Rattle.rx_rdfa.proofs.Sent.{Sent, SentOption, map_or, map_then, map_unwrap, 
 pub same_nodes : {B C : Type 0} (to : B → C) (same : B → B → Bool) (same' : C → C → Bool) → ((a b : B) → same a b ≡ same' (to a) (to b))
     → (a b : Node B) → same_node same a b ≡ same_node same' (rename_node to a) (rename_node to b)
 same_nodes to same same' k (Iri a) (Iri b) = refl
-same_nodes to same same' k (Iri a) (Blank b) = refl
-same_nodes to same same' k (Blank a) (Iri b) = refl
 same_nodes to same same' k (Blank a) (Blank b) = k a b
+same_nodes to same same' k _ _ = refl
 
 module _ {O P : Type 0} (g : O → P) where
   rel_is : (b : Bool) (owner : O) (ps : List Chars) → map (rename_hanging g) (map (cond b (InList owner) Forward) ps) ≡ map (cond b (InList (g owner)) Forward) ps
-  rel_is true owner [] = refl
-  rel_is false owner [] = refl
   rel_is true owner (p ∷ ps) = ap (λ z. InList (g owner) p ∷ z) (rel_is true owner ps)
   rel_is false owner (p ∷ ps) = ap (λ z. Forward p ∷ z) (rel_is false owner ps)
+  rel_is _ owner [] = refl
 
   rev_is : (ps : List Chars) → map (rename_hanging g) (map Reverse ps) ≡ map Reverse ps
   rev_is [] = refl
@@ -74,9 +72,8 @@ module _ {B O C P : Type 0} (f : B → C) (n : Naming B O) (m : Naming C P) wher
 
   module _ (base : Chars) where
     pub named : (r : Ref) → Alike f n m (label_of r) → rename_node f (resource_named n base r) ≡ resource_named m base r
-    named (IriRef iri) k = refl
     named (LabelRef label) k = ap Blank (k label (inl refl))
-    named (RelativeRef r) k = refl
+    named _ k = refl
 
     pub named_option : (r : Option Ref) → Alike f n m (label_of_option r)
         → SentOption (rename_node f) (option_map (resource_named n base) r) (option_map (resource_named m base) r)
