@@ -9,7 +9,6 @@ pub mod Nests
 pub mod Fronts
 pub mod OpenElements
 pub mod Ways
-pub mod TagPlaces
 pub mod Faults
 pub mod FaultPlaces
 pub mod RefusedTags
