@@ -26,7 +26,7 @@ use Rattle.rx_pages.proofs.EndedRuns.{ended_kept}
 use Rattle.rx_pages.proofs.KnownTags.{TagVerdict, on, a_tag, a_fault, known_more, known_verdict}
 use Rattle.rx_scan.specs.Spelled.{AllInside, MayCome, AllMayCome}
 use Rattle.rx_scan.proofs.SpelledLemmas.{never_ended, first_known}
-use Rattle.rx_scan.proofs.Snoc.{and_false}
+use Rattle.std.proofs.Math.Bool.{and-false}
 
 -- one list of entries is a front of the other
 record Longer (xs ys m n : List Entry) : Type 0 where
@@ -256,9 +256,9 @@ module _ (syntax : Syntax) (limits : Limits) (spot : Spot) (o : occurs syntax sp
                 inside_is = i.1;
                 come = m.1;
                 fit = f.1;
-                sections = subst (λ x. no_section_end left x false ≡ true) (and_false s.last) (subst (λ x. no_section_end left (s.last && x) x ≡ true) l parts.1);
+                sections = subst (λ x. no_section_end left x false ≡ true) (and-false s.last) (subst (λ x. no_section_end left (s.last && x) x ≡ true) l parts.1);
                 goes = tt;
-                flags = subst (λ x. flags_behind left x false ≡ flags_end) (and_false s.last) (subst (λ x. flags_behind left (s.last && x) x ≡ flags_end) l fl);
+                flags = subst (λ x. flags_behind left x false ≡ flags_end) (and-false s.last) (subst (λ x. flags_behind left (s.last && x) x ≡ flags_end) l fl);
               })
 
   told_is : (s : Scanning) (b : Bool) (e : Entry) (v : Verdict) → ((token : Token) → v ≡ ended token → ⊥) → told syntax limits spot b e s v ≡ told_first syntax limits spot b e s v

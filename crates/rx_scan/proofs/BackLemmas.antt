@@ -31,8 +31,9 @@ use Rattle.rx_pages.proofs.FrontRead.{rises}
 use Rattle.rx_pages.proofs.ByteSteps.{not_le, not_long}
 use Rattle.rx_pages.proofs.TokensWalk.{Rises, flags_behind}
 use Rattle.rx_scan.specs.Spelled.{entries_at, AllBefore, has_character, ends_in_return, Spells, IsBetween}
-use Rattle.rx_scan.proofs.SpelledLemmas.{first_known, same_flags}
+use Rattle.rx_scan.proofs.SpelledLemmas.{first_known, same_flags, passing_is, none_entered}
 use Rattle.rx_scan.proofs.AheadLemmas.{Tail, at_end, Reads, reads_entry, bound_with, bound_run}
+use Rattle.std.proofs.Math.Bool.{or-false, or-true}
 
 -- the first character, and what is entered of the others
 passes_entries : (started after_return : Bool) (at c : ℕ) (cs : List ℕ) → passes started after_return c ≡ true → entries_at started after_return at (c ∷ cs) ≡ entries_at true false (at + len_utf8 c) cs
@@ -52,10 +53,6 @@ enters_entries false after_return at c cs h =
   where
     true_false : true ≡ false → ⊥
     true_false e = cc
-
-none_entered : (started after_return : Bool) (at : ℕ) → entries_at started after_return at [] ≡ []
-none_entered true after_return at = refl
-none_entered false after_return at = refl
 
 rises_at : (started after_return : Bool) (at : ℕ) (cs : List ℕ) → Rises (entries_at started after_return at cs)
 rises_at true after_return at cs = rises after_return at cs
@@ -97,12 +94,6 @@ line_feed_some c h = grind (arith, nat_tests)
 mark_some : (c : ℕ) → (c == byte_order_mark) ≡ true → (c == 0) ≡ false
 mark_some c h = grind (arith, nat_tests)
 
-passing_is : (started after_return : Bool) (c : ℕ) (G : Type 0) → passes started after_return c ≡ true → ((c == byte_order_mark) ≡ true → G) → ((c == line_feed) ≡ true → G) → G
-passing_is started after_return c G h on_mark on_feed =
-    by_test {G = G} (not started && c == byte_order_mark)
-    (λ t. on_mark (and_parts (not started) (c == byte_order_mark) t).1)
-    (λ t. on_feed (and_parts after_return (c == line_feed) (sym (ap (λ b. b || after_return && c == line_feed) t) ∙ h)).1)
-
 nonzero_of : (started after_return : Bool) (at c : ℕ) (cs : List ℕ) → has_no_nul (entries_at started after_return at (c ∷ cs)) ≡ true → (c == 0) ≡ false
 nonzero_of started after_return at c cs h =
     by_test {G = (c == 0) ≡ false} (passes started after_return c) (λ t. passing_is started after_return c ((c == 0) ≡ false) t (mark_some c) (line_feed_some c))
@@ -124,14 +115,6 @@ IsBegun held (c ∷ cs) = length held < len_utf8 c
 none_begun : (cs : List ℕ) → IsBegun [] cs
 none_begun [] = tt
 none_begun (c ∷ cs) = let p = len_positive c in omega arith
-
-or_true : (b : Bool) → (b || true) ≡ true
-or_true true = refl
-or_true false = refl
-
-or_none : (b : Bool) → (b || false) ≡ b
-or_none true = refl
-or_none false = refl
 
 module _ (syntax : Syntax) (limits : Limits) (spot : Spot) (o : occurs syntax spot.inside ≡ true) (final : Scanned) (part : List ℕ) (is_part : IsPart part) (held_is : final.next.held ≡ part) (going : GoesOn syntax spot.inside [] (values final.next.run))
     (fits : is_known_tag syntax spot.inside (values final.next.run) ≡ true → final.next.at ≤ first_of final.next.run final.next.at + limits.tag) where
@@ -178,7 +161,7 @@ module _ (syntax : Syntax) (limits : Limits) (spot : Spot) (o : occurs syntax sp
           let f : (s.two, s.last) ≡ flags_end = ap (λ x. flags_behind x s.two s.last) (sym p.1) ∙ u.flags in
           let at : s.at ≡ final.next.at = (let w = a.end_is in omega arith) in
           let held : s.held ≡ final.next.held = sym (append-nil s.held) ∙ (e ∙ sym held_is) in
-          let started : s.started ≡ final.next.started = sym (st ∙ or_none s.started) in
+          let started : s.started ≡ final.next.started = sym (st ∙ or-false s.started) in
           let is : items ≡ final.items = sym (a.items_are ∙ (ap (λ x. items ++ x) p.1 ∙ append-nil items)) in
           λ i. record { next = record { at = at i; held = held i; started = started i; after_return = sym ar i; run = p.0 i; two = (f i).0; last = (f i).1 }; items = is i }
 
@@ -313,7 +296,7 @@ module _ (syntax : Syntax) (limits : Limits) (spot : Spot) (o : occurs syntax sp
         end_on = let v = a.end_is in omega arith
 
         started_on : final.next.started ≡ true
-        started_on = a.started ∙ (ap (λ x. s.started || has_character x) are ∙ or_true s.started)
+        started_on = a.started ∙ (ap (λ x. s.started || has_character x) are ∙ or-true s.started)
 
         return_on : final.next.after_return ≡ ends_in_return (c == carriage_return) cs
         return_on = a.after_return ∙ ap (λ x. ends_in_return s.after_return x) are

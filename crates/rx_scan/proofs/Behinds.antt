@@ -2,6 +2,7 @@
 use Rattle.std.proofs.Common.{◌≡◌, ◌∙◌, ℕ, Bool, true, false, [], ◌∷◌, ◌++◌, refl, ap, sym, subst, append_assoc, append-nil, eqb-true, ◌+◌, arith}
 use Rattle.std.specs.Prelude.{◌&&◌, ◌||◌, ◌==◌, ◌-◌, take, length, codes, if◌then◌else◌}
 use Rattle.std.proofs.lemmas.Bool.{cond-true, cond-false}
+use Rattle.std.proofs.lemmas.Bool.Decides.{nat_tests}
 use Rattle.rx_terms.specs.Ascii.{less_than_sign}
 use Rattle.rx_terms.specs.Text.{Chars}
 use Rattle.rx_chars.specs.declared.syntax.Syntax.{Syntax}
@@ -25,7 +26,8 @@ use Rattle.rx_scan.specs.declared.marks.Move.{Move}
 use Rattle.rx_scan.specs.Marks.{may_close, after_dash, after_bang, in_comment, after_strict_dash, in_strict_comment, in_instruction, in_bogus, in_section, at_bracket, are_two}
 use Rattle.rx_scan.specs.Pending.{Pending, PendsAs, Behind, judge_of, CommentEnds, is_start, is_start_dash, has_dash, has_dashes, has_bang, StrictEnds, has_strict_dash, has_strict_dashes, SectionEnds, bracket_text}
 use Rattle.rx_scan.specs.Meant.{Means, Goes}
-use Rattle.rx_scan.proofs.Snoc.{and_false, snoc_same, ends_snoc, ends_one, empty_snoc, lone_snoc, either_way}
+use Rattle.rx_scan.proofs.Snoc.{snoc_same, ends_snoc, ends_one, empty_snoc, lone_snoc, either_way}
+use Rattle.std.proofs.Math.Bool.{}
 
 -- what stands behind the front grows by the character
 pub grown : (text front rest : Chars) (c : ℕ) → text ≡ less_than_sign ∷ (front ++ rest) → text ++ c ∷ [] ≡ less_than_sign ∷ (front ++ (rest ++ c ∷ []))
@@ -35,118 +37,30 @@ grown text front rest c e = ap (λ x. x ++ c ∷ []) e ∙ ap (λ x. less_than_s
 abbrev next_phase : CommentPhase → ℕ → CommentPhase
 next_phase p c = if c == 45 then after_dash p else if c == 33 then after_bang p else comments.Text
 
--- what holds of the phase by two tests holds by the character's
-by_two : (P : CommentPhase → Bool → Bool → Type 0) (p : CommentPhase) (c : ℕ) → P (after_dash p) true false → P (after_bang p) false true → P comments.Text false false → P (next_phase p c) (c == 45) (c == 33)
-by_two P p c d b t =
-    by_test {G = P (next_phase p c) (c == 45) (c == 33)} (c == 45)
-    (λ h. let e : c ≡ 45 = eqb-true c 45 h in subst (λ (x : ℕ). P (next_phase p x) (x == 45) (x == 33)) (sym e) d)
-    (λ h. by_test {G = P (next_phase p c) (c == 45) (c == 33)} (c == 33)
-    (λ k. let e : c ≡ 33 = eqb-true c 33 k in subst (λ (x : ℕ). P (next_phase p x) (x == 45) (x == 33)) (sym e) b)
-    (λ k. rw (h, k) t))
+-- how a comment's phases follow each other, where the character is `-`, `!` or neither
+record Follows (p q : CommentPhase) (dash bang : Bool) : Type 0 where
+  start : is_start q ≡ false
+  start_dash : (is_start p && dash) ≡ is_start_dash q
+  has_dash_is : dash ≡ has_dash q
+  has_dashes_is : (dash && has_dash p) ≡ has_dashes q
+  has_bang_is : (bang && has_dashes p) ≡ has_bang q
 
-next_start : (p : CommentPhase) (c : ℕ) → is_start (next_phase p c) ≡ false
-next_start p c = by_two (λ q d b. is_start q ≡ false) p c (dash p) (bang p) refl
-  where
-    dash : (p : CommentPhase) → is_start (after_dash p) ≡ false
-    dash comments.Start = refl
-    dash comments.StartDash = refl
-    dash comments.Text = refl
-    dash comments.Dash = refl
-    dash comments.Dashes = refl
-    dash comments.Bang = refl
-
-    bang : (p : CommentPhase) → is_start (after_bang p) ≡ false
-    bang comments.Start = refl
-    bang comments.StartDash = refl
-    bang comments.Text = refl
-    bang comments.Dash = refl
-    bang comments.Dashes = refl
-    bang comments.Bang = refl
-
-next_start_dash : (p : CommentPhase) (c : ℕ) → (is_start p && (c == 45)) ≡ is_start_dash (next_phase p c)
-next_start_dash p c = by_two (λ q d b. (is_start p && d) ≡ is_start_dash q) p c (dash p) (bang p) (and_false (is_start p))
-  where
-    dash : (p : CommentPhase) → (is_start p && true) ≡ is_start_dash (after_dash p)
-    dash comments.Start = refl
-    dash comments.StartDash = refl
-    dash comments.Text = refl
-    dash comments.Dash = refl
-    dash comments.Dashes = refl
-    dash comments.Bang = refl
-
-    bang : (p : CommentPhase) → (is_start p && false) ≡ is_start_dash (after_bang p)
-    bang comments.Start = refl
-    bang comments.StartDash = refl
-    bang comments.Text = refl
-    bang comments.Dash = refl
-    bang comments.Dashes = refl
-    bang comments.Bang = refl
-
-next_dash : (p : CommentPhase) (c : ℕ) → (c == 45) ≡ has_dash (next_phase p c)
-next_dash p c = by_two (λ q d b. d ≡ has_dash q) p c (dash p) (bang p) refl
-  where
-    dash : (p : CommentPhase) → true ≡ has_dash (after_dash p)
-    dash comments.Start = refl
-    dash comments.StartDash = refl
-    dash comments.Text = refl
-    dash comments.Dash = refl
-    dash comments.Dashes = refl
-    dash comments.Bang = refl
-
-    bang : (p : CommentPhase) → false ≡ has_dash (after_bang p)
-    bang comments.Start = refl
-    bang comments.StartDash = refl
-    bang comments.Text = refl
-    bang comments.Dash = refl
-    bang comments.Dashes = refl
-    bang comments.Bang = refl
-
-next_dashes : (p : CommentPhase) (c : ℕ) → ((c == 45) && has_dash p) ≡ has_dashes (next_phase p c)
-next_dashes p c = by_two (λ q d b. (d && has_dash p) ≡ has_dashes q) p c (dash p) (bang p) refl
-  where
-    dash : (p : CommentPhase) → has_dash p ≡ has_dashes (after_dash p)
-    dash comments.Start = refl
-    dash comments.StartDash = refl
-    dash comments.Text = refl
-    dash comments.Dash = refl
-    dash comments.Dashes = refl
-    dash comments.Bang = refl
-
-    bang : (p : CommentPhase) → false ≡ has_dashes (after_bang p)
-    bang comments.Start = refl
-    bang comments.StartDash = refl
-    bang comments.Text = refl
-    bang comments.Dash = refl
-    bang comments.Dashes = refl
-    bang comments.Bang = refl
-
-next_bang : (p : CommentPhase) (c : ℕ) → ((c == 33) && has_dashes p) ≡ has_bang (next_phase p c)
-next_bang p c = by_two (λ q d b. (b && has_dashes p) ≡ has_bang q) p c (dash p) (bang p) refl
-  where
-    dash : (p : CommentPhase) → false ≡ has_bang (after_dash p)
-    dash comments.Start = refl
-    dash comments.StartDash = refl
-    dash comments.Text = refl
-    dash comments.Dash = refl
-    dash comments.Dashes = refl
-    dash comments.Bang = refl
-
-    bang : (p : CommentPhase) → has_dashes p ≡ has_bang (after_bang p)
-    bang comments.Start = refl
-    bang comments.StartDash = refl
-    bang comments.Text = refl
-    bang comments.Dash = refl
-    bang comments.Dashes = refl
-    bang comments.Bang = refl
+follows : (dash bang : Bool) (p : CommentPhase) → (dash && bang) ≡ false → Follows p (if dash then after_dash p else if bang then after_bang p else comments.Text) dash bang
+follows true true p h = absurd (cc)
+follows true false comments.Start h = record { start = refl; start_dash = refl; has_dash_is = refl; has_dashes_is = refl; has_bang_is = refl }
+follows false true comments.Start h = record { start = refl; start_dash = refl; has_dash_is = refl; has_dashes_is = refl; has_bang_is = refl }
+follows false false comments.Start h = record { start = refl; start_dash = refl; has_dash_is = refl; has_dashes_is = refl; has_bang_is = refl }
+follows _ _ _ h = record { start = refl; start_dash = refl; has_dash_is = refl; has_dashes_is = refl; has_bang_is = refl }
 
 comment_grows : (p : CommentPhase) (rest : Chars) (c : ℕ) → CommentEnds p rest → CommentEnds (next_phase p c) (rest ++ c ∷ [])
 comment_grows p rest c h =
+    let f = follows (c == 45) (c == 33) p (grind (arith, nat_tests)) in
     record {
-      empty = empty_snoc rest c ∙ sym (next_start p c);
-      lone = lone_snoc 45 rest c ∙ (ap (λ b. b && (c == 45)) h.empty ∙ next_start_dash p c);
-      dash = ends_one 45 rest c ∙ (either_way 45 c ∙ next_dash p c);
-      dashes = ends_snoc (45 ∷ []) 45 rest c ∙ (ap (λ b. b && ends_with (45 ∷ []) rest) (either_way 45 c) ∙ (ap (λ b. (c == 45) && b) h.dash ∙ next_dashes p c));
-      bang = ends_snoc (45 ∷ 45 ∷ []) 33 rest c ∙ (ap (λ b. b && ends_with (45 ∷ 45 ∷ []) rest) (either_way 33 c) ∙ (ap (λ b. (c == 33) && b) h.dashes ∙ next_bang p c));
+      empty = empty_snoc rest c ∙ sym f.start;
+      lone = lone_snoc 45 rest c ∙ (ap (λ b. b && (c == 45)) h.empty ∙ f.start_dash);
+      dash = ends_one 45 rest c ∙ (either_way 45 c ∙ f.has_dash_is);
+      dashes = ends_snoc (45 ∷ []) 45 rest c ∙ (ap (λ b. b && ends_with (45 ∷ []) rest) (either_way 45 c) ∙ (ap (λ b. (c == 45) && b) h.dash ∙ f.has_dashes_is));
+      bang = ends_snoc (45 ∷ 45 ∷ []) 33 rest c ∙ (ap (λ b. b && ends_with (45 ∷ 45 ∷ []) rest) (either_way 33 c) ∙ (ap (λ b. (c == 33) && b) h.dashes ∙ f.has_bang_is));
     }
 
 comment_closes : (p : CommentPhase) (rest : Chars) (c : ℕ) → CommentEnds p rest → ends_comment (rest ++ c ∷ []) ≡ ((c == 62) && may_close p)
@@ -155,21 +69,12 @@ comment_closes p rest c h =
     ∙ (ap (λ b. (is_start p && (c == 62)) || b || ends_with (codes "-->") (rest ++ c ∷ []) || ends_with (codes "--!>") (rest ++ c ∷ [])) (snoc_same (45 ∷ []) 62 rest c ∙ ap (λ b. b && (c == 62)) h.lone)
     ∙ (ap (λ b. (is_start p && (c == 62)) || (is_start_dash p && (c == 62)) || b || ends_with (codes "--!>") (rest ++ c ∷ [])) (ends_snoc (45 ∷ 45 ∷ []) 62 rest c ∙ (ap (λ b. b && ends_with (45 ∷ 45 ∷ []) rest) (either_way 62 c) ∙ ap (λ b. (c == 62) && b) h.dashes))
     ∙ (ap (λ b. (is_start p && (c == 62)) || (is_start_dash p && (c == 62)) || ((c == 62) && has_dashes p) || b) (ends_snoc (45 ∷ 45 ∷ 33 ∷ []) 62 rest c ∙ (ap (λ b. b && ends_with (45 ∷ 45 ∷ 33 ∷ []) rest) (either_way 62 c) ∙ ap (λ b. (c == 62) && b) h.bang))
-    ∙ all p (c == 62))))
+    ∙ all (c == 62) p)))
   where
-    all : (p : CommentPhase) (g : Bool) → ((is_start p && g) || (is_start_dash p && g) || (g && has_dashes p) || (g && has_bang p)) ≡ (g && may_close p)
-    all comments.Start true = refl
-    all comments.StartDash true = refl
-    all comments.Text true = refl
-    all comments.Dash true = refl
-    all comments.Dashes true = refl
-    all comments.Bang true = refl
-    all comments.Start false = refl
-    all comments.StartDash false = refl
-    all comments.Text false = refl
-    all comments.Dash false = refl
-    all comments.Dashes false = refl
-    all comments.Bang false = refl
+    all : (g : Bool) (p : CommentPhase) → ((is_start p && g) || (is_start_dash p && g) || (g && has_dashes p) || (g && has_bang p)) ≡ (g && may_close p)
+    all true comments.Start = refl
+    all false comments.Start = refl
+    all _ _ = refl
 
 abbrev next_strict : StrictPhase → ℕ → StrictPhase
 next_strict q c = if c == 45 then after_strict_dash q else strict.Text
@@ -177,24 +82,17 @@ next_strict q c = if c == 45 then after_strict_dash q else strict.Text
 strict_grows : (q : StrictPhase) (rest : Chars) (c : ℕ) → StrictEnds q rest → has_strict_dashes q ≡ false → StrictEnds (next_strict q c) (rest ++ c ∷ [])
 strict_grows q rest c h n =
     record {
-      dash = ends_one 45 rest c ∙ (either_way 45 c ∙ dash (c == 45));
-      dashes = ends_snoc (45 ∷ []) 45 rest c ∙ (ap (λ b. b && ends_with (45 ∷ []) rest) (either_way 45 c) ∙ (ap (λ b. (c == 45) && b) h.dash ∙ dashes q (c == 45) n));
+      dash = ends_one 45 rest c ∙ (either_way 45 c ∙ dash (c == 45) q);
+      dashes = ends_snoc (45 ∷ []) 45 rest c ∙ (ap (λ b. b && ends_with (45 ∷ []) rest) (either_way 45 c) ∙ (ap (λ b. (c == 45) && b) h.dash ∙ dashes (c == 45) q n));
     }
   where
-    after : (q : StrictPhase) → true ≡ has_strict_dash (after_strict_dash q)
-    after strict.Text = refl
-    after strict.Dash = refl
-    after strict.Dashes = refl
+    dash : (b : Bool) (q : StrictPhase) → b ≡ has_strict_dash (if b then after_strict_dash q else strict.Text)
+    dash true strict.Text = refl
+    dash _ _ = refl
 
-    dash : (b : Bool) → b ≡ has_strict_dash (if b then after_strict_dash q else strict.Text)
-    dash true = after q
-    dash false = refl
-
-    dashes : (q : StrictPhase) (b : Bool) → has_strict_dashes q ≡ false → (b && has_strict_dash q) ≡ has_strict_dashes (if b then after_strict_dash q else strict.Text)
-    dashes strict.Text true n = refl
-    dashes strict.Dash true n = refl
-    dashes strict.Dashes true n = absurd (cc)
-    dashes q false n = refl
+    dashes : (b : Bool) (q : StrictPhase) → has_strict_dashes q ≡ false → (b && has_strict_dash q) ≡ has_strict_dashes (if b then after_strict_dash q else strict.Text)
+    dashes true strict.Dashes n = absurd (cc)
+    dashes _ _ n = refl
 
 -- what is kept of a section
 section_kept : (kept : Chars) → take (length (kept ++ 93 ∷ 93 ∷ []) - 2) (kept ++ 93 ∷ 93 ∷ []) ≡ kept
@@ -263,12 +161,9 @@ module _ (s : Syntax) (i : Content) (p : Pending) (text : Chars) (c : ℕ) where
       split (λ (m : Move). Means s i p text c m) (c == 62) _ _
       (λ h. judged_at judge (StrictEnds strict.Dashes) b ∙ (cond-true _ _ _ b.is.dashes ∙ cond-true _ _ _ h))
       (λ h. judged_at judge (StrictEnds strict.Dashes) b ∙ (cond-true _ _ _ b.is.dashes ∙ cond-false _ _ _ h))
-  in_strict_means strict.Text b =
-      let judge = judge_of s i (mark.StrictComment strict.Text) in
-      goes_by judge (StrictEnds strict.Text) b (mark.StrictComment (next_strict strict.Text c)) p.run (cond-false _ _ _ b.is.dashes) (behind_more judge (StrictEnds strict.Text) (StrictEnds (next_strict strict.Text c)) b (strict_grows strict.Text b.rest c b.is refl))
-  in_strict_means strict.Dash b =
-      let judge = judge_of s i (mark.StrictComment strict.Dash) in
-      goes_by judge (StrictEnds strict.Dash) b (mark.StrictComment (next_strict strict.Dash c)) p.run (cond-false _ _ _ b.is.dashes) (behind_more judge (StrictEnds strict.Dash) (StrictEnds (next_strict strict.Dash c)) b (strict_grows strict.Dash b.rest c b.is refl))
+  in_strict_means q b =
+      let judge = judge_of s i (mark.StrictComment q) in
+      goes_by judge (StrictEnds q) b (mark.StrictComment (next_strict q c)) p.run (cond-false _ _ _ b.is.dashes) (behind_more judge (StrictEnds q) (StrictEnds (next_strict q c)) b (strict_grows q b.rest c b.is refl))
 
   abbrev any_text : Chars → Type 0
   any_text rest = Unit {0}
@@ -320,6 +215,5 @@ module _ (s : Syntax) (i : Content) (p : Pending) (text : Chars) (c : ℕ) where
           }
 
       kept : (q : Brackets) (b : Behind s i (judge_of s i (mark.Section q)) (SectionEnds q p.run) text) → are_two q ≡ true → take (length b.rest - 2) b.rest ≡ p.run
-      kept brackets.None b h = absurd (cc)
-      kept brackets.One b h = absurd (cc)
       kept brackets.Two b h = ap (λ x. take (length x - 2) x) b.is.are ∙ section_kept p.run
+      kept _ b h = absurd (cc)

@@ -32,11 +32,12 @@ use Rattle.rx_scan.specs.Pending.{PendsAs}
 use Rattle.rx_scan.specs.Scanner.{Reading, spot_of}
 use Rattle.rx_scan.specs.Entries as entries
 use Rattle.rx_scan.specs.Steps.{ReadsAs, mark_bytes}
-use Rattle.rx_scan.proofs.Standing.{some_mark, values_snoc, no_values}
+use Rattle.rx_scan.proofs.Standing.{some_mark, no_values}
 use Rattle.rx_scan.proofs.Simulation.{known, known_with}
 use Rattle.rx_scan.proofs.GivesLemmas.{Gives, GivesOk, GivesErr, gives_at, gives_by, refuses, nothing_told}
 use Rattle.rx_scan.proofs.MarkLemmas.{mark_is}
 use Rattle.rx_scan.proofs.EntryLemmas.{enters}
+use Rattle.rx_pages.proofs.Tokens.{values_append}
 
 -- a case by a test, in what is chosen by it
 pub match_by : {G : Type 0} (b : Bool) (P Q : Type 0) → MatchBool b P Q → (b ≡ true → P → G) → (b ≡ false → Q → G) → G
@@ -111,7 +112,7 @@ module _ (v : Reading) (s : reader.Scanning) (h : ReadsAs v s) where
   long_with : (c : ℕ) → reader.is_too_long sy lim spot (s.run ++ (record { value = c; first = reader.starts_at s; last = s.at }) ∷ []) (reader.first_of s.run (reader.starts_at s)) s.at ≡ entries.is_long v (known_tags.is_tag_with sy v.setting.inside v.pending.mark c)
   long_with c =
       let entry : Entry = record { value = c; first = reader.starts_at s; last = s.at } in
-      ap (λ b. b && nat_le (reader.token_at s + lim.tag) s.at) (ap (is_known_tag sy v.setting.inside) (values_snoc s.run entry) ∙ known_with sy v.setting.inside v.pending.run v.pending.tag (values s.run) v.pending.mark c h.pends)
+      ap (λ b. b && nat_le (reader.token_at s + lim.tag) s.at) (ap (is_known_tag sy v.setting.inside) (values_append s.run (entry ∷ [])) ∙ known_with sy v.setting.inside v.pending.run v.pending.tag (values s.run) v.pending.mark c h.pends)
       ∙ (ap (λ a. known_tags.is_tag_with sy v.setting.inside v.pending.mark c && nat_le (a + lim.tag) s.at) (sym h.token) ∙ ap (λ a. known_tags.is_tag_with sy v.setting.inside v.pending.mark c && nat_le (entries.token_from v.pending.mark v.place + lim.tag) a) (sym h.at))
 
   passed_is : ReadsAs (entries.with_passed v) (reader.passed s)

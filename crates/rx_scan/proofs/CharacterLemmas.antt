@@ -11,7 +11,7 @@ use Rattle.rx_scan.specs.declared.answers.TokenKind.{TokenKind}
 use Rattle.rx_scan.specs.Entries as entries
 use Rattle.rx_scan.specs.KnownTags as known_tags
 use Rattle.rx_scan.specs.Scanner.{Reading}
-use Rattle.rx_scan.proofs.Snoc.{and_false}
+use Rattle.std.proofs.Math.Bool.{and-false}
 
 pub chosen : (b : Bool) (P Q : Type 0) → b ≡ false → Q → MatchBool b P Q
 chosen true P Q e q = absurd (cc)
@@ -19,7 +19,7 @@ chosen false P Q e q = q
 
 -- within its limit no tag is too long
 pub within_limit : (l : Reading) → l.place.at < entries.token_from l.pending.mark l.place + l.setting.limits.tag → (known : Bool) → entries.is_long l known ≡ false
-within_limit l within known = ap (λ x. known && x) (lt-leb (entries.token_from l.pending.mark l.place + l.setting.limits.tag) l.place.at within) ∙ and_false known
+within_limit l within known = ap (λ x. known && x) (lt-leb (entries.token_from l.pending.mark l.place + l.setting.limits.tag) l.place.at within) ∙ and-false known
 
 module _ (l new : Reading) (held : List ℕ) (b c : ℕ) (result : Result TokenKind Stop) (held_is : l.held ≡ held) (answers : Char c ≡ answer_of (held ++ b ∷ []))
     (page : l.place.at < l.setting.limits.page) (some : (c == 0) ≡ false) (short : entries.is_long l (known_tags.is_tag l.pending.mark) ≡ false)

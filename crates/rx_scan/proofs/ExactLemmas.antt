@@ -42,9 +42,11 @@ use Rattle.rx_pages.proofs.ByteSteps.{is_le, not_le, not_long}
 use Rattle.rx_pages.proofs.ScanSteps.{scan_fault}
 use Rattle.rx_scan.specs.Spelled.{Spells, IsBetween, Left, is_over, Enters, FitsWith, IsNoToken, Refuses, page_too_long, not_utf8, nul, tag_too_long, known_too_long, decided, section_end, late_doctype, FirstFault, ScansWhatIsSpelled, RefusesWhatIsFaulty}
 use Rattle.rx_scan.specs.Spelled as spelled
-use Rattle.rx_scan.proofs.SpelledLemmas.{same_content, scans_so, refuses_so, scan_append}
+use Rattle.rx_scan.proofs.SpelledLemmas.{same_content, scans_so, refuses_so}
 use Rattle.rx_scan.proofs.BackLemmas.{spelled_back}
 use Rattle.rx_pages.proofs.Judged.{strict_keeps}
+use Rattle.std.proofs.Math.Bool.{and-false}
+use Rattle.rx_scan.proofs.RunLemmas.{on_append}
 
 -- characters that are no token, and have a fault whatever stands before, are refused at their last one
 refused_by : (s : Syntax) (i : Content) → occurs s i ≡ true → (depth : ℕ) (line : Line) (phase : Phase) {found : Kind} {chars : Chars} → Faulty s depth [] line phase i found chars → IsNoToken s i chars → IsRefused s i found chars
@@ -91,10 +93,6 @@ too_long known bound at k l = and_from known (nat_le bound at) k (is_le bound at
 
 none_long : (known : Bool) (bound at : ℕ) → known ≡ false → (known && nat_le bound at) ≡ false
 none_long known bound at k = ap (λ b. b && nat_le bound at) k
-
-and_none : (b : Bool) → (b && false) ≡ false
-and_none true = refl
-and_none false = refl
 
 module _ (syntax : Syntax) (limits : Limits) (spot : Spot) (o : occurs syntax spot.inside ≡ true) (next : Scanning) (byte : ℕ) (g : GoesOn syntax spot.inside [] (values next.run)) where
   abbrev inside : Content
@@ -158,7 +156,7 @@ module _ (syntax : Syntax) (limits : Limits) (spot : Spot) (o : occurs syntax sp
       at_doctype sp l =
           by_told
           ∙ (ap tells (whole_verdict syntax inside (values next.run) value doctype sp)
-          ∙ (cond-false _ _ _ (ap (λ b. next.two && b) (literal_is greater_than_sign doctype ∙ no_literal greater_than_sign inside doctype (λ d e. cc)) ∙ and_none next.two)
+          ∙ (cond-false _ _ _ (ap (λ b. next.two && b) (literal_is greater_than_sign doctype ∙ no_literal greater_than_sign inside doctype (λ d e. cc)) ∙ and-false next.two)
           ∙ cond-true _ _ _ (and_from (is_doctype (item doctype).token) (not spot.leads) (ap is_doctype (token_of_item inside doctype (next.run ++ entry ∷ []))) (ap not l))))
 
       at_fault : (found : Kind) (run : Chars) → Left syntax inside (values next.run) value run → verdict syntax inside run value ≡ refused found → reads ≡ Err found
@@ -193,7 +191,7 @@ module _ (syntax : Syntax) (limits : Limits) (spot : Spot) (o : occurs syntax sp
 refused_back : (syntax : Syntax) (limits : Limits) (spot : Spot) (s : Scanning) (bytes : List ℕ) (fault : Fault) → occurs syntax spot.inside ≡ true → IsBetween s → FirstFault syntax limits spot s bytes fault → scan_from syntax limits spot s bytes ≡ Err fault
 refused_back syntax limits spot s bytes fault o b f =
     ap (λ x. scan_from syntax limits spot s x) f.are
-    ∙ (scan_append syntax limits spot (Ok (record { next = s; items = [] })) f.front (f.byte ∷ f.rest)
+    ∙ (on_append syntax limits spot (Ok (record { next = s; items = [] })) f.front (f.byte ∷ f.rest)
     ∙ (ap (λ x. scan_on syntax limits spot x (f.byte ∷ f.rest)) (spelled_back syntax limits spot s f.front f.scanned o b f.spells)
     ∙ (ap (λ x. scan_on syntax limits spot (with_items f.scanned.next f.scanned.items x) f.rest) (refused_read syntax limits spot o f.scanned.next f.byte (pending_goes syntax spot.inside (values f.scanned.next.run) f.spells.pending) f.refuses)
     ∙ (scan_fault syntax limits spot (fault_in f.scanned.next fault.kind) f.rest ∙ ap (λ x. Err x) same))))

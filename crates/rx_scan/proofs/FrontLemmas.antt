@@ -11,8 +11,7 @@ use Rattle.rx_scan.specs.Pending.{Pending}
 use Rattle.rx_scan.specs.Scanner.{Reading}
 use Rattle.rx_scan.specs.Steps.{ReadsAs}
 use Rattle.rx_scan.proofs.ByteLemmas.{match_by}
-use Rattle.rx_scan.proofs.FeedLemmas.{feed_on, feeds_steps}
-use Rattle.rx_scan.proofs.OpenLemmas.{open_on}
+use Rattle.rx_scan.proofs.FeedLemmas.{feed_on, feeds_steps, open_on}
 use Rattle.rx_scan.proofs.RunLemmas.{ReadsOn, reads_none}
 use Rattle.rx_scan.proofs.WholeTexts.{text_on, text_pending, text_between}
 

@@ -2,12 +2,6 @@ pub mod BufferLemmas
 pub mod Standing
 pub mod MarkLemmas
 pub mod GivesLemmas
-pub mod GoingLemmas
-pub mod WholeLemmas
-pub mod SayLemmas
-pub mod EndLemmas
-pub mod TagLemmas
-pub mod StopLemmas
 pub mod EntryLemmas
 pub mod ByteLemmas
 pub mod StandLemmas
@@ -15,7 +9,6 @@ pub mod RunLemmas
 pub mod QuietLemmas
 pub mod CharacterLemmas
 pub mod FeedLemmas
-pub mod OpenLemmas
 pub mod PlainLemmas
 pub mod WideLemmas
 pub mod SaidLemmas

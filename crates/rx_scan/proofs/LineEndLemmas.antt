@@ -21,13 +21,13 @@ use Rattle.rx_scan.specs.WholeReferences.{TellsLineEnd}
 use Rattle.rx_scan.proofs.CharacterLemmas.{chosen, character_read}
 use Rattle.rx_scan.proofs.RunLemmas.{ReadsOn, reads_more}
 use Rattle.rx_scan.proofs.SaidLemmas.{is_said, no_literal_at, unmarked}
-use Rattle.rx_scan.proofs.Snoc.{and_false}
+use Rattle.std.proofs.Math.Bool.{and-false}
 
 -- behind an LF that belongs to the CR before it
 said_two : (p : Position) (bracket : Bool) → bracket ≡ false → entered false (ended true bracket p) ≡ said 2 p
 said_two p bracket e =
     let at : (p.at + 1) + 1 ≡ p.at + 2 = omega arith in
-    let two : (p.last && bracket) ≡ false = ap (λ x. p.last && x) e ∙ and_false p.last in
+    let two : (p.last && bracket) ≡ false = ap (λ x. p.last && x) e ∙ and-false p.last in
     λ i. record { at = at i; starts = at i; token = p.token; started = true; after_return = false; two = two i; last = e i }
 
 module _ (l new : Reading) (front : List ℕ) (t : TellsLineEnd l front new) where
@@ -42,7 +42,7 @@ module _ (l new : Reading) (front : List ℕ) (t : TellsLineEnd l front new) whe
   move_is =
       ap (λ (x : TokenState). entries.judged l.setting l.place.two 10 (marks.move_of l.setting.syntax l.setting.inside x 10)) t.between
       ∙ (ap (entries.judged l.setting l.place.two 10) (is_said l.setting.inside 10 t.may.inside refl)
-      ∙ cond-false _ _ _ (ap (λ x. l.place.two && x) (no_literal_at 62 l.setting.inside 10 refl) ∙ and_false l.place.two))
+      ∙ cond-false _ _ _ (ap (λ x. l.place.two && x) (no_literal_at 62 l.setting.inside 10 refl) ∙ and-false l.place.two))
 
   enters : entries.Enters l 10 true (entries.move_at l 10) (Ok what.Nothing) behind_return
   enters =

@@ -19,6 +19,7 @@ use Rattle.rx_reader.proofs.ValueFaults.{snoc_front, snoc_last}
 use Rattle.rx_pages.specs.Scanner as verdicts
 use Rattle.rx_pages.specs.PageReader as reader
 use Rattle.rx_scan.specs.Steps.{mark_bytes, HasMark}
+use Rattle.rx_pages.proofs.ScanSteps.{scan_fault}
 
 -- only the mark's bytes are read as it
 pub mark_is : (bytes : List ℕ) → answer_of bytes ≡ Char byte_order_mark → bytes ≡ mark_bytes
@@ -150,12 +151,8 @@ module _ (sy : Syntax) (lim : Limits) (spot : reader.Spot) where
           (λ t. by_test (reader.is_too_long sy lim spot s.run (reader.token_at s) s.at) (λ u. no_fault _ x (sym (cond-true _ _ _ u) ∙ (sym (cond-false _ _ _ t) ∙ e)))
           (λ u. absurd (let w : true ≡ false = sym (char_starts c s x (sym (cond-false _ _ _ u) ∙ (sym (cond-false _ _ _ t) ∙ e))) ∙ n in cc)))
 
-  stays_err : (f : Fault) (bytes : List ℕ) → reader.scan_on sy lim spot (Err f) bytes ≡ Err f
-  stays_err f [] = refl
-  stays_err f (x ∷ bytes) = stays_err f bytes
-
   no_scan : {G : Type 0} (f : Fault) (bytes : List ℕ) (y : reader.Scanned) → reader.scan_on sy lim spot (Err f) bytes ≡ Ok y → G
-  no_scan f bytes y e = let w : ◌≡◌ {A = Result reader.Scanned Fault} (Err f) (Ok y) = sym (stays_err f bytes) ∙ e in absurd (cc)
+  no_scan f bytes y e = let w : ◌≡◌ {A = Result reader.Scanned Fault} (Err f) (Ok y) = sym (scan_fault sy lim spot f bytes) ∙ e in absurd (cc)
 
   same_scan : (a b : reader.Scanned) → ◌≡◌ {A = Result reader.Scanned Fault} (Ok a) (Ok b) → b ≡ a
   same_scan a b e = cc

@@ -16,8 +16,9 @@ use Rattle.rx_reader.proofs.Fronts.{equal}
 use Rattle.rx_scan.specs.declared.marks.Word.{Word}
 use Rattle.rx_scan.specs.declared.marks.Word.TheVariants as word
 use Rattle.rx_scan.specs.Marks as marks
-use Rattle.rx_scan.proofs.Snoc.{either_way, and_false}
+use Rattle.rx_scan.proofs.Snoc.{either_way}
 use Rattle.rx_scan.proofs.MarkFronts.{cancel, short, all_at}
+use Rattle.std.proofs.Math.Bool.{and-false}
 
 -- HTML alone lowers the word of a document type
 abbrev pub plain_text : Syntax → Word → Chars → Chars
@@ -65,14 +66,14 @@ head_list (d ∷ left) = d ∷ []
 pub undeclared : (i : Content) (w : Word) (first : ℕ) (rest : Chars) → marks.opening_char Html w first ∷ [] ≡ head_list (marks.opening_text Html w) → begins_word Html w (first ∷ rest) ≡ false → begins_declaration i (first ∷ rest) ≡ false
 undeclared i word.Dashes first rest e h =
     let q : first ≡ 45 = cc in
-    subst (λ (x : ℕ). begins_word Html word.Dashes (x ∷ rest) ≡ false → begins_declaration i (x ∷ rest) ≡ false) (sym q) (λ k. or_from _ _ (or_from _ _ k refl) (and_false (has_sections i))) h
+    subst (λ (x : ℕ). begins_word Html word.Dashes (x ∷ rest) ≡ false → begins_declaration i (x ∷ rest) ≡ false) (sym q) (λ k. or_from _ _ (or_from _ _ k refl) (and-false (has_sections i))) h
 undeclared i word.Section first rest e h =
     let q : first ≡ 91 = cc in
-    subst (λ (x : ℕ). begins_word Html word.Section (x ∷ rest) ≡ false → begins_declaration i (x ∷ rest) ≡ false) (sym q) (λ k. or_from _ _ refl (ap (λ b. has_sections i && b) k ∙ and_false (has_sections i))) h
+    subst (λ (x : ℕ). begins_word Html word.Section (x ∷ rest) ≡ false → begins_declaration i (x ∷ rest) ≡ false) (sym q) (λ k. or_from _ _ refl (ap (λ b. has_sections i && b) k ∙ and-false (has_sections i))) h
 undeclared i word.Doctype first rest e h =
     let q : lowered_char first ≡ 100 = cc in
     or_from _ _ (or_from _ _ (ap (λ b. b && begins_with (codes "-") rest) (lowered_other first 100 45 q refl refl)) h)
-    (ap (λ b. has_sections i && (b && begins_with (codes "CDATA[") rest)) (lowered_other first 100 91 q refl refl) ∙ and_false (has_sections i))
+    (ap (λ b. has_sections i && (b && begins_with (codes "CDATA[") rest)) (lowered_other first 100 91 q refl refl) ∙ and-false (has_sections i))
 
 -- no word has a `>`
 pub no_greater : (s : Syntax) (w : Word) → list_all (λ d. not (d == 62)) (marks.opening_text s w) ≡ true

@@ -31,9 +31,10 @@ use Rattle.rx_scan.specs.declared.marks.Move.TheVariants as move
 use Rattle.rx_scan.specs.Marks as marks
 use Rattle.rx_scan.specs.Pending.{Pending, PendsAs, InOpened, InOpening, Behind, judge_of, CommentEnds, StrictEnds, SectionEnds, DoctypeEnds}
 use Rattle.rx_scan.specs.Meant.{Means, Goes}
-use Rattle.rx_scan.proofs.Snoc.{ends_one, either_way, and_false}
+use Rattle.rx_scan.proofs.Snoc.{ends_one, either_way}
 use Rattle.rx_scan.proofs.MarkFronts.{slice_at, cancel}
 use Rattle.rx_scan.proofs.OpeningWords.{plain_is, begins_word, word_more, word_short, word_unlike, lowered_other, head_list, undeclared, next_no_greater, NoWord, no_word, begins_some, begins_none, same_char, strict_plain, first_of, word_length, exact}
+use Rattle.std.proofs.Math.Bool.{and-false}
 
 -- in markup what begins with `<!` is no tag
 pub no_tag : (s : Syntax) (i : Content) (more : Chars) → has_markup i ≡ true → is_known_tag s i (60 ∷ 33 ∷ more) ≡ false
@@ -214,7 +215,7 @@ module _ (i : Content) (p : Pending) (text : Chars) (c : ℕ) where
   strict_goes w n h q d more l =
       let t = h.first ∷ h.chars in
       let x = t ++ c ∷ [] in
-      let yet : begins_word Xhtml w x ≡ false = word_more Xhtml w t h.next h.left h.word c [] ∙ (ap (λ y. (h.next == marks.opening_char Xhtml w c) && begins_with y []) l ∙ and_false (h.next == marks.opening_char Xhtml w c)) in
+      let yet : begins_word Xhtml w x ≡ false = word_more Xhtml w t h.next h.left h.word c [] ∙ (ap (λ y. (h.next == marks.opening_char Xhtml w c) && begins_with y []) l ∙ and-false (h.next == marks.opening_char Xhtml w c)) in
       let front : marks.opening_text Xhtml w ≡ x ++ h.left = text_is w n h ∙ (ap (λ y. t ++ y ∷ h.left) (sym q ∙ same_char w c) ∙ sym (append_assoc t (c ∷ []) h.left)) in
       strict_at w n h
       ∙ (cond-false _ _ _ (ap (λ b. b && not (has_sections i)) (no_word w h.first (h.chars ++ c ∷ []) (begins_as Xhtml i p text c w n h) yet).section)
@@ -273,14 +274,14 @@ module _ (s : Syntax) (i : Content) (p : Pending) (text : Chars) (c : ℕ) (h : 
 
 pub at_opened_means : (s : Syntax) (i : Content) (p : Pending) (text : Chars) (c : ℕ) → InOpened s i p.run text → Means s i p text c (marks.at_opened s i c)
 at_opened_means Html i p text c h =
-    let v : (c == 62) ≡ false → told.verdict Html i text c ≡ told.goes_on = λ n. ap (λ x. told.verdict Html i x c) h.are ∙ (bogus_verdict i [] c h.markup (and_false (has_sections i)) ∙ ap (λ b. told.whole_if b comment) n) in
+    let v : (c == 62) ≡ false → told.verdict Html i text c ≡ told.goes_on = λ n. ap (λ x. told.verdict Html i x c) h.are ∙ (bogus_verdict i [] c h.markup (and-false (has_sections i)) ∙ ap (λ b. told.whole_if b comment) n) in
     split (λ (m : Move). Means Html i p text c m) (c == 45) _ _
     (λ k. let e : c ≡ 45 = eqb-true c 45 k in opened Html i p text c h word.Dashes 45 [] (ap (λ x. x ∷ 45 ∷ []) (sym e)) refl (v (ap (λ x. x == 62) e)))
     (λ a. split (λ (m : Move). Means Html i p text c m) (lowered_char c == 100) _ _
     (λ k. let e : lowered_char c ≡ 100 = eqb-true (lowered_char c) 100 k in opened Html i p text c h word.Doctype 111 (codes "ctype") (ap (λ x. x ∷ codes "octype") (sym e)) refl (v (either_way c 62 ∙ lowered_other c 100 62 e refl refl)))
     (λ b. split (λ (m : Move). Means Html i p text c m) (c == 91 && has_sections i) _ _
     (λ k. let q = both (c == 91) (has_sections i) k in let e : c ≡ 91 = eqb-true c 91 q.0 in opened Html i p text c h word.Section 67 (codes "DATA[") (ap (λ x. x ∷ codes "CDATA[") (sym e)) q.1 (v (ap (λ x. x == 62) e)))
-    (λ d. in_bogus_after i p [] c h.markup (and_false (has_sections i)) (λ more. undeclared_at more a b d) text h.are)))
+    (λ d. in_bogus_after i p [] c h.markup (and-false (has_sections i)) (λ more. undeclared_at more a b d) text h.are)))
   where
     swapped : (a b d : Bool) → (b && a) ≡ false → (a && (b && d)) ≡ false
     swapped true true d h = absurd (cc)
@@ -299,10 +300,10 @@ at_opened_means Xhtml i p text c h =
     (λ k. let e : c ≡ 68 = eqb-true c 68 k in opened Xhtml i p text c h word.Doctype 79 (codes "CTYPE") (ap (λ x. x ∷ codes "OCTYPE") (sym e)) refl (v ∙ ap (λ x. told.in_opening i (x ∷ [])) e))
     (λ b. split (λ (m : Move). Means Xhtml i p text c m) (c == 91 && true) _ _
     (λ k. let e : c ≡ 91 = eqb-true c 91 (both (c == 91) true k).0 in opened Xhtml i p text c h word.Section 67 (codes "DATA[") (ap (λ x. x ∷ codes "CDATA[") (sym e)) refl (v ∙ ap (λ x. told.in_opening i (x ∷ [])) e))
-    (λ d. v ∙ (cond-false _ _ _ (ap (λ t. (t && false) && not (has_sections i)) (either_way 91 c) ∙ ap (λ t. t && not (has_sections i)) (and_false (c == 91))) ∙ cond-false _ _ _ (none a b d)))))
+    (λ d. v ∙ (cond-false _ _ _ (ap (λ t. (t && false) && not (has_sections i)) (either_way 91 c) ∙ ap (λ t. t && not (has_sections i)) (and-false (c == 91))) ∙ cond-false _ _ _ (none a b d)))))
   where
     none : (c == 45) ≡ false → (c == 68) ≡ false → (c == 91 && true) ≡ false → meets_opening (33 ∷ c ∷ []) ≡ false
     none a b d =
         or_from _ _ (or_from _ _ (ap (λ t. t && true) a) (ap (λ t. t && false) (either_way 45 c ∙ a)))
-        (or_from _ _ (or_from _ _ d (ap (λ t. t && false) (either_way 91 c) ∙ and_false (c == 91)))
+        (or_from _ _ (or_from _ _ d (ap (λ t. t && false) (either_way 91 c) ∙ and-false (c == 91)))
         (or_from _ _ (or_from _ _ (ap (λ t. t && true) b) (ap (λ t. t && false) (either_way 68 c ∙ b))) refl))

@@ -38,7 +38,7 @@ use Rattle.rx_scan.specs.Marks as marks
 use Rattle.rx_scan.specs.Pending.{Pending, first_char, InRawEnd, end_phase}
 use Rattle.rx_scan.specs.Meant.{Means}
 use Rattle.rx_scan.proofs.MarkFronts.{head_of, slice_at, cancel, all_at}
-use Rattle.rx_scan.proofs.Snoc.{and_false}
+use Rattle.std.proofs.Math.Bool.{and-false}
 
 -- a letter begins a tag's name, and stands in one
 letter_start : (c : ℕ) → is_letter c ≡ true → is_nc_start c ≡ true
@@ -247,7 +247,7 @@ module _ (s : Syntax) (i : Content) (p : Pending) (text : Chars) (c : ℕ) (n : 
       no_stop : (begins_end h.name p.run && stops_end h.name p.run c) ≡ false
       no_stop =
           ap (λ b. begins_end h.name p.run && (not (begins_end h.name (p.run ++ c ∷ [])) && not b)) (and_from (same (lowered p.run) (solidus ∷ h.name)) (ends_name c) (ap (same (lowered p.run)) word_whole ∙ same_self (lowered p.run)) q)
-          ∙ (ap (λ b. begins_end h.name p.run && b) (and_false (not (begins_end h.name (p.run ++ c ∷ [])))) ∙ and_false (begins_end h.name p.run))
+          ∙ (ap (λ b. begins_end h.name p.run && b) (and-false (not (begins_end h.name (p.run ++ c ∷ [])))) ∙ and-false (begins_end h.name p.run))
 
       size : length h.name + 1 ≡ length p.run
       size = add-one (length h.name) ∙ (ap length word_whole ∙ length-map p.run lowered_char)
@@ -270,7 +270,7 @@ module _ (s : Syntax) (i : Content) (p : Pending) (text : Chars) (c : ℕ) (n : 
           let a : begins_end h.name (p.run ++ c ∷ []) ≡ false = front_with (c ∷ []) ∙ ap (begins_with (lowered_char c ∷ [])) l in
           split (λ (k : Move). Means s i p text c k) (ends_name c) _ _
           (λ k. tags l k)
-          (λ k. stopped a (ap (λ b. same (lowered p.run) (solidus ∷ h.name) && b) k ∙ and_false (same (lowered p.run) (solidus ∷ h.name))))
+          (λ k. stopped a (ap (λ b. same (lowered p.run) (solidus ∷ h.name) && b) k ∙ and-false (same (lowered p.run) (solidus ∷ h.name))))
       by (d ∷ left) l =
           let w : solidus ∷ h.name ≡ map lowered_char p.run ++ d ∷ left = word_is ∙ ap (λ x. map lowered_char p.run ++ x) l in
           split (λ (k : Move). Means s i p text c k) (lowered_char c == d) _ _

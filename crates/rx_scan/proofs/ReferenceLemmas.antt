@@ -39,7 +39,7 @@ use Rattle.rx_scan.specs.WholeReferences.{IsReference, TellsReference}
 use Rattle.rx_scan.proofs.CharacterLemmas.{other_read}
 use Rattle.rx_scan.proofs.References.{no_closes, no_stops, run_is, run_ascii}
 use Rattle.rx_scan.proofs.RunLemmas.{ReadsOn, reads_more}
-use Rattle.rx_scan.proofs.Snoc.{and_false}
+use Rattle.std.proofs.Math.Bool.{and-false}
 
 -- Outside tags and between characters, this byte is a character that enters.
 record IsAlone (v : Reading) (b : ℕ) : Type 0 where
@@ -219,7 +219,7 @@ module _ (old : Reading) (s : reader.Scanning) where
           held = h.held;
           started = h.started;
           after_return = h.after_return;
-          two = sym (and_false l.place.last) ∙ h.two;
+          two = sym (and-false l.place.last) ∙ h.two;
           last = h.last;
           token = ap (λ (x : TokenState). entries.token_from x (said m l.place)) b ∙ (at ∙ h.token);
           syntax = h.syntax;

@@ -20,6 +20,7 @@ use Rattle.rx_scan.specs.Steps.{ReadsAs, joined, texts_of, keeps_first, after_so
 use Rattle.rx_scan.proofs.GivesLemmas.{GivesOk, IsTold}
 use Rattle.rx_scan.proofs.MarkLemmas.{Earlier, none_marked, mark_snoc, mark_none, all_held, before_mark}
 use Rattle.rx_scan.proofs.ByteLemmas.{PassesMark, reads, reads_nothing, reads_fault, mark_skips}
+use Rattle.rx_pages.proofs.ScanSteps.{scan_fault}
 
 -- while text is told, no token is begun, and what might be skipped is over
 pub record IsApart (v : Reading) : Type 0 where
@@ -48,10 +49,6 @@ module _ (sy : Syntax) (lim : Limits) (spot : reader.Spot) where
   pub on_append : (r : Result reader.Scanned Fault) (a b : List ℕ) → reader.scan_on sy lim spot r (a ++ b) ≡ reader.scan_on sy lim spot (reader.scan_on sy lim spot r a) b
   on_append r [] b = refl
   on_append r (x ∷ a) b = on_append (reader.scan_byte_on sy lim spot r x) a b
-
-  pub on_err : (f : Fault) (a : List ℕ) → reader.scan_on sy lim spot (Err f) a ≡ Err f
-  on_err f [] = refl
-  on_err f (x ∷ a) = on_err f a
 
 joined_assoc : (a b c : Option Chars) → joined (joined a b) c ≡ joined a (joined b c)
 joined_assoc (Some a) (Some b) (Some c) = ap Some (append_assoc a b c)
@@ -278,5 +275,5 @@ module _ (old l new : Reading) (s : reader.Scanning) (piece : List ℕ) (i : ℕ
         first = ap (reader.scan_from old.setting.syntax old.setting.limits (spot_of old) s) (sym (take-append-drop (i + 1) piece) ∙ ap (λ x. x ++ drop (i + 1) piece) taken)
             ∙ (on_append old.setting.syntax old.setting.limits (spot_of old) (Ok (record { next = s; items = [] })) (take i piece ++ byte ∷ []) (drop (i + 1) piece)
             ∙ (ap (λ x. reader.scan_on old.setting.syntax old.setting.limits (spot_of old) x (drop (i + 1) piece)) (byte_on old l s (take i piece) r byte ∙ (ap (reader.with_items r.scanned.next r.scanned.items) g.is ∙ ap Err (sym g.fault_is)))
-            ∙ on_err old.setting.syntax old.setting.limits (spot_of old) fault (drop (i + 1) piece)));
+            ∙ scan_fault old.setting.syntax old.setting.limits (spot_of old) fault (drop (i + 1) piece)));
       }

@@ -25,7 +25,7 @@ use Rattle.rx_scan.specs.declared.marks.Move.TheVariants as move
 use Rattle.rx_scan.specs.KnownTags as known_tags
 use Rattle.rx_scan.specs.Marks as marks
 use Rattle.rx_scan.specs.Pending.{Pending}
-use Rattle.rx_scan.proofs.Snoc.{and_false, either_way}
+use Rattle.rx_scan.proofs.Snoc.{either_way}
 use Rattle.rx_pages.specs.PageReader as reader
 use Rattle.rx_scan.specs.declared.answers.TokenKind.TheVariants as what
 use Rattle.rx_scan.specs.declared.places.Position.{Position}
@@ -37,6 +37,7 @@ use Rattle.rx_scan.specs.Scanner.{Reading}
 use Rattle.rx_scan.proofs.CharacterLemmas.{chosen, other_read}
 use Rattle.rx_scan.proofs.PlainLemmas.{is_none}
 use Rattle.rx_scan.proofs.RunLemmas.{ReadsOn, reads_more}
+use Rattle.std.proofs.Math.Bool.{and-false}
 
 -- in a content that has text a plain character is text
 pub is_said : (i : Content) (c : ℕ) → has_text i ≡ true → is_plain c ≡ true → marks.of_first (marks.at_first i c) ≡ move.EmitText
@@ -63,7 +64,7 @@ no_literal_at d (content.Rcdata name) c h = refl
 said_one : (p : Position) (bracket : Bool) → bracket ≡ false → said 1 p ≡ ended false bracket p
 said_one p bracket e =
     let last : false ≡ bracket = sym e in
-    let two : false ≡ (p.last && bracket) = sym (ap (λ x. p.last && x) e ∙ and_false p.last) in
+    let two : false ≡ (p.last && bracket) = sym (ap (λ x. p.last && x) e ∙ and-false p.last) in
     λ i. record { at = p.at + 1; starts = p.at + 1; token = p.token; started = true; after_return = false; two = two i; last = last i }
 
 pub unmarked : (p : Pending) → p.mark ≡ mark.Nothing → p ≡ entries.marked mark.Nothing p
@@ -104,7 +105,7 @@ module _ (l new : Reading) (held : List ℕ) (b c : ℕ) (t : Leads l held (b �
   move_is =
       ap (λ (x : TokenState). entries.judged l.setting l.place.two c (marks.move_of l.setting.syntax l.setting.inside x c)) t.between
       ∙ (ap (entries.judged l.setting l.place.two c) (is_said l.setting.inside c t.inside t.plain)
-      ∙ cond-false _ _ _ (ap (λ x. l.place.two && x) (no_literal_at 62 l.setting.inside c (either_way 62 c ∙ is_none c 62 t.plain refl)) ∙ and_false l.place.two))
+      ∙ cond-false _ _ _ (ap (λ x. l.place.two && x) (no_literal_at 62 l.setting.inside c (either_way 62 c ∙ is_none c 62 t.plain refl)) ∙ and-false l.place.two))
 
   says : entries.Enters l c false (entries.move_at l c) (Ok what.Nothing) new
   says =

@@ -31,7 +31,7 @@ use Rattle.rx_scan.proofs.Openings.{in_word_means, at_opened_means, no_tag}
 use Rattle.rx_scan.proofs.Markup.{at_nothing_means, at_less_than_means, in_tag_means}
 use Rattle.rx_scan.proofs.References.{in_run_means}
 use Rattle.rx_scan.proofs.RawEnds.{in_end_means, raw_content, same_self}
-use Rattle.rx_scan.proofs.Snoc.{and_false}
+use Rattle.std.proofs.Math.Bool.{and-false}
 
 module _ (s : Syntax) (i : Content) (p : Pending) (text : Chars) (c : ℕ) where
   at_mark : (m : TokenState) → p.mark ≡ m → PendsAs s i m p.run p.tag text → Means s i p text c (marks.move_of s i m c)
@@ -82,11 +82,11 @@ none_after s (content.Rcdata r) = by r
     by Textarea = refl
 
 first_no_tag : (s : Syntax) (i : Content) (c : ℕ) → is_known_tag s i (c ∷ []) ≡ false
-first_no_tag s i c = ap (λ b. c == 60 && b) (none_after s i) ∙ and_false (c == 60)
+first_no_tag s i c = ap (λ b. c == 60 && b) (none_after s i) ∙ and-false (c == 60)
 
 -- a front of the end tag's name, and what isn't longer than the name
 short_end : (name x : Chars) → length x ≤ length name + 1 → is_known_end name x ≡ false
-short_end name x h = ap (λ z. same (lowered (take (length name + 1) x)) (solidus ∷ name) && begins ends_name z) (drop-past (length name + 1) x h) ∙ and_false (same (lowered (take (length name + 1) x)) (solidus ∷ name))
+short_end name x h = ap (λ z. same (lowered (take (length name + 1) x)) (solidus ∷ name) && begins ends_name z) (drop-past (length name + 1) x h) ∙ and-false (same (lowered (take (length name + 1) x)) (solidus ∷ name))
   where
     drop-past : (n : ℕ) (x : Chars) → length x ≤ n → drop n x ≡ []
     drop-past n x h = grind (arith, common_steps)

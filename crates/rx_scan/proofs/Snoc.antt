@@ -5,53 +5,26 @@ use Rattle.rx_terms.specs.Text.{Chars, is_empty}
 use Rattle.rx_grammar.specs.Names.{same}
 use Rattle.rx_grammar.specs.Spelling.{ends_with}
 use Rattle.rx_terms.proofs.Bools.{by_test}
-
-pub and_false : (b : Bool) → (b && false) ≡ false
-and_false true = refl
-and_false false = refl
-
-pub and_true : (b : Bool) → (b && true) ≡ b
-and_true true = refl
-and_true false = refl
-
-and_assoc : (a b c : Bool) → (a && (b && c)) ≡ ((a && b) && c)
-and_assoc true b c = refl
-and_assoc false b c = refl
-
-or_false : (b : Bool) → (b || false) ≡ b
-or_false true = refl
-or_false false = refl
+use Rattle.std.proofs.Math.Bool.{and-false, and-true, and_assoc, and_comm, or-false}
 
 -- same d for both
 either_and : (a b d : Bool) → ((a && d) || (d && b)) ≡ (d && (a || b))
-either_and true true true = refl
-either_and true true false = refl
-either_and true false true = refl
-either_and true false false = refl
-either_and false true true = refl
-either_and false true false = refl
-either_and false false true = refl
-either_and false false false = refl
-
-swap : (a b : Bool) → (a && b) ≡ (b && a)
-swap true true = refl
-swap true false = refl
-swap false true = refl
-swap false false = refl
+either_and true b true = refl
+either_and _ _ _ = refl
 
 no_more : (e : Chars) (d : ℕ) → same (e ++ d ∷ []) [] ≡ false
 no_more [] d = refl
 no_more (x ∷ e) d = refl
 
 pub same_snoc : (e : Chars) (d : ℕ) (text : Chars) (c : ℕ) → same (e ++ d ∷ []) (text ++ c ∷ []) ≡ (same e text && (d == c))
-same_snoc [] d [] c = and_true (d == c)
-same_snoc [] d (t ∷ []) c = and_false (d == t)
-same_snoc [] d (t ∷ u ∷ text) c = and_false (d == t)
-same_snoc (x ∷ e) d [] c = ap (λ b. (x == c) && b) (no_more e d) ∙ and_false (x == c)
-same_snoc (x ∷ e) d (t ∷ text) c = ap (λ b. (x == t) && b) (same_snoc e d text c) ∙ and_assoc (x == t) (same e text) (d == c)
+same_snoc [] d [] c = and-true (d == c)
+same_snoc [] d (t ∷ []) c = and-false (d == t)
+same_snoc [] d (t ∷ u ∷ text) c = and-false (d == t)
+same_snoc (x ∷ e) d [] c = ap (λ b. (x == c) && b) (no_more e d) ∙ and-false (x == c)
+same_snoc (x ∷ e) d (t ∷ text) c = ap (λ b. (x == t) && b) (same_snoc e d text c) ∙ sym (and_assoc (x == t) (same e text) (d == c))
 
 pub ends_snoc : (e : Chars) (d : ℕ) (text : Chars) (c : ℕ) → ends_with (e ++ d ∷ []) (text ++ c ∷ []) ≡ ((d == c) && ends_with e text)
-ends_snoc e d [] c = ap (λ b. b || same (e ++ d ∷ []) []) (same_snoc e d [] c) ∙ (ap (λ b. (same e [] && (d == c)) || b) (no_more e d) ∙ (or_false (same e [] && (d == c)) ∙ swap (same e []) (d == c)))
+ends_snoc e d [] c = ap (λ b. b || same (e ++ d ∷ []) []) (same_snoc e d [] c) ∙ (ap (λ b. (same e [] && (d == c)) || b) (no_more e d) ∙ (or-false (same e [] && (d == c)) ∙ and_comm (same e []) (d == c)))
 ends_snoc e d (t ∷ text) c =
     ap (λ b. b || ends_with (e ++ d ∷ []) (text ++ c ∷ [])) (same_snoc e d (t ∷ text) c) ∙ (ap (λ b. (same e (t ∷ text) && (d == c)) || b) (ends_snoc e d text c) ∙ either_and (same e (t ∷ text)) (ends_with e text) (d == c))
 
@@ -64,12 +37,12 @@ none [] = refl
 none (t ∷ text) = refl
 
 pub snoc_same : (e : Chars) (d : ℕ) (text : Chars) (c : ℕ) → same (text ++ c ∷ []) (e ++ d ∷ []) ≡ (same text e && (c == d))
-snoc_same [] d [] c = and_true (c == d)
-snoc_same [] d (t ∷ []) c = and_false (t == d)
-snoc_same [] d (t ∷ u ∷ text) c = and_false (t == d)
-snoc_same (x ∷ []) d [] c = and_false (c == x)
-snoc_same (x ∷ y ∷ e) d [] c = and_false (c == x)
-snoc_same (x ∷ e) d (t ∷ text) c = ap (λ b. (t == x) && b) (snoc_same e d text c) ∙ and_assoc (t == x) (same text e) (c == d)
+snoc_same [] d [] c = and-true (c == d)
+snoc_same [] d (t ∷ []) c = and-false (t == d)
+snoc_same [] d (t ∷ u ∷ text) c = and-false (t == d)
+snoc_same (x ∷ []) d [] c = and-false (c == x)
+snoc_same (x ∷ y ∷ e) d [] c = and-false (c == x)
+snoc_same (x ∷ e) d (t ∷ text) c = ap (λ b. (t == x) && b) (snoc_same e d text c) ∙ sym (and_assoc (t == x) (same text e) (c == d))
 
 -- a text of one character
 pub lone_snoc : (d : ℕ) (text : Chars) (c : ℕ) → same (text ++ c ∷ []) (d ∷ []) ≡ (is_empty text && (c == d))
@@ -83,7 +56,7 @@ either_way a b =
 
 -- the text ends with its last character
 pub ends_one : (d : ℕ) (text : Chars) (c : ℕ) → ends_with (d ∷ []) (text ++ c ∷ []) ≡ (d == c)
-ends_one d text c = ends_snoc [] d text c ∙ (ap (λ b. (d == c) && b) (always text) ∙ and_true (d == c))
+ends_one d text c = ends_snoc [] d text c ∙ (ap (λ b. (d == c) && b) (always text) ∙ and-true (d == c))
   where
     always : (text : Chars) → ends_with [] text ≡ true
     always [] = refl

@@ -20,6 +20,10 @@ use Rattle.rx_scan.specs.Pending.{Pending, PendsAs}
 use Rattle.rx_scan.specs.Scanner.{Reading}
 use Rattle.rx_scan.specs.Entries.{token_from, with_parts}
 use Rattle.rx_scan.specs.Steps.{ReadsAs}
+use Rattle.rx_pages.proofs.LastToken.{token_of_item}
+use Rattle.rx_pages.proofs.FaultsRead.{item_content}
+use Rattle.rx_pages.proofs.ByteFacts.{item_first, item_last}
+use Rattle.rx_pages.proofs.Tokens.{values_append}
 
 -- characters are pending, so the mark isn't `Nothing`
 pub some_mark : (s : Syntax) (i : Content) (m : TokenState) (run : Chars) (t : TagSoFar) (text : Chars) (x : ℕ) (more : Chars) (place : Position) → PendsAs s i m run t text → text ≡ x ∷ more → token_from m place ≡ place.token
@@ -36,9 +40,6 @@ some_mark s i mark.Bogus run t text x more place h e = refl
 some_mark s i (mark.Instruction asked) run t text x more place h e = refl
 some_mark s i (mark.Doctype p) run t text x more place h e = refl
 some_mark s i (mark.Section b) run t text x more place h e = refl
-
-pub values_snoc : (run : List Entry) (entry : Entry) → values (run ++ entry ∷ []) ≡ values run ++ entry.value ∷ []
-values_snoc run entry = map-append (λ (e : Entry). e.value) run (entry ∷ [])
 
 pub no_values : (run : List Entry) → values run ≡ [] → run ≡ []
 no_values [] e = refl
@@ -71,7 +72,7 @@ module _ (v : Reading) (s : Scanning) (h : ReadsAs v s) (after_return : Bool) wh
         token = some_mark v.setting.syntax v.setting.inside p.mark p.run p.tag (text ++ entry.value ∷ []) x (more ++ entry.value ∷ []) (entered after_return v.place) k (snoc_some text entry.value x more e)
             ∙ (sym o ∙ (h.token ∙ sym (first_stays s.run entry x more ((s.at + 1) - 0) (starts_at s) (sym t ∙ e))));
         syntax = y;
-        pends = subst (λ (z : Chars). PendsAs v.setting.syntax v.setting.inside p.mark p.run p.tag z) (ap (λ z. z ++ entry.value ∷ []) t ∙ sym (values_snoc s.run entry)) k;
+        pends = subst (λ (z : Chars). PendsAs v.setting.syntax v.setting.inside p.mark p.run p.tag z) (ap (λ z. z ++ entry.value ∷ []) t ∙ sym (values_append s.run (entry ∷ []))) k;
       }
 
   -- a token begins
@@ -118,13 +119,8 @@ pub record IsItem (i : Content) (token : Token) (first last : ℕ) (item : Item)
   pub first_is : item.first ≡ first
   pub last_is : item.last ≡ last
 
-last_snoc : (last : ℕ) (run : List Entry) (entry : Entry) → last_from last (run ++ entry ∷ []) ≡ entry.last
-last_snoc last [] entry = refl
-last_snoc last (x ∷ run) entry = last_snoc x.last run entry
-
 pub item_snoc : (i : Content) (token : Token) (run : List Entry) (entry : Entry) → IsItem i token (first_of run entry.first) entry.last (item_of i token (run ++ entry ∷ []))
-item_snoc i token [] entry = record { token_is = refl; content_is = refl; first_is = refl; last_is = refl }
-item_snoc i token (x ∷ run) entry = record { token_is = refl; content_is = refl; first_is = refl; last_is = last_snoc x.last run entry }
+item_snoc i token run entry = record { token_is = token_of_item i token (run ++ entry ∷ []); content_is = item_content i token run entry; first_is = item_first i token run entry; last_is = item_last i token run entry }
 
 -- what is no literal character
 abbrev pub is_character : Token → Bool

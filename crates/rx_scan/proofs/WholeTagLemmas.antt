@@ -39,9 +39,9 @@ use Rattle.rx_scan.specs.WholeTags.{ReadsOpened, ReadsWholeTag}
 use Rattle.rx_scan.proofs.CharacterLemmas.{character_read, within_limit}
 use Rattle.rx_scan.proofs.FrontLemmas.{front_read}
 use Rattle.rx_scan.proofs.LoopLemmas.{next_read, token_read}
-use Rattle.rx_scan.proofs.OpenLemmas.{opens_taken}
+use Rattle.rx_scan.proofs.FeedLemmas.{opens_taken}
 use Rattle.rx_scan.proofs.RunLemmas.{ReadsOn, reads_none}
-use Rattle.rx_scan.proofs.Snoc.{and_false}
+use Rattle.std.proofs.Math.Bool.{and-false}
 
 -- the `>` that ends a tag is read as its last byte
 module _ (l new : Reading) (m : l.pending.mark ≡ mark.Tag) (held : l.held ≡ []) (page : l.place.at < l.setting.limits.page) (tag : l.place.at < l.place.token + l.setting.limits.tag)
@@ -58,7 +58,7 @@ module _ (l new : Reading) (m : l.pending.mark ≡ mark.Tag) (held : l.held ≡ 
   pub ends_read : entries.Reads l 62 (Ok what.Tag) new
   ends_read =
       character_read l new [] 62 62 (Ok what.Tag) held (first_whole 62 (omega arith)) page refl (not_long (known_tags.is_tag l.pending.mark))
-      (not_long (known_tags.is_tag_with l.setting.syntax l.setting.inside l.pending.mark (as_line_end 62))) (or_from _ _ (and_false (not l.place.started)) (and_false l.place.after_return)) enters
+      (not_long (known_tags.is_tag_with l.setting.syntax l.setting.inside l.pending.mark (as_line_end 62))) (or_from _ _ (and-false (not l.place.started)) (and-false l.place.after_return)) enters
 
 pub none_held : (held : List ℕ) → is_none_held held ≡ true → held ≡ []
 none_held [] h = refl
@@ -180,7 +180,7 @@ module _ (l : Reading) (m : l.pending.mark ≡ mark.Nothing) (held : l.held ≡ 
   pub less_than_read : entries.Reads l 60 (Ok what.Nothing) begun
   less_than_read =
       character_read l begun [] 60 60 (Ok what.Nothing) held (first_whole 60 (omega arith)) page refl (ap (λ (x : TokenState). entries.is_long l (known_tags.is_tag x)) m)
-      (ap (λ (x : TokenState). entries.is_long l (known_tags.is_tag_with l.setting.syntax l.setting.inside x (as_line_end 60))) m) (or_from _ _ (and_false (not l.place.started)) (and_false l.place.after_return)) enters_begun
+      (ap (λ (x : TokenState). entries.is_long l (known_tags.is_tag_with l.setting.syntax l.setting.inside x (as_line_end 60))) m) (or_from _ _ (and-false (not l.place.started)) (and-false l.place.after_return)) enters_begun
 
   -- and what stands whole behind it is the tag
   pub whole_taken : (bytes : List ℕ) (limit count : ℕ) → slice_get bytes 0 ≡ Some 60 → (limit ≡ 0 → ⊥) → limit ≤ length bytes → l.place.at + limit ≤ l.setting.limits.page → limit ≤ l.setting.limits.tag
