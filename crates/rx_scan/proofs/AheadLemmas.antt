@@ -61,12 +61,7 @@ sec_first false x h = (refl, h)
 
 not_late : (leads : Bool) (token : Token) → MayCome leads token → (is_doctype token && not leads) ≡ false
 not_late leads doctype m = ap not m
-not_late leads (tag t) m = refl
-not_late leads (character x) m = refl
-not_late leads (reference x) m = refl
-not_late leads (kept x) m = refl
-not_late leads (section x) m = refl
-not_late leads comment m = refl
+not_late leads _ m = refl
 
 next_same : (rest run : List Entry) (next : Option ℕ) → next ≡ next_of (values run) None → next_of (values rest) next ≡ next_of (values (rest ++ run)) None
 next_same [] run next h = h
@@ -263,9 +258,8 @@ module _ (syntax : Syntax) (limits : Limits) (spot : Spot) (o : occurs syntax sp
 
   told_is : (s : Scanning) (b : Bool) (e : Entry) (v : Verdict) → ((token : Token) → v ≡ ended token → ⊥) → told syntax limits spot b e s v ≡ told_first syntax limits spot b e s v
   told_is s b e goes_on n = refl
-  told_is s b e (whole token) n = refl
   told_is s b e (ended token) n = absurd (n token refl)
-  told_is s b e (refused kind) n = refl
+  told_is s b e _ n = refl
 
   -- an entry, with the token that it may tell to stand before it
   pub reads_entry : (s : Scanning) (b : Bool) (e : Entry) (es : List Entry) (items : List Item) → Tail s.run (e ∷ es) s.two s.last items → Reads s b es items (told syntax limits spot b e s (verdict syntax inside (values s.run) e.value))
@@ -298,8 +292,7 @@ module _ (syntax : Syntax) (limits : Limits) (spot : Spot) (o : occurs syntax sp
 
     no_tag : (v : Verdict) (token : Token) → TagVerdict v → v ≡ ended token → ⊥
     no_tag _ token on h = cc
-    no_tag _ token (a_tag t) h = cc
-    no_tag _ token (a_fault kind) h = cc
+    no_tag _ token _ h = cc
 
     known_fits : (text : Chars) (next : Option ℕ) (item : Item) → ReadAs syntax inside text next item.token → is_known_tag syntax inside text ≡ true → Fits limits.tag item item.token → item.last + 1 ≤ item.first + limits.tag
     known_fits text next item read k f = by text next item.token read refl k

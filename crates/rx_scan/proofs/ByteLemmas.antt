@@ -58,12 +58,7 @@ nothing_or s i mark.Tag run t text h = inr (record { first = 60; more = h.chars;
 nothing_or s i (mark.Run p) run t text h = inr (record { first = 38; more = run; is = h.are })
 nothing_or s i mark.Opened run t text h = inr (record { first = 60; more = 33 ∷ []; is = h.are })
 nothing_or s i (mark.Opening w n) run t text h = inr (record { first = 60; more = 33 ∷ h.first ∷ h.chars; is = h.are })
-nothing_or s i (mark.Comment p) run t text h = inr (record { first = 60; more = h.front ++ h.rest; is = h.are })
-nothing_or s i (mark.StrictComment p) run t text h = inr (record { first = 60; more = h.front ++ h.rest; is = h.are })
-nothing_or s i mark.Bogus run t text h = inr (record { first = 60; more = h.front ++ h.rest; is = h.are })
-nothing_or s i (mark.Instruction asked) run t text h = inr (record { first = 60; more = h.front ++ h.rest; is = h.are })
-nothing_or s i (mark.Doctype p) run t text h = inr (record { first = 60; more = h.front ++ h.rest; is = h.are })
-nothing_or s i (mark.Section b) run t text h = inr (record { first = 60; more = h.front ++ h.rest; is = h.are })
+nothing_or s i _ run t text h = inr (record { first = 60; more = h.front ++ h.rest; is = h.are })
 
 first_same : (run : List Entry) (x : ℕ) (more : Chars) (a b : ℕ) → values run ≡ x ∷ more → reader.first_of run a ≡ reader.first_of run b
 first_same [] x more a b e = absurd (cc)

@@ -185,12 +185,9 @@ module _ (v : Reading) (s : reader.Scanning) (h : ReadsAs v s) (ar : Bool) (c : 
         told = ((λ o bytes. a_line_feed (item t) q.0 refl (ap is_line_feed i.token_is ∙ (l ∙ q.1))), refl);
         setting = refl;
       })
-  gives_said t d bracket (Ok what.Text) new g x l e k = absurd k
-  gives_said t d bracket (Ok what.Section) new g x l e k = absurd k
-  gives_said t d bracket (Ok what.Doctype) new g x l e k = absurd k
-  gives_said t d bracket (Ok what.Tag) new g x l e k = absurd k
   gives_said t d bracket (Err (stop.Fault f)) new g x l e k = absurd k
   gives_said t d bracket (Err stop.NoMemory) new g x l e k = tt
+  gives_said t d bracket _ new g x l e k = absurd k
 
   -- a literal character
   gives_says : (result : Result TokenKind Stop) (new : Reading) → text ≡ [] → verdict ≡ verdicts.whole (character c) → entries.Enters v c ar (entries.judged v.setting v.place.two c move.EmitText) result new → Gives (read verdict) s v result new

@@ -21,10 +21,9 @@ some_count n z = elim (cases_lt 0 n) [ inl a ↦ a | inr b ↦ absurd (z (omega 
 module _ (old new : Reading) (s : reader.Scanning) where
   some_front : (front : List ℕ) (l : Reading) (bytes : List ℕ) → 0 < length front → ReadsOn old s bytes l → TakesFront l front new → ReadsOn old s (bytes ++ front) new
   some_front front l bytes k r (of_text t) = text_on old s l bytes r front new t
-  some_front [] l bytes k r (of_tag t) = absurd (omega arith)
   some_front (b ∷ front) l bytes k r (of_tag t) = feed_on old new s b front l bytes r t
-  some_front [] l bytes k r (of_opening t) = absurd (omega arith)
   some_front (b ∷ front) l bytes k r (of_opening t) = open_on old new s b front l bytes r t
+  some_front [] l bytes k r _ = absurd (omega arith)
 
   -- what is taken at once behind so many bytes of a piece
   pub front_read : (l : Reading) (piece : List ℕ) (i n : ℕ) → n ≤ length (drop i piece) → ReadsOn old s (take i piece) l → MatchBool (n == 0) (new ≡ l) (TakesFront l (take n (drop i piece)) new) → ReadsOn old s (take (i + n) piece) new

@@ -40,26 +40,17 @@ rest_took old l s piece n i answer c e r t f g = subst (λ (z : ℕ). Took old s
     by : (answer : TokenKind) → is_token answer ≡ false → (answer ≡ what.Text → l.text.text ≢ []) → (answer ≡ what.Nothing → l.text.text ≡ []) → Took old s piece i answer l
     by what.Nothing t f g = took_all old l s piece i e r (g refl)
     by what.Text t f g = took_text old l s piece i (omega arith) (text_later old l s piece i r (f refl)) r (f refl)
-    by what.Skipped t f g = absurd (cc)
-    by what.Section t f g = absurd (cc)
-    by what.Doctype t f g = absurd (cc)
-    by what.Tag t f g = absurd (cc)
+    by _ t f g = absurd (cc)
 
 pub lends : (answer : TokenKind) (v : Reading) → is_token answer ≡ false → MayStep v.pending.tag → MayLend answer v
 lends what.Nothing v t m = m
 lends what.Text v t m = m
-lends what.Skipped v t m = absurd (cc)
-lends what.Section v t m = absurd (cc)
-lends what.Doctype v t m = absurd (cc)
-lends what.Tag v t m = absurd (cc)
+lends _ v t m = absurd (cc)
 
 pub may_step : (answer : TokenKind) (v : Reading) → is_token answer ≡ false → entries.MayGoOn (Ok answer) v → MayStep v.pending.tag
 may_step what.Nothing v t m = m
 may_step what.Text v t m = m
-may_step what.Skipped v t m = absurd (cc)
-may_step what.Section v t m = absurd (cc)
-may_step what.Doctype v t m = absurd (cc)
-may_step what.Tag v t m = absurd (cc)
+may_step _ v t m = absurd (cc)
 
 module _ (old l new : Reading) (s : reader.Scanning) (piece : List ℕ) (i : ℕ) (k : i < length piece) (r : ReadsOn old s (take i piece) l) where
   abbrev byte : ℕ
@@ -68,10 +59,7 @@ module _ (old l new : Reading) (s : reader.Scanning) (piece : List ℕ) (i : ℕ
   pub next_read : (answer : TokenKind) → is_token answer ≡ false → entries.Reads l byte (Ok answer) new → ReadsOn old s (take (i + 1) piece) new
   next_read what.Nothing t e = more_read old l new s piece i k r e
   next_read what.Text t e = absurd (reads_no_text l r.scanned.next r.reads_as byte new e)
-  next_read what.Skipped t e = absurd (cc)
-  next_read what.Section t e = absurd (cc)
-  next_read what.Doctype t e = absurd (cc)
-  next_read what.Tag t e = absurd (cc)
+  next_read _ t e = absurd (cc)
 
   pub token_read : (answer : TokenKind) → is_token answer ≡ true → (l.text.text ≡ []) ⊎ (l.pending.mark ≡ mark.Nothing) → entries.Reads l byte (Ok answer) new → Took old s piece (i + 1) answer new
   token_read answer t o e = by l.text.text refl

@@ -30,12 +30,8 @@ map_same [] = refl
 map_same (c ∷ text) = ap (λ x. c ∷ x) (map_same text)
 
 pub plain_is : (s : Syntax) (w : Word) (text : Chars) → map (marks.opening_char s w) text ≡ plain_text s w text
-plain_is Html word.Dashes text = map_same text
-plain_is Xhtml word.Dashes text = map_same text
 plain_is Html word.Doctype text = refl
-plain_is Xhtml word.Doctype text = map_same text
-plain_is Html word.Section text = map_same text
-plain_is Xhtml word.Section text = map_same text
+plain_is _ _ text = map_same text
 
 abbrev pub begins_word : Syntax → Word → Chars → Bool
 begins_word s w text = begins_with (marks.opening_text s w) (plain_text s w text)
@@ -79,10 +75,7 @@ undeclared i word.Doctype first rest e h =
 pub no_greater : (s : Syntax) (w : Word) → list_all (λ d. not (d == 62)) (marks.opening_text s w) ≡ true
 no_greater Html word.Dashes = refl
 no_greater Xhtml word.Dashes = refl
-no_greater Html word.Doctype = refl
-no_greater Xhtml word.Doctype = refl
-no_greater Html word.Section = refl
-no_greater Xhtml word.Section = refl
+no_greater _ _ = refl
 
 -- the next character of a word is no `>`
 pub next_no_greater : (s : Syntax) (w : Word) (t : Chars) (next : ℕ) (left : Chars) (c : ℕ) → marks.opening_text s w ≡ map (marks.opening_char s w) t ++ next ∷ left → marks.opening_char s w c ≡ next → (c == 62) ≡ false
@@ -95,11 +88,7 @@ next_no_greater s w t next left c e q =
   where
     greater_same : (s : Syntax) (w : Word) → marks.opening_char s w 62 ≡ 62
     greater_same Html word.Dashes = refl
-    greater_same Xhtml word.Dashes = refl
-    greater_same Html word.Doctype = refl
-    greater_same Xhtml word.Doctype = refl
-    greater_same Html word.Section = refl
-    greater_same Xhtml word.Section = refl
+    greater_same _ _ = refl
 
 -- XHTML: the text begins with no word
 pub record NoWord (x : Chars) : Type 0 where
@@ -140,13 +129,11 @@ begins_none word.Section first rest e h k =
 
 pub same_char : (w : Word) (c : ℕ) → marks.opening_char Xhtml w c ≡ c
 same_char word.Dashes c = refl
-same_char word.Doctype c = refl
-same_char word.Section c = refl
+same_char _ c = refl
 
 pub strict_plain : (w : Word) (x : Chars) → plain_text Xhtml w x ≡ x
 strict_plain word.Dashes x = refl
-strict_plain word.Doctype x = refl
-strict_plain word.Section x = refl
+strict_plain _ x = refl
 
 -- the first character of what is read is the word's first one
 pub first_of : (s : Syntax) (w : Word) (first : ℕ) (chars : Chars) (next : ℕ) (left : Chars) → marks.opening_text s w ≡ map (marks.opening_char s w) (first ∷ chars) ++ next ∷ left → marks.opening_char s w first ∷ [] ≡ head_list (marks.opening_text s w)

@@ -285,8 +285,7 @@ at_opened_means Html i p text c h =
   where
     swapped : (a b d : Bool) → (b && a) ≡ false → (a && (b && d)) ≡ false
     swapped true true d h = absurd (cc)
-    swapped true false d h = refl
-    swapped false b d h = refl
+    swapped _ _ d h = refl
 
     undeclared_at : (more : Chars) → (c == 45) ≡ false → (lowered_char c == 100) ≡ false → (c == 91 && has_sections i) ≡ false → begins_declaration i (c ∷ more) ≡ false
     undeclared_at more a b d =

@@ -32,9 +32,8 @@ one_ascii : (x : ℕ) → is_plain_ascii x ≡ true → is_ascii x ≡ true
 one_ascii x h = lt-ltb x 128 (leb-false 128 x (by (is_stop x) (nat_le 128 x) h))
   where
     by : (a b : Bool) → not (a || b) ≡ true → b ≡ false
-    by true b h = absurd (cc)
-    by false true h = absurd (cc)
     by false false h = refl
+    by _ _ h = absurd (cc)
 
 pub ascii_plain : (xs : List ℕ) → list_all is_plain_ascii xs ≡ true → list_all is_plain xs ≡ true
 ascii_plain xs h = weaker is_plain_ascii is_plain one_plain xs h

@@ -67,10 +67,7 @@ module _ (l new : Reading) (byte : ℕ) (answer : TokenKind) (m : l.pending.mark
   said : (answer : TokenKind) (d : ℕ) (place : Position) → entries.Says l d place (Ok answer) new → ((answer ≡ what.Nothing) ⊎ ((l.setting.drops ≡ true) × (answer ≡ what.Skipped))) × (new.pending.mark ≡ mark.Nothing)
   said what.Nothing d place k = (inl refl, ap (λ (x : Reading). x.pending.mark) k.1.is)
   said what.Skipped d place k = (inr ((both l.setting.drops _ k.0).0, refl), ap (λ (x : Reading). x.pending.mark) k.1)
-  said what.Text d place k = absurd k
-  said what.Section d place k = absurd k
-  said what.Doctype d place k = absurd k
-  said what.Tag d place k = absurd k
+  said _ d place k = absurd k
 
   does_say : (d : ℕ) (place : Position) → entries.Says l d place result new → Does l byte answer new
   does_say d place k = let q = said answer d place k in elim q.0 [ inl e ↦ says e q.1 | inr e ↦ drops e.0 e.1 q.1 ]
@@ -167,12 +164,8 @@ stopped_tells (c ∷ text) n (stop.Fault fault) = refl
 stopped_tells text n stop.NoMemory = tt
 
 pub other_tells : (answer : TokenKind) → is_token answer ≡ false → is_tag answer ≡ false
-other_tells what.Nothing h = refl
-other_tells what.Text h = refl
-other_tells what.Skipped h = refl
-other_tells what.Section h = refl
-other_tells what.Doctype h = refl
 other_tells what.Tag h = absurd (cc)
+other_tells _ h = refl
 
 pub quiet_at : (piece : List ℕ) (i : ℕ) → i < length piece → is_quiet piece ≡ true → not (get_or piece i 0 == 60 || get_or piece i 0 == 38) ≡ true
 quiet_at [] i h q = absurd (omega arith)

@@ -66,13 +66,7 @@ stands_letter Xhtml c h = or_left (is_nc c) _ (wide (is_nc_start c) _ _ _ _ _ _ 
 -- the raw element's name, in lower case
 raw_lower : (r : RawName) → list_all (between 97 122) (name_of_raw r) ≡ true
 raw_lower Script = refl
-raw_lower Style = refl
-raw_lower Iframe = refl
-raw_lower Noembed = refl
-raw_lower Noframes = refl
-raw_lower Xmp = refl
-raw_lower Title = refl
-raw_lower Textarea = refl
+raw_lower _ = refl
 
 pub record IsRaw (i : Content) (name : Chars) : Type 0 where
   pub word : marks.end_word i ≡ solidus ∷ name
@@ -80,12 +74,9 @@ pub record IsRaw (i : Content) (name : Chars) : Type 0 where
   pub markup : has_markup i ≡ false
 
 pub raw_content : (i : Content) (name : Chars) → raw_name i ≡ Some name → IsRaw i name
-raw_content content.Outside name e = absurd (cc)
-raw_content content.Html name e = absurd (cc)
-raw_content content.Foreign name e = absurd (cc)
-raw_content content.Strict name e = absurd (cc)
 raw_content (content.Raw r) name e = let k : name_of_raw r ≡ name = cc in record { word = ap (λ x. solidus ∷ x) k; lower = ap (list_all (between 97 122)) (sym k) ∙ raw_lower r; markup = refl }
 raw_content (content.Rcdata r) name e = let k : name_of_raw r ≡ name = cc in record { word = ap (λ x. solidus ∷ x) k; lower = ap (list_all (between 97 122)) (sym k) ∙ raw_lower r; markup = refl }
+raw_content _ name e = absurd (cc)
 
 -- what is lowered to a small letter is a letter
 letter_of : (c d : ℕ) → lowered_char c ≡ d → between 97 122 d ≡ true → is_letter c ≡ true
@@ -151,9 +142,8 @@ end_steps s st name (x ∷ y ∷ word) left d c e w l q =
     in_name s st c e (letter_of c d q (all_at (between 97 122) (lowered_char y ∷ map lowered_char word) d left (ap (list_all (between 97 122)) (sym n) ∙ l)))
 
 end_unfinished : (word : Chars) → is_last (end_phase word) ≡ false
-end_unfinished [] = refl
 end_unfinished (x ∷ []) = refl
-end_unfinished (x ∷ y ∷ word) = refl
+end_unfinished _ = refl
 
 pub same_self : (a : Chars) → same a a ≡ true
 same_self [] = refl

@@ -74,21 +74,11 @@ within_on n p =
 -- the moves of characters that belong to no reference
 nul_stops : (p : RunPhase) → run_move p 0 ≡ run_moves.Stops
 nul_stops run.Plain = refl
-nul_stops run.Ampersand = refl
-nul_stops run.Named = refl
-nul_stops run.Hash = refl
-nul_stops run.Decimal = refl
-nul_stops run.Mark = refl
-nul_stops run.Hexadecimal = refl
+nul_stops _ = refl
 
 return_stops : (p : RunPhase) → run_move p 13 ≡ run_moves.Stops
 return_stops run.Plain = refl
-return_stops run.Ampersand = refl
-return_stops run.Named = refl
-return_stops run.Hash = refl
-return_stops run.Decimal = refl
-return_stops run.Mark = refl
-return_stops run.Hexadecimal = refl
+return_stops _ = refl
 
 goes_no_stop : (q : RunPhase) (m : RunMove) → m ≡ run_moves.Goes q → m ≡ run_moves.Stops → ⊥
 goes_no_stop q m e f = absurd (cc)

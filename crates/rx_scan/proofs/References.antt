@@ -87,10 +87,7 @@ run_ascii (in_hexadecimal x c text h k l) = and_from (is_ascii x) _ (x_ascii x h
 pub run_kind : (c : ℕ) {p : RunPhase} {text : Chars} → RunIs p text → run_move p c ≡ run_moves.Closes → (if is_name text then UnknownReference else BadReference) ≡ no_meaning p
 run_kind c at_ampersand e = refl
 run_kind c (in_name x text h k) e = rw (h, k) refl
-run_kind c at_hash e = refl
-run_kind c (in_decimal x text h k) e = refl
-run_kind c (at_mark x h) e = refl
-run_kind c (in_hexadecimal x y text h k l) e = refl
+run_kind c _ e = refl
 
 module _ (s : Syntax) (i : Content) (p : Pending) (text : Chars) (c : ℕ) (q : RunPhase) (h : InRun s i q p.run text) (m : p.mark ≡ mark.Run q) where
   is_run : RunIs q p.run

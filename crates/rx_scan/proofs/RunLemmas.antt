@@ -52,9 +52,7 @@ module _ (sy : Syntax) (lim : Limits) (spot : reader.Spot) where
 
 joined_assoc : (a b c : Option Chars) → joined (joined a b) c ≡ joined a (joined b c)
 joined_assoc (Some a) (Some b) (Some c) = ap Some (append_assoc a b c)
-joined_assoc (Some a) (Some b) None = refl
-joined_assoc (Some a) None c = refl
-joined_assoc None b c = refl
+joined_assoc _ _ _ = refl
 
 joined_first : (a : Option Chars) → joined (Some []) a ≡ a
 joined_first (Some a) = refl
@@ -70,9 +68,8 @@ after_same setting [] = (refl, refl, refl, refl)
 after_same setting (x ∷ items) = (refl, refl, refl, refl)
 
 after_append : (setting : Setting) (a b : List Item) → after_some (after_some setting a) b ≡ after_some setting (a ++ b)
-after_append setting [] b = refl
-after_append setting (x ∷ a) [] = refl
 after_append setting (x ∷ a) (y ∷ b) = refl
+after_append setting _ _ = refl
 
 keeps_append : (setting : Setting) (a b : List Item) → keeps_first setting.drops a ≡ true → keeps_first (after_some setting a).drops b ≡ true → keeps_first setting.drops (a ++ b) ≡ true
 keeps_append setting [] b h k = k
@@ -197,19 +194,13 @@ module _ (old l new : Reading) (s : reader.Scanning) (piece : List ℕ) (i : ℕ
 
   not_nothing : (answer : TokenKind) → is_token answer ≡ true → is_nothing answer ≡ true → ⊥
   not_nothing what.Nothing w z = cc
-  not_nothing what.Skipped w z = cc
-  not_nothing what.Text w z = cc
-  not_nothing what.Section w z = cc
-  not_nothing what.Doctype w z = cc
-  not_nothing what.Tag w z = cc
+  not_nothing _ w z = cc
 
   told : (answer : TokenKind) → is_token answer ≡ true → (items : List Item) → IsTold l answer items new → Tells l.setting.drops answer s (take (i + 1) piece) items new
   told what.Nothing w items h = absurd (cc)
   told what.Skipped w items h = h.0 s (take (i + 1) piece)
   told what.Text w items h = absurd (cc)
-  told what.Section w items h = h.0
-  told what.Doctype w items h = h.0
-  told what.Tag w items h = h.0
+  told _ w items h = h.0
 
   took_entry : (answer : TokenKind) → entries.Reads l byte (Ok answer) new → l.text.text ≡ [] → is_token answer ≡ true → GivesOk (reader.read_byte l.setting.syntax l.setting.limits (spot_of l) byte r.scanned.next) l answer new → Took old s piece (i + 1) answer new
   took_entry answer e t w g =

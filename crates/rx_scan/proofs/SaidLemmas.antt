@@ -46,20 +46,13 @@ is_said i c t h =
   where
     text : (i : Content) → has_text i ≡ true → is_text i c ≡ true
     text content.Outside t = absurd (cc)
-    text content.Html t = rw (is_none c 60 h refl, is_none c 38 h refl) refl
-    text content.Foreign t = rw (is_none c 60 h refl, is_none c 38 h refl) refl
-    text content.Strict t = rw (is_none c 60 h refl, is_none c 38 h refl) refl
     text (content.Raw name) t = rw (is_none c 60 h refl) refl
-    text (content.Rcdata name) t = rw (is_none c 60 h refl, is_none c 38 h refl) refl
+    text _ t = rw (is_none c 60 h refl, is_none c 38 h refl) refl
 
 -- and no bracket that counts
 pub no_literal_at : (d : ℕ) (i : Content) (c : ℕ) → (d == c) ≡ false → is_strict_literal d i (character c) ≡ false
-no_literal_at d content.Outside c h = refl
-no_literal_at d content.Html c h = refl
-no_literal_at d content.Foreign c h = refl
 no_literal_at d content.Strict c h = h
-no_literal_at d (content.Raw name) c h = refl
-no_literal_at d (content.Rcdata name) c h = refl
+no_literal_at d _ c h = refl
 
 said_one : (p : Position) (bracket : Bool) → bracket ≡ false → said 1 p ≡ ended false bracket p
 said_one p bracket e =

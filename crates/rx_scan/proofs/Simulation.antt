@@ -62,24 +62,12 @@ none_after s (content.Raw r) = by r
   where
     by : (r : RawName) → is_known_end (name_of_raw r) [] ≡ false
     by Script = refl
-    by Style = refl
-    by Iframe = refl
-    by Noembed = refl
-    by Noframes = refl
-    by Xmp = refl
-    by Title = refl
-    by Textarea = refl
+    by _ = refl
 none_after s (content.Rcdata r) = by r
   where
     by : (r : RawName) → is_known_end (name_of_raw r) [] ≡ false
     by Script = refl
-    by Style = refl
-    by Iframe = refl
-    by Noembed = refl
-    by Noframes = refl
-    by Xmp = refl
-    by Title = refl
-    by Textarea = refl
+    by _ = refl
 
 first_no_tag : (s : Syntax) (i : Content) (c : ℕ) → is_known_tag s i (c ∷ []) ≡ false
 first_no_tag s i c = ap (λ b. c == 60 && b) (none_after s i) ∙ and-false (c == 60)

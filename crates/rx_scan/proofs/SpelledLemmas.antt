@@ -107,9 +107,8 @@ inside_more inside [] item a e = (e, tt)
 inside_more inside (i ∷ items) item a e = (a.0, inside_more inside items item a.1 e)
 
 started_more : (b : Bool) (cs : List ℕ) (c : ℕ) → (b || has_character (cs ++ c ∷ [])) ≡ true
-started_more true cs c = refl
-started_more false [] c = refl
 started_more false (d ∷ cs) c = refl
+started_more _ _ c = refl
 
 pub same_flags : (items : List Item) (two last : Bool) → flags_behind items two last ≡ brackets_behind items two last
 same_flags [] two last = refl

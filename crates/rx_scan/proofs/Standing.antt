@@ -28,18 +28,7 @@ use Rattle.rx_pages.proofs.Tokens.{values_append}
 -- characters are pending, so the mark isn't `Nothing`
 pub some_mark : (s : Syntax) (i : Content) (m : TokenState) (run : Chars) (t : TagSoFar) (text : Chars) (x : ℕ) (more : Chars) (place : Position) → PendsAs s i m run t text → text ≡ x ∷ more → token_from m place ≡ place.token
 some_mark s i mark.Nothing run t text x more place h e = absurd (let k = sym h ∙ e in cc)
-some_mark s i mark.LessThan run t text x more place h e = refl
-some_mark s i (mark.RawEnd n) run t text x more place h e = refl
-some_mark s i mark.Tag run t text x more place h e = refl
-some_mark s i (mark.Run p) run t text x more place h e = refl
-some_mark s i mark.Opened run t text x more place h e = refl
-some_mark s i (mark.Opening w n) run t text x more place h e = refl
-some_mark s i (mark.Comment p) run t text x more place h e = refl
-some_mark s i (mark.StrictComment p) run t text x more place h e = refl
-some_mark s i mark.Bogus run t text x more place h e = refl
-some_mark s i (mark.Instruction asked) run t text x more place h e = refl
-some_mark s i (mark.Doctype p) run t text x more place h e = refl
-some_mark s i (mark.Section b) run t text x more place h e = refl
+some_mark s i _ run t text x more place h e = refl
 
 pub no_values : (run : List Entry) → values run ≡ [] → run ≡ []
 no_values [] e = refl
@@ -128,15 +117,5 @@ is_character (character c) = true
 is_character _ = false
 
 pub no_literal : (c : ℕ) (i : Content) (token : Token) → is_character token ≡ false → is_strict_literal c i token ≡ false
-no_literal c content.Outside token h = refl
-no_literal c content.Html token h = refl
-no_literal c content.Foreign token h = refl
-no_literal c content.Strict (tag t) h = refl
 no_literal c content.Strict (character d) h = absurd (cc)
-no_literal c content.Strict (reference d) h = refl
-no_literal c content.Strict (kept text) h = refl
-no_literal c content.Strict (section text) h = refl
-no_literal c content.Strict comment h = refl
-no_literal c content.Strict doctype h = refl
-no_literal c (content.Raw name) token h = refl
-no_literal c (content.Rcdata name) token h = refl
+no_literal c _ _ h = refl

@@ -148,12 +148,9 @@ pub not_quiet : (l new : Reading) (bytes : List ℕ) (n : ℕ) → ReadsWholeTag
 not_quiet l new bytes n t q = let z = ap is_quiet (sym t.opens) ∙ q in cc
 
 opens_markup : (inside : Content) → has_markup inside ≡ true → marks.less_than_mark inside ≡ mark.LessThan
-opens_markup content.Outside h = refl
-opens_markup content.Html h = refl
-opens_markup content.Foreign h = refl
-opens_markup content.Strict h = refl
 opens_markup (content.Raw name) h = absurd (cc)
 opens_markup (content.Rcdata name) h = absurd (cc)
+opens_markup _ h = refl
 
 first_is : (bytes : List ℕ) (c : ℕ) → slice_get bytes 0 ≡ Some c → bytes ≡ c ∷ drop 1 bytes
 first_is [] c e = absurd (cc)
