@@ -324,56 +324,50 @@ module _ (syntax : Syntax) (limits : Limits) (spot : Spot) (o : occurs syntax sp
               };
             }
 
+        abbrev e : Entry
+        e = record { value = as_line_end c; first = starts_at s; last = s.at }
+
+        abbrev others : List Entry
+        others = entries_at true (c == carriage_return) (a.start + len_utf8 c) cs
+
         goes_entered : passes s.started s.after_return c ≡ false → Goes byte rest s items
-        goes_entered p = from (reads_entry syntax limits spot o final.next.run going flags_end s (c == carriage_return) e others a.left tail_here)
+        goes_entered p =
+            let r = reads_entry syntax limits spot o final.next.run going flags_end s (c == carriage_return) e others a.left tail_here in
+            record {
+              r = record { next = entering (c == carriage_return) r.run r.two r.last s; items = r.told };
+              is = reads ∙ (cond-false _ _ _ p ∙ (cond-false _ _ _ short_with ∙ r.is));
+              ahead = record {
+                start = a.start + len_utf8 c;
+                cs = cs;
+                bytes = behind;
+                scalars = scalars_on;
+                begun = none_begun cs;
+                at_is = next_at;
+                left = r.left;
+                tail = r.tail;
+                no_nul = no_nul_behind s.started s.after_return a.start c cs others no_nul_is e entries_are;
+                within = a.within.1;
+                end_is = end_on;
+                started = started_on;
+                after_return = return_on;
+                items_are = a.items_are ∙ (ap (λ x. items ++ x) r.are ∙ sym (append_assoc items r.told r.left));
+              };
+            }
           where
-            e : Entry
-            e = record { value = as_line_end c; first = starts_at s; last = s.at }
-
-            others : List Entry
-            others = entries_at true (c == carriage_return) (a.start + len_utf8 c) cs
-
             last_is : a.start + len_utf8 c - 1 ≡ s.at
             last_is = let w = a.at_is in let z = size in omega arith
 
-            entries_are : entries ≡ record { value = as_line_end c; first = starts_at s; last = s.at } ∷ entries_at true (c == carriage_return) (a.start + len_utf8 c) cs
-            entries_are = enters_entries s.started s.after_return a.start c cs p ∙ (λ i. record { value = as_line_end c; first = sym starts_is i; last = last_is i } ∷ entries_at true (c == carriage_return) (a.start + len_utf8 c) cs)
+            entries_are : entries ≡ e ∷ others
+            entries_are = enters_entries s.started s.after_return a.start c cs p ∙ (λ i. record { value = as_line_end c; first = sym starts_is i; last = last_is i } ∷ others)
 
-            tail_here : Spelled_on s.run (record { value = as_line_end c; first = starts_at s; last = s.at } ∷ entries_at true (c == carriage_return) (a.start + len_utf8 c) cs) s.two s.last a.left
+            tail_here : Spelled_on s.run (e ∷ others) s.two s.last a.left
             tail_here = subst (λ es. Spelled_on s.run es s.two s.last a.left) entries_are tail_is
 
-            below : s.at < final.next.at
-            below = let v = a.end_is in omega arith
-
-            short_with : is_too_long syntax limits spot (s.run ++ (record { value = as_line_end c; first = starts_at s; last = s.at }) ∷ []) (first_of s.run (starts_at s)) s.at ≡ false
+            short_with : is_too_long syntax limits spot (s.run ++ e ∷ []) (first_of s.run (starts_at s)) s.at ≡ false
             short_with =
                 not_long _ (first_of s.run (starts_at s) + limits.tag) s.at
-                (bound_with syntax limits spot o final.next.run going flags_end final.next.at fits s.run (record { value = as_line_end c; first = starts_at s; last = s.at }) (entries_at true (c == carriage_return) (a.start + len_utf8 c) cs) s.two s.last a.left tail_here
-                (subst Rises entries_are (rises_at s.started s.after_return a.start (c ∷ cs))) below)
-
-            from : Reads syntax limits spot o final.next.run going flags_end s (c == carriage_return) (entries_at true (c == carriage_return) (a.start + len_utf8 c) cs) a.left
-                (told syntax limits spot (c == carriage_return) (record { value = as_line_end c; first = starts_at s; last = s.at }) s (verdict syntax inside (values s.run) (as_line_end c))) → Goes byte rest s items
-            from r =
-                record {
-                  r = record { next = entering (c == carriage_return) r.run r.two r.last s; items = r.told };
-                  is = reads ∙ (cond-false _ _ _ p ∙ (cond-false _ _ _ short_with ∙ r.is));
-                  ahead = record {
-                    start = a.start + len_utf8 c;
-                    cs = cs;
-                    bytes = behind;
-                    scalars = scalars_on;
-                    begun = none_begun cs;
-                    at_is = next_at;
-                    left = r.left;
-                    tail = r.tail;
-                    no_nul = no_nul_behind s.started s.after_return a.start c cs (entries_at true (c == carriage_return) (a.start + len_utf8 c) cs) no_nul_is (record { value = as_line_end c; first = starts_at s; last = s.at }) entries_are;
-                    within = a.within.1;
-                    end_is = end_on;
-                    started = started_on;
-                    after_return = return_on;
-                    items_are = a.items_are ∙ (ap (λ x. items ++ x) r.are ∙ sym (append_assoc items r.told r.left));
-                  };
-                }
+                (bound_with syntax limits spot o final.next.run going flags_end final.next.at fits s.run e others s.two s.last a.left tail_here
+                (subst Rises entries_are (rises_at s.started s.after_return a.start (c ∷ cs))) (let v = a.end_is in omega arith))
 
         goes_whole : Goes byte rest s items
         goes_whole = by_test {G = Goes byte rest s items} (passes s.started s.after_return c) goes_passed goes_entered

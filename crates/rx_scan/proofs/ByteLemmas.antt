@@ -32,7 +32,7 @@ use Rattle.rx_scan.specs.Pending.{PendsAs}
 use Rattle.rx_scan.specs.Scanner.{Reading, spot_of}
 use Rattle.rx_scan.specs.Entries as entries
 use Rattle.rx_scan.specs.Steps.{ReadsAs, mark_bytes}
-use Rattle.rx_scan.proofs.Standing.{some_mark, no_values}
+use Rattle.rx_scan.proofs.Standing.{some_mark, no_values, after, place_on, starts_next}
 use Rattle.rx_scan.proofs.Simulation.{known, known_with}
 use Rattle.rx_scan.proofs.GivesLemmas.{Gives, GivesOk, GivesErr, gives_at, gives_by, refuses, nothing_told}
 use Rattle.rx_scan.proofs.MarkLemmas.{mark_is}
@@ -112,21 +112,8 @@ module _ (v : Reading) (s : reader.Scanning) (h : ReadsAs v s) where
 
   passed_is : ReadsAs (entries.with_passed v) (reader.passed s)
   passed_is =
-      record {
-        at = ap (λ a. a + 1) h.at;
-        starts = ap (λ a. a + 1) h.at ∙ sym (next s.at);
-        held = refl;
-        started = refl;
-        after_return = refl;
-        two = h.two;
-        last = h.last;
-        token = token_stays ((s.at + 1) - 0) (entered false v.place) (ap (λ a. a + 1) h.at ∙ sym (next s.at)) refl;
-        syntax = h.syntax;
-        pends = h.pends;
-      }
-    where
-      next : (at : ℕ) → (at + 1) - 0 ≡ at + 1
-      next at = omega arith
+      after v s h false v.setting (entered false v.place) v.pending v.text v.end v.place.token s.run s.two s.last (place_on v s h false)
+      (token_stays ((s.at + 1) - 0) (entered false v.place) (ap (λ a. a + 1) h.at ∙ sym (starts_next s.at)) refl) h.syntax h.pends
 
   held_is : (byte : ℕ) → ReadsAs (entries.with_held v (s.held ++ byte ∷ [])) (reader.holding (s.held ++ byte ∷ []) s)
   held_is byte =

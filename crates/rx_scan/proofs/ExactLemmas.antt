@@ -42,7 +42,7 @@ use Rattle.rx_pages.proofs.ByteSteps.{is_le, not_le, not_long}
 use Rattle.rx_pages.proofs.ScanSteps.{scan_fault}
 use Rattle.rx_scan.specs.Spelled.{Spells, IsBetween, Left, is_over, Enters, FitsWith, IsNoToken, Refuses, page_too_long, not_utf8, nul, tag_too_long, known_too_long, decided, section_end, late_doctype, FirstFault, ScansWhatIsSpelled, RefusesWhatIsFaulty}
 use Rattle.rx_scan.specs.Spelled as spelled
-use Rattle.rx_scan.proofs.SpelledLemmas.{same_content, scans_so, refuses_so}
+use Rattle.rx_scan.proofs.SpelledLemmas.{same_content, scans_so, refuses_so, whole_verdict}
 use Rattle.rx_scan.proofs.BackLemmas.{spelled_back}
 use Rattle.rx_pages.proofs.Judged.{strict_keeps}
 use Rattle.std.proofs.Math.Bool.{and-false}
@@ -64,14 +64,6 @@ refused_by s i o depth line phase (faults.outside_less_than c z e b) n =
 refused_by s i o depth line phase (faults.outside_section z e) n =
     subst (λ y. IsRefused y i kind.Outside (codes "<![CDATA[")) (sym z) (subst (λ x. IsRefused Xhtml x kind.Outside (codes "<![CDATA[")) (sym e) refuses_section)
 refused_by s i o depth line phase (faults.at_tag chars t sp h) n = absurd (n (tag t) sp)
-
--- a token that nothing has to follow is read at its last character
-whole_verdict : (s : Syntax) (i : Content) (front : Chars) (c : ℕ) (token : Token) → spelling.Spells s i (front ++ c ∷ []) None token → verdict s i front c ≡ whole token
-whole_verdict s i front c token sp = by (front ++ c ∷ []) None token (reads_each s i (front ++ c ∷ []) None token sp) refl refl
-  where
-    by : (x : Chars) (n : Option ℕ) (t : Token) → ReadAs s i x n t → x ≡ front ++ c ∷ [] → n ≡ None → verdict s i front c ≡ whole t
-    by _ _ _ (at_last f d t go v) e n = let p = two_lasts f front d c e in subst (λ x. verdict s i x c ≡ whole t) p.0 (subst (λ x. verdict s i f x ≡ whole t) p.1 v)
-    by _ _ _ (at_next x d t go v) e n = absurd (cc)
 
 -- and one that goes on is over at the next one
 ended_verdict : (s : Syntax) (i : Content) (text : Chars) (c : ℕ) (token : Token) → GoesOn s i [] text → spelling.Spells s i text (Some c) token → verdict s i text c ≡ ended token

@@ -21,16 +21,11 @@ ok_scanned x = Ok x
 
 -- nothing is told before the first byte
 text_later : (old l : Reading) (s : reader.Scanning) (piece : List ℕ) (i : ℕ) → ReadsOn old s (take i piece) l → (l.text.text ≡ [] → ⊥) → 0 < i
-text_later old l s piece zero r t = absurd (t (none r.scanned r.read r.texts))
-  where
-    none : (x : reader.Scanned) → ok_scanned (record { next = s; items = [] }) ≡ ok_scanned x → texts_of x.items ≡ Some l.text.text → l.text.text ≡ []
-    none x e k = let q : record { next = s; items = [] } ≡ x = same e in some_text (sym k ∙ ap (λ (y : reader.Scanned). texts_of y.items) (sym q))
-      where
-        same : {a b : reader.Scanned} → ok_scanned a ≡ ok_scanned b → a ≡ b
-        same e = cc
-
-        some_text : Some l.text.text ≡ Some [] → l.text.text ≡ []
-        some_text e = cc
+text_later old l s piece zero r t =
+    let e : ok_scanned (record { next = s; items = [] }) ≡ ok_scanned r.scanned = r.read in
+    let same : record { next = s; items = [] } ≡ r.scanned = cc in
+    let k : Some l.text.text ≡ Some [] = sym r.texts ∙ ap (λ (y : reader.Scanned). texts_of y.items) (sym same) in
+    absurd (t (cc))
 text_later old l s piece (suc i) r t = omega arith
 
 -- at the piece's end

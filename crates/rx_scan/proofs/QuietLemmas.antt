@@ -64,6 +64,9 @@ module _ (l new : Reading) (byte : ℕ) (answer : TokenKind) (m : l.pending.mark
   no_fault : (kind : Kind) → result ≡ Err (stop.Fault (entries.fault_at l kind)) → Does l byte answer new
   no_fault kind e = absurd (cc)
 
+  arrive : (other : TokenKind) → result ≡ Ok other → answer ≡ other
+  arrive other e = cc
+
   said : (answer : TokenKind) (d : ℕ) (place : Position) → entries.Says l d place (Ok answer) new → ((answer ≡ what.Nothing) ⊎ ((l.setting.drops ≡ true) × (answer ≡ what.Skipped))) × (new.pending.mark ≡ mark.Nothing)
   said what.Nothing d place k = (inl refl, ap (λ (x : Reading). x.pending.mark) k.1.is)
   said what.Skipped d place k = (inr ((both l.setting.drops _ k.0).0, refl), ap (λ (x : Reading). x.pending.mark) k.1)
@@ -76,16 +79,13 @@ module _ (l new : Reading) (byte : ℕ) (answer : TokenKind) (m : l.pending.mark
   does_first : (c : ℕ) (ar : Bool) → ((d : ℕ) → c ≡ d → (10 == d) ≡ false → d < 128 → byte ≡ d) → entries.Enters l c ar (entries.judged l.setting l.place.two c (marks.of_first (marks.at_first l.setting.inside c))) result new → Does l byte answer new
   does_first c ar is k =
       split (λ (f : First). entries.Enters l c ar (entries.judged l.setting l.place.two c (marks.of_first f)) result new → Does l byte answer new) (c == 60) _ _
-      (λ h k. begins (arrived k.0) (or_left (byte == 60) _ (ap (λ (x : ℕ). x == 60) (is 60 (eqb-true c 60 h) refl (lit< tt)))))
+      (λ h k. begins (arrive what.Nothing k.0) (or_left (byte == 60) _ (ap (λ (x : ℕ). x == 60) (is 60 (eqb-true c 60 h) refl (lit< tt)))))
       (λ a. split (λ (f : First). entries.Enters l c ar (entries.judged l.setting l.place.two c (marks.of_first f)) result new → Does l byte answer new) (c == 38 && has_references l.setting.inside) _ _
-      (λ h k. begins (arrived k.0) (or_right (byte == 60) _ (ap (λ (x : ℕ). x == 38) (is 38 (eqb-true c 38 (both (c == 38) _ h).0) refl (lit< tt)))))
+      (λ h k. begins (arrive what.Nothing k.0) (or_right (byte == 60) _ (ap (λ (x : ℕ). x == 38) (is 38 (eqb-true c 38 (both (c == 38) _ h).0) refl (lit< tt)))))
       (λ b. split (λ (f : First). entries.Enters l c ar (entries.judged l.setting l.place.two c (marks.of_first f)) result new → Does l byte answer new) (is_text l.setting.inside c) _ _
       (λ h k. by_says (l.place.two && is_strict_literal 62 l.setting.inside (character c)) k)
       (λ h k. no_fault _ k))) k
     where
-      arrived : result ≡ Ok what.Nothing → answer ≡ what.Nothing
-      arrived e = cc
-
       by_says : (b : Bool) → entries.Enters l c ar (if b then move.Refuses StrictText else move.EmitText) result new → Does l byte answer new
       by_says true k = no_fault StrictText k
       by_says false k = does_say c (ended ar (entries.is_bracket l.setting c) l.place) k
@@ -99,9 +99,6 @@ module _ (l new : Reading) (byte : ℕ) (answer : TokenKind) (m : l.pending.mark
       (λ u k. does_first (as_line_end c) (c == carriage_return) (λ d q n h. last_byte l.held byte d (e ∙ ap Char (begins_line c d q n)) h)
       (subst (λ (x : TokenState). entries.Enters l (as_line_end c) (c == carriage_return) (entries.judged l.setting l.place.two (as_line_end c) (marks.move_of l.setting.syntax l.setting.inside x (as_line_end c))) result new) m k)))
     where
-      arrive : (other : TokenKind) → result ≡ Ok other → answer ≡ other
-      arrive other e = cc
-
       passed : ((not l.place.started && c == 65279) ≡ true) ⊎ ((l.place.after_return && c == 10) ≡ true) → result ≡ Ok (entries.is_mark c) → new.pending.mark ≡ mark.Nothing → Does l byte answer new
       passed (inl a) q k =
           let p = both (not l.place.started) _ a in
@@ -119,10 +116,7 @@ module _ (l new : Reading) (byte : ℕ) (answer : TokenKind) (m : l.pending.mark
       by More e k =
           match_by (entries.is_long l (known_tags.is_tag l.pending.mark)) _ _ k
           (λ u k. no_fault _ k)
-          (λ u k. says (arrive k.0) (ap (λ (x : Reading). x.pending.mark) k.1 ∙ m))
-        where
-          arrive : result ≡ Ok what.Nothing → answer ≡ what.Nothing
-          arrive e = cc
+          (λ u k. says (arrive what.Nothing k.0) (ap (λ (x : Reading). x.pending.mark) k.1 ∙ m))
       by (Char c) e k =
           match_by (c == 0) _ _ k (λ t k. no_fault _ k)
           (λ t k. match_by (entries.is_long l (known_tags.is_tag l.pending.mark)) _ _ k (λ u k. no_fault _ k) (λ u k. does_char c e k))

@@ -118,24 +118,17 @@ module _ (l new : Reading) (front : List ℕ) (t : TellsReference l front new) (
       })
       (subst (λ (x : Move). entries.Enters l 38 false x (Ok what.Nothing) (in_reference l 1 run.Ampersand [])) (sym begins_is) (refl, refl))
 
+-- within it each of its bytes is such a character
+within_alone : (l : Reading) (n : ℕ) (p : RunPhase) (kept : Chars) (b : ℕ) → l.place.at + n < l.setting.limits.page → (b == 0) ≡ false → (b == 13) ≡ false → b ≤ 127 → IsAlone (in_reference l n p kept) b
+within_alone l n p kept b page some no_return ascii = record { held = refl; started = refl; on_a_line = refl; page = page; no_tag = refl; never_tag = λ c. refl; some = some; no_return = no_return; ascii = ascii }
+
 -- one more character of it
 reads_kept : (l : Reading) (n : ℕ) (p q : RunPhase) (kept : Chars) (b : ℕ) → l.place.at + n < l.setting.limits.page → RunIs p kept → run_move p b ≡ run_moves.Goes q
     → entries.Reads (in_reference l n p kept) b (Ok what.Nothing) (in_reference l (n + 1) q (kept ++ b ∷ []))
 reads_kept l n p q kept b room r e =
     let v : Reading = in_reference l n p kept in
     let new : Reading = in_reference l (n + 1) q (kept ++ b ∷ []) in
-    reads_alone v new b
-    (record {
-      held = refl;
-      started = refl;
-      on_a_line = refl;
-      page = room;
-      no_tag = refl;
-      never_tag = λ c. refl;
-      some = is_none 0 p q b (nul_stops p) e;
-      no_return = is_none 13 p q b (return_stops p) e;
-      ascii = last_ascii kept b (run_ascii (goes_on b q r e));
-    })
+    reads_alone v new b (within_alone l n p kept b room (is_none 0 p q b (nul_stops p) e) (is_none 13 p q b (return_stops p) e) (last_ascii kept b (run_ascii (goes_on b q r e))))
     (subst (λ (x : Move). entries.Enters v b false x (Ok what.Nothing) new)
     (sym (ap (λ x. entries.judged l.setting l.place.two b (marks.in_run l.setting.inside x)) e))
     (refl, ap (λ (x : Position). entries.with_parts l l.setting x (record { mark = mark.Run q; run = kept ++ b ∷ []; tag = no_tag l.pending.tag.syntax }) l.text) (sym (within_on n l.place))))
@@ -150,18 +143,7 @@ reads_semicolon : (l : Reading) (n : ℕ) (p : RunPhase) (kept : Chars) (c : ℕ
 reads_semicolon l n p kept c text room drops closes means gains =
     let v : Reading = in_reference l n p kept in
     let new : Reading = behind l n kept text in
-    reads_alone v new 59
-    (record {
-      held = refl;
-      started = refl;
-      on_a_line = refl;
-      page = room;
-      no_tag = refl;
-      never_tag = λ c. refl;
-      some = refl;
-      no_return = refl;
-      ascii = omega arith;
-    })
+    reads_alone v new 59 (within_alone l n p kept 59 room refl refl (omega arith))
     (subst (λ (x : Move). entries.Enters v 59 false x (Ok what.Nothing) new)
     (sym (ap (λ x. entries.judged l.setting l.place.two 59 (marks.in_run l.setting.inside x)) closes))
     (subst (λ (x : Option ℕ). entries.Closes v false x (Ok what.Nothing) new) (sym means) (ap (λ x. x && (c == 10)) drops, record { text = gains; is = refl })))

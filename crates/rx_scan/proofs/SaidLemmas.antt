@@ -38,6 +38,7 @@ use Rattle.rx_scan.proofs.CharacterLemmas.{chosen, other_read}
 use Rattle.rx_scan.proofs.PlainLemmas.{is_none}
 use Rattle.rx_scan.proofs.RunLemmas.{ReadsOn, reads_more}
 use Rattle.std.proofs.Math.Bool.{and-false}
+use Rattle.rx_scan.specs.declared.places.Setting.{Setting}
 
 -- in a content that has text a plain character is text
 pub is_said : (i : Content) (c : ℕ) → has_text i ≡ true → is_plain c ≡ true → marks.of_first (marks.at_first i c) ≡ move.EmitText
@@ -63,13 +64,17 @@ said_one p bracket e =
 pub unmarked : (p : Pending) → p.mark ≡ mark.Nothing → p ≡ entries.marked mark.Nothing p
 unmarked p e = λ i. record { mark = e i; run = p.run; tag = p.tag }
 
+-- Text may be told there.
+pub record MayTell (m : TokenState) (setting : Setting) (has_started after_return : Bool) : Type 0 where
+  pub between : m ≡ mark.Nothing
+  pub inside : has_text setting.inside ≡ true
+  pub undropped : setting.drops ≡ false
+  pub started : has_started ≡ true
+  pub on_a_line : after_return ≡ false
+
 -- Behind the held bytes of a plain character these are left of it, and with the last one it is told.
 record Leads (v : Reading) (held rest : List ℕ) (c : ℕ) (new : Reading) : Type 0 where
-  between : v.pending.mark ≡ mark.Nothing
-  inside : has_text v.setting.inside ≡ true
-  undropped : v.setting.drops ≡ false
-  started : v.place.started ≡ true
-  on_a_line : v.place.after_return ≡ false
+  may : MayTell v.pending.mark v.setting v.place.started v.place.after_return
   held_is : v.held ≡ held
   plain : is_plain c ≡ true
   scalar : IsScalar c
@@ -91,28 +96,28 @@ module _ (l new : Reading) (held : List ℕ) (b c : ℕ) (t : Leads l held (b �
         text = record { text = t.text; size = t.size; room = t.room };
         is = t.is
             ∙ (ap (λ (p : Position). entries.with_parts l (entries.undropped l.setting) p l.pending new.text) (said_one l.place (entries.is_bracket l.setting c) no_bracket)
-            ∙ ap (λ (p : Pending). entries.with_parts l (entries.undropped l.setting) (ended false (entries.is_bracket l.setting c) l.place) p new.text) (unmarked l.pending t.between));
+            ∙ ap (λ (p : Pending). entries.with_parts l (entries.undropped l.setting) (ended false (entries.is_bracket l.setting c) l.place) p new.text) (unmarked l.pending t.may.between));
       }
 
   move_is : entries.move_at l c ≡ move.EmitText
   move_is =
-      ap (λ (x : TokenState). entries.judged l.setting l.place.two c (marks.move_of l.setting.syntax l.setting.inside x c)) t.between
-      ∙ (ap (entries.judged l.setting l.place.two c) (is_said l.setting.inside c t.inside t.plain)
+      ap (λ (x : TokenState). entries.judged l.setting l.place.two c (marks.move_of l.setting.syntax l.setting.inside x c)) t.may.between
+      ∙ (ap (entries.judged l.setting l.place.two c) (is_said l.setting.inside c t.may.inside t.plain)
       ∙ cond-false _ _ _ (ap (λ x. l.place.two && x) (no_literal_at 62 l.setting.inside c (either_way 62 c ∙ is_none c 62 t.plain refl)) ∙ and-false l.place.two))
 
   says : entries.Enters l c false (entries.move_at l c) (Ok what.Nothing) new
   says =
       subst (λ (x : Move). entries.Enters l c false x (Ok what.Nothing) new) (sym move_is)
-      (ap (λ x. x && (c == 10)) t.undropped, tells)
+      (ap (λ x. x && (c == 10)) t.may.undropped, tells)
 
   answers : Char c ≡ answer_of (held ++ b ∷ [])
   answers = answer_is (held ++ b ∷ []) (Char c) ((tables_agree (held ++ b ∷ []) c).1 (t.scalar, t.spelled))
 
   reads_last : entries.Reads l b (Ok what.Nothing) new
   reads_last =
-      other_read l new held b c (Ok what.Nothing) t.held_is answers (omega (arith, t.page)) (is_none c 0 t.plain refl) (ap (λ (x : TokenState). entries.is_long l (known_tags.is_tag x)) t.between)
-      (ap (λ (x : TokenState). entries.is_long l (known_tags.is_tag_with l.setting.syntax l.setting.inside x (as_line_end c))) t.between)
-      (or_from _ _ (ap (λ x. not x && (c == 65279)) t.started) (ap (λ x. x && (c == 10)) t.on_a_line)) (is_none c 13 t.plain refl) says
+      other_read l new held b c (Ok what.Nothing) t.held_is answers (omega (arith, t.page)) (is_none c 0 t.plain refl) (ap (λ (x : TokenState). entries.is_long l (known_tags.is_tag x)) t.may.between)
+      (ap (λ (x : TokenState). entries.is_long l (known_tags.is_tag_with l.setting.syntax l.setting.inside x (as_line_end c))) t.may.between)
+      (or_from _ _ (ap (λ x. not x && (c == 65279)) t.may.started) (ap (λ x. x && (c == 10)) t.may.on_a_line)) (is_none c 13 t.plain refl) says
 
 holding_on : (m n : ℕ) (p : Position) → m ≡ n + 1 → said m p ≡ said n (holding p)
 holding_on m n p q =
@@ -133,7 +138,7 @@ module _ (l new : Reading) (held : List ℕ) (b d : ℕ) (rest : List ℕ) (c : 
       (record { more = d ∷ rest; value = c; longer = λ e. cc; character = (tables_agree ((held ++ b ∷ []) ++ d ∷ rest) c).1 (t.scalar, spelled_on) })
 
   in_text : entries.is_long l (known_tags.is_tag l.pending.mark) ≡ false
-  in_text = ap (λ (x : TokenState). entries.is_long l (known_tags.is_tag x)) t.between
+  in_text = ap (λ (x : TokenState). entries.is_long l (known_tags.is_tag x)) t.may.between
 
   reads_held : entries.Reads l b (Ok what.Nothing) next
   reads_held =
@@ -145,11 +150,7 @@ module _ (l new : Reading) (held : List ℕ) (b d : ℕ) (rest : List ℕ) (c : 
   leads_on : Leads next (held ++ b ∷ []) (d ∷ rest) c new
   leads_on =
       record {
-        between = t.between;
-        inside = t.inside;
-        undropped = t.undropped;
-        started = t.started;
-        on_a_line = t.on_a_line;
+        may = t.may;
         held_is = refl;
         plain = t.plain;
         scalar = t.scalar;
@@ -163,12 +164,8 @@ module _ (l new : Reading) (held : List ℕ) (b d : ℕ) (rest : List ℕ) (c : 
 
 -- Plain characters are told, each of which is text between tokens.
 pub record TellsChars (v : Reading) (cs : List ℕ) (new : Reading) : Type 0 where
-  pub between : v.pending.mark ≡ mark.Nothing
+  pub may : MayTell v.pending.mark v.setting v.place.started v.place.after_return
   pub held : v.held ≡ []
-  pub inside : has_text v.setting.inside ≡ true
-  pub undropped : v.setting.drops ≡ false
-  pub started : v.place.started ≡ true
-  pub on_a_line : v.place.after_return ≡ false
   pub plain : list_all is_plain cs ≡ true
   pub scalars : all_scalars cs ≡ true
   pub page : v.place.at + length (encode_utf8_all cs) ≤ v.setting.limits.page
@@ -194,11 +191,7 @@ module _ (l new : Reading) (c : ℕ) (t : TellsChars l (c ∷ []) new) where
   leads_one : Leads l [] (encode_utf8 c) c new
   leads_one =
       record {
-        between = t.between;
-        inside = t.inside;
-        undropped = t.undropped;
-        started = t.started;
-        on_a_line = t.on_a_line;
+        may = t.may;
         held_is = t.held;
         plain = (and_parts (is_plain c) true t.plain).0;
         scalar = (and_parts _ true t.scalars).0;
@@ -217,11 +210,7 @@ module _ (l new : Reading) (c d : ℕ) (cs : List ℕ) (t : TellsChars l (c ∷ 
   first_leads : Leads l [] (encode_utf8 c) c (middle l c new.text.room)
   first_leads =
       record {
-        between = t.between;
-        inside = t.inside;
-        undropped = t.undropped;
-        started = t.started;
-        on_a_line = t.on_a_line;
+        may = t.may;
         held_is = t.held;
         plain = (and_parts (is_plain c) _ t.plain).0;
         scalar = (and_parts _ _ t.scalars).0;
@@ -236,12 +225,8 @@ module _ (l new : Reading) (c d : ℕ) (cs : List ℕ) (t : TellsChars l (c ∷ 
   rest_tells : TellsChars (middle l c new.text.room) (d ∷ cs) new
   rest_tells =
       record {
-        between = t.between;
+        may = record { between = t.may.between; inside = t.may.inside; undropped = refl; started = refl; on_a_line = refl };
         held = refl;
-        inside = t.inside;
-        undropped = refl;
-        started = refl;
-        on_a_line = refl;
         plain = (and_parts (is_plain c) _ t.plain).1;
         scalars = (and_parts _ _ t.scalars).1;
         page = omega (arith, t.page, sizes);

@@ -60,6 +60,7 @@ use Rattle.rx_scan.specs.declared.answers.Token as shown
 use Rattle.rx_grammar.specs.declared.stops.Stop.{Stop}
 use Rattle.rx_grammar.specs.declared.stops.Stop.TheVariants as stop
 use Rattle.rx_scan.proofs.RunLemmas.{on_append}
+use Rattle.rx_terms.specs.Text.{Chars}
 
 pub same_content : (s : Syntax) (i : Content) → is_of_syntax s i ≡ occurs s i
 same_content Html content.Strict = refl
@@ -114,10 +115,6 @@ pub same_flags : (items : List Item) (two last : Bool) → flags_behind items tw
 same_flags [] two last = refl
 same_flags (item ∷ items) two last = same_flags items (last && is_literal right_bracket item) (is_literal right_bracket item)
 
-brackets_snoc : (items : List Item) (item : Item) (two last : Bool) → brackets_behind (items ++ item ∷ []) two last ≡ ((brackets_behind items two last).1 && is_literal right_bracket item, is_literal right_bracket item)
-brackets_snoc [] item two last = refl
-brackets_snoc (i ∷ items) item two last = brackets_snoc items item (last && is_literal right_bracket i) (is_literal right_bracket i)
-
 -- what isn't too long has room
 room_of : (known : Bool) (bound at : ℕ) → (known && nat_le bound at) ≡ false → known ≡ true → at < bound
 room_of known bound at h k = leb-false bound at (sym (ap (λ b. b && nat_le bound at) k) ∙ h)
@@ -171,16 +168,17 @@ passing_is started after_return c G h on_mark on_feed =
     (λ t. on_mark (and_parts (not started) (c == byte_order_mark) t).1)
     (λ t. on_feed (and_parts after_return (c == line_feed) (sym (ap (λ b. b || after_return && c == line_feed) t) ∙ h)).1)
 
+-- a token that nothing has to follow is read at its last character
+pub whole_verdict : (s : Syntax) (i : Content) (front : Chars) (c : ℕ) (token : Token) → spelling.Spells s i (front ++ c ∷ []) None token → verdict s i front c ≡ whole token
+whole_verdict s i front c token sp = by (front ++ c ∷ []) None token (reads_each s i (front ++ c ∷ []) None token sp) refl refl
+  where
+    by : (x : Chars) (n : Option ℕ) (t : Token) → ReadAs s i x n t → x ≡ front ++ c ∷ [] → n ≡ None → verdict s i front c ≡ whole t
+    by _ _ _ (at_last f d t go v) e n = let p = two_lasts f front d c e in subst (λ x. verdict s i x c ≡ whole t) p.0 (subst (λ x. verdict s i f x ≡ whole t) p.1 v)
+    by _ _ _ (at_next x d t go v) e n = absurd (cc)
+
 -- where a character is refused, no token is whole with it
 no_token : (s : Syntax) (i : Content) (run : List ℕ) (c : ℕ) (found : Kind) → verdict s i run c ≡ refused found → IsNoToken s i (run ++ c ∷ [])
-no_token s i run c found v token sp = by (run ++ c ∷ []) None token (reads_each s i (run ++ c ∷ []) None token sp) refl refl
-  where
-    differ : (t : Token) → verdict s i run c ≡ whole t → ⊥
-    differ t w = let e = sym v ∙ w in cc
-
-    by : (x : List ℕ) (n : Option ℕ) (t : Token) → ReadAs s i x n t → x ≡ run ++ c ∷ [] → n ≡ None → ⊥
-    by _ _ _ (at_last f d t go w) e n = let p = two_lasts f run d c e in differ t (subst (λ x. verdict s i x c ≡ whole t) p.0 (subst (λ x. verdict s i f x ≡ whole t) p.1 w))
-    by _ _ _ (at_next x d t go w) e n = absurd (cc)
+no_token s i run c found v token sp = let e = sym v ∙ whole_verdict s i run c token sp in cc
 
 module _ (syntax : Syntax) (limits : Limits) (spot : Spot) (o : occurs syntax spot.inside ≡ true) (s : Scanning) where
   abbrev inside : Content
@@ -228,7 +226,8 @@ module _ (syntax : Syntax) (limits : Limits) (spot : Spot) (o : occurs syntax sp
 
   behind_more : (items : List Item) (item : Item) (two last : Bool) → IsBehind items two last → (two && is_literal greater_than_sign item) ≡ false → IsBehind (items ++ item ∷ []) (last && is_literal right_bracket item) (is_literal right_bracket item)
   behind_more items item two last f h =
-      let brackets = brackets_snoc items item s.two s.last in
+      let brackets : brackets_behind (items ++ item ∷ []) s.two s.last ≡ ((brackets_behind items s.two s.last).1 && is_literal right_bracket item, is_literal right_bracket item) =
+      sym (same_flags (items ++ item ∷ []) s.two s.last) ∙ (flags_snoc items item s.two s.last ∙ ap (λ (p : Bool × Bool). (p.1 && is_literal right_bracket item, is_literal right_bracket item)) (same_flags items s.two s.last)) in
       record {
         two = ap (λ b. b && is_literal right_bracket item) f.last ∙ ap (λ (p : Bool × Bool). p.0) (sym brackets);
         last = ap (λ (p : Bool × Bool). p.1) (sym brackets);

@@ -41,28 +41,41 @@ pub first_stays : (run : List Entry) (entry : Entry) (x : ℕ) (more : Chars) (a
 first_stays [] entry x more a b e = absurd (cc)
 first_stays (y ∷ run) entry x more a b e = refl
 
-starts_next : (at : ℕ) → (at + 1) - 0 ≡ at + 1
+pub starts_next : (at : ℕ) → (at + 1) - 0 ≡ at + 1
 starts_next at = omega arith
 
 module _ (v : Reading) (s : Scanning) (h : ReadsAs v s) (after_return : Bool) where
+  -- behind a character that is entered, with this run left
+  pub after : (setting : Setting) (place : Position) (p : Pending) (text : Buffered) (end from : ℕ) (run : List Entry) (two last : Bool)
+      → place ≡ record { at = v.place.at + 1; starts = v.place.at + 1; token = from; started = true; after_return = after_return; two = two; last = last } → token_from p.mark place ≡ first_of run (s.at + 1 - 0) → p.tag.syntax ≡ setting.syntax
+      → PendsAs setting.syntax setting.inside p.mark p.run p.tag (values run) → ReadsAs (record { setting = setting; place = place; held = []; pending = p; text = text; end = end }) (entering after_return run two last s)
+  after setting place p text end from run two last pl token y k =
+      record {
+        at = ap (λ (q : Position). q.at) pl ∙ ap (λ a. a + 1) h.at;
+        starts = ap (λ (q : Position). q.starts) pl ∙ (ap (λ a. a + 1) h.at ∙ sym (starts_next s.at));
+        held = refl;
+        started = ap (λ (q : Position). q.started) pl;
+        after_return = ap (λ (q : Position). q.after_return) pl;
+        two = ap (λ (q : Position). q.two) pl;
+        last = ap (λ (q : Position). q.last) pl;
+        token = token;
+        syntax = y;
+        pends = k;
+      }
+
+  -- where no token was whole
+  pub place_on : entered after_return v.place ≡ record { at = v.place.at + 1; starts = v.place.at + 1; token = v.place.token; started = true; after_return = after_return; two = s.two; last = s.last }
+  place_on = λ i. record { at = v.place.at + 1; starts = v.place.at + 1; token = v.place.token; started = true; after_return = after_return; two = h.two i; last = h.last i }
+
   -- the token goes on
   pub went : (entry : Entry) (p : Pending) (text : Chars) (x : ℕ) (more : Chars) → text ≡ values s.run → text ≡ x ∷ more → p.tag.syntax ≡ v.setting.syntax
       → PendsAs v.setting.syntax v.setting.inside p.mark p.run p.tag (text ++ entry.value ∷ []) → token_from v.pending.mark v.place ≡ v.place.token
       → ReadsAs (with_parts v v.setting (entered after_return v.place) p v.text) (entering after_return (s.run ++ entry ∷ []) s.two s.last s)
   went entry p text x more t e y k o =
-      record {
-        at = ap (λ a. a + 1) h.at;
-        starts = ap (λ a. a + 1) h.at ∙ sym (starts_next s.at);
-        held = refl;
-        started = refl;
-        after_return = refl;
-        two = h.two;
-        last = h.last;
-        token = some_mark v.setting.syntax v.setting.inside p.mark p.run p.tag (text ++ entry.value ∷ []) x (more ++ entry.value ∷ []) (entered after_return v.place) k (snoc_some text entry.value x more e)
-            ∙ (sym o ∙ (h.token ∙ sym (first_stays s.run entry x more ((s.at + 1) - 0) (starts_at s) (sym t ∙ e))));
-        syntax = y;
-        pends = subst (λ (z : Chars). PendsAs v.setting.syntax v.setting.inside p.mark p.run p.tag z) (ap (λ z. z ++ entry.value ∷ []) t ∙ sym (values_append s.run (entry ∷ []))) k;
-      }
+      after v.setting (entered after_return v.place) p v.text v.end v.place.token (s.run ++ entry ∷ []) s.two s.last place_on
+      (some_mark v.setting.syntax v.setting.inside p.mark p.run p.tag (text ++ entry.value ∷ []) x (more ++ entry.value ∷ []) (entered after_return v.place) k (snoc_some text entry.value x more e)
+      ∙ (sym o ∙ (h.token ∙ sym (first_stays s.run entry x more ((s.at + 1) - 0) (starts_at s) (sym t ∙ e)))))
+      y (subst (λ (z : Chars). PendsAs v.setting.syntax v.setting.inside p.mark p.run p.tag z) (ap (λ z. z ++ entry.value ∷ []) t ∙ sym (values_append s.run (entry ∷ []))) k)
 
   -- a token begins
   pub begins : (entry : Entry) (p : Pending) (setting : Setting) (text : Buffered) (place : Position) (two last : Bool) → entry.first ≡ starts_at s → setting.syntax ≡ v.setting.syntax → setting.inside ≡ v.setting.inside
@@ -70,36 +83,18 @@ module _ (v : Reading) (s : Scanning) (h : ReadsAs v s) (after_return : Bool) wh
       → p.tag.syntax ≡ v.setting.syntax → PendsAs v.setting.syntax v.setting.inside p.mark p.run p.tag (entry.value ∷ [])
       → ReadsAs (with_parts v setting place p text) (entering after_return (entry ∷ []) two last s)
   begins entry p setting text place two last f sy ins pl y k =
-      record {
-        at = ap (λ (q : Position). q.at) pl ∙ ap (λ a. a + 1) h.at;
-        starts = ap (λ (q : Position). q.starts) pl ∙ (ap (λ a. a + 1) h.at ∙ sym (starts_next s.at));
-        held = refl;
-        started = ap (λ (q : Position). q.started) pl;
-        after_return = ap (λ (q : Position). q.after_return) pl;
-        two = ap (λ (q : Position). q.two) pl;
-        last = ap (λ (q : Position). q.last) pl;
-        token = some_mark v.setting.syntax v.setting.inside p.mark p.run p.tag (entry.value ∷ []) entry.value [] place k refl ∙ (ap (λ (q : Position). q.token) pl ∙ (h.starts ∙ sym f));
-        syntax = y ∙ sym sy;
-        pends = subst (λ (z : Syntax). PendsAs z setting.inside p.mark p.run p.tag (entry.value ∷ [])) (sym sy) (subst (λ (z : Content). PendsAs v.setting.syntax z p.mark p.run p.tag (entry.value ∷ [])) (sym ins) k);
-      }
+      after setting place p text v.end v.place.starts (entry ∷ []) two last pl
+      (some_mark v.setting.syntax v.setting.inside p.mark p.run p.tag (entry.value ∷ []) entry.value [] place k refl ∙ (ap (λ (q : Position). q.token) pl ∙ (h.starts ∙ sym f)))
+      (y ∙ sym sy) (subst (λ (z : Syntax). PendsAs z setting.inside p.mark p.run p.tag (entry.value ∷ [])) (sym sy) (subst (λ (z : Content). PendsAs v.setting.syntax z p.mark p.run p.tag (entry.value ∷ [])) (sym ins) k))
 
   -- a token is whole
   pub whole : (p : Pending) (setting : Setting) (text : Buffered) (place : Position) (end : ℕ) (two last : Bool) → setting.syntax ≡ v.setting.syntax → p.mark ≡ mark.Nothing → p.tag.syntax ≡ v.setting.syntax
       → place ≡ record { at = v.place.at + 1; starts = v.place.at + 1; token = v.place.token; started = true; after_return = after_return; two = two; last = last }
       → ReadsAs (record { setting = setting; place = place; held = []; pending = p; text = text; end = end }) (entering after_return [] two last s)
   whole p setting text place end two last sy m y pl =
-      record {
-        at = ap (λ (q : Position). q.at) pl ∙ ap (λ a. a + 1) h.at;
-        starts = ap (λ (q : Position). q.starts) pl ∙ (ap (λ a. a + 1) h.at ∙ sym (starts_next s.at));
-        held = refl;
-        started = ap (λ (q : Position). q.started) pl;
-        after_return = ap (λ (q : Position). q.after_return) pl;
-        two = ap (λ (q : Position). q.two) pl;
-        last = ap (λ (q : Position). q.last) pl;
-        token = ap (λ (z : TokenState). token_from z place) m ∙ (ap (λ (q : Position). q.starts) pl ∙ (ap (λ a. a + 1) h.at ∙ sym (starts_next s.at)));
-        syntax = y ∙ sym sy;
-        pends = subst (λ (z : TokenState). PendsAs setting.syntax setting.inside z p.run p.tag []) (sym m) refl;
-      }
+      after setting place p text end v.place.token [] two last pl
+      (ap (λ (z : TokenState). token_from z place) m ∙ (ap (λ (q : Position). q.starts) pl ∙ (ap (λ a. a + 1) h.at ∙ sym (starts_next s.at))))
+      (y ∙ sym sy) (subst (λ (z : TokenState). PendsAs setting.syntax setting.inside z p.run p.tag []) (sym m) refl)
 
 -- the item of a run and its last entry
 pub record IsItem (i : Content) (token : Token) (first last : ℕ) (item : Item) : Type 0 where

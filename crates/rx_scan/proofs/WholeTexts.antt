@@ -13,6 +13,7 @@ use Rattle.rx_chars.specs.Named.{named, named_table}
 use Rattle.rx_grammar.specs.References.{meaning}
 use Rattle.rx_pages.specs.PageReader as reader
 use Rattle.rx_reader.specs.declared.phases.RunPhase.TheVariants as run
+use Rattle.rx_reader.specs.declared.phases.RunMove.TheVariants as run_moves
 use Rattle.rx_tags.proofs.TakeLemmas.{chosen as some_taken}
 use Rattle.rx_scan.specs.declared.marks.TokenState.TheVariants as mark
 use Rattle.rx_scan.specs.Entries as entries
@@ -27,6 +28,8 @@ use Rattle.rx_scan.proofs.PlainLemmas.{chars_plain}
 use Rattle.rx_scan.proofs.ReferenceLemmas.{reference_on}
 use Rattle.rx_scan.proofs.RunLemmas.{ReadsOn}
 use Rattle.rx_scan.proofs.SaidLemmas.{TellsChars, chars_on}
+use Rattle.rx_terms.proofs.Bools.{split}
+use Rattle.rx_scan.specs.Pending.{run_on}
 
 -- what stands at the front
 begins_taken : (front text : List ℕ) → begins_with front text ≡ true → (take (length front) text ≡ front) × (length front ≤ length text)
@@ -38,38 +41,17 @@ begins_taken (c ∷ front) (d ∷ text) h =
     (λ i. sym (eqb-true c d k.0) i ∷ r.0 i, omega (arith, r.1))
 
 -- the usual names
-amp_is : named (codes "amp") ≡ Some 38
+usual_are : (named (codes "amp") ≡ Some 38) × (named (codes "lt") ≡ Some 60) × (named (codes "gt") ≡ Some 62) × (named (codes "quot") ≡ Some 34)
 unfolding named_table
-amp_is = refl
-
-lt_is : named (codes "lt") ≡ Some 60
-unfolding named_table
-lt_is = refl
-
-gt_is : named (codes "gt") ≡ Some 62
-unfolding named_table
-gt_is = refl
-
-quot_is : named (codes "quot") ≡ Some 34
-unfolding named_table
-quot_is = refl
+usual_are = (refl, refl, refl, refl)
 
 means_in : (syntax : Syntax) (name : Chars) (c : ℕ) → meaning Html name ≡ Some c → meaning Xhtml name ≡ Some c → meaning syntax name ≡ Some c
 means_in Html name c h x = h
 means_in Xhtml name c h x = x
 
 module _ (syntax : Syntax) where
-  amp : IsReference syntax 38 (codes "&amp;")
-  amp = record { body = codes "amp"; are = refl; last = run.Named; goes = refl; closes = refl; means = means_in syntax (codes "amp") 38 amp_is refl }
-
-  lt : IsReference syntax 60 (codes "&lt;")
-  lt = record { body = codes "lt"; are = refl; last = run.Named; goes = refl; closes = refl; means = means_in syntax (codes "lt") 60 lt_is refl }
-
-  gt : IsReference syntax 62 (codes "&gt;")
-  gt = record { body = codes "gt"; are = refl; last = run.Named; goes = refl; closes = refl; means = means_in syntax (codes "gt") 62 gt_is refl }
-
-  quot : IsReference syntax 34 (codes "&quot;")
-  quot = record { body = codes "quot"; are = refl; last = run.Named; goes = refl; closes = refl; means = means_in syntax (codes "quot") 34 quot_is refl }
+  usual : (name : Chars) (c : ℕ) → run_on (run_moves.Goes run.Ampersand) name ≡ run_moves.Goes run.Named → meaning Html name ≡ Some c → meaning Xhtml name ≡ Some c → IsReference syntax c (38 ∷ (name ++ 59 ∷ []))
+  usual name c goes h x = record { body = name; are = refl; last = run.Named; goes = goes; closes = refl; means = means_in syntax name c h x }
 
   stands_there : (bytes front : List ℕ) (c : ℕ) → 4 ≤ length front → IsReference syntax c front → begins_with front bytes ≡ true → BeginsReference syntax bytes c (length front)
   stands_there bytes front c k r h =
@@ -79,28 +61,20 @@ module _ (syntax : Syntax) where
   abbrev Is : List ℕ → Option (ℕ × ℕ) → Type 0
   Is bytes o = IfSome o (λ r. BeginsReference syntax bytes r.0 r.1)
 
-  tested : (bytes : List ℕ) (b : Bool) (found other : Option (ℕ × ℕ)) → (b ≡ true → Is bytes found) → Is bytes other → Is bytes (if b then found else other)
-  tested bytes true found other f g = f refl
-  tested bytes false found other f g = g
-
   -- what is found is a reference
   pub usual_is : (bytes : List ℕ) → IfSome (usual_reference bytes) (λ r. BeginsReference syntax bytes r.0 r.1)
   usual_is bytes =
-      tested bytes (begins_with (codes "&amp;") bytes) (Some (38, 5)) _ (stands_there bytes (codes "&amp;") 38 (omega arith) amp)
-      (tested bytes (begins_with (codes "&lt;") bytes) (Some (60, 4)) _ (stands_there bytes (codes "&lt;") 60 (omega arith) lt)
-      (tested bytes (begins_with (codes "&gt;") bytes) (Some (62, 4)) _ (stands_there bytes (codes "&gt;") 62 (omega arith) gt)
-      (tested bytes (begins_with (codes "&quot;") bytes) (Some (34, 6)) None (stands_there bytes (codes "&quot;") 34 (omega arith) quot) tt)))
+      split (Is bytes) (begins_with (codes "&amp;") bytes) (Some (38, 5)) _ (stands_there bytes (codes "&amp;") 38 (omega arith) (usual (codes "amp") 38 refl usual_are.0 refl))
+      (λ _. split (Is bytes) (begins_with (codes "&lt;") bytes) (Some (60, 4)) _ (stands_there bytes (codes "&lt;") 60 (omega arith) (usual (codes "lt") 60 refl usual_are.1 refl))
+      (λ _. split (Is bytes) (begins_with (codes "&gt;") bytes) (Some (62, 4)) _ (stands_there bytes (codes "&gt;") 62 (omega arith) (usual (codes "gt") 62 refl usual_are.2 refl))
+      (λ _. split (Is bytes) (begins_with (codes "&quot;") bytes) (Some (34, 6)) None (stands_there bytes (codes "&quot;") 34 (omega arith) (usual (codes "quot") 34 refl usual_are.3 refl)) (λ _. tt))))
 
 -- text that is told at once is its characters
 tells_chars : (l new : Reading) (front cs : List ℕ) → all_scalars cs ≡ true → encode_utf8_all cs ≡ front → TellsFront l front new → TellsChars l cs new
 tells_chars l new front cs k e t =
     record {
-      between = t.may.between;
+      may = record { between = t.may.between; inside = t.may.may.inside; undropped = t.may.may.undropped; started = t.may.may.started; on_a_line = t.may.may.on_a_line };
       held = t.may.may.held;
-      inside = t.may.may.inside;
-      undropped = t.may.may.undropped;
-      started = t.may.may.started;
-      on_a_line = t.may.may.on_a_line;
       plain = chars_plain cs (ap (list_all is_plain) e ∙ t.may.plain);
       scalars = k;
       page = subst (λ (x : List ℕ). l.place.at + length x ≤ l.setting.limits.page) (sym e) t.may.page;
