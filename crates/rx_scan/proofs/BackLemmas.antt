@@ -48,11 +48,8 @@ enters_entries : (started after_return : Bool) (at c : ℕ) (cs : List ℕ) → 
 enters_entries true after_return at c cs h = cond-false _ _ _ h
 enters_entries false after_return at c cs h =
     by_test {G = entries_at false after_return at (c ∷ cs) ≡ entry_at c at (at + len_utf8 c - 1) ∷ entries_at true (c == carriage_return) (at + len_utf8 c) cs} (c == byte_order_mark)
-    (λ t. absurd (true_false (sym (ap (λ b. b || after_return && c == line_feed) t) ∙ h)))
+    (λ t. absurd (let z : true ≡ false = sym (ap (λ b. b || after_return && c == line_feed) t) ∙ h in cc))
     (λ t. cond-false _ _ _ t ∙ cond-false _ _ _ (sym (ap (λ b. b || after_return && c == line_feed) t) ∙ h))
-  where
-    true_false : true ≡ false → ⊥
-    true_false e = cc
 
 rises_at : (started after_return : Bool) (at : ℕ) (cs : List ℕ) → Rises (entries_at started after_return at cs)
 rises_at true after_return at cs = rises after_return at cs
@@ -99,10 +96,7 @@ nonzero_of started after_return at c cs h =
     by_test {G = (c == 0) ≡ false} (passes started after_return c) (λ t. passing_is started after_return c ((c == 0) ≡ false) t (mark_some c) (line_feed_some c))
     (λ t.
     let k : (not (as_line_end c == 0) && has_no_nul (entries_at true (c == carriage_return) (at + len_utf8 c) cs)) ≡ true = sym (ap has_no_nul (enters_entries started after_return at c cs t)) ∙ h in
-    by_test {G = (c == 0) ≡ false} (c == 0) (λ z. absurd (false_true (sym (ap not (nul_entry c z)) ∙ (and_parts (not (as_line_end c == 0)) (has_no_nul (entries_at true (c == carriage_return) (at + len_utf8 c) cs)) k).0))) (λ z. z))
-  where
-    false_true : false ≡ true → ⊥
-    false_true e = cc
+    by_test {G = (c == 0) ≡ false} (c == 0) (λ z. absurd (let w : false ≡ true = sym (ap not (nul_entry c z)) ∙ (and_parts (not (as_line_end c == 0)) (has_no_nul (entries_at true (c == carriage_return) (at + len_utf8 c) cs)) k).0 in cc)) (λ z. z))
 
 no_nul_behind : (started after_return : Bool) (at c : ℕ) (cs : List ℕ) (es : List Entry) → has_no_nul (entries_at started after_return at (c ∷ cs)) ≡ true → (e : Entry) → entries_at started after_return at (c ∷ cs) ≡ e ∷ es → has_no_nul es ≡ true
 no_nul_behind started after_return at c cs es h e k = (and_parts (not (e.value == 0)) (has_no_nul es) (sym (ap has_no_nul k) ∙ h)).1
@@ -301,27 +295,35 @@ module _ (syntax : Syntax) (limits : Limits) (spot : Spot) (o : occurs syntax sp
         return_on : final.next.after_return ≡ ends_in_return (c == carriage_return) cs
         return_on = a.after_return ∙ ap (λ x. ends_in_return s.after_return x) are
 
+        -- and what is ahead of it
+        ahead_of : (after_return : Bool) (run : List Entry) (two last : Bool) (told left : List Item) → final.next.after_return ≡ ends_in_return after_return cs → Spelled_on run (entries_at true after_return (a.start + len_utf8 c) cs) two last left
+            → has_no_nul (entries_at true after_return (a.start + len_utf8 c) cs) ≡ true → a.left ≡ told ++ left → Ahead rest (entering after_return run two last s) (items ++ told)
+        ahead_of after_return run two last told left return_is tail no_nul are =
+            record {
+              start = a.start + len_utf8 c;
+              cs = cs;
+              bytes = behind;
+              scalars = scalars_on;
+              begun = none_begun cs;
+              at_is = next_at;
+              left = left;
+              tail = tail;
+              no_nul = no_nul;
+              within = a.within.1;
+              end_is = end_on;
+              started = started_on;
+              after_return = return_is;
+              items_are = a.items_are ∙ (ap (λ x. items ++ x) are ∙ sym (append_assoc items told left));
+            }
+
         goes_passed : passes s.started s.after_return c ≡ true → Goes byte rest s items
         goes_passed p =
+            let same = passes_entries s.started s.after_return a.start c cs p in
             record {
               r = record { next = passed s; items = [] };
               is = reads ∙ cond-true _ _ _ p;
-              ahead = record {
-                start = a.start + len_utf8 c;
-                cs = cs;
-                bytes = behind;
-                scalars = scalars_on;
-                begun = none_begun cs;
-                at_is = next_at;
-                left = a.left;
-                tail = subst (λ es. Spelled_on s.run es s.two s.last a.left) (passes_entries s.started s.after_return a.start c cs p) tail_is;
-                no_nul = subst (λ es. has_no_nul es ≡ true) (passes_entries s.started s.after_return a.start c cs p) no_nul_is;
-                within = a.within.1;
-                end_is = end_on;
-                started = started_on;
-                after_return = return_on ∙ ap (λ b. ends_in_return b cs) (passing_is s.started s.after_return c ((c == carriage_return) ≡ false) p (no_mark c) (no_return c));
-                items_are = a.items_are ∙ ap (λ x. x ++ a.left) (sym (append-nil items));
-              };
+              ahead = ahead_of false s.run s.two s.last [] a.left (return_on ∙ ap (λ b. ends_in_return b cs) (passing_is s.started s.after_return c ((c == carriage_return) ≡ false) p (no_mark c) (no_return c)))
+                  (subst (λ es. Spelled_on s.run es s.two s.last a.left) same tail_is) (subst (λ es. has_no_nul es ≡ true) same no_nul_is) refl;
             }
 
         abbrev e : Entry
@@ -336,22 +338,7 @@ module _ (syntax : Syntax) (limits : Limits) (spot : Spot) (o : occurs syntax sp
             record {
               r = record { next = entering (c == carriage_return) r.run r.two r.last s; items = r.told };
               is = reads ∙ (cond-false _ _ _ p ∙ (cond-false _ _ _ short_with ∙ r.is));
-              ahead = record {
-                start = a.start + len_utf8 c;
-                cs = cs;
-                bytes = behind;
-                scalars = scalars_on;
-                begun = none_begun cs;
-                at_is = next_at;
-                left = r.left;
-                tail = r.tail;
-                no_nul = no_nul_behind s.started s.after_return a.start c cs others no_nul_is e entries_are;
-                within = a.within.1;
-                end_is = end_on;
-                started = started_on;
-                after_return = return_on;
-                items_are = a.items_are ∙ (ap (λ x. items ++ x) r.are ∙ sym (append_assoc items r.told r.left));
-              };
+              ahead = ahead_of (c == carriage_return) r.run r.two r.last r.told r.left return_on r.tail (no_nul_behind s.started s.after_return a.start c cs others no_nul_is e entries_are) r.are;
             }
           where
             last_is : a.start + len_utf8 c - 1 ≡ s.at

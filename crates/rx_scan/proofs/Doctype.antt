@@ -20,7 +20,7 @@ use Rattle.rx_scan.specs.declared.marks.Move.TheVariants as move
 use Rattle.rx_scan.specs.Marks as marks
 use Rattle.rx_scan.specs.Pending.{Pending, PendsAs, Behind, judge_of, DoctypeIs, DoctypeEnds}
 use Rattle.rx_scan.specs.Meant.{Means}
-use Rattle.rx_scan.proofs.MarkFronts.{head_of, slice_at}
+use Rattle.rx_scan.proofs.MarkFronts.{head_of, slice_at, word_at}
 use Rattle.rx_scan.proofs.Behinds.{judged_at, behind_more}
 
 pub doctype_snoc : (s : Syntax) (reached : Option told.DoctypePhase) (text : Chars) (c : ℕ) → told.doctype_on s reached (text ++ c ∷ []) ≡ told.doctype_move_on s (told.doctype_on s reached text) c
@@ -72,7 +72,7 @@ module _ (s : Syntax) (i : Content) (p : Pending) (text : Chars) (c : ℕ) where
       (λ h. in_name_means phases.Spaces b [] (codes "html") 0 refl refl (e ∙ cond-false _ _ _ h))
   in_doctype_means (phases.Name n) b =
       let l = b.is.is in
-      subst (λ (o : Option ℕ). Means s i p text c (marks.in_name s o n c)) (sym (ap (λ x. slice_get x n) l.are ∙ (ap (λ k. slice_get (l.read ++ l.left) k) (sym l.count) ∙ slice_at l.read l.left)))
+      subst (λ (o : Option ℕ). Means s i p text c (marks.in_name s o n c)) (sym (word_at (codes "html") l.read l.left n l.are l.count))
       (in_name_means (phases.Name n) b l.read l.left n l.are l.count (ap (λ x. told.doctype_move s x c) l.phase))
   in_doctype_means phases.Passed b =
       let e = ap (λ x. told.doctype_move s x c) b.is.is in

@@ -1,7 +1,7 @@
 -- A byte that the grammar refuses is refused; so what is scanned, and what is refused, is exactly what the grammar says.
 use Rattle.std.proofs.Common.{◌≡◌, ◌≢◌, ◌∙◌, ℕ, ◌+◌, ◌≤◌, ◌<◌, Bool, true, false, List, [], ◌∷◌, ◌++◌, refl, sym, ap, subst, nat_le, eqb-true, Option, Some, None, Result, Ok, Err}
 use Rattle.std.specs.Prelude.{◌&&◌, ◌==◌, not, codes}
-use Rattle.std.proofs.lemmas.Bool.{and_from, cond-true, cond-false}
+use Rattle.std.proofs.lemmas.Bool.{and_from, cond-true, cond-false, ne_eqb, and_left}
 use Rattle.rx_terms.specs.Ascii.{greater_than_sign}
 use Rattle.rx_terms.specs.Text.{Chars}
 use Rattle.rx_chars.specs.declared.syntax.Syntax.{Syntax}
@@ -73,18 +73,8 @@ ended_verdict s i text c token g sp = by text (Some c) token (reads_each s i tex
     by _ _ _ (at_last f d t go v) e n = absurd (not_whole s i _ t (goes_at s i [] f d [] (subst (λ x. GoesOn s i [] x) (sym e) g)) v)
     by _ _ _ (at_next x d t go v) e n = let same : d ≡ c = cc in subst (λ y. verdict s i text y ≡ ended t) same (subst (λ y. verdict s i y d ≡ ended t) e v)
 
-some_of : (c : ℕ) → c ≢ 0 → (c == 0) ≡ false
-some_of c n = by (c == 0) refl
-  where
-    by : (b : Bool) → (c == 0) ≡ b → b ≡ false
-    by true e = absurd (n (eqb-true c 0 e))
-    by false e = refl
-
 too_long : (known : Bool) (bound at : ℕ) → known ≡ true → bound ≤ at → (known && nat_le bound at) ≡ true
 too_long known bound at k l = and_from known (nat_le bound at) k (is_le bound at l)
-
-none_long : (known : Bool) (bound at : ℕ) → known ≡ false → (known && nat_le bound at) ≡ false
-none_long known bound at k = ap (λ b. b && nat_le bound at) k
 
 module _ (syntax : Syntax) (limits : Limits) (spot : Spot) (o : occurs syntax spot.inside ≡ true) (next : Scanning) (byte : ℕ) (g : GoesOn syntax spot.inside [] (values next.run)) where
   abbrev inside : Content
@@ -100,7 +90,7 @@ module _ (syntax : Syntax) (limits : Limits) (spot : Spot) (o : occurs syntax sp
   by_answer answer p h = cond-false _ _ _ (not_le limits.page next.at p) ∙ ap (λ x. read_answer syntax limits spot more next x) (sym h)
 
   by_char : (c : ℕ) → next.at < limits.page → IsCharacter more c → c ≢ 0 → is_too_long syntax limits spot next.run (token_at next) next.at ≡ false → reads ≡ read_char syntax limits spot c next
-  by_char c p is n l = by_answer (Char c) p (answer_is more (Char c) is) ∙ (cond-false _ _ _ (some_of c n) ∙ cond-false _ _ _ l)
+  by_char c p is n l = by_answer (Char c) p (answer_is more (Char c) is) ∙ (cond-false _ _ _ (ne_eqb c 0 n) ∙ cond-false _ _ _ l)
 
   module _ (c : ℕ) (ent : Enters limits next byte c) where
     abbrev value : ℕ
@@ -123,7 +113,7 @@ module _ (syntax : Syntax) (limits : Limits) (spot : Spot) (o : occurs syntax sp
 
     over_with : is_known_tag syntax inside (values next.run) ≡ false → is_known_tag syntax inside (values next.run ++ value ∷ []) ≡ true → token_at next + limits.tag ≤ next.at → reads ≡ Err kind.TagTooLong
     over_with u k l =
-        by_entry (none_long (is_known_tag syntax inside (values next.run)) (token_at next + limits.tag) next.at u)
+        by_entry (and_left (is_known_tag syntax inside (values next.run)) _ u)
         ∙ cond-true _ _ _ (too_long known_with (token_at next + limits.tag) next.at (sym with_is ∙ k) l)
 
     module _ (fw : FitsWith syntax limits spot next c) where
@@ -168,7 +158,7 @@ module _ (syntax : Syntax) (limits : Limits) (spot : Spot) (o : occurs syntax sp
   over_before : next.at < limits.page → is_known_tag syntax inside (values next.run) ≡ true → token_at next + limits.tag ≤ next.at → faults.GoesOn more → reads ≡ Err kind.TagTooLong
   over_before p k l (faults.begins_one b) = by_answer More p (answer_is more More b) ∙ cond-true _ _ _ (too_long (is_known_tag syntax inside (values next.run)) (token_at next + limits.tag) next.at k l)
   over_before p k l (faults.is_one c is n) =
-      by_answer (Char c) p (answer_is more (Char c) is) ∙ (cond-false _ _ _ (some_of c n) ∙ cond-true _ _ _ (too_long (is_known_tag syntax inside (values next.run)) (token_at next + limits.tag) next.at k l))
+      by_answer (Char c) p (answer_is more (Char c) is) ∙ (cond-false _ _ _ (ne_eqb c 0 n) ∙ cond-true _ _ _ (too_long (is_known_tag syntax inside (values next.run)) (token_at next + limits.tag) next.at k l))
 
   pub refused_read : {found : Kind} → Refuses syntax limits spot next byte found → reads ≡ Err found
   refused_read (page_too_long l) = cond-true _ _ _ (is_le limits.page next.at l)

@@ -74,9 +74,6 @@ kept l new front n m =
     }
 
 module _ (l new : Reading) (n : ℕ) (k : IsKept l n new) where
-  pub quiet_on : l.pending.mark ≡ mark.Nothing → new.pending.mark ≡ mark.Nothing
-  quiet_on m = k.between m
-
   pub apart_on : (l.text.text ≡ []) ⊎ (l.pending.mark ≡ mark.Nothing) → (new.text.text ≡ []) ⊎ (new.pending.mark ≡ mark.Nothing)
   apart_on o = elim k.apart [ inl e ↦ elim o [ inl x ↦ inl (e ∙ x) | inr m ↦ inr (k.between m) ] | inr m ↦ inr (k.between m) ]
 

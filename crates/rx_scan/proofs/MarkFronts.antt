@@ -1,5 +1,5 @@
 -- What stands behind a front of a text.
-use Rattle.std.proofs.Common.{◌≡◌, ◌∙◌, ℕ, Bool, true, false, [], ◌∷◌, ◌++◌, refl, ap, Option, Some, None, length, slice_get}
+use Rattle.std.proofs.Common.{◌≡◌, ◌∙◌, ℕ, Bool, true, false, [], ◌∷◌, ◌++◌, refl, ap, sym, Option, Some, None, length, slice_get}
 use Rattle.std.specs.Prelude.{◌&&◌}
 use Rattle.std.specs.List.{list_all}
 use Rattle.rx_terms.specs.Text.{Chars, begins_with}
@@ -15,6 +15,10 @@ pub slice_at : (front left : Chars) → slice_get (front ++ left) (length front)
 slice_at [] [] = refl
 slice_at [] (d ∷ left) = refl
 slice_at (c ∷ front) left = slice_at front left
+
+-- the one of a word, of which so many were read
+pub word_at : (word front left : Chars) (n : ℕ) → word ≡ front ++ left → length front ≡ n → slice_get word n ≡ head_of left
+word_at word front left n e c = ap (λ x. slice_get x n) e ∙ (ap (λ k. slice_get (front ++ left) k) (sym c) ∙ slice_at front left)
 
 -- a front that two texts have
 pub cancel : (a b c : Chars) → begins_with (a ++ b) (a ++ c) ≡ begins_with b c

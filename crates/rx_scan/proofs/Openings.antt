@@ -32,7 +32,7 @@ use Rattle.rx_scan.specs.Marks as marks
 use Rattle.rx_scan.specs.Pending.{Pending, PendsAs, InOpened, InOpening, Behind, judge_of, CommentEnds, StrictEnds, SectionEnds, DoctypeEnds}
 use Rattle.rx_scan.specs.Meant.{Means, Goes}
 use Rattle.rx_scan.proofs.Snoc.{ends_one, either_way}
-use Rattle.rx_scan.proofs.MarkFronts.{slice_at, cancel}
+use Rattle.rx_scan.proofs.MarkFronts.{slice_at, cancel, word_at}
 use Rattle.rx_scan.proofs.OpeningWords.{plain_is, begins_word, word_more, word_short, word_unlike, lowered_other, head_list, undeclared, next_no_greater, NoWord, no_word, begins_some, begins_none, same_char, strict_plain, first_of, word_length, exact}
 use Rattle.std.proofs.Math.Bool.{and-false}
 
@@ -79,11 +79,6 @@ module _ (s : Syntax) (i : Content) (p : Pending) (text : Chars) (c : ℕ) (w : 
   abbrev t : Chars
   t = h.first ∷ h.chars
 
-  -- where the move is the one of the word's next character
-  at_next : (P : Option ℕ → Type 0) → P (Some h.next) → P (slice_get (marks.opening_text s w) n)
-  at_next P k =
-      subst P (sym (ap (λ x. slice_get x n) h.word ∙ (ap (λ m. slice_get (map (marks.opening_char s w) t ++ h.next ∷ h.left) m) (sym (length-map t (marks.opening_char s w) ∙ h.count)) ∙ slice_at (map (marks.opening_char s w) t) (h.next ∷ h.left)))) k
-
   -- the word goes on
   longer : (d : ℕ) (left : Chars) → h.left ≡ d ∷ left → marks.opening_char s w c ≡ h.next → told.verdict s i text c ≡ told.goes_on → Means s i p text c (move.Continue (mark.Opening w (n + 1)))
   longer d left l q v =
@@ -121,7 +116,8 @@ module _ (s : Syntax) (i : Content) (p : Pending) (text : Chars) (c : ℕ) (w : 
   more_means (d ∷ left) l q begun v = subst (λ (b : Bool). Means s i p text c (cond b (marks.begun_word s i w) (move.Continue (mark.Opening w (n + 1))))) (sym (part_word d left l)) (longer d left l q (v d left l))
 
   by_next : (marks.opening_char s w c ≡ h.next → Means s i p text c (marks.more_of_word s i w (n + 1))) → (marks.is_next s w h.next c ≡ false → Means s i p text c (marks.unlike s c)) → Means s i p text c (marks.in_word s i w (slice_get (marks.opening_text s w) n) n c)
-  by_next f g = at_next (λ o. Means s i p text c (marks.in_word s i w o n c)) (split (λ (m : Move). Means s i p text c m) (marks.is_next s w h.next c) _ _ (λ k. f (eqb-true (marks.opening_char s w c) h.next k)) g)
+  by_next f g = subst (λ (o : Option ℕ). Means s i p text c (marks.in_word s i w o n c)) (sym (word_at (marks.opening_text s w) (map (marks.opening_char s w) t) (h.next ∷ h.left) n h.word (length-map t (marks.opening_char s w) ∙ h.count)))
+      (split (λ (m : Move). Means s i p text c m) (marks.is_next s w h.next c) _ _ (λ k. f (eqb-true (marks.opening_char s w c) h.next k)) g)
 
   -- the first one
   begins_as : marks.opening_char s w h.first ∷ [] ≡ head_list (marks.opening_text s w)

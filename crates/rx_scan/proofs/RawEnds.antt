@@ -37,7 +37,7 @@ use Rattle.rx_scan.specs.declared.marks.Move.TheVariants as move
 use Rattle.rx_scan.specs.Marks as marks
 use Rattle.rx_scan.specs.Pending.{Pending, first_char, InRawEnd, end_phase}
 use Rattle.rx_scan.specs.Meant.{Means}
-use Rattle.rx_scan.proofs.MarkFronts.{head_of, slice_at, cancel, all_at}
+use Rattle.rx_scan.proofs.MarkFronts.{head_of, slice_at, cancel, all_at, word_at}
 use Rattle.std.proofs.Math.Bool.{and-false}
 
 -- a letter begins a tag's name, and stands in one
@@ -248,12 +248,9 @@ module _ (s : Syntax) (i : Content) (p : Pending) (text : Chars) (c : ℕ) (n : 
           (ap (λ k. same (lowered (take k (p.run ++ z))) (solidus ∷ h.name)) size ∙ (ap (λ x. same (lowered x) (solidus ∷ h.name)) (take-append_seam p.run z) ∙ (ap (same (lowered p.run)) word_whole ∙ same_self (lowered p.run))))
           (ap (λ k. begins ends_name (drop k (p.run ++ z))) size ∙ (ap (begins ends_name) (drop-append_seam p.run z) ∙ b))
 
-  at_place : (P : Option ℕ → Type 0) → P (head_of h.left) → P (slice_get (marks.end_word i) n)
-  at_place P k =
-      subst P (sym (ap (λ x. slice_get x n) h.word ∙ (ap (λ z. slice_get (map lowered_char p.run ++ h.left) z) (sym (length-map p.run lowered_char ∙ h.count)) ∙ slice_at (map lowered_char p.run) h.left))) k
-
   pub in_end_means : Means s i p text c (marks.in_end (slice_get (marks.end_word i) n) n c)
-  in_end_means = at_place (λ o. Means s i p text c (marks.in_end o n c)) (by h.left refl)
+  in_end_means =
+      subst (λ (o : Option ℕ). Means s i p text c (marks.in_end o n c)) (sym (word_at (marks.end_word i) (map lowered_char p.run) h.left n h.word (length-map p.run lowered_char ∙ h.count))) (by h.left refl)
     where
       by : (left : Chars) → h.left ≡ left → Means s i p text c (marks.in_end (head_of left) n c)
       by [] l =

@@ -26,12 +26,13 @@ use Rattle.rx_scan.specs.Pending.{Pending, PendsAs, Pends, Behind, judge_of, Com
 use Rattle.rx_scan.specs.Meant.{Means}
 use Rattle.rx_scan.proofs.Behinds.{grown, in_comment_means, in_strict_means, in_bogus_means, in_instruction_means, in_section_means}
 use Rattle.rx_scan.proofs.Doctype.{in_doctype_means}
-use Rattle.rx_scan.proofs.MarkFronts.{head_of, slice_at}
+use Rattle.rx_scan.proofs.MarkFronts.{head_of, slice_at, word_at}
 use Rattle.rx_scan.proofs.Openings.{in_word_means, at_opened_means, no_tag}
 use Rattle.rx_scan.proofs.Markup.{at_nothing_means, at_less_than_means, in_tag_means}
 use Rattle.rx_scan.proofs.References.{in_run_means}
 use Rattle.rx_scan.proofs.RawEnds.{in_end_means, raw_content, same_self}
 use Rattle.std.proofs.Math.Bool.{and-false}
+use Rattle.rx_scan.specs.Marks.{end_word}
 
 module _ (s : Syntax) (i : Content) (p : Pending) (text : Chars) (c : ℕ) where
   at_mark : (m : TokenState) → p.mark ≡ m → PendsAs s i m p.run p.tag text → Means s i p text c (marks.move_of s i m c)
@@ -130,7 +131,7 @@ module _ (s : Syntax) (i : Content) (run : Chars) (tag : TagSoFar) (text : Chars
   known_with mark.LessThan c h = ap (λ x. is_known_tag s i (x ++ c ∷ [])) h.are ∙ cond-true _ _ _ h.markup
   known_with (mark.RawEnd n) c h =
       raw_known_with n c h h.left refl
-      ∙ ap (λ o. ends_word o c) (sym (ap (λ x. slice_get x n) h.word ∙ (ap (λ z. slice_get (map lowered_char run ++ h.left) z) (sym (length-map run lowered_char ∙ h.count)) ∙ slice_at (map lowered_char run) h.left)))
+      ∙ ap (λ o. ends_word o c) (sym (word_at (end_word i) (map lowered_char run) h.left n h.word (length-map run lowered_char ∙ h.count)))
   known_with mark.Tag c h = ap (λ x. is_known_tag s i (x ++ c ∷ [])) h.are ∙ h.known (c ∷ [])
   known_with (mark.Run q) c h = ap (λ x. is_known_tag s i (x ++ c ∷ [])) h.are
   known_with mark.Opened c h = ap (λ x. is_known_tag s i (x ++ c ∷ [])) h.are ∙ no_tag s i (c ∷ []) h.markup

@@ -6,7 +6,7 @@ use Rattle.std.specs.Str.{all_scalars}
 use lib.Utf8.{encode, encodes}
 use Rattle.std.proofs.lemmas.List.{length-append}
 use Rattle.std.proofs.lemmas.Str.{length-encode}
-use Rattle.std.proofs.lemmas.Bool.{and_parts, and_from, and_right, cond-true, cond-false, leb-true, leb-false, eqb-false, false_from_ne_true}
+use Rattle.std.proofs.lemmas.Bool.{and_parts, and_from, and_right, cond-true, cond-false, leb-true, leb-false, eqb-false, false_from_ne_true, or_right}
 use Rattle.std.proofs.Math.Bool.{or-false}
 use Rattle.std.proofs.lemmas.Bool.Decides.{nat_tests}
 use Rattle.rx_terms.specs.Ascii.{ampersand, less_than_sign, right_bracket, greater_than_sign}
@@ -47,7 +47,7 @@ use Rattle.rx_pages.proofs.LastToken.{token_of_item}
 use Rattle.rx_pages.proofs.CharSteps.{passes, entry_at}
 use Rattle.rx_pages.proofs.CharWalk.{is_started, ends_return, no_return, no_mark}
 use Rattle.rx_pages.proofs.BytesOn.{encodes_more, scalars_more, some_entered}
-use Rattle.rx_pages.proofs.Snocs.{entered_one, values_next, spelled_snoc, return_snoc, flags_snoc, sections_snoc, fit_snoc, entered_snoc}
+use Rattle.rx_pages.proofs.Snocs.{entered_one, values_next, spelled_snoc, return_snoc, flags_snoc, sections_snoc, fit_snoc, entered_snoc, started_snoc}
 use Rattle.rx_pages.proofs.TokensWalk.{flags_behind}
 use Rattle.rx_pages.proofs.TokenWalk.{IsKept, is_kept}
 use Rattle.rx_pages.proofs.EndedRuns.{ended_kept}
@@ -83,33 +83,17 @@ entries_snoc : (started after_return : Bool) (at : ℕ) (cs : List ℕ) (c : ℕ
     → entries_at started after_return at (cs ++ c ∷ []) ≡ entries_at started after_return at cs ++ entered_one (passes (started || is_started cs) (ends_return after_return cs) c) (at + length (encodes cs)) c
 entries_snoc true after_return at cs c = entered_snoc after_return at cs c
 entries_snoc false after_return at [] c =
-    let z : at ≡ at + 0 = omega arith in
-    by_test {G = entries_at false after_return at (c ∷ []) ≡ entered_one (passes false after_return c) (at + 0) c} (c == byte_order_mark)
-    (λ t. cond-true _ _ _ t ∙ ap (λ b. entered_one (b || after_return && c == line_feed) (at + 0) c) (sym t))
-    (λ t. cond-false _ _ _ t ∙ (ap (λ x. entered_one (after_return && c == line_feed) x c) z ∙ ap (λ b. entered_one (b || after_return && c == line_feed) (at + 0) c) (sym t)))
+    by_test {G = entries_at false after_return at (c ∷ []) ≡ entered_one (passes false after_return c) (at + 0) c} (c == byte_order_mark) (λ t. rw t refl) (λ t. rw t (entered_snoc after_return at [] c))
 entries_snoc false after_return at (d ∷ cs) c =
     let n = length-append (encode d) (encodes cs) in
     let l = length-encode d in
     let same : at + len_utf8 d + length (encodes cs) ≡ at + length (encodes (d ∷ cs)) = omega arith in
     by_test {G = entries_at false after_return at ((d ∷ cs) ++ c ∷ []) ≡ entries_at false after_return at (d ∷ cs) ++ entered_one (ends_return (d == carriage_return) cs && c == line_feed) (at + length (encodes (d ∷ cs))) c} (d == byte_order_mark)
-    (λ t.
-    cond-true _ _ _ t
-    ∙ (entered_snoc false (at + len_utf8 d) cs c
-    ∙ (ap (λ x. entered false (placed (at + len_utf8 d) cs) ++ entered_one (ends_return false cs && c == line_feed) x c) same
-    ∙ (ap (λ b. entered false (placed (at + len_utf8 d) cs) ++ entered_one (ends_return b cs && c == line_feed) (at + length (encodes (d ∷ cs))) c) (sym (no_mark d t))
-    ∙ ap (λ es. es ++ entered_one (ends_return (d == carriage_return) cs && c == line_feed) (at + length (encodes (d ∷ cs))) c) (sym (cond-true _ _ _ t))))))
-    (λ t.
-    cond-false _ _ _ t
-    ∙ (entered_snoc after_return at (d ∷ cs) c
-    ∙ ap (λ es. es ++ entered_one (ends_return (d == carriage_return) cs && c == line_feed) (at + length (encodes (d ∷ cs))) c) (sym (cond-false _ _ _ t))))
+    (λ t. rw (t, no_mark d t, ← same) (entered_snoc false (at + len_utf8 d) cs c)) (λ t. rw t (entered_snoc after_return at (d ∷ cs) c))
 
 inside_more : (inside : Content) (items : List Item) (item : Item) → AllInside inside items → item.content ≡ inside → AllInside inside (items ++ item ∷ [])
 inside_more inside [] item a e = (e, tt)
 inside_more inside (i ∷ items) item a e = (a.0, inside_more inside items item a.1 e)
-
-started_more : (b : Bool) (cs : List ℕ) (c : ℕ) → (b || has_character (cs ++ c ∷ [])) ≡ true
-started_more false (d ∷ cs) c = refl
-started_more _ _ c = refl
 
 pub same_flags : (items : List Item) (two last : Bool) → flags_behind items two last ≡ brackets_behind items two last
 same_flags [] two last = refl
@@ -343,39 +327,48 @@ module _ (syntax : Syntax) (limits : Limits) (spot : Spot) (o : occurs syntax sp
       entries = entries_snoc s.started s.after_return s.at t.characters c ∙ ap (λ b. entries_at s.started s.after_return s.at t.characters ++ entered_one b start c) (sym pass_is)
 
       started_is : true ≡ (s.started || has_character chars)
-      started_is = sym (started_more s.started t.characters c)
+      started_is = sym (or_right s.started _ (sym (some_is chars) ∙ started_snoc t.characters c))
 
       return_is : (c == carriage_return) ≡ ends_in_return s.after_return chars
       return_is = sym (return_snoc s.after_return t.characters c) ∙ ends_is s.after_return chars
 
-      does_passed : does_pass ≡ true → Here (Ok (record { next = passed next; items = [] }))
-      does_passed h =
-          let same : entries_at s.started s.after_return s.at chars ≡ entries_at s.started s.after_return s.at t.characters =
-          entries ∙ (ap (λ x. entries_at s.started s.after_return s.at t.characters ++ x) (cond-true _ _ _ h) ∙ append-nil (entries_at s.started s.after_return s.at t.characters)) in
-          subst (λ xs. IsTold more (passed next) xs) (sym (append-nil items)) (record {
+      -- with it these tokens are told, and this run is left
+      with_run : (after_return two last : Bool) (front run : List Entry) (others : List Item) → after_return ≡ ends_in_return s.after_return chars → front ++ run ≡ entries_at s.started s.after_return s.at chars → has_no_nul (front ++ run) ≡ true
+          → Spelled syntax front (next_of (values run) None) others → AllInside inside others → IsPending syntax inside (values run) → IsBehind others two last → AllMayCome spot.leads others → AllFit limits.tag others
+          → (is_known_tag syntax inside (values run) ≡ true → next.at + 1 ≤ first_of run (next.at + 1 - 0) + limits.tag) → IsTold more (entering after_return run two last next) others
+      with_run after_return two last front run others return_is read no_nul sp i p f come fit short =
+          record {
             characters = chars;
             part = [];
             are = are;
             scalars = scalars;
             within = within_more;
-            front = t.front;
-            read = t.read ∙ sym same;
-            no_nul = t.no_nul;
-            spelled = t.spelled;
-            inside_is = t.inside_is;
-            come = t.come;
-            fit = t.fit;
-            sections = t.sections;
-            pending = t.pending;
-            short = λ k. (let r = room k in let f = first_known syntax inside next.run (starts_at (passed next)) (starts_at next) k in omega arith);
+            front = front;
+            read = read;
+            no_nul = no_nul;
+            spelled = sp;
+            inside_is = i;
+            come = come;
+            fit = fit;
+            sections = f.sections;
+            pending = p;
+            short = short;
             is_part = inl refl;
             at_is = at_more;
             part_is = refl;
             started_is = started_is;
-            return_is = sym (passing_is next.started next.after_return c ((c == carriage_return) ≡ false) h (no_mark c) (no_return c)) ∙ return_is;
-            two_is = t.two_is;
-            last_is = t.last_is;
-          })
+            return_is = return_is;
+            two_is = f.two;
+            last_is = f.last;
+          }
+
+      does_passed : does_pass ≡ true → Here (Ok (record { next = passed next; items = [] }))
+      does_passed h =
+          let same : entries_at s.started s.after_return s.at chars ≡ entries_at s.started s.after_return s.at t.characters =
+          entries ∙ (ap (λ x. entries_at s.started s.after_return s.at t.characters ++ x) (cond-true _ _ _ h) ∙ append-nil (entries_at s.started s.after_return s.at t.characters)) in
+          subst (λ xs. IsTold more (passed next) xs) (sym (append-nil items))
+          (with_run false next.two next.last t.front next.run items (sym (passing_is next.started next.after_return c ((c == carriage_return) ≡ false) h (no_mark c) (no_return c)) ∙ return_is) (t.read ∙ sym same) t.no_nul t.spelled t.inside_is t.pending behind_now t.come t.fit
+          (λ k. let r = room k in let f = first_known syntax inside next.run (starts_at (passed next)) (starts_at next) k in omega arith))
 
       abbrev e : Entry
       e = record { value = as_line_end c; first = starts_at next; last = next.at }
@@ -407,39 +400,16 @@ module _ (syntax : Syntax) (limits : Limits) (spot : Spot) (o : occurs syntax sp
         none_more = subst (λ es. has_no_nul es ≡ true) (append_assoc t.front next.run (e ∷ [])) (no_nul_more (t.front ++ next.run) (e ∷ []) t.no_nul (and_from (not (as_line_end c == 0)) true (some_entered c nonzero) refl))
 
         -- these tokens, and this run is left
-        with_run : (two last : Bool) (front run : List Entry) (others : List Item) → front ++ run ≡ t.front ++ (next.run ++ e ∷ []) → Spelled syntax front (next_of (values run) None) others → AllInside inside others → GoesOn syntax inside [] (values run)
+        with_entry : (two last : Bool) (front run : List Entry) (others : List Item) → front ++ run ≡ t.front ++ (next.run ++ e ∷ []) → Spelled syntax front (next_of (values run) None) others → AllInside inside others → GoesOn syntax inside [] (values run)
             → IsBehind others two last → AllMayCome spot.leads others → AllFit limits.tag others → (is_known_tag syntax inside (values run) ≡ true → next.at + 1 ≤ first_of run (next.at + 1 - 0) + limits.tag)
             → IsTold more (entering (c == carriage_return) run two last next) others
-        with_run two last front run others same sp i g f come fit short =
-            record {
-              characters = chars;
-              part = [];
-              are = are;
-              scalars = scalars;
-              within = within_more;
-              front = front;
-              read = same ∙ read_more;
-              no_nul = subst (λ es. has_no_nul es ≡ true) (sym same) none_more;
-              spelled = sp;
-              inside_is = i;
-              come = come;
-              fit = fit;
-              sections = f.sections;
-              pending = pending_of run g;
-              short = short;
-              is_part = inl refl;
-              at_is = at_more;
-              part_is = refl;
-              started_is = started_is;
-              return_is = return_is;
-              two_is = f.two;
-              last_is = f.last;
-            }
+        with_entry two last front run others same sp i g f come fit short =
+            with_run (c == carriage_return) two last front run others return_is (same ∙ read_more) (subst (λ es. has_no_nul es ≡ true) (sym same) none_more) sp i (pending_of run g) f come fit short
 
         on_goes : verdict syntax inside (values next.run) e.value ≡ goes_on → Here (Ok (record { next = entering (c == carriage_return) (next.run ++ e ∷ []) next.two next.last next; items = [] }))
         on_goes v =
             subst (λ xs. IsTold more (entering (c == carriage_return) (next.run ++ e ∷ []) next.two next.last next) xs) (sym (append-nil items))
-            (with_run next.two next.last t.front (next.run ++ e ∷ []) items refl (subst (λ n. Spelled syntax t.front n items) (sym (values_next next.run e [] None)) (lifted e.value next.run t.spelled)) t.inside_is
+            (with_entry next.two next.last t.front (next.run ++ e ∷ []) items refl (subst (λ n. Spelled syntax t.front n items) (sym (values_next next.run e [] None)) (lifted e.value next.run t.spelled)) t.inside_is
             (subst (λ x. GoesOn syntax inside [] x) (sym values_with) (goes_more syntax inside [] (values next.run) e.value goes v)) behind_now t.come t.fit
             (λ k. let r = space k in let f = first_snoc next.run e (next.at + 1 - 0) in omega arith))
 
@@ -464,7 +434,7 @@ module _ (syntax : Syntax) (limits : Limits) (spot : Spot) (o : occurs syntax sp
         on_whole : (token : Token) (two last : Bool) → spelling.Spells syntax inside (values (next.run ++ e ∷ [])) None token → IsBehind (items ++ item token ∷ []) two last → MayCome spot.leads (item token).token
             → Here (Ok (record { next = entering (c == carriage_return) [] two last next; items = item token ∷ [] }))
         on_whole token two last sp f m =
-            with_run two last (t.front ++ (next.run ++ e ∷ [])) [] (items ++ item token ∷ []) (append-nil (t.front ++ (next.run ++ e ∷ []))) (after_whole e t.front items next.run token (lifted e.value next.run t.spelled) sp)
+            with_entry two last (t.front ++ (next.run ++ e ∷ [])) [] (items ++ item token ∷ []) (append-nil (t.front ++ (next.run ++ e ∷ []))) (after_whole e t.front items next.run token (lifted e.value next.run t.spelled) sp)
             (inside_more inside items (item token) t.inside_is (content_of token (next.run ++ e ∷ []))) tt f (come_snoc spot.leads items (item token) t.come m) (fit_snoc limits.tag items (item token) t.fit (fits_now token sp)) (λ k. absurd (cc))
 
         literal_is : (token : Token) → is_literal greater_than_sign (item token) ≡ is_strict_literal greater_than_sign inside token
@@ -517,14 +487,14 @@ module _ (syntax : Syntax) (limits : Limits) (spot : Spot) (o : occurs syntax sp
           does_character x k =
               let it : Item = item_of inside (character x) (e ∷ []) in
               subst (λ xs. IsTold more (entering (c == carriage_return) [] false (is_literal right_bracket it) next) xs) (append_assoc items (text_item ∷ []) (it ∷ []))
-              (with_run false (is_literal right_bracket it) ((t.front ++ next.run) ++ e ∷ []) [] ((items ++ text_item ∷ []) ++ it ∷ []) (append-nil ((t.front ++ next.run) ++ e ∷ []) ∙ append_assoc t.front next.run (e ∷ []))
+              (with_entry false (is_literal right_bracket it) ((t.front ++ next.run) ++ e ∷ []) [] ((items ++ text_item ∷ []) ++ it ∷ []) (append-nil ((t.front ++ next.run) ++ e ∷ []) ∙ append_assoc t.front next.run (e ∷ []))
               (spelled_snoc syntax e [] None it sp_text refl (spells_read syntax inside o (e.value ∷ []) None (character x) (at_last [] e.value (character x) tt k)) refl refl)
               (inside_more inside (items ++ text_item ∷ []) it in_text refl) tt (behind_more (items ++ text_item ∷ []) it false false behind_text refl) (come_snoc spot.leads (items ++ text_item ∷ []) it text_comes tt)
               (fit_snoc limits.tag (items ++ text_item ∷ []) it text_fits tt) (λ w. absurd (cc)))
 
           -- what the entry says then
           does_then : (w : Verdict) → verdict syntax inside [] e.value ≡ w → Then w
-          does_then goes_on k = with_run false false (t.front ++ next.run) (e ∷ []) (items ++ text_item ∷ []) (append_assoc t.front next.run (e ∷ [])) sp_text in_text (k, tt) behind_text text_comes text_fits (λ w. absurd (known_one syntax inside e.value w))
+          does_then goes_on k = with_entry false false (t.front ++ next.run) (e ∷ []) (items ++ text_item ∷ []) (append_assoc t.front next.run (e ∷ [])) sp_text in_text (k, tt) behind_text text_comes text_fits (λ w. absurd (known_one syntax inside e.value w))
           does_then (whole other) k =
               let x : (x : ℕ) × (other ≡ character x) = subst FirstSays k (first_says inside e.value) in
               subst (λ z. Then (whole z)) (sym x.1) (does_character x.0 (k ∙ ap whole x.1))

@@ -19,6 +19,7 @@ use Rattle.rx_scan.specs.declared.places.Setting.{Setting}
 use Rattle.rx_scan.specs.Scanner.{Reading, Scanner, spot_of}
 use Rattle.rx_scan.specs.Entries.{token_from}
 use Rattle.rx_scan.specs.Steps.{ReadsAs, ScanStands, Prepared, Took, Faults, Runs, Advances, Tells, setting_after, is_tag, inside_of}
+use Rattle.rx_terms.proofs.Bools.{split}
 
 pub stands_inside : (inside : Content) (drops : Bool) (v : Scanner) (s : Scanning) → v.reading.pending.mark ≡ mark.Nothing → ScanStands v s → ScanStands (inside_of inside drops v) s
 stands_inside inside drops v s n h =
@@ -56,24 +57,18 @@ prepared_reads old new s p h =
       two = ap (λ (x : Position). x.two) p.place ∙ r.two;
       last = ap (λ (x : Position). x.last) p.place ∙ r.last;
       token = (λ i. token_from (p.mark_is i) (p.place i)) ∙ r.token;
-      syntax = by_syntax (is_tag old.what) refl;
+      syntax = ap (λ (x : TagSoFar). x.syntax) p.tag
+          ∙ (split (λ (x : TagSoFar). x.syntax ≡ old.reading.pending.tag.syntax) (is_tag old.what) _ _ (λ e. refl) (λ e. refl) ∙ (r.syntax ∙ sym sy));
       pends = subst (λ (x : Syntax). PendsAs x new.reading.setting.inside new.reading.pending.mark new.reading.pending.run new.reading.pending.tag (values s.run)) (sym sy)
           (subst (λ (x : Content). PendsAs old.reading.setting.syntax x new.reading.pending.mark new.reading.pending.run new.reading.pending.tag (values s.run)) (sym ins)
           (subst (λ (x : TokenState). PendsAs old.reading.setting.syntax old.reading.setting.inside x new.reading.pending.run new.reading.pending.tag (values s.run)) (sym p.mark_is)
           (subst (λ (x : Chars). PendsAs old.reading.setting.syntax old.reading.setting.inside old.reading.pending.mark x new.reading.pending.tag (values s.run)) (sym p.run)
-          (by_tag (is_tag old.what) refl))));
+          (subst (λ (x : TagSoFar). PendsAs old.reading.setting.syntax old.reading.setting.inside old.reading.pending.mark old.reading.pending.run x (values s.run)) (sym p.tag)
+          (split (λ (x : TagSoFar). PendsAs old.reading.setting.syntax old.reading.setting.inside old.reading.pending.mark old.reading.pending.run x (values s.run)) (is_tag old.what) _ _
+          (λ e. let none = subst (λ (m : TokenState). PendsAs old.reading.setting.syntax old.reading.setting.inside m old.reading.pending.run old.reading.pending.tag (values s.run)) (p.between e) r.pends in
+          subst (λ (m : TokenState). PendsAs old.reading.setting.syntax old.reading.setting.inside m old.reading.pending.run (no_tag old.reading.pending.tag.syntax) (values s.run)) (sym (p.between e)) none)
+          (λ e. r.pends))))));
     }
-  where
-    by_syntax : (b : Bool) → is_tag old.what ≡ b → new.reading.pending.tag.syntax ≡ new.reading.setting.syntax
-    by_syntax true e = ap (λ (x : TagSoFar). x.syntax) (p.tag ∙ ap (λ b. if b then no_tag old.reading.pending.tag.syntax else old.reading.pending.tag) e) ∙ (h.reads_as.syntax ∙ sym (ap (λ (x : Setting). x.syntax) p.setting))
-    by_syntax false e = ap (λ (x : TagSoFar). x.syntax) (p.tag ∙ ap (λ b. if b then no_tag old.reading.pending.tag.syntax else old.reading.pending.tag) e) ∙ (h.reads_as.syntax ∙ sym (ap (λ (x : Setting). x.syntax) p.setting))
-
-    by_tag : (b : Bool) → is_tag old.what ≡ b → PendsAs old.reading.setting.syntax old.reading.setting.inside old.reading.pending.mark old.reading.pending.run new.reading.pending.tag (values s.run)
-    by_tag true e =
-        let none = subst (λ (m : TokenState). PendsAs old.reading.setting.syntax old.reading.setting.inside m old.reading.pending.run old.reading.pending.tag (values s.run)) (p.between e) h.reads_as.pends in
-        subst (λ (m : TokenState). PendsAs old.reading.setting.syntax old.reading.setting.inside m old.reading.pending.run new.reading.pending.tag (values s.run)) (sym (p.between e)) none
-    by_tag false e =
-        subst (λ (x : TagSoFar). PendsAs old.reading.setting.syntax old.reading.setting.inside old.reading.pending.mark old.reading.pending.run x (values s.run)) (sym (p.tag ∙ ap (λ b. if b then no_tag old.reading.pending.tag.syntax else old.reading.pending.tag) e)) h.reads_as.pends
 
 spot_same : (a b : Reading) → a.setting ≡ b.setting → spot_of a ≡ spot_of b
 spot_same a b e = λ i. record { inside = (e i).inside; leads = (e i).leads }
