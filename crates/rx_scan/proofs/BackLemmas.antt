@@ -21,7 +21,7 @@ use Rattle.rx_grammar.specs.Pages.{has_no_nul}
 use Rattle.rx_grammar.specs.PageFaults.{IsPart, is_known_tag}
 use Rattle.rx_reader.proofs.Fronts.{two_fronts}
 use Rattle.rx_terms.proofs.Bools.{by_test}
-use Rattle.rx_pages.specs.Scanner.{GoesOn, verdict}
+use Rattle.rx_pages.specs.Scanner.{GoesOn}
 use Rattle.rx_pages.specs.PageReader.{Spot, Scanning, Scanned, first_of, starts_at, token_at, holding, passed, entering, is_too_long, told, read_char, read_answer, read_byte, with_items, scan_on, scan_from}
 use Rattle.rx_pages.proofs.Pends.{occurs}
 use Rattle.rx_pages.proofs.FaultsRead.{pending_goes}
@@ -32,7 +32,7 @@ use Rattle.rx_pages.proofs.ByteSteps.{not_le, not_long}
 use Rattle.rx_pages.proofs.TokensWalk.{Rises, flags_behind}
 use Rattle.rx_scan.specs.Spelled.{entries_at, AllBefore, has_character, ends_in_return, Spells, IsBetween}
 use Rattle.rx_scan.proofs.SpelledLemmas.{first_known, same_flags, passing_is, none_entered}
-use Rattle.rx_scan.proofs.AheadLemmas.{Tail, at_end, Reads, reads_entry, bound_with, bound_run}
+use Rattle.rx_scan.proofs.AheadLemmas.{Tail, at_end, reads_entry, bound_with, bound_run}
 use Rattle.std.proofs.Math.Bool.{or-false, or-true}
 
 -- the first character, and what is entered of the others

@@ -11,7 +11,7 @@ use Rattle.rx_grammar.specs.Names.{same}
 use Rattle.rx_grammar.specs.Tokens.{comment, section}
 use Rattle.rx_grammar.specs.Spelling.{ends_with, ends_comment}
 use Rattle.rx_pages.specs.Scanner as told
-use Rattle.rx_terms.proofs.Bools.{split, by_test, both}
+use Rattle.rx_terms.proofs.Bools.{split, both}
 use Rattle.std.proofs.lemmas.List.{length-append}
 use Rattle.std.proofs.Math.Seq.{take-append_seam}
 use Rattle.rx_scan.specs.declared.marks.CommentPhase.{CommentPhase}

@@ -1,5 +1,5 @@
 -- In a document type a move says what the verdict is.
-use Rattle.std.proofs.Common.{◌≡◌, ◌∙◌, ℕ, ◌+◌, [], ◌∷◌, ◌++◌, refl, ap, sym, subst, Option, Some, None, append_assoc, length, slice_get}
+use Rattle.std.proofs.Common.{◌≡◌, ◌∙◌, ℕ, ◌+◌, [], ◌∷◌, ◌++◌, refl, ap, sym, subst, Option, Some, None, append_assoc, length}
 use Rattle.std.specs.Prelude.{◌==◌, codes}
 use Rattle.std.proofs.lemmas.Bool.{cond-true, cond-false}
 use Rattle.std.proofs.lemmas.List.{length-append}
@@ -20,7 +20,7 @@ use Rattle.rx_scan.specs.declared.marks.Move.TheVariants as move
 use Rattle.rx_scan.specs.Marks as marks
 use Rattle.rx_scan.specs.Pending.{Pending, PendsAs, Behind, judge_of, DoctypeIs, DoctypeEnds}
 use Rattle.rx_scan.specs.Meant.{Means}
-use Rattle.rx_scan.proofs.MarkFronts.{head_of, slice_at, word_at}
+use Rattle.rx_scan.proofs.MarkFronts.{head_of, word_at}
 use Rattle.rx_scan.proofs.Behinds.{judged_at, behind_more}
 
 pub doctype_snoc : (s : Syntax) (reached : Option told.DoctypePhase) (text : Chars) (c : ℕ) → told.doctype_on s reached (text ++ c ∷ []) ≡ told.doctype_move_on s (told.doctype_on s reached text) c

@@ -1,5 +1,5 @@
 -- A byte that the grammar refuses is refused; so what is scanned, and what is refused, is exactly what the grammar says.
-use Rattle.std.proofs.Common.{◌≡◌, ◌≢◌, ◌∙◌, ℕ, ◌+◌, ◌≤◌, ◌<◌, Bool, true, false, List, [], ◌∷◌, ◌++◌, refl, sym, ap, subst, nat_le, eqb-true, Option, Some, None, Result, Ok, Err}
+use Rattle.std.proofs.Common.{◌≡◌, ◌≢◌, ◌∙◌, ℕ, ◌+◌, ◌≤◌, ◌<◌, Bool, true, false, List, [], ◌∷◌, ◌++◌, refl, sym, ap, subst, nat_le, Option, Some, None, Result, Ok, Err}
 use Rattle.std.specs.Prelude.{◌&&◌, ◌==◌, not, codes}
 use Rattle.std.proofs.lemmas.Bool.{and_from, cond-true, cond-false, ne_eqb, and_left}
 use Rattle.rx_terms.specs.Ascii.{greater_than_sign}
@@ -24,7 +24,7 @@ use Rattle.rx_grammar.specs.Items.{values, Item, is_literal, is_strict_literal}
 use Rattle.rx_grammar.specs.Begun.{Line, Phase, before}
 use Rattle.rx_grammar.specs.PageFaults.{is_known_tag, Faulty}
 use Rattle.rx_grammar.specs.PageFaults as faults
-use Rattle.rx_pages.specs.Scanner.{GoesOn, Verdict, whole, ended, refused, verdict, ReadAs, at_last, at_next}
+use Rattle.rx_pages.specs.Scanner.{GoesOn, Verdict, ended, refused, verdict, ReadAs, at_last, at_next}
 use Rattle.rx_pages.specs.PageReader.{Spot, Scanning, Scanned, starts_at, token_at, fault_in, item_of, is_doctype, is_too_long, told_first, with_item, after_token, told, read_char, read_entry, read_answer, read_byte, with_items, scan_on, scan_from}
 use Rattle.rx_pages.proofs.Pends.{occurs}
 use Rattle.rx_pages.proofs.Pending.{goes_at, not_whole}

@@ -1,15 +1,13 @@
 -- Characters of a tag that are taken at once are read like its bytes one after another, in the tag or behind its `<`.
 use Rattle.std.proofs.Common.{◌≡◌, ◌∙◌, ℕ, ◌+◌, ◌≤◌, ◌<◌, Bool, true, false, List, [], ◌∷◌, ◌++◌, length, take, refl, ap, sym, subst, Ok, append_assoc, arith, length-take-le, eqb-true, zero, suc}
-use Rattle.std.specs.Prelude.{◌&&◌, ◌==◌, ◌^◌, not, nat_le, MatchBool}
+use Rattle.std.specs.Prelude.{◌==◌, ◌^◌, not, nat_le, MatchBool}
 use Rattle.std.proofs.lemmas.Bool.{leb-true, and_parts, and_from, and_right, or_from}
 use Rattle.rx_chars.specs.Characters.{as_line_end}
 use Rattle.rx_chars.proofs.Utf8Answers.{first_whole}
 use Rattle.rx_scan.specs.declared.marks.TokenState.{TokenState}
 use Rattle.rx_scan.specs.declared.marks.TokenState.TheVariants as mark
 use Rattle.rx_scan.specs.declared.marks.Move.{Move}
-use Rattle.rx_scan.specs.declared.marks.Move.TheVariants as move
 use Rattle.rx_scan.specs.KnownTags as known_tags
-use Rattle.rx_scan.specs.Marks as marks
 use Rattle.rx_pages.specs.PageReader as reader
 use Rattle.rx_reader.specs.TagReader.{TagState}
 use Rattle.rx_tags.specs.Fronts.{is_printed, GoesTo}
@@ -23,7 +21,6 @@ use Rattle.rx_scan.specs.Places.{fed}
 use Rattle.rx_scan.specs.Scanner.{Reading}
 use Rattle.rx_scan.proofs.CharacterLemmas.{other_read, within_limit}
 use Rattle.rx_scan.proofs.RunLemmas.{ReadsOn, reads_more}
-use Rattle.std.proofs.Math.Bool.{and-false}
 use Rattle.rx_scan.specs.Pending.{Pending}
 use Rattle.rx_scan.specs.declared.places.Setting.{Setting}
 use Rattle.rx_scan.specs.Bytes.{IsOfTag}

@@ -1,5 +1,5 @@
 -- Behind `<!` a move says what the verdict is.
-use Rattle.std.proofs.Common.{◌≡◌, ◌∙◌, ℕ, ◌+◌, Bool, true, false, [], ◌∷◌, ◌++◌, refl, ap, sym, subst, Option, Some, append_assoc, append-nil, eqb-true, eq-eqb, cond, length, map, arith, slice_get, suc}
+use Rattle.std.proofs.Common.{◌≡◌, ◌∙◌, ℕ, ◌+◌, Bool, true, false, [], ◌∷◌, ◌++◌, refl, ap, sym, subst, Option, append_assoc, append-nil, eqb-true, eq-eqb, cond, length, map, arith, slice_get, suc}
 use Rattle.std.specs.Prelude.{◌==◌, ◌&&◌, not, codes, drop}
 use Rattle.std.proofs.lemmas.Bool.{cond-true, cond-false, or_from}
 use Rattle.std.proofs.lemmas.List.{length-append, length-map, map-append}
@@ -32,7 +32,7 @@ use Rattle.rx_scan.specs.Marks as marks
 use Rattle.rx_scan.specs.Pending.{Pending, PendsAs, InOpened, InOpening, Behind, judge_of, CommentEnds, StrictEnds, SectionEnds, DoctypeEnds}
 use Rattle.rx_scan.specs.Meant.{Means, Goes}
 use Rattle.rx_scan.proofs.Snoc.{ends_one, either_way}
-use Rattle.rx_scan.proofs.MarkFronts.{slice_at, cancel, word_at}
+use Rattle.rx_scan.proofs.MarkFronts.{cancel, word_at}
 use Rattle.rx_scan.proofs.OpeningWords.{plain_is, begins_word, word_more, word_short, word_unlike, lowered_other, head_list, undeclared, next_no_greater, NoWord, no_word, begins_some, begins_none, same_char, strict_plain, first_of, word_length, exact}
 use Rattle.std.proofs.Math.Bool.{and-false}
 

@@ -14,7 +14,7 @@ use Rattle.rx_chars.specs.declared.syntax.Syntax.TheVariants.{Html, Xhtml}
 use Rattle.rx_grammar.specs.declared.contents.Content.{Content}
 use Rattle.rx_grammar.specs.declared.contents.Content.TheVariants as content
 use Rattle.rx_grammar.specs.declared.contents.RawName.{RawName}
-use Rattle.rx_grammar.specs.declared.contents.RawName.TheVariants.{Script, Style, Iframe, Noembed, Noframes, Xmp, Title, Textarea}
+use Rattle.rx_grammar.specs.declared.contents.RawName.TheVariants.{Script}
 use Rattle.rx_grammar.specs.Names.{same, name_of_raw}
 use Rattle.rx_grammar.specs.References.{meaning}
 use Rattle.rx_grammar.specs.Shapes.{begins_tag, is_tag_char, ends_name, begins}
@@ -37,7 +37,7 @@ use Rattle.rx_scan.specs.declared.marks.Move.TheVariants as move
 use Rattle.rx_scan.specs.Marks as marks
 use Rattle.rx_scan.specs.Pending.{Pending, first_char, InRawEnd, end_phase}
 use Rattle.rx_scan.specs.Meant.{Means}
-use Rattle.rx_scan.proofs.MarkFronts.{head_of, slice_at, cancel, all_at, word_at}
+use Rattle.rx_scan.proofs.MarkFronts.{head_of, cancel, all_at, word_at}
 use Rattle.std.proofs.Math.Bool.{and-false}
 
 -- a letter begins a tag's name, and stands in one

@@ -1,5 +1,5 @@
 -- The table says what the verdicts are: of each mark and each character.
-use Rattle.std.proofs.Common.{◌≡◌, ◌∙◌, ℕ, false, [], ◌∷◌, ◌++◌, refl, ap, sym, append-nil, length, map, slice_get, arith, add-one, add-zero}
+use Rattle.std.proofs.Common.{◌≡◌, ◌∙◌, ℕ, false, [], ◌∷◌, ◌++◌, refl, ap, sym, append-nil, length, map, arith, add-one, add-zero}
 use Rattle.std.specs.Prelude.{◌&&◌, ◌==◌, ◌≤◌, ◌+◌, codes, drop, take}
 use Rattle.std.proofs.lemmas.Bool.{cond-true, cond-false}
 use Rattle.std.proofs.lemmas.List.{length-append, length-map}
@@ -10,7 +10,7 @@ use Rattle.rx_chars.specs.declared.syntax.Syntax.{Syntax}
 use Rattle.rx_grammar.specs.declared.contents.Content.{Content}
 use Rattle.rx_grammar.specs.declared.contents.Content.TheVariants as content
 use Rattle.rx_grammar.specs.declared.contents.RawName.{RawName}
-use Rattle.rx_grammar.specs.declared.contents.RawName.TheVariants.{Script, Style, Iframe, Noembed, Noframes, Xmp, Title, Textarea}
+use Rattle.rx_grammar.specs.declared.contents.RawName.TheVariants.{Script}
 use Rattle.std.proofs.lemmas.Grind.{common_steps}
 use Rattle.rx_grammar.specs.Names.{same, name_of_raw}
 use Rattle.rx_grammar.specs.Shapes.{ends_name, begins}
@@ -26,7 +26,7 @@ use Rattle.rx_scan.specs.Pending.{Pending, PendsAs, Pends, Behind, judge_of, Com
 use Rattle.rx_scan.specs.Meant.{Means}
 use Rattle.rx_scan.proofs.Behinds.{grown, in_comment_means, in_strict_means, in_bogus_means, in_instruction_means, in_section_means}
 use Rattle.rx_scan.proofs.Doctype.{in_doctype_means}
-use Rattle.rx_scan.proofs.MarkFronts.{head_of, slice_at, word_at}
+use Rattle.rx_scan.proofs.MarkFronts.{head_of, word_at}
 use Rattle.rx_scan.proofs.Openings.{in_word_means, at_opened_means, no_tag}
 use Rattle.rx_scan.proofs.Markup.{at_nothing_means, at_less_than_means, in_tag_means}
 use Rattle.rx_scan.proofs.References.{in_run_means}

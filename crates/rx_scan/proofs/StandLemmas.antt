@@ -1,6 +1,6 @@
 -- What a scanner stands for, where only its setting changes.
-use Rattle.std.proofs.Common.{◌≡◌, ◌∙◌, Bool, true, false, refl, ap, sym, subst, Err}
-use Rattle.std.specs.Prelude.{ℕ, List, take, if◌then◌else◌}
+use Rattle.std.proofs.Common.{◌≡◌, ◌∙◌, Bool, refl, ap, sym, subst, Err}
+use Rattle.std.specs.Prelude.{ℕ, List, take}
 use Rattle.rx_terms.specs.Text.{Chars}
 use Rattle.rx_chars.specs.declared.syntax.Syntax.{Syntax}
 use Rattle.rx_grammar.specs.declared.faults.Fault.{Fault}

@@ -1,13 +1,12 @@
 -- What a reading stands for after one more character.
 use Rattle.std.proofs.Common.{◌≡◌, ◌∙◌, ℕ, ◌+◌, ◌-◌, Bool, true, false, List, [], ◌∷◌, ◌++◌, refl, ap, sym, subst, arith}
-use Rattle.std.proofs.lemmas.List.{map-append}
 use Rattle.rx_terms.specs.Text.{Chars}
 use Rattle.rx_chars.specs.Characters.{Entry}
 use Rattle.rx_chars.specs.declared.syntax.Syntax.{Syntax}
 use Rattle.rx_grammar.specs.declared.contents.Content.{Content}
 use Rattle.rx_grammar.specs.declared.contents.Content.TheVariants as content
-use Rattle.rx_grammar.specs.Tokens.{Token, tag, character, reference, kept, section, comment, doctype}
-use Rattle.rx_grammar.specs.Items.{Item, values, last_from, is_strict_literal}
+use Rattle.rx_grammar.specs.Tokens.{Token, character}
+use Rattle.rx_grammar.specs.Items.{Item, values, is_strict_literal}
 use Rattle.rx_pages.specs.PageReader.{Scanning, first_of, starts_at, entering, item_of}
 use Rattle.rx_tags.specs.TagBufs.{TagSoFar}
 use Rattle.rx_scan.specs.declared.marks.TokenState.{TokenState}

@@ -1,6 +1,6 @@
 -- Plain text and references that are taken at once, one after another.
 use Rattle.std.proofs.Common.{◌≡◌, ◌∙◌, ℕ, ◌+◌, ◌-◌, ◌≤◌, ◌<◌, Bool, true, false, List, [], ◌∷◌, ◌++◌, length, take, drop, refl, ap, sym, subst, Option, Some, None, append_assoc, arith, eqb-true, take-add, length-take-le, encode_utf8_all}
-use Rattle.std.specs.Prelude.{◌==◌, MatchBool, codes, if◌then◌else◌, IfSome}
+use Rattle.std.specs.Prelude.{◌==◌, MatchBool, codes, IfSome}
 use Rattle.std.specs.List.{list_all}
 use Rattle.std.specs.Str.{all_scalars}
 use Rattle.std.proofs.lemmas.Bool.{and_parts, eqb-false}
