@@ -37,7 +37,7 @@ use Rattle.rx_scan.specs.declared.marks.Move.TheVariants as move
 use Rattle.rx_scan.specs.Marks as marks
 use Rattle.rx_scan.specs.Pending.{Pending, first_char, InRawEnd, end_phase}
 use Rattle.rx_scan.specs.Meant.{Means}
-use Rattle.rx_scan.proofs.MarkFronts.{head_of, cancel, all_at, word_at}
+use Rattle.rx_scan.proofs.Snoc.{head_of, cancel, all_at, word_at}
 use Rattle.std.proofs.Math.Bool.{and-false}
 
 -- a letter begins a tag's name, and stands in one

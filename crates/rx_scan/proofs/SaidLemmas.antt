@@ -1,10 +1,10 @@
--- A plain character that is told at once is read like its bytes one after another.
+-- Text that is taken at once is read like its bytes one after another: plain characters, and a line end of CR and LF.
 use Rattle.std.proofs.Common.{◌≡◌, ◌∙◌, ℕ, ◌+◌, ◌≤◌, Bool, true, false, List, [], ◌∷◌, ◌++◌, length, refl, ap, sym, subst, Ok, append_assoc, append-nil, arith, encode_utf8, encode_utf8_all}
 use Rattle.std.specs.Prelude.{◌&&◌, ◌==◌, not, nat_le}
 use Rattle.std.specs.Char.{IsScalar}
 use Rattle.std.specs.List.{list_all}
 use Rattle.std.specs.Str.{all_scalars}
-use Rattle.std.proofs.lemmas.Bool.{cond-true, cond-false, lt-leb, and_parts, or_from}
+use Rattle.std.proofs.lemmas.Bool.{cond-true, cond-false, lt-leb, and_parts, or_from, and_right}
 use Rattle.std.proofs.lemmas.List.{length-append}
 use Rattle.std.proofs.lemmas.Str.{length-encode, len_utf8_bounds}
 use Rattle.rx_chars.specs.Characters.{as_line_end}
@@ -31,14 +31,16 @@ use Rattle.rx_scan.specs.declared.answers.TokenKind.TheVariants as what
 use Rattle.rx_scan.specs.declared.places.Position.{Position}
 use Rattle.rx_scan.specs.Entries as entries
 use Rattle.rx_scan.specs.Fronts.{has_text}
-use Rattle.rx_scan.specs.Places.{said, ended, holding}
+use Rattle.rx_scan.specs.Places.{said, ended, holding, entered}
 use Rattle.rx_scan.specs.Plain.{is_plain}
 use Rattle.rx_scan.specs.Scanner.{Reading}
-use Rattle.rx_scan.proofs.CharacterLemmas.{chosen, other_read}
+use Rattle.rx_scan.proofs.CharacterLemmas.{chosen, other_read, character_read}
 use Rattle.rx_scan.proofs.PlainLemmas.{is_none}
 use Rattle.rx_scan.proofs.RunLemmas.{ReadsOn, reads_more}
 use Rattle.std.proofs.Math.Bool.{and-false}
 use Rattle.rx_scan.specs.declared.places.Setting.{Setting}
+use Rattle.rx_chars.proofs.Utf8Answers.{first_whole}
+use Rattle.rx_scan.specs.WholeReferences.{TellsLineEnd}
 
 -- in a content that has text a plain character is text
 pub is_said : (i : Content) (c : ℕ) → has_text i ≡ true → is_plain c ≡ true → marks.of_first (marks.at_first i c) ≡ move.EmitText
@@ -54,6 +56,12 @@ is_said i c t h =
 pub no_literal_at : (d : ℕ) (i : Content) (c : ℕ) → (d == c) ≡ false → is_strict_literal d i (character c) ≡ false
 no_literal_at d content.Strict c h = h
 no_literal_at d _ c h = refl
+
+-- between tokens it is told
+emits : (l : Reading) (c : ℕ) → l.pending.mark ≡ mark.Nothing → has_text l.setting.inside ≡ true → is_plain c ≡ true → (62 == c) ≡ false → entries.move_at l c ≡ move.EmitText
+emits l c m t h n =
+    ap (λ (x : TokenState). entries.judged l.setting l.place.two c (marks.move_of l.setting.syntax l.setting.inside x c)) m
+    ∙ (ap (entries.judged l.setting l.place.two c) (is_said l.setting.inside c t h) ∙ cond-false _ _ _ (and_right l.place.two _ (no_literal_at 62 l.setting.inside c n)))
 
 said_one : (p : Position) (bracket : Bool) → bracket ≡ false → said 1 p ≡ ended false bracket p
 said_one p bracket e =
@@ -100,10 +108,7 @@ module _ (l new : Reading) (held : List ℕ) (b c : ℕ) (t : Leads l held (b �
       }
 
   move_is : entries.move_at l c ≡ move.EmitText
-  move_is =
-      ap (λ (x : TokenState). entries.judged l.setting l.place.two c (marks.move_of l.setting.syntax l.setting.inside x c)) t.may.between
-      ∙ (ap (entries.judged l.setting l.place.two c) (is_said l.setting.inside c t.may.inside t.plain)
-      ∙ cond-false _ _ _ (ap (λ x. l.place.two && x) (no_literal_at 62 l.setting.inside c (either_way 62 c ∙ is_none c 62 t.plain refl)) ∙ and-false l.place.two))
+  move_is = emits l c t.may.between t.may.inside t.plain (either_way 62 c ∙ is_none c 62 t.plain refl)
 
   says : entries.Enters l c false (entries.move_at l c) (Ok what.Nothing) new
   says =
@@ -262,3 +267,45 @@ module _ (old : Reading) (s : reader.Scanning) where
       let next : Reading = middle l c new.text.room in
       subst (λ (x : List ℕ). ReadsOn old s x new) (append_assoc bytes (encode_utf8 c) (encode_utf8_all (d ∷ cs)))
       (chars_on new cs d next (bytes ++ encode_utf8 c) (char_on next c l bytes r (first_leads l new c d cs t)) (rest_tells l new c d cs t))
+
+-- behind an LF that belongs to the CR before it
+said_two : (p : Position) (bracket : Bool) → bracket ≡ false → entered false (ended true bracket p) ≡ said 2 p
+said_two p bracket e =
+    let at : (p.at + 1) + 1 ≡ p.at + 2 = omega arith in
+    let two : (p.last && bracket) ≡ false = ap (λ x. p.last && x) e ∙ and-false p.last in
+    λ i. record { at = at i; starts = at i; token = p.token; started = true; after_return = false; two = two i; last = e i }
+
+module _ (l new : Reading) (front : List ℕ) (t : TellsLineEnd l front new) where
+  -- behind the CR, where the LF is told
+  abbrev behind_return : Reading
+  behind_return = entries.with_parts l (entries.undropped l.setting) (ended true (entries.is_bracket l.setting 10) l.place) (entries.marked mark.Nothing l.pending) new.text
+
+  enters : entries.Enters l 10 true (entries.move_at l 10) (Ok what.Nothing) behind_return
+  enters =
+      subst (λ (x : Move). entries.Enters l 10 true x (Ok what.Nothing) behind_return) (sym (emits l 10 t.between t.may.inside refl refl))
+      (ap (λ x. x && (10 == 10)) t.may.undropped, record { text = t.text; is = refl })
+
+  reads_return : entries.Reads l 13 (Ok what.Nothing) behind_return
+  reads_return =
+      character_read l behind_return [] 13 13 (Ok what.Nothing) t.may.held (first_whole 13 (omega arith)) (omega (arith, t.page)) refl (ap (λ (x : TokenState). entries.is_long l (known_tags.is_tag x)) t.between)
+      (ap (λ (x : TokenState). entries.is_long l (known_tags.is_tag_with l.setting.syntax l.setting.inside x 10)) t.between)
+      (or_from _ _ (ap (λ x. not x && (13 == 65279)) t.may.started) (ap (λ x. x && (13 == 10)) t.may.on_a_line)) enters
+
+  -- the LF is passed
+  reads_feed : entries.Reads behind_return 10 (Ok what.Nothing) (entries.with_passed behind_return)
+  reads_feed =
+      chosen (nat_le l.setting.limits.page (l.place.at + 1)) _ _ (lt-leb l.setting.limits.page (l.place.at + 1) (omega (arith, t.page)))
+      (subst (λ (a : Utf8Step). entries.ReadsAnswer behind_return (10 ∷ []) a (Ok what.Nothing) (entries.with_passed behind_return)) (first_whole 10 (omega arith)) (refl, refl))
+
+  ends : entries.with_passed behind_return ≡ new
+  ends =
+      ap (λ (p : Position). entries.with_parts l (entries.undropped l.setting) p (entries.marked mark.Nothing l.pending) new.text) (said_two l.place (entries.is_bracket l.setting 10) (no_literal_at 93 l.setting.inside 10 refl))
+      ∙ (ap (λ (p : Pending). entries.with_parts l (entries.undropped l.setting) (said 2 l.place) p new.text) (sym (unmarked l.pending t.between)) ∙ sym t.is)
+
+-- both bytes
+pub line_end_on : (old : Reading) (s : reader.Scanning) (new : Reading) (front : List ℕ) (l : Reading) (bytes : List ℕ) → ReadsOn old s bytes l → TellsLineEnd l front new → ReadsOn old s (bytes ++ front) new
+line_end_on old s new front l bytes r t =
+    let middle : Reading = behind_return l new front t in
+    subst (λ (x : Reading). ReadsOn old s (bytes ++ front) x) (ends l new front t)
+    (subst (λ (x : List ℕ). ReadsOn old s x (entries.with_passed middle)) (append_assoc bytes (13 ∷ []) (10 ∷ []) ∙ ap (λ x. bytes ++ x) (sym t.are))
+    (reads_more old middle s (bytes ++ 13 ∷ []) (reads_more old l s bytes r 13 middle (reads_return l new front t)) 10 (entries.with_passed middle) (reads_feed l new front t)))

@@ -24,9 +24,8 @@ use Rattle.rx_scan.specs.Marks as marks
 use Rattle.rx_scan.specs.KnownTags.{is_tag, is_tag_with, ends_word}
 use Rattle.rx_scan.specs.Pending.{Pending, PendsAs, Pends, Behind, judge_of, CommentEnds, StrictEnds, DoctypeEnds, SectionEnds, InRawEnd}
 use Rattle.rx_scan.specs.Meant.{Means}
-use Rattle.rx_scan.proofs.Behinds.{grown, in_comment_means, in_strict_means, in_bogus_means, in_instruction_means, in_section_means}
-use Rattle.rx_scan.proofs.Doctype.{in_doctype_means}
-use Rattle.rx_scan.proofs.MarkFronts.{head_of, word_at}
+use Rattle.rx_scan.proofs.Behinds.{grown, in_comment_means, in_strict_means, in_bogus_means, in_instruction_means, in_section_means, in_doctype_means}
+use Rattle.rx_scan.proofs.Snoc.{head_of, word_at}
 use Rattle.rx_scan.proofs.Openings.{in_word_means, at_opened_means, no_tag}
 use Rattle.rx_scan.proofs.Markup.{at_nothing_means, at_less_than_means, in_tag_means}
 use Rattle.rx_scan.proofs.References.{in_run_means}

@@ -23,11 +23,10 @@ use Rattle.rx_scan.specs.Plain.{is_plain}
 use Rattle.rx_scan.specs.Scanner.{Reading}
 use Rattle.rx_scan.specs.WholeReferences.{usual_reference, IsReference, BeginsReference, TellsOne, of_plain, of_reference, of_line_end, TellsText, one, more}
 use Rattle.rx_scan.proofs.ByteLemmas.{match_by}
-use Rattle.rx_scan.proofs.LineEndLemmas.{line_end_on}
 use Rattle.rx_scan.proofs.PlainLemmas.{chars_plain}
 use Rattle.rx_scan.proofs.ReferenceLemmas.{reference_on}
 use Rattle.rx_scan.proofs.RunLemmas.{ReadsOn}
-use Rattle.rx_scan.proofs.SaidLemmas.{TellsChars, chars_on}
+use Rattle.rx_scan.proofs.SaidLemmas.{TellsChars, chars_on, line_end_on}
 use Rattle.rx_terms.proofs.Bools.{split}
 use Rattle.rx_scan.specs.Pending.{run_on}
 
