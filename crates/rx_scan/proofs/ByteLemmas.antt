@@ -1,7 +1,7 @@
 -- What one byte does is what the reader of bytes says.
-use Rattle.std.proofs.Common.{◌≡◌, ◌∙◌, ◌⊎◌, ℕ, ◌+◌, ◌-◌, Bool, true, false, List, [], ◌∷◌, ◌++◌, refl, ap, sym, subst, Result, Ok, Err, inl, inr, length, arith, eqb-true}
+use Rattle.std.proofs.Common.{◌≡◌, ◌∙◌, ◌⊎◌, ℕ, ◌+◌, ◌-◌, Bool, true, false, List, [], ◌∷◌, ◌++◌, refl, ap, sym, subst, Result, Ok, Err, inl, inr, length, arith, eqb-true, ◌<◌}
 use Rattle.std.specs.Prelude.{◌&&◌, ◌||◌, ◌==◌, not, nat_le, MatchBool, if◌then◌else◌}
-use Rattle.std.proofs.lemmas.Bool.{cond-true, cond-false}
+use Rattle.std.proofs.lemmas.Bool.{cond-true, cond-false, lt-leb}
 use Rattle.std.proofs.lemmas.List.{length-append}
 use Rattle.rx_terms.specs.Text.{Chars}
 use Rattle.rx_chars.specs.Utf8.{answer_of}
@@ -34,10 +34,10 @@ use Rattle.rx_scan.specs.Entries as entries
 use Rattle.rx_scan.specs.Steps.{ReadsAs, mark_bytes}
 use Rattle.rx_scan.proofs.Standing.{some_mark, no_values, after, place_on, starts_next}
 use Rattle.rx_scan.proofs.Simulation.{known, known_with}
-use Rattle.rx_scan.proofs.GivesLemmas.{Gives, GivesOk, GivesErr, gives_at, gives_by, refuses, nothing_told}
 use Rattle.rx_scan.proofs.MarkLemmas.{mark_is}
-use Rattle.rx_scan.proofs.EntryLemmas.{enters}
+use Rattle.rx_scan.proofs.EntryLemmas.{enters, Gives, GivesOk, GivesErr, gives_at, gives_by, refuses, nothing_told}
 use Rattle.rx_pages.proofs.Tokens.{values_append}
+use Rattle.std.proofs.Math.Bool.{and-false}
 
 -- a case by a test, in what is chosen by it
 pub match_by : {G : Type 0} (b : Bool) (P Q : Type 0) → MatchBool b P Q → (b ≡ true → P → G) → (b ≡ false → Q → G) → G
@@ -220,3 +220,31 @@ mark_skips v byte answer new f m k =
         (λ t k. match_by (entries.is_passed v.place byte_order_mark) _ _ k
         (λ u k. let w : ◌≡◌ {A = Result TokenKind Stop} (Ok answer) (Ok what.Skipped) = k.0 in cc)
         (λ u k. absurd (let w : true ≡ false = sym passed ∙ u in cc)))
+
+pub chosen : (b : Bool) (P Q : Type 0) → b ≡ false → Q → MatchBool b P Q
+chosen true P Q e q = absurd (cc)
+chosen false P Q e q = q
+
+-- within its limit no tag is too long
+pub within_limit : (l : Reading) → l.place.at < entries.token_from l.pending.mark l.place + l.setting.limits.tag → (known : Bool) → entries.is_long l known ≡ false
+within_limit l within known = ap (λ x. known && x) (lt-leb (entries.token_from l.pending.mark l.place + l.setting.limits.tag) l.place.at within) ∙ and-false known
+
+module _ (l new : Reading) (held : List ℕ) (b c : ℕ) (result : Result TokenKind Stop) (held_is : l.held ≡ held) (answers : Char c ≡ answer_of (held ++ b ∷ []))
+    (page : l.place.at < l.setting.limits.page) (some : (c == 0) ≡ false) (short : entries.is_long l (known_tags.is_tag l.pending.mark) ≡ false)
+    (stays_short : entries.is_long l (known_tags.is_tag_with l.setting.syntax l.setting.inside l.pending.mark (as_line_end c)) ≡ false) (stays : entries.is_passed l.place c ≡ false) where
+  pub character_read : entries.Enters l (as_line_end c) (c == 13) (entries.move_at l (as_line_end c)) result new → entries.Reads l b result new
+  character_read enters =
+      chosen (nat_le l.setting.limits.page l.place.at) _ _ (lt-leb l.setting.limits.page l.place.at page)
+      (subst (λ (x : List ℕ). entries.ReadsAnswer l (x ++ b ∷ []) (answer_of (x ++ b ∷ [])) result new) (sym held_is)
+      (subst (λ (a : Utf8Step). entries.ReadsAnswer l (held ++ b ∷ []) a result new) answers
+      (chosen (c == 0) _ _ some
+      (chosen (entries.is_long l (known_tags.is_tag l.pending.mark)) _ _ short
+      (chosen (entries.is_passed l.place c) _ _ stays
+      (chosen (entries.is_long l (known_tags.is_tag_with l.setting.syntax l.setting.inside l.pending.mark (as_line_end c))) _ _ stays_short enters))))))
+
+  -- another than CR
+  pub other_read : (c == 13) ≡ false → entries.Enters l c false (entries.move_at l c) result new → entries.Reads l b result new
+  other_read no_return enters =
+      character_read
+      (subst (λ (x : Bool). entries.Enters l (as_line_end c) x (entries.move_at l (as_line_end c)) result new) (sym no_return)
+      (subst (λ (x : ℕ). entries.Enters l x false (entries.move_at l x) result new) (sym (cond-false _ _ _ no_return)) enters))

@@ -19,13 +19,12 @@ use Rattle.rx_scan.specs.Entries as entries
 use Rattle.rx_scan.specs.Fronts.{FeedsFront, with_state}
 use Rattle.rx_scan.specs.Places.{fed}
 use Rattle.rx_scan.specs.Scanner.{Reading}
-use Rattle.rx_scan.proofs.CharacterLemmas.{other_read, within_limit}
 use Rattle.rx_scan.proofs.RunLemmas.{ReadsOn, reads_more}
 use Rattle.rx_scan.specs.Pending.{Pending}
 use Rattle.rx_scan.specs.declared.places.Setting.{Setting}
 use Rattle.rx_scan.specs.Bytes.{IsOfTag}
 use Rattle.rx_scan.specs.Openings.{OpensTag, OpensFront, in_tag}
-use Rattle.rx_scan.proofs.ByteLemmas.{match_by}
+use Rattle.rx_scan.proofs.ByteLemmas.{match_by, other_read, within_limit}
 
 -- A byte that surely belongs to a tag is read as a tag's: in one, or behind its `<`.
 module _ (l new : Reading) (b : ℕ) (m : TokenState) (at : l.pending.mark ≡ m) (begun : entries.token_from m l.place ≡ l.place.token) (k : IsOfTag l.setting m b) (t : FeedsFront (in_tag l) (b ∷ []) new) where

@@ -36,7 +36,7 @@ use Rattle.rx_scan.specs.Entries as entries
 use Rattle.rx_scan.specs.Places.{said, ended, entered}
 use Rattle.rx_scan.specs.Scanner.{Reading}
 use Rattle.rx_scan.specs.WholeReferences.{IsReference, TellsReference, body_from, body_length, BeginsReference}
-use Rattle.rx_scan.proofs.CharacterLemmas.{other_read}
+use Rattle.rx_scan.proofs.ByteLemmas.{other_read}
 use Rattle.rx_scan.proofs.References.{no_closes, no_stops, run_is, run_ascii}
 use Rattle.rx_scan.proofs.RunLemmas.{ReadsOn, reads_more}
 use Rattle.std.proofs.Math.Bool.{and-false}

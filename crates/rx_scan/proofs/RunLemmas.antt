@@ -17,7 +17,7 @@ use Rattle.rx_scan.specs.declared.places.Setting.{Setting}
 use Rattle.rx_scan.specs.Scanner.{Reading, spot_of}
 use Rattle.rx_scan.specs.Entries as entries
 use Rattle.rx_scan.specs.Steps.{ReadsAs, joined, texts_of, keeps_first, after_some, setting_after, is_nothing, is_skipped, is_token, HasMark, MarkAlone, a_mark, mark_bytes, Took, Faults, Tells}
-use Rattle.rx_scan.proofs.GivesLemmas.{GivesOk, IsTold}
+use Rattle.rx_scan.proofs.EntryLemmas.{GivesOk, IsTold}
 use Rattle.rx_scan.proofs.MarkLemmas.{Earlier, none_marked, mark_snoc, mark_none, all_held, before_mark}
 use Rattle.rx_scan.proofs.ByteLemmas.{PassesMark, reads, reads_nothing, reads_fault, mark_skips}
 use Rattle.rx_pages.proofs.ScanSteps.{scan_fault}

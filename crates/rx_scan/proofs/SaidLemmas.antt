@@ -34,7 +34,7 @@ use Rattle.rx_scan.specs.Fronts.{has_text}
 use Rattle.rx_scan.specs.Places.{said, ended, holding, entered}
 use Rattle.rx_scan.specs.Plain.{is_plain}
 use Rattle.rx_scan.specs.Scanner.{Reading}
-use Rattle.rx_scan.proofs.CharacterLemmas.{chosen, other_read, character_read}
+use Rattle.rx_scan.proofs.ByteLemmas.{chosen, other_read, character_read}
 use Rattle.rx_scan.proofs.PlainLemmas.{is_none}
 use Rattle.rx_scan.proofs.RunLemmas.{ReadsOn, reads_more}
 use Rattle.std.proofs.Math.Bool.{and-false}

@@ -27,9 +27,8 @@ use Rattle.rx_scan.specs.Meant.{Means}
 use Rattle.rx_scan.proofs.Behinds.{grown, in_comment_means, in_strict_means, in_bogus_means, in_instruction_means, in_section_means, in_doctype_means}
 use Rattle.rx_scan.proofs.Snoc.{head_of, word_at}
 use Rattle.rx_scan.proofs.Openings.{in_word_means, at_opened_means, no_tag}
-use Rattle.rx_scan.proofs.Markup.{at_nothing_means, at_less_than_means, in_tag_means}
+use Rattle.rx_scan.proofs.Markup.{at_nothing_means, at_less_than_means, in_tag_means, in_end_means, raw_content, same_self}
 use Rattle.rx_scan.proofs.References.{in_run_means}
-use Rattle.rx_scan.proofs.RawEnds.{in_end_means, raw_content, same_self}
 use Rattle.std.proofs.Math.Bool.{and-false}
 use Rattle.rx_scan.specs.Marks.{end_word}
 

@@ -36,7 +36,7 @@ use Rattle.rx_scan.specs.Places.{fed}
 use Rattle.rx_scan.specs.Scanner.{Reading}
 use Rattle.rx_scan.specs.Steps.{ReadsAs, Took, is_quiet}
 use Rattle.rx_scan.specs.WholeTags.{ReadsOpened, ReadsWholeTag}
-use Rattle.rx_scan.proofs.CharacterLemmas.{character_read, within_limit}
+use Rattle.rx_scan.proofs.ByteLemmas.{character_read, within_limit}
 use Rattle.rx_scan.proofs.FrontLemmas.{front_read}
 use Rattle.rx_scan.proofs.LoopLemmas.{next_read, token_read}
 use Rattle.rx_scan.proofs.FeedLemmas.{opens_taken}
