@@ -24,7 +24,7 @@ use Rattle.rx_scan.specs.declared.marks.TokenState.{TokenState}
 use Rattle.rx_scan.specs.declared.marks.TokenState.TheVariants as mark
 use Rattle.rx_scan.specs.declared.marks.Move.{Move}
 use Rattle.rx_scan.specs.Marks.{may_close, after_dash, after_bang, in_comment, after_strict_dash, in_strict_comment, in_instruction, in_bogus, in_section, at_bracket, are_two}
-use Rattle.rx_scan.specs.Pending.{Pending, PendsAs, Behind, judge_of, CommentEnds, is_start, is_start_dash, has_dash, has_dashes, has_bang, StrictEnds, has_strict_dash, has_strict_dashes, SectionEnds, bracket_text, DoctypeIs, DoctypeEnds}
+use Rattle.rx_scan.specs.Pending.{Pending, PendsAs, Behind, judge_of, CommentEnds, is_start, is_start_dash, has_dash, has_dashes, has_bang, StrictEnds, has_strict_dash, has_strict_dashes, SectionEnds, bracket_text, DoctypeIs, DoctypeEnds, is_one}
 use Rattle.rx_scan.specs.Meant.{Means, Goes}
 use Rattle.rx_scan.proofs.Snoc.{snoc_same, ends_snoc, ends_one, empty_snoc, lone_snoc, either_way, head_of, word_at}
 use Rattle.std.proofs.Math.Bool.{}
@@ -108,29 +108,8 @@ section_kept kept = ap (λ n. take n (kept ++ 93 ∷ 93 ∷ [])) (ap (λ n. n - 
     less_two : (n : ℕ) → (n + 2) - 2 ≡ n
     less_two n = omega arith
 
-one_bracket : (kept rest : Chars) → SectionEnds brackets.None kept rest → SectionEnds brackets.One kept (rest ++ 93 ∷ [])
-one_bracket kept rest h =
-    record {
-      are = ap (λ x. x ++ 93 ∷ []) (h.are ∙ append-nil kept);
-      one = ends_one 93 rest 93;
-      two = ends_snoc (93 ∷ []) 93 rest 93 ∙ h.one;
-    }
-
-two_brackets : (kept rest : Chars) → SectionEnds brackets.One kept rest → SectionEnds brackets.Two kept (rest ++ 93 ∷ [])
-two_brackets kept rest h =
-    record {
-      are = ap (λ x. x ++ 93 ∷ []) h.are ∙ append_assoc kept (93 ∷ []) (93 ∷ []);
-      one = ends_one 93 rest 93;
-      two = ends_snoc (93 ∷ []) 93 rest 93 ∙ h.one;
-    }
-
-more_brackets : (kept rest : Chars) → SectionEnds brackets.Two kept rest → SectionEnds brackets.Two (kept ++ 93 ∷ []) (rest ++ 93 ∷ [])
-more_brackets kept rest h =
-    record {
-      are = ap (λ x. x ++ 93 ∷ []) h.are ∙ (append_assoc kept (93 ∷ 93 ∷ []) (93 ∷ []) ∙ sym (append_assoc kept (93 ∷ []) (93 ∷ 93 ∷ [])));
-      one = ends_one 93 rest 93;
-      two = ends_snoc (93 ∷ []) 93 rest 93 ∙ h.one;
-    }
+bracket_ends : (b next : Brackets) (kept more rest : Chars) → SectionEnds b kept rest → rest ++ 93 ∷ [] ≡ more ++ bracket_text next → true ≡ is_one next → is_one b ≡ are_two next → SectionEnds next more (rest ++ 93 ∷ [])
+bracket_ends b next kept more rest h are one two = record { are = are; one = ends_one 93 rest 93 ∙ one; two = ends_snoc (93 ∷ []) 93 rest 93 ∙ (h.one ∙ two) }
 
 plain_text : (b : Brackets) (kept rest : Chars) (c : ℕ) → SectionEnds b kept rest → (c == 93) ≡ false → SectionEnds brackets.None ((kept ++ bracket_text b) ++ c ∷ []) (rest ++ c ∷ [])
 plain_text b kept rest c h n =
@@ -208,9 +187,9 @@ module _ (s : Syntax) (i : Content) (p : Pending) (text : Chars) (c : ℕ) where
 
       bracket : (q : Brackets) → PendsAs s i (mark.Section q) p.run p.tag text → c ≡ 93 → told.verdict s i text c ≡ told.goes_on → Means s i p text c (at_bracket q)
       bracket brackets.None b e v =
-          record { first = 60; more = b.front ++ b.rest; some = b.are; goes = v; pends = behind_more judge (SectionEnds brackets.None p.run) (SectionEnds brackets.One p.run) b (at_93 brackets.One p.run b.rest e (one_bracket p.run b.rest b.is)) }
+          record { first = 60; more = b.front ++ b.rest; some = b.are; goes = v; pends = behind_more judge (SectionEnds brackets.None p.run) (SectionEnds brackets.One p.run) b (at_93 brackets.One p.run b.rest e (bracket_ends brackets.None brackets.One p.run p.run b.rest b.is (ap (λ x. x ++ 93 ∷ []) (b.is.are ∙ append-nil p.run)) refl refl)) }
       bracket brackets.One b e v =
-          record { first = 60; more = b.front ++ b.rest; some = b.are; goes = v; pends = behind_more judge (SectionEnds brackets.One p.run) (SectionEnds brackets.Two p.run) b (at_93 brackets.Two p.run b.rest e (two_brackets p.run b.rest b.is)) }
+          record { first = 60; more = b.front ++ b.rest; some = b.are; goes = v; pends = behind_more judge (SectionEnds brackets.One p.run) (SectionEnds brackets.Two p.run) b (at_93 brackets.Two p.run b.rest e (bracket_ends brackets.One brackets.Two p.run p.run b.rest b.is (ap (λ x. x ++ 93 ∷ []) b.is.are ∙ append_assoc p.run (93 ∷ []) (93 ∷ [])) refl refl)) }
       bracket brackets.Two b e v =
           record {
             first = 60;
@@ -218,7 +197,7 @@ module _ (s : Syntax) (i : Content) (p : Pending) (text : Chars) (c : ℕ) where
             some = b.are;
             goes = v;
             pends = behind_more judge (SectionEnds brackets.Two p.run) (SectionEnds brackets.Two (p.run ++ c ∷ [])) b
-                (at_93 brackets.Two (p.run ++ c ∷ []) b.rest e (subst (λ (x : ℕ). SectionEnds brackets.Two (p.run ++ x ∷ []) (b.rest ++ 93 ∷ [])) (sym e) (more_brackets p.run b.rest b.is)));
+                (at_93 brackets.Two (p.run ++ c ∷ []) b.rest e (subst (λ (x : ℕ). SectionEnds brackets.Two (p.run ++ x ∷ []) (b.rest ++ 93 ∷ [])) (sym e) (bracket_ends brackets.Two brackets.Two p.run (p.run ++ 93 ∷ []) b.rest b.is (ap (λ x. x ++ 93 ∷ []) b.is.are ∙ (append_assoc p.run (93 ∷ 93 ∷ []) (93 ∷ []) ∙ sym (append_assoc p.run (93 ∷ []) (93 ∷ 93 ∷ [])))) refl refl)));
           }
 
       kept : (q : Brackets) (b : Behind s i (judge_of s i (mark.Section q)) (SectionEnds q p.run) text) → are_two q ≡ true → take (length b.rest - 2) b.rest ≡ p.run

@@ -1,5 +1,5 @@
 -- What one byte does is what the reader of bytes says.
-use Rattle.std.proofs.Common.{◌≡◌, ◌∙◌, ◌⊎◌, ℕ, ◌+◌, ◌-◌, Bool, true, false, List, [], ◌∷◌, ◌++◌, refl, ap, sym, subst, Result, Ok, Err, inl, inr, length, arith, eqb-true, ◌<◌}
+use Rattle.std.proofs.Common.{◌≡◌, ◌∙◌, ◌⊎◌, ℕ, ◌+◌, ◌-◌, Bool, true, false, List, [], ◌∷◌, ◌++◌, refl, ap, sym, subst, Result, Ok, Err, inl, inr, length, arith, eqb-true, ◌<◌, ◌≢◌}
 use Rattle.std.specs.Prelude.{◌&&◌, ◌||◌, ◌==◌, not, nat_le, MatchBool, if◌then◌else◌}
 use Rattle.std.proofs.lemmas.Bool.{cond-true, cond-false, lt-leb}
 use Rattle.std.proofs.lemmas.List.{length-append}
@@ -191,16 +191,9 @@ module _ (v : Reading) (s : reader.Scanning) (h : ReadsAs v s) where
       (λ t k. ways_by (reader.read_byte sy lim spot byte s) _ s v byte result new (cond-false _ _ _ (sym e ∙ t))
       (reads_answer byte (answer_of (s.held ++ byte ∷ [])) result new refl (subst (λ (x : List ℕ). entries.ReadsAnswer v (x ++ byte ∷ []) (answer_of (x ++ byte ∷ [])) result new) h.held k)))
 
-  -- the same where nothing is skipped
-  pub reads_nothing : (byte : ℕ) (new : Reading) → entries.Reads v byte (Ok what.Nothing) new → GivesOk (reader.read_byte sy lim spot byte s) v what.Nothing new
-  reads_nothing byte new k = elim (reads byte (Ok what.Nothing) new k) [ inl g ↦ g | inr m ↦ absurd (let w : ◌≡◌ {A = Result TokenKind Stop} (Ok what.Nothing) (Ok what.Skipped) = m.answer in cc) ]
-
-  pub reads_fault : (byte : ℕ) (fault : Fault) (new : Reading) → entries.Reads v byte (Err (stop.Fault fault)) new → GivesErr (reader.read_byte sy lim spot byte s) s fault
-  reads_fault byte fault new k = elim (reads byte (Err (stop.Fault fault)) new k) [ inl g ↦ g | inr m ↦ absurd (let w : ◌≡◌ {A = Result TokenKind Stop} (Err (stop.Fault fault)) (Ok what.Skipped) = m.answer in cc) ]
-
-  -- no byte answers text
-  pub reads_no_text : (byte : ℕ) (new : Reading) → entries.Reads v byte (Ok what.Text) new → ⊥
-  reads_no_text byte new k = elim (reads byte (Ok what.Text) new k) [ inl g ↦ g.told | inr m ↦ let w : ◌≡◌ {A = Result TokenKind Stop} (Ok what.Text) (Ok what.Skipped) = m.answer in cc ]
+  -- where the answer isn't the mark's
+  pub reads_other : (byte : ℕ) (result : Result TokenKind Stop) (new : Reading) → result ≢ Ok what.Skipped → entries.Reads v byte result new → Gives (reader.read_byte sy lim spot byte s) s v result new
+  reads_other byte result new n k = elim (reads byte result new k) [ inl g ↦ g | inr m ↦ absurd (n m.answer) ]
 
 -- at the mark's last byte the answer is that it is skipped
 pub mark_skips : (v : Reading) (byte : ℕ) (answer : TokenKind) (new : Reading) → v.place.started ≡ false → v.held ++ byte ∷ [] ≡ mark_bytes → entries.Reads v byte (Ok answer) new → answer ≡ what.Skipped

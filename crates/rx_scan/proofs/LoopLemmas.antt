@@ -12,7 +12,7 @@ use Rattle.rx_scan.specs.declared.marks.TokenState.TheVariants as mark
 use Rattle.rx_scan.specs.Scanner.{Reading}
 use Rattle.rx_scan.specs.Entries as entries
 use Rattle.rx_scan.specs.Steps.{Took, Runs, MayLend, texts_of, is_token, stopped_at}
-use Rattle.rx_scan.proofs.ByteLemmas.{reads_no_text}
+use Rattle.rx_scan.proofs.ByteLemmas.{reads_other}
 use Rattle.rx_scan.proofs.RunLemmas.{ReadsOn, apart, took_text, took_all, more_read, took_token, faults}
 use Rattle.rx_scan.proofs.QuietLemmas.{apart_tells}
 
@@ -53,7 +53,7 @@ module _ (old l new : Reading) (s : reader.Scanning) (piece : List ℕ) (i : ℕ
 
   pub next_read : (answer : TokenKind) → is_token answer ≡ false → entries.Reads l byte (Ok answer) new → ReadsOn old s (take (i + 1) piece) new
   next_read what.Nothing t e = more_read old l new s piece i k r e
-  next_read what.Text t e = absurd (reads_no_text l r.scanned.next r.reads_as byte new e)
+  next_read what.Text t e = absurd (reads_other l r.scanned.next r.reads_as byte (Ok what.Text) new (λ q. cc) e).told
   next_read _ t e = absurd (cc)
 
   pub token_read : (answer : TokenKind) → is_token answer ≡ true → (l.text.text ≡ []) ⊎ (l.pending.mark ≡ mark.Nothing) → entries.Reads l byte (Ok answer) new → Took old s piece (i + 1) answer new

@@ -150,10 +150,6 @@ pub strict_plain : (w : Word) (x : Chars) → plain_text Xhtml w x ≡ x
 strict_plain word.Dashes x = refl
 strict_plain _ x = refl
 
--- the first character of what is read is the word's first one
-pub first_of : (s : Syntax) (w : Word) (first : ℕ) (chars : Chars) (next : ℕ) (left : Chars) → marks.opening_text s w ≡ map (marks.opening_char s w) (first ∷ chars) ++ next ∷ left → marks.opening_char s w first ∷ [] ≡ head_list (marks.opening_text s w)
-first_of s w first chars next left e = sym (ap head_list e)
-
 -- the word is whole, or isn't
 pub word_length : (s : Syntax) (w : Word) (t : Chars) (next : ℕ) (left : Chars) → marks.opening_text s w ≡ map (marks.opening_char s w) t ++ next ∷ left → length (marks.opening_text s w) ≡ length t + (length left + 1)
 word_length s w t next left e =
@@ -249,7 +245,7 @@ module _ (s : Syntax) (i : Content) (p : Pending) (text : Chars) (c : ℕ) (w : 
 
   -- the first one
   begins_as : marks.opening_char s w h.first ∷ [] ≡ head_list (marks.opening_text s w)
-  begins_as = first_of s w h.first h.chars h.next h.left h.word
+  begins_as = sym (ap head_list h.word)
 
 -- a word that is whole, and the mark behind it
 module _ (s : Syntax) (i : Content) (p : Pending) (text : Chars) (c : ℕ) (t : Chars) (are : text ≡ 60 ∷ 33 ∷ t) (markup : has_markup i ≡ true) where
@@ -265,12 +261,6 @@ module _ (s : Syntax) (i : Content) (p : Pending) (text : Chars) (c : ℕ) (t : 
 
   goes_behind : (m : TokenState) → told.verdict s i text c ≡ told.goes_on → PendsAs s i m p.run p.tag (text ++ c ∷ []) → Goes s i p text c m p.run
   goes_behind m v h = record { first = 60; more = 33 ∷ t; some = are; goes = v; pends = h }
-
-comment_start : CommentEnds comments.Start []
-comment_start = record { empty = refl; lone = refl; dash = refl; dashes = refl; bang = refl }
-
-strict_start : StrictEnds strict.Text []
-strict_start = record { dash = refl; dashes = refl }
 
 section_start : (kept : Chars) → kept ≡ [] → SectionEnds brackets.None kept []
 section_start kept e = record { are = sym (append-nil kept ∙ e); one = refl; two = refl }
@@ -291,7 +281,7 @@ module _ (i : Content) (p : Pending) (text : Chars) (c : ℕ) where
   html_begun word.Dashes n h q l =
       let t = h.first ∷ h.chars in
       goes_behind Html i p text c t h.are h.markup (mark.Comment comments.Start) (html_verdict word.Dashes n h q)
-      (begun_means Html i p text c t h.are h.markup (codes "--") (sym (exact Html word.Dashes t c h.next h.left h.word q l)) (judge_of Html i (mark.Comment comments.Start)) (CommentEnds comments.Start) (λ more d. refl) comment_start)
+      (begun_means Html i p text c t h.are h.markup (codes "--") (sym (exact Html word.Dashes t c h.next h.left h.word q l)) (judge_of Html i (mark.Comment comments.Start)) (CommentEnds comments.Start) (λ more d. refl) (record { empty = refl; lone = refl; dash = refl; dashes = refl; bang = refl }))
   html_begun word.Section n h q l =
       let t = h.first ∷ h.chars in
       subst (λ (b : Bool). Means Html i p text c (cond b (move.Continue (mark.Section brackets.None)) (move.Refuses Outside))) (sym h.looked)
@@ -300,7 +290,8 @@ module _ (i : Content) (p : Pending) (text : Chars) (c : ℕ) where
   html_begun word.Doctype n h q l =
       let t = h.first ∷ h.chars in
       let x = t ++ c ∷ [] in
-      let low : lowered_char h.first ≡ 100 = lowered_first h.first (begins_as Html i p text c word.Doctype n h) in
+      let first : lowered_char h.first ∷ [] ≡ 100 ∷ [] = begins_as Html i p text c word.Doctype n h in
+      let low : lowered_char h.first ≡ 100 = cc in
       let size : length x ≡ 7 = sym (length-map x lowered_char) ∙ ap length (sym (exact Html word.Doctype t c h.next h.left h.word q l)) in
       goes_behind Html i p text c t h.are h.markup (mark.Doctype phases.Keyword) (html_verdict word.Doctype n h q)
       (begun_means Html i p text c t h.are h.markup x refl (judge_of Html i (mark.Doctype phases.Keyword)) (DoctypeEnds Html phases.Keyword)
@@ -308,9 +299,6 @@ module _ (i : Content) (p : Pending) (text : Chars) (c : ℕ) where
       ∙ (cond-true _ _ _ (begun more) ∙ ap (λ y. told.in_doctype Html y d) (ap (λ k. drop k (x ++ more)) (sym size) ∙ drop-append_seam x more)))
       (doctype_start Html))
     where
-      lowered_first : (first : ℕ) → lowered_char first ∷ [] ≡ 100 ∷ [] → lowered_char first ≡ 100
-      lowered_first first e = cc
-
       begun : (more : Chars) → begins_with (codes "doctype") (lowered ((h.first ∷ h.chars ++ c ∷ []) ++ more)) ≡ true
       begun more =
           ap (λ y. begins_with (codes "doctype") (lowered y)) (append_assoc (h.first ∷ h.chars) (c ∷ []) more)
@@ -362,7 +350,7 @@ module _ (i : Content) (p : Pending) (text : Chars) (c : ℕ) where
       let t = h.first ∷ h.chars in
       let e : t ++ c ∷ [] ≡ codes "--" = sym (exact Xhtml word.Dashes t c h.next h.left h.word q l) in
       goes_behind Xhtml i p text c t h.are h.markup (mark.StrictComment strict.Text) (strict_at word.Dashes n h ∙ ap (told.in_opening i) e)
-      (begun_means Xhtml i p text c t h.are h.markup (codes "--") e (judge_of Xhtml i (mark.StrictComment strict.Text)) (StrictEnds strict.Text) (λ more d. refl) strict_start)
+      (begun_means Xhtml i p text c t h.are h.markup (codes "--") e (judge_of Xhtml i (mark.StrictComment strict.Text)) (StrictEnds strict.Text) (λ more d. refl) (record { dash = refl; dashes = refl }))
   strict_begun word.Doctype n h q l =
       let t = h.first ∷ h.chars in
       let e : t ++ c ∷ [] ≡ codes "DOCTYPE" = sym (exact Xhtml word.Doctype t c h.next h.left h.word q l) in

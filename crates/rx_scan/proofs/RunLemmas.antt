@@ -19,7 +19,7 @@ use Rattle.rx_scan.specs.Entries as entries
 use Rattle.rx_scan.specs.Steps.{ReadsAs, joined, texts_of, keeps_first, after_some, setting_after, is_nothing, is_skipped, is_token, HasMark, MarkAlone, a_mark, mark_bytes, Took, Faults, Tells}
 use Rattle.rx_scan.proofs.EntryLemmas.{GivesOk, IsTold}
 use Rattle.rx_scan.proofs.MarkLemmas.{Earlier, none_marked, mark_snoc, mark_none, all_held, before_mark}
-use Rattle.rx_scan.proofs.ByteLemmas.{PassesMark, reads, reads_nothing, reads_fault, mark_skips}
+use Rattle.rx_scan.proofs.ByteLemmas.{PassesMark, reads, reads_other, mark_skips}
 use Rattle.rx_pages.proofs.ScanSteps.{scan_fault}
 
 -- while text is told, no token is begun, and what might be skipped is over
@@ -125,7 +125,7 @@ module _ (old l : Reading) (s : reader.Scanning) (bytes : List ℕ) (r : ReadsOn
   -- one more byte of text
   pub reads_more : (byte : ℕ) (new : Reading) → entries.Reads l byte (Ok what.Nothing) new → ReadsOn old s (bytes ++ byte ∷ []) new
   reads_more byte new k =
-      let g = reads_nothing l r.scanned.next r.reads_as byte new k in
+      let g = reads_other l r.scanned.next r.reads_as byte (Ok what.Nothing) new (λ e. cc) k in
       record {
         scanned = record { next = g.scanned.next; items = r.scanned.items ++ g.scanned.items };
         read = byte_on byte ∙ ap (reader.with_items r.scanned.next r.scanned.items) g.is;
@@ -251,7 +251,7 @@ module _ (old l new : Reading) (s : reader.Scanning) (piece : List ℕ) (i : ℕ
   pub faults : (fault : Fault) → entries.Reads l byte (Err (stop.Fault fault)) new → l.text.text ≡ [] → Faults old s piece fault
   faults fault e t =
       let none = no_items old l s (take i piece) r t in
-      let g = reads_fault l r.scanned.next r.reads_as byte fault new e in
+      let g = reads_other l r.scanned.next r.reads_as byte (Err (stop.Fault fault)) new (λ q. cc) e in
       let here : reader.read_byte old.setting.syntax old.setting.limits (spot_of old) byte r.scanned.next ≡ Err g.kind = sym (same_byte old l s (take i piece) r byte) ∙ g.is in
       let kind : g.kind ≡ fault.kind = sym (ap (λ (f : Fault). f.kind) g.fault_is) in
       record {

@@ -1,7 +1,7 @@
 -- The table says what the verdicts are: of each mark and each character.
 use Rattle.std.proofs.Common.{◌≡◌, ◌∙◌, ℕ, false, [], ◌∷◌, ◌++◌, refl, ap, sym, append-nil, length, map, arith, add-one, add-zero}
 use Rattle.std.specs.Prelude.{◌&&◌, ◌==◌, ◌≤◌, ◌+◌, codes, drop, take}
-use Rattle.std.proofs.lemmas.Bool.{cond-true, cond-false}
+use Rattle.std.proofs.lemmas.Bool.{cond-true, cond-false, and_right}
 use Rattle.std.proofs.lemmas.List.{length-append, length-map}
 use Rattle.std.proofs.Math.Seq.{drop-append_seam, take-append_seam}
 use Rattle.rx_terms.specs.Ascii.{lowered_char, solidus}
@@ -68,9 +68,6 @@ none_after s (content.Rcdata r) = by r
     by Script = refl
     by _ = refl
 
-first_no_tag : (s : Syntax) (i : Content) (c : ℕ) → is_known_tag s i (c ∷ []) ≡ false
-first_no_tag s i c = ap (λ b. c == 60 && b) (none_after s i) ∙ and-false (c == 60)
-
 -- a front of the end tag's name, and what isn't longer than the name
 short_end : (name x : Chars) → length x ≤ length name + 1 → is_known_end name x ≡ false
 short_end name x h = ap (λ z. same (lowered (take (length name + 1) x)) (solidus ∷ name) && begins ends_name z) (drop-past (length name + 1) x h) ∙ and-false (same (lowered (take (length name + 1) x)) (solidus ∷ name))
@@ -79,12 +76,6 @@ short_end name x h = ap (λ z. same (lowered (take (length name + 1) x)) (solidu
     drop-past n x h = grind (arith, common_steps)
 
 module _ (s : Syntax) (i : Content) (run : Chars) (tag : TagSoFar) (text : Chars) where
-  behind_no_tag : (judge : Chars → ℕ → told.Verdict) (Is : Chars → Type 0) → Behind s i judge Is text → is_known_tag s i text ≡ false
-  behind_no_tag judge Is b = ap (is_known_tag s i) b.are ∙ b.judges.no_tag b.rest
-
-  behind_no_tag_with : (judge : Chars → ℕ → told.Verdict) (Is : Chars → Type 0) (c : ℕ) → Behind s i judge Is text → is_known_tag s i (text ++ c ∷ []) ≡ false
-  behind_no_tag_with judge Is c b = ap (is_known_tag s i) (grown text b.front b.rest c b.are) ∙ b.judges.no_tag (b.rest ++ c ∷ [])
-
   raw_length : (n : ℕ) (h : InRawEnd s i n run tag text) → length h.name + 1 ≡ length run + length h.left
   raw_length n h =
       let k = raw_content i h.name h.raw in
@@ -101,12 +92,7 @@ module _ (s : Syntax) (i : Content) (run : Chars) (tag : TagSoFar) (text : Chars
   known (mark.Run q) h = ap (is_known_tag s i) h.are
   known mark.Opened h = ap (is_known_tag s i) h.are ∙ no_tag s i [] h.markup
   known (mark.Opening w n) h = ap (is_known_tag s i) h.are ∙ no_tag s i (h.first ∷ h.chars) h.markup
-  known (mark.Comment q) h = behind_no_tag (judge_of s i (mark.Comment q)) (CommentEnds q) h
-  known (mark.StrictComment q) h = behind_no_tag (judge_of s i (mark.StrictComment q)) (StrictEnds q) h
-  known mark.Bogus h = behind_no_tag (judge_of s i mark.Bogus) (λ rest. Unit {0}) h
-  known (mark.Instruction asked) h = behind_no_tag (judge_of s i (mark.Instruction asked)) (λ rest. ends_with (codes "?") rest ≡ asked) h
-  known (mark.Doctype q) h = behind_no_tag (judge_of s i (mark.Doctype q)) (DoctypeEnds s q) h
-  known (mark.Section q) h = behind_no_tag (judge_of s i (mark.Section q)) (SectionEnds q run) h
+  known _ h = ap (is_known_tag s i) h.are ∙ h.judges.no_tag h.rest
 
   raw_known_with : (n : ℕ) (c : ℕ) (h : InRawEnd s i n run tag text) (left : Chars) → h.left ≡ left → is_known_tag s i (text ++ c ∷ []) ≡ ends_word (head_of left) c
   raw_known_with n c h [] l =
@@ -125,7 +111,7 @@ module _ (s : Syntax) (i : Content) (run : Chars) (tag : TagSoFar) (text : Chars
       ap (λ x. is_known_tag s i (x ++ c ∷ [])) h.are ∙ (raw_known n h (run ++ c ∷ []) ∙ short_end h.name (run ++ c ∷ []) (omega arith))
 
   pub known_with : (m : TokenState) (c : ℕ) → PendsAs s i m run tag text → is_known_tag s i (text ++ c ∷ []) ≡ is_tag_with s i m c
-  known_with mark.Nothing c h = ap (λ x. is_known_tag s i (x ++ c ∷ [])) h ∙ first_no_tag s i c
+  known_with mark.Nothing c h = ap (λ x. is_known_tag s i (x ++ c ∷ [])) h ∙ and_right (c == 60) _ (none_after s i)
   known_with mark.LessThan c h = ap (λ x. is_known_tag s i (x ++ c ∷ [])) h.are ∙ cond-true _ _ _ h.markup
   known_with (mark.RawEnd n) c h =
       raw_known_with n c h h.left refl
@@ -134,9 +120,4 @@ module _ (s : Syntax) (i : Content) (run : Chars) (tag : TagSoFar) (text : Chars
   known_with (mark.Run q) c h = ap (λ x. is_known_tag s i (x ++ c ∷ [])) h.are
   known_with mark.Opened c h = ap (λ x. is_known_tag s i (x ++ c ∷ [])) h.are ∙ no_tag s i (c ∷ []) h.markup
   known_with (mark.Opening w n) c h = ap (λ x. is_known_tag s i (x ++ c ∷ [])) h.are ∙ no_tag s i ((h.first ∷ h.chars) ++ c ∷ []) h.markup
-  known_with (mark.Comment q) c h = behind_no_tag_with (judge_of s i (mark.Comment q)) (CommentEnds q) c h
-  known_with (mark.StrictComment q) c h = behind_no_tag_with (judge_of s i (mark.StrictComment q)) (StrictEnds q) c h
-  known_with mark.Bogus c h = behind_no_tag_with (judge_of s i mark.Bogus) (λ rest. Unit {0}) c h
-  known_with (mark.Instruction asked) c h = behind_no_tag_with (judge_of s i (mark.Instruction asked)) (λ rest. ends_with (codes "?") rest ≡ asked) c h
-  known_with (mark.Doctype q) c h = behind_no_tag_with (judge_of s i (mark.Doctype q)) (DoctypeEnds s q) c h
-  known_with (mark.Section q) c h = behind_no_tag_with (judge_of s i (mark.Section q)) (SectionEnds q run) c h
+  known_with _ c h = ap (is_known_tag s i) (grown text h.front h.rest c h.are) ∙ h.judges.no_tag (h.rest ++ c ∷ [])

@@ -39,9 +39,6 @@ pub no_values : (run : List Entry) → values run ≡ [] → run ≡ []
 no_values [] e = refl
 no_values (x ∷ run) e = absurd (cc)
 
-snoc_some : (text : Chars) (c : ℕ) (x : ℕ) (more : Chars) → text ≡ x ∷ more → text ++ c ∷ [] ≡ x ∷ (more ++ c ∷ [])
-snoc_some text c x more e = ap (λ t. t ++ c ∷ []) e
-
 pub first_stays : (run : List Entry) (entry : Entry) (x : ℕ) (more : Chars) (a b : ℕ) → values run ≡ x ∷ more → first_of (run ++ entry ∷ []) a ≡ first_of run b
 first_stays [] entry x more a b e = absurd (cc)
 first_stays (y ∷ run) entry x more a b e = refl
@@ -78,7 +75,7 @@ module _ (v : Reading) (s : Scanning) (h : ReadsAs v s) (after_return : Bool) wh
       → ReadsAs (with_parts v v.setting (entered after_return v.place) p v.text) (entering after_return (s.run ++ entry ∷ []) s.two s.last s)
   went entry p text x more t e y k o =
       after v.setting (entered after_return v.place) p v.text v.end v.place.token (s.run ++ entry ∷ []) s.two s.last place_on
-      (some_mark v.setting.syntax v.setting.inside p.mark p.run p.tag (text ++ entry.value ∷ []) x (more ++ entry.value ∷ []) (entered after_return v.place) k (snoc_some text entry.value x more e)
+      (some_mark v.setting.syntax v.setting.inside p.mark p.run p.tag (text ++ entry.value ∷ []) x (more ++ entry.value ∷ []) (entered after_return v.place) k (ap (λ t. t ++ entry.value ∷ []) e)
       ∙ (sym o ∙ (h.token ∙ sym (first_stays s.run entry x more ((s.at + 1) - 0) (starts_at s) (sym t ∙ e)))))
       y (subst (λ (z : Chars). PendsAs v.setting.syntax v.setting.inside p.mark p.run p.tag z) (ap (λ z. z ++ entry.value ∷ []) t ∙ sym (values_append s.run (entry ∷ []))) k)
 
