@@ -270,6 +270,12 @@ pub same_self : (a : Chars) → same a a ≡ true
 same_self [] = refl
 same_self (x ∷ a) = and_from (x == x) (same a a) (equal x) (same_self a)
 
+-- behind the end tag's name
+pub end_known : (name run z : Chars) → solidus ∷ name ≡ lowered run → is_known_end name (run ++ z) ≡ begins ends_name z
+end_known name run z w =
+    ap (λ k. same (lowered (take k (run ++ z))) (solidus ∷ name) && begins ends_name (drop k (run ++ z))) (add-one (length name) ∙ (ap length w ∙ length-map run lowered_char))
+    ∙ ((λ i. same (lowered (take-append_seam run z i)) (solidus ∷ name) && begins ends_name (drop-append_seam run z i)) ∙ ap (λ b. b && begins ends_name z) (ap (same (lowered run)) w ∙ same_self (lowered run)))
+
 same_longer : (a : Chars) (d : ℕ) (b : Chars) → same a (a ++ d ∷ b) ≡ false
 same_longer [] d b = refl
 same_longer (x ∷ a) d b = ap (λ t. t && same a (a ++ d ∷ b)) (equal x) ∙ same_longer a d b
@@ -343,7 +349,7 @@ module _ (s : Syntax) (i : Content) (p : Pending) (text : Chars) (c : ℕ) (n : 
               ∙ (cond-false _ _ _ (ap (begins_end h.name) (append_assoc (p.run ++ c ∷ []) more (d ∷ []) ∙ append_assoc p.run (c ∷ []) (more ++ d ∷ [])) ∙ past (c ∷ (more ++ d ∷ [])) l)
               ∙ cond-false _ _ _ (ap (λ b. b && stops_end h.name ((p.run ++ c ∷ []) ++ more) d) (ap (begins_end h.name) (append_assoc p.run (c ∷ []) more) ∙ past (c ∷ more) l)));
           known = λ more. cond-false _ _ _ is_raw.markup ∙ (ap (λ o. is_known_raw o ((p.run ++ c ∷ []) ++ more)) h.raw
-              ∙ (ap (is_known_end h.name) (append_assoc p.run (c ∷ []) more) ∙ known_end (c ∷ more) q));
+              ∙ (ap (is_known_end h.name) (append_assoc p.run (c ∷ []) more) ∙ (end_known h.name p.run (c ∷ more) word_whole ∙ q)));
           read = r;
           may_step = k;
         };
@@ -359,15 +365,6 @@ module _ (s : Syntax) (i : Content) (p : Pending) (text : Chars) (c : ℕ) (n : 
       no_stop =
           ap (λ b. begins_end h.name p.run && (not (begins_end h.name (p.run ++ c ∷ [])) && not b)) (and_from (same (lowered p.run) (solidus ∷ h.name)) (ends_name c) (ap (same (lowered p.run)) word_whole ∙ same_self (lowered p.run)) q)
           ∙ (ap (λ b. begins_end h.name p.run && b) (and-false (not (begins_end h.name (p.run ++ c ∷ [])))) ∙ and-false (begins_end h.name p.run))
-
-      size : length h.name + 1 ≡ length p.run
-      size = add-one (length h.name) ∙ (ap length word_whole ∙ length-map p.run lowered_char)
-
-      known_end : (z : Chars) → begins ends_name z ≡ true → is_known_end h.name (p.run ++ z) ≡ true
-      known_end z b =
-          and_from (same (lowered (take (length h.name + 1) (p.run ++ z))) (solidus ∷ h.name)) (begins ends_name (drop (length h.name + 1) (p.run ++ z)))
-          (ap (λ k. same (lowered (take k (p.run ++ z))) (solidus ∷ h.name)) size ∙ (ap (λ x. same (lowered x) (solidus ∷ h.name)) (take-append_seam p.run z) ∙ (ap (same (lowered p.run)) word_whole ∙ same_self (lowered p.run))))
-          (ap (λ k. begins ends_name (drop k (p.run ++ z))) size ∙ (ap (begins ends_name) (drop-append_seam p.run z) ∙ b))
 
   pub in_end_means : Means s i p text c (marks.in_end (slice_get (marks.end_word i) n) n c)
   in_end_means =

@@ -113,15 +113,9 @@ pub record NoWord (x : Chars) : Type 0 where
 
 -- with the first character of a word it begins with no other one
 pub no_word : (w : Word) (first : ℕ) (rest : Chars) → marks.opening_char Xhtml w first ∷ [] ≡ head_list (marks.opening_text Xhtml w) → begins_word Xhtml w (first ∷ rest) ≡ false → NoWord (first ∷ rest)
-no_word word.Dashes first rest e h =
-    let q : first ≡ 45 = cc in
-    subst (λ (x : ℕ). begins_word Xhtml word.Dashes (x ∷ rest) ≡ false → NoWord (x ∷ rest)) (sym q) (λ k. record { dashes = k; doctype = refl; section = refl }) h
-no_word word.Doctype first rest e h =
-    let q : first ≡ 68 = cc in
-    subst (λ (x : ℕ). begins_word Xhtml word.Doctype (x ∷ rest) ≡ false → NoWord (x ∷ rest)) (sym q) (λ k. record { dashes = refl; doctype = k; section = refl }) h
-no_word word.Section first rest e h =
-    let q : first ≡ 91 = cc in
-    subst (λ (x : ℕ). begins_word Xhtml word.Section (x ∷ rest) ≡ false → NoWord (x ∷ rest)) (sym q) (λ k. record { dashes = refl; doctype = refl; section = k }) h
+no_word word.Dashes first rest e h = let q : first ≡ 45 = cc in rw q (record { dashes = rw q at h; doctype = refl; section = refl })
+no_word word.Doctype first rest e h = let q : first ≡ 68 = cc in rw q (record { dashes = refl; doctype = rw q at h; section = refl })
+no_word word.Section first rest e h = let q : first ≡ 91 = cc in rw q (record { dashes = refl; doctype = refl; section = rw q at h })
 
 -- what begins a word
 pub begins_some : (w : Word) (x : Chars) → begins_with x (marks.opening_text Xhtml w) ≡ true → meets_opening (33 ∷ x) ≡ true
@@ -132,15 +126,9 @@ begins_some word.Doctype x h =
 
 -- and what begins none
 pub begins_none : (w : Word) (first : ℕ) (rest : Chars) → marks.opening_char Xhtml w first ∷ [] ≡ head_list (marks.opening_text Xhtml w) → begins_with (first ∷ rest) (marks.opening_text Xhtml w) ≡ false → begins_with (marks.opening_text Xhtml w) (first ∷ rest) ≡ false → meets_opening (33 ∷ first ∷ rest) ≡ false
-begins_none word.Dashes first rest e h k =
-    let q : first ≡ 45 = cc in
-    subst (λ (x : ℕ). begins_with (x ∷ rest) (codes "--") ≡ false → begins_with (codes "--") (x ∷ rest) ≡ false → meets_opening (33 ∷ x ∷ rest) ≡ false) (sym q) (λ a b. or_from _ _ (or_from _ _ a b) refl) h k
-begins_none word.Doctype first rest e h k =
-    let q : first ≡ 68 = cc in
-    subst (λ (x : ℕ). begins_with (x ∷ rest) (codes "DOCTYPE") ≡ false → begins_with (codes "DOCTYPE") (x ∷ rest) ≡ false → meets_opening (33 ∷ x ∷ rest) ≡ false) (sym q) (λ a b. or_from _ _ (or_from _ _ a b) refl) h k
-begins_none word.Section first rest e h k =
-    let q : first ≡ 91 = cc in
-    subst (λ (x : ℕ). begins_with (x ∷ rest) (codes "[CDATA[") ≡ false → begins_with (codes "[CDATA[") (x ∷ rest) ≡ false → meets_opening (33 ∷ x ∷ rest) ≡ false) (sym q) (λ a b. or_from _ _ (or_from _ _ a b) refl) h k
+begins_none word.Dashes first rest e h k = let q : first ≡ 45 = cc in rw q (or_from _ _ (or_from _ _ (rw q at h) (rw q at k)) refl)
+begins_none word.Doctype first rest e h k = let q : first ≡ 68 = cc in rw q (or_from _ _ (or_from _ _ (rw q at h) (rw q at k)) refl)
+begins_none word.Section first rest e h k = let q : first ≡ 91 = cc in rw q (or_from _ _ (or_from _ _ (rw q at h) (rw q at k)) refl)
 
 pub same_char : (w : Word) (c : ℕ) → marks.opening_char Xhtml w c ≡ c
 same_char word.Dashes c = refl

@@ -22,7 +22,7 @@ pub is_none : (b d : ℕ) → is_plain b ≡ true → is_plain d ≡ false → (
 is_none b d h k = by_test {G = (b == d) ≡ false} (b == d) (λ e. absurd (both_ways (is_plain d) k (ap is_plain (sym (eqb-true b d e)) ∙ h))) (λ e. e)
 
 -- what holds of each byte that passes one test holds of all
-weaker : (p q : ℕ → Bool) → ((x : ℕ) → p x ≡ true → q x ≡ true) → (xs : List ℕ) → list_all p xs ≡ true → list_all q xs ≡ true
+pub weaker : (p q : ℕ → Bool) → ((x : ℕ) → p x ≡ true → q x ≡ true) → (xs : List ℕ) → list_all p xs ≡ true → list_all q xs ≡ true
 weaker p q f [] h = refl
 weaker p q f (x ∷ xs) h = let k = and_parts (p x) _ h in and_from (q x) _ (f x k.0) (weaker p q f xs k.1)
 
@@ -108,22 +108,16 @@ plain_four a b c d h =
 
 -- two, three or four bytes at the front
 pub two_begin : (bytes : List ℕ) → 2 ≤ length bytes → (is_in (0xC2, 0xDF) (get_or bytes 0 0) && is_in tail (get_or bytes 1 0)) ≡ true → BeginsWide bytes 2
-two_begin [] f h = absurd (omega (arith, f))
-two_begin (a ∷ []) f h = absurd (omega (arith, f))
 two_begin (a ∷ b ∷ bytes) f h = record { fits = f; text = formed_text (a ∷ b ∷ []) (whole_two a b ∙ h); plain = plain_two a b h }
+two_begin _ f h = absurd (omega (arith, f))
 
 pub three_begin : (bytes : List ℕ) → 3 ≤ length bytes → (is_in (0xE0, 0xEF) (get_or bytes 0 0) && (fits_second (get_or bytes 0 0) (get_or bytes 1 0) && is_in tail (get_or bytes 2 0))) ≡ true → BeginsWide bytes 3
-three_begin [] f h = absurd (omega (arith, f))
-three_begin (a ∷ []) f h = absurd (omega (arith, f))
-three_begin (a ∷ b ∷ []) f h = absurd (omega (arith, f))
 three_begin (a ∷ b ∷ c ∷ bytes) f h = record { fits = f; text = formed_text (a ∷ b ∷ c ∷ []) (whole_three a b c ∙ h); plain = plain_three a b c h }
+three_begin _ f h = absurd (omega (arith, f))
 
 pub four_begin : (bytes : List ℕ) → 4 ≤ length bytes → (is_in (0xF0, 0xF4) (get_or bytes 0 0) && (fits_second (get_or bytes 0 0) (get_or bytes 1 0) && (is_in tail (get_or bytes 2 0) && is_in tail (get_or bytes 3 0)))) ≡ true → BeginsWide bytes 4
-four_begin [] f h = absurd (omega (arith, f))
-four_begin (a ∷ []) f h = absurd (omega (arith, f))
-four_begin (a ∷ b ∷ []) f h = absurd (omega (arith, f))
-four_begin (a ∷ b ∷ c ∷ []) f h = absurd (omega (arith, f))
 four_begin (a ∷ b ∷ c ∷ d ∷ bytes) f h = record { fits = f; text = formed_text (a ∷ b ∷ c ∷ d ∷ []) (whole_four a b c d ∙ h); plain = plain_four a b c d h }
+four_begin _ f h = absurd (omega (arith, f))
 
 -- plain text goes on with plain text
 pub plain_more : (count more : ℕ) (bytes : List ℕ) → list_all is_plain (take count bytes) ≡ true → list_all is_plain (take more (drop count bytes)) ≡ true → list_all is_plain (take (count + more) bytes) ≡ true

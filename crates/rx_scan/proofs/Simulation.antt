@@ -27,7 +27,7 @@ use Rattle.rx_scan.specs.Meant.{Means}
 use Rattle.rx_scan.proofs.Behinds.{grown, in_comment_means, in_strict_means, in_bogus_means, in_instruction_means, in_section_means, in_doctype_means}
 use Rattle.rx_scan.proofs.Snoc.{head_of, word_at}
 use Rattle.rx_scan.proofs.Openings.{in_word_means, at_opened_means, no_tag}
-use Rattle.rx_scan.proofs.Markup.{at_nothing_means, at_less_than_means, in_tag_means, in_end_means, raw_content, same_self}
+use Rattle.rx_scan.proofs.Markup.{at_nothing_means, at_less_than_means, in_tag_means, in_end_means, raw_content, same_self, end_known}
 use Rattle.rx_scan.proofs.References.{in_run_means}
 use Rattle.std.proofs.Math.Bool.{and-false}
 use Rattle.rx_scan.specs.Marks.{end_word}
@@ -97,14 +97,10 @@ module _ (s : Syntax) (i : Content) (run : Chars) (tag : TagSoFar) (text : Chars
   raw_known_with : (n : ℕ) (c : ℕ) (h : InRawEnd s i n run tag text) (left : Chars) → h.left ≡ left → is_known_tag s i (text ++ c ∷ []) ≡ ends_word (head_of left) c
   raw_known_with n c h [] l =
       let k = raw_content i h.name h.raw in
-      let size : length h.name + 1 ≡ length run = raw_length n h ∙ (ap (λ x. length run + length x) l ∙ add-zero (length run)) in
       let whole : solidus ∷ h.name ≡ lowered run = sym k.word ∙ (h.word ∙ (ap (λ x. map lowered_char run ++ x) l ∙ append-nil (map lowered_char run))) in
       ap (λ x. is_known_tag s i (x ++ c ∷ [])) h.are
       ∙ (raw_known n h (run ++ c ∷ [])
-      ∙ (ap (λ z. same (lowered (take z (run ++ c ∷ []))) (solidus ∷ h.name) && begins ends_name (drop z (run ++ c ∷ []))) size
-      ∙ (ap (λ x. same (lowered x) (solidus ∷ h.name) && begins ends_name (drop (length run) (run ++ c ∷ []))) (take-append_seam run (c ∷ []))
-      ∙ (ap (λ x. same (lowered run) (solidus ∷ h.name) && begins ends_name x) (drop-append_seam run (c ∷ []))
-      ∙ ap (λ b. b && ends_name c) (ap (same (lowered run)) whole ∙ same_self (lowered run))))))
+      ∙ end_known h.name run (c ∷ []) whole)
   raw_known_with n c h (d ∷ left) l =
       let size : length h.name + 1 ≡ length run + length (d ∷ left) = raw_length n h ∙ ap (λ x. length run + length x) l in
       let grows : length (run ++ c ∷ []) ≡ length run + 1 = length-append run (c ∷ []) in
