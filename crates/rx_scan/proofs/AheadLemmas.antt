@@ -226,7 +226,7 @@ module _ (syntax : Syntax) (limits : Limits) (spot : Spot) (o : occurs syntax sp
               let behind_it : es ≡ rest ++ final = cc in
               let w : verdict syntax inside (values s.run) e.value ≡ whole item.token = subst (λ (x : Entry). verdict syntax inside (values s.run) x.value ≡ whole item.token) same v in
               let it : item_of inside item.token (s.run ++ e ∷ []) ≡ item = ap (λ x. item_of inside item.token x) (ap (λ x. s.run ++ x ∷ []) (sym same) ∙ sym u) ∙ item_is inside item c r i.0 first last_is in
-              told_now (λ token k. no_both w k) (record {
+              told_now (λ token k. let z = sym w ∙ k in cc) (record {
                 run = [];
                 two = s.last && is_literal right_bracket item;
                 last = is_literal right_bracket item;
@@ -236,9 +236,6 @@ module _ (syntax : Syntax) (limits : Limits) (spot : Spot) (o : occurs syntax sp
                 are = refl;
                 tail = record { front = rest; are = behind_it; spelled = spelled_on; inside_is = i.1; come = m.1; fit = f.1; sections = parts.1; goes = tt; flags = fl };
               })
-            where
-              no_both : {token other : Token} {v : Verdict} → v ≡ whole token → v ≡ ended other → ⊥
-              no_both h k = let z = sym h ∙ k in cc
           at (behind z others u k q v) =
               let same : z ≡ e = cc in
               let w : verdict syntax inside (values s.run) e.value ≡ ended item.token = subst (λ (x : Entry). verdict syntax inside (values s.run) x.value ≡ ended item.token) same v in

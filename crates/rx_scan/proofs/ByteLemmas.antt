@@ -15,7 +15,6 @@ use Rattle.rx_grammar.specs.declared.faults.Kind.TheVariants.{NotUtf8, Nul, Page
 use Rattle.rx_grammar.specs.declared.limits.Limits.{Limits}
 use Rattle.rx_grammar.specs.Items.{values}
 use Rattle.rx_grammar.specs.PageFaults.{is_known_tag}
-use Rattle.rx_grammar.specs.declared.faults.Fault.{Fault}
 use Rattle.rx_terms.proofs.Bools.{by_test, both, either, untrue}
 use Rattle.rx_pages.specs.PageReader as reader
 use Rattle.rx_grammar.specs.declared.stops.Stop.{Stop}
@@ -35,7 +34,7 @@ use Rattle.rx_scan.specs.Steps.{ReadsAs, mark_bytes}
 use Rattle.rx_scan.proofs.Standing.{some_mark, no_values, after, place_on, starts_next}
 use Rattle.rx_scan.proofs.Simulation.{known, known_with}
 use Rattle.rx_scan.proofs.MarkLemmas.{mark_is}
-use Rattle.rx_scan.proofs.EntryLemmas.{enters, Gives, GivesOk, GivesErr, gives_at, gives_by, refuses, nothing_told}
+use Rattle.rx_scan.proofs.EntryLemmas.{enters, Gives, gives_at, gives_by, refuses, nothing_told}
 use Rattle.rx_pages.proofs.Tokens.{values_append}
 use Rattle.std.proofs.Math.Bool.{and-false}
 

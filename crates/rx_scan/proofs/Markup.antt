@@ -42,6 +42,7 @@ use Rattle.rx_reader.specs.declared.phases.TagPhase.TheVariants as phase
 use Rattle.rx_reader.proofs.TagLaws.{tag_on-append}
 use Rattle.rx_reader.proofs.Fronts.{equal}
 use Rattle.std.proofs.Math.Bool.{and-false}
+use Rattle.rx_pages.proofs.FirstFronts.{same_self}
 
 fresh_steps : (s : Syntax) (t : TagSoFar) → t ≡ no_tag s → MayStep t
 fresh_steps s t e = subst (λ (x : TagSoFar). MayStep x) (sym e) (record { unfinished = refl; unrefused = refl })
@@ -265,10 +266,6 @@ end_steps s st name (x ∷ y ∷ word) left d c e w l q =
 end_unfinished : (word : Chars) → is_last (end_phase word) ≡ false
 end_unfinished (x ∷ []) = refl
 end_unfinished _ = refl
-
-pub same_self : (a : Chars) → same a a ≡ true
-same_self [] = refl
-same_self (x ∷ a) = and_from (x == x) (same a a) (equal x) (same_self a)
 
 -- behind the end tag's name
 pub end_known : (name run z : Chars) → solidus ∷ name ≡ lowered run → is_known_end name (run ++ z) ≡ begins ends_name z

@@ -1,7 +1,7 @@
 -- Behind `<!` a move says what the verdict is: by the words that may stand there, as texts.
-use Rattle.std.proofs.Common.{◌≡◌, ◌∙◌, ℕ, ◌+◌, Bool, true, false, [], ◌∷◌, ◌++◌, refl, ap, sym, subst, Option, append_assoc, append-nil, eqb-true, eq-eqb, cond, length, map, arith, slice_get, suc}
+use Rattle.std.proofs.Common.{◌≡◌, ◌∙◌, ℕ, ◌+◌, Bool, true, false, [], ◌∷◌, ◌++◌, refl, ap, sym, subst, Option, append_assoc, append-nil, eqb-true, eq-eqb, cond, length, map, arith, slice_get}
 use Rattle.std.specs.Prelude.{◌==◌, ◌&&◌, not, codes, drop, ◌||◌}
-use Rattle.std.proofs.lemmas.Bool.{cond-true, cond-false, or_from, or_left, or_right}
+use Rattle.std.proofs.lemmas.Bool.{cond-true, cond-false, or_from, or_left, or_right, ne_eqb, and_right}
 use Rattle.std.proofs.lemmas.List.{length-append, length-map, map-append}
 use Rattle.std.proofs.Math.Seq.{drop-append_seam}
 use Rattle.rx_terms.specs.Ascii.{lowered_char}
@@ -75,12 +75,8 @@ head_list (d ∷ left) = d ∷ []
 
 -- HTML: what begins as a word, and isn't that word, is no declaration
 pub undeclared : (i : Content) (w : Word) (first : ℕ) (rest : Chars) → marks.opening_char Html w first ∷ [] ≡ head_list (marks.opening_text Html w) → begins_word Html w (first ∷ rest) ≡ false → begins_declaration i (first ∷ rest) ≡ false
-undeclared i word.Dashes first rest e h =
-    let q : first ≡ 45 = cc in
-    subst (λ (x : ℕ). begins_word Html word.Dashes (x ∷ rest) ≡ false → begins_declaration i (x ∷ rest) ≡ false) (sym q) (λ k. or_from _ _ (or_from _ _ k refl) (and-false (has_sections i))) h
-undeclared i word.Section first rest e h =
-    let q : first ≡ 91 = cc in
-    subst (λ (x : ℕ). begins_word Html word.Section (x ∷ rest) ≡ false → begins_declaration i (x ∷ rest) ≡ false) (sym q) (λ k. or_from _ _ refl (ap (λ b. has_sections i && b) k ∙ and-false (has_sections i))) h
+undeclared i word.Dashes first rest e h = let q : first ≡ 45 = cc in rw q (or_from _ _ (or_from _ _ (rw q at h) refl) (and-false (has_sections i)))
+undeclared i word.Section first rest e h = let q : first ≡ 91 = cc in rw q (or_from _ _ refl (and_right (has_sections i) _ (rw q at h)))
 undeclared i word.Doctype first rest e h =
     let q : lowered_char first ≡ 100 = cc in
     or_from _ _ (or_from _ _ (ap (λ b. b && begins_with (codes "-") rest) (lowered_other first 100 45 q refl refl)) h)
@@ -95,11 +91,8 @@ no_greater _ _ = refl
 -- the next character of a word is no `>`
 pub next_no_greater : (s : Syntax) (w : Word) (t : Chars) (next : ℕ) (left : Chars) (c : ℕ) → marks.opening_text s w ≡ map (marks.opening_char s w) t ++ next ∷ left → marks.opening_char s w c ≡ next → (c == 62) ≡ false
 next_no_greater s w t next left c e q =
-    by_test {G = (c == 62) ≡ false} (c == 62)
-    (λ h. absurd (let k : c ≡ 62 = eqb-true c 62 h in
-    let n : next ≡ 62 = sym q ∙ (ap (marks.opening_char s w) k ∙ greater_same s w) in
-    not_both_ways (next == 62) (ap (λ x. x == 62) n) (untrue (next == 62) (all_at (λ d. not (d == 62)) (map (marks.opening_char s w) t) next left (ap (list_all (λ d. not (d == 62))) (sym e) ∙ no_greater s w)))))
-    (λ h. h)
+    ne_eqb c 62 (λ k. let n : next ≡ 62 = sym q ∙ (ap (marks.opening_char s w) k ∙ greater_same s w) in
+    not_both_ways (next == 62) (ap (λ x. x == 62) n) (untrue (next == 62) (all_at (λ d. not (d == 62)) (map (marks.opening_char s w) t) next left (ap (list_all (λ d. not (d == 62))) (sym e) ∙ no_greater s w))))
   where
     greater_same : (s : Syntax) (w : Word) → marks.opening_char s w 62 ≡ 62
     greater_same Html word.Dashes = refl
@@ -218,10 +211,7 @@ module _ (s : Syntax) (i : Content) (p : Pending) (text : Chars) (c : ℕ) (w : 
 
   part_word : (d : ℕ) (left : Chars) → h.left ≡ d ∷ left → (n + 1 == length (marks.opening_text s w)) ≡ false
   part_word d left l =
-      ap (λ k. n + 1 == k) (word_length s w t h.next h.left h.word ∙ (ap (λ x. length t + (length x + 1)) l ∙ ap (λ k. k + (length (d ∷ left) + 1)) h.count)) ∙ part n (length left)
-    where
-      part : (n k : ℕ) → (n + 1 == n + (suc k + 1)) ≡ false
-      part n k = by_test {G = (n + 1 == n + (suc k + 1)) ≡ false} (n + 1 == n + (suc k + 1)) (λ h. absurd (let e : n + 1 ≡ n + (suc k + 1) = eqb-true (n + 1) (n + (suc k + 1)) h in omega arith)) (λ h. h)
+      ap (λ k. n + 1 == k) (word_length s w t h.next h.left h.word ∙ (ap (λ x. length t + (length x + 1)) l ∙ ap (λ k. k + (length (d ∷ left) + 1)) h.count)) ∙ ne_eqb (n + 1) (n + (length (d ∷ left) + 1)) (λ e. omega arith)
 
   more_means : (left : Chars) → h.left ≡ left → marks.opening_char s w c ≡ h.next → (h.left ≡ [] → Means s i p text c (marks.begun_word s i w)) → ((d : ℕ) (more : Chars) → h.left ≡ d ∷ more → told.verdict s i text c ≡ told.goes_on) → Means s i p text c (marks.more_of_word s i w (n + 1))
   more_means [] l q begun v = subst (λ (b : Bool). Means s i p text c (cond b (marks.begun_word s i w) (move.Continue (mark.Opening w (n + 1))))) (sym (whole_word l)) (begun l)

@@ -2,13 +2,12 @@
 use Rattle.std.proofs.Common.{◌≡◌, ◌∙◌, ℕ, ◌+◌, ◌≤◌, ◌<◌, true, false, List, [], ◌∷◌, ◌++◌, length, refl, ap, sym, subst, Option, Some, Ok, append_assoc, append-nil, arith, encode_utf8_all, ◌-◌, take}
 use Rattle.std.specs.Prelude.{◌&&◌, ◌==◌, not}
 use Rattle.std.specs.List.{list_all}
-use Rattle.std.proofs.lemmas.Bool.{cond-true, and_parts, or_from, eqb-true}
+use Rattle.std.proofs.lemmas.Bool.{cond-true, and_parts, or_from, ne_eqb}
 use Rattle.std.proofs.lemmas.Bool.Decides.{nat_tests}
 use Rattle.std.proofs.lemmas.List.{length-append}
 use Rattle.std.proofs.lemmas.List.Folds.{list_all-append}
 use Rattle.rx_terms.specs.Ascii.{is_ascii}
 use Rattle.rx_terms.specs.Text.{Chars}
-use Rattle.rx_terms.proofs.Bools.{by_test}
 use Rattle.rx_terms.proofs.CharLemmas.{ascii-same}
 use Rattle.rx_chars.specs.Characters.{as_line_end}
 use Rattle.rx_chars.proofs.Utf8Answers.{first_whole}
@@ -82,11 +81,8 @@ return_stops : (p : RunPhase) → run_move p 13 ≡ run_moves.Stops
 return_stops run.Plain = refl
 return_stops _ = refl
 
-goes_no_stop : (q : RunPhase) (m : RunMove) → m ≡ run_moves.Goes q → m ≡ run_moves.Stops → ⊥
-goes_no_stop q m e f = absurd (cc)
-
 is_none : (d : ℕ) (p q : RunPhase) (b : ℕ) → run_move p d ≡ run_moves.Stops → run_move p b ≡ run_moves.Goes q → (b == d) ≡ false
-is_none d p q b h e = by_test {G = (b == d) ≡ false} (b == d) (λ k. absurd (goes_no_stop q (run_move p d) (ap (run_move p) (sym (eqb-true b d k)) ∙ e) h)) (λ k. k)
+is_none d p q b h e = ne_eqb b d (λ k. let z = sym h ∙ (ap (run_move p) (sym k) ∙ e) in cc)
 
 last_ascii : (kept : Chars) (b : ℕ) → list_all is_ascii (kept ++ b ∷ []) ≡ true → b ≤ 127
 last_ascii kept b h =

@@ -31,7 +31,7 @@ use Rattle.rx_scan.specs.declared.answers.TokenKind.TheVariants as what
 use Rattle.rx_scan.specs.declared.places.Position.{Position}
 use Rattle.rx_scan.specs.Entries as entries
 use Rattle.rx_scan.specs.Fronts.{has_text}
-use Rattle.rx_scan.specs.Places.{said, ended, holding, entered}
+use Rattle.rx_scan.specs.Places.{said, ended, entered}
 use Rattle.rx_scan.specs.Plain.{is_plain}
 use Rattle.rx_scan.specs.Scanner.{Reading}
 use Rattle.rx_scan.proofs.ByteLemmas.{chosen, other_read, character_read}
@@ -124,9 +124,9 @@ module _ (l new : Reading) (held : List ℕ) (b c : ℕ) (t : Leads l held (b �
       (ap (λ (x : TokenState). entries.is_long l (known_tags.is_tag_with l.setting.syntax l.setting.inside x (as_line_end c))) t.may.between)
       (or_from _ _ (ap (λ x. not x && (c == 65279)) t.may.started) (ap (λ x. x && (c == 10)) t.may.on_a_line)) (is_none c 13 t.plain refl) says
 
-holding_on : (m n : ℕ) (p : Position) → m ≡ n + 1 → said m p ≡ said n (holding p)
-holding_on m n p q =
-    let e : p.at + m ≡ (p.at + 1) + n = omega (arith, q) in
+said_on : (m n k : ℕ) (p : Position) → m ≡ k + n → said m p ≡ said n (said k p)
+said_on m n k p q =
+    let e : p.at + m ≡ (p.at + k) + n = omega (arith, q) in
     λ i. record { at = e i; starts = e i; token = p.token; started = true; after_return = false; two = false; last = false }
 
 -- a byte before it
@@ -164,7 +164,7 @@ module _ (l new : Reading) (held : List ℕ) (b d : ℕ) (rest : List ℕ) (c : 
         text = t.text;
         size = t.size;
         room = t.room;
-        is = t.is ∙ ap (λ (p : Position). entries.with_parts l (entries.undropped l.setting) p l.pending new.text) (holding_on (length (b ∷ d ∷ rest)) (length (d ∷ rest)) l.place (omega arith));
+        is = t.is ∙ ap (λ (p : Position). entries.with_parts l (entries.undropped l.setting) p l.pending new.text) (said_on (length (b ∷ d ∷ rest)) (length (d ∷ rest)) 1 l.place (omega arith));
       }
 
 -- Plain characters are told, each of which is text between tokens.
@@ -183,11 +183,6 @@ pub record TellsChars (v : Reading) (cs : List ℕ) (new : Reading) : Type 0 whe
 abbrev middle : Reading → ℕ → ℕ → Reading
 middle l c room =
     entries.with_parts l (entries.undropped l.setting) (said (length (encode_utf8 c)) l.place) l.pending (record { text = l.text.text ++ c ∷ []; size = l.text.size + length (encode_utf8 c); room = room })
-
-said_on : (m n k : ℕ) (p : Position) → m ≡ k + n → said m p ≡ said n (said k p)
-said_on m n k p q =
-    let e : p.at + m ≡ (p.at + k) + n = omega (arith, q) in
-    λ i. record { at = e i; starts = e i; token = p.token; started = true; after_return = false; two = false; last = false }
 
 module _ (l new : Reading) (c : ℕ) (t : TellsChars l (c ∷ []) new) where
   only : encode_utf8_all (c ∷ []) ≡ encode_utf8 c

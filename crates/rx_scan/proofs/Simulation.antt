@@ -1,9 +1,8 @@
 -- The table says what the verdicts are: of each mark and each character.
-use Rattle.std.proofs.Common.{◌≡◌, ◌∙◌, ℕ, false, [], ◌∷◌, ◌++◌, refl, ap, sym, append-nil, length, map, arith, add-one, add-zero}
-use Rattle.std.specs.Prelude.{◌&&◌, ◌==◌, ◌≤◌, ◌+◌, codes, drop, take}
+use Rattle.std.proofs.Common.{◌≡◌, ◌∙◌, ℕ, false, [], ◌∷◌, ◌++◌, refl, ap, sym, append-nil, length, map, arith, add-one}
+use Rattle.std.specs.Prelude.{◌&&◌, ◌==◌, ◌≤◌, ◌+◌, drop, take}
 use Rattle.std.proofs.lemmas.Bool.{cond-true, cond-false, and_right}
 use Rattle.std.proofs.lemmas.List.{length-append, length-map}
-use Rattle.std.proofs.Math.Seq.{drop-append_seam, take-append_seam}
 use Rattle.rx_terms.specs.Ascii.{lowered_char, solidus}
 use Rattle.rx_terms.specs.Text.{Chars, lowered}
 use Rattle.rx_chars.specs.declared.syntax.Syntax.{Syntax}
@@ -14,20 +13,18 @@ use Rattle.rx_grammar.specs.declared.contents.RawName.TheVariants.{Script}
 use Rattle.std.proofs.lemmas.Grind.{common_steps}
 use Rattle.rx_grammar.specs.Names.{same, name_of_raw}
 use Rattle.rx_grammar.specs.Shapes.{ends_name, begins}
-use Rattle.rx_grammar.specs.Spelling.{ends_with}
 use Rattle.rx_grammar.specs.PageFaults.{is_known_tag, is_known_after, is_known_raw, is_known_end}
-use Rattle.rx_pages.specs.Scanner as told
 use Rattle.rx_tags.specs.TagBufs.{TagSoFar}
 use Rattle.rx_scan.specs.declared.marks.TokenState.{TokenState}
 use Rattle.rx_scan.specs.declared.marks.TokenState.TheVariants as mark
 use Rattle.rx_scan.specs.Marks as marks
 use Rattle.rx_scan.specs.KnownTags.{is_tag, is_tag_with, ends_word}
-use Rattle.rx_scan.specs.Pending.{Pending, PendsAs, Pends, Behind, judge_of, CommentEnds, StrictEnds, DoctypeEnds, SectionEnds, InRawEnd}
+use Rattle.rx_scan.specs.Pending.{Pending, PendsAs, Pends, InRawEnd}
 use Rattle.rx_scan.specs.Meant.{Means}
 use Rattle.rx_scan.proofs.Behinds.{grown, in_comment_means, in_strict_means, in_bogus_means, in_instruction_means, in_section_means, in_doctype_means}
 use Rattle.rx_scan.proofs.Snoc.{head_of, word_at}
 use Rattle.rx_scan.proofs.Openings.{in_word_means, at_opened_means, no_tag}
-use Rattle.rx_scan.proofs.Markup.{at_nothing_means, at_less_than_means, in_tag_means, in_end_means, raw_content, same_self, end_known}
+use Rattle.rx_scan.proofs.Markup.{at_nothing_means, at_less_than_means, in_tag_means, in_end_means, raw_content, end_known}
 use Rattle.rx_scan.proofs.References.{in_run_means}
 use Rattle.std.proofs.Math.Bool.{and-false}
 use Rattle.rx_scan.specs.Marks.{end_word}

@@ -1,13 +1,14 @@
 -- Tests of a text by its last character, and what stands behind a front of it.
-use Rattle.std.proofs.Common.{◌≡◌, ◌∙◌, ℕ, Bool, true, false, [], ◌∷◌, ◌++◌, refl, ap, sym, subst, eqb-true, Option, Some, None, length, slice_get}
+use Rattle.std.proofs.Common.{◌≡◌, ◌∙◌, ℕ, Bool, true, false, [], ◌∷◌, ◌++◌, refl, ap, sym, eqb-true, Option, Some, None, length, slice_get}
 use Rattle.std.specs.Prelude.{◌&&◌, ◌||◌, ◌==◌}
 use Rattle.rx_terms.specs.Text.{Chars, is_empty, begins_with}
 use Rattle.rx_grammar.specs.Names.{same}
 use Rattle.rx_grammar.specs.Spelling.{ends_with}
-use Rattle.rx_terms.proofs.Bools.{by_test, both}
+use Rattle.rx_terms.proofs.Bools.{both, same_truth}
 use Rattle.std.proofs.Math.Bool.{and-false, and-true, and_assoc, and_comm, or-false}
 use Rattle.std.specs.List.{list_all}
 use Rattle.rx_reader.proofs.Fronts.{equal}
+use Rattle.std.proofs.lemmas.Bool.{eq-eqb}
 
 -- same d for both
 either_and : (a b d : Bool) → ((a && d) || (d && b)) ≡ (d && (a || b))
@@ -51,10 +52,7 @@ pub lone_snoc : (d : ℕ) (text : Chars) (c : ℕ) → same (text ++ c ∷ []) (
 lone_snoc d text c = snoc_same [] d text c ∙ ap (λ b. b && (c == d)) (none text)
 
 pub either_way : (a b : ℕ) → (a == b) ≡ (b == a)
-either_way a b =
-    by_test {G = (a == b) ≡ (b == a)} (a == b)
-    (λ h. let e : a ≡ b = eqb-true a b h in subst (λ (x : ℕ). (a == x) ≡ (x == a)) e refl)
-    (λ h. by_test {G = (a == b) ≡ (b == a)} (b == a) (λ k. let e : b ≡ a = eqb-true b a k in subst (λ (x : ℕ). (a == x) ≡ (x == a)) (sym e) refl) (λ k. h ∙ sym k))
+either_way a b = same_truth (a == b) (b == a) (λ h. eq-eqb b a (sym (eqb-true a b h))) (λ h. eq-eqb a b (sym (eqb-true b a h)))
 
 -- the text ends with its last character
 pub ends_one : (d : ℕ) (text : Chars) (c : ℕ) → ends_with (d ∷ []) (text ++ c ∷ []) ≡ (d == c)

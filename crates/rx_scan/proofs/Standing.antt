@@ -8,7 +8,7 @@ use Rattle.rx_grammar.specs.declared.contents.Content.TheVariants as content
 use Rattle.rx_grammar.specs.Tokens.{Token, character}
 use Rattle.rx_grammar.specs.Items.{Item, values, is_strict_literal}
 use Rattle.rx_pages.specs.PageReader.{Scanning, first_of, starts_at, entering, item_of, scan_from, read_byte}
-use Rattle.rx_tags.specs.TagBufs.{TagSoFar, no_tag}
+use Rattle.rx_tags.specs.TagBufs.{TagSoFar}
 use Rattle.rx_scan.specs.declared.marks.TokenState.{TokenState}
 use Rattle.rx_scan.specs.declared.marks.TokenState.TheVariants as mark
 use Rattle.rx_scan.specs.declared.places.Position.{Position}
@@ -143,7 +143,6 @@ pub prepared_reads : (old new : Scanner) (s : Scanning) → Prepared old new →
 prepared_reads old new s p h =
     let r = h.reads_as in
     let sy = ap (λ (x : Setting). x.syntax) p.setting in
-    let ins = ap (λ (x : Setting). x.inside) p.setting in
     record {
       at = ap (λ (x : Position). x.at) p.place ∙ r.at;
       starts = ap (λ (x : Position). x.starts) p.place ∙ r.starts;
@@ -155,15 +154,8 @@ prepared_reads old new s p h =
       token = (λ i. token_from (p.mark_is i) (p.place i)) ∙ r.token;
       syntax = ap (λ (x : TagSoFar). x.syntax) p.tag
           ∙ (split (λ (x : TagSoFar). x.syntax ≡ old.reading.pending.tag.syntax) (is_tag old.what) _ _ (λ e. refl) (λ e. refl) ∙ (r.syntax ∙ sym sy));
-      pends = subst (λ (x : Syntax). PendsAs x new.reading.setting.inside new.reading.pending.mark new.reading.pending.run new.reading.pending.tag (values s.run)) (sym sy)
-          (subst (λ (x : Content). PendsAs old.reading.setting.syntax x new.reading.pending.mark new.reading.pending.run new.reading.pending.tag (values s.run)) (sym ins)
-          (subst (λ (x : TokenState). PendsAs old.reading.setting.syntax old.reading.setting.inside x new.reading.pending.run new.reading.pending.tag (values s.run)) (sym p.mark_is)
-          (subst (λ (x : Chars). PendsAs old.reading.setting.syntax old.reading.setting.inside old.reading.pending.mark x new.reading.pending.tag (values s.run)) (sym p.run)
-          (subst (λ (x : TagSoFar). PendsAs old.reading.setting.syntax old.reading.setting.inside old.reading.pending.mark old.reading.pending.run x (values s.run)) (sym p.tag)
-          (split (λ (x : TagSoFar). PendsAs old.reading.setting.syntax old.reading.setting.inside old.reading.pending.mark old.reading.pending.run x (values s.run)) (is_tag old.what) _ _
-          (λ e. let none = subst (λ (m : TokenState). PendsAs old.reading.setting.syntax old.reading.setting.inside m old.reading.pending.run old.reading.pending.tag (values s.run)) (p.between e) r.pends in
-          subst (λ (m : TokenState). PendsAs old.reading.setting.syntax old.reading.setting.inside m old.reading.pending.run (no_tag old.reading.pending.tag.syntax) (values s.run)) (sym (p.between e)) none)
-          (λ e. r.pends))))));
+      pends = rw (p.setting, p.mark_is, p.run, p.tag) (split (λ (x : TagSoFar). PendsAs old.reading.setting.syntax old.reading.setting.inside old.reading.pending.mark old.reading.pending.run x (values s.run)) (is_tag old.what) _ _
+          (λ e. rw (p.between e) (rw (p.between e) at r.pends)) (λ e. r.pends));
     }
 
 spot_same : (a b : Reading) → a.setting ≡ b.setting → spot_of a ≡ spot_of b
