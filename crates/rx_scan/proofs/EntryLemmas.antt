@@ -19,7 +19,7 @@ use Rattle.rx_scan.specs.Pending.{Pending, PendsAs, phase_of, first_char, bracke
 use Rattle.rx_scan.specs.Scanner.{Reading, spot_of}
 use Rattle.rx_scan.specs.Steps.{ReadsAs, a_line_feed, joined, IsOne, a_comment, an_empty_section, setting_after, keeps_first, Skips, Tells, texts_of}
 use Rattle.rx_scan.specs.Buffers.{Buffered}
-use Rattle.rx_scan.proofs.Standing.{whole, IsItem, item_snoc, is_character, no_literal, some_mark, no_values, went, begins}
+use Rattle.rx_scan.proofs.Standing.{whole, is_character, no_literal, some_mark, no_values, went, begins}
 use Rattle.rx_grammar.specs.declared.stops.Stop.{Stop}
 use Rattle.rx_grammar.specs.declared.stops.Stop.TheVariants as stop
 use Rattle.rx_tags.specs.TagBufs.{no_tag, TagSoFar, MayStep, StepGives}
@@ -48,6 +48,8 @@ use Rattle.rx_scan.specs.declared.marks.Move.{Move}
 use Rattle.std.proofs.Math.Bool.{and-false, and-true}
 use Rattle.rx_pages.proofs.LastToken.{token_of_item}
 use Rattle.rx_grammar.specs.declared.faults.Fault.{Fault}
+use Rattle.rx_pages.proofs.FaultsRead.{item_content}
+use Rattle.rx_pages.proofs.ByteFacts.{item_first, item_last}
 
 -- the text has grown by that of these tokens
 pub record Grows (old : Reading) (items : List Item) (new : Reading) : Type 0 where
@@ -110,12 +112,6 @@ verdict_at v s c = verdicts.verdict v.setting.syntax v.setting.inside (values s.
 abbrev pub read_at : Reading → reader.Scanning → Bool → ℕ → verdicts.Verdict → Result reader.Scanned Kind
 read_at v s ar c w = reader.told v.setting.syntax v.setting.limits (spot_of v) ar (entry_at s c) s w
 
-abbrev ok_state : TagState → Result TagState Kind
-ok_state a = Ok a
-
-same_state : (a b : TagState) → ok_state a ≡ ok_state b → a ≡ b
-same_state a b e = cc
-
 module _ (v : Reading) (s : reader.Scanning) (h : ReadsAs v s) (ar : Bool) (c : ℕ) where
   abbrev sy : Syntax
   sy = v.setting.syntax
@@ -145,11 +141,11 @@ module _ (v : Reading) (s : reader.Scanning) (h : ReadsAs v s) (ar : Bool) (c : 
   abbrev item : Token → Item
   item t = reader.item_of inside t (s.run ++ entry ∷ [])
 
-  is_item : (t : Token) → IsItem inside t (reader.first_of s.run entry.first) s.at (item t)
-  is_item t = item_snoc inside t s.run entry
+  item_token : (t : Token) → (item t).token ≡ t
+  item_token t = token_of_item inside t (s.run ++ entry ∷ [])
 
   literal_is : (d : ℕ) (t : Token) → is_literal d (item t) ≡ is_strict_literal d inside t
-  literal_is d t = let k = is_item t in ap (λ x. is_strict_literal d x (item t).token) k.content_is ∙ ap (is_strict_literal d inside) k.token_is
+  literal_is d t = λ i. is_strict_literal d (item_content inside t s.run entry i) (item_token t i)
 
   -- the state behind a token that is whole
   abbrev behind : Token → reader.Scanning
@@ -158,8 +154,7 @@ module _ (v : Reading) (s : reader.Scanning) (h : ReadsAs v s) (ar : Bool) (c : 
   -- a token that is whole and that nothing before refuses
   completes : (t : Token) → verdict ≡ verdicts.whole t → (s.two && is_strict_literal greater_than_sign inside t) ≡ false → (reader.is_doctype t && not v.setting.leads) ≡ false → read verdict ≡ Ok (record { next = behind t; items = item t ∷ [] })
   completes t g a b =
-      let k = is_item t in
-      ap read g ∙ (cond-false _ _ _ (ap (λ x. s.two && x) (literal_is greater_than_sign t) ∙ a) ∙ cond-false _ _ _ (ap (λ x. reader.is_doctype x && not v.setting.leads) k.token_is ∙ b))
+      ap read g ∙ (cond-false _ _ _ (ap (λ x. s.two && x) (literal_is greater_than_sign t) ∙ a) ∙ cond-false _ _ _ (ap (λ x. reader.is_doctype x && not v.setting.leads) (item_token t) ∙ b))
 
   -- the place behind it
   place_behind : (t : Token) (bracket : Bool) → bracket ≡ is_strict_literal right_bracket inside t
@@ -208,17 +203,20 @@ module _ (v : Reading) (s : reader.Scanning) (h : ReadsAs v s) (ar : Bool) (c : 
         setting = refl;
       }))
 
+  -- where memory may run out
+  spent : {P : TokenKind → Type 0} (result : Result TokenKind Stop) (new : Reading) → entries.OrSpent result P → ((answer : TokenKind) → P answer → Gives (read verdict) s v (Ok answer) new) → Gives (read verdict) s v result new
+  spent (Ok answer) new k f = f answer k
+  spent (Err (stop.Fault fault)) new k f = absurd k
+  spent (Err stop.NoMemory) new k f = tt
+
   went_as : (p : Pending) (x : ℕ) (more : Chars) (result : Result TokenKind Stop) (new : Reading) → verdict ≡ verdicts.goes_on → text ≡ x ∷ more → p.tag.syntax ≡ sy → PendsAs sy inside p.mark p.run p.tag (text ++ c ∷ [])
       → entries.Went v (entries.gone v ar p) result new → Gives (read verdict) s v result new
-  went_as p x more (Ok answer) new g e y k w = subst (λ (a : TokenKind). Gives (read verdict) s v (Ok a) new) (sym w.0) (gives_went p x more (Ok what.Nothing) new g e y k refl w.1)
-  went_as p x more (Err (stop.Fault f)) new g e y k w = absurd w
-  went_as p x more (Err stop.NoMemory) new g e y k w = tt
+  went_as p x more result new g e y k w = spent result new w (λ answer (q, n). gives_went p x more (Ok answer) new g e y k (ap Ok q) n)
 
   -- a character of text, by itself or by a reference
   gives_said : (t : Token) (d : ℕ) (bracket : Bool) (result : Result TokenKind Stop) (new : Reading) → read verdict ≡ Ok (record { next = behind t; items = item t ∷ [] }) → text_of t ≡ Some (d ∷ []) → is_line_feed t ≡ (d == line_feed)
       → bracket ≡ is_strict_literal right_bracket inside t → entries.Says v d (ended ar bracket v.place) result new → Gives (read verdict) s v result new
   gives_said t d bracket (Ok what.Nothing) new g x l e k =
-      let i = is_item t in
       gives_at (read verdict) s v (Ok what.Nothing) (entries.with_parts v (entries.undropped v.setting) (ended ar bracket v.place) (entries.marked mark.Nothing v.pending) new.text) new k.1.is
       (record {
         scanned = record { next = behind t; items = item t ∷ [] };
@@ -226,9 +224,9 @@ module _ (v : Reading) (s : reader.Scanning) (h : ReadsAs v s) (ar : Bool) (c : 
         reads_as = ends_as t (entries.marked mark.Nothing v.pending) (entries.undropped v.setting) new.text v.end bracket e refl refl h.syntax;
         told = record {
           more = d ∷ [];
-          texts = ap (λ o. joined o (Some [])) (ap text_of i.token_is ∙ x);
+          texts = ap (λ o. joined o (Some [])) (ap text_of (item_token t) ∙ x);
           text = k.1.text.text;
-          keeps = ap (λ b. not (v.setting.drops && b)) (ap is_line_feed i.token_is ∙ l) ∙ ap not k.0;
+          keeps = ap (λ b. not (v.setting.drops && b)) (ap is_line_feed (item_token t) ∙ l) ∙ ap not k.0;
           some = λ z. absurd (cc);
           started = λ z. refl;
           still = λ z. refl;
@@ -236,14 +234,13 @@ module _ (v : Reading) (s : reader.Scanning) (h : ReadsAs v s) (ar : Bool) (c : 
         setting = refl;
       })
   gives_said t d bracket (Ok what.Skipped) new g x l e k =
-      let i = is_item t in
       let q = both v.setting.drops (d == line_feed) k.0 in
       gives_at (read verdict) s v (Ok what.Skipped) (entries.with_parts v (entries.undropped v.setting) (ended ar bracket v.place) (entries.marked mark.Nothing v.pending) v.text) new k.1
       (record {
         scanned = record { next = behind t; items = item t ∷ [] };
         is = g;
         reads_as = ends_as t (entries.marked mark.Nothing v.pending) (entries.undropped v.setting) v.text v.end bracket e refl refl h.syntax;
-        told = ((λ o bytes. a_line_feed (item t) q.0 refl (ap is_line_feed i.token_is ∙ (l ∙ q.1))), refl);
+        told = ((λ o bytes. a_line_feed (item t) q.0 refl (ap is_line_feed (item_token t) ∙ (l ∙ q.1))), refl);
         setting = refl;
       })
   gives_said t d bracket (Err (stop.Fault f)) new g x l e k = absurd k
@@ -255,16 +252,13 @@ module _ (v : Reading) (s : reader.Scanning) (h : ReadsAs v s) (ar : Bool) (c : 
   gives_says result new e g k =
       by (v.place.two && is_strict_literal greater_than_sign inside (character c)) refl k
     where
-      is_here : s.two ≡ v.place.two
-      is_here = sym h.two
-
       by : (b : Bool) → (v.place.two && is_strict_literal greater_than_sign inside (character c)) ≡ b → entries.Enters v c ar (if b then move.Refuses StrictText else move.EmitText) result new → Gives (read verdict) s v result new
       by true q k =
           refuses (read verdict) v s StrictText result new h
-          (ap read g ∙ cond-true _ _ _ (ap (λ x. s.two && x) (literal_is greater_than_sign (character c)) ∙ (ap (λ b. b && is_strict_literal greater_than_sign inside (character c)) is_here ∙ q))) k
+          (ap read g ∙ cond-true _ _ _ (ap (λ x. s.two && x) (literal_is greater_than_sign (character c)) ∙ (ap (λ b. b && is_strict_literal greater_than_sign inside (character c)) (sym h.two) ∙ q))) k
       by false q k =
           gives_said (character c) c (entries.is_bracket v.setting c) result new
-          (completes (character c) g (ap (λ b. b && is_strict_literal greater_than_sign inside (character c)) is_here ∙ q) refl) refl refl refl k
+          (completes (character c) g (ap (λ b. b && is_strict_literal greater_than_sign inside (character c)) (sym h.two) ∙ q) refl) refl refl refl k
 
   -- the character that a reference stands for
   gives_closes : (result : Result TokenKind Stop) (new : Reading) → meant.Closes sy inside v.pending text c → entries.Closes v ar (meaning sy (encode_utf8_all v.pending.run)) result new → Gives (read verdict) s v result new
@@ -294,7 +288,7 @@ module _ (v : Reading) (s : reader.Scanning) (h : ReadsAs v s) (ar : Bool) (c : 
       }))
 
   one : (t : Token) → IsOne t (item t ∷ [])
-  one t = record { item = item t; one = refl; is = (is_item t).token_is }
+  one t = record { item = item t; one = refl; is = item_token t }
 
   gives_comment : (result : Result TokenKind Stop) (new : Reading) → verdict ≡ verdicts.whole comment → entries.Ends v ar whole_mark.Comment result new → Gives (read verdict) s v result new
   gives_comment result new g k =
@@ -307,16 +301,13 @@ module _ (v : Reading) (s : reader.Scanning) (h : ReadsAs v s) (ar : Bool) (c : 
   gives_section : (result : Result TokenKind Stop) (new : Reading) → verdict ≡ verdicts.whole (section v.pending.run) → entries.Ends v ar whole_mark.Section result new → Gives (read verdict) s v result new
   gives_section result new g k = by v.pending.run refl
     where
-      t : Token
-      t = section v.pending.run
-
       done : read verdict ≡ Ok (record { next = behind (section v.pending.run); items = item (section v.pending.run) ∷ [] })
       done = completes (section v.pending.run) g (unliteral (section v.pending.run) refl) refl
 
       by : (run : Chars) → v.pending.run ≡ run → Gives (read verdict) s v result new
       by [] e =
           gives_ended (section v.pending.run) what.Skipped (entries.undropped v.setting) result new done refl (k.0 ∙ ap (λ (x : Chars). Ok (if is_empty x then what.Skipped else what.Section)) e) k.1 refl
-          ((λ o bytes. an_empty_section (record { item = item (section v.pending.run); one = refl; is = (is_item (section v.pending.run)).token_is ∙ ap section e })), refl) refl
+          ((λ o bytes. an_empty_section (record { item = item (section v.pending.run); one = refl; is = item_token (section v.pending.run) ∙ ap section e })), refl) refl
       by (x ∷ run) e =
           gives_ended (section v.pending.run) what.Section (entries.undropped v.setting) result new done refl (k.0 ∙ ap (λ (x : Chars). Ok (if is_empty x then what.Skipped else what.Section)) e) k.1 refl
           ((one (section v.pending.run), λ z. let q = sym e ∙ z in cc), refl) refl
@@ -343,13 +334,8 @@ module _ (v : Reading) (s : reader.Scanning) (h : ReadsAs v s) (ar : Bool) (c : 
       first_kept : (more : List Item) → keeps_first v.setting.drops (run_item (kept (first_char v.pending.mark ∷ v.pending.run)) ∷ more) ≡ true
       first_kept more = ap (λ t. not (v.setting.drops && is_line_feed t)) (token_of_item inside (kept (first_char v.pending.mark ∷ v.pending.run)) s.run) ∙ ap not (and-false v.setting.drops)
 
-      out_of_memory : {P : TokenKind → Type 0} (result : Result TokenKind Stop) → entries.OrSpent result P → ((answer : TokenKind) → (P answer) → Gives (read verdict) s v (Ok answer) new) → Gives (read verdict) s v result new
-      out_of_memory (Ok answer) k f = f answer k
-      out_of_memory (Err (stop.Fault fault)) k f = absurd k
-      out_of_memory (Err stop.NoMemory) k f = tt
-
       by : (f : First) → marks.at_first inside c ≡ f → meant.Means sy inside none [] c (marks.of_first f) → entries.Stops v c ar f result new → Gives (read verdict) s v result new
-      by (first.Begins n) e g k = out_of_memory result k (λ answer (e, k).
+      by (first.Begins n) e g k = spent result new k (λ answer (e, k).
           subst (λ (a : TokenKind). Gives (read verdict) s v (Ok a) new) (sym e)
           (gives_at (read verdict) s v (Ok what.Nothing) (entries.with_parts v (entries.undropped v.setting) (begun ar (cut v.place)) (record { mark = n; run = []; tag = no_tag v.pending.tag.syntax }) new.text) new k.is
           (record {
@@ -367,7 +353,7 @@ module _ (v : Reading) (s : reader.Scanning) (h : ReadsAs v s) (ar : Bool) (c : 
             };
             setting = refl;
           })))
-      by first.EmitText e g k = out_of_memory result k (λ answer (e, k).
+      by first.EmitText e g k = spent result new k (λ answer (e, k).
           subst (λ (a : TokenKind). Gives (read verdict) s v (Ok a) new) (sym e)
           (gives_at (read verdict) s v (Ok what.Nothing) (entries.with_parts v (entries.undropped v.setting) (ended ar (entries.is_bracket v.setting c) (cut v.place)) (entries.marked mark.Nothing v.pending) new.text) new k.is
           (record {
@@ -413,7 +399,6 @@ module _ (v : Reading) (s : reader.Scanning) (h : ReadsAs v s) (ar : Bool) (c : 
       let e = k.1.0 in
       let on = tag_on-append sy (meaning sy) (Ok fresh) m.chars (c ∷ []) ∙ (ap (λ o. tag_on sy (meaning sy) o (c ∷ [])) m.read ∙ step_in v.pending.tag.state (Ok e.last) e.step) in
       let w : verdict ≡ verdicts.whole (tag (tag_of e.last)) = m.goes ∙ (ap verdicts.told_of_tag on ∙ ap (λ b. verdicts.whole_if b (tag (tag_of e.last))) e.whole) in
-      let i = is_item (tag (tag_of e.last)) in
       gives_at (read verdict) s v (Ok what.Tag) (tag_value t) new k.2
       (record {
         scanned = record { next = behind (tag (tag_of e.last)); items = item (tag (tag_of e.last)) ∷ [] };
@@ -424,9 +409,9 @@ module _ (v : Reading) (s : reader.Scanning) (h : ReadsAs v s) (ar : Bool) (c : 
             record {
               item = item (tag (tag_of e.last));
               one = refl;
-              is = i.token_is ∙ ap (λ x. tag (parts_of x)) (sym e.kept);
-              first_is = i.first_is ∙ token_is 60 m.chars m.some;
-              last_is = i.last_is ∙ sym h.at;
+              is = item_token (tag (tag_of e.last)) ∙ ap (λ x. tag (parts_of x)) (sym e.kept);
+              first_is = item_first inside (tag (tag_of e.last)) s.run entry ∙ token_is 60 m.chars m.some;
+              last_is = item_last inside (tag (tag_of e.last)) s.run entry ∙ sym h.at;
             },
             ap (λ (x : TagState). is_last x.phase) e.kept ∙ e.whole,
             refl,
@@ -456,20 +441,19 @@ module _ (v : Reading) (s : reader.Scanning) (h : ReadsAs v s) (ar : Bool) (c : 
   gives_keeps_tag : (n : ℕ) (result : Result TokenKind Stop) (new : Reading) → meant.KeepsTag sy inside v.pending text c n → entries.Tags v c ar (entries.kept_by (mark.RawEnd n) c v.pending) result new → Gives (read verdict) s v result new
   gives_keeps_tag n (Ok what.Nothing) new m k =
       let t = k.0 in
-      let e : t.state ≡ m.state = same_state t.state m.state (sym (step_in v.pending.tag.state (Ok t.state) k.1.0.0) ∙ m.step) in
+      let z = sym (step_in v.pending.tag.state (Ok t.state) k.1.0.0) ∙ m.step in
+      let e : t.state ≡ m.state = cc in
       gives_went (record { mark = mark.RawEnd n; run = v.pending.run ++ c ∷ []; tag = t }) 60 m.more (Ok what.Nothing) new m.goes m.some (syntax_more t k.1) (m.pends t e (may_step_more t m.may_step k.1)) refl k.2
   gives_keeps_tag n (Ok what.Tag) new m k =
       let e = k.1.0 in
-      let q : e.last ≡ m.state = same_state e.last m.state (sym (step_in v.pending.tag.state (Ok e.last) e.step) ∙ m.step) in
+      let z = sym (step_in v.pending.tag.state (Ok e.last) e.step) ∙ m.step in
+      let q : e.last ≡ m.state = cc in
       absurd (not_both_ways (is_last e.last.phase) e.whole (ap (λ (x : TagState). is_last x.phase) q ∙ m.unfinished))
   gives_keeps_tag n (Ok what.Text) new m k = absurd k
   gives_keeps_tag n (Ok what.Section) new m k = absurd k
   gives_keeps_tag n (Ok what.Doctype) new m k = absurd k
   gives_keeps_tag n (Ok what.Skipped) new m k = absurd k
-  gives_keeps_tag n (Err (stop.Fault f)) new m k = absurd (no_state m.state k.0 (sym m.step ∙ step_in v.pending.tag.state (Err k.0) k.2.0))
-    where
-      no_state : (a : TagState) (kind : Kind) → Ok a ≡ Err kind → ⊥
-      no_state a kind e = cc
+  gives_keeps_tag n (Err (stop.Fault f)) new m k = absurd (let z = sym m.step ∙ step_in v.pending.tag.state (Err k.0) k.2.0 in cc)
   gives_keeps_tag n (Err stop.NoMemory) new m k = tt
 
   by_move : (m : Move) → meant.Means sy inside v.pending text c m → (result : Result TokenKind Stop) (new : Reading) → entries.Enters v c ar (entries.judged v.setting v.place.two c m) result new → Gives (read verdict) s v result new
@@ -489,7 +473,7 @@ module _ (v : Reading) (s : reader.Scanning) (h : ReadsAs v s) (ar : Bool) (c : 
       by true e k = gives_doctype result new g e k
       by false e k =
           refuses (read verdict) v s BadDoctype result new h
-          (ap read g ∙ (cond-false _ _ _ (ap (λ x. s.two && x) (literal_is greater_than_sign doctype) ∙ unliteral doctype refl) ∙ cond-true _ _ _ (ap (λ x. reader.is_doctype x && not v.setting.leads) (is_item doctype).token_is ∙ ap not e))) k
+          (ap read g ∙ (cond-false _ _ _ (ap (λ x. s.two && x) (literal_is greater_than_sign doctype) ∙ unliteral doctype refl) ∙ cond-true _ _ _ (ap (λ x. reader.is_doctype x && not v.setting.leads) (item_token doctype) ∙ ap not e))) k
   by_move move.Closes g result new k = gives_closes result new g k
   by_move move.Reconsume g result new k = gives_stops result new g k
   by_move (move.Refuses kind) g result new k = refuses (read verdict) v s kind result new h (ap read g) k

@@ -133,7 +133,7 @@ module _ (old l : Reading) (s : reader.Scanning) (bytes : List ℕ) (r : ReadsOn
         texts = texts_append r.scanned.items g.scanned.items ∙ (ap (λ x. joined x (texts_of g.scanned.items)) r.texts ∙ (ap (joined (Some l.text.text)) g.told.texts ∙ ap Some (sym g.told.text)));
         keeps = keeps_append old.setting r.scanned.items g.scanned.items r.keeps (ap (λ (x : Setting). keeps_first x.drops g.scanned.items) (sym r.setting) ∙ g.told.keeps);
         setting = g.setting ∙ (ap (λ x. after_some x g.scanned.items) r.setting ∙ after_append old.setting r.scanned.items g.scanned.items);
-        none = λ e. let q = split_nil l.text.text g.told.more (sym g.told.text ∙ e) in both_nil r.scanned.items g.scanned.items (r.none q.0) (g.told.some q.1);
+        none = λ e. let q = split_nil l.text.text g.told.more (sym g.told.text ∙ e) in (λ i. r.none q.0 i ++ g.told.some q.1 i);
         started = λ n. by_text l.text.text refl n g;
         unmarked = λ rest m. elim (marked_byte byte (what.Nothing) new k rest m) [ inl e ↦ r.unmarked e.rest e.mark | inr e ↦ let w : what.Nothing ≡ what.Skipped = e in cc ];
       }
@@ -141,9 +141,6 @@ module _ (old l : Reading) (s : reader.Scanning) (bytes : List ℕ) (r : ReadsOn
       split_nil : (a b : Chars) → a ++ b ≡ [] → (a ≡ []) × (b ≡ [])
       split_nil [] b e = (refl, e)
       split_nil (x ∷ a) b e = absurd (cc)
-
-      both_nil : (a b : List Item) → a ≡ [] → b ≡ [] → a ++ b ≡ []
-      both_nil a b e k = rw (e, k) refl
 
       by_text : (t : Chars) → l.text.text ≡ t → (new.text.text ≡ [] → ⊥) → GivesOk (reader.read_byte l.setting.syntax l.setting.limits (spot_of l) byte r.scanned.next) l what.Nothing new → new.place.started ≡ true
       by_text [] e n g = g.told.started (λ z. n (g.told.text ∙ (ap (λ x. x ++ g.told.more) e ∙ z)))

@@ -98,16 +98,6 @@ module _ (v : Reading) (s : Scanning) (h : ReadsAs v s) (after_return : Bool) wh
       (ap (λ (z : TokenState). token_from z place) m ∙ (ap (λ (q : Position). q.starts) pl ∙ (ap (λ a. a + 1) h.at ∙ sym (starts_next s.at))))
       (y ∙ sym sy) (subst (λ (z : TokenState). PendsAs setting.syntax setting.inside z p.run p.tag []) (sym m) refl)
 
--- the item of a run and its last entry
-pub record IsItem (i : Content) (token : Token) (first last : ℕ) (item : Item) : Type 0 where
-  pub token_is : item.token ≡ token
-  pub content_is : item.content ≡ i
-  pub first_is : item.first ≡ first
-  pub last_is : item.last ≡ last
-
-pub item_snoc : (i : Content) (token : Token) (run : List Entry) (entry : Entry) → IsItem i token (first_of run entry.first) entry.last (item_of i token (run ++ entry ∷ []))
-item_snoc i token run entry = record { token_is = token_of_item i token (run ++ entry ∷ []); content_is = item_content i token run entry; first_is = item_first i token run entry; last_is = item_last i token run entry }
-
 -- what is no literal character
 abbrev pub is_character : Token → Bool
 is_character (character c) = true
