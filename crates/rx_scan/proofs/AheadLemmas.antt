@@ -254,7 +254,6 @@ module _ (syntax : Syntax) (limits : Limits) (spot : Spot) (o : occurs syntax sp
               })
 
   told_is : (s : Scanning) (b : Bool) (e : Entry) (v : Verdict) → ((token : Token) → v ≡ ended token → ⊥) → told syntax limits spot b e s v ≡ told_first syntax limits spot b e s v
-  told_is s b e goes_on n = refl
   told_is s b e (ended token) n = absurd (n token refl)
   told_is s b e _ n = refl
 

@@ -6,7 +6,7 @@ use Rattle.std.specs.Str.{all_scalars}
 use lib.Utf8.{encode, encodes, scalar}
 use Rattle.std.proofs.lemmas.List.{length-append}
 use Rattle.std.proofs.lemmas.Str.{length-encode}
-use Rattle.std.proofs.lemmas.Bool.{and_parts, cond-true, cond-false, and_from, ne_eqb, and_left}
+use Rattle.std.proofs.lemmas.Bool.{and_parts, cond-true, cond-false, and_from, ne_eqb, and_left, false_from_ne_true}
 use Rattle.std.proofs.lemmas.Bool.Decides.{nat_tests}
 use Rattle.rx_chars.specs.declared.syntax.Syntax.{Syntax}
 use Rattle.rx_chars.specs.declared.utf8.Utf8Step.TheVariants.{More, Char, Bad}
@@ -20,7 +20,7 @@ use Rattle.rx_grammar.specs.Items.{values, Item, is_literal, is_strict_literal}
 use Rattle.rx_grammar.specs.Pages.{has_no_nul}
 use Rattle.rx_grammar.specs.PageFaults.{IsPart, is_known_tag, Faulty}
 use Rattle.rx_reader.proofs.Fronts.{two_fronts}
-use Rattle.rx_terms.proofs.Bools.{by_test}
+use Rattle.rx_terms.proofs.Bools.{by_test, split}
 use Rattle.rx_pages.specs.Scanner.{GoesOn, Verdict, ended, refused, verdict, ReadAs, at_last, at_next}
 use Rattle.rx_pages.specs.PageReader.{Spot, Scanning, Scanned, first_of, starts_at, token_at, holding, passed, entering, is_too_long, told, read_char, read_answer, read_byte, with_items, scan_on, scan_from, fault_in, item_of, is_doctype, told_first, with_item, after_token, read_entry}
 use Rattle.rx_pages.proofs.Pends.{occurs}
@@ -65,25 +65,19 @@ use Rattle.rx_scan.proofs.RunLemmas.{on_append}
 passes_entries : (started after_return : Bool) (at c : ℕ) (cs : List ℕ) → passes started after_return c ≡ true → entries_at started after_return at (c ∷ cs) ≡ entries_at true false (at + len_utf8 c) cs
 passes_entries true after_return at c cs h = cond-true _ _ _ h
 passes_entries false after_return at c cs h =
-    by_test {G = entries_at false after_return at (c ∷ cs) ≡ entries_at true false (at + len_utf8 c) cs} (c == byte_order_mark)
-    (λ t. cond-true _ _ _ t)
-    (λ t. cond-false _ _ _ t ∙ cond-true _ _ _ (sym (ap (λ b. b || after_return && c == line_feed) t) ∙ h))
+    split (λ es. es ≡ entries_at true false (at + len_utf8 c) cs) (c == byte_order_mark) _ _ (λ t. refl) (λ t. cond-true _ _ _ (sym (ap (λ b. b || after_return && c == line_feed) t) ∙ h))
 
 enters_entries : (started after_return : Bool) (at c : ℕ) (cs : List ℕ) → passes started after_return c ≡ false
     → entries_at started after_return at (c ∷ cs) ≡ entry_at c at (at + len_utf8 c - 1) ∷ entries_at true (c == carriage_return) (at + len_utf8 c) cs
 enters_entries true after_return at c cs h = cond-false _ _ _ h
 enters_entries false after_return at c cs h =
-    by_test {G = entries_at false after_return at (c ∷ cs) ≡ entry_at c at (at + len_utf8 c - 1) ∷ entries_at true (c == carriage_return) (at + len_utf8 c) cs} (c == byte_order_mark)
-    (λ t. absurd (let z : true ≡ false = sym (ap (λ b. b || after_return && c == line_feed) t) ∙ h in cc))
-    (λ t. cond-false _ _ _ t ∙ cond-false _ _ _ (sym (ap (λ b. b || after_return && c == line_feed) t) ∙ h))
+    split (λ es. es ≡ entry_at c at (at + len_utf8 c - 1) ∷ entries_at true (c == carriage_return) (at + len_utf8 c) cs) (c == byte_order_mark) _ _
+    (λ t. absurd (let z : true ≡ false = sym (ap (λ b. b || after_return && c == line_feed) t) ∙ h in cc)) (λ t. cond-false _ _ _ (sym (ap (λ b. b || after_return && c == line_feed) t) ∙ h))
 
 rises_at : (started after_return : Bool) (at : ℕ) (cs : List ℕ) → Rises (entries_at started after_return at cs)
 rises_at true after_return at cs = rises after_return at cs
 rises_at false after_return at [] = tt
-rises_at false after_return at (c ∷ cs) =
-    by_test {G = Rises (entries_at false after_return at (c ∷ cs))} (c == byte_order_mark)
-    (λ t. subst Rises (sym (cond-true _ _ _ t)) (rises false (at + len_utf8 c) cs))
-    (λ t. subst Rises (sym (cond-false _ _ _ t)) (rises after_return at (c ∷ cs)))
+rises_at false after_return at (c ∷ cs) = split Rises (c == byte_order_mark) _ _ (λ t. rises false (at + len_utf8 c) cs) (λ t. rises after_return at (c ∷ cs))
 
 size_of : (c : ℕ) (cs : List ℕ) → length (encodes (c ∷ cs)) ≡ len_utf8 c + length (encodes cs)
 size_of c cs = length-append (encode c) (encodes cs) ∙ ap (λ n. n + length (encodes cs)) (length-encode c)
@@ -122,7 +116,7 @@ nonzero_of started after_return at c cs h =
     by_test {G = (c == 0) ≡ false} (passes started after_return c) (λ t. passing_is started after_return c ((c == 0) ≡ false) t (mark_some c) (line_feed_some c))
     (λ t.
     let k : (not (as_line_end c == 0) && has_no_nul (entries_at true (c == carriage_return) (at + len_utf8 c) cs)) ≡ true = sym (ap has_no_nul (enters_entries started after_return at c cs t)) ∙ h in
-    by_test {G = (c == 0) ≡ false} (c == 0) (λ z. absurd (let w : false ≡ true = sym (ap not (nul_entry c z)) ∙ (and_parts (not (as_line_end c == 0)) (has_no_nul (entries_at true (c == carriage_return) (at + len_utf8 c) cs)) k).0 in cc)) (λ z. z))
+    false_from_ne_true (c == 0) (λ z. let w : false ≡ true = sym (ap not (nul_entry c z)) ∙ (and_parts (not (as_line_end c == 0)) (has_no_nul (entries_at true (c == carriage_return) (at + len_utf8 c) cs)) k).0 in cc))
 
 no_nul_behind : (started after_return : Bool) (at c : ℕ) (cs : List ℕ) (es : List Entry) → has_no_nul (entries_at started after_return at (c ∷ cs)) ≡ true → (e : Entry) → entries_at started after_return at (c ∷ cs) ≡ e ∷ es → has_no_nul es ≡ true
 no_nul_behind started after_return at c cs es h e k = (and_parts (not (e.value == 0)) (has_no_nul es) (sym (ap has_no_nul k) ∙ h)).1

@@ -29,7 +29,7 @@ use Rattle.rx_scan.specs.declared.marks.TokenState.{TokenState}
 use Rattle.rx_scan.specs.Entries as entries
 use Rattle.rx_scan.specs.Meant as meant
 use Rattle.rx_grammar.specs.declared.faults.Kind.TheVariants.{StrictText, BadDoctype}
-use Rattle.rx_terms.proofs.Bools.{both, not_both_ways}
+use Rattle.rx_terms.proofs.Bools.{both, not_both_ways, split}
 use Rattle.rx_grammar.specs.References.{meaning}
 use Rattle.rx_reader.specs.Values.{no_meaning}
 use Rattle.rx_scan.specs.declared.marks.Move.TheVariants as move
@@ -250,15 +250,11 @@ module _ (v : Reading) (s : reader.Scanning) (h : ReadsAs v s) (ar : Bool) (c : 
   -- a literal character
   gives_says : (result : Result TokenKind Stop) (new : Reading) → text ≡ [] → verdict ≡ verdicts.whole (character c) → entries.Enters v c ar (entries.judged v.setting v.place.two c move.EmitText) result new → Gives (read verdict) s v result new
   gives_says result new e g k =
-      by (v.place.two && is_strict_literal greater_than_sign inside (character c)) refl k
-    where
-      by : (b : Bool) → (v.place.two && is_strict_literal greater_than_sign inside (character c)) ≡ b → entries.Enters v c ar (if b then move.Refuses StrictText else move.EmitText) result new → Gives (read verdict) s v result new
-      by true q k =
-          refuses (read verdict) v s StrictText result new h
-          (ap read g ∙ cond-true _ _ _ (ap (λ x. s.two && x) (literal_is greater_than_sign (character c)) ∙ (ap (λ b. b && is_strict_literal greater_than_sign inside (character c)) (sym h.two) ∙ q))) k
-      by false q k =
-          gives_said (character c) c (entries.is_bracket v.setting c) result new
-          (completes (character c) g (ap (λ b. b && is_strict_literal greater_than_sign inside (character c)) (sym h.two) ∙ q) refl) refl refl refl k
+      split (λ (m : Move). entries.Enters v c ar m result new → Gives (read verdict) s v result new) (v.place.two && is_strict_literal greater_than_sign inside (character c)) _ _
+      (λ q k. refuses (read verdict) v s StrictText result new h
+      (ap read g ∙ cond-true _ _ _ (ap (λ x. s.two && x) (literal_is greater_than_sign (character c)) ∙ (ap (λ b. b && is_strict_literal greater_than_sign inside (character c)) (sym h.two) ∙ q))) k)
+      (λ q k. gives_said (character c) c (entries.is_bracket v.setting c) result new
+      (completes (character c) g (ap (λ b. b && is_strict_literal greater_than_sign inside (character c)) (sym h.two) ∙ q) refl) refl refl refl k) k
 
   -- the character that a reference stands for
   gives_closes : (result : Result TokenKind Stop) (new : Reading) → meant.Closes sy inside v.pending text c → entries.Closes v ar (meaning sy (encode_utf8_all v.pending.run)) result new → Gives (read verdict) s v result new
@@ -467,13 +463,10 @@ module _ (v : Reading) (s : reader.Scanning) (h : ReadsAs v s) (ar : Bool) (c : 
   by_move move.EmitText g result new k = gives_says result new g.0 g.1 k
   by_move (move.Ends whole_mark.Comment) g result new k = gives_comment result new g k
   by_move (move.Ends whole_mark.Section) g result new k = gives_section result new g k
-  by_move (move.Ends whole_mark.Doctype) g result new k = by v.setting.leads refl k
-    where
-      by : (b : Bool) → v.setting.leads ≡ b → entries.Enters v c ar (if b then move.Ends whole_mark.Doctype else move.Refuses BadDoctype) result new → Gives (read verdict) s v result new
-      by true e k = gives_doctype result new g e k
-      by false e k =
-          refuses (read verdict) v s BadDoctype result new h
-          (ap read g ∙ (cond-false _ _ _ (ap (λ x. s.two && x) (literal_is greater_than_sign doctype) ∙ unliteral doctype refl) ∙ cond-true _ _ _ (ap (λ x. reader.is_doctype x && not v.setting.leads) (item_token doctype) ∙ ap not e))) k
+  by_move (move.Ends whole_mark.Doctype) g result new k =
+      split (λ (m : Move). entries.Enters v c ar m result new → Gives (read verdict) s v result new) v.setting.leads _ _ (λ e k. gives_doctype result new g e k)
+      (λ e k. refuses (read verdict) v s BadDoctype result new h
+      (ap read g ∙ (cond-false _ _ _ (ap (λ x. s.two && x) (literal_is greater_than_sign doctype) ∙ unliteral doctype refl) ∙ cond-true _ _ _ (ap (λ x. reader.is_doctype x && not v.setting.leads) (item_token doctype) ∙ ap not e))) k) k
   by_move move.Closes g result new k = gives_closes result new g k
   by_move move.Reconsume g result new k = gives_stops result new g k
   by_move (move.Refuses kind) g result new k = refuses (read verdict) v s kind result new h (ap read g) k

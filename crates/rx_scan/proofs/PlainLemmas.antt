@@ -9,7 +9,7 @@ use Rattle.std.proofs.lemmas.List.Folds.{list_all-append}
 use Rattle.std.proofs.lemmas.Str.{encode_ascii, IsUtf8-append, IsUtf8-encode}
 use Rattle.rx_terms.specs.Ascii.{is_ascii}
 use Rattle.rx_terms.proofs.CharLemmas.{ascii-utf8}
-use Rattle.rx_terms.proofs.Bools.{by_test}
+use Rattle.rx_terms.proofs.Bools.{by_test, neither, untrue}
 use Rattle.rx_scan.specs.Plain.{is_stop, is_plain, is_plain_ascii}
 use Rattle.rx_chars.specs.Utf8.{is_well_formed, scalar_value, is_in, tail}
 use Rattle.rx_chars.specs.Held.{fits_second}
@@ -27,18 +27,10 @@ weaker p q f [] h = refl
 weaker p q f (x ∷ xs) h = let k = and_parts (p x) _ h in and_from (q x) _ (f x k.0) (weaker p q f xs k.1)
 
 one_plain : (x : ℕ) → is_plain_ascii x ≡ true → is_plain x ≡ true
-one_plain x h = by (is_stop x) (nat_le 128 x) h
-  where
-    by : (a b : Bool) → not (a || b) ≡ true → not a ≡ true
-    by true b h = h
-    by false b h = refl
+one_plain x h = ap not (neither (is_stop x) (nat_le 128 x) (untrue _ h)).0
 
 one_ascii : (x : ℕ) → is_plain_ascii x ≡ true → is_ascii x ≡ true
-one_ascii x h = lt-ltb x 128 (leb-false 128 x (by (is_stop x) (nat_le 128 x) h))
-  where
-    by : (a b : Bool) → not (a || b) ≡ true → b ≡ false
-    by false false h = refl
-    by _ _ h = absurd (cc)
+one_ascii x h = lt-ltb x 128 (leb-false 128 x (neither (is_stop x) (nat_le 128 x) (untrue _ h)).1)
 
 pub ascii_plain : (xs : List ℕ) → list_all is_plain_ascii xs ≡ true → list_all is_plain xs ≡ true
 ascii_plain xs h = weaker is_plain_ascii is_plain one_plain xs h

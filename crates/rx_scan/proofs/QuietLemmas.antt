@@ -38,8 +38,7 @@ use Rattle.rx_scan.proofs.RunLemmas.{IsApart}
 pub data Does (l : Reading) (byte : ℕ) (answer : TokenKind) (new : Reading) : Type 0 where
   says : answer ≡ what.Nothing → new.pending.mark ≡ mark.Nothing → Does l byte answer new
   begins : answer ≡ what.Nothing → (byte == 60 || byte == 38) ≡ true → Does l byte answer new
-  drops : l.setting.drops ≡ true → answer ≡ what.Skipped → new.pending.mark ≡ mark.Nothing → Does l byte answer new
-  is_a_mark : l.place.started ≡ false → answer ≡ what.Skipped → new.pending.mark ≡ mark.Nothing → Does l byte answer new
+  skips : (l.setting.drops ≡ true) ⊎ (l.place.started ≡ false) → answer ≡ what.Skipped → new.pending.mark ≡ mark.Nothing → Does l byte answer new
 
 -- a character of ASCII is its last byte
 pub last_byte : (held : List ℕ) (byte c : ℕ) → answer_of (held ++ byte ∷ []) ≡ Char c → c < 128 → byte ≡ c
@@ -73,7 +72,7 @@ module _ (l new : Reading) (byte : ℕ) (answer : TokenKind) (m : l.pending.mark
   said _ d place k = absurd k
 
   does_say : (d : ℕ) (place : Position) → entries.Says l d place result new → Does l byte answer new
-  does_say d place k = let q = said answer d place k in elim q.0 [ inl e ↦ says e q.1 | inr e ↦ drops e.0 e.1 q.1 ]
+  does_say d place k = let q = said answer d place k in elim q.0 [ inl e ↦ says e q.1 | inr e ↦ skips (inl e.0) e.1 q.1 ]
 
   -- the character is the byte
   does_first : (c : ℕ) (ar : Bool) → ((d : ℕ) → c ≡ d → (10 == d) ≡ false → d < 128 → byte ≡ d) → entries.Enters l c ar (entries.judged l.setting l.place.two c (marks.of_first (marks.at_first l.setting.inside c))) result new → Does l byte answer new
@@ -102,7 +101,7 @@ module _ (l new : Reading) (byte : ℕ) (answer : TokenKind) (m : l.pending.mark
       passed : ((not l.place.started && c == 65279) ≡ true) ⊎ ((l.place.after_return && c == 10) ≡ true) → result ≡ Ok (entries.is_mark c) → new.pending.mark ≡ mark.Nothing → Does l byte answer new
       passed (inl a) q k =
           let p = both (not l.place.started) _ a in
-          is_a_mark (untrue l.place.started p.0) (let z : entries.is_mark c ≡ what.Skipped = ap entries.is_mark (eqb-true c 65279 p.1) in arrive what.Skipped (q ∙ ap Ok z)) k
+          skips (inr (untrue l.place.started p.0)) (let z : entries.is_mark c ≡ what.Skipped = ap entries.is_mark (eqb-true c 65279 p.1) in arrive what.Skipped (q ∙ ap Ok z)) k
       passed (inr a) q k = says (let z : entries.is_mark c ≡ what.Nothing = ap entries.is_mark (eqb-true c 10 (both l.place.after_return _ a).1) in arrive what.Nothing (q ∙ ap Ok z)) k
 
   pub does : entries.Reads l byte result new → Does l byte answer new
@@ -128,8 +127,8 @@ apart_tells l new byte answer a k = by (does l new byte answer a.mark k)
     by : Does l byte answer new → answer ≡ what.Nothing
     by (says e m) = e
     by (begins e m) = e
-    by (drops e k m) = absurd (let q = sym e ∙ a.drops in cc)
-    by (is_a_mark e k m) = absurd (let q = sym e ∙ a.started in cc)
+    by (skips (inl e) k m) = absurd (let q = sym e ∙ a.drops in cc)
+    by (skips (inr e) k m) = absurd (let q = sym e ∙ a.started in cc)
 
 -- a quiet byte begins no token
 pub quiet_tells : (l new : Reading) (byte : ℕ) (answer : TokenKind) → l.pending.mark ≡ mark.Nothing → not (byte == 60 || byte == 38) ≡ true → entries.Reads l byte (Ok answer) new → new.pending.mark ≡ mark.Nothing
@@ -138,8 +137,7 @@ quiet_tells l new byte answer n q k = by (does l new byte answer n k)
     by : Does l byte answer new → new.pending.mark ≡ mark.Nothing
     by (says e m) = m
     by (begins e m) = absurd (let z = sym m ∙ untrue (byte == 60 || byte == 38) q in cc)
-    by (drops e k m) = m
-    by (is_a_mark e k m) = m
+    by (skips e k m) = m
 
 -- no byte between tokens ends a tag
 pub between_tells : (l new : Reading) (byte : ℕ) (answer : TokenKind) → l.pending.mark ≡ mark.Nothing → entries.Reads l byte (Ok answer) new → is_tag answer ≡ false
@@ -148,8 +146,7 @@ between_tells l new byte answer n k = by (does l new byte answer n k)
     by : Does l byte answer new → is_tag answer ≡ false
     by (says e m) = ap is_tag e
     by (begins e m) = ap is_tag e
-    by (drops e k m) = ap is_tag k
-    by (is_a_mark e k m) = ap is_tag k
+    by (skips e k m) = ap is_tag k
 
 -- and neither does what text is handed out for, before a fault or at the end of the piece
 pub stopped_tells : (text : Chars) (n : ℕ) (s : Stop) → IfOk (stopped_at text n s) (λ answer. is_tag answer.1 ≡ false)
