@@ -182,23 +182,17 @@ module _ (s : Syntax) (i : Content) (p : Pending) (text : Chars) (c : ℕ) where
       judge : Chars → ℕ → told.Verdict
       judge = told.in_section
 
-      at_93 : (b : Brackets) (kept rest : Chars) → c ≡ 93 → SectionEnds b kept (rest ++ 93 ∷ []) → SectionEnds b kept (rest ++ c ∷ [])
-      at_93 b kept rest e h = subst (λ (x : ℕ). SectionEnds b kept (rest ++ x ∷ [])) (sym e) h
+      goes_to : (q next : Brackets) (run : Chars) (b : PendsAs s i (mark.Section q) p.run p.tag text) → told.verdict s i text c ≡ told.goes_on → SectionEnds next run (b.rest ++ c ∷ []) → Goes s i p text c (mark.Section next) run
+      goes_to q next run b v h = record { first = 60; more = b.front ++ b.rest; some = b.are; goes = v; pends = behind_more judge (SectionEnds q p.run) (SectionEnds next run) b h }
 
       bracket : (q : Brackets) → PendsAs s i (mark.Section q) p.run p.tag text → c ≡ 93 → told.verdict s i text c ≡ told.goes_on → Means s i p text c (at_bracket q)
       bracket brackets.None b e v =
-          record { first = 60; more = b.front ++ b.rest; some = b.are; goes = v; pends = behind_more judge (SectionEnds brackets.None p.run) (SectionEnds brackets.One p.run) b (at_93 brackets.One p.run b.rest e (bracket_ends brackets.None brackets.One p.run p.run b.rest b.is (ap (λ x. x ++ 93 ∷ []) (b.is.are ∙ append-nil p.run)) refl refl)) }
+          goes_to brackets.None brackets.One p.run b v (rw e (bracket_ends brackets.None brackets.One p.run p.run b.rest b.is (ap (λ x. x ++ 93 ∷ []) (b.is.are ∙ append-nil p.run)) refl refl))
       bracket brackets.One b e v =
-          record { first = 60; more = b.front ++ b.rest; some = b.are; goes = v; pends = behind_more judge (SectionEnds brackets.One p.run) (SectionEnds brackets.Two p.run) b (at_93 brackets.Two p.run b.rest e (bracket_ends brackets.One brackets.Two p.run p.run b.rest b.is (ap (λ x. x ++ 93 ∷ []) b.is.are ∙ append_assoc p.run (93 ∷ []) (93 ∷ [])) refl refl)) }
+          goes_to brackets.One brackets.Two p.run b v (rw e (bracket_ends brackets.One brackets.Two p.run p.run b.rest b.is (ap (λ x. x ++ 93 ∷ []) b.is.are ∙ append_assoc p.run (93 ∷ []) (93 ∷ [])) refl refl))
       bracket brackets.Two b e v =
-          record {
-            first = 60;
-            more = b.front ++ b.rest;
-            some = b.are;
-            goes = v;
-            pends = behind_more judge (SectionEnds brackets.Two p.run) (SectionEnds brackets.Two (p.run ++ c ∷ [])) b
-                (at_93 brackets.Two (p.run ++ c ∷ []) b.rest e (subst (λ (x : ℕ). SectionEnds brackets.Two (p.run ++ x ∷ []) (b.rest ++ 93 ∷ [])) (sym e) (bracket_ends brackets.Two brackets.Two p.run (p.run ++ 93 ∷ []) b.rest b.is (ap (λ x. x ++ 93 ∷ []) b.is.are ∙ (append_assoc p.run (93 ∷ 93 ∷ []) (93 ∷ []) ∙ sym (append_assoc p.run (93 ∷ []) (93 ∷ 93 ∷ [])))) refl refl)));
-          }
+          goes_to brackets.Two brackets.Two (p.run ++ c ∷ []) b v
+          (rw e (bracket_ends brackets.Two brackets.Two p.run (p.run ++ 93 ∷ []) b.rest b.is (ap (λ x. x ++ 93 ∷ []) b.is.are ∙ (append_assoc p.run (93 ∷ 93 ∷ []) (93 ∷ []) ∙ sym (append_assoc p.run (93 ∷ []) (93 ∷ 93 ∷ [])))) refl refl))
 
       kept : (q : Brackets) (b : Behind s i (judge_of s i (mark.Section q)) (SectionEnds q p.run) text) → are_two q ≡ true → take (length b.rest - 2) b.rest ≡ p.run
       kept brackets.Two b h = ap (λ x. take (length x - 2) x) b.is.are ∙ section_kept p.run

@@ -37,9 +37,6 @@ module _ (l new : Reading) (b : ℕ) (m : TokenState) (at : l.pending.mark ≡ m
   tags : entries.Tags l b false (entries.marked mark.Tag l.pending) (Ok what.Nothing) new
   tags = (fed_tag, (subst (λ (x : TagState). GoesTo l.pending.tag.syntax l.pending.tag.state b x) (sym t.goes.2) t.goes.1, refl), t.is)
 
-  enters : entries.Enters l b false (entries.move_at l b) (Ok what.Nothing) new
-  enters = subst (λ (x : Move). entries.Enters l b false x (Ok what.Nothing) new) (sym (ap (entries.judged l.setting l.place.two b) known.moves)) tags
-
   not_long : (is : Bool) → entries.is_long l is ≡ false
   not_long = within_limit l (subst (λ (x : ℕ). l.place.at < x + l.setting.limits.tag) (sym (ap (λ (x : TokenState). entries.token_from x l.place) at ∙ begun)) (omega (arith, t.tag)))
 
@@ -47,7 +44,8 @@ module _ (l new : Reading) (b : ℕ) (m : TokenState) (at : l.pending.mark ≡ m
   opens_one =
       other_read l new [] b b (Ok what.Nothing) t.held (first_whole b (let h = leb-true b 126 (and_parts (nat_le 32 b) (nat_le b 126) (and_parts (is_printed b) _ t.printed).0).1 in omega arith)) (omega (arith, t.page))
       known.some (not_long (known_tags.is_tag l.pending.mark)) (not_long (known_tags.is_tag_with l.setting.syntax l.setting.inside l.pending.mark (as_line_end b)))
-      (or_from _ _ (and_right (not l.place.started) _ known.unmarked) (and_right l.place.after_return _ known.goes_on)) known.on_a_line enters
+      (or_from _ _ (and_right (not l.place.started) _ known.unmarked) (and_right l.place.after_return _ known.goes_on)) known.on_a_line
+      (subst (λ (x : Move). entries.Enters l b false x (Ok what.Nothing) new) (sym (ap (entries.judged l.setting l.place.two b) known.moves)) tags)
 
 reads_one : (l new : Reading) (b : ℕ) → FeedsFront l (b ∷ []) new → entries.Reads l b (Ok what.Nothing) new
 reads_one l new b t =

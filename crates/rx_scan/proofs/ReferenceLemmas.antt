@@ -148,11 +148,7 @@ reads_semicolon l n p kept c text room drops closes means gains =
 
 module _ (old : Reading) (s : reader.Scanning) where
   moved : (l : Reading) (bytes more : List ℕ) (n m : ℕ) (p q : RunPhase) (kept run_now : Chars) → bytes ≡ more → n ≡ m → p ≡ q → kept ≡ run_now → ReadsOn old s bytes (in_reference l n p kept) → ReadsOn old s more (in_reference l m q run_now)
-  moved l bytes more n m p q kept run_now e f h g r =
-      subst (λ (x : List ℕ). ReadsOn old s x (in_reference l m q run_now)) e
-      (subst (λ (x : ℕ). ReadsOn old s bytes (in_reference l x q run_now)) f
-      (subst (λ (x : RunPhase). ReadsOn old s bytes (in_reference l n x run_now)) h
-      (subst (λ (x : Chars). ReadsOn old s bytes (in_reference l n p x)) g r)))
+  moved l bytes more n m p q kept run_now e f h g r = rw (sym e, sym f, sym h, sym g) r
 
   abbrev BodyOn : Reading → Chars → RunPhase → Type 0
   BodyOn l more last =

@@ -107,12 +107,9 @@ module _ (l new : Reading) (held : List ℕ) (b c : ℕ) (t : Leads l held (b �
             ∙ ap (λ (p : Pending). entries.with_parts l (entries.undropped l.setting) (ended false (entries.is_bracket l.setting c) l.place) p new.text) (unmarked l.pending t.may.between));
       }
 
-  move_is : entries.move_at l c ≡ move.EmitText
-  move_is = emits l c t.may.between t.may.inside t.plain (either_way 62 c ∙ is_none c 62 t.plain refl)
-
   says : entries.Enters l c false (entries.move_at l c) (Ok what.Nothing) new
   says =
-      subst (λ (x : Move). entries.Enters l c false x (Ok what.Nothing) new) (sym move_is)
+      subst (λ (x : Move). entries.Enters l c false x (Ok what.Nothing) new) (sym (emits l c t.may.between t.may.inside t.plain (either_way 62 c ∙ is_none c 62 t.plain refl)))
       (ap (λ x. x && (c == 10)) t.may.undropped, tells)
 
   answers : Char c ≡ answer_of (held ++ b ∷ [])
@@ -142,15 +139,12 @@ module _ (l new : Reading) (held : List ℕ) (b d : ℕ) (rest : List ℕ) (c : 
       answer_is (held ++ b ∷ []) More
       (record { more = d ∷ rest; value = c; longer = λ e. cc; character = (tables_agree ((held ++ b ∷ []) ++ d ∷ rest) c).1 (t.scalar, spelled_on) })
 
-  in_text : entries.is_long l (known_tags.is_tag l.pending.mark) ≡ false
-  in_text = ap (λ (x : TokenState). entries.is_long l (known_tags.is_tag x)) t.may.between
-
   reads_held : entries.Reads l b (Ok what.Nothing) next
   reads_held =
       chosen (nat_le l.setting.limits.page l.place.at) _ _ (lt-leb l.setting.limits.page l.place.at (omega (arith, t.page)))
       (subst (λ (x : List ℕ). entries.ReadsAnswer l (x ++ b ∷ []) (answer_of (x ++ b ∷ [])) (Ok what.Nothing) next) (sym t.held_is)
       (subst (λ (a : Utf8Step). entries.ReadsAnswer l (held ++ b ∷ []) a (Ok what.Nothing) next) is_begun
-      (chosen (entries.is_long l (known_tags.is_tag l.pending.mark)) _ _ in_text (refl, refl))))
+      (chosen (entries.is_long l (known_tags.is_tag l.pending.mark)) _ _ (ap (λ (x : TokenState). entries.is_long l (known_tags.is_tag x)) t.may.between) (refl, refl))))
 
   leads_on : Leads next (held ++ b ∷ []) (d ∷ rest) c new
   leads_on =
