@@ -179,10 +179,7 @@ module _ (old new : Reading) (s : reader.Scanning) where
   front_read l piece i n k r m =
       match_by (n == 0) _ _ m
       (λ z e. subst (λ (x : ℕ). ReadsOn old s (take x piece) new) (let q : n ≡ 0 = eqb-true n 0 z in omega arith) (subst (λ (x : Reading). ReadsOn old s (take i piece) x) (sym e) r))
-      (λ z t. subst (λ (x : List ℕ). ReadsOn old s x new) (sym (take-add i n piece)) (some_front (take n (drop i piece)) l (take i piece) (some z) r t))
-    where
-      some : (n == 0) ≡ false → 0 < length (take n (drop i piece))
-      some z = subst (λ (x : ℕ). 0 < x) (sym (length-take-le n (drop i piece) k)) (some_count n (eqb-false n 0 z))
+      (λ z t. subst (λ (x : List ℕ). ReadsOn old s x new) (sym (take-add i n piece)) (some_front (take n (drop i piece)) l (take i piece) (subst (λ (x : ℕ). 0 < x) (sym (length-take-le n (drop i piece) k)) (some_count n (eqb-false n 0 z))) r t))
 
 -- what it leaves as it was
 pub record IsKept (l : Reading) (n : ℕ) (new : Reading) : Type 0 where

@@ -59,14 +59,11 @@ module _ (old l new : Reading) (s : reader.Scanning) (piece : List ℕ) (i : ℕ
   pub token_read : (answer : TokenKind) → is_token answer ≡ true → (l.text.text ≡ []) ⊎ (l.pending.mark ≡ mark.Nothing) → entries.Reads l byte (Ok answer) new → Took old s piece (i + 1) answer new
   token_read answer t o e = by l.text.text refl
     where
-      not_told : answer ≡ what.Nothing → is_token answer ≡ false
-      not_told q = ap is_token q
-
       by : (text : Chars) → l.text.text ≡ text → Took old s piece (i + 1) answer new
       by [] q = took_token old l new s piece i k r answer e q t
       by (x ∷ text) q = elim o [
         | inl n ↦ absurd (let z = sym q ∙ n in cc)
-        | inr m ↦ absurd (let z = sym t ∙ not_told (apart_tells l new byte answer (apart old l s (take i piece) r (λ n. let y = sym q ∙ n in cc) m) e) in cc)
+        | inr m ↦ absurd (let z = sym t ∙ ap is_token (apart_tells l new byte answer (apart old l s (take i piece) r (λ n. let y = sym q ∙ n in cc) m) e) in cc)
       ]
 
   pub stopped : (stop : Stop) (taken : ℕ) → taken ≡ i → (l.text.text ≡ []) ⊎ (l.pending.mark ≡ mark.Nothing) → entries.Reads l byte (Err stop) new → (l.pending.mark ≡ mark.Nothing → entries.Between l (Err stop) new) → entries.IfFault {A = TokenKind} (Err stop) (new.text.text ≡ l.text.text)

@@ -236,13 +236,11 @@ module _ (old l new : Reading) (s : reader.Scanning) (piece : List ℕ) (i : ℕ
   pub took_token : (answer : TokenKind) → entries.Reads l byte (Ok answer) new → l.text.text ≡ [] → is_token answer ≡ true → Took old s piece (i + 1) answer new
   took_token answer e t w = elim (reads l r.scanned.next r.reads_as byte (Ok answer) new e) [
     | inl g ↦ took_entry answer e t w g
-    | inr m ↦ let q : answer ≡ what.Skipped = skipped m.answer in
+    | inr m ↦ let w : ◌≡◌ {A = Result TokenKind Stop} (Ok answer) (Ok what.Skipped) = m.answer in
+        let q : answer ≡ what.Skipped = cc in
         subst (λ (a : TokenKind). Took old s piece (i + 1) a new) (sym q)
         (took_mark (subst (λ (a : TokenKind). entries.Reads l byte (Ok a) new) q e) t (subst (λ (a : TokenKind). PassesMark (reader.read_byte l.setting.syntax l.setting.limits (spot_of l) byte r.scanned.next) r.scanned.next l byte (Ok a) new) q m))
   ]
-    where
-      skipped : ◌≡◌ {A = Result TokenKind Stop} (Ok answer) (Ok what.Skipped) → answer ≡ what.Skipped
-      skipped e = cc
 
   -- the byte decides a fault
   pub faults : (fault : Fault) → entries.Reads l byte (Err (stop.Fault fault)) new → l.text.text ≡ [] → Faults old s piece fault
