@@ -282,9 +282,8 @@ module _ (syntax : Syntax) (limits : Limits) (spot : Spot) (o : occurs syntax sp
   -- what is known to be a tag at an entry fits with it
   module _ (hi : ℕ) (short : is_known_tag syntax inside (values final) ≡ true → hi ≤ first_of final hi + limits.tag) where
     fits_of : (v : Verdict) (item : Item) → TagVerdict v → v ≡ whole item.token → Fits limits.tag item item.token → item.last + 1 ≤ item.first + limits.tag
-    fits_of _ item on h f = absurd (cc)
     fits_of _ item (a_tag t) h f = let same : tag t ≡ item.token = cc in subst (λ token. Fits limits.tag item token) (sym same) f
-    fits_of _ item (a_fault kind) h f = absurd (cc)
+    fits_of _ item _ h f = absurd (cc)
 
     no_tag : (v : Verdict) (token : Token) → TagVerdict v → v ≡ ended token → ⊥
     no_tag _ token on h = cc

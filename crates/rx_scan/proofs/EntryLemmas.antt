@@ -243,7 +243,6 @@ module _ (v : Reading) (s : reader.Scanning) (h : ReadsAs v s) (ar : Bool) (c : 
         told = ((λ o bytes. a_line_feed (item t) q.0 refl (ap is_line_feed (item_token t) ∙ (l ∙ q.1))), refl);
         setting = refl;
       })
-  gives_said t d bracket (Err (stop.Fault f)) new g x l e k = absurd k
   gives_said t d bracket (Err stop.NoMemory) new g x l e k = tt
   gives_said t d bracket _ new g x l e k = absurd k
 

@@ -80,7 +80,6 @@ run_ascii (in_hexadecimal x c text h k l) = and_from (is_ascii x) _ (x_ascii x h
 
 -- the kind of a reference that stands for nothing
 pub run_kind : (c : ℕ) {p : RunPhase} {text : Chars} → RunIs p text → run_move p c ≡ run_moves.Closes → (if is_name text then UnknownReference else BadReference) ≡ no_meaning p
-run_kind c at_ampersand e = refl
 run_kind c (in_name x text h k) e = rw (h, k) refl
 run_kind c _ e = refl
 

@@ -48,29 +48,18 @@ module _ (s : Syntax) (i : Content) (p : Pending) (text : Chars) (c : ℕ) where
   pub simulates : Pends s i p text → Means s i p text c (marks.move_of s i p.mark c)
   simulates h = at_mark p.mark refl h
 
--- nothing behind `<` is no tag yet
-none_after : (s : Syntax) (i : Content) → is_known_after s i [] ≡ false
-none_after s content.Outside = refl
-none_after s content.Html = refl
-none_after s content.Foreign = refl
-none_after s content.Strict = refl
-none_after s (content.Raw r) = by r
-  where
-    by : (r : RawName) → is_known_end (name_of_raw r) [] ≡ false
-    by Script = refl
-    by _ = refl
-none_after s (content.Rcdata r) = by r
-  where
-    by : (r : RawName) → is_known_end (name_of_raw r) [] ≡ false
-    by Script = refl
-    by _ = refl
-
 -- a front of the end tag's name, and what isn't longer than the name
 short_end : (name x : Chars) → length x ≤ length name + 1 → is_known_end name x ≡ false
 short_end name x h = ap (λ z. same (lowered (take (length name + 1) x)) (solidus ∷ name) && begins ends_name z) (drop-past (length name + 1) x h) ∙ and-false (same (lowered (take (length name + 1) x)) (solidus ∷ name))
   where
     drop-past : (n : ℕ) (x : Chars) → length x ≤ n → drop n x ≡ []
     drop-past n x h = grind (arith, common_steps)
+
+-- nothing behind `<` is no tag yet
+none_after : (s : Syntax) (i : Content) → is_known_after s i [] ≡ false
+none_after s (content.Raw r) = short_end (name_of_raw r) [] (omega arith)
+none_after s (content.Rcdata r) = short_end (name_of_raw r) [] (omega arith)
+none_after s _ = refl
 
 module _ (s : Syntax) (i : Content) (run : Chars) (tag : TagSoFar) (text : Chars) where
   raw_length : (n : ℕ) (h : InRawEnd s i n run tag text) → length h.name + 1 ≡ length run + length h.left
