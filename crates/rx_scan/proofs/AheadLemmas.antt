@@ -23,7 +23,7 @@ use Rattle.rx_pages.proofs.Tokens.{values_append}
 use Rattle.rx_pages.proofs.TokenWalk.{IsKept}
 use Rattle.rx_pages.proofs.TokensWalk.{RisesFrom, Rises, rises_front, rises_last, flags_behind, two_lasts, kept_literal, item_is}
 use Rattle.rx_pages.proofs.EndedRuns.{ended_kept}
-use Rattle.rx_pages.proofs.KnownTags.{TagVerdict, on, a_tag, a_fault, known_more, known_verdict}
+use Rattle.rx_pages.proofs.KnownTags.{TagVerdict, on, a_tag, known_more, known_verdict}
 use Rattle.rx_scan.specs.Spelled.{AllInside, MayCome, AllMayCome}
 use Rattle.rx_scan.proofs.SpelledLemmas.{never_ended, first_known}
 use Rattle.std.proofs.Math.Bool.{and-false}

@@ -1,6 +1,6 @@
 -- Plain bytes, and the plain characters that they are, also above ASCII.
 use Rattle.std.proofs.Common.{◌≡◌, ◌∙◌, inl, inr, ℕ, ◌≤◌, Bool, true, false, not, List, [], ◌∷◌, refl, ap, sym, arith, encode_utf8, encode_utf8_all, length, take, drop, get_or, subst, take-add}
-use Rattle.std.specs.Prelude.{◌||◌, ◌==◌, nat_le, ◌&&◌, ◌+◌}
+use Rattle.std.specs.Prelude.{◌==◌, nat_le, ◌&&◌, ◌+◌}
 use Rattle.std.specs.List.{list_all}
 use Rattle.std.specs.Str.{IsUtf8}
 use Rattle.std.proofs.lemmas.Bool.{and_parts, and_from, both_ways, cases_lt, leb-false, lt-ltb, eqb-true}

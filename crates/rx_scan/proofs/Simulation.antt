@@ -8,8 +8,6 @@ use Rattle.rx_terms.specs.Text.{Chars, lowered}
 use Rattle.rx_chars.specs.declared.syntax.Syntax.{Syntax}
 use Rattle.rx_grammar.specs.declared.contents.Content.{Content}
 use Rattle.rx_grammar.specs.declared.contents.Content.TheVariants as content
-use Rattle.rx_grammar.specs.declared.contents.RawName.{RawName}
-use Rattle.rx_grammar.specs.declared.contents.RawName.TheVariants.{Script}
 use Rattle.std.proofs.lemmas.Grind.{common_steps}
 use Rattle.rx_grammar.specs.Names.{same, name_of_raw}
 use Rattle.rx_grammar.specs.Shapes.{ends_name, begins}

@@ -6,8 +6,8 @@ use Rattle.rx_chars.specs.declared.syntax.Syntax.{Syntax}
 use Rattle.rx_grammar.specs.declared.contents.Content.{Content}
 use Rattle.rx_grammar.specs.declared.contents.Content.TheVariants as content
 use Rattle.rx_grammar.specs.Tokens.{Token, character}
-use Rattle.rx_grammar.specs.Items.{Item, values, is_strict_literal}
-use Rattle.rx_pages.specs.PageReader.{Scanning, first_of, starts_at, entering, item_of, scan_from, read_byte}
+use Rattle.rx_grammar.specs.Items.{values, is_strict_literal}
+use Rattle.rx_pages.specs.PageReader.{Scanning, first_of, starts_at, entering, scan_from, read_byte}
 use Rattle.rx_tags.specs.TagBufs.{TagSoFar}
 use Rattle.rx_scan.specs.declared.marks.TokenState.{TokenState}
 use Rattle.rx_scan.specs.declared.marks.TokenState.TheVariants as mark
@@ -19,9 +19,6 @@ use Rattle.rx_scan.specs.Pending.{Pending, PendsAs}
 use Rattle.rx_scan.specs.Scanner.{Reading, Scanner, spot_of}
 use Rattle.rx_scan.specs.Entries.{token_from, with_parts}
 use Rattle.rx_scan.specs.Steps.{ReadsAs, ScanStands, Prepared, Took, Faults, Runs, Advances, Tells, setting_after, is_tag, inside_of}
-use Rattle.rx_pages.proofs.LastToken.{token_of_item}
-use Rattle.rx_pages.proofs.FaultsRead.{item_content}
-use Rattle.rx_pages.proofs.ByteFacts.{item_first, item_last}
 use Rattle.rx_pages.proofs.Tokens.{values_append}
 use Rattle.std.specs.Prelude.{ℕ, List, take}
 use Rattle.rx_grammar.specs.declared.faults.Fault.{Fault}
