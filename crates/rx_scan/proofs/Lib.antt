@@ -10,7 +10,6 @@ pub mod PlainLemmas
 pub mod SaidLemmas
 pub mod ReferenceLemmas
 pub mod FrontLemmas
-pub mod LoopLemmas
 pub mod WholeTagLemmas
 pub mod SpelledLemmas
 pub mod AheadLemmas

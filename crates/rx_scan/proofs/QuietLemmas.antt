@@ -1,5 +1,5 @@
--- Between tokens a byte tells text, begins a token, or is skipped.
-use Rattle.std.proofs.Common.{◌≡◌, ◌∙◌, ◌⊎◌, ℕ, ◌<◌, Bool, true, false, List, [], ◌∷◌, ◌++◌, refl, ap, sym, subst, Result, Ok, Err, inl, inr, eqb-true, arith, length, get_or, lit<, zero, suc}
+-- The turns of the loop over a piece: between tokens a byte tells text, begins a token, or is skipped.
+use Rattle.std.proofs.Common.{◌≡◌, ◌∙◌, ◌⊎◌, ℕ, ◌<◌, Bool, true, false, List, [], ◌∷◌, ◌++◌, refl, ap, sym, subst, Result, Ok, Err, inl, inr, eqb-true, arith, length, get_or, lit<, zero, suc, ◌≢◌, ◌+◌, take, Some}
 use Rattle.std.specs.Prelude.{◌&&◌, ◌||◌, ◌==◌, not, nat_le, if◌then◌else◌, IfOk}
 use Rattle.std.proofs.lemmas.Bool.{cond-true, cond-false, or_left, or_right}
 use Rattle.std.proofs.lemmas.Str.{encode_ascii}
@@ -30,9 +30,12 @@ use Rattle.rx_scan.specs.declared.places.Position.{Position}
 use Rattle.rx_scan.specs.Places.{ended}
 use Rattle.rx_scan.specs.Scanner.{Reading}
 use Rattle.rx_scan.specs.Entries as entries
-use Rattle.rx_scan.specs.Steps.{is_quiet, is_tag, is_token, stopped_at}
-use Rattle.rx_scan.proofs.ByteLemmas.{match_by}
-use Rattle.rx_scan.proofs.RunLemmas.{IsApart}
+use Rattle.rx_scan.specs.Steps.{is_quiet, is_tag, is_token, stopped_at, Took, Runs, MayLend, texts_of}
+use Rattle.rx_scan.proofs.ByteLemmas.{match_by, reads_other}
+use Rattle.rx_scan.proofs.RunLemmas.{IsApart, ReadsOn, apart, took_text, took_all, more_read, took_token, faults}
+use Rattle.rx_grammar.specs.declared.faults.Fault.{Fault}
+use Rattle.rx_pages.specs.PageReader as reader
+use Rattle.rx_tags.specs.TagBufs.{MayStep}
 
 -- What a byte does between tokens.
 pub data Does (l : Reading) (byte : ℕ) (answer : TokenKind) (new : Reading) : Type 0 where
@@ -162,3 +165,69 @@ pub quiet_at : (piece : List ℕ) (i : ℕ) → i < length piece → is_quiet pi
 quiet_at [] i h q = absurd (omega arith)
 quiet_at (x ∷ piece) zero h q = (both (not (x == 60 || x == 38)) _ q).0
 quiet_at (x ∷ piece) (suc i) h q = quiet_at piece i (omega arith) (both (not (x == 60 || x == 38)) _ q).1
+
+abbrev ok_scanned : reader.Scanned → Result reader.Scanned Fault
+ok_scanned x = Ok x
+
+-- nothing is told before the first byte
+text_later : (old l : Reading) (s : reader.Scanning) (piece : List ℕ) (i : ℕ) → ReadsOn old s (take i piece) l → (l.text.text ≡ [] → ⊥) → 0 < i
+text_later old l s piece zero r t =
+    let e : ok_scanned (record { next = s; items = [] }) ≡ ok_scanned r.scanned = r.read in
+    let same : record { next = s; items = [] } ≡ r.scanned = cc in
+    let k : Some l.text.text ≡ Some [] = sym r.texts ∙ ap (λ (y : reader.Scanned). texts_of y.items) (sym same) in
+    absurd (t (cc))
+text_later old l s piece (suc i) r t = omega arith
+
+-- at the piece's end
+pub rest_took : (old l : Reading) (s : reader.Scanning) (piece : List ℕ) (n i : ℕ) (answer : TokenKind) → n ≡ i → i ≡ length piece → ReadsOn old s (take i piece) l → is_token answer ≡ false → (answer ≡ what.Text → l.text.text ≢ []) → (answer ≡ what.Nothing → l.text.text ≡ []) → Took old s piece n answer l
+rest_took old l s piece n i answer c e r t f g = subst (λ (z : ℕ). Took old s piece z answer l) (sym c) (by answer t f g)
+  where
+    by : (answer : TokenKind) → is_token answer ≡ false → (answer ≡ what.Text → l.text.text ≢ []) → (answer ≡ what.Nothing → l.text.text ≡ []) → Took old s piece i answer l
+    by what.Nothing t f g = took_all old l s piece i e r (g refl)
+    by what.Text t f g = took_text old l s piece i (omega arith) (text_later old l s piece i r (f refl)) r (f refl)
+    by _ t f g = absurd (cc)
+
+pub lends : (answer : TokenKind) (v : Reading) → is_token answer ≡ false → MayStep v.pending.tag → MayLend answer v
+lends what.Nothing v t m = m
+lends what.Text v t m = m
+lends _ v t m = absurd (cc)
+
+pub may_step : (answer : TokenKind) (v : Reading) → is_token answer ≡ false → entries.MayGoOn (Ok answer) v → MayStep v.pending.tag
+may_step what.Nothing v t m = m
+may_step what.Text v t m = m
+may_step _ v t m = absurd (cc)
+
+module _ (old l new : Reading) (s : reader.Scanning) (piece : List ℕ) (i : ℕ) (k : i < length piece) (r : ReadsOn old s (take i piece) l) where
+  abbrev byte : ℕ
+  byte = get_or piece i 0
+
+  pub next_read : (answer : TokenKind) → is_token answer ≡ false → entries.Reads l byte (Ok answer) new → ReadsOn old s (take (i + 1) piece) new
+  next_read what.Nothing t e = more_read old l new s piece i k r e
+  next_read what.Text t e = absurd (reads_other l r.scanned.next r.reads_as byte (Ok what.Text) new (λ q. cc) e).told
+  next_read _ t e = absurd (cc)
+
+  pub token_read : (answer : TokenKind) → is_token answer ≡ true → (l.text.text ≡ []) ⊎ (l.pending.mark ≡ mark.Nothing) → entries.Reads l byte (Ok answer) new → Took old s piece (i + 1) answer new
+  token_read answer t o e = by l.text.text refl
+    where
+      by : (text : Chars) → l.text.text ≡ text → Took old s piece (i + 1) answer new
+      by [] q = took_token old l new s piece i k r answer e q t
+      by (x ∷ text) q = elim o [
+        | inl n ↦ absurd (let z = sym q ∙ n in cc)
+        | inr m ↦ absurd (let z = sym t ∙ ap is_token (apart_tells l new byte answer (apart old l s (take i piece) r (λ n. let y = sym q ∙ n in cc) m) e) in cc)
+      ]
+
+  pub stopped : (stop : Stop) (taken : ℕ) → taken ≡ i → (l.text.text ≡ []) ⊎ (l.pending.mark ≡ mark.Nothing) → entries.Reads l byte (Err stop) new → (l.pending.mark ≡ mark.Nothing → entries.Between l (Err stop) new) → entries.IfFault {A = TokenKind} (Err stop) (new.text.text ≡ l.text.text)
+      → Runs old s piece (stopped_at new.text.text taken stop) new
+  stopped stop.NoMemory taken c o e b x = tt
+  stopped (stop.Fault fault) taken c o e b x = by l.text.text refl
+    where
+      by : (text : Chars) → l.text.text ≡ text → Runs old s piece (stopped_at new.text.text taken (stop.Fault fault)) new
+      by [] q = subst (λ (y : Chars). Runs old s piece (stopped_at y taken (stop.Fault fault)) new) (sym (x ∙ q)) (faults old l new s piece i k r fault e q)
+      by (y ∷ text) q =
+          let some : l.text.text ≡ [] → ⊥ = λ n. let z = sym q ∙ n in cc in
+          elim o [
+            | inl n ↦ absurd (some n)
+            | inr m ↦ subst (λ (z : Chars). Runs old s piece (stopped_at z taken (stop.Fault fault)) new) (sym (x ∙ q))
+                (subst (λ (z : ℕ). Took old s piece z what.Text new) (sym c) (subst (λ (z : Reading). Took old s piece i what.Text z) (sym (b m).unchanged)
+                (took_text old l s piece i (omega arith) (text_later old l s piece i r some) r some)))
+          ]

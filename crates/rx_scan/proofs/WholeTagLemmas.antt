@@ -38,7 +38,7 @@ use Rattle.rx_scan.specs.Steps.{ReadsAs, Took, is_quiet}
 use Rattle.rx_scan.specs.WholeTags.{ReadsOpened, ReadsWholeTag}
 use Rattle.rx_scan.proofs.ByteLemmas.{character_read, within_limit}
 use Rattle.rx_scan.proofs.FrontLemmas.{front_read}
-use Rattle.rx_scan.proofs.LoopLemmas.{next_read, token_read}
+use Rattle.rx_scan.proofs.QuietLemmas.{next_read, token_read}
 use Rattle.rx_scan.proofs.FeedLemmas.{opens_taken}
 use Rattle.rx_scan.proofs.RunLemmas.{ReadsOn, reads_none}
 use Rattle.std.proofs.Math.Bool.{and-false}

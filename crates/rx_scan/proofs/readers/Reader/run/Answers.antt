@@ -7,8 +7,7 @@ use Rattle.rx_scan.specs.Openings.{TakesFront}
 use Rattle.rx_scan.specs.Scanner.{Reading}
 use Rattle.rx_scan.specs.Steps.{Runs, is_tag}
 use Rattle.rx_scan.proofs.RunLemmas.{took_text}
-use Rattle.rx_scan.proofs.LoopLemmas.{next_read, token_read, stopped, rest_took, lends, may_step}
-use Rattle.rx_scan.proofs.QuietLemmas.{quiet_tells, quiet_at, between_tells, stopped_tells, other_tells}
+use Rattle.rx_scan.proofs.QuietLemmas.{quiet_tells, quiet_at, between_tells, stopped_tells, other_tells, next_read, token_read, stopped, rest_took, lends, may_step}
 use Rattle.rx_scan.proofs.FrontLemmas.{IsKept, kept, apart_on, later_on, front_first, front_next, front_within}
 use Rattle.rx_scan.proofs.WholeTagLemmas.{tag_first, lends_tag, keeps_text, not_quiet}
 use Rattle.rx_scan.proofs.readers.Reader.run.Goals as goal
