@@ -52,14 +52,11 @@ fresh_state s t e = ap (λ (x : TagSoFar). x.state) e
 
 -- `<` between tokens
 less_than_begins : (s : Syntax) (i : Content) (t : TagSoFar) → t ≡ no_tag s → PendsAs s i (marks.less_than_mark i) [] t (60 ∷ [])
-less_than_begins s content.Outside t e = record { are = refl; none = refl; markup = refl; state = fresh_state s t e; may_step = fresh_steps s t e }
-less_than_begins s content.Html t e = record { are = refl; none = refl; markup = refl; state = fresh_state s t e; may_step = fresh_steps s t e }
-less_than_begins s content.Foreign t e = record { are = refl; none = refl; markup = refl; state = fresh_state s t e; may_step = fresh_steps s t e }
-less_than_begins s content.Strict t e = record { are = refl; none = refl; markup = refl; state = fresh_state s t e; may_step = fresh_steps s t e }
 less_than_begins s (content.Raw name) t e =
     record { name = name_of_raw name; raw = refl; are = refl; count = refl; left = marks.end_word (content.Raw name); word = refl; read = ap Ok (sym (fresh_state s t e)); phase_is = ap (λ (x : TagState). x.phase) (fresh_state s t e); may_step = fresh_steps s t e }
 less_than_begins s (content.Rcdata name) t e =
     record { name = name_of_raw name; raw = refl; are = refl; count = refl; left = marks.end_word (content.Rcdata name); word = refl; read = ap Ok (sym (fresh_state s t e)); phase_is = ap (λ (x : TagState). x.phase) (fresh_state s t e); may_step = fresh_steps s t e }
+less_than_begins s _ t e = record { are = refl; none = refl; markup = refl; state = fresh_state s t e; may_step = fresh_steps s t e }
 
 module _ (s : Syntax) (i : Content) (p : Pending) (text : Chars) (c : ℕ) where
   pub at_nothing_means : text ≡ [] → Means s i p text c (marks.of_first (marks.at_first i c))
