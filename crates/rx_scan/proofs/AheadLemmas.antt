@@ -9,11 +9,11 @@ use Rattle.rx_chars.specs.Characters.{Entry}
 use Rattle.rx_grammar.specs.declared.contents.Content.{Content}
 use Rattle.rx_grammar.specs.declared.faults.Kind.{Kind}
 use Rattle.rx_grammar.specs.declared.limits.Limits.{Limits}
-use Rattle.rx_grammar.specs.Tokens.{Token, tag, character, reference, kept, section, comment, doctype}
+use Rattle.rx_grammar.specs.Tokens.{Token, tag, doctype}
 use Rattle.rx_grammar.specs.Spelling as spelling
 use Rattle.rx_grammar.specs.Items.{values, next_of, last_from, Item, Spelled, no_more, one, Fits, AllFit, is_literal, no_section_end}
 use Rattle.rx_grammar.specs.PageFaults.{is_known_tag}
-use Rattle.rx_pages.specs.Scanner.{GoesOn, Verdict, goes_on, whole, ended, refused, verdict, ReadAs, at_last, at_next}
+use Rattle.rx_pages.specs.Scanner.{GoesOn, Verdict, goes_on, whole, ended, verdict, ReadAs, at_last, at_next}
 use Rattle.rx_pages.specs.PageReader.{Spot, Scanning, Scanned, first_of, entering, item_of, is_doctype, completed, told_first, with_item, after_token, told}
 use Rattle.rx_pages.proofs.Pends.{occurs}
 use Rattle.rx_pages.proofs.Pending.{goes_at, goes_within, not_whole}
@@ -23,10 +23,10 @@ use Rattle.rx_pages.proofs.Tokens.{values_append}
 use Rattle.rx_pages.proofs.TokenWalk.{IsKept}
 use Rattle.rx_pages.proofs.TokensWalk.{RisesFrom, Rises, rises_front, rises_last, flags_behind, two_lasts, kept_literal, item_is}
 use Rattle.rx_pages.proofs.EndedRuns.{ended_kept}
-use Rattle.rx_pages.proofs.KnownTags.{TagVerdict, on, a_tag, a_fault, known_more, known_verdict}
+use Rattle.rx_pages.proofs.KnownTags.{TagVerdict, on, a_tag, known_more, known_verdict}
 use Rattle.rx_scan.specs.Spelled.{AllInside, MayCome, AllMayCome}
 use Rattle.rx_scan.proofs.SpelledLemmas.{never_ended, first_known}
-use Rattle.rx_scan.proofs.Snoc.{and_false}
+use Rattle.std.proofs.Math.Bool.{and-false}
 
 -- one list of entries is a front of the other
 record Longer (xs ys m n : List Entry) : Type 0 where
@@ -61,12 +61,7 @@ sec_first false x h = (refl, h)
 
 not_late : (leads : Bool) (token : Token) → MayCome leads token → (is_doctype token && not leads) ≡ false
 not_late leads doctype m = ap not m
-not_late leads (tag t) m = refl
-not_late leads (character x) m = refl
-not_late leads (reference x) m = refl
-not_late leads (kept x) m = refl
-not_late leads (section x) m = refl
-not_late leads comment m = refl
+not_late leads _ m = refl
 
 next_same : (rest run : List Entry) (next : Option ℕ) → next ≡ next_of (values run) None → next_of (values rest) next ≡ next_of (values (rest ++ run)) None
 next_same [] run next h = h
@@ -231,7 +226,7 @@ module _ (syntax : Syntax) (limits : Limits) (spot : Spot) (o : occurs syntax sp
               let behind_it : es ≡ rest ++ final = cc in
               let w : verdict syntax inside (values s.run) e.value ≡ whole item.token = subst (λ (x : Entry). verdict syntax inside (values s.run) x.value ≡ whole item.token) same v in
               let it : item_of inside item.token (s.run ++ e ∷ []) ≡ item = ap (λ x. item_of inside item.token x) (ap (λ x. s.run ++ x ∷ []) (sym same) ∙ sym u) ∙ item_is inside item c r i.0 first last_is in
-              told_now (λ token k. no_both w k) (record {
+              told_now (λ token k. let z = sym w ∙ k in cc) (record {
                 run = [];
                 two = s.last && is_literal right_bracket item;
                 last = is_literal right_bracket item;
@@ -241,9 +236,6 @@ module _ (syntax : Syntax) (limits : Limits) (spot : Spot) (o : occurs syntax sp
                 are = refl;
                 tail = record { front = rest; are = behind_it; spelled = spelled_on; inside_is = i.1; come = m.1; fit = f.1; sections = parts.1; goes = tt; flags = fl };
               })
-            where
-              no_both : {token other : Token} {v : Verdict} → v ≡ whole token → v ≡ ended other → ⊥
-              no_both h k = let z = sym h ∙ k in cc
           at (behind z others u k q v) =
               let same : z ≡ e = cc in
               let w : verdict syntax inside (values s.run) e.value ≡ ended item.token = subst (λ (x : Entry). verdict syntax inside (values s.run) x.value ≡ ended item.token) same v in
@@ -256,16 +248,14 @@ module _ (syntax : Syntax) (limits : Limits) (spot : Spot) (o : occurs syntax sp
                 inside_is = i.1;
                 come = m.1;
                 fit = f.1;
-                sections = subst (λ x. no_section_end left x false ≡ true) (and_false s.last) (subst (λ x. no_section_end left (s.last && x) x ≡ true) l parts.1);
+                sections = subst (λ x. no_section_end left x false ≡ true) (and-false s.last) (subst (λ x. no_section_end left (s.last && x) x ≡ true) l parts.1);
                 goes = tt;
-                flags = subst (λ x. flags_behind left x false ≡ flags_end) (and_false s.last) (subst (λ x. flags_behind left (s.last && x) x ≡ flags_end) l fl);
+                flags = subst (λ x. flags_behind left x false ≡ flags_end) (and-false s.last) (subst (λ x. flags_behind left (s.last && x) x ≡ flags_end) l fl);
               })
 
   told_is : (s : Scanning) (b : Bool) (e : Entry) (v : Verdict) → ((token : Token) → v ≡ ended token → ⊥) → told syntax limits spot b e s v ≡ told_first syntax limits spot b e s v
-  told_is s b e goes_on n = refl
-  told_is s b e (whole token) n = refl
   told_is s b e (ended token) n = absurd (n token refl)
-  told_is s b e (refused kind) n = refl
+  told_is s b e _ n = refl
 
   -- an entry, with the token that it may tell to stand before it
   pub reads_entry : (s : Scanning) (b : Bool) (e : Entry) (es : List Entry) (items : List Item) → Tail s.run (e ∷ es) s.two s.last items → Reads s b es items (told syntax limits spot b e s (verdict syntax inside (values s.run) e.value))
@@ -292,14 +282,12 @@ module _ (syntax : Syntax) (limits : Limits) (spot : Spot) (o : occurs syntax sp
   -- what is known to be a tag at an entry fits with it
   module _ (hi : ℕ) (short : is_known_tag syntax inside (values final) ≡ true → hi ≤ first_of final hi + limits.tag) where
     fits_of : (v : Verdict) (item : Item) → TagVerdict v → v ≡ whole item.token → Fits limits.tag item item.token → item.last + 1 ≤ item.first + limits.tag
-    fits_of _ item on h f = absurd (cc)
     fits_of _ item (a_tag t) h f = let same : tag t ≡ item.token = cc in subst (λ token. Fits limits.tag item token) (sym same) f
-    fits_of _ item (a_fault kind) h f = absurd (cc)
+    fits_of _ item _ h f = absurd (cc)
 
     no_tag : (v : Verdict) (token : Token) → TagVerdict v → v ≡ ended token → ⊥
     no_tag _ token on h = cc
-    no_tag _ token (a_tag t) h = cc
-    no_tag _ token (a_fault kind) h = cc
+    no_tag _ token _ h = cc
 
     known_fits : (text : Chars) (next : Option ℕ) (item : Item) → ReadAs syntax inside text next item.token → is_known_tag syntax inside text ≡ true → Fits limits.tag item item.token → item.last + 1 ≤ item.first + limits.tag
     known_fits text next item read k f = by text next item.token read refl k

@@ -1,8 +1,9 @@
--- Behind `<!` and `<?` a move says what the verdict is.
-use Rattle.std.proofs.Common.{◌≡◌, ◌∙◌, ℕ, Bool, true, false, [], ◌∷◌, ◌++◌, refl, ap, sym, subst, append_assoc, append-nil, eqb-true, ◌+◌, arith}
+-- Behind `<!` and `<?`, and in a document type, a move says what the verdict is.
+use Rattle.std.proofs.Common.{◌≡◌, ◌∙◌, ℕ, Bool, true, false, [], ◌∷◌, ◌++◌, refl, ap, sym, subst, append_assoc, append-nil, eqb-true, ◌+◌, arith, Option, Some, None, length}
 use Rattle.std.specs.Prelude.{◌&&◌, ◌||◌, ◌==◌, ◌-◌, take, length, codes, if◌then◌else◌}
 use Rattle.std.proofs.lemmas.Bool.{cond-true, cond-false}
-use Rattle.rx_terms.specs.Ascii.{less_than_sign}
+use Rattle.std.proofs.lemmas.Bool.Decides.{nat_tests}
+use Rattle.rx_terms.specs.Ascii.{less_than_sign, is_white_space}
 use Rattle.rx_terms.specs.Text.{Chars}
 use Rattle.rx_chars.specs.declared.syntax.Syntax.{Syntax}
 use Rattle.rx_grammar.specs.declared.contents.Content.{Content}
@@ -10,7 +11,7 @@ use Rattle.rx_grammar.specs.Names.{same}
 use Rattle.rx_grammar.specs.Tokens.{comment, section}
 use Rattle.rx_grammar.specs.Spelling.{ends_with, ends_comment}
 use Rattle.rx_pages.specs.Scanner as told
-use Rattle.rx_terms.proofs.Bools.{split, by_test, both}
+use Rattle.rx_terms.proofs.Bools.{split, both}
 use Rattle.std.proofs.lemmas.List.{length-append}
 use Rattle.std.proofs.Math.Seq.{take-append_seam}
 use Rattle.rx_scan.specs.declared.marks.CommentPhase.{CommentPhase}
@@ -23,9 +24,17 @@ use Rattle.rx_scan.specs.declared.marks.TokenState.{TokenState}
 use Rattle.rx_scan.specs.declared.marks.TokenState.TheVariants as mark
 use Rattle.rx_scan.specs.declared.marks.Move.{Move}
 use Rattle.rx_scan.specs.Marks.{may_close, after_dash, after_bang, in_comment, after_strict_dash, in_strict_comment, in_instruction, in_bogus, in_section, at_bracket, are_two}
-use Rattle.rx_scan.specs.Pending.{Pending, PendsAs, Behind, judge_of, CommentEnds, is_start, is_start_dash, has_dash, has_dashes, has_bang, StrictEnds, has_strict_dash, has_strict_dashes, SectionEnds, bracket_text}
+use Rattle.rx_scan.specs.Pending.{Pending, PendsAs, Behind, judge_of, CommentEnds, is_start, is_start_dash, has_dash, has_dashes, has_bang, StrictEnds, has_strict_dash, has_strict_dashes, SectionEnds, bracket_text, DoctypeIs, DoctypeEnds, is_one}
 use Rattle.rx_scan.specs.Meant.{Means, Goes}
-use Rattle.rx_scan.proofs.Snoc.{and_false, snoc_same, ends_snoc, ends_one, empty_snoc, lone_snoc, either_way}
+use Rattle.rx_scan.proofs.Snoc.{snoc_same, ends_snoc, ends_one, empty_snoc, lone_snoc, either_way, head_of, word_at}
+use Rattle.std.proofs.Math.Bool.{}
+use Rattle.rx_grammar.specs.declared.faults.Kind.TheVariants.{BadDoctype}
+use Rattle.rx_grammar.specs.Tags.{cased_char}
+use Rattle.rx_scan.specs.declared.marks.DoctypePhase.{DoctypePhase}
+use Rattle.rx_scan.specs.declared.marks.DoctypePhase.TheVariants as phases
+use Rattle.rx_scan.specs.declared.marks.Whole.TheVariants as whole
+use Rattle.rx_scan.specs.declared.marks.Move.TheVariants as move
+use Rattle.rx_scan.specs.Marks as marks
 
 -- what stands behind the front grows by the character
 pub grown : (text front rest : Chars) (c : ℕ) → text ≡ less_than_sign ∷ (front ++ rest) → text ++ c ∷ [] ≡ less_than_sign ∷ (front ++ (rest ++ c ∷ []))
@@ -35,118 +44,30 @@ grown text front rest c e = ap (λ x. x ++ c ∷ []) e ∙ ap (λ x. less_than_s
 abbrev next_phase : CommentPhase → ℕ → CommentPhase
 next_phase p c = if c == 45 then after_dash p else if c == 33 then after_bang p else comments.Text
 
--- what holds of the phase by two tests holds by the character's
-by_two : (P : CommentPhase → Bool → Bool → Type 0) (p : CommentPhase) (c : ℕ) → P (after_dash p) true false → P (after_bang p) false true → P comments.Text false false → P (next_phase p c) (c == 45) (c == 33)
-by_two P p c d b t =
-    by_test {G = P (next_phase p c) (c == 45) (c == 33)} (c == 45)
-    (λ h. let e : c ≡ 45 = eqb-true c 45 h in subst (λ (x : ℕ). P (next_phase p x) (x == 45) (x == 33)) (sym e) d)
-    (λ h. by_test {G = P (next_phase p c) (c == 45) (c == 33)} (c == 33)
-    (λ k. let e : c ≡ 33 = eqb-true c 33 k in subst (λ (x : ℕ). P (next_phase p x) (x == 45) (x == 33)) (sym e) b)
-    (λ k. rw (h, k) t))
+-- how a comment's phases follow each other, where the character is `-`, `!` or neither
+record Follows (p q : CommentPhase) (dash bang : Bool) : Type 0 where
+  start : is_start q ≡ false
+  start_dash : (is_start p && dash) ≡ is_start_dash q
+  has_dash_is : dash ≡ has_dash q
+  has_dashes_is : (dash && has_dash p) ≡ has_dashes q
+  has_bang_is : (bang && has_dashes p) ≡ has_bang q
 
-next_start : (p : CommentPhase) (c : ℕ) → is_start (next_phase p c) ≡ false
-next_start p c = by_two (λ q d b. is_start q ≡ false) p c (dash p) (bang p) refl
-  where
-    dash : (p : CommentPhase) → is_start (after_dash p) ≡ false
-    dash comments.Start = refl
-    dash comments.StartDash = refl
-    dash comments.Text = refl
-    dash comments.Dash = refl
-    dash comments.Dashes = refl
-    dash comments.Bang = refl
-
-    bang : (p : CommentPhase) → is_start (after_bang p) ≡ false
-    bang comments.Start = refl
-    bang comments.StartDash = refl
-    bang comments.Text = refl
-    bang comments.Dash = refl
-    bang comments.Dashes = refl
-    bang comments.Bang = refl
-
-next_start_dash : (p : CommentPhase) (c : ℕ) → (is_start p && (c == 45)) ≡ is_start_dash (next_phase p c)
-next_start_dash p c = by_two (λ q d b. (is_start p && d) ≡ is_start_dash q) p c (dash p) (bang p) (and_false (is_start p))
-  where
-    dash : (p : CommentPhase) → (is_start p && true) ≡ is_start_dash (after_dash p)
-    dash comments.Start = refl
-    dash comments.StartDash = refl
-    dash comments.Text = refl
-    dash comments.Dash = refl
-    dash comments.Dashes = refl
-    dash comments.Bang = refl
-
-    bang : (p : CommentPhase) → (is_start p && false) ≡ is_start_dash (after_bang p)
-    bang comments.Start = refl
-    bang comments.StartDash = refl
-    bang comments.Text = refl
-    bang comments.Dash = refl
-    bang comments.Dashes = refl
-    bang comments.Bang = refl
-
-next_dash : (p : CommentPhase) (c : ℕ) → (c == 45) ≡ has_dash (next_phase p c)
-next_dash p c = by_two (λ q d b. d ≡ has_dash q) p c (dash p) (bang p) refl
-  where
-    dash : (p : CommentPhase) → true ≡ has_dash (after_dash p)
-    dash comments.Start = refl
-    dash comments.StartDash = refl
-    dash comments.Text = refl
-    dash comments.Dash = refl
-    dash comments.Dashes = refl
-    dash comments.Bang = refl
-
-    bang : (p : CommentPhase) → false ≡ has_dash (after_bang p)
-    bang comments.Start = refl
-    bang comments.StartDash = refl
-    bang comments.Text = refl
-    bang comments.Dash = refl
-    bang comments.Dashes = refl
-    bang comments.Bang = refl
-
-next_dashes : (p : CommentPhase) (c : ℕ) → ((c == 45) && has_dash p) ≡ has_dashes (next_phase p c)
-next_dashes p c = by_two (λ q d b. (d && has_dash p) ≡ has_dashes q) p c (dash p) (bang p) refl
-  where
-    dash : (p : CommentPhase) → has_dash p ≡ has_dashes (after_dash p)
-    dash comments.Start = refl
-    dash comments.StartDash = refl
-    dash comments.Text = refl
-    dash comments.Dash = refl
-    dash comments.Dashes = refl
-    dash comments.Bang = refl
-
-    bang : (p : CommentPhase) → false ≡ has_dashes (after_bang p)
-    bang comments.Start = refl
-    bang comments.StartDash = refl
-    bang comments.Text = refl
-    bang comments.Dash = refl
-    bang comments.Dashes = refl
-    bang comments.Bang = refl
-
-next_bang : (p : CommentPhase) (c : ℕ) → ((c == 33) && has_dashes p) ≡ has_bang (next_phase p c)
-next_bang p c = by_two (λ q d b. (b && has_dashes p) ≡ has_bang q) p c (dash p) (bang p) refl
-  where
-    dash : (p : CommentPhase) → false ≡ has_bang (after_dash p)
-    dash comments.Start = refl
-    dash comments.StartDash = refl
-    dash comments.Text = refl
-    dash comments.Dash = refl
-    dash comments.Dashes = refl
-    dash comments.Bang = refl
-
-    bang : (p : CommentPhase) → has_dashes p ≡ has_bang (after_bang p)
-    bang comments.Start = refl
-    bang comments.StartDash = refl
-    bang comments.Text = refl
-    bang comments.Dash = refl
-    bang comments.Dashes = refl
-    bang comments.Bang = refl
+follows : (dash bang : Bool) (p : CommentPhase) → (dash && bang) ≡ false → Follows p (if dash then after_dash p else if bang then after_bang p else comments.Text) dash bang
+follows true true p h = absurd (cc)
+follows true false comments.Start h = record { start = refl; start_dash = refl; has_dash_is = refl; has_dashes_is = refl; has_bang_is = refl }
+follows false true comments.Start h = record { start = refl; start_dash = refl; has_dash_is = refl; has_dashes_is = refl; has_bang_is = refl }
+follows false false comments.Start h = record { start = refl; start_dash = refl; has_dash_is = refl; has_dashes_is = refl; has_bang_is = refl }
+follows _ _ _ h = record { start = refl; start_dash = refl; has_dash_is = refl; has_dashes_is = refl; has_bang_is = refl }
 
 comment_grows : (p : CommentPhase) (rest : Chars) (c : ℕ) → CommentEnds p rest → CommentEnds (next_phase p c) (rest ++ c ∷ [])
 comment_grows p rest c h =
+    let f = follows (c == 45) (c == 33) p (grind (arith, nat_tests)) in
     record {
-      empty = empty_snoc rest c ∙ sym (next_start p c);
-      lone = lone_snoc 45 rest c ∙ (ap (λ b. b && (c == 45)) h.empty ∙ next_start_dash p c);
-      dash = ends_one 45 rest c ∙ (either_way 45 c ∙ next_dash p c);
-      dashes = ends_snoc (45 ∷ []) 45 rest c ∙ (ap (λ b. b && ends_with (45 ∷ []) rest) (either_way 45 c) ∙ (ap (λ b. (c == 45) && b) h.dash ∙ next_dashes p c));
-      bang = ends_snoc (45 ∷ 45 ∷ []) 33 rest c ∙ (ap (λ b. b && ends_with (45 ∷ 45 ∷ []) rest) (either_way 33 c) ∙ (ap (λ b. (c == 33) && b) h.dashes ∙ next_bang p c));
+      empty = empty_snoc rest c ∙ sym f.start;
+      lone = lone_snoc 45 rest c ∙ (ap (λ b. b && (c == 45)) h.empty ∙ f.start_dash);
+      dash = ends_one 45 rest c ∙ (either_way 45 c ∙ f.has_dash_is);
+      dashes = ends_snoc (45 ∷ []) 45 rest c ∙ (ap (λ b. b && ends_with (45 ∷ []) rest) (either_way 45 c) ∙ (ap (λ b. (c == 45) && b) h.dash ∙ f.has_dashes_is));
+      bang = ends_snoc (45 ∷ 45 ∷ []) 33 rest c ∙ (ap (λ b. b && ends_with (45 ∷ 45 ∷ []) rest) (either_way 33 c) ∙ (ap (λ b. (c == 33) && b) h.dashes ∙ f.has_bang_is));
     }
 
 comment_closes : (p : CommentPhase) (rest : Chars) (c : ℕ) → CommentEnds p rest → ends_comment (rest ++ c ∷ []) ≡ ((c == 62) && may_close p)
@@ -155,21 +76,12 @@ comment_closes p rest c h =
     ∙ (ap (λ b. (is_start p && (c == 62)) || b || ends_with (codes "-->") (rest ++ c ∷ []) || ends_with (codes "--!>") (rest ++ c ∷ [])) (snoc_same (45 ∷ []) 62 rest c ∙ ap (λ b. b && (c == 62)) h.lone)
     ∙ (ap (λ b. (is_start p && (c == 62)) || (is_start_dash p && (c == 62)) || b || ends_with (codes "--!>") (rest ++ c ∷ [])) (ends_snoc (45 ∷ 45 ∷ []) 62 rest c ∙ (ap (λ b. b && ends_with (45 ∷ 45 ∷ []) rest) (either_way 62 c) ∙ ap (λ b. (c == 62) && b) h.dashes))
     ∙ (ap (λ b. (is_start p && (c == 62)) || (is_start_dash p && (c == 62)) || ((c == 62) && has_dashes p) || b) (ends_snoc (45 ∷ 45 ∷ 33 ∷ []) 62 rest c ∙ (ap (λ b. b && ends_with (45 ∷ 45 ∷ 33 ∷ []) rest) (either_way 62 c) ∙ ap (λ b. (c == 62) && b) h.bang))
-    ∙ all p (c == 62))))
+    ∙ all (c == 62) p)))
   where
-    all : (p : CommentPhase) (g : Bool) → ((is_start p && g) || (is_start_dash p && g) || (g && has_dashes p) || (g && has_bang p)) ≡ (g && may_close p)
-    all comments.Start true = refl
-    all comments.StartDash true = refl
-    all comments.Text true = refl
-    all comments.Dash true = refl
-    all comments.Dashes true = refl
-    all comments.Bang true = refl
-    all comments.Start false = refl
-    all comments.StartDash false = refl
-    all comments.Text false = refl
-    all comments.Dash false = refl
-    all comments.Dashes false = refl
-    all comments.Bang false = refl
+    all : (g : Bool) (p : CommentPhase) → ((is_start p && g) || (is_start_dash p && g) || (g && has_dashes p) || (g && has_bang p)) ≡ (g && may_close p)
+    all true comments.Start = refl
+    all false comments.Start = refl
+    all _ _ = refl
 
 abbrev next_strict : StrictPhase → ℕ → StrictPhase
 next_strict q c = if c == 45 then after_strict_dash q else strict.Text
@@ -177,24 +89,17 @@ next_strict q c = if c == 45 then after_strict_dash q else strict.Text
 strict_grows : (q : StrictPhase) (rest : Chars) (c : ℕ) → StrictEnds q rest → has_strict_dashes q ≡ false → StrictEnds (next_strict q c) (rest ++ c ∷ [])
 strict_grows q rest c h n =
     record {
-      dash = ends_one 45 rest c ∙ (either_way 45 c ∙ dash (c == 45));
-      dashes = ends_snoc (45 ∷ []) 45 rest c ∙ (ap (λ b. b && ends_with (45 ∷ []) rest) (either_way 45 c) ∙ (ap (λ b. (c == 45) && b) h.dash ∙ dashes q (c == 45) n));
+      dash = ends_one 45 rest c ∙ (either_way 45 c ∙ dash (c == 45) q);
+      dashes = ends_snoc (45 ∷ []) 45 rest c ∙ (ap (λ b. b && ends_with (45 ∷ []) rest) (either_way 45 c) ∙ (ap (λ b. (c == 45) && b) h.dash ∙ dashes (c == 45) q n));
     }
   where
-    after : (q : StrictPhase) → true ≡ has_strict_dash (after_strict_dash q)
-    after strict.Text = refl
-    after strict.Dash = refl
-    after strict.Dashes = refl
+    dash : (b : Bool) (q : StrictPhase) → b ≡ has_strict_dash (if b then after_strict_dash q else strict.Text)
+    dash true strict.Text = refl
+    dash _ _ = refl
 
-    dash : (b : Bool) → b ≡ has_strict_dash (if b then after_strict_dash q else strict.Text)
-    dash true = after q
-    dash false = refl
-
-    dashes : (q : StrictPhase) (b : Bool) → has_strict_dashes q ≡ false → (b && has_strict_dash q) ≡ has_strict_dashes (if b then after_strict_dash q else strict.Text)
-    dashes strict.Text true n = refl
-    dashes strict.Dash true n = refl
-    dashes strict.Dashes true n = absurd (cc)
-    dashes q false n = refl
+    dashes : (b : Bool) (q : StrictPhase) → has_strict_dashes q ≡ false → (b && has_strict_dash q) ≡ has_strict_dashes (if b then after_strict_dash q else strict.Text)
+    dashes true strict.Dashes n = absurd (cc)
+    dashes _ _ n = refl
 
 -- what is kept of a section
 section_kept : (kept : Chars) → take (length (kept ++ 93 ∷ 93 ∷ []) - 2) (kept ++ 93 ∷ 93 ∷ []) ≡ kept
@@ -203,29 +108,8 @@ section_kept kept = ap (λ n. take n (kept ++ 93 ∷ 93 ∷ [])) (ap (λ n. n - 
     less_two : (n : ℕ) → (n + 2) - 2 ≡ n
     less_two n = omega arith
 
-one_bracket : (kept rest : Chars) → SectionEnds brackets.None kept rest → SectionEnds brackets.One kept (rest ++ 93 ∷ [])
-one_bracket kept rest h =
-    record {
-      are = ap (λ x. x ++ 93 ∷ []) (h.are ∙ append-nil kept);
-      one = ends_one 93 rest 93;
-      two = ends_snoc (93 ∷ []) 93 rest 93 ∙ h.one;
-    }
-
-two_brackets : (kept rest : Chars) → SectionEnds brackets.One kept rest → SectionEnds brackets.Two kept (rest ++ 93 ∷ [])
-two_brackets kept rest h =
-    record {
-      are = ap (λ x. x ++ 93 ∷ []) h.are ∙ append_assoc kept (93 ∷ []) (93 ∷ []);
-      one = ends_one 93 rest 93;
-      two = ends_snoc (93 ∷ []) 93 rest 93 ∙ h.one;
-    }
-
-more_brackets : (kept rest : Chars) → SectionEnds brackets.Two kept rest → SectionEnds brackets.Two (kept ++ 93 ∷ []) (rest ++ 93 ∷ [])
-more_brackets kept rest h =
-    record {
-      are = ap (λ x. x ++ 93 ∷ []) h.are ∙ (append_assoc kept (93 ∷ 93 ∷ []) (93 ∷ []) ∙ sym (append_assoc kept (93 ∷ []) (93 ∷ 93 ∷ [])));
-      one = ends_one 93 rest 93;
-      two = ends_snoc (93 ∷ []) 93 rest 93 ∙ h.one;
-    }
+bracket_ends : (b next : Brackets) (kept more rest : Chars) → SectionEnds b kept rest → rest ++ 93 ∷ [] ≡ more ++ bracket_text next → true ≡ is_one next → is_one b ≡ are_two next → SectionEnds next more (rest ++ 93 ∷ [])
+bracket_ends b next kept more rest h are one two = record { are = are; one = ends_one 93 rest 93 ∙ one; two = ends_snoc (93 ∷ []) 93 rest 93 ∙ (h.one ∙ two) }
 
 plain_text : (b : Brackets) (kept rest : Chars) (c : ℕ) → SectionEnds b kept rest → (c == 93) ≡ false → SectionEnds brackets.None ((kept ++ bracket_text b) ++ c ∷ []) (rest ++ c ∷ [])
 plain_text b kept rest c h n =
@@ -263,12 +147,9 @@ module _ (s : Syntax) (i : Content) (p : Pending) (text : Chars) (c : ℕ) where
       split (λ (m : Move). Means s i p text c m) (c == 62) _ _
       (λ h. judged_at judge (StrictEnds strict.Dashes) b ∙ (cond-true _ _ _ b.is.dashes ∙ cond-true _ _ _ h))
       (λ h. judged_at judge (StrictEnds strict.Dashes) b ∙ (cond-true _ _ _ b.is.dashes ∙ cond-false _ _ _ h))
-  in_strict_means strict.Text b =
-      let judge = judge_of s i (mark.StrictComment strict.Text) in
-      goes_by judge (StrictEnds strict.Text) b (mark.StrictComment (next_strict strict.Text c)) p.run (cond-false _ _ _ b.is.dashes) (behind_more judge (StrictEnds strict.Text) (StrictEnds (next_strict strict.Text c)) b (strict_grows strict.Text b.rest c b.is refl))
-  in_strict_means strict.Dash b =
-      let judge = judge_of s i (mark.StrictComment strict.Dash) in
-      goes_by judge (StrictEnds strict.Dash) b (mark.StrictComment (next_strict strict.Dash c)) p.run (cond-false _ _ _ b.is.dashes) (behind_more judge (StrictEnds strict.Dash) (StrictEnds (next_strict strict.Dash c)) b (strict_grows strict.Dash b.rest c b.is refl))
+  in_strict_means q b =
+      let judge = judge_of s i (mark.StrictComment q) in
+      goes_by judge (StrictEnds q) b (mark.StrictComment (next_strict q c)) p.run (cond-false _ _ _ b.is.dashes) (behind_more judge (StrictEnds q) (StrictEnds (next_strict q c)) b (strict_grows q b.rest c b.is refl))
 
   abbrev any_text : Chars → Type 0
   any_text rest = Unit {0}
@@ -301,25 +182,75 @@ module _ (s : Syntax) (i : Content) (p : Pending) (text : Chars) (c : ℕ) where
       judge : Chars → ℕ → told.Verdict
       judge = told.in_section
 
-      at_93 : (b : Brackets) (kept rest : Chars) → c ≡ 93 → SectionEnds b kept (rest ++ 93 ∷ []) → SectionEnds b kept (rest ++ c ∷ [])
-      at_93 b kept rest e h = subst (λ (x : ℕ). SectionEnds b kept (rest ++ x ∷ [])) (sym e) h
+      goes_to : (q next : Brackets) (run : Chars) (b : PendsAs s i (mark.Section q) p.run p.tag text) → told.verdict s i text c ≡ told.goes_on → SectionEnds next run (b.rest ++ c ∷ []) → Goes s i p text c (mark.Section next) run
+      goes_to q next run b v h = record { first = 60; more = b.front ++ b.rest; some = b.are; goes = v; pends = behind_more judge (SectionEnds q p.run) (SectionEnds next run) b h }
 
       bracket : (q : Brackets) → PendsAs s i (mark.Section q) p.run p.tag text → c ≡ 93 → told.verdict s i text c ≡ told.goes_on → Means s i p text c (at_bracket q)
       bracket brackets.None b e v =
-          record { first = 60; more = b.front ++ b.rest; some = b.are; goes = v; pends = behind_more judge (SectionEnds brackets.None p.run) (SectionEnds brackets.One p.run) b (at_93 brackets.One p.run b.rest e (one_bracket p.run b.rest b.is)) }
+          goes_to brackets.None brackets.One p.run b v (rw e (bracket_ends brackets.None brackets.One p.run p.run b.rest b.is (ap (λ x. x ++ 93 ∷ []) (b.is.are ∙ append-nil p.run)) refl refl))
       bracket brackets.One b e v =
-          record { first = 60; more = b.front ++ b.rest; some = b.are; goes = v; pends = behind_more judge (SectionEnds brackets.One p.run) (SectionEnds brackets.Two p.run) b (at_93 brackets.Two p.run b.rest e (two_brackets p.run b.rest b.is)) }
+          goes_to brackets.One brackets.Two p.run b v (rw e (bracket_ends brackets.One brackets.Two p.run p.run b.rest b.is (ap (λ x. x ++ 93 ∷ []) b.is.are ∙ append_assoc p.run (93 ∷ []) (93 ∷ [])) refl refl))
       bracket brackets.Two b e v =
-          record {
-            first = 60;
-            more = b.front ++ b.rest;
-            some = b.are;
-            goes = v;
-            pends = behind_more judge (SectionEnds brackets.Two p.run) (SectionEnds brackets.Two (p.run ++ c ∷ [])) b
-                (at_93 brackets.Two (p.run ++ c ∷ []) b.rest e (subst (λ (x : ℕ). SectionEnds brackets.Two (p.run ++ x ∷ []) (b.rest ++ 93 ∷ [])) (sym e) (more_brackets p.run b.rest b.is)));
-          }
+          goes_to brackets.Two brackets.Two (p.run ++ c ∷ []) b v
+          (rw e (bracket_ends brackets.Two brackets.Two p.run (p.run ++ 93 ∷ []) b.rest b.is (ap (λ x. x ++ 93 ∷ []) b.is.are ∙ (append_assoc p.run (93 ∷ 93 ∷ []) (93 ∷ []) ∙ sym (append_assoc p.run (93 ∷ []) (93 ∷ 93 ∷ [])))) refl refl))
 
       kept : (q : Brackets) (b : Behind s i (judge_of s i (mark.Section q)) (SectionEnds q p.run) text) → are_two q ≡ true → take (length b.rest - 2) b.rest ≡ p.run
-      kept brackets.None b h = absurd (cc)
-      kept brackets.One b h = absurd (cc)
       kept brackets.Two b h = ap (λ x. take (length x - 2) x) b.is.are ∙ section_kept p.run
+      kept _ b h = absurd (cc)
+
+pub doctype_snoc : (s : Syntax) (reached : Option told.DoctypePhase) (text : Chars) (c : ℕ) → told.doctype_on s reached (text ++ c ∷ []) ≡ told.doctype_move_on s (told.doctype_on s reached text) c
+doctype_snoc s reached [] c = refl
+doctype_snoc s reached (d ∷ text) c = doctype_snoc s (told.doctype_move_on s reached d) text c
+
+module _ (s : Syntax) (i : Content) (p : Pending) (text : Chars) (c : ℕ) where
+  -- what the verdict is, by the next phase
+  judged : (q : DoctypePhase) (b : Behind s i (judge_of s i (mark.Doctype q)) (DoctypeEnds s q) text) → told.verdict s i text c ≡ told.told_of_doctype (told.doctype_move s b.is.phase c)
+  judged q b = judged_at s i p text c (judge_of s i (mark.Doctype q)) (DoctypeEnds s q) b ∙ ap told.told_of_doctype (doctype_snoc s (Some told.keyword) b.rest c ∙ ap (λ o. told.doctype_move_on s o c) b.is.read)
+
+  goes_on : (r q : DoctypePhase) (b : Behind s i (judge_of s i (mark.Doctype q)) (DoctypeEnds s q) text) (next : told.DoctypePhase) → told.doctype_move s b.is.phase c ≡ Some next → told.told_of_doctype (Some next) ≡ told.goes_on → DoctypeIs r next → Means s i p text c (move.Continue (mark.Doctype r))
+  goes_on r q b next e g h =
+      record {
+        first = 60;
+        more = b.front ++ b.rest;
+        some = b.are;
+        goes = judged q b ∙ (ap told.told_of_doctype e ∙ g);
+        pends = behind_more s i p text c (judge_of s i (mark.Doctype q)) (DoctypeEnds s q) (DoctypeEnds s r) b (record { phase = next; read = doctype_snoc s (Some told.keyword) b.rest c ∙ (ap (λ o. told.doctype_move_on s o c) b.is.read ∙ e); is = h });
+      }
+
+  refuses : (q : DoctypePhase) (b : Behind s i (judge_of s i (mark.Doctype q)) (DoctypeEnds s q) text) → told.doctype_move s b.is.phase c ≡ None → Means s i p text c (move.Refuses BadDoctype)
+  refuses q b e = judged q b ∙ ap told.told_of_doctype e
+
+  ends : (q : DoctypePhase) (b : Behind s i (judge_of s i (mark.Doctype q)) (DoctypeEnds s q) text) → told.doctype_move s b.is.phase c ≡ Some told.closed → Means s i p text c (move.Ends whole.Doctype)
+  ends q b e = judged q b ∙ ap told.told_of_doctype e
+
+  -- in the name, of which `left` is to come
+  in_name_means : (q : DoctypePhase) (b : Behind s i (judge_of s i (mark.Doctype q)) (DoctypeEnds s q) text) (read left : Chars) (n : ℕ) → codes "html" ≡ read ++ left → length read ≡ n → told.doctype_move s b.is.phase c ≡ told.in_name s left c → Means s i p text c (marks.in_name s (head_of left) n c)
+  in_name_means q b read [] n are count e =
+      split (λ (m : Move). Means s i p text c m) (is_white_space c) _ _
+      (λ h. goes_on phases.Passed q b told.passed (e ∙ cond-true _ _ _ h) refl refl)
+      (λ h. split (λ (m : Move). Means s i p text c m) (c == 62) _ _ (λ k. ends q b (e ∙ (cond-false _ _ _ h ∙ cond-true _ _ _ k))) (λ k. refuses q b (e ∙ (cond-false _ _ _ h ∙ cond-false _ _ _ k))))
+  in_name_means q b read (d ∷ left) n are count e =
+      split (λ (m : Move). Means s i p text c m) (cased_char s c == d) _ _
+      (λ h. goes_on (phases.Name (n + 1)) q b (told.naming left) (e ∙ cond-true _ _ _ h) refl (record { read = read ++ d ∷ []; left = left; are = are ∙ sym (append_assoc read (d ∷ []) left); count = length-append read (d ∷ []) ∙ ap (λ k. k + 1) count; phase = refl }))
+      (λ h. refuses q b (e ∙ cond-false _ _ _ h))
+
+  pub in_doctype_means : (q : DoctypePhase) → PendsAs s i (mark.Doctype q) p.run p.tag text → Means s i p text c (marks.in_doctype s q c)
+  in_doctype_means phases.Keyword b =
+      let e = ap (λ x. told.doctype_move s x c) b.is.is in
+      split (λ (m : Move). Means s i p text c m) (is_white_space c) _ _
+      (λ h. goes_on phases.Spaces phases.Keyword b told.spaces (e ∙ cond-true _ _ _ h) refl refl)
+      (λ h. refuses phases.Keyword b (e ∙ cond-false _ _ _ h))
+  in_doctype_means phases.Spaces b =
+      let e = ap (λ x. told.doctype_move s x c) b.is.is in
+      split (λ (m : Move). Means s i p text c m) (is_white_space c) _ _
+      (λ h. goes_on phases.Spaces phases.Spaces b told.spaces (e ∙ cond-true _ _ _ h) refl refl)
+      (λ h. in_name_means phases.Spaces b [] (codes "html") 0 refl refl (e ∙ cond-false _ _ _ h))
+  in_doctype_means (phases.Name n) b =
+      let l = b.is.is in
+      subst (λ (o : Option ℕ). Means s i p text c (marks.in_name s o n c)) (sym (word_at (codes "html") l.read l.left n l.are l.count))
+      (in_name_means (phases.Name n) b l.read l.left n l.are l.count (ap (λ x. told.doctype_move s x c) l.phase))
+  in_doctype_means phases.Passed b =
+      let e = ap (λ x. told.doctype_move s x c) b.is.is in
+      split (λ (m : Move). Means s i p text c m) (c == 62) _ _
+      (λ h. ends phases.Passed b (e ∙ cond-true _ _ _ h))
+      (λ h. split (λ (m : Move). Means s i p text c m) (c == 91) _ _ (λ k. refuses phases.Passed b (e ∙ (cond-false _ _ _ h ∙ cond-true _ _ _ k))) (λ k. goes_on phases.Passed phases.Passed b told.passed (e ∙ (cond-false _ _ _ h ∙ cond-false _ _ _ k)) refl refl))

@@ -1,7 +1,7 @@
 -- What one byte does is what the reader of bytes says.
-use Rattle.std.proofs.Common.{◌≡◌, ◌∙◌, ◌⊎◌, ℕ, ◌+◌, ◌-◌, Bool, true, false, List, [], ◌∷◌, ◌++◌, refl, ap, sym, subst, Result, Ok, Err, inl, inr, length, arith, eqb-true}
+use Rattle.std.proofs.Common.{◌≡◌, ◌∙◌, ◌⊎◌, ℕ, ◌+◌, ◌-◌, Bool, true, false, List, [], ◌∷◌, ◌++◌, refl, ap, sym, subst, Result, Ok, Err, inl, inr, length, arith, eqb-true, ◌<◌, ◌≢◌}
 use Rattle.std.specs.Prelude.{◌&&◌, ◌||◌, ◌==◌, not, nat_le, MatchBool, if◌then◌else◌}
-use Rattle.std.proofs.lemmas.Bool.{cond-true, cond-false}
+use Rattle.std.proofs.lemmas.Bool.{cond-true, cond-false, lt-leb}
 use Rattle.std.proofs.lemmas.List.{length-append}
 use Rattle.rx_terms.specs.Text.{Chars}
 use Rattle.rx_chars.specs.Utf8.{answer_of}
@@ -15,7 +15,6 @@ use Rattle.rx_grammar.specs.declared.faults.Kind.TheVariants.{NotUtf8, Nul, Page
 use Rattle.rx_grammar.specs.declared.limits.Limits.{Limits}
 use Rattle.rx_grammar.specs.Items.{values}
 use Rattle.rx_grammar.specs.PageFaults.{is_known_tag}
-use Rattle.rx_grammar.specs.declared.faults.Fault.{Fault}
 use Rattle.rx_terms.proofs.Bools.{by_test, both, either, untrue}
 use Rattle.rx_pages.specs.PageReader as reader
 use Rattle.rx_grammar.specs.declared.stops.Stop.{Stop}
@@ -32,11 +31,12 @@ use Rattle.rx_scan.specs.Pending.{PendsAs}
 use Rattle.rx_scan.specs.Scanner.{Reading, spot_of}
 use Rattle.rx_scan.specs.Entries as entries
 use Rattle.rx_scan.specs.Steps.{ReadsAs, mark_bytes}
-use Rattle.rx_scan.proofs.Standing.{some_mark, values_snoc, no_values}
+use Rattle.rx_scan.proofs.Standing.{some_mark, no_values, after, place_on, starts_next}
 use Rattle.rx_scan.proofs.Simulation.{known, known_with}
-use Rattle.rx_scan.proofs.GivesLemmas.{Gives, GivesOk, GivesErr, gives_at, gives_by, refuses, nothing_told}
 use Rattle.rx_scan.proofs.MarkLemmas.{mark_is}
-use Rattle.rx_scan.proofs.EntryLemmas.{enters}
+use Rattle.rx_scan.proofs.EntryLemmas.{enters, Gives, gives_at, gives_by, refuses, nothing_told}
+use Rattle.rx_pages.proofs.Tokens.{values_append}
+use Rattle.std.proofs.Math.Bool.{and-false}
 
 -- a case by a test, in what is chosen by it
 pub match_by : {G : Type 0} (b : Bool) (P Q : Type 0) → MatchBool b P Q → (b ≡ true → P → G) → (b ≡ false → Q → G) → G
@@ -57,12 +57,7 @@ nothing_or s i mark.Tag run t text h = inr (record { first = 60; more = h.chars;
 nothing_or s i (mark.Run p) run t text h = inr (record { first = 38; more = run; is = h.are })
 nothing_or s i mark.Opened run t text h = inr (record { first = 60; more = 33 ∷ []; is = h.are })
 nothing_or s i (mark.Opening w n) run t text h = inr (record { first = 60; more = 33 ∷ h.first ∷ h.chars; is = h.are })
-nothing_or s i (mark.Comment p) run t text h = inr (record { first = 60; more = h.front ++ h.rest; is = h.are })
-nothing_or s i (mark.StrictComment p) run t text h = inr (record { first = 60; more = h.front ++ h.rest; is = h.are })
-nothing_or s i mark.Bogus run t text h = inr (record { first = 60; more = h.front ++ h.rest; is = h.are })
-nothing_or s i (mark.Instruction asked) run t text h = inr (record { first = 60; more = h.front ++ h.rest; is = h.are })
-nothing_or s i (mark.Doctype p) run t text h = inr (record { first = 60; more = h.front ++ h.rest; is = h.are })
-nothing_or s i (mark.Section b) run t text h = inr (record { first = 60; more = h.front ++ h.rest; is = h.are })
+nothing_or s i _ run t text h = inr (record { first = 60; more = h.front ++ h.rest; is = h.are })
 
 first_same : (run : List Entry) (x : ℕ) (more : Chars) (a b : ℕ) → values run ≡ x ∷ more → reader.first_of run a ≡ reader.first_of run b
 first_same [] x more a b e = absurd (cc)
@@ -111,26 +106,13 @@ module _ (v : Reading) (s : reader.Scanning) (h : ReadsAs v s) where
   long_with : (c : ℕ) → reader.is_too_long sy lim spot (s.run ++ (record { value = c; first = reader.starts_at s; last = s.at }) ∷ []) (reader.first_of s.run (reader.starts_at s)) s.at ≡ entries.is_long v (known_tags.is_tag_with sy v.setting.inside v.pending.mark c)
   long_with c =
       let entry : Entry = record { value = c; first = reader.starts_at s; last = s.at } in
-      ap (λ b. b && nat_le (reader.token_at s + lim.tag) s.at) (ap (is_known_tag sy v.setting.inside) (values_snoc s.run entry) ∙ known_with sy v.setting.inside v.pending.run v.pending.tag (values s.run) v.pending.mark c h.pends)
+      ap (λ b. b && nat_le (reader.token_at s + lim.tag) s.at) (ap (is_known_tag sy v.setting.inside) (values_append s.run (entry ∷ [])) ∙ known_with sy v.setting.inside v.pending.run v.pending.tag (values s.run) v.pending.mark c h.pends)
       ∙ (ap (λ a. known_tags.is_tag_with sy v.setting.inside v.pending.mark c && nat_le (a + lim.tag) s.at) (sym h.token) ∙ ap (λ a. known_tags.is_tag_with sy v.setting.inside v.pending.mark c && nat_le (entries.token_from v.pending.mark v.place + lim.tag) a) (sym h.at))
 
   passed_is : ReadsAs (entries.with_passed v) (reader.passed s)
   passed_is =
-      record {
-        at = ap (λ a. a + 1) h.at;
-        starts = ap (λ a. a + 1) h.at ∙ sym (next s.at);
-        held = refl;
-        started = refl;
-        after_return = refl;
-        two = h.two;
-        last = h.last;
-        token = token_stays ((s.at + 1) - 0) (entered false v.place) (ap (λ a. a + 1) h.at ∙ sym (next s.at)) refl;
-        syntax = h.syntax;
-        pends = h.pends;
-      }
-    where
-      next : (at : ℕ) → (at + 1) - 0 ≡ at + 1
-      next at = omega arith
+      after v s h false v.setting (entered false v.place) v.pending v.text v.end v.place.token s.run s.two s.last (place_on v s h false)
+      (token_stays ((s.at + 1) - 0) (entered false v.place) (ap (λ a. a + 1) h.at ∙ sym (starts_next s.at)) refl) h.syntax h.pends
 
   held_is : (byte : ℕ) → ReadsAs (entries.with_held v (s.held ++ byte ∷ [])) (reader.holding (s.held ++ byte ∷ []) s)
   held_is byte =
@@ -208,16 +190,9 @@ module _ (v : Reading) (s : reader.Scanning) (h : ReadsAs v s) where
       (λ t k. ways_by (reader.read_byte sy lim spot byte s) _ s v byte result new (cond-false _ _ _ (sym e ∙ t))
       (reads_answer byte (answer_of (s.held ++ byte ∷ [])) result new refl (subst (λ (x : List ℕ). entries.ReadsAnswer v (x ++ byte ∷ []) (answer_of (x ++ byte ∷ [])) result new) h.held k)))
 
-  -- the same where nothing is skipped
-  pub reads_nothing : (byte : ℕ) (new : Reading) → entries.Reads v byte (Ok what.Nothing) new → GivesOk (reader.read_byte sy lim spot byte s) v what.Nothing new
-  reads_nothing byte new k = elim (reads byte (Ok what.Nothing) new k) [ inl g ↦ g | inr m ↦ absurd (let w : ◌≡◌ {A = Result TokenKind Stop} (Ok what.Nothing) (Ok what.Skipped) = m.answer in cc) ]
-
-  pub reads_fault : (byte : ℕ) (fault : Fault) (new : Reading) → entries.Reads v byte (Err (stop.Fault fault)) new → GivesErr (reader.read_byte sy lim spot byte s) s fault
-  reads_fault byte fault new k = elim (reads byte (Err (stop.Fault fault)) new k) [ inl g ↦ g | inr m ↦ absurd (let w : ◌≡◌ {A = Result TokenKind Stop} (Err (stop.Fault fault)) (Ok what.Skipped) = m.answer in cc) ]
-
-  -- no byte answers text
-  pub reads_no_text : (byte : ℕ) (new : Reading) → entries.Reads v byte (Ok what.Text) new → ⊥
-  reads_no_text byte new k = elim (reads byte (Ok what.Text) new k) [ inl g ↦ g.told | inr m ↦ let w : ◌≡◌ {A = Result TokenKind Stop} (Ok what.Text) (Ok what.Skipped) = m.answer in cc ]
+  -- where the answer isn't the mark's
+  pub reads_other : (byte : ℕ) (result : Result TokenKind Stop) (new : Reading) → result ≢ Ok what.Skipped → entries.Reads v byte result new → Gives (reader.read_byte sy lim spot byte s) s v result new
+  reads_other byte result new n k = elim (reads byte result new k) [ inl g ↦ g | inr m ↦ absurd (n m.answer) ]
 
 -- at the mark's last byte the answer is that it is skipped
 pub mark_skips : (v : Reading) (byte : ℕ) (answer : TokenKind) (new : Reading) → v.place.started ≡ false → v.held ++ byte ∷ [] ≡ mark_bytes → entries.Reads v byte (Ok answer) new → answer ≡ what.Skipped
@@ -237,3 +212,31 @@ mark_skips v byte answer new f m k =
         (λ t k. match_by (entries.is_passed v.place byte_order_mark) _ _ k
         (λ u k. let w : ◌≡◌ {A = Result TokenKind Stop} (Ok answer) (Ok what.Skipped) = k.0 in cc)
         (λ u k. absurd (let w : true ≡ false = sym passed ∙ u in cc)))
+
+pub chosen : (b : Bool) (P Q : Type 0) → b ≡ false → Q → MatchBool b P Q
+chosen true P Q e q = absurd (cc)
+chosen false P Q e q = q
+
+-- within its limit no tag is too long
+pub within_limit : (l : Reading) → l.place.at < entries.token_from l.pending.mark l.place + l.setting.limits.tag → (known : Bool) → entries.is_long l known ≡ false
+within_limit l within known = ap (λ x. known && x) (lt-leb (entries.token_from l.pending.mark l.place + l.setting.limits.tag) l.place.at within) ∙ and-false known
+
+module _ (l new : Reading) (held : List ℕ) (b c : ℕ) (result : Result TokenKind Stop) (held_is : l.held ≡ held) (answers : Char c ≡ answer_of (held ++ b ∷ []))
+    (page : l.place.at < l.setting.limits.page) (some : (c == 0) ≡ false) (short : entries.is_long l (known_tags.is_tag l.pending.mark) ≡ false)
+    (stays_short : entries.is_long l (known_tags.is_tag_with l.setting.syntax l.setting.inside l.pending.mark (as_line_end c)) ≡ false) (stays : entries.is_passed l.place c ≡ false) where
+  pub character_read : entries.Enters l (as_line_end c) (c == 13) (entries.move_at l (as_line_end c)) result new → entries.Reads l b result new
+  character_read enters =
+      chosen (nat_le l.setting.limits.page l.place.at) _ _ (lt-leb l.setting.limits.page l.place.at page)
+      (subst (λ (x : List ℕ). entries.ReadsAnswer l (x ++ b ∷ []) (answer_of (x ++ b ∷ [])) result new) (sym held_is)
+      (subst (λ (a : Utf8Step). entries.ReadsAnswer l (held ++ b ∷ []) a result new) answers
+      (chosen (c == 0) _ _ some
+      (chosen (entries.is_long l (known_tags.is_tag l.pending.mark)) _ _ short
+      (chosen (entries.is_passed l.place c) _ _ stays
+      (chosen (entries.is_long l (known_tags.is_tag_with l.setting.syntax l.setting.inside l.pending.mark (as_line_end c))) _ _ stays_short enters))))))
+
+  -- another than CR
+  pub other_read : (c == 13) ≡ false → entries.Enters l c false (entries.move_at l c) result new → entries.Reads l b result new
+  other_read no_return enters =
+      character_read
+      (subst (λ (x : Bool). entries.Enters l (as_line_end c) x (entries.move_at l (as_line_end c)) result new) (sym no_return)
+      (subst (λ (x : ℕ). entries.Enters l x false (entries.move_at l x) result new) (sym (cond-false _ _ _ no_return)) enters))

@@ -1,38 +1,116 @@
--- What one character does is what the reader of bytes says.
-use Rattle.std.proofs.Common.{◌≡◌, ◌∙◌, ℕ, Bool, true, false, [], ◌∷◌, ◌++◌, refl, ap, Result}
-use Rattle.std.specs.Prelude.{◌&&◌, not, if◌then◌else◌}
-use Rattle.std.proofs.lemmas.Bool.{cond-true, cond-false}
-use Rattle.rx_terms.specs.Ascii.{greater_than_sign}
-use Rattle.rx_terms.specs.Text.{Chars}
+-- What an answer says of the reader of bytes; and that what one character does is so: by its move, and the token that begins, goes on or is whole with it.
+use Rattle.std.proofs.Common.{◌≡◌, ◌∙◌, ℕ, ◌+◌, Bool, true, false, [], ◌∷◌, ◌++◌, ap, sym, Result, Ok, List, refl, subst, Err, Option, Some, None, append-nil}
+use Rattle.std.specs.Prelude.{◌&&◌, not, ◌==◌, encode_utf8_all, if◌then◌else◌}
+use Rattle.std.proofs.lemmas.Bool.{cond-false, cond-true}
+use Rattle.rx_terms.specs.Ascii.{greater_than_sign, right_bracket, line_feed}
+use Rattle.rx_terms.specs.Text.{Chars, is_empty}
+use Rattle.rx_chars.specs.Characters.{Entry}
 use Rattle.rx_chars.specs.declared.syntax.Syntax.{Syntax}
 use Rattle.rx_grammar.specs.declared.contents.Content.{Content}
 use Rattle.rx_grammar.specs.declared.faults.Kind.{Kind}
-use Rattle.rx_grammar.specs.declared.faults.Kind.TheVariants.{BadDoctype}
-use Rattle.rx_grammar.specs.Tokens.{doctype}
-use Rattle.rx_grammar.specs.Items.{values}
+use Rattle.rx_grammar.specs.Tokens.{Token, character, reference, section, comment, doctype, kept, tag}
+use Rattle.rx_grammar.specs.Items.{Item, values, is_literal, is_strict_literal, text_of, is_line_feed}
 use Rattle.rx_pages.specs.Scanner as verdicts
 use Rattle.rx_pages.specs.PageReader as reader
-use Rattle.rx_grammar.specs.declared.stops.Stop.{Stop}
-use Rattle.rx_scan.specs.declared.answers.TokenKind.{TokenKind}
 use Rattle.rx_scan.specs.declared.marks.TokenState.TheVariants as mark
-use Rattle.rx_scan.specs.declared.marks.Brackets.TheVariants as brackets
-use Rattle.rx_scan.specs.declared.marks.Move.{Move}
+use Rattle.rx_scan.specs.declared.places.Setting.{Setting}
+use Rattle.rx_scan.specs.Places.{ended, begun, cut}
+use Rattle.rx_scan.specs.Pending.{Pending, PendsAs, phase_of, first_char, bracket_text}
+use Rattle.rx_scan.specs.Scanner.{Reading, spot_of}
+use Rattle.rx_scan.specs.Steps.{ReadsAs, a_line_feed, joined, IsOne, a_comment, an_empty_section, setting_after, keeps_first, Skips, Tells, texts_of}
+use Rattle.rx_scan.specs.Buffers.{Buffered}
+use Rattle.rx_scan.proofs.Standing.{whole, is_character, no_literal, some_mark, no_values, went, begins}
+use Rattle.rx_grammar.specs.declared.stops.Stop.{Stop}
+use Rattle.rx_grammar.specs.declared.stops.Stop.TheVariants as stop
+use Rattle.rx_tags.specs.TagBufs.{no_tag, TagSoFar, MayStep, StepGives}
+use Rattle.rx_scan.specs.declared.answers.TokenKind.{TokenKind}
+use Rattle.rx_scan.specs.declared.answers.TokenKind.TheVariants as what
+use Rattle.rx_scan.specs.declared.marks.TokenState.{TokenState}
+use Rattle.rx_scan.specs.Entries as entries
+use Rattle.rx_scan.specs.Meant as meant
+use Rattle.rx_grammar.specs.declared.faults.Kind.TheVariants.{StrictText, BadDoctype}
+use Rattle.rx_terms.proofs.Bools.{both, not_both_ways, split}
+use Rattle.rx_grammar.specs.References.{meaning}
+use Rattle.rx_reader.specs.Values.{no_meaning}
 use Rattle.rx_scan.specs.declared.marks.Move.TheVariants as move
 use Rattle.rx_scan.specs.declared.marks.Whole.TheVariants as whole_mark
+use Rattle.rx_grammar.specs.declared.limits.Limits.{Limits}
+use Rattle.rx_scan.specs.declared.marks.First.{First}
+use Rattle.rx_scan.specs.declared.marks.First.TheVariants as first
 use Rattle.rx_scan.specs.Marks as marks
-use Rattle.rx_scan.specs.Pending.{bracket_text}
-use Rattle.rx_scan.specs.Scanner.{Reading}
-use Rattle.rx_scan.specs.Entries as entries
-use Rattle.rx_scan.specs.Steps.{ReadsAs}
-use Rattle.rx_scan.specs.Meant as meant
-use Rattle.rx_scan.proofs.GivesLemmas.{Gives, refuses, verdict_at, read_at}
-use Rattle.rx_scan.proofs.GoingLemmas.{gives_went, gives_begins, went_as}
-use Rattle.rx_scan.proofs.WholeLemmas.{is_item, literal_is, unliteral}
-use Rattle.rx_scan.proofs.SayLemmas.{gives_says, gives_closes}
-use Rattle.rx_scan.proofs.EndLemmas.{gives_comment, gives_doctype, gives_section}
-use Rattle.rx_scan.proofs.TagLemmas.{gives_tags, gives_keeps_tag}
-use Rattle.rx_scan.proofs.StopLemmas.{gives_stops}
 use Rattle.rx_scan.proofs.Simulation.{simulates}
+use Rattle.rx_tags.specs.declared.tag_text.TagStep.TheVariants.{More as tag_step_more}
+use Rattle.rx_reader.specs.Tables.{is_last}
+use Rattle.rx_reader.specs.TagReader.{TagState, fresh, tag_on, tag_step, tag_of, parts_of, is_closing}
+use Rattle.rx_reader.proofs.TagLaws.{tag_on-append}
+use Rattle.rx_scan.specs.declared.marks.Brackets.TheVariants as brackets
+use Rattle.rx_scan.specs.declared.marks.Move.{Move}
+use Rattle.std.proofs.Math.Bool.{and-false, and-true}
+use Rattle.rx_pages.proofs.LastToken.{token_of_item}
+use Rattle.rx_grammar.specs.declared.faults.Fault.{Fault}
+use Rattle.rx_pages.proofs.FaultsRead.{item_content}
+use Rattle.rx_pages.proofs.ByteFacts.{item_first, item_last}
+
+-- the text has grown by that of these tokens
+pub record Grows (old : Reading) (items : List Item) (new : Reading) : Type 0 where
+  pub more : Chars
+  pub texts : texts_of items ≡ Some more
+  pub text : new.text.text ≡ old.text.text ++ more
+  pub keeps : keeps_first old.setting.drops items ≡ true
+  pub some : more ≡ [] → items ≡ []
+  pub started : (more ≡ [] → ⊥) → new.place.started ≡ true
+  pub still : old.place.started ≡ true → new.place.started ≡ true
+
+-- what the answer to one byte tells
+abbrev pub IsTold : Reading → TokenKind → List Item → Reading → Type 0
+IsTold old what.Nothing items new = Grows old items new
+IsTold old what.Text items new = ⊥
+IsTold old what.Skipped items new = ((s : reader.Scanning) (bytes : List ℕ) → Skips old.setting.drops s bytes items) × (new.text.text ≡ old.text.text)
+IsTold old answer items new = Tells old.setting.drops answer reader.no_bytes [] items new × (new.text.text ≡ old.text.text)
+
+pub record GivesOk (r : Result reader.Scanned Kind) (old : Reading) (answer : TokenKind) (new : Reading) : Type 0 where
+  pub scanned : reader.Scanned
+  pub is : r ≡ Ok scanned
+  pub reads_as : ReadsAs new scanned.next
+  pub told : IsTold old answer scanned.items new
+  pub setting : new.setting ≡ setting_after answer new old.setting scanned.items
+
+pub record GivesErr (r : Result reader.Scanned Kind) (s : reader.Scanning) (fault : Fault) : Type 0 where
+  pub kind : Kind
+  pub is : r ≡ Err kind
+  pub fault_is : fault ≡ reader.fault_in s kind
+
+abbrev pub Gives : Result reader.Scanned Kind → reader.Scanning → Reading → Result TokenKind Stop → Reading → Type 0
+Gives r s old (Ok answer) new = GivesOk r old answer new
+Gives r s old (Err (stop.Fault fault)) new = GivesErr r s fault
+Gives r s old (Err stop.NoMemory) new = Unit {0}
+
+pub gives_by : (r q : Result reader.Scanned Kind) (s : reader.Scanning) (old : Reading) (result : Result TokenKind Stop) (new : Reading) → r ≡ q → Gives q s old result new → Gives r s old result new
+gives_by r q s old result new e g = subst (λ (x : Result reader.Scanned Kind). Gives x s old result new) (sym e) g
+
+pub gives_at : (r : Result reader.Scanned Kind) (s : reader.Scanning) (old : Reading) (result : Result TokenKind Stop) (x new : Reading) → new ≡ x → Gives r s old result x → Gives r s old result new
+gives_at r s old result x new e g = subst (λ (z : Reading). Gives r s old result z) (sym e) g
+
+-- the fault of the next byte
+pub fault_is : (v : Reading) (s : reader.Scanning) (kind : Kind) → ReadsAs v s → entries.fault_at v kind ≡ reader.fault_in s kind
+fault_is v s kind h = λ i. record { kind = kind; token = h.token i; at = h.at i }
+
+pub refuses : (r : Result reader.Scanned Kind) (v : Reading) (s : reader.Scanning) (kind : Kind) (result : Result TokenKind Stop) (new : Reading) → ReadsAs v s → r ≡ Err kind → result ≡ Err (stop.Fault (entries.fault_at v kind)) → Gives r s v result new
+refuses r v s kind result new h e q = subst (λ (x : Result TokenKind Stop). Gives r s v x new) (sym q) (record { kind = kind; is = e; fault_is = fault_is v s kind h })
+
+-- no token is told, and the text stays
+pub nothing_told : (v new : Reading) → new.text ≡ v.text → (v.place.started ≡ true → new.place.started ≡ true) → Grows v [] new
+nothing_told v new e k = record { more = []; texts = refl; text = ap (λ b. b.text) e ∙ sym (append-nil v.text.text); keeps = refl; some = λ z. refl; started = λ z. absurd (z refl); still = k }
+
+-- the entry of the next character, the verdict on it, and what the reader of bytes makes of a verdict
+abbrev pub entry_at : reader.Scanning → ℕ → Entry
+entry_at s c = record { value = c; first = reader.starts_at s; last = s.at }
+
+abbrev pub verdict_at : Reading → reader.Scanning → ℕ → verdicts.Verdict
+verdict_at v s c = verdicts.verdict v.setting.syntax v.setting.inside (values s.run) c
+
+abbrev pub read_at : Reading → reader.Scanning → Bool → ℕ → verdicts.Verdict → Result reader.Scanned Kind
+read_at v s ar c w = reader.told v.setting.syntax v.setting.limits (spot_of v) ar (entry_at s c) s w
 
 module _ (v : Reading) (s : reader.Scanning) (h : ReadsAs v s) (ar : Bool) (c : ℕ) where
   abbrev sy : Syntax
@@ -40,6 +118,15 @@ module _ (v : Reading) (s : reader.Scanning) (h : ReadsAs v s) (ar : Bool) (c : 
 
   abbrev inside : Content
   inside = v.setting.inside
+
+  abbrev lim : Limits
+  lim = v.setting.limits
+
+  abbrev spot : reader.Spot
+  spot = spot_of v
+
+  abbrev entry : Entry
+  entry = entry_at s c
 
   abbrev text : Chars
   text = values s.run
@@ -50,26 +137,337 @@ module _ (v : Reading) (s : reader.Scanning) (h : ReadsAs v s) (ar : Bool) (c : 
   abbrev read : verdicts.Verdict → Result reader.Scanned Kind
   read w = read_at v s ar c w
 
-  by_move : (m : Move) → meant.Means sy inside v.pending text c m → (result : Result TokenKind Stop) (new : Reading) → entries.Enters v c ar (entries.judged v.setting v.place.two c m) result new → Gives (read verdict) s v result new
-  by_move (move.Begins n) g result new k = gives_begins v s h ar c n result new g k.0 k.1
-  by_move (move.Continue n) g result new k = gives_went v s h ar c (entries.marked n v.pending) g.first g.more result new g.goes g.some h.syntax g.pends k.0 k.1
-  by_move (move.Keeps n) g result new k = went_as v s h ar c (entries.kept_by n c v.pending) g.first g.more result new g.goes g.some h.syntax g.pends k
-  by_move (move.KeepsAfter b) g result new k =
-      went_as v s h ar c (record { mark = mark.Section brackets.None; run = (v.pending.run ++ bracket_text b) ++ c ∷ []; tag = v.pending.tag }) g.first g.more result new g.goes g.some h.syntax g.pends k
-  by_move move.Tags g result new k = gives_tags v s h ar c result new g k
-  by_move (move.KeepsTag n) g result new k = gives_keeps_tag v s h ar c n result new g k
-  by_move move.EmitText g result new k = gives_says v s h ar c result new g.0 g.1 k
-  by_move (move.Ends whole_mark.Comment) g result new k = gives_comment v s h ar c result new g k
-  by_move (move.Ends whole_mark.Section) g result new k = gives_section v s h ar c result new g k
-  by_move (move.Ends whole_mark.Doctype) g result new k = by v.setting.leads refl k
+  -- the item of the pending characters and this one
+  abbrev item : Token → Item
+  item t = reader.item_of inside t (s.run ++ entry ∷ [])
+
+  item_token : (t : Token) → (item t).token ≡ t
+  item_token t = token_of_item inside t (s.run ++ entry ∷ [])
+
+  literal_is : (d : ℕ) (t : Token) → is_literal d (item t) ≡ is_strict_literal d inside t
+  literal_is d t = λ i. is_strict_literal d (item_content inside t s.run entry i) (item_token t i)
+
+  -- the state behind a token that is whole
+  abbrev behind : Token → reader.Scanning
+  behind t = reader.entering ar [] (s.last && is_literal right_bracket (item t)) (is_literal right_bracket (item t)) s
+
+  -- a token that is whole and that nothing before refuses
+  completes : (t : Token) → verdict ≡ verdicts.whole t → (s.two && is_strict_literal greater_than_sign inside t) ≡ false → (reader.is_doctype t && not v.setting.leads) ≡ false → read verdict ≡ Ok (record { next = behind t; items = item t ∷ [] })
+  completes t g a b =
+      ap read g ∙ (cond-false _ _ _ (ap (λ x. s.two && x) (literal_is greater_than_sign t) ∙ a) ∙ cond-false _ _ _ (ap (λ x. reader.is_doctype x && not v.setting.leads) (item_token t) ∙ b))
+
+  -- the place behind it
+  place_behind : (t : Token) (bracket : Bool) → bracket ≡ is_strict_literal right_bracket inside t
+      → ended ar bracket v.place ≡ record { at = v.place.at + 1; starts = v.place.at + 1; token = v.place.token; started = true; after_return = ar; two = s.last && is_literal right_bracket (item t); last = is_literal right_bracket (item t) }
+  place_behind t bracket e =
+      let l : bracket ≡ is_literal right_bracket (item t) = e ∙ sym (literal_is right_bracket t) in
+      λ i. record { at = v.place.at + 1; starts = v.place.at + 1; token = v.place.token; started = true; after_return = ar; two = h.last i && l i; last = l i }
+
+  ends_as : (t : Token) (p : Pending) (setting : Setting) (b : Buffered) (end : ℕ) (bracket : Bool) → bracket ≡ is_strict_literal right_bracket inside t → setting.syntax ≡ sy → p.mark ≡ mark.Nothing → p.tag.syntax ≡ sy
+      → ReadsAs (record { setting = setting; place = ended ar bracket v.place; held = []; pending = p; text = b; end = end }) (behind t)
+  ends_as t p setting b end bracket e y m q =
+      whole v s h ar p setting b (ended ar bracket v.place) end (s.last && is_literal right_bracket (item t)) (is_literal right_bracket (item t)) y m q (place_behind t bracket e)
+
+  unliteral : (t : Token) → is_character t ≡ false → (s.two && is_strict_literal greater_than_sign inside t) ≡ false
+  unliteral t n = ap (λ b. s.two && b) (no_literal greater_than_sign inside t n) ∙ and-false s.two
+
+  -- the token goes on
+  gives_went : (p : Pending) (x : ℕ) (more : Chars) (result : Result TokenKind Stop) (new : Reading) → verdict ≡ verdicts.goes_on → text ≡ x ∷ more → p.tag.syntax ≡ sy → PendsAs sy inside p.mark p.run p.tag (text ++ c ∷ [])
+      → result ≡ Ok what.Nothing → new ≡ entries.gone v ar p → Gives (read verdict) s v result new
+  gives_went p x more result new g e y k q n =
+      let old = some_mark sy inside v.pending.mark v.pending.run v.pending.tag text x more v.place h.pends e in
+      subst (λ (z : Result TokenKind Stop). Gives (read verdict) s v z new) (sym q)
+      (gives_at (read verdict) s v (Ok what.Nothing) (entries.gone v ar p) new n
+      (record {
+        scanned = record { next = reader.entering ar (s.run ++ entry ∷ []) s.two s.last s; items = [] };
+        is = ap read g;
+        reads_as = went v s h ar entry p text x more refl e y k old;
+        told = nothing_told v (entries.gone v ar p) refl (λ z. refl);
+        setting = refl;
+      }))
+
+  -- a token begins after none
+  gives_begins : (m : TokenState) (result : Result TokenKind Stop) (new : Reading) → meant.Begins sy inside v.pending text c m → result ≡ Ok what.Nothing → new ≡ entries.with_begun v ar m → Gives (read verdict) s v result new
+  gives_begins m result new b q n =
+      let none : s.run ≡ [] = no_values s.run b.none in
+      let run : s.run ++ entry ∷ [] ≡ entry ∷ [] = ap (λ x. x ++ entry ∷ []) none in
+      subst (λ (z : Result TokenKind Stop). Gives (read verdict) s v z new) (sym q)
+      (gives_at (read verdict) s v (Ok what.Nothing) (entries.with_begun v ar m) new n
+      (record {
+        scanned = record { next = reader.entering ar (entry ∷ []) s.two s.last s; items = [] };
+        is = ap read b.goes ∙ ap (λ (r : List Entry). Ok (record { next = reader.entering ar r s.two s.last s; items = [] })) run;
+        reads_as = begins v s h ar entry (record { mark = m; run = []; tag = no_tag v.pending.tag.syntax }) v.setting v.text (begun ar v.place) s.two s.last refl refl refl
+            (λ i. record { at = v.place.at + 1; starts = v.place.at + 1; token = v.place.starts; started = true; after_return = ar; two = h.two i; last = h.last i })
+            h.syntax (b.pends (no_tag v.pending.tag.syntax) (ap no_tag h.syntax));
+        told = nothing_told v (entries.with_begun v ar m) refl (λ z. refl);
+        setting = refl;
+      }))
+
+  -- where memory may run out
+  spent : {P : TokenKind → Type 0} (result : Result TokenKind Stop) (new : Reading) → entries.OrSpent result P → ((answer : TokenKind) → P answer → Gives (read verdict) s v (Ok answer) new) → Gives (read verdict) s v result new
+  spent (Ok answer) new k f = f answer k
+  spent (Err (stop.Fault fault)) new k f = absurd k
+  spent (Err stop.NoMemory) new k f = tt
+
+  went_as : (p : Pending) (x : ℕ) (more : Chars) (result : Result TokenKind Stop) (new : Reading) → verdict ≡ verdicts.goes_on → text ≡ x ∷ more → p.tag.syntax ≡ sy → PendsAs sy inside p.mark p.run p.tag (text ++ c ∷ [])
+      → entries.Went v (entries.gone v ar p) result new → Gives (read verdict) s v result new
+  went_as p x more result new g e y k w = spent result new w (λ answer (q, n). gives_went p x more (Ok answer) new g e y k (ap Ok q) n)
+
+  -- a character of text, by itself or by a reference
+  gives_said : (t : Token) (d : ℕ) (bracket : Bool) (result : Result TokenKind Stop) (new : Reading) → read verdict ≡ Ok (record { next = behind t; items = item t ∷ [] }) → text_of t ≡ Some (d ∷ []) → is_line_feed t ≡ (d == line_feed)
+      → bracket ≡ is_strict_literal right_bracket inside t → entries.Says v d (ended ar bracket v.place) result new → Gives (read verdict) s v result new
+  gives_said t d bracket (Ok what.Nothing) new g x l e k =
+      gives_at (read verdict) s v (Ok what.Nothing) (entries.with_parts v (entries.undropped v.setting) (ended ar bracket v.place) (entries.marked mark.Nothing v.pending) new.text) new k.1.is
+      (record {
+        scanned = record { next = behind t; items = item t ∷ [] };
+        is = g;
+        reads_as = ends_as t (entries.marked mark.Nothing v.pending) (entries.undropped v.setting) new.text v.end bracket e refl refl h.syntax;
+        told = record {
+          more = d ∷ [];
+          texts = ap (λ o. joined o (Some [])) (ap text_of (item_token t) ∙ x);
+          text = k.1.text.text;
+          keeps = ap (λ b. not (v.setting.drops && b)) (ap is_line_feed (item_token t) ∙ l) ∙ ap not k.0;
+          some = λ z. absurd (cc);
+          started = λ z. refl;
+          still = λ z. refl;
+        };
+        setting = refl;
+      })
+  gives_said t d bracket (Ok what.Skipped) new g x l e k =
+      let q = both v.setting.drops (d == line_feed) k.0 in
+      gives_at (read verdict) s v (Ok what.Skipped) (entries.with_parts v (entries.undropped v.setting) (ended ar bracket v.place) (entries.marked mark.Nothing v.pending) v.text) new k.1
+      (record {
+        scanned = record { next = behind t; items = item t ∷ [] };
+        is = g;
+        reads_as = ends_as t (entries.marked mark.Nothing v.pending) (entries.undropped v.setting) v.text v.end bracket e refl refl h.syntax;
+        told = ((λ o bytes. a_line_feed (item t) q.0 refl (ap is_line_feed (item_token t) ∙ (l ∙ q.1))), refl);
+        setting = refl;
+      })
+  gives_said t d bracket (Err stop.NoMemory) new g x l e k = tt
+  gives_said t d bracket _ new g x l e k = absurd k
+
+  -- a literal character
+  gives_says : (result : Result TokenKind Stop) (new : Reading) → text ≡ [] → verdict ≡ verdicts.whole (character c) → entries.Enters v c ar (entries.judged v.setting v.place.two c move.EmitText) result new → Gives (read verdict) s v result new
+  gives_says result new e g k =
+      split (λ (m : Move). entries.Enters v c ar m result new → Gives (read verdict) s v result new) (v.place.two && is_strict_literal greater_than_sign inside (character c)) _ _
+      (λ q k. refuses (read verdict) v s StrictText result new h
+      (ap read g ∙ cond-true _ _ _ (ap (λ x. s.two && x) (literal_is greater_than_sign (character c)) ∙ (ap (λ b. b && is_strict_literal greater_than_sign inside (character c)) (sym h.two) ∙ q))) k)
+      (λ q k. gives_said (character c) c (entries.is_bracket v.setting c) result new
+      (completes (character c) g (ap (λ b. b && is_strict_literal greater_than_sign inside (character c)) (sym h.two) ∙ q) refl) refl refl refl k) k
+
+  -- the character that a reference stands for
+  gives_closes : (result : Result TokenKind Stop) (new : Reading) → meant.Closes sy inside v.pending text c → entries.Closes v ar (meaning sy (encode_utf8_all v.pending.run)) result new → Gives (read verdict) s v result new
+  gives_closes result new m k = by (meaning sy v.pending.run) refl (subst (λ (x : Chars). entries.Closes v ar (meaning sy x) result new) m.ascii k)
     where
-      by : (b : Bool) → v.setting.leads ≡ b → entries.Enters v c ar (if b then move.Ends whole_mark.Doctype else move.Refuses BadDoctype) result new → Gives (read verdict) s v result new
-      by true e k = gives_doctype v s h ar c result new g e k
-      by false e k =
-          refuses (read verdict) v s BadDoctype result new h
-          (ap read g ∙ (cond-false _ _ _ (ap (λ x. s.two && x) (literal_is v s h ar c greater_than_sign doctype) ∙ unliteral v s h ar c doctype refl) ∙ cond-true _ _ _ (ap (λ x. reader.is_doctype x && not v.setting.leads) (is_item v s h ar c doctype).token_is ∙ ap not e))) k
-  by_move move.Closes g result new k = gives_closes v s h ar c result new g k
-  by_move move.Reconsume g result new k = gives_stops v s h ar c result new g k
+      by : (o : Option ℕ) → meaning sy v.pending.run ≡ o → entries.Closes v ar (meaning sy v.pending.run) result new → Gives (read verdict) s v result new
+      by (Some d) e k =
+          gives_said (reference d) d false result new (completes (reference d) (m.goes ∙ ap (verdicts.told_of_reference v.pending.run) e) (unliteral (reference d) refl) refl) refl refl
+          (sym (no_literal right_bracket inside (reference d) refl)) (subst (λ (x : Option ℕ). entries.Closes v ar x result new) e k)
+      by None e k =
+          refuses (read verdict) v s (no_meaning (phase_of v.pending.mark)) result new h
+          (ap read (m.goes ∙ (ap (verdicts.told_of_reference v.pending.run) e ∙ ap verdicts.refused m.kind))) (subst (λ (x : Option ℕ). entries.Closes v ar x result new) e k)
+
+  -- a token that is whole and of which no text is told
+  gives_ended : (t : Token) (answer : TokenKind) (setting : Setting) (result : Result TokenKind Stop) (new : Reading) → read verdict ≡ Ok (record { next = behind t; items = item t ∷ [] }) → is_character t ≡ false
+      → result ≡ Ok answer → new ≡ entries.with_ended v ar setting → setting.syntax ≡ sy → IsTold v answer (item t ∷ []) (entries.with_ended v ar setting) → setting ≡ setting_after answer (entries.with_ended v ar setting) v.setting (item t ∷ [])
+      → Gives (read verdict) s v result new
+  gives_ended t answer setting result new g n q e y told k =
+      subst (λ (z : Result TokenKind Stop). Gives (read verdict) s v z new) (sym q)
+      (gives_at (read verdict) s v (Ok answer) (entries.with_ended v ar setting) new e
+      (record {
+        scanned = record { next = behind t; items = item t ∷ [] };
+        is = g;
+        reads_as = ends_as t (entries.marked mark.Nothing v.pending) setting v.text v.end false (sym (no_literal right_bracket inside t n)) y refl h.syntax;
+        told = told;
+        setting = k;
+      }))
+
+  one : (t : Token) → IsOne t (item t ∷ [])
+  one t = record { item = item t; one = refl; is = item_token t }
+
+  gives_comment : (result : Result TokenKind Stop) (new : Reading) → verdict ≡ verdicts.whole comment → entries.Ends v ar whole_mark.Comment result new → Gives (read verdict) s v result new
+  gives_comment result new g k =
+      gives_ended comment what.Skipped (entries.undropped v.setting) result new (completes comment g (unliteral comment refl) refl) refl k.0 k.1 refl ((λ o bytes. a_comment (one comment)), refl) refl
+
+  gives_doctype : (result : Result TokenKind Stop) (new : Reading) → verdict ≡ verdicts.whole doctype → v.setting.leads ≡ true → entries.Ends v ar whole_mark.Doctype result new → Gives (read verdict) s v result new
+  gives_doctype result new g l k =
+      gives_ended doctype what.Doctype (entries.after_doctype v.setting) result new (completes doctype g (unliteral doctype refl) (ap not l)) refl k.0 k.1 refl (one doctype, refl) refl
+
+  gives_section : (result : Result TokenKind Stop) (new : Reading) → verdict ≡ verdicts.whole (section v.pending.run) → entries.Ends v ar whole_mark.Section result new → Gives (read verdict) s v result new
+  gives_section result new g k = by v.pending.run refl
+    where
+      done : read verdict ≡ Ok (record { next = behind (section v.pending.run); items = item (section v.pending.run) ∷ [] })
+      done = completes (section v.pending.run) g (unliteral (section v.pending.run) refl) refl
+
+      by : (run : Chars) → v.pending.run ≡ run → Gives (read verdict) s v result new
+      by [] e =
+          gives_ended (section v.pending.run) what.Skipped (entries.undropped v.setting) result new done refl (k.0 ∙ ap (λ (x : Chars). Ok (if is_empty x then what.Skipped else what.Section)) e) k.1 refl
+          ((λ o bytes. an_empty_section (record { item = item (section v.pending.run); one = refl; is = item_token (section v.pending.run) ∙ ap section e })), refl) refl
+      by (x ∷ run) e =
+          gives_ended (section v.pending.run) what.Section (entries.undropped v.setting) result new done refl (k.0 ∙ ap (λ (x : Chars). Ok (if is_empty x then what.Skipped else what.Section)) e) k.1 refl
+          ((one (section v.pending.run), λ z. let q = sym e ∙ z in cc), refl) refl
+
+  -- a run that was text, and what is read afresh behind it
+  abbrev run_item : Token → Item
+  run_item t = reader.item_of inside t s.run
+
+  abbrev afresh : verdicts.Verdict → Result reader.Scanned Kind
+  afresh w = reader.told_first sy lim spot ar entry (reader.after_token sy lim spot s) w
+
+  gives_stops : (result : Result TokenKind Stop) (new : Reading) → meant.Stops sy inside v.pending text c → entries.Stops v c ar (marks.at_first inside c) result new → Gives (read verdict) s v result new
+  gives_stops result new m k = by (marks.at_first inside c) refl (simulates sy inside none [] c refl) k
+    where
+      none : Pending
+      none = record { mark = mark.Nothing; run = []; tag = v.pending.tag }
+
+      run_text : Chars
+      run_text = first_char v.pending.mark ∷ v.pending.run
+
+      at : (w : verdicts.Verdict) → verdicts.verdict sy inside [] c ≡ w → read verdict ≡ reader.with_item sy lim spot (run_item (kept (first_char v.pending.mark ∷ v.pending.run))) (afresh w)
+      at w e = ap read m.goes ∙ ap (λ x. reader.with_item sy lim spot (run_item (kept (first_char v.pending.mark ∷ v.pending.run))) (afresh x)) e
+
+      first_kept : (more : List Item) → keeps_first v.setting.drops (run_item (kept (first_char v.pending.mark ∷ v.pending.run)) ∷ more) ≡ true
+      first_kept more = ap (λ t. not (v.setting.drops && is_line_feed t)) (token_of_item inside (kept (first_char v.pending.mark ∷ v.pending.run)) s.run) ∙ ap not (and-false v.setting.drops)
+
+      by : (f : First) → marks.at_first inside c ≡ f → meant.Means sy inside none [] c (marks.of_first f) → entries.Stops v c ar f result new → Gives (read verdict) s v result new
+      by (first.Begins n) e g k = spent result new k (λ answer (e, k).
+          subst (λ (a : TokenKind). Gives (read verdict) s v (Ok a) new) (sym e)
+          (gives_at (read verdict) s v (Ok what.Nothing) (entries.with_parts v (entries.undropped v.setting) (begun ar (cut v.place)) (record { mark = n; run = []; tag = no_tag v.pending.tag.syntax }) new.text) new k.is
+          (record {
+            scanned = record { next = reader.entering ar (entry ∷ []) false false s; items = run_item (kept run_text) ∷ [] };
+            is = at verdicts.goes_on g.goes;
+            reads_as = begins v s h ar entry (record { mark = n; run = []; tag = no_tag v.pending.tag.syntax }) (entries.undropped v.setting) new.text (begun ar (cut v.place)) false false refl refl refl refl h.syntax (g.pends (no_tag v.pending.tag.syntax) (ap no_tag h.syntax));
+            told = record {
+              more = run_text ++ [];
+              texts = ap (λ t. joined (text_of t) (Some [])) (token_of_item inside (kept run_text) s.run);
+              text = k.text.text ∙ ap (λ x. v.text.text ++ x) (sym (append-nil run_text));
+              keeps = first_kept [];
+              some = λ z. absurd (cc);
+              started = λ z. refl;
+              still = λ z. refl;
+            };
+            setting = refl;
+          })))
+      by first.EmitText e g k = spent result new k (λ answer (e, k).
+          subst (λ (a : TokenKind). Gives (read verdict) s v (Ok a) new) (sym e)
+          (gives_at (read verdict) s v (Ok what.Nothing) (entries.with_parts v (entries.undropped v.setting) (ended ar (entries.is_bracket v.setting c) (cut v.place)) (entries.marked mark.Nothing v.pending) new.text) new k.is
+          (record {
+            scanned = record { next = reader.entering ar [] false (is_strict_literal right_bracket inside (character c)) s; items = run_item (kept run_text) ∷ reader.item_of inside (character c) (entry ∷ []) ∷ [] };
+            is = at (verdicts.whole (character c)) g.1;
+            reads_as = whole v s h ar (entries.marked mark.Nothing v.pending) (entries.undropped v.setting) new.text (ended ar (entries.is_bracket v.setting c) (cut v.place)) v.end false (is_strict_literal right_bracket inside (character c)) refl refl h.syntax refl;
+            told = record {
+              more = run_text ++ c ∷ [];
+              texts = ap (λ t. joined (text_of t) (Some (c ∷ []))) (token_of_item inside (kept run_text) s.run);
+              text = k.text.text;
+              keeps = first_kept (reader.item_of inside (character c) (entry ∷ []) ∷ []);
+              some = λ z. absurd (cc);
+              started = λ z. refl;
+              still = λ z. refl;
+            };
+            setting = refl;
+          })))
+      by (first.Refuses kind) e g k = refuses (read verdict) v s kind result new h (at (verdicts.refused kind) g) k
+
+  -- the tag's step, in the page's syntax
+  step_in : (st : TagState) (o : Result TagState Kind) → tag_step v.pending.tag.syntax (meaning v.pending.tag.syntax) st c ≡ o → tag_step sy (meaning sy) st c ≡ o
+  step_in st o e = ap (λ x. tag_step x (meaning x) st c) (sym h.syntax) ∙ e
+
+  may_step_more : (t : TagSoFar) → MayStep v.pending.tag → StepGives v.pending.tag c (Ok tag_step_more) t → MayStep t
+  may_step_more t m k = record { unfinished = k.0.1; unrefused = ap (λ (x : TagSoFar). x.refused) k.1 ∙ m.unrefused }
+
+  syntax_more : (t : TagSoFar) → StepGives v.pending.tag c (Ok tag_step_more) t → t.syntax ≡ sy
+  syntax_more t k = ap (λ (x : TagSoFar). x.syntax) k.1 ∙ h.syntax
+
+  token_is : (x : ℕ) (more : Chars) → text ≡ x ∷ more → reader.first_of s.run entry.first ≡ v.place.token
+  token_is x more e = sym h.token ∙ some_mark sy inside v.pending.mark v.pending.run v.pending.tag text x more v.place h.pends e
+
+  gives_tags : (result : Result TokenKind Stop) (new : Reading) → meant.Tags sy inside v.pending text c → entries.Tags v c ar (entries.marked mark.Tag v.pending) result new → Gives (read verdict) s v result new
+  gives_tags (Ok what.Nothing) new m k =
+      let t = k.0 in
+      let step = step_in v.pending.tag.state (Ok t.state) k.1.0.0 in
+      let on = tag_on-append sy (meaning sy) (Ok fresh) m.chars (c ∷ []) ∙ (ap (λ o. tag_on sy (meaning sy) o (c ∷ [])) m.read ∙ step) in
+      gives_went (record { mark = mark.Tag; run = v.pending.run; tag = t }) 60 m.chars (Ok what.Nothing) new
+      (m.goes ∙ (ap verdicts.told_of_tag on ∙ ap (λ b. verdicts.whole_if b (tag (tag_of t.state))) k.1.0.1))
+      m.some (syntax_more t k.1) (m.pends t on (may_step_more t m.may_step k.1)) refl k.2
+  gives_tags (Ok what.Tag) new m k =
+      let t = k.0 in
+      let e = k.1.0 in
+      let on = tag_on-append sy (meaning sy) (Ok fresh) m.chars (c ∷ []) ∙ (ap (λ o. tag_on sy (meaning sy) o (c ∷ [])) m.read ∙ step_in v.pending.tag.state (Ok e.last) e.step) in
+      let w : verdict ≡ verdicts.whole (tag (tag_of e.last)) = m.goes ∙ (ap verdicts.told_of_tag on ∙ ap (λ b. verdicts.whole_if b (tag (tag_of e.last))) e.whole) in
+      gives_at (read verdict) s v (Ok what.Tag) (tag_value t) new k.2
+      (record {
+        scanned = record { next = behind (tag (tag_of e.last)); items = item (tag (tag_of e.last)) ∷ [] };
+        is = completes (tag (tag_of e.last)) w (unliteral (tag (tag_of e.last)) refl) refl;
+        reads_as = ends_as (tag (tag_of e.last)) (record { mark = mark.Nothing; run = v.pending.run; tag = t }) (entries.after_tag v.setting (is_closing t.state.phase)) v.text v.place.at false (sym (no_literal right_bracket inside (tag (tag_of e.last)) refl)) refl refl (ap (λ (x : TagSoFar). x.syntax) k.1.1 ∙ h.syntax);
+        told = (
+          (
+            record {
+              item = item (tag (tag_of e.last));
+              one = refl;
+              is = item_token (tag (tag_of e.last)) ∙ ap (λ x. tag (parts_of x)) (sym e.kept);
+              first_is = item_first inside (tag (tag_of e.last)) s.run entry ∙ token_is 60 m.chars m.some;
+              last_is = item_last inside (tag (tag_of e.last)) s.run entry ∙ sym h.at;
+            },
+            ap (λ (x : TagState). is_last x.phase) e.kept ∙ e.whole,
+            refl,
+            refl,
+          ),
+          refl,
+        );
+        setting = leads_by (is_closing t.state.phase);
+      })
+    where
+      tag_value : TagSoFar → Reading
+      tag_value t = record { setting = entries.after_tag v.setting (is_closing t.state.phase); place = ended ar false v.place; held = []; pending = record { mark = mark.Nothing; run = v.pending.run; tag = t }; text = v.text; end = v.place.at }
+
+      leads_by : (b : Bool) → entries.after_tag v.setting b ≡ record { syntax = sy; limits = lim; inside = inside; leads = if b then v.setting.leads else false; drops = false }
+      leads_by true = λ i. record { syntax = sy; limits = lim; inside = inside; leads = and-true v.setting.leads i; drops = false }
+      leads_by false = λ i. record { syntax = sy; limits = lim; inside = inside; leads = and-false v.setting.leads i; drops = false }
+  gives_tags (Ok what.Text) new m k = absurd k
+  gives_tags (Ok what.Section) new m k = absurd k
+  gives_tags (Ok what.Doctype) new m k = absurd k
+  gives_tags (Ok what.Skipped) new m k = absurd k
+  gives_tags (Err (stop.Fault f)) new m k =
+      let on = tag_on-append sy (meaning sy) (Ok fresh) m.chars (c ∷ []) ∙ (ap (λ o. tag_on sy (meaning sy) o (c ∷ [])) m.read ∙ step_in v.pending.tag.state (Err k.0) k.2.0) in
+      record { kind = k.0; is = ap read (m.goes ∙ ap verdicts.told_of_tag on); fault_is = k.3 ∙ fault_is v s k.0 h }
+  gives_tags (Err stop.NoMemory) new m k = tt
+
+  -- in raw text what begins the end tag's name goes on
+  gives_keeps_tag : (n : ℕ) (result : Result TokenKind Stop) (new : Reading) → meant.KeepsTag sy inside v.pending text c n → entries.Tags v c ar (entries.kept_by (mark.RawEnd n) c v.pending) result new → Gives (read verdict) s v result new
+  gives_keeps_tag n (Ok what.Nothing) new m k =
+      let t = k.0 in
+      let z = sym (step_in v.pending.tag.state (Ok t.state) k.1.0.0) ∙ m.step in
+      let e : t.state ≡ m.state = cc in
+      gives_went (record { mark = mark.RawEnd n; run = v.pending.run ++ c ∷ []; tag = t }) 60 m.more (Ok what.Nothing) new m.goes m.some (syntax_more t k.1) (m.pends t e (may_step_more t m.may_step k.1)) refl k.2
+  gives_keeps_tag n (Ok what.Tag) new m k =
+      let e = k.1.0 in
+      let z = sym (step_in v.pending.tag.state (Ok e.last) e.step) ∙ m.step in
+      let q : e.last ≡ m.state = cc in
+      absurd (not_both_ways (is_last e.last.phase) e.whole (ap (λ (x : TagState). is_last x.phase) q ∙ m.unfinished))
+  gives_keeps_tag n (Ok what.Text) new m k = absurd k
+  gives_keeps_tag n (Ok what.Section) new m k = absurd k
+  gives_keeps_tag n (Ok what.Doctype) new m k = absurd k
+  gives_keeps_tag n (Ok what.Skipped) new m k = absurd k
+  gives_keeps_tag n (Err (stop.Fault f)) new m k = absurd (let z = sym m.step ∙ step_in v.pending.tag.state (Err k.0) k.2.0 in cc)
+  gives_keeps_tag n (Err stop.NoMemory) new m k = tt
+
+  by_move : (m : Move) → meant.Means sy inside v.pending text c m → (result : Result TokenKind Stop) (new : Reading) → entries.Enters v c ar (entries.judged v.setting v.place.two c m) result new → Gives (read verdict) s v result new
+  by_move (move.Begins n) g result new k = gives_begins n result new g k.0 k.1
+  by_move (move.Continue n) g result new k = gives_went (entries.marked n v.pending) g.first g.more result new g.goes g.some h.syntax g.pends k.0 k.1
+  by_move (move.Keeps n) g result new k = went_as (entries.kept_by n c v.pending) g.first g.more result new g.goes g.some h.syntax g.pends k
+  by_move (move.KeepsAfter b) g result new k =
+      went_as (record { mark = mark.Section brackets.None; run = (v.pending.run ++ bracket_text b) ++ c ∷ []; tag = v.pending.tag }) g.first g.more result new g.goes g.some h.syntax g.pends k
+  by_move move.Tags g result new k = gives_tags result new g k
+  by_move (move.KeepsTag n) g result new k = gives_keeps_tag n result new g k
+  by_move move.EmitText g result new k = gives_says result new g.0 g.1 k
+  by_move (move.Ends whole_mark.Comment) g result new k = gives_comment result new g k
+  by_move (move.Ends whole_mark.Section) g result new k = gives_section result new g k
+  by_move (move.Ends whole_mark.Doctype) g result new k =
+      split (λ (m : Move). entries.Enters v c ar m result new → Gives (read verdict) s v result new) v.setting.leads _ _ (λ e k. gives_doctype result new g e k)
+      (λ e k. refuses (read verdict) v s BadDoctype result new h
+      (ap read g ∙ (cond-false _ _ _ (ap (λ x. s.two && x) (literal_is greater_than_sign doctype) ∙ unliteral doctype refl) ∙ cond-true _ _ _ (ap (λ x. reader.is_doctype x && not v.setting.leads) (item_token doctype) ∙ ap not e))) k) k
+  by_move move.Closes g result new k = gives_closes result new g k
+  by_move move.Reconsume g result new k = gives_stops result new g k
   by_move (move.Refuses kind) g result new k = refuses (read verdict) v s kind result new h (ap read g) k
 
   -- one character is what the reader of bytes says

@@ -1,65 +1,59 @@
--- Characters of a tag that are taken at once are read like its bytes one after another.
-use Rattle.std.proofs.Common.{◌≡◌, ◌∙◌, ℕ, ◌+◌, ◌≤◌, ◌<◌, Bool, true, false, List, [], ◌∷◌, ◌++◌, length, take, refl, ap, sym, subst, Ok, append_assoc, arith, length-take-le}
-use Rattle.std.specs.Prelude.{◌&&◌, ◌==◌, ◌^◌, not, nat_le}
-use Rattle.std.proofs.lemmas.Bool.{leb-true, and_parts, and_from, or_from}
+-- Characters of a tag that are taken at once are read like its bytes one after another, in the tag or behind its `<`.
+use Rattle.std.proofs.Common.{◌≡◌, ◌∙◌, ℕ, ◌+◌, ◌≤◌, ◌<◌, Bool, true, false, List, [], ◌∷◌, ◌++◌, length, take, refl, ap, sym, subst, Ok, append_assoc, arith, length-take-le, eqb-true, zero, suc}
+use Rattle.std.specs.Prelude.{◌==◌, ◌^◌, not, nat_le, MatchBool}
+use Rattle.std.proofs.lemmas.Bool.{leb-true, and_parts, and_from, and_right, or_from}
 use Rattle.rx_chars.specs.Characters.{as_line_end}
 use Rattle.rx_chars.proofs.Utf8Answers.{first_whole}
 use Rattle.rx_scan.specs.declared.marks.TokenState.{TokenState}
 use Rattle.rx_scan.specs.declared.marks.TokenState.TheVariants as mark
 use Rattle.rx_scan.specs.declared.marks.Move.{Move}
-use Rattle.rx_scan.specs.declared.marks.Move.TheVariants as move
 use Rattle.rx_scan.specs.KnownTags as known_tags
-use Rattle.rx_scan.specs.Marks as marks
-use Rattle.rx_scan.proofs.Snoc.{and_false}
 use Rattle.rx_pages.specs.PageReader as reader
 use Rattle.rx_reader.specs.TagReader.{TagState}
 use Rattle.rx_tags.specs.Fronts.{is_printed, GoesTo}
 use Rattle.rx_tags.specs.TagBufs.{TagSoFar, MayStep, TakesMore}
-use Rattle.rx_tags.proofs.TakeLemmas.{is_none, goes_unfinished}
+use Rattle.rx_tags.proofs.TakeLemmas.{is_none, goes_unfinished, chosen as some_taken}
 use Rattle.rx_scan.specs.declared.answers.TokenKind.TheVariants as what
 use Rattle.rx_scan.specs.declared.places.Position.{Position}
 use Rattle.rx_scan.specs.Entries as entries
 use Rattle.rx_scan.specs.Fronts.{FeedsFront, with_state}
 use Rattle.rx_scan.specs.Places.{fed}
 use Rattle.rx_scan.specs.Scanner.{Reading}
-use Rattle.rx_scan.proofs.CharacterLemmas.{other_read, within_limit}
 use Rattle.rx_scan.proofs.RunLemmas.{ReadsOn, reads_more}
+use Rattle.rx_scan.specs.Pending.{Pending}
+use Rattle.rx_scan.specs.declared.places.Setting.{Setting}
+use Rattle.rx_scan.specs.Bytes.{IsOfTag}
+use Rattle.rx_scan.specs.Openings.{OpensTag, OpensFront, in_tag}
+use Rattle.rx_scan.proofs.ByteLemmas.{match_by, other_read, within_limit}
 
--- one such character is read as a tag's
-module _ (l new : Reading) (b : ℕ) (t : FeedsFront l (b ∷ []) new) where
-  printed : is_printed b ≡ true
-  printed = (and_parts _ _ t.printed).0
-
-  no_return : (b == 13) ≡ false
-  no_return = is_none is_printed b 13 printed refl
-
-  move_is : entries.move_at l b ≡ move.Tags
-  move_is = ap (λ (x : TokenState). entries.judged l.setting l.place.two b (marks.move_of l.setting.syntax l.setting.inside x b)) t.in_tag
+-- A byte that surely belongs to a tag is read as a tag's: in one, or behind its `<`.
+module _ (l new : Reading) (b : ℕ) (m : TokenState) (at : l.pending.mark ≡ m) (begun : entries.token_from m l.place ≡ l.place.token) (k : IsOfTag l.setting m b) (t : FeedsFront (in_tag l) (b ∷ []) new) where
+  known : IsOfTag l.setting l.pending.mark b
+  known = subst (λ (x : TokenState). IsOfTag l.setting x b) (sym at) k
 
   abbrev fed_tag : TagSoFar
   fed_tag = with_state l.pending.tag t.state
 
-  abbrev gone_by : TokenState → Reading
-  gone_by m = entries.gone l false (record { mark = m; run = l.pending.run; tag = fed_tag })
-
   tags : entries.Tags l b false (entries.marked mark.Tag l.pending) (Ok what.Nothing) new
-  tags = (fed_tag, (subst (λ (x : TagState). GoesTo l.pending.tag.syntax l.pending.tag.state b x) (sym t.goes.2) t.goes.1, refl), t.is ∙ ap gone_by t.in_tag)
+  tags = (fed_tag, (subst (λ (x : TagState). GoesTo l.pending.tag.syntax l.pending.tag.state b x) (sym t.goes.2) t.goes.1, refl), t.is)
 
-  enters : entries.Enters l b false (entries.move_at l b) (Ok what.Nothing) new
-  enters = subst (λ (x : Move). entries.Enters l b false x (Ok what.Nothing) new) (sym move_is) tags
+  not_long : (is : Bool) → entries.is_long l is ≡ false
+  not_long = within_limit l (subst (λ (x : ℕ). l.place.at < x + l.setting.limits.tag) (sym (ap (λ (x : TokenState). entries.token_from x l.place) at ∙ begun)) (omega (arith, t.tag)))
 
-  not_long : (known : Bool) → entries.is_long l known ≡ false
-  not_long = within_limit l (subst (λ (x : TokenState). l.place.at < entries.token_from x l.place + l.setting.limits.tag) (sym t.in_tag) (omega (arith, t.tag)))
+  opens_one : entries.Reads l b (Ok what.Nothing) new
+  opens_one =
+      other_read l new [] b b (Ok what.Nothing) t.held (first_whole b (let h = leb-true b 126 (and_parts (nat_le 32 b) (nat_le b 126) (and_parts (is_printed b) _ t.printed).0).1 in omega arith)) (omega (arith, t.page))
+      known.some (not_long (known_tags.is_tag l.pending.mark)) (not_long (known_tags.is_tag_with l.setting.syntax l.setting.inside l.pending.mark (as_line_end b)))
+      (or_from _ _ (and_right (not l.place.started) _ known.unmarked) (and_right l.place.after_return _ known.goes_on)) known.on_a_line
+      (subst (λ (x : Move). entries.Enters l b false x (Ok what.Nothing) new) (sym (ap (entries.judged l.setting l.place.two b) known.moves)) tags)
 
-  not_passed : entries.is_passed l.place b ≡ false
-  not_passed =
-      or_from _ _ (ap (λ x. not l.place.started && x) (is_none is_printed b 65279 printed refl) ∙ and_false (not l.place.started))
-      (ap (λ x. l.place.after_return && x) (is_none is_printed b 10 printed refl) ∙ and_false l.place.after_return)
-
-  reads_one : entries.Reads l b (Ok what.Nothing) new
-  reads_one =
-      other_read l new [] b b (Ok what.Nothing) t.held (first_whole b (let k = leb-true b 126 (and_parts (nat_le 32 b) (nat_le b 126) printed).1 in omega arith)) (omega (arith, t.page))
-      (is_none is_printed b 0 printed refl) (not_long (known_tags.is_tag l.pending.mark)) (not_long (known_tags.is_tag_with l.setting.syntax l.setting.inside l.pending.mark (as_line_end b))) not_passed no_return enters
+reads_one : (l new : Reading) (b : ℕ) → FeedsFront l (b ∷ []) new → entries.Reads l b (Ok what.Nothing) new
+reads_one l new b t =
+    let printed : is_printed b ≡ true = (and_parts (is_printed b) _ t.printed).0 in
+    let tagged : l ≡ in_tag l = λ i. record { setting = l.setting; place = l.place; held = l.held; pending = record { mark = t.in_tag i; run = l.pending.run; tag = l.pending.tag }; text = l.text; end = l.end } in
+    opens_one l new b mark.Tag t.in_tag refl
+    (record { moves = refl; known = refl; some = is_none is_printed b 0 printed refl; unmarked = is_none is_printed b 65279 printed refl; on_a_line = is_none is_printed b 13 printed refl; goes_on = is_none is_printed b 10 printed refl })
+    (subst (λ (x : Reading). FeedsFront x (b ∷ []) new) tagged t)
 
 -- behind the first one
 abbrev pub middle : Reading → TagState → Reading
@@ -115,3 +109,28 @@ feeds_steps l new front t m =
 -- there is room for the place behind it
 pub fed_fits : (tag next : TagSoFar) (bytes : List ℕ) (limit n at : ℕ) → limit ≤ length bytes → TakesMore tag (take limit bytes) n next → at + limit < 2 ^ 64 → at + n < 2 ^ 64
 fed_fits tag next bytes limit n at f t h = let k = t.front.fits in omega (arith, k, h, length-take-le limit bytes f)
+
+pub open_on : (old new : Reading) (s : reader.Scanning) (b : ℕ) (front : List ℕ) (l : Reading) (bytes : List ℕ) → ReadsOn old s bytes l → OpensFront l (b ∷ front) new → ReadsOn old s (bytes ++ b ∷ front) new
+open_on old new s b [] l bytes r t = reads_more old l s bytes r b new (opens_one l new b mark.LessThan t.opened refl t.begins t.feeds)
+open_on old new s b (d ∷ front) l bytes r t =
+    let tag : Reading = in_tag l in
+    let next : Reading = middle tag t.feeds.goes.0 in
+    subst (λ (x : List ℕ). ReadsOn old s x new) (append_assoc bytes (b ∷ []) (d ∷ front))
+    (feed_on old new s d front next (bytes ++ b ∷ []) (reads_more old l s bytes r b next (opens_one l next b mark.LessThan t.opened refl t.begins (first_feeds tag new b d front t.feeds))) (rest_feeds tag new b d front t.feeds))
+
+-- the first of some bytes is that of a front
+pub opens_taken : (setting : Setting) (bytes : List ℕ) (n : ℕ) → (n ≡ 0 → ⊥) → OpensTag setting bytes → OpensTag setting (take n bytes)
+opens_taken setting bytes zero z t = absurd (z refl)
+opens_taken setting [] (suc n) z t = absurd t
+opens_taken setting (c ∷ bytes) (suc n) z t = t
+
+-- where the mark was set before them
+abbrev pub pending_as : Reading → Pending → Reading
+pending_as v p = record { setting = v.setting; place = v.place; held = v.held; pending = p; text = v.text; end = v.end }
+
+pub opened_by : (v old new : Reading) (p : Pending) (bytes : List ℕ) (n : ℕ) (P : Type 0) → v ≡ old → p ≡ entries.marked mark.Tag v.pending → (n ≡ 0 → ⊥) → old.pending.mark ≡ mark.LessThan → ((setting : Setting) → OpensTag setting bytes)
+    → MatchBool (n == 0) (new ≡ pending_as v p) (FeedsFront (pending_as v p) (take n bytes) new) → MatchBool (n == 0) P (OpensFront old (take n bytes) new)
+opened_by v old new p bytes n P e q z o k m =
+    some_taken n P (OpensFront old (take n bytes) new) z
+    (match_by (n == 0) _ _ m (λ t f. absurd (z (eqb-true n 0 t)))
+    (λ t f. record { opened = o; begins = opens_taken old.setting bytes n z (k old.setting); feeds = subst (λ (x : Reading). FeedsFront x (take n bytes) new) (ap (pending_as v) q ∙ ap in_tag e) f }))

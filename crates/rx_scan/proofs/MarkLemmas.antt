@@ -1,5 +1,5 @@
 -- The byte order mark: what the reader of bytes makes of its bytes.
-use Rattle.std.proofs.Common.{◌≡◌, ◌∙◌, ◌⊎◌, ℕ, Bool, true, false, List, [], ◌∷◌, ◌++◌, refl, ap, sym, Result, Ok, Err, inl, inr, length, arith, append_assoc, append-nil}
+use Rattle.std.proofs.Common.{◌≡◌, ◌∙◌, ◌⊎◌, ℕ, Bool, true, false, List, [], ◌∷◌, ◌++◌, refl, ap, sym, subst, Result, Ok, Err, inl, inr, length, arith, append_assoc, append-nil}
 use Rattle.std.specs.Prelude.{◌&&◌, ◌||◌, ◌==◌, not, nat_le}
 use Rattle.std.proofs.lemmas.Bool.{cond-true, cond-false}
 use Rattle.std.proofs.lemmas.List.{length-append}
@@ -14,11 +14,12 @@ use Rattle.rx_grammar.specs.declared.faults.Fault.{Fault}
 use Rattle.rx_grammar.specs.declared.faults.Kind.{Kind}
 use Rattle.rx_grammar.specs.declared.limits.Limits.{Limits}
 use Rattle.rx_grammar.specs.Items.{Item, values, is_literal}
-use Rattle.rx_terms.proofs.Bools.{by_test}
+use Rattle.rx_terms.proofs.Bools.{by_test, split}
 use Rattle.rx_reader.proofs.ValueFaults.{snoc_front, snoc_last}
 use Rattle.rx_pages.specs.Scanner as verdicts
 use Rattle.rx_pages.specs.PageReader as reader
 use Rattle.rx_scan.specs.Steps.{mark_bytes, HasMark}
+use Rattle.rx_pages.proofs.ScanSteps.{scan_fault}
 
 -- only the mark's bytes are read as it
 pub mark_is : (bytes : List ℕ) → answer_of bytes ≡ Char byte_order_mark → bytes ≡ mark_bytes
@@ -102,60 +103,59 @@ module _ (sy : Syntax) (lim : Limits) (spot : reader.Spot) where
           (is_it (record { next = reader.passed s; items = [] }) x (sym (cond-true _ _ _ (ap (λ b. not b && true || s.after_return && byte_order_mark == line_feed) f)) ∙ (sym (cond-false _ _ _ t) ∙ e))))
 
   -- an entry starts the page
-  told_starts : (ar : Bool) (entry : Entry) (s : reader.Scanning) (w : verdicts.Verdict) (x : reader.Scanned) → reader.told_first sy lim spot ar entry s w ≡ Ok x → x.next.started ≡ true
-  told_starts ar entry s verdicts.goes_on x e = ap (λ (y : reader.Scanned). y.next.started) (is_it _ x e)
-  told_starts ar entry s (verdicts.whole token) x e =
-      let item = reader.item_of spot.inside token (s.run ++ entry ∷ []) in
-      by_test (s.two && is_literal 62 item) (λ t. no_fault _ x (sym (cond-true _ _ _ t) ∙ e))
-      (λ t. by_test (reader.is_doctype item.token && not spot.leads) (λ u. no_fault _ x (sym (cond-true _ _ _ u) ∙ (sym (cond-false _ _ _ t) ∙ e)))
-      (λ u. ap (λ (y : reader.Scanned). y.next.started) (is_it _ x (sym (cond-false _ _ _ u) ∙ (sym (cond-false _ _ _ t) ∙ e)))))
-  told_starts ar entry s (verdicts.ended token) x e = ap (λ (y : reader.Scanned). y.next.started) (is_it _ x e)
-  told_starts ar entry s (verdicts.refused kind) x e = no_fault kind x e
+  abbrev Starts : Result reader.Scanned Kind → Type 0
+  Starts (Ok x) = x.next.started ≡ true
+  Starts (Err kind) = Unit {0}
 
-  with_starts : (item : Item) (r : Result reader.Scanned Kind) (x : reader.Scanned) → ((y : reader.Scanned) → r ≡ Ok y → y.next.started ≡ true) → reader.with_item sy lim spot item r ≡ Ok x → x.next.started ≡ true
-  with_starts item (Ok y) x h e = ap (λ (z : reader.Scanned). z.next.started) (is_it _ x e) ∙ h y refl
-  with_starts item (Err kind) x h e = no_fault kind x e
+  told_starts : (ar : Bool) (entry : Entry) (s : reader.Scanning) (w : verdicts.Verdict) → Starts (reader.told_first sy lim spot ar entry s w)
+  told_starts ar entry s verdicts.goes_on = refl
+  told_starts ar entry s (verdicts.whole token) =
+      let item : Item = reader.item_of spot.inside token (s.run ++ entry ∷ []) in
+      split Starts (s.two && is_literal 62 item) _ _ (λ t. tt) (λ t. split Starts (reader.is_doctype item.token && not spot.leads) _ _ (λ u. tt) (λ u. refl))
+  told_starts ar entry s (verdicts.ended token) = refl
+  told_starts ar entry s (verdicts.refused kind) = tt
 
-  all_starts : (ar : Bool) (entry : Entry) (s : reader.Scanning) (w : verdicts.Verdict) (x : reader.Scanned) → reader.told sy lim spot ar entry s w ≡ Ok x → x.next.started ≡ true
-  all_starts ar entry s verdicts.goes_on x e = told_starts ar entry s verdicts.goes_on x e
-  all_starts ar entry s (verdicts.whole token) x e = told_starts ar entry s (verdicts.whole token) x e
-  all_starts ar entry s (verdicts.refused kind) x e = no_fault kind x e
-  all_starts ar entry s (verdicts.ended token) x e =
-      with_starts (reader.item_of spot.inside token s.run) _ x (λ y k. told_starts ar entry (reader.after_token sy lim spot s) (verdicts.verdict sy spot.inside [] entry.value) y k) e
+  with_starts : (item : Item) (r : Result reader.Scanned Kind) → Starts r → Starts (reader.with_item sy lim spot item r)
+  with_starts item (Ok x) h = h
+  with_starts item (Err kind) h = tt
 
-  char_starts : (c : ℕ) (s : reader.Scanning) (x : reader.Scanned) → reader.read_char sy lim spot c s ≡ Ok x → x.next.started ≡ true
-  char_starts c s x e =
+  all_starts : (ar : Bool) (entry : Entry) (s : reader.Scanning) (w : verdicts.Verdict) → Starts (reader.told sy lim spot ar entry s w)
+  all_starts ar entry s (verdicts.ended token) =
+      with_starts (reader.item_of spot.inside token s.run) (reader.told_first sy lim spot ar entry (reader.after_token sy lim spot s) (verdicts.verdict sy spot.inside [] entry.value)) (told_starts ar entry (reader.after_token sy lim spot s) (verdicts.verdict sy spot.inside [] entry.value))
+  all_starts ar entry s w = told_starts ar entry s w
+
+  char_starts : (c : ℕ) (s : reader.Scanning) → Starts (reader.read_char sy lim spot c s)
+  char_starts c s =
       let entry : Entry = record { value = as_line_end c; first = reader.starts_at s; last = s.at } in
-      by_test (not s.started && c == byte_order_mark || s.after_return && c == line_feed)
-      (λ t. ap (λ (y : reader.Scanned). y.next.started) (is_it (record { next = reader.passed s; items = [] }) x (sym (cond-true _ _ _ t) ∙ e)))
-      (λ t. by_test (reader.is_too_long sy lim spot (s.run ++ entry ∷ []) (reader.first_of s.run entry.first) entry.last)
-      (λ u. no_fault _ x (sym (cond-true _ _ _ u) ∙ (sym (cond-false _ _ _ t) ∙ e)))
-      (λ u. all_starts (c == carriage_return) entry s (verdicts.verdict sy spot.inside (values s.run) entry.value) x (sym (cond-false _ _ _ u) ∙ (sym (cond-false _ _ _ t) ∙ e))))
+      split Starts (not s.started && c == byte_order_mark || s.after_return && c == line_feed) _ _ (λ t. refl)
+      (λ t. split Starts (reader.is_too_long sy lim spot (s.run ++ entry ∷ []) (reader.first_of s.run entry.first) entry.last) _ _ (λ u. tt) (λ u. all_starts (c == carriage_return) entry s (verdicts.verdict sy spot.inside (values s.run) entry.value)))
 
   -- where no character is whole yet, the bytes were held
   pub record Held (s : reader.Scanning) (bytes : List ℕ) (now : reader.Scanning) : Type 0 where
     pub first : s.started ≡ false
     pub held : now.held ≡ s.held ++ bytes
 
-  unstarted : (byte : ℕ) (s : reader.Scanning) (x : reader.Scanned) → read byte s ≡ Ok x → x.next.started ≡ false → Held s (byte ∷ []) x.next
-  unstarted byte s x e n = by (answer_of (s.held ++ byte ∷ [])) (answered byte s x e)
-    where
-      by : (a : Utf8Step) → reader.read_answer sy lim spot (s.held ++ byte ∷ []) s a ≡ Ok x → Held s (byte ∷ []) x.next
-      by Bad e = no_fault _ x e
-      by More e =
-          let k = holds_on (s.held ++ byte ∷ []) s x e in
-          record { first = ap (λ (y : reader.Scanned). y.next.started) (sym k) ∙ n; held = ap (λ (y : reader.Scanned). y.next.held) k }
-      by (Char c) e =
-          by_test (c == 0) (λ t. no_fault _ x (sym (cond-true _ _ _ t) ∙ e))
-          (λ t. by_test (reader.is_too_long sy lim spot s.run (reader.token_at s) s.at) (λ u. no_fault _ x (sym (cond-true _ _ _ u) ∙ (sym (cond-false _ _ _ t) ∙ e)))
-          (λ u. absurd (let w : true ≡ false = sym (char_starts c s x (sym (cond-false _ _ _ u) ∙ (sym (cond-false _ _ _ t) ∙ e))) ∙ n in cc)))
+  module _ (byte : ℕ) (s : reader.Scanning) where
+    abbrev Unless : Result reader.Scanned Kind → Type 0
+    Unless (Ok x) = x.next.started ≡ false → Held s (byte ∷ []) x.next
+    Unless (Err kind) = Unit {0}
 
-  stays_err : (f : Fault) (bytes : List ℕ) → reader.scan_on sy lim spot (Err f) bytes ≡ Err f
-  stays_err f [] = refl
-  stays_err f (x ∷ bytes) = stays_err f bytes
+    not_started : (r : Result reader.Scanned Kind) → Starts r → Unless r
+    not_started (Ok x) h = λ n. absurd (let w : true ≡ false = sym h ∙ n in cc)
+    not_started (Err kind) h = tt
+
+    by_answer : (a : Utf8Step) → Unless (reader.read_answer sy lim spot (s.held ++ byte ∷ []) s a)
+    by_answer Bad = tt
+    by_answer More = split Unless (reader.is_too_long sy lim spot s.run (reader.token_at s) s.at) _ _ (λ t. tt) (λ t n. record { first = n; held = refl })
+    by_answer (Char c) =
+        split Unless (c == 0) _ _ (λ t. tt)
+        (λ t. split Unless (reader.is_too_long sy lim spot s.run (reader.token_at s) s.at) _ _ (λ u. tt) (λ u. not_started (reader.read_char sy lim spot c s) (char_starts c s)))
+
+    unstarted : (x : reader.Scanned) → read byte s ≡ Ok x → x.next.started ≡ false → Held s (byte ∷ []) x.next
+    unstarted x e = subst Unless (answered byte s x e) (by_answer (answer_of (s.held ++ byte ∷ [])))
 
   no_scan : {G : Type 0} (f : Fault) (bytes : List ℕ) (y : reader.Scanned) → reader.scan_on sy lim spot (Err f) bytes ≡ Ok y → G
-  no_scan f bytes y e = let w : ◌≡◌ {A = Result reader.Scanned Fault} (Err f) (Ok y) = sym (stays_err f bytes) ∙ e in absurd (cc)
+  no_scan f bytes y e = let w : ◌≡◌ {A = Result reader.Scanned Fault} (Err f) (Ok y) = sym (scan_fault sy lim spot f bytes) ∙ e in absurd (cc)
 
   same_scan : (a b : reader.Scanned) → ◌≡◌ {A = Result reader.Scanned Fault} (Ok a) (Ok b) → b ≡ a
   same_scan a b e = cc

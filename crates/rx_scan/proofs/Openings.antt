@@ -1,7 +1,7 @@
--- Behind `<!` a move says what the verdict is.
-use Rattle.std.proofs.Common.{◌≡◌, ◌∙◌, ℕ, ◌+◌, Bool, true, false, [], ◌∷◌, ◌++◌, refl, ap, sym, subst, Option, Some, append_assoc, append-nil, eqb-true, eq-eqb, cond, length, map, arith, slice_get, suc}
-use Rattle.std.specs.Prelude.{◌==◌, ◌&&◌, not, codes, drop}
-use Rattle.std.proofs.lemmas.Bool.{cond-true, cond-false, or_from}
+-- Behind `<!` a move says what the verdict is: by the words that may stand there, as texts.
+use Rattle.std.proofs.Common.{◌≡◌, ◌∙◌, ℕ, ◌+◌, Bool, true, false, [], ◌∷◌, ◌++◌, refl, ap, sym, subst, Option, append_assoc, append-nil, eqb-true, eq-eqb, cond, length, map, arith, slice_get}
+use Rattle.std.specs.Prelude.{◌==◌, ◌&&◌, not, codes, drop, ◌||◌}
+use Rattle.std.proofs.lemmas.Bool.{cond-true, cond-false, or_from, or_left, or_right, ne_eqb, and_right}
 use Rattle.std.proofs.lemmas.List.{length-append, length-map, map-append}
 use Rattle.std.proofs.Math.Seq.{drop-append_seam}
 use Rattle.rx_terms.specs.Ascii.{lowered_char}
@@ -16,7 +16,7 @@ use Rattle.rx_grammar.specs.PageFaults.{is_known_tag, meets_opening}
 use Rattle.rx_pages.specs.Scanner as told
 use Rattle.rx_pages.proofs.Reading.{markup_is}
 use Rattle.rx_pages.proofs.Comments.{bogus_at}
-use Rattle.rx_terms.proofs.Bools.{split, by_test, both}
+use Rattle.rx_terms.proofs.Bools.{split, by_test, both, untrue, not_both_ways}
 use Rattle.rx_reader.proofs.Fronts.{equal, begins_append}
 use Rattle.rx_scan.specs.declared.marks.Word.{Word}
 use Rattle.rx_scan.specs.declared.marks.Word.TheVariants as word
@@ -31,9 +31,115 @@ use Rattle.rx_scan.specs.declared.marks.Move.TheVariants as move
 use Rattle.rx_scan.specs.Marks as marks
 use Rattle.rx_scan.specs.Pending.{Pending, PendsAs, InOpened, InOpening, Behind, judge_of, CommentEnds, StrictEnds, SectionEnds, DoctypeEnds}
 use Rattle.rx_scan.specs.Meant.{Means, Goes}
-use Rattle.rx_scan.proofs.Snoc.{ends_one, either_way, and_false}
-use Rattle.rx_scan.proofs.MarkFronts.{slice_at, cancel}
-use Rattle.rx_scan.proofs.OpeningWords.{plain_is, begins_word, word_more, word_short, word_unlike, lowered_other, head_list, undeclared, next_no_greater, NoWord, no_word, begins_some, begins_none, same_char, strict_plain, first_of, word_length, exact}
+use Rattle.rx_scan.proofs.Snoc.{ends_one, either_way, cancel, word_at, short, all_at}
+use Rattle.std.proofs.Math.Bool.{and-false}
+use Rattle.std.specs.List.{list_all}
+
+-- HTML alone lowers the word of a document type
+abbrev pub plain_text : Syntax → Word → Chars → Chars
+plain_text Html word.Doctype text = lowered text
+plain_text s w text = text
+
+pub map_same : (text : Chars) → map (λ (c : ℕ). c) text ≡ text
+map_same [] = refl
+map_same (c ∷ text) = ap (λ x. c ∷ x) (map_same text)
+
+pub plain_is : (s : Syntax) (w : Word) (text : Chars) → map (marks.opening_char s w) text ≡ plain_text s w text
+plain_is Html word.Doctype text = refl
+plain_is _ _ text = map_same text
+
+abbrev pub begins_word : Syntax → Word → Chars → Bool
+begins_word s w text = begins_with (marks.opening_text s w) (plain_text s w text)
+
+module _ (s : Syntax) (w : Word) (t : Chars) (next : ℕ) (left : Chars) (e : marks.opening_text s w ≡ map (marks.opening_char s w) t ++ next ∷ left) where
+  -- the word with one more character, and as it is
+  pub word_more : (c : ℕ) (more : Chars) → begins_word s w (t ++ c ∷ more) ≡ ((next == marks.opening_char s w c) && begins_with left (map (marks.opening_char s w) more))
+  word_more c more =
+      ap (begins_with (marks.opening_text s w)) (sym (plain_is s w (t ++ c ∷ more)) ∙ map-append (marks.opening_char s w) t (c ∷ more))
+      ∙ (ap (λ x. begins_with x (map (marks.opening_char s w) t ++ map (marks.opening_char s w) (c ∷ more))) e ∙ cancel (map (marks.opening_char s w) t) (next ∷ left) (map (marks.opening_char s w) (c ∷ more)))
+
+  pub word_short : begins_word s w t ≡ false
+  word_short =
+      ap (begins_with (marks.opening_text s w)) (sym (plain_is s w t)) ∙ (ap (λ x. begins_with x (map (marks.opening_char s w) t)) e ∙ short (map (marks.opening_char s w) t) next left)
+
+  pub word_unlike : (c : ℕ) (more : Chars) → marks.is_next s w next c ≡ false → begins_word s w (t ++ c ∷ more) ≡ false
+  word_unlike c more h = word_more c more ∙ ap (λ b. b && begins_with left (map (marks.opening_char s w) more)) (either_way next (marks.opening_char s w c) ∙ h)
+
+-- a character that is lowered to `d` isn't another one of no letter
+pub lowered_other : (c d x : ℕ) → lowered_char c ≡ d → lowered_char x ≡ x → (x == d) ≡ false → (x == c) ≡ false
+lowered_other c d x e l n = by_test {G = (x == c) ≡ false} (x == c) (λ h. absurd (let q : x ≡ c = eqb-true x c h in let k : x ≡ d = sym l ∙ (ap lowered_char q ∙ e) in let z : (d == d) ≡ false = ap (λ (y : ℕ). y == d) (sym k) ∙ n in let u : true ≡ false = sym (equal d) ∙ z in cc)) (λ h. h)
+
+abbrev pub head_list : Chars → Chars
+head_list [] = []
+head_list (d ∷ left) = d ∷ []
+
+-- HTML: what begins as a word, and isn't that word, is no declaration
+pub undeclared : (i : Content) (w : Word) (first : ℕ) (rest : Chars) → marks.opening_char Html w first ∷ [] ≡ head_list (marks.opening_text Html w) → begins_word Html w (first ∷ rest) ≡ false → begins_declaration i (first ∷ rest) ≡ false
+undeclared i word.Dashes first rest e h = let q : first ≡ 45 = cc in rw q (or_from _ _ (or_from _ _ (rw q at h) refl) (and-false (has_sections i)))
+undeclared i word.Section first rest e h = let q : first ≡ 91 = cc in rw q (or_from _ _ refl (and_right (has_sections i) _ (rw q at h)))
+undeclared i word.Doctype first rest e h =
+    let q : lowered_char first ≡ 100 = cc in
+    or_from _ _ (or_from _ _ (ap (λ b. b && begins_with (codes "-") rest) (lowered_other first 100 45 q refl refl)) h)
+    (ap (λ b. has_sections i && (b && begins_with (codes "CDATA[") rest)) (lowered_other first 100 91 q refl refl) ∙ and-false (has_sections i))
+
+-- no word has a `>`
+pub no_greater : (s : Syntax) (w : Word) → list_all (λ d. not (d == 62)) (marks.opening_text s w) ≡ true
+no_greater Html word.Dashes = refl
+no_greater Xhtml word.Dashes = refl
+no_greater _ _ = refl
+
+-- the next character of a word is no `>`
+pub next_no_greater : (s : Syntax) (w : Word) (t : Chars) (next : ℕ) (left : Chars) (c : ℕ) → marks.opening_text s w ≡ map (marks.opening_char s w) t ++ next ∷ left → marks.opening_char s w c ≡ next → (c == 62) ≡ false
+next_no_greater s w t next left c e q =
+    ne_eqb c 62 (λ k. let n : next ≡ 62 = sym q ∙ (ap (marks.opening_char s w) k ∙ greater_same s w) in
+    not_both_ways (next == 62) (ap (λ x. x == 62) n) (untrue (next == 62) (all_at (λ d. not (d == 62)) (map (marks.opening_char s w) t) next left (ap (list_all (λ d. not (d == 62))) (sym e) ∙ no_greater s w))))
+  where
+    greater_same : (s : Syntax) (w : Word) → marks.opening_char s w 62 ≡ 62
+    greater_same Html word.Dashes = refl
+    greater_same _ _ = refl
+
+-- XHTML: the text begins with no word
+pub record NoWord (x : Chars) : Type 0 where
+  pub dashes : begins_with (codes "--") x ≡ false
+  pub doctype : begins_with (codes "DOCTYPE") x ≡ false
+  pub section : begins_with (codes "[CDATA[") x ≡ false
+
+-- with the first character of a word it begins with no other one
+pub no_word : (w : Word) (first : ℕ) (rest : Chars) → marks.opening_char Xhtml w first ∷ [] ≡ head_list (marks.opening_text Xhtml w) → begins_word Xhtml w (first ∷ rest) ≡ false → NoWord (first ∷ rest)
+no_word word.Dashes first rest e h = let q : first ≡ 45 = cc in rw q (record { dashes = rw q at h; doctype = refl; section = refl })
+no_word word.Doctype first rest e h = let q : first ≡ 68 = cc in rw q (record { dashes = refl; doctype = rw q at h; section = refl })
+no_word word.Section first rest e h = let q : first ≡ 91 = cc in rw q (record { dashes = refl; doctype = refl; section = rw q at h })
+
+-- what begins a word
+pub begins_some : (w : Word) (x : Chars) → begins_with x (marks.opening_text Xhtml w) ≡ true → meets_opening (33 ∷ x) ≡ true
+begins_some word.Dashes x h = or_left _ _ (or_left _ _ h)
+begins_some word.Section x h = or_right (begins_with x (codes "--") || begins_with (codes "--") x) _ (or_left _ _ (or_left _ _ h))
+begins_some word.Doctype x h =
+    or_right (begins_with x (codes "--") || begins_with (codes "--") x) _ (or_right (begins_with x (codes "[CDATA[") || begins_with (codes "[CDATA[") x) _ (or_left _ _ (or_left _ _ h)))
+
+-- and what begins none
+pub begins_none : (w : Word) (first : ℕ) (rest : Chars) → marks.opening_char Xhtml w first ∷ [] ≡ head_list (marks.opening_text Xhtml w) → begins_with (first ∷ rest) (marks.opening_text Xhtml w) ≡ false → begins_with (marks.opening_text Xhtml w) (first ∷ rest) ≡ false → meets_opening (33 ∷ first ∷ rest) ≡ false
+begins_none word.Dashes first rest e h k = let q : first ≡ 45 = cc in rw q (or_from _ _ (or_from _ _ (rw q at h) (rw q at k)) refl)
+begins_none word.Doctype first rest e h k = let q : first ≡ 68 = cc in rw q (or_from _ _ (or_from _ _ (rw q at h) (rw q at k)) refl)
+begins_none word.Section first rest e h k = let q : first ≡ 91 = cc in rw q (or_from _ _ (or_from _ _ (rw q at h) (rw q at k)) refl)
+
+pub same_char : (w : Word) (c : ℕ) → marks.opening_char Xhtml w c ≡ c
+same_char word.Dashes c = refl
+same_char _ c = refl
+
+pub strict_plain : (w : Word) (x : Chars) → plain_text Xhtml w x ≡ x
+strict_plain word.Dashes x = refl
+strict_plain _ x = refl
+
+-- the word is whole, or isn't
+pub word_length : (s : Syntax) (w : Word) (t : Chars) (next : ℕ) (left : Chars) → marks.opening_text s w ≡ map (marks.opening_char s w) t ++ next ∷ left → length (marks.opening_text s w) ≡ length t + (length left + 1)
+word_length s w t next left e =
+    ap length e ∙ (length-append (map (marks.opening_char s w) t) (next ∷ left) ∙ ap (λ k. k + length (next ∷ left)) (length-map t (marks.opening_char s w)) ∙ (omega arith))
+
+-- the characters of a word that is whole
+pub exact : (s : Syntax) (w : Word) (t : Chars) (c next : ℕ) (left : Chars) → marks.opening_text s w ≡ map (marks.opening_char s w) t ++ next ∷ left → marks.opening_char s w c ≡ next → left ≡ [] → marks.opening_text s w ≡ plain_text s w (t ++ c ∷ [])
+exact s w t c next left e q l =
+    e ∙ (ap (λ x. map (marks.opening_char s w) t ++ next ∷ x) l ∙ (ap (λ x. map (marks.opening_char s w) t ++ x ∷ []) (sym q) ∙ (sym (map-append (marks.opening_char s w) t (c ∷ [])) ∙ plain_is s w (t ++ c ∷ []))))
 
 -- in markup what begins with `<!` is no tag
 pub no_tag : (s : Syntax) (i : Content) (more : Chars) → has_markup i ≡ true → is_known_tag s i (60 ∷ 33 ∷ more) ≡ false
@@ -78,11 +184,6 @@ module _ (s : Syntax) (i : Content) (p : Pending) (text : Chars) (c : ℕ) (w : 
   abbrev t : Chars
   t = h.first ∷ h.chars
 
-  -- where the move is the one of the word's next character
-  at_next : (P : Option ℕ → Type 0) → P (Some h.next) → P (slice_get (marks.opening_text s w) n)
-  at_next P k =
-      subst P (sym (ap (λ x. slice_get x n) h.word ∙ (ap (λ m. slice_get (map (marks.opening_char s w) t ++ h.next ∷ h.left) m) (sym (length-map t (marks.opening_char s w) ∙ h.count)) ∙ slice_at (map (marks.opening_char s w) t) (h.next ∷ h.left)))) k
-
   -- the word goes on
   longer : (d : ℕ) (left : Chars) → h.left ≡ d ∷ left → marks.opening_char s w c ≡ h.next → told.verdict s i text c ≡ told.goes_on → Means s i p text c (move.Continue (mark.Opening w (n + 1)))
   longer d left l q v =
@@ -110,21 +211,19 @@ module _ (s : Syntax) (i : Content) (p : Pending) (text : Chars) (c : ℕ) (w : 
 
   part_word : (d : ℕ) (left : Chars) → h.left ≡ d ∷ left → (n + 1 == length (marks.opening_text s w)) ≡ false
   part_word d left l =
-      ap (λ k. n + 1 == k) (word_length s w t h.next h.left h.word ∙ (ap (λ x. length t + (length x + 1)) l ∙ ap (λ k. k + (length (d ∷ left) + 1)) h.count)) ∙ part n (length left)
-    where
-      part : (n k : ℕ) → (n + 1 == n + (suc k + 1)) ≡ false
-      part n k = by_test {G = (n + 1 == n + (suc k + 1)) ≡ false} (n + 1 == n + (suc k + 1)) (λ h. absurd (let e : n + 1 ≡ n + (suc k + 1) = eqb-true (n + 1) (n + (suc k + 1)) h in omega arith)) (λ h. h)
+      ap (λ k. n + 1 == k) (word_length s w t h.next h.left h.word ∙ (ap (λ x. length t + (length x + 1)) l ∙ ap (λ k. k + (length (d ∷ left) + 1)) h.count)) ∙ ne_eqb (n + 1) (n + (length (d ∷ left) + 1)) (λ e. omega arith)
 
   more_means : (left : Chars) → h.left ≡ left → marks.opening_char s w c ≡ h.next → (h.left ≡ [] → Means s i p text c (marks.begun_word s i w)) → ((d : ℕ) (more : Chars) → h.left ≡ d ∷ more → told.verdict s i text c ≡ told.goes_on) → Means s i p text c (marks.more_of_word s i w (n + 1))
   more_means [] l q begun v = subst (λ (b : Bool). Means s i p text c (cond b (marks.begun_word s i w) (move.Continue (mark.Opening w (n + 1))))) (sym (whole_word l)) (begun l)
   more_means (d ∷ left) l q begun v = subst (λ (b : Bool). Means s i p text c (cond b (marks.begun_word s i w) (move.Continue (mark.Opening w (n + 1))))) (sym (part_word d left l)) (longer d left l q (v d left l))
 
   by_next : (marks.opening_char s w c ≡ h.next → Means s i p text c (marks.more_of_word s i w (n + 1))) → (marks.is_next s w h.next c ≡ false → Means s i p text c (marks.unlike s c)) → Means s i p text c (marks.in_word s i w (slice_get (marks.opening_text s w) n) n c)
-  by_next f g = at_next (λ o. Means s i p text c (marks.in_word s i w o n c)) (split (λ (m : Move). Means s i p text c m) (marks.is_next s w h.next c) _ _ (λ k. f (eqb-true (marks.opening_char s w c) h.next k)) g)
+  by_next f g = subst (λ (o : Option ℕ). Means s i p text c (marks.in_word s i w o n c)) (sym (word_at (marks.opening_text s w) (map (marks.opening_char s w) t) (h.next ∷ h.left) n h.word (length-map t (marks.opening_char s w) ∙ h.count)))
+      (split (λ (m : Move). Means s i p text c m) (marks.is_next s w h.next c) _ _ (λ k. f (eqb-true (marks.opening_char s w c) h.next k)) g)
 
   -- the first one
   begins_as : marks.opening_char s w h.first ∷ [] ≡ head_list (marks.opening_text s w)
-  begins_as = first_of s w h.first h.chars h.next h.left h.word
+  begins_as = sym (ap head_list h.word)
 
 -- a word that is whole, and the mark behind it
 module _ (s : Syntax) (i : Content) (p : Pending) (text : Chars) (c : ℕ) (t : Chars) (are : text ≡ 60 ∷ 33 ∷ t) (markup : has_markup i ≡ true) where
@@ -140,12 +239,6 @@ module _ (s : Syntax) (i : Content) (p : Pending) (text : Chars) (c : ℕ) (t : 
 
   goes_behind : (m : TokenState) → told.verdict s i text c ≡ told.goes_on → PendsAs s i m p.run p.tag (text ++ c ∷ []) → Goes s i p text c m p.run
   goes_behind m v h = record { first = 60; more = 33 ∷ t; some = are; goes = v; pends = h }
-
-comment_start : CommentEnds comments.Start []
-comment_start = record { empty = refl; lone = refl; dash = refl; dashes = refl; bang = refl }
-
-strict_start : StrictEnds strict.Text []
-strict_start = record { dash = refl; dashes = refl }
 
 section_start : (kept : Chars) → kept ≡ [] → SectionEnds brackets.None kept []
 section_start kept e = record { are = sym (append-nil kept ∙ e); one = refl; two = refl }
@@ -166,7 +259,7 @@ module _ (i : Content) (p : Pending) (text : Chars) (c : ℕ) where
   html_begun word.Dashes n h q l =
       let t = h.first ∷ h.chars in
       goes_behind Html i p text c t h.are h.markup (mark.Comment comments.Start) (html_verdict word.Dashes n h q)
-      (begun_means Html i p text c t h.are h.markup (codes "--") (sym (exact Html word.Dashes t c h.next h.left h.word q l)) (judge_of Html i (mark.Comment comments.Start)) (CommentEnds comments.Start) (λ more d. refl) comment_start)
+      (begun_means Html i p text c t h.are h.markup (codes "--") (sym (exact Html word.Dashes t c h.next h.left h.word q l)) (judge_of Html i (mark.Comment comments.Start)) (CommentEnds comments.Start) (λ more d. refl) (record { empty = refl; lone = refl; dash = refl; dashes = refl; bang = refl }))
   html_begun word.Section n h q l =
       let t = h.first ∷ h.chars in
       subst (λ (b : Bool). Means Html i p text c (cond b (move.Continue (mark.Section brackets.None)) (move.Refuses Outside))) (sym h.looked)
@@ -175,7 +268,8 @@ module _ (i : Content) (p : Pending) (text : Chars) (c : ℕ) where
   html_begun word.Doctype n h q l =
       let t = h.first ∷ h.chars in
       let x = t ++ c ∷ [] in
-      let low : lowered_char h.first ≡ 100 = lowered_first h.first (begins_as Html i p text c word.Doctype n h) in
+      let first : lowered_char h.first ∷ [] ≡ 100 ∷ [] = begins_as Html i p text c word.Doctype n h in
+      let low : lowered_char h.first ≡ 100 = cc in
       let size : length x ≡ 7 = sym (length-map x lowered_char) ∙ ap length (sym (exact Html word.Doctype t c h.next h.left h.word q l)) in
       goes_behind Html i p text c t h.are h.markup (mark.Doctype phases.Keyword) (html_verdict word.Doctype n h q)
       (begun_means Html i p text c t h.are h.markup x refl (judge_of Html i (mark.Doctype phases.Keyword)) (DoctypeEnds Html phases.Keyword)
@@ -183,9 +277,6 @@ module _ (i : Content) (p : Pending) (text : Chars) (c : ℕ) where
       ∙ (cond-true _ _ _ (begun more) ∙ ap (λ y. told.in_doctype Html y d) (ap (λ k. drop k (x ++ more)) (sym size) ∙ drop-append_seam x more)))
       (doctype_start Html))
     where
-      lowered_first : (first : ℕ) → lowered_char first ∷ [] ≡ 100 ∷ [] → lowered_char first ≡ 100
-      lowered_first first e = cc
-
       begun : (more : Chars) → begins_with (codes "doctype") (lowered ((h.first ∷ h.chars ++ c ∷ []) ++ more)) ≡ true
       begun more =
           ap (λ y. begins_with (codes "doctype") (lowered y)) (append_assoc (h.first ∷ h.chars) (c ∷ []) more)
@@ -214,7 +305,7 @@ module _ (i : Content) (p : Pending) (text : Chars) (c : ℕ) where
   strict_goes w n h q d more l =
       let t = h.first ∷ h.chars in
       let x = t ++ c ∷ [] in
-      let yet : begins_word Xhtml w x ≡ false = word_more Xhtml w t h.next h.left h.word c [] ∙ (ap (λ y. (h.next == marks.opening_char Xhtml w c) && begins_with y []) l ∙ and_false (h.next == marks.opening_char Xhtml w c)) in
+      let yet : begins_word Xhtml w x ≡ false = word_more Xhtml w t h.next h.left h.word c [] ∙ (ap (λ y. (h.next == marks.opening_char Xhtml w c) && begins_with y []) l ∙ and-false (h.next == marks.opening_char Xhtml w c)) in
       let front : marks.opening_text Xhtml w ≡ x ++ h.left = text_is w n h ∙ (ap (λ y. t ++ y ∷ h.left) (sym q ∙ same_char w c) ∙ sym (append_assoc t (c ∷ []) h.left)) in
       strict_at w n h
       ∙ (cond-false _ _ _ (ap (λ b. b && not (has_sections i)) (no_word w h.first (h.chars ++ c ∷ []) (begins_as Xhtml i p text c w n h) yet).section)
@@ -237,7 +328,7 @@ module _ (i : Content) (p : Pending) (text : Chars) (c : ℕ) where
       let t = h.first ∷ h.chars in
       let e : t ++ c ∷ [] ≡ codes "--" = sym (exact Xhtml word.Dashes t c h.next h.left h.word q l) in
       goes_behind Xhtml i p text c t h.are h.markup (mark.StrictComment strict.Text) (strict_at word.Dashes n h ∙ ap (told.in_opening i) e)
-      (begun_means Xhtml i p text c t h.are h.markup (codes "--") e (judge_of Xhtml i (mark.StrictComment strict.Text)) (StrictEnds strict.Text) (λ more d. refl) strict_start)
+      (begun_means Xhtml i p text c t h.are h.markup (codes "--") e (judge_of Xhtml i (mark.StrictComment strict.Text)) (StrictEnds strict.Text) (λ more d. refl) (record { dash = refl; dashes = refl }))
   strict_begun word.Doctype n h q l =
       let t = h.first ∷ h.chars in
       let e : t ++ c ∷ [] ≡ codes "DOCTYPE" = sym (exact Xhtml word.Doctype t c h.next h.left h.word q l) in
@@ -273,19 +364,18 @@ module _ (s : Syntax) (i : Content) (p : Pending) (text : Chars) (c : ℕ) (h : 
 
 pub at_opened_means : (s : Syntax) (i : Content) (p : Pending) (text : Chars) (c : ℕ) → InOpened s i p.run text → Means s i p text c (marks.at_opened s i c)
 at_opened_means Html i p text c h =
-    let v : (c == 62) ≡ false → told.verdict Html i text c ≡ told.goes_on = λ n. ap (λ x. told.verdict Html i x c) h.are ∙ (bogus_verdict i [] c h.markup (and_false (has_sections i)) ∙ ap (λ b. told.whole_if b comment) n) in
+    let v : (c == 62) ≡ false → told.verdict Html i text c ≡ told.goes_on = λ n. ap (λ x. told.verdict Html i x c) h.are ∙ (bogus_verdict i [] c h.markup (and-false (has_sections i)) ∙ ap (λ b. told.whole_if b comment) n) in
     split (λ (m : Move). Means Html i p text c m) (c == 45) _ _
     (λ k. let e : c ≡ 45 = eqb-true c 45 k in opened Html i p text c h word.Dashes 45 [] (ap (λ x. x ∷ 45 ∷ []) (sym e)) refl (v (ap (λ x. x == 62) e)))
     (λ a. split (λ (m : Move). Means Html i p text c m) (lowered_char c == 100) _ _
     (λ k. let e : lowered_char c ≡ 100 = eqb-true (lowered_char c) 100 k in opened Html i p text c h word.Doctype 111 (codes "ctype") (ap (λ x. x ∷ codes "octype") (sym e)) refl (v (either_way c 62 ∙ lowered_other c 100 62 e refl refl)))
     (λ b. split (λ (m : Move). Means Html i p text c m) (c == 91 && has_sections i) _ _
     (λ k. let q = both (c == 91) (has_sections i) k in let e : c ≡ 91 = eqb-true c 91 q.0 in opened Html i p text c h word.Section 67 (codes "DATA[") (ap (λ x. x ∷ codes "CDATA[") (sym e)) q.1 (v (ap (λ x. x == 62) e)))
-    (λ d. in_bogus_after i p [] c h.markup (and_false (has_sections i)) (λ more. undeclared_at more a b d) text h.are)))
+    (λ d. in_bogus_after i p [] c h.markup (and-false (has_sections i)) (λ more. undeclared_at more a b d) text h.are)))
   where
     swapped : (a b d : Bool) → (b && a) ≡ false → (a && (b && d)) ≡ false
     swapped true true d h = absurd (cc)
-    swapped true false d h = refl
-    swapped false b d h = refl
+    swapped _ _ d h = refl
 
     undeclared_at : (more : Chars) → (c == 45) ≡ false → (lowered_char c == 100) ≡ false → (c == 91 && has_sections i) ≡ false → begins_declaration i (c ∷ more) ≡ false
     undeclared_at more a b d =
@@ -299,10 +389,10 @@ at_opened_means Xhtml i p text c h =
     (λ k. let e : c ≡ 68 = eqb-true c 68 k in opened Xhtml i p text c h word.Doctype 79 (codes "CTYPE") (ap (λ x. x ∷ codes "OCTYPE") (sym e)) refl (v ∙ ap (λ x. told.in_opening i (x ∷ [])) e))
     (λ b. split (λ (m : Move). Means Xhtml i p text c m) (c == 91 && true) _ _
     (λ k. let e : c ≡ 91 = eqb-true c 91 (both (c == 91) true k).0 in opened Xhtml i p text c h word.Section 67 (codes "DATA[") (ap (λ x. x ∷ codes "CDATA[") (sym e)) refl (v ∙ ap (λ x. told.in_opening i (x ∷ [])) e))
-    (λ d. v ∙ (cond-false _ _ _ (ap (λ t. (t && false) && not (has_sections i)) (either_way 91 c) ∙ ap (λ t. t && not (has_sections i)) (and_false (c == 91))) ∙ cond-false _ _ _ (none a b d)))))
+    (λ d. v ∙ (cond-false _ _ _ (ap (λ t. (t && false) && not (has_sections i)) (either_way 91 c) ∙ ap (λ t. t && not (has_sections i)) (and-false (c == 91))) ∙ cond-false _ _ _ (none a b d)))))
   where
     none : (c == 45) ≡ false → (c == 68) ≡ false → (c == 91 && true) ≡ false → meets_opening (33 ∷ c ∷ []) ≡ false
     none a b d =
         or_from _ _ (or_from _ _ (ap (λ t. t && true) a) (ap (λ t. t && false) (either_way 45 c ∙ a)))
-        (or_from _ _ (or_from _ _ d (ap (λ t. t && false) (either_way 91 c) ∙ and_false (c == 91)))
+        (or_from _ _ (or_from _ _ d (ap (λ t. t && false) (either_way 91 c) ∙ and-false (c == 91)))
         (or_from _ _ (or_from _ _ (ap (λ t. t && true) b) (ap (λ t. t && false) (either_way 68 c ∙ b))) refl))

@@ -1,40 +1,36 @@
--- Plain bytes, and the plain characters that they are.
-use Rattle.std.proofs.Common.{◌≡◌, ◌∙◌, inl, inr, ℕ, ◌≤◌, Bool, true, false, not, List, [], ◌∷◌, refl, ap, sym, arith, encode_utf8, encode_utf8_all}
-use Rattle.std.specs.Prelude.{◌||◌, ◌==◌, nat_le}
+-- Plain bytes, and the plain characters that they are, also above ASCII.
+use Rattle.std.proofs.Common.{◌≡◌, ◌∙◌, inl, inr, ℕ, ◌≤◌, Bool, true, false, not, List, [], ◌∷◌, refl, ap, sym, arith, encode_utf8, encode_utf8_all, length, take, drop, get_or, subst, take-add}
+use Rattle.std.specs.Prelude.{◌==◌, nat_le, ◌&&◌, ◌+◌}
 use Rattle.std.specs.List.{list_all}
 use Rattle.std.specs.Str.{IsUtf8}
 use Rattle.std.proofs.lemmas.Bool.{and_parts, and_from, both_ways, cases_lt, leb-false, lt-ltb, eqb-true}
 use Rattle.std.proofs.lemmas.Bool.Decides.{nat_tests}
 use Rattle.std.proofs.lemmas.List.Folds.{list_all-append}
-use Rattle.std.proofs.lemmas.Str.{encode_ascii}
+use Rattle.std.proofs.lemmas.Str.{encode_ascii, IsUtf8-append, IsUtf8-encode}
 use Rattle.rx_terms.specs.Ascii.{is_ascii}
 use Rattle.rx_terms.proofs.CharLemmas.{ascii-utf8}
-use Rattle.rx_terms.proofs.Bools.{by_test}
+use Rattle.rx_terms.proofs.Bools.{by_test, neither, untrue}
 use Rattle.rx_scan.specs.Plain.{is_stop, is_plain, is_plain_ascii}
+use Rattle.rx_chars.specs.Utf8.{is_well_formed, scalar_value, is_in, tail}
+use Rattle.rx_chars.specs.Held.{fits_second}
+use Rattle.rx_chars.proofs.Utf8Rows.{whole_two, whole_three, whole_four}
+use Rattle.rx_chars.proofs.Utf8Forms.{tables_agree}
+use Rattle.rx_scan.specs.WideChars.{BeginsWide}
 
 -- a plain character is none that isn't
 pub is_none : (b d : ℕ) → is_plain b ≡ true → is_plain d ≡ false → (b == d) ≡ false
 is_none b d h k = by_test {G = (b == d) ≡ false} (b == d) (λ e. absurd (both_ways (is_plain d) k (ap is_plain (sym (eqb-true b d e)) ∙ h))) (λ e. e)
 
 -- what holds of each byte that passes one test holds of all
-weaker : (p q : ℕ → Bool) → ((x : ℕ) → p x ≡ true → q x ≡ true) → (xs : List ℕ) → list_all p xs ≡ true → list_all q xs ≡ true
+pub weaker : (p q : ℕ → Bool) → ((x : ℕ) → p x ≡ true → q x ≡ true) → (xs : List ℕ) → list_all p xs ≡ true → list_all q xs ≡ true
 weaker p q f [] h = refl
 weaker p q f (x ∷ xs) h = let k = and_parts (p x) _ h in and_from (q x) _ (f x k.0) (weaker p q f xs k.1)
 
 one_plain : (x : ℕ) → is_plain_ascii x ≡ true → is_plain x ≡ true
-one_plain x h = by (is_stop x) (nat_le 128 x) h
-  where
-    by : (a b : Bool) → not (a || b) ≡ true → not a ≡ true
-    by true b h = h
-    by false b h = refl
+one_plain x h = ap not (neither (is_stop x) (nat_le 128 x) (untrue _ h)).0
 
 one_ascii : (x : ℕ) → is_plain_ascii x ≡ true → is_ascii x ≡ true
-one_ascii x h = lt-ltb x 128 (leb-false 128 x (by (is_stop x) (nat_le 128 x) h))
-  where
-    by : (a b : Bool) → not (a || b) ≡ true → b ≡ false
-    by true b h = absurd (cc)
-    by false true h = absurd (cc)
-    by false false h = refl
+one_ascii x h = lt-ltb x 128 (leb-false 128 x (neither (is_stop x) (nat_le 128 x) (untrue _ h)).1)
 
 pub ascii_plain : (xs : List ℕ) → list_all is_plain_ascii xs ≡ true → list_all is_plain xs ≡ true
 ascii_plain xs h = weaker is_plain_ascii is_plain one_plain xs h
@@ -58,3 +54,68 @@ chars_plain [] h = refl
 chars_plain (c ∷ cs) h =
     let k = and_parts (list_all is_plain (encode_utf8 c)) _ (sym (list_all-append is_plain (encode_utf8 c) (encode_utf8_all cs)) ∙ h) in
     and_from (is_plain c) _ (char_plain c k.0) (chars_plain cs k.1)
+
+-- a well-formed sequence is text
+formed_text : (bytes : List ℕ) → is_well_formed bytes ≡ true → IsUtf8 bytes
+formed_text bytes h =
+    let k = (tables_agree bytes (scalar_value bytes)).0 (record { well_formed = h; scalar = refl }) in
+    subst (λ (x : List ℕ). IsUtf8 x) k.1 (IsUtf8-encode (scalar_value bytes) k.0)
+
+-- its bytes are no ASCII
+tail_high : (b : ℕ) → is_in tail b ≡ true → 128 ≤ b
+tail_high b h = grind (arith, nat_tests)
+
+second_high : (a b : ℕ) → fits_second a b ≡ true → 128 ≤ b
+second_high a b h = grind (arith, nat_tests)
+
+first_two : (a : ℕ) → is_in (0xC2, 0xDF) a ≡ true → 128 ≤ a
+first_two a h = grind (arith, nat_tests)
+
+first_three : (a : ℕ) → is_in (0xE0, 0xEF) a ≡ true → 128 ≤ a
+first_three a h = grind (arith, nat_tests)
+
+first_four : (a : ℕ) → is_in (0xF0, 0xF4) a ≡ true → 128 ≤ a
+first_four a h = grind (arith, nat_tests)
+
+plain_on : (a : ℕ) (bytes : List ℕ) → 128 ≤ a → list_all is_plain bytes ≡ true → list_all is_plain (a ∷ bytes) ≡ true
+plain_on a bytes k h = and_from (is_plain a) _ (high_plain a k) h
+
+plain_two : (a b : ℕ) → (is_in (0xC2, 0xDF) a && is_in tail b) ≡ true → list_all is_plain (a ∷ b ∷ []) ≡ true
+plain_two a b h =
+    let k = and_parts (is_in (0xC2, 0xDF) a) _ h in
+    plain_on a (b ∷ []) (first_two a k.0) (plain_on b [] (tail_high b k.1) refl)
+
+plain_three : (a b c : ℕ) → (is_in (0xE0, 0xEF) a && (fits_second a b && is_in tail c)) ≡ true → list_all is_plain (a ∷ b ∷ c ∷ []) ≡ true
+plain_three a b c h =
+    let k = and_parts (is_in (0xE0, 0xEF) a) _ h in
+    let q = and_parts (fits_second a b) _ k.1 in
+    plain_on a (b ∷ c ∷ []) (first_three a k.0) (plain_on b (c ∷ []) (second_high a b q.0) (plain_on c [] (tail_high c q.1) refl))
+
+plain_four : (a b c d : ℕ) → (is_in (0xF0, 0xF4) a && (fits_second a b && (is_in tail c && is_in tail d))) ≡ true → list_all is_plain (a ∷ b ∷ c ∷ d ∷ []) ≡ true
+plain_four a b c d h =
+    let k = and_parts (is_in (0xF0, 0xF4) a) _ h in
+    let q = and_parts (fits_second a b) _ k.1 in
+    let p = and_parts (is_in tail c) _ q.1 in
+    plain_on a (b ∷ c ∷ d ∷ []) (first_four a k.0) (plain_on b (c ∷ d ∷ []) (second_high a b q.0) (plain_on c (d ∷ []) (tail_high c p.0) (plain_on d [] (tail_high d p.1) refl)))
+
+-- two, three or four bytes at the front
+pub two_begin : (bytes : List ℕ) → 2 ≤ length bytes → (is_in (0xC2, 0xDF) (get_or bytes 0 0) && is_in tail (get_or bytes 1 0)) ≡ true → BeginsWide bytes 2
+two_begin (a ∷ b ∷ bytes) f h = record { fits = f; text = formed_text (a ∷ b ∷ []) (whole_two a b ∙ h); plain = plain_two a b h }
+two_begin _ f h = absurd (omega (arith, f))
+
+pub three_begin : (bytes : List ℕ) → 3 ≤ length bytes → (is_in (0xE0, 0xEF) (get_or bytes 0 0) && (fits_second (get_or bytes 0 0) (get_or bytes 1 0) && is_in tail (get_or bytes 2 0))) ≡ true → BeginsWide bytes 3
+three_begin (a ∷ b ∷ c ∷ bytes) f h = record { fits = f; text = formed_text (a ∷ b ∷ c ∷ []) (whole_three a b c ∙ h); plain = plain_three a b c h }
+three_begin _ f h = absurd (omega (arith, f))
+
+pub four_begin : (bytes : List ℕ) → 4 ≤ length bytes → (is_in (0xF0, 0xF4) (get_or bytes 0 0) && (fits_second (get_or bytes 0 0) (get_or bytes 1 0) && (is_in tail (get_or bytes 2 0) && is_in tail (get_or bytes 3 0)))) ≡ true → BeginsWide bytes 4
+four_begin (a ∷ b ∷ c ∷ d ∷ bytes) f h = record { fits = f; text = formed_text (a ∷ b ∷ c ∷ d ∷ []) (whole_four a b c d ∙ h); plain = plain_four a b c d h }
+four_begin _ f h = absurd (omega (arith, f))
+
+-- plain text goes on with plain text
+pub plain_more : (count more : ℕ) (bytes : List ℕ) → list_all is_plain (take count bytes) ≡ true → list_all is_plain (take more (drop count bytes)) ≡ true → list_all is_plain (take (count + more) bytes) ≡ true
+plain_more count more bytes h k =
+    subst (λ (x : List ℕ). list_all is_plain x ≡ true) (sym (take-add count more bytes))
+    (list_all-append is_plain (take count bytes) (take more (drop count bytes)) ∙ and_from (list_all is_plain (take count bytes)) _ h k)
+
+pub text_more : (count more : ℕ) (bytes : List ℕ) → IsUtf8 (take count bytes) → IsUtf8 (take more (drop count bytes)) → IsUtf8 (take (count + more) bytes)
+text_more count more bytes h k = subst (λ (x : List ℕ). IsUtf8 x) (sym (take-add count more bytes)) (IsUtf8-append (take count bytes) (take more (drop count bytes)) h k)

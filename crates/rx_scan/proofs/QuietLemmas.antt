@@ -1,5 +1,5 @@
--- Between tokens a byte tells text, begins a token, or is skipped.
-use Rattle.std.proofs.Common.{◌≡◌, ◌∙◌, ◌⊎◌, ℕ, ◌<◌, Bool, true, false, List, [], ◌∷◌, ◌++◌, refl, ap, sym, subst, Result, Ok, Err, inl, inr, eqb-true, arith, length, get_or, lit<, zero, suc}
+-- The turns of the loop over a piece: between tokens a byte tells text, begins a token, or is skipped.
+use Rattle.std.proofs.Common.{◌≡◌, ◌∙◌, ◌⊎◌, ℕ, ◌<◌, Bool, true, false, List, [], ◌∷◌, ◌++◌, refl, ap, sym, subst, Result, Ok, Err, inl, inr, eqb-true, arith, length, get_or, lit<, zero, suc, ◌≢◌, ◌+◌, take, Some}
 use Rattle.std.specs.Prelude.{◌&&◌, ◌||◌, ◌==◌, not, nat_le, if◌then◌else◌, IfOk}
 use Rattle.std.proofs.lemmas.Bool.{cond-true, cond-false, or_left, or_right}
 use Rattle.std.proofs.lemmas.Str.{encode_ascii}
@@ -30,16 +30,18 @@ use Rattle.rx_scan.specs.declared.places.Position.{Position}
 use Rattle.rx_scan.specs.Places.{ended}
 use Rattle.rx_scan.specs.Scanner.{Reading}
 use Rattle.rx_scan.specs.Entries as entries
-use Rattle.rx_scan.specs.Steps.{is_quiet, is_tag, is_token, stopped_at}
-use Rattle.rx_scan.proofs.ByteLemmas.{match_by}
-use Rattle.rx_scan.proofs.RunLemmas.{IsApart}
+use Rattle.rx_scan.specs.Steps.{is_quiet, is_tag, is_token, stopped_at, Took, Runs, MayLend, texts_of}
+use Rattle.rx_scan.proofs.ByteLemmas.{match_by, reads_other}
+use Rattle.rx_scan.proofs.RunLemmas.{IsApart, ReadsOn, apart, took_text, took_all, more_read, took_token, faults}
+use Rattle.rx_grammar.specs.declared.faults.Fault.{Fault}
+use Rattle.rx_pages.specs.PageReader as reader
+use Rattle.rx_tags.specs.TagBufs.{MayStep}
 
 -- What a byte does between tokens.
 pub data Does (l : Reading) (byte : ℕ) (answer : TokenKind) (new : Reading) : Type 0 where
   says : answer ≡ what.Nothing → new.pending.mark ≡ mark.Nothing → Does l byte answer new
   begins : answer ≡ what.Nothing → (byte == 60 || byte == 38) ≡ true → Does l byte answer new
-  drops : l.setting.drops ≡ true → answer ≡ what.Skipped → new.pending.mark ≡ mark.Nothing → Does l byte answer new
-  is_a_mark : l.place.started ≡ false → answer ≡ what.Skipped → new.pending.mark ≡ mark.Nothing → Does l byte answer new
+  skips : (l.setting.drops ≡ true) ⊎ (l.place.started ≡ false) → answer ≡ what.Skipped → new.pending.mark ≡ mark.Nothing → Does l byte answer new
 
 -- a character of ASCII is its last byte
 pub last_byte : (held : List ℕ) (byte c : ℕ) → answer_of (held ++ byte ∷ []) ≡ Char c → c < 128 → byte ≡ c
@@ -64,31 +66,28 @@ module _ (l new : Reading) (byte : ℕ) (answer : TokenKind) (m : l.pending.mark
   no_fault : (kind : Kind) → result ≡ Err (stop.Fault (entries.fault_at l kind)) → Does l byte answer new
   no_fault kind e = absurd (cc)
 
+  arrive : (other : TokenKind) → result ≡ Ok other → answer ≡ other
+  arrive other e = cc
+
   said : (answer : TokenKind) (d : ℕ) (place : Position) → entries.Says l d place (Ok answer) new → ((answer ≡ what.Nothing) ⊎ ((l.setting.drops ≡ true) × (answer ≡ what.Skipped))) × (new.pending.mark ≡ mark.Nothing)
   said what.Nothing d place k = (inl refl, ap (λ (x : Reading). x.pending.mark) k.1.is)
   said what.Skipped d place k = (inr ((both l.setting.drops _ k.0).0, refl), ap (λ (x : Reading). x.pending.mark) k.1)
-  said what.Text d place k = absurd k
-  said what.Section d place k = absurd k
-  said what.Doctype d place k = absurd k
-  said what.Tag d place k = absurd k
+  said _ d place k = absurd k
 
   does_say : (d : ℕ) (place : Position) → entries.Says l d place result new → Does l byte answer new
-  does_say d place k = let q = said answer d place k in elim q.0 [ inl e ↦ says e q.1 | inr e ↦ drops e.0 e.1 q.1 ]
+  does_say d place k = let q = said answer d place k in elim q.0 [ inl e ↦ says e q.1 | inr e ↦ skips (inl e.0) e.1 q.1 ]
 
   -- the character is the byte
   does_first : (c : ℕ) (ar : Bool) → ((d : ℕ) → c ≡ d → (10 == d) ≡ false → d < 128 → byte ≡ d) → entries.Enters l c ar (entries.judged l.setting l.place.two c (marks.of_first (marks.at_first l.setting.inside c))) result new → Does l byte answer new
   does_first c ar is k =
       split (λ (f : First). entries.Enters l c ar (entries.judged l.setting l.place.two c (marks.of_first f)) result new → Does l byte answer new) (c == 60) _ _
-      (λ h k. begins (arrived k.0) (or_left (byte == 60) _ (ap (λ (x : ℕ). x == 60) (is 60 (eqb-true c 60 h) refl (lit< tt)))))
+      (λ h k. begins (arrive what.Nothing k.0) (or_left (byte == 60) _ (ap (λ (x : ℕ). x == 60) (is 60 (eqb-true c 60 h) refl (lit< tt)))))
       (λ a. split (λ (f : First). entries.Enters l c ar (entries.judged l.setting l.place.two c (marks.of_first f)) result new → Does l byte answer new) (c == 38 && has_references l.setting.inside) _ _
-      (λ h k. begins (arrived k.0) (or_right (byte == 60) _ (ap (λ (x : ℕ). x == 38) (is 38 (eqb-true c 38 (both (c == 38) _ h).0) refl (lit< tt)))))
+      (λ h k. begins (arrive what.Nothing k.0) (or_right (byte == 60) _ (ap (λ (x : ℕ). x == 38) (is 38 (eqb-true c 38 (both (c == 38) _ h).0) refl (lit< tt)))))
       (λ b. split (λ (f : First). entries.Enters l c ar (entries.judged l.setting l.place.two c (marks.of_first f)) result new → Does l byte answer new) (is_text l.setting.inside c) _ _
       (λ h k. by_says (l.place.two && is_strict_literal 62 l.setting.inside (character c)) k)
       (λ h k. no_fault _ k))) k
     where
-      arrived : result ≡ Ok what.Nothing → answer ≡ what.Nothing
-      arrived e = cc
-
       by_says : (b : Bool) → entries.Enters l c ar (if b then move.Refuses StrictText else move.EmitText) result new → Does l byte answer new
       by_says true k = no_fault StrictText k
       by_says false k = does_say c (ended ar (entries.is_bracket l.setting c) l.place) k
@@ -102,13 +101,10 @@ module _ (l new : Reading) (byte : ℕ) (answer : TokenKind) (m : l.pending.mark
       (λ u k. does_first (as_line_end c) (c == carriage_return) (λ d q n h. last_byte l.held byte d (e ∙ ap Char (begins_line c d q n)) h)
       (subst (λ (x : TokenState). entries.Enters l (as_line_end c) (c == carriage_return) (entries.judged l.setting l.place.two (as_line_end c) (marks.move_of l.setting.syntax l.setting.inside x (as_line_end c))) result new) m k)))
     where
-      arrive : (other : TokenKind) → result ≡ Ok other → answer ≡ other
-      arrive other e = cc
-
       passed : ((not l.place.started && c == 65279) ≡ true) ⊎ ((l.place.after_return && c == 10) ≡ true) → result ≡ Ok (entries.is_mark c) → new.pending.mark ≡ mark.Nothing → Does l byte answer new
       passed (inl a) q k =
           let p = both (not l.place.started) _ a in
-          is_a_mark (untrue l.place.started p.0) (let z : entries.is_mark c ≡ what.Skipped = ap entries.is_mark (eqb-true c 65279 p.1) in arrive what.Skipped (q ∙ ap Ok z)) k
+          skips (inr (untrue l.place.started p.0)) (let z : entries.is_mark c ≡ what.Skipped = ap entries.is_mark (eqb-true c 65279 p.1) in arrive what.Skipped (q ∙ ap Ok z)) k
       passed (inr a) q k = says (let z : entries.is_mark c ≡ what.Nothing = ap entries.is_mark (eqb-true c 10 (both l.place.after_return _ a).1) in arrive what.Nothing (q ∙ ap Ok z)) k
 
   pub does : entries.Reads l byte result new → Does l byte answer new
@@ -122,10 +118,7 @@ module _ (l new : Reading) (byte : ℕ) (answer : TokenKind) (m : l.pending.mark
       by More e k =
           match_by (entries.is_long l (known_tags.is_tag l.pending.mark)) _ _ k
           (λ u k. no_fault _ k)
-          (λ u k. says (arrive k.0) (ap (λ (x : Reading). x.pending.mark) k.1 ∙ m))
-        where
-          arrive : result ≡ Ok what.Nothing → answer ≡ what.Nothing
-          arrive e = cc
+          (λ u k. says (arrive what.Nothing k.0) (ap (λ (x : Reading). x.pending.mark) k.1 ∙ m))
       by (Char c) e k =
           match_by (c == 0) _ _ k (λ t k. no_fault _ k)
           (λ t k. match_by (entries.is_long l (known_tags.is_tag l.pending.mark)) _ _ k (λ u k. no_fault _ k) (λ u k. does_char c e k))
@@ -137,8 +130,8 @@ apart_tells l new byte answer a k = by (does l new byte answer a.mark k)
     by : Does l byte answer new → answer ≡ what.Nothing
     by (says e m) = e
     by (begins e m) = e
-    by (drops e k m) = absurd (let q = sym e ∙ a.drops in cc)
-    by (is_a_mark e k m) = absurd (let q = sym e ∙ a.started in cc)
+    by (skips (inl e) k m) = absurd (let q = sym e ∙ a.drops in cc)
+    by (skips (inr e) k m) = absurd (let q = sym e ∙ a.started in cc)
 
 -- a quiet byte begins no token
 pub quiet_tells : (l new : Reading) (byte : ℕ) (answer : TokenKind) → l.pending.mark ≡ mark.Nothing → not (byte == 60 || byte == 38) ≡ true → entries.Reads l byte (Ok answer) new → new.pending.mark ≡ mark.Nothing
@@ -147,8 +140,7 @@ quiet_tells l new byte answer n q k = by (does l new byte answer n k)
     by : Does l byte answer new → new.pending.mark ≡ mark.Nothing
     by (says e m) = m
     by (begins e m) = absurd (let z = sym m ∙ untrue (byte == 60 || byte == 38) q in cc)
-    by (drops e k m) = m
-    by (is_a_mark e k m) = m
+    by (skips e k m) = m
 
 -- no byte between tokens ends a tag
 pub between_tells : (l new : Reading) (byte : ℕ) (answer : TokenKind) → l.pending.mark ≡ mark.Nothing → entries.Reads l byte (Ok answer) new → is_tag answer ≡ false
@@ -157,8 +149,7 @@ between_tells l new byte answer n k = by (does l new byte answer n k)
     by : Does l byte answer new → is_tag answer ≡ false
     by (says e m) = ap is_tag e
     by (begins e m) = ap is_tag e
-    by (drops e k m) = ap is_tag k
-    by (is_a_mark e k m) = ap is_tag k
+    by (skips e k m) = ap is_tag k
 
 -- and neither does what text is handed out for, before a fault or at the end of the piece
 pub stopped_tells : (text : Chars) (n : ℕ) (s : Stop) → IfOk (stopped_at text n s) (λ answer. is_tag answer.1 ≡ false)
@@ -167,14 +158,76 @@ stopped_tells (c ∷ text) n (stop.Fault fault) = refl
 stopped_tells text n stop.NoMemory = tt
 
 pub other_tells : (answer : TokenKind) → is_token answer ≡ false → is_tag answer ≡ false
-other_tells what.Nothing h = refl
-other_tells what.Text h = refl
-other_tells what.Skipped h = refl
-other_tells what.Section h = refl
-other_tells what.Doctype h = refl
 other_tells what.Tag h = absurd (cc)
+other_tells _ h = refl
 
 pub quiet_at : (piece : List ℕ) (i : ℕ) → i < length piece → is_quiet piece ≡ true → not (get_or piece i 0 == 60 || get_or piece i 0 == 38) ≡ true
 quiet_at [] i h q = absurd (omega arith)
 quiet_at (x ∷ piece) zero h q = (both (not (x == 60 || x == 38)) _ q).0
 quiet_at (x ∷ piece) (suc i) h q = quiet_at piece i (omega arith) (both (not (x == 60 || x == 38)) _ q).1
+
+abbrev ok_scanned : reader.Scanned → Result reader.Scanned Fault
+ok_scanned x = Ok x
+
+-- nothing is told before the first byte
+text_later : (old l : Reading) (s : reader.Scanning) (piece : List ℕ) (i : ℕ) → ReadsOn old s (take i piece) l → (l.text.text ≡ [] → ⊥) → 0 < i
+text_later old l s piece zero r t =
+    let e : ok_scanned (record { next = s; items = [] }) ≡ ok_scanned r.scanned = r.read in
+    let same : record { next = s; items = [] } ≡ r.scanned = cc in
+    let k : Some l.text.text ≡ Some [] = sym r.texts ∙ ap (λ (y : reader.Scanned). texts_of y.items) (sym same) in
+    absurd (t (cc))
+text_later old l s piece (suc i) r t = omega arith
+
+-- at the piece's end
+pub rest_took : (old l : Reading) (s : reader.Scanning) (piece : List ℕ) (n i : ℕ) (answer : TokenKind) → n ≡ i → i ≡ length piece → ReadsOn old s (take i piece) l → is_token answer ≡ false → (answer ≡ what.Text → l.text.text ≢ []) → (answer ≡ what.Nothing → l.text.text ≡ []) → Took old s piece n answer l
+rest_took old l s piece n i answer c e r t f g = subst (λ (z : ℕ). Took old s piece z answer l) (sym c) (by answer t f g)
+  where
+    by : (answer : TokenKind) → is_token answer ≡ false → (answer ≡ what.Text → l.text.text ≢ []) → (answer ≡ what.Nothing → l.text.text ≡ []) → Took old s piece i answer l
+    by what.Nothing t f g = took_all old l s piece i e r (g refl)
+    by what.Text t f g = took_text old l s piece i (omega arith) (text_later old l s piece i r (f refl)) r (f refl)
+    by _ t f g = absurd (cc)
+
+pub lends : (answer : TokenKind) (v : Reading) → is_token answer ≡ false → MayStep v.pending.tag → MayLend answer v
+lends what.Nothing v t m = m
+lends what.Text v t m = m
+lends _ v t m = absurd (cc)
+
+pub may_step : (answer : TokenKind) (v : Reading) → is_token answer ≡ false → entries.MayGoOn (Ok answer) v → MayStep v.pending.tag
+may_step what.Nothing v t m = m
+may_step what.Text v t m = m
+may_step _ v t m = absurd (cc)
+
+module _ (old l new : Reading) (s : reader.Scanning) (piece : List ℕ) (i : ℕ) (k : i < length piece) (r : ReadsOn old s (take i piece) l) where
+  abbrev byte : ℕ
+  byte = get_or piece i 0
+
+  pub next_read : (answer : TokenKind) → is_token answer ≡ false → entries.Reads l byte (Ok answer) new → ReadsOn old s (take (i + 1) piece) new
+  next_read what.Nothing t e = more_read old l new s piece i k r e
+  next_read what.Text t e = absurd (reads_other l r.scanned.next r.reads_as byte (Ok what.Text) new (λ q. cc) e).told
+  next_read _ t e = absurd (cc)
+
+  pub token_read : (answer : TokenKind) → is_token answer ≡ true → (l.text.text ≡ []) ⊎ (l.pending.mark ≡ mark.Nothing) → entries.Reads l byte (Ok answer) new → Took old s piece (i + 1) answer new
+  token_read answer t o e = by l.text.text refl
+    where
+      by : (text : Chars) → l.text.text ≡ text → Took old s piece (i + 1) answer new
+      by [] q = took_token old l new s piece i k r answer e q t
+      by (x ∷ text) q = elim o [
+        | inl n ↦ absurd (let z = sym q ∙ n in cc)
+        | inr m ↦ absurd (let z = sym t ∙ ap is_token (apart_tells l new byte answer (apart old l s (take i piece) r (λ n. let y = sym q ∙ n in cc) m) e) in cc)
+      ]
+
+  pub stopped : (stop : Stop) (taken : ℕ) → taken ≡ i → (l.text.text ≡ []) ⊎ (l.pending.mark ≡ mark.Nothing) → entries.Reads l byte (Err stop) new → (l.pending.mark ≡ mark.Nothing → entries.Between l (Err stop) new) → entries.IfFault {A = TokenKind} (Err stop) (new.text.text ≡ l.text.text)
+      → Runs old s piece (stopped_at new.text.text taken stop) new
+  stopped stop.NoMemory taken c o e b x = tt
+  stopped (stop.Fault fault) taken c o e b x = by l.text.text refl
+    where
+      by : (text : Chars) → l.text.text ≡ text → Runs old s piece (stopped_at new.text.text taken (stop.Fault fault)) new
+      by [] q = subst (λ (y : Chars). Runs old s piece (stopped_at y taken (stop.Fault fault)) new) (sym (x ∙ q)) (faults old l new s piece i k r fault e q)
+      by (y ∷ text) q =
+          let some : l.text.text ≡ [] → ⊥ = λ n. let z = sym q ∙ n in cc in
+          elim o [
+            | inl n ↦ absurd (some n)
+            | inr m ↦ subst (λ (z : Chars). Runs old s piece (stopped_at z taken (stop.Fault fault)) new) (sym (x ∙ q))
+                (subst (λ (z : ℕ). Took old s piece z what.Text new) (sym c) (subst (λ (z : Reading). Took old s piece i what.Text z) (sym (b m).unchanged)
+                (took_text old l s piece i (omega arith) (text_later old l s piece i r some) r some)))
+          ]

@@ -1,14 +1,13 @@
 -- A reference that is taken at once is read like its bytes one after another.
-use Rattle.std.proofs.Common.{◌≡◌, ◌∙◌, ℕ, ◌+◌, ◌≤◌, ◌<◌, true, false, List, [], ◌∷◌, ◌++◌, length, refl, ap, sym, subst, Option, Some, Ok, append_assoc, append-nil, arith, encode_utf8_all}
+use Rattle.std.proofs.Common.{◌≡◌, ◌∙◌, ℕ, ◌+◌, ◌≤◌, ◌<◌, true, false, List, [], ◌∷◌, ◌++◌, length, refl, ap, sym, subst, Option, Some, Ok, append_assoc, append-nil, arith, encode_utf8_all, ◌-◌, take}
 use Rattle.std.specs.Prelude.{◌&&◌, ◌==◌, not}
 use Rattle.std.specs.List.{list_all}
-use Rattle.std.proofs.lemmas.Bool.{cond-true, and_parts, or_from, eqb-true}
+use Rattle.std.proofs.lemmas.Bool.{cond-true, and_parts, or_from, ne_eqb}
 use Rattle.std.proofs.lemmas.Bool.Decides.{nat_tests}
 use Rattle.std.proofs.lemmas.List.{length-append}
 use Rattle.std.proofs.lemmas.List.Folds.{list_all-append}
 use Rattle.rx_terms.specs.Ascii.{is_ascii}
 use Rattle.rx_terms.specs.Text.{Chars}
-use Rattle.rx_terms.proofs.Bools.{by_test}
 use Rattle.rx_terms.proofs.CharLemmas.{ascii-same}
 use Rattle.rx_chars.specs.Characters.{as_line_end}
 use Rattle.rx_chars.proofs.Utf8Answers.{first_whole}
@@ -20,7 +19,7 @@ use Rattle.rx_reader.specs.declared.phases.RunPhase.TheVariants as run
 use Rattle.rx_reader.specs.declared.phases.RunMove.{RunMove}
 use Rattle.rx_reader.specs.declared.phases.RunMove.TheVariants as run_moves
 use Rattle.rx_reader.specs.Tables.{run_move}
-use Rattle.rx_reader.proofs.Runs.{RunIs, at_ampersand, goes_on}
+use Rattle.rx_reader.proofs.Runs.{RunIs, at_ampersand, goes_on, closes}
 use Rattle.rx_tags.specs.TagBufs.{no_tag}
 use Rattle.rx_scan.specs.declared.answers.TokenKind.TheVariants as what
 use Rattle.rx_scan.specs.declared.marks.TokenState.{TokenState}
@@ -35,11 +34,13 @@ use Rattle.rx_scan.specs.Buffers.{Buffered}
 use Rattle.rx_scan.specs.Entries as entries
 use Rattle.rx_scan.specs.Places.{said, ended, entered}
 use Rattle.rx_scan.specs.Scanner.{Reading}
-use Rattle.rx_scan.specs.WholeReferences.{IsReference, TellsReference}
-use Rattle.rx_scan.proofs.CharacterLemmas.{other_read}
+use Rattle.rx_scan.specs.WholeReferences.{IsReference, TellsReference, body_from, body_length, BeginsReference}
+use Rattle.rx_scan.proofs.ByteLemmas.{other_read}
 use Rattle.rx_scan.proofs.References.{no_closes, no_stops, run_is, run_ascii}
 use Rattle.rx_scan.proofs.RunLemmas.{ReadsOn, reads_more}
-use Rattle.rx_scan.proofs.Snoc.{and_false}
+use Rattle.std.proofs.Math.Bool.{and-false}
+use Rattle.std.proofs.Math.Seq.{take-append_seam}
+use Rattle.rx_chars.specs.declared.syntax.Syntax.{Syntax}
 
 -- Outside tags and between characters, this byte is a character that enters.
 record IsAlone (v : Reading) (b : ℕ) : Type 0 where
@@ -74,27 +75,14 @@ within_on n p =
 -- the moves of characters that belong to no reference
 nul_stops : (p : RunPhase) → run_move p 0 ≡ run_moves.Stops
 nul_stops run.Plain = refl
-nul_stops run.Ampersand = refl
-nul_stops run.Named = refl
-nul_stops run.Hash = refl
-nul_stops run.Decimal = refl
-nul_stops run.Mark = refl
-nul_stops run.Hexadecimal = refl
+nul_stops _ = refl
 
 return_stops : (p : RunPhase) → run_move p 13 ≡ run_moves.Stops
 return_stops run.Plain = refl
-return_stops run.Ampersand = refl
-return_stops run.Named = refl
-return_stops run.Hash = refl
-return_stops run.Decimal = refl
-return_stops run.Mark = refl
-return_stops run.Hexadecimal = refl
-
-goes_no_stop : (q : RunPhase) (m : RunMove) → m ≡ run_moves.Goes q → m ≡ run_moves.Stops → ⊥
-goes_no_stop q m e f = absurd (cc)
+return_stops _ = refl
 
 is_none : (d : ℕ) (p q : RunPhase) (b : ℕ) → run_move p d ≡ run_moves.Stops → run_move p b ≡ run_moves.Goes q → (b == d) ≡ false
-is_none d p q b h e = by_test {G = (b == d) ≡ false} (b == d) (λ k. absurd (goes_no_stop q (run_move p d) (ap (run_move p) (sym (eqb-true b d k)) ∙ e) h)) (λ k. k)
+is_none d p q b h e = ne_eqb b d (λ k. let z = sym h ∙ (ap (run_move p) (sym k) ∙ e) in cc)
 
 last_ascii : (kept : Chars) (b : ℕ) → list_all is_ascii (kept ++ b ∷ []) ≡ true → b ≤ 127
 last_ascii kept b h =
@@ -128,24 +116,17 @@ module _ (l new : Reading) (front : List ℕ) (t : TellsReference l front new) (
       })
       (subst (λ (x : Move). entries.Enters l 38 false x (Ok what.Nothing) (in_reference l 1 run.Ampersand [])) (sym begins_is) (refl, refl))
 
+-- within it each of its bytes is such a character
+within_alone : (l : Reading) (n : ℕ) (p : RunPhase) (kept : Chars) (b : ℕ) → l.place.at + n < l.setting.limits.page → (b == 0) ≡ false → (b == 13) ≡ false → b ≤ 127 → IsAlone (in_reference l n p kept) b
+within_alone l n p kept b page some no_return ascii = record { held = refl; started = refl; on_a_line = refl; page = page; no_tag = refl; never_tag = λ c. refl; some = some; no_return = no_return; ascii = ascii }
+
 -- one more character of it
 reads_kept : (l : Reading) (n : ℕ) (p q : RunPhase) (kept : Chars) (b : ℕ) → l.place.at + n < l.setting.limits.page → RunIs p kept → run_move p b ≡ run_moves.Goes q
     → entries.Reads (in_reference l n p kept) b (Ok what.Nothing) (in_reference l (n + 1) q (kept ++ b ∷ []))
 reads_kept l n p q kept b room r e =
     let v : Reading = in_reference l n p kept in
     let new : Reading = in_reference l (n + 1) q (kept ++ b ∷ []) in
-    reads_alone v new b
-    (record {
-      held = refl;
-      started = refl;
-      on_a_line = refl;
-      page = room;
-      no_tag = refl;
-      never_tag = λ c. refl;
-      some = is_none 0 p q b (nul_stops p) e;
-      no_return = is_none 13 p q b (return_stops p) e;
-      ascii = last_ascii kept b (run_ascii (goes_on b q r e));
-    })
+    reads_alone v new b (within_alone l n p kept b room (is_none 0 p q b (nul_stops p) e) (is_none 13 p q b (return_stops p) e) (last_ascii kept b (run_ascii (goes_on b q r e))))
     (subst (λ (x : Move). entries.Enters v b false x (Ok what.Nothing) new)
     (sym (ap (λ x. entries.judged l.setting l.place.two b (marks.in_run l.setting.inside x)) e))
     (refl, ap (λ (x : Position). entries.with_parts l l.setting x (record { mark = mark.Run q; run = kept ++ b ∷ []; tag = no_tag l.pending.tag.syntax }) l.text) (sym (within_on n l.place))))
@@ -160,29 +141,14 @@ reads_semicolon : (l : Reading) (n : ℕ) (p : RunPhase) (kept : Chars) (c : ℕ
 reads_semicolon l n p kept c text room drops closes means gains =
     let v : Reading = in_reference l n p kept in
     let new : Reading = behind l n kept text in
-    reads_alone v new 59
-    (record {
-      held = refl;
-      started = refl;
-      on_a_line = refl;
-      page = room;
-      no_tag = refl;
-      never_tag = λ c. refl;
-      some = refl;
-      no_return = refl;
-      ascii = omega arith;
-    })
+    reads_alone v new 59 (within_alone l n p kept 59 room refl refl (omega arith))
     (subst (λ (x : Move). entries.Enters v 59 false x (Ok what.Nothing) new)
     (sym (ap (λ x. entries.judged l.setting l.place.two 59 (marks.in_run l.setting.inside x)) closes))
     (subst (λ (x : Option ℕ). entries.Closes v false x (Ok what.Nothing) new) (sym means) (ap (λ x. x && (c == 10)) drops, record { text = gains; is = refl })))
 
 module _ (old : Reading) (s : reader.Scanning) where
   moved : (l : Reading) (bytes more : List ℕ) (n m : ℕ) (p q : RunPhase) (kept run_now : Chars) → bytes ≡ more → n ≡ m → p ≡ q → kept ≡ run_now → ReadsOn old s bytes (in_reference l n p kept) → ReadsOn old s more (in_reference l m q run_now)
-  moved l bytes more n m p q kept run_now e f h g r =
-      subst (λ (x : List ℕ). ReadsOn old s x (in_reference l m q run_now)) e
-      (subst (λ (x : ℕ). ReadsOn old s bytes (in_reference l x q run_now)) f
-      (subst (λ (x : RunPhase). ReadsOn old s bytes (in_reference l n x run_now)) h
-      (subst (λ (x : Chars). ReadsOn old s bytes (in_reference l n p x)) g r)))
+  moved l bytes more n m p q kept run_now e f h g r = rw (sym e, sym f, sym h, sym g) r
 
   abbrev BodyOn : Reading → Chars → RunPhase → Type 0
   BodyOn l more last =
@@ -219,7 +185,7 @@ module _ (old : Reading) (s : reader.Scanning) where
           held = h.held;
           started = h.started;
           after_return = h.after_return;
-          two = sym (and_false l.place.last) ∙ h.two;
+          two = sym (and-false l.place.last) ∙ h.two;
           last = h.last;
           token = ap (λ (x : TokenState). entries.token_from x (said m l.place)) b ∙ (at ∙ h.token);
           syntax = h.syntax;
@@ -263,3 +229,59 @@ module _ (old : Reading) (s : reader.Scanning) where
       bytes_are =
           append_assoc (bytes ++ 38 ∷ []) k.body (59 ∷ [])
           ∙ (append_assoc bytes (38 ∷ []) (k.body ++ 59 ∷ []) ∙ ap (λ x. bytes ++ x) (sym k.are))
+
+-- With these bytes and the next one a reference is whole that was read so far.
+record Found (p : RunPhase) (n : ℕ) (bytes : List ℕ) (m : ℕ) : Type 0 where
+  body : Chars
+  mark : ℕ
+  rest : List ℕ
+  last : RunPhase
+  are : bytes ≡ body ++ mark ∷ rest
+  count : m ≡ n + (length body + 1)
+  goes : run_on (run_moves.Goes p) body ≡ run_moves.Goes last
+  closes : run_move last mark ≡ run_moves.Closes
+
+found_first : (b : ℕ) (bytes : List ℕ) (p : RunPhase) (n : ℕ) → ((q : RunPhase) (m : ℕ) → 0 < body_from (run_moves.Goes q) m bytes → Found q m bytes (body_from (run_moves.Goes q) m bytes))
+    → (m : RunMove) → run_move p b ≡ m → 0 < body_from m (n + 1) bytes → Found p n (b ∷ bytes) (body_from m (n + 1) bytes)
+found_first b bytes p n ih (run_moves.Goes q) e h =
+    let r = ih q (n + 1) h in
+    record { body = b ∷ r.body; mark = r.mark; rest = r.rest; last = r.last; are = ap (λ x. b ∷ x) r.are; count = omega (arith, r.count); goes = ap (λ x. run_on x r.body) e ∙ r.goes; closes = r.closes }
+found_first b bytes p n ih run_moves.Closes e h = record { body = []; mark = b; rest = bytes; last = p; are = refl; count = omega arith; goes = refl; closes = e }
+found_first b bytes p n ih run_moves.Stops e h = absurd (omega (arith, h))
+
+found : (bytes : List ℕ) (p : RunPhase) (n : ℕ) → 0 < body_from (run_moves.Goes p) n bytes → Found p n bytes (body_from (run_moves.Goes p) n bytes)
+found [] p n h = absurd (omega (arith, h))
+found (b ∷ bytes) p n h = found_first b bytes p n (found bytes) (run_move p b) refl h
+
+pub body_is : (syntax : Syntax) (behind : List ℕ) (m c : ℕ) → m ≡ body_length behind → 3 ≤ m → meaning syntax (take (m - 1) behind) ≡ Some c → BeginsReference syntax (38 ∷ behind) c (m + 1)
+body_is syntax behind m c e k h =
+    record {
+      is = record { body = f.body; are = taken; last = f.last; goes = f.goes; closes = ap (run_move f.last) (sym mark_is) ∙ f.closes; means = ap (meaning syntax) (sym body_taken) ∙ h };
+      some = omega (arith, k);
+      fits = omega (arith, counts, ap length f.are, length-append f.body (f.mark ∷ f.rest));
+    }
+  where
+    f : Found run.Ampersand 0 behind (body_length behind)
+    f = found behind run.Ampersand 0 (omega (arith, e, k))
+
+    counts : m ≡ length f.body + 1
+    counts = e ∙ (f.count ∙ omega arith)
+
+    mark_is : f.mark ≡ 59
+    mark_is = (closes f.mark (run_is f.body run.Ampersand [] f.last at_ampersand f.goes) f.closes).mark
+
+    body_taken : take (m - 1) behind ≡ f.body
+    body_taken =
+        let z : m - 1 ≡ length f.body = omega (arith, counts) in
+        ap (λ x. take x behind) z ∙ (ap (λ (x : List ℕ). take (length f.body) x) f.are ∙ take-append_seam f.body (f.mark ∷ f.rest))
+
+    whole : List ℕ
+    whole = 38 ∷ (f.body ++ 59 ∷ [])
+
+    behind_is : 38 ∷ behind ≡ whole ++ f.rest
+    behind_is = ap (λ (x : List ℕ). 38 ∷ x) (f.are ∙ (ap (λ (x : ℕ). f.body ++ x ∷ f.rest) mark_is ∙ sym (append_assoc f.body (59 ∷ []) f.rest)))
+
+    taken : take (m + 1) (38 ∷ behind) ≡ whole
+    taken =
+        let z : m + 1 ≡ length whole = omega (arith, counts, length-append f.body (59 ∷ [])) in
+        ap (λ x. take x (38 ∷ behind)) z ∙ (ap (λ (x : List ℕ). take (length whole) x) behind_is ∙ take-append_seam whole f.rest)

@@ -1,5 +1,5 @@
 -- After `&` a move says what the verdict is.
-use Rattle.std.proofs.Common.{◌≡◌, ◌∙◌, ℕ, Bool, true, false, [], ◌∷◌, ◌++◌, refl, ap, sym, subst, eqb-true, inl, inr, arith, append-nil, append_assoc}
+use Rattle.std.proofs.Common.{◌≡◌, ◌∙◌, ℕ, true, false, [], ◌∷◌, ◌++◌, refl, ap, sym, subst, eqb-true, inl, inr, arith, append-nil, append_assoc}
 use Rattle.std.specs.Prelude.{◌==◌, ◌&&◌, not, if◌then◌else◌}
 use Rattle.std.specs.List.{list_all}
 use Rattle.std.proofs.lemmas.Bool.Decides.{nat_tests}
@@ -29,6 +29,7 @@ use Rattle.rx_scan.specs.declared.marks.Move.{Move}
 use Rattle.rx_scan.specs.Marks as marks
 use Rattle.rx_scan.specs.Pending.{Pending, first_char, phase_of, InRun, run_on}
 use Rattle.rx_scan.specs.Meant.{Means}
+use Rattle.rx_scan.proofs.PlainLemmas.{weaker}
 
 pub no_closes : (text : Chars) (p : RunPhase) → run_on run_moves.Closes text ≡ run_moves.Goes p → ⊥
 no_closes [] p e = cc
@@ -40,11 +41,9 @@ no_stops (c ∷ text) p e = cc
 
 pub run_snoc : (m : RunMove) (text : Chars) (c : ℕ) (p : RunPhase) → run_on m text ≡ run_moves.Goes p → run_on m (text ++ c ∷ []) ≡ run_move p c
 run_snoc (run_moves.Goes q) [] c p e = let k : q ≡ p = cc in ap (λ x. run_move x c) k
-run_snoc run_moves.Closes [] c p e = absurd (no_closes [] p e)
-run_snoc run_moves.Stops [] c p e = absurd (no_stops [] p e)
 run_snoc (run_moves.Goes q) (d ∷ text) c p e = run_snoc (run_move q d) text c p e
-run_snoc run_moves.Closes (d ∷ text) c p e = absurd (no_closes (d ∷ text) p e)
-run_snoc run_moves.Stops (d ∷ text) c p e = absurd (no_stops (d ∷ text) p e)
+run_snoc run_moves.Closes text c p e = absurd (no_closes text p e)
+run_snoc run_moves.Stops text c p e = absurd (no_stops text p e)
 
 pub run_is : (text : Chars) (q : RunPhase) (front : Chars) (p : RunPhase) → RunIs q front → run_on (run_moves.Goes q) text ≡ run_moves.Goes p → RunIs p (front ++ text)
 run_is [] q front p r e = let k : q ≡ p = cc in subst (λ (x : Chars). RunIs p x) (sym (append-nil front)) (subst (λ (x : RunPhase). RunIs x front) k r)
@@ -56,10 +55,6 @@ run_is (d ∷ text) q front p r e = by (run_is text) (run_move q d) refl e
     by ih run_moves.Stops k e = absurd (no_stops text p e)
 
 -- what may begin a reference is ASCII
-all_if : (test : ℕ → Bool) → ((c : ℕ) → test c ≡ true → is_ascii c ≡ true) → (text : Chars) → list_all test text ≡ true → list_all is_ascii text ≡ true
-all_if test f [] h = refl
-all_if test f (c ∷ text) h = let k = both (test c) _ h in and_from (is_ascii c) (list_all is_ascii text) (f c k.0) (all_if test f text k.1)
-
 letter_ascii : (c : ℕ) → is_letter c ≡ true → is_ascii c ≡ true
 letter_ascii c h = grind (arith, nat_tests)
 
@@ -77,20 +72,16 @@ x_ascii c h = elim (either (c == 120) (c == 88) h) [ inl a ↦ ap is_ascii (eqb-
 
 pub run_ascii : {p : RunPhase} {text : Chars} → RunIs p text → list_all is_ascii text ≡ true
 run_ascii at_ampersand = refl
-run_ascii (in_name c text h k) = and_from (is_ascii c) _ (letter_ascii c h) (all_if is_letter_or_digit alphanumeric_ascii text k)
+run_ascii (in_name c text h k) = and_from (is_ascii c) _ (letter_ascii c h) (weaker is_letter_or_digit is_ascii alphanumeric_ascii text k)
 run_ascii at_hash = refl
-run_ascii (in_decimal c text h k) = and_from (is_ascii c) _ (digit_ascii c h) (all_if is_digit digit_ascii text k)
+run_ascii (in_decimal c text h k) = and_from (is_ascii c) _ (digit_ascii c h) (weaker is_digit is_ascii digit_ascii text k)
 run_ascii (at_mark x h) = and_from (is_ascii x) true (x_ascii x h) refl
-run_ascii (in_hexadecimal x c text h k l) = and_from (is_ascii x) _ (x_ascii x h) (and_from (is_ascii c) _ (hexadecimal_ascii c k) (all_if is_hexadecimal_digit hexadecimal_ascii text l))
+run_ascii (in_hexadecimal x c text h k l) = and_from (is_ascii x) _ (x_ascii x h) (and_from (is_ascii c) _ (hexadecimal_ascii c k) (weaker is_hexadecimal_digit is_ascii hexadecimal_ascii text l))
 
 -- the kind of a reference that stands for nothing
 pub run_kind : (c : ℕ) {p : RunPhase} {text : Chars} → RunIs p text → run_move p c ≡ run_moves.Closes → (if is_name text then UnknownReference else BadReference) ≡ no_meaning p
-run_kind c at_ampersand e = refl
 run_kind c (in_name x text h k) e = rw (h, k) refl
-run_kind c at_hash e = refl
-run_kind c (in_decimal x text h k) e = refl
-run_kind c (at_mark x h) e = refl
-run_kind c (in_hexadecimal x y text h k l) e = refl
+run_kind c _ e = refl
 
 module _ (s : Syntax) (i : Content) (p : Pending) (text : Chars) (c : ℕ) (q : RunPhase) (h : InRun s i q p.run text) (m : p.mark ≡ mark.Run q) where
   is_run : RunIs q p.run

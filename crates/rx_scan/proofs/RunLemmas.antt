@@ -17,9 +17,10 @@ use Rattle.rx_scan.specs.declared.places.Setting.{Setting}
 use Rattle.rx_scan.specs.Scanner.{Reading, spot_of}
 use Rattle.rx_scan.specs.Entries as entries
 use Rattle.rx_scan.specs.Steps.{ReadsAs, joined, texts_of, keeps_first, after_some, setting_after, is_nothing, is_skipped, is_token, HasMark, MarkAlone, a_mark, mark_bytes, Took, Faults, Tells}
-use Rattle.rx_scan.proofs.GivesLemmas.{GivesOk, IsTold}
+use Rattle.rx_scan.proofs.EntryLemmas.{GivesOk, IsTold}
 use Rattle.rx_scan.proofs.MarkLemmas.{Earlier, none_marked, mark_snoc, mark_none, all_held, before_mark}
-use Rattle.rx_scan.proofs.ByteLemmas.{PassesMark, reads, reads_nothing, reads_fault, mark_skips}
+use Rattle.rx_scan.proofs.ByteLemmas.{PassesMark, reads, reads_other, mark_skips}
+use Rattle.rx_pages.proofs.ScanSteps.{scan_fault}
 
 -- while text is told, no token is begun, and what might be skipped is over
 pub record IsApart (v : Reading) : Type 0 where
@@ -49,15 +50,9 @@ module _ (sy : Syntax) (lim : Limits) (spot : reader.Spot) where
   on_append r [] b = refl
   on_append r (x ∷ a) b = on_append (reader.scan_byte_on sy lim spot r x) a b
 
-  pub on_err : (f : Fault) (a : List ℕ) → reader.scan_on sy lim spot (Err f) a ≡ Err f
-  on_err f [] = refl
-  on_err f (x ∷ a) = on_err f a
-
 joined_assoc : (a b c : Option Chars) → joined (joined a b) c ≡ joined a (joined b c)
 joined_assoc (Some a) (Some b) (Some c) = ap Some (append_assoc a b c)
-joined_assoc (Some a) (Some b) None = refl
-joined_assoc (Some a) None c = refl
-joined_assoc None b c = refl
+joined_assoc _ _ _ = refl
 
 joined_first : (a : Option Chars) → joined (Some []) a ≡ a
 joined_first (Some a) = refl
@@ -73,9 +68,8 @@ after_same setting [] = (refl, refl, refl, refl)
 after_same setting (x ∷ items) = (refl, refl, refl, refl)
 
 after_append : (setting : Setting) (a b : List Item) → after_some (after_some setting a) b ≡ after_some setting (a ++ b)
-after_append setting [] b = refl
-after_append setting (x ∷ a) [] = refl
 after_append setting (x ∷ a) (y ∷ b) = refl
+after_append setting _ _ = refl
 
 keeps_append : (setting : Setting) (a b : List Item) → keeps_first setting.drops a ≡ true → keeps_first (after_some setting a).drops b ≡ true → keeps_first setting.drops (a ++ b) ≡ true
 keeps_append setting [] b h k = k
@@ -131,7 +125,7 @@ module _ (old l : Reading) (s : reader.Scanning) (bytes : List ℕ) (r : ReadsOn
   -- one more byte of text
   pub reads_more : (byte : ℕ) (new : Reading) → entries.Reads l byte (Ok what.Nothing) new → ReadsOn old s (bytes ++ byte ∷ []) new
   reads_more byte new k =
-      let g = reads_nothing l r.scanned.next r.reads_as byte new k in
+      let g = reads_other l r.scanned.next r.reads_as byte (Ok what.Nothing) new (λ e. cc) k in
       record {
         scanned = record { next = g.scanned.next; items = r.scanned.items ++ g.scanned.items };
         read = byte_on byte ∙ ap (reader.with_items r.scanned.next r.scanned.items) g.is;
@@ -139,7 +133,7 @@ module _ (old l : Reading) (s : reader.Scanning) (bytes : List ℕ) (r : ReadsOn
         texts = texts_append r.scanned.items g.scanned.items ∙ (ap (λ x. joined x (texts_of g.scanned.items)) r.texts ∙ (ap (joined (Some l.text.text)) g.told.texts ∙ ap Some (sym g.told.text)));
         keeps = keeps_append old.setting r.scanned.items g.scanned.items r.keeps (ap (λ (x : Setting). keeps_first x.drops g.scanned.items) (sym r.setting) ∙ g.told.keeps);
         setting = g.setting ∙ (ap (λ x. after_some x g.scanned.items) r.setting ∙ after_append old.setting r.scanned.items g.scanned.items);
-        none = λ e. let q = split_nil l.text.text g.told.more (sym g.told.text ∙ e) in both_nil r.scanned.items g.scanned.items (r.none q.0) (g.told.some q.1);
+        none = λ e. let q = split_nil l.text.text g.told.more (sym g.told.text ∙ e) in (λ i. r.none q.0 i ++ g.told.some q.1 i);
         started = λ n. by_text l.text.text refl n g;
         unmarked = λ rest m. elim (marked_byte byte (what.Nothing) new k rest m) [ inl e ↦ r.unmarked e.rest e.mark | inr e ↦ let w : what.Nothing ≡ what.Skipped = e in cc ];
       }
@@ -147,9 +141,6 @@ module _ (old l : Reading) (s : reader.Scanning) (bytes : List ℕ) (r : ReadsOn
       split_nil : (a b : Chars) → a ++ b ≡ [] → (a ≡ []) × (b ≡ [])
       split_nil [] b e = (refl, e)
       split_nil (x ∷ a) b e = absurd (cc)
-
-      both_nil : (a b : List Item) → a ≡ [] → b ≡ [] → a ++ b ≡ []
-      both_nil a b e k = rw (e, k) refl
 
       by_text : (t : Chars) → l.text.text ≡ t → (new.text.text ≡ [] → ⊥) → GivesOk (reader.read_byte l.setting.syntax l.setting.limits (spot_of l) byte r.scanned.next) l what.Nothing new → new.place.started ≡ true
       by_text [] e n g = g.told.started (λ z. n (g.told.text ∙ (ap (λ x. x ++ g.told.more) e ∙ z)))
@@ -200,19 +191,13 @@ module _ (old l new : Reading) (s : reader.Scanning) (piece : List ℕ) (i : ℕ
 
   not_nothing : (answer : TokenKind) → is_token answer ≡ true → is_nothing answer ≡ true → ⊥
   not_nothing what.Nothing w z = cc
-  not_nothing what.Skipped w z = cc
-  not_nothing what.Text w z = cc
-  not_nothing what.Section w z = cc
-  not_nothing what.Doctype w z = cc
-  not_nothing what.Tag w z = cc
+  not_nothing _ w z = cc
 
   told : (answer : TokenKind) → is_token answer ≡ true → (items : List Item) → IsTold l answer items new → Tells l.setting.drops answer s (take (i + 1) piece) items new
   told what.Nothing w items h = absurd (cc)
   told what.Skipped w items h = h.0 s (take (i + 1) piece)
   told what.Text w items h = absurd (cc)
-  told what.Section w items h = h.0
-  told what.Doctype w items h = h.0
-  told what.Tag w items h = h.0
+  told _ w items h = h.0
 
   took_entry : (answer : TokenKind) → entries.Reads l byte (Ok answer) new → l.text.text ≡ [] → is_token answer ≡ true → GivesOk (reader.read_byte l.setting.syntax l.setting.limits (spot_of l) byte r.scanned.next) l answer new → Took old s piece (i + 1) answer new
   took_entry answer e t w g =
@@ -251,19 +236,17 @@ module _ (old l new : Reading) (s : reader.Scanning) (piece : List ℕ) (i : ℕ
   pub took_token : (answer : TokenKind) → entries.Reads l byte (Ok answer) new → l.text.text ≡ [] → is_token answer ≡ true → Took old s piece (i + 1) answer new
   took_token answer e t w = elim (reads l r.scanned.next r.reads_as byte (Ok answer) new e) [
     | inl g ↦ took_entry answer e t w g
-    | inr m ↦ let q : answer ≡ what.Skipped = skipped m.answer in
+    | inr m ↦ let w : ◌≡◌ {A = Result TokenKind Stop} (Ok answer) (Ok what.Skipped) = m.answer in
+        let q : answer ≡ what.Skipped = cc in
         subst (λ (a : TokenKind). Took old s piece (i + 1) a new) (sym q)
         (took_mark (subst (λ (a : TokenKind). entries.Reads l byte (Ok a) new) q e) t (subst (λ (a : TokenKind). PassesMark (reader.read_byte l.setting.syntax l.setting.limits (spot_of l) byte r.scanned.next) r.scanned.next l byte (Ok a) new) q m))
   ]
-    where
-      skipped : ◌≡◌ {A = Result TokenKind Stop} (Ok answer) (Ok what.Skipped) → answer ≡ what.Skipped
-      skipped e = cc
 
   -- the byte decides a fault
   pub faults : (fault : Fault) → entries.Reads l byte (Err (stop.Fault fault)) new → l.text.text ≡ [] → Faults old s piece fault
   faults fault e t =
       let none = no_items old l s (take i piece) r t in
-      let g = reads_fault l r.scanned.next r.reads_as byte fault new e in
+      let g = reads_other l r.scanned.next r.reads_as byte (Err (stop.Fault fault)) new (λ q. cc) e in
       let here : reader.read_byte old.setting.syntax old.setting.limits (spot_of old) byte r.scanned.next ≡ Err g.kind = sym (same_byte old l s (take i piece) r byte) ∙ g.is in
       let kind : g.kind ≡ fault.kind = sym (ap (λ (f : Fault). f.kind) g.fault_is) in
       record {
@@ -278,5 +261,5 @@ module _ (old l new : Reading) (s : reader.Scanning) (piece : List ℕ) (i : ℕ
         first = ap (reader.scan_from old.setting.syntax old.setting.limits (spot_of old) s) (sym (take-append-drop (i + 1) piece) ∙ ap (λ x. x ++ drop (i + 1) piece) taken)
             ∙ (on_append old.setting.syntax old.setting.limits (spot_of old) (Ok (record { next = s; items = [] })) (take i piece ++ byte ∷ []) (drop (i + 1) piece)
             ∙ (ap (λ x. reader.scan_on old.setting.syntax old.setting.limits (spot_of old) x (drop (i + 1) piece)) (byte_on old l s (take i piece) r byte ∙ (ap (reader.with_items r.scanned.next r.scanned.items) g.is ∙ ap Err (sym g.fault_is)))
-            ∙ on_err old.setting.syntax old.setting.limits (spot_of old) fault (drop (i + 1) piece)));
+            ∙ scan_fault old.setting.syntax old.setting.limits (spot_of old) fault (drop (i + 1) piece)));
       }

@@ -1,10 +1,10 @@
--- A plain character that is told at once is read like its bytes one after another.
+-- Text that is taken at once is read like its bytes one after another: plain characters, and a line end of CR and LF.
 use Rattle.std.proofs.Common.{◌≡◌, ◌∙◌, ℕ, ◌+◌, ◌≤◌, Bool, true, false, List, [], ◌∷◌, ◌++◌, length, refl, ap, sym, subst, Ok, append_assoc, append-nil, arith, encode_utf8, encode_utf8_all}
 use Rattle.std.specs.Prelude.{◌&&◌, ◌==◌, not, nat_le}
 use Rattle.std.specs.Char.{IsScalar}
 use Rattle.std.specs.List.{list_all}
 use Rattle.std.specs.Str.{all_scalars}
-use Rattle.std.proofs.lemmas.Bool.{cond-true, cond-false, lt-leb, and_parts, or_from}
+use Rattle.std.proofs.lemmas.Bool.{cond-true, cond-false, lt-leb, and_parts, or_from, and_right}
 use Rattle.std.proofs.lemmas.List.{length-append}
 use Rattle.std.proofs.lemmas.Str.{length-encode, len_utf8_bounds}
 use Rattle.rx_chars.specs.Characters.{as_line_end}
@@ -25,18 +25,22 @@ use Rattle.rx_scan.specs.declared.marks.Move.TheVariants as move
 use Rattle.rx_scan.specs.KnownTags as known_tags
 use Rattle.rx_scan.specs.Marks as marks
 use Rattle.rx_scan.specs.Pending.{Pending}
-use Rattle.rx_scan.proofs.Snoc.{and_false, either_way}
+use Rattle.rx_scan.proofs.Snoc.{either_way}
 use Rattle.rx_pages.specs.PageReader as reader
 use Rattle.rx_scan.specs.declared.answers.TokenKind.TheVariants as what
 use Rattle.rx_scan.specs.declared.places.Position.{Position}
 use Rattle.rx_scan.specs.Entries as entries
 use Rattle.rx_scan.specs.Fronts.{has_text}
-use Rattle.rx_scan.specs.Places.{said, ended, holding}
+use Rattle.rx_scan.specs.Places.{said, ended, entered}
 use Rattle.rx_scan.specs.Plain.{is_plain}
 use Rattle.rx_scan.specs.Scanner.{Reading}
-use Rattle.rx_scan.proofs.CharacterLemmas.{chosen, other_read}
+use Rattle.rx_scan.proofs.ByteLemmas.{chosen, other_read, character_read}
 use Rattle.rx_scan.proofs.PlainLemmas.{is_none}
 use Rattle.rx_scan.proofs.RunLemmas.{ReadsOn, reads_more}
+use Rattle.std.proofs.Math.Bool.{and-false}
+use Rattle.rx_scan.specs.declared.places.Setting.{Setting}
+use Rattle.rx_chars.proofs.Utf8Answers.{first_whole}
+use Rattle.rx_scan.specs.WholeReferences.{TellsLineEnd}
 
 -- in a content that has text a plain character is text
 pub is_said : (i : Content) (c : ℕ) → has_text i ≡ true → is_plain c ≡ true → marks.of_first (marks.at_first i c) ≡ move.EmitText
@@ -45,37 +49,40 @@ is_said i c t h =
   where
     text : (i : Content) → has_text i ≡ true → is_text i c ≡ true
     text content.Outside t = absurd (cc)
-    text content.Html t = rw (is_none c 60 h refl, is_none c 38 h refl) refl
-    text content.Foreign t = rw (is_none c 60 h refl, is_none c 38 h refl) refl
-    text content.Strict t = rw (is_none c 60 h refl, is_none c 38 h refl) refl
     text (content.Raw name) t = rw (is_none c 60 h refl) refl
-    text (content.Rcdata name) t = rw (is_none c 60 h refl, is_none c 38 h refl) refl
+    text _ t = rw (is_none c 60 h refl, is_none c 38 h refl) refl
 
 -- and no bracket that counts
 pub no_literal_at : (d : ℕ) (i : Content) (c : ℕ) → (d == c) ≡ false → is_strict_literal d i (character c) ≡ false
-no_literal_at d content.Outside c h = refl
-no_literal_at d content.Html c h = refl
-no_literal_at d content.Foreign c h = refl
 no_literal_at d content.Strict c h = h
-no_literal_at d (content.Raw name) c h = refl
-no_literal_at d (content.Rcdata name) c h = refl
+no_literal_at d _ c h = refl
+
+-- between tokens it is told
+emits : (l : Reading) (c : ℕ) → l.pending.mark ≡ mark.Nothing → has_text l.setting.inside ≡ true → is_plain c ≡ true → (62 == c) ≡ false → entries.move_at l c ≡ move.EmitText
+emits l c m t h n =
+    ap (λ (x : TokenState). entries.judged l.setting l.place.two c (marks.move_of l.setting.syntax l.setting.inside x c)) m
+    ∙ (ap (entries.judged l.setting l.place.two c) (is_said l.setting.inside c t h) ∙ cond-false _ _ _ (and_right l.place.two _ (no_literal_at 62 l.setting.inside c n)))
 
 said_one : (p : Position) (bracket : Bool) → bracket ≡ false → said 1 p ≡ ended false bracket p
 said_one p bracket e =
     let last : false ≡ bracket = sym e in
-    let two : false ≡ (p.last && bracket) = sym (ap (λ x. p.last && x) e ∙ and_false p.last) in
+    let two : false ≡ (p.last && bracket) = sym (ap (λ x. p.last && x) e ∙ and-false p.last) in
     λ i. record { at = p.at + 1; starts = p.at + 1; token = p.token; started = true; after_return = false; two = two i; last = last i }
 
 pub unmarked : (p : Pending) → p.mark ≡ mark.Nothing → p ≡ entries.marked mark.Nothing p
 unmarked p e = λ i. record { mark = e i; run = p.run; tag = p.tag }
 
+-- Text may be told there.
+pub record MayTell (m : TokenState) (setting : Setting) (has_started after_return : Bool) : Type 0 where
+  pub between : m ≡ mark.Nothing
+  pub inside : has_text setting.inside ≡ true
+  pub undropped : setting.drops ≡ false
+  pub started : has_started ≡ true
+  pub on_a_line : after_return ≡ false
+
 -- Behind the held bytes of a plain character these are left of it, and with the last one it is told.
 record Leads (v : Reading) (held rest : List ℕ) (c : ℕ) (new : Reading) : Type 0 where
-  between : v.pending.mark ≡ mark.Nothing
-  inside : has_text v.setting.inside ≡ true
-  undropped : v.setting.drops ≡ false
-  started : v.place.started ≡ true
-  on_a_line : v.place.after_return ≡ false
+  may : MayTell v.pending.mark v.setting v.place.started v.place.after_return
   held_is : v.held ≡ held
   plain : is_plain c ≡ true
   scalar : IsScalar c
@@ -97,32 +104,26 @@ module _ (l new : Reading) (held : List ℕ) (b c : ℕ) (t : Leads l held (b �
         text = record { text = t.text; size = t.size; room = t.room };
         is = t.is
             ∙ (ap (λ (p : Position). entries.with_parts l (entries.undropped l.setting) p l.pending new.text) (said_one l.place (entries.is_bracket l.setting c) no_bracket)
-            ∙ ap (λ (p : Pending). entries.with_parts l (entries.undropped l.setting) (ended false (entries.is_bracket l.setting c) l.place) p new.text) (unmarked l.pending t.between));
+            ∙ ap (λ (p : Pending). entries.with_parts l (entries.undropped l.setting) (ended false (entries.is_bracket l.setting c) l.place) p new.text) (unmarked l.pending t.may.between));
       }
-
-  move_is : entries.move_at l c ≡ move.EmitText
-  move_is =
-      ap (λ (x : TokenState). entries.judged l.setting l.place.two c (marks.move_of l.setting.syntax l.setting.inside x c)) t.between
-      ∙ (ap (entries.judged l.setting l.place.two c) (is_said l.setting.inside c t.inside t.plain)
-      ∙ cond-false _ _ _ (ap (λ x. l.place.two && x) (no_literal_at 62 l.setting.inside c (either_way 62 c ∙ is_none c 62 t.plain refl)) ∙ and_false l.place.two))
 
   says : entries.Enters l c false (entries.move_at l c) (Ok what.Nothing) new
   says =
-      subst (λ (x : Move). entries.Enters l c false x (Ok what.Nothing) new) (sym move_is)
-      (ap (λ x. x && (c == 10)) t.undropped, tells)
+      subst (λ (x : Move). entries.Enters l c false x (Ok what.Nothing) new) (sym (emits l c t.may.between t.may.inside t.plain (either_way 62 c ∙ is_none c 62 t.plain refl)))
+      (ap (λ x. x && (c == 10)) t.may.undropped, tells)
 
   answers : Char c ≡ answer_of (held ++ b ∷ [])
   answers = answer_is (held ++ b ∷ []) (Char c) ((tables_agree (held ++ b ∷ []) c).1 (t.scalar, t.spelled))
 
   reads_last : entries.Reads l b (Ok what.Nothing) new
   reads_last =
-      other_read l new held b c (Ok what.Nothing) t.held_is answers (omega (arith, t.page)) (is_none c 0 t.plain refl) (ap (λ (x : TokenState). entries.is_long l (known_tags.is_tag x)) t.between)
-      (ap (λ (x : TokenState). entries.is_long l (known_tags.is_tag_with l.setting.syntax l.setting.inside x (as_line_end c))) t.between)
-      (or_from _ _ (ap (λ x. not x && (c == 65279)) t.started) (ap (λ x. x && (c == 10)) t.on_a_line)) (is_none c 13 t.plain refl) says
+      other_read l new held b c (Ok what.Nothing) t.held_is answers (omega (arith, t.page)) (is_none c 0 t.plain refl) (ap (λ (x : TokenState). entries.is_long l (known_tags.is_tag x)) t.may.between)
+      (ap (λ (x : TokenState). entries.is_long l (known_tags.is_tag_with l.setting.syntax l.setting.inside x (as_line_end c))) t.may.between)
+      (or_from _ _ (ap (λ x. not x && (c == 65279)) t.may.started) (ap (λ x. x && (c == 10)) t.may.on_a_line)) (is_none c 13 t.plain refl) says
 
-holding_on : (m n : ℕ) (p : Position) → m ≡ n + 1 → said m p ≡ said n (holding p)
-holding_on m n p q =
-    let e : p.at + m ≡ (p.at + 1) + n = omega (arith, q) in
+said_on : (m n k : ℕ) (p : Position) → m ≡ k + n → said m p ≡ said n (said k p)
+said_on m n k p q =
+    let e : p.at + m ≡ (p.at + k) + n = omega (arith, q) in
     λ i. record { at = e i; starts = e i; token = p.token; started = true; after_return = false; two = false; last = false }
 
 -- a byte before it
@@ -138,24 +139,17 @@ module _ (l new : Reading) (held : List ℕ) (b d : ℕ) (rest : List ℕ) (c : 
       answer_is (held ++ b ∷ []) More
       (record { more = d ∷ rest; value = c; longer = λ e. cc; character = (tables_agree ((held ++ b ∷ []) ++ d ∷ rest) c).1 (t.scalar, spelled_on) })
 
-  in_text : entries.is_long l (known_tags.is_tag l.pending.mark) ≡ false
-  in_text = ap (λ (x : TokenState). entries.is_long l (known_tags.is_tag x)) t.between
-
   reads_held : entries.Reads l b (Ok what.Nothing) next
   reads_held =
       chosen (nat_le l.setting.limits.page l.place.at) _ _ (lt-leb l.setting.limits.page l.place.at (omega (arith, t.page)))
       (subst (λ (x : List ℕ). entries.ReadsAnswer l (x ++ b ∷ []) (answer_of (x ++ b ∷ [])) (Ok what.Nothing) next) (sym t.held_is)
       (subst (λ (a : Utf8Step). entries.ReadsAnswer l (held ++ b ∷ []) a (Ok what.Nothing) next) is_begun
-      (chosen (entries.is_long l (known_tags.is_tag l.pending.mark)) _ _ in_text (refl, refl))))
+      (chosen (entries.is_long l (known_tags.is_tag l.pending.mark)) _ _ (ap (λ (x : TokenState). entries.is_long l (known_tags.is_tag x)) t.may.between) (refl, refl))))
 
   leads_on : Leads next (held ++ b ∷ []) (d ∷ rest) c new
   leads_on =
       record {
-        between = t.between;
-        inside = t.inside;
-        undropped = t.undropped;
-        started = t.started;
-        on_a_line = t.on_a_line;
+        may = t.may;
         held_is = refl;
         plain = t.plain;
         scalar = t.scalar;
@@ -164,17 +158,13 @@ module _ (l new : Reading) (held : List ℕ) (b d : ℕ) (rest : List ℕ) (c : 
         text = t.text;
         size = t.size;
         room = t.room;
-        is = t.is ∙ ap (λ (p : Position). entries.with_parts l (entries.undropped l.setting) p l.pending new.text) (holding_on (length (b ∷ d ∷ rest)) (length (d ∷ rest)) l.place (omega arith));
+        is = t.is ∙ ap (λ (p : Position). entries.with_parts l (entries.undropped l.setting) p l.pending new.text) (said_on (length (b ∷ d ∷ rest)) (length (d ∷ rest)) 1 l.place (omega arith));
       }
 
 -- Plain characters are told, each of which is text between tokens.
 pub record TellsChars (v : Reading) (cs : List ℕ) (new : Reading) : Type 0 where
-  pub between : v.pending.mark ≡ mark.Nothing
+  pub may : MayTell v.pending.mark v.setting v.place.started v.place.after_return
   pub held : v.held ≡ []
-  pub inside : has_text v.setting.inside ≡ true
-  pub undropped : v.setting.drops ≡ false
-  pub started : v.place.started ≡ true
-  pub on_a_line : v.place.after_return ≡ false
   pub plain : list_all is_plain cs ≡ true
   pub scalars : all_scalars cs ≡ true
   pub page : v.place.at + length (encode_utf8_all cs) ≤ v.setting.limits.page
@@ -188,11 +178,6 @@ abbrev middle : Reading → ℕ → ℕ → Reading
 middle l c room =
     entries.with_parts l (entries.undropped l.setting) (said (length (encode_utf8 c)) l.place) l.pending (record { text = l.text.text ++ c ∷ []; size = l.text.size + length (encode_utf8 c); room = room })
 
-said_on : (m n k : ℕ) (p : Position) → m ≡ k + n → said m p ≡ said n (said k p)
-said_on m n k p q =
-    let e : p.at + m ≡ (p.at + k) + n = omega (arith, q) in
-    λ i. record { at = e i; starts = e i; token = p.token; started = true; after_return = false; two = false; last = false }
-
 module _ (l new : Reading) (c : ℕ) (t : TellsChars l (c ∷ []) new) where
   only : encode_utf8_all (c ∷ []) ≡ encode_utf8 c
   only = append-nil (encode_utf8 c)
@@ -200,11 +185,7 @@ module _ (l new : Reading) (c : ℕ) (t : TellsChars l (c ∷ []) new) where
   leads_one : Leads l [] (encode_utf8 c) c new
   leads_one =
       record {
-        between = t.between;
-        inside = t.inside;
-        undropped = t.undropped;
-        started = t.started;
-        on_a_line = t.on_a_line;
+        may = t.may;
         held_is = t.held;
         plain = (and_parts (is_plain c) true t.plain).0;
         scalar = (and_parts _ true t.scalars).0;
@@ -223,11 +204,7 @@ module _ (l new : Reading) (c d : ℕ) (cs : List ℕ) (t : TellsChars l (c ∷ 
   first_leads : Leads l [] (encode_utf8 c) c (middle l c new.text.room)
   first_leads =
       record {
-        between = t.between;
-        inside = t.inside;
-        undropped = t.undropped;
-        started = t.started;
-        on_a_line = t.on_a_line;
+        may = t.may;
         held_is = t.held;
         plain = (and_parts (is_plain c) _ t.plain).0;
         scalar = (and_parts _ _ t.scalars).0;
@@ -242,12 +219,8 @@ module _ (l new : Reading) (c d : ℕ) (cs : List ℕ) (t : TellsChars l (c ∷ 
   rest_tells : TellsChars (middle l c new.text.room) (d ∷ cs) new
   rest_tells =
       record {
-        between = t.between;
+        may = record { between = t.may.between; inside = t.may.inside; undropped = refl; started = refl; on_a_line = refl };
         held = refl;
-        inside = t.inside;
-        undropped = refl;
-        started = refl;
-        on_a_line = refl;
         plain = (and_parts (is_plain c) _ t.plain).1;
         scalars = (and_parts _ _ t.scalars).1;
         page = omega (arith, t.page, sizes);
@@ -283,3 +256,45 @@ module _ (old : Reading) (s : reader.Scanning) where
       let next : Reading = middle l c new.text.room in
       subst (λ (x : List ℕ). ReadsOn old s x new) (append_assoc bytes (encode_utf8 c) (encode_utf8_all (d ∷ cs)))
       (chars_on new cs d next (bytes ++ encode_utf8 c) (char_on next c l bytes r (first_leads l new c d cs t)) (rest_tells l new c d cs t))
+
+-- behind an LF that belongs to the CR before it
+said_two : (p : Position) (bracket : Bool) → bracket ≡ false → entered false (ended true bracket p) ≡ said 2 p
+said_two p bracket e =
+    let at : (p.at + 1) + 1 ≡ p.at + 2 = omega arith in
+    let two : (p.last && bracket) ≡ false = ap (λ x. p.last && x) e ∙ and-false p.last in
+    λ i. record { at = at i; starts = at i; token = p.token; started = true; after_return = false; two = two i; last = e i }
+
+module _ (l new : Reading) (front : List ℕ) (t : TellsLineEnd l front new) where
+  -- behind the CR, where the LF is told
+  abbrev behind_return : Reading
+  behind_return = entries.with_parts l (entries.undropped l.setting) (ended true (entries.is_bracket l.setting 10) l.place) (entries.marked mark.Nothing l.pending) new.text
+
+  enters : entries.Enters l 10 true (entries.move_at l 10) (Ok what.Nothing) behind_return
+  enters =
+      subst (λ (x : Move). entries.Enters l 10 true x (Ok what.Nothing) behind_return) (sym (emits l 10 t.between t.may.inside refl refl))
+      (ap (λ x. x && (10 == 10)) t.may.undropped, record { text = t.text; is = refl })
+
+  reads_return : entries.Reads l 13 (Ok what.Nothing) behind_return
+  reads_return =
+      character_read l behind_return [] 13 13 (Ok what.Nothing) t.may.held (first_whole 13 (omega arith)) (omega (arith, t.page)) refl (ap (λ (x : TokenState). entries.is_long l (known_tags.is_tag x)) t.between)
+      (ap (λ (x : TokenState). entries.is_long l (known_tags.is_tag_with l.setting.syntax l.setting.inside x 10)) t.between)
+      (or_from _ _ (ap (λ x. not x && (13 == 65279)) t.may.started) (ap (λ x. x && (13 == 10)) t.may.on_a_line)) enters
+
+  -- the LF is passed
+  reads_feed : entries.Reads behind_return 10 (Ok what.Nothing) (entries.with_passed behind_return)
+  reads_feed =
+      chosen (nat_le l.setting.limits.page (l.place.at + 1)) _ _ (lt-leb l.setting.limits.page (l.place.at + 1) (omega (arith, t.page)))
+      (subst (λ (a : Utf8Step). entries.ReadsAnswer behind_return (10 ∷ []) a (Ok what.Nothing) (entries.with_passed behind_return)) (first_whole 10 (omega arith)) (refl, refl))
+
+  ends : entries.with_passed behind_return ≡ new
+  ends =
+      ap (λ (p : Position). entries.with_parts l (entries.undropped l.setting) p (entries.marked mark.Nothing l.pending) new.text) (said_two l.place (entries.is_bracket l.setting 10) (no_literal_at 93 l.setting.inside 10 refl))
+      ∙ (ap (λ (p : Pending). entries.with_parts l (entries.undropped l.setting) (said 2 l.place) p new.text) (sym (unmarked l.pending t.between)) ∙ sym t.is)
+
+-- both bytes
+pub line_end_on : (old : Reading) (s : reader.Scanning) (new : Reading) (front : List ℕ) (l : Reading) (bytes : List ℕ) → ReadsOn old s bytes l → TellsLineEnd l front new → ReadsOn old s (bytes ++ front) new
+line_end_on old s new front l bytes r t =
+    let middle : Reading = behind_return l new front t in
+    subst (λ (x : Reading). ReadsOn old s (bytes ++ front) x) (ends l new front t)
+    (subst (λ (x : List ℕ). ReadsOn old s x (entries.with_passed middle)) (append_assoc bytes (13 ∷ []) (10 ∷ []) ∙ ap (λ x. bytes ++ x) (sym t.are))
+    (reads_more old middle s (bytes ++ 13 ∷ []) (reads_more old l s bytes r 13 middle (reads_return l new front t)) 10 (entries.with_passed middle) (reads_feed l new front t)))

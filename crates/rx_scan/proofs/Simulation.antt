@@ -1,37 +1,31 @@
 -- The table says what the verdicts are: of each mark and each character.
-use Rattle.std.proofs.Common.{◌≡◌, ◌∙◌, ℕ, false, [], ◌∷◌, ◌++◌, refl, ap, sym, append-nil, length, map, slice_get, arith, add-one, add-zero}
-use Rattle.std.specs.Prelude.{◌&&◌, ◌==◌, ◌≤◌, ◌+◌, codes, drop, take}
-use Rattle.std.proofs.lemmas.Bool.{cond-true, cond-false}
+use Rattle.std.proofs.Common.{◌≡◌, ◌∙◌, ℕ, false, [], ◌∷◌, ◌++◌, refl, ap, sym, append-nil, length, map, arith, add-one}
+use Rattle.std.specs.Prelude.{◌&&◌, ◌==◌, ◌≤◌, ◌+◌, drop, take}
+use Rattle.std.proofs.lemmas.Bool.{cond-true, cond-false, and_right}
 use Rattle.std.proofs.lemmas.List.{length-append, length-map}
-use Rattle.std.proofs.Math.Seq.{drop-append_seam, take-append_seam}
 use Rattle.rx_terms.specs.Ascii.{lowered_char, solidus}
 use Rattle.rx_terms.specs.Text.{Chars, lowered}
 use Rattle.rx_chars.specs.declared.syntax.Syntax.{Syntax}
 use Rattle.rx_grammar.specs.declared.contents.Content.{Content}
 use Rattle.rx_grammar.specs.declared.contents.Content.TheVariants as content
-use Rattle.rx_grammar.specs.declared.contents.RawName.{RawName}
-use Rattle.rx_grammar.specs.declared.contents.RawName.TheVariants.{Script, Style, Iframe, Noembed, Noframes, Xmp, Title, Textarea}
 use Rattle.std.proofs.lemmas.Grind.{common_steps}
 use Rattle.rx_grammar.specs.Names.{same, name_of_raw}
 use Rattle.rx_grammar.specs.Shapes.{ends_name, begins}
-use Rattle.rx_grammar.specs.Spelling.{ends_with}
 use Rattle.rx_grammar.specs.PageFaults.{is_known_tag, is_known_after, is_known_raw, is_known_end}
-use Rattle.rx_pages.specs.Scanner as told
 use Rattle.rx_tags.specs.TagBufs.{TagSoFar}
 use Rattle.rx_scan.specs.declared.marks.TokenState.{TokenState}
 use Rattle.rx_scan.specs.declared.marks.TokenState.TheVariants as mark
 use Rattle.rx_scan.specs.Marks as marks
 use Rattle.rx_scan.specs.KnownTags.{is_tag, is_tag_with, ends_word}
-use Rattle.rx_scan.specs.Pending.{Pending, PendsAs, Pends, Behind, judge_of, CommentEnds, StrictEnds, DoctypeEnds, SectionEnds, InRawEnd}
+use Rattle.rx_scan.specs.Pending.{Pending, PendsAs, Pends, InRawEnd}
 use Rattle.rx_scan.specs.Meant.{Means}
-use Rattle.rx_scan.proofs.Behinds.{grown, in_comment_means, in_strict_means, in_bogus_means, in_instruction_means, in_section_means}
-use Rattle.rx_scan.proofs.Doctype.{in_doctype_means}
-use Rattle.rx_scan.proofs.MarkFronts.{head_of, slice_at}
+use Rattle.rx_scan.proofs.Behinds.{grown, in_comment_means, in_strict_means, in_bogus_means, in_instruction_means, in_section_means, in_doctype_means}
+use Rattle.rx_scan.proofs.Snoc.{head_of, word_at}
 use Rattle.rx_scan.proofs.Openings.{in_word_means, at_opened_means, no_tag}
-use Rattle.rx_scan.proofs.Markup.{at_nothing_means, at_less_than_means, in_tag_means}
+use Rattle.rx_scan.proofs.Markup.{at_nothing_means, at_less_than_means, in_tag_means, in_end_means, raw_content, end_known}
 use Rattle.rx_scan.proofs.References.{in_run_means}
-use Rattle.rx_scan.proofs.RawEnds.{in_end_means, raw_content, same_self}
-use Rattle.rx_scan.proofs.Snoc.{and_false}
+use Rattle.std.proofs.Math.Bool.{and-false}
+use Rattle.rx_scan.specs.Marks.{end_word}
 
 module _ (s : Syntax) (i : Content) (p : Pending) (text : Chars) (c : ℕ) where
   at_mark : (m : TokenState) → p.mark ≡ m → PendsAs s i m p.run p.tag text → Means s i p text c (marks.move_of s i m c)
@@ -52,52 +46,20 @@ module _ (s : Syntax) (i : Content) (p : Pending) (text : Chars) (c : ℕ) where
   pub simulates : Pends s i p text → Means s i p text c (marks.move_of s i p.mark c)
   simulates h = at_mark p.mark refl h
 
--- nothing behind `<` is no tag yet
-none_after : (s : Syntax) (i : Content) → is_known_after s i [] ≡ false
-none_after s content.Outside = refl
-none_after s content.Html = refl
-none_after s content.Foreign = refl
-none_after s content.Strict = refl
-none_after s (content.Raw r) = by r
-  where
-    by : (r : RawName) → is_known_end (name_of_raw r) [] ≡ false
-    by Script = refl
-    by Style = refl
-    by Iframe = refl
-    by Noembed = refl
-    by Noframes = refl
-    by Xmp = refl
-    by Title = refl
-    by Textarea = refl
-none_after s (content.Rcdata r) = by r
-  where
-    by : (r : RawName) → is_known_end (name_of_raw r) [] ≡ false
-    by Script = refl
-    by Style = refl
-    by Iframe = refl
-    by Noembed = refl
-    by Noframes = refl
-    by Xmp = refl
-    by Title = refl
-    by Textarea = refl
-
-first_no_tag : (s : Syntax) (i : Content) (c : ℕ) → is_known_tag s i (c ∷ []) ≡ false
-first_no_tag s i c = ap (λ b. c == 60 && b) (none_after s i) ∙ and_false (c == 60)
-
 -- a front of the end tag's name, and what isn't longer than the name
 short_end : (name x : Chars) → length x ≤ length name + 1 → is_known_end name x ≡ false
-short_end name x h = ap (λ z. same (lowered (take (length name + 1) x)) (solidus ∷ name) && begins ends_name z) (drop-past (length name + 1) x h) ∙ and_false (same (lowered (take (length name + 1) x)) (solidus ∷ name))
+short_end name x h = ap (λ z. same (lowered (take (length name + 1) x)) (solidus ∷ name) && begins ends_name z) (drop-past (length name + 1) x h) ∙ and-false (same (lowered (take (length name + 1) x)) (solidus ∷ name))
   where
     drop-past : (n : ℕ) (x : Chars) → length x ≤ n → drop n x ≡ []
     drop-past n x h = grind (arith, common_steps)
 
+-- nothing behind `<` is no tag yet
+none_after : (s : Syntax) (i : Content) → is_known_after s i [] ≡ false
+none_after s (content.Raw r) = short_end (name_of_raw r) [] (omega arith)
+none_after s (content.Rcdata r) = short_end (name_of_raw r) [] (omega arith)
+none_after s _ = refl
+
 module _ (s : Syntax) (i : Content) (run : Chars) (tag : TagSoFar) (text : Chars) where
-  behind_no_tag : (judge : Chars → ℕ → told.Verdict) (Is : Chars → Type 0) → Behind s i judge Is text → is_known_tag s i text ≡ false
-  behind_no_tag judge Is b = ap (is_known_tag s i) b.are ∙ b.judges.no_tag b.rest
-
-  behind_no_tag_with : (judge : Chars → ℕ → told.Verdict) (Is : Chars → Type 0) (c : ℕ) → Behind s i judge Is text → is_known_tag s i (text ++ c ∷ []) ≡ false
-  behind_no_tag_with judge Is c b = ap (is_known_tag s i) (grown text b.front b.rest c b.are) ∙ b.judges.no_tag (b.rest ++ c ∷ [])
-
   raw_length : (n : ℕ) (h : InRawEnd s i n run tag text) → length h.name + 1 ≡ length run + length h.left
   raw_length n h =
       let k = raw_content i h.name h.raw in
@@ -114,42 +76,28 @@ module _ (s : Syntax) (i : Content) (run : Chars) (tag : TagSoFar) (text : Chars
   known (mark.Run q) h = ap (is_known_tag s i) h.are
   known mark.Opened h = ap (is_known_tag s i) h.are ∙ no_tag s i [] h.markup
   known (mark.Opening w n) h = ap (is_known_tag s i) h.are ∙ no_tag s i (h.first ∷ h.chars) h.markup
-  known (mark.Comment q) h = behind_no_tag (judge_of s i (mark.Comment q)) (CommentEnds q) h
-  known (mark.StrictComment q) h = behind_no_tag (judge_of s i (mark.StrictComment q)) (StrictEnds q) h
-  known mark.Bogus h = behind_no_tag (judge_of s i mark.Bogus) (λ rest. Unit {0}) h
-  known (mark.Instruction asked) h = behind_no_tag (judge_of s i (mark.Instruction asked)) (λ rest. ends_with (codes "?") rest ≡ asked) h
-  known (mark.Doctype q) h = behind_no_tag (judge_of s i (mark.Doctype q)) (DoctypeEnds s q) h
-  known (mark.Section q) h = behind_no_tag (judge_of s i (mark.Section q)) (SectionEnds q run) h
+  known _ h = ap (is_known_tag s i) h.are ∙ h.judges.no_tag h.rest
 
   raw_known_with : (n : ℕ) (c : ℕ) (h : InRawEnd s i n run tag text) (left : Chars) → h.left ≡ left → is_known_tag s i (text ++ c ∷ []) ≡ ends_word (head_of left) c
   raw_known_with n c h [] l =
       let k = raw_content i h.name h.raw in
-      let size : length h.name + 1 ≡ length run = raw_length n h ∙ (ap (λ x. length run + length x) l ∙ add-zero (length run)) in
       let whole : solidus ∷ h.name ≡ lowered run = sym k.word ∙ (h.word ∙ (ap (λ x. map lowered_char run ++ x) l ∙ append-nil (map lowered_char run))) in
       ap (λ x. is_known_tag s i (x ++ c ∷ [])) h.are
       ∙ (raw_known n h (run ++ c ∷ [])
-      ∙ (ap (λ z. same (lowered (take z (run ++ c ∷ []))) (solidus ∷ h.name) && begins ends_name (drop z (run ++ c ∷ []))) size
-      ∙ (ap (λ x. same (lowered x) (solidus ∷ h.name) && begins ends_name (drop (length run) (run ++ c ∷ []))) (take-append_seam run (c ∷ []))
-      ∙ (ap (λ x. same (lowered run) (solidus ∷ h.name) && begins ends_name x) (drop-append_seam run (c ∷ []))
-      ∙ ap (λ b. b && ends_name c) (ap (same (lowered run)) whole ∙ same_self (lowered run))))))
+      ∙ end_known h.name run (c ∷ []) whole)
   raw_known_with n c h (d ∷ left) l =
       let size : length h.name + 1 ≡ length run + length (d ∷ left) = raw_length n h ∙ ap (λ x. length run + length x) l in
       let grows : length (run ++ c ∷ []) ≡ length run + 1 = length-append run (c ∷ []) in
       ap (λ x. is_known_tag s i (x ++ c ∷ [])) h.are ∙ (raw_known n h (run ++ c ∷ []) ∙ short_end h.name (run ++ c ∷ []) (omega arith))
 
   pub known_with : (m : TokenState) (c : ℕ) → PendsAs s i m run tag text → is_known_tag s i (text ++ c ∷ []) ≡ is_tag_with s i m c
-  known_with mark.Nothing c h = ap (λ x. is_known_tag s i (x ++ c ∷ [])) h ∙ first_no_tag s i c
+  known_with mark.Nothing c h = ap (λ x. is_known_tag s i (x ++ c ∷ [])) h ∙ and_right (c == 60) _ (none_after s i)
   known_with mark.LessThan c h = ap (λ x. is_known_tag s i (x ++ c ∷ [])) h.are ∙ cond-true _ _ _ h.markup
   known_with (mark.RawEnd n) c h =
       raw_known_with n c h h.left refl
-      ∙ ap (λ o. ends_word o c) (sym (ap (λ x. slice_get x n) h.word ∙ (ap (λ z. slice_get (map lowered_char run ++ h.left) z) (sym (length-map run lowered_char ∙ h.count)) ∙ slice_at (map lowered_char run) h.left)))
+      ∙ ap (λ o. ends_word o c) (sym (word_at (end_word i) (map lowered_char run) h.left n h.word (length-map run lowered_char ∙ h.count)))
   known_with mark.Tag c h = ap (λ x. is_known_tag s i (x ++ c ∷ [])) h.are ∙ h.known (c ∷ [])
   known_with (mark.Run q) c h = ap (λ x. is_known_tag s i (x ++ c ∷ [])) h.are
   known_with mark.Opened c h = ap (λ x. is_known_tag s i (x ++ c ∷ [])) h.are ∙ no_tag s i (c ∷ []) h.markup
   known_with (mark.Opening w n) c h = ap (λ x. is_known_tag s i (x ++ c ∷ [])) h.are ∙ no_tag s i ((h.first ∷ h.chars) ++ c ∷ []) h.markup
-  known_with (mark.Comment q) c h = behind_no_tag_with (judge_of s i (mark.Comment q)) (CommentEnds q) c h
-  known_with (mark.StrictComment q) c h = behind_no_tag_with (judge_of s i (mark.StrictComment q)) (StrictEnds q) c h
-  known_with mark.Bogus c h = behind_no_tag_with (judge_of s i mark.Bogus) (λ rest. Unit {0}) c h
-  known_with (mark.Instruction asked) c h = behind_no_tag_with (judge_of s i (mark.Instruction asked)) (λ rest. ends_with (codes "?") rest ≡ asked) c h
-  known_with (mark.Doctype q) c h = behind_no_tag_with (judge_of s i (mark.Doctype q)) (DoctypeEnds s q) c h
-  known_with (mark.Section q) c h = behind_no_tag_with (judge_of s i (mark.Section q)) (SectionEnds q run) c h
+  known_with _ c h = ap (is_known_tag s i) (grown text h.front h.rest c h.are) ∙ h.judges.no_tag (h.rest ++ c ∷ [])

@@ -36,29 +36,24 @@ use Rattle.rx_scan.specs.Places.{fed}
 use Rattle.rx_scan.specs.Scanner.{Reading}
 use Rattle.rx_scan.specs.Steps.{ReadsAs, Took, is_quiet}
 use Rattle.rx_scan.specs.WholeTags.{ReadsOpened, ReadsWholeTag}
-use Rattle.rx_scan.proofs.CharacterLemmas.{character_read, within_limit}
+use Rattle.rx_scan.proofs.ByteLemmas.{character_read, within_limit}
 use Rattle.rx_scan.proofs.FrontLemmas.{front_read}
-use Rattle.rx_scan.proofs.LoopLemmas.{next_read, token_read}
-use Rattle.rx_scan.proofs.OpenLemmas.{opens_taken}
+use Rattle.rx_scan.proofs.QuietLemmas.{next_read, token_read}
+use Rattle.rx_scan.proofs.FeedLemmas.{opens_taken}
 use Rattle.rx_scan.proofs.RunLemmas.{ReadsOn, reads_none}
-use Rattle.rx_scan.proofs.Snoc.{and_false}
+use Rattle.std.proofs.Math.Bool.{and-false}
 
 -- the `>` that ends a tag is read as its last byte
 module _ (l new : Reading) (m : l.pending.mark ≡ mark.Tag) (held : l.held ≡ []) (page : l.place.at < l.setting.limits.page) (tag : l.place.at < l.place.token + l.setting.limits.tag)
     (t : entries.Tags l 62 false (entries.marked mark.Tag l.pending) (Ok what.Tag) new) where
-  move_is : entries.move_at l 62 ≡ move.Tags
-  move_is = ap (λ (x : TokenState). entries.judged l.setting l.place.two 62 (marks.move_of l.setting.syntax l.setting.inside x 62)) m
-
-  enters : entries.Enters l 62 false (entries.move_at l 62) (Ok what.Tag) new
-  enters = subst (λ (x : Move). entries.Enters l 62 false x (Ok what.Tag) new) (sym move_is) t
-
   not_long : (known : Bool) → entries.is_long l known ≡ false
   not_long = within_limit l (subst (λ (x : TokenState). l.place.at < entries.token_from x l.place + l.setting.limits.tag) (sym m) tag)
 
   pub ends_read : entries.Reads l 62 (Ok what.Tag) new
   ends_read =
       character_read l new [] 62 62 (Ok what.Tag) held (first_whole 62 (omega arith)) page refl (not_long (known_tags.is_tag l.pending.mark))
-      (not_long (known_tags.is_tag_with l.setting.syntax l.setting.inside l.pending.mark (as_line_end 62))) (or_from _ _ (and_false (not l.place.started)) (and_false l.place.after_return)) enters
+      (not_long (known_tags.is_tag_with l.setting.syntax l.setting.inside l.pending.mark (as_line_end 62))) (or_from _ _ (and-false (not l.place.started)) (and-false l.place.after_return))
+      (subst (λ (x : Move). entries.Enters l 62 false x (Ok what.Tag) new) (sym (ap (λ (x : TokenState). entries.judged l.setting l.place.two 62 (marks.move_of l.setting.syntax l.setting.inside x 62)) m)) t)
 
 pub none_held : (held : List ℕ) → is_none_held held ≡ true → held ≡ []
 none_held [] h = refl
@@ -148,12 +143,9 @@ pub not_quiet : (l new : Reading) (bytes : List ℕ) (n : ℕ) → ReadsWholeTag
 not_quiet l new bytes n t q = let z = ap is_quiet (sym t.opens) ∙ q in cc
 
 opens_markup : (inside : Content) → has_markup inside ≡ true → marks.less_than_mark inside ≡ mark.LessThan
-opens_markup content.Outside h = refl
-opens_markup content.Html h = refl
-opens_markup content.Foreign h = refl
-opens_markup content.Strict h = refl
 opens_markup (content.Raw name) h = absurd (cc)
 opens_markup (content.Rcdata name) h = absurd (cc)
+opens_markup _ h = refl
 
 first_is : (bytes : List ℕ) (c : ℕ) → slice_get bytes 0 ≡ Some c → bytes ≡ c ∷ drop 1 bytes
 first_is [] c e = absurd (cc)
@@ -174,13 +166,11 @@ module _ (l : Reading) (m : l.pending.mark ≡ mark.Nothing) (held : l.held ≡ 
       ap (λ (x : TokenState). entries.judged l.setting l.place.two 60 (marks.move_of l.setting.syntax l.setting.inside x 60)) m
       ∙ ap (λ (x : TokenState). entries.judged l.setting l.place.two 60 (move.Begins x)) (opens_markup l.setting.inside markup)
 
-  enters_begun : entries.Enters l 60 false (entries.move_at l 60) (Ok what.Nothing) begun
-  enters_begun = subst (λ (x : Move). entries.Enters l 60 false x (Ok what.Nothing) begun) (sym begins) (refl, refl)
-
   pub less_than_read : entries.Reads l 60 (Ok what.Nothing) begun
   less_than_read =
       character_read l begun [] 60 60 (Ok what.Nothing) held (first_whole 60 (omega arith)) page refl (ap (λ (x : TokenState). entries.is_long l (known_tags.is_tag x)) m)
-      (ap (λ (x : TokenState). entries.is_long l (known_tags.is_tag_with l.setting.syntax l.setting.inside x (as_line_end 60))) m) (or_from _ _ (and_false (not l.place.started)) (and_false l.place.after_return)) enters_begun
+      (ap (λ (x : TokenState). entries.is_long l (known_tags.is_tag_with l.setting.syntax l.setting.inside x (as_line_end 60))) m) (or_from _ _ (and-false (not l.place.started)) (and-false l.place.after_return))
+      (subst (λ (x : Move). entries.Enters l 60 false x (Ok what.Nothing) begun) (sym begins) (refl, refl))
 
   -- and what stands whole behind it is the tag
   pub whole_taken : (bytes : List ℕ) (limit count : ℕ) → slice_get bytes 0 ≡ Some 60 → (limit ≡ 0 → ⊥) → limit ≤ length bytes → l.place.at + limit ≤ l.setting.limits.page → limit ≤ l.setting.limits.tag

@@ -1,4 +1,4 @@
-use Rattle.rx_scan.proofs.ExactLemmas.{refuses_what_is_faulty as law}
+use Rattle.rx_scan.proofs.BackLemmas.{refuses_what_is_faulty as law}
 use Rattle.rx_scan.proofs.refuses_what_is_faulty.Goals as goal
 
 pub returns : goal.returns

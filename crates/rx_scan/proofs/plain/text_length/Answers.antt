@@ -3,9 +3,8 @@ use Rattle.std.specs.List.{list_all}
 use Rattle.std.specs.Str.{IsUtf8}
 use Rattle.std.proofs.lemmas.List.{take_rest}
 use Rattle.rx_scan.specs.Plain.{is_plain}
-use Rattle.rx_scan.proofs.PlainLemmas.{ascii_plain, ascii_text}
+use Rattle.rx_scan.proofs.PlainLemmas.{ascii_plain, ascii_text, plain_more, text_more}
 use Rattle.rx_scan.proofs.FrontLemmas.{front_within}
-use Rattle.rx_scan.proofs.WideLemmas.{plain_more, text_more}
 use Rattle.rx_scan.proofs.plain.text_length.Goals as goal
 
 pub loop-count-init : goal.loop-count-init

@@ -1,6 +1,6 @@
 use Rattle.std.proofs.Common.{◌∙◌, ap, sym, arith}
 use Rattle.rx_grammar.specs.References.{meaning}
-use Rattle.rx_scan.proofs.BodyLemmas.{body_is}
+use Rattle.rx_scan.proofs.ReferenceLemmas.{body_is}
 use Rattle.rx_scan.proofs.whole_references.other_reference.Goals as goal
 
 pub returns-in-Some : goal.returns-in-Some

@@ -1,7 +1,7 @@
 use Rattle.std.proofs.Common.{◌∙◌, ℕ, sym, subst, Option}
 use Rattle.std.specs.Prelude.{IfSome}
 use Rattle.rx_scan.specs.WholeReferences.{BeginsReference}
-use Rattle.rx_scan.proofs.WholeTexts.{usual_is}
+use Rattle.rx_scan.proofs.FrontLemmas.{usual_is}
 use Rattle.rx_scan.proofs.whole_references.whole_reference.Goals as goal
 
 pub returns-in-Some : goal.returns-in-Some

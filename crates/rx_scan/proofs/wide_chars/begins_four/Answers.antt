@@ -1,5 +1,5 @@
 use Rattle.std.proofs.Common.{sym, ◌∙◌, arith}
-use Rattle.rx_scan.proofs.WideLemmas.{four_begin}
+use Rattle.rx_scan.proofs.PlainLemmas.{four_begin}
 use Rattle.rx_scan.proofs.wide_chars.begins_four.Goals as goal
 
 pub returns : goal.returns

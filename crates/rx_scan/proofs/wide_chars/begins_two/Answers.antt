@@ -1,5 +1,5 @@
 use Rattle.std.proofs.Common.{sym, ◌∙◌, arith}
-use Rattle.rx_scan.proofs.WideLemmas.{two_begin}
+use Rattle.rx_scan.proofs.PlainLemmas.{two_begin}
 use Rattle.rx_scan.proofs.wide_chars.begins_two.Goals as goal
 
 pub returns : goal.returns

@@ -1,4 +1,4 @@
-use Rattle.rx_scan.proofs.OpenLemmas.{opened_by}
+use Rattle.rx_scan.proofs.FeedLemmas.{opened_by}
 use Rattle.rx_scan.proofs.readers.Reader.open_front.Goals as goal
 
 pub returns-clause-opens : goal.returns-clause-opens

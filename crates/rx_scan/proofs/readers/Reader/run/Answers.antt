@@ -7,9 +7,8 @@ use Rattle.rx_scan.specs.Openings.{TakesFront}
 use Rattle.rx_scan.specs.Scanner.{Reading}
 use Rattle.rx_scan.specs.Steps.{Runs, is_tag}
 use Rattle.rx_scan.proofs.RunLemmas.{took_text}
-use Rattle.rx_scan.proofs.LoopLemmas.{next_read, token_read, stopped, rest_took, lends, may_step}
-use Rattle.rx_scan.proofs.QuietLemmas.{quiet_tells, quiet_at, between_tells, stopped_tells, other_tells}
-use Rattle.rx_scan.proofs.FrontLemmas.{IsKept, kept, quiet_on, apart_on, later_on, front_first, front_next, front_within}
+use Rattle.rx_scan.proofs.QuietLemmas.{quiet_tells, quiet_at, between_tells, stopped_tells, other_tells, next_read, token_read, stopped, rest_took, lends, may_step}
+use Rattle.rx_scan.proofs.FrontLemmas.{IsKept, kept, apart_on, later_on, front_first, front_next, front_within}
 use Rattle.rx_scan.proofs.WholeTagLemmas.{tag_first, lends_tag, keeps_text, not_quiet}
 use Rattle.rx_scan.proofs.readers.Reader.run.Goals as goal
 
@@ -43,7 +42,7 @@ loop-taken-init c =
       apart = apart_on c.args.self.now new n k (inl c.requires.none);
       so_far = λ s h. front_first c.args.self.now new s c.args.piece.now n c.requires.none c.take_front-taken.ensures.fits h takes;
       later = λ x. subst (λ (z : ℕ). 0 < z) (omega arith) (later_on c.args.self.now new n k 0 (λ y. absurd (y c.requires.none)) x);
-      quiet = λ m q. quiet_on c.args.self.now new n k m;
+      quiet = λ m q. k.between m;
     }
 
 pub returns-in-Err-clause-runs : goal.returns-in-Err-clause-runs
@@ -94,7 +93,7 @@ loop-taken-preserved c =
       so_far = λ s h. front_next c.args.self.now l new s c.args.piece.now i n told.fits
           (next_read c.args.self.now c.loop-taken.self l s c.args.piece.now c.loop-taken.taken c.loop-taken-test.true (c.loop-taken.invariant.so_far s h) c.in-Ok.what not_token c.in-Ok.ensures.reads) takes;
       later = later_on l new n k i (λ x. omega arith);
-      quiet = λ m q. quiet_on l new n k
+      quiet = λ m q. k.between
           (quiet_tells c.loop-taken.self l (get_or c.args.piece.now c.loop-taken.taken 0) c.in-Ok.what (c.loop-taken.invariant.quiet m q) (quiet_at c.args.piece.now c.loop-taken.taken c.loop-taken-test.true q) c.in-Ok.ensures.reads);
     }
 

@@ -1,7 +1,7 @@
 use Rattle.std.proofs.Common.{subst, sym}
 use Rattle.rx_scan.specs.Scanner.{Scanner}
 use Rattle.rx_scan.specs.Steps.{ScanStands}
-use Rattle.rx_scan.proofs.StandLemmas.{stands_inside}
+use Rattle.rx_scan.proofs.Standing.{stands_inside}
 use Rattle.rx_scan.proofs.scans.Scan.enter.Goals as goal
 
 pub returns-clause-stands : goal.returns-clause-stands
