@@ -93,21 +93,7 @@ module _ (s : Syntax) where
   cut_last : (p : TagPhase) (r : Ended) → cut_end p ≡ Some r → is_last p ≡ true
   cut_last phase.Opened r h = refl
   cut_last phase.Emptied r h = refl
-  cut_last phase.Start r h = absurd (cc)
-  cut_last phase.Name r h = absurd (cc)
-  cut_last phase.Gap r h = absurd (cc)
-  cut_last phase.Solidus r h = absurd (cc)
-  cut_last phase.Key r h = absurd (cc)
-  cut_last phase.AfterKey r h = absurd (cc)
-  cut_last phase.BeforeValue r h = absurd (cc)
-  cut_last phase.DoubleQuoted r h = absurd (cc)
-  cut_last phase.SingleQuoted r h = absurd (cc)
-  cut_last phase.Unquoted r h = absurd (cc)
-  cut_last phase.AfterValue r h = absurd (cc)
-  cut_last phase.EndStart r h = absurd (cc)
-  cut_last phase.EndName r h = absurd (cc)
-  cut_last phase.EndGap r h = absurd (cc)
-  cut_last phase.Closed r h = absurd (cc)
+  cut_last _ r h = absurd (cc)
 
   abbrev FromCut : Chars → Type 0
   FromCut text = (p : TagPhase) (key value : Chars) (r : Ended) → cut_from s text p key value ≡ Some r → Whole s (Some p) text
@@ -132,21 +118,7 @@ module _ (s : Syntax) where
   last_cut : (p : TagPhase) (key value : Chars) → is_among p ≡ true → is_last p ≡ true → CutIs [] p key value
   last_cut phase.Opened key value i w = record { r = ([], false); cut = refl }
   last_cut phase.Emptied key value i w = record { r = ([], true); cut = refl }
-  last_cut phase.Start key value i w = absurd (cc)
-  last_cut phase.Name key value i w = absurd (cc)
-  last_cut phase.Gap key value i w = absurd (cc)
-  last_cut phase.Solidus key value i w = absurd (cc)
-  last_cut phase.Key key value i w = absurd (cc)
-  last_cut phase.AfterKey key value i w = absurd (cc)
-  last_cut phase.BeforeValue key value i w = absurd (cc)
-  last_cut phase.DoubleQuoted key value i w = absurd (cc)
-  last_cut phase.SingleQuoted key value i w = absurd (cc)
-  last_cut phase.Unquoted key value i w = absurd (cc)
-  last_cut phase.AfterValue key value i w = absurd (cc)
-  last_cut phase.EndStart key value i w = absurd (cc)
-  last_cut phase.EndName key value i w = absurd (cc)
-  last_cut phase.EndGap key value i w = absurd (cc)
-  last_cut phase.Closed key value i w = absurd (cc)
+  last_cut _ key value i w = absurd (cc)
 
   abbrev ToCut : Chars → Type 0
   ToCut text = (p : TagPhase) (key value : Chars) → is_among p ≡ true → Whole s (Some p) text → CutIs text p key value
@@ -355,9 +327,7 @@ leads s phase.AfterValue h = record { c = 62; rest = []; q = phase.Opened; reads
 leads s phase.EndStart h = record { c = 97; rest = 62 ∷ []; q = phase.Closed; reads = end_leads s; whole = refl }
 leads s phase.EndName h = record { c = 62; rest = []; q = phase.Closed; reads = refl; whole = refl }
 leads s phase.EndGap h = record { c = 62; rest = []; q = phase.Closed; reads = refl; whole = refl }
-leads s phase.Opened h = absurd (cc)
-leads s phase.Emptied h = absurd (cc)
-leads s phase.Closed h = absurd (cc)
+leads s _ h = absurd (cc)
 
 module _ (s : Syntax) (front : Chars) (p : TagPhase) (at : phases_on s (Some phase.Start) front ≡ Some p) where
   -- they begin a tag

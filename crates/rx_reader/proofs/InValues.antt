@@ -162,20 +162,7 @@ completes : (s : Syntax) (p : TagPhase) (attributes : List Attribute) (key value
 completes s phase.DoubleQuoted attributes key value h f = record { end = 34 ∷ 62 ∷ []; ends = double; last = at phase.Opened (attributes ++ (key, value) ∷ []) [] []; reads = refl; whole = refl; attributes_are = refl }
 completes s phase.SingleQuoted attributes key value h f = record { end = 39 ∷ 62 ∷ []; ends = single; last = at phase.Opened (attributes ++ (key, value) ∷ []) [] []; reads = refl; whole = refl; attributes_are = refl }
 completes s phase.Unquoted attributes key value h f = record { end = 62 ∷ []; ends = no_mark (html_is s (f refl)); last = at phase.Opened (attributes ++ (key, value) ∷ []) [] []; reads = refl; whole = refl; attributes_are = refl }
-completes s phase.Start attributes key value h f = absurd (cc)
-completes s phase.Name attributes key value h f = absurd (cc)
-completes s phase.Gap attributes key value h f = absurd (cc)
-completes s phase.Solidus attributes key value h f = absurd (cc)
-completes s phase.Key attributes key value h f = absurd (cc)
-completes s phase.AfterKey attributes key value h f = absurd (cc)
-completes s phase.BeforeValue attributes key value h f = absurd (cc)
-completes s phase.AfterValue attributes key value h f = absurd (cc)
-completes s phase.EndStart attributes key value h f = absurd (cc)
-completes s phase.EndName attributes key value h f = absurd (cc)
-completes s phase.EndGap attributes key value h f = absurd (cc)
-completes s phase.Opened attributes key value h f = absurd (cc)
-completes s phase.Emptied attributes key value h f = absurd (cc)
-completes s phase.Closed attributes key value h f = absurd (cc)
+completes s _ attributes key value h f = absurd (cc)
 
 -- Where the reader is in a value, the grammar is.
 pub is_in_value : (s : Syntax) (front : Chars) (w : Written) → written_on s (Some nothing_written) front ≡ Some w → is_value_phase w.phase ≡ true → IsInValue s front w.value

@@ -59,28 +59,20 @@ pub data View (s : Syntax) (i : Content) (xs : Chars) (m : Option ℕ) (b : Toke
   v_less : (text : Chars) → xs ≡ 60 ∷ text → Less s i text m b → View s i xs m b
 
 keeps_has : (i : Content) → keeps_runs i ≡ true → has_references i ≡ true
-keeps_has content.Outside h = absurd (cc)
 keeps_has content.Html h = refl
 keeps_has content.Foreign h = refl
-keeps_has content.Strict h = absurd (cc)
-keeps_has (content.Raw n) h = absurd (cc)
 keeps_has (content.Rcdata n) h = refl
+keeps_has _ h = absurd (cc)
 
 less_markup : (i : Content) → has_less_than i ≡ true → has_markup i ≡ true
-less_markup content.Outside h = absurd (cc)
 less_markup content.Html h = refl
 less_markup content.Foreign h = refl
-less_markup content.Strict h = absurd (cc)
-less_markup (content.Raw n) h = absurd (cc)
-less_markup (content.Rcdata n) h = absurd (cc)
+less_markup _ h = absurd (cc)
 
 section_markup : (i : Content) → has_sections i ≡ true → has_markup i ≡ true
-section_markup content.Outside h = absurd (cc)
-section_markup content.Html h = absurd (cc)
 section_markup content.Foreign h = refl
 section_markup content.Strict h = refl
-section_markup (content.Raw n) h = absurd (cc)
-section_markup (content.Rcdata n) h = absurd (cc)
+section_markup _ h = absurd (cc)
 
 view : (s : Syntax) (i : Content) {xs : Chars} {m : Option ℕ} {b : Token} → Spells s i xs m b → View s i xs m b
 view s i (a_tag text t h k) = v_less text refl (l_tag t h k refl)
@@ -430,31 +422,18 @@ markup_begins Html z c h = elim (either (is_letter c) (c == solidus) h) [ inl e 
 markup_begins Xhtml z c h = absurd (cc)
 
 pub no_raw : (i : Content) (name : Chars) → raw_name i ≡ Some name → has_markup i ≡ true → ⊥
-no_raw content.Outside name h k = cc
-no_raw content.Html name h k = cc
-no_raw content.Foreign name h k = cc
-no_raw content.Strict name h k = cc
 no_raw (content.Raw r) name h k = cc
-no_raw (content.Rcdata r) name h k = cc
+no_raw _ name h k = cc
 
 -- raw elements
 low_name : (r : RawName) → lowered (name_of_raw r) ≡ name_of_raw r
 low_name raw.Script = refl
-low_name raw.Style = refl
-low_name raw.Iframe = refl
-low_name raw.Noembed = refl
-low_name raw.Noframes = refl
-low_name raw.Xmp = refl
-low_name raw.Title = refl
-low_name raw.Textarea = refl
+low_name _ = refl
 
 pub low_raw : (i : Content) (name : Chars) → raw_name i ≡ Some name → lowered name ≡ name
-low_raw content.Outside name h = absurd (cc)
-low_raw content.Html name h = absurd (cc)
-low_raw content.Foreign name h = absurd (cc)
-low_raw content.Strict name h = absurd (cc)
 low_raw (content.Raw r) name h = let q : name_of_raw r ≡ name = cc in sym (ap lowered q) ∙ (low_name r ∙ q)
 low_raw (content.Rcdata r) name h = let q : name_of_raw r ≡ name = cc in sym (ap lowered q) ∙ (low_name r ∙ q)
+low_raw _ name h = absurd (cc)
 
 pub kept_case : (w : Chars) → cased Xhtml w ≡ w
 kept_case [] = refl
@@ -619,20 +598,12 @@ module _ (s : Syntax) (i : Content) where
 
 -- text
 less_no_text : (i : Content) → is_text i 60 ≡ false
-less_no_text content.Outside = refl
-less_no_text content.Html = refl
-less_no_text content.Foreign = refl
-less_no_text content.Strict = refl
 less_no_text (content.Raw n) = refl
-less_no_text (content.Rcdata n) = refl
+less_no_text _ = refl
 
 amp_no_text : (i : Content) → has_references i ≡ true → is_text i 38 ≡ false
-amp_no_text content.Outside h = refl
-amp_no_text content.Html h = refl
-amp_no_text content.Foreign h = refl
-amp_no_text content.Strict h = refl
 amp_no_text (content.Raw n) h = absurd (cc)
-amp_no_text (content.Rcdata n) h = refl
+amp_no_text _ h = refl
 
 text_not : (i : Content) (c d : ℕ) (u v : Chars) → is_text i c ≡ true → is_text i d ≡ false → c ∷ u ≡ d ∷ v → ⊥
 text_not i c d u v h k e = let q : c ≡ d = cc in not_both_ways (is_text i d) (subst (λ (x : ℕ). is_text i x ≡ true) q h) k

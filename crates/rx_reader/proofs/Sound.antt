@@ -272,8 +272,7 @@ module _ (s : Syntax) (text : Chars) (ih : Sound s text) (c : ℕ) (r : Result) 
   one_more p since key value (double' gap k white after x i n w v q) h = from_double gap k white after x i n w v q h
   one_more p since key value (single' gap k white after x i n w v q) h = from_single gap k white after x i n w v q h
   one_more p since key value (unquoted' gap k white after x z i n w v q) h = from_unquoted gap k white after x z i n w v q h
-  one_more p since key value (opened' gap i) h = none_some r _ h
-  one_more p since key value (emptied' gap i) h = none_some r _ h
+  one_more p since key value _ h = none_some r _ h
 
 ended_so : (s : Syntax) (gap : Chars) (slash : Bool) (r : Result) → Ends s gap slash → Some ([], slash) ≡ Some r → Attributes s ((gap ++ greater_than_sign ∷ []) ++ []) r.0 r.1
 ended_so s gap slash r i h =
@@ -284,15 +283,7 @@ ended_so s gap slash r i h =
 nothing_left : (s : Syntax) (p : TagPhase) (since key value : Chars) (r : Result) → Since s p since key value → cut_from s [] p key value ≡ Some r → Attributes s (since ++ []) r.0 r.1
 nothing_left s p since key value r (opened' gap i) h = ended_so s gap false r i h
 nothing_left s p since key value r (emptied' gap i) h = ended_so s gap true r i h
-nothing_left s p since key value r (in_gap' gap i) h = none_some r _ h
-nothing_left s p since key value r after_value' h = none_some r _ h
-nothing_left s p since key value r (after_solidus' gap i) h = none_some r _ h
-nothing_left s p since key value r (in_key' gap k i n) h = none_some r _ h
-nothing_left s p since key value r (after_key' gap k white i n w) h = none_some r _ h
-nothing_left s p since key value r (before_value' gap k white after i n w v) h = none_some r _ h
-nothing_left s p since key value r (double' gap k white after x i n w v q) h = none_some r _ h
-nothing_left s p since key value r (single' gap k white after x i n w v q) h = none_some r _ h
-nothing_left s p since key value r (unquoted' gap k white after x z i n w v q) h = none_some r _ h
+nothing_left s p since key value r _ h = none_some r _ h
 
 pub sound : (s : Syntax) (text : Chars) → Sound s text
 sound s [] p since key value r i h = nothing_left s p since key value r i h

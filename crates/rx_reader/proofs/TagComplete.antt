@@ -41,20 +41,7 @@ end_none : (p : TagPhase) → is_value_phase p ≡ true → cut_end p ≡ None
 end_none phase.DoubleQuoted h = refl
 end_none phase.SingleQuoted h = refl
 end_none phase.Unquoted h = refl
-end_none phase.Start h = absurd (cc)
-end_none phase.Name h = absurd (cc)
-end_none phase.Gap h = absurd (cc)
-end_none phase.Solidus h = absurd (cc)
-end_none phase.Key h = absurd (cc)
-end_none phase.AfterKey h = absurd (cc)
-end_none phase.BeforeValue h = absurd (cc)
-end_none phase.AfterValue h = absurd (cc)
-end_none phase.EndStart h = absurd (cc)
-end_none phase.EndName h = absurd (cc)
-end_none phase.EndGap h = absurd (cc)
-end_none phase.Opened h = absurd (cc)
-end_none phase.Emptied h = absurd (cc)
-end_none phase.Closed h = absurd (cc)
+end_none _ h = absurd (cc)
 
 none_some : {A : Type 0} (r : A) (G : Type 0) → None ≡ Some r → G
 none_some r G h = absurd (cc)
@@ -68,32 +55,18 @@ pub record Extends (key value : Chars) (r : Ended) : Type 0 where
 module _ (s : Syntax) where
   extends_by : (text : Chars) (ih : (p : TagPhase) (key value : Chars) (r : Ended) → is_value_phase p ≡ true → cut_from s text p key value ≡ Some r → Extends key value r) (c : ℕ) (key value : Chars) (r : Ended)
       → (m : Move) → Valued m → InValue m → cut_by (cut_from s text) key value c m ≡ Some r → Extends key value r
-  extends_by text ih c key value r None v i h = absurd i
   extends_by text ih c key value r (Some (p, action.Value)) v i h = let d = ih p key (value ++ c ∷ []) r v h in record { more = c ∷ d.more; others = d.others; is = d.is ∙ ap (λ x. (key, x) ∷ d.others) (append_assoc value (c ∷ []) d.more) }
   extends_by text ih c key value r (Some (p, action.Add)) v i h = let d = added (key, value) (cut_from s text p [] []) r h in record { more = []; others = d.rest.0; is = sym d.first ∙ ap (λ x. (key, x) ∷ d.rest.0) (sym (append-nil value)) }
-  extends_by text ih c key value r (Some (p, action.Skip)) v i h = absurd i
-  extends_by text ih c key value r (Some (p, action.Name)) v i h = absurd i
-  extends_by text ih c key value r (Some (p, action.Key)) v i h = absurd i
-  extends_by text ih c key value r (Some (p, action.AddKey)) v i h = absurd i
+  extends_by text ih c key value r _ v i h = absurd i
 
   among_value : (p : TagPhase) → is_value_phase p ≡ true → is_among p ≡ true
-  among_value phase.DoubleQuoted h = refl
-  among_value phase.SingleQuoted h = refl
-  among_value phase.Unquoted h = refl
   among_value phase.Start h = absurd (cc)
   among_value phase.Name h = absurd (cc)
-  among_value phase.Gap h = refl
-  among_value phase.Solidus h = refl
-  among_value phase.Key h = refl
-  among_value phase.AfterKey h = refl
-  among_value phase.BeforeValue h = refl
-  among_value phase.AfterValue h = refl
   among_value phase.EndStart h = absurd (cc)
   among_value phase.EndName h = absurd (cc)
   among_value phase.EndGap h = absurd (cc)
-  among_value phase.Opened h = refl
-  among_value phase.Emptied h = refl
   among_value phase.Closed h = absurd (cc)
+  among_value _ h = refl
 
   pub extends : (text : Chars) (p : TagPhase) (key value : Chars) (r : Ended) → is_value_phase p ≡ true → cut_from s text p key value ≡ Some r → Extends key value r
   extends [] p key value r v h = none_some r _ (sym (end_none p v) ∙ h)
@@ -144,21 +117,7 @@ module _ (s : Syntax) (means : Chars → Option ℕ) where
       by_end : (p : TagPhase) (name key : Chars) (value : Value) (attributes more : List Attribute) (r : Ended) → cut_end p ≡ Some r → AreRead s means r.0 more → Arrives s means (at_phase_value p name attributes key value) [] name (attributes ++ more) false r.1
       by_end phase.Opened name key value attributes more r h a = let e : ([], false) ≡ r = cc in record { last = at_phase_value phase.Opened name attributes key value; reads = refl; whole = refl; name_is = refl; attributes_are = sym (append-nil attributes) ∙ ap (λ x. attributes ++ x) (no_others r more (ap (λ x. x.0) e) a); closing_is = refl; slash_is = ap (λ x. x.1) e }
       by_end phase.Emptied name key value attributes more r h a = let e : ([], true) ≡ r = cc in record { last = at_phase_value phase.Emptied name attributes key value; reads = refl; whole = refl; name_is = refl; attributes_are = sym (append-nil attributes) ∙ ap (λ x. attributes ++ x) (no_others r more (ap (λ x. x.0) e) a); closing_is = refl; slash_is = ap (λ x. x.1) e }
-      by_end phase.Start name key value attributes more r h a = none_some r _ h
-      by_end phase.Name name key value attributes more r h a = none_some r _ h
-      by_end phase.Gap name key value attributes more r h a = none_some r _ h
-      by_end phase.Solidus name key value attributes more r h a = none_some r _ h
-      by_end phase.Key name key value attributes more r h a = none_some r _ h
-      by_end phase.AfterKey name key value attributes more r h a = none_some r _ h
-      by_end phase.BeforeValue name key value attributes more r h a = none_some r _ h
-      by_end phase.DoubleQuoted name key value attributes more r h a = none_some r _ h
-      by_end phase.SingleQuoted name key value attributes more r h a = none_some r _ h
-      by_end phase.Unquoted name key value attributes more r h a = none_some r _ h
-      by_end phase.AfterValue name key value attributes more r h a = none_some r _ h
-      by_end phase.EndStart name key value attributes more r h a = none_some r _ h
-      by_end phase.EndName name key value attributes more r h a = none_some r _ h
-      by_end phase.EndGap name key value attributes more r h a = none_some r _ h
-      by_end phase.Closed name key value attributes more r h a = none_some r _ h
+      by_end _ name key value attributes more r h a = none_some r _ h
 
   abbrev All : Chars → Type 0
   All text = (p : TagPhase) (name : Chars) (attributes : List Attribute) (key value : Chars) (v : Value) (r : Ended) (more : List Attribute) → is_among p ≡ true

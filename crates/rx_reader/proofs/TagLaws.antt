@@ -31,20 +31,7 @@ pub last_none : (s : Syntax) (p : TagPhase) (c : ℕ) → is_last p ≡ true →
 last_none s phase.Opened c h = refl
 last_none s phase.Emptied c h = refl
 last_none s phase.Closed c h = refl
-last_none s phase.Start c h = absurd (cc)
-last_none s phase.Name c h = absurd (cc)
-last_none s phase.Gap c h = absurd (cc)
-last_none s phase.Solidus c h = absurd (cc)
-last_none s phase.Key c h = absurd (cc)
-last_none s phase.AfterKey c h = absurd (cc)
-last_none s phase.BeforeValue c h = absurd (cc)
-last_none s phase.DoubleQuoted c h = absurd (cc)
-last_none s phase.SingleQuoted c h = absurd (cc)
-last_none s phase.Unquoted c h = absurd (cc)
-last_none s phase.AfterValue c h = absurd (cc)
-last_none s phase.EndStart c h = absurd (cc)
-last_none s phase.EndName c h = absurd (cc)
-last_none s phase.EndGap c h = absurd (cc)
+last_none s _ c h = absurd (cc)
 
 pub on_err : (s : Syntax) (means : Chars → Option ℕ) (kind : Kind) (text : Chars) → tag_on s means (Err kind) text ≡ Err kind
 on_err s means kind [] = refl

@@ -48,9 +48,8 @@ opens s text last h = opens_on s text [] no_value_yet last (λ r. absurd (cc)) h
 
 -- Outside a value's phase only HTML begins a value so.
 abbrev Valued : Syntax → TagPhase → Move → Type 0
-Valued s p None = Unit {0}
 Valued s p (Some (q, action.Value)) = (is_value_phase p ≡ true) ⊎ (is_html s ≡ true)
-Valued s p (Some (q, _)) = Unit {0}
+Valued s p _ = Unit {0}
 
 valued_moves : (s : Syntax) (p : TagPhase) (c : ℕ) → Valued s p (move_of s p c)
 valued_moves s phase.Start c = split (Valued s phase.Start) (begins_tag s c) _ _ (λ e0. tt) (λ _. (split (Valued s phase.Start) (c == solidus) _ _ (λ e1. tt) (λ _. tt)))
@@ -67,15 +66,12 @@ valued_moves s phase.AfterValue c = split (Valued s phase.AfterValue) (is_white_
 valued_moves s phase.EndStart c = split (Valued s phase.EndStart) (begins_tag s c) _ _ (λ e0. tt) (λ _. tt)
 valued_moves s phase.EndName c = split (Valued s phase.EndName) (is_white_space c) _ _ (λ e0. tt) (λ _. (split (Valued s phase.EndName) (c == greater_than_sign) _ _ (λ e1. tt) (λ _. (split (Valued s phase.EndName) (is_tag_char s c) _ _ (λ e2. tt) (λ _. tt)))))
 valued_moves s phase.EndGap c = split (Valued s phase.EndGap) (is_white_space c) _ _ (λ e0. tt) (λ _. (split (Valued s phase.EndGap) (c == greater_than_sign) _ _ (λ e1. tt) (λ _. tt)))
-valued_moves s phase.Opened c = tt
-valued_moves s phase.Emptied c = tt
-valued_moves s phase.Closed c = tt
+valued_moves s _ c = tt
 
 -- A quote or, in HTML, white space or `>` ends a value.
 abbrev Ends : Syntax → TagPhase → ℕ → Move → Type 0
-Ends s p c None = Unit {0}
 Ends s p c (Some (q, action.Add)) = (is_quote c ≡ true) ⊎ (is_unquoted_phase p ≡ true)
-Ends s p c (Some (q, _)) = Unit {0}
+Ends s p c _ = Unit {0}
 
 double_quote : (c : ℕ) → (c == quotation_mark) ≡ true → is_quote c ≡ true
 double_quote c h = rw h refl
@@ -87,20 +83,7 @@ end_moves : (s : Syntax) (p : TagPhase) (c : ℕ) → is_value_phase p ≡ true 
 end_moves s phase.DoubleQuoted c h = split (Ends s phase.DoubleQuoted c) (c == quotation_mark) _ _ (λ e. inl (double_quote c e)) (λ _. tt)
 end_moves s phase.SingleQuoted c h = split (Ends s phase.SingleQuoted c) (c == apostrophe) _ _ (λ e. inl (single_quote c e)) (λ _. tt)
 end_moves s phase.Unquoted c h = split (Ends s phase.Unquoted c) (is_white_space c) _ _ (λ _. inr refl) (λ _. split (Ends s phase.Unquoted c) (c == greater_than_sign) _ _ (λ _. inr refl) (λ _. tt))
-end_moves s phase.Start c h = absurd (cc)
-end_moves s phase.Name c h = absurd (cc)
-end_moves s phase.Gap c h = absurd (cc)
-end_moves s phase.Solidus c h = absurd (cc)
-end_moves s phase.Key c h = absurd (cc)
-end_moves s phase.AfterKey c h = absurd (cc)
-end_moves s phase.BeforeValue c h = absurd (cc)
-end_moves s phase.AfterValue c h = absurd (cc)
-end_moves s phase.EndStart c h = absurd (cc)
-end_moves s phase.EndName c h = absurd (cc)
-end_moves s phase.EndGap c h = absurd (cc)
-end_moves s phase.Opened c h = absurd (cc)
-end_moves s phase.Emptied c h = absurd (cc)
-end_moves s phase.Closed c h = absurd (cc)
+end_moves s _ c h = absurd (cc)
 
 -- why a character is refused
 pub data Why (s : Syntax) (kind : Kind) (chars : Chars) : Type 0 where
@@ -224,20 +207,7 @@ module _ (s : Syntax) (st : TagState) (c : ℕ) (kind : Kind) (r : Refuses s st.
   by_phase phase.DoubleQuoted e v u = by_test (c == quotation_mark) (λ t. step_by phase.DoubleQuoted _ e (double_ends t) (at_end phase.AfterValue (double_quote c t))) (λ t. step_by phase.DoubleQuoted _ e (double_goes t) (within phase.DoubleQuoted))
   by_phase phase.SingleQuoted e v u = by_test (c == apostrophe) (λ t. step_by phase.SingleQuoted _ e (single_ends t) (at_end phase.AfterValue (single_quote c t))) (λ t. step_by phase.SingleQuoted _ e (single_goes t) (within phase.SingleQuoted))
   by_phase phase.Unquoted e v u = step_by phase.Unquoted _ e (unquoted_goes (u refl)) (within phase.Unquoted)
-  by_phase phase.Start e v u = absurd (cc)
-  by_phase phase.Name e v u = absurd (cc)
-  by_phase phase.Gap e v u = absurd (cc)
-  by_phase phase.Solidus e v u = absurd (cc)
-  by_phase phase.Key e v u = absurd (cc)
-  by_phase phase.AfterKey e v u = absurd (cc)
-  by_phase phase.BeforeValue e v u = absurd (cc)
-  by_phase phase.AfterValue e v u = absurd (cc)
-  by_phase phase.EndStart e v u = absurd (cc)
-  by_phase phase.EndName e v u = absurd (cc)
-  by_phase phase.EndGap e v u = absurd (cc)
-  by_phase phase.Opened e v u = absurd (cc)
-  by_phase phase.Emptied e v u = absurd (cc)
-  by_phase phase.Closed e v u = absurd (cc)
+  by_phase _ e v u = absurd (cc)
 
 -- what the grammar says of a value is refused
 module _ (s : Syntax) (front : Chars) (st : TagState) (run : tag_on s (meaning s) (Ok fresh) front ≡ Ok st) (c : ℕ) (kind : Kind) where

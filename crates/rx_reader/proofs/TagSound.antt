@@ -49,21 +49,7 @@ module _ (s : Syntax) (means : Chars → Option ℕ) (last : TagState) (whole : 
   at_end : (p : TagPhase) (name : Chars) (attributes : List Attribute) (key value : Chars) (v : Value) → is_among p ≡ true → at_phase_value p name attributes (cased s key) v ≡ last → is_last p ≡ true → Found [] p name attributes key value
   at_end phase.Opened name attributes key value v i e w = record { r = ([], false); more = []; cut = refl; read = tt; attributes_are = ap (λ x. x.attributes) (sym e) ∙ sym (append-nil attributes); name_is = ap (λ x. x.name) (sym e); closing_is = ap (λ x. is_closing x.phase) (sym e); slash_is = ap (λ x. is_emptied x.phase) (sym e) }
   at_end phase.Emptied name attributes key value v i e w = record { r = ([], true); more = []; cut = refl; read = tt; attributes_are = ap (λ x. x.attributes) (sym e) ∙ sym (append-nil attributes); name_is = ap (λ x. x.name) (sym e); closing_is = ap (λ x. is_closing x.phase) (sym e); slash_is = ap (λ x. is_emptied x.phase) (sym e) }
-  at_end phase.Start name attributes key value v i e w = absurd (cc)
-  at_end phase.Name name attributes key value v i e w = absurd (cc)
-  at_end phase.Gap name attributes key value v i e w = absurd (cc)
-  at_end phase.Solidus name attributes key value v i e w = absurd (cc)
-  at_end phase.Key name attributes key value v i e w = absurd (cc)
-  at_end phase.AfterKey name attributes key value v i e w = absurd (cc)
-  at_end phase.BeforeValue name attributes key value v i e w = absurd (cc)
-  at_end phase.DoubleQuoted name attributes key value v i e w = absurd (cc)
-  at_end phase.SingleQuoted name attributes key value v i e w = absurd (cc)
-  at_end phase.Unquoted name attributes key value v i e w = absurd (cc)
-  at_end phase.AfterValue name attributes key value v i e w = absurd (cc)
-  at_end phase.EndStart name attributes key value v i e w = absurd (cc)
-  at_end phase.EndName name attributes key value v i e w = absurd (cc)
-  at_end phase.EndGap name attributes key value v i e w = absurd (cc)
-  at_end phase.Closed name attributes key value v i e w = absurd (cc)
+  at_end _ name attributes key value v i e w = absurd (cc)
 
   abbrev All : Chars → Type 0
   All text = (p : TagPhase) (name : Chars) (attributes : List Attribute) (key value : Chars) (v : Value) → is_among p ≡ true → value_on s means (Ok no_value_yet) value ≡ Ok v

@@ -94,21 +94,7 @@ pub record Arrives (s : Syntax) (from : Written) (text : Chars) (attributes : Li
 cut_nothing : (p : TagPhase) (r : Ended) → cut_end p ≡ Some r → (is_last p ≡ true) × (r.0 ≡ [])
 cut_nothing phase.Opened r h = let e : ([], false) ≡ r = cc in (refl, ap (λ x. x.0) (sym e))
 cut_nothing phase.Emptied r h = let e : ([], true) ≡ r = cc in (refl, ap (λ x. x.0) (sym e))
-cut_nothing phase.Start r h = absurd (cc)
-cut_nothing phase.Name r h = absurd (cc)
-cut_nothing phase.Gap r h = absurd (cc)
-cut_nothing phase.Solidus r h = absurd (cc)
-cut_nothing phase.Key r h = absurd (cc)
-cut_nothing phase.AfterKey r h = absurd (cc)
-cut_nothing phase.BeforeValue r h = absurd (cc)
-cut_nothing phase.DoubleQuoted r h = absurd (cc)
-cut_nothing phase.SingleQuoted r h = absurd (cc)
-cut_nothing phase.Unquoted r h = absurd (cc)
-cut_nothing phase.AfterValue r h = absurd (cc)
-cut_nothing phase.EndStart r h = absurd (cc)
-cut_nothing phase.EndName r h = absurd (cc)
-cut_nothing phase.EndGap r h = absurd (cc)
-cut_nothing phase.Closed r h = absurd (cc)
+cut_nothing _ r h = absurd (cc)
 
 module _ (s : Syntax) where
   abbrev FromCut : Chars → Type 0
