@@ -63,9 +63,8 @@ below : (a b : ℕ) → nat_le a b ≡ false → b < a
 below a b h = grind (arith, nat_tests)
 
 pub after_only : {syntax : Syntax} {depth : ℕ} {items : List Item} {line : Line} {phase : Phase} → Stands syntax depth items line phase → phase ≡ after → (tree : Tree) × Document syntax depth items tree
-after_only (not_begun stood lead) h = absurd (cc)
-after_only (still_open depth op levels) h = absurd (cc)
 after_only (ended tree d) h = (tree, d)
+after_only _ h = absurd (cc)
 
 -- the first byte of a run that is known to be a tag
 first_known : (s : Syntax) (line : Line) (run : List Entry) (a b : List ℕ) → is_known_tag s (inside_of s line).content (values run) ≡ true → token_of a run ≡ token_of b run
@@ -371,8 +370,7 @@ module _ (syntax : Syntax) (limits : Limits) where
       where
         by_phase : b.run ≡ [] → b.part ≡ [] → (phase : Phase) → b.phase ≡ phase → Ends bytes
         by_phase r p after a = whole_page r p a
-        by_phase r p (before stood) a = unended (λ x y z. absurd (cc))
-        by_phase r p within a = unended (λ x y z. absurd (cc))
+        by_phase r p _ a = unended (λ x y z. absurd (cc))
 
         by_part : b.run ≡ [] → (part : List ℕ) → b.part ≡ part → Ends bytes
         by_part r [] p = by_phase r p b.phase refl

@@ -112,12 +112,7 @@ scalars_append (c ∷ a) b h k = let p = both (scalar c) (all_scalars a) h in an
 -- tags are no longer than the page
 fits_one : (limit : ℕ) (item : Item) (token : Token) → item.last + 1 ≤ limit → Fits limit item token
 fits_one limit item (tag t) h = omega arith
-fits_one limit item (character c) h = tt
-fits_one limit item (reference c) h = tt
-fits_one limit item (kept x) h = tt
-fits_one limit item (section x) h = tt
-fits_one limit item comment h = tt
-fits_one limit item doctype h = tt
+fits_one limit item _ h = tt
 
 pub last_within : (end last : ℕ) (run rest : List Entry) → last + 1 ≤ end → Within end (run ++ rest) → last_from last run + 1 ≤ end
 last_within end last [] rest h w = h

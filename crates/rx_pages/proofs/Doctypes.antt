@@ -33,12 +33,11 @@ on_append s o (c ∷ a) b = on_append s (doctype_move_on s o c) a b
 
 before_close : (s : Syntax) (o : Option DoctypePhase) (more : Chars) → doctype_on s o more ≡ Some closed → more ≢ [] → told_of_doctype o ≡ goes_on
 before_close s o [] h n = absurd (n refl)
-before_close s None (c ∷ more) h n = absurd (let k = on_none s more in cc)
 before_close s (Some keyword) (c ∷ more) h n = refl
 before_close s (Some spaces) (c ∷ more) h n = refl
 before_close s (Some (naming left)) (c ∷ more) h n = refl
 before_close s (Some passed) (c ∷ more) h n = refl
-before_close s (Some closed) (c ∷ more) h n = absurd (let k = on_none s more in cc)
+before_close s _ (c ∷ more) h n = absurd (let k = on_none s more in cc)
 
 -- one character
 move_by : (s : Syntax) (p : DoctypePhase) (c : ℕ) (text : Chars) {o : Option DoctypePhase} → doctype_move s p c ≡ o → doctype_on s (Some p) (c ∷ text) ≡ doctype_on s o text

@@ -65,10 +65,7 @@ raw_keeps s name text c =
 of_doctype : (o : Option DoctypePhase) → Keeps (told_of_doctype o)
 of_doctype None = is_refused BadDoctype
 of_doctype (Some closed) = is_whole doctype
-of_doctype (Some keyword) = on
-of_doctype (Some spaces) = on
-of_doctype (Some (naming left)) = on
-of_doctype (Some passed) = on
+of_doctype _ = on
 
 doctype_keeps : (s : Syntax) (text : Chars) (c : ℕ) → Keeps (in_doctype s text c)
 doctype_keeps s text c = of_doctype (doctype_on s (Some keyword) (text ++ c ∷ []))

@@ -73,18 +73,8 @@ brackets_before (a ∷ b ∷ c ∷ items) two last h = brackets_before (b ∷ c 
 
 -- only a character is a literal one
 pub no_literal : (d : ℕ) (i : Content) (token : Token) → ((c : ℕ) → token ≢ character c) → is_strict_literal d i token ≡ false
-no_literal d content.Strict (tag t) n = refl
 no_literal d content.Strict (character c) n = absurd (n c refl)
-no_literal d content.Strict (reference c) n = refl
-no_literal d content.Strict (kept x) n = refl
-no_literal d content.Strict (section x) n = refl
-no_literal d content.Strict comment n = refl
-no_literal d content.Strict doctype n = refl
-no_literal d content.Outside token n = refl
-no_literal d content.Html token n = refl
-no_literal d content.Foreign token n = refl
-no_literal d (content.Raw name) token n = refl
-no_literal d (content.Rcdata name) token n = refl
+no_literal d _ _ n = refl
 
 and_false : (b : Bool) → (b && false) ≡ false
 and_false true = refl
@@ -93,8 +83,7 @@ and_false false = refl
 no_lead : (phase : Phase) → phase ≢ before false → may_lead phase ≡ false
 no_lead (before true) n = refl
 no_lead (before false) n = absurd (n refl)
-no_lead within n = refl
-no_lead after n = refl
+no_lead _ n = refl
 
 pub item_content : (i : Content) (token : Token) (run : List Entry) (e : Entry) → (item_of i token (run ++ e ∷ [])).content ≡ i
 item_content i token [] e = refl

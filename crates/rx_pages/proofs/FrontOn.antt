@@ -84,34 +84,12 @@ record Literal (i : Content) (token : Token) : Type 0 where
 
 literal_by : (i : Content) (t : Token) → is_strict_literal greater_than_sign i t ≡ true → Literal i t
 literal_by content.Strict (character c) h = record { strict = refl; is = ap (λ x. character x) (sym (eqb-true greater_than_sign c h)) }
-literal_by content.Strict (tag t) h = absurd (cc)
-literal_by content.Strict (reference c) h = absurd (cc)
-literal_by content.Strict (kept x) h = absurd (cc)
-literal_by content.Strict (section x) h = absurd (cc)
-literal_by content.Strict comment h = absurd (cc)
-literal_by content.Strict doctype h = absurd (cc)
-literal_by content.Outside t h = absurd (cc)
-literal_by content.Html t h = absurd (cc)
-literal_by content.Foreign t h = absurd (cc)
-literal_by (content.Raw name) t h = absurd (cc)
-literal_by (content.Rcdata name) t h = absurd (cc)
+literal_by _ _ h = absurd (cc)
 
 -- it is one character
 one_character : (s : Syntax) (i : Content) (text : Chars) (next : Option ℕ) (token : Token) → Spells s i text next token → (c : ℕ) → token ≡ character c → text ≡ c ∷ []
 one_character s i _ next _ (spelling.a_character c h) d e = let k : c ≡ d = cc in ap (λ x. x ∷ []) k
-one_character s i _ next _ (spelling.a_tag text t m sp) d e = absurd (cc)
-one_character s i _ next _ (spelling.an_end_of_raw text name t r sp c n) d e = absurd (cc)
-one_character s i _ next _ (spelling.a_less_than z h b) d e = absurd (cc)
-one_character s i _ next _ (spelling.a_raw_run text name r h b) d e = absurd (cc)
-one_character s i _ next _ (spelling.a_reference body c r b m) d e = absurd (cc)
-one_character s i _ next _ (spelling.a_kept_run run k h b) d e = absurd (cc)
-one_character s i _ next _ (spelling.a_comment text z m f) d e = absurd (cc)
-one_character s i _ next _ (spelling.a_bogus_comment text z m n f) d e = absurd (cc)
-one_character s i _ next _ (spelling.a_question text z m f) d e = absurd (cc)
-one_character s i _ next _ (spelling.a_strict_comment text z m f) d e = absurd (cc)
-one_character s i _ next _ (spelling.an_instruction text z m f) d e = absurd (cc)
-one_character s i _ next _ (spelling.a_section text h f) d e = absurd (cc)
-one_character s i _ next _ (spelling.a_doctype text m d2) d e = absurd (cc)
+one_character s i _ next _ _ d e = absurd (cc)
 
 and_false : (b : Bool) → (b && false) ≡ false
 and_false true = refl
@@ -122,9 +100,8 @@ never_ended : (i : Content) (c : ℕ) (token : Token) → at_first i c ≢ ended
 never_ended i c token h = by (c == less_than_sign || (c == ampersand && has_references i)) (is_text i c) h
   where
     by : (a b : Bool) → (if a then goes_on else if b then whole (character c) else refused kind.Outside) ≡ ended token → ⊥
-    by true b q = cc
     by false true q = cc
-    by false false q = cc
+    by _ _ q = cc
 
 -- one character isn't known to be a tag
 drop_none : (n : ℕ) → begins ends_name (drop n []) ≡ false
@@ -272,12 +249,7 @@ module _ (syntax : Syntax) (limits : Limits) where
               let l = item_last inside token run e in
               let f = item_first inside token run e (encodes more) in
               omega arith
-          fits (character x) k = tt
-          fits (reference x) k = tt
-          fits (kept x) k = tt
-          fits (section x) k = tt
-          fits comment k = tt
-          fits doctype k = tt
+          fits _ k = tt
 
           steps : (flags_behind items false false).0 && is_literal greater_than_sign item ≡ false → (step : Step) → nest_step syntax limits.depth (record { line = line; phase = phase; drops = false }) item ≡ Ok step → Answer
           steps b step n =

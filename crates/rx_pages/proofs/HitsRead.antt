@@ -61,11 +61,8 @@ and_true false e = refl
 -- inside it every character begins a token or is one
 text_inside : (i : Content) (c : ℕ) → i ≢ content.Outside → (c == less_than_sign || (c == ampersand && has_references i)) ≡ false → is_text i c ≡ true
 text_inside content.Outside c o h = absurd (o refl)
-text_inside content.Html c o h = let n = neither (c == less_than_sign) (c == ampersand && true) h in rw (n.0, and_true (c == ampersand) n.1) refl
-text_inside content.Foreign c o h = let n = neither (c == less_than_sign) (c == ampersand && true) h in rw (n.0, and_true (c == ampersand) n.1) refl
-text_inside content.Strict c o h = let n = neither (c == less_than_sign) (c == ampersand && true) h in rw (n.0, and_true (c == ampersand) n.1) refl
 text_inside (content.Raw name) c o h = rw (neither (c == less_than_sign) (c == ampersand && false) h).0 refl
-text_inside (content.Rcdata name) c o h = let n = neither (c == less_than_sign) (c == ampersand && true) h in rw (n.0, and_true (c == ampersand) n.1) refl
+text_inside _ c o h = let n = neither (c == less_than_sign) (c == ampersand && true) h in rw (n.0, and_true (c == ampersand) n.1) refl
 
 module _ (syntax : Syntax) (limits : Limits) where
   -- a character of text decides nothing

@@ -53,17 +53,12 @@ foreign_fits in_svg name = split Fits (in_svg && is_among html_in_svg name) _ _ 
 
 inside_fits : (c : Content) (in_svg : Bool) (name : Chars) → Fits (inside_at c in_svg name)
 inside_fits content.Foreign in_svg name = foreign_fits in_svg name
-inside_fits content.Outside in_svg name = html_fits name
-inside_fits content.Html in_svg name = html_fits name
-inside_fits content.Strict in_svg name = html_fits name
-inside_fits (content.Raw r) in_svg name = html_fits name
-inside_fits (content.Rcdata r) in_svg name = html_fits name
+inside_fits _ in_svg name = html_fits name
 
 pub inside_occurs : (s : Syntax) (line : Line) → occurs s (inside_of s line).content ≡ true
-inside_occurs Html [] = refl
 inside_occurs Xhtml [] = refl
 inside_occurs Html (t ∷ above) = inside_fits (inside_of Html above).content (inside_of Html above).in_svg t.name
-inside_occurs Xhtml (t ∷ above) = refl
+inside_occurs _ _ = refl
 
 -- what is unfinished goes on
 goes : (s : Syntax) (i : Content) (run : Chars) → Unfinished s i run → GoesOn s i [] run
@@ -83,10 +78,7 @@ spells_each_token s line text next token r = spells_read s (inside_of s line).co
 pub strict_keeps : (i : Content) → occurs Xhtml i ≡ true → keeps_runs i ≡ false
 strict_keeps content.Outside o = refl
 strict_keeps content.Strict o = refl
-strict_keeps content.Html o = absurd (cc)
-strict_keeps content.Foreign o = absurd (cc)
-strict_keeps (content.Raw r) o = absurd (cc)
-strict_keeps (content.Rcdata r) o = absurd (cc)
+strict_keeps _ o = absurd (cc)
 
 abbrev at_place : Line → Phase → Nesting
 at_place line phase = record { line = line; phase = phase; drops = false }
@@ -96,9 +88,7 @@ an_item token inside = record { token = token; content = inside; first = 0; last
 
 late : (phase : Phase) → phase ≢ before false → doctype_step phase ≡ Err kind.BadDoctype
 late (before false) n = absurd (n refl)
-late (before true) n = refl
-late within n = refl
-late after n = refl
+late _ n = refl
 
 module _ (s : Syntax) (depth : ℕ) (items : List Item) (line : Line) (phase : Phase) (i : Content) (o : occurs s i ≡ true) where
   abbrev D : Kind → Chars → Type 0
@@ -134,19 +124,7 @@ module _ (s : Syntax) (depth : ℕ) (items : List Item) (line : Line) (phase : P
   -- a document type that doesn't stand first
   doctype_inside : (chars : Chars) (token : Token) → Spells s i chars None token → token ≡ doctype → phase ≢ before false → Faulty s depth items line phase i kind.BadDoctype chars
   doctype_inside _ _ (a_doctype text m d) e n = late_doctype text m d n
-  doctype_inside _ _ (spelling.a_tag text t m sp) e n = absurd (cc)
-  doctype_inside _ _ (spelling.an_end_of_raw text name t r sp c q) e n = absurd (cc)
-  doctype_inside _ _ (spelling.a_character c h) e n = absurd (cc)
-  doctype_inside _ _ (spelling.a_less_than z h b) e n = absurd (cc)
-  doctype_inside _ _ (spelling.a_raw_run text name r h b) e n = absurd (cc)
-  doctype_inside _ _ (spelling.a_reference body c r b m) e n = absurd (cc)
-  doctype_inside _ _ (spelling.a_kept_run run k h b) e n = absurd (cc)
-  doctype_inside _ _ (spelling.a_comment text z m f) e n = absurd (cc)
-  doctype_inside _ _ (spelling.a_bogus_comment text z m q f) e n = absurd (cc)
-  doctype_inside _ _ (spelling.a_question text z m f) e n = absurd (cc)
-  doctype_inside _ _ (spelling.a_strict_comment text z m f) e n = absurd (cc)
-  doctype_inside _ _ (spelling.an_instruction text z m f) e n = absurd (cc)
-  doctype_inside _ _ (spelling.a_section text h f) e n = absurd (cc)
+  doctype_inside _ _ _ e n = absurd (cc)
 
   tag_inside : (found : Kind) (chars : Chars) (t : Tag) (step : Step) (o : Option Kind) → Spells s i chars None (tag t) → first_row (tag_rows s depth line phase t) ≡ o → unless_refused o step ≡ Err found → Faulty s depth items line phase i found chars
   tag_inside found chars t step None sp e h = absurd (cc)
@@ -154,9 +132,7 @@ module _ (s : Syntax) (depth : ℕ) (items : List Item) (line : Line) (phase : P
 
   not_first : (found : Kind) (p : Phase) → doctype_step p ≡ Err found → (found ≡ kind.BadDoctype) × (p ≢ before false)
   not_first found (before false) h = absurd (cc)
-  not_first found (before true) h = (cc, λ e. cc)
-  not_first found within h = (cc, λ e. cc)
-  not_first found after h = (cc, λ e. cc)
+  not_first found _ h = (cc, λ e. cc)
 
   at_line : (found : Kind) (item : Item) (n : Nesting) (chars : Chars) (token : Token) → item.token ≡ token → IsAt line phase n → Spells s i chars None token → step_by s depth n item token ≡ Err found → Faulty s depth items line phase i found chars
   at_line found item n chars (tag t) q at sp h =

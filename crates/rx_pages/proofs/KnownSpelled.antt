@@ -23,9 +23,8 @@ use Rattle.rx_pages.proofs.KnownTags.{opens_tag}
 
 turned : (a b : Bool) → (a || b) ≡ true → (b || a) ≡ true
 turned true true h = refl
-turned true false h = refl
-turned false true h = refl
 turned false false h = absurd (cc)
+turned _ _ h = refl
 
 -- an end tag of HTML with its name
 end_known : (name text : Chars) (w : Tag) → Shape Html text w → w.closing ≡ true → cased Html w.name ≡ name → KnownEnd name text
@@ -53,15 +52,4 @@ spelled_known s i _ next _ t o (spelling.an_end_of_raw text name u r sp c n) e =
   where
     none_some : {name : Chars} → None ≡ Some name → ⊥
     none_some h = cc
-spelled_known s i _ next _ t o (spelling.a_character c h) e = absurd (cc)
-spelled_known s i _ next _ t o (spelling.a_less_than z h b) e = absurd (cc)
-spelled_known s i _ next _ t o (spelling.a_raw_run text name r h b) e = absurd (cc)
-spelled_known s i _ next _ t o (spelling.a_reference body c r b m) e = absurd (cc)
-spelled_known s i _ next _ t o (spelling.a_kept_run run k h b) e = absurd (cc)
-spelled_known s i _ next _ t o (spelling.a_comment text z m f) e = absurd (cc)
-spelled_known s i _ next _ t o (spelling.a_bogus_comment text z m n f) e = absurd (cc)
-spelled_known s i _ next _ t o (spelling.a_question text z m f) e = absurd (cc)
-spelled_known s i _ next _ t o (spelling.a_strict_comment text z m f) e = absurd (cc)
-spelled_known s i _ next _ t o (spelling.an_instruction text z m f) e = absurd (cc)
-spelled_known s i _ next _ t o (spelling.a_section text h f) e = absurd (cc)
-spelled_known s i _ next _ t o (spelling.a_doctype text m d) e = absurd (cc)
+spelled_known s i _ next _ t o _ e = absurd (cc)

@@ -110,9 +110,7 @@ module _ (syntax : Syntax) (depth : ℕ) where
 
   by_doctype : (p : Phase) (step : Step) → doctype_step p ≡ Ok step → Sound step.next
   by_doctype (before false) step e = let same : record { next = record { line = []; phase = before true; drops = false }; events = [] } ≡ step = cc in subst (λ (x : Step). Sound x.next) same (record { nothing_open = λ e. refl; names = tt })
-  by_doctype (before true) step e = absurd (cc)
-  by_doctype within step e = absurd (cc)
-  by_doctype after step e = absurd (cc)
+  by_doctype _ step e = absurd (cc)
 
   step_sound : (n : Nesting) (item : Item) (token : Token) (step : Step) → Sound n → ((t : Tag) → token ≡ tag t → t.closing ≡ false → IsName syntax t.name) → step_by syntax depth n item token ≡ Ok step → Sound step.next
   step_sound n item (tag t) step s h e =
@@ -130,9 +128,7 @@ module _ (syntax : Syntax) (depth : ℕ) where
 
   doctype_last : (p : Phase) (step : Step) → doctype_step p ≡ Ok step → step.next.phase ≡ after → ⊥
   doctype_last (before false) step e h = let same : record { next = record { line = []; phase = before true; drops = false }; events = [] } ≡ step = cc in let k : before true ≡ after = ap (λ (x : Step). x.next.phase) same ∙ h in cc
-  doctype_last (before true) step e h = absurd (cc)
-  doctype_last within step e h = absurd (cc)
-  doctype_last after step e h = absurd (cc)
+  doctype_last _ step e h = absurd (cc)
 
   last_token : (n : Nesting) (item : Item) (token : Token) (step : Step) → Sound n → step_by syntax depth n item token ≡ Ok step → step.next.phase ≡ after → (is_tag token ≡ true) ⊎ (n.line ≡ [])
   last_token n item (tag t) step s e h = inl refl

@@ -136,11 +136,7 @@ html_endable name =
 
 inside_endable : (c : Content) (in_svg : Bool) (name : Chars) → IsEndable name (inside_at c in_svg name)
 inside_endable content.Foreign in_svg name = split (IsEndable name) (in_svg && is_among html_in_svg name) _ _ (λ e. inl refl) (λ e. inl refl)
-inside_endable content.Outside in_svg name = html_endable name
-inside_endable content.Html in_svg name = html_endable name
-inside_endable content.Strict in_svg name = html_endable name
-inside_endable (content.Raw r) in_svg name = html_endable name
-inside_endable (content.Rcdata r) in_svg name = html_endable name
+inside_endable _ in_svg name = html_endable name
 
 endable : (s : Syntax) (place : Place) (name : Chars) → IsEndable name (place_in s place name)
 endable Html place name = inside_endable place.content place.in_svg name

@@ -89,12 +89,9 @@ other_than c d h e = not_both_ways (c == d) (of_self c d e) h
 
 -- the first character of a token
 less : (s : Syntax) (i : Content) → Pends s i (60 ∷ [])
-less s content.Outside = at_less_than refl
-less s content.Html = at_less_than refl
-less s content.Foreign = at_less_than refl
-less s content.Strict = at_less_than refl
 less s (content.Raw name) = in_end (name_of_raw name) [] refl refl
 less s (content.Rcdata name) = in_end (name_of_raw name) [] refl refl
+less s _ = at_less_than refl
 
 no_text : (c : ℕ) (b : Bool) (G : Type 0) → (c == less_than_sign || (c == ampersand && true)) ≡ false → not (c == less_than_sign || c == ampersand) ≡ false → G
 no_text c b G h k =
@@ -107,11 +104,8 @@ no_text c b G h k =
 
 outside : (s : Syntax) (i : Content) (c : ℕ) → (c == less_than_sign || (c == ampersand && has_references i)) ≡ false → is_text i c ≡ false → FaultyBy s i kind.Outside (c ∷ [])
 outside s content.Outside c h k = λ depth items line phase. faults.outside_text c refl k (other_than c 60 (neither (c == less_than_sign) _ h).0)
-outside s content.Html c h k = no_text c true _ h k
-outside s content.Foreign c h k = no_text c true _ h k
-outside s content.Strict c h k = no_text c true _ h k
 outside s (content.Raw name) c h k = let n = neither (c == less_than_sign) _ h in absurd (not_both_ways (not (c == less_than_sign)) (rw n.0 refl) k)
-outside s (content.Rcdata name) c h k = no_text c true _ h k
+outside s _ c h k = no_text c true _ h k
 
 pub from_nothing : (s : Syntax) (i : Content) (c : ℕ) → Out s i [] c (at_first i c)
 from_nothing s i c =
@@ -125,12 +119,8 @@ from_nothing s i c =
 -- in XHTML no run is kept
 strict_run : (s : Syntax) (i : Content) → occurs s i ≡ true → has_references i ≡ true → keeps_runs i ≡ false → s ≡ Xhtml
 strict_run Xhtml i o r k = refl
-strict_run Html content.Outside o r k = absurd (cc)
-strict_run Html content.Html o r k = absurd (cc)
-strict_run Html content.Foreign o r k = absurd (cc)
-strict_run Html content.Strict o r k = absurd (cc)
 strict_run Html (content.Raw name) o r k = absurd (cc)
-strict_run Html (content.Rcdata name) o r k = absurd (cc)
+strict_run Html _ o r k = absurd (cc)
 
 module _ (s : Syntax) (i : Content) (run : Chars) (refs : has_references i ≡ true) (begun : is_begun run ≡ true) (c : ℕ) where
   by_meaning : is_body run ≡ true → c ≡ semicolon → (o : Option ℕ) → meaning s run ≡ o → Out s i (38 ∷ run) c (told_of_reference run o)
@@ -193,12 +183,8 @@ known_more name text c k = record { word = k.word; e = k.e; rest = k.rest ++ c �
 
 pub raw_html : (s : Syntax) (i : Content) (name : Chars) → occurs s i ≡ true → raw_name i ≡ Some name → s ≡ Html
 raw_html Html i name o r = refl
-raw_html Xhtml content.Outside name o r = absurd (cc)
-raw_html Xhtml content.Html name o r = absurd (cc)
-raw_html Xhtml content.Foreign name o r = absurd (cc)
-raw_html Xhtml content.Strict name o r = absurd (cc)
 raw_html Xhtml (content.Raw n) name o r = absurd (cc)
-raw_html Xhtml (content.Rcdata n) name o r = absurd (cc)
+raw_html Xhtml _ name o r = absurd (cc)
 
 module _ (i : Content) (name : Chars) (raw : raw_name i ≡ Some name) (text : Chars) (c : ℕ) where
   behind_name : ReadsOn Html text → KnownEnd name (text ++ c ∷ []) → Out Html i (60 ∷ text) c (in_tag Html text c)
@@ -232,6 +218,5 @@ module _ (i : Content) (name : Chars) (raw : raw_name i ≡ Some name) (text : C
       and_left false b h k = absurd (cc)
 
       whole_name : (a b : Bool) → a ≡ false → (not a && not b) ≡ false → b ≡ true
-      whole_name true b h k = absurd (cc)
       whole_name false true h k = refl
-      whole_name false false h k = absurd (cc)
+      whole_name _ _ h k = absurd (cc)

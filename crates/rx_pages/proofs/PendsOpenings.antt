@@ -34,19 +34,11 @@ use Rattle.rx_reader.proofs.Fronts.{equal, has_end}
 
 outside_html : (i : Content) → has_markup i ≡ true → occurs Html i ≡ true → has_less_than i ≡ false → i ≡ content.Outside
 outside_html content.Outside m o h = refl
-outside_html content.Html m o h = absurd (cc)
-outside_html content.Foreign m o h = absurd (cc)
-outside_html content.Strict m o h = absurd (cc)
-outside_html (content.Raw name) m o h = absurd (cc)
-outside_html (content.Rcdata name) m o h = absurd (cc)
+outside_html _ m o h = absurd (cc)
 
 outside_xhtml : (i : Content) → has_markup i ≡ true → occurs Xhtml i ≡ true → has_sections i ≡ false → i ≡ content.Outside
 outside_xhtml content.Outside m o h = refl
-outside_xhtml content.Html m o h = absurd (cc)
-outside_xhtml content.Foreign m o h = absurd (cc)
-outside_xhtml content.Strict m o h = absurd (cc)
-outside_xhtml (content.Raw name) m o h = absurd (cc)
-outside_xhtml (content.Rcdata name) m o h = absurd (cc)
+outside_xhtml _ m o h = absurd (cc)
 
 -- nothing of a tag
 nothing_read : (s : Syntax) → ReadsOn s []
@@ -162,8 +154,7 @@ any_or f g (x ∷ all) h n =
   where
     rest : (a b : Bool) → a ≡ false → b ≡ false → ((a || b) || list_any (λ x. f x || g x) all) ≡ true → list_any (λ x. f x || g x) all ≡ true
     rest false false p q h = h
-    rest true b p q h = absurd (cc)
-    rest false true p q h = absurd (cc)
+    rest _ _ p q h = absurd (cc)
 
 module _ (i : Content) (m : has_markup i ≡ true) (o : occurs Xhtml i ≡ true) (text : Chars) (c : ℕ) (begun : is_opening_begun (33 ∷ text) ≡ true) where
   opening : NoOpening (33 ∷ text)
@@ -187,8 +178,7 @@ module _ (i : Content) (m : has_markup i ≡ true) (o : occurs Xhtml i ≡ true)
     where
       there : (a b : Bool) → a ≡ true → (a && not b) ≡ false → b ≡ true
       there true true h k = refl
-      there true false h k = absurd (cc)
-      there false b h k = absurd (cc)
+      there _ _ h k = absurd (cc)
 
   pub from_opening : Out Xhtml i (60 ∷ 33 ∷ text) c (verdict Xhtml i (60 ∷ 33 ∷ text) c)
   from_opening =

@@ -22,9 +22,8 @@ ender_omits : (place : Place) (name other : Chars) → is_among (enders place na
 ender_omits place name other h = by (is_html place.content) (row_of name) h
   where
     by : (b : Bool) (row : Option (List Chars)) → is_among (cond b (names_of row) []) other ≡ true → (b && has_row row) ≡ true
-    by true None h = absurd (cc)
     by true (Some names) h = refl
-    by false row h = absurd (cc)
+    by _ _ h = absurd (cc)
 
 -- what is left open, and how deep
 pub record Left (syntax : Syntax) (depth : ℕ) (all to : List Item) (line : Line) : Type 0 where

@@ -33,21 +33,12 @@ pub record IsRawName (name : Chars) : Type 0 where
 
 of_raw : (r : RawName) → IsRawName (name_of_raw r)
 of_raw Script = record { letters = refl; low = refl; some = λ e. cc }
-of_raw Style = record { letters = refl; low = refl; some = λ e. cc }
-of_raw Iframe = record { letters = refl; low = refl; some = λ e. cc }
-of_raw Noembed = record { letters = refl; low = refl; some = λ e. cc }
-of_raw Noframes = record { letters = refl; low = refl; some = λ e. cc }
-of_raw Xmp = record { letters = refl; low = refl; some = λ e. cc }
-of_raw Title = record { letters = refl; low = refl; some = λ e. cc }
-of_raw Textarea = record { letters = refl; low = refl; some = λ e. cc }
+of_raw _ = record { letters = refl; low = refl; some = λ e. cc }
 
 pub is_raw_name : (i : Content) (name : Chars) → raw_name i ≡ Some name → IsRawName name
-is_raw_name content.Outside name h = absurd (cc)
-is_raw_name content.Html name h = absurd (cc)
-is_raw_name content.Foreign name h = absurd (cc)
-is_raw_name content.Strict name h = absurd (cc)
 is_raw_name (content.Raw r) name h = let e : name_of_raw r ≡ name = cc in subst IsRawName e (of_raw r)
 is_raw_name (content.Rcdata r) name h = let e : name_of_raw r ≡ name = cc in subst IsRawName e (of_raw r)
+is_raw_name _ name h = absurd (cc)
 
 letter_of : (c : ℕ) → is_letter (lowered_char c) ≡ true → is_letter c ≡ true
 letter_of c h = by_test (between 65 90 c) (λ t. rw t refl) (λ f. ap is_letter (sym (cond-false (between 65 90 c) (c + 32) c f)) ∙ h)

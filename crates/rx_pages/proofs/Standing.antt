@@ -34,12 +34,8 @@ pub record NoRows (a b p s d : Bool) : Type 0 where
   pub room : d ≡ false
 
 rows_none : (a b p s d : Bool) → first_row ((a, kind.Outside) ∷ (b, kind.RootNotHtml) ∷ (p, kind.Plaintext) ∷ (s, kind.SelfClosed) ∷ (d, kind.TooDeep) ∷ []) ≡ None → NoRows a b p s d
-rows_none true b p s d h = absurd (cc)
-rows_none false true p s d h = absurd (cc)
-rows_none false false true s d h = absurd (cc)
-rows_none false false false true d h = absurd (cc)
-rows_none false false false false true h = absurd (cc)
 rows_none false false false false false h = record { not_ended = refl; named = refl; known = refl; allowed = refl; room = refl }
+rows_none _ _ _ _ _ h = absurd (cc)
 
 below : (depth n : ℕ) → nat_le depth n ≡ false → n < depth
 below depth n h = grind (arith, nat_tests)

@@ -197,18 +197,11 @@ pub data Known (s : Syntax) (i : Content) (text : Chars) : Type 0 where
   in_raw' : (name : Chars) → raw_name i ≡ Some name → is_known_end name text ≡ true → Known s i text
 
 pub known : (s : Syntax) (i : Content) (text : Chars) → is_known_tag s i (less_than_sign ∷ text) ≡ true → Known s i text
-known s content.Outside text h = in_markup' refl h
-known s content.Html text h = in_markup' refl h
-known s content.Foreign text h = in_markup' refl h
-known s content.Strict text h = in_markup' refl h
 known s (content.Raw name) text h = in_raw' (name_of_raw name) refl h
 known s (content.Rcdata name) text h = in_raw' (name_of_raw name) refl h
+known s _ text h = in_markup' refl h
 
 pub is_known : (s : Syntax) (i : Content) (text : Chars) → Known s i text → is_known_tag s i (less_than_sign ∷ text) ≡ true
-is_known s content.Outside text (in_markup' m h) = h
-is_known s content.Html text (in_markup' m h) = h
-is_known s content.Foreign text (in_markup' m h) = h
-is_known s content.Strict text (in_markup' m h) = h
 is_known s (content.Raw name) text (in_markup' m h) = absurd (cc)
 is_known s (content.Rcdata name) text (in_markup' m h) = absurd (cc)
 is_known s content.Outside text (in_raw' name r h) = absurd (cc)
@@ -217,6 +210,7 @@ is_known s content.Foreign text (in_raw' name r h) = absurd (cc)
 is_known s content.Strict text (in_raw' name r h) = absurd (cc)
 is_known s (content.Raw n) text (in_raw' name r h) = let e : name_of_raw n ≡ name = cc in ap (λ x. is_known_end x text) e ∙ h
 is_known s (content.Rcdata n) text (in_raw' name r h) = let e : name_of_raw n ≡ name = cc in ap (λ x. is_known_end x text) e ∙ h
+is_known s _ text (in_markup' m h) = h
 
 module _ (s : Syntax) (i : Content) (text : Chars) where
   pub verdict_at : Known s i text → (f : Chars) (d : ℕ) (more : Chars) → text ≡ f ++ d ∷ more → (verdict s i (60 ∷ f) d ≡ in_tag s f d) ⊎ ((verdict s i (60 ∷ f) d ≡ goes_on) × (more ≢ []))

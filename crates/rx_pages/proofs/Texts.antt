@@ -20,36 +20,22 @@ use Rattle.rx_reader.proofs.Fronts.{begun_front, begun_no_mark}
 use Rattle.rx_reader.proofs.TextComplete.{body_begun}
 
 pub no_less : (i : Content) → is_text i 60 ≡ false
-no_less content.Outside = refl
-no_less content.Html = refl
-no_less content.Foreign = refl
-no_less content.Strict = refl
 no_less (content.Raw name) = refl
-no_less (content.Rcdata name) = refl
+no_less _ = refl
 
 pub no_ampersand : (i : Content) → has_references i ≡ true → is_text i 38 ≡ false
-no_ampersand content.Outside h = refl
-no_ampersand content.Html h = refl
-no_ampersand content.Foreign h = refl
-no_ampersand content.Strict h = refl
 no_ampersand (content.Raw name) h = absurd (cc)
-no_ampersand (content.Rcdata name) h = refl
+no_ampersand _ h = refl
 
 pub keeps_references : (i : Content) → keeps_runs i ≡ true → has_references i ≡ true
 keeps_references content.Outside h = absurd (cc)
-keeps_references content.Html h = refl
-keeps_references content.Foreign h = refl
-keeps_references content.Strict h = refl
 keeps_references (content.Raw name) h = absurd (cc)
-keeps_references (content.Rcdata name) h = refl
+keeps_references _ h = refl
 
 less_markup : (i : Content) → has_less_than i ≡ true → has_markup i ≡ true
-less_markup content.Outside h = refl
-less_markup content.Html h = refl
-less_markup content.Foreign h = refl
-less_markup content.Strict h = refl
 less_markup (content.Raw name) h = absurd (cc)
 less_markup (content.Rcdata name) h = absurd (cc)
+less_markup _ h = refl
 
 pub or_none : (a b : Bool) → a ≡ false → b ≡ false → (a || b) ≡ false
 or_none a b h k = rw (h, k) refl

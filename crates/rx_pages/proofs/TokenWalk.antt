@@ -93,9 +93,7 @@ leads_there syntax depth n item step h = by item.token h
       where
         at : (phase : Phase) → doctype_step phase ≡ Ok step → (true && not (may_lead phase)) ≡ false
         at (before false) m = refl
-        at (before true) m = absurd (cc)
-        at within m = absurd (cc)
-        at after m = absurd (cc)
+        at _ m = absurd (cc)
 
 -- text leaves the elements as they are
 pub kept_goes_on : (syntax : Syntax) (depth : ℕ) (n : Nesting) (item : Item) (step : Step) → nest_step syntax depth n item ≡ Ok step → IsKept item.token → step.next ≡ going_on n
@@ -210,8 +208,7 @@ module _ (syntax : Syntax) (limits : Limits) where
       where
         by : (x : Verdict) → TagVerdict x → x ≡ ended token → ⊥
         by _ on h = cc
-        by _ (a_tag t) h = cc
-        by _ (a_fault kind) h = cc
+        by _ _ h = cc
 
     pub kept_fine : (hi : ℕ) (e : Entry) (es : List Entry) (end : Stood) (item : Item) (step : Step) → verdict syntax inside (values unit) e.value ≡ ended item.token → item_of inside item.token unit ≡ item → nest_step syntax limits.depth n item ≡ Ok step → IsKept item.token
         → Fine syntax limits hi (stood step.next (events ++ step.events) false false []) (e ∷ es) end → Fine syntax limits hi (stood n events two last unit) (e ∷ es) end

@@ -77,12 +77,8 @@ pub kept_literal : (c : ℕ) (item : Item) → IsKept item.token → is_literal 
 kept_literal c item (is_kept text e) = ap (λ token. is_strict_literal c item.content token) e ∙ by item.content
   where
     by : (i : Content) → is_strict_literal c i (kept text) ≡ false
-    by content.Outside = refl
-    by content.Html = refl
-    by content.Foreign = refl
-    by content.Strict = refl
     by (content.Raw name) = refl
-    by (content.Rcdata name) = refl
+    by _ = refl
 
 pub item_is : (inside : Content) (item : Item) (c : Entry) (r : List Entry) → item.content ≡ inside → item.first ≡ c.first → item.last ≡ last_from c.last r → item_of inside item.token (c ∷ r) ≡ item
 item_is inside item c r ci f l = λ i. record { token = item.token; content = sym ci i; first = sym f i; last = sym l i }
