@@ -49,36 +49,12 @@ stays s phase.Opened c h = tt
 stays s phase.Emptied c h = tt
 stays s _ c h = absurd (cc)
 
--- a value is read in a value's phase alone, and a phase of a value goes on with it or ends it
+-- the phases in which a value is read
 abbrev pub is_value_phase : TagPhase → Bool
 is_value_phase phase.DoubleQuoted = true
 is_value_phase phase.SingleQuoted = true
 is_value_phase phase.Unquoted = true
 is_value_phase _ = false
-
-abbrev pub Valued : Move → Type 0
-Valued (Some (p, action.Value)) = is_value_phase p ≡ true
-Valued _ = Unit {0}
-
-choose : (b : Bool) (x y : Move) → Valued x → Valued y → Valued (cond b x y)
-choose b x y h k = split Valued b x y (λ _. h) (λ _. k)
-
-gap_valued : (s : Syntax) (c : ℕ) → Valued (move_of s phase.Gap c)
-gap_valued s c = choose (is_white_space c) _ _ tt (choose (c == solidus) _ _ tt (choose (c == greater_than_sign) _ _ tt (choose (begins_attribute s c) _ _ tt tt)))
-
-pub valued : (s : Syntax) (p : TagPhase) (c : ℕ) → is_among p ≡ true → Valued (move_of s p c)
-valued s phase.Gap c h = gap_valued s c
-valued s phase.Solidus c h = choose (c == greater_than_sign) _ _ tt (choose (is_html s) _ _ (gap_valued s c) tt)
-valued s phase.Key c h = choose (is_white_space c) _ _ tt (choose (c == equals_sign) _ _ tt (choose (c == solidus) _ _ (choose (is_html s) _ _ tt tt) (choose (c == greater_than_sign) _ _ (choose (is_html s) _ _ tt tt) (choose (continues_attribute s c) _ _ tt tt))))
-valued s phase.AfterKey c h = choose (is_white_space c) _ _ tt (choose (c == equals_sign) _ _ tt (choose (is_html s) _ _ (choose (c == solidus) _ _ tt (choose (c == greater_than_sign) _ _ tt (choose (begins_attribute s c) _ _ tt tt))) tt))
-valued s phase.BeforeValue c h = choose (is_white_space c) _ _ tt (choose (c == quotation_mark) _ _ tt (choose (c == apostrophe) _ _ tt (choose (c == greater_than_sign) _ _ tt (choose (is_html s) _ _ refl tt))))
-valued s phase.DoubleQuoted c h = choose (c == quotation_mark) _ _ tt refl
-valued s phase.SingleQuoted c h = choose (c == apostrophe) _ _ tt refl
-valued s phase.Unquoted c h = choose (is_white_space c) _ _ tt (choose (c == greater_than_sign) _ _ tt refl)
-valued s phase.AfterValue c h = choose (is_white_space c) _ _ tt (choose (c == solidus) _ _ tt (choose (c == greater_than_sign) _ _ tt (choose (is_html s) _ _ (choose (begins_attribute s c) _ _ tt tt) tt)))
-valued s phase.Opened c h = tt
-valued s phase.Emptied c h = tt
-valued s _ c h = absurd (cc)
 
 -- in a value's phase each character belongs to the value or ends it
 abbrev pub InValue : Move → Type 0

@@ -23,8 +23,7 @@ use Rattle.rx_reader.proofs.Classes.{of_one}
 use Rattle.rx_reader.proofs.Moves.{is_value_phase, InValue, in_value as in_value_phase}
 use Rattle.rx_reader.proofs.TextSound.{err_on}
 use Rattle.rx_reader.proofs.TagComplete.{each_read}
-use Rattle.rx_reader.proofs.TagSound.{tag_read}
-use Rattle.rx_reader.proofs.TagLaws.{moves-append, through, table_is_exact}
+use Rattle.rx_reader.proofs.TagLaws.{tag_read, moves-append, through, table_is_exact}
 use Rattle.rx_reader.proofs.ValueFaults.{snoc_front, snoc_last, Opens, After, steps_after, AtEnd, ends_after}
 use Rattle.rx_reader.proofs.ValueRefusals.{Refuses, refused}
 use Rattle.rx_reader.proofs.Written.{nothing_written, written_on, Follows, follows}
@@ -103,7 +102,7 @@ module _ (s : Syntax) (front : Chars) (st : TagState) (run : tag_on s (meaning s
   reads = let d = through s (meaning s) front fresh st refl run in d.reads
 
   written : Follows s (meaning s) (written_on s (Some nothing_written) front) st
-  written = follows s (meaning s) front nothing_written fresh st (record { phase_is = refl; value_is = refl }) reads
+  written = follows s (meaning s) front st reads
 
   module _ (f : Follows s (meaning s) (written_on s (Some nothing_written) front) st) (c : ℕ) where
     all_well : Well s front f.now
@@ -228,7 +227,7 @@ module _ (s : Syntax) (front : Chars) (st : TagState) (run : tag_on s (meaning s
   whole_refused parts r t =
       let a = each_read s (meaning s) (front ++ c ∷ []) parts r in
       let e : tag_move s (meaning s) st c ≡ Ok a.last = ap (λ o. tag_move_on s (meaning s) o c) (sym (reads s front st run)) ∙ (sym (moves-append s (meaning s) (Ok fresh) front (c ∷ [])) ∙ a.reads) in
-      ap (checked s) e ∙ twice_last a.last a.whole (ap (is_repeated s) a.attributes_are ∙ t)
+      ap (checked s) e ∙ twice_last a.last a.whole (ap (λ (x : Tag). is_repeated s x.attributes) a.parts_are ∙ t)
     where
       twice_last : (last : TagState) → is_last last.phase ≡ true → is_repeated s last.attributes ≡ true → checked s (Ok last) ≡ Err RepeatedAttribute
       twice_last last w t = rw (w, t) refl

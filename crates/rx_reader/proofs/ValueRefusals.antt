@@ -18,10 +18,9 @@ use Rattle.rx_reader.specs.declared.phases.RunMove.TheVariants.{Closes, Stops}
 use Rattle.rx_reader.specs.Tables.{run_move}
 use Rattle.rx_reader.specs.Values.{Value, no_value_yet, no_meaning, plain_step, meant, is_run, run_step, value_step, run_end, value_end, value_on}
 use Rattle.rx_terms.proofs.Bools.{not_both_ways}
-use Rattle.rx_reader.proofs.Runs.{RunIs, at_ampersand, in_name, at_hash, in_decimal, at_mark, in_hexadecimal, stops_back, closes_back}
+use Rattle.rx_reader.proofs.Runs.{RunIs, at_ampersand, in_name, stops_back, closes_back}
 use Rattle.rx_reader.proofs.TextComplete.{at_run, runs_is_run, begun_run, body_begun}
-use Rattle.rx_reader.proofs.TextSound.{err_on}
-use Rattle.rx_reader.proofs.TagComplete.{value-append}
+use Rattle.rx_reader.proofs.TextSound.{err_on, value-append}
 use Rattle.rx_reader.proofs.ValueFaults.{snoc_front, snoc_last}
 
 -- a value with a run that is open
