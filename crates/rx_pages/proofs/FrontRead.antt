@@ -21,7 +21,7 @@ use Rattle.rx_pages.proofs.Tokens.{values_append}
 use Rattle.rx_pages.proofs.KnownTags.{known_more}
 use Rattle.rx_pages.proofs.EntrySteps.{Stood}
 use Rattle.rx_pages.proofs.ByteSteps.{progress_at}
-use Rattle.rx_pages.proofs.CharWalk.{first_among, Fine, first_same, ends_return, no_nuls, is_started, page_walk, len_positive}
+use Rattle.rx_pages.proofs.CharWalk.{end_is, end_zero, first_among, Fine, first_same, ends_return, no_nuls, is_started, page_walk, len_positive}
 use Rattle.rx_pages.proofs.TokenWalk.{stood, Bound, go_all, fine_append, kept_fine}
 use Rattle.rx_pages.proofs.TokensWalk.{RisesFrom, Rises, flags_behind, Appends, Keeps, Finish, tokens_walk}
 
@@ -38,10 +38,6 @@ below_at : (hi : ℕ) (a : List Entry) (e : Entry) (b es : List Entry) → es �
 below_at hi a e b es h k = (below_behind hi a (e ∷ b) (subst (λ x. AllBelow hi x) h k)).0
 
 -- the places of what is entered rise, and stand among the bytes
-module _ (start c : ℕ) (cs : List ℕ) where
-  end_is : start + length (encodes (c ∷ cs)) ≡ start + len_utf8 c + length (encodes cs)
-  end_is = let a = length-append (encode c) (encodes cs) in let b = length-encode c in omega arith
-
 pub all_below : (after_return : Bool) (start : ℕ) (cs : List ℕ) → AllBelow (start + length (encodes cs)) (entered after_return (placed start cs))
 all_below after_return start [] = tt
 all_below after_return start (c ∷ cs) =
@@ -103,9 +99,6 @@ page_below (c ∷ cs) =
     by_test {G = AllBelow (length (encodes (c ∷ cs))) (entered false (without_mark (placed 0 (c ∷ cs))))} (c == byte_order_mark)
     (λ t. subst (λ es. AllBelow (length (encodes (c ∷ cs))) (entered false es)) (sym (cond-true _ _ _ t)) (subst (λ x. AllBelow x (entered false (placed (0 + len_utf8 c) cs))) (sym (end_zero c cs)) (all_below false (0 + len_utf8 c) cs)))
     (λ t. subst (λ es. AllBelow (length (encodes (c ∷ cs))) (entered false es)) (sym (cond-false _ _ _ t)) (let z : 0 + length (encodes (c ∷ cs)) ≡ length (encodes (c ∷ cs)) = omega arith in subst (λ x. AllBelow x (entered false (placed 0 (c ∷ cs)))) z (all_below false 0 (c ∷ cs))))
-  where
-    end_zero : (c : ℕ) (cs : List ℕ) → length (encodes (c ∷ cs)) ≡ 0 + len_utf8 c + length (encodes cs)
-    end_zero c cs = let a = length-append (encode c) (encodes cs) in let b = length-encode c in omega arith
 
 pub page_rises : (cs : List ℕ) → Rises (entered false (without_mark (placed 0 cs)))
 page_rises [] = tt

@@ -35,20 +35,10 @@ use Rattle.rx_pages.proofs.Tokens.{values_append}
 
 -- no run is kept outside the root
 kept_inside : (s : Syntax) (i : Content) (text : Chars) (next : Option ℕ) (token : Token) → Spells s i text next token → IsKept token → i ≢ content.Outside
-kept_inside s i _ next _ (spelling.a_tag text t m sp) (is_kept x e) = absurd (cc)
-kept_inside s i _ next _ (spelling.an_end_of_raw text name t r sp c n) (is_kept x e) = absurd (cc)
-kept_inside s i _ next _ (spelling.a_character c h) (is_kept x e) = absurd (cc)
 kept_inside s i _ next _ (spelling.a_less_than e h b) k = λ o. (let w = sym (ap spelling.has_less_than o) ∙ h in cc)
 kept_inside s i _ next _ (spelling.a_raw_run text name r h b) k = λ o. (let w = sym (ap spelling.raw_name o) ∙ r in cc)
-kept_inside s i _ next _ (spelling.a_reference body c r b m) (is_kept x e) = absurd (cc)
 kept_inside s i _ next _ (spelling.a_kept_run run k h b) w = λ o. (let w = sym (ap spelling.keeps_runs o) ∙ k in cc)
-kept_inside s i _ next _ (spelling.a_comment text e m f) (is_kept x h) = absurd (cc)
-kept_inside s i _ next _ (spelling.a_bogus_comment text e m n f) (is_kept x h) = absurd (cc)
-kept_inside s i _ next _ (spelling.a_question text e m f) (is_kept x h) = absurd (cc)
-kept_inside s i _ next _ (spelling.a_strict_comment text e m f) (is_kept x h) = absurd (cc)
-kept_inside s i _ next _ (spelling.an_instruction text e m f) (is_kept x h) = absurd (cc)
-kept_inside s i _ next _ (spelling.a_section text h f) (is_kept x e) = absurd (cc)
-kept_inside s i _ next _ (spelling.a_doctype text m d) (is_kept x e) = absurd (cc)
+kept_inside s i _ next _ _ (is_kept x e) = absurd (cc)
 
 unknown : (b : Bool) → (b ≡ true → ⊥) → b ≡ false
 unknown true h = absurd (h refl)
@@ -111,21 +101,17 @@ module _ (syntax : Syntax) (limits : Limits) where
           )
 
 -- places below the last one
+to_last : (last : ℕ) (xs : List Entry) (c : Entry) → RisesFrom last (xs ++ c ∷ []) → last ≤ c.last
+to_last last [] c r = r.0
+to_last last (e ∷ xs) c r = let m = to_last e.last xs c r.1 in let n = r.0 in omega arith
+
 below_last : (hi last : ℕ) (xs : List Entry) (c : Entry) → RisesFrom last (xs ++ c ∷ []) → c.last < hi → AllBelow hi (xs ++ c ∷ [])
 below_last hi last [] c r h = (h, tt)
 below_last hi last (e ∷ xs) c r h = ((let m = to_last e.last xs c r.1 in omega arith), below_last hi e.last xs c r.1 h)
-  where
-    to_last : (last : ℕ) (xs : List Entry) (c : Entry) → RisesFrom last (xs ++ c ∷ []) → last ≤ c.last
-    to_last last [] c r = r.0
-    to_last last (e ∷ xs) c r = let m = to_last e.last xs c r.1 in let n = r.0 in omega arith
 
 all_below_last : (hi : ℕ) (xs : List Entry) (c : Entry) → Rises (xs ++ c ∷ []) → c.last < hi → AllBelow hi (xs ++ c ∷ [])
 all_below_last hi [] c r h = (h, tt)
 all_below_last hi (e ∷ xs) c r h = ((let m = to_last e.last xs c r in omega arith), below_last hi e.last xs c r h)
-  where
-    to_last : (last : ℕ) (xs : List Entry) (c : Entry) → RisesFrom last (xs ++ c ∷ []) → last ≤ c.last
-    to_last last [] c r = r.0
-    to_last last (e ∷ xs) c r = let m = to_last e.last xs c r.1 in let n = r.0 in omega arith
 
 -- what a fault that the last character of a run decides is read as
 module _ (syntax : Syntax) (limits : Limits) (whole : List ℕ) (items : List Item) (line : Line) (phase : Phase) (run : List Entry) (c : Entry) (f : Fault) (reached : Reached syntax limits whole items line phase (run ++ c ∷ []))
@@ -149,16 +135,12 @@ module _ (syntax : Syntax) (limits : Limits) (whole : List ℕ) (items : List It
   run_rises : (a : List Entry) (e : Entry) (b : List Entry) → run ≡ a ++ e ∷ b → e.last ≤ c.last
   run_rises a e b h = by (reached.front ++ a) (subst Rises (ap (λ x. reached.front ++ x) (ap (λ x. x ++ c ∷ []) h ∙ append_assoc a (e ∷ b) (c ∷ [])) ∙ sym (append_assoc reached.front a (e ∷ (b ++ c ∷ [])))) rising)
     where
-      to_last : (last : ℕ) (xs : List Entry) → RisesFrom last (xs ++ c ∷ []) → last ≤ c.last
-      to_last last [] r = r.0
-      to_last last (e ∷ xs) r = let m = to_last e.last xs r.1 in let n = r.0 in omega arith
-
       from : (last : ℕ) (xs : List Entry) → RisesFrom last (xs ++ (e ∷ (b ++ c ∷ []))) → e.last ≤ c.last
-      from last [] r = to_last e.last b r.1
+      from last [] r = to_last e.last b c r.1
       from last (x ∷ xs) r = from x.last xs r.1
 
       by : (xs : List Entry) → Rises (xs ++ (e ∷ (b ++ c ∷ []))) → e.last ≤ c.last
-      by [] r = to_last e.last b r
+      by [] r = to_last e.last b c r
       by (x ∷ xs) r = from x.last xs r
 
   bound : (m : Nesting) → IsAt line phase m → (events : List Event) (two last : Bool) → Bound syntax limits m events two last run

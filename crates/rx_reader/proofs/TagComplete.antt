@@ -89,8 +89,8 @@ module _ (s : Syntax) where
       value_known w c x a e =
           let v = value_at w.attributes (w.key, w.value ++ x.more) x.others more (subst (λ y. AreRead s means y more) x.is read) in
           known (value_on s means (Ok no_value_yet) (a ++ c ∷ [])) (λ k f.
-              let q : end_of s (value_on s means (Ok no_value_yet) (w.value ++ x.more)) ≡ Err k = ap (end_of s) (value-append s means (Ok no_value_yet) w.value x.more ∙ (ap (λ y. value_on s means (value_on s means (Ok no_value_yet) y) x.more) e ∙ (ap (λ o. value_on s means o x.more) f ∙ err_on s means k x.more))) in
-              let r = text_complete s means [] v.denotes in cc)
+          let q : end_of s (value_on s means (Ok no_value_yet) (w.value ++ x.more)) ≡ Err k = ap (end_of s) (value-append s means (Ok no_value_yet) w.value x.more ∙ (ap (λ y. value_on s means (value_on s means (Ok no_value_yet) y) x.more) e ∙ (ap (λ o. value_on s means o x.more) f ∙ err_on s means k x.more))) in
+          let r = text_complete s means [] v.denotes in cc)
 
       attribute_known : (w : Written) (st : TagState) → Matches s means w st → Grows (w.attributes ++ (w.key, w.value) ∷ []) last → Known (value_end s st.value)
       attribute_known w st k g =
