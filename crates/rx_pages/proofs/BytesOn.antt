@@ -22,7 +22,7 @@ use Rattle.rx_grammar.specs.Trees.{Tree}
 use Rattle.rx_grammar.specs.Items.{values, next_of, Item, Spelled, no_more}
 use Rattle.rx_grammar.specs.Pages.{has_no_nul, Page, Document}
 use Rattle.rx_grammar.specs.Pages as pages
-use Rattle.rx_grammar.specs.Begun.{Line, inside_of, Phase, before, within, after, Stands, not_begun, still_open, ended}
+use Rattle.rx_grammar.specs.Begun.{Line, inside_of, Phase, before, after, Stands, not_begun, ended}
 use Rattle.rx_grammar.specs.PageFaults.{is_known_tag, token_of, IsShort, IsPart, GoesOn, begins_one, is_one, Before, Reached, FaultAt}
 use Rattle.rx_grammar.specs.PageFaults as faults
 use Rattle.rx_grammar.specs.Laws.{PageOrFault}

@@ -15,7 +15,7 @@ use Rattle.rx_chars.specs.Characters.{Entry, byte_order_mark, line_feed, carriag
 use Rattle.rx_chars.specs.declared.syntax.Syntax.{Syntax}
 use Rattle.rx_chars.specs.declared.syntax.Syntax.TheVariants.{Html, Xhtml}
 use Rattle.rx_grammar.specs.declared.limits.Limits.{Limits}
-use Rattle.rx_grammar.specs.Tokens.{Tag, Token, tag, character, reference, kept, section, comment, doctype}
+use Rattle.rx_grammar.specs.Tokens.{Tag, Token, tag}
 use Rattle.rx_grammar.specs.Shapes as shapes
 use Rattle.rx_grammar.specs.Tags.{SpellsTag}
 use Rattle.rx_grammar.specs.Spelling.{Spells, a_tag}
@@ -44,19 +44,16 @@ use Rattle.rx_pages.proofs.Foreparts.{Within, page_within}
 use Rattle.rx_pages.proofs.OpenNames.{is_fair, IsName, is_steady, ending, ending_text, spells_end, name_steady}
 use Rattle.rx_pages.proofs.OpenLines.{page_fair, AllNamed, arrives}
 use Rattle.rx_terms.proofs.Bools.{both, untrue}
+use Rattle.std.proofs.Math.Bool.{and-false}
 
 -- the characters of a page that are entered
 abbrev pub page_entries : List ℕ → List Entry
 page_entries cs = entered false (without_mark (placed 0 cs))
 
-and_false : (b : Bool) → (b && false) ≡ false
-and_false true = refl
-and_false false = refl
-
 passes_not : (started after_return : Bool) (c : ℕ) → (not started && c == byte_order_mark) ≡ false → is_steady c ≡ true → passes started after_return c ≡ false
 passes_not started after_return c h s =
     let feed = untrue (c == line_feed) (both (not (c == carriage_return)) (not (c == line_feed)) s).1 in
-    ap (λ b. b || after_return && c == line_feed) h ∙ (ap (λ b. after_return && b) feed ∙ and_false after_return)
+    ap (λ b. b || after_return && c == line_feed) h ∙ (ap (λ b. after_return && b) feed ∙ and-false after_return)
 
 -- a character that is entered as it is
 entered_as : (cs : List ℕ) (c : ℕ) → (not (is_started cs) && c == byte_order_mark) ≡ false → is_steady c ≡ true → page_entries (cs ++ c ∷ []) ≡ page_entries cs ++ placed (length (encodes cs)) (c ∷ [])
@@ -86,7 +83,7 @@ entered_more (x ∷ xs) cs h s =
     then_more cs xs x (entered_as cs x (ap (λ b. not b && x == byte_order_mark) h) k.0) (entered_more xs (cs ++ x ∷ []) (started_snoc cs x) k.1)
 
 pub entered_tag : (cs text : List ℕ) → list_all is_steady text ≡ true → page_entries (cs ++ 60 ∷ text) ≡ page_entries cs ++ placed (length (encodes cs)) (60 ∷ text)
-entered_tag cs text s = then_more cs text 60 (entered_as cs 60 (and_false (not (is_started cs))) refl) (entered_more text (cs ++ 60 ∷ []) (started_snoc cs 60) s)
+entered_tag cs text s = then_more cs text 60 (entered_as cs 60 (and-false (not (is_started cs))) refl) (entered_more text (cs ++ 60 ∷ []) (started_snoc cs 60) s)
 
 pub values_placed : (at : ℕ) (cs : List ℕ) → values (placed at cs) ≡ cs
 values_placed at [] = refl
@@ -188,7 +185,7 @@ module _ (syntax : Syntax) (depth : ℕ) where
         (subst (λ x. Spells syntax (content_at syntax place) (60 ∷ x) next (tag t)) (sym (values_placed (start + len_utf8 60) text)) (spells next)) refl refl)
 
     no_mark : ((flags_behind items false false).0 && is_literal greater_than_sign added) ≡ false
-    no_mark = ap (λ b. (flags_behind items false false).0 && b) (no_literal greater_than_sign (content_at syntax place) (tag t) (λ c e. cc)) ∙ and_false (flags_behind items false false).0
+    no_mark = ap (λ b. (flags_behind items false false).0 && b) (no_literal greater_than_sign (content_at syntax place) (tag t) (λ c e. cc)) ∙ and-false (flags_behind items false false).0
 
     fair_all : list_all is_fair (60 ∷ text) ≡ true
     fair_all = and_from (is_fair 60) (list_all is_fair text) refl fair

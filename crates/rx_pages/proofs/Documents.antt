@@ -6,7 +6,7 @@ use Rattle.rx_terms.specs.Text.{Chars}
 use Rattle.rx_chars.specs.declared.syntax.Syntax.{Syntax}
 use Rattle.rx_grammar.specs.Tokens.{Tag, Token, tag, character, reference, kept, section, comment, doctype}
 use Rattle.rx_grammar.specs.Contents.{Place, outside, place_in, is_alone, hides, drops_line_feed}
-use Rattle.rx_grammar.specs.Trees.{StartTag, Tree, end, element, text, after_text, has_element}
+use Rattle.rx_grammar.specs.Trees.{StartTag, Tree, end, element, after_text, has_element}
 use Rattle.rx_grammar.specs.Items.{Item, start_of, text_of}
 use Rattle.rx_grammar.specs.Omission.{enders, is_ended_by}
 use Rattle.rx_grammar.specs.Pages.{Opens, Closes, Drops, shown, Holds, nothing, a_text, a_comment, alone, closed, unclosed, is_between, Lead, passed, a_doctype, root_name, Document}

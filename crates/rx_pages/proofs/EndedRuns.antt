@@ -14,7 +14,7 @@ use Rattle.rx_grammar.specs.Spelling.{exclamation_mark, ends_with, has_reference
 use Rattle.rx_grammar.specs.PageFaults.{meets_opening}
 use Rattle.rx_reader.specs.Tables.{is_html, is_last}
 use Rattle.rx_reader.specs.TagReader.{TagState, fresh, tag_on, tag_of}
-use Rattle.rx_pages.specs.Scanner.{Verdict, goes_on, whole, ended, refused, whole_if, told_of_tag, in_tag, told_of_reference, in_run, in_raw, DoctypePhase, keyword, spaces, naming, passed, closed, told_of_doctype, in_doctype, in_section, in_strict_comment, in_opening, after_mark, after_question, less_than_text, in_markup, after_less_than, is_mark, doctype_on, verdict}
+use Rattle.rx_pages.specs.Scanner.{Verdict, goes_on, whole, ended, refused, whole_if, told_of_tag, in_tag, told_of_reference, in_run, in_raw, DoctypePhase, keyword, closed, told_of_doctype, in_doctype, in_section, in_strict_comment, in_opening, after_mark, after_question, less_than_text, in_markup, after_less_than, is_mark, doctype_on, verdict}
 use Rattle.rx_pages.proofs.TokenWalk.{IsKept, is_kept}
 
 abbrev Keeps : Verdict → Type 0

@@ -13,11 +13,11 @@ use Rattle.rx_grammar.specs.declared.faults.Fault.{Fault}
 use Rattle.rx_grammar.specs.declared.faults.Kind.{Kind}
 use Rattle.rx_grammar.specs.declared.faults.Kind.TheVariants as kind
 use Rattle.rx_grammar.specs.declared.limits.Limits.{Limits}
-use Rattle.rx_grammar.specs.Tokens.{Tag, Token, tag, character, reference, kept, section, comment, doctype}
+use Rattle.rx_grammar.specs.Tokens.{Tag, Token, tag, character, doctype}
 use Rattle.rx_grammar.specs.Spelling.{Spells, a_doctype, keeps_runs}
 use Rattle.rx_grammar.specs.Shapes.{begins_tag, begins}
 use Rattle.rx_grammar.specs.Items.{values, Item, is_literal, is_strict_literal}
-use Rattle.rx_grammar.specs.Begun.{Line, inside_of, Phase, before, within, after}
+use Rattle.rx_grammar.specs.Begun.{Line, inside_of, Phase, before}
 use Rattle.rx_grammar.specs.PageFaults.{is_known_tag, token_of, IsPending, IsShort, Unfinished, token_begun, tag_begun, run_begun, opening_begun, Reached, first_row, tag_rows, Faulty, FaultAt, Before, ends_in_brackets}
 use Rattle.rx_grammar.specs.PageFaults as faults
 use Rattle.rx_reader.proofs.TagFaultLaws.{reads_each_front}
@@ -40,6 +40,7 @@ use Rattle.rx_pages.proofs.KnownTags.{known_more}
 use Rattle.rx_pages.proofs.Tokens.{values_append}
 use Rattle.rx_pages.proofs.FaultRead.{stands_there, scan_there, byte_fault, page_too_long, not_utf8, nul, tag_too_long, page_ends}
 use Rattle.rx_pages.proofs.LastToken.{token_of_item}
+use Rattle.std.proofs.Math.Bool.{and-false}
 
 -- what begins a token goes on
 pub pending_goes : (s : Syntax) (i : Content) (run : Chars) → IsPending s i run → GoesOn s i [] run
@@ -75,10 +76,6 @@ brackets_before (a ∷ b ∷ c ∷ items) two last h = brackets_before (b ∷ c 
 pub no_literal : (d : ℕ) (i : Content) (token : Token) → ((c : ℕ) → token ≢ character c) → is_strict_literal d i token ≡ false
 no_literal d content.Strict (character c) n = absurd (n c refl)
 no_literal d _ _ n = refl
-
-and_false : (b : Bool) → (b && false) ≡ false
-and_false true = refl
-and_false false = refl
 
 no_lead : (phase : Phase) → phase ≢ before false → may_lead phase ≡ false
 no_lead (before true) n = refl
@@ -116,7 +113,7 @@ module _ (syntax : Syntax) (limits : Limits) (m : Nesting) (events : List Event)
       (ap (λ token. is_strict_literal 62 (item (character 62)).content token) (token_of_item inside (character 62) (run ++ c ∷ [])) ∙ ap (λ x. is_strict_literal 62 x (character 62)) (item_content inside (character 62) run c ∙ i)))
 
   no_bracket : (token : Token) → ((d : ℕ) → token ≢ character d) → (two && is_literal greater_than_sign (item token)) ≡ false
-  no_bracket token n = ap (λ b. two && b) (ap (λ t. is_strict_literal 62 (item token).content t) (token_of_item inside token (run ++ c ∷ [])) ∙ no_literal 62 (item token).content token n) ∙ and_false two
+  no_bracket token n = ap (λ b. two && b) (ap (λ t. is_strict_literal 62 (item token).content t) (token_of_item inside token (run ++ c ∷ [])) ∙ no_literal 62 (item token).content token n) ∙ and-false two
 
   by_doctype : m.phase ≢ before false → verdict syntax inside (values run) c.value ≡ whole doctype → entry_step syntax limits st c ≡ Err kind.BadDoctype
   by_doctype n h =

@@ -13,7 +13,7 @@ use Rattle.rx_grammar.specs.declared.contents.Content.TheVariants as content
 use Rattle.rx_grammar.specs.declared.faults.Kind.{Kind}
 use Rattle.rx_grammar.specs.declared.faults.Kind.TheVariants as kind
 use Rattle.rx_grammar.specs.declared.limits.Limits.{Limits}
-use Rattle.rx_grammar.specs.Tokens.{Token, tag, character, reference, kept, section, comment, doctype}
+use Rattle.rx_grammar.specs.Tokens.{Token, tag, character, kept}
 use Rattle.rx_grammar.specs.Spelling.{Spells, has_markup, has_references, raw_name, is_text}
 use Rattle.rx_grammar.specs.Shapes.{ends_name, begins}
 use Rattle.rx_grammar.specs.Names.{same}
@@ -40,6 +40,8 @@ use Rattle.rx_pages.proofs.EndedRuns.{ended_kept}
 use Rattle.rx_pages.proofs.KnownSpelled.{spelled_known}
 use Rattle.rx_pages.proofs.FaultsRead.{no_literal, item_content}
 use Rattle.rx_pages.proofs.LastToken.{token_of_item}
+use Rattle.std.proofs.Math.Bool.{and-false}
+use Rattle.rx_pages.proofs.ByteFacts.{item_last}
 
 -- what may go on
 pub goes_more : (s : Syntax) (i : Content) (before a : Chars) (c : ℕ) → GoesOn s i before a → verdict s i (before ++ a) c ≡ goes_on → GoesOn s i before (a ++ c ∷ [])
@@ -69,10 +71,6 @@ last_is : (last : ℕ) (more : List Entry) (e : Entry) → last_from last (more 
 last_is last [] e = refl
 last_is last (d ∷ more) e = last_is d.last more e
 
-item_last : (i : Content) (token : Token) (run : List Entry) (e : Entry) → (item_of i token (run ++ e ∷ [])).last ≡ e.last
-item_last i token [] e = refl
-item_last i token (d ∷ run) e = last_is d.last run e
-
 item_first : (i : Content) (token : Token) (run : List Entry) (e : Entry) (bytes : List ℕ) → (item_of i token (run ++ e ∷ [])).first ≡ token_of bytes (run ++ e ∷ [])
 item_first i token [] e bytes = refl
 item_first i token (d ∷ run) e bytes = refl
@@ -90,10 +88,6 @@ literal_by _ _ h = absurd (cc)
 one_character : (s : Syntax) (i : Content) (text : Chars) (next : Option ℕ) (token : Token) → Spells s i text next token → (c : ℕ) → token ≡ character c → text ≡ c ∷ []
 one_character s i _ next _ (spelling.a_character c h) d e = let k : c ≡ d = cc in ap (λ x. x ∷ []) k
 one_character s i _ next _ _ d e = absurd (cc)
-
-and_false : (b : Bool) → (b && false) ≡ false
-and_false true = refl
-and_false false = refl
 
 -- the first character ends nothing
 never_ended : (i : Content) (c : ℕ) (token : Token) → at_first i c ≢ ended token
@@ -319,7 +313,7 @@ module _ (syntax : Syntax) (limits : Limits) where
       no_end = by (ended_kept syntax (inside_of syntax line).content (values (d ∷ run)) e.value token v)
         where
           by : IsKept token → ((flags_behind items false false).0 && is_literal greater_than_sign text_item) ≡ false
-          by (is_kept text k) = ap (λ b. (flags_behind items false false).0 && b) (no_literal greater_than_sign (inside_of syntax line).content token (λ c q. kept_no (sym k ∙ q))) ∙ and_false (flags_behind items false false).0
+          by (is_kept text k) = ap (λ b. (flags_behind items false false).0 && b) (no_literal greater_than_sign (inside_of syntax line).content token (λ c q. kept_no (sym k ∙ q))) ∙ and-false (flags_behind items false false).0
             where
               kept_no : {c : ℕ} → kept text ≡ character c → ⊥
               kept_no h = cc

@@ -1,7 +1,7 @@
 -- The reader of bytes finds a fault that a character decides.
 use Rattle.std.proofs.Common.{◌≡◌, ◌≢◌, ◌∙◌, ⊎_elim, ℕ, ◌+◌, ◌<◌, ◌≤◌, Bool, true, false, List, [], ◌∷◌, ◌++◌, refl, sym, ap, subst, nat_le, append_assoc, append-nil, Option, Some, Ok, Err, arith}
 use Rattle.std.specs.Prelude.{◌&&◌, ◌||◌, ◌==◌, if◌then◌else◌}
-use Rattle.std.proofs.lemmas.Bool.{and_parts}
+use Rattle.std.proofs.lemmas.Bool.{and_parts, false_from_ne_true}
 use Rattle.rx_terms.specs.Ascii.{less_than_sign, ampersand}
 use Rattle.rx_terms.specs.Text.{Chars}
 use Rattle.rx_chars.specs.declared.syntax.Syntax.{Syntax}
@@ -39,10 +39,6 @@ kept_inside s i _ next _ (spelling.a_less_than e h b) k = λ o. (let w = sym (ap
 kept_inside s i _ next _ (spelling.a_raw_run text name r h b) k = λ o. (let w = sym (ap spelling.raw_name o) ∙ r in cc)
 kept_inside s i _ next _ (spelling.a_kept_run run k h b) w = λ o. (let w = sym (ap spelling.keeps_runs o) ∙ k in cc)
 kept_inside s i _ next _ _ (is_kept x e) = absurd (cc)
-
-unknown : (b : Bool) → (b ≡ true → ⊥) → b ≡ false
-unknown true h = absurd (h refl)
-unknown false h = refl
 
 and_true : (b : Bool) → (b && true) ≡ false → b ≡ false
 and_true true e = e
@@ -94,7 +90,7 @@ module _ (syntax : Syntax) (limits : Limits) where
               h ∙ ap (λ x. x ∷ (pre ++ c ∷ [])) (sym same),
               (
                 (λ w. absurd (kept_unknown syntax limits n events two last unit e item.token v (known_next syntax limits n events two last unit unit e w))),
-                ap (λ b. b && nat_le (first_of unit e.first + limits.tag) e.last) (unknown (is_known_tag syntax (content_at syntax n) (values (unit ++ e ∷ []))) (kept_unknown syntax limits n events two last unit e item.token v)),
+                ap (λ b. b && nat_le (first_of unit e.first + limits.tag) e.last) (false_from_ne_true (is_known_tag syntax (content_at syntax n) (values (unit ++ e ∷ []))) (kept_unknown syntax limits n events two last unit e item.token v)),
                 (hits2.2.0, (kept_step syntax limits n events two last unit e item step v i st k ∙ hits2.2.1.0, hits2.2.1.1)),
               ),
             ),

@@ -12,11 +12,10 @@ use Rattle.rx_grammar.specs.declared.faults.Kind.TheVariants as kind
 use Rattle.rx_grammar.specs.Names.{same, is_among, name_of_raw}
 use Rattle.rx_grammar.specs.Tokens.{Tag, Token, tag, character, reference, kept, section, comment, doctype}
 use Rattle.rx_grammar.specs.Contents.{in_html, raw_place, raw_names, rcdata_names, inside_html, inside_foreign, html_in_svg, Place, inside_at}
-use Rattle.rx_grammar.specs.Spelling.{Spells, keeps_runs, IsDoctype, a_doctype}
-use Rattle.rx_grammar.specs.Spelling as spelling
+use Rattle.rx_grammar.specs.Spelling.{Spells, keeps_runs, a_doctype}
 use Rattle.rx_grammar.specs.Shapes.{begins, begins_tag}
 use Rattle.rx_grammar.specs.Items.{Item}
-use Rattle.rx_grammar.specs.Begun.{Line, inside_of, Phase, before, within, after}
+use Rattle.rx_grammar.specs.Begun.{Line, inside_of, Phase, before}
 use Rattle.rx_grammar.specs.PageFaults.{Unfinished, token_begun, tag_begun, run_begun, opening_begun, tag_rows, first_row, Faulty, in_tag, no_markup, in_run, in_comment, section_end, no_doctype, late_doctype, outside_text, outside_less_than, outside_section, at_tag}
 use Rattle.rx_pages.specs.Nesting.{Nesting, Step, unless_refused, tag_passes, doctype_step, step_by, nest_step, IsAt}
 use Rattle.rx_pages.specs.Scanner.{GoesOn, ReadAs, at_last, at_next}

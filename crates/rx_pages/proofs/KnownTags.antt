@@ -114,7 +114,7 @@ known_more s i (d ∷ text) more h =
     (λ m. cond-false _ _ _ m ∙ known_raw_more (raw_name i) text more (sym (cond-false _ _ _ m) ∙ p.1)))
 
 -- the front of an end tag isn't longer than `/` and the name
-front_length : (a b : Chars) → begins_with a b ≡ true → length a ≤ length b
+pub front_length : (a b : Chars) → begins_with a b ≡ true → length a ≤ length b
 front_length [] b h = omega arith
 front_length (c ∷ a) [] h = absurd (cc)
 front_length (c ∷ a) (d ∷ b) h = let r = front_length a b (and_parts (c == d) (begins_with a b) h).1 in omega arith

@@ -11,9 +11,9 @@ use Rattle.rx_grammar.specs.declared.contents.Content.{Content}
 use Rattle.rx_grammar.specs.declared.faults.Kind.{Kind}
 use Rattle.rx_grammar.specs.declared.faults.Kind.TheVariants as kind
 use Rattle.rx_grammar.specs.Names.{same, is_among}
-use Rattle.rx_grammar.specs.Tokens.{Tag, Token, tag, character, reference, kept, section, comment, doctype}
+use Rattle.rx_grammar.specs.Tokens.{Tag, Token, tag, character, reference, kept, section, comment}
 use Rattle.rx_grammar.specs.Contents.{Place, outside, place_in, is_alone, is_html, is_plaintext, is_self_closed, hides, drops_line_feed}
-use Rattle.rx_grammar.specs.Trees.{StartTag, Tree, end, element, text, after_text, has_element}
+use Rattle.rx_grammar.specs.Trees.{StartTag, Tree, end, element, after_text, has_element}
 use Rattle.rx_grammar.specs.Items.{Item, start_of, text_of}
 use Rattle.rx_grammar.specs.Omission.{enders, is_omissible, is_held, is_ended_by}
 use Rattle.rx_grammar.specs.Pages.{Opens, Closes, Drops, a_line_feed, another, no_more, shown, Holds, nothing, a_text, a_comment, alone, closed, unclosed, root_name}

@@ -28,15 +28,16 @@ use Rattle.rx_reader.specs.TagReader.{TagState, fresh, tag_step, tag_step_on, ta
 use Rattle.rx_reader.specs.Laws.{ReadsOn}
 use Rattle.rx_pages.specs.Scanner.{Verdict, goes_on, whole, ended, refused, told_of_tag, in_tag, told_of_reference, in_run, in_raw, DoctypePhase, keyword, closed, doctype_on, at_first, verdict}
 use Rattle.rx_pages.proofs.Reading.{markup_is}
-use Rattle.rx_pages.proofs.FirstFronts.{NoFront, NoneBefore, same_self}
+use Rattle.rx_pages.proofs.FirstFronts.{NoFront, NoneBefore}
 use Rattle.rx_pages.proofs.TagRuns.{is_first, markup_tag, KnownEnd, known_at, Known, in_markup', in_raw', is_known}
 use Rattle.rx_pages.proofs.RawEnds.{is_raw_name, end_reads, ends_raw}
 use Rattle.rx_terms.proofs.Bools.{both, neither, either, not_both_ways, split}
 use Rattle.rx_reader.proofs.Classes.{of_one}
 use Rattle.rx_reader.proofs.Fronts.{equal}
 use Rattle.rx_pages.proofs.Contents.{same_is}
-use Rattle.rx_reader.proofs.TagLaws.{spells_each, tag_on-append}
+use Rattle.rx_reader.proofs.TagLaws.{spells_each, tag_on-append, repeats_once}
 use Rattle.rx_reader.proofs.TagFaultLaws.{refuses_each_fault}
+use Rattle.rx_reader.proofs.OneToken.{same_self}
 
 -- the contents of a syntax
 abbrev pub occurs : Syntax → Content → Bool
@@ -82,10 +83,7 @@ pub other_than : (c d : ℕ) → (c == d) ≡ false → c ≢ d
 other_than c d h e = not_both_ways (c == d) (of_self c d e) h
   where
     of_self : (c d : ℕ) → c ≡ d → (c == d) ≡ true
-    of_self c d e = subst (λ x. (c == x) ≡ true) e (self c)
-      where
-        self : (c : ℕ) → (c == c) ≡ true
-        self c = equal c
+    of_self c d e = subst (λ x. (c == x) ≡ true) e (equal c)
 
 -- the first character of a token
 less : (s : Syntax) (i : Content) → Pends s i (60 ∷ [])
@@ -207,16 +205,12 @@ module _ (i : Content) (name : Chars) (raw : raw_name i ≡ Some name) (text : C
       (λ h. split (Out Html i (60 ∷ text) c) (begins_end name text && stops_end name text c) _ _
       (λ k. let p = both (begins_end name text) _ k in spelling.a_raw_run text name raw p.0 p.1)
       (λ k.
-      let n : stops_end name text c ≡ false = and_left (begins_end name text) _ b k in
+      let n : stops_end name text c ≡ false = repeats_once (begins_end name text) _ b k in
       let m : (same (lowered text) (solidus ∷ name) && ends_name c) ≡ true = whole_name (begins_end name (text ++ c ∷ [])) (same (lowered text) (solidus ∷ name) && ends_name c) h n in
       let p = both (same (lowered text) (solidus ∷ name)) (ends_name c) m in
       let e : lowered text ≡ solidus ∷ name = same_is (lowered text) (solidus ∷ name) p.0 in
       behind_name (end_reads name text (is_raw_name i name raw) e) (record { word = text; e = c; rest = []; are = refl; is = e; ends = p.1 })))
     where
-      and_left : (a b : Bool) → a ≡ true → (a && b) ≡ false → b ≡ false
-      and_left true b h k = k
-      and_left false b h k = absurd (cc)
-
       whole_name : (a b : Bool) → a ≡ false → (not a && not b) ≡ false → b ≡ true
       whole_name false true h k = refl
       whole_name _ _ h k = absurd (cc)

@@ -1,6 +1,6 @@
 -- What a tag leaves open of the elements at the front of a page.
 use Rattle.std.proofs.lemmas.Bool.{cond-true, cond-false, and_from}
-use Rattle.std.proofs.Common.{◌≡◌, ◌∙◌, ℕ, suc, ◌+◌, Bool, true, false, cond, List, [], ◌∷◌, Option, Some, None, refl, ap, sym, arith, length}
+use Rattle.std.proofs.Common.{◌≡◌, ◌∙◌, ℕ, suc, ◌+◌, Bool, true, false, cond, List, [], ◌∷◌, Option, Some, refl, ap, sym, arith, length}
 use Rattle.std.specs.Prelude.{◌&&◌, not}
 use Rattle.rx_terms.specs.Text.{Chars}
 use Rattle.rx_chars.specs.declared.syntax.Syntax.{Syntax}

@@ -11,7 +11,7 @@ use Rattle.rx_chars.specs.declared.syntax.Syntax.TheVariants.{Html}
 use Rattle.rx_grammar.specs.declared.contents.Content.{Content}
 use Rattle.rx_grammar.specs.declared.contents.Content.TheVariants as content
 use Rattle.rx_grammar.specs.declared.contents.RawName.{RawName}
-use Rattle.rx_grammar.specs.declared.contents.RawName.TheVariants.{Script, Style, Iframe, Noembed, Noframes, Xmp, Title, Textarea}
+use Rattle.rx_grammar.specs.declared.contents.RawName.TheVariants.{Script}
 use Rattle.rx_grammar.specs.Names.{name_of_raw}
 use Rattle.rx_grammar.specs.Tokens.{Tag}
 use Rattle.rx_grammar.specs.Shapes.{ends_name, is_tag_name, Shape, a_start, an_end}

@@ -1,5 +1,5 @@
 -- Where the tokens lead, they stand at the front of a page.
-use Rattle.std.proofs.lemmas.Bool.{cond-true, cond-false}
+use Rattle.std.proofs.lemmas.Bool.{cond-true, cond-false, not-false}
 use Rattle.std.proofs.lemmas.Bool.Decides.{nat_tests}
 use Rattle.std.proofs.Common.{◌≡◌, ◌∙◌, ℕ, zero, suc, ◌+◌, ◌-◌, ◌<◌, Bool, true, false, List, [], ◌∷◌, ◌++◌, Some, None, refl, ap, sym, subst, arith, length, append_assoc, inl, inr, ◌⊎◌}
 use Rattle.std.specs.Prelude.{◌&&◌, not, Result, Ok, nat_le}
@@ -193,12 +193,8 @@ module _ (syntax : Syntax) (depth : ℕ) (all : List Item) (item : Item) where
   start_before items stood a lead u step c k start e =
       let p = passes (first_row (start_rows syntax depth [] (before stood) u)) (begun_under syntax item u [] []) step (sym (of_start u.closing _ _ _ _ start) ∙ e) in
       let n = rows_none (has_ended (before stood)) (is_before (before stood) && not (same u.name root_name)) _ _ _ p.none in
-      arrive _ step p.is (root_at items stood a lead u (record { content = c; token = k; start = start; allowed = n.allowed; known = n.known }) (same_is u.name root_name (truth _ n.named)) (depth - 1) (room (below depth 0 n.room)))
+      arrive _ step p.is (root_at items stood a lead u (record { content = c; token = k; start = start; allowed = n.allowed; known = n.known }) (same_is u.name root_name (not-false _ n.named)) (depth - 1) (room (below depth 0 n.room)))
     where
-      truth : (b : Bool) → not b ≡ false → b ≡ true
-      truth true h = refl
-      truth false h = absurd (cc)
-
       room : 0 < depth → suc (depth - 1) ≡ depth
       room h = omega arith
 

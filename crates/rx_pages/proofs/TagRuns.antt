@@ -1,7 +1,7 @@
 -- A run that is known to be a tag is read as one.
 use Rattle.std.proofs.Common.{◌≡◌, ◌≢◌, ◌∙◌, ℕ, ◌+◌, ◌≤◌, length, take, Bool, true, false, [], ◌∷◌, ◌++◌, Some, Ok, Err, refl, ap, sym, subst, append-nil, append_assoc, inl, inr, ◌⊎◌, arith}
 use Rattle.std.specs.Prelude.{◌&&◌, ◌||◌, ◌==◌, not, drop}
-use Rattle.std.proofs.lemmas.Bool.{cond-true, cond-false}
+use Rattle.std.proofs.lemmas.Bool.{cond-true, cond-false, and_right}
 use Rattle.std.proofs.lemmas.List.{length-append, length-map, take-append-drop}
 use Rattle.rx_terms.specs.Ascii.{lowered_char, solidus, less_than_sign}
 use Rattle.rx_terms.specs.Text.{Chars, begins_with, lowered}
@@ -24,13 +24,15 @@ use Rattle.rx_pages.specs.Scanner.{goes_on, refused, told_of_tag, in_tag, in_raw
 use Rattle.rx_pages.proofs.Reading.{all_go, markup_is, raw_is}
 use Rattle.rx_pages.proofs.RawText.{begins_end_front}
 use Rattle.rx_pages.proofs.Contents.{same_is}
-use Rattle.rx_pages.proofs.FirstFronts.{same_self}
 use Rattle.rx_pages.proofs.Refusals.{IsRefused}
 use Rattle.rx_terms.proofs.Bools.{both, either, not_both_ways, by_test}
 use Rattle.rx_reader.proofs.Classes.{of_one}
 use Rattle.rx_reader.proofs.Fronts.{equal, two_fronts}
 use Rattle.rx_reader.proofs.TagLaws.{last_none, on_err, tag_on-append}
 use Rattle.rx_reader.proofs.TagFaultLaws.{parts, is_refused}
+use Rattle.std.proofs.Math.Bool.{and-false}
+use Rattle.rx_reader.proofs.OneToken.{same_self}
+use Rattle.rx_pages.proofs.KnownTags.{front_length}
 
 -- The fronts of what is read as a tag are read so.
 pub after_last : (s : Syntax) (st : TagState) (c : ℕ) (text : Chars) (last : TagState) → is_last st.phase ≡ true → tag_on s (meaning s) (Ok st) (c ∷ text) ≡ Ok last → ⊥
@@ -116,14 +118,9 @@ known_end name text h =
       ends = d.meets;
     }
 
-begins_no_longer : (p q : Chars) → begins_with p q ≡ true → length p ≤ length q
-begins_no_longer [] q h = omega arith
-begins_no_longer (c ∷ p) [] h = absurd (cc)
-begins_no_longer (c ∷ p) (d ∷ q) h = let k = both (c == d) _ h in let l = begins_no_longer p q k.1 in omega arith
-
 -- more than the whole name begins no end tag's front
 pub past_name : (name word z : Chars) (c : ℕ) → lowered word ≡ solidus ∷ name → begins_end name (word ++ c ∷ z) ≡ false
-past_name name word z c e = by_test (begins_end name (word ++ c ∷ z)) (λ h. absurd (too_long (begins_no_longer (lowered (word ++ c ∷ z)) (solidus ∷ name) h))) (λ h. h)
+past_name name word z c e = by_test (begins_end name (word ++ c ∷ z)) (λ h. absurd (too_long (front_length (lowered (word ++ c ∷ z)) (solidus ∷ name) h))) (λ h. h)
   where
     too_long : length (lowered (word ++ c ∷ z)) ≤ length (solidus ∷ name) → ⊥
     too_long l =
@@ -145,11 +142,7 @@ no_stop : (name word : Chars) (e : ℕ) → lowered word ≡ solidus ∷ name �
 no_stop name word e i h =
     let k : (same (lowered word) (solidus ∷ name) && ends_name e) ≡ true = rw (i, same_self (solidus ∷ name), h) refl in
     let f : not (same (lowered word) (solidus ∷ name) && ends_name e) ≡ false = ap not k in
-    and_false (not (begins_end name (word ++ e ∷ []))) _ f
-  where
-    and_false : (a b : Bool) → b ≡ false → (a && b) ≡ false
-    and_false true b h = h
-    and_false false b h = refl
+    and_right (not (begins_end name (word ++ e ∷ []))) _ f
 
 module _ (s : Syntax) (name text : Chars) (k : KnownEnd name text) (f : Chars) (d : ℕ) (more : Chars) (e : text ≡ f ++ d ∷ more) where
   behind_name : (z : Chars) → f ≡ k.word ++ z → k.e ∷ k.rest ≡ z ++ d ∷ more → in_raw s name f d ≡ in_tag s f d
@@ -165,11 +158,7 @@ module _ (s : Syntax) (name text : Chars) (k : KnownEnd name text) (f : Chars) (
           let c : k.e ≡ d = cc in
           let w : f ≡ k.word = q ∙ append-nil k.word in
           let n : stops_end name f d ≡ false = ap (λ x. stops_end name x d) w ∙ (ap (stops_end name k.word) (sym c) ∙ no_stop name k.word k.e k.is k.ends) in
-          ap (λ b. begins_end name f && b) n ∙ none (begins_end name f)
-        where
-          none : (b : Bool) → (b && false) ≡ false
-          none true = refl
-          none false = refl
+          ap (λ b. begins_end name f && b) n ∙ and-false (begins_end name f)
       stopped (x ∷ z) q r = ap (λ b. b && stops_end name f d) (ap (begins_end name) q ∙ past_name name k.word z x k.is)
 
   -- each character of it is one of the name or one of the tag

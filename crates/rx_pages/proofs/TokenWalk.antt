@@ -13,7 +13,7 @@ use Rattle.rx_grammar.specs.Tokens.{Token, tag, character, reference, kept, sect
 use Rattle.rx_grammar.specs.Spelling as spelling
 use Rattle.rx_grammar.specs.Spelling.{Spells, has_references, is_text}
 use Rattle.rx_grammar.specs.Items.{values, Item, is_literal}
-use Rattle.rx_grammar.specs.Begun.{Phase, before, within, after}
+use Rattle.rx_grammar.specs.Begun.{Phase, before}
 use Rattle.rx_grammar.specs.PageFaults.{is_known_tag}
 use Rattle.rx_terms.proofs.Bools.{by_test}
 use Rattle.rx_pages.specs.Nesting.{Event, Nesting, Step, content_at, nest_step, step_by, going_on, doctype_step, text_step}
@@ -22,10 +22,11 @@ use Rattle.rx_pages.specs.PageReader.{Spot, Scanning, Scanned, first_of, is_too_
 use Rattle.rx_pages.proofs.Pending.{goes_at, not_whole}
 use Rattle.rx_pages.proofs.Spellings.{reads_each}
 use Rattle.rx_pages.proofs.Tokens.{values_append}
-use Rattle.rx_pages.proofs.KnownTags.{TagVerdict, on, a_tag, a_fault, known_more, known_verdict}
+use Rattle.rx_pages.proofs.KnownTags.{TagVerdict, on, known_more, known_verdict}
 use Rattle.rx_pages.proofs.EntrySteps.{Stood, scanning_of, stood_by, nested_by, entry_step}
 use Rattle.rx_pages.proofs.ByteSteps.{not_long}
 use Rattle.rx_pages.proofs.CharWalk.{is_known, Fine}
+use Rattle.std.proofs.lemmas.Bool.{false_from_ne_true}
 
 abbrev pub stood : Nesting → List Event → Bool → Bool → List Entry → Stood
 stood n events two last run = record { run = run; two = two; last = last; nest = n; told = events }
@@ -214,10 +215,6 @@ module _ (syntax : Syntax) (limits : Limits) where
         → Fine syntax limits hi (stood step.next (events ++ step.events) false false []) (e ∷ es) end → Fine syntax limits hi (stood n events two last unit) (e ∷ es) end
     kept_fine hi e es end item step v i st k f = (
       (λ w. absurd (kept_unknown e item.token v (known_next unit e w))),
-      ap (λ b. b && nat_le (first_of unit e.first + limits.tag) e.last) (unknown (is_known_tag syntax inside (values (unit ++ e ∷ []))) (kept_unknown e item.token v)),
+      ap (λ b. b && nat_le (first_of unit e.first + limits.tag) e.last) (false_from_ne_true (is_known_tag syntax inside (values (unit ++ e ∷ []))) (kept_unknown e item.token v)),
       (f.2.0, (kept_step e item step v i st k ∙ f.2.1.0, f.2.1.1)),
     )
-      where
-        unknown : (b : Bool) → (b ≡ true → ⊥) → b ≡ false
-        unknown true h = absurd (h refl)
-        unknown false h = refl

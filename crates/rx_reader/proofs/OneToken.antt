@@ -11,7 +11,7 @@ use Rattle.rx_grammar.specs.declared.contents.Content.TheVariants as content
 use Rattle.rx_grammar.specs.declared.contents.RawName.{RawName}
 use Rattle.rx_grammar.specs.declared.contents.RawName.TheVariants as raw
 use Rattle.rx_grammar.specs.Names.{same, name_of_raw}
-use Rattle.rx_grammar.specs.References.{one_or_more, is_body, is_begun, stops_at, meaning}
+use Rattle.rx_grammar.specs.References.{is_body, is_begun, stops_at, meaning}
 use Rattle.rx_grammar.specs.Tokens.{Tag, Token, tag, character, reference, kept, section, comment, doctype}
 use Rattle.rx_grammar.specs.Shapes.{ends_name, begins_tag, Shape, a_start, an_end}
 use Rattle.rx_grammar.specs.Tags.{SpellsTag, cased, cased_char}
@@ -20,10 +20,12 @@ use Rattle.rx_grammar.specs.Items.{next_of}
 use Rattle.rx_grammar.specs.Laws.{OneToken, IsSameToken}
 use Rattle.rx_terms.proofs.Bools.{both, neither, either, untrue, not_both_ways, by_test}
 use Rattle.rx_reader.proofs.Classes.{of_one, of_white, unless}
-use Rattle.rx_reader.proofs.Fronts.{equal, all_front, or_right, Longer, two_fronts, one_first, only_end, one_end, ends_at, begins_append, begins_front, begins_more, begins_within, has_end, begun_no_mark, begun_front}
+use Rattle.rx_reader.proofs.Fronts.{equal, all_front, Longer, two_fronts, one_first, only_end, one_end, ends_at, begins_append, begins_front, begins_more, begins_within, has_end, begun_no_mark, begun_front}
 use Rattle.rx_reader.proofs.TagLaws.{one, one_front}
 use Rattle.rx_reader.proofs.TextComplete.{body_begun}
 use Rattle.std.proofs.lemmas.List.{append_cancel_left, append_cancel_right, map-append}
+use Rattle.std.proofs.lemmas.Bool.{or_left, or_right, and_from}
+use Rattle.rx_reader.proofs.Gaps.{all_of_some}
 
 -- what follows `<!`
 pub data Bang (s : Syntax) (i : Content) (text : Chars) (b : Token) : Type 0 where
@@ -58,18 +60,18 @@ pub data View (s : Syntax) (i : Content) (xs : Chars) (m : Option ℕ) (b : Toke
   v_amp : (text : Chars) → xs ≡ 38 ∷ text → has_references i ≡ true → Amp s i text m b → View s i xs m b
   v_less : (text : Chars) → xs ≡ 60 ∷ text → Less s i text m b → View s i xs m b
 
-keeps_has : (i : Content) → keeps_runs i ≡ true → has_references i ≡ true
+pub keeps_has : (i : Content) → keeps_runs i ≡ true → has_references i ≡ true
 keeps_has content.Html h = refl
 keeps_has content.Foreign h = refl
 keeps_has (content.Rcdata n) h = refl
 keeps_has _ h = absurd (cc)
 
-less_markup : (i : Content) → has_less_than i ≡ true → has_markup i ≡ true
+pub less_markup : (i : Content) → has_less_than i ≡ true → has_markup i ≡ true
 less_markup content.Html h = refl
 less_markup content.Foreign h = refl
 less_markup _ h = absurd (cc)
 
-section_markup : (i : Content) → has_sections i ≡ true → has_markup i ≡ true
+pub section_markup : (i : Content) → has_sections i ≡ true → has_markup i ≡ true
 section_markup content.Foreign h = refl
 section_markup content.Strict h = refl
 section_markup _ h = absurd (cc)
@@ -235,10 +237,6 @@ word_no_mark : (s : Syntax) → list_all (λ c. not (c == 62)) (doctype_word s) 
 word_no_mark Html = refl
 word_no_mark Xhtml = refl
 
-some_all : (test : ℕ → Bool) (text : Chars) → one_or_more test text ≡ true → list_all test text ≡ true
-some_all test [] h = absurd (cc)
-some_all test (c ∷ text) h = h
-
 all_weaker : (test other : ℕ → Bool) → ((c : ℕ) → test c ≡ true → other c ≡ true) → (text : Chars) → list_all test text ≡ true → list_all other text ≡ true
 all_weaker test other w [] h = refl
 all_weaker test other w (c ∷ text) h = let b = both (test c) _ h in rw (w c b.0, all_weaker test other w text b.1) refl
@@ -255,7 +253,7 @@ doctype_end s text d =
     let e : text ≡ front ++ 62 ∷ [] = d.are ∙ regroup d.keyword d.spaces d.name d.rest in
     subst (λ (w : Chars). only_end 62 w ≡ true) (sym e)
     (ends_at 62 front (all_both _ d.keyword _ (no_greater s d.keyword (doctype_word s) d.keyword_is (word_no_mark s))
-    (all_both _ d.spaces _ (all_weaker is_white_space _ white_no_mark d.spaces (some_all is_white_space d.spaces d.apart))
+    (all_both _ d.spaces _ (all_weaker is_white_space _ white_no_mark d.spaces (all_of_some is_white_space d.spaces d.apart))
     (all_both _ d.name _ (no_greater s d.name (codes "html") d.name_is refl) (all_weaker _ _ passed_no_mark d.rest d.passed)))))
   where
     regroup : (k p n r : Chars) → k ++ (p ++ (n ++ (r ++ 62 ∷ []))) ≡ (k ++ (p ++ (n ++ r))) ++ 62 ∷ []
@@ -390,13 +388,9 @@ pub record TagFirst (s : Syntax) (text : Chars) : Type 0 where
   pub is : text ≡ c ∷ rest
   pub test : (begins_tag s c || c == solidus) ≡ true
 
-or_left' : (a b : Bool) → a ≡ true → (a || b) ≡ true
-or_left' true b h = refl
-or_left' false b h = absurd (cc)
-
 pub tag_first : (s : Syntax) (text : Chars) (w : Tag) → Shape s text w → TagFirst s text
 tag_first s text w (a_start [] rest n b k) = absurd (cc)
-tag_first s text w (a_start (c ∷ name) rest n b k) = record { c = c; rest = name ++ rest; is = refl; test = or_left' (begins_tag s c) _ (both (begins_tag s c) _ n).0 }
+tag_first s text w (a_start (c ∷ name) rest n b k) = record { c = c; rest = name ++ rest; is = refl; test = or_left (begins_tag s c) _ (both (begins_tag s c) _ n).0 }
 tag_first s text w (an_end name spaces n b) = record { c = 47; rest = name ++ (spaces ++ 62 ∷ []); is = refl; test = or_right (begins_tag s 47) true refl }
 
 pub no_bang : (s : Syntax) → (begins_tag s 33 || 33 == solidus) ≡ false
@@ -490,10 +484,6 @@ pub nothing_lowered : (u : Chars) → lowered u ≡ [] → u ≡ []
 nothing_lowered [] e = refl
 nothing_lowered (c ∷ u) e = absurd (cc)
 
-pub and_both : (a b : Bool) → a ≡ true → b ≡ true → (a && b) ≡ true
-and_both true b h k = k
-and_both false b h k = absurd (cc)
-
 raw_run_more : (name x y : Chars) (d : ℕ) (w : Chars) → stops_end name x d ≡ true → begins_end name y ≡ true → y ≡ x ++ d ∷ w → ⊥
 raw_run_more name x y d w h k e =
     let b = both (not (begins_end name (x ++ d ∷ []))) _ h in
@@ -510,7 +500,7 @@ module _ (name x : Chars) (d : ℕ) (z : Chars) (r : RawEnd name (x ++ d ∷ z))
   first_ends (c ∷ spaces) w e = let q : d ≡ c = cc in subst (λ (x : ℕ). ends_name x ≡ true) (sym q) (rw (both (is_white_space c) _ w).0 refl)
 
   whole : x ≡ 47 ∷ r.w → d ∷ z ≡ r.spaces ++ 62 ∷ [] → (same (lowered x) (solidus ∷ name) && ends_name d) ≡ true
-  whole e q = and_both (same (lowered x) (solidus ∷ name)) (ends_name d) (subst (λ (y : Chars). same y (solidus ∷ name) ≡ true) (sym (ap lowered e ∙ low)) (same_self (47 ∷ name))) (first_ends r.spaces r.white q)
+  whole e q = and_from (same (lowered x) (solidus ∷ name)) (ends_name d) (subst (λ (y : Chars). same y (solidus ∷ name) ≡ true) (sym (ap lowered e ∙ low)) (same_self (47 ∷ name))) (first_ends r.spaces r.white q)
 
   by_more : (u : Chars) → begins_end name (x ++ d ∷ []) ≡ false → (same (lowered x) (solidus ∷ name) && ends_name d) ≡ false → 47 ∷ r.w ≡ x ++ u → d ∷ z ≡ u ++ (r.spaces ++ 62 ∷ []) → ⊥
   by_more [] n1 n2 e q = not_both_ways (same (lowered x) (solidus ∷ name) && ends_name d) (whole (sym (e ∙ append-nil x)) q) n2
@@ -597,11 +587,11 @@ module _ (s : Syntax) (i : Content) where
       ]
 
 -- text
-less_no_text : (i : Content) → is_text i 60 ≡ false
+pub less_no_text : (i : Content) → is_text i 60 ≡ false
 less_no_text (content.Raw n) = refl
 less_no_text _ = refl
 
-amp_no_text : (i : Content) → has_references i ≡ true → is_text i 38 ≡ false
+pub amp_no_text : (i : Content) → has_references i ≡ true → is_text i 38 ≡ false
 amp_no_text (content.Raw n) h = absurd (cc)
 amp_no_text _ h = refl
 

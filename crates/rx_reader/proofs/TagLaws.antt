@@ -105,7 +105,7 @@ module _ (s : Syntax) (means : Chars → Option ℕ) where
   through [] st last n h = let e : st ≡ last = cc in record { reads = h; once = ap (λ (x : TagState). is_last x.phase && is_repeated s x.attributes) (sym e) ∙ n }
   through (c ∷ text) st last n h = by_step text (through text) c st last (tag_step s means st c) refl h
 
-repeats_once : (w r : Bool) → w ≡ true → (w && r) ≡ false → r ≡ false
+pub repeats_once : (w r : Bool) → w ≡ true → (w && r) ≡ false → r ≡ false
 repeats_once true r h k = k
 repeats_once false r h k = absurd (cc)
 
