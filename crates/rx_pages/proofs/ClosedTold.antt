@@ -21,16 +21,15 @@ use Rattle.rx_pages.specs.PageReader.{page_on, nothing_read}
 use Rattle.rx_pages.specs.Closings.{closing, closed, IsWide, AllEnd, Tells}
 use Rattle.rx_pages.specs.Laws.{FrontsTell}
 use Rattle.rx_pages.proofs.ByteSteps.{progress_at}
-use Rattle.rx_pages.proofs.Closings.{page_entries, entered_tag, all_append, scalars_append, all_fit, last_within, rest_within, Reaches, closes, as_meant, is_page, Fronted, fronted}
-use Rattle.rx_pages.proofs.Foreparts.{Within, page_within}
-use Rattle.rx_pages.proofs.FrontRead.{front_is_read}
+use Rattle.rx_pages.proofs.Closings.{page_entries, entered_tag, all_append, scalars_append, all_fit, last_within, Reaches, closes, as_meant, is_page, Fronted, fronted}
+use Rattle.rx_pages.proofs.FrontRead.{AllBelow, below_behind, page_below, front_is_read}
 use Rattle.rx_pages.proofs.TokenWalk.{stood}
 use Rattle.rx_pages.proofs.TokensWalk.{flags_behind}
 
-all_end : (syntax : Syntax) (end : ℕ) {entries : List Entry} {next : Option ℕ} {items : List Item} → Spelled syntax entries next items → Within end entries → AllEnd end items
+all_end : (syntax : Syntax) (end : ℕ) {entries : List Entry} {next : Option ℕ} {items : List Item} → Spelled syntax entries next items → AllBelow end entries → AllEnd end items
 all_end syntax end no_more w = tt
 all_end syntax end (one c run rest item sp f l more) w =
-    let last = last_within end c.last run rest w.0 w.1 in (omega (arith, last, l), all_end syntax end more (rest_within end run rest w.1))
+    let last = last_within end c.last run rest w.0 w.1 in (omega (arith, last, l), all_end syntax end more (below_behind end run rest w.1))
 
 less_than_encoded : encodes (60 ∷ []) ≡ 60 ∷ []
 unfolding encode
@@ -72,7 +71,7 @@ whole_tells syntax limits cs bytes events e r wide w =
     let sp = a.last r.at.phase_is in
     let same : page_entries cs ++ [] ≡ page_entries cs = append-nil (page_entries cs) in
     let going : Goes syntax wide.depth (IsAt [] after) not_begun r.items events = subst (λ d. Goes syntax d (IsAt [] after) not_begun r.items events) (sym w.depth) (as_meant syntax limits.depth (IsAt [] after) r.place r.at a.going) in
-    let fit = all_fit syntax wide.tag (length bytes) w.tag sp (subst (λ x. Within (length x) (page_entries cs)) e (page_within cs)) in
+    let fit = all_fit syntax wide.tag (length bytes) w.tag sp (subst (λ x. AllBelow (length x) (page_entries cs)) e (page_below cs)) in
     let s =
     front_is_read syntax wide bytes (IsAt [] after) (page_entries cs) [] r.items events (record { characters = cs; scalars = a.scalars; forms = e; read = same }) (subst (λ es. has_no_nul es ≡ true) (sym same) a.no_nul)
     sp fit a.sections going w.page (λ m p. tt) (λ m p k. absurd (cc)) in
@@ -91,7 +90,7 @@ fronts_tell syntax limits bytes next line phase d b =
     let p = is_page syntax limits.depth cs (closed bytes line phase) limits (f.events ++ t.more) refl forms t.reaches in
     record {
       items = f.reaches.items;
-      ends = subst (λ x. AllEnd (length x) f.reaches.items) f.forms (all_end syntax (length (encodes f.characters)) f.reaches.ahead.spelled (page_within f.characters));
+      ends = subst (λ x. AllEnd (length x) f.reaches.items) f.forms (all_end syntax (length (encodes f.characters)) f.reaches.ahead.spelled (page_below f.characters));
       place = f.reaches.place;
       events = f.events;
       going = f.reaches.ahead.going;

@@ -1,5 +1,5 @@
 -- The front of a page goes on to a page: what is open is closed, from the innermost element on.
-use Rattle.std.proofs.Common.{◌≡◌, ◌∙◌, ℕ, ◌+◌, ◌-◌, ◌≤◌, Bool, true, false, List, [], ◌∷◌, ◌++◌, Option, Some, None, refl, ap, sym, subst, subst₂, length, append_assoc, append-nil, arith}
+use Rattle.std.proofs.Common.{◌≡◌, ◌∙◌, ℕ, ◌+◌, ◌-◌, ◌<◌, ◌≤◌, Bool, true, false, List, [], ◌∷◌, ◌++◌, Option, Some, None, refl, ap, sym, subst, subst₂, length, append_assoc, append-nil, arith}
 use Rattle.std.specs.Prelude.{◌&&◌, ◌||◌, ◌==◌, not, nat_le, codes, Ok, encode_utf8_all}
 use Rattle.std.specs.List.{list_all}
 use Rattle.std.specs.Char.{len_utf8}
@@ -40,11 +40,11 @@ use Rattle.rx_pages.proofs.FaultsRead.{no_literal}
 use Rattle.rx_pages.proofs.TokensWalk.{flags_behind}
 use Rattle.rx_pages.proofs.BytesOn.{after_only}
 use Rattle.rx_pages.proofs.Befores.{spelled_less, spelled_last}
-use Rattle.rx_pages.proofs.Foreparts.{Within, page_within}
 use Rattle.rx_pages.proofs.OpenNames.{is_fair, IsName, is_steady, ending, ending_text, spells_end, name_steady}
 use Rattle.rx_pages.proofs.OpenLines.{page_fair, AllNamed, arrives}
 use Rattle.rx_terms.proofs.Bools.{both, untrue}
 use Rattle.std.proofs.Math.Bool.{and-false}
+use Rattle.rx_pages.proofs.FrontRead.{AllBelow, below_behind, page_below}
 
 -- the characters of a page that are entered
 abbrev pub page_entries : List ℕ → List Entry
@@ -111,19 +111,15 @@ fits_one : (limit : ℕ) (item : Item) (token : Token) → item.last + 1 ≤ lim
 fits_one limit item (tag t) h = omega arith
 fits_one limit item _ h = tt
 
-pub last_within : (end last : ℕ) (run rest : List Entry) → last + 1 ≤ end → Within end (run ++ rest) → last_from last run + 1 ≤ end
+pub last_within : (end last : ℕ) (run rest : List Entry) → last < end → AllBelow end (run ++ rest) → last_from last run < end
 last_within end last [] rest h w = h
 last_within end last (e ∷ run) rest h w = last_within end e.last run rest w.0 w.1
 
-pub rest_within : (end : ℕ) (run rest : List Entry) → Within end (run ++ rest) → Within end rest
-rest_within end [] rest w = w
-rest_within end (e ∷ run) rest w = rest_within end run rest w.1
-
-pub all_fit : (syntax : Syntax) (limit end : ℕ) → end ≤ limit → {entries : List Entry} {next : Option ℕ} {items : List Item} → Spelled syntax entries next items → Within end entries → AllFit limit items
+pub all_fit : (syntax : Syntax) (limit end : ℕ) → end ≤ limit → {entries : List Entry} {next : Option ℕ} {items : List Item} → Spelled syntax entries next items → AllBelow end entries → AllFit limit items
 all_fit syntax limit end h no_more w = tt
 all_fit syntax limit end h (one c run rest item sp f l more) w =
     let last = last_within end c.last run rest w.0 w.1 in
-    (fits_one limit item item.token (omega arith), all_fit syntax limit end h more (rest_within end run rest w.1))
+    (fits_one limit item item.token (omega arith), all_fit syntax limit end h more (below_behind end run rest w.1))
 
 -- the empty root's start tag
 abbrev html_tag : Tag
@@ -304,7 +300,7 @@ module _ (syntax : Syntax) (depth : ℕ) where
               read = record { characters = cs; scalars = r.ahead.scalars; forms = e; read = refl };
               no_nul = r.ahead.no_nul;
               spelled = sp;
-              fit = all_fit syntax wide.tag (length bytes) w.tag sp (subst (λ x. Within (length x) (page_entries cs)) e (page_within cs));
+              fit = all_fit syntax wide.tag (length bytes) w.tag sp (subst (λ x. AllBelow (length x) (page_entries cs)) e (page_below cs));
               sections = r.ahead.sections;
               document = subst (λ n. Document syntax n r.items p.0) (sym (w.depth ∙ d)) p.1;
             };

@@ -18,7 +18,7 @@ use Rattle.rx_grammar.specs.Spelling.{Spells, has_markup, has_references, raw_na
 use Rattle.rx_grammar.specs.Shapes.{ends_name, begins}
 use Rattle.rx_grammar.specs.Names.{same}
 use Rattle.rx_grammar.specs.Spelling as spelling
-use Rattle.rx_grammar.specs.Items.{values, next_of, Item, last_from, Spelled, no_more, one, Fits, AllFit, is_literal, is_strict_literal, no_section_end}
+use Rattle.rx_grammar.specs.Items.{values, next_of, Item, Spelled, no_more, one, Fits, AllFit, is_literal, is_strict_literal, no_section_end}
 use Rattle.rx_grammar.specs.Pages.{has_no_nul}
 use Rattle.rx_grammar.specs.Begun.{Line, inside_of, Phase, Stands}
 use Rattle.rx_grammar.specs.PageFaults.{is_known_raw, is_known_after, is_known_tag, token_of, IsPending, IsShort, Reached, Faulty, ends_in_brackets}
@@ -65,11 +65,6 @@ brackets : (items : List Item) → (flags_behind items false false).0 ≡ true �
 brackets [] h = absurd (cc)
 brackets (a ∷ []) h = absurd (cc)
 brackets (a ∷ b ∷ items) h = brackets_of a b items false false h
-
--- the place of a token whose characters end with `e`
-last_is : (last : ℕ) (more : List Entry) (e : Entry) → last_from last (more ++ e ∷ []) ≡ e.last
-last_is last [] e = refl
-last_is last (d ∷ more) e = last_is d.last more e
 
 item_first : (i : Content) (token : Token) (run : List Entry) (e : Entry) (bytes : List ℕ) → (item_of i token (run ++ e ∷ [])).first ≡ token_of bytes (run ++ e ∷ [])
 item_first i token [] e bytes = refl

@@ -11,7 +11,7 @@ use Rattle.rx_grammar.specs.declared.limits.Limits.{Limits}
 use Rattle.rx_grammar.specs.Items.{values, next_of, Item, Spelled, AllFit, no_section_end}
 use Rattle.rx_grammar.specs.Pages.{has_no_nul}
 use Rattle.rx_grammar.specs.PageFaults.{is_known_tag}
-use Rattle.rx_terms.proofs.Bools.{by_test}
+use Rattle.rx_terms.proofs.Bools.{by_test, split}
 use Rattle.rx_pages.specs.Nesting.{Event, Nesting, not_begun, content_at, Goes}
 use Rattle.rx_pages.specs.Scanner.{GoesOn}
 use Rattle.rx_pages.specs.PageReader.{first_of, page_on, nothing_read}
@@ -28,7 +28,7 @@ abbrev pub AllBelow : ℕ → List Entry → Type 0
 AllBelow hi [] = Unit {0}
 AllBelow hi (e ∷ es) = (e.last < hi) × AllBelow hi es
 
-below_behind : (hi : ℕ) (a b : List Entry) → AllBelow hi (a ++ b) → AllBelow hi b
+pub below_behind : (hi : ℕ) (a b : List Entry) → AllBelow hi (a ++ b) → AllBelow hi b
 below_behind hi [] b h = h
 below_behind hi (e ∷ a) b h = below_behind hi a b h.1
 
@@ -91,19 +91,18 @@ no_nul_chars after_return start (c ∷ cs) h =
     and_from (not (c == 0)) (no_nuls cs) (some_of c p.0) (no_nul_chars (c == carriage_return) (start + len_utf8 c) cs p.1))
 
 -- the same from the first character on, where a mark is passed over
+pub of_page : (P : List Entry → Type 0) (c : ℕ) (cs : List ℕ) → P (entered false (placed (0 + len_utf8 c) cs)) → P (entered false (placed 0 (c ∷ cs))) → P (entered false (without_mark (placed 0 (c ∷ cs))))
+of_page P c cs h k = split (λ es. P (entered false es)) (c == byte_order_mark) _ _ (λ _. h) (λ _. k)
+
 pub page_below : (cs : List ℕ) → AllBelow (length (encodes cs)) (entered false (without_mark (placed 0 cs)))
 page_below [] = tt
 page_below (c ∷ cs) =
-    by_test {G = AllBelow (length (encodes (c ∷ cs))) (entered false (without_mark (placed 0 (c ∷ cs))))} (c == byte_order_mark)
-    (λ t. subst (λ es. AllBelow (length (encodes (c ∷ cs))) (entered false es)) (sym (cond-true _ _ _ t)) (subst (λ x. AllBelow x (entered false (placed (0 + len_utf8 c) cs))) (sym (end_zero c cs)) (all_below false (0 + len_utf8 c) cs)))
-    (λ t. subst (λ es. AllBelow (length (encodes (c ∷ cs))) (entered false es)) (sym (cond-false _ _ _ t)) (let z : 0 + length (encodes (c ∷ cs)) ≡ length (encodes (c ∷ cs)) = omega arith in subst (λ x. AllBelow x (entered false (placed 0 (c ∷ cs)))) z (all_below false 0 (c ∷ cs))))
+    let z : 0 + length (encodes (c ∷ cs)) ≡ length (encodes (c ∷ cs)) = omega arith in
+    of_page (AllBelow (length (encodes (c ∷ cs)))) c cs (subst (λ x. AllBelow x (entered false (placed (0 + len_utf8 c) cs))) (sym (end_zero c cs)) (all_below false (0 + len_utf8 c) cs)) (subst (λ x. AllBelow x (entered false (placed 0 (c ∷ cs)))) z (all_below false 0 (c ∷ cs)))
 
 pub page_rises : (cs : List ℕ) → Rises (entered false (without_mark (placed 0 cs)))
 page_rises [] = tt
-page_rises (c ∷ cs) =
-    by_test {G = Rises (entered false (without_mark (placed 0 (c ∷ cs))))} (c == byte_order_mark)
-    (λ t. subst (λ es. Rises (entered false es)) (sym (cond-true _ _ _ t)) (rises false (0 + len_utf8 c) cs))
-    (λ t. subst (λ es. Rises (entered false es)) (sym (cond-false _ _ _ t)) (rises false 0 (c ∷ cs)))
+page_rises (c ∷ cs) = of_page Rises c cs (rises false (0 + len_utf8 c) cs) (rises false 0 (c ∷ cs))
 
 pub page_no_nul : (cs : List ℕ) → has_no_nul (entered false (without_mark (placed 0 cs))) ≡ true → no_nuls cs ≡ true
 page_no_nul [] h = refl

@@ -7,7 +7,7 @@ use Rattle.std.specs.Str.{all_scalars}
 use lib.Utf8.{scalar}
 use Rattle.std.proofs.lemmas.Bool.{and_from, cond-true, cond-false}
 use Rattle.rx_terms.specs.Text.{Chars}
-use Rattle.rx_chars.specs.Characters.{Entry, byte_order_mark, line_feed, carriage_return, as_line_end, placed, entered, without_mark}
+use Rattle.rx_chars.specs.Characters.{Entry, line_feed, carriage_return, as_line_end, placed, entered, without_mark}
 use Rattle.rx_chars.specs.declared.syntax.Syntax.{Syntax}
 use Rattle.rx_grammar.specs.declared.faults.Kind.{Kind}
 use Rattle.rx_grammar.specs.Names.{same, is_among}
@@ -24,6 +24,7 @@ use Rattle.rx_pages.proofs.Steps.{passes}
 use Rattle.rx_pages.proofs.Befores.{is_tag, IsLast, LastIs}
 use Rattle.rx_pages.proofs.OpenNames.{is_fair, IsName, start_name}
 use Rattle.rx_terms.proofs.Bools.{both, by_test, split}
+use Rattle.rx_pages.proofs.FrontRead.{of_page}
 
 -- the characters of a page are fair
 abbrev pub is_fair_entry : Entry → Bool
@@ -44,10 +45,7 @@ scalars_entered after_return start (c ∷ cs) h =
 scalars_page : (cs : List ℕ) → all_scalars cs ≡ true → list_all (λ (e : Entry). scalar e.value) (entered false (without_mark (placed 0 cs))) ≡ true
 scalars_page [] h = refl
 scalars_page (c ∷ cs) h =
-    let P : List Entry → Type 0 = λ es. list_all (λ (e : Entry). scalar e.value) (entered false es) ≡ true in
-    by_test {G = P (without_mark (placed 0 (c ∷ cs)))} (c == byte_order_mark)
-    (λ t. subst P (sym (cond-true _ _ _ t)) (scalars_entered false (0 + len_utf8 c) cs (both (scalar c) (all_scalars cs) h).1))
-    (λ t. subst P (sym (cond-false _ _ _ t)) (scalars_entered false 0 (c ∷ cs) h))
+    of_page (λ es. list_all (λ (e : Entry). scalar e.value) es ≡ true) c cs (scalars_entered false (0 + len_utf8 c) cs (both (scalar c) (all_scalars cs) h).1) (scalars_entered false 0 (c ∷ cs) h)
 
 both_fair : (es : List Entry) → list_all (λ (e : Entry). scalar e.value) es ≡ true → has_no_nul es ≡ true → list_all is_fair_entry es ≡ true
 both_fair [] h k = refl

@@ -40,14 +40,21 @@ pub data Question (s : Syntax) (text : Chars) : Type 0 where
   q_bogus : s ≡ Html → IsFirst (ends_with (codes ">")) text → Question s text
   q_instruction : s ≡ Xhtml → IsFirst (ends_with (codes "?>")) text → Question s text
 
--- what follows `<`
+-- what follows `<` where tags are read
+pub data Marked (s : Syntax) (i : Content) (text : Chars) (m : Option ℕ) (b : Token) : Type 0 where
+  l_tag : (t : Tag) → SpellsTag s text t → b ≡ tag t → Marked s i text m b
+  l_alone : s ≡ Html → text ≡ [] → IsBefore (λ c. not (begins_markup c)) m → b ≡ kept (less_than_sign ∷ []) → Marked s i text m b
+  l_bang : (x : Chars) → text ≡ 33 ∷ x → Bang s i x b → Marked s i text m b
+  l_question : (x : Chars) → text ≡ 63 ∷ x → Question s x → b ≡ comment → Marked s i text m b
+
+-- and where text is raw, in an element of this name
+pub data InRaw (s : Syntax) (name text : Chars) (m : Option ℕ) (b : Token) : Type 0 where
+  l_end : (t : Tag) → SpellsTag s text t → t.closing ≡ true → t.name ≡ name → b ≡ tag t → InRaw s name text m b
+  l_run : begins_end name text ≡ true → IsBefore (stops_end name text) m → b ≡ kept (less_than_sign ∷ text) → InRaw s name text m b
+
 pub data Less (s : Syntax) (i : Content) (text : Chars) (m : Option ℕ) (b : Token) : Type 0 where
-  l_tag : (t : Tag) → has_markup i ≡ true → SpellsTag s text t → b ≡ tag t → Less s i text m b
-  l_alone : s ≡ Html → has_markup i ≡ true → text ≡ [] → IsBefore (λ c. not (begins_markup c)) m → b ≡ kept (less_than_sign ∷ []) → Less s i text m b
-  l_bang : (x : Chars) → has_markup i ≡ true → text ≡ 33 ∷ x → Bang s i x b → Less s i text m b
-  l_question : (x : Chars) → has_markup i ≡ true → text ≡ 63 ∷ x → Question s x → b ≡ comment → Less s i text m b
-  l_raw_end : (name : Chars) (t : Tag) → raw_name i ≡ Some name → SpellsTag s text t → t.closing ≡ true → t.name ≡ name → b ≡ tag t → Less s i text m b
-  l_raw_run : (name : Chars) → raw_name i ≡ Some name → begins_end name text ≡ true → IsBefore (stops_end name text) m → b ≡ kept (less_than_sign ∷ text) → Less s i text m b
+  l_marked : has_markup i ≡ true → Marked s i text m b → Less s i text m b
+  l_raw : (name : Chars) → raw_name i ≡ Some name → InRaw s name text m b → Less s i text m b
 
 -- what follows `&`
 pub data Amp (s : Syntax) (i : Content) (text : Chars) (m : Option ℕ) (b : Token) : Type 0 where
@@ -77,20 +84,20 @@ section_markup content.Strict h = refl
 section_markup _ h = absurd (cc)
 
 view : (s : Syntax) (i : Content) {xs : Chars} {m : Option ℕ} {b : Token} → Spells s i xs m b → View s i xs m b
-view s i (a_tag text t h k) = v_less text refl (l_tag t h k refl)
-view s i (an_end_of_raw text name t r k c n) = v_less text refl (l_raw_end name t r k c n refl)
+view s i (a_tag text t h k) = v_less text refl (l_marked h (l_tag t k refl))
+view s i (an_end_of_raw text name t r k c n) = v_less text refl (l_raw name r (l_end t k c n refl))
 view s i (a_character c h) = v_text c refl h refl
-view s i (a_less_than z h k) = v_less [] refl (l_alone z (less_markup i h) refl k refl)
-view s i (a_raw_run text name r h k) = v_less text refl (l_raw_run name r h k refl)
+view s i (a_less_than z h k) = v_less [] refl (l_marked (less_markup i h) (l_alone z refl k refl))
+view s i (a_raw_run text name r h k) = v_less text refl (l_raw name r (l_run h k refl))
 view s i (a_reference body c h k e) = v_amp (body ++ semicolon ∷ []) refl h (p_reference body c refl k e refl)
 view s i (a_kept_run run h k n) = v_amp run refl (keeps_has i h) (p_kept k n refl)
-view s i (a_comment text z h f) = v_less _ refl (l_bang (45 ∷ 45 ∷ text) h refl (b_comment text z refl f refl))
-view s i (a_bogus_comment text z h d f) = v_less _ refl (l_bang text h refl (b_bogus z d f refl))
-view s i (a_question text z h f) = v_less _ refl (l_question text h refl (q_bogus z f) refl)
-view s i (a_strict_comment text z h f) = v_less _ refl (l_bang (45 ∷ 45 ∷ (text ++ 62 ∷ [])) h refl (b_strict text z refl f refl))
-view s i (an_instruction text z h f) = v_less _ refl (l_question text h refl (q_instruction z f) refl)
-view s i (a_section text h f) = v_less _ refl (l_bang (codes "[CDATA[" ++ (text ++ codes "]]>")) (section_markup i h) refl (b_section text h refl f refl))
-view s i (a_doctype text h d) = v_less _ refl (l_bang text h refl (b_doctype d refl))
+view s i (a_comment text z h f) = v_less _ refl (l_marked h (l_bang (45 ∷ 45 ∷ text) refl (b_comment text z refl f refl)))
+view s i (a_bogus_comment text z h d f) = v_less _ refl (l_marked h (l_bang text refl (b_bogus z d f refl)))
+view s i (a_question text z h f) = v_less _ refl (l_marked h (l_question text refl (q_bogus z f) refl))
+view s i (a_strict_comment text z h f) = v_less _ refl (l_marked h (l_bang (45 ∷ 45 ∷ (text ++ 62 ∷ [])) refl (b_strict text z refl f refl)))
+view s i (an_instruction text z h f) = v_less _ refl (l_marked h (l_question text refl (q_instruction z f) refl))
+view s i (a_section text h f) = v_less _ refl (l_marked (section_markup i h) (l_bang (codes "[CDATA[" ++ (text ++ codes "]]>")) refl (b_section text h refl f refl)))
+view s i (a_doctype text h d) = v_less _ refl (l_marked h (l_bang text refl (b_doctype d refl)))
 
 -- the answer: nothing more, and the same token
 abbrev pub Same : Chars → Token → Token → Type 0
@@ -536,55 +543,47 @@ module _ (s : Syntax) (i : Content) where
       let n : z ≡ [] = one_front s x z t u h k2 in
       (n, ea ∙ (ap tag (one s x t u h (subst (λ (w : Chars). SpellsTag s w u) (no_text x z n) k2)) ∙ sym eb))
 
-  less_core : (x y z n : Chars) (m : Option ℕ) (a b : Token) → Less s i x (next_of (z ++ n) None) a → Less s i y m b → y ≡ x ++ z → Same z a b
-  less_core x y z n m a b (l_tag t h k ea) (l_tag u h' k' eb) e = tags_core x y z t u a b k k' ea eb e
-  less_core x y z n m a b (l_tag t h k ea) (l_alone q h' ty k' eb) e = let f = tag_first s x k.reads.written k.reads.shape in absurd (let g : [] ≡ f.c ∷ (f.rest ++ z) = sym ty ∙ (e ∙ ap (λ w. w ++ z) f.is) in cc)
-  less_core x y z n m a b (l_tag t h k ea) (l_bang v h' ty k') e = absurd (tag_then s x z v t 33 (no_bang s) k (sym ty ∙ e))
-  less_core x y z n m a b (l_tag t h k ea) (l_question v h' ty k' eb) e = absurd (tag_then s x z v t 63 (no_question s) k (sym ty ∙ e))
-  less_core x y z n m a b (l_tag t h k ea) (l_raw_end name u r k' c nn eb) e = absurd (no_raw i name r h)
-  less_core x y z n m a b (l_tag t h k ea) (l_raw_run name r k' nn eb) e = absurd (no_raw i name r h)
-  less_core x y z n m a b (l_alone q h tx k ea) (l_tag u h' k' eb) e =
+  marked_core : (x y z n : Chars) (m : Option ℕ) (a b : Token) → Marked s i x (next_of (z ++ n) None) a → Marked s i y m b → y ≡ x ++ z → Same z a b
+  marked_core x y z n m a b (l_tag t k ea) (l_tag u k' eb) e = tags_core x y z t u a b k k' ea eb e
+  marked_core x y z n m a b (l_tag t k ea) (l_alone q ty k' eb) e = let f = tag_first s x k.reads.written k.reads.shape in absurd (let g : [] ≡ f.c ∷ (f.rest ++ z) = sym ty ∙ (e ∙ ap (λ w. w ++ z) f.is) in cc)
+  marked_core x y z n m a b (l_tag t k ea) (l_bang v ty k') e = absurd (tag_then s x z v t 33 (no_bang s) k (sym ty ∙ e))
+  marked_core x y z n m a b (l_tag t k ea) (l_question v ty k' eb) e = absurd (tag_then s x z v t 63 (no_question s) k (sym ty ∙ e))
+  marked_core x y z n m a b (l_alone q tx k ea) (l_tag u k' eb) e =
       let f = tag_first s y k'.reads.written k'.reads.shape in
       absurd (not_both_ways (not (begins_markup f.c)) (before_head (λ c. not (begins_markup c)) z n f.c f.rest (sym (e ∙ ap (λ w. w ++ z) tx) ∙ f.is) k) (markup_begins s q f.c f.test))
-  less_core x y z n m a b (l_alone q h tx k ea) (l_alone q' h' ty k' eb) e = (sym (sym ty ∙ (e ∙ ap (λ w. w ++ z) tx)), ea ∙ sym eb)
-  less_core x y z n m a b (l_alone q h tx k ea) (l_bang v h' ty k') e = absurd (let g = before_head (λ c. not (begins_markup c)) z n 33 v (sym (e ∙ ap (λ w. w ++ z) tx) ∙ ty) k in cc)
-  less_core x y z n m a b (l_alone q h tx k ea) (l_question v h' ty k' eb) e = absurd (let g = before_head (λ c. not (begins_markup c)) z n 63 v (sym (e ∙ ap (λ w. w ++ z) tx) ∙ ty) k in cc)
-  less_core x y z n m a b (l_alone q h tx k ea) (l_raw_end name u r k' c nn eb) e = absurd (no_raw i name r h)
-  less_core x y z n m a b (l_alone q h tx k ea) (l_raw_run name r k' nn eb) e = absurd (no_raw i name r h)
-  less_core x y z n m a b (l_bang v h tx k) (l_tag u h' k' eb) e = absurd (tag_not s y (v ++ z) u 33 (no_bang s) k' (e ∙ ap (λ w. w ++ z) tx))
-  less_core x y z n m a b (l_bang v h tx k) (l_alone q h' ty k' eb) e = absurd (let g : [] ≡ 33 ∷ (v ++ z) = sym ty ∙ (e ∙ ap (λ w. w ++ z) tx) in cc)
-  less_core x y z n m a b (l_bang v h tx k) (l_bang w h' ty k') e = bang_core s i v w z a b k k' (let g : 33 ∷ w ≡ 33 ∷ (v ++ z) = sym ty ∙ (e ∙ ap (λ u. u ++ z) tx) in cc)
-  less_core x y z n m a b (l_bang v h tx k) (l_question w h' ty k' eb) e = absurd (clash 63 33 _ _ refl (sym ty ∙ (e ∙ ap (λ u. u ++ z) tx)))
-  less_core x y z n m a b (l_bang v h tx k) (l_raw_end name u r k' c nn eb) e = absurd (no_raw i name r h)
-  less_core x y z n m a b (l_bang v h tx k) (l_raw_run name r k' nn eb) e = absurd (no_raw i name r h)
-  less_core x y z n m a b (l_question v h tx k ea) (l_tag u h' k' eb) e = absurd (tag_not s y (v ++ z) u 63 (no_question s) k' (e ∙ ap (λ w. w ++ z) tx))
-  less_core x y z n m a b (l_question v h tx k ea) (l_alone q h' ty k' eb) e = absurd (let g : [] ≡ 63 ∷ (v ++ z) = sym ty ∙ (e ∙ ap (λ w. w ++ z) tx) in cc)
-  less_core x y z n m a b (l_question v h tx k ea) (l_bang w h' ty k') e = absurd (clash 33 63 _ _ refl (sym ty ∙ (e ∙ ap (λ u. u ++ z) tx)))
-  less_core x y z n m a b (l_question v h tx k ea) (l_question w h' ty k' eb) e = (question_core s i v w z k k' (let g : 63 ∷ w ≡ 63 ∷ (v ++ z) = sym ty ∙ (e ∙ ap (λ u. u ++ z) tx) in cc), ea ∙ sym eb)
-  less_core x y z n m a b (l_question v h tx k ea) (l_raw_end name u r k' c nn eb) e = absurd (no_raw i name r h)
-  less_core x y z n m a b (l_question v h tx k ea) (l_raw_run name r k' nn eb) e = absurd (no_raw i name r h)
-  less_core x y z n m a b (l_raw_end name t r k c nn ea) (l_tag u h' k' eb) e = absurd (no_raw i name r h')
-  less_core x y z n m a b (l_raw_end name t r k c nn ea) (l_alone q h' ty k' eb) e = absurd (no_raw i name r h')
-  less_core x y z n m a b (l_raw_end name t r k c nn ea) (l_bang w h' ty k') e = absurd (no_raw i name r h')
-  less_core x y z n m a b (l_raw_end name t r k c nn ea) (l_question w h' ty k' eb) e = absurd (no_raw i name r h')
-  less_core x y z n m a b (l_raw_end name t r k c nn ea) (l_raw_end other u r' k' c' nn' eb) e = tags_core x y z t u a b k k' ea eb e
-  less_core x y z n m a b (l_raw_end name t r k c nn ea) (l_raw_run other r' k' nn' eb) e =
-      absurd (not_front name x z (raw_end s i name x t r k c nn) (subst (λ (w : Chars). begins_end name w ≡ true) e (subst (λ (w : Chars). begins_end w y ≡ true) (same_name i other name r' r) k')))
-  less_core x y z n m a b (l_raw_run name r k nn ea) (l_tag u h' k' eb) e = absurd (no_raw i name r h')
-  less_core x y z n m a b (l_raw_run name r k nn ea) (l_alone q h' ty k' eb) e = absurd (no_raw i name r h')
-  less_core x y z n m a b (l_raw_run name r k nn ea) (l_bang w h' ty k') e = absurd (no_raw i name r h')
-  less_core x y z n m a b (l_raw_run name r k nn ea) (l_question w h' ty k' eb) e = absurd (no_raw i name r h')
-  less_core x y z n m a b (l_raw_run name r k nn ea) (l_raw_end other u r' k' c' nn' eb) e =
-      let f : RawEnd name y = raw_end s i name y u r k' c' (nn' ∙ same_name i other name r' r) in
+  marked_core x y z n m a b (l_alone q tx k ea) (l_alone q' ty k' eb) e = (sym (sym ty ∙ (e ∙ ap (λ w. w ++ z) tx)), ea ∙ sym eb)
+  marked_core x y z n m a b (l_alone q tx k ea) (l_bang v ty k') e = absurd (let g = before_head (λ c. not (begins_markup c)) z n 33 v (sym (e ∙ ap (λ w. w ++ z) tx) ∙ ty) k in cc)
+  marked_core x y z n m a b (l_alone q tx k ea) (l_question v ty k' eb) e = absurd (let g = before_head (λ c. not (begins_markup c)) z n 63 v (sym (e ∙ ap (λ w. w ++ z) tx) ∙ ty) k in cc)
+  marked_core x y z n m a b (l_bang v tx k) (l_tag u k' eb) e = absurd (tag_not s y (v ++ z) u 33 (no_bang s) k' (e ∙ ap (λ w. w ++ z) tx))
+  marked_core x y z n m a b (l_bang v tx k) (l_alone q ty k' eb) e = absurd (let g : [] ≡ 33 ∷ (v ++ z) = sym ty ∙ (e ∙ ap (λ w. w ++ z) tx) in cc)
+  marked_core x y z n m a b (l_bang v tx k) (l_bang w ty k') e = bang_core s i v w z a b k k' (let g : 33 ∷ w ≡ 33 ∷ (v ++ z) = sym ty ∙ (e ∙ ap (λ u. u ++ z) tx) in cc)
+  marked_core x y z n m a b (l_bang v tx k) (l_question w ty k' eb) e = absurd (clash 63 33 _ _ refl (sym ty ∙ (e ∙ ap (λ u. u ++ z) tx)))
+  marked_core x y z n m a b (l_question v tx k ea) (l_tag u k' eb) e = absurd (tag_not s y (v ++ z) u 63 (no_question s) k' (e ∙ ap (λ w. w ++ z) tx))
+  marked_core x y z n m a b (l_question v tx k ea) (l_alone q ty k' eb) e = absurd (let g : [] ≡ 63 ∷ (v ++ z) = sym ty ∙ (e ∙ ap (λ w. w ++ z) tx) in cc)
+  marked_core x y z n m a b (l_question v tx k ea) (l_bang w ty k') e = absurd (clash 33 63 _ _ refl (sym ty ∙ (e ∙ ap (λ u. u ++ z) tx)))
+  marked_core x y z n m a b (l_question v tx k ea) (l_question w ty k' eb) e = (question_core s i v w z k k' (let g : 63 ∷ w ≡ 63 ∷ (v ++ z) = sym ty ∙ (e ∙ ap (λ u. u ++ z) tx) in cc), ea ∙ sym eb)
+
+  raw_core : (name : Chars) → raw_name i ≡ Some name → (x y z n : Chars) (m : Option ℕ) (a b : Token) → InRaw s name x (next_of (z ++ n) None) a → InRaw s name y m b → y ≡ x ++ z → Same z a b
+  raw_core name r x y z n m a b (l_end t k c nn ea) (l_end u k' c' nn' eb) e = tags_core x y z t u a b k k' ea eb e
+  raw_core name r x y z n m a b (l_end t k c nn ea) (l_run k' nn' eb) e =
+      absurd (not_front name x z (raw_end s i name x t r k c nn) (subst (λ (w : Chars). begins_end name w ≡ true) e k'))
+  raw_core name r x y z n m a b (l_run k nn ea) (l_end u k' c' nn' eb) e =
+      let f : RawEnd name y = raw_end s i name y u r k' c' nn' in
       elim (ends z) [
         | here q ↦ absurd (not_front name y [] f (subst (λ (w : Chars). begins_end name w ≡ true) (sym (append-nil y ∙ (e ∙ no_text x z q))) k))
         | goes d w q ↦ absurd (run_not_end name x d w (subst (λ (v : Chars). RawEnd name v) (e ∙ ap (λ v. x ++ v) q) f) k (before_head (stops_end name x) z n d w q nn))
       ]
-  less_core x y z n m a b (l_raw_run name r k nn ea) (l_raw_run other r' k' nn' eb) e =
+  raw_core name r x y z n m a b (l_run k nn ea) (l_run k' nn' eb) e =
       elim (ends z) [
         | here q ↦ (q, ea ∙ (ap (λ w. kept (less_than_sign ∷ w)) (sym (no_text x z q) ∙ sym e) ∙ sym eb))
-        | goes d w q ↦ absurd (raw_run_more name x y d w (before_head (stops_end name x) z n d w q nn) (subst (λ (v : Chars). begins_end v y ≡ true) (same_name i other name r' r) k') (e ∙ ap (λ v. x ++ v) q))
+        | goes d w q ↦ absurd (raw_run_more name x y d w (before_head (stops_end name x) z n d w q nn) k' (e ∙ ap (λ v. x ++ v) q))
       ]
+
+  less_core : (x y z n : Chars) (m : Option ℕ) (a b : Token) → Less s i x (next_of (z ++ n) None) a → Less s i y m b → y ≡ x ++ z → Same z a b
+  less_core x y z n m a b (l_marked h k) (l_marked h' k') e = marked_core x y z n m a b k k' e
+  less_core x y z n m a b (l_raw name r k) (l_raw other r' k') e = raw_core name r x y z n m a b k (subst (λ w. InRaw s w y m b) (same_name i other name r' r) k') e
+  less_core x y z n m a b (l_marked h k) (l_raw name r k') e = absurd (no_raw i name r h)
+  less_core x y z n m a b (l_raw name r k) (l_marked h k') e = absurd (no_raw i name r h)
 
 -- text
 pub less_no_text : (i : Content) → is_text i 60 ≡ false
