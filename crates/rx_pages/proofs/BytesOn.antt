@@ -30,9 +30,10 @@ use Rattle.rx_terms.proofs.Bools.{by_test, not_both_ways}
 use Rattle.rx_pages.proofs.CharSteps.{passes, entry_at}
 use Rattle.rx_pages.proofs.CharWalk.{is_started, ends_return}
 use Rattle.rx_pages.proofs.Snocs.{entered_one, page_snoc}
-use Rattle.rx_pages.proofs.FrontOn.{Here, Next, Decided, pending, known_one, before_next, reached, on_entry}
+use Rattle.rx_pages.proofs.FrontOn.{Here, Next, Decided, pending, before_next, reached, on_entry}
 use Rattle.rx_pages.proofs.Judged.{unfinished_goes_on}
 use Rattle.rx_pages.specs.Scanner as scanner
+use Rattle.rx_pages.proofs.KnownTags.{one_unknown}
 
 pub encodes_more : (cs : List ℕ) (c : ℕ) → encodes (cs ++ c ∷ []) ≡ encodes cs ++ encode c
 encodes_more [] c = append-nil (encode c)
@@ -255,7 +256,7 @@ module _ (syntax : Syntax) (limits : Limits) where
           where
             by : (run : List Entry) → scanner.GoesOn syntax (inside_of syntax b.line).content [] (values run) → Reached syntax limits (encodes chars) b.items b.line b.phase (run ++ entry ∷ []) → is_known_tag syntax (inside_of syntax b.line).content (values (run ++ entry ∷ [])) ≡ true
                 → token_of (encodes chars) (run ++ entry ∷ []) + limits.tag ≤ entry.last → (is_known_tag syntax (inside_of syntax b.line).content (values run) ≡ true → at < token_of (encodes b.chars) run + limits.tag) → Faults more
-            by [] g r k o f = absurd (known_one syntax (inside_of syntax b.line).content entry.value k)
+            by [] g r k o f = absurd (one_unknown syntax (inside_of syntax b.line).content entry.value k)
             by (d ∷ run) g r k o f =
                 let unknown : is_known_tag syntax (inside_of syntax b.line).content (values (d ∷ run)) ≡ false =
                 by_test {G = is_known_tag syntax (inside_of syntax b.line).content (values (d ∷ run)) ≡ false} (is_known_tag syntax (inside_of syntax b.line).content (values (d ∷ run))) (λ t. (let w = f t in let l = last_is in absurd (omega arith))) (λ t. t) in

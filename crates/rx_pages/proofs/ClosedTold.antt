@@ -1,5 +1,5 @@
 -- What the front of a page tells, and what it tells once it is closed.
-use Rattle.std.proofs.Common.{◌≡◌, ◌∙◌, ℕ, ◌+◌, ◌≤◌, true, false, List, [], ◌∷◌, ◌++◌, drop, zero, suc, Option, Some, None, refl, ap, sym, subst, length, append-nil, length-append, arith}
+use Rattle.std.proofs.Common.{◌≡◌, ◌∙◌, ℕ, ◌+◌, ◌≤◌, true, false, List, [], ◌∷◌, ◌++◌, Option, refl, ap, sym, subst, length, append-nil, length-append, arith}
 use Rattle.std.specs.Prelude.{not, ◌==◌, Ok, encode_utf8_all}
 use lib.Utf8.{encode, encodes}
 use Rattle.std.proofs.lemmas.Str.{encodes-append}
@@ -9,13 +9,6 @@ use Rattle.rx_grammar.specs.declared.limits.Limits.{Limits}
 use Rattle.rx_grammar.specs.Items.{Item, Spelled, no_more, one}
 use Rattle.rx_grammar.specs.Pages.{has_no_nul}
 use Rattle.rx_grammar.specs.Begun.{Line, Phase, after}
-use Rattle.rx_grammar.specs.declared.contents.Content.{Content}
-use Rattle.rx_grammar.specs.PageFaults.{is_known_tag, is_known_raw}
-use Rattle.rx_grammar.specs.Shapes.{begins, ends_name}
-use Rattle.rx_grammar.specs.Spelling.{has_markup, raw_name}
-use Rattle.rx_terms.proofs.Bools.{split}
-use Rattle.rx_terms.specs.Text.{Chars}
-use Rattle.std.proofs.lemmas.Bool.{and_parts}
 use Rattle.rx_pages.specs.Nesting.{Event, not_begun, content_at, Goes, IsAt}
 use Rattle.rx_pages.specs.PageReader.{page_on, nothing_read}
 use Rattle.rx_pages.specs.Closings.{closing, closed, IsWide, AllEnd, Tells}
@@ -25,6 +18,7 @@ use Rattle.rx_pages.proofs.Closings.{page_entries, entered_tag, all_append, scal
 use Rattle.rx_pages.proofs.FrontRead.{AllBelow, below_behind, page_below, front_is_read}
 use Rattle.rx_pages.proofs.TokenWalk.{stood}
 use Rattle.rx_pages.proofs.TokensWalk.{flags_behind}
+use Rattle.rx_pages.proofs.KnownTags.{one_unknown}
 
 all_end : (syntax : Syntax) (end : ℕ) {entries : List Entry} {next : Option ℕ} {items : List Item} → Spelled syntax entries next items → AllBelow end entries → AllEnd end items
 all_end syntax end no_more w = tt
@@ -34,18 +28,6 @@ all_end syntax end (one c run rest item sp f l more) w =
 less_than_encoded : encodes (60 ∷ []) ≡ 60 ∷ []
 unfolding encode
 less_than_encoded = refl
-
-none_behind : (n : ℕ) → ◌≡◌ {A = Chars} (drop n []) []
-none_behind zero = refl
-none_behind (suc n) = refl
-
--- a `<` alone isn't known to begin a tag
-not_known : (syntax : Syntax) (inside : Content) → is_known_tag syntax inside (60 ∷ []) ≡ true → ⊥
-not_known syntax inside h = split (λ b. b ≡ true → ⊥) (has_markup inside) _ _ (λ e. λ k. cc) (λ e. by (raw_name inside)) h
-  where
-    by : (name : Option Chars) → is_known_raw name [] ≡ true → ⊥
-    by None k = cc
-    by (Some name) k = absurd (let e = sym (ap (begins ends_name) (none_behind (length name + 1))) ∙ (and_parts _ (begins ends_name (drop (length name + 1) [])) k).1 in cc)
 
 module _ (syntax : Syntax) (limits : Limits) (bytes : List ℕ) (line : Line) (phase : Phase) where
   front_tells : (f : Fronted syntax limits bytes line phase) → length bytes + 1 ≤ limits.page → Tells syntax limits (bytes ++ 60 ∷ []) f.events
@@ -58,7 +40,7 @@ module _ (syntax : Syntax) (limits : Limits) (bytes : List ℕ) (line : Line) (p
       front_is_read syntax limits (bytes ++ 60 ∷ []) (λ m. m ≡ f.reaches.place) (page_entries f.characters) run f.reaches.items f.events
       (record { characters = f.characters ++ 60 ∷ []; scalars = scalars_append f.characters (60 ∷ []) a.scalars refl; forms = forms; read = same })
       (all_append (λ (x : Entry). not (x.value == 0)) (page_entries f.characters) run a.no_nul refl) a.spelled f.fit a.sections a.going (let l = length-append bytes (60 ∷ []) in omega (arith, l, h))
-      (λ m p. (refl, tt)) (λ m p k. absurd (not_known syntax (content_at syntax m) k)) in
+      (λ m p. (refl, tt)) (λ m p k. absurd (one_unknown syntax (content_at syntax m) 60 k)) in
       record {
         now = progress_at (length (bytes ++ 60 ∷ [])) [] r.started r.after_return (stood r.place f.events (flags_behind f.reaches.items false false).0 (flags_behind f.reaches.items false false).1 run);
         read = ap (λ b. page_on syntax limits (Ok nothing_read) b) (sym (append-nil (bytes ++ 60 ∷ []))) ∙ r.is_read [];

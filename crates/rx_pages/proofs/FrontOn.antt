@@ -1,11 +1,11 @@
 -- One more character behind the front of a page: the front goes on with it, or it decides a fault.
-use Rattle.std.proofs.Common.{◌≡◌, ◌≢◌, ◌∙◌, ◌⊎◌, inl, inr, ℕ, zero, suc, ◌+◌, Bool, true, false, List, [], ◌∷◌, ◌++◌, refl, sym, ap, subst, eqb-true, length, append_assoc, append-nil, Option, Some, None, Result, Ok, Err, arith}
-use Rattle.std.specs.Prelude.{◌&&◌, ◌||◌, ◌==◌, not, take, drop, if◌then◌else◌}
+use Rattle.std.proofs.Common.{◌≡◌, ◌≢◌, ◌∙◌, ◌⊎◌, inl, inr, ℕ, ◌+◌, Bool, true, false, List, [], ◌∷◌, ◌++◌, refl, sym, ap, subst, eqb-true, append_assoc, append-nil, Option, Some, None, Result, Ok, Err, arith}
+use Rattle.std.specs.Prelude.{◌&&◌, ◌||◌, ◌==◌, not, if◌then◌else◌}
 use Rattle.std.specs.Str.{all_scalars}
 use lib.Utf8.{encodes}
 use Rattle.std.proofs.lemmas.Bool.{and_parts, and_from}
-use Rattle.rx_terms.specs.Ascii.{ampersand, solidus, less_than_sign, greater_than_sign}
-use Rattle.rx_terms.specs.Text.{Chars, lowered}
+use Rattle.rx_terms.specs.Ascii.{ampersand, less_than_sign, greater_than_sign}
+use Rattle.rx_terms.specs.Text.{Chars}
 use Rattle.rx_chars.specs.declared.syntax.Syntax.{Syntax}
 use Rattle.rx_chars.specs.Characters.{Entry, entered, placed, without_mark}
 use Rattle.rx_grammar.specs.declared.contents.Content.{Content}
@@ -15,14 +15,12 @@ use Rattle.rx_grammar.specs.declared.faults.Kind.TheVariants as kind
 use Rattle.rx_grammar.specs.declared.limits.Limits.{Limits}
 use Rattle.rx_grammar.specs.Tokens.{Token, tag, character, kept}
 use Rattle.rx_grammar.specs.Spelling.{Spells, has_markup, has_references, raw_name, is_text}
-use Rattle.rx_grammar.specs.Shapes.{ends_name, begins}
-use Rattle.rx_grammar.specs.Names.{same}
 use Rattle.rx_grammar.specs.Spelling as spelling
 use Rattle.rx_grammar.specs.Items.{values, next_of, Item, Spelled, no_more, one, Fits, AllFit, is_literal, is_strict_literal, no_section_end}
 use Rattle.rx_grammar.specs.Pages.{has_no_nul}
 use Rattle.rx_grammar.specs.Begun.{Line, inside_of, Phase, Stands}
-use Rattle.rx_grammar.specs.PageFaults.{is_known_raw, is_known_after, is_known_tag, token_of, IsPending, IsShort, Reached, Faulty, ends_in_brackets}
-use Rattle.rx_terms.proofs.Bools.{by_test, not_both_ways}
+use Rattle.rx_grammar.specs.PageFaults.{token_of, IsPending, IsShort, Reached, Faulty, ends_in_brackets}
+use Rattle.rx_terms.proofs.Bools.{by_test}
 use Rattle.rx_pages.specs.Nesting.{Nesting, Step, text_step, step_by, nest_step}
 use Rattle.rx_pages.specs.Scanner.{GoesOn, Verdict, goes_on, whole, ended, refused, verdict, at_first, at_last, at_next}
 use Rattle.rx_pages.specs.Faults.{by_token, by_section_end}
@@ -42,6 +40,7 @@ use Rattle.rx_pages.proofs.FaultsRead.{no_literal, item_content}
 use Rattle.rx_pages.proofs.LastToken.{token_of_item}
 use Rattle.std.proofs.Math.Bool.{and-false}
 use Rattle.rx_pages.proofs.ByteFacts.{item_last}
+use Rattle.rx_pages.proofs.KnownTags.{one_unknown}
 
 -- what may go on
 pub goes_more : (s : Syntax) (i : Content) (before a : Chars) (c : ℕ) → GoesOn s i before a → verdict s i (before ++ a) c ≡ goes_on → GoesOn s i before (a ++ c ∷ [])
@@ -91,22 +90,6 @@ never_ended i c token h = by (c == less_than_sign || (c == ampersand && has_refe
     by : (a b : Bool) → (if a then goes_on else if b then whole (character c) else refused kind.Outside) ≡ ended token → ⊥
     by false true q = cc
     by _ _ q = cc
-
--- one character isn't known to be a tag
-drop_none : (n : ℕ) → begins ends_name (drop n []) ≡ false
-drop_none zero = refl
-drop_none (suc n) = refl
-
-none_known : (name : Option Chars) → is_known_raw name [] ≡ true → ⊥
-none_known None h = cc
-none_known (Some name) h = not_both_ways (begins ends_name (drop (length name + 1) [])) (and_parts (same (lowered (take (length name + 1) [])) (solidus ∷ name)) (begins ends_name (drop (length name + 1) [])) h).1 (drop_none (length name + 1))
-
-pub known_one : (s : Syntax) (i : Content) (c : ℕ) → is_known_tag s i (c ∷ []) ≡ true → ⊥
-known_one s i c h = by (has_markup i) (and_parts (c == less_than_sign) (is_known_after s i []) h).1
-  where
-    by : (m : Bool) → (if m then false else is_known_raw (raw_name i) []) ≡ true → ⊥
-    by true k = cc
-    by false k = none_known (raw_name i) k
 
 module _ (syntax : Syntax) (limits : Limits) where
   -- The characters are whole tokens at the front of a page and a run that may go on, where `next` comes next.
@@ -344,4 +327,4 @@ module _ (syntax : Syntax) (limits : Limits) where
           by (whole token) v = at_entry items line phase (d ∷ run) h short (whole token) v (λ token. λ q. cc)
           by (refused found) v = at_entry items line phase (d ∷ run) h short (refused found) v (λ token. λ q. cc)
           by (ended token) v =
-              at_entry (items ++ text_item items line phase d run h token v ∷ []) line phase [] (behind_text items line phase d run h token v) (λ k. absurd (known_one syntax (inside_of syntax line).content e.value k)) (at_first (inside_of syntax line).content e.value) refl (never_ended (inside_of syntax line).content e.value)
+              at_entry (items ++ text_item items line phase d run h token v ∷ []) line phase [] (behind_text items line phase d run h token v) (λ k. absurd (one_unknown syntax (inside_of syntax line).content e.value k)) (at_first (inside_of syntax line).content e.value) refl (never_ended (inside_of syntax line).content e.value)

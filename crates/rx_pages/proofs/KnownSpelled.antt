@@ -17,9 +17,8 @@ use Rattle.rx_grammar.specs.PageFaults.{is_known_tag, is_known_after, is_known_r
 use Rattle.rx_terms.proofs.Bools.{by_test, both}
 use Rattle.rx_reader.proofs.OneToken.{tag_first}
 use Rattle.rx_pages.proofs.Reading.{markup_raw}
-use Rattle.rx_pages.proofs.TagRuns.{KnownEnd}
-use Rattle.rx_pages.proofs.Pends.{is_known_by, raw_html, occurs}
-use Rattle.rx_pages.proofs.KnownTags.{opens_tag}
+use Rattle.rx_pages.proofs.TagRuns.{KnownEnd, is_known_by, is_first}
+use Rattle.rx_pages.proofs.Pends.{raw_html, occurs}
 
 turned : (a b : Bool) → (a || b) ≡ true → (b || a) ≡ true
 turned true true h = refl
@@ -40,7 +39,7 @@ end_known name _ _ (an_end n spaces t b) c e = by spaces b
 
 pub spelled_known : (s : Syntax) (i : Content) (chars : Chars) (next : Option ℕ) (token : Token) (t : Tag) → occurs s i ≡ true → Spells s i chars next token → token ≡ tag t → is_known_tag s i chars ≡ true
 spelled_known s i _ next _ t o (spelling.a_tag text u m sp) e =
-    cond-true _ _ _ m ∙ (let f = tag_first s text sp.reads.written sp.reads.shape in ap (begins (opens_tag s)) f.is ∙ turned (begins_tag s f.c) (f.c == solidus) f.test)
+    cond-true _ _ _ m ∙ (let f = tag_first s text sp.reads.written sp.reads.shape in ap (begins (is_first s)) f.is ∙ turned (begins_tag s f.c) (f.c == solidus) f.test)
 spelled_known s i _ next _ t o (spelling.an_end_of_raw text name u r sp c n) e =
     let h : s ≡ Html = raw_html s i name o r in
     let sp2 : SpellsTag Html text u = subst (λ (x : Syntax). SpellsTag x text u) h sp in

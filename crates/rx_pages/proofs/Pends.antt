@@ -1,9 +1,7 @@
 -- What characters that go on are, and what the next one makes of them: text, references, tags and raw text.
-use Rattle.std.proofs.Common.{◌≡◌, ◌≢◌, ◌∙◌, ℕ, suc, ◌+◌, length, take, cond, Bool, true, false, List, [], ◌∷◌, ◌++◌, Option, Some, None, Result, Ok, Err, refl, ap, sym, subst, append_assoc, inl, inr, eqb-true, arith}
-use Rattle.std.specs.Prelude.{◌&&◌, ◌||◌, ◌==◌, not, codes, drop}
-use Rattle.std.proofs.lemmas.List.{length-map}
-use Rattle.std.proofs.Math.Seq.{take-append_seam, drop-append_seam}
-use Rattle.rx_terms.specs.Ascii.{lowered_char, ampersand, semicolon, solidus, less_than_sign}
+use Rattle.std.proofs.Common.{◌≡◌, ◌≢◌, ◌∙◌, ℕ, cond, Bool, true, false, List, [], ◌∷◌, ◌++◌, Option, Some, None, Result, Ok, Err, refl, ap, sym, subst, inl, inr, eqb-true}
+use Rattle.std.specs.Prelude.{◌&&◌, ◌||◌, ◌==◌, not, codes}
+use Rattle.rx_terms.specs.Ascii.{ampersand, semicolon, solidus, less_than_sign}
 use Rattle.rx_terms.specs.Text.{Chars, lowered}
 use Rattle.rx_chars.specs.declared.syntax.Syntax.{Syntax}
 use Rattle.rx_chars.specs.declared.syntax.Syntax.TheVariants.{Html, Xhtml}
@@ -29,7 +27,7 @@ use Rattle.rx_reader.specs.Laws.{ReadsOn}
 use Rattle.rx_pages.specs.Scanner.{Verdict, goes_on, whole, ended, refused, told_of_tag, in_tag, told_of_reference, in_run, in_raw, DoctypePhase, keyword, closed, doctype_on, at_first, verdict}
 use Rattle.rx_pages.proofs.Reading.{markup_is}
 use Rattle.rx_pages.proofs.FirstFronts.{NoFront, NoneBefore}
-use Rattle.rx_pages.proofs.TagRuns.{is_first, markup_tag, KnownEnd, known_at, Known, in_markup', in_raw', is_known}
+use Rattle.rx_pages.proofs.TagRuns.{is_first, markup_tag, KnownEnd, is_known_by, end_more, known_at, Known, in_markup', in_raw', is_known}
 use Rattle.rx_pages.proofs.RawEnds.{is_raw_name, end_reads, ends_raw}
 use Rattle.rx_terms.proofs.Bools.{both, neither, either, not_both_ways, split}
 use Rattle.rx_reader.proofs.Classes.{of_one}
@@ -37,7 +35,6 @@ use Rattle.rx_reader.proofs.Fronts.{equal}
 use Rattle.rx_pages.proofs.Contents.{same_is}
 use Rattle.rx_reader.proofs.TagLaws.{spells_each, tag_on-append, repeats_once}
 use Rattle.rx_reader.proofs.TagFaultLaws.{refuses_each_fault}
-use Rattle.rx_reader.proofs.OneToken.{same_self}
 
 -- the contents of a syntax
 abbrev pub occurs : Syntax → Content → Bool
@@ -167,18 +164,6 @@ from_tag s i text c m b r =
     (tag_out s i text c r (in_markup' m h) (λ t sp next. spelling.a_tag (text ++ c ∷ []) t m sp) (λ q. in_a_tag (text ++ c ∷ []) m h q))
 
 -- in raw text
-pub is_known_by : (name text : Chars) → KnownEnd name text → is_known_end name text ≡ true
-is_known_by name text k =
-    let n : length name + 1 ≡ length k.word = count (length name) (length (lowered k.word)) (length k.word) (ap length k.is) (length-map k.word lowered_char) in
-    ap (is_known_end name) k.are ∙ (ap (λ m. same (lowered (take m (k.word ++ k.e ∷ k.rest))) (solidus ∷ name) && begins ends_name (drop m (k.word ++ k.e ∷ k.rest))) n
-    ∙ rw (take-append_seam k.word (k.e ∷ k.rest), drop-append_seam k.word (k.e ∷ k.rest), k.is, same_self (solidus ∷ name), k.ends) refl)
-  where
-    count : (a b c : ℕ) → b ≡ suc a → b ≡ c → a + 1 ≡ c
-    count a b c e f = omega arith
-
-known_more : (name text : Chars) (c : ℕ) → KnownEnd name text → KnownEnd name (text ++ c ∷ [])
-known_more name text c k = record { word = k.word; e = k.e; rest = k.rest ++ c ∷ []; are = ap (λ x. x ++ c ∷ []) k.are ∙ append_assoc k.word (k.e ∷ k.rest) (c ∷ []); is = k.is; ends = k.ends }
-
 pub raw_html : (s : Syntax) (i : Content) (name : Chars) → occurs s i ≡ true → raw_name i ≡ Some name → s ≡ Html
 raw_html Html i name o r = refl
 raw_html Xhtml (content.Raw n) name o r = absurd (cc)
@@ -193,8 +178,8 @@ module _ (i : Content) (name : Chars) (raw : raw_name i ≡ Some name) (text : C
 
   pub from_raw_tag : KnownEnd name text → ReadsOn Html text → Out Html i (60 ∷ text) c (in_raw Html name text c)
   from_raw_tag k r =
-      elim (known_at Html name (text ++ c ∷ []) (known_more name text c k) text c [] refl) [
-        | inl q ↦ subst (Out Html i (60 ∷ text) c) (sym q) (behind_name r (known_more name text c k))
+      elim (known_at Html name (text ++ c ∷ []) (end_more name text (c ∷ []) k) text c [] refl) [
+        | inl q ↦ subst (Out Html i (60 ∷ text) c) (sym q) (behind_name r (end_more name text (c ∷ []) k))
         | inr q ↦ absurd (q.1 refl)
       ]
 

@@ -17,9 +17,9 @@ use Rattle.rx_reader.specs.Laws.{ReadsOn}
 use Rattle.rx_pages.specs.Scanner.{whole, refused, verdict, GoesOn, ReadAs, at_last, at_next}
 use Rattle.rx_pages.proofs.Reading.{raw_is}
 use Rattle.rx_pages.proofs.FirstFronts.{first_here, FirstMore, first_more, whole_first, all_none, begins_exactly, ends_so, ends_append}
-use Rattle.rx_pages.proofs.TagRuns.{in_markup', in_raw', is_known}
+use Rattle.rx_pages.proofs.TagRuns.{is_known_by, in_markup', in_raw', is_known}
 use Rattle.rx_pages.proofs.RawEnds.{IsRawName, is_raw_name, spells_end}
-use Rattle.rx_pages.proofs.Pends.{occurs, Pends, nothing, in_reference, at_less_than, in_end, in_raw_tag, in_a_tag, in_question, in_instruction, in_bogus, in_html_comment, in_strict, in_a_doctype, in_a_section, in_an_opening, FaultyBy, Out, from_nothing, from_reference, from_tag, is_known_by, raw_html, from_raw_tag, from_end}
+use Rattle.rx_pages.proofs.Pends.{occurs, Pends, nothing, in_reference, at_less_than, in_end, in_raw_tag, in_a_tag, in_question, in_instruction, in_bogus, in_html_comment, in_strict, in_a_doctype, in_a_section, in_an_opening, FaultyBy, Out, from_nothing, from_reference, from_tag, raw_html, from_raw_tag, from_end}
 use Rattle.rx_pages.proofs.PendsMarks.{as_verdict, from_question, from_instruction, from_html_comment, from_strict, from_section, same_word, begins_doctype, from_doctype}
 use Rattle.rx_pages.proofs.PendsOpenings.{from_less_than, from_bogus, from_opening}
 use Rattle.rx_terms.proofs.Bools.{both, neither, not_both_ways, by_test}

@@ -1,7 +1,8 @@
 -- A run that is known to be a tag is read as one.
-use Rattle.std.proofs.Common.{◌≡◌, ◌≢◌, ◌∙◌, ℕ, ◌+◌, ◌≤◌, length, take, Bool, true, false, [], ◌∷◌, ◌++◌, Some, Ok, Err, refl, ap, sym, subst, append-nil, append_assoc, inl, inr, ◌⊎◌, arith}
+use Rattle.std.proofs.Common.{suc, ◌≡◌, ◌≢◌, ◌∙◌, ℕ, ◌+◌, ◌≤◌, length, take, Bool, true, false, [], ◌∷◌, ◌++◌, Some, Ok, Err, refl, ap, sym, subst, append-nil, append_assoc, inl, inr, ◌⊎◌, arith}
 use Rattle.std.specs.Prelude.{◌&&◌, ◌||◌, ◌==◌, not, drop}
-use Rattle.std.proofs.lemmas.Bool.{cond-true, cond-false, and_right}
+use Rattle.std.proofs.lemmas.Bool.{and_parts, cond-true, cond-false, and_right}
+use Rattle.std.proofs.Math.Seq.{take-append_seam, drop-append_seam}
 use Rattle.std.proofs.lemmas.List.{length-append, length-map, take-append-drop}
 use Rattle.rx_terms.specs.Ascii.{lowered_char, solidus, less_than_sign}
 use Rattle.rx_terms.specs.Text.{Chars, begins_with, lowered}
@@ -27,12 +28,11 @@ use Rattle.rx_pages.proofs.Contents.{same_is}
 use Rattle.rx_pages.proofs.Refusals.{IsRefused}
 use Rattle.rx_terms.proofs.Bools.{both, either, not_both_ways, by_test}
 use Rattle.rx_reader.proofs.Classes.{of_one}
-use Rattle.rx_reader.proofs.Fronts.{equal, two_fronts}
+use Rattle.rx_reader.proofs.Fronts.{two_fronts, begins_append}
 use Rattle.rx_reader.proofs.TagLaws.{last_none, on_err, tag_on-append}
 use Rattle.rx_reader.proofs.TagFaultLaws.{parts, is_refused}
 use Rattle.std.proofs.Math.Bool.{and-false}
 use Rattle.rx_reader.proofs.OneToken.{same_self}
-use Rattle.rx_pages.proofs.KnownTags.{front_length}
 
 -- The fronts of what is read as a tag are read so.
 pub after_last : (s : Syntax) (st : TagState) (c : ℕ) (text : Chars) (last : TagState) → is_last st.phase ≡ true → tag_on s (meaning s) (Ok st) (c ∷ text) ≡ Ok last → ⊥
@@ -118,6 +118,23 @@ known_end name text h =
       ends = d.meets;
     }
 
+pub is_known_by : (name text : Chars) → KnownEnd name text → is_known_end name text ≡ true
+is_known_by name text k =
+    let n : length name + 1 ≡ length k.word = count (length name) (length (lowered k.word)) (length k.word) (ap length k.is) (length-map k.word lowered_char) in
+    ap (is_known_end name) k.are ∙ (ap (λ m. same (lowered (take m (k.word ++ k.e ∷ k.rest))) (solidus ∷ name) && begins ends_name (drop m (k.word ++ k.e ∷ k.rest))) n
+    ∙ rw (take-append_seam k.word (k.e ∷ k.rest), drop-append_seam k.word (k.e ∷ k.rest), k.is, same_self (solidus ∷ name), k.ends) refl)
+  where
+    count : (a b c : ℕ) → b ≡ suc a → b ≡ c → a + 1 ≡ c
+    count a b c e f = omega arith
+
+pub end_more : (name text more : Chars) → KnownEnd name text → KnownEnd name (text ++ more)
+end_more name text more k = record { word = k.word; e = k.e; rest = k.rest ++ more; are = ap (λ x. x ++ more) k.are ∙ append_assoc k.word (k.e ∷ k.rest) more; is = k.is; ends = k.ends }
+
+front_length : (a b : Chars) → begins_with a b ≡ true → length a ≤ length b
+front_length [] b h = omega arith
+front_length (c ∷ a) [] h = absurd (cc)
+front_length (c ∷ a) (d ∷ b) h = let r = front_length a b (and_parts (c == d) (begins_with a b) h).1 in omega arith
+
 -- more than the whole name begins no end tag's front
 pub past_name : (name word z : Chars) (c : ℕ) → lowered word ≡ solidus ∷ name → begins_end name (word ++ c ∷ z) ≡ false
 past_name name word z c e = by_test (begins_end name (word ++ c ∷ z)) (λ h. absurd (too_long (front_length (lowered (word ++ c ∷ z)) (solidus ∷ name) h))) (λ h. h)
@@ -131,11 +148,7 @@ past_name name word z c e = by_test (begins_end name (word ++ c ∷ z)) (λ h. a
         omega (arith, l, a, b, d, f)
 
 pub whole_begins : (name word : Chars) → lowered word ≡ solidus ∷ name → begins_end name word ≡ true
-whole_begins name word e = ap (λ x. begins_with x (solidus ∷ name)) e ∙ begins_self (solidus ∷ name)
-  where
-    begins_self : (x : Chars) → begins_with x x ≡ true
-    begins_self [] = refl
-    begins_self (c ∷ x) = rw (equal c, begins_self x) refl
+whole_begins name word e = ap (λ x. begins_with x (solidus ∷ name)) e ∙ (ap (begins_with (solidus ∷ name)) (sym (append-nil (solidus ∷ name))) ∙ begins_append (solidus ∷ name) [])
 
 -- the name is whole, and the character ends it
 no_stop : (name word : Chars) (e : ℕ) → lowered word ≡ solidus ∷ name → ends_name e ≡ true → stops_end name word e ≡ false
