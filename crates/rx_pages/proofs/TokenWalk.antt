@@ -1,5 +1,5 @@
 -- Reading the entries of a page token by token.
-use Rattle.std.proofs.Common.{◌≡◌, ◌∙◌, ◌⊎◌, ⊎_elim, inl, inr, ℕ, ◌+◌, ◌<◌, Bool, true, false, List, [], ◌∷◌, ◌++◌, refl, sym, ap, subst, nat_le, append_assoc, append-nil, Option, None, Result, Ok, Err}
+use Rattle.std.proofs.Common.{◌≡◌, ◌∙◌, ℕ, ◌+◌, ◌<◌, Bool, true, false, List, [], ◌∷◌, ◌++◌, refl, sym, ap, subst, nat_le, append_assoc, append-nil, Result, Ok, Err}
 use Rattle.std.specs.Prelude.{◌&&◌, ◌||◌, ◌==◌, not, if◌then◌else◌}
 use Rattle.rx_terms.specs.Ascii.{greater_than_sign, right_bracket, less_than_sign, ampersand}
 use Rattle.rx_terms.specs.Text.{Chars}
@@ -10,17 +10,14 @@ use Rattle.rx_grammar.specs.declared.faults.Kind.{Kind}
 use Rattle.rx_grammar.specs.declared.faults.Kind.TheVariants.{BadDoctype, StrictText}
 use Rattle.rx_grammar.specs.declared.limits.Limits.{Limits}
 use Rattle.rx_grammar.specs.Tokens.{Token, tag, character, reference, kept, section, comment, doctype}
-use Rattle.rx_grammar.specs.Spelling as spelling
-use Rattle.rx_grammar.specs.Spelling.{Spells, has_references, is_text}
+use Rattle.rx_grammar.specs.Spelling.{has_references, is_text}
 use Rattle.rx_grammar.specs.Items.{values, Item, is_literal}
 use Rattle.rx_grammar.specs.Begun.{Phase, before}
 use Rattle.rx_grammar.specs.PageFaults.{is_known_tag}
 use Rattle.rx_terms.proofs.Bools.{by_test}
 use Rattle.rx_pages.specs.Nesting.{Event, Nesting, Step, content_at, nest_step, step_by, going_on, doctype_step, text_step}
-use Rattle.rx_pages.specs.Scanner.{Verdict, goes_on, whole, ended, at_first, verdict, GoesOn, ReadAs, at_last, at_next}
+use Rattle.rx_pages.specs.Scanner.{Verdict, goes_on, whole, ended, at_first, verdict, GoesOn}
 use Rattle.rx_pages.specs.PageReader.{Spot, Scanning, Scanned, first_of, is_too_long, item_of, is_doctype, entering, completed, told_first, with_item, told as told_by, spot_of, may_lead, with_events, steps_on, no_step}
-use Rattle.rx_pages.proofs.Pending.{goes_at, not_whole}
-use Rattle.rx_pages.proofs.Spellings.{reads_each}
 use Rattle.rx_pages.proofs.Tokens.{values_append}
 use Rattle.rx_pages.proofs.KnownTags.{TagVerdict, on, known_more, known_verdict}
 use Rattle.rx_pages.proofs.EntrySteps.{Stood, scanning_of, stood_by, nested_by, entry_step}
@@ -54,30 +51,6 @@ module _ (syntax : Syntax) (depth : ℕ) where
 -- a token that stays text because of what follows it
 pub data IsKept (token : Token) : Type 0 where
   is_kept : (text : Chars) → token ≡ kept text → IsKept token
-
-kept_or_any : (s : Syntax) (i : Content) (text : Chars) (next : Option ℕ) (token : Token) → Spells s i text next token → IsKept token ⊎ Spells s i text None token
-kept_or_any s i _ next _ (spelling.a_tag text t m sp) = inr (spelling.a_tag text t m sp)
-kept_or_any s i _ next _ (spelling.an_end_of_raw text name t r sp c n) = inr (spelling.an_end_of_raw text name t r sp c n)
-kept_or_any s i _ next _ (spelling.a_character c h) = inr (spelling.a_character c h)
-kept_or_any s i _ next _ (spelling.a_less_than e h b) = inl (is_kept _ refl)
-kept_or_any s i _ next _ (spelling.a_raw_run text name r h b) = inl (is_kept _ refl)
-kept_or_any s i _ next _ (spelling.a_reference body c r b m) = inr (spelling.a_reference body c r b m)
-kept_or_any s i _ next _ (spelling.a_kept_run run k h b) = inl (is_kept _ refl)
-kept_or_any s i _ next _ (spelling.a_comment text e m f) = inr (spelling.a_comment text e m f)
-kept_or_any s i _ next _ (spelling.a_bogus_comment text e m n f) = inr (spelling.a_bogus_comment text e m n f)
-kept_or_any s i _ next _ (spelling.a_question text e m f) = inr (spelling.a_question text e m f)
-kept_or_any s i _ next _ (spelling.a_strict_comment text e m f) = inr (spelling.a_strict_comment text e m f)
-kept_or_any s i _ next _ (spelling.an_instruction text e m f) = inr (spelling.an_instruction text e m f)
-kept_or_any s i _ next _ (spelling.a_section text h f) = inr (spelling.a_section text h f)
-kept_or_any s i _ next _ (spelling.a_doctype text m d) = inr (spelling.a_doctype text m d)
-
--- characters that all go on and spell a token spell one that is kept
-pub goes_kept : (s : Syntax) (i : Content) (text : Chars) (next : Option ℕ) (token : Token) → Spells s i text next token → GoesOn s i [] text → IsKept token
-goes_kept s i text next token sp g = ⊎_elim (λ k. k) (λ any. absurd (by text None token (reads_each s i text None token any) refl refl)) (kept_or_any s i text next token sp)
-  where
-    by : (x : Chars) (n : Option ℕ) (t : Token) → ReadAs s i x n t → x ≡ text → n ≡ None → ⊥
-    by _ _ _ (at_last front c t go k) e n = not_whole s i (verdict s i front c) t (goes_at s i [] front c [] (subst (λ x. GoesOn s i [] x) (sym e) g)) k
-    by _ _ _ (at_next x c t go k) e n = absurd (cc)
 
 -- a document type that nests may come there
 pub leads_there : (syntax : Syntax) (depth : ℕ) (n : Nesting) (item : Item) (step : Step) → nest_step syntax depth n item ≡ Ok step → (is_doctype item.token && not (may_lead n.phase)) ≡ false

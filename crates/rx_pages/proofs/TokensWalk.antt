@@ -19,8 +19,9 @@ use Rattle.rx_pages.proofs.Spellings.{reads_each}
 use Rattle.rx_pages.proofs.Tokens.{values_append}
 use Rattle.rx_pages.proofs.KnownTags.{TagVerdict, on, a_tag, a_fault, known_more, known_verdict}
 use Rattle.rx_pages.proofs.EntrySteps.{Stood}
-use Rattle.rx_pages.proofs.TokenWalk.{stood, IsKept, is_kept, goes_kept, Bound, limit_before, limit_with, go_all, whole_step, kept_unknown, Leads}
+use Rattle.rx_pages.proofs.TokenWalk.{stood, IsKept, is_kept, Bound, limit_before, limit_with, go_all, whole_step, kept_unknown, Leads}
 use Rattle.std.proofs.Math.Bool.{and-false}
+use Rattle.rx_pages.proofs.EndedRuns.{ended_kept}
 
 -- places rise
 abbrev pub RisesFrom : ℕ → List Entry → Type 0
@@ -163,7 +164,7 @@ module _ (syntax : Syntax) (limits : Limits) (G : Stood → Stood → List Entry
         by _ _ _ (at_next x d token go v) e m k s = at more m f
           where
             kept_is : IsKept item.token
-            kept_is = subst IsKept k (goes_kept syntax inside x (Some d) token s go)
+            kept_is = subst IsKept k (ended_kept syntax inside x d token v)
 
             at : (es : List Entry) → Some d ≡ next_of (values es) None → G end (stood step.next (events ++ step.events) (last && is_literal right_bracket item) (is_literal right_bracket item) []) es → G end (stood n events two last []) (unit ++ es)
             at [] h g = absurd (cc)
