@@ -10,7 +10,7 @@ use Rattle.rx_grammar.specs.declared.contents.RawName.{RawName}
 use Rattle.rx_grammar.specs.declared.faults.Kind.{Kind}
 use Rattle.rx_grammar.specs.declared.faults.Kind.TheVariants as kind
 use Rattle.rx_grammar.specs.Names.{same, is_among, name_of_raw}
-use Rattle.rx_grammar.specs.Tokens.{Tag, Token, tag, character, reference, kept, section, comment, doctype}
+use Rattle.rx_grammar.specs.Tokens.{Token, tag, doctype}
 use Rattle.rx_grammar.specs.Contents.{in_html, raw_place, raw_names, rcdata_names, inside_html, inside_foreign, html_in_svg, Place, inside_at}
 use Rattle.rx_grammar.specs.Spelling.{Spells, keeps_runs, a_doctype}
 use Rattle.rx_grammar.specs.Shapes.{begins, begins_tag}
@@ -60,7 +60,7 @@ inside_occurs Html (t ∷ above) = inside_fits (inside_of Html above).content (i
 inside_occurs _ _ = refl
 
 -- what is unfinished goes on
-goes : (s : Syntax) (i : Content) (run : Chars) → Unfinished s i run → GoesOn s i [] run
+pub goes : (s : Syntax) (i : Content) (run : Chars) → Unfinished s i run → GoesOn s i [] run
 goes s i _ (token_begun c d run rest {next = next} token sp) = begun_goes s i (c ∷ run) d rest next token sp
 goes s i _ (tag_begun text h b) = tag_goes_on s i text h (reads_on s text b)
 goes s i _ (run_begun run r b) = run_goes s i run r b
@@ -88,6 +88,15 @@ an_item token inside = record { token = token; content = inside; first = 0; last
 late : (phase : Phase) → phase ≢ before false → doctype_step phase ≡ Err kind.BadDoctype
 late (before false) n = absurd (n refl)
 late _ n = refl
+
+-- the row that refuses
+pub refused_row : (o : Option Kind) (step : Step) (found : Kind) → unless_refused o step ≡ Err found → o ≡ Some found
+refused_row None step found h = absurd (cc)
+refused_row (Some k) step found h = let q : k ≡ found = cc in ap Some q
+
+pub not_first : (found : Kind) (p : Phase) → doctype_step p ≡ Err found → (found ≡ kind.BadDoctype) × (p ≢ before false)
+not_first found (before false) h = absurd (cc)
+not_first found _ h = (cc, λ e. cc)
 
 module _ (s : Syntax) (depth : ℕ) (items : List Item) (line : Line) (phase : Phase) (i : Content) (o : occurs s i ≡ true) where
   abbrev D : Kind → Chars → Type 0
@@ -125,26 +134,13 @@ module _ (s : Syntax) (depth : ℕ) (items : List Item) (line : Line) (phase : P
   doctype_inside _ _ (a_doctype text m d) e n = late_doctype text m d n
   doctype_inside _ _ _ e n = absurd (cc)
 
-  tag_inside : (found : Kind) (chars : Chars) (t : Tag) (step : Step) (o : Option Kind) → Spells s i chars None (tag t) → first_row (tag_rows s depth line phase t) ≡ o → unless_refused o step ≡ Err found → Faulty s depth items line phase i found chars
-  tag_inside found chars t step None sp e h = absurd (cc)
-  tag_inside found chars t step (Some k) sp e h = let q : k ≡ found = cc in at_tag chars t sp (e ∙ ap Some q)
-
-  not_first : (found : Kind) (p : Phase) → doctype_step p ≡ Err found → (found ≡ kind.BadDoctype) × (p ≢ before false)
-  not_first found (before false) h = absurd (cc)
-  not_first found _ h = (cc, λ e. cc)
-
   at_line : (found : Kind) (item : Item) (n : Nesting) (chars : Chars) (token : Token) → item.token ≡ token → IsAt line phase n → Spells s i chars None token → step_by s depth n item token ≡ Err found → Faulty s depth items line phase i found chars
   at_line found item n chars (tag t) q at sp h =
-      tag_inside found chars t (tag_passes s n.line item t) (first_row (tag_rows s depth line phase t)) sp refl
-      (ap (λ l. unless_refused (first_row (tag_rows s depth l phase t)) (tag_passes s n.line item t)) (sym at.line_is) ∙ (ap (λ p. unless_refused (first_row (tag_rows s depth n.line p t)) (tag_passes s n.line item t)) (sym at.phase_is) ∙ h))
-  at_line found item n chars (character c) q at sp h = absurd (cc)
-  at_line found item n chars (reference c) q at sp h = absurd (cc)
-  at_line found item n chars (kept text) q at sp h = absurd (cc)
-  at_line found item n chars (section text) q at sp h = absurd (cc)
-  at_line found item n chars comment q at sp h = absurd (cc)
+      at_tag chars t sp (ap (λ l. first_row (tag_rows s depth l phase t)) (sym at.line_is) ∙ (ap (λ p. first_row (tag_rows s depth n.line p t)) (sym at.phase_is) ∙ refused_row _ (tag_passes s n.line item t) found h))
   at_line found item n chars doctype q at sp h =
       let k = not_first found n.phase h in
       subst (λ x. Faulty s depth items line phase i x chars) (sym k.0) (doctype_inside chars doctype sp refl (λ e. k.1 (at.phase_is ∙ e)))
+  at_line found item n chars _ q at sp h = absurd (cc)
 
   faulty : {found : Kind} {chars : Chars} → D found chars → Faulty s depth items line phase i found chars
   faulty {found = found} (by_character run c g h) = faulty_read s i o run c found g h depth items line phase
