@@ -93,48 +93,17 @@ module _ (i : Content) (next : Option ℕ) (sections : has_sections i ≡ true) 
   inside_section Xhtml a d = marks Xhtml (33 ∷ (codes "[CDATA[" ++ a)) d
 
   begin_section : (s : Syntax) → GoesOn s i [] (codes "<![CDATA[")
-  begin_section Html =
-      let n = and-false (has_sections i) in (
-        refl,
-        (
-          marks Html [] 33,
-          (
-            marks Html (codes "!") 91 ∙ bogus_at i [] 91 n,
-            (
-              marks Html (codes "![") 67 ∙ bogus_at i (codes "[") 67 n,
-              (
-                marks Html (codes "![C") 68 ∙ bogus_at i (codes "[C") 68 n,
-                (marks Html (codes "![CD") 65 ∙ bogus_at i (codes "[CD") 65 n, (marks Html (codes "![CDA") 84 ∙ bogus_at i (codes "[CDA") 84 n, (marks Html (codes "![CDAT") 65 ∙ bogus_at i (codes "[CDAT") 65 n, (marks Html (codes "![CDATA") 91 ∙ bogus_at i (codes "[CDATA") 91 n, tt)))),
-              ),
-            ),
-          ),
-        ),
-      )
-  begin_section Xhtml = (
-    refl,
-    (
-      marks Xhtml [] 33,
-      (
-        marks Xhtml (codes "!") 91,
-        (
-          marks Xhtml (codes "![") 67,
-          (
-            marks Xhtml (codes "![C") 68,
-            (
-              marks Xhtml (codes "![CD") 65,
-              (
-                marks Xhtml (codes "![CDA") 84,
-                (
-                  marks Xhtml (codes "![CDAT") 65,
-                  (marks Xhtml (codes "![CDATA") 91 ∙ cond-false _ _ _ (ap not sections), tt),
-                ),
-              ),
-            ),
-          ),
-        ),
-      ),
-    ),
-  )
+  begin_section Html = (refl, (marks Html [] 33, (at [] 91 n, (at (codes "[") 67 n, (at (codes "[C") 68 n, (at (codes "[CD") 65 n, (at (codes "[CDA") 84 n, (at (codes "[CDAT") 65 n, (at (codes "[CDATA") 91 n, tt)))))))))
+    where
+      n : (has_sections i && false) ≡ false
+      n = and-false (has_sections i)
+
+      at : (a : Chars) (d : ℕ) → begins_declaration i a ≡ false → verdict Html i (60 ∷ 33 ∷ a) d ≡ whole_if (ends_with (codes ">") (a ++ d ∷ [])) comment
+      at a d h = marks Html (33 ∷ a) d ∙ bogus_at i a d h
+  begin_section Xhtml = (refl, (at [] 33, (at (codes "!") 91, (at (codes "![") 67, (at (codes "![C") 68, (at (codes "![CD") 65, (at (codes "![CDA") 84, (at (codes "![CDAT") 65, (at (codes "![CDATA") 91 ∙ cond-false _ _ _ (ap not sections), tt)))))))))
+    where
+      at : (a : Chars) (d : ℕ) → verdict Xhtml i (60 ∷ a) d ≡ in_markup Xhtml i a d
+      at a d = marks Xhtml a d
 
   pub reads_section : (s : Syntax) (t : Chars) → IsFirst (ends_with (codes "]]>")) (t ++ codes "]]>") → ReadAs s i (60 ∷ 33 ∷ (codes "[CDATA[" ++ (t ++ codes "]]>"))) next (section t)
   reads_section s t f =

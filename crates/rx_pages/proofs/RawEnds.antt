@@ -17,13 +17,11 @@ use Rattle.rx_grammar.specs.Tokens.{Tag}
 use Rattle.rx_grammar.specs.Shapes.{ends_name, is_tag_name, Shape, a_start, an_end}
 use Rattle.rx_grammar.specs.Tags.{cased, SpellsTag}
 use Rattle.rx_grammar.specs.Spelling.{raw_name}
-use Rattle.rx_reader.specs.Tables.{is_last}
 use Rattle.rx_reader.specs.Laws.{ReadsOn}
-use Rattle.rx_pages.proofs.TagRuns.{KnownEnd, after_last}
+use Rattle.rx_pages.proofs.TagRuns.{KnownEnd, front_of}
 use Rattle.rx_terms.proofs.Bools.{both, not_both_ways, by_test, untrue}
 use Rattle.rx_reader.proofs.Classes.{of_white, of_one, unless}
 use Rattle.rx_reader.proofs.TagLaws.{reads_each}
-use Rattle.rx_reader.proofs.TagFaultLaws.{parts}
 
 -- their names are letters in lower case
 pub record IsRawName (name : Chars) : Type 0 where
@@ -106,10 +104,7 @@ module _ (name : Chars) (raw : IsRawName name) where
 
 -- the front of what is spelled is read
 pub spelled_reads : (s : Syntax) (a : Chars) (c : ℕ) (b : Chars) (t : Tag) → SpellsTag s (a ++ c ∷ b) t → ReadsOn s a
-spelled_reads s a c b t sp =
-    let r = reads_each s (a ++ c ∷ b) t sp in
-    let p = parts s a (c ∷ b) r.last r.run in
-    record { reached = p.between; run = p.first; unfinished = by_test (is_last p.between.phase) (λ w. absurd (after_last s p.between c b r.last w p.second)) (λ w. w) }
+spelled_reads s a c b t sp = let r = reads_each s (a ++ c ∷ b) t sp in front_of s a c b r.last r.run
 
 pub end_reads : (name word : Chars) → IsRawName name → lowered word ≡ solidus ∷ name → ReadsOn Html word
 end_reads name word raw e = spelled_reads Html word 62 [] (end_tag name) (spells_end name raw word e)

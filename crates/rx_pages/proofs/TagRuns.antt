@@ -42,11 +42,14 @@ after_last s st c text last w h =
     let m = on_err s (meaning s) BadTag text in
     cc
 
-pub front_reads : (s : Syntax) (a b : Chars) → ReadsOn s (a ++ b) → ReadsOn s a
+pub front_of : (s : Syntax) (a : Chars) (c : ℕ) (b : Chars) (last : TagState) → tag_on s (meaning s) (Ok fresh) (a ++ c ∷ b) ≡ Ok last → ReadsOn s a
+front_of s a c b last h =
+    let p = parts s a (c ∷ b) last h in
+    record { reached = p.between; run = p.first; unfinished = by_test (is_last p.between.phase) (λ w. absurd (after_last s p.between c b last w p.second)) (λ w. w) }
+
+front_reads : (s : Syntax) (a b : Chars) → ReadsOn s (a ++ b) → ReadsOn s a
 front_reads s a [] r = subst (ReadsOn s) (append-nil a) r
-front_reads s a (c ∷ b) r =
-    let p = parts s a (c ∷ b) r.reached r.run in
-    record { reached = p.between; run = p.first; unfinished = by_test (is_last p.between.phase) (λ w. absurd (after_last s p.between c b r.reached w p.second)) (λ w. w) }
+front_reads s a (c ∷ b) r = front_of s a c b r.reached r.run
 
 pub in_tag_goes : (s : Syntax) (f : Chars) (d : ℕ) → ReadsOn s (f ++ d ∷ []) → in_tag s f d ≡ goes_on
 in_tag_goes s f d r = ap told_of_tag r.run ∙ cond-false _ _ _ r.unfinished
