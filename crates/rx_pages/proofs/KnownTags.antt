@@ -15,7 +15,8 @@ use Rattle.rx_reader.specs.TagReader.{TagState, tag_of}
 use Rattle.rx_terms.proofs.Bools.{by_test}
 use Rattle.rx_pages.specs.Scanner.{Verdict, goes_on, whole, refused, whole_if, told_of_tag, verdict}
 use Rattle.rx_reader.proofs.Classes.{of_one}
-use Rattle.rx_pages.proofs.TagRuns.{is_first, known_end, is_known_by, end_more, Known, in_markup', in_raw', known, is_known, verdict_at}
+use Rattle.rx_pages.proofs.TagRuns.{known_end, is_known_by, end_more, Known, in_markup', in_raw', known, is_known, verdict_at}
+use Rattle.rx_pages.proofs.Markup.{is_first}
 
 -- what is told of a tag is a tag
 pub data TagVerdict : Verdict → Type 0 where

@@ -27,7 +27,7 @@ use Rattle.rx_reader.specs.Laws.{ReadsOn}
 use Rattle.rx_pages.specs.Scanner.{Verdict, goes_on, whole, ended, refused, told_of_tag, in_tag, told_of_reference, in_run, in_raw, DoctypePhase, keyword, closed, doctype_on, at_first, verdict}
 use Rattle.rx_pages.proofs.Reading.{markup_is}
 use Rattle.rx_pages.proofs.FirstFronts.{NoFront, NoneBefore}
-use Rattle.rx_pages.proofs.TagRuns.{is_first, markup_tag, KnownEnd, is_known_by, end_more, known_at, Known, in_markup', in_raw', is_known}
+use Rattle.rx_pages.proofs.TagRuns.{KnownEnd, is_known_by, end_more, known_at, Known, in_markup', in_raw', is_known}
 use Rattle.rx_pages.proofs.RawEnds.{is_raw_name, end_reads, ends_raw}
 use Rattle.rx_terms.proofs.Bools.{both, neither, either, not_both_ways, split}
 use Rattle.rx_reader.proofs.Classes.{of_one}
@@ -35,6 +35,7 @@ use Rattle.rx_reader.proofs.Fronts.{equal}
 use Rattle.rx_pages.proofs.Contents.{same_is}
 use Rattle.rx_reader.proofs.TagLaws.{spells_each, tag_on-append, repeats_once}
 use Rattle.rx_reader.proofs.TagFaultLaws.{refuses_each_fault}
+use Rattle.rx_pages.proofs.Markup.{is_first, markup_tag}
 
 -- the contents of a syntax
 abbrev pub occurs : Syntax → Content → Bool

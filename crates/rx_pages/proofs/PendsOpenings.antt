@@ -25,7 +25,7 @@ use Rattle.rx_pages.proofs.Comments.{none_if, bogus_at}
 use Rattle.rx_pages.proofs.Doctypes.{no_end}
 use Rattle.rx_pages.proofs.Openings.{NoOpening, no_opening, refused_first}
 use Rattle.rx_pages.proofs.FirstFronts.{NoFront, no_front_nil, none_before_nil, no_front_snoc, first_here, begins_exactly}
-use Rattle.rx_pages.proofs.TagRuns.{is_first, in_markup'}
+use Rattle.rx_pages.proofs.TagRuns.{in_markup'}
 use Rattle.rx_pages.proofs.Pends.{occurs, Pends, in_a_tag, in_question, in_instruction, in_bogus, in_html_comment, in_strict, in_a_doctype, in_a_section, in_an_opening, Out, tag_out}
 use Rattle.rx_pages.proofs.PendsMarks.{by_whole, as_verdict}
 use Rattle.rx_terms.proofs.Bools.{both, neither, either, not_both_ways, by_test, split, untrue}
@@ -33,6 +33,7 @@ use Rattle.rx_reader.proofs.Classes.{of_one}
 use Rattle.rx_reader.proofs.Fronts.{equal, has_end}
 use Rattle.std.proofs.Math.Bool.{and-false}
 use Rattle.rx_reader.proofs.TagLaws.{repeats_once}
+use Rattle.rx_pages.proofs.Markup.{is_first}
 
 outside_html : (i : Content) → has_markup i ≡ true → occurs Html i ≡ true → has_less_than i ≡ false → i ≡ content.Outside
 outside_html content.Outside m o h = refl

@@ -1,38 +1,37 @@
 -- A run that is known to be a tag is read as one.
 use Rattle.std.proofs.Common.{suc, ◌≡◌, ◌≢◌, ◌∙◌, ℕ, ◌+◌, ◌≤◌, length, take, Bool, true, false, [], ◌∷◌, ◌++◌, Some, Ok, Err, refl, ap, sym, subst, append-nil, append_assoc, inl, inr, ◌⊎◌, arith}
-use Rattle.std.specs.Prelude.{◌&&◌, ◌||◌, ◌==◌, not, drop}
+use Rattle.std.specs.Prelude.{◌&&◌, ◌==◌, not, drop}
 use Rattle.std.proofs.lemmas.Bool.{and_parts, cond-true, cond-false, and_right}
 use Rattle.std.proofs.Math.Seq.{take-append_seam, drop-append_seam}
 use Rattle.std.proofs.lemmas.List.{length-append, length-map, take-append-drop}
 use Rattle.rx_terms.specs.Ascii.{lowered_char, solidus, less_than_sign}
 use Rattle.rx_terms.specs.Text.{Chars, begins_with, lowered}
 use Rattle.rx_chars.specs.declared.syntax.Syntax.{Syntax}
-use Rattle.rx_chars.specs.declared.syntax.Syntax.TheVariants.{Html, Xhtml}
 use Rattle.rx_grammar.specs.declared.contents.Content.{Content}
 use Rattle.rx_grammar.specs.declared.contents.Content.TheVariants as content
 use Rattle.rx_grammar.specs.declared.faults.Kind.{Kind}
 use Rattle.rx_grammar.specs.declared.faults.Kind.TheVariants.{BadTag}
 use Rattle.rx_grammar.specs.Names.{same, name_of_raw}
 use Rattle.rx_grammar.specs.References.{meaning}
-use Rattle.rx_grammar.specs.Shapes.{begins_tag, ends_name, begins}
+use Rattle.rx_grammar.specs.Shapes.{ends_name, begins}
 use Rattle.rx_grammar.specs.TagFaults.{TagFault}
-use Rattle.rx_grammar.specs.Spelling.{has_markup, raw_name, begins_end, stops_end, begins_markup}
+use Rattle.rx_grammar.specs.Spelling.{has_markup, raw_name, begins_end, stops_end}
 use Rattle.rx_grammar.specs.PageFaults.{is_known_end, is_known_tag}
-use Rattle.rx_reader.specs.Tables.{is_html, is_last}
+use Rattle.rx_reader.specs.Tables.{is_last}
 use Rattle.rx_reader.specs.TagReader.{TagState, fresh, moved, checked, tag_step, tag_step_on, tag_on}
 use Rattle.rx_reader.specs.Laws.{ReadsOn}
-use Rattle.rx_pages.specs.Scanner.{goes_on, refused, told_of_tag, in_tag, in_raw, in_markup, is_mark, verdict, GoesOn}
+use Rattle.rx_pages.specs.Scanner.{goes_on, refused, told_of_tag, in_tag, in_raw, verdict, GoesOn}
 use Rattle.rx_pages.proofs.Reading.{all_go, markup_is, raw_is}
 use Rattle.rx_pages.proofs.RawText.{begins_end_front}
 use Rattle.rx_pages.proofs.Contents.{same_is}
 use Rattle.rx_pages.proofs.Refusals.{IsRefused}
-use Rattle.rx_terms.proofs.Bools.{both, either, not_both_ways, by_test}
-use Rattle.rx_reader.proofs.Classes.{of_one}
+use Rattle.rx_terms.proofs.Bools.{both, by_test}
 use Rattle.rx_reader.proofs.Fronts.{two_fronts, begins_append}
 use Rattle.rx_reader.proofs.TagLaws.{last_none, on_err, tag_on-append}
 use Rattle.rx_reader.proofs.TagFaultLaws.{parts, is_refused}
 use Rattle.std.proofs.Math.Bool.{and-false}
 use Rattle.rx_reader.proofs.OneToken.{same_self}
+use Rattle.rx_pages.proofs.Markup.{is_first, markup_tag}
 
 -- The fronts of what is read as a tag are read so.
 pub after_last : (s : Syntax) (st : TagState) (c : ℕ) (text : Chars) (last : TagState) → is_last st.phase ≡ true → tag_on s (meaning s) (Ok st) (c ∷ text) ≡ Ok last → ⊥
@@ -56,37 +55,6 @@ in_tag_goes s f d r = ap told_of_tag r.run ∙ cond-false _ _ _ r.unfinished
 
 in_tag_refuses : (s : Syntax) (kind : Kind) (f : Chars) (d : ℕ) (r : ReadsOn s f) → tag_step s (meaning s) r.reached d ≡ Err kind → in_tag s f d ≡ refused kind
 in_tag_refuses s kind f d r h = ap told_of_tag (tag_on-append s (meaning s) (Ok fresh) f (d ∷ []) ∙ (ap (λ o. tag_step_on s (meaning s) o d) r.run ∙ h))
-
--- After `<` a solidus or what begins a name tells that a tag stands there.
-abbrev pub is_first : Syntax → ℕ → Bool
-is_first s c = c == solidus || begins_tag s c
-
-not_first : (s : Syntax) (c d : ℕ) → is_first s c ≡ true → is_first s d ≡ false → (c == d) ≡ false
-not_first s c d h n = by_test {G = (c == d) ≡ false} (c == d) (λ e. absurd (not_both_ways (is_first s c) h (of_one (λ x. is_first s x ≡ false) c d e n))) (λ e. e)
-
-no_mark : (s : Syntax) (c : ℕ) → is_first s c ≡ true → is_mark c ≡ false
-no_mark Html c h = rw (not_first Html c 33 h refl, not_first Html c 63 h refl) refl
-no_mark Xhtml c h = rw (not_first Xhtml c 33 h refl, not_first Xhtml c 63 h refl) refl
-
-no_text : (s : Syntax) (c : ℕ) → is_first s c ≡ true → (is_html s && not (begins_markup c)) ≡ false
-no_text Html c h = elim (either (c == solidus) (begins_tag Html c) h) [ inl e ↦ of_one (λ x. not (begins_markup x) ≡ false) c solidus e refl | inr e ↦ rw e refl ]
-no_text Xhtml c h = refl
-
-pub markup_tag : (s : Syntax) (i : Content) (text f : Chars) (d : ℕ) (more : Chars) → begins (is_first s) text ≡ true → text ≡ f ++ d ∷ more → in_markup s i f d ≡ in_tag s f d
-markup_tag s i text [] d more h e =
-    let k : is_first s d ≡ true = ap (begins (is_first s)) (sym e) ∙ h in
-    cond-false _ _ _ (no_mark s d k) ∙ cond-false _ _ _ (no_text s d k)
-markup_tag s i text (x ∷ f) d more h e =
-    let k : is_first s x ≡ true = ap (begins (is_first s)) (sym e) ∙ h in
-    cond-false _ _ _ (no_bang' s x k) ∙ cond-false _ _ _ (no_question' s x k)
-  where
-    no_bang' : (s : Syntax) (x : ℕ) → is_first s x ≡ true → (x == 33) ≡ false
-    no_bang' Html x k = not_first Html x 33 k refl
-    no_bang' Xhtml x k = not_first Xhtml x 33 k refl
-
-    no_question' : (s : Syntax) (x : ℕ) → is_first s x ≡ true → (x == 63) ≡ false
-    no_question' Html x k = not_first Html x 63 k refl
-    no_question' Xhtml x k = not_first Xhtml x 63 k refl
 
 -- In raw text the whole name and a character that ends it do.
 pub record KnownEnd (name text : Chars) : Type 0 where
