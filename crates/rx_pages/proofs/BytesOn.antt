@@ -34,6 +34,7 @@ use Rattle.rx_pages.proofs.FrontOn.{Here, Next, Decided, pending, before_next, r
 use Rattle.rx_pages.proofs.Judged.{unfinished_goes_on}
 use Rattle.rx_pages.specs.Scanner as scanner
 use Rattle.rx_pages.proofs.KnownTags.{one_unknown}
+use Rattle.rx_pages.proofs.Standing.{below}
 
 pub encodes_more : (cs : List ℕ) (c : ℕ) → encodes (cs ++ c ∷ []) ≡ encodes cs ++ encode c
 encodes_more [] c = append-nil (encode c)
@@ -59,9 +60,6 @@ zero_form (p ∷ q ∷ part) byte h = absurd (cc)
 
 over : (a b : ℕ) → nat_le a b ≡ true → a ≤ b
 over a b h = grind (arith, nat_tests)
-
-below : (a b : ℕ) → nat_le a b ≡ false → b < a
-below a b h = grind (arith, nat_tests)
 
 pub after_only : {syntax : Syntax} {depth : ℕ} {items : List Item} {line : Line} {phase : Phase} → Stands syntax depth items line phase → phase ≡ after → (tree : Tree) × Document syntax depth items tree
 after_only (ended tree d) h = (tree, d)

@@ -116,10 +116,7 @@ module _ (syntax : Syntax) (depth : ℕ) (meant : Nesting → Type 0) (careless 
       subst (λ x. Reads syntax depth meant (outside_at (before stood)) (root ∷ from) later x) f.is
       (whole syntax depth meant careless [] (before stood) left root u from inner inner_tree end later later i (subst (λ x. Opens syntax x root u) p o) refl (room left d) (root_ready stood u.name (f.is_name ∙ n)) (sym (ap (λ x. is_alone syntax x u) p) ∙ isnt)
       (subst (λ x. Drops (drops_line_feed x u) (place_in syntax x u.name).content from inner) p drop) (ap (λ x. hides x u) p) (λ more e2. e2))
-  root_reads root t inside stood (unclosed {parent = parent} {after = rest} item u o isnt drop hin no_row omits hs) p d k n e later g told = absurd (no_way (sym (no_end_outside parent u.name rest) ∙ (sym (ap (λ x. is_ended_by x parent u.name rest) p) ∙ omits)))
-    where
-      no_way : false ≡ true → ⊥
-      no_way h = cc
+  root_reads root t inside stood (unclosed {parent = parent} {after = rest} item u o isnt drop hin no_row omits hs) p d k n e later g told = absurd (let q : false ≡ true = sym (no_end_outside parent u.name rest) ∙ (sym (ap (λ x. is_ended_by x parent u.name rest) p) ∙ omits) in cc)
 
 -- what a page's tokens tell
 pub record TellsTree (syntax : Syntax) (depth : ℕ) (meant : Nesting → Type 0) (items : List Item) (tree : Tree) : Type 0 where

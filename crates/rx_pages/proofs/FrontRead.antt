@@ -75,10 +75,7 @@ mark_some : (c : ℕ) → (c == byte_order_mark) ≡ true → (c == 0) ≡ false
 mark_some c h = grind (arith, nat_tests)
 
 some_of : (c : ℕ) → not (as_line_end c == 0) ≡ true → not (c == 0) ≡ true
-some_of c h = by_test (c == 0) (λ e. absurd (false_true (sym (ap not (nul_entry c e)) ∙ h))) (λ e. rw e refl)
-  where
-    false_true : false ≡ true → ⊥
-    false_true p = cc
+some_of c h = by_test (c == 0) (λ e. absurd (let q : false ≡ true = sym (ap not (nul_entry c e)) ∙ h in cc)) (λ e. rw e refl)
 
 no_nul_chars : (after_return : Bool) (start : ℕ) (cs : List ℕ) → has_no_nul (entered after_return (placed start cs)) ≡ true → no_nuls cs ≡ true
 no_nul_chars after_return start [] h = refl

@@ -32,6 +32,7 @@ use Rattle.rx_pages.proofs.FaultWalk.{Decides, Hits, page_hits}
 use Rattle.rx_pages.proofs.FrontRead.{AllBelow, page_rises, page_no_nul}
 use Rattle.rx_pages.proofs.Front.{fronts_lead}
 use Rattle.rx_pages.proofs.Tokens.{values_append}
+use Rattle.std.proofs.Math.Bool.{and-true}
 
 -- no run is kept outside the root
 kept_inside : (s : Syntax) (i : Content) (text : Chars) (next : Option ℕ) (token : Token) → Spells s i text next token → IsKept token → i ≢ content.Outside
@@ -40,15 +41,11 @@ kept_inside s i _ next _ (spelling.a_raw_run text name r h b) k = λ o. (let w =
 kept_inside s i _ next _ (spelling.a_kept_run run k h b) w = λ o. (let w = sym (ap spelling.keeps_runs o) ∙ k in cc)
 kept_inside s i _ next _ _ (is_kept x e) = absurd (cc)
 
-and_true : (b : Bool) → (b && true) ≡ false → b ≡ false
-and_true true e = e
-and_true false e = refl
-
 -- inside it every character begins a token or is one
 text_inside : (i : Content) (c : ℕ) → i ≢ content.Outside → (c == less_than_sign || (c == ampersand && has_references i)) ≡ false → is_text i c ≡ true
 text_inside content.Outside c o h = absurd (o refl)
 text_inside (content.Raw name) c o h = rw (neither (c == less_than_sign) (c == ampersand && false) h).0 refl
-text_inside _ c o h = let n = neither (c == less_than_sign) (c == ampersand && true) h in rw (n.0, and_true (c == ampersand) n.1) refl
+text_inside _ c o h = let n = neither (c == less_than_sign) (c == ampersand && true) h in rw (n.0, sym (and-true (c == ampersand)) ∙ n.1) refl
 
 module _ (syntax : Syntax) (limits : Limits) where
   -- a character of text decides nothing

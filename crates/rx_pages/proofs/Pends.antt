@@ -36,6 +36,7 @@ use Rattle.rx_pages.proofs.Contents.{same_is}
 use Rattle.rx_reader.proofs.TagLaws.{spells_each, tag_on-append, repeats_once}
 use Rattle.rx_reader.proofs.TagFaultLaws.{refuses_each_fault}
 use Rattle.rx_pages.proofs.Markup.{is_first, markup_tag}
+use Rattle.std.proofs.Math.Bool.{and-true}
 
 -- the contents of a syntax
 abbrev pub occurs : Syntax → Content → Bool
@@ -92,11 +93,7 @@ less s _ = at_less_than refl
 no_text : (c : ℕ) (b : Bool) (G : Type 0) → (c == less_than_sign || (c == ampersand && true)) ≡ false → not (c == less_than_sign || c == ampersand) ≡ false → G
 no_text c b G h k =
     let n = neither (c == less_than_sign) (c == ampersand && true) h in
-    absurd (not_both_ways (not (c == less_than_sign || c == ampersand)) (rw (n.0, and_none (c == ampersand) n.1) refl) k)
-  where
-    and_none : (a : Bool) → (a && true) ≡ false → a ≡ false
-    and_none true h = absurd (cc)
-    and_none false h = refl
+    absurd (not_both_ways (not (c == less_than_sign || c == ampersand)) (rw (n.0, sym (and-true (c == ampersand)) ∙ n.1) refl) k)
 
 outside : (s : Syntax) (i : Content) (c : ℕ) → (c == less_than_sign || (c == ampersand && has_references i)) ≡ false → is_text i c ≡ false → FaultyBy s i kind.Outside (c ∷ [])
 outside s content.Outside c h k = λ depth items line phase. faults.outside_text c refl k (other_than c 60 (neither (c == less_than_sign) _ h).0)

@@ -101,11 +101,8 @@ pub sections_snoc : (items : List Item) (item : Item) (two last : Bool) → no_s
 sections_snoc [] item two last h k = cond-false _ _ _ k
 sections_snoc (i ∷ items) item two last h k =
     by_test {G = no_section_end ((i ∷ items) ++ item ∷ []) two last ≡ true} (two && is_literal greater_than_sign i)
-    (λ t. absurd (false_true (sym (cond-true _ _ _ t) ∙ h)))
+    (λ t. absurd (let q : false ≡ true = sym (cond-true _ _ _ t) ∙ h in cc))
     (λ t. cond-false _ _ _ t ∙ sections_snoc items item (last && is_literal right_bracket i) (is_literal right_bracket i) (sym (cond-false _ _ _ t) ∙ h) k)
-  where
-    false_true : false ≡ true → ⊥
-    false_true e = cc
 
 pub fit_snoc : (limit : ℕ) (items : List Item) (item : Item) → AllFit limit items → Fits limit item item.token → AllFit limit (items ++ item ∷ [])
 fit_snoc limit [] item h f = (f, tt)

@@ -37,7 +37,7 @@ rows_none : (a b p s d : Bool) → first_row ((a, kind.Outside) ∷ (b, kind.Roo
 rows_none false false false false false h = record { not_ended = refl; named = refl; known = refl; allowed = refl; room = refl }
 rows_none _ _ _ _ _ h = absurd (cc)
 
-below : (depth n : ℕ) → nat_le depth n ≡ false → n < depth
+pub below : (depth n : ℕ) → nat_le depth n ≡ false → n < depth
 below depth n h = grind (arith, nat_tests)
 
 -- tokens that content Outside has
@@ -96,10 +96,7 @@ module _ (syntax : Syntax) (depth : ℕ) (all : List Item) (item : Item) where
   open_at {room = suc left} (s ∷ above) u es op d o among room =
       split StandsAt (is_alone syntax (inside_of syntax (s ∷ above)) u) _ _
       (λ is. still_open depth (extend syntax op (alone item u o is nothing) (rw among refl)) d)
-      (λ isnt. still_open depth (a_child item u op o isnt among pages.no_more nothing refl) (level (length (s ∷ above)) left d))
-    where
-      level : (n left : ℕ) → n + suc left ≡ depth → suc n + left ≡ depth
-      level n left d = omega arith
+      (λ isnt. still_open depth (a_child item u op o isnt among pages.no_more nothing refl) (omega arith))
 
   -- an end tag
   close_at : {room : ℕ} (base : Line) (u : Tag) (es : List Event) → Open syntax room all (item ∷ []) base → length base + room ≡ depth → is_innermost u.name base ≡ true → item.content ≡ (inside_of syntax base).content → item.token ≡ tag u → u.closing ≡ true
@@ -109,10 +106,7 @@ module _ (syntax : Syntax) (depth : ℕ) (all : List Item) (item : Item) where
       let r = closes_root syntax depth item op (record { t = u; content = c; token = k; end = closing; same = sym (same_is s.name u.name is) }) refl (omega arith) in
       ended r.0 r.1
   close_at {room = room} (s ∷ t ∷ above) u es op d is c k closing =
-      still_open depth (closes_child syntax item op (record { t = u; content = c; token = k; end = closing; same = sym (same_is s.name u.name is) }) (λ e. cc)) (level (length (t ∷ above)) room d)
-    where
-      level : (n left : ℕ) → suc n + left ≡ depth → n + suc left ≡ depth
-      level n left d = omega arith
+      still_open depth (closes_child syntax item op (record { t = u; content = c; token = k; end = closing; same = sym (same_is s.name u.name is) }) (λ e. cc)) (omega arith)
 
   -- in open elements a start tag that isn't refused
   start_within : {left : ℕ} (line : Line) (u : Tag) (step : Step) → Open syntax left all (item ∷ []) line → length line + left ≡ depth → item.content ≡ (inside_of syntax line).content → item.token ≡ tag u → u.closing ≡ false
@@ -179,13 +173,10 @@ module _ (syntax : Syntax) (depth : ℕ) (all : List Item) (item : Item) where
         holds = subst (λ x. Holds syntax x outside [] (item ∷ []) [] (pages_element u)) d (alone item u o is nothing);
         trail = pages.no_more;
       }))
-      (λ isnt. still_open depth (subst (λ xs. Open syntax left xs [] (start_of item u ∷ [])) (sym a) (a_root items item u lead o named isnt pages.no_more nothing)) (one_more left d))
+      (λ isnt. still_open depth (subst (λ xs. Open syntax left xs [] (start_of item u ∷ [])) (sym a) (a_root items item u lead o named isnt pages.no_more nothing)) (omega arith))
     where
       pages_element : Tag → Tree
       pages_element u = element (start_of item u) end end
-
-      one_more : (left : ℕ) → suc left ≡ depth → 1 + left ≡ depth
-      one_more left d = omega arith
 
   -- before the root
   start_before : (before_items : List Item) (stood : Bool) → all ≡ before_items ++ item ∷ [] → Lead before_items stood → (u : Tag) (step : Step) → item.content ≡ content.Outside → item.token ≡ tag u → u.closing ≡ false
