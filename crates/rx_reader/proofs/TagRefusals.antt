@@ -1,6 +1,7 @@
 -- Why the reader refuses a character of a tag, and that it refuses each fault.
-use Rattle.std.proofs.Common.{◌≡◌, ℕ, true, false, [], ◌∷◌, ◌++◌, Some, None, Result, Ok, Err, refl, ap, sym, ◌∙◌, append_assoc, append-nil, inl, inr, ◌⊎◌, subst}
+use Rattle.std.proofs.Common.{◌≡◌, ℕ, true, false, cond, [], ◌∷◌, ◌++◌, Some, None, Result, Ok, Err, refl, ap, sym, ◌∙◌, append_assoc, append-nil, inl, inr, ◌⊎◌, subst}
 use Rattle.std.specs.Prelude.{◌&&◌, ◌==◌}
+use Rattle.std.proofs.lemmas.Bool.{cond-true, cond-false}
 use Rattle.rx_terms.specs.Ascii.{is_white_space, solidus, equals_sign, greater_than_sign, quotation_mark, apostrophe, semicolon}
 use Rattle.rx_terms.specs.Text.{Chars}
 use Rattle.rx_chars.specs.declared.syntax.Syntax.{Syntax}
@@ -15,7 +16,7 @@ use Rattle.rx_grammar.specs.TagFaults.{ValueFault, IsInValue, DecidesValue, Begi
 use Rattle.rx_reader.specs.declared.phases.TagPhase.{TagPhase}
 use Rattle.rx_reader.specs.declared.phases.TagPhase.TheVariants as phase
 use Rattle.rx_reader.specs.declared.phases.TagAction.TheVariants as action
-use Rattle.rx_reader.specs.Tables.{Move, move_of, is_last, is_html}
+use Rattle.rx_reader.specs.Tables.{Move, go, move_of, is_last, is_html}
 use Rattle.rx_reader.specs.Values.{Value, no_value_yet, is_run, value_step, value_end, value_on}
 use Rattle.rx_reader.specs.TagReader.{TagState, fresh, with_value, with_attribute, moved, tag_move, tag_move_on, moves_on, checked, tag_step, tag_on, parts_of}
 use Rattle.rx_terms.proofs.Bools.{both, split, by_test, not_both_ways}
@@ -187,24 +188,15 @@ module _ (s : Syntax) (st : TagState) (c : ℕ) (kind : Kind) (r : Refuses s st.
   at_end : (q : TagPhase) → is_quote c ≡ true → checked s (with_attribute q st [] (value_end s st.value)) ≡ Err kind
   at_end q h = ap (λ o. checked s (with_attribute q st [] o)) (r.at_end h)
 
-  double_ends : (c == quotation_mark) ≡ true → move_of s phase.DoubleQuoted c ≡ Some (phase.AfterValue, action.Add)
-  double_ends h = rw h refl
-
-  double_goes : (c == quotation_mark) ≡ false → move_of s phase.DoubleQuoted c ≡ Some (phase.DoubleQuoted, action.Value)
-  double_goes h = rw h refl
-
-  single_ends : (c == apostrophe) ≡ true → move_of s phase.SingleQuoted c ≡ Some (phase.AfterValue, action.Add)
-  single_ends h = rw h refl
-
-  single_goes : (c == apostrophe) ≡ false → move_of s phase.SingleQuoted c ≡ Some (phase.SingleQuoted, action.Value)
-  single_goes h = rw h refl
+  in_quotes : (mark : ℕ) (p : TagPhase) → st.phase ≡ p → move_of s p c ≡ cond (c == mark) (go phase.AfterValue action.Add) (go p action.Value) → ((c == mark) ≡ true → is_quote c ≡ true) → tag_step s (meaning s) st c ≡ Err kind
+  in_quotes mark p e k quote = by_test (c == mark) (λ t. step_by p _ e (k ∙ cond-true _ _ _ t) (at_end phase.AfterValue (quote t))) (λ t. step_by p _ e (k ∙ cond-false _ _ _ t) (within p))
 
   unquoted_goes : c ≡ semicolon → move_of s phase.Unquoted c ≡ Some (phase.Unquoted, action.Value)
   unquoted_goes h = rw h refl
 
   by_phase : (p : TagPhase) → st.phase ≡ p → is_value_phase p ≡ true → (is_unquoted_phase p ≡ true → c ≡ semicolon) → tag_step s (meaning s) st c ≡ Err kind
-  by_phase phase.DoubleQuoted e v u = by_test (c == quotation_mark) (λ t. step_by phase.DoubleQuoted _ e (double_ends t) (at_end phase.AfterValue (double_quote c t))) (λ t. step_by phase.DoubleQuoted _ e (double_goes t) (within phase.DoubleQuoted))
-  by_phase phase.SingleQuoted e v u = by_test (c == apostrophe) (λ t. step_by phase.SingleQuoted _ e (single_ends t) (at_end phase.AfterValue (single_quote c t))) (λ t. step_by phase.SingleQuoted _ e (single_goes t) (within phase.SingleQuoted))
+  by_phase phase.DoubleQuoted e v u = in_quotes quotation_mark phase.DoubleQuoted e refl (double_quote c)
+  by_phase phase.SingleQuoted e v u = in_quotes apostrophe phase.SingleQuoted e refl (single_quote c)
   by_phase phase.Unquoted e v u = step_by phase.Unquoted _ e (unquoted_goes (u refl)) (within phase.Unquoted)
   by_phase _ e v u = absurd (cc)
 
