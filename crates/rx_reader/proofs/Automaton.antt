@@ -15,10 +15,10 @@ use Rattle.rx_reader.specs.declared.phases.TagAction.TheVariants as action
 use Rattle.rx_reader.specs.Tables.{Move, move_of, is_last}
 use Rattle.rx_reader.specs.Cuts.{with_first, cut_by, cut_from}
 use Rattle.rx_terms.proofs.Bools.{split, not_both_ways}
-use Rattle.rx_reader.proofs.Classes.{of_one}
+use Rattle.rx_reader.proofs.Classes.{of_one, of_end}
 use Rattle.rx_reader.proofs.Moves.{is_among, Stays, stays}
 use Rattle.rx_reader.proofs.Sound.{Result as Ended, after_value', sound}
-use Rattle.rx_reader.proofs.Written.{phase_by, phase_on, phases_on, nothing_written, written_phases, shape_written, of_end}
+use Rattle.rx_reader.proofs.Written.{phase_by, phase_on, phases_on, nothing_written, written_phases, shape_written}
 
 pub phases_none : (s : Syntax) (text : Chars) → phases_on s None text ≡ None
 phases_none s [] = refl

@@ -1,6 +1,5 @@
 -- A tag as it is written, read one character at a time: between the grammar's shapes, the table's phases and the reader.
-use Rattle.std.proofs.Common.{◌≡◌, ℕ, true, false, List, [], ◌∷◌, ◌++◌, Option, Some, None, Result, Ok, Err, refl, ap, sym, ◌∙◌, append_assoc, append-nil, inl, inr, subst}
-use Rattle.std.specs.Prelude.{◌||◌, ◌==◌}
+use Rattle.std.proofs.Common.{◌≡◌, ℕ, true, false, List, [], ◌∷◌, ◌++◌, Option, Some, None, Result, Ok, Err, refl, ap, sym, ◌∙◌, append_assoc, append-nil, subst}
 use Rattle.std.specs.List.{list_all}
 use Rattle.std.proofs.lemmas.List.{map-append}
 use Rattle.rx_terms.specs.Ascii.{is_white_space, solidus, greater_than_sign}
@@ -19,8 +18,8 @@ use Rattle.rx_reader.specs.Tables.{Move, move_of, is_last}
 use Rattle.rx_reader.specs.Cuts.{cut_by, cut_from}
 use Rattle.rx_reader.specs.Values.{Value, no_value_yet, value_step, value_end, step_on, value_on, end_of}
 use Rattle.rx_reader.specs.TagReader.{TagState, fresh, with_value, with_attribute, moved, tag_move, moves_on, is_closing, is_emptied}
-use Rattle.rx_terms.proofs.Bools.{both, either}
-use Rattle.rx_reader.proofs.Classes.{of_white, of_one, tag_char_named}
+use Rattle.rx_terms.proofs.Bools.{both}
+use Rattle.rx_reader.proofs.Classes.{of_end, tag_char_named}
 use Rattle.rx_reader.proofs.Sound.{Result as Ended, added}
 use Rattle.rx_reader.proofs.Complete.{complete}
 use Rattle.rx_reader.proofs.TextSound.{sound as text_sound, value-append}
@@ -99,14 +98,6 @@ pub record Arrives (s : Syntax) (from : Written) (text : Chars) (tag : Tag) : Ty
   pub reads : written_on s (Some from) text ≡ Some last
   pub whole : is_last last.phase ≡ true
   pub tag_is : written_tag last ≡ tag
-
--- what ends a name is read as after a value
-pub of_end : (P : ℕ → Type 0) (c : ℕ) → ends_name c ≡ true → P 9 → P 10 → P 12 → P 13 → P 32 → P solidus → P greater_than_sign → P c
-of_end P c h p9 p10 p12 p13 p32 p47 p62 =
-    elim (either (is_white_space c || c == solidus) _ h) [
-      | inr e ↦ of_one P c greater_than_sign e p62
-      | inl e ↦ elim (either (is_white_space c) _ e) [ inr e ↦ of_one P c solidus e p47 | inl e ↦ of_white P c e p9 p10 p12 p13 p32 ]
-    ]
 
 module _ (s : Syntax) where
   step_to : (from to : Written) (c : ℕ) (text : Chars) (tag : Tag) → written_step s (Some from) c ≡ Some to → Arrives s to text tag → Arrives s from (c ∷ text) tag
