@@ -142,13 +142,7 @@ no_value_cut : (rest key : Chars) (r : List Attribute × Bool) → begins ends_n
 no_value_cut [] key r b h = absurd (cc)
 no_value_cut (c ∷ text) key r b h =
     let P : ℕ → Type 0 = λ x. cut_from Html (x ∷ text) phase.AfterValue [] [] ≡ Some r → cut_from Html (x ∷ text) phase.Key key [] ≡ with_first (key, []) (Some r) in
-    elim (either (is_white_space c || c == solidus) _ b) [
-      | inr e ↦ of_one P c greater_than_sign e (λ k. ap (λ y. with_first (key, []) y) k) h
-      | inl e ↦ elim (either (is_white_space c) _ e) [
-        | inr e ↦ of_one P c solidus e (λ k. ap (λ y. with_first (key, []) y) k) h
-        | inl e ↦ of_white P c e (lone text key r) (lone text key r) (lone text key r) (lone text key r) (lone text key r) h
-      ]
-    ]
+    of_end P c b (lone text key r) (lone text key r) (lone text key r) (lone text key r) (lone text key r) (λ k. ap (λ y. with_first (key, []) y) k) (λ k. ap (λ y. with_first (key, []) y) k) h
 
 unquoted_cut : (rest key value : Chars) (r : List Attribute × Bool) → begins ends_unquoted rest ≡ true → cut_from Html rest phase.AfterValue [] [] ≡ Some r → cut_from Html rest phase.Unquoted key value ≡ with_first (key, value) (Some r)
 unquoted_cut [] key value r b h = absurd (cc)
