@@ -21,25 +21,13 @@ use Rattle.rx_pages.specs.PageReader.{first_of, is_too_long, spot_of, Progress, 
 use Rattle.rx_pages.proofs.EntrySteps.{Stood, entry_step}
 use Rattle.rx_pages.proofs.ByteSteps.{progress_at, settle, last_read, bytes_on}
 use Rattle.rx_pages.proofs.CharSteps.{passes, passes_on, entry_on, entry_at}
+use Rattle.rx_pages.proofs.Reading.{Last, no_last, a_last, last_of}
 
 pub no_return : (c : ℕ) → (c == line_feed) ≡ true → (c == carriage_return) ≡ false
 no_return c h = grind (arith, nat_tests)
 
 pub no_mark : (c : ℕ) → (c == byte_order_mark) ≡ true → (c == carriage_return) ≡ false
 no_mark c h = grind (arith, nat_tests)
-
--- a list by its last element
-pub data Snoc (bytes : List ℕ) : Type 0 where
-  none : bytes ≡ [] → Snoc bytes
-  some : (front : List ℕ) (byte : ℕ) → bytes ≡ front ++ byte ∷ [] → Snoc bytes
-
-pub snoc_of : (bytes : List ℕ) → Snoc bytes
-snoc_of [] = none refl
-snoc_of (b ∷ bytes) = by (snoc_of bytes)
-  where
-    by : Snoc bytes → Snoc (b ∷ bytes)
-    by (none e) = some [] b (ap (λ x. b ∷ x) e)
-    by (some front byte e) = some (b ∷ front) byte (ap (λ x. b ∷ x) e)
 
 pub len_positive : (c : ℕ) → 1 ≤ len_utf8 c
 len_positive c = by_test (nat_lt c 0x80) (λ e. rw e (omega arith)) (λ e. rw e (by_test (nat_lt c 0x800) (λ d. rw d (omega arith)) (λ d. rw d (by_test (nat_lt c 0x1_0000) (λ b. rw b (omega arith)) (λ b. rw b (omega arith))))))
@@ -166,9 +154,9 @@ module _ (syntax : Syntax) (limits : Limits) where
     abbrev Step : Type 0
     Step = page_on syntax limits (Ok (progress_at start [] started after_return st)) (encodes (c ∷ cs) ++ rest) ≡ page_on syntax limits (Ok (progress_at hi [] true (ends_return after_return (c ∷ cs)) end)) rest
 
-    by_last : Snoc (encode c) → Step
-    by_last (none e) = let w = len_positive c in let v : length (encode c) ≡ 0 = ap length e in let l = length-encode c in absurd (omega arith)
-    by_last (some front byte form) =
+    by_last : Last (encode c) → Step
+    by_last (no_last e) = let w = len_positive c in let v : length (encode c) ≡ 0 = ap length e in let l = length-encode c in absurd (omega arith)
+    by_last (a_last front byte form) =
         let size : length front + 1 ≡ len_utf8 c = sym (length-append front (byte ∷ [])) ∙ (ap length (sym form) ∙ length-encode c) in
         let page : start + len_utf8 c ≤ limits.page = (let a = hi_is in omega arith) in
         let pages : start + len_utf8 c + length (encodes cs) ≤ limits.page = (let a = hi_is in omega arith) in
@@ -191,7 +179,7 @@ module _ (syntax : Syntax) (limits : Limits) where
         ∙ ap (λ x. page_on syntax limits (Ok (progress_at x [] true (ends_return (c == carriage_return) cs) end)) rest) (sym hi_is))))
 
     step : Step
-    step = by_last (snoc_of (encode c))
+    step = by_last (last_of (encode c))
 
   walk : (cs rest : List ℕ) (start : ℕ) (after_return : Bool) (st end : Stood) → all_scalars cs ≡ true → no_nuls cs ≡ true → start + length (encodes cs) ≤ limits.page
       → Fine (start + length (encodes cs)) st (entered after_return (placed start cs)) end

@@ -19,8 +19,9 @@ use Rattle.rx_pages.specs.PageReader.{first_of, is_too_long, spot_of, page_on}
 use Rattle.rx_pages.proofs.EntrySteps.{Stood, entry_step}
 use Rattle.rx_pages.proofs.ByteSteps.{progress_at, settle}
 use Rattle.rx_pages.proofs.CharSteps.{passes, entry_on, entry_at, too_long_at}
-use Rattle.rx_pages.proofs.CharWalk.{Snoc, none, some, snoc_of, first_among, is_known, first_same, no_nuls, passed_on, entered_on, to_last, len_positive}
+use Rattle.rx_pages.proofs.CharWalk.{first_among, is_known, first_same, no_nuls, passed_on, entered_on, to_last, len_positive}
 use Rattle.rx_pages.proofs.FrontRead.{AllBelow}
+use Rattle.rx_pages.proofs.Reading.{Last, no_last, a_last, last_of}
 
 pub fault_stays : (syntax : Syntax) (limits : Limits) (fault : Fault) (bytes : List ℕ) → page_on syntax limits (Err fault) bytes ≡ Err fault
 fault_stays syntax limits fault [] = refl
@@ -118,11 +119,11 @@ module _ (syntax : Syntax) (limits : Limits) where
     step : (pre : List Entry) → Hits st pre e f → AllBelow limits.page (pre ++ e ∷ [])
         → (test ≡ true → entered false (placed (start + len_utf8 c) cs) ≡ pre ++ e ∷ post)
         → (test ≡ false → entry_at c start (start + len_utf8 c - 1) ∷ entered (c == carriage_return) (placed (start + len_utf8 c) cs) ≡ pre ++ e ∷ post) → Step
-    step pre h b is_over is_in = by (snoc_of (encode c))
+    step pre h b is_over is_in = by (last_of (encode c))
       where
-        by : Snoc (encode c) → Step
-        by (none n) = let w = len_positive c in let v : length (encode c) ≡ 0 = ap length n in let a = length-encode c in absurd (omega arith)
-        by (some front byte form) =
+        by : Last (encode c) → Step
+        by (no_last n) = let w = len_positive c in let v : length (encode c) ≡ 0 = ap length n in let a = length-encode c in absurd (omega arith)
+        by (a_last front byte form) =
             let size : length front + 1 ≡ len_utf8 c = sym (length-append front (byte ∷ [])) ∙ (ap length (sym form) ∙ length-encode c) in
             ap (λ b. page_on syntax limits (Ok (progress_at start [] started after_return st)) b) (append_assoc (encode c) (encodes cs) rest)
             ∙ by_test {G = page_on syntax limits (Ok (progress_at start [] started after_return st)) (encode c ++ (encodes cs ++ rest)) ≡ Err f} test
