@@ -17,14 +17,11 @@ use Rattle.rx_grammar.specs.Items.{Item, last_from, Spelled, no_more, one, value
 use Rattle.rx_terms.proofs.Bools.{both, not_both_ways}
 use Rattle.rx_reader.proofs.Classes.{unless}
 use Rattle.rx_pages.proofs.RawEnds.{IsRawName, is_raw_name}
-
-and_false : (b : Bool) → (b && false) ≡ false
-and_false true = refl
-and_false false = refl
+use Rattle.std.proofs.Math.Bool.{and-false}
 
 none_less : (test : ℕ → Bool) → test 60 ≡ false → (text : Chars) → list_all test (text ++ 60 ∷ []) ≡ false
 none_less test h [] = ap (λ b. b && true) h
-none_less test h (c ∷ text) = ap (λ b. test c && b) (none_less test h text) ∙ and_false (test c)
+none_less test h (c ∷ text) = ap (λ b. test c && b) (none_less test h text) ∙ and-false (test c)
 
 neither_way : (a x b y : Bool) → x ≡ false → y ≡ false → (a && x || b && y) ≡ false
 neither_way a x b y h k = ap (λ z. a && z || b && y) h ∙ (ap (λ z. a && false || b && z) k ∙ by a b)
@@ -52,14 +49,14 @@ no_front : (word name : Chars) → list_all is_letter name ≡ true → begins_w
 no_front [] [] h = refl
 no_front (c ∷ word) [] h = refl
 no_front [] (d ∷ name) h = ap (λ b. b && true) (unless is_letter d (60 == d) (both (is_letter d) _ h).0 (λ e. ap is_letter (sym (eqb-true 60 d e))))
-no_front (c ∷ word) (d ∷ name) h = ap (λ b. lowered_char c == d && b) (no_front word name (both (is_letter d) _ h).1) ∙ and_false (lowered_char c == d)
+no_front (c ∷ word) (d ∷ name) h = ap (λ b. lowered_char c == d && b) (no_front word name (both (is_letter d) _ h).1) ∙ and-false (lowered_char c == d)
 
 no_end : (name text : Chars) → list_all is_letter name ≡ true → begins_end name (text ++ 60 ∷ []) ≡ false
 no_end name [] h = refl
-no_end name (c ∷ text) h = ap (λ b. lowered_char c == solidus && b) (no_front text name h) ∙ and_false (lowered_char c == solidus)
+no_end name (c ∷ text) h = ap (λ b. lowered_char c == solidus && b) (no_front text name h) ∙ and-false (lowered_char c == solidus)
 
 stops_raw : (name text : Chars) → IsRawName name → stops_end name text 60 ≡ true
-stops_raw name text raw = ap (λ b. not b && not (same (lowered text) (solidus ∷ name) && ends_name 60)) (no_end name text raw.letters) ∙ ap not (and_false (same (lowered text) (solidus ∷ name)))
+stops_raw name text raw = ap (λ b. not b && not (same (lowered text) (solidus ∷ name) && ends_name 60)) (no_end name text raw.letters) ∙ ap not (and-false (same (lowered text) (solidus ∷ name)))
 
 pub before_less : (s : Syntax) (i : Content) (text : Chars) (next : Option ℕ) (token : Token) → Spells s i text next token → Spells s i text (Some 60) token
 before_less s i _ next _ (a_tag text t m sp) = a_tag text t m sp

@@ -22,7 +22,7 @@ use Rattle.rx_grammar.specs.Trees.{Tree}
 use Rattle.rx_grammar.specs.Items.{values, next_of, Item, Spelled, no_more}
 use Rattle.rx_grammar.specs.Pages.{has_no_nul, Page, Document}
 use Rattle.rx_grammar.specs.Pages as pages
-use Rattle.rx_grammar.specs.Begun.{Line, inside_of, Phase, before, within, after, Stands, not_begun, still_open, ended}
+use Rattle.rx_grammar.specs.Begun.{Line, inside_of, Phase, before, after, Stands, not_begun, ended}
 use Rattle.rx_grammar.specs.PageFaults.{is_known_tag, token_of, IsShort, IsPart, GoesOn, begins_one, is_one, Before, Reached, FaultAt}
 use Rattle.rx_grammar.specs.PageFaults as faults
 use Rattle.rx_grammar.specs.Laws.{PageOrFault}
@@ -30,9 +30,11 @@ use Rattle.rx_terms.proofs.Bools.{by_test, not_both_ways}
 use Rattle.rx_pages.proofs.CharSteps.{passes, entry_at}
 use Rattle.rx_pages.proofs.CharWalk.{is_started, ends_return}
 use Rattle.rx_pages.proofs.Snocs.{entered_one, page_snoc}
-use Rattle.rx_pages.proofs.FrontOn.{Here, Next, Decided, pending, known_one, before_next, reached, on_entry}
+use Rattle.rx_pages.proofs.FrontOn.{Here, Next, Decided, pending, before_next, reached, on_entry}
 use Rattle.rx_pages.proofs.Judged.{unfinished_goes_on}
 use Rattle.rx_pages.specs.Scanner as scanner
+use Rattle.rx_pages.proofs.KnownTags.{one_unknown}
+use Rattle.rx_pages.proofs.Standing.{below}
 
 pub encodes_more : (cs : List ℕ) (c : ℕ) → encodes (cs ++ c ∷ []) ≡ encodes cs ++ encode c
 encodes_more [] c = append-nil (encode c)
@@ -59,13 +61,9 @@ zero_form (p ∷ q ∷ part) byte h = absurd (cc)
 over : (a b : ℕ) → nat_le a b ≡ true → a ≤ b
 over a b h = grind (arith, nat_tests)
 
-below : (a b : ℕ) → nat_le a b ≡ false → b < a
-below a b h = grind (arith, nat_tests)
-
 pub after_only : {syntax : Syntax} {depth : ℕ} {items : List Item} {line : Line} {phase : Phase} → Stands syntax depth items line phase → phase ≡ after → (tree : Tree) × Document syntax depth items tree
-after_only (not_begun stood lead) h = absurd (cc)
-after_only (still_open depth op levels) h = absurd (cc)
 after_only (ended tree d) h = (tree, d)
+after_only _ h = absurd (cc)
 
 -- the first byte of a run that is known to be a tag
 first_known : (s : Syntax) (line : Line) (run : List Entry) (a b : List ℕ) → is_known_tag s (inside_of s line).content (values run) ≡ true → token_of a run ≡ token_of b run
@@ -256,7 +254,7 @@ module _ (syntax : Syntax) (limits : Limits) where
           where
             by : (run : List Entry) → scanner.GoesOn syntax (inside_of syntax b.line).content [] (values run) → Reached syntax limits (encodes chars) b.items b.line b.phase (run ++ entry ∷ []) → is_known_tag syntax (inside_of syntax b.line).content (values (run ++ entry ∷ [])) ≡ true
                 → token_of (encodes chars) (run ++ entry ∷ []) + limits.tag ≤ entry.last → (is_known_tag syntax (inside_of syntax b.line).content (values run) ≡ true → at < token_of (encodes b.chars) run + limits.tag) → Faults more
-            by [] g r k o f = absurd (known_one syntax (inside_of syntax b.line).content entry.value k)
+            by [] g r k o f = absurd (one_unknown syntax (inside_of syntax b.line).content entry.value k)
             by (d ∷ run) g r k o f =
                 let unknown : is_known_tag syntax (inside_of syntax b.line).content (values (d ∷ run)) ≡ false =
                 by_test {G = is_known_tag syntax (inside_of syntax b.line).content (values (d ∷ run)) ≡ false} (is_known_tag syntax (inside_of syntax b.line).content (values (d ∷ run))) (λ t. (let w = f t in let l = last_is in absurd (omega arith))) (λ t. t) in
@@ -371,8 +369,7 @@ module _ (syntax : Syntax) (limits : Limits) where
       where
         by_phase : b.run ≡ [] → b.part ≡ [] → (phase : Phase) → b.phase ≡ phase → Ends bytes
         by_phase r p after a = whole_page r p a
-        by_phase r p (before stood) a = unended (λ x y z. absurd (cc))
-        by_phase r p within a = unended (λ x y z. absurd (cc))
+        by_phase r p _ a = unended (λ x y z. absurd (cc))
 
         by_part : b.run ≡ [] → (part : List ℕ) → b.part ≡ part → Ends bytes
         by_part r [] p = by_phase r p b.phase refl

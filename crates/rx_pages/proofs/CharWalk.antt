@@ -8,6 +8,7 @@ use Rattle.std.proofs.lemmas.List.{length-append}
 use Rattle.std.proofs.lemmas.Str.{length-encode}
 use Rattle.std.proofs.lemmas.Bool.Decides.{nat_tests}
 use Rattle.std.proofs.lemmas.Bool.{and_parts, cond-true, cond-false}
+use Rattle.std.proofs.Math.Bool.{or-false}
 use Rattle.std.specs.List.{list_all}
 use Rattle.rx_chars.specs.declared.syntax.Syntax.{Syntax}
 use Rattle.rx_chars.specs.Characters.{Entry, byte_order_mark, line_feed, carriage_return, line_end_entry, placed, entered, without_mark}
@@ -20,6 +21,7 @@ use Rattle.rx_pages.specs.PageReader.{first_of, is_too_long, spot_of, Progress, 
 use Rattle.rx_pages.proofs.EntrySteps.{Stood, entry_step}
 use Rattle.rx_pages.proofs.ByteSteps.{progress_at, settle, last_read, bytes_on}
 use Rattle.rx_pages.proofs.CharSteps.{passes, passes_on, entry_on, entry_at}
+use Rattle.rx_pages.proofs.Reading.{Last, no_last, a_last, last_of}
 
 pub no_return : (c : ℕ) → (c == line_feed) ≡ true → (c == carriage_return) ≡ false
 no_return c h = grind (arith, nat_tests)
@@ -27,21 +29,15 @@ no_return c h = grind (arith, nat_tests)
 pub no_mark : (c : ℕ) → (c == byte_order_mark) ≡ true → (c == carriage_return) ≡ false
 no_mark c h = grind (arith, nat_tests)
 
--- a list by its last element
-pub data Snoc (bytes : List ℕ) : Type 0 where
-  none : bytes ≡ [] → Snoc bytes
-  some : (front : List ℕ) (byte : ℕ) → bytes ≡ front ++ byte ∷ [] → Snoc bytes
-
-pub snoc_of : (bytes : List ℕ) → Snoc bytes
-snoc_of [] = none refl
-snoc_of (b ∷ bytes) = by (snoc_of bytes)
-  where
-    by : Snoc bytes → Snoc (b ∷ bytes)
-    by (none e) = some [] b (ap (λ x. b ∷ x) e)
-    by (some front byte e) = some (b ∷ front) byte (ap (λ x. b ∷ x) e)
-
 pub len_positive : (c : ℕ) → 1 ≤ len_utf8 c
 len_positive c = by_test (nat_lt c 0x80) (λ e. rw e (omega arith)) (λ e. rw e (by_test (nat_lt c 0x800) (λ d. rw d (omega arith)) (λ d. rw d (by_test (nat_lt c 0x1_0000) (λ b. rw b (omega arith)) (λ b. rw b (omega arith))))))
+
+-- where characters end
+pub end_is : (start c : ℕ) (cs : List ℕ) → start + length (encodes (c ∷ cs)) ≡ start + len_utf8 c + length (encodes cs)
+end_is start c cs = let n = length-append (encode c) (encodes cs) in let l = length-encode c in omega arith
+
+pub end_zero : (c : ℕ) (cs : List ℕ) → length (encodes (c ∷ cs)) ≡ 0 + len_utf8 c + length (encodes cs)
+end_zero c cs = let n = length-append (encode c) (encodes cs) in let l = length-encode c in omega arith
 
 -- the first entry of some characters stands among their bytes
 pub record Among (start : ℕ) (cs : List ℕ) (e : Entry) : Type 0 where
@@ -149,54 +145,56 @@ module _ (syntax : Syntax) (limits : Limits) where
       (pages : at + length (encodes cs) ≤ limits.page) (ar : Bool) (next : Stood) → Fine (at + length (encodes cs)) next (entered ar (placed at cs)) end
       → page_on syntax limits (Ok (progress_at at [] true ar next)) (encodes cs ++ rest) ≡ page_on syntax limits (Ok (progress_at (at + length (encodes cs)) [] true (ends_return ar cs) end)) rest
 
-  pub walk : (cs rest : List ℕ) (start : ℕ) (after_return : Bool) (st end : Stood) → all_scalars cs ≡ true → no_nuls cs ≡ true → start + length (encodes cs) ≤ limits.page
+  -- a character, which is passed over or entered, and the rest
+  module _ (c : ℕ) (cs rest : List ℕ) (start hi : ℕ) (hi_is : hi ≡ start + len_utf8 c + length (encodes cs)) (started after_return test : Bool) (st end : Stood) (same : passes started after_return c ≡ test) (is_scalar : IsScalar c) (nonzero : (c == 0) ≡ false)
+      (p : hi ≤ limits.page) (no_cr : test ≡ true → (c == carriage_return) ≡ false)
+      (skips : test ≡ true → Fine hi st (entered false (placed (start + len_utf8 c) cs)) end)
+      (enters : test ≡ false → Fine hi st (entry_at c start (start + len_utf8 c - 1) ∷ entered (c == carriage_return) (placed (start + len_utf8 c) cs)) end)
+      (ih : Rest cs rest (start + len_utf8 c) end) where
+    abbrev Step : Type 0
+    Step = page_on syntax limits (Ok (progress_at start [] started after_return st)) (encodes (c ∷ cs) ++ rest) ≡ page_on syntax limits (Ok (progress_at hi [] true (ends_return after_return (c ∷ cs)) end)) rest
+
+    by_last : Last (encode c) → Step
+    by_last (no_last e) = let w = len_positive c in let v : length (encode c) ≡ 0 = ap length e in let l = length-encode c in absurd (omega arith)
+    by_last (a_last front byte form) =
+        let size : length front + 1 ≡ len_utf8 c = sym (length-append front (byte ∷ [])) ∙ (ap length (sym form) ∙ length-encode c) in
+        let page : start + len_utf8 c ≤ limits.page = (let a = hi_is in omega arith) in
+        let pages : start + len_utf8 c + length (encodes cs) ≤ limits.page = (let a = hi_is in omega arith) in
+        let more : page_on syntax limits (Ok (progress_at start [] started after_return st)) (encodes (c ∷ cs) ++ rest) ≡ page_on syntax limits (Ok (progress_at start [] started after_return st)) (encode c ++ (encodes cs ++ rest))
+        = ap (λ b. page_on syntax limits (Ok (progress_at start [] started after_return st)) b) (append_assoc (encode c) (encodes cs) rest) in
+        by_test {G = Step} test
+        (λ t.
+        let f : Fine hi st (entered false (placed (start + len_utf8 c) cs)) end = skips t in
+        let later : (e : Entry) (es : List Entry) → entered false (placed (start + len_utf8 c) cs) ≡ e ∷ es → start + length front < e.last = λ e es h. (let a = first_among false (start + len_utf8 c) cs e es h in let b = a.from in let d = a.order in omega arith) in
+        let k : is_known st ≡ true → start + length front < first_of st.run start + limits.tag = λ w. (let b = before_next hi (start + length front) st end (entered false (placed (start + len_utf8 c) cs)) f later (λ h. let a = hi_is in omega arith) w in let d = first_same st start (start + length front) w in omega arith) in
+        more ∙ (passed_on c cs (encodes cs ++ rest) start started after_return st end front byte is_scalar form size nonzero page (same ∙ t) k
+        ∙ (ih pages false st (subst (λ x. Fine x st (entered false (placed (start + len_utf8 c) cs)) end) hi_is f)
+        ∙ (ap (λ x. page_on syntax limits (Ok (progress_at x [] true (ends_return false cs) end)) rest) (sym hi_is)
+        ∙ ap (λ b. page_on syntax limits (Ok (progress_at hi [] true (ends_return b cs) end)) rest) (sym (no_cr t))))))
+        (λ t.
+        let q : start + len_utf8 c - 1 ≡ start + length front = omega arith in
+        let f : Fine hi st (entry_at c start (start + length front) ∷ entered (c == carriage_return) (placed (start + len_utf8 c) cs)) end = subst (λ x. Fine hi st (entry_at c start x ∷ entered (c == carriage_return) (placed (start + len_utf8 c) cs)) end) q (enters t) in
+        more ∙ (entered_on c cs (encodes cs ++ rest) start started after_return st end front byte is_scalar form size nonzero page (same ∙ t) f.2.0 f.0 f.1 f.2.1.0
+        ∙ (ih pages (c == carriage_return) f.2.0 (subst (λ x. Fine x f.2.0 (entered (c == carriage_return) (placed (start + len_utf8 c) cs)) end) hi_is f.2.1.1)
+        ∙ ap (λ x. page_on syntax limits (Ok (progress_at x [] true (ends_return (c == carriage_return) cs) end)) rest) (sym hi_is))))
+
+    step : Step
+    step = by_last (last_of (encode c))
+
+  walk : (cs rest : List ℕ) (start : ℕ) (after_return : Bool) (st end : Stood) → all_scalars cs ≡ true → no_nuls cs ≡ true → start + length (encodes cs) ≤ limits.page
       → Fine (start + length (encodes cs)) st (entered after_return (placed start cs)) end
       → page_on syntax limits (Ok (progress_at start [] true after_return st)) (encodes cs ++ rest) ≡ page_on syntax limits (Ok (progress_at (start + length (encodes cs)) [] true (ends_return after_return cs) end)) rest
   walk [] rest start after_return st end s z p f =
       let e : start + 0 ≡ start = omega arith in
       ap (λ x. page_on syntax limits (Ok (progress_at start [] true after_return x)) rest) f.0 ∙ ap (λ x. page_on syntax limits (Ok (progress_at x [] true after_return end)) rest) (sym e)
   walk (c ∷ cs) rest start after_return st end s z p f =
-      by (λ pages ar next g. walk cs rest (start + len_utf8 c) ar next end (and_parts (scalar c) (all_scalars cs) s).1 (and_parts (not (c == 0)) (no_nuls cs) z).1 pages g) (snoc_of (encode c))
-    where
-      l : length (encode c) ≡ len_utf8 c
-      l = length-encode c
-
-      n : length (encodes (c ∷ cs)) ≡ length (encode c) + length (encodes cs)
-      n = length-append (encode c) (encodes cs)
-
-      hi : start + length (encodes (c ∷ cs)) ≡ start + len_utf8 c + length (encodes cs)
-      hi = let a = n in let b = l in omega arith
-
-      by : Rest cs rest (start + len_utf8 c) end → Snoc (encode c) → page_on syntax limits (Ok (progress_at start [] true after_return st)) (encodes (c ∷ cs) ++ rest) ≡ page_on syntax limits (Ok (progress_at (start + length (encodes (c ∷ cs))) [] true (ends_return after_return (c ∷ cs)) end)) rest
-      by ih (none e) = let w = len_positive c in let v : length (encode c) ≡ 0 = ap length e in let a = l in absurd (omega arith)
-      by ih (some front byte form) =
-          let size : length front + 1 ≡ len_utf8 c = sym (length-append front (byte ∷ [])) ∙ (ap length (sym form) ∙ l) in
-          let parts = and_parts (scalar c) (all_scalars cs) s in
-          let zs = and_parts (not (c == 0)) (no_nuls cs) z in
-          let nonzero : (c == 0) ≡ false = untrue (c == 0) zs.0 in
-          let page : start + len_utf8 c ≤ limits.page = (let a = hi in omega arith) in
-          let pages : start + len_utf8 c + length (encodes cs) ≤ limits.page = (let a = hi in omega arith) in
-          let more : page_on syntax limits (Ok (progress_at start [] true after_return st)) (encodes (c ∷ cs) ++ rest) ≡ page_on syntax limits (Ok (progress_at start [] true after_return st)) (encode c ++ (encodes cs ++ rest))
-          = ap (λ b. page_on syntax limits (Ok (progress_at start [] true after_return st)) b) (append_assoc (encode c) (encodes cs) rest) in
-          by_test {G = page_on syntax limits (Ok (progress_at start [] true after_return st)) (encodes (c ∷ cs) ++ rest) ≡ page_on syntax limits (Ok (progress_at (start + length (encodes (c ∷ cs))) [] true (ends_return after_return (c ∷ cs)) end)) rest} (after_return && c == line_feed)
-          (λ t.
-          let f2 : Fine (start + length (encodes (c ∷ cs))) st (entered false (placed (start + len_utf8 c) cs)) end = subst (λ es. Fine (start + length (encodes (c ∷ cs))) st es end) (cond-true _ _ _ t) f in
-          let f3 : Fine (start + len_utf8 c + length (encodes cs)) st (entered false (placed (start + len_utf8 c) cs)) end = subst (λ x. Fine x st (entered false (placed (start + len_utf8 c) cs)) end) hi f2 in
-          let later : (e : Entry) (es : List Entry) → entered false (placed (start + len_utf8 c) cs) ≡ e ∷ es → start + length front < e.last = λ e es h. (let a = first_among false (start + len_utf8 c) cs e es h in let b = a.from in let d = a.order in omega arith) in
-          let k : is_known st ≡ true → start + length front < first_of st.run start + limits.tag = λ w. (let b = before_next (start + length (encodes (c ∷ cs))) (start + length front) st end (entered false (placed (start + len_utf8 c) cs)) f2 later (λ h. let a = hi in omega arith) w in let d = first_same st start (start + length front) w in omega arith) in
-          let is_return : (c == carriage_return) ≡ false = no_return c (and_parts after_return (c == line_feed) t).1 in
-          more ∙ (passed_on c cs (encodes cs ++ rest) start true after_return st end front byte parts.0 form size nonzero page t k
-          ∙ (ih pages false st f3
-          ∙ (ap (λ x. page_on syntax limits (Ok (progress_at x [] true (ends_return false cs) end)) rest) (sym hi)
-          ∙ ap (λ b. page_on syntax limits (Ok (progress_at (start + length (encodes (c ∷ cs))) [] true (ends_return b cs) end)) rest) (sym is_return)))))
-          (λ t.
-          let q : start + len_utf8 c - 1 ≡ start + length front = omega arith in
-          let f2 : Fine (start + length (encodes (c ∷ cs))) st (entry_at c start (start + len_utf8 c - 1) ∷ entered (c == carriage_return) (placed (start + len_utf8 c) cs)) end = subst (λ es. Fine (start + length (encodes (c ∷ cs))) st es end) (cond-false _ _ _ t) f in
-          let f3 : Fine (start + length (encodes (c ∷ cs))) st (entry_at c start (start + length front) ∷ entered (c == carriage_return) (placed (start + len_utf8 c) cs)) end = subst (λ x. Fine (start + length (encodes (c ∷ cs))) st (entry_at c start x ∷ entered (c == carriage_return) (placed (start + len_utf8 c) cs)) end) q f2 in
-          let f4 : Fine (start + len_utf8 c + length (encodes cs)) f3.2.0 (entered (c == carriage_return) (placed (start + len_utf8 c) cs)) end = subst (λ x. Fine x f3.2.0 (entered (c == carriage_return) (placed (start + len_utf8 c) cs)) end) hi f3.2.1.1 in
-          more ∙ (entered_on c cs (encodes cs ++ rest) start true after_return st end front byte parts.0 form size nonzero page t f3.2.0 f3.0 f3.1 f3.2.1.0
-          ∙ (ih pages (c == carriage_return) f3.2.0 f4
-          ∙ ap (λ x. page_on syntax limits (Ok (progress_at x [] true (ends_return (c == carriage_return) cs) end)) rest) (sym hi))))
+      let parts = and_parts (scalar c) (all_scalars cs) s in
+      let zs = and_parts (not (c == 0)) (no_nuls cs) z in
+      step c cs rest start _ (end_is start c cs) true after_return (after_return && c == line_feed) st end refl parts.0 (untrue (c == 0) zs.0) p
+      (λ t. no_return c (and_parts after_return (c == line_feed) t).1)
+      (λ t. subst (λ es. Fine (start + length (encodes (c ∷ cs))) st es end) (cond-true _ _ _ t) f)
+      (λ t. subst (λ es. Fine (start + length (encodes (c ∷ cs))) st es end) (cond-false _ _ _ t) f)
+      (λ pages ar next g. walk cs rest (start + len_utf8 c) ar next end parts.1 zs.1 pages g)
 
   -- a page from its first character on
   abbrev pub at_first : Stood → Progress
@@ -206,44 +204,10 @@ module _ (syntax : Syntax) (limits : Limits) where
       → Fine (length (encodes cs)) st (entered false (without_mark (placed 0 cs))) end
       → page_on syntax limits (Ok (at_first st)) (encodes cs ++ rest) ≡ page_on syntax limits (Ok (progress_at (length (encodes cs)) [] (is_started cs) (ends_return false cs) end)) rest
   page_walk [] rest st end s z p f = ap (λ x. page_on syntax limits (Ok (at_first x)) rest) f.0
-  page_walk (c ∷ cs) rest st end s z p f = by (snoc_of (encode c))
-    where
-      l : length (encode c) ≡ len_utf8 c
-      l = length-encode c
-
-      n : length (encodes (c ∷ cs)) ≡ length (encode c) + length (encodes cs)
-      n = length-append (encode c) (encodes cs)
-
-      hi : length (encodes (c ∷ cs)) ≡ 0 + len_utf8 c + length (encodes cs)
-      hi = let a = n in let b = l in omega arith
-
-      by : Snoc (encode c) → page_on syntax limits (Ok (at_first st)) (encodes (c ∷ cs) ++ rest) ≡ page_on syntax limits (Ok (progress_at (length (encodes (c ∷ cs))) [] true (ends_return false (c ∷ cs)) end)) rest
-      by (none e) = let w = len_positive c in let v : length (encode c) ≡ 0 = ap length e in let a = l in absurd (omega arith)
-      by (some front byte form) =
-          let size : length front + 1 ≡ len_utf8 c = sym (length-append front (byte ∷ [])) ∙ (ap length (sym form) ∙ l) in
-          let parts = and_parts (scalar c) (all_scalars cs) s in
-          let zs = and_parts (not (c == 0)) (no_nuls cs) z in
-          let nonzero : (c == 0) ≡ false = untrue (c == 0) zs.0 in
-          let page : 0 + len_utf8 c ≤ limits.page = (let a = hi in omega arith) in
-          let pages : 0 + len_utf8 c + length (encodes cs) ≤ limits.page = (let a = hi in omega arith) in
-          let more : page_on syntax limits (Ok (at_first st)) (encodes (c ∷ cs) ++ rest) ≡ page_on syntax limits (Ok (at_first st)) (encode c ++ (encodes cs ++ rest))
-          = ap (λ b. page_on syntax limits (Ok (at_first st)) b) (append_assoc (encode c) (encodes cs) rest) in
-          by_test {G = page_on syntax limits (Ok (at_first st)) (encodes (c ∷ cs) ++ rest) ≡ page_on syntax limits (Ok (progress_at (length (encodes (c ∷ cs))) [] true (ends_return false (c ∷ cs)) end)) rest} (c == byte_order_mark)
-          (λ t.
-          let f2 : Fine (length (encodes (c ∷ cs))) st (entered false (placed (0 + len_utf8 c) cs)) end = subst (λ es. Fine (length (encodes (c ∷ cs))) st (entered false es) end) (cond-true _ _ _ t) f in
-          let f3 : Fine (0 + len_utf8 c + length (encodes cs)) st (entered false (placed (0 + len_utf8 c) cs)) end = subst (λ x. Fine x st (entered false (placed (0 + len_utf8 c) cs)) end) hi f2 in
-          let later : (e : Entry) (es : List Entry) → entered false (placed (0 + len_utf8 c) cs) ≡ e ∷ es → 0 + length front < e.last = λ e es h. (let a = first_among false (0 + len_utf8 c) cs e es h in let b = a.from in let d = a.order in omega arith) in
-          let k : is_known st ≡ true → 0 + length front < first_of st.run 0 + limits.tag = λ w. (let b = before_next (length (encodes (c ∷ cs))) (0 + length front) st end (entered false (placed (0 + len_utf8 c) cs)) f2 later (λ h. let a = hi in omega arith) w in let d = first_same st 0 (0 + length front) w in omega arith) in
-          let is_return : (c == carriage_return) ≡ false = no_mark c t in
-          more ∙ (passed_on c cs (encodes cs ++ rest) 0 false false st end front byte parts.0 form size nonzero page (rw t refl) k
-          ∙ (walk cs rest (0 + len_utf8 c) false st end parts.1 zs.1 pages f3
-          ∙ (ap (λ x. page_on syntax limits (Ok (progress_at x [] true (ends_return false cs) end)) rest) (sym hi)
-          ∙ ap (λ b. page_on syntax limits (Ok (progress_at (length (encodes (c ∷ cs))) [] true (ends_return b cs) end)) rest) (sym is_return)))))
-          (λ t.
-          let q : 0 + len_utf8 c - 1 ≡ 0 + length front = omega arith in
-          let f2 : Fine (length (encodes (c ∷ cs))) st (entry_at c 0 (0 + len_utf8 c - 1) ∷ entered (c == carriage_return) (placed (0 + len_utf8 c) cs)) end = subst (λ es. Fine (length (encodes (c ∷ cs))) st (entered false es) end) (cond-false _ _ _ t) f in
-          let f3 : Fine (length (encodes (c ∷ cs))) st (entry_at c 0 (0 + length front) ∷ entered (c == carriage_return) (placed (0 + len_utf8 c) cs)) end = subst (λ x. Fine (length (encodes (c ∷ cs))) st (entry_at c 0 x ∷ entered (c == carriage_return) (placed (0 + len_utf8 c) cs)) end) q f2 in
-          let f4 : Fine (0 + len_utf8 c + length (encodes cs)) f3.2.0 (entered (c == carriage_return) (placed (0 + len_utf8 c) cs)) end = subst (λ x. Fine x f3.2.0 (entered (c == carriage_return) (placed (0 + len_utf8 c) cs)) end) hi f3.2.1.1 in
-          more ∙ (entered_on c cs (encodes cs ++ rest) 0 false false st end front byte parts.0 form size nonzero page (rw t refl) f3.2.0 f3.0 f3.1 f3.2.1.0
-          ∙ (walk cs rest (0 + len_utf8 c) (c == carriage_return) f3.2.0 end parts.1 zs.1 pages f4
-          ∙ ap (λ x. page_on syntax limits (Ok (progress_at x [] true (ends_return (c == carriage_return) cs) end)) rest) (sym hi))))
+  page_walk (c ∷ cs) rest st end s z p f =
+      let parts = and_parts (scalar c) (all_scalars cs) s in
+      let zs = and_parts (not (c == 0)) (no_nuls cs) z in
+      step c cs rest 0 _ (end_zero c cs) false false (c == byte_order_mark) st end (or-false (c == byte_order_mark)) parts.0 (untrue (c == 0) zs.0) p (no_mark c)
+      (λ t. subst (λ es. Fine (length (encodes (c ∷ cs))) st (entered false es) end) (cond-true _ _ _ t) f)
+      (λ t. subst (λ es. Fine (length (encodes (c ∷ cs))) st (entered false es) end) (cond-false _ _ _ t) f)
+      (λ pages ar next g. walk cs rest (0 + len_utf8 c) ar next end parts.1 zs.1 pages g)

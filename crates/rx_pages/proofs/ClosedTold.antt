@@ -1,5 +1,5 @@
 -- What the front of a page tells, and what it tells once it is closed.
-use Rattle.std.proofs.Common.{◌≡◌, ◌∙◌, ℕ, ◌+◌, ◌≤◌, true, false, List, [], ◌∷◌, ◌++◌, drop, zero, suc, Option, Some, None, refl, ap, sym, subst, length, append-nil, length-append, arith}
+use Rattle.std.proofs.Common.{◌≡◌, ◌∙◌, ℕ, ◌+◌, ◌≤◌, true, false, List, [], ◌∷◌, ◌++◌, Option, refl, ap, sym, subst, length, append-nil, length-append, arith}
 use Rattle.std.specs.Prelude.{not, ◌==◌, Ok, encode_utf8_all}
 use lib.Utf8.{encode, encodes}
 use Rattle.std.proofs.lemmas.Str.{encodes-append}
@@ -9,44 +9,25 @@ use Rattle.rx_grammar.specs.declared.limits.Limits.{Limits}
 use Rattle.rx_grammar.specs.Items.{Item, Spelled, no_more, one}
 use Rattle.rx_grammar.specs.Pages.{has_no_nul}
 use Rattle.rx_grammar.specs.Begun.{Line, Phase, after}
-use Rattle.rx_grammar.specs.declared.contents.Content.{Content}
-use Rattle.rx_grammar.specs.PageFaults.{is_known_tag, is_known_raw}
-use Rattle.rx_grammar.specs.Shapes.{begins, ends_name}
-use Rattle.rx_grammar.specs.Spelling.{has_markup, raw_name}
-use Rattle.rx_terms.proofs.Bools.{split}
-use Rattle.rx_terms.specs.Text.{Chars}
-use Rattle.std.proofs.lemmas.Bool.{and_parts}
 use Rattle.rx_pages.specs.Nesting.{Event, not_begun, content_at, Goes, IsAt}
 use Rattle.rx_pages.specs.PageReader.{page_on, nothing_read}
 use Rattle.rx_pages.specs.Closings.{closing, closed, IsWide, AllEnd, Tells}
 use Rattle.rx_pages.specs.Laws.{FrontsTell}
 use Rattle.rx_pages.proofs.ByteSteps.{progress_at}
-use Rattle.rx_pages.proofs.Closings.{page_entries, entered_tag, all_append, scalars_append, all_fit, last_within, rest_within, Reaches, closes, as_meant, is_page, Fronted, fronted}
-use Rattle.rx_pages.proofs.Foreparts.{Within, page_within}
-use Rattle.rx_pages.proofs.FrontRead.{front_is_read}
+use Rattle.rx_pages.proofs.Closings.{page_entries, entered_tag, all_append, scalars_append, all_fit, last_within, Reaches, closes, as_meant, is_page, Fronted, fronted}
+use Rattle.rx_pages.proofs.FrontRead.{AllBelow, below_behind, page_below, front_is_read}
 use Rattle.rx_pages.proofs.TokenWalk.{stood}
 use Rattle.rx_pages.proofs.TokensWalk.{flags_behind}
+use Rattle.rx_pages.proofs.KnownTags.{one_unknown}
 
-all_end : (syntax : Syntax) (end : ℕ) {entries : List Entry} {next : Option ℕ} {items : List Item} → Spelled syntax entries next items → Within end entries → AllEnd end items
+all_end : (syntax : Syntax) (end : ℕ) {entries : List Entry} {next : Option ℕ} {items : List Item} → Spelled syntax entries next items → AllBelow end entries → AllEnd end items
 all_end syntax end no_more w = tt
 all_end syntax end (one c run rest item sp f l more) w =
-    let last = last_within end c.last run rest w.0 w.1 in (omega (arith, last, l), all_end syntax end more (rest_within end run rest w.1))
+    let last = last_within end c.last run rest w.0 w.1 in (omega (arith, last, l), all_end syntax end more (below_behind end run rest w.1))
 
 less_than_encoded : encodes (60 ∷ []) ≡ 60 ∷ []
 unfolding encode
 less_than_encoded = refl
-
-none_behind : (n : ℕ) → ◌≡◌ {A = Chars} (drop n []) []
-none_behind zero = refl
-none_behind (suc n) = refl
-
--- a `<` alone isn't known to begin a tag
-not_known : (syntax : Syntax) (inside : Content) → is_known_tag syntax inside (60 ∷ []) ≡ true → ⊥
-not_known syntax inside h = split (λ b. b ≡ true → ⊥) (has_markup inside) _ _ (λ e. λ k. cc) (λ e. by (raw_name inside)) h
-  where
-    by : (name : Option Chars) → is_known_raw name [] ≡ true → ⊥
-    by None k = cc
-    by (Some name) k = absurd (let e = sym (ap (begins ends_name) (none_behind (length name + 1))) ∙ (and_parts _ (begins ends_name (drop (length name + 1) [])) k).1 in cc)
 
 module _ (syntax : Syntax) (limits : Limits) (bytes : List ℕ) (line : Line) (phase : Phase) where
   front_tells : (f : Fronted syntax limits bytes line phase) → length bytes + 1 ≤ limits.page → Tells syntax limits (bytes ++ 60 ∷ []) f.events
@@ -59,7 +40,7 @@ module _ (syntax : Syntax) (limits : Limits) (bytes : List ℕ) (line : Line) (p
       front_is_read syntax limits (bytes ++ 60 ∷ []) (λ m. m ≡ f.reaches.place) (page_entries f.characters) run f.reaches.items f.events
       (record { characters = f.characters ++ 60 ∷ []; scalars = scalars_append f.characters (60 ∷ []) a.scalars refl; forms = forms; read = same })
       (all_append (λ (x : Entry). not (x.value == 0)) (page_entries f.characters) run a.no_nul refl) a.spelled f.fit a.sections a.going (let l = length-append bytes (60 ∷ []) in omega (arith, l, h))
-      (λ m p. (refl, tt)) (λ m p k. absurd (not_known syntax (content_at syntax m) k)) in
+      (λ m p. (refl, tt)) (λ m p k. absurd (one_unknown syntax (content_at syntax m) 60 k)) in
       record {
         now = progress_at (length (bytes ++ 60 ∷ [])) [] r.started r.after_return (stood r.place f.events (flags_behind f.reaches.items false false).0 (flags_behind f.reaches.items false false).1 run);
         read = ap (λ b. page_on syntax limits (Ok nothing_read) b) (sym (append-nil (bytes ++ 60 ∷ []))) ∙ r.is_read [];
@@ -72,7 +53,7 @@ whole_tells syntax limits cs bytes events e r wide w =
     let sp = a.last r.at.phase_is in
     let same : page_entries cs ++ [] ≡ page_entries cs = append-nil (page_entries cs) in
     let going : Goes syntax wide.depth (IsAt [] after) not_begun r.items events = subst (λ d. Goes syntax d (IsAt [] after) not_begun r.items events) (sym w.depth) (as_meant syntax limits.depth (IsAt [] after) r.place r.at a.going) in
-    let fit = all_fit syntax wide.tag (length bytes) w.tag sp (subst (λ x. Within (length x) (page_entries cs)) e (page_within cs)) in
+    let fit = all_fit syntax wide.tag (length bytes) w.tag sp (subst (λ x. AllBelow (length x) (page_entries cs)) e (page_below cs)) in
     let s =
     front_is_read syntax wide bytes (IsAt [] after) (page_entries cs) [] r.items events (record { characters = cs; scalars = a.scalars; forms = e; read = same }) (subst (λ es. has_no_nul es ≡ true) (sym same) a.no_nul)
     sp fit a.sections going w.page (λ m p. tt) (λ m p k. absurd (cc)) in
@@ -91,7 +72,7 @@ fronts_tell syntax limits bytes next line phase d b =
     let p = is_page syntax limits.depth cs (closed bytes line phase) limits (f.events ++ t.more) refl forms t.reaches in
     record {
       items = f.reaches.items;
-      ends = subst (λ x. AllEnd (length x) f.reaches.items) f.forms (all_end syntax (length (encodes f.characters)) f.reaches.ahead.spelled (page_within f.characters));
+      ends = subst (λ x. AllEnd (length x) f.reaches.items) f.forms (all_end syntax (length (encodes f.characters)) f.reaches.ahead.spelled (page_below f.characters));
       place = f.reaches.place;
       events = f.events;
       going = f.reaches.ahead.going;

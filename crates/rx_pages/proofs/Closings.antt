@@ -1,5 +1,5 @@
 -- The front of a page goes on to a page: what is open is closed, from the innermost element on.
-use Rattle.std.proofs.Common.{◌≡◌, ◌∙◌, ℕ, ◌+◌, ◌-◌, ◌≤◌, Bool, true, false, List, [], ◌∷◌, ◌++◌, Option, Some, None, refl, ap, sym, subst, subst₂, length, append_assoc, append-nil, arith}
+use Rattle.std.proofs.Common.{◌≡◌, ◌∙◌, ℕ, ◌+◌, ◌-◌, ◌<◌, ◌≤◌, Bool, true, false, List, [], ◌∷◌, ◌++◌, Option, Some, None, refl, ap, sym, subst, subst₂, length, append_assoc, append-nil, arith}
 use Rattle.std.specs.Prelude.{◌&&◌, ◌||◌, ◌==◌, not, nat_le, codes, Ok, encode_utf8_all}
 use Rattle.std.specs.List.{list_all}
 use Rattle.std.specs.Char.{len_utf8}
@@ -15,7 +15,7 @@ use Rattle.rx_chars.specs.Characters.{Entry, byte_order_mark, line_feed, carriag
 use Rattle.rx_chars.specs.declared.syntax.Syntax.{Syntax}
 use Rattle.rx_chars.specs.declared.syntax.Syntax.TheVariants.{Html, Xhtml}
 use Rattle.rx_grammar.specs.declared.limits.Limits.{Limits}
-use Rattle.rx_grammar.specs.Tokens.{Tag, Token, tag, character, reference, kept, section, comment, doctype}
+use Rattle.rx_grammar.specs.Tokens.{Tag, Token, tag}
 use Rattle.rx_grammar.specs.Shapes as shapes
 use Rattle.rx_grammar.specs.Tags.{SpellsTag}
 use Rattle.rx_grammar.specs.Spelling.{Spells, a_tag}
@@ -40,23 +40,20 @@ use Rattle.rx_pages.proofs.FaultsRead.{no_literal}
 use Rattle.rx_pages.proofs.TokensWalk.{flags_behind}
 use Rattle.rx_pages.proofs.BytesOn.{after_only}
 use Rattle.rx_pages.proofs.Befores.{spelled_less, spelled_last}
-use Rattle.rx_pages.proofs.Foreparts.{Within, page_within}
 use Rattle.rx_pages.proofs.OpenNames.{is_fair, IsName, is_steady, ending, ending_text, spells_end, name_steady}
 use Rattle.rx_pages.proofs.OpenLines.{page_fair, AllNamed, arrives}
 use Rattle.rx_terms.proofs.Bools.{both, untrue}
+use Rattle.std.proofs.Math.Bool.{and-false}
+use Rattle.rx_pages.proofs.FrontRead.{AllBelow, below_behind, page_below}
 
 -- the characters of a page that are entered
 abbrev pub page_entries : List ℕ → List Entry
 page_entries cs = entered false (without_mark (placed 0 cs))
 
-and_false : (b : Bool) → (b && false) ≡ false
-and_false true = refl
-and_false false = refl
-
 passes_not : (started after_return : Bool) (c : ℕ) → (not started && c == byte_order_mark) ≡ false → is_steady c ≡ true → passes started after_return c ≡ false
 passes_not started after_return c h s =
     let feed = untrue (c == line_feed) (both (not (c == carriage_return)) (not (c == line_feed)) s).1 in
-    ap (λ b. b || after_return && c == line_feed) h ∙ (ap (λ b. after_return && b) feed ∙ and_false after_return)
+    ap (λ b. b || after_return && c == line_feed) h ∙ (ap (λ b. after_return && b) feed ∙ and-false after_return)
 
 -- a character that is entered as it is
 entered_as : (cs : List ℕ) (c : ℕ) → (not (is_started cs) && c == byte_order_mark) ≡ false → is_steady c ≡ true → page_entries (cs ++ c ∷ []) ≡ page_entries cs ++ placed (length (encodes cs)) (c ∷ [])
@@ -86,7 +83,7 @@ entered_more (x ∷ xs) cs h s =
     then_more cs xs x (entered_as cs x (ap (λ b. not b && x == byte_order_mark) h) k.0) (entered_more xs (cs ++ x ∷ []) (started_snoc cs x) k.1)
 
 pub entered_tag : (cs text : List ℕ) → list_all is_steady text ≡ true → page_entries (cs ++ 60 ∷ text) ≡ page_entries cs ++ placed (length (encodes cs)) (60 ∷ text)
-entered_tag cs text s = then_more cs text 60 (entered_as cs 60 (and_false (not (is_started cs))) refl) (entered_more text (cs ++ 60 ∷ []) (started_snoc cs 60) s)
+entered_tag cs text s = then_more cs text 60 (entered_as cs 60 (and-false (not (is_started cs))) refl) (entered_more text (cs ++ 60 ∷ []) (started_snoc cs 60) s)
 
 pub values_placed : (at : ℕ) (cs : List ℕ) → values (placed at cs) ≡ cs
 values_placed at [] = refl
@@ -112,26 +109,17 @@ scalars_append (c ∷ a) b h k = let p = both (scalar c) (all_scalars a) h in an
 -- tags are no longer than the page
 fits_one : (limit : ℕ) (item : Item) (token : Token) → item.last + 1 ≤ limit → Fits limit item token
 fits_one limit item (tag t) h = omega arith
-fits_one limit item (character c) h = tt
-fits_one limit item (reference c) h = tt
-fits_one limit item (kept x) h = tt
-fits_one limit item (section x) h = tt
-fits_one limit item comment h = tt
-fits_one limit item doctype h = tt
+fits_one limit item _ h = tt
 
-pub last_within : (end last : ℕ) (run rest : List Entry) → last + 1 ≤ end → Within end (run ++ rest) → last_from last run + 1 ≤ end
+pub last_within : (end last : ℕ) (run rest : List Entry) → last < end → AllBelow end (run ++ rest) → last_from last run < end
 last_within end last [] rest h w = h
 last_within end last (e ∷ run) rest h w = last_within end e.last run rest w.0 w.1
 
-pub rest_within : (end : ℕ) (run rest : List Entry) → Within end (run ++ rest) → Within end rest
-rest_within end [] rest w = w
-rest_within end (e ∷ run) rest w = rest_within end run rest w.1
-
-pub all_fit : (syntax : Syntax) (limit end : ℕ) → end ≤ limit → {entries : List Entry} {next : Option ℕ} {items : List Item} → Spelled syntax entries next items → Within end entries → AllFit limit items
+pub all_fit : (syntax : Syntax) (limit end : ℕ) → end ≤ limit → {entries : List Entry} {next : Option ℕ} {items : List Item} → Spelled syntax entries next items → AllBelow end entries → AllFit limit items
 all_fit syntax limit end h no_more w = tt
 all_fit syntax limit end h (one c run rest item sp f l more) w =
     let last = last_within end c.last run rest w.0 w.1 in
-    (fits_one limit item item.token (omega arith), all_fit syntax limit end h more (rest_within end run rest w.1))
+    (fits_one limit item item.token (omega arith), all_fit syntax limit end h more (below_behind end run rest w.1))
 
 -- the empty root's start tag
 abbrev html_tag : Tag
@@ -193,7 +181,7 @@ module _ (syntax : Syntax) (depth : ℕ) where
         (subst (λ x. Spells syntax (content_at syntax place) (60 ∷ x) next (tag t)) (sym (values_placed (start + len_utf8 60) text)) (spells next)) refl refl)
 
     no_mark : ((flags_behind items false false).0 && is_literal greater_than_sign added) ≡ false
-    no_mark = ap (λ b. (flags_behind items false false).0 && b) (no_literal greater_than_sign (content_at syntax place) (tag t) (λ c e. cc)) ∙ and_false (flags_behind items false false).0
+    no_mark = ap (λ b. (flags_behind items false false).0 && b) (no_literal greater_than_sign (content_at syntax place) (tag t) (λ c e. cc)) ∙ and-false (flags_behind items false false).0
 
     fair_all : list_all is_fair (60 ∷ text) ≡ true
     fair_all = and_from (is_fair 60) (list_all is_fair text) refl fair
@@ -312,7 +300,7 @@ module _ (syntax : Syntax) (depth : ℕ) where
               read = record { characters = cs; scalars = r.ahead.scalars; forms = e; read = refl };
               no_nul = r.ahead.no_nul;
               spelled = sp;
-              fit = all_fit syntax wide.tag (length bytes) w.tag sp (subst (λ x. Within (length x) (page_entries cs)) e (page_within cs));
+              fit = all_fit syntax wide.tag (length bytes) w.tag sp (subst (λ x. AllBelow (length x) (page_entries cs)) e (page_below cs));
               sections = r.ahead.sections;
               document = subst (λ n. Document syntax n r.items p.0) (sym (w.depth ∙ d)) p.1;
             };

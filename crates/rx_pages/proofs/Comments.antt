@@ -1,7 +1,7 @@
 -- Comments, instructions and sections are read as they are spelled.
 use Rattle.std.proofs.Common.{◌≡◌, ◌∙◌, ℕ, Bool, true, false, [], ◌∷◌, ◌++◌, Option, refl, ap, sym, append_assoc, inl, inr, ◌+◌, arith}
 use Rattle.std.specs.Prelude.{◌&&◌, ◌||◌, ◌-◌, not, codes, length, take}
-use Rattle.std.proofs.lemmas.Bool.{cond-true, cond-false, and_from}
+use Rattle.std.proofs.lemmas.Bool.{cond-true, cond-false, and_from, or_left, or_right}
 use Rattle.std.proofs.lemmas.List.{length-append, map-append}
 use Rattle.std.proofs.Math.Seq.{take-append_seam}
 use Rattle.rx_terms.specs.Ascii.{lowered_char, greater_than_sign}
@@ -12,9 +12,12 @@ use Rattle.rx_grammar.specs.declared.contents.Content.{Content}
 use Rattle.rx_grammar.specs.Tokens.{Token, comment, section}
 use Rattle.rx_grammar.specs.Spelling.{ends_with, ends_comment, begins_declaration, IsFirst, has_markup, has_sections}
 use Rattle.rx_pages.specs.Scanner.{goes_on, whole, whole_if, after_mark, in_markup, in_section, verdict, GoesOn, ReadAs}
-use Rattle.rx_pages.proofs.Reading.{all_go, go_append, read_to, reads_first, sections_markup, markup_is}
+use Rattle.rx_pages.proofs.Reading.{all_go, go_append, read_to, reads_first, markup_is}
 use Rattle.rx_terms.proofs.Bools.{both, neither, either, not_both_ways, by_test}
-use Rattle.rx_reader.proofs.Fronts.{begins_more, or_right}
+use Rattle.rx_reader.proofs.Fronts.{begins_more}
+use Rattle.std.proofs.Math.Bool.{and-false}
+use Rattle.rx_reader.proofs.ValueFaults.{snoc_front}
+use Rattle.rx_reader.proofs.OneToken.{section_markup}
 
 pub none_if : (b : Bool) (t : Token) → b ≡ false → whole_if b t ≡ goes_on
 none_if b t h = rw h refl
@@ -22,20 +25,12 @@ none_if b t h = rw h refl
 whole_where : (b : Bool) (t : Token) → b ≡ true → whole_if b t ≡ whole t
 whole_where b t h = rw h refl
 
-pub and_none : (b : Bool) → (b && false) ≡ false
-and_none true = refl
-and_none false = refl
-
 -- after `<!` in HTML, where nothing that begins otherwise has begun
 pub bogus_at : (i : Content) (text : Chars) (c : ℕ) → begins_declaration i text ≡ false → after_mark Html i text c ≡ whole_if (ends_with (codes ">") (text ++ c ∷ [])) comment
 bogus_at i text c h =
     let a = neither (begins_with (codes "--") text || begins_with (codes "doctype") (lowered text)) _ h in
     let b = neither (begins_with (codes "--") text) _ a.0 in
     cond-false _ _ _ b.0 ∙ (cond-false _ _ _ b.1 ∙ cond-false _ _ _ a.1)
-
-or_left : (a b : Bool) → a ≡ true → (a || b) ≡ true
-or_left true b h = refl
-or_left false b h = absurd (cc)
 
 -- what begins a declaration isn't undone by what follows
 declared_more : (i : Content) (text more : Chars) → begins_declaration i text ≡ true → begins_declaration i (text ++ more) ≡ true
@@ -54,7 +49,7 @@ module _ (i : Content) (next : Option ℕ) (markup : has_markup i ≡ true) wher
   pub reads_comment : (x : Chars) → IsFirst ends_comment x → ReadAs Html i (60 ∷ 33 ∷ (codes "--" ++ x)) next comment
   reads_comment x f =
       reads_first Html i (codes "<!--") x ends_comment next comment f refl
-      (refl, (at Html [] 33, (at Html (33 ∷ []) 45 ∙ bogus_at i [] 45 (and_none (has_sections i)), (at Html (33 ∷ 45 ∷ []) 45 ∙ bogus_at i (45 ∷ []) 45 (and_none (has_sections i)), tt))))
+      (refl, (at Html [] 33, (at Html (33 ∷ []) 45 ∙ bogus_at i [] 45 (and-false (has_sections i)), (at Html (33 ∷ 45 ∷ []) 45 ∙ bogus_at i (45 ∷ []) 45 (and-false (has_sections i)), tt))))
       (λ a d more e h. at Html (33 ∷ 45 ∷ 45 ∷ a) d ∙ none_if _ comment h)
       (λ a d e h. at Html (33 ∷ 45 ∷ 45 ∷ a) d ∙ whole_where _ comment h)
 
@@ -89,65 +84,26 @@ section_text t = ap (λ n. take n (t ++ 93 ∷ 93 ∷ [])) (ap (λ n. n - 2) (le
     less_two : (n : ℕ) → (n + 2) - 2 ≡ n
     less_two n = omega arith
 
-pub same_init : (a b : Chars) (c d : ℕ) → a ++ c ∷ [] ≡ b ++ d ∷ [] → a ≡ b
-same_init [] [] c d e = refl
-same_init [] (y ∷ []) c d e = absurd (cc)
-same_init [] (y ∷ z ∷ b) c d e = absurd (cc)
-same_init (x ∷ []) [] c d e = absurd (cc)
-same_init (x ∷ z ∷ a) [] c d e = absurd (cc)
-same_init (x ∷ a) (y ∷ b) c d e = let h : x ≡ y = cc in ap (λ z. z ∷ a) h ∙ ap (λ zs. y ∷ zs) (same_init a b c d (cc))
-
 module _ (i : Content) (next : Option ℕ) (sections : has_sections i ≡ true) where
   marks : (s : Syntax) (text : Chars) (c : ℕ) → verdict s i (60 ∷ text) c ≡ in_markup s i text c
-  marks s text c = markup_is s i text c (sections_markup i sections)
+  marks s text c = markup_is s i text c (section_markup i sections)
 
   pub inside_section : (s : Syntax) (a : Chars) (d : ℕ) → verdict s i (codes "<![CDATA[" ++ a) d ≡ in_section a d
   inside_section Html a d = marks Html (33 ∷ (codes "[CDATA[" ++ a)) d ∙ cond-true _ _ _ (ap (λ b. b && true) sections)
   inside_section Xhtml a d = marks Xhtml (33 ∷ (codes "[CDATA[" ++ a)) d
 
   begin_section : (s : Syntax) → GoesOn s i [] (codes "<![CDATA[")
-  begin_section Html =
-      let n = and_none (has_sections i) in (
-        refl,
-        (
-          marks Html [] 33,
-          (
-            marks Html (codes "!") 91 ∙ bogus_at i [] 91 n,
-            (
-              marks Html (codes "![") 67 ∙ bogus_at i (codes "[") 67 n,
-              (
-                marks Html (codes "![C") 68 ∙ bogus_at i (codes "[C") 68 n,
-                (marks Html (codes "![CD") 65 ∙ bogus_at i (codes "[CD") 65 n, (marks Html (codes "![CDA") 84 ∙ bogus_at i (codes "[CDA") 84 n, (marks Html (codes "![CDAT") 65 ∙ bogus_at i (codes "[CDAT") 65 n, (marks Html (codes "![CDATA") 91 ∙ bogus_at i (codes "[CDATA") 91 n, tt)))),
-              ),
-            ),
-          ),
-        ),
-      )
-  begin_section Xhtml = (
-    refl,
-    (
-      marks Xhtml [] 33,
-      (
-        marks Xhtml (codes "!") 91,
-        (
-          marks Xhtml (codes "![") 67,
-          (
-            marks Xhtml (codes "![C") 68,
-            (
-              marks Xhtml (codes "![CD") 65,
-              (
-                marks Xhtml (codes "![CDA") 84,
-                (
-                  marks Xhtml (codes "![CDAT") 65,
-                  (marks Xhtml (codes "![CDATA") 91 ∙ cond-false _ _ _ (ap not sections), tt),
-                ),
-              ),
-            ),
-          ),
-        ),
-      ),
-    ),
-  )
+  begin_section Html = (refl, (marks Html [] 33, (at [] 91 n, (at (codes "[") 67 n, (at (codes "[C") 68 n, (at (codes "[CD") 65 n, (at (codes "[CDA") 84 n, (at (codes "[CDAT") 65 n, (at (codes "[CDATA") 91 n, tt)))))))))
+    where
+      n : (has_sections i && false) ≡ false
+      n = and-false (has_sections i)
+
+      at : (a : Chars) (d : ℕ) → begins_declaration i a ≡ false → verdict Html i (60 ∷ 33 ∷ a) d ≡ whole_if (ends_with (codes ">") (a ++ d ∷ [])) comment
+      at a d h = marks Html (33 ∷ a) d ∙ bogus_at i a d h
+  begin_section Xhtml = (refl, (at [] 33, (at (codes "!") 91, (at (codes "![") 67, (at (codes "![C") 68, (at (codes "![CD") 65, (at (codes "![CDA") 84, (at (codes "![CDAT") 65, (at (codes "![CDATA") 91 ∙ cond-false _ _ _ (ap not sections), tt)))))))))
+    where
+      at : (a : Chars) (d : ℕ) → verdict Xhtml i (60 ∷ a) d ≡ in_markup Xhtml i a d
+      at a d = marks Xhtml a d
 
   pub reads_section : (s : Syntax) (t : Chars) → IsFirst (ends_with (codes "]]>")) (t ++ codes "]]>") → ReadAs s i (60 ∷ 33 ∷ (codes "[CDATA[" ++ (t ++ codes "]]>"))) next (section t)
   reads_section s t f =
@@ -156,4 +112,4 @@ module _ (i : Content) (next : Option ℕ) (sections : has_sections i ≡ true) 
       (λ a d e h. inside_section s a d ∙ (whole_where _ _ h ∙ ap (λ x. whole (section x)) (text_is a d e)))
     where
       text_is : (a : Chars) (d : ℕ) → t ++ codes "]]>" ≡ a ++ d ∷ [] → take (length a - 2) a ≡ t
-      text_is a d e = ap (λ x. take (length x - 2) x) (sym (same_init (t ++ 93 ∷ 93 ∷ []) a 62 d (append_assoc t (93 ∷ 93 ∷ []) (62 ∷ []) ∙ e))) ∙ section_text t
+      text_is a d e = ap (λ x. take (length x - 2) x) (sym (snoc_front (t ++ 93 ∷ 93 ∷ []) a 62 d (append_assoc t (93 ∷ 93 ∷ []) (62 ∷ []) ∙ e))) ∙ section_text t

@@ -27,11 +27,7 @@ of_row test (row ∷ rows) name all h =
 
 pub html_is : (c : Content) → is_html c ≡ true → c ≡ content.Html
 html_is content.Html h = refl
-html_is content.Outside h = absurd (cc)
-html_is content.Foreign h = absurd (cc)
-html_is content.Strict h = absurd (cc)
-html_is (content.Raw name) h = absurd (cc)
-html_is (content.Rcdata name) h = absurd (cc)
+html_is _ h = absurd (cc)
 
 no_html : (line : Line) → is_html (inside_of Xhtml line).content ≡ false
 no_html [] = refl

@@ -45,8 +45,7 @@ module _ (syntax : Syntax) (limits : Limits) (spot : Spot) where
 
   may_come : (d l : Bool) → (d && not l) ≡ false → d ≡ true → l ≡ true
   may_come d true h e = refl
-  may_come true false h e = absurd (cc)
-  may_come false false h e = absurd (cc)
+  may_come _ false h e = absurd (cc)
 
   completed_leads : (after_return : Bool) (item : Item) (s : Scanning) → Leads (completed syntax limits spot after_return item s)
   completed_leads after_return item s =

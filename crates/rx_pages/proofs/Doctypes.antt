@@ -2,7 +2,7 @@
 use Rattle.std.proofs.Common.{◌≡◌, ◌≢◌, ◌∙◌, ℕ, suc, ◌+◌, ◌<◌, length, Bool, true, false, [], ◌∷◌, ◌++◌, Option, Some, None, refl, ap, sym, subst, append_assoc, arith, eqb-true}
 use Rattle.std.specs.Prelude.{◌&&◌, ◌||◌, ◌==◌, not, codes, drop}
 use Rattle.std.specs.List.{list_all, list_any}
-use Rattle.std.proofs.lemmas.Bool.{cond-true, cond-false}
+use Rattle.std.proofs.lemmas.Bool.{cond-true, cond-false, or_from}
 use Rattle.std.proofs.lemmas.List.{map-append, length-append, length-map}
 use Rattle.rx_terms.specs.Ascii.{lowered_char, greater_than_sign, left_bracket, is_white_space}
 use Rattle.rx_terms.specs.Text.{Chars, begins_with, lowered}
@@ -16,12 +16,12 @@ use Rattle.rx_grammar.specs.Spelling.{has_markup, has_sections, ends_with, begin
 use Rattle.rx_pages.specs.Scanner.{goes_on, DoctypePhase, keyword, spaces, naming, passed, closed, doctype_move, doctype_move_on, doctype_on, told_of_doctype, in_doctype, after_mark, in_markup, verdict, GoesOn, ReadAs}
 use Rattle.rx_pages.proofs.Reading.{Last, no_last, a_last, last_of, all_go, go_append, read_to, markup_is}
 use Rattle.std.proofs.Math.Seq.{drop-append_seam}
-use Rattle.rx_pages.proofs.Comments.{none_if, and_none, bogus_at}
-use Rattle.rx_pages.proofs.Texts.{or_none}
+use Rattle.rx_pages.proofs.Comments.{none_if, bogus_at}
 use Rattle.rx_terms.proofs.Bools.{both, neither, not_both_ways, by_test, untrue}
 use Rattle.rx_reader.proofs.Classes.{of_one, of_white}
 use Rattle.rx_reader.proofs.Fronts.{equal, begins_append, has_end}
 use Rattle.rx_reader.proofs.OneToken.{kept_case}
+use Rattle.std.proofs.Math.Bool.{and-false}
 
 pub on_none : (s : Syntax) (text : Chars) → doctype_on s None text ≡ None
 on_none s [] = refl
@@ -33,12 +33,11 @@ on_append s o (c ∷ a) b = on_append s (doctype_move_on s o c) a b
 
 before_close : (s : Syntax) (o : Option DoctypePhase) (more : Chars) → doctype_on s o more ≡ Some closed → more ≢ [] → told_of_doctype o ≡ goes_on
 before_close s o [] h n = absurd (n refl)
-before_close s None (c ∷ more) h n = absurd (let k = on_none s more in cc)
 before_close s (Some keyword) (c ∷ more) h n = refl
 before_close s (Some spaces) (c ∷ more) h n = refl
 before_close s (Some (naming left)) (c ∷ more) h n = refl
 before_close s (Some passed) (c ∷ more) h n = refl
-before_close s (Some closed) (c ∷ more) h n = absurd (let k = on_none s more in cc)
+before_close s _ (c ∷ more) h n = absurd (let k = on_none s more in cc)
 
 -- one character
 move_by : (s : Syntax) (p : DoctypePhase) (c : ℕ) (text : Chars) {o : Option DoctypePhase} → doctype_move s p c ≡ o → doctype_on s (Some p) (c ∷ text) ≡ doctype_on s o text
@@ -98,16 +97,16 @@ no_end (c ∷ word) [] e h = absurd (cc)
 no_end (c ∷ word) (d ∷ read) e h =
     let k = both (not (d == 62)) _ h in
     let q : lowered_char c ≡ d = cc in
-    or_none (c == 62) _ (by_test {G = (c == 62) ≡ false} (c == 62) (λ w. absurd (not_both_ways (d == 62) (ap (λ x. x == 62) (sym q) ∙ of_one (λ x. (lowered_char x == 62) ≡ true) c 62 w refl) (untrue _ k.0))) (λ w. w)) (no_end word read (cc) k.1)
+    or_from (c == 62) _ (by_test {G = (c == 62) ≡ false} (c == 62) (λ w. absurd (not_both_ways (d == 62) (ap (λ x. x == 62) (sym q) ∙ of_one (λ x. (lowered_char x == 62) ≡ true) c 62 w refl) (untrue _ k.0))) (λ w. w)) (no_end word read (cc) k.1)
 
 any_front : (test : ℕ → Bool) (a b : Chars) → list_any test (a ++ b) ≡ false → list_any test a ≡ false
 any_front test [] b h = refl
-any_front test (c ∷ a) b h = let k = neither (test c) _ h in or_none (test c) _ k.0 (any_front test a b k.1)
+any_front test (c ∷ a) b h = let k = neither (test c) _ h in or_from (test c) _ k.0 (any_front test a b k.1)
 
 too_short : (p q : Chars) → length q < length p → begins_with p q ≡ false
 too_short [] q h = absurd (omega arith)
 too_short (c ∷ p) [] h = refl
-too_short (c ∷ p) (d ∷ q) h = rw (too_short p q (omega arith)) (and_none (c == d))
+too_short (c ∷ p) (d ∷ q) h = rw (too_short p q (omega arith)) (and-false (c == d))
 
 -- nothing, or what begins with a d
 abbrev Heads : Chars → Type 0
@@ -141,8 +140,8 @@ module _ (i : Content) (next : Option ℕ) (markup : has_markup i ≡ true) wher
     undeclared : (f : Chars) (d : ℕ) (more : Chars) → word ≡ f ++ d ∷ more → begins_declaration i f ≡ false
     undeclared f d more e =
         let h = heads_front f (d ∷ more) (sym (ap lowered e) ∙ is_word) in
-        or_none (begins_with (codes "--") f || begins_with (codes "doctype") (lowered f)) _ (or_none (begins_with (codes "--") f) _ (begins_no 45 (45 ∷ []) f refl h) (too_short (codes "doctype") (lowered f) (length_front f d more e)))
-        (ap (λ b. has_sections i && b) (begins_no 91 (codes "CDATA[") f refl h) ∙ and_none (has_sections i))
+        or_from (begins_with (codes "--") f || begins_with (codes "doctype") (lowered f)) _ (or_from (begins_with (codes "--") f) _ (begins_no 45 (45 ∷ []) f refl h) (too_short (codes "doctype") (lowered f) (length_front f d more e)))
+        (ap (λ b. has_sections i && b) (begins_no 91 (codes "CDATA[") f refl h) ∙ and-false (has_sections i))
 
     html_word : GoesOn Html i (codes "<!") word
     html_word = all_go Html i (codes "<!") word (λ f d more e. markup_is Html i (33 ∷ f) d markup ∙ (bogus_at i f d (undeclared f d more e) ∙ none_if _ comment (no_greater f d more e)))

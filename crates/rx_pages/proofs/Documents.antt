@@ -6,7 +6,7 @@ use Rattle.rx_terms.specs.Text.{Chars}
 use Rattle.rx_chars.specs.declared.syntax.Syntax.{Syntax}
 use Rattle.rx_grammar.specs.Tokens.{Tag, Token, tag, character, reference, kept, section, comment, doctype}
 use Rattle.rx_grammar.specs.Contents.{Place, outside, place_in, is_alone, hides, drops_line_feed}
-use Rattle.rx_grammar.specs.Trees.{StartTag, Tree, end, element, text, after_text, has_element}
+use Rattle.rx_grammar.specs.Trees.{StartTag, Tree, end, element, after_text, has_element}
 use Rattle.rx_grammar.specs.Items.{Item, start_of, text_of}
 use Rattle.rx_grammar.specs.Omission.{enders, is_ended_by}
 use Rattle.rx_grammar.specs.Pages.{Opens, Closes, Drops, shown, Holds, nothing, a_text, a_comment, alone, closed, unclosed, is_between, Lead, passed, a_doctype, root_name, Document}
@@ -33,19 +33,16 @@ between_steps syntax depth phase item doctype o h = absurd (cc)
 
 -- text outside the root tells nothing
 text_passes : (syntax : Syntax) (depth : ℕ) (phase : Phase) (item : Item) (token : Token) (chars : Chars) → IsOutside phase → text_of token ≡ Some chars → step_by syntax depth (outside_at phase) item token ≡ Ok (record { next = outside_at phase; events = [] })
-text_passes syntax depth phase item (tag t) chars o h = absurd (cc)
 text_passes syntax depth phase item (character c) chars o h = ap (λ es. Ok (record { next = outside_at phase; events = es })) (o (c ∷ []))
 text_passes syntax depth phase item (reference c) chars o h = ap (λ es. Ok (record { next = outside_at phase; events = es })) (o (c ∷ []))
 text_passes syntax depth phase item (kept k) chars o h = ap (λ es. Ok (record { next = outside_at phase; events = es })) (o k)
 text_passes syntax depth phase item (section k) chars o h = ap (λ es. Ok (record { next = outside_at phase; events = es })) (o k)
-text_passes syntax depth phase item comment chars o h = absurd (cc)
-text_passes syntax depth phase item doctype chars o h = absurd (cc)
+text_passes syntax depth phase item _ chars o h = absurd (cc)
 
 no_nodes : (chars : Chars) (nodes : Tree) → after_text chars nodes ≡ end → nodes ≡ end
 no_nodes [] nodes e = e
 no_nodes (c ∷ chars) end e = refl
-no_nodes (c ∷ chars) (element t inside nodes) e = absurd (cc)
-no_nodes (c ∷ chars) (text more nodes) e = absurd (cc)
+no_nodes (c ∷ chars) _ e = absurd (cc)
 
 module _ (syntax : Syntax) (depth : ℕ) (meant : Nesting → Type 0) where
   -- white space and comments
@@ -66,9 +63,7 @@ module _ (syntax : Syntax) (depth : ℕ) (meant : Nesting → Type 0) where
   trails nothing p e later g = g
   trails (a_text {nodes = nodes} item chars c h hs) p e later g = goes item (record { next = over []; events = [] }) (c ∙ ap (λ x. x.content) p) (text_passes syntax depth after item item.token chars (λ x. refl) h) (trails hs p (no_nodes chars nodes e) later g)
   trails (a_comment item c h hs) p e later g = goes item (record { next = over []; events = [] }) (c ∙ ap (λ x. x.content) p) (of_token syntax depth (over []) item comment _ h refl) (trails hs p e later g)
-  trails (alone item t o is hs) p e later g = absurd (cc)
-  trails (closed item close t o isnt drop hin no_row c hs) p e later g = absurd (cc)
-  trails (unclosed item t o isnt drop hin no_row omits hs) p e later g = absurd (cc)
+  trails _ p e later g = absurd (cc)
 
 pub no_end_outside : (parent name : Chars) (items : List Item) → is_ended_by outside parent name items ≡ false
 no_end_outside parent name [] = refl
@@ -121,10 +116,7 @@ module _ (syntax : Syntax) (depth : ℕ) (meant : Nesting → Type 0) (careless 
       subst (λ x. Reads syntax depth meant (outside_at (before stood)) (root ∷ from) later x) f.is
       (whole syntax depth meant careless [] (before stood) left root u from inner inner_tree end later later i (subst (λ x. Opens syntax x root u) p o) refl (room left d) (root_ready stood u.name (f.is_name ∙ n)) (sym (ap (λ x. is_alone syntax x u) p) ∙ isnt)
       (subst (λ x. Drops (drops_line_feed x u) (place_in syntax x u.name).content from inner) p drop) (ap (λ x. hides x u) p) (λ more e2. e2))
-  root_reads root t inside stood (unclosed {parent = parent} {after = rest} item u o isnt drop hin no_row omits hs) p d k n e later g told = absurd (no_way (sym (no_end_outside parent u.name rest) ∙ (sym (ap (λ x. is_ended_by x parent u.name rest) p) ∙ omits)))
-    where
-      no_way : false ≡ true → ⊥
-      no_way h = cc
+  root_reads root t inside stood (unclosed {parent = parent} {after = rest} item u o isnt drop hin no_row omits hs) p d k n e later g told = absurd (let q : false ≡ true = sym (no_end_outside parent u.name rest) ∙ (sym (ap (λ x. is_ended_by x parent u.name rest) p) ∙ omits) in cc)
 
 -- what a page's tokens tell
 pub record TellsTree (syntax : Syntax) (depth : ℕ) (meant : Nesting → Type 0) (items : List Item) (tree : Tree) : Type 0 where

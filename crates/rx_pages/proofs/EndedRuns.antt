@@ -14,7 +14,7 @@ use Rattle.rx_grammar.specs.Spelling.{exclamation_mark, ends_with, has_reference
 use Rattle.rx_grammar.specs.PageFaults.{meets_opening}
 use Rattle.rx_reader.specs.Tables.{is_html, is_last}
 use Rattle.rx_reader.specs.TagReader.{TagState, fresh, tag_on, tag_of}
-use Rattle.rx_pages.specs.Scanner.{Verdict, goes_on, whole, ended, refused, whole_if, told_of_tag, in_tag, told_of_reference, in_run, in_raw, DoctypePhase, keyword, spaces, naming, passed, closed, told_of_doctype, in_doctype, in_section, in_strict_comment, in_opening, after_mark, after_question, less_than_text, in_markup, after_less_than, is_mark, doctype_on, verdict}
+use Rattle.rx_pages.specs.Scanner.{Verdict, goes_on, whole, ended, refused, whole_if, told_of_tag, in_tag, told_of_reference, in_run, in_raw, DoctypePhase, keyword, closed, told_of_doctype, in_doctype, in_section, in_strict_comment, in_opening, after_mark, after_question, less_than_text, in_markup, after_less_than, is_mark, doctype_on, verdict}
 use Rattle.rx_pages.proofs.TokenWalk.{IsKept, is_kept}
 
 abbrev Keeps : Verdict → Type 0
@@ -65,10 +65,7 @@ raw_keeps s name text c =
 of_doctype : (o : Option DoctypePhase) → Keeps (told_of_doctype o)
 of_doctype None = is_refused BadDoctype
 of_doctype (Some closed) = is_whole doctype
-of_doctype (Some keyword) = on
-of_doctype (Some spaces) = on
-of_doctype (Some (naming left)) = on
-of_doctype (Some passed) = on
+of_doctype _ = on
 
 doctype_keeps : (s : Syntax) (text : Chars) (c : ℕ) → Keeps (in_doctype s text c)
 doctype_keeps s text c = of_doctype (doctype_on s (Some keyword) (text ++ c ∷ []))

@@ -41,8 +41,7 @@ module _ (syntax : Syntax) (limits : Limits) (spot : Spot) where
       → told_first syntax limits spot after_return entry s v ≡ map_scanned (placed_at (s.at + 1) after_return) (told_first syntax limits spot false entry (bare s) v)
   first_bare after_return entry s goes_on = refl
   first_bare after_return entry s (whole token) = completed_bare after_return (item_of spot.inside token (s.run ++ entry ∷ [])) s
-  first_bare after_return entry s (ended token) = refl
-  first_bare after_return entry s (refused kind) = refl
+  first_bare after_return entry s _ = refl
 
   with_placed : (f : Scanned → Scanned) (item : Item) (r : Result Scanned Kind) → ((r : Scanned) → (f (record { next = r.next; items = item ∷ r.items })) ≡ record { next = (f r).next; items = item ∷ (f r).items })
       → with_item syntax limits spot item (map_scanned f r) ≡ map_scanned f (with_item syntax limits spot item r)

@@ -7,6 +7,7 @@ use lib.Utf8.{encode, encodes, scalar}
 use Rattle.std.proofs.lemmas.List.{length-append}
 use Rattle.std.proofs.lemmas.Str.{length-encode}
 use Rattle.std.proofs.lemmas.Bool.{and_parts, cond-true, cond-false}
+use Rattle.std.proofs.Math.Bool.{or-false}
 use Rattle.rx_chars.specs.declared.syntax.Syntax.{Syntax}
 use Rattle.rx_chars.specs.Characters.{Entry, byte_order_mark, line_feed, carriage_return, placed, entered, without_mark}
 use Rattle.rx_grammar.specs.declared.faults.Fault.{Fault}
@@ -18,8 +19,9 @@ use Rattle.rx_pages.specs.PageReader.{first_of, is_too_long, spot_of, page_on}
 use Rattle.rx_pages.proofs.EntrySteps.{Stood, entry_step}
 use Rattle.rx_pages.proofs.ByteSteps.{progress_at, settle}
 use Rattle.rx_pages.proofs.CharSteps.{passes, entry_on, entry_at, too_long_at}
-use Rattle.rx_pages.proofs.CharWalk.{Snoc, none, some, snoc_of, first_among, is_known, first_same, no_nuls, passed_on, entered_on, to_last, len_positive}
+use Rattle.rx_pages.proofs.CharWalk.{first_among, is_known, first_same, no_nuls, passed_on, entered_on, to_last, len_positive}
 use Rattle.rx_pages.proofs.FrontRead.{AllBelow}
+use Rattle.rx_pages.proofs.Reading.{Last, no_last, a_last, last_of}
 
 pub fault_stays : (syntax : Syntax) (limits : Limits) (fault : Fault) (bytes : List ℕ) → page_on syntax limits (Err fault) bytes ≡ Err fault
 fault_stays syntax limits fault [] = refl
@@ -79,106 +81,74 @@ module _ (syntax : Syntax) (limits : Limits) where
         ∙ (fault_stays syntax limits (fault_of st (entry_at c start (start + length front)) f.kind) rest ∙ ap (λ x. Err x) (sym w.1.1))))
         d
 
-  pub walk_hits : (cs rest : List ℕ) (start : ℕ) (after_return : Bool) (st : Stood) (pre : List Entry) (e : Entry) (post : List Entry) (f : Fault) → all_scalars cs ≡ true → no_nuls cs ≡ true
-      → entered after_return (placed start cs) ≡ pre ++ e ∷ post → AllBelow limits.page (pre ++ e ∷ []) → Hits st pre e f
-      → page_on syntax limits (Ok (progress_at start [] true after_return st)) (encodes cs ++ rest) ≡ Err f
-  walk_hits [] rest start after_return st [] e post f s z is b h = absurd (cc)
-  walk_hits [] rest start after_return st (d ∷ pre) e post f s z is b h = absurd (cc)
-  walk_hits (c ∷ cs) rest start after_return st pre e post f s z is b h =
-      by (λ ar next pre2 is2 b2 h2. walk_hits cs rest (start + len_utf8 c) ar next pre2 e post f (and_parts (scalar c) (all_scalars cs) s).1 (and_parts (not (c == 0)) (no_nuls cs) z).1 is2 b2 h2) (snoc_of (encode c))
-    where
-      l : length (encode c) ≡ len_utf8 c
-      l = length-encode c
+  -- a character, which is passed over or entered, and the rest
+  module _ (c : ℕ) (cs rest : List ℕ) (start : ℕ) (started after_return test : Bool) (st : Stood) (e : Entry) (post : List Entry) (f : Fault) (same : passes started after_return c ≡ test) (is_scalar : IsScalar c) (nonzero : (c == 0) ≡ false)
+      (ih : (ar : Bool) (next : Stood) (pre : List Entry) → entered ar (placed (start + len_utf8 c) cs) ≡ pre ++ e ∷ post → AllBelow limits.page (pre ++ e ∷ []) → Hits next pre e f → page_on syntax limits (Ok (progress_at (start + len_utf8 c) [] true ar next)) (encodes cs ++ rest) ≡ Err f) where
+    abbrev Step : Type 0
+    Step = page_on syntax limits (Ok (progress_at start [] started after_return st)) (encodes (c ∷ cs) ++ rest) ≡ Err f
 
-      by : ((ar : Bool) (next : Stood) (pre2 : List Entry) → entered ar (placed (start + len_utf8 c) cs) ≡ pre2 ++ e ∷ post → AllBelow limits.page (pre2 ++ e ∷ []) → Hits next pre2 e f → page_on syntax limits (Ok (progress_at (start + len_utf8 c) [] true ar next)) (encodes cs ++ rest) ≡ Err f)
-          → Snoc (encode c) → page_on syntax limits (Ok (progress_at start [] true after_return st)) (encodes (c ∷ cs) ++ rest) ≡ Err f
-      by ih (none n) = let w = len_positive c in let v : length (encode c) ≡ 0 = ap length n in let a = l in absurd (omega arith)
-      by ih (some front byte form) =
-          let size : length front + 1 ≡ len_utf8 c = sym (length-append front (byte ∷ [])) ∙ (ap length (sym form) ∙ l) in
-          let parts = and_parts (scalar c) (all_scalars cs) s in
-          let zs = and_parts (not (c == 0)) (no_nuls cs) z in
-          let nonzero : (c == 0) ≡ false = untrue (c == 0) zs.0 in
-          let more : page_on syntax limits (Ok (progress_at start [] true after_return st)) (encodes (c ∷ cs) ++ rest) ≡ page_on syntax limits (Ok (progress_at start [] true after_return st)) (encode c ++ (encodes cs ++ rest))
-          = ap (λ b. page_on syntax limits (Ok (progress_at start [] true after_return st)) b) (append_assoc (encode c) (encodes cs) rest) in
-          by_test {G = page_on syntax limits (Ok (progress_at start [] true after_return st)) (encodes (c ∷ cs) ++ rest) ≡ Err f} (after_return && c == line_feed)
-          (λ t.
-          let is2 : entered false (placed (start + len_utf8 c) cs) ≡ pre ++ e ∷ post = sym (cond-true _ _ _ t) ∙ is in
-          let among = first_among false (start + len_utf8 c) cs (head_of pre e) (tail_of pre e post) (is2 ∙ head_is pre e post) in
+    module _ (front : List ℕ) (byte : ℕ) (form : encode c ≡ front ++ byte ∷ []) (size : length front + 1 ≡ len_utf8 c) where
+      passes_over : passes started after_return c ≡ true → (pre : List Entry) → Hits st pre e f → AllBelow limits.page (pre ++ e ∷ []) → entered false (placed (start + len_utf8 c) cs) ≡ pre ++ e ∷ post → page_on syntax limits (Ok (progress_at start [] started after_return st)) (encode c ++ (encodes cs ++ rest)) ≡ Err f
+      passes_over t pre h b is =
+          let among = first_among false (start + len_utf8 c) cs (head_of pre e) (tail_of pre e post) (is ∙ head_is pre e post) in
           let after : start + length front < (head_of pre e).last = (let b2 = among.from in let d = among.order in omega arith) in
           let page : start + len_utf8 c ≤ limits.page = (let b2 = among.from in let d = among.order in let p = next_page pre e b in omega arith) in
-          more ∙ (passed_on syntax limits c cs (encodes cs ++ rest) start true after_return st st front byte parts.0 form size nonzero page t
+          passed_on syntax limits c cs (encodes cs ++ rest) start started after_return st st front byte is_scalar form size nonzero page t
           (λ k. (let m = next_limit (start + length front) st pre e f h after k in let d = first_same syntax limits st start (start + length front) k in omega arith))
-          ∙ ih false st pre is2 b h))
-          (λ t. more ∙ at pre h b (sym (cond-false _ _ _ t) ∙ is) front byte form size parts.0 nonzero t ih)
-        where
-          at : (pre : List Entry) → Hits st pre e f → AllBelow limits.page (pre ++ e ∷ []) → entry_at c start (start + len_utf8 c - 1) ∷ entered (c == carriage_return) (placed (start + len_utf8 c) cs) ≡ pre ++ e ∷ post
-              → (front : List ℕ) (byte : ℕ) (form : encode c ≡ front ++ byte ∷ []) → length front + 1 ≡ len_utf8 c → IsScalar c → (c == 0) ≡ false → (after_return && c == line_feed) ≡ false
-              → ((ar : Bool) (next : Stood) (pre2 : List Entry) → entered ar (placed (start + len_utf8 c) cs) ≡ pre2 ++ e ∷ post → AllBelow limits.page (pre2 ++ e ∷ []) → Hits next pre2 e f → page_on syntax limits (Ok (progress_at (start + len_utf8 c) [] true ar next)) (encodes cs ++ rest) ≡ Err f)
-              → page_on syntax limits (Ok (progress_at start [] true after_return st)) (encode c ++ (encodes cs ++ rest)) ≡ Err f
-          at [] h b k front byte form size sc nonzero t ih =
-              let q : start + len_utf8 c - 1 ≡ start + length front = omega arith in
-              let same : entry_at c start (start + len_utf8 c - 1) ≡ e = cc in
-              let is_e : entry_at c start (start + length front) ≡ e = ap (λ x. entry_at c start x) (sym q) ∙ same in
-              let hits : Hits st [] (entry_at c start (start + length front)) f = subst (λ x. Hits st [] x f) (sym is_e) h in
-              let page : start + len_utf8 c ≤ limits.page = (let w = ap (λ (x : Entry). x.last) is_e in let p = b.0 in omega arith) in
-              decided_on c cs (encodes cs ++ rest) start true after_return st front byte sc form size nonzero page f t hits.0 hits.1
-          at (d ∷ pre) h b k front byte form size sc nonzero t ih =
-              let q : start + len_utf8 c - 1 ≡ start + length front = omega arith in
-              let same : entry_at c start (start + len_utf8 c - 1) ≡ d = cc in
-              let more : entered (c == carriage_return) (placed (start + len_utf8 c) cs) ≡ pre ++ e ∷ post = cc in
-              let is_d : entry_at c start (start + length front) ≡ d = ap (λ x. entry_at c start x) (sym q) ∙ same in
-              let hits : Hits st (entry_at c start (start + length front) ∷ pre) e f = subst (λ x. Hits st (x ∷ pre) e f) (sym is_d) h in
-              let page : start + len_utf8 c ≤ limits.page = (let w = ap (λ (x : Entry). x.last) is_d in let p = b.0 in omega arith) in
-              entered_on syntax limits c cs (encodes cs ++ rest) start true after_return st st front byte sc form size nonzero page t hits.2.0 hits.0 hits.1 hits.2.1.0
-              ∙ ih (c == carriage_return) hits.2.0 pre more b.1 hits.2.1.1
+          ∙ ih false st pre is b h
+
+      enters : passes started after_return c ≡ false → (pre : List Entry) → Hits st pre e f → AllBelow limits.page (pre ++ e ∷ []) → entry_at c start (start + len_utf8 c - 1) ∷ entered (c == carriage_return) (placed (start + len_utf8 c) cs) ≡ pre ++ e ∷ post
+          → page_on syntax limits (Ok (progress_at start [] started after_return st)) (encode c ++ (encodes cs ++ rest)) ≡ Err f
+      enters t [] h b k =
+          let q : start + len_utf8 c - 1 ≡ start + length front = omega arith in
+          let same : entry_at c start (start + len_utf8 c - 1) ≡ e = cc in
+          let is_e : entry_at c start (start + length front) ≡ e = ap (λ x. entry_at c start x) (sym q) ∙ same in
+          let hits : Hits st [] (entry_at c start (start + length front)) f = subst (λ x. Hits st [] x f) (sym is_e) h in
+          let page : start + len_utf8 c ≤ limits.page = (let w = ap (λ (x : Entry). x.last) is_e in let p = b.0 in omega arith) in
+          decided_on c cs (encodes cs ++ rest) start started after_return st front byte is_scalar form size nonzero page f t hits.0 hits.1
+      enters t (d ∷ pre) h b k =
+          let q : start + len_utf8 c - 1 ≡ start + length front = omega arith in
+          let same : entry_at c start (start + len_utf8 c - 1) ≡ d = cc in
+          let more : entered (c == carriage_return) (placed (start + len_utf8 c) cs) ≡ pre ++ e ∷ post = cc in
+          let is_d : entry_at c start (start + length front) ≡ d = ap (λ x. entry_at c start x) (sym q) ∙ same in
+          let hits : Hits st (entry_at c start (start + length front) ∷ pre) e f = subst (λ x. Hits st (x ∷ pre) e f) (sym is_d) h in
+          let page : start + len_utf8 c ≤ limits.page = (let w = ap (λ (x : Entry). x.last) is_d in let p = b.0 in omega arith) in
+          entered_on syntax limits c cs (encodes cs ++ rest) start started after_return st st front byte is_scalar form size nonzero page t hits.2.0 hits.0 hits.1 hits.2.1.0
+          ∙ ih (c == carriage_return) hits.2.0 pre more b.1 hits.2.1.1
+
+    step : (pre : List Entry) → Hits st pre e f → AllBelow limits.page (pre ++ e ∷ [])
+        → (test ≡ true → entered false (placed (start + len_utf8 c) cs) ≡ pre ++ e ∷ post)
+        → (test ≡ false → entry_at c start (start + len_utf8 c - 1) ∷ entered (c == carriage_return) (placed (start + len_utf8 c) cs) ≡ pre ++ e ∷ post) → Step
+    step pre h b is_over is_in = by (last_of (encode c))
+      where
+        by : Last (encode c) → Step
+        by (no_last n) = let w = len_positive c in let v : length (encode c) ≡ 0 = ap length n in let a = length-encode c in absurd (omega arith)
+        by (a_last front byte form) =
+            let size : length front + 1 ≡ len_utf8 c = sym (length-append front (byte ∷ [])) ∙ (ap length (sym form) ∙ length-encode c) in
+            ap (λ b. page_on syntax limits (Ok (progress_at start [] started after_return st)) b) (append_assoc (encode c) (encodes cs) rest)
+            ∙ by_test {G = page_on syntax limits (Ok (progress_at start [] started after_return st)) (encode c ++ (encodes cs ++ rest)) ≡ Err f} test
+            (λ t. passes_over front byte form size (same ∙ t) pre h b (is_over t))
+            (λ t. enters front byte form size (same ∙ t) pre h b (is_in t))
+
+  walk_hits : (cs rest : List ℕ) (start : ℕ) (after_return : Bool) (st : Stood) (pre : List Entry) (e : Entry) (post : List Entry) (f : Fault) → all_scalars cs ≡ true → no_nuls cs ≡ true
+      → entered after_return (placed start cs) ≡ pre ++ e ∷ post → AllBelow limits.page (pre ++ e ∷ []) → Hits st pre e f
+      → page_on syntax limits (Ok (progress_at start [] true after_return st)) (encodes cs ++ rest) ≡ Err f
+  walk_hits [] rest start after_return st pre e post f s z is b h = absurd (let k = is ∙ head_is pre e post in cc)
+  walk_hits (c ∷ cs) rest start after_return st pre e post f s z is b h =
+      let parts = and_parts (scalar c) (all_scalars cs) s in
+      let zs = and_parts (not (c == 0)) (no_nuls cs) z in
+      step c cs rest start true after_return (after_return && c == line_feed) st e post f refl parts.0 (untrue (c == 0) zs.0)
+      (λ ar next pre2 is2 b2 h2. walk_hits cs rest (start + len_utf8 c) ar next pre2 e post f parts.1 zs.1 is2 b2 h2) pre h b
+      (λ t. sym (cond-true _ _ _ t) ∙ is) (λ t. sym (cond-false _ _ _ t) ∙ is)
 
   -- the same from the first character on, where a mark is passed over
   pub page_hits : (cs rest : List ℕ) (st : Stood) (pre : List Entry) (e : Entry) (post : List Entry) (f : Fault) → all_scalars cs ≡ true → no_nuls cs ≡ true
       → entered false (without_mark (placed 0 cs)) ≡ pre ++ e ∷ post → AllBelow limits.page (pre ++ e ∷ []) → Hits st pre e f
       → page_on syntax limits (Ok (progress_at 0 [] false false st)) (encodes cs ++ rest) ≡ Err f
-  page_hits [] rest st [] e post f s z is b h = absurd (cc)
-  page_hits [] rest st (d ∷ pre) e post f s z is b h = absurd (cc)
-  page_hits (c ∷ cs) rest st pre e post f s z is b h = by (snoc_of (encode c))
-    where
-      l : length (encode c) ≡ len_utf8 c
-      l = length-encode c
-
-      by : Snoc (encode c) → page_on syntax limits (Ok (progress_at 0 [] false false st)) (encodes (c ∷ cs) ++ rest) ≡ Err f
-      by (none n) = let w = len_positive c in let v : length (encode c) ≡ 0 = ap length n in let a = l in absurd (omega arith)
-      by (some front byte form) =
-          let size : length front + 1 ≡ len_utf8 c = sym (length-append front (byte ∷ [])) ∙ (ap length (sym form) ∙ l) in
-          let parts = and_parts (scalar c) (all_scalars cs) s in
-          let zs = and_parts (not (c == 0)) (no_nuls cs) z in
-          let nonzero : (c == 0) ≡ false = untrue (c == 0) zs.0 in
-          let more : page_on syntax limits (Ok (progress_at 0 [] false false st)) (encodes (c ∷ cs) ++ rest) ≡ page_on syntax limits (Ok (progress_at 0 [] false false st)) (encode c ++ (encodes cs ++ rest))
-          = ap (λ b. page_on syntax limits (Ok (progress_at 0 [] false false st)) b) (append_assoc (encode c) (encodes cs) rest) in
-          by_test {G = page_on syntax limits (Ok (progress_at 0 [] false false st)) (encodes (c ∷ cs) ++ rest) ≡ Err f} (c == byte_order_mark)
-          (λ t.
-          let is2 : entered false (placed (0 + len_utf8 c) cs) ≡ pre ++ e ∷ post = sym (ap (λ es. entered false es) (cond-true _ _ _ t)) ∙ is in
-          let among = first_among false (0 + len_utf8 c) cs (head_of pre e) (tail_of pre e post) (is2 ∙ head_is pre e post) in
-          let after : 0 + length front < (head_of pre e).last = (let b2 = among.from in let d = among.order in omega arith) in
-          let page : 0 + len_utf8 c ≤ limits.page = (let b2 = among.from in let d = among.order in let p = next_page pre e b in omega arith) in
-          more ∙ (passed_on syntax limits c cs (encodes cs ++ rest) 0 false false st st front byte parts.0 form size nonzero page (rw t refl)
-          (λ k. (let m = next_limit (0 + length front) st pre e f h after k in let d = first_same syntax limits st 0 (0 + length front) k in omega arith))
-          ∙ walk_hits cs rest (0 + len_utf8 c) false st pre e post f parts.1 zs.1 is2 b h))
-          (λ t. more ∙ at pre h b (sym (ap (λ es. entered false es) (cond-false _ _ _ t)) ∙ is) front byte form size parts.0 nonzero (rw t refl) parts.1 zs.1)
-        where
-          at : (pre : List Entry) → Hits st pre e f → AllBelow limits.page (pre ++ e ∷ []) → entry_at c 0 (0 + len_utf8 c - 1) ∷ entered (c == carriage_return) (placed (0 + len_utf8 c) cs) ≡ pre ++ e ∷ post
-              → (front : List ℕ) (byte : ℕ) (form : encode c ≡ front ++ byte ∷ []) → length front + 1 ≡ len_utf8 c → IsScalar c → (c == 0) ≡ false → passes false false c ≡ false → all_scalars cs ≡ true → no_nuls cs ≡ true
-              → page_on syntax limits (Ok (progress_at 0 [] false false st)) (encode c ++ (encodes cs ++ rest)) ≡ Err f
-          at [] h b k front byte form size sc nonzero t ss zz =
-              let q : 0 + len_utf8 c - 1 ≡ 0 + length front = omega arith in
-              let same : entry_at c 0 (0 + len_utf8 c - 1) ≡ e = cc in
-              let is_e : entry_at c 0 (0 + length front) ≡ e = ap (λ x. entry_at c 0 x) (sym q) ∙ same in
-              let hits : Hits st [] (entry_at c 0 (0 + length front)) f = subst (λ x. Hits st [] x f) (sym is_e) h in
-              let page : 0 + len_utf8 c ≤ limits.page = (let w = ap (λ (x : Entry). x.last) is_e in let p = b.0 in omega arith) in
-              decided_on c cs (encodes cs ++ rest) 0 false false st front byte sc form size nonzero page f t hits.0 hits.1
-          at (d ∷ pre) h b k front byte form size sc nonzero t ss zz =
-              let q : 0 + len_utf8 c - 1 ≡ 0 + length front = omega arith in
-              let same : entry_at c 0 (0 + len_utf8 c - 1) ≡ d = cc in
-              let more : entered (c == carriage_return) (placed (0 + len_utf8 c) cs) ≡ pre ++ e ∷ post = cc in
-              let is_d : entry_at c 0 (0 + length front) ≡ d = ap (λ x. entry_at c 0 x) (sym q) ∙ same in
-              let hits : Hits st (entry_at c 0 (0 + length front) ∷ pre) e f = subst (λ x. Hits st (x ∷ pre) e f) (sym is_d) h in
-              let page : 0 + len_utf8 c ≤ limits.page = (let w = ap (λ (x : Entry). x.last) is_d in let p = b.0 in omega arith) in
-              entered_on syntax limits c cs (encodes cs ++ rest) 0 false false st st front byte sc form size nonzero page t hits.2.0 hits.0 hits.1 hits.2.1.0
-              ∙ walk_hits cs rest (0 + len_utf8 c) (c == carriage_return) hits.2.0 pre e post f ss zz more b.1 hits.2.1.1
+  page_hits [] rest st pre e post f s z is b h = absurd (let k = is ∙ head_is pre e post in cc)
+  page_hits (c ∷ cs) rest st pre e post f s z is b h =
+      let parts = and_parts (scalar c) (all_scalars cs) s in
+      let zs = and_parts (not (c == 0)) (no_nuls cs) z in
+      step c cs rest 0 false false (c == byte_order_mark) st e post f (or-false (c == byte_order_mark)) parts.0 (untrue (c == 0) zs.0)
+      (λ ar next pre2 is2 b2 h2. walk_hits cs rest (0 + len_utf8 c) ar next pre2 e post f parts.1 zs.1 is2 b2 h2) pre h b
+      (λ t. sym (ap (λ es. entered false es) (cond-true _ _ _ t)) ∙ is) (λ t. sym (ap (λ es. entered false es) (cond-false _ _ _ t)) ∙ is)

@@ -1,11 +1,10 @@
 -- The reader of bytes finds each fault of the grammar.
-use Rattle.std.proofs.Common.{◌≡◌, ◌≢◌, ◌∙◌, ⊎_elim, inl, inr, ℕ, ◌+◌, ◌<◌, ◌≤◌, Bool, true, false, List, [], ◌∷◌, ◌++◌, refl, sym, ap, subst, length, nat_le, Option, Some, None, Result, Ok, Err, arith}
-use Rattle.std.specs.Prelude.{◌&&◌, not, codes, if◌then◌else◌}
+use Rattle.std.proofs.Common.{◌≡◌, ◌≢◌, ◌∙◌, ⊎_elim, inl, inr, ℕ, ◌+◌, ◌<◌, ◌≤◌, Bool, true, false, List, [], ◌∷◌, ◌++◌, refl, sym, ap, subst, length, nat_le, Some, Result, Ok, Err, arith}
+use Rattle.std.specs.Prelude.{◌&&◌, not, if◌then◌else◌}
 use Rattle.std.proofs.lemmas.List.{length-append}
 use Rattle.rx_terms.specs.Ascii.{greater_than_sign, right_bracket}
 use Rattle.rx_terms.specs.Text.{Chars}
 use Rattle.rx_chars.specs.declared.syntax.Syntax.{Syntax}
-use Rattle.rx_chars.specs.declared.syntax.Syntax.TheVariants.{Xhtml}
 use Rattle.rx_chars.specs.Characters.{Entry}
 use Rattle.rx_grammar.specs.declared.contents.Content.{Content}
 use Rattle.rx_grammar.specs.declared.contents.Content.TheVariants as content
@@ -13,24 +12,14 @@ use Rattle.rx_grammar.specs.declared.faults.Fault.{Fault}
 use Rattle.rx_grammar.specs.declared.faults.Kind.{Kind}
 use Rattle.rx_grammar.specs.declared.faults.Kind.TheVariants as kind
 use Rattle.rx_grammar.specs.declared.limits.Limits.{Limits}
-use Rattle.rx_grammar.specs.Tokens.{Tag, Token, tag, character, reference, kept, section, comment, doctype}
-use Rattle.rx_grammar.specs.Spelling.{Spells, a_doctype, keeps_runs}
-use Rattle.rx_grammar.specs.Shapes.{begins_tag, begins}
+use Rattle.rx_grammar.specs.Tokens.{Tag, Token, tag, character, doctype}
 use Rattle.rx_grammar.specs.Items.{values, Item, is_literal, is_strict_literal}
-use Rattle.rx_grammar.specs.Begun.{Line, inside_of, Phase, before, within, after}
+use Rattle.rx_grammar.specs.Begun.{Line, inside_of, Phase, before}
 use Rattle.rx_grammar.specs.PageFaults.{is_known_tag, token_of, IsPending, IsShort, Unfinished, token_begun, tag_begun, run_begun, opening_begun, Reached, first_row, tag_rows, Faulty, FaultAt, Before, ends_in_brackets}
 use Rattle.rx_grammar.specs.PageFaults as faults
-use Rattle.rx_reader.proofs.TagFaultLaws.{reads_each_front}
 use Rattle.rx_pages.specs.Nesting.{Event, Nesting, content_at, IsAt, step_by, unless_refused, tag_passes}
-use Rattle.rx_pages.specs.Scanner.{GoesOn, Verdict, whole, refused, verdict, ReadAs, at_last, at_next}
+use Rattle.rx_pages.specs.Scanner.{GoesOn, Verdict, whole, refused, verdict}
 use Rattle.rx_pages.specs.PageReader.{Scanned, first_of, spot_of, may_lead, item_of, is_doctype, entering, told as told_by, with_events, read_byte, page_read, end_of}
-use Rattle.rx_pages.proofs.Texts.{run_goes}
-use Rattle.rx_pages.proofs.Openings.{opening_goes, refuses_opening}
-use Rattle.rx_pages.proofs.Pending.{begun_goes}
-use Rattle.rx_pages.proofs.Refusals.{IsRefused, refuses_run, refuses_comment, refuses_text, refuses_less_than, refuses_section}
-use Rattle.rx_pages.proofs.DoctypeFaults.{refuses_doctype}
-use Rattle.rx_pages.proofs.TagRuns.{tag_goes_on, tag_refused}
-use Rattle.rx_pages.proofs.Spellings.{reads_each}
 use Rattle.rx_pages.proofs.EntrySteps.{Stood, scanning_of, stood_by, nested_by, entry_step}
 use Rattle.rx_pages.proofs.ByteSteps.{not_long, is_le}
 use Rattle.rx_pages.proofs.TokenWalk.{stood}
@@ -40,29 +29,13 @@ use Rattle.rx_pages.proofs.KnownTags.{known_more}
 use Rattle.rx_pages.proofs.Tokens.{values_append}
 use Rattle.rx_pages.proofs.FaultRead.{stands_there, scan_there, byte_fault, page_too_long, not_utf8, nul, tag_too_long, page_ends}
 use Rattle.rx_pages.proofs.LastToken.{token_of_item}
+use Rattle.std.proofs.Math.Bool.{and-false}
+use Rattle.rx_pages.specs.Faults.{Decides, by_character, by_token, by_section_end}
+use Rattle.rx_pages.proofs.Judged.{goes, refused_row, not_first, faults_are_decided}
 
 -- what begins a token goes on
 pub pending_goes : (s : Syntax) (i : Content) (run : Chars) → IsPending s i run → GoesOn s i [] run
-pending_goes s i run p = ⊎_elim (λ e. subst (λ x. GoesOn s i [] x) (sym e) tt) (by run) p
-  where
-    by : (run : Chars) → Unfinished s i run → GoesOn s i [] run
-    by _ (token_begun c d run rest {next = next} token sp) = begun_goes s i (c ∷ run) d rest next token sp
-    by _ (tag_begun text k b) = tag_goes_on s i text k ((reads_each_front s text).0 b)
-    by _ (run_begun run r b) = run_goes s i run r b
-    by _ (opening_begun text e m h) = subst (λ (x : Syntax). GoesOn x i [] (60 ∷ text)) (sym e) (opening_goes i m text h)
-
--- XHTML keeps no runs
-strict_runs : (line : Line) → keeps_runs (inside_of Xhtml line).content ≡ false
-strict_runs [] = refl
-strict_runs (t ∷ above) = refl
-
--- a whole token that needs no next character is read at its last one
-whole_verdict : (s : Syntax) (i : Content) (front : Chars) (c : ℕ) (chars : Chars) (token : Token) → Spells s i chars None token → chars ≡ front ++ c ∷ [] → verdict s i front c ≡ whole token
-whole_verdict s i front c chars token sp e = by chars None token (reads_each s i chars None token sp) e refl
-  where
-    by : (x : Chars) (n : Option ℕ) (t : Token) → ReadAs s i x n t → x ≡ front ++ c ∷ [] → n ≡ None → verdict s i front c ≡ whole t
-    by _ _ _ (at_last f d t go v) e n = let p = two_lasts f front d c e in subst (λ x. verdict s i x c ≡ whole t) p.0 (subst (λ x. verdict s i f x ≡ whole t) p.1 v)
-    by _ _ _ (at_next x d t go v) e n = absurd (cc)
+pending_goes s i run p = ⊎_elim (λ e. subst (λ x. GoesOn s i [] x) (sym e) tt) (goes s i run) p
 
 -- two brackets stand before
 pub brackets_before : (items : List Item) (two last : Bool) → ends_in_brackets items ≡ true → (flags_behind items two last).0 ≡ true
@@ -73,28 +46,13 @@ brackets_before (a ∷ b ∷ c ∷ items) two last h = brackets_before (b ∷ c 
 
 -- only a character is a literal one
 pub no_literal : (d : ℕ) (i : Content) (token : Token) → ((c : ℕ) → token ≢ character c) → is_strict_literal d i token ≡ false
-no_literal d content.Strict (tag t) n = refl
 no_literal d content.Strict (character c) n = absurd (n c refl)
-no_literal d content.Strict (reference c) n = refl
-no_literal d content.Strict (kept x) n = refl
-no_literal d content.Strict (section x) n = refl
-no_literal d content.Strict comment n = refl
-no_literal d content.Strict doctype n = refl
-no_literal d content.Outside token n = refl
-no_literal d content.Html token n = refl
-no_literal d content.Foreign token n = refl
-no_literal d (content.Raw name) token n = refl
-no_literal d (content.Rcdata name) token n = refl
-
-and_false : (b : Bool) → (b && false) ≡ false
-and_false true = refl
-and_false false = refl
+no_literal d _ _ n = refl
 
 no_lead : (phase : Phase) → phase ≢ before false → may_lead phase ≡ false
 no_lead (before true) n = refl
 no_lead (before false) n = absurd (n refl)
-no_lead within n = refl
-no_lead after n = refl
+no_lead _ n = refl
 
 pub item_content : (i : Content) (token : Token) (run : List Entry) (e : Entry) → (item_of i token (run ++ e ∷ [])).content ≡ i
 item_content i token [] e = refl
@@ -127,7 +85,7 @@ module _ (syntax : Syntax) (limits : Limits) (m : Nesting) (events : List Event)
       (ap (λ token. is_strict_literal 62 (item (character 62)).content token) (token_of_item inside (character 62) (run ++ c ∷ [])) ∙ ap (λ x. is_strict_literal 62 x (character 62)) (item_content inside (character 62) run c ∙ i)))
 
   no_bracket : (token : Token) → ((d : ℕ) → token ≢ character d) → (two && is_literal greater_than_sign (item token)) ≡ false
-  no_bracket token n = ap (λ b. two && b) (ap (λ t. is_strict_literal 62 (item token).content t) (token_of_item inside token (run ++ c ∷ [])) ∙ no_literal 62 (item token).content token n) ∙ and_false two
+  no_bracket token n = ap (λ b. two && b) (ap (λ t. is_strict_literal 62 (item token).content t) (token_of_item inside token (run ++ c ∷ [])) ∙ no_literal 62 (item token).content token n) ∙ and-false two
 
   by_doctype : m.phase ≢ before false → verdict syntax inside (values run) c.value ≡ whole doctype → entry_step syntax limits st c ≡ Err kind.BadDoctype
   by_doctype n h =
@@ -155,41 +113,29 @@ module _ (syntax : Syntax) (limits : Limits) (items : List Item) (line : Line) (
   same_place : content_at syntax m ≡ place
   same_place = ap (λ (l : Line). (inside_of syntax l).content) at.line_is
 
-  from_refusal : (found : Kind) (chars : Chars) → IsRefused syntax place found chars → chars ≡ values run ++ c.value ∷ [] → entry_step syntax limits there c ≡ Err found
-  from_refusal found chars r e =
-      let p = two_lasts r.front (values run) r.c c.value (sym r.are ∙ e) in
-      by_refusal syntax limits m events (flags_behind items false false).0 (flags_behind items false false).1 run c found
-      (ap (λ i. verdict syntax i (values run) c.value) same_place ∙ subst (λ x. verdict syntax place x c.value ≡ refused found) p.0 (subst (λ x. verdict syntax place r.front x ≡ refused found) p.1 r.refuses))
+  -- the verdict on the entry
+  there_is : (front : Chars) (d : ℕ) (v : Verdict) → front ++ d ∷ [] ≡ values run ++ c.value ∷ [] → verdict syntax place front d ≡ v → verdict syntax (content_at syntax m) (values run) c.value ≡ v
+  there_is front d v e h =
+      let p = two_lasts front (values run) d c.value e in
+      ap (λ i. verdict syntax i (values run) c.value) same_place ∙ subst (λ x. verdict syntax place x c.value ≡ v) p.0 (subst (λ x. verdict syntax place front x ≡ v) p.1 h)
 
-  at_place : (token : Token) → verdict syntax place (values run) c.value ≡ whole token → verdict syntax (content_at syntax m) (values run) c.value ≡ whole token
-  at_place token h = ap (λ i. verdict syntax i (values run) c.value) same_place ∙ h
+  by_whole : (item : Item) (n : Nesting) (token : Token) (found : Kind) → IsAt line phase n → verdict syntax (content_at syntax m) (values run) c.value ≡ whole token → step_by syntax limits.depth n item token ≡ Err found → entry_step syntax limits there c ≡ Err found
+  by_whole item n (tag t) found same v h =
+      by_tag syntax limits m events (flags_behind items false false).0 (flags_behind items false false).1 run c t found
+      (ap (λ l. first_row (tag_rows syntax limits.depth l m.phase t)) (at.line_is ∙ sym same.line_is) ∙ (ap (λ p. first_row (tag_rows syntax limits.depth n.line p t)) (at.phase_is ∙ sym same.phase_is) ∙ refused_row _ (tag_passes syntax n.line item t) found h)) v
+  by_whole item n doctype found same v h =
+      let k = not_first found n.phase h in
+      subst (λ x. entry_step syntax limits there c ≡ Err x) (sym k.0) (by_doctype syntax limits m events (flags_behind items false false).0 (flags_behind items false false).1 run c (λ q. k.1 (same.phase_is ∙ (sym at.phase_is ∙ q))) v)
+  by_whole item n _ found same v h = absurd (cc)
 
   pub faulty_step : (found : Kind) (chars : Chars) → Faulty syntax limits.depth items line phase place found chars → chars ≡ values run ++ c.value ∷ [] → entry_step syntax limits there c ≡ Err found
-  faulty_step _ _ (faults.in_tag {found = found} text k f) e = from_refusal found (60 ∷ text) (tag_refused syntax place text found k f) e
-  faulty_step _ _ (faults.no_markup text d x markup o mo b) e =
-      from_refusal kind.BadTag (60 ∷ (text ++ d ∷ [])) (subst (λ (s : Syntax). IsRefused s place kind.BadTag (60 ∷ (text ++ d ∷ []))) (sym x) (refuses_opening place markup text d o mo (subst (λ (s : Syntax). begins (begins_tag s) (text ++ d ∷ []) ≡ false) x b))) e
-  faulty_step _ _ (faults.in_run {found = found} r h f) e =
-      from_refusal found (38 ∷ r) (refuses_run syntax place h (λ x. subst (λ (s : Syntax). keeps_runs (inside_of s line).content ≡ false) (sym x) (strict_runs line)) found r f) e
-  faulty_step _ _ (faults.in_comment text d x markup f n) e =
-      from_refusal kind.StrictText (60 ∷ (codes "!--" ++ (text ++ d ∷ []))) (subst (λ (s : Syntax). IsRefused s place kind.StrictText (60 ∷ (codes "!--" ++ (text ++ d ∷ [])))) (sym x) (refuses_comment place markup text d f n)) e
-  faulty_step _ _ (faults.section_end i b) e =
-      let p = two_lasts [] (values run) 62 c.value e in
-      by_bracket syntax limits m events (flags_behind items false false).0 (flags_behind items false false).1 run c (same_place ∙ i) (brackets_before items false false b)
-      (at_place (character 62) (ap (λ x. verdict syntax x (values run) c.value) i ∙ (ap (λ x. verdict syntax content.Strict x c.value) (sym p.0) ∙ ap (λ x. verdict syntax content.Strict [] x) (sym p.1))))
-  faulty_step _ _ (faults.no_doctype keyword text d markup w b n) e =
-      from_refusal kind.BadDoctype (60 ∷ 33 ∷ (keyword ++ (text ++ d ∷ []))) (refuses_doctype syntax place markup keyword text d w b n) e
-  faulty_step _ _ (faults.late_doctype text markup d n) e =
-      by_doctype syntax limits m events (flags_behind items false false).0 (flags_behind items false false).1 run c (λ h. n (sym at.phase_is ∙ h))
-      (at_place doctype (whole_verdict syntax place (values run) c.value (60 ∷ 33 ∷ text) doctype (a_doctype text markup d) e))
-  faulty_step _ _ (faults.outside_text d i w n) e = from_refusal kind.Outside (d ∷ []) (subst (λ x. IsRefused syntax x kind.Outside (d ∷ [])) (sym i) (refuses_text syntax d w n)) e
-  faulty_step _ _ (faults.outside_less_than d x i b) e =
-      from_refusal kind.Outside (60 ∷ d ∷ []) (subst (λ y. IsRefused syntax y kind.Outside (60 ∷ d ∷ [])) (sym i) (subst (λ (s : Syntax). IsRefused s content.Outside kind.Outside (60 ∷ d ∷ [])) (sym x) (refuses_less_than d b))) e
-  faulty_step _ _ (faults.outside_section x i) e =
-      from_refusal kind.Outside (codes "<![CDATA[") (subst (λ y. IsRefused syntax y kind.Outside (codes "<![CDATA[")) (sym i) (subst (λ (s : Syntax). IsRefused s content.Outside kind.Outside (codes "<![CDATA[")) (sym x) refuses_section)) e
-  faulty_step _ _ (faults.at_tag {found = found} chars t sp row) e =
-      by_tag syntax limits m events (flags_behind items false false).0 (flags_behind items false false).1 run c t found
-      (ap (λ (l : Line). first_row (tag_rows syntax limits.depth l m.phase t)) at.line_is ∙ (ap (λ (p : Phase). first_row (tag_rows syntax limits.depth line p t)) at.phase_is ∙ row))
-      (at_place (tag t) (whole_verdict syntax place (values run) c.value chars (tag t) sp e))
+  faulty_step found chars f e = by found chars ((faults_are_decided syntax limits.depth items line phase found chars).0 f) e
+    where
+      by : (found : Kind) (chars : Chars) → Decides syntax limits.depth items line phase place found chars → chars ≡ values run ++ c.value ∷ [] → entry_step syntax limits there c ≡ Err found
+      by found _ (by_character front d g r) e = by_refusal syntax limits m events (flags_behind items false false).0 (flags_behind items false false).1 run c found (there_is front d (refused found) e r)
+      by found _ (by_token front d n item g v same h) e = by_whole item n item.token found same (there_is front d (whole item.token) e v) h
+      by _ _ (by_section_end i b) e =
+          by_bracket syntax limits m events (flags_behind items false false).0 (flags_behind items false false).1 run c (same_place ∙ i) (brackets_before items false false b) (there_is [] 62 (whole (character 62)) e (ap (λ x. verdict syntax x [] 62) i))
 
 -- the token of a run with one more character
 token_first : (bytes_before : List ℕ) (run : List Entry) (c : Entry) → token_of bytes_before (run ++ c ∷ []) ≡ first_of run c.first

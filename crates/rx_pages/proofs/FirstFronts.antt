@@ -1,14 +1,15 @@
 -- The first front of a list of characters that meets a test.
 use Rattle.std.proofs.Common.{◌≡◌, ◌≢◌, ◌∙◌, ℕ, Bool, true, false, [], ◌∷◌, ◌++◌, refl, ap, sym, subst, append-nil, append_assoc, inl, inr, eqb-true}
-use Rattle.std.specs.Prelude.{◌&&◌, ◌||◌, ◌==◌}
+use Rattle.std.specs.Prelude.{◌&&◌, ◌==◌}
 use Rattle.rx_terms.specs.Text.{Chars, begins_with}
 use Rattle.rx_grammar.specs.Names.{same}
 use Rattle.rx_grammar.specs.Spelling.{ends_with, IsFirst}
 use Rattle.rx_pages.proofs.Reading.{Last, no_last, a_last, last_of}
-use Rattle.rx_pages.proofs.Comments.{same_init}
 use Rattle.rx_pages.proofs.Contents.{same_is}
 use Rattle.rx_terms.proofs.Bools.{both, either, not_both_ways, by_test}
-use Rattle.rx_reader.proofs.Fronts.{equal}
+use Rattle.std.proofs.lemmas.Bool.{or_right}
+use Rattle.rx_reader.proofs.ValueFaults.{snoc_front}
+use Rattle.rx_reader.proofs.OneToken.{same_self}
 
 -- no front meets the test, nor does the whole
 abbrev pub NoFront : (Chars → Bool) → Chars → Type 0
@@ -28,7 +29,7 @@ cut_last text front c more e n = by (last_of more)
   where
     by : Last more → Cut text front c more
     by (no_last k) = absurd (n k)
-    by (a_last m d k) = record { left = m; is = same_init text (front ++ m) c d (e ∙ (ap (λ x. front ++ x) k ∙ sym (append_assoc front m (d ∷ [])))) }
+    by (a_last m d k) = record { left = m; is = snoc_front text (front ++ m) c d (e ∙ (ap (λ x. front ++ x) k ∙ sym (append_assoc front m (d ∷ [])))) }
 
 module _ (test : Chars → Bool) where
   pub no_front_nil : test [] ≡ false → NoFront test []
@@ -99,15 +100,7 @@ ends_so end (c ∷ text) h = elim (either (same end (c ∷ text)) _ h) [
   | inr e ↦ let k = ends_so end text e in record { front = c ∷ k.front; are = ap (λ x. c ∷ x) k.are }
 ]
 
-pub same_self : (text : Chars) → same text text ≡ true
-same_self [] = refl
-same_self (c ∷ text) = rw (equal c, same_self text) refl
-
-pub or_second : (a b : Bool) → b ≡ true → (a || b) ≡ true
-or_second true b h = refl
-or_second false b h = h
-
 pub ends_append : (text end : Chars) → ends_with end (text ++ end) ≡ true
 ends_append [] [] = refl
 ends_append [] (c ∷ end) = rw (same_self (c ∷ end)) refl
-ends_append (d ∷ text) end = or_second (same end (d ∷ (text ++ end))) _ (ends_append text end)
+ends_append (d ∷ text) end = or_right (same end (d ∷ (text ++ end))) _ (ends_append text end)

@@ -74,31 +74,6 @@ last_of : (start : ℕ) (es : List Entry) (c : Entry) → From start (es ++ c �
 last_of start [] c f = f.0
 last_of start (e ∷ es) c f = last_of start es c f.1
 
--- they end before one
-abbrev pub Within : ℕ → List Entry → Type 0
-Within end [] = Unit {0}
-Within end (e ∷ es) = (e.last + 1 ≤ end) × Within end es
-
-all_within : (end : ℕ) (after_return : Bool) (start : ℕ) (cs : List ℕ) → start + length (encodes cs) ≤ end → Within end (entered after_return (placed start cs))
-all_within end after_return start [] h = tt
-all_within end after_return start (c ∷ cs) h =
-    let a = length-append (encode c) (encodes cs) in
-    let l = length-encode c in
-    let p = len_positive c in
-    by_test {G = Within end (entered after_return (placed start (c ∷ cs)))} (after_return && c == line_feed)
-    (λ t. subst (λ es. Within end es) (sym (cond-true _ _ _ t)) (all_within end false (start + len_utf8 c) cs (omega arith)))
-    (λ t. subst (λ es. Within end es) (sym (cond-false _ _ _ t)) (omega arith, all_within end (c == carriage_return) (start + len_utf8 c) cs (omega arith)))
-
--- the entries of a whole page end before its bytes do
-pub page_within : (cs : List ℕ) → Within (length (encodes cs)) (entered false (without_mark (placed 0 cs)))
-page_within [] = tt
-page_within (c ∷ cs) =
-    let a = length-append (encode c) (encodes cs) in
-    let l = length-encode c in
-    by_test {G = Within (length (encodes (c ∷ cs))) (entered false (without_mark (placed 0 (c ∷ cs))))} (c == byte_order_mark)
-    (λ t. subst (λ es. Within (length (encodes (c ∷ cs))) (entered false es)) (sym (cond-true _ _ _ t)) (all_within (length (encodes (c ∷ cs))) false (0 + len_utf8 c) cs (omega arith)))
-    (λ t. subst (λ es. Within (length (encodes (c ∷ cs))) (entered false es)) (sym (cond-false _ _ _ t)) (all_within (length (encodes (c ∷ cs))) false 0 (c ∷ cs) (omega arith)))
-
 -- the same of a whole page
 record PageParted (cs : List ℕ) (front : List Entry) (e : Entry) (rest : List Entry) : Type 0 where
   before : List ℕ

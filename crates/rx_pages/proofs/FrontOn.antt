@@ -1,11 +1,11 @@
 -- One more character behind the front of a page: the front goes on with it, or it decides a fault.
-use Rattle.std.proofs.Common.{◌≡◌, ◌≢◌, ◌∙◌, ◌⊎◌, inl, inr, ℕ, zero, suc, ◌+◌, Bool, true, false, List, [], ◌∷◌, ◌++◌, refl, sym, ap, subst, eqb-true, length, append_assoc, append-nil, Option, Some, None, Result, Ok, Err, arith}
-use Rattle.std.specs.Prelude.{◌&&◌, ◌||◌, ◌==◌, not, take, drop, if◌then◌else◌}
+use Rattle.std.proofs.Common.{◌≡◌, ◌≢◌, ◌∙◌, ◌⊎◌, inl, inr, ℕ, ◌+◌, Bool, true, false, List, [], ◌∷◌, ◌++◌, refl, sym, ap, subst, eqb-true, append_assoc, append-nil, Option, Some, None, Result, Ok, Err, arith}
+use Rattle.std.specs.Prelude.{◌&&◌, ◌||◌, ◌==◌, not, if◌then◌else◌}
 use Rattle.std.specs.Str.{all_scalars}
 use lib.Utf8.{encodes}
 use Rattle.std.proofs.lemmas.Bool.{and_parts, and_from}
-use Rattle.rx_terms.specs.Ascii.{ampersand, solidus, less_than_sign, greater_than_sign}
-use Rattle.rx_terms.specs.Text.{Chars, lowered}
+use Rattle.rx_terms.specs.Ascii.{ampersand, less_than_sign, greater_than_sign}
+use Rattle.rx_terms.specs.Text.{Chars}
 use Rattle.rx_chars.specs.declared.syntax.Syntax.{Syntax}
 use Rattle.rx_chars.specs.Characters.{Entry, entered, placed, without_mark}
 use Rattle.rx_grammar.specs.declared.contents.Content.{Content}
@@ -13,16 +13,14 @@ use Rattle.rx_grammar.specs.declared.contents.Content.TheVariants as content
 use Rattle.rx_grammar.specs.declared.faults.Kind.{Kind}
 use Rattle.rx_grammar.specs.declared.faults.Kind.TheVariants as kind
 use Rattle.rx_grammar.specs.declared.limits.Limits.{Limits}
-use Rattle.rx_grammar.specs.Tokens.{Token, tag, character, reference, kept, section, comment, doctype}
+use Rattle.rx_grammar.specs.Tokens.{Token, tag, character, kept}
 use Rattle.rx_grammar.specs.Spelling.{Spells, has_markup, has_references, raw_name, is_text}
-use Rattle.rx_grammar.specs.Shapes.{ends_name, begins}
-use Rattle.rx_grammar.specs.Names.{same}
 use Rattle.rx_grammar.specs.Spelling as spelling
-use Rattle.rx_grammar.specs.Items.{values, next_of, Item, last_from, Spelled, no_more, one, Fits, AllFit, is_literal, is_strict_literal, no_section_end}
+use Rattle.rx_grammar.specs.Items.{values, next_of, Item, Spelled, no_more, one, Fits, AllFit, is_literal, is_strict_literal, no_section_end}
 use Rattle.rx_grammar.specs.Pages.{has_no_nul}
 use Rattle.rx_grammar.specs.Begun.{Line, inside_of, Phase, Stands}
-use Rattle.rx_grammar.specs.PageFaults.{is_known_raw, is_known_after, is_known_tag, token_of, IsPending, IsShort, Reached, Faulty, ends_in_brackets}
-use Rattle.rx_terms.proofs.Bools.{by_test, not_both_ways}
+use Rattle.rx_grammar.specs.PageFaults.{token_of, IsPending, IsShort, Reached, Faulty, ends_in_brackets, is_known_tag}
+use Rattle.rx_terms.proofs.Bools.{by_test}
 use Rattle.rx_pages.specs.Nesting.{Nesting, Step, text_step, step_by, nest_step}
 use Rattle.rx_pages.specs.Scanner.{GoesOn, Verdict, goes_on, whole, ended, refused, verdict, at_first, at_last, at_next}
 use Rattle.rx_pages.specs.Faults.{by_token, by_section_end}
@@ -40,6 +38,9 @@ use Rattle.rx_pages.proofs.EndedRuns.{ended_kept}
 use Rattle.rx_pages.proofs.KnownSpelled.{spelled_known}
 use Rattle.rx_pages.proofs.FaultsRead.{no_literal, item_content}
 use Rattle.rx_pages.proofs.LastToken.{token_of_item}
+use Rattle.std.proofs.Math.Bool.{and-false}
+use Rattle.rx_pages.proofs.ByteFacts.{item_last}
+use Rattle.rx_pages.proofs.KnownTags.{one_unknown}
 
 -- what may go on
 pub goes_more : (s : Syntax) (i : Content) (before a : Chars) (c : ℕ) → GoesOn s i before a → verdict s i (before ++ a) c ≡ goes_on → GoesOn s i before (a ++ c ∷ [])
@@ -64,15 +65,6 @@ brackets [] h = absurd (cc)
 brackets (a ∷ []) h = absurd (cc)
 brackets (a ∷ b ∷ items) h = brackets_of a b items false false h
 
--- the place of a token whose characters end with `e`
-last_is : (last : ℕ) (more : List Entry) (e : Entry) → last_from last (more ++ e ∷ []) ≡ e.last
-last_is last [] e = refl
-last_is last (d ∷ more) e = last_is d.last more e
-
-item_last : (i : Content) (token : Token) (run : List Entry) (e : Entry) → (item_of i token (run ++ e ∷ [])).last ≡ e.last
-item_last i token [] e = refl
-item_last i token (d ∷ run) e = last_is d.last run e
-
 item_first : (i : Content) (token : Token) (run : List Entry) (e : Entry) (bytes : List ℕ) → (item_of i token (run ++ e ∷ [])).first ≡ token_of bytes (run ++ e ∷ [])
 item_first i token [] e bytes = refl
 item_first i token (d ∷ run) e bytes = refl
@@ -84,63 +76,24 @@ record Literal (i : Content) (token : Token) : Type 0 where
 
 literal_by : (i : Content) (t : Token) → is_strict_literal greater_than_sign i t ≡ true → Literal i t
 literal_by content.Strict (character c) h = record { strict = refl; is = ap (λ x. character x) (sym (eqb-true greater_than_sign c h)) }
-literal_by content.Strict (tag t) h = absurd (cc)
-literal_by content.Strict (reference c) h = absurd (cc)
-literal_by content.Strict (kept x) h = absurd (cc)
-literal_by content.Strict (section x) h = absurd (cc)
-literal_by content.Strict comment h = absurd (cc)
-literal_by content.Strict doctype h = absurd (cc)
-literal_by content.Outside t h = absurd (cc)
-literal_by content.Html t h = absurd (cc)
-literal_by content.Foreign t h = absurd (cc)
-literal_by (content.Raw name) t h = absurd (cc)
-literal_by (content.Rcdata name) t h = absurd (cc)
+literal_by _ _ h = absurd (cc)
 
 -- it is one character
 one_character : (s : Syntax) (i : Content) (text : Chars) (next : Option ℕ) (token : Token) → Spells s i text next token → (c : ℕ) → token ≡ character c → text ≡ c ∷ []
 one_character s i _ next _ (spelling.a_character c h) d e = let k : c ≡ d = cc in ap (λ x. x ∷ []) k
-one_character s i _ next _ (spelling.a_tag text t m sp) d e = absurd (cc)
-one_character s i _ next _ (spelling.an_end_of_raw text name t r sp c n) d e = absurd (cc)
-one_character s i _ next _ (spelling.a_less_than z h b) d e = absurd (cc)
-one_character s i _ next _ (spelling.a_raw_run text name r h b) d e = absurd (cc)
-one_character s i _ next _ (spelling.a_reference body c r b m) d e = absurd (cc)
-one_character s i _ next _ (spelling.a_kept_run run k h b) d e = absurd (cc)
-one_character s i _ next _ (spelling.a_comment text z m f) d e = absurd (cc)
-one_character s i _ next _ (spelling.a_bogus_comment text z m n f) d e = absurd (cc)
-one_character s i _ next _ (spelling.a_question text z m f) d e = absurd (cc)
-one_character s i _ next _ (spelling.a_strict_comment text z m f) d e = absurd (cc)
-one_character s i _ next _ (spelling.an_instruction text z m f) d e = absurd (cc)
-one_character s i _ next _ (spelling.a_section text h f) d e = absurd (cc)
-one_character s i _ next _ (spelling.a_doctype text m d2) d e = absurd (cc)
-
-and_false : (b : Bool) → (b && false) ≡ false
-and_false true = refl
-and_false false = refl
+one_character s i _ next _ _ d e = absurd (cc)
 
 -- the first character ends nothing
 never_ended : (i : Content) (c : ℕ) (token : Token) → at_first i c ≢ ended token
 never_ended i c token h = by (c == less_than_sign || (c == ampersand && has_references i)) (is_text i c) h
   where
     by : (a b : Bool) → (if a then goes_on else if b then whole (character c) else refused kind.Outside) ≡ ended token → ⊥
-    by true b q = cc
     by false true q = cc
-    by false false q = cc
+    by _ _ q = cc
 
 -- one character isn't known to be a tag
-drop_none : (n : ℕ) → begins ends_name (drop n []) ≡ false
-drop_none zero = refl
-drop_none (suc n) = refl
-
-none_known : (name : Option Chars) → is_known_raw name [] ≡ true → ⊥
-none_known None h = cc
-none_known (Some name) h = not_both_ways (begins ends_name (drop (length name + 1) [])) (and_parts (same (lowered (take (length name + 1) [])) (solidus ∷ name)) (begins ends_name (drop (length name + 1) [])) h).1 (drop_none (length name + 1))
-
 pub known_one : (s : Syntax) (i : Content) (c : ℕ) → is_known_tag s i (c ∷ []) ≡ true → ⊥
-known_one s i c h = by (has_markup i) (and_parts (c == less_than_sign) (is_known_after s i []) h).1
-  where
-    by : (m : Bool) → (if m then false else is_known_raw (raw_name i) []) ≡ true → ⊥
-    by true k = cc
-    by false k = none_known (raw_name i) k
+known_one s i c h = one_unknown s i c h
 
 module _ (syntax : Syntax) (limits : Limits) where
   -- The characters are whole tokens at the front of a page and a run that may go on, where `next` comes next.
@@ -272,12 +225,7 @@ module _ (syntax : Syntax) (limits : Limits) where
               let l = item_last inside token run e in
               let f = item_first inside token run e (encodes more) in
               omega arith
-          fits (character x) k = tt
-          fits (reference x) k = tt
-          fits (kept x) k = tt
-          fits (section x) k = tt
-          fits comment k = tt
-          fits doctype k = tt
+          fits _ k = tt
 
           steps : (flags_behind items false false).0 && is_literal greater_than_sign item ≡ false → (step : Step) → nest_step syntax limits.depth (record { line = line; phase = phase; drops = false }) item ≡ Ok step → Answer
           steps b step n =
@@ -347,7 +295,7 @@ module _ (syntax : Syntax) (limits : Limits) where
       no_end = by (ended_kept syntax (inside_of syntax line).content (values (d ∷ run)) e.value token v)
         where
           by : IsKept token → ((flags_behind items false false).0 && is_literal greater_than_sign text_item) ≡ false
-          by (is_kept text k) = ap (λ b. (flags_behind items false false).0 && b) (no_literal greater_than_sign (inside_of syntax line).content token (λ c q. kept_no (sym k ∙ q))) ∙ and_false (flags_behind items false false).0
+          by (is_kept text k) = ap (λ b. (flags_behind items false false).0 && b) (no_literal greater_than_sign (inside_of syntax line).content token (λ c q. kept_no (sym k ∙ q))) ∙ and-false (flags_behind items false false).0
             where
               kept_no : {c : ℕ} → kept text ≡ character c → ⊥
               kept_no h = cc
@@ -383,4 +331,4 @@ module _ (syntax : Syntax) (limits : Limits) where
           by (whole token) v = at_entry items line phase (d ∷ run) h short (whole token) v (λ token. λ q. cc)
           by (refused found) v = at_entry items line phase (d ∷ run) h short (refused found) v (λ token. λ q. cc)
           by (ended token) v =
-              at_entry (items ++ text_item items line phase d run h token v ∷ []) line phase [] (behind_text items line phase d run h token v) (λ k. absurd (known_one syntax (inside_of syntax line).content e.value k)) (at_first (inside_of syntax line).content e.value) refl (never_ended (inside_of syntax line).content e.value)
+              at_entry (items ++ text_item items line phase d run h token v ∷ []) line phase [] (behind_text items line phase d run h token v) (λ k. absurd (one_unknown syntax (inside_of syntax line).content e.value k)) (at_first (inside_of syntax line).content e.value) refl (never_ended (inside_of syntax line).content e.value)

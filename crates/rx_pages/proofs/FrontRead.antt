@@ -2,18 +2,16 @@
 use Rattle.std.proofs.Common.{◌≡◌, ◌∙◌, ℕ, ◌+◌, ◌-◌, ◌<◌, ◌≤◌, Bool, true, false, List, [], ◌∷◌, ◌++◌, refl, sym, ap, subst, length, append_assoc, append-nil, None, Ok, arith}
 use Rattle.std.specs.Prelude.{◌&&◌, ◌==◌, not}
 use Rattle.std.specs.Char.{len_utf8}
-use lib.Utf8.{encode, encodes}
+use lib.Utf8.{encodes}
 use Rattle.std.proofs.lemmas.Bool.{and_parts, and_from, cond-true, cond-false}
 use Rattle.std.proofs.lemmas.Bool.Decides.{nat_tests}
-use Rattle.std.proofs.lemmas.List.{length-append}
-use Rattle.std.proofs.lemmas.Str.{length-encode}
 use Rattle.rx_chars.specs.declared.syntax.Syntax.{Syntax}
 use Rattle.rx_chars.specs.Characters.{Entry, IsRead, byte_order_mark, line_feed, carriage_return, as_line_end, placed, entered, without_mark}
 use Rattle.rx_grammar.specs.declared.limits.Limits.{Limits}
 use Rattle.rx_grammar.specs.Items.{values, next_of, Item, Spelled, AllFit, no_section_end}
 use Rattle.rx_grammar.specs.Pages.{has_no_nul}
 use Rattle.rx_grammar.specs.PageFaults.{is_known_tag}
-use Rattle.rx_terms.proofs.Bools.{by_test}
+use Rattle.rx_terms.proofs.Bools.{by_test, split}
 use Rattle.rx_pages.specs.Nesting.{Event, Nesting, not_begun, content_at, Goes}
 use Rattle.rx_pages.specs.Scanner.{GoesOn}
 use Rattle.rx_pages.specs.PageReader.{first_of, page_on, nothing_read}
@@ -21,7 +19,7 @@ use Rattle.rx_pages.proofs.Tokens.{values_append}
 use Rattle.rx_pages.proofs.KnownTags.{known_more}
 use Rattle.rx_pages.proofs.EntrySteps.{Stood}
 use Rattle.rx_pages.proofs.ByteSteps.{progress_at}
-use Rattle.rx_pages.proofs.CharWalk.{first_among, Fine, first_same, ends_return, no_nuls, is_started, page_walk, len_positive}
+use Rattle.rx_pages.proofs.CharWalk.{end_is, end_zero, first_among, Fine, first_same, ends_return, no_nuls, is_started, page_walk, len_positive}
 use Rattle.rx_pages.proofs.TokenWalk.{stood, Bound, go_all, fine_append, kept_fine}
 use Rattle.rx_pages.proofs.TokensWalk.{RisesFrom, Rises, flags_behind, Appends, Keeps, Finish, tokens_walk}
 
@@ -30,7 +28,7 @@ abbrev pub AllBelow : ℕ → List Entry → Type 0
 AllBelow hi [] = Unit {0}
 AllBelow hi (e ∷ es) = (e.last < hi) × AllBelow hi es
 
-below_behind : (hi : ℕ) (a b : List Entry) → AllBelow hi (a ++ b) → AllBelow hi b
+pub below_behind : (hi : ℕ) (a b : List Entry) → AllBelow hi (a ++ b) → AllBelow hi b
 below_behind hi [] b h = h
 below_behind hi (e ∷ a) b h = below_behind hi a b h.1
 
@@ -38,10 +36,6 @@ below_at : (hi : ℕ) (a : List Entry) (e : Entry) (b es : List Entry) → es �
 below_at hi a e b es h k = (below_behind hi a (e ∷ b) (subst (λ x. AllBelow hi x) h k)).0
 
 -- the places of what is entered rise, and stand among the bytes
-module _ (start c : ℕ) (cs : List ℕ) where
-  end_is : start + length (encodes (c ∷ cs)) ≡ start + len_utf8 c + length (encodes cs)
-  end_is = let a = length-append (encode c) (encodes cs) in let b = length-encode c in omega arith
-
 pub all_below : (after_return : Bool) (start : ℕ) (cs : List ℕ) → AllBelow (start + length (encodes cs)) (entered after_return (placed start cs))
 all_below after_return start [] = tt
 all_below after_return start (c ∷ cs) =
@@ -81,10 +75,7 @@ mark_some : (c : ℕ) → (c == byte_order_mark) ≡ true → (c == 0) ≡ false
 mark_some c h = grind (arith, nat_tests)
 
 some_of : (c : ℕ) → not (as_line_end c == 0) ≡ true → not (c == 0) ≡ true
-some_of c h = by_test (c == 0) (λ e. absurd (false_true (sym (ap not (nul_entry c e)) ∙ h))) (λ e. rw e refl)
-  where
-    false_true : false ≡ true → ⊥
-    false_true p = cc
+some_of c h = by_test (c == 0) (λ e. absurd (let q : false ≡ true = sym (ap not (nul_entry c e)) ∙ h in cc)) (λ e. rw e refl)
 
 no_nul_chars : (after_return : Bool) (start : ℕ) (cs : List ℕ) → has_no_nul (entered after_return (placed start cs)) ≡ true → no_nuls cs ≡ true
 no_nul_chars after_return start [] h = refl
@@ -97,22 +88,18 @@ no_nul_chars after_return start (c ∷ cs) h =
     and_from (not (c == 0)) (no_nuls cs) (some_of c p.0) (no_nul_chars (c == carriage_return) (start + len_utf8 c) cs p.1))
 
 -- the same from the first character on, where a mark is passed over
+pub of_page : (P : List Entry → Type 0) (c : ℕ) (cs : List ℕ) → P (entered false (placed (0 + len_utf8 c) cs)) → P (entered false (placed 0 (c ∷ cs))) → P (entered false (without_mark (placed 0 (c ∷ cs))))
+of_page P c cs h k = split (λ es. P (entered false es)) (c == byte_order_mark) _ _ (λ _. h) (λ _. k)
+
 pub page_below : (cs : List ℕ) → AllBelow (length (encodes cs)) (entered false (without_mark (placed 0 cs)))
 page_below [] = tt
 page_below (c ∷ cs) =
-    by_test {G = AllBelow (length (encodes (c ∷ cs))) (entered false (without_mark (placed 0 (c ∷ cs))))} (c == byte_order_mark)
-    (λ t. subst (λ es. AllBelow (length (encodes (c ∷ cs))) (entered false es)) (sym (cond-true _ _ _ t)) (subst (λ x. AllBelow x (entered false (placed (0 + len_utf8 c) cs))) (sym (end_zero c cs)) (all_below false (0 + len_utf8 c) cs)))
-    (λ t. subst (λ es. AllBelow (length (encodes (c ∷ cs))) (entered false es)) (sym (cond-false _ _ _ t)) (let z : 0 + length (encodes (c ∷ cs)) ≡ length (encodes (c ∷ cs)) = omega arith in subst (λ x. AllBelow x (entered false (placed 0 (c ∷ cs)))) z (all_below false 0 (c ∷ cs))))
-  where
-    end_zero : (c : ℕ) (cs : List ℕ) → length (encodes (c ∷ cs)) ≡ 0 + len_utf8 c + length (encodes cs)
-    end_zero c cs = let a = length-append (encode c) (encodes cs) in let b = length-encode c in omega arith
+    let z : 0 + length (encodes (c ∷ cs)) ≡ length (encodes (c ∷ cs)) = omega arith in
+    of_page (AllBelow (length (encodes (c ∷ cs)))) c cs (subst (λ x. AllBelow x (entered false (placed (0 + len_utf8 c) cs))) (sym (end_zero c cs)) (all_below false (0 + len_utf8 c) cs)) (subst (λ x. AllBelow x (entered false (placed 0 (c ∷ cs)))) z (all_below false 0 (c ∷ cs)))
 
 pub page_rises : (cs : List ℕ) → Rises (entered false (without_mark (placed 0 cs)))
 page_rises [] = tt
-page_rises (c ∷ cs) =
-    by_test {G = Rises (entered false (without_mark (placed 0 (c ∷ cs))))} (c == byte_order_mark)
-    (λ t. subst (λ es. Rises (entered false es)) (sym (cond-true _ _ _ t)) (rises false (0 + len_utf8 c) cs))
-    (λ t. subst (λ es. Rises (entered false es)) (sym (cond-false _ _ _ t)) (rises false 0 (c ∷ cs)))
+page_rises (c ∷ cs) = of_page Rises c cs (rises false (0 + len_utf8 c) cs) (rises false 0 (c ∷ cs))
 
 pub page_no_nul : (cs : List ℕ) → has_no_nul (entered false (without_mark (placed 0 cs))) ≡ true → no_nuls cs ≡ true
 page_no_nul [] h = refl

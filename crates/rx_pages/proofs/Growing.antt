@@ -24,11 +24,7 @@ or_groups false b c = refl
 module _ (syntax : Syntax) where
   not_empty : {left : ℕ} {place : Place} {parent : Chars} {from to : List Item} {nodes : Tree} → Holds syntax left place parent from to nodes → from ≡ [] → to ≡ []
   not_empty nothing e = e
-  not_empty (a_text item chars c h hs) e = absurd (cc)
-  not_empty (a_comment item c h hs) e = absurd (cc)
-  not_empty (alone item t o is hs) e = absurd (cc)
-  not_empty (closed item close t o isnt drop hin no_row c hs) e = absurd (cc)
-  not_empty (unclosed item t o isnt drop hin no_row omits hs) e = absurd (cc)
+  not_empty _ e = absurd (cc)
 
   drop_suffix : {d : Bool} {content : Content} {from inner : List Item} (ys : List Item) → Drops d content from inner → inner ≢ [] → Drops d content (from ++ ys) (inner ++ ys)
   drop_suffix ys (a_line_feed item h c l) n = a_line_feed item h c l

@@ -1,7 +1,7 @@
 -- The reader of bytes finds a fault that a character decides.
 use Rattle.std.proofs.Common.{◌≡◌, ◌≢◌, ◌∙◌, ⊎_elim, ℕ, ◌+◌, ◌<◌, ◌≤◌, Bool, true, false, List, [], ◌∷◌, ◌++◌, refl, sym, ap, subst, nat_le, append_assoc, append-nil, Option, Some, Ok, Err, arith}
 use Rattle.std.specs.Prelude.{◌&&◌, ◌||◌, ◌==◌, if◌then◌else◌}
-use Rattle.std.proofs.lemmas.Bool.{and_parts}
+use Rattle.std.proofs.lemmas.Bool.{and_parts, false_from_ne_true}
 use Rattle.rx_terms.specs.Ascii.{less_than_sign, ampersand}
 use Rattle.rx_terms.specs.Text.{Chars}
 use Rattle.rx_chars.specs.declared.syntax.Syntax.{Syntax}
@@ -32,40 +32,20 @@ use Rattle.rx_pages.proofs.FaultWalk.{Decides, Hits, page_hits}
 use Rattle.rx_pages.proofs.FrontRead.{AllBelow, page_rises, page_no_nul}
 use Rattle.rx_pages.proofs.Front.{fronts_lead}
 use Rattle.rx_pages.proofs.Tokens.{values_append}
+use Rattle.std.proofs.Math.Bool.{and-true}
 
 -- no run is kept outside the root
 kept_inside : (s : Syntax) (i : Content) (text : Chars) (next : Option ℕ) (token : Token) → Spells s i text next token → IsKept token → i ≢ content.Outside
-kept_inside s i _ next _ (spelling.a_tag text t m sp) (is_kept x e) = absurd (cc)
-kept_inside s i _ next _ (spelling.an_end_of_raw text name t r sp c n) (is_kept x e) = absurd (cc)
-kept_inside s i _ next _ (spelling.a_character c h) (is_kept x e) = absurd (cc)
 kept_inside s i _ next _ (spelling.a_less_than e h b) k = λ o. (let w = sym (ap spelling.has_less_than o) ∙ h in cc)
 kept_inside s i _ next _ (spelling.a_raw_run text name r h b) k = λ o. (let w = sym (ap spelling.raw_name o) ∙ r in cc)
-kept_inside s i _ next _ (spelling.a_reference body c r b m) (is_kept x e) = absurd (cc)
 kept_inside s i _ next _ (spelling.a_kept_run run k h b) w = λ o. (let w = sym (ap spelling.keeps_runs o) ∙ k in cc)
-kept_inside s i _ next _ (spelling.a_comment text e m f) (is_kept x h) = absurd (cc)
-kept_inside s i _ next _ (spelling.a_bogus_comment text e m n f) (is_kept x h) = absurd (cc)
-kept_inside s i _ next _ (spelling.a_question text e m f) (is_kept x h) = absurd (cc)
-kept_inside s i _ next _ (spelling.a_strict_comment text e m f) (is_kept x h) = absurd (cc)
-kept_inside s i _ next _ (spelling.an_instruction text e m f) (is_kept x h) = absurd (cc)
-kept_inside s i _ next _ (spelling.a_section text h f) (is_kept x e) = absurd (cc)
-kept_inside s i _ next _ (spelling.a_doctype text m d) (is_kept x e) = absurd (cc)
-
-unknown : (b : Bool) → (b ≡ true → ⊥) → b ≡ false
-unknown true h = absurd (h refl)
-unknown false h = refl
-
-and_true : (b : Bool) → (b && true) ≡ false → b ≡ false
-and_true true e = e
-and_true false e = refl
+kept_inside s i _ next _ _ (is_kept x e) = absurd (cc)
 
 -- inside it every character begins a token or is one
 text_inside : (i : Content) (c : ℕ) → i ≢ content.Outside → (c == less_than_sign || (c == ampersand && has_references i)) ≡ false → is_text i c ≡ true
 text_inside content.Outside c o h = absurd (o refl)
-text_inside content.Html c o h = let n = neither (c == less_than_sign) (c == ampersand && true) h in rw (n.0, and_true (c == ampersand) n.1) refl
-text_inside content.Foreign c o h = let n = neither (c == less_than_sign) (c == ampersand && true) h in rw (n.0, and_true (c == ampersand) n.1) refl
-text_inside content.Strict c o h = let n = neither (c == less_than_sign) (c == ampersand && true) h in rw (n.0, and_true (c == ampersand) n.1) refl
 text_inside (content.Raw name) c o h = rw (neither (c == less_than_sign) (c == ampersand && false) h).0 refl
-text_inside (content.Rcdata name) c o h = let n = neither (c == less_than_sign) (c == ampersand && true) h in rw (n.0, and_true (c == ampersand) n.1) refl
+text_inside _ c o h = let n = neither (c == less_than_sign) (c == ampersand && true) h in rw (n.0, sym (and-true (c == ampersand)) ∙ n.1) refl
 
 module _ (syntax : Syntax) (limits : Limits) where
   -- a character of text decides nothing
@@ -107,28 +87,24 @@ module _ (syntax : Syntax) (limits : Limits) where
               h ∙ ap (λ x. x ∷ (pre ++ c ∷ [])) (sym same),
               (
                 (λ w. absurd (kept_unknown syntax limits n events two last unit e item.token v (known_next syntax limits n events two last unit unit e w))),
-                ap (λ b. b && nat_le (first_of unit e.first + limits.tag) e.last) (unknown (is_known_tag syntax (content_at syntax n) (values (unit ++ e ∷ []))) (kept_unknown syntax limits n events two last unit e item.token v)),
+                ap (λ b. b && nat_le (first_of unit e.first + limits.tag) e.last) (false_from_ne_true (is_known_tag syntax (content_at syntax n) (values (unit ++ e ∷ []))) (kept_unknown syntax limits n events two last unit e item.token v)),
                 (hits2.2.0, (kept_step syntax limits n events two last unit e item step v i st k ∙ hits2.2.1.0, hits2.2.1.1)),
               ),
             ),
           )
 
 -- places below the last one
+to_last : (last : ℕ) (xs : List Entry) (c : Entry) → RisesFrom last (xs ++ c ∷ []) → last ≤ c.last
+to_last last [] c r = r.0
+to_last last (e ∷ xs) c r = let m = to_last e.last xs c r.1 in let n = r.0 in omega arith
+
 below_last : (hi last : ℕ) (xs : List Entry) (c : Entry) → RisesFrom last (xs ++ c ∷ []) → c.last < hi → AllBelow hi (xs ++ c ∷ [])
 below_last hi last [] c r h = (h, tt)
 below_last hi last (e ∷ xs) c r h = ((let m = to_last e.last xs c r.1 in omega arith), below_last hi e.last xs c r.1 h)
-  where
-    to_last : (last : ℕ) (xs : List Entry) (c : Entry) → RisesFrom last (xs ++ c ∷ []) → last ≤ c.last
-    to_last last [] c r = r.0
-    to_last last (e ∷ xs) c r = let m = to_last e.last xs c r.1 in let n = r.0 in omega arith
 
 all_below_last : (hi : ℕ) (xs : List Entry) (c : Entry) → Rises (xs ++ c ∷ []) → c.last < hi → AllBelow hi (xs ++ c ∷ [])
 all_below_last hi [] c r h = (h, tt)
 all_below_last hi (e ∷ xs) c r h = ((let m = to_last e.last xs c r in omega arith), below_last hi e.last xs c r h)
-  where
-    to_last : (last : ℕ) (xs : List Entry) (c : Entry) → RisesFrom last (xs ++ c ∷ []) → last ≤ c.last
-    to_last last [] c r = r.0
-    to_last last (e ∷ xs) c r = let m = to_last e.last xs c r.1 in let n = r.0 in omega arith
 
 -- what a fault that the last character of a run decides is read as
 module _ (syntax : Syntax) (limits : Limits) (whole : List ℕ) (items : List Item) (line : Line) (phase : Phase) (run : List Entry) (c : Entry) (f : Fault) (reached : Reached syntax limits whole items line phase (run ++ c ∷ []))
@@ -152,16 +128,12 @@ module _ (syntax : Syntax) (limits : Limits) (whole : List ℕ) (items : List It
   run_rises : (a : List Entry) (e : Entry) (b : List Entry) → run ≡ a ++ e ∷ b → e.last ≤ c.last
   run_rises a e b h = by (reached.front ++ a) (subst Rises (ap (λ x. reached.front ++ x) (ap (λ x. x ++ c ∷ []) h ∙ append_assoc a (e ∷ b) (c ∷ [])) ∙ sym (append_assoc reached.front a (e ∷ (b ++ c ∷ [])))) rising)
     where
-      to_last : (last : ℕ) (xs : List Entry) → RisesFrom last (xs ++ c ∷ []) → last ≤ c.last
-      to_last last [] r = r.0
-      to_last last (e ∷ xs) r = let m = to_last e.last xs r.1 in let n = r.0 in omega arith
-
       from : (last : ℕ) (xs : List Entry) → RisesFrom last (xs ++ (e ∷ (b ++ c ∷ []))) → e.last ≤ c.last
-      from last [] r = to_last e.last b r.1
+      from last [] r = to_last e.last b c r.1
       from last (x ∷ xs) r = from x.last xs r.1
 
       by : (xs : List Entry) → Rises (xs ++ (e ∷ (b ++ c ∷ []))) → e.last ≤ c.last
-      by [] r = to_last e.last b r
+      by [] r = to_last e.last b c r
       by (x ∷ xs) r = from x.last xs r
 
   bound : (m : Nesting) → IsAt line phase m → (events : List Event) (two last : Bool) → Bound syntax limits m events two last run

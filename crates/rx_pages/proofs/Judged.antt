@@ -10,13 +10,12 @@ use Rattle.rx_grammar.specs.declared.contents.RawName.{RawName}
 use Rattle.rx_grammar.specs.declared.faults.Kind.{Kind}
 use Rattle.rx_grammar.specs.declared.faults.Kind.TheVariants as kind
 use Rattle.rx_grammar.specs.Names.{same, is_among, name_of_raw}
-use Rattle.rx_grammar.specs.Tokens.{Tag, Token, tag, character, reference, kept, section, comment, doctype}
+use Rattle.rx_grammar.specs.Tokens.{Token, tag, doctype}
 use Rattle.rx_grammar.specs.Contents.{in_html, raw_place, raw_names, rcdata_names, inside_html, inside_foreign, html_in_svg, Place, inside_at}
-use Rattle.rx_grammar.specs.Spelling.{Spells, keeps_runs, IsDoctype, a_doctype}
-use Rattle.rx_grammar.specs.Spelling as spelling
+use Rattle.rx_grammar.specs.Spelling.{Spells, keeps_runs, a_doctype}
 use Rattle.rx_grammar.specs.Shapes.{begins, begins_tag}
 use Rattle.rx_grammar.specs.Items.{Item}
-use Rattle.rx_grammar.specs.Begun.{Line, inside_of, Phase, before, within, after}
+use Rattle.rx_grammar.specs.Begun.{Line, inside_of, Phase, before}
 use Rattle.rx_grammar.specs.PageFaults.{Unfinished, token_begun, tag_begun, run_begun, opening_begun, tag_rows, first_row, Faulty, in_tag, no_markup, in_run, in_comment, section_end, no_doctype, late_doctype, outside_text, outside_less_than, outside_section, at_tag}
 use Rattle.rx_pages.specs.Nesting.{Nesting, Step, unless_refused, tag_passes, doctype_step, step_by, nest_step, IsAt}
 use Rattle.rx_pages.specs.Scanner.{GoesOn, ReadAs, at_last, at_next}
@@ -53,20 +52,15 @@ foreign_fits in_svg name = split Fits (in_svg && is_among html_in_svg name) _ _ 
 
 inside_fits : (c : Content) (in_svg : Bool) (name : Chars) → Fits (inside_at c in_svg name)
 inside_fits content.Foreign in_svg name = foreign_fits in_svg name
-inside_fits content.Outside in_svg name = html_fits name
-inside_fits content.Html in_svg name = html_fits name
-inside_fits content.Strict in_svg name = html_fits name
-inside_fits (content.Raw r) in_svg name = html_fits name
-inside_fits (content.Rcdata r) in_svg name = html_fits name
+inside_fits _ in_svg name = html_fits name
 
 pub inside_occurs : (s : Syntax) (line : Line) → occurs s (inside_of s line).content ≡ true
-inside_occurs Html [] = refl
 inside_occurs Xhtml [] = refl
 inside_occurs Html (t ∷ above) = inside_fits (inside_of Html above).content (inside_of Html above).in_svg t.name
-inside_occurs Xhtml (t ∷ above) = refl
+inside_occurs _ _ = refl
 
 -- what is unfinished goes on
-goes : (s : Syntax) (i : Content) (run : Chars) → Unfinished s i run → GoesOn s i [] run
+pub goes : (s : Syntax) (i : Content) (run : Chars) → Unfinished s i run → GoesOn s i [] run
 goes s i _ (token_begun c d run rest {next = next} token sp) = begun_goes s i (c ∷ run) d rest next token sp
 goes s i _ (tag_begun text h b) = tag_goes_on s i text h (reads_on s text b)
 goes s i _ (run_begun run r b) = run_goes s i run r b
@@ -83,10 +77,7 @@ spells_each_token s line text next token r = spells_read s (inside_of s line).co
 pub strict_keeps : (i : Content) → occurs Xhtml i ≡ true → keeps_runs i ≡ false
 strict_keeps content.Outside o = refl
 strict_keeps content.Strict o = refl
-strict_keeps content.Html o = absurd (cc)
-strict_keeps content.Foreign o = absurd (cc)
-strict_keeps (content.Raw r) o = absurd (cc)
-strict_keeps (content.Rcdata r) o = absurd (cc)
+strict_keeps _ o = absurd (cc)
 
 abbrev at_place : Line → Phase → Nesting
 at_place line phase = record { line = line; phase = phase; drops = false }
@@ -96,9 +87,16 @@ an_item token inside = record { token = token; content = inside; first = 0; last
 
 late : (phase : Phase) → phase ≢ before false → doctype_step phase ≡ Err kind.BadDoctype
 late (before false) n = absurd (n refl)
-late (before true) n = refl
-late within n = refl
-late after n = refl
+late _ n = refl
+
+-- the row that refuses
+pub refused_row : (o : Option Kind) (step : Step) (found : Kind) → unless_refused o step ≡ Err found → o ≡ Some found
+refused_row None step found h = absurd (cc)
+refused_row (Some k) step found h = let q : k ≡ found = cc in ap Some q
+
+pub not_first : (found : Kind) (p : Phase) → doctype_step p ≡ Err found → (found ≡ kind.BadDoctype) × (p ≢ before false)
+not_first found (before false) h = absurd (cc)
+not_first found _ h = (cc, λ e. cc)
 
 module _ (s : Syntax) (depth : ℕ) (items : List Item) (line : Line) (phase : Phase) (i : Content) (o : occurs s i ≡ true) where
   abbrev D : Kind → Chars → Type 0
@@ -134,42 +132,15 @@ module _ (s : Syntax) (depth : ℕ) (items : List Item) (line : Line) (phase : P
   -- a document type that doesn't stand first
   doctype_inside : (chars : Chars) (token : Token) → Spells s i chars None token → token ≡ doctype → phase ≢ before false → Faulty s depth items line phase i kind.BadDoctype chars
   doctype_inside _ _ (a_doctype text m d) e n = late_doctype text m d n
-  doctype_inside _ _ (spelling.a_tag text t m sp) e n = absurd (cc)
-  doctype_inside _ _ (spelling.an_end_of_raw text name t r sp c q) e n = absurd (cc)
-  doctype_inside _ _ (spelling.a_character c h) e n = absurd (cc)
-  doctype_inside _ _ (spelling.a_less_than z h b) e n = absurd (cc)
-  doctype_inside _ _ (spelling.a_raw_run text name r h b) e n = absurd (cc)
-  doctype_inside _ _ (spelling.a_reference body c r b m) e n = absurd (cc)
-  doctype_inside _ _ (spelling.a_kept_run run k h b) e n = absurd (cc)
-  doctype_inside _ _ (spelling.a_comment text z m f) e n = absurd (cc)
-  doctype_inside _ _ (spelling.a_bogus_comment text z m q f) e n = absurd (cc)
-  doctype_inside _ _ (spelling.a_question text z m f) e n = absurd (cc)
-  doctype_inside _ _ (spelling.a_strict_comment text z m f) e n = absurd (cc)
-  doctype_inside _ _ (spelling.an_instruction text z m f) e n = absurd (cc)
-  doctype_inside _ _ (spelling.a_section text h f) e n = absurd (cc)
-
-  tag_inside : (found : Kind) (chars : Chars) (t : Tag) (step : Step) (o : Option Kind) → Spells s i chars None (tag t) → first_row (tag_rows s depth line phase t) ≡ o → unless_refused o step ≡ Err found → Faulty s depth items line phase i found chars
-  tag_inside found chars t step None sp e h = absurd (cc)
-  tag_inside found chars t step (Some k) sp e h = let q : k ≡ found = cc in at_tag chars t sp (e ∙ ap Some q)
-
-  not_first : (found : Kind) (p : Phase) → doctype_step p ≡ Err found → (found ≡ kind.BadDoctype) × (p ≢ before false)
-  not_first found (before false) h = absurd (cc)
-  not_first found (before true) h = (cc, λ e. cc)
-  not_first found within h = (cc, λ e. cc)
-  not_first found after h = (cc, λ e. cc)
+  doctype_inside _ _ _ e n = absurd (cc)
 
   at_line : (found : Kind) (item : Item) (n : Nesting) (chars : Chars) (token : Token) → item.token ≡ token → IsAt line phase n → Spells s i chars None token → step_by s depth n item token ≡ Err found → Faulty s depth items line phase i found chars
   at_line found item n chars (tag t) q at sp h =
-      tag_inside found chars t (tag_passes s n.line item t) (first_row (tag_rows s depth line phase t)) sp refl
-      (ap (λ l. unless_refused (first_row (tag_rows s depth l phase t)) (tag_passes s n.line item t)) (sym at.line_is) ∙ (ap (λ p. unless_refused (first_row (tag_rows s depth n.line p t)) (tag_passes s n.line item t)) (sym at.phase_is) ∙ h))
-  at_line found item n chars (character c) q at sp h = absurd (cc)
-  at_line found item n chars (reference c) q at sp h = absurd (cc)
-  at_line found item n chars (kept text) q at sp h = absurd (cc)
-  at_line found item n chars (section text) q at sp h = absurd (cc)
-  at_line found item n chars comment q at sp h = absurd (cc)
+      at_tag chars t sp (ap (λ l. first_row (tag_rows s depth l phase t)) (sym at.line_is) ∙ (ap (λ p. first_row (tag_rows s depth n.line p t)) (sym at.phase_is) ∙ refused_row _ (tag_passes s n.line item t) found h))
   at_line found item n chars doctype q at sp h =
       let k = not_first found n.phase h in
       subst (λ x. Faulty s depth items line phase i x chars) (sym k.0) (doctype_inside chars doctype sp refl (λ e. k.1 (at.phase_is ∙ e)))
+  at_line found item n chars _ q at sp h = absurd (cc)
 
   faulty : {found : Kind} {chars : Chars} → D found chars → Faulty s depth items line phase i found chars
   faulty {found = found} (by_character run c g h) = faulty_read s i o run c found g h depth items line phase

@@ -1,6 +1,5 @@
 -- The characters of a whole tag are known to be one.
-use Rattle.std.proofs.Common.{◌≡◌, ◌∙◌, ℕ, Bool, true, false, [], ◌∷◌, ◌++◌, refl, sym, ap, subst, Option, Some, None}
-use Rattle.std.specs.Prelude.{◌||◌, ◌==◌}
+use Rattle.std.proofs.Common.{◌≡◌, ◌∙◌, ℕ, true, [], ◌∷◌, ◌++◌, refl, sym, ap, subst, Option, Some, None}
 use Rattle.std.proofs.lemmas.Bool.{cond-true, cond-false}
 use Rattle.std.specs.List.{list_all}
 use Rattle.rx_terms.specs.Ascii.{solidus, greater_than_sign, is_white_space}
@@ -9,23 +8,16 @@ use Rattle.rx_chars.specs.declared.syntax.Syntax.{Syntax}
 use Rattle.rx_chars.specs.declared.syntax.Syntax.TheVariants.{Html}
 use Rattle.rx_grammar.specs.declared.contents.Content.{Content}
 use Rattle.rx_grammar.specs.Tokens.{Tag, Token, tag}
-use Rattle.rx_grammar.specs.Shapes.{Shape, a_start, an_end, ends_name, begins, begins_tag}
+use Rattle.rx_grammar.specs.Shapes.{Shape, a_start, an_end, ends_name}
 use Rattle.rx_grammar.specs.Tags.{SpellsTag, cased}
 use Rattle.rx_grammar.specs.Spelling as spelling
 use Rattle.rx_grammar.specs.Spelling.{Spells, has_markup, raw_name}
 use Rattle.rx_grammar.specs.PageFaults.{is_known_tag, is_known_after, is_known_raw}
 use Rattle.rx_terms.proofs.Bools.{by_test, both}
-use Rattle.rx_reader.proofs.OneToken.{tag_first}
 use Rattle.rx_pages.proofs.Reading.{markup_raw}
-use Rattle.rx_pages.proofs.TagRuns.{KnownEnd}
-use Rattle.rx_pages.proofs.Pends.{is_known_by, raw_html, occurs}
-use Rattle.rx_pages.proofs.KnownTags.{opens_tag}
-
-turned : (a b : Bool) → (a || b) ≡ true → (b || a) ≡ true
-turned true true h = refl
-turned true false h = refl
-turned false true h = refl
-turned false false h = absurd (cc)
+use Rattle.rx_pages.proofs.TagRuns.{KnownEnd, is_known_by}
+use Rattle.rx_pages.proofs.Markup.{first_is}
+use Rattle.rx_pages.proofs.Pends.{raw_html, occurs}
 
 -- an end tag of HTML with its name
 end_known : (name text : Chars) (w : Tag) → Shape Html text w → w.closing ≡ true → cased Html w.name ≡ name → KnownEnd name text
@@ -41,7 +33,7 @@ end_known name _ _ (an_end n spaces t b) c e = by spaces b
 
 pub spelled_known : (s : Syntax) (i : Content) (chars : Chars) (next : Option ℕ) (token : Token) (t : Tag) → occurs s i ≡ true → Spells s i chars next token → token ≡ tag t → is_known_tag s i chars ≡ true
 spelled_known s i _ next _ t o (spelling.a_tag text u m sp) e =
-    cond-true _ _ _ m ∙ (let f = tag_first s text sp.reads.written sp.reads.shape in ap (begins (opens_tag s)) f.is ∙ turned (begins_tag s f.c) (f.c == solidus) f.test)
+    cond-true _ _ _ m ∙ first_is s text u sp
 spelled_known s i _ next _ t o (spelling.an_end_of_raw text name u r sp c n) e =
     let h : s ≡ Html = raw_html s i name o r in
     let sp2 : SpellsTag Html text u = subst (λ (x : Syntax). SpellsTag x text u) h sp in
@@ -53,15 +45,4 @@ spelled_known s i _ next _ t o (spelling.an_end_of_raw text name u r sp c n) e =
   where
     none_some : {name : Chars} → None ≡ Some name → ⊥
     none_some h = cc
-spelled_known s i _ next _ t o (spelling.a_character c h) e = absurd (cc)
-spelled_known s i _ next _ t o (spelling.a_less_than z h b) e = absurd (cc)
-spelled_known s i _ next _ t o (spelling.a_raw_run text name r h b) e = absurd (cc)
-spelled_known s i _ next _ t o (spelling.a_reference body c r b m) e = absurd (cc)
-spelled_known s i _ next _ t o (spelling.a_kept_run run k h b) e = absurd (cc)
-spelled_known s i _ next _ t o (spelling.a_comment text z m f) e = absurd (cc)
-spelled_known s i _ next _ t o (spelling.a_bogus_comment text z m n f) e = absurd (cc)
-spelled_known s i _ next _ t o (spelling.a_question text z m f) e = absurd (cc)
-spelled_known s i _ next _ t o (spelling.a_strict_comment text z m f) e = absurd (cc)
-spelled_known s i _ next _ t o (spelling.an_instruction text z m f) e = absurd (cc)
-spelled_known s i _ next _ t o (spelling.a_section text h f) e = absurd (cc)
-spelled_known s i _ next _ t o (spelling.a_doctype text m d) e = absurd (cc)
+spelled_known s i _ next _ t o _ e = absurd (cc)

@@ -1,5 +1,5 @@
 -- Tags are read as they are spelled.
-use Rattle.std.proofs.Common.{◌≡◌, ◌≢◌, ◌∙◌, ℕ, true, false, [], ◌∷◌, ◌++◌, Option, refl, ap, sym, subst, append_assoc}
+use Rattle.std.proofs.Common.{◌≡◌, ◌≢◌, ◌∙◌, inl, inr, Bool, ℕ, true, false, [], ◌∷◌, ◌++◌, Option, refl, ap, sym, append_assoc}
 use Rattle.std.specs.Prelude.{◌&&◌, ◌||◌, ◌==◌, not, Result, Ok, Err}
 use Rattle.std.proofs.lemmas.Bool.{cond-true, cond-false}
 use Rattle.rx_terms.specs.Ascii.{solidus}
@@ -11,17 +11,17 @@ use Rattle.rx_grammar.specs.declared.faults.Kind.{Kind}
 use Rattle.rx_grammar.specs.declared.faults.Kind.TheVariants.{BadTag}
 use Rattle.rx_grammar.specs.References.{meaning}
 use Rattle.rx_grammar.specs.Tokens.{Tag, tag}
-use Rattle.rx_grammar.specs.Shapes.{begins_tag}
+use Rattle.rx_grammar.specs.Shapes.{begins_tag, begins}
 use Rattle.rx_grammar.specs.Tags.{SpellsTag}
 use Rattle.rx_grammar.specs.Spelling.{has_markup, begins_markup}
 use Rattle.rx_reader.specs.Tables.{is_html, is_last}
 use Rattle.rx_reader.specs.TagReader.{TagState, fresh, tag_on, checked}
 use Rattle.rx_pages.specs.Scanner.{goes_on, whole, told_of_tag, in_tag, in_markup, is_mark, ReadAs}
 use Rattle.rx_pages.proofs.Reading.{Last, no_last, a_last, last_of, all_go, read_to, markup_is}
-use Rattle.rx_terms.proofs.Bools.{not_both_ways, by_test}
+use Rattle.rx_terms.proofs.Bools.{either, not_both_ways, by_test}
 use Rattle.rx_reader.proofs.Classes.{of_one}
 use Rattle.rx_reader.proofs.TagLaws.{reads_each, on_err, stuck, tag_on-append}
-use Rattle.rx_reader.proofs.OneToken.{TagFirst, tag_first, no_bang, no_question, markup_begins}
+use Rattle.rx_reader.proofs.OneToken.{tag_first}
 
 -- before its end a tag goes on
 before_end : (s : Syntax) (o : Result TagState Kind) (more : Chars) (last : TagState) → tag_on s (meaning s) o more ≡ Ok last → more ≢ [] → told_of_tag o ≡ goes_on
@@ -31,6 +31,41 @@ before_end s (Ok st) (x ∷ more) last h n =
     by_test {G = told_of_tag (Ok st) ≡ goes_on} (is_last st.phase)
     (λ w. absurd (let k : tag_on s (meaning s) (checked s (Err BadTag)) more ≡ Ok last = sym (ap (λ o. tag_on s (meaning s) (checked s o) more) (stuck s (meaning s) st x [] w)) ∙ h in let e = on_err s (meaning s) BadTag more in cc))
     (λ w. cond-false _ _ _ w)
+
+-- After `<` a solidus or what begins a name tells that a tag stands there.
+abbrev pub is_first : Syntax → ℕ → Bool
+is_first s c = c == solidus || begins_tag s c
+
+not_first : (s : Syntax) (c d : ℕ) → is_first s c ≡ true → is_first s d ≡ false → (c == d) ≡ false
+not_first s c d h n = by_test {G = (c == d) ≡ false} (c == d) (λ e. absurd (not_both_ways (is_first s c) h (of_one (λ x. is_first s x ≡ false) c d e n))) (λ e. e)
+
+at_bang : (s : Syntax) → is_first s 33 ≡ false
+at_bang Html = refl
+at_bang Xhtml = refl
+
+at_question : (s : Syntax) → is_first s 63 ≡ false
+at_question Html = refl
+at_question Xhtml = refl
+
+no_mark : (s : Syntax) (c : ℕ) → is_first s c ≡ true → is_mark c ≡ false
+no_mark s c h = rw (not_first s c 33 h (at_bang s), not_first s c 63 h (at_question s)) refl
+
+no_text : (s : Syntax) (c : ℕ) → is_first s c ≡ true → (is_html s && not (begins_markup c)) ≡ false
+no_text Html c h = elim (either (c == solidus) (begins_tag Html c) h) [ inl e ↦ of_one (λ x. not (begins_markup x) ≡ false) c solidus e refl | inr e ↦ rw e refl ]
+no_text Xhtml c h = refl
+
+pub markup_tag : (s : Syntax) (i : Content) (text f : Chars) (d : ℕ) (more : Chars) → begins (is_first s) text ≡ true → text ≡ f ++ d ∷ more → in_markup s i f d ≡ in_tag s f d
+markup_tag s i text [] d more h e =
+    let k : is_first s d ≡ true = ap (begins (is_first s)) (sym e) ∙ h in
+    cond-false _ _ _ (no_mark s d k) ∙ cond-false _ _ _ (no_text s d k)
+markup_tag s i text (x ∷ f) d more h e =
+    let k : is_first s x ≡ true = ap (begins (is_first s)) (sym e) ∙ h in
+    cond-false _ _ _ (not_first s x 33 k (at_bang s)) ∙ cond-false _ _ _ (not_first s x 63 k (at_question s))
+
+turned : (a b : Bool) → (a || b) ≡ true → (b || a) ≡ true
+turned true true h = refl
+turned false false h = absurd (cc)
+turned _ _ h = refl
 
 module _ (s : Syntax) (text : Chars) (t : Tag) (sp : SpellsTag s text t) where
   pub tag_goes : (f : Chars) (d : ℕ) (more : Chars) → text ≡ (f ++ d ∷ []) ++ more → more ≢ [] → in_tag s f d ≡ goes_on
@@ -44,31 +79,11 @@ module _ (s : Syntax) (text : Chars) (t : Tag) (sp : SpellsTag s text t) where
       ap told_of_tag (ap (tag_on s (meaning s) (Ok fresh)) (sym e) ∙ r.run) ∙ (cond-true _ _ _ r.whole ∙ ap (λ x. whole (tag x)) r.is_tag)
 
   -- after `<` the tag's first character tells that it is one
-  first_of : TagFirst s text
-  first_of = tag_first s text sp.reads.written sp.reads.shape
-
-  not_this : (c d : ℕ) → (begins_tag s c || c == solidus) ≡ true → (begins_tag s d || d == solidus) ≡ false → (c == d) ≡ false
-  not_this c d h n = by_test {G = (c == d) ≡ false} (c == d) (λ e. absurd (not_both_ways (begins_tag s c || c == solidus) h (of_one (λ x. (begins_tag s x || x == solidus) ≡ false) c d e n))) (λ e. e)
-
-  pub markup_tag : (i : Content) (f : Chars) (d : ℕ) (more : Chars) → text ≡ f ++ d ∷ more → in_markup s i f d ≡ in_tag s f d
-  markup_tag i [] d more e =
-      let q : first_of.c ≡ d = (let k : first_of.c ∷ first_of.rest ≡ d ∷ more = sym first_of.is ∙ e in cc) in
-      let test = subst (λ x. (begins_tag s x || x == solidus) ≡ true) q first_of.test in
-      cond-false _ _ _ (no_mark d test) ∙ cond-false _ _ _ (no_text s d test)
-    where
-      no_mark : (d : ℕ) → (begins_tag s d || d == solidus) ≡ true → is_mark d ≡ false
-      no_mark d test = rw (not_this d 33 test (no_bang s), not_this d 63 test (no_question s)) refl
-
-      no_text : (s : Syntax) (d : ℕ) → (begins_tag s d || d == solidus) ≡ true → (is_html s && not (begins_markup d)) ≡ false
-      no_text Html d test = markup_begins Html refl d test
-      no_text Xhtml d test = refl
-  markup_tag i (x ∷ f) d more e =
-      let q : first_of.c ≡ x = (let k : first_of.c ∷ first_of.rest ≡ x ∷ (f ++ d ∷ more) = sym first_of.is ∙ e in cc) in
-      let test = subst (λ x. (begins_tag s x || x == solidus) ≡ true) q first_of.test in
-      cond-false _ _ _ (not_this x 33 test (no_bang s)) ∙ cond-false _ _ _ (not_this x 63 test (no_question s))
+  pub first_is : begins (is_first s) text ≡ true
+  first_is = let f = tag_first s text sp.reads.written sp.reads.shape in ap (begins (is_first s)) f.is ∙ turned (begins_tag s f.c) (f.c == solidus) f.test
 
   nonempty : text ≡ [] → ⊥
-  nonempty e = let k : first_of.c ∷ first_of.rest ≡ [] = sym first_of.is ∙ e in cc
+  nonempty e = let k : false ≡ true = sym (ap (begins (is_first s)) e) ∙ first_is in cc
 
   pub more_left : (more : Chars) (c : ℕ) → more ++ c ∷ [] ≢ []
   more_left [] c h = cc
@@ -84,6 +99,6 @@ module _ (s : Syntax) (text : Chars) (t : Tag) (sp : SpellsTag s text t) where
             refl,
             all_go s i (60 ∷ []) f (λ a d more k.
                 let q : text ≡ a ++ d ∷ (more ++ c ∷ []) = e ∙ (ap (λ x. x ++ c ∷ []) k ∙ append_assoc a (d ∷ more) (c ∷ [])) in
-                markup_is s i a d markup ∙ (markup_tag i a d (more ++ c ∷ []) q ∙ tag_goes a d (more ++ c ∷ []) (q ∙ sym (append_assoc a (d ∷ []) (more ++ c ∷ []))) (more_left more c))),
+                markup_is s i a d markup ∙ (markup_tag s i text a d (more ++ c ∷ []) first_is q ∙ tag_goes a d (more ++ c ∷ []) (q ∙ sym (append_assoc a (d ∷ []) (more ++ c ∷ []))) (more_left more c))),
           )
-          (markup_is s i f c markup ∙ (markup_tag i f c [] e ∙ tag_ends f c e))
+          (markup_is s i f c markup ∙ (markup_tag s i text f c [] first_is e ∙ tag_ends f c e))

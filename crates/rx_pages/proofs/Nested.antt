@@ -11,9 +11,9 @@ use Rattle.rx_grammar.specs.declared.contents.Content.{Content}
 use Rattle.rx_grammar.specs.declared.faults.Kind.{Kind}
 use Rattle.rx_grammar.specs.declared.faults.Kind.TheVariants as kind
 use Rattle.rx_grammar.specs.Names.{same, is_among}
-use Rattle.rx_grammar.specs.Tokens.{Tag, Token, tag, character, reference, kept, section, comment, doctype}
+use Rattle.rx_grammar.specs.Tokens.{Tag, Token, tag, character, reference, kept, section, comment}
 use Rattle.rx_grammar.specs.Contents.{Place, outside, place_in, is_alone, is_html, is_plaintext, is_self_closed, hides, drops_line_feed}
-use Rattle.rx_grammar.specs.Trees.{StartTag, Tree, end, element, text, after_text, has_element}
+use Rattle.rx_grammar.specs.Trees.{StartTag, Tree, end, element, after_text, has_element}
 use Rattle.rx_grammar.specs.Items.{Item, start_of, text_of}
 use Rattle.rx_grammar.specs.Omission.{enders, is_omissible, is_held, is_ended_by}
 use Rattle.rx_grammar.specs.Pages.{Opens, Closes, Drops, a_line_feed, another, no_more, shown, Holds, nothing, a_text, a_comment, alone, closed, unclosed, root_name}
@@ -25,10 +25,8 @@ use Rattle.rx_pages.proofs.Steps.{inside_at, in_line, after_one, undropped, drop
 use Rattle.rx_terms.proofs.Bools.{both, neither, by_test}
 
 pub has_after_text : (names : List Chars) (chars : Chars) (nodes : Tree) → has_element names (after_text chars nodes) ≡ has_element names nodes
-has_after_text names [] nodes = refl
 has_after_text names (c ∷ chars) end = refl
-has_after_text names (c ∷ chars) (element t inside nodes) = refl
-has_after_text names (c ∷ chars) (text more nodes) = refl
+has_after_text names _ _ = refl
 
 pub not_deeper : (depth n left : ℕ) → n + suc left ≡ depth → nat_le depth n ≡ false
 not_deeper depth n left e = grind (arith, nat_tests, common_steps)
@@ -84,13 +82,11 @@ of_token syntax depth n item token r e h = ap (λ k. step_by syntax depth n item
 
 -- the step of a token of text
 pub text_steps : (syntax : Syntax) (depth : ℕ) (line : Line) (item : Item) (token : Token) (chars : Chars) → text_of token ≡ Some chars → step_by syntax depth (in_line line) item token ≡ Ok (record { next = in_line line; events = says chars ∷ [] })
-text_steps syntax depth line item (tag t) chars h = absurd (cc)
 text_steps syntax depth line item (character c) chars h = ap (λ o. Ok (record { next = in_line line; events = says o ∷ [] })) (cc)
 text_steps syntax depth line item (reference c) chars h = ap (λ o. Ok (record { next = in_line line; events = says o ∷ [] })) (cc)
 text_steps syntax depth line item (kept k) chars h = ap (λ o. Ok (record { next = in_line line; events = says o ∷ [] })) (cc)
 text_steps syntax depth line item (section k) chars h = ap (λ o. Ok (record { next = in_line line; events = says o ∷ [] })) (cc)
-text_steps syntax depth line item comment chars h = absurd (cc)
-text_steps syntax depth line item doctype chars h = absurd (cc)
+text_steps syntax depth line item _ chars h = absurd (cc)
 
 -- What the tokens tell before those that follow: where these tell that no more nodes stand at this level, the nodes are all at it.
 pub record Reads (syntax : Syntax) (depth : ℕ) (meant : Nesting → Type 0) (n : Nesting) (from : List Item) (later : List Event) (nodes : Tree) : Type 0 where

@@ -7,7 +7,7 @@ use Rattle.std.specs.Str.{all_scalars}
 use lib.Utf8.{scalar}
 use Rattle.std.proofs.lemmas.Bool.{and_from, cond-true, cond-false}
 use Rattle.rx_terms.specs.Text.{Chars}
-use Rattle.rx_chars.specs.Characters.{Entry, byte_order_mark, line_feed, carriage_return, as_line_end, placed, entered, without_mark}
+use Rattle.rx_chars.specs.Characters.{Entry, line_feed, carriage_return, as_line_end, placed, entered, without_mark}
 use Rattle.rx_chars.specs.declared.syntax.Syntax.{Syntax}
 use Rattle.rx_grammar.specs.declared.faults.Kind.{Kind}
 use Rattle.rx_grammar.specs.Names.{same, is_among}
@@ -24,6 +24,7 @@ use Rattle.rx_pages.proofs.Steps.{passes}
 use Rattle.rx_pages.proofs.Befores.{is_tag, IsLast, LastIs}
 use Rattle.rx_pages.proofs.OpenNames.{is_fair, IsName, start_name}
 use Rattle.rx_terms.proofs.Bools.{both, by_test, split}
+use Rattle.rx_pages.proofs.FrontRead.{of_page}
 
 -- the characters of a page are fair
 abbrev pub is_fair_entry : Entry → Bool
@@ -44,10 +45,7 @@ scalars_entered after_return start (c ∷ cs) h =
 scalars_page : (cs : List ℕ) → all_scalars cs ≡ true → list_all (λ (e : Entry). scalar e.value) (entered false (without_mark (placed 0 cs))) ≡ true
 scalars_page [] h = refl
 scalars_page (c ∷ cs) h =
-    let P : List Entry → Type 0 = λ es. list_all (λ (e : Entry). scalar e.value) (entered false es) ≡ true in
-    by_test {G = P (without_mark (placed 0 (c ∷ cs)))} (c == byte_order_mark)
-    (λ t. subst P (sym (cond-true _ _ _ t)) (scalars_entered false (0 + len_utf8 c) cs (both (scalar c) (all_scalars cs) h).1))
-    (λ t. subst P (sym (cond-false _ _ _ t)) (scalars_entered false 0 (c ∷ cs) h))
+    of_page (λ es. list_all (λ (e : Entry). scalar e.value) es ≡ true) c cs (scalars_entered false (0 + len_utf8 c) cs (both (scalar c) (all_scalars cs) h).1) (scalars_entered false 0 (c ∷ cs) h)
 
 both_fair : (es : List Entry) → list_all (λ (e : Entry). scalar e.value) es ≡ true → has_no_nul es ≡ true → list_all is_fair_entry es ≡ true
 both_fair [] h k = refl
@@ -110,9 +108,7 @@ module _ (syntax : Syntax) (depth : ℕ) where
 
   by_doctype : (p : Phase) (step : Step) → doctype_step p ≡ Ok step → Sound step.next
   by_doctype (before false) step e = let same : record { next = record { line = []; phase = before true; drops = false }; events = [] } ≡ step = cc in subst (λ (x : Step). Sound x.next) same (record { nothing_open = λ e. refl; names = tt })
-  by_doctype (before true) step e = absurd (cc)
-  by_doctype within step e = absurd (cc)
-  by_doctype after step e = absurd (cc)
+  by_doctype _ step e = absurd (cc)
 
   step_sound : (n : Nesting) (item : Item) (token : Token) (step : Step) → Sound n → ((t : Tag) → token ≡ tag t → t.closing ≡ false → IsName syntax t.name) → step_by syntax depth n item token ≡ Ok step → Sound step.next
   step_sound n item (tag t) step s h e =
@@ -130,9 +126,7 @@ module _ (syntax : Syntax) (depth : ℕ) where
 
   doctype_last : (p : Phase) (step : Step) → doctype_step p ≡ Ok step → step.next.phase ≡ after → ⊥
   doctype_last (before false) step e h = let same : record { next = record { line = []; phase = before true; drops = false }; events = [] } ≡ step = cc in let k : before true ≡ after = ap (λ (x : Step). x.next.phase) same ∙ h in cc
-  doctype_last (before true) step e h = absurd (cc)
-  doctype_last within step e h = absurd (cc)
-  doctype_last after step e h = absurd (cc)
+  doctype_last _ step e h = absurd (cc)
 
   last_token : (n : Nesting) (item : Item) (token : Token) (step : Step) → Sound n → step_by syntax depth n item token ≡ Ok step → step.next.phase ≡ after → (is_tag token ≡ true) ⊎ (n.line ≡ [])
   last_token n item (tag t) step s e h = inl refl

@@ -23,6 +23,7 @@ use Rattle.rx_grammar.specs.Begun.{Line, inside_of}
 use Rattle.rx_terms.proofs.Bools.{both, by_test, split, not_both_ways}
 use Rattle.rx_reader.proofs.Classes.{of_one, unless}
 use Rattle.rx_pages.proofs.Contents.{same_is}
+use Rattle.rx_reader.proofs.OneToken.{kept_case}
 
 -- a character of a page
 abbrev pub is_fair : ℕ → Bool
@@ -72,13 +73,9 @@ low_name [] h = absurd (cc)
 low_name (c ∷ name) h =
     let k = both (is_letter c) _ h in and_from (is_letter (lowered_char c)) _ (low_letter c k.0) (all_as (λ c. not (ends_name c)) (λ c. not (ends_name c)) lowered_char low_char name k.1)
 
-all_kept : (text : Chars) → cased Xhtml text ≡ text
-all_kept [] = refl
-all_kept (c ∷ text) = ap (λ x. c ∷ x) (all_kept text)
-
 is_name : (s : Syntax) (name : Chars) → is_tag_name s name ≡ true → list_all is_fair name ≡ true → IsName s (cased s name)
 is_name Html name h f = record { whole = low_name name h; low = all_low name; fair = all_as is_fair is_fair lowered_char low_fair name f }
-is_name Xhtml name h f = subst (λ x. IsName Xhtml x) (sym (all_kept name)) (record { whole = h; low = all_kept name; fair = f })
+is_name Xhtml name h f = subst (λ x. IsName Xhtml x) (sym (kept_case name)) (record { whole = h; low = kept_case name; fair = f })
 
 fair_front : (a b : Chars) → list_all is_fair (a ++ b) ≡ true → list_all is_fair a ≡ true
 fair_front [] b h = refl
@@ -136,11 +133,7 @@ html_endable name =
 
 inside_endable : (c : Content) (in_svg : Bool) (name : Chars) → IsEndable name (inside_at c in_svg name)
 inside_endable content.Foreign in_svg name = split (IsEndable name) (in_svg && is_among html_in_svg name) _ _ (λ e. inl refl) (λ e. inl refl)
-inside_endable content.Outside in_svg name = html_endable name
-inside_endable content.Html in_svg name = html_endable name
-inside_endable content.Strict in_svg name = html_endable name
-inside_endable (content.Raw r) in_svg name = html_endable name
-inside_endable (content.Rcdata r) in_svg name = html_endable name
+inside_endable _ in_svg name = html_endable name
 
 endable : (s : Syntax) (place : Place) (name : Chars) → IsEndable name (place_in s place name)
 endable Html place name = inside_endable place.content place.in_svg name

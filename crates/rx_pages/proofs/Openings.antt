@@ -2,7 +2,7 @@
 use Rattle.std.proofs.Common.{◌≡◌, ◌∙◌, ℕ, true, false, List, [], ◌∷◌, ◌++◌, refl, ap, sym, subst, inl, inr, eqb-true}
 use Rattle.std.specs.Prelude.{◌&&◌, ◌||◌, ◌==◌, not, codes}
 use Rattle.std.specs.List.{list_any}
-use Rattle.std.proofs.lemmas.Bool.{cond-false}
+use Rattle.std.proofs.lemmas.Bool.{cond-false, or_from}
 use Rattle.rx_terms.specs.Text.{Chars, begins_with}
 use Rattle.rx_chars.specs.declared.syntax.Syntax.TheVariants.{Xhtml}
 use Rattle.rx_grammar.specs.declared.contents.Content.{Content}
@@ -14,7 +14,6 @@ use Rattle.rx_grammar.specs.PageFaults.{openings, meets_opening, is_opening_begu
 use Rattle.rx_reader.specs.TagReader.{fresh, moved, checked}
 use Rattle.rx_pages.specs.Scanner.{refused, told_of_tag, in_markup, verdict, GoesOn}
 use Rattle.rx_pages.proofs.Reading.{markup_is}
-use Rattle.rx_pages.proofs.Texts.{or_none}
 use Rattle.rx_pages.proofs.Pending.{goes_within}
 use Rattle.rx_pages.proofs.Refusals.{IsRefused}
 use Rattle.rx_terms.proofs.Bools.{both, neither, either, untrue, not_both_ways, by_test}
@@ -113,7 +112,7 @@ module _ (i : Content) (markup : has_markup i ≡ true) where
 
   -- where the first character begins none
   pub refused_first : (c : ℕ) → meets_opening (c ∷ []) ≡ false → begins_tag Xhtml c ≡ false → in_markup Xhtml i [] c ≡ refused BadTag
-  refused_first c m b = cond-false _ _ _ (or_none (c == 33) (c == 63) (not_this 33 refl) (not_this 63 refl)) ∙ ap (λ move. told_of_tag (checked Xhtml (moved Xhtml (meaning Xhtml) fresh c move))) (cond-false _ _ _ b ∙ cond-false _ _ _ (not_this 47 refl))
+  refused_first c m b = cond-false _ _ _ (or_from (c == 33) (c == 63) (not_this 33 refl) (not_this 63 refl)) ∙ ap (λ move. told_of_tag (checked Xhtml (moved Xhtml (meaning Xhtml) fresh c move))) (cond-false _ _ _ b ∙ cond-false _ _ _ (not_this 47 refl))
     where
       not_this : (d : ℕ) → meets_opening (d ∷ []) ≡ true → (c == d) ≡ false
       not_this d h = by_test {G = (c == d) ≡ false} (c == d) (λ e. absurd (not_both_ways (meets_opening (c ∷ [])) (of_one (λ x. meets_opening (x ∷ []) ≡ true) c d e h) m)) (λ e. e)
@@ -128,7 +127,7 @@ module _ (i : Content) (markup : has_markup i ≡ true) where
       some text [] h = refl
       some text (opening ∷ all) h =
           let k = neither (begins_with text opening || begins_with opening text) _ h in
-          or_none (begins_with opening text) _ (neither (begins_with text opening) _ k.0).1 (some text all k.1)
+          or_from (begins_with opening text) _ (neither (begins_with text opening) _ k.0).1 (some text all k.1)
 
       none : (text : Chars) → meets_opening text ≡ false → list_any (λ opening. begins_with opening text) openings ≡ false
       none text h = some text openings h

@@ -1,9 +1,7 @@
 -- What characters that go on are, and what the next one makes of them: text, references, tags and raw text.
-use Rattle.std.proofs.Common.{◌≡◌, ◌≢◌, ◌∙◌, ℕ, suc, ◌+◌, length, take, cond, Bool, true, false, List, [], ◌∷◌, ◌++◌, Option, Some, None, Result, Ok, Err, refl, ap, sym, subst, append_assoc, inl, inr, eqb-true, arith}
-use Rattle.std.specs.Prelude.{◌&&◌, ◌||◌, ◌==◌, not, codes, drop}
-use Rattle.std.proofs.lemmas.List.{length-map}
-use Rattle.std.proofs.Math.Seq.{take-append_seam, drop-append_seam}
-use Rattle.rx_terms.specs.Ascii.{lowered_char, ampersand, semicolon, solidus, less_than_sign}
+use Rattle.std.proofs.Common.{◌≡◌, ◌≢◌, ◌∙◌, ℕ, cond, Bool, true, false, List, [], ◌∷◌, ◌++◌, Option, Some, None, Result, Ok, Err, refl, ap, sym, subst, inl, inr, eqb-true}
+use Rattle.std.specs.Prelude.{◌&&◌, ◌||◌, ◌==◌, not, codes}
+use Rattle.rx_terms.specs.Ascii.{ampersand, semicolon, solidus, less_than_sign}
 use Rattle.rx_terms.specs.Text.{Chars, lowered}
 use Rattle.rx_chars.specs.declared.syntax.Syntax.{Syntax}
 use Rattle.rx_chars.specs.declared.syntax.Syntax.TheVariants.{Html, Xhtml}
@@ -28,15 +26,17 @@ use Rattle.rx_reader.specs.TagReader.{TagState, fresh, tag_step, tag_step_on, ta
 use Rattle.rx_reader.specs.Laws.{ReadsOn}
 use Rattle.rx_pages.specs.Scanner.{Verdict, goes_on, whole, ended, refused, told_of_tag, in_tag, told_of_reference, in_run, in_raw, DoctypePhase, keyword, closed, doctype_on, at_first, verdict}
 use Rattle.rx_pages.proofs.Reading.{markup_is}
-use Rattle.rx_pages.proofs.FirstFronts.{NoFront, NoneBefore, same_self}
-use Rattle.rx_pages.proofs.TagRuns.{is_first, markup_tag, KnownEnd, known_at, Known, in_markup', in_raw', is_known}
+use Rattle.rx_pages.proofs.FirstFronts.{NoFront, NoneBefore}
+use Rattle.rx_pages.proofs.TagRuns.{KnownEnd, is_known_by, end_more, known_at, Known, in_markup', in_raw', is_known}
 use Rattle.rx_pages.proofs.RawEnds.{is_raw_name, end_reads, ends_raw}
 use Rattle.rx_terms.proofs.Bools.{both, neither, either, not_both_ways, split}
 use Rattle.rx_reader.proofs.Classes.{of_one}
 use Rattle.rx_reader.proofs.Fronts.{equal}
 use Rattle.rx_pages.proofs.Contents.{same_is}
-use Rattle.rx_reader.proofs.TagLaws.{spells_each, tag_on-append}
+use Rattle.rx_reader.proofs.TagLaws.{spells_each, tag_on-append, repeats_once}
 use Rattle.rx_reader.proofs.TagFaultLaws.{refuses_each_fault}
+use Rattle.rx_pages.proofs.Markup.{is_first, markup_tag}
+use Rattle.std.proofs.Math.Bool.{and-true}
 
 -- the contents of a syntax
 abbrev pub occurs : Syntax → Content → Bool
@@ -82,36 +82,23 @@ pub other_than : (c d : ℕ) → (c == d) ≡ false → c ≢ d
 other_than c d h e = not_both_ways (c == d) (of_self c d e) h
   where
     of_self : (c d : ℕ) → c ≡ d → (c == d) ≡ true
-    of_self c d e = subst (λ x. (c == x) ≡ true) e (self c)
-      where
-        self : (c : ℕ) → (c == c) ≡ true
-        self c = equal c
+    of_self c d e = subst (λ x. (c == x) ≡ true) e (equal c)
 
 -- the first character of a token
 less : (s : Syntax) (i : Content) → Pends s i (60 ∷ [])
-less s content.Outside = at_less_than refl
-less s content.Html = at_less_than refl
-less s content.Foreign = at_less_than refl
-less s content.Strict = at_less_than refl
 less s (content.Raw name) = in_end (name_of_raw name) [] refl refl
 less s (content.Rcdata name) = in_end (name_of_raw name) [] refl refl
+less s _ = at_less_than refl
 
 no_text : (c : ℕ) (b : Bool) (G : Type 0) → (c == less_than_sign || (c == ampersand && true)) ≡ false → not (c == less_than_sign || c == ampersand) ≡ false → G
 no_text c b G h k =
     let n = neither (c == less_than_sign) (c == ampersand && true) h in
-    absurd (not_both_ways (not (c == less_than_sign || c == ampersand)) (rw (n.0, and_none (c == ampersand) n.1) refl) k)
-  where
-    and_none : (a : Bool) → (a && true) ≡ false → a ≡ false
-    and_none true h = absurd (cc)
-    and_none false h = refl
+    absurd (not_both_ways (not (c == less_than_sign || c == ampersand)) (rw (n.0, sym (and-true (c == ampersand)) ∙ n.1) refl) k)
 
 outside : (s : Syntax) (i : Content) (c : ℕ) → (c == less_than_sign || (c == ampersand && has_references i)) ≡ false → is_text i c ≡ false → FaultyBy s i kind.Outside (c ∷ [])
 outside s content.Outside c h k = λ depth items line phase. faults.outside_text c refl k (other_than c 60 (neither (c == less_than_sign) _ h).0)
-outside s content.Html c h k = no_text c true _ h k
-outside s content.Foreign c h k = no_text c true _ h k
-outside s content.Strict c h k = no_text c true _ h k
 outside s (content.Raw name) c h k = let n = neither (c == less_than_sign) _ h in absurd (not_both_ways (not (c == less_than_sign)) (rw n.0 refl) k)
-outside s (content.Rcdata name) c h k = no_text c true _ h k
+outside s _ c h k = no_text c true _ h k
 
 pub from_nothing : (s : Syntax) (i : Content) (c : ℕ) → Out s i [] c (at_first i c)
 from_nothing s i c =
@@ -125,12 +112,8 @@ from_nothing s i c =
 -- in XHTML no run is kept
 strict_run : (s : Syntax) (i : Content) → occurs s i ≡ true → has_references i ≡ true → keeps_runs i ≡ false → s ≡ Xhtml
 strict_run Xhtml i o r k = refl
-strict_run Html content.Outside o r k = absurd (cc)
-strict_run Html content.Html o r k = absurd (cc)
-strict_run Html content.Foreign o r k = absurd (cc)
-strict_run Html content.Strict o r k = absurd (cc)
 strict_run Html (content.Raw name) o r k = absurd (cc)
-strict_run Html (content.Rcdata name) o r k = absurd (cc)
+strict_run Html _ o r k = absurd (cc)
 
 module _ (s : Syntax) (i : Content) (run : Chars) (refs : has_references i ≡ true) (begun : is_begun run ≡ true) (c : ℕ) where
   by_meaning : is_body run ≡ true → c ≡ semicolon → (o : Option ℕ) → meaning s run ≡ o → Out s i (38 ∷ run) c (told_of_reference run o)
@@ -179,26 +162,10 @@ from_tag s i text c m b r =
     (tag_out s i text c r (in_markup' m h) (λ t sp next. spelling.a_tag (text ++ c ∷ []) t m sp) (λ q. in_a_tag (text ++ c ∷ []) m h q))
 
 -- in raw text
-pub is_known_by : (name text : Chars) → KnownEnd name text → is_known_end name text ≡ true
-is_known_by name text k =
-    let n : length name + 1 ≡ length k.word = count (length name) (length (lowered k.word)) (length k.word) (ap length k.is) (length-map k.word lowered_char) in
-    ap (is_known_end name) k.are ∙ (ap (λ m. same (lowered (take m (k.word ++ k.e ∷ k.rest))) (solidus ∷ name) && begins ends_name (drop m (k.word ++ k.e ∷ k.rest))) n
-    ∙ rw (take-append_seam k.word (k.e ∷ k.rest), drop-append_seam k.word (k.e ∷ k.rest), k.is, same_self (solidus ∷ name), k.ends) refl)
-  where
-    count : (a b c : ℕ) → b ≡ suc a → b ≡ c → a + 1 ≡ c
-    count a b c e f = omega arith
-
-known_more : (name text : Chars) (c : ℕ) → KnownEnd name text → KnownEnd name (text ++ c ∷ [])
-known_more name text c k = record { word = k.word; e = k.e; rest = k.rest ++ c ∷ []; are = ap (λ x. x ++ c ∷ []) k.are ∙ append_assoc k.word (k.e ∷ k.rest) (c ∷ []); is = k.is; ends = k.ends }
-
 pub raw_html : (s : Syntax) (i : Content) (name : Chars) → occurs s i ≡ true → raw_name i ≡ Some name → s ≡ Html
 raw_html Html i name o r = refl
-raw_html Xhtml content.Outside name o r = absurd (cc)
-raw_html Xhtml content.Html name o r = absurd (cc)
-raw_html Xhtml content.Foreign name o r = absurd (cc)
-raw_html Xhtml content.Strict name o r = absurd (cc)
 raw_html Xhtml (content.Raw n) name o r = absurd (cc)
-raw_html Xhtml (content.Rcdata n) name o r = absurd (cc)
+raw_html Xhtml _ name o r = absurd (cc)
 
 module _ (i : Content) (name : Chars) (raw : raw_name i ≡ Some name) (text : Chars) (c : ℕ) where
   behind_name : ReadsOn Html text → KnownEnd name (text ++ c ∷ []) → Out Html i (60 ∷ text) c (in_tag Html text c)
@@ -209,8 +176,8 @@ module _ (i : Content) (name : Chars) (raw : raw_name i ≡ Some name) (text : C
 
   pub from_raw_tag : KnownEnd name text → ReadsOn Html text → Out Html i (60 ∷ text) c (in_raw Html name text c)
   from_raw_tag k r =
-      elim (known_at Html name (text ++ c ∷ []) (known_more name text c k) text c [] refl) [
-        | inl q ↦ subst (Out Html i (60 ∷ text) c) (sym q) (behind_name r (known_more name text c k))
+      elim (known_at Html name (text ++ c ∷ []) (end_more name text (c ∷ []) k) text c [] refl) [
+        | inl q ↦ subst (Out Html i (60 ∷ text) c) (sym q) (behind_name r (end_more name text (c ∷ []) k))
         | inr q ↦ absurd (q.1 refl)
       ]
 
@@ -221,17 +188,12 @@ module _ (i : Content) (name : Chars) (raw : raw_name i ≡ Some name) (text : C
       (λ h. split (Out Html i (60 ∷ text) c) (begins_end name text && stops_end name text c) _ _
       (λ k. let p = both (begins_end name text) _ k in spelling.a_raw_run text name raw p.0 p.1)
       (λ k.
-      let n : stops_end name text c ≡ false = and_left (begins_end name text) _ b k in
+      let n : stops_end name text c ≡ false = repeats_once (begins_end name text) _ b k in
       let m : (same (lowered text) (solidus ∷ name) && ends_name c) ≡ true = whole_name (begins_end name (text ++ c ∷ [])) (same (lowered text) (solidus ∷ name) && ends_name c) h n in
       let p = both (same (lowered text) (solidus ∷ name)) (ends_name c) m in
       let e : lowered text ≡ solidus ∷ name = same_is (lowered text) (solidus ∷ name) p.0 in
       behind_name (end_reads name text (is_raw_name i name raw) e) (record { word = text; e = c; rest = []; are = refl; is = e; ends = p.1 })))
     where
-      and_left : (a b : Bool) → a ≡ true → (a && b) ≡ false → b ≡ false
-      and_left true b h k = k
-      and_left false b h k = absurd (cc)
-
       whole_name : (a b : Bool) → a ≡ false → (not a && not b) ≡ false → b ≡ true
-      whole_name true b h k = absurd (cc)
       whole_name false true h k = refl
-      whole_name false false h k = absurd (cc)
+      whole_name _ _ h k = absurd (cc)

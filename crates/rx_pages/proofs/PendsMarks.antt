@@ -16,13 +16,14 @@ use Rattle.rx_grammar.specs.PageFaults.{Faulty, openings, meets_opening, is_open
 use Rattle.rx_grammar.specs.PageFaults as faults
 use Rattle.rx_pages.specs.Scanner.{Verdict, whole_if, DoctypePhase, keyword, spaces, naming, passed, closed, doctype_on, told_of_doctype, verdict}
 use Rattle.rx_pages.proofs.Reading.{markup_is}
-use Rattle.rx_pages.proofs.Comments.{inside_section, section_text, same_init}
+use Rattle.rx_pages.proofs.Comments.{inside_section, section_text}
 use Rattle.rx_pages.proofs.Doctypes.{on_none, on_append, behind, behind_word}
 use Rattle.rx_pages.proofs.DoctypeFaults.{is_doctype, completion, Closable, Next, keyword_closes, closes_on}
 use Rattle.rx_pages.proofs.FirstFronts.{NoFront, NoneBefore, no_front_snoc, first_here, none_before_snoc, whole_first, ends_so}
 use Rattle.rx_pages.proofs.Pends.{is_closed, Pends, in_question, in_instruction, in_html_comment, in_strict, in_a_doctype, in_a_section, Out, other_than}
 use Rattle.rx_terms.proofs.Bools.{split}
 use Rattle.rx_reader.proofs.Classes.{of_one}
+use Rattle.rx_reader.proofs.ValueFaults.{snoc_front}
 
 -- a run that ends at the first front that meets a test
 module _ (s : Syntax) (i : Content) (run : Chars) (c : ℕ) where
@@ -74,7 +75,7 @@ module _ (s : Syntax) (i : Content) (sections : has_sections i ≡ true) (text :
     where
       spelled : (x : Chars) → text ++ c ∷ [] ≡ x ++ codes "]]>" → IsFirst (ends_with (codes "]]>")) (text ++ c ∷ []) → (next : Option ℕ) → Spells s i (60 ∷ 33 ∷ (codes "[CDATA[" ++ (text ++ c ∷ []))) next (section (take (length text - 2) text))
       spelled x e f next =
-          let t : text ≡ x ++ 93 ∷ 93 ∷ [] = same_init text (x ++ 93 ∷ 93 ∷ []) c 62 (e ∙ sym (append_assoc x (93 ∷ 93 ∷ []) (62 ∷ []))) in
+          let t : text ≡ x ++ 93 ∷ 93 ∷ [] = snoc_front text (x ++ 93 ∷ 93 ∷ []) c 62 (e ∙ sym (append_assoc x (93 ∷ 93 ∷ []) (62 ∷ []))) in
           let k : take (length text - 2) text ≡ x = ap (λ y. take (length y - 2) y) t ∙ section_text x in
           subst (λ y. Spells s i (60 ∷ 33 ∷ (codes "[CDATA[" ++ y)) next (section (take (length text - 2) text))) (sym e)
           (subst (λ y. Spells s i (60 ∷ 33 ∷ (codes "[CDATA[" ++ (x ++ codes "]]>"))) next (section y)) (sym k) (spelling.a_section x sections (subst (IsFirst (ends_with (codes "]]>"))) e f)))

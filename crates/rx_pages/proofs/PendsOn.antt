@@ -16,21 +16,17 @@ use Rattle.rx_grammar.specs.PageFaults.{Unfinished, token_begun, tag_begun, run_
 use Rattle.rx_reader.specs.Laws.{ReadsOn}
 use Rattle.rx_pages.specs.Scanner.{whole, refused, verdict, GoesOn, ReadAs, at_last, at_next}
 use Rattle.rx_pages.proofs.Reading.{raw_is}
-use Rattle.rx_pages.proofs.FirstFronts.{first_here, FirstMore, first_more, whole_first, all_none, begins_exactly, ends_so, ends_append, or_second}
-use Rattle.rx_pages.proofs.TagRuns.{in_markup', in_raw', is_known}
+use Rattle.rx_pages.proofs.FirstFronts.{first_here, FirstMore, first_more, whole_first, all_none, begins_exactly, ends_so, ends_append}
+use Rattle.rx_pages.proofs.TagRuns.{is_known_by, in_markup', in_raw', is_known}
 use Rattle.rx_pages.proofs.RawEnds.{IsRawName, is_raw_name, spells_end}
-use Rattle.rx_pages.proofs.Pends.{occurs, Pends, nothing, in_reference, at_less_than, in_end, in_raw_tag, in_a_tag, in_question, in_instruction, in_bogus, in_html_comment, in_strict, in_a_doctype, in_a_section, in_an_opening, FaultyBy, Out, from_nothing, from_reference, from_tag, is_known_by, raw_html, from_raw_tag, from_end}
+use Rattle.rx_pages.proofs.Pends.{occurs, Pends, nothing, in_reference, at_less_than, in_end, in_raw_tag, in_a_tag, in_question, in_instruction, in_bogus, in_html_comment, in_strict, in_a_doctype, in_a_section, in_an_opening, FaultyBy, Out, from_nothing, from_reference, from_tag, raw_html, from_raw_tag, from_end}
 use Rattle.rx_pages.proofs.PendsMarks.{as_verdict, from_question, from_instruction, from_html_comment, from_strict, from_section, same_word, begins_doctype, from_doctype}
 use Rattle.rx_pages.proofs.PendsOpenings.{from_less_than, from_bogus, from_opening}
-use Rattle.rx_pages.proofs.Texts.{or_none}
 use Rattle.rx_terms.proofs.Bools.{both, neither, not_both_ways, by_test}
 use Rattle.rx_reader.proofs.TagLaws.{spells_each}
 use Rattle.rx_reader.proofs.TagFaultLaws.{begins_from}
 use Rattle.rx_reader.proofs.ValueFaults.{snoc_last}
-
-or_first : (a b : Bool) → a ≡ true → (a || b) ≡ true
-or_first true b h = refl
-or_first false b h = absurd (cc)
+use Rattle.std.proofs.lemmas.Bool.{or_left, or_right, or_from}
 
 on_syntax : (s t : Syntax) (i : Content) (run : Chars) (c : ℕ) → s ≡ t → Out t i run c (verdict t i run c) → Out s i run c (verdict s i run c)
 on_syntax s t i run c z h = subst (λ x. Out x i run c (verdict x i run c)) (sym z) h
@@ -104,8 +100,8 @@ no_declaration i text h =
     let a = neither (begins_with (codes "--") text || begins_with (codes "doctype") (lowered text)) _ h in
     let b = neither (begins_with (codes "--") text) _ a.0 in
     let low : lowered (text ++ 62 ∷ []) ≡ lowered text ++ 62 ∷ [] = map-append lowered_char text (62 ∷ []) in
-    or_none (begins_with (codes "--") (text ++ 62 ∷ []) || begins_with (codes "doctype") (lowered (text ++ 62 ∷ []))) (has_sections i && begins_with (codes "[CDATA[") (text ++ 62 ∷ []))
-    (or_none (begins_with (codes "--") (text ++ 62 ∷ [])) (begins_with (codes "doctype") (lowered (text ++ 62 ∷ [])))
+    or_from (begins_with (codes "--") (text ++ 62 ∷ []) || begins_with (codes "doctype") (lowered (text ++ 62 ∷ []))) (has_sections i && begins_with (codes "[CDATA[") (text ++ 62 ∷ []))
+    (or_from (begins_with (codes "--") (text ++ 62 ∷ [])) (begins_with (codes "doctype") (lowered (text ++ 62 ∷ [])))
     (not_by_greater (45 ∷ []) text 45 refl b.0)
     (ap (begins_with (codes "doctype")) low ∙ not_by_greater (codes "doctyp") (lowered text) 101 refl b.1))
     (and_of (has_sections i) (begins_with (codes "[CDATA[") text) (begins_with (codes "[CDATA[") (text ++ 62 ∷ [])) a.1 (not_by_greater (codes "[CDATA") text 91 refl))
@@ -147,7 +143,7 @@ module _ (s : Syntax) (i : Content) (o : occurs s i ≡ true) where
   unfinished (in_instruction text z m f) n = let k = first_more (ends_with (codes "?>")) text (codes "?>") f (ends_append text (codes "?>")) in by_token 60 (63 ∷ text) k.d k.rest comment (spelling.an_instruction (text ++ k.d ∷ k.rest) z m k.first)
   unfinished (in_bogus text z m d f) n = by_token 60 (33 ∷ text) 62 [] comment (spelling.a_bogus_comment (text ++ 62 ∷ []) z m (no_declaration i text d) (first_here (ends_with (codes ">")) text 62 f (ends_append text (codes ">"))))
   unfinished (in_html_comment text z m f) n =
-      let k = first_more ends_comment text (codes "-->") f (or_first _ _ (or_second _ _ (ends_append text (codes "-->")))) in
+      let k = first_more ends_comment text (codes "-->") f (or_left _ _ (or_right _ _ (ends_append text (codes "-->")))) in
       by_token 60 (33 ∷ 45 ∷ 45 ∷ text) k.d k.rest comment (spelling.a_comment (text ++ k.d ∷ k.rest) z m k.first)
   unfinished (in_strict text z m f) n =
       by_test (ends_with (codes "--") text)

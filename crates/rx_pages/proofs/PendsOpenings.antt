@@ -21,32 +21,27 @@ use Rattle.rx_reader.specs.TagReader.{fresh}
 use Rattle.rx_reader.specs.Laws.{ReadsOn}
 use Rattle.rx_pages.specs.Scanner.{keyword, whole_if, goes_on, is_mark, in_tag, verdict}
 use Rattle.rx_pages.proofs.Reading.{markup_is}
-use Rattle.rx_pages.proofs.Comments.{none_if, and_none, bogus_at}
+use Rattle.rx_pages.proofs.Comments.{none_if, bogus_at}
 use Rattle.rx_pages.proofs.Doctypes.{no_end}
 use Rattle.rx_pages.proofs.Openings.{NoOpening, no_opening, refused_first}
 use Rattle.rx_pages.proofs.FirstFronts.{NoFront, no_front_nil, none_before_nil, no_front_snoc, first_here, begins_exactly}
-use Rattle.rx_pages.proofs.TagRuns.{is_first, in_markup'}
+use Rattle.rx_pages.proofs.TagRuns.{in_markup'}
 use Rattle.rx_pages.proofs.Pends.{occurs, Pends, in_a_tag, in_question, in_instruction, in_bogus, in_html_comment, in_strict, in_a_doctype, in_a_section, in_an_opening, Out, tag_out}
 use Rattle.rx_pages.proofs.PendsMarks.{by_whole, as_verdict}
 use Rattle.rx_terms.proofs.Bools.{both, neither, either, not_both_ways, by_test, split, untrue}
 use Rattle.rx_reader.proofs.Classes.{of_one}
 use Rattle.rx_reader.proofs.Fronts.{equal, has_end}
+use Rattle.std.proofs.Math.Bool.{and-false}
+use Rattle.rx_reader.proofs.TagLaws.{repeats_once}
+use Rattle.rx_pages.proofs.Markup.{is_first}
 
 outside_html : (i : Content) → has_markup i ≡ true → occurs Html i ≡ true → has_less_than i ≡ false → i ≡ content.Outside
 outside_html content.Outside m o h = refl
-outside_html content.Html m o h = absurd (cc)
-outside_html content.Foreign m o h = absurd (cc)
-outside_html content.Strict m o h = absurd (cc)
-outside_html (content.Raw name) m o h = absurd (cc)
-outside_html (content.Rcdata name) m o h = absurd (cc)
+outside_html _ m o h = absurd (cc)
 
 outside_xhtml : (i : Content) → has_markup i ≡ true → occurs Xhtml i ≡ true → has_sections i ≡ false → i ≡ content.Outside
 outside_xhtml content.Outside m o h = refl
-outside_xhtml content.Html m o h = absurd (cc)
-outside_xhtml content.Foreign m o h = absurd (cc)
-outside_xhtml content.Strict m o h = absurd (cc)
-outside_xhtml (content.Raw name) m o h = absurd (cc)
-outside_xhtml (content.Rcdata name) m o h = absurd (cc)
+outside_xhtml _ m o h = absurd (cc)
 
 -- nothing of a tag
 nothing_read : (s : Syntax) → ReadsOn s []
@@ -58,7 +53,7 @@ module _ (i : Content) (m : has_markup i ≡ true) (c : ℕ) where
 
   html_mark : is_mark c ≡ true → Pends Html i (60 ∷ c ∷ [])
   html_mark h = elim (either (c == 33) (c == 63) h) [
-    | inl e ↦ of_one (λ x. Pends Html i (60 ∷ x ∷ [])) c 33 e (in_bogus [] refl m (and_none (has_sections i)) (no_front_nil (ends_with (codes ">")) refl))
+    | inl e ↦ of_one (λ x. Pends Html i (60 ∷ x ∷ [])) c 33 e (in_bogus [] refl m (and-false (has_sections i)) (no_front_nil (ends_with (codes ">")) refl))
     | inr e ↦ of_one (λ x. Pends Html i (60 ∷ x ∷ [])) c 63 e (in_question [] refl m (no_front_nil (ends_with (codes ">")) refl))
   ]
 
@@ -137,12 +132,8 @@ module _ (i : Content) (m : has_markup i ≡ true) (text : Chars) (c : ℕ) (non
           | inl e ↦ a_comment_begins (begins_exactly (codes "--") text c b.0 e)
           | inr e ↦ let l = map-append lowered_char text (c ∷ []) in a_doctype_begins (l ∙ begins_exactly (codes "doctype") (lowered text) (lowered_char c) b.1 (ap (begins_with (codes "doctype")) (sym l) ∙ e))
         ]
-        | inr h ↦ let q = both (has_sections i) _ h in a_section_begins q.0 (begins_exactly (codes "[CDATA[") text c (sections_false (has_sections i) (begins_with (codes "[CDATA[") text) q.0 a.1) q.1)
+        | inr h ↦ let q = both (has_sections i) _ h in a_section_begins q.0 (begins_exactly (codes "[CDATA[") text c (repeats_once (has_sections i) (begins_with (codes "[CDATA[") text) q.0 a.1) q.1)
       ]
-    where
-      sections_false : (a b : Bool) → a ≡ true → (a && b) ≡ false → b ≡ false
-      sections_false true b h k = k
-      sections_false false b h k = absurd (cc)
 
   pub from_bogus : NoFront (ends_with (codes ">")) text → Out Html i (60 ∷ 33 ∷ text) c (verdict Html i (60 ∷ 33 ∷ text) c)
   from_bogus n =
@@ -162,8 +153,7 @@ any_or f g (x ∷ all) h n =
   where
     rest : (a b : Bool) → a ≡ false → b ≡ false → ((a || b) || list_any (λ x. f x || g x) all) ≡ true → list_any (λ x. f x || g x) all ≡ true
     rest false false p q h = h
-    rest true b p q h = absurd (cc)
-    rest false true p q h = absurd (cc)
+    rest _ _ p q h = absurd (cc)
 
 module _ (i : Content) (m : has_markup i ≡ true) (o : occurs Xhtml i ≡ true) (text : Chars) (c : ℕ) (begun : is_opening_begun (33 ∷ text) ≡ true) where
   opening : NoOpening (33 ∷ text)
@@ -187,8 +177,7 @@ module _ (i : Content) (m : has_markup i ≡ true) (o : occurs Xhtml i ≡ true)
     where
       there : (a b : Bool) → a ≡ true → (a && not b) ≡ false → b ≡ true
       there true true h k = refl
-      there true false h k = absurd (cc)
-      there false b h k = absurd (cc)
+      there _ _ h k = absurd (cc)
 
   pub from_opening : Out Xhtml i (60 ∷ 33 ∷ text) c (verdict Xhtml i (60 ∷ 33 ∷ text) c)
   from_opening =

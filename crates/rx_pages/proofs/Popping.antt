@@ -1,6 +1,6 @@
 -- What a tag leaves open of the elements at the front of a page.
 use Rattle.std.proofs.lemmas.Bool.{cond-true, cond-false, and_from}
-use Rattle.std.proofs.Common.{◌≡◌, ◌∙◌, ℕ, suc, ◌+◌, Bool, true, false, cond, List, [], ◌∷◌, Option, Some, None, refl, ap, sym, arith, length}
+use Rattle.std.proofs.Common.{◌≡◌, ◌∙◌, ℕ, ◌+◌, Bool, true, false, cond, List, [], ◌∷◌, Option, Some, refl, ap, sym, arith, length}
 use Rattle.std.specs.Prelude.{◌&&◌, not}
 use Rattle.rx_terms.specs.Text.{Chars}
 use Rattle.rx_chars.specs.declared.syntax.Syntax.{Syntax}
@@ -22,9 +22,8 @@ ender_omits : (place : Place) (name other : Chars) → is_among (enders place na
 ender_omits place name other h = by (is_html place.content) (row_of name) h
   where
     by : (b : Bool) (row : Option (List Chars)) → is_among (cond b (names_of row) []) other ≡ true → (b && has_row row) ≡ true
-    by true None h = absurd (cc)
     by true (Some names) h = refl
-    by false row h = absurd (cc)
+    by _ _ h = absurd (cc)
 
 -- what is left open, and how deep
 pub record Left (syntax : Syntax) (depth : ℕ) (all to : List Item) (line : Line) : Type 0 where
@@ -36,9 +35,6 @@ module _ (syntax : Syntax) (depth : ℕ) (all : List Item) (item : Item) (u : Ta
   ends_of : (place : Place) (parent name : Chars) → ends_by place parent name item.content item.token ≡ ends_by place parent name item.content (tag u)
   ends_of place parent name = ap (ends_by place parent name item.content) is_tag
 
-  level : (n left : ℕ) → suc n + left ≡ depth → n + suc left ≡ depth
-  level n left d = omega arith
-
   module _ (start : u.closing ≡ false) (in_html : is_html item.content ≡ true) where
     started : (place : Place) (parent name : Chars) → is_among (enders place name) u.name ≡ true → is_ended_by place parent name (item ∷ []) ≡ true
     started place parent name h = and_from (is_omissible place name) _ (ender_omits place name u.name h) (ends_of place parent name ∙ (cond-false _ _ _ start ∙ and_from (is_html item.content) _ in_html h))
@@ -47,7 +43,7 @@ module _ (syntax : Syntax) (depth : ℕ) (all : List Item) (item : Item) (u : Ta
     pop_start {left = left} [] op d = record { room = left; opened = op; levels = d }
     pop_start {left = left} (s ∷ above) op d =
         split (Left syntax depth all (item ∷ [])) (is_among (enders (inside_of syntax above) s.name) u.name) (after_start syntax u.name above) (s ∷ above)
-        (λ h. pop_start above (pops syntax op (started (inside_of syntax above) (parent_of above) s.name h)) (level (length above) left d))
+        (λ h. pop_start above (pops syntax op (started (inside_of syntax above) (parent_of above) s.name h)) (omega arith))
         (λ h. record { room = left; opened = op; levels = d })
 
   -- after them no open element ends before the start tag
@@ -78,7 +74,7 @@ module _ (syntax : Syntax) (depth : ℕ) (all : List Item) (item : Item) (u : Ta
     pop_end {left = left} [] op d = record { room = left; opened = op; levels = d }
     pop_end {left = left} (s ∷ above) op d =
         split (Left syntax depth all (item ∷ [])) (is_omissible (inside_of syntax above) s.name && not (same s.name u.name) && not (is_held (parent_of above) s.name)) (after_end syntax u.name above) (s ∷ above)
-        (λ h. pop_end above (pops syntax op (closed_by above s h)) (level (length above) left d))
+        (λ h. pop_end above (pops syntax op (closed_by above s h)) (omega arith))
         (λ h. record { room = left; opened = op; levels = d })
 
     -- the content stays what it is where elements end

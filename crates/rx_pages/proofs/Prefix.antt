@@ -30,8 +30,7 @@ any_next s i _ _ (a_doctype text m d) next = a_doctype text m d
 
 next_more : (s : Syntax) (i : Content) (text : Chars) (token : Token) (a run rest : List Entry) → Spells s i text (next_of (values a) (next_of (values run) None)) token → Spells s i text (next_of (values (a ++ (run ++ rest))) None) token
 next_more s i text token [] [] rest h = any_next s i text token h (next_of (values rest) None)
-next_more s i text token [] (c ∷ run) rest h = h
-next_more s i text token (c ∷ a) run rest h = h
+next_more s i text token _ _ rest h = h
 
 regrouped : (xs ys zs whole : List Entry) → whole ≡ (xs ++ ys) ++ zs → xs ++ (ys ++ zs) ≡ whole
 regrouped xs ys zs whole e = sym (append_assoc xs ys zs) ∙ sym e

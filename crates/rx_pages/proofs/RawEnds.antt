@@ -11,19 +11,17 @@ use Rattle.rx_chars.specs.declared.syntax.Syntax.TheVariants.{Html}
 use Rattle.rx_grammar.specs.declared.contents.Content.{Content}
 use Rattle.rx_grammar.specs.declared.contents.Content.TheVariants as content
 use Rattle.rx_grammar.specs.declared.contents.RawName.{RawName}
-use Rattle.rx_grammar.specs.declared.contents.RawName.TheVariants.{Script, Style, Iframe, Noembed, Noframes, Xmp, Title, Textarea}
+use Rattle.rx_grammar.specs.declared.contents.RawName.TheVariants.{Script}
 use Rattle.rx_grammar.specs.Names.{name_of_raw}
 use Rattle.rx_grammar.specs.Tokens.{Tag}
 use Rattle.rx_grammar.specs.Shapes.{ends_name, is_tag_name, Shape, a_start, an_end}
 use Rattle.rx_grammar.specs.Tags.{cased, SpellsTag}
 use Rattle.rx_grammar.specs.Spelling.{raw_name}
-use Rattle.rx_reader.specs.Tables.{is_last}
 use Rattle.rx_reader.specs.Laws.{ReadsOn}
-use Rattle.rx_pages.proofs.TagRuns.{KnownEnd, after_last}
+use Rattle.rx_pages.proofs.TagRuns.{KnownEnd, front_of}
 use Rattle.rx_terms.proofs.Bools.{both, not_both_ways, by_test, untrue}
 use Rattle.rx_reader.proofs.Classes.{of_white, of_one, unless}
 use Rattle.rx_reader.proofs.TagLaws.{reads_each}
-use Rattle.rx_reader.proofs.TagFaultLaws.{parts}
 
 -- their names are letters in lower case
 pub record IsRawName (name : Chars) : Type 0 where
@@ -33,21 +31,12 @@ pub record IsRawName (name : Chars) : Type 0 where
 
 of_raw : (r : RawName) → IsRawName (name_of_raw r)
 of_raw Script = record { letters = refl; low = refl; some = λ e. cc }
-of_raw Style = record { letters = refl; low = refl; some = λ e. cc }
-of_raw Iframe = record { letters = refl; low = refl; some = λ e. cc }
-of_raw Noembed = record { letters = refl; low = refl; some = λ e. cc }
-of_raw Noframes = record { letters = refl; low = refl; some = λ e. cc }
-of_raw Xmp = record { letters = refl; low = refl; some = λ e. cc }
-of_raw Title = record { letters = refl; low = refl; some = λ e. cc }
-of_raw Textarea = record { letters = refl; low = refl; some = λ e. cc }
+of_raw _ = record { letters = refl; low = refl; some = λ e. cc }
 
 pub is_raw_name : (i : Content) (name : Chars) → raw_name i ≡ Some name → IsRawName name
-is_raw_name content.Outside name h = absurd (cc)
-is_raw_name content.Html name h = absurd (cc)
-is_raw_name content.Foreign name h = absurd (cc)
-is_raw_name content.Strict name h = absurd (cc)
 is_raw_name (content.Raw r) name h = let e : name_of_raw r ≡ name = cc in subst IsRawName e (of_raw r)
 is_raw_name (content.Rcdata r) name h = let e : name_of_raw r ≡ name = cc in subst IsRawName e (of_raw r)
+is_raw_name _ name h = absurd (cc)
 
 letter_of : (c : ℕ) → is_letter (lowered_char c) ≡ true → is_letter c ≡ true
 letter_of c h = by_test (between 65 90 c) (λ t. rw t refl) (λ f. ap is_letter (sym (cond-false (between 65 90 c) (c + 32) c f)) ∙ h)
@@ -115,10 +104,7 @@ module _ (name : Chars) (raw : IsRawName name) where
 
 -- the front of what is spelled is read
 pub spelled_reads : (s : Syntax) (a : Chars) (c : ℕ) (b : Chars) (t : Tag) → SpellsTag s (a ++ c ∷ b) t → ReadsOn s a
-spelled_reads s a c b t sp =
-    let r = reads_each s (a ++ c ∷ b) t sp in
-    let p = parts s a (c ∷ b) r.last r.run in
-    record { reached = p.between; run = p.first; unfinished = by_test (is_last p.between.phase) (λ w. absurd (after_last s p.between c b r.last w p.second)) (λ w. w) }
+spelled_reads s a c b t sp = let r = reads_each s (a ++ c ∷ b) t sp in front_of s a c b r.last r.run
 
 pub end_reads : (name word : Chars) → IsRawName name → lowered word ≡ solidus ∷ name → ReadsOn Html word
 end_reads name word raw e = spelled_reads Html word 62 [] (end_tag name) (spells_end name raw word e)

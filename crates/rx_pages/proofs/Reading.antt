@@ -5,7 +5,7 @@ use Rattle.rx_chars.specs.declared.syntax.Syntax.{Syntax}
 use Rattle.rx_grammar.specs.declared.contents.Content.{Content}
 use Rattle.rx_grammar.specs.declared.contents.Content.TheVariants as content
 use Rattle.rx_grammar.specs.Tokens.{Token}
-use Rattle.rx_grammar.specs.Spelling.{IsFirst, has_markup, has_sections, raw_name}
+use Rattle.rx_grammar.specs.Spelling.{IsFirst, has_markup, raw_name}
 use Rattle.rx_pages.specs.Scanner.{goes_on, whole, after_less_than, in_markup, verdict, GoesOn, ReadAs, at_last}
 use Rattle.rx_terms.proofs.Bools.{not_both_ways}
 
@@ -59,20 +59,9 @@ module _ (s : Syntax) (i : Content) where
           more_left (z ∷ more) h = cc
 
 pub markup_raw : (i : Content) → has_markup i ≡ true → raw_name i ≡ None
-markup_raw content.Outside h = refl
-markup_raw content.Html h = refl
-markup_raw content.Foreign h = refl
-markup_raw content.Strict h = refl
 markup_raw (content.Raw name) h = absurd (cc)
 markup_raw (content.Rcdata name) h = absurd (cc)
-
-pub sections_markup : (i : Content) → has_sections i ≡ true → has_markup i ≡ true
-sections_markup content.Outside h = refl
-sections_markup content.Html h = refl
-sections_markup content.Foreign h = refl
-sections_markup content.Strict h = refl
-sections_markup (content.Raw name) h = absurd (cc)
-sections_markup (content.Rcdata name) h = absurd (cc)
+markup_raw _ h = refl
 
 pub markup_is : (s : Syntax) (i : Content) (text : Chars) (c : ℕ) → has_markup i ≡ true → verdict s i (60 ∷ text) c ≡ in_markup s i text c
 markup_is s i text c h = ap (λ o. after_less_than s i o text c) (markup_raw i h)

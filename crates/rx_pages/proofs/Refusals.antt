@@ -1,7 +1,7 @@
 -- Faults that a character decides outside tags and document types are refused at it.
-use Rattle.std.proofs.Common.{◌≡◌, ◌≢◌, ◌∙◌, ℕ, Bool, true, false, [], ◌∷◌, ◌++◌, None, refl, ap, eqb-true}
+use Rattle.std.proofs.Common.{◌≡◌, ◌≢◌, ◌∙◌, ℕ, true, false, [], ◌∷◌, ◌++◌, None, refl, ap, eqb-true}
 use Rattle.std.specs.Prelude.{◌&&◌, ◌==◌, not, codes}
-use Rattle.std.proofs.lemmas.Bool.{cond-true, cond-false}
+use Rattle.std.proofs.lemmas.Bool.{cond-true, cond-false, or_from}
 use Rattle.rx_terms.specs.Ascii.{ampersand, semicolon, less_than_sign, greater_than_sign, is_white_space}
 use Rattle.rx_terms.specs.Text.{Chars}
 use Rattle.rx_chars.specs.declared.syntax.Syntax.{Syntax}
@@ -10,14 +10,16 @@ use Rattle.rx_grammar.specs.declared.contents.Content.{Content}
 use Rattle.rx_grammar.specs.declared.contents.Content.TheVariants as content
 use Rattle.rx_grammar.specs.declared.faults.Kind.{Kind}
 use Rattle.rx_grammar.specs.declared.faults.Kind.TheVariants.{Outside, StrictText, UnknownReference, BadReference}
-use Rattle.rx_grammar.specs.References.{is_name, is_body, is_begun, meaning}
+use Rattle.rx_grammar.specs.References.{is_body, is_begun, meaning}
 use Rattle.rx_grammar.specs.TagFaults.{RunFault, unknown, bad, no_reference}
 use Rattle.rx_grammar.specs.Spelling.{ends_with, IsFirst, has_markup, has_references, keeps_runs, begins_markup}
 use Rattle.rx_pages.specs.Scanner.{refused, told_of_reference, is_mark, in_markup, verdict, GoesOn}
 use Rattle.rx_pages.proofs.Reading.{all_go, go_append, markup_is}
-use Rattle.rx_pages.proofs.Texts.{run_goes, or_none, semicolon_stops}
+use Rattle.rx_pages.proofs.Texts.{run_goes, semicolon_stops}
 use Rattle.rx_terms.proofs.Bools.{both, neither, untrue, by_test}
 use Rattle.rx_reader.proofs.TextComplete.{body_begun}
+use Rattle.std.proofs.Math.Bool.{and-false}
+use Rattle.rx_reader.proofs.ValueRefusals.{name_body}
 
 -- All characters but the last go on, and the last one is refused.
 pub record IsRefused (syntax : Syntax) (inside : Content) (found : Kind) (chars : Chars) : Type 0 where
@@ -26,10 +28,6 @@ pub record IsRefused (syntax : Syntax) (inside : Content) (found : Kind) (chars 
   pub are : chars ≡ front ++ c ∷ []
   pub go : GoesOn syntax inside [] front
   pub refuses : verdict syntax inside front c ≡ refused found
-
-name_body : (name : Chars) → is_name name ≡ true → is_body name ≡ true
-name_body [] h = absurd (cc)
-name_body (c ∷ name) h = rw h refl
 
 module _ (s : Syntax) (i : Content) (references : has_references i ≡ true) where
   unmeant : (body : Chars) (kind : Kind) → is_body body ≡ true → meaning s body ≡ None → told_of_reference body None ≡ refused kind → IsRefused s i kind (ampersand ∷ (body ++ semicolon ∷ []))
@@ -71,11 +69,7 @@ refuses_comment i markup text c f n =
 -- outside the root
 pub refuses_text : (s : Syntax) (c : ℕ) → is_white_space c ≡ false → c ≢ less_than_sign → IsRefused s content.Outside Outside (c ∷ [])
 refuses_text s c w n =
-    record { front = []; c = c; are = refl; go = tt; refuses = cond-false _ _ _ (or_none (c == 60) (c == 38 && false) (other_than c 60 n) (none (c == 38))) ∙ cond-false _ _ _ w }
-  where
-    none : (b : Bool) → (b && false) ≡ false
-    none true = refl
-    none false = refl
+    record { front = []; c = c; are = refl; go = tt; refuses = cond-false _ _ _ (or_from (c == 60) (c == 38 && false) (other_than c 60 n) (and-false (c == 38))) ∙ cond-false _ _ _ w }
 
 pub refuses_less_than : (c : ℕ) → begins_markup c ≡ false → IsRefused Html content.Outside Outside (less_than_sign ∷ c ∷ [])
 refuses_less_than c h =
@@ -85,7 +79,7 @@ refuses_less_than c h =
     no_mark =
         let a = neither _ (c == 63) h in
         let b = neither _ (c == 33) a.0 in
-        or_none (c == 33) (c == 63) b.1 a.1
+        or_from (c == 33) (c == 63) b.1 a.1
 
 pub refuses_section : IsRefused Xhtml content.Outside Outside (codes "<![CDATA[")
 refuses_section = record { front = codes "<![CDATA"; c = 91; are = refl; go = (refl, (refl, (refl, (refl, (refl, (refl, (refl, (refl, tt)))))))); refuses = refl }

@@ -1,6 +1,6 @@
 -- One more character, and one more token, behind those of a front.
 use Rattle.std.proofs.Common.{◌≡◌, ◌∙◌, ℕ, ◌+◌, ◌-◌, Bool, true, false, List, [], ◌∷◌, ◌++◌, refl, sym, ap, subst, length, append_assoc, append-nil, Option, Some, Ok, arith}
-use Rattle.std.specs.Prelude.{◌&&◌, ◌||◌, ◌==◌, if◌then◌else◌}
+use Rattle.std.specs.Prelude.{◌&&◌, ◌==◌, if◌then◌else◌}
 use Rattle.std.specs.Char.{len_utf8}
 use lib.Utf8.{encode, encodes}
 use Rattle.std.proofs.lemmas.List.{length-append}
@@ -16,6 +16,7 @@ use Rattle.rx_pages.specs.Nesting.{Event, Nesting, Step, content_at, nest_step, 
 use Rattle.rx_pages.proofs.CharSteps.{passes, entry_at}
 use Rattle.rx_pages.proofs.CharWalk.{ends_return, is_started, no_return, no_mark}
 use Rattle.rx_pages.proofs.TokensWalk.{flags_behind}
+use Rattle.std.proofs.Math.Bool.{or-false}
 
 -- what it enters
 abbrev pub entered_one : Bool → ℕ → ℕ → List Entry
@@ -41,15 +42,11 @@ entered_snoc after_return at (d ∷ cs) c =
     ∙ (ap (λ x. line_end_entry (record { value = d; first = at; last = at + len_utf8 d - 1 }) ∷ (entered (d == carriage_return) (placed (at + len_utf8 d) cs) ++ entered_one (ends_return (d == carriage_return) cs && c == line_feed) x c)) same
     ∙ ap (λ es. es ++ entered_one (ends_return (d == carriage_return) cs && c == line_feed) (at + length (encodes (d ∷ cs))) c) (sym (cond-false _ _ _ t)))))
 
-or_false : (b : Bool) → (b || false) ≡ b
-or_false true = refl
-or_false false = refl
-
 pub page_snoc : (cs : List ℕ) (c : ℕ) → entered false (without_mark (placed 0 (cs ++ c ∷ []))) ≡ entered false (without_mark (placed 0 cs)) ++ entered_one (passes (is_started cs) (ends_return false cs) c) (length (encodes cs)) c
 page_snoc [] c =
     by_test {G = entered false (without_mark (placed 0 (c ∷ []))) ≡ entered_one (passes false false c) 0 c} (c == byte_order_mark)
-    (λ t. ap (λ es. entered false es) (cond-true _ _ _ t) ∙ ap (λ b. entered_one b 0 c) (sym (or_false (c == byte_order_mark) ∙ t)))
-    (λ t. ap (λ es. entered false es) (cond-false _ _ _ t) ∙ ap (λ b. entered_one b 0 c) (sym (or_false (c == byte_order_mark) ∙ t)))
+    (λ t. ap (λ es. entered false es) (cond-true _ _ _ t) ∙ ap (λ b. entered_one b 0 c) (sym (or-false (c == byte_order_mark) ∙ t)))
+    (λ t. ap (λ es. entered false es) (cond-false _ _ _ t) ∙ ap (λ b. entered_one b 0 c) (sym (or-false (c == byte_order_mark) ∙ t)))
 page_snoc (d ∷ cs) c =
     let n = length-append (encode d) (encodes cs) in
     let l = length-encode d in
@@ -104,11 +101,8 @@ pub sections_snoc : (items : List Item) (item : Item) (two last : Bool) → no_s
 sections_snoc [] item two last h k = cond-false _ _ _ k
 sections_snoc (i ∷ items) item two last h k =
     by_test {G = no_section_end ((i ∷ items) ++ item ∷ []) two last ≡ true} (two && is_literal greater_than_sign i)
-    (λ t. absurd (false_true (sym (cond-true _ _ _ t) ∙ h)))
+    (λ t. absurd (let q : false ≡ true = sym (cond-true _ _ _ t) ∙ h in cc))
     (λ t. cond-false _ _ _ t ∙ sections_snoc items item (last && is_literal right_bracket i) (is_literal right_bracket i) (sym (cond-false _ _ _ t) ∙ h) k)
-  where
-    false_true : false ≡ true → ⊥
-    false_true e = cc
 
 pub fit_snoc : (limit : ℕ) (items : List Item) (item : Item) → AllFit limit items → Fits limit item item.token → AllFit limit (items ++ item ∷ [])
 fit_snoc limit [] item h f = (f, tt)

@@ -1,5 +1,5 @@
 -- Where the tokens lead, they stand at the front of a page.
-use Rattle.std.proofs.lemmas.Bool.{cond-true, cond-false}
+use Rattle.std.proofs.lemmas.Bool.{cond-true, cond-false, not-false}
 use Rattle.std.proofs.lemmas.Bool.Decides.{nat_tests}
 use Rattle.std.proofs.Common.{◌≡◌, ◌∙◌, ℕ, zero, suc, ◌+◌, ◌-◌, ◌<◌, Bool, true, false, List, [], ◌∷◌, ◌++◌, Some, None, refl, ap, sym, subst, arith, length, append_assoc, inl, inr, ◌⊎◌}
 use Rattle.std.specs.Prelude.{◌&&◌, not, Result, Ok, nat_le}
@@ -34,14 +34,10 @@ pub record NoRows (a b p s d : Bool) : Type 0 where
   pub room : d ≡ false
 
 rows_none : (a b p s d : Bool) → first_row ((a, kind.Outside) ∷ (b, kind.RootNotHtml) ∷ (p, kind.Plaintext) ∷ (s, kind.SelfClosed) ∷ (d, kind.TooDeep) ∷ []) ≡ None → NoRows a b p s d
-rows_none true b p s d h = absurd (cc)
-rows_none false true p s d h = absurd (cc)
-rows_none false false true s d h = absurd (cc)
-rows_none false false false true d h = absurd (cc)
-rows_none false false false false true h = absurd (cc)
 rows_none false false false false false h = record { not_ended = refl; named = refl; known = refl; allowed = refl; room = refl }
+rows_none _ _ _ _ _ h = absurd (cc)
 
-below : (depth n : ℕ) → nat_le depth n ≡ false → n < depth
+pub below : (depth n : ℕ) → nat_le depth n ≡ false → n < depth
 below depth n h = grind (arith, nat_tests)
 
 -- tokens that content Outside has
@@ -100,10 +96,7 @@ module _ (syntax : Syntax) (depth : ℕ) (all : List Item) (item : Item) where
   open_at {room = suc left} (s ∷ above) u es op d o among room =
       split StandsAt (is_alone syntax (inside_of syntax (s ∷ above)) u) _ _
       (λ is. still_open depth (extend syntax op (alone item u o is nothing) (rw among refl)) d)
-      (λ isnt. still_open depth (a_child item u op o isnt among pages.no_more nothing refl) (level (length (s ∷ above)) left d))
-    where
-      level : (n left : ℕ) → n + suc left ≡ depth → suc n + left ≡ depth
-      level n left d = omega arith
+      (λ isnt. still_open depth (a_child item u op o isnt among pages.no_more nothing refl) (omega arith))
 
   -- an end tag
   close_at : {room : ℕ} (base : Line) (u : Tag) (es : List Event) → Open syntax room all (item ∷ []) base → length base + room ≡ depth → is_innermost u.name base ≡ true → item.content ≡ (inside_of syntax base).content → item.token ≡ tag u → u.closing ≡ true
@@ -113,10 +106,7 @@ module _ (syntax : Syntax) (depth : ℕ) (all : List Item) (item : Item) where
       let r = closes_root syntax depth item op (record { t = u; content = c; token = k; end = closing; same = sym (same_is s.name u.name is) }) refl (omega arith) in
       ended r.0 r.1
   close_at {room = room} (s ∷ t ∷ above) u es op d is c k closing =
-      still_open depth (closes_child syntax item op (record { t = u; content = c; token = k; end = closing; same = sym (same_is s.name u.name is) }) (λ e. cc)) (level (length (t ∷ above)) room d)
-    where
-      level : (n left : ℕ) → suc n + left ≡ depth → n + suc left ≡ depth
-      level n left d = omega arith
+      still_open depth (closes_child syntax item op (record { t = u; content = c; token = k; end = closing; same = sym (same_is s.name u.name is) }) (λ e. cc)) (omega arith)
 
   -- in open elements a start tag that isn't refused
   start_within : {left : ℕ} (line : Line) (u : Tag) (step : Step) → Open syntax left all (item ∷ []) line → length line + left ≡ depth → item.content ≡ (inside_of syntax line).content → item.token ≡ tag u → u.closing ≡ false
@@ -183,13 +173,10 @@ module _ (syntax : Syntax) (depth : ℕ) (all : List Item) (item : Item) where
         holds = subst (λ x. Holds syntax x outside [] (item ∷ []) [] (pages_element u)) d (alone item u o is nothing);
         trail = pages.no_more;
       }))
-      (λ isnt. still_open depth (subst (λ xs. Open syntax left xs [] (start_of item u ∷ [])) (sym a) (a_root items item u lead o named isnt pages.no_more nothing)) (one_more left d))
+      (λ isnt. still_open depth (subst (λ xs. Open syntax left xs [] (start_of item u ∷ [])) (sym a) (a_root items item u lead o named isnt pages.no_more nothing)) (omega arith))
     where
       pages_element : Tag → Tree
       pages_element u = element (start_of item u) end end
-
-      one_more : (left : ℕ) → suc left ≡ depth → 1 + left ≡ depth
-      one_more left d = omega arith
 
   -- before the root
   start_before : (before_items : List Item) (stood : Bool) → all ≡ before_items ++ item ∷ [] → Lead before_items stood → (u : Tag) (step : Step) → item.content ≡ content.Outside → item.token ≡ tag u → u.closing ≡ false
@@ -197,12 +184,8 @@ module _ (syntax : Syntax) (depth : ℕ) (all : List Item) (item : Item) where
   start_before items stood a lead u step c k start e =
       let p = passes (first_row (start_rows syntax depth [] (before stood) u)) (begun_under syntax item u [] []) step (sym (of_start u.closing _ _ _ _ start) ∙ e) in
       let n = rows_none (has_ended (before stood)) (is_before (before stood) && not (same u.name root_name)) _ _ _ p.none in
-      arrive _ step p.is (root_at items stood a lead u (record { content = c; token = k; start = start; allowed = n.allowed; known = n.known }) (same_is u.name root_name (truth _ n.named)) (depth - 1) (room (below depth 0 n.room)))
+      arrive _ step p.is (root_at items stood a lead u (record { content = c; token = k; start = start; allowed = n.allowed; known = n.known }) (same_is u.name root_name (not-false _ n.named)) (depth - 1) (room (below depth 0 n.room)))
     where
-      truth : (b : Bool) → not b ≡ false → b ≡ true
-      truth true h = refl
-      truth false h = absurd (cc)
-
       room : 0 < depth → suc (depth - 1) ≡ depth
       room h = omega arith
 

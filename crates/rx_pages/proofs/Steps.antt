@@ -8,7 +8,7 @@ use Rattle.rx_chars.specs.declared.syntax.Syntax.{Syntax}
 use Rattle.rx_grammar.specs.declared.faults.Kind.{Kind}
 use Rattle.rx_grammar.specs.declared.faults.Kind.TheVariants as kind
 use Rattle.rx_grammar.specs.Names.{same, is_among}
-use Rattle.rx_grammar.specs.Tokens.{Tag, Token, tag, character, reference, kept, section, comment, doctype}
+use Rattle.rx_grammar.specs.Tokens.{Tag, Token, tag, character, reference, kept, section}
 use Rattle.rx_grammar.specs.Contents.{is_alone, is_html, is_plaintext, is_self_closed}
 use Rattle.rx_grammar.specs.Trees.{StartTag}
 use Rattle.rx_grammar.specs.Items.{Item, is_line_feed}
@@ -33,24 +33,18 @@ after_one step = record { next = step.next; events = finishes ∷ step.events }
 -- where no line feed is dropped the step is the same
 pub undropped : (syntax : Syntax) (depth : ℕ) (line : Line) (phase : Phase) (d : Bool) (item : Item) (token : Token) → (d && is_line_feed token) ≡ false
     → step_by syntax depth (record { line = line; phase = phase; drops = d }) item token ≡ step_by syntax depth (record { line = line; phase = phase; drops = false }) item token
-undropped syntax depth line phase d item (tag t) h = refl
 undropped syntax depth line phase d item (character c) h = rw h refl
 undropped syntax depth line phase d item (reference c) h = rw h refl
 undropped syntax depth line phase d item (kept chars) h = by_test {G = step_by syntax depth (record { line = line; phase = phase; drops = d }) item (kept chars) ≡ step_by syntax depth (record { line = line; phase = phase; drops = false }) item (kept chars)} d (λ e. rw e refl) (λ e. rw e refl)
 undropped syntax depth line phase d item (section chars) h = by_test {G = step_by syntax depth (record { line = line; phase = phase; drops = d }) item (section chars) ≡ step_by syntax depth (record { line = line; phase = phase; drops = false }) item (section chars)} d (λ e. rw e refl) (λ e. rw e refl)
-undropped syntax depth line phase d item comment h = refl
-undropped syntax depth line phase d item doctype h = refl
+undropped syntax depth line phase d item _ h = refl
 
 -- a dropped line feed tells nothing
 pub dropped : (syntax : Syntax) (depth : ℕ) (line : Line) (item : Item) (token : Token) → is_line_feed token ≡ true
     → step_by syntax depth (inside_at line true) item token ≡ Ok (record { next = in_line line; events = [] })
-dropped syntax depth line item (tag t) h = absurd (cc)
 dropped syntax depth line item (character c) h = rw h refl
 dropped syntax depth line item (reference c) h = rw h refl
-dropped syntax depth line item (kept chars) h = absurd (cc)
-dropped syntax depth line item (section chars) h = absurd (cc)
-dropped syntax depth line item comment h = absurd (cc)
-dropped syntax depth line item doctype h = absurd (cc)
+dropped syntax depth line item _ h = absurd (cc)
 
 -- nothing was refused
 pub record Passes (found : Option Kind) (passes step : Step) : Type 0 where
@@ -140,9 +134,4 @@ ended syntax depth t line item (tag u) omits h step e =
     by_test {G = step_by syntax depth (in_line (t ∷ line)) item (tag u) ≡ Ok (after_one step)} u.closing
     (λ c. let k = both (not (same u.name t.name)) _ (rw c at h) in ends syntax depth t line item u omits c (untrue _ k.0) (untrue _ k.1) step e)
     (λ c. let k = both (is_html item.content) _ (rw c at h) in starts syntax depth t line item u omits c k.1 step e)
-ended syntax depth t line item (character c) omits h step e = absurd (cc)
-ended syntax depth t line item (reference c) omits h step e = absurd (cc)
-ended syntax depth t line item (kept chars) omits h step e = absurd (cc)
-ended syntax depth t line item (section chars) omits h step e = absurd (cc)
-ended syntax depth t line item comment omits h step e = absurd (cc)
-ended syntax depth t line item doctype omits h step e = absurd (cc)
+ended syntax depth t line item _ omits h step e = absurd (cc)

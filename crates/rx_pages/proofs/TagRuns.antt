@@ -1,36 +1,37 @@
 -- A run that is known to be a tag is read as one.
-use Rattle.std.proofs.Common.{◌≡◌, ◌≢◌, ◌∙◌, ℕ, ◌+◌, ◌≤◌, length, take, Bool, true, false, [], ◌∷◌, ◌++◌, Some, Ok, Err, refl, ap, sym, subst, append-nil, append_assoc, inl, inr, ◌⊎◌, arith}
-use Rattle.std.specs.Prelude.{◌&&◌, ◌||◌, ◌==◌, not, drop}
-use Rattle.std.proofs.lemmas.Bool.{cond-true, cond-false}
+use Rattle.std.proofs.Common.{suc, ◌≡◌, ◌≢◌, ◌∙◌, ℕ, ◌+◌, ◌≤◌, length, take, Bool, true, false, [], ◌∷◌, ◌++◌, Some, Ok, Err, refl, ap, sym, subst, append-nil, append_assoc, inl, inr, ◌⊎◌, arith}
+use Rattle.std.specs.Prelude.{◌&&◌, ◌==◌, not, drop}
+use Rattle.std.proofs.lemmas.Bool.{and_parts, cond-true, cond-false, and_right}
+use Rattle.std.proofs.Math.Seq.{take-append_seam, drop-append_seam}
 use Rattle.std.proofs.lemmas.List.{length-append, length-map, take-append-drop}
 use Rattle.rx_terms.specs.Ascii.{lowered_char, solidus, less_than_sign}
 use Rattle.rx_terms.specs.Text.{Chars, begins_with, lowered}
 use Rattle.rx_chars.specs.declared.syntax.Syntax.{Syntax}
-use Rattle.rx_chars.specs.declared.syntax.Syntax.TheVariants.{Html, Xhtml}
 use Rattle.rx_grammar.specs.declared.contents.Content.{Content}
 use Rattle.rx_grammar.specs.declared.contents.Content.TheVariants as content
 use Rattle.rx_grammar.specs.declared.faults.Kind.{Kind}
 use Rattle.rx_grammar.specs.declared.faults.Kind.TheVariants.{BadTag}
 use Rattle.rx_grammar.specs.Names.{same, name_of_raw}
 use Rattle.rx_grammar.specs.References.{meaning}
-use Rattle.rx_grammar.specs.Shapes.{begins_tag, ends_name, begins}
+use Rattle.rx_grammar.specs.Shapes.{ends_name, begins}
 use Rattle.rx_grammar.specs.TagFaults.{TagFault}
-use Rattle.rx_grammar.specs.Spelling.{has_markup, raw_name, begins_end, stops_end, begins_markup}
+use Rattle.rx_grammar.specs.Spelling.{has_markup, raw_name, begins_end, stops_end}
 use Rattle.rx_grammar.specs.PageFaults.{is_known_end, is_known_tag}
-use Rattle.rx_reader.specs.Tables.{is_html, is_last}
+use Rattle.rx_reader.specs.Tables.{is_last}
 use Rattle.rx_reader.specs.TagReader.{TagState, fresh, moved, checked, tag_step, tag_step_on, tag_on}
 use Rattle.rx_reader.specs.Laws.{ReadsOn}
-use Rattle.rx_pages.specs.Scanner.{goes_on, refused, told_of_tag, in_tag, in_raw, in_markup, is_mark, verdict, GoesOn}
+use Rattle.rx_pages.specs.Scanner.{goes_on, refused, told_of_tag, in_tag, in_raw, verdict, GoesOn}
 use Rattle.rx_pages.proofs.Reading.{all_go, markup_is, raw_is}
 use Rattle.rx_pages.proofs.RawText.{begins_end_front}
 use Rattle.rx_pages.proofs.Contents.{same_is}
-use Rattle.rx_pages.proofs.FirstFronts.{same_self}
 use Rattle.rx_pages.proofs.Refusals.{IsRefused}
-use Rattle.rx_terms.proofs.Bools.{both, either, not_both_ways, by_test}
-use Rattle.rx_reader.proofs.Classes.{of_one}
-use Rattle.rx_reader.proofs.Fronts.{equal, two_fronts}
+use Rattle.rx_terms.proofs.Bools.{both, by_test}
+use Rattle.rx_reader.proofs.Fronts.{two_fronts, begins_append}
 use Rattle.rx_reader.proofs.TagLaws.{last_none, on_err, tag_on-append}
 use Rattle.rx_reader.proofs.TagFaultLaws.{parts, is_refused}
+use Rattle.std.proofs.Math.Bool.{and-false}
+use Rattle.rx_reader.proofs.OneToken.{same_self}
+use Rattle.rx_pages.proofs.Markup.{is_first, markup_tag}
 
 -- The fronts of what is read as a tag are read so.
 pub after_last : (s : Syntax) (st : TagState) (c : ℕ) (text : Chars) (last : TagState) → is_last st.phase ≡ true → tag_on s (meaning s) (Ok st) (c ∷ text) ≡ Ok last → ⊥
@@ -40,48 +41,20 @@ after_last s st c text last w h =
     let m = on_err s (meaning s) BadTag text in
     cc
 
-pub front_reads : (s : Syntax) (a b : Chars) → ReadsOn s (a ++ b) → ReadsOn s a
+pub front_of : (s : Syntax) (a : Chars) (c : ℕ) (b : Chars) (last : TagState) → tag_on s (meaning s) (Ok fresh) (a ++ c ∷ b) ≡ Ok last → ReadsOn s a
+front_of s a c b last h =
+    let p = parts s a (c ∷ b) last h in
+    record { reached = p.between; run = p.first; unfinished = by_test (is_last p.between.phase) (λ w. absurd (after_last s p.between c b last w p.second)) (λ w. w) }
+
+front_reads : (s : Syntax) (a b : Chars) → ReadsOn s (a ++ b) → ReadsOn s a
 front_reads s a [] r = subst (ReadsOn s) (append-nil a) r
-front_reads s a (c ∷ b) r =
-    let p = parts s a (c ∷ b) r.reached r.run in
-    record { reached = p.between; run = p.first; unfinished = by_test (is_last p.between.phase) (λ w. absurd (after_last s p.between c b r.reached w p.second)) (λ w. w) }
+front_reads s a (c ∷ b) r = front_of s a c b r.reached r.run
 
 pub in_tag_goes : (s : Syntax) (f : Chars) (d : ℕ) → ReadsOn s (f ++ d ∷ []) → in_tag s f d ≡ goes_on
 in_tag_goes s f d r = ap told_of_tag r.run ∙ cond-false _ _ _ r.unfinished
 
 in_tag_refuses : (s : Syntax) (kind : Kind) (f : Chars) (d : ℕ) (r : ReadsOn s f) → tag_step s (meaning s) r.reached d ≡ Err kind → in_tag s f d ≡ refused kind
 in_tag_refuses s kind f d r h = ap told_of_tag (tag_on-append s (meaning s) (Ok fresh) f (d ∷ []) ∙ (ap (λ o. tag_step_on s (meaning s) o d) r.run ∙ h))
-
--- After `<` a solidus or what begins a name tells that a tag stands there.
-abbrev pub is_first : Syntax → ℕ → Bool
-is_first s c = c == solidus || begins_tag s c
-
-not_first : (s : Syntax) (c d : ℕ) → is_first s c ≡ true → is_first s d ≡ false → (c == d) ≡ false
-not_first s c d h n = by_test {G = (c == d) ≡ false} (c == d) (λ e. absurd (not_both_ways (is_first s c) h (of_one (λ x. is_first s x ≡ false) c d e n))) (λ e. e)
-
-no_mark : (s : Syntax) (c : ℕ) → is_first s c ≡ true → is_mark c ≡ false
-no_mark Html c h = rw (not_first Html c 33 h refl, not_first Html c 63 h refl) refl
-no_mark Xhtml c h = rw (not_first Xhtml c 33 h refl, not_first Xhtml c 63 h refl) refl
-
-no_text : (s : Syntax) (c : ℕ) → is_first s c ≡ true → (is_html s && not (begins_markup c)) ≡ false
-no_text Html c h = elim (either (c == solidus) (begins_tag Html c) h) [ inl e ↦ of_one (λ x. not (begins_markup x) ≡ false) c solidus e refl | inr e ↦ rw e refl ]
-no_text Xhtml c h = refl
-
-pub markup_tag : (s : Syntax) (i : Content) (text f : Chars) (d : ℕ) (more : Chars) → begins (is_first s) text ≡ true → text ≡ f ++ d ∷ more → in_markup s i f d ≡ in_tag s f d
-markup_tag s i text [] d more h e =
-    let k : is_first s d ≡ true = ap (begins (is_first s)) (sym e) ∙ h in
-    cond-false _ _ _ (no_mark s d k) ∙ cond-false _ _ _ (no_text s d k)
-markup_tag s i text (x ∷ f) d more h e =
-    let k : is_first s x ≡ true = ap (begins (is_first s)) (sym e) ∙ h in
-    cond-false _ _ _ (no_bang' s x k) ∙ cond-false _ _ _ (no_question' s x k)
-  where
-    no_bang' : (s : Syntax) (x : ℕ) → is_first s x ≡ true → (x == 33) ≡ false
-    no_bang' Html x k = not_first Html x 33 k refl
-    no_bang' Xhtml x k = not_first Xhtml x 33 k refl
-
-    no_question' : (s : Syntax) (x : ℕ) → is_first s x ≡ true → (x == 63) ≡ false
-    no_question' Html x k = not_first Html x 63 k refl
-    no_question' Xhtml x k = not_first Xhtml x 63 k refl
 
 -- In raw text the whole name and a character that ends it do.
 pub record KnownEnd (name text : Chars) : Type 0 where
@@ -116,14 +89,26 @@ known_end name text h =
       ends = d.meets;
     }
 
-begins_no_longer : (p q : Chars) → begins_with p q ≡ true → length p ≤ length q
-begins_no_longer [] q h = omega arith
-begins_no_longer (c ∷ p) [] h = absurd (cc)
-begins_no_longer (c ∷ p) (d ∷ q) h = let k = both (c == d) _ h in let l = begins_no_longer p q k.1 in omega arith
+pub is_known_by : (name text : Chars) → KnownEnd name text → is_known_end name text ≡ true
+is_known_by name text k =
+    let n : length name + 1 ≡ length k.word = count (length name) (length (lowered k.word)) (length k.word) (ap length k.is) (length-map k.word lowered_char) in
+    ap (is_known_end name) k.are ∙ (ap (λ m. same (lowered (take m (k.word ++ k.e ∷ k.rest))) (solidus ∷ name) && begins ends_name (drop m (k.word ++ k.e ∷ k.rest))) n
+    ∙ rw (take-append_seam k.word (k.e ∷ k.rest), drop-append_seam k.word (k.e ∷ k.rest), k.is, same_self (solidus ∷ name), k.ends) refl)
+  where
+    count : (a b c : ℕ) → b ≡ suc a → b ≡ c → a + 1 ≡ c
+    count a b c e f = omega arith
+
+pub end_more : (name text more : Chars) → KnownEnd name text → KnownEnd name (text ++ more)
+end_more name text more k = record { word = k.word; e = k.e; rest = k.rest ++ more; are = ap (λ x. x ++ more) k.are ∙ append_assoc k.word (k.e ∷ k.rest) more; is = k.is; ends = k.ends }
+
+front_length : (a b : Chars) → begins_with a b ≡ true → length a ≤ length b
+front_length [] b h = omega arith
+front_length (c ∷ a) [] h = absurd (cc)
+front_length (c ∷ a) (d ∷ b) h = let r = front_length a b (and_parts (c == d) (begins_with a b) h).1 in omega arith
 
 -- more than the whole name begins no end tag's front
 pub past_name : (name word z : Chars) (c : ℕ) → lowered word ≡ solidus ∷ name → begins_end name (word ++ c ∷ z) ≡ false
-past_name name word z c e = by_test (begins_end name (word ++ c ∷ z)) (λ h. absurd (too_long (begins_no_longer (lowered (word ++ c ∷ z)) (solidus ∷ name) h))) (λ h. h)
+past_name name word z c e = by_test (begins_end name (word ++ c ∷ z)) (λ h. absurd (too_long (front_length (lowered (word ++ c ∷ z)) (solidus ∷ name) h))) (λ h. h)
   where
     too_long : length (lowered (word ++ c ∷ z)) ≤ length (solidus ∷ name) → ⊥
     too_long l =
@@ -134,22 +119,14 @@ past_name name word z c e = by_test (begins_end name (word ++ c ∷ z)) (λ h. a
         omega (arith, l, a, b, d, f)
 
 pub whole_begins : (name word : Chars) → lowered word ≡ solidus ∷ name → begins_end name word ≡ true
-whole_begins name word e = ap (λ x. begins_with x (solidus ∷ name)) e ∙ begins_self (solidus ∷ name)
-  where
-    begins_self : (x : Chars) → begins_with x x ≡ true
-    begins_self [] = refl
-    begins_self (c ∷ x) = rw (equal c, begins_self x) refl
+whole_begins name word e = ap (λ x. begins_with x (solidus ∷ name)) e ∙ (ap (begins_with (solidus ∷ name)) (sym (append-nil (solidus ∷ name))) ∙ begins_append (solidus ∷ name) [])
 
 -- the name is whole, and the character ends it
 no_stop : (name word : Chars) (e : ℕ) → lowered word ≡ solidus ∷ name → ends_name e ≡ true → stops_end name word e ≡ false
 no_stop name word e i h =
     let k : (same (lowered word) (solidus ∷ name) && ends_name e) ≡ true = rw (i, same_self (solidus ∷ name), h) refl in
     let f : not (same (lowered word) (solidus ∷ name) && ends_name e) ≡ false = ap not k in
-    and_false (not (begins_end name (word ++ e ∷ []))) _ f
-  where
-    and_false : (a b : Bool) → b ≡ false → (a && b) ≡ false
-    and_false true b h = h
-    and_false false b h = refl
+    and_right (not (begins_end name (word ++ e ∷ []))) _ f
 
 module _ (s : Syntax) (name text : Chars) (k : KnownEnd name text) (f : Chars) (d : ℕ) (more : Chars) (e : text ≡ f ++ d ∷ more) where
   behind_name : (z : Chars) → f ≡ k.word ++ z → k.e ∷ k.rest ≡ z ++ d ∷ more → in_raw s name f d ≡ in_tag s f d
@@ -165,11 +142,7 @@ module _ (s : Syntax) (name text : Chars) (k : KnownEnd name text) (f : Chars) (
           let c : k.e ≡ d = cc in
           let w : f ≡ k.word = q ∙ append-nil k.word in
           let n : stops_end name f d ≡ false = ap (λ x. stops_end name x d) w ∙ (ap (stops_end name k.word) (sym c) ∙ no_stop name k.word k.e k.is k.ends) in
-          ap (λ b. begins_end name f && b) n ∙ none (begins_end name f)
-        where
-          none : (b : Bool) → (b && false) ≡ false
-          none true = refl
-          none false = refl
+          ap (λ b. begins_end name f && b) n ∙ and-false (begins_end name f)
       stopped (x ∷ z) q r = ap (λ b. b && stops_end name f d) (ap (begins_end name) q ∙ past_name name k.word z x k.is)
 
   -- each character of it is one of the name or one of the tag
@@ -197,18 +170,11 @@ pub data Known (s : Syntax) (i : Content) (text : Chars) : Type 0 where
   in_raw' : (name : Chars) → raw_name i ≡ Some name → is_known_end name text ≡ true → Known s i text
 
 pub known : (s : Syntax) (i : Content) (text : Chars) → is_known_tag s i (less_than_sign ∷ text) ≡ true → Known s i text
-known s content.Outside text h = in_markup' refl h
-known s content.Html text h = in_markup' refl h
-known s content.Foreign text h = in_markup' refl h
-known s content.Strict text h = in_markup' refl h
 known s (content.Raw name) text h = in_raw' (name_of_raw name) refl h
 known s (content.Rcdata name) text h = in_raw' (name_of_raw name) refl h
+known s _ text h = in_markup' refl h
 
 pub is_known : (s : Syntax) (i : Content) (text : Chars) → Known s i text → is_known_tag s i (less_than_sign ∷ text) ≡ true
-is_known s content.Outside text (in_markup' m h) = h
-is_known s content.Html text (in_markup' m h) = h
-is_known s content.Foreign text (in_markup' m h) = h
-is_known s content.Strict text (in_markup' m h) = h
 is_known s (content.Raw name) text (in_markup' m h) = absurd (cc)
 is_known s (content.Rcdata name) text (in_markup' m h) = absurd (cc)
 is_known s content.Outside text (in_raw' name r h) = absurd (cc)
@@ -217,6 +183,7 @@ is_known s content.Foreign text (in_raw' name r h) = absurd (cc)
 is_known s content.Strict text (in_raw' name r h) = absurd (cc)
 is_known s (content.Raw n) text (in_raw' name r h) = let e : name_of_raw n ≡ name = cc in ap (λ x. is_known_end x text) e ∙ h
 is_known s (content.Rcdata n) text (in_raw' name r h) = let e : name_of_raw n ≡ name = cc in ap (λ x. is_known_end x text) e ∙ h
+is_known s _ text (in_markup' m h) = h
 
 module _ (s : Syntax) (i : Content) (text : Chars) where
   pub verdict_at : Known s i text → (f : Chars) (d : ℕ) (more : Chars) → text ≡ f ++ d ∷ more → (verdict s i (60 ∷ f) d ≡ in_tag s f d) ⊎ ((verdict s i (60 ∷ f) d ≡ goes_on) × (more ≢ []))

@@ -1,58 +1,23 @@
 -- Text and references are read as they are spelled.
-use Rattle.std.proofs.Common.{◌≡◌, ◌∙◌, ℕ, Bool, true, false, [], ◌∷◌, ◌++◌, Option, Some, None, refl, ap, sym, append_assoc}
-use Rattle.std.specs.Prelude.{◌&&◌, ◌||◌, ◌==◌, not}
+use Rattle.std.proofs.Common.{◌≡◌, ◌∙◌, ℕ, true, false, [], ◌∷◌, ◌++◌, Option, Some, None, refl, ap, sym, append_assoc}
+use Rattle.std.specs.Prelude.{◌&&◌, ◌==◌, not}
 use Rattle.std.specs.List.{list_all}
-use Rattle.std.proofs.lemmas.Bool.{cond-true, cond-false}
+use Rattle.std.proofs.lemmas.Bool.{cond-true, cond-false, or_from}
 use Rattle.rx_terms.specs.Ascii.{ampersand, semicolon, less_than_sign}
 use Rattle.rx_terms.specs.Text.{Chars}
 use Rattle.rx_chars.specs.declared.syntax.Syntax.{Syntax}
 use Rattle.rx_chars.specs.declared.syntax.Syntax.TheVariants.{Html}
 use Rattle.rx_grammar.specs.declared.contents.Content.{Content}
-use Rattle.rx_grammar.specs.declared.contents.Content.TheVariants as content
 use Rattle.rx_grammar.specs.References.{is_body, is_begun, stops_at, meaning}
 use Rattle.rx_grammar.specs.Tokens.{character, reference, kept}
-use Rattle.rx_grammar.specs.Spelling.{has_references, keeps_runs, has_less_than, has_markup, is_text, begins_markup, IsBefore}
+use Rattle.rx_grammar.specs.Spelling.{has_references, keeps_runs, has_less_than, is_text, begins_markup, IsBefore}
 use Rattle.rx_pages.specs.Scanner.{whole, told_of_reference, is_mark, verdict, GoesOn, ReadAs, at_last, at_next}
 use Rattle.rx_pages.proofs.Reading.{all_go, read_to, markup_is}
 use Rattle.rx_terms.proofs.Bools.{both, neither, untrue, not_both_ways, by_test}
 use Rattle.rx_reader.proofs.Classes.{of_one}
 use Rattle.rx_reader.proofs.Fronts.{begun_front, begun_no_mark}
 use Rattle.rx_reader.proofs.TextComplete.{body_begun}
-
-pub no_less : (i : Content) → is_text i 60 ≡ false
-no_less content.Outside = refl
-no_less content.Html = refl
-no_less content.Foreign = refl
-no_less content.Strict = refl
-no_less (content.Raw name) = refl
-no_less (content.Rcdata name) = refl
-
-pub no_ampersand : (i : Content) → has_references i ≡ true → is_text i 38 ≡ false
-no_ampersand content.Outside h = refl
-no_ampersand content.Html h = refl
-no_ampersand content.Foreign h = refl
-no_ampersand content.Strict h = refl
-no_ampersand (content.Raw name) h = absurd (cc)
-no_ampersand (content.Rcdata name) h = refl
-
-pub keeps_references : (i : Content) → keeps_runs i ≡ true → has_references i ≡ true
-keeps_references content.Outside h = absurd (cc)
-keeps_references content.Html h = refl
-keeps_references content.Foreign h = refl
-keeps_references content.Strict h = refl
-keeps_references (content.Raw name) h = absurd (cc)
-keeps_references (content.Rcdata name) h = refl
-
-less_markup : (i : Content) → has_less_than i ≡ true → has_markup i ≡ true
-less_markup content.Outside h = refl
-less_markup content.Html h = refl
-less_markup content.Foreign h = refl
-less_markup content.Strict h = refl
-less_markup (content.Raw name) h = absurd (cc)
-less_markup (content.Rcdata name) h = absurd (cc)
-
-pub or_none : (a b : Bool) → a ≡ false → b ≡ false → (a || b) ≡ false
-or_none a b h k = rw (h, k) refl
+use Rattle.rx_reader.proofs.OneToken.{keeps_has, less_markup, less_no_text, amp_no_text}
 
 -- no run goes on with a semicolon
 pub semicolon_stops : (body : Chars) → is_begun (body ++ 59 ∷ []) ≡ false
@@ -64,14 +29,14 @@ semicolon_stops body = by_test {G = is_begun (body ++ 59 ∷ []) ≡ false} (is_
 
 module _ (s : Syntax) (i : Content) where
   pub first_text : (c : ℕ) → is_text i c ≡ true → verdict s i [] c ≡ whole (character c)
-  first_text c h = cond-false _ _ _ (or_none _ _ not_less not_reference) ∙ cond-true _ _ _ h
+  first_text c h = cond-false _ _ _ (or_from _ _ not_less not_reference) ∙ cond-true _ _ _ h
     where
       not_less : (c == less_than_sign) ≡ false
-      not_less = by_test {G = (c == less_than_sign) ≡ false} (c == less_than_sign) (λ e. absurd (not_both_ways (is_text i c) h (of_one (λ x. is_text i x ≡ false) c 60 e (no_less i)))) (λ e. e)
+      not_less = by_test {G = (c == less_than_sign) ≡ false} (c == less_than_sign) (λ e. absurd (not_both_ways (is_text i c) h (of_one (λ x. is_text i x ≡ false) c 60 e (less_no_text i)))) (λ e. e)
 
       not_reference : (c == ampersand && has_references i) ≡ false
       not_reference = by_test {G = (c == ampersand && has_references i) ≡ false} (c == ampersand && has_references i)
-          (λ e. let k = both (c == ampersand) _ e in absurd (not_both_ways (is_text i c) h (of_one (λ x. is_text i x ≡ false) c 38 k.0 (no_ampersand i k.1)))) (λ e. e)
+          (λ e. let k = both (c == ampersand) _ e in absurd (not_both_ways (is_text i c) h (of_one (λ x. is_text i x ≡ false) c 38 k.0 (amp_no_text i k.1)))) (λ e. e)
 
   pub reads_character : (next : Option ℕ) (c : ℕ) → is_text i c ≡ true → ReadAs s i (c ∷ []) next (character c)
   reads_character next c h = at_last [] c (character c) tt (first_text c h)
@@ -89,7 +54,7 @@ module _ (s : Syntax) (i : Content) where
   reads_kept_run None run k b h = absurd h
   reads_kept_run (Some c) run k b h =
       let p = both (not (is_begun (run ++ c ∷ []))) _ h in
-      at_next (38 ∷ run) c (kept (38 ∷ run)) (run_goes run (keeps_references i k) b)
+      at_next (38 ∷ run) c (kept (38 ∷ run)) (run_goes run (keeps_has i k) b)
       (cond-false _ _ _ (untrue _ p.0) ∙ (cond-false _ _ _ (untrue _ p.1) ∙ cond-true _ _ _ k))
 
 pub reads_less_than : (i : Content) (next : Option ℕ) → has_less_than i ≡ true → IsBefore (λ c. not (begins_markup c)) next → ReadAs Html i (less_than_sign ∷ []) next (kept (less_than_sign ∷ []))
@@ -101,4 +66,4 @@ reads_less_than i (Some c) k h =
     no_mark =
         let a = neither _ (c == 63) (untrue (begins_markup c) h) in
         let b = neither _ (c == 33) a.0 in
-        or_none (c == 33) (c == 63) b.1 a.1
+        or_from (c == 33) (c == 63) b.1 a.1

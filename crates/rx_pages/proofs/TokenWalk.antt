@@ -1,5 +1,5 @@
 -- Reading the entries of a page token by token.
-use Rattle.std.proofs.Common.{◌≡◌, ◌∙◌, ◌⊎◌, ⊎_elim, inl, inr, ℕ, ◌+◌, ◌<◌, Bool, true, false, List, [], ◌∷◌, ◌++◌, refl, sym, ap, subst, nat_le, append_assoc, append-nil, Option, None, Result, Ok, Err}
+use Rattle.std.proofs.Common.{◌≡◌, ◌∙◌, ℕ, ◌+◌, ◌<◌, Bool, true, false, List, [], ◌∷◌, ◌++◌, refl, sym, ap, subst, nat_le, append_assoc, append-nil, Result, Ok, Err}
 use Rattle.std.specs.Prelude.{◌&&◌, ◌||◌, ◌==◌, not, if◌then◌else◌}
 use Rattle.rx_terms.specs.Ascii.{greater_than_sign, right_bracket, less_than_sign, ampersand}
 use Rattle.rx_terms.specs.Text.{Chars}
@@ -10,22 +10,20 @@ use Rattle.rx_grammar.specs.declared.faults.Kind.{Kind}
 use Rattle.rx_grammar.specs.declared.faults.Kind.TheVariants.{BadDoctype, StrictText}
 use Rattle.rx_grammar.specs.declared.limits.Limits.{Limits}
 use Rattle.rx_grammar.specs.Tokens.{Token, tag, character, reference, kept, section, comment, doctype}
-use Rattle.rx_grammar.specs.Spelling as spelling
-use Rattle.rx_grammar.specs.Spelling.{Spells, has_references, is_text}
+use Rattle.rx_grammar.specs.Spelling.{has_references, is_text}
 use Rattle.rx_grammar.specs.Items.{values, Item, is_literal}
-use Rattle.rx_grammar.specs.Begun.{Phase, before, within, after}
+use Rattle.rx_grammar.specs.Begun.{Phase, before}
 use Rattle.rx_grammar.specs.PageFaults.{is_known_tag}
 use Rattle.rx_terms.proofs.Bools.{by_test}
 use Rattle.rx_pages.specs.Nesting.{Event, Nesting, Step, content_at, nest_step, step_by, going_on, doctype_step, text_step}
-use Rattle.rx_pages.specs.Scanner.{Verdict, goes_on, whole, ended, at_first, verdict, GoesOn, ReadAs, at_last, at_next}
+use Rattle.rx_pages.specs.Scanner.{Verdict, goes_on, whole, ended, at_first, verdict, GoesOn}
 use Rattle.rx_pages.specs.PageReader.{Spot, Scanning, Scanned, first_of, is_too_long, item_of, is_doctype, entering, completed, told_first, with_item, told as told_by, spot_of, may_lead, with_events, steps_on, no_step}
-use Rattle.rx_pages.proofs.Pending.{goes_at, not_whole}
-use Rattle.rx_pages.proofs.Spellings.{reads_each}
 use Rattle.rx_pages.proofs.Tokens.{values_append}
-use Rattle.rx_pages.proofs.KnownTags.{TagVerdict, on, a_tag, a_fault, known_more, known_verdict}
+use Rattle.rx_pages.proofs.KnownTags.{TagVerdict, on, known_more, known_verdict}
 use Rattle.rx_pages.proofs.EntrySteps.{Stood, scanning_of, stood_by, nested_by, entry_step}
 use Rattle.rx_pages.proofs.ByteSteps.{not_long}
 use Rattle.rx_pages.proofs.CharWalk.{is_known, Fine}
+use Rattle.std.proofs.lemmas.Bool.{false_from_ne_true}
 
 abbrev pub stood : Nesting → List Event → Bool → Bool → List Entry → Stood
 stood n events two last run = record { run = run; two = two; last = last; nest = n; told = events }
@@ -54,30 +52,6 @@ module _ (syntax : Syntax) (depth : ℕ) where
 pub data IsKept (token : Token) : Type 0 where
   is_kept : (text : Chars) → token ≡ kept text → IsKept token
 
-kept_or_any : (s : Syntax) (i : Content) (text : Chars) (next : Option ℕ) (token : Token) → Spells s i text next token → IsKept token ⊎ Spells s i text None token
-kept_or_any s i _ next _ (spelling.a_tag text t m sp) = inr (spelling.a_tag text t m sp)
-kept_or_any s i _ next _ (spelling.an_end_of_raw text name t r sp c n) = inr (spelling.an_end_of_raw text name t r sp c n)
-kept_or_any s i _ next _ (spelling.a_character c h) = inr (spelling.a_character c h)
-kept_or_any s i _ next _ (spelling.a_less_than e h b) = inl (is_kept _ refl)
-kept_or_any s i _ next _ (spelling.a_raw_run text name r h b) = inl (is_kept _ refl)
-kept_or_any s i _ next _ (spelling.a_reference body c r b m) = inr (spelling.a_reference body c r b m)
-kept_or_any s i _ next _ (spelling.a_kept_run run k h b) = inl (is_kept _ refl)
-kept_or_any s i _ next _ (spelling.a_comment text e m f) = inr (spelling.a_comment text e m f)
-kept_or_any s i _ next _ (spelling.a_bogus_comment text e m n f) = inr (spelling.a_bogus_comment text e m n f)
-kept_or_any s i _ next _ (spelling.a_question text e m f) = inr (spelling.a_question text e m f)
-kept_or_any s i _ next _ (spelling.a_strict_comment text e m f) = inr (spelling.a_strict_comment text e m f)
-kept_or_any s i _ next _ (spelling.an_instruction text e m f) = inr (spelling.an_instruction text e m f)
-kept_or_any s i _ next _ (spelling.a_section text h f) = inr (spelling.a_section text h f)
-kept_or_any s i _ next _ (spelling.a_doctype text m d) = inr (spelling.a_doctype text m d)
-
--- characters that all go on and spell a token spell one that is kept
-pub goes_kept : (s : Syntax) (i : Content) (text : Chars) (next : Option ℕ) (token : Token) → Spells s i text next token → GoesOn s i [] text → IsKept token
-goes_kept s i text next token sp g = ⊎_elim (λ k. k) (λ any. absurd (by text None token (reads_each s i text None token any) refl refl)) (kept_or_any s i text next token sp)
-  where
-    by : (x : Chars) (n : Option ℕ) (t : Token) → ReadAs s i x n t → x ≡ text → n ≡ None → ⊥
-    by _ _ _ (at_last front c t go k) e n = not_whole s i (verdict s i front c) t (goes_at s i [] front c [] (subst (λ x. GoesOn s i [] x) (sym e) g)) k
-    by _ _ _ (at_next x c t go k) e n = absurd (cc)
-
 -- a document type that nests may come there
 pub leads_there : (syntax : Syntax) (depth : ℕ) (n : Nesting) (item : Item) (step : Step) → nest_step syntax depth n item ≡ Ok step → (is_doctype item.token && not (may_lead n.phase)) ≡ false
 leads_there syntax depth n item step h = by item.token h
@@ -93,9 +67,7 @@ leads_there syntax depth n item step h = by item.token h
       where
         at : (phase : Phase) → doctype_step phase ≡ Ok step → (true && not (may_lead phase)) ≡ false
         at (before false) m = refl
-        at (before true) m = absurd (cc)
-        at within m = absurd (cc)
-        at after m = absurd (cc)
+        at _ m = absurd (cc)
 
 -- text leaves the elements as they are
 pub kept_goes_on : (syntax : Syntax) (depth : ℕ) (n : Nesting) (item : Item) (step : Step) → nest_step syntax depth n item ≡ Ok step → IsKept item.token → step.next ≡ going_on n
@@ -210,17 +182,12 @@ module _ (syntax : Syntax) (limits : Limits) where
       where
         by : (x : Verdict) → TagVerdict x → x ≡ ended token → ⊥
         by _ on h = cc
-        by _ (a_tag t) h = cc
-        by _ (a_fault kind) h = cc
+        by _ _ h = cc
 
     pub kept_fine : (hi : ℕ) (e : Entry) (es : List Entry) (end : Stood) (item : Item) (step : Step) → verdict syntax inside (values unit) e.value ≡ ended item.token → item_of inside item.token unit ≡ item → nest_step syntax limits.depth n item ≡ Ok step → IsKept item.token
         → Fine syntax limits hi (stood step.next (events ++ step.events) false false []) (e ∷ es) end → Fine syntax limits hi (stood n events two last unit) (e ∷ es) end
     kept_fine hi e es end item step v i st k f = (
       (λ w. absurd (kept_unknown e item.token v (known_next unit e w))),
-      ap (λ b. b && nat_le (first_of unit e.first + limits.tag) e.last) (unknown (is_known_tag syntax inside (values (unit ++ e ∷ []))) (kept_unknown e item.token v)),
+      ap (λ b. b && nat_le (first_of unit e.first + limits.tag) e.last) (false_from_ne_true (is_known_tag syntax inside (values (unit ++ e ∷ []))) (kept_unknown e item.token v)),
       (f.2.0, (kept_step e item step v i st k ∙ f.2.1.0, f.2.1.1)),
     )
-      where
-        unknown : (b : Bool) → (b ≡ true → ⊥) → b ≡ false
-        unknown true h = absurd (h refl)
-        unknown false h = refl

@@ -19,7 +19,9 @@ use Rattle.rx_pages.proofs.Spellings.{reads_each}
 use Rattle.rx_pages.proofs.Tokens.{values_append}
 use Rattle.rx_pages.proofs.KnownTags.{TagVerdict, on, a_tag, a_fault, known_more, known_verdict}
 use Rattle.rx_pages.proofs.EntrySteps.{Stood}
-use Rattle.rx_pages.proofs.TokenWalk.{stood, IsKept, is_kept, goes_kept, Bound, limit_before, limit_with, go_all, whole_step, kept_unknown, Leads}
+use Rattle.rx_pages.proofs.TokenWalk.{stood, IsKept, is_kept, Bound, limit_before, limit_with, go_all, whole_step, kept_unknown, Leads}
+use Rattle.std.proofs.Math.Bool.{and-false}
+use Rattle.rx_pages.proofs.EndedRuns.{ended_kept}
 
 -- places rise
 abbrev pub RisesFrom : ℕ → List Entry → Type 0
@@ -77,19 +79,11 @@ pub kept_literal : (c : ℕ) (item : Item) → IsKept item.token → is_literal 
 kept_literal c item (is_kept text e) = ap (λ token. is_strict_literal c item.content token) e ∙ by item.content
   where
     by : (i : Content) → is_strict_literal c i (kept text) ≡ false
-    by content.Outside = refl
-    by content.Html = refl
-    by content.Foreign = refl
-    by content.Strict = refl
     by (content.Raw name) = refl
-    by (content.Rcdata name) = refl
+    by _ = refl
 
 pub item_is : (inside : Content) (item : Item) (c : Entry) (r : List Entry) → item.content ≡ inside → item.first ≡ c.first → item.last ≡ last_from c.last r → item_of inside item.token (c ∷ r) ≡ item
 item_is inside item c r ci f l = λ i. record { token = item.token; content = sym ci i; first = sym f i; last = sym l i }
-
-and_false : (b : Bool) → (b && false) ≡ false
-and_false true = refl
-and_false false = refl
 
 -- the two flags behind some tokens
 abbrev pub flags_behind : List Item → Bool → Bool → Bool × Bool
@@ -170,7 +164,7 @@ module _ (syntax : Syntax) (limits : Limits) (G : Stood → Stood → List Entry
         by _ _ _ (at_next x d token go v) e m k s = at more m f
           where
             kept_is : IsKept item.token
-            kept_is = subst IsKept k (goes_kept syntax inside x (Some d) token s go)
+            kept_is = subst IsKept k (ended_kept syntax inside x d token v)
 
             at : (es : List Entry) → Some d ≡ next_of (values es) None → G end (stood step.next (events ++ step.events) (last && is_literal right_bracket item) (is_literal right_bracket item) []) es → G end (stood n events two last []) (unit ++ es)
             at [] h g = absurd (cc)
@@ -181,7 +175,7 @@ module _ (syntax : Syntax) (limits : Limits) (G : Stood → Stood → List Entry
                 let it : item_of inside item.token unit ≡ item = item_is inside item c r ci first is_last in
                 let l : is_literal right_bracket item ≡ false = kept_literal right_bracket item kept_is in
                 let g2 : G end (stood step.next (events ++ step.events) false false []) (z ∷ es) =
-                subst (λ b. G end (stood step.next (events ++ step.events) b false []) (z ∷ es)) (and_false last) (subst (λ b. G end (stood step.next (events ++ step.events) (last && b) b []) (z ∷ es)) l g) in
+                subst (λ b. G end (stood step.next (events ++ step.events) b false []) (z ∷ es)) (and-false last) (subst (λ b. G end (stood step.next (events ++ step.events) (last && b) b []) (z ∷ es)) l g) in
                 appends end (stood n events two last []) (stood n events two last unit) unit (z ∷ es)
                 (go_all syntax limits n events two last unit (next_bound z v2) [] unit [] (sym (append-nil unit)) go2)
                 (keeps end n events two last unit z es item step v2 it st kept_is (subst (λ y. Spells syntax inside (values unit) (Some y) item.token) same (subst (λ token. Spells syntax inside (values unit) (Some d) token) k (subst (λ y. Spells syntax inside y (Some d) token) e s))) g2)

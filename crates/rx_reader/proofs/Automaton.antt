@@ -1,12 +1,11 @@
 -- Which tags go on with a character: the phases alone tell.
-use Rattle.std.proofs.Common.{◌≡◌, ℕ, Bool, true, false, eqb-true, [], ◌∷◌, ◌++◌, Option, Some, None, Result, Ok, Err, refl, ap, sym, ◌∙◌, inl, inr, subst}
-use Rattle.std.specs.Prelude.{◌||◌, ◌==◌}
+use Rattle.std.proofs.Common.{◌≡◌, ℕ, Bool, true, false, eqb-true, [], ◌∷◌, ◌++◌, Option, Some, None, refl, ap, sym, ◌∙◌, subst}
+use Rattle.std.specs.Prelude.{◌==◌}
 use Rattle.std.specs.List.{list_all}
 use Rattle.rx_terms.specs.Ascii.{is_white_space, solidus, greater_than_sign}
 use Rattle.rx_terms.specs.Text.{Chars}
 use Rattle.rx_chars.specs.declared.syntax.Syntax.{Syntax}
 use Rattle.rx_chars.specs.declared.syntax.Syntax.TheVariants.{Html, Xhtml}
-use Rattle.rx_grammar.specs.declared.faults.Kind.{Kind}
 use Rattle.rx_grammar.specs.Tokens.{Tag}
 use Rattle.rx_grammar.specs.Shapes.{ends_name, begins, begins_tag, is_tag_char, Shape, a_start, an_end}
 use Rattle.rx_grammar.specs.TagFaults.{BeginsShape, BeginsNoShape}
@@ -14,27 +13,12 @@ use Rattle.rx_reader.specs.declared.phases.TagPhase.{TagPhase}
 use Rattle.rx_reader.specs.declared.phases.TagPhase.TheVariants as phase
 use Rattle.rx_reader.specs.declared.phases.TagAction.TheVariants as action
 use Rattle.rx_reader.specs.Tables.{Move, move_of, is_last}
-use Rattle.rx_reader.specs.Cuts.{with_first, cut_end, cut_by, cut_from}
-use Rattle.rx_reader.specs.Values.{Value, value_step, value_end}
-use Rattle.rx_reader.specs.TagReader.{TagState, with_value, with_attribute, moved, tag_move, moves_on}
-use Rattle.rx_terms.proofs.Bools.{both, either, split, not_both_ways}
-use Rattle.rx_reader.proofs.Classes.{of_white, of_one, tag_char_named}
+use Rattle.rx_reader.specs.Cuts.{with_first, cut_by, cut_from}
+use Rattle.rx_terms.proofs.Bools.{split, not_both_ways}
+use Rattle.rx_reader.proofs.Classes.{of_one, of_end}
 use Rattle.rx_reader.proofs.Moves.{is_among, Stays, stays}
-use Rattle.rx_reader.proofs.Sound.{Result as Ended, after_value', sound, added}
-use Rattle.rx_reader.proofs.Complete.{complete}
-use Rattle.rx_reader.proofs.TagSound.{no_way}
-
-abbrev pub phase_by : Move → Option TagPhase
-phase_by None = None
-phase_by (Some m) = Some m.0
-
-abbrev pub phase_on : Syntax → Option TagPhase → ℕ → Option TagPhase
-phase_on s None c = None
-phase_on s (Some p) c = phase_by (move_of s p c)
-
-abbrev pub phases_on : Syntax → Option TagPhase → Chars → Option TagPhase
-phases_on s o [] = o
-phases_on s o (c ∷ text) = phases_on s (phase_on s o c) text
+use Rattle.rx_reader.proofs.Sound.{Result as Ended, after_value', sound}
+use Rattle.rx_reader.proofs.Written.{phase_by, phase_on, phases_on, nothing_written, written_phases, shape_written}
 
 pub phases_none : (s : Syntax) (text : Chars) → phases_on s None text ≡ None
 phases_none s [] = refl
@@ -53,78 +37,8 @@ pub record Whole (s : Syntax) (o : Option TagPhase) (text : Chars) : Type 0 wher
 nowhere : (s : Syntax) (text : Chars) (G : Type 0) → Whole s None text → G
 nowhere s text G w = absurd (let e = phases_none s text in let h = w.reads in cc)
 
--- the reader's phases
-phase_in : Result TagState Kind → Option TagPhase
-phase_in (Ok x) = Some x.phase
-phase_in (Err k) = None
-
-value_in : (p : TagPhase) (st st2 : TagState) (o : Result Value Kind) → with_value p st o ≡ Ok st2 → Some p ≡ Some st2.phase
-unfolding phase_in
-value_in p st st2 (Ok v) h = ap phase_in h
-value_in p st st2 (Err k) h = absurd (cc)
-
-attribute_in : (p : TagPhase) (st st2 : TagState) (key : Chars) (o : Result Chars Kind) → with_attribute p st key o ≡ Ok st2 → Some p ≡ Some st2.phase
-unfolding phase_in
-attribute_in p st st2 key (Ok v) h = ap phase_in h
-attribute_in p st st2 key (Err k) h = absurd (cc)
-
-module _ (s : Syntax) (means : Chars → Option ℕ) where
-  phase_kept : (st : TagState) (c : ℕ) (m : Move) (st2 : TagState) → moved s means st c m ≡ Ok st2 → phase_by m ≡ Some st2.phase
-  unfolding phase_in
-  phase_kept st c None st2 h = absurd (cc)
-  phase_kept st c (Some (p, action.Skip)) st2 h = ap phase_in h
-  phase_kept st c (Some (p, action.Name)) st2 h = ap phase_in h
-  phase_kept st c (Some (p, action.Key)) st2 h = ap phase_in h
-  phase_kept st c (Some (p, action.Value)) st2 h = value_in p st st2 (value_step s means st.value c) h
-  phase_kept st c (Some (p, action.Add)) st2 h = attribute_in p st st2 [] (value_end s st.value) h
-  phase_kept st c (Some (p, action.AddKey)) st2 h = attribute_in p st st2 _ (value_end s st.value) h
-
-  by_first : (text : Chars) (ih : (st last : TagState) → moves_on s means (Ok st) text ≡ Ok last → phases_on s (Some st.phase) text ≡ Some last.phase) (c : ℕ) (st last : TagState) → (o : Result TagState Kind) → tag_move s means st c ≡ o → moves_on s means o text ≡ Ok last
-      → phases_on s (phase_by (move_of s st.phase c)) text ≡ Some last.phase
-  by_first text ih c st last (Err k) e h = no_way s means k text last _ h
-  by_first text ih c st last (Ok st2) e h = ap (λ o. phases_on s o text) (phase_kept st c (move_of s st.phase c) st2 e) ∙ ih st2 last h
-
-  pub reader_phases : (text : Chars) (st last : TagState) → moves_on s means (Ok st) text ≡ Ok last → phases_on s (Some st.phase) text ≡ Some last.phase
-  reader_phases [] st last h = let e : st ≡ last = cc in ap (λ (x : TagState). Some x.phase) e
-  reader_phases (c ∷ text) st last h = by_first text (reader_phases text) c st last (tag_move s means st c) refl h
-
 module _ (s : Syntax) where
   -- attributes
-  cut_last : (p : TagPhase) (r : Ended) → cut_end p ≡ Some r → is_last p ≡ true
-  cut_last phase.Opened r h = refl
-  cut_last phase.Emptied r h = refl
-  cut_last phase.Start r h = absurd (cc)
-  cut_last phase.Name r h = absurd (cc)
-  cut_last phase.Gap r h = absurd (cc)
-  cut_last phase.Solidus r h = absurd (cc)
-  cut_last phase.Key r h = absurd (cc)
-  cut_last phase.AfterKey r h = absurd (cc)
-  cut_last phase.BeforeValue r h = absurd (cc)
-  cut_last phase.DoubleQuoted r h = absurd (cc)
-  cut_last phase.SingleQuoted r h = absurd (cc)
-  cut_last phase.Unquoted r h = absurd (cc)
-  cut_last phase.AfterValue r h = absurd (cc)
-  cut_last phase.EndStart r h = absurd (cc)
-  cut_last phase.EndName r h = absurd (cc)
-  cut_last phase.EndGap r h = absurd (cc)
-  cut_last phase.Closed r h = absurd (cc)
-
-  abbrev FromCut : Chars → Type 0
-  FromCut text = (p : TagPhase) (key value : Chars) (r : Ended) → cut_from s text p key value ≡ Some r → Whole s (Some p) text
-
-  from_move : (text : Chars) → FromCut text → (key value : Chars) (c : ℕ) (r : Ended) (m : Move) → cut_by (cut_from s text) key value c m ≡ Some r → Whole s (phase_by m) text
-  from_move text ih key value c r None h = absurd (cc)
-  from_move text ih key value c r (Some (p, action.Skip)) h = ih p key value r h
-  from_move text ih key value c r (Some (p, action.Name)) h = absurd (cc)
-  from_move text ih key value c r (Some (p, action.Key)) h = ih p _ value r h
-  from_move text ih key value c r (Some (p, action.Value)) h = ih p key _ r h
-  from_move text ih key value c r (Some (p, action.Add)) h = let d = added (key, value) (cut_from s text p [] []) r h in ih p [] [] d.rest d.from
-  from_move text ih key value c r (Some (p, action.AddKey)) h = let d = added (key, value) (cut_from s text p (c ∷ []) []) r h in ih p (c ∷ []) [] d.rest d.from
-
-  pub from_cut : (text : Chars) → FromCut text
-  from_cut [] p key value r h = record { q = p; reads = refl; whole = cut_last p r h }
-  from_cut (c ∷ text) p key value r h = let w = from_move text (from_cut text) key value c r (move_of s p c) h in record { q = w.q; reads = w.reads; whole = w.whole }
-
   pub record CutIs (text : Chars) (p : TagPhase) (key value : Chars) : Type 0 where
     pub r : Ended
     pub cut : cut_from s text p key value ≡ Some r
@@ -132,21 +46,7 @@ module _ (s : Syntax) where
   last_cut : (p : TagPhase) (key value : Chars) → is_among p ≡ true → is_last p ≡ true → CutIs [] p key value
   last_cut phase.Opened key value i w = record { r = ([], false); cut = refl }
   last_cut phase.Emptied key value i w = record { r = ([], true); cut = refl }
-  last_cut phase.Start key value i w = absurd (cc)
-  last_cut phase.Name key value i w = absurd (cc)
-  last_cut phase.Gap key value i w = absurd (cc)
-  last_cut phase.Solidus key value i w = absurd (cc)
-  last_cut phase.Key key value i w = absurd (cc)
-  last_cut phase.AfterKey key value i w = absurd (cc)
-  last_cut phase.BeforeValue key value i w = absurd (cc)
-  last_cut phase.DoubleQuoted key value i w = absurd (cc)
-  last_cut phase.SingleQuoted key value i w = absurd (cc)
-  last_cut phase.Unquoted key value i w = absurd (cc)
-  last_cut phase.AfterValue key value i w = absurd (cc)
-  last_cut phase.EndStart key value i w = absurd (cc)
-  last_cut phase.EndName key value i w = absurd (cc)
-  last_cut phase.EndGap key value i w = absurd (cc)
-  last_cut phase.Closed key value i w = absurd (cc)
+  last_cut _ key value i w = absurd (cc)
 
   abbrev ToCut : Chars → Type 0
   ToCut text = (p : TagPhase) (key value : Chars) → is_among p ≡ true → Whole s (Some p) text → CutIs text p key value
@@ -164,65 +64,9 @@ module _ (s : Syntax) where
   to_cut [] p key value i w = let e : p ≡ w.q = let r = w.reads in cc in last_cut p key value i (ap is_last e ∙ w.whole)
   to_cut (c ∷ text) p key value i w = to_move text (to_cut text) p key value c (move_of s p c) (stays s p c i) refl (record { q = w.q; reads = w.reads; whole = w.whole })
 
-  -- the name of a start tag
-  pub after_name : (text : Chars) → begins ends_name text ≡ true → phases_on s (Some phase.Name) text ≡ phases_on s (Some phase.AfterValue) text
-  after_name [] h = absurd (cc)
-  after_name (c ∷ text) h =
-      let P : ℕ → Type 0 = λ x. phases_on s (Some phase.Name) (x ∷ text) ≡ phases_on s (Some phase.AfterValue) (x ∷ text) in
-      elim (either (is_white_space c || c == solidus) _ h) [
-        | inr e ↦ of_one P c greater_than_sign e refl
-        | inl e ↦ elim (either (is_white_space c) _ e) [ inr e ↦ of_one P c solidus e refl | inl e ↦ of_white P c e refl refl refl refl refl ]
-      ]
-
-  name_goes : (c : ℕ) → is_tag_char s c ≡ true → phase_by (move_of s phase.Name c) ≡ Some phase.Name
-  name_goes c h = let n = tag_char_named s c h in rw (n.white, n.slash, n.greater, h) refl
-
-  end_goes : (c : ℕ) → is_tag_char s c ≡ true → phase_by (move_of s phase.EndName c) ≡ Some phase.EndName
-  end_goes c h = let n = tag_char_named s c h in rw (n.white, n.greater, h) refl
-
-  name_on : (more text : Chars) → list_all (is_tag_char s) more ≡ true → phases_on s (Some phase.Name) (more ++ text) ≡ phases_on s (Some phase.Name) text
-  name_on [] text h = refl
-  name_on (c ∷ more) text h = let b = both (is_tag_char s c) _ h in ap (λ o. phases_on s o (more ++ text)) (name_goes c b.0) ∙ name_on more text b.1
-
-  end_on : (more text : Chars) → list_all (is_tag_char s) more ≡ true → phases_on s (Some phase.EndName) (more ++ text) ≡ phases_on s (Some phase.EndName) text
-  end_on [] text h = refl
-  end_on (c ∷ more) text h = let b = both (is_tag_char s c) _ h in ap (λ o. phases_on s o (more ++ text)) (end_goes c b.0) ∙ end_on more text b.1
-
-  start_goes : (c : ℕ) → begins_tag s c ≡ true → phase_by (move_of s phase.Start c) ≡ Some phase.Name
-  start_goes c h = rw h refl
-
-  end_start_goes : (c : ℕ) → begins_tag s c ≡ true → phase_by (move_of s phase.EndStart c) ≡ Some phase.EndName
-  end_start_goes c h = rw h refl
-
-  white_goes : (c : ℕ) → is_white_space c ≡ true → phase_by (move_of s phase.EndName c) ≡ Some phase.EndGap
-  white_goes c h = rw h refl
-
-  gap_goes : (c : ℕ) → is_white_space c ≡ true → phase_by (move_of s phase.EndGap c) ≡ Some phase.EndGap
-  gap_goes c h = rw h refl
-
-  gap_on : (white : Chars) → list_all is_white_space white ≡ true → phases_on s (Some phase.EndGap) (white ++ greater_than_sign ∷ []) ≡ Some phase.Closed
-  gap_on [] h = refl
-  gap_on (c ∷ white) h = let b = both (is_white_space c) _ h in ap (λ o. phases_on s o (white ++ greater_than_sign ∷ [])) (gap_goes c b.0) ∙ gap_on white b.1
-
-  white_on : (white : Chars) → list_all is_white_space white ≡ true → phases_on s (Some phase.EndName) (white ++ greater_than_sign ∷ []) ≡ Some phase.Closed
-  white_on [] h = refl
-  white_on (c ∷ white) h = let b = both (is_white_space c) _ h in ap (λ o. phases_on s o (white ++ greater_than_sign ∷ [])) (white_goes c b.0) ∙ gap_on white b.1
-
-slash_goes : (s : Syntax) → phase_by (move_of s phase.Start solidus) ≡ Some phase.EndStart
-slash_goes Html = refl
-slash_goes Xhtml = refl
-
 -- each shape is read to its end
-pub shape_read : (s : Syntax) (text : Chars) (t : Tag) → Shape s text t → Whole s (Some phase.Start) text
-shape_read s text t (a_start [] rest n b k) = absurd (cc)
-shape_read s text t (a_start (c ∷ name) rest {attributes = x} {slash = y} n b k) =
-    let d = both (begins_tag s c) _ n in
-    let w = from_cut s rest phase.AfterValue [] [] (x, y) (complete s k) in
-    record { q = w.q; reads = ap (λ o. phases_on s o (name ++ rest)) (start_goes s c d.0) ∙ (name_on s name rest d.1 ∙ (after_name s rest b ∙ w.reads)); whole = w.whole }
-shape_read s text t (an_end [] spaces n b) = absurd (cc)
-shape_read s text t (an_end (c ∷ name) spaces n b) =
-    let d = both (begins_tag s c) _ n in
-    record { q = phase.Closed; reads = ap (λ o. phases_on s o ((c ∷ name) ++ (spaces ++ greater_than_sign ∷ []))) (slash_goes s) ∙ (ap (λ o. phases_on s o (name ++ (spaces ++ greater_than_sign ∷ []))) (end_start_goes s c d.0) ∙ (end_on s name (spaces ++ greater_than_sign ∷ []) d.1 ∙ white_on s spaces b)); whole = refl }
+pub shape_read : (s : Syntax) (text : Chars) (tag : Tag) → Shape s text tag → Whole s (Some phase.Start) text
+shape_read s text tag k = let a = shape_written s text tag k in record { q = a.last.phase; reads = written_phases s text nothing_written a.last a.reads; whole = a.whole }
 
 -- what is read to an end is a shape
 pub record Shaped (s : Syntax) (text : Chars) : Type 0 where
@@ -242,7 +86,7 @@ module _ (s : Syntax) where
   not_last p G n w = absurd (not_both_ways (is_last p) (let e : p ≡ w.q = let r = w.reads in cc in ap is_last e ∙ w.whole) n)
 
   name_here : (c : ℕ) (text : Chars) → ends_name c ≡ true → Whole s (Some phase.Name) (c ∷ text) → NameRest (c ∷ text)
-  name_here c text e w = record { more = []; rest = c ∷ text; is = refl; chars = refl; ends = e; reads = record { q = w.q; reads = sym (after_name s (c ∷ text) e) ∙ w.reads; whole = w.whole } }
+  name_here c text e w = record { more = []; rest = c ∷ text; is = refl; chars = refl; ends = e; reads = record { q = w.q; reads = of_end (λ x. phases_on s (Some phase.AfterValue) (x ∷ text) ≡ phases_on s (Some phase.Name) (x ∷ text)) c e refl refl refl refl refl refl refl ∙ w.reads; whole = w.whole } }
 
   name_rest : (text : Chars) → Whole s (Some phase.Name) text → NameRest text
   name_rest [] w = not_last phase.Name _ refl w
@@ -355,9 +199,7 @@ leads s phase.AfterValue h = record { c = 62; rest = []; q = phase.Opened; reads
 leads s phase.EndStart h = record { c = 97; rest = 62 ∷ []; q = phase.Closed; reads = end_leads s; whole = refl }
 leads s phase.EndName h = record { c = 62; rest = []; q = phase.Closed; reads = refl; whole = refl }
 leads s phase.EndGap h = record { c = 62; rest = []; q = phase.Closed; reads = refl; whole = refl }
-leads s phase.Opened h = absurd (cc)
-leads s phase.Emptied h = absurd (cc)
-leads s phase.Closed h = absurd (cc)
+leads s _ h = absurd (cc)
 
 module _ (s : Syntax) (front : Chars) (p : TagPhase) (at : phases_on s (Some phase.Start) front ≡ Some p) where
   -- they begin a tag

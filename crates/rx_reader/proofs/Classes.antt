@@ -27,6 +27,13 @@ of_white P c h p9 p10 p12 p13 p32 =
 pub of_one : (P : ℕ → Type 0) (c d : ℕ) → (c == d) ≡ true → P d → P c
 of_one P c d h p = subst P (sym (eqb-true c d h)) p
 
+-- and what stands between attributes, or ends a name
+pub of_between : (P : ℕ → Type 0) (c : ℕ) → (is_white_space c || c == solidus) ≡ true → P 9 → P 10 → P 12 → P 13 → P 32 → P solidus → P c
+of_between P c h p9 p10 p12 p13 p32 p47 = elim (either (is_white_space c) (c == solidus) h) [ inr e ↦ of_one P c solidus e p47 | inl e ↦ of_white P c e p9 p10 p12 p13 p32 ]
+
+pub of_end : (P : ℕ → Type 0) (c : ℕ) → ends_name c ≡ true → P 9 → P 10 → P 12 → P 13 → P 32 → P solidus → P greater_than_sign → P c
+of_end P c h p9 p10 p12 p13 p32 p47 p62 = elim (either (is_white_space c || c == solidus) _ h) [ inr e ↦ of_one P c greater_than_sign e p62 | inl e ↦ of_between P c e p9 p10 p12 p13 p32 p47 ]
+
 -- a test that fails at white space, at `=`, at `/` and at `>`
 pub record Apart (c : ℕ) : Type 0 where
   pub white : is_white_space c ≡ false

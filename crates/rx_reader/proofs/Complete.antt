@@ -14,7 +14,7 @@ use Rattle.rx_reader.specs.declared.phases.TagAction.TheVariants as action
 use Rattle.rx_reader.specs.Tables.{move_of}
 use Rattle.rx_reader.specs.Cuts.{with_first, cut_from}
 use Rattle.rx_terms.proofs.Bools.{both, either, by_test}
-use Rattle.rx_reader.proofs.Classes.{of_white, of_one, begins_apart}
+use Rattle.rx_reader.proofs.Classes.{of_white, of_one, of_between, of_end, begins_apart}
 use Rattle.rx_reader.proofs.Cutting.{one_move, key_run, key_equals, white_to_value, quoted_run, unquoted_value}
 
 abbrev pub is_between : ℕ → Bool
@@ -38,14 +38,8 @@ gap_last [] = refl
 gap_last (c ∷ gap) = last_is c gap
 
 pub gap_moves : (b : Bool) (c : ℕ) → is_between c ≡ true → move_of Html (gap_phase b) c ≡ Some (gap_phase (c == solidus), action.Skip)
-gap_moves true c h = elim (either (is_white_space c) _ h) [
-  | inl e ↦ of_white (λ x. move_of Html phase.Solidus x ≡ Some (gap_phase (x == solidus), action.Skip)) c e refl refl refl refl refl
-  | inr e ↦ of_one (λ x. move_of Html phase.Solidus x ≡ Some (gap_phase (x == solidus), action.Skip)) c solidus e refl
-]
-gap_moves false c h = elim (either (is_white_space c) _ h) [
-  | inl e ↦ of_white (λ x. move_of Html phase.Gap x ≡ Some (gap_phase (x == solidus), action.Skip)) c e refl refl refl refl refl
-  | inr e ↦ of_one (λ x. move_of Html phase.Gap x ≡ Some (gap_phase (x == solidus), action.Skip)) c solidus e refl
-]
+gap_moves true c h = of_between (λ x. move_of Html phase.Solidus x ≡ Some (gap_phase (x == solidus), action.Skip)) c h refl refl refl refl refl refl
+gap_moves false c h = of_between (λ x. move_of Html phase.Gap x ≡ Some (gap_phase (x == solidus), action.Skip)) c h refl refl refl refl refl refl
 
 pub html_gap : (gap text : Chars) (b : Bool) → list_all is_between gap ≡ true → cut_from Html (gap ++ text) (gap_phase b) [] [] ≡ cut_from Html text (gap_phase (solidus_last b gap)) [] []
 html_gap [] text b h = refl
@@ -72,22 +66,14 @@ strict_after c h = rw h refl
 
 strict_end : (gap : Chars) → is_strict_end gap ≡ true → cut_from Xhtml (gap ++ greater_than_sign ∷ []) phase.Gap [] [] ≡ Some ([], ends_in_solidus gap)
 strict_end [] h = refl
-strict_end (c ∷ []) h = elim (either (is_white_space c) _ h) [
-  | inl e ↦ of_white (λ x. cut_from Xhtml (x ∷ greater_than_sign ∷ []) phase.Gap [] [] ≡ Some ([], x == solidus)) c e refl refl refl refl refl
-  | inr e ↦ of_one (λ x. cut_from Xhtml (x ∷ greater_than_sign ∷ []) phase.Gap [] [] ≡ Some ([], x == solidus)) c solidus e refl
-]
+strict_end (c ∷ []) h = of_between (λ x. cut_from Xhtml (x ∷ greater_than_sign ∷ []) phase.Gap [] [] ≡ Some ([], x == solidus)) c h refl refl refl refl refl refl
 strict_end (c ∷ d ∷ gap) h =
     let k = both (is_white_space c) _ h in
     one_move Xhtml phase.Gap [] [] ((d ∷ gap) ++ greater_than_sign ∷ []) c (of_white (λ x. move_of Xhtml phase.Gap x ≡ Some (phase.Gap, action.Skip)) c k.0 refl refl refl refl refl) ∙ strict_end (d ∷ gap) k.1
 
 -- at white space, `/` and `>` both read on alike
 same_front : (c : ℕ) (text : Chars) → ends_name c ≡ true → cut_from Xhtml (c ∷ text) phase.AfterValue [] [] ≡ cut_from Xhtml (c ∷ text) phase.Gap [] []
-same_front c text h =
-    let P : ℕ → Type 0 = λ x. cut_from Xhtml (x ∷ text) phase.AfterValue [] [] ≡ cut_from Xhtml (x ∷ text) phase.Gap [] [] in
-    elim (either (is_white_space c || c == solidus) _ h) [
-      | inr e ↦ of_one P c greater_than_sign e refl
-      | inl e ↦ elim (either (is_white_space c) _ e) [ inr e ↦ of_one P c solidus e refl | inl e ↦ of_white P c e refl refl refl refl refl ]
-    ]
+same_front c text h = of_end (λ x. cut_from Xhtml (x ∷ text) phase.AfterValue [] [] ≡ cut_from Xhtml (x ∷ text) phase.Gap [] []) c h refl refl refl refl refl refl refl
 
 strict_front : (gap text : Chars) → is_strict_end gap ≡ true → cut_from Xhtml (gap ++ greater_than_sign ∷ text) phase.AfterValue [] [] ≡ cut_from Xhtml (gap ++ greater_than_sign ∷ text) phase.Gap [] []
 strict_front [] text h = refl
@@ -156,13 +142,7 @@ no_value_cut : (rest key : Chars) (r : List Attribute × Bool) → begins ends_n
 no_value_cut [] key r b h = absurd (cc)
 no_value_cut (c ∷ text) key r b h =
     let P : ℕ → Type 0 = λ x. cut_from Html (x ∷ text) phase.AfterValue [] [] ≡ Some r → cut_from Html (x ∷ text) phase.Key key [] ≡ with_first (key, []) (Some r) in
-    elim (either (is_white_space c || c == solidus) _ b) [
-      | inr e ↦ of_one P c greater_than_sign e (λ k. ap (λ y. with_first (key, []) y) k) h
-      | inl e ↦ elim (either (is_white_space c) _ e) [
-        | inr e ↦ of_one P c solidus e (λ k. ap (λ y. with_first (key, []) y) k) h
-        | inl e ↦ of_white P c e (lone text key r) (lone text key r) (lone text key r) (lone text key r) (lone text key r) h
-      ]
-    ]
+    of_end P c b (lone text key r) (lone text key r) (lone text key r) (lone text key r) (lone text key r) (λ k. ap (λ y. with_first (key, []) y) k) (λ k. ap (λ y. with_first (key, []) y) k) h
 
 unquoted_cut : (rest key value : Chars) (r : List Attribute × Bool) → begins ends_unquoted rest ≡ true → cut_from Html rest phase.AfterValue [] [] ≡ Some r → cut_from Html rest phase.Unquoted key value ≡ with_first (key, value) (Some r)
 unquoted_cut [] key value r b h = absurd (cc)

@@ -1,5 +1,6 @@
 -- What the table does with parts of a tag's attributes.
-use Rattle.std.proofs.Common.{◌≡◌, ℕ, true, false, [], ◌∷◌, ◌++◌, Option, Some, refl, ap, ◌∙◌, append_assoc, append-nil, inl, inr}
+use Rattle.std.proofs.Common.{cond, sym, ◌≡◌, ℕ, true, false, [], ◌∷◌, ◌++◌, Option, Some, refl, ap, ◌∙◌, append_assoc, append-nil, inl, inr}
+use Rattle.std.proofs.lemmas.Bool.{eq-eqb, cond-true, cond-false}
 use Rattle.std.specs.Prelude.{◌&&◌, ◌==◌, not}
 use Rattle.std.specs.List.{list_all}
 use Rattle.rx_terms.specs.Ascii.{is_white_space, equals_sign, quotation_mark}
@@ -11,7 +12,7 @@ use Rattle.rx_reader.specs.declared.phases.TagPhase.{TagPhase}
 use Rattle.rx_reader.specs.declared.phases.TagPhase.TheVariants as phase
 use Rattle.rx_reader.specs.declared.phases.TagAction.{TagAction}
 use Rattle.rx_reader.specs.declared.phases.TagAction.TheVariants as action
-use Rattle.rx_reader.specs.Tables.{move_of}
+use Rattle.rx_reader.specs.Tables.{go, move_of}
 use Rattle.rx_reader.specs.Cuts.{with_first, cut_by, cut_from}
 use Rattle.rx_terms.proofs.Bools.{both, neither, either, untrue}
 use Rattle.rx_reader.proofs.Classes.{of_one, continues_apart}
@@ -53,32 +54,19 @@ white_to_value s [] text key value h = refl
 white_to_value s (c ∷ white) text key value h = let b = both (is_white_space c) _ h in one_move s phase.BeforeValue key value _ c (white_before_value s c b.0) ∙ white_to_value s white text key value b.1
 
 -- a quoted value
-double_goes : (s : Syntax) (c : ℕ) → (c == 34) ≡ false → move_of s phase.DoubleQuoted c ≡ Some (phase.DoubleQuoted, action.Value)
-double_goes s c e = rw e refl
-
-single_goes : (s : Syntax) (c : ℕ) → (c == 39) ≡ false → move_of s phase.SingleQuoted c ≡ Some (phase.SingleQuoted, action.Value)
-single_goes s c e = rw e refl
-
-double_run : (s : Syntax) (more text key value : Chars) → list_all (λ c. not (c == 34)) more ≡ true → cut_from s (more ++ 34 ∷ text) phase.DoubleQuoted key value ≡ with_first (key, value ++ more) (cut_from s text phase.AfterValue [] [])
-double_run s [] text key value h = rw (append-nil value) refl
-double_run s (c ∷ more) text key value h =
-    let b = both (not (c == 34)) _ h in
-    let e : (c == 34) ≡ false = untrue (c == 34) b.0 in
-    one_move s phase.DoubleQuoted key value (more ++ 34 ∷ text) c (double_goes s c e) ∙ (double_run s more text key (value ++ c ∷ []) b.1 ∙ ap (λ x. with_first (key, x) (cut_from s text phase.AfterValue [] [])) (append_assoc value (c ∷ []) more))
-
-single_run : (s : Syntax) (more text key value : Chars) → list_all (λ c. not (c == 39)) more ≡ true → cut_from s (more ++ 39 ∷ text) phase.SingleQuoted key value ≡ with_first (key, value ++ more) (cut_from s text phase.AfterValue [] [])
-single_run s [] text key value h = rw (append-nil value) refl
-single_run s (c ∷ more) text key value h =
-    let b = both (not (c == 39)) _ h in
-    let e : (c == 39) ≡ false = untrue (c == 39) b.0 in
-    one_move s phase.SingleQuoted key value (more ++ 39 ∷ text) c (single_goes s c e) ∙ (single_run s more text key (value ++ c ∷ []) b.1 ∙ ap (λ x. with_first (key, x) (cut_from s text phase.AfterValue [] [])) (append_assoc value (c ∷ []) more))
+in_quotes : (s : Syntax) (mark : ℕ) (p : TagPhase) → ((c : ℕ) → move_of s p c ≡ cond (c == mark) (go phase.AfterValue action.Add) (go p action.Value)) → (more text key value : Chars) → list_all (λ c. not (c == mark)) more ≡ true
+    → cut_from s (more ++ mark ∷ text) p key value ≡ with_first (key, value ++ more) (cut_from s text phase.AfterValue [] [])
+in_quotes s mark p k [] text key value h = one_move s p key value text mark (k mark ∙ cond-true _ _ _ (eq-eqb mark mark refl)) ∙ ap (λ x. with_first (key, x) (cut_from s text phase.AfterValue [] [])) (sym (append-nil value))
+in_quotes s mark p k (c ∷ more) text key value h =
+    let b = both (not (c == mark)) _ h in
+    one_move s p key value (more ++ mark ∷ text) c (k c ∙ cond-false _ _ _ (untrue (c == mark) b.0)) ∙ (in_quotes s mark p k more text key (value ++ c ∷ []) b.1 ∙ ap (λ x. with_first (key, x) (cut_from s text phase.AfterValue [] [])) (append_assoc value (c ∷ []) more))
 
 pub quoted_run : (s : Syntax) (mark : ℕ) (value text key : Chars) → is_quote mark ≡ true → list_all (λ c. not (c == mark)) value ≡ true → cut_from s (mark ∷ (value ++ mark ∷ text)) phase.BeforeValue key [] ≡ with_first (key, value) (cut_from s text phase.AfterValue [] [])
 quoted_run s mark value text key q h =
     let P : ℕ → Type 0 = λ m. list_all (λ c. not (c == m)) value ≡ true → cut_from s (m ∷ (value ++ m ∷ text)) phase.BeforeValue key [] ≡ with_first (key, value) (cut_from s text phase.AfterValue [] []) in
     elim (either (mark == 34) _ q) [
-      | inl e ↦ of_one P mark 34 e (double_run s value text key []) h
-      | inr e ↦ of_one P mark 39 e (single_run s value text key []) h
+      | inl e ↦ of_one P mark 34 e (in_quotes s 34 phase.DoubleQuoted (λ c. refl) value text key []) h
+      | inr e ↦ of_one P mark 39 e (in_quotes s 39 phase.SingleQuoted (λ c. refl) value text key []) h
     ]
 
 -- a value without quotes

@@ -1,7 +1,7 @@
 -- Two fronts of one list.
 use Rattle.std.proofs.Common.{◌≡◌, ℕ, Bool, true, false, cond, eqb-true, [], ◌∷◌, ◌++◌, refl, ap, sym, ◌∙◌, inl, inr, ◌⊎◌, subst}
-use Rattle.std.specs.Prelude.{◌||◌, ◌&&◌, ◌==◌, not, codes}
-use Rattle.std.proofs.lemmas.Bool.{eq-eqb}
+use Rattle.std.specs.Prelude.{◌&&◌, ◌==◌, not, codes}
+use Rattle.std.proofs.lemmas.Bool.{eq-eqb, or_left, or_right, and_from}
 use Rattle.std.specs.List.{list_all, list_any}
 use Rattle.rx_terms.specs.Ascii.{is_letter, is_digit, is_letter_or_digit, number_sign, semicolon, greater_than_sign}
 use Rattle.rx_terms.specs.Text.{Chars, begins_with, is_empty}
@@ -92,15 +92,11 @@ pub has_end : (text : Chars) → ends_with (codes ">") text ≡ true → list_an
 has_end [] h = absurd (cc)
 has_end (c ∷ text) h = elim (either (same (codes ">") (c ∷ text)) _ h) [
   | inl e ↦ let b = both (62 == c) _ e in of_one' c b.0 text
-  | inr e ↦ one_or (c == greater_than_sign) _ (has_end text e)
+  | inr e ↦ or_right (c == greater_than_sign) _ (has_end text e)
 ]
   where
     of_one' : (c : ℕ) → (62 == c) ≡ true → (text : Chars) → list_any (λ c. c == greater_than_sign) (c ∷ text) ≡ true
     of_one' c e text = subst (λ (x : ℕ). list_any (λ c. c == greater_than_sign) (x ∷ text) ≡ true) (eqb-true 62 c e) refl
-
-    one_or : (a b : Bool) → b ≡ true → (a || b) ≡ true
-    one_or true b h = refl
-    one_or false b h = h
 
 -- runs hold no semicolon, and each front of one is one
 pub no_mark : (test : ℕ → Bool) (mark : ℕ) → test mark ≡ false → (text : Chars) → list_all test text ≡ true → list_all (λ c. not (c == mark)) text ≡ true
@@ -127,28 +123,16 @@ pub all_front : (test : ℕ → Bool) (a b : Chars) → list_all test (a ++ b) �
 all_front test [] b h = refl
 all_front test (c ∷ a) b h = let k = both (test c) _ h in rw (k.0, all_front test a b k.1) refl
 
-or_left : (a b : Bool) → a ≡ true → (a || b) ≡ true
-or_left true b h = refl
-or_left false b h = absurd (cc)
-
-pub or_right : (a b : Bool) → b ≡ true → (a || b) ≡ true
-or_right true b h = refl
-or_right false b h = h
-
-and_true : (a b : Bool) → a ≡ true → b ≡ true → (a && b) ≡ true
-and_true true b h k = k
-and_true false b h k = absurd (cc)
-
 number_front : (a b : Chars) → begins_number (a ++ b) ≡ true → begins_number a ≡ true
 number_front [] b h = refl
 number_front (c ∷ a) b h = elim (either (is_digit c && list_all is_digit (a ++ b)) _ h) [
-  | inl e ↦ let k = both (is_digit c) _ e in or_left _ _ (and_true (is_digit c) _ k.0 (all_front is_digit a b k.1))
-  | inr e ↦ let k = both (is_x c) _ e in or_right _ _ (and_true (is_x c) _ k.0 (all_front is_hexadecimal_digit a b k.1))
+  | inl e ↦ let k = both (is_digit c) _ e in or_left _ _ (and_from (is_digit c) _ k.0 (all_front is_digit a b k.1))
+  | inr e ↦ let k = both (is_x c) _ e in or_right _ _ (and_from (is_x c) _ k.0 (all_front is_hexadecimal_digit a b k.1))
 ]
 
 pub begun_front : (a b : Chars) → is_begun (a ++ b) ≡ true → is_begun a ≡ true
 begun_front [] b h = refl
 begun_front (c ∷ a) b h = elim (either (is_letter c && list_all is_letter_or_digit (a ++ b)) _ h) [
-  | inl e ↦ let k = both (is_letter c) _ e in or_left _ _ (and_true (is_letter c) _ k.0 (all_front is_letter_or_digit a b k.1))
-  | inr e ↦ let k = both (c == number_sign) _ e in or_right _ _ (and_true (c == number_sign) _ k.0 (number_front a b k.1))
+  | inl e ↦ let k = both (is_letter c) _ e in or_left _ _ (and_from (is_letter c) _ k.0 (all_front is_letter_or_digit a b k.1))
+  | inr e ↦ let k = both (c == number_sign) _ e in or_right _ _ (and_from (c == number_sign) _ k.0 (number_front a b k.1))
 ]

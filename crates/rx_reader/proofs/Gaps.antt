@@ -1,6 +1,6 @@
 -- What stands before an attribute or before the end of a tag, one character at a time.
 use Rattle.std.proofs.Common.{◌≡◌, ℕ, Bool, true, false, [], ◌∷◌, ◌++◌, refl, ◌∙◌}
-use Rattle.std.specs.Prelude.{◌||◌, ◌&&◌, ◌==◌}
+use Rattle.std.specs.Prelude.{◌==◌}
 use Rattle.std.specs.List.{list_all}
 use Rattle.std.proofs.lemmas.List.Folds.{list_all-append}
 use Rattle.rx_terms.specs.Ascii.{is_white_space, solidus}
@@ -12,6 +12,7 @@ use Rattle.rx_grammar.specs.Shapes.{first_then, is_gap, is_last_gap, is_strict_e
 use Rattle.rx_terms.proofs.Bools.{both}
 use Rattle.rx_reader.proofs.Classes.{of_white}
 use Rattle.rx_reader.proofs.Complete.{is_between}
+use Rattle.std.proofs.lemmas.Bool.{or_left, and_from}
 
 -- white space at the end of what stands between attributes
 abbrev pub InGap : Syntax → Chars → Type 0
@@ -22,22 +23,16 @@ InGap Xhtml gap = one_or_more is_white_space gap ≡ true
 abbrev pub Ends : Syntax → Chars → Bool → Type 0
 Ends s gap slash = (is_last_gap s gap ≡ true) × (ends_in_solidus gap ≡ slash)
 
-and_true : (a b : Bool) → a ≡ true → b ≡ true → (a && b) ≡ true
-and_true a b h k = rw (h, k) refl
-
-or_true : (a b : Bool) → a ≡ true → (a || b) ≡ true
-or_true a b h = rw h refl
-
 pub all_snoc : (test : ℕ → Bool) (text : Chars) (c : ℕ) → list_all test text ≡ true → test c ≡ true → list_all test (text ++ c ∷ []) ≡ true
 all_snoc test text c h k = rw (list_all-append test text (c ∷ []), h, k) refl
 
 pub then_snoc : (first then : ℕ → Bool) (text : Chars) (c : ℕ) → first_then first then text ≡ true → then c ≡ true → first_then first then (text ++ c ∷ []) ≡ true
 then_snoc first then [] c h k = absurd (cc)
-then_snoc first then (d ∷ text) c h k = let b = both (first d) _ h in and_true (first d) _ b.0 (all_snoc then text c b.1 k)
+then_snoc first then (d ∷ text) c h k = let b = both (first d) _ h in and_from (first d) _ b.0 (all_snoc then text c b.1 k)
 
 pub some_snoc : (test : ℕ → Bool) (text : Chars) (c : ℕ) → list_all test text ≡ true → test c ≡ true → one_or_more test (text ++ c ∷ []) ≡ true
 some_snoc test [] c h k = rw k refl
-some_snoc test (d ∷ text) c h k = let b = both (test d) _ h in and_true (test d) _ b.0 (all_snoc test text c b.1 k)
+some_snoc test (d ∷ text) c h k = let b = both (test d) _ h in and_from (test d) _ b.0 (all_snoc test text c b.1 k)
 
 pub solidus_snoc : (gap : Chars) (c : ℕ) → ends_in_solidus (gap ++ c ∷ []) ≡ (c == solidus)
 solidus_snoc [] c = refl
@@ -52,7 +47,7 @@ white_between c h = rw h refl
 
 pub whites_between : (gap : Chars) → list_all is_white_space gap ≡ true → list_all is_between gap ≡ true
 whites_between [] h = refl
-whites_between (c ∷ gap) h = let b = both (is_white_space c) _ h in and_true (is_between c) _ (white_between c b.0) (whites_between gap b.1)
+whites_between (c ∷ gap) h = let b = both (is_white_space c) _ h in and_from (is_between c) _ (white_between c b.0) (whites_between gap b.1)
 
 pub whites_end : (gap : Chars) → list_all is_white_space gap ≡ true → ends_in_solidus gap ≡ false
 whites_end [] h = refl
@@ -61,13 +56,13 @@ whites_end (c ∷ d ∷ gap) h = whites_end (d ∷ gap) (both (is_white_space c)
 
 pub strict_snoc : (gap : Chars) (c : ℕ) → list_all is_white_space gap ≡ true → is_between c ≡ true → is_strict_end (gap ++ c ∷ []) ≡ true
 strict_snoc [] c h k = k
-strict_snoc (d ∷ []) c h k = and_true (is_white_space d) _ (both (is_white_space d) _ h).0 k
-strict_snoc (d ∷ e ∷ gap) c h k = let b = both (is_white_space d) _ h in and_true (is_white_space d) _ b.0 (strict_snoc (e ∷ gap) c b.1 k)
+strict_snoc (d ∷ []) c h k = and_from (is_white_space d) _ (both (is_white_space d) _ h).0 k
+strict_snoc (d ∷ e ∷ gap) c h k = let b = both (is_white_space d) _ h in and_from (is_white_space d) _ b.0 (strict_snoc (e ∷ gap) c b.1 k)
 
 pub whites_strict : (gap : Chars) → list_all is_white_space gap ≡ true → is_strict_end gap ≡ true
 whites_strict [] h = refl
-whites_strict (c ∷ []) h = or_true (is_white_space c) _ (both (is_white_space c) _ h).0
-whites_strict (c ∷ d ∷ gap) h = let b = both (is_white_space c) _ h in and_true (is_white_space c) _ b.0 (whites_strict (d ∷ gap) b.1)
+whites_strict (c ∷ []) h = or_left (is_white_space c) _ (both (is_white_space c) _ h).0
+whites_strict (c ∷ d ∷ gap) h = let b = both (is_white_space c) _ h in and_from (is_white_space c) _ b.0 (whites_strict (d ∷ gap) b.1)
 
 pub all_of_some : (test : ℕ → Bool) (text : Chars) → one_or_more test text ≡ true → list_all test text ≡ true
 all_of_some test [] h = absurd (cc)

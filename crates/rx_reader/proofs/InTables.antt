@@ -66,9 +66,7 @@ steady s phase.AfterValue c = whichever phase.AfterValue (is_white_space c) _ _ 
 steady s phase.EndStart c = whichever phase.EndStart (begins_tag s c) _ _ refl refl
 steady s phase.EndName c = whichever phase.EndName (is_white_space c) _ _ refl (whichever phase.EndName (c == greater_than_sign) _ _ refl (whichever phase.EndName (is_tag_char s c) _ _ refl refl))
 steady s phase.EndGap c = whichever phase.EndGap (is_white_space c) _ _ refl (whichever phase.EndGap (c == greater_than_sign) _ _ refl refl)
-steady s phase.Opened c = refl
-steady s phase.Emptied c = refl
-steady s phase.Closed c = refl
+steady s _ c = refl
 
 -- Values without quotes are HTML's.
 abbrev pub Quoted : Syntax → TagPhase → Move → Type 0
@@ -90,9 +88,7 @@ quoted_moves s phase.AfterValue c = split (Quoted s phase.AfterValue) (is_white_
 quoted_moves s phase.EndStart c = split (Quoted s phase.EndStart) (begins_tag s c) _ _ (λ e0. (λ h. absurd (cc))) (λ _. tt)
 quoted_moves s phase.EndName c = split (Quoted s phase.EndName) (is_white_space c) _ _ (λ e0. (λ h. absurd (cc))) (λ _. (split (Quoted s phase.EndName) (c == greater_than_sign) _ _ (λ e1. (λ h. absurd (cc))) (λ _. (split (Quoted s phase.EndName) (is_tag_char s c) _ _ (λ e2. (λ h. absurd (cc))) (λ _. tt)))))
 quoted_moves s phase.EndGap c = split (Quoted s phase.EndGap) (is_white_space c) _ _ (λ e0. (λ h. absurd (cc))) (λ _. (split (Quoted s phase.EndGap) (c == greater_than_sign) _ _ (λ e1. (λ h. absurd (cc))) (λ _. tt)))
-quoted_moves s phase.Opened c = tt
-quoted_moves s phase.Emptied c = tt
-quoted_moves s phase.Closed c = tt
+quoted_moves s _ c = tt
 
 -- Between attributes no other character stands directly before.
 abbrev pub Outer : ℕ → Move → Type 0
@@ -126,6 +122,4 @@ outer_moves s phase.AfterValue c = split (Outer c) (is_white_space c) _ _ (λ e0
 outer_moves s phase.EndStart c = split (Outer c) (begins_tag s c) _ _ (λ e0. (λ h. absurd (cc))) (λ _. tt)
 outer_moves s phase.EndName c = split (Outer c) (is_white_space c) _ _ (λ e0. (λ h. absurd (cc))) (λ _. (split (Outer c) (c == greater_than_sign) _ _ (λ e1. (λ h. absurd (cc))) (λ _. (split (Outer c) (is_tag_char s c) _ _ (λ e2. (λ h. absurd (cc))) (λ _. tt)))))
 outer_moves s phase.EndGap c = split (Outer c) (is_white_space c) _ _ (λ e0. (λ h. absurd (cc))) (λ _. (split (Outer c) (c == greater_than_sign) _ _ (λ e1. (λ h. absurd (cc))) (λ _. tt)))
-outer_moves s phase.Opened c = tt
-outer_moves s phase.Emptied c = tt
-outer_moves s phase.Closed c = tt
+outer_moves s _ c = tt

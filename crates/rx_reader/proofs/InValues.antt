@@ -5,7 +5,7 @@ use Rattle.rx_terms.specs.Ascii.{semicolon}
 use Rattle.rx_terms.specs.Text.{Chars}
 use Rattle.rx_chars.specs.declared.syntax.Syntax.{Syntax}
 use Rattle.rx_grammar.specs.declared.faults.Kind.{Kind}
-use Rattle.rx_grammar.specs.Tokens.{Attribute}
+use Rattle.rx_grammar.specs.Tokens.{Attribute, Tag}
 use Rattle.rx_grammar.specs.TagFaults.{EndsValue, double, single, no_mark, IsInValue, ValueFault}
 use Rattle.rx_reader.specs.declared.phases.TagPhase.{TagPhase}
 use Rattle.rx_reader.specs.declared.phases.TagPhase.TheVariants as phase
@@ -48,9 +48,9 @@ module _ (s : Syntax) (front : Chars) (w : Written) (d : Well s front w) (c : �
   outer_now q f b = record { init = front; c = c; are = refl; outer = f b }
 
   -- no value is read before it or after it
-  kept : (q : TagPhase) (key : Chars) → (not (is_value_phase w.phase) && (is_among q || not (is_among w.phase))) ≡ true
-      → (is_unquoted_phase q ≡ true → (is_unquoted_phase w.phase ≡ true) ⊎ (is_html s ≡ true)) → (is_between_phase q ≡ true → is_outer c ≡ true) → Well s (front ++ c ∷ []) (at q w.attributes key w.value)
-  kept q key h f g =
+  kept : (q : TagPhase) (name key : Chars) → (not (is_value_phase w.phase) && (is_among q || not (is_among w.phase))) ≡ true
+      → (is_unquoted_phase q ≡ true → (is_unquoted_phase w.phase ≡ true) ⊎ (is_html s ≡ true)) → (is_between_phase q ≡ true → is_outer c ≡ true) → Well s (front ++ c ∷ []) (at q name w.attributes key w.value)
+  kept q name key h f g =
       let b = both (not (is_value_phase w.phase)) (is_among q || not (is_among w.phase)) h in
       let none : w.value ≡ [] = d.settled (untrue (is_value_phase w.phase) b.0) in
       record {
@@ -63,7 +63,7 @@ module _ (s : Syntax) (front : Chars) (w : Written) (d : Well s front w) (c : �
       }
 
   grown : (q : TagPhase) → (is_value_phase q && is_among q) ≡ true
-      → (is_unquoted_phase q ≡ true → (is_unquoted_phase w.phase ≡ true) ⊎ (is_html s ≡ true)) → (is_between_phase q ≡ true → is_outer c ≡ true) → Well s (front ++ c ∷ []) (at q w.attributes w.key (w.value ++ c ∷ []))
+      → (is_unquoted_phase q ≡ true → (is_unquoted_phase w.phase ≡ true) ⊎ (is_html s ≡ true)) → (is_between_phase q ≡ true → is_outer c ≡ true) → Well s (front ++ c ∷ []) (at q w.name w.attributes w.key (w.value ++ c ∷ []))
   grown q h f g =
       let b = both (is_value_phase q) (is_among q) h in
       record {
@@ -76,7 +76,7 @@ module _ (s : Syntax) (front : Chars) (w : Written) (d : Well s front w) (c : �
       }
 
   ended : (q : TagPhase) (attributes : List Attribute) (key : Chars) → is_among q ≡ true
-      → (is_unquoted_phase q ≡ true → (is_unquoted_phase w.phase ≡ true) ⊎ (is_html s ≡ true)) → (is_between_phase q ≡ true → is_outer c ≡ true) → Well s (front ++ c ∷ []) (at q attributes key [])
+      → (is_unquoted_phase q ≡ true → (is_unquoted_phase w.phase ≡ true) ⊎ (is_html s ≡ true)) → (is_between_phase q ≡ true → is_outer c ≡ true) → Well s (front ++ c ∷ []) (at q w.name attributes key [])
   ended q attributes key h f g = record {
     before = front ++ c ∷ [];
     are = sym (append-nil (front ++ c ∷ []));
@@ -88,9 +88,9 @@ module _ (s : Syntax) (front : Chars) (w : Written) (d : Well s front w) (c : �
 
   well_by : (v : Written) (m : Move) → is_steady w.phase m ≡ true → Quoted s w.phase m → Outer c m → written_by w c m ≡ Some v → Well s (front ++ c ∷ []) v
   well_by v None h f g e = absurd (cc)
-  well_by v (Some (q, action.Skip)) h f g e = subst (Well s (front ++ c ∷ [])) (as_written _ v e) (kept q w.key h f g)
-  well_by v (Some (q, action.Name)) h f g e = subst (Well s (front ++ c ∷ [])) (as_written _ v e) (kept q w.key h f g)
-  well_by v (Some (q, action.Key)) h f g e = subst (Well s (front ++ c ∷ [])) (as_written _ v e) (kept q (w.key ++ c ∷ []) h f g)
+  well_by v (Some (q, action.Skip)) h f g e = subst (Well s (front ++ c ∷ [])) (as_written _ v e) (kept q w.name w.key h f g)
+  well_by v (Some (q, action.Name)) h f g e = subst (Well s (front ++ c ∷ [])) (as_written _ v e) (kept q (w.name ++ c ∷ []) w.key h f g)
+  well_by v (Some (q, action.Key)) h f g e = subst (Well s (front ++ c ∷ [])) (as_written _ v e) (kept q w.name (w.key ++ c ∷ []) h f g)
   well_by v (Some (q, action.Value)) h f g e = subst (Well s (front ++ c ∷ [])) (as_written _ v e) (grown q h f g)
   well_by v (Some (q, action.Add)) h f g e = subst (Well s (front ++ c ∷ [])) (as_written _ v e) (ended q (w.attributes ++ (w.key, w.value) ∷ []) [] h f g)
   well_by v (Some (q, action.AddKey)) h f g e = subst (Well s (front ++ c ∷ [])) (as_written _ v e) (ended q (w.attributes ++ (w.key, w.value) ∷ []) (c ∷ []) h f g)
@@ -147,7 +147,7 @@ module _ (s : Syntax) (front : Chars) (w : Written) (reads : written_on s (Some 
   in_place value c kind i f =
       let a = shape_written s (front ++ i.end) i.tag i.shape in
       let rest : written_on s (Some w) i.end ≡ Some a.last = ap (λ o. written_on s o i.end) (sym reads) ∙ (sym (written-append s (Some nothing_written) front i.end) ∙ a.reads) in
-      placed value c kind f i.earlier i.name i.before i.are a.last.attributes (a.attributes_are ∙ i.last) (well s front w reads) (ended_by s w a.last i.end i.ends rest a.whole)
+      placed value c kind f i.earlier i.name i.before i.are a.last.attributes (ap (λ (x : Tag). x.attributes) a.tag_is ∙ i.last) (well s front w reads) (ended_by s w a.last i.end i.ends rest a.whole)
 
 -- what may end a value, and its tag
 record Completes (s : Syntax) (w : Written) : Type 0 where
@@ -158,30 +158,17 @@ record Completes (s : Syntax) (w : Written) : Type 0 where
   whole : is_last last.phase ≡ true
   attributes_are : last.attributes ≡ w.attributes ++ (w.key, w.value) ∷ []
 
-completes : (s : Syntax) (p : TagPhase) (attributes : List Attribute) (key value : Chars) → is_value_phase p ≡ true → (is_unquoted_phase p ≡ true → is_html s ≡ true) → Completes s (at p attributes key value)
-completes s phase.DoubleQuoted attributes key value h f = record { end = 34 ∷ 62 ∷ []; ends = double; last = at phase.Opened (attributes ++ (key, value) ∷ []) [] []; reads = refl; whole = refl; attributes_are = refl }
-completes s phase.SingleQuoted attributes key value h f = record { end = 39 ∷ 62 ∷ []; ends = single; last = at phase.Opened (attributes ++ (key, value) ∷ []) [] []; reads = refl; whole = refl; attributes_are = refl }
-completes s phase.Unquoted attributes key value h f = record { end = 62 ∷ []; ends = no_mark (html_is s (f refl)); last = at phase.Opened (attributes ++ (key, value) ∷ []) [] []; reads = refl; whole = refl; attributes_are = refl }
-completes s phase.Start attributes key value h f = absurd (cc)
-completes s phase.Name attributes key value h f = absurd (cc)
-completes s phase.Gap attributes key value h f = absurd (cc)
-completes s phase.Solidus attributes key value h f = absurd (cc)
-completes s phase.Key attributes key value h f = absurd (cc)
-completes s phase.AfterKey attributes key value h f = absurd (cc)
-completes s phase.BeforeValue attributes key value h f = absurd (cc)
-completes s phase.AfterValue attributes key value h f = absurd (cc)
-completes s phase.EndStart attributes key value h f = absurd (cc)
-completes s phase.EndName attributes key value h f = absurd (cc)
-completes s phase.EndGap attributes key value h f = absurd (cc)
-completes s phase.Opened attributes key value h f = absurd (cc)
-completes s phase.Emptied attributes key value h f = absurd (cc)
-completes s phase.Closed attributes key value h f = absurd (cc)
+completes : (s : Syntax) (p : TagPhase) (name : Chars) (attributes : List Attribute) (key value : Chars) → is_value_phase p ≡ true → (is_unquoted_phase p ≡ true → is_html s ≡ true) → Completes s (at p name attributes key value)
+completes s phase.DoubleQuoted name attributes key value h f = record { end = 34 ∷ 62 ∷ []; ends = double; last = at phase.Opened name (attributes ++ (key, value) ∷ []) [] []; reads = refl; whole = refl; attributes_are = refl }
+completes s phase.SingleQuoted name attributes key value h f = record { end = 39 ∷ 62 ∷ []; ends = single; last = at phase.Opened name (attributes ++ (key, value) ∷ []) [] []; reads = refl; whole = refl; attributes_are = refl }
+completes s phase.Unquoted name attributes key value h f = record { end = 62 ∷ []; ends = no_mark (html_is s (f refl)); last = at phase.Opened name (attributes ++ (key, value) ∷ []) [] []; reads = refl; whole = refl; attributes_are = refl }
+completes s _ name attributes key value h f = absurd (cc)
 
 -- Where the reader is in a value, the grammar is.
 pub is_in_value : (s : Syntax) (front : Chars) (w : Written) → written_on s (Some nothing_written) front ≡ Some w → is_value_phase w.phase ≡ true → IsInValue s front w.value
 is_in_value s front w reads h =
     let d = well s front w reads in
-    let k = completes s w.phase w.attributes w.key w.value h d.html in
+    let k = completes s w.phase w.name w.attributes w.key w.value h d.html in
     let all : written_on s (Some nothing_written) (front ++ k.end) ≡ Some k.last = written-append s (Some nothing_written) front k.end ∙ (ap (λ o. written_on s o k.end) reads ∙ k.reads) in
     let t = shaped s (front ++ k.end) (record { q = k.last.phase; reads = written_phases s (front ++ k.end) nothing_written k.last all; whole = k.whole }) in
     let a = shape_written s (front ++ k.end) t.tag t.shape in
@@ -195,5 +182,5 @@ is_in_value s front w reads h =
       shape = t.shape;
       earlier = w.attributes;
       name = w.key;
-      last = sym a.attributes_are ∙ ap (λ x. x.attributes) same ∙ k.attributes_are;
+      last = ap (λ (x : Tag). x.attributes) (sym a.tag_is) ∙ ap (λ x. x.attributes) same ∙ k.attributes_are;
     }

@@ -10,7 +10,6 @@ pub mod TextComplete
 pub mod TextSound
 pub mod Moves
 pub mod TagComplete
-pub mod TagSound
 pub mod TagLaws
 pub mod Fronts
 pub mod OneToken

@@ -36,8 +36,6 @@ gap : (s : Syntax) (c : ℕ) → Stays (move_of s phase.Gap c)
 gap s c = choice (is_white_space c) _ _ (refl, refl) (choice (c == solidus) _ _ (refl, refl) (choice (c == greater_than_sign) _ _ (refl, refl) (choice (begins_attribute s c) _ _ (refl, refl) tt)))
 
 pub stays : (s : Syntax) (p : TagPhase) (c : ℕ) → is_among p ≡ true → Stays (move_of s p c)
-stays s phase.Start c h = absurd (cc)
-stays s phase.Name c h = absurd (cc)
 stays s phase.Gap c h = gap s c
 stays s phase.Solidus c h = choice (c == greater_than_sign) _ _ (refl, refl) (choice (is_html s) _ _ (gap s c) tt)
 stays s phase.Key c h = choice (is_white_space c) _ _ (refl, refl) (choice (c == equals_sign) _ _ (refl, refl) (choice (c == solidus) _ _ (choice (is_html s) _ _ (refl, refl) tt) (choice (c == greater_than_sign) _ _ (choice (is_html s) _ _ (refl, refl) tt) (choice (continues_attribute s c) _ _ (refl, refl) tt))))
@@ -47,56 +45,22 @@ stays s phase.DoubleQuoted c h = choice (c == quotation_mark) _ _ (refl, refl) (
 stays s phase.SingleQuoted c h = choice (c == apostrophe) _ _ (refl, refl) (refl, refl)
 stays s phase.Unquoted c h = choice (is_white_space c) _ _ (refl, refl) (choice (c == greater_than_sign) _ _ (refl, refl) (refl, refl))
 stays s phase.AfterValue c h = choice (is_white_space c) _ _ (refl, refl) (choice (c == solidus) _ _ (refl, refl) (choice (c == greater_than_sign) _ _ (refl, refl) (choice (is_html s) _ _ (choice (begins_attribute s c) _ _ (refl, refl) tt) tt)))
-stays s phase.EndStart c h = absurd (cc)
-stays s phase.EndName c h = absurd (cc)
-stays s phase.EndGap c h = absurd (cc)
 stays s phase.Opened c h = tt
 stays s phase.Emptied c h = tt
-stays s phase.Closed c h = absurd (cc)
+stays s _ c h = absurd (cc)
 
--- a value is read in a value's phase alone, and a phase of a value goes on with it or ends it
+-- the phases in which a value is read
 abbrev pub is_value_phase : TagPhase → Bool
 is_value_phase phase.DoubleQuoted = true
 is_value_phase phase.SingleQuoted = true
 is_value_phase phase.Unquoted = true
 is_value_phase _ = false
 
-abbrev pub Valued : Move → Type 0
-Valued None = Unit {0}
-Valued (Some (p, action.Value)) = is_value_phase p ≡ true
-Valued (Some (p, _)) = Unit {0}
-
-choose : (b : Bool) (x y : Move) → Valued x → Valued y → Valued (cond b x y)
-choose b x y h k = split Valued b x y (λ _. h) (λ _. k)
-
-gap_valued : (s : Syntax) (c : ℕ) → Valued (move_of s phase.Gap c)
-gap_valued s c = choose (is_white_space c) _ _ tt (choose (c == solidus) _ _ tt (choose (c == greater_than_sign) _ _ tt (choose (begins_attribute s c) _ _ tt tt)))
-
-pub valued : (s : Syntax) (p : TagPhase) (c : ℕ) → is_among p ≡ true → Valued (move_of s p c)
-valued s phase.Start c h = absurd (cc)
-valued s phase.Name c h = absurd (cc)
-valued s phase.Gap c h = gap_valued s c
-valued s phase.Solidus c h = choose (c == greater_than_sign) _ _ tt (choose (is_html s) _ _ (gap_valued s c) tt)
-valued s phase.Key c h = choose (is_white_space c) _ _ tt (choose (c == equals_sign) _ _ tt (choose (c == solidus) _ _ (choose (is_html s) _ _ tt tt) (choose (c == greater_than_sign) _ _ (choose (is_html s) _ _ tt tt) (choose (continues_attribute s c) _ _ tt tt))))
-valued s phase.AfterKey c h = choose (is_white_space c) _ _ tt (choose (c == equals_sign) _ _ tt (choose (is_html s) _ _ (choose (c == solidus) _ _ tt (choose (c == greater_than_sign) _ _ tt (choose (begins_attribute s c) _ _ tt tt))) tt))
-valued s phase.BeforeValue c h = choose (is_white_space c) _ _ tt (choose (c == quotation_mark) _ _ tt (choose (c == apostrophe) _ _ tt (choose (c == greater_than_sign) _ _ tt (choose (is_html s) _ _ refl tt))))
-valued s phase.DoubleQuoted c h = choose (c == quotation_mark) _ _ tt refl
-valued s phase.SingleQuoted c h = choose (c == apostrophe) _ _ tt refl
-valued s phase.Unquoted c h = choose (is_white_space c) _ _ tt (choose (c == greater_than_sign) _ _ tt refl)
-valued s phase.AfterValue c h = choose (is_white_space c) _ _ tt (choose (c == solidus) _ _ tt (choose (c == greater_than_sign) _ _ tt (choose (is_html s) _ _ (choose (begins_attribute s c) _ _ tt tt) tt)))
-valued s phase.EndStart c h = absurd (cc)
-valued s phase.EndName c h = absurd (cc)
-valued s phase.EndGap c h = absurd (cc)
-valued s phase.Opened c h = tt
-valued s phase.Emptied c h = tt
-valued s phase.Closed c h = absurd (cc)
-
 -- in a value's phase each character belongs to the value or ends it
 abbrev pub InValue : Move → Type 0
-InValue None = ⊥
 InValue (Some (p, action.Value)) = Unit {0}
 InValue (Some (p, action.Add)) = Unit {0}
-InValue (Some (p, _)) = ⊥
+InValue _ = ⊥
 
 pick : (b : Bool) (x y : Move) → InValue x → InValue y → InValue (cond b x y)
 pick b x y h k = split InValue b x y (λ _. h) (λ _. k)
@@ -105,17 +69,4 @@ pub in_value : (s : Syntax) (p : TagPhase) (c : ℕ) → is_value_phase p ≡ tr
 in_value s phase.DoubleQuoted c h = pick (c == quotation_mark) _ _ tt tt
 in_value s phase.SingleQuoted c h = pick (c == apostrophe) _ _ tt tt
 in_value s phase.Unquoted c h = pick (is_white_space c) _ _ tt (pick (c == greater_than_sign) _ _ tt tt)
-in_value s phase.Start c h = absurd (cc)
-in_value s phase.Name c h = absurd (cc)
-in_value s phase.Gap c h = absurd (cc)
-in_value s phase.Solidus c h = absurd (cc)
-in_value s phase.Key c h = absurd (cc)
-in_value s phase.AfterKey c h = absurd (cc)
-in_value s phase.BeforeValue c h = absurd (cc)
-in_value s phase.AfterValue c h = absurd (cc)
-in_value s phase.EndStart c h = absurd (cc)
-in_value s phase.EndName c h = absurd (cc)
-in_value s phase.EndGap c h = absurd (cc)
-in_value s phase.Opened c h = absurd (cc)
-in_value s phase.Emptied c h = absurd (cc)
-in_value s phase.Closed c h = absurd (cc)
+in_value s _ c h = absurd (cc)

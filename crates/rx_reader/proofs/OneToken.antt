@@ -11,7 +11,7 @@ use Rattle.rx_grammar.specs.declared.contents.Content.TheVariants as content
 use Rattle.rx_grammar.specs.declared.contents.RawName.{RawName}
 use Rattle.rx_grammar.specs.declared.contents.RawName.TheVariants as raw
 use Rattle.rx_grammar.specs.Names.{same, name_of_raw}
-use Rattle.rx_grammar.specs.References.{one_or_more, is_body, is_begun, stops_at, meaning}
+use Rattle.rx_grammar.specs.References.{is_body, is_begun, stops_at, meaning}
 use Rattle.rx_grammar.specs.Tokens.{Tag, Token, tag, character, reference, kept, section, comment, doctype}
 use Rattle.rx_grammar.specs.Shapes.{ends_name, begins_tag, Shape, a_start, an_end}
 use Rattle.rx_grammar.specs.Tags.{SpellsTag, cased, cased_char}
@@ -20,10 +20,12 @@ use Rattle.rx_grammar.specs.Items.{next_of}
 use Rattle.rx_grammar.specs.Laws.{OneToken, IsSameToken}
 use Rattle.rx_terms.proofs.Bools.{both, neither, either, untrue, not_both_ways, by_test}
 use Rattle.rx_reader.proofs.Classes.{of_one, of_white, unless}
-use Rattle.rx_reader.proofs.Fronts.{equal, all_front, or_right, Longer, two_fronts, one_first, only_end, one_end, ends_at, begins_append, begins_front, begins_more, begins_within, has_end, begun_no_mark, begun_front}
+use Rattle.rx_reader.proofs.Fronts.{equal, all_front, Longer, two_fronts, one_first, only_end, one_end, ends_at, begins_append, begins_front, begins_more, begins_within, has_end, begun_no_mark, begun_front}
 use Rattle.rx_reader.proofs.TagLaws.{one, one_front}
 use Rattle.rx_reader.proofs.TextComplete.{body_begun}
 use Rattle.std.proofs.lemmas.List.{append_cancel_left, append_cancel_right, map-append}
+use Rattle.std.proofs.lemmas.Bool.{or_left, or_right, and_from}
+use Rattle.rx_reader.proofs.Gaps.{all_of_some}
 
 -- what follows `<!`
 pub data Bang (s : Syntax) (i : Content) (text : Chars) (b : Token) : Type 0 where
@@ -38,14 +40,21 @@ pub data Question (s : Syntax) (text : Chars) : Type 0 where
   q_bogus : s ≡ Html → IsFirst (ends_with (codes ">")) text → Question s text
   q_instruction : s ≡ Xhtml → IsFirst (ends_with (codes "?>")) text → Question s text
 
--- what follows `<`
+-- what follows `<` where tags are read
+pub data Marked (s : Syntax) (i : Content) (text : Chars) (m : Option ℕ) (b : Token) : Type 0 where
+  l_tag : (t : Tag) → SpellsTag s text t → b ≡ tag t → Marked s i text m b
+  l_alone : s ≡ Html → text ≡ [] → IsBefore (λ c. not (begins_markup c)) m → b ≡ kept (less_than_sign ∷ []) → Marked s i text m b
+  l_bang : (x : Chars) → text ≡ 33 ∷ x → Bang s i x b → Marked s i text m b
+  l_question : (x : Chars) → text ≡ 63 ∷ x → Question s x → b ≡ comment → Marked s i text m b
+
+-- and where text is raw, in an element of this name
+pub data InRaw (s : Syntax) (name text : Chars) (m : Option ℕ) (b : Token) : Type 0 where
+  l_end : (t : Tag) → SpellsTag s text t → t.closing ≡ true → t.name ≡ name → b ≡ tag t → InRaw s name text m b
+  l_run : begins_end name text ≡ true → IsBefore (stops_end name text) m → b ≡ kept (less_than_sign ∷ text) → InRaw s name text m b
+
 pub data Less (s : Syntax) (i : Content) (text : Chars) (m : Option ℕ) (b : Token) : Type 0 where
-  l_tag : (t : Tag) → has_markup i ≡ true → SpellsTag s text t → b ≡ tag t → Less s i text m b
-  l_alone : s ≡ Html → has_markup i ≡ true → text ≡ [] → IsBefore (λ c. not (begins_markup c)) m → b ≡ kept (less_than_sign ∷ []) → Less s i text m b
-  l_bang : (x : Chars) → has_markup i ≡ true → text ≡ 33 ∷ x → Bang s i x b → Less s i text m b
-  l_question : (x : Chars) → has_markup i ≡ true → text ≡ 63 ∷ x → Question s x → b ≡ comment → Less s i text m b
-  l_raw_end : (name : Chars) (t : Tag) → raw_name i ≡ Some name → SpellsTag s text t → t.closing ≡ true → t.name ≡ name → b ≡ tag t → Less s i text m b
-  l_raw_run : (name : Chars) → raw_name i ≡ Some name → begins_end name text ≡ true → IsBefore (stops_end name text) m → b ≡ kept (less_than_sign ∷ text) → Less s i text m b
+  l_marked : has_markup i ≡ true → Marked s i text m b → Less s i text m b
+  l_raw : (name : Chars) → raw_name i ≡ Some name → InRaw s name text m b → Less s i text m b
 
 -- what follows `&`
 pub data Amp (s : Syntax) (i : Content) (text : Chars) (m : Option ℕ) (b : Token) : Type 0 where
@@ -58,45 +67,37 @@ pub data View (s : Syntax) (i : Content) (xs : Chars) (m : Option ℕ) (b : Toke
   v_amp : (text : Chars) → xs ≡ 38 ∷ text → has_references i ≡ true → Amp s i text m b → View s i xs m b
   v_less : (text : Chars) → xs ≡ 60 ∷ text → Less s i text m b → View s i xs m b
 
-keeps_has : (i : Content) → keeps_runs i ≡ true → has_references i ≡ true
-keeps_has content.Outside h = absurd (cc)
+pub keeps_has : (i : Content) → keeps_runs i ≡ true → has_references i ≡ true
 keeps_has content.Html h = refl
 keeps_has content.Foreign h = refl
-keeps_has content.Strict h = absurd (cc)
-keeps_has (content.Raw n) h = absurd (cc)
 keeps_has (content.Rcdata n) h = refl
+keeps_has _ h = absurd (cc)
 
-less_markup : (i : Content) → has_less_than i ≡ true → has_markup i ≡ true
-less_markup content.Outside h = absurd (cc)
+pub less_markup : (i : Content) → has_less_than i ≡ true → has_markup i ≡ true
 less_markup content.Html h = refl
 less_markup content.Foreign h = refl
-less_markup content.Strict h = absurd (cc)
-less_markup (content.Raw n) h = absurd (cc)
-less_markup (content.Rcdata n) h = absurd (cc)
+less_markup _ h = absurd (cc)
 
-section_markup : (i : Content) → has_sections i ≡ true → has_markup i ≡ true
-section_markup content.Outside h = absurd (cc)
-section_markup content.Html h = absurd (cc)
+pub section_markup : (i : Content) → has_sections i ≡ true → has_markup i ≡ true
 section_markup content.Foreign h = refl
 section_markup content.Strict h = refl
-section_markup (content.Raw n) h = absurd (cc)
-section_markup (content.Rcdata n) h = absurd (cc)
+section_markup _ h = absurd (cc)
 
 view : (s : Syntax) (i : Content) {xs : Chars} {m : Option ℕ} {b : Token} → Spells s i xs m b → View s i xs m b
-view s i (a_tag text t h k) = v_less text refl (l_tag t h k refl)
-view s i (an_end_of_raw text name t r k c n) = v_less text refl (l_raw_end name t r k c n refl)
+view s i (a_tag text t h k) = v_less text refl (l_marked h (l_tag t k refl))
+view s i (an_end_of_raw text name t r k c n) = v_less text refl (l_raw name r (l_end t k c n refl))
 view s i (a_character c h) = v_text c refl h refl
-view s i (a_less_than z h k) = v_less [] refl (l_alone z (less_markup i h) refl k refl)
-view s i (a_raw_run text name r h k) = v_less text refl (l_raw_run name r h k refl)
+view s i (a_less_than z h k) = v_less [] refl (l_marked (less_markup i h) (l_alone z refl k refl))
+view s i (a_raw_run text name r h k) = v_less text refl (l_raw name r (l_run h k refl))
 view s i (a_reference body c h k e) = v_amp (body ++ semicolon ∷ []) refl h (p_reference body c refl k e refl)
 view s i (a_kept_run run h k n) = v_amp run refl (keeps_has i h) (p_kept k n refl)
-view s i (a_comment text z h f) = v_less _ refl (l_bang (45 ∷ 45 ∷ text) h refl (b_comment text z refl f refl))
-view s i (a_bogus_comment text z h d f) = v_less _ refl (l_bang text h refl (b_bogus z d f refl))
-view s i (a_question text z h f) = v_less _ refl (l_question text h refl (q_bogus z f) refl)
-view s i (a_strict_comment text z h f) = v_less _ refl (l_bang (45 ∷ 45 ∷ (text ++ 62 ∷ [])) h refl (b_strict text z refl f refl))
-view s i (an_instruction text z h f) = v_less _ refl (l_question text h refl (q_instruction z f) refl)
-view s i (a_section text h f) = v_less _ refl (l_bang (codes "[CDATA[" ++ (text ++ codes "]]>")) (section_markup i h) refl (b_section text h refl f refl))
-view s i (a_doctype text h d) = v_less _ refl (l_bang text h refl (b_doctype d refl))
+view s i (a_comment text z h f) = v_less _ refl (l_marked h (l_bang (45 ∷ 45 ∷ text) refl (b_comment text z refl f refl)))
+view s i (a_bogus_comment text z h d f) = v_less _ refl (l_marked h (l_bang text refl (b_bogus z d f refl)))
+view s i (a_question text z h f) = v_less _ refl (l_marked h (l_question text refl (q_bogus z f) refl))
+view s i (a_strict_comment text z h f) = v_less _ refl (l_marked h (l_bang (45 ∷ 45 ∷ (text ++ 62 ∷ [])) refl (b_strict text z refl f refl)))
+view s i (an_instruction text z h f) = v_less _ refl (l_marked h (l_question text refl (q_instruction z f) refl))
+view s i (a_section text h f) = v_less _ refl (l_marked (section_markup i h) (l_bang (codes "[CDATA[" ++ (text ++ codes "]]>")) refl (b_section text h refl f refl)))
+view s i (a_doctype text h d) = v_less _ refl (l_marked h (l_bang text refl (b_doctype d refl)))
 
 -- the answer: nothing more, and the same token
 abbrev pub Same : Chars → Token → Token → Type 0
@@ -243,10 +244,6 @@ word_no_mark : (s : Syntax) → list_all (λ c. not (c == 62)) (doctype_word s) 
 word_no_mark Html = refl
 word_no_mark Xhtml = refl
 
-some_all : (test : ℕ → Bool) (text : Chars) → one_or_more test text ≡ true → list_all test text ≡ true
-some_all test [] h = absurd (cc)
-some_all test (c ∷ text) h = h
-
 all_weaker : (test other : ℕ → Bool) → ((c : ℕ) → test c ≡ true → other c ≡ true) → (text : Chars) → list_all test text ≡ true → list_all other text ≡ true
 all_weaker test other w [] h = refl
 all_weaker test other w (c ∷ text) h = let b = both (test c) _ h in rw (w c b.0, all_weaker test other w text b.1) refl
@@ -263,7 +260,7 @@ doctype_end s text d =
     let e : text ≡ front ++ 62 ∷ [] = d.are ∙ regroup d.keyword d.spaces d.name d.rest in
     subst (λ (w : Chars). only_end 62 w ≡ true) (sym e)
     (ends_at 62 front (all_both _ d.keyword _ (no_greater s d.keyword (doctype_word s) d.keyword_is (word_no_mark s))
-    (all_both _ d.spaces _ (all_weaker is_white_space _ white_no_mark d.spaces (some_all is_white_space d.spaces d.apart))
+    (all_both _ d.spaces _ (all_weaker is_white_space _ white_no_mark d.spaces (all_of_some is_white_space d.spaces d.apart))
     (all_both _ d.name _ (no_greater s d.name (codes "html") d.name_is refl) (all_weaker _ _ passed_no_mark d.rest d.passed)))))
   where
     regroup : (k p n r : Chars) → k ++ (p ++ (n ++ (r ++ 62 ∷ []))) ≡ (k ++ (p ++ (n ++ r))) ++ 62 ∷ []
@@ -398,13 +395,9 @@ pub record TagFirst (s : Syntax) (text : Chars) : Type 0 where
   pub is : text ≡ c ∷ rest
   pub test : (begins_tag s c || c == solidus) ≡ true
 
-or_left' : (a b : Bool) → a ≡ true → (a || b) ≡ true
-or_left' true b h = refl
-or_left' false b h = absurd (cc)
-
 pub tag_first : (s : Syntax) (text : Chars) (w : Tag) → Shape s text w → TagFirst s text
 tag_first s text w (a_start [] rest n b k) = absurd (cc)
-tag_first s text w (a_start (c ∷ name) rest n b k) = record { c = c; rest = name ++ rest; is = refl; test = or_left' (begins_tag s c) _ (both (begins_tag s c) _ n).0 }
+tag_first s text w (a_start (c ∷ name) rest n b k) = record { c = c; rest = name ++ rest; is = refl; test = or_left (begins_tag s c) _ (both (begins_tag s c) _ n).0 }
 tag_first s text w (an_end name spaces n b) = record { c = 47; rest = name ++ (spaces ++ 62 ∷ []); is = refl; test = or_right (begins_tag s 47) true refl }
 
 pub no_bang : (s : Syntax) → (begins_tag s 33 || 33 == solidus) ≡ false
@@ -430,31 +423,18 @@ markup_begins Html z c h = elim (either (is_letter c) (c == solidus) h) [ inl e 
 markup_begins Xhtml z c h = absurd (cc)
 
 pub no_raw : (i : Content) (name : Chars) → raw_name i ≡ Some name → has_markup i ≡ true → ⊥
-no_raw content.Outside name h k = cc
-no_raw content.Html name h k = cc
-no_raw content.Foreign name h k = cc
-no_raw content.Strict name h k = cc
 no_raw (content.Raw r) name h k = cc
-no_raw (content.Rcdata r) name h k = cc
+no_raw _ name h k = cc
 
 -- raw elements
 low_name : (r : RawName) → lowered (name_of_raw r) ≡ name_of_raw r
 low_name raw.Script = refl
-low_name raw.Style = refl
-low_name raw.Iframe = refl
-low_name raw.Noembed = refl
-low_name raw.Noframes = refl
-low_name raw.Xmp = refl
-low_name raw.Title = refl
-low_name raw.Textarea = refl
+low_name _ = refl
 
 pub low_raw : (i : Content) (name : Chars) → raw_name i ≡ Some name → lowered name ≡ name
-low_raw content.Outside name h = absurd (cc)
-low_raw content.Html name h = absurd (cc)
-low_raw content.Foreign name h = absurd (cc)
-low_raw content.Strict name h = absurd (cc)
 low_raw (content.Raw r) name h = let q : name_of_raw r ≡ name = cc in sym (ap lowered q) ∙ (low_name r ∙ q)
 low_raw (content.Rcdata r) name h = let q : name_of_raw r ≡ name = cc in sym (ap lowered q) ∙ (low_name r ∙ q)
+low_raw _ name h = absurd (cc)
 
 pub kept_case : (w : Chars) → cased Xhtml w ≡ w
 kept_case [] = refl
@@ -511,10 +491,6 @@ pub nothing_lowered : (u : Chars) → lowered u ≡ [] → u ≡ []
 nothing_lowered [] e = refl
 nothing_lowered (c ∷ u) e = absurd (cc)
 
-pub and_both : (a b : Bool) → a ≡ true → b ≡ true → (a && b) ≡ true
-and_both true b h k = k
-and_both false b h k = absurd (cc)
-
 raw_run_more : (name x y : Chars) (d : ℕ) (w : Chars) → stops_end name x d ≡ true → begins_end name y ≡ true → y ≡ x ++ d ∷ w → ⊥
 raw_run_more name x y d w h k e =
     let b = both (not (begins_end name (x ++ d ∷ []))) _ h in
@@ -531,7 +507,7 @@ module _ (name x : Chars) (d : ℕ) (z : Chars) (r : RawEnd name (x ++ d ∷ z))
   first_ends (c ∷ spaces) w e = let q : d ≡ c = cc in subst (λ (x : ℕ). ends_name x ≡ true) (sym q) (rw (both (is_white_space c) _ w).0 refl)
 
   whole : x ≡ 47 ∷ r.w → d ∷ z ≡ r.spaces ++ 62 ∷ [] → (same (lowered x) (solidus ∷ name) && ends_name d) ≡ true
-  whole e q = and_both (same (lowered x) (solidus ∷ name)) (ends_name d) (subst (λ (y : Chars). same y (solidus ∷ name) ≡ true) (sym (ap lowered e ∙ low)) (same_self (47 ∷ name))) (first_ends r.spaces r.white q)
+  whole e q = and_from (same (lowered x) (solidus ∷ name)) (ends_name d) (subst (λ (y : Chars). same y (solidus ∷ name) ≡ true) (sym (ap lowered e ∙ low)) (same_self (47 ∷ name))) (first_ends r.spaces r.white q)
 
   by_more : (u : Chars) → begins_end name (x ++ d ∷ []) ≡ false → (same (lowered x) (solidus ∷ name) && ends_name d) ≡ false → 47 ∷ r.w ≡ x ++ u → d ∷ z ≡ u ++ (r.spaces ++ 62 ∷ []) → ⊥
   by_more [] n1 n2 e q = not_both_ways (same (lowered x) (solidus ∷ name) && ends_name d) (whole (sym (e ∙ append-nil x)) q) n2
@@ -567,72 +543,56 @@ module _ (s : Syntax) (i : Content) where
       let n : z ≡ [] = one_front s x z t u h k2 in
       (n, ea ∙ (ap tag (one s x t u h (subst (λ (w : Chars). SpellsTag s w u) (no_text x z n) k2)) ∙ sym eb))
 
-  less_core : (x y z n : Chars) (m : Option ℕ) (a b : Token) → Less s i x (next_of (z ++ n) None) a → Less s i y m b → y ≡ x ++ z → Same z a b
-  less_core x y z n m a b (l_tag t h k ea) (l_tag u h' k' eb) e = tags_core x y z t u a b k k' ea eb e
-  less_core x y z n m a b (l_tag t h k ea) (l_alone q h' ty k' eb) e = let f = tag_first s x k.reads.written k.reads.shape in absurd (let g : [] ≡ f.c ∷ (f.rest ++ z) = sym ty ∙ (e ∙ ap (λ w. w ++ z) f.is) in cc)
-  less_core x y z n m a b (l_tag t h k ea) (l_bang v h' ty k') e = absurd (tag_then s x z v t 33 (no_bang s) k (sym ty ∙ e))
-  less_core x y z n m a b (l_tag t h k ea) (l_question v h' ty k' eb) e = absurd (tag_then s x z v t 63 (no_question s) k (sym ty ∙ e))
-  less_core x y z n m a b (l_tag t h k ea) (l_raw_end name u r k' c nn eb) e = absurd (no_raw i name r h)
-  less_core x y z n m a b (l_tag t h k ea) (l_raw_run name r k' nn eb) e = absurd (no_raw i name r h)
-  less_core x y z n m a b (l_alone q h tx k ea) (l_tag u h' k' eb) e =
+  marked_core : (x y z n : Chars) (m : Option ℕ) (a b : Token) → Marked s i x (next_of (z ++ n) None) a → Marked s i y m b → y ≡ x ++ z → Same z a b
+  marked_core x y z n m a b (l_tag t k ea) (l_tag u k' eb) e = tags_core x y z t u a b k k' ea eb e
+  marked_core x y z n m a b (l_tag t k ea) (l_alone q ty k' eb) e = let f = tag_first s x k.reads.written k.reads.shape in absurd (let g : [] ≡ f.c ∷ (f.rest ++ z) = sym ty ∙ (e ∙ ap (λ w. w ++ z) f.is) in cc)
+  marked_core x y z n m a b (l_tag t k ea) (l_bang v ty k') e = absurd (tag_then s x z v t 33 (no_bang s) k (sym ty ∙ e))
+  marked_core x y z n m a b (l_tag t k ea) (l_question v ty k' eb) e = absurd (tag_then s x z v t 63 (no_question s) k (sym ty ∙ e))
+  marked_core x y z n m a b (l_alone q tx k ea) (l_tag u k' eb) e =
       let f = tag_first s y k'.reads.written k'.reads.shape in
       absurd (not_both_ways (not (begins_markup f.c)) (before_head (λ c. not (begins_markup c)) z n f.c f.rest (sym (e ∙ ap (λ w. w ++ z) tx) ∙ f.is) k) (markup_begins s q f.c f.test))
-  less_core x y z n m a b (l_alone q h tx k ea) (l_alone q' h' ty k' eb) e = (sym (sym ty ∙ (e ∙ ap (λ w. w ++ z) tx)), ea ∙ sym eb)
-  less_core x y z n m a b (l_alone q h tx k ea) (l_bang v h' ty k') e = absurd (let g = before_head (λ c. not (begins_markup c)) z n 33 v (sym (e ∙ ap (λ w. w ++ z) tx) ∙ ty) k in cc)
-  less_core x y z n m a b (l_alone q h tx k ea) (l_question v h' ty k' eb) e = absurd (let g = before_head (λ c. not (begins_markup c)) z n 63 v (sym (e ∙ ap (λ w. w ++ z) tx) ∙ ty) k in cc)
-  less_core x y z n m a b (l_alone q h tx k ea) (l_raw_end name u r k' c nn eb) e = absurd (no_raw i name r h)
-  less_core x y z n m a b (l_alone q h tx k ea) (l_raw_run name r k' nn eb) e = absurd (no_raw i name r h)
-  less_core x y z n m a b (l_bang v h tx k) (l_tag u h' k' eb) e = absurd (tag_not s y (v ++ z) u 33 (no_bang s) k' (e ∙ ap (λ w. w ++ z) tx))
-  less_core x y z n m a b (l_bang v h tx k) (l_alone q h' ty k' eb) e = absurd (let g : [] ≡ 33 ∷ (v ++ z) = sym ty ∙ (e ∙ ap (λ w. w ++ z) tx) in cc)
-  less_core x y z n m a b (l_bang v h tx k) (l_bang w h' ty k') e = bang_core s i v w z a b k k' (let g : 33 ∷ w ≡ 33 ∷ (v ++ z) = sym ty ∙ (e ∙ ap (λ u. u ++ z) tx) in cc)
-  less_core x y z n m a b (l_bang v h tx k) (l_question w h' ty k' eb) e = absurd (clash 63 33 _ _ refl (sym ty ∙ (e ∙ ap (λ u. u ++ z) tx)))
-  less_core x y z n m a b (l_bang v h tx k) (l_raw_end name u r k' c nn eb) e = absurd (no_raw i name r h)
-  less_core x y z n m a b (l_bang v h tx k) (l_raw_run name r k' nn eb) e = absurd (no_raw i name r h)
-  less_core x y z n m a b (l_question v h tx k ea) (l_tag u h' k' eb) e = absurd (tag_not s y (v ++ z) u 63 (no_question s) k' (e ∙ ap (λ w. w ++ z) tx))
-  less_core x y z n m a b (l_question v h tx k ea) (l_alone q h' ty k' eb) e = absurd (let g : [] ≡ 63 ∷ (v ++ z) = sym ty ∙ (e ∙ ap (λ w. w ++ z) tx) in cc)
-  less_core x y z n m a b (l_question v h tx k ea) (l_bang w h' ty k') e = absurd (clash 33 63 _ _ refl (sym ty ∙ (e ∙ ap (λ u. u ++ z) tx)))
-  less_core x y z n m a b (l_question v h tx k ea) (l_question w h' ty k' eb) e = (question_core s i v w z k k' (let g : 63 ∷ w ≡ 63 ∷ (v ++ z) = sym ty ∙ (e ∙ ap (λ u. u ++ z) tx) in cc), ea ∙ sym eb)
-  less_core x y z n m a b (l_question v h tx k ea) (l_raw_end name u r k' c nn eb) e = absurd (no_raw i name r h)
-  less_core x y z n m a b (l_question v h tx k ea) (l_raw_run name r k' nn eb) e = absurd (no_raw i name r h)
-  less_core x y z n m a b (l_raw_end name t r k c nn ea) (l_tag u h' k' eb) e = absurd (no_raw i name r h')
-  less_core x y z n m a b (l_raw_end name t r k c nn ea) (l_alone q h' ty k' eb) e = absurd (no_raw i name r h')
-  less_core x y z n m a b (l_raw_end name t r k c nn ea) (l_bang w h' ty k') e = absurd (no_raw i name r h')
-  less_core x y z n m a b (l_raw_end name t r k c nn ea) (l_question w h' ty k' eb) e = absurd (no_raw i name r h')
-  less_core x y z n m a b (l_raw_end name t r k c nn ea) (l_raw_end other u r' k' c' nn' eb) e = tags_core x y z t u a b k k' ea eb e
-  less_core x y z n m a b (l_raw_end name t r k c nn ea) (l_raw_run other r' k' nn' eb) e =
-      absurd (not_front name x z (raw_end s i name x t r k c nn) (subst (λ (w : Chars). begins_end name w ≡ true) e (subst (λ (w : Chars). begins_end w y ≡ true) (same_name i other name r' r) k')))
-  less_core x y z n m a b (l_raw_run name r k nn ea) (l_tag u h' k' eb) e = absurd (no_raw i name r h')
-  less_core x y z n m a b (l_raw_run name r k nn ea) (l_alone q h' ty k' eb) e = absurd (no_raw i name r h')
-  less_core x y z n m a b (l_raw_run name r k nn ea) (l_bang w h' ty k') e = absurd (no_raw i name r h')
-  less_core x y z n m a b (l_raw_run name r k nn ea) (l_question w h' ty k' eb) e = absurd (no_raw i name r h')
-  less_core x y z n m a b (l_raw_run name r k nn ea) (l_raw_end other u r' k' c' nn' eb) e =
-      let f : RawEnd name y = raw_end s i name y u r k' c' (nn' ∙ same_name i other name r' r) in
+  marked_core x y z n m a b (l_alone q tx k ea) (l_alone q' ty k' eb) e = (sym (sym ty ∙ (e ∙ ap (λ w. w ++ z) tx)), ea ∙ sym eb)
+  marked_core x y z n m a b (l_alone q tx k ea) (l_bang v ty k') e = absurd (let g = before_head (λ c. not (begins_markup c)) z n 33 v (sym (e ∙ ap (λ w. w ++ z) tx) ∙ ty) k in cc)
+  marked_core x y z n m a b (l_alone q tx k ea) (l_question v ty k' eb) e = absurd (let g = before_head (λ c. not (begins_markup c)) z n 63 v (sym (e ∙ ap (λ w. w ++ z) tx) ∙ ty) k in cc)
+  marked_core x y z n m a b (l_bang v tx k) (l_tag u k' eb) e = absurd (tag_not s y (v ++ z) u 33 (no_bang s) k' (e ∙ ap (λ w. w ++ z) tx))
+  marked_core x y z n m a b (l_bang v tx k) (l_alone q ty k' eb) e = absurd (let g : [] ≡ 33 ∷ (v ++ z) = sym ty ∙ (e ∙ ap (λ w. w ++ z) tx) in cc)
+  marked_core x y z n m a b (l_bang v tx k) (l_bang w ty k') e = bang_core s i v w z a b k k' (let g : 33 ∷ w ≡ 33 ∷ (v ++ z) = sym ty ∙ (e ∙ ap (λ u. u ++ z) tx) in cc)
+  marked_core x y z n m a b (l_bang v tx k) (l_question w ty k' eb) e = absurd (clash 63 33 _ _ refl (sym ty ∙ (e ∙ ap (λ u. u ++ z) tx)))
+  marked_core x y z n m a b (l_question v tx k ea) (l_tag u k' eb) e = absurd (tag_not s y (v ++ z) u 63 (no_question s) k' (e ∙ ap (λ w. w ++ z) tx))
+  marked_core x y z n m a b (l_question v tx k ea) (l_alone q ty k' eb) e = absurd (let g : [] ≡ 63 ∷ (v ++ z) = sym ty ∙ (e ∙ ap (λ w. w ++ z) tx) in cc)
+  marked_core x y z n m a b (l_question v tx k ea) (l_bang w ty k') e = absurd (clash 33 63 _ _ refl (sym ty ∙ (e ∙ ap (λ u. u ++ z) tx)))
+  marked_core x y z n m a b (l_question v tx k ea) (l_question w ty k' eb) e = (question_core s i v w z k k' (let g : 63 ∷ w ≡ 63 ∷ (v ++ z) = sym ty ∙ (e ∙ ap (λ u. u ++ z) tx) in cc), ea ∙ sym eb)
+
+  raw_core : (name : Chars) → raw_name i ≡ Some name → (x y z n : Chars) (m : Option ℕ) (a b : Token) → InRaw s name x (next_of (z ++ n) None) a → InRaw s name y m b → y ≡ x ++ z → Same z a b
+  raw_core name r x y z n m a b (l_end t k c nn ea) (l_end u k' c' nn' eb) e = tags_core x y z t u a b k k' ea eb e
+  raw_core name r x y z n m a b (l_end t k c nn ea) (l_run k' nn' eb) e =
+      absurd (not_front name x z (raw_end s i name x t r k c nn) (subst (λ (w : Chars). begins_end name w ≡ true) e k'))
+  raw_core name r x y z n m a b (l_run k nn ea) (l_end u k' c' nn' eb) e =
+      let f : RawEnd name y = raw_end s i name y u r k' c' nn' in
       elim (ends z) [
         | here q ↦ absurd (not_front name y [] f (subst (λ (w : Chars). begins_end name w ≡ true) (sym (append-nil y ∙ (e ∙ no_text x z q))) k))
         | goes d w q ↦ absurd (run_not_end name x d w (subst (λ (v : Chars). RawEnd name v) (e ∙ ap (λ v. x ++ v) q) f) k (before_head (stops_end name x) z n d w q nn))
       ]
-  less_core x y z n m a b (l_raw_run name r k nn ea) (l_raw_run other r' k' nn' eb) e =
+  raw_core name r x y z n m a b (l_run k nn ea) (l_run k' nn' eb) e =
       elim (ends z) [
         | here q ↦ (q, ea ∙ (ap (λ w. kept (less_than_sign ∷ w)) (sym (no_text x z q) ∙ sym e) ∙ sym eb))
-        | goes d w q ↦ absurd (raw_run_more name x y d w (before_head (stops_end name x) z n d w q nn) (subst (λ (v : Chars). begins_end v y ≡ true) (same_name i other name r' r) k') (e ∙ ap (λ v. x ++ v) q))
+        | goes d w q ↦ absurd (raw_run_more name x y d w (before_head (stops_end name x) z n d w q nn) k' (e ∙ ap (λ v. x ++ v) q))
       ]
 
--- text
-less_no_text : (i : Content) → is_text i 60 ≡ false
-less_no_text content.Outside = refl
-less_no_text content.Html = refl
-less_no_text content.Foreign = refl
-less_no_text content.Strict = refl
-less_no_text (content.Raw n) = refl
-less_no_text (content.Rcdata n) = refl
+  less_core : (x y z n : Chars) (m : Option ℕ) (a b : Token) → Less s i x (next_of (z ++ n) None) a → Less s i y m b → y ≡ x ++ z → Same z a b
+  less_core x y z n m a b (l_marked h k) (l_marked h' k') e = marked_core x y z n m a b k k' e
+  less_core x y z n m a b (l_raw name r k) (l_raw other r' k') e = raw_core name r x y z n m a b k (subst (λ w. InRaw s w y m b) (same_name i other name r' r) k') e
+  less_core x y z n m a b (l_marked h k) (l_raw name r k') e = absurd (no_raw i name r h)
+  less_core x y z n m a b (l_raw name r k) (l_marked h k') e = absurd (no_raw i name r h)
 
-amp_no_text : (i : Content) → has_references i ≡ true → is_text i 38 ≡ false
-amp_no_text content.Outside h = refl
-amp_no_text content.Html h = refl
-amp_no_text content.Foreign h = refl
-amp_no_text content.Strict h = refl
+-- text
+pub less_no_text : (i : Content) → is_text i 60 ≡ false
+less_no_text (content.Raw n) = refl
+less_no_text _ = refl
+
+pub amp_no_text : (i : Content) → has_references i ≡ true → is_text i 38 ≡ false
 amp_no_text (content.Raw n) h = absurd (cc)
-amp_no_text (content.Rcdata n) h = refl
+amp_no_text _ h = refl
 
 text_not : (i : Content) (c d : ℕ) (u v : Chars) → is_text i c ≡ true → is_text i d ≡ false → c ∷ u ≡ d ∷ v → ⊥
 text_not i c d u v h k e = let q : c ≡ d = cc in not_both_ways (is_text i d) (subst (λ (x : ℕ). is_text i x ≡ true) q h) k

@@ -182,6 +182,5 @@ pub closes_back : {p : RunPhase} {text : Chars} → RunIs p text → is_body tex
 closes_back at_ampersand h = absurd (cc)
 closes_back (in_name c text a b) h = refl
 closes_back at_hash h = absurd (cc)
-closes_back (in_decimal c text a b) h = refl
 closes_back (at_mark x a) h = absurd (body_mark x a h)
-closes_back (in_hexadecimal x c text a b k) h = refl
+closes_back _ h = refl

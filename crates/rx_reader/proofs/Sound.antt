@@ -1,5 +1,5 @@
 -- What the table cuts is attributes as the grammar spells them.
-use Rattle.std.proofs.Common.{◌≡◌, ℕ, Bool, true, false, List, [], ◌∷◌, ◌++◌, Some, None, refl, ap, sym, append_assoc, append-nil, subst}
+use Rattle.std.proofs.Common.{◌≡◌, ℕ, Bool, true, false, cond, List, [], ◌∷◌, ◌++◌, Some, None, refl, ap, sym, append_assoc, append-nil, subst}
 use Rattle.std.specs.Prelude.{◌&&◌, ◌==◌, not}
 use Rattle.std.specs.List.{list_all}
 use Rattle.rx_terms.specs.Ascii.{is_white_space, solidus, equals_sign, greater_than_sign, quotation_mark, apostrophe}
@@ -11,7 +11,8 @@ use Rattle.rx_grammar.specs.References.{one_or_more}
 use Rattle.rx_grammar.specs.Shapes.{ends_name, begins, is_gap, is_quote, begins_attribute, continues_attribute, is_attribute_name, is_unquoted, is_unquoted_char, ends_unquoted, Assigns, no_value, unquoted, quoted, Attributes, no_more, one}
 use Rattle.rx_reader.specs.declared.phases.TagPhase.{TagPhase}
 use Rattle.rx_reader.specs.declared.phases.TagPhase.TheVariants as phase
-use Rattle.rx_reader.specs.Tables.{Move, move_of, in_gap, is_html}
+use Rattle.rx_reader.specs.declared.phases.TagAction.TheVariants as action
+use Rattle.rx_reader.specs.Tables.{Move, go, move_of, in_gap, is_html}
 use Rattle.rx_reader.specs.Cuts.{Cut, with_first, cut_by, cut_from}
 use Rattle.rx_terms.proofs.Bools.{both, split, not_both_ways}
 use Rattle.rx_reader.proofs.Classes.{of_one}
@@ -222,29 +223,18 @@ module _ (s : Syntax) (text : Chars) (ih : Sound s text) (c : ℕ) (r : Result) 
       (λ z g. goes phase.Unquoted since grown key (c ∷ []) (unquoted' gap key white after (c ∷ []) (html_is s z) i n w v (unquoted_one c nw nq na ng)) regroup g)
       (λ _ g. none_some r G g))))) h
 
-  from_double : (gap key white after value : Chars) → is_gap s gap ≡ true → is_attribute_name s key ≡ true → list_all is_white_space white ≡ true → list_all is_white_space after ≡ true → list_all (λ c. not (c == 34)) value ≡ true
-      → cut_by (cut_from s text) key value c (move_of s phase.DoubleQuoted c) ≡ Some r → Attributes s ((gap ++ (key ++ (white ++ equals_sign ∷ (after ++ 34 ∷ value)))) ++ c ∷ text) r.0 r.1
-  from_double gap key white after value i n w v q h =
-      let since : Chars = gap ++ (key ++ (white ++ equals_sign ∷ (after ++ 34 ∷ value))) in
+  -- in quotes, to the mark with which they began
+  from_quoted : (mark : ℕ) (p : TagPhase) (gap key white after value : Chars) → ((more : Chars) → list_all (λ c. not (c == mark)) more ≡ true → Since s p (gap ++ (key ++ (white ++ equals_sign ∷ (after ++ mark ∷ more)))) key more)
+      → is_quote mark ≡ true → is_gap s gap ≡ true → is_attribute_name s key ≡ true → list_all is_white_space white ≡ true → list_all is_white_space after ≡ true → list_all (λ c. not (c == mark)) value ≡ true
+      → cut_by (cut_from s text) key value c (cond (c == mark) (go phase.AfterValue action.Add) (go p action.Value)) ≡ Some r → Attributes s ((gap ++ (key ++ (white ++ equals_sign ∷ (after ++ mark ∷ value)))) ++ c ∷ text) r.0 r.1
+  from_quoted mark p gap key white after value reads m i n w v q h =
+      let since : Chars = gap ++ (key ++ (white ++ equals_sign ∷ (after ++ mark ∷ value))) in
       let G : Type 0 = Attributes s (since ++ c ∷ text) r.0 r.1 in
-      split (At G key value) (c == 34) _ _
-      (λ e g. of_one (λ x. Attributes s (since ++ x ∷ text) r.0 r.1) c 34 e
-      (spelled_as s (gap ++ (key ++ ((white ++ equals_sign ∷ (after ++ 34 ∷ (value ++ 34 ∷ []))) ++ ([] ++ text)))) _ r (simp append_assoc)
-      (ends phase.AfterValue gap key (white ++ equals_sign ∷ (after ++ 34 ∷ (value ++ 34 ∷ []))) value [] [] (λ c. true) i n (quoted white after value 34 refl w v q) after_value' (begins_any s text (key, value) r g) g)))
-      (λ e g. goes phase.DoubleQuoted since (gap ++ (key ++ (white ++ equals_sign ∷ (after ++ 34 ∷ (value ++ c ∷ []))))) key (value ++ c ∷ [])
-      (double' gap key white after (value ++ c ∷ []) i n w v (all_snoc (λ c. not (c == 34)) value c q (other_than c 34 e))) (simp append_assoc) g) h
-
-  from_single : (gap key white after value : Chars) → is_gap s gap ≡ true → is_attribute_name s key ≡ true → list_all is_white_space white ≡ true → list_all is_white_space after ≡ true → list_all (λ c. not (c == 39)) value ≡ true
-      → cut_by (cut_from s text) key value c (move_of s phase.SingleQuoted c) ≡ Some r → Attributes s ((gap ++ (key ++ (white ++ equals_sign ∷ (after ++ 39 ∷ value)))) ++ c ∷ text) r.0 r.1
-  from_single gap key white after value i n w v q h =
-      let since : Chars = gap ++ (key ++ (white ++ equals_sign ∷ (after ++ 39 ∷ value))) in
-      let G : Type 0 = Attributes s (since ++ c ∷ text) r.0 r.1 in
-      split (At G key value) (c == 39) _ _
-      (λ e g. of_one (λ x. Attributes s (since ++ x ∷ text) r.0 r.1) c 39 e
-      (spelled_as s (gap ++ (key ++ ((white ++ equals_sign ∷ (after ++ 39 ∷ (value ++ 39 ∷ []))) ++ ([] ++ text)))) _ r (simp append_assoc)
-      (ends phase.AfterValue gap key (white ++ equals_sign ∷ (after ++ 39 ∷ (value ++ 39 ∷ []))) value [] [] (λ c. true) i n (quoted white after value 39 refl w v q) after_value' (begins_any s text (key, value) r g) g)))
-      (λ e g. goes phase.SingleQuoted since (gap ++ (key ++ (white ++ equals_sign ∷ (after ++ 39 ∷ (value ++ c ∷ []))))) key (value ++ c ∷ [])
-      (single' gap key white after (value ++ c ∷ []) i n w v (all_snoc (λ c. not (c == 39)) value c q (other_than c 39 e))) (simp append_assoc) g) h
+      split (At G key value) (c == mark) _ _
+      (λ e g. of_one (λ x. Attributes s (since ++ x ∷ text) r.0 r.1) c mark e
+      (spelled_as s (gap ++ (key ++ ((white ++ equals_sign ∷ (after ++ mark ∷ (value ++ mark ∷ []))) ++ ([] ++ text)))) _ r (simp append_assoc)
+      (ends phase.AfterValue gap key (white ++ equals_sign ∷ (after ++ mark ∷ (value ++ mark ∷ []))) value [] [] (λ c. true) i n (quoted white after value mark m w v q) after_value' (begins_any s text (key, value) r g) g)))
+      (λ e g. goes p since (gap ++ (key ++ (white ++ equals_sign ∷ (after ++ mark ∷ (value ++ c ∷ []))))) key (value ++ c ∷ []) (reads (value ++ c ∷ []) (all_snoc (λ c. not (c == mark)) value c q (other_than c mark e))) (simp append_assoc) g) h
 
   from_unquoted : (gap key white after value : Chars) → s ≡ Html → is_gap s gap ≡ true → is_attribute_name s key ≡ true → list_all is_white_space white ≡ true → list_all is_white_space after ≡ true → is_unquoted value ≡ true
       → cut_by (cut_from s text) key value c (move_of s phase.Unquoted c) ≡ Some r → Attributes s ((gap ++ (key ++ (white ++ equals_sign ∷ (after ++ value)))) ++ c ∷ text) r.0 r.1
@@ -269,11 +259,10 @@ module _ (s : Syntax) (text : Chars) (ih : Sound s text) (c : ℕ) (r : Result) 
   one_more p since key value (in_key' gap k i n) h = from_key gap k i n h
   one_more p since key value (after_key' gap k white i n w) h = from_after_key gap k white i n w h
   one_more p since key value (before_value' gap k white after i n w v) h = from_before_value gap k white after i n w v h
-  one_more p since key value (double' gap k white after x i n w v q) h = from_double gap k white after x i n w v q h
-  one_more p since key value (single' gap k white after x i n w v q) h = from_single gap k white after x i n w v q h
+  one_more p since key value (double' gap k white after x i n w v q) h = from_quoted 34 phase.DoubleQuoted gap k white after x (λ y l. double' gap k white after y i n w v l) refl i n w v q h
+  one_more p since key value (single' gap k white after x i n w v q) h = from_quoted 39 phase.SingleQuoted gap k white after x (λ y l. single' gap k white after y i n w v l) refl i n w v q h
   one_more p since key value (unquoted' gap k white after x z i n w v q) h = from_unquoted gap k white after x z i n w v q h
-  one_more p since key value (opened' gap i) h = none_some r _ h
-  one_more p since key value (emptied' gap i) h = none_some r _ h
+  one_more p since key value _ h = none_some r _ h
 
 ended_so : (s : Syntax) (gap : Chars) (slash : Bool) (r : Result) → Ends s gap slash → Some ([], slash) ≡ Some r → Attributes s ((gap ++ greater_than_sign ∷ []) ++ []) r.0 r.1
 ended_so s gap slash r i h =
@@ -284,15 +273,7 @@ ended_so s gap slash r i h =
 nothing_left : (s : Syntax) (p : TagPhase) (since key value : Chars) (r : Result) → Since s p since key value → cut_from s [] p key value ≡ Some r → Attributes s (since ++ []) r.0 r.1
 nothing_left s p since key value r (opened' gap i) h = ended_so s gap false r i h
 nothing_left s p since key value r (emptied' gap i) h = ended_so s gap true r i h
-nothing_left s p since key value r (in_gap' gap i) h = none_some r _ h
-nothing_left s p since key value r after_value' h = none_some r _ h
-nothing_left s p since key value r (after_solidus' gap i) h = none_some r _ h
-nothing_left s p since key value r (in_key' gap k i n) h = none_some r _ h
-nothing_left s p since key value r (after_key' gap k white i n w) h = none_some r _ h
-nothing_left s p since key value r (before_value' gap k white after i n w v) h = none_some r _ h
-nothing_left s p since key value r (double' gap k white after x i n w v q) h = none_some r _ h
-nothing_left s p since key value r (single' gap k white after x i n w v q) h = none_some r _ h
-nothing_left s p since key value r (unquoted' gap k white after x z i n w v q) h = none_some r _ h
+nothing_left s p since key value r _ h = none_some r _ h
 
 pub sound : (s : Syntax) (text : Chars) → Sound s text
 sound s [] p since key value r i h = nothing_left s p since key value r i h

@@ -28,105 +28,40 @@ not_last v last G h n l = absurd (not_both_ways (is_last last.phase) l (ap (λ x
 attributes_of : (v last : Written) → ◌≡◌ {A = Option Written} (Some v) (Some last) → v.attributes ≡ last.attributes
 attributes_of v last h = ap (λ x. x.attributes) (as_written v last h)
 
-double_html : (p : TagPhase) (attributes : List Attribute) (key value : Chars) (last : Written) → written_on Html (Some (at p attributes key value)) (34 ∷ 62 ∷ []) ≡ Some last → is_last last.phase ≡ true → Ended Html (at p attributes key value) last.attributes
-double_html phase.Start attributes key value last h l = absurd (cc)
-double_html phase.Name attributes key value last h l = in_name refl (attributes_of _ last h)
-double_html phase.Gap attributes key value last h l = absurd (cc)
-double_html phase.Solidus attributes key value last h l = absurd (cc)
-double_html phase.Key attributes key value last h l = absurd (cc)
-double_html phase.AfterKey attributes key value last h l = absurd (cc)
-double_html phase.BeforeValue attributes key value last h l = not_last _ last _ h refl l
-double_html phase.DoubleQuoted attributes key value last h l = in_this refl (attributes_of _ last h)
-double_html phase.SingleQuoted attributes key value last h l = not_last _ last _ h refl l
-double_html phase.Unquoted attributes key value last h l = in_mark 34 refl refl (attributes_of _ last h)
-double_html phase.AfterValue attributes key value last h l = absurd (cc)
-double_html phase.EndStart attributes key value last h l = absurd (cc)
-double_html phase.EndName attributes key value last h l = in_name refl (attributes_of _ last h)
-double_html phase.EndGap attributes key value last h l = absurd (cc)
-double_html phase.Opened attributes key value last h l = absurd (cc)
-double_html phase.Emptied attributes key value last h l = absurd (cc)
-double_html phase.Closed attributes key value last h l = absurd (cc)
+by_double : (s : Syntax) (p : TagPhase) (name : Chars) (attributes : List Attribute) (key value : Chars) (last : Written) → written_on s (Some (at p name attributes key value)) (34 ∷ 62 ∷ []) ≡ Some last → is_last last.phase ≡ true → Ended s (at p name attributes key value) last.attributes
+by_double Html phase.Name name attributes key value last h l = in_name refl (attributes_of _ last h)
+by_double Html phase.EndName name attributes key value last h l = in_name refl (attributes_of _ last h)
+by_double _ phase.BeforeValue name attributes key value last h l = not_last _ last _ h refl l
+by_double _ phase.DoubleQuoted name attributes key value last h l = in_this refl (attributes_of _ last h)
+by_double _ phase.SingleQuoted name attributes key value last h l = not_last _ last _ h refl l
+by_double _ phase.Unquoted name attributes key value last h l = in_mark 34 refl refl (attributes_of _ last h)
+by_double _ _ name attributes key value last h l = absurd (cc)
 
-double_xhtml : (p : TagPhase) (attributes : List Attribute) (key value : Chars) (last : Written) → written_on Xhtml (Some (at p attributes key value)) (34 ∷ 62 ∷ []) ≡ Some last → is_last last.phase ≡ true → Ended Xhtml (at p attributes key value) last.attributes
-double_xhtml phase.Start attributes key value last h l = absurd (cc)
-double_xhtml phase.Name attributes key value last h l = absurd (cc)
-double_xhtml phase.Gap attributes key value last h l = absurd (cc)
-double_xhtml phase.Solidus attributes key value last h l = absurd (cc)
-double_xhtml phase.Key attributes key value last h l = absurd (cc)
-double_xhtml phase.AfterKey attributes key value last h l = absurd (cc)
-double_xhtml phase.BeforeValue attributes key value last h l = not_last _ last _ h refl l
-double_xhtml phase.DoubleQuoted attributes key value last h l = in_this refl (attributes_of _ last h)
-double_xhtml phase.SingleQuoted attributes key value last h l = not_last _ last _ h refl l
-double_xhtml phase.Unquoted attributes key value last h l = in_mark 34 refl refl (attributes_of _ last h)
-double_xhtml phase.AfterValue attributes key value last h l = absurd (cc)
-double_xhtml phase.EndStart attributes key value last h l = absurd (cc)
-double_xhtml phase.EndName attributes key value last h l = absurd (cc)
-double_xhtml phase.EndGap attributes key value last h l = absurd (cc)
-double_xhtml phase.Opened attributes key value last h l = absurd (cc)
-double_xhtml phase.Emptied attributes key value last h l = absurd (cc)
-double_xhtml phase.Closed attributes key value last h l = absurd (cc)
+by_single : (s : Syntax) (p : TagPhase) (name : Chars) (attributes : List Attribute) (key value : Chars) (last : Written) → written_on s (Some (at p name attributes key value)) (39 ∷ 62 ∷ []) ≡ Some last → is_last last.phase ≡ true → Ended s (at p name attributes key value) last.attributes
+by_single Html phase.Name name attributes key value last h l = in_name refl (attributes_of _ last h)
+by_single Html phase.EndName name attributes key value last h l = in_name refl (attributes_of _ last h)
+by_single _ phase.BeforeValue name attributes key value last h l = not_last _ last _ h refl l
+by_single _ phase.SingleQuoted name attributes key value last h l = in_this refl (attributes_of _ last h)
+by_single _ phase.DoubleQuoted name attributes key value last h l = not_last _ last _ h refl l
+by_single _ phase.Unquoted name attributes key value last h l = in_mark 39 refl refl (attributes_of _ last h)
+by_single _ _ name attributes key value last h l = absurd (cc)
 
-single_html : (p : TagPhase) (attributes : List Attribute) (key value : Chars) (last : Written) → written_on Html (Some (at p attributes key value)) (39 ∷ 62 ∷ []) ≡ Some last → is_last last.phase ≡ true → Ended Html (at p attributes key value) last.attributes
-single_html phase.Start attributes key value last h l = absurd (cc)
-single_html phase.Name attributes key value last h l = in_name refl (attributes_of _ last h)
-single_html phase.Gap attributes key value last h l = absurd (cc)
-single_html phase.Solidus attributes key value last h l = absurd (cc)
-single_html phase.Key attributes key value last h l = absurd (cc)
-single_html phase.AfterKey attributes key value last h l = absurd (cc)
-single_html phase.BeforeValue attributes key value last h l = not_last _ last _ h refl l
-single_html phase.DoubleQuoted attributes key value last h l = not_last _ last _ h refl l
-single_html phase.SingleQuoted attributes key value last h l = in_this refl (attributes_of _ last h)
-single_html phase.Unquoted attributes key value last h l = in_mark 39 refl refl (attributes_of _ last h)
-single_html phase.AfterValue attributes key value last h l = absurd (cc)
-single_html phase.EndStart attributes key value last h l = absurd (cc)
-single_html phase.EndName attributes key value last h l = in_name refl (attributes_of _ last h)
-single_html phase.EndGap attributes key value last h l = absurd (cc)
-single_html phase.Opened attributes key value last h l = absurd (cc)
-single_html phase.Emptied attributes key value last h l = absurd (cc)
-single_html phase.Closed attributes key value last h l = absurd (cc)
-
-single_xhtml : (p : TagPhase) (attributes : List Attribute) (key value : Chars) (last : Written) → written_on Xhtml (Some (at p attributes key value)) (39 ∷ 62 ∷ []) ≡ Some last → is_last last.phase ≡ true → Ended Xhtml (at p attributes key value) last.attributes
-single_xhtml phase.Start attributes key value last h l = absurd (cc)
-single_xhtml phase.Name attributes key value last h l = absurd (cc)
-single_xhtml phase.Gap attributes key value last h l = absurd (cc)
-single_xhtml phase.Solidus attributes key value last h l = absurd (cc)
-single_xhtml phase.Key attributes key value last h l = absurd (cc)
-single_xhtml phase.AfterKey attributes key value last h l = absurd (cc)
-single_xhtml phase.BeforeValue attributes key value last h l = not_last _ last _ h refl l
-single_xhtml phase.DoubleQuoted attributes key value last h l = not_last _ last _ h refl l
-single_xhtml phase.SingleQuoted attributes key value last h l = in_this refl (attributes_of _ last h)
-single_xhtml phase.Unquoted attributes key value last h l = in_mark 39 refl refl (attributes_of _ last h)
-single_xhtml phase.AfterValue attributes key value last h l = absurd (cc)
-single_xhtml phase.EndStart attributes key value last h l = absurd (cc)
-single_xhtml phase.EndName attributes key value last h l = absurd (cc)
-single_xhtml phase.EndGap attributes key value last h l = absurd (cc)
-single_xhtml phase.Opened attributes key value last h l = absurd (cc)
-single_xhtml phase.Emptied attributes key value last h l = absurd (cc)
-single_xhtml phase.Closed attributes key value last h l = absurd (cc)
-
-unmarked_html : (p : TagPhase) (attributes : List Attribute) (key value : Chars) (last : Written) → written_on Html (Some (at p attributes key value)) (62 ∷ []) ≡ Some last → is_last last.phase ≡ true → Ended Html (at p attributes key value) last.attributes
-unmarked_html phase.Start attributes key value last h l = absurd (cc)
-unmarked_html phase.Name attributes key value last h l = in_name refl (attributes_of _ last h)
-unmarked_html phase.Gap attributes key value last h l = outside refl refl
-unmarked_html phase.Solidus attributes key value last h l = outside refl refl
-unmarked_html phase.Key attributes key value last h l = in_key refl refl (attributes_of _ last h)
-unmarked_html phase.AfterKey attributes key value last h l = outside refl refl
-unmarked_html phase.BeforeValue attributes key value last h l = absurd (cc)
-unmarked_html phase.DoubleQuoted attributes key value last h l = not_last _ last _ h refl l
-unmarked_html phase.SingleQuoted attributes key value last h l = not_last _ last _ h refl l
-unmarked_html phase.Unquoted attributes key value last h l = in_this refl (attributes_of _ last h)
-unmarked_html phase.AfterValue attributes key value last h l = outside refl refl
-unmarked_html phase.EndStart attributes key value last h l = absurd (cc)
-unmarked_html phase.EndName attributes key value last h l = in_name refl (attributes_of _ last h)
-unmarked_html phase.EndGap attributes key value last h l = in_name refl (attributes_of _ last h)
-unmarked_html phase.Opened attributes key value last h l = absurd (cc)
-unmarked_html phase.Emptied attributes key value last h l = absurd (cc)
-unmarked_html phase.Closed attributes key value last h l = absurd (cc)
+unmarked_html : (p : TagPhase) (name : Chars) (attributes : List Attribute) (key value : Chars) (last : Written) → written_on Html (Some (at p name attributes key value)) (62 ∷ []) ≡ Some last → is_last last.phase ≡ true → Ended Html (at p name attributes key value) last.attributes
+unmarked_html phase.Name name attributes key value last h l = in_name refl (attributes_of _ last h)
+unmarked_html phase.Gap name attributes key value last h l = outside refl refl
+unmarked_html phase.Solidus name attributes key value last h l = outside refl refl
+unmarked_html phase.Key name attributes key value last h l = in_key refl refl (attributes_of _ last h)
+unmarked_html phase.AfterKey name attributes key value last h l = outside refl refl
+unmarked_html phase.DoubleQuoted name attributes key value last h l = not_last _ last _ h refl l
+unmarked_html phase.SingleQuoted name attributes key value last h l = not_last _ last _ h refl l
+unmarked_html phase.Unquoted name attributes key value last h l = in_this refl (attributes_of _ last h)
+unmarked_html phase.AfterValue name attributes key value last h l = outside refl refl
+unmarked_html phase.EndName name attributes key value last h l = in_name refl (attributes_of _ last h)
+unmarked_html phase.EndGap name attributes key value last h l = in_name refl (attributes_of _ last h)
+unmarked_html _ name attributes key value last h l = absurd (cc)
 
 pub ended_by : (s : Syntax) (w last : Written) (end : Chars) → EndsValue s end → written_on s (Some w) end ≡ Some last → is_last last.phase ≡ true → Ended s w last.attributes
-ended_by Html w last _ double h l = double_html w.phase w.attributes w.key w.value last h l
-ended_by Xhtml w last _ double h l = double_xhtml w.phase w.attributes w.key w.value last h l
-ended_by Html w last _ single h l = single_html w.phase w.attributes w.key w.value last h l
-ended_by Xhtml w last _ single h l = single_xhtml w.phase w.attributes w.key w.value last h l
-ended_by Html w last _ (no_mark e) h l = unmarked_html w.phase w.attributes w.key w.value last h l
+ended_by s w last _ double h l = by_double s w.phase w.name w.attributes w.key w.value last h l
+ended_by s w last _ single h l = by_single s w.phase w.name w.attributes w.key w.value last h l
+ended_by Html w last _ (no_mark e) h l = unmarked_html w.phase w.name w.attributes w.key w.value last h l
 ended_by Xhtml w last _ (no_mark e) h l = absurd (cc)

@@ -17,9 +17,9 @@ use Rattle.rx_reader.specs.TagReader.{TagState, fresh, tag_move, tag_move_on, mo
 use Rattle.rx_reader.specs.Laws.{ReadsOn, ReadsEachFront, RefusesEachFault, OneTagFault}
 use Rattle.rx_terms.proofs.Bools.{both, split, by_test, not_both_ways}
 use Rattle.rx_reader.proofs.TagComplete.{each_read}
-use Rattle.rx_reader.proofs.TagSound.{no_way as no_reading}
 use Rattle.rx_reader.proofs.TagLaws.{last_none, stuck, on_err, tag_on-append, moves-append, table_is_exact}
-use Rattle.rx_reader.proofs.Automaton.{phase_by, phases_on, phases_none, phases-append, reader_phases, shape_read}
+use Rattle.rx_reader.proofs.Written.{phase_by, phases_on, no_way as no_reading, reader_phases}
+use Rattle.rx_reader.proofs.Automaton.{phases_none, phases-append, shape_read}
 use Rattle.rx_reader.proofs.TagRefusals.{Why, no_way, decided, twice, same_kind, reads, why, decides, exact}
 
 -- two parts that are read one after the other
@@ -79,7 +79,7 @@ unlast s p c rest q h = by_test (is_last p) (λ l. absurd (let k : phases_on s (
 unfinished : (s : Syntax) (front : Chars) (st : TagState) (c : ℕ) (rest : Chars) (tag : Tag) → tag_on s (meaning s) (Ok fresh) front ≡ Ok st → Shape s (front ++ c ∷ rest) tag → is_last st.phase ≡ false
 unfinished s front st c rest tag run shape =
     let w = shape_read s (front ++ c ∷ rest) tag shape in
-    unlast s st.phase c rest w.q (ap (λ o. phases_on s o (c ∷ rest)) (sym (reader_phases s (meaning s) front fresh st (reads s front st run))) ∙ (sym (phases-append s (Some phase.Start) front (c ∷ rest)) ∙ w.reads))
+    unlast s st.phase c rest w.q (ap (λ o. phases_on s o (c ∷ rest)) (sym (reader_phases s (meaning s) front st (reads s front st run))) ∙ (sym (phases-append s (Some phase.Start) front (c ∷ rest)) ∙ w.reads))
 
 shapes_end : (s : Syntax) (a : Chars) (c : ℕ) (rest : Chars) (x y : Tag) → Shape s a x → Shape s (a ++ c ∷ rest) y → ⊥
 shapes_end s a c rest x y h k =

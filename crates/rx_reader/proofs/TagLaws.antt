@@ -7,18 +7,18 @@ use Rattle.rx_grammar.specs.declared.faults.Kind.{Kind}
 use Rattle.rx_grammar.specs.declared.faults.Kind.TheVariants.{BadTag, RepeatedAttribute}
 use Rattle.rx_grammar.specs.References.{meaning}
 use Rattle.rx_grammar.specs.Tokens.{Tag}
-use Rattle.rx_grammar.specs.Tags.{firsts, is_repeated}
+use Rattle.rx_grammar.specs.Tags.{firsts, is_repeated, Reads}
 use Rattle.rx_reader.specs.declared.phases.TagPhase.{TagPhase}
 use Rattle.rx_reader.specs.declared.phases.TagPhase.TheVariants as phase
 use Rattle.rx_reader.specs.Tables.{move_of, is_last}
-use Rattle.rx_reader.specs.TagReader.{TagState, fresh, moved, tag_move, tag_move_on, moves_on, checked, tag_step, tag_step_on, tag_on, is_closing, is_emptied, parts_of, tag_of}
+use Rattle.rx_reader.specs.TagReader.{TagState, fresh, moved, tag_move, tag_move_on, moves_on, checked, tag_step, tag_step_on, tag_on, parts_of, tag_of}
 use Rattle.rx_reader.specs.Laws.{TableIsExact, ReadsEachTag, SpellsEachTag, OneTag, OneTagFront, ReadsEachValue, DenotesEachValue}
 use Rattle.rx_terms.proofs.Bools.{by_test}
 use Rattle.rx_reader.proofs.TextComplete.{complete as text_complete}
 use Rattle.rx_reader.proofs.TextSound.{sound as text_sound}
 use Rattle.rx_reader.proofs.TagComplete.{each_read}
-use Rattle.rx_reader.proofs.Automaton.{reader_phases, begins_shape, begins_none, none_begins}
-use Rattle.rx_reader.proofs.TagSound.{moves_err, no_way, tag_read}
+use Rattle.rx_reader.proofs.Written.{moves_err, no_way, reader_phases, like}
+use Rattle.rx_reader.proofs.Automaton.{shaped, begins_shape, begins_none, none_begins}
 
 pub reads_value : ReadsEachValue
 reads_value s means text value d = text_complete s means [] d
@@ -26,25 +26,19 @@ reads_value s means text value d = text_complete s means [] d
 pub denotes_value : DenotesEachValue
 denotes_value s means text value h = text_sound s means text value h
 
+-- what is read to a tag's end is spelled so
+pub tag_read : (s : Syntax) (means : Chars → Option ℕ) (last : TagState) → is_last last.phase ≡ true → (chars : Chars) → moves_on s means (Ok fresh) chars ≡ Ok last → Reads s means chars (parts_of last)
+tag_read s means last whole chars h =
+    let t = shaped s chars (record { q = last.phase; reads = reader_phases s means chars last h; whole = whole }) in
+    let d = like s means chars t.tag last t.shape h in
+    record { written = t.tag; shape = t.shape; closing = d.closing; name = d.name; attributes = d.attributes; slash = d.slash }
+
 -- nothing is read after a tag's end
 pub last_none : (s : Syntax) (p : TagPhase) (c : ℕ) → is_last p ≡ true → move_of s p c ≡ None
 last_none s phase.Opened c h = refl
 last_none s phase.Emptied c h = refl
 last_none s phase.Closed c h = refl
-last_none s phase.Start c h = absurd (cc)
-last_none s phase.Name c h = absurd (cc)
-last_none s phase.Gap c h = absurd (cc)
-last_none s phase.Solidus c h = absurd (cc)
-last_none s phase.Key c h = absurd (cc)
-last_none s phase.AfterKey c h = absurd (cc)
-last_none s phase.BeforeValue c h = absurd (cc)
-last_none s phase.DoubleQuoted c h = absurd (cc)
-last_none s phase.SingleQuoted c h = absurd (cc)
-last_none s phase.Unquoted c h = absurd (cc)
-last_none s phase.AfterValue c h = absurd (cc)
-last_none s phase.EndStart c h = absurd (cc)
-last_none s phase.EndName c h = absurd (cc)
-last_none s phase.EndGap c h = absurd (cc)
+last_none s _ c h = absurd (cc)
 
 pub on_err : (s : Syntax) (means : Chars → Option ℕ) (kind : Kind) (text : Chars) → tag_on s means (Err kind) text ≡ Err kind
 on_err s means kind [] = refl
@@ -111,11 +105,7 @@ module _ (s : Syntax) (means : Chars → Option ℕ) where
   through [] st last n h = let e : st ≡ last = cc in record { reads = h; once = ap (λ (x : TagState). is_last x.phase && is_repeated s x.attributes) (sym e) ∙ n }
   through (c ∷ text) st last n h = by_step text (through text) c st last (tag_step s means st c) refl h
 
--- a tag by its parts
-tag_by : (a : TagState) (t : Tag) → is_closing a.phase ≡ t.closing → a.name ≡ t.name → firsts a.attributes ≡ t.attributes → is_emptied a.phase ≡ t.slash → tag_of a ≡ t
-tag_by a t c n x e = λ i. record { closing = c i; name = n i; attributes = x i; slash = e i }
-
-repeats_once : (w r : Bool) → w ≡ true → (w && r) ≡ false → r ≡ false
+pub repeats_once : (w r : Bool) → w ≡ true → (w && r) ≡ false → r ≡ false
 repeats_once true r h k = k
 repeats_once false r h k = absurd (cc)
 
@@ -124,9 +114,9 @@ reads_each s chars tag sp =
     let a = each_read s (meaning s) chars sp.parts sp.reads in
     record {
       last = a.last;
-      run = checks s (meaning s) chars fresh a.last a.whole (ap (λ x. is_repeated s x) a.attributes_are ∙ sp.unrepeated) a.reads;
+      run = checks s (meaning s) chars fresh a.last a.whole (ap (λ (x : Tag). is_repeated s x.attributes) a.parts_are ∙ sp.unrepeated) a.reads;
       whole = a.whole;
-      is_tag = tag_by a.last (record { closing = sp.parts.closing; name = sp.parts.name; attributes = firsts sp.parts.attributes; slash = sp.parts.slash }) a.closing_is a.name_is (ap firsts a.attributes_are) a.slash_is ∙ sym sp.is_tag;
+      is_tag = ap (λ (x : Tag). record x { attributes = firsts x.attributes }) a.parts_are ∙ sym sp.is_tag;
     }
 
 pub spells_each : SpellsEachTag
@@ -162,5 +152,5 @@ one_front s chars more a b x y =
 
 pub table_is_exact : TableIsExact
 table_is_exact s means front st h n =
-    let at = reader_phases s means front fresh st (through s means front fresh st refl h).reads in
+    let at = reader_phases s means front st (through s means front fresh st refl h).reads in
     record { begins = begins_shape s front st.phase at n; refused = λ c. (begins_none s front st.phase at c, none_begins s front st.phase at c) }

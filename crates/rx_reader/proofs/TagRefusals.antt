@@ -1,6 +1,7 @@
 -- Why the reader refuses a character of a tag, and that it refuses each fault.
-use Rattle.std.proofs.Common.{◌≡◌, ℕ, true, false, [], ◌∷◌, ◌++◌, Some, None, Result, Ok, Err, refl, ap, sym, ◌∙◌, append_assoc, append-nil, inl, inr, ◌⊎◌, subst}
+use Rattle.std.proofs.Common.{◌≡◌, ℕ, true, false, cond, [], ◌∷◌, ◌++◌, Some, None, Result, Ok, Err, refl, ap, sym, ◌∙◌, append_assoc, append-nil, inl, inr, ◌⊎◌, subst}
 use Rattle.std.specs.Prelude.{◌&&◌, ◌==◌}
+use Rattle.std.proofs.lemmas.Bool.{cond-true, cond-false}
 use Rattle.rx_terms.specs.Ascii.{is_white_space, solidus, equals_sign, greater_than_sign, quotation_mark, apostrophe, semicolon}
 use Rattle.rx_terms.specs.Text.{Chars}
 use Rattle.rx_chars.specs.declared.syntax.Syntax.{Syntax}
@@ -15,7 +16,7 @@ use Rattle.rx_grammar.specs.TagFaults.{ValueFault, IsInValue, DecidesValue, Begi
 use Rattle.rx_reader.specs.declared.phases.TagPhase.{TagPhase}
 use Rattle.rx_reader.specs.declared.phases.TagPhase.TheVariants as phase
 use Rattle.rx_reader.specs.declared.phases.TagAction.TheVariants as action
-use Rattle.rx_reader.specs.Tables.{Move, move_of, is_last, is_html}
+use Rattle.rx_reader.specs.Tables.{Move, go, move_of, is_last, is_html}
 use Rattle.rx_reader.specs.Values.{Value, no_value_yet, is_run, value_step, value_end, value_on}
 use Rattle.rx_reader.specs.TagReader.{TagState, fresh, with_value, with_attribute, moved, tag_move, tag_move_on, moves_on, checked, tag_step, tag_on, parts_of}
 use Rattle.rx_terms.proofs.Bools.{both, split, by_test, not_both_ways}
@@ -23,8 +24,7 @@ use Rattle.rx_reader.proofs.Classes.{of_one}
 use Rattle.rx_reader.proofs.Moves.{is_value_phase, InValue, in_value as in_value_phase}
 use Rattle.rx_reader.proofs.TextSound.{err_on}
 use Rattle.rx_reader.proofs.TagComplete.{each_read}
-use Rattle.rx_reader.proofs.TagSound.{tag_read}
-use Rattle.rx_reader.proofs.TagLaws.{moves-append, through, table_is_exact}
+use Rattle.rx_reader.proofs.TagLaws.{tag_read, moves-append, through, table_is_exact}
 use Rattle.rx_reader.proofs.ValueFaults.{snoc_front, snoc_last, Opens, After, steps_after, AtEnd, ends_after}
 use Rattle.rx_reader.proofs.ValueRefusals.{Refuses, refused}
 use Rattle.rx_reader.proofs.Written.{nothing_written, written_on, Follows, follows}
@@ -48,9 +48,8 @@ opens s text last h = opens_on s text [] no_value_yet last (λ r. absurd (cc)) h
 
 -- Outside a value's phase only HTML begins a value so.
 abbrev Valued : Syntax → TagPhase → Move → Type 0
-Valued s p None = Unit {0}
 Valued s p (Some (q, action.Value)) = (is_value_phase p ≡ true) ⊎ (is_html s ≡ true)
-Valued s p (Some (q, _)) = Unit {0}
+Valued s p _ = Unit {0}
 
 valued_moves : (s : Syntax) (p : TagPhase) (c : ℕ) → Valued s p (move_of s p c)
 valued_moves s phase.Start c = split (Valued s phase.Start) (begins_tag s c) _ _ (λ e0. tt) (λ _. (split (Valued s phase.Start) (c == solidus) _ _ (λ e1. tt) (λ _. tt)))
@@ -67,15 +66,12 @@ valued_moves s phase.AfterValue c = split (Valued s phase.AfterValue) (is_white_
 valued_moves s phase.EndStart c = split (Valued s phase.EndStart) (begins_tag s c) _ _ (λ e0. tt) (λ _. tt)
 valued_moves s phase.EndName c = split (Valued s phase.EndName) (is_white_space c) _ _ (λ e0. tt) (λ _. (split (Valued s phase.EndName) (c == greater_than_sign) _ _ (λ e1. tt) (λ _. (split (Valued s phase.EndName) (is_tag_char s c) _ _ (λ e2. tt) (λ _. tt)))))
 valued_moves s phase.EndGap c = split (Valued s phase.EndGap) (is_white_space c) _ _ (λ e0. tt) (λ _. (split (Valued s phase.EndGap) (c == greater_than_sign) _ _ (λ e1. tt) (λ _. tt)))
-valued_moves s phase.Opened c = tt
-valued_moves s phase.Emptied c = tt
-valued_moves s phase.Closed c = tt
+valued_moves s _ c = tt
 
 -- A quote or, in HTML, white space or `>` ends a value.
 abbrev Ends : Syntax → TagPhase → ℕ → Move → Type 0
-Ends s p c None = Unit {0}
 Ends s p c (Some (q, action.Add)) = (is_quote c ≡ true) ⊎ (is_unquoted_phase p ≡ true)
-Ends s p c (Some (q, _)) = Unit {0}
+Ends s p c _ = Unit {0}
 
 double_quote : (c : ℕ) → (c == quotation_mark) ≡ true → is_quote c ≡ true
 double_quote c h = rw h refl
@@ -87,20 +83,7 @@ end_moves : (s : Syntax) (p : TagPhase) (c : ℕ) → is_value_phase p ≡ true 
 end_moves s phase.DoubleQuoted c h = split (Ends s phase.DoubleQuoted c) (c == quotation_mark) _ _ (λ e. inl (double_quote c e)) (λ _. tt)
 end_moves s phase.SingleQuoted c h = split (Ends s phase.SingleQuoted c) (c == apostrophe) _ _ (λ e. inl (single_quote c e)) (λ _. tt)
 end_moves s phase.Unquoted c h = split (Ends s phase.Unquoted c) (is_white_space c) _ _ (λ _. inr refl) (λ _. split (Ends s phase.Unquoted c) (c == greater_than_sign) _ _ (λ _. inr refl) (λ _. tt))
-end_moves s phase.Start c h = absurd (cc)
-end_moves s phase.Name c h = absurd (cc)
-end_moves s phase.Gap c h = absurd (cc)
-end_moves s phase.Solidus c h = absurd (cc)
-end_moves s phase.Key c h = absurd (cc)
-end_moves s phase.AfterKey c h = absurd (cc)
-end_moves s phase.BeforeValue c h = absurd (cc)
-end_moves s phase.AfterValue c h = absurd (cc)
-end_moves s phase.EndStart c h = absurd (cc)
-end_moves s phase.EndName c h = absurd (cc)
-end_moves s phase.EndGap c h = absurd (cc)
-end_moves s phase.Opened c h = absurd (cc)
-end_moves s phase.Emptied c h = absurd (cc)
-end_moves s phase.Closed c h = absurd (cc)
+end_moves s _ c h = absurd (cc)
 
 -- why a character is refused
 pub data Why (s : Syntax) (kind : Kind) (chars : Chars) : Type 0 where
@@ -120,7 +103,7 @@ module _ (s : Syntax) (front : Chars) (st : TagState) (run : tag_on s (meaning s
   reads = let d = through s (meaning s) front fresh st refl run in d.reads
 
   written : Follows s (meaning s) (written_on s (Some nothing_written) front) st
-  written = follows s (meaning s) front nothing_written fresh st (record { phase_is = refl; value_is = refl }) reads
+  written = follows s (meaning s) front st reads
 
   module _ (f : Follows s (meaning s) (written_on s (Some nothing_written) front) st) (c : ℕ) where
     all_well : Well s front f.now
@@ -205,39 +188,17 @@ module _ (s : Syntax) (st : TagState) (c : ℕ) (kind : Kind) (r : Refuses s st.
   at_end : (q : TagPhase) → is_quote c ≡ true → checked s (with_attribute q st [] (value_end s st.value)) ≡ Err kind
   at_end q h = ap (λ o. checked s (with_attribute q st [] o)) (r.at_end h)
 
-  double_ends : (c == quotation_mark) ≡ true → move_of s phase.DoubleQuoted c ≡ Some (phase.AfterValue, action.Add)
-  double_ends h = rw h refl
-
-  double_goes : (c == quotation_mark) ≡ false → move_of s phase.DoubleQuoted c ≡ Some (phase.DoubleQuoted, action.Value)
-  double_goes h = rw h refl
-
-  single_ends : (c == apostrophe) ≡ true → move_of s phase.SingleQuoted c ≡ Some (phase.AfterValue, action.Add)
-  single_ends h = rw h refl
-
-  single_goes : (c == apostrophe) ≡ false → move_of s phase.SingleQuoted c ≡ Some (phase.SingleQuoted, action.Value)
-  single_goes h = rw h refl
+  in_quotes : (mark : ℕ) (p : TagPhase) → st.phase ≡ p → move_of s p c ≡ cond (c == mark) (go phase.AfterValue action.Add) (go p action.Value) → ((c == mark) ≡ true → is_quote c ≡ true) → tag_step s (meaning s) st c ≡ Err kind
+  in_quotes mark p e k quote = by_test (c == mark) (λ t. step_by p _ e (k ∙ cond-true _ _ _ t) (at_end phase.AfterValue (quote t))) (λ t. step_by p _ e (k ∙ cond-false _ _ _ t) (within p))
 
   unquoted_goes : c ≡ semicolon → move_of s phase.Unquoted c ≡ Some (phase.Unquoted, action.Value)
   unquoted_goes h = rw h refl
 
   by_phase : (p : TagPhase) → st.phase ≡ p → is_value_phase p ≡ true → (is_unquoted_phase p ≡ true → c ≡ semicolon) → tag_step s (meaning s) st c ≡ Err kind
-  by_phase phase.DoubleQuoted e v u = by_test (c == quotation_mark) (λ t. step_by phase.DoubleQuoted _ e (double_ends t) (at_end phase.AfterValue (double_quote c t))) (λ t. step_by phase.DoubleQuoted _ e (double_goes t) (within phase.DoubleQuoted))
-  by_phase phase.SingleQuoted e v u = by_test (c == apostrophe) (λ t. step_by phase.SingleQuoted _ e (single_ends t) (at_end phase.AfterValue (single_quote c t))) (λ t. step_by phase.SingleQuoted _ e (single_goes t) (within phase.SingleQuoted))
+  by_phase phase.DoubleQuoted e v u = in_quotes quotation_mark phase.DoubleQuoted e refl (double_quote c)
+  by_phase phase.SingleQuoted e v u = in_quotes apostrophe phase.SingleQuoted e refl (single_quote c)
   by_phase phase.Unquoted e v u = step_by phase.Unquoted _ e (unquoted_goes (u refl)) (within phase.Unquoted)
-  by_phase phase.Start e v u = absurd (cc)
-  by_phase phase.Name e v u = absurd (cc)
-  by_phase phase.Gap e v u = absurd (cc)
-  by_phase phase.Solidus e v u = absurd (cc)
-  by_phase phase.Key e v u = absurd (cc)
-  by_phase phase.AfterKey e v u = absurd (cc)
-  by_phase phase.BeforeValue e v u = absurd (cc)
-  by_phase phase.AfterValue e v u = absurd (cc)
-  by_phase phase.EndStart e v u = absurd (cc)
-  by_phase phase.EndName e v u = absurd (cc)
-  by_phase phase.EndGap e v u = absurd (cc)
-  by_phase phase.Opened e v u = absurd (cc)
-  by_phase phase.Emptied e v u = absurd (cc)
-  by_phase phase.Closed e v u = absurd (cc)
+  by_phase _ e v u = absurd (cc)
 
 -- what the grammar says of a value is refused
 module _ (s : Syntax) (front : Chars) (st : TagState) (run : tag_on s (meaning s) (Ok fresh) front ≡ Ok st) (c : ℕ) (kind : Kind) where
@@ -258,7 +219,7 @@ module _ (s : Syntax) (front : Chars) (st : TagState) (run : tag_on s (meaning s
   whole_refused parts r t =
       let a = each_read s (meaning s) (front ++ c ∷ []) parts r in
       let e : tag_move s (meaning s) st c ≡ Ok a.last = ap (λ o. tag_move_on s (meaning s) o c) (sym (reads s front st run)) ∙ (sym (moves-append s (meaning s) (Ok fresh) front (c ∷ [])) ∙ a.reads) in
-      ap (checked s) e ∙ twice_last a.last a.whole (ap (is_repeated s) a.attributes_are ∙ t)
+      ap (checked s) e ∙ twice_last a.last a.whole (ap (λ (x : Tag). is_repeated s x.attributes) a.parts_are ∙ t)
     where
       twice_last : (last : TagState) → is_last last.phase ≡ true → is_repeated s last.attributes ≡ true → checked s (Ok last) ≡ Err RepeatedAttribute
       twice_last last w t = rw (w, t) refl

@@ -13,7 +13,7 @@ use Rattle.rx_reader.specs.declared.phases.RunPhase.TheVariants as phases
 use Rattle.rx_reader.specs.declared.phases.RunMove.{RunMove}
 use Rattle.rx_reader.specs.declared.phases.RunMove.TheVariants.{Goes, Closes, Stops}
 use Rattle.rx_reader.specs.Tables.{run_move}
-use Rattle.rx_reader.specs.Values.{Value, known_as, no_meaning, plain_step, meant, stopped, run_step, value_step, run_end, value_end, value_on, end_of, value_read}
+use Rattle.rx_reader.specs.Values.{Value, known_as, no_meaning, plain_step, meant, stopped, run_step, value_step, run_end, value_end, step_on, value_on, end_of, value_read}
 use Rattle.rx_terms.proofs.Bools.{split}
 use Rattle.rx_reader.proofs.Classes.{of_one}
 use Rattle.rx_reader.proofs.Runs.{RunIs, at_ampersand, run_begun, goes_on, closes, stops}
@@ -22,6 +22,10 @@ use Rattle.rx_reader.proofs.TextComplete.{at_run, runs_is_run}
 pub err_on : (s : Syntax) (means : Chars → Option ℕ) (kind : Kind) (text : Chars) → value_on s means (Err kind) text ≡ Err kind
 err_on s means kind [] = refl
 err_on s means kind (c ∷ text) = err_on s means kind text
+
+pub value-append : (s : Syntax) (means : Chars → Option ℕ) (o : Result Value Kind) (a b : Chars) → value_on s means o (a ++ b) ≡ value_on s means (value_on s means o a) b
+value-append s means o [] b = refl
+value-append s means o (c ∷ a) b = value-append s means (step_on s means o c) a b
 
 module _ (s : Syntax) (means : Chars → Option ℕ) where
   -- what the text adds to what is known

@@ -112,21 +112,11 @@ module _ (s : Syntax) (text : Chars) (value : Value) (d : EndsInRun text value) 
     where
       stops_34 : (p : RunPhase) → run_move p 34 ≡ Stops
       stops_34 run.Plain = refl
-      stops_34 run.Ampersand = refl
-      stops_34 run.Named = refl
-      stops_34 run.Hash = refl
-      stops_34 run.Decimal = refl
-      stops_34 run.Mark = refl
-      stops_34 run.Hexadecimal = refl
+      stops_34 _ = refl
 
       stops_39 : (p : RunPhase) → run_move p 39 ≡ Stops
       stops_39 run.Plain = refl
-      stops_39 run.Ampersand = refl
-      stops_39 run.Named = refl
-      stops_39 run.Hash = refl
-      stops_39 run.Decimal = refl
-      stops_39 run.Mark = refl
-      stops_39 run.Hexadecimal = refl
+      stops_39 _ = refl
 
   end_after : (s' : Syntax) → s' ≡ s → is_quote c ≡ true → AtEnd s (text ++ c ∷ []) (run_end s' value)
   end_after Html e q = tt

@@ -18,10 +18,9 @@ use Rattle.rx_reader.specs.declared.phases.RunMove.TheVariants.{Closes, Stops}
 use Rattle.rx_reader.specs.Tables.{run_move}
 use Rattle.rx_reader.specs.Values.{Value, no_value_yet, no_meaning, plain_step, meant, is_run, run_step, value_step, run_end, value_end, value_on}
 use Rattle.rx_terms.proofs.Bools.{not_both_ways}
-use Rattle.rx_reader.proofs.Runs.{RunIs, at_ampersand, in_name, at_hash, in_decimal, at_mark, in_hexadecimal, stops_back, closes_back}
+use Rattle.rx_reader.proofs.Runs.{RunIs, at_ampersand, in_name, stops_back, closes_back}
 use Rattle.rx_reader.proofs.TextComplete.{at_run, runs_is_run, begun_run, body_begun}
-use Rattle.rx_reader.proofs.TextSound.{err_on}
-use Rattle.rx_reader.proofs.TagComplete.{value-append}
+use Rattle.rx_reader.proofs.TextSound.{err_on, value-append}
 use Rattle.rx_reader.proofs.ValueFaults.{snoc_front, snoc_last}
 
 -- a value with a run that is open
@@ -42,18 +41,13 @@ begun known value h = record { known = known; value_is = cc }
 module _ (means : Chars → Option ℕ) where
   ampersand_after : (s : Syntax) (p : RunPhase) (known text : Chars) (value : Value) → value_step s means (at_run p known text) ampersand ≡ Ok value → Begins value
   ampersand_after s run.Plain known text value h = begun known value h
-  ampersand_after Html run.Ampersand known text value h = begun (known ++ ampersand ∷ text) value h
-  ampersand_after Html run.Named known text value h = begun (known ++ ampersand ∷ text) value h
-  ampersand_after Html run.Hash known text value h = begun (known ++ ampersand ∷ text) value h
-  ampersand_after Html run.Decimal known text value h = begun (known ++ ampersand ∷ text) value h
-  ampersand_after Html run.Mark known text value h = begun (known ++ ampersand ∷ text) value h
-  ampersand_after Html run.Hexadecimal known text value h = begun (known ++ ampersand ∷ text) value h
   ampersand_after Xhtml run.Ampersand known text value h = absurd (cc)
   ampersand_after Xhtml run.Named known text value h = absurd (cc)
   ampersand_after Xhtml run.Hash known text value h = absurd (cc)
   ampersand_after Xhtml run.Decimal known text value h = absurd (cc)
   ampersand_after Xhtml run.Mark known text value h = absurd (cc)
   ampersand_after Xhtml run.Hexadecimal known text value h = absurd (cc)
+  ampersand_after Html _ known text value h = begun (known ++ ampersand ∷ text) value h
 
   run_after : (s : Syntax) (text : Chars) (before value : Value) → is_begun text ≡ true → Begins before → value_on s means (Ok before) text ≡ Ok value → IsOpen text value
   run_after s text before value b d h =
@@ -82,18 +76,12 @@ name_body (c ∷ text) h = rw h refl
 named_kind : {p : RunPhase} {text : Chars} → RunIs p text → is_name text ≡ true → no_meaning p ≡ UnknownReference
 named_kind at_ampersand h = absurd (cc)
 named_kind (in_name c text a b) h = refl
-named_kind at_hash h = absurd (cc)
-named_kind (in_decimal c text a b) h = absurd (cc)
-named_kind (at_mark x a) h = absurd (cc)
-named_kind (in_hexadecimal x c text a b k) h = absurd (cc)
+named_kind _ h = absurd (cc)
 
 other_kind : {p : RunPhase} {text : Chars} → RunIs p text → is_name text ≡ false → no_meaning p ≡ BadReference
 other_kind at_ampersand h = refl
 other_kind (in_name c text a b) h = absurd (not_both_ways (is_letter c && list_all is_letter_or_digit text) (rw (a, b) refl) h)
-other_kind at_hash h = refl
-other_kind (in_decimal c text a b) h = refl
-other_kind (at_mark x a) h = refl
-other_kind (in_hexadecimal x c text a b k) h = refl
+other_kind _ h = refl
 
 -- the character is refused, within the value or as the quote that ends it
 pub record Refuses (s : Syntax) (value : Value) (c : ℕ) (kind : Kind) : Type 0 where
@@ -120,12 +108,7 @@ stopped_strict text value c d h =
 
 less_than_strict : (p : RunPhase) (known text : Chars) → value_step Xhtml (meaning Xhtml) (at_run p known text) less_than_sign ≡ Err StrictText
 less_than_strict run.Plain known text = refl
-less_than_strict run.Ampersand known text = refl
-less_than_strict run.Named known text = refl
-less_than_strict run.Hash known text = refl
-less_than_strict run.Decimal known text = refl
-less_than_strict run.Mark known text = refl
-less_than_strict run.Hexadecimal known text = refl
+less_than_strict _ known text = refl
 
 module _ (s : Syntax) (text : Chars) (value : Value) (c : ℕ) (read : value_on s (meaning s) (Ok no_value_yet) text ≡ Ok value) where
   opened : (front run : Chars) (d : ℕ) → front ++ ampersand ∷ (run ++ d ∷ []) ≡ text ++ c ∷ [] → is_begun run ≡ true → IsOpen run value

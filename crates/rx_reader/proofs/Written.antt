@@ -1,50 +1,51 @@
--- A tag's attributes as they are written, read one character at a time.
-use Rattle.std.proofs.Common.{◌≡◌, ℕ, true, false, List, [], ◌∷◌, ◌++◌, Option, Some, None, Result, Ok, Err, refl, ap, sym, ◌∙◌, append_assoc, append-nil, inl, inr, subst}
-use Rattle.std.specs.Prelude.{◌||◌, ◌==◌}
+-- A tag as it is written, read one character at a time: between the grammar's shapes, the table's phases and the reader.
+use Rattle.std.proofs.Common.{◌≡◌, ℕ, true, false, List, [], ◌∷◌, ◌++◌, Option, Some, None, Result, Ok, Err, refl, ap, sym, ◌∙◌, append_assoc, append-nil, subst}
 use Rattle.std.specs.List.{list_all}
+use Rattle.std.proofs.lemmas.List.{map-append}
 use Rattle.rx_terms.specs.Ascii.{is_white_space, solidus, greater_than_sign}
 use Rattle.rx_terms.specs.Text.{Chars}
 use Rattle.rx_chars.specs.declared.syntax.Syntax.{Syntax}
 use Rattle.rx_chars.specs.declared.syntax.Syntax.TheVariants.{Html, Xhtml}
 use Rattle.rx_grammar.specs.declared.faults.Kind.{Kind}
+use Rattle.rx_grammar.specs.References.{Denotes}
 use Rattle.rx_grammar.specs.Tokens.{Attribute, Tag}
 use Rattle.rx_grammar.specs.Shapes.{ends_name, begins, begins_tag, is_tag_char, Shape, a_start, an_end}
+use Rattle.rx_grammar.specs.Tags.{cased_char, cased, AreRead}
 use Rattle.rx_reader.specs.declared.phases.TagPhase.{TagPhase}
 use Rattle.rx_reader.specs.declared.phases.TagPhase.TheVariants as phase
 use Rattle.rx_reader.specs.declared.phases.TagAction.TheVariants as action
 use Rattle.rx_reader.specs.Tables.{Move, move_of, is_last}
-use Rattle.rx_reader.specs.Cuts.{cut_end, cut_by, cut_from}
-use Rattle.rx_reader.specs.Values.{Value, no_value_yet, value_step, value_end, step_on, value_on}
-use Rattle.rx_reader.specs.TagReader.{TagState, with_value, with_attribute, moved, tag_move, moves_on}
-use Rattle.rx_terms.proofs.Bools.{both, either}
-use Rattle.rx_reader.proofs.Classes.{of_white, of_one, tag_char_named}
+use Rattle.rx_reader.specs.Cuts.{cut_by, cut_from}
+use Rattle.rx_reader.specs.Values.{Value, no_value_yet, value_step, value_end, step_on, value_on, end_of}
+use Rattle.rx_reader.specs.TagReader.{TagState, fresh, with_value, with_attribute, moved, tag_move, moves_on, is_closing, is_emptied}
+use Rattle.rx_terms.proofs.Bools.{both}
+use Rattle.rx_reader.proofs.Classes.{of_end, tag_char_named}
 use Rattle.rx_reader.proofs.Sound.{Result as Ended, added}
 use Rattle.rx_reader.proofs.Complete.{complete}
-use Rattle.rx_reader.proofs.TagComplete.{value-append}
-use Rattle.rx_reader.proofs.TagSound.{no_way}
-use Rattle.rx_reader.proofs.Automaton.{phase_by, phases_on}
+use Rattle.rx_reader.proofs.TextSound.{sound as text_sound, value-append}
 
--- the attributes that are whole, and the name and the value of the one that is read
+-- the tag's name, the attributes that are whole, and the name and the value of the one that is read
 pub record Written : Type 0 where
   pub phase : TagPhase
+  pub name : Chars
   pub attributes : List Attribute
   pub key : Chars
   pub value : Chars
 
-abbrev pub at : TagPhase → List Attribute → Chars → Chars → Written
-at p attributes key value = record { phase = p; attributes = attributes; key = key; value = value }
+abbrev pub at : TagPhase → Chars → List Attribute → Chars → Chars → Written
+at p name attributes key value = record { phase = p; name = name; attributes = attributes; key = key; value = value }
 
 abbrev pub nothing_written : Written
-nothing_written = at phase.Start [] [] []
+nothing_written = at phase.Start [] [] [] []
 
 abbrev pub written_by : Written → ℕ → Move → Option Written
 written_by w c None = None
-written_by w c (Some (p, action.Skip)) = Some (at p w.attributes w.key w.value)
-written_by w c (Some (p, action.Name)) = Some (at p w.attributes w.key w.value)
-written_by w c (Some (p, action.Key)) = Some (at p w.attributes (w.key ++ c ∷ []) w.value)
-written_by w c (Some (p, action.Value)) = Some (at p w.attributes w.key (w.value ++ c ∷ []))
-written_by w c (Some (p, action.Add)) = Some (at p (w.attributes ++ (w.key, w.value) ∷ []) [] [])
-written_by w c (Some (p, action.AddKey)) = Some (at p (w.attributes ++ (w.key, w.value) ∷ []) (c ∷ []) [])
+written_by w c (Some (p, action.Skip)) = Some (at p w.name w.attributes w.key w.value)
+written_by w c (Some (p, action.Name)) = Some (at p (w.name ++ c ∷ []) w.attributes w.key w.value)
+written_by w c (Some (p, action.Key)) = Some (at p w.name w.attributes (w.key ++ c ∷ []) w.value)
+written_by w c (Some (p, action.Value)) = Some (at p w.name w.attributes w.key (w.value ++ c ∷ []))
+written_by w c (Some (p, action.Add)) = Some (at p w.name (w.attributes ++ (w.key, w.value) ∷ []) [] [])
+written_by w c (Some (p, action.AddKey)) = Some (at p w.name (w.attributes ++ (w.key, w.value) ∷ []) (c ∷ []) [])
 
 abbrev pub written_step : Syntax → Option Written → ℕ → Option Written
 written_step s None c = None
@@ -66,143 +67,144 @@ pub as_written : (v w : Written) → ◌≡◌ {A = Option Written} (Some v) (So
 as_written v w h = cc
 
 -- the phases are the table's
-phase_of : (w : Written) (c : ℕ) (m : Move) (v : Written) → written_by w c m ≡ Some v → phase_by m ≡ Some v.phase
-phase_of w c None v h = absurd (cc)
-phase_of w c (Some (p, action.Skip)) v h = let e : at p w.attributes w.key w.value ≡ v = cc in ap (λ x. Some x.phase) e
-phase_of w c (Some (p, action.Name)) v h = let e : at p w.attributes w.key w.value ≡ v = cc in ap (λ x. Some x.phase) e
-phase_of w c (Some (p, action.Key)) v h = let e : at p w.attributes (w.key ++ c ∷ []) w.value ≡ v = cc in ap (λ x. Some x.phase) e
-phase_of w c (Some (p, action.Value)) v h = let e : at p w.attributes w.key (w.value ++ c ∷ []) ≡ v = cc in ap (λ x. Some x.phase) e
-phase_of w c (Some (p, action.Add)) v h = let e : at p (w.attributes ++ (w.key, w.value) ∷ []) [] [] ≡ v = cc in ap (λ x. Some x.phase) e
-phase_of w c (Some (p, action.AddKey)) v h = let e : at p (w.attributes ++ (w.key, w.value) ∷ []) (c ∷ []) [] ≡ v = cc in ap (λ x. Some x.phase) e
+abbrev pub phase_by : Move → Option TagPhase
+phase_by None = None
+phase_by (Some m) = Some m.0
 
-phases_by : (s : Syntax) (text : Chars) (ih : (w last : Written) → written_on s (Some w) text ≡ Some last → phases_on s (Some w.phase) text ≡ Some last.phase) (w last : Written) (c : ℕ) (o : Option Written)
-    → written_by w c (move_of s w.phase c) ≡ o → written_on s o text ≡ Some last → phases_on s (phase_by (move_of s w.phase c)) text ≡ Some last.phase
-phases_by s text ih w last c None e h = absurd (let k = written_none s text in cc)
-phases_by s text ih w last c (Some v) e h = ap (λ o. phases_on s o text) (phase_of w c (move_of s w.phase c) v e) ∙ ih v last h
+abbrev pub phase_on : Syntax → Option TagPhase → ℕ → Option TagPhase
+phase_on s None c = None
+phase_on s (Some p) c = phase_by (move_of s p c)
+
+abbrev pub phases_on : Syntax → Option TagPhase → Chars → Option TagPhase
+phases_on s o [] = o
+phases_on s o (c ∷ text) = phases_on s (phase_on s o c) text
+
+phases_by : (s : Syntax) (text : Chars) (ih : (w last : Written) → written_on s (Some w) text ≡ Some last → phases_on s (Some w.phase) text ≡ Some last.phase) (w last : Written) (c : ℕ) (m : Move)
+    → written_on s (written_by w c m) text ≡ Some last → phases_on s (phase_by m) text ≡ Some last.phase
+phases_by s text ih w last c None h = absurd (let k = written_none s text in cc)
+phases_by s text ih w last c (Some (p, action.Skip)) h = ih (at p w.name w.attributes w.key w.value) last h
+phases_by s text ih w last c (Some (p, _)) h = let k = ih _ last h in k
 
 pub written_phases : (s : Syntax) (text : Chars) (w last : Written) → written_on s (Some w) text ≡ Some last → phases_on s (Some w.phase) text ≡ Some last.phase
-written_phases s [] w last h = let e : w ≡ last = cc in ap (λ x. Some x.phase) e
-written_phases s (c ∷ text) w last h = phases_by s text (written_phases s text) w last c (written_by w c (move_of s w.phase c)) refl h
+written_phases s [] w last h = ap (λ x. Some x.phase) (as_written w last h)
+written_phases s (c ∷ text) w last h = phases_by s text (written_phases s text) w last c (move_of s w.phase c) h
 
--- each shape is read with its attributes
-pub record Arrives (s : Syntax) (from : Written) (text : Chars) (attributes : List Attribute) : Type 0 where
+-- each shape is read as it is written
+abbrev pub written_tag : Written → Tag
+written_tag w = record { closing = is_closing w.phase; name = w.name; attributes = w.attributes; slash = is_emptied w.phase }
+
+pub record Arrives (s : Syntax) (from : Written) (text : Chars) (tag : Tag) : Type 0 where
   pub last : Written
   pub reads : written_on s (Some from) text ≡ Some last
   pub whole : is_last last.phase ≡ true
-  pub attributes_are : last.attributes ≡ attributes
-
-cut_nothing : (p : TagPhase) (r : Ended) → cut_end p ≡ Some r → (is_last p ≡ true) × (r.0 ≡ [])
-cut_nothing phase.Opened r h = let e : ([], false) ≡ r = cc in (refl, ap (λ x. x.0) (sym e))
-cut_nothing phase.Emptied r h = let e : ([], true) ≡ r = cc in (refl, ap (λ x. x.0) (sym e))
-cut_nothing phase.Start r h = absurd (cc)
-cut_nothing phase.Name r h = absurd (cc)
-cut_nothing phase.Gap r h = absurd (cc)
-cut_nothing phase.Solidus r h = absurd (cc)
-cut_nothing phase.Key r h = absurd (cc)
-cut_nothing phase.AfterKey r h = absurd (cc)
-cut_nothing phase.BeforeValue r h = absurd (cc)
-cut_nothing phase.DoubleQuoted r h = absurd (cc)
-cut_nothing phase.SingleQuoted r h = absurd (cc)
-cut_nothing phase.Unquoted r h = absurd (cc)
-cut_nothing phase.AfterValue r h = absurd (cc)
-cut_nothing phase.EndStart r h = absurd (cc)
-cut_nothing phase.EndName r h = absurd (cc)
-cut_nothing phase.EndGap r h = absurd (cc)
-cut_nothing phase.Closed r h = absurd (cc)
+  pub tag_is : written_tag last ≡ tag
 
 module _ (s : Syntax) where
+  step_to : (from to : Written) (c : ℕ) (text : Chars) (tag : Tag) → written_step s (Some from) c ≡ Some to → Arrives s to text tag → Arrives s from (c ∷ text) tag
+  step_to from to c text tag e d = record { last = d.last; reads = ap (λ o. written_on s o text) e ∙ d.reads; whole = d.whole; tag_is = d.tag_is }
+
+  abbrev start_tag : Chars → List Attribute → Ended → Tag
+  start_tag name attributes r = record { closing = false; name = name; attributes = attributes ++ r.0; slash = r.1 }
+
   abbrev FromCut : Chars → Type 0
-  FromCut text = (p : TagPhase) (attributes : List Attribute) (key value : Chars) (r : Ended) → cut_from s text p key value ≡ Some r → Arrives s (at p attributes key value) text (attributes ++ r.0)
+  FromCut text = (p : TagPhase) (name : Chars) (attributes : List Attribute) (key value : Chars) (r : Ended) → cut_from s text p key value ≡ Some r → Arrives s (at p name attributes key value) text (start_tag name attributes r)
+
+  at_end : FromCut []
+  at_end phase.Opened name attributes key value r h =
+      let e : ([], false) ≡ r = cc in
+      record { last = at phase.Opened name attributes key value; reads = refl; whole = refl; tag_is = ap (λ x. record { closing = false; name = name; attributes = x; slash = false }) (sym (append-nil attributes)) ∙ ap (start_tag name attributes) e }
+  at_end phase.Emptied name attributes key value r h =
+      let e : ([], true) ≡ r = cc in
+      record { last = at phase.Emptied name attributes key value; reads = refl; whole = refl; tag_is = ap (λ x. record { closing = false; name = name; attributes = x; slash = true }) (sym (append-nil attributes)) ∙ ap (start_tag name attributes) e }
+  at_end _ name attributes key value r h = absurd (cc)
 
   -- one attribute more, and those that follow
-  more : (text : Chars) (from : Written) (attributes others all : List Attribute) (a : Attribute) → a ∷ others ≡ all → Arrives s from text ((attributes ++ a ∷ []) ++ others) → Arrives s from text (attributes ++ all)
-  more text from attributes others all a e d = record { last = d.last; reads = d.reads; whole = d.whole; attributes_are = d.attributes_are ∙ append_assoc attributes (a ∷ []) others ∙ ap (λ x. attributes ++ x) e }
+  more : (text : Chars) (from : Written) (name : Chars) (attributes : List Attribute) (a : Attribute) (rest r : Ended) → a ∷ rest.0 ≡ r.0 → rest.1 ≡ r.1 → Arrives s from text (start_tag name (attributes ++ a ∷ []) rest) → Arrives s from text (start_tag name attributes r)
+  more text from name attributes a rest r e f d =
+      subst (Arrives s from text) (λ i. record { closing = false; name = name; attributes = (append_assoc attributes (a ∷ []) rest.0 ∙ ap (λ x. attributes ++ x) e) i; slash = f i }) d
 
-  arrives_by : (text : Chars) → FromCut text → (p : TagPhase) (attributes : List Attribute) (key value : Chars) (c : ℕ) (r : Ended) (m : Move) → move_of s p c ≡ m → cut_by (cut_from s text) key value c m ≡ Some r
-      → Arrives s (at p attributes key value) (c ∷ text) (attributes ++ r.0)
-  arrives_by text ih p attributes key value c r None e h = absurd (cc)
-  arrives_by text ih p attributes key value c r (Some (q, action.Skip)) e h = let d = ih q attributes key value r h in record { last = d.last; reads = ap (λ m. written_on s (written_by (at p attributes key value) c m) text) e ∙ d.reads; whole = d.whole; attributes_are = d.attributes_are }
-  arrives_by text ih p attributes key value c r (Some (q, action.Name)) e h = absurd (cc)
-  arrives_by text ih p attributes key value c r (Some (q, action.Key)) e h = let d = ih q attributes (key ++ c ∷ []) value r h in record { last = d.last; reads = ap (λ m. written_on s (written_by (at p attributes key value) c m) text) e ∙ d.reads; whole = d.whole; attributes_are = d.attributes_are }
-  arrives_by text ih p attributes key value c r (Some (q, action.Value)) e h = let d = ih q attributes key (value ++ c ∷ []) r h in record { last = d.last; reads = ap (λ m. written_on s (written_by (at p attributes key value) c m) text) e ∙ d.reads; whole = d.whole; attributes_are = d.attributes_are }
-  arrives_by text ih p attributes key value c r (Some (q, action.Add)) e h =
+  from_move : (text : Chars) → FromCut text → (p : TagPhase) (name : Chars) (attributes : List Attribute) (key value : Chars) (c : ℕ) (r : Ended) (m : Move) → move_of s p c ≡ m → cut_by (cut_from s text) key value c m ≡ Some r
+      → Arrives s (at p name attributes key value) (c ∷ text) (start_tag name attributes r)
+  from_move text ih p name attributes key value c r (Some (q, action.Skip)) e h = step_to _ _ c text _ (ap (written_by (at p name attributes key value) c) e) (ih q name attributes key value r h)
+  from_move text ih p name attributes key value c r (Some (q, action.Key)) e h = step_to _ _ c text _ (ap (written_by (at p name attributes key value) c) e) (ih q name attributes (key ++ c ∷ []) value r h)
+  from_move text ih p name attributes key value c r (Some (q, action.Value)) e h = step_to _ _ c text _ (ap (written_by (at p name attributes key value) c) e) (ih q name attributes key (value ++ c ∷ []) r h)
+  from_move text ih p name attributes key value c r (Some (q, action.Add)) e h =
       let a = added (key, value) (cut_from s text q [] []) r h in
-      let d = more text (at q (attributes ++ (key, value) ∷ []) [] []) attributes a.rest.0 r.0 (key, value) a.first (ih q (attributes ++ (key, value) ∷ []) [] [] a.rest a.from) in
-      record { last = d.last; reads = ap (λ m. written_on s (written_by (at p attributes key value) c m) text) e ∙ d.reads; whole = d.whole; attributes_are = d.attributes_are }
-  arrives_by text ih p attributes key value c r (Some (q, action.AddKey)) e h =
+      step_to _ _ c text _ (ap (written_by (at p name attributes key value) c) e) (more text _ name attributes (key, value) a.rest r a.first a.slash (ih q name (attributes ++ (key, value) ∷ []) [] [] a.rest a.from))
+  from_move text ih p name attributes key value c r (Some (q, action.AddKey)) e h =
       let a = added (key, value) (cut_from s text q (c ∷ []) []) r h in
-      let d = more text (at q (attributes ++ (key, value) ∷ []) (c ∷ []) []) attributes a.rest.0 r.0 (key, value) a.first (ih q (attributes ++ (key, value) ∷ []) (c ∷ []) [] a.rest a.from) in
-      record { last = d.last; reads = ap (λ m. written_on s (written_by (at p attributes key value) c m) text) e ∙ d.reads; whole = d.whole; attributes_are = d.attributes_are }
+      step_to _ _ c text _ (ap (written_by (at p name attributes key value) c) e) (more text _ name attributes (key, value) a.rest r a.first a.slash (ih q name (attributes ++ (key, value) ∷ []) (c ∷ []) [] a.rest a.from))
+  from_move text ih p name attributes key value c r _ e h = absurd (cc)
 
   from_cut : (text : Chars) → FromCut text
-  from_cut [] p attributes key value r h = let n = cut_nothing p r h in record { last = at p attributes key value; reads = refl; whole = n.0; attributes_are = sym (append-nil attributes) ∙ ap (λ x. attributes ++ x) (sym n.1) }
-  from_cut (c ∷ text) p attributes key value r h = arrives_by text (from_cut text) p attributes key value c r (move_of s p c) refl h
+  from_cut [] p name attributes key value r h = at_end p name attributes key value r h
+  from_cut (c ∷ text) p name attributes key value r h = from_move text (from_cut text) p name attributes key value c r (move_of s p c) refl h
 
   -- names
-  abbrev named : TagPhase → Option Written
-  named p = Some (at p [] [] [])
+  abbrev named : TagPhase → Chars → Option Written
+  named p name = Some (at p name [] [] [])
 
-  name_goes : (c : ℕ) → is_tag_char s c ≡ true → written_step s (named phase.Name) c ≡ named phase.Name
-  name_goes c h = let n = tag_char_named s c h in rw (n.white, n.slash, n.greater, h) refl
+  abbrev Goes : TagPhase → Type 0
+  Goes p = (c : ℕ) (name : Chars) → is_tag_char s c ≡ true → written_step s (named p name) c ≡ named p (name ++ c ∷ [])
 
-  end_goes : (c : ℕ) → is_tag_char s c ≡ true → written_step s (named phase.EndName) c ≡ named phase.EndName
-  end_goes c h = let n = tag_char_named s c h in rw (n.white, n.greater, h) refl
+  name_goes : Goes phase.Name
+  name_goes c name h = let n = tag_char_named s c h in rw (n.white, n.slash, n.greater, h) refl
 
-  name_on : (more text : Chars) → list_all (is_tag_char s) more ≡ true → written_on s (named phase.Name) (more ++ text) ≡ written_on s (named phase.Name) text
-  name_on [] text h = refl
-  name_on (c ∷ more) text h = let b = both (is_tag_char s c) _ h in ap (λ o. written_on s o (more ++ text)) (name_goes c b.0) ∙ name_on more text b.1
+  end_goes : Goes phase.EndName
+  end_goes c name h = let n = tag_char_named s c h in rw (n.white, n.greater, h) refl
 
-  end_on : (more text : Chars) → list_all (is_tag_char s) more ≡ true → written_on s (named phase.EndName) (more ++ text) ≡ written_on s (named phase.EndName) text
-  end_on [] text h = refl
-  end_on (c ∷ more) text h = let b = both (is_tag_char s c) _ h in ap (λ o. written_on s o (more ++ text)) (end_goes c b.0) ∙ end_on more text b.1
+  name_on : (p : TagPhase) → Goes p → (more text name : Chars) → list_all (is_tag_char s) more ≡ true → written_on s (named p name) (more ++ text) ≡ written_on s (named p (name ++ more)) text
+  name_on p goes [] text name h = ap (λ x. written_on s (named p x) text) (sym (append-nil name))
+  name_on p goes (c ∷ more) text name h =
+      let b = both (is_tag_char s c) _ h in
+      ap (λ o. written_on s o (more ++ text)) (goes c name b.0) ∙ (name_on p goes more text (name ++ c ∷ []) b.1 ∙ ap (λ x. written_on s (named p x) text) (append_assoc name (c ∷ []) more))
 
-  start_goes : (c : ℕ) → begins_tag s c ≡ true → written_step s (named phase.Start) c ≡ named phase.Name
+  start_goes : (c : ℕ) → begins_tag s c ≡ true → written_step s (named phase.Start []) c ≡ named phase.Name (c ∷ [])
   start_goes c h = rw h refl
 
-  end_start_goes : (c : ℕ) → begins_tag s c ≡ true → written_step s (named phase.EndStart) c ≡ named phase.EndName
+  end_start_goes : (c : ℕ) → begins_tag s c ≡ true → written_step s (named phase.EndStart []) c ≡ named phase.EndName (c ∷ [])
   end_start_goes c h = rw h refl
 
-  white_goes : (c : ℕ) → is_white_space c ≡ true → written_step s (named phase.EndName) c ≡ named phase.EndGap
-  white_goes c h = rw h refl
+  white_goes : (c : ℕ) (name : Chars) → is_white_space c ≡ true → written_step s (named phase.EndName name) c ≡ named phase.EndGap name
+  white_goes c name h = rw h refl
 
-  gap_goes : (c : ℕ) → is_white_space c ≡ true → written_step s (named phase.EndGap) c ≡ named phase.EndGap
-  gap_goes c h = rw h refl
+  gap_goes : (c : ℕ) (name : Chars) → is_white_space c ≡ true → written_step s (named phase.EndGap name) c ≡ named phase.EndGap name
+  gap_goes c name h = rw h refl
 
-  gap_on : (white : Chars) → list_all is_white_space white ≡ true → written_on s (named phase.EndGap) (white ++ greater_than_sign ∷ []) ≡ named phase.Closed
-  gap_on [] h = refl
-  gap_on (c ∷ white) h = let b = both (is_white_space c) _ h in ap (λ o. written_on s o (white ++ greater_than_sign ∷ [])) (gap_goes c b.0) ∙ gap_on white b.1
+  gap_on : (white name : Chars) → list_all is_white_space white ≡ true → written_on s (named phase.EndGap name) (white ++ greater_than_sign ∷ []) ≡ named phase.Closed name
+  gap_on [] name h = refl
+  gap_on (c ∷ white) name h = let b = both (is_white_space c) _ h in ap (λ o. written_on s o (white ++ greater_than_sign ∷ [])) (gap_goes c name b.0) ∙ gap_on white name b.1
 
-  white_on : (white : Chars) → list_all is_white_space white ≡ true → written_on s (named phase.EndName) (white ++ greater_than_sign ∷ []) ≡ named phase.Closed
-  white_on [] h = refl
-  white_on (c ∷ white) h = let b = both (is_white_space c) _ h in ap (λ o. written_on s o (white ++ greater_than_sign ∷ [])) (white_goes c b.0) ∙ gap_on white b.1
+  white_on : (white name : Chars) → list_all is_white_space white ≡ true → written_on s (named phase.EndName name) (white ++ greater_than_sign ∷ []) ≡ named phase.Closed name
+  white_on [] name h = refl
+  white_on (c ∷ white) name h = let b = both (is_white_space c) _ h in ap (λ o. written_on s o (white ++ greater_than_sign ∷ [])) (white_goes c name b.0) ∙ gap_on white name b.1
 
-  after_name : (text : Chars) → begins ends_name text ≡ true → written_on s (named phase.Name) text ≡ written_on s (named phase.AfterValue) text
-  after_name [] h = absurd (cc)
-  after_name (c ∷ text) h =
-      let P : ℕ → Type 0 = λ x. written_on s (named phase.Name) (x ∷ text) ≡ written_on s (named phase.AfterValue) (x ∷ text) in
-      elim (either (is_white_space c || c == solidus) _ h) [
-        | inr e ↦ of_one P c greater_than_sign e refl
-        | inl e ↦ elim (either (is_white_space c) _ e) [ inr e ↦ of_one P c solidus e refl | inl e ↦ of_white P c e refl refl refl refl refl ]
-      ]
+  after_name : (text name : Chars) → begins ends_name text ≡ true → written_on s (named phase.Name name) text ≡ written_on s (named phase.AfterValue name) text
+  after_name [] name h = absurd (cc)
+  after_name (c ∷ text) name h = of_end (λ x. written_on s (named phase.Name name) (x ∷ text) ≡ written_on s (named phase.AfterValue name) (x ∷ text)) c h refl refl refl refl refl refl refl
 
-slash_goes : (s : Syntax) → written_step s (Some nothing_written) solidus ≡ Some (at phase.EndStart [] [] [])
+slash_goes : (s : Syntax) → written_step s (Some nothing_written) solidus ≡ Some (at phase.EndStart [] [] [] [])
 slash_goes Html = refl
 slash_goes Xhtml = refl
 
-pub shape_written : (s : Syntax) (text : Chars) (t : Tag) → Shape s text t → Arrives s nothing_written text t.attributes
-shape_written s text t (a_start [] rest n b k) = absurd (cc)
-shape_written s text t (a_start (c ∷ name) rest {attributes = x} {slash = y} n b k) =
+pub shape_written : (s : Syntax) (text : Chars) (tag : Tag) → Shape s text tag → Arrives s nothing_written text tag
+shape_written s text tag (a_start (c ∷ name) rest {attributes = x} {slash = y} n b k) =
     let d = both (begins_tag s c) _ n in
-    let w = from_cut s rest phase.AfterValue [] [] [] (x, y) (complete s k) in
-    record { last = w.last; reads = ap (λ o. written_on s o (name ++ rest)) (start_goes s c d.0) ∙ (name_on s name rest d.1 ∙ (after_name s rest b ∙ w.reads)); whole = w.whole; attributes_are = w.attributes_are }
-shape_written s text t (an_end [] spaces n b) = absurd (cc)
-shape_written s text t (an_end (c ∷ name) spaces n b) =
+    let w = from_cut s rest phase.AfterValue (c ∷ name) [] [] [] (x, y) (complete s k) in
+    record { last = w.last; reads = ap (λ o. written_on s o (name ++ rest)) (start_goes s c d.0) ∙ (name_on s phase.Name (name_goes s) name rest (c ∷ []) d.1 ∙ (after_name s rest (c ∷ name) b ∙ w.reads)); whole = w.whole; tag_is = w.tag_is }
+shape_written s text tag (an_end (c ∷ name) spaces n b) =
     let d = both (begins_tag s c) _ n in
-    record { last = at phase.Closed [] [] []; reads = ap (λ o. written_on s o ((c ∷ name) ++ (spaces ++ greater_than_sign ∷ []))) (slash_goes s) ∙ (ap (λ o. written_on s o (name ++ (spaces ++ greater_than_sign ∷ []))) (end_start_goes s c d.0) ∙ (end_on s name (spaces ++ greater_than_sign ∷ []) d.1 ∙ white_on s spaces b)); whole = refl; attributes_are = refl }
+    let end : Chars = spaces ++ greater_than_sign ∷ [] in
+    record { last = at phase.Closed (c ∷ name) [] [] []; reads = ap (λ o. written_on s o (c ∷ (name ++ end))) (slash_goes s) ∙ (ap (λ o. written_on s o (name ++ end)) (end_start_goes s c d.0) ∙ (name_on s phase.EndName (end_goes s) name end (c ∷ []) d.1 ∙ white_on s spaces (c ∷ name) b)); whole = refl; tag_is = refl }
+shape_written s text tag (a_start [] rest n b k) = absurd (cc)
+shape_written s text tag (an_end [] spaces n b) = absurd (cc)
 
--- the reader has read the value that is written
+-- the reader has read what is written
 pub record Matches (s : Syntax) (means : Chars → Option ℕ) (w : Written) (st : TagState) : Type 0 where
   pub phase_is : w.phase ≡ st.phase
+  pub name_is : st.name ≡ cased s w.name
+  pub attributes_are : AreRead s means w.attributes st.attributes
+  pub key_is : st.key ≡ cased s w.key
   pub value_is : value_on s means (Ok no_value_yet) w.value ≡ Ok st.value
 
 pub record Follows (s : Syntax) (means : Chars → Option ℕ) (o : Option Written) (st : TagState) : Type 0 where
@@ -210,33 +212,48 @@ pub record Follows (s : Syntax) (means : Chars → Option ℕ) (o : Option Writt
   pub is : o ≡ Some now
   pub matches : Matches s means now st
 
+pub moves_err : (s : Syntax) (means : Chars → Option ℕ) (kind : Kind) (text : Chars) → moves_on s means (Err kind) text ≡ Err kind
+moves_err s means kind [] = refl
+moves_err s means kind (c ∷ text) = moves_err s means kind text
+
+pub no_way : (s : Syntax) (means : Chars → Option ℕ) (kind : Kind) (text : Chars) (last : TagState) (G : Type 0) → moves_on s means (Err kind) text ≡ Ok last → G
+no_way s means kind text last G h = absurd (let e = moves_err s means kind text in cc)
+
 module _ (s : Syntax) (means : Chars → Option ℕ) where
   same_state : (a b : TagState) → ◌≡◌ {A = Result TagState Kind} (Ok a) (Ok b) → a ≡ b
   same_state a b h = cc
 
-  with_value_follows : (w : Written) (st st2 : TagState) (c : ℕ) (p : TagPhase) → Matches s means w st → (o : Result Value Kind) → value_step s means st.value c ≡ o → with_value p st o ≡ Ok st2
-      → Follows s means (Some (at p w.attributes w.key (w.value ++ c ∷ []))) st2
-  with_value_follows w st st2 c p m (Err kind) e h = absurd (cc)
-  with_value_follows w st st2 c p m (Ok v) e h = record {
-    now = at p w.attributes w.key (w.value ++ c ∷ []);
-    is = refl;
-    matches = subst (Matches s means (at p w.attributes w.key (w.value ++ c ∷ []))) (same_state _ st2 h)
-        (record { phase_is = refl; value_is = value-append s means (Ok no_value_yet) w.value (c ∷ []) ∙ (ap (λ x. step_on s means x c) m.value_is ∙ e) });
-  }
+  so : (w : Written) (st st2 : TagState) → ◌≡◌ {A = Result TagState Kind} (Ok st) (Ok st2) → Matches s means w st → Follows s means (Some w) st2
+  so w st st2 h m = record { now = w; is = refl; matches = subst (Matches s means w) (same_state st st2 h) m }
 
-  with_attribute_follows : (w : Written) (st st2 : TagState) (key next : Chars) (p : TagPhase) → (o : Result Chars Kind) → with_attribute p st key o ≡ Ok st2 → (attributes : List Attribute) → Follows s means (Some (at p attributes next [])) st2
-  with_attribute_follows w st st2 key next p (Err kind) h attributes = absurd (cc)
-  with_attribute_follows w st st2 key next p (Ok v) h attributes =
-      record { now = at p attributes next []; is = refl; matches = subst (Matches s means (at p attributes next [])) (same_state _ st2 h) (record { phase_is = refl; value_is = refl }) }
+  cased_on : (a b : Chars) (c : ℕ) → a ≡ cased s b → a ++ cased_char s c ∷ [] ≡ cased s (b ++ c ∷ [])
+  cased_on a b c e = ap (λ x. x ++ cased_char s c ∷ []) e ∙ sym (map-append (cased_char s) b (c ∷ []))
 
-  follows_by : (w : Written) (st st2 : TagState) (c : ℕ) (m : Move) → Matches s means w st → moved s means st c m ≡ Ok st2 → Follows s means (written_by w c m) st2
+  one_read : (a b : List Attribute) (x y : Attribute) → AreRead s means a b → y.0 ≡ cased s x.0 → Denotes s means x.1 y.1 → AreRead s means (a ++ x ∷ []) (b ++ y ∷ [])
+  one_read [] [] x y r k d = (k, d, tt)
+  one_read (_ ∷ a) (_ ∷ b) x y r k d = (r.0, r.1, one_read a b x y r.2 k d)
+  one_read _ _ x y r k d = absurd r
+
+  value_follows : (w : Written) (st st2 : TagState) (c : ℕ) (p : TagPhase) → Matches s means w st → (o : Result Value Kind) → value_step s means st.value c ≡ o → with_value p st o ≡ Ok st2
+      → Follows s means (Some (at p w.name w.attributes w.key (w.value ++ c ∷ []))) st2
+  value_follows w st st2 c p m (Err kind) e h = absurd (cc)
+  value_follows w st st2 c p m (Ok v) e h =
+      so _ _ st2 h (record { phase_is = refl; name_is = m.name_is; attributes_are = m.attributes_are; key_is = m.key_is; value_is = value-append s means (Ok no_value_yet) w.value (c ∷ []) ∙ (ap (λ x. step_on s means x c) m.value_is ∙ e) })
+
+  attribute_follows : (w : Written) (st st2 : TagState) (key next : Chars) (p : TagPhase) → Matches s means w st → key ≡ cased s next → (o : Result Chars Kind) → value_end s st.value ≡ o → with_attribute p st key o ≡ Ok st2
+      → Follows s means (Some (at p w.name (w.attributes ++ (w.key, w.value) ∷ []) next [])) st2
+  attribute_follows w st st2 key next p m k (Err kind) e h = absurd (cc)
+  attribute_follows w st st2 key next p m k (Ok v) e h =
+      so _ _ st2 h (record { phase_is = refl; name_is = m.name_is; attributes_are = one_read w.attributes st.attributes (w.key, w.value) (st.key, v) m.attributes_are m.key_is (text_sound s means w.value v (ap (end_of s) m.value_is ∙ e)); key_is = k; value_is = refl })
+
+  pub follows_by : (w : Written) (st st2 : TagState) (c : ℕ) (m : Move) → Matches s means w st → moved s means st c m ≡ Ok st2 → Follows s means (written_by w c m) st2
   follows_by w st st2 c None m h = absurd (cc)
-  follows_by w st st2 c (Some (p, action.Skip)) m h = record { now = at p w.attributes w.key w.value; is = refl; matches = subst (Matches s means (at p w.attributes w.key w.value)) (same_state _ st2 h) (record { phase_is = refl; value_is = m.value_is }) }
-  follows_by w st st2 c (Some (p, action.Name)) m h = record { now = at p w.attributes w.key w.value; is = refl; matches = subst (Matches s means (at p w.attributes w.key w.value)) (same_state _ st2 h) (record { phase_is = refl; value_is = m.value_is }) }
-  follows_by w st st2 c (Some (p, action.Key)) m h = record { now = at p w.attributes (w.key ++ c ∷ []) w.value; is = refl; matches = subst (Matches s means (at p w.attributes (w.key ++ c ∷ []) w.value)) (same_state _ st2 h) (record { phase_is = refl; value_is = m.value_is }) }
-  follows_by w st st2 c (Some (p, action.Value)) m h = with_value_follows w st st2 c p m (value_step s means st.value c) refl h
-  follows_by w st st2 c (Some (p, action.Add)) m h = with_attribute_follows w st st2 [] [] p (value_end s st.value) h (w.attributes ++ (w.key, w.value) ∷ [])
-  follows_by w st st2 c (Some (p, action.AddKey)) m h = with_attribute_follows w st st2 _ (c ∷ []) p (value_end s st.value) h (w.attributes ++ (w.key, w.value) ∷ [])
+  follows_by w st st2 c (Some (p, action.Skip)) m h = so _ _ st2 h (record { phase_is = refl; name_is = m.name_is; attributes_are = m.attributes_are; key_is = m.key_is; value_is = m.value_is })
+  follows_by w st st2 c (Some (p, action.Name)) m h = so _ _ st2 h (record { phase_is = refl; name_is = cased_on st.name w.name c m.name_is; attributes_are = m.attributes_are; key_is = m.key_is; value_is = m.value_is })
+  follows_by w st st2 c (Some (p, action.Key)) m h = so _ _ st2 h (record { phase_is = refl; name_is = m.name_is; attributes_are = m.attributes_are; key_is = cased_on st.key w.key c m.key_is; value_is = m.value_is })
+  follows_by w st st2 c (Some (p, action.Value)) m h = value_follows w st st2 c p m (value_step s means st.value c) refl h
+  follows_by w st st2 c (Some (p, action.Add)) m h = attribute_follows w st st2 [] [] p m refl (value_end s st.value) refl h
+  follows_by w st st2 c (Some (p, action.AddKey)) m h = attribute_follows w st st2 _ (c ∷ []) p m refl (value_end s st.value) refl h
 
   follows_first : (text : Chars) (ih : (w : Written) (st last : TagState) → Matches s means w st → moves_on s means (Ok st) text ≡ Ok last → Follows s means (written_on s (Some w) text) last) (c : ℕ) (w : Written) (st last : TagState) → Matches s means w st
       → (o : Result TagState Kind) → tag_move s means st c ≡ o → moves_on s means o text ≡ Ok last → Follows s means (written_on s (Some w) (c ∷ text)) last
@@ -246,6 +263,38 @@ module _ (s : Syntax) (means : Chars → Option ℕ) where
       let same : written_by w c (move_of s w.phase c) ≡ Some d.now = ap (λ p. written_by w c (move_of s p c)) m.phase_is ∙ d.is in
       subst (λ o. Follows s means (written_on s o text) last) (sym same) (ih d.now st2 last d.matches h)
 
-  pub follows : (text : Chars) (w : Written) (st last : TagState) → Matches s means w st → moves_on s means (Ok st) text ≡ Ok last → Follows s means (written_on s (Some w) text) last
-  follows [] w st last m h = record { now = w; is = refl; matches = subst (Matches s means w) (same_state st last h) m }
-  follows (c ∷ text) w st last m h = follows_first text (follows text) c w st last m (tag_move s means st c) refl h
+  follows_on : (text : Chars) (w : Written) (st last : TagState) → Matches s means w st → moves_on s means (Ok st) text ≡ Ok last → Follows s means (written_on s (Some w) text) last
+  follows_on [] w st last m h = so w st last h m
+  follows_on (c ∷ text) w st last m h = follows_first text (follows_on text) c w st last m (tag_move s means st c) refl h
+
+  pub nothing_matches : Matches s means nothing_written fresh
+  nothing_matches = record { phase_is = refl; name_is = refl; attributes_are = tt; key_is = refl; value_is = refl }
+
+  pub follows : (text : Chars) (last : TagState) → moves_on s means (Ok fresh) text ≡ Ok last → Follows s means (written_on s (Some nothing_written) text) last
+  follows text last h = follows_on text nothing_written fresh last nothing_matches h
+
+  pub reader_phases : (text : Chars) (last : TagState) → moves_on s means (Ok fresh) text ≡ Ok last → phases_on s (Some phase.Start) text ≡ Some last.phase
+  reader_phases text last h = let f = follows text last h in written_phases s text nothing_written f.now f.is ∙ ap Some f.matches.phase_is
+
+  -- a shape that is read: what the reader has
+  pub record Like (tag : Tag) (last : TagState) : Type 0 where
+    pub whole : is_last last.phase ≡ true
+    pub closing : is_closing last.phase ≡ tag.closing
+    pub name : last.name ≡ cased s tag.name
+    pub attributes : AreRead s means tag.attributes last.attributes
+    pub slash : is_emptied last.phase ≡ tag.slash
+
+  pub like : (text : Chars) (tag : Tag) (last : TagState) → Shape s text tag → moves_on s means (Ok fresh) text ≡ Ok last → Like tag last
+  like text tag last k h =
+      let f = follows text last h in
+      let a = shape_written s text tag k in
+      let same : a.last ≡ f.now = as_written a.last f.now (sym a.reads ∙ f.is) in
+      let e : written_tag f.now ≡ tag = ap written_tag (sym same) ∙ a.tag_is in
+      let q : last.phase ≡ a.last.phase = sym f.matches.phase_is ∙ ap (λ x. x.phase) (sym same) in
+      record {
+        whole = ap is_last q ∙ a.whole;
+        closing = ap is_closing q ∙ ap (λ x. x.closing) a.tag_is;
+        name = f.matches.name_is ∙ ap (λ (x : Tag). cased s x.name) e;
+        attributes = subst (λ (x : Tag). AreRead s means x.attributes last.attributes) e f.matches.attributes_are;
+        slash = ap is_emptied q ∙ ap (λ x. x.slash) a.tag_is;
+      }
