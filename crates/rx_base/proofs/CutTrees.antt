@@ -16,6 +16,7 @@ use Rattle.rx_base.specs.Seekings.{Seeking, first_child, base_child, known, base
 use Rattle.rx_base.specs.KnownBases.{is_head, has_begun, has_base, child_decides, is_decided}
 use Rattle.rx_base.proofs.Lines.{line_append, seeks_append, said_line, said_seeks, tree_line}
 use Rattle.rx_base.proofs.Found.{known_stays, seeks_nodes, deep_begun, deep_finished, deep, in_head, head_ends, base_found}
+use Rattle.std.proofs.lemmas.Bool.{or_right}
 
 -- two splits of a list
 data Cuts (a b c d : List Sign) : Type 0 where
@@ -245,12 +246,8 @@ seeks_root {size = size} root (past_element t inside rest zs k p) =
     (subst (λ (l : List Tag). Gives (child_decides size (length l) (element t inside rest)) (head_href (tags_of (element t inside rest))) (seeks (root ∷ []) (seek 2 (seeks (read_tag t ∷ root ∷ []) (seek 1 first_child (begun t)) (signs_of inside)) finished) zs))
     (sym (past_open (root ∷ []) t inside zs)) (by (is_head t)))
   where
-    last : (a b : Bool) → b ≡ true → (a || b) ≡ true
-    last true b e = refl
-    last false b e = e
-
     over : (nat_le (length (line_of (root ∷ []) zs)) 1 || has_begun size rest) ≡ true
-    over = ⊎_elim (λ e. ap (λ (l : List Tag). nat_le (length l) 1 || has_begun size rest) e) (λ e. last (nat_le (length (line_of (root ∷ []) zs)) 1) (has_begun size rest) e) (open_or_begun (root ∷ []) p)
+    over = ⊎_elim (λ e. ap (λ (l : List Tag). nat_le (length l) 1 || has_begun size rest) e) (λ e. or_right (nat_le (length (line_of (root ∷ []) zs)) 1) (has_begun size rest) e) (open_or_begun (root ∷ []) p)
 
     by : (b : Bool)
         → Gives (nat_lt t.at size && (not b || (has_base size inside || (nat_le (length (line_of (root ∷ []) zs)) 1 || has_begun size rest)))) (if b then first_href (tags_of inside) else None)
@@ -261,7 +258,7 @@ seeks_root {size = size} root (past_element t inside rest zs k p) =
     by true =
         let test : (nat_lt t.at size && (has_base size inside || (nat_le (length (line_of (root ∷ []) zs)) 1 || has_begun size rest))) ≡ true =
         ap (λ x. x && (has_base size inside || (nat_le (length (line_of (root ∷ []) zs)) 1 || has_begun size rest))) (is_below t.at size k)
-        ∙ last (has_base size inside) (nat_le (length (line_of (root ∷ []) zs)) 1 || has_begun size rest) over in
+        ∙ or_right (has_base size inside) (nat_le (length (line_of (root ∷ []) zs)) 1 || has_begun size rest) over in
         subst (λ x. Gives x (first_href (tags_of inside)) (seeks (root ∷ []) (seek 2 (seeks (read_tag t ∷ root ∷ []) base_child (signs_of inside)) finished) zs)) (sym test)
         (ap (λ x. seeks (root ∷ []) (seek 2 x finished) zs) (in_head (read_tag t) root inside)
         ∙ (ap (λ x. seeks (root ∷ []) x zs) (head_ends (first_href (tags_of inside))) ∙ known_stays (root ∷ []) (first_href (tags_of inside)) zs))

@@ -3,7 +3,7 @@ use Rattle.std.proofs.Common.{◌≡◌, ℕ, Bool, true, false, ◌&&◌, ◌==
 use Rattle.std.proofs.lemmas.Bool.{eqb-true}
 use Rattle.std.proofs.lemmas.Str.{encodes_same}
 use Rattle.rx_chars.specs.Characters.{Entry, IsRead, placed, without_mark, entered, normal, pairs_as_line_feed, as_line_end, begins_with_line_feed, line_end_given, line_end_entry, ends_with_return, given_list, carriage_return, line_feed}
-use Rattle.rx_chars.proofs.Utf8Rows.{and-false}
+use Rattle.std.proofs.Math.Bool.{and-false}
 
 pub one_reading : (bytes : List ℕ) (some others : List Entry) → IsRead bytes some → IsRead bytes others → some ≡ others
 one_reading bytes some others left right =

@@ -23,7 +23,7 @@ front_cases (x ∷ xs) ys (u ∷ us) vs e =
     ⊎_elim (λ h. let rest : us ≡ xs ++ h.0 = h.1 in inl (h.0, cc)) (λ h. let rest : xs ≡ us ++ h.0 = h.1.0 in inr (h.0, (cc, h.1.1)))
     (front_cases xs ys us vs tail)
 
-scalars-append : (xs ys : List ℕ) → all_scalars xs ≡ true → all_scalars ys ≡ true → all_scalars (xs ++ ys) ≡ true
+pub scalars-append : (xs ys : List ℕ) → all_scalars xs ≡ true → all_scalars ys ≡ true → all_scalars (xs ++ ys) ≡ true
 scalars-append [] ys left right = right
 scalars-append (x ∷ xs) ys left right =
     let parts = and_parts (scalar x) (all_scalars xs) left in and_from (scalar x) (all_scalars (xs ++ ys)) parts.0 (scalars-append xs ys parts.1 right)

@@ -4,7 +4,8 @@ use Rattle.std.proofs.lemmas.Bool.Decides.{nat_tests}
 use Rattle.rx_chars.specs.Utf8.{is_well_formed, begins_sequence, scalar_value, answer_of, is_in, tail}
 use Rattle.rx_chars.specs.Held.{fits_second}
 use Rattle.rx_chars.specs.declared.utf8.Utf8Step.TheVariants.{More, Char, Bad}
-use Rattle.rx_chars.proofs.Utf8Rows.{whole_one, whole_two, whole_three, whole_four, begun_one, begun_two, begun_three, begun_more, and-false}
+use Rattle.rx_chars.proofs.Utf8Rows.{whole_one, whole_two, whole_three, whole_four, begun_one, begun_two, begun_three, begun_more}
+use Rattle.std.proofs.Math.Bool.{and-false}
 
 -- the tables' three cases
 pub at_whole : (bytes : List ℕ) → is_well_formed bytes ≡ true → Char (scalar_value bytes) ≡ answer_of bytes

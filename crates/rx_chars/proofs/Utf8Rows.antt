@@ -1,20 +1,9 @@
 -- What the rows of well-formed UTF-8 say of one, two, three and four bytes.
-use Rattle.std.proofs.Common.{◌≡◌, ℕ, Bool, true, false, ◌&&◌, ◌||◌, ◌==◌, List, [], ◌∷◌, refl, if◌then◌else◌, arith}
+use Rattle.std.proofs.Common.{◌≡◌, ℕ, Bool, false, ◌&&◌, ◌||◌, ◌==◌, List, [], ◌∷◌, if◌then◌else◌, arith}
 use Rattle.std.proofs.lemmas.Bool.Decides.{nat_tests}
 use Rattle.rx_chars.specs.Utf8.{is_well_formed, begins_sequence, is_in, tail}
 use Rattle.rx_chars.specs.Held.{fits_second}
-
-pub and-false : (x : Bool) → (x && false) ≡ false
-and-false true = refl
-and-false false = refl
-
-and-true : (x : Bool) → (x && true) ≡ x
-and-true true = refl
-and-true false = refl
-
-or-false : (x : Bool) → (x || false) ≡ x
-or-false true = refl
-or-false false = refl
+use Rattle.std.proofs.Math.Bool.{or-false, and-true, and-false}
 
 -- the rows of three and of four bytes, each with what it asks of the bytes behind the first one
 three_rows : (a : ℕ) (p q r s u t : Bool) →

@@ -9,8 +9,8 @@ use Rattle.rx_job.specs.Words.{Job, Asked, Gathering, reads, gathers, samples, j
 use Rattle.rx_page.specs.Tasks.{TaskGives}
 use Rattle.rx_page.specs.Outcomes.{IsTheFault, IsTheText}
 use Rattle.rx_page.proofs.OutcomeLemmas.{the_fault}
-use Rattle.rx_command.specs.Contexts.{HasContext, HasOther, LacksContext, context_in}
-use Rattle.rx_command.specs.Outcome.{NamesPage, HasPageFault, HasBadContext, JobLacks, LacksPage}
+use Rattle.rx_command.specs.Contexts.{HasContext, HasOther, context_in}
+use Rattle.rx_command.specs.Outcome.{NamesPage, HasPageFault, HasBadContext, JobLacks}
 use Rattle.rx_command.specs.Gathering.{HasAll, HasPages}
 use Rattle.rx_command.specs.Samples.{SaysOfSample, Yields, YieldsBoth}
 use Rattle.rx_command.specs.Runs.{Devices, EndsSo}

@@ -1,5 +1,5 @@
 -- There is one answer to what is asked for.
-use Rattle.std.proofs.Common.{◌≡◌, ◌∙◌, ℕ, inl, inr, List, [], ◌∷◌, refl, sym, ap, ap₂, subst, Option, Some, None, encode_utf8_all}
+use Rattle.std.proofs.Common.{◌≡◌, ◌∙◌, ℕ, inl, inr, List, [], ◌∷◌, refl, sym, ap, ap₂, subst, Option, Some, encode_utf8_all}
 use Rattle.rx_ports.specs.Shelves.{ShelfContent}
 use Rattle.rx_terms.specs.Text.{Chars}
 use Rattle.rx_chars.specs.declared.syntax.Syntax.{Syntax}
@@ -11,7 +11,7 @@ use Rattle.rx_walk.specs.RefusalLaws.{refusal_laws}
 use Rattle.rx_many.specs.Pages.{Page, Judgement, refused, accepted}
 use Rattle.rx_many.specs.Writing.{gathered}
 use Rattle.rx_grammar.specs.Trees.{Tree}
-use Rattle.rx_job.specs.Words.{Job, Asked, Gathering, Listed, reads, gathers, samples}
+use Rattle.rx_job.specs.Words.{Job, Asked, Gathering, Listed}
 use Rattle.rx_page.specs.Settings.{standard, rdfa_way}
 use Rattle.rx_rdfa.specs.Whole.{written}
 use Rattle.rx_page.specs.Tasks.{base_in, facts_in, TaskGives}
@@ -22,7 +22,7 @@ use Rattle.rx_command.specs.Contexts.{HasOther}
 use Rattle.rx_command.specs.Outcome.{IsLacking, LacksOne}
 use Rattle.rx_command.specs.Gathering.{FileList, GivesTriples, IsJudged, Judges, JudgesEach, IsGathered}
 use Rattle.rx_command.specs.Samples.{IsSample, line_for, triples_in, sample_page}
-use Rattle.rx_command.specs.Runs.{refused_line, usage_line, context_line}
+use Rattle.rx_command.specs.Runs.{refused_line}
 use Rattle.rx_command.specs.Endings.{OfPage, IsAnswer, nothing_asked, of_sample, of_page, of_fault, no_file, no_context, of_pages, no_file_of_several, no_context_of_several, IsSame, OneAnswer}
 use Rattle.rx_command.specs.declared.statuses.Status.{Status}
 use Rattle.rx_command.specs.declared.statuses.Status.TheVariants as status

@@ -9,6 +9,7 @@ use Rattle.rx_curie.specs.declared.facts.Datatype.{Datatype as CodeDatatype}
 use Rattle.rx_curie.specs.declared.facts.Datatype.TheVariants as code_datatype
 use Rattle.rx_curie.specs.declared.facts.Facts.{Facts as CodeFacts}
 use Rattle.rx_curie.specs.Seen.{kind_seen, ref_seen, refs_seen, datatype_seen, facts_seen, SeenOneToOne}
+use Rattle.rx_names.proofs.PutLemmas.{some-same}
 
 kinds : (a b : CodeKind) → kind_seen a ≡ kind_seen b → a ≡ b
 kinds code_kind.Head code_kind.Head e = refl
@@ -61,10 +62,7 @@ seen-option : {A B : Type 0} (f : A → B) → ((a b : A) → f a ≡ f b → a 
 seen-option f one None None e = refl
 seen-option f one None (Some b) e = absurd (cc e)
 seen-option f one (Some a) None e = absurd (cc e)
-seen-option {A} {B} f one (Some a) (Some b) e = ap Some (one a b (some-same e)) where
-  some-same : {a b : B} → Some a ≡ Some b → a ≡ b
-  some-same e = cc
-
+seen-option {A} {B} f one (Some a) (Some b) e = ap Some (one a b (some-same e))
 facts : (a b : CodeFacts) → facts_seen a ≡ facts_seen b → a ≡ b
 facts a b e =
     let element = kinds a.element b.element (ap (λ (f : Facts). f.kind) e) in

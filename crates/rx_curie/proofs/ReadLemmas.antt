@@ -2,7 +2,6 @@
 use Rattle.std.proofs.Common.{◌≡◌, ◌≢◌, ◌∙◌, ℕ, Bool, true, false, ◌==◌, List, [], ◌∷◌, ◌++◌, reverse, Option, Some, None, MatchOption, Bor, codes, sym, ap, refl, arith}
 use Rattle.std.specs.Prelude.{is_some}
 use Rattle.std.specs.Str.{chars}
-use Rattle.std.proofs.lemmas.Bool.{and_from}
 use Rattle.std.proofs.lemmas.Bool.Decides.{nat_tests}
 use Rattle.std.proofs.lemmas.List.{reverse-append, reverse-reverse}
 use Rattle.rx_terms.specs.Ascii.{left_bracket, right_bracket}
@@ -14,14 +13,11 @@ use Rattle.rx_rdfa.specs.Tree.{Tag}
 use Rattle.rx_rdfa.specs.Names.{Context}
 use Rattle.rx_rdfa.specs.Readings.{Joined, read_parts, xhtml_vocabulary}
 use Rattle.rx_curie.specs.Brackets.{before_bracket, inside_brackets}
-
-begins-itself : (front rest : Chars) → begins_with front (front ++ rest) ≡ true
-begins-itself [] rest = refl
-begins-itself (c ∷ front) rest = let same : (c == c) ≡ true = grind (arith, nat_tests) in and_from _ _ same (begins-itself front rest)
+use Rattle.rx_reader.proofs.Fronts.{begins_append}
 
 pub begins-some : (front text : Chars) (r : Option (Bor (List ℕ))) → MatchOption r (begins_with front text ≡ false) (λ rest. text ≡ front ++ chars rest.now) → is_some r ≡ begins_with front text
 begins-some front text None h = sym h
-begins-some front text (Some rest) h = sym (ap (begins_with front) h ∙ begins-itself front (chars rest.now))
+begins-some front text (Some rest) h = sym (ap (begins_with front) h ∙ begins_append front (chars rest.now))
 
 slashes : chars (codes "//") ≡ codes "//"
 slashes = ascii-chars (codes "//") refl

@@ -3,8 +3,6 @@ use Rattle.std.proofs.Common.{◌≡◌, ◌∙◌, ℕ, ◌<◌, ◌/◌, ◌%�
 use Rattle.std.specs.Prelude.{is_some, bytes_eq, option_and_then, if◌then◌else◌}
 use Rattle.std.specs.Cmp.Lexicographic.{bytes_decides}
 use Rattle.std.specs.List.{list_all}
-use Rattle.std.proofs.lemmas.Bool.{and_parts}
-use Rattle.std.proofs.lemmas.Bool.Decides.{nat_tests}
 use Rattle.rx_terms.specs.Text.{Chars, trimmed}
 use Rattle.rx_terms.specs.Iri.{has_scheme, is_scheme, is_scheme_char, begins_with_letter, is_forbidden, has_forbidden}
 use Rattle.rx_refs.specs.Parts.{before, behind}
@@ -23,6 +21,8 @@ use Rattle.rx_names.specs.Lines.{Kept, NamesStand}
 use Rattle.rx_curie.specs.declared.facts.FactsError.TheVariants as error
 use Rattle.rx_curie.specs.Given.{own_vocabulary, vocabulary_from, kind_of, RefusesFor}
 use Rattle.rx_curie.specs.Refusing.{is_iri, markup, markup_of}
+use Rattle.std.proofs.Math.Bool.{and-false as last-false}
+use Rattle.rx_refs.proofs.PlainLemmas.{scheme-clean}
 
 -- Escapes leave the scheme as it is, also where there is none.
 
@@ -46,14 +46,6 @@ cleaned-lacks (c ∷ text) h =
     by_test (c == 58) (λ t. let f : true ≡ false = rw t at h in absurd (cc f)) (λ t.
     holds-append 58 (cleaned_char c) (cleaned text) (char-lacks c t) (cleaned-lacks text (rw t at h)))
 
-scheme-clean : (text : Chars) → list_all is_scheme_char text ≡ true → has_forbidden text ≡ false
-scheme-clean [] h = refl
-scheme-clean (c ∷ text) h =
-    let p = and_parts (is_scheme_char c) (list_all is_scheme_char text) h in
-    let s = p.0 in
-    let fine : is_forbidden c ≡ false = grind (arith, nat_tests) in
-    rw fine (scheme-clean text p.1)
-
 escape-stops : (text : Chars) → has_forbidden text ≡ true → list_all is_scheme_char (cleaned text) ≡ false
 escape-stops [] h = absurd (cc h)
 escape-stops (c ∷ text) h =
@@ -69,11 +61,7 @@ same-scheme text =
     let here : is_scheme (cleaned text) ≡ false = ap (λ b. begins_with_letter (cleaned text) && b) (escape-stops text t) ∙ last-false (begins_with_letter (cleaned text)) in
     let there : list_all is_scheme_char text ≡ false = by_test (list_all is_scheme_char text) (λ s. let g : true ≡ false = sym t ∙ scheme-clean text s in absurd (cc g)) (λ s. s) in
     here ∙ sym (ap (λ b. begins_with_letter text && b) there ∙ last-false (begins_with_letter text)))
-    (λ t. ap is_scheme (uncleaned text t)) where
-      last-false : (b : Bool) → (b && false) ≡ false
-      last-false true = refl
-      last-false false = refl
-
+    (λ t. ap is_scheme (uncleaned text t))
 pub cleaned-scheme-same : (text : Chars) → has_scheme (cleaned text) ≡ has_scheme text
 cleaned-scheme-same text = go (behind 58 text) refl where
   go : (o : Option Chars) → behind 58 text ≡ o → has_scheme (cleaned text) ≡ has_scheme text

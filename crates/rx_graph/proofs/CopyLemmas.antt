@@ -2,7 +2,7 @@
 use Rattle.std.proofs.Common.{◌≡◌, ◌⊎◌, ⊎_elim, ℕ, zero, suc, ◌+◌, ◌<◌, ◌≤◌, Bool, true, false, not, ◌&&◌, ◌||◌, nat_eq, nat_lt, ◌==◌, List, [], ◌∷◌, ◌++◌, flat_map, length, take, get_or, slice_get, slice_set, Option, Some, None, option_map, is_none, refl, sym, ap, ap₂, subst, ◌∙◌, inl, inr, true≢false, arith, if◌then◌else◌, append-nil}
 use Rattle.std.specs.List.{cons_option}
 use Rattle.std.specs.List.Sorted.{IsPermutation, IsNonDecreasing}
-use Rattle.std.proofs.lemmas.Bool.{cases_lt}
+use Rattle.std.proofs.lemmas.Bool.{cases_lt, and_from}
 use Rattle.std.proofs.lemmas.Bool.Decides.{nat_tests, Decides-eqb}
 use Rattle.std.proofs.lemmas.List.{take_all}
 use Rattle.rx_terms.specs.declared.triples.Triple.{Triple as CodeTriple}
@@ -13,7 +13,7 @@ use Rattle.rx_model.specs.Seen.{triple_seen, triples_seen}
 use Rattle.rx_model.proofs.Exact.{exact_numbers, exact_nodes}
 use Rattle.rx_model.proofs.Leads.{leads_along}
 use Rattle.rx_model.proofs.Copied.{of_pair, pattern_true}
-use Rattle.rx_model.proofs.Sets.{Among_left, Among_right, Among_cases, or_cases, and_left, and_right, and_both}
+use Rattle.rx_model.proofs.Sets.{Among_left, Among_right, Among_cases, or_cases, and_left, and_right}
 use Rattle.rx_graph.specs.Rows.{pushed, empty_rows}
 use Rattle.rx_graph.specs.Resources.{number_in, live_by}
 use Rattle.rx_graph.specs.Patterns.{places, edges_by, ArePatterns, AreReferenced}
@@ -235,7 +235,7 @@ module _ (list : List (Triple ℕ)) (nodes : List (Node ℕ)) (roots lead : List
         let way : Goes x.links k p.0 = goes_trans x.links k (mark_at roots p.0) p.0 (subst (Goes x.links k) p.2 (led_goes r.0 (w.sound r.0 r.1))) (x.joined.down p.0) in
         let l = going_leads (edges_by nodes list) nodes x.links x.links_are t k p.0 number way in
         let same : l.0 ≡ u.subject = number_same nodes l.0 u.subject p.0 l.1 p.1 in
-        and_both (leads (same_node nat_eq) (edges nat_eq list) t u.subject) (not (says_pattern nat_eq u.predicate u.object) && is_none (live nat_eq list u.predicate u.object))
+        and_from (leads (same_node nat_eq) (edges nat_eq list) t u.subject) (not (says_pattern nat_eq u.predicate u.object) && is_none (live nat_eq list u.predicate u.object))
         (leads_is u.subject (subst (Leads (edges_by nodes list) t) same l.2)) (sym (gives_is u) ∙ p.3)
 
     given_reached : (u : Triple ℕ) → Among list u → gives list t u ≡ true → any_of (owned nodes roots) reached u ≡ true

@@ -16,23 +16,20 @@ use Rattle.rx_graph.specs.Resources.{number_in, object_by, live_by}
 use Rattle.rx_graph.specs.Rows.{empty_rows}
 use Rattle.rx_graph.specs.Patterns.{copies, places, ArePatterns, AreReferenced, edge_by, edges_by}
 use Rattle.rx_graph.proofs.SetLemmas.{seen_more}
+use Rattle.std.proofs.Math.Bool.{or-false}
 
 -- ---- one more element
-
-or_none : (b : Bool) → (b || false) ≡ b
-or_none true = refl
-or_none false = refl
 
 or_last : (a b c : Bool) → (a || (b || c)) ≡ ((a || b) || c)
 or_last true b c = refl
 or_last false b c = refl
 
 pub contains_more : {A : Type 0} (same : A → A → Bool) (list : List A) (x a : A) → contains same (list ++ x ∷ []) a ≡ (contains same list a || same x a)
-contains_more same [] x a = or_none (same x a)
+contains_more same [] x a = or-false (same x a)
 contains_more same (y ∷ list) x a = ap (λ b. same y a || b) (contains_more same list x a) ∙ or_last (same y a) (contains same list a) (same x a)
 
 pub referenced_more : (pairs : List (Node ℕ × Node ℕ)) (e : Node ℕ × Node ℕ) (t : Node ℕ) → is_referenced nat_eq (pairs ++ e ∷ []) t ≡ (is_referenced nat_eq pairs t || same_node nat_eq e.1 t)
-referenced_more [] e t = or_none (same_node nat_eq e.1 t)
+referenced_more [] e t = or-false (same_node nat_eq e.1 t)
 referenced_more (f ∷ pairs) e t = ap (λ b. same_node nat_eq f.1 t || b) (referenced_more pairs e t) ∙ or_last (same_node nat_eq f.1 t) (is_referenced nat_eq pairs t) (same_node nat_eq e.1 t)
 
 pub contains_added : (nodes : List (Node ℕ)) (s t : Node ℕ) → contains (same_node nat_eq) (with_one (same_node nat_eq) nodes s) t ≡ (contains (same_node nat_eq) nodes t || same_node nat_eq s t)
@@ -41,7 +38,7 @@ contains_added nodes s t = go (contains (same_node nat_eq) nodes s) refl (same_n
     go : (b : Bool) → contains (same_node nat_eq) nodes s ≡ b → (c : Bool) → same_node nat_eq s t ≡ c
         → contains (same_node nat_eq) (if b then nodes else nodes ++ s ∷ []) t ≡ (contains (same_node nat_eq) nodes t || c)
     go false e c f = contains_more (same_node nat_eq) nodes s t ∙ ap (λ z. contains (same_node nat_eq) nodes t || z) f
-    go true e false f = sym (or_none (contains (same_node nat_eq) nodes t))
+    go true e false f = sym (or-false (contains (same_node nat_eq) nodes t))
     go true e true f =
         let same : s ≡ t = (exact_nodes nat_eq exact_numbers s t).0 f in
         let there : contains (same_node nat_eq) nodes t ≡ true = ap (contains (same_node nat_eq) nodes) (sym same) ∙ e in
@@ -83,7 +80,7 @@ pub patterns_kept : (list : List CodeTriple) (i : ℕ) (u : CodeTriple) (nodes :
 patterns_kept list i u nodes at says h = record {
   each = λ t. h.each t ∙ sym (ap (λ z. is_pattern nat_eq z t) (seen_more list i u at) ∙ pattern_more (triples_seen (take i list)) (triple_seen u) t
       ∙ ap (λ b. is_pattern nat_eq (triples_seen (take i list)) t || b) (says_of (triple_seen u) t ∙ ap (λ b. if b then same_node nat_eq (triple_seen u).subject t else false) says)
-      ∙ or_none (is_pattern nat_eq (triples_seen (take i list)) t));
+      ∙ or-false (is_pattern nat_eq (triples_seen (take i list)) t));
 }
 
 pub patterns_end : (list : List CodeTriple) (i : ℕ) (nodes : List (Node ℕ)) → length list ≤ i → ArePatterns (triples_seen (take i list)) nodes → ArePatterns (triples_seen list) nodes

@@ -14,6 +14,7 @@ use Rattle.rx_graph.proofs.Growing.{has_one}
 use Rattle.rx_graph.specs.Rows.{pushed, empty_rows}
 use Rattle.rx_graph.specs.Numbering.{numbers_to}
 use Rattle.rx_graph.specs.Ways.{mark_at, Step, Goes, stays, goes_on, turned_row, IsTurned, spread_one, spread_all, Marked, LeadsToMark, Joined, next_row, AreNexts, merged, only_lead, all_led, is_led, AreLed, led_one, led_all, Led, led_here, led_on, EachOnce, IsWalk}
+use Rattle.rx_graph.proofs.NumberedLemmas.{size as numbers_length}
 
 -- ---- ways
 
@@ -139,10 +140,6 @@ replicate_get : (k n a d : ℕ) → (get_or (replicate k n) a d ≡ n) ⊎ ((get
 replicate_get (suc k) n zero d = inl refl
 replicate_get (suc k) n (suc a) d = elim (replicate_get k n a d) [ inl e ↦ inl e | inr e ↦ inr (e.0, omega (arith, e.1)) ]
 replicate_get zero n _ d = inr (refl, omega arith)
-
-numbers_length : (n : ℕ) → length (numbers_to n) ≡ n
-numbers_length zero = refl
-numbers_length (suc n) = let rest = numbers_length n in omega (arith, length-append (numbers_to n) (n ∷ []), rest)
 
 last_cases : (xs : List ℕ) (x a d : ℕ) → (get_or (xs ++ x ∷ []) a d ≡ get_or xs a d) ⊎ ((a ≡ length xs) × (get_or (xs ++ x ∷ []) a d ≡ x))
 last_cases [] x zero d = inr (refl, refl)

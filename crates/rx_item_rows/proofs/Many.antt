@@ -3,7 +3,7 @@ use Rattle.std.specs.Prelude.{◌≡◌, ℕ, zero, suc, ◌+◌, ◌<◌, Bool,
 use Rattle.std.specs.Option.{option_or, option_map}
 use Rattle.std.specs.List.{list_any}
 use Rattle.std.proofs.Common.{refl, sym, ap, subst, ◌∙◌}
-use Rattle.std.proofs.lemmas.Bool.{leb-true, le-leb}
+use Rattle.std.proofs.lemmas.Bool.{leb-true, le-leb, false_from_ne_true}
 use mathlib.Core.Logic.{inl, inr}
 use native.Mathlib.Omega.{arith}
 use Rattle.rx_terms.specs.Text.{Chars}
@@ -18,7 +18,7 @@ use Rattle.rx_microdata.specs.Visits.{Visit, standard_bounds, fault_of, first_fa
 use Rattle.rx_microdata.specs.Json.{Outcome, Refused, Given, refused, json_of, outcome_of}
 use Rattle.rx_item_rows.specs.Pages.{here}
 use Rattle.rx_item_rows.specs.Many.{tag_at, many, html, ManyRefuse}
-use Rattle.rx_microdata.proofs.Lists.{first_or_later, later, none, not_so}
+use Rattle.rx_microdata.proofs.Lists.{first_or_later, later, none}
 
 -- no element of the page has a name
 unnamed_rest : (scope : Option ℕ) (place k n : ℕ) (e : Placed) → Contains (placed_from scope place (many k n)) e → is_any (names_of e) ≡ false
@@ -66,7 +66,7 @@ module _ (page : List Placed) (unnamed : (e : Placed) → Contains page e → is
       let yes : nat_le 100000 k ≡ true = le-leb 100000 k (omega arith) in
       (place, at_first place k n ∙ ap (λ b. cond b (Some (ItemsTooMany, placed_at place k ∷ [])) (found_of (suc place + 0) (suc k) n)) yes ∙ ap (λ m. Some (ItemsTooMany, placed_at place m ∷ [])) same)
   reached (suc j) place k (suc n) e l =
-      let no : nat_le 100000 k ≡ false = not_so (nat_le 100000 k) (λ t. let q = leb-true 100000 k t in omega (arith, q, e)) in
+      let no : nat_le 100000 k ≡ false = false_from_ne_true (nat_le 100000 k) (λ t. let q = leb-true 100000 k t in omega (arith, q, e)) in
       let more = reached j (suc place + 0) (suc k) n (omega arith) (omega arith) in
       (more.0, at_first place k n ∙ ap (λ b. cond b (Some (ItemsTooMany, placed_at place k ∷ [])) (found_of (suc place + 0) (suc k) n)) no ∙ more.1)
 

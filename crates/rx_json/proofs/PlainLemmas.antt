@@ -1,11 +1,12 @@
 -- Names that rise, and values without numbers.
-use Rattle.std.proofs.Common.{◌≡◌, ◌∙◌, ℕ, Bool, false, ◌||◌, List, refl, ap, Ordering, Less, Equal, Greater, nat_cmp}
+use Rattle.std.proofs.Common.{◌≡◌, ◌∙◌, ℕ, false, List, refl, ap, Ordering, Less, Equal, Greater, nat_cmp}
 use Rattle.std.specs.Ordering.{match_ordering, ordering_reverse}
 use Rattle.std.specs.Cmp.Lexicographic.{slice_cmp}
 use Rattle.std.proofs.lemmas.Cmp.{nat_list_cmp_total}
 use Rattle.serde_json.specs.Data.{Data, Items, Members, null, boolean, number, string, array, object, no_items, item, no_members, member}
 use Rattle.serde_json.specs.Written.{has_float, items_have_float, members_have_float}
 use Rattle.rx_json.specs.Plain.{Leads, IsPlain, ArePlain, MembersArePlain}
+use Rattle.std.proofs.lemmas.Bool.{or_from}
 
 pub turned : (a b : List ℕ) (o : Ordering) → slice_cmp nat_cmp a b ≡ o → slice_cmp nat_cmp b a ≡ ordering_reverse o
 turned a b o e = nat_list_cmp_total.antisymm b a ∙ ap ordering_reverse e
@@ -19,9 +20,6 @@ pub leads_through : (before name : List ℕ) (members : Members) → slice_cmp n
 leads_through before name no_members c l = tt
 leads_through before name (member other value more) c l = (nat_list_cmp_total.trans before name other c l.0, leads_through before name more c l.1)
 
-neither : (a b : Bool) → a ≡ false → b ≡ false → (a || b) ≡ false
-neither a b h k = rw (h, k)
-
 mutual
   pub no_float : (d : Data) → IsPlain d → has_float d ≡ false
   no_float null p = refl
@@ -33,8 +31,8 @@ mutual
 
   no_floats : (ds : Items) → ArePlain ds → items_have_float ds ≡ false
   no_floats no_items p = refl
-  no_floats (item d ds) p = neither (has_float d) (items_have_float ds) (no_float d p.0) (no_floats ds p.1)
+  no_floats (item d ds) p = or_from (has_float d) (items_have_float ds) (no_float d p.0) (no_floats ds p.1)
 
   no_member_floats : (ms : Members) → MembersArePlain ms → members_have_float ms ≡ false
   no_member_floats no_members p = refl
-  no_member_floats (member name d ms) p = neither (has_float d) (members_have_float ms) (no_float d p.0) (no_member_floats ms p.2)
+  no_member_floats (member name d ms) p = or_from (has_float d) (members_have_float ms) (no_float d p.0) (no_member_floats ms p.2)

@@ -5,7 +5,7 @@ use Rattle.rx_model.specs.Sets.{Among}
 use Rattle.rx_model.specs.Terms.{Node, Iri, Blank, Term, Resource, Literal, Triple, set_of}
 use Rattle.rx_model.specs.Copied.{spo}
 use Rattle.rx_model.specs.Vocabulary.{rdf_type, rdf_first, rdf_rest, rdf_nil}
-use Rattle.rx_model.proofs.Sets.{Among_flat_map, Among_of_flat_map, Among-contains, Among_by_contains, false_unless, and_left, and_right, and_both}
+use Rattle.rx_model.proofs.Sets.{Among_flat_map, Among_of_flat_map, Among-contains, Among_by_contains, false_unless, and_left, and_right}
 use Rattle.rx_model.proofs.Exact.{exact_numbers, exact_texts}
 use Rattle.rx_shapes.specs.Shapes.{Ends, onward, Cell, IsShape, HaveShapes}
 use Rattle.rx_shapes.specs.declared.shapes.Shape.{Shape}
@@ -15,6 +15,7 @@ use Rattle.rx_shapes.proofs.Heights.{Differ, height, height_once, heights_alike}
 use Rattle.rx_shapes.proofs.CellLemmas.{CellOf, cell_of, cell_inner, first_some, first_each, rest_some, rest_each, Enough, none_left, child_enough, first_enough, first_is_not_rest}
 use Rattle.rx_jsonld.specs.Laws.{ListsCells}
 use Rattle.rx_jsonld.specs.Lists.{GoesOn, IsListed, first_one, later_one, blank_in, numbers_from, chain, is_cell_by, is_cell, may_list, cell_by, first_cell, cells_at, listed, is_listed}
+use Rattle.std.proofs.lemmas.Bool.{and_from}
 
 only_one : {A : Type 0} (xs : List A) (x : A) → Among xs x → ((y : A) → Among xs y → y ≡ x) → first_of xs ≡ Some x
 only_one [] x m h = absurd m
@@ -384,7 +385,7 @@ module _ (list : List (Triple ℕ)) where
     listed_in_words : (b : ℕ) → IsListed (set_of list) b → Among (listed shapes list) b
     listed_in_words b (first_one {subject = s} {predicate = p} held cell goes first type) =
         let t : Triple ℕ = spo s p (Resource (Blank b)) in
-        let found : first_cell shapes t ≡ Some b = ap (λ z. cond {A = Option ℕ} z (Some b) None) (and_both (may_list shapes s p) (is_cell_by (shapes b)) (may_be s p goes first type) (to_shape b (shapes b) (have b) cell)) in
+        let found : first_cell shapes t ≡ Some b = ap (λ z. cond {A = Option ℕ} z (Some b) None) (and_from (may_list shapes s p) (is_cell_by (shapes b)) (may_be s p goes first type) (to_shape b (shapes b) (have b) cell)) in
         let h = headed t b found in
         to_listed t b held (subst (λ (z : List ℕ). Among z b) (sym h.is) (inl refl))
     listed_in_words c (later_one {b = b} l rest) =

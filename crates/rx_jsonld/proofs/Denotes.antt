@@ -10,7 +10,7 @@ use Rattle.rx_model.specs.Sets.{Among, contains}
 use Rattle.rx_model.specs.Terms.{Node, Iri, Blank, Term, Resource, Literal, Triple, same_node, same_triple, set_of}
 use Rattle.rx_model.specs.Copied.{spo}
 use Rattle.rx_model.specs.Numbered.{rename_node, rename_term, rename, blank_of_node, blank_of_term, blanks_of, place_in, Has, Renamed}
-use Rattle.rx_model.proofs.Sets.{Among_right, Among_cases, Among_map, Among_of_map, Among_filter, Among_of_filter, Among_flat_map, Among_of_flat_map, Among_by_contains, Among-contains, Among_of_distinct, false_unless, not_true}
+use Rattle.rx_model.proofs.Sets.{Among_right, Among_cases, Among_map, Among_of_map, Among_filter, Among_of_filter, Among_flat_map, Among_of_flat_map, Among_by_contains, Among-contains, Among_of_distinct, false_unless}
 use Rattle.rx_model.proofs.Exact.{exact_numbers, exact_triples}
 use Rattle.rx_nquads.specs.Quads.{proper_term, proper_triple}
 use Rattle.rx_pieces.specs.Writable.{WritableNode, WritableTerm, IsWritable}
@@ -28,6 +28,7 @@ use Rattle.rx_jsonld.specs.Laws.{ValueDenotes}
 use Rattle.rx_jsonld.proofs.Cells.{IsChain, cells_chain, chain_differs, one_root, of_listed, to_listed, listed_there, there_listed, root_subject}
 use Rattle.rx_jsonld.proofs.Parts.{PartStands, Naming, FreeNode, label_of, item_is, cell_triples, told}
 use Rattle.rx_jsonld.proofs.Docs.{Docs, docs}
+use Rattle.rx_terms.proofs.Bools.{untrue}
 
 -- ---- counts
 
@@ -220,7 +221,7 @@ module _ (list : List (Triple ℕ)) (shapes : ℕ → Shape) (writable : IsWrita
   predicate_iris t m = (writable.parts t m).predicate.is_iri
 
   top_free : (s : Node ℕ) → Among (tops list shapes) s → is_listed shapes list s ≡ false
-  top_free s m = not_true (is_listed shapes list s) (Among_of_filter (λ (r : Node ℕ). not (is_listed shapes list r)) (subjects list) s m).1
+  top_free s m = untrue (is_listed shapes list s) (Among_of_filter (λ (r : Node ℕ). not (is_listed shapes list r)) (subjects list) s m).1
 
   node_free : (s : Node ℕ) → WritableNode s → is_listed shapes list s ≡ false → FreeNode list shapes s
   node_free (Iri iri) w h = w.is_iri

@@ -88,7 +88,7 @@ module _ (list : List (Triple ℕ)) (shapes : ℕ → Shape) where
 
 -- ---- a node's name stands before what is said of it
 
-not_letter : (c : ℕ) (o : Option (Chars × Chars)) → is_letter c ≡ false → begins_with_scheme (front_grows c o) ≡ false
+pub not_letter : (c : ℕ) (o : Option (Chars × Chars)) → is_letter c ≡ false → begins_with_scheme (front_grows c o) ≡ false
 not_letter c None h = refl
 not_letter c (Some parts) h = rw h
 

@@ -1,16 +1,16 @@
 -- A value is that of at most one document.
 use lib.Utf8.{encode}
-use Rattle.std.proofs.Common.{◌≡◌, bytes_eq, ◌∙◌, ℕ, List, [], ◌∷◌, Option, Some, None, false, refl, sym, ap, ap₂, inl, inr, subst, codes, encode_utf8_all, true≢false}
+use Rattle.std.proofs.Common.{◌≡◌, bytes_eq, ◌∙◌, ℕ, List, [], ◌∷◌, refl, sym, ap, ap₂, inl, inr, subst, codes, encode_utf8_all, true≢false}
 use Rattle.std.proofs.lemmas.Str.{encodes_same}
 use Rattle.serde_json.specs.Data.{Data, Items, Members, string, array, object, no_items, item, no_members, member}
-use Rattle.rx_terms.specs.Text.{Chars, split_at, front_grows}
-use Rattle.rx_terms.specs.Iri.{IsIri, begins_with_scheme}
-use Rattle.rx_terms.specs.Ascii.{is_letter}
+use Rattle.rx_terms.specs.Text.{Chars, split_at}
+use Rattle.rx_terms.specs.Iri.{IsIri}
 use Rattle.rx_model.specs.Terms.{Kind, Plain, Tagged, Typed, set_of}
 use Rattle.rx_model.specs.Numbered.{Renamed}
 use Rattle.rx_model.proofs.Renamings.{renamed_across}
 use Rattle.rx_jsonld.specs.Document.{Item, Reference, Value, Single, ListObject, Entry, Id, Types, Property, Document, SpellsEach, SpellsArray, SpellsText, SpellsName, SpellsItem, SpellsObject, SpellsValue, SpellsEntry, SpellsEntries, SpellsNode, AreTwo, one, SpellsOne}
 use Rattle.rx_jsonld.specs.Meaning.{named_triples, DenotesOne}
+use Rattle.rx_jsonld.proofs.GroupLemmas.{not_letter}
 
 -- ---- arrays
 
@@ -48,15 +48,11 @@ name_once value a b h k = text_once value a b h.1 k.1
 
 -- ---- what begins an IRI
 
-no_scheme : (c : ℕ) (o : Option (Chars × Chars)) → is_letter c ≡ false → begins_with_scheme (front_grows c o) ≡ false
-no_scheme c None h = refl
-no_scheme c (Some parts) h = rw h
-
 keyword_is_no_iri : {A : Type 0} (text : Chars) → IsIri (64 ∷ text) → A
-keyword_is_no_iri text is = absurd (true≢false (sym is.scheme ∙ no_scheme 64 (split_at 58 text) refl))
+keyword_is_no_iri text is = absurd (true≢false (sym is.scheme ∙ not_letter 64 (split_at 58 text) refl))
 
 pub label_is_no_iri : {A : Type 0} (text : Chars) → IsIri (95 ∷ text) → A
-label_is_no_iri text is = absurd (true≢false (sym is.scheme ∙ no_scheme 95 (split_at 58 text) refl))
+label_is_no_iri text is = absurd (true≢false (sym is.scheme ∙ not_letter 95 (split_at 58 text) refl))
 
 -- ---- items
 

@@ -8,7 +8,7 @@ use Rattle.rx_model.specs.Sets.{Among, IsExact, contains, distinct}
 use Rattle.rx_model.specs.Terms.{Node, Iri, Blank, Term, Resource, Literal, Triple, same_triple}
 use Rattle.rx_model.specs.Numbered.{blank_of_node, blank_of_term, blanks_of, place_in, rename_node, rename_term, rename}
 use Rattle.rx_model.specs.Seen.{triple_seen, triples_seen}
-use Rattle.rx_model.proofs.Sets.{or_cases, false_unless, not_true, Among_cases, Among_left, Among_right, Among_map, Among_of_map, Among_flat_map, Among_of_filter, Among_distinct}
+use Rattle.rx_model.proofs.Sets.{or_cases, false_unless, Among_cases, Among_left, Among_right, Among_map, Among_of_map, Among_flat_map, Among_of_filter, Among_distinct}
 use Rattle.rx_model.proofs.Exact.{exact_numbers, exact_triples}
 use Rattle.rx_model.proofs.Numbered.{place_tells}
 use Rattle.rx_graph.proofs.SetLemmas.{seen_more}
@@ -20,6 +20,7 @@ use Rattle.rx_many.specs.Standing.{AreNew}
 use Rattle.rx_many.specs.declared.pages.Page.{Page as CodePage}
 use Rattle.rx_many.proofs.KeyLemmas.{exact_blanks, alike}
 use Rattle.rx_many.proofs.LineLemmas.{numbers_stay}
+use Rattle.rx_terms.proofs.Bools.{untrue}
 
 -- ---- what is renamed apart
 
@@ -91,7 +92,7 @@ module _ {A : Type 0} (same : A → A → Bool) (exact : IsExact same) where
   unfolding Apart
   apart_distinct [] = tt
   apart_distinct (x ∷ xs) = (
-    λ y m. not_true (same x y) (Among_of_filter (λ y. not (same x y)) (distinct same xs) y m).1,
+    λ y m. untrue (same x y) (Among_of_filter (λ y. not (same x y)) (distinct same xs) y m).1,
     apart_filter (λ y. not (same x y)) (distinct same xs) (apart_distinct xs),
   )
 

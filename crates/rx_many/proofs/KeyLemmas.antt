@@ -7,16 +7,17 @@ use Rattle.rx_terms.specs.Text.{Chars}
 use Rattle.rx_model.specs.Sets.{IsExact, contains, with_one}
 use Rattle.rx_model.specs.Terms.{Triple, same_triple}
 use Rattle.rx_model.specs.Seen.{triple_seen}
-use Rattle.rx_model.proofs.Sets.{and_left, and_right, and_both}
+use Rattle.rx_model.proofs.Sets.{and_left, and_right}
 use Rattle.rx_model.proofs.Exact.{exact_numbers, exact_texts, exact_triples}
 use Rattle.rx_model.proofs.Seen.{triple_tells}
-use Rattle.rx_terms.proofs.Bools.{same_truth}
+use Rattle.rx_terms.proofs.Bools.{same_truth, untrue}
 use Rattle.rx_graph.proofs.SetLemmas.{any_seen, insert_seen}
 use Rattle.rx_many.specs.declared.statements.Statement.{Statement}
 use Rattle.rx_many.specs.contracts.statements.StatementPartialEq.TheImpl as statement_impl
 use Rattle.rx_many.specs.Lines.{Line, PageBlank, comment, statement, same_blank, same_line}
 use Rattle.rx_many.specs.Seen.{statement_seen}
 use Rattle.rx_many.specs.Standing.{IsAdded}
+use Rattle.std.proofs.lemmas.Bool.{and_from}
 
 -- ---- blank nodes of pages
 
@@ -26,7 +27,7 @@ pair_path a b p q = λ i. (p i, q i)
 pub exact_blanks : IsExact same_blank
 exact_blanks a b = (
   λ h. pair_path a b ((exact_numbers a.0 b.0).0 (and_left (nat_eq a.0 b.0) (nat_eq a.1 b.1) h)) ((exact_numbers a.1 b.1).0 (and_right (nat_eq a.0 b.0) (nat_eq a.1 b.1) h)),
-  λ e. and_both (nat_eq a.0 b.0) (nat_eq a.1 b.1) ((exact_numbers a.0 b.0).1 (ap (λ (p : PageBlank). p.0) e)) ((exact_numbers a.1 b.1).1 (ap (λ (p : PageBlank). p.1) e)),
+  λ e. and_from (nat_eq a.0 b.0) (nat_eq a.1 b.1) ((exact_numbers a.0 b.0).1 (ap (λ (p : PageBlank). p.0) e)) ((exact_numbers a.1 b.1).1 (ap (λ (p : PageBlank). p.1) e)),
 )
 
 -- ---- statements
@@ -42,7 +43,7 @@ alike (comment a f) line h = absurd (true≢false (sym h))
 
 -- a statement is the same as itself
 pub same_as_itself : (n : Chars) (t : Triple ℕ) → same_line (statement n t) (statement n t) ≡ true
-same_as_itself n t = and_both (bytes_eq n n) (same_triple nat_eq t t) ((exact_texts n n).1 refl) ((exact_triples nat_eq exact_numbers t t).1 refl)
+same_as_itself n t = and_from (bytes_eq n n) (same_triple nat_eq t t) ((exact_texts n n).1 refl) ((exact_triples nat_eq exact_numbers t t).1 refl)
 
 abbrev pub statement_eq : Statement → Statement → Bool
 statement_eq = (statement_impl.ghosts).eq
@@ -75,15 +76,10 @@ length_map f (x ∷ list) = ap suc (length_map f list)
 pub statement_new : (old new : List Statement) (s : Statement) (place : ℕ) (k : Statement) → not (list_any (statement_eq s) old) ≡ true → slice_get new place ≡ Some k → statement_eq s k ≡ true
     → IsAdded (map statement_seen old) (statement_seen s) (map statement_seen new) place
 statement_new old new s place k fresh at same = record {
-  lacks = sym (statement_among old s) ∙ not_true (list_any (statement_eq s) old) fresh;
+  lacks = sym (statement_among old s) ∙ untrue (list_any (statement_eq s) old) fresh;
   at = slice_get-map statement_seen new place ∙ ap (option_map statement_seen) at ∙ ap (λ z. Some (statement_seen z)) (sym ((exact_statements s k).0 same));
   within = omega (arith, slice_get_within new place k at, length_map statement_seen new);
 }
-  where
-    not_true : (b : Bool) → not b ≡ true → b ≡ false
-    not_true true h = absurd (true≢false (sym h))
-    not_true false h = refl
-
 pub statement_old : (old : List Statement) (s : Statement) → not (list_any (statement_eq s) old) ≡ false → contains same_line (map statement_seen old) (statement_seen s) ≡ true
 statement_old old s known = sym (statement_among old s) ∙ not_false (list_any (statement_eq s) old) known
   where

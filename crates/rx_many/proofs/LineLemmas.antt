@@ -23,6 +23,7 @@ use Rattle.rx_many.specs.Writing.{line_text, text_of}
 use Rattle.rx_many.specs.declared.documents.Document.{Document}
 use Rattle.rx_many.specs.declared.pages.Page.{Page as CodePage}
 use Rattle.rx_many.proofs.KeyLemmas.{exact_blanks, alike}
+use Rattle.std.proofs.Math.Bool.{or-true, or-false}
 
 -- ---- tests of lists
 
@@ -33,14 +34,6 @@ contains_both same (x ∷ xs) ys a = ap (λ b. same x a || b) (contains_both sam
     or_moved : (p q r : Bool) → (p || (q || r)) ≡ ((p || q) || r)
     or_moved true q r = refl
     or_moved false q r = refl
-
-or_false : (b : Bool) → (b || false) ≡ b
-or_false true = refl
-or_false false = refl
-
-or_true : (b : Bool) → (b || true) ≡ true
-or_true true = refl
-or_true false = refl
 
 -- ---- what is kept of lines
 
@@ -91,8 +84,8 @@ module _ (shared : List Chars) (statements lines : List (Line ℕ)) (k : Holds s
       go : (b : Bool) → same_line x (statement name t) ≡ b → contains same_line statements (statement name t) ≡ (contains same_line lines (statement name t) || (same_line x (statement name t) || false))
       go true e =
           let is : x ≡ statement name t = alike x (statement name t) e in
-          ap (contains same_line statements) (sym is) ∙ there ∙ sym (ap (λ b. contains same_line lines (statement name t) || (b || false)) e ∙ or_true (contains same_line lines (statement name t)))
-      go false e = k name t m n ∙ sym (ap (λ b. contains same_line lines (statement name t) || (b || false)) e ∙ or_false (contains same_line lines (statement name t)))
+          ap (contains same_line statements) (sym is) ∙ there ∙ sym (ap (λ b. contains same_line lines (statement name t) || (b || false)) e ∙ or-true (contains same_line lines (statement name t)))
+      go false e = k name t m n ∙ sym (ap (λ b. contains same_line lines (statement name t) || (b || false)) e ∙ or-false (contains same_line lines (statement name t)))
 
   holds_new : Holds shared (statements ++ x ∷ []) (lines ++ x ∷ [])
   holds_new name t m n =
@@ -103,7 +96,7 @@ module _ (shared : List Chars) (statements lines : List (Line ℕ)) (k : Holds s
   holds_other : ((name : Chars) (t : Triple ℕ) → Among shared name → has_blank t ≡ false → same_line x (statement name t) ≡ false) → Holds shared statements (lines ++ x ∷ [])
   holds_other other name t m n =
       k name t m n
-      ∙ sym (contains_both same_line lines (x ∷ []) (statement name t) ∙ ap (λ b. contains same_line lines (statement name t) || (b || false)) (other name t m n) ∙ or_false (contains same_line lines (statement name t)))
+      ∙ sym (contains_both same_line lines (x ∷ []) (statement name t) ∙ ap (λ b. contains same_line lines (statement name t) || (b || false)) (other name t m n) ∙ or-false (contains same_line lines (statement name t)))
 
 in_own : (shared : List Chars) (name : Chars) (u : Triple ℕ) → (Among shared name → has_blank u ≡ false → ⊥) → (other : Chars) (t : Triple ℕ) → Among shared other → has_blank t ≡ false
     → same_line (statement name u) (statement other t) ≡ false

@@ -12,6 +12,7 @@ use Rattle.rx_model.proofs.Sets.{or_cases, Among_cases, Among_left, Among_right}
 use Rattle.rx_graph.proofs.SetLemmas.{one_more}
 use Rattle.rx_many.specs.Names.{name_of, Notes, AreApart}
 use Rattle.rx_many.specs.declared.pages.Page.{Page}
+use Rattle.std.proofs.Math.Bool.{or-true}
 
 -- ---- keys and the list of them
 
@@ -28,12 +29,7 @@ among_any (x ∷ list) a h = elim (or_cases (iri_eq a x) (list_any (iri_eq a) li
 pub any_among : (list : List Chars) (a : Chars) → Among list a → list_any (iri_eq a) list ≡ true
 any_among [] a h = absurd h
 any_among (x ∷ list) a (inl e) = ap (λ b. b || list_any (iri_eq a) list) ((exact_iris a x).1 (sym e))
-any_among (x ∷ list) a (inr h) = ap (λ b. iri_eq a x || b) (any_among list a h) ∙ or_true (iri_eq a x)
-  where
-    or_true : (b : Bool) → (b || true) ≡ true
-    or_true true = refl
-    or_true false = refl
-
+any_among (x ∷ list) a (inr h) = ap (λ b. iri_eq a x || b) (any_among list a h) ∙ or-true (iri_eq a x)
 pub not_among : (list : List Chars) (a : Chars) → list_any (iri_eq a) list ≡ false → Among list a → ⊥
 not_among list a h m = true≢false (sym (any_among list a m) ∙ h)
 

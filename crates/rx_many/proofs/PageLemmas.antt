@@ -7,7 +7,7 @@ use Rattle.rx_refs.specs.Resolve.{without_fragment}
 use Rattle.rx_model.specs.Sets.{Among, contains, with_one, with_all}
 use Rattle.rx_model.specs.Terms.{Node, Iri, Blank, Term, Resource, Literal, Triple}
 use Rattle.rx_model.specs.Numbered.{blank_of_node, blank_of_term, blanks_of, place_in, rename_node, rename_term, rename}
-use Rattle.rx_model.proofs.Sets.{or_cases, and_left, and_right, and_both, not_true, Among_left, Among_right, false_unless, Among_cases, Among_of_map, Among_flat_map, Among_of_flat_map, Among_of_distinct, Among_by_contains}
+use Rattle.rx_model.proofs.Sets.{or_cases, and_left, and_right, Among_left, Among_right, false_unless, Among_cases, Among_of_map, Among_flat_map, Among_of_flat_map, Among_of_distinct, Among_by_contains}
 use Rattle.rx_graph.proofs.NumberLemmas.{same_triple_by}
 use Rattle.rx_pieces.specs.Writable.{WritableTriple}
 use Rattle.rx_many.specs.Blank.{has_blank, is_blank_node, is_blank_term}
@@ -24,6 +24,8 @@ use Rattle.rx_many.proofs.FreshLemmas.{still_new, line_named, lines_named}
 use Rattle.rx_many.proofs.KeyLemmas.{exact_blanks}
 use Rattle.rx_many.proofs.HereLemmas.{known_here, number_here}
 use Rattle.rx_many.proofs.LineLemmas.{table_more, stands_old, stands_new, stands_own}
+use Rattle.std.proofs.lemmas.Bool.{and_from}
+use Rattle.rx_terms.proofs.Bools.{untrue}
 
 -- ---- blank nodes with the page's place
 
@@ -81,13 +83,13 @@ its_blank t e = elim (or_cases (is_blank_node t.subject) (is_blank_term t.object
 
 -- whether several pages may state it
 pub repeats : (is_shared blank : Bool) → (is_shared && not blank) ≡ true → (is_shared ≡ true) × (blank ≡ false)
-repeats is_shared blank e = (and_left is_shared (not blank) e, not_true blank (and_right is_shared (not blank) e))
+repeats is_shared blank e = (and_left is_shared (not blank) e, untrue blank (and_right is_shared (not blank) e))
 
 pub repeats_not : (is_shared : Bool) (t : Triple ℕ) (shared : List Chars) (name : Chars) → Tells is_shared shared name → (is_shared && not (has_blank t)) ≡ false → Among shared name → has_blank t ≡ false → ⊥
 repeats_not is_shared t shared name tells e m n = go is_shared refl
   where
     go : (b : Bool) → is_shared ≡ b → ⊥
-    go true y = true≢false (sym (and_both is_shared (not (has_blank t)) y (ap not n)) ∙ e)
+    go true y = true≢false (sym (and_from is_shared (not (has_blank t)) y (ap not n)) ∙ e)
     go false y = tells.no y m
 
 -- ---- one triple more

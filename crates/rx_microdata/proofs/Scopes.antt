@@ -3,7 +3,7 @@ use Rattle.std.specs.Prelude.{◌≡◌, ℕ, suc, ◌+◌, ◌<◌, ◌≤◌, 
 use Rattle.std.specs.List.{list_all}
 use Rattle.std.proofs.Common.{refl, sym, ap, subst, ◌∙◌}
 use Rattle.std.proofs.lemmas.List.Elements.{Contains-append_left, Contains-append_right, All-contains}
-use Rattle.std.proofs.lemmas.Bool.{ltb-true, lt-ltb, leb-true, le-leb, cases_lt}
+use Rattle.std.proofs.lemmas.Bool.{ltb-true, lt-ltb, leb-true, le-leb, cases_lt, false_from_ne_true}
 use mathlib.Core.Logic.{inl, inr}
 use native.Mathlib.Omega.{arith}
 use Rattle.rx_grammar.specs.Trees.{StartTag, Tree, end, element, text}
@@ -11,7 +11,7 @@ use Rattle.rx_microdata.specs.Facts.{begins_item, facts_of}
 use Rattle.rx_microdata.specs.Elements.{Placed, count, scope_in, placed_from, elements_of, is_below, IsBelow, is_item}
 use Rattle.rx_microdata.specs.Properties.{reaches}
 use Rattle.rx_microdata.specs.Laws.{is_before, reaches_by_scope, ScopesTell}
-use Rattle.rx_microdata.proofs.Lists.{and_parts, and_of, false_and, or_parts, or_left, or_right, not_true, true_not, each_passes, all_pass, none, first, later, three, bool_same, not_so, contradiction}
+use Rattle.rx_microdata.proofs.Lists.{and_parts, and_of, false_and, or_parts, or_left, or_right, not_true, true_not, each_passes, all_pass, none, first, later, three, bool_same, contradiction}
 use Rattle.rx_microdata.proofs.PropertiesRise.{Within, placed_within}
 
 pub below_parts : (c e : Placed) → IsBelow c e → (c.place < e.place) × (e.place < c.past)
@@ -220,7 +220,7 @@ module _ (tree : Tree) (start e : Placed) (here : Contains (elements_of tree) e)
       true_not (stops between) (false_and (nat_le start.place between.place && is_below between e) (is_item between) (λ both.
       let parts = and_parts (nat_le start.place between.place) (is_below between e) both in
       let from = leb-true start.place between.place parts.0 in
-      not_so (is_item between) (λ item.
+      false_from_ne_true (is_item between) (λ item.
       let n = before_than between.place start.place e.scope ((scopes None 0 tree e here).1 between held parts.1 item) before in
       omega (arith, n, from)))))
 

@@ -4,7 +4,7 @@ use Rattle.std.specs.List.{list_any}
 use Rattle.std.proofs.Common.{refl, sym, ap, subst, ◌∙◌}
 use Rattle.std.proofs.lemmas.List.Elements.{All-contains}
 use Rattle.std.proofs.lemmas.List.Folds.{list_any-append}
-use Rattle.std.proofs.lemmas.Bool.{leb-true, le-leb, eqb-true, eq-eqb, cases_lt}
+use Rattle.std.proofs.lemmas.Bool.{leb-true, le-leb, eqb-true, eq-eqb, cases_lt, false_from_ne_true}
 use mathlib.Core.Logic.{inl, inr}
 use native.Mathlib.Omega.{arith}
 use Rattle.std.proofs.lemmas.Option.{none-some}
@@ -12,7 +12,7 @@ use Rattle.rx_grammar.specs.Trees.{Tree}
 use Rattle.rx_microdata.specs.Elements.{Placed, elements_of, is_below, IsBelow, is_item, names_of}
 use Rattle.rx_microdata.specs.Properties.{IsChild, Reaches, itself, downward, is_any, first_with_id, has_id, is_child, starts_of, reaches, is_property}
 use Rattle.rx_microdata.specs.Laws.{Rise, is_scope, reaches_by_scope, is_property_by_scope, ScopesList}
-use Rattle.rx_microdata.proofs.Lists.{and_parts, and_of, or_parts, none, first_or_later, or_left, or_right, some_same, not_so, contradiction, bool_same, found, any_passes, kept, keeps, given, found_first, has_first, filter_same, any_same}
+use Rattle.rx_microdata.proofs.Lists.{and_parts, and_of, or_parts, none, first_or_later, or_left, or_right, some_same, contradiction, bool_same, found, any_passes, kept, keeps, given, found_first, has_first, filter_same, any_same}
 use Rattle.rx_microdata.proofs.PropertiesAre.{child_from, child_to, reaches_from, reaches_to}
 use Rattle.rx_microdata.proofs.PropertiesRise.{placed_rise}
 use Rattle.rx_microdata.proofs.Scopes.{below_parts, below_of, AtMost, scopes, nested, tell}
@@ -144,7 +144,7 @@ module _ (tree : Tree) (root e : Placed) (root_here : Contains (elements_of tree
       let r = below_parts root c parts.0 in
       let r0 = r.0 in
       let no_item : (b : Placed) → Contains page b → c.place ≤ b.place → IsBelow b e → is_item b ≡ false = λ b hb l inside.
-      not_so (is_item b) (λ i.
+      false_from_ne_true (is_item b) (λ i.
       let m : b.place ≤ root.place = subst (AtMost b.place) s ((scopes None 0 tree e here).1 b hb inside i) in
       omega (arith, m, l, r0)) in
       let enclosing : (x : Placed) → Contains page x → IsBelow x c → IsBelow x e = λ x hx below_c.
@@ -161,7 +161,7 @@ module _ (tree : Tree) (root e : Placed) (root_here : Contains (elements_of tree
       let child : IsChild page root c = (
         parts.0,
         λ x hx below_root.
-            not_so (is_below x c) (λ below_c.
+            false_from_ne_true (is_below x c) (λ below_c.
             let y0 = (below_parts x c below_c).0 in
             let l = least leads page rises c x first_one.1 hx
             (and_of (is_below root x) (x.place == e.place || is_below x e) below_root (or_right (x.place == e.place) (is_below x e) (enclosing x hx below_c))) in

@@ -5,18 +5,17 @@ use Rattle.rx_terms.specs.Text.{Chars}
 use Rattle.rx_model.specs.Terms.{Node, Iri, Term, Resource, Literal, Triple, same_node, same_term, same_triple}
 use Rattle.rx_model.specs.Copied.{rdfa_copy, rdfa_pattern, spo, type_pattern, copy, SaysPattern, Closed, held, copied_from, Referenced, SaysLive, patterned, is_pattern, pattern_object, live, edge, edges, leads, says_pattern, is_referenced, given, replaced, treated, copied, CopiesPatterns}
 use Rattle.rx_model.specs.Vocabulary.{rdf_type}
-use Rattle.rx_model.proofs.Sets.{or_cases, or_left, or_right, and_left, and_right, and_both, not_true, false_unless, Among-contains, Among_by_contains, Among_of_distinct, Among_distinct, Among_flat_map, Among_of_flat_map, Among_filter_map, Among_of_filter_map}
+use Rattle.rx_model.proofs.Sets.{or_cases, or_left, or_right, and_left, and_right, false_unless, Among-contains, Among_by_contains, Among_of_distinct, Among_distinct, Among_flat_map, Among_of_flat_map, Among_filter_map, Among_of_filter_map}
 use Rattle.rx_model.proofs.Leads.{leads_self, leads_on, leads_pair, leads_keep}
 use Rattle.rx_model.proofs.Exact.{exact_texts, exact_nodes, exact_terms, exact_triples}
+use Rattle.std.proofs.lemmas.Option.{cond_some}
+use Rattle.std.proofs.lemmas.Bool.{and_from}
+use Rattle.rx_terms.proofs.Bools.{untrue}
 
 copy_is_no_type : rdfa_copy ≢ rdf_type
 copy_is_no_type e = true≢false (sym ((exact_texts rdfa_copy rdf_type).1 e))
 
-of_choice : {A : Type 0} (b : Bool) (x y : A) → cond b (Some x) None ≡ Some y → (b ≡ true) × (x ≡ y)
-of_choice true x y h = (refl, cc)
-of_choice false x y h = cc
-
-of_none : {A : Type 0} (o : Option A) → is_none o ≡ true → o ≡ None
+pub of_none : {A : Type 0} (o : Option A) → is_none o ≡ true → o ≡ None
 of_none None h = refl
 of_none (Some a) h = absurd (true≢false (sym h))
 
@@ -162,7 +161,7 @@ module _ {B : Type 0} (same : B → B → Bool) (exact : IsExact same) where
     not_says p o n = false_unless (says_pattern same p o) (λ h. n ((exact_texts p rdf_type).0 (and_left (bytes_eq p rdf_type) (same_term same o (Resource (Iri rdfa_pattern))) h), (exact_terms same exact o (Resource (Iri rdfa_pattern))).0 (and_right (bytes_eq p rdf_type) (same_term same o (Resource (Iri rdfa_pattern))) h)))
 
     says_true : (p : Chars) (o : Term B) → SaysPattern p o → says_pattern same p o ≡ true
-    says_true p o s = and_both (bytes_eq p rdf_type) (same_term same o (Resource (Iri rdfa_pattern))) ((exact_texts p rdf_type).1 s.0) ((exact_terms same exact o (Resource (Iri rdfa_pattern))).1 s.1)
+    says_true p o s = and_from (bytes_eq p rdf_type) (same_term same o (Resource (Iri rdfa_pattern))) ((exact_texts p rdf_type).1 s.0) ((exact_terms same exact o (Resource (Iri rdfa_pattern))).1 s.1)
 
     -- ---- everything patterned is in the copied list
     treats_kept : (u : Triple B) → is_referenced same (edges same list) u.subject ≡ false → live same list u.predicate u.object ≡ None → treated same list (edges same list) u ≡ u ∷ []
@@ -196,8 +195,8 @@ module _ {B : Type 0} (same : B → B → Bool) (exact : IsExact same) where
         let a : Bool = leads (same_node same) (edges same list) t w.subject in
         let b : Bool = not (says_pattern same w.predicate w.object) in
         let c : Bool = is_none (live same list w.predicate w.object) in
-        let r = of_choice (a && b && c) (spo s w.predicate w.object) u e in
-        (and_left a b (and_left (a && b) c r.0), not_true (says_pattern same w.predicate w.object) (and_right a b (and_left (a && b) c r.0)), of_none (live same list w.predicate w.object) (and_right (a && b) c r.0), sym r.1)
+        let r = cond_some (a && b && c) (spo s w.predicate w.object) u e in
+        (and_left a b (and_left (a && b) c r.0), untrue (says_pattern same w.predicate w.object) (and_right a b (and_left (a && b) c r.0)), of_none (live same list w.predicate w.object) (and_right (a && b) c r.0), sym r.1)
 
     from_gets : (u : Triple B) → is_referenced same (edges same list) u.subject ≡ false → live same list u.predicate u.object ≡ None → Closed (Among list) u → patterned (Among list) u
     from_gets u r l c = (c, no_reference u.subject r, no_live u.predicate u.object l)

@@ -4,7 +4,8 @@ use Rattle.std.specs.Cmp.Lexicographic.{bytes_decides}
 use Rattle.rx_model.specs.Sets.{IsExact}
 use Rattle.std.proofs.lemmas.Bool.Decides.{Decides-eqb}
 use Rattle.rx_model.specs.Terms.{Plain, Tagged, Typed, Iri, Blank, Resource, Literal, Triple, same_kind, same_node, same_term, same_triple}
-use Rattle.rx_model.proofs.Sets.{and_left, and_right, and_both}
+use Rattle.rx_model.proofs.Sets.{and_left, and_right}
+use Rattle.std.proofs.lemmas.Bool.{and_from}
 
 pub exact_texts : IsExact bytes_eq
 exact_texts a b = ((bytes_decides a b).0, (bytes_decides a b).1)
@@ -31,7 +32,7 @@ module _ {B : Type 0} (same : B → B → Bool) (exact : IsExact same) where
   exact_terms (Resource a) (Resource b) = (λ h. ap Resource ((exact_nodes a b).0 h), λ e. (exact_nodes a b).1 (cc))
   exact_terms (Literal a k) (Literal b l) = (
     λ h. ap₂ Literal ((exact_texts a b).0 (and_left (bytes_eq a b) (same_kind k l) h)) ((exact_kinds k l).0 (and_right (bytes_eq a b) (same_kind k l) h)),
-    λ e. and_both (bytes_eq a b) (same_kind k l) ((exact_texts a b).1 (cc)) ((exact_kinds k l).1 (cc)),
+    λ e. and_from (bytes_eq a b) (same_kind k l) ((exact_texts a b).1 (cc)) ((exact_kinds k l).1 (cc)),
   )
   exact_terms (Resource a) (Literal b l) = (λ h. cc, λ e. cc)
   exact_terms (Literal a k) (Resource b) = (λ h. cc, λ e. cc)
@@ -45,7 +46,7 @@ module _ {B : Type 0} (same : B → B → Bool) (exact : IsExact same) where
       let p : Bool = bytes_eq t.predicate u.predicate in
       let o : Bool = same_term same t.object u.object in (
         λ h. triple_path t u ((exact_nodes t.subject u.subject).0 (and_left s p (and_left (s && p) o h))) ((exact_texts t.predicate u.predicate).0 (and_right s p (and_left (s && p) o h))) ((exact_terms t.object u.object).0 (and_right (s && p) o h)),
-        λ e. and_both (s && p) o (and_both s p ((exact_nodes t.subject u.subject).1 (ap (λ (x : Triple B). x.subject) e)) ((exact_texts t.predicate u.predicate).1 (ap (λ (x : Triple B). x.predicate) e))) ((exact_terms t.object u.object).1 (ap (λ (x : Triple B). x.object) e)),
+        λ e. and_from (s && p) o (and_from s p ((exact_nodes t.subject u.subject).1 (ap (λ (x : Triple B). x.subject) e)) ((exact_texts t.predicate u.predicate).1 (ap (λ (x : Triple B). x.predicate) e))) ((exact_terms t.object u.object).1 (ap (λ (x : Triple B). x.object) e)),
       )
 
 pub exact_numbers : IsExact nat_eq

@@ -2,7 +2,8 @@
 use Rattle.std.proofs.Common.{◌≡◌, ◌⊎◌, Bool, true, ◌&&◌, List, [], ◌∷◌, refl, ◌∙◌, subst, inl, inr}
 use Rattle.rx_model.specs.Sets.{Among, IsExact}
 use Rattle.rx_model.specs.Copied.{Leads, here, onward, leads, LeadsAlong}
-use Rattle.rx_model.proofs.Sets.{or_cases, or_left, or_right, and_left, and_right, and_both}
+use Rattle.rx_model.proofs.Sets.{or_cases, or_left, or_right, and_left, and_right}
+use Rattle.std.proofs.lemmas.Bool.{and_from}
 
 module _ {A : Type 0} (same : A → A → Bool) (exact : IsExact same) where
   pub leads_self : (es : List (A × A)) (a : A) → leads same es a a ≡ true
@@ -19,7 +20,7 @@ module _ {A : Type 0} (same : A → A → Bool) (exact : IsExact same) where
       [ inl k ↦ inl k | inr k ↦ inr (and_left (leads same es a e.0) (leads same es e.1 b) k, and_right (leads same es a e.0) (leads same es e.1 b) k) ]
 
   leads_via : (e : A × A) (es : List (A × A)) (a b : A) → leads same es a e.0 ≡ true → leads same es e.1 b ≡ true → leads same (e ∷ es) a b ≡ true
-  leads_via e es a b h k = or_right (leads same es a b) (leads same es a e.0 && leads same es e.1 b) (and_both (leads same es a e.0) (leads same es e.1 b) h k)
+  leads_via e es a b h k = or_right (leads same es a b) (leads same es a e.0 && leads same es e.1 b) (and_from (leads same es a e.0) (leads same es e.1 b) h k)
 
   leads_more : (e : A × A) (es : List (A × A)) (a b : A) → leads same es a b ≡ true → leads same (e ∷ es) a b ≡ true
   leads_more e es a b h = or_left (leads same es a b) (leads same es a e.0 && leads same es e.1 b) h

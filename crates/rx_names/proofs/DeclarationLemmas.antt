@@ -15,6 +15,7 @@ use Rattle.rx_terms.proofs.Bools.{by_test}
 use Rattle.rx_rdfa.specs.Names.{Table, counts, xmlns_of, prefix_name, without_colon, pairs_after}
 use Rattle.rx_names.specs.declared.rows.Declaration.{Declaration}
 use Rattle.rx_names.specs.Rows.{mapping_rows, prefix_row}
+use Rattle.rx_model.proofs.Sets.{and_right}
 
 pub becomes : {A E : Type 0} (r : Result A E) (new a b : List Declaration) → a ≡ b → OnOk r (new ≡ a) → OnOk r (new ≡ b)
 becomes (Ok x) new a b e h = h ∙ e
@@ -42,11 +43,7 @@ pub sound-mapping : (name low iri : Chars) (b : Bool) → low ≡ lowered name �
 sound-mapping name low iri b e f t =
     let same : lowered low ≡ low = ap lowered e ∙ lowered-lowered name ∙ sym e in
     let whole : counts (low, iri) ≡ true = sym f ∙ t in
-    and_from _ _ ((bytes_eq-Decides (lowered low) low).1 same) (last_and _ (has_scheme iri) whole) where
-      last_and : (x y : Bool) → (x && y) ≡ true → y ≡ true
-      last_and true y h = h
-      last_and false y h = absurd (cc h)
-
+    and_from _ _ ((bytes_eq-Decides (lowered low) low).1 same) (and_right _ (has_scheme iri) whole)
 -- Attributes `xmlns:NAME`
 
 pub xmlns-chars : chars (codes "xmlns:") ≡ codes "xmlns:"

@@ -17,6 +17,7 @@ use Rattle.rx_rdfa.specs.Names.{Table, counts, xmlns_of, of_prefix}
 use Rattle.rx_names.specs.Marks.{mark_of, name_mark, has_mark, Marked}
 use Rattle.rx_names.specs.Rows.{prefix_row, vocabulary_rows, language_rows, rows_of}
 use Rattle.rx_names.proofs.DeclarationLemmas.{xmlns-chars}
+use Rattle.std.proofs.lemmas.Bool.{or_parts}
 
 -- bits that are set stay so where others are set
 stay_set : (mask word more : ℕ) → bit_and word mask ≡ mask → bit_and (bit_or word more) mask ≡ mask
@@ -85,16 +86,12 @@ no_more : (attributes : List (Chars × Chars)) (a : Chars × Chars) → flat_map
 no_more attributes a h t =
     flat_map-append xmlns_of attributes (a ∷ []) ∙ ap (λ (x : Table). x ++ flat_map xmlns_of (a ∷ [])) h ∙ append-nil (xmlns_of a) ∙ ap (λ b. cond b ((lowered (drop 6 a.0), trimmed a.1) ∷ []) []) t
 
-neither : (a b : Bool) → (a || b) ≡ false → (a ≡ false) × (b ≡ false)
-neither true b e = absurd (cc e)
-neither false b e = (refl, e)
-
 -- one attribute more
 pub namespaces_taken : (attributes : List (Chars × Chars)) (i : ℕ) (told new : Bool) (a : Chars × Chars) → i < length attributes → get_or attributes i a ≡ a → new ≡ (told || begins_with (codes "xmlns:") a.0)
     → (told ≡ false → flat_map xmlns_of (take i attributes) ≡ []) → new ≡ false → flat_map xmlns_of (take (i + 1) attributes) ≡ []
 namespaces_taken attributes i told new a within at is before none =
     let more : take (i + 1) attributes ≡ take i attributes ++ a ∷ [] = take_more attributes i a within ∙ ap (λ x. take i attributes ++ x ∷ []) at in
-    let both = neither told (begins_with (codes "xmlns:") a.0) (sym is ∙ none) in
+    let both = or_parts told (begins_with (codes "xmlns:") a.0) (sym is ∙ none) in
     ap (flat_map xmlns_of) more ∙ no_more (take i attributes) a (before both.0) both.1
 
 -- a tag that has none of the names by which names are declared

@@ -76,7 +76,7 @@ before-all front middle (row ∷ rows) less h =
     and_from _ _ (ap is_lt (nat_list_cmp_total.trans (encode_utf8_all front) (encode_utf8_all middle) (encode_utf8_all row.0) less (less-is (byte_order middle row.0) parts.0)))
     (before-all front middle rows less parts.1)
 
-some-same : {A : Type 0} {a b : A} → Some a ≡ Some b → a ≡ b
+pub some-same : {A : Type 0} {a b : A} → Some a ≡ Some b → a ≡ b
 some-same e = cc
 
 mapped : (first : Chars × Chars) (o : Option Table) (t : Table) → option_map (λ table. first ∷ table) o ≡ Some t → (rest : Table) × (o ≡ Some rest) × (first ∷ rest ≡ t)

@@ -1,10 +1,10 @@
 -- The open elements, the innermost first, and how they change.
 use Rattle.std.proofs.Common.{◌≡◌, ◌∙◌, ℕ, zero, suc, ◌+◌, ◌<◌, ◌≤◌, Bool, true, List, [], ◌∷◌, ◌++◌, refl, ap, subst, length, nat_le, slice_set, arith}
 use Rattle.std.specs.Prelude.{if◌then◌else◌}
-use Rattle.std.proofs.lemmas.Bool.Decides.{nat_tests}
 use Rattle.std.proofs.lemmas.List.{get_or-set_other, get_or-set_same, get_or_append_left, length-append}
 use Rattle.rx_terms.proofs.Bools.{by_test}
 use Rattle.rx_nest.specs.Levels.{Level, Levels, no_level, innermost_first, kept}
+use Rattle.rx_pages.proofs.BytesOn.{over}
 
 pub length_inner : (n : ℕ) (kept : List Level) → length (innermost_first n kept) ≡ n
 length_inner zero kept = refl
@@ -40,13 +40,10 @@ kept_short : (ends : Level → Bool) (levels : Levels) → length (kept ends lev
 kept_short ends [] = omega arith
 kept_short ends (level ∷ above) = by_test {G = length (kept ends (level ∷ above)) ≤ length (level ∷ above)} (ends level) (λ e. let w = kept_short ends above in rw e (omega arith)) (λ e. rw e (omega arith))
 
-at_least : (a b : ℕ) → nat_le a b ≡ true → a ≤ b
-at_least a b h = grind (arith, nat_tests)
-
 -- where all levels stay taken none has ended
 pub kept_full : (ends : Level → Bool) (levels : Levels) (most : ℕ) → length levels ≤ most → nat_le most (length (kept ends levels)) ≡ true → kept ends levels ≡ levels
 kept_full ends [] most w h = refl
 kept_full ends (level ∷ above) most w h =
     by_test {G = kept ends (level ∷ above) ≡ level ∷ above} (ends level)
-    (λ e. let k = at_least most (length (kept ends above)) (subst (λ (b : Bool). nat_le most (length (if b then kept ends above else level ∷ above)) ≡ true) e h) in let s = kept_short ends above in absurd (omega arith))
+    (λ e. let k = over most (length (kept ends above)) (subst (λ (b : Bool). nat_le most (length (if b then kept ends above else level ∷ above)) ≡ true) e h) in let s = kept_short ends above in absurd (omega arith))
     (λ e. rw e refl)

@@ -1,8 +1,7 @@
 -- What is read of a piece without `<` and `&` between two tokens: text.
-use Rattle.std.proofs.Common.{◌≡◌, ◌∙◌, ℕ, zero, suc, ◌<◌, Bool, true, false, List, [], ◌∷◌, ◌++◌, map, take, drop, refl, sym, ap, ap₂, subst, Option, None, Some, Result, Ok, Err, eqb-true, arith, lit<, append_assoc, append-nil}
+use Rattle.std.proofs.Common.{◌≡◌, ◌∙◌, ℕ, zero, suc, ◌<◌, Bool, true, false, List, [], ◌∷◌, ◌++◌, map, take, drop, refl, sym, ap, ap₂, subst, Option, None, Some, Result, Ok, Err, eqb-true, lit<, append_assoc, append-nil}
 use Rattle.std.specs.Prelude.{◌&&◌, ◌||◌, ◌==◌, not, nat_le, if◌then◌else◌}
-use Rattle.std.proofs.lemmas.Bool.{and_from}
-use Rattle.std.proofs.lemmas.Bool.Decides.{nat_tests}
+use Rattle.std.proofs.lemmas.Bool.{and_from, or_parts}
 use Rattle.std.proofs.lemmas.List.{append_cancel_left, map-append}
 use Rattle.rx_terms.specs.Ascii.{less_than_sign, ampersand, greater_than_sign}
 use Rattle.rx_terms.specs.Text.{Chars}
@@ -11,7 +10,7 @@ use Rattle.rx_chars.specs.declared.utf8.Utf8Step.{Utf8Step}
 use Rattle.rx_chars.specs.declared.utf8.Utf8Step.TheVariants.{More, Char, Bad}
 use Rattle.rx_chars.specs.Utf8.{answer_of}
 use Rattle.rx_chars.specs.Characters.{Entry, byte_order_mark, line_feed, carriage_return, as_line_end}
-use Rattle.rx_terms.proofs.Bools.{by_test, split, both, neither, untrue}
+use Rattle.rx_terms.proofs.Bools.{by_test, split, both, untrue}
 use Rattle.rx_grammar.specs.declared.contents.Content.{Content}
 use Rattle.rx_grammar.specs.declared.faults.Fault.{Fault}
 use Rattle.rx_grammar.specs.declared.faults.Kind.{Kind}
@@ -45,15 +44,12 @@ use Rattle.rx_nest.specs.Listening.{is_calm}
 use Rattle.rx_nest.specs.Quiets.{HasMemory}
 use Rattle.rx_scan.proofs.QuietLemmas.{last_byte, begins_line}
 use Rattle.rx_pages.proofs.LastToken.{token_of_item}
+use Rattle.rx_reader.proofs.Fronts.{equal}
 
 unlike : (held : List ℕ) (byte c d : ℕ) → (byte == d) ≡ false → answer_of (held ++ byte ∷ []) ≡ Char c → (10 == d) ≡ false → d < 128 → (as_line_end c == d) ≡ false
 unlike held byte c d q e n l =
     by_test {G = (as_line_end c == d) ≡ false} (as_line_end c == d)
-    (λ t. absurd (let same : c ≡ d = begins_line c d (eqb-true (as_line_end c) d t) n in let is : byte ≡ d = last_byte held byte d (e ∙ ap Char same) l in let w : true ≡ false = sym (again d) ∙ (ap (λ (x : ℕ). x == d) (sym is) ∙ q) in cc)) (λ f. f)
-  where
-    again : (d : ℕ) → (d == d) ≡ true
-    again d = grind (arith, nat_tests)
-
+    (λ t. absurd (let same : c ≡ d = begins_line c d (eqb-true (as_line_end c) d t) n in let is : byte ≡ d = last_byte held byte d (e ∙ ap Char same) l in let w : true ≡ false = sym (equal d) ∙ (ap (λ (x : ℕ). x == d) (sym is) ∙ q) in cc)) (λ f. f)
 abbrev Plain : Verdict → Type 0
 Plain goes_on = ⊥
 Plain (whole token) = (t : Tag) → token ≡ tag t → ⊥
@@ -95,7 +91,7 @@ module _ (syntax : Syntax) (limits : Limits) (spot : Spot) where
       by Bad k = tt
       by More k = split Calm (is_too_long syntax limits spot s.run (token_at s) s.at) _ _ (λ m. tt) (λ m. (e, tt))
       by (Char c) k =
-          let n = neither (byte == 60) (byte == 38) (untrue (byte == 60 || byte == 38) q) in
+          let n = or_parts (byte == 60) (byte == 38) (untrue (byte == 60 || byte == 38) q) in
           split Calm (c == 0) _ _ (λ m. tt)
           (λ m. split Calm (is_too_long syntax limits spot s.run (token_at s) s.at) _ _ (λ o. tt)
           (λ o. char_calm s c e (unlike s.held byte c 60 n.0 k refl (lit< tt)) (unlike s.held byte c 38 n.1 k refl (lit< tt))))

@@ -1,6 +1,6 @@
 -- Tokens of text leave the elements as they are, and show their text.
 use Rattle.std.proofs.Common.{◌≡◌, ◌∙◌, Bool, true, false, List, [], ◌∷◌, ◌++◌, refl, sym, ap, append_assoc, append-nil, Option, Some, Ok}
-use Rattle.std.specs.Prelude.{◌&&◌, not, map, if◌then◌else◌}
+use Rattle.std.specs.Prelude.{◌&&◌, map, if◌then◌else◌}
 use Rattle.std.proofs.lemmas.List.{map-append}
 use Rattle.std.proofs.lemmas.Bool.{and_from}
 use Rattle.rx_terms.specs.Text.{Chars}
@@ -14,6 +14,7 @@ use Rattle.rx_pages.specs.PageReader.{Spot, spot_of, is_none_left, steps_on, no_
 use Rattle.rx_pages.proofs.ScanSteps.{Stays, one_step}
 use Rattle.rx_scan.specs.Steps.{joined, texts_of, keeps_first}
 use Rattle.rx_nest.specs.Signs.{Sign, said, Flags, is_hidden, Sight, see, sees}
+use Rattle.rx_terms.proofs.Bools.{untrue}
 
 pub sees_append : (sight : Sight) (a b : List Event) → sees sight (a ++ b) ≡ sees (sees sight a) b
 sees_append sight [] b = refl
@@ -121,10 +122,6 @@ module _ (syntax : Syntax) (limits : Limits) (spot : Spot) where
             ∙ ap (λ x. signs ++ x) (sym (said_append n.phase (is_hidden flags) p.a p.b) ∙ ap (λ x. said_by n.phase (is_hidden flags) x) (sym p.are)))));
       }
     where
-      untrue : (b : Bool) → not b ≡ true → b ≡ false
-      untrue true e = absurd (cc)
-      untrue false e = refl
-
       same_false : (items : List Item) → (if is_none_left items then false else false) ≡ false
       same_false [] = refl
       same_false (i ∷ items) = refl

@@ -27,7 +27,7 @@ use Rattle.rx_pages.specs.Closings.{IsFront}
 use Rattle.rx_pages.specs.Scanner.{Verdict, goes_on, whole, ended, refused, verdict, at_first}
 use Rattle.rx_pages.specs.Nesting.{Event, begins, says, finishes, Nesting, Step, nest_step, step_by, unless_refused, tag_passes, begun_under, text_step, told as told_text, doctype_step, ended_by_start, ended_under, ended_by_end}
 use Rattle.rx_pages.specs.PageReader as reader
-use Rattle.rx_pages.specs.PageReader.{Spot, spot_of, Scanning, starts_at, Scanned, first_of, token_at, is_doctype, item_of, is_too_long, completed, told_first, with_item, after_token, read_char, read_answer, read_byte, Progress, Reading, with_events, step_on, steps_on, no_step, progress_of, nested_items, page_byte_on, telling, page_on, page_read, nothing_read, end_of, may_end, fault_in, is_none_left}
+use Rattle.rx_pages.specs.PageReader.{Spot, spot_of, Scanning, starts_at, Scanned, first_of, token_at, is_doctype, item_of, is_too_long, told_first, with_item, after_token, read_char, read_answer, read_byte, Progress, Reading, with_events, step_on, steps_on, no_step, progress_of, nested_items, page_byte_on, telling, page_on, page_read, nothing_read, end_of, may_end, fault_in, is_none_left}
 use Rattle.rx_pages.proofs.EndedRuns.{ended_kept}
 use Rattle.rx_pages.proofs.FaultFronts.{faults_follow_fronts}
 use Rattle.rx_pages.proofs.OnlyPages.{found_fault}

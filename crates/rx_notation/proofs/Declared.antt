@@ -4,14 +4,14 @@ use Rattle.std.proofs.lemmas.Bool.{and_from}
 use Rattle.rx_terms.specs.Text.{Chars}
 use Rattle.rx_terms.specs.Iri.{IsIri}
 use Rattle.rx_model.specs.Sets.{Among, contains}
-use Rattle.rx_model.specs.Terms.{Kind, Plain, Tagged, Typed}
+use Rattle.rx_model.specs.Terms.{Kind, Typed}
 use Rattle.rx_model.specs.Vocabulary.{rdf_type}
 use Rattle.rx_model.proofs.Sets.{Among_filter, Among_of_filter, Among-contains, Among_by_contains, Among_cases, Among_left, Among_right}
 use Rattle.rx_model.proofs.Exact.{exact_texts}
 use Rattle.rx_nquads.specs.Quads.{kind_of, proper_kind}
 use Rattle.rx_notation.specs.Short.{Prefix, Prefixes, is_prefix_name, local_name, prefix_of}
 use Rattle.rx_notation.specs.Layout.{in_byte_order}
-use Rattle.rx_notation.specs.Syntax.{Reference, Full, Short, Subject, Named, Labelled, Verb, By, Type_of, Suffix, Bare, Language, Datatype, Sort, Part, IriOrLabel, Quoted, Anonymous, Nil, Bracketed, Collection, Single, Comma, Last, Item, Predicate, Done, Semicolon, Also, Statement}
+use Rattle.rx_notation.specs.Syntax.{Reference, Full, Short, Subject, Named, Labelled, Verb, By, Type_of, Suffix, Datatype, Sort, Part, IriOrLabel, Quoted, Anonymous, Nil, Bracketed, Collection, Single, Comma, Last, Item, Predicate, Done, Semicolon, Also, Statement}
 use Rattle.rx_notation.specs.Meaning.{iri_of, is_known, is_known_subject, is_known_verb, is_known_suffix, all_known, are_known, predicate_of, kind_by}
 use Rattle.rx_notation.proofs.Chosen.{Apart, Agree, prefix_fits, front_and_rest, known_there, of_ordered, ordered_there, apart_filter, apart_ordered}
 use Rattle.rx_notation.specs.Nesting.{reference_by, reference_to, verb_of, suffix_of, name_in, names_of_subject, names_of_verb, names_of_suffix, piece_names, prefixes_named}

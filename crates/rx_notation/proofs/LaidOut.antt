@@ -3,7 +3,7 @@ use Rattle.std.proofs.Common.{◌≡◌, ◌∙◌, ℕ, Bool, true, false, cond
 use Rattle.std.proofs.lemmas.Bool.{and_from}
 use Rattle.rx_terms.specs.Text.{Chars}
 use Rattle.rx_model.specs.Sets.{Among}
-use Rattle.rx_model.specs.Terms.{Kind, Plain, Tagged, Typed, Node, Iri, Blank, Term, Resource, Literal, Triple}
+use Rattle.rx_model.specs.Terms.{Kind, Typed, Node, Iri, Blank, Term, Resource, Literal, Triple}
 use Rattle.rx_model.specs.Vocabulary.{rdf_type}
 use Rattle.rx_pieces.specs.Writing.{string_text}
 use Rattle.rx_shapes.specs.Subjects.{subjects, objects_of, predicates_of}

@@ -9,7 +9,7 @@ use Rattle.rx_pieces.specs.Writing.{escaped_text, string_text, iri_text}
 use Rattle.rx_nquads.proofs.Denoting.{label_spelled, string_spelled}
 use Rattle.rx_notation.specs.Short.{Prefix, Prefixes, is_prefix_name, is_local_name}
 use Rattle.rx_notation.specs.Layout.{prefix_text, prefixes_text}
-use Rattle.rx_notation.specs.Syntax.{Reference, Full, Short, Subject, Named, Labelled, Verb, By, Type_of, Suffix, Bare, Language, Datatype, Sort, Object, Objects, Items, Predicates, Further, Part, IriOrLabel, Quoted, Anonymous, Nil, Bracketed, Collection, Single, Comma, Last, Item, Predicate, Done, Semicolon, Also, Statement, Document}
+use Rattle.rx_notation.specs.Syntax.{Reference, Full, Short, Subject, Named, Labelled, Verb, By, Type_of, Suffix, Bare, Language, Datatype, Sort, Further, Part, IriOrLabel, Quoted, Anonymous, Nil, Bracketed, Collection, Single, Comma, Last, Item, Predicate, Done, Semicolon, Also, Statement, Document}
 use Rattle.rx_notation.specs.Grammar.{At_prefix, Full_stop, Semicolon_sign, Comma_sign, Left_bracket, Right_bracket, Brackets, Left_parenthesis, Right_parenthesis, Parentheses, Token, terminal, declared, iri_or_label, quoted, verb_token, tokens, statement_tokens, prefix_tokens, document_tokens}
 use Rattle.rx_notation.specs.Spelling.{SpellsReference, SpellsSubject, SpellsSuffix, SpellsToken, is_gap, SpellsBehind, SpellsTokens}
 use Rattle.rx_notation.proofs.Joining.{Opens, Puts, all_tokens, behind_gap, behind_token, opens_token, puts_token, puts_then, adds_gap}

@@ -4,7 +4,7 @@ use Rattle.std.specs.List.{list_all}
 use Rattle.std.specs.Str.Parse.{AllDigits, digits_value}
 use Rattle.std.specs.Char.{digit_value}
 use Rattle.std.proofs.lemmas.List.{append_cancel_left}
-use Rattle.std.proofs.lemmas.Bool.{and_from}
+use Rattle.std.proofs.lemmas.Bool.{and_from, or_left, or_right}
 use Rattle.std.proofs.lemmas.Bool.Decides.{nat_tests}
 use Rattle.rx_terms.specs.Ascii.{line_feed, space, quotation_mark, reverse_solidus, less_than_sign, greater_than_sign, commercial_at, circumflex_accent, full_stop, hyphen, low_line}
 use Rattle.rx_terms.specs.Text.{Chars}
@@ -47,23 +47,16 @@ any_part : (first : Bool) (c : ℕ) → is_subtag_char first c ≡ true → is_s
 any_part false c h = h
 any_part true c h = grind (arith, nat_tests, h)
 
-or_second : (a b : Bool) → b ≡ true → (a || b) ≡ true
-or_second true b h = refl
-or_second false b h = h
-
-or_first : (a b : Bool) → a ≡ true → (a || b) ≡ true
-or_first a b h = rw h refl
-
 left_chars : (first empty : Bool) (text : Chars) → is_left first empty text ≡ true → list_all is_tag_char text ≡ true
 left_chars first empty [] h = refl
 left_chars first empty (c ∷ text) h = go (c == hyphen) refl (left_chars false true text) (left_chars first false text)
   where
     hyphens : (b : Bool) → empty ≡ b → (c == hyphen) ≡ true → (is_left false true text ≡ true → list_all is_tag_char text ≡ true) → list_all is_tag_char (c ∷ text) ≡ true
     hyphens true f e ih = absurd (true≢false (sym h ∙ left-empty first empty text c e f))
-    hyphens false f e ih = and_from _ _ (or_second (is_subtag_char false c) (c == hyphen) e) (ih (sym (left-hyphen first empty text c e f) ∙ h))
+    hyphens false f e ih = and_from _ _ (or_right (is_subtag_char false c) (c == hyphen) e) (ih (sym (left-hyphen first empty text c e f) ∙ h))
 
     chars : (b : Bool) → is_subtag_char first c ≡ b → (c == hyphen) ≡ false → (is_left first false text ≡ true → list_all is_tag_char text ≡ true) → list_all is_tag_char (c ∷ text) ≡ true
-    chars true f e ih = and_from _ _ (or_first (is_subtag_char false c) (c == hyphen) (any_part first c f)) (ih (sym (left-char first empty text c e f) ∙ h))
+    chars true f e ih = and_from _ _ (or_left (is_subtag_char false c) (c == hyphen) (any_part first c f)) (ih (sym (left-char first empty text c e f) ∙ h))
     chars false f e ih = absurd (true≢false (sym h ∙ left-other first empty text c e f))
 
     go : (b : Bool) → (c == hyphen) ≡ b → (is_left false true text ≡ true → list_all is_tag_char text ≡ true) → (is_left first false text ≡ true → list_all is_tag_char text ≡ true) → list_all is_tag_char (c ∷ text) ≡ true

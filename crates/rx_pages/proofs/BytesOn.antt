@@ -58,7 +58,7 @@ zero_form [] byte h = (refl, cc)
 zero_form (p ∷ []) byte h = absurd (cc)
 zero_form (p ∷ q ∷ part) byte h = absurd (cc)
 
-over : (a b : ℕ) → nat_le a b ≡ true → a ≤ b
+pub over : (a b : ℕ) → nat_le a b ≡ true → a ≤ b
 over a b h = grind (arith, nat_tests)
 
 pub after_only : {syntax : Syntax} {depth : ℕ} {items : List Item} {line : Line} {phase : Phase} → Stands syntax depth items line phase → phase ≡ after → (tree : Tree) × Document syntax depth items tree

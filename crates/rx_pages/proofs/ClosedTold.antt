@@ -14,11 +14,12 @@ use Rattle.rx_pages.specs.PageReader.{page_on, nothing_read}
 use Rattle.rx_pages.specs.Closings.{closing, closed, IsWide, AllEnd, Tells}
 use Rattle.rx_pages.specs.Laws.{FrontsTell}
 use Rattle.rx_pages.proofs.ByteSteps.{progress_at}
-use Rattle.rx_pages.proofs.Closings.{page_entries, entered_tag, all_append, scalars_append, all_fit, last_within, Reaches, closes, as_meant, is_page, Fronted, fronted}
+use Rattle.rx_pages.proofs.Closings.{page_entries, entered_tag, all_append, all_fit, last_within, Reaches, closes, as_meant, is_page, Fronted, fronted}
 use Rattle.rx_pages.proofs.FrontRead.{AllBelow, below_behind, page_below, front_is_read}
 use Rattle.rx_pages.proofs.TokenWalk.{stood}
 use Rattle.rx_pages.proofs.TokensWalk.{flags_behind}
 use Rattle.rx_pages.proofs.KnownTags.{one_unknown}
+use Rattle.rx_chars.proofs.DecodingLemmas.{scalars-append}
 
 all_end : (syntax : Syntax) (end : ℕ) {entries : List Entry} {next : Option ℕ} {items : List Item} → Spelled syntax entries next items → AllBelow end entries → AllEnd end items
 all_end syntax end no_more w = tt
@@ -38,7 +39,7 @@ module _ (syntax : Syntax) (limits : Limits) (bytes : List ℕ) (line : Line) (p
       let forms : encodes (f.characters ++ 60 ∷ []) ≡ bytes ++ 60 ∷ [] = encodes-append f.characters (60 ∷ []) ∙ (ap (λ x. x ++ encodes (60 ∷ [])) f.forms ∙ ap (λ x. bytes ++ x) less_than_encoded) in
       let r =
       front_is_read syntax limits (bytes ++ 60 ∷ []) (λ m. m ≡ f.reaches.place) (page_entries f.characters) run f.reaches.items f.events
-      (record { characters = f.characters ++ 60 ∷ []; scalars = scalars_append f.characters (60 ∷ []) a.scalars refl; forms = forms; read = same })
+      (record { characters = f.characters ++ 60 ∷ []; scalars = scalars-append f.characters (60 ∷ []) a.scalars refl; forms = forms; read = same })
       (all_append (λ (x : Entry). not (x.value == 0)) (page_entries f.characters) run a.no_nul refl) a.spelled f.fit a.sections a.going (let l = length-append bytes (60 ∷ []) in omega (arith, l, h))
       (λ m p. (refl, tt)) (λ m p k. absurd (one_unknown syntax (content_at syntax m) 60 k)) in
       record {

@@ -45,6 +45,7 @@ use Rattle.rx_pages.proofs.OpenLines.{page_fair, AllNamed, arrives}
 use Rattle.rx_terms.proofs.Bools.{both, untrue}
 use Rattle.std.proofs.Math.Bool.{and-false}
 use Rattle.rx_pages.proofs.FrontRead.{AllBelow, below_behind, page_below}
+use Rattle.rx_chars.proofs.DecodingLemmas.{scalars-append}
 
 -- the characters of a page that are entered
 abbrev pub page_entries : List ℕ → List Entry
@@ -101,10 +102,6 @@ some_placed at (c ∷ cs) h =
 fair_scalars : (cs : List ℕ) → list_all is_fair cs ≡ true → all_scalars cs ≡ true
 fair_scalars [] h = refl
 fair_scalars (c ∷ cs) h = let k = both (is_fair c) (list_all is_fair cs) h in and_from (scalar c) (all_scalars cs) (both (scalar c) (not (c == 0)) k.0).0 (fair_scalars cs k.1)
-
-pub scalars_append : (a b : List ℕ) → all_scalars a ≡ true → all_scalars b ≡ true → all_scalars (a ++ b) ≡ true
-scalars_append [] b h k = k
-scalars_append (c ∷ a) b h k = let p = both (scalar c) (all_scalars a) h in and_from (scalar c) (all_scalars (a ++ b)) p.0 (scalars_append a b p.1 k)
 
 -- tags are no longer than the page
 fits_one : (limit : ℕ) (item : Item) (token : Token) → item.last + 1 ≤ limit → Fits limit item token
@@ -189,7 +186,7 @@ module _ (syntax : Syntax) (depth : ℕ) where
     pub adds : (step : Step) → nest_step syntax depth place added ≡ Ok step → Ahead (cs ++ 60 ∷ text) (items ++ added ∷ []) step.next (events ++ step.events)
     adds step e =
         record {
-          scalars = scalars_append cs (60 ∷ text) a.scalars (fair_scalars (60 ∷ text) fair_all);
+          scalars = scalars-append cs (60 ∷ text) a.scalars (fair_scalars (60 ∷ text) fair_all);
           no_nul = subst (λ es. has_no_nul es ≡ true) (sym (entered_tag cs text steady)) (all_append (λ (x : Entry). not (x.value == 0)) (page_entries cs) (placed start (60 ∷ text)) a.no_nul (some_placed start (60 ∷ text) fair_all));
           spelled = spelled_more (Some 60);
           last = λ h. spelled_more None;

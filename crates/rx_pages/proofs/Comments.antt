@@ -1,7 +1,7 @@
 -- Comments, instructions and sections are read as they are spelled.
 use Rattle.std.proofs.Common.{◌≡◌, ◌∙◌, ℕ, Bool, true, false, [], ◌∷◌, ◌++◌, Option, refl, ap, sym, append_assoc, inl, inr, ◌+◌, arith}
-use Rattle.std.specs.Prelude.{◌&&◌, ◌||◌, ◌-◌, not, codes, length, take}
-use Rattle.std.proofs.lemmas.Bool.{cond-true, cond-false, and_from, or_left, or_right}
+use Rattle.std.specs.Prelude.{◌&&◌, ◌-◌, not, codes, length, take}
+use Rattle.std.proofs.lemmas.Bool.{cond-true, cond-false, and_from, or_left, or_right, or_parts}
 use Rattle.std.proofs.lemmas.List.{length-append, map-append}
 use Rattle.std.proofs.Math.Seq.{take-append_seam}
 use Rattle.rx_terms.specs.Ascii.{lowered_char, greater_than_sign}
@@ -13,7 +13,7 @@ use Rattle.rx_grammar.specs.Tokens.{Token, comment, section}
 use Rattle.rx_grammar.specs.Spelling.{ends_with, ends_comment, begins_declaration, IsFirst, has_markup, has_sections}
 use Rattle.rx_pages.specs.Scanner.{goes_on, whole, whole_if, after_mark, in_markup, in_section, verdict, GoesOn, ReadAs}
 use Rattle.rx_pages.proofs.Reading.{all_go, go_append, read_to, reads_first, markup_is}
-use Rattle.rx_terms.proofs.Bools.{both, neither, either, not_both_ways, by_test}
+use Rattle.rx_terms.proofs.Bools.{both, either, not_both_ways, by_test}
 use Rattle.rx_reader.proofs.Fronts.{begins_more}
 use Rattle.std.proofs.Math.Bool.{and-false}
 use Rattle.rx_reader.proofs.ValueFaults.{snoc_front}
@@ -28,8 +28,8 @@ whole_where b t h = rw h refl
 -- after `<!` in HTML, where nothing that begins otherwise has begun
 pub bogus_at : (i : Content) (text : Chars) (c : ℕ) → begins_declaration i text ≡ false → after_mark Html i text c ≡ whole_if (ends_with (codes ">") (text ++ c ∷ [])) comment
 bogus_at i text c h =
-    let a = neither (begins_with (codes "--") text || begins_with (codes "doctype") (lowered text)) _ h in
-    let b = neither (begins_with (codes "--") text) _ a.0 in
+    let a = or_parts (begins_with (codes "--") text || begins_with (codes "doctype") (lowered text)) _ h in
+    let b = or_parts (begins_with (codes "--") text) _ a.0 in
     cond-false _ _ _ b.0 ∙ (cond-false _ _ _ b.1 ∙ cond-false _ _ _ a.1)
 
 -- what begins a declaration isn't undone by what follows

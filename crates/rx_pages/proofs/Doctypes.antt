@@ -2,7 +2,7 @@
 use Rattle.std.proofs.Common.{◌≡◌, ◌≢◌, ◌∙◌, ℕ, suc, ◌+◌, ◌<◌, length, Bool, true, false, [], ◌∷◌, ◌++◌, Option, Some, None, refl, ap, sym, subst, append_assoc, arith, eqb-true}
 use Rattle.std.specs.Prelude.{◌&&◌, ◌||◌, ◌==◌, not, codes, drop}
 use Rattle.std.specs.List.{list_all, list_any}
-use Rattle.std.proofs.lemmas.Bool.{cond-true, cond-false, or_from}
+use Rattle.std.proofs.lemmas.Bool.{cond-true, cond-false, or_from, or_parts}
 use Rattle.std.proofs.lemmas.List.{map-append, length-append, length-map}
 use Rattle.rx_terms.specs.Ascii.{lowered_char, greater_than_sign, left_bracket, is_white_space}
 use Rattle.rx_terms.specs.Text.{Chars, begins_with, lowered}
@@ -17,7 +17,7 @@ use Rattle.rx_pages.specs.Scanner.{goes_on, DoctypePhase, keyword, spaces, namin
 use Rattle.rx_pages.proofs.Reading.{Last, no_last, a_last, last_of, all_go, go_append, read_to, markup_is}
 use Rattle.std.proofs.Math.Seq.{drop-append_seam}
 use Rattle.rx_pages.proofs.Comments.{none_if, bogus_at}
-use Rattle.rx_terms.proofs.Bools.{both, neither, not_both_ways, by_test, untrue}
+use Rattle.rx_terms.proofs.Bools.{both, not_both_ways, by_test, untrue}
 use Rattle.rx_reader.proofs.Classes.{of_one, of_white}
 use Rattle.rx_reader.proofs.Fronts.{equal, begins_append, has_end}
 use Rattle.rx_reader.proofs.OneToken.{kept_case}
@@ -70,7 +70,7 @@ over_rest : (s : Syntax) (rest : Chars) → list_all (λ c. not (c == greater_th
 over_rest s [] h = refl
 over_rest s (c ∷ rest) h =
     let k = both (not (c == greater_than_sign || c == left_bracket)) _ h in
-    let n = neither (c == greater_than_sign) (c == left_bracket) (untrue _ k.0) in
+    let n = or_parts (c == greater_than_sign) (c == left_bracket) (untrue _ k.0) in
     move_by s passed c (rest ++ 62 ∷ []) (cond-false _ _ _ n.0 ∙ cond-false _ _ _ n.1) ∙ over_rest s rest k.1
 
 after_name : (s : Syntax) (rest : Chars) → list_all (λ c. not (c == greater_than_sign || c == left_bracket)) rest ≡ true → ((c : ℕ) (more : Chars) → rest ≡ c ∷ more → is_white_space c ≡ true) → doctype_on s (Some (naming [])) (rest ++ 62 ∷ []) ≡ Some closed
@@ -101,7 +101,7 @@ no_end (c ∷ word) (d ∷ read) e h =
 
 any_front : (test : ℕ → Bool) (a b : Chars) → list_any test (a ++ b) ≡ false → list_any test a ≡ false
 any_front test [] b h = refl
-any_front test (c ∷ a) b h = let k = neither (test c) _ h in or_from (test c) _ k.0 (any_front test a b k.1)
+any_front test (c ∷ a) b h = let k = or_parts (test c) _ h in or_from (test c) _ k.0 (any_front test a b k.1)
 
 too_short : (p q : Chars) → length q < length p → begins_with p q ≡ false
 too_short [] q h = absurd (omega arith)

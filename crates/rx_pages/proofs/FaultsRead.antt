@@ -15,7 +15,7 @@ use Rattle.rx_grammar.specs.declared.limits.Limits.{Limits}
 use Rattle.rx_grammar.specs.Tokens.{Tag, Token, tag, character, doctype}
 use Rattle.rx_grammar.specs.Items.{values, Item, is_literal, is_strict_literal}
 use Rattle.rx_grammar.specs.Begun.{Line, inside_of, Phase, before}
-use Rattle.rx_grammar.specs.PageFaults.{is_known_tag, token_of, IsPending, IsShort, Unfinished, token_begun, tag_begun, run_begun, opening_begun, Reached, first_row, tag_rows, Faulty, FaultAt, Before, ends_in_brackets}
+use Rattle.rx_grammar.specs.PageFaults.{is_known_tag, token_of, IsPending, IsShort, Unfinished, Reached, first_row, tag_rows, Faulty, FaultAt, Before, ends_in_brackets}
 use Rattle.rx_grammar.specs.PageFaults as faults
 use Rattle.rx_pages.specs.Nesting.{Event, Nesting, content_at, IsAt, step_by, unless_refused, tag_passes}
 use Rattle.rx_pages.specs.Scanner.{GoesOn, Verdict, whole, refused, verdict}

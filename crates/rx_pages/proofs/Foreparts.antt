@@ -12,6 +12,7 @@ use Rattle.rx_grammar.specs.PageFaults.{token_of}
 use Rattle.rx_terms.proofs.Bools.{by_test}
 use Rattle.rx_pages.proofs.CharWalk.{len_positive}
 use Rattle.rx_pages.proofs.OnlyPages.{take_front}
+use Rattle.rx_reader.proofs.InTables.{no_end}
 
 -- the first characters of some, which enter the first entries
 record Parted (after_return : Bool) (start : ℕ) (cs : List ℕ) (front : List Entry) (e : Entry) (rest : List Entry) : Type 0 where
@@ -136,12 +137,8 @@ forepart bytes whole rest front [] e r =
       read = subst (λ es. IsRead whole es) (append-nil front) r;
       size = refl;
       within = omega arith;
-      order = λ es c h. absurd (none es c h);
+      order = λ es c h. absurd (no_end es c h);
     }
-  where
-    none : (es : List Entry) (c : Entry) → [] ≡ es ++ c ∷ [] → ⊥
-    none [] c h = cc
-    none (d ∷ es) c h = cc
 forepart bytes whole rest front (d ∷ run) e r =
     let p = page_parted r.characters front d run (sym r.read) in
     let forms : encodes p.before ++ encodes p.behind ≡ whole = sym (encodes-append p.before p.behind) ∙ (sym (ap encodes p.are) ∙ r.forms) in

@@ -14,12 +14,12 @@ use Rattle.rx_grammar.specs.declared.faults.Kind.{Kind}
 use Rattle.rx_grammar.specs.declared.faults.Kind.TheVariants as kind
 use Rattle.rx_grammar.specs.declared.limits.Limits.{Limits}
 use Rattle.rx_grammar.specs.Tokens.{Token, tag, character, kept}
-use Rattle.rx_grammar.specs.Spelling.{Spells, has_markup, has_references, raw_name, is_text}
+use Rattle.rx_grammar.specs.Spelling.{Spells, has_references, is_text}
 use Rattle.rx_grammar.specs.Spelling as spelling
 use Rattle.rx_grammar.specs.Items.{values, next_of, Item, Spelled, no_more, one, Fits, AllFit, is_literal, is_strict_literal, no_section_end}
 use Rattle.rx_grammar.specs.Pages.{has_no_nul}
 use Rattle.rx_grammar.specs.Begun.{Line, inside_of, Phase, Stands}
-use Rattle.rx_grammar.specs.PageFaults.{token_of, IsPending, IsShort, Reached, Faulty, ends_in_brackets, is_known_tag}
+use Rattle.rx_grammar.specs.PageFaults.{token_of, IsPending, IsShort, Reached, Faulty, ends_in_brackets}
 use Rattle.rx_terms.proofs.Bools.{by_test}
 use Rattle.rx_pages.specs.Nesting.{Nesting, Step, text_step, step_by, nest_step}
 use Rattle.rx_pages.specs.Scanner.{GoesOn, Verdict, goes_on, whole, ended, refused, verdict, at_first, at_last, at_next}
@@ -90,10 +90,6 @@ never_ended i c token h = by (c == less_than_sign || (c == ampersand && has_refe
     by : (a b : Bool) → (if a then goes_on else if b then whole (character c) else refused kind.Outside) ≡ ended token → ⊥
     by false true q = cc
     by _ _ q = cc
-
--- one character isn't known to be a tag
-pub known_one : (s : Syntax) (i : Content) (c : ℕ) → is_known_tag s i (c ∷ []) ≡ true → ⊥
-known_one s i c h = one_unknown s i c h
 
 module _ (syntax : Syntax) (limits : Limits) where
   -- The characters are whole tokens at the front of a page and a run that may go on, where `next` comes next.

@@ -65,13 +65,13 @@ rises after_return start (c ∷ cs) =
     (λ t. subst Rises (sym (cond-false _ _ _ t)) (rises_on (c == carriage_return) (start + len_utf8 c) (start + len_utf8 c - 1) cs (let p = len_positive c in omega arith)))
 
 -- no character is U+0000 where no entry is
-nul_entry : (c : ℕ) → (c == 0) ≡ true → (as_line_end c == 0) ≡ true
+pub nul_entry : (c : ℕ) → (c == 0) ≡ true → (as_line_end c == 0) ≡ true
 nul_entry c h = grind (arith, nat_tests)
 
-line_feed_some : (c : ℕ) → (c == line_feed) ≡ true → (c == 0) ≡ false
+pub line_feed_some : (c : ℕ) → (c == line_feed) ≡ true → (c == 0) ≡ false
 line_feed_some c h = grind (arith, nat_tests)
 
-mark_some : (c : ℕ) → (c == byte_order_mark) ≡ true → (c == 0) ≡ false
+pub mark_some : (c : ℕ) → (c == byte_order_mark) ≡ true → (c == 0) ≡ false
 mark_some c h = grind (arith, nat_tests)
 
 some_of : (c : ℕ) → not (as_line_end c == 0) ≡ true → not (c == 0) ≡ true

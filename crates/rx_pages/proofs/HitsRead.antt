@@ -1,7 +1,7 @@
 -- The reader of bytes finds a fault that a character decides.
 use Rattle.std.proofs.Common.{◌≡◌, ◌≢◌, ◌∙◌, ⊎_elim, ℕ, ◌+◌, ◌<◌, ◌≤◌, Bool, true, false, List, [], ◌∷◌, ◌++◌, refl, sym, ap, subst, nat_le, append_assoc, append-nil, Option, Some, Ok, Err, arith}
 use Rattle.std.specs.Prelude.{◌&&◌, ◌||◌, ◌==◌, if◌then◌else◌}
-use Rattle.std.proofs.lemmas.Bool.{and_parts, false_from_ne_true}
+use Rattle.std.proofs.lemmas.Bool.{and_parts, false_from_ne_true, or_parts}
 use Rattle.rx_terms.specs.Ascii.{less_than_sign, ampersand}
 use Rattle.rx_terms.specs.Text.{Chars}
 use Rattle.rx_chars.specs.declared.syntax.Syntax.{Syntax}
@@ -17,7 +17,7 @@ use Rattle.rx_grammar.specs.Spelling as spelling
 use Rattle.rx_grammar.specs.Spelling.{Spells, has_references, is_text}
 use Rattle.rx_grammar.specs.Items.{values, Item}
 use Rattle.rx_grammar.specs.PageFaults.{is_known_tag, Reached}
-use Rattle.rx_terms.proofs.Bools.{by_test, neither}
+use Rattle.rx_terms.proofs.Bools.{by_test}
 use Rattle.rx_grammar.specs.Pages.{has_no_nul}
 use Rattle.rx_grammar.specs.Begun.{Line, inside_of, Phase}
 use Rattle.rx_pages.specs.Nesting.{Event, Nesting, not_begun, content_at, going_on, IsAt}
@@ -44,8 +44,8 @@ kept_inside s i _ next _ _ (is_kept x e) = absurd (cc)
 -- inside it every character begins a token or is one
 text_inside : (i : Content) (c : ℕ) → i ≢ content.Outside → (c == less_than_sign || (c == ampersand && has_references i)) ≡ false → is_text i c ≡ true
 text_inside content.Outside c o h = absurd (o refl)
-text_inside (content.Raw name) c o h = rw (neither (c == less_than_sign) (c == ampersand && false) h).0 refl
-text_inside _ c o h = let n = neither (c == less_than_sign) (c == ampersand && true) h in rw (n.0, sym (and-true (c == ampersand)) ∙ n.1) refl
+text_inside (content.Raw name) c o h = rw (or_parts (c == less_than_sign) (c == ampersand && false) h).0 refl
+text_inside _ c o h = let n = or_parts (c == less_than_sign) (c == ampersand && true) h in rw (n.0, sym (and-true (c == ampersand)) ∙ n.1) refl
 
 module _ (syntax : Syntax) (limits : Limits) where
   -- a character of text decides nothing

@@ -1,5 +1,5 @@
 -- What the nodes of a page are, the steps of their tokens tell.
-use Rattle.std.proofs.lemmas.Bool.{cond-true, cond-false}
+use Rattle.std.proofs.lemmas.Bool.{cond-true, cond-false, or_parts}
 use Rattle.std.proofs.lemmas.Grind.{common_steps}
 use Rattle.std.proofs.lemmas.Bool.Decides.{nat_tests}
 use Rattle.std.specs.Cmp.Lexicographic.{bytes_decides}
@@ -22,7 +22,7 @@ use Rattle.rx_grammar.specs.PageFaults.{under_start, after_end, is_innermost, ha
 use Rattle.rx_pages.specs.Nesting.{Event, begins, says, finishes, Nesting, Step, ended_under, ended_by_end, over, begun_under, line_above, step_by, nest_step, Goes, stands, goes, with_element, with_text, told_trees}
 use Rattle.rx_pages.proofs.Contents.{omissible_html}
 use Rattle.rx_pages.proofs.Steps.{inside_at, in_line, after_one, undropped, dropped, of_start, of_end, passing, ended}
-use Rattle.rx_terms.proofs.Bools.{both, neither, by_test}
+use Rattle.rx_terms.proofs.Bools.{both, by_test}
 
 pub has_after_text : (names : List Chars) (chars : Chars) (nodes : Tree) → has_element names (after_text chars nodes) ≡ has_element names nodes
 has_after_text names (c ∷ chars) end = refl
@@ -180,7 +180,7 @@ module _ (syntax : Syntax) (depth : ℕ) (meant : Nesting → Type 0) (careless 
         tells = r.tells;
       }
   runs (alone {left = left} {from = from} {nodes = nodes} item t o is hs) s above p q d no_child later g =
-      let k = neither (is_among (enders_of syntax (s ∷ above)) t.name) _ no_child in
+      let k = or_parts (is_among (enders_of syntax (s ∷ above)) t.name) _ no_child in
       let r = runs hs s above p q d k.1 later g in
       let line = s ∷ above in
       record {
@@ -189,7 +189,7 @@ module _ (syntax : Syntax) (depth : ℕ) (meant : Nesting → Type 0) (careless 
         tells = λ more e. ap (λ ts. with_element (start_of item t) (hides (inside_of syntax line) t) (end ∷ ts)) (r.tells more e) ∙ ap (λ x. element (start_of item t) x nodes ∷ more) (nothing_shown (hides (inside_of syntax line) t));
       }
   runs (closed {left = left} {from = from} {inner = inner} {after = rest} {inside = inside} {nodes = nodes} item close t o isnt drop hin no_row c hs) s above p q d no_child later g =
-      let k = neither (is_among (enders_of syntax (s ∷ above)) t.name) _ no_child in
+      let k = or_parts (is_among (enders_of syntax (s ∷ above)) t.name) _ no_child in
       let r = runs hs s above p q d k.1 later g in
       let line = s ∷ above in
       let g2 = close_goes line (start_of item t) close rest r.events (subst (λ x. Closes (place_in syntax x t.name).content t.name close) p c) r.going in
@@ -197,7 +197,7 @@ module _ (syntax : Syntax) (depth : ℕ) (meant : Nesting → Type 0) (careless 
       whole line within left item t from inner inside nodes later r.events i (subst (λ x. Opens syntax x item t) p o) k.0 d (ready_within t.name) (sym (ap (λ x. is_alone syntax x t) p) ∙ isnt)
       (subst (λ x. Drops (drops_line_feed x t) (place_in syntax x t.name).content from inner) p drop) (ap (λ x. hides x t) p) r.tells
   runs (unclosed {left = left} {parent = parent} {from = from} {inner = inner} {after = rest} {inside = inside} {nodes = nodes} item t o isnt drop hin no_row omits hs) s above p q d no_child later g =
-      let k = neither (is_among (enders_of syntax (s ∷ above)) t.name) _ no_child in
+      let k = or_parts (is_among (enders_of syntax (s ∷ above)) t.name) _ no_child in
       let r = runs hs s above p q d k.1 later g in
       let line = s ∷ above in
       let g2 = omitted_goes line (start_of item t) rest r.events (sym (ap (λ x. is_ended_by x parent t.name rest) p ∙ ap (λ x. is_ended_by (inside_of syntax line) x t.name rest) q) ∙ omits) r.going in

@@ -2,7 +2,7 @@
 use Rattle.std.proofs.Common.{◌≡◌, ◌∙◌, ℕ, true, false, List, [], ◌∷◌, ◌++◌, refl, ap, sym, subst, inl, inr, eqb-true}
 use Rattle.std.specs.Prelude.{◌&&◌, ◌||◌, ◌==◌, not, codes}
 use Rattle.std.specs.List.{list_any}
-use Rattle.std.proofs.lemmas.Bool.{cond-false, or_from}
+use Rattle.std.proofs.lemmas.Bool.{cond-false, or_from, or_parts}
 use Rattle.rx_terms.specs.Text.{Chars, begins_with}
 use Rattle.rx_chars.specs.declared.syntax.Syntax.TheVariants.{Xhtml}
 use Rattle.rx_grammar.specs.declared.contents.Content.{Content}
@@ -16,7 +16,7 @@ use Rattle.rx_pages.specs.Scanner.{refused, told_of_tag, in_markup, verdict, Goe
 use Rattle.rx_pages.proofs.Reading.{markup_is}
 use Rattle.rx_pages.proofs.Pending.{goes_within}
 use Rattle.rx_pages.proofs.Refusals.{IsRefused}
-use Rattle.rx_terms.proofs.Bools.{both, neither, either, untrue, not_both_ways, by_test}
+use Rattle.rx_terms.proofs.Bools.{both, either, untrue, not_both_ways, by_test}
 use Rattle.rx_reader.proofs.Classes.{of_one}
 use Rattle.rx_reader.proofs.Fronts.{equal}
 
@@ -54,11 +54,11 @@ pub record NoOpening (text : Chars) : Type 0 where
 
 pub no_opening : (text : Chars) → list_any (λ opening. begins_with opening text) openings ≡ false → NoOpening text
 no_opening text h =
-    let a = neither (begins_with (codes "/") text) _ h in
-    let b = neither (begins_with (codes "?") text) _ a.1 in
-    let c = neither (begins_with (codes "!--") text) _ b.1 in
-    let d = neither (begins_with (codes "![CDATA[") text) _ c.1 in
-    let e = neither (begins_with (codes "!DOCTYPE") text) _ d.1 in
+    let a = or_parts (begins_with (codes "/") text) _ h in
+    let b = or_parts (begins_with (codes "?") text) _ a.1 in
+    let c = or_parts (begins_with (codes "!--") text) _ b.1 in
+    let d = or_parts (begins_with (codes "![CDATA[") text) _ c.1 in
+    let e = or_parts (begins_with (codes "!DOCTYPE") text) _ d.1 in
     record { no_end = a.0; no_question = b.0; no_comment = c.0; no_section = d.0; no_doctype = e.0 }
 
 begun : (text : Chars) → NoOpening text → list_any (λ opening. begins_with text opening) openings ≡ true → Begun text
@@ -126,8 +126,8 @@ module _ (i : Content) (markup : has_markup i ≡ true) where
       some : (text : Chars) (all : List Chars) → list_any (λ opening. begins_with text opening || begins_with opening text) all ≡ false → list_any (λ opening. begins_with opening text) all ≡ false
       some text [] h = refl
       some text (opening ∷ all) h =
-          let k = neither (begins_with text opening || begins_with opening text) _ h in
-          or_from (begins_with opening text) _ (neither (begins_with text opening) _ k.0).1 (some text all k.1)
+          let k = or_parts (begins_with text opening || begins_with opening text) _ h in
+          or_from (begins_with opening text) _ (or_parts (begins_with text opening) _ k.0).1 (some text all k.1)
 
       none : (text : Chars) → meets_opening text ≡ false → list_any (λ opening. begins_with opening text) openings ≡ false
       none text h = some text openings h

@@ -19,7 +19,7 @@ use Rattle.rx_grammar.specs.Spelling.{Spells, has_markup, has_references, keeps_
 use Rattle.rx_grammar.specs.Spelling as spelling
 use Rattle.rx_grammar.specs.Items.{Item}
 use Rattle.rx_grammar.specs.Begun.{Line, Phase}
-use Rattle.rx_grammar.specs.PageFaults.{Faulty, is_known_end, is_opening_begun}
+use Rattle.rx_grammar.specs.PageFaults.{Faulty, is_opening_begun}
 use Rattle.rx_grammar.specs.PageFaults as faults
 use Rattle.rx_reader.specs.Tables.{is_last}
 use Rattle.rx_reader.specs.TagReader.{TagState, fresh, tag_step, tag_step_on, tag_on, tag_of}
@@ -29,7 +29,7 @@ use Rattle.rx_pages.proofs.Reading.{markup_is}
 use Rattle.rx_pages.proofs.FirstFronts.{NoFront, NoneBefore}
 use Rattle.rx_pages.proofs.TagRuns.{KnownEnd, is_known_by, end_more, known_at, Known, in_markup', in_raw', is_known}
 use Rattle.rx_pages.proofs.RawEnds.{is_raw_name, end_reads, ends_raw}
-use Rattle.rx_terms.proofs.Bools.{both, neither, either, not_both_ways, split}
+use Rattle.rx_terms.proofs.Bools.{both, either, not_both_ways, split}
 use Rattle.rx_reader.proofs.Classes.{of_one}
 use Rattle.rx_reader.proofs.Fronts.{equal}
 use Rattle.rx_pages.proofs.Contents.{same_is}
@@ -37,6 +37,7 @@ use Rattle.rx_reader.proofs.TagLaws.{spells_each, tag_on-append, repeats_once}
 use Rattle.rx_reader.proofs.TagFaultLaws.{refuses_each_fault}
 use Rattle.rx_pages.proofs.Markup.{is_first, markup_tag}
 use Rattle.std.proofs.Math.Bool.{and-true}
+use Rattle.std.proofs.lemmas.Bool.{or_parts}
 
 -- the contents of a syntax
 abbrev pub occurs : Syntax → Content → Bool
@@ -92,12 +93,12 @@ less s _ = at_less_than refl
 
 no_text : (c : ℕ) (b : Bool) (G : Type 0) → (c == less_than_sign || (c == ampersand && true)) ≡ false → not (c == less_than_sign || c == ampersand) ≡ false → G
 no_text c b G h k =
-    let n = neither (c == less_than_sign) (c == ampersand && true) h in
+    let n = or_parts (c == less_than_sign) (c == ampersand && true) h in
     absurd (not_both_ways (not (c == less_than_sign || c == ampersand)) (rw (n.0, sym (and-true (c == ampersand)) ∙ n.1) refl) k)
 
 outside : (s : Syntax) (i : Content) (c : ℕ) → (c == less_than_sign || (c == ampersand && has_references i)) ≡ false → is_text i c ≡ false → FaultyBy s i kind.Outside (c ∷ [])
-outside s content.Outside c h k = λ depth items line phase. faults.outside_text c refl k (other_than c 60 (neither (c == less_than_sign) _ h).0)
-outside s (content.Raw name) c h k = let n = neither (c == less_than_sign) _ h in absurd (not_both_ways (not (c == less_than_sign)) (rw n.0 refl) k)
+outside s content.Outside c h k = λ depth items line phase. faults.outside_text c refl k (other_than c 60 (or_parts (c == less_than_sign) _ h).0)
+outside s (content.Raw name) c h k = let n = or_parts (c == less_than_sign) _ h in absurd (not_both_ways (not (c == less_than_sign)) (rw n.0 refl) k)
 outside s _ c h k = no_text c true _ h k
 
 pub from_nothing : (s : Syntax) (i : Content) (c : ℕ) → Out s i [] c (at_first i c)

@@ -1,6 +1,6 @@
 -- Characters that go on begin a token; what is read spells one; what is refused is faulty.
 use Rattle.std.proofs.Common.{◌≡◌, ◌∙◌, ℕ, Bool, true, false, [], ◌∷◌, ◌++◌, Option, Some, None, refl, ap, sym, subst, append-nil, append_assoc, eqb-true}
-use Rattle.std.specs.Prelude.{◌&&◌, ◌||◌, ◌==◌, codes}
+use Rattle.std.specs.Prelude.{◌&&◌, ◌==◌, codes}
 use Rattle.std.proofs.lemmas.List.{map-append, length-map}
 use Rattle.rx_terms.specs.Ascii.{lowered_char, solidus}
 use Rattle.rx_terms.specs.Text.{Chars, lowered, begins_with}
@@ -22,11 +22,11 @@ use Rattle.rx_pages.proofs.RawEnds.{IsRawName, is_raw_name, spells_end}
 use Rattle.rx_pages.proofs.Pends.{occurs, Pends, nothing, in_reference, at_less_than, in_end, in_raw_tag, in_a_tag, in_question, in_instruction, in_bogus, in_html_comment, in_strict, in_a_doctype, in_a_section, in_an_opening, FaultyBy, Out, from_nothing, from_reference, from_tag, raw_html, from_raw_tag, from_end}
 use Rattle.rx_pages.proofs.PendsMarks.{as_verdict, from_question, from_instruction, from_html_comment, from_strict, from_section, same_word, begins_doctype, from_doctype}
 use Rattle.rx_pages.proofs.PendsOpenings.{from_less_than, from_bogus, from_opening}
-use Rattle.rx_terms.proofs.Bools.{both, neither, not_both_ways, by_test}
+use Rattle.rx_terms.proofs.Bools.{both, not_both_ways, by_test}
 use Rattle.rx_reader.proofs.TagLaws.{spells_each}
 use Rattle.rx_reader.proofs.TagFaultLaws.{begins_from}
 use Rattle.rx_reader.proofs.ValueFaults.{snoc_last}
-use Rattle.std.proofs.lemmas.Bool.{or_left, or_right, or_from}
+use Rattle.std.proofs.lemmas.Bool.{or_from, or_parts}
 
 on_syntax : (s t : Syntax) (i : Content) (run : Chars) (c : ℕ) → s ≡ t → Out t i run c (verdict t i run c) → Out s i run c (verdict s i run c)
 on_syntax s t i run c z h = subst (λ x. Out x i run c (verdict x i run c)) (sym z) h
@@ -97,8 +97,8 @@ and_of false b c h f = refl
 
 no_declaration : (i : Content) (text : Chars) → begins_declaration i text ≡ false → begins_declaration i (text ++ 62 ∷ []) ≡ false
 no_declaration i text h =
-    let a = neither (begins_with (codes "--") text || begins_with (codes "doctype") (lowered text)) _ h in
-    let b = neither (begins_with (codes "--") text) _ a.0 in
+    let a = or_parts (begins_with (codes "--") text || begins_with (codes "doctype") (lowered text)) _ h in
+    let b = or_parts (begins_with (codes "--") text) _ a.0 in
     let low : lowered (text ++ 62 ∷ []) ≡ lowered text ++ 62 ∷ [] = map-append lowered_char text (62 ∷ []) in
     or_from (begins_with (codes "--") (text ++ 62 ∷ []) || begins_with (codes "doctype") (lowered (text ++ 62 ∷ []))) (has_sections i && begins_with (codes "[CDATA[") (text ++ 62 ∷ []))
     (or_from (begins_with (codes "--") (text ++ 62 ∷ [])) (begins_with (codes "doctype") (lowered (text ++ 62 ∷ [])))

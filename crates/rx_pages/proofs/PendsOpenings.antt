@@ -3,7 +3,7 @@ use Rattle.std.proofs.Common.{◌≡◌, ◌∙◌, ℕ, Bool, true, false, List
 use Rattle.std.specs.Prelude.{◌&&◌, ◌||◌, ◌==◌, not, codes}
 use Rattle.std.specs.List.{list_any}
 use Rattle.std.proofs.lemmas.List.{map-append}
-use Rattle.std.proofs.lemmas.Bool.{cond-true, cond-false, and_from}
+use Rattle.std.proofs.lemmas.Bool.{cond-true, cond-false, and_from, or_parts}
 use Rattle.rx_terms.specs.Ascii.{lowered_char, solidus, is_letter}
 use Rattle.rx_terms.specs.Text.{Chars, lowered, begins_with}
 use Rattle.rx_chars.specs.declared.syntax.Syntax.{Syntax}
@@ -28,7 +28,7 @@ use Rattle.rx_pages.proofs.FirstFronts.{NoFront, no_front_nil, none_before_nil, 
 use Rattle.rx_pages.proofs.TagRuns.{in_markup'}
 use Rattle.rx_pages.proofs.Pends.{occurs, Pends, in_a_tag, in_question, in_instruction, in_bogus, in_html_comment, in_strict, in_a_doctype, in_a_section, in_an_opening, Out, tag_out}
 use Rattle.rx_pages.proofs.PendsMarks.{by_whole, as_verdict}
-use Rattle.rx_terms.proofs.Bools.{both, neither, either, not_both_ways, by_test, split, untrue}
+use Rattle.rx_terms.proofs.Bools.{both, either, not_both_ways, by_test, split, untrue}
 use Rattle.rx_reader.proofs.Classes.{of_one}
 use Rattle.rx_reader.proofs.Fronts.{equal, has_end}
 use Rattle.std.proofs.Math.Bool.{and-false}
@@ -65,9 +65,9 @@ module _ (i : Content) (m : has_markup i ≡ true) (c : ℕ) where
 
   html_first : is_mark c ≡ false → not (begins_markup c) ≡ false → is_first Html c ≡ true
   html_first e f =
-      let n = neither (c == 33) (c == 63) e in
+      let n = or_parts (c == 33) (c == 63) e in
       by_test (is_first Html c) (λ t. t)
-      (λ t. let k = neither (c == solidus) (is_letter c) t in absurd (not_both_ways (not (begins_markup c)) (rw (k.1, k.0, n.0, n.1) refl) f))
+      (λ t. let k = or_parts (c == solidus) (is_letter c) t in absurd (not_both_ways (not (begins_markup c)) (rw (k.1, k.0, n.0, n.1) refl) f))
 
   from_html : occurs Html i ≡ true → Out Html i (60 ∷ []) c (verdict Html i (60 ∷ []) c)
   from_html o =
@@ -82,8 +82,8 @@ module _ (i : Content) (m : has_markup i ≡ true) (c : ℕ) where
   -- no opening begins with the character
   meets_none : is_mark c ≡ false → is_first Xhtml c ≡ false → meets_opening (c ∷ []) ≡ false
   meets_none e f =
-      let n = neither (c == 33) (c == 63) e in
-      let k = neither (c == solidus) (begins_tag Xhtml c) f in
+      let n = or_parts (c == 33) (c == 63) e in
+      let k = or_parts (c == solidus) (begins_tag Xhtml c) f in
       rw (k.0, n.0, n.1, flip 47 k.0, flip 33 n.0, flip 63 n.1) refl
     where
       flip : (d : ℕ) → (c == d) ≡ false → (d == c) ≡ false
@@ -96,7 +96,7 @@ module _ (i : Content) (m : has_markup i ≡ true) (c : ℕ) where
       (λ e. by_test (is_first Xhtml c)
       (λ f. as_verdict Xhtml i (60 ∷ []) c _ (markup_is Xhtml i [] c m ∙ cond-false _ _ _ e) (first_in_tag Xhtml f))
       (λ f.
-      let b = (neither (c == solidus) (begins_tag Xhtml c) f).1 in
+      let b = (or_parts (c == solidus) (begins_tag Xhtml c) f).1 in
       as_verdict Xhtml i (60 ∷ []) c _ (markup_is Xhtml i [] c m ∙ refused_first i m c (meets_none e f) b)
       (λ depth items line phase. faults.no_markup [] c refl m refl (meets_none e f) b)))
 
@@ -125,8 +125,8 @@ module _ (i : Content) (m : has_markup i ≡ true) (text : Chars) (c : ℕ) (non
 
   declared : begins_declaration i (text ++ c ∷ []) ≡ true → Here
   declared k =
-      let a = neither (begins_with (codes "--") text || begins_with (codes "doctype") (lowered text)) _ none in
-      let b = neither (begins_with (codes "--") text) _ a.0 in
+      let a = or_parts (begins_with (codes "--") text || begins_with (codes "doctype") (lowered text)) _ none in
+      let b = or_parts (begins_with (codes "--") text) _ a.0 in
       elim (either (begins_with (codes "--") (text ++ c ∷ []) || begins_with (codes "doctype") (lowered (text ++ c ∷ []))) _ k) [
         | inl h ↦ elim (either (begins_with (codes "--") (text ++ c ∷ [])) _ h) [
           | inl e ↦ a_comment_begins (begins_exactly (codes "--") text c b.0 e)
@@ -147,7 +147,7 @@ module _ (i : Content) (m : has_markup i ≡ true) (text : Chars) (c : ℕ) (non
 any_or : (f g : Chars → Bool) (all : List Chars) → list_any (λ x. f x || g x) all ≡ true → list_any g all ≡ false → list_any f all ≡ true
 any_or f g [] h n = absurd (cc)
 any_or f g (x ∷ all) h n =
-    let k = neither (g x) (list_any g all) n in
+    let k = or_parts (g x) (list_any g all) n in
     by_test {G = (f x || list_any f all) ≡ true} (f x) (λ t. rw t refl)
     (λ t. rw t (any_or f g all (rest (f x) (g x) t k.0 h) k.1))
   where

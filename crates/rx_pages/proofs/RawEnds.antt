@@ -64,7 +64,7 @@ names : (word : Chars) → (word ≡ [] → ⊥) → list_all is_letter word ≡
 names [] n h = absurd (n refl)
 names (c ∷ word) n h = let k = both (is_letter c) _ h in and_from (is_letter c) _ k.0 (all_name word k.1)
 
-solidus_of : (x : ℕ) → lowered_char x ≡ 47 → x ≡ 47
+pub solidus_of : (x : ℕ) → lowered_char x ≡ 47 → x ≡ 47
 solidus_of x h = grind (arith, nat_tests)
 
 -- the end tag with nothing behind its name

@@ -1,7 +1,7 @@
 -- Faults that a character decides outside tags and document types are refused at it.
 use Rattle.std.proofs.Common.{◌≡◌, ◌≢◌, ◌∙◌, ℕ, true, false, [], ◌∷◌, ◌++◌, None, refl, ap, eqb-true}
 use Rattle.std.specs.Prelude.{◌&&◌, ◌==◌, not, codes}
-use Rattle.std.proofs.lemmas.Bool.{cond-true, cond-false, or_from}
+use Rattle.std.proofs.lemmas.Bool.{cond-true, cond-false, or_from, or_parts}
 use Rattle.rx_terms.specs.Ascii.{ampersand, semicolon, less_than_sign, greater_than_sign, is_white_space}
 use Rattle.rx_terms.specs.Text.{Chars}
 use Rattle.rx_chars.specs.declared.syntax.Syntax.{Syntax}
@@ -16,7 +16,7 @@ use Rattle.rx_grammar.specs.Spelling.{ends_with, IsFirst, has_markup, has_refere
 use Rattle.rx_pages.specs.Scanner.{refused, told_of_reference, is_mark, in_markup, verdict, GoesOn}
 use Rattle.rx_pages.proofs.Reading.{all_go, go_append, markup_is}
 use Rattle.rx_pages.proofs.Texts.{run_goes, semicolon_stops}
-use Rattle.rx_terms.proofs.Bools.{both, neither, untrue, by_test}
+use Rattle.rx_terms.proofs.Bools.{both, untrue, by_test}
 use Rattle.rx_reader.proofs.TextComplete.{body_begun}
 use Rattle.std.proofs.Math.Bool.{and-false}
 use Rattle.rx_reader.proofs.ValueRefusals.{name_body}
@@ -77,8 +77,8 @@ refuses_less_than c h =
   where
     no_mark : is_mark c ≡ false
     no_mark =
-        let a = neither _ (c == 63) h in
-        let b = neither _ (c == 33) a.0 in
+        let a = or_parts _ (c == 63) h in
+        let b = or_parts _ (c == 33) a.0 in
         or_from (c == 33) (c == 63) b.1 a.1
 
 pub refuses_section : IsRefused Xhtml content.Outside Outside (codes "<![CDATA[")

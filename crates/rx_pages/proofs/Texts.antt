@@ -2,7 +2,7 @@
 use Rattle.std.proofs.Common.{◌≡◌, ◌∙◌, ℕ, true, false, [], ◌∷◌, ◌++◌, Option, Some, None, refl, ap, sym, append_assoc}
 use Rattle.std.specs.Prelude.{◌&&◌, ◌==◌, not}
 use Rattle.std.specs.List.{list_all}
-use Rattle.std.proofs.lemmas.Bool.{cond-true, cond-false, or_from}
+use Rattle.std.proofs.lemmas.Bool.{cond-true, cond-false, or_from, or_parts}
 use Rattle.rx_terms.specs.Ascii.{ampersand, semicolon, less_than_sign}
 use Rattle.rx_terms.specs.Text.{Chars}
 use Rattle.rx_chars.specs.declared.syntax.Syntax.{Syntax}
@@ -13,7 +13,7 @@ use Rattle.rx_grammar.specs.Tokens.{character, reference, kept}
 use Rattle.rx_grammar.specs.Spelling.{has_references, keeps_runs, has_less_than, is_text, begins_markup, IsBefore}
 use Rattle.rx_pages.specs.Scanner.{whole, told_of_reference, is_mark, verdict, GoesOn, ReadAs, at_last, at_next}
 use Rattle.rx_pages.proofs.Reading.{all_go, read_to, markup_is}
-use Rattle.rx_terms.proofs.Bools.{both, neither, untrue, not_both_ways, by_test}
+use Rattle.rx_terms.proofs.Bools.{both, untrue, not_both_ways, by_test}
 use Rattle.rx_reader.proofs.Classes.{of_one}
 use Rattle.rx_reader.proofs.Fronts.{begun_front, begun_no_mark}
 use Rattle.rx_reader.proofs.TextComplete.{body_begun}
@@ -64,6 +64,6 @@ reads_less_than i (Some c) k h =
   where
     no_mark : is_mark c ≡ false
     no_mark =
-        let a = neither _ (c == 63) (untrue (begins_markup c) h) in
-        let b = neither _ (c == 33) a.0 in
+        let a = or_parts _ (c == 63) (untrue (begins_markup c) h) in
+        let b = or_parts _ (c == 33) a.0 in
         or_from (c == 33) (c == 63) b.1 a.1

@@ -7,10 +7,11 @@ use Rattle.rx_model.specs.Sets.{Among, IsExact, distinct}
 use Rattle.rx_model.specs.Terms.{Node, Iri, Blank, Term, Resource, Literal, Triple, Graph}
 use Rattle.rx_model.specs.Numbered.{rename_node, rename_term, rename, blank_of_node, blank_of_term, blanks_of, blanks, place_in, numbered, Has, Renamed}
 use Rattle.rx_model.specs.Seen.{triple_seen, triples_seen}
-use Rattle.rx_model.proofs.Sets.{Among_map, Among_of_map, Among_of_filter, Among_distinct, Among_of_distinct, not_true}
+use Rattle.rx_model.proofs.Sets.{Among_map, Among_of_map, Among_of_filter, Among_distinct, Among_of_distinct}
 use Rattle.rx_graph.proofs.SetLemmas.{seen_more}
 use Rattle.rx_quads.specs.Raised.{Counts, raised, AreFrom, past_one, past_all, past, NumbersWithoutGaps}
 use Rattle.rx_graph.proofs.NumberLemmas.{blanks_more}
+use Rattle.rx_terms.proofs.Bools.{untrue}
 
 -- ---- one more than the largest
 
@@ -126,7 +127,7 @@ module _ {B : Type 0} (same : B → B → Bool) (exact : IsExact same) where
   unfolding Apart
   apart_distinct [] = tt
   apart_distinct (x ∷ xs) = (
-    λ y m. not_true (same x y) (Among_of_filter (λ y. not (same x y)) (distinct same xs) y m).1,
+    λ y m. untrue (same x y) (Among_of_filter (λ y. not (same x y)) (distinct same xs) y m).1,
     apart_filter (λ y. not (same x y)) (distinct same xs) (apart_distinct xs),
   )
 

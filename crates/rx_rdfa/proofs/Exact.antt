@@ -2,9 +2,10 @@
 use Rattle.std.proofs.Common.{◌≡◌, ◌&&◌, ◌==◌, refl, ap, bytes_eq}
 use Rattle.std.proofs.lemmas.Bool.Decides.{Decides-eqb}
 use Rattle.rx_model.specs.Sets.{IsExact}
-use Rattle.rx_model.proofs.Sets.{and_left, and_right, and_both}
+use Rattle.rx_model.proofs.Sets.{and_left, and_right}
 use Rattle.rx_model.proofs.Exact.{exact_texts}
 use Rattle.rx_rdfa.specs.Blanks.{First, Of, Below, Author, Made, Cell, same_owner, same_bnode}
+use Rattle.std.proofs.lemmas.Bool.{and_from}
 
 pub exact_owners : IsExact same_owner
 exact_owners First First = (λ h. refl, λ e. refl)
@@ -20,7 +21,7 @@ exact_bnodes (Cell o p i) (Cell q r j) = (
       let b : p ≡ r = (exact_texts p r).0 (and_right (same_owner o q) (bytes_eq p r) (and_left (same_owner o q && bytes_eq p r) (i == j) h)) in
       let c : i ≡ j = (Decides-eqb i j).0 (and_right (same_owner o q && bytes_eq p r) (i == j) h) in
       λ k. Cell (a k) (b k) (c k),
-  λ e. and_both (same_owner o q && bytes_eq p r) (i == j) (and_both (same_owner o q) (bytes_eq p r) ((exact_owners o q).1 (cc)) ((exact_texts p r).1 (cc))) ((Decides-eqb i j).1 (cc)),
+  λ e. and_from (same_owner o q && bytes_eq p r) (i == j) (and_from (same_owner o q) (bytes_eq p r) ((exact_owners o q).1 (cc)) ((exact_texts p r).1 (cc))) ((Decides-eqb i j).1 (cc)),
 )
 exact_bnodes (Author a) (Made b) = (λ h. cc, λ e. cc)
 exact_bnodes (Author a) (Cell q r j) = (λ h. cc, λ e. cc)

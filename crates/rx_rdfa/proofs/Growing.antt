@@ -2,7 +2,7 @@
 use Rattle.std.proofs.Common.{◌≡◌, List, [], ◌∷◌, map, refl, ap, ap₂}
 use Rattle.rx_model.specs.Terms.{Node, Iri, Blank, Term, Resource, Literal, Triple}
 use Rattle.rx_model.specs.Numbered.{rename_node, rename_term, rename}
-use Rattle.rx_rdfa.specs.Resources.{Hanging, Forward, Reverse, InList, Inherited}
+use Rattle.rx_rdfa.specs.Resources.{Hanging, Forward, Inherited}
 use Rattle.rx_rdfa.specs.Renaming.{rename_hanging, rename_inherited}
 
 pub map_then : {A B C : Type 0} (k : A → C) (h : B → C) (f : A → B) → ((x : A) → k x ≡ h (f x)) → (list : List A) → map k list ≡ map h (map f list)

@@ -17,6 +17,7 @@ use Rattle.rx_rdfa.specs.Value.{rule, value}
 use Rattle.rx_rdfa.specs.Made.{end_and_lists, page_lists}
 use Rattle.rx_rdfa.specs.Local.{ListsAreLocal}
 use Rattle.rx_rdfa.proofs.Exact.{exact_owners}
+use Rattle.std.proofs.lemmas.Grind.{flat_map-append}
 
 abbrev pub ModelEntry : Type 0
 ModelEntry = Entry Owner (Term Bnode)
@@ -258,10 +259,6 @@ regroup₁ L P I N R = simp append_assoc
 
 pub regroup₂ : (L P I N R : List ModelEntry) → L ++ (P ++ (I ++ N) ++ R) ≡ ((L ++ P) ++ I) ++ (N ++ R)
 regroup₂ L P I N R = simp append_assoc
-
-pub flat_map-append : {A B : Type 0} (f : A → List B) (xs ys : List A) → flat_map f (xs ++ ys) ≡ flat_map f xs ++ flat_map f ys
-flat_map-append f [] ys = refl
-flat_map-append f (x ∷ xs) ys = ap (λ z. f x ++ z) (flat_map-append f xs ys) ∙ sym (append_assoc (f x) (flat_map f xs) (flat_map f ys))
 
 unfoldable pub within : (Place → List ModelEntry) → Place → List ModelEntry
 within f p = f p ++ flat_map f (places_from (p.facts ∷ p.above) p.path 0 p.inside)

@@ -20,7 +20,8 @@ use Rattle.rx_rdfa.specs.Lists.{map_entry, Entry, entry, linked, touched, valued
 use Rattle.rx_rdfa.specs.Made.{lists_of, lists_below, page_lists}
 use Rattle.rx_rdfa.specs.Local.{local_end}
 use Rattle.rx_rdfa.specs.Machine.{Slot, Full, Machine, inherit, slot_of, rule_at, value_at, reserved, fill_slot, fill, settled_item, settled_with, settled, settle, entered, number, leave, run, finished, ReadingMakes}
-use Rattle.rx_rdfa.proofs.Local.{ModelEntry, of_model_owner, itself, OwnerUnder, InheritedUnder, inherited_up, inherited_under, by_under, Inside, inside_up, inside_less, Free, free_append, free_up, free_less, free_at, nothing_of, not_under, under_length, entries_under, own_free_after, inner_free_after, flat_map-append, cells_by_owner, of_owner_append, lists_are_local}
+use Rattle.rx_rdfa.proofs.Local.{ModelEntry, of_model_owner, itself, OwnerUnder, InheritedUnder, inherited_up, inherited_under, by_under, Inside, inside_up, inside_less, Free, free_append, free_up, free_less, free_at, nothing_of, not_under, under_length, entries_under, own_free_after, inner_free_after, cells_by_owner, of_owner_append, lists_are_local}
+use Rattle.std.proofs.lemmas.Grind.{flat_map-append}
 
 -- ---- slots
 

@@ -16,9 +16,9 @@ use Rattle.rx_rdfa.specs.Naming.{Naming}
 use Rattle.rx_rdfa.specs.Blanks.{same_bnode, model}
 use Rattle.rx_rdfa.specs.Tree.{Nodes, all_text}
 use Rattle.rx_rdfa.specs.Facts.{Facts, Datatype, Empty, Is, Ref}
-use Rattle.rx_rdfa.specs.Resources.{Hanging, Forward, Reverse, InList, Resources, Standing, resources, resource_named}
+use Rattle.rx_rdfa.specs.Resources.{Hanging, Forward, Resources, Standing, resources, resource_named}
 use Rattle.rx_rdfa.specs.Inherited.{listed, hangs, own_owner, below}
-use Rattle.rx_rdfa.specs.Value.{kind_by_lang, plain_literal, time_literal_by, time_literal, Rule, ByDatatype, ByContent, ByDatetime, ByTimeText, ByResource, ByTyped, ByText, literal_by, rule, value_now, value_of_text, value}
+use Rattle.rx_rdfa.specs.Value.{kind_by_lang, plain_literal, time_literal_by, time_literal, Rule, ByDatatype, ByContent, ByDatetime, ByTimeText, literal_by, rule, value_now, value_of_text, value}
 use Rattle.rx_rdfa.specs.Element.{places, to_node, standing, of_vocabulary, types_by, links_by, properties_by, completed, text_value, start_of, end_of}
 use Rattle.rx_rdfa.specs.Lists.{Entry, entry, linked, touched, valued, awaited, entries_by, entries_at, entries_of, entries, of_owner, lists, items, cell_or_nil, chain, list_of, cells}
 use Rattle.rx_rdfa.specs.Made.{raw, made}

@@ -13,7 +13,7 @@ use Rattle.rx_rdfa.specs.Facts.{Facts, Datatype, Empty, Is, Ref}
 use Rattle.rx_rdfa.specs.Resources.{Hanging, Forward, Reverse, InList, Standing, Resources, resource_attribute, has_link, only, resource_named, resources}
 use Rattle.rx_rdfa.specs.Inherited.{listed}
 use Rattle.rx_rdfa.specs.Times.{time_datatype}
-use Rattle.rx_rdfa.specs.Value.{Rule, ByDatatype, ByContent, ByDatetime, ByTimeText, ByResource, ByTyped, ByText, rule_or, rule, literal_by, time_literal_by, is_time, value_now, value_of_text, value}
+use Rattle.rx_rdfa.specs.Value.{Rule, ByDatatype, ByContent, ByDatetime, ByTimeText, ByResource, ByTyped, rule_or, rule, literal_by, time_literal_by, is_time, value_now, value_of_text, value}
 use Rattle.rx_rdfa.specs.Element.{to_node, of_vocabulary, types_by, links_by, properties_by, completed, text_value, start_of, end_of}
 use Rattle.rx_rdfa.specs.Renaming.{rename_hanging, rename_standing, rename_resources, rename_rule, label_of, AgreeAt}
 use Rattle.rx_rdfa.proofs.Sent.{map_only, map_unwrap, map_cond}

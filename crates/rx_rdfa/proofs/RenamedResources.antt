@@ -9,7 +9,7 @@ use Rattle.rx_model.specs.Terms.{Node, Iri, Blank, same_node}
 use Rattle.rx_model.specs.Numbered.{rename_node}
 use Rattle.rx_model.proofs.Sets.{Among_left, Among_right}
 use Rattle.rx_rdfa.specs.Naming.{Naming}
-use Rattle.rx_rdfa.specs.Facts.{Facts, Ref, IriRef, LabelRef, RelativeRef}
+use Rattle.rx_rdfa.specs.Facts.{Facts, Ref, LabelRef}
 use Rattle.rx_rdfa.specs.Resources.{Forward, Reverse, InList, Standing, Resources, resource_named, about, linked_resource, base_at_root, parent_for_head_and_body, has_typeof, has_link, is_plain_property, is_root, is_root_child, is_head_or_body, new_blank, default_subject, of_property, of_no_link, of_link, only, resources}
 use Rattle.rx_rdfa.specs.Inherited.{listed, holds_some, hangs, object_below, own_owner, hanging_of, owner_below, handed, below}
 use Rattle.rx_rdfa.specs.Renaming.{rename_hanging, rename_inherited, rename_standing, rename_resources, label_of, label_of_option, labels, AgreeAt}

@@ -107,7 +107,7 @@ to_name s gap (c ∷ more) text h k =
     to_key s gap (more ++ text) c h b.0 ∙ key_run s more text (c ∷ []) [] b.1
 
 -- after a name and white space: what is read from a gap on is read here too, once the attribute is added
-some_not_none : {A : Type 0} (x : A) (G : Type 0) → None ≡ Some x → G
+pub some_not_none : {A : Type 0} (x : A) (G : Type 0) → None ≡ Some x → G
 some_not_none x G h = absurd (cc)
 
 lone_white : (c : ℕ) → is_white_space c ≡ true → move_of Html phase.Gap c ≡ Some (phase.Gap, action.Skip)

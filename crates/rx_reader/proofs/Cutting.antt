@@ -1,6 +1,6 @@
 -- What the table does with parts of a tag's attributes.
 use Rattle.std.proofs.Common.{cond, sym, ◌≡◌, ℕ, true, false, [], ◌∷◌, ◌++◌, Option, Some, refl, ap, ◌∙◌, append_assoc, append-nil, inl, inr}
-use Rattle.std.proofs.lemmas.Bool.{eq-eqb, cond-true, cond-false}
+use Rattle.std.proofs.lemmas.Bool.{eq-eqb, cond-true, cond-false, or_parts}
 use Rattle.std.specs.Prelude.{◌&&◌, ◌==◌, not}
 use Rattle.std.specs.List.{list_all}
 use Rattle.rx_terms.specs.Ascii.{is_white_space, equals_sign, quotation_mark}
@@ -14,7 +14,7 @@ use Rattle.rx_reader.specs.declared.phases.TagAction.{TagAction}
 use Rattle.rx_reader.specs.declared.phases.TagAction.TheVariants as action
 use Rattle.rx_reader.specs.Tables.{go, move_of}
 use Rattle.rx_reader.specs.Cuts.{with_first, cut_by, cut_from}
-use Rattle.rx_terms.proofs.Bools.{both, neither, either, untrue}
+use Rattle.rx_terms.proofs.Bools.{both, either, untrue}
 use Rattle.rx_reader.proofs.Classes.{of_one, continues_apart}
 
 -- one step by what the table says
@@ -71,7 +71,7 @@ quoted_run s mark value text key q h =
 
 -- a value without quotes
 unquoted_goes : (c : ℕ) → is_unquoted_char c ≡ true → move_of Html phase.Unquoted c ≡ Some (phase.Unquoted, action.Value)
-unquoted_goes c h = let n = neither (is_white_space c) _ (untrue _ h) in rw (n.0, n.1) refl
+unquoted_goes c h = let n = or_parts (is_white_space c) _ (untrue _ h) in rw (n.0, n.1) refl
 
 unquoted_run : (more text key value : Chars) → list_all is_unquoted_char more ≡ true → cut_from Html (more ++ text) phase.Unquoted key value ≡ cut_from Html text phase.Unquoted key (value ++ more)
 unquoted_run [] text key value h = rw (append-nil value) refl
@@ -81,8 +81,8 @@ unquoted_run (c ∷ more) text key value h =
 
 unquoted_begins : (c : ℕ) → is_unquoted_char c ≡ true → is_quote c ≡ false → move_of Html phase.BeforeValue c ≡ Some (phase.Unquoted, action.Value)
 unquoted_begins c h q =
-    let n = neither (is_white_space c) _ (untrue _ h) in
-    let m = neither (c == quotation_mark) _ q in
+    let n = or_parts (is_white_space c) _ (untrue _ h) in
+    let m = or_parts (c == quotation_mark) _ q in
     rw (n.0, m.0, m.1, n.1) refl
 
 pub unquoted_value : (value text key : Chars) → is_unquoted value ≡ true → cut_from Html (value ++ text) phase.BeforeValue key [] ≡ cut_from Html text phase.Unquoted key value

@@ -18,13 +18,13 @@ use Rattle.rx_grammar.specs.Tags.{SpellsTag, cased, cased_char}
 use Rattle.rx_grammar.specs.Spelling.{ends_with, IsFirst, has_markup, has_references, keeps_runs, has_sections, has_less_than, is_text, begins_markup, IsBefore, raw_name, begins_end, stops_end, ends_comment, begins_declaration, doctype_word, IsDoctype, Spells, a_tag, an_end_of_raw, a_character, a_less_than, a_raw_run, a_reference, a_kept_run, a_comment, a_bogus_comment, a_question, a_strict_comment, an_instruction, a_section, a_doctype}
 use Rattle.rx_grammar.specs.Items.{next_of}
 use Rattle.rx_grammar.specs.Laws.{OneToken, IsSameToken}
-use Rattle.rx_terms.proofs.Bools.{both, neither, either, untrue, not_both_ways, by_test}
+use Rattle.rx_terms.proofs.Bools.{both, either, untrue, not_both_ways, by_test}
 use Rattle.rx_reader.proofs.Classes.{of_one, of_white, unless}
 use Rattle.rx_reader.proofs.Fronts.{equal, all_front, Longer, two_fronts, one_first, only_end, one_end, ends_at, begins_append, begins_front, begins_more, begins_within, has_end, begun_no_mark, begun_front}
 use Rattle.rx_reader.proofs.TagLaws.{one, one_front}
 use Rattle.rx_reader.proofs.TextComplete.{body_begun}
 use Rattle.std.proofs.lemmas.List.{append_cancel_left, append_cancel_right, map-append}
-use Rattle.std.proofs.lemmas.Bool.{or_left, or_right, and_from}
+use Rattle.std.proofs.lemmas.Bool.{or_left, or_right, and_from, or_parts}
 use Rattle.rx_reader.proofs.Gaps.{all_of_some}
 
 -- what follows `<!`
@@ -214,7 +214,7 @@ first_end (c ∷ text) f =
     not_same c text e = by_test {G = (62 == c && same [] text) ≡ false} (62 == c) (λ g. absurd (not_both_ways (c == 62) (of_one (λ x. (c == x) ≡ true) 62 c g (equal c)) e)) (λ g. rw g refl)
 
     by_rest : (c : ℕ) (front : Chars) → ends_with (codes ">") (c ∷ front) ≡ false → ends_with (codes ">") front ≡ false
-    by_rest c front h = (neither (same (codes ">") (c ∷ front)) _ h).1
+    by_rest c front h = (or_parts (same (codes ">") (c ∷ front)) _ h).1
 
     by_end : (text : Chars) → ((front more : Chars) → text ≡ front ++ more → more ≢ [] → ends_with (codes ">") (c ∷ front) ≡ false) → (c == 62) ≡ true → IsFirst (ends_with (codes ">")) (c ∷ text) → is_empty text ≡ true
     by_end [] g e f = refl
@@ -252,7 +252,7 @@ white_no_mark : (c : ℕ) → is_white_space c ≡ true → not (c == 62) ≡ tr
 white_no_mark c h = of_white (λ x. not (x == 62) ≡ true) c h refl refl refl refl refl
 
 passed_no_mark : (c : ℕ) → not (c == 62 || c == 91) ≡ true → not (c == 62) ≡ true
-passed_no_mark c h = let n = neither (c == 62) (c == 91) (untrue _ h) in rw n.0 refl
+passed_no_mark c h = let n = or_parts (c == 62) (c == 91) (untrue _ h) in rw n.0 refl
 
 doctype_end : (s : Syntax) (text : Chars) → IsDoctype s text → only_end 62 text ≡ true
 doctype_end s text d =
@@ -321,8 +321,8 @@ pub record Bogus (i : Content) (x : Chars) : Type 0 where
 
 bogus_is : (i : Content) (x : Chars) → begins_declaration i x ≡ false → Bogus i x
 bogus_is i x h =
-    let a = neither (begins_with (codes "--") x || begins_with (codes "doctype") (lowered x)) _ h in
-    let b = neither (begins_with (codes "--") x) _ a.0 in
+    let a = or_parts (begins_with (codes "--") x || begins_with (codes "doctype") (lowered x)) _ h in
+    let b = or_parts (begins_with (codes "--") x) _ a.0 in
     record { no_comment = b.0; no_doctype = b.1; no_section = a.1 }
 
 section_is : (i : Content) (x : Chars) → has_sections i ≡ true → begins_with (codes "[CDATA[") x ≡ true → (has_sections i && begins_with (codes "[CDATA[") x) ≡ false → ⊥

@@ -17,6 +17,7 @@ use Rattle.rx_reader.specs.Cuts.{Cut, with_first, cut_by, cut_from}
 use Rattle.rx_terms.proofs.Bools.{both, split, not_both_ways}
 use Rattle.rx_reader.proofs.Classes.{of_one}
 use Rattle.rx_reader.proofs.Gaps.{InGap, Ends, all_snoc, then_snoc, gap_is_gap, gap_ends, gap_white, gap_slash, first_white, first_slash, first_end, slash_white, slash_slash, slash_gap, no_gap, whites_gap, all_of_some, some_snoc}
+use Rattle.rx_reader.proofs.Complete.{some_not_none}
 
 abbrev pub Result : Type 0
 Result = List Attribute × Bool
@@ -55,9 +56,6 @@ added a (Some x) r h = record { rest = x; from = refl; first = let e : (a ∷ x.
 
 pub spelled_as : (s : Syntax) (a b : Chars) (r : Result) → a ≡ b → Attributes s a r.0 r.1 → Attributes s b r.0 r.1
 spelled_as s a b r e h = subst (λ (x : Chars). Attributes s x r.0 r.1) e h
-
-none_some : (r : Result) (G : Type 0) → None ≡ Some r → G
-none_some r G h = absurd (cc)
 
 pub html_is : (s : Syntax) → is_html s ≡ true → s ≡ Html
 html_is Html h = refl
@@ -118,7 +116,7 @@ module _ (s : Syntax) (text : Chars) (ih : Sound s text) (c : ℕ) (r : Result) 
       (λ e g. on phase.Opened gap [] [] (of_one (λ x. Since s phase.Opened (gap ++ x ∷ []) [] []) c greater_than_sign e (opened' gap (gap_ends s gap i))) g)
       (λ _. split (At G [] []) (begins_attribute s c) _ _
       (λ e g. on phase.Key gap (c ∷ []) [] (in_key' gap (c ∷ []) (gap_is_gap s gap i) (name_one s c e)) g)
-      (λ _ g. none_some r G g)))) h
+      (λ _ g. some_not_none r G g)))) h
 
   -- in HTML, after a `/`
   from_slash : (gap : Chars) → s ≡ Html → (c == greater_than_sign) ≡ false → Ends s gap true → cut_by (cut_from s text) [] [] c (in_gap s c) ≡ Some r → Attributes s (gap ++ c ∷ text) r.0 r.1
@@ -132,7 +130,7 @@ module _ (s : Syntax) (text : Chars) (ih : Sound s text) (c : ℕ) (r : Result) 
       (λ e g. absurd (not_both_ways (c == greater_than_sign) e ng))
       (λ _. split (At G [] []) (begins_attribute s c) _ _
       (λ e g. on phase.Key gap (c ∷ []) [] (in_key' gap (c ∷ []) (slash_gap s z gap i) (name_one s c e)) g)
-      (λ _ g. none_some r G g)))) h
+      (λ _ g. some_not_none r G g)))) h
 
   from_solidus : (gap : Chars) → Ends s gap true → cut_by (cut_from s text) [] [] c (move_of s phase.Solidus c) ≡ Some r → Attributes s (gap ++ c ∷ text) r.0 r.1
   from_solidus gap i h =
@@ -141,7 +139,7 @@ module _ (s : Syntax) (text : Chars) (ih : Sound s text) (c : ℕ) (r : Result) 
       (λ e g. on phase.Emptied gap [] [] (of_one (λ x. Since s phase.Emptied (gap ++ x ∷ []) [] []) c greater_than_sign e (emptied' gap i)) g)
       (λ n. split (At G [] []) (is_html s) _ _
       (λ e g. from_slash gap (html_is s e) n i g)
-      (λ _ g. none_some r G g)) h
+      (λ _ g. some_not_none r G g)) h
 
   from_after_value : cut_by (cut_from s text) [] [] c (move_of s phase.AfterValue c) ≡ Some r → Attributes s (c ∷ text) r.0 r.1
   from_after_value h =
@@ -155,8 +153,8 @@ module _ (s : Syntax) (text : Chars) (ih : Sound s text) (c : ℕ) (r : Result) 
       (λ _. split (At G [] []) (is_html s) _ _
       (λ z. split (At G [] []) (begins_attribute s c) _ _
       (λ e g. on phase.Key [] (c ∷ []) [] (in_key' [] (c ∷ []) (no_gap s (html_is s z)) (name_one s c e)) g)
-      (λ _ g. none_some r G g))
-      (λ _ g. none_some r G g)))) h
+      (λ _ g. some_not_none r G g))
+      (λ _ g. some_not_none r G g)))) h
 
   from_key : (gap key : Chars) → is_gap s gap ≡ true → is_attribute_name s key ≡ true → cut_by (cut_from s text) key [] c (move_of s phase.Key c) ≡ Some r → Attributes s ((gap ++ key) ++ c ∷ text) r.0 r.1
   from_key gap key i n h =
@@ -169,15 +167,15 @@ module _ (s : Syntax) (text : Chars) (ih : Sound s text) (c : ℕ) (r : Result) 
       (λ e. split (At G key []) (is_html s) _ _
       (λ z g. spelled_as s (gap ++ (key ++ c ∷ text)) _ r (sym (append_assoc gap key (c ∷ text)))
       (ends phase.Solidus gap key [] [] (c ∷ []) [] ends_name i n (no_value (html_is s z)) (after_solidus' (c ∷ []) (of_one (λ x. Ends s (x ∷ []) true) c solidus e (first_slash s))) (of_one (λ x. begins ends_name (x ∷ text) ≡ true) c solidus e refl) g))
-      (λ _ g. none_some r G g))
+      (λ _ g. some_not_none r G g))
       (λ _. split (At G key []) (c == greater_than_sign) _ _
       (λ e. split (At G key []) (is_html s) _ _
       (λ z g. spelled_as s (gap ++ (key ++ c ∷ text)) _ r (sym (append_assoc gap key (c ∷ text)))
       (ends phase.Opened gap key [] [] (c ∷ []) [] ends_name i n (no_value (html_is s z)) (of_one (λ x. Since s phase.Opened (x ∷ []) [] []) c greater_than_sign e (opened' [] (first_end s))) (of_one (λ x. begins ends_name (x ∷ text) ≡ true) c greater_than_sign e refl) g))
-      (λ _ g. none_some r G g))
+      (λ _ g. some_not_none r G g))
       (λ _. split (At G key []) (continues_attribute s c) _ _
       (λ e g. goes phase.Key (gap ++ key) (gap ++ (key ++ c ∷ [])) (key ++ c ∷ []) [] (in_key' gap (key ++ c ∷ []) i (then_snoc (begins_attribute s) (continues_attribute s) key c n e)) (simp append_assoc) g)
-      (λ _ g. none_some r G g))))) h
+      (λ _ g. some_not_none r G g))))) h
 
   from_after_key : (gap key white : Chars) → is_gap s gap ≡ true → is_attribute_name s key ≡ true → one_or_more is_white_space white ≡ true → cut_by (cut_from s text) key [] c (move_of s phase.AfterKey c) ≡ Some r → Attributes s ((gap ++ (key ++ white)) ++ c ∷ text) r.0 r.1
   from_after_key gap key white i n w h =
@@ -201,8 +199,8 @@ module _ (s : Syntax) (text : Chars) (ih : Sound s text) (c : ℕ) (r : Result) 
       (λ e g. spelled_as s (gap ++ (key ++ ((white ++ c ∷ []) ++ text))) _ r regroup
       (ends phase.Key gap key [] [] (white ++ c ∷ []) (c ∷ []) ends_name i n (no_value (html_is s z))
       (in_key' white (c ∷ []) (gap_is_gap s white (whites_gap s (html_is s z) white all)) (name_one s c e)) (begins_some white text c w) g))
-      (λ _ g. none_some r G g))))
-      (λ _ g. none_some r G g))) h
+      (λ _ g. some_not_none r G g))))
+      (λ _ g. some_not_none r G g))) h
 
   from_before_value : (gap key white after : Chars) → is_gap s gap ≡ true → is_attribute_name s key ≡ true → list_all is_white_space white ≡ true → list_all is_white_space after ≡ true → cut_by (cut_from s text) key [] c (move_of s phase.BeforeValue c) ≡ Some r
       → Attributes s ((gap ++ (key ++ (white ++ equals_sign ∷ after))) ++ c ∷ text) r.0 r.1
@@ -218,10 +216,10 @@ module _ (s : Syntax) (text : Chars) (ih : Sound s text) (c : ℕ) (r : Result) 
       (λ nq. split (At G key []) (c == apostrophe) _ _
       (λ e g. goes phase.SingleQuoted since grown key [] (of_one (λ x. Since s phase.SingleQuoted (gap ++ (key ++ (white ++ equals_sign ∷ (after ++ x ∷ [])))) key []) c apostrophe e (single' gap key white after [] i n w v refl)) regroup g)
       (λ na. split (At G key []) (c == greater_than_sign) _ _
-      (λ e g. none_some r G g)
+      (λ e g. some_not_none r G g)
       (λ ng. split (At G key []) (is_html s) _ _
       (λ z g. goes phase.Unquoted since grown key (c ∷ []) (unquoted' gap key white after (c ∷ []) (html_is s z) i n w v (unquoted_one c nw nq na ng)) regroup g)
-      (λ _ g. none_some r G g))))) h
+      (λ _ g. some_not_none r G g))))) h
 
   -- in quotes, to the mark with which they began
   from_quoted : (mark : ℕ) (p : TagPhase) (gap key white after value : Chars) → ((more : Chars) → list_all (λ c. not (c == mark)) more ≡ true → Since s p (gap ++ (key ++ (white ++ equals_sign ∷ (after ++ mark ∷ more)))) key more)
@@ -262,7 +260,7 @@ module _ (s : Syntax) (text : Chars) (ih : Sound s text) (c : ℕ) (r : Result) 
   one_more p since key value (double' gap k white after x i n w v q) h = from_quoted 34 phase.DoubleQuoted gap k white after x (λ y l. double' gap k white after y i n w v l) refl i n w v q h
   one_more p since key value (single' gap k white after x i n w v q) h = from_quoted 39 phase.SingleQuoted gap k white after x (λ y l. single' gap k white after y i n w v l) refl i n w v q h
   one_more p since key value (unquoted' gap k white after x z i n w v q) h = from_unquoted gap k white after x z i n w v q h
-  one_more p since key value _ h = none_some r _ h
+  one_more p since key value _ h = some_not_none r _ h
 
 ended_so : (s : Syntax) (gap : Chars) (slash : Bool) (r : Result) → Ends s gap slash → Some ([], slash) ≡ Some r → Attributes s ((gap ++ greater_than_sign ∷ []) ++ []) r.0 r.1
 ended_so s gap slash r i h =
@@ -273,7 +271,7 @@ ended_so s gap slash r i h =
 nothing_left : (s : Syntax) (p : TagPhase) (since key value : Chars) (r : Result) → Since s p since key value → cut_from s [] p key value ≡ Some r → Attributes s (since ++ []) r.0 r.1
 nothing_left s p since key value r (opened' gap i) h = ended_so s gap false r i h
 nothing_left s p since key value r (emptied' gap i) h = ended_so s gap true r i h
-nothing_left s p since key value r _ h = none_some r _ h
+nothing_left s p since key value r _ h = some_not_none r _ h
 
 pub sound : (s : Syntax) (text : Chars) → Sound s text
 sound s [] p since key value r i h = nothing_left s p since key value r i h

@@ -13,8 +13,9 @@ use Rattle.rx_reader.specs.declared.phases.RunMove.{RunMove}
 use Rattle.rx_reader.specs.declared.phases.RunMove.TheVariants.{Goes, Closes, Stops}
 use Rattle.rx_reader.specs.Tables.{run_move}
 use Rattle.rx_reader.specs.Values.{Value, known_as, is_run, plain_step, meant, stopped, run_step, value_end, value_on, end_of}
-use Rattle.rx_terms.proofs.Bools.{both, neither, either, untrue}
+use Rattle.rx_terms.proofs.Bools.{both, either, untrue}
 use Rattle.rx_reader.proofs.Runs.{RunIs, at_ampersand, in_name, at_hash, in_decimal, at_mark, in_hexadecimal, stops_back, closes_back, x_no_digit}
+use Rattle.std.proofs.lemmas.Bool.{or_parts}
 
 abbrev pub at_run : RunPhase → Chars → Chars → Value
 at_run p known text = record { phase = p; known = known; run = text }
@@ -33,7 +34,7 @@ some_all (c ∷ text) h = h
 
 plain_is : (s : Syntax) (known : Chars) (c : ℕ) → is_plain s c ≡ true → plain_step s known c ≡ Ok (known_as (known ++ value_char s c ∷ []))
 plain_is Html known c h = let e : (c == ampersand) ≡ false = untrue (c == ampersand) h in rw e refl
-plain_is Xhtml known c h = let n = neither (c == ampersand) (c == less_than_sign) (untrue _ h) in rw (n.0, n.1) refl
+plain_is Xhtml known c h = let n = or_parts (c == ampersand) (c == less_than_sign) (untrue _ h) in rw (n.0, n.1) refl
 
 kept_begun : (s : Syntax) (text rest : Chars) → IsKept s text rest → is_begun text ≡ true
 kept_begun Html text [] i = i

@@ -3,7 +3,7 @@ use Rattle.std.proofs.Common.{◌≡◌, ◌∙◌, ℕ, zero, suc, ◌+◌, ◌
 use Rattle.std.specs.Prelude.{if◌then◌else◌, codes, nat_lt, encode_utf8, IfSome}
 use Rattle.std.specs.List.{list_all}
 use Rattle.std.specs.Str.{chars, IsUtf8, IsCharBoundary, encode_utf8_all}
-use Rattle.std.proofs.lemmas.Bool.{and_parts, and_from}
+use Rattle.std.proofs.lemmas.Bool.{and_parts, and_from, or_parts}
 use Rattle.std.proofs.lemmas.Bool.Decides.{nat_tests}
 use Rattle.std.proofs.lemmas.List.{append_assoc, append-nil, take-append-drop, length-take}
 use Rattle.std.proofs.lemmas.List.Folds.{list_all-append}
@@ -21,7 +21,8 @@ use Rattle.rx_refs.specs.declared.plain.Split.{Split}
 use Rattle.rx_terms.proofs.Bools.{by_test, untrue}
 use Rattle.rx_terms.proofs.CharLemmas.{ascii-chars, ascii-utf8}
 use Rattle.rx_refs.proofs.CutLemmas.{past-slash, through-none}
-use Rattle.rx_refs.proofs.PlainLemmas.{IsCutBase, plain-rooted, plain-relative, plain-same, plain-whole, before-lacking, hier-lacking, clean-parts, plain-query, plain-network}
+use Rattle.rx_refs.proofs.PlainLemmas.{IsCutBase, plain-rooted, plain-relative, plain-same, plain-whole, before-lacking, hier-lacking, plain-query, plain-network}
+use Rattle.std.proofs.Math.Bool.{and-false}
 
 -- A character above ASCII and its bytes
 
@@ -62,12 +63,8 @@ large-bytes c l =
 fine-large : (c : ℕ) → 128 ≤ c → (is_forbidden c ≡ false) × (ends_path c ≡ false) × ((c == 58) ≡ false) × ((c == 46) ≡ false) × ((c == 47) ≡ false) × ((47 == c) ≡ false)
 fine-large c l = (grind (arith, nat_tests), grind (arith, nat_tests), grind (arith, nat_tests), grind (arith, nat_tests), grind (arith, nat_tests), grind (arith, nat_tests))
 
-no_test : (b : Bool) → (b && false) ≡ false
-no_test true = refl
-no_test false = refl
-
 plain-large : (first start : Bool) (c : ℕ) (text : List ℕ) → 128 ≤ c → is_plain_from first start (c ∷ text) ≡ is_plain_from first false text
-plain-large first start c text l = let f = fine-large c l in rw (f.0, f.1, f.2, f.3, f.4, no_test first, no_test start) refl
+plain-large first start c text l = let f = fine-large c l in rw (f.0, f.1, f.2, f.3, f.4, and-false first, and-false start) refl
 
 large-of : (x : ℕ) → not (nat_lt x 128) ≡ true → 128 ≤ x
 large-of x h = let e = untrue (nat_lt x 128) h in grind (arith, nat_tests)
@@ -193,8 +190,8 @@ site-ascii [] h = record { ascii = refl; no_hash = refl; no_mark = refl; no_slas
 site-ascii (x ∷ xs) h =
     let p = and_parts (is_site_byte x) (list_all is_site_byte xs) h in
     let q = and_parts (nat_lt x 128) (not (x == 47 || ends_path x)) p.0 in
-    let s = clean-parts (x == 47) (ends_path x) (untrue (x == 47 || ends_path x) q.1) in
-    let e = clean-parts (x == 35) (x == 63) s.1 in
+    let s = or_parts (x == 47) (ends_path x) (untrue (x == 47 || ends_path x) q.1) in
+    let e = or_parts (x == 35) (x == 63) s.1 in
     let r = site-ascii xs p.1 in
     record { ascii = and_from (is_ascii x) (list_all is_ascii xs) q.0 r.ascii; no_hash = rw e.0 r.no_hash; no_mark = rw e.1 r.no_mark; no_slash = rw s.0 r.no_slash }
 
@@ -290,7 +287,7 @@ folder-parts here folder start (c ∷ bs) f h =
     by_test (nat_lt c 128) (λ l.
     by_test (start && c == 46) (λ t. let k : None ≡ Some f = rw (e, l, t) at h in absurd (cc k)) (λ d.
     let r = folder-parts (suc here) (if c == 47 then suc here else folder) (c == 47) bs f (rw (e, l, d) at h) in
-    let p = clean-parts (c == 35) (c == 63) e in
+    let p = or_parts (c == 35) (c == 63) e in
     record {
       path = c ∷ r.path;
       tail = r.tail;
@@ -455,8 +452,8 @@ keeps-encoded (c ∷ cs) =
     small-or-large c (λ l. ap keeps_all (encoded-small c cs l)) (λ l.
     let b = large-bytes c l in
     let whole : encode_utf8_all (c ∷ cs) ≡ b.first ∷ (b.more ++ encode_utf8_all cs) = ap (λ (x : List ℕ). x ++ encode_utf8_all cs) b.are in
-    let f = clean-parts (b.first == 35) (b.first == 63) (fine-large b.first b.large).1 in
-    let g = clean-parts (c == 35) (c == 63) (fine-large c l).1 in
+    let f = or_parts (b.first == 35) (b.first == 63) (fine-large b.first b.large).1 in
+    let g = or_parts (c == 35) (c == 63) (fine-large c l).1 in
     ap keeps_all whole ∙ rw (f.0, g.0) refl)
 
 same-at : (path tail ref : List ℕ) → list_all is_ascii path ≡ true → holds 35 path ≡ false → ends_hash tail ≡ true → IsUtf8 (path ++ tail) → IsIri (chars (path ++ tail))
@@ -504,7 +501,7 @@ path-parts here (c ∷ bs) f h =
     by_test (nat_lt c 128) (λ l.
     let r = path-parts (suc here) bs f (rw (e, l) at h) in
     let p = r.place in
-    let apart = clean-parts (c == 35) (c == 63) e in
+    let apart = or_parts (c == 35) (c == 63) e in
     record {
       path = c ∷ r.path;
       tail = r.tail;
@@ -523,8 +520,8 @@ query-encoded (c ∷ cs) =
     small-or-large c (λ l. ap begins_query (encoded-small c cs l)) (λ l.
     let b = large-bytes c l in
     let whole : encode_utf8_all (c ∷ cs) ≡ b.first ∷ (b.more ++ encode_utf8_all cs) = ap (λ (x : List ℕ). x ++ encode_utf8_all cs) b.are in
-    let f = clean-parts (b.first == 35) (b.first == 63) (fine-large b.first b.large).1 in
-    let g = clean-parts (c == 35) (c == 63) (fine-large c l).1 in
+    let f = or_parts (b.first == 35) (b.first == 63) (fine-large b.first b.large).1 in
+    let g = or_parts (c == 35) (c == 63) (fine-large c l).1 in
     ap begins_query whole ∙ rw (f.1, g.1) refl)
 
 query-at : (path tail ref : List ℕ) → list_all is_ascii path ≡ true → holds 35 path ≡ false → holds 63 path ≡ false → ends_here tail ≡ true → IsUtf8 (path ++ tail) → IsIri (chars (path ++ tail))

@@ -1,7 +1,7 @@
 -- References that begin with `../`: they take segments off the base's path, and nothing else is worked out.
 use Rattle.std.proofs.Common.{◌≡◌, ◌∙◌, ℕ, zero, suc, ◌≤◌, Bool, true, false, not, ◌==◌, ◌||◌, ◌&&◌, [], ◌∷◌, ◌++◌, length, sym, ap, refl, arith, Option, Some, None}
 use Rattle.std.specs.Prelude.{is_some}
-use Rattle.std.proofs.lemmas.Bool.{and_parts, and_from}
+use Rattle.std.proofs.lemmas.Bool.{and_parts, and_from, or_parts}
 use Rattle.std.proofs.lemmas.List.{append_assoc, append-nil, append_cancel_left}
 use Rattle.rx_terms.specs.Text.{Chars, is_empty}
 use Rattle.rx_terms.specs.Iri.{is_scheme, has_scheme, is_forbidden, has_forbidden, IsIri}
@@ -17,7 +17,7 @@ use Rattle.rx_refs.proofs.DotLemmas.{at, from_first-shorter, reduced-step}
 use Rattle.rx_refs.proofs.SchemeLemmas.{cut-scheme, scheme-none, uncleaned, before-clean}
 use Rattle.rx_refs.proofs.TargetLemmas.{relative-merged}
 use Rattle.rx_refs.proofs.WholeLemmas.{components, parts-whole, target-relative}
-use Rattle.rx_refs.proofs.PlainLemmas.{IsCutBase, HasRelative, base-parts, none-some, assembled, clean-both, clean-of, clean-parts, clean-trimmed, plain-clean, plain-dots, no_dot, flipped, dots-rest, dots-bare, dots-kept, hier-lacking}
+use Rattle.rx_refs.proofs.PlainLemmas.{IsCutBase, HasRelative, base-parts, none-some, assembled, clean-both, clean-of, clean-trimmed, plain-clean, plain-dots, no_dot, flipped, dots-rest, dots-bare, dots-kept, hier-lacking}
 
 -- A path without dots is moved whole, whatever follows
 
@@ -91,7 +91,7 @@ without-flat start (c ∷ path) h =
 without-clean : (path : Chars) → has_forbidden path ≡ false → has_forbidden (without_last_segment path) ≡ false
 without-clean [] h = refl
 without-clean (c ∷ path) h =
-    let p = clean-parts (is_forbidden c) (has_forbidden path) h in
+    let p = or_parts (is_forbidden c) (has_forbidden path) h in
     by_test (holds 47 path) (λ t. rw (t, p.0) (without-clean path p.1)) (λ t. rw t refl)
 
 ups-clean : (k : ℕ) (path : Chars) → has_forbidden path ≡ false → has_forbidden (ups k path) ≡ false

@@ -1,5 +1,5 @@
 -- What the cuts of std, which count bytes, are in characters.
-use Rattle.std.proofs.Common.{◌≡◌, ◌≢◌, ◌∙◌, ℕ, ◌<◌, ◌≤◌, Bool, true, false, ◌==◌, ◌||◌, List, [], ◌∷◌, ◌++◌, length, take, drop, get_or, sym, ap, subst, refl, arith, Option, Some, None, MatchOption}
+use Rattle.std.proofs.Common.{◌≡◌, ◌≢◌, ◌∙◌, ℕ, ◌<◌, ◌≤◌, true, false, ◌==◌, List, [], ◌∷◌, ◌++◌, length, take, drop, get_or, sym, ap, subst, refl, arith, Option, Some, None, MatchOption}
 use Rattle.std.specs.Prelude.{unwrap_or, encode_utf8}
 use Rattle.std.specs.Str.{chars, IsUtf8, IsCharBoundary, NonePass, NoCharPasses, encode_utf8_all}
 use Rattle.std.specs.Str.Pattern.{HasCharAt, FindsChar, RFindsChar}
@@ -13,16 +13,13 @@ use Rattle.rx_refs.specs.Resolve.{through_last_slash}
 use Rattle.rx_terms.proofs.Bools.{by_test}
 use Rattle.rx_refs.proofs.PartLemmas.{cut-at, uncut}
 use Rattle.rx_words.proofs.EndLemmas.{begins-front}
+use Rattle.std.proofs.Math.Bool.{or-true}
 
 -- Texts with a `/`
 
 holds-at : (front rest : Chars) → holds 47 (front ++ 47 ∷ rest) ≡ true
 holds-at [] rest = refl
-holds-at (c ∷ front) rest = rw (holds-at front rest) (or_true (c == 47)) where
-  or_true : (b : Bool) → (b || true) ≡ true
-  or_true true = refl
-  or_true false = refl
-
+holds-at (c ∷ front) rest = rw (holds-at front rest) (or-true (c == 47))
 holds-rest : (c : ℕ) (text : Chars) → holds 47 (c ∷ text) ≡ false → holds 47 text ≡ false
 holds-rest c text h = by_test (c == 47) (λ t. let g : true ≡ false = rw t at h in absurd (cc g)) (λ t. rw t at h)
 

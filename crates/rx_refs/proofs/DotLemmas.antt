@@ -1,5 +1,5 @@
 -- The loop of 5.2.4, segment by segment.
-use Rattle.std.proofs.Common.{◌≡◌, ◌∙◌, ℕ, zero, suc, ◌≤◌, Bool, true, false, ◌==◌, ◌||◌, ◌&&◌, [], ◌∷◌, ◌++◌, length, drop, sym, ap, refl, arith}
+use Rattle.std.proofs.Common.{◌≡◌, ◌∙◌, ℕ, zero, suc, ◌≤◌, Bool, true, false, ◌==◌, ◌||◌, [], ◌∷◌, ◌++◌, length, drop, sym, ap, refl, arith}
 use Rattle.std.specs.Prelude.{if◌then◌else◌, codes}
 use Rattle.std.specs.Cmp.Lexicographic.{bytes_decides}
 use Rattle.std.proofs.lemmas.Bool.Decides.{nat_tests}
@@ -10,6 +10,7 @@ use Rattle.rx_refs.specs.Dots.{Buffers, is, holds, without_last_segment, step, a
 use Rattle.rx_refs.specs.Segments.{Grown, slashed, buffers_at, reduced, pushed, cut_back, after_segment, after_last, Takes}
 use Rattle.rx_terms.proofs.Bools.{by_test}
 use Rattle.rx_refs.proofs.PartLemmas.{cut-at, uncut}
+use Rattle.std.proofs.Math.Bool.{and-false}
 
 abbrev pub at : Chars → Chars → Buffers
 at input output = record { input = input; output = output }
@@ -87,20 +88,12 @@ begins-open (a ∷ w) [] k = refl
 begins-open [] (c ∷ segment) k =
     let other : (47 == c) ≡ false = let e = (test_false c 47 segment k).0 in grind (arith, nat_tests) in
     rw other refl
-begins-open (a ∷ w) (c ∷ segment) k = rw (begins-open w segment (test_false c 47 segment k).1) (and_false (a == c)) where
-  and_false : (b : Bool) → (b && false) ≡ false
-  and_false true = refl
-  and_false false = refl
-
+begins-open (a ∷ w) (c ∷ segment) k = rw (begins-open w segment (test_false c 47 segment k).1) (and-false (a == c))
 is-closed : (w segment rest : Chars) → holds 47 w ≡ false → is w (segment ++ 47 ∷ rest) ≡ false
 is-closed [] [] rest h = refl
 is-closed [] (c ∷ segment) rest h = refl
 is-closed (a ∷ w) [] rest h = rw (test_false a 47 w h).0 refl
-is-closed (a ∷ w) (c ∷ segment) rest h = rw (is-closed w segment rest (test_false a 47 w h).1) (and_false (a == c)) where
-  and_false : (b : Bool) → (b && false) ≡ false
-  and_false true = refl
-  and_false false = refl
-
+is-closed (a ∷ w) (c ∷ segment) rest h = rw (is-closed w segment rest (test_false a 47 w h).1) (and-false (a == c))
 -- One pass on a segment that is no dot segment
 
 step-slashed : (segment rest output : Chars) → holds 47 segment ≡ false → is (codes ".") segment ≡ false → is (codes "..") segment ≡ false
@@ -147,7 +140,7 @@ last-bare c segment output h one two =
 
 -- What a segment does
 
-same : (text segment : Chars) → is text segment ≡ true → segment ≡ text
+pub same : (text segment : Chars) → is text segment ≡ true → segment ≡ text
 same text segment e = sym ((bytes_decides text segment).0 e)
 
 -- a dot segment that a `/` follows

@@ -2,7 +2,7 @@
 use Rattle.std.proofs.Common.{◌≡◌, ◌∙◌, ℕ, zero, suc, ◌≤◌, Bool, true, false, not, ◌==◌, ◌||◌, ◌&&◌, [], ◌∷◌, ◌++◌, drop, length, reverse, sym, ap, refl, arith, Option, Some, None}
 use Rattle.std.specs.Prelude.{if◌then◌else◌, codes, is_some}
 use Rattle.std.specs.List.{list_all}
-use Rattle.std.proofs.lemmas.Bool.{and_parts, and_from}
+use Rattle.std.proofs.lemmas.Bool.{and_parts, and_from, or_parts}
 use Rattle.std.proofs.lemmas.Bool.Decides.{nat_tests}
 use Rattle.std.proofs.lemmas.List.{append_assoc, append-nil, reverse-append, reverse-reverse}
 use Rattle.std.proofs.lemmas.List.Folds.{list_any-append}
@@ -152,15 +152,10 @@ clean-front (c ∷ text) h =
     let g : true ≡ false = rw f at h in
     absurd (cc g)) (λ t. rw t refl)
 
-pub clean-parts : (a b : Bool) → (a || b) ≡ false → (a ≡ false) × (b ≡ false)
-clean-parts false false h = (refl, refl)
-clean-parts true b h = absurd (cc h)
-clean-parts false true h = absurd (cc h)
-
 clean-reverse : (text : Chars) → has_forbidden text ≡ false → has_forbidden (reverse text) ≡ false
 clean-reverse [] h = refl
 clean-reverse (c ∷ text) h =
-    let p = clean-parts (is_forbidden c) (has_forbidden text) h in
+    let p = or_parts (is_forbidden c) (has_forbidden text) h in
     ap has_forbidden (reverse-append (c ∷ []) text) ∙ list_any-append is_forbidden (reverse text) (c ∷ []) ∙ rw (clean-reverse text p.1, p.0) refl
 
 pub clean-trimmed : (text : Chars) → has_forbidden text ≡ false → trimmed text ≡ text
@@ -172,7 +167,7 @@ clean-trimmed text h =
 pub before-lacking : (mark : ℕ) (front rest : Chars) → holds mark front ≡ false → before mark (front ++ rest) ≡ front ++ before mark rest
 before-lacking mark [] rest h = refl
 before-lacking mark (c ∷ front) rest h =
-    let p = clean-parts (c == mark) (holds mark front) h in
+    let p = or_parts (c == mark) (holds mark front) h in
     rw p.0 (ap (λ x. c ∷ x) (before-lacking mark front rest p.1))
 
 pub hier-lacking : (front rest : Chars) → holds 35 front ≡ false → holds 63 front ≡ false → hierarchical_part (front ++ rest) ≡ front ++ hierarchical_part rest
@@ -255,7 +250,7 @@ pub clean-both : (a b : Chars) → has_forbidden a ≡ false → has_forbidden b
 clean-both a b h k = list_any-append is_forbidden a b ∙ rw (h, k) refl
 
 pub clean-of : (a b : Chars) → has_forbidden (a ++ b) ≡ false → (has_forbidden a ≡ false) × (has_forbidden b ≡ false)
-clean-of a b h = clean-parts (has_forbidden a) (has_forbidden b) (sym (list_any-append is_forbidden a b) ∙ h)
+clean-of a b h = or_parts (has_forbidden a) (has_forbidden b) (sym (list_any-append is_forbidden a b) ∙ h)
 
 same-target : (base text scheme authority rest pre : Chars) → IsIri base → IsCutBase base scheme authority rest → is_plain text ≡ true → begins_with (codes "//") text ≡ false
     → is_empty (hierarchical_part text) ≡ false → relative_path (components_of base) (hierarchical_part text) ≡ pre ++ hierarchical_part text → has_forbidden ((scheme ++ 58 ∷ 47 ∷ 47 ∷ authority) ++ pre) ≡ false
@@ -296,14 +291,14 @@ plain-rooted base text scheme authority rest iri b plain slashes rooted =
 through-clean : (text : Chars) → has_forbidden text ≡ false → has_forbidden (through_last_slash text) ≡ false
 through-clean [] h = refl
 through-clean (c ∷ text) h =
-    let p = clean-parts (is_forbidden c) (has_forbidden text) h in
+    let p = or_parts (is_forbidden c) (has_forbidden text) h in
     by_test (holds 47 (c ∷ text)) (λ t. rw (t, p.0) (through-clean text p.1)) (λ t. rw t refl)
 
 path-begins : (text : Chars) → begins_path text ≡ true → (is_empty (hierarchical_part text) ≡ false) × (begins_with (codes "/") (hierarchical_part text) ≡ false) × (begins_with (codes "//") text ≡ false)
 path-begins [] h = absurd (cc h)
 path-begins (c ∷ text) h =
-    let p = clean-parts (ends_path c) (c == 47) (untrue (ends_path c || c == 47) h) in
-    let q = clean-parts (c == 35) (c == 63) p.0 in
+    let p = or_parts (ends_path c) (c == 47) (untrue (ends_path c || c == 47) h) in
+    let q = or_parts (c == 35) (c == 63) p.0 in
     let other = flipped c 47 p.1 in
     (rw (q.0, q.1) refl, rw (q.0, q.1, other) refl, rw other refl)
 
@@ -466,7 +461,7 @@ no-dots-path part h =
     let rest : no_dots true (from_first 47 (drop 2 part)) ≡ true = ap (λ (x : Chars). no_dots true (from_first 47 (drop 2 x))) r.1 ∙ dots-rest true r.0 flat in
     rw t rest) (λ t. rw t h)
 
-scheme-clean : (text : Chars) → list_all is_scheme_char text ≡ true → has_forbidden text ≡ false
+pub scheme-clean : (text : Chars) → list_all is_scheme_char text ≡ true → has_forbidden text ≡ false
 scheme-clean [] h = refl
 scheme-clean (c ∷ text) h =
     let p = and_parts (is_scheme_char c) (list_all is_scheme_char text) h in

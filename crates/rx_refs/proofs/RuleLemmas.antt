@@ -1,7 +1,6 @@
 -- The loop of 5.2.4 and its rules.
 use Rattle.std.proofs.Common.{◌≡◌, ◌∙◌, ℕ, zero, suc, ◌<◌, ◌≤◌, Bool, true, false, ◌||◌, [], ◌∷◌, ◌++◌, length, sym, ap, subst, refl, arith, length-append}
 use Rattle.std.specs.Prelude.{codes}
-use Rattle.std.specs.Cmp.Lexicographic.{bytes_decides}
 use Rattle.rx_terms.specs.Text.{Chars, begins_with}
 use Rattle.rx_refs.specs.Dots.{is, first_segment, behind_first_segment, without_last_segment, step, without_dots}
 use Rattle.rx_refs.specs.Rules.{IsOther, EndsWith, DotsByRules}
@@ -9,7 +8,7 @@ use Rattle.rx_refs.specs.Rules.EndsWith.{at_end, a_parent, a_here, b_inside, b_l
 use Rattle.rx_refs.specs.Segments.{reduced}
 use Rattle.rx_terms.proofs.Bools.{by_test}
 use Rattle.rx_words.proofs.EndLemmas.{begins-front}
-use Rattle.rx_refs.proofs.DotLemmas.{at, from_first-shorter, reduced-step}
+use Rattle.rx_refs.proofs.DotLemmas.{at, from_first-shorter, reduced-step, same}
 
 step-other : (input output : Chars) → IsOther input → step (at input output) ≡ at (behind_first_segment input) (output ++ first_segment input)
 unfolding step
@@ -37,9 +36,6 @@ one _ _ _ (e_other input output result o next) =
 -- and the loop's is one by the rules
 abbrev Ends : Chars → Chars → Type 0
 Ends input output = EndsWith input output (reduced (at input output))
-
-same : (text input : Chars) → is text input ≡ true → input ≡ text
-same text input t = sym ((bytes_decides text input).0 t)
 
 or_parts : (a b : Bool) → (a || b) ≡ true → a ≡ false → b ≡ true
 or_parts true b h f = absurd (cc f)

@@ -7,7 +7,6 @@ use lib.Utf8.{encode, encodes, scalar}
 use Rattle.std.proofs.lemmas.List.{length-append}
 use Rattle.std.proofs.lemmas.Str.{length-encode}
 use Rattle.std.proofs.lemmas.Bool.{and_parts, cond-true, cond-false, and_from, ne_eqb, and_left, false_from_ne_true}
-use Rattle.std.proofs.lemmas.Bool.Decides.{nat_tests}
 use Rattle.rx_chars.specs.declared.syntax.Syntax.{Syntax}
 use Rattle.rx_chars.specs.declared.utf8.Utf8Step.TheVariants.{More, Char, Bad}
 use Rattle.rx_chars.specs.Utf8.{answer_of, BeginsCharacter, IsCharacter}
@@ -27,7 +26,7 @@ use Rattle.rx_pages.proofs.Pends.{occurs}
 use Rattle.rx_pages.proofs.FaultsRead.{pending_goes, item_content, no_literal}
 use Rattle.rx_pages.proofs.CharSteps.{passes, entry_at}
 use Rattle.rx_pages.proofs.CharWalk.{first_among, len_positive, no_mark, no_return}
-use Rattle.rx_pages.proofs.FrontRead.{rises}
+use Rattle.rx_pages.proofs.FrontRead.{rises, mark_some, line_feed_some, nul_entry}
 use Rattle.rx_pages.proofs.ByteSteps.{not_le, not_long, is_le}
 use Rattle.rx_pages.proofs.TokensWalk.{Rises, flags_behind, two_lasts}
 use Rattle.rx_scan.specs.Spelled.{entries_at, AllBefore, has_character, ends_in_return, Spells, IsBetween, Left, is_over, Enters, FitsWith, IsNoToken, Refuses, page_too_long, not_utf8, nul, tag_too_long, known_too_long, decided, section_end, late_doctype, FirstFault, ScansWhatIsSpelled, RefusesWhatIsFaulty}
@@ -43,12 +42,11 @@ use Rattle.rx_grammar.specs.declared.faults.Kind.{Kind}
 use Rattle.rx_grammar.specs.declared.faults.Kind.TheVariants as kind
 use Rattle.rx_grammar.specs.Tokens.{Token, tag, doctype}
 use Rattle.rx_grammar.specs.Spelling as spelling
-use Rattle.rx_grammar.specs.Spelling.{keeps_runs}
 use Rattle.rx_grammar.specs.Shapes.{begins, begins_tag}
 use Rattle.rx_grammar.specs.Begun.{Line, Phase, before}
 use Rattle.rx_grammar.specs.PageFaults as faults
 use Rattle.rx_pages.proofs.Pending.{goes_at, not_whole}
-use Rattle.rx_pages.proofs.Refusals.{IsRefused, refuses_run, refuses_comment, refuses_text, refuses_less_than, refuses_section}
+use Rattle.rx_pages.proofs.Refusals.{IsRefused, refuses_run, refuses_text, refuses_less_than, refuses_section}
 use Rattle.rx_pages.proofs.Openings.{refuses_opening}
 use Rattle.rx_pages.proofs.DoctypeFaults.{refuses_doctype}
 use Rattle.rx_pages.proofs.TagRuns.{tag_refused}
@@ -100,16 +98,6 @@ first_ends started after_return at c cs e es h =
     let p = len_positive c in
     let z = size_of c cs in
     (omega arith, omega arith))
-
--- a character is U+0000 where an entry is
-nul_entry : (c : ℕ) → (c == 0) ≡ true → (as_line_end c == 0) ≡ true
-nul_entry c h = grind (arith, nat_tests)
-
-line_feed_some : (c : ℕ) → (c == line_feed) ≡ true → (c == 0) ≡ false
-line_feed_some c h = grind (arith, nat_tests)
-
-mark_some : (c : ℕ) → (c == byte_order_mark) ≡ true → (c == 0) ≡ false
-mark_some c h = grind (arith, nat_tests)
 
 nonzero_of : (started after_return : Bool) (at c : ℕ) (cs : List ℕ) → has_no_nul (entries_at started after_return at (c ∷ cs)) ≡ true → (c == 0) ≡ false
 nonzero_of started after_return at c cs h =

@@ -13,7 +13,6 @@ use Rattle.rx_grammar.specs.Spelling.{ends_with, ends_comment}
 use Rattle.rx_pages.specs.Scanner as told
 use Rattle.rx_terms.proofs.Bools.{split, both}
 use Rattle.std.proofs.lemmas.List.{length-append}
-use Rattle.std.proofs.Math.Seq.{take-append_seam}
 use Rattle.rx_scan.specs.declared.marks.CommentPhase.{CommentPhase}
 use Rattle.rx_scan.specs.declared.marks.CommentPhase.TheVariants as comments
 use Rattle.rx_scan.specs.declared.marks.StrictPhase.{StrictPhase}
@@ -27,7 +26,6 @@ use Rattle.rx_scan.specs.Marks.{may_close, after_dash, after_bang, in_comment, a
 use Rattle.rx_scan.specs.Pending.{Pending, PendsAs, Behind, judge_of, CommentEnds, is_start, is_start_dash, has_dash, has_dashes, has_bang, StrictEnds, has_strict_dash, has_strict_dashes, SectionEnds, bracket_text, DoctypeIs, DoctypeEnds, is_one}
 use Rattle.rx_scan.specs.Meant.{Means, Goes}
 use Rattle.rx_scan.proofs.Snoc.{snoc_same, ends_snoc, ends_one, empty_snoc, lone_snoc, either_way, head_of, word_at}
-use Rattle.std.proofs.Math.Bool.{}
 use Rattle.rx_grammar.specs.declared.faults.Kind.TheVariants.{BadDoctype}
 use Rattle.rx_grammar.specs.Tags.{cased_char}
 use Rattle.rx_scan.specs.declared.marks.DoctypePhase.{DoctypePhase}
@@ -35,6 +33,7 @@ use Rattle.rx_scan.specs.declared.marks.DoctypePhase.TheVariants as phases
 use Rattle.rx_scan.specs.declared.marks.Whole.TheVariants as whole
 use Rattle.rx_scan.specs.declared.marks.Move.TheVariants as move
 use Rattle.rx_scan.specs.Marks as marks
+use Rattle.rx_pages.proofs.Comments.{section_text}
 
 -- what stands behind the front grows by the character
 pub grown : (text front rest : Chars) (c : ℕ) → text ≡ less_than_sign ∷ (front ++ rest) → text ++ c ∷ [] ≡ less_than_sign ∷ (front ++ (rest ++ c ∷ []))
@@ -100,13 +99,6 @@ strict_grows q rest c h n =
     dashes : (b : Bool) (q : StrictPhase) → has_strict_dashes q ≡ false → (b && has_strict_dash q) ≡ has_strict_dashes (if b then after_strict_dash q else strict.Text)
     dashes true strict.Dashes n = absurd (cc)
     dashes _ _ n = refl
-
--- what is kept of a section
-section_kept : (kept : Chars) → take (length (kept ++ 93 ∷ 93 ∷ []) - 2) (kept ++ 93 ∷ 93 ∷ []) ≡ kept
-section_kept kept = ap (λ n. take n (kept ++ 93 ∷ 93 ∷ [])) (ap (λ n. n - 2) (length-append kept (93 ∷ 93 ∷ [])) ∙ less_two (length kept)) ∙ take-append_seam kept (93 ∷ 93 ∷ [])
-  where
-    less_two : (n : ℕ) → (n + 2) - 2 ≡ n
-    less_two n = omega arith
 
 bracket_ends : (b next : Brackets) (kept more rest : Chars) → SectionEnds b kept rest → rest ++ 93 ∷ [] ≡ more ++ bracket_text next → true ≡ is_one next → is_one b ≡ are_two next → SectionEnds next more (rest ++ 93 ∷ [])
 bracket_ends b next kept more rest h are one two = record { are = are; one = ends_one 93 rest 93 ∙ one; two = ends_snoc (93 ∷ []) 93 rest 93 ∙ (h.one ∙ two) }
@@ -195,7 +187,7 @@ module _ (s : Syntax) (i : Content) (p : Pending) (text : Chars) (c : ℕ) where
           (rw e (bracket_ends brackets.Two brackets.Two p.run (p.run ++ 93 ∷ []) b.rest b.is (ap (λ x. x ++ 93 ∷ []) b.is.are ∙ (append_assoc p.run (93 ∷ 93 ∷ []) (93 ∷ []) ∙ sym (append_assoc p.run (93 ∷ []) (93 ∷ 93 ∷ [])))) refl refl))
 
       kept : (q : Brackets) (b : Behind s i (judge_of s i (mark.Section q)) (SectionEnds q p.run) text) → are_two q ≡ true → take (length b.rest - 2) b.rest ≡ p.run
-      kept brackets.Two b h = ap (λ x. take (length x - 2) x) b.is.are ∙ section_kept p.run
+      kept brackets.Two b h = ap (λ x. take (length x - 2) x) b.is.are ∙ section_text p.run
       kept _ b h = absurd (cc)
 
 pub doctype_snoc : (s : Syntax) (reached : Option told.DoctypePhase) (text : Chars) (c : ℕ) → told.doctype_on s reached (text ++ c ∷ []) ≡ told.doctype_move_on s (told.doctype_on s reached text) c

@@ -37,11 +37,7 @@ use Rattle.rx_scan.proofs.MarkLemmas.{mark_is}
 use Rattle.rx_scan.proofs.EntryLemmas.{enters, Gives, gives_at, gives_by, refuses, nothing_told}
 use Rattle.rx_pages.proofs.Tokens.{values_append}
 use Rattle.std.proofs.Math.Bool.{and-false}
-
--- a case by a test, in what is chosen by it
-pub match_by : {G : Type 0} (b : Bool) (P Q : Type 0) → MatchBool b P Q → (b ≡ true → P → G) → (b ≡ false → Q → G) → G
-match_by true P Q m f g = f refl m
-match_by false P Q m f g = g refl m
+use Rattle.rx_tags.proofs.TakeLemmas.{match_by}
 
 -- what pends has a first character, or there is nothing
 pub record HasFirst (text : Chars) : Type 0 where

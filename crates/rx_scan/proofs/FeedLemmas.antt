@@ -12,7 +12,7 @@ use Rattle.rx_pages.specs.PageReader as reader
 use Rattle.rx_reader.specs.TagReader.{TagState}
 use Rattle.rx_tags.specs.Fronts.{is_printed, GoesTo}
 use Rattle.rx_tags.specs.TagBufs.{TagSoFar, MayStep, TakesMore}
-use Rattle.rx_tags.proofs.TakeLemmas.{is_none, goes_unfinished, chosen as some_taken}
+use Rattle.rx_tags.proofs.TakeLemmas.{is_none, goes_unfinished, chosen as some_taken, match_by}
 use Rattle.rx_scan.specs.declared.answers.TokenKind.TheVariants as what
 use Rattle.rx_scan.specs.declared.places.Position.{Position}
 use Rattle.rx_scan.specs.Entries as entries
@@ -24,7 +24,7 @@ use Rattle.rx_scan.specs.Pending.{Pending}
 use Rattle.rx_scan.specs.declared.places.Setting.{Setting}
 use Rattle.rx_scan.specs.Bytes.{IsOfTag}
 use Rattle.rx_scan.specs.Openings.{OpensTag, OpensFront, in_tag}
-use Rattle.rx_scan.proofs.ByteLemmas.{match_by, other_read, within_limit}
+use Rattle.rx_scan.proofs.ByteLemmas.{other_read, within_limit}
 
 -- A byte that surely belongs to a tag is read as a tag's: in one, or behind its `<`.
 module _ (l new : Reading) (b : ℕ) (m : TokenState) (at : l.pending.mark ≡ m) (begun : entries.token_from m l.place ≡ l.place.token) (k : IsOfTag l.setting m b) (t : FeedsFront (in_tag l) (b ∷ []) new) where

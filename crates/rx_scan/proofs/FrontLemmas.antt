@@ -10,7 +10,6 @@ use Rattle.rx_scan.specs.Openings.{TakesFront, of_text, of_tag, of_opening, in_t
 use Rattle.rx_scan.specs.Pending.{Pending, run_on}
 use Rattle.rx_scan.specs.Scanner.{Reading}
 use Rattle.rx_scan.specs.Steps.{ReadsAs}
-use Rattle.rx_scan.proofs.ByteLemmas.{match_by}
 use Rattle.rx_scan.proofs.FeedLemmas.{feed_on, feeds_steps, open_on}
 use Rattle.rx_scan.proofs.RunLemmas.{ReadsOn, reads_none}
 use Rattle.std.specs.List.{list_all}
@@ -23,7 +22,7 @@ use Rattle.rx_chars.specs.Named.{named, named_table}
 use Rattle.rx_grammar.specs.References.{meaning}
 use Rattle.rx_reader.specs.declared.phases.RunPhase.TheVariants as run
 use Rattle.rx_reader.specs.declared.phases.RunMove.TheVariants as run_moves
-use Rattle.rx_tags.proofs.TakeLemmas.{chosen as some_taken}
+use Rattle.rx_tags.proofs.TakeLemmas.{chosen as some_taken, some_count, match_by}
 use Rattle.rx_scan.specs.Entries as entries
 use Rattle.rx_scan.specs.Fronts.{TellsFront}
 use Rattle.rx_scan.specs.Places.{said}
@@ -163,9 +162,6 @@ text_sum old l new bytes i n m k =
   where
     rest : MatchBool (n == 0) (new ≡ l) (TellsText l (take n (drop i bytes)) new)
     rest = subst (λ (x : List ℕ). MatchBool (n == 0) (new ≡ l) (TellsText l (take n x) new)) (take_rest bytes i) k
-
-pub some_count : (n : ℕ) → (n ≡ 0 → ⊥) → 0 < n
-some_count n z = elim (cases_lt 0 n) [ inl a ↦ a | inr b ↦ absurd (z (omega (arith, b))) ]
 
 module _ (old new : Reading) (s : reader.Scanning) where
   some_front : (front : List ℕ) (l : Reading) (bytes : List ℕ) → 0 < length front → ReadsOn old s bytes l → TakesFront l front new → ReadsOn old s (bytes ++ front) new

@@ -1,7 +1,7 @@
 -- Between tokens, behind `<`, and in raw text a move says what the verdict is.
-use Rattle.std.proofs.Common.{◌≡◌, ◌∙◌, ℕ, true, false, [], ◌∷◌, ◌++◌, refl, ap, sym, subst, Option, Ok, Err, append_assoc, append-nil, eqb-true, ◌+◌, Bool, Some, length, map, take, drop, slice_get, inl, inr, arith, add-one, ◌≤◌}
-use Rattle.std.specs.Prelude.{◌==◌, ◌&&◌, ◌||◌, not, nat_le}
-use Rattle.std.proofs.lemmas.Bool.{cond-true, cond-false, or_left, or_right, or_from, leb-true, and_from}
+use Rattle.std.proofs.Common.{◌≡◌, ◌∙◌, ℕ, true, false, [], ◌∷◌, ◌++◌, refl, ap, sym, subst, Option, Ok, Err, append_assoc, append-nil, eqb-true, ◌+◌, Bool, Some, length, map, take, drop, slice_get, inl, inr, arith, add-one}
+use Rattle.std.specs.Prelude.{◌==◌, ◌&&◌, ◌||◌, not}
+use Rattle.std.proofs.lemmas.Bool.{cond-true, cond-false, or_left, or_right, or_from, and_from, or_parts}
 use Rattle.rx_terms.specs.Text.{Chars, begins_with, lowered}
 use Rattle.rx_chars.specs.declared.syntax.Syntax.{Syntax}
 use Rattle.rx_chars.specs.declared.syntax.Syntax.TheVariants.{Html, Xhtml}
@@ -16,7 +16,7 @@ use Rattle.rx_grammar.specs.Spelling.{has_markup, has_references, has_less_than,
 use Rattle.rx_grammar.specs.PageFaults.{is_known_tag, is_known_raw, is_known_end}
 use Rattle.rx_reader.specs.Tables.{is_html, is_last, move_of}
 use Rattle.rx_reader.specs.TagReader.{TagState, fresh, tag_step, moved, checked, tag_on}
-use Rattle.rx_terms.proofs.Bools.{split, by_test, both, neither, either}
+use Rattle.rx_terms.proofs.Bools.{split, by_test, both, either}
 use Rattle.rx_pages.specs.Scanner as told
 use Rattle.rx_pages.proofs.Reading.{markup_is, raw_is}
 use Rattle.rx_tags.specs.TagBufs.{TagSoFar, no_tag, MayStep}
@@ -43,6 +43,7 @@ use Rattle.rx_reader.proofs.TagLaws.{tag_on-append}
 use Rattle.rx_reader.proofs.Fronts.{equal}
 use Rattle.std.proofs.Math.Bool.{and-false}
 use Rattle.rx_pages.proofs.FirstFronts.{same_self}
+use Rattle.rx_pages.proofs.RawEnds.{solidus_of}
 
 fresh_steps : (s : Syntax) (t : TagSoFar) → t ≡ no_tag s → MayStep t
 fresh_steps s t e = subst (λ (x : TagSoFar). MayStep x) (sym e) (record { unfinished = refl; unrefused = refl })
@@ -203,12 +204,6 @@ letter_of c d e h =
     by_test {G = is_letter c ≡ true} (between 65 90 c) (λ k. or_left _ _ k)
     (λ k. or_right (between 65 90 c) _ (ap (between 97 122) (sym (cond-false _ _ _ k) ∙ e) ∙ h))
 
-solidus_of : (c : ℕ) → lowered_char c ≡ 47 → c ≡ 47
-solidus_of c e =
-    by_test {G = c ≡ 47} (between 65 90 c)
-    (λ k. absurd (let q : c + 32 ≡ 47 = sym (cond-true _ _ _ k) ∙ e in let low : 65 ≤ c = leb-true 65 c (both (nat_le 65 c) _ k).0 in omega arith))
-    (λ k. sym (cond-false _ _ _ k) ∙ e)
-
 -- the state after one more character of the end tag's name
 record EndSteps (s : Syntax) (st : TagState) (c : ℕ) (next : TagPhase) : Type 0 where
   state : TagState
@@ -238,8 +233,8 @@ module _ (s : Syntax) (st : TagState) (c : ℕ) where
 
   in_name : st.phase ≡ phase.EndName → is_letter c ≡ true → EndSteps s st c phase.EndName
   in_name e q =
-      let k = neither (is_white_space c || c == solidus) (c == 62) (letter_goes c q) in
-      let w = neither (is_white_space c) (c == solidus) k.0 in
+      let k = or_parts (is_white_space c || c == solidus) (c == 62) (letter_goes c q) in
+      let w = or_parts (is_white_space c) (c == solidus) k.0 in
       record {
         state = record { phase = phase.EndName; name = st.name ++ cased_char s c ∷ []; attributes = st.attributes; key = st.key; value = st.value };
         step = ap (λ x. checked s (moved s (meaning s) st c (move_of s x c))) e

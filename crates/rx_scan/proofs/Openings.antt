@@ -1,6 +1,6 @@
 -- Behind `<!` a move says what the verdict is: by the words that may stand there, as texts.
 use Rattle.std.proofs.Common.{◌≡◌, ◌∙◌, ℕ, ◌+◌, Bool, true, false, [], ◌∷◌, ◌++◌, refl, ap, sym, subst, Option, append_assoc, append-nil, eqb-true, eq-eqb, cond, length, map, arith, slice_get}
-use Rattle.std.specs.Prelude.{◌==◌, ◌&&◌, not, codes, drop, ◌||◌}
+use Rattle.std.specs.Prelude.{◌==◌, ◌&&◌, not, codes, drop}
 use Rattle.std.proofs.lemmas.Bool.{cond-true, cond-false, or_from, or_left, or_right, ne_eqb, and_right}
 use Rattle.std.proofs.lemmas.List.{length-append, length-map, map-append}
 use Rattle.std.proofs.Math.Seq.{drop-append_seam}
@@ -29,7 +29,7 @@ use Rattle.rx_scan.specs.declared.marks.TokenState.TheVariants as mark
 use Rattle.rx_scan.specs.declared.marks.Move.{Move}
 use Rattle.rx_scan.specs.declared.marks.Move.TheVariants as move
 use Rattle.rx_scan.specs.Marks as marks
-use Rattle.rx_scan.specs.Pending.{Pending, PendsAs, InOpened, InOpening, Behind, judge_of, CommentEnds, StrictEnds, SectionEnds, DoctypeEnds}
+use Rattle.rx_scan.specs.Pending.{Pending, PendsAs, InOpened, InOpening, Behind, judge_of, SectionEnds, DoctypeEnds}
 use Rattle.rx_scan.specs.Meant.{Means, Goes}
 use Rattle.rx_scan.proofs.Snoc.{ends_one, either_way, cancel, word_at, short, all_at}
 use Rattle.std.proofs.Math.Bool.{and-false}

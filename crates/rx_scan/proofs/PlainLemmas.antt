@@ -3,13 +3,13 @@ use Rattle.std.proofs.Common.{◌≡◌, ◌∙◌, inl, inr, ℕ, ◌≤◌, Bo
 use Rattle.std.specs.Prelude.{◌==◌, nat_le, ◌&&◌, ◌+◌}
 use Rattle.std.specs.List.{list_all}
 use Rattle.std.specs.Str.{IsUtf8}
-use Rattle.std.proofs.lemmas.Bool.{and_parts, and_from, both_ways, cases_lt, leb-false, lt-ltb, eqb-true}
+use Rattle.std.proofs.lemmas.Bool.{and_parts, and_from, both_ways, cases_lt, leb-false, lt-ltb, eqb-true, or_parts}
 use Rattle.std.proofs.lemmas.Bool.Decides.{nat_tests}
 use Rattle.std.proofs.lemmas.List.Folds.{list_all-append}
 use Rattle.std.proofs.lemmas.Str.{encode_ascii, IsUtf8-append, IsUtf8-encode}
 use Rattle.rx_terms.specs.Ascii.{is_ascii}
 use Rattle.rx_terms.proofs.CharLemmas.{ascii-utf8}
-use Rattle.rx_terms.proofs.Bools.{by_test, neither, untrue}
+use Rattle.rx_terms.proofs.Bools.{by_test, untrue}
 use Rattle.rx_scan.specs.Plain.{is_stop, is_plain, is_plain_ascii}
 use Rattle.rx_chars.specs.Utf8.{is_well_formed, scalar_value, is_in, tail}
 use Rattle.rx_chars.specs.Held.{fits_second}
@@ -27,10 +27,10 @@ weaker p q f [] h = refl
 weaker p q f (x ∷ xs) h = let k = and_parts (p x) _ h in and_from (q x) _ (f x k.0) (weaker p q f xs k.1)
 
 one_plain : (x : ℕ) → is_plain_ascii x ≡ true → is_plain x ≡ true
-one_plain x h = ap not (neither (is_stop x) (nat_le 128 x) (untrue _ h)).0
+one_plain x h = ap not (or_parts (is_stop x) (nat_le 128 x) (untrue _ h)).0
 
 one_ascii : (x : ℕ) → is_plain_ascii x ≡ true → is_ascii x ≡ true
-one_ascii x h = lt-ltb x 128 (leb-false 128 x (neither (is_stop x) (nat_le 128 x) (untrue _ h)).1)
+one_ascii x h = lt-ltb x 128 (leb-false 128 x (or_parts (is_stop x) (nat_le 128 x) (untrue _ h)).1)
 
 pub ascii_plain : (xs : List ℕ) → list_all is_plain_ascii xs ≡ true → list_all is_plain xs ≡ true
 ascii_plain xs h = weaker is_plain_ascii is_plain one_plain xs h

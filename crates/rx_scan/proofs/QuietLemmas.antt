@@ -31,11 +31,12 @@ use Rattle.rx_scan.specs.Places.{ended}
 use Rattle.rx_scan.specs.Scanner.{Reading}
 use Rattle.rx_scan.specs.Entries as entries
 use Rattle.rx_scan.specs.Steps.{is_quiet, is_tag, is_token, stopped_at, Took, Runs, MayLend, texts_of}
-use Rattle.rx_scan.proofs.ByteLemmas.{match_by, reads_other}
+use Rattle.rx_scan.proofs.ByteLemmas.{reads_other}
 use Rattle.rx_scan.proofs.RunLemmas.{IsApart, ReadsOn, apart, took_text, took_all, more_read, took_token, faults}
 use Rattle.rx_grammar.specs.declared.faults.Fault.{Fault}
 use Rattle.rx_pages.specs.PageReader as reader
 use Rattle.rx_tags.specs.TagBufs.{MayStep}
+use Rattle.rx_tags.proofs.TakeLemmas.{match_by}
 
 -- What a byte does between tokens.
 pub data Does (l : Reading) (byte : ℕ) (answer : TokenKind) (new : Reading) : Type 0 where

@@ -27,7 +27,7 @@ use Rattle.rx_grammar.specs.Tokens.{Token, tag, character, doctype}
 use Rattle.rx_grammar.specs.Spelling as spelling
 use Rattle.rx_grammar.specs.Items.{values, next_of, Item, Spelled, no_more, one, Fits, AllFit, is_literal, is_strict_literal, no_section_end}
 use Rattle.rx_grammar.specs.Pages.{has_no_nul}
-use Rattle.rx_grammar.specs.PageFaults.{IsPending, IsPart, is_known_tag}
+use Rattle.rx_grammar.specs.PageFaults.{IsPending, is_known_tag}
 use Rattle.rx_grammar.specs.PageFaults as faults
 use Rattle.rx_terms.proofs.Bools.{by_test, split, untrue}
 use Rattle.rx_pages.specs.Scanner.{GoesOn, Verdict, goes_on, whole, ended, refused, verdict, at_first, ReadAs, at_last, at_next}
@@ -36,7 +36,7 @@ use Rattle.rx_pages.proofs.Tokens.{values_append}
 use Rattle.rx_pages.proofs.Prefix.{any_next}
 use Rattle.rx_pages.proofs.Pends.{occurs}
 use Rattle.rx_pages.proofs.PendsOn.{spells_read, faulty_read, pends, unfinished}
-use Rattle.rx_pages.proofs.FrontOn.{goes_more, known_one, no_nul_more}
+use Rattle.rx_pages.proofs.FrontOn.{goes_more, no_nul_more}
 use Rattle.rx_pages.proofs.KnownSpelled.{spelled_known}
 use Rattle.rx_pages.proofs.ByteFacts.{item_last, item_first}
 use Rattle.rx_pages.proofs.Spellings.{reads_each}
@@ -58,6 +58,7 @@ use Rattle.rx_scan.specs.Scanner.{spot_of}
 use Rattle.rx_scan.specs.declared.answers.Token as shown
 use Rattle.rx_grammar.specs.declared.stops.Stop.{Stop}
 use Rattle.rx_grammar.specs.declared.stops.Stop.TheVariants as stop
+use Rattle.rx_pages.proofs.KnownTags.{one_unknown}
 use Rattle.rx_scan.proofs.RunLemmas.{on_append}
 use Rattle.rx_terms.specs.Text.{Chars}
 
@@ -493,7 +494,7 @@ module _ (syntax : Syntax) (limits : Limits) (spot : Spot) (o : occurs syntax sp
 
           -- what the entry says then
           does_then : (w : Verdict) → verdict syntax inside [] e.value ≡ w → Then w
-          does_then goes_on k = with_entry false false (t.front ++ next.run) (e ∷ []) (items ++ text_item ∷ []) (append_assoc t.front next.run (e ∷ [])) sp_text in_text (k, tt) behind_text text_comes text_fits (λ w. absurd (known_one syntax inside e.value w))
+          does_then goes_on k = with_entry false false (t.front ++ next.run) (e ∷ []) (items ++ text_item ∷ []) (append_assoc t.front next.run (e ∷ [])) sp_text in_text (k, tt) behind_text text_comes text_fits (λ w. absurd (one_unknown syntax inside e.value w))
           does_then (whole other) k =
               let x : (x : ℕ) × (other ≡ character x) = subst FirstSays k (first_says inside e.value) in
               subst (λ z. Then (whole z)) (sym x.1) (does_character x.0 (k ∙ ap whole x.1))

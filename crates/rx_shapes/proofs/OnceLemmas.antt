@@ -1,9 +1,10 @@
 -- Lists in which each stands once, and which of their elements pass a test.
 use Rattle.std.proofs.Common.{◌≡◌, ◌⊎◌, ℕ, suc, ◌+◌, Bool, true, false, not, List, [], ◌∷◌, filter, slice_get, Some, refl, sym, ap, ap₂, subst, ◌∙◌, inl, inr, true≢false, arith, cond, if◌then◌else◌}
 use Rattle.rx_model.specs.Sets.{Among, IsExact, distinct}
-use Rattle.rx_model.proofs.Sets.{false_unless, not_true, Among_of_filter}
+use Rattle.rx_model.proofs.Sets.{false_unless, Among_of_filter}
 use Rattle.rx_shapes.specs.Rows.{positions}
 use Rattle.rx_shapes.proofs.RowLemmas.{positions_none, at_position, position_of, get_among, same_some}
+use Rattle.rx_terms.proofs.Bools.{untrue}
 
 module _ {A : Type 0} where
   abbrev pub Once : List A → Type 0
@@ -21,7 +22,7 @@ module _ {A : Type 0} where
   once_distinct : (same : A → A → Bool) → IsExact same → (list : List A) → Once (distinct same list)
   once_distinct same exact [] = tt
   once_distinct same exact (x ∷ list) = (
-    λ m. true≢false (sym ((exact x x).1 refl) ∙ not_true (same x x) (Among_of_filter (λ y. not (same x y)) (distinct same list) x m).1),
+    λ m. true≢false (sym ((exact x x).1 refl) ∙ untrue (same x x) (Among_of_filter (λ y. not (same x y)) (distinct same list) x m).1),
     once_filter (λ y. not (same x y)) (distinct same list) (once_distinct same exact list),
   )
 

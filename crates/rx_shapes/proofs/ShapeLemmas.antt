@@ -5,7 +5,7 @@ use Rattle.rx_model.specs.Sets.{Among}
 use Rattle.rx_model.specs.Terms.{Node, Iri, Blank, Term, Resource, Literal, Triple, set_of, same_node, same_triple}
 use Rattle.rx_model.specs.Copied.{spo}
 use Rattle.rx_model.proofs.Exact.{exact_texts, exact_numbers, exact_nodes, exact_triples}
-use Rattle.rx_model.proofs.Sets.{false_unless, and_left, and_right, and_both}
+use Rattle.rx_model.proofs.Sets.{false_unless, and_left, and_right}
 use Rattle.rx_graph.specs.Resources.{number_in}
 use Rattle.rx_graph.proofs.PatternLemmas.{number_small, number_same, number_there}
 use Rattle.rx_shapes.specs.declared.chains.Link.{Link}
@@ -22,6 +22,7 @@ use Rattle.rx_shapes.specs.Table.{shape_at, places_at, AreShapes}
 use Rattle.rx_shapes.proofs.RowLemmas.{is_number_true, true_number, got, got_or, same_some, among_get, positions_same, positions_none}
 use Rattle.rx_shapes.proofs.OnceLemmas.{Once, once, single, Double, double, one_at, two_at}
 use Rattle.rx_shapes.proofs.IndexLemmas.{number_test, object_is, is_object, no_object}
+use Rattle.std.proofs.lemmas.Bool.{and_from}
 
 -- ---- words over variables
 
@@ -190,7 +191,7 @@ module _ (list : List (Triple ℕ)) (nodes : List (Node ℕ)) (each : Once list)
   inner_back : (ends : List Bool) → Settled links ends → (b k : ℕ) → number_in nodes (Blank b) ≡ Some k → Inner (set_of list) b → (get_or ends k false && (length (uses k) == 1)) ≡ true
   inner_back ends s b k e i =
       let r = parent_row b k i.parent e i.has in
-      and_both (get_or ends k false) (length (uses k) == 1) ((s.each k).1 (led_by (onward i.has i.ends) k e)) (is_one_long (uses k) r.0 r.1)
+      and_from (get_or ends k false) (length (uses k) == 1) ((s.each k).1 (led_by (onward i.has i.ends) k e)) (is_one_long (uses k) r.0 r.1)
 
   are_inner : (ends : List Bool) → Settled links ends → AreInner list nodes (inner_marks ends (object_rows list nodes) (length nodes))
   are_inner ends s = record {

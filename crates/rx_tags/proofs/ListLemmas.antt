@@ -172,8 +172,3 @@ module _ (p : RunPhase) (r : Reading) (k : IsPending p r.pending) (e : pairs_rea
   -- behind the list nothing is read
   pub listed_pairs : (new : Reading) → new ≡ begun_behind new.whole [] → pairs_read p new ≡ only new.whole
   listed_pairs new q = ap (λ (x : RunPhase). pairs_read x new) is_plain ∙ ap (pairs_read run.Plain) q
-
--- no bytes have no characters
-pub no_name : (bytes : List ℕ) → length bytes ≡ 0 → chars bytes ≡ []
-no_name [] e = chars-nil
-no_name (x ∷ bytes) e = absurd (omega (arith, e))

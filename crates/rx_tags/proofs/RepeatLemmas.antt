@@ -16,11 +16,12 @@ use Rattle.rx_terms.proofs.CharLemmas.{same-chars}
 use Rattle.rx_grammar.specs.Names.{same}
 use Rattle.rx_grammar.specs.Tokens.{Attribute, has_name}
 use Rattle.rx_grammar.specs.Tags.{without, firsts, has_repeat}
-use Rattle.rx_terms.proofs.Bools.{by_test, neither}
+use Rattle.rx_terms.proofs.Bools.{by_test}
 use Rattle.rx_tags.proofs.Pieces.{rows_fit_append}
 use Rattle.rx_tags.specs.declared.attributes.AttributeSpan.{AttributeSpan}
 use Rattle.rx_tags.specs.Reading.{Reading, piece, row_read, rows_read, read_as, RowFits, RowsFit, Fits}
 use Rattle.rx_tags.specs.Repeats.{is_named, KeepsFirsts}
+use Rattle.std.proofs.lemmas.Bool.{or_parts}
 
 numbers_swap : (m n : ℕ) → nat_eq m n ≡ nat_eq n m
 numbers_swap m n = grind (arith, nat_tests)
@@ -42,7 +43,7 @@ has_more xs x name = list_any-append (λ (a : Attribute). same a.0 name) xs (x �
 firsts_new : (xs : List Attribute) (x : Attribute) → has_name xs x.0 ≡ false → firsts (xs ++ x ∷ []) ≡ firsts xs ++ x ∷ []
 firsts_new [] x h = refl
 firsts_new (y ∷ xs) x h =
-    let parts = neither (same y.0 x.0) (has_name xs x.0) h in
+    let parts = or_parts (same y.0 x.0) (has_name xs x.0) h in
     let other : same x.0 y.0 ≡ false = same_swap x.0 y.0 ∙ parts.0 in
     ap (λ rest. y ∷ without y.0 rest) (firsts_new xs x parts.1) ∙ ap (λ rest. y ∷ rest) (without_append y.0 (firsts xs) (x ∷ []) ∙ rw other refl)
 
@@ -68,13 +69,13 @@ repeat_more (y ∷ xs) x =
 without_none : (name : Chars) (xs : List Attribute) → has_name xs name ≡ false → without name xs ≡ xs
 without_none name [] h = refl
 without_none name (x ∷ xs) h =
-    let parts = neither (same x.0 name) (has_name xs name) h in
+    let parts = or_parts (same x.0 name) (has_name xs name) h in
     rw (parts.0) (ap (λ rest. x ∷ rest) (without_none name xs parts.1))
 
 pub unrepeated : (xs : List Attribute) → has_repeat xs ≡ false → firsts xs ≡ xs
 unrepeated [] h = refl
 unrepeated (x ∷ xs) h =
-    let parts = neither (has_name xs x.0) (has_repeat xs) h in
+    let parts = or_parts (has_name xs x.0) (has_repeat xs) h in
     ap (λ rest. x ∷ rest) (ap (without x.0) (unrepeated xs parts.1) ∙ without_none x.0 xs parts.0)
 
 -- A list without repeats alone keeps its length.

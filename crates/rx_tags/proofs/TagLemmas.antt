@@ -22,7 +22,7 @@ use Rattle.rx_tags.proofs.OnLemmas.{skips}
 use Rattle.rx_tags.proofs.TakeLemmas.{chosen, name_front, takes_then}
 use Rattle.rx_tags.proofs.WholeLemmas.{taken_at}
 
-get_behind : (bytes : List ℕ) (i n : ℕ) → get_or (drop i bytes) n 0 ≡ get_or bytes (i + n) 0
+pub get_behind : (bytes : List ℕ) (i n : ℕ) → get_or (drop i bytes) n 0 ≡ get_or bytes (i + n) 0
 get_behind bytes i n = grind (arith, common_steps)
 
 -- a `>` behind some bytes

@@ -248,10 +248,10 @@ module _ (s : Syntax) (pairs : Pairs) where
   some_name p name new (c ∷ front) q n g = subst (λ (x : Chars). GoesBy s (with_name p name) (c ∷ front) (with_name (named p) x)) (sym g.is) (more_name p name c front q g.small)
 
 -- nothing is taken, or some characters are
-some_count : (n : ℕ) → (n ≡ 0 → ⊥) → 0 < n
+pub some_count : (n : ℕ) → (n ≡ 0 → ⊥) → 0 < n
 some_count n z = elim (cases_lt 0 n) [ inl a ↦ a | inr b ↦ absurd (z (omega (arith, b))) ]
 
-match_by : {G : Type 0} (b : Bool) (P Q : Type 0) → MatchBool b P Q → (b ≡ true → P → G) → (b ≡ false → Q → G) → G
+pub match_by : {G : Type 0} (b : Bool) (P Q : Type 0) → MatchBool b P Q → (b ≡ true → P → G) → (b ≡ false → Q → G) → G
 match_by true P Q m f g = f refl m
 match_by false P Q m f g = g refl m
 

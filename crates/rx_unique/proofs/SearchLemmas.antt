@@ -9,7 +9,7 @@ use Rattle.std.proofs.lemmas.Bool.Decides.{nat_tests}
 use Rattle.std.proofs.lemmas.List.{length-map, get_or-map, map-append}
 use Rattle.std.proofs.lemmas.List.Sums.{position_or_len_is, passes_at_first}
 use Rattle.std.proofs.lemmas.Map.Keys.{apart_from_distinct, IsDistinct-push}
-use Rattle.std.proofs.lemmas.Option.{slice_get_within, get_or_from_slice_get}
+use Rattle.std.proofs.lemmas.Option.{slice_get_within, get_or_from_slice_get, slice_get-get_or}
 use Rattle.rx_unique.specs.Places.{last_place}
 use Rattle.rx_unique.specs.Slots.{mark_of, IsOther, IsHeld, AreHeld}
 use Rattle.rx_unique.specs.Unique.{AreKept, AreOthers, MayAdd, insert_key}
@@ -76,11 +76,6 @@ nearer numbers next before p m is found = less before refl where
   less : (o : Option ℕ) → before ≡ o → reach o < reach next
   less None e = omega (arith, here)
   less (Some q) e = let below = earlier-below numbers p q m (sym found ∙ e) in omega (arith, here, below)
-
-slice-or : {A : Type 0} (xs : List A) (i : ℕ) (d : A) → i < length xs → slice_get xs i ≡ Some (get_or xs i d)
-slice-or [] i d l = absurd (omega (arith, l))
-slice-or (x ∷ xs) zero d l = refl
-slice-or (x ∷ xs) (suc i) d l = slice-or xs i d (omega (arith, l))
 
 -- one that passes is the only one, for these pass that are like it
 pub alone :
@@ -268,7 +263,7 @@ module _ {K : Type 0} (test : K → Bool) where
 
   -- the key at the place
   pub stored-old : (keys : List K) (p : ℕ) (d : K) → HasPlace keys p → (k : K) × (slice_get keys p ≡ Some k) × (test k ≡ true)
-  stored-old keys p d has = (get_or keys p d, slice-or keys p d has.inside, ap (λ (i : ℕ). test (get_or keys i d)) (sym has.at) ∙ passes_at_first test keys d (omega (arith, has.inside, has.at)))
+  stored-old keys p d has = (get_or keys p d, slice_get-get_or keys p d has.inside, ap (λ (i : ℕ). test (get_or keys i d)) (sym has.at) ∙ passes_at_first test keys d (omega (arith, has.inside, has.at)))
 
 -- ---- what is kept
 

@@ -1,16 +1,17 @@
 -- A text that has the form of a time is ASCII.
-use Rattle.std.proofs.Common.{◌≡◌, ◌∙◌, ℕ, ◌<◌, Bool, true, false, List, [], ◌∷◌, refl, sym, ap, arith, Option, Some, None, ◌⊎◌, inl, inr, ⊎_elim, lit<}
+use Rattle.std.proofs.Common.{◌≡◌, ◌∙◌, ℕ, ◌<◌, Bool, true, false, List, [], ◌∷◌, refl, sym, ap, arith, Option, Some, None, ◌⊎◌, ⊎_elim, lit<}
 use Rattle.std.specs.Prelude.{not, ◌&&◌, ◌||◌, ◌==◌, if◌then◌else◌}
 use Rattle.std.specs.Option.{option_or}
 use Rattle.std.specs.List.{list_all}
 use Rattle.std.specs.Str.{chars, IsUtf8}
-use Rattle.std.proofs.lemmas.Bool.{and_parts, and_from}
+use Rattle.std.proofs.lemmas.Bool.{and_parts, and_from, false_from_ne_true}
 use Rattle.std.proofs.lemmas.Bool.Decides.{nat_tests}
 use Rattle.std.proofs.lemmas.Str.{encodes-chars}
 use Rattle.rx_terms.specs.Ascii.{is_ascii, is_digit, hyphen, plus_sign, colon, full_stop}
 use Rattle.rx_terms.specs.Text.{is_empty}
 use Rattle.rx_terms.proofs.CharLemmas.{ascii-same, ascii-chars}
 use Rattle.rx_rdfa.specs.Times.{◌andThen◌, after_char, after_two, digits, after_digits, after_some_digits, follows, is_zero, is_offset, is_zone, is_year, without_minus, after_year, after_month, after_date, after_fraction, after_hms, after_clock, Parts, with_part, part, seconds, ends_with_part, are_time_parts, is_duration, time_kind}
+use Rattle.rx_terms.proofs.Bools.{either}
 
 abbrev all_ascii : List ℕ → Bool
 all_ascii text = list_all is_ascii text
@@ -36,11 +37,6 @@ follows_ascii : (test : List ℕ → Bool) (o : Option (List ℕ)) (text : List 
     → ((rest : List ℕ) → test rest ≡ true → all_ascii rest ≡ true) → follows test o ≡ true → all_ascii text ≡ true
 follows_ascii test None text k t h = absurd (cc)
 follows_ascii test (Some rest) text k t h = k (t rest h)
-
-either_true : (a b : Bool) → (a || b) ≡ true → (a ≡ true) ⊎ (b ≡ true)
-either_true true b h = inl refl
-either_true false true h = inr refl
-either_true false false h = absurd (cc)
 
 digit_ascii : (c : ℕ) → is_digit c ≡ true → is_ascii c ≡ true
 digit_ascii c h = grind (arith, nat_tests)
@@ -129,7 +125,7 @@ clock_keeps : (text : List ℕ) → Keeps (after_clock text) text
 clock_keeps text = or_keeps _ _ text (hms_keep (0, 23) 59 is_digit text) (hms_keep (24, 24) 0 is_zero text)
 
 offset_ascii : (text : List ℕ) → is_offset text ≡ true → all_ascii text ≡ true
-offset_ascii text h = ⊎_elim (ends 0 13 59) (ends 14 14 0) (either_true _ _ h) where
+offset_ascii text h = ⊎_elim (ends 0 13 59) (ends 14 14 0) (either _ _ h) where
   ends : (low high last : ℕ) → follows is_empty (after_two low high text andThen after_char colon andThen after_two 0 last) ≡ true → all_ascii text ≡ true
   ends low high last k =
       follows_ascii is_empty _ text
@@ -138,14 +134,14 @@ offset_ascii text h = ⊎_elim (ends 0 13 59) (ends 14 14 0) (either_true _ _ h)
 
 zone_ascii : (text : List ℕ) → is_zone text ≡ true → all_ascii text ≡ true
 zone_ascii [] h = refl
-zone_ascii (c ∷ text) h = ⊎_elim by_z by_sign (either_true _ _ h) where
+zone_ascii (c ∷ text) h = ⊎_elim by_z by_sign (either _ _ h) where
   by_z : ((c == 90) && is_empty text) ≡ true → all_ascii (c ∷ text) ≡ true
   by_z k = let p = and_parts _ _ k in and_from _ _ (same_ascii c 90 (lit< tt) p.0) (empty_ascii text p.1)
 
   by_sign : (((c == plus_sign) || (c == hyphen)) && is_offset text) ≡ true → all_ascii (c ∷ text) ≡ true
   by_sign k =
       let p = and_parts _ _ k in
-      and_from _ _ (⊎_elim (same_ascii c plus_sign (lit< tt)) (same_ascii c hyphen (lit< tt)) (either_true _ _ p.0)) (offset_ascii text p.1)
+      and_from _ _ (⊎_elim (same_ascii c plus_sign (lit< tt)) (same_ascii c hyphen (lit< tt)) (either _ _ p.0)) (offset_ascii text p.1)
 
 with_part_keeps : (before : Parts) (o : Option (List ℕ)) → Keeps o before.1 → all_ascii (with_part before o).1 ≡ true → all_ascii before.1 ≡ true
 with_part_keeps before None k h = h
@@ -172,7 +168,7 @@ behind_ascii rest e =
 time_parts_ascii : (days : Parts) → are_time_parts days ≡ true → all_ascii days.1 ≡ true
 time_parts_ascii days h =
     ⊎_elim (ended_ascii days) (follows_ascii (λ rest. ends_with_part (seconds (part 77 (part 72 (false, rest))))) (after_char 84 days.1) days.1 (char_keeps 84 days.1 (lit< tt)) behind_ascii)
-    (either_true _ _ h)
+    (either _ _ h)
 
 date_parts_ascii : (rest : List ℕ) → are_time_parts (part 68 (part 77 (part 89 (false, rest)))) ≡ true → all_ascii rest ≡ true
 date_parts_ascii rest e =
@@ -189,20 +185,16 @@ duration_ascii text h =
 or_none : (b : Bool) (name : List ℕ) (o : Option (List ℕ)) → b ≡ false → o ≡ None → (if b then Some name else o) ≡ None
 or_none b name o e f = rw (e, f) refl
 
-not_true : (b : Bool) → (b ≡ true → ⊥) → b ≡ false
-not_true true h = absurd (h refl)
-not_true false h = refl
-
 pub no_ascii_no_time : (text : List ℕ) → all_ascii text ≡ false → time_kind text ≡ None
 unfolding time_kind
 no_ascii_no_time text h =
     let never = λ (e : all_ascii text ≡ true). clash e in
-    or_none _ _ _ (not_true _ (λ k. never (follows_ascii is_zone _ text (year_keeps text) zone_ascii k)))
-    (or_none _ _ _ (not_true _ (λ k. never (follows_ascii is_zone _ text (month_keeps text) zone_ascii k)))
-    (or_none _ _ _ (not_true _ (λ k. never (follows_ascii is_zone _ text (date_keeps text) zone_ascii k)))
-    (or_none _ _ _ (not_true _ (λ k. never (follows_ascii is_zone _ text (clock_keeps text) zone_ascii k)))
-    (or_none _ _ _ (not_true _ (λ k. never (follows_ascii is_zone _ text (then_keeps _ _ text (then_keeps _ _ text (date_keeps text) (λ rest. char_keeps 84 rest (lit< tt))) clock_keeps) zone_ascii k)))
-    (or_none _ _ _ (not_true _ (λ k. never (duration_ascii text k))) refl)))))
+    or_none _ _ _ (false_from_ne_true _ (λ k. never (follows_ascii is_zone _ text (year_keeps text) zone_ascii k)))
+    (or_none _ _ _ (false_from_ne_true _ (λ k. never (follows_ascii is_zone _ text (month_keeps text) zone_ascii k)))
+    (or_none _ _ _ (false_from_ne_true _ (λ k. never (follows_ascii is_zone _ text (date_keeps text) zone_ascii k)))
+    (or_none _ _ _ (false_from_ne_true _ (λ k. never (follows_ascii is_zone _ text (clock_keeps text) zone_ascii k)))
+    (or_none _ _ _ (false_from_ne_true _ (λ k. never (follows_ascii is_zone _ text (then_keeps _ _ text (then_keeps _ _ text (date_keeps text) (λ rest. char_keeps 84 rest (lit< tt))) clock_keeps) zone_ascii k)))
+    (or_none _ _ _ (false_from_ne_true _ (λ k. never (duration_ascii text k))) refl)))))
   where
     clash : all_ascii text ≡ true → ⊥
     clash e = cc

@@ -1,6 +1,6 @@
 -- The calls decide an evaluator's state, but for how the rules for texts are written.
 use Rattle.std.proofs.Common.{◌≡◌, ◌∙◌, ℕ, Bool, true, false, List, [], ◌∷◌, ◌++◌, map, length, Option, Some, None, option_map, is_some, refl, sym, ap, ap₂, subst, subst₂}
-use Rattle.std.specs.Prelude.{◌==◌, is_none, IfSome, encode_utf8_all, if◌then◌else◌}
+use Rattle.std.specs.Prelude.{◌==◌, IfSome, encode_utf8_all, if◌then◌else◌}
 use Rattle.std.proofs.lemmas.Bool.{and_parts}
 use Rattle.std.proofs.lemmas.List.{map-append, length-map}
 use Rattle.rx_terms.specs.Text.{Chars}
@@ -28,12 +28,9 @@ use Rattle.rx_eval.proofs.StandLemmas.{begun_stands}
 use Rattle.rx_walk.specs.Leading.{Steps, Leads}
 use Rattle.rx_walk.proofs.Making.{one_on}
 use Rattle.rx_walk.proofs.SeenStates.{SeenText, SeenFrame, SeenState, text_of, frame_of, seen, handed, handed_is, some_gathers, gathers_is, end_seen, end_is, CutSeen, cut_seen, cut_back}
+use Rattle.rx_model.proofs.Copied.{of_none}
 
 -- a start tag
-
-none_of : {A : Type 0} (o : Option A) → is_none o ≡ true → o ≡ None
-none_of None e = refl
-none_of (Some a) e = absurd (cc)
 
 module _ (facts : Facts) (u : SeenState) (names : Numbered) (fresh : ℕ) (level : Level) (around : Inherited ℕ ℕ) where
   abbrev opened_text : SeenText
@@ -70,7 +67,7 @@ module _ (facts : Facts) (u : SeenState) (names : Numbered) (fresh : ℕ) (level
   -- an element that gathers its text has no other value
   no_value : gathers_at names fresh u.base level around facts ≡ true
       → value_now (rule (moment names fresh 0 0) u.base facts (resources_by names fresh u.base level around facts)) facts ≡ None
-  no_value e = none_of _ (and_parts _ _ (and_parts _ _ e).1).1
+  no_value e = of_none _ (and_parts _ _ (and_parts _ _ e).1).1
 
   text_is : (t : Option Text) (g : Bool) → gathers_at names fresh u.base level around facts ≡ g → is_some t ≡ g
       → IfSome t (Gathers facts (resources_by names fresh u.base level around facts) (places_at names fresh u.base level around facts u.owners) (length (encode_utf8_all u.kept)))

@@ -13,7 +13,7 @@ use Rattle.std.proofs.lemmas.Str.{encodes-chars, chars-append, encode_ascii, cha
 use Rattle.rx_terms.specs.Ascii.{is_white_space}
 use Rattle.rx_terms.specs.Text.{Chars, tokens, ends_token, onto_first}
 use Rattle.rx_terms.proofs.CharLemmas.{ascii-chars, ascii-utf8, chars-end}
-use Rattle.rx_terms.proofs.Bools.{by_test}
+use Rattle.rx_terms.proofs.Bools.{by_test, not_both_ways}
 use Rattle.rx_words.proofs.TrimLemmas.{same-white, each-white, white-ascii, nonempty-bytes}
 use Rattle.rx_words.specs.Tokens.{is_filled, IsFirstToken}
 
@@ -140,7 +140,7 @@ cut-token r n u e l first =
     let some : 0 < n = ⊎_elim (λ (w : 0 < n). w) (λ (w : n ≤ 0).
     let zero_is : n ≡ 0 = omega arith in
     let white : is_ascii_whitespace (get_or r 0 0) ≡ true = ap (λ (k : ℕ). is_ascii_whitespace (get_or r k 0)) (sym zero_is) ∙ ends (omega arith) in
-    absurd (both _ white first)) (cases_lt 0 n) in
+    absurd (not_both_ways _ white first)) (cases_lt 0 n) in
     let front = take n r in
     let front_utf8 : IsUtf8 front = IsUtf8-take r n u at in
     let rest_utf8 : IsUtf8 (drop n r) = IsUtf8-drop r n u at in
@@ -157,10 +157,7 @@ cut-token r n u e l first =
       some = some-chars front front_utf8 (omega arith);
       filled = filled-chars (chars front) (ap (list_all is_filled) (encodes-chars front front_utf8) ∙ filled);
       ends = behind;
-    } where
-      both : (b : Bool) → b ≡ true → b ≡ false → ⊥
-      both b p q = cc
-
+    }
 first-filled : (s r : List ℕ) → IsTrimAsciiStart s r → 0 < length r → is_ascii_whitespace (get_or r 0 0) ≡ false
 first-filled s r t l =
     let m = t.0 in

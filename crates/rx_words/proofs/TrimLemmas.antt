@@ -1,5 +1,5 @@
 -- What `trim_ascii`, which counts bytes, is in characters.
-use Rattle.std.proofs.Common.{◌≡◌, ◌∙◌, ℕ, suc, ◌<◌, ◌≤◌, ◌+◌, ◌-◌, Bool, true, false, List, [], ◌∷◌, ◌++◌, length, take, drop, reverse, get_or, sym, ap, refl, arith, length-append}
+use Rattle.std.proofs.Common.{◌≡◌, ◌∙◌, ℕ, suc, ◌<◌, ◌≤◌, ◌+◌, ◌-◌, true, false, List, [], ◌∷◌, ◌++◌, length, take, drop, reverse, get_or, sym, ap, refl, arith, length-append}
 use Rattle.std.specs.Char.{is_ascii_whitespace, encode_utf8}
 use Rattle.std.specs.List.{list_all}
 use Rattle.std.specs.Str.{chars, IsUtf8, IsTrimAscii, encode_utf8_all}
@@ -11,7 +11,7 @@ use Rattle.std.proofs.lemmas.Str.{encodes-chars, encodes-append, chars-append, e
 use Rattle.rx_terms.specs.Ascii.{is_white_space, is_ascii}
 use Rattle.rx_terms.specs.Text.{Chars, trimmed, without_leading_space}
 use Rattle.rx_terms.proofs.CharLemmas.{ascii-chars, ascii-utf8}
-use Rattle.rx_terms.proofs.Bools.{by_test}
+use Rattle.rx_terms.proofs.Bools.{by_test, not_both_ways}
 
 -- Lists: white space around what neither begins nor ends with it
 
@@ -71,10 +71,7 @@ first-white c cs bs e h =
     let small : c < 128 = grind (arith, nat_tests) in
     let byte = byte_from_char bs (encode_utf8_all cs) c (sym e) small in
     let white : is_ascii_whitespace (get_or bs 0 0) ≡ true = ap is_ascii_whitespace byte ∙ same-white c ∙ t in
-    absurd (differ _ white h)) (λ t. t) where
-      differ : (b : Bool) → b ≡ true → b ≡ false → ⊥
-      differ b p q = cc
-
+    absurd (not_both_ways _ white h)) (λ t. t)
 last-white : (front : List ℕ) (last : ℕ) (bs : List ℕ) → encode_utf8_all (front ++ last ∷ []) ≡ bs → is_ascii_whitespace (get_or bs (length bs - 1) 0) ≡ false → is_white_space last ≡ false
 last-white front last bs e h =
     by_test (is_white_space last) (λ t.
@@ -83,10 +80,7 @@ last-white front last bs e h =
     let size : length (encode_utf8_all front) ≡ length bs - 1 = omega (arith, ap length bytes, length-append (encode_utf8_all front) (last ∷ [])) in
     let byte : get_or bs (length bs - 1) 0 ≡ last = ap (λ (x : List ℕ). get_or x (length bs - 1) 0) bytes ∙ get_or_push (encode_utf8_all front) last 0 (length bs - 1) size in
     let white : is_ascii_whitespace (get_or bs (length bs - 1) 0) ≡ true = ap is_ascii_whitespace byte ∙ same-white last ∙ t in
-    absurd (differ _ white h)) (λ t. t) where
-      differ : (b : Bool) → b ≡ true → b ≡ false → ⊥
-      differ b p q = cc
-
+    absurd (not_both_ways _ white h)) (λ t. t)
 pub nonempty-bytes : (c : ℕ) (cs bs : List ℕ) → encode_utf8_all (c ∷ cs) ≡ bs → 0 < length bs
 nonempty-bytes c cs bs e = omega (arith, ap length e, length-append (encode_utf8 c) (encode_utf8_all cs), length-encode c, len_utf8_bounds c)
 

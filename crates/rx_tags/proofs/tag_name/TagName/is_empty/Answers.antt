@@ -1,7 +1,7 @@
 use Rattle.std.proofs.Common.{◌∙◌, sym, arith, eqb-true}
-use Rattle.rx_tags.proofs.ListLemmas.{no_name}
 use Rattle.rx_tags.proofs.tag_name.TagName.is_empty.Goals as goal
+use Rattle.rx_terms.proofs.CharLemmas.{chars-end}
 
 pub returns : goal.returns
 returns c =
-    rw (← c.self.view_is) (λ h. no_name c.self.inside.text.items (let text = eqb-true _ 0 (sym c.is_empty.ensures ∙ h) in omega (arith, text, c.self.inside.text.ok.0)))
+    rw (← c.self.view_is) (λ h. chars-end c.self.inside.text.items (let text = eqb-true _ 0 (sym c.is_empty.ensures ∙ h) in omega (arith, text, c.self.inside.text.ok.0)))
