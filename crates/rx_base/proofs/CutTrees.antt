@@ -1,11 +1,7 @@
 -- What is sought where the signs of a page's tree are cut.
-use Rattle.std.proofs.Common.{◌≡◌, ◌∙◌, ℕ, suc, ◌≤◌, ◌<◌, Bool, true, false, List, [], ◌∷◌, ◌++◌, map, length, refl, sym, ap, subst, append-nil, inl, inr, ◌⊎◌, ⊎_elim, Option, Some, None, arith, nat_lt, nat_le}
-use Rattle.std.proofs.lemmas.Bool.Decides.{nat_tests}
-use Rattle.std.specs.Prelude.{not, ◌&&◌, ◌||◌, is_some, if◌then◌else◌}
-use Rattle.std.specs.Option.{option_or}
-use Rattle.std.proofs.Math.Bool.{or-false}
-use Rattle.rx_terms.specs.Text.{Chars}
-use Rattle.rx_grammar.specs.Trees.{StartTag, Tree, end, element, text}
+use Rattle.rx_terms.proofs.Common.{◌≡◌, ◌∙◌, ℕ, suc, ◌≤◌, ◌<◌, Bool, true, false, List, [], ◌∷◌, ◌++◌, map, length, refl, sym, ap, subst, append-nil, inl, inr, ◌⊎◌, ⊎_elim, Option, Some, None, arith, nat_lt, nat_tests, not, ◌&&◌, ◌||◌, is_some, if◌then◌else◌, option_or, or-false, Chars, or_right}
+use Rattle.std.proofs.Common.{nat_le}
+use Rattle.rx_grammar.proofs.Common.{StartTag, Tree, end, element, text}
 use Rattle.rx_rdfa.specs.Base.{first_href, head_href, root_href}
 use Rattle.rx_rdfa.specs.Tree.{Tag}
 use Rattle.rx_nest.specs.Signs.{Sign, begun, said, finished, signs_of}
@@ -16,7 +12,6 @@ use Rattle.rx_base.specs.Seekings.{Seeking, first_child, base_child, known, base
 use Rattle.rx_base.specs.KnownBases.{is_head, has_begun, has_base, child_decides, is_decided}
 use Rattle.rx_base.proofs.Lines.{line_append, seeks_append, said_line, said_seeks, tree_line}
 use Rattle.rx_base.proofs.Found.{known_stays, seeks_nodes, deep_begun, deep_finished, deep, in_head, head_ends, base_found}
-use Rattle.std.proofs.lemmas.Bool.{or_right}
 
 -- two splits of a list
 data Cuts (a b c d : List Sign) : Type 0 where

@@ -1,10 +1,6 @@
 -- The base that is found by the signs of a page.
-use Rattle.std.proofs.Common.{◌≡◌, ◌∙◌, ℕ, suc, Bool, true, false, List, [], ◌∷◌, ◌++◌, map, length, refl, ap, Option, Some, None, codes, bytes_eq, arith}
-use Rattle.std.proofs.lemmas.Bool.Decides.{nat_tests}
-use Rattle.std.specs.Prelude.{◌==◌, if◌then◌else◌}
-use Rattle.std.specs.Option.{option_or}
-use Rattle.rx_terms.specs.Text.{Chars}
-use Rattle.rx_grammar.specs.Trees.{StartTag, Tree, end, element, text}
+use Rattle.rx_terms.proofs.Common.{◌≡◌, ◌∙◌, ℕ, suc, Bool, true, false, List, [], ◌∷◌, ◌++◌, map, length, refl, ap, Option, Some, None, codes, bytes_eq, arith, nat_tests, ◌==◌, if◌then◌else◌, option_or, Chars}
+use Rattle.rx_grammar.proofs.Common.{StartTag, Tree, end, element, text}
 use Rattle.rx_rdfa.specs.Base.{first_href, head_href}
 use Rattle.rx_rdfa.specs.Tree.{Tag}
 use Rattle.rx_nest.specs.Signs.{Sign, begun, said, finished, signs_of}

@@ -1,16 +1,9 @@
 -- The seeking knows the base exactly over the bytes of which a front decides it.
-use Rattle.std.proofs.Common.{⊎_elim, ◌≡◌, ◌∙◌, ℕ, ◌+◌, ◌≤◌, Bool, true, false, List, [], ◌∷◌, ◌++◌, map, length, refl, sym, ap, subst, append_assoc, append-nil, Option, None, Result, Ok, Err, arith}
-use Rattle.std.specs.Prelude.{if◌then◌else◌}
+use Rattle.rx_terms.proofs.Common.{⊎_elim, ◌≡◌, ◌∙◌, ℕ, ◌+◌, ◌≤◌, Bool, true, false, List, [], ◌∷◌, ◌++◌, map, length, refl, sym, ap, subst, append_assoc, append-nil, Option, None, Result, Ok, Err, arith, if◌then◌else◌, length-map, Chars}
 use Rattle.std.specs.Str.{encode_utf8_all}
-use Rattle.std.proofs.lemmas.List.{length-map}
-use Rattle.rx_terms.specs.Text.{Chars}
-use Rattle.rx_chars.specs.declared.syntax.Syntax.{Syntax}
+use Rattle.rx_grammar.proofs.Common.{Syntax, start_of, Tree, end, element, Page, Line, Phase}
 use Rattle.rx_grammar.specs.declared.faults.Fault.{Fault}
 use Rattle.rx_grammar.specs.declared.limits.Limits.{Limits}
-use Rattle.rx_grammar.specs.Items.{start_of}
-use Rattle.rx_grammar.specs.Trees.{Tree, end, element}
-use Rattle.rx_grammar.specs.Pages.{Page}
-use Rattle.rx_grammar.specs.Begun.{Line, Phase}
 use Rattle.rx_pages.specs.Closings.{closing, closed, IsWide}
 use Rattle.rx_pages.specs.Nesting.{Event, says}
 use Rattle.rx_pages.specs.PageReader.{spot_of, Progress, page_byte_on, page_on, page_read, nothing_read}

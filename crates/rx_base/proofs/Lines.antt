@@ -1,8 +1,6 @@
 -- The elements that are open after some signs, and what is sought then.
-use Rattle.std.proofs.Common.{◌≡◌, ◌∙◌, List, [], ◌∷◌, ◌++◌, map, refl, ap}
-use Rattle.rx_terms.specs.Text.{Chars}
-use Rattle.rx_grammar.specs.Begun.{Line}
-use Rattle.rx_grammar.specs.Trees.{Tree, end, element, text}
+use Rattle.rx_terms.proofs.Common.{◌≡◌, ◌∙◌, List, [], ◌∷◌, ◌++◌, map, refl, ap, Chars}
+use Rattle.rx_grammar.proofs.Common.{Line, Tree, end, element, text}
 use Rattle.rx_rdfa.specs.Tree.{Tag}
 use Rattle.rx_nest.specs.Signs.{Sign, begun, said, finished, signs_of}
 use Rattle.rx_nest.specs.ShownLines.{open_after}

@@ -1,9 +1,7 @@
 -- The seeking knows the base from the first of the moments on.
-use Rattle.std.proofs.Common.{◌≡◌, ◌∙◌, ℕ, suc, ◌≤◌, Bool, true, false, List, [], ◌∷◌, ◌++◌, length, refl, sym, ap, subst, append_assoc, append-nil, Option, Some, None, codes, bytes_eq, arith}
+use Rattle.rx_terms.proofs.Common.{◌≡◌, ◌∙◌, ℕ, suc, ◌≤◌, Bool, true, false, List, [], ◌∷◌, ◌++◌, length, refl, sym, ap, subst, append_assoc, append-nil, Option, Some, None, codes, bytes_eq, arith, ◌==◌, if◌then◌else◌, Chars}
 use Rattle.std.proofs.lemmas.List.{length-append}
-use Rattle.std.specs.Prelude.{◌==◌, if◌then◌else◌}
-use Rattle.rx_terms.specs.Text.{Chars}
-use Rattle.rx_grammar.specs.Trees.{StartTag}
+use Rattle.rx_grammar.proofs.Common.{StartTag}
 use Rattle.rx_rdfa.specs.Tree.{Tag}
 use Rattle.rx_nest.specs.Signs.{Sign, begun, said, finished}
 use Rattle.rx_base.specs.Lines.{line_on, line_of}

@@ -1,7 +1,5 @@
 -- The facts of a tag from its attributes.
-use Rattle.std.proofs.Common.{◌≡◌, ◌∙◌, refl, ap₂, Bool, List, ℕ, Option, Some, None, Bor}
-use Rattle.std.specs.Prelude.{is_some, option_and_then}
-use Rattle.rx_terms.specs.Text.{Chars, seen_slice}
+use Rattle.rx_terms.proofs.Common.{◌≡◌, ◌∙◌, refl, ap₂, Bool, List, ℕ, Option, Some, None, Bor, is_some, option_and_then, Chars, seen_slice}
 use Rattle.rx_rdfa.specs.Tree.{Tag}
 use Rattle.rx_rdfa.specs.Names.{Context}
 use Rattle.rx_rdfa.specs.Facts.{link}

@@ -1,10 +1,7 @@
 -- The current language is a language tag.
-use Rattle.std.proofs.Common.{◌≡◌, ◌∙◌, true, false, cond, List, [], ◌∷◌, Option, Some, None, MatchOption, Result, Ok, Err, codes, sym, ap}
+use Rattle.rx_terms.proofs.Common.{◌≡◌, ◌∙◌, true, false, cond, List, [], ◌∷◌, Option, Some, None, MatchOption, Result, Ok, Err, codes, sym, ap, option_or, Chars, by_test}
 use Rattle.std.specs.Prelude.{IfOk}
-use Rattle.std.specs.Option.{option_or}
-use Rattle.rx_terms.specs.Text.{Chars}
 use Rattle.rx_terms.specs.Lang.{is_lang}
-use Rattle.rx_terms.proofs.Bools.{by_test}
 use Rattle.rx_rdfa.specs.Tree.{Tag, attribute}
 use Rattle.rx_rdfa.specs.Names.{language, declared_or, as_lang}
 

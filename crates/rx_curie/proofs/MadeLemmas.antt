@@ -1,9 +1,6 @@
 -- What is made of texts with a scheme.
-use Rattle.std.proofs.Common.{◌≡◌, ◌∙◌, true, [], ◌∷◌, ◌++◌, append_assoc, sym, ap, subst}
+use Rattle.rx_terms.proofs.Common.{◌≡◌, ◌∙◌, true, [], ◌∷◌, ◌++◌, append_assoc, sym, ap, subst, bytes_decides, Chars, IsIri, has_scheme}
 use Rattle.std.specs.Prelude.{bytes_eq}
-use Rattle.std.specs.Cmp.Lexicographic.{bytes_decides}
-use Rattle.rx_terms.specs.Text.{Chars}
-use Rattle.rx_terms.specs.Iri.{IsIri, has_scheme}
 use Rattle.rx_refs.specs.Resolve.{cleaned}
 use Rattle.rx_refs.proofs.SchemeLemmas.{cut-scheme, cleaned-has-scheme, cleaned-clean, cleaned-append, has_scheme-cut, uncleaned}
 

@@ -1,14 +1,7 @@
 -- Words, as they are read.
-use Rattle.std.proofs.Common.{◌≡◌, ◌≢◌, ◌∙◌, ℕ, Bool, true, false, ◌==◌, List, [], ◌∷◌, ◌++◌, reverse, Option, Some, None, MatchOption, Bor, codes, sym, ap, refl, arith}
-use Rattle.std.specs.Prelude.{is_some}
-use Rattle.std.specs.Str.{chars}
-use Rattle.std.proofs.lemmas.Bool.Decides.{nat_tests}
-use Rattle.std.proofs.lemmas.List.{reverse-append, reverse-reverse}
-use Rattle.rx_terms.specs.Ascii.{left_bracket, right_bracket}
-use Rattle.rx_terms.specs.Text.{Chars, begins_with, is_empty, seen_slice}
-use Rattle.rx_terms.specs.Iri.{has_scheme}
-use Rattle.rx_terms.proofs.CharLemmas.{ascii-chars}
-use Rattle.rx_terms.proofs.Bools.{by_test}
+use Rattle.rx_terms.proofs.Common.{◌≡◌, ◌≢◌, ◌∙◌, ℕ, Bool, true, false, List, [], ◌∷◌, ◌++◌, reverse, Option, Some, None, MatchOption, Bor, codes, sym, ap, refl, arith, is_some, chars, nat_tests, reverse-append, reverse-reverse, right_bracket, Chars, begins_with, is_empty, seen_slice, has_scheme, ascii-chars, by_test}
+use Rattle.std.proofs.Common.{◌==◌}
+use Rattle.rx_terms.specs.Ascii.{left_bracket}
 use Rattle.rx_rdfa.specs.Tree.{Tag}
 use Rattle.rx_rdfa.specs.Names.{Context}
 use Rattle.rx_rdfa.specs.Readings.{Joined, read_parts, xhtml_vocabulary}

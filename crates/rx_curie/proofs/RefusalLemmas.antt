@@ -1,14 +1,11 @@
 -- What is refused of a start tag.
-use Rattle.std.proofs.Common.{◌≡◌, ◌∙◌, ℕ, ◌<◌, ◌/◌, ◌%◌, Bool, true, false, ◌==◌, ◌&&◌, not, List, [], ◌∷◌, ◌++◌, codes, Option, Some, None, option_map, sym, ap, subst, refl, arith}
-use Rattle.std.specs.Prelude.{is_some, bytes_eq, option_and_then, if◌then◌else◌}
-use Rattle.std.specs.Cmp.Lexicographic.{bytes_decides}
-use Rattle.std.specs.List.{list_all}
-use Rattle.rx_terms.specs.Text.{Chars, trimmed}
-use Rattle.rx_terms.specs.Iri.{has_scheme, is_scheme, is_scheme_char, begins_with_letter, is_forbidden, has_forbidden}
+use Rattle.rx_terms.proofs.Common.{◌≡◌, ◌∙◌, ℕ, ◌<◌, ◌/◌, ◌%◌, Bool, true, false, List, [], ◌∷◌, ◌++◌, codes, Option, Some, None, option_map, sym, ap, subst, refl, arith, is_some, option_and_then, if◌then◌else◌, bytes_decides, list_all, Chars, trimmed, has_scheme, is_scheme, is_scheme_char, is_forbidden, has_forbidden, by_test}
+use Rattle.std.proofs.Common.{◌==◌, ◌&&◌, not}
+use Rattle.std.specs.Prelude.{bytes_eq}
+use Rattle.rx_terms.specs.Iri.{begins_with_letter}
 use Rattle.rx_refs.specs.Parts.{before, behind}
 use Rattle.rx_refs.specs.Dots.{holds}
 use Rattle.rx_refs.specs.Resolve.{cleaned, cleaned_char, digit}
-use Rattle.rx_terms.proofs.Bools.{by_test}
 use Rattle.rx_refs.proofs.PartLemmas.{behind-some, behind-none, before-lacks}
 use Rattle.rx_refs.proofs.SchemeLemmas.{cleaned-append, has_scheme-cut, has_scheme-uncut, none_at, forbidden-small, uncleaned}
 use Rattle.rx_rdfa.specs.Tree.{Tag, attribute}

@@ -1,13 +1,8 @@
 -- Texts that are compared with a word without being made.
-use Rattle.std.proofs.Common.{◌≡◌, ◌∙◌, ℕ, true, false, ◌==◌, ◌&&◌, not, [], ◌∷◌, ◌++◌, sym, ap, subst, refl, arith}
+use Rattle.rx_terms.proofs.Common.{◌≡◌, ◌∙◌, ℕ, true, false, [], ◌∷◌, ◌++◌, sym, ap, subst, refl, arith, list_all, and_parts, nat_tests, Decides-eqb, Chars, begins_with, is_forbidden, by_test}
+use Rattle.std.proofs.Common.{◌==◌, ◌&&◌, not}
 use Rattle.std.specs.Prelude.{bytes_eq}
-use Rattle.std.specs.List.{list_all}
-use Rattle.std.proofs.lemmas.Bool.{and_parts}
-use Rattle.std.proofs.lemmas.Bool.Decides.{nat_tests, Decides-eqb}
-use Rattle.rx_terms.specs.Text.{Chars, begins_with}
-use Rattle.rx_terms.specs.Iri.{is_forbidden}
 use Rattle.rx_refs.specs.Resolve.{cleaned}
-use Rattle.rx_terms.proofs.Bools.{by_test}
 use Rattle.rx_curie.specs.Refusing.{is_uncleaned}
 
 pub same-behind : (front a b : Chars) → bytes_eq (front ++ a) (front ++ b) ≡ bytes_eq a b

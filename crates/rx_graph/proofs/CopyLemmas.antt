@@ -1,25 +1,17 @@
 -- What is copied from patterns, by their numbers.
-use Rattle.std.proofs.Common.{◌≡◌, ◌⊎◌, ⊎_elim, ℕ, zero, suc, ◌+◌, ◌<◌, ◌≤◌, Bool, true, false, not, ◌&&◌, ◌||◌, nat_eq, nat_lt, ◌==◌, List, [], ◌∷◌, ◌++◌, flat_map, length, take, get_or, slice_get, slice_set, Option, Some, None, option_map, is_none, refl, sym, ap, ap₂, subst, ◌∙◌, inl, inr, true≢false, arith, if◌then◌else◌, append-nil}
-use Rattle.std.specs.List.{cons_option}
+use Rattle.rx_terms.proofs.Common.{◌≡◌, ◌⊎◌, ⊎_elim, ℕ, zero, suc, ◌+◌, ◌<◌, ◌≤◌, Bool, true, false, nat_eq, nat_lt, List, [], ◌∷◌, ◌++◌, flat_map, length, take, get_or, slice_get, slice_set, Option, Some, None, option_map, is_none, refl, sym, ap, ap₂, subst, ◌∙◌, inl, inr, true≢false, arith, append-nil, cons_option, cases_lt, and_from, nat_tests, Decides-eqb, take_all, same_truth}
+use Rattle.std.proofs.Common.{not, ◌&&◌, ◌||◌, ◌==◌, if◌then◌else◌}
 use Rattle.std.specs.List.Sorted.{IsPermutation, IsNonDecreasing}
-use Rattle.std.proofs.lemmas.Bool.{cases_lt, and_from}
-use Rattle.std.proofs.lemmas.Bool.Decides.{nat_tests, Decides-eqb}
-use Rattle.std.proofs.lemmas.List.{take_all}
 use Rattle.rx_terms.specs.declared.triples.Triple.{Triple as CodeTriple}
-use Rattle.rx_model.specs.Sets.{Among}
-use Rattle.rx_model.specs.Terms.{Node, Triple, same_node}
-use Rattle.rx_model.specs.Copied.{Leads, here, onward, leads, edges, live, says_pattern}
-use Rattle.rx_model.specs.Seen.{triple_seen, triples_seen}
-use Rattle.rx_model.proofs.Exact.{exact_numbers, exact_nodes}
+use Rattle.rx_model.proofs.Common.{Among, Node, Triple, same_node, edges, live, says_pattern, triple_seen, triples_seen, exact_numbers, exact_nodes, Among_left, Among_right, Among_cases, or_cases, and_left, and_right}
+use Rattle.rx_model.specs.Copied.{Leads, here, onward, leads}
 use Rattle.rx_model.proofs.Leads.{leads_along}
 use Rattle.rx_model.proofs.Copied.{of_pair, pattern_true}
-use Rattle.rx_model.proofs.Sets.{Among_left, Among_right, Among_cases, or_cases, and_left, and_right}
 use Rattle.rx_graph.specs.Rows.{pushed, empty_rows}
 use Rattle.rx_graph.specs.Resources.{number_in, live_by}
 use Rattle.rx_graph.specs.Patterns.{places, edges_by, ArePatterns, AreReferenced}
 use Rattle.rx_graph.specs.Ways.{mark_at, Step, Goes, stays, goes_on, all_led, Led, led_here, led_on, EachOnce, IsWalk}
 use Rattle.rx_graph.specs.Copying.{link_to, number_of, linked, AreLinks, gives_by, own_key, put_at, is_key, owned, AreOwn, gives, contents, IsIndex, IsContent, AreContents}
-use Rattle.rx_terms.proofs.Bools.{same_truth}
 use Rattle.rx_graph.proofs.SetLemmas.{seen_more}
 use Rattle.rx_graph.proofs.PatternLemmas.{edges_more, edges_are, live_is, places_more, length_so_far, number_same, number_small, number_there}
 use Rattle.rx_graph.proofs.PlaceLemmas.{place_for, any_of, any_has, any_by, sorted_places, same_places}

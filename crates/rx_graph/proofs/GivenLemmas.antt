@@ -1,14 +1,8 @@
 -- A list in which blank nodes are given their numbers from left to right, in place.
-use Rattle.std.proofs.Common.{◌≡◌, ℕ, zero, suc, ◌+◌, ◌<◌, ◌≤◌, List, [], ◌∷◌, ◌++◌, map, length, take, drop, get_or, slice_get, slice_set, Some, refl, sym, ap, ◌∙◌, nat_eq, Result, Ok, Err, IfOk, arith}
-use Rattle.std.proofs.lemmas.List.{map-append, take_all}
-use Rattle.std.proofs.lemmas.Option.{slice_get-get_or}
+use Rattle.rx_terms.proofs.Common.{◌≡◌, ℕ, zero, suc, ◌+◌, ◌<◌, ◌≤◌, List, [], ◌∷◌, ◌++◌, map, length, take, drop, get_or, slice_get, slice_set, Some, refl, sym, ap, ◌∙◌, nat_eq, Result, Ok, Err, IfOk, arith, map-append, take_all, slice_get-get_or}
 use Rattle.rx_terms.specs.declared.triples.Triple.{Triple as CodeTriple}
-use Rattle.rx_model.specs.Sets.{distinct, with_all}
-use Rattle.rx_model.specs.Terms.{same_triple, set_of}
-use Rattle.rx_model.specs.Numbered.{blanks_of, blanks, place_in, rename, numbered, Renamed}
-use Rattle.rx_model.specs.Seen.{triple_seen, triples_seen}
+use Rattle.rx_model.proofs.Common.{distinct, with_all, same_triple, set_of, blanks_of, blanks, place_in, rename, numbered, Renamed, triple_seen, triples_seen, exact_numbers}
 use Rattle.rx_model.proofs.Numbered.{numbers_one_to_one}
-use Rattle.rx_model.proofs.Exact.{exact_numbers}
 use Rattle.rx_graph.proofs.NumberLemmas.{numbers_turn, front_turn, numbered_once}
 
 -- ---- one element of a list is set

@@ -1,8 +1,7 @@
 -- Lists to which each element comes once, from left to right, and the places of the elements.
-use Rattle.std.proofs.Common.{◌≡◌, suc, ◌+◌, Bool, true, false, ◌||◌, List, [], ◌∷◌, ◌++◌, length, refl, sym, ap, ◌∙◌, inl, inr, true≢false, if◌then◌else◌, append_assoc, append-nil, cond, arith}
-use Rattle.rx_model.specs.Sets.{Among, IsExact, contains, distinct, with_one, with_all}
-use Rattle.rx_model.specs.Numbered.{place_in}
-use Rattle.rx_model.proofs.Sets.{Among_right, Among-contains, Among_distinct}
+use Rattle.rx_terms.proofs.Common.{◌≡◌, suc, ◌+◌, Bool, true, false, List, [], ◌∷◌, ◌++◌, length, refl, sym, ap, ◌∙◌, inl, inr, true≢false, append_assoc, append-nil, cond, arith}
+use Rattle.std.proofs.Common.{◌||◌, if◌then◌else◌}
+use Rattle.rx_model.proofs.Common.{Among, IsExact, contains, distinct, with_one, with_all, place_in, Among_right, Among-contains, Among_distinct}
 use Rattle.rx_graph.proofs.SetLemmas.{distinct_grows}
 
 module _ {B : Type 0} (same : B → B → Bool) where

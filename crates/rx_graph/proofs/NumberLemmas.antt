@@ -1,20 +1,13 @@
 -- Numbering from left to right.
-use Rattle.std.proofs.Common.{◌≡◌, ℕ, ◌+◌, Bool, true, false, List, [], ◌∷◌, ◌++◌, map, refl, sym, ap, ap₂, ◌∙◌, inl, if◌then◌else◌, nat_eq, arith, append_assoc, append-nil, cond, take, slice_get, Some}
-use Rattle.rx_model.specs.Sets.{Among, contains, distinct, with_one, with_all}
-use Rattle.rx_model.specs.Terms.{Node, Iri, Blank, Term, Resource, Literal, Triple, same_triple}
-use Rattle.rx_model.specs.Numbered.{blank_of_node, blank_of_term, blanks_of, blanks, place_in, rename_node, rename_term, rename, numbered}
-use Rattle.rx_model.proofs.Sets.{Among_left, Among_right, Among_distinct, Among_flat_map}
-use Rattle.rx_model.proofs.Exact.{exact_numbers, exact_triples}
+use Rattle.rx_terms.proofs.Common.{◌≡◌, ℕ, ◌+◌, Bool, true, false, List, [], ◌∷◌, ◌++◌, map, refl, sym, ap, ap₂, ◌∙◌, inl, nat_eq, arith, append_assoc, append-nil, cond, take, slice_get, Some, position_or_len, map-append, same_truth}
+use Rattle.std.proofs.Common.{if◌then◌else◌}
+use Rattle.rx_model.proofs.Common.{Among, contains, distinct, with_one, with_all, Node, Iri, Blank, Term, Resource, Literal, Triple, same_triple, blank_of_node, blank_of_term, blanks_of, blanks, place_in, rename_node, rename_term, rename, numbered, Among_left, Among_right, Among_distinct, Among_flat_map, exact_numbers, exact_triples, triple_seen, triples_seen}
 use Rattle.rx_model.proofs.Numbered.{place_tells}
 use Rattle.rx_terms.specs.declared.triples.Blank.{Blank as CodeBlank}
 use Rattle.rx_terms.specs.declared.triples.Triple.{Triple as CodeTriple}
-use Rattle.rx_model.specs.Seen.{triple_seen, triples_seen}
 use Rattle.rx_unique.specs.Unique.{insert_key}
-use Rattle.std.specs.List.{position_or_len}
-use Rattle.std.proofs.lemmas.List.{map-append}
 use Rattle.std.proofs.lemmas.List.Recursion.{is_position_or_len}
 use Rattle.rx_graph.proofs.CodeEq.{blank_eq, exact_blank}
-use Rattle.rx_terms.proofs.Bools.{same_truth}
 use Rattle.rx_graph.proofs.Growing.{place_append, kept_all, has_all, all_distinct, in_distinct}
 use Rattle.rx_graph.proofs.SetLemmas.{insert_seen, seen_more, distinct_apart}
 

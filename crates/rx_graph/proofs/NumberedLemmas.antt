@@ -1,13 +1,8 @@
 -- Blank nodes that have their numbers already.
-use Rattle.std.proofs.Common.{◌≡◌, ◌∙◌, ℕ, zero, suc, ◌<◌, ◌≤◌, true, false, ◌||◌, List, [], ◌∷◌, ◌++◌, map, length, refl, sym, ap, ap₂, true≢false, if◌then◌else◌, nat_eq, cond, arith, length-append, ◌+◌, take, take_all, slice_get, Option, Some, None, IfSome, MatchOption, is_some, ⊎_elim}
-use Rattle.std.proofs.lemmas.Bool.{cases_lt}
-use Rattle.std.proofs.lemmas.Bool.Decides.{nat_tests}
-use Rattle.rx_model.specs.Sets.{Among, contains, distinct, with_one, with_all}
-use Rattle.rx_model.specs.Terms.{Node, Iri, Blank, Term, Resource, Literal, Triple}
-use Rattle.rx_model.specs.Numbered.{blanks, place_in, rename_node, rename_term, rename, numbered, blanks_of}
-use Rattle.rx_model.proofs.Exact.{exact_numbers}
+use Rattle.rx_terms.proofs.Common.{◌≡◌, ◌∙◌, ℕ, zero, suc, ◌<◌, ◌≤◌, true, false, List, [], ◌∷◌, ◌++◌, map, length, refl, sym, ap, ap₂, true≢false, nat_eq, cond, arith, length-append, ◌+◌, take, slice_get, Option, Some, None, MatchOption, ⊎_elim, cases_lt, nat_tests}
+use Rattle.std.proofs.Common.{◌||◌, if◌then◌else◌, take_all, IfSome, is_some}
+use Rattle.rx_model.proofs.Common.{Among, contains, distinct, with_one, with_all, Node, Iri, Blank, Term, Resource, Literal, Triple, blanks, place_in, rename_node, rename_term, rename, numbered, blanks_of, exact_numbers, triple_seen, triples_seen}
 use Rattle.rx_terms.specs.declared.triples.Triple.{Triple as CodeTriple}
-use Rattle.rx_model.specs.Seen.{triple_seen, triples_seen}
 use Rattle.rx_graph.specs.Numbering.{numbers_to}
 use Rattle.rx_graph.proofs.Growing.{contains_append, place_append, contains_behind, place_behind, has_last, in_distinct}
 use Rattle.rx_graph.proofs.NumberLemmas.{same_list_by, numbers_turn}

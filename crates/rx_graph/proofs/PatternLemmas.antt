@@ -1,22 +1,14 @@
 -- The patterns of a list, from left to right.
-use Rattle.std.proofs.Common.{◌≡◌, ℕ, suc, zero, ◌+◌, ◌<◌, ◌≤◌, Bool, true, false, ◌&&◌, ◌||◌, nat_eq, List, [], ◌∷◌, ◌++◌, filter_map, flat_map, length, take, slice_get, Option, Some, None, option_map, refl, sym, ap, ap₂, subst, ◌∙◌, true≢false, arith, if◌then◌else◌, append-nil, bytes_eq}
-use Rattle.std.proofs.lemmas.Bool.{or_parts}
-use Rattle.std.proofs.lemmas.List.Elements.{filter_map-append}
-use Rattle.std.proofs.lemmas.List.{take_all}
-use Rattle.std.proofs.lemmas.Option.{slice_get_within}
-use Rattle.std.specs.List.{cons_option, list_any}
+use Rattle.rx_terms.proofs.Common.{◌≡◌, ℕ, suc, zero, ◌+◌, ◌<◌, ◌≤◌, Bool, true, false, nat_eq, List, [], ◌∷◌, ◌++◌, filter_map, flat_map, length, take, slice_get, Option, Some, None, option_map, refl, sym, ap, ap₂, subst, ◌∙◌, true≢false, arith, append-nil, bytes_eq, or_parts, filter_map-append, take_all, slice_get_within, cons_option, list_any, or-false}
+use Rattle.std.proofs.Common.{◌&&◌, ◌||◌, if◌then◌else◌}
 use Rattle.rx_terms.specs.declared.triples.Triple.{Triple as CodeTriple}
-use Rattle.rx_model.specs.Sets.{contains, distinct, with_one}
-use Rattle.rx_model.specs.Terms.{Node, Iri, Term, Resource, Literal, Triple, same_node, same_term, same_triple}
-use Rattle.rx_model.specs.Copied.{rdfa_copy, rdfa_pattern, type_pattern, is_pattern, pattern_object, live, edge, says_pattern, is_referenced, replaced, treated, copied}
-use Rattle.rx_model.specs.Vocabulary.{rdf_type}
-use Rattle.rx_model.specs.Seen.{triple_seen, triples_seen}
-use Rattle.rx_model.proofs.Exact.{exact_numbers, exact_nodes}
+use Rattle.rx_model.proofs.Common.{contains, distinct, with_one, Node, Iri, Term, Resource, Literal, Triple, same_node, same_triple, live, says_pattern, is_referenced, treated, copied, rdf_type, triple_seen, triples_seen, exact_numbers, exact_nodes}
+use Rattle.rx_model.specs.Terms.{same_term}
+use Rattle.rx_model.specs.Copied.{rdfa_copy, rdfa_pattern, type_pattern, is_pattern, pattern_object, edge, replaced}
 use Rattle.rx_graph.specs.Resources.{number_in, object_by, live_by}
 use Rattle.rx_graph.specs.Rows.{empty_rows}
 use Rattle.rx_graph.specs.Patterns.{copies, places, ArePatterns, AreReferenced, edge_by, edges_by}
 use Rattle.rx_graph.proofs.SetLemmas.{seen_more}
-use Rattle.std.proofs.Math.Bool.{or-false}
 
 -- ---- one more element
 

@@ -1,21 +1,15 @@
 -- Places in order, and what is given there.
-use Rattle.std.proofs.Common.{◌≡◌, ℕ, suc, ◌+◌, ◌<◌, ◌≤◌, Bool, true, false, not, ◌&&◌, ◌||◌, nat_eq, nat_lt, List, [], ◌∷◌, ◌++◌, flat_map, filter_map, length, take, get_or, slice_get, Option, Some, None, is_none, refl, sym, ap, ap₂, subst, ◌∙◌, true≢false, arith, if◌then◌else◌, append-nil, append_assoc, length-append, inl, inr}
-use Rattle.std.specs.List.{sum_by, cons_option}
+use Rattle.rx_terms.proofs.Common.{◌≡◌, ℕ, suc, ◌+◌, ◌<◌, ◌≤◌, Bool, true, false, nat_eq, nat_lt, List, [], ◌∷◌, ◌++◌, flat_map, filter_map, length, take, get_or, slice_get, Option, Some, None, is_none, refl, sym, ap, ap₂, subst, ◌∙◌, true≢false, arith, append-nil, append_assoc, length-append, inl, inr, cons_option, nat_tests, take_all, filter_map-append}
+use Rattle.std.proofs.Common.{not, ◌&&◌, ◌||◌, if◌then◌else◌}
+use Rattle.std.specs.List.{sum_by}
 use Rattle.std.specs.Option.{option_to_list}
 use Rattle.std.specs.List.Sorted.{IsPermutation, IsNonDecreasing}
-use Rattle.std.proofs.lemmas.Bool.Decides.{nat_tests}
-use Rattle.std.proofs.lemmas.List.{take_all}
-use Rattle.std.proofs.lemmas.List.Elements.{filter_map-append}
 use Rattle.std.proofs.lemmas.List.Sorted.{IsPermutation-refl, IsPermutation-trans, IsPermutation-cons, IsPermutation-middle, IsPermutation-append, sum_by-IsPermutation}
 use Rattle.std.proofs.lemmas.List.Sums.{sum_by-cons}
 use Rattle.std.proofs.lemmas.Grind.{flat_map-append}
 use Rattle.rx_terms.specs.declared.triples.Triple.{Triple as CodeTriple}
-use Rattle.rx_model.specs.Sets.{Among, contains, with_one, with_all}
-use Rattle.rx_model.specs.Terms.{Node, Triple, same_node, same_triple}
-use Rattle.rx_model.specs.Copied.{live, edges, leads, given, treated, copied, is_referenced, says_pattern, spo}
-use Rattle.rx_model.specs.Seen.{triple_seen, triples_seen}
-use Rattle.rx_model.proofs.Exact.{exact_numbers, exact_triples}
-use Rattle.rx_model.proofs.Sets.{Among-contains, or_cases, or_left, or_right}
+use Rattle.rx_model.proofs.Common.{Among, contains, with_one, with_all, Node, Triple, same_node, same_triple, live, edges, treated, copied, is_referenced, says_pattern, spo, triple_seen, triples_seen, exact_numbers, exact_triples, Among-contains, or_cases, or_left, or_right}
+use Rattle.rx_model.specs.Copied.{leads, given}
 use Rattle.rx_graph.specs.Patterns.{places, ArePatterns, AreReferenced, edges_by, given_one}
 use Rattle.rx_graph.specs.Copying.{gives, contents, given_from, given_at}
 use Rattle.rx_graph.specs.Ways.{EachOnce}

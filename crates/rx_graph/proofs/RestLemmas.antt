@@ -1,11 +1,7 @@
 -- A set that is made of a list from its last triple on.
-use Rattle.std.proofs.Common.{◌≡◌, ◌∙◌, List, [], ◌∷◌, ◌++◌, reverse, sym, ap, ap₂, nat_eq}
-use Rattle.std.proofs.lemmas.List.{reverse-append, reverse-reverse}
+use Rattle.rx_terms.proofs.Common.{◌≡◌, ◌∙◌, List, [], ◌∷◌, ◌++◌, reverse, sym, ap, ap₂, nat_eq, reverse-append, reverse-reverse}
 use Rattle.rx_terms.specs.declared.triples.Triple.{Triple as CodeTriple}
-use Rattle.rx_model.specs.Sets.{distinct, with_one, with_all}
-use Rattle.rx_model.specs.Terms.{same_triple}
-use Rattle.rx_model.specs.Seen.{triple_seen, triples_seen}
-use Rattle.rx_model.proofs.Exact.{exact_numbers, exact_triples}
+use Rattle.rx_model.proofs.Common.{distinct, with_one, with_all, same_triple, triple_seen, triples_seen, exact_numbers, exact_triples}
 use Rattle.rx_graph.proofs.Growing.{all_distinct}
 
 -- what is there and what is left, the last of it first, come to the graph of the list

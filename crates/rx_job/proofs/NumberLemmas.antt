@@ -1,17 +1,11 @@
 -- Numbers of the command line.
-use Rattle.std.proofs.Common.{◌≡◌, ◌∙◌, ℕ, nat_le, ◌≤◌, ◌<◌, ◌^◌, Bool, true, false, ◌&&◌, List, [], ◌∷◌, length, refl, sym, ap, subst, arith, Option, Some, None, Result, Ok, Err, encode_utf8_all}
-use Rattle.std.specs.Prelude.{if◌then◌else◌, not, ◌==◌}
+use Rattle.rx_terms.proofs.Common.{◌≡◌, ◌∙◌, ℕ, ◌≤◌, ◌<◌, ◌^◌, Bool, true, false, List, [], ◌∷◌, length, refl, sym, ap, subst, arith, Option, Some, None, Result, Ok, Err, encode_utf8_all, if◌then◌else◌, not, ◌==◌, list_all, and_parts, and_from, nat_tests, is_ascii, ascii-same, split}
+use Rattle.std.proofs.Common.{nat_le, ◌&&◌}
 use Rattle.std.specs.Char.{is_ascii_digit}
 use Rattle.std.specs.Int.{IsInRange}
-use Rattle.std.specs.List.{list_all}
 use Rattle.std.specs.Result.{OkIff}
 use Rattle.std.specs.Str.Parse.{ParsesUnsigned, digits_value}
-use Rattle.std.proofs.lemmas.Bool.{and_parts, and_from}
-use Rattle.std.proofs.lemmas.Bool.Decides.{nat_tests}
 use Rattle.std.proofs.lemmas.Str.Parse.{IsDigitsTest, numerals_by_value, parse_digits}
-use Rattle.rx_terms.specs.Ascii.{is_ascii}
-use Rattle.rx_terms.proofs.CharLemmas.{ascii-same}
-use Rattle.rx_terms.proofs.Bools.{split}
 use Rattle.rx_job.specs.Words.{count_of, digit_zero, is_number, most_items}
 
 digit_ascii : (c : ℕ) → is_ascii_digit c ≡ true → is_ascii c ≡ true

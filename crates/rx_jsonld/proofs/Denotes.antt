@@ -1,20 +1,13 @@
 -- The value of a list denotes its triples.
-use Rattle.std.proofs.Common.{◌≡◌, ◌∙◌, ◌⊎◌, ◌↔◌, ◌≤◌, ◌<◌, ◌^◌, ℕ, suc, ◌+◌, nat_eq, Bool, true, false, not, cond, List, [], ◌∷◌, ◌++◌, map, flat_map, length, get_or, refl, sym, ap, inl, inr, subst, true≢false, arith, append_assoc}
+use Rattle.rx_terms.proofs.Common.{◌≡◌, ◌∙◌, ◌⊎◌, ◌↔◌, ◌≤◌, ◌<◌, ◌^◌, ℕ, suc, ◌+◌, nat_eq, Bool, true, false, cond, List, [], ◌∷◌, ◌++◌, map, flat_map, length, get_or, refl, sym, ap, inl, inr, subst, true≢false, arith, append_assoc, IsIri, Chars, untrue}
+use Rattle.std.proofs.Common.{not}
 use Rattle.std.specs.Str.Parse.{digits_value}
 use Rattle.std.proofs.lemmas.Fmt.{decimal_is_IsNumeral}
 use Rattle.std.proofs.lemmas.List.{length-append}
 use Rattle.serde_json.specs.View.{items_of}
-use Rattle.rx_terms.specs.Iri.{IsIri}
-use Rattle.rx_terms.specs.Text.{Chars}
-use Rattle.rx_model.specs.Sets.{Among, contains}
-use Rattle.rx_model.specs.Terms.{Node, Iri, Blank, Term, Resource, Literal, Triple, same_node, same_triple, set_of}
-use Rattle.rx_model.specs.Copied.{spo}
-use Rattle.rx_model.specs.Numbered.{rename_node, rename_term, rename, blank_of_node, blank_of_term, blanks_of, place_in, Has, Renamed}
-use Rattle.rx_model.proofs.Sets.{Among_right, Among_cases, Among_map, Among_of_map, Among_filter, Among_of_filter, Among_flat_map, Among_of_flat_map, Among_by_contains, Among-contains, Among_of_distinct, false_unless}
-use Rattle.rx_model.proofs.Exact.{exact_numbers, exact_triples}
+use Rattle.rx_model.proofs.Common.{Among, contains, Node, Iri, Blank, Term, Resource, Literal, Triple, same_node, same_triple, set_of, spo, rename_node, rename_term, rename, blank_of_node, blank_of_term, blanks_of, place_in, Has, Renamed, Among_right, Among_cases, Among_map, Among_of_map, Among_filter, Among_of_filter, Among_flat_map, Among_of_flat_map, Among_by_contains, Among-contains, Among_of_distinct, false_unless, exact_numbers, exact_triples, rdf_first, rdf_rest}
 use Rattle.rx_nquads.specs.Quads.{proper_term, proper_triple}
 use Rattle.rx_pieces.specs.Writable.{WritableNode, WritableTerm, IsWritable}
-use Rattle.rx_model.specs.Vocabulary.{rdf_first, rdf_rest}
 use Rattle.rx_shapes.specs.declared.shapes.Shape.{Shape}
 use Rattle.rx_shapes.specs.Subjects.{has_subject, about, subjects}
 use Rattle.rx_shapes.proofs.Grouped.{same_nodes, about_there, subject_there, of_about}
@@ -28,7 +21,6 @@ use Rattle.rx_jsonld.specs.Laws.{ValueDenotes}
 use Rattle.rx_jsonld.proofs.Cells.{IsChain, cells_chain, chain_differs, one_root, of_listed, to_listed, listed_there, there_listed, root_subject}
 use Rattle.rx_jsonld.proofs.Parts.{PartStands, Naming, FreeNode, label_of, item_is, cell_triples, told}
 use Rattle.rx_jsonld.proofs.Docs.{Docs, docs}
-use Rattle.rx_terms.proofs.Bools.{untrue}
 
 -- ---- counts
 

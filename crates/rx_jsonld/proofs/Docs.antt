@@ -1,13 +1,8 @@
 -- The document of a list of triples, and what it says.
-use Rattle.std.proofs.Common.{◌≡◌, ◌∙◌, ◌⊎◌, ℕ, ◌+◌, false, List, [], ◌∷◌, ◌++◌, map, flat_map, length, codes, refl, sym, ap, ap₂, inl, inr, subst, arith}
-use Rattle.std.proofs.lemmas.List.{map-append}
+use Rattle.rx_terms.proofs.Common.{◌≡◌, ◌∙◌, ◌⊎◌, ℕ, ◌+◌, false, List, [], ◌∷◌, ◌++◌, map, flat_map, length, codes, refl, sym, ap, ap₂, inl, inr, subst, arith, map-append, IsIri}
 use Rattle.serde_json.specs.Data.{Members, no_members, member}
 use Rattle.serde_json.specs.View.{items_of}
-use Rattle.rx_terms.specs.Iri.{IsIri}
-use Rattle.rx_model.specs.Sets.{Among}
-use Rattle.rx_model.specs.Terms.{Node, Triple}
-use Rattle.rx_model.specs.Numbered.{rename}
-use Rattle.rx_model.proofs.Sets.{Among_left, Among_right, Among_cases}
+use Rattle.rx_model.proofs.Common.{Among, Node, Triple, rename, Among_left, Among_right, Among_cases}
 use Rattle.rx_pieces.specs.Writable.{WritableTerm}
 use Rattle.rx_shapes.specs.declared.shapes.Shape.{Shape}
 use Rattle.rx_shapes.specs.Subjects.{about}

@@ -1,20 +1,11 @@
 -- The members of a node object, as they come one after another, and what they say.
-use Rattle.std.proofs.Common.{◌≡◌, ◌∙◌, ℕ, ◌+◌, nat_cmp, Bool, true, false, ◌&&◌, not, cond, List, [], ◌∷◌, ◌++◌, map, flat_map, length, bytes_eq, codes, encode_utf8_all, Option, Some, None, Ordering, Less, Equal, Greater, is_eq, refl, sym, ap, ap₂, subst, true≢false, arith, append_assoc, append-nil}
-use Rattle.std.specs.Ordering.{match_ordering}
-use Rattle.std.specs.Cmp.Lexicographic.{slice_cmp}
-use Rattle.std.proofs.lemmas.List.{length-append, map-append}
+use Rattle.rx_terms.proofs.Common.{◌≡◌, ◌∙◌, ℕ, ◌+◌, nat_cmp, Bool, true, false, cond, List, [], ◌∷◌, ◌++◌, map, flat_map, length, bytes_eq, codes, encode_utf8_all, Option, Some, None, Ordering, Less, Equal, Greater, refl, sym, ap, ap₂, subst, true≢false, arith, append_assoc, append-nil, match_ordering, slice_cmp, map-append, encodes_same, IsIri, Chars}
+use Rattle.std.proofs.Common.{◌&&◌, not, is_eq}
+use Rattle.std.proofs.lemmas.List.{length-append}
 use Rattle.std.proofs.lemmas.Map.Text.{is_eq-slice_cmp}
 use Rattle.std.proofs.lemmas.Slice.Eq.{bytes_eq-Decides}
-use Rattle.std.proofs.lemmas.Str.{encodes_same}
 use Rattle.serde_json.specs.Data.{Data, Items, Members, array, no_items, item, no_members, member}
-use Rattle.rx_terms.specs.Iri.{IsIri}
-use Rattle.rx_terms.specs.Text.{Chars}
-use Rattle.rx_model.specs.Sets.{Among}
-use Rattle.rx_model.specs.Terms.{Node, Iri, Blank, Term, Resource, Literal, Triple}
-use Rattle.rx_model.specs.Copied.{spo}
-use Rattle.rx_model.specs.Vocabulary.{rdf_type, rdf_first, rdf_rest}
-use Rattle.rx_model.specs.Numbered.{rename_node, rename_term, rename}
-use Rattle.rx_model.proofs.Exact.{exact_texts}
+use Rattle.rx_model.proofs.Common.{Among, Node, Iri, Blank, Term, Resource, Literal, Triple, spo, rdf_type, rdf_first, rdf_rest, rename_node, rename_term, rename, exact_texts}
 use Rattle.rx_graph.specs.Resources.{resource_of}
 use Rattle.rx_nquads.specs.Quads.{proper_term}
 use Rattle.rx_pieces.specs.Writable.{WritableTerm}

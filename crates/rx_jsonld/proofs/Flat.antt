@@ -1,12 +1,8 @@
 -- A list's value nests six levels deep at most.
-use Rattle.std.proofs.Common.{◌≤◌, ℕ, suc, List, [], ◌∷◌, map, codes, Option, Some, None, Ordering, Less, Equal, Greater, arith, nat_cmp, cond, Bool, true, false}
-use Rattle.std.specs.Ordering.{match_ordering}
-use Rattle.std.specs.Cmp.Lexicographic.{slice_cmp}
+use Rattle.rx_terms.proofs.Common.{◌≤◌, ℕ, suc, List, [], ◌∷◌, map, codes, Option, Some, None, Ordering, Less, Equal, Greater, arith, nat_cmp, cond, Bool, true, false, match_ordering, slice_cmp, Chars}
 use Rattle.serde_json.specs.Data.{Data, null, boolean, number, string, array, object, Items, no_items, item, Members, no_members, member, depth, items_depth, members_depth}
 use Rattle.serde_json.specs.View.{items_of}
-use Rattle.rx_terms.specs.Text.{Chars}
-use Rattle.rx_model.specs.Terms.{Kind, Plain, Tagged, Typed, Node, Blank, Term, Resource, Literal, Triple}
-use Rattle.rx_model.specs.Vocabulary.{rdf_first}
+use Rattle.rx_model.proofs.Common.{Kind, Plain, Tagged, Typed, Node, Blank, Term, Resource, Literal, Triple, rdf_first}
 use Rattle.rx_shapes.specs.declared.shapes.Shape.{Shape}
 use Rattle.rx_shapes.specs.Subjects.{about, object_at}
 use Rattle.rx_json.proofs.PlainLemmas.{no_float}

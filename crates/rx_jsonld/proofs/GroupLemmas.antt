@@ -1,22 +1,16 @@
 -- Places that are put behind those of their keys, and the name of a node before them.
 use denote.Ref.{Bor}
-use Rattle.std.proofs.Common.{◌≡◌, ◌∙◌, ◌<◌, refl, sym, ap, ℕ, List, [], ◌∷◌, ◌++◌, Bool, true, false, true≢false, codes, slice_get, Option, Some, None, Ordering, Less, Equal, Greater, nat_eq, nat_cmp, Global, Vec, encode_utf8_all, inl, inr, arith}
-use Rattle.std.proofs.lemmas.Bool.Decides.{nat_tests}
+use Rattle.rx_terms.proofs.Common.{◌≡◌, ◌∙◌, ◌<◌, refl, sym, ap, ℕ, List, [], ◌∷◌, ◌++◌, Bool, true, false, true≢false, codes, slice_get, Option, Some, None, Ordering, Less, Equal, Greater, nat_eq, nat_cmp, encode_utf8_all, inl, inr, arith, nat_tests, encode_ascii, slice_cmp, AllByRecursion, is_letter, IsIri, Chars}
+use Rattle.std.proofs.Common.{Global, Vec}
 use Rattle.std.proofs.lemmas.Cmp.{nat_list_cmp_total}
-use Rattle.std.proofs.lemmas.Str.{encode_ascii}
-use Rattle.std.specs.Cmp.Lexicographic.{slice_cmp}
-use Rattle.std.specs.List.{AllByRecursion}
 use Rattle.std.specs.List.Sorted.{IsStrictlySortedBy}
 use Rattle.std.specs.Map.{keys_of, lookup, set_value}
 use Rattle.std.specs.BTreeMap.{insert_entry, is_at}
 use Rattle.serde_json.specs.Data.{Data, array, object, item, Members, no_members, member}
 use Rattle.serde_json.specs.View.{items_of}
-use Rattle.rx_terms.specs.Ascii.{is_letter}
-use Rattle.rx_terms.specs.Iri.{IsIri, begins_with_scheme}
-use Rattle.rx_terms.specs.Text.{Chars, split_at, front_grows}
-use Rattle.rx_model.specs.Sets.{Among}
-use Rattle.rx_model.specs.Terms.{Node, Triple}
-use Rattle.rx_model.proofs.Sets.{Among_of_filter}
+use Rattle.rx_terms.specs.Iri.{begins_with_scheme}
+use Rattle.rx_terms.specs.Text.{split_at, front_grows}
+use Rattle.rx_model.proofs.Common.{Among, Node, Triple, Among_of_filter}
 use Rattle.rx_shapes.specs.declared.shapes.Shape.{Shape}
 use Rattle.rx_shapes.specs.Subjects.{has_subject, about}
 use Rattle.rx_pieces.specs.Writable.{IsWritable}

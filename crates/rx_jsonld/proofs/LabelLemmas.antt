@@ -1,8 +1,7 @@
 -- The label of a blank node in bytes.
-use Rattle.std.proofs.Common.{◌≡◌, ℕ, encode_utf8_all, ◌<◌, ◌^◌}
+use Rattle.rx_terms.proofs.Common.{◌≡◌, ℕ, encode_utf8_all, ◌<◌, ◌^◌, ascii-same}
 use Rattle.std.specs.Fmt.{decimal}
 use Rattle.std.proofs.lemmas.Fmt.{IsAscii-decimal}
-use Rattle.rx_terms.proofs.CharLemmas.{ascii-same}
 use Rattle.rx_pieces.specs.Writing.{blank_text}
 use Rattle.rx_pieces.proofs.Adding.{all_ascii}
 

@@ -1,22 +1,13 @@
 -- What is said of a node, as a document has it.
-use Rattle.std.proofs.Common.{◌≡◌, ◌∙◌, ℕ, suc, ◌+◌, Bool, true, false, ◌&&◌, ◌==◌, cond, List, [], ◌∷◌, ◌++◌, map, length, bytes_eq, Option, Some, None, refl, sym, ap, ap₂, inl, inr, subst, true≢false, arith}
+use Rattle.rx_terms.proofs.Common.{◌≡◌, ◌∙◌, ℕ, suc, ◌+◌, Bool, true, false, cond, List, [], ◌∷◌, ◌++◌, map, length, bytes_eq, Option, Some, None, refl, sym, ap, ap₂, inl, inr, subst, true≢false, arith, nat_tests, length-map, IsIri, Chars, colon}
+use Rattle.std.proofs.Common.{◌&&◌, ◌==◌}
 use Rattle.std.specs.Fmt.{decimal}
-use Rattle.std.proofs.lemmas.Bool.Decides.{nat_tests}
-use Rattle.std.proofs.lemmas.List.{length-map}
 use Rattle.serde_json.specs.Data.{Data, array, no_items}
 use Rattle.serde_json.specs.View.{items_of}
-use Rattle.rx_terms.specs.Iri.{IsIri}
-use Rattle.rx_terms.specs.Text.{Chars}
-use Rattle.rx_terms.specs.Ascii.{colon, low_line}
-use Rattle.rx_model.specs.Sets.{Among}
-use Rattle.rx_model.specs.Terms.{Plain, Tagged, Typed, Node, Iri, Blank, Term, Resource, Literal, Triple}
-use Rattle.rx_model.specs.Copied.{spo}
-use Rattle.rx_model.specs.Numbered.{rename_node, rename_term, rename}
-use Rattle.rx_model.proofs.Sets.{and_right}
-use Rattle.rx_model.proofs.Exact.{exact_texts}
+use Rattle.rx_terms.specs.Ascii.{low_line}
+use Rattle.rx_model.proofs.Common.{Among, Plain, Tagged, Typed, Node, Iri, Blank, Term, Resource, Literal, Triple, spo, rename_node, rename_term, rename, and_right, exact_texts, rdf_first, rdf_rest, rdf_nil}
 use Rattle.rx_nquads.specs.Quads.{proper_term, proper_triple}
 use Rattle.rx_pieces.specs.Writable.{WritableKind, WritableTerm}
-use Rattle.rx_model.specs.Vocabulary.{rdf_first, rdf_rest, rdf_nil}
 use Rattle.rx_shapes.specs.declared.shapes.Shape.{Shape}
 use Rattle.rx_shapes.specs.Shapes.{HaveShapes}
 use Rattle.rx_shapes.specs.Subjects.{object_at}

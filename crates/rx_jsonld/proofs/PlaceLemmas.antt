@@ -1,22 +1,14 @@
 -- What is found by the places of a node's triples.
-use Rattle.std.proofs.Common.{◌≡◌, ◌∙◌, ℕ, zero, suc, ◌+◌, ◌-◌, ◌<◌, nat_eq, Bool, true, false, not, ◌&&◌, ◌||◌, cond, List, [], ◌∷◌, ◌++◌, map, filter, flat_map, take, slice_get, Option, Some, None, option_to_list, refl, sym, ap, ap₂, subst, inl, inr, arith, append-nil, append_assoc}
-use Rattle.std.proofs.lemmas.Bool.Decides.{nat_tests}
+use Rattle.rx_terms.proofs.Common.{◌≡◌, ◌∙◌, ℕ, zero, suc, ◌+◌, ◌-◌, ◌<◌, nat_eq, Bool, true, false, cond, List, [], ◌∷◌, ◌++◌, map, filter, flat_map, take, slice_get, Option, Some, None, option_to_list, refl, sym, ap, ap₂, subst, inl, inr, arith, append-nil, append_assoc, nat_tests, map-append, take-map, filter-append, Chars, same_truth}
+use Rattle.std.proofs.Common.{not, ◌&&◌, ◌||◌}
 use Rattle.std.proofs.lemmas.Grind.{flat_map-append}
-use Rattle.std.proofs.lemmas.List.{map-append, take-map}
-use Rattle.std.proofs.lemmas.List.Elements.{filter-append}
 use Rattle.serde_json.specs.Data.{Data, Members}
-use Rattle.rx_terms.specs.Text.{Chars}
 use Rattle.rx_terms.specs.declared.triples.Blank.{Blank as Number}
 use Rattle.rx_terms.specs.declared.triples.Triple.{Triple as CodeTriple}
-use Rattle.rx_model.specs.Sets.{Among, contains, distinct, with_one}
-use Rattle.rx_model.specs.Terms.{Node, Iri, Blank, Triple, same_node}
-use Rattle.rx_model.specs.Seen.{node_seen, triple_seen, triples_seen}
-use Rattle.rx_model.proofs.Sets.{Among_cases, Among-contains, Among_by_contains, Among_distinct, Among_of_distinct}
-use Rattle.rx_terms.proofs.Bools.{same_truth}
+use Rattle.rx_model.proofs.Common.{Among, contains, distinct, with_one, Node, Iri, Blank, Triple, same_node, node_seen, triple_seen, triples_seen, Among_cases, Among-contains, Among_by_contains, Among_distinct, Among_of_distinct, rdf_rest}
 use Rattle.rx_graph.proofs.PatternLemmas.{contains_added}
 use Rattle.rx_graph.proofs.SetLemmas.{distinct_grows, seen_more}
 use Rattle.rx_pieces.specs.Writable.{WritableTriple}
-use Rattle.rx_model.specs.Vocabulary.{rdf_rest}
 use Rattle.rx_shapes.specs.Rows.{positions}
 use Rattle.rx_shapes.specs.Places.{places_of, picked}
 use Rattle.rx_shapes.specs.declared.shapes.Shape.{Shape}

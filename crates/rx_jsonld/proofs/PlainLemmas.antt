@@ -1,13 +1,10 @@
 -- A list's value has no number, and the keys of its objects rise, so that each stands once.
-use Rattle.std.proofs.Common.{◌≡◌, ◌∙◌, ℕ, Bool, true, false, not, cond, List, [], ◌∷◌, map, filter, bytes_eq, codes, Option, Some, None, Ordering, Less, Equal, Greater, is_eq, nat_cmp, refl, sym, ap}
+use Rattle.rx_terms.proofs.Common.{◌≡◌, ◌∙◌, ℕ, Bool, true, false, cond, List, [], ◌∷◌, map, filter, bytes_eq, codes, Option, Some, None, Ordering, Less, Equal, Greater, nat_cmp, refl, sym, ap, match_ordering, slice_cmp, Chars}
+use Rattle.std.proofs.Common.{not, is_eq}
 use Rattle.std.proofs.lemmas.Map.Text.{is_eq-slice_cmp}
-use Rattle.std.specs.Ordering.{match_ordering}
-use Rattle.std.specs.Cmp.Lexicographic.{slice_cmp}
 use Rattle.serde_json.specs.Data.{Data, null, boolean, number, string, array, object, Items, no_items, item, Members, no_members, member}
 use Rattle.serde_json.specs.View.{items_of}
-use Rattle.rx_terms.specs.Text.{Chars}
-use Rattle.rx_model.specs.Terms.{Kind, Plain, Tagged, Typed, Node, Blank, Term, Resource, Literal, Triple}
-use Rattle.rx_model.specs.Vocabulary.{rdf_first}
+use Rattle.rx_model.proofs.Common.{Kind, Plain, Tagged, Typed, Node, Blank, Term, Resource, Literal, Triple, rdf_first}
 use Rattle.rx_shapes.specs.declared.shapes.Shape.{Shape}
 use Rattle.rx_shapes.specs.Subjects.{about, object_at}
 use Rattle.rx_json.specs.Plain.{Leads, IsPlain, ArePlain, MembersArePlain}

@@ -1,16 +1,13 @@
 -- Predicates and their slots, side by side, as a table.
-use Rattle.std.proofs.Common.{◌≡◌, ◌∙◌, ℕ, zero, suc, ◌+◌, ◌<◌, ◌≤◌, Bool, false, cond, List, [], ◌∷◌, ◌++◌, length, Option, Some, None, option_to_list, bytes_eq, refl, sym, ap, subst, arith, append-nil, rules, slice_set, slice_index_or}
-use Rattle.std.specs.List.{position, position_or_len, list_any}
+use Rattle.rx_terms.proofs.Common.{◌≡◌, ◌∙◌, ℕ, zero, suc, ◌+◌, ◌<◌, ◌≤◌, Bool, false, cond, List, [], ◌∷◌, ◌++◌, length, Option, Some, None, option_to_list, bytes_eq, refl, sym, ap, subst, arith, append-nil, rules, slice_set, position_or_len, list_any, nat_tests, by_test, length-map}
+use Rattle.std.proofs.Common.{slice_index_or}
+use Rattle.std.specs.List.{position}
 use Rattle.std.specs.Prelude.{nat_lt}
-use Rattle.std.proofs.lemmas.Bool.Decides.{nat_tests}
-use Rattle.rx_terms.proofs.Bools.{by_test}
 use Rattle.rx_terms.specs.declared.triples.Term.{Term}
 use Rattle.rx_terms.specs.contracts.iris.IriPartialEq.TheImpl as iri_impl
-use Rattle.rx_model.specs.Sets.{IsExact}
-use Rattle.rx_model.proofs.Exact.{exact_texts}
+use Rattle.rx_model.proofs.Common.{IsExact, exact_texts}
 use Rattle.rx_rdfa.specs.Tables.{put}
 use Rattle.rx_terms.specs.declared.triples.Node.{Node}
-use Rattle.std.proofs.lemmas.List.{length-map}
 use Rattle.rx_lists.specs.Owners.{Owned, owned, with_lists, with_slot, with_term, Slots, slots_at, predicates_of, place_of, slots_of}
 use Rattle.rx_lists.specs.Rows.{rows, first_place, FoundAt}
 

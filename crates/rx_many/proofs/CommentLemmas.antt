@@ -1,13 +1,8 @@
 -- The comment on a page as bytes.
-use Rattle.std.proofs.Common.{◌≡◌, ◌∙◌, ℕ, ◌<◌, ◌^◌, true, List, ◌++◌, codes, refl, sym, ap, ap₂, append_assoc}
+use Rattle.rx_terms.proofs.Common.{◌≡◌, ◌∙◌, ℕ, ◌<◌, ◌^◌, true, List, ◌++◌, codes, refl, sym, ap, ap₂, append_assoc, list_all, encodes-append, is_ascii, line_feed, Chars, ascii-same}
 use Rattle.std.specs.Str.{encode_utf8_all}
 use Rattle.std.specs.Fmt.{decimal}
-use Rattle.std.specs.List.{list_all}
-use Rattle.std.proofs.lemmas.Str.{encodes-append}
 use Rattle.std.proofs.lemmas.Fmt.{IsAscii-decimal}
-use Rattle.rx_terms.specs.Ascii.{is_ascii, line_feed}
-use Rattle.rx_terms.specs.Text.{Chars}
-use Rattle.rx_terms.proofs.CharLemmas.{ascii-same}
 use Rattle.rx_grammar.specs.declared.faults.Kind.{Kind}
 use Rattle.rx_grammar.specs.declared.faults.Kind.TheVariants as kind
 use Rattle.rx_pieces.proofs.Adding.{all_ascii}

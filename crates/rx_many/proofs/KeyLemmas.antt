@@ -1,23 +1,16 @@
 -- The keys of the code's sets, and what they are in the model.
-use Rattle.std.proofs.Common.{◌≡◌, ℕ, Bool, true, false, not, List, [], ◌∷◌, length, slice_get, Some, option_map, map, suc, refl, sym, ap, ap₂, ◌∙◌, rules, nat_eq, bytes_eq, arith, true≢false}
-use Rattle.std.specs.List.{list_any}
-use Rattle.std.proofs.lemmas.Option.{slice_get-map, slice_get_within}
+use Rattle.rx_terms.proofs.Common.{◌≡◌, ℕ, Bool, true, false, List, [], ◌∷◌, length, slice_get, Some, option_map, map, suc, refl, sym, ap, ap₂, ◌∙◌, rules, nat_eq, bytes_eq, arith, true≢false, list_any, slice_get_within, Chars, same_truth, untrue, and_from}
+use Rattle.std.proofs.Common.{not}
+use Rattle.std.proofs.lemmas.Option.{slice_get-map}
 use Rattle.rx_unique.specs.Unique.{insert_key}
-use Rattle.rx_terms.specs.Text.{Chars}
-use Rattle.rx_model.specs.Sets.{IsExact, contains, with_one}
-use Rattle.rx_model.specs.Terms.{Triple, same_triple}
-use Rattle.rx_model.specs.Seen.{triple_seen}
-use Rattle.rx_model.proofs.Sets.{and_left, and_right}
-use Rattle.rx_model.proofs.Exact.{exact_numbers, exact_texts, exact_triples}
+use Rattle.rx_model.proofs.Common.{IsExact, contains, with_one, Triple, same_triple, triple_seen, and_left, and_right, exact_numbers, exact_texts, exact_triples}
 use Rattle.rx_model.proofs.Seen.{triple_tells}
-use Rattle.rx_terms.proofs.Bools.{same_truth, untrue}
 use Rattle.rx_graph.proofs.SetLemmas.{any_seen, insert_seen}
 use Rattle.rx_many.specs.declared.statements.Statement.{Statement}
 use Rattle.rx_many.specs.contracts.statements.StatementPartialEq.TheImpl as statement_impl
 use Rattle.rx_many.specs.Lines.{Line, PageBlank, comment, statement, same_blank, same_line}
 use Rattle.rx_many.specs.Seen.{statement_seen}
 use Rattle.rx_many.specs.Standing.{IsAdded}
-use Rattle.std.proofs.lemmas.Bool.{and_from}
 
 -- ---- blank nodes of pages
 

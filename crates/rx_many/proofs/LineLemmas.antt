@@ -1,16 +1,10 @@
 -- A document that grows by one line.
-use Rattle.std.proofs.Common.{◌≡◌, ℕ, suc, zero, ◌+◌, Bool, true, false, ◌||◌, List, [], ◌∷◌, ◌++◌, map, flat_map, take, length, slice_get, Some, refl, sym, ap, ap₂, ◌∙◌, inl, inr, subst, if◌then◌else◌, append_assoc, append-nil, arith}
+use Rattle.rx_terms.proofs.Common.{◌≡◌, ℕ, suc, zero, ◌+◌, Bool, true, false, List, [], ◌∷◌, ◌++◌, map, flat_map, take, length, slice_get, Some, refl, sym, ap, ap₂, ◌∙◌, inl, inr, subst, append_assoc, append-nil, arith, encodes-append, map-append, Chars, or-true, or-false}
+use Rattle.std.proofs.Common.{◌||◌, if◌then◌else◌}
 use Rattle.std.specs.Str.{encode_utf8_all}
-use Rattle.std.proofs.lemmas.Str.{encodes-append}
-use Rattle.std.proofs.lemmas.List.{map-append}
-use Rattle.rx_terms.specs.Text.{Chars}
 use Rattle.rx_terms.specs.declared.triples.Triple.{Triple as CodeTriple}
 use Rattle.rx_grammar.specs.declared.faults.Fault.{Fault}
-use Rattle.rx_model.specs.Sets.{Among, contains, distinct, with_one, with_all}
-use Rattle.rx_model.specs.Terms.{Triple}
-use Rattle.rx_model.specs.Numbered.{place_in}
-use Rattle.rx_model.specs.Seen.{triple_seen, triples_seen}
-use Rattle.rx_model.proofs.Sets.{Among_cases, Among_left, Among_right, false_unless}
+use Rattle.rx_model.proofs.Common.{Among, contains, distinct, with_one, with_all, Triple, place_in, triple_seen, triples_seen, Among_cases, Among_left, Among_right, false_unless}
 use Rattle.rx_graph.proofs.SetLemmas.{seen_more}
 use Rattle.rx_graph.proofs.Growing.{all_distinct, place_stays}
 use Rattle.rx_graph.proofs.NumberLemmas.{same_triple_by}
@@ -23,7 +17,6 @@ use Rattle.rx_many.specs.Writing.{line_text, text_of}
 use Rattle.rx_many.specs.declared.documents.Document.{Document}
 use Rattle.rx_many.specs.declared.pages.Page.{Page as CodePage}
 use Rattle.rx_many.proofs.KeyLemmas.{exact_blanks, alike}
-use Rattle.std.proofs.Math.Bool.{or-true, or-false}
 
 -- ---- tests of lists
 

@@ -1,18 +1,12 @@
 -- Names that several pages have.
-use Rattle.std.proofs.Common.{◌≡◌, ◌⊎◌, ℕ, ◌+◌, ◌<◌, ◌≤◌, Bool, true, false, not, ◌||◌, List, [], ◌∷◌, ◌++◌, map, take, length, slice_get, Some, refl, sym, ap, ◌∙◌, inl, inr, subst, true≢false, arith, rules, ⊎_elim, if◌then◌else◌}
-use Rattle.std.specs.List.{list_any}
-use Rattle.std.proofs.lemmas.Bool.{cases_lt}
-use Rattle.std.proofs.lemmas.List.{map-append}
-use Rattle.std.proofs.lemmas.Option.{slice_get_within}
-use Rattle.rx_terms.specs.Text.{Chars}
+use Rattle.rx_terms.proofs.Common.{◌≡◌, ◌⊎◌, ℕ, ◌+◌, ◌<◌, ◌≤◌, Bool, true, false, List, [], ◌∷◌, ◌++◌, map, take, length, slice_get, Some, refl, sym, ap, ◌∙◌, inl, inr, subst, true≢false, arith, rules, ⊎_elim, list_any, cases_lt, map-append, slice_get_within, Chars, or-true}
+use Rattle.std.proofs.Common.{not, ◌||◌, if◌then◌else◌}
 use Rattle.rx_terms.specs.contracts.iris.IriPartialEq.TheImpl as iri_impl
 use Rattle.rx_unique.specs.Unique.{insert_key}
-use Rattle.rx_model.specs.Sets.{Among, IsExact}
-use Rattle.rx_model.proofs.Sets.{or_cases, Among_cases, Among_left, Among_right}
+use Rattle.rx_model.proofs.Common.{Among, IsExact, or_cases, Among_cases, Among_left, Among_right}
 use Rattle.rx_graph.proofs.SetLemmas.{one_more}
 use Rattle.rx_many.specs.Names.{name_of, Notes, AreApart}
 use Rattle.rx_many.specs.declared.pages.Page.{Page}
-use Rattle.std.proofs.Math.Bool.{or-true}
 
 -- ---- keys and the list of them
 

@@ -1,8 +1,7 @@
 -- The first fault of many visits.
 use Rattle.std.specs.Prelude.{◌≡◌, ℕ, zero, suc, ◌+◌, ◌<◌, List, [], ◌∷◌, length, slice_get, Option, Some, None}
-use Rattle.std.specs.Option.{option_or, option_map}
-use Rattle.std.proofs.Common.{refl, sym, ap, ◌∙◌}
-use Rattle.std.proofs.lemmas.Option.{none-some}
+use Rattle.rx_terms.proofs.Common.{option_or, refl, sym, ap, ◌∙◌, none-some}
+use Rattle.std.specs.Option.{option_map}
 use native.Mathlib.Omega.{arith}
 use Rattle.rx_grammar.specs.declared.faults.Kind.{Kind}
 use Rattle.rx_microdata.specs.Visits.{Visit, Bounds, fault_of, first_fault}

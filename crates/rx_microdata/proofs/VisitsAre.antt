@@ -1,7 +1,6 @@
 -- The list of visits has those of the relation.
-use Rattle.std.specs.Prelude.{◌≡◌, ℕ, zero, suc, ◌+◌, ◌-◌, ◌≤◌, ⊤, Bool, true, false, List, [], ◌∷◌, filter, flat_map, length, Contains}
-use Rattle.std.proofs.Common.{refl, sym, subst}
-use Rattle.std.proofs.lemmas.List.Elements.{Contains-append_left, Contains-append_right, Contains-append_cases}
+use Rattle.rx_terms.proofs.Common.{⊤, refl, sym, subst, Contains-append_left, Contains-append_right, Contains-append_cases}
+use Rattle.std.specs.Prelude.{◌≡◌, ℕ, zero, suc, ◌+◌, ◌-◌, ◌≤◌, Bool, true, false, List, [], ◌∷◌, filter, flat_map, length, Contains}
 use mathlib.Core.Logic.{inl, inr}
 use native.Mathlib.Omega.{arith}
 use Rattle.rx_microdata.specs.Elements.{Placed, is_top_level}

@@ -1,14 +1,10 @@
 -- Where no visit is faulty the JSON is whole.
-use Rattle.std.specs.Prelude.{◌≡◌, ℕ, zero, suc, ◌+◌, nat_lt, nat_le, Bool, true, false, not, ◌&&◌, ◌==◌, cond, codes, List, [], ◌∷◌, ◌++◌, map, filter, flat_map, length, Contains, Option, Some, None}
-use Rattle.std.specs.Option.{option_or, option_map}
-use Rattle.std.specs.List.{list_any}
-use Rattle.std.proofs.Common.{refl, sym, ap, subst, ◌∙◌}
-use Rattle.std.proofs.lemmas.Bool.{lt-ltb}
-use Rattle.std.proofs.lemmas.Option.{none-some}
+use Rattle.rx_terms.proofs.Common.{nat_le, not, ◌&&◌, ◌==◌, option_or, list_any, refl, sym, ap, subst, ◌∙◌, lt-ltb, none-some, Chars}
+use Rattle.std.specs.Prelude.{◌≡◌, ℕ, zero, suc, ◌+◌, nat_lt, Bool, true, false, cond, codes, List, [], ◌∷◌, ◌++◌, map, filter, flat_map, length, Contains, Option, Some, None}
+use Rattle.std.specs.Option.{option_map}
 use mathlib.Core.Logic.{inl, inr}
 use native.Mathlib.Omega.{arith}
 use Rattle.serde_json.specs.Data.{Data, object, member, array, no_members}
-use Rattle.rx_terms.specs.Text.{Chars}
 use Rattle.rx_grammar.specs.declared.faults.Kind.{Kind}
 use Rattle.rx_grammar.specs.declared.faults.Kind.TheVariants.{Cycle, ItemsTooNested, ItemsTooMany}
 use Rattle.rx_microdata.specs.Elements.{Placed, is_item, names_of, is_top_level}

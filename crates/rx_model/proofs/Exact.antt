@@ -1,11 +1,9 @@
 -- The tests of equality are exact.
-use Rattle.std.proofs.Common.{◌≡◌, Bool, ◌&&◌, nat_eq, refl, ap, ap₂, bytes_eq}
-use Rattle.std.specs.Cmp.Lexicographic.{bytes_decides}
+use Rattle.rx_terms.proofs.Common.{◌≡◌, Bool, nat_eq, refl, ap, ap₂, bytes_eq, bytes_decides, Decides-eqb, and_from}
+use Rattle.std.proofs.Common.{◌&&◌}
 use Rattle.rx_model.specs.Sets.{IsExact}
-use Rattle.std.proofs.lemmas.Bool.Decides.{Decides-eqb}
 use Rattle.rx_model.specs.Terms.{Plain, Tagged, Typed, Iri, Blank, Resource, Literal, Triple, same_kind, same_node, same_term, same_triple}
 use Rattle.rx_model.proofs.Sets.{and_left, and_right}
-use Rattle.std.proofs.lemmas.Bool.{and_from}
 
 pub exact_texts : IsExact bytes_eq
 exact_texts a b = ((bytes_decides a b).0, (bytes_decides a b).1)

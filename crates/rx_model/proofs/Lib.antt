@@ -7,3 +7,4 @@ pub mod Renaming
 pub mod Names
 pub mod Seen
 pub mod Renamings
+pub mod Common

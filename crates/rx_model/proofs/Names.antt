@@ -1,7 +1,5 @@
 -- The law of names.
-use Rattle.std.proofs.Common.{◌≡◌, ◌⊎◌, ℕ, Bool, true, false, cond, nat_eq, List, [], ◌∷◌, ◌++◌, map, refl, sym, ap, ap₂, ◌∙◌, inl, inr, true≢false}
-use Rattle.std.proofs.lemmas.Bool.Decides.{Decides-eqb}
-use Rattle.rx_terms.proofs.Bools.{same_truth}
+use Rattle.rx_terms.proofs.Common.{◌≡◌, ◌⊎◌, ℕ, Bool, true, false, cond, nat_eq, List, [], ◌∷◌, ◌++◌, map, refl, sym, ap, ap₂, ◌∙◌, inl, inr, true≢false, Decides-eqb, same_truth}
 use Rattle.rx_model.specs.Sets.{Among, IsExact, contains}
 use Rattle.rx_model.specs.Terms.{Node, Iri, Blank, Term, Resource, Literal, Triple}
 use Rattle.rx_model.specs.Numbered.{rename_node, rename_term, rename, blank_of_node, blank_of_term, blanks, numbered}

@@ -1,23 +1,18 @@
 -- Marks of names.
-use Rattle.std.proofs.Common.{◌≡◌, ◌∙◌, ℕ, ◌/◌, ◌==◌, ◌||◌, true, false, Bool, List, [], ◌∷◌, ◌++◌, map, filter, Option, Some, None, MatchOption, Bor, is_some, take, drop, length, get_or, codes, ◌+◌, ◌<◌, bit_and, bit_or, bytes_eq, cond, sym, ap, subst, refl, arith}
+use Rattle.rx_terms.proofs.Common.{◌≡◌, ◌∙◌, ℕ, ◌/◌, true, false, Bool, List, [], ◌∷◌, ◌++◌, map, filter, Option, Some, None, MatchOption, Bor, take, drop, length, get_or, codes, ◌+◌, ◌<◌, bytes_eq, cond, sym, ap, subst, refl, arith, option_or, chars, IsUtf8, nat_tests, take_more, encodes-chars, Chars, trimmed, lowered, begins_with, or_parts}
+use Rattle.std.proofs.Common.{◌==◌, ◌||◌, is_some, bit_and, bit_or}
 use Rattle.std.specs.List.{flat_map}
-use Rattle.std.specs.Option.{option_or}
-use Rattle.std.specs.Str.{chars, IsUtf8}
-use Rattle.std.proofs.lemmas.Bool.Decides.{nat_tests}
 use Rattle.std.proofs.lemmas.Grind.{flat_map-append}
-use Rattle.std.proofs.lemmas.List.{take_more, append-nil}
+use Rattle.std.proofs.lemmas.List.{append-nil}
 use Rattle.std.proofs.lemmas.Nat.{and_or_self, or_shr}
 use Rattle.std.proofs.lemmas.Slice.Eq.{bytes_eq-Decides}
-use Rattle.std.proofs.lemmas.Str.{encodes-chars}
 use Rattle.std.proofs.Math.Arith.{bin_ind}
 use Rattle.std.specs.Int.Bits.{and_zero_r, and_step, or_step}
-use Rattle.rx_terms.specs.Text.{Chars, trimmed, lowered, begins_with}
 use Rattle.rx_rdfa.specs.Tree.{Tag, attribute, value_of_first}
 use Rattle.rx_rdfa.specs.Names.{Table, counts, xmlns_of, of_prefix}
 use Rattle.rx_names.specs.Marks.{mark_of, name_mark, has_mark, Marked}
 use Rattle.rx_names.specs.Rows.{prefix_row, vocabulary_rows, language_rows, rows_of}
 use Rattle.rx_names.proofs.DeclarationLemmas.{xmlns-chars}
-use Rattle.std.proofs.lemmas.Bool.{or_parts}
 
 -- bits that are set stay so where others are set
 stay_set : (mask word more : ℕ) → bit_and word mask ≡ mask → bit_and (bit_or word more) mask ≡ mask

@@ -1,12 +1,7 @@
 -- Attributes of the tag that is lent.
-use Rattle.std.proofs.Common.{◌≡◌, ◌∙◌, ap, sym, refl, Option, Some, None, MatchOption, List, [], ◌∷◌, ℕ, Bor, true, bytes_eq, cond}
-use Rattle.std.specs.List.{list_all}
-use Rattle.std.specs.Str.{chars}
-use Rattle.rx_terms.specs.Ascii.{is_ascii}
-use Rattle.rx_terms.specs.Text.{Chars, seen_slice}
-use Rattle.rx_terms.proofs.CharLemmas.{ascii-chars}
+use Rattle.rx_terms.proofs.Common.{◌≡◌, ◌∙◌, ap, sym, refl, Option, Some, None, MatchOption, List, [], ◌∷◌, ℕ, Bor, true, bytes_eq, cond, list_all, chars, is_ascii, Chars, seen_slice, ascii-chars}
 use Rattle.rx_rdfa.specs.Tree.{value_of_first}
-use Rattle.rx_grammar.specs.Tokens.{value_of}
+use Rattle.rx_grammar.proofs.Common.{value_of}
 
 same-attribute : (attributes : List (Chars × Chars)) (name : Chars) → value_of attributes name ≡ value_of_first attributes name
 same-attribute [] name = refl

@@ -1,10 +1,6 @@
 -- Terms of ASCII, by their bytes.
-use Rattle.std.proofs.Common.{◌≡◌, ◌∙◌, ℕ, true, ◌||◌, ◌==◌, List, [], ◌∷◌, ap, refl}
-use Rattle.std.specs.List.{list_all}
-use Rattle.std.specs.Str.{chars}
-use Rattle.std.proofs.lemmas.Bool.{and_parts, and_from}
-use Rattle.rx_terms.specs.Ascii.{is_ascii, solidus}
-use Rattle.rx_terms.proofs.CharLemmas.{ascii-chars}
+use Rattle.rx_terms.proofs.Common.{◌≡◌, ◌∙◌, ℕ, true, List, [], ◌∷◌, ap, refl, list_all, chars, and_parts, and_from, is_ascii, solidus, ascii-chars}
+use Rattle.std.proofs.Common.{◌||◌, ◌==◌}
 use Rattle.rx_chars.specs.NcName.{is_nc}
 use Rattle.rx_names.specs.Words.{is_term_byte}
 

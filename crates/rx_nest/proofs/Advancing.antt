@@ -1,12 +1,9 @@
 -- What is due and what is read are told in turn.
-use Rattle.std.proofs.Common.{◌≡◌, ◌∙◌, ℕ, zero, suc, Bool, true, false, List, [], ◌++◌, refl, sym, ap, subst, append_assoc, append-nil, Option, Some, None, Err, arith}
-use Rattle.std.proofs.lemmas.Bool.Decides.{nat_tests}
-use Rattle.std.specs.Prelude.{◌-◌, nat_lt, take, drop, if◌then◌else◌}
-use Rattle.rx_chars.specs.declared.syntax.Syntax.{Syntax}
+use Rattle.rx_terms.proofs.Common.{◌≡◌, ◌∙◌, ℕ, zero, suc, Bool, true, false, List, [], ◌++◌, refl, sym, ap, subst, append_assoc, append-nil, Option, Some, None, Err, arith, nat_tests, if◌then◌else◌}
+use Rattle.std.specs.Prelude.{◌-◌, nat_lt, take, drop}
+use Rattle.rx_grammar.proofs.Common.{Syntax, Item, StartTag}
 use Rattle.rx_grammar.specs.declared.faults.Fault.{Fault}
 use Rattle.rx_grammar.specs.declared.limits.Limits.{Limits}
-use Rattle.rx_grammar.specs.Items.{Item}
-use Rattle.rx_grammar.specs.Trees.{StartTag}
 use Rattle.rx_pages.specs.PageReader.{no_bytes, no_page, Scanning}
 use Rattle.rx_scan.specs.Scanner.{Scanner}
 use Rattle.rx_scan.specs.Steps as scan

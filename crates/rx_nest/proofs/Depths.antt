@@ -1,16 +1,8 @@
 -- Where something was told of a page the limit on depth has a level.
-use Rattle.std.proofs.Common.{◌≡◌, ◌∙◌, ℕ, ◌≤◌, Bool, true, false, List, [], ◌++◌, refl, sym, ap, append-nil, inl, inr, ◌⊎◌, ⊎_elim, None, Ok, arith}
-use Rattle.std.proofs.lemmas.Bool.Decides.{nat_tests}
-use Rattle.std.specs.Prelude.{◌&&◌, not, nat_le, if◌then◌else◌}
-use Rattle.rx_chars.specs.declared.syntax.Syntax.{Syntax}
+use Rattle.rx_terms.proofs.Common.{◌≡◌, ◌∙◌, ℕ, ◌≤◌, Bool, true, false, List, [], ◌++◌, refl, sym, ap, append-nil, inl, inr, ◌⊎◌, ⊎_elim, None, Ok, arith, nat_tests, ◌&&◌, not, nat_le, if◌then◌else◌}
+use Rattle.rx_grammar.proofs.Common.{Syntax, Tag, inside_of, Phase, before, within, first_row, tag_rows, start_rows, end_rows, has_ended, is_before, root_name, same, is_plaintext, is_self_closed}
 use Rattle.rx_grammar.specs.declared.faults.Kind.TheVariants.{Outside, RootNotHtml, Plaintext, SelfClosed, TooDeep}
 use Rattle.rx_grammar.specs.declared.limits.Limits.{Limits}
-use Rattle.rx_grammar.specs.Tokens.{Tag}
-use Rattle.rx_grammar.specs.Begun.{inside_of, Phase, before, within}
-use Rattle.rx_grammar.specs.PageFaults.{first_row, tag_rows, start_rows, end_rows, has_ended, is_before}
-use Rattle.rx_grammar.specs.Pages.{root_name}
-use Rattle.rx_grammar.specs.Names.{same}
-use Rattle.rx_grammar.specs.Contents.{is_plaintext, is_self_closed}
 use Rattle.rx_pages.specs.Nesting.{Event, Nesting}
 use Rattle.rx_pages.specs.PageReader.{Progress, page_read}
 use Rattle.rx_nest.proofs.Fronts.{first_and_last}

@@ -1,14 +1,10 @@
 -- The end of a page.
-use Rattle.std.proofs.Common.{◌≡◌, ◌≢◌, ◌∙◌, ℕ, Bool, true, false, List, [], ◌∷◌, ◌++◌, refl, sym, ap, subst, length, Some, None, Result, Ok, Err}
-use Rattle.std.specs.Prelude.{◌&&◌, map, take, if◌then◌else◌}
-use Rattle.std.specs.Str.{chars}
-use Rattle.rx_terms.specs.Text.{Chars}
-use Rattle.rx_chars.specs.declared.syntax.Syntax.{Syntax}
+use Rattle.rx_terms.proofs.Common.{◌≡◌, ◌≢◌, ◌∙◌, ℕ, Bool, true, false, List, [], ◌∷◌, ◌++◌, refl, sym, ap, subst, length, Some, None, Result, Ok, Err, ◌&&◌, if◌then◌else◌, chars, Chars}
+use Rattle.std.specs.Prelude.{map, take}
+use Rattle.rx_grammar.proofs.Common.{Syntax, Item, FaultAt}
 use Rattle.rx_grammar.specs.declared.faults.Fault.{Fault}
 use Rattle.rx_grammar.specs.declared.faults.Kind.TheVariants.{Unended}
 use Rattle.rx_grammar.specs.declared.limits.Limits.{Limits}
-use Rattle.rx_grammar.specs.Items.{Item}
-use Rattle.rx_grammar.specs.PageFaults.{FaultAt}
 use Rattle.rx_pages.specs.Nesting.{Event}
 use Rattle.rx_pages.specs.PageReader.{Progress, page_read, end_of, may_end, is_over, fault_in, Scanning}
 use Rattle.rx_pages.proofs.OnlyPages.{found_fault}

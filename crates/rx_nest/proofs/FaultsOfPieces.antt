@@ -1,8 +1,5 @@
 -- Where a fault lies that a piece of a page brings.
-use Rattle.std.proofs.Common.{◌≡◌, ◌∙◌, ℕ, ◌+◌, ◌≤◌, List, [], ◌++◌, length, sym, ap, subst, None, Ok, Err, arith, take, drop, append-nil}
-use Rattle.std.proofs.lemmas.Bool.Decides.{nat_tests}
-use Rattle.std.specs.Prelude.{nat_le}
-use Rattle.rx_terms.proofs.Bools.{by_test}
+use Rattle.rx_terms.proofs.Common.{◌≡◌, ◌∙◌, ℕ, ◌+◌, ◌≤◌, List, [], ◌++◌, length, sym, ap, subst, None, Ok, Err, arith, take, drop, append-nil, nat_tests, nat_le, by_test}
 use Rattle.rx_grammar.specs.declared.faults.Fault.{Fault}
 use Rattle.rx_pages.specs.PageReader.{Progress, page_read}
 use Rattle.rx_pages.proofs.FaultFronts.{faults_follow_fronts}

@@ -1,11 +1,8 @@
 -- The start tags that the grammar calls refused are those that the reader shows as refused.
-use Rattle.std.proofs.Common.{◌≡◌, ◌∙◌, ℕ, ◌+◌, ◌≤◌, ◌<◌, List, [], ◌∷◌, ◌++◌, length, take, drop, refl, sym, ap, ⊎_elim, Option, Some, None, Ok, arith}
-use Rattle.rx_terms.specs.Ascii.{less_than_sign}
+use Rattle.rx_terms.proofs.Common.{◌≡◌, ◌∙◌, ℕ, ◌+◌, ◌≤◌, ◌<◌, List, [], ◌∷◌, ◌++◌, length, take, drop, refl, sym, ap, ⊎_elim, Option, Some, None, Ok, arith, less_than_sign}
 use Rattle.rx_grammar.specs.declared.faults.Fault.{Fault}
 use Rattle.rx_grammar.specs.declared.limits.Limits.{Limits}
-use Rattle.rx_grammar.specs.Begun.{Line, Phase, Begun}
-use Rattle.rx_grammar.specs.Pages.{Page}
-use Rattle.rx_grammar.specs.Trees.{Tree}
+use Rattle.rx_grammar.proofs.Common.{Line, Phase, Begun, Page, Tree}
 use Rattle.rx_pages.specs.Closings.{closed, IsWide, ClosedTells}
 use Rattle.rx_pages.specs.Fronts.{ReadsTo}
 use Rattle.rx_pages.specs.PageReader.{Progress, page_read}

@@ -1,12 +1,7 @@
 -- Names are compared with words of ASCII as their bytes are.
-use Rattle.std.proofs.Common.{◌≡◌, ℕ, Bool, true, List, [], ◌∷◌, refl}
-use Rattle.std.specs.Str.{chars, IsUtf8}
-use Rattle.std.specs.List.{list_all}
-use Rattle.std.proofs.lemmas.Bool.{and_parts}
-use Rattle.rx_terms.specs.Ascii.{is_ascii}
-use Rattle.rx_terms.specs.Text.{Chars}
-use Rattle.rx_terms.proofs.CharLemmas.{same-ascii}
-use Rattle.rx_grammar.specs.Names.{is_among, row_among}
+use Rattle.rx_terms.proofs.Common.{◌≡◌, ℕ, Bool, true, List, [], ◌∷◌, refl, chars, IsUtf8, list_all, and_parts, is_ascii, Chars, same-ascii}
+use Rattle.rx_grammar.proofs.Common.{is_among}
+use Rattle.rx_grammar.specs.Names.{row_among}
 
 abbrev pub are_ascii : List Chars → Bool
 are_ascii names = list_all (list_all is_ascii) names

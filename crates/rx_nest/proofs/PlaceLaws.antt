@@ -1,11 +1,8 @@
 -- Where the faults lie that a piece of a page brings, and what stands before them.
-use Rattle.std.proofs.Common.{◌≡◌, ◌∙◌, ℕ, ◌+◌, ◌≤◌, ◌<◌, List, [], ◌∷◌, ◌++◌, length, take, drop, refl, sym, ap, subst, Option, Some, None, Result, Ok, arith}
-use Rattle.rx_terms.specs.Ascii.{less_than_sign}
-use Rattle.rx_chars.specs.declared.syntax.Syntax.{Syntax}
+use Rattle.rx_terms.proofs.Common.{◌≡◌, ◌∙◌, ℕ, ◌+◌, ◌≤◌, ◌<◌, List, [], ◌∷◌, ◌++◌, length, take, drop, refl, sym, ap, subst, Option, Some, None, Result, Ok, arith, less_than_sign}
+use Rattle.rx_grammar.proofs.Common.{Syntax, Line, Phase, Item, Tree, Page}
 use Rattle.rx_grammar.specs.declared.faults.Fault.{Fault}
 use Rattle.rx_grammar.specs.declared.limits.Limits.{Limits}
-use Rattle.rx_grammar.specs.Begun.{Line, Phase}
-use Rattle.rx_grammar.specs.Items.{Item}
 use Rattle.rx_pages.specs.Closings.{closed, IsWide, IsFront, Bare, AllEnd, ClosedTells}
 use Rattle.rx_pages.specs.Nesting.{Event, begins, says, finishes, Nesting, Goes, stands, goes}
 use Rattle.rx_pages.specs.PageReader.{Progress, page_read}
@@ -20,8 +17,6 @@ use Rattle.rx_nest.specs.Ways.{Way, IsRefusal}
 use Rattle.rx_nest.proofs.FaultPlacing.{take_length, read_front, page_shows}
 use Rattle.rx_nest.proofs.Refusing.{at_from, bare_accepted}
 use Rattle.rx_nest.proofs.TokenPlacing.{AllBegin, StepBegins, begin_append, item_such, refused_such, take_front, token_before, refused_fronts}
-use Rattle.rx_grammar.specs.Trees.{Tree}
-use Rattle.rx_grammar.specs.Pages.{Page}
 use Rattle.rx_nest.proofs.Pieces.{front_back}
 
 -- tags that are told end where their tokens do

@@ -1,25 +1,11 @@
 -- What is read of a piece without `<` and `&` between two tokens: text.
-use Rattle.std.proofs.Common.{◌≡◌, ◌∙◌, ℕ, zero, suc, ◌<◌, Bool, true, false, List, [], ◌∷◌, ◌++◌, map, take, drop, refl, sym, ap, ap₂, subst, Option, None, Some, Result, Ok, Err, eqb-true, lit<, append_assoc, append-nil}
-use Rattle.std.specs.Prelude.{◌&&◌, ◌||◌, ◌==◌, not, nat_le, if◌then◌else◌}
-use Rattle.std.proofs.lemmas.Bool.{and_from, or_parts}
-use Rattle.std.proofs.lemmas.List.{append_cancel_left, map-append}
-use Rattle.rx_terms.specs.Ascii.{less_than_sign, ampersand, greater_than_sign}
-use Rattle.rx_terms.specs.Text.{Chars}
-use Rattle.rx_chars.specs.declared.syntax.Syntax.{Syntax}
+use Rattle.rx_terms.proofs.Common.{◌≡◌, ◌∙◌, ℕ, zero, suc, ◌<◌, Bool, true, false, List, [], ◌∷◌, ◌++◌, map, take, drop, refl, sym, ap, ap₂, subst, Option, None, Some, Result, Ok, Err, eqb-true, lit<, append_assoc, append-nil, ◌&&◌, ◌||◌, ◌==◌, not, nat_le, if◌then◌else◌, and_from, or_parts, append_cancel_left, map-append, less_than_sign, ampersand, greater_than_sign, Chars, by_test, split, both, untrue}
+use Rattle.rx_grammar.proofs.Common.{Syntax, More, Char, Bad, answer_of, Entry, byte_order_mark, line_feed, carriage_return, as_line_end, Tag, Token, tag, character, reference, kept, section, comment, doctype, has_references, is_text, values, Item, is_literal, is_line_feed, Phase, before, StartTag}
 use Rattle.rx_chars.specs.declared.utf8.Utf8Step.{Utf8Step}
-use Rattle.rx_chars.specs.declared.utf8.Utf8Step.TheVariants.{More, Char, Bad}
-use Rattle.rx_chars.specs.Utf8.{answer_of}
-use Rattle.rx_chars.specs.Characters.{Entry, byte_order_mark, line_feed, carriage_return, as_line_end}
-use Rattle.rx_terms.proofs.Bools.{by_test, split, both, untrue}
 use Rattle.rx_grammar.specs.declared.contents.Content.{Content}
 use Rattle.rx_grammar.specs.declared.faults.Fault.{Fault}
 use Rattle.rx_grammar.specs.declared.faults.Kind.{Kind}
 use Rattle.rx_grammar.specs.declared.limits.Limits.{Limits}
-use Rattle.rx_grammar.specs.Tokens.{Tag, Token, tag, character, reference, kept, section, comment, doctype}
-use Rattle.rx_grammar.specs.Spelling.{has_references, is_text}
-use Rattle.rx_grammar.specs.Items.{values, Item, is_literal, is_line_feed}
-use Rattle.rx_grammar.specs.Begun.{Phase, before}
-use Rattle.rx_grammar.specs.Trees.{StartTag}
 use Rattle.rx_pages.specs.Scanner.{Verdict, goes_on, whole, ended, refused, verdict, at_first}
 use Rattle.rx_pages.specs.Nesting.{Event, begins, says, finishes, Nesting, Step, nest_step, step_by, text_step, told as told_text, doctype_step}
 use Rattle.rx_pages.specs.PageReader as reader

@@ -1,22 +1,15 @@
 -- What was taken of a piece, and what the elements made of it, is what the page's bytes lead to.
-use Rattle.std.proofs.Common.{◌≡◌, ◌≢◌, ◌∙◌, ⊎_elim, inl, inr, ℕ, ◌+◌, Bool, true, false, List, [], ◌∷◌, ◌++◌, refl, sym, ap, subst, length, append_assoc, append-nil, Some, Result, Ok, Err}
-use Rattle.std.specs.Prelude.{◌⊎◌, ◌&&◌, map, take, drop, codes, if◌then◌else◌}
-use Rattle.std.specs.Str.{chars}
-use Rattle.rx_terms.specs.Text.{Chars}
-use Rattle.rx_chars.specs.declared.syntax.Syntax.{Syntax}
-use Rattle.rx_chars.specs.declared.syntax.Syntax.TheVariants.{Html, Xhtml}
-use Rattle.rx_terms.proofs.Bools.{by_test}
+use Rattle.rx_terms.proofs.Common.{◌≡◌, ◌≢◌, ◌∙◌, ⊎_elim, inl, inr, ℕ, ◌+◌, Bool, true, false, List, [], ◌∷◌, ◌++◌, refl, sym, ap, subst, length, append_assoc, append-nil, Some, Result, Ok, Err, ◌&&◌, if◌then◌else◌, chars, Chars, by_test}
+use Rattle.std.specs.Prelude.{◌⊎◌, map, take, drop, codes}
+use Rattle.rx_grammar.proofs.Common.{Syntax, Html, Xhtml, same, is_among, name_of_raw, Place, inside_html, in_html, html_in_svg, Item, Line, inside_of}
 use Rattle.rx_grammar.specs.declared.contents.Content.{Content}
 use Rattle.rx_grammar.specs.declared.contents.Content.TheVariants as content
 use Rattle.rx_grammar.specs.declared.contents.RawName.{RawName}
 use Rattle.rx_grammar.specs.declared.faults.Fault.{Fault}
 use Rattle.rx_grammar.specs.declared.faults.Kind.{Kind}
 use Rattle.rx_grammar.specs.declared.limits.Limits.{Limits}
-use Rattle.rx_grammar.specs.Names.{same, is_among, name_of_raw}
 use Rattle.rx_grammar.specs.Tokens as tokens
-use Rattle.rx_grammar.specs.Contents.{Place, inside_at, inside_html, inside_foreign, in_html, raw_place, raw_names, rcdata_names, html_in_svg}
-use Rattle.rx_grammar.specs.Items.{Item}
-use Rattle.rx_grammar.specs.Begun.{Line, inside_of}
+use Rattle.rx_grammar.specs.Contents.{inside_at, inside_foreign, raw_place, raw_names, rcdata_names}
 use Rattle.rx_pages.specs.Nesting.{Event, Nesting, Step, content_at, nest_step}
 use Rattle.rx_pages.specs.PageReader.{Spot, spot_of, Scanning, scan_from, may_lead, Progress}
 use Rattle.rx_grammar.specs.declared.stops.Stop.{Stop}

@@ -1,9 +1,7 @@
 -- The rows are of ASCII, and so are the names that choose a content.
-use Rattle.std.proofs.Common.{◌≡◌, ℕ, true, List, refl}
+use Rattle.rx_terms.proofs.Common.{◌≡◌, ℕ, true, List, refl, chars, IsUtf8, same-ascii}
 use Rattle.std.specs.Prelude.{codes}
-use Rattle.std.specs.Str.{chars, IsUtf8}
-use Rattle.rx_terms.proofs.CharLemmas.{same-ascii}
-use Rattle.rx_grammar.specs.Contents.{inside_html}
+use Rattle.rx_grammar.proofs.Common.{inside_html}
 use Rattle.rx_nest.specs.Rows.{row_seen}
 use Rattle.rx_nest.specs.declared.tables.OmittedEnd.{OmittedEnd}
 use Rattle.rx_nest.specs.declared.tables.OmittedEnd.TheVariants.{Item}

@@ -1,6 +1,6 @@
 -- Where the tags stand that some bytes show.
-use Rattle.std.proofs.Common.{◌≡◌, ◌∙◌, ℕ, ◌+◌, ◌≤◌, ◌<◌, List, [], ◌∷◌, ◌++◌, suc, refl, sym, ap, subst, length, length-append, append_assoc, append-nil, Result, Ok, Err, arith}
-use Rattle.rx_chars.specs.declared.syntax.Syntax.{Syntax}
+use Rattle.rx_terms.proofs.Common.{◌≡◌, ◌∙◌, ℕ, ◌+◌, ◌≤◌, ◌<◌, List, [], ◌∷◌, ◌++◌, suc, refl, sym, ap, subst, length, length-append, append_assoc, append-nil, Result, Ok, Err, arith}
+use Rattle.rx_grammar.proofs.Common.{Syntax, StartTag}
 use Rattle.rx_grammar.specs.declared.faults.Fault.{Fault}
 use Rattle.rx_grammar.specs.declared.faults.Kind.{Kind}
 use Rattle.rx_grammar.specs.declared.limits.Limits.{Limits}
@@ -13,7 +13,6 @@ use Rattle.rx_nest.specs.Fronts.{Lie, ShowsMore}
 use Rattle.rx_pages.proofs.Sizes.{read_size}
 use Rattle.rx_nest.proofs.TextSteps.{sees_append}
 use Rattle.rx_nest.proofs.TokenPlacing.{After, AllBegin, AllBegun, StepBegins, TagAt, all_add, begin_append, begin_such, byte_tags, items_such}
-use Rattle.rx_grammar.specs.Trees.{StartTag}
 
 -- a tag that lies between these offsets
 pub record LiesIn (from to : ℕ) (t : StartTag) : Type 0 where

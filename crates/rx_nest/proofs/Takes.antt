@@ -1,18 +1,10 @@
 -- A tag is taken as the tables of nesting say.
-use Rattle.std.proofs.Common.{◌≡◌, ◌∙◌, ⊎_elim, ℕ, Bool, true, false, cond, List, [], ◌∷◌, ◌++◌, append_assoc, append-nil, refl, sym, ap, subst, length, nat_le, Option, Some, None, Result, Ok, Err}
-use Rattle.std.specs.Prelude.{◌&&◌, ◌||◌, not, drop, if◌then◌else◌}
-use Rattle.rx_terms.specs.Text.{Chars}
-use Rattle.rx_chars.specs.declared.syntax.Syntax.{Syntax}
-use Rattle.rx_terms.proofs.Bools.{by_test}
+use Rattle.rx_terms.proofs.Common.{◌≡◌, ◌∙◌, ⊎_elim, ℕ, Bool, true, false, cond, List, [], ◌∷◌, ◌++◌, append_assoc, append-nil, refl, sym, ap, subst, length, Option, Some, None, Result, Ok, Err, ◌&&◌, ◌||◌, not, if◌then◌else◌, Chars, by_test}
+use Rattle.std.proofs.Common.{nat_le}
+use Rattle.std.specs.Prelude.{drop}
+use Rattle.rx_grammar.proofs.Common.{Syntax, Tag, tag, Place, is_alone, hides, drops_line_feed, place_in, StartTag, Item, start_of, is_held, Line, inside_of, within, Rows, first_row, start_rows, end_rows, under_start, after_end, has_ended, is_before}
 use Rattle.rx_grammar.specs.declared.faults.Kind.{Kind}
 use Rattle.rx_grammar.specs.declared.faults.Kind.TheVariants.{TooDeep, NothingOpen, Mismatch}
-use Rattle.rx_grammar.specs.Tokens.{Tag, tag}
-use Rattle.rx_grammar.specs.Contents.{Place, is_alone, hides, drops_line_feed, place_in}
-use Rattle.rx_grammar.specs.Trees.{StartTag}
-use Rattle.rx_grammar.specs.Items.{Item, start_of}
-use Rattle.rx_grammar.specs.Omission.{is_held}
-use Rattle.rx_grammar.specs.Begun.{Line, inside_of, within}
-use Rattle.rx_grammar.specs.PageFaults.{Rows, first_row, start_rows, end_rows, under_start, after_end, has_ended, is_before}
 use Rattle.rx_pages.specs.Nesting.{Nesting, Event, begins, finishes, Step, nest_step, step_by, unless_refused, over, line_above, ended_under, ended_by_end, begun_under, tag_passes}
 use Rattle.rx_nest.specs.declared.lines.TagEffect.{TagEffect}
 use Rattle.rx_nest.specs.declared.lines.Refused.{Refused}

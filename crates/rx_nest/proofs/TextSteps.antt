@@ -1,20 +1,13 @@
 -- Tokens of text leave the elements as they are, and show their text.
-use Rattle.std.proofs.Common.{◌≡◌, ◌∙◌, Bool, true, false, List, [], ◌∷◌, ◌++◌, refl, sym, ap, append_assoc, append-nil, Option, Some, Ok}
-use Rattle.std.specs.Prelude.{◌&&◌, map, if◌then◌else◌}
-use Rattle.std.proofs.lemmas.List.{map-append}
-use Rattle.std.proofs.lemmas.Bool.{and_from}
-use Rattle.rx_terms.specs.Text.{Chars}
-use Rattle.rx_chars.specs.declared.syntax.Syntax.{Syntax}
+use Rattle.rx_terms.proofs.Common.{◌≡◌, ◌∙◌, Bool, true, false, List, [], ◌∷◌, ◌++◌, refl, sym, ap, append_assoc, append-nil, Option, Some, Ok, ◌&&◌, if◌then◌else◌, map-append, and_from, Chars, untrue}
+use Rattle.std.specs.Prelude.{map}
+use Rattle.rx_grammar.proofs.Common.{Syntax, Token, character, reference, kept, section, comment, Item, text_of, is_line_feed, Phase, within}
 use Rattle.rx_grammar.specs.declared.limits.Limits.{Limits}
-use Rattle.rx_grammar.specs.Tokens.{Token, character, reference, kept, section, comment}
-use Rattle.rx_grammar.specs.Items.{Item, text_of, is_line_feed}
-use Rattle.rx_grammar.specs.Begun.{Phase, within}
 use Rattle.rx_pages.specs.Nesting.{Nesting, Event, Step, going_on, told, text_step, step_by, nest_step}
 use Rattle.rx_pages.specs.PageReader.{Spot, spot_of, is_none_left, steps_on, no_step, with_events}
 use Rattle.rx_pages.proofs.ScanSteps.{Stays, one_step}
 use Rattle.rx_scan.specs.Steps.{joined, texts_of, keeps_first}
 use Rattle.rx_nest.specs.Signs.{Sign, said, Flags, is_hidden, Sight, see, sees}
-use Rattle.rx_terms.proofs.Bools.{untrue}
 
 pub sees_append : (sight : Sight) (a b : List Event) → sees sight (a ++ b) ≡ sees (sees sight a) b
 sees_append sight [] b = refl

@@ -1,28 +1,13 @@
 -- Before each start tag that is shown stands the front of a page.
-use Rattle.std.proofs.Common.{◌≡◌, ◌∙◌, ℕ, zero, suc, ◌+◌, ◌<◌, ◌≤◌, Bool, true, false, List, [], ◌∷◌, ◌++◌, map, refl, sym, ap, subst, length, length-append, append_assoc, append-nil, Option, Some, None, Result, Ok, Err, arith, take, inl, inr, ⊎_elim}
-use Rattle.std.specs.Prelude.{◌⊎◌, ◌&&◌, ◌||◌, ◌==◌, not, nat_le, if◌then◌else◌}
-use Rattle.rx_terms.specs.Ascii.{greater_than_sign, less_than_sign, ampersand}
-use Rattle.rx_terms.specs.Text.{Chars}
-use Rattle.rx_chars.specs.declared.syntax.Syntax.{Syntax}
+use Rattle.rx_terms.proofs.Common.{◌≡◌, ◌∙◌, ℕ, zero, suc, ◌+◌, ◌<◌, ◌≤◌, Bool, true, false, List, [], ◌∷◌, ◌++◌, map, refl, sym, ap, subst, length, length-append, append_assoc, append-nil, Option, Some, None, Result, Ok, Err, arith, take, inl, inr, ⊎_elim, ◌&&◌, ◌||◌, ◌==◌, not, nat_le, if◌then◌else◌, greater_than_sign, less_than_sign, ampersand, Chars, by_test, split}
+use Rattle.std.specs.Prelude.{◌⊎◌}
+use Rattle.rx_grammar.proofs.Common.{Syntax, More, Char, Bad, answer_of, Entry, byte_order_mark, line_feed, carriage_return, as_line_end, StartTag, Tag, Token, tag, character, reference, kept, section, comment, doctype, is_alone, is_html, has_references, is_text, start_of, values, Item, is_literal, is_line_feed, same, is_among, enders, is_omissible, is_held, Line, inside_of, parent_of, Phase, before, first_row, tag_rows, under_start}
 use Rattle.rx_chars.specs.declared.utf8.Utf8Step.{Utf8Step}
-use Rattle.rx_chars.specs.declared.utf8.Utf8Step.TheVariants.{More, Char, Bad}
-use Rattle.rx_chars.specs.Utf8.{answer_of}
-use Rattle.rx_chars.specs.Characters.{Entry, byte_order_mark, line_feed, carriage_return, as_line_end}
-use Rattle.rx_terms.proofs.Bools.{by_test, split}
 use Rattle.rx_grammar.specs.declared.contents.Content.{Content}
 use Rattle.rx_grammar.specs.declared.faults.Fault.{Fault}
 use Rattle.rx_grammar.specs.declared.faults.Kind.{Kind}
 use Rattle.rx_grammar.specs.declared.faults.Kind.TheVariants.{NotUtf8, PageTooLong, Unended}
 use Rattle.rx_grammar.specs.declared.limits.Limits.{Limits}
-use Rattle.rx_grammar.specs.Trees.{StartTag}
-use Rattle.rx_grammar.specs.Tokens.{Tag, Token, tag, character, reference, kept, section, comment, doctype}
-use Rattle.rx_grammar.specs.Contents.{is_alone, is_html}
-use Rattle.rx_grammar.specs.Spelling.{has_references, is_text}
-use Rattle.rx_grammar.specs.Items.{start_of, values, Item, is_literal, is_line_feed}
-use Rattle.rx_grammar.specs.Names.{same, is_among}
-use Rattle.rx_grammar.specs.Omission.{enders, is_omissible, is_held}
-use Rattle.rx_grammar.specs.Begun.{Line, inside_of, parent_of, Phase, before}
-use Rattle.rx_grammar.specs.PageFaults.{first_row, tag_rows, under_start}
 use Rattle.rx_pages.specs.Closings.{IsFront}
 use Rattle.rx_pages.specs.Scanner.{Verdict, goes_on, whole, ended, refused, verdict, at_first}
 use Rattle.rx_pages.specs.Nesting.{Event, begins, says, finishes, Nesting, Step, nest_step, step_by, unless_refused, tag_passes, begun_under, text_step, told as told_text, doctype_step, ended_by_start, ended_under, ended_by_end}

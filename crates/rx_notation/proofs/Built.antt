@@ -1,11 +1,6 @@
 -- The parts of the nested document are good ones.
-use Rattle.std.proofs.Common.{◌≡◌, ℕ, zero, suc, ◌<◌, ◌^◌, Bool, true, false, cond, List, [], ◌∷◌, bytes_eq, refl, sym, inl, inr, subst}
-use Rattle.rx_terms.specs.Text.{Chars}
-use Rattle.rx_terms.specs.Iri.{IsIri}
-use Rattle.rx_model.specs.Sets.{Among}
-use Rattle.rx_model.specs.Terms.{Kind, Plain, Tagged, Typed, Node, Iri, Blank, Term, Resource, Literal, Triple, set_of}
-use Rattle.rx_model.specs.Copied.{spo}
-use Rattle.rx_model.specs.Vocabulary.{rdf_type, rdf_first, rdf_rest, rdf_nil}
+use Rattle.rx_terms.proofs.Common.{◌≡◌, ℕ, zero, suc, ◌<◌, ◌^◌, Bool, true, false, cond, List, [], ◌∷◌, bytes_eq, refl, sym, inl, inr, subst, Chars, IsIri}
+use Rattle.rx_model.proofs.Common.{Among, Kind, Plain, Tagged, Typed, Node, Iri, Blank, Term, Resource, Literal, Triple, set_of, spo, rdf_type, rdf_first, rdf_rest, rdf_nil}
 use Rattle.rx_pieces.specs.Writable.{WritableKind, IsWritable}
 use Rattle.rx_shapes.specs.Shapes.{Inner, Cell, IsShape, HaveShapes}
 use Rattle.rx_shapes.specs.declared.shapes.Shape.{Shape}

@@ -1,8 +1,6 @@
 -- A cell of a list in the document: its item, and what comes after it.
-use Rattle.std.proofs.Common.{◌≡◌, ◌∙◌, ℕ, List, [], ◌∷◌, ◌++◌, refl, ap, ap₂, inl}
-use Rattle.rx_model.specs.Sets.{Among}
-use Rattle.rx_model.specs.Terms.{Iri, Blank, Term, Resource, Triple}
-use Rattle.rx_model.specs.Vocabulary.{rdf_first, rdf_rest, rdf_nil}
+use Rattle.rx_terms.proofs.Common.{◌≡◌, ◌∙◌, ℕ, List, [], ◌∷◌, ◌++◌, refl, ap, ap₂, inl}
+use Rattle.rx_model.proofs.Common.{Among, Iri, Blank, Term, Resource, Triple, rdf_first, rdf_rest, rdf_nil}
 use Rattle.rx_shapes.specs.Subjects.{objects_of}
 use Rattle.rx_shapes.proofs.CellLemmas.{CellOf, first_some, first_each, rest_some, rest_each}
 use Rattle.rx_notation.specs.Syntax.{Object, Items, Part, Last, Item}

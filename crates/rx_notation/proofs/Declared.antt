@@ -1,13 +1,7 @@
 -- The prefixes that a document declares are those of its short forms.
-use Rattle.std.proofs.Common.{◌≡◌, ◌∙◌, ◌&&◌, ℕ, Bool, true, false, cond, List, [], ◌∷◌, ◌++◌, filter, flat_map, codes, Option, Some, None, bytes_eq, refl, sym, ap, inl, inr, subst}
-use Rattle.std.proofs.lemmas.Bool.{and_from}
-use Rattle.rx_terms.specs.Text.{Chars}
-use Rattle.rx_terms.specs.Iri.{IsIri}
-use Rattle.rx_model.specs.Sets.{Among, contains}
-use Rattle.rx_model.specs.Terms.{Kind, Typed}
-use Rattle.rx_model.specs.Vocabulary.{rdf_type}
-use Rattle.rx_model.proofs.Sets.{Among_filter, Among_of_filter, Among-contains, Among_by_contains, Among_cases, Among_left, Among_right}
-use Rattle.rx_model.proofs.Exact.{exact_texts}
+use Rattle.rx_terms.proofs.Common.{◌≡◌, ◌∙◌, ℕ, Bool, true, false, cond, List, [], ◌∷◌, ◌++◌, filter, flat_map, codes, Option, Some, None, bytes_eq, refl, sym, ap, inl, inr, subst, and_from, Chars, IsIri}
+use Rattle.std.proofs.Common.{◌&&◌}
+use Rattle.rx_model.proofs.Common.{Among, contains, Kind, Typed, rdf_type, Among_filter, Among_of_filter, Among-contains, Among_by_contains, Among_cases, Among_left, Among_right, exact_texts}
 use Rattle.rx_nquads.specs.Quads.{kind_of, proper_kind}
 use Rattle.rx_notation.specs.Short.{Prefix, Prefixes, is_prefix_name, local_name, prefix_of}
 use Rattle.rx_notation.specs.Layout.{in_byte_order}

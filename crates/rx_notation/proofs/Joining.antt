@@ -1,6 +1,5 @@
 -- Texts of tokens, joined.
-use Rattle.std.proofs.Common.{◌≡◌, true, List, [], ◌∷◌, ◌++◌, refl, sym, ap, subst, append_assoc}
-use Rattle.rx_terms.specs.Text.{Chars}
+use Rattle.rx_terms.proofs.Common.{◌≡◌, true, List, [], ◌∷◌, ◌++◌, refl, sym, ap, subst, append_assoc, Chars}
 use Rattle.rx_notation.specs.Grammar.{Token}
 use Rattle.rx_notation.specs.Spelling.{SpellsToken, is_gap, SpellsBehind, SpellsTokens}
 

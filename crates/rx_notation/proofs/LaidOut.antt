@@ -1,10 +1,6 @@
 -- The document of the flat layout, and that the layout is its text.
-use Rattle.std.proofs.Common.{◌≡◌, ◌∙◌, ℕ, Bool, true, false, cond, List, [], ◌∷◌, ◌++◌, map, flat_map, codes, Option, Some, None, bytes_eq, refl, sym, ap, ap₂, inl, inr, append_assoc}
-use Rattle.std.proofs.lemmas.Bool.{and_from}
-use Rattle.rx_terms.specs.Text.{Chars}
-use Rattle.rx_model.specs.Sets.{Among}
-use Rattle.rx_model.specs.Terms.{Kind, Typed, Node, Iri, Blank, Term, Resource, Literal, Triple}
-use Rattle.rx_model.specs.Vocabulary.{rdf_type}
+use Rattle.rx_terms.proofs.Common.{◌≡◌, ◌∙◌, ℕ, Bool, true, false, cond, List, [], ◌∷◌, ◌++◌, map, flat_map, codes, Option, Some, None, bytes_eq, refl, sym, ap, ap₂, inl, inr, append_assoc, and_from, Chars}
+use Rattle.rx_model.proofs.Common.{Among, Kind, Typed, Node, Iri, Blank, Term, Resource, Literal, Triple, rdf_type}
 use Rattle.rx_pieces.specs.Writing.{string_text}
 use Rattle.rx_shapes.specs.Subjects.{subjects, objects_of, predicates_of}
 use Rattle.rx_shapes.proofs.Grouped.{subject_says, predicate_says}

@@ -1,12 +1,6 @@
 -- The layout denotes its triples.
-use Rattle.std.proofs.Common.{◌≡◌, ◌↔◌, ℕ, Bool, true, false, cond, List, [], ◌∷◌, ◌++◌, map, flat_map, None, bytes_eq, refl, sym, ap, ap₂, inl, inr, subst}
-use Rattle.rx_terms.specs.Text.{Chars}
-use Rattle.rx_terms.specs.Iri.{IsIri}
-use Rattle.rx_model.specs.Sets.{Among}
-use Rattle.rx_model.specs.Terms.{Kind, Plain, Tagged, Typed, Node, Iri, Blank, Term, Resource, Literal, Triple}
-use Rattle.rx_model.specs.Copied.{spo}
-use Rattle.rx_model.specs.Vocabulary.{rdf_type}
-use Rattle.rx_model.proofs.Sets.{Among_left, Among_right, Among_flat_map, Among_of_map}
+use Rattle.rx_terms.proofs.Common.{◌≡◌, ◌↔◌, ℕ, Bool, true, false, cond, List, [], ◌∷◌, ◌++◌, map, flat_map, None, bytes_eq, refl, sym, ap, ap₂, inl, inr, subst, Chars, IsIri}
+use Rattle.rx_model.proofs.Common.{Among, Kind, Plain, Tagged, Typed, Node, Iri, Blank, Term, Resource, Literal, Triple, spo, rdf_type, Among_left, Among_right, Among_flat_map, Among_of_map}
 use Rattle.rx_nquads.specs.Quads.{IsProper, proper_triple}
 use Rattle.rx_pieces.specs.Writable.{WritableNode, WritableKind, WritableTerm, IsWritable}
 use Rattle.rx_nquads.proofs.Proper.{proper_stays}

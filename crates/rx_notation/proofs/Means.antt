@@ -1,15 +1,9 @@
 -- What the nested parts of a document mean.
-use Rattle.std.proofs.Common.{◌≡◌, ◌∙◌, ◌⊎◌, ◌↔◌, ℕ, zero, suc, ◌+◌, Bool, true, false, cond, ◌&&◌, List, [], ◌∷◌, ◌++◌, flat_map, length, bytes_eq, refl, sym, ap, inl, inr, subst, arith, append-nil}
-use Rattle.std.proofs.lemmas.Bool.{and_parts}
+use Rattle.rx_terms.proofs.Common.{◌≡◌, ◌∙◌, ◌⊎◌, ◌↔◌, ℕ, zero, suc, ◌+◌, Bool, true, false, cond, List, [], ◌∷◌, ◌++◌, flat_map, length, bytes_eq, refl, sym, ap, inl, inr, subst, arith, append-nil, and_parts, Chars}
+use Rattle.std.proofs.Common.{◌&&◌}
 use Rattle.std.proofs.lemmas.List.{length-append}
-use Rattle.rx_terms.specs.Text.{Chars}
-use Rattle.rx_model.specs.Sets.{Among}
-use Rattle.rx_model.specs.Terms.{Kind, Node, Iri, Blank, Term, Resource, Literal, Triple}
-use Rattle.rx_model.specs.Copied.{spo}
-use Rattle.rx_model.proofs.Sets.{Among_left, Among_right, Among_cases}
-use Rattle.rx_model.proofs.Exact.{exact_texts}
+use Rattle.rx_model.proofs.Common.{Among, Kind, Node, Iri, Blank, Term, Resource, Literal, Triple, spo, Among_left, Among_right, Among_cases, exact_texts, rdf_first, rdf_rest, rdf_nil}
 use Rattle.rx_nquads.specs.Quads.{proper_term, proper_triple}
-use Rattle.rx_model.specs.Vocabulary.{rdf_first, rdf_rest, rdf_nil}
 use Rattle.rx_shapes.specs.declared.shapes.Shape.{Shape}
 use Rattle.rx_shapes.specs.declared.shapes.Shape.TheVariants as shape
 use Rattle.rx_notation.specs.Short.{Prefixes}

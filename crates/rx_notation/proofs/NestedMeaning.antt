@@ -1,12 +1,6 @@
 -- The nested text denotes its list.
-use Rattle.std.proofs.Common.{◌≡◌, ◌∙◌, ◌⊎◌, ◌↔◌, ◌<◌, ℕ, zero, suc, ◌+◌, nat_eq, true, List, [], ◌∷◌, map, filter, length, codes, refl, sym, ap, inl, inr, subst, true≢false, arith}
-use Rattle.rx_terms.specs.Text.{Chars}
-use Rattle.rx_model.specs.Sets.{Among}
-use Rattle.rx_model.specs.Terms.{Node, Iri, Blank, Term, Triple, same_node, same_triple, set_of}
-use Rattle.rx_model.specs.Copied.{spo}
-use Rattle.rx_model.specs.Numbered.{rename, Has}
-use Rattle.rx_model.proofs.Sets.{Among_filter, Among_of_filter, Among_map, Among_of_map}
-use Rattle.rx_model.proofs.Exact.{exact_numbers, exact_triples}
+use Rattle.rx_terms.proofs.Common.{◌≡◌, ◌∙◌, ◌⊎◌, ◌↔◌, ◌<◌, ℕ, zero, suc, ◌+◌, nat_eq, true, List, [], ◌∷◌, map, filter, length, codes, refl, sym, ap, inl, inr, subst, true≢false, arith, Chars}
+use Rattle.rx_model.proofs.Common.{Among, Node, Iri, Blank, Term, Triple, same_node, same_triple, set_of, spo, rename, Has, Among_filter, Among_of_filter, Among_map, Among_of_map, exact_numbers, exact_triples}
 use Rattle.rx_shapes.specs.Shapes.{Inner, IsShape, HaveShapes}
 use Rattle.rx_shapes.specs.declared.shapes.Shape.{Shape}
 use Rattle.rx_shapes.specs.declared.shapes.Shape.TheVariants as shape

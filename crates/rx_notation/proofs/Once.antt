@@ -1,13 +1,7 @@
 -- Each node that is written where it is used is written once.
-use Rattle.std.proofs.Common.{◌≡◌, ◌∙◌, ◌≤◌, ℕ, zero, suc, ◌+◌, nat_eq, Bool, true, false, bytes_eq, List, [], ◌∷◌, ◌++◌, map, filter, flat_map, length, refl, sym, ap, inl, inr, subst, true≢false, arith}
-use Rattle.rx_terms.specs.Text.{Chars}
-use Rattle.rx_model.specs.Sets.{Among}
-use Rattle.rx_model.specs.Terms.{Node, Iri, Blank, Term, Resource, Literal, Triple, same_node, set_of}
-use Rattle.rx_model.specs.Copied.{spo}
-use Rattle.rx_model.proofs.Sets.{Among_cases, Among_of_filter, Among_of_map}
-use Rattle.rx_model.proofs.Exact.{exact_numbers, exact_texts}
+use Rattle.rx_terms.proofs.Common.{◌≡◌, ◌∙◌, ◌≤◌, ℕ, zero, suc, ◌+◌, nat_eq, Bool, true, false, bytes_eq, List, [], ◌∷◌, ◌++◌, map, filter, flat_map, length, refl, sym, ap, inl, inr, subst, true≢false, arith, Chars}
+use Rattle.rx_model.proofs.Common.{Among, Node, Iri, Blank, Term, Resource, Literal, Triple, same_node, set_of, spo, Among_cases, Among_of_filter, Among_of_map, exact_numbers, exact_texts, rdf_first, rdf_rest}
 use Rattle.rx_shapes.specs.Shapes.{Parent, Ends, at_iri, at_top, onward, Inner, Cell, IsShape, HaveShapes}
-use Rattle.rx_model.specs.Vocabulary.{rdf_first, rdf_rest}
 use Rattle.rx_shapes.specs.declared.shapes.Shape.{Shape}
 use Rattle.rx_shapes.specs.declared.shapes.Shape.TheVariants as shape
 use Rattle.rx_shapes.specs.Subjects.{has_subject, has_predicate, about, predicates_of, objects_of}

@@ -1,8 +1,6 @@
 -- A text denotes at most one graph.
-use Rattle.std.proofs.Common.{ℕ, List, sym, subst}
-use Rattle.rx_model.specs.Sets.{Among}
-use Rattle.rx_model.specs.Terms.{Triple, set_of}
-use Rattle.rx_model.specs.Numbered.{Renamed}
+use Rattle.rx_terms.proofs.Common.{ℕ, List, sym, subst}
+use Rattle.rx_model.proofs.Common.{Among, Triple, set_of, Renamed}
 use Rattle.rx_notation.specs.Syntax.{Document}
 use Rattle.rx_notation.specs.Meaning.{all_triples, Name, Label, Place, DenotesOne, NestedDenotesOne}
 use Rattle.rx_notation.proofs.OneText.{spells_one}

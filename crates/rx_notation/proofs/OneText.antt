@@ -1,11 +1,8 @@
 -- A text spells at most one document.
-use Rattle.std.proofs.Common.{◌≡◌, ◌∙◌, ℕ, ◌<◌, Bool, true, false, not, ◌==◌, ◌||◌, List, [], ◌∷◌, ◌++◌, codes, refl, sym, ap, ap₂, true≢false, arith, append_assoc, bytes_eq, if◌then◌else◌}
-use Rattle.std.specs.List.{list_all, list_any}
-use Rattle.std.proofs.lemmas.Bool.{and_parts, and_from}
-use Rattle.std.proofs.lemmas.Bool.Decides.{nat_tests}
-use Rattle.rx_terms.specs.Ascii.{is_letter, is_letter_or_digit, low_line, hyphen, colon, line_feed, space, quotation_mark, less_than_sign, commercial_at, circumflex_accent}
-use Rattle.rx_terms.specs.Text.{Chars}
-use Rattle.rx_model.proofs.Sets.{or_left, or_right}
+use Rattle.rx_terms.proofs.Common.{◌≡◌, ◌∙◌, ℕ, ◌<◌, Bool, true, false, List, [], ◌∷◌, ◌++◌, codes, refl, sym, ap, ap₂, true≢false, arith, append_assoc, bytes_eq, list_all, list_any, and_parts, and_from, nat_tests, is_letter, is_letter_or_digit, colon, line_feed, quotation_mark, less_than_sign, Chars}
+use Rattle.std.proofs.Common.{not, ◌==◌, ◌||◌, if◌then◌else◌}
+use Rattle.rx_terms.specs.Ascii.{low_line, hyphen, space, commercial_at, circumflex_accent}
+use Rattle.rx_model.proofs.Common.{or_left, or_right}
 use Rattle.rx_nquads.specs.Spelling.{tagged}
 use Rattle.rx_nquads.proofs.Cuts.{lacks, differs, cut, lacks_append, lacks_where}
 use Rattle.rx_nquads.proofs.OneMeaning.{space_marks, line_feed_marks, iri_lacks, label_lacks, kind_lacks, one_iri, one_label, one_string}

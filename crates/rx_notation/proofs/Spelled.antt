@@ -1,10 +1,7 @@
 -- The text of a document spells it.
-use Rattle.std.proofs.Common.{◌≡◌, ℕ, ◌<◌, ◌^◌, true, List, [], ◌∷◌, ◌++◌, flat_map, codes, refl, sym, ap, inl, inr, subst, append_assoc, ◌∙◌}
-use Rattle.rx_terms.specs.Ascii.{line_feed, quotation_mark}
-use Rattle.rx_terms.specs.Text.{Chars}
-use Rattle.rx_terms.specs.Iri.{IsIri}
+use Rattle.rx_terms.proofs.Common.{◌≡◌, ℕ, ◌<◌, ◌^◌, true, List, [], ◌∷◌, ◌++◌, flat_map, codes, refl, sym, ap, inl, inr, subst, append_assoc, ◌∙◌, line_feed, quotation_mark, Chars, IsIri}
 use Rattle.rx_terms.specs.Lang.{is_lang}
-use Rattle.rx_model.specs.Sets.{Among}
+use Rattle.rx_model.proofs.Common.{Among}
 use Rattle.rx_pieces.specs.Writing.{escaped_text, string_text, iri_text}
 use Rattle.rx_nquads.proofs.Denoting.{label_spelled, string_spelled}
 use Rattle.rx_notation.specs.Short.{Prefix, Prefixes, is_prefix_name, is_local_name}

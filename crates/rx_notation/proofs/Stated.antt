@@ -1,12 +1,7 @@
 -- What statements mean whose objects are each written as it is meant.
-use Rattle.std.proofs.Common.{◌≡◌, ◌⊎◌, ◌↔◌, ℕ, ◌+◌, true, List, [], ◌∷◌, map, flat_map, length, refl, sym, ap, inl, inr, subst, arith}
-use Rattle.std.proofs.lemmas.Bool.{and_parts}
+use Rattle.rx_terms.proofs.Common.{◌≡◌, ◌⊎◌, ◌↔◌, ℕ, ◌+◌, true, List, [], ◌∷◌, map, flat_map, length, refl, sym, ap, inl, inr, subst, arith, and_parts, Chars}
 use Rattle.std.proofs.lemmas.List.{length-append}
-use Rattle.rx_terms.specs.Text.{Chars}
-use Rattle.rx_model.specs.Sets.{Among}
-use Rattle.rx_model.specs.Terms.{Node, Iri, Blank, Term, Triple}
-use Rattle.rx_model.specs.Copied.{spo}
-use Rattle.rx_model.proofs.Sets.{Among_map, Among_of_map}
+use Rattle.rx_model.proofs.Common.{Among, Node, Iri, Blank, Term, Triple, spo, Among_map, Among_of_map}
 use Rattle.rx_nquads.specs.Quads.{proper_triple}
 use Rattle.rx_notation.specs.Short.{Prefixes}
 use Rattle.rx_shapes.specs.Subjects.{subjects, predicates_of, objects_of}

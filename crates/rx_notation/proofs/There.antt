@@ -1,12 +1,7 @@
 -- Each inner node of a list is written in its document.
-use Rattle.std.proofs.Common.{◌≡◌, ◌∙◌, ◌⊎◌, ℕ, zero, suc, List, ◌∷◌, ◌++◌, length, refl, sym, ap, inl, inr, subst}
-use Rattle.rx_terms.specs.Text.{Chars}
-use Rattle.rx_model.specs.Sets.{Among}
-use Rattle.rx_model.specs.Terms.{Node, Iri, Blank, Term, Resource, Triple, set_of}
-use Rattle.rx_model.specs.Copied.{spo}
-use Rattle.rx_model.proofs.Sets.{Among_left, Among_right, Among_flat_map}
+use Rattle.rx_terms.proofs.Common.{◌≡◌, ◌∙◌, ◌⊎◌, ℕ, zero, suc, List, ◌∷◌, ◌++◌, length, refl, sym, ap, inl, inr, subst, Chars}
+use Rattle.rx_model.proofs.Common.{Among, Node, Iri, Blank, Term, Resource, Triple, set_of, spo, Among_left, Among_right, Among_flat_map, rdf_first, rdf_rest}
 use Rattle.rx_shapes.specs.Shapes.{Parent, Ends, at_iri, at_top, onward, Inner, Cell, IsShape, HaveShapes}
-use Rattle.rx_model.specs.Vocabulary.{rdf_first, rdf_rest}
 use Rattle.rx_shapes.specs.declared.shapes.Shape.{Shape}
 use Rattle.rx_shapes.specs.declared.shapes.Shape.TheVariants as shape
 use Rattle.rx_shapes.specs.Subjects.{predicates_of, objects_of}

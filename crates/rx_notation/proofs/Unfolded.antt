@@ -1,12 +1,8 @@
 -- What a node is written as, without counting levels: a node in brackets by its own objects, a cell by its item and what
 -- comes behind.
-use Rattle.std.proofs.Common.{◌≡◌, ◌∙◌, ℕ, zero, suc, List, [], ◌∷◌, length, ◌<◌, ◌+◌, refl, sym, ap, ap₂, inl, inr, subst, arith}
-use Rattle.rx_terms.specs.Text.{Chars}
-use Rattle.rx_model.specs.Sets.{Among}
-use Rattle.rx_model.specs.Terms.{Iri, Blank, Term, Resource, Literal, Triple, set_of}
-use Rattle.rx_model.specs.Copied.{spo}
+use Rattle.rx_terms.proofs.Common.{◌≡◌, ◌∙◌, ℕ, zero, suc, List, [], ◌∷◌, length, ◌<◌, ◌+◌, refl, sym, ap, ap₂, inl, inr, subst, arith, Chars}
+use Rattle.rx_model.proofs.Common.{Among, Iri, Blank, Term, Resource, Literal, Triple, set_of, spo, rdf_first, rdf_rest}
 use Rattle.rx_shapes.specs.Shapes.{Inner, Cell, IsShape, HaveShapes}
-use Rattle.rx_model.specs.Vocabulary.{rdf_first, rdf_rest}
 use Rattle.rx_shapes.specs.declared.shapes.Shape.{Shape}
 use Rattle.rx_shapes.specs.declared.shapes.Shape.TheVariants as shape
 use Rattle.rx_notation.specs.Short.{Prefixes}

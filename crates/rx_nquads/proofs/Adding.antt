@@ -1,8 +1,6 @@
 -- Characters of a line, one part after another.
-use Rattle.std.proofs.Common.{◌≡◌, ◌∙◌, ℕ, ◌++◌, sym, ap, refl, append_assoc, codes, Option}
-use Rattle.std.specs.Str.{chars}
-use Rattle.rx_terms.specs.Text.{Chars}
-use Rattle.rx_model.specs.Terms.{Triple}
+use Rattle.rx_terms.proofs.Common.{◌≡◌, ◌∙◌, ℕ, ◌++◌, sym, ap, refl, append_assoc, codes, Option, chars, Chars}
+use Rattle.rx_model.proofs.Common.{Triple}
 use Rattle.rx_pieces.specs.Writing.{iri_text}
 use Rattle.rx_pieces.specs.Underway.{Delivery}
 use Rattle.rx_pieces.specs.Writable.{Adds}

@@ -1,9 +1,6 @@
 -- A list cut at the first mark, and characters that a spelling has not.
-use Rattle.std.proofs.Common.{◌≡◌, ℕ, Bool, true, false, not, ◌==◌, ◌&&◌, ◌||◌, List, [], ◌∷◌, ◌++◌, refl, sym, ap, ◌∙◌, true≢false, arith}
-use Rattle.std.specs.List.{list_all, list_any}
-use Rattle.std.proofs.lemmas.List.Folds.{list_all-append}
-use Rattle.std.proofs.lemmas.Bool.{and_parts, and_from}
-use Rattle.std.proofs.lemmas.Bool.Decides.{nat_tests}
+use Rattle.rx_terms.proofs.Common.{◌≡◌, ℕ, Bool, true, false, List, [], ◌∷◌, ◌++◌, refl, sym, ap, ◌∙◌, true≢false, arith, list_all, list_any, list_all-append, and_parts, and_from, nat_tests}
+use Rattle.std.proofs.Common.{not, ◌==◌, ◌&&◌, ◌||◌}
 
 abbrev pub differs : ℕ → ℕ → Bool
 differs mark c = not (c == mark)

@@ -1,20 +1,13 @@
 -- What the text of a graph denotes.
-use Rattle.std.proofs.Common.{◌≡◌, ◌⊎◌, ℕ, ◌+◌, ◌<◌, ◌≤◌, ◌^◌, Bool, true, false, not, ◌==◌, List, [], ◌∷◌, ◌++◌, map, length, take, slice_get, get_or, codes, Option, Some, None, refl, sym, ap, ap₂, ◌∙◌, inl, inr, subst, arith, append_assoc, append-nil, take-append-drop, drop}
-use Rattle.std.specs.Str.{chars, encode_utf8_all}
+use Rattle.rx_terms.proofs.Common.{◌≡◌, ◌⊎◌, ℕ, ◌+◌, ◌<◌, ◌≤◌, ◌^◌, Bool, true, false, List, [], ◌∷◌, ◌++◌, map, length, take, slice_get, get_or, codes, Option, Some, None, refl, sym, ap, ap₂, ◌∙◌, inl, inr, subst, arith, append_assoc, append-nil, drop, chars, and_from, nat_tests, chars-encodes, take_all, map-append, line_feed, carriage_return, quotation_mark, reverse_solidus, Chars}
+use Rattle.std.proofs.Common.{not, ◌==◌, take-append-drop}
+use Rattle.std.specs.Str.{encode_utf8_all}
 use Rattle.std.specs.Fmt.{decimal}
 use Rattle.std.specs.Option.{option_map}
-use Rattle.std.proofs.lemmas.Bool.{and_from}
-use Rattle.std.proofs.lemmas.Bool.Decides.{nat_tests}
 use Rattle.std.proofs.lemmas.Fmt.{decimal_is_IsNumeral, decimal_digit, first_decimal}
-use Rattle.std.proofs.lemmas.Str.{chars-encodes}
-use Rattle.std.proofs.lemmas.List.{take_all, map-append}
-use Rattle.rx_terms.specs.Ascii.{line_feed, carriage_return, space, quotation_mark, reverse_solidus, full_stop}
-use Rattle.rx_terms.specs.Text.{Chars}
+use Rattle.rx_terms.specs.Ascii.{space, full_stop}
 use Rattle.rx_terms.specs.declared.triples.Triple.{Triple as CodeTriple}
-use Rattle.rx_model.specs.Sets.{Among}
-use Rattle.rx_model.specs.Seen.{triple_seen, triples_seen}
-use Rattle.rx_model.specs.Terms.{Kind, Plain, Tagged, Typed, Node, Iri, Blank, Term, Resource, Literal, Triple}
-use Rattle.rx_model.proofs.Sets.{Among_map, Among_of_map, Among_cases}
+use Rattle.rx_model.proofs.Common.{Among, triple_seen, triples_seen, Kind, Plain, Tagged, Typed, Node, Iri, Blank, Term, Resource, Literal, Triple, Among_map, Among_of_map, Among_cases}
 use Rattle.rx_graph.proofs.SetLemmas.{seen_more}
 use Rattle.rx_nquads.specs.Quads.{proper_kind, proper_term, quad_of, quads}
 use Rattle.rx_nquads.specs.Spelling.{SpellsIri, SpellsLabel, SpellsNode, has_leading_zero, escape, SpellsString, nothing, itself, escaped, SpellsKind, plain, tagged, typed, SpellsTerm}

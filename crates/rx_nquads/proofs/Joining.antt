@@ -1,10 +1,6 @@
 -- What a text denotes whose parts denote something: of one line, and of one text behind another.
-use Rattle.std.proofs.Common.{◌≡◌, ◌⊎◌, ℕ, true, List, [], ◌∷◌, ◌++◌, Option, refl, sym, ap, ◌∙◌, inl, inr, subst, append_assoc, append-nil, arith}
-use Rattle.rx_terms.specs.Ascii.{line_feed, number_sign}
-use Rattle.rx_terms.specs.Text.{Chars}
-use Rattle.rx_model.specs.Sets.{Among}
-use Rattle.rx_model.specs.Terms.{Triple}
-use Rattle.rx_model.proofs.Sets.{Among_cases, Among_left, Among_right}
+use Rattle.rx_terms.proofs.Common.{◌≡◌, ◌⊎◌, ℕ, true, List, [], ◌∷◌, ◌++◌, Option, refl, sym, ap, ◌∙◌, inl, inr, subst, append_assoc, append-nil, arith, line_feed, number_sign, Chars}
+use Rattle.rx_model.proofs.Common.{Among, Triple, Among_cases, Among_left, Among_right}
 use Rattle.rx_nquads.specs.Quads.{Quad, quad_of}
 use Rattle.rx_nquads.specs.Document.{States, SaysNothing, Nquads, joined_lines, has_no_line_feed}
 use Rattle.rx_nquads.specs.Writing.{line_text}

@@ -1,11 +1,9 @@
 -- The first fault of a page, of its form or of what its start tags mean.
-use Rattle.std.proofs.Common.{◌≡◌, ◌∙◌, ⊎_elim, inl, inr, ℕ, ◌≤◌, Bool, true, false, List, [], ◌∷◌, ◌++◌, length, refl, sym, ap, arith, Option, Some, None, Result, Ok, Err, length-append}
-use Rattle.std.specs.Prelude.{◌⊎◌, if◌then◌else◌}
+use Rattle.rx_terms.proofs.Common.{◌≡◌, ◌∙◌, ⊎_elim, inl, inr, ℕ, ◌≤◌, Bool, true, false, List, [], ◌∷◌, ◌++◌, length, refl, sym, ap, arith, Option, Some, None, Result, Ok, Err, length-append, if◌then◌else◌}
+use Rattle.std.specs.Prelude.{◌⊎◌}
 use Rattle.rx_grammar.specs.declared.faults.Fault.{Fault}
 use Rattle.rx_grammar.specs.declared.faults.Kind.TheVariants.{Unended}
-use Rattle.rx_grammar.specs.PageFaults.{FaultAt}
-use Rattle.rx_grammar.specs.Pages.{Page}
-use Rattle.rx_grammar.specs.Trees.{Tree}
+use Rattle.rx_grammar.proofs.Common.{FaultAt, Page, Tree}
 use Rattle.rx_pages.specs.PageReader.{Progress, page_read, end_of, may_end, fault_in}
 use Rattle.rx_pages.proofs.FaultsRead.{fault_is_read}
 use Rattle.rx_pages.proofs.OneOf.{not_both as not_both_at, one_fault}

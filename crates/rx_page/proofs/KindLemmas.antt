@@ -1,20 +1,15 @@
 -- Which kinds the faults of a page's form have, and which those of its start tags.
-use Rattle.std.proofs.Common.{◌≡◌, ◌∙◌, ℕ, Bool, true, false, List, [], ◌∷◌, refl, sym, ap, subst, Option, Some, None}
-use Rattle.std.specs.Prelude.{option_map, if◌then◌else◌}
-use Rattle.std.specs.Option.{option_or}
-use Rattle.rx_terms.specs.Text.{Chars}
-use Rattle.rx_chars.specs.declared.syntax.Syntax.{Syntax}
+use Rattle.rx_terms.proofs.Common.{◌≡◌, ◌∙◌, ℕ, Bool, true, false, List, [], ◌∷◌, refl, sym, ap, subst, Option, Some, None, if◌then◌else◌, option_or, Chars}
+use Rattle.std.specs.Prelude.{option_map}
+use Rattle.rx_grammar.proofs.Common.{Syntax, Line, Phase, Item, FaultAt, Faulty, Rows, first_row, start_rows, end_rows, RunFault, unknown, bad, no_reference, ValueFault, TagFault, Tag}
 use Rattle.rx_grammar.specs.declared.contents.Content.{Content}
 use Rattle.rx_grammar.specs.declared.faults.Fault.{Fault}
 use Rattle.rx_grammar.specs.declared.faults.Kind.{Kind}
 use Rattle.rx_grammar.specs.declared.limits.Limits.{Limits}
-use Rattle.rx_grammar.specs.Begun.{Line, Phase}
-use Rattle.rx_grammar.specs.Items.{Item}
-use Rattle.rx_grammar.specs.PageFaults.{FaultAt, page_too_long, not_utf8, nul, tag_too_long, known_too_long, decided, unended, Faulty, Rows, first_row, start_rows, end_rows}
+use Rattle.rx_grammar.specs.PageFaults.{page_too_long, not_utf8, nul, tag_too_long, known_too_long, decided, unended}
 use Rattle.rx_grammar.specs.PageFaults as faults
-use Rattle.rx_grammar.specs.TagFaults.{RunFault, unknown, bad, no_reference, ValueFault, TagFault, bad_tag, repeated}
+use Rattle.rx_grammar.specs.TagFaults.{bad_tag, repeated}
 use Rattle.rx_grammar.specs.TagFaults as tags
-use Rattle.rx_grammar.specs.Tokens.{Tag}
 use Rattle.rx_nest.specs.Signs.{Sign, begun, said, finished}
 use Rattle.rx_base.specs.Lines.{line_on}
 use Rattle.rx_rdfa.specs.Pages.{read_tag}

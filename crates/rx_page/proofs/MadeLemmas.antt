@@ -1,11 +1,7 @@
 -- What is made of the list that a walk gives is what the rules have of the page.
-use Rattle.std.proofs.Common.{◌≡◌, ◌∙◌, ℕ, nat_eq, List, ap, subst}
-use Rattle.rx_terms.specs.Text.{Chars}
+use Rattle.rx_terms.proofs.Common.{◌≡◌, ◌∙◌, ℕ, nat_eq, List, ap, subst, Chars}
 use Rattle.rx_terms.specs.declared.triples.Triple.{Triple as CodeTriple}
-use Rattle.rx_model.specs.Copied.{copied}
-use Rattle.rx_model.specs.Numbered.{numbered}
-use Rattle.rx_model.specs.Seen.{triples_seen}
-use Rattle.rx_model.specs.Terms.{Triple}
+use Rattle.rx_model.proofs.Common.{copied, numbered, triples_seen, Triple}
 use Rattle.rx_model.proofs.Names.{names_do_not_matter}
 use Rattle.rx_rdfa.specs.Blanks.{same_bnode, model}
 use Rattle.rx_rdfa.specs.Facts.{Facts}
@@ -14,7 +10,7 @@ use Rattle.rx_rdfa.specs.Names.{Context}
 use Rattle.rx_rdfa.specs.Tree.{Nodes}
 use Rattle.rx_rdfa.specs.Whole.{written}
 use Rattle.rx_rdfa.proofs.Exact.{exact_bnodes}
-use Rattle.rx_grammar.specs.Trees.{Tree}
+use Rattle.rx_grammar.proofs.Common.{Tree}
 use Rattle.rx_eval.specs.Numbering.{Numbering}
 use Rattle.rx_eval.specs.Standing.{Makes, number_in}
 use Rattle.rx_walk.specs.Walks.{IsMade}

@@ -1,12 +1,9 @@
 -- Each byte list has one outcome.
-use Rattle.std.proofs.Common.{◌≡◌, ◌∙◌, ⊎_elim, inl, inr, ℕ, Bool, true, false, List, [], ◌∷◌, ◌++◌, refl, sym, ap, subst, Option, Some, None, Result, Ok, Err, append_assoc, append-nil}
-use Rattle.std.proofs.lemmas.List.{append_cancel_left}
-use Rattle.std.specs.Prelude.{◌⊎◌, not, if◌then◌else◌}
+use Rattle.rx_terms.proofs.Common.{◌≡◌, ◌∙◌, ⊎_elim, inl, inr, ℕ, Bool, true, false, List, [], ◌∷◌, ◌++◌, refl, sym, ap, subst, Option, Some, None, Result, Ok, Err, append_assoc, append-nil, append_cancel_left, not, if◌then◌else◌}
+use Rattle.std.specs.Prelude.{◌⊎◌}
 use Rattle.rx_grammar.specs.declared.faults.Fault.{Fault}
 use Rattle.rx_grammar.specs.declared.faults.Kind.TheVariants.{Unended}
-use Rattle.rx_grammar.specs.PageFaults.{FaultAt}
-use Rattle.rx_grammar.specs.Pages.{Page}
-use Rattle.rx_grammar.specs.Trees.{Tree}
+use Rattle.rx_grammar.proofs.Common.{FaultAt, Page, Tree}
 use Rattle.rx_pages.specs.PageReader.{Progress, page_read, page_byte_on, page_on, nothing_read, spot_of, end_of, may_end, fault_in}
 use Rattle.rx_pages.proofs.BytesOn.{page_or_fault}
 use Rattle.rx_pages.proofs.FaultWalk.{fault_stays}

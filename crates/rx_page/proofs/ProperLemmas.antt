@@ -1,9 +1,7 @@
 -- The triples that RDFa's rules give are read as they are, and the quads of a list are its triples as they are read.
-use Rattle.std.proofs.Common.{◌≡◌, ℕ, List, [], ◌∷◌, map, refl, sym, ap, subst}
+use Rattle.rx_terms.proofs.Common.{◌≡◌, ℕ, List, [], ◌∷◌, map, refl, sym, ap, subst, chars, Chars}
 use Rattle.std.specs.Prelude.{Option}
-use Rattle.std.specs.Str.{chars}
-use Rattle.rx_terms.specs.Text.{Chars}
-use Rattle.rx_model.specs.Terms.{Term, Resource, Literal, Triple}
+use Rattle.rx_model.proofs.Common.{Term, Resource, Literal, Triple}
 use Rattle.rx_rdfa.specs.Facts.{Facts}
 use Rattle.rx_rdfa.specs.Proper as rules
 use Rattle.rx_rdfa.specs.Tree.{Nodes}

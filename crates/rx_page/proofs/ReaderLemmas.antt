@@ -1,6 +1,5 @@
 -- What a page's walks answer, as what they read a page for has it.
-use Rattle.std.proofs.Common.{ℕ, List, Result, Ok, Err}
-use Rattle.rx_terms.specs.Text.{Chars}
+use Rattle.rx_terms.proofs.Common.{ℕ, List, Result, Ok, Err, Chars}
 use Rattle.rx_terms.specs.declared.triples.Triple.{Triple as CodeTriple}
 use Rattle.rx_grammar.specs.declared.stops.Stop.{Stop}
 use Rattle.rx_grammar.specs.declared.stops.Stop.TheVariants as stop

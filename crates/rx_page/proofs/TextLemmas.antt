@@ -1,14 +1,13 @@
 -- A task makes one text of a page.
-use Rattle.std.proofs.Common.{◌≡◌, ◌∙◌, ℕ, List, ◌++◌, refl, sym, ap, subst, encode_utf8_all}
+use Rattle.rx_terms.proofs.Common.{◌≡◌, ◌∙◌, ℕ, List, ◌++◌, refl, sym, ap, subst, encode_utf8_all, Chars}
 use Rattle.std.specs.Prelude.{codes}
-use Rattle.rx_terms.specs.Text.{Chars}
-use Rattle.rx_model.specs.Terms.{Triple, Graph, set_of}
+use Rattle.rx_model.proofs.Common.{Triple, Graph, set_of}
 use Rattle.rx_shapes.specs.Shapes.{Inner, Cell, last_cell, next_cell, IsShape, HaveShapes}
 use Rattle.rx_shapes.specs.declared.shapes.Shape.{Shape}
 use Rattle.rx_shapes.specs.declared.shapes.Shape.TheVariants as shape
 use Rattle.rx_notation.specs.Nesting.{nested}
 use Rattle.rx_jsonld.specs.Value.{jsonld}
-use Rattle.rx_grammar.specs.Trees.{Tree}
+use Rattle.rx_grammar.proofs.Common.{Tree}
 use Rattle.rx_pages.proofs.Trees.{one_tree}
 use Rattle.rx_rdfa.specs.Names.{Context}
 use Rattle.rx_rdfa.specs.Whole.{written}

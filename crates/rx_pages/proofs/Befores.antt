@@ -1,23 +1,10 @@
 -- A token that something follows stands before a `<` too; outside the root, and where it is a tag, also before nothing.
-use Rattle.std.proofs.Common.{◌≡◌, ◌∙◌, ◌⊎◌, inl, inr, ℕ, Bool, true, false, List, [], ◌∷◌, ◌++◌, Option, Some, None, refl, ap, sym, eqb-true}
-use Rattle.std.specs.Prelude.{◌||◌, ◌&&◌, ◌==◌, not}
-use Rattle.std.specs.List.{list_all}
-use Rattle.rx_terms.specs.Ascii.{ampersand, solidus, semicolon, number_sign, lowered_char, is_letter, is_digit, is_letter_or_digit}
-use Rattle.rx_terms.specs.Text.{Chars, lowered, begins_with}
-use Rattle.rx_chars.specs.Characters.{Entry}
-use Rattle.rx_chars.specs.declared.syntax.Syntax.{Syntax}
+use Rattle.rx_terms.proofs.Common.{◌≡◌, ◌∙◌, ◌⊎◌, inl, inr, ℕ, Bool, true, false, List, [], ◌∷◌, ◌++◌, Option, Some, None, refl, ap, sym, eqb-true, ◌||◌, ◌&&◌, ◌==◌, not, list_all, ampersand, solidus, semicolon, number_sign, lowered_char, is_letter, is_digit, is_letter_or_digit, Chars, lowered, begins_with, both, not_both_ways, and-false}
+use Rattle.rx_grammar.proofs.Common.{Entry, Syntax, same, is_hexadecimal_digit, is_x, is_body, begins_number, is_begun, stops_at, Token, tag, kept, ends_name, Spells, has_less_than, keeps_runs, raw_name, begins_end, stops_end, a_tag, an_end_of_raw, a_character, a_less_than, a_raw_run, a_reference, a_kept_run, a_comment, a_bogus_comment, a_question, a_strict_comment, an_instruction, a_section, a_doctype, Item, last_from, Spelled, no_more, one, values, next_of}
 use Rattle.rx_grammar.specs.declared.contents.Content.{Content}
 use Rattle.rx_grammar.specs.declared.contents.Content.TheVariants as content
-use Rattle.rx_grammar.specs.Names.{same}
-use Rattle.rx_grammar.specs.References.{is_hexadecimal_digit, is_x, is_body, begins_number, is_begun, stops_at}
-use Rattle.rx_grammar.specs.Tokens.{Token, tag, kept}
-use Rattle.rx_grammar.specs.Shapes.{ends_name}
-use Rattle.rx_grammar.specs.Spelling.{Spells, has_less_than, keeps_runs, raw_name, begins_end, stops_end, a_tag, an_end_of_raw, a_character, a_less_than, a_raw_run, a_reference, a_kept_run, a_comment, a_bogus_comment, a_question, a_strict_comment, an_instruction, a_section, a_doctype}
-use Rattle.rx_grammar.specs.Items.{Item, last_from, Spelled, no_more, one, values, next_of}
-use Rattle.rx_terms.proofs.Bools.{both, not_both_ways}
 use Rattle.rx_reader.proofs.Classes.{unless}
 use Rattle.rx_pages.proofs.RawEnds.{IsRawName, is_raw_name}
-use Rattle.std.proofs.Math.Bool.{and-false}
 
 none_less : (test : ℕ → Bool) → test 60 ≡ false → (text : Chars) → list_all test (text ++ 60 ∷ []) ≡ false
 none_less test h [] = ap (λ b. b && true) h

@@ -1,15 +1,10 @@
 -- Reading a page character by character: what its entries lead to.
-use Rattle.std.proofs.Common.{◌≡◌, ◌∙◌, ℕ, ◌+◌, ◌-◌, Bool, true, false, List, [], ◌∷◌, ◌++◌, ap, length, append-nil, Result, Ok, Err, arith}
-use Rattle.std.specs.Prelude.{◌&&◌, ◌||◌, ◌==◌, not, if◌then◌else◌}
-use Rattle.std.specs.Char.{IsScalar}
-use lib.Utf8.{encode}
-use Rattle.rx_chars.specs.declared.syntax.Syntax.{Syntax}
-use Rattle.rx_chars.specs.Characters.{Entry, byte_order_mark, line_feed, carriage_return, as_line_end}
+use Rattle.rx_terms.proofs.Common.{◌≡◌, ◌∙◌, ℕ, ◌+◌, ◌-◌, Bool, true, false, List, [], ◌∷◌, ◌++◌, ap, length, append-nil, Result, Ok, Err, arith, ◌&&◌, ◌||◌, ◌==◌, not, if◌then◌else◌, IsScalar, encode}
+use Rattle.rx_grammar.proofs.Common.{Syntax, Entry, byte_order_mark, line_feed, carriage_return, as_line_end, values}
 use Rattle.rx_grammar.specs.declared.faults.Fault.{Fault}
 use Rattle.rx_grammar.specs.declared.faults.Kind.{Kind}
 use Rattle.rx_grammar.specs.declared.faults.Kind.TheVariants.{TagTooLong}
 use Rattle.rx_grammar.specs.declared.limits.Limits.{Limits}
-use Rattle.rx_grammar.specs.Items.{values}
 use Rattle.rx_pages.specs.Nesting.{content_at}
 use Rattle.rx_pages.specs.Scanner.{verdict}
 use Rattle.rx_pages.specs.PageReader.{Scanning, Scanned, first_of, is_too_long, passed, told, read_entry, spot_of, Progress, nested_items, telling}

@@ -1,21 +1,8 @@
 -- Reading the characters of a page from left to right.
-use Rattle.std.proofs.Common.{◌≡◌, ◌≢◌, ◌∙◌, ℕ, ◌+◌, ◌-◌, ◌<◌, ◌≤◌, Bool, true, false, List, [], ◌∷◌, ◌++◌, refl, sym, ap, subst, length, nat_lt, append_assoc, Ok, arith}
-use Rattle.std.specs.Prelude.{◌&&◌, ◌==◌, not}
-use Rattle.std.specs.Char.{IsScalar, len_utf8}
-use Rattle.std.specs.Str.{all_scalars}
-use lib.Utf8.{encode, encodes, scalar}
+use Rattle.rx_terms.proofs.Common.{◌≡◌, ◌≢◌, ◌∙◌, ℕ, ◌+◌, ◌-◌, ◌<◌, ◌≤◌, Bool, true, false, List, [], ◌∷◌, ◌++◌, refl, sym, ap, subst, length, nat_lt, append_assoc, Ok, arith, ◌&&◌, ◌==◌, not, IsScalar, len_utf8, all_scalars, encode, encodes, scalar, length-encode, nat_tests, and_parts, cond-true, cond-false, or-false, list_all, by_test, untrue}
 use Rattle.std.proofs.lemmas.List.{length-append}
-use Rattle.std.proofs.lemmas.Str.{length-encode}
-use Rattle.std.proofs.lemmas.Bool.Decides.{nat_tests}
-use Rattle.std.proofs.lemmas.Bool.{and_parts, cond-true, cond-false}
-use Rattle.std.proofs.Math.Bool.{or-false}
-use Rattle.std.specs.List.{list_all}
-use Rattle.rx_chars.specs.declared.syntax.Syntax.{Syntax}
-use Rattle.rx_chars.specs.Characters.{Entry, byte_order_mark, line_feed, carriage_return, line_end_entry, placed, entered, without_mark}
+use Rattle.rx_grammar.proofs.Common.{Syntax, Entry, byte_order_mark, line_feed, carriage_return, line_end_entry, placed, entered, without_mark, values, is_known_tag}
 use Rattle.rx_grammar.specs.declared.limits.Limits.{Limits}
-use Rattle.rx_grammar.specs.Items.{values}
-use Rattle.rx_grammar.specs.PageFaults.{is_known_tag}
-use Rattle.rx_terms.proofs.Bools.{by_test, untrue}
 use Rattle.rx_pages.specs.Nesting.{content_at}
 use Rattle.rx_pages.specs.PageReader.{first_of, is_too_long, spot_of, Progress, page_on}
 use Rattle.rx_pages.proofs.EntrySteps.{Stood, entry_step}

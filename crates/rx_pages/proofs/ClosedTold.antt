@@ -1,14 +1,9 @@
 -- What the front of a page tells, and what it tells once it is closed.
-use Rattle.std.proofs.Common.{◌≡◌, ◌∙◌, ℕ, ◌+◌, ◌≤◌, true, false, List, [], ◌∷◌, ◌++◌, Option, refl, ap, sym, subst, length, append-nil, length-append, arith}
-use Rattle.std.specs.Prelude.{not, ◌==◌, Ok, encode_utf8_all}
-use lib.Utf8.{encode, encodes}
-use Rattle.std.proofs.lemmas.Str.{encodes-append}
-use Rattle.rx_chars.specs.Characters.{Entry, placed}
-use Rattle.rx_chars.specs.declared.syntax.Syntax.{Syntax}
+use Rattle.rx_terms.proofs.Common.{◌≡◌, ◌∙◌, ℕ, ◌+◌, ◌≤◌, true, false, List, [], ◌∷◌, ◌++◌, Option, refl, ap, sym, subst, length, append-nil, length-append, arith, not, ◌==◌, encodes, encodes-append}
+use Rattle.std.specs.Prelude.{Ok, encode_utf8_all}
+use lib.Utf8.{encode}
+use Rattle.rx_grammar.proofs.Common.{Entry, placed, Syntax, Item, Spelled, no_more, one, has_no_nul, Line, Phase, after}
 use Rattle.rx_grammar.specs.declared.limits.Limits.{Limits}
-use Rattle.rx_grammar.specs.Items.{Item, Spelled, no_more, one}
-use Rattle.rx_grammar.specs.Pages.{has_no_nul}
-use Rattle.rx_grammar.specs.Begun.{Line, Phase, after}
 use Rattle.rx_pages.specs.Nesting.{Event, not_begun, content_at, Goes, IsAt}
 use Rattle.rx_pages.specs.PageReader.{page_on, nothing_read}
 use Rattle.rx_pages.specs.Closings.{closing, closed, IsWide, AllEnd, Tells}

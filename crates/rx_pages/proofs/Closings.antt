@@ -1,29 +1,10 @@
 -- The front of a page goes on to a page: what is open is closed, from the innermost element on.
-use Rattle.std.proofs.Common.{◌≡◌, ◌∙◌, ℕ, ◌+◌, ◌-◌, ◌<◌, ◌≤◌, Bool, true, false, List, [], ◌∷◌, ◌++◌, Option, Some, None, refl, ap, sym, subst, subst₂, length, append_assoc, append-nil, arith}
-use Rattle.std.specs.Prelude.{◌&&◌, ◌||◌, ◌==◌, not, nat_le, codes, Ok, encode_utf8_all}
-use Rattle.std.specs.List.{list_all}
-use Rattle.std.specs.Char.{len_utf8}
-use Rattle.std.specs.Str.{all_scalars}
-use lib.Utf8.{encode, encodes, scalar}
+use Rattle.rx_terms.proofs.Common.{◌≡◌, ◌∙◌, ℕ, ◌+◌, ◌-◌, ◌<◌, ◌≤◌, Bool, true, false, List, [], ◌∷◌, ◌++◌, Option, Some, None, refl, ap, sym, subst, subst₂, length, append_assoc, append-nil, arith, ◌&&◌, ◌||◌, ◌==◌, not, nat_le, list_all, len_utf8, all_scalars, encode, encodes, scalar, length-encode, encodes-append, and_from, cond-false, nat_tests, greater_than_sign, Chars, both, untrue, and-false}
+use Rattle.std.specs.Prelude.{codes, Ok, encode_utf8_all}
 use Rattle.std.proofs.lemmas.List.{length-append}
-use Rattle.std.proofs.lemmas.Str.{length-encode, encodes-append}
-use Rattle.std.proofs.lemmas.Bool.{and_from, cond-false}
-use Rattle.std.proofs.lemmas.Bool.Decides.{nat_tests}
-use Rattle.rx_terms.specs.Ascii.{greater_than_sign}
-use Rattle.rx_terms.specs.Text.{Chars}
-use Rattle.rx_chars.specs.Characters.{Entry, byte_order_mark, line_feed, carriage_return, placed, entered, without_mark}
-use Rattle.rx_chars.specs.declared.syntax.Syntax.{Syntax}
-use Rattle.rx_chars.specs.declared.syntax.Syntax.TheVariants.{Html, Xhtml}
+use Rattle.rx_grammar.proofs.Common.{Entry, byte_order_mark, line_feed, carriage_return, placed, entered, without_mark, Syntax, Html, Xhtml, Tag, Token, tag, SpellsTag, Spells, a_tag, outside, is_alone, is_self_closed, is_plaintext, drops_line_feed, StartTag, values, Item, last_from, Spelled, no_more, one, Fits, AllFit, is_literal, no_section_end, start_of, has_no_nul, Document, Line, inside_of, Phase, before, within, after, Stands, not_begun, still_open, ended, Begun}
 use Rattle.rx_grammar.specs.declared.limits.Limits.{Limits}
-use Rattle.rx_grammar.specs.Tokens.{Tag, Token, tag}
 use Rattle.rx_grammar.specs.Shapes as shapes
-use Rattle.rx_grammar.specs.Tags.{SpellsTag}
-use Rattle.rx_grammar.specs.Spelling.{Spells, a_tag}
-use Rattle.rx_grammar.specs.Contents.{outside, is_alone, is_self_closed, is_plaintext, drops_line_feed}
-use Rattle.rx_grammar.specs.Trees.{StartTag}
-use Rattle.rx_grammar.specs.Items.{values, Item, last_from, Spelled, no_more, one, Fits, AllFit, is_literal, no_section_end, start_of}
-use Rattle.rx_grammar.specs.Pages.{has_no_nul, Document}
-use Rattle.rx_grammar.specs.Begun.{Line, inside_of, Phase, before, within, after, Stands, not_begun, still_open, ended, Begun}
 use Rattle.rx_pages.specs.Nesting as nesting
 use Rattle.rx_pages.specs.Nesting.{Event, Nesting, Step, content_at, over, step_by, nest_step, Goes, stands, goes, IsAt}
 use Rattle.rx_pages.specs.PageReader.{item_of}
@@ -42,8 +23,6 @@ use Rattle.rx_pages.proofs.BytesOn.{after_only}
 use Rattle.rx_pages.proofs.Befores.{spelled_less, spelled_last}
 use Rattle.rx_pages.proofs.OpenNames.{is_fair, IsName, is_steady, ending, ending_text, spells_end, name_steady}
 use Rattle.rx_pages.proofs.OpenLines.{page_fair, AllNamed, arrives}
-use Rattle.rx_terms.proofs.Bools.{both, untrue}
-use Rattle.std.proofs.Math.Bool.{and-false}
 use Rattle.rx_pages.proofs.FrontRead.{AllBelow, below_behind, page_below}
 use Rattle.rx_chars.proofs.DecodingLemmas.{scalars-append}
 

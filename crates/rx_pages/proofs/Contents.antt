@@ -1,19 +1,12 @@
 -- What an element whose end tag may be omitted says of the contents round it.
-use Rattle.std.proofs.Common.{◌≡◌, ◌∙◌, Bool, true, false, List, [], ◌∷◌, refl, ap}
-use Rattle.std.specs.Prelude.{◌&&◌, not, codes}
-use Rattle.std.specs.List.{list_all}
-use Rattle.std.specs.Cmp.Lexicographic.{bytes_decides}
-use Rattle.rx_terms.specs.Text.{Chars}
-use Rattle.rx_chars.specs.declared.syntax.Syntax.{Syntax}
-use Rattle.rx_chars.specs.declared.syntax.Syntax.TheVariants.{Html, Xhtml}
+use Rattle.rx_terms.proofs.Common.{◌≡◌, ◌∙◌, Bool, true, false, List, [], ◌∷◌, refl, ap, ◌&&◌, not, list_all, bytes_decides, Chars, both, not_both_ways, by_test}
+use Rattle.std.specs.Prelude.{codes}
+use Rattle.rx_grammar.proofs.Common.{Syntax, Html, Xhtml, same, Tag, Place, inside_html, place_in, is_html, is_plaintext, is_self_closed, is_omissible, Line, inside_of}
 use Rattle.rx_grammar.specs.declared.contents.Content.{Content}
 use Rattle.rx_grammar.specs.declared.contents.Content.TheVariants as content
-use Rattle.rx_grammar.specs.Names.{same, row_among, row_of, omissible_rows}
-use Rattle.rx_grammar.specs.Tokens.{Tag}
-use Rattle.rx_grammar.specs.Contents.{Place, inside_html, place_in, is_html, is_foreign, is_plaintext, is_self_closed, is_void, is_foreign_root}
-use Rattle.rx_grammar.specs.Omission.{has_row, is_omissible}
-use Rattle.rx_grammar.specs.Begun.{Line, inside_of}
-use Rattle.rx_terms.proofs.Bools.{both, not_both_ways, by_test}
+use Rattle.rx_grammar.specs.Names.{row_among, row_of, omissible_rows}
+use Rattle.rx_grammar.specs.Contents.{is_foreign, is_void, is_foreign_root}
+use Rattle.rx_grammar.specs.Omission.{has_row}
 
 pub same_is : (a b : Chars) → same a b ≡ true → a ≡ b
 same_is a b h = (bytes_decides a b).0 h

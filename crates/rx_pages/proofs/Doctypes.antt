@@ -1,27 +1,17 @@
 -- The document type is read as it is spelled.
-use Rattle.std.proofs.Common.{◌≡◌, ◌≢◌, ◌∙◌, ℕ, suc, ◌+◌, ◌<◌, length, Bool, true, false, [], ◌∷◌, ◌++◌, Option, Some, None, refl, ap, sym, subst, append_assoc, arith, eqb-true}
-use Rattle.std.specs.Prelude.{◌&&◌, ◌||◌, ◌==◌, not, codes, drop}
-use Rattle.std.specs.List.{list_all, list_any}
-use Rattle.std.proofs.lemmas.Bool.{cond-true, cond-false, or_from, or_parts}
-use Rattle.std.proofs.lemmas.List.{map-append, length-append, length-map}
-use Rattle.rx_terms.specs.Ascii.{lowered_char, greater_than_sign, left_bracket, is_white_space}
-use Rattle.rx_terms.specs.Text.{Chars, begins_with, lowered}
-use Rattle.rx_chars.specs.declared.syntax.Syntax.{Syntax}
-use Rattle.rx_chars.specs.declared.syntax.Syntax.TheVariants.{Html, Xhtml}
+use Rattle.rx_terms.proofs.Common.{◌≡◌, ◌≢◌, ◌∙◌, ℕ, suc, ◌+◌, ◌<◌, length, Bool, true, false, [], ◌∷◌, ◌++◌, Option, Some, None, refl, ap, sym, subst, append_assoc, arith, eqb-true, ◌&&◌, ◌||◌, ◌==◌, not, list_all, list_any, cond-true, cond-false, or_from, or_parts, map-append, length-map, lowered_char, greater_than_sign, is_white_space, Chars, begins_with, lowered, both, not_both_ways, by_test, untrue, and-false}
+use Rattle.std.specs.Prelude.{codes, drop}
+use Rattle.std.proofs.lemmas.List.{length-append}
+use Rattle.rx_terms.specs.Ascii.{left_bracket}
+use Rattle.rx_grammar.proofs.Common.{Syntax, Html, Xhtml, one_or_more, doctype, comment, cased, cased_char, has_markup, has_sections, ends_with, begins_declaration, doctype_word, IsDoctype}
 use Rattle.rx_grammar.specs.declared.contents.Content.{Content}
-use Rattle.rx_grammar.specs.References.{one_or_more}
-use Rattle.rx_grammar.specs.Tokens.{doctype, comment}
-use Rattle.rx_grammar.specs.Tags.{cased, cased_char}
-use Rattle.rx_grammar.specs.Spelling.{has_markup, has_sections, ends_with, begins_declaration, doctype_word, IsDoctype}
 use Rattle.rx_pages.specs.Scanner.{goes_on, DoctypePhase, keyword, spaces, naming, passed, closed, doctype_move, doctype_move_on, doctype_on, told_of_doctype, in_doctype, after_mark, in_markup, verdict, GoesOn, ReadAs}
 use Rattle.rx_pages.proofs.Reading.{Last, no_last, a_last, last_of, all_go, go_append, read_to, markup_is}
 use Rattle.std.proofs.Math.Seq.{drop-append_seam}
 use Rattle.rx_pages.proofs.Comments.{none_if, bogus_at}
-use Rattle.rx_terms.proofs.Bools.{both, not_both_ways, by_test, untrue}
 use Rattle.rx_reader.proofs.Classes.{of_one, of_white}
 use Rattle.rx_reader.proofs.Fronts.{equal, begins_append, has_end}
 use Rattle.rx_reader.proofs.OneToken.{kept_case}
-use Rattle.std.proofs.Math.Bool.{and-false}
 
 pub on_none : (s : Syntax) (text : Chars) → doctype_on s None text ≡ None
 on_none s [] = refl

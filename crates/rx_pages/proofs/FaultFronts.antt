@@ -1,15 +1,10 @@
 -- The bytes before the token of a fault are the front of a page.
-use Rattle.std.proofs.Common.{◌≡◌, ◌∙◌, ℕ, ◌≤◌, true, List, [], ◌∷◌, ◌++◌, None, refl, ap, sym, subst, length, arith}
-use Rattle.std.specs.Prelude.{◌==◌, not, take}
+use Rattle.rx_terms.proofs.Common.{◌≡◌, ◌∙◌, ℕ, ◌≤◌, true, List, [], ◌∷◌, ◌++◌, None, refl, ap, sym, subst, length, arith, ◌==◌, not, and_parts, and_from}
+use Rattle.std.specs.Prelude.{take}
 use Rattle.std.proofs.lemmas.List.{length-append}
-use Rattle.std.proofs.lemmas.Bool.{and_parts, and_from}
-use Rattle.rx_chars.specs.Characters.{Entry}
-use Rattle.rx_chars.specs.declared.syntax.Syntax.{Syntax}
+use Rattle.rx_grammar.proofs.Common.{Entry, Syntax, values, next_of, Item, has_no_nul, Line, Phase, Begun, token_of, Before, Reached}
 use Rattle.rx_grammar.specs.declared.limits.Limits.{Limits}
-use Rattle.rx_grammar.specs.Items.{values, next_of, Item}
-use Rattle.rx_grammar.specs.Pages.{has_no_nul}
-use Rattle.rx_grammar.specs.Begun.{Line, Phase, Begun}
-use Rattle.rx_grammar.specs.PageFaults.{token_of, Before, Reached, page_too_long, not_utf8, nul, tag_too_long, known_too_long, decided, unended}
+use Rattle.rx_grammar.specs.PageFaults.{page_too_long, not_utf8, nul, tag_too_long, known_too_long, decided, unended}
 use Rattle.rx_pages.specs.Laws.{FaultsFollowFronts}
 use Rattle.rx_pages.specs.Closings.{IsFront}
 use Rattle.rx_pages.proofs.Foreparts.{Forepart, forepart}

@@ -1,22 +1,16 @@
 -- The reader of bytes finds each fault.
-use Rattle.std.proofs.Common.{◌≡◌, ◌≢◌, ◌∙◌, ⊎_elim, ℕ, ◌+◌, ◌-◌, ◌<◌, ◌≤◌, true, false, List, [], ◌∷◌, ◌++◌, refl, sym, ap, subst, length, nat_le, append_assoc, append-nil, Ok, Err, eqb-true, arith}
-use Rattle.std.specs.Prelude.{◌&&◌, ◌==◌, if◌then◌else◌}
+use Rattle.rx_terms.proofs.Common.{◌≡◌, ◌≢◌, ◌∙◌, ⊎_elim, ℕ, ◌+◌, ◌-◌, ◌<◌, ◌≤◌, true, false, List, [], ◌∷◌, ◌++◌, refl, sym, ap, subst, length, append_assoc, append-nil, Ok, Err, eqb-true, arith, ◌&&◌, ◌==◌, if◌then◌else◌, Chars, by_test}
+use Rattle.std.proofs.Common.{nat_le}
 use Rattle.std.proofs.lemmas.List.{length-append}
-use Rattle.rx_terms.specs.Text.{Chars}
-use Rattle.rx_chars.specs.declared.syntax.Syntax.{Syntax}
-use Rattle.rx_chars.specs.declared.utf8.Utf8Step.TheVariants.{More, Char, Bad}
-use Rattle.rx_chars.specs.Utf8.{answer_of, IsCharacter, BeginsCharacter, BeginNone}
-use Rattle.rx_chars.specs.Characters.{Entry}
+use Rattle.rx_grammar.proofs.Common.{Syntax, More, Char, Bad, answer_of, IsCharacter, BeginsCharacter, Entry, values, Item, Line, inside_of, Phase, before, within, after, is_known_tag, token_of, IsShort, IsPending, Unfinished, Reached, Before}
+use Rattle.rx_chars.specs.Utf8.{BeginNone}
 use Rattle.rx_chars.proofs.Utf8Exact.{answer_is}
 use Rattle.rx_grammar.specs.declared.contents.Content.{Content}
 use Rattle.rx_grammar.specs.declared.faults.Kind.{Kind}
 use Rattle.rx_grammar.specs.declared.faults.Kind.TheVariants as kind
 use Rattle.rx_grammar.specs.declared.limits.Limits.{Limits}
-use Rattle.rx_grammar.specs.Items.{values, Item}
-use Rattle.rx_grammar.specs.Begun.{Line, inside_of, Phase, before, within, after}
-use Rattle.rx_grammar.specs.PageFaults.{is_known_tag, token_of, IsShort, IsPending, Unfinished, Reached, IsPart, Before}
+use Rattle.rx_grammar.specs.PageFaults.{IsPart}
 use Rattle.rx_grammar.specs.PageFaults as faults
-use Rattle.rx_terms.proofs.Bools.{by_test}
 use Rattle.rx_pages.specs.Nesting.{IsAt}
 use Rattle.rx_pages.specs.Scanner.{GoesOn}
 use Rattle.rx_pages.specs.Laws.{Leads as FrontLeads}

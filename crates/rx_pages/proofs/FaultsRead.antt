@@ -1,21 +1,15 @@
 -- The reader of bytes finds each fault of the grammar.
-use Rattle.std.proofs.Common.{◌≡◌, ◌≢◌, ◌∙◌, ⊎_elim, inl, inr, ℕ, ◌+◌, ◌<◌, ◌≤◌, Bool, true, false, List, [], ◌∷◌, ◌++◌, refl, sym, ap, subst, length, nat_le, Some, Result, Ok, Err, arith}
-use Rattle.std.specs.Prelude.{◌&&◌, not, if◌then◌else◌}
+use Rattle.rx_terms.proofs.Common.{◌≡◌, ◌≢◌, ◌∙◌, ⊎_elim, inl, inr, ℕ, ◌+◌, ◌<◌, ◌≤◌, Bool, true, false, List, [], ◌∷◌, ◌++◌, refl, sym, ap, subst, length, Some, Result, Ok, Err, arith, ◌&&◌, not, if◌then◌else◌, greater_than_sign, right_bracket, Chars, and-false}
+use Rattle.std.proofs.Common.{nat_le}
 use Rattle.std.proofs.lemmas.List.{length-append}
-use Rattle.rx_terms.specs.Ascii.{greater_than_sign, right_bracket}
-use Rattle.rx_terms.specs.Text.{Chars}
-use Rattle.rx_chars.specs.declared.syntax.Syntax.{Syntax}
-use Rattle.rx_chars.specs.Characters.{Entry}
+use Rattle.rx_grammar.proofs.Common.{Syntax, Entry, Tag, Token, tag, character, doctype, values, Item, is_literal, is_strict_literal, Line, inside_of, Phase, before, is_known_tag, token_of, IsPending, IsShort, Unfinished, Reached, first_row, tag_rows, Faulty, FaultAt, Before}
 use Rattle.rx_grammar.specs.declared.contents.Content.{Content}
 use Rattle.rx_grammar.specs.declared.contents.Content.TheVariants as content
 use Rattle.rx_grammar.specs.declared.faults.Fault.{Fault}
 use Rattle.rx_grammar.specs.declared.faults.Kind.{Kind}
 use Rattle.rx_grammar.specs.declared.faults.Kind.TheVariants as kind
 use Rattle.rx_grammar.specs.declared.limits.Limits.{Limits}
-use Rattle.rx_grammar.specs.Tokens.{Tag, Token, tag, character, doctype}
-use Rattle.rx_grammar.specs.Items.{values, Item, is_literal, is_strict_literal}
-use Rattle.rx_grammar.specs.Begun.{Line, inside_of, Phase, before}
-use Rattle.rx_grammar.specs.PageFaults.{is_known_tag, token_of, IsPending, IsShort, Unfinished, Reached, first_row, tag_rows, Faulty, FaultAt, Before, ends_in_brackets}
+use Rattle.rx_grammar.specs.PageFaults.{ends_in_brackets}
 use Rattle.rx_grammar.specs.PageFaults as faults
 use Rattle.rx_pages.specs.Nesting.{Event, Nesting, content_at, IsAt, step_by, unless_refused, tag_passes}
 use Rattle.rx_pages.specs.Scanner.{GoesOn, Verdict, whole, refused, verdict}
@@ -29,7 +23,6 @@ use Rattle.rx_pages.proofs.KnownTags.{known_more}
 use Rattle.rx_pages.proofs.Tokens.{values_append}
 use Rattle.rx_pages.proofs.FaultRead.{stands_there, scan_there, byte_fault, page_too_long, not_utf8, nul, tag_too_long, page_ends}
 use Rattle.rx_pages.proofs.LastToken.{token_of_item}
-use Rattle.std.proofs.Math.Bool.{and-false}
 use Rattle.rx_pages.specs.Faults.{Decides, by_character, by_token, by_section_end}
 use Rattle.rx_pages.proofs.Judged.{goes, refused_row, not_first, faults_are_decided}
 

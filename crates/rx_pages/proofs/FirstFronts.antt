@@ -1,13 +1,8 @@
 -- The first front of a list of characters that meets a test.
-use Rattle.std.proofs.Common.{◌≡◌, ◌≢◌, ◌∙◌, ℕ, Bool, true, false, [], ◌∷◌, ◌++◌, refl, ap, sym, subst, append-nil, append_assoc, inl, inr, eqb-true}
-use Rattle.std.specs.Prelude.{◌&&◌, ◌==◌}
-use Rattle.rx_terms.specs.Text.{Chars, begins_with}
-use Rattle.rx_grammar.specs.Names.{same}
-use Rattle.rx_grammar.specs.Spelling.{ends_with, IsFirst}
+use Rattle.rx_terms.proofs.Common.{◌≡◌, ◌≢◌, ◌∙◌, ℕ, Bool, true, false, [], ◌∷◌, ◌++◌, refl, ap, sym, subst, append-nil, append_assoc, inl, inr, eqb-true, ◌&&◌, ◌==◌, Chars, begins_with, both, either, not_both_ways, by_test, or_right}
+use Rattle.rx_grammar.proofs.Common.{same, ends_with, IsFirst}
 use Rattle.rx_pages.proofs.Reading.{Last, no_last, a_last, last_of}
 use Rattle.rx_pages.proofs.Contents.{same_is}
-use Rattle.rx_terms.proofs.Bools.{both, either, not_both_ways, by_test}
-use Rattle.std.proofs.lemmas.Bool.{or_right}
 use Rattle.rx_reader.proofs.ValueFaults.{snoc_front}
 use Rattle.rx_reader.proofs.OneToken.{same_self}
 

@@ -1,15 +1,8 @@
 -- The bytes before a character of a page are read as the characters before it.
-use Rattle.std.proofs.Common.{◌≡◌, ◌∙◌, ℕ, ◌+◌, ◌-◌, ◌≤◌, Bool, true, false, List, [], ◌∷◌, ◌++◌, refl, sym, ap, subst, length, append_assoc, append-nil, arith}
-use Rattle.std.specs.Prelude.{◌&&◌, ◌==◌, take}
-use Rattle.std.specs.Char.{len_utf8}
-use Rattle.std.specs.Str.{all_scalars}
-use lib.Utf8.{encode, encodes, scalar}
+use Rattle.rx_terms.proofs.Common.{◌≡◌, ◌∙◌, ℕ, ◌+◌, ◌-◌, ◌≤◌, Bool, true, false, List, [], ◌∷◌, ◌++◌, refl, sym, ap, subst, length, append_assoc, append-nil, arith, ◌&&◌, ◌==◌, len_utf8, all_scalars, encode, encodes, scalar, length-encode, encodes-append, and_parts, and_from, cond-true, cond-false, by_test}
+use Rattle.std.specs.Prelude.{take}
 use Rattle.std.proofs.lemmas.List.{length-append}
-use Rattle.std.proofs.lemmas.Str.{length-encode, encodes-append}
-use Rattle.std.proofs.lemmas.Bool.{and_parts, and_from, cond-true, cond-false}
-use Rattle.rx_chars.specs.Characters.{Entry, IsRead, byte_order_mark, line_feed, carriage_return, line_end_entry, placed, entered, without_mark}
-use Rattle.rx_grammar.specs.PageFaults.{token_of}
-use Rattle.rx_terms.proofs.Bools.{by_test}
+use Rattle.rx_grammar.proofs.Common.{Entry, IsRead, byte_order_mark, line_feed, carriage_return, line_end_entry, placed, entered, without_mark, token_of}
 use Rattle.rx_pages.proofs.CharWalk.{len_positive}
 use Rattle.rx_pages.proofs.OnlyPages.{take_front}
 use Rattle.rx_reader.proofs.InTables.{no_end}

@@ -1,19 +1,12 @@
 -- Spelled tokens that lead to open elements stand at the front of a page.
-use Rattle.std.proofs.Common.{◌≡◌, ◌∙◌, ℕ, true, false, List, [], ◌∷◌, ◌++◌, Option, Some, None, refl, ap, sym, subst, append-nil, append_assoc}
-use Rattle.rx_terms.specs.Text.{Chars}
-use Rattle.rx_chars.specs.Characters.{Entry}
-use Rattle.rx_chars.specs.declared.syntax.Syntax.{Syntax}
+use Rattle.rx_terms.proofs.Common.{◌≡◌, ◌∙◌, ℕ, true, false, List, [], ◌∷◌, ◌++◌, Option, Some, None, refl, ap, sym, subst, append-nil, append_assoc, Chars, not_both_ways}
+use Rattle.rx_grammar.proofs.Common.{Entry, Syntax, Token, Spells, has_references, keeps_runs, has_sections, has_less_than, raw_name, a_tag, an_end_of_raw, a_character, a_less_than, a_raw_run, a_reference, a_kept_run, a_comment, a_bogus_comment, a_question, a_strict_comment, an_instruction, a_section, a_doctype, Item, Spelled, no_more, one, Line, Phase, Stands, not_begun}
 use Rattle.rx_grammar.specs.declared.contents.Content.{Content}
 use Rattle.rx_grammar.specs.declared.contents.Content.TheVariants as content
-use Rattle.rx_grammar.specs.Tokens.{Token}
-use Rattle.rx_grammar.specs.Spelling.{Spells, has_references, keeps_runs, has_sections, has_less_than, raw_name, a_tag, an_end_of_raw, a_character, a_less_than, a_raw_run, a_reference, a_kept_run, a_comment, a_bogus_comment, a_question, a_strict_comment, an_instruction, a_section, a_doctype}
-use Rattle.rx_grammar.specs.Items.{Item, Spelled, no_more, one}
 use Rattle.rx_grammar.specs.Pages as pages
-use Rattle.rx_grammar.specs.Begun.{Line, Phase, Stands, not_begun}
 use Rattle.rx_pages.specs.Nesting.{Event, Nesting, Goes, stands, goes, IsAt}
 use Rattle.rx_pages.specs.Laws.{FrontsStand}
 use Rattle.rx_pages.proofs.Standing.{may_stand, one_more}
-use Rattle.rx_terms.proofs.Bools.{not_both_ways}
 
 pub spelled_outside : (syntax : Syntax) (inside : Content) (text : Chars) (next : Option ℕ) (token : Token) → Spells syntax inside text next token → inside ≡ content.Outside → may_stand token ≡ true
 spelled_outside s i _ next _ (a_tag text t m sp) o = refl

@@ -1,21 +1,12 @@
 -- How the front of a page grows: what is open is extended, ended and closed.
-use Rattle.std.proofs.Common.{◌≡◌, ◌≢◌, ◌∙◌, ℕ, suc, Bool, true, false, List, [], ◌∷◌, ◌++◌, refl, ap, sym, subst, append_assoc, inl, inr, ◌⊎◌}
-use Rattle.std.specs.Prelude.{◌||◌, ◌&&◌}
-use Rattle.rx_terms.specs.Text.{Chars}
-use Rattle.rx_chars.specs.declared.syntax.Syntax.{Syntax}
+use Rattle.rx_terms.proofs.Common.{◌≡◌, ◌≢◌, ◌∙◌, ℕ, suc, Bool, true, false, List, [], ◌∷◌, ◌++◌, refl, ap, sym, subst, append_assoc, inl, inr, ◌⊎◌, ◌||◌, ◌&&◌, Chars, both, not_both_ways}
+use Rattle.rx_grammar.proofs.Common.{Syntax, is_among, Place, outside, hides, StartTag, Tree, end, element, after_text, has_element, Item, is_line_feed, start_of, enders, is_ended_by, Opens, Closes, Drops, shown, Holds, nothing, a_text, alone, closed, unclosed, Lead, Document, Line, inside_of, parent_of, enders_of, Open, a_root, a_child}
 use Rattle.rx_grammar.specs.declared.contents.Content.{Content}
-use Rattle.rx_grammar.specs.Names.{is_among}
-use Rattle.rx_grammar.specs.Contents.{Place, outside, hides}
-use Rattle.rx_grammar.specs.Trees.{StartTag, Tree, end, element, after_text, has_element}
-use Rattle.rx_grammar.specs.Items.{Item, is_line_feed, start_of}
-use Rattle.rx_grammar.specs.Omission.{enders, is_ended_by}
-use Rattle.rx_grammar.specs.Pages.{Opens, Closes, Drops, a_line_feed, another, no_more, shown, Holds, nothing, a_text, a_comment, alone, closed, unclosed, Lead, Document}
+use Rattle.rx_grammar.specs.Pages.{a_line_feed, another, no_more, a_comment}
 use Rattle.rx_grammar.specs.Pages as pages
-use Rattle.rx_grammar.specs.Begun.{Line, inside_of, parent_of, enders_of, Open, a_root, a_child}
 use Rattle.rx_pages.proofs.Nested.{has_after_text}
 use Rattle.rx_pages.proofs.Documents.{no_end_outside}
 use Rattle.rx_pages.proofs.Front.{none_among}
-use Rattle.rx_terms.proofs.Bools.{both, not_both_ways}
 
 or_groups : (a b c : Bool) → (a || (b || c)) ≡ ((a || b) || c)
 or_groups true b c = refl

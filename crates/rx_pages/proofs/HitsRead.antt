@@ -1,25 +1,14 @@
 -- The reader of bytes finds a fault that a character decides.
-use Rattle.std.proofs.Common.{◌≡◌, ◌≢◌, ◌∙◌, ⊎_elim, ℕ, ◌+◌, ◌<◌, ◌≤◌, Bool, true, false, List, [], ◌∷◌, ◌++◌, refl, sym, ap, subst, nat_le, append_assoc, append-nil, Option, Some, Ok, Err, arith}
-use Rattle.std.specs.Prelude.{◌&&◌, ◌||◌, ◌==◌, if◌then◌else◌}
-use Rattle.std.proofs.lemmas.Bool.{and_parts, false_from_ne_true, or_parts}
-use Rattle.rx_terms.specs.Ascii.{less_than_sign, ampersand}
-use Rattle.rx_terms.specs.Text.{Chars}
-use Rattle.rx_chars.specs.declared.syntax.Syntax.{Syntax}
-use Rattle.rx_chars.specs.Characters.{Entry}
+use Rattle.rx_terms.proofs.Common.{◌≡◌, ◌≢◌, ◌∙◌, ⊎_elim, ℕ, ◌+◌, ◌<◌, ◌≤◌, Bool, true, false, List, [], ◌∷◌, ◌++◌, refl, sym, ap, subst, append_assoc, append-nil, Option, Some, Ok, Err, arith, ◌&&◌, ◌||◌, ◌==◌, if◌then◌else◌, and_parts, false_from_ne_true, or_parts, less_than_sign, ampersand, Chars, by_test, and-true}
+use Rattle.std.proofs.Common.{nat_le}
+use Rattle.rx_grammar.proofs.Common.{Syntax, Entry, Token, character, Spells, has_references, is_text, values, Item, is_known_tag, Reached, has_no_nul, Line, inside_of, Phase}
 use Rattle.rx_grammar.specs.declared.contents.Content.{Content}
 use Rattle.rx_grammar.specs.declared.contents.Content.TheVariants as content
 use Rattle.rx_grammar.specs.declared.faults.Fault.{Fault}
 use Rattle.rx_grammar.specs.declared.faults.Kind.{Kind}
 use Rattle.rx_grammar.specs.declared.faults.Kind.TheVariants.{Outside}
 use Rattle.rx_grammar.specs.declared.limits.Limits.{Limits}
-use Rattle.rx_grammar.specs.Tokens.{Token, character}
 use Rattle.rx_grammar.specs.Spelling as spelling
-use Rattle.rx_grammar.specs.Spelling.{Spells, has_references, is_text}
-use Rattle.rx_grammar.specs.Items.{values, Item}
-use Rattle.rx_grammar.specs.PageFaults.{is_known_tag, Reached}
-use Rattle.rx_terms.proofs.Bools.{by_test}
-use Rattle.rx_grammar.specs.Pages.{has_no_nul}
-use Rattle.rx_grammar.specs.Begun.{Line, inside_of, Phase}
 use Rattle.rx_pages.specs.Nesting.{Event, Nesting, not_begun, content_at, going_on, IsAt}
 use Rattle.rx_pages.specs.Scanner.{GoesOn, goes_on, whole, refused}
 use Rattle.rx_pages.specs.PageReader.{first_of, spot_of, page_on, page_read, nothing_read, told as told_by}
@@ -32,7 +21,6 @@ use Rattle.rx_pages.proofs.FaultWalk.{Decides, Hits, page_hits}
 use Rattle.rx_pages.proofs.FrontRead.{AllBelow, page_rises, page_no_nul}
 use Rattle.rx_pages.proofs.Front.{fronts_lead}
 use Rattle.rx_pages.proofs.Tokens.{values_append}
-use Rattle.std.proofs.Math.Bool.{and-true}
 
 -- no run is kept outside the root
 kept_inside : (s : Syntax) (i : Content) (text : Chars) (next : Option ℕ) (token : Token) → Spells s i text next token → IsKept token → i ≢ content.Outside

@@ -1,24 +1,14 @@
 -- Tags are read as they are spelled.
-use Rattle.std.proofs.Common.{◌≡◌, ◌≢◌, ◌∙◌, inl, inr, Bool, ℕ, true, false, [], ◌∷◌, ◌++◌, Option, refl, ap, sym, append_assoc}
-use Rattle.std.specs.Prelude.{◌&&◌, ◌||◌, ◌==◌, not, Result, Ok, Err}
-use Rattle.std.proofs.lemmas.Bool.{cond-true, cond-false}
-use Rattle.rx_terms.specs.Ascii.{solidus}
-use Rattle.rx_terms.specs.Text.{Chars}
-use Rattle.rx_chars.specs.declared.syntax.Syntax.{Syntax}
-use Rattle.rx_chars.specs.declared.syntax.Syntax.TheVariants.{Html, Xhtml}
+use Rattle.rx_terms.proofs.Common.{◌≡◌, ◌≢◌, ◌∙◌, inl, inr, Bool, ℕ, true, false, [], ◌∷◌, ◌++◌, Option, refl, ap, sym, append_assoc, ◌&&◌, ◌||◌, ◌==◌, not, cond-true, cond-false, solidus, Chars, either, not_both_ways, by_test}
+use Rattle.std.specs.Prelude.{Result, Ok, Err}
+use Rattle.rx_grammar.proofs.Common.{Syntax, Html, Xhtml, meaning, Tag, tag, begins_tag, begins, SpellsTag, has_markup, begins_markup}
 use Rattle.rx_grammar.specs.declared.contents.Content.{Content}
 use Rattle.rx_grammar.specs.declared.faults.Kind.{Kind}
 use Rattle.rx_grammar.specs.declared.faults.Kind.TheVariants.{BadTag}
-use Rattle.rx_grammar.specs.References.{meaning}
-use Rattle.rx_grammar.specs.Tokens.{Tag, tag}
-use Rattle.rx_grammar.specs.Shapes.{begins_tag, begins}
-use Rattle.rx_grammar.specs.Tags.{SpellsTag}
-use Rattle.rx_grammar.specs.Spelling.{has_markup, begins_markup}
 use Rattle.rx_reader.specs.Tables.{is_html, is_last}
 use Rattle.rx_reader.specs.TagReader.{TagState, fresh, tag_on, checked}
 use Rattle.rx_pages.specs.Scanner.{goes_on, whole, told_of_tag, in_tag, in_markup, is_mark, ReadAs}
 use Rattle.rx_pages.proofs.Reading.{Last, no_last, a_last, last_of, all_go, read_to, markup_is}
-use Rattle.rx_terms.proofs.Bools.{either, not_both_ways, by_test}
 use Rattle.rx_reader.proofs.Classes.{of_one}
 use Rattle.rx_reader.proofs.TagLaws.{reads_each, on_err, stuck, tag_on-append}
 use Rattle.rx_reader.proofs.OneToken.{tag_first}

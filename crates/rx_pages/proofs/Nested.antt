@@ -1,28 +1,15 @@
 -- What the nodes of a page are, the steps of their tokens tell.
-use Rattle.std.proofs.lemmas.Bool.{cond-true, cond-false, or_parts}
+use Rattle.rx_terms.proofs.Common.{cond-true, cond-false, or_parts, nat_tests, bytes_decides, ◌≡◌, ◌∙◌, ℕ, suc, ◌+◌, Bool, true, false, List, [], ◌∷◌, ◌++◌, Some, None, refl, ap, sym, subst, arith, ◌&&◌, not, nat_le, Chars, both, by_test}
 use Rattle.std.proofs.lemmas.Grind.{common_steps}
-use Rattle.std.proofs.lemmas.Bool.Decides.{nat_tests}
-use Rattle.std.specs.Cmp.Lexicographic.{bytes_decides}
-use Rattle.std.proofs.Common.{◌≡◌, ◌∙◌, ℕ, suc, ◌+◌, Bool, true, false, List, [], ◌∷◌, ◌++◌, Some, None, refl, ap, sym, subst, arith}
-use Rattle.std.specs.Prelude.{◌&&◌, not, Result, Ok, length, nat_le}
-use Rattle.rx_terms.specs.Text.{Chars}
-use Rattle.rx_chars.specs.declared.syntax.Syntax.{Syntax}
+use Rattle.std.specs.Prelude.{Result, Ok, length}
+use Rattle.rx_grammar.proofs.Common.{Syntax, same, is_among, Tag, Token, tag, character, reference, kept, section, comment, Place, outside, place_in, is_alone, is_html, is_plaintext, is_self_closed, hides, drops_line_feed, StartTag, Tree, end, element, after_text, has_element, Item, start_of, text_of, enders, is_omissible, is_held, is_ended_by, Opens, Closes, Drops, shown, Holds, nothing, a_text, alone, closed, unclosed, root_name, Line, inside_of, parent_of, enders_of, Phase, within, under_start, after_end, is_innermost, has_ended, is_before, first_row}
 use Rattle.rx_grammar.specs.declared.contents.Content.{Content}
 use Rattle.rx_grammar.specs.declared.faults.Kind.{Kind}
 use Rattle.rx_grammar.specs.declared.faults.Kind.TheVariants as kind
-use Rattle.rx_grammar.specs.Names.{same, is_among}
-use Rattle.rx_grammar.specs.Tokens.{Tag, Token, tag, character, reference, kept, section, comment}
-use Rattle.rx_grammar.specs.Contents.{Place, outside, place_in, is_alone, is_html, is_plaintext, is_self_closed, hides, drops_line_feed}
-use Rattle.rx_grammar.specs.Trees.{StartTag, Tree, end, element, after_text, has_element}
-use Rattle.rx_grammar.specs.Items.{Item, start_of, text_of}
-use Rattle.rx_grammar.specs.Omission.{enders, is_omissible, is_held, is_ended_by}
-use Rattle.rx_grammar.specs.Pages.{Opens, Closes, Drops, a_line_feed, another, no_more, shown, Holds, nothing, a_text, a_comment, alone, closed, unclosed, root_name}
-use Rattle.rx_grammar.specs.Begun.{Line, inside_of, parent_of, enders_of, Phase, within}
-use Rattle.rx_grammar.specs.PageFaults.{under_start, after_end, is_innermost, has_ended, is_before, first_row}
+use Rattle.rx_grammar.specs.Pages.{a_line_feed, another, no_more, a_comment}
 use Rattle.rx_pages.specs.Nesting.{Event, begins, says, finishes, Nesting, Step, ended_under, ended_by_end, over, begun_under, line_above, step_by, nest_step, Goes, stands, goes, with_element, with_text, told_trees}
 use Rattle.rx_pages.proofs.Contents.{omissible_html}
 use Rattle.rx_pages.proofs.Steps.{inside_at, in_line, after_one, undropped, dropped, of_start, of_end, passing, ended}
-use Rattle.rx_terms.proofs.Bools.{both, by_test}
 
 pub has_after_text : (names : List Chars) (chars : Chars) (nodes : Tree) → has_element names (after_text chars nodes) ≡ has_element names nodes
 has_after_text names (c ∷ chars) end = refl

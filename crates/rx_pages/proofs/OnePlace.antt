@@ -1,12 +1,9 @@
 -- The front of a page has one line of open elements and one phase, whatever comes next.
-use Rattle.std.proofs.Common.{◌≡◌, ◌∙◌, ℕ, List, [], ◌∷◌, ◌++◌, Some, None, ap, sym, subst, append_assoc}
+use Rattle.rx_terms.proofs.Common.{◌≡◌, ◌∙◌, ℕ, List, [], ◌∷◌, ◌++◌, Some, None, ap, sym, subst, append_assoc}
 use Rattle.std.specs.Prelude.{Ok}
 use Rattle.std.proofs.lemmas.List.{append_cancel_right}
-use Rattle.rx_chars.specs.Characters.{Entry}
+use Rattle.rx_grammar.proofs.Common.{Entry, Syntax, Spells, Item, Spelled, no_more, one, values, next_of}
 use Rattle.rx_chars.proofs.CharactersLemmas.{one_reading}
-use Rattle.rx_chars.specs.declared.syntax.Syntax.{Syntax}
-use Rattle.rx_grammar.specs.Spelling.{Spells}
-use Rattle.rx_grammar.specs.Items.{Item, Spelled, no_more, one, values, next_of}
 use Rattle.rx_pages.specs.Nesting.{Event, Nesting, Step, nest_step, Goes, stands, goes}
 use Rattle.rx_pages.specs.Laws.{OnePlace}
 use Rattle.rx_pages.proofs.Tokens.{same_item}

@@ -1,29 +1,12 @@
 -- What holds wherever tokens lead: a page that is over has nothing open, and the open elements have the names of start tags.
-use Rattle.std.proofs.Common.{◌≡◌, ◌∙◌, ◌⊎◌, ⊎_elim, inl, inr, ℕ, ◌+◌, Bool, true, false, List, [], ◌∷◌, ◌++◌, Option, refl, ap, sym, subst}
-use Rattle.std.specs.Prelude.{◌&&◌, ◌==◌, not, Result, Ok}
-use Rattle.std.specs.List.{list_all}
-use Rattle.std.specs.Char.{len_utf8}
-use Rattle.std.specs.Str.{all_scalars}
-use lib.Utf8.{scalar}
-use Rattle.std.proofs.lemmas.Bool.{and_from, cond-true, cond-false}
-use Rattle.rx_terms.specs.Text.{Chars}
-use Rattle.rx_chars.specs.Characters.{Entry, line_feed, carriage_return, as_line_end, placed, entered, without_mark}
-use Rattle.rx_chars.specs.declared.syntax.Syntax.{Syntax}
+use Rattle.rx_terms.proofs.Common.{◌≡◌, ◌∙◌, ◌⊎◌, ⊎_elim, inl, inr, ℕ, ◌+◌, Bool, true, false, List, [], ◌∷◌, ◌++◌, Option, refl, ap, sym, subst, ◌&&◌, ◌==◌, not, list_all, len_utf8, all_scalars, scalar, and_from, cond-true, cond-false, Chars, both, by_test, split}
+use Rattle.std.specs.Prelude.{Result, Ok}
+use Rattle.rx_grammar.proofs.Common.{Entry, line_feed, carriage_return, as_line_end, placed, entered, without_mark, Syntax, same, is_among, Tag, Token, tag, character, reference, kept, section, comment, doctype, is_alone, is_html, Spells, enders, is_omissible, is_held, Item, Spelled, no_more, one, values, next_of, is_line_feed, has_no_nul, Line, inside_of, parent_of, Phase, before, within, after, under_start, after_start, after_end, first_row, tag_rows}
 use Rattle.rx_grammar.specs.declared.faults.Kind.{Kind}
-use Rattle.rx_grammar.specs.Names.{same, is_among}
-use Rattle.rx_grammar.specs.Tokens.{Tag, Token, tag, character, reference, kept, section, comment, doctype}
-use Rattle.rx_grammar.specs.Contents.{is_alone, is_html}
-use Rattle.rx_grammar.specs.Spelling.{Spells}
-use Rattle.rx_grammar.specs.Omission.{enders, is_omissible, is_held}
-use Rattle.rx_grammar.specs.Items.{Item, Spelled, no_more, one, values, next_of, is_line_feed}
-use Rattle.rx_grammar.specs.Pages.{has_no_nul}
-use Rattle.rx_grammar.specs.Begun.{Line, inside_of, parent_of, Phase, before, within, after}
-use Rattle.rx_grammar.specs.PageFaults.{under_start, after_start, after_end, first_row, tag_rows}
 use Rattle.rx_pages.specs.Nesting.{Event, Nesting, Step, over, begun_under, line_above, tag_passes, going_on, text_step, doctype_step, step_by, Goes, stands, goes}
 use Rattle.rx_pages.proofs.Steps.{passes}
 use Rattle.rx_pages.proofs.Befores.{is_tag, IsLast, LastIs}
 use Rattle.rx_pages.proofs.OpenNames.{is_fair, IsName, start_name}
-use Rattle.rx_terms.proofs.Bools.{both, by_test, split}
 use Rattle.rx_pages.proofs.FrontRead.{of_page}
 
 -- the characters of a page are fair

@@ -1,26 +1,14 @@
 -- The names of open elements: their end tags are spelled with them.
-use Rattle.std.proofs.Common.{◌≡◌, ◌∙◌, ◌⊎◌, inl, inr, ℕ, ◌+◌, ◌<◌, Bool, true, false, List, [], ◌∷◌, ◌++◌, Option, Some, refl, ap, sym, subst, arith}
-use Rattle.std.specs.Prelude.{◌&&◌, ◌==◌, not, codes, map}
-use Rattle.std.specs.List.{list_all}
-use lib.Utf8.{scalar, low_scalar}
-use Rattle.std.proofs.lemmas.Bool.{and_from, cond-true, cond-false}
-use Rattle.std.proofs.lemmas.Bool.Decides.{nat_tests}
-use Rattle.rx_terms.specs.Ascii.{solidus, greater_than_sign, carriage_return, line_feed, lowered_char, between, is_letter}
-use Rattle.rx_terms.specs.Text.{Chars, lowered}
-use Rattle.rx_chars.specs.declared.syntax.Syntax.{Syntax}
-use Rattle.rx_chars.specs.declared.syntax.Syntax.TheVariants.{Html, Xhtml}
+use Rattle.rx_terms.proofs.Common.{◌≡◌, ◌∙◌, ◌⊎◌, inl, inr, ℕ, ◌+◌, ◌<◌, Bool, true, false, List, [], ◌∷◌, ◌++◌, Option, Some, refl, ap, sym, subst, arith, ◌&&◌, ◌==◌, not, list_all, scalar, and_from, cond-true, cond-false, nat_tests, solidus, greater_than_sign, carriage_return, line_feed, lowered_char, is_letter, Chars, lowered, both, by_test, split, not_both_ways}
+use Rattle.std.specs.Prelude.{codes, map}
+use lib.Utf8.{low_scalar}
+use Rattle.rx_terms.specs.Ascii.{between}
+use Rattle.rx_grammar.proofs.Common.{Syntax, Html, Xhtml, same, is_among, name_of_raw, Tag, tag, ends_name, begins_tag, is_tag_char, Shape, a_start, an_end, cased, is_repeated, SpellsTag, Spells, has_markup, raw_name, a_tag, an_end_of_raw, Place, in_html, inside_html, html_in_svg, place_in, StartTag, Line, inside_of}
 use Rattle.rx_grammar.specs.declared.contents.Content.{Content}
 use Rattle.rx_grammar.specs.declared.contents.Content.TheVariants as content
 use Rattle.rx_grammar.specs.declared.contents.RawName.{RawName}
-use Rattle.rx_grammar.specs.Names.{same, is_among, name_of_raw}
-use Rattle.rx_grammar.specs.Tokens.{Tag, tag}
-use Rattle.rx_grammar.specs.Shapes.{ends_name, begins_tag, is_tag_char, is_tag_name, is_strict_start, is_strict_char, Shape, a_start, an_end}
-use Rattle.rx_grammar.specs.Tags.{cased, is_repeated, SpellsTag}
-use Rattle.rx_grammar.specs.Spelling.{Spells, has_markup, raw_name, a_tag, an_end_of_raw}
-use Rattle.rx_grammar.specs.Contents.{Place, in_html, raw_place, raw_names, rcdata_names, inside_html, html_in_svg, inside_at, place_in}
-use Rattle.rx_grammar.specs.Trees.{StartTag}
-use Rattle.rx_grammar.specs.Begun.{Line, inside_of}
-use Rattle.rx_terms.proofs.Bools.{both, by_test, split, not_both_ways}
+use Rattle.rx_grammar.specs.Shapes.{is_tag_name, is_strict_start, is_strict_char}
+use Rattle.rx_grammar.specs.Contents.{raw_place, raw_names, rcdata_names, inside_at}
 use Rattle.rx_reader.proofs.Classes.{of_one, unless}
 use Rattle.rx_pages.proofs.Contents.{same_is}
 use Rattle.rx_reader.proofs.OneToken.{kept_case}

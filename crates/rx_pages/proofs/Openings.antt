@@ -1,22 +1,15 @@
 -- In XHTML `<` and what begins an opening goes on, and what begins none is refused.
-use Rattle.std.proofs.Common.{◌≡◌, ◌∙◌, ℕ, true, false, List, [], ◌∷◌, ◌++◌, refl, ap, sym, subst, inl, inr, eqb-true}
-use Rattle.std.specs.Prelude.{◌&&◌, ◌||◌, ◌==◌, not, codes}
-use Rattle.std.specs.List.{list_any}
-use Rattle.std.proofs.lemmas.Bool.{cond-false, or_from, or_parts}
-use Rattle.rx_terms.specs.Text.{Chars, begins_with}
-use Rattle.rx_chars.specs.declared.syntax.Syntax.TheVariants.{Xhtml}
+use Rattle.rx_terms.proofs.Common.{◌≡◌, ◌∙◌, ℕ, true, false, List, [], ◌∷◌, ◌++◌, refl, ap, sym, subst, inl, inr, eqb-true, ◌&&◌, ◌||◌, ◌==◌, not, list_any, cond-false, or_from, or_parts, Chars, begins_with, both, either, untrue, not_both_ways, by_test}
+use Rattle.std.specs.Prelude.{codes}
+use Rattle.rx_grammar.proofs.Common.{Xhtml, meaning, begins_tag, begins, has_markup, has_sections, meets_opening, is_opening_begun}
 use Rattle.rx_grammar.specs.declared.contents.Content.{Content}
 use Rattle.rx_grammar.specs.declared.faults.Kind.TheVariants.{BadTag}
-use Rattle.rx_grammar.specs.References.{meaning}
-use Rattle.rx_grammar.specs.Shapes.{begins_tag, begins}
-use Rattle.rx_grammar.specs.Spelling.{has_markup, has_sections}
-use Rattle.rx_grammar.specs.PageFaults.{openings, meets_opening, is_opening_begun}
+use Rattle.rx_grammar.specs.PageFaults.{openings}
 use Rattle.rx_reader.specs.TagReader.{fresh, moved, checked}
 use Rattle.rx_pages.specs.Scanner.{refused, told_of_tag, in_markup, verdict, GoesOn}
 use Rattle.rx_pages.proofs.Reading.{markup_is}
 use Rattle.rx_pages.proofs.Pending.{goes_within}
 use Rattle.rx_pages.proofs.Refusals.{IsRefused}
-use Rattle.rx_terms.proofs.Bools.{both, either, untrue, not_both_ways, by_test}
 use Rattle.rx_reader.proofs.Classes.{of_one}
 use Rattle.rx_reader.proofs.Fronts.{equal}
 

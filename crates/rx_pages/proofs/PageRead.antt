@@ -1,14 +1,8 @@
 -- The reader of bytes reads each page.
-use Rattle.std.proofs.Common.{◌≡◌, ◌∙◌, ℕ, List, [], ◌++◌, refl, sym, ap, subst, length, append-nil, Ok, Err, true, false}
-use Rattle.std.specs.Prelude.{if◌then◌else◌}
-use Rattle.rx_chars.specs.declared.syntax.Syntax.{Syntax}
-use Rattle.rx_chars.specs.Characters.{IsRead}
+use Rattle.rx_terms.proofs.Common.{◌≡◌, ◌∙◌, ℕ, List, [], ◌++◌, refl, sym, ap, subst, length, append-nil, Ok, Err, true, false, if◌then◌else◌}
+use Rattle.rx_grammar.proofs.Common.{Syntax, IsRead, Tree, Item, Page, has_no_nul, Phase, after}
 use Rattle.rx_grammar.specs.declared.faults.Kind.TheVariants.{Unended}
 use Rattle.rx_grammar.specs.declared.limits.Limits.{Limits}
-use Rattle.rx_grammar.specs.Trees.{Tree}
-use Rattle.rx_grammar.specs.Items.{Item}
-use Rattle.rx_grammar.specs.Pages.{Page, has_no_nul}
-use Rattle.rx_grammar.specs.Begun.{Phase, after}
 use Rattle.rx_pages.specs.Nesting.{IsAt, told_trees}
 use Rattle.rx_pages.specs.PageReader.{Progress, nothing_read, page_on, page_read, end_of, is_over, fault_in}
 use Rattle.rx_pages.specs.Laws.{PageIsRead}

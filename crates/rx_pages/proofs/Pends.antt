@@ -1,25 +1,12 @@
 -- What characters that go on are, and what the next one makes of them: text, references, tags and raw text.
-use Rattle.std.proofs.Common.{◌≡◌, ◌≢◌, ◌∙◌, ℕ, cond, Bool, true, false, List, [], ◌∷◌, ◌++◌, Option, Some, None, Result, Ok, Err, refl, ap, sym, subst, inl, inr, eqb-true}
-use Rattle.std.specs.Prelude.{◌&&◌, ◌||◌, ◌==◌, not, codes}
-use Rattle.rx_terms.specs.Ascii.{ampersand, semicolon, solidus, less_than_sign}
-use Rattle.rx_terms.specs.Text.{Chars, lowered}
-use Rattle.rx_chars.specs.declared.syntax.Syntax.{Syntax}
-use Rattle.rx_chars.specs.declared.syntax.Syntax.TheVariants.{Html, Xhtml}
+use Rattle.rx_terms.proofs.Common.{◌≡◌, ◌≢◌, ◌∙◌, ℕ, cond, Bool, true, false, List, [], ◌∷◌, ◌++◌, Option, Some, None, Result, Ok, Err, refl, ap, sym, subst, inl, inr, eqb-true, ◌&&◌, ◌||◌, ◌==◌, not, ampersand, semicolon, solidus, less_than_sign, Chars, lowered, both, either, not_both_ways, split, and-true, or_parts}
+use Rattle.std.specs.Prelude.{codes}
+use Rattle.rx_grammar.proofs.Common.{Syntax, Html, Xhtml, same, name_of_raw, is_name, is_body, is_begun, stops_at, meaning, Tag, tag, reference, ends_name, begins, cased, SpellsTag, RunFault, unknown, bad, no_reference, Spells, has_markup, has_references, keeps_runs, has_sections, has_less_than, is_text, begins_markup, raw_name, begins_end, stops_end, ends_with, ends_comment, begins_declaration, doctype_word, Item, Line, Phase, Faulty, is_opening_begun}
 use Rattle.rx_grammar.specs.declared.contents.Content.{Content}
 use Rattle.rx_grammar.specs.declared.contents.Content.TheVariants as content
 use Rattle.rx_grammar.specs.declared.faults.Kind.{Kind}
 use Rattle.rx_grammar.specs.declared.faults.Kind.TheVariants as kind
-use Rattle.rx_grammar.specs.Names.{same, name_of_raw}
-use Rattle.rx_grammar.specs.References.{is_name, is_body, is_begun, stops_at, meaning}
-use Rattle.rx_grammar.specs.Tokens.{Tag, tag, reference}
-use Rattle.rx_grammar.specs.Shapes.{ends_name, begins}
-use Rattle.rx_grammar.specs.Tags.{cased, SpellsTag}
-use Rattle.rx_grammar.specs.TagFaults.{RunFault, unknown, bad, no_reference}
-use Rattle.rx_grammar.specs.Spelling.{Spells, has_markup, has_references, keeps_runs, has_sections, has_less_than, is_text, begins_markup, raw_name, begins_end, stops_end, ends_with, ends_comment, begins_declaration, doctype_word}
 use Rattle.rx_grammar.specs.Spelling as spelling
-use Rattle.rx_grammar.specs.Items.{Item}
-use Rattle.rx_grammar.specs.Begun.{Line, Phase}
-use Rattle.rx_grammar.specs.PageFaults.{Faulty, is_opening_begun}
 use Rattle.rx_grammar.specs.PageFaults as faults
 use Rattle.rx_reader.specs.Tables.{is_last}
 use Rattle.rx_reader.specs.TagReader.{TagState, fresh, tag_step, tag_step_on, tag_on, tag_of}
@@ -29,15 +16,12 @@ use Rattle.rx_pages.proofs.Reading.{markup_is}
 use Rattle.rx_pages.proofs.FirstFronts.{NoFront, NoneBefore}
 use Rattle.rx_pages.proofs.TagRuns.{KnownEnd, is_known_by, end_more, known_at, Known, in_markup', in_raw', is_known}
 use Rattle.rx_pages.proofs.RawEnds.{is_raw_name, end_reads, ends_raw}
-use Rattle.rx_terms.proofs.Bools.{both, either, not_both_ways, split}
 use Rattle.rx_reader.proofs.Classes.{of_one}
 use Rattle.rx_reader.proofs.Fronts.{equal}
 use Rattle.rx_pages.proofs.Contents.{same_is}
 use Rattle.rx_reader.proofs.TagLaws.{spells_each, tag_on-append, repeats_once}
 use Rattle.rx_reader.proofs.TagFaultLaws.{refuses_each_fault}
 use Rattle.rx_pages.proofs.Markup.{is_first, markup_tag}
-use Rattle.std.proofs.Math.Bool.{and-true}
-use Rattle.std.proofs.lemmas.Bool.{or_parts}
 
 -- the contents of a syntax
 abbrev pub occurs : Syntax → Content → Bool

@@ -1,21 +1,12 @@
 -- What the next character makes of `<`, and of `<!` before it is known what begins there.
-use Rattle.std.proofs.Common.{◌≡◌, ◌∙◌, ℕ, Bool, true, false, List, [], ◌∷◌, ◌++◌, refl, ap, sym, subst, append-nil, inl, inr}
-use Rattle.std.specs.Prelude.{◌&&◌, ◌||◌, ◌==◌, not, codes}
-use Rattle.std.specs.List.{list_any}
-use Rattle.std.proofs.lemmas.List.{map-append}
-use Rattle.std.proofs.lemmas.Bool.{cond-true, cond-false, and_from, or_parts}
-use Rattle.rx_terms.specs.Ascii.{lowered_char, solidus, is_letter}
-use Rattle.rx_terms.specs.Text.{Chars, lowered, begins_with}
-use Rattle.rx_chars.specs.declared.syntax.Syntax.{Syntax}
-use Rattle.rx_chars.specs.declared.syntax.Syntax.TheVariants.{Html, Xhtml}
+use Rattle.rx_terms.proofs.Common.{◌≡◌, ◌∙◌, ℕ, Bool, true, false, List, [], ◌∷◌, ◌++◌, refl, ap, sym, subst, append-nil, inl, inr, ◌&&◌, ◌||◌, ◌==◌, not, list_any, map-append, cond-true, cond-false, and_from, or_parts, lowered_char, solidus, is_letter, Chars, lowered, begins_with, both, either, not_both_ways, by_test, split, untrue, and-false}
+use Rattle.std.specs.Prelude.{codes}
+use Rattle.rx_grammar.proofs.Common.{Syntax, Html, Xhtml, comment, begins_tag, Spells, has_markup, has_sections, has_less_than, begins_markup, ends_with, ends_comment, begins_declaration, Faulty, meets_opening, is_opening_begun}
 use Rattle.rx_grammar.specs.declared.contents.Content.{Content}
 use Rattle.rx_grammar.specs.declared.contents.Content.TheVariants as content
 use Rattle.rx_grammar.specs.declared.faults.Kind.TheVariants as kind
-use Rattle.rx_grammar.specs.Tokens.{comment}
-use Rattle.rx_grammar.specs.Shapes.{begins_tag}
-use Rattle.rx_grammar.specs.Spelling.{Spells, has_markup, has_sections, has_less_than, begins_markup, ends_with, ends_comment, begins_declaration}
 use Rattle.rx_grammar.specs.Spelling as spelling
-use Rattle.rx_grammar.specs.PageFaults.{Faulty, openings, meets_opening, is_opening_begun}
+use Rattle.rx_grammar.specs.PageFaults.{openings}
 use Rattle.rx_grammar.specs.PageFaults as faults
 use Rattle.rx_reader.specs.TagReader.{fresh}
 use Rattle.rx_reader.specs.Laws.{ReadsOn}
@@ -28,10 +19,8 @@ use Rattle.rx_pages.proofs.FirstFronts.{NoFront, no_front_nil, none_before_nil, 
 use Rattle.rx_pages.proofs.TagRuns.{in_markup'}
 use Rattle.rx_pages.proofs.Pends.{occurs, Pends, in_a_tag, in_question, in_instruction, in_bogus, in_html_comment, in_strict, in_a_doctype, in_a_section, in_an_opening, Out, tag_out}
 use Rattle.rx_pages.proofs.PendsMarks.{by_whole, as_verdict}
-use Rattle.rx_terms.proofs.Bools.{both, either, not_both_ways, by_test, split, untrue}
 use Rattle.rx_reader.proofs.Classes.{of_one}
 use Rattle.rx_reader.proofs.Fronts.{equal, has_end}
-use Rattle.std.proofs.Math.Bool.{and-false}
 use Rattle.rx_reader.proofs.TagLaws.{repeats_once}
 use Rattle.rx_pages.proofs.Markup.{is_first}
 

@@ -1,21 +1,11 @@
 -- What a tag leaves open of the elements at the front of a page.
-use Rattle.std.proofs.lemmas.Bool.{cond-true, cond-false, and_from}
-use Rattle.std.proofs.Common.{◌≡◌, ◌∙◌, ℕ, ◌+◌, Bool, true, false, cond, List, [], ◌∷◌, Option, Some, refl, ap, sym, arith, length}
-use Rattle.std.specs.Prelude.{◌&&◌, not}
-use Rattle.rx_terms.specs.Text.{Chars}
-use Rattle.rx_chars.specs.declared.syntax.Syntax.{Syntax}
-use Rattle.rx_grammar.specs.Names.{same, is_among, row_of}
-use Rattle.rx_grammar.specs.Tokens.{Tag, tag}
-use Rattle.rx_grammar.specs.Contents.{Place, is_html}
-use Rattle.rx_grammar.specs.Trees.{StartTag}
-use Rattle.rx_grammar.specs.Items.{Item}
-use Rattle.rx_grammar.specs.Omission.{enders, names_of, has_row, is_omissible, is_held, ends_by, is_ended_by}
-use Rattle.rx_grammar.specs.Begun.{Line, inside_of, parent_of, enders_of, Open}
-use Rattle.rx_grammar.specs.PageFaults.{after_start, after_end}
+use Rattle.rx_terms.proofs.Common.{cond-true, cond-false, and_from, ◌≡◌, ◌∙◌, ℕ, ◌+◌, Bool, true, false, cond, List, [], ◌∷◌, Option, Some, refl, ap, sym, arith, length, ◌&&◌, not, Chars, both, untrue, not_both_ways, by_test, split}
+use Rattle.rx_grammar.proofs.Common.{Syntax, same, is_among, Tag, tag, Place, is_html, StartTag, Item, enders, is_omissible, is_held, is_ended_by, Line, inside_of, parent_of, enders_of, Open, after_start, after_end}
+use Rattle.rx_grammar.specs.Names.{row_of}
+use Rattle.rx_grammar.specs.Omission.{names_of, has_row, ends_by}
 use Rattle.rx_pages.proofs.Contents.{omissible_html}
 use Rattle.rx_pages.proofs.Steps.{same_turned}
 use Rattle.rx_pages.proofs.Growing.{pops}
-use Rattle.rx_terms.proofs.Bools.{both, untrue, not_both_ways, by_test, split}
 
 -- an element with a row is omissible
 ender_omits : (place : Place) (name other : Chars) → is_among (enders place name) other ≡ true → is_omissible place name ≡ true

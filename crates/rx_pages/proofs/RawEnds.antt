@@ -1,25 +1,14 @@
 -- The end tags of raw elements, in HTML.
-use Rattle.std.proofs.Common.{◌≡◌, ◌∙◌, ℕ, ◌+◌, true, false, [], ◌∷◌, ◌++◌, Some, refl, ap, sym, subst, arith}
-use Rattle.std.specs.Prelude.{◌==◌, not}
-use Rattle.std.specs.List.{list_all}
-use Rattle.std.proofs.lemmas.Bool.{cond-false, and_from}
-use Rattle.std.proofs.lemmas.Bool.Decides.{nat_tests}
-use Rattle.rx_terms.specs.Ascii.{lowered_char, between, is_letter, is_white_space, solidus, greater_than_sign}
-use Rattle.rx_terms.specs.Text.{Chars, lowered}
-use Rattle.rx_chars.specs.declared.syntax.Syntax.{Syntax}
-use Rattle.rx_chars.specs.declared.syntax.Syntax.TheVariants.{Html}
+use Rattle.rx_terms.proofs.Common.{◌≡◌, ◌∙◌, ℕ, ◌+◌, true, false, [], ◌∷◌, ◌++◌, Some, refl, ap, sym, subst, arith, ◌==◌, not, list_all, cond-false, and_from, nat_tests, lowered_char, is_letter, is_white_space, solidus, greater_than_sign, Chars, lowered, both, not_both_ways, by_test, untrue}
+use Rattle.rx_terms.specs.Ascii.{between}
+use Rattle.rx_grammar.proofs.Common.{Syntax, Html, name_of_raw, Tag, ends_name, Shape, a_start, an_end, cased, SpellsTag, raw_name}
 use Rattle.rx_grammar.specs.declared.contents.Content.{Content}
 use Rattle.rx_grammar.specs.declared.contents.Content.TheVariants as content
 use Rattle.rx_grammar.specs.declared.contents.RawName.{RawName}
 use Rattle.rx_grammar.specs.declared.contents.RawName.TheVariants.{Script}
-use Rattle.rx_grammar.specs.Names.{name_of_raw}
-use Rattle.rx_grammar.specs.Tokens.{Tag}
-use Rattle.rx_grammar.specs.Shapes.{ends_name, is_tag_name, Shape, a_start, an_end}
-use Rattle.rx_grammar.specs.Tags.{cased, SpellsTag}
-use Rattle.rx_grammar.specs.Spelling.{raw_name}
+use Rattle.rx_grammar.specs.Shapes.{is_tag_name}
 use Rattle.rx_reader.specs.Laws.{ReadsOn}
 use Rattle.rx_pages.proofs.TagRuns.{KnownEnd, front_of}
-use Rattle.rx_terms.proofs.Bools.{both, not_both_ways, by_test, untrue}
 use Rattle.rx_reader.proofs.Classes.{of_white, of_one, unless}
 use Rattle.rx_reader.proofs.TagLaws.{reads_each}
 

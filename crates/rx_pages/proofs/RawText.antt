@@ -1,19 +1,11 @@
 -- Raw text and its end tag are read as they are spelled.
-use Rattle.std.proofs.Common.{◌≡◌, ◌≢◌, ◌∙◌, ℕ, true, false, [], ◌∷◌, ◌++◌, Option, Some, None, refl, ap, sym, subst, append-nil, append_assoc}
-use Rattle.std.specs.Prelude.{◌&&◌, not}
-use Rattle.std.proofs.lemmas.Bool.{cond-true, cond-false, and_from}
-use Rattle.std.proofs.lemmas.List.{map-append}
-use Rattle.rx_terms.specs.Ascii.{lowered_char, solidus}
-use Rattle.rx_terms.specs.Text.{Chars, begins_with, lowered}
-use Rattle.rx_chars.specs.declared.syntax.Syntax.{Syntax}
+use Rattle.rx_terms.proofs.Common.{◌≡◌, ◌≢◌, ◌∙◌, ℕ, true, false, [], ◌∷◌, ◌++◌, Option, Some, None, refl, ap, sym, subst, append-nil, append_assoc, ◌&&◌, not, cond-true, cond-false, and_from, map-append, lowered_char, solidus, Chars, begins_with, lowered, both, by_test, untrue}
+use Rattle.rx_grammar.proofs.Common.{Syntax, Tag, tag, kept, SpellsTag, raw_name, begins_end, stops_end}
 use Rattle.rx_grammar.specs.declared.contents.Content.{Content}
-use Rattle.rx_grammar.specs.Tokens.{Tag, tag, kept}
-use Rattle.rx_grammar.specs.Tags.{SpellsTag}
-use Rattle.rx_grammar.specs.Spelling.{raw_name, begins_end, stops_end, IsBefore}
+use Rattle.rx_grammar.specs.Spelling.{IsBefore}
 use Rattle.rx_pages.specs.Scanner.{goes_on, whole, in_raw, ReadAs, at_next}
 use Rattle.rx_pages.proofs.Reading.{Last, no_last, a_last, last_of, all_go, read_to, raw_is}
 use Rattle.rx_pages.proofs.Markup.{tag_goes, tag_ends, more_left}
-use Rattle.rx_terms.proofs.Bools.{both, by_test, untrue}
 use Rattle.rx_reader.proofs.Fronts.{begins_front}
 use Rattle.rx_reader.proofs.OneToken.{RawEnd, raw_end, not_front, run_not_end}
 

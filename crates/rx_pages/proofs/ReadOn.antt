@@ -1,12 +1,6 @@
 -- The characters of the front of a page's bytes are the first of the page's characters.
-use Rattle.std.proofs.Common.{◌≡◌, ◌∙◌, ℕ, ◌+◌, ◌-◌, Bool, false, List, [], ◌∷◌, ◌++◌, refl, ap, sym}
-use Rattle.std.specs.Prelude.{◌&&◌, ◌==◌}
-use Rattle.std.specs.Char.{len_utf8}
-use Rattle.std.specs.Str.{chars}
-use Rattle.std.proofs.lemmas.Str.{chars-append, chars-encodes}
-use Rattle.std.proofs.lemmas.Bool.{cond-true, cond-false}
-use Rattle.rx_chars.specs.Characters.{Entry, IsRead, line_feed, carriage_return, byte_order_mark, placed, without_mark, line_end_entry, entered}
-use Rattle.rx_terms.proofs.Bools.{by_test}
+use Rattle.rx_terms.proofs.Common.{◌≡◌, ◌∙◌, ℕ, ◌+◌, ◌-◌, Bool, false, List, [], ◌∷◌, ◌++◌, refl, ap, sym, ◌&&◌, ◌==◌, len_utf8, chars, chars-append, chars-encodes, cond-true, cond-false, by_test}
+use Rattle.rx_grammar.proofs.Common.{Entry, IsRead, line_feed, carriage_return, byte_order_mark, placed, without_mark, line_end_entry, entered}
 
 -- one list begins with another
 pub record Begins (all front : List Entry) : Type 0 where

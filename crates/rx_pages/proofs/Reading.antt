@@ -1,13 +1,9 @@
 -- What leads from character to character to a verdict.
-use Rattle.std.proofs.Common.{◌≡◌, ◌≢◌, ◌∙◌, ℕ, Bool, true, false, [], ◌∷◌, ◌++◌, Option, Some, None, refl, ap, sym, subst, append-nil, append_assoc}
-use Rattle.rx_terms.specs.Text.{Chars}
-use Rattle.rx_chars.specs.declared.syntax.Syntax.{Syntax}
+use Rattle.rx_terms.proofs.Common.{◌≡◌, ◌≢◌, ◌∙◌, ℕ, Bool, true, false, [], ◌∷◌, ◌++◌, Option, Some, None, refl, ap, sym, subst, append-nil, append_assoc, Chars, not_both_ways}
+use Rattle.rx_grammar.proofs.Common.{Syntax, Token, IsFirst, has_markup, raw_name}
 use Rattle.rx_grammar.specs.declared.contents.Content.{Content}
 use Rattle.rx_grammar.specs.declared.contents.Content.TheVariants as content
-use Rattle.rx_grammar.specs.Tokens.{Token}
-use Rattle.rx_grammar.specs.Spelling.{IsFirst, has_markup, raw_name}
 use Rattle.rx_pages.specs.Scanner.{goes_on, whole, after_less_than, in_markup, verdict, GoesOn, ReadAs, at_last}
-use Rattle.rx_terms.proofs.Bools.{not_both_ways}
 
 -- a text by its last character
 pub data Last (text : Chars) : Type 0 where

@@ -1,19 +1,10 @@
 -- Text and references are read as they are spelled.
-use Rattle.std.proofs.Common.{◌≡◌, ◌∙◌, ℕ, true, false, [], ◌∷◌, ◌++◌, Option, Some, None, refl, ap, sym, append_assoc}
-use Rattle.std.specs.Prelude.{◌&&◌, ◌==◌, not}
-use Rattle.std.specs.List.{list_all}
-use Rattle.std.proofs.lemmas.Bool.{cond-true, cond-false, or_from, or_parts}
-use Rattle.rx_terms.specs.Ascii.{ampersand, semicolon, less_than_sign}
-use Rattle.rx_terms.specs.Text.{Chars}
-use Rattle.rx_chars.specs.declared.syntax.Syntax.{Syntax}
-use Rattle.rx_chars.specs.declared.syntax.Syntax.TheVariants.{Html}
+use Rattle.rx_terms.proofs.Common.{◌≡◌, ◌∙◌, ℕ, true, false, [], ◌∷◌, ◌++◌, Option, Some, None, refl, ap, sym, append_assoc, ◌&&◌, ◌==◌, not, list_all, cond-true, cond-false, or_from, or_parts, ampersand, semicolon, less_than_sign, Chars, both, untrue, not_both_ways, by_test}
+use Rattle.rx_grammar.proofs.Common.{Syntax, Html, is_body, is_begun, stops_at, meaning, character, reference, kept, has_references, keeps_runs, has_less_than, is_text, begins_markup}
 use Rattle.rx_grammar.specs.declared.contents.Content.{Content}
-use Rattle.rx_grammar.specs.References.{is_body, is_begun, stops_at, meaning}
-use Rattle.rx_grammar.specs.Tokens.{character, reference, kept}
-use Rattle.rx_grammar.specs.Spelling.{has_references, keeps_runs, has_less_than, is_text, begins_markup, IsBefore}
+use Rattle.rx_grammar.specs.Spelling.{IsBefore}
 use Rattle.rx_pages.specs.Scanner.{whole, told_of_reference, is_mark, verdict, GoesOn, ReadAs, at_last, at_next}
 use Rattle.rx_pages.proofs.Reading.{all_go, read_to, markup_is}
-use Rattle.rx_terms.proofs.Bools.{both, untrue, not_both_ways, by_test}
 use Rattle.rx_reader.proofs.Classes.{of_one}
 use Rattle.rx_reader.proofs.Fronts.{begun_front, begun_no_mark}
 use Rattle.rx_reader.proofs.TextComplete.{body_begun}

@@ -1,20 +1,11 @@
 -- Reading the entries of a page token by token.
-use Rattle.std.proofs.Common.{◌≡◌, ◌∙◌, ℕ, ◌+◌, ◌<◌, Bool, true, false, List, [], ◌∷◌, ◌++◌, refl, sym, ap, subst, nat_le, append_assoc, append-nil, Result, Ok, Err}
-use Rattle.std.specs.Prelude.{◌&&◌, ◌||◌, ◌==◌, not, if◌then◌else◌}
-use Rattle.rx_terms.specs.Ascii.{greater_than_sign, right_bracket, less_than_sign, ampersand}
-use Rattle.rx_terms.specs.Text.{Chars}
-use Rattle.rx_chars.specs.declared.syntax.Syntax.{Syntax}
-use Rattle.rx_chars.specs.Characters.{Entry}
+use Rattle.rx_terms.proofs.Common.{◌≡◌, ◌∙◌, ℕ, ◌+◌, ◌<◌, Bool, true, false, List, [], ◌∷◌, ◌++◌, refl, sym, ap, subst, append_assoc, append-nil, Result, Ok, Err, ◌&&◌, ◌||◌, ◌==◌, not, if◌then◌else◌, greater_than_sign, right_bracket, less_than_sign, ampersand, Chars, by_test, false_from_ne_true}
+use Rattle.std.proofs.Common.{nat_le}
+use Rattle.rx_grammar.proofs.Common.{Syntax, Entry, Token, tag, character, reference, kept, section, comment, doctype, has_references, is_text, values, Item, is_literal, Phase, before, is_known_tag}
 use Rattle.rx_grammar.specs.declared.contents.Content.{Content}
 use Rattle.rx_grammar.specs.declared.faults.Kind.{Kind}
 use Rattle.rx_grammar.specs.declared.faults.Kind.TheVariants.{BadDoctype, StrictText}
 use Rattle.rx_grammar.specs.declared.limits.Limits.{Limits}
-use Rattle.rx_grammar.specs.Tokens.{Token, tag, character, reference, kept, section, comment, doctype}
-use Rattle.rx_grammar.specs.Spelling.{has_references, is_text}
-use Rattle.rx_grammar.specs.Items.{values, Item, is_literal}
-use Rattle.rx_grammar.specs.Begun.{Phase, before}
-use Rattle.rx_grammar.specs.PageFaults.{is_known_tag}
-use Rattle.rx_terms.proofs.Bools.{by_test}
 use Rattle.rx_pages.specs.Nesting.{Event, Nesting, Step, content_at, nest_step, step_by, going_on, doctype_step, text_step}
 use Rattle.rx_pages.specs.Scanner.{Verdict, goes_on, whole, ended, at_first, verdict, GoesOn}
 use Rattle.rx_pages.specs.PageReader.{Spot, Scanning, Scanned, first_of, is_too_long, item_of, is_doctype, entering, completed, told_first, with_item, told as told_by, spot_of, may_lead, with_events, steps_on, no_step}
@@ -23,7 +14,6 @@ use Rattle.rx_pages.proofs.KnownTags.{TagVerdict, on, known_more, known_verdict}
 use Rattle.rx_pages.proofs.EntrySteps.{Stood, scanning_of, stood_by, nested_by, entry_step}
 use Rattle.rx_pages.proofs.ByteSteps.{not_long}
 use Rattle.rx_pages.proofs.CharWalk.{is_known, Fine}
-use Rattle.std.proofs.lemmas.Bool.{false_from_ne_true}
 
 abbrev pub stood : Nesting → List Event → Bool → Bool → List Entry → Stood
 stood n events two last run = record { run = run; two = two; last = last; nest = n; told = events }

@@ -1,11 +1,7 @@
 -- The tokens of a page are determined by its characters: two lists of tokens that are spelled by the same characters, and both nest, tell the same.
-use Rattle.std.proofs.Common.{◌≡◌, ◌∙◌, ℕ, List, [], ◌∷◌, ◌++◌, None, refl, ap, sym, subst}
+use Rattle.rx_terms.proofs.Common.{◌≡◌, ◌∙◌, ℕ, List, [], ◌∷◌, ◌++◌, None, refl, ap, sym, subst, map-append}
 use Rattle.std.specs.Prelude.{Ok}
-use Rattle.std.proofs.lemmas.List.{map-append}
-use Rattle.rx_chars.specs.Characters.{Entry}
-use Rattle.rx_chars.specs.declared.syntax.Syntax.{Syntax}
-use Rattle.rx_grammar.specs.Spelling.{Spells}
-use Rattle.rx_grammar.specs.Items.{Item, Spelled, no_more, one, values, next_of, last_from}
+use Rattle.rx_grammar.proofs.Common.{Entry, Syntax, Spells, Item, Spelled, no_more, one, values, next_of, last_from}
 use Rattle.rx_pages.specs.Nesting.{Event, Nesting, Step, nest_step, Goes, stands, goes}
 use Rattle.rx_reader.proofs.OneToken.{one_token}
 

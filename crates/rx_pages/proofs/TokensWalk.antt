@@ -1,17 +1,9 @@
 -- Reading all tokens of a front.
-use Rattle.std.proofs.Common.{◌≡◌, ◌∙◌, ℕ, ◌+◌, ◌≤◌, Bool, true, false, cond, List, [], ◌∷◌, ◌++◌, refl, sym, ap, subst, append_assoc, append-nil, Option, Some, None, Ok, arith}
-use Rattle.std.specs.Prelude.{◌&&◌, if◌then◌else◌}
-use Rattle.rx_terms.specs.Ascii.{greater_than_sign, right_bracket}
-use Rattle.rx_terms.specs.Text.{Chars}
-use Rattle.rx_chars.specs.declared.syntax.Syntax.{Syntax}
-use Rattle.rx_chars.specs.Characters.{Entry}
+use Rattle.rx_terms.proofs.Common.{◌≡◌, ◌∙◌, ℕ, ◌+◌, ◌≤◌, Bool, true, false, cond, List, [], ◌∷◌, ◌++◌, refl, sym, ap, subst, append_assoc, append-nil, Option, Some, None, Ok, arith, ◌&&◌, if◌then◌else◌, greater_than_sign, right_bracket, Chars, and-false}
+use Rattle.rx_grammar.proofs.Common.{Syntax, Entry, Token, tag, kept, Spells, values, next_of, Item, last_from, Spelled, no_more, one, Fits, AllFit, is_literal, is_strict_literal, no_section_end, is_known_tag}
 use Rattle.rx_grammar.specs.declared.contents.Content.{Content}
 use Rattle.rx_grammar.specs.declared.contents.Content.TheVariants as content
 use Rattle.rx_grammar.specs.declared.limits.Limits.{Limits}
-use Rattle.rx_grammar.specs.Tokens.{Token, tag, kept}
-use Rattle.rx_grammar.specs.Spelling.{Spells}
-use Rattle.rx_grammar.specs.Items.{values, next_of, Item, last_from, Spelled, no_more, one, Fits, AllFit, is_literal, is_strict_literal, no_section_end}
-use Rattle.rx_grammar.specs.PageFaults.{is_known_tag}
 use Rattle.rx_pages.specs.Nesting.{Event, Nesting, Step, content_at, nest_step, Goes, stands, goes}
 use Rattle.rx_pages.specs.Scanner.{Verdict, whole, ended, verdict, GoesOn, ReadAs, at_last, at_next}
 use Rattle.rx_pages.specs.PageReader.{item_of}
@@ -20,7 +12,6 @@ use Rattle.rx_pages.proofs.Tokens.{values_append}
 use Rattle.rx_pages.proofs.KnownTags.{TagVerdict, on, a_tag, a_fault, known_more, known_verdict}
 use Rattle.rx_pages.proofs.EntrySteps.{Stood}
 use Rattle.rx_pages.proofs.TokenWalk.{stood, IsKept, is_kept, Bound, limit_before, limit_with, go_all, whole_step, kept_unknown, Leads}
-use Rattle.std.proofs.Math.Bool.{and-false}
 use Rattle.rx_pages.proofs.EndedRuns.{ended_kept}
 
 -- places rise

@@ -1,13 +1,8 @@
 -- Texts whose characters are Unicode scalar values.
-use Rattle.std.proofs.Common.{◌≡◌, ℕ, ◌<◌, ◌^◌, Bool, true, false, ◌==◌, [], ◌∷◌, ◌++◌, codes, refl}
-use Rattle.std.specs.Str.{all_scalars}
+use Rattle.rx_terms.proofs.Common.{◌≡◌, ℕ, ◌<◌, ◌^◌, Bool, true, false, [], ◌∷◌, ◌++◌, codes, refl, all_scalars, list_all, and_parts, and_from, line_feed, carriage_return, quotation_mark, reverse_solidus, is_ascii, Chars, ascii-same}
+use Rattle.std.proofs.Common.{◌==◌}
 use Rattle.std.specs.Fmt.{decimal}
-use Rattle.std.specs.List.{list_all}
-use Rattle.std.proofs.lemmas.Bool.{and_parts, and_from}
 use Rattle.std.proofs.lemmas.Fmt.{IsAscii-decimal}
-use Rattle.rx_terms.specs.Ascii.{line_feed, carriage_return, quotation_mark, reverse_solidus, is_ascii}
-use Rattle.rx_terms.specs.Text.{Chars}
-use Rattle.rx_terms.proofs.CharLemmas.{ascii-same}
 use Rattle.rx_pieces.specs.Writing.{escaped_char, escaped_text, iri_text, blank_text}
 use Rattle.rx_pieces.specs.Writable.{WritableText, WritableIri}
 use Rattle.rx_pieces.proofs.Adding.{all_ascii}

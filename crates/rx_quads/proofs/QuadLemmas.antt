@@ -1,10 +1,9 @@
 -- A quad of a list that is shown.
-use Rattle.std.proofs.Common.{◌≡◌, ◌∙◌, ℕ, List, map, slice_get, ap, Option, Some}
+use Rattle.rx_terms.proofs.Common.{◌≡◌, ◌∙◌, ℕ, List, map, slice_get, ap, Option, Some, Chars}
 use Rattle.std.specs.Prelude.{option_map}
 use Rattle.std.proofs.lemmas.Option.{slice_get-map}
-use Rattle.rx_terms.specs.Text.{Chars}
 use Rattle.rx_terms.specs.declared.triples.Triple.{Triple as CodeTriple}
-use Rattle.rx_model.specs.Seen.{triple_seen, triples_seen}
+use Rattle.rx_model.proofs.Common.{triple_seen, triples_seen}
 use Rattle.rx_nquads.specs.Quads.{Quad, quad_of, quads}
 use Rattle.rx_quads.specs.Listed.{ShowsOne}
 use Rattle.rx_quads.specs.Shown.{quad_bytes, shown_quad}

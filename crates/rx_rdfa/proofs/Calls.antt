@@ -1,7 +1,5 @@
 -- The laws of frames and of calls, for any names.
-use Rattle.std.proofs.Common.{◌≡◌, suc, List, [], ◌∷◌, ◌++◌, length, refl, sym, ap, ◌∙◌, subst₂, arith}
-use Rattle.std.proofs.lemmas.List.{length-map}
-use Rattle.rx_terms.specs.Text.{Chars}
+use Rattle.rx_terms.proofs.Common.{◌≡◌, suc, List, [], ◌∷◌, ◌++◌, length, refl, sym, ap, ◌∙◌, subst₂, arith, length-map, Chars}
 use Rattle.rx_rdfa.specs.Tree.{Nodes, end, element, text}
 use Rattle.rx_rdfa.specs.Naming.{Path, Naming}
 use Rattle.rx_rdfa.specs.Blanks.{model}

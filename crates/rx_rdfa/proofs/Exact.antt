@@ -1,11 +1,8 @@
 -- The tests of the model's names are exact.
-use Rattle.std.proofs.Common.{◌≡◌, ◌&&◌, ◌==◌, refl, ap, bytes_eq}
-use Rattle.std.proofs.lemmas.Bool.Decides.{Decides-eqb}
-use Rattle.rx_model.specs.Sets.{IsExact}
-use Rattle.rx_model.proofs.Sets.{and_left, and_right}
-use Rattle.rx_model.proofs.Exact.{exact_texts}
+use Rattle.rx_terms.proofs.Common.{◌≡◌, refl, ap, bytes_eq, Decides-eqb, and_from}
+use Rattle.std.proofs.Common.{◌&&◌, ◌==◌}
+use Rattle.rx_model.proofs.Common.{IsExact, and_left, and_right, exact_texts}
 use Rattle.rx_rdfa.specs.Blanks.{First, Of, Below, Author, Made, Cell, same_owner, same_bnode}
-use Rattle.std.proofs.lemmas.Bool.{and_from}
 
 pub exact_owners : IsExact same_owner
 exact_owners First First = (λ h. refl, λ e. refl)

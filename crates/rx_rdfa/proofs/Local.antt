@@ -1,10 +1,6 @@
 -- The law of locality.
-use Rattle.std.proofs.Common.{◌≡◌, ◌≢◌, ℕ, suc, ◌≤◌, Bool, true, false, cond, List, [], ◌∷◌, ◌++◌, map, flat_map, filter_map, length, Option, Some, None, refl, sym, ap, ap₂, ◌∙◌, subst, inl, inr, arith, append_assoc, append-nil}
-use Rattle.std.proofs.lemmas.List.Elements.{filter-append}
-use Rattle.rx_terms.specs.Text.{Chars}
-use Rattle.rx_model.specs.Sets.{Among}
-use Rattle.rx_model.specs.Terms.{Term, Resource, same_node}
-use Rattle.rx_model.proofs.Sets.{Among_cases, Among_of_map, Among_of_filter_map, Among_of_flat_map, false_unless}
+use Rattle.rx_terms.proofs.Common.{◌≡◌, ◌≢◌, ℕ, suc, ◌≤◌, Bool, true, false, cond, List, [], ◌∷◌, ◌++◌, map, flat_map, filter_map, length, Option, Some, None, refl, sym, ap, ap₂, ◌∙◌, subst, inl, inr, arith, append_assoc, append-nil, filter-append, Chars}
+use Rattle.rx_model.proofs.Common.{Among, Term, Resource, same_node, Among_cases, Among_of_map, Among_of_filter_map, Among_of_flat_map, false_unless}
 use Rattle.rx_rdfa.specs.Tree.{Nodes, end, element, text, all_text}
 use Rattle.rx_rdfa.specs.Naming.{Path}
 use Rattle.rx_rdfa.specs.Blanks.{Owner, First, Of, Below, Bnode, Cell, ModelNode, ModelTriple, same_owner, same_bnode, model}

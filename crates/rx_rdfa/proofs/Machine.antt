@@ -1,13 +1,7 @@
 -- The law of reading.
-use Rattle.std.proofs.Common.{◌≡◌, ◌≢◌, ℕ, suc, Bool, true, false, cond, List, [], ◌∷◌, ◌++◌, length, map, flat_map, filter_map, Option, Some, None, unwrap_or, refl, sym, ap, ap₂, ◌∙◌, subst, arith, append_assoc, append-nil, bytes_eq}
-use Rattle.std.specs.List.{cons_option}
-use Rattle.std.proofs.lemmas.List.{map-append}
-use Rattle.std.proofs.lemmas.List.Elements.{filter_map-append}
-use Rattle.rx_terms.specs.Text.{Chars}
-use Rattle.rx_model.specs.Sets.{Among}
-use Rattle.rx_model.specs.Terms.{Term, Resource}
-use Rattle.rx_model.proofs.Sets.{Among_of_filter_map, false_unless}
-use Rattle.rx_model.proofs.Exact.{exact_texts}
+use Rattle.rx_terms.proofs.Common.{◌≡◌, ◌≢◌, ℕ, suc, Bool, true, false, cond, List, [], ◌∷◌, ◌++◌, length, map, flat_map, filter_map, Option, Some, None, refl, sym, ap, ap₂, ◌∙◌, subst, arith, append_assoc, append-nil, bytes_eq, cons_option, map-append, filter_map-append, Chars}
+use Rattle.std.proofs.Common.{unwrap_or}
+use Rattle.rx_model.proofs.Common.{Among, Term, Resource, Among_of_filter_map, false_unless, exact_texts}
 use Rattle.rx_rdfa.specs.Tree.{Nodes, end, element, text, all_text}
 use Rattle.rx_rdfa.specs.Naming.{Path}
 use Rattle.rx_rdfa.specs.Blanks.{Owner, Of, Below, Bnode, ModelNode, ModelTriple, model}

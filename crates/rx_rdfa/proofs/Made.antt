@@ -1,9 +1,6 @@
 -- The law of the list of a tree.
-use Rattle.std.proofs.Common.{◌⊎◌, ℕ, suc, List, [], ◌∷◌, ◌++◌, refl, sym, subst, inl, inr}
-use Rattle.rx_terms.specs.Text.{Chars}
-use Rattle.rx_model.specs.Sets.{Among}
-use Rattle.rx_model.specs.Terms.{Triple}
-use Rattle.rx_model.proofs.Sets.{Among_left, Among_right, Among_cases}
+use Rattle.rx_terms.proofs.Common.{◌⊎◌, ℕ, suc, List, [], ◌∷◌, ◌++◌, refl, sym, subst, inl, inr, Chars}
+use Rattle.rx_model.proofs.Common.{Among, Triple, Among_left, Among_right, Among_cases}
 use Rattle.rx_rdfa.specs.Naming.{Path, Naming}
 use Rattle.rx_rdfa.specs.Blanks.{model}
 use Rattle.rx_rdfa.specs.Tree.{Nodes, end, element, text}

@@ -1,16 +1,9 @@
 -- No literal that the rules make is typed xsd:string.
-use Rattle.std.proofs.Common.{◌≡◌, ◌≢◌, ℕ, suc, Bool, true, false, cond, List, [], ◌∷◌, ◌++◌, map, filter, flat_map, filter_map, Option, Some, None, refl, sym, ◌∙◌, subst, inl, inr, true≢false, bytes_eq, option_map}
-use Rattle.std.specs.Prelude.{codes, unwrap_or, option_to_list, is_none, not, ◌&&◌}
-use Rattle.std.specs.Option.{option_or}
-use Rattle.rx_terms.specs.Text.{Chars}
-use Rattle.rx_model.specs.Sets.{Among, distinct}
-use Rattle.rx_model.specs.Terms.{Plain, Typed, Node, Iri, Blank, Term, Resource, Literal, Triple, same_node, same_triple}
-use Rattle.rx_model.specs.Copied.{spo, live, edges, says_pattern, leads, given, replaced, treated, is_referenced, copied}
-use Rattle.rx_model.specs.Numbered.{rename_term, rename, blanks, place_in, numbered}
-use Rattle.rx_model.proofs.Exact.{exact_texts}
-use Rattle.rx_model.proofs.Sets.{Among_cases, Among_of_map, Among_of_filter, Among_of_filter_map, Among_of_flat_map, Among_of_distinct}
+use Rattle.rx_terms.proofs.Common.{◌≡◌, ◌≢◌, ℕ, suc, Bool, true, false, cond, List, [], ◌∷◌, ◌++◌, map, filter, flat_map, filter_map, Option, Some, None, refl, sym, ◌∙◌, subst, inl, inr, true≢false, bytes_eq, option_map, unwrap_or, not, ◌&&◌, option_or, Chars}
+use Rattle.std.specs.Prelude.{codes, option_to_list, is_none}
+use Rattle.rx_model.proofs.Common.{Among, distinct, Plain, Typed, Node, Iri, Blank, Term, Resource, Literal, Triple, same_node, same_triple, spo, live, edges, says_pattern, treated, is_referenced, copied, rename_term, rename, blanks, place_in, numbered, exact_texts, Among_cases, Among_of_map, Among_of_filter, Among_of_filter_map, Among_of_flat_map, Among_of_distinct, rdf_type, rdf_first, rdf_rest}
+use Rattle.rx_model.specs.Copied.{leads, given, replaced}
 use Rattle.rx_rdfa.specs.Iris.{xsd, xsd_string, uses_vocabulary}
-use Rattle.rx_model.specs.Vocabulary.{rdf_type, rdf_first, rdf_rest}
 use Rattle.rx_rdfa.specs.Times.{◌andThen◌, follows, is_zone, after_char, after_year, after_month, after_date, after_clock, is_duration, time_kind}
 use Rattle.rx_rdfa.specs.Naming.{Naming}
 use Rattle.rx_rdfa.specs.Blanks.{same_bnode, model}

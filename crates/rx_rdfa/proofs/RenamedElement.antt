@@ -1,13 +1,8 @@
 -- Renaming goes through the value of property, and the triples of one element.
-use Rattle.std.proofs.Common.{◌≡◌, Bool, true, false, cond, not, ◌&&◌, List, [], ◌∷◌, ◌++◌, map, flat_map, filter_map, Option, Some, None, option_map, option_to_list, is_none, is_some, unwrap_or, refl, ap, ap₂, ◌∙◌}
-use Rattle.std.proofs.lemmas.List.{map-append}
-use Rattle.std.specs.Option.{option_or}
-use Rattle.rx_terms.specs.Text.{Chars}
-use Rattle.rx_model.specs.Terms.{Node, Iri, Term}
-use Rattle.rx_model.specs.Copied.{spo}
-use Rattle.rx_model.specs.Numbered.{rename_node, rename_term, rename}
+use Rattle.rx_terms.proofs.Common.{◌≡◌, Bool, true, false, cond, List, [], ◌∷◌, ◌++◌, map, flat_map, filter_map, Option, Some, None, option_map, option_to_list, is_none, refl, ap, ap₂, ◌∙◌, map-append, option_or, Chars}
+use Rattle.std.proofs.Common.{not, ◌&&◌, is_some, unwrap_or}
+use Rattle.rx_model.proofs.Common.{Node, Iri, Term, spo, rename_node, rename_term, rename, rdf_type}
 use Rattle.rx_rdfa.specs.Iris.{uses_vocabulary}
-use Rattle.rx_model.specs.Vocabulary.{rdf_type}
 use Rattle.rx_rdfa.specs.Naming.{Naming}
 use Rattle.rx_rdfa.specs.Facts.{Facts, Datatype, Empty, Is, Ref}
 use Rattle.rx_rdfa.specs.Resources.{Hanging, Forward, Reverse, InList, Standing, Resources, resource_attribute, has_link, only, resource_named, resources}

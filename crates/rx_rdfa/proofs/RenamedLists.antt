@@ -1,11 +1,6 @@
 -- Renaming goes through the entries of an element, and the lists of an owner.
-use Rattle.std.proofs.Common.{◌≡◌, ℕ, suc, Bool, true, false, cond, List, [], ◌∷◌, ◌++◌, map, filter, flat_map, filter_map, Option, Some, None, option_map, refl, sym, ap, ap₂, ◌∙◌, inl, inr, bytes_eq}
-use Rattle.rx_terms.specs.Text.{Chars}
-use Rattle.rx_model.specs.Sets.{Among, distinct}
-use Rattle.rx_model.specs.Copied.{spo}
-use Rattle.rx_model.specs.Terms.{Node, Blank, Term, Resource}
-use Rattle.rx_model.specs.Numbered.{rename_node, rename_term, rename}
-use Rattle.rx_model.specs.Vocabulary.{rdf_first, rdf_rest}
+use Rattle.rx_terms.proofs.Common.{◌≡◌, ℕ, suc, Bool, true, false, cond, List, [], ◌∷◌, ◌++◌, map, filter, flat_map, filter_map, Option, Some, None, option_map, refl, sym, ap, ap₂, ◌∙◌, inl, inr, bytes_eq, Chars}
+use Rattle.rx_model.proofs.Common.{Among, distinct, spo, Node, Blank, Term, Resource, rename_node, rename_term, rename, rdf_first, rdf_rest}
 use Rattle.rx_rdfa.specs.Naming.{Naming}
 use Rattle.rx_rdfa.specs.Resources.{Hanging, Forward, Reverse, InList, Standing, Resources, resources}
 use Rattle.rx_rdfa.specs.Inherited.{listed, hangs, own_owner}

@@ -1,9 +1,6 @@
 -- Renaming goes through reading with frames.
-use Rattle.std.proofs.Common.{◌≡◌, suc, Bool, true, false, cond, List, [], ◌∷◌, ◌++◌, map, Option, Some, None, option_map, refl, sym, ap, ap₂, ◌∙◌, bytes_eq}
-use Rattle.std.proofs.lemmas.List.{map-append}
-use Rattle.rx_terms.specs.Text.{Chars}
-use Rattle.rx_model.specs.Terms.{Term, Triple}
-use Rattle.rx_model.specs.Numbered.{rename_term, rename}
+use Rattle.rx_terms.proofs.Common.{◌≡◌, suc, Bool, true, false, cond, List, [], ◌∷◌, ◌++◌, map, Option, Some, None, option_map, refl, sym, ap, ap₂, ◌∙◌, bytes_eq, map-append, Chars}
+use Rattle.rx_model.proofs.Common.{Term, Triple, rename_term, rename}
 use Rattle.rx_rdfa.specs.Naming.{Path, Naming}
 use Rattle.rx_rdfa.specs.Blanks.{model}
 use Rattle.rx_rdfa.specs.Tree.{Nodes, end, element, text}

@@ -1,8 +1,6 @@
 -- Renaming goes through the list of a tree's triples.
-use Rattle.std.proofs.Common.{◌≡◌, ℕ, suc, List, [], ◌∷◌, ◌++◌, map, flat_map, refl, ap, ap₂, ◌∙◌}
-use Rattle.rx_terms.specs.Text.{Chars}
-use Rattle.rx_model.specs.Terms.{Node, Iri, Term}
-use Rattle.rx_model.specs.Numbered.{rename_node, rename_term, rename}
+use Rattle.rx_terms.proofs.Common.{◌≡◌, ℕ, suc, List, [], ◌∷◌, ◌++◌, map, flat_map, refl, ap, ap₂, ◌∙◌, Chars}
+use Rattle.rx_model.proofs.Common.{Node, Iri, Term, rename_node, rename_term, rename}
 use Rattle.rx_rdfa.specs.Naming.{Path, Naming}
 use Rattle.rx_rdfa.specs.Tree.{Nodes, end, element, text, all_text}
 use Rattle.rx_rdfa.specs.Facts.{Facts}

@@ -1,13 +1,8 @@
 -- Renaming goes through the resources of an element, and what its children inherit.
-use Rattle.std.proofs.Common.{◌≡◌, Bool, true, false, cond, not, ◌&&◌, ◌||◌, List, [], ◌∷◌, ◌++◌, map, flat_map, Option, Some, None, option_map, is_none, unwrap_or, refl, ap, ap₂, ◌∙◌, inl}
-use Rattle.std.proofs.lemmas.List.{map-append}
-use Rattle.std.specs.Option.{option_or}
+use Rattle.rx_terms.proofs.Common.{◌≡◌, Bool, true, false, cond, List, [], ◌∷◌, ◌++◌, map, flat_map, Option, Some, None, option_map, is_none, refl, ap, ap₂, ◌∙◌, inl, map-append, option_or, Chars}
+use Rattle.std.proofs.Common.{not, ◌&&◌, ◌||◌, unwrap_or}
 use Rattle.std.specs.Bool.{then_some}
-use Rattle.rx_terms.specs.Text.{Chars}
-use Rattle.rx_model.specs.Sets.{Among}
-use Rattle.rx_model.specs.Terms.{Node, Iri, Blank, same_node}
-use Rattle.rx_model.specs.Numbered.{rename_node}
-use Rattle.rx_model.proofs.Sets.{Among_left, Among_right}
+use Rattle.rx_model.proofs.Common.{Among, Node, Iri, Blank, same_node, rename_node, Among_left, Among_right}
 use Rattle.rx_rdfa.specs.Naming.{Naming}
 use Rattle.rx_rdfa.specs.Facts.{Facts, Ref, LabelRef}
 use Rattle.rx_rdfa.specs.Resources.{Forward, Reverse, InList, Standing, Resources, resource_named, about, linked_resource, base_at_root, parent_for_head_and_body, has_typeof, has_link, is_plain_property, is_root, is_root_child, is_head_or_body, new_blank, default_subject, of_property, of_no_link, of_link, only, resources}

@@ -1,12 +1,7 @@
 -- The law of tables.
-use Rattle.std.proofs.Common.{◌≡◌, cond, Bool, true, false, not, ◌||◌, List, [], ◌∷◌, ◌++◌, map, filter, filter_map, Option, Some, None, bytes_eq, option_to_list, refl, sym, ap, ap₂, ◌∙◌, subst, inl, inr, true≢false, append_assoc, append-nil}
-use Rattle.std.proofs.lemmas.List.{map-append}
-use Rattle.std.specs.List.{cons_option}
-use Rattle.std.proofs.lemmas.List.Elements.{filter-append, filter_map-append}
-use Rattle.rx_terms.specs.Text.{Chars}
-use Rattle.rx_model.specs.Sets.{Among, IsExact, contains, distinct}
-use Rattle.rx_model.proofs.Sets.{Among_of_filter, false_unless, Among-contains, Among_distinct}
-use Rattle.rx_model.proofs.Exact.{exact_texts}
+use Rattle.rx_terms.proofs.Common.{◌≡◌, cond, Bool, true, false, List, [], ◌∷◌, ◌++◌, map, filter, filter_map, Option, Some, None, bytes_eq, option_to_list, refl, sym, ap, ap₂, ◌∙◌, subst, inl, inr, true≢false, append_assoc, append-nil, map-append, cons_option, filter-append, filter_map-append, Chars}
+use Rattle.std.proofs.Common.{not, ◌||◌}
+use Rattle.rx_model.proofs.Common.{Among, IsExact, contains, distinct, Among_of_filter, false_unless, Among-contains, Among_distinct, exact_texts}
 use Rattle.rx_rdfa.specs.Lists.{Entry, lists, items}
 use Rattle.rx_rdfa.specs.Tables.{Table, put, table_from, table_of, TablesAreLists}
 

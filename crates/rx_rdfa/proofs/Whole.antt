@@ -1,7 +1,6 @@
 -- What is written denotes the graph.
-use Rattle.rx_model.specs.Terms.{Triple, Graph, set_of}
-use Rattle.rx_model.specs.Copied.{Closed, held, copied_from, patterned, copied}
-use Rattle.rx_model.specs.Numbered.{Renamed}
+use Rattle.rx_model.proofs.Common.{Triple, Graph, set_of, copied, Renamed}
+use Rattle.rx_model.specs.Copied.{Closed, held, copied_from, patterned}
 use Rattle.rx_model.proofs.Copied.{copies_patterns}
 use Rattle.rx_model.proofs.Numbered.{numbers_one_to_one}
 use Rattle.rx_rdfa.specs.Blanks.{same_bnode, model}

@@ -1,20 +1,12 @@
 -- Which tags go on with a character: the phases alone tell.
-use Rattle.std.proofs.Common.{◌≡◌, ℕ, Bool, true, false, eqb-true, [], ◌∷◌, ◌++◌, Option, Some, None, refl, ap, sym, ◌∙◌, subst}
-use Rattle.std.specs.Prelude.{◌==◌}
-use Rattle.std.specs.List.{list_all}
-use Rattle.rx_terms.specs.Ascii.{is_white_space, solidus, greater_than_sign}
-use Rattle.rx_terms.specs.Text.{Chars}
-use Rattle.rx_chars.specs.declared.syntax.Syntax.{Syntax}
-use Rattle.rx_chars.specs.declared.syntax.Syntax.TheVariants.{Html, Xhtml}
-use Rattle.rx_grammar.specs.Tokens.{Tag}
-use Rattle.rx_grammar.specs.Shapes.{ends_name, begins, begins_tag, is_tag_char, Shape, a_start, an_end}
+use Rattle.rx_terms.proofs.Common.{◌≡◌, ℕ, Bool, true, false, eqb-true, [], ◌∷◌, ◌++◌, Option, Some, None, refl, ap, sym, ◌∙◌, subst, ◌==◌, list_all, is_white_space, solidus, greater_than_sign, Chars, split, not_both_ways}
+use Rattle.rx_grammar.proofs.Common.{Syntax, Html, Xhtml, Tag, ends_name, begins, begins_tag, is_tag_char, Shape, a_start, an_end}
 use Rattle.rx_grammar.specs.TagFaults.{BeginsShape, BeginsNoShape}
 use Rattle.rx_reader.specs.declared.phases.TagPhase.{TagPhase}
 use Rattle.rx_reader.specs.declared.phases.TagPhase.TheVariants as phase
 use Rattle.rx_reader.specs.declared.phases.TagAction.TheVariants as action
 use Rattle.rx_reader.specs.Tables.{Move, move_of, is_last}
 use Rattle.rx_reader.specs.Cuts.{with_first, cut_by, cut_from}
-use Rattle.rx_terms.proofs.Bools.{split, not_both_ways}
 use Rattle.rx_reader.proofs.Classes.{of_one, of_end}
 use Rattle.rx_reader.proofs.Moves.{is_among, Stays, stays}
 use Rattle.rx_reader.proofs.Sound.{Result as Ended, after_value', sound}

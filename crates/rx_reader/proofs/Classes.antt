@@ -1,11 +1,7 @@
 -- Which characters belong to no two classes.
-use Rattle.std.proofs.Common.{◌≡◌, ℕ, Bool, true, false, eqb-true, refl, sym, inl, inr, subst}
-use Rattle.std.specs.Prelude.{◌||◌, ◌==◌, not}
-use Rattle.rx_terms.specs.Ascii.{is_white_space, solidus, equals_sign, greater_than_sign}
-use Rattle.rx_chars.specs.declared.syntax.Syntax.{Syntax}
-use Rattle.rx_chars.specs.declared.syntax.Syntax.TheVariants.{Html, Xhtml}
-use Rattle.rx_grammar.specs.Shapes.{ends_name, is_strict_char, is_strict_start, is_attribute_char, begins_attribute, continues_attribute, is_tag_char}
-use Rattle.rx_terms.proofs.Bools.{either, not_both_ways}
+use Rattle.rx_terms.proofs.Common.{◌≡◌, ℕ, Bool, true, false, eqb-true, refl, sym, inl, inr, subst, ◌||◌, ◌==◌, not, is_white_space, solidus, equals_sign, greater_than_sign, either, not_both_ways}
+use Rattle.rx_grammar.proofs.Common.{Syntax, Html, Xhtml, ends_name, begins_attribute, continues_attribute, is_tag_char}
+use Rattle.rx_grammar.specs.Shapes.{is_strict_char, is_strict_start, is_attribute_char}
 
 -- what holds of the five holds of white space
 pub of_white : (P : ℕ → Type 0) (c : ℕ) → is_white_space c ≡ true → P 9 → P 10 → P 12 → P 13 → P 32 → P c

@@ -1,19 +1,12 @@
 -- The table cuts attributes as the grammar spells them.
-use Rattle.std.proofs.Common.{◌≡◌, ℕ, Bool, true, false, List, [], ◌∷◌, ◌++◌, Some, None, refl, ap, sym, ◌∙◌, append_assoc, inl, inr}
-use Rattle.std.specs.Prelude.{◌||◌, ◌==◌}
-use Rattle.std.specs.List.{list_all}
-use Rattle.rx_terms.specs.Ascii.{is_white_space, solidus, equals_sign, greater_than_sign}
-use Rattle.rx_terms.specs.Text.{Chars}
-use Rattle.rx_chars.specs.declared.syntax.Syntax.{Syntax}
-use Rattle.rx_chars.specs.declared.syntax.Syntax.TheVariants.{Html, Xhtml}
-use Rattle.rx_grammar.specs.Tokens.{Attribute}
-use Rattle.rx_grammar.specs.Shapes.{ends_name, begins, is_gap, is_last_gap, is_strict_end, ends_in_solidus, begins_attribute, is_attribute_name, ends_unquoted, Assigns, no_value, unquoted, quoted, Attributes, no_more, one}
+use Rattle.rx_terms.proofs.Common.{◌≡◌, ℕ, Bool, true, false, List, [], ◌∷◌, ◌++◌, Some, None, refl, ap, sym, ◌∙◌, append_assoc, inl, inr, ◌||◌, ◌==◌, list_all, is_white_space, solidus, equals_sign, greater_than_sign, Chars, both, either, by_test}
+use Rattle.rx_grammar.proofs.Common.{Syntax, Html, Xhtml, Attribute, ends_name, begins, begins_attribute}
+use Rattle.rx_grammar.specs.Shapes.{is_gap, is_last_gap, is_strict_end, ends_in_solidus, is_attribute_name, ends_unquoted, Assigns, no_value, unquoted, quoted, Attributes, no_more, one}
 use Rattle.rx_reader.specs.declared.phases.TagPhase.{TagPhase}
 use Rattle.rx_reader.specs.declared.phases.TagPhase.TheVariants as phase
 use Rattle.rx_reader.specs.declared.phases.TagAction.TheVariants as action
 use Rattle.rx_reader.specs.Tables.{move_of}
 use Rattle.rx_reader.specs.Cuts.{with_first, cut_from}
-use Rattle.rx_terms.proofs.Bools.{both, either, by_test}
 use Rattle.rx_reader.proofs.Classes.{of_white, of_one, of_between, of_end, begins_apart}
 use Rattle.rx_reader.proofs.Cutting.{one_move, key_run, key_equals, white_to_value, quoted_run, unquoted_value}
 

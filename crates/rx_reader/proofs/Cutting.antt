@@ -1,20 +1,13 @@
 -- What the table does with parts of a tag's attributes.
-use Rattle.std.proofs.Common.{cond, sym, ◌≡◌, ℕ, true, false, [], ◌∷◌, ◌++◌, Option, Some, refl, ap, ◌∙◌, append_assoc, append-nil, inl, inr}
-use Rattle.std.proofs.lemmas.Bool.{eq-eqb, cond-true, cond-false, or_parts}
-use Rattle.std.specs.Prelude.{◌&&◌, ◌==◌, not}
-use Rattle.std.specs.List.{list_all}
-use Rattle.rx_terms.specs.Ascii.{is_white_space, equals_sign, quotation_mark}
-use Rattle.rx_terms.specs.Text.{Chars}
-use Rattle.rx_chars.specs.declared.syntax.Syntax.{Syntax}
-use Rattle.rx_chars.specs.declared.syntax.Syntax.TheVariants.{Html}
-use Rattle.rx_grammar.specs.Shapes.{is_quote, continues_attribute, is_unquoted, is_unquoted_char}
+use Rattle.rx_terms.proofs.Common.{cond, sym, ◌≡◌, ℕ, true, false, [], ◌∷◌, ◌++◌, Option, Some, refl, ap, ◌∙◌, append_assoc, append-nil, inl, inr, eq-eqb, cond-true, cond-false, or_parts, ◌&&◌, ◌==◌, not, list_all, is_white_space, equals_sign, quotation_mark, Chars, both, either, untrue}
+use Rattle.rx_grammar.proofs.Common.{Syntax, Html, is_quote, continues_attribute}
+use Rattle.rx_grammar.specs.Shapes.{is_unquoted, is_unquoted_char}
 use Rattle.rx_reader.specs.declared.phases.TagPhase.{TagPhase}
 use Rattle.rx_reader.specs.declared.phases.TagPhase.TheVariants as phase
 use Rattle.rx_reader.specs.declared.phases.TagAction.{TagAction}
 use Rattle.rx_reader.specs.declared.phases.TagAction.TheVariants as action
 use Rattle.rx_reader.specs.Tables.{go, move_of}
 use Rattle.rx_reader.specs.Cuts.{with_first, cut_by, cut_from}
-use Rattle.rx_terms.proofs.Bools.{both, either, untrue}
 use Rattle.rx_reader.proofs.Classes.{of_one, continues_apart}
 
 -- one step by what the table says

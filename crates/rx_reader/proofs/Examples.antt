@@ -1,13 +1,10 @@
 -- Tags that were worked out by hand, as the tables read them.
-use Rattle.std.proofs.Common.{◌≡◌, true, false, [], ◌∷◌, ◌++◌, refl, Result, Ok, Err}
+use Rattle.rx_terms.proofs.Common.{◌≡◌, true, false, [], ◌∷◌, ◌++◌, refl, Result, Ok, Err, Chars}
 use Rattle.std.specs.Prelude.{codes}
-use Rattle.rx_terms.specs.Text.{Chars}
-use Rattle.rx_chars.specs.declared.syntax.Syntax.TheVariants.{Html, Xhtml}
+use Rattle.rx_grammar.proofs.Common.{Html, Xhtml, meaning, Tag}
 use Rattle.rx_chars.specs.Named.{named_table}
 use Rattle.rx_grammar.specs.declared.faults.Kind.{Kind}
 use Rattle.rx_grammar.specs.declared.faults.Kind.TheVariants.{BadTag, StrictText, UnknownReference, RepeatedAttribute}
-use Rattle.rx_grammar.specs.References.{meaning}
-use Rattle.rx_grammar.specs.Tokens.{Tag}
 use Rattle.rx_reader.specs.Values.{value_read}
 use Rattle.rx_reader.specs.TagReader.{TagState, tag_on, fresh, tag_of}
 

@@ -1,14 +1,7 @@
 -- Two fronts of one list.
-use Rattle.std.proofs.Common.{◌≡◌, ℕ, Bool, true, false, cond, eqb-true, [], ◌∷◌, ◌++◌, refl, ap, sym, ◌∙◌, inl, inr, ◌⊎◌, subst}
-use Rattle.std.specs.Prelude.{◌&&◌, ◌==◌, not, codes}
-use Rattle.std.proofs.lemmas.Bool.{eq-eqb, or_left, or_right, and_from}
-use Rattle.std.specs.List.{list_all, list_any}
-use Rattle.rx_terms.specs.Ascii.{is_letter, is_digit, is_letter_or_digit, number_sign, semicolon, greater_than_sign}
-use Rattle.rx_terms.specs.Text.{Chars, begins_with, is_empty}
-use Rattle.rx_grammar.specs.Names.{same}
-use Rattle.rx_grammar.specs.References.{is_hexadecimal_digit, is_x, begins_number, is_begun}
-use Rattle.rx_grammar.specs.Spelling.{ends_with, IsFirst}
-use Rattle.rx_terms.proofs.Bools.{both, either, untrue, not_both_ways, by_test}
+use Rattle.rx_terms.proofs.Common.{◌≡◌, ℕ, Bool, true, false, cond, eqb-true, [], ◌∷◌, ◌++◌, refl, ap, sym, ◌∙◌, inl, inr, ◌⊎◌, subst, ◌&&◌, ◌==◌, not, eq-eqb, or_left, or_right, and_from, list_all, list_any, is_letter, is_digit, is_letter_or_digit, number_sign, semicolon, greater_than_sign, Chars, begins_with, is_empty, both, either, untrue, not_both_ways, by_test}
+use Rattle.std.specs.Prelude.{codes}
+use Rattle.rx_grammar.proofs.Common.{same, is_hexadecimal_digit, is_x, begins_number, is_begun, ends_with, IsFirst}
 use Rattle.rx_reader.proofs.Classes.{of_one, unless}
 
 pub equal : (n : ℕ) → (n == n) ≡ true

@@ -1,18 +1,9 @@
 -- What stands before an attribute or before the end of a tag, one character at a time.
-use Rattle.std.proofs.Common.{◌≡◌, ℕ, Bool, true, false, [], ◌∷◌, ◌++◌, refl, ◌∙◌}
-use Rattle.std.specs.Prelude.{◌==◌}
-use Rattle.std.specs.List.{list_all}
-use Rattle.std.proofs.lemmas.List.Folds.{list_all-append}
-use Rattle.rx_terms.specs.Ascii.{is_white_space, solidus}
-use Rattle.rx_terms.specs.Text.{Chars}
-use Rattle.rx_chars.specs.declared.syntax.Syntax.{Syntax}
-use Rattle.rx_chars.specs.declared.syntax.Syntax.TheVariants.{Html, Xhtml}
-use Rattle.rx_grammar.specs.References.{one_or_more}
+use Rattle.rx_terms.proofs.Common.{◌≡◌, ℕ, Bool, true, false, [], ◌∷◌, ◌++◌, refl, ◌∙◌, ◌==◌, list_all, list_all-append, is_white_space, solidus, Chars, both, or_left, and_from}
+use Rattle.rx_grammar.proofs.Common.{Syntax, Html, Xhtml, one_or_more}
 use Rattle.rx_grammar.specs.Shapes.{first_then, is_gap, is_last_gap, is_strict_end, ends_in_solidus}
-use Rattle.rx_terms.proofs.Bools.{both}
 use Rattle.rx_reader.proofs.Classes.{of_white}
 use Rattle.rx_reader.proofs.Complete.{is_between}
-use Rattle.std.proofs.lemmas.Bool.{or_left, and_from}
 
 -- white space at the end of what stands between attributes
 abbrev pub InGap : Syntax → Chars → Type 0

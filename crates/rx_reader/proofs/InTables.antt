@@ -1,14 +1,10 @@
 -- How phases follow one another in a tag: what begins a value, and what stands directly before.
-use Rattle.std.proofs.Common.{◌≡◌, ℕ, Bool, true, false, cond, List, [], ◌∷◌, ◌++◌, Some, None, refl, sym, inl, inr, ◌⊎◌}
-use Rattle.std.specs.Prelude.{◌||◌, ◌&&◌, ◌==◌, not}
-use Rattle.rx_terms.specs.Ascii.{is_white_space, solidus, equals_sign, greater_than_sign, quotation_mark, apostrophe}
-use Rattle.rx_chars.specs.declared.syntax.Syntax.{Syntax}
-use Rattle.rx_grammar.specs.Shapes.{is_quote, begins_tag, is_tag_char, begins_attribute, continues_attribute}
+use Rattle.rx_terms.proofs.Common.{◌≡◌, ℕ, Bool, true, false, cond, List, [], ◌∷◌, ◌++◌, Some, None, refl, sym, inl, inr, ◌⊎◌, ◌||◌, ◌&&◌, ◌==◌, not, is_white_space, solidus, equals_sign, greater_than_sign, quotation_mark, apostrophe, split}
+use Rattle.rx_grammar.proofs.Common.{Syntax, is_quote, begins_tag, is_tag_char, begins_attribute, continues_attribute}
 use Rattle.rx_reader.specs.declared.phases.TagPhase.{TagPhase}
 use Rattle.rx_reader.specs.declared.phases.TagPhase.TheVariants as phase
 use Rattle.rx_reader.specs.declared.phases.TagAction.TheVariants as action
 use Rattle.rx_reader.specs.Tables.{Move, move_of, is_html}
-use Rattle.rx_terms.proofs.Bools.{split}
 use Rattle.rx_reader.proofs.Classes.{of_one}
 use Rattle.rx_reader.proofs.Moves.{is_among, is_value_phase}
 

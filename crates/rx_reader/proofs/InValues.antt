@@ -1,17 +1,12 @@
 -- Where a tag stands within a value, by its shape and by the table.
-use Rattle.std.proofs.Common.{◌≡◌, ℕ, Bool, true, false, List, [], ◌∷◌, ◌++◌, Option, Some, None, refl, ap, sym, ◌∙◌, append_assoc, append-nil, inl, inr, ◌⊎◌, subst}
-use Rattle.std.specs.Prelude.{◌||◌, ◌&&◌, not}
-use Rattle.rx_terms.specs.Ascii.{semicolon}
-use Rattle.rx_terms.specs.Text.{Chars}
-use Rattle.rx_chars.specs.declared.syntax.Syntax.{Syntax}
+use Rattle.rx_terms.proofs.Common.{◌≡◌, ℕ, Bool, true, false, List, [], ◌∷◌, ◌++◌, Option, Some, None, refl, ap, sym, ◌∙◌, append_assoc, append-nil, inl, inr, ◌⊎◌, subst, ◌||◌, ◌&&◌, not, semicolon, Chars, both, untrue, not_both_ways}
+use Rattle.rx_grammar.proofs.Common.{Syntax, Attribute, Tag, ValueFault}
 use Rattle.rx_grammar.specs.declared.faults.Kind.{Kind}
-use Rattle.rx_grammar.specs.Tokens.{Attribute, Tag}
-use Rattle.rx_grammar.specs.TagFaults.{EndsValue, double, single, no_mark, IsInValue, ValueFault}
+use Rattle.rx_grammar.specs.TagFaults.{EndsValue, double, single, no_mark, IsInValue}
 use Rattle.rx_reader.specs.declared.phases.TagPhase.{TagPhase}
 use Rattle.rx_reader.specs.declared.phases.TagPhase.TheVariants as phase
 use Rattle.rx_reader.specs.declared.phases.TagAction.TheVariants as action
 use Rattle.rx_reader.specs.Tables.{Move, move_of, is_last, is_html}
-use Rattle.rx_terms.proofs.Bools.{both, untrue, not_both_ways}
 use Rattle.rx_reader.proofs.Moves.{is_among, is_value_phase}
 use Rattle.rx_reader.proofs.Sound.{html_is}
 use Rattle.rx_reader.proofs.ValueFaults.{of_quote, snoc_last}

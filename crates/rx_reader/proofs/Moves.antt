@@ -1,15 +1,11 @@
 -- The phases among attributes are left for no others.
-use Rattle.std.proofs.Common.{◌≡◌, ℕ, Bool, true, false, cond, Some, None, refl}
-use Rattle.std.specs.Prelude.{◌==◌}
-use Rattle.rx_terms.specs.Ascii.{is_white_space, solidus, equals_sign, greater_than_sign, quotation_mark, apostrophe}
-use Rattle.rx_chars.specs.declared.syntax.Syntax.{Syntax}
-use Rattle.rx_grammar.specs.Shapes.{begins_attribute, continues_attribute}
+use Rattle.rx_terms.proofs.Common.{◌≡◌, ℕ, Bool, true, false, cond, Some, None, refl, ◌==◌, is_white_space, solidus, equals_sign, greater_than_sign, quotation_mark, apostrophe, split}
+use Rattle.rx_grammar.proofs.Common.{Syntax, begins_attribute, continues_attribute}
 use Rattle.rx_reader.specs.declared.phases.TagPhase.{TagPhase}
 use Rattle.rx_reader.specs.declared.phases.TagPhase.TheVariants as phase
 use Rattle.rx_reader.specs.declared.phases.TagAction.{TagAction}
 use Rattle.rx_reader.specs.declared.phases.TagAction.TheVariants as action
 use Rattle.rx_reader.specs.Tables.{Move, move_of, is_html}
-use Rattle.rx_terms.proofs.Bools.{split}
 
 -- a phase after a start tag's name
 abbrev pub is_among : TagPhase → Bool

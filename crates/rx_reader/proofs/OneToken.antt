@@ -1,30 +1,18 @@
 -- At most one front of a list of characters is a token's spelling, and it is one token's.
-use Rattle.std.proofs.Common.{◌≡◌, ◌≢◌, ℕ, Bool, true, false, cond, [], ◌∷◌, ◌++◌, Option, Some, None, refl, ap, sym, ◌∙◌, append_assoc, append-nil, inl, inr, subst}
-use Rattle.std.specs.Prelude.{◌||◌, ◌&&◌, ◌==◌, not, codes}
-use Rattle.std.specs.List.{list_all, list_any}
-use Rattle.rx_terms.specs.Ascii.{lowered_char, ampersand, solidus, semicolon, less_than_sign, is_letter, is_white_space}
-use Rattle.rx_terms.specs.Text.{Chars, begins_with, lowered, is_empty}
-use Rattle.rx_chars.specs.declared.syntax.Syntax.{Syntax}
-use Rattle.rx_chars.specs.declared.syntax.Syntax.TheVariants.{Html, Xhtml}
+use Rattle.rx_terms.proofs.Common.{◌≡◌, ◌≢◌, ℕ, Bool, true, false, cond, [], ◌∷◌, ◌++◌, Option, Some, None, refl, ap, sym, ◌∙◌, append_assoc, append-nil, inl, inr, subst, ◌||◌, ◌&&◌, ◌==◌, not, list_all, list_any, lowered_char, ampersand, solidus, semicolon, less_than_sign, is_letter, is_white_space, Chars, begins_with, lowered, is_empty, both, either, untrue, not_both_ways, by_test, append_cancel_left, map-append, or_left, or_right, and_from, or_parts}
+use Rattle.std.specs.Prelude.{codes}
+use Rattle.rx_grammar.proofs.Common.{Syntax, Html, Xhtml, same, name_of_raw, is_body, is_begun, stops_at, meaning, Tag, Token, tag, character, reference, kept, section, comment, doctype, ends_name, begins_tag, Shape, a_start, an_end, SpellsTag, cased, cased_char, ends_with, IsFirst, has_markup, has_references, keeps_runs, has_sections, has_less_than, is_text, begins_markup, raw_name, begins_end, stops_end, ends_comment, begins_declaration, doctype_word, IsDoctype, Spells, a_tag, an_end_of_raw, a_character, a_less_than, a_raw_run, a_reference, a_kept_run, a_comment, a_bogus_comment, a_question, a_strict_comment, an_instruction, a_section, a_doctype, next_of}
 use Rattle.rx_grammar.specs.declared.contents.Content.{Content}
 use Rattle.rx_grammar.specs.declared.contents.Content.TheVariants as content
 use Rattle.rx_grammar.specs.declared.contents.RawName.{RawName}
 use Rattle.rx_grammar.specs.declared.contents.RawName.TheVariants as raw
-use Rattle.rx_grammar.specs.Names.{same, name_of_raw}
-use Rattle.rx_grammar.specs.References.{is_body, is_begun, stops_at, meaning}
-use Rattle.rx_grammar.specs.Tokens.{Tag, Token, tag, character, reference, kept, section, comment, doctype}
-use Rattle.rx_grammar.specs.Shapes.{ends_name, begins_tag, Shape, a_start, an_end}
-use Rattle.rx_grammar.specs.Tags.{SpellsTag, cased, cased_char}
-use Rattle.rx_grammar.specs.Spelling.{ends_with, IsFirst, has_markup, has_references, keeps_runs, has_sections, has_less_than, is_text, begins_markup, IsBefore, raw_name, begins_end, stops_end, ends_comment, begins_declaration, doctype_word, IsDoctype, Spells, a_tag, an_end_of_raw, a_character, a_less_than, a_raw_run, a_reference, a_kept_run, a_comment, a_bogus_comment, a_question, a_strict_comment, an_instruction, a_section, a_doctype}
-use Rattle.rx_grammar.specs.Items.{next_of}
+use Rattle.rx_grammar.specs.Spelling.{IsBefore}
 use Rattle.rx_grammar.specs.Laws.{OneToken, IsSameToken}
-use Rattle.rx_terms.proofs.Bools.{both, either, untrue, not_both_ways, by_test}
 use Rattle.rx_reader.proofs.Classes.{of_one, of_white, unless}
 use Rattle.rx_reader.proofs.Fronts.{equal, all_front, Longer, two_fronts, one_first, only_end, one_end, ends_at, begins_append, begins_front, begins_more, begins_within, has_end, begun_no_mark, begun_front}
 use Rattle.rx_reader.proofs.TagLaws.{one, one_front}
 use Rattle.rx_reader.proofs.TextComplete.{body_begun}
-use Rattle.std.proofs.lemmas.List.{append_cancel_left, append_cancel_right, map-append}
-use Rattle.std.proofs.lemmas.Bool.{or_left, or_right, and_from, or_parts}
+use Rattle.std.proofs.lemmas.List.{append_cancel_right}
 use Rattle.rx_reader.proofs.Gaps.{all_of_some}
 
 -- what follows `<!`

@@ -1,25 +1,13 @@
 -- Pages and faults that were worked out by hand, as the definitions read them.
-use Rattle.std.proofs.Common.{◌≡◌, ℕ, ◌+◌, ◌≤◌, true, false, List, [], ◌∷◌, ◌++◌, Option, Some, None, refl, sym, subst, arith, inl, inr}
+use Rattle.rx_terms.proofs.Common.{◌≡◌, ℕ, ◌+◌, ◌≤◌, true, false, List, [], ◌∷◌, ◌++◌, Option, Some, None, refl, sym, subst, arith, inl, inr, Chars}
 use Rattle.std.specs.Prelude.{codes}
-use Rattle.rx_terms.specs.Text.{Chars}
-use Rattle.rx_chars.specs.Characters.{Entry, placed}
-use Rattle.rx_chars.specs.declared.syntax.Syntax.TheVariants.{Html, Xhtml}
+use Rattle.rx_grammar.proofs.Common.{Entry, placed, Html, Xhtml, Tag, tag, character, SpellsTag, a_tag, a_character, Place, outside, place_in, StartTag, end, element, text, Tree, Spelled, Item, no_more, one, start_of, Opens, Closes, Drops, Holds, nothing, a_text, closed, unclosed, Document, Page, Lead, Stands, before, within, a_root, a_child, not_begun, still_open, FaultAt, Reached, Before, Unfinished, no_reference, BeginsCharacter}
 use Rattle.rx_grammar.specs.declared.contents.Content.{Content}
 use Rattle.rx_grammar.specs.declared.contents.Content.TheVariants as content
 use Rattle.rx_grammar.specs.declared.faults.Kind.TheVariants as kind
 use Rattle.rx_grammar.specs.declared.limits.Limits.{Limits}
-use Rattle.rx_grammar.specs.Tokens.{Tag, tag, character}
-use Rattle.rx_grammar.specs.Tags.{SpellsTag}
-use Rattle.rx_grammar.specs.Spelling.{a_tag, a_character}
-use Rattle.rx_grammar.specs.Contents.{Place, outside, place_in}
-use Rattle.rx_grammar.specs.Trees.{StartTag, end, element, text, Tree}
-use Rattle.rx_grammar.specs.Items.{Spelled, Item, no_more, one, start_of}
-use Rattle.rx_grammar.specs.Pages.{Opens, Closes, Drops, Holds, nothing, a_text, closed, unclosed, Document, Page, Lead}
 use Rattle.rx_grammar.specs.Pages as pages
-use Rattle.rx_grammar.specs.Begun.{Stands, before, within, a_root, a_child, not_begun, still_open}
-use Rattle.rx_grammar.specs.PageFaults.{FaultAt, page_too_long, not_utf8, nul, tag_too_long, decided, unended, Reached, Before, is_one, Unfinished, token_begun, run_begun, in_run, at_tag, section_end}
-use Rattle.rx_grammar.specs.TagFaults.{no_reference}
-use Rattle.rx_chars.specs.Utf8.{BeginsCharacter}
+use Rattle.rx_grammar.specs.PageFaults.{page_too_long, not_utf8, nul, tag_too_long, decided, unended, is_one, token_begun, run_begun, in_run, at_tag, section_end}
 use Rattle.rx_reader.proofs.TagLaws.{spells_each}
 
 abbrev limits : Limits

@@ -1,17 +1,11 @@
 -- Runs after an `&`, one character at a time.
-use Rattle.std.proofs.Common.{◌≡◌, ℕ, Bool, true, false, eqb-true, [], ◌∷◌, ◌++◌, refl, inl, inr, subst}
-use Rattle.std.specs.Prelude.{◌&&◌, ◌==◌, not}
-use Rattle.std.specs.List.{list_all}
-use Rattle.std.proofs.lemmas.List.Folds.{list_all-append}
-use Rattle.rx_terms.specs.Ascii.{is_letter, is_digit, is_letter_or_digit, number_sign, semicolon}
-use Rattle.rx_terms.specs.Text.{Chars}
-use Rattle.rx_grammar.specs.References.{is_hexadecimal_digit, is_x, is_body, is_begun, stops_at}
+use Rattle.rx_terms.proofs.Common.{◌≡◌, ℕ, Bool, true, false, eqb-true, [], ◌∷◌, ◌++◌, refl, inl, inr, subst, ◌&&◌, ◌==◌, not, list_all, list_all-append, is_letter, is_digit, is_letter_or_digit, number_sign, semicolon, Chars, both, either, untrue, split, not_both_ways, by_test}
+use Rattle.rx_grammar.proofs.Common.{is_hexadecimal_digit, is_x, is_body, is_begun, stops_at}
 use Rattle.rx_reader.specs.declared.phases.RunPhase.{RunPhase}
 use Rattle.rx_reader.specs.declared.phases.RunPhase.TheVariants as run
 use Rattle.rx_reader.specs.declared.phases.RunMove.{RunMove}
 use Rattle.rx_reader.specs.declared.phases.RunMove.TheVariants.{Goes, Closes, Stops}
 use Rattle.rx_reader.specs.Tables.{run_move}
-use Rattle.rx_terms.proofs.Bools.{both, either, untrue, split, not_both_ways, by_test}
 use Rattle.rx_reader.proofs.Classes.{of_one, unless}
 use Rattle.rx_reader.proofs.Gaps.{all_snoc}
 

@@ -1,20 +1,12 @@
 -- What the table cuts is attributes as the grammar spells them.
-use Rattle.std.proofs.Common.{◌≡◌, ℕ, Bool, true, false, cond, List, [], ◌∷◌, ◌++◌, Some, None, refl, ap, sym, append_assoc, append-nil, subst}
-use Rattle.std.specs.Prelude.{◌&&◌, ◌==◌, not}
-use Rattle.std.specs.List.{list_all}
-use Rattle.rx_terms.specs.Ascii.{is_white_space, solidus, equals_sign, greater_than_sign, quotation_mark, apostrophe}
-use Rattle.rx_terms.specs.Text.{Chars}
-use Rattle.rx_chars.specs.declared.syntax.Syntax.{Syntax}
-use Rattle.rx_chars.specs.declared.syntax.Syntax.TheVariants.{Html, Xhtml}
-use Rattle.rx_grammar.specs.Tokens.{Attribute}
-use Rattle.rx_grammar.specs.References.{one_or_more}
-use Rattle.rx_grammar.specs.Shapes.{ends_name, begins, is_gap, is_quote, begins_attribute, continues_attribute, is_attribute_name, is_unquoted, is_unquoted_char, ends_unquoted, Assigns, no_value, unquoted, quoted, Attributes, no_more, one}
+use Rattle.rx_terms.proofs.Common.{◌≡◌, ℕ, Bool, true, false, cond, List, [], ◌∷◌, ◌++◌, Some, None, refl, ap, sym, append_assoc, append-nil, subst, ◌&&◌, ◌==◌, not, list_all, is_white_space, solidus, equals_sign, greater_than_sign, quotation_mark, apostrophe, Chars, both, split, not_both_ways}
+use Rattle.rx_grammar.proofs.Common.{Syntax, Html, Xhtml, Attribute, one_or_more, ends_name, begins, is_quote, begins_attribute, continues_attribute}
+use Rattle.rx_grammar.specs.Shapes.{is_gap, is_attribute_name, is_unquoted, is_unquoted_char, ends_unquoted, Assigns, no_value, unquoted, quoted, Attributes, no_more, one}
 use Rattle.rx_reader.specs.declared.phases.TagPhase.{TagPhase}
 use Rattle.rx_reader.specs.declared.phases.TagPhase.TheVariants as phase
 use Rattle.rx_reader.specs.declared.phases.TagAction.TheVariants as action
 use Rattle.rx_reader.specs.Tables.{Move, go, move_of, in_gap, is_html}
 use Rattle.rx_reader.specs.Cuts.{Cut, with_first, cut_by, cut_from}
-use Rattle.rx_terms.proofs.Bools.{both, split, not_both_ways}
 use Rattle.rx_reader.proofs.Classes.{of_one}
 use Rattle.rx_reader.proofs.Gaps.{InGap, Ends, all_snoc, then_snoc, gap_is_gap, gap_ends, gap_white, gap_slash, first_white, first_slash, first_end, slash_white, slash_slash, slash_gap, no_gap, whites_gap, all_of_some, some_snoc}
 use Rattle.rx_reader.proofs.Complete.{some_not_none}

@@ -1,18 +1,14 @@
 -- Each spelled tag is read.
-use Rattle.std.proofs.Common.{◌≡◌, ℕ, true, List, [], ◌∷◌, ◌++◌, Option, Some, None, Result, Ok, Err, refl, ap, sym, ◌∙◌, append_assoc, append-nil, subst}
-use Rattle.rx_terms.specs.Text.{Chars}
-use Rattle.rx_chars.specs.declared.syntax.Syntax.{Syntax}
+use Rattle.rx_terms.proofs.Common.{◌≡◌, ℕ, true, List, [], ◌∷◌, ◌++◌, Option, Some, None, Result, Ok, Err, refl, ap, sym, ◌∙◌, append_assoc, append-nil, subst, Chars, both}
+use Rattle.rx_grammar.proofs.Common.{Syntax, Denotes, Attribute, Tag, cased_char, Reads}
 use Rattle.rx_grammar.specs.declared.faults.Kind.{Kind}
-use Rattle.rx_grammar.specs.References.{Denotes}
-use Rattle.rx_grammar.specs.Tokens.{Attribute, Tag}
-use Rattle.rx_grammar.specs.Tags.{cased_char, AreRead, Reads}
+use Rattle.rx_grammar.specs.Tags.{AreRead}
 use Rattle.rx_reader.specs.declared.phases.TagPhase.{TagPhase}
 use Rattle.rx_reader.specs.declared.phases.TagPhase.TheVariants as phase
 use Rattle.rx_reader.specs.declared.phases.TagAction.TheVariants as action
 use Rattle.rx_reader.specs.Tables.{Move, move_of, is_last}
 use Rattle.rx_reader.specs.Values.{no_value_yet, value_end, step_on, value_on, end_of}
 use Rattle.rx_reader.specs.TagReader.{TagState, fresh, with_value, with_attribute, moved, moves_on, parts_of}
-use Rattle.rx_terms.proofs.Bools.{both}
 use Rattle.rx_reader.proofs.Moves.{is_value_phase, InValue, in_value}
 use Rattle.rx_reader.proofs.InTables.{is_steady, steady}
 use Rattle.rx_reader.proofs.TextComplete.{complete as text_complete}

@@ -1,21 +1,14 @@
 -- The faults of tags are the reader's, at exactly their character.
-use Rattle.std.proofs.Common.{◌≡◌, ℕ, true, false, [], ◌∷◌, ◌++◌, Some, None, Result, Ok, Err, refl, ap, sym, ◌∙◌, append_assoc, subst}
-use Rattle.std.specs.Prelude.{◌&&◌}
-use Rattle.rx_terms.specs.Text.{Chars}
-use Rattle.rx_chars.specs.declared.syntax.Syntax.{Syntax}
+use Rattle.rx_terms.proofs.Common.{◌≡◌, ℕ, true, false, [], ◌∷◌, ◌++◌, Some, None, Result, Ok, Err, refl, ap, sym, ◌∙◌, append_assoc, subst, ◌&&◌, Chars, both, split, by_test, not_both_ways}
+use Rattle.rx_grammar.proofs.Common.{Syntax, meaning, Shape, Tag, is_repeated, Reads, TagFault}
 use Rattle.rx_grammar.specs.declared.faults.Kind.{Kind}
 use Rattle.rx_grammar.specs.declared.faults.Kind.TheVariants.{BadTag, RepeatedAttribute}
-use Rattle.rx_grammar.specs.References.{meaning}
-use Rattle.rx_grammar.specs.Shapes.{Shape}
-use Rattle.rx_grammar.specs.Tokens.{Tag}
-use Rattle.rx_grammar.specs.Tags.{is_repeated, Reads}
-use Rattle.rx_grammar.specs.TagFaults.{Faultless, BeginsTag, TagFault, bad_tag, in_value, repeated}
+use Rattle.rx_grammar.specs.TagFaults.{Faultless, BeginsTag, bad_tag, in_value, repeated}
 use Rattle.rx_reader.specs.declared.phases.TagPhase.{TagPhase}
 use Rattle.rx_reader.specs.declared.phases.TagPhase.TheVariants as phase
 use Rattle.rx_reader.specs.Tables.{is_last}
 use Rattle.rx_reader.specs.TagReader.{TagState, fresh, tag_move, tag_move_on, moves_on, checked, tag_step, tag_on}
 use Rattle.rx_reader.specs.Laws.{ReadsOn, ReadsEachFront, RefusesEachFault, OneTagFault}
-use Rattle.rx_terms.proofs.Bools.{both, split, by_test, not_both_ways}
 use Rattle.rx_reader.proofs.TagComplete.{each_read}
 use Rattle.rx_reader.proofs.TagLaws.{last_none, stuck, on_err, tag_on-append, moves-append, table_is_exact}
 use Rattle.rx_reader.proofs.Written.{phase_by, phases_on, no_way as no_reading, reader_phases}

@@ -1,19 +1,14 @@
 -- The reader of tags against the grammar.
-use Rattle.std.proofs.Common.{◌≡◌, ℕ, Bool, true, false, cond, [], ◌∷◌, ◌++◌, Option, None, Result, Ok, Err, refl, ap, sym, ◌∙◌}
-use Rattle.std.specs.Prelude.{◌&&◌}
-use Rattle.rx_terms.specs.Text.{Chars}
-use Rattle.rx_chars.specs.declared.syntax.Syntax.{Syntax}
+use Rattle.rx_terms.proofs.Common.{◌≡◌, ℕ, Bool, true, false, cond, [], ◌∷◌, ◌++◌, Option, None, Result, Ok, Err, refl, ap, sym, ◌∙◌, ◌&&◌, Chars, by_test}
+use Rattle.rx_grammar.proofs.Common.{Syntax, meaning, Tag, is_repeated, Reads}
 use Rattle.rx_grammar.specs.declared.faults.Kind.{Kind}
 use Rattle.rx_grammar.specs.declared.faults.Kind.TheVariants.{BadTag, RepeatedAttribute}
-use Rattle.rx_grammar.specs.References.{meaning}
-use Rattle.rx_grammar.specs.Tokens.{Tag}
-use Rattle.rx_grammar.specs.Tags.{firsts, is_repeated, Reads}
+use Rattle.rx_grammar.specs.Tags.{firsts}
 use Rattle.rx_reader.specs.declared.phases.TagPhase.{TagPhase}
 use Rattle.rx_reader.specs.declared.phases.TagPhase.TheVariants as phase
 use Rattle.rx_reader.specs.Tables.{move_of, is_last}
 use Rattle.rx_reader.specs.TagReader.{TagState, fresh, moved, tag_move, tag_move_on, moves_on, checked, tag_step, tag_step_on, tag_on, parts_of, tag_of}
 use Rattle.rx_reader.specs.Laws.{TableIsExact, ReadsEachTag, SpellsEachTag, OneTag, OneTagFront, ReadsEachValue, DenotesEachValue}
-use Rattle.rx_terms.proofs.Bools.{by_test}
 use Rattle.rx_reader.proofs.TextComplete.{complete as text_complete}
 use Rattle.rx_reader.proofs.TextSound.{sound as text_sound}
 use Rattle.rx_reader.proofs.TagComplete.{each_read}

@@ -1,25 +1,15 @@
 -- Why the reader refuses a character of a tag, and that it refuses each fault.
-use Rattle.std.proofs.Common.{◌≡◌, ℕ, true, false, cond, [], ◌∷◌, ◌++◌, Some, None, Result, Ok, Err, refl, ap, sym, ◌∙◌, append_assoc, append-nil, inl, inr, ◌⊎◌, subst}
-use Rattle.std.specs.Prelude.{◌&&◌, ◌==◌}
-use Rattle.std.proofs.lemmas.Bool.{cond-true, cond-false}
-use Rattle.rx_terms.specs.Ascii.{is_white_space, solidus, equals_sign, greater_than_sign, quotation_mark, apostrophe, semicolon}
-use Rattle.rx_terms.specs.Text.{Chars}
-use Rattle.rx_chars.specs.declared.syntax.Syntax.{Syntax}
-use Rattle.rx_chars.specs.declared.syntax.Syntax.TheVariants.{Html, Xhtml}
+use Rattle.rx_terms.proofs.Common.{◌≡◌, ℕ, true, false, cond, [], ◌∷◌, ◌++◌, Some, None, Result, Ok, Err, refl, ap, sym, ◌∙◌, append_assoc, append-nil, inl, inr, ◌⊎◌, subst, ◌&&◌, ◌==◌, cond-true, cond-false, is_white_space, solidus, equals_sign, greater_than_sign, quotation_mark, apostrophe, semicolon, Chars, both, split, by_test, not_both_ways}
+use Rattle.rx_grammar.proofs.Common.{Syntax, Html, Xhtml, meaning, is_quote, begins_tag, is_tag_char, begins_attribute, continues_attribute, Tag, is_repeated, Reads, ValueFault, TagFault}
 use Rattle.rx_grammar.specs.declared.faults.Kind.{Kind}
 use Rattle.rx_grammar.specs.declared.faults.Kind.TheVariants.{BadTag, RepeatedAttribute}
-use Rattle.rx_grammar.specs.References.{meaning}
-use Rattle.rx_grammar.specs.Shapes.{is_quote, begins_tag, is_tag_char, begins_attribute, continues_attribute}
-use Rattle.rx_grammar.specs.Tokens.{Tag}
-use Rattle.rx_grammar.specs.Tags.{is_repeated, Reads}
-use Rattle.rx_grammar.specs.TagFaults.{ValueFault, IsInValue, DecidesValue, BeginsNoShape, TagFault, bad_tag, in_value, repeated}
+use Rattle.rx_grammar.specs.TagFaults.{IsInValue, DecidesValue, BeginsNoShape, bad_tag, in_value, repeated}
 use Rattle.rx_reader.specs.declared.phases.TagPhase.{TagPhase}
 use Rattle.rx_reader.specs.declared.phases.TagPhase.TheVariants as phase
 use Rattle.rx_reader.specs.declared.phases.TagAction.TheVariants as action
 use Rattle.rx_reader.specs.Tables.{Move, go, move_of, is_last, is_html}
 use Rattle.rx_reader.specs.Values.{Value, no_value_yet, is_run, value_step, value_end, value_on}
 use Rattle.rx_reader.specs.TagReader.{TagState, fresh, with_value, with_attribute, moved, tag_move, tag_move_on, moves_on, checked, tag_step, tag_on, parts_of}
-use Rattle.rx_terms.proofs.Bools.{both, split, by_test, not_both_ways}
 use Rattle.rx_reader.proofs.Classes.{of_one}
 use Rattle.rx_reader.proofs.Moves.{is_value_phase, InValue, in_value as in_value_phase}
 use Rattle.rx_reader.proofs.TextSound.{err_on}

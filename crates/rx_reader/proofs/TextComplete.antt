@@ -1,21 +1,14 @@
 -- Text with references is read as the grammar says.
-use Rattle.std.proofs.Common.{◌≡◌, ℕ, Bool, true, false, cond, eqb-true, [], ◌∷◌, ◌++◌, Option, Some, Ok, refl, ap, sym, ◌∙◌, append_assoc, append-nil, inl, inr, subst}
-use Rattle.std.specs.Prelude.{◌||◌, ◌&&◌, ◌==◌}
-use Rattle.std.specs.List.{list_all}
-use Rattle.rx_terms.specs.Ascii.{ampersand, semicolon, less_than_sign, number_sign, is_letter, is_digit, is_letter_or_digit}
-use Rattle.rx_terms.specs.Text.{Chars}
-use Rattle.rx_chars.specs.declared.syntax.Syntax.{Syntax}
-use Rattle.rx_chars.specs.declared.syntax.Syntax.TheVariants.{Html, Xhtml}
-use Rattle.rx_grammar.specs.References.{is_hexadecimal_digit, is_x, one_or_more, is_body, is_begun, begins_number, is_number, stops_at, is_plain, value_char, IsKept, Denotes, nothing, character, reference, kept}
+use Rattle.rx_terms.proofs.Common.{◌≡◌, ℕ, Bool, true, false, cond, eqb-true, [], ◌∷◌, ◌++◌, Option, Some, Ok, refl, ap, sym, ◌∙◌, append_assoc, append-nil, inl, inr, subst, ◌||◌, ◌&&◌, ◌==◌, list_all, ampersand, semicolon, less_than_sign, number_sign, is_letter, is_digit, is_letter_or_digit, Chars, both, either, untrue, or_parts}
+use Rattle.rx_grammar.proofs.Common.{Syntax, Html, Xhtml, is_hexadecimal_digit, is_x, one_or_more, is_body, is_begun, begins_number, stops_at, is_plain, Denotes}
+use Rattle.rx_grammar.specs.References.{is_number, value_char, IsKept, nothing, character, reference, kept}
 use Rattle.rx_reader.specs.declared.phases.RunPhase.{RunPhase}
 use Rattle.rx_reader.specs.declared.phases.RunPhase.TheVariants as run
 use Rattle.rx_reader.specs.declared.phases.RunMove.{RunMove}
 use Rattle.rx_reader.specs.declared.phases.RunMove.TheVariants.{Goes, Closes, Stops}
 use Rattle.rx_reader.specs.Tables.{run_move}
 use Rattle.rx_reader.specs.Values.{Value, known_as, is_run, plain_step, meant, stopped, run_step, value_end, value_on, end_of}
-use Rattle.rx_terms.proofs.Bools.{both, either, untrue}
 use Rattle.rx_reader.proofs.Runs.{RunIs, at_ampersand, in_name, at_hash, in_decimal, at_mark, in_hexadecimal, stops_back, closes_back, x_no_digit}
-use Rattle.std.proofs.lemmas.Bool.{or_parts}
 
 abbrev pub at_run : RunPhase → Chars → Chars → Value
 at_run p known text = record { phase = p; known = known; run = text }

@@ -1,20 +1,15 @@
 -- What is read of text with references is what the grammar says.
-use Rattle.std.proofs.Common.{◌≡◌, ℕ, true, cond, [], ◌∷◌, ◌++◌, Option, Some, None, Result, Ok, Err, refl, ap, sym, ◌∙◌, append_assoc, append-nil, subst}
-use Rattle.std.specs.Prelude.{◌==◌}
-use Rattle.rx_terms.specs.Ascii.{ampersand, semicolon}
-use Rattle.rx_terms.specs.Text.{Chars}
-use Rattle.rx_chars.specs.declared.syntax.Syntax.{Syntax}
-use Rattle.rx_chars.specs.declared.syntax.Syntax.TheVariants.{Html, Xhtml}
+use Rattle.rx_terms.proofs.Common.{◌≡◌, ℕ, true, cond, [], ◌∷◌, ◌++◌, Option, Some, None, Result, Ok, Err, refl, ap, sym, ◌∙◌, append_assoc, append-nil, subst, ◌==◌, ampersand, semicolon, Chars, split}
+use Rattle.rx_grammar.proofs.Common.{Syntax, Html, Xhtml, is_body, is_begun, stops_at, is_plain, Denotes}
 use Rattle.rx_grammar.specs.declared.faults.Kind.{Kind}
 use Rattle.rx_grammar.specs.declared.faults.Kind.TheVariants.{StrictText}
-use Rattle.rx_grammar.specs.References.{is_body, is_begun, stops_at, is_plain, value_char, IsKept, Denotes, nothing, character, reference, kept}
+use Rattle.rx_grammar.specs.References.{value_char, IsKept, nothing, character, reference, kept}
 use Rattle.rx_reader.specs.declared.phases.RunPhase.{RunPhase}
 use Rattle.rx_reader.specs.declared.phases.RunPhase.TheVariants as phases
 use Rattle.rx_reader.specs.declared.phases.RunMove.{RunMove}
 use Rattle.rx_reader.specs.declared.phases.RunMove.TheVariants.{Goes, Closes, Stops}
 use Rattle.rx_reader.specs.Tables.{run_move}
 use Rattle.rx_reader.specs.Values.{Value, known_as, no_meaning, plain_step, meant, stopped, run_step, value_step, run_end, value_end, step_on, value_on, end_of, value_read}
-use Rattle.rx_terms.proofs.Bools.{split}
 use Rattle.rx_reader.proofs.Classes.{of_one}
 use Rattle.rx_reader.proofs.Runs.{RunIs, at_ampersand, run_begun, goes_on, closes, stops}
 use Rattle.rx_reader.proofs.TextComplete.{at_run, runs_is_run}

@@ -1,22 +1,15 @@
 -- The faults of values are the reader's.
-use Rattle.std.proofs.Common.{◌≡◌, ℕ, Bool, true, false, eqb-true, [], ◌∷◌, ◌++◌, Option, Some, None, Result, Ok, Err, refl, ap, sym, ◌∙◌, append_assoc, inl, inr, subst}
-use Rattle.std.specs.Prelude.{◌||◌, ◌==◌, not}
-use Rattle.rx_terms.specs.Ascii.{ampersand, semicolon, less_than_sign}
-use Rattle.rx_terms.specs.Text.{Chars}
-use Rattle.rx_chars.specs.declared.syntax.Syntax.{Syntax}
-use Rattle.rx_chars.specs.declared.syntax.Syntax.TheVariants.{Html, Xhtml}
+use Rattle.rx_terms.proofs.Common.{◌≡◌, ℕ, Bool, true, false, eqb-true, [], ◌∷◌, ◌++◌, Option, Some, None, Result, Ok, Err, refl, ap, sym, ◌∙◌, append_assoc, inl, inr, subst, ◌||◌, ◌==◌, not, ampersand, semicolon, less_than_sign, Chars, either, split, not_both_ways}
+use Rattle.rx_grammar.proofs.Common.{Syntax, Html, Xhtml, is_body, is_plain, meaning, is_quote, RunFault, unknown, bad, no_reference, ValueFault}
 use Rattle.rx_grammar.specs.declared.faults.Kind.{Kind}
 use Rattle.rx_grammar.specs.declared.faults.Kind.TheVariants.{StrictText}
-use Rattle.rx_grammar.specs.References.{is_body, is_plain, meaning}
-use Rattle.rx_grammar.specs.Shapes.{is_quote}
-use Rattle.rx_grammar.specs.TagFaults.{RunFault, unknown, bad, no_reference, ValueFault, in_run, less_than}
+use Rattle.rx_grammar.specs.TagFaults.{in_run, less_than}
 use Rattle.rx_reader.specs.declared.phases.RunPhase.{RunPhase}
 use Rattle.rx_reader.specs.declared.phases.RunPhase.TheVariants as run
 use Rattle.rx_reader.specs.declared.phases.RunMove.{RunMove}
 use Rattle.rx_reader.specs.declared.phases.RunMove.TheVariants.{Goes, Closes, Stops}
 use Rattle.rx_reader.specs.Tables.{run_move}
 use Rattle.rx_reader.specs.Values.{Value, no_meaning, plain_step, meant, stopped, is_run, run_step, value_step, run_end, value_end}
-use Rattle.rx_terms.proofs.Bools.{either, split, not_both_ways}
 use Rattle.rx_reader.proofs.Classes.{of_one}
 use Rattle.rx_reader.proofs.Runs.{RunIs, at_ampersand, in_name, at_hash, in_decimal, at_mark, in_hexadecimal, run_begun, goes_on, closes, stops}
 use Rattle.rx_reader.proofs.TextComplete.{at_run}

@@ -1,23 +1,15 @@
 -- What the grammar calls a value's fault is refused, with its kind.
-use Rattle.std.proofs.Common.{◌≡◌, ℕ, true, false, cond, [], ◌∷◌, ◌++◌, Option, None, Result, Ok, Err, refl, ap, sym, ◌∙◌, append-nil, append_assoc, subst}
-use Rattle.std.specs.Prelude.{◌&&◌}
-use Rattle.std.specs.List.{list_all}
-use Rattle.rx_terms.specs.Ascii.{ampersand, semicolon, less_than_sign, is_letter, is_letter_or_digit}
-use Rattle.rx_terms.specs.Text.{Chars}
-use Rattle.rx_chars.specs.declared.syntax.Syntax.{Syntax}
-use Rattle.rx_chars.specs.declared.syntax.Syntax.TheVariants.{Html, Xhtml}
+use Rattle.rx_terms.proofs.Common.{◌≡◌, ℕ, true, false, cond, [], ◌∷◌, ◌++◌, Option, None, Result, Ok, Err, refl, ap, sym, ◌∙◌, append-nil, append_assoc, subst, ◌&&◌, list_all, ampersand, semicolon, less_than_sign, is_letter, is_letter_or_digit, Chars, not_both_ways}
+use Rattle.rx_grammar.proofs.Common.{Syntax, Html, Xhtml, is_name, is_body, is_begun, stops_at, meaning, is_quote, RunFault, unknown, bad, no_reference, ValueFault}
 use Rattle.rx_grammar.specs.declared.faults.Kind.{Kind}
 use Rattle.rx_grammar.specs.declared.faults.Kind.TheVariants.{StrictText, UnknownReference, BadReference}
-use Rattle.rx_grammar.specs.References.{is_name, is_body, is_begun, stops_at, meaning}
-use Rattle.rx_grammar.specs.Shapes.{is_quote}
-use Rattle.rx_grammar.specs.TagFaults.{RunFault, unknown, bad, no_reference, ValueFault, in_run, less_than}
+use Rattle.rx_grammar.specs.TagFaults.{in_run, less_than}
 use Rattle.rx_reader.specs.declared.phases.RunPhase.{RunPhase}
 use Rattle.rx_reader.specs.declared.phases.RunPhase.TheVariants as run
 use Rattle.rx_reader.specs.declared.phases.RunMove.{RunMove}
 use Rattle.rx_reader.specs.declared.phases.RunMove.TheVariants.{Closes, Stops}
 use Rattle.rx_reader.specs.Tables.{run_move}
 use Rattle.rx_reader.specs.Values.{Value, no_value_yet, no_meaning, plain_step, meant, is_run, run_step, value_step, run_end, value_end, value_on}
-use Rattle.rx_terms.proofs.Bools.{not_both_ways}
 use Rattle.rx_reader.proofs.Runs.{RunIs, at_ampersand, in_name, stops_back, closes_back}
 use Rattle.rx_reader.proofs.TextComplete.{at_run, runs_is_run, begun_run, body_begun}
 use Rattle.rx_reader.proofs.TextSound.{err_on, value-append}

@@ -1,16 +1,8 @@
 -- A tag as it is written, read one character at a time: between the grammar's shapes, the table's phases and the reader.
-use Rattle.std.proofs.Common.{◌≡◌, ℕ, true, false, List, [], ◌∷◌, ◌++◌, Option, Some, None, Result, Ok, Err, refl, ap, sym, ◌∙◌, append_assoc, append-nil, subst}
-use Rattle.std.specs.List.{list_all}
-use Rattle.std.proofs.lemmas.List.{map-append}
-use Rattle.rx_terms.specs.Ascii.{is_white_space, solidus, greater_than_sign}
-use Rattle.rx_terms.specs.Text.{Chars}
-use Rattle.rx_chars.specs.declared.syntax.Syntax.{Syntax}
-use Rattle.rx_chars.specs.declared.syntax.Syntax.TheVariants.{Html, Xhtml}
+use Rattle.rx_terms.proofs.Common.{◌≡◌, ℕ, true, false, List, [], ◌∷◌, ◌++◌, Option, Some, None, Result, Ok, Err, refl, ap, sym, ◌∙◌, append_assoc, append-nil, subst, list_all, map-append, is_white_space, solidus, greater_than_sign, Chars, both}
+use Rattle.rx_grammar.proofs.Common.{Syntax, Html, Xhtml, Denotes, Attribute, Tag, ends_name, begins, begins_tag, is_tag_char, Shape, a_start, an_end, cased_char, cased}
 use Rattle.rx_grammar.specs.declared.faults.Kind.{Kind}
-use Rattle.rx_grammar.specs.References.{Denotes}
-use Rattle.rx_grammar.specs.Tokens.{Attribute, Tag}
-use Rattle.rx_grammar.specs.Shapes.{ends_name, begins, begins_tag, is_tag_char, Shape, a_start, an_end}
-use Rattle.rx_grammar.specs.Tags.{cased_char, cased, AreRead}
+use Rattle.rx_grammar.specs.Tags.{AreRead}
 use Rattle.rx_reader.specs.declared.phases.TagPhase.{TagPhase}
 use Rattle.rx_reader.specs.declared.phases.TagPhase.TheVariants as phase
 use Rattle.rx_reader.specs.declared.phases.TagAction.TheVariants as action
@@ -18,7 +10,6 @@ use Rattle.rx_reader.specs.Tables.{Move, move_of, is_last}
 use Rattle.rx_reader.specs.Cuts.{cut_by, cut_from}
 use Rattle.rx_reader.specs.Values.{Value, no_value_yet, value_step, value_end, step_on, value_on, end_of}
 use Rattle.rx_reader.specs.TagReader.{TagState, fresh, with_value, with_attribute, moved, tag_move, moves_on, is_closing, is_emptied}
-use Rattle.rx_terms.proofs.Bools.{both}
 use Rattle.rx_reader.proofs.Classes.{of_end, tag_char_named}
 use Rattle.rx_reader.proofs.Sound.{Result as Ended, added}
 use Rattle.rx_reader.proofs.Complete.{complete}

@@ -1,28 +1,19 @@
 -- Plain references, from the bytes that the code looks at.
-use Rattle.std.proofs.Common.{◌≡◌, ◌∙◌, ℕ, zero, suc, ◌+◌, ◌<◌, ◌≤◌, ◌/◌, Bool, true, false, not, ◌==◌, ◌||◌, ◌&&◌, List, [], ◌∷◌, ◌++◌, length, take, drop, get_or, sym, ap, subst, refl, arith, Option, Some, None, length-append}
-use Rattle.std.specs.Prelude.{if◌then◌else◌, codes, nat_lt, encode_utf8, IfSome}
-use Rattle.std.specs.List.{list_all}
-use Rattle.std.specs.Str.{chars, IsUtf8, IsCharBoundary, encode_utf8_all}
-use Rattle.std.proofs.lemmas.Bool.{and_parts, and_from, or_parts}
-use Rattle.std.proofs.lemmas.Bool.Decides.{nat_tests}
-use Rattle.std.proofs.lemmas.List.{append_assoc, append-nil, take-append-drop, length-take}
-use Rattle.std.proofs.lemmas.List.Folds.{list_all-append}
-use Rattle.std.proofs.lemmas.Str.{chars-nil, encodes-chars, chars-append, chars_past_char, encode_ascii, IsUtf8-past_char, IsCharBoundary-from_drop}
+use Rattle.rx_terms.proofs.Common.{◌≡◌, ◌∙◌, ℕ, zero, suc, ◌+◌, ◌<◌, ◌≤◌, ◌/◌, Bool, true, false, List, [], ◌∷◌, ◌++◌, length, take, drop, get_or, sym, ap, subst, refl, arith, Option, Some, None, length-append, if◌then◌else◌, IfSome, list_all, chars, IsUtf8, IsCharBoundary, and_parts, and_from, or_parts, nat_tests, take-append-drop, length-take, list_all-append, chars-nil, encodes-chars, chars-append, chars_past_char, encode_ascii, IsUtf8-past_char, is_ascii, Chars, begins_with, is_forbidden, has_forbidden, IsIri, is_scheme, by_test, untrue, ascii-chars, ascii-utf8, and-false}
+use Rattle.std.proofs.Common.{not, ◌==◌, ◌||◌, ◌&&◌}
+use Rattle.std.specs.Prelude.{codes, nat_lt, encode_utf8}
+use Rattle.std.specs.Str.{encode_utf8_all}
+use Rattle.std.proofs.lemmas.List.{append_assoc, append-nil}
+use Rattle.std.proofs.lemmas.Str.{IsCharBoundary-from_drop}
 use Rattle.std.proofs.Math.Seq.{take-append_seam, drop-append_seam}
 use lib.Utf8.{encode, next}
-use Rattle.rx_terms.specs.Ascii.{is_ascii}
-use Rattle.rx_terms.specs.Text.{Chars, begins_with}
-use Rattle.rx_terms.specs.Iri.{is_forbidden, has_forbidden, IsIri, is_scheme}
 use Rattle.rx_refs.specs.Parts.{before, hierarchical_part}
 use Rattle.rx_refs.specs.Dots.{holds}
 use Rattle.rx_refs.specs.Resolve.{through_last_slash, resolved}
 use Rattle.rx_refs.specs.Plain.{no_dots, ends_path, is_plain_from, is_plain, is_site_byte, is_scheme_byte, IsSchemeEnd, IsSite, IsSplit, folder_from, is_one_slash, begins_path, keeps_all, fragment_from, begins_query, path_end_from, IsWhole}
 use Rattle.rx_refs.specs.declared.plain.Split.{Split}
-use Rattle.rx_terms.proofs.Bools.{by_test, untrue}
-use Rattle.rx_terms.proofs.CharLemmas.{ascii-chars, ascii-utf8}
 use Rattle.rx_refs.proofs.CutLemmas.{past-slash, through-none}
 use Rattle.rx_refs.proofs.PlainLemmas.{IsCutBase, plain-rooted, plain-relative, plain-same, plain-whole, before-lacking, hier-lacking, plain-query, plain-network}
-use Rattle.std.proofs.Math.Bool.{and-false}
 
 -- A character above ASCII and its bytes
 

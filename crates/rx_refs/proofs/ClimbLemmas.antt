@@ -1,16 +1,12 @@
 -- References that begin with `../`: they take segments off the base's path, and nothing else is worked out.
-use Rattle.std.proofs.Common.{◌≡◌, ◌∙◌, ℕ, zero, suc, ◌≤◌, Bool, true, false, not, ◌==◌, ◌||◌, ◌&&◌, [], ◌∷◌, ◌++◌, length, sym, ap, refl, arith, Option, Some, None}
-use Rattle.std.specs.Prelude.{is_some}
-use Rattle.std.proofs.lemmas.Bool.{and_parts, and_from, or_parts}
-use Rattle.std.proofs.lemmas.List.{append_assoc, append-nil, append_cancel_left}
-use Rattle.rx_terms.specs.Text.{Chars, is_empty}
-use Rattle.rx_terms.specs.Iri.{is_scheme, has_scheme, is_forbidden, has_forbidden, IsIri}
+use Rattle.rx_terms.proofs.Common.{◌≡◌, ◌∙◌, ℕ, zero, suc, ◌≤◌, Bool, true, false, [], ◌∷◌, ◌++◌, length, sym, ap, refl, arith, Option, Some, None, is_some, and_parts, and_from, or_parts, append_cancel_left, Chars, is_empty, is_scheme, has_scheme, is_forbidden, has_forbidden, IsIri, by_test}
+use Rattle.std.proofs.Common.{not, ◌==◌, ◌||◌, ◌&&◌}
+use Rattle.std.proofs.lemmas.List.{append_assoc, append-nil}
 use Rattle.rx_refs.specs.Parts.{before, from_first, behind_scheme, hierarchical_part, authority_of, path_of, components_of, delimited, recomposed}
 use Rattle.rx_refs.specs.Dots.{holds, step, without_dots, without_last_segment}
 use Rattle.rx_refs.specs.Segments.{reduced}
 use Rattle.rx_refs.specs.Resolve.{through_last_slash, relative_path, target, cleaned, resolved}
 use Rattle.rx_refs.specs.Plain.{no_dots, is_plain_from, climbs, ups}
-use Rattle.rx_terms.proofs.Bools.{by_test}
 use Rattle.rx_words.proofs.EndLemmas.{same_char}
 use Rattle.rx_refs.proofs.PartLemmas.{before-from}
 use Rattle.rx_refs.proofs.DotLemmas.{at, from_first-shorter, reduced-step}

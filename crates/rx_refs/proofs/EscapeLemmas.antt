@@ -1,17 +1,10 @@
 -- The bytes of an escape, and the loop that writes them.
-use Rattle.std.proofs.Common.{◌≡◌, ◌∙◌, ℕ, zero, suc, ◌+◌, ◌<◌, ◌/◌, ◌%◌, Bool, true, false, List, [], ◌∷◌, ◌++◌, length, length-append, take, get_or, sym, ap, subst, refl, arith}
-use Rattle.std.specs.Prelude.{codes, encode_utf8, if◌then◌else◌}
-use Rattle.std.specs.List.{list_all}
-use Rattle.std.specs.Str.{chars, IsUtf8, IsCharBoundary, all_scalars}
-use Rattle.std.proofs.lemmas.Bool.{and_parts, and_from}
+use Rattle.rx_terms.proofs.Common.{◌≡◌, ◌∙◌, ℕ, zero, suc, ◌+◌, ◌<◌, ◌/◌, ◌%◌, Bool, true, false, List, [], ◌∷◌, ◌++◌, length, length-append, take, get_or, sym, ap, subst, refl, arith, if◌then◌else◌, list_all, chars, IsUtf8, IsCharBoundary, all_scalars, and_parts, and_from, chars-append, chars-encodes, chars_past_char, scalars-chars, encode_ascii, is_ascii, Chars, is_forbidden, ascii-chars}
+use Rattle.std.specs.Prelude.{codes, encode_utf8}
 use Rattle.std.proofs.lemmas.List.{append_assoc, append-nil}
-use Rattle.std.proofs.lemmas.Str.{chars-append, chars-encodes, chars_past_char, scalars-chars, encode_ascii, IsCharBoundary-from_take}
+use Rattle.std.proofs.lemmas.Str.{IsCharBoundary-from_take}
 use Rattle.std.proofs.Math.Seq.{take-append_seam}
 use borrow.Author.Tests.{ltb-true}
-use Rattle.rx_terms.specs.Ascii.{is_ascii}
-use Rattle.rx_terms.specs.Text.{Chars}
-use Rattle.rx_terms.specs.Iri.{is_forbidden}
-use Rattle.rx_terms.proofs.CharLemmas.{ascii-chars}
 use Rattle.rx_refs.specs.Resolve.{digit, escaped, cleaned}
 use Rattle.rx_refs.specs.Views.{Keeps}
 use Rattle.rx_refs.proofs.SchemeLemmas.{forbidden-small}

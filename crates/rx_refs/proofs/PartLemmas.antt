@@ -1,8 +1,7 @@
 -- Where a text is cut at its first `mark`.
-use Rattle.std.proofs.Common.{◌≡◌, ◌∙◌, ℕ, true, false, ◌==◌, [], ◌∷◌, ◌++◌, ap, refl, arith, Option, Some, None}
-use Rattle.std.proofs.lemmas.Bool.Decides.{nat_tests}
-use Rattle.rx_terms.proofs.Bools.{by_test}
-use Rattle.rx_terms.specs.Text.{Chars, split_at, front_grows}
+use Rattle.rx_terms.proofs.Common.{◌≡◌, ◌∙◌, ℕ, true, false, [], ◌∷◌, ◌++◌, ap, refl, arith, Option, Some, None, nat_tests, by_test, Chars}
+use Rattle.std.proofs.Common.{◌==◌}
+use Rattle.rx_terms.specs.Text.{split_at, front_grows}
 use Rattle.rx_refs.specs.Parts.{before, from_first, behind}
 use Rattle.rx_refs.specs.Dots.{holds}
 use Rattle.rx_words.proofs.EndLemmas.{same_char}

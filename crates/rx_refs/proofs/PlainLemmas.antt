@@ -1,21 +1,15 @@
 -- What a plain reference means.
-use Rattle.std.proofs.Common.{◌≡◌, ◌∙◌, ℕ, zero, suc, ◌≤◌, Bool, true, false, not, ◌==◌, ◌||◌, ◌&&◌, [], ◌∷◌, ◌++◌, drop, length, reverse, sym, ap, refl, arith, Option, Some, None}
-use Rattle.std.specs.Prelude.{if◌then◌else◌, codes, is_some}
-use Rattle.std.specs.List.{list_all}
-use Rattle.std.proofs.lemmas.Bool.{and_parts, and_from, or_parts}
-use Rattle.std.proofs.lemmas.Bool.Decides.{nat_tests}
-use Rattle.std.proofs.lemmas.List.{append_assoc, append-nil, reverse-append, reverse-reverse}
-use Rattle.std.proofs.lemmas.List.Folds.{list_any-append}
-use Rattle.std.specs.Option.{option_or}
-use Rattle.rx_terms.specs.Ascii.{is_white_space}
-use Rattle.rx_terms.specs.Text.{Chars, begins_with, is_empty, trimmed, without_leading_space}
-use Rattle.rx_terms.specs.Iri.{is_scheme_char, begins_with_letter, is_scheme, has_scheme, is_forbidden, has_forbidden, IsIri}
+use Rattle.rx_terms.proofs.Common.{◌≡◌, ◌∙◌, ℕ, zero, suc, ◌≤◌, Bool, true, false, [], ◌∷◌, ◌++◌, drop, length, reverse, sym, ap, refl, arith, Option, Some, None, if◌then◌else◌, is_some, list_all, and_parts, and_from, or_parts, nat_tests, reverse-append, reverse-reverse, list_any-append, option_or, is_white_space, Chars, begins_with, is_empty, trimmed, is_scheme_char, is_scheme, has_scheme, is_forbidden, has_forbidden, IsIri, by_test, untrue}
+use Rattle.std.proofs.Common.{not, ◌==◌, ◌||◌, ◌&&◌}
+use Rattle.std.specs.Prelude.{codes}
+use Rattle.std.proofs.lemmas.List.{append_assoc, append-nil}
+use Rattle.rx_terms.specs.Text.{without_leading_space}
+use Rattle.rx_terms.specs.Iri.{begins_with_letter}
 use Rattle.rx_refs.specs.Parts.{Components, before, from_first, behind, scheme_of, behind_scheme, hierarchical_part, authority_of, path_of, query_of, components_of, delimited, recomposed}
 use Rattle.rx_refs.specs.Dots.{holds, step, without_dots}
 use Rattle.rx_refs.specs.Segments.{reduced}
 use Rattle.rx_refs.specs.Resolve.{through_last_slash, relative_path, target, cleaned, resolved}
 use Rattle.rx_refs.specs.Plain.{no_dots, ends_path, is_plain_from, is_plain, begins_path, keeps_all, begins_query}
-use Rattle.rx_terms.proofs.Bools.{by_test, untrue}
 use Rattle.rx_words.proofs.EndLemmas.{begins-front, same_char}
 use Rattle.rx_refs.proofs.PartLemmas.{before-from, cut-at}
 use Rattle.rx_refs.proofs.DotLemmas.{at, from_first-shorter, reduced-step}

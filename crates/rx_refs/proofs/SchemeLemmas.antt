@@ -1,17 +1,12 @@
 -- Schemes, and what of them is left in what a reference means.
-use Rattle.std.proofs.Common.{◌≡◌, ◌∙◌, ℕ, zero, suc, ◌<◌, ◌/◌, ◌%◌, length, get_or, Bool, true, false, ◌==◌, List, [], ◌∷◌, ◌++◌, drop, sym, ap, refl, arith, Option, Some, None}
+use Rattle.rx_terms.proofs.Common.{◌≡◌, ◌∙◌, ℕ, zero, suc, ◌<◌, ◌/◌, ◌%◌, length, get_or, Bool, true, false, List, [], ◌∷◌, ◌++◌, drop, sym, ap, refl, arith, Option, Some, None, list_all, list_any, and_parts, nat_tests, list_any-append, Chars, is_scheme_char, is_scheme, has_scheme, is_forbidden, has_forbidden, IsIri, by_test}
+use Rattle.std.proofs.Common.{◌==◌}
 use Rattle.std.specs.Prelude.{codes}
-use Rattle.std.specs.List.{list_all, list_any}
-use Rattle.std.proofs.lemmas.Bool.{and_parts}
-use Rattle.std.proofs.lemmas.Bool.Decides.{nat_tests}
 use Rattle.std.proofs.lemmas.List.{append_assoc}
-use Rattle.std.proofs.lemmas.List.Folds.{list_any-append}
-use Rattle.rx_terms.specs.Text.{Chars}
-use Rattle.rx_terms.specs.Iri.{is_scheme_char, begins_with_letter, is_scheme, begins_with_scheme, has_scheme, is_forbidden, has_forbidden, IsIri}
+use Rattle.rx_terms.specs.Iri.{begins_with_letter, begins_with_scheme}
 use Rattle.rx_refs.specs.Resolve.{digit, escaped, cleaned_char, cleaned}
 use Rattle.rx_refs.specs.Parts.{before, behind, scheme_of, behind_scheme}
 use Rattle.rx_refs.specs.Dots.{holds}
-use Rattle.rx_terms.proofs.Bools.{by_test}
 use Rattle.rx_refs.proofs.PartLemmas.{with_front, split_at-parts, behind-none, behind-some, before-lacks, cut-at, uncut}
 
 pub has_scheme-cut : (front rest : Chars) → holds 58 front ≡ false → has_scheme (front ++ 58 ∷ rest) ≡ is_scheme front

@@ -1,8 +1,7 @@
 -- The cases of 5.2.2 on what the code holds.
-use Rattle.std.proofs.Common.{◌≡◌, ℕ, true, false, ◌&&◌, List, ◌∷◌, ◌++◌, refl, Option, Some, None}
-use Rattle.std.specs.Prelude.{codes, is_some}
-use Rattle.std.specs.Option.{option_or}
-use Rattle.rx_terms.specs.Text.{Chars, begins_with, is_empty, seen_slice}
+use Rattle.rx_terms.proofs.Common.{◌≡◌, ℕ, true, false, List, ◌∷◌, ◌++◌, refl, Option, Some, None, is_some, option_or, Chars, begins_with, is_empty, seen_slice}
+use Rattle.std.proofs.Common.{◌&&◌}
+use Rattle.std.specs.Prelude.{codes}
 use Rattle.rx_refs.specs.Parts.{Components}
 use Rattle.rx_refs.specs.Dots.{without_dots}
 use Rattle.rx_refs.specs.Resolve.{through_last_slash, relative_path}

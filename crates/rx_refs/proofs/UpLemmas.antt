@@ -1,22 +1,13 @@
 -- `../` at the front, from the bytes that the code looks at.
-use Rattle.std.proofs.Common.{◌≡◌, ◌∙◌, ℕ, zero, suc, ◌+◌, ◌-◌, ◌*◌, ◌<◌, ◌≤◌, true, false, ◌==◌, ◌&&◌, List, [], ◌∷◌, ◌++◌, length, take, drop, Option, Some, sym, ap, subst, refl, arith, length-append}
-use Rattle.std.specs.Prelude.{if◌then◌else◌, IfSome}
-use Rattle.std.specs.List.{list_all}
-use Rattle.std.proofs.lemmas.Bool.{and_parts, and_from}
-use Rattle.std.proofs.lemmas.List.{append_assoc, append-nil, take-take, length-take, length-drop, drop-drop}
+use Rattle.rx_terms.proofs.Common.{◌≡◌, ◌∙◌, ℕ, zero, suc, ◌+◌, ◌-◌, ◌*◌, ◌<◌, ◌≤◌, true, false, List, [], ◌∷◌, ◌++◌, length, take, drop, Option, Some, sym, ap, subst, refl, arith, length-append, if◌then◌else◌, IfSome, list_all, and_parts, and_from, length-take, length-drop, chars, IsUtf8, IsCharBoundary, encodes-chars, list_all-append, is_ascii, Chars, IsIri, by_test}
+use Rattle.std.proofs.Common.{◌==◌, ◌&&◌}
+use Rattle.std.proofs.lemmas.List.{append_assoc, append-nil, take-take, drop-drop}
 use Rattle.std.proofs.Math.Seq.{take-append_seam, drop-append_seam}
-use Rattle.std.specs.Str.{chars, IsUtf8, IsCharBoundary}
-use Rattle.std.proofs.lemmas.Str.{encodes-chars}
-use Rattle.std.proofs.lemmas.List.Folds.{list_all-append}
-use Rattle.rx_terms.specs.Ascii.{is_ascii}
-use Rattle.rx_terms.specs.Text.{Chars}
-use Rattle.rx_terms.specs.Iri.{IsIri}
 use Rattle.rx_refs.specs.Parts.{hierarchical_part}
 use Rattle.rx_refs.specs.Resolve.{through_last_slash, resolved}
 use Rattle.rx_refs.specs.Dots.{holds, without_last_segment}
 use Rattle.rx_refs.specs.Plain.{climbs, ups, count_of, last_from, begins_climb, no_dots, is_plain_from, is_scheme_byte, is_site_byte, IsSite, IsSplit, folder_from}
 use Rattle.rx_refs.specs.declared.plain.Split.{Split}
-use Rattle.rx_terms.proofs.Bools.{by_test}
 use Rattle.rx_words.proofs.EndLemmas.{same_char}
 use Rattle.rx_refs.proofs.CutLemmas.{without-none, past-slash}
 use Rattle.rx_refs.proofs.PlainLemmas.{hier-lacking}

@@ -1,15 +1,11 @@
 -- The components joined again, and the target of a reference.
-use Rattle.std.proofs.Common.{◌≡◌, ◌∙◌, ℕ, true, false, [], ◌∷◌, ◌++◌, drop, sym, ap, subst, refl, Option, Some, None}
-use Rattle.std.specs.Prelude.{codes, is_some}
-use Rattle.std.specs.Option.{option_or}
+use Rattle.rx_terms.proofs.Common.{◌≡◌, ◌∙◌, ℕ, true, false, [], ◌∷◌, ◌++◌, drop, sym, ap, subst, refl, Option, Some, None, is_some, option_or, Chars, begins_with, is_empty, trimmed, is_scheme, has_scheme, has_forbidden, by_test}
+use Rattle.std.specs.Prelude.{codes}
 use Rattle.std.proofs.lemmas.List.{append_assoc, append-nil}
-use Rattle.rx_terms.specs.Text.{Chars, begins_with, is_empty, trimmed}
-use Rattle.rx_terms.specs.Iri.{is_scheme, has_scheme, has_forbidden}
 use Rattle.rx_refs.specs.Parts.{Components, before, behind, scheme_of, behind_scheme, authority_of, path_of, components_of, delimited, recomposed}
 use Rattle.rx_refs.specs.Dots.{holds, without_dots}
 use Rattle.rx_refs.specs.Resolve.{relative_path, target, cleaned, resolved}
 use Rattle.rx_refs.specs.Laws.{AbsoluteStandsAlone, PartsAreWhole, ResolvedIsIri}
-use Rattle.rx_terms.proofs.Bools.{by_test}
 use Rattle.rx_refs.proofs.PartLemmas.{behind-none, behind-some, before-from}
 use Rattle.rx_words.proofs.EndLemmas.{begins-front}
 use Rattle.rx_refs.proofs.SchemeLemmas.{cut-scheme, scheme-cut, scheme-none, cleaned-has-scheme, cleaned-clean}

@@ -1,18 +1,10 @@
 -- Entries that spell tokens are read as these tokens, one after another, in whatever content.
-use Rattle.std.proofs.Common.{◌≡◌, ◌∙◌, inl, inr, ◌⊎◌, ℕ, ◌+◌, ◌≤◌, ◌<◌, Bool, true, false, List, [], ◌∷◌, ◌++◌, refl, sym, ap, subst, append_assoc, append-nil, Option, Some, None, Result, Ok, arith}
-use Rattle.std.specs.Prelude.{◌&&◌, not, if◌then◌else◌}
-use Rattle.std.proofs.lemmas.Bool.{cond-false}
-use Rattle.rx_terms.specs.Ascii.{right_bracket, greater_than_sign}
-use Rattle.rx_terms.specs.Text.{Chars}
-use Rattle.rx_chars.specs.declared.syntax.Syntax.{Syntax}
-use Rattle.rx_chars.specs.Characters.{Entry}
+use Rattle.rx_terms.proofs.Common.{◌≡◌, ◌∙◌, inl, inr, ◌⊎◌, ℕ, ◌+◌, ◌≤◌, ◌<◌, Bool, true, false, List, [], ◌∷◌, ◌++◌, refl, sym, ap, subst, append_assoc, append-nil, Option, Some, None, Result, Ok, arith, ◌&&◌, not, if◌then◌else◌, cond-false, right_bracket, greater_than_sign, Chars, and-false}
+use Rattle.rx_grammar.proofs.Common.{Syntax, Entry, Token, tag, doctype, values, next_of, last_from, Item, Spelled, no_more, one, Fits, AllFit, is_literal, no_section_end, is_known_tag}
 use Rattle.rx_grammar.specs.declared.contents.Content.{Content}
 use Rattle.rx_grammar.specs.declared.faults.Kind.{Kind}
 use Rattle.rx_grammar.specs.declared.limits.Limits.{Limits}
-use Rattle.rx_grammar.specs.Tokens.{Token, tag, doctype}
 use Rattle.rx_grammar.specs.Spelling as spelling
-use Rattle.rx_grammar.specs.Items.{values, next_of, last_from, Item, Spelled, no_more, one, Fits, AllFit, is_literal, no_section_end}
-use Rattle.rx_grammar.specs.PageFaults.{is_known_tag}
 use Rattle.rx_pages.specs.Scanner.{GoesOn, Verdict, goes_on, whole, ended, verdict, ReadAs, at_last, at_next}
 use Rattle.rx_pages.specs.PageReader.{Spot, Scanning, Scanned, first_of, entering, item_of, is_doctype, completed, told_first, with_item, after_token, told}
 use Rattle.rx_pages.proofs.Pends.{occurs}
@@ -26,7 +18,6 @@ use Rattle.rx_pages.proofs.EndedRuns.{ended_kept}
 use Rattle.rx_pages.proofs.KnownTags.{TagVerdict, on, a_tag, known_more, known_verdict}
 use Rattle.rx_scan.specs.Spelled.{AllInside, MayCome, AllMayCome}
 use Rattle.rx_scan.proofs.SpelledLemmas.{never_ended, first_known}
-use Rattle.std.proofs.Math.Bool.{and-false}
 
 -- one list of entries is a front of the other
 record Longer (xs ys m n : List Entry) : Type 0 where

@@ -1,17 +1,9 @@
 -- Behind `<!` and `<?`, and in a document type, a move says what the verdict is.
-use Rattle.std.proofs.Common.{◌≡◌, ◌∙◌, ℕ, Bool, true, false, [], ◌∷◌, ◌++◌, refl, ap, sym, subst, append_assoc, append-nil, eqb-true, ◌+◌, arith, Option, Some, None, length}
-use Rattle.std.specs.Prelude.{◌&&◌, ◌||◌, ◌==◌, ◌-◌, take, length, codes, if◌then◌else◌}
-use Rattle.std.proofs.lemmas.Bool.{cond-true, cond-false}
-use Rattle.std.proofs.lemmas.Bool.Decides.{nat_tests}
-use Rattle.rx_terms.specs.Ascii.{less_than_sign, is_white_space}
-use Rattle.rx_terms.specs.Text.{Chars}
-use Rattle.rx_chars.specs.declared.syntax.Syntax.{Syntax}
+use Rattle.rx_terms.proofs.Common.{◌≡◌, ◌∙◌, ℕ, Bool, true, false, [], ◌∷◌, ◌++◌, refl, ap, sym, subst, append_assoc, append-nil, eqb-true, ◌+◌, arith, Option, Some, None, length, ◌&&◌, ◌||◌, ◌==◌, if◌then◌else◌, cond-true, cond-false, nat_tests, less_than_sign, is_white_space, Chars, split, both}
+use Rattle.std.specs.Prelude.{◌-◌, take, length, codes}
+use Rattle.rx_grammar.proofs.Common.{Syntax, same, comment, section, ends_with, ends_comment, cased_char}
 use Rattle.rx_grammar.specs.declared.contents.Content.{Content}
-use Rattle.rx_grammar.specs.Names.{same}
-use Rattle.rx_grammar.specs.Tokens.{comment, section}
-use Rattle.rx_grammar.specs.Spelling.{ends_with, ends_comment}
 use Rattle.rx_pages.specs.Scanner as told
-use Rattle.rx_terms.proofs.Bools.{split, both}
 use Rattle.std.proofs.lemmas.List.{length-append}
 use Rattle.rx_scan.specs.declared.marks.CommentPhase.{CommentPhase}
 use Rattle.rx_scan.specs.declared.marks.CommentPhase.TheVariants as comments
@@ -27,7 +19,6 @@ use Rattle.rx_scan.specs.Pending.{Pending, PendsAs, Behind, judge_of, CommentEnd
 use Rattle.rx_scan.specs.Meant.{Means, Goes}
 use Rattle.rx_scan.proofs.Snoc.{snoc_same, ends_snoc, ends_one, empty_snoc, lone_snoc, either_way, head_of, word_at}
 use Rattle.rx_grammar.specs.declared.faults.Kind.TheVariants.{BadDoctype}
-use Rattle.rx_grammar.specs.Tags.{cased_char}
 use Rattle.rx_scan.specs.declared.marks.DoctypePhase.{DoctypePhase}
 use Rattle.rx_scan.specs.declared.marks.DoctypePhase.TheVariants as phases
 use Rattle.rx_scan.specs.declared.marks.Whole.TheVariants as whole

@@ -1,9 +1,6 @@
 -- Characters of a buffer's bytes.
-use Rattle.std.proofs.Common.{◌≡◌, ◌∙◌, ℕ, List, [], ◌∷◌, length, refl, sym, ap, nat_eq, false, arith}
-use Rattle.std.specs.Str.{chars, IsUtf8, encode_utf8_all}
-use Rattle.std.proofs.lemmas.Str.{chars-nil, encodes-chars}
-use Rattle.rx_terms.specs.Text.{is_empty}
-use Rattle.std.proofs.lemmas.Bool.{ne_eqb}
+use Rattle.rx_terms.proofs.Common.{◌≡◌, ◌∙◌, ℕ, List, [], ◌∷◌, length, refl, sym, ap, nat_eq, false, arith, chars, IsUtf8, chars-nil, encodes-chars, is_empty, ne_eqb}
+use Rattle.std.specs.Str.{encode_utf8_all}
 
 pub chars-none : (bs : List ℕ) → bs ≡ [] → chars bs ≡ []
 chars-none bs e = ap chars e ∙ chars-nil

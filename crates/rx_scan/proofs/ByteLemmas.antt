@@ -1,21 +1,13 @@
 -- What one byte does is what the reader of bytes says.
-use Rattle.std.proofs.Common.{◌≡◌, ◌∙◌, ◌⊎◌, ℕ, ◌+◌, ◌-◌, Bool, true, false, List, [], ◌∷◌, ◌++◌, refl, ap, sym, subst, Result, Ok, Err, inl, inr, length, arith, eqb-true, ◌<◌, ◌≢◌}
-use Rattle.std.specs.Prelude.{◌&&◌, ◌||◌, ◌==◌, not, nat_le, MatchBool, if◌then◌else◌}
-use Rattle.std.proofs.lemmas.Bool.{cond-true, cond-false, lt-leb}
+use Rattle.rx_terms.proofs.Common.{◌≡◌, ◌∙◌, ◌⊎◌, ℕ, ◌+◌, ◌-◌, Bool, true, false, List, [], ◌∷◌, ◌++◌, refl, ap, sym, subst, Result, Ok, Err, inl, inr, length, arith, eqb-true, ◌<◌, ◌≢◌, ◌&&◌, ◌||◌, ◌==◌, not, nat_le, MatchBool, if◌then◌else◌, cond-true, cond-false, Chars, by_test, both, either, untrue, and-false}
+use Rattle.std.proofs.lemmas.Bool.{lt-leb}
 use Rattle.std.proofs.lemmas.List.{length-append}
-use Rattle.rx_terms.specs.Text.{Chars}
-use Rattle.rx_chars.specs.Utf8.{answer_of}
+use Rattle.rx_grammar.proofs.Common.{answer_of, More, Char, Bad, Entry, byte_order_mark, line_feed, carriage_return, as_line_end, Syntax, values, is_known_tag}
 use Rattle.rx_chars.specs.declared.utf8.Utf8Step.{Utf8Step}
-use Rattle.rx_chars.specs.declared.utf8.Utf8Step.TheVariants.{More, Char, Bad}
-use Rattle.rx_chars.specs.Characters.{Entry, byte_order_mark, line_feed, carriage_return, as_line_end}
-use Rattle.rx_chars.specs.declared.syntax.Syntax.{Syntax}
 use Rattle.rx_grammar.specs.declared.contents.Content.{Content}
 use Rattle.rx_grammar.specs.declared.faults.Kind.{Kind}
 use Rattle.rx_grammar.specs.declared.faults.Kind.TheVariants.{NotUtf8, Nul, PageTooLong, TagTooLong}
 use Rattle.rx_grammar.specs.declared.limits.Limits.{Limits}
-use Rattle.rx_grammar.specs.Items.{values}
-use Rattle.rx_grammar.specs.PageFaults.{is_known_tag}
-use Rattle.rx_terms.proofs.Bools.{by_test, both, either, untrue}
 use Rattle.rx_pages.specs.PageReader as reader
 use Rattle.rx_grammar.specs.declared.stops.Stop.{Stop}
 use Rattle.rx_grammar.specs.declared.stops.Stop.TheVariants as stop
@@ -36,7 +28,6 @@ use Rattle.rx_scan.proofs.Simulation.{known, known_with}
 use Rattle.rx_scan.proofs.MarkLemmas.{mark_is}
 use Rattle.rx_scan.proofs.EntryLemmas.{enters, Gives, gives_at, gives_by, refuses, nothing_told}
 use Rattle.rx_pages.proofs.Tokens.{values_append}
-use Rattle.std.proofs.Math.Bool.{and-false}
 use Rattle.rx_tags.proofs.TakeLemmas.{match_by}
 
 -- what pends has a first character, or there is nothing

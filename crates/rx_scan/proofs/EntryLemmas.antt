@@ -1,15 +1,9 @@
 -- What an answer says of the reader of bytes; and that what one character does is so: by its move, and the token that begins, goes on or is whole with it.
-use Rattle.std.proofs.Common.{◌≡◌, ◌∙◌, ℕ, ◌+◌, Bool, true, false, [], ◌∷◌, ◌++◌, ap, sym, Result, Ok, List, refl, subst, Err, Option, Some, None, append-nil}
-use Rattle.std.specs.Prelude.{◌&&◌, not, ◌==◌, encode_utf8_all, if◌then◌else◌}
-use Rattle.std.proofs.lemmas.Bool.{cond-false, cond-true}
-use Rattle.rx_terms.specs.Ascii.{greater_than_sign, right_bracket, line_feed}
-use Rattle.rx_terms.specs.Text.{Chars, is_empty}
-use Rattle.rx_chars.specs.Characters.{Entry}
-use Rattle.rx_chars.specs.declared.syntax.Syntax.{Syntax}
+use Rattle.rx_terms.proofs.Common.{◌≡◌, ◌∙◌, ℕ, ◌+◌, Bool, true, false, [], ◌∷◌, ◌++◌, ap, sym, Result, Ok, List, refl, subst, Err, Option, Some, None, append-nil, ◌&&◌, not, ◌==◌, if◌then◌else◌, cond-false, cond-true, greater_than_sign, right_bracket, line_feed, Chars, is_empty, both, not_both_ways, split, and-false, and-true}
+use Rattle.std.specs.Prelude.{encode_utf8_all}
+use Rattle.rx_grammar.proofs.Common.{Entry, Syntax, Token, character, reference, section, comment, doctype, kept, tag, Item, values, is_literal, is_strict_literal, text_of, is_line_feed, meaning}
 use Rattle.rx_grammar.specs.declared.contents.Content.{Content}
 use Rattle.rx_grammar.specs.declared.faults.Kind.{Kind}
-use Rattle.rx_grammar.specs.Tokens.{Token, character, reference, section, comment, doctype, kept, tag}
-use Rattle.rx_grammar.specs.Items.{Item, values, is_literal, is_strict_literal, text_of, is_line_feed}
 use Rattle.rx_pages.specs.Scanner as verdicts
 use Rattle.rx_pages.specs.PageReader as reader
 use Rattle.rx_scan.specs.declared.marks.TokenState.TheVariants as mark
@@ -29,8 +23,6 @@ use Rattle.rx_scan.specs.declared.marks.TokenState.{TokenState}
 use Rattle.rx_scan.specs.Entries as entries
 use Rattle.rx_scan.specs.Meant as meant
 use Rattle.rx_grammar.specs.declared.faults.Kind.TheVariants.{StrictText, BadDoctype}
-use Rattle.rx_terms.proofs.Bools.{both, not_both_ways, split}
-use Rattle.rx_grammar.specs.References.{meaning}
 use Rattle.rx_reader.specs.Values.{no_meaning}
 use Rattle.rx_scan.specs.declared.marks.Move.TheVariants as move
 use Rattle.rx_scan.specs.declared.marks.Whole.TheVariants as whole_mark
@@ -45,7 +37,6 @@ use Rattle.rx_reader.specs.TagReader.{TagState, fresh, tag_on, tag_step, tag_of,
 use Rattle.rx_reader.proofs.TagLaws.{tag_on-append}
 use Rattle.rx_scan.specs.declared.marks.Brackets.TheVariants as brackets
 use Rattle.rx_scan.specs.declared.marks.Move.{Move}
-use Rattle.std.proofs.Math.Bool.{and-false, and-true}
 use Rattle.rx_pages.proofs.LastToken.{token_of_item}
 use Rattle.rx_grammar.specs.declared.faults.Fault.{Fault}
 use Rattle.rx_pages.proofs.FaultsRead.{item_content}

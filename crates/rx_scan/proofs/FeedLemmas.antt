@@ -1,8 +1,7 @@
 -- Characters of a tag that are taken at once are read like its bytes one after another, in the tag or behind its `<`.
-use Rattle.std.proofs.Common.{◌≡◌, ◌∙◌, ℕ, ◌+◌, ◌≤◌, ◌<◌, Bool, true, false, List, [], ◌∷◌, ◌++◌, length, take, refl, ap, sym, subst, Ok, append_assoc, arith, length-take-le, eqb-true, zero, suc}
-use Rattle.std.specs.Prelude.{◌==◌, ◌^◌, not, nat_le, MatchBool}
-use Rattle.std.proofs.lemmas.Bool.{leb-true, and_parts, and_from, and_right, or_from}
-use Rattle.rx_chars.specs.Characters.{as_line_end}
+use Rattle.rx_terms.proofs.Common.{◌≡◌, ◌∙◌, ℕ, ◌+◌, ◌≤◌, ◌<◌, Bool, true, false, List, [], ◌∷◌, ◌++◌, length, take, refl, ap, sym, subst, Ok, append_assoc, arith, length-take-le, eqb-true, zero, suc, ◌==◌, not, nat_le, MatchBool, leb-true, and_parts, and_from, and_right, or_from}
+use Rattle.std.specs.Prelude.{◌^◌}
+use Rattle.rx_grammar.proofs.Common.{as_line_end}
 use Rattle.rx_chars.proofs.Utf8Answers.{first_whole}
 use Rattle.rx_scan.specs.declared.marks.TokenState.{TokenState}
 use Rattle.rx_scan.specs.declared.marks.TokenState.TheVariants as mark

@@ -1,8 +1,7 @@
 -- What is taken at once is read like its bytes one after another: text with its references, and characters of a tag.
-use Rattle.std.proofs.Common.{◌≡◌, ◌∙◌, ℕ, ◌+◌, ◌-◌, ◌≤◌, ◌<◌, false, List, [], ◌∷◌, ◌++◌, length, take, drop, ap, sym, subst, arith, eqb-true, take-add, length-take-le, length-drop, inl, inr, ◌⊎◌, Bool, true, refl, Option, Some, None, append_assoc, encode_utf8_all}
-use Rattle.std.specs.Prelude.{◌==◌, MatchBool, codes, IfSome}
-use Rattle.std.proofs.lemmas.Bool.{eqb-false, cases_lt, and_parts}
-use Rattle.std.proofs.lemmas.List.{take_rest}
+use Rattle.rx_terms.proofs.Common.{◌≡◌, ◌∙◌, ℕ, ◌+◌, ◌-◌, ◌≤◌, ◌<◌, false, List, [], ◌∷◌, ◌++◌, length, take, drop, ap, sym, subst, arith, eqb-true, take-add, length-take-le, inl, inr, ◌⊎◌, Bool, true, refl, Option, Some, None, append_assoc, encode_utf8_all, ◌==◌, MatchBool, IfSome, eqb-false, cases_lt, and_parts, take_rest, list_all, all_scalars, Chars, begins_with, split}
+use Rattle.std.proofs.Common.{length-drop}
+use Rattle.std.specs.Prelude.{codes}
 use Rattle.rx_scan.specs.declared.marks.TokenState.TheVariants as mark
 use Rattle.rx_pages.specs.PageReader as reader
 use Rattle.rx_tags.specs.TagBufs.{MayStep}
@@ -12,14 +11,9 @@ use Rattle.rx_scan.specs.Scanner.{Reading}
 use Rattle.rx_scan.specs.Steps.{ReadsAs}
 use Rattle.rx_scan.proofs.FeedLemmas.{feed_on, feeds_steps, open_on}
 use Rattle.rx_scan.proofs.RunLemmas.{ReadsOn, reads_none}
-use Rattle.std.specs.List.{list_all}
-use Rattle.std.specs.Str.{all_scalars}
 use Rattle.std.proofs.lemmas.Str.{chars_from_encodes}
-use Rattle.rx_terms.specs.Text.{Chars, begins_with}
-use Rattle.rx_chars.specs.declared.syntax.Syntax.{Syntax}
-use Rattle.rx_chars.specs.declared.syntax.Syntax.TheVariants.{Html, Xhtml}
+use Rattle.rx_grammar.proofs.Common.{Syntax, Html, Xhtml, meaning}
 use Rattle.rx_chars.specs.Named.{named, named_table}
-use Rattle.rx_grammar.specs.References.{meaning}
 use Rattle.rx_reader.specs.declared.phases.RunPhase.TheVariants as run
 use Rattle.rx_reader.specs.declared.phases.RunMove.TheVariants as run_moves
 use Rattle.rx_tags.proofs.TakeLemmas.{chosen as some_taken, some_count, match_by}
@@ -31,7 +25,6 @@ use Rattle.rx_scan.specs.WholeReferences.{usual_reference, IsReference, BeginsRe
 use Rattle.rx_scan.proofs.PlainLemmas.{chars_plain}
 use Rattle.rx_scan.proofs.ReferenceLemmas.{reference_on}
 use Rattle.rx_scan.proofs.SaidLemmas.{TellsChars, chars_on, line_end_on}
-use Rattle.rx_terms.proofs.Bools.{split}
 
 -- what stands at the front
 begins_taken : (front text : List ℕ) → begins_with front text ≡ true → (take (length front) text ≡ front) × (length front ≤ length text)

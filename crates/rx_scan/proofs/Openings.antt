@@ -1,22 +1,15 @@
 -- Behind `<!` a move says what the verdict is: by the words that may stand there, as texts.
-use Rattle.std.proofs.Common.{◌≡◌, ◌∙◌, ℕ, ◌+◌, Bool, true, false, [], ◌∷◌, ◌++◌, refl, ap, sym, subst, Option, append_assoc, append-nil, eqb-true, eq-eqb, cond, length, map, arith, slice_get}
-use Rattle.std.specs.Prelude.{◌==◌, ◌&&◌, not, codes, drop}
-use Rattle.std.proofs.lemmas.Bool.{cond-true, cond-false, or_from, or_left, or_right, ne_eqb, and_right}
-use Rattle.std.proofs.lemmas.List.{length-append, length-map, map-append}
+use Rattle.rx_terms.proofs.Common.{◌≡◌, ◌∙◌, ℕ, ◌+◌, Bool, true, false, [], ◌∷◌, ◌++◌, refl, ap, sym, subst, Option, append_assoc, append-nil, eqb-true, cond, length, map, arith, slice_get, ◌==◌, ◌&&◌, not, cond-true, cond-false, or_from, or_left, or_right, ne_eqb, and_right, length-map, map-append, lowered_char, Chars, begins_with, lowered, split, by_test, both, untrue, not_both_ways, and-false, list_all}
+use Rattle.std.proofs.Common.{eq-eqb}
+use Rattle.std.specs.Prelude.{codes, drop}
+use Rattle.std.proofs.lemmas.List.{length-append}
 use Rattle.std.proofs.Math.Seq.{drop-append_seam}
-use Rattle.rx_terms.specs.Ascii.{lowered_char}
-use Rattle.rx_terms.specs.Text.{Chars, begins_with, lowered}
-use Rattle.rx_chars.specs.declared.syntax.Syntax.{Syntax}
-use Rattle.rx_chars.specs.declared.syntax.Syntax.TheVariants.{Html, Xhtml}
+use Rattle.rx_grammar.proofs.Common.{Syntax, Html, Xhtml, comment, has_markup, has_sections, begins_declaration, is_known_tag, meets_opening}
 use Rattle.rx_grammar.specs.declared.contents.Content.{Content}
 use Rattle.rx_grammar.specs.declared.faults.Kind.TheVariants.{BadTag, Outside}
-use Rattle.rx_grammar.specs.Tokens.{comment}
-use Rattle.rx_grammar.specs.Spelling.{has_markup, has_sections, begins_declaration}
-use Rattle.rx_grammar.specs.PageFaults.{is_known_tag, meets_opening}
 use Rattle.rx_pages.specs.Scanner as told
 use Rattle.rx_pages.proofs.Reading.{markup_is}
 use Rattle.rx_pages.proofs.Comments.{bogus_at}
-use Rattle.rx_terms.proofs.Bools.{split, by_test, both, untrue, not_both_ways}
 use Rattle.rx_reader.proofs.Fronts.{equal, begins_append}
 use Rattle.rx_scan.specs.declared.marks.Word.{Word}
 use Rattle.rx_scan.specs.declared.marks.Word.TheVariants as word
@@ -32,8 +25,6 @@ use Rattle.rx_scan.specs.Marks as marks
 use Rattle.rx_scan.specs.Pending.{Pending, PendsAs, InOpened, InOpening, Behind, judge_of, SectionEnds, DoctypeEnds}
 use Rattle.rx_scan.specs.Meant.{Means, Goes}
 use Rattle.rx_scan.proofs.Snoc.{ends_one, either_way, cancel, word_at, short, all_at}
-use Rattle.std.proofs.Math.Bool.{and-false}
-use Rattle.std.specs.List.{list_all}
 
 -- HTML alone lowers the word of a document type
 abbrev pub plain_text : Syntax → Word → Chars → Chars

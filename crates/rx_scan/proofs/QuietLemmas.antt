@@ -1,21 +1,12 @@
 -- The turns of the loop over a piece: between tokens a byte tells text, begins a token, or is skipped.
-use Rattle.std.proofs.Common.{◌≡◌, ◌∙◌, ◌⊎◌, ℕ, ◌<◌, Bool, true, false, List, [], ◌∷◌, ◌++◌, refl, ap, sym, subst, Result, Ok, Err, inl, inr, eqb-true, arith, length, get_or, lit<, zero, suc, ◌≢◌, ◌+◌, take, Some}
-use Rattle.std.specs.Prelude.{◌&&◌, ◌||◌, ◌==◌, not, nat_le, if◌then◌else◌, IfOk}
-use Rattle.std.proofs.lemmas.Bool.{cond-true, cond-false, or_left, or_right}
-use Rattle.std.proofs.lemmas.Str.{encode_ascii}
-use Rattle.rx_terms.specs.Text.{Chars}
-use Rattle.rx_chars.specs.Utf8.{answer_of}
+use Rattle.rx_terms.proofs.Common.{◌≡◌, ◌∙◌, ◌⊎◌, ℕ, ◌<◌, Bool, true, false, List, [], ◌∷◌, ◌++◌, refl, ap, sym, subst, Result, Ok, Err, inl, inr, eqb-true, arith, length, get_or, lit<, zero, suc, ◌≢◌, ◌+◌, take, Some, ◌&&◌, ◌||◌, ◌==◌, not, nat_le, if◌then◌else◌, cond-true, cond-false, or_left, or_right, encode_ascii, Chars, split, by_test, both, either, untrue}
+use Rattle.std.specs.Prelude.{IfOk}
+use Rattle.rx_grammar.proofs.Common.{answer_of, More, Char, Bad, carriage_return, as_line_end, is_strict_literal, character, has_references, is_text}
 use Rattle.rx_chars.specs.declared.utf8.Utf8Step.{Utf8Step}
-use Rattle.rx_chars.specs.declared.utf8.Utf8Step.TheVariants.{More, Char, Bad}
-use Rattle.rx_chars.specs.Characters.{carriage_return, as_line_end}
 use Rattle.rx_chars.proofs.Utf8Exact.{answers_from}
 use Rattle.rx_chars.proofs.Utf8Forms.{tables_agree}
 use Rattle.rx_grammar.specs.declared.faults.Kind.{Kind}
 use Rattle.rx_grammar.specs.declared.faults.Kind.TheVariants.{StrictText}
-use Rattle.rx_grammar.specs.Items.{is_strict_literal}
-use Rattle.rx_grammar.specs.Tokens.{character}
-use Rattle.rx_grammar.specs.Spelling.{has_references, is_text}
-use Rattle.rx_terms.proofs.Bools.{split, by_test, both, either, untrue}
 use Rattle.rx_grammar.specs.declared.stops.Stop.{Stop}
 use Rattle.rx_grammar.specs.declared.stops.Stop.TheVariants as stop
 use Rattle.rx_scan.specs.declared.answers.TokenKind.{TokenKind}

@@ -1,18 +1,8 @@
 -- A reference that is taken at once is read like its bytes one after another.
-use Rattle.std.proofs.Common.{◌≡◌, ◌∙◌, ℕ, ◌+◌, ◌≤◌, ◌<◌, true, false, List, [], ◌∷◌, ◌++◌, length, refl, ap, sym, subst, Option, Some, Ok, append_assoc, append-nil, arith, encode_utf8_all, ◌-◌, take}
-use Rattle.std.specs.Prelude.{◌&&◌, ◌==◌, not}
-use Rattle.std.specs.List.{list_all}
-use Rattle.std.proofs.lemmas.Bool.{cond-true, and_parts, or_from, ne_eqb}
-use Rattle.std.proofs.lemmas.Bool.Decides.{nat_tests}
+use Rattle.rx_terms.proofs.Common.{◌≡◌, ◌∙◌, ℕ, ◌+◌, ◌≤◌, ◌<◌, true, false, List, [], ◌∷◌, ◌++◌, length, refl, ap, sym, subst, Option, Some, Ok, append_assoc, append-nil, arith, encode_utf8_all, ◌-◌, take, ◌&&◌, ◌==◌, not, list_all, cond-true, and_parts, or_from, ne_eqb, nat_tests, list_all-append, is_ascii, Chars, ascii-same, and-false}
 use Rattle.std.proofs.lemmas.List.{length-append}
-use Rattle.std.proofs.lemmas.List.Folds.{list_all-append}
-use Rattle.rx_terms.specs.Ascii.{is_ascii}
-use Rattle.rx_terms.specs.Text.{Chars}
-use Rattle.rx_terms.proofs.CharLemmas.{ascii-same}
-use Rattle.rx_chars.specs.Characters.{as_line_end}
+use Rattle.rx_grammar.proofs.Common.{as_line_end, meaning, values, Syntax}
 use Rattle.rx_chars.proofs.Utf8Answers.{first_whole}
-use Rattle.rx_grammar.specs.References.{meaning}
-use Rattle.rx_grammar.specs.Items.{values}
 use Rattle.rx_pages.specs.PageReader as reader
 use Rattle.rx_reader.specs.declared.phases.RunPhase.{RunPhase}
 use Rattle.rx_reader.specs.declared.phases.RunPhase.TheVariants as run
@@ -38,9 +28,7 @@ use Rattle.rx_scan.specs.WholeReferences.{IsReference, TellsReference, body_from
 use Rattle.rx_scan.proofs.ByteLemmas.{other_read}
 use Rattle.rx_scan.proofs.References.{no_closes, no_stops, run_is, run_ascii}
 use Rattle.rx_scan.proofs.RunLemmas.{ReadsOn, reads_more}
-use Rattle.std.proofs.Math.Bool.{and-false}
 use Rattle.std.proofs.Math.Seq.{take-append_seam}
-use Rattle.rx_chars.specs.declared.syntax.Syntax.{Syntax}
 
 -- Outside tags and between characters, this byte is a character that enters.
 record IsAlone (v : Reading) (b : ℕ) : Type 0 where

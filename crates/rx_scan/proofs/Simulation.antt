@@ -1,17 +1,12 @@
 -- The table says what the verdicts are: of each mark and each character.
-use Rattle.std.proofs.Common.{◌≡◌, ◌∙◌, ℕ, false, [], ◌∷◌, ◌++◌, refl, ap, sym, append-nil, length, map, arith, add-one}
-use Rattle.std.specs.Prelude.{◌&&◌, ◌==◌, ◌≤◌, ◌+◌, drop, take}
-use Rattle.std.proofs.lemmas.Bool.{cond-true, cond-false, and_right}
-use Rattle.std.proofs.lemmas.List.{length-append, length-map}
-use Rattle.rx_terms.specs.Ascii.{lowered_char, solidus}
-use Rattle.rx_terms.specs.Text.{Chars, lowered}
-use Rattle.rx_chars.specs.declared.syntax.Syntax.{Syntax}
+use Rattle.rx_terms.proofs.Common.{◌≡◌, ◌∙◌, ℕ, false, [], ◌∷◌, ◌++◌, refl, ap, sym, append-nil, length, map, arith, add-one, ◌&&◌, ◌==◌, cond-true, cond-false, and_right, length-map, lowered_char, solidus, Chars, lowered, and-false}
+use Rattle.std.specs.Prelude.{◌≤◌, ◌+◌, drop, take}
+use Rattle.std.proofs.lemmas.List.{length-append}
+use Rattle.rx_grammar.proofs.Common.{Syntax, same, name_of_raw, ends_name, begins, is_known_tag}
 use Rattle.rx_grammar.specs.declared.contents.Content.{Content}
 use Rattle.rx_grammar.specs.declared.contents.Content.TheVariants as content
 use Rattle.std.proofs.lemmas.Grind.{common_steps}
-use Rattle.rx_grammar.specs.Names.{same, name_of_raw}
-use Rattle.rx_grammar.specs.Shapes.{ends_name, begins}
-use Rattle.rx_grammar.specs.PageFaults.{is_known_tag, is_known_after, is_known_raw, is_known_end}
+use Rattle.rx_grammar.specs.PageFaults.{is_known_after, is_known_raw, is_known_end}
 use Rattle.rx_tags.specs.TagBufs.{TagSoFar}
 use Rattle.rx_scan.specs.declared.marks.TokenState.{TokenState}
 use Rattle.rx_scan.specs.declared.marks.TokenState.TheVariants as mark
@@ -24,7 +19,6 @@ use Rattle.rx_scan.proofs.Snoc.{head_of, word_at}
 use Rattle.rx_scan.proofs.Openings.{in_word_means, at_opened_means, no_tag}
 use Rattle.rx_scan.proofs.Markup.{at_nothing_means, at_less_than_means, in_tag_means, in_end_means, raw_content, end_known}
 use Rattle.rx_scan.proofs.References.{in_run_means}
-use Rattle.std.proofs.Math.Bool.{and-false}
 use Rattle.rx_scan.specs.Marks.{end_word}
 
 module _ (s : Syntax) (i : Content) (p : Pending) (text : Chars) (c : ℕ) where

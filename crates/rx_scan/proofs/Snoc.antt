@@ -1,14 +1,8 @@
 -- Tests of a text by its last character, and what stands behind a front of it.
-use Rattle.std.proofs.Common.{◌≡◌, ◌∙◌, ℕ, Bool, true, false, [], ◌∷◌, ◌++◌, refl, ap, sym, eqb-true, Option, Some, None, length, slice_get}
-use Rattle.std.specs.Prelude.{◌&&◌, ◌||◌, ◌==◌}
-use Rattle.rx_terms.specs.Text.{Chars, is_empty, begins_with}
-use Rattle.rx_grammar.specs.Names.{same}
-use Rattle.rx_grammar.specs.Spelling.{ends_with}
-use Rattle.rx_terms.proofs.Bools.{both, same_truth}
-use Rattle.std.proofs.Math.Bool.{and-false, and-true, and_assoc, and_comm, or-false}
-use Rattle.std.specs.List.{list_all}
+use Rattle.rx_terms.proofs.Common.{◌≡◌, ◌∙◌, ℕ, Bool, true, false, [], ◌∷◌, ◌++◌, refl, ap, sym, eqb-true, Option, Some, None, length, slice_get, ◌&&◌, ◌||◌, ◌==◌, Chars, is_empty, begins_with, both, same_truth, and-false, and-true, or-false, list_all, eq-eqb}
+use Rattle.rx_grammar.proofs.Common.{same, ends_with}
+use Rattle.std.proofs.Math.Bool.{and_assoc, and_comm}
 use Rattle.rx_reader.proofs.Fronts.{equal}
-use Rattle.std.proofs.lemmas.Bool.{eq-eqb}
 
 -- same d for both
 either_and : (a b d : Bool) → ((a && d) || (d && b)) ≡ (d && (a || b))

@@ -1,20 +1,12 @@
 -- What is scanned is what the bytes spell, in whatever content.
-use Rattle.std.proofs.Common.{◌≡◌, ◌≢◌, ◌∙◌, inl, inr, ℕ, ◌+◌, ◌-◌, ◌≤◌, ◌<◌, Bool, true, false, List, [], ◌∷◌, ◌++◌, refl, sym, ap, subst, length, nat_le, append_assoc, append-nil, eqb-true, Option, Some, None, Result, Ok, Err, arith}
-use Rattle.std.specs.Prelude.{◌&&◌, ◌||◌, ◌==◌, not, take}
-use Rattle.std.specs.Char.{len_utf8}
-use Rattle.std.specs.Str.{all_scalars}
-use lib.Utf8.{encode, encodes}
+use Rattle.rx_terms.proofs.Common.{◌≡◌, ◌≢◌, ◌∙◌, inl, inr, ℕ, ◌+◌, ◌-◌, ◌≤◌, ◌<◌, Bool, true, false, List, [], ◌∷◌, ◌++◌, refl, sym, ap, subst, length, append_assoc, append-nil, eqb-true, Option, Some, None, Result, Ok, Err, arith, ◌&&◌, ◌||◌, ◌==◌, not, len_utf8, all_scalars, encode, encodes, length-encode, and_parts, and_from, and_right, cond-true, cond-false, leb-true, eqb-false, false_from_ne_true, or_right, or-false, ampersand, less_than_sign, right_bracket, greater_than_sign, by_test, split, untrue, Chars}
+use Rattle.std.proofs.Common.{nat_le}
+use Rattle.std.specs.Prelude.{take}
 use Rattle.std.proofs.lemmas.List.{length-append}
-use Rattle.std.proofs.lemmas.Str.{length-encode}
-use Rattle.std.proofs.lemmas.Bool.{and_parts, and_from, and_right, cond-true, cond-false, leb-true, leb-false, eqb-false, false_from_ne_true, or_right}
-use Rattle.std.proofs.Math.Bool.{or-false}
-use Rattle.rx_terms.specs.Ascii.{ampersand, less_than_sign, right_bracket, greater_than_sign}
-use Rattle.rx_chars.specs.declared.syntax.Syntax.{Syntax}
-use Rattle.rx_chars.specs.declared.syntax.Syntax.TheVariants.{Html}
+use Rattle.std.proofs.lemmas.Bool.{leb-false}
+use Rattle.rx_grammar.proofs.Common.{Syntax, Html, More, Char, Bad, answer_of, BeginsCharacter, IsCharacter, Entry, byte_order_mark, line_feed, carriage_return, as_line_end, Token, tag, character, doctype, values, next_of, Item, Spelled, no_more, one, Fits, AllFit, is_literal, is_strict_literal, no_section_end, has_no_nul, IsPending, is_known_tag}
 use Rattle.rx_chars.specs.declared.utf8.Utf8Step.{Utf8Step}
-use Rattle.rx_chars.specs.declared.utf8.Utf8Step.TheVariants.{More, Char, Bad}
-use Rattle.rx_chars.specs.Utf8.{answer_of, Answers, BeginsCharacter, IsCharacter}
-use Rattle.rx_chars.specs.Characters.{Entry, byte_order_mark, line_feed, carriage_return, as_line_end}
+use Rattle.rx_chars.specs.Utf8.{Answers}
 use Rattle.rx_chars.proofs.Utf8Exact.{answers_from}
 use Rattle.rx_chars.proofs.Utf8Forms.{form_of}
 use Rattle.rx_grammar.specs.declared.contents.Content.{Content}
@@ -23,13 +15,8 @@ use Rattle.rx_grammar.specs.declared.faults.Fault.{Fault}
 use Rattle.rx_grammar.specs.declared.faults.Kind.{Kind}
 use Rattle.rx_grammar.specs.declared.faults.Kind.TheVariants.{TagTooLong}
 use Rattle.rx_grammar.specs.declared.limits.Limits.{Limits}
-use Rattle.rx_grammar.specs.Tokens.{Token, tag, character, doctype}
 use Rattle.rx_grammar.specs.Spelling as spelling
-use Rattle.rx_grammar.specs.Items.{values, next_of, Item, Spelled, no_more, one, Fits, AllFit, is_literal, is_strict_literal, no_section_end}
-use Rattle.rx_grammar.specs.Pages.{has_no_nul}
-use Rattle.rx_grammar.specs.PageFaults.{IsPending, is_known_tag}
 use Rattle.rx_grammar.specs.PageFaults as faults
-use Rattle.rx_terms.proofs.Bools.{by_test, split, untrue}
 use Rattle.rx_pages.specs.Scanner.{GoesOn, Verdict, goes_on, whole, ended, refused, verdict, at_first, ReadAs, at_last, at_next}
 use Rattle.rx_pages.specs.PageReader.{Spot, Scanning, Scanned, first_of, starts_at, token_at, fault_in, holding, passed, entering, item_of, is_doctype, completed, told_first, with_item, after_token, told, read_entry, read_char, read_answer, read_byte, with_items, scan_on, scan_from}
 use Rattle.rx_pages.proofs.Tokens.{values_append}
@@ -60,7 +47,6 @@ use Rattle.rx_grammar.specs.declared.stops.Stop.{Stop}
 use Rattle.rx_grammar.specs.declared.stops.Stop.TheVariants as stop
 use Rattle.rx_pages.proofs.KnownTags.{one_unknown}
 use Rattle.rx_scan.proofs.RunLemmas.{on_append}
-use Rattle.rx_terms.specs.Text.{Chars}
 
 pub same_content : (s : Syntax) (i : Content) → is_of_syntax s i ≡ occurs s i
 same_content Html content.Strict = refl

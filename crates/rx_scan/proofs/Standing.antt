@@ -1,12 +1,8 @@
 -- What a reading stands for: after one more character, and where only its setting changes.
-use Rattle.std.proofs.Common.{◌≡◌, ◌∙◌, ℕ, ◌+◌, ◌-◌, Bool, true, false, List, [], ◌∷◌, ◌++◌, refl, ap, sym, subst, arith, Err}
-use Rattle.rx_terms.specs.Text.{Chars}
-use Rattle.rx_chars.specs.Characters.{Entry}
-use Rattle.rx_chars.specs.declared.syntax.Syntax.{Syntax}
+use Rattle.rx_terms.proofs.Common.{◌≡◌, ◌∙◌, ℕ, ◌+◌, ◌-◌, Bool, true, false, List, [], ◌∷◌, ◌++◌, refl, ap, sym, subst, arith, Err, Chars, split}
+use Rattle.rx_grammar.proofs.Common.{Entry, Syntax, Token, character, values, is_strict_literal}
 use Rattle.rx_grammar.specs.declared.contents.Content.{Content}
 use Rattle.rx_grammar.specs.declared.contents.Content.TheVariants as content
-use Rattle.rx_grammar.specs.Tokens.{Token, character}
-use Rattle.rx_grammar.specs.Items.{values, is_strict_literal}
 use Rattle.rx_pages.specs.PageReader.{Scanning, first_of, starts_at, entering, scan_from, read_byte}
 use Rattle.rx_tags.specs.TagBufs.{TagSoFar}
 use Rattle.rx_scan.specs.declared.marks.TokenState.{TokenState}
@@ -25,7 +21,6 @@ use Rattle.rx_grammar.specs.declared.faults.Fault.{Fault}
 use Rattle.rx_grammar.specs.declared.stops.Stop.{Stop}
 use Rattle.rx_grammar.specs.declared.stops.Stop.TheVariants as stops
 use Rattle.rx_scan.specs.declared.answers.TokenKind.{TokenKind}
-use Rattle.rx_terms.proofs.Bools.{split}
 
 -- characters are pending, so the mark isn't `Nothing`
 pub some_mark : (s : Syntax) (i : Content) (m : TokenState) (run : Chars) (t : TagSoFar) (text : Chars) (x : ℕ) (more : Chars) (place : Position) → PendsAs s i m run t text → text ≡ x ∷ more → token_from m place ≡ place.token

@@ -1,13 +1,11 @@
 -- A tag that is taken whole is read like its bytes one after another.
-use Rattle.std.proofs.Common.{◌≡◌, ◌∙◌, ℕ, ◌+◌, ◌-◌, ◌≤◌, ◌<◌, Bool, true, false, List, [], ◌∷◌, length, take, drop, refl, ap, sym, subst, inl, Ok, arith, get_or, length-take-le, length-drop, Some, zero, suc}
-use Rattle.std.specs.List.{list_all}
-use Rattle.std.specs.Prelude.{not, slice_get}
-use Rattle.std.proofs.lemmas.Bool.{or_from}
+use Rattle.rx_terms.proofs.Common.{◌≡◌, ◌∙◌, ℕ, ◌+◌, ◌-◌, ◌≤◌, ◌<◌, Bool, true, false, List, [], ◌∷◌, length, take, drop, refl, ap, sym, subst, inl, Ok, arith, get_or, length-take-le, Some, zero, suc, list_all, not, or_from, and-false}
+use Rattle.std.proofs.Common.{length-drop}
+use Rattle.std.specs.Prelude.{slice_get}
 use Rattle.std.proofs.lemmas.Grind.{common_steps}
-use Rattle.rx_chars.specs.Characters.{as_line_end}
+use Rattle.rx_grammar.proofs.Common.{as_line_end, has_markup}
 use Rattle.rx_chars.specs.Held.{is_none_held}
 use Rattle.rx_chars.proofs.Utf8Answers.{first_whole}
-use Rattle.rx_grammar.specs.Spelling.{has_markup}
 use Rattle.rx_grammar.specs.declared.contents.Content.{Content}
 use Rattle.rx_grammar.specs.declared.contents.Content.TheVariants as content
 use Rattle.rx_pages.specs.PageReader as reader
@@ -41,7 +39,6 @@ use Rattle.rx_scan.proofs.FrontLemmas.{front_read}
 use Rattle.rx_scan.proofs.QuietLemmas.{next_read, token_read}
 use Rattle.rx_scan.proofs.FeedLemmas.{opens_taken}
 use Rattle.rx_scan.proofs.RunLemmas.{ReadsOn, reads_none}
-use Rattle.std.proofs.Math.Bool.{and-false}
 use Rattle.rx_tags.proofs.TagLemmas.{get_behind}
 
 -- the `>` that ends a tag is read as its last byte

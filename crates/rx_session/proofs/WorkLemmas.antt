@@ -1,11 +1,9 @@
 -- A page that is being read, and what its calls answer.
-use Rattle.std.proofs.Common.{◌≡◌, ℕ, List, ◌++◌, refl, sym, subst, inr, Result, Ok, Err}
+use Rattle.rx_terms.proofs.Common.{◌≡◌, ℕ, List, ◌++◌, refl, sym, subst, inr, Result, Ok, Err, Chars}
 use Rattle.std.specs.Prelude.{Bool, Vec}
 use Rattle.std.specs.declared.alloc.Global.{Global}
-use Rattle.rx_terms.specs.Text.{Chars}
-use Rattle.rx_chars.specs.declared.syntax.Syntax.{Syntax}
+use Rattle.rx_grammar.proofs.Common.{Syntax, Tree}
 use Rattle.rx_grammar.specs.declared.faults.Fault.{Fault}
-use Rattle.rx_grammar.specs.Trees.{Tree}
 use Rattle.rx_rdfa.specs.Names.{Context}
 use Rattle.rx_grammar.specs.declared.stops.Stop.{Stop}
 use Rattle.rx_grammar.specs.declared.stops.Stop.TheVariants as stop

@@ -1,10 +1,6 @@
 -- Cells of lists, and how many levels are left below a node.
-use Rattle.std.proofs.Common.{◌≡◌, ◌⊎◌, ◌≤◌, ◌<◌, ℕ, suc, ◌+◌, List, length, bytes_eq, refl, sym, ap, inl, inr, subst, true≢false, arith}
-use Rattle.rx_terms.specs.Text.{Chars}
-use Rattle.rx_model.specs.Sets.{Among}
-use Rattle.rx_model.specs.Terms.{Iri, Blank, Term, Resource, Triple, set_of}
-use Rattle.rx_model.specs.Copied.{spo}
-use Rattle.rx_model.specs.Vocabulary.{rdf_first, rdf_rest, rdf_nil}
+use Rattle.rx_terms.proofs.Common.{◌≡◌, ◌⊎◌, ◌≤◌, ◌<◌, ℕ, suc, ◌+◌, List, length, bytes_eq, refl, sym, ap, inl, inr, subst, true≢false, arith, Chars}
+use Rattle.rx_model.proofs.Common.{Among, Iri, Blank, Term, Resource, Triple, set_of, spo, rdf_first, rdf_rest, rdf_nil}
 use Rattle.rx_shapes.specs.Shapes.{Ends, onward, Inner, Pair, Cell, last_cell, next_cell}
 use Rattle.rx_shapes.specs.Subjects.{objects_of}
 use Rattle.rx_shapes.proofs.Grouped.{object_there, object_says}

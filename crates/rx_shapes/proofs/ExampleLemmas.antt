@@ -1,13 +1,9 @@
 -- The worked examples of shapes.
-use Rattle.std.proofs.Common.{◌≡◌, ◌⊎◌, ℕ, false, nat_eq, List, [], ◌∷◌, filter, refl, sym, ap, subst, ◌∙◌, inl, inr, true≢false}
-use Rattle.rx_terms.specs.Text.{Chars}
-use Rattle.rx_model.specs.Sets.{Among}
-use Rattle.rx_model.specs.Terms.{Node, Iri, Blank, Term, Resource, Triple, set_of, same_node, same_term, same_triple}
-use Rattle.rx_model.specs.Copied.{spo}
-use Rattle.rx_model.proofs.Exact.{exact_numbers, exact_nodes, exact_terms, exact_triples}
-use Rattle.rx_model.proofs.Sets.{Among_filter, Among_of_filter}
+use Rattle.rx_terms.proofs.Common.{◌≡◌, ◌⊎◌, ℕ, false, nat_eq, List, [], ◌∷◌, filter, refl, sym, ap, subst, ◌∙◌, inl, inr, true≢false, Chars}
+use Rattle.rx_model.proofs.Common.{Among, Node, Iri, Blank, Term, Resource, Triple, set_of, same_node, same_triple, spo, exact_numbers, exact_nodes, exact_triples, Among_filter, Among_of_filter, rdf_first, rdf_rest, rdf_nil}
+use Rattle.rx_model.specs.Terms.{same_term}
+use Rattle.rx_model.proofs.Exact.{exact_terms}
 use Rattle.rx_shapes.specs.Shapes.{Parent, Ends, at_iri, at_top, onward, Inner, Pair, Cell, last_cell, next_cell}
-use Rattle.rx_model.specs.Vocabulary.{rdf_first, rdf_rest, rdf_nil}
 use Rattle.rx_shapes.specs.Examples.{page, knows, likes, nil, nested, below_top, two_parents, self_loop, cycle, list_of_two, third_triple, list_in_list, no_end, nil_as_subject, list_alone, ExamplesHold}
 
 -- the triples with an object, and those with a subject

@@ -1,10 +1,9 @@
 -- Lists in which each stands once, and which of their elements pass a test.
-use Rattle.std.proofs.Common.{◌≡◌, ◌⊎◌, ℕ, suc, ◌+◌, Bool, true, false, not, List, [], ◌∷◌, filter, slice_get, Some, refl, sym, ap, ap₂, subst, ◌∙◌, inl, inr, true≢false, arith, cond, if◌then◌else◌}
-use Rattle.rx_model.specs.Sets.{Among, IsExact, distinct}
-use Rattle.rx_model.proofs.Sets.{false_unless, Among_of_filter}
+use Rattle.rx_terms.proofs.Common.{◌≡◌, ◌⊎◌, ℕ, suc, ◌+◌, Bool, true, false, List, [], ◌∷◌, filter, slice_get, Some, refl, sym, ap, ap₂, subst, ◌∙◌, inl, inr, true≢false, arith, cond, untrue}
+use Rattle.std.proofs.Common.{not, if◌then◌else◌}
+use Rattle.rx_model.proofs.Common.{Among, IsExact, distinct, false_unless, Among_of_filter}
 use Rattle.rx_shapes.specs.Rows.{positions}
 use Rattle.rx_shapes.proofs.RowLemmas.{positions_none, at_position, position_of, get_among, same_some}
-use Rattle.rx_terms.proofs.Bools.{untrue}
 
 module _ {A : Type 0} where
   abbrev pub Once : List A → Type 0

@@ -1,15 +1,9 @@
 -- Shapes where the blank nodes have other names.
-use Rattle.std.proofs.Common.{◌≡◌, refl, sym, ap, subst, ◌∙◌, inl, inr}
-use Rattle.rx_terms.specs.Text.{Chars}
-use Rattle.rx_model.specs.Sets.{Among}
-use Rattle.rx_model.specs.Terms.{Node, Iri, Blank, Term, Resource, Literal, Triple, Graph, set_of}
-use Rattle.rx_model.specs.Copied.{spo}
-use Rattle.rx_model.specs.Numbered.{rename_node, rename_term, rename, blank_of_node, blank_of_term, Has, Renamed}
-use Rattle.rx_model.proofs.Sets.{Among_left, Among_right}
+use Rattle.rx_terms.proofs.Common.{◌≡◌, refl, sym, ap, subst, ◌∙◌, inl, inr, Chars}
+use Rattle.rx_model.proofs.Common.{Among, Node, Iri, Blank, Term, Resource, Literal, Triple, Graph, set_of, spo, rename_node, rename_term, rename, blank_of_node, blank_of_term, Has, Renamed, Among_left, Among_right, rdf_first, rdf_rest, rdf_nil}
 use Rattle.rx_shapes.specs.declared.shapes.Shape.{Shape}
 use Rattle.rx_shapes.specs.declared.shapes.Shape.TheVariants as shape
 use Rattle.rx_shapes.specs.Shapes.{Parent, Ends, at_iri, at_top, onward, Inner, Pair, Cell, last_cell, next_cell, IsShape}
-use Rattle.rx_model.specs.Vocabulary.{rdf_first, rdf_rest, rdf_nil}
 use Rattle.rx_shapes.specs.Laws.{ShapesForgetNames}
 
 module _ {A B : Type 0} (g : Graph A) (h : Graph B) (r : Renamed g h) where

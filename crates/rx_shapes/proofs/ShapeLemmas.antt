@@ -1,11 +1,7 @@
 -- The shapes of nodes, by their numbers.
-use Rattle.std.proofs.Common.{◌≡◌, ◌⊎◌, ℕ, ◌+◌, Bool, true, false, ◌&&◌, nat_eq, ◌==◌, List, [], ◌∷◌, length, get_or, slice_get, Option, Some, None, refl, sym, ap, ap₂, subst, ◌∙◌, inl, inr, true≢false, arith, if◌then◌else◌, bytes_eq}
-use Rattle.std.proofs.lemmas.Bool.Decides.{Decides-eqb}
-use Rattle.rx_model.specs.Sets.{Among}
-use Rattle.rx_model.specs.Terms.{Node, Iri, Blank, Term, Resource, Literal, Triple, set_of, same_node, same_triple}
-use Rattle.rx_model.specs.Copied.{spo}
-use Rattle.rx_model.proofs.Exact.{exact_texts, exact_numbers, exact_nodes, exact_triples}
-use Rattle.rx_model.proofs.Sets.{false_unless, and_left, and_right}
+use Rattle.rx_terms.proofs.Common.{◌≡◌, ◌⊎◌, ℕ, ◌+◌, Bool, true, false, nat_eq, List, [], ◌∷◌, length, get_or, slice_get, Option, Some, None, refl, sym, ap, ap₂, subst, ◌∙◌, inl, inr, true≢false, arith, bytes_eq, Decides-eqb, and_from}
+use Rattle.std.proofs.Common.{◌&&◌, ◌==◌, if◌then◌else◌}
+use Rattle.rx_model.proofs.Common.{Among, Node, Iri, Blank, Term, Resource, Literal, Triple, set_of, same_node, same_triple, spo, exact_texts, exact_numbers, exact_nodes, exact_triples, false_unless, and_left, and_right, rdf_first, rdf_rest, rdf_nil}
 use Rattle.rx_graph.specs.Resources.{number_in}
 use Rattle.rx_graph.proofs.PatternLemmas.{number_small, number_same, number_there}
 use Rattle.rx_shapes.specs.declared.chains.Link.{Link}
@@ -13,7 +9,6 @@ use Rattle.rx_shapes.specs.declared.chains.Link.TheVariants as link
 use Rattle.rx_shapes.specs.declared.shapes.Shape.{Shape}
 use Rattle.rx_shapes.specs.declared.shapes.Shape.TheVariants as shape
 use Rattle.rx_shapes.specs.Shapes.{Parent, Ends, at_iri, at_top, onward, Inner, Pair, Cell, last_cell, next_cell, IsShape}
-use Rattle.rx_model.specs.Vocabulary.{rdf_first, rdf_rest, rdf_nil}
 use Rattle.rx_shapes.specs.Places.{places_of}
 use Rattle.rx_shapes.specs.Rows.{is_number, positions, filed}
 use Rattle.rx_shapes.specs.Chains.{Leads, ending, linked, Settled}
@@ -22,7 +17,6 @@ use Rattle.rx_shapes.specs.Table.{shape_at, places_at, AreShapes}
 use Rattle.rx_shapes.proofs.RowLemmas.{is_number_true, true_number, got, got_or, same_some, among_get, positions_same, positions_none}
 use Rattle.rx_shapes.proofs.OnceLemmas.{Once, once, single, Double, double, one_at, two_at}
 use Rattle.rx_shapes.proofs.IndexLemmas.{number_test, object_is, is_object, no_object}
-use Rattle.std.proofs.lemmas.Bool.{and_from}
 
 -- ---- words over variables
 

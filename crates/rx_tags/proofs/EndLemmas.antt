@@ -1,14 +1,7 @@
 -- What is done at a tag's `>` is what the reader does.
-use Rattle.std.proofs.Common.{◌≡◌, ◌∙◌, sym, ap, subst, refl, ℕ, [], ◌∷◌, ◌++◌, List, Bool, true, false, not, Result, Ok, Err}
-use Rattle.std.specs.Prelude.{◌&&◌}
-use Rattle.std.proofs.Math.Bool.{and-false}
-use Rattle.rx_terms.specs.Ascii.{greater_than_sign}
-use Rattle.rx_terms.specs.Text.{Chars}
-use Rattle.rx_chars.specs.declared.syntax.Syntax.{Syntax}
-use Rattle.rx_chars.specs.declared.syntax.Syntax.TheVariants.{Html, Xhtml}
-use Rattle.rx_grammar.specs.Tokens.{Attribute}
-use Rattle.rx_grammar.specs.References.{meaning}
-use Rattle.rx_grammar.specs.Tags.{has_repeat, is_repeated}
+use Rattle.rx_terms.proofs.Common.{◌≡◌, ◌∙◌, sym, ap, subst, refl, ℕ, [], ◌∷◌, ◌++◌, List, Bool, true, false, Result, Ok, Err, ◌&&◌, and-false, greater_than_sign, Chars}
+use Rattle.std.proofs.Common.{not}
+use Rattle.rx_grammar.proofs.Common.{Syntax, Html, Xhtml, Attribute, meaning, has_repeat, is_repeated}
 use Rattle.rx_reader.specs.declared.phases.TagPhase.{TagPhase}
 use Rattle.rx_reader.specs.declared.phases.TagAction.{TagAction}
 use Rattle.rx_reader.specs.declared.phases.TagAction.TheVariants as action

@@ -1,10 +1,9 @@
 -- Bytes that are looked at sixteen at a time.
-use Rattle.std.proofs.Common.{◌≡◌, ◌∙◌, ℕ, ◌+◌, ◌%◌, ◌^◌, ◌<◌, ◌≤◌, Bool, true, false, not, cond, eqb, leb, List, [], ◌∷◌, map, replicate, length, take, drop, refl, sym, ap, ap₂, arith, take-add, zero, suc, w8, Fits}
-use Rattle.std.specs.Prelude.{◌&&◌}
-use Rattle.std.specs.List.{list_all, prefix_len}
-use Rattle.std.proofs.lemmas.Bool.{agree_below, agree_below_at, and_from, and_parts, both_ways}
-use Rattle.std.proofs.lemmas.List.{length-map, length-take, take_all, take-take}
-use Rattle.std.proofs.lemmas.List.Folds.{list_all-append}
+use Rattle.rx_terms.proofs.Common.{◌≡◌, ◌∙◌, ℕ, ◌+◌, ◌%◌, ◌^◌, ◌<◌, ◌≤◌, Bool, true, false, cond, List, [], ◌∷◌, map, replicate, length, take, drop, refl, sym, ap, ap₂, arith, take-add, zero, suc, ◌&&◌, list_all, and_from, and_parts, length-map, length-take, take_all, list_all-append}
+use Rattle.std.proofs.Common.{not, eqb, leb, w8, Fits}
+use Rattle.std.specs.List.{prefix_len}
+use Rattle.std.proofs.lemmas.Bool.{agree_below, agree_below_at, both_ways}
+use Rattle.std.proofs.lemmas.List.{take-take}
 use Rattle.std.proofs.lemmas.List.Sums.{prefix_len-le-length}
 use Rattle.std.proofs.lemmas.Simd.{mask_l-mod, zip2_of_maps, leading_from_mask_l, trailing_mask_l}
 use lib.Bits.{bit_or}

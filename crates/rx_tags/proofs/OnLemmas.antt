@@ -1,10 +1,7 @@
 -- What ends a value, a name or a run is read like one character more.
-use Rattle.std.proofs.Common.{◌≡◌, ◌∙◌, ℕ, ◌+◌, ◌-◌, ◌<◌, ◌≤◌, true, false, List, [], length, take, drop, refl, ap, sym, subst, Result, Ok, Err, is_err, arith, eqb-true, get_or}
-use Rattle.std.proofs.lemmas.Bool.{cond-true}
-use Rattle.rx_terms.specs.Text.{Chars}
-use Rattle.rx_chars.specs.declared.syntax.Syntax.{Syntax}
+use Rattle.rx_terms.proofs.Common.{◌≡◌, ◌∙◌, ℕ, ◌+◌, ◌-◌, ◌<◌, ◌≤◌, true, false, List, [], length, take, drop, refl, ap, sym, subst, Result, Ok, Err, is_err, arith, eqb-true, get_or, cond-true, Chars}
+use Rattle.rx_grammar.proofs.Common.{Syntax, meaning}
 use Rattle.rx_grammar.specs.declared.faults.Kind.{Kind}
-use Rattle.rx_grammar.specs.References.{meaning}
 use Rattle.rx_reader.specs.declared.phases.TagPhase.{TagPhase}
 use Rattle.rx_reader.specs.declared.phases.TagPhase.TheVariants as phase
 use Rattle.rx_reader.specs.declared.phases.TagAction.TheVariants as action

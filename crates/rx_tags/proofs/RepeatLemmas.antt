@@ -1,27 +1,19 @@
 -- Names that stand twice.
-use Rattle.std.proofs.Common.{◌≡◌, ◌∙◌, sym, ap, refl, ℕ, ◌+◌, ◌-◌, ◌≤◌, ◌<◌, zero, suc, List, [], ◌∷◌, ◌++◌, length, take, drop, arith, Bool, true, false, cond}
+use Rattle.rx_terms.proofs.Common.{◌≡◌, ◌∙◌, sym, ap, refl, ℕ, ◌+◌, ◌-◌, ◌≤◌, ◌<◌, zero, suc, List, [], ◌∷◌, ◌++◌, length, take, drop, arith, Bool, true, false, cond, ◌||◌, not, slice_index_or, slice_cmp, is_eq, chars, IsUtf8, length-drop, length-map, map-append, list_any-append, nat_tests, or-false, Chars, same-chars, by_test, or_parts}
 use Rattle.std.proofs.lemmas.Grind.{common_steps}
-use Rattle.std.specs.Prelude.{◌||◌, not, nat_eq, slice_index_or}
-use Rattle.std.specs.Cmp.Lexicographic.{slice_cmp}
-use Rattle.std.specs.Ordering.{is_eq, nat_cmp}
+use Rattle.std.specs.Prelude.{nat_eq}
+use Rattle.std.specs.Ordering.{nat_cmp}
 use Rattle.std.proofs.lemmas.Map.Text.{is_eq-slice_cmp}
-use Rattle.std.specs.Str.{chars, IsUtf8}
-use Rattle.std.proofs.lemmas.List.{length-drop, length-append, length-map, append_assoc, append-nil, map-append}
-use Rattle.std.proofs.lemmas.List.Folds.{list_any-append}
-use Rattle.std.proofs.lemmas.Bool.Decides.{nat_tests}
+use Rattle.std.proofs.lemmas.List.{length-append, append_assoc, append-nil}
 use Rattle.std.proofs.Math.Seq.{drop-cons, take-suc}
-use Rattle.std.proofs.Math.Bool.{or-false, or_comm}
-use Rattle.rx_terms.specs.Text.{Chars}
-use Rattle.rx_terms.proofs.CharLemmas.{same-chars}
-use Rattle.rx_grammar.specs.Names.{same}
-use Rattle.rx_grammar.specs.Tokens.{Attribute, has_name}
-use Rattle.rx_grammar.specs.Tags.{without, firsts, has_repeat}
-use Rattle.rx_terms.proofs.Bools.{by_test}
+use Rattle.std.proofs.Math.Bool.{or_comm}
+use Rattle.rx_grammar.proofs.Common.{same, Attribute, has_repeat}
+use Rattle.rx_grammar.specs.Tokens.{has_name}
+use Rattle.rx_grammar.specs.Tags.{without, firsts}
 use Rattle.rx_tags.proofs.Pieces.{rows_fit_append}
 use Rattle.rx_tags.specs.declared.attributes.AttributeSpan.{AttributeSpan}
 use Rattle.rx_tags.specs.Reading.{Reading, piece, row_read, rows_read, read_as, RowFits, RowsFit, Fits}
 use Rattle.rx_tags.specs.Repeats.{is_named, KeepsFirsts}
-use Rattle.std.proofs.lemmas.Bool.{or_parts}
 
 numbers_swap : (m n : ℕ) → nat_eq m n ≡ nat_eq n m
 numbers_swap m n = grind (arith, nat_tests)

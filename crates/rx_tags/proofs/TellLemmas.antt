@@ -1,17 +1,10 @@
 -- What the reader's answers tell of the characters so far, and they of the answers, by the grammar.
-use Rattle.std.proofs.Common.{◌≡◌, ◌∙◌, sym, ap, subst, refl, ℕ, ◌+◌, true, false, List, [], ◌∷◌, ◌++◌, take, append_assoc, Result, Ok, Err, inl, inr}
-use Rattle.std.proofs.lemmas.List.{take_more}
-use Rattle.rx_terms.specs.Ascii.{greater_than_sign}
-use Rattle.rx_terms.specs.Text.{Chars}
-use Rattle.rx_chars.specs.declared.syntax.Syntax.{Syntax}
+use Rattle.rx_terms.proofs.Common.{◌≡◌, ◌∙◌, sym, ap, subst, refl, ℕ, ◌+◌, true, false, List, [], ◌∷◌, ◌++◌, take, append_assoc, Result, Ok, Err, inl, inr, take_more, greater_than_sign, Chars, not_both_ways}
+use Rattle.rx_grammar.proofs.Common.{Syntax, meaning, Tag, SpellsTag, TagFault}
 use Rattle.rx_grammar.specs.declared.faults.Kind.{Kind}
-use Rattle.rx_grammar.specs.References.{meaning}
-use Rattle.rx_grammar.specs.Tokens.{Tag}
-use Rattle.rx_grammar.specs.Tags.{SpellsTag}
-use Rattle.rx_grammar.specs.TagFaults.{BeginsTag, TagFault}
+use Rattle.rx_grammar.specs.TagFaults.{BeginsTag}
 use Rattle.rx_reader.specs.Tables.{is_last}
 use Rattle.rx_reader.specs.TagReader.{TagState, fresh, tag_step, tag_step_on, tag_on, parts_of}
-use Rattle.rx_terms.proofs.Bools.{not_both_ways}
 use Rattle.rx_reader.proofs.TagLaws.{spells_each, reads_each, tag_on-append}
 use Rattle.rx_reader.proofs.TagFaultLaws.{begins_from, reads_on, refuses_each_fault, is_refused}
 use Rattle.rx_tags.specs.declared.tag_text.TagStep.{TagStep}

@@ -1,10 +1,6 @@
 -- An attribute that stands whole is read like its characters one after another.
-use Rattle.std.proofs.Common.{◌≡◌, ℕ, ◌+◌, ◌<◌, true, false, List, [], ◌++◌, length, take, drop, refl, ap, sym, subst, arith, get_or, zero, suc}
-use Rattle.std.specs.Prelude.{◌==◌, MatchBool}
-use Rattle.std.specs.List.{list_all}
-use Rattle.std.proofs.lemmas.List.{take_rest, length-drop}
-use Rattle.rx_terms.specs.Text.{Chars}
-use Rattle.rx_chars.specs.declared.syntax.Syntax.{Syntax}
+use Rattle.rx_terms.proofs.Common.{◌≡◌, ℕ, ◌+◌, ◌<◌, true, false, List, [], ◌++◌, length, take, drop, refl, ap, sym, subst, arith, get_or, zero, suc, ◌==◌, MatchBool, list_all, take_rest, length-drop, Chars}
+use Rattle.rx_grammar.proofs.Common.{Syntax}
 use Rattle.rx_reader.specs.declared.phases.TagPhase.{TagPhase}
 use Rattle.rx_reader.specs.declared.phases.TagPhase.TheVariants as phase
 use Rattle.rx_reader.specs.TagReader.{TagState}

@@ -4,3 +4,4 @@ pub mod SplitLemmas
 pub mod LangLemmas
 pub mod NumberLemmas
 pub mod OkLemmas
+pub mod Common

@@ -1,7 +1,5 @@
 -- Terms added to a text.
-use Rattle.std.proofs.Common.{◌≡◌, ℕ, List, ◌++◌, refl, sym, ap, append_assoc, codes}
-use Rattle.std.specs.Str.{chars}
-use Rattle.rx_terms.specs.Text.{Chars}
+use Rattle.rx_terms.proofs.Common.{◌≡◌, ℕ, List, ◌++◌, refl, sym, ap, append_assoc, codes, chars, Chars}
 use Rattle.rx_notation.specs.Short.{Prefixes, local_name}
 use Rattle.rx_notation.specs.Layout.{short_iri}
 use Rattle.rx_pieces.specs.Underway.{Delivery, AddsBytes}

@@ -1,17 +1,9 @@
 -- Triples in one list, in which those of a group stand side by side.
-use Rattle.std.proofs.Common.{◌≡◌, ◌∙◌, ℕ, zero, suc, ◌+◌, ◌<◌, ◌≤◌, ◌==◌, Bool, true, false, not, ◌||◌, cond, nat_eq, List, [], ◌∷◌, ◌++◌, map, filter, flat_map, length, take, drop, drop_of_length-le, slice_get, Some, Bor, inl, inr, refl, sym, ap, ap₂, subst, true≢false, arith, append-nil, append_assoc, take-append-drop, if◌then◌else◌}
-use Rattle.std.specs.List.{list_all}
-use Rattle.std.proofs.lemmas.Bool.{and_from, and_parts, or_parts}
-use Rattle.std.proofs.lemmas.Bool.Decides.{nat_tests}
+use Rattle.rx_terms.proofs.Common.{◌≡◌, ◌∙◌, ℕ, zero, suc, ◌+◌, ◌<◌, ◌≤◌, Bool, true, false, cond, nat_eq, List, [], ◌∷◌, ◌++◌, map, filter, flat_map, length, take, drop, drop_of_length-le, slice_get, Some, Bor, inl, inr, refl, sym, ap, ap₂, subst, true≢false, arith, append-nil, append_assoc, list_all, and_from, and_parts, or_parts, nat_tests, take_all, length-map, map-append, take-map, drop-map, filter-append, list_all-append}
+use Rattle.std.proofs.Common.{◌==◌, not, ◌||◌, take-append-drop, if◌then◌else◌}
 use Rattle.std.proofs.lemmas.Grind.{flat_map-append}
-use Rattle.std.proofs.lemmas.List.{take_all, length-map, map-append, take-map, drop-map}
-use Rattle.std.proofs.lemmas.List.Elements.{filter-append}
-use Rattle.std.proofs.lemmas.List.Folds.{list_all-append}
 use Rattle.rx_terms.specs.declared.triples.Triple.{Triple as CodeTriple}
-use Rattle.rx_model.specs.Sets.{Among, contains, with_one}
-use Rattle.rx_model.specs.Terms.{Node, Triple, same_node}
-use Rattle.rx_model.proofs.Sets.{Among_of_distinct}
-use Rattle.rx_model.proofs.Exact.{exact_nodes, exact_numbers}
+use Rattle.rx_model.proofs.Common.{Among, contains, with_one, Node, Triple, same_node, Among_of_distinct, exact_nodes, exact_numbers}
 use Rattle.rx_graph.specs.Resources.{AreDistinct}
 use Rattle.rx_graph.proofs.SetLemmas.{one_more}
 use Rattle.rx_shapes.proofs.Grouped.{same_back}

@@ -1,8 +1,7 @@
 -- Triples that are lent, one after another.
-use Rattle.std.proofs.Common.{◌≡◌, ◌∙◌, ℕ, ◌+◌, List, [], ◌∷◌, ◌++◌, map, take, slice_get, Some, Bor, sym, ap}
-use Rattle.std.proofs.lemmas.List.{map-append}
+use Rattle.rx_terms.proofs.Common.{◌≡◌, ◌∙◌, ℕ, ◌+◌, List, [], ◌∷◌, ◌++◌, map, take, slice_get, Some, Bor, sym, ap, map-append}
 use Rattle.rx_terms.specs.declared.triples.Triple.{Triple as CodeTriple}
-use Rattle.rx_model.specs.Seen.{triples_seen}
+use Rattle.rx_model.proofs.Common.{triples_seen}
 use Rattle.rx_graph.proofs.SetLemmas.{seen_more}
 use Rattle.rx_turtle.proofs.GroupLemmas.{lent_seen}
 

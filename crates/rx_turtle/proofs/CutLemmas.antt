@@ -1,12 +1,8 @@
 -- What is written of triples that are cut where their key changes.
-use Rattle.std.proofs.Common.{◌≡◌, ◌∙◌, ℕ, zero, suc, ◌+◌, ◌<◌, ◌≤◌, ◌==◌, Bool, true, false, List, [], ◌∷◌, ◌++◌, map, flat_map, length, length-append, take, drop, drop_of_length-le, take-append-drop, Bor, refl, sym, ap, ap₂, arith, append_assoc, append-nil, codes, if◌then◌else◌}
-use Rattle.std.specs.Str.{chars}
-use Rattle.std.proofs.lemmas.Bool.Decides.{nat_tests}
-use Rattle.std.proofs.lemmas.List.{drop-map}
-use Rattle.rx_terms.specs.Text.{Chars}
+use Rattle.rx_terms.proofs.Common.{◌≡◌, ◌∙◌, ℕ, zero, suc, ◌+◌, ◌<◌, ◌≤◌, Bool, true, false, List, [], ◌∷◌, ◌++◌, map, flat_map, length, length-append, take, drop, drop_of_length-le, Bor, refl, sym, ap, ap₂, arith, append_assoc, append-nil, codes, chars, nat_tests, drop-map, Chars, ascii-chars}
+use Rattle.std.proofs.Common.{◌==◌, take-append-drop, if◌then◌else◌}
 use Rattle.rx_terms.specs.declared.triples.Triple.{Triple as CodeTriple}
-use Rattle.rx_terms.proofs.CharLemmas.{ascii-chars}
-use Rattle.rx_model.specs.Terms.{Node, Triple}
+use Rattle.rx_model.proofs.Common.{Node, Triple}
 use Rattle.rx_notation.specs.Short.{Prefixes}
 use Rattle.rx_notation.specs.Layout.{separated}
 use Rattle.rx_pieces.specs.Underway.{Delivery}

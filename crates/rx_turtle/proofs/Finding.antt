@@ -1,20 +1,9 @@
 -- The place that is found by the end of an IRI is that of the prefix of its short form.
-use Rattle.std.proofs.Common.{◌≡◌, ◌∙◌, ℕ, zero, suc, ◌+◌, ◌-◌, ◌<◌, ◌≤◌, Bool, true, false, cond, ◌&&◌, ◌==◌, nat_lt, nat_eq, List, [], ◌∷◌, ◌++◌, filter, find, length, take, drop, drop_of_length-le, get_or, slice_get, Option, Some, None, inl, inr, refl, sym, ap, ap₂, subst, true≢false, arith, if◌then◌else◌}
+use Rattle.rx_terms.proofs.Common.{◌≡◌, ◌∙◌, ℕ, zero, suc, ◌+◌, ◌-◌, ◌<◌, ◌≤◌, Bool, true, false, cond, nat_lt, nat_eq, List, [], ◌∷◌, ◌++◌, filter, length, take, drop, drop_of_length-le, get_or, slice_get, Option, Some, None, inl, inr, refl, sym, ap, ap₂, subst, true≢false, arith, option_or, list_all, and_parts, and_from, and_right, nat_tests, take-append-drop, slice_get-get_or, encodes-append, encodes_same, is_ascii, Chars, begins_with, ascii-same, same_truth}
+use Rattle.std.proofs.Common.{◌&&◌, ◌==◌, find, if◌then◌else◌}
 use Rattle.std.specs.Str.{encode_utf8_all}
-use Rattle.std.specs.Option.{option_or}
-use Rattle.std.specs.List.{list_all}
-use Rattle.std.proofs.lemmas.Bool.{and_parts, and_from, and_right}
-use Rattle.std.proofs.lemmas.Bool.Decides.{nat_tests}
-use Rattle.std.proofs.lemmas.List.{length-take-le, take_at, drop_at, length-append, take-append-drop}
-use Rattle.std.proofs.lemmas.Option.{slice_get-get_or}
-use Rattle.std.proofs.lemmas.Str.{encodes-append, encodes_same}
-use Rattle.rx_terms.specs.Ascii.{is_ascii}
-use Rattle.rx_terms.specs.Text.{Chars, begins_with}
-use Rattle.rx_terms.proofs.CharLemmas.{ascii-same}
-use Rattle.rx_model.specs.Sets.{Among}
-use Rattle.rx_model.proofs.Sets.{Among_of_filter, false_unless}
-use Rattle.rx_model.proofs.Exact.{exact_texts}
-use Rattle.rx_terms.proofs.Bools.{same_truth}
+use Rattle.std.proofs.lemmas.List.{length-take-le, take_at, drop_at, length-append}
+use Rattle.rx_model.proofs.Common.{Among, Among_of_filter, false_unless, exact_texts}
 use Rattle.rx_notation.specs.Short.{Prefix, Prefixes, is_before, is_name_char, is_prefix_name, is_local_name, local_name, shortens, preferred, best, prefix_of, names_rise}
 use Rattle.rx_notation.proofs.Chosen.{best_among, front_and_rest}
 use Rattle.rx_notation.proofs.OneText.{local_chars}

@@ -1,9 +1,8 @@
 -- What is known of the IRIs of a text.
-use Rattle.std.proofs.Common.{◌≡◌, ◌∙◌, ℕ, ◌<◌, Bool, true, false, nat_eq, List, length, get_or, slice_set, Option, Some, None, refl, sym, ap, subst, if◌then◌else◌}
-use Rattle.std.specs.Cmp.Lexicographic.{pointwise}
-use Rattle.std.proofs.lemmas.List.{get_or-set_same, get_or-set_other, get_or_default}
-use Rattle.rx_terms.specs.Text.{Chars}
-use Rattle.rx_model.proofs.Exact.{exact_texts}
+use Rattle.rx_terms.proofs.Common.{◌≡◌, ◌∙◌, ℕ, ◌<◌, Bool, true, false, nat_eq, List, length, get_or, slice_set, Option, Some, None, refl, sym, ap, subst, pointwise, get_or-set_other, Chars}
+use Rattle.std.proofs.Common.{if◌then◌else◌}
+use Rattle.std.proofs.lemmas.List.{get_or-set_same, get_or_default}
+use Rattle.rx_model.proofs.Common.{exact_texts}
 use Rattle.rx_turtle.specs.declared.known.Entry.{Entry}
 use Rattle.rx_turtle.specs.declared.known.Entry.TheVariants.{Empty, Kept}
 use Rattle.rx_turtle.specs.Slots.{IsSo}

@@ -1,12 +1,7 @@
 -- Prefixes and statements, one after another.
-use Rattle.std.proofs.Common.{◌≡◌, ◌∙◌, ℕ, zero, suc, ◌+◌, Bool, true, false, ◌==◌, List, [], ◌∷◌, ◌++◌, map, flat_map, length, take, drop, slice_get, Some, refl, sym, ap, ap₂, arith, append_assoc, append-nil, codes, true≢false, if◌then◌else◌, take-append-drop}
-use Rattle.std.specs.Str.{chars}
-use Rattle.std.specs.List.{list_all, list_any}
+use Rattle.rx_terms.proofs.Common.{◌≡◌, ◌∙◌, ℕ, zero, suc, ◌+◌, Bool, true, false, List, [], ◌∷◌, ◌++◌, map, flat_map, length, take, drop, slice_get, Some, refl, sym, ap, ap₂, arith, append_assoc, append-nil, codes, true≢false, chars, list_all, list_any, nat_tests, is_ascii, Chars, ascii-chars}
+use Rattle.std.proofs.Common.{◌==◌, if◌then◌else◌, take-append-drop}
 use Rattle.std.proofs.lemmas.Grind.{flat_map-append}
-use Rattle.std.proofs.lemmas.Bool.Decides.{nat_tests}
-use Rattle.rx_terms.specs.Ascii.{is_ascii}
-use Rattle.rx_terms.specs.Text.{Chars}
-use Rattle.rx_terms.proofs.CharLemmas.{ascii-chars}
 use Rattle.rx_graph.proofs.SetLemmas.{one_more}
 use Rattle.rx_notation.specs.Short.{Prefix, Prefixes}
 use Rattle.rx_notation.specs.Layout.{separated, prefix_text, prefixes_text}

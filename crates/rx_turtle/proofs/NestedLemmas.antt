@@ -1,15 +1,8 @@
 -- The text of a nested plan is that of the nested layout, and what it denotes.
-use Rattle.std.proofs.Common.{◌≡◌, ◌∙◌, ℕ, Bool, true, false, cond, nat_eq, List, [], ◌∷◌, ◌++◌, map, filter_map, flat_map, length, bytes_eq, Option, Some, None, refl, sym, ap, ap₂, subst, codes, if◌then◌else◌}
-use Rattle.std.specs.Str.{chars, encode_utf8_all}
-use Rattle.std.proofs.lemmas.Str.{chars-encodes}
-use Rattle.rx_terms.specs.Text.{Chars}
-use Rattle.rx_model.specs.Sets.{Among, contains, distinct}
-use Rattle.rx_model.specs.Terms.{Plain, Tagged, Typed, Iri, Blank, Literal, Triple, same_triple}
-use Rattle.rx_model.specs.Copied.{spo}
-use Rattle.rx_model.specs.Vocabulary.{rdf_type}
-use Rattle.rx_model.proofs.Sets.{Among_map, Among_of_map, Among_of_filter_map, Among-contains, Among_by_contains}
-use Rattle.rx_model.proofs.Exact.{exact_texts}
-use Rattle.rx_terms.proofs.Bools.{same_truth}
+use Rattle.rx_terms.proofs.Common.{◌≡◌, ◌∙◌, ℕ, Bool, true, false, cond, nat_eq, List, [], ◌∷◌, ◌++◌, map, filter_map, flat_map, length, bytes_eq, Option, Some, None, refl, sym, ap, ap₂, subst, codes, chars, chars-encodes, Chars, same_truth}
+use Rattle.std.proofs.Common.{if◌then◌else◌}
+use Rattle.std.specs.Str.{encode_utf8_all}
+use Rattle.rx_model.proofs.Common.{Among, contains, distinct, Plain, Tagged, Typed, Iri, Blank, Literal, Triple, same_triple, spo, rdf_type, Among_map, Among_of_map, Among_of_filter_map, Among-contains, Among_by_contains, exact_texts}
 use Rattle.rx_pieces.specs.Writable.{WritableText, IsWritable}
 use Rattle.rx_pieces.specs.Writing.{string_text}
 use Rattle.rx_pieces.proofs.Scalars.{joined, literally}

@@ -1,16 +1,9 @@
 -- The index of the prefixes by IRI.
-use Rattle.std.proofs.Common.{◌≡◌, ◌∙◌, ℕ, zero, suc, ◌+◌, ◌-◌, ◌<◌, ◌≤◌, Bool, true, false, cond, ◌&&◌, nat_eq, List, [], ◌∷◌, ◌++◌, length, length-append, take, take_all, drop_at, inl, inr, drop, get_or, slice_get, Option, Some, None, refl, sym, ap, subst, true≢false, arith, if◌then◌else◌}
+use Rattle.rx_terms.proofs.Common.{◌≡◌, ◌∙◌, ℕ, zero, suc, ◌+◌, ◌-◌, ◌<◌, ◌≤◌, Bool, true, false, cond, nat_eq, List, [], ◌∷◌, ◌++◌, length, length-append, take, inl, inr, drop, get_or, slice_get, Option, Some, None, refl, sym, ap, subst, true≢false, arith, chars, IsUtf8, pointwise, option_or, list_all, encodes-chars, encodes-append, IsIri, Chars, begins_with}
+use Rattle.std.proofs.Common.{◌&&◌, take_all, drop_at, if◌then◌else◌}
 use Rattle.std.proofs.lemmas.List.{get_or-take, length-take-le}
-use Rattle.std.specs.Str.{chars, encode_utf8_all, IsUtf8}
-use Rattle.std.specs.Cmp.Lexicographic.{pointwise}
-use Rattle.std.specs.Option.{option_or}
-use Rattle.std.specs.List.{list_all}
-use Rattle.std.proofs.lemmas.Str.{encodes-chars, encodes-append}
-use Rattle.rx_terms.specs.Iri.{IsIri}
-use Rattle.rx_terms.specs.Text.{Chars, begins_with}
-use Rattle.rx_model.proofs.Exact.{exact_texts, exact_numbers}
-use Rattle.rx_model.specs.Sets.{Among}
-use Rattle.rx_model.proofs.Sets.{false_unless}
+use Rattle.std.specs.Str.{encode_utf8_all}
+use Rattle.rx_model.proofs.Common.{exact_texts, exact_numbers, Among, false_unless}
 use Rattle.rx_pieces.proofs.Adding.{text_of, iri_of}
 use Rattle.rx_names.specs.Tables.{rise}
 use Rattle.rx_notation.specs.Short.{Prefix, Prefixes, is_before, is_name_char, is_prefix_name, prefix_of, names_rise}

@@ -1,8 +1,6 @@
 -- The predicates of a node's triples, as keys of groups.
-use Rattle.std.proofs.Common.{◌≡◌, ◌∙◌, ℕ, nat_eq, List, map, sym, ap, bytes_eq}
-use Rattle.rx_model.specs.Sets.{distinct}
-use Rattle.rx_model.specs.Terms.{Node, Iri, Triple, same_node}
-use Rattle.rx_model.proofs.Exact.{exact_texts, exact_nodes, exact_numbers}
+use Rattle.rx_terms.proofs.Common.{◌≡◌, ◌∙◌, ℕ, nat_eq, List, map, sym, ap, bytes_eq}
+use Rattle.rx_model.proofs.Common.{distinct, Node, Iri, Triple, same_node, exact_texts, exact_nodes, exact_numbers}
 use Rattle.rx_graph.proofs.SetLemmas.{distinct_apart}
 use Rattle.rx_shapes.specs.Subjects.{about, predicates_of}
 use Rattle.rx_turtle.specs.declared.keys.By.TheVariants as by

@@ -1,11 +1,6 @@
 -- The tokens that come of what is due, one after another.
-use Rattle.std.proofs.Common.{◌≡◌, ◌∙◌, ℕ, zero, suc, ◌+◌, ◌<◌, ◌≤◌, Bool, true, false, cond, nat_eq, List, [], ◌∷◌, ◌++◌, map, filter, length, take, slice_get, Some, refl, sym, ap, subst, inl, inr, arith, append_assoc, append-nil}
-use Rattle.std.proofs.lemmas.List.{take_all, map-append}
-use Rattle.rx_terms.specs.Text.{Chars}
-use Rattle.rx_model.specs.Sets.{Among}
-use Rattle.rx_model.specs.Terms.{Node, Triple, same_node}
-use Rattle.rx_model.proofs.Sets.{Among_of_distinct, Among_distinct}
-use Rattle.rx_model.proofs.Exact.{exact_nodes, exact_numbers}
+use Rattle.rx_terms.proofs.Common.{◌≡◌, ◌∙◌, ℕ, zero, suc, ◌+◌, ◌<◌, ◌≤◌, Bool, true, false, cond, nat_eq, List, [], ◌∷◌, ◌++◌, map, filter, length, take, slice_get, Some, refl, sym, ap, subst, inl, inr, arith, append_assoc, append-nil, take_all, map-append, Chars}
+use Rattle.rx_model.proofs.Common.{Among, Node, Triple, same_node, Among_of_distinct, Among_distinct, exact_nodes, exact_numbers}
 use Rattle.rx_graph.proofs.SetLemmas.{one_more}
 use Rattle.rx_shapes.specs.declared.shapes.Shape.{Shape}
 use Rattle.rx_notation.specs.Short.{Prefixes}

@@ -1,12 +1,7 @@
 -- All characters of a text are Unicode scalar values.
-use Rattle.std.proofs.Common.{◌≡◌, ℕ, zero, suc, Bool, true, false, List, [], ◌∷◌, ◌++◌, map, flat_map, length, drop, bytes_eq, Option, Some, None, refl, inl, inr, codes, if◌then◌else◌}
-use Rattle.std.specs.Str.{all_scalars}
-use Rattle.std.proofs.lemmas.Bool.{and_parts}
-use Rattle.rx_terms.specs.Text.{Chars}
-use Rattle.rx_model.specs.Sets.{Among}
-use Rattle.rx_model.specs.Terms.{Kind, Plain, Tagged, Typed, Node, Iri, Blank, Term, Resource, Literal, Triple}
-use Rattle.rx_model.specs.Copied.{spo}
-use Rattle.rx_model.specs.Vocabulary.{rdf_type}
+use Rattle.rx_terms.proofs.Common.{◌≡◌, ℕ, zero, suc, Bool, true, false, List, [], ◌∷◌, ◌++◌, map, flat_map, length, drop, bytes_eq, Option, Some, None, refl, inl, inr, codes, all_scalars, and_parts, Chars}
+use Rattle.std.proofs.Common.{if◌then◌else◌}
+use Rattle.rx_model.proofs.Common.{Among, Kind, Plain, Tagged, Typed, Node, Iri, Blank, Term, Resource, Literal, Triple, spo, rdf_type}
 use Rattle.rx_pieces.specs.Writable.{WritableText, WritableIri, WritableNode, WritableKind, WritableTerm, WritableTriple, IsWritable}
 use Rattle.rx_pieces.proofs.Scalars.{joined, literally, string_writable, iri_writable, blank_writable}
 use Rattle.rx_notation.specs.Short.{Prefix, Prefixes, prefix_of}

@@ -1,14 +1,8 @@
 -- Triples that are put into groups one after another.
-use Rattle.std.proofs.Common.{◌≡◌, ◌∙◌, ℕ, zero, suc, ◌+◌, ◌<◌, ◌≤◌, Bool, true, false, ◌||◌, nat_eq, List, [], ◌∷◌, ◌++◌, map, filter, length, take, slice_get, Option, Some, None, option_map, Bor, refl, sym, ap, ap₂, subst, true≢false, arith, if◌then◌else◌}
-use Rattle.std.proofs.lemmas.List.{take_all, map-append}
-use Rattle.std.proofs.lemmas.List.Elements.{filter-append}
+use Rattle.rx_terms.proofs.Common.{◌≡◌, ◌∙◌, ℕ, zero, suc, ◌+◌, ◌<◌, ◌≤◌, Bool, true, false, nat_eq, List, [], ◌∷◌, ◌++◌, map, filter, length, take, slice_get, Option, Some, None, option_map, Bor, refl, sym, ap, ap₂, subst, true≢false, arith, take_all, map-append, filter-append, or_parts, same_truth}
+use Rattle.std.proofs.Common.{◌||◌, if◌then◌else◌}
 use Rattle.rx_terms.specs.declared.triples.Triple.{Triple as CodeTriple}
-use Rattle.rx_model.specs.Sets.{contains, distinct, with_one}
-use Rattle.rx_model.proofs.Sets.{Among-contains, Among_by_contains, Among_of_distinct, Among_distinct, false_unless}
-use Rattle.std.proofs.lemmas.Bool.{or_parts}
-use Rattle.rx_terms.proofs.Bools.{same_truth}
-use Rattle.rx_model.specs.Terms.{Node, Triple, same_node}
-use Rattle.rx_model.proofs.Exact.{exact_nodes, exact_numbers}
+use Rattle.rx_model.proofs.Common.{contains, distinct, with_one, Among-contains, Among_by_contains, Among_of_distinct, Among_distinct, false_unless, Node, Triple, same_node, exact_nodes, exact_numbers}
 use Rattle.rx_graph.specs.Resources.{number_in, AreDistinct}
 use Rattle.rx_graph.proofs.PatternLemmas.{none_there}
 use Rattle.rx_shapes.proofs.Grouped.{same_nodes}

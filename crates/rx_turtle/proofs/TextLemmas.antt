@@ -1,9 +1,7 @@
 -- The text of a plan is that of the layout, and what it denotes.
-use Rattle.std.proofs.Common.{◌≡◌, ◌∙◌, ℕ, Bool, true, List, [], ◌∷◌, ◌++◌, map, filter, flat_map, refl, sym, ap, ap₂, subst, codes}
-use Rattle.std.specs.Str.{chars, encode_utf8_all}
-use Rattle.std.proofs.lemmas.Str.{chars-encodes}
-use Rattle.rx_terms.specs.Text.{Chars}
-use Rattle.rx_model.specs.Terms.{Node, Iri, Triple}
+use Rattle.rx_terms.proofs.Common.{◌≡◌, ◌∙◌, ℕ, Bool, true, List, [], ◌∷◌, ◌++◌, map, filter, flat_map, refl, sym, ap, ap₂, subst, codes, chars, chars-encodes, Chars}
+use Rattle.std.specs.Str.{encode_utf8_all}
+use Rattle.rx_model.proofs.Common.{Node, Iri, Triple}
 use Rattle.rx_notation.specs.Short.{Prefixes, names_rise}
 use Rattle.rx_notation.specs.Layout.{resource_text, verb_text, object_text, separated, predicate_text, statement_text, prefixes_text, turtle}
 use Rattle.rx_shapes.specs.Subjects.{has_predicate, subjects, about, predicates_of}

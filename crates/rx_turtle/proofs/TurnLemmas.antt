@@ -1,10 +1,7 @@
 -- What is due comes to the pieces of nested Turtle, turn by turn.
-use Rattle.std.proofs.Common.{◌≡◌, ◌∙◌, ℕ, Bool, true, false, cond, List, [], ◌∷◌, ◌++◌, map, filter, length, codes, bytes_eq, Option, Some, None, refl, sym, ap, ap₂, subst, inl, inr}
-use Rattle.rx_terms.specs.Text.{Chars}
-use Rattle.rx_model.specs.Sets.{Among}
-use Rattle.rx_model.specs.Terms.{Node, Iri, Blank, Term, Resource, Literal, Triple, set_of}
+use Rattle.rx_terms.proofs.Common.{◌≡◌, ◌∙◌, ℕ, Bool, true, false, cond, List, [], ◌∷◌, ◌++◌, map, filter, length, codes, bytes_eq, Option, Some, None, refl, sym, ap, ap₂, subst, inl, inr, Chars}
+use Rattle.rx_model.proofs.Common.{Among, Node, Iri, Blank, Term, Resource, Literal, Triple, set_of, rdf_first, rdf_rest, rdf_nil}
 use Rattle.rx_shapes.specs.Shapes.{Cell, IsShape, HaveShapes}
-use Rattle.rx_model.specs.Vocabulary.{rdf_first, rdf_rest, rdf_nil}
 use Rattle.rx_shapes.specs.declared.shapes.Shape.{Shape}
 use Rattle.rx_shapes.specs.declared.shapes.Shape.TheVariants as shape
 use Rattle.rx_shapes.specs.Subjects.{about, has_predicate, predicates_of, objects_of, first_of, object_at}

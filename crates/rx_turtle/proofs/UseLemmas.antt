@@ -1,11 +1,7 @@
 -- Which prefixes are used.
-use Rattle.std.proofs.Common.{◌≡◌, ◌∙◌, ℕ, zero, suc, ◌+◌, ◌<◌, ◌≤◌, Bool, true, false, ◌||◌, List, [], ◌∷◌, ◌++◌, map, filter, filter_map, flat_map, length, take, slice_get, slice_set, Option, Some, None, refl, sym, ap, ap₂, subst, inl, inr, arith, cond}
-use Rattle.std.proofs.lemmas.List.{take_all, length-map}
-use Rattle.std.proofs.lemmas.Bool.{or_right}
-use Rattle.rx_terms.specs.Text.{Chars}
-use Rattle.rx_model.specs.Sets.{Among, contains}
-use Rattle.rx_model.specs.Terms.{Triple}
-use Rattle.rx_model.proofs.Sets.{Among_cases, false_unless}
+use Rattle.rx_terms.proofs.Common.{◌≡◌, ◌∙◌, ℕ, zero, suc, ◌+◌, ◌<◌, ◌≤◌, Bool, true, false, List, [], ◌∷◌, ◌++◌, map, filter, filter_map, flat_map, length, take, slice_get, slice_set, Option, Some, None, refl, sym, ap, ap₂, subst, inl, inr, arith, cond, take_all, length-map, or_right, Chars}
+use Rattle.std.proofs.Common.{◌||◌}
+use Rattle.rx_model.proofs.Common.{Among, contains, Triple, Among_cases, false_unless}
 use Rattle.rx_notation.specs.Short.{Prefix, Prefixes, prefix_of, names_rise}
 use Rattle.rx_notation.specs.Layout.{iris_of, used, same_prefix, prefixes_used}
 use Rattle.rx_notation.proofs.Chosen.{Apart, names_apart, exact_prefixes}

@@ -1,9 +1,6 @@
 -- A fraction of any digits.
-use Rattle.std.proofs.Common.{◌≡◌, ℕ, Bool, true, false, List, [], ◌∷◌, refl}
-use Rattle.std.specs.Prelude.{not, ◌&&◌, Some, None, if◌then◌else◌}
-use Rattle.std.specs.List.{list_all}
-use Rattle.rx_terms.specs.Ascii.{is_digit}
-use Rattle.rx_terms.specs.Text.{is_empty}
+use Rattle.rx_terms.proofs.Common.{◌≡◌, ℕ, Bool, true, false, List, [], ◌∷◌, refl, not, ◌&&◌, if◌then◌else◌, list_all, is_digit, is_empty}
+use Rattle.std.specs.Prelude.{Some, None}
 use Rattle.rx_rdfa.specs.Times.{digits, after_digits, after_some_digits, after_fraction}
 
 all_go : (c : ℕ) (text : List ℕ) (b : Bool) → is_digit c ≡ b → list_all is_digit (digits text) ≡ true → list_all is_digit (digits (c ∷ text)) ≡ true

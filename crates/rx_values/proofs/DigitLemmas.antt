@@ -1,10 +1,8 @@
 -- The digits at the front of a text, as std cuts them.
-use Rattle.std.proofs.Common.{◌≡◌, ℕ, suc, ◌-◌, ◌≤◌, Bool, true, false, List, [], ◌∷◌, length, take, drop, refl, ap, arith}
-use Rattle.std.proofs.lemmas.List.{take_all}
+use Rattle.rx_terms.proofs.Common.{◌≡◌, ℕ, suc, ◌-◌, ◌≤◌, Bool, true, false, List, [], ◌∷◌, length, take, drop, refl, ap, arith, take_all, is_digit}
 use native.Mathlib.Numerals.{unary_clauses}
 use Rattle.std.specs.List.{take_while}
 use Rattle.std.proofs.lemmas.List.Sums.{take_while-cons}
-use Rattle.rx_terms.specs.Ascii.{is_digit}
 use Rattle.rx_rdfa.specs.Times.{digits, after_digits}
 
 pub record DigitsTo (text : List ℕ) (count : ℕ) (digits_are rest_is : List ℕ) : Type 0 where

@@ -1,11 +1,9 @@
 -- What becomes of signs that are accepted.
-use Rattle.std.proofs.Common.{◌≡◌, ◌∙◌, false, List, [], ◌∷◌, ◌++◌, map, refl, sym, ap, subst, Option, Some, None}
-use Rattle.std.specs.Option.{option_or}
+use Rattle.rx_terms.proofs.Common.{◌≡◌, ◌∙◌, false, List, [], ◌∷◌, ◌++◌, map, refl, sym, ap, subst, Option, Some, None, option_or, Chars}
 use Rattle.std.specs.Prelude.{option_map}
-use Rattle.rx_terms.specs.Text.{Chars}
 use Rattle.rx_grammar.specs.declared.faults.Fault.{Fault}
 use Rattle.rx_grammar.specs.declared.faults.Kind.{Kind}
-use Rattle.rx_grammar.specs.Trees.{StartTag}
+use Rattle.rx_grammar.proofs.Common.{StartTag}
 use Rattle.rx_rdfa.specs.Names.{Context}
 use Rattle.rx_rdfa.specs.Facts.{facts}
 use Rattle.rx_rdfa.specs.Refusals.{Refusal, refusal, is_relative}

@@ -1,7 +1,5 @@
 -- In which pieces text comes makes no difference.
-use Rattle.std.proofs.Common.{◌≡◌, ◌∙◌, Bool, true, false, List, [], ◌∷◌, ◌++◌, map, refl, sym, ap, subst, append_assoc, append-nil}
-use Rattle.std.specs.Prelude.{if◌then◌else◌}
-use Rattle.rx_terms.specs.Text.{Chars}
+use Rattle.rx_terms.proofs.Common.{◌≡◌, ◌∙◌, Bool, true, false, List, [], ◌∷◌, ◌++◌, map, refl, sym, ap, subst, append_assoc, append-nil, if◌then◌else◌, Chars}
 use Rattle.rx_rdfa.specs.Blanks.{Bnode, Owner, model}
 use Rattle.rx_rdfa.specs.Calls.{Call, Enter, Read, Leave, step, after}
 use Rattle.rx_rdfa.specs.Machine.{Machine, read}

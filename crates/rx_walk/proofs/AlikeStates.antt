@@ -1,9 +1,7 @@
 -- The calls decide an evaluator's state, but for how the rules for texts are written.
-use Rattle.std.proofs.Common.{◌≡◌, ◌∙◌, ℕ, Bool, true, false, List, [], ◌∷◌, ◌++◌, map, length, Option, Some, None, option_map, is_some, refl, sym, ap, ap₂, subst, subst₂}
-use Rattle.std.specs.Prelude.{◌==◌, IfSome, encode_utf8_all, if◌then◌else◌}
-use Rattle.std.proofs.lemmas.Bool.{and_parts}
-use Rattle.std.proofs.lemmas.List.{map-append, length-map}
-use Rattle.rx_terms.specs.Text.{Chars}
+use Rattle.rx_terms.proofs.Common.{◌≡◌, ◌∙◌, ℕ, Bool, true, false, List, [], ◌∷◌, ◌++◌, map, length, Option, Some, None, option_map, refl, sym, ap, ap₂, subst, subst₂, ◌==◌, IfSome, if◌then◌else◌, and_parts, map-append, length-map, Chars}
+use Rattle.std.proofs.Common.{is_some}
+use Rattle.std.specs.Prelude.{encode_utf8_all}
 use Rattle.rx_rdfa.specs.Blanks.{model}
 use Rattle.rx_rdfa.specs.Calls.{Call, Enter, Read, Leave, after}
 use Rattle.rx_rdfa.specs.Facts.{Facts}

@@ -1,10 +1,8 @@
 -- What becomes of the course.
-use Rattle.std.proofs.Common.{◌≡◌, ◌∙◌, ℕ, suc, ◌+◌, ◌≤◌, ◌<◌, Bool, true, false, List, [], ◌∷◌, ◌++◌, map, length, refl, sym, ap, subst, Option, Some, None, arith, length-append}
-use Rattle.std.specs.Option.{option_or}
-use Rattle.std.specs.Prelude.{codes, is_some, option_and_then, if◌then◌else◌}
-use Rattle.rx_terms.specs.Text.{Chars, trimmed}
+use Rattle.rx_terms.proofs.Common.{◌≡◌, ◌∙◌, ℕ, suc, ◌+◌, ◌≤◌, ◌<◌, Bool, true, false, List, [], ◌∷◌, ◌++◌, map, length, refl, sym, ap, subst, Option, Some, None, arith, length-append, option_or, is_some, option_and_then, if◌then◌else◌, Chars, trimmed}
+use Rattle.std.specs.Prelude.{codes}
 use Rattle.rx_grammar.specs.declared.faults.Fault.{Fault}
-use Rattle.rx_grammar.specs.Trees.{StartTag}
+use Rattle.rx_grammar.proofs.Common.{StartTag}
 use Rattle.rx_rdfa.specs.Names.{Context, vocab, declared_or, unless_empty}
 use Rattle.rx_rdfa.specs.Refusals.{is_relative}
 use Rattle.rx_rdfa.specs.Tree.{Tag, attribute}

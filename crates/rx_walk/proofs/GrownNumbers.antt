@@ -1,11 +1,7 @@
 -- A walk's numbering only grows.
-use Rattle.std.proofs.Common.{◌≡◌, ◌∙◌, ℕ, List, [], ◌∷◌, ◌++◌, refl, sym, ap, subst, subst₂, Option, Some, append-nil}
-use Rattle.rx_terms.specs.Text.{Chars}
-use Rattle.rx_chars.specs.declared.syntax.Syntax.{Syntax}
+use Rattle.rx_terms.proofs.Common.{◌≡◌, ◌∙◌, ℕ, List, [], ◌∷◌, ◌++◌, refl, sym, ap, subst, subst₂, Option, Some, append-nil, Chars}
+use Rattle.rx_grammar.proofs.Common.{Syntax, start_of, Page, Tree}
 use Rattle.rx_grammar.specs.declared.limits.Limits.{Limits}
-use Rattle.rx_grammar.specs.Items.{start_of}
-use Rattle.rx_grammar.specs.Pages.{Page}
-use Rattle.rx_grammar.specs.Trees.{Tree}
 use Rattle.rx_rdfa.specs.Base.{base_by, base_of, root_href}
 use Rattle.rx_rdfa.specs.Calls.{Call, calls}
 use Rattle.rx_rdfa.specs.Facts.{with_facts}

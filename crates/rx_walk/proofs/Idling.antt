@@ -1,7 +1,6 @@
 -- Where no open element gathers its text a stage is idle, and text leaves it so.
-use Rattle.std.proofs.Common.{◌≡◌, ◌∙◌, ℕ, ap, false, List, [], ◌∷◌, Some, Result, Ok, Err}
+use Rattle.rx_terms.proofs.Common.{◌≡◌, ◌∙◌, ℕ, ap, false, List, [], ◌∷◌, Some, Result, Ok, Err, Chars}
 use Rattle.std.specs.Prelude.{IsOk, OnOk}
-use Rattle.rx_terms.specs.Text.{Chars}
 use Rattle.rx_terms.specs.declared.texts.NoMemory.{NoMemory}
 use Rattle.rx_rdfa.specs.Calls.{Call, Enter, Read, Leave}
 use Rattle.rx_eval.specs.Keeping.{gathers_some}

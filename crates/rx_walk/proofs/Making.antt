@@ -1,8 +1,7 @@
 -- What the calls for a page's tree make: the list of the tree.
-use Rattle.std.proofs.Common.{◌≡◌, ◌∙◌, ℕ, List, [], ◌∷◌, ◌++◌, sym, ap, subst, append_assoc, append-nil}
-use Rattle.rx_terms.specs.Text.{Chars}
+use Rattle.rx_terms.proofs.Common.{◌≡◌, ◌∙◌, ℕ, List, [], ◌∷◌, ◌++◌, sym, ap, subst, append_assoc, append-nil, Chars}
 use Rattle.rx_terms.specs.declared.triples.Triple.{Triple as CodeTriple}
-use Rattle.rx_grammar.specs.Trees.{Tree}
+use Rattle.rx_grammar.proofs.Common.{Tree}
 use Rattle.rx_rdfa.specs.Base.{base_of}
 use Rattle.rx_rdfa.specs.Calls.{Call, Enter, Read, Leave, calls}
 use Rattle.rx_rdfa.specs.Facts.{Facts, with_facts}

@@ -1,9 +1,5 @@
 -- Where calls lead, and what they need.
-use Rattle.std.proofs.Common.{◌≡◌, ◌∙◌, ℕ, zero, suc, ◌+◌, ◌≤◌, ◌<◌, Bool, true, false, List, [], ◌∷◌, ◌++◌, length, refl, sym, ap, subst, Option, Some, None, arith, length-append, append_assoc}
-use Rattle.std.proofs.lemmas.Bool.Decides.{nat_tests}
-use Rattle.std.specs.Prelude.{◌==◌, nat_le, if◌then◌else◌}
-use Rattle.rx_terms.specs.Text.{Chars}
-use Rattle.rx_terms.proofs.Bools.{by_test}
+use Rattle.rx_terms.proofs.Common.{◌≡◌, ◌∙◌, ℕ, zero, suc, ◌+◌, ◌≤◌, ◌<◌, Bool, true, false, List, [], ◌∷◌, ◌++◌, length, refl, sym, ap, subst, Option, Some, None, arith, length-append, append_assoc, nat_tests, ◌==◌, nat_le, if◌then◌else◌, Chars, by_test}
 use Rattle.rx_rdfa.specs.Calls.{Call, Enter, Read, Leave}
 use Rattle.rx_rdfa.specs.Facts.{Facts}
 use Rattle.rx_eval.specs.Opened.{Opens, begun_state, read_text}

@@ -1,8 +1,6 @@
 -- The elements that the signs of a walk leave open are those that the page's tree shows, by the grammar.
-use Rattle.std.proofs.Common.{◌≡◌, ◌∙◌, ℕ, List, [], map, ap}
-use Rattle.rx_chars.specs.Characters.{Entry}
-use Rattle.rx_terms.specs.Text.{Chars}
-use Rattle.rx_grammar.specs.Begun.{Line, Phase}
+use Rattle.rx_terms.proofs.Common.{◌≡◌, ◌∙◌, ℕ, List, [], map, ap, Chars}
+use Rattle.rx_grammar.proofs.Common.{Entry, Line, Phase}
 use Rattle.rx_pages.specs.Fronts.{IsUnderway}
 use Rattle.rx_nest.specs.ShownLines.{shown_line}
 use Rattle.rx_nest.proofs.ShownLines.{shows_open_ones}

@@ -1,9 +1,7 @@
 -- An evaluator's state up to how the rules for texts are written: of each such rule what it makes of a text.
-use Rattle.std.proofs.Common.{◌≡◌, ℕ, Bool, List, [], ◌∷◌, ◌++◌, map, Option, Some, None, option_map, is_some, refl, ap, ap₂}
-use Rattle.std.specs.Prelude.{◌||◌, IfSome}
-use Rattle.std.specs.List.{list_any}
-use Rattle.rx_terms.specs.Text.{Chars}
-use Rattle.rx_model.specs.Terms.{Node, Term, Triple}
+use Rattle.rx_terms.proofs.Common.{◌≡◌, ℕ, Bool, List, [], ◌∷◌, ◌++◌, map, Option, Some, None, option_map, refl, ap, ap₂, ◌||◌, IfSome, list_any, Chars}
+use Rattle.std.proofs.Common.{is_some}
+use Rattle.rx_model.proofs.Common.{Node, Term, Triple}
 use Rattle.rx_rdfa.specs.Resources.{Inherited}
 use Rattle.rx_values.specs.Marks.{CutAt}
 use Rattle.rx_lists.specs.declared.lists.SlotId.{SlotId}

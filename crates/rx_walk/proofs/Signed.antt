@@ -1,8 +1,7 @@
 -- Signs one after another, and those of a tree.
-use Rattle.std.proofs.Common.{◌≡◌, ◌∙◌, List, [], ◌∷◌, ◌++◌, map, refl, sym, ap, append_assoc, Option, None}
-use Rattle.rx_terms.specs.Text.{Chars}
+use Rattle.rx_terms.proofs.Common.{◌≡◌, ◌∙◌, List, [], ◌∷◌, ◌++◌, map, refl, sym, ap, append_assoc, Option, None, Chars}
 use Rattle.rx_grammar.specs.declared.faults.Fault.{Fault}
-use Rattle.rx_grammar.specs.Trees.{Tree, end, element, text}
+use Rattle.rx_grammar.proofs.Common.{Tree, end, element, text}
 use Rattle.rx_rdfa.specs.Calls.{Call, Enter, Read, Leave, calls}
 use Rattle.rx_rdfa.specs.Facts.{facts, with_facts}
 use Rattle.rx_rdfa.specs.Names.{Context}

@@ -1,7 +1,5 @@
 -- What becomes of the stage.
-use Rattle.std.proofs.Common.{◌≡◌, ◌∙◌, ℕ, ◌<◌, Bool, true, false, List, [], ◌∷◌, ◌++◌, length, refl, sym, ap, subst, Option, Some, None, zero, suc, ◌+◌, drop, get_or, slice_get, add-one, arith, append_assoc, append-nil}
-use Rattle.std.specs.Prelude.{if◌then◌else◌}
-use Rattle.rx_terms.specs.Text.{Chars}
+use Rattle.rx_terms.proofs.Common.{◌≡◌, ◌∙◌, ℕ, ◌<◌, Bool, true, false, List, [], ◌∷◌, ◌++◌, length, refl, sym, ap, subst, Option, Some, None, zero, suc, ◌+◌, drop, get_or, slice_get, add-one, arith, append_assoc, append-nil, if◌then◌else◌, Chars}
 use Rattle.rx_rdfa.specs.Base.{base_by}
 use Rattle.rx_rdfa.specs.Calls.{Call, Enter, Leave}
 use Rattle.rx_rdfa.specs.Facts.{Facts}

@@ -1,11 +1,8 @@
 -- What an evaluator stands for goes by what is seen of its state.
-use Rattle.std.proofs.Common.{◌≡◌, ◌∙◌, ℕ, suc, Bool, true, false, List, [], ◌∷◌, ◌++◌, map, length, Option, Some, None, option_map, is_some, refl, sym, ap, ap₂, subst, subst₂}
-use Rattle.std.specs.Prelude.{◌⊎◌, IfSome}
-use Rattle.std.proofs.lemmas.List.{map-append}
-use Rattle.rx_terms.specs.Text.{Chars}
-use Rattle.rx_model.specs.Numbered.{rename_node, rename_term, rename}
-use Rattle.rx_model.specs.Sets.{Among}
-use Rattle.rx_model.specs.Terms.{Triple}
+use Rattle.rx_terms.proofs.Common.{◌≡◌, ◌∙◌, ℕ, suc, Bool, true, false, List, [], ◌∷◌, ◌++◌, map, length, Option, Some, None, option_map, refl, sym, ap, ap₂, subst, subst₂, IfSome, map-append, Chars}
+use Rattle.std.proofs.Common.{is_some}
+use Rattle.std.specs.Prelude.{◌⊎◌}
+use Rattle.rx_model.proofs.Common.{rename_node, rename_term, rename, Among, Triple}
 use Rattle.rx_rdfa.specs.Blanks.{Bnode, Owner, First, Of, Below, model}
 use Rattle.rx_rdfa.specs.Calls.{Call, after}
 use Rattle.rx_rdfa.specs.Element.{end_of}

@@ -1,10 +1,8 @@
 -- What a walk knows of its page.
-use Rattle.std.proofs.Common.{◌≡◌, ◌∙◌, ℕ, false, List, [], ◌∷◌, ◌++◌, length, sym, ap, subst, Option, Some}
-use Rattle.rx_terms.specs.Text.{Chars}
+use Rattle.rx_terms.proofs.Common.{◌≡◌, ◌∙◌, ℕ, false, List, [], ◌∷◌, ◌++◌, length, sym, ap, subst, Option, Some, Chars}
 use Rattle.rx_terms.specs.declared.triples.Triple.{Triple as CodeTriple}
-use Rattle.rx_model.specs.Seen.{triples_seen}
-use Rattle.rx_grammar.specs.Items.{start_of}
-use Rattle.rx_grammar.specs.Trees.{StartTag, Tree, end, element}
+use Rattle.rx_model.proofs.Common.{triples_seen}
+use Rattle.rx_grammar.proofs.Common.{start_of, StartTag, Tree, end, element}
 use Rattle.rx_rdfa.specs.Base.{base_by, root_href}
 use Rattle.rx_rdfa.specs.Calls.{Call}
 use Rattle.rx_rdfa.specs.Names.{Context}

@@ -1,17 +1,13 @@
 -- Lower case, in bytes and in characters.
-use Rattle.std.proofs.Common.{◌≡◌, ◌∙◌, ℕ, ◌<◌, ◌≤◌, ◌↔◌, Bool, false, List, [], ◌∷◌, ◌++◌, map, sym, ap, refl, arith, bytes_eq, IsTrue}
+use Rattle.rx_terms.proofs.Common.{◌≡◌, ◌∙◌, ℕ, ◌<◌, ◌≤◌, ◌↔◌, Bool, false, List, [], ◌∷◌, ◌++◌, map, sym, ap, refl, arith, bytes_eq, to_ascii_lowercase, chars, IsUtf8, nat_tests, map-append, encodes-chars, encode_ascii, encodes_same, lowered_char, Chars, lowered, by_test}
+use Rattle.std.proofs.Common.{IsTrue}
 use Rattle.std.specs.Prelude.{nat_lt, ◌+◌, ◌/◌}
-use Rattle.std.specs.Char.{to_ascii_lowercase}
-use Rattle.std.specs.Str.{chars, IsUtf8, encode_utf8_all}
-use Rattle.std.proofs.lemmas.Bool.Decides.{nat_tests, same_from_decides}
-use Rattle.std.proofs.lemmas.List.{map-append}
+use Rattle.std.specs.Str.{encode_utf8_all}
+use Rattle.std.proofs.lemmas.Bool.Decides.{same_from_decides}
 use Rattle.std.proofs.lemmas.Slice.Eq.{bytes_eq-Decides}
-use Rattle.std.proofs.lemmas.Str.{encodes-chars, chars_from_encodes, encode_ascii, encodes_same}
+use Rattle.std.proofs.lemmas.Str.{chars_from_encodes}
 use Rattle.std.proofs.lemmas.Str.Ascii.{lowercase_is}
 use lib.Utf8.{encode, next}
-use Rattle.rx_terms.specs.Ascii.{lowered_char}
-use Rattle.rx_terms.specs.Text.{Chars, lowered}
-use Rattle.rx_terms.proofs.Bools.{by_test}
 
 same-lower : (c : ℕ) → c < 128 → to_ascii_lowercase c ≡ lowered_char c
 same-lower c l = grind (arith, nat_tests)

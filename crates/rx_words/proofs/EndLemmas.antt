@@ -1,15 +1,11 @@
 -- Cuts at the ends of a text, in bytes and in characters.
-use Rattle.std.proofs.Common.{◌≡◌, ◌≢◌, ◌∙◌, ℕ, suc, refl, ◌==◌, Bool, true, ◌+◌, ◌-◌, ◌<◌, false, List, [], ◌∷◌, ◌++◌, length, take, drop, get_or, sym, ap, subst, arith, Option, Some, None, MatchOption, Bor, length-append}
-use Rattle.std.specs.Str.{chars, IsUtf8, encode_utf8_all}
+use Rattle.rx_terms.proofs.Common.{◌≡◌, ◌≢◌, ◌∙◌, ℕ, suc, refl, Bool, true, ◌+◌, ◌-◌, ◌<◌, false, List, [], ◌∷◌, ◌++◌, length, take, drop, get_or, sym, ap, subst, arith, Option, Some, None, MatchOption, Bor, length-append, chars, IsUtf8, and_parts, nat_tests, chars-nil, encodes-chars, encodes-append, chars-append, encode_ascii, IsUtf8-take, Chars, begins_with, is_empty, ascii-chars, by_test}
+use Rattle.std.proofs.Common.{◌==◌}
+use Rattle.std.specs.Str.{encode_utf8_all}
 use Rattle.std.specs.Str.Pattern.{FindsTextPrefix, FindsCharSuffix}
-use Rattle.std.proofs.lemmas.Bool.{and_parts}
-use Rattle.std.proofs.lemmas.Bool.Decides.{nat_tests}
-use Rattle.std.proofs.lemmas.Str.{chars-nil, encodes-chars, encodes-append, chars-append, encode_ascii, IsUtf8-take, IsCharBoundary-before_ascii}
+use Rattle.std.proofs.lemmas.Str.{IsCharBoundary-before_ascii}
 use Rattle.std.proofs.lemmas.Str.Pattern.{strip_suffix_char}
 use Rattle.std.proofs.Math.Seq.{get_or-append_seam, take-append_seam}
-use Rattle.rx_terms.specs.Text.{Chars, begins_with, is_empty}
-use Rattle.rx_terms.proofs.CharLemmas.{ascii-chars}
-use Rattle.rx_terms.proofs.Bools.{by_test}
 
 pub same_char : (c mark : ℕ) → (c == mark) ≡ true → c ≡ mark
 same_char c mark e = grind (arith, nat_tests)

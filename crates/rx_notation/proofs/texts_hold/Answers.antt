@@ -1,8 +1,6 @@
-use Rattle.std.proofs.Common.{◌≡◌, ℕ, ◌+◌, ◌<◌, true, List, [], ◌∷◌, ◌++◌, map, codes, refl, sym, subst, true≢false, arith}
+use Rattle.rx_terms.proofs.Common.{◌≡◌, ℕ, ◌+◌, ◌<◌, true, List, [], ◌∷◌, ◌++◌, map, codes, refl, sym, subst, true≢false, arith, Chars, IsIri}
 use Rattle.std.proofs.lemmas.Fmt.{decimal_digit}
-use Rattle.rx_terms.specs.Text.{Chars}
-use Rattle.rx_terms.specs.Iri.{IsIri}
-use Rattle.rx_model.specs.Terms.{Triple}
+use Rattle.rx_model.proofs.Common.{Triple}
 use Rattle.rx_nquads.specs.Spelling.{SpellsLabel, SpellsString, nothing, itself, escaped}
 use Rattle.rx_pieces.specs.Writing.{iri_text}
 use Rattle.rx_nquads.proofs.Denoting.{label_spelled}

@@ -1,5 +1,4 @@
-use Rattle.rx_model.specs.Terms.{same_node}
-use Rattle.rx_model.proofs.Exact.{exact_nodes}
+use Rattle.rx_model.proofs.Common.{same_node, exact_nodes}
 use Rattle.rx_model.proofs.Leads.{leads_along}
 use Rattle.rx_rdfa.specs.Blanks.{same_bnode}
 use Rattle.rx_rdfa.proofs.Exact.{exact_bnodes}

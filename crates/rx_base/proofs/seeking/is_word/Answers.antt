@@ -1,5 +1,4 @@
-use Rattle.std.proofs.Common.{◌∙◌}
-use Rattle.rx_terms.proofs.CharLemmas.{same-ascii}
+use Rattle.rx_terms.proofs.Common.{◌∙◌, same-ascii}
 use Rattle.rx_base.proofs.seeking.is_word.Goals as goal
 
 pub returns : goal.returns

@@ -1,5 +1,4 @@
-use Rattle.std.proofs.Common.{◌∙◌, ◌++◌, sym, ap, bytes_eq}
-use Rattle.std.specs.Str.{chars}
+use Rattle.rx_terms.proofs.Common.{◌∙◌, ◌++◌, sym, ap, bytes_eq, chars}
 use Rattle.rx_curie.proofs.WordLemmas.{same-behind, no-front}
 use Rattle.rx_curie.proofs.comparisons.are_text.Goals as goal
 

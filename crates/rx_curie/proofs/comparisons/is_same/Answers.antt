@@ -1,5 +1,4 @@
-use Rattle.std.proofs.Common.{◌∙◌}
-use Rattle.rx_terms.proofs.CharLemmas.{same-chars}
+use Rattle.rx_terms.proofs.Common.{◌∙◌, same-chars}
 use Rattle.rx_curie.proofs.comparisons.is_same.Goals as goal
 
 pub returns : goal.returns

@@ -1,6 +1,4 @@
-use Rattle.std.proofs.Common.{◌∙◌, ◌++◌, codes, ap, refl}
-use Rattle.rx_terms.specs.Iri.{has_scheme}
-use Rattle.rx_terms.proofs.CharLemmas.{ascii-chars}
+use Rattle.rx_terms.proofs.Common.{◌∙◌, ◌++◌, codes, ap, refl, has_scheme, ascii-chars}
 use Rattle.rx_refs.proofs.SchemeLemmas.{has_scheme-cut}
 use Rattle.rx_curie.proofs.literals.is_absolute.Goals as goal
 

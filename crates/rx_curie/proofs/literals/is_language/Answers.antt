@@ -1,6 +1,4 @@
-use Rattle.std.proofs.Common.{◌∙◌, Some, bytes_eq, sym, ap}
-use Rattle.std.specs.Cmp.Lexicographic.{bytes_decides}
-use Rattle.std.specs.Str.{chars}
+use Rattle.rx_terms.proofs.Common.{◌∙◌, Some, bytes_eq, sym, ap, bytes_decides, chars}
 use Rattle.rx_curie.proofs.literals.is_language.Goals as goal
 
 pub returns-in-Some : goal.returns-in-Some

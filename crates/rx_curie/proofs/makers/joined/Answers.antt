@@ -1,7 +1,4 @@
-use Rattle.std.proofs.Common.{◌≡◌, ◌∙◌, ◌++◌, ap}
-use Rattle.std.specs.Prelude.{string_bytes}
-use Rattle.std.specs.Str.{chars}
-use Rattle.std.proofs.lemmas.Str.{chars-nil}
+use Rattle.rx_terms.proofs.Common.{◌≡◌, ◌∙◌, ◌++◌, ap, string_bytes, chars, chars-nil}
 use Rattle.rx_terms.proofs.OkLemmas.{ok_is}
 use Rattle.rx_curie.proofs.MadeLemmas.{text-iri, two-pieces, scheme-more}
 use Rattle.rx_refs.specs.Resolve.{cleaned}

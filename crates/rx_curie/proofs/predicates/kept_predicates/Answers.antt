@@ -1,6 +1,4 @@
-use Rattle.std.proofs.Common.{◌∙◌, sym, rules}
-use Rattle.std.specs.Str.{chars}
-use Rattle.rx_terms.specs.Text.{tokens}
+use Rattle.rx_terms.proofs.Common.{◌∙◌, sym, rules, chars, tokens}
 use Rattle.rx_names.specs.Views.{names_seen}
 use Rattle.rx_curie.proofs.TokenSteps.{is-kept}
 use Rattle.rx_curie.proofs.predicates.kept_predicates.Goals as goal

@@ -1,6 +1,4 @@
-use Rattle.std.proofs.Common.{◌≡◌, List, [], length, true, false}
-use Rattle.std.specs.Str.{chars}
-use Rattle.rx_terms.specs.Text.{tokens}
+use Rattle.rx_terms.proofs.Common.{◌≡◌, List, [], length, true, false, chars, tokens}
 use Rattle.rx_rdfa.specs.Tree.{Tag}
 use Rattle.rx_rdfa.specs.Facts.{link}
 use Rattle.rx_names.specs.Lines.{NamesStand}

@@ -1,6 +1,4 @@
-use Rattle.std.proofs.Common.{rules}
-use Rattle.std.specs.Str.{chars}
-use Rattle.rx_terms.specs.Text.{tokens}
+use Rattle.rx_terms.proofs.Common.{rules, chars, tokens}
 use Rattle.rx_rdfa.specs.Facts.{predicate}
 use Rattle.rx_names.specs.Views.{names_seen}
 use Rattle.rx_curie.proofs.TokenSteps.{token-step}

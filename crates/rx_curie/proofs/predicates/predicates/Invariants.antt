@@ -1,7 +1,5 @@
-use Rattle.std.proofs.Common.{◌≡◌, ◌++◌, List, length}
+use Rattle.rx_terms.proofs.Common.{◌≡◌, ◌++◌, List, length, chars, tokens}
 use Rattle.std.specs.List.{filter_map}
-use Rattle.std.specs.Str.{chars}
-use Rattle.rx_terms.specs.Text.{tokens}
 use Rattle.rx_rdfa.specs.Tree.{Tag}
 use Rattle.rx_rdfa.specs.Facts.{predicate, predicates}
 use Rattle.rx_names.specs.Lines.{NamesStand}

@@ -1,5 +1,4 @@
-use Rattle.std.proofs.Common.{◌∙◌}
-use Rattle.std.specs.Str.{chars}
+use Rattle.rx_terms.proofs.Common.{◌∙◌, chars}
 use Rattle.rx_curie.proofs.ReadLemmas.{begins-slashes}
 use Rattle.rx_curie.proofs.readings.begins_with_slashes.Goals as goal
 

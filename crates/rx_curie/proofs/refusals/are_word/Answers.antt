@@ -1,6 +1,4 @@
-use Rattle.std.proofs.Common.{◌∙◌, ◌++◌, ap, bytes_eq}
-use Rattle.std.specs.Str.{chars}
-use Rattle.rx_terms.proofs.CharLemmas.{ascii-chars}
+use Rattle.rx_terms.proofs.Common.{◌∙◌, ◌++◌, ap, bytes_eq, chars, ascii-chars}
 use Rattle.rx_curie.proofs.refusals.are_word.Goals as goal
 
 pub returns : goal.returns

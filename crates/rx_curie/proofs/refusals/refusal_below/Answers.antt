@@ -1,6 +1,4 @@
-use Rattle.std.proofs.Common.{◌∙◌, ◌∷◌, List, ℕ, Option, Bor, ap, sym, option_map}
-use Rattle.std.specs.Prelude.{is_some}
-use Rattle.rx_terms.specs.Text.{seen_slice}
+use Rattle.rx_terms.proofs.Common.{◌∙◌, ◌∷◌, List, ℕ, Option, Bor, ap, sym, option_map, is_some, seen_slice}
 use Rattle.rx_rdfa.specs.Refusals.{is_relative}
 use Rattle.rx_names.specs.Views.{names_seen}
 use Rattle.rx_curie.specs.Given.{kind_of}

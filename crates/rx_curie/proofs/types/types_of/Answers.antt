@@ -1,6 +1,4 @@
-use Rattle.std.proofs.Common.{rules, option_map}
-use Rattle.std.specs.Str.{chars}
-use Rattle.rx_terms.specs.Text.{Chars, tokens}
+use Rattle.rx_terms.proofs.Common.{rules, option_map, chars, Chars, tokens}
 use Rattle.rx_rdfa.specs.Readings.{read_term}
 use Rattle.rx_rdfa.specs.Facts.{ref_of}
 use Rattle.rx_names.specs.Views.{names_seen}

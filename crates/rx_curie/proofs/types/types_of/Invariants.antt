@@ -1,7 +1,5 @@
-use Rattle.std.proofs.Common.{◌≡◌, ◌++◌, List, length, option_map}
+use Rattle.rx_terms.proofs.Common.{◌≡◌, ◌++◌, List, length, option_map, chars, tokens}
 use Rattle.std.specs.List.{filter_map}
-use Rattle.std.specs.Str.{chars}
-use Rattle.rx_terms.specs.Text.{tokens}
 use Rattle.rx_rdfa.specs.Tree.{Tag}
 use Rattle.rx_rdfa.specs.Readings.{read_term}
 use Rattle.rx_rdfa.specs.Facts.{ref_of, types_of}

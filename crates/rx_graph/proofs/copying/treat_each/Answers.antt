@@ -1,9 +1,6 @@
-use Rattle.std.proofs.Common.{◌∙◌, ap, arith, List, nat_eq}
+use Rattle.rx_terms.proofs.Common.{◌∙◌, ap, arith, List, nat_eq}
 use Rattle.rx_terms.specs.declared.triples.Triple.{Triple}
-use Rattle.rx_model.specs.Terms.{same_triple}
-use Rattle.rx_model.specs.Sets.{with_all}
-use Rattle.rx_model.specs.Copied.{treated, edges}
-use Rattle.rx_model.specs.Seen.{triple_seen, triples_seen}
+use Rattle.rx_model.proofs.Common.{same_triple, with_all, treated, edges, triple_seen, triples_seen}
 use Rattle.rx_graph.proofs.PlaceLemmas.{treated_turn, treated_end}
 use Rattle.rx_graph.proofs.copying.treat_each.Goals as goal
 

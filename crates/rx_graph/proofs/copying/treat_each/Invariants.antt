@@ -1,8 +1,5 @@
-use Rattle.std.proofs.Common.{◌≡◌, [], flat_map, take, nat_eq}
-use Rattle.rx_model.specs.Terms.{same_triple}
-use Rattle.rx_model.specs.Sets.{with_all}
-use Rattle.rx_model.specs.Seen.{triples_seen}
-use Rattle.rx_model.specs.Copied.{treated, edges}
+use Rattle.rx_terms.proofs.Common.{◌≡◌, [], flat_map, take, nat_eq}
+use Rattle.rx_model.proofs.Common.{same_triple, with_all, triples_seen, treated, edges}
 use Rattle.rx_graph.proofs.copying.treat_each.Given as goal
 
 abbrev pub invariant-loop-i : goal.invariant-loop-i

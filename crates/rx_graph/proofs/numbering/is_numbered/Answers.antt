@@ -1,7 +1,6 @@
-use Rattle.std.proofs.Common.{◌∙◌, ap, sym, nat_eq, arith, take_all}
-use Rattle.rx_model.specs.Sets.{distinct}
-use Rattle.rx_model.specs.Numbered.{blanks}
-use Rattle.rx_model.specs.Seen.{triples_seen}
+use Rattle.rx_terms.proofs.Common.{◌∙◌, ap, sym, nat_eq, arith}
+use Rattle.std.proofs.Common.{take_all}
+use Rattle.rx_model.proofs.Common.{distinct, blanks, triples_seen}
 use Rattle.rx_graph.proofs.NumberLemmas.{numbers_turn}
 use Rattle.rx_graph.proofs.NumberedLemmas.{numbered_already}
 use Rattle.rx_graph.proofs.numbering.is_numbered.Goals as goal

@@ -1,7 +1,5 @@
-use Rattle.std.proofs.Common.{◌≡◌, take, nat_eq}
-use Rattle.rx_model.specs.Sets.{distinct}
-use Rattle.rx_model.specs.Numbered.{blanks}
-use Rattle.rx_model.specs.Seen.{triples_seen}
+use Rattle.rx_terms.proofs.Common.{◌≡◌, take, nat_eq}
+use Rattle.rx_model.proofs.Common.{distinct, blanks, triples_seen}
 use Rattle.rx_graph.specs.Numbering.{numbers_to}
 use Rattle.rx_graph.proofs.numbering.is_numbered.Given as goal
 

@@ -1,8 +1,6 @@
-use Rattle.std.proofs.Common.{◌≡◌, false, take, IfSome, nat_eq}
-use Rattle.std.specs.List.{list_any}
-use Rattle.rx_model.specs.Seen.{triples_seen}
-use Rattle.rx_model.specs.Sets.{distinct}
-use Rattle.rx_model.specs.Numbered.{blanks}
+use Rattle.rx_terms.proofs.Common.{◌≡◌, false, take, nat_eq, list_any}
+use Rattle.std.proofs.Common.{IfSome}
+use Rattle.rx_model.proofs.Common.{triples_seen, distinct, blanks}
 use Rattle.rx_graph.specs.Numbering.{numbers_to}
 use Rattle.rx_graph.specs.Patterns.{copies}
 use Rattle.rx_graph.proofs.walked.walk.Given as goal

@@ -1,6 +1,4 @@
-use Rattle.std.proofs.Common.{◌∙◌, ap, nat_eq}
-use Rattle.std.specs.Cmp.Lexicographic.{pointwise}
-use Rattle.rx_terms.proofs.CharLemmas.{same-ascii}
+use Rattle.rx_terms.proofs.Common.{◌∙◌, ap, nat_eq, pointwise, same-ascii}
 use Rattle.rx_job.proofs.words.is_word.Goals as goal
 
 pub returns : goal.returns

@@ -1,6 +1,5 @@
-use Rattle.std.proofs.Common.{◌∙◌, ◌++◌, ◌-◌, ap, sym, arith, length, map, option_map}
-use Rattle.std.proofs.lemmas.List.{length-map, map-append}
-use Rattle.rx_model.specs.Seen.{triple_seen, triples_seen}
+use Rattle.rx_terms.proofs.Common.{◌∙◌, ◌++◌, ◌-◌, ap, sym, arith, length, map, option_map, length-map, map-append}
+use Rattle.rx_model.proofs.Common.{triple_seen, triples_seen}
 use Rattle.rx_jsonld.specs.Lists.{chain, numbers_from}
 use Rattle.rx_jsonld.proofs.PlaceLemmas.{chain_turn, number_of}
 use Rattle.rx_jsonld.proofs.chains.chain.Goals as goal

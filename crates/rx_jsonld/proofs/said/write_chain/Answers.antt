@@ -1,7 +1,6 @@
-use Rattle.std.proofs.Common.{◌∙◌, ℕ, List, ap, map}
-use Rattle.std.proofs.lemmas.Result.{on_ok_weaker}
+use Rattle.rx_terms.proofs.Common.{◌∙◌, ℕ, List, ap, map, on_ok_weaker}
 use Rattle.rx_terms.specs.declared.triples.Blank.{Blank}
-use Rattle.rx_model.specs.Seen.{triples_seen}
+use Rattle.rx_model.proofs.Common.{triples_seen}
 use Rattle.rx_json.specs.Events.{data_events}
 use Rattle.rx_json.proofs.GrowLemmas.{told_as}
 use Rattle.rx_jsonld.specs.Value.{item_value, list_value}

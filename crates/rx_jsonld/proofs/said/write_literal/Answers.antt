@@ -1,5 +1,4 @@
-use Rattle.std.proofs.Common.{refl}
-use Rattle.std.proofs.lemmas.Result.{on_ok_weaker}
+use Rattle.rx_terms.proofs.Common.{refl, on_ok_weaker}
 use Rattle.rx_model.specs.Seen.{kind_seen}
 use Rattle.rx_json.proofs.GrowLemmas.{object_made}
 use Rattle.rx_jsonld.specs.Value.{literal_members}

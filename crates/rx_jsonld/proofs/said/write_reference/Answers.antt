@@ -1,5 +1,4 @@
-use Rattle.std.proofs.Common.{◌∷◌, codes, refl}
-use Rattle.std.proofs.lemmas.Result.{on_ok_weaker}
+use Rattle.rx_terms.proofs.Common.{◌∷◌, codes, refl, on_ok_weaker}
 use Rattle.serde.specs.Event as event
 use Rattle.serde.specs.declared.name.Case.TheVariants.{AsIs}
 use Rattle.serde_json.specs.Data.{member, no_members}

@@ -1,6 +1,5 @@
-use Rattle.std.proofs.Common.{ap}
-use Rattle.std.proofs.lemmas.Result.{on_ok_weaker}
-use Rattle.rx_model.specs.Seen.{triple_seen, triples_seen}
+use Rattle.rx_terms.proofs.Common.{ap, on_ok_weaker}
+use Rattle.rx_model.proofs.Common.{triple_seen, triples_seen}
 use Rattle.rx_shapes.specs.Table.{shape_in}
 use Rattle.rx_json.specs.Events.{data_events}
 use Rattle.rx_json.proofs.GrowLemmas.{told_as}

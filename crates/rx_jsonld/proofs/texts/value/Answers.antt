@@ -1,8 +1,7 @@
-use Rattle.std.proofs.lemmas.Result.{IfOk-weaker}
-use Rattle.std.proofs.Common.{◌∙◌, ap, map, subst, sym}
+use Rattle.rx_terms.proofs.Common.{IfOk-weaker, ◌∙◌, ap, map, subst, sym}
 use Rattle.serde_json.specs.Data.{Data}
 use Rattle.serde_json.specs.Written.{has_float}
-use Rattle.rx_model.specs.Seen.{triples_seen}
+use Rattle.rx_model.proofs.Common.{triples_seen}
 use Rattle.rx_shapes.specs.Table.{shape_in}
 use Rattle.rx_nquads.specs.Quads.{proper_triple}
 use Rattle.rx_jsonld.specs.Meaning.{JsonLd}

@@ -1,7 +1,6 @@
-use Rattle.std.proofs.Common.{◌∙◌, ap, codes}
-use Rattle.std.proofs.lemmas.Result.{on_ok_weaker}
+use Rattle.rx_terms.proofs.Common.{◌∙◌, ap, codes, on_ok_weaker}
 use Rattle.serde_json.specs.Data.{Members, object, member, no_members}
-use Rattle.rx_model.specs.Seen.{node_seen, triples_seen}
+use Rattle.rx_model.proofs.Common.{node_seen, triples_seen}
 use Rattle.rx_shapes.specs.Table.{shape_in}
 use Rattle.rx_json.specs.Events.{data_events}
 use Rattle.rx_json.proofs.GrowLemmas.{told_as}

@@ -1,6 +1,5 @@
-use Rattle.std.proofs.Common.{map}
-use Rattle.std.proofs.lemmas.Result.{on_ok_weaker}
-use Rattle.rx_model.specs.Seen.{triples_seen}
+use Rattle.rx_terms.proofs.Common.{map, on_ok_weaker}
+use Rattle.rx_model.proofs.Common.{triples_seen}
 use Rattle.rx_shapes.specs.Table.{shape_in}
 use Rattle.rx_json.proofs.GrowLemmas.{array_made}
 use Rattle.rx_jsonld.specs.Value.{node_value, tops}

@@ -1,10 +1,8 @@
-use Rattle.std.proofs.Common.{◌∷◌, ◌++◌, ℕ, codes, refl, ap}
-use Rattle.std.proofs.lemmas.Result.{on_ok_weaker}
+use Rattle.rx_terms.proofs.Common.{◌∷◌, ◌++◌, ℕ, codes, refl, ap, on_ok_weaker}
 use Rattle.serde.specs.Event as event
 use Rattle.serde.specs.declared.name.Case.TheVariants.{AsIs}
 use Rattle.serde_json.specs.Data.{member}
-use Rattle.rx_model.specs.Seen.{node_seen, triples_seen}
-use Rattle.rx_model.specs.Terms.{Node}
+use Rattle.rx_model.proofs.Common.{node_seen, triples_seen, Node}
 use Rattle.rx_shapes.specs.Table.{shape_in}
 use Rattle.rx_json.specs.Events.{data_events, members_events}
 use Rattle.rx_json.proofs.GrowLemmas.{one, both, told_as, object_made}

@@ -1,8 +1,5 @@
-use Rattle.std.proofs.Common.{Option, ap, sym}
-use Rattle.std.proofs.lemmas.Result.{on_ok_weaker}
-use Rattle.rx_model.specs.Seen.{triples_seen}
-use Rattle.rx_model.specs.Terms.{Triple}
-use Rattle.std.proofs.Common.{ℕ}
+use Rattle.rx_terms.proofs.Common.{Option, ap, sym, on_ok_weaker, ℕ}
+use Rattle.rx_model.proofs.Common.{triples_seen, Triple}
 use Rattle.rx_shapes.specs.Table.{shape_in}
 use Rattle.rx_shapes.proofs.IndexLemmas.{seen_at}
 use Rattle.rx_json.specs.Events.{data_events}

@@ -1,5 +1,4 @@
-use Rattle.std.proofs.Common.{ap, ◌∙◌, ◌++◌, ◌∷◌, [], Bool}
-use Rattle.std.specs.Prelude.{if◌then◌else◌}
+use Rattle.rx_terms.proofs.Common.{ap, ◌∙◌, ◌++◌, ◌∷◌, [], Bool, if◌then◌else◌}
 use Rattle.rx_lists.proofs.RowLemmas.{none_alike}
 use Rattle.rx_lists.proofs.owner_lists.add_row.Goals as goal
 

@@ -1,5 +1,4 @@
-use Rattle.std.proofs.Common.{List, map, take, subst, ap, sym, Some, ◌∙◌}
-use Rattle.std.proofs.lemmas.Option.{slice_get-get_or}
+use Rattle.rx_terms.proofs.Common.{List, map, take, subst, ap, sym, Some, ◌∙◌, slice_get-get_or}
 use Rattle.rx_many.specs.Lines.{Line, PageBlank, lines_from}
 use Rattle.rx_many.specs.Seen.{page_seen}
 use Rattle.rx_many.specs.Standing.{DocumentStands}

@@ -1,6 +1,4 @@
-use Rattle.std.proofs.Common.{Some, sym, ap, ◌∙◌, subst, arith}
-use Rattle.std.proofs.lemmas.Option.{slice_get-get_or}
-use Rattle.rx_terms.specs.Text.{Chars}
+use Rattle.rx_terms.proofs.Common.{Some, sym, ap, ◌∙◌, subst, arith, slice_get-get_or, Chars}
 use Rattle.rx_many.specs.Names.{Notes, name_of}
 use Rattle.rx_many.proofs.NameLemmas.{names_more, names_end}
 use Rattle.rx_many.proofs.names.shared_names.Goals as goal

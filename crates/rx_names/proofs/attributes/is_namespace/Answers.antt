@@ -1,5 +1,4 @@
-use Rattle.std.proofs.Common.{◌∙◌}
-use Rattle.std.specs.Str.{chars}
+use Rattle.rx_terms.proofs.Common.{◌∙◌, chars}
 use Rattle.rx_names.proofs.MarkLemmas.{begins}
 use Rattle.rx_names.proofs.attributes.is_namespace.Goals as goal
 

@@ -1,6 +1,4 @@
-use Rattle.std.proofs.Common.{◌∙◌, ap, sym}
-use Rattle.std.specs.Str.{chars}
-use Rattle.rx_terms.specs.Text.{Chars}
+use Rattle.rx_terms.proofs.Common.{◌∙◌, ap, sym, chars, Chars}
 use Rattle.rx_rdfa.specs.Names.{counts}
 use Rattle.rx_names.proofs.DeclarationLemmas.{sound-mapping}
 use Rattle.rx_names.proofs.declarations.push_mapping.Goals as goal

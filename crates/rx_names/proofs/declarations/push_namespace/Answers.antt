@@ -1,5 +1,4 @@
-use Rattle.std.proofs.Common.{◌∙◌, ap, sym, List, ◌++◌}
-use Rattle.std.specs.Str.{chars}
+use Rattle.rx_terms.proofs.Common.{◌∙◌, ap, sym, List, ◌++◌, chars}
 use Rattle.std.proofs.lemmas.List.{append-nil}
 use Rattle.rx_names.specs.declared.rows.Declaration.{Declaration}
 use Rattle.rx_names.proofs.DeclarationLemmas.{becomes, one-namespace, no-namespace}

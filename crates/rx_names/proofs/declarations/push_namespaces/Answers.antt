@@ -1,7 +1,4 @@
-use Rattle.std.proofs.Common.{◌<◌, length, arith}
-use Rattle.std.specs.Str.{chars}
-use Rattle.std.proofs.lemmas.Option.{get_or_from_slice_get}
-use Rattle.rx_terms.specs.Text.{Chars}
+use Rattle.rx_terms.proofs.Common.{◌<◌, length, arith, chars, get_or_from_slice_get, Chars}
 use Rattle.rx_names.specs.Tags.{tag_of}
 use Rattle.rx_names.proofs.DeclarationLemmas.{more-namespaces}
 use Rattle.rx_names.proofs.declarations.push_namespaces.Goals as goal

@@ -1,6 +1,4 @@
-use Rattle.std.proofs.Common.{rules}
-use Rattle.std.specs.Str.{chars}
-use Rattle.rx_terms.specs.Text.{tokens}
+use Rattle.rx_terms.proofs.Common.{rules, chars, tokens}
 use Rattle.rx_names.proofs.DeclarationLemmas.{waits, pairs_up}
 use Rattle.rx_names.proofs.declarations.push_pairs.Goals as goal
 

@@ -1,6 +1,4 @@
-use Rattle.std.proofs.Common.{◌≡◌, ◌++◌, length}
-use Rattle.std.specs.Str.{chars}
-use Rattle.rx_terms.specs.Text.{tokens, seen_slice}
+use Rattle.rx_terms.proofs.Common.{◌≡◌, ◌++◌, length, chars, tokens, seen_slice}
 use Rattle.rx_rdfa.specs.Names.{pairs, pairs_after}
 use Rattle.rx_names.specs.Rows.{mapping_rows}
 use Rattle.rx_names.proofs.declarations.push_pairs.Given as goal

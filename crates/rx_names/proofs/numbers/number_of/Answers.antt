@@ -1,5 +1,4 @@
-use Rattle.std.proofs.Common.{◌∙◌, map}
-use Rattle.std.specs.Char.{to_ascii_lowercase}
+use Rattle.rx_terms.proofs.Common.{◌∙◌, map, to_ascii_lowercase}
 use Rattle.std.specs.Hash.DefaultHasher as sip
 use Rattle.rx_names.proofs.NumberLemmas.{next-byte, no-byte, all-bytes}
 use Rattle.rx_names.proofs.numbers.number_of.Goals as goal

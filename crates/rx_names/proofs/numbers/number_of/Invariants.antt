@@ -1,5 +1,4 @@
-use Rattle.std.proofs.Common.{◌≡◌, map, drop}
-use Rattle.std.specs.Char.{to_ascii_lowercase}
+use Rattle.rx_terms.proofs.Common.{◌≡◌, map, drop, to_ascii_lowercase}
 use Rattle.std.specs.Hash.DefaultHasher as sip
 use Rattle.rx_names.proofs.numbers.number_of.Given as goal
 

@@ -1,8 +1,6 @@
-use Rattle.std.proofs.Common.{◌≡◌, ◌∙◌, true, refl, sym, ap}
-use Rattle.std.specs.Option.{option_or}
+use Rattle.rx_terms.proofs.Common.{◌≡◌, ◌∙◌, true, refl, sym, ap, option_or, lowered, seen_slice}
 use Rattle.std.specs.Str.{chars}
 use lib.Utf8.{encode}
-use Rattle.rx_terms.specs.Text.{lowered, seen_slice}
 use Rattle.rx_rdfa.specs.Names.{value_at}
 use Rattle.rx_names.specs.Contexts.{standard_tables}
 use Rattle.rx_names.specs.Given.{are_lowered}

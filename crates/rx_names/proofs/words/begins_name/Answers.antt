@@ -1,5 +1,4 @@
-use Rattle.std.proofs.Common.{◌∙◌, ap, sym}
-use Rattle.std.proofs.lemmas.Str.{chars_past_char}
+use Rattle.rx_terms.proofs.Common.{◌∙◌, ap, sym, chars_past_char}
 use Rattle.rx_names.specs.Words.{begins_name}
 use Rattle.rx_names.proofs.words.begins_name.Goals as goal
 

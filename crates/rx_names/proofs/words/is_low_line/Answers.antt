@@ -1,5 +1,4 @@
-use Rattle.std.proofs.Common.{◌∙◌, refl, codes}
-use Rattle.rx_terms.proofs.CharLemmas.{same-ascii}
+use Rattle.rx_terms.proofs.Common.{◌∙◌, refl, codes, same-ascii}
 use Rattle.rx_names.proofs.words.is_low_line.Goals as goal
 
 pub returns : goal.returns

@@ -1,6 +1,5 @@
-use Rattle.std.proofs.Common.{◌∙◌, refl}
+use Rattle.rx_terms.proofs.Common.{◌∙◌, refl, same-ascii}
 use Rattle.std.specs.Prelude.{codes}
-use Rattle.rx_terms.proofs.CharLemmas.{same-ascii}
 use Rattle.rx_nest.proofs.element_names.is_foreign_root.Goals as goal
 
 pub returns : goal.returns

@@ -1,8 +1,7 @@
-use Rattle.std.proofs.Common.{◌∙◌, sym, refl}
+use Rattle.rx_terms.proofs.Common.{◌∙◌, sym, refl, chars}
 use Rattle.rx_nest.proofs.NameLemmas.{among-chars}
 use Rattle.rx_nest.proofs.OrdinaryLemmas.{plain}
 use Rattle.rx_nest.specs.Ordinary.{omissible_names}
-use Rattle.std.specs.Str.{chars}
 use Rattle.rx_nest.proofs.element_names.is_omissible.Goals as goal
 
 pub returns : goal.returns

@@ -1,8 +1,7 @@
-use Rattle.std.proofs.Common.{◌∙◌, sym, refl}
+use Rattle.rx_terms.proofs.Common.{◌∙◌, sym, refl, chars}
 use Rattle.rx_nest.proofs.NameLemmas.{among-chars}
 use Rattle.rx_nest.proofs.OrdinaryLemmas.{ordinary}
 use Rattle.rx_nest.specs.Ordinary.{ordinary_names}
-use Rattle.std.specs.Str.{chars}
 use Rattle.rx_nest.proofs.element_names.is_ordinary.Goals as goal
 
 pub returns : goal.returns

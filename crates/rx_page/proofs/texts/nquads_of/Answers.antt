@@ -1,8 +1,6 @@
-use Rattle.std.proofs.Common.{refl, subst}
+use Rattle.rx_terms.proofs.Common.{refl, subst, chars, Chars}
 use Rattle.std.specs.Prelude.{Option}
-use Rattle.std.specs.Str.{chars}
-use Rattle.rx_terms.specs.Text.{Chars}
-use Rattle.rx_model.specs.Seen.{triples_seen}
+use Rattle.rx_model.proofs.Common.{triples_seen}
 use Rattle.rx_nquads.specs.Document.{Nquads}
 use Rattle.rx_nquads.specs.Quads.{quads}
 use Rattle.rx_page.specs.declared.forms.Form.TheVariants as forms

@@ -1,8 +1,5 @@
-use Rattle.std.proofs.Common.{◌≡◌, ◌∙◌, ap}
-use Rattle.std.specs.Str.{chars}
+use Rattle.rx_terms.proofs.Common.{◌≡◌, ◌∙◌, ap, chars, chars_past_char, IsUtf8-past_char, chars-end}
 use Rattle.std.specs.Str.Iter.{chars_rest}
-use Rattle.std.proofs.lemmas.Str.{chars_past_char, IsUtf8-past_char}
-use Rattle.rx_terms.proofs.CharLemmas.{chars-end}
 use Rattle.rx_pieces.specs.Underway.{delivery}
 use Rattle.rx_pieces.proofs.Adding.{left_start, left_less, left_none}
 use Rattle.rx_pieces.proofs.escapes.push_escaping.Goals as goal

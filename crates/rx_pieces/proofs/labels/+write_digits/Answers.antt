@@ -1,5 +1,4 @@
-use Rattle.std.proofs.Common.{◌∙◌, ◌+◌, ◌-◌, ◌%◌, ◌≤◌, arith}
-use Rattle.std.proofs.lemmas.List.{length-set}
+use Rattle.rx_terms.proofs.Common.{◌∙◌, ◌+◌, ◌-◌, ◌%◌, ◌≤◌, arith, length-set}
 use Rattle.rx_pieces.proofs.Digits.{some, one_long, one_digit, one_longer, one_more}
 use Rattle.rx_pieces.proofs.labels.+write_digits.Goals as goal
 

@@ -1,6 +1,5 @@
-use Rattle.std.proofs.Common.{◌≡◌, ◌+◌, take, map}
-use Rattle.rx_model.specs.Numbered.{rename}
-use Rattle.rx_model.specs.Seen.{triples_seen}
+use Rattle.rx_terms.proofs.Common.{◌≡◌, ◌+◌, take, map}
+use Rattle.rx_model.proofs.Common.{rename, triples_seen}
 use Rattle.rx_quads.proofs.raising.raised_list.Given as goal
 
 abbrev pub invariant-loop-i : goal.invariant-loop-i

@@ -1,6 +1,5 @@
-use Rattle.std.proofs.Common.{◌≡◌, ◌∙◌, refl, ap, sym, true, false, bytes_eq}
+use Rattle.rx_terms.proofs.Common.{◌≡◌, ◌∙◌, refl, ap, sym, true, false, bytes_eq, same-ascii}
 use Rattle.rx_terms.specs.Literal.{xsd_string}
-use Rattle.rx_terms.proofs.CharLemmas.{same-ascii}
 use Rattle.rx_quads.proofs.terms.bytes_of_datatype.Goals as goal
 
 pub returns-then-eq : goal.returns-then-eq

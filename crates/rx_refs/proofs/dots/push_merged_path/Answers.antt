@@ -1,8 +1,5 @@
-use Rattle.std.proofs.Common.{◌≡◌, ◌∙◌, ◌++◌, sym, ap}
-use Rattle.std.specs.Prelude.{string_bytes}
-use Rattle.std.specs.Str.{chars}
+use Rattle.rx_terms.proofs.Common.{◌≡◌, ◌∙◌, ◌++◌, sym, ap, string_bytes, chars, Chars}
 use Rattle.std.proofs.lemmas.List.{append_assoc}
-use Rattle.rx_terms.specs.Text.{Chars}
 use Rattle.rx_refs.specs.Resolve.{through_last_slash}
 use Rattle.rx_refs.proofs.DotLemmas.{written, takes-both}
 use Rattle.rx_refs.proofs.dots.push_merged_path.Goals as goal

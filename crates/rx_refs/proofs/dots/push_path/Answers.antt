@@ -1,6 +1,4 @@
-use Rattle.std.proofs.Common.{◌∙◌}
-use Rattle.std.specs.Prelude.{string_bytes}
-use Rattle.std.specs.Str.{chars}
+use Rattle.rx_terms.proofs.Common.{◌∙◌, string_bytes, chars}
 use Rattle.rx_refs.specs.Resolve.{through_last_slash}
 use Rattle.rx_refs.proofs.DotLemmas.{written}
 use Rattle.rx_refs.proofs.dots.push_path.Goals as goal

@@ -1,7 +1,4 @@
-use Rattle.std.proofs.Common.{◌∙◌, sym, ap, List, ℕ}
-use Rattle.std.specs.Prelude.{string_bytes}
-use Rattle.std.specs.Str.{chars}
-use Rattle.rx_terms.specs.Iri.{has_forbidden}
+use Rattle.rx_terms.proofs.Common.{◌∙◌, sym, ap, List, ℕ, string_bytes, chars, has_forbidden}
 use Rattle.rx_refs.proofs.SchemeLemmas.{uncleaned}
 use Rattle.rx_refs.proofs.escapes.clean_string.Goals as goal
 

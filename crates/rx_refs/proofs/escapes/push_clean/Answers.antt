@@ -1,8 +1,4 @@
-use Rattle.std.proofs.Common.{◌∙◌, ◌++◌, sym, ap}
-use Rattle.std.specs.Prelude.{string_bytes}
-use Rattle.std.specs.Str.{chars}
-use Rattle.std.proofs.lemmas.Str.{chars-append, IsUtf8-string_bytes}
-use Rattle.rx_terms.specs.Text.{Chars}
+use Rattle.rx_terms.proofs.Common.{◌∙◌, ◌++◌, sym, ap, string_bytes, chars, chars-append, IsUtf8-string_bytes, Chars}
 use Rattle.rx_refs.proofs.SchemeLemmas.{uncleaned}
 use Rattle.rx_refs.proofs.escapes.push_clean.Goals as goal
 

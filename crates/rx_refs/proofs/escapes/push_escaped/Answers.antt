@@ -1,5 +1,4 @@
-use Rattle.std.specs.Prelude.{string_bytes}
-use Rattle.std.proofs.lemmas.Str.{IsUtf8-string_bytes}
+use Rattle.rx_terms.proofs.Common.{string_bytes, IsUtf8-string_bytes}
 use Rattle.rx_refs.proofs.EscapeLemmas.{escaped-chars}
 use Rattle.rx_refs.proofs.escapes.push_escaped.Goals as goal
 

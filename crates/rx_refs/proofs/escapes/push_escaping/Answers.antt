@@ -1,11 +1,7 @@
-use Rattle.std.proofs.Common.{◌≡◌, ◌∙◌, ◌++◌, List, ℕ, sym, ap, true}
-use Rattle.std.specs.Prelude.{string_bytes, encode_utf8}
-use Rattle.std.specs.Str.{chars}
+use Rattle.rx_terms.proofs.Common.{◌≡◌, ◌∙◌, ◌++◌, List, ℕ, sym, ap, true, string_bytes, chars, chars_past_char, IsUtf8-past_char, IsUtf8-string_bytes, Chars, chars-end}
+use Rattle.std.specs.Prelude.{encode_utf8}
 use Rattle.std.specs.Str.Iter.{chars_rest}
 use Rattle.std.proofs.lemmas.List.{append-nil}
-use Rattle.std.proofs.lemmas.Str.{chars_past_char, IsUtf8-past_char, IsUtf8-string_bytes}
-use Rattle.rx_terms.specs.Text.{Chars}
-use Rattle.rx_terms.proofs.CharLemmas.{chars-end}
 use Rattle.rx_refs.specs.Resolve.{cleaned}
 use Rattle.rx_refs.proofs.EscapeLemmas.{wrote-escape, wrote-char, pushed-char, keeps-same, keeps-pushed, keeps-further}
 use Rattle.rx_refs.proofs.escapes.push_escaping.Goals as goal

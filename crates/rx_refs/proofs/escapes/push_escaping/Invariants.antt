@@ -1,6 +1,4 @@
-use Rattle.std.proofs.Common.{◌≡◌, ◌++◌}
-use Rattle.std.specs.Prelude.{string_bytes}
-use Rattle.std.specs.Str.{chars, IsUtf8}
+use Rattle.rx_terms.proofs.Common.{◌≡◌, ◌++◌, string_bytes, chars, IsUtf8}
 use Rattle.std.specs.Str.Iter.{chars_rest}
 use Rattle.rx_refs.specs.Resolve.{cleaned}
 use Rattle.rx_refs.specs.Views.{Keeps}

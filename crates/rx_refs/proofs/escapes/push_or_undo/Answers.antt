@@ -1,7 +1,4 @@
-use Rattle.std.proofs.Common.{◌∙◌, List, ℕ, length, take, ap, subst, sym}
-use Rattle.std.specs.Prelude.{string_bytes}
-use Rattle.std.specs.Str.{IsCharBoundary}
-use Rattle.std.proofs.lemmas.Str.{IsUtf8-string_bytes}
+use Rattle.rx_terms.proofs.Common.{◌∙◌, List, ℕ, length, take, ap, subst, sym, string_bytes, IsCharBoundary, IsUtf8-string_bytes}
 use Rattle.rx_refs.proofs.EscapeLemmas.{kept-boundary, kept-front}
 use Rattle.rx_refs.proofs.escapes.push_or_undo.Goals as goal
 

@@ -1,6 +1,4 @@
-use Rattle.std.proofs.Common.{◌≡◌, refl, Option}
-use Rattle.std.specs.Str.{chars}
-use Rattle.rx_terms.specs.Text.{Chars, seen_slice}
+use Rattle.rx_terms.proofs.Common.{◌≡◌, refl, Option, chars, Chars, seen_slice}
 use Rattle.rx_refs.specs.Parts.{Components, before, behind, scheme_of, behind_scheme, authority_of, path_of, components_of}
 use Rattle.rx_refs.proofs.parts.split.Goals as goal
 

@@ -1,7 +1,4 @@
-use Rattle.std.proofs.Common.{◌∙◌, sym, ap}
-use Rattle.std.specs.Str.{chars}
-use Rattle.rx_terms.specs.Text.{Chars}
-use Rattle.rx_terms.specs.Iri.{has_scheme}
+use Rattle.rx_terms.proofs.Common.{◌∙◌, sym, ap, chars, Chars, has_scheme}
 use Rattle.rx_refs.specs.Parts.{scheme_of, behind_scheme}
 use Rattle.rx_refs.proofs.SchemeLemmas.{has_scheme-cut, has_scheme-uncut, scheme-cut, scheme-none}
 use Rattle.rx_refs.proofs.parts.split_scheme.Goals as goal

@@ -1,6 +1,4 @@
-use Rattle.std.proofs.Common.{◌≡◌, drop}
-use Rattle.std.specs.List.{list_all}
-use Rattle.rx_terms.specs.Iri.{is_scheme_char}
+use Rattle.rx_terms.proofs.Common.{◌≡◌, drop, list_all, is_scheme_char}
 use Rattle.rx_refs.proofs.plain.are_scheme_chars.Given as goal
 
 abbrev pub invariant-loop-byte : goal.invariant-loop-byte

@@ -1,5 +1,4 @@
-use Rattle.std.proofs.Common.{◌≡◌, drop}
-use Rattle.rx_terms.specs.Iri.{has_forbidden}
+use Rattle.rx_terms.proofs.Common.{◌≡◌, drop, has_forbidden}
 use Rattle.rx_refs.proofs.plain.has_forbidden.Given as goal
 
 abbrev pub invariant-loop-byte : goal.invariant-loop-byte

@@ -1,6 +1,5 @@
 use Rattle.rx_refs.proofs.UpLemmas.{up-next}
-use Rattle.std.proofs.Common.{arith, take, length, ap}
-use Rattle.std.proofs.lemmas.List.{length-take}
+use Rattle.rx_terms.proofs.Common.{arith, take, length, ap, length-take}
 use Rattle.rx_refs.specs.Plain.{ups}
 use Rattle.rx_refs.proofs.plain.up_place.Goals as goal
 

@@ -1,9 +1,6 @@
-use Rattle.std.proofs.Common.{◌≡◌, ◌∙◌, ◌++◌, ◌∷◌, [], ℕ, List, Option, sym, ap, refl}
-use Rattle.std.specs.Prelude.{string_bytes, codes, OnOk, Ok, Err, Result}
-use Rattle.std.specs.Str.{chars}
+use Rattle.rx_terms.proofs.Common.{◌≡◌, ◌∙◌, ◌++◌, ◌∷◌, [], ℕ, List, Option, sym, ap, refl, string_bytes, chars, Chars, seen_slice, ascii-chars}
+use Rattle.std.specs.Prelude.{codes, OnOk, Ok, Err, Result}
 use Rattle.std.proofs.lemmas.List.{append_assoc}
-use Rattle.rx_terms.specs.Text.{Chars, seen_slice}
-use Rattle.rx_terms.proofs.CharLemmas.{ascii-chars}
 use Rattle.rx_refs.specs.Parts.{delimited}
 use denote.Ref.{Bor}
 use Rattle.rx_refs.proofs.recomposition.push_scheme.Goals as goal

@@ -1,7 +1,4 @@
-use Rattle.std.proofs.Common.{◌∙◌, ap}
-use Rattle.std.specs.Prelude.{string_bytes}
-use Rattle.std.specs.Str.{chars}
-use Rattle.std.proofs.lemmas.Str.{IsUtf8-string_bytes, chars-append}
+use Rattle.rx_terms.proofs.Common.{◌∙◌, ap, string_bytes, chars, IsUtf8-string_bytes, chars-append}
 use Rattle.rx_refs.proofs.recomposition.push_text.Goals as goal
 
 pub returns : goal.returns

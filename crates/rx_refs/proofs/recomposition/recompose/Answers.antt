@@ -1,9 +1,5 @@
-use Rattle.std.proofs.Common.{◌≡◌, ◌∙◌, ◌++◌, [], ap, refl, Option}
-use Rattle.std.specs.Prelude.{string_bytes, codes}
-use Rattle.std.specs.Str.{chars}
-use Rattle.std.proofs.lemmas.Str.{chars-nil}
-use Rattle.rx_terms.specs.Text.{Chars, seen_slice}
-use Rattle.rx_terms.proofs.CharLemmas.{ascii-chars}
+use Rattle.rx_terms.proofs.Common.{◌≡◌, ◌∙◌, ◌++◌, [], ap, refl, Option, string_bytes, chars, chars-nil, Chars, seen_slice, ascii-chars}
+use Rattle.std.specs.Prelude.{codes}
 use Rattle.rx_refs.specs.Parts.{delimited, recomposed}
 use Rattle.rx_refs.specs.Views.{seen_path}
 use Rattle.rx_refs.proofs.WholeLemmas.{components}

@@ -1,7 +1,4 @@
-use Rattle.std.proofs.Common.{◌≡◌, ◌∙◌, sym, ap, subst}
-use Rattle.std.specs.Prelude.{string_bytes}
-use Rattle.std.specs.Str.{chars}
-use Rattle.rx_terms.specs.Iri.{IsIri}
+use Rattle.rx_terms.proofs.Common.{◌≡◌, ◌∙◌, sym, ap, subst, string_bytes, chars, IsIri}
 use Rattle.rx_refs.specs.Resolve.{resolved}
 use Rattle.rx_refs.proofs.WholeLemmas.{resolved-iri}
 use Rattle.rx_refs.proofs.resolution.itself.Goals as goal

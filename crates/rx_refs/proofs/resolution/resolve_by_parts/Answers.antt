@@ -1,8 +1,4 @@
-use Rattle.std.proofs.Common.{◌≡◌, sym, subst, refl}
-use Rattle.std.specs.Prelude.{string_bytes}
-use Rattle.std.specs.Str.{chars}
-use Rattle.rx_terms.specs.Text.{Chars, trimmed}
-use Rattle.rx_terms.specs.Iri.{IsIri}
+use Rattle.rx_terms.proofs.Common.{◌≡◌, sym, subst, refl, string_bytes, chars, Chars, trimmed, IsIri}
 use Rattle.rx_terms.proofs.OkLemmas.{ok_is}
 use Rattle.rx_refs.specs.Parts.{Components, components_of, recomposed}
 use Rattle.rx_refs.specs.Resolve.{target, cleaned, resolved}

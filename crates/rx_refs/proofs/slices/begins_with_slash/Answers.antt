@@ -1,11 +1,8 @@
-use Rattle.std.proofs.Common.{◌≡◌, ◌≢◌, ℕ, List, ◌∷◌, [], ◌++◌, Bool, true, false, sym, ap, ◌∙◌, drop, lit<}
+use Rattle.rx_terms.proofs.Common.{◌≡◌, ◌≢◌, ℕ, List, ◌∷◌, [], ◌++◌, Bool, true, false, sym, ap, ◌∙◌, drop, lit<, chars, IsUtf8, IsCharBoundary, encode_ascii, begins_with}
 use Rattle.std.specs.Bool.{MatchBool}
-use Rattle.std.specs.Str.{chars, IsUtf8, IsCharBoundary}
 use Rattle.std.specs.Str.Pattern.{FindsCharPrefix}
 use Rattle.std.specs.Prelude.{Some, None}
-use Rattle.std.proofs.lemmas.Str.{encode_ascii}
 use Rattle.std.proofs.lemmas.Str.Pattern.{drop_at_char}
-use Rattle.rx_terms.specs.Text.{begins_with}
 use Rattle.rx_refs.proofs.CutLemmas.{past-slash, prefix-none}
 use Rattle.rx_refs.proofs.slices.begins_with_slash.Goals as goal
 

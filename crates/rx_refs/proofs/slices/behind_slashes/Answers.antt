@@ -1,8 +1,6 @@
-use Rattle.std.proofs.Common.{◌≡◌, ℕ, List, ◌∷◌, [], ◌++◌, Option, Some, None, MatchOption, false, sym, ap, ◌∙◌, refl, drop, length, ◌+◌, lit<}
-use Rattle.std.specs.Str.{chars, IsUtf8, encode_utf8_all}
+use Rattle.rx_terms.proofs.Common.{◌≡◌, ℕ, List, ◌∷◌, [], ◌++◌, Option, Some, None, MatchOption, false, sym, ap, ◌∙◌, refl, drop, length, ◌+◌, lit<, chars, IsUtf8, encode_ascii, begins_with}
+use Rattle.std.specs.Str.{encode_utf8_all}
 use Rattle.std.specs.Str.Pattern.{FindsTextPrefix}
-use Rattle.std.proofs.lemmas.Str.{encode_ascii}
-use Rattle.rx_terms.specs.Text.{begins_with}
 use Rattle.rx_refs.proofs.CutLemmas.{past-slash, prefix-none}
 use Rattle.rx_refs.proofs.slices.behind_slashes.Goals as goal
 use denote.Ref.{Bor}

@@ -1,5 +1,4 @@
-use Rattle.std.proofs.Common.{sym, ◌∙◌, ap}
-use Rattle.std.specs.Str.{chars}
+use Rattle.rx_terms.proofs.Common.{sym, ◌∙◌, ap, chars}
 use Rattle.rx_refs.specs.Parts.{before, behind}
 use Rattle.rx_refs.proofs.PartLemmas.{cut-at, uncut}
 use Rattle.rx_refs.proofs.slices.cut.Goals as goal

@@ -1,5 +1,4 @@
-use Rattle.std.proofs.Common.{◌≡◌, ℕ, ◌<◌, List, ◌++◌, ◌∷◌, false, Option, Some, None, MatchOption}
-use Rattle.std.specs.Str.{chars, IsUtf8}
+use Rattle.rx_terms.proofs.Common.{◌≡◌, ℕ, ◌<◌, List, ◌++◌, ◌∷◌, false, Option, Some, None, MatchOption, chars, IsUtf8}
 use Rattle.std.proofs.lemmas.Str.Pattern.{IsSplitOnceResult}
 use Rattle.rx_refs.specs.Dots.{holds}
 use Rattle.rx_refs.proofs.CutLemmas.{lacking, first-char}

@@ -1,5 +1,4 @@
-use Rattle.std.proofs.Common.{◌∙◌, sym, ap, Option}
-use Rattle.rx_terms.specs.Text.{Chars, seen_slice}
+use Rattle.rx_terms.proofs.Common.{◌∙◌, sym, ap, Option, Chars, seen_slice}
 use Rattle.rx_refs.specs.Views.{seen}
 use Rattle.rx_refs.proofs.TargetLemmas.{seen-some, seen-or}
 use Rattle.rx_refs.proofs.WholeLemmas.{components, target-absolute, target-network, target-same, target-relative}

@@ -1,7 +1,4 @@
-use Rattle.std.proofs.Common.{◌≡◌, ℕ, List, true, take, subst}
-use Rattle.std.specs.List.{list_all}
-use Rattle.std.specs.Str.{IsUtf8}
-use Rattle.std.proofs.lemmas.List.{take_rest}
+use Rattle.rx_terms.proofs.Common.{◌≡◌, ℕ, List, true, take, subst, list_all, IsUtf8, take_rest}
 use Rattle.rx_scan.specs.Plain.{is_plain}
 use Rattle.rx_scan.proofs.PlainLemmas.{ascii_plain, ascii_text, plain_more, text_more}
 use Rattle.rx_scan.proofs.FrontLemmas.{front_within}

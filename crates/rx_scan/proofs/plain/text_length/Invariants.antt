@@ -1,6 +1,4 @@
-use Rattle.std.proofs.Common.{◌≡◌, ◌-◌, ◌≤◌, true, length, take}
-use Rattle.std.specs.List.{list_all}
-use Rattle.std.specs.Str.{IsUtf8}
+use Rattle.rx_terms.proofs.Common.{◌≡◌, ◌-◌, ◌≤◌, true, length, take, list_all, IsUtf8}
 use Rattle.rx_scan.specs.Plain.{is_plain}
 use Rattle.rx_scan.proofs.plain.text_length.Given as goal
 

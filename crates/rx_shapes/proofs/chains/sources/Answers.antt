@@ -1,5 +1,4 @@
-use Rattle.std.proofs.Common.{◌∙◌, suc, ap, arith, length}
-use Rattle.std.proofs.lemmas.Option.{slice_get-get_or}
+use Rattle.rx_terms.proofs.Common.{◌∙◌, suc, ap, arith, length, slice_get-get_or}
 use Rattle.rx_shapes.specs.Chains.{source_row}
 use Rattle.rx_shapes.specs.Rows.{filed_in}
 use Rattle.rx_shapes.proofs.RowLemmas.{filing, filing_end, one_row_more}

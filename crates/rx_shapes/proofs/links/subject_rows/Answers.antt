@@ -1,7 +1,5 @@
-use Rattle.std.proofs.Common.{◌∙◌, ℕ, ap, arith, length}
-use Rattle.std.proofs.lemmas.List.{length-map}
-use Rattle.rx_model.specs.Terms.{Triple}
-use Rattle.rx_model.specs.Seen.{triple_seen, triples_seen}
+use Rattle.rx_terms.proofs.Common.{◌∙◌, ℕ, ap, arith, length, length-map}
+use Rattle.rx_model.proofs.Common.{Triple, triple_seen, triples_seen}
 use Rattle.rx_graph.specs.Rows.{empty_rows}
 use Rattle.rx_graph.specs.Resources.{number_in}
 use Rattle.rx_shapes.specs.Rows.{filed_in}

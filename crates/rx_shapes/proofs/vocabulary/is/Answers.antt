@@ -1,6 +1,5 @@
-use Rattle.std.proofs.Common.{◌∙◌, ap}
+use Rattle.rx_terms.proofs.Common.{◌∙◌, ap, same-ascii}
 use Rattle.std.specs.Str.{bytes_eq}
-use Rattle.rx_terms.proofs.CharLemmas.{same-ascii}
 use Rattle.rx_shapes.proofs.vocabulary.is.Goals as goal
 
 pub returns : goal.returns

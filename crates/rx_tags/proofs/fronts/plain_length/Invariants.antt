@@ -1,6 +1,4 @@
-use Rattle.std.proofs.Common.{◌≡◌, ◌-◌, ◌≤◌, true, length, take}
-use Rattle.std.specs.Prelude.{not}
-use Rattle.std.specs.List.{list_all}
+use Rattle.rx_terms.proofs.Common.{◌≡◌, ◌-◌, ◌≤◌, true, length, take, not, list_all}
 use Rattle.rx_tags.specs.Lanes.{ends_plain}
 use Rattle.rx_tags.proofs.fronts.plain_length.Given as goal
 

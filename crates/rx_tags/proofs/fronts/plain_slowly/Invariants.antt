@@ -1,5 +1,4 @@
-use Rattle.std.proofs.Common.{◌≡◌, ◌-◌, ◌≤◌, true, length, take}
-use Rattle.std.specs.List.{list_all}
+use Rattle.rx_terms.proofs.Common.{◌≡◌, ◌-◌, ◌≤◌, true, length, take, list_all}
 use Rattle.rx_tags.specs.Fronts.{is_plain}
 use Rattle.rx_tags.proofs.fronts.plain_slowly.Given as goal
 

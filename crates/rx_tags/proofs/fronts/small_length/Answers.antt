@@ -1,5 +1,4 @@
-use Rattle.std.proofs.Common.{◌≡◌, ℕ, ◌+◌, true, arith, refl, subst, take}
-use Rattle.std.specs.List.{list_all}
+use Rattle.rx_terms.proofs.Common.{◌≡◌, ℕ, ◌+◌, true, arith, refl, subst, take, list_all}
 use lib.Count.{count_trailing_zeros}
 use Rattle.rx_tags.specs.Fronts.{is_small}
 use Rattle.rx_tags.specs.Lanes.{ends_small}

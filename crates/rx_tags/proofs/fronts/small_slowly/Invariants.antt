@@ -1,5 +1,4 @@
-use Rattle.std.proofs.Common.{◌≡◌, true, take}
-use Rattle.std.specs.List.{list_all}
+use Rattle.rx_terms.proofs.Common.{◌≡◌, true, take, list_all}
 use Rattle.rx_tags.specs.Fronts.{is_small}
 use Rattle.rx_tags.proofs.fronts.small_slowly.Given as goal
 

@@ -1,5 +1,4 @@
-use Rattle.std.proofs.Common.{◌∙◌, arith, sym}
-use Rattle.rx_terms.proofs.Bools.{untrue}
+use Rattle.rx_terms.proofs.Common.{◌∙◌, arith, sym, untrue}
 use Rattle.rx_tags.proofs.RepeatLemmas.{alone, fit_at, two_apart}
 use Rattle.rx_tags.proofs.repeats.are_apart.Goals as goal
 

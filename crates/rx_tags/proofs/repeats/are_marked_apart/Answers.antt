@@ -1,5 +1,4 @@
-use Rattle.std.proofs.Common.{◌∙◌, ap, sym, arith, true, false, get_or, take}
-use Rattle.std.proofs.lemmas.List.{length-set}
+use Rattle.rx_terms.proofs.Common.{◌∙◌, ap, sym, arith, true, false, get_or, take, length-set}
 use Rattle.rx_tags.specs.Repeats.{mark_of}
 use Rattle.rx_tags.proofs.RepeatLemmas.{fit_at, apart_turn}
 use Rattle.rx_tags.proofs.MarkLemmas.{marks_turn, unmarked}

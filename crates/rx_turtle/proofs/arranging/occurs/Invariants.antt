@@ -1,6 +1,5 @@
-use Rattle.std.proofs.Common.{◌≡◌, nat_eq, map, drop}
-use Rattle.rx_model.specs.Sets.{contains}
-use Rattle.rx_model.specs.Terms.{same_node}
+use Rattle.rx_terms.proofs.Common.{◌≡◌, nat_eq, map, drop}
+use Rattle.rx_model.proofs.Common.{contains, same_node}
 use Rattle.rx_graph.specs.Resources.{resource_seen}
 use Rattle.rx_turtle.specs.declared.keys.By.TheVariants as by
 use Rattle.rx_turtle.specs.Groups.{key_by}

@@ -1,5 +1,4 @@
-use Rattle.std.proofs.Common.{map, arith, refl, append-nil, sym}
-use Rattle.std.proofs.lemmas.Option.{slice_get_read}
+use Rattle.rx_terms.proofs.Common.{map, arith, refl, append-nil, sym, slice_get_read}
 use Rattle.rx_turtle.proofs.GroupLemmas.{lent_seen}
 use Rattle.rx_turtle.proofs.ArrangedLemmas.{all_turn, all_end}
 use Rattle.rx_turtle.proofs.arranging.push_all.Goals as goal

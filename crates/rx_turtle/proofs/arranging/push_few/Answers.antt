@@ -1,5 +1,4 @@
-use Rattle.std.proofs.Common.{◌∙◌, ◌≡◌, ◌<◌, ◌++◌, ap, ap₂, map, length, arith, append-nil, sym}
-use Rattle.std.proofs.lemmas.List.{take-map, drop-map}
+use Rattle.rx_terms.proofs.Common.{◌∙◌, ◌≡◌, ◌<◌, ◌++◌, ap, ap₂, map, length, arith, append-nil, sym, take-map, drop-map}
 use Rattle.rx_turtle.specs.declared.keys.By.TheVariants as by
 use Rattle.rx_turtle.specs.Runs.{like_first}
 use Rattle.rx_turtle.proofs.GroupLemmas.{lent_seen}

@@ -1,5 +1,4 @@
-use Rattle.std.proofs.Common.{◌≡◌, map, length, arith, refl, append-nil, sym}
-use Rattle.std.proofs.lemmas.Option.{slice_get_read}
+use Rattle.rx_terms.proofs.Common.{◌≡◌, map, length, arith, refl, append-nil, sym, slice_get_read}
 use Rattle.rx_graph.specs.Resources.{resource_seen}
 use Rattle.rx_turtle.specs.declared.keys.By.TheVariants as by
 use Rattle.rx_turtle.proofs.GroupLemmas.{lent_seen, lent_at}

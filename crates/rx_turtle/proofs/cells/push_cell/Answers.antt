@@ -1,6 +1,5 @@
-use Rattle.std.proofs.Common.{◌≡◌, ◌∙◌, nat_eq}
-use Rattle.rx_model.specs.Terms.{Blank}
-use Rattle.rx_model.specs.Vocabulary.{rdf_first, rdf_rest}
+use Rattle.rx_terms.proofs.Common.{◌≡◌, ◌∙◌, nat_eq}
+use Rattle.rx_model.proofs.Common.{Blank, rdf_first, rdf_rest}
 use Rattle.rx_shapes.specs.Places.{places_of}
 use Rattle.rx_shapes.proofs.PlaceLemmas.{object_found}
 use Rattle.rx_turtle.specs.Due.{list_of}

@@ -1,5 +1,4 @@
-use Rattle.std.proofs.Common.{◌≡◌, ◌≤◌, true, take, map}
-use Rattle.std.specs.List.{list_all}
+use Rattle.rx_terms.proofs.Common.{◌≡◌, ◌≤◌, true, take, map, list_all}
 use Rattle.rx_graph.specs.Resources.{resource_seen}
 use Rattle.rx_turtle.specs.Groups.{has_key}
 use Rattle.rx_turtle.proofs.GroupLemmas.{lent_seen}

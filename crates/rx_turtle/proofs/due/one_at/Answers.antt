@@ -1,5 +1,4 @@
-use Rattle.std.proofs.Common.{refl}
-use Rattle.std.proofs.lemmas.Option.{slice_get_read}
+use Rattle.rx_terms.proofs.Common.{refl, slice_get_read}
 use Rattle.rx_turtle.proofs.GroupLemmas.{lent_at}
 use Rattle.rx_turtle.proofs.due.one_at.Goals as goal
 

@@ -1,6 +1,5 @@
-use Rattle.std.proofs.Common.{◌∙◌, ◌++◌, ap, map}
-use Rattle.std.proofs.lemmas.Result.{on_ok_weaker}
-use Rattle.rx_model.specs.Seen.{triple_seen}
+use Rattle.rx_terms.proofs.Common.{◌∙◌, ◌++◌, ap, map, on_ok_weaker}
+use Rattle.rx_model.proofs.Common.{triple_seen}
 use Rattle.rx_turtle.proofs.GroupLemmas.{lent_seen}
 use Rattle.rx_turtle.proofs.DueLemmas.{next_is}
 use Rattle.rx_turtle.proofs.due.push_next.Goals as goal

@@ -1,6 +1,5 @@
-use Rattle.std.proofs.Common.{ℕ, codes, refl, map, get_or}
-use Rattle.std.proofs.lemmas.Option.{slice_get-get_or}
-use Rattle.rx_model.specs.Terms.{Triple}
+use Rattle.rx_terms.proofs.Common.{ℕ, codes, refl, map, get_or, slice_get-get_or}
+use Rattle.rx_model.proofs.Common.{Triple}
 use Rattle.rx_notation.specs.Layout.{object_text}
 use Rattle.rx_turtle.proofs.GroupLemmas.{lent_seen, lent_at}
 use Rattle.rx_turtle.proofs.LineLemmas.{listed}

@@ -1,6 +1,5 @@
-use Rattle.std.proofs.Common.{map}
-use Rattle.std.proofs.lemmas.Option.{slice_get-get_or}
-use Rattle.rx_model.specs.Seen.{triples_seen}
+use Rattle.rx_terms.proofs.Common.{map, slice_get-get_or}
+use Rattle.rx_model.proofs.Common.{triples_seen}
 use Rattle.rx_turtle.proofs.GroupLemmas.{lent_seen}
 use Rattle.rx_turtle.proofs.SaidLemmas.{picked_turn}
 use Rattle.rx_turtle.proofs.said.picked.Goals as goal

@@ -1,5 +1,4 @@
-use Rattle.std.proofs.Common.{codes, refl}
-use Rattle.rx_terms.proofs.CharLemmas.{ascii-chars}
+use Rattle.rx_terms.proofs.Common.{codes, refl, ascii-chars}
 use Rattle.rx_turtle.proofs.token_texts.words_text.Goals as goal
 
 pub returns-in-Space : goal.returns-in-Space

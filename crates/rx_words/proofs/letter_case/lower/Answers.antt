@@ -1,6 +1,5 @@
-use Rattle.std.proofs.Common.{◌∙◌, ap, map, string_bytes}
-use Rattle.std.specs.Char.{to_ascii_lowercase}
-use Rattle.std.proofs.lemmas.Str.{IsUtf8-string_bytes}
+use Rattle.rx_terms.proofs.Common.{◌∙◌, ap, map, to_ascii_lowercase, IsUtf8-string_bytes}
+use Rattle.std.proofs.Common.{string_bytes}
 use Rattle.rx_terms.proofs.OkLemmas.{ok_is}
 use Rattle.rx_words.proofs.CaseLemmas.{lower-chars}
 use Rattle.rx_words.proofs.letter_case.lower.Goals as goal

@@ -1,6 +1,4 @@
-use Rattle.std.proofs.Common.{◌∙◌, ap, option_map}
-use Rattle.std.specs.Prelude.{is_some, option_and_then}
-use Rattle.rx_terms.specs.Text.{trimmed}
+use Rattle.rx_terms.proofs.Common.{◌∙◌, ap, option_map, is_some, option_and_then, trimmed}
 use Rattle.rx_refs.specs.Resolve.{cleaned}
 use Rattle.rx_rdfa.specs.Facts as the
 use Rattle.rx_names.specs.Views.{names_seen}

@@ -1,7 +1,4 @@
-use Rattle.std.proofs.Common.{◌∙◌, ◌++◌, ap}
-use Rattle.std.specs.Str.{chars}
-use Rattle.std.proofs.lemmas.Str.{chars-nil}
-use Rattle.rx_terms.specs.Text.{Chars}
+use Rattle.rx_terms.proofs.Common.{◌∙◌, ◌++◌, ap, chars, chars-nil, Chars}
 use Rattle.rx_terms.proofs.OkLemmas.{ok_is}
 use Rattle.rx_refs.specs.Resolve.{cleaned}
 use Rattle.rx_curie.proofs.makers.IriMaker.cleaned.Goals as goal

@@ -1,8 +1,5 @@
-use Rattle.std.proofs.Common.{◌∙◌, ap, sym, nat_eq}
-use Rattle.rx_model.specs.Sets.{distinct}
-use Rattle.rx_model.specs.Terms.{same_triple}
-use Rattle.rx_model.specs.Seen.{triples_seen}
-use Rattle.rx_model.proofs.Exact.{exact_numbers}
+use Rattle.rx_terms.proofs.Common.{◌∙◌, ap, sym, nat_eq}
+use Rattle.rx_model.proofs.Common.{distinct, same_triple, triples_seen, exact_numbers}
 use Rattle.rx_graph.proofs.SetLemmas.{still_numbered}
 use Rattle.rx_graph.proofs.graphs.Graph.of_keyed.Goals as goal
 

@@ -1,6 +1,5 @@
-use Rattle.std.proofs.Common.{◌∙◌, refl}
-use Rattle.rx_model.specs.Numbered.{blank_of_term}
-use Rattle.rx_model.specs.Seen.{term_seen}
+use Rattle.rx_terms.proofs.Common.{◌∙◌, refl}
+use Rattle.rx_model.proofs.Common.{blank_of_term, term_seen}
 use Rattle.rx_graph.proofs.NumberLemmas.{renamed_triple, subject_stays}
 use Rattle.rx_graph.proofs.numbering.Numbers.give.Goals as goal
 

@@ -1,7 +1,5 @@
-use Rattle.std.proofs.Common.{◌≡◌, filter_map, take, nat_eq}
-use Rattle.rx_model.specs.Terms.{same_triple}
-use Rattle.rx_model.specs.Sets.{with_all}
-use Rattle.rx_model.specs.Seen.{node_seen, triples_seen}
+use Rattle.rx_terms.proofs.Common.{◌≡◌, filter_map, take, nat_eq}
+use Rattle.rx_model.proofs.Common.{same_triple, with_all, node_seen, triples_seen}
 use Rattle.rx_graph.specs.Copying.{given_at}
 use Rattle.rx_graph.proofs.patterns.Patterns.give_all.Given as goal
 

@@ -1,10 +1,6 @@
-use Rattle.std.proofs.Common.{◌≡◌, ◌∙◌, ap, sym, subst, List, false, Some, None, nat_eq, option_map}
-use Rattle.std.proofs.lemmas.Result.{on_ok_weaker}
+use Rattle.rx_terms.proofs.Common.{◌≡◌, ◌∙◌, ap, sym, subst, List, false, Some, None, nat_eq, option_map, on_ok_weaker}
 use Rattle.rx_terms.specs.declared.triples.Triple.{Triple}
-use Rattle.rx_model.specs.Sets.{contains, with_one}
-use Rattle.rx_model.specs.Terms.{same_node, same_triple}
-use Rattle.rx_model.specs.Copied.{edges, is_referenced, live}
-use Rattle.rx_model.specs.Seen.{triple_seen, triples_seen, node_seen}
+use Rattle.rx_model.proofs.Common.{contains, with_one, same_node, same_triple, edges, is_referenced, live, triple_seen, triples_seen, node_seen}
 use Rattle.rx_graph.specs.Resources.{resource_seen}
 use Rattle.rx_graph.proofs.PatternLemmas.{live_is}
 use Rattle.rx_graph.proofs.PlaceLemmas.{treated_kept, treated_live, referenced_is}

@@ -1,5 +1,4 @@
-use Rattle.std.proofs.Common.{arith}
-use Rattle.std.proofs.lemmas.Result.{on_ok_weaker}
+use Rattle.rx_terms.proofs.Common.{arith, on_ok_weaker}
 use Rattle.rx_lists.proofs.RowLemmas.{as_many, grown_view}
 use Rattle.rx_lists.proofs.owner_lists.OwnerLists.grow.Goals as goal
 

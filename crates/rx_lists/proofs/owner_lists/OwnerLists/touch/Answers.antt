@@ -1,5 +1,4 @@
-use Rattle.std.proofs.Common.{None, refl}
-use Rattle.std.proofs.lemmas.Result.{on_ok_weaker}
+use Rattle.rx_terms.proofs.Common.{None, refl, on_ok_weaker}
 use Rattle.rx_lists.proofs.RowLemmas.{touched_old, touched_new}
 use Rattle.rx_lists.proofs.owner_lists.OwnerLists.touch.Goals as goal
 

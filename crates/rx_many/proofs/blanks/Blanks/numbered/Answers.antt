@@ -1,6 +1,5 @@
-use Rattle.std.proofs.Common.{◌∙◌}
-use Rattle.rx_model.specs.Numbered.{blank_of_term}
-use Rattle.rx_model.specs.Seen.{term_seen}
+use Rattle.rx_terms.proofs.Common.{◌∙◌}
+use Rattle.rx_model.proofs.Common.{blank_of_term, term_seen}
 use Rattle.rx_graph.proofs.NumberLemmas.{renamed_triple}
 use Rattle.rx_many.proofs.HereLemmas.{subject_stays}
 use Rattle.rx_many.proofs.blanks.Blanks.numbered.Goals as goal

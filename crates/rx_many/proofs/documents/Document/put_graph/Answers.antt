@@ -1,7 +1,5 @@
-use Rattle.std.proofs.Common.{map, refl, sym, subst}
-use Rattle.std.proofs.lemmas.Result.{on_ok_weaker}
-use Rattle.rx_terms.specs.Text.{Chars}
-use Rattle.rx_model.specs.Seen.{triples_seen}
+use Rattle.rx_terms.proofs.Common.{map, refl, sym, subst, on_ok_weaker, Chars}
+use Rattle.rx_model.proofs.Common.{triples_seen}
 use Rattle.rx_many.specs.Lines.{statement_at}
 use Rattle.rx_many.specs.Standing.{AreNew}
 use Rattle.rx_many.proofs.PageLemmas.{turned, in_graph}

@@ -1,6 +1,5 @@
-use Rattle.std.proofs.Common.{◌∙◌, sym, refl, inl}
-use Rattle.rx_model.specs.Numbered.{rename}
-use Rattle.rx_model.specs.Seen.{triple_seen}
+use Rattle.rx_terms.proofs.Common.{◌∙◌, sym, refl, inl}
+use Rattle.rx_model.proofs.Common.{rename, triple_seen}
 use Rattle.rx_many.specs.Blank.{has_blank}
 use Rattle.rx_many.specs.Lines.{at_place}
 use Rattle.rx_many.proofs.PageLemmas.{repeats, repeats_not, same_blanks}

@@ -1,5 +1,4 @@
-use Rattle.std.proofs.Common.{ℕ, List, map, subst, sym}
-use Rattle.std.specs.Str.{chars}
+use Rattle.rx_terms.proofs.Common.{ℕ, List, map, subst, sym, chars}
 use Rattle.rx_many.specs.Dataset.{DenotesPages}
 use Rattle.rx_many.specs.Seen.{page_seen}
 use Rattle.rx_many.specs.declared.pages.Page.{Page}

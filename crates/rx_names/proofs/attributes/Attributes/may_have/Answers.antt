@@ -1,5 +1,4 @@
-use Rattle.std.proofs.Common.{◌∙◌, sym, ap}
-use Rattle.rx_terms.proofs.CharLemmas.{ascii-chars}
+use Rattle.rx_terms.proofs.Common.{◌∙◌, sym, ap, ascii-chars}
 use Rattle.rx_names.specs.Marks.{has_mark}
 use Rattle.rx_names.proofs.attributes.Attributes.may_have.Goals as goal
 

@@ -1,8 +1,4 @@
-use Rattle.std.proofs.Common.{◌<◌, length, refl, subst, arith}
-use Rattle.std.specs.Str.{chars}
-use Rattle.std.proofs.lemmas.List.{take_all}
-use Rattle.std.proofs.lemmas.Option.{get_or_from_slice_get}
-use Rattle.rx_terms.specs.Text.{Chars}
+use Rattle.rx_terms.proofs.Common.{◌<◌, length, refl, subst, arith, chars, take_all, get_or_from_slice_get, Chars}
 use Rattle.rx_names.specs.Marks.{AreMarked}
 use Rattle.rx_names.specs.Tags.{tag_of}
 use Rattle.rx_names.proofs.MarkLemmas.{none_marked, one_taken, namespaces_taken}

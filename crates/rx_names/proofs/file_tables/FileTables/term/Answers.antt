@@ -1,7 +1,4 @@
-use Rattle.std.proofs.Common.{◌∙◌, ap, Option}
-use Rattle.std.specs.Option.{option_or}
-use Rattle.std.specs.Str.{chars}
-use Rattle.rx_terms.specs.Text.{Chars, lowered}
+use Rattle.rx_terms.proofs.Common.{◌∙◌, ap, Option, option_or, chars, Chars, lowered}
 use Rattle.rx_rdfa.specs.Names.{Context, value_at, term}
 use Rattle.rx_names.proofs.PutLemmas.{folded-value, first_lowered}
 use Rattle.rx_names.proofs.file_tables.FileTables.term.Goals as goal

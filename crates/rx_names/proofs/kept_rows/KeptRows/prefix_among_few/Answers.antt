@@ -1,6 +1,4 @@
-use Rattle.std.proofs.Common.{◌∙◌, sym, Some, None, arith}
-use Rattle.std.specs.Str.{chars}
-use Rattle.rx_terms.specs.Text.{lowered}
+use Rattle.rx_terms.proofs.Common.{◌∙◌, sym, Some, None, arith, chars, lowered}
 use Rattle.rx_names.specs.Rows.{prefix_in}
 use Rattle.rx_names.proofs.RowLemmas.{last-before}
 use Rattle.rx_names.proofs.kept_rows.KeptRows.prefix_among_few.Goals as goal

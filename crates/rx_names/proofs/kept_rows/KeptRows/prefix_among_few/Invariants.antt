@@ -1,6 +1,4 @@
-use Rattle.std.proofs.Common.{◌≡◌, ◌≤◌, take, length}
-use Rattle.std.specs.Str.{chars}
-use Rattle.rx_terms.specs.Text.{lowered}
+use Rattle.rx_terms.proofs.Common.{◌≡◌, ◌≤◌, take, length, chars, lowered}
 use Rattle.rx_names.specs.Rows.{last_of, prefix_in}
 use Rattle.rx_names.proofs.kept_rows.KeptRows.prefix_among_few.Given as goal
 

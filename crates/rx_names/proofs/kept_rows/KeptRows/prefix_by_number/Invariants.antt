@@ -1,5 +1,4 @@
-use Rattle.std.specs.Str.{chars}
-use Rattle.rx_terms.specs.Text.{lowered}
+use Rattle.rx_terms.proofs.Common.{chars, lowered}
 use Rattle.rx_names.specs.Numbers.{number_of}
 use Rattle.rx_names.specs.Rows.{prefix_in}
 use Rattle.rx_names.proofs.RowLemmas.{RowsTold, reach}

@@ -1,6 +1,4 @@
-use Rattle.std.proofs.Common.{ap, sym, ◌∙◌, take, map}
-use Rattle.std.proofs.lemmas.List.{take-map}
-use Rattle.std.specs.List.{list_all}
+use Rattle.rx_terms.proofs.Common.{ap, sym, ◌∙◌, take, map, take-map, list_all}
 use Rattle.rx_names.specs.Rows.{is_sound}
 use Rattle.rx_names.specs.Numbers.{row_number}
 use Rattle.rx_names.proofs.RowLemmas.{sound-front}

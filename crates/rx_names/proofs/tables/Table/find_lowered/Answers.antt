@@ -1,8 +1,6 @@
-use Rattle.std.proofs.Common.{refl, sym, rules}
+use Rattle.rx_terms.proofs.Common.{refl, sym, rules, chars, lowered}
 use Rattle.std.specs.Prelude.{encode_utf8_all}
-use Rattle.std.specs.Str.{chars}
 use Rattle.std.proofs.lemmas.Fn.{always_returns_same}
-use Rattle.rx_terms.specs.Text.{lowered}
 use Rattle.rx_names.specs.declared.tables.Mapping.{Mapping}
 use Rattle.rx_names.specs.Tables.{byte_order}
 use Rattle.rx_names.proofs.TableLemmas.{found_row, found_no_row}

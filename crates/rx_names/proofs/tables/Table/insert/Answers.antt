@@ -1,6 +1,4 @@
-use Rattle.std.proofs.Common.{◌∙◌, sym, ap, Option}
-use Rattle.std.specs.Prelude.{unwrap_or}
-use Rattle.std.specs.Str.{chars}
+use Rattle.rx_terms.proofs.Common.{◌∙◌, sym, ap, Option, unwrap_or, chars}
 use Rattle.rx_rdfa.specs.Names.{Table}
 use Rattle.rx_names.specs.Tables.{rise}
 use Rattle.rx_names.proofs.TableLemmas.{mappings}

@@ -1,5 +1,4 @@
-use Rattle.std.proofs.Common.{◌≡◌, ◌≤◌, ◌+◌, length}
-use Rattle.std.specs.Str.{chars}
+use Rattle.rx_terms.proofs.Common.{◌≡◌, ◌≤◌, ◌+◌, length, chars}
 use Rattle.rx_nest.specs.Levels as levels
 use Rattle.rx_nest.proofs.levels.Levels.end_omissible.Given as goal
 

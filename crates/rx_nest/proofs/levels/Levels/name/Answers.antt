@@ -1,5 +1,4 @@
-use Rattle.std.proofs.Common.{◌∙◌, sym, ap}
-use Rattle.std.proofs.lemmas.Str.{chars-nil}
+use Rattle.rx_terms.proofs.Common.{◌∙◌, sym, ap, chars-nil}
 use Rattle.rx_nest.specs.Levels.{Levels, name_under}
 use Rattle.rx_nest.proofs.levels.Levels.name.Goals as goal
 

@@ -1,5 +1,4 @@
-use Rattle.std.proofs.Common.{◌∙◌, ap, ℕ, false, length}
-use Rattle.std.specs.Prelude.{string_bytes}
+use Rattle.rx_terms.proofs.Common.{◌∙◌, ap, ℕ, false, length, string_bytes}
 use Rattle.rx_refs.proofs.BufferLemmas.{shown, shown-start}
 use Rattle.rx_refs.proofs.dots.GrownPath.behind.Goals as goal
 

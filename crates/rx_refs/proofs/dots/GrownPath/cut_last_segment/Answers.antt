@@ -1,7 +1,4 @@
-use Rattle.std.proofs.Common.{◌≡◌, ◌∙◌, ap, List, ℕ, drop, take}
-use Rattle.std.specs.Prelude.{string_bytes}
-use Rattle.std.specs.Str.{chars}
-use Rattle.rx_terms.specs.Text.{Chars}
+use Rattle.rx_terms.proofs.Common.{◌≡◌, ◌∙◌, ap, List, ℕ, drop, take, string_bytes, chars, Chars}
 use Rattle.rx_refs.specs.Dots.{without_last_segment}
 use Rattle.rx_refs.specs.Segments.{Grown}
 use Rattle.rx_refs.proofs.BufferLemmas.{shown, shown-cut}

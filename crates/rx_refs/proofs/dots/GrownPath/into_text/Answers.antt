@@ -1,6 +1,4 @@
-use Rattle.std.proofs.Common.{◌∙◌, ap, ◌++◌}
-use Rattle.std.specs.Prelude.{string_bytes}
-use Rattle.std.proofs.lemmas.Str.{IsUtf8-string_bytes}
+use Rattle.rx_terms.proofs.Common.{◌∙◌, ap, ◌++◌, string_bytes, IsUtf8-string_bytes}
 use Rattle.rx_refs.specs.Segments.{Grown}
 use Rattle.rx_refs.proofs.BufferLemmas.{shown-whole}
 use Rattle.rx_refs.proofs.dots.GrownPath.into_text.Goals as goal

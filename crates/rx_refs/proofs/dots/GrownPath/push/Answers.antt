@@ -1,6 +1,4 @@
-use Rattle.std.proofs.Common.{◌∙◌, ◌++◌, sym, ap}
-use Rattle.std.specs.Str.{chars}
-use Rattle.rx_terms.specs.Text.{Chars}
+use Rattle.rx_terms.proofs.Common.{◌∙◌, ◌++◌, sym, ap, chars, Chars}
 use Rattle.rx_refs.specs.Segments.{Grown, pushed}
 use Rattle.rx_refs.proofs.BufferLemmas.{grown_of, becomes, pushed-slash, pushed-bare}
 use Rattle.rx_refs.proofs.dots.GrownPath.push.Goals as goal

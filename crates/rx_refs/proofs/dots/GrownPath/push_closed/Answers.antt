@@ -1,7 +1,5 @@
-use Rattle.std.proofs.Common.{◌≡◌, ◌∙◌, ◌++◌, ◌∷◌, ◌<◌, refl, [], ap, sym, length, arith, length-append, rules}
-use Rattle.std.specs.Str.{chars}
+use Rattle.rx_terms.proofs.Common.{◌≡◌, ◌∙◌, ◌++◌, ◌∷◌, ◌<◌, refl, [], ap, sym, length, arith, length-append, rules, chars, Chars}
 use Rattle.std.proofs.lemmas.List.{append_assoc, append-nil}
-use Rattle.rx_terms.specs.Text.{Chars}
 use Rattle.rx_refs.specs.Resolve.{through_last_slash}
 use Rattle.rx_refs.proofs.DotLemmas.{takes-none, takes-segment}
 use Rattle.rx_refs.proofs.CutLemmas.{through-slash, through-none}

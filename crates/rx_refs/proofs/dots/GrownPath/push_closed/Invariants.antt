@@ -1,8 +1,6 @@
-use Rattle.std.proofs.Common.{◌≡◌, ◌++◌, length}
+use Rattle.rx_terms.proofs.Common.{◌≡◌, ◌++◌, length, chars, Chars}
 use denote.Text.{Utf8}
 use denote.Shadow.{shadow}
-use Rattle.std.specs.Str.{chars}
-use Rattle.rx_terms.specs.Text.{Chars}
 use Rattle.rx_refs.specs.Resolve.{through_last_slash}
 use Rattle.rx_refs.specs.Segments.{Takes}
 use Rattle.rx_refs.proofs.dots.GrownPath.push_closed.Given as goal

@@ -1,7 +1,4 @@
-use Rattle.std.proofs.Common.{◌∙◌, ap, ◌++◌, List, ℕ}
-use Rattle.std.specs.Prelude.{string_bytes}
-use Rattle.std.specs.Str.{chars}
-use Rattle.std.proofs.lemmas.Str.{IsUtf8-string_bytes}
+use Rattle.rx_terms.proofs.Common.{◌∙◌, ap, ◌++◌, List, ℕ, string_bytes, chars, IsUtf8-string_bytes}
 use Rattle.rx_refs.specs.Segments.{Grown}
 use Rattle.rx_refs.proofs.BufferLemmas.{shown, boundary-push, shown-push}
 use Rattle.rx_refs.proofs.dots.GrownPath.push_text.Goals as goal

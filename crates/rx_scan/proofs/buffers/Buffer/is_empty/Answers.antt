@@ -1,6 +1,4 @@
-use Rattle.std.proofs.Common.{◌∙◌, ap}
-use Rattle.std.specs.Str.{chars}
-use Rattle.rx_terms.specs.Text.{is_empty}
+use Rattle.rx_terms.proofs.Common.{◌∙◌, ap, chars, is_empty}
 use Rattle.rx_scan.specs.Buffers.{Buffered}
 use Rattle.rx_scan.proofs.BufferLemmas.{no_bytes}
 use Rattle.rx_scan.proofs.buffers.Buffer.is_empty.Goals as goal

@@ -1,5 +1,4 @@
-use Rattle.std.proofs.Common.{◌≡◌, ◌+◌, ◌-◌, ◌≤◌, length, take}
-use Rattle.std.specs.Prelude.{◌==◌, MatchBool}
+use Rattle.rx_terms.proofs.Common.{◌≡◌, ◌+◌, ◌-◌, ◌≤◌, length, take, ◌==◌, MatchBool}
 use Rattle.rx_scan.specs.declared.marks.TokenState.TheVariants as mark
 use Rattle.rx_scan.specs.WholeReferences.{TellsText}
 use Rattle.rx_scan.proofs.readers.Reader.say_more.Given as goal

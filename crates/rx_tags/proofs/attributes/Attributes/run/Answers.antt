@@ -1,5 +1,4 @@
-use Rattle.std.proofs.Common.{sym, ◌∙◌, arith, drop}
-use Rattle.std.proofs.lemmas.Str.{encodes-chars}
+use Rattle.rx_terms.proofs.Common.{sym, ◌∙◌, arith, drop, encodes-chars}
 use Rattle.rx_tags.proofs.Pieces.{piece_rest}
 use Rattle.rx_tags.proofs.attributes.Attributes.run.Goals as goal
 

@@ -1,7 +1,4 @@
-use Rattle.std.proofs.Common.{◌≡◌, ℕ, ◌+◌, List, true, take, drop, sym, subst}
-use Rattle.std.specs.List.{list_all}
-use Rattle.std.proofs.lemmas.List.{take_rest}
-use Rattle.rx_terms.specs.Ascii.{is_ascii}
+use Rattle.rx_terms.proofs.Common.{◌≡◌, ℕ, ◌+◌, List, true, take, drop, sym, subst, list_all, take_rest, is_ascii}
 use Rattle.rx_tags.proofs.TakeLemmas.{plain_ascii, small_ascii}
 use Rattle.rx_tags.proofs.pairs.Pairs.add_whole.Goals as goal
 

@@ -1,6 +1,5 @@
-use Rattle.std.proofs.Common.{◌∙◌, sym, arith, eqb-true}
+use Rattle.rx_terms.proofs.Common.{◌∙◌, sym, arith, eqb-true, chars-end}
 use Rattle.rx_tags.proofs.tag_name.TagName.is_empty.Goals as goal
-use Rattle.rx_terms.proofs.CharLemmas.{chars-end}
 
 pub returns : goal.returns
 returns c =

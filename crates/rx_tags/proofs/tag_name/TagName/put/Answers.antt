@@ -1,7 +1,4 @@
-use Rattle.std.proofs.Common.{◌∙◌, ◌++◌, ap, take}
-use Rattle.std.specs.Str.{chars}
-use Rattle.std.proofs.lemmas.Str.{chars-append, IsUtf8-append}
-use Rattle.rx_terms.proofs.CharLemmas.{ascii-chars, ascii-utf8}
+use Rattle.rx_terms.proofs.Common.{◌∙◌, ◌++◌, ap, take, chars, chars-append, IsUtf8-append, ascii-chars, ascii-utf8}
 use Rattle.rx_tags.proofs.TakeLemmas.{small_ascii}
 use Rattle.rx_tags.proofs.tag_name.TagName.put.Goals as goal
 

@@ -1,5 +1,4 @@
-use Rattle.std.proofs.Common.{sym, ◌∙◌}
-use Rattle.std.specs.Str.{chars}
+use Rattle.rx_terms.proofs.Common.{sym, ◌∙◌, chars}
 use Rattle.rx_tags.specs.Seen.{tag_seen}
 use Rattle.rx_tags.proofs.ValueLemmas.{found, passed}
 use Rattle.rx_tags.proofs.tags.Tag.attr.Goals as goal

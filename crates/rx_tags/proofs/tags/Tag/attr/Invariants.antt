@@ -1,6 +1,5 @@
-use Rattle.std.proofs.Common.{◌≡◌, drop}
-use Rattle.std.specs.Str.{chars}
-use Rattle.rx_grammar.specs.Tokens.{value_of}
+use Rattle.rx_terms.proofs.Common.{◌≡◌, drop, chars}
+use Rattle.rx_grammar.proofs.Common.{value_of}
 use Rattle.rx_tags.specs.Seen.{tag_seen}
 use Rattle.rx_tags.proofs.tags.Tag.attr.Given as goal
 

@@ -1,7 +1,6 @@
-use Rattle.std.proofs.Common.{◌∙◌, ap, sym}
-use Rattle.std.proofs.lemmas.Result.{on_ok_weaker}
+use Rattle.rx_terms.proofs.Common.{◌∙◌, ap, sym, on_ok_weaker}
 use Rattle.rx_terms.proofs.OkLemmas.{on_ok_both}
-use Rattle.rx_model.specs.Seen.{triple_seen}
+use Rattle.rx_model.proofs.Common.{triple_seen}
 use Rattle.rx_graph.specs.Resources.{resource_seen}
 use Rattle.rx_turtle.specs.Groups.{keys_in}
 use Rattle.rx_turtle.proofs.TakenLemmas.{keys_put, keys_begun}

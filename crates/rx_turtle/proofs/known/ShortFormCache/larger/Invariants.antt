@@ -1,5 +1,4 @@
-use Rattle.std.proofs.Common.{ℕ, Option}
-use Rattle.rx_terms.specs.Text.{Chars}
+use Rattle.rx_terms.proofs.Common.{ℕ, Option, Chars}
 use Rattle.rx_turtle.specs.Known.{AreEntries}
 use Rattle.rx_turtle.proofs.known.ShortFormCache.larger.Given as goal
 

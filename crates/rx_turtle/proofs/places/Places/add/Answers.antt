@@ -1,5 +1,4 @@
-use Rattle.std.proofs.Common.{◌∙◌, sym}
-use Rattle.std.proofs.lemmas.Result.{on_ok_weaker}
+use Rattle.rx_terms.proofs.Common.{◌∙◌, sym, on_ok_weaker}
 use Rattle.rx_turtle.proofs.PlaceLemmas.{put_named, row_of}
 use Rattle.rx_turtle.proofs.places.Places.add.Goals as goal
 

@@ -1,5 +1,4 @@
-use Rattle.std.proofs.Common.{◌≡◌, ◌≤◌, length}
-use Rattle.std.specs.Option.{option_or}
+use Rattle.rx_terms.proofs.Common.{◌≡◌, ◌≤◌, length, option_or}
 use Rattle.rx_turtle.specs.Shorts.{place_at, place_below}
 use Rattle.rx_turtle.proofs.shorts.Shorts.place_within.Given as goal
 

@@ -1,5 +1,4 @@
-use Rattle.std.proofs.Common.{◌∙◌, ap, sym, Option, ℕ, cond, nat_cmp}
-use Rattle.std.specs.Ordering.{is_eq}
+use Rattle.rx_terms.proofs.Common.{◌∙◌, ap, sym, Option, ℕ, cond, nat_cmp, is_eq}
 use Rattle.std.specs.BTreeMap.{get}
 use Rattle.rx_unique.specs.declared.places.Entry.{Entry}
 use Rattle.rx_unique.proofs.PlaceLemmas.{filed-less, filed-last, certain}

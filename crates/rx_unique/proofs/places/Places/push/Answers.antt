@@ -1,5 +1,4 @@
-use Rattle.std.proofs.Common.{◌≡◌, ◌∙◌, rules, ◌++◌, ◌∷◌, [], ap, nat_cmp, cond, length, List, ℕ, Some}
-use Rattle.std.specs.Ordering.{is_eq}
+use Rattle.rx_terms.proofs.Common.{◌≡◌, ◌∙◌, rules, ◌++◌, ◌∷◌, [], ap, nat_cmp, cond, length, List, ℕ, Some, is_eq}
 use Rattle.std.specs.BTreeMap.{get}
 use Rattle.rx_unique.specs.declared.places.Entry.{Entry}
 use Rattle.rx_unique.proofs.PlaceLemmas.{filed-more}

@@ -1,5 +1,4 @@
-use Rattle.std.proofs.Common.{◌∙◌, ◌<◌, ap, sym, rules, position, length, subst, get_or, List, ◌≡◌, false, refl}
-use Rattle.std.proofs.lemmas.Option.{slice_get_within}
+use Rattle.rx_terms.proofs.Common.{◌∙◌, ◌<◌, ap, sym, rules, position, length, subst, get_or, List, ◌≡◌, false, refl, slice_get_within}
 use Rattle.rx_unique.specs.Places.{last_place}
 use Rattle.rx_unique.specs.Hashes.{hash_of, quick_hash_of}
 use Rattle.rx_unique.proofs.SearchLemmas.{alone, free-none, sought-first, sought-before, sought-none, within, key-within, nearer}

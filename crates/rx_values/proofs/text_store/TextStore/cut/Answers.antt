@@ -1,6 +1,4 @@
-use Rattle.std.proofs.Common.{◌∙◌, ap, subst, List, ℕ}
-use Rattle.std.specs.Str.{chars, IsCharBoundary}
-use Rattle.std.proofs.lemmas.Str.{IsUtf8-take}
+use Rattle.rx_terms.proofs.Common.{◌∙◌, ap, subst, List, ℕ, chars, IsCharBoundary, IsUtf8-take}
 use Rattle.rx_values.proofs.CutLemmas.{boundary, kept, cut_there}
 use Rattle.rx_values.proofs.text_store.TextStore.cut.Goals as goal
 

@@ -1,5 +1,4 @@
-use Rattle.std.proofs.Common.{◌∙◌, ap, sym, length, encode_utf8_all}
-use Rattle.std.proofs.lemmas.Str.{encodes-chars}
+use Rattle.rx_terms.proofs.Common.{◌∙◌, ap, sym, length, encode_utf8_all, encodes-chars}
 use Rattle.rx_values.proofs.text_store.TextStore.mark.Goals as goal
 
 pub returns : goal.returns

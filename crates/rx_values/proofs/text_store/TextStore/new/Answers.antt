@@ -1,6 +1,4 @@
-use Rattle.std.proofs.Common.{◌∙◌, ap}
-use Rattle.std.specs.Str.{chars}
-use Rattle.std.proofs.lemmas.Str.{chars-nil}
+use Rattle.rx_terms.proofs.Common.{◌∙◌, ap, chars, chars-nil}
 use Rattle.rx_values.proofs.text_store.TextStore.new.Goals as goal
 
 pub returns : goal.returns

@@ -1,6 +1,4 @@
-use Rattle.std.proofs.Common.{◌∙◌, ap, ◌++◌, List, ℕ}
-use Rattle.std.specs.Str.{chars}
-use Rattle.std.proofs.lemmas.Str.{chars-append, IsUtf8-append}
+use Rattle.rx_terms.proofs.Common.{◌∙◌, ap, ◌++◌, List, ℕ, chars, chars-append, IsUtf8-append}
 use Rattle.rx_values.proofs.text_store.TextStore.push.Goals as goal
 
 pub invariant_of-self-2 : goal.invariant_of-self-2

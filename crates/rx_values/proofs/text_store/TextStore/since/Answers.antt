@@ -1,5 +1,4 @@
-use Rattle.std.proofs.Common.{◌∙◌, ap, refl}
-use Rattle.std.specs.Str.{chars}
+use Rattle.rx_terms.proofs.Common.{◌∙◌, ap, refl, chars}
 use Rattle.rx_values.proofs.CutLemmas.{boundary, behind, cut_there}
 use Rattle.rx_values.proofs.text_store.TextStore.since.Goals as goal
 

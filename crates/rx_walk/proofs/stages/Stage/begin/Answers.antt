@@ -1,5 +1,4 @@
-use Rattle.std.proofs.Common.{[], ◌∷◌, refl, sym, subst}
-use Rattle.std.proofs.lemmas.Result.{on_ok_weaker}
+use Rattle.rx_terms.proofs.Common.{[], ◌∷◌, refl, sym, subst, on_ok_weaker}
 use Rattle.rx_rdfa.specs.Calls.{Enter}
 use Rattle.rx_curie.specs.Seen.{facts_seen}
 use Rattle.rx_names.specs.Tags.{tag_of}

@@ -1,5 +1,4 @@
-use Rattle.std.proofs.Common.{[], ◌∷◌, refl, sym, subst}
-use Rattle.std.proofs.lemmas.Result.{on_ok_weaker}
+use Rattle.rx_terms.proofs.Common.{[], ◌∷◌, refl, sym, subst, on_ok_weaker}
 use Rattle.rx_rdfa.specs.Calls.{Leave}
 use Rattle.rx_base.specs.Seekings.{seek_finished}
 use Rattle.rx_walk.specs.Stages.{MayTake, Tells}

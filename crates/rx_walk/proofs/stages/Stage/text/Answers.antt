@@ -1,6 +1,4 @@
-use Rattle.std.proofs.Common.{refl, sym, subst}
-use Rattle.std.specs.Str.{chars}
-use Rattle.std.proofs.lemmas.Result.{on_ok_weaker}
+use Rattle.rx_terms.proofs.Common.{refl, sym, subst, chars, on_ok_weaker}
 use Rattle.rx_walk.specs.CallsOf.{singles}
 use Rattle.rx_walk.specs.Stages.{Tells}
 use Rattle.rx_walk.specs.declared.stages.Stage.TheVariants as stage
