@@ -63,6 +63,7 @@ seen-option f one None None e = refl
 seen-option f one None (Some b) e = absurd (cc e)
 seen-option f one (Some a) None e = absurd (cc e)
 seen-option {A} {B} f one (Some a) (Some b) e = ap Some (one a b (some-same e))
+
 facts : (a b : CodeFacts) → facts_seen a ≡ facts_seen b → a ≡ b
 facts a b e =
     let element = kinds a.element b.element (ap (λ (f : Facts). f.kind) e) in

@@ -59,6 +59,7 @@ same-scheme text =
     let there : list_all is_scheme_char text ≡ false = by_test (list_all is_scheme_char text) (λ s. let g : true ≡ false = sym t ∙ scheme-clean text s in absurd (cc g)) (λ s. s) in
     here ∙ sym (ap (λ b. begins_with_letter text && b) there ∙ last-false (begins_with_letter text)))
     (λ t. ap is_scheme (uncleaned text t))
+
 pub cleaned-scheme-same : (text : Chars) → has_scheme (cleaned text) ≡ has_scheme text
 cleaned-scheme-same text = go (behind 58 text) refl where
   go : (o : Option Chars) → behind 58 text ≡ o → has_scheme (cleaned text) ≡ has_scheme text

@@ -73,6 +73,7 @@ statement_new old new s place k fresh at same = record {
   at = slice_get-map statement_seen new place ∙ ap (option_map statement_seen) at ∙ ap (λ z. Some (statement_seen z)) (sym ((exact_statements s k).0 same));
   within = omega (arith, slice_get_within new place k at, length_map statement_seen new);
 }
+
 pub statement_old : (old : List Statement) (s : Statement) → not (list_any (statement_eq s) old) ≡ false → contains same_line (map statement_seen old) (statement_seen s) ≡ true
 statement_old old s known = sym (statement_among old s) ∙ not_false (list_any (statement_eq s) old) known
   where

@@ -24,6 +24,7 @@ pub any_among : (list : List Chars) (a : Chars) → Among list a → list_any (i
 any_among [] a h = absurd h
 any_among (x ∷ list) a (inl e) = ap (λ b. b || list_any (iri_eq a) list) ((exact_iris a x).1 (sym e))
 any_among (x ∷ list) a (inr h) = ap (λ b. iri_eq a x || b) (any_among list a h) ∙ or-true (iri_eq a x)
+
 pub not_among : (list : List Chars) (a : Chars) → list_any (iri_eq a) list ≡ false → Among list a → ⊥
 not_among list a h m = true≢false (sym (any_among list a m) ∙ h)
 

@@ -37,6 +37,7 @@ sound-mapping name low iri b e f t =
     let same : lowered low ≡ low = ap lowered e ∙ lowered-lowered name ∙ sym e in
     let whole : counts (low, iri) ≡ true = sym f ∙ t in
     and_from _ _ ((bytes_eq-Decides (lowered low) low).1 same) (and_right _ (has_scheme iri) whole)
+
 -- Attributes `xmlns:NAME`
 
 pub xmlns-chars : chars (codes "xmlns:") ≡ codes "xmlns:"

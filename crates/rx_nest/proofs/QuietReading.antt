@@ -36,6 +36,7 @@ unlike : (held : List ℕ) (byte c d : ℕ) → (byte == d) ≡ false → answer
 unlike held byte c d q e n l =
     by_test {G = (as_line_end c == d) ≡ false} (as_line_end c == d)
     (λ t. absurd (let same : c ≡ d = begins_line c d (eqb-true (as_line_end c) d t) n in let is : byte ≡ d = last_byte held byte d (e ∙ ap Char same) l in let w : true ≡ false = sym (equal d) ∙ (ap (λ (x : ℕ). x == d) (sym is) ∙ q) in cc)) (λ f. f)
+
 abbrev Plain : Verdict → Type 0
 Plain goes_on = ⊥
 Plain (whole token) = (t : Tag) → token ≡ tag t → ⊥

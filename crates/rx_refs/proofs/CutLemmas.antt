@@ -18,6 +18,7 @@ use Rattle.rx_words.proofs.EndLemmas.{begins-front}
 holds-at : (front rest : Chars) → holds 47 (front ++ 47 ∷ rest) ≡ true
 holds-at [] rest = refl
 holds-at (c ∷ front) rest = rw (holds-at front rest) (or-true (c == 47))
+
 holds-rest : (c : ℕ) (text : Chars) → holds 47 (c ∷ text) ≡ false → holds 47 text ≡ false
 holds-rest c text h = by_test (c == 47) (λ t. let g : true ≡ false = rw t at h in absurd (cc g)) (λ t. rw t at h)
 

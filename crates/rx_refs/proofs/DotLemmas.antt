@@ -85,11 +85,13 @@ begins-open [] (c ∷ segment) k =
     let other : (47 == c) ≡ false = let e = (test_false c 47 segment k).0 in grind (arith, nat_tests) in
     rw other refl
 begins-open (a ∷ w) (c ∷ segment) k = rw (begins-open w segment (test_false c 47 segment k).1) (and-false (a == c))
+
 is-closed : (w segment rest : Chars) → holds 47 w ≡ false → is w (segment ++ 47 ∷ rest) ≡ false
 is-closed [] [] rest h = refl
 is-closed [] (c ∷ segment) rest h = refl
 is-closed (a ∷ w) [] rest h = rw (test_false a 47 w h).0 refl
 is-closed (a ∷ w) (c ∷ segment) rest h = rw (is-closed w segment rest (test_false a 47 w h).1) (and-false (a == c))
+
 -- One pass on a segment that is no dot segment
 
 step-slashed : (segment rest output : Chars) → holds 47 segment ≡ false → is (codes ".") segment ≡ false → is (codes "..") segment ≡ false

@@ -153,6 +153,7 @@ cut-token r n u e l first =
       filled = filled-chars (chars front) (ap (list_all is_filled) (encodes-chars front front_utf8) ∙ filled);
       ends = behind;
     }
+
 first-filled : (s r : List ℕ) → IsTrimAsciiStart s r → 0 < length r → is_ascii_whitespace (get_or r 0 0) ≡ false
 first-filled s r t l =
     let m = t.0 in

@@ -65,6 +65,7 @@ first-white c cs bs e h =
     let byte = byte_from_char bs (encode_utf8_all cs) c (sym e) small in
     let white : is_ascii_whitespace (get_or bs 0 0) ≡ true = ap is_ascii_whitespace byte ∙ same-white c ∙ t in
     absurd (not_both_ways _ white h)) (λ t. t)
+
 last-white : (front : List ℕ) (last : ℕ) (bs : List ℕ) → encode_utf8_all (front ++ last ∷ []) ≡ bs → is_ascii_whitespace (get_or bs (length bs - 1) 0) ≡ false → is_white_space last ≡ false
 last-white front last bs e h =
     by_test (is_white_space last) (λ t.
@@ -74,6 +75,7 @@ last-white front last bs e h =
     let byte : get_or bs (length bs - 1) 0 ≡ last = ap (λ (x : List ℕ). get_or x (length bs - 1) 0) bytes ∙ get_or_push (encode_utf8_all front) last 0 (length bs - 1) size in
     let white : is_ascii_whitespace (get_or bs (length bs - 1) 0) ≡ true = ap is_ascii_whitespace byte ∙ same-white last ∙ t in
     absurd (not_both_ways _ white h)) (λ t. t)
+
 pub nonempty-bytes : (c : ℕ) (cs bs : List ℕ) → encode_utf8_all (c ∷ cs) ≡ bs → 0 < length bs
 nonempty-bytes c cs bs e = omega (arith, ap length e, length-append (encode_utf8 c) (encode_utf8_all cs), length-encode c, len_utf8_bounds c)
 
