@@ -1,4 +1,6 @@
 use rx_chars::{Newlines, Syntax, Utf8, Utf8Step, is_nc, is_nc_start, named, numeric};
+use std::alloc::Global;
+use std::process::Abort;
 
 // What the last of the bytes answers.
 fn last_answer(bytes: &[u8]) -> Utf8Step {
@@ -62,19 +64,24 @@ const NEWLINES: &[(&[u8], &str)] = &[
     (b"\r\xC2\x85\n", "\n\u{85}\n"),
 ];
 
+fn characters_of(rt: &impl Abort, alloc: Global, bytes: &[u8]) -> String {
+    let mut utf8 = Utf8::new();
+    let mut newlines = Newlines::new();
+    let mut read = String::new(alloc);
+    for byte in bytes {
+        if let Utf8Step::Char(c) = utf8.step(*byte) {
+            if let Some(given) = newlines.step(c) {
+                read.push(given).expect(rt, "memory");
+            }
+        }
+    }
+    read
+}
+
 #[test]
 fn characters_and_newlines(rt: HostRuntime) {
     for (bytes, text) in NEWLINES {
-        let mut utf8 = Utf8::new();
-        let mut newlines = Newlines::new();
-        let mut read = String::new(rt.alloc());
-        for byte in *bytes {
-            if let Utf8Step::Char(c) = utf8.step(*byte) {
-                if let Some(given) = newlines.step(c) {
-                    read.push(given).expect(&rt, "memory");
-                }
-            }
-        }
+        let read = characters_of(&rt, rt.alloc(), *bytes);
         assert!(rt; read.as_str() == *text);
     }
 }

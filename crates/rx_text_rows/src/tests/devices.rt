@@ -1,7 +1,10 @@
 //! What no clause says of the adapters, and that calls succeed where memory is there.
-use rx_ports::{Failed, FileList, FileShelf, MemShelf, MemSink, Shelf, Sink, StdSink, put_all};
+use crate::tests::nquads::sink;
+use rx_ports::{Failed, FileList, FileShelf, MemShelf, Shelf, Sink, StdSink, put_all};
+use std::alloc::Global;
 use std::fs;
 use std::io::{self, ErrorKind, Write};
+use std::process::Abort;
 
 /// A writer that takes a few bytes at a time, and records its calls, `w` for a write and `f` for a flush. Its flushes fail
 /// where it is broken.
@@ -153,17 +156,26 @@ fn file_shelf_fills_a_large_buffer(rt: HostRuntime) {
     fs::remove_file(&rt, name).expect(&rt, "a file");
 }
 
+fn two_files(rt: &impl Abort, alloc: Global) -> FileList {
+    let mut files = FileList::new(alloc);
+    files.push("page", b"first").expect(rt, "memory");
+    files.push("page", b"second").expect(rt, "memory");
+    files
+}
+
 #[test]
-fn memory_is_enough(rt: HostRuntime) {
-    let mut files = FileList::new(rt.alloc());
-    files.push("page", b"first").expect(&rt, "memory");
-    files.push("page", b"second").expect(&rt, "memory");
+fn memory_has_a_shelf(rt: HostRuntime) {
+    let files = two_files(&rt, rt.alloc());
     let mut shelf = MemShelf::new(files, 4, Vec::new(rt.alloc()));
-    let mut buf = [0u8; 9];
-    assert!(rt; shelf.start_file("page") == Ok(()) && shelf.read(&mut buf) == Ok(4));
-    assert!(rt; buf.starts_with(b"firs"));
+    let started = is_answered(&mut shelf, Call::Start("page", Ok(())));
+    let read = is_answered(&mut shelf, Call::Read(9, Ok(4), "firs"));
     drop(shelf);
-    let mut sink = MemSink::with_room(rt.alloc(), 6, 4, Vec::new(rt.alloc())).expect(&rt, "memory");
+    assert!(rt; started && read);
+}
+
+#[test]
+fn memory_has_a_sink(rt: HostRuntime) {
+    let mut sink = sink(&rt, rt.alloc(), 6, 4);
     assert!(rt; put_all(&mut sink, b"seventh") == Err(Failed));
     assert!(rt; sink.held() == b"sevent".as_slice());
     drop(sink);

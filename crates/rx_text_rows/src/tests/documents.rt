@@ -1,6 +1,9 @@
 //! Documents of several pages.
-use crate::tests::nquads::{Object, Row, Subject, graph, iri, list};
+use crate::tests::nquads::{Object, Row, Subject, check_text, graph, iri, list};
+use rx_graph::Graph;
 use rx_many::{Fault, Kind, Many};
+use std::alloc::Global;
+use std::process::Abort;
 
 const PAGE: &[Row] = &[
     (Subject::Blank(3), "x:p", Object::Plain("1")),
@@ -16,19 +19,28 @@ const FAULT: Fault = Fault {
     at: 7,
 };
 
+fn add(rt: &impl Abort, alloc: Global, many: &mut Many, address: &str, graph: &Graph) {
+    let address = iri(rt, alloc, address);
+    many.add(alloc, &address, graph).expect(rt, "memory");
+    drop(address);
+}
+
+fn refuse(rt: &impl Abort, alloc: Global, many: &mut Many, address: &str) {
+    let address = iri(rt, alloc, address);
+    many.refuse(&address, FAULT).expect(rt, "memory");
+    drop(address);
+}
+
 /// The text of one graph at two addresses, and between them of a page that is refused.
 #[test]
 fn pages_are_gathered(rt: HostRuntime) {
     let graph = graph(&rt, rt.alloc(), list(&rt, rt.alloc(), PAGE));
     let mut many = Many::new(rt.alloc()).expect(&rt, "memory");
-    let page = iri(&rt, rt.alloc(), "x:page#part");
-    let refused = iri(&rt, rt.alloc(), "x:bad");
-    let other = iri(&rt, rt.alloc(), "x:other");
-    many.add(rt.alloc(), &page, &graph).expect(&rt, "memory");
-    many.refuse(&refused, FAULT).expect(&rt, "memory");
-    many.add(rt.alloc(), &other, &graph).expect(&rt, "memory");
+    add(&rt, rt.alloc(), &mut many, "x:page#part", &graph);
+    refuse(&rt, rt.alloc(), &mut many, "x:bad");
+    add(&rt, rt.alloc(), &mut many, "x:other", &graph);
     drop(graph);
     let text = many.text(rt.alloc()).expect(&rt, "memory");
     drop(many);
-    assert!(rt; text.as_slice() == WANTED.as_bytes());
+    check_text(&rt, text.as_slice(), WANTED);
 }

@@ -62,37 +62,32 @@ fn has(graph: &Graph, count: usize, at: usize, subject: u64, object: u64) -> boo
     triple.subject == Node::Blank(Blank(subject)) && triple.object == Term::Blank(Blank(object))
 }
 
-/// A shape, how many links there are, how many triples are left of them once patterns are copied, and one of these by its
-/// place.
-const COPIED: &[(Shape, u64, usize, usize, (u64, u64))] = &[
-    (Shape::Repeats, 10_000, 1_000, 999, (1, 5_000)),
-    (Shape::Many, 12_000, 10_000, 9_999, (9_999, 4_999)),
+/// A shape, how many links there are, whether the graph's blank nodes are numbered once patterns are copied, how many
+/// triples are left then, and one of these by its place. Numbers that are right stay.
+const LARGE: &[(Shape, u64, bool, usize, usize, (u64, u64))] = &[
+    (Shape::Repeats, 10_000, false, 1_000, 999, (1, 5_000)),
+    (Shape::Repeats, 10_000, true, 1_000, 999, (1_000, 1)),
+    (Shape::Many, 12_000, false, 10_000, 9_999, (9_999, 4_999)),
+    (Shape::Crossed, 1_000, true, 1_000, 1, (2, 3)),
+    (Shape::Chain(0), 100, true, 100, 99, (99, 100)),
+    (Shape::Chain(1), 100, true, 100, 99, (99, 100)),
 ];
 
-/// The same once blank nodes are numbered too. Numbers that are right stay.
-const NUMBERED: &[(Shape, u64, usize, usize, (u64, u64))] = &[
-    (Shape::Repeats, 10_000, 1_000, 999, (1_000, 1)),
-    (Shape::Crossed, 1_000, 1_000, 1, (2, 3)),
-    (Shape::Chain(0), 100, 100, 99, (99, 100)),
-    (Shape::Chain(1), 100, 100, 99, (99, 100)),
-];
+fn copied(rt: &impl Abort, alloc: Global, triples: TripleList) -> Graph {
+    copy_patterns_owned(alloc, triples).expect(rt, "memory")
+}
 
 #[test]
 fn repeats_vanish_and_numbers_follow(rt: HostRuntime) {
-    for (shape, links_count, count, at, ends) in COPIED {
+    for (shape, links_count, is_numbered, count, at, ends) in LARGE {
         let triples = links(&rt, rt.alloc(), *shape, *links_count);
-        let copied = copy_patterns_owned(rt.alloc(), triples).expect(&rt, "memory");
-        assert!(rt; has(&copied, *count, *at, ends.0, ends.1));
-        drop(copied);
-    }
-    for (shape, links_count, count, at, ends) in NUMBERED {
-        let numbered = graph(
-            &rt,
-            rt.alloc(),
-            links(&rt, rt.alloc(), *shape, *links_count),
-        );
-        assert!(rt; has(&numbered, *count, *at, ends.0, ends.1));
-        drop(numbered);
+        let graph = if *is_numbered {
+            graph(&rt, rt.alloc(), triples)
+        } else {
+            copied(&rt, rt.alloc(), triples)
+        };
+        assert!(rt; has(&graph, *count, *at, ends.0, ends.1));
+        drop(graph);
     }
 }
 
@@ -135,7 +130,7 @@ fn patterns(rt: &impl Abort, alloc: Global) -> TripleList {
 // The last pattern's copy triple isn't live. It is copied with the 2,000 others.
 #[test]
 fn a_long_chain_is_copied(rt: HostRuntime) {
-    let graph = copy_patterns_owned(rt.alloc(), patterns(&rt, rt.alloc())).expect(&rt, "memory");
+    let graph = copied(&rt, rt.alloc(), patterns(&rt, rt.alloc()));
     assert!(rt; graph.len() == 2_001 && !graph.is_empty());
     drop(graph);
 }

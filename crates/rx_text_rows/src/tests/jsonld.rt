@@ -1,8 +1,9 @@
 //! Worked rows: lists of triples, and the compact text of their graph's JSON-LD.
-use crate::tests::nquads::{Object, Row, Subject, list};
-use rx_graph::Graph;
+use crate::tests::nquads::{Object, Row, Subject, check_text, graph_of};
 use rx_jsonld::value;
 use rx_shapes::Shapes;
+use std::alloc::Global;
+use std::process::Abort;
 
 const FIRST: &str = "http://www.w3.org/1999/02/22-rdf-syntax-ns#first";
 
@@ -89,16 +90,20 @@ const GRAPHS: &[(&[Row], &str)] = &[
     (TYPED_BY_A_LIST, TYPED_BY_A_LIST_TEXT),
 ];
 
+fn check(rt: &impl Abort, alloc: Global, rows: &[Row], wanted: &str) {
+    let graph = graph_of(rt, alloc, rows);
+    let shapes = Shapes::of(alloc, &graph).expect(rt, "memory");
+    let value = value(alloc, &graph, &shapes).expect(rt, "memory");
+    drop(shapes);
+    drop(graph);
+    let text = value.to_vec(alloc).expect(rt, "memory");
+    drop(value);
+    check_text(rt, text.as_slice(), wanted);
+}
+
 #[test]
 fn graphs_are_values(rt: HostRuntime) {
     for (rows, wanted) in GRAPHS {
-        let graph = Graph::of_owned(rt.alloc(), list(&rt, rt.alloc(), *rows)).expect(&rt, "memory");
-        let shapes = Shapes::of(rt.alloc(), &graph).expect(&rt, "memory");
-        let value = value(rt.alloc(), &graph, &shapes).expect(&rt, "memory");
-        let text = value.to_vec(rt.alloc()).expect(&rt, "memory");
-        drop(value);
-        drop(shapes);
-        drop(graph);
-        assert!(rt; text.as_slice() == wanted.as_bytes(), "not {wanted}");
+        check(&rt, rt.alloc(), *rows, *wanted);
     }
 }

@@ -1,10 +1,11 @@
 //! Worked rows: lists of triples, and their graph's nested text in Turtle.
-use crate::tests::nquads::{Object, Row, Subject, list};
-use rx_graph::Graph;
+use crate::tests::nquads::{Object, Row, Subject, check_text, graph_of, sink};
+use crate::tests::turtle::standard;
 use rx_names::Context;
-use rx_ports::MemSink;
 use rx_shapes::Shapes;
 use rx_turtle::{WriteError, nested, write_nested};
+use std::alloc::Global;
+use std::process::Abort;
 
 const TYPE: &str = "http://www.w3.org/1999/02/22-rdf-syntax-ns#type";
 
@@ -167,39 +168,48 @@ const GRAPHS: &[(&[Row], &str)] = &[
     (ABOUT_NIL, ABOUT_NIL_TEXT),
 ];
 
+fn check(rt: &impl Abort, alloc: Global, rows: &[Row], context: &Context, wanted: &str) {
+    let graph = graph_of(rt, alloc, rows);
+    let shapes = Shapes::of(alloc, &graph).expect(rt, "memory");
+    let written = nested(alloc, &graph, &shapes, context).expect(rt, "memory");
+    drop(shapes);
+    drop(graph);
+    check_text(rt, written.as_slice(), wanted);
+}
+
 #[test]
 fn graphs_are_nested(rt: HostRuntime) {
-    let context = Context::standard(rt.alloc()).expect(&rt, "memory");
+    let context = standard(&rt, rt.alloc());
     for (rows, wanted) in GRAPHS {
-        let graph = Graph::of_owned(rt.alloc(), list(&rt, rt.alloc(), *rows)).expect(&rt, "memory");
-        let shapes = Shapes::of(rt.alloc(), &graph).expect(&rt, "memory");
-        let written = nested(rt.alloc(), &graph, &shapes, &context).expect(&rt, "memory");
-        drop(shapes);
-        drop(graph);
-        assert!(rt; written.as_slice() == wanted.as_bytes(), "not {wanted}");
+        check(&rt, rt.alloc(), *rows, &context, *wanted);
     }
     drop(context);
 }
 
-/// Rooms of a sink, what comes of the product that is written to it, and how many bytes it holds then.
-const ROOMS: &[(usize, Result<(), WriteError>, usize)] = &[
-    (1_000, Ok(()), PRODUCT_TEXT.len()),
-    (100, Err(WriteError::Failed), 100),
-];
+/// What comes of the product that is written to a sink with so much room, and how many bytes it holds then.
+fn sent(
+    rt: &impl Abort,
+    alloc: Global,
+    context: &Context,
+    room: usize,
+) -> (Result<(), WriteError>, usize) {
+    let graph = graph_of(rt, alloc, PRODUCT);
+    let shapes = Shapes::of(alloc, &graph).expect(rt, "memory");
+    let mut sink = sink(rt, alloc, room, 50);
+    let answer = write_nested(alloc, &graph, &shapes, context, &mut sink);
+    let held = sink.held().len();
+    drop(sink);
+    drop(shapes);
+    drop(graph);
+    (answer, held)
+}
 
 #[test]
 fn a_text_is_sent(rt: HostRuntime) {
-    let context = Context::standard(rt.alloc()).expect(&rt, "memory");
-    let graph = Graph::of_owned(rt.alloc(), list(&rt, rt.alloc(), PRODUCT)).expect(&rt, "memory");
-    let shapes = Shapes::of(rt.alloc(), &graph).expect(&rt, "memory");
-    for (room, answer, held) in ROOMS {
-        let no_bytes = Vec::new(rt.alloc());
-        let mut sink = MemSink::with_room(rt.alloc(), *room, 50, no_bytes).expect(&rt, "memory");
-        let written = write_nested(rt.alloc(), &graph, &shapes, &context, &mut sink);
-        assert!(rt; written == *answer && sink.held().len() == *held);
-        drop(sink);
-    }
-    drop(shapes);
-    drop(graph);
+    let context = standard(&rt, rt.alloc());
+    let whole = sent(&rt, rt.alloc(), &context, 1_000);
+    let cut = sent(&rt, rt.alloc(), &context, 100);
     drop(context);
+    assert!(rt; whole == (Ok(()), PRODUCT_TEXT.len()));
+    assert!(rt; cut == (Err(WriteError::Failed), 100));
 }

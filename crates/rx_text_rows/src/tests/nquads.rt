@@ -179,6 +179,19 @@ const NO_PATTERN_TEXT: &str =
 
 const QUAD_TEXT: &str = "<http://h.example/s> <http://v.example/p> \"Hi\" <http://g.example/> .\n";
 
+/// The graph of the rows as they are.
+pub(crate) fn graph_of(rt: &impl Abort, alloc: Global, rows: &[Row]) -> Graph {
+    Graph::of_owned(alloc, list(rt, alloc, rows)).expect(rt, "memory")
+}
+
+pub(crate) fn sink(rt: &impl Abort, alloc: Global, room: usize, piece: usize) -> MemSink {
+    MemSink::with_room(alloc, room, piece.max(1), Vec::new(alloc)).expect(rt, "memory")
+}
+
+pub(crate) fn check_text(rt: &impl Abort, text: &[u8], wanted: &str) {
+    assert!(rt; text == wanted.as_bytes(), "not {wanted}");
+}
+
 /// Triples, whether their graph has a name, and its text.
 const GRAPHS: &[(&[Row], bool, &str)] = &[
     (PATTERNS, false, COPIED),
@@ -190,15 +203,19 @@ const GRAPHS: &[(&[Row], bool, &str)] = &[
     (REPEATS, false, REPEATS_TEXT),
 ];
 
+fn check(rt: &impl Abort, alloc: Global, rows: &[Row], name: Option<&Iri>, wanted: &str) {
+    let graph = graph(rt, alloc, list(rt, alloc, rows));
+    let written = text(alloc, &graph, name).expect(rt, "memory");
+    drop(graph);
+    check_text(rt, written.as_slice(), wanted);
+}
+
 #[test]
 fn graphs_are_written(rt: HostRuntime) {
     let name = iri(&rt, rt.alloc(), "http://g.example/");
     for (rows, is_named, wanted) in GRAPHS {
-        let graph = graph(&rt, rt.alloc(), list(&rt, rt.alloc(), *rows));
         let name = if *is_named { Some(&name) } else { None };
-        let written = text(rt.alloc(), &graph, name).expect(&rt, "memory");
-        drop(graph);
-        assert!(rt; written.as_slice() == wanted.as_bytes(), "not {wanted}");
+        check(&rt, rt.alloc(), *rows, name, *wanted);
     }
     drop(name);
 }
@@ -211,10 +228,30 @@ fn a_quad_is_put_behind_a_text(rt: HostRuntime) {
     put_quad(rt.alloc(), &mut lines, &triple, None).expect(&rt, "memory");
     drop(triple);
     let wanted = "# one\n<http://h.example/s> <http://v.example/p> \"Hi\" .\n";
-    assert!(rt; lines.as_slice() == wanted.as_bytes());
+    check_text(&rt, lines.as_slice(), wanted);
 }
 
-/// Rooms of a sink, and what comes of a graph of one literal of 200,000 letters, whose line has 17 bytes beside it.
+/// The graph of one literal of 200,000 letters.
+fn letters(rt: &impl Abort, alloc: Global) -> Graph {
+    let mut letters = String::new(alloc);
+    for _ in 0..200_000 {
+        letters.push('a').expect(rt, "memory");
+    }
+    graph(rt, alloc, one_text(rt, alloc, letters.as_str()))
+}
+
+fn one_text(rt: &impl Abort, alloc: Global, text: &str) -> TripleList {
+    let mut triples = TripleList::new(alloc);
+    let triple = Triple {
+        subject: Node::Iri(iri(rt, alloc, "x:s")),
+        predicate: iri(rt, alloc, "x:p"),
+        object: literal(rt, alloc, text, LiteralKind::Plain),
+    };
+    triples.push(triple).expect(rt, "memory");
+    triples
+}
+
+/// Rooms of a sink, and what comes of that graph, whose line has 17 bytes beside the letters.
 const ROOMS: &[(usize, Result<(), WriteError>, usize)] = &[
     (300_000, Ok(()), 200_017),
     (100_000, Err(WriteError::Failed), 100_000),
@@ -222,23 +259,9 @@ const ROOMS: &[(usize, Result<(), WriteError>, usize)] = &[
 
 #[test]
 fn a_long_text_is_written(rt: HostRuntime) {
-    let mut letters = String::new(rt.alloc());
-    for _ in 0..200_000 {
-        letters.push('a').expect(&rt, "memory");
-    }
-    let triple = Triple {
-        subject: Node::Iri(iri(&rt, rt.alloc(), "x:s")),
-        predicate: iri(&rt, rt.alloc(), "x:p"),
-        object: literal(&rt, rt.alloc(), letters.as_str(), LiteralKind::Plain),
-    };
-    let mut triples = TripleList::new(rt.alloc());
-    triples.push(triple).expect(&rt, "memory");
-    let graph = graph(&rt, rt.alloc(), triples);
+    let graph = letters(&rt, rt.alloc());
     for (room, answer, held) in ROOMS {
-        let no_bytes = Vec::new(rt.alloc());
-        let mut sink = MemSink::with_room(rt.alloc(), *room, 50_000, no_bytes).expect(
-            &rt, "memory",
-        );
+        let mut sink = sink(&rt, rt.alloc(), *room, 50_000);
         let written = write(rt.alloc(), &graph, None, &mut sink);
         assert!(rt; written == *answer && sink.held().len() == *held);
         drop(sink);

@@ -10,7 +10,7 @@ const NUMBER: Row = (
 );
 
 #[test]
-fn clones_are_equal(rt: HostRuntime) {
+fn triples_are_cloned(rt: HostRuntime) {
     let triple = triple(&rt, rt.alloc(), NUMBER);
     let copy = triple.try_clone().expect(&rt, "memory");
     assert!(rt; copy == triple);
@@ -19,6 +19,10 @@ fn clones_are_equal(rt: HostRuntime) {
     assert!(rt; subject == triple.subject);
     drop(subject);
     drop(triple);
+}
+
+#[test]
+fn kinds_are_cloned(rt: HostRuntime) {
     let lang = Lang::of(rt.alloc(), "de-CH-1996").expect(&rt, "memory");
     let kind = LiteralKind::Tagged(lang.expect(&rt, "a tag"));
     let copy = kind.try_clone().expect(&rt, "memory");

@@ -1,14 +1,12 @@
 //! Worked rows: lists of triples, and their graph's text in Turtle.
-use crate::tests::nquads::{Object, Row, Subject, list};
-use rx_graph::Graph;
+use crate::tests::nquads::{Object, Row, Subject, check_text, graph_of, sink};
 use rx_names::Context;
-use rx_ports::MemSink;
 use rx_turtle::{WriteError, text, write};
 use std::alloc::Global;
 use std::process::Abort;
 
-fn graph(rt: &impl Abort, alloc: Global, rows: &[Row]) -> Graph {
-    Graph::of_owned(alloc, list(rt, alloc, rows)).expect(rt, "memory")
+pub(crate) fn standard(rt: &impl Abort, alloc: Global) -> Context {
+    Context::standard(alloc).expect(rt, "memory")
 }
 
 const TYPE: &str = "http://www.w3.org/1999/02/22-rdf-syntax-ns#type";
@@ -98,24 +96,21 @@ const GRAPHS: &[(&[Row], &str)] = &[
     (LITERALS, LITERALS_TEXT),
 ];
 
-fn is_text(rt: &impl Abort, alloc: Global, rows: &[Row], context: &Context, wanted: &str) -> bool {
-    let graph = graph(rt, alloc, rows);
+fn check(rt: &impl Abort, alloc: Global, rows: &[Row], context: &Context, wanted: &str) {
+    let graph = graph_of(rt, alloc, rows);
     let written = text(alloc, &graph, context).expect(rt, "memory");
     drop(graph);
-    written.as_slice() == wanted.as_bytes()
+    check_text(rt, written.as_slice(), wanted);
 }
 
 #[test]
 fn graphs_are_written(rt: HostRuntime) {
-    let standard = Context::standard(rt.alloc()).expect(&rt, "memory");
+    let standard = standard(&rt, rt.alloc());
     for (rows, wanted) in GRAPHS {
-        assert!(rt;
-            is_text(&rt, rt.alloc(), *rows, &standard, *wanted),
-            "not {wanted}"
-        );
+        check(&rt, rt.alloc(), *rows, &standard, *wanted);
     }
     let short = Context::of_json(rt.alloc(), PREFIXES).expect(&rt, "a context");
-    assert!(rt; is_text(&rt, rt.alloc(), SHORT, &short, SHORT_TEXT));
+    check(&rt, rt.alloc(), SHORT, &short, SHORT_TEXT);
     drop(short);
     drop(standard);
 }
@@ -128,11 +123,10 @@ const ROOMS: &[(usize, Result<(), WriteError>, usize)] = &[
 
 #[test]
 fn a_text_is_sent(rt: HostRuntime) {
-    let context = Context::standard(rt.alloc()).expect(&rt, "memory");
-    let graph = graph(&rt, rt.alloc(), PRODUCT);
+    let context = standard(&rt, rt.alloc());
+    let graph = graph_of(&rt, rt.alloc(), PRODUCT);
     for (room, answer, held) in ROOMS {
-        let no_bytes = Vec::new(rt.alloc());
-        let mut sink = MemSink::with_room(rt.alloc(), *room, 50, no_bytes).expect(&rt, "memory");
+        let mut sink = sink(&rt, rt.alloc(), *room, 50);
         let written = write(rt.alloc(), &graph, &context, &mut sink);
         assert!(rt; written == *answer && sink.held().len() == *held);
         drop(sink);

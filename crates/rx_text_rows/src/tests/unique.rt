@@ -3,24 +3,23 @@ use rx_unique::Unique;
 use std::alloc::Global;
 use std::process::Abort;
 
-fn text(rt: &impl Abort, alloc: Global, text: &str) -> String {
-    String::from_str(alloc, text).expect(rt, "memory")
+fn insert(rt: &impl Abort, alloc: Global, texts: &mut Unique<String>, key: &str) -> (usize, bool) {
+    let key = String::from_str(alloc, key).expect(rt, "memory");
+    texts.insert_full(key).expect(rt, "memory")
 }
 
-/// Of texts that are put in one after another, the place of each, and whether it was new.
+/// Texts that are put in one after another, the place of each, and whether it was new.
+const TEXTS: &[(&str, usize, bool)] = &[("a", 0, true), ("b", 1, true), ("a", 0, false)];
+
 #[test]
 fn texts_are_found_in_their_order(rt: HostRuntime) {
     let mut texts: Unique<String> = Unique::new(rt.alloc());
-    let rows = [("a", (0, true)), ("b", (1, true)), ("a", (0, false))];
-    for (key, place) in rows {
-        let found = texts
-            .insert_full(text(&rt, rt.alloc(), key))
-            .expect(&rt, "memory");
-        assert!(rt; found == place);
+    for (key, place, is_new) in TEXTS {
+        let found = insert(&rt, rt.alloc(), &mut texts, *key);
+        assert!(rt; found == (*place, *is_new));
     }
-    let is_new = texts
-        .insert(text(&rt, rt.alloc(), "c"))
-        .expect(&rt, "memory");
+    let last = String::from_str(rt.alloc(), "c").expect(&rt, "memory");
+    let is_new = texts.insert(last).expect(&rt, "memory");
     assert!(rt; is_new && texts.len() == 3);
     assert!(rt; texts.get_index_of("c") == Some(2) && !texts.contains("d"));
     drop(texts);
