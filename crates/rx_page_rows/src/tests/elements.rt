@@ -1,68 +1,75 @@
 use rx_nest::{Event, Fault, Kind, Limits, Nest, Stop, Syntax};
 use std::alloc::Global;
 use std::process::Abort;
-use std::test::Fail;
 
 // The event as it is written here: a begin by its name in brackets, `/` for the end of an element, text as it is. What is
 // skipped isn't written, since where white space outside the root is cut isn't fixed.
-fn show(out: &mut String, event: Event<'_>) -> Result<(), Fail> {
+fn show(rt: &impl Abort, out: &mut String, event: Event<'_>) {
     match event {
         Event::More | Event::Skipped => {}
         Event::Begin(tag) => {
-            out.push('[')?;
-            out.push_str(tag.name())?;
-            out.push(']')?;
+            let name = tag.name();
+            write!(out, "[{name}]").expect(rt, "memory");
         }
-        Event::Text(text) => out.push_str(text)?,
-        Event::Finish => out.push('/')?,
+        Event::Text(text) => out.push_str(text).expect(rt, "memory"),
+        Event::Finish => out.push('/').expect(rt, "memory"),
     }
-    Ok(())
 }
 
-fn show_stop(alloc: Global, out: &mut String, stop: Stop) -> Result<(), Fail> {
+pub(crate) fn show_stop(rt: &impl Abort, out: &mut String, stop: Stop) {
     match stop {
-        Stop::NoMemory => out.push_str("no memory")?,
+        Stop::NoMemory => out.push_str("no memory").expect(rt, "memory"),
         Stop::Fault(fault) => {
-            let text = format!(in alloc; " {:?} {} {}", fault.kind, fault.token, fault.at)?;
-            out.push_str(text.as_str())?;
+            let Fault { kind, token, at } = fault;
+            write!(out, " {kind:?} {token} {at}").expect(rt, "memory");
         }
     }
-    Ok(())
 }
 
 // More than any piece here has.
 const MOST_EVENTS: u32 = 9999;
 
 // Whether the piece was taken, and all that was due was told.
-fn feed(alloc: Global, nest: &mut Nest, piece: &[u8], out: &mut String) -> Result<bool, Fail> {
+fn feed(rt: &impl Abort, nest: &mut Nest, piece: &[u8], out: &mut String) -> bool {
     let mut rest = piece;
     for _ in 0..MOST_EVENTS {
         match nest.step(rest) {
             Err(stop) => {
-                show_stop(alloc, out, stop)?;
-                return Ok(false);
+                show_stop(rt, out, stop);
+                return false;
             }
-            Ok((_, Event::More)) => return Ok(true),
+            Ok((_, Event::More)) => return true,
             Ok((taken, event)) => {
-                show(out, event)?;
+                show(rt, out, event);
                 rest = &rest[taken..];
             }
         }
     }
-    Err("too many events".into())
+    panic!(rt; "too many events")
 }
 
-fn read(alloc: Global, nest: &mut Nest, page: &[u8], size: usize) -> Result<String, Fail> {
+// What is told of the page in pieces of this size.
+fn read(
+    rt: &impl Abort,
+    alloc: Global,
+    syntax: Syntax,
+    limits: Limits,
+    page: &[u8],
+    size: usize,
+) -> String {
+    let mut nest = Nest::new(alloc, syntax, limits).expect(rt, "memory");
     let mut out = String::new(alloc);
     for piece in page.chunks(size.max(1)) {
-        if !feed(alloc, nest, piece, &mut out)? {
-            return Ok(out);
+        if !feed(rt, &mut nest, piece, &mut out) {
+            drop(nest);
+            return out;
         }
     }
     if let Err(stop) = nest.end() {
-        show_stop(alloc, &mut out, stop)?;
+        show_stop(rt, &mut out, stop);
     }
-    Ok(out)
+    drop(nest);
+    out
 }
 
 const SIZES: &[usize] = &[1, 2, 3, 7, 9999];
@@ -75,28 +82,11 @@ fn check_page(
     limits: Limits,
     page: &[u8],
     expected: &str,
-) -> Result<(), Fail> {
+) {
     for size in SIZES {
-        let mut nest = Nest::new(alloc, syntax, limits)?;
-        let found = read(alloc, &mut nest, page, *size);
-        drop(nest);
-        let found = found?;
+        let found = read(rt, alloc, syntax, limits, page, *size);
         assert_eq!(rt; found.as_str(), expected, "in pieces of {size}");
     }
-    Ok(())
-}
-
-fn check(
-    rt: &impl Abort,
-    alloc: Global,
-    syntax: Syntax,
-    limits: Limits,
-    rows: &[(&[u8], &str)],
-) -> Result<(), Fail> {
-    for (page, expected) in rows {
-        check_page(rt, alloc, syntax, limits, *page, *expected)?;
-    }
-    Ok(())
 }
 
 const TREES: &[(&[u8], &str)] = &[
@@ -124,11 +114,6 @@ const TREES: &[(&[u8], &str)] = &[
     ),
 ];
 
-#[test]
-fn trees(rt: HostRuntime) -> Result<(), Fail> {
-    check(&rt, rt.alloc(), Syntax::Html, Limits::standard(), TREES)
-}
-
 const FAULTS: &[(&[u8], &str)] = &[
     (b"<html><i>x</b></i></html>", "[html][i]x Mismatch 10 13"),
     (
@@ -154,11 +139,6 @@ const FAULTS: &[(&[u8], &str)] = &[
     (b"<html><plaintext>", "[html] Plaintext 6 16"),
 ];
 
-#[test]
-fn faults(rt: HostRuntime) -> Result<(), Fail> {
-    check(&rt, rt.alloc(), Syntax::Html, Limits::standard(), FAULTS)
-}
-
 const OMITTED_ENDS: &[(&[u8], &str)] = &[
     (
         b"<html><body><ul about=\"#l\"><li property=\"http://v.example/p\">a<li property=\"http://v.example/p\">b</ul></body></html>",
@@ -180,17 +160,6 @@ const OMITTED_ENDS: &[(&[u8], &str)] = &[
     ),
 ];
 
-#[test]
-fn omitted_ends(rt: HostRuntime) -> Result<(), Fail> {
-    check(
-        &rt,
-        rt.alloc(),
-        Syntax::Html,
-        Limits::standard(),
-        OMITTED_ENDS,
-    )
-}
-
 const XHTML: &[(&[u8], &str)] = &[
     (
         b"<?xml version=\"1.0\"?><html xmlns=\"http://www.w3.org/1999/xhtml\"><body><br/><p about=\"#a\" property=\"e:p\" xmlns:e=\"http://v.example/\">x</p></body></html>",
@@ -203,10 +172,11 @@ const XHTML: &[(&[u8], &str)] = &[
     (b"<html><p>a<p>b</html>", "[html][p]a[p]b Mismatch 14 20"),
 ];
 
-#[test]
-fn xhtml(rt: HostRuntime) -> Result<(), Fail> {
-    check(&rt, rt.alloc(), Syntax::Xhtml, Limits::standard(), XHTML)
-}
+const SHALLOW_LIMITS: Limits = Limits {
+    depth: 3,
+    tag: 1_048_576,
+    page: 1_073_741_824,
+};
 
 // The third level is the last.
 const SHALLOW: &[(&[u8], &str)] = &[
@@ -223,98 +193,80 @@ const SHALLOW: &[(&[u8], &str)] = &[
     (b"<html><template><p><b>", "[html][template] TooDeep 19 21"),
 ];
 
+const SHORT_TAGS: Limits = Limits {
+    depth: 512,
+    tag: 16,
+    page: 1_073_741_824,
+};
+
 const LONG_TAG: &[(&[u8], &str)] = &[(b"<html><p title=\"123456789\">", "[html] TagTooLong 6 22")];
+
+const SHORT_PAGES: Limits = Limits {
+    depth: 512,
+    tag: 1_048_576,
+    page: 12,
+};
 
 const LONG_PAGE: &[(&[u8], &str)] = &[(b"<html></html>", "[html] PageTooLong 6 12")];
 
-#[test]
-fn limits(rt: HostRuntime) -> Result<(), Fail> {
-    let standard = Limits::standard();
-    let shallow = Limits {
-        depth: 3,
-        ..standard
-    };
-    let short_tags = Limits {
-        tag: 16,
-        ..standard
-    };
-    let short_pages = Limits {
-        page: 12,
-        ..standard
-    };
-    check(&rt, rt.alloc(), Syntax::Html, shallow, SHALLOW)?;
-    check(&rt, rt.alloc(), Syntax::Html, short_tags, LONG_TAG)?;
-    check(&rt, rt.alloc(), Syntax::Html, short_pages, LONG_PAGE)
-}
+/// Tables of pages, with their syntax, and with limits where these aren't the standard ones.
+const TABLES: &[(Syntax, Option<Limits>, &[(&[u8], &str)])] = &[
+    (Syntax::Html, None, TREES),
+    (Syntax::Html, None, FAULTS),
+    (Syntax::Html, None, OMITTED_ENDS),
+    (Syntax::Xhtml, None, XHTML),
+    (Syntax::Html, Some(SHALLOW_LIMITS), SHALLOW),
+    (Syntax::Html, Some(SHORT_TAGS), LONG_TAG),
+    (Syntax::Html, Some(SHORT_PAGES), LONG_PAGE),
+];
 
-// A text with another after it so many times.
-fn push_times(out: &mut String, text: &str, times: usize) -> Result<(), Fail> {
-    for _ in 0..times {
-        out.push_str(text)?;
+#[test]
+fn pages(rt: HostRuntime) {
+    for (syntax, limits, rows) in TABLES {
+        let limits = limits.unwrap_or(Limits::standard());
+        for (page, expected) in *rows {
+            check_page(&rt, rt.alloc(), *syntax, limits, *page, *expected);
+        }
     }
-    Ok(())
 }
 
-// The root with so many elements inside one another, and what is told of them.
-fn nested(alloc: Global, count: usize) -> Result<(String, String), Fail> {
-    let mut page = String::new(alloc);
-    page.push_str("<html>")?;
-    push_times(&mut page, "<b>", count)?;
-    push_times(&mut page, "</b>", count)?;
-    page.push_str("</html>")?;
-    let mut told = String::new(alloc);
-    told.push_str("[html]")?;
-    push_times(&mut told, "[b]", count)?;
-    push_times(&mut told, "/", count)?;
-    told.push('/')?;
-    Ok((page, told))
-}
+/// Texts, each so many times.
+type Parts = &'static [(&'static str, usize)];
 
-#[test]
-fn deepest(rt: HostRuntime) -> Result<(), Fail> {
-    let limits = Limits::standard();
-    let (page, told) = nested(rt.alloc(), 511)?;
-    check_page(
-        &rt,
-        rt.alloc(),
-        Syntax::Html,
-        limits,
-        page.as_bytes(),
-        told.as_str(),
-    )?;
-    let (page, _) = nested(rt.alloc(), 512)?;
-    let mut told = String::new(rt.alloc());
-    told.push_str("[html]")?;
-    push_times(&mut told, "[b]", 511)?;
-    told.push_str(" TooDeep 1539 1541")?;
-    check_page(
-        &rt,
-        rt.alloc(),
-        Syntax::Html,
-        limits,
-        page.as_bytes(),
-        told.as_str(),
-    )
+/// Long pages, and what is told of them: the deepest, one that is deeper, and one of many items.
+const LONG_PAGES: &[(Parts, Parts)] = &[
+    (
+        &[("<html>", 1), ("<b>", 511), ("</b>", 511), ("</html>", 1)],
+        &[("[html]", 1), ("[b]", 511), ("/", 512)],
+    ),
+    (
+        &[("<html>", 1), ("<b>", 512), ("</b>", 512), ("</html>", 1)],
+        &[("[html]", 1), ("[b]", 511), (" TooDeep 1539 1541", 1)],
+    ),
+    (
+        &[("<html><ul>", 1), ("<li>", 600), ("</ul></html>", 1)],
+        &[("[html][ul]", 1), ("[li]/", 600), ("//", 1)],
+    ),
+];
+
+fn joined(rt: &impl Abort, alloc: Global, parts: Parts) -> String {
+    let mut out = String::new(alloc);
+    for (text, times) in parts {
+        for _ in 0..*times {
+            out.push_str(*text).expect(rt, "memory");
+        }
+    }
+    out
 }
 
 #[test]
-fn many_items(rt: HostRuntime) -> Result<(), Fail> {
-    let mut page = String::new(rt.alloc());
-    page.push_str("<html><ul>")?;
-    push_times(&mut page, "<li>", 600)?;
-    page.push_str("</ul></html>")?;
-    let mut told = String::new(rt.alloc());
-    told.push_str("[html][ul]")?;
-    push_times(&mut told, "[li]/", 600)?;
-    told.push_str("//")?;
-    check_page(
-        &rt,
-        rt.alloc(),
-        Syntax::Html,
-        Limits::standard(),
-        page.as_bytes(),
-        told.as_str(),
-    )
+fn long_pages(rt: HostRuntime) {
+    for (page, told) in LONG_PAGES {
+        let page = joined(&rt, rt.alloc(), *page);
+        let told = joined(&rt, rt.alloc(), *told);
+        let (page, limits) = (page.as_bytes(), Limits::standard());
+        check_page(&rt, rt.alloc(), Syntax::Html, limits, page, told.as_str());
+    }
 }
 
 const MISMATCH: Fault = Fault {
@@ -323,31 +275,18 @@ const MISMATCH: Fault = Fault {
     at: 13,
 };
 
-fn is_refused(nest: &mut Nest, piece: &[u8]) -> bool {
-    match nest.step(piece) {
-        Err(stop) => stop == Stop::Fault(MISMATCH),
-        Ok((_taken, _event)) => false,
-    }
-}
-
 /// Whether a fault that was answered is answered by each step, and at the end.
-fn answers_again(nest: &mut Nest) -> bool {
+#[test]
+fn comes_again(rt: HostRuntime) {
+    let mut nest = Nest::new(rt.alloc(), Syntax::Html, Limits::standard()).expect(&rt, "memory");
+    let mut out = String::new(rt.alloc());
+    assert!(rt; !feed(&rt, &mut nest, b"<html><i>x</b>", &mut out));
     for piece in b"x</i></html>".chunks(1) {
-        if !is_refused(nest, piece) {
-            return false;
+        match nest.step(piece) {
+            Err(stop) => assert!(rt; stop == Stop::Fault(MISMATCH)),
+            Ok((_taken, _event)) => panic!(rt; "no fault"),
         }
     }
-    nest.end() == Err(Stop::Fault(MISMATCH))
-}
-
-#[test]
-fn comes_again(rt: HostRuntime) -> Result<(), Fail> {
-    let mut nest = Nest::new(rt.alloc(), Syntax::Html, Limits::standard())?;
-    let mut out = String::new(rt.alloc());
-    let fed = feed(rt.alloc(), &mut nest, b"<html><i>x</b>", &mut out);
-    let again = answers_again(&mut nest);
+    assert!(rt; nest.end() == Err(Stop::Fault(MISMATCH)));
     drop(nest);
-    assert!(rt; !fed?);
-    assert!(rt; again);
-    Ok(())
 }

@@ -4,75 +4,30 @@ ghost use Rattle.rx_eval.specs.Opened.{begun_state};
 
 use rx_curie::{ElementKind, Facts, Ref};
 use rx_eval::Eval;
-use rx_terms::{Iri, Iris, Term, TripleList};
+use rx_terms::{Iri, Iris, Term};
 use std::alloc::Global;
-use std::test::Fail;
+use std::process::Abort;
 
-pub(crate) fn property(alloc: Global) -> Result<Iris, Fail> {
+pub(crate) fn iri(rt: &impl Abort, alloc: Global, text: &str) -> Iri {
+    Iri::of(alloc, text).expect(rt, "an IRI")
+}
+
+pub(crate) fn property(rt: &impl Abort, alloc: Global) -> Iris {
     let mut property = Iris::new(alloc);
-    match property.push(Iri::of(alloc, "http://v.example/p")?) {
-        Ok(()) => Ok(property),
-        Err(error) => {
-            drop(property);
-            Err(Fail::from(error))
-        }
-    }
+    let name = iri(rt, alloc, "http://v.example/p");
+    property.push(name).expect(rt, "memory");
+    property
 }
 
-/// A property of what the element is about.
-pub(crate) fn facts_about(alloc: Global, about: Ref) -> Result<Facts, Fail> {
-    match property(alloc) {
-        Ok(property) => Ok(Facts {
-            element: ElementKind::Other,
-            about: Some(about),
-            resource: None,
-            href: None,
-            src: None,
-            rel: None,
-            rev: None,
-            property: Some(property),
-            types: None,
-            content: None,
-            datetime: None,
-            datatype: None,
-            inlist: false,
-            vocab: None,
-            lang: None,
-        }),
-        Err(error) => {
-            drop(about);
-            Err(error)
-        }
-    }
-}
-
-/// Whether one element is open while its text is told.
-fn tell(eval: &mut Eval, facts: &Facts) -> Result<bool, Fail>
+/// Tells one element and its text, which is open meanwhile.
+fn tell(rt: &impl Abort, eval: &mut Eval, facts: &Facts)
     requires { eval.old ≡ begun_state eval.old.base 8 }
 {
-    if !eval.has_numbers(facts) {
-        return Ok(false);
-    }
-    eval.enter(facts)?;
-    eval.text("Hi")?;
-    let is_open = eval.depth() == 1 && eval.inherited().hanging_count() == 0;
-    eval.leave()?;
-    Ok(is_open)
-}
-
-fn list_of(alloc: Global, facts: &Facts) -> Result<TripleList, Fail> {
-    let mut eval = Eval::new(alloc, Iri::of(alloc, "http://h.example/d")?, 8)?;
-    match tell(&mut eval, facts) {
-        Ok(true) => Ok(eval.finish()?),
-        Ok(false) => {
-            drop(eval);
-            Err("no open element".into())
-        }
-        Err(error) => {
-            drop(eval);
-            Err(error)
-        }
-    }
+    assert!(rt; eval.has_numbers(facts));
+    eval.enter(facts).expect(rt, "memory");
+    eval.text("Hi").expect(rt, "memory");
+    assert!(rt; eval.depth() == 1 && eval.inherited().hanging_count() == 0);
+    eval.leave().expect(rt, "memory");
 }
 
 /// Whether the term is this text.
@@ -83,19 +38,30 @@ pub(crate) fn is_text(term: &Term, text: &str) -> bool {
     }
 }
 
-fn is_one_text(list: &TripleList, text: &str) -> bool {
-    list.len() == 1 && is_text(&list.at(0).object, text)
-}
-
 #[test]
-fn a_root_with_a_property(rt: HostRuntime) -> Result<(), Fail> {
-    let about = Ref::Iri(Iri::of(rt.alloc(), "http://h.example/s")?);
-    let facts = facts_about(rt.alloc(), about)?;
-    let list = list_of(rt.alloc(), &facts);
+fn a_root_with_a_property(rt: HostRuntime) {
+    let facts = Facts {
+        element: ElementKind::Other,
+        about: Some(Ref::Iri(iri(&rt, rt.alloc(), "http://h.example/s"))),
+        resource: None,
+        href: None,
+        src: None,
+        rel: None,
+        rev: None,
+        property: Some(property(&rt, rt.alloc())),
+        types: None,
+        content: None,
+        datetime: None,
+        datatype: None,
+        inlist: false,
+        vocab: None,
+        lang: None,
+    };
+    let address = iri(&rt, rt.alloc(), "http://h.example/d");
+    let mut eval = Eval::new(rt.alloc(), address, 8).expect(&rt, "memory");
+    tell(&rt, &mut eval, &facts);
     drop(facts);
-    let list = list?;
-    let holds = is_one_text(&list, "Hi");
+    let list = eval.finish().expect(&rt, "memory");
+    assert!(rt; list.len() == 1 && is_text(&list.at(0).object, "Hi"));
     drop(list);
-    assert!(rt; holds);
-    Ok(())
 }

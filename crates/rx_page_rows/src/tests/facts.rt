@@ -1,158 +1,138 @@
-use rx_curie::{Datatype, ElementKind, Facts, FactsError, IriMaker, Ref, TypeList};
+use rx_curie::{Datatype, ElementKind, Facts, FactsError, IriMaker, Ref};
 use rx_names::{Context, Names};
 use rx_tags::{Syntax, Tag, TagBuf, TagStep};
-use rx_terms::{Iri, Iris, NoMemory};
-use std::alloc::{AllocError, Global};
-use std::test::Fail;
+use rx_terms::{Iri, Lang, Text};
+use std::alloc::Global;
+use std::process::Abort;
 
 /// The facts of the last of these tags, each of which stands behind its `<`, or why there are none. The characters are those
 /// of Latin-1.
-fn facts_at(alloc: Global, tags: &[u8]) -> Result<String, Fail> {
-    let mut names = Names::new(alloc, Context::standard(alloc)?, 512)?;
-    let answer = last_facts(alloc, &mut names, tags);
-    drop(names);
-    answer
-}
-
-fn last_facts(alloc: Global, names: &mut Names, tags: &[u8]) -> Result<String, Fail> {
-    let mut maker = IriMaker::new(alloc)?;
-    let answer = facts_by(alloc, &mut maker, names, tags);
-    drop(maker);
-    answer
-}
-
 fn facts_by(
+    rt: &impl Abort,
     alloc: Global,
     maker: &mut IriMaker,
     names: &mut Names,
     tags: &[u8],
-) -> Result<String, Fail> {
-    let mut buf = TagBuf::new(alloc, Syntax::Html)?;
+) -> String {
+    let mut buf = TagBuf::new(alloc, Syntax::Html).expect(rt, "memory");
     let mut answer = String::new(alloc);
     for i in 0..tags.len() {
         match buf.step(char::from(tags[i])) {
             Ok(TagStep::More) => {}
             Ok(TagStep::Done) => {
-                answer = facts_of(alloc, maker, names, &buf.tag(0, 0))?;
+                answer = facts_of(rt, alloc, maker, names, &buf.tag(0, 0));
                 buf.clear();
             }
-            Err(error) => return Err(Fail::from(error)),
+            Err(error) => panic!(rt; "{error:?}"),
         }
     }
-    Ok(answer)
+    drop(buf);
+    answer
 }
 
 fn facts_of(
+    rt: &impl Abort,
     alloc: Global,
     maker: &mut IriMaker,
     names: &mut Names,
     tag: &Tag<'_>,
-) -> Result<String, Fail> {
-    names.push(tag)?;
+) -> String {
+    names.push(tag).expect(rt, "memory");
+    let mut text = String::new(alloc);
     match Facts::of(maker, tag, &names.view()) {
         Ok(facts) => {
-            let text = shown(alloc, &facts);
+            push_facts(rt, &mut text, &facts);
             drop(facts);
-            Ok(text?)
         }
-        Err(FactsError::Meaning(kind)) => Ok(format!(in alloc; "{kind:?}")?),
-        Err(FactsError::NoMemory) => Err(Fail::from(NoMemory)),
+        Err(FactsError::Meaning(kind)) => write!(text, "{kind:?}").expect(rt, "memory"),
+        Err(FactsError::NoMemory) => panic!(rt; "memory"),
     }
+    text
 }
 
 /// The facts, those that are absent being left out.
-fn shown(alloc: Global, facts: &Facts) -> Result<String, AllocError> {
-    let mut text = String::new(alloc);
+fn push_facts(rt: &impl Abort, text: &mut String, facts: &Facts) {
     if facts.element != ElementKind::Other {
         let element = facts.element;
-        write!(text, "{element:?} ")?;
+        write!(text, "{element:?} ").expect(rt, "memory");
     }
-    push_ref(&mut text, "about", &facts.about)?;
-    push_ref(&mut text, "resource", &facts.resource)?;
-    push_ref(&mut text, "href", &facts.href)?;
-    push_ref(&mut text, "src", &facts.src)?;
-    push_iris(&mut text, "rel", &facts.rel)?;
-    push_iris(&mut text, "rev", &facts.rev)?;
-    push_iris(&mut text, "property", &facts.property)?;
-    push_types(&mut text, &facts.types)?;
-    push_rest(&mut text, facts)?;
-    Ok(text)
+    push_refs(rt, text, facts);
+    push_iris(rt, text, facts);
+    push_text(
+        rt,
+        text,
+        "content",
+        facts.content.as_ref().map(Text::as_str),
+    );
+    push_text(
+        rt,
+        text,
+        "datetime",
+        facts.datetime.as_ref().map(Text::as_str),
+    );
+    match &facts.datatype {
+        Some(Datatype::Is(iri)) => push_text(rt, text, "datatype", Some(iri.as_str())),
+        Some(Datatype::Empty) => text.push_str("datatype ").expect(rt, "memory"),
+        None => {}
+    }
+    let inlist = if facts.inlist { "inlist " } else { "" };
+    text.push_str(inlist).expect(rt, "memory");
+    push_text(rt, text, "vocab", facts.vocab.as_ref().map(Iri::as_str));
+    push_text(rt, text, "lang", facts.lang.as_ref().map(Lang::as_str));
 }
 
-fn push_rest(text: &mut String, facts: &Facts) -> Result<(), AllocError> {
-    if let Some(content) = &facts.content {
-        push_text(text, "content", content.as_str())?;
-    }
-    if let Some(datetime) = &facts.datetime {
-        push_text(text, "datetime", datetime.as_str())?;
-    }
-    push_datatype(text, &facts.datatype)?;
-    if facts.inlist {
-        text.push_str("inlist ")?;
-    }
-    push_scope(text, facts)
-}
-
-fn push_datatype(text: &mut String, datatype: &Option<Datatype>) -> Result<(), AllocError> {
-    match datatype {
-        Some(Datatype::Is(iri)) => push_text(text, "datatype", iri.as_str()),
-        Some(Datatype::Empty) => text.push_str("datatype "),
-        None => Ok(()),
+fn push_text(rt: &impl Abort, text: &mut String, name: &str, value: Option<&str>) {
+    if let Some(value) = value {
+        write!(text, "{name}={value} ").expect(rt, "memory");
     }
 }
 
-fn push_scope(text: &mut String, facts: &Facts) -> Result<(), AllocError> {
-    if let Some(vocab) = &facts.vocab {
-        push_text(text, "vocab", vocab.as_str())?;
-    }
-    if let Some(lang) = &facts.lang {
-        push_text(text, "lang", lang.as_str())?;
-    }
-    Ok(())
-}
-
-fn push_text(text: &mut String, name: &str, value: &str) -> Result<(), AllocError> {
-    write!(text, "{name}={value} ")
-}
-
-fn push_ref(text: &mut String, name: &str, value: &Option<Ref>) -> Result<(), AllocError> {
-    match value {
-        Some(value) => {
-            text.push_str(name)?;
-            push_node(text, value)
+fn push_refs(rt: &impl Abort, text: &mut String, facts: &Facts) {
+    let refs = [
+        ("about", &facts.about),
+        ("resource", &facts.resource),
+        ("href", &facts.href),
+        ("src", &facts.src),
+    ];
+    for (name, value) in refs {
+        if let Some(value) = value {
+            text.push_str(name).expect(rt, "memory");
+            push_node(rt, text, value);
         }
-        None => Ok(()),
     }
 }
 
-fn push_node(text: &mut String, node: &Ref) -> Result<(), AllocError> {
-    match node {
-        Ref::Iri(iri) => push_text(text, "", iri.as_str()),
-        Ref::Label(label) => push_text(text, " _", label.as_str()),
-        Ref::Relative(reference) => push_text(text, " relative", reference.as_str()),
-    }
-}
-
-fn push_iris(text: &mut String, name: &str, iris: &Option<Iris>) -> Result<(), AllocError> {
-    let Some(iris) = iris else {
-        return Ok(());
+fn push_node(rt: &impl Abort, text: &mut String, node: &Ref) {
+    let (mark, value) = match node {
+        Ref::Iri(iri) => ("", iri.as_str()),
+        Ref::Label(label) => (" _", label.as_str()),
+        Ref::Relative(reference) => (" relative", reference.as_str()),
     };
-    text.push_str(name)?;
-    for i in 0..iris.len() {
-        push_text(text, "", iris.at(i).as_str())?;
-    }
-    text.push(' ')
+    push_text(rt, text, mark, Some(value));
 }
 
-fn push_types(text: &mut String, types: &Option<TypeList>) -> Result<(), AllocError> {
-    let Some(types) = types else {
-        return Ok(());
-    };
-    text.push_str("types")?;
-    for i in 0..types.len() {
-        push_node(text, types.at(i))?;
+fn push_iris(rt: &impl Abort, text: &mut String, facts: &Facts) {
+    let lists = [
+        ("rel", &facts.rel),
+        ("rev", &facts.rev),
+        ("property", &facts.property),
+    ];
+    for (name, iris) in lists {
+        if let Some(iris) = iris {
+            text.push_str(name).expect(rt, "memory");
+            for i in 0..iris.len() {
+                push_text(rt, text, "", Some(iris.at(i).as_str()));
+            }
+            text.push(' ').expect(rt, "memory");
+        }
     }
-    text.push(' ')
+    if let Some(types) = &facts.types {
+        text.push_str("types").expect(rt, "memory");
+        for i in 0..types.len() {
+            push_node(rt, text, types.at(i));
+        }
+        text.push(' ').expect(rt, "memory");
+    }
 }
 
 /// Lines of tags, each behind its `<`, and the facts of the last one.
@@ -289,23 +269,19 @@ const FACTS: &[(&[u8], &str)] = &[
 ];
 
 #[test]
-fn facts_of_tags(rt: HostRuntime) -> Result<(), Fail> {
+fn facts_of_tags(rt: HostRuntime) {
     for (tags, expected) in FACTS {
-        let answer = facts_at(rt.alloc(), *tags)?;
+        let context = Context::standard(rt.alloc()).expect(&rt, "memory");
+        let mut names = Names::new(rt.alloc(), context, 512).expect(&rt, "memory");
+        let mut maker = IriMaker::new(rt.alloc()).expect(&rt, "memory");
+        let answer = facts_by(&rt, rt.alloc(), &mut maker, &mut names, *tags);
+        drop(maker);
+        drop(names);
         assert_eq!(rt; answer.as_str(), *expected);
     }
-    Ok(())
-}
-
-fn is_copied(iri: &Ref) -> Result<bool, NoMemory> {
-    Ok(iri.try_clone()? == *iri)
-}
-
-#[test]
-fn copies(rt: HostRuntime) -> Result<(), Fail> {
-    let iri = Ref::Iri(Iri::of(rt.alloc(), "v:x")?);
-    let copied = is_copied(&iri);
+    let iri = Ref::Iri(Iri::of(rt.alloc(), "v:x").expect(&rt, "an IRI"));
+    let copy = iri.try_clone().expect(&rt, "memory");
+    assert!(rt; copy == iri);
+    drop(copy);
     drop(iri);
-    assert!(rt; copied?);
-    Ok(())
 }

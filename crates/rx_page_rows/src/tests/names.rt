@@ -1,30 +1,34 @@
 use rx_names::{Context, ContextError, Names};
-use rx_tags::{Syntax, Tag, TagBuf, TagStep};
-use rx_terms::NoMemory;
-use std::alloc::{AllocError, Global};
-use std::test::Fail;
+use rx_tags::{Syntax, TagBuf, TagStep};
+use std::alloc::Global;
+use std::process::Abort;
 
-/// The standard names at the last of these tags, each of which stands behind its `<`. The characters are those of Latin-1.
-fn names_at(alloc: Global, tags: &[u8]) -> Result<Names, Fail> {
-    let context = Context::standard(alloc)?;
-    let mut names = Names::new(alloc, context, 512)?;
-    push_all(alloc, &mut names, tags)?;
-    Ok(names)
-}
-
-fn push_all(alloc: Global, names: &mut Names, tags: &[u8]) -> Result<(), Fail> {
-    let mut buf = TagBuf::new(alloc, Syntax::Html)?;
+/// Begins an element for each of these tags, which stand behind their `<`, and ends each at once where `end` says so. The
+/// characters are those of Latin-1.
+fn push_all(rt: &impl Abort, alloc: Global, names: &mut Names, tags: &[u8], end: bool) {
+    let mut buf = TagBuf::new(alloc, Syntax::Html).expect(rt, "memory");
     for i in 0..tags.len() {
         match buf.step(char::from(tags[i])) {
             Ok(TagStep::More) => {}
             Ok(TagStep::Done) => {
-                names.push(&buf.tag(0, 0))?;
+                names.push(&buf.tag(0, 0)).expect(rt, "memory");
                 buf.clear();
+                if end {
+                    names.pop();
+                }
             }
-            Err(error) => return Err(Fail::from(error)),
+            Err(error) => panic!(rt; "{error:?}"),
         }
     }
-    Ok(())
+    drop(buf);
+}
+
+/// The standard names at the last of these tags.
+fn names_at(rt: &impl Abort, alloc: Global, tags: &[u8]) -> Names {
+    let context = Context::standard(alloc).expect(rt, "memory");
+    let mut names = Names::new(alloc, context, 512).expect(rt, "memory");
+    push_all(rt, alloc, &mut names, tags, false);
+    names
 }
 
 /// What is asked of names.
@@ -119,27 +123,13 @@ const LINES: &[(&[u8], Question<'static>, &str)] = &[
     (b"", Question::Term("cc"), "none"),
 ];
 
-fn is_answered(
-    alloc: Global,
-    tags: &[u8],
-    question: Question<'_>,
-    expected: &str,
-) -> Result<bool, Fail> {
-    let names = names_at(alloc, tags)?;
-    let holds = answer(&names, question) == expected;
-    drop(names);
-    Ok(holds)
-}
-
 #[test]
-fn lines_of_tags(rt: HostRuntime) -> Result<(), Fail> {
+fn lines_of_tags(rt: HostRuntime) {
     for (tags, question, expected) in LINES {
-        assert!(rt;
-            is_answered(rt.alloc(), *tags, *question, *expected)?,
-            "not {expected}"
-        );
+        let names = names_at(&rt, rt.alloc(), *tags);
+        assert!(rt; answer(&names, *question) == *expected, "not {expected}");
+        drop(names);
     }
-    Ok(())
 }
 
 const COUNTS: &[(&[u8], usize)] = &[
@@ -153,44 +143,6 @@ const COUNTS: &[(&[u8], usize)] = &[
     (b"p prefix='e: a _: a:b'>", 0),
 ];
 
-fn count_at(alloc: Global, tags: &[u8]) -> Result<usize, Fail> {
-    let names = names_at(alloc, tags)?;
-    let count = names.rows();
-    drop(names);
-    Ok(count)
-}
-
-#[test]
-fn counts_of_rows(rt: HostRuntime) -> Result<(), Fail> {
-    for (tags, count) in COUNTS {
-        assert!(rt; count_at(rt.alloc(), *tags)? == *count);
-    }
-    Ok(())
-}
-
-/// Begins and ends an element.
-fn push_and_pop(names: &mut Names, tag: &Tag<'_>) -> Result<(), NoMemory> {
-    names.push(tag)?;
-    names.pop();
-    Ok(())
-}
-
-/// Begins and ends an element of this tag, which stands behind its `<`.
-fn pass(alloc: Global, names: &mut Names, text: &[u8]) -> Result<(), Fail> {
-    let mut buf = TagBuf::new(alloc, Syntax::Html)?;
-    for i in 0..text.len() {
-        match buf.step(char::from(text[i])) {
-            Ok(TagStep::More) => {}
-            Ok(TagStep::Done) => {
-                push_and_pop(names, &buf.tag(0, 0))?;
-                return Ok(());
-            }
-            Err(error) => return Err(Fail::from(error)),
-        }
-    }
-    Ok(())
-}
-
 const BELOW: &[(Question<'static>, &str)] = &[
     (Question::Prefix("e"), "a:b"),
     (Question::Prefix("f"), "none"),
@@ -198,51 +150,37 @@ const BELOW: &[(Question<'static>, &str)] = &[
     (Question::Lang, "de"),
 ];
 
-/// Whether the names answer so once an element inside has ended.
-fn is_answered_behind(
-    alloc: Global,
-    names: &mut Names,
-    question: Question<'_>,
-    expected: &str,
-) -> Result<bool, Fail> {
-    pass(
-        alloc,
-        names,
-        b"b xmlns:e='i:j' prefix='f: k:l' lang='' vocab>",
-    )?;
-    Ok(answer(names, question) == expected && names.rows() == 3)
-}
-
-fn is_restored(alloc: Global, question: Question<'_>, expected: &str) -> Result<bool, Fail> {
-    let mut names = names_at(alloc, b"p prefix='e: a:b' lang=de vocab='c:d'>")?;
-    let holds = is_answered_behind(alloc, &mut names, question, expected);
-    drop(names);
-    holds
-}
-
+/// Names answer as before once an element inside has ended.
 #[test]
-fn elements_that_end(rt: HostRuntime) -> Result<(), Fail> {
-    for (question, expected) in BELOW {
-        assert!(rt; is_restored(rt.alloc(), *question, *expected)?);
+fn rows_and_elements_that_end(rt: HostRuntime) {
+    for (tags, count) in COUNTS {
+        let names = names_at(&rt, rt.alloc(), *tags);
+        assert!(rt; names.rows() == *count);
+        drop(names);
     }
-    Ok(())
+    let mut names = names_at(&rt, rt.alloc(), b"p prefix='e: a:b' lang=de vocab='c:d'>");
+    let inside = b"b xmlns:e='i:j' prefix='f: k:l' lang='' vocab>";
+    push_all(&rt, rt.alloc(), &mut names, inside, true);
+    for (question, expected) in BELOW {
+        assert!(rt; answer(&names, *question) == *expected && names.rows() == 3);
+    }
+    drop(names);
 }
 
 /// The prefixes in order, or the error.
-fn prefixes_shown(alloc: Global, bytes: &[u8]) -> Result<String, AllocError> {
-    match Context::of_json(alloc, bytes) {
-        Ok(context) => prefixes_of(alloc, &context),
-        Err(error) => format!(in alloc; "{error:?}"),
-    }
-}
-
-fn prefixes_of(alloc: Global, context: &Context) -> Result<String, AllocError> {
+fn prefixes_shown(rt: &impl Abort, alloc: Global, bytes: &[u8]) -> String {
     let mut text = String::new(alloc);
-    for i in 0..context.prefix_count() {
-        let (name, iri) = context.prefix_at(i);
-        write!(text, "{name} {iri} ")?;
+    match Context::of_json(alloc, bytes) {
+        Ok(context) => {
+            for i in 0..context.prefix_count() {
+                let (name, iri) = context.prefix_at(i);
+                write!(text, "{name} {iri} ").expect(rt, "memory");
+            }
+            drop(context);
+        }
+        Err(error) => write!(text, "{error:?}").expect(rt, "memory"),
     }
-    Ok(text)
+    text
 }
 
 /// Context files, and their prefixes in order, or the error.
@@ -301,15 +239,6 @@ const PREFIXES: &[(&[u8], &str)] = &[
     (b"\xEF\xBB\xBF{}", "BadContext"),
 ];
 
-#[test]
-fn prefixes_of_context_files(rt: HostRuntime) -> Result<(), Fail> {
-    for (bytes, expected) in PREFIXES {
-        let answer = prefixes_shown(rt.alloc(), *bytes)?;
-        assert_eq!(rt; answer.as_str(), *expected);
-    }
-    Ok(())
-}
-
 const TERMS: &[(&[u8], &str, &str)] = &[
     (b"{}", "license", "none"),
     (b"{\"terms\":{\"ab\":\"b:2\",\"Ab\":\"b:1\"}}", "ab", "b:2"),
@@ -319,54 +248,46 @@ const TERMS: &[(&[u8], &str, &str)] = &[
     (b"{\"terms\":{\"x/y\":\"c:\"}}", "x", "none"),
 ];
 
-fn is_term(alloc: Global, bytes: &[u8], name: &str, expected: &str) -> Result<bool, Fail> {
-    let names = Names::new(alloc, Context::of_json(alloc, bytes)?, 1)?;
-    let holds = answer(&names, Question::Term(name)) == expected;
-    drop(names);
-    Ok(holds)
-}
-
 #[test]
-fn terms_of_context_files(rt: HostRuntime) -> Result<(), Fail> {
-    for (bytes, name, expected) in TERMS {
-        assert!(rt; is_term(rt.alloc(), *bytes, *name, *expected)?);
+fn context_files(rt: HostRuntime) {
+    for (bytes, expected) in PREFIXES {
+        let answer = prefixes_shown(&rt, rt.alloc(), *bytes);
+        assert_eq!(rt; answer.as_str(), *expected);
     }
-    Ok(())
+    for (bytes, name, expected) in TERMS {
+        let context = Context::of_json(rt.alloc(), *bytes).expect(&rt, "a context");
+        let names = Names::new(rt.alloc(), context, 1).expect(&rt, "memory");
+        assert!(rt; answer(&names, Question::Term(*name)) == *expected);
+        drop(names);
+    }
 }
 
 /// The text, and then so many of the character.
-fn with_many(alloc: Global, text: &str, c: char, count: u32) -> Result<String, AllocError> {
-    let mut text = String::from_str(alloc, text)?;
+fn with_many(rt: &impl Abort, alloc: Global, text: &str, c: char, count: u32) -> String {
+    let mut text = String::from_str(alloc, text).expect(rt, "memory");
     for _ in 0..count {
-        text.push(c)?;
+        text.push(c).expect(rt, "memory");
     }
-    Ok(text)
-}
-
-/// How many prefixes the context file has, if it is one.
-fn prefix_count(alloc: Global, bytes: &[u8]) -> Result<usize, ContextError> {
-    let context = Context::of_json(alloc, bytes)?;
-    Ok(context.prefix_count())
+    text
 }
 
 #[test]
-fn long_and_deep_context_files(rt: HostRuntime) -> Result<(), Fail> {
-    let long = with_many(rt.alloc(), "{}", ' ', 65_534)?;
-    assert!(rt; prefix_count(rt.alloc(), long.as_bytes())? == 0);
-    let deep = with_many(rt.alloc(), "", '[', 100_000)?;
-    assert!(rt; prefix_count(rt.alloc(), deep.as_bytes()) == Err(ContextError::BadContext));
-    Ok(())
-}
-
-fn is_standard(context: &Context) -> bool {
-    context.prefix_count() == 19 && context.prefix_at(2) == ("dcat", "http://www.w3.org/ns/dcat#")
-}
-
-#[test]
-fn a_standard_context(rt: HostRuntime) -> Result<(), Fail> {
-    let context = Context::standard(rt.alloc())?;
-    let holds = is_standard(&context);
+fn long_and_deep_context_files(rt: HostRuntime) {
+    let long = with_many(&rt, rt.alloc(), "{}", ' ', 65_534);
+    let context = Context::of_json(rt.alloc(), long.as_bytes()).expect(&rt, "a context");
+    assert!(rt; context.prefix_count() == 0);
     drop(context);
-    assert!(rt; holds);
-    Ok(())
+    let deep = with_many(&rt, rt.alloc(), "", '[', 100_000);
+    match Context::of_json(rt.alloc(), deep.as_bytes()) {
+        Ok(_context) => panic!(rt; "a context"),
+        Err(error) => assert!(rt; error == ContextError::BadContext),
+    }
+}
+
+#[test]
+fn a_standard_context(rt: HostRuntime) {
+    let context = Context::standard(rt.alloc()).expect(&rt, "memory");
+    assert!(rt; context.prefix_count() == 19);
+    assert!(rt; context.prefix_at(2) == ("dcat", "http://www.w3.org/ns/dcat#"));
+    drop(context);
 }

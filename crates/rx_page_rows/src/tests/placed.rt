@@ -3,30 +3,34 @@ ghost use Rattle.std.specs.Prelude.{◌<◌, ◌+◌, ◌^◌, length};
 ghost use Rattle.rx_rdfa.specs.Renaming.{labels as labels_of};
 ghost use Rattle.rx_curie.specs.Seen.{facts_seen};
 
-use crate::tests::evaluator::{is_text, property};
+use crate::tests::evaluator::{iri, is_text, property};
 use rx_curie::{ElementKind, Facts, Ref};
 use rx_eval::{Labels, OwnIris, Placed, is_blank, value_of};
 use rx_terms::{Iri, Node, Text};
 use std::alloc::Global;
-use std::test::Fail;
+use std::process::Abort;
 
-/// Where an element with these facts stands, and the labels that have numbers then.
-fn place(alloc: Global, facts: &Facts, base: &Iri, labels: &mut Labels) -> Result<Placed, Fail>
+/// Where an element with these facts stands, with the labels that have numbers then, and its value.
+fn check(rt: &impl Abort, alloc: Global, facts: &Facts, base: &Iri)
     requires { 7 + 1 + length (labels_of (facts_seen facts.now)) < 2 ^ 64 }
 {
-    let page = Node::Iri(base.try_clone()?);
-    let placed = Placed::of(alloc, facts, 2, base, &page, &page, 7, labels);
+    let mut labels = Labels::new(alloc).expect(rt, "memory");
+    let page = Node::Iri(base.try_clone().expect(rt, "memory"));
+    let placed = Placed::of(alloc, facts, 2, base, &page, &page, 7, &mut labels);
+    let placed = placed.expect(rt, "memory");
+    assert!(rt; is_blank(&placed.subject, 7) && placed.next_blank == 8);
+    assert!(rt; labels.number("x") == Some(7) && labels.number("y").is_none());
+    let value = value_of(alloc, facts, &placed, base, &labels, "Hi").expect(rt, "memory");
+    assert!(rt; is_text(&value, "Hi"));
+    drop(value);
+    drop(placed);
     drop(page);
-    Ok(placed?)
+    drop(labels);
 }
 
-/// An element about a label, and where it stands.
-fn placed(alloc: Global, base: &Iri, labels: &mut Labels) -> Result<(Facts, Placed), Fail> {
-    let property = property(alloc)?;
-    let Ok(label) = Text::of(alloc, "x") else {
-        drop(property);
-        return Err("no memory".into());
-    };
+#[test]
+fn a_text_about_a_label(rt: HostRuntime) {
+    let label = Text::of(rt.alloc(), "x").expect(&rt, "memory");
     let facts = Facts {
         element: ElementKind::Other,
         about: Some(Ref::Label(label)),
@@ -35,7 +39,7 @@ fn placed(alloc: Global, base: &Iri, labels: &mut Labels) -> Result<(Facts, Plac
         src: None,
         rel: None,
         rev: None,
-        property: Some(property),
+        property: Some(property(&rt, rt.alloc())),
         types: None,
         content: None,
         datetime: None,
@@ -44,70 +48,16 @@ fn placed(alloc: Global, base: &Iri, labels: &mut Labels) -> Result<(Facts, Plac
         vocab: None,
         lang: None,
     };
-    match place(alloc, &facts, base, labels) {
-        Ok(placed) => Ok((facts, placed)),
-        Err(error) => {
-            drop(facts);
-            Err(error)
-        }
-    }
-}
-
-fn are_numbered(placed: &Placed, labels: &Labels) -> bool {
-    is_blank(&placed.subject, 7)
-        && placed.next_blank == 8
-        && labels.number("x") == Some(7)
-        && labels.number("y").is_none()
-}
-
-/// Whether the element's value is its text.
-fn is_value(
-    alloc: Global,
-    facts: &Facts,
-    placed: &Placed,
-    base: &Iri,
-    labels: &Labels,
-) -> Result<bool, Fail> {
-    let value = value_of(alloc, facts, placed, base, labels, "Hi")?;
-    Ok(is_text(&value, "Hi"))
-}
-
-fn holds_of(alloc: Global, base: &Iri, labels: &mut Labels) -> Result<bool, Fail> {
-    let (facts, placed) = placed(alloc, base, labels)?;
-    let numbered = are_numbered(&placed, labels);
-    let valued = is_value(alloc, &facts, &placed, base, labels);
-    drop(placed);
+    let base = iri(&rt, rt.alloc(), "http://h.example/d");
+    check(&rt, rt.alloc(), &facts, &base);
     drop(facts);
-    let valued = valued?;
-    Ok(numbered && valued)
-}
-
-fn holds_at(alloc: Global, base: &Iri) -> Result<bool, Fail> {
-    let mut labels = Labels::new(alloc)?;
-    let holds = holds_of(alloc, base, &mut labels);
-    drop(labels);
-    holds
 }
 
 #[test]
-fn a_text_about_a_label(rt: HostRuntime) -> Result<(), Fail> {
-    let base = Iri::of(rt.alloc(), "http://h.example/d")?;
-    let holds = holds_at(rt.alloc(), &base);
-    drop(base);
-    assert!(rt; holds?);
-    Ok(())
-}
-
-fn are_own(iris: &OwnIris) -> bool {
-    iris.rdf_type().as_str() == "http://www.w3.org/1999/02/22-rdf-syntax-ns#type"
-        && iris.uses_vocabulary().as_str() == "http://www.w3.org/ns/rdfa#usesVocabulary"
-}
-
-#[test]
-fn the_own_iris(rt: HostRuntime) -> Result<(), Fail> {
-    let iris = OwnIris::new(rt.alloc())?;
-    let holds = are_own(&iris);
+fn the_own_iris(rt: HostRuntime) {
+    let iris = OwnIris::new(rt.alloc()).expect(&rt, "memory");
+    let uses_vocabulary = "http://www.w3.org/ns/rdfa#usesVocabulary";
+    assert!(rt; iris.rdf_type().as_str() == "http://www.w3.org/1999/02/22-rdf-syntax-ns#type");
+    assert!(rt; iris.uses_vocabulary().as_str() == uses_vocabulary);
     drop(iris);
-    assert!(rt; holds);
-    Ok(())
 }

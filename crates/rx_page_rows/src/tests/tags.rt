@@ -3,8 +3,8 @@ ghost use Rattle.rx_reader.specs.Tables.{is_last};
 ghost use Rattle.rx_tags.specs.TagBufs.{MayStep};
 
 use rx_tags::{Kind, Syntax, Tag, TagBuf, TagError, TagStep};
-use std::alloc::{AllocError, Global};
-use std::test::Fail;
+use std::alloc::Global;
+use std::process::Abort;
 
 /// How many characters were read, and what the last of them answered. The characters are those of Latin-1.
 fn read(buf: &mut TagBuf, text: &[u8]) -> (usize, Result<TagStep, TagError>)
@@ -22,23 +22,19 @@ fn read(buf: &mut TagBuf, text: &[u8]) -> (usize, Result<TagStep, TagError>)
 }
 
 /// The tag with its marks, its name, and each attribute's name and value.
-fn shown(alloc: Global, tag: Tag<'_>) -> Result<String, AllocError> {
+fn shown(rt: &impl Abort, alloc: Global, tag: Tag<'_>) -> String {
     let mut text = String::new(alloc);
-    if tag.closing() {
-        text.push('/')?;
-    }
-    text.push_str(tag.name())?;
+    let mark = if tag.closing() { "/" } else { "" };
+    let name = tag.name();
+    write!(text, "{mark}{name}").expect(rt, "memory");
     for i in 0..tag.count() {
         let (name, value) = tag.attr_at(i);
-        text.push('|')?;
-        text.push_str(name)?;
-        text.push('=')?;
-        text.push_str(value)?;
+        write!(text, "|{name}={value}").expect(rt, "memory");
     }
     if tag.slash() {
-        text.push_str("|/")?;
+        text.push_str("|/").expect(rt, "memory");
     }
-    Ok(text)
+    text
 }
 
 /// Tags behind their `<`, and what they are.
@@ -96,25 +92,20 @@ const WHOLE_TAGS: &[(Syntax, &[u8], &str)] = &[
     (Syntax::Xhtml, b"p a=''>", "p|a="),
 ];
 
-/// What comes of these characters, each of which is read: the tag, where it is whole.
-fn tag_of(alloc: Global, syntax: Syntax, text: &[u8]) -> Result<String, Fail> {
-    let mut buf = TagBuf::new(alloc, syntax)?;
-    let (taken, answer) = read(&mut buf, text);
-    let shown = match answer {
-        Ok(TagStep::Done) if taken == text.len() => shown(alloc, buf.tag(7, 9)),
-        _ => String::from_str(alloc, "no tag"),
-    };
-    drop(buf);
-    Ok(shown?)
-}
-
 #[test]
-fn whole_tags(rt: HostRuntime) -> Result<(), Fail> {
+fn whole_tags(rt: HostRuntime) {
     for (syntax, text, tag) in WHOLE_TAGS {
-        let found = tag_of(rt.alloc(), *syntax, *text)?;
-        assert_eq!(rt; found.as_str(), *tag);
+        let mut buf = TagBuf::new(rt.alloc(), *syntax).expect(&rt, "memory");
+        let (taken, answer) = read(&mut buf, *text);
+        match answer {
+            Ok(TagStep::Done) if taken == text.len() => {
+                let found = shown(&rt, rt.alloc(), buf.tag(7, 9));
+                assert_eq!(rt; found.as_str(), *tag);
+            }
+            _ => panic!(rt; "not {tag}"),
+        }
+        drop(buf);
     }
-    Ok(())
 }
 
 /// What stands behind a `<` up to the character that decides a fault.
@@ -158,26 +149,14 @@ const FAULTS: &[(Syntax, &[u8], Kind)] = &[
     (Syntax::Xhtml, b"p a='1' a='2'/>", Kind::RepeatedAttribute),
 ];
 
-/// How many of these characters are read, and what the last of them answers.
-fn end_of(
-    alloc: Global,
-    syntax: Syntax,
-    text: &[u8],
-) -> Result<(usize, Result<TagStep, TagError>), Fail> {
-    let mut buf = TagBuf::new(alloc, syntax)?;
-    let end = read(&mut buf, text);
-    drop(buf);
-    Ok(end)
-}
-
 #[test]
-fn faults(rt: HostRuntime) -> Result<(), Fail> {
+fn faults(rt: HostRuntime) {
     for (syntax, text, kind) in FAULTS {
-        let (taken, answer) = end_of(rt.alloc(), *syntax, *text)?;
-        assert!(rt; taken == text.len());
-        assert!(rt; answer == Err(TagError::Bad(*kind)));
+        let mut buf = TagBuf::new(rt.alloc(), *syntax).expect(&rt, "memory");
+        let (taken, answer) = read(&mut buf, *text);
+        drop(buf);
+        assert!(rt; taken == text.len() && answer == Err(TagError::Bad(*kind)));
     }
-    Ok(())
 }
 
 const MANY_TAGS: &[(&[u8], Result<TagStep, TagError>)] = &[
@@ -188,17 +167,6 @@ const MANY_TAGS: &[(&[u8], Result<TagStep, TagError>)] = &[
     (b"i a=2>", Ok(TagStep::Done)),
 ];
 
-fn are_read_in_turn(buf: &mut TagBuf) -> bool {
-    for (text, expected) in MANY_TAGS {
-        buf.clear();
-        let (_taken, answer) = read(buf, *text);
-        if answer != *expected {
-            return false;
-        }
-    }
-    true
-}
-
 fn has_values(tag: &Tag<'_>) -> bool {
     tag.token == 3
         && tag.at == 24
@@ -207,24 +175,21 @@ fn has_values(tag: &Tag<'_>) -> bool {
         && tag.attr("d").is_none()
 }
 
-fn reads_values(buf: &mut TagBuf) -> bool {
-    buf.clear();
-    let (_taken, answer) = read(buf, b"p b='1' c='&lt;' b=2>");
-    match answer {
-        Ok(TagStep::Done) => has_values(&buf.tag(3, 24)),
-        _ => false,
-    }
-}
-
 #[test]
-fn one_buffer_for_many_tags(rt: HostRuntime) -> Result<(), Fail> {
-    let mut buf = TagBuf::new(rt.alloc(), Syntax::Html)?;
-    let in_turn = are_read_in_turn(&mut buf);
-    let values = reads_values(&mut buf);
+fn one_buffer_for_many_tags(rt: HostRuntime) {
+    let mut buf = TagBuf::new(rt.alloc(), Syntax::Html).expect(&rt, "memory");
+    for (text, expected) in MANY_TAGS {
+        buf.clear();
+        let (_taken, answer) = read(&mut buf, *text);
+        assert!(rt; answer == *expected);
+    }
+    buf.clear();
+    let (_taken, answer) = read(&mut buf, b"p b='1' c='&lt;' b=2>");
+    match answer {
+        Ok(TagStep::Done) => assert!(rt; has_values(&buf.tag(3, 24))),
+        _ => panic!(rt; "no tag"),
+    }
     drop(buf);
-    assert!(rt; in_turn);
-    assert!(rt; values);
-    Ok(())
 }
 
 const AT_ONCE: &[(Syntax, &[u8], usize)] = &[
@@ -236,67 +201,44 @@ const AT_ONCE: &[(Syntax, &[u8], usize)] = &[
     (Syntax::Xhtml, b"p a='1' b=\"<\"", 11),
 ];
 
-/// How many characters are taken at once.
-fn taken_at_once(alloc: Global, syntax: Syntax, text: &[u8]) -> Result<usize, Fail> {
-    let mut buf = TagBuf::new(alloc, syntax)?;
-    let taken = buf.take_front(text);
-    drop(buf);
-    Ok(taken)
-}
-
-/// The tag, of which all but the last character are taken at once.
-fn tag_at_once(alloc: Global, text: &[u8]) -> Result<String, Fail> {
-    let mut buf = TagBuf::new(alloc, Syntax::Html)?;
-    let _taken = buf.take_front(text);
-    let (_one, answer) = read(&mut buf, b">");
-    let shown = match answer {
-        Ok(TagStep::Done) => shown(alloc, buf.tag(0, 19)),
-        _ => String::from_str(alloc, "no tag"),
-    };
-    drop(buf);
-    Ok(shown?)
-}
-
+/// Of the last tag all but its last character are taken at once.
 #[test]
-fn many_at_once(rt: HostRuntime) -> Result<(), Fail> {
+fn many_at_once(rt: HostRuntime) {
     for (syntax, text, count) in AT_ONCE {
-        assert!(rt; taken_at_once(rt.alloc(), *syntax, *text)? == *count);
+        let mut buf = TagBuf::new(rt.alloc(), *syntax).expect(&rt, "memory");
+        assert!(rt; buf.take_front(*text) == *count);
+        drop(buf);
     }
-    let found = tag_at_once(rt.alloc(), b"p a='&lt;b' C=\"d e\">")?;
-    assert_eq!(rt; found.as_str(), "p|a=<b|c=d e");
-    Ok(())
-}
-
-/// A tag of so many attributes, two of which come again.
-fn long_tag(alloc: Global, count: u32) -> Result<String, Fail> {
-    let mut text = String::new(alloc);
-    text.push_str("p")?;
-    for i in 0..count {
-        write!(text, " a{i}={i}")?;
-    }
-    text.push_str(" a7 a4999>")?;
-    Ok(text)
-}
-
-fn has_five_thousand(buf: &mut TagBuf, text: &[u8]) -> bool
-    requires { MayStep buf.old }
-{
-    let (taken, answer) = read(buf, text);
+    let mut buf = TagBuf::new(rt.alloc(), Syntax::Html).expect(&rt, "memory");
+    let _taken = buf.take_front(b"p a='&lt;b' C=\"d e\">");
+    let (_one, answer) = read(&mut buf, b">");
     match answer {
-        Ok(TagStep::Done) if taken == text.len() => {
-            let tag = buf.tag(0, 0);
-            tag.count() == 5_000 && tag.attr("a4999") == Some("4999")
+        Ok(TagStep::Done) => {
+            let found = shown(&rt, rt.alloc(), buf.tag(0, 19));
+            assert_eq!(rt; found.as_str(), "p|a=<b|c=d e");
         }
-        _ => false,
+        _ => panic!(rt; "no tag"),
     }
+    drop(buf);
 }
 
+/// A tag of five thousand attributes, two of which come again.
 #[test]
-fn five_thousand_attributes(rt: HostRuntime) -> Result<(), Fail> {
-    let text = long_tag(rt.alloc(), 5_000)?;
-    let mut buf = TagBuf::new(rt.alloc(), Syntax::Html)?;
-    let holds = has_five_thousand(&mut buf, text.as_bytes());
+fn five_thousand_attributes(rt: HostRuntime) {
+    let mut text = String::from_str(rt.alloc(), "p").expect(&rt, "memory");
+    for i in 0..5_000_u32 {
+        write!(text, " a{i}={i}").expect(&rt, "memory");
+    }
+    text.push_str(" a7 a4999>").expect(&rt, "memory");
+    let mut buf = TagBuf::new(rt.alloc(), Syntax::Html).expect(&rt, "memory");
+    let (taken, answer) = read(&mut buf, text.as_bytes());
+    match answer {
+        Ok(TagStep::Done) => {
+            let tag = buf.tag(0, 0);
+            assert!(rt; taken == text.len() && tag.count() == 5_000);
+            assert!(rt; tag.attr("a4999") == Some("4999"));
+        }
+        _ => panic!(rt; "no tag"),
+    }
     drop(buf);
-    assert!(rt; holds);
-    Ok(())
 }

@@ -1,74 +1,61 @@
 ghost use Rattle.std.specs.Prelude.{◌≡◌, ◌≤◌, true};
 ghost use Rattle.rx_scan.specs.Steps.{is_of_syntax};
 
+use crate::tests::elements::show_stop;
 use rx_scan::{Content, Fault, Kind, Limits, RawName, Scan, Stop, Syntax, Token};
 use std::alloc::Global;
 use std::process::Abort;
-use std::test::Fail;
 
 // The token as it is written here: tags in brackets, text as it is, `!` for a document type, `~` for what is skipped.
-fn show(out: &mut String, token: Token<'_>) -> Result<(), Fail> {
+fn show(rt: &impl Abort, out: &mut String, token: Token<'_>) {
     match token {
         Token::More => {}
         Token::Start(tag) => {
-            out.push('[')?;
-            out.push_str(tag.name())?;
-            out.push(']')?;
+            let name = tag.name();
+            write!(out, "[{name}]").expect(rt, "memory");
         }
         Token::End(tag) => {
-            out.push_str("[/")?;
-            out.push_str(tag.name())?;
-            out.push(']')?;
+            let name = tag.name();
+            write!(out, "[/{name}]").expect(rt, "memory");
         }
-        Token::Text(text) => out.push_str(text)?,
-        Token::Doctype => out.push('!')?,
-        Token::Skipped => out.push('~')?,
+        Token::Text(text) => out.push_str(text).expect(rt, "memory"),
+        Token::Doctype => out.push('!').expect(rt, "memory"),
+        Token::Skipped => out.push('~').expect(rt, "memory"),
     }
-    Ok(())
-}
-
-fn show_stop(alloc: Global, out: &mut String, stop: Stop) -> Result<(), Fail> {
-    match stop {
-        Stop::NoMemory => out.push_str("no memory")?,
-        Stop::Fault(fault) => {
-            let text = format!(in alloc; " {:?} {} {}", fault.kind, fault.token, fault.at)?;
-            out.push_str(text.as_str())?;
-        }
-    }
-    Ok(())
 }
 
 // Whether the piece was taken.
-fn feed(alloc: Global, scan: &mut Scan, piece: &[u8], out: &mut String) -> Result<bool, Fail> {
+fn feed(rt: &impl Abort, scan: &mut Scan, piece: &[u8], out: &mut String) -> bool {
     let mut rest = piece;
     while !rest.is_empty() {
         match scan.step(rest) {
             Err(stop) => {
-                show_stop(alloc, out, stop)?;
-                return Ok(false);
+                show_stop(rt, out, stop);
+                return false;
             }
             Ok((taken, token)) => {
-                show(out, token)?;
+                show(rt, out, token);
                 rest = &rest[taken..];
             }
         }
     }
-    Ok(true)
+    true
 }
 
-fn read(alloc: Global, scan: &mut Scan, page: &[u8], size: usize) -> Result<String, Fail>
+// What is told of the page in pieces of this size.
+fn read(rt: &impl Abort, alloc: Global, scan: &mut Scan, page: &[u8], size: usize) -> String
     requires { 1 ≤ size }
 {
     let mut out = String::new(alloc);
     for piece in page.chunks(size) {
-        if !feed(alloc, scan, piece, &mut out)? {
-            return Ok(out);
+        if !feed(rt, scan, piece, &mut out) {
+            return out;
         }
     }
     if let Err(stop) = scan.end() {
-        show_stop(alloc, &mut out, stop)?;
+        show_stop(rt, &mut out, stop);
     }
-    Ok(out)
+    out
 }
 
 const LIMITS: Limits = Limits {
@@ -85,20 +72,18 @@ fn check(
     content: Content,
     drop_newline: bool,
     rows: &[(&[u8], &str)],
-) -> Result<(), Fail>
+)
     requires { is_of_syntax syntax content ≡ true }
 {
     for (page, expected) in rows {
         for size in 1..8 {
-            let mut scan = Scan::new(alloc, syntax, LIMITS)?;
+            let mut scan = Scan::new(alloc, syntax, LIMITS).expect(rt, "memory");
             scan.enter(content, drop_newline);
-            let found = read(alloc, &mut scan, *page, size);
+            let found = read(rt, alloc, &mut scan, *page, size);
             drop(scan);
-            let found = found?;
             assert_eq!(rt; found.as_str(), *expected, "in pieces of {size}");
         }
     }
-    Ok(())
 }
 
 const HTML: &[(&[u8], &str)] = &[
@@ -157,11 +142,6 @@ const HTML: &[(&[u8], &str)] = &[
     (b"", ""),
 ];
 
-#[test]
-fn in_html(rt: HostRuntime) -> Result<(), Fail> {
-    check(&rt, rt.alloc(), Syntax::Html, Content::Html, false, HTML)
-}
-
 const FOREIGN: &[(&[u8], &str)] = &[
     (b"<![CDATA[a]]b]c]]>d", "a]]b]cd"),
     (b"<![CDATA[]]>c", "~c"),
@@ -204,31 +184,6 @@ const DROPPED: &[(&[u8], &str)] = &[
     (b"<!---->\n", "~\n"),
 ];
 
-#[test]
-fn in_other_html(rt: HostRuntime) -> Result<(), Fail> {
-    let script = Content::Raw(RawName::Script);
-    let title = Content::Rcdata(RawName::Title);
-    check(
-        &rt,
-        rt.alloc(),
-        Syntax::Html,
-        Content::Foreign,
-        false,
-        FOREIGN,
-    )?;
-    check(
-        &rt,
-        rt.alloc(),
-        Syntax::Html,
-        Content::Outside,
-        false,
-        OUTSIDE,
-    )?;
-    check(&rt, rt.alloc(), Syntax::Html, script, false, RAW)?;
-    check(&rt, rt.alloc(), Syntax::Html, title, false, TITLE)?;
-    check(&rt, rt.alloc(), Syntax::Html, Content::Html, true, DROPPED)
-}
-
 const XHTML: &[(&[u8], &str)] = &[
     (b"<!--a-b-->c", "~c"),
     (b"<!--a--b", " StrictText 0 7"),
@@ -256,26 +211,6 @@ const XHTML: &[(&[u8], &str)] = &[
 
 const OUTSIDE_XHTML: &[(&[u8], &str)] = &[(b"<![CDATA[", " Outside 0 8"), (b" <?a?><a>", " ~[a]")];
 
-#[test]
-fn in_xhtml(rt: HostRuntime) -> Result<(), Fail> {
-    check(
-        &rt,
-        rt.alloc(),
-        Syntax::Xhtml,
-        Content::Strict,
-        false,
-        XHTML,
-    )?;
-    check(
-        &rt,
-        rt.alloc(),
-        Syntax::Xhtml,
-        Content::Outside,
-        false,
-        OUTSIDE_XHTML,
-    )
-}
-
 // A paragraph with its line end, and a script's begin, which end at every place in some piece.
 const PARAGRAPH: &[(&[u8], &str)] = &[(
     b"<p about=\"#\xC3\xA9\" property=\"http://v.example/p\">\xC3\xA9&eacute;\r\n</p><script>",
@@ -283,15 +218,31 @@ const PARAGRAPH: &[(&[u8], &str)] = &[(
 )];
 
 #[test]
-fn cut_anywhere(rt: HostRuntime) -> Result<(), Fail> {
+fn in_html(rt: HostRuntime) {
+    let alloc = rt.alloc();
+    let html = Syntax::Html;
+    check(&rt, alloc, html, Content::Html, false, HTML);
+    check(&rt, alloc, html, Content::Html, true, DROPPED);
+    check(&rt, alloc, html, Content::Html, false, PARAGRAPH);
+    check(&rt, alloc, html, Content::Foreign, false, FOREIGN);
+    check(&rt, alloc, html, Content::Outside, false, OUTSIDE);
+    check(&rt, alloc, html, Content::Raw(RawName::Script), false, RAW);
     check(
         &rt,
-        rt.alloc(),
-        Syntax::Html,
-        Content::Html,
+        alloc,
+        html,
+        Content::Rcdata(RawName::Title),
         false,
-        PARAGRAPH,
-    )
+        TITLE,
+    );
+}
+
+#[test]
+fn in_xhtml(rt: HostRuntime) {
+    let alloc = rt.alloc();
+    let xhtml = Syntax::Xhtml;
+    check(&rt, alloc, xhtml, Content::Strict, false, XHTML);
+    check(&rt, alloc, xhtml, Content::Outside, false, OUTSIDE_XHTML);
 }
 
 const LIMITED: &[(&[u8], &str)] = &[
@@ -304,37 +255,25 @@ const LIMITED: &[(&[u8], &str)] = &[
 ];
 
 #[test]
-fn limits(rt: HostRuntime) -> Result<(), Fail> {
+fn limits(rt: HostRuntime) {
     let limits = Limits {
         depth: 1,
         tag: 3,
         page: 6,
     };
     for (page, expected) in LIMITED {
-        let mut scan = Scan::new(rt.alloc(), Syntax::Html, limits)?;
-        let found = read(rt.alloc(), &mut scan, *page, 3);
+        let mut scan = Scan::new(rt.alloc(), Syntax::Html, limits).expect(&rt, "memory");
+        let found = read(&rt, rt.alloc(), &mut scan, *page, 3);
         drop(scan);
-        let found = found?;
         assert_eq!(rt; found.as_str(), *expected);
     }
-    Ok(())
 }
 
-/// Whether the tag of the first bytes is lent, with its place.
-fn is_lent(scan: &Scan) -> bool {
-    match scan.last() {
-        Some(tag) => tag.name() == "p" && tag.token == 0 && tag.at == 6 && scan.place() == 7,
-        None => false,
-    }
-}
-
-/// Whether a tag is lent from its step on.
-fn lends_its_tag(scan: &mut Scan) -> bool {
-    if scan.last().is_some() || scan.step(b"<p a=b>").is_err() {
-        return false;
-    }
-    is_lent(scan)
-}
+const OUTSIDE_TEXT: Fault = Fault {
+    kind: Kind::Outside,
+    token: 7,
+    at: 7,
+};
 
 /// Whether the step answers the fault of the text that stands outside.
 fn is_refused(scan: &mut Scan, piece: &[u8]) -> bool {
@@ -344,27 +283,15 @@ fn is_refused(scan: &mut Scan, piece: &[u8]) -> bool {
     }
 }
 
-/// Whether a fault is answered again, by a step and at the end, and lends no tag.
-fn answers_again(scan: &mut Scan) -> bool {
-    if !is_refused(scan, b"x") || scan.last().is_some() || !is_refused(scan, b"  ") {
-        return false;
-    }
-    scan.end() == Err(Stop::Fault(OUTSIDE_TEXT))
-}
-
-const OUTSIDE_TEXT: Fault = Fault {
-    kind: Kind::Outside,
-    token: 7,
-    at: 7,
-};
-
+/// A tag is lent from its step on, with its place. A fault is answered again, by a step and at the end, and lends no tag.
 #[test]
-fn last_answers(rt: HostRuntime) -> Result<(), Fail> {
-    let mut scan = Scan::new(rt.alloc(), Syntax::Html, Limits::standard())?;
-    let lends = lends_its_tag(&mut scan);
-    let again = answers_again(&mut scan);
+fn last_answers(rt: HostRuntime) {
+    let mut scan = Scan::new(rt.alloc(), Syntax::Html, Limits::standard()).expect(&rt, "memory");
+    assert!(rt; scan.last().is_none() && scan.step(b"<p a=b>").is_ok());
+    let tag = scan.last().expect(&rt, "a tag");
+    assert!(rt; tag.name() == "p" && tag.token == 0 && tag.at == 6 && scan.place() == 7);
+    assert!(rt; is_refused(&mut scan, b"x") && scan.last().is_none());
+    assert!(rt; is_refused(&mut scan, b"  "));
+    assert!(rt; scan.end() == Err(Stop::Fault(OUTSIDE_TEXT)));
     drop(scan);
-    assert!(rt; lends);
-    assert!(rt; again);
-    Ok(())
 }

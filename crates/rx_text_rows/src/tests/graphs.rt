@@ -1,8 +1,9 @@
 //! Large graphs, and each call once.
-use rx_graph::{Graph, copy_patterns, copy_patterns_owned, relabel, relabel_owned};
-use rx_terms::{Blank, Iri, Literal, LiteralKind, NoMemory, Node, Term, Text, Triple, TripleList};
+use crate::tests::nquads::{Object, Subject, graph, push_all};
+use rx_graph::{Graph, copy_patterns, copy_patterns_owned, relabel};
+use rx_terms::{Blank, Node, Term, TripleList};
 use std::alloc::Global;
-use std::test::Fail;
+use std::process::Abort;
 
 const TYPE: &str = "http://www.w3.org/1999/02/22-rdf-syntax-ns#type";
 
@@ -10,24 +11,9 @@ const COPY: &str = "http://www.w3.org/ns/rdfa#copy";
 
 const PATTERN: &str = "http://www.w3.org/ns/rdfa#Pattern";
 
-/// Adds a triple of two blank nodes.
-fn push_link(
-    alloc: Global,
-    triples: &mut TripleList,
-    subject: u64,
-    predicate: &str,
-    object: u64,
-) -> Result<(), Fail> {
-    let predicate = Iri::of(alloc, predicate)?;
-    triples.push(Triple {
-        subject: Node::Blank(Blank(subject)),
-        predicate,
-        object: Term::Blank(Blank(object)),
-    })?;
-    Ok(())
-}
+const P: &str = "http://v.example/p";
 
-/// What a list of blank nodes is: how many links there are, and the subject and the object of each by its number.
+/// What a list of blank nodes is: the subject and the object of each link by its number.
 #[derive(Clone, Copy)]
 enum Shape {
     /// Subjects that count down from 1,000 and come again, and one object.
@@ -40,46 +26,31 @@ enum Shape {
     Chain(u64),
 }
 
-impl Shape {
-    fn count(self) -> u64 {
-        match self {
-            Shape::Repeats => 10_000,
-            Shape::Crossed => 1_000,
-            Shape::Many => 12_000,
-            Shape::Chain(_first) => 100,
-        }
-    }
-
-    fn link(self, i: u64) -> (u64, u64) {
-        match self {
-            Shape::Repeats => (1_000_u64.saturating_sub(i % 1_000), 5_000),
-            Shape::Crossed => (i, 1_000_u64.saturating_sub(i)),
-            Shape::Many => (i % 10_000, i % 5_000),
-            Shape::Chain(first) => (
-                first.saturating_add(i),
-                first.saturating_add(i).saturating_add(1),
-            ),
-        }
+/// The link of this number.
+fn link(shape: Shape, i: u64) -> (u64, u64) {
+    match shape {
+        Shape::Repeats => (1_000_u64.saturating_sub(i % 1_000), 5_000),
+        Shape::Crossed => (i, 1_000_u64.saturating_sub(i)),
+        Shape::Many => (i % 10_000, i % 5_000),
+        Shape::Chain(first) => (
+            first.saturating_add(i),
+            first.saturating_add(i).saturating_add(1),
+        ),
     }
 }
 
-fn push_links(alloc: Global, triples: &mut TripleList, shape: Shape) -> Result<(), Fail> {
-    for i in 0..shape.count() {
-        let (subject, object) = shape.link(i);
-        push_link(alloc, triples, subject, "http://v.example/p", object)?;
-    }
-    Ok(())
-}
-
-fn links(alloc: Global, shape: Shape) -> Result<TripleList, Fail> {
+fn links(rt: &impl Abort, alloc: Global, shape: Shape, count: u64) -> TripleList {
     let mut triples = TripleList::new(alloc);
-    match push_links(alloc, &mut triples, shape) {
-        Ok(()) => Ok(triples),
-        Err(error) => {
-            drop(triples);
-            Err(error)
-        }
+    for i in 0..count {
+        let (subject, object) = link(shape, i);
+        push_all(
+            rt,
+            alloc,
+            &mut triples,
+            &[(Subject::Blank(subject), P, Object::Blank(object))],
+        );
     }
+    triples
 }
 
 /// How many triples the graph has, and whether its triple at a place has this subject and this object.
@@ -91,190 +62,75 @@ fn has(graph: &Graph, count: usize, at: usize, subject: u64, object: u64) -> boo
     triple.subject == Node::Blank(Blank(subject)) && triple.object == Term::Blank(Blank(object))
 }
 
-fn copied(alloc: Global, shape: Shape) -> Result<Graph, Fail> {
-    let triples = links(alloc, shape)?;
-    Ok(copy_patterns_owned(alloc, triples)?)
+/// A shape, how many links there are, whether the graph's blank nodes are numbered once patterns are copied, how many
+/// triples are left then, and one of these by its place. Numbers that are right stay.
+const LARGE: &[(Shape, u64, bool, usize, usize, (u64, u64))] = &[
+    (Shape::Repeats, 10_000, false, 1_000, 999, (1, 5_000)),
+    (Shape::Repeats, 10_000, true, 1_000, 999, (1_000, 1)),
+    (Shape::Many, 12_000, false, 10_000, 9_999, (9_999, 4_999)),
+    (Shape::Crossed, 1_000, true, 1_000, 1, (2, 3)),
+    (Shape::Chain(0), 100, true, 100, 99, (99, 100)),
+    (Shape::Chain(1), 100, true, 100, 99, (99, 100)),
+];
+
+fn copied(rt: &impl Abort, alloc: Global, triples: TripleList) -> Graph {
+    copy_patterns_owned(alloc, triples).expect(rt, "memory")
 }
 
-fn renumbered(alloc: Global, shape: Shape) -> Result<Graph, Fail> {
-    let graph = copied(alloc, shape)?;
-    Ok(relabel_owned(alloc, graph)?)
+#[test]
+fn repeats_vanish_and_numbers_follow(rt: HostRuntime) {
+    for (shape, links_count, is_numbered, count, at, ends) in LARGE {
+        let triples = links(&rt, rt.alloc(), *shape, *links_count);
+        let graph = if *is_numbered {
+            graph(&rt, rt.alloc(), triples)
+        } else {
+            copied(&rt, rt.alloc(), triples)
+        };
+        assert!(rt; has(&graph, *count, *at, ends.0, ends.1));
+        drop(graph);
+    }
 }
 
-fn is_copied(
-    alloc: Global,
-    shape: Shape,
-    count: usize,
-    at: usize,
-    link: (u64, u64),
-) -> Result<bool, Fail> {
-    let graph = copied(alloc, shape)?;
-    let holds = has(&graph, count, at, link.0, link.1);
-    drop(graph);
-    Ok(holds)
-}
-
-fn is_renumbered(
-    alloc: Global,
-    shape: Shape,
-    count: usize,
-    at: usize,
-    link: (u64, u64),
-) -> Result<bool, Fail> {
-    let graph = renumbered(alloc, shape)?;
-    let holds = has(&graph, count, at, link.0, link.1);
-    drop(graph);
-    Ok(holds)
-}
-
-/// The sizes of the graph of a list that is lent: as a set, copied, and numbered.
-fn lent_sizes(alloc: Global, triples: &TripleList) -> Result<(usize, usize, usize), NoMemory> {
-    let graph = Graph::of(alloc, triples)?;
-    let numbered = relabel(alloc, &graph);
-    let count = graph.len();
-    drop(graph);
-    let numbered = numbered?;
-    let numbers = numbered.len();
+/// The graph of a list that is lent: as a set, numbered, and copied.
+#[test]
+fn a_list_may_be_lent(rt: HostRuntime) {
+    let triples = links(&rt, rt.alloc(), Shape::Repeats, 10_000);
+    let graph = Graph::of(rt.alloc(), &triples).expect(&rt, "memory");
+    let numbered = relabel(rt.alloc(), &graph).expect(&rt, "memory");
+    assert!(rt; graph.len() == 1_000 && numbered.len() == 1_000);
     drop(numbered);
-    let copied = copy_patterns(alloc, triples)?;
-    Ok((count, copied.len(), numbers))
-}
-
-fn sizes(alloc: Global, shape: Shape) -> Result<(usize, usize, usize), Fail> {
-    let triples = links(alloc, shape)?;
-    let sizes = lent_sizes(alloc, &triples);
-    drop(triples);
-    Ok(sizes?)
-}
-
-#[test]
-fn repeats_vanish(rt: HostRuntime) -> Result<(), Fail> {
-    let alloc = rt.alloc();
-    assert!(rt; sizes(alloc, Shape::Repeats)? == (1_000, 1_000, 1_000));
-    assert!(rt; is_copied(alloc, Shape::Repeats, 1_000, 999, (1, 5_000))?);
-    assert!(rt; is_renumbered(alloc, Shape::Repeats, 1_000, 999, (1_000, 1))?);
-    assert!(rt; is_copied(alloc, Shape::Many, 10_000, 9_999, (9_999, 4_999))?);
-    Ok(())
-}
-
-#[test]
-fn a_list_without_repeats_is_its_graph(rt: HostRuntime) -> Result<(), Fail> {
-    let alloc = rt.alloc();
-    assert!(rt; is_renumbered(alloc, Shape::Crossed, 1_000, 1, (2, 3))?);
-    Ok(())
-}
-
-#[test]
-fn numbers_that_are_right_stay(rt: HostRuntime) -> Result<(), Fail> {
-    let alloc = rt.alloc();
-    for first in 0..2 {
-        assert!(rt; is_renumbered(alloc, Shape::Chain(first), 100, 99, (99, 100))?);
-    }
-    Ok(())
-}
-
-/// Adds a triple whose object is this text.
-fn push_text(alloc: Global, triples: &mut TripleList, text: &str) -> Result<(), Fail> {
-    let predicate = Iri::of(alloc, "http://v.example/p")?;
-    let lexical = Text::of(alloc, text)?;
-    triples.push(Triple {
-        subject: Node::Blank(Blank(0)),
-        predicate,
-        object: Term::Literal(Literal {
-            kind: LiteralKind::Plain,
-            lexical,
-        }),
-    })?;
-    Ok(())
-}
-
-fn push_texts(alloc: Global, triples: &mut TripleList, texts: &[&str]) -> Result<(), Fail> {
-    for text in texts {
-        push_text(alloc, triples, text)?;
-    }
-    Ok(())
-}
-
-fn texts(alloc: Global, texts: &[&str]) -> Result<TripleList, Fail> {
-    let mut triples = TripleList::new(alloc);
-    match push_texts(alloc, &mut triples, texts) {
-        Ok(()) => Ok(triples),
-        Err(error) => {
-            drop(triples);
-            Err(error)
-        }
-    }
-}
-
-fn is_text(triple: &Triple, text: &str) -> bool {
-    match &triple.object {
-        Term::Literal(literal) => literal.lexical.as_str() == text,
-        _ => false,
-    }
-}
-
-fn are_texts(graph: &Graph, texts: &[&str]) -> bool {
-    if graph.len() != texts.len() {
-        return false;
-    }
-    for i in 0..texts.len() {
-        if i >= graph.len() || !is_text(graph.at(i), texts[i]) {
-            return false;
-        }
-    }
-    true
-}
-
-#[test]
-fn the_first_of_each_kind_stays_in_order(rt: HostRuntime) -> Result<(), Fail> {
-    let list = texts(rt.alloc(), &["c", "a", "c", "b", "a", "a", "d"])?;
-    let graph = copy_patterns_owned(rt.alloc(), list)?;
-    let holds = are_texts(&graph, &["c", "a", "b", "d"]);
     drop(graph);
-    assert!(rt; holds);
-    Ok(())
+    let copied = copy_patterns(rt.alloc(), &triples).expect(&rt, "memory");
+    assert!(rt; copied.len() == 1_000);
+    drop(copied);
+    drop(triples);
 }
 
-/// Adds the three triples of a pattern that copies the next one.
-fn push_pattern(alloc: Global, triples: &mut TripleList, i: u64) -> Result<(), Fail> {
-    let predicate = Iri::of(alloc, TYPE)?;
-    let pattern = Iri::of(alloc, PATTERN)?;
-    triples.push(Triple {
-        subject: Node::Blank(Blank(i)),
-        predicate,
-        object: Term::Iri(pattern),
-    })?;
-    push_link(alloc, triples, i, COPY, i.saturating_add(1))?;
-    push_link(alloc, triples, i, "http://v.example/p", i)
-}
-
-fn push_patterns(alloc: Global, triples: &mut TripleList) -> Result<(), Fail> {
-    for i in 0..2_000 {
-        push_pattern(alloc, triples, i)?;
-    }
-    push_link(alloc, triples, 9_000, COPY, 0)
-}
-
-fn patterns(alloc: Global) -> Result<TripleList, Fail> {
+/// Patterns of which each copies the next one, and what copies the first.
+fn patterns(rt: &impl Abort, alloc: Global) -> TripleList {
     let mut triples = TripleList::new(alloc);
-    match push_patterns(alloc, &mut triples) {
-        Ok(()) => Ok(triples),
-        Err(error) => {
-            drop(triples);
-            Err(error)
-        }
+    for i in 0..2_000 {
+        let pattern = Subject::Blank(i);
+        let rows = [
+            (pattern, TYPE, Object::Iri(PATTERN)),
+            (pattern, COPY, Object::Blank(i.saturating_add(1))),
+            (pattern, P, Object::Blank(i)),
+        ];
+        push_all(rt, alloc, &mut triples, &rows);
     }
+    push_all(
+        rt,
+        alloc,
+        &mut triples,
+        &[(Subject::Blank(9_000), COPY, Object::Blank(0))],
+    );
+    triples
 }
 
 // The last pattern's copy triple isn't live. It is copied with the 2,000 others.
 #[test]
-fn a_long_chain_is_copied(rt: HostRuntime) -> Result<(), Fail> {
-    let list = patterns(rt.alloc())?;
-    let graph = copy_patterns_owned(rt.alloc(), list)?;
-    let count = graph.len();
-    let is_empty = graph.is_empty();
+fn a_long_chain_is_copied(rt: HostRuntime) {
+    let graph = copied(&rt, rt.alloc(), patterns(&rt, rt.alloc()));
+    assert!(rt; graph.len() == 2_001 && !graph.is_empty());
     drop(graph);
-    assert!(rt; count == 2_001);
-    assert!(rt; !is_empty);
-    Ok(())
 }

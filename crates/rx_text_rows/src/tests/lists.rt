@@ -1,30 +1,7 @@
 //! Lists of `inlist`, each call once.
+use crate::tests::nquads::iri;
 use rx_lists::{Finished, Lists};
-use rx_terms::{Blank, Iri, Node, Term, Triple, TripleList};
-use std::alloc::Global;
-use std::test::Fail;
-
-/// Two places and a touched list of one owner, the second place filled first, and what comes of the owner.
-fn finished(alloc: Global, lists: &mut Lists, names: &(Iri, Iri)) -> Result<Finished, Fail> {
-    let owner = lists.start(Node::Blank(Blank(1)))?;
-    let waits = lists.slot(owner, &names.0)?;
-    let filled = lists.slot(owner, &names.0)?;
-    lists.touch(owner, &names.1)?;
-    lists.fill(filled, Term::Blank(Blank(8)));
-    lists.fill(waits, Term::Blank(Blank(7)));
-    Ok(lists.finish(owner, 20)?)
-}
-
-fn names(alloc: Global) -> Result<(Iri, Iri), Fail> {
-    let first = Iri::of(alloc, "http://v.example/p")?;
-    match Iri::of(alloc, "http://v.example/q") {
-        Ok(second) => Ok((first, second)),
-        Err(error) => {
-            drop(first);
-            Err(Fail::from(error))
-        }
-    }
-}
+use rx_terms::{Blank, Node, Term, TripleList};
 
 fn is_object(list: &TripleList, at: usize, number: u64) -> bool {
     at < list.len() && list.at(at).object == Term::Blank(Blank(number))
@@ -44,21 +21,20 @@ fn are_cells(finished: &Finished) -> bool {
         && is_subject(list, 5, 1)
 }
 
-fn keep_order(alloc: Global) -> Result<bool, Fail> {
-    let names = names(alloc)?;
-    let Ok(mut lists) = Lists::new(alloc) else {
-        drop(names);
-        return Err("no lists".into());
-    };
-    let finished = finished(alloc, &mut lists, &names);
-    drop(lists);
-    drop(names);
-    let finished = finished?;
-    Ok(are_cells(&finished))
-}
-
+/// Two places and a touched list of one owner, the second place filled first, and what comes of the owner.
 #[test]
-fn lists_keep_the_order_of_their_slots(rt: HostRuntime) -> Result<(), Fail> {
-    assert!(rt; keep_order(rt.alloc())?);
-    Ok(())
+fn lists_keep_the_order_of_their_slots(rt: HostRuntime) {
+    let filled_list = iri(&rt, rt.alloc(), "http://v.example/p");
+    let touched_list = iri(&rt, rt.alloc(), "http://v.example/q");
+    let mut lists = Lists::new(rt.alloc()).expect(&rt, "memory");
+    let owner = lists.start(Node::Blank(Blank(1))).expect(&rt, "memory");
+    let waits = lists.slot(owner, &filled_list).expect(&rt, "memory");
+    let filled = lists.slot(owner, &filled_list).expect(&rt, "memory");
+    lists.touch(owner, &touched_list).expect(&rt, "memory");
+    lists.fill(filled, Term::Blank(Blank(8)));
+    lists.fill(waits, Term::Blank(Blank(7)));
+    let finished = lists.finish(owner, 20).expect(&rt, "memory");
+    drop(lists);
+    assert!(rt; are_cells(&finished));
+    drop(finished);
 }

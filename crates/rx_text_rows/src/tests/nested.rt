@@ -1,37 +1,11 @@
 //! Worked rows: lists of triples, and their graph's nested text in Turtle.
-use crate::tests::nquads::{Object, Row, Subject, list};
-use rx_graph::Graph;
+use crate::tests::nquads::{Object, Row, Subject, check_text, graph_of, sink};
+use crate::tests::turtle::standard;
 use rx_names::Context;
-use rx_ports::MemSink;
 use rx_shapes::Shapes;
-use rx_terms::NoMemory;
 use rx_turtle::{WriteError, nested, write_nested};
 use std::alloc::Global;
-use std::test::Fail;
-
-fn nested_text(alloc: Global, graph: &Graph, context: &Context) -> Result<Vec<u8>, NoMemory> {
-    let shapes = Shapes::of(alloc, graph)?;
-    let written = nested(alloc, graph, &shapes, context);
-    drop(shapes);
-    written
-}
-
-/// Whether the graph of the rows has this text under a context.
-fn is_text(alloc: Global, rows: &[Row], context: &Context, wanted: &str) -> Result<bool, Fail> {
-    let graph = Graph::of_owned(alloc, list(alloc, rows)?)?;
-    let written = nested_text(alloc, &graph, context);
-    drop(graph);
-    let written = written?;
-    Ok(written.as_slice() == wanted.as_bytes())
-}
-
-/// The same under the standard context.
-fn is_nested(alloc: Global, rows: &[Row], wanted: &str) -> Result<bool, Fail> {
-    let context = Context::standard(alloc)?;
-    let holds = is_text(alloc, rows, &context, wanted);
-    drop(context);
-    holds
-}
+use std::process::Abort;
 
 const TYPE: &str = "http://www.w3.org/1999/02/22-rdf-syntax-ns#type";
 
@@ -91,18 +65,6 @@ const PRODUCT: &[Row] = &[
 const PRODUCT_TEXT: &str =
     "@prefix rdfa: <http://www.w3.org/ns/rdfa#> .\n@prefix schema: <http://schema.org/> .\n\n<http://shop.example/anvil> rdfa:usesVocabulary <http://schema.org/> ;\n    a schema:Product ;\n    schema:name \"Anvil\"@en ;\n    schema:image <http://shop.example/anvil.jpg> ;\n    schema:offers [ a schema:Offer ; schema:priceCurrency \"USD\"@en ; schema:price \"119.99\"@en ; schema:availability schema:InStock ] .\n";
 
-#[test]
-fn a_product_is_nested(rt: HostRuntime) -> Result<(), Fail> {
-    assert!(rt; is_nested(rt.alloc(), PRODUCT, PRODUCT_TEXT)?);
-    Ok(())
-}
-
-#[test]
-fn a_graph_of_nothing_is_empty(rt: HostRuntime) -> Result<(), Fail> {
-    assert!(rt; is_nested(rt.alloc(), &[], "")?);
-    Ok(())
-}
-
 const LIST: &[Row] = &[
     (
         Subject::Iri("http://h.example/d#a"),
@@ -115,20 +77,11 @@ const LIST: &[Row] = &[
     (Subject::Blank(1), REST, Object::Iri(NIL)),
 ];
 
-#[test]
-fn a_list_stands_in_parentheses(rt: HostRuntime) -> Result<(), Fail> {
-    let wanted = "<http://h.example/d#a> <http://v.example/q> ( \"abc\" \"c\" ) .\n";
-    assert!(rt; is_nested(rt.alloc(), LIST, wanted)?);
-    Ok(())
-}
+const LIST_TEXT: &str = "<http://h.example/d#a> <http://v.example/q> ( \"abc\" \"c\" ) .\n";
 
-#[test]
-fn the_empty_list_is_a_pair_of_parentheses(rt: HostRuntime) -> Result<(), Fail> {
-    let rows = &[(PAGE, LIKES, Object::Iri(NIL))];
-    let wanted = "<http://h.example/d> <http://v.example/l> () .\n";
-    assert!(rt; is_nested(rt.alloc(), rows, wanted)?);
-    Ok(())
-}
+const EMPTY_LIST: &[Row] = &[(PAGE, LIKES, Object::Iri(NIL))];
+
+const EMPTY_LIST_TEXT: &str = "<http://h.example/d> <http://v.example/l> () .\n";
 
 /// An item that stands twice in a list.
 const SHARED: &[Row] = &[
@@ -141,20 +94,11 @@ const SHARED: &[Row] = &[
     (Subject::Blank(2), REST, Object::Iri(NIL)),
 ];
 
-#[test]
-fn a_node_of_two_triples_has_a_label(rt: HostRuntime) -> Result<(), Fail> {
-    let wanted =
-        "_:b0 <http://v.example/n> \"1\" , \"2\" .\n<http://h.example/d> <http://v.example/l> ( _:b0 _:b0 ) .\n";
-    assert!(rt; is_nested(rt.alloc(), SHARED, wanted)?);
-    Ok(())
-}
+/// A node of two triples has a label.
+const SHARED_TEXT: &str =
+    "_:b0 <http://v.example/n> \"1\" , \"2\" .\n<http://h.example/d> <http://v.example/l> ( _:b0 _:b0 ) .\n";
 
-#[test]
-fn a_node_may_speak_of_itself(rt: HostRuntime) -> Result<(), Fail> {
-    let rows = &[(Subject::Blank(0), "http://v.example/p", Object::Blank(0))];
-    assert!(rt; is_nested(rt.alloc(), rows, "_:b0 <http://v.example/p> _:b0 .\n")?);
-    Ok(())
-}
+const OF_ITSELF: &[Row] = &[(Subject::Blank(0), "http://v.example/p", Object::Blank(0))];
 
 /// A cycle of three nodes with one parent each, and one that hangs from it.
 const CYCLE: &[Row] = &[
@@ -165,14 +109,10 @@ const CYCLE: &[Row] = &[
     (Subject::Blank(3), KNOWS, Object::Plain("x")),
 ];
 
-#[test]
-fn a_cycle_has_labels(rt: HostRuntime) -> Result<(), Fail> {
-    let wanted =
-        "_:b0 <http://v.example/k> _:b1 .\n_:b1 <http://v.example/k> _:b2 ;\n    <http://v.example/l> _:b3 .\n_:b2 <http://v.example/k> _:b0 .\n_:b3 <http://v.example/k> \"x\" .\n";
-    assert!(rt; is_nested(rt.alloc(), CYCLE, wanted)?);
-    Ok(())
-}
+const CYCLE_TEXT: &str =
+    "_:b0 <http://v.example/k> _:b1 .\n_:b1 <http://v.example/k> _:b2 ;\n    <http://v.example/l> _:b3 .\n_:b2 <http://v.example/k> _:b0 .\n_:b3 <http://v.example/k> \"x\" .\n";
 
+/// Lists and nodes inside one another.
 const LISTS: &[Row] = &[
     (PAGE, KNOWS, Object::Blank(0)),
     (Subject::Blank(0), FIRST, Object::Blank(1)),
@@ -184,13 +124,8 @@ const LISTS: &[Row] = &[
     (Subject::Blank(3), KNOWS, Object::Blank(4)),
 ];
 
-#[test]
-fn lists_and_nodes_nest(rt: HostRuntime) -> Result<(), Fail> {
-    let wanted =
-        "<http://h.example/d> <http://v.example/k> ( ( [ <http://v.example/k> [] ] ) () ) .\n";
-    assert!(rt; is_nested(rt.alloc(), LISTS, wanted)?);
-    Ok(())
-}
+const LISTS_TEXT: &str =
+    "<http://h.example/d> <http://v.example/k> ( ( [ <http://v.example/k> [] ] ) () ) .\n";
 
 /// A cell of which something more is said, and one before it.
 const MORE: &[Row] = &[
@@ -202,14 +137,11 @@ const MORE: &[Row] = &[
     (Subject::Blank(1), LIKES, Object::Plain("c")),
 ];
 
-#[test]
-fn a_cell_of_three_triples_is_none(rt: HostRuntime) -> Result<(), Fail> {
-    let wanted =
-        "@prefix rdf: <http://www.w3.org/1999/02/22-rdf-syntax-ns#> .\n\n<http://h.example/d> <http://v.example/k> [ rdf:first \"a\" ; rdf:rest [ rdf:first \"b\" ; rdf:rest () ; <http://v.example/l> \"c\" ] ] .\n";
-    assert!(rt; is_nested(rt.alloc(), MORE, wanted)?);
-    Ok(())
-}
+/// A cell of three triples is none.
+const MORE_TEXT: &str =
+    "@prefix rdf: <http://www.w3.org/1999/02/22-rdf-syntax-ns#> .\n\n<http://h.example/d> <http://v.example/k> [ rdf:first \"a\" ; rdf:rest [ rdf:first \"b\" ; rdf:rest () ; <http://v.example/l> \"c\" ] ] .\n";
 
+/// The empty list as a subject.
 const ABOUT_NIL: &[Row] = &[
     (Subject::Iri(NIL), KNOWS, Object::Blank(0)),
     (
@@ -219,49 +151,65 @@ const ABOUT_NIL: &[Row] = &[
     ),
 ];
 
-#[test]
-fn the_empty_list_may_be_a_subject(rt: HostRuntime) -> Result<(), Fail> {
-    let wanted =
-        "@prefix rdf: <http://www.w3.org/1999/02/22-rdf-syntax-ns#> .\n@prefix xsd: <http://www.w3.org/2001/XMLSchema#> .\n\nrdf:nil <http://v.example/k> [] .\n<http://h.example/d> <http://v.example/k> \"7\"^^xsd:int .\n";
-    assert!(rt; is_nested(rt.alloc(), ABOUT_NIL, wanted)?);
-    Ok(())
-}
+const ABOUT_NIL_TEXT: &str =
+    "@prefix rdf: <http://www.w3.org/1999/02/22-rdf-syntax-ns#> .\n@prefix xsd: <http://www.w3.org/2001/XMLSchema#> .\n\nrdf:nil <http://v.example/k> [] .\n<http://h.example/d> <http://v.example/k> \"7\"^^xsd:int .\n";
 
-/// What comes of the product, written to a sink with so much room, and how many bytes the sink holds then.
-fn sent(alloc: Global, room: usize) -> Result<(Result<(), WriteError>, usize), Fail> {
-    let context = Context::standard(alloc)?;
-    let answer = sent_under(alloc, &context, room);
-    drop(context);
-    answer
-}
+/// Triples, and their graph's text under the standard context.
+const GRAPHS: &[(&[Row], &str)] = &[
+    (PRODUCT, PRODUCT_TEXT),
+    (&[], ""),
+    (LIST, LIST_TEXT),
+    (EMPTY_LIST, EMPTY_LIST_TEXT),
+    (SHARED, SHARED_TEXT),
+    (OF_ITSELF, "_:b0 <http://v.example/p> _:b0 .\n"),
+    (CYCLE, CYCLE_TEXT),
+    (LISTS, LISTS_TEXT),
+    (MORE, MORE_TEXT),
+    (ABOUT_NIL, ABOUT_NIL_TEXT),
+];
 
-fn sent_under(
-    alloc: Global,
-    context: &Context,
-    room: usize,
-) -> Result<(Result<(), WriteError>, usize), Fail> {
-    let graph = Graph::of_owned(alloc, list(alloc, PRODUCT)?)?;
-    let answer = sent_graph(alloc, &graph, context, room);
-    drop(graph);
-    answer
-}
-
-fn sent_graph(
-    alloc: Global,
-    graph: &Graph,
-    context: &Context,
-    room: usize,
-) -> Result<(Result<(), WriteError>, usize), Fail> {
-    let mut sink = MemSink::with_room(alloc, room, 50, Vec::new(alloc))?;
-    let shapes = Shapes::of(alloc, graph)?;
-    let answer = write_nested(alloc, graph, &shapes, context, &mut sink);
+fn check(rt: &impl Abort, alloc: Global, rows: &[Row], context: &Context, wanted: &str) {
+    let graph = graph_of(rt, alloc, rows);
+    let shapes = Shapes::of(alloc, &graph).expect(rt, "memory");
+    let written = nested(alloc, &graph, &shapes, context).expect(rt, "memory");
     drop(shapes);
-    Ok((answer, sink.held().len()))
+    drop(graph);
+    check_text(rt, written.as_slice(), wanted);
 }
 
 #[test]
-fn a_text_is_sent(rt: HostRuntime) -> Result<(), Fail> {
-    assert!(rt; sent(rt.alloc(), 1_000)? == (Ok(()), PRODUCT_TEXT.len()));
-    assert!(rt; sent(rt.alloc(), 100)? == (Err(WriteError::Failed), 100));
-    Ok(())
+fn graphs_are_nested(rt: HostRuntime) {
+    let context = standard(&rt, rt.alloc());
+    for (rows, wanted) in GRAPHS {
+        check(&rt, rt.alloc(), *rows, &context, *wanted);
+    }
+    drop(context);
+}
+
+/// What comes of the product that is written to a sink with so much room, and how many bytes it holds then.
+fn sent(
+    rt: &impl Abort,
+    alloc: Global,
+    context: &Context,
+    room: usize,
+) -> (Result<(), WriteError>, usize) {
+    let graph = graph_of(rt, alloc, PRODUCT);
+    let shapes = Shapes::of(alloc, &graph).expect(rt, "memory");
+    let mut sink = sink(rt, alloc, room, 50);
+    let answer = write_nested(alloc, &graph, &shapes, context, &mut sink);
+    let held = sink.held().len();
+    drop(sink);
+    drop(shapes);
+    drop(graph);
+    (answer, held)
+}
+
+#[test]
+fn a_text_is_sent(rt: HostRuntime) {
+    let context = standard(&rt, rt.alloc());
+    let whole = sent(&rt, rt.alloc(), &context, 1_000);
+    let cut = sent(&rt, rt.alloc(), &context, 100);
+    drop(context);
+    assert!(rt; whole == (Ok(()), PRODUCT_TEXT.len()));
+    assert!(rt; cut == (Err(WriteError::Failed), 100));
 }

@@ -1,10 +1,10 @@
 //! Shapes of the blank nodes of a small graph.
-use crate::tests::nquads::{Object, Row, Subject, list};
+use crate::tests::nquads::{Object, Row, Subject, graph_of};
 use rx_graph::Graph;
 use rx_shapes::{Shape, Shapes};
 use rx_terms::{Blank, Node};
 use std::alloc::Global;
-use std::test::Fail;
+use std::process::Abort;
 
 const FIRST: &str = "http://www.w3.org/1999/02/22-rdf-syntax-ns#first";
 
@@ -22,11 +22,8 @@ const SHAPED: &[Row] = &[
     (Subject::Blank(1), "v:k", Object::Blank(2)),
 ];
 
-fn shapes(alloc: Global) -> Result<Shapes, Fail> {
-    let graph = Graph::of_owned(alloc, list(alloc, SHAPED)?)?;
-    let shapes = Shapes::of(alloc, &graph);
-    drop(graph);
-    Ok(shapes?)
+fn shapes_of(rt: &impl Abort, alloc: Global, graph: &Graph) -> Shapes {
+    Shapes::of(alloc, graph).expect(rt, "memory")
 }
 
 fn are_shaped(shapes: &Shapes) -> bool {
@@ -43,12 +40,10 @@ fn are_placed(shapes: &Shapes) -> bool {
 }
 
 #[test]
-fn nodes_have_their_shapes(rt: HostRuntime) -> Result<(), Fail> {
-    let shapes = shapes(rt.alloc())?;
-    let shaped = are_shaped(&shapes);
-    let placed = are_placed(&shapes);
+fn nodes_have_their_shapes(rt: HostRuntime) {
+    let graph = graph_of(&rt, rt.alloc(), SHAPED);
+    let shapes = shapes_of(&rt, rt.alloc(), &graph);
+    drop(graph);
+    assert!(rt; are_shaped(&shapes) && are_placed(&shapes));
     drop(shapes);
-    assert!(rt; shaped);
-    assert!(rt; placed);
-    Ok(())
 }

@@ -1,31 +1,12 @@
 //! Worked rows: lists of triples, and their graph's text in Turtle.
-use crate::tests::nquads::{Object, Row, Subject, list};
-use rx_graph::Graph;
+use crate::tests::nquads::{Object, Row, Subject, check_text, graph_of, sink};
 use rx_names::Context;
-use rx_ports::MemSink;
 use rx_turtle::{WriteError, text, write};
 use std::alloc::Global;
-use std::test::Fail;
+use std::process::Abort;
 
-fn graph(alloc: Global, rows: &[Row]) -> Result<Graph, Fail> {
-    Ok(Graph::of_owned(alloc, list(alloc, rows)?)?)
-}
-
-/// Whether the graph of the rows has this text under a context.
-fn is_text(alloc: Global, rows: &[Row], context: &Context, wanted: &str) -> Result<bool, Fail> {
-    let graph = graph(alloc, rows)?;
-    let written = text(alloc, &graph, context);
-    drop(graph);
-    let written = written?;
-    Ok(written.as_slice() == wanted.as_bytes())
-}
-
-/// The same under the standard context.
-fn is_standard(alloc: Global, rows: &[Row], wanted: &str) -> Result<bool, Fail> {
-    let context = Context::standard(alloc)?;
-    let holds = is_text(alloc, rows, &context, wanted);
-    drop(context);
-    holds
+pub(crate) fn standard(rt: &impl Abort, alloc: Global) -> Context {
+    Context::standard(alloc).expect(rt, "memory")
 }
 
 const TYPE: &str = "http://www.w3.org/1999/02/22-rdf-syntax-ns#type";
@@ -74,18 +55,6 @@ const PRODUCT: &[Row] = &[
 const PRODUCT_TEXT: &str =
     "@prefix rdfa: <http://www.w3.org/ns/rdfa#> .\n@prefix schema: <http://schema.org/> .\n\n<http://shop.example/anvil> rdfa:usesVocabulary <http://schema.org/> ;\n    a schema:Product ;\n    schema:name \"Anvil\"@en ;\n    schema:image <http://shop.example/anvil.jpg> ;\n    schema:offers _:b0 .\n_:b0 a schema:Offer ;\n    schema:priceCurrency \"USD\"@en ;\n    schema:price \"119.99\"@en ;\n    schema:availability schema:InStock .\n";
 
-#[test]
-fn a_product_is_written(rt: HostRuntime) -> Result<(), Fail> {
-    assert!(rt; is_standard(rt.alloc(), PRODUCT, PRODUCT_TEXT)?);
-    Ok(())
-}
-
-#[test]
-fn a_graph_of_nothing_is_empty(rt: HostRuntime) -> Result<(), Fail> {
-    assert!(rt; is_standard(rt.alloc(), &[], "")?);
-    Ok(())
-}
-
 const LITERALS: &[Row] = &[
     (Subject::Iri("x:s"), "x:p", Object::Plain("a\"b\\c\n")),
     (Subject::Iri("x:s"), "x:q", Object::Plain("é")),
@@ -96,13 +65,8 @@ const LITERALS: &[Row] = &[
     ),
 ];
 
-#[test]
-fn objects_stand_together(rt: HostRuntime) -> Result<(), Fail> {
-    let wanted =
-        "@prefix xsd: <http://www.w3.org/2001/XMLSchema#> .\n\n<x:s> <x:p> \"a\\\"b\\\\c\\n\" , \"7\"^^xsd:int ;\n    <x:q> \"é\" .\n";
-    assert!(rt; is_standard(rt.alloc(), LITERALS, wanted)?);
-    Ok(())
-}
+const LITERALS_TEXT: &str =
+    "@prefix xsd: <http://www.w3.org/2001/XMLSchema#> .\n\n<x:s> <x:p> \"a\\\"b\\\\c\\n\" , \"7\"^^xsd:int ;\n    <x:q> \"é\" .\n";
 
 /// Prefixes of which two stand for one IRI, one for a longer one, and one has a name that isn't written.
 const PREFIXES: &[u8] =
@@ -121,57 +85,52 @@ const SHORT: &[Row] = &[
     ),
 ];
 
-/// What is written under a context file.
-fn is_short(alloc: Global) -> Result<bool, Fail> {
-    let Ok(context) = Context::of_json(alloc, PREFIXES) else {
-        return Err("no context".into());
-    };
-    let wanted =
-        "@prefix v: <http://v.example/> .\n@prefix vx: <http://v.example/x> .\n\nvx:y <http://v.example/x/y> <http://v.example/x.y> ;\n    v:p1 <http://v.example/1p> .\n";
-    let holds = is_text(alloc, SHORT, &context, wanted);
-    drop(context);
-    holds
-}
+/// Of the prefixes that fit, the longest is taken.
+const SHORT_TEXT: &str =
+    "@prefix v: <http://v.example/> .\n@prefix vx: <http://v.example/x> .\n\nvx:y <http://v.example/x/y> <http://v.example/x.y> ;\n    v:p1 <http://v.example/1p> .\n";
 
-#[test]
-fn the_longest_prefix_is_taken(rt: HostRuntime) -> Result<(), Fail> {
-    assert!(rt; is_short(rt.alloc())?);
-    Ok(())
-}
+/// Triples, and their graph's text under the standard context.
+const GRAPHS: &[(&[Row], &str)] = &[
+    (PRODUCT, PRODUCT_TEXT),
+    (&[], ""),
+    (LITERALS, LITERALS_TEXT),
+];
 
-/// What comes of the product, written to a sink with so much room, and how many bytes the sink holds then.
-fn sent(alloc: Global, room: usize) -> Result<(Result<(), WriteError>, usize), Fail> {
-    let context = Context::standard(alloc)?;
-    let answer = sent_under(alloc, &context, room);
-    drop(context);
-    answer
-}
-
-fn sent_under(
-    alloc: Global,
-    context: &Context,
-    room: usize,
-) -> Result<(Result<(), WriteError>, usize), Fail> {
-    let graph = graph(alloc, PRODUCT)?;
-    let answer = sent_graph(alloc, &graph, context, room);
+fn check(rt: &impl Abort, alloc: Global, rows: &[Row], context: &Context, wanted: &str) {
+    let graph = graph_of(rt, alloc, rows);
+    let written = text(alloc, &graph, context).expect(rt, "memory");
     drop(graph);
-    answer
-}
-
-fn sent_graph(
-    alloc: Global,
-    graph: &Graph,
-    context: &Context,
-    room: usize,
-) -> Result<(Result<(), WriteError>, usize), Fail> {
-    let mut sink = MemSink::with_room(alloc, room, 50, Vec::new(alloc))?;
-    let answer = write(alloc, graph, context, &mut sink);
-    Ok((answer, sink.held().len()))
+    check_text(rt, written.as_slice(), wanted);
 }
 
 #[test]
-fn a_text_is_sent(rt: HostRuntime) -> Result<(), Fail> {
-    assert!(rt; sent(rt.alloc(), 1_000)? == (Ok(()), PRODUCT_TEXT.len()));
-    assert!(rt; sent(rt.alloc(), 100)? == (Err(WriteError::Failed), 100));
-    Ok(())
+fn graphs_are_written(rt: HostRuntime) {
+    let standard = standard(&rt, rt.alloc());
+    for (rows, wanted) in GRAPHS {
+        check(&rt, rt.alloc(), *rows, &standard, *wanted);
+    }
+    let short = Context::of_json(rt.alloc(), PREFIXES).expect(&rt, "a context");
+    check(&rt, rt.alloc(), SHORT, &short, SHORT_TEXT);
+    drop(short);
+    drop(standard);
+}
+
+/// Rooms of a sink, what comes of the product that is written to it, and how many bytes it holds then.
+const ROOMS: &[(usize, Result<(), WriteError>, usize)] = &[
+    (1_000, Ok(()), PRODUCT_TEXT.len()),
+    (100, Err(WriteError::Failed), 100),
+];
+
+#[test]
+fn a_text_is_sent(rt: HostRuntime) {
+    let context = standard(&rt, rt.alloc());
+    let graph = graph_of(&rt, rt.alloc(), PRODUCT);
+    for (room, answer, held) in ROOMS {
+        let mut sink = sink(&rt, rt.alloc(), *room, 50);
+        let written = write(rt.alloc(), &graph, &context, &mut sink);
+        assert!(rt; written == *answer && sink.held().len() == *held);
+        drop(sink);
+    }
+    drop(graph);
+    drop(context);
 }
