@@ -1,5 +1,5 @@
 -- Comments, instructions and sections are read as they are spelled.
-use Rattle.rx_terms.proofs.Common.{◌≡◌, ◌∙◌, ℕ, Bool, true, false, [], ◌∷◌, ◌++◌, Option, refl, ap, sym, append_assoc, inl, inr, ◌+◌, arith, ◌&&◌, not, cond-true, cond-false, and_from, or_left, or_right, or_parts, map-append, lowered_char, greater_than_sign, Chars, begins_with, lowered, both, either, not_both_ways, by_test, and-false}
+use Rattle.rx_terms.proofs.Common.{◌≡◌, ◌∙◌, ℕ, Bool, true, false, [], ◌∷◌, ◌++◌, Option, refl, ap, sym, append_assoc, inl, inr, ◌+◌, arith, ◌&&◌, not, cond-true, cond-false, and_from, or_left, or_right, or_parts, map-append, lowered_char, greater_than_sign, Chars, begins_with, lowered, both, either, not_both_ways, by_test, and-false, ◌||◌}
 use Rattle.std.specs.Prelude.{◌-◌, codes, length, take}
 use Rattle.std.proofs.lemmas.List.{length-append}
 use Rattle.std.proofs.Math.Seq.{take-append_seam}

@@ -1,5 +1,5 @@
 -- Characters that go on begin a token; what is read spells one; what is refused is faulty.
-use Rattle.rx_terms.proofs.Common.{◌≡◌, ◌∙◌, ℕ, Bool, true, false, [], ◌∷◌, ◌++◌, Option, Some, None, refl, ap, sym, subst, append-nil, append_assoc, eqb-true, ◌&&◌, ◌==◌, map-append, length-map, lowered_char, solidus, Chars, lowered, begins_with, both, not_both_ways, by_test, or_from, or_parts}
+use Rattle.rx_terms.proofs.Common.{◌≡◌, ◌∙◌, ℕ, Bool, true, false, [], ◌∷◌, ◌++◌, Option, Some, None, refl, ap, sym, subst, append-nil, append_assoc, eqb-true, ◌&&◌, ◌==◌, map-append, length-map, lowered_char, solidus, Chars, lowered, begins_with, both, not_both_ways, by_test, or_from, or_parts, ◌||◌, or_left, or_right}
 use Rattle.std.specs.Prelude.{codes}
 use Rattle.rx_grammar.proofs.Common.{Syntax, Html, Xhtml, Tag, Token, tag, section, comment, doctype, SpellsTag, Spells, IsFirst, has_sections, begins_declaration, ends_with, ends_comment, raw_name, begins_end, Unfinished}
 use Rattle.rx_grammar.specs.declared.contents.Content.{Content}

@@ -30,7 +30,7 @@ use Rattle.rx_grammar.specs.declared.faults.Kind.TheVariants as kind
 use Rattle.rx_grammar.specs.Spelling as spelling
 use Rattle.rx_grammar.specs.PageFaults as faults
 use Rattle.rx_pages.proofs.Pending.{goes_at, not_whole}
-use Rattle.rx_pages.proofs.Refusals.{IsRefused, refuses_run, refuses_text, refuses_less_than, refuses_section}
+use Rattle.rx_pages.proofs.Refusals.{IsRefused, refuses_run, refuses_text, refuses_less_than, refuses_section, refuses_comment}
 use Rattle.rx_pages.proofs.Openings.{refuses_opening}
 use Rattle.rx_pages.proofs.DoctypeFaults.{refuses_doctype}
 use Rattle.rx_pages.proofs.TagRuns.{tag_refused}

@@ -1,5 +1,5 @@
 -- Behind `<!` a move says what the verdict is: by the words that may stand there, as texts.
-use Rattle.rx_terms.proofs.Common.{◌≡◌, ◌∙◌, ℕ, ◌+◌, Bool, true, false, [], ◌∷◌, ◌++◌, refl, ap, sym, subst, Option, append_assoc, append-nil, eqb-true, cond, length, map, arith, slice_get, ◌==◌, ◌&&◌, not, cond-true, cond-false, or_from, or_left, or_right, ne_eqb, and_right, length-map, map-append, lowered_char, Chars, begins_with, lowered, split, by_test, both, untrue, not_both_ways, and-false, list_all}
+use Rattle.rx_terms.proofs.Common.{◌≡◌, ◌∙◌, ℕ, ◌+◌, Bool, true, false, [], ◌∷◌, ◌++◌, refl, ap, sym, subst, Option, append_assoc, append-nil, eqb-true, cond, length, map, arith, slice_get, ◌==◌, ◌&&◌, not, cond-true, cond-false, or_from, or_left, or_right, ne_eqb, and_right, length-map, map-append, lowered_char, Chars, begins_with, lowered, split, by_test, both, untrue, not_both_ways, and-false, list_all, ◌||◌}
 use Rattle.std.proofs.Common.{eq-eqb}
 use Rattle.std.specs.Prelude.{codes, drop}
 use Rattle.std.proofs.lemmas.List.{length-append}
@@ -22,7 +22,7 @@ use Rattle.rx_scan.specs.declared.marks.TokenState.TheVariants as mark
 use Rattle.rx_scan.specs.declared.marks.Move.{Move}
 use Rattle.rx_scan.specs.declared.marks.Move.TheVariants as move
 use Rattle.rx_scan.specs.Marks as marks
-use Rattle.rx_scan.specs.Pending.{Pending, PendsAs, InOpened, InOpening, Behind, judge_of, SectionEnds, DoctypeEnds}
+use Rattle.rx_scan.specs.Pending.{Pending, PendsAs, InOpened, InOpening, Behind, judge_of, SectionEnds, DoctypeEnds, CommentEnds, StrictEnds}
 use Rattle.rx_scan.specs.Meant.{Means, Goes}
 use Rattle.rx_scan.proofs.Snoc.{ends_one, either_way, cancel, word_at, short, all_at}
 
