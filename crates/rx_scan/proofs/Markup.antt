@@ -28,7 +28,7 @@ use Rattle.rx_reader.specs.declared.phases.TagPhase.{TagPhase}
 use Rattle.rx_reader.specs.declared.phases.TagPhase.TheVariants as phase
 use Rattle.rx_reader.proofs.TagLaws.{tag_on-append}
 use Rattle.rx_reader.proofs.Fronts.{equal}
-use Rattle.rx_pages.proofs.FirstFronts.{same_self}
+use Rattle.rx_reader.proofs.OneToken.{same_self}
 use Rattle.rx_pages.proofs.RawEnds.{solidus_of}
 
 fresh_steps : (s : Syntax) (t : TagSoFar) → t ≡ no_tag s → MayStep t

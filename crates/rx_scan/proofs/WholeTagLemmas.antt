@@ -39,7 +39,6 @@ use Rattle.rx_scan.proofs.FrontLemmas.{front_read}
 use Rattle.rx_scan.proofs.QuietLemmas.{next_read, token_read}
 use Rattle.rx_scan.proofs.FeedLemmas.{opens_taken}
 use Rattle.rx_scan.proofs.RunLemmas.{ReadsOn, reads_none}
-use Rattle.rx_tags.proofs.TagLemmas.{get_behind}
 
 -- the `>` that ends a tag is read as its last byte
 module _ (l new : Reading) (m : l.pending.mark ≡ mark.Tag) (held : l.held ≡ []) (page : l.place.at < l.setting.limits.page) (tag : l.place.at < l.place.token + l.setting.limits.tag)
@@ -189,6 +188,9 @@ module _ (l : Reading) (m : l.pending.mark ≡ mark.Nothing) (held : l.held ≡ 
       opened = taken_as begun p (drop 1 bytes) (limit - 1) count refl refl (λ setting. opens_more setting (limit - 1) (drop 1 bytes) (opens setting)) (omega (arith, f, some, length-drop 1 bytes)) (λ _. omega (arith, page_is, some)) (λ _. omega (arith, tag_is, starts, some)) t l.pending.mark k new place b e;
     };
   }
+
+get_behind : (bytes : List ℕ) (i n : ℕ) → get_or (drop i bytes) n 0 ≡ get_or bytes (i + n) 0
+get_behind bytes i n = grind (arith, common_steps)
 
 -- behind so many bytes of a piece, of which the last one is its `<`, it is the next token
 opened_took : (old l new : Reading) (s : reader.Scanning) (piece : List ℕ) (i n : ℕ) → i ≤ length piece → ReadsOn old s (take i piece) l → l.text.text ≡ [] → ReadsOpened l (drop i piece) n new → Took old s piece (i + n) what.Tag new
