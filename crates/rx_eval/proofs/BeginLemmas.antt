@@ -103,15 +103,12 @@ entries_parts M at here v s b e = ap (λ (x : Option (Term ℕ)). entries_by M S
 filled_by : (s : Bool) (property : Option (List Chars)) (v : Option (Term ℕ)) → false ≡ (not s && (is_some property && is_none v)) → s ≡ false → (p : Chars) → Among (listed property) p → Filled (Some v)
 filled_by s None v g e p a = absurd a
 filled_by s (Some ps) (Some t) g e p a = tt
-filled_by true (Some ps) None g e p a = absurd (cc)
-filled_by false (Some ps) None g e p a = absurd (cc)
+filled_by _ (Some ps) None g e p a = absurd (cc)
 
 -- one that does isn't skipped, and has no other value
 gathering : (s : Bool) (property : Option (List Chars)) (v : Option (Term ℕ)) → true ≡ (not s && (is_some property && is_none v)) → (s ≡ false) × (v ≡ None)
-gathering true property v g = absurd (cc)
-gathering false None v g = absurd (cc)
 gathering false (Some ps) None g = (refl, refl)
-gathering false (Some ps) (Some t) g = absurd (cc)
+gathering _ _ _ g = absurd (cc)
 
 -- ---- the numbers
 
@@ -424,9 +421,8 @@ module _ (to : Numbering) (m : Machine Bnode Owner) (state : State) (facts : Fac
   said_none false None None chars p g = no_property facts.inlist facts.property p
     where
       no_property : (b : Bool) (q : Option (List Chars)) → q ≡ None → [] ≡ (if b then [] else map (λ p. spo here.subject p (value_of_text (rule moments base facts here) facts chars)) (listed q))
-      no_property true q e = refl
-      no_property false None e = refl
       no_property false (Some ps) e = absurd (cc)
+      no_property _ _ e = refl
   said_none false (Some ps) None chars p g = absurd (cc)
 
   said_some : (t : Text) (chars : Chars) → here.skipped ≡ false → v ≡ None → Told t

@@ -42,9 +42,8 @@ type_more [] x = append-nil (label_of (ref_seen x))
 type_more (y ∷ xs) x = ap (λ (l : List Chars). label_of (ref_seen y) ++ l) (type_more xs x) ∙ sym (append_assoc (label_of (ref_seen y)) (type_labels xs) (label_of (ref_seen x)))
 
 type_split : (i : ℕ) (xs : List CodeRef) → type_labels xs ≡ type_labels (take i xs) ++ type_labels (drop i xs)
-type_split zero xs = refl
-type_split (suc i) [] = refl
 type_split (suc i) (x ∷ xs) = ap (λ (l : List Chars). label_of (ref_seen x) ++ l) (type_split i xs) ∙ sym (append_assoc (label_of (ref_seen x)) (type_labels (take i xs)) (type_labels (drop i xs)))
+type_split _ _ = refl
 
 take_at : {A : Type 0} (xs : List A) (i : ℕ) (x : A) → slice_get xs i ≡ Some x → take (suc i) xs ≡ take i xs ++ x ∷ []
 take_at [] i x h = absurd (cc)

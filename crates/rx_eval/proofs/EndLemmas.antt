@@ -44,9 +44,8 @@ waits_renamed f r [] = refl
 waits_renamed f r (x ∷ xs) = ap₂ (λ (a b : Bool). a || b) (item x.item) (waits_renamed f r xs)
   where
     item : (i : Option (Slot _)) → slot_waits r (option_map (rename_slot f) i) ≡ slot_waits r i
-    item None = refl
     item (Some (Full v)) = refl
-    item (Some (Waiting q)) = refl
+    item _ = refl
 
 item_filled : (r : Path) (v : Term ℕ) (i : Option (Slot ℕ)) → slot_waits r (option_map (fill_slot r v) i) ≡ false
 item_filled r v None = refl
@@ -276,19 +275,16 @@ module _ (to : Numbering) (m : Machine Bnode Owner) (state : State) (l : Layer) 
   pending_before : (o : Owner) → Left o → Pending (l ∷ lower) m.path m.next o
   pending_before First h = tt
   pending_before (Of q) (inl c) = inl (coming_before q c)
-  pending_before (Of q) (inr a) = inr (inr a)
   pending_before (Below q) (inl c) = inl (coming_before q c)
-  pending_before (Below q) (inr a) = inr (inr a)
+  pending_before _ (inr a) = inr (inr a)
 
   not_own : (o : Owner) → Left o → ¬ (o ≡ Of l.at.path)
-  not_own First h e = absurd (cc e)
   not_own (Of q) h e = not_itself q h (cc e)
-  not_own (Below q) h e = absurd (cc e)
+  not_own _ h e = absurd (cc e)
 
   not_under : (o : Owner) → Left o → ¬ (o ≡ Below l.at.path)
-  not_under First h e = absurd (cc e)
-  not_under (Of q) h e = absurd (cc e)
   not_under (Below q) h e = not_itself q h (cc e)
+  not_under _ h e = absurd (cc e)
 
   still_unbegun : (o : Owner) → Left o → owner_place (open_in state.base lower) o ≡ None → of_owner same_owner o said.now ≡ []
   still_unbegun o h e =

@@ -55,18 +55,16 @@ none_filled o r v xs h = of_filled o r v xs ∙ ap (fill r v) h
 item_filled : (m j : ℕ) (v : Term ℕ) (l i : ℕ) (t : Table (Option (Term ℕ))) → HasItem l i t → HasItem l i (with_item m j v t)
 item_filled m j v l i [] h = absurd h
 item_filled zero j v zero i (row ∷ t) h = let n = set_length row.1 j (Some v) in omega (arith, n, h)
-item_filled zero j v (suc l) i (row ∷ t) h = h
-item_filled (suc m) j v zero i (row ∷ t) h = h
 item_filled (suc m) j v (suc l) i (row ∷ t) h = item_filled m j v l i t h
+item_filled _ j v _ i (row ∷ t) h = h
 
 place_filled : (w m j : ℕ) (v : Term ℕ) (n l i : ℕ) (os : Many) → HasPlace n l i os → HasPlace n l i (fill_seen m j v os w)
 place_filled w m j v n l i [] h = tt
 place_filled zero m j v zero l i (None ∷ os) h = tt
 place_filled zero m j v zero l i (Some o ∷ os) h = item_filled m j v l i o.lists h
-place_filled zero m j v (suc n) l i (o ∷ os) h = h
 place_filled (suc w) m j v zero l i (None ∷ os) h = tt
-place_filled (suc w) m j v zero l i (Some o ∷ os) h = h
 place_filled (suc w) m j v (suc n) l i (o ∷ os) h = place_filled w m j v n l i os h
+place_filled _ m j v _ l i _ h = h
 
 places_filled : (w m j : ℕ) (v : Term ℕ) (slots : List SlotId) (os : Many) → HasPlaces slots os → HasPlaces slots (fill_seen m j v os w)
 places_filled w m j v [] os h = tt

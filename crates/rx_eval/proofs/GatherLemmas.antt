@@ -26,8 +26,7 @@ places_are M at here owners =
 
 second : (p n : Bool) → true ≡ (p && n) → n ≡ true
 second true true h = refl
-second true false h = absurd (cc)
-second false n h = absurd (cc)
+second _ _ h = absurd (cc)
 
 if_same : (listed waits : Bool) (slots more whole : List SlotId) → waits ≡ true → slots ≡ (if listed then (if waits then more else []) else []) → more ≡ whole
     → (if listed then slots else []) ≡ (if listed then whole else [])

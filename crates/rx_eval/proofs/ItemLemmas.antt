@@ -108,9 +108,8 @@ only_quiet path r (y ∷ ys) n h = ap₂ (λ (a b : Bool). a || b) (item y.item 
 
 -- the item isn't an empty one
 abbrev pub Filled : Option (Option (Term ℕ)) → Type 0
-Filled None = Unit {0}
 Filled (Some None) = ⊥
-Filled (Some (Some v)) = Unit {0}
+Filled _ = Unit {0}
 
 pub match_quiet : (own : Owner → Option ℕ) (r : Path) (xs : Puts) (ys : Slots) → Match own xs ys → AllItems Filled xs → waits r ys ≡ false
 match_quiet own r xs [] m h = refl
@@ -177,9 +176,8 @@ valued_same u [] h = refl
 valued_same u (x ∷ xs) h = λ i. record { owner = x.owner; predicate = x.predicate; item = item x.item h.0 i } ∷ valued_same u xs h.1 i
   where
     item : (i : Option (Option (Term ℕ))) → Filled i → value_item u i ≡ i
-    item None k = refl
     item (Some None) k = absurd k
-    item (Some (Some v)) k = refl
+    item _ k = refl
 
 valued_reserved : (u : Term ℕ) (o : ℕ) (ps : List Chars) → map (valued_entry u) (map (entry o (Some None)) ps) ≡ map (entry o (Some (Some u))) ps
 valued_reserved u o [] = refl

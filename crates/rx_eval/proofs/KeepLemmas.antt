@@ -22,8 +22,7 @@ first_more (x ∷ fs) f = by_test (is_some x.gathered) (λ t. rw t refl) (λ n. 
   where
     past : (m : Option ℕ) (b : Bool) (n : ℕ) → option_map suc (first_of m b n) ≡ first_of (option_map suc m) b (suc n)
     past None true n = refl
-    past None false n = refl
-    past (Some m) b n = refl
+    past _ _ n = refl
 
 -- the place is one of the frames
 bounded : (fs : List CodeFrame) (m : ℕ) → first_gathering fs ≡ Some m → m < length fs
@@ -56,9 +55,8 @@ some_gathers a (x ∷ fs) n =
     case (Some g) h = refl
 
 kept_by : (b : Bool) (old r : Option ℕ) (kept : Chars) → (if b then None else old) ≡ r → (old ≡ None → kept ≡ []) → (if b then [] else kept) ≡ (if is_some r then kept else [])
-kept_by true old r kept e q = ap (λ (o : Option ℕ). if is_some o then kept else []) e
 kept_by false None r kept e q = q refl ∙ ap (λ (o : Option ℕ). if is_some o then kept else []) e
-kept_by false (Some m) r kept e q = ap (λ (o : Option ℕ). if is_some o then kept else []) e
+kept_by _ _ r kept e q = ap (λ (o : Option ℕ). if is_some o then kept else []) e
 
 quiet_by : (b : Bool) (old : Option ℕ) (kept : Chars) → (old ≡ None → kept ≡ []) → (if b then None else old) ≡ None → (if b then [] else kept) ≡ []
 quiet_by true old kept q e = refl

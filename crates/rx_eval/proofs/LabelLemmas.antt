@@ -19,9 +19,8 @@ number_at p (k ∷ ks) (n ∷ ns) d e h =
     by_test (bytes_eq k p) (λ t. rw t refl) (λ f. rw f (number_at p ks ns d (omega arith) (behind p k ks f h)))
 
 no_number : (p : List ℕ) (ks : List (List ℕ)) (ns : List ℕ) → first_place p ks ≡ length ks → None ≡ number_of (rows ks ns) p
-no_number p [] ns h = refl
-no_number p (k ∷ ks) [] h = refl
 no_number p (k ∷ ks) (n ∷ ns) h = let q = not_first p k ks h in rw q.0 (no_number p ks ns q.1)
+no_number p _ _ h = refl
 
 pub found : (p : List ℕ) (ks : List (List ℕ)) (ns : List ℕ) (all : Numbered) (i n : ℕ) → rows ks ns ≡ all → length ks ≡ length ns → Some i ≡ position (bytes_eq p) ks → n ≡ get_or ns i n
     → Some n ≡ number_of all p
@@ -43,9 +42,8 @@ is_new_in p q ks ns all v e s h = subst (λ (x : List ℕ). IsNew x ks) (sym s) 
 
 pub rows_more : (ks : List (List ℕ)) (ns : List ℕ) (k : List ℕ) (n : ℕ) → length ks ≡ length ns → rows (ks ++ k ∷ []) (ns ++ n ∷ []) ≡ rows ks ns ++ (k, n) ∷ []
 rows_more [] [] k n e = refl
-rows_more [] (m ∷ ns) k n e = absurd (omega arith)
-rows_more (j ∷ ks) [] k n e = absurd (omega arith)
 rows_more (j ∷ ks) (m ∷ ns) k n e = ap (λ (x : Numbered). (j, m) ∷ x) (rows_more ks ns k n (omega arith))
+rows_more _ _ k n e = absurd (omega arith)
 
 pub added : (all : Numbered) (ks more_ks : List (List ℕ)) (ns more_ns : List ℕ) (k p : List ℕ) (n : ℕ) → rows ks ns ≡ all → length ks ≡ length ns → k ≡ p
     → more_ks ≡ ks ++ k ∷ [] → more_ns ≡ ns ++ n ∷ [] → rows more_ks more_ns ≡ all ++ (p, n) ∷ []

@@ -117,10 +117,9 @@ module _ (to : Numbering) (base kept : Chars) where
 module _ (to : Numbering) (m : Machine Bnode Owner) (state : State) (chars : Chars) (layers : List Layer) (slots : Slots) (r : RunsBy to m state layers slots) where
   pending_read : (o : Owner) → Pending (read_layers chars layers) m.path m.next o → Pending layers m.path m.next o
   pending_read First p = tt
-  pending_read (Of q) (inl c) = inl c
   pending_read (Of q) (inr a) = inr (subst (λ (l : List Path). Among l q) (same_paths chars layers) a)
-  pending_read (Below q) (inl c) = inl c
   pending_read (Below q) (inr a) = inr (subst (λ (l : List Path). Among l q) (same_paths chars layers) a)
+  pending_read _ (inl c) = inl c
 
   each_read : (b : Bool) → gathers_some state.frames ≡ b → LayersStand to state.base (if gathers_some state.frames then state.kept ++ chars else state.kept) (read_layers chars layers)
   each_read true e = rw e (layers_read to state.base state.kept chars layers r.each)

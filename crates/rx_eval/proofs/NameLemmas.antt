@@ -99,10 +99,9 @@ module _ {A : Type 0} (same : A → A → Bool) (exact : IsExact same) (to : A �
       numbers h = cc (h, e, f)
 
       both_tests : (s t : Bool) → (s ≡ true → t ≡ true) → (t ≡ true → s ≡ true) → s ≡ t
-      both_tests true true h k = refl
-      both_tests false false h k = refl
       both_tests true false h k = sym (h refl)
       both_tests false true h k = k refl
+      both_tests _ _ h k = refl
 
   pub same_names : (a b : A) → same a b ≡ same_name same (named to a) (named to b)
   same_names a b = same_by a b (to a) (to b) refl refl

@@ -15,9 +15,8 @@ use Rattle.rx_eval.specs.Places.{level_at, path_at}
 -- ---- options of which the last isn't asked, or is what is had
 
 or_then : {X : Type 0} (o : Option X) (t : Bool) (x y : X) → (t ≡ true → x ≡ y) → option_or o (then_some t x) ≡ option_or o (then_some t y)
-or_then (Some a) t x y h = refl
 or_then None true x y h = ap Some (h refl)
-or_then None false x y h = refl
+or_then _ _ x y h = refl
 
 module _ {R X : Type 0} (f : R → X) where
   -- a link's object: the resource attribute, or with typeof and without about a new node
@@ -25,60 +24,40 @@ module _ {R X : Type 0} (f : R → X) where
   link_names res a types x = option_or (option_map f res) (then_some (types && is_none (option_map f a)) x)
 
   link_same : (res a : Option R) (types : Bool) (x y : X) → ((is_none res && (types && is_none a)) ≡ true → x ≡ y) → link_names res a types x ≡ link_names res a types y
-  link_same (Some r) a types x y h = refl
   link_same None (Some b) true x y h = refl
-  link_same None (Some b) false x y h = refl
   link_same None None true x y h = ap Some (h refl)
-  link_same None None false x y h = refl
+  link_same _ _ _ x y h = refl
 
   link_made : (res a : Option R) (types : Bool) (x : X) → (is_none res && (types && is_none a)) ≡ true → link_names res a types x ≡ Some x
-  link_made (Some r) a types x h = absurd (cc)
   link_made None (Some b) true x h = absurd (cc)
-  link_made None (Some b) false x h = absurd (cc)
   link_made None None true x h = refl
-  link_made None None false x h = absurd (cc)
+  link_made _ _ _ x h = absurd (cc)
 
   abbrev plain_names : Bool → Option R → Bool → X → Option R → Bool → X → X → Option X
   plain_names t a root b res parent o x = then_some t (unwrap_or (option_or (option_map f a) (option_or (then_some root b) (option_or (option_map f res) (then_some parent o)))) x)
 
   plain_same : (t : Bool) (a : Option R) (root : Bool) (b : X) (res : Option R) (parent : Bool) (o x y : X) → ((t && (is_none a && (not root && (is_none res && not parent)))) ≡ true → x ≡ y)
       → plain_names t a root b res parent o x ≡ plain_names t a root b res parent o y
-  plain_same false a root b res parent o x y h = refl
-  plain_same true (Some r) root b res parent o x y h = refl
-  plain_same true None true b res parent o x y h = refl
-  plain_same true None false b (Some r) parent o x y h = refl
-  plain_same true None false b None true o x y h = refl
   plain_same true None false b None false o x y h = ap Some (h refl)
+  plain_same _ _ _ b _ _ o x y h = refl
 
   plain_made : (t : Bool) (a : Option R) (root : Bool) (b : X) (res : Option R) (parent : Bool) (o x : X) → (t && (is_none a && (not root && (is_none res && not parent)))) ≡ true
       → plain_names t a root b res parent o x ≡ Some x
-  plain_made false a root b res parent o x h = absurd (cc)
-  plain_made true (Some r) root b res parent o x h = absurd (cc)
-  plain_made true None true b res parent o x h = absurd (cc)
-  plain_made true None false b (Some r) parent o x h = absurd (cc)
-  plain_made true None false b None true o x h = absurd (cc)
   plain_made true None false b None false o x h = refl
+  plain_made _ _ _ b _ _ o x h = absurd (cc)
 
   abbrev subject_names : Bool → Option R → Bool → X → Option R → Bool → X → X → X → X
   subject_names t a root b res parent o x z = unwrap_or (option_or (option_map f a) (option_or (option_map f res) (option_or (then_some root b) (option_or (then_some parent o) (then_some t x))))) z
 
   subject_same : (t : Bool) (a : Option R) (root : Bool) (b : X) (res : Option R) (parent : Bool) (o x y z : X) → ((t && (is_none a && (not root && (is_none res && not parent)))) ≡ true → x ≡ y)
       → subject_names t a root b res parent o x z ≡ subject_names t a root b res parent o y z
-  subject_same t (Some r) root b res parent o x y z h = refl
-  subject_same t None root b (Some r) parent o x y z h = refl
-  subject_same t None true b None parent o x y z h = refl
-  subject_same t None false b None true o x y z h = refl
   subject_same true None false b None false o x y z h = h refl
-  subject_same false None false b None false o x y z h = refl
+  subject_same _ _ _ b _ _ o x y z h = refl
 
   subject_made : (t : Bool) (a : Option R) (root : Bool) (b : X) (res : Option R) (parent : Bool) (o x z : X) → (t && (is_none a && (not root && (is_none res && not parent)))) ≡ true
       → subject_names t a root b res parent o x z ≡ x
-  subject_made false a root b res parent o x z h = absurd (cc)
-  subject_made true (Some r) root b res parent o x z h = absurd (cc)
-  subject_made true None true b res parent o x z h = absurd (cc)
-  subject_made true None false b (Some r) parent o x z h = absurd (cc)
-  subject_made true None false b None true o x z h = absurd (cc)
   subject_made true None false b None false o x z h = refl
+  subject_made _ _ _ b _ _ o x z h = absurd (cc)
 
 -- ---- whether an element makes a node
 

@@ -23,9 +23,8 @@ set_front (z ∷ xs) ys zero x h = refl
 set_front (z ∷ xs) ys (suc i) x h = ap (λ (l : List _). z ∷ l) (set_front xs ys i x (omega arith))
 
 pub set_length : {A : Type 0} (xs : List A) (i : ℕ) (x : A) → length (slice_set xs i x) ≡ length xs
-set_length [] i x = refl
-set_length (z ∷ xs) zero x = refl
 set_length (z ∷ xs) (suc i) x = ap suc (set_length xs i x)
+set_length _ _ x = refl
 
 -- an item that is reserved and filled is the item
 put_filled : (p : Chars) (v : Term ℕ) (t : Items) → with_item (list_place p t) (item_count p t) v (put p (Some None) t) ≡ put p (Some (Some v)) t
@@ -94,19 +93,17 @@ pub still_at : (m : ℕ) (p : Chars) (item : Option (Option (Term ℕ))) (n l i 
 still_at m p item n l i [] h = tt
 still_at zero p item zero l i (None ∷ os) h = tt
 still_at zero p item zero l i (Some o ∷ os) h = has_still p item l i o.lists h
-still_at zero p item (suc n) l i (o ∷ os) h = h
 still_at (suc m) p item zero l i (None ∷ os) h = tt
-still_at (suc m) p item zero l i (Some o ∷ os) h = h
 still_at (suc m) p item (suc n) l i (o ∷ os) h = still_at m p item n l i os h
+still_at _ p item _ l i _ h = h
 
 fill_past : (m : ℕ) (p : Chars) (item : Option (Option (Term ℕ))) (n l i : ℕ) (v : Term ℕ) (os : Many) → HasPlace n l i os → fill_in n l i v (put_at m p item os) ≡ put_at m p item (fill_in n l i v os)
 fill_past m p item n l i v [] h = refl
 fill_past zero p item zero l i v (None ∷ os) h = refl
 fill_past zero p item zero l i v (Some o ∷ os) h = ap (λ (t : Items). Some (owning o.subject t) ∷ os) (fill_put p item v l i o.lists h)
 fill_past zero p item (suc n) l i v (o ∷ os) h = refl
-fill_past (suc m) p item zero l i v (None ∷ os) h = refl
-fill_past (suc m) p item zero l i v (Some o ∷ os) h = refl
 fill_past (suc m) p item (suc n) l i v (o ∷ os) h = ap (λ (x : Many). o ∷ x) (fill_past m p item n l i v os h)
+fill_past (suc m) p item zero l i v _ h = refl
 
 -- filling doesn't move the next place
 same_in : (k : Items → ℕ) → ((l i : ℕ) (v : Term ℕ) (t : Items) → k (with_item l i v t) ≡ k t) → (m n l i : ℕ) (v : Term ℕ) (os : Many) → k (lists_in (open_seen (fill_in n l i v os) m)) ≡ k (lists_in (open_seen os m))

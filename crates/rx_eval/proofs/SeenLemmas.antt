@@ -90,10 +90,8 @@ seen_each old new n item ps entries e h = ap owners_seen h ∙ each_seen n item 
 -- ---- places
 
 open_is : (owners : Owners) (n : ℕ) → option_map owning_seen (open_at owners n) ≡ open_seen (owners_seen owners) n
-open_is [] n = refl
-open_is (None ∷ owners) zero = refl
-open_is (Some o ∷ owners) zero = refl
 open_is (o ∷ owners) (suc n) = open_is owners n
+open_is _ _ = refl
 
 place_is : (p : Chars) (lists : Slots) → place_of p lists ≡ list_place p (slots_seen lists)
 place_is p [] = refl
@@ -131,9 +129,8 @@ three_put xs ys zs a b c d e f g = two_put xs (ys ++ zs) a b d e (two_put ys zs 
 -- ---- what is filled and finished
 
 row_at : (lists : Slots) (i : ℕ) → row_seen (slice_index_or lists i ([], [])) ≡ slice_index_or (slots_seen lists) i ([], [])
-row_at [] i = refl
-row_at (row ∷ lists) zero = refl
 row_at (row ∷ lists) (suc i) = row_at lists i
+row_at _ _ = refl
 
 term_filled : (l p : ℕ) (t : CodeTerm) (lists : Slots) → slots_seen (with_term l p t lists) ≡ with_item l p (term_seen t) (slots_seen lists)
 term_filled l p t lists =
@@ -173,9 +170,8 @@ pub seen_cells : (next : ℕ) (owners : Owners) (n : ℕ) → finished_cells nex
 seen_cells next owners n = cells_are next (open_at owners n) ∙ ap (cells_seen next) (open_is owners n)
 
 ended_one : (o : Option Owned) (owners : Owners) → owners_seen (trimmed_by o owners) ≡ ended_by (option_map owning_seen o) (owners_seen owners)
-ended_one None [] = refl
 ended_one None (o ∷ more) = refl
-ended_one (Some p) more = refl
+ended_one _ _ = refl
 
 pub ended_are : (owners : Owners) → owners_seen (trimmed owners) ≡ ended (owners_seen owners)
 ended_are [] = refl

@@ -16,8 +16,7 @@ use Rattle.rx_eval.proofs.StandLemmas.{hands_on}
 
 wait_same : {O P : Type 0} (g : O → P) (h : rules.Hanging O) → wait_by (rename_hanging g h) ≡ wait_by h
 wait_same g (rules.Forward p) = refl
-wait_same g (rules.Reverse p) = refl
-wait_same g (rules.InList owner p) = refl
+wait_same g _ = refl
 
 waits_same : {O P : Type 0} (g : O → P) (hs : List (rules.Hanging O)) → map wait_by (map (rename_hanging g) hs) ≡ map wait_by hs
 waits_same g [] = refl

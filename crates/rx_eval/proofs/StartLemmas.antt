@@ -35,9 +35,8 @@ module _ (N : Naming ℕ ℕ) (base : Chars) (S : Standing ℕ ℕ) where
 
     -- without property a value says nothing
     quiet : (p : Option (List Chars)) → S.facts.property ≡ p → (w : Option (Term ℕ)) → properties_by N base S H (only (is_some p) w) ≡ properties_by N base S H w
-    quiet (Some ps) e w = refl
-    quiet None e None = refl
     quiet None e (Some w) = by_test S.facts.inlist (λ t. rw t refl) (λ f. rw (f, e) refl)
+    quiet _ e _ = refl
 
     completes : (ws : List IncompleteTriple) → filter_map (completed_by S.around.subject H.subject) ws ≡ filter_map (completed N base S H) (map waiting_seen ws)
     completes [] = refl

@@ -23,9 +23,8 @@ first_rule datatype content datetime kind resource typed =
 
 plain_text : (facts : Facts) (r t : Option (Node ℕ)) → value_now (of_resources r t) facts ≡ None → (text : Chars)
     → plain_literal facts.lang text ≡ value_of_text (of_resources r t) facts text
-plain_text facts (Some r) t h text = absurd (cc)
-plain_text facts None (Some t) h text = absurd (cc)
 plain_text facts None None h text = refl
+plain_text facts _ _ h text = absurd (cc)
 
 says : (facts : Facts) (d : Option Datatype) (c e : Option Chars) (k : ElementKind) (r t : Option (Node ℕ)) → value_now (first_rule d c e k r t) facts ≡ None → (text : Chars)
     → text_literal (rule_by d k facts.lang) text ≡ value_of_text (first_rule d c e k r t) facts text
@@ -34,9 +33,7 @@ says facts (Some (Is datatype)) c e k r t h text = refl
 says facts None (Some c) e k r t h text = absurd (cc)
 says facts None None (Some e) k r t h text = absurd (cc)
 says facts None None None Time r t h text = refl
-says facts None None None Head r t h text = plain_text facts r t h text
-says facts None None None Body r t h text = plain_text facts r t h text
-says facts None None None Other r t h text = plain_text facts r t h text
+says facts None None None _ r t h text = plain_text facts r t h text
 
 pub is_text_rule : (facts : Facts) (by : TextRule) → by ≡ text_rule facts → IsTextRule facts by
 is_text_rule facts by e = record {

@@ -56,8 +56,7 @@ only_pushed r f xs i x out more z g h m = last_pushed r f xs i x out more (out +
 -- a type more
 same_named : (labels : Numbered) (f : ℕ) (base : Chars) (r : Ref) → resource_named (moment labels 0 0 0) base r ≡ resource_named (moment labels f 0 0) base r
 same_named labels f base (IriRef iri) = refl
-same_named labels f base (LabelRef label) = refl
-same_named labels f base (RelativeRef reference) = refl
+same_named labels f base _ = refl
 
 pub type_came : (labels : Numbered) (f : ℕ) (base predicate : Chars) (typed : Node ℕ) (types : List CodeRef) (i : ℕ) (x : CodeRef) (node : Node ℕ) (term : Term ℕ) (out more whole : List (Triple ℕ))
     → slice_get types i ≡ Some x → predicate ≡ rdf_type → node ≡ named labels base (ref_seen x) → term ≡ resource_term node → more ≡ out ++ spo typed predicate term ∷ []

@@ -131,9 +131,8 @@ with_length open_owners (Some n) o s t owners e =
 -- ---- the numbers of these owners
 
 pub own_number_is : (s t : Bool) (n : ℕ) (own : Option ℕ) → own ≡ (if s then None else (if t then None else Some n)) → IfSome own (λ k. k ≡ n)
-own_number_is true t n own e = subst (λ (o : Option ℕ). IfSome o (λ k. k ≡ n)) (sym e) tt
-own_number_is false true n own e = subst (λ (o : Option ℕ). IfSome o (λ k. k ≡ n)) (sym e) tt
 own_number_is false false n own e = subst (λ (o : Option ℕ). IfSome o (λ k. k ≡ n)) (sym e) refl
+own_number_is _ _ n own e = subst (λ (o : Option ℕ). IfSome o (λ k. k ≡ n)) (sym e) tt
 
 pub under_number_is : (s t : Bool) (n : ℕ) (open_owners : Open) (o : Owner) (x subject : Node ℕ) (own under : Option ℕ) (object : Option (Node ℕ)) → n ≡ length open_owners
     → own ≡ (if s then None else (if t then None else Some n)) → under ≡ (if s then None else owner_for object subject (if t then n else suc n)) → IfSome under (λ k. k ≡ length (open_owners ++ begun_by own o x))
