@@ -1,5 +1,6 @@
 -- The start of an element.
 use Rattle.std.proofs.Common.{◌≡◌, ◌∙◌, ℕ, suc, ◌+◌, ◌≤◌, ◌^◌, ◌⊎◌, inl, inr, Bool, true, false, not, ◌&&◌, ◌||◌, List, [], ◌∷◌, ◌++◌, map, filter_map, length, Option, Some, None, option_map, is_none, unwrap_or, bytes_eq, nat_eq, refl, sym, ap, ap₂, subst, subst₂, arith, append-nil, length-append}
+use Rattle.std.proofs.lemmas.Option.{IfSome_then}
 use Rattle.std.specs.Prelude.{IfSome, is_some, encode_utf8_all, if◌then◌else◌}
 use Rattle.std.proofs.lemmas.List.{map-append}
 use Rattle.std.proofs.lemmas.List.Elements.{filter-append}
@@ -44,7 +45,7 @@ use Rattle.rx_eval.proofs.ElementLemmas.{Meets, ends_are, resources_meet, below_
 use Rattle.rx_eval.proofs.ListLemmas.{Puts, Match, Merged, merged}
 use Rattle.rx_eval.proofs.FillLemmas.{waits_both, fill_quiet, NoneWaits, put_fill_up, within_more}
 use Rattle.rx_eval.proofs.ComingLemmas.{next_coming, inside_coming, inside_not}
-use Rattle.rx_eval.proofs.LayerLemmas.{some_as, place_front, grown_open, place_back, place_none, none_before, apart_begun, begun_none, begun_place, deeper_none, placed_depth, apart_open, all_within, frames_length, handed_now, layers_later}
+use Rattle.rx_eval.proofs.LayerLemmas.{place_front, grown_open, place_back, place_none, none_before, apart_begun, begun_none, begun_place, deeper_none, placed_depth, apart_open, all_within, frames_length, handed_now, layers_later}
 use Rattle.rx_eval.proofs.OwnersLemmas.{tables_now, owners_length}
 use Rattle.rx_eval.proofs.EndLemmas.{shorter}
 use Rattle.rx_eval.proofs.ItemLemmas.{AllItems, Only, Filled, only_of, only_renamed, only_quiet, match_quiet, match_bound, match_waits, match_none, match_valued, valued_entry, valued_parts, front_all, awaited_all, entries_all, places_had, places_filled_in, places_within}
@@ -230,7 +231,7 @@ module _ (to : Numbering) (m : Machine Bnode Owner) (state : State) (facts : Fac
   -- ---- owners
 
   own_count : IfSome o.frame.own (λ k. k ≡ length before)
-  own_count = some_as _ _ o.frame.own (λ k e. e ∙ owners_count) (own_number_is here.skipped (same_node nat_eq here.subject seen.object) n o.frame.own o.own)
+  own_count = IfSome_then o.frame.own (own_number_is here.skipped (same_node nat_eq here.subject seen.object) n o.frame.own o.own) (λ k e. e ∙ owners_count)
 
   under_count : IfSome o.frame.below (λ k. k ≡ length (before ++ own_in layer))
   under_count = under_number_is here.skipped (same_node nat_eq here.subject seen.object) n before (Of path) o.frame.context.subject here.subject o.frame.own o.frame.below
@@ -489,14 +490,11 @@ module _ (to : Numbering) (m : Machine Bnode Owner) (state : State) (facts : Fac
 
   -- ---- what is still to come
 
-  came : (q : Path) → Coming path 0 q → Coming m.path m.next q
-  came q c = inside_coming m.path m.next q c
-
   unmade_now : (q : Path) → Coming path 0 q → now (Made q) ≡ None
-  unmade_now q c = numbering.made q (inside_not m.path m.next q c) ∙ drawn_labels.made q ∙ r.unmade q (came q c)
+  unmade_now q c = numbering.made q (inside_not m.path m.next q c) ∙ drawn_labels.made q ∙ r.unmade q (inside_coming m.path m.next q c)
 
   pending_at : (q : Path) → Coming path 0 q ⊎ Among (paths_in (layer ∷ layers)) q → Coming m.path m.next q ⊎ Among (paths_in layers) q
-  pending_at q (inl c) = inl (came q c)
+  pending_at q (inl c) = inl (inside_coming m.path m.next q c)
   pending_at q (inr (inl e)) = inl (subst (Coming m.path m.next) e (next_coming m.path m.next))
   pending_at q (inr (inr a)) = inr a
 

@@ -6,7 +6,7 @@ use Rattle.rx_terms.specs.Text.{Chars}
 use Rattle.rx_terms.specs.declared.triples.Term.{Term as CodeTerm}
 use Rattle.rx_model.specs.Terms.{Node, Term}
 use Rattle.rx_model.specs.Seen.{term_seen}
-use Rattle.rx_rdfa.specs.Facts.{Facts, ElementKind, Datatype, Empty, Is, Head, Body, Time, Other}
+use Rattle.rx_rdfa.specs.Facts.{Facts, ElementKind, Datatype, Empty, Is, Time}
 use Rattle.rx_rdfa.specs.Resources.{resource_attribute, has_link, only}
 use Rattle.rx_rdfa.specs.Value.{Rule, rule_or, ByDatatype, ByContent, ByDatetime, ByTimeText, ByResource, ByTyped, ByText, is_time, value_now, value_of_text, value, plain_literal}
 use Rattle.rx_eval.specs.declared.values.TextRule.{TextRule}

@@ -7,7 +7,7 @@ use Rattle.rx_model.specs.Terms.{Node, Term, Triple}
 use Rattle.rx_model.specs.Copied.{spo}
 use Rattle.rx_model.specs.Vocabulary.{rdf_type}
 use Rattle.rx_rdfa.specs.Element.{to_node}
-use Rattle.rx_rdfa.specs.Facts.{Ref, IriRef, LabelRef, RelativeRef}
+use Rattle.rx_rdfa.specs.Facts.{Ref, IriRef}
 use Rattle.rx_rdfa.specs.Resources.{resource_named}
 use Rattle.rx_curie.specs.declared.refs.Ref.{Ref as CodeRef}
 use Rattle.rx_curie.specs.Seen.{ref_seen, refs_seen}
