@@ -419,11 +419,7 @@ module _ (to : Numbering) (m : Machine Bnode Owner) (state : State) (facts : Fac
       → [] ≡ (if s then [] else properties_by moments base at_n here (text_value w (value_of_text (rule moments base facts here) facts chars)))
   said_none true property w chars p g = refl
   said_none false property (Some t) chars p g = refl
-  said_none false None None chars p g = no_property facts.inlist facts.property p
-    where
-      no_property : (b : Bool) (q : Option (List Chars)) → q ≡ None → [] ≡ (if b then [] else map (λ p. spo here.subject p (value_of_text (rule moments base facts here) facts chars)) (listed q))
-      no_property false (Some ps) e = absurd (cc)
-      no_property _ _ e = refl
+  said_none false None None chars p g = by_test facts.inlist (λ t. rw t refl) (λ f. rw (f, p) refl)
   said_none false (Some ps) None chars p g = absurd (cc)
 
   said_some : (t : Text) (chars : Chars) → here.skipped ≡ false → v ≡ None → Told t
