@@ -426,13 +426,12 @@ module _ (to : Numbering) (m : Machine Bnode Owner) (state : State) (facts : Fac
       → said_triples t.said t.subject (text_literal t.by chars) ≡ (if here.skipped then [] else properties_by moments base at_n here (text_value v (value_of_text (rule moments base facts here) facts chars)))
   said_some t chars s e g =
       (λ i. said_triples (g.said i) (g.subject i) (g.rule.literal moments base here e chars i))
-      ∙ both facts.inlist
+      ∙ listed_or
       ∙ sym (ap₂ (λ (b : Bool) (w : Option (Term ℕ)). if b then [] else properties_by moments base at_n here (text_value w (value_of_text (rule moments base facts here) facts chars))) s e)
     where
-      both : (b : Bool) → said_triples (if b then None else Some (listed facts.property)) here.subject (value_of_text (rule moments base facts here) facts chars)
-          ≡ (if b then [] else map (λ p. spo here.subject p (value_of_text (rule moments base facts here) facts chars)) (listed facts.property))
-      both true = refl
-      both false = refl
+      listed_or : said_triples (if facts.inlist then None else Some (listed facts.property)) here.subject (value_of_text (rule moments base facts here) facts chars)
+          ≡ (if facts.inlist then [] else map (λ p. spo here.subject p (value_of_text (rule moments base facts here) facts chars)) (listed facts.property))
+      listed_or = by_test facts.inlist (λ t. rw t refl) (λ f. rw f refl)
 
   said_by : (t : Option Text) (chars : Chars) → is_some t ≡ gathered → IfSome t Told
       → said_of t chars ≡ (if here.skipped then [] else properties_by moments base at_n here (text_value v (value_of_text (rule moments base facts here) facts chars)))

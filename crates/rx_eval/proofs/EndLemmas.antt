@@ -395,8 +395,7 @@ module _ (to : Numbering) (list : List Call) (state new : State) (c : Closes sta
   }
 
   not_empty : (xs : List Frame) (x : Frame) → ¬ (xs ++ x ∷ [] ≡ [])
-  not_empty [] x e = absurd (cc e)
-  not_empty (y ∷ xs) x e = absurd (cc e)
+  not_empty xs x e = let n = ap length e in omega (arith, n, length-append xs (x ∷ []))
 
   some_open : (k : Layer) (lower : List Layer) → (length (frames_in (k ∷ lower)) == 0) ≡ false
   some_open k lower = false_unless (length (frames_in (k ∷ lower)) == 0) (λ t. let e = (Decides-eqb (length (frames_in (k ∷ lower))) 0).0 t in let n = frames_length (k ∷ lower) in omega (arith, e, n))
