@@ -1,5 +1,6 @@
 -- The start of an element.
 use Rattle.std.proofs.Common.{◌≡◌, ◌∙◌, ℕ, suc, ◌+◌, ◌≤◌, ◌^◌, ◌⊎◌, inl, inr, Bool, true, false, not, ◌&&◌, ◌||◌, List, [], ◌∷◌, ◌++◌, map, filter_map, length, Option, Some, None, option_map, is_none, unwrap_or, bytes_eq, nat_eq, refl, sym, ap, ap₂, subst, subst₂, arith, append-nil, length-append}
+use Rattle.std.proofs.lemmas.Option.{IfSome_then}
 use Rattle.std.specs.Prelude.{IfSome, is_some, encode_utf8_all, if◌then◌else◌}
 use Rattle.std.proofs.lemmas.List.{map-append}
 use Rattle.std.proofs.lemmas.List.Elements.{filter-append}
@@ -44,7 +45,7 @@ use Rattle.rx_eval.proofs.ElementLemmas.{Meets, ends_are, resources_meet, below_
 use Rattle.rx_eval.proofs.ListLemmas.{Puts, Match, Merged, merged}
 use Rattle.rx_eval.proofs.FillLemmas.{waits_both, fill_quiet, NoneWaits, put_fill_up, within_more}
 use Rattle.rx_eval.proofs.ComingLemmas.{next_coming, inside_coming, inside_not}
-use Rattle.rx_eval.proofs.LayerLemmas.{some_as, place_front, grown_open, place_back, place_none, none_before, apart_begun, begun_none, begun_place, deeper_none, placed_depth, apart_open, all_within, frames_length, handed_now, layers_later}
+use Rattle.rx_eval.proofs.LayerLemmas.{place_front, grown_open, place_back, place_none, none_before, apart_begun, begun_none, begun_place, deeper_none, placed_depth, apart_open, all_within, frames_length, handed_now, layers_later}
 use Rattle.rx_eval.proofs.OwnersLemmas.{tables_now, owners_length}
 use Rattle.rx_eval.proofs.EndLemmas.{shorter}
 use Rattle.rx_eval.proofs.ItemLemmas.{AllItems, Only, Filled, only_of, only_renamed, only_quiet, match_quiet, match_bound, match_waits, match_none, match_valued, valued_entry, valued_parts, front_all, awaited_all, entries_all, places_had, places_filled_in, places_within}
@@ -230,7 +231,7 @@ module _ (to : Numbering) (m : Machine Bnode Owner) (state : State) (facts : Fac
   -- ---- owners
 
   own_count : IfSome o.frame.own (λ k. k ≡ length before)
-  own_count = some_as _ _ o.frame.own (λ k e. e ∙ owners_count) (own_number_is here.skipped (same_node nat_eq here.subject seen.object) n o.frame.own o.own)
+  own_count = IfSome_then o.frame.own (own_number_is here.skipped (same_node nat_eq here.subject seen.object) n o.frame.own o.own) (λ k e. e ∙ owners_count)
 
   under_count : IfSome o.frame.below (λ k. k ≡ length (before ++ own_in layer))
   under_count = under_number_is here.skipped (same_node nat_eq here.subject seen.object) n before (Of path) o.frame.context.subject here.subject o.frame.own o.frame.below
@@ -418,24 +419,19 @@ module _ (to : Numbering) (m : Machine Bnode Owner) (state : State) (facts : Fac
       → [] ≡ (if s then [] else properties_by moments base at_n here (text_value w (value_of_text (rule moments base facts here) facts chars)))
   said_none true property w chars p g = refl
   said_none false property (Some t) chars p g = refl
-  said_none false None None chars p g = no_property facts.inlist facts.property p
-    where
-      no_property : (b : Bool) (q : Option (List Chars)) → q ≡ None → [] ≡ (if b then [] else map (λ p. spo here.subject p (value_of_text (rule moments base facts here) facts chars)) (listed q))
-      no_property false (Some ps) e = absurd (cc)
-      no_property _ _ e = refl
+  said_none false None None chars p g = by_test facts.inlist (λ t. rw t refl) (λ f. rw (f, p) refl)
   said_none false (Some ps) None chars p g = absurd (cc)
 
   said_some : (t : Text) (chars : Chars) → here.skipped ≡ false → v ≡ None → Told t
       → said_triples t.said t.subject (text_literal t.by chars) ≡ (if here.skipped then [] else properties_by moments base at_n here (text_value v (value_of_text (rule moments base facts here) facts chars)))
   said_some t chars s e g =
       (λ i. said_triples (g.said i) (g.subject i) (g.rule.literal moments base here e chars i))
-      ∙ both facts.inlist
+      ∙ listed_or
       ∙ sym (ap₂ (λ (b : Bool) (w : Option (Term ℕ)). if b then [] else properties_by moments base at_n here (text_value w (value_of_text (rule moments base facts here) facts chars))) s e)
     where
-      both : (b : Bool) → said_triples (if b then None else Some (listed facts.property)) here.subject (value_of_text (rule moments base facts here) facts chars)
-          ≡ (if b then [] else map (λ p. spo here.subject p (value_of_text (rule moments base facts here) facts chars)) (listed facts.property))
-      both true = refl
-      both false = refl
+      listed_or : said_triples (if facts.inlist then None else Some (listed facts.property)) here.subject (value_of_text (rule moments base facts here) facts chars)
+          ≡ (if facts.inlist then [] else map (λ p. spo here.subject p (value_of_text (rule moments base facts here) facts chars)) (listed facts.property))
+      listed_or = by_test facts.inlist (λ t. rw t refl) (λ f. rw f refl)
 
   said_by : (t : Option Text) (chars : Chars) → is_some t ≡ gathered → IfSome t Told
       → said_of t chars ≡ (if here.skipped then [] else properties_by moments base at_n here (text_value v (value_of_text (rule moments base facts here) facts chars)))
@@ -489,14 +485,11 @@ module _ (to : Numbering) (m : Machine Bnode Owner) (state : State) (facts : Fac
 
   -- ---- what is still to come
 
-  came : (q : Path) → Coming path 0 q → Coming m.path m.next q
-  came q c = inside_coming m.path m.next q c
-
   unmade_now : (q : Path) → Coming path 0 q → now (Made q) ≡ None
-  unmade_now q c = numbering.made q (inside_not m.path m.next q c) ∙ drawn_labels.made q ∙ r.unmade q (came q c)
+  unmade_now q c = numbering.made q (inside_not m.path m.next q c) ∙ drawn_labels.made q ∙ r.unmade q (inside_coming m.path m.next q c)
 
   pending_at : (q : Path) → Coming path 0 q ⊎ Among (paths_in (layer ∷ layers)) q → Coming m.path m.next q ⊎ Among (paths_in layers) q
-  pending_at q (inl c) = inl (came q c)
+  pending_at q (inl c) = inl (inside_coming m.path m.next q c)
   pending_at q (inr (inl e)) = inl (subst (Coming m.path m.next) e (next_coming m.path m.next))
   pending_at q (inr (inr a)) = inr a
 

@@ -29,7 +29,7 @@ use Rattle.rx_terms.proofs.Bools.{by_test}
 use Rattle.rx_eval.specs.Numbering.{Numbering, Name, Number, name_by, named, Grown, Numbers}
 use Rattle.rx_eval.specs.Slots.{Slots, item_of, table_in}
 use Rattle.rx_eval.proofs.NumberLemmas.{raised}
-use Rattle.rx_eval.proofs.NameLemmas.{many_then, later, named_later, node_later}
+use Rattle.rx_eval.proofs.NameLemmas.{later, entries_later, node_later}
 
 -- ---- slots of which none waits
 
@@ -185,32 +185,21 @@ module _ (to : Numbering) (o : Owner) (free : (p : Chars) (i : ℕ) → to (Cell
 -- ---- lists whose cells have these numbers
 
 module _ {B : Type 0} (cell cell' : ℕ → B) where
-  abbrev Same : {T : Type 0} → ℕ → List T → Type 0
-  Same i [] = Unit {0}
-  Same i (x ∷ list) = (cell i ≡ cell' i) × Same (suc i) list
-
-  nil_same : (i : ℕ) (list : List (Term B)) → Same i list → cell_or_nil cell i list ≡ cell_or_nil cell' i list
+  nil_same : (i : ℕ) (list : List (Term B)) → CellsAlike (λ b. b) cell cell' i list → cell_or_nil cell i list ≡ cell_or_nil cell' i list
   nil_same i [] k = refl
   nil_same i (x ∷ list) k = ap Blank k.0
 
-  chain_same : (i : ℕ) (list : List (Term B)) → Same i list → chain cell i list ≡ chain cell' i list
+  chain_same : (i : ℕ) (list : List (Term B)) → CellsAlike (λ b. b) cell cell' i list → chain cell i list ≡ chain cell' i list
   chain_same i [] k = refl
   chain_same i (x ∷ list) k = λ j.
       spo (Blank (k.0 j)) rdf_first x ∷ to_node (Blank (k.0 j)) rdf_rest (nil_same (suc i) list k.1 j) ∷ chain_same (suc i) list k.1 j
 
-  list_same : (subject : Node B) (p : Chars) (list : List (Term B)) → Same 0 list → list_of cell subject p list ≡ list_of cell' subject p list
+  list_same : (subject : Node B) (p : Chars) (list : List (Term B)) → CellsAlike (λ b. b) cell cell' 0 list → list_of cell subject p list ≡ list_of cell' subject p list
   list_same subject p list k = λ j. to_node subject p (nil_same 0 list k j) ∷ chain_same 0 list k j
-
-  same_from : {T : Type 0} (count : ℕ) → ((i : ℕ) → i < count → cell i ≡ cell' i) → (i : ℕ) (list : List T) → i + length list ≤ count → Same i list
-  same_from count k i [] b = tt
-  same_from count k i (x ∷ list) b = (k i (omega (arith, b)), same_from count k (suc i) list (omega (arith, b)))
 
 alike_from : {B C T : Type 0} (f : B → C) (cell : ℕ → B) (cell' : ℕ → C) (count : ℕ) → ((i : ℕ) → i < count → f (cell i) ≡ cell' i) → (i : ℕ) (list : List T) → i + length list ≤ count → CellsAlike f cell cell' i list
 alike_from f cell cell' count k i [] b = tt
 alike_from f cell cell' count k i (x ∷ list) b = (k i (omega (arith, b)), alike_from f cell cell' count k (suc i) list (omega (arith, b)))
-
-whole_count : (n : ℕ) → 0 + n ≤ n
-whole_count n = omega arith
 
 -- no two predicates are alike
 abbrev Apart : List Chars → Type 0
@@ -252,7 +241,7 @@ module _ (own : List (Entry Owner (Term ℕ))) where
   cells_are_from s cell [] a next k = refl
   cells_are_from s cell (p ∷ ps) a next k =
       ap₂ ◌++◌
-      (list_same (λ i. next + i) (cell p) s p (items p own) (same_from (λ i. next + i) (cell p) (length (items p own)) (λ i b. sym (k p (inl refl) i (next + i) (in_row next p ps i b))) 0 (items p own) (whole_count _)))
+      (list_same (λ i. next + i) (cell p) s p (items p own) (alike_from (λ b. b) (λ i. next + i) (cell p) (length (items p own)) (λ i b. sym (k p (inl refl) i (next + i) (in_row next p ps i b))) 0 (items p own) (omega arith)))
       (cells_are_from s cell ps a.1 (next + length (items p own)) (λ q m i n e. k q (inr m) i n (past q m i n e)))
     where
       past : (q : Chars) → Among ps q → (i n : ℕ) → cell_number (next + length (items p own)) (rows_for ps) q i ≡ Some n → cell_number next (rows_for (p ∷ ps)) q i ≡ Some n
@@ -263,23 +252,6 @@ module _ (own : List (Entry Owner (Term ℕ))) where
   size_is (p ∷ ps) = ap (λ (n : ℕ). length (items p own) + n) (size_is ps)
 
 -- ---- the end of an owner
-
-module _ {A : Type 0} (old new : A → Option ℕ) (grown : Grown old new) where
-  abbrev later_name : Name A → Name A
-  later_name = later old new grown
-
-  entry_then : {B C D : Type 0} (h : C → D) (f : B → C) (item : Option (Term B)) → option_map (rename_term (λ a. h (f a))) item ≡ option_map (rename_term h) (option_map (rename_term f) item)
-  entry_then h f None = refl
-  entry_then h f (Some t) = ap Some (term_then h f t)
-
-  pub entries_later : (xs : List (Entry Owner (Term ℕ))) (ys : List (Entry Owner (Term A))) → map (map_entry (rename_term Number)) xs ≡ map (map_entry (rename_term (named old))) ys
-      → map (map_entry (rename_term Number)) xs ≡ map (map_entry (rename_term (named new))) ys
-  entries_later =
-      named_later old new grown (map (map_entry (rename_term Number))) (map (map_entry (rename_term later_name))) (λ f. map (map_entry (rename_term f))) (moves Number) (moves (named old))
-    where
-      moves : {B : Type 0} (f : B → Name A) (xs : List (Entry Owner (Term B))) → map (map_entry (rename_term (λ a. later_name (f a)))) xs ≡ map (map_entry (rename_term later_name)) (map (map_entry (rename_term f)) xs)
-      moves f =
-          many_then (map_entry (rename_term (λ a. later_name (f a)))) (map_entry (rename_term later_name)) (map_entry (rename_term f)) (λ x i. record { owner = x.owner; predicate = x.predicate; item = entry_then later_name f x.item i })
 
 module _ (to : Numbering) (o : Owner) (free : (p : Chars) (i : ℕ) → to (Cell o p i) ≡ None) (next : ℕ) (s : Node ℕ) (slots : Slots)
     (subject : Node Bnode) (names : List (Entry Owner (Slot Bnode))) where
@@ -322,11 +294,12 @@ module _ (to : Numbering) (o : Owner) (free : (p : Chars) (i : ℕ) → to (Cell
   unfolding cells
   cells_meet f q e =
       let g = grown_cells to o free next rows in
-      let named_own = entries_later to ended_now g own theirs (own_named e) in
+      let moved : Name Bnode → Name Bnode = later to ended_now g in
+      let named_own = entries_later to ended_now g (rename_term Number) (rename_term moved) rename_term (term_then moved Number) (term_then moved (named to)) own theirs (own_named e) in
       ap (map (rename Number)) (cells_by_numbers (table_full slots o f))
       ∙ cells_from_rename Number (λ w. w) number_at (λ p i. named ended_now (Cell o p i)) s own
       (λ p m. alike_from Number (number_at p) (λ i. named ended_now (Cell o p i)) (length (items p own))
-      (λ i b. let r = has_cell own (lists own) next p i m b in ap (λ (x : Option ℕ). Number (unwrap_or x 0)) r.1 ∙ sym (cell_named p i r.0 r.1)) 0 (items p own) (whole_count _))
+      (λ i b. let r = has_cell own (lists own) next p i m b in ap (λ (x : Option ℕ). Number (unwrap_or x 0)) r.1 ∙ sym (cell_named p i r.0 r.1)) 0 (items p own) (omega arith))
       ∙ ap₂ (cells_from (λ p i. named ended_now (Cell o p i))) (node_later to ended_now g s subject q) named_own
       ∙ sym (cells_from_rename (named ended_now) (λ w. w) (Cell o) (λ p i. named ended_now (Cell o p i)) subject theirs (λ p m. cells_alike (named ended_now) (Cell o p) (λ i. named ended_now (Cell o p i)) (λ i. refl) 0 (items p theirs)))
 

@@ -1,5 +1,8 @@
 -- Labels draw their numbers one after another.
-use Rattle.std.proofs.Common.{◌≡◌, ◌∙◌, Result, Ok, Err, IfOk, OnErr, ℕ, zero, suc, Some, slice_get, ◌+◌, ◌<◌, ◌≤◌, ◌^◌, List, [], ◌∷◌, ◌++◌, length, drop, take, flat_map, refl, sym, ap, subst, arith, length-append, append-nil, append_assoc, add-one}
+use Rattle.std.proofs.Common.{◌≡◌, ◌∙◌, Result, Ok, Err, IfOk, OnErr, ℕ, suc, Some, slice_get, ◌+◌, ◌<◌, ◌≤◌, ◌^◌, List, [], ◌∷◌, ◌++◌, length, drop, take, flat_map, refl, sym, ap, subst, arith, length-append, append-nil, append_assoc, add-one}
+use Rattle.std.proofs.lemmas.List.{take_all}
+use Rattle.std.proofs.lemmas.Option.{slice_get_within, get_or_from_slice_get}
+use Rattle.std.proofs.Math.Seq.{take-suc, drop-cons}
 use Rattle.std.specs.Prelude.{is_some}
 use Rattle.std.proofs.lemmas.List.{at_drop_all}
 use Rattle.std.proofs.lemmas.Result.{IfOk-weaker, on_err_weaker}
@@ -11,9 +14,7 @@ use Rattle.rx_eval.specs.Labels.{Numbered, number_of, draw, Drawn, DrawnSome}
 use Rattle.rx_terms.proofs.Bools.{by_test}
 
 pub drop_at : {A : Type 0} (xs : List A) (i : ℕ) (x : A) → slice_get xs i ≡ Some x → drop i xs ≡ x ∷ drop (suc i) xs
-drop_at [] i x h = absurd (cc)
-drop_at (y ∷ xs) zero x h = let e : y ≡ x = cc in ap (λ (z : _). z ∷ xs) e
-drop_at (y ∷ xs) (suc i) x h = drop_at xs i x h
+drop_at xs i x h = drop-cons xs i x (slice_get_within xs i x h) ∙ ap (λ (y : _). y ∷ drop (suc i) xs) (get_or_from_slice_get xs i x x h)
 
 pub nothing_left : {A : Type 0} (i : ℕ) (xs : List A) → length xs ≤ i → drop i xs ≡ []
 nothing_left i xs h = at_drop_all (λ x. x) xs i h
@@ -45,17 +46,6 @@ type_split : (i : ℕ) (xs : List CodeRef) → type_labels xs ≡ type_labels (t
 type_split (suc i) (x ∷ xs) = ap (λ (l : List Chars). label_of (ref_seen x) ++ l) (type_split i xs) ∙ sym (append_assoc (label_of (ref_seen x)) (type_labels (take i xs)) (type_labels (drop i xs)))
 type_split _ _ = refl
 
-take_at : {A : Type 0} (xs : List A) (i : ℕ) (x : A) → slice_get xs i ≡ Some x → take (suc i) xs ≡ take i xs ++ x ∷ []
-take_at [] i x h = absurd (cc)
-take_at (y ∷ xs) zero x h = let e : y ≡ x = cc in ap (λ (z : _). z ∷ []) e
-take_at (y ∷ xs) (suc i) x h = ap (λ (l : List _). y ∷ l) (take_at xs i x h)
-
-take_whole : {A : Type 0} (i : ℕ) (xs : List A) → length xs ≤ i → take i xs ≡ xs
-take_whole zero [] h = refl
-take_whole (suc i) [] h = refl
-take_whole zero (x ∷ xs) h = absurd (omega arith)
-take_whole (suc i) (x ∷ xs) h = ap (λ (l : List _). x ∷ l) (take_whole i xs (omega arith))
-
 -- the first types have drawn theirs, and there are numbers for those that are left
 pub record DrawnTypes (old : Numbered) (next : ℕ) (types : List CodeRef) (i : ℕ) (labels : Numbered) (after : ℕ) : Type 0 where
   pub drawn : Drawn old next (type_labels (take i types)) labels after
@@ -69,7 +59,7 @@ one_type labels more after then_after i x types old next g s d =
     let m = drawn_most labels more after then_after (label_of (ref_seen x)) d in
     rw add-one (record {
       drawn =
-          subst (λ (l : List Chars). Drawn old next l more then_after) (sym (type_more (take i types) x) ∙ ap type_labels (sym (take_at types i x g)))
+          subst (λ (l : List Chars). Drawn old next l more then_after) (sym (type_more (take i types) x) ∙ ap type_labels (sym (take-suc types i x (slice_get_within types i x g) ∙ ap (λ (y : CodeRef). take i types ++ y ∷ []) (get_or_from_slice_get types i x x g))))
           (drawn_then old labels more next after then_after (type_labels (take i types)) (label_of (ref_seen x)) s.drawn d);
       room = omega (arith, m, r, length-append (label_of (ref_seen x)) (type_labels (drop (suc i) types)));
     })
@@ -83,7 +73,7 @@ type_room labels after i x types old next g s =
 
 pub all_drawn : (labels : Numbered) (after i : ℕ) (types : List CodeRef) (old : Numbered) (next : ℕ) → length types ≤ i
     → DrawnTypes old next types i labels after → Drawn old next (type_labels types) labels after
-all_drawn labels after i types old next h s = subst (λ (l : List CodeRef). Drawn old next (type_labels l) labels after) (take_whole i types h) s.drawn
+all_drawn labels after i types old next h s = subst (λ (l : List CodeRef). Drawn old next (type_labels l) labels after) (take_all i types h) s.drawn
 
 -- ---- where there was no memory
 

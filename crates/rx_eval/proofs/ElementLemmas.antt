@@ -1,5 +1,6 @@
 -- One element by the rules' names and by numbers.
 use Rattle.std.proofs.Common.{◌≡◌, ◌∙◌, ℕ, suc, Bool, true, false, not, ◌&&◌, List, [], ◌++◌, map, filter_map, length, Option, Some, None, option_map, is_some, is_none, unwrap_or, nat_eq, refl, sym, ap, ap₂}
+use Rattle.std.proofs.lemmas.Bool.{and_from}
 use Rattle.std.specs.Prelude.{if◌then◌else◌}
 use Rattle.std.specs.Option.{option_or}
 use Rattle.std.specs.Bool.{then_some}
@@ -175,17 +176,11 @@ module _ (facts : Facts) (base : Chars) (depth : ℕ) (path : Path) (to : Number
     hangs_here : hangs facts here_by ≡ hangs facts here
     hangs_here = hangs_is Number Number naming_now Q by_numbers agree_numbers here_by
 
-    skipped_or : (s h : Bool) → s ≡ false → h ≡ true → (not s && h) ≡ true
-    skipped_or s h e q = rw (e, q) refl
-
     other_new : here_by.skipped ≡ false → hangs facts here ≡ true → f (Made path) ≡ Number fresh
-    other_new s h = new_name (or_right (makes_resource facts path) (not here_by.skipped && hangs facts here_by) (skipped_or here_by.skipped (hangs facts here_by) s (hangs_here ∙ h)))
-
-    picked : (s t : Bool) (x : ℕ) → s ≡ false → t ≡ false → ◌≡◌ {A = Option ℕ} (if s then None else (if t then None else Some x)) (Some x)
-    picked s t x p q = rw (p, q) refl
+    other_new s h = new_name (or_right (makes_resource facts path) (not here_by.skipped && hangs facts here_by) (and_from _ _ (ap not s) (hangs_here ∙ h)))
 
     begun_by : (s t : Bool) (w : Owner) (x : ℕ) → own w ≡ (if s then None else (if t then None else Some x)) → s ≡ false → t ≡ false → name_by w (own w) ≡ Number x
-    begun_by s t w x e p q = ap (name_by w) (e ∙ picked s t x p q)
+    begun_by s t w x e p q = rw (e, p, q) refl
 
     other_own : here_by.skipped ≡ false → same_node (same_name same_bnode) here.subject (rename_node Number seen.object) ≡ false → g (Of path) ≡ Number n
     other_own s t = begun_by here_by.skipped (same_node nat_eq here_by.subject seen.object) (Of path) n meets.begun s (same_node_is here_by.subject seen.object ∙ t)

@@ -1,5 +1,7 @@
 -- The end of an element.
 use Rattle.std.proofs.Common.{◌≡◌, ◌∙◌, ℕ, suc, ◌<◌, ◌≤◌, ◌⊎◌, inl, inr, Bool, true, false, ◌||◌, ◌==◌, List, [], ◌∷◌, ◌++◌, map, length, Option, Some, None, option_map, bytes_eq, refl, sym, ap, ap₂, subst, subst₂, arith, append-nil, append_assoc, length-append}
+use Rattle.std.proofs.lemmas.Option.{IfSome_then}
+use Rattle.std.proofs.lemmas.Bool.{or_parts}
 use Rattle.std.specs.Prelude.{IfSome, if◌then◌else◌}
 use Rattle.std.proofs.lemmas.List.{map-append}
 use Rattle.std.proofs.lemmas.Bool.Decides.{Decides-eqb}
@@ -30,10 +32,10 @@ use Rattle.rx_eval.specs.Numbering.{Numbering, Name, Number, named, Grown}
 use Rattle.rx_eval.specs.Slots.{Slots, owner_place, slot_waits, waits, Fills, FillUp, Within}
 use Rattle.rx_eval.specs.Standing.{Layer, frames_in, paths_in, begun_by, own_in, under_in, open_in, places_of, waiter_of, said_of, KeptAt, LayerStands, LayersStand, Coming, Pending, owner_depth, WaitsFor, AllWaitFor, RunsBy, Runs, IsOver, page_context, Phase, EvaluatorStands, StandsOn}
 use Rattle.rx_eval.proofs.NameLemmas.{grown_then, node_later}
-use Rattle.rx_eval.proofs.FillLemmas.{within_more, or_false, fill_quiet, of_filled, snoc_last, snoc_front}
+use Rattle.rx_eval.proofs.FillLemmas.{within_more, fill_quiet, of_filled, snoc_last, snoc_front}
 use Rattle.rx_eval.proofs.CellLemmas.{IsFull, AllFull}
 use Rattle.rx_eval.proofs.ComingLemmas.{coming_not}
-use Rattle.rx_eval.proofs.LayerLemmas.{some_as, place_none, begun_none, deeper_none, all_within, frames_length, layers_later}
+use Rattle.rx_eval.proofs.LayerLemmas.{place_none, begun_none, deeper_none, all_within, frames_length, layers_later}
 use Rattle.rx_eval.proofs.OwnersLemmas.{Midway, Ended, owner_ends}
 use Rattle.rx_eval.proofs.LeavesLemmas.{unmarked}
 
@@ -78,7 +80,7 @@ item_lower r paths o (Some (Waiting s)) q h = (among h.0, h.1)
 wait_lower : (r : Path) (paths : List Path) (xs : Slots) → waits r xs ≡ false → AllWaitFor (r ∷ paths) xs → AllWaitFor paths xs
 wait_lower r paths [] q h = tt
 wait_lower r paths (x ∷ xs) q h =
-    let k = or_false (slot_waits r x.item) (waits r xs) q in
+    let k = or_parts (slot_waits r x.item) (waits r xs) q in
     (item_lower r paths x.owner x.item k.0 h.0, wait_lower r paths xs k.1 h.1)
 
 -- an owner deeper than all elements for which slots wait has none that waits
@@ -151,19 +153,14 @@ module _ (to : Numbering) (m : Machine Bnode Owner) (state : State) (l : Layer) 
         still = λ o k. of_filled o l.at.path u slots ∙ ap (fill l.at.path u) k;
       }
 
-  text_ends : TextEnds to state.base l lower state slots m.slots m.out
-  text_ends = text_by l.frame.text refl (r.each.0.said l.text) r.each.0.value r.tables.1
+  -- what the text leaves
+  said : TextEnds to state.base l lower state slots m.slots m.out
+  said = text_by l.frame.text refl (r.each.0.said l.text) r.each.0.value r.tables.1
 
   -- ---- the owners
 
   abbrev given : LayerStands to state.base state.kept l lower
   given = r.each.0
-
-  own_pending : Pending (l ∷ lower) m.path m.next (Of l.at.path)
-  own_pending = inr (inl refl)
-
-  under_pending : Pending (l ∷ lower) m.path m.next (Below l.at.path)
-  under_pending = inr (inl refl)
 
   deeper : (o : Owner) → owner_depth o ≡ length l.at.path → length lower < owner_depth o
   deeper o e = let k = given.deep in omega (arith, e, k)
@@ -186,10 +183,6 @@ module _ (to : Numbering) (m : Machine Bnode Owner) (state : State) (l : Layer) 
   within_lower : Within (length (open_in state.base lower)) (map waiter_of lower)
   within_lower = all_within state.base to state.kept lower r.each.1
 
-  -- what the text leaves
-  abbrev said : TextEnds to state.base l lower state slots m.slots m.out
-  said = text_ends
-
   abbrev names : List (Entry Owner (Slot Bnode))
   names = fill l.at.path v m.slots
 
@@ -206,8 +199,8 @@ module _ (to : Numbering) (m : Machine Bnode Owner) (state : State) (l : Layer) 
       ((m.out ++ end_of model state.base l.at l.text) ++ cells model (settle names) (Below l.at.path) (below model state.base l.at).object)
   under_ends =
       owner_ends to (Below l.at.path) l.frame.context.object (below model state.base l.at).object (open_in state.base lower ++ own_in l) (map waiter_of lower) state.labels state.drawn
-      (say_text l.frame.text l.text at_start) said.now names (m.out ++ end_of model state.base l.at l.text) l.frame.below given.under (r.uncelled (Below l.at.path) under_pending)
-      (λ e. said.still (Below l.at.path) (r.unbegun (Below l.at.path) under_pending (under_none e))) (full_at (Below l.at.path) refl)
+      (say_text l.frame.text l.text at_start) said.now names (m.out ++ end_of model state.base l.at l.text) l.frame.below given.under (r.uncelled (Below l.at.path) (inr (inl refl)))
+      (λ e. said.still (Below l.at.path) (r.unbegun (Below l.at.path) (inr (inl refl)) (under_none e))) (full_at (Below l.at.path) refl)
       (if_given l.frame.below (ap (λ (x : Inherited (Name Bnode) (Name Owner)). x.object) given.context))
       (within_more (length (open_in state.base lower)) (length (open_in state.base lower ++ own_in l)) (map waiter_of lower) more_owners within_lower) said.midway
 
@@ -217,9 +210,9 @@ module _ (to : Numbering) (m : Machine Bnode Owner) (state : State) (l : Layer) 
       owner_ends under_ends.now (Of l.at.path) l.frame.context.subject (resources model state.base l.at).subject (open_in state.base lower) (map waiter_of lower) state.labels state.drawn
       (end_owner l.frame.below (say_text l.frame.text l.text at_start)) said.now names
       ((m.out ++ end_of model state.base l.at l.text) ++ cells model (settle names) (Below l.at.path) (below model state.base l.at).object) l.frame.own given.own
-      (λ p i. under_ends.others (Of l.at.path) (λ e. absurd (cc e)) p i ∙ r.uncelled (Of l.at.path) own_pending p i)
-      (λ e. said.still (Of l.at.path) (r.unbegun (Of l.at.path) own_pending (own_none e))) (full_at (Of l.at.path) refl)
-      (some_as _ _ l.frame.own (λ n e. node_later to under_ends.now under_ends.grown l.frame.context.subject (resources model state.base l.at).subject e) given.subject)
+      (λ p i. under_ends.others (Of l.at.path) (λ e. absurd (cc e)) p i ∙ r.uncelled (Of l.at.path) (inr (inl refl)) p i)
+      (λ e. said.still (Of l.at.path) (r.unbegun (Of l.at.path) (inr (inl refl)) (own_none e))) (full_at (Of l.at.path) refl)
+      (IfSome_then l.frame.own given.subject (λ n e. node_later to under_ends.now under_ends.grown l.frame.context.subject (resources model state.base l.at).subject e))
       within_lower under_ends.midway
 
   -- the machine when the element is left
@@ -402,8 +395,7 @@ module _ (to : Numbering) (list : List Call) (state new : State) (c : Closes sta
   }
 
   not_empty : (xs : List Frame) (x : Frame) → ¬ (xs ++ x ∷ [] ≡ [])
-  not_empty [] x e = absurd (cc e)
-  not_empty (y ∷ xs) x e = absurd (cc e)
+  not_empty xs x e = let n = ap length e in omega (arith, n, length-append xs (x ∷ []))
 
   some_open : (k : Layer) (lower : List Layer) → (length (frames_in (k ∷ lower)) == 0) ≡ false
   some_open k lower = false_unless (length (frames_in (k ∷ lower)) == 0) (λ t. let e = (Decides-eqb (length (frames_in (k ∷ lower))) 0).0 t in let n = frames_length (k ∷ lower) in omega (arith, e, n))

@@ -1,5 +1,6 @@
 -- Entries that are put one after another.
-use Rattle.std.proofs.Common.{◌≡◌, ◌∙◌, ℕ, zero, suc, ◌+◌, ◌≤◌, List, [], ◌∷◌, ◌++◌, length, drop, Option, Some, None, slice_get, slice_set, bytes_eq, refl, sym, ap, add-one, append_assoc, append-nil}
+use Rattle.std.proofs.Common.{◌≡◌, ◌∙◌, ℕ, zero, suc, ◌+◌, ◌≤◌, List, [], ◌∷◌, ◌++◌, length, drop, Option, Some, None, slice_get, bytes_eq, refl, sym, ap, add-one, append_assoc, append-nil}
+use Rattle.std.proofs.Math.Seq.{set-append_seam}
 use Rattle.rx_terms.specs.Text.{Chars}
 use Rattle.rx_terms.specs.declared.triples.Term.{Term}
 use Rattle.rx_rdfa.specs.Tables.{put}
@@ -12,15 +13,11 @@ use Rattle.rx_eval.specs.Entries.{put_each, slots_for, put_awaited}
 use Rattle.rx_terms.proofs.Bools.{by_test}
 use Rattle.rx_eval.proofs.DrawLemmas.{drop_at, nothing_left}
 
-pub set_end : {A : Type 0} (xs : List A) (x y : A) → slice_set (xs ++ x ∷ []) (length xs) y ≡ xs ++ y ∷ []
-set_end [] x y = refl
-set_end (z ∷ xs) x y = ap (λ (l : List _). z ∷ l) (set_end xs x y)
-
 -- a slot that is reserved and filled is an item
 put_filled : (p : Chars) (t : Term) (lists : Slots) → with_term (place_of p lists) (length (slots_of p lists)) t (put p (Some None) lists) ≡ put p (Some (Some t)) lists
 put_filled p t [] = refl
 put_filled p t (row ∷ lists) =
-    by_test (bytes_eq row.0 p) (λ e. rw e (ap (λ (s : List (Option Term)). (row.0, s) ∷ lists) (set_end row.1 None (Some t))))
+    by_test (bytes_eq row.0 p) (λ e. rw e (ap (λ (s : List (Option Term)). (row.0, s) ∷ lists) (set-append_seam row.1 None [] (Some t))))
     (λ e. rw e (ap (λ (l : Slots). row ∷ l) (put_filled p t lists)))
 
 pub filled_item : (p : Chars) (t : Term) (owners : Owners) (n : ℕ)

@@ -1,5 +1,7 @@
 -- Places are filled at the ends of elements: what becomes of that when slots are put, and owners begin and end.
-use Rattle.std.proofs.Common.{◌≡◌, ◌∙◌, ℕ, zero, suc, ◌<◌, ◌≤◌, Bool, true, false, ◌||◌, List, [], ◌∷◌, ◌++◌, map, length, Option, Some, None, option_map, refl, sym, ap, ap₂, subst, subst₂, arith, length-append}
+use Rattle.std.proofs.Common.{◌≡◌, ◌∙◌, ℕ, zero, suc, ◌<◌, ◌≤◌, Bool, false, ◌||◌, List, [], ◌∷◌, ◌++◌, map, length, Option, Some, None, option_map, refl, sym, ap, ap₂, subst, subst₂, arith, length-append}
+use Rattle.std.proofs.lemmas.List.{length-set}
+use Rattle.std.proofs.lemmas.Bool.{or_parts}
 use Rattle.std.proofs.lemmas.List.{map-append}
 use Rattle.rx_model.specs.Terms.{Node, Term}
 use Rattle.rx_rdfa.specs.Naming.{Path}
@@ -11,7 +13,7 @@ use Rattle.rx_lists.specs.declared.lists.SlotId.{SlotId}
 use Rattle.rx_terms.proofs.Bools.{by_test}
 use Rattle.rx_eval.specs.OwnersSeen.{Owning, owning, put_entries, with_item, fill_seen, fill_all}
 use Rattle.rx_eval.specs.Slots.{Slots, Open, owner_place, item_of, table_in, owners_of, slot_waits, waits, HasItem, HasPlace, HasPlaces, Waiter, Fills, FillUp, Apart, WithinPlaces, WithinOption, Within}
-use Rattle.rx_eval.proofs.PlaceLemmas.{set_length, still_at, fill_past_all}
+use Rattle.rx_eval.proofs.PlaceLemmas.{still_at, fill_past_all}
 use Rattle.rx_eval.proofs.ListLemmas.{Puts, Match, put_all}
 
 abbrev Many : Type 0
@@ -19,14 +21,10 @@ Many = List (Option Owning)
 
 -- ---- slots that are filled
 
-pub or_false : (a b : Bool) → (a || b) ≡ false → (a ≡ false) × (b ≡ false)
-or_false true b h = absurd (cc)
-or_false false b h = (refl, h)
-
 pub waits_both : {B O : Type 0} (r : Path) (xs ys : List (Entry O (Slot B))) → waits r xs ≡ false → waits r ys ≡ false → waits r (xs ++ ys) ≡ false
 waits_both r [] ys h k = k
 waits_both r (x ∷ xs) ys h k =
-    let q = or_false (slot_waits r x.item) (waits r xs) h in
+    let q = or_parts (slot_waits r x.item) (waits r xs) h in
     ap₂ (λ (a b : Bool). a || b) q.0 (waits_both r xs ys q.1 k)
 
 item_quiet : {B : Type 0} (r : Path) (v : Term B) (item : Option (Slot B)) → slot_waits r item ≡ false → option_map (fill_slot r v) item ≡ item
@@ -37,7 +35,7 @@ item_quiet r v (Some (Waiting q)) h = rw h refl
 pub fill_quiet : {B O : Type 0} (r : Path) (v : Term B) (xs : List (Entry O (Slot B))) → waits r xs ≡ false → fill r v xs ≡ xs
 fill_quiet r v [] h = refl
 fill_quiet r v (x ∷ xs) h =
-    let q = or_false (slot_waits r x.item) (waits r xs) h in
+    let q = or_parts (slot_waits r x.item) (waits r xs) h in
     λ i. record { owner = x.owner; predicate = x.predicate; item = item_quiet r v x.item q.0 i } ∷ fill_quiet r v xs q.1 i
 
 pub of_filled : {B : Type 0} (o : Owner) (r : Path) (v : Term B) (xs : List (Entry Owner (Slot B))) → of_owner same_owner o (fill r v xs) ≡ fill r v (of_owner same_owner o xs)
@@ -47,14 +45,11 @@ of_filled o r v (x ∷ xs) =
     (λ t. rw t (ap (λ (l : List (Entry Owner (Slot _))). map_entry (fill_slot r v) x ∷ l) (of_filled o r v xs)))
     (λ f. rw f (of_filled o r v xs))
 
-none_filled : (o : Owner) (r : Path) (v : Term ℕ) (xs : Slots) → of_owner same_owner o xs ≡ [] → of_owner same_owner o (fill r v xs) ≡ []
-none_filled o r v xs h = of_filled o r v xs ∙ ap (fill r v) h
-
 -- ---- places
 
 item_filled : (m j : ℕ) (v : Term ℕ) (l i : ℕ) (t : Table (Option (Term ℕ))) → HasItem l i t → HasItem l i (with_item m j v t)
 item_filled m j v l i [] h = absurd h
-item_filled zero j v zero i (row ∷ t) h = let n = set_length row.1 j (Some v) in omega (arith, n, h)
+item_filled zero j v zero i (row ∷ t) h = let n = length-set row.1 j (Some v) in omega (arith, n, h)
 item_filled (suc m) j v (suc l) i (row ∷ t) h = item_filled m j v l i t h
 item_filled _ j v _ i (row ∷ t) h = h
 
@@ -113,11 +108,8 @@ pub owners_more : (slots : Slots) (open_owners : Open) (o : Owner) (s : Node ℕ
 owners_more slots [] o s = refl
 owners_more slots (one ∷ more) o s = ap (λ (l : Many). Some (owning one.1 (table_in slots one.0)) ∷ l) (owners_more slots more o s)
 
-pub empty_table : (slots : Slots) (o : Owner) → of_owner same_owner o slots ≡ [] → table_in slots o ≡ []
-empty_table slots o h = ap (λ (l : Slots). table_from [] (map (map_entry item_of) l)) h
-
 fill_length : (l i : ℕ) (v : Term ℕ) (os : Many) (n : ℕ) → length (fill_seen l i v os n) ≡ length os
-fill_length l i v os n = set_length os n _
+fill_length l i v os n = length-set os n _
 
 pub fill_all_length : (slots : List SlotId) (v : Term ℕ) (os : Many) → length (fill_all slots v os) ≡ length os
 fill_all_length [] v os = refl
@@ -140,15 +132,12 @@ within_more k m (w ∷ waiters) e h = (option w.places h.0, within_more k m wait
     option None g = tt
     option (Some places) g = within_length k m places e g
 
-same_count : (n m : ℕ) → n ≡ m → n ≤ m
-same_count n m e = omega (arith, e)
-
 fills_front : (slots : List SlotId) (v : Term ℕ) (os : Many) (x : Option Owning) → WithinPlaces (length os) slots → fill_all slots v (os ++ x ∷ []) ≡ fill_all slots v os ++ x ∷ []
 fills_front [] v os x h = refl
 fills_front (s ∷ slots) v os x h =
     ap (fill_all slots v) (fill_front s.owner.0 s.list s.place v os x h.0)
     ∙ fills_front slots v (fill_seen s.list s.place v os s.owner.0) x
-    (within_length (length os) (length (fill_seen s.list s.place v os s.owner.0)) slots (same_count _ _ (sym (fill_length s.list s.place v os s.owner.0))) h.1)
+    (within_length (length os) (length (fill_seen s.list s.place v os s.owner.0)) slots (omega (arith, fill_length s.list s.place v os s.owner.0)) h.1)
 
 -- an owner more at the end takes no place and gives none
 place_both : (n l i : ℕ) (os : Many) (x : Option Owning) → n < length os → (HasPlace n l i os → HasPlace n l i (os ++ x ∷ [])) × (HasPlace n l i (os ++ x ∷ []) → HasPlace n l i os)
@@ -183,13 +172,13 @@ snoc_last xs ys x y e = (snoc_parts xs ys x y e).1
 module _ (open_owners : Open) (o : Owner) (s : Node ℕ) where
   begin_owners : (owners : Many) (slots : Slots) → of_owner same_owner o slots ≡ [] → owners ≡ owners_of slots open_owners → owners ++ Some (owning s []) ∷ [] ≡ owners_of slots (open_owners ++ (o, s) ∷ [])
   begin_owners owners slots e h =
-      ap₂ (λ (l : Many) (t : Table (Option (Term ℕ))). l ++ Some (owning s t) ∷ []) h (sym (empty_table slots o e)) ∙ sym (owners_more slots open_owners o s)
+      ap₂ (λ (l : Many) (t : Table (Option (Term ℕ))). l ++ Some (owning s t) ∷ []) h (sym (ap (λ (l : Slots). table_from [] (map (map_entry item_of) l)) e)) ∙ sym (owners_more slots open_owners o s)
 
   pub begin_fill_up : (waiters : List Waiter) (owners : Many) (slots : Slots) → of_owner same_owner o slots ≡ [] → Within (length owners) waiters → FillUp open_owners waiters owners slots
       → FillUp (open_owners ++ (o, s) ∷ []) waiters (owners ++ Some (owning s []) ∷ []) slots
   begin_fill_up [] owners slots e b h = begin_owners owners slots e h
   begin_fill_up (w ∷ waiters) owners slots e b h =
-      (begin_owners owners slots e h.0, fills w.places b.0 h.1 (λ os ss q k g. begin_fill_up waiters os ss q (within_more (length owners) (length os) waiters (same_count _ _ k) b.1) g))
+      (begin_owners owners slots e h.0, fills w.places b.0 h.1 (λ os ss q k g. begin_fill_up waiters os ss q (within_more (length owners) (length os) waiters (omega (arith, k)) b.1) g))
     where
       fills : (places : Option (List SlotId)) → WithinOption (length owners) places → Fills w.path places (λ o s. FillUp open_owners waiters o s) owners slots
           → ((os : Many) (ss : Slots) → of_owner same_owner o ss ≡ [] → length owners ≡ length os → FillUp open_owners waiters os ss → FillUp (open_owners ++ (o, s) ∷ []) waiters (os ++ Some (owning s []) ∷ []) ss)
@@ -198,7 +187,7 @@ module _ (open_owners : Open) (o : Owner) (s : Node ℕ) where
       fills (Some places) c k more = (
         (places_both places owners (Some (owning s [])) c).0 k.0,
         λ v. subst (λ (l : Many). FillUp (open_owners ++ (o, s) ∷ []) waiters l (fill w.path v slots)) (sym (fills_front places v owners (Some (owning s [])) c))
-            (more (fill_all places v owners) (fill w.path v slots) (none_filled o w.path v slots e) (sym (fill_all_length places v owners)) (k.1 v)),
+            (more (fill_all places v owners) (fill w.path v slots) (of_filled o w.path v slots ∙ ap (fill w.path v) e) (sym (fill_all_length places v owners)) (k.1 v)),
       )
 
   end_owners : (owners : Many) (slots : Slots) (x : Option Owning) → owners ++ x ∷ [] ≡ owners_of slots (open_owners ++ (o, s) ∷ []) → owners ≡ owners_of slots open_owners
@@ -208,7 +197,7 @@ module _ (open_owners : Open) (o : Owner) (s : Node ℕ) where
       → FillUp open_owners waiters owners slots
   end_fill_up [] owners slots x b h = end_owners owners slots x h
   end_fill_up (w ∷ waiters) owners slots x b h =
-      (end_owners owners slots x h.0, fills w.places b.0 h.1 (λ os ss k g. end_fill_up waiters os ss x (within_more (length owners) (length os) waiters (same_count _ _ k) b.1) g))
+      (end_owners owners slots x h.0, fills w.places b.0 h.1 (λ os ss k g. end_fill_up waiters os ss x (within_more (length owners) (length os) waiters (omega (arith, k)) b.1) g))
     where
       fills : (places : Option (List SlotId)) → WithinOption (length owners) places → Fills w.path places (λ o' s'. FillUp (open_owners ++ (o, s) ∷ []) waiters o' s') (owners ++ x ∷ []) slots
           → ((os : Many) (ss : Slots) → length owners ≡ length os → FillUp (open_owners ++ (o, s) ∷ []) waiters (os ++ x ∷ []) ss → FillUp open_owners waiters os ss)

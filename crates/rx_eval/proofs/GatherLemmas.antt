@@ -1,5 +1,6 @@
 -- The frame of an element that is opened: its owners, and its text where it gathers that.
-use Rattle.std.proofs.Common.{◌≡◌, ◌∙◌, ℕ, Bool, true, false, List, [], ◌++◌, Option, Some, None, refl, ap, subst}
+use Rattle.std.proofs.Common.{◌≡◌, ◌∙◌, ℕ, Bool, true, false, List, [], ◌++◌, Option, Some, None, refl, ap, subst, sym}
+use Rattle.rx_terms.proofs.Bools.{both}
 use Rattle.std.specs.Prelude.{◌&&◌, is_some, IfSome, if◌then◌else◌}
 use Rattle.rx_terms.specs.Text.{Chars}
 use Rattle.rx_rdfa.specs.Naming.{Naming}
@@ -24,10 +25,6 @@ places_are : (M : Naming ℕ ℕ) (at : Standing ℕ ℕ) (here : Resources ℕ)
 places_are M at here owners =
     ap (λ (l : Entries). places_for (own_owner M at here) (listed at.facts.property) (put_entries (l ++ touched M Some None at here) owners)) (linked_is M at here None here.object)
 
-second : (p n : Bool) → true ≡ (p && n) → n ≡ true
-second true true h = refl
-second _ _ h = absurd (cc)
-
 if_same : (listed waits : Bool) (slots more whole : List SlotId) → waits ≡ true → slots ≡ (if listed then (if waits then more else []) else []) → more ≡ whole
     → (if listed then slots else []) ≡ (if listed then whole else [])
 if_same true waits slots more whole w s m = s ∙ ap (λ (b : Bool). if b then more else []) w ∙ m
@@ -43,7 +40,7 @@ gathers_places M at here owner mark has waits slots old owners None o u s e h = 
 gathers_places M at here owner mark has waits slots old owners (Some x) o u s e h =
     let own : own_places owner at.facts here old ≡ places_for (own_owner M at here) (listed at.facts.property) (put_entries (linked M Some None at here here.object ++ touched M Some None at here) owners) =
     ap (λ (n : ℕ). own_places n at.facts here old) o ∙ ap (own_places (own_owner M at here) at.facts here) u ∙ places_are M at here owners in
-    let same = if_same at.facts.inlist waits slots _ _ (second has waits s) e own in
+    let same = if_same at.facts.inlist waits slots _ _ (both has waits (sym s)).1 e own in
     record { subject = h.subject; rule = h.rule; said = h.said; slots = h.slots ∙ same; begins = h.begins }
 
 -- ---- by the rules' resources
@@ -68,21 +65,15 @@ module _ (labels : Numbered) (fresh : ℕ) (base : Chars) (at : Standing ℕ ℕ
   abbrev below_of : ℕ → Resources ℕ → Option ℕ
   below_of n h = if h.skipped then None else owner_for (object_below (moment labels fresh 0 0) at h) h.subject (next_number at h n)
 
-  not_skipped : (b : Bool) (x : Option ℕ) → b ≡ false → x ≡ (if b then None else x)
-  not_skipped b x e = rw e refl
-
-  is_skipped : (b : Bool) (x : Option ℕ) → b ≡ true → None ≡ (if b then None else x)
-  is_skipped b x e = rw e refl
-
   pub own_found : (n : ℕ) (own : Option ℕ) → here.skipped ≡ false → own ≡ owner_begun here.subject at.around.object n → own ≡ own_of n R
-  own_found n own k e = e ∙ not_skipped here.skipped (owner_begun here.subject at.around.object n) k ∙ ap (own_of n) r
+  own_found n own k e = let begins : owner_begun here.subject at.around.object n ≡ own_of n here = rw k refl in e ∙ begins ∙ ap (own_of n) r
 
   pub below_found : (n : ℕ) (own : Option ℕ) → here.skipped ≡ false → own ≡ owner_for (object_below (moment labels fresh 0 0) at here) here.subject (next_number at here n) → own ≡ below_of n R
   below_found n own k e =
-      e ∙ not_skipped here.skipped (owner_for (object_below (moment labels fresh 0 0) at here) here.subject (next_number at here n)) k ∙ ap (below_of n) r
+      let begins : owner_for (object_below (moment labels fresh 0 0) at here) here.subject (next_number at here n) ≡ below_of n here = rw k refl in e ∙ begins ∙ ap (below_of n) r
 
   pub no_own : (n : ℕ) → here.skipped ≡ true → None ≡ own_of n R
-  no_own n k = is_skipped here.skipped (owner_begun here.subject at.around.object n) k ∙ ap (own_of n) r
+  no_own n k = let none : None ≡ own_of n here = rw k refl in none ∙ ap (own_of n) r
 
   pub no_below : (n : ℕ) → here.skipped ≡ true → None ≡ below_of n R
-  no_below n k = is_skipped here.skipped (owner_for (object_below (moment labels fresh 0 0) at here) here.subject (next_number at here n)) k ∙ ap (below_of n) r
+  no_below n k = let none : None ≡ below_of n here = rw k refl in none ∙ ap (below_of n) r

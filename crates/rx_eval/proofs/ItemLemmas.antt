@@ -23,7 +23,7 @@ use Rattle.rx_eval.specs.Standing.{owner_depth, WaitsFor, AllWaitFor}
 use Rattle.rx_eval.proofs.PlaceLemmas.{has_at, reserved_are_filled}
 use Rattle.rx_eval.proofs.FillLemmas.{place_put}
 use Rattle.rx_eval.proofs.SeenLemmas.{entries_then}
-use Rattle.rx_eval.proofs.ListLemmas.{suc_is, Puts, Match, firsts}
+use Rattle.rx_eval.proofs.ListLemmas.{suc_is, Puts, Match, all_matched, matched}
 
 -- ---- what holds of each item
 
@@ -112,11 +112,8 @@ Filled (Some None) = ⊥
 Filled _ = Unit {0}
 
 pub match_quiet : (own : Owner → Option ℕ) (r : Path) (xs : Puts) (ys : Slots) → Match own xs ys → AllItems Filled xs → waits r ys ≡ false
-match_quiet own r xs [] m h = refl
-match_quiet own r [] (y ∷ ys) m h = let q = m.path in absurd (cc q)
-match_quiet own r (x ∷ xs) (y ∷ ys) m h =
-    let q = firsts own x y xs ys m in
-    ap₂ (λ (a b : Bool). a || b) (item x.item y.item q.item h.0) (match_quiet own r xs ys q.rest h.1)
+match_quiet own r _ _ all_matched h = refl
+match_quiet own r _ _ (matched x y xs ys o p i m) h = ap₂ (λ (a b : Bool). a || b) (item x.item y.item i h.0) (match_quiet own r xs ys m h.1)
   where
     item : (i : Option (Option (Term ℕ))) (j : Option (Slot ℕ)) → i ≡ option_map item_of j → Filled i → slot_waits r j ≡ false
     item i None e k = refl
@@ -131,20 +128,15 @@ place_bound (x ∷ xs) o n h =
     (λ f. let m = suc_is (owner_place xs o) n (rw f at h) in let b = place_bound xs o m.0 m.1 in let q = m.2 in omega (arith, q, b))
 
 pub match_bound : (open_owners : Open) (xs : Puts) (ys : Slots) → Match (owner_place open_owners) xs ys → (x : Entry ℕ (Option (Term ℕ))) → Among xs x → x.owner < length open_owners
-match_bound open_owners [] ys m x a = absurd a
-match_bound open_owners (z ∷ xs) [] m x a = let q = m.path in absurd (cc q)
-match_bound open_owners (z ∷ xs) (y ∷ ys) m x (inl e) =
-    subst (λ (w : Entry ℕ (Option (Term ℕ))). w.owner < length open_owners) e (place_bound open_owners y.owner z.owner (firsts (owner_place open_owners) z y xs ys m).owner)
-match_bound open_owners (z ∷ xs) (y ∷ ys) m x (inr b) = match_bound open_owners xs ys (firsts (owner_place open_owners) z y xs ys m).rest x b
+match_bound open_owners _ _ all_matched x a = absurd a
+match_bound open_owners _ _ (matched z y xs ys o p i m) x (inl e) = subst (λ (w : Entry ℕ (Option (Term ℕ))). w.owner < length open_owners) e (place_bound open_owners y.owner z.owner o)
+match_bound open_owners _ _ (matched z y xs ys o p i m) x (inr b) = match_bound open_owners xs ys m x b
 
 -- each slot's owner is open, and waits are for the path
 pub match_waits : (open_owners : Open) (path : Path) (paths : List Path) → ((o : Owner) (n : ℕ) → owner_place open_owners o ≡ Some n → owner_depth o ≤ length path)
     → (xs : Puts) (ys : Slots) → Match (owner_place open_owners) xs ys → AllItems (Only path) ys → AllWaitFor (path ∷ paths) ys
-match_waits open_owners path paths d xs [] m h = tt
-match_waits open_owners path paths d [] (y ∷ ys) m h = let q = m.path in absurd (cc q)
-match_waits open_owners path paths d (x ∷ xs) (y ∷ ys) m h =
-    let q = firsts (owner_place open_owners) x y xs ys m in
-    (item y.item h.0 (d y.owner x.owner q.owner), match_waits open_owners path paths d xs ys q.rest h.1)
+match_waits open_owners path paths d _ _ all_matched h = tt
+match_waits open_owners path paths d _ _ (matched x y xs ys o p i m) h = (item y.item h.0 (d y.owner x.owner o), match_waits open_owners path paths d xs ys m h.1)
   where
     item : (i : Option (Slot ℕ)) → Only path i → owner_depth y.owner ≤ length path → WaitsFor (path ∷ paths) y.owner i
     item None k b = tt
@@ -153,13 +145,11 @@ match_waits open_owners path paths d (x ∷ xs) (y ∷ ys) m h =
 
 -- an owner that isn't open has none of the slots
 pub match_none : (open_owners : Open) (o : Owner) → owner_place open_owners o ≡ None → (xs : Puts) (ys : Slots) → Match (owner_place open_owners) xs ys → ((y : Entry Owner (Slot ℕ)) → Among ys y → same_owner y.owner o ≡ false)
-match_none open_owners o n xs [] m y a = absurd a
-match_none open_owners o n [] (z ∷ ys) m y a = let q = m.path in absurd (cc q)
-match_none open_owners o n (x ∷ xs) (z ∷ ys) m y (inl e) =
-    let p = (firsts (owner_place open_owners) x z xs ys m).owner in
+match_none open_owners o n _ _ all_matched y a = absurd a
+match_none open_owners o n _ _ (matched x z xs ys q p i m) y (inl e) =
     subst (λ (w : Entry Owner (Slot ℕ)). same_owner w.owner o ≡ false) e
-    (false_unless (same_owner z.owner o) (λ t. absurd (cc (ap (owner_place open_owners) ((exact_owners z.owner o).0 t), n, p))))
-match_none open_owners o n (x ∷ xs) (z ∷ ys) m y (inr b) = match_none open_owners o n xs ys (firsts (owner_place open_owners) x z xs ys m).rest y b
+    (false_unless (same_owner z.owner o) (λ t. absurd (cc (ap (owner_place open_owners) ((exact_owners z.owner o).0 t), n, q))))
+match_none open_owners o n _ _ (matched x z xs ys q p i m) y (inr b) = match_none open_owners o n xs ys m y b
 
 -- ---- a value for the empty ones
 
@@ -190,14 +180,8 @@ valued_parts u o ps front back h k =
     ∙ ap₂ ◌++◌ (map-append (valued_entry u) front (map (entry o (Some None)) ps) ∙ ap₂ ◌++◌ (valued_same u front h) (valued_reserved u o ps)) (valued_same u back k)
 
 pub match_valued : (own : Owner → Option ℕ) (path : Path) (u : Term ℕ) (xs : Puts) (ys : Slots) → Match own xs ys → AllItems (Only path) ys → Match own (map (valued_entry u) xs) (fill path u ys)
-match_valued own path u [] [] m h = record { path = refl }
-match_valued own path u [] (y ∷ ys) m h = let q = m.path in absurd (cc q)
-match_valued own path u (x ∷ xs) [] m h = let q = m.path in absurd (cc q)
-match_valued own path u (x ∷ xs) (y ∷ ys) m h =
-    let q = firsts own x y xs ys m in
-    let more = match_valued own path u xs ys q.rest h.1 in
-    let i = item x.item y.item q.item h.0 in
-    record { path = λ j. record { owner = (q.first j).owner; predicate = (q.first j).predicate; item = i j } ∷ more.path j }
+match_valued own path u _ _ all_matched h = all_matched
+match_valued own path u _ _ (matched x y xs ys o p i m) h = matched _ _ _ _ o p (item x.item y.item i h.0) (match_valued own path u xs ys m h.1)
   where
     item : (i : Option (Option (Term ℕ))) (s : Option (Slot ℕ)) → i ≡ option_map item_of s → Only path s → value_item u i ≡ option_map item_of (option_map (fill_slot path u) s)
     item i None e k = ap (value_item u) e

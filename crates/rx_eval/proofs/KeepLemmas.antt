@@ -1,5 +1,6 @@
 -- Which text is kept.
 use Rattle.std.proofs.Common.{◌≡◌, ◌∙◌, ℕ, suc, ◌<◌, ◌≤◌, ◌-◌, ◌+◌, Bool, true, false, List, [], ◌∷◌, ◌++◌, length, Option, Some, None, option_map, is_some, refl, sym, ap, subst, arith, length-append}
+use Rattle.std.proofs.Common.{true≢false}
 use Rattle.std.specs.Prelude.{◌||◌, ◌==◌, if◌then◌else◌}
 use Rattle.std.proofs.lemmas.Bool.Decides.{nat_tests}
 use Rattle.rx_terms.specs.Text.{Chars}
@@ -66,10 +67,6 @@ was_none : (old : Option ℕ) (b : Bool) (n : ℕ) → first_of old b n ≡ None
 was_none None b n e = refl
 was_none (Some m) b n e = e
 
-not_none : (p : Option ℕ) → p ≡ None → true ≡ is_some p → ⊥
-not_none None z e = cc
-not_none (Some m) z e = cc
-
 module _ {levels depth : ℕ} {a : Inherited ℕ ℕ} {fs : List CodeFrame} {skipped : ℕ} {place : Option ℕ} {kept : Chars} (s : IsSound levels depth a fs skipped place kept) where
   pub gathers_is : gathers_some (all_frames a fs skipped) ≡ is_some place
   gathers_is = some_gathers a fs skipped ∙ ap (λ (o : Option ℕ). is_some o) (sym s.first)
@@ -86,7 +83,7 @@ module _ {levels depth : ℕ} {a : Inherited ℕ ℕ} {fs : List CodeFrame} {ski
 
   -- text is pushed where some frame gathers
   pub sound_grown : (now : Chars) (b : Bool) → b ≡ gathers_some (all_frames a fs skipped) → b ≡ true → IsSound levels depth a fs skipped place now
-  sound_grown now b g t = record { room = s.room; deep = s.deep; within = s.within; rooted = s.rooted; first = s.first; quiet = λ z. absurd (not_none place z (sym t ∙ g ∙ gathers_is)) }
+  sound_grown now b g t = record { room = s.room; deep = s.deep; within = s.within; rooted = s.rooted; first = s.first; quiet = λ z. absurd (true≢false (sym t ∙ g ∙ gathers_is ∙ ap (λ (o : Option ℕ). is_some o) z)) }
 
   -- a frame more
   pub sound_more : {n : ℕ} {more : List CodeFrame} (f : CodeFrame) {after : Option ℕ} → depth < levels → f.skipped ≡ skipped → more ≡ fs ++ f ∷ [] → n ≡ length fs

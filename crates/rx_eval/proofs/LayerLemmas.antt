@@ -1,5 +1,6 @@
 -- The frames of the open elements, and the owners that are open.
 use Rattle.std.proofs.Common.{◌≡◌, ◌∙◌, ℕ, suc, ◌+◌, ◌<◌, ◌≤◌, ⊎_elim, false, List, [], ◌∷◌, ◌++◌, map, length, Option, Some, None, option_map, refl, sym, ap, subst, arith, append-nil, length-append}
+use Rattle.std.proofs.lemmas.Option.{IfSome_then}
 use Rattle.std.specs.Prelude.{IfSome}
 use Rattle.std.proofs.lemmas.Bool.{cases_lt}
 use Rattle.rx_terms.specs.Text.{Chars}
@@ -80,25 +81,19 @@ pub begun_place : (own : Option ℕ) (o : Owner) (s : Node ℕ) (k : ℕ) → If
 begun_place None o s k h = refl
 begun_place (Some n) o s k h = rw ((exact_owners o o).1 refl) (let e : k + 0 ≡ n = omega (arith, h) in ap Some e)
 
-depth_at : (a b : Owner) → a ≡ b → owner_depth a ≡ owner_depth b
-depth_at a b e = ap owner_depth e
-
 module _ (base : Chars) where
   -- owners that are deeper than all layers have no place
   pub deeper_none : (to : Numbering) (kept : Chars) (layers : List Layer) → LayersStand to base kept layers → (o : Owner) → length layers < owner_depth o → owner_place (open_in base layers) o ≡ None
-  deeper_none to kept [] h o d = rw (not_same First o (λ e. let q = depth_at First o e in omega (arith, q, d))) refl
+  deeper_none to kept [] h o d = rw (not_same First o (λ e. let q = ap owner_depth e in omega (arith, q, d))) refl
   deeper_none to kept (l ∷ lower) h o d =
       let k = h.0.deep in
       place_none (open_in base lower ++ own_in l) (under_in l) o
       (place_none (open_in base lower) (own_in l) o (deeper_none to kept lower h.1 o (omega (arith, d)))
-      (begun_none l.frame.own (Of l.at.path) o l.frame.context.subject (λ e. let q = depth_at (Of l.at.path) o e in omega (arith, q, d, k))))
-      (begun_none l.frame.below (Below l.at.path) o l.frame.context.object (λ e. let q = depth_at (Below l.at.path) o e in omega (arith, q, d, k)))
+      (begun_none l.frame.own (Of l.at.path) o l.frame.context.subject (λ e. let q = ap owner_depth e in omega (arith, q, d, k))))
+      (begun_none l.frame.below (Below l.at.path) o l.frame.context.object (λ e. let q = ap owner_depth e in omega (arith, q, d, k)))
 
   pub placed_depth : (to : Numbering) (kept : Chars) (layers : List Layer) → LayersStand to base kept layers → (o : Owner) (n : ℕ) → owner_place (open_in base layers) o ≡ Some n → owner_depth o ≤ length layers
-  placed_depth to kept layers h o n e = decide (owner_depth o) (length layers) (λ d. absurd (cc (e, deeper_none to kept layers h o d)))
-    where
-      decide : (a b : ℕ) → (b < a → a ≤ b) → a ≤ b
-      decide a b k = ⊎_elim (λ low. k low) (λ from. omega (arith, from)) (cases_lt b a)
+  placed_depth to kept layers h o n e = ⊎_elim (λ d. absurd (cc (e, deeper_none to kept layers h o d))) (λ d. omega (arith, d)) (cases_lt (length layers) (owner_depth o))
 
   pub apart_open : (to : Numbering) (kept : Chars) (layers : List Layer) → LayersStand to base kept layers → Apart (open_in base layers)
   apart_open to kept [] h = (refl, tt)
@@ -136,10 +131,6 @@ pub handed_now : (to : Numbering) (base kept : Chars) (layers : List Layer) → 
 handed_now to base kept [] h = refl
 handed_now to base kept (l ∷ lower) h = ap (rename_inherited Number Number) (handed_last (page_context base) (frames_in lower) l.frame) ∙ h.0.context
 
-pub some_as : {A : Type 0} (P Q : A → Type 0) (o : Option A) → ((a : A) → P a → Q a) → IfSome o P → IfSome o Q
-some_as P Q None f h = tt
-some_as P Q (Some a) f h = f a h
-
 -- ---- layers when more have numbers, and when more text is kept
 
 module _ (old new : Numbering) (grown : Grown old new) (base kept : Chars) where
@@ -149,11 +140,11 @@ module _ (old new : Numbering) (grown : Grown old new) (base kept : Chars) where
     inside = h.inside;
     context = inherited_later old new grown (owner_place (open_in base (l ∷ lower))) (owner_place (open_in base (l ∷ lower))) (grown_same (owner_place (open_in base (l ∷ lower)))) l.frame.context (below model base l.at) h.context;
     own = h.own;
-    subject = some_as _ _ l.frame.own (λ n e. node_later old new grown l.frame.context.subject (resources model base l.at).subject e) h.subject;
+    subject = IfSome_then l.frame.own h.subject (λ n e. node_later old new grown l.frame.context.subject (resources model base l.at).subject e);
     under = h.under;
     gathers = h.gathers;
     said = λ chars. triples_later old new grown (said_of l.frame.text chars) (end_of model base l.at chars) (h.said chars);
-    value = some_as _ _ l.frame.text (λ t e chars. term_later old new grown (text_literal t.by chars) (value_at model base l.at chars) (e chars)) h.value;
+    value = IfSome_then l.frame.text h.value (λ t e chars. term_later old new grown (text_literal t.by chars) (value_at model base l.at chars) (e chars));
     marked = h.marked;
     places = h.places;
   }

@@ -1,16 +1,17 @@
 -- Text, and the end of an element.
 use Rattle.std.proofs.Common.{◌≡◌, ◌∙◌, ℕ, suc, inl, inr, Bool, true, false, ◌||◌, List, [], ◌∷◌, ◌++◌, map, length, Option, Some, None, refl, sym, ap, ap₂, subst, subst₂, append_assoc}
+use Rattle.rx_rdfa.proofs.Growing.{map_then}
+use Rattle.std.proofs.lemmas.List.{length-map}
+use Rattle.std.proofs.lemmas.Option.{IfSome_then}
+use Rattle.std.proofs.lemmas.Bool.{or_parts}
 use Rattle.std.specs.Prelude.{IfSome, is_some, if◌then◌else◌}
 use Rattle.rx_terms.specs.Text.{Chars}
 use Rattle.rx_model.specs.Sets.{Among}
 use Rattle.rx_rdfa.specs.Naming.{Path}
 use Rattle.rx_rdfa.specs.Blanks.{Bnode, Owner, First, Of, Below, model}
-use Rattle.rx_rdfa.specs.Resources.{Standing}
 use Rattle.rx_rdfa.specs.Inherited.{below}
 use Rattle.rx_rdfa.specs.Machine.{Machine, read}
 use Rattle.rx_rdfa.specs.Renaming.{rename_inherited}
-use Rattle.rx_eval.proofs.FillLemmas.{or_false}
-use Rattle.rx_eval.proofs.LayerLemmas.{some_as}
 use Rattle.rx_eval.specs.States.{Frame, State}
 use Rattle.rx_eval.specs.Keeping.{gathers_some}
 use Rattle.rx_eval.specs.Opened.{read_text}
@@ -24,8 +25,7 @@ abbrev read_layer : Chars → Layer → Layer
 read_layer chars l = record { at = l.at; text = l.text ++ chars; frame = l.frame }
 
 abbrev read_layers : Chars → List Layer → List Layer
-read_layers chars [] = []
-read_layers chars (l ∷ lower) = read_layer chars l ∷ read_layers chars lower
+read_layers chars = map (read_layer chars)
 
 module _ (chars : Chars) where
   same_frames : (layers : List Layer) → frames_in (read_layers chars layers) ≡ frames_in layers
@@ -33,12 +33,10 @@ module _ (chars : Chars) where
   same_frames (l ∷ lower) = ap (λ (x : List Frame). x ++ l.frame ∷ []) (same_frames lower)
 
   same_at : (layers : List Layer) → map (λ l. l.at) (read_layers chars layers) ≡ map (λ l. l.at) layers
-  same_at [] = refl
-  same_at (l ∷ lower) = ap (λ (x : List (Standing Bnode Owner)). l.at ∷ x) (same_at lower)
+  same_at layers = sym (map_then (λ l. l.at) (λ l. l.at) (read_layer chars) (λ l. refl) layers)
 
   same_texts : (layers : List Layer) → map (λ l. l.text) (read_layers chars layers) ≡ map (λ t. t ++ chars) (map (λ l. l.text) layers)
-  same_texts [] = refl
-  same_texts (l ∷ lower) = ap (λ (x : List Chars). (l.text ++ chars) ∷ x) (same_texts lower)
+  same_texts layers = sym (map_then (λ l. l.text ++ chars) (λ l. l.text) (read_layer chars) (λ l. refl) layers) ∙ map_then (λ l. l.text ++ chars) (λ t. t ++ chars) (λ l. l.text) (λ l. refl) layers
 
   same_path : (layers : List Layer) → path_in (read_layers chars layers) ≡ path_in layers
   same_path [] = refl
@@ -49,12 +47,10 @@ module _ (chars : Chars) where
   same_paths (l ∷ lower) = ap (λ (x : List Path). l.at.path ∷ x) (same_paths lower)
 
   same_waiters : (layers : List Layer) → map waiter_of (read_layers chars layers) ≡ map waiter_of layers
-  same_waiters [] = refl
-  same_waiters (l ∷ lower) = ap (λ (x : List Waiter). waiter_of l ∷ x) (same_waiters lower)
+  same_waiters layers = sym (map_then waiter_of waiter_of (read_layer chars) (λ l. refl) layers)
 
   same_length : (layers : List Layer) → length (read_layers chars layers) ≡ length layers
-  same_length [] = refl
-  same_length (l ∷ lower) = ap suc (same_length lower)
+  same_length layers = length-map layers (read_layer chars)
 
   same_open : (base : Chars) (layers : List Layer) → open_in base (read_layers chars layers) ≡ open_in base layers
   same_open base [] = refl
@@ -89,12 +85,12 @@ module _ (to : Numbering) (base kept : Chars) where
   layers_read : (chars : Chars) (layers : List Layer) → LayersStand to base kept layers → LayersStand to base (kept ++ chars) (read_layers chars layers)
   layers_read chars [] h = tt
   layers_read chars (l ∷ lower) h =
-      (read_stands chars (kept ++ chars) l lower h.0 (some_as _ _ l.frame.text (λ t k. kept_more chars t.mark l.text k) h.0.marked), layers_read chars lower h.1)
+      (read_stands chars (kept ++ chars) l lower h.0 (IfSome_then l.frame.text h.0.marked (λ t k. kept_more chars t.mark l.text k)), layers_read chars lower h.1)
 
   any_front : (frames : List Frame) (frame : Frame) → gathers_some (frames ++ frame ∷ []) ≡ false → (gathers_some frames ≡ false) × (is_some frame.text ≡ false)
-  any_front [] frame h = (refl, (or_false (is_some frame.text) false h).0)
+  any_front [] frame h = (refl, (or_parts (is_some frame.text) false h).0)
   any_front (f ∷ frames) frame h =
-      let q = or_false (is_some f.text) (gathers_some (frames ++ frame ∷ [])) h in
+      let q = or_parts (is_some f.text) (gathers_some (frames ++ frame ∷ [])) h in
       let more = any_front frames frame q.1 in
       (ap₂ (λ (a b : Bool). a || b) q.0 more.0, more.1)
 

@@ -81,40 +81,20 @@ put_one (one ∷ more) slots y n a h =
 abbrev pub Puts : Type 0
 Puts = List (Entry ℕ (Option (Term ℕ)))
 
-abbrev pub by_number : Entry ℕ (Option (Term ℕ)) → Entry (Name Owner) (Option (Term ℕ))
-by_number x = record { owner = Number x.owner; predicate = x.predicate; item = x.item }
-
-abbrev pub by_name : (Owner → Option ℕ) → Entry Owner (Slot ℕ) → Entry (Name Owner) (Option (Term ℕ))
-by_name own y = record { owner = named own y.owner; predicate = y.predicate; item = option_map item_of y.item }
-
-pub record Match (own : Owner → Option ℕ) (xs : Puts) (ys : Slots) : Type 0 where
-  pub path : map by_number xs ≡ map (by_name own) ys
+-- one by one
+pub data Match (own : Owner → Option ℕ) : Puts → Slots → Type 0 where
+  all_matched : Match own [] []
+  matched : (x : Entry ℕ (Option (Term ℕ))) (y : Entry Owner (Slot ℕ)) (xs : Puts) (ys : Slots) → own y.owner ≡ Some x.owner → x.predicate ≡ y.predicate → x.item ≡ option_map item_of y.item → Match own xs ys → Match own (x ∷ xs) (y ∷ ys)
 
 number_is : {A : Type 0} (a : A) (o : Option ℕ) (n : ℕ) → Number n ≡ name_by a o → o ≡ Some n
 number_is a None n e = absurd (cc)
 number_is a (Some m) n e = let q : n ≡ m = cc in ap Some (sym q)
 
--- of the first two, and of the others
-pub record Firsts (own : Owner → Option ℕ) (x : Entry ℕ (Option (Term ℕ))) (y : Entry Owner (Slot ℕ)) (xs : Puts) (ys : Slots) : Type 0 where
-  pub first : by_number x ≡ by_name own y
-  pub owner : own y.owner ≡ Some x.owner
-  pub item : x.item ≡ option_map item_of y.item
-  pub rest : Match own xs ys
-
-pub firsts : (own : Owner → Option ℕ) (x : Entry ℕ (Option (Term ℕ))) (y : Entry Owner (Slot ℕ)) (xs : Puts) (ys : Slots) → Match own (x ∷ xs) (y ∷ ys) → Firsts own x y xs ys
-firsts own x y xs ys m =
-    let q = m.path in
-    let e : by_number x ≡ by_name own y = cc q in
-    record { first = e; owner = number_is y.owner (own y.owner) x.owner (λ i. (e i).owner); item = λ i. (e i).item; rest = record { path = cc q } }
-
 pub put_all : (open_owners : Open) → Apart open_owners → (xs : Puts) (ys slots : Slots) → Match (owner_place open_owners) xs ys → put_entries xs (owners_of slots open_owners) ≡ owners_of (slots ++ ys) open_owners
-put_all open_owners a [] [] slots e = ap (λ (s : Slots). owners_of s open_owners) (sym (append-nil slots))
-put_all open_owners a [] (y ∷ ys) slots e = let q = e.path in absurd (cc q)
-put_all open_owners a (x ∷ xs) [] slots e = let q = e.path in absurd (cc q)
-put_all open_owners a (x ∷ xs) (y ∷ ys) slots e =
-    let q = firsts (owner_place open_owners) x y xs ys e in
-    ap (put_entries xs) ((λ i. put_at x.owner (q.first i).predicate (q.first i).item (owners_of slots open_owners)) ∙ put_one open_owners slots y x.owner a q.owner)
-    ∙ put_all open_owners a xs ys (slots ++ y ∷ []) q.rest
+put_all open_owners a _ _ slots all_matched = ap (λ (s : Slots). owners_of s open_owners) (sym (append-nil slots))
+put_all open_owners a _ _ slots (matched x y xs ys o p i m) =
+    ap (put_entries xs) ((λ j. put_at x.owner (p j) (i j) (owners_of slots open_owners)) ∙ put_one open_owners slots y x.owner a o)
+    ∙ put_all open_owners a xs ys (slots ++ y ∷ []) m
     ∙ ap (λ (s : Slots). owners_of s open_owners) (append_assoc slots (y ∷ []) ys)
 
 -- slots by numbers, from entries by numbers and slots by the rules' names
@@ -141,7 +121,7 @@ one_item f (Some (Some u)) (Some (Full v)) e =
 
 pub merged : (own : Owner → Option ℕ) (f : Bnode → Name Bnode) (xs : Puts) (zs : List (Entry Owner (Slot Bnode)))
     → map (rename_entry Number (option_map (rename_term Number))) xs ≡ map (rename_entry (named own) (slot_value f)) zs → Merged own f xs zs
-merged own f [] [] e = record { slots = []; match = record { path = refl }; renamed = refl }
+merged own f [] [] e = record { slots = []; match = all_matched; renamed = refl }
 merged own f [] (z ∷ zs) e = absurd (cc)
 merged own f (x ∷ xs) [] e = absurd (cc)
 merged own f (x ∷ xs) (z ∷ zs) e =
@@ -152,6 +132,6 @@ merged own f (x ∷ xs) (z ∷ zs) e =
     let y : Entry Owner (Slot ℕ) = record { owner = z.owner; predicate = z.predicate; item = i.slot } in
     record {
       slots = y ∷ m.slots;
-      match = record { path = λ j. record { owner = (first j).owner; predicate = (first j).predicate; item = i.is_item j } ∷ m.match.path j };
+      match = matched x y xs m.slots (number_is z.owner (own z.owner) x.owner (λ j. (first j).owner)) (λ j. (first j).predicate) i.is_item m.match;
       renamed = λ j. record { owner = z.owner; predicate = z.predicate; item = i.is_slot j } ∷ m.renamed j;
     }

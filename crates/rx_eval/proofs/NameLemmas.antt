@@ -1,5 +1,6 @@
 -- What is renamed by numbers stays so when more have numbers.
-use Rattle.std.proofs.Common.{◌≡◌, ◌∙◌, ℕ, Bool, true, false, List, [], ◌∷◌, map, Option, Some, None, option_map, nat_eq, refl, sym, ap, ap₂}
+use Rattle.std.proofs.Common.{◌≡◌, ◌∙◌, ℕ, Bool, List, map, Option, Some, None, option_map, nat_eq, refl, sym, ap, ap₂}
+use Rattle.rx_terms.proofs.Bools.{same_truth}
 use Rattle.rx_model.specs.Sets.{IsExact}
 use Rattle.rx_model.specs.Terms.{Node, Term, Triple}
 use Rattle.rx_model.specs.Numbered.{rename_node, rename_term, rename}
@@ -9,7 +10,7 @@ use Rattle.rx_rdfa.specs.Resources.{Inherited}
 use Rattle.rx_rdfa.specs.Lists.{Entry, map_entry}
 use Rattle.rx_rdfa.specs.Machine.{Slot, Full, Waiting}
 use Rattle.rx_rdfa.specs.Renaming.{rename_slot, rename_inherited}
-use Rattle.rx_rdfa.proofs.Growing.{node_then, term_then, triple_then, inherited_then}
+use Rattle.rx_rdfa.proofs.Growing.{map_then, node_then, term_then, triple_then, inherited_then}
 use Rattle.rx_eval.specs.Numbering.{Name, Number, Itself, name_by, named, same_name, Grown}
 
 pub grown_same : {A : Type 0} (to : A → Option ℕ) → Grown to to
@@ -17,10 +18,6 @@ grown_same to = record { keeps = λ a n e. e }
 
 pub grown_then : {A : Type 0} (x y z : A → Option ℕ) → Grown x y → Grown y z → Grown x z
 grown_then x y z g h = record { keeps = λ a n e. h.keeps a n (g.keeps a n e) }
-
-pub many_then : {X Y Z : Type 0} (k : X → Z) (h : Y → Z) (f : X → Y) → ((x : X) → k x ≡ h (f x)) → (xs : List X) → map k xs ≡ map h (map f xs)
-many_then k h f e [] = refl
-many_then k h f e (x ∷ xs) = ap₂ ◌∷◌ (e x) (many_then k h f e xs)
 
 -- ---- from the old names to the new ones
 
@@ -53,25 +50,30 @@ module _ {A : Type 0} (old new : A → Option ℕ) (grown : Grown old new) where
 
   pub triples_later : (xs : List (Triple ℕ)) (ys : List (Triple A)) → map (rename Number) xs ≡ map (rename (named old)) ys → map (rename Number) xs ≡ map (rename (named new)) ys
   triples_later =
-      named_later (map (rename Number)) (map (rename later_name)) (λ f. map (rename f)) (many_then (rename Number) (rename later_name) (rename Number) (triple_then later_name Number))
-      (many_then (rename (λ a. later_name (named old a))) (rename later_name) (rename (named old)) (triple_then later_name (named old)))
+      named_later (map (rename Number)) (map (rename later_name)) (λ f. map (rename f)) (map_then (rename Number) (rename later_name) (rename Number) (triple_then later_name Number))
+      (map_then (rename (λ a. later_name (named old a))) (rename later_name) (rename (named old)) (triple_then later_name (named old)))
 
   slot_then : {X Y Z : Type 0} (h : Y → Z) (f : X → Y) (s : Slot X) → rename_slot (λ a. h (f a)) s ≡ rename_slot h (rename_slot f s)
   slot_then h f (Full t) = ap Full (term_then h f t)
   slot_then h f (Waiting r) = refl
 
-  item_then : {X Y Z : Type 0} (h : Y → Z) (f : X → Y) (item : Option (Slot X)) → option_map (rename_slot (λ a. h (f a))) item ≡ option_map (rename_slot h) (option_map (rename_slot f) item)
-  item_then h f None = refl
-  item_then h f (Some s) = ap Some (slot_then h f s)
+  -- of entries, whatever their items are
+  pub entries_later : {O S T U : Type 0} (number : S → U) (moved : U → U) (name : (A → Name A) → T → U) → ((x : S) → number x ≡ moved (number x)) → ((y : T) → name (λ a. later_name (named old a)) y ≡ moved (name (named old) y))
+      → (xs : List (Entry O S)) (ys : List (Entry O T)) → map (map_entry number) xs ≡ map (map_entry (name (named old))) ys → map (map_entry number) xs ≡ map (map_entry (name (named new))) ys
+  entries_later {O} number moved name n m =
+      named_later (map (map_entry number)) (map (map_entry moved)) (λ f. map (map_entry (name f))) (map_then (map_entry number) (map_entry moved) (map_entry number) (entry_then number moved number n))
+      (map_then (map_entry (name (λ a. later_name (named old a)))) (map_entry moved) (map_entry (name (named old))) (entry_then (name (λ a. later_name (named old a))) moved (name (named old)) m))
+    where
+      item_then : {X Y Z : Type 0} (k : X → Z) (h : Y → Z) (f : X → Y) → ((x : X) → k x ≡ h (f x)) → (item : Option X) → option_map k item ≡ option_map h (option_map f item)
+      item_then k h f q None = refl
+      item_then k h f q (Some x) = ap Some (q x)
+
+      entry_then : {X Y Z : Type 0} (k : X → Z) (h : Y → Z) (f : X → Y) → ((x : X) → k x ≡ h (f x)) → (e : Entry O X) → map_entry k e ≡ map_entry h (map_entry f e)
+      entry_then k h f q e = λ i. record { owner = e.owner; predicate = e.predicate; item = item_then k h f q e.item i }
 
   pub slots_later : {O : Type 0} (xs : List (Entry O (Slot ℕ))) (ys : List (Entry O (Slot A))) → map (map_entry (rename_slot Number)) xs ≡ map (map_entry (rename_slot (named old))) ys
       → map (map_entry (rename_slot Number)) xs ≡ map (map_entry (rename_slot (named new))) ys
-  slots_later {O} =
-      named_later (map (map_entry (rename_slot Number))) (map (map_entry (rename_slot later_name))) (λ f. map (map_entry (rename_slot f))) (moves Number) (moves (named old))
-    where
-      moves : {X : Type 0} (f : X → Name A) (xs : List (Entry O (Slot X))) → map (map_entry (rename_slot (λ a. later_name (f a)))) xs ≡ map (map_entry (rename_slot later_name)) (map (map_entry (rename_slot f)) xs)
-      moves f =
-          many_then (map_entry (rename_slot (λ a. later_name (f a)))) (map_entry (rename_slot later_name)) (map_entry (rename_slot f)) (λ x i. record { owner = x.owner; predicate = x.predicate; item = item_then later_name f x.item i })
+  slots_later = entries_later (rename_slot Number) (rename_slot later_name) rename_slot (slot_then later_name Number) (slot_then later_name (named old))
 
 -- ---- the same for what has two kinds of names
 
@@ -91,17 +93,12 @@ module _ {A : Type 0} (same : A → A → Bool) (exact : IsExact same) (to : A �
   same_by a b None None e f = refl
   same_by a b None (Some m) e f = false_unless (same a b) (λ h. absurd (cc (ap to ((exact a b).0 h), e, f)))
   same_by a b (Some n) None e f = false_unless (same a b) (λ h. absurd (cc (ap to ((exact a b).0 h), e, f)))
-  same_by a b (Some n) (Some m) e f = both_tests (same a b) (nat_eq n m)
+  same_by a b (Some n) (Some m) e f = same_truth (same a b) (nat_eq n m)
       (λ h. (exact_numbers n m).1 (numbers (ap to ((exact a b).0 h))))
       (λ h. (exact a b).1 (one_to_one a b n e (f ∙ ap Some (sym ((exact_numbers n m).0 h)))))
     where
       numbers : to a ≡ to b → n ≡ m
       numbers h = cc (h, e, f)
-
-      both_tests : (s t : Bool) → (s ≡ true → t ≡ true) → (t ≡ true → s ≡ true) → s ≡ t
-      both_tests true false h k = sym (h refl)
-      both_tests false true h k = k refl
-      both_tests _ _ h k = refl
 
   pub same_names : (a b : A) → same a b ≡ same_name same (named to a) (named to b)
   same_names a b = same_by a b (to a) (to b) refl refl

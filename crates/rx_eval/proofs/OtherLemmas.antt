@@ -1,6 +1,7 @@
 -- An element by two namings that differ only in names for which it isn't asked: that of a new node which it doesn't make,
 -- and those of owners which it doesn't begin.
 use Rattle.std.proofs.Common.{◌≡◌, ◌∙◌, ◌⊎◌, inl, inr, ℕ, zero, suc, length, arith, Bool, true, false, cond, not, ◌&&◌, ◌||◌, List, [], ◌∷◌, ◌++◌, map, filter_map, Option, Some, None, option_map, is_none, is_some, unwrap_or, refl, ap, ap₂}
+use Rattle.rx_model.proofs.Sets.{and_left}
 use Rattle.std.specs.Option.{option_or}
 use Rattle.std.specs.Bool.{then_some}
 use Rattle.rx_terms.specs.Text.{Chars}
@@ -122,13 +123,9 @@ module _ {B O : Type 0} (n : Naming B O) (base : Chars) (at : Standing B O) wher
       (λ h. record { speaks = refl; is = inr (link_made (resource_named n base) (option_or at.facts.resource (option_or at.facts.href at.facts.src)) at.facts.about (is_some at.facts.types) (new_blank n at) h) })
       (λ h. record { speaks = refl; is = inr (plain_made (resource_named n base) (is_some at.facts.types) at.facts.about (is_root at.path) (Iri base) (option_or at.facts.resource (option_or at.facts.href at.facts.src)) (is_root_child at.path && is_head_or_body at.facts.kind) at.around.object (new_blank n at) h) })
       (λ h. record {
-        speaks = never_both _ (is_some at.facts.types) (first_of (is_some at.facts.types) _ h);
+        speaks = never_both _ (is_some at.facts.types) (and_left (is_some at.facts.types) _ h);
         is = inl (subject_made (resource_named n base) (is_some at.facts.types) at.facts.about (is_root at.path) (Iri base) (option_or at.facts.resource (option_or at.facts.href at.facts.src)) (is_root_child at.path && is_head_or_body at.facts.kind) at.around.object (new_blank n at) at.around.object h);
       })
-    where
-      first_of : (a b : Bool) → (a && b) ≡ true → a ≡ true
-      first_of true b h = refl
-      first_of false b h = absurd (cc)
 
   module _ (c : B) (o p : O) where
     pub resources_other : (makes_resource at.facts at.path ≡ true → Blank c ≡ new_blank n at) → resources (other n c o p) base at ≡ resources n base at

@@ -1,5 +1,7 @@
 -- Places in lists: one that is there stays where it is when lists grow.
-use Rattle.std.proofs.Common.{◌≡◌, ◌∙◌, ℕ, zero, suc, ◌<◌, List, [], ◌∷◌, ◌++◌, map, length, Option, Some, None, option_to_list, slice_set, bytes_eq, refl, sym, ap, ap₂, arith, length-append}
+use Rattle.std.proofs.Common.{◌≡◌, ◌∙◌, ℕ, zero, suc, List, [], ◌∷◌, ◌++◌, map, Option, Some, None, option_to_list, bytes_eq, refl, sym, ap, ap₂, arith, length-append}
+use Rattle.std.proofs.lemmas.List.{set-append_left, length-set}
+use Rattle.std.proofs.Math.Seq.{set-append_seam}
 use Rattle.rx_terms.specs.Text.{Chars}
 use Rattle.rx_model.specs.Terms.{Term}
 use Rattle.rx_rdfa.specs.Tables.{Table, put}
@@ -10,27 +12,17 @@ use Rattle.rx_eval.specs.Listing.{Entries}
 use Rattle.rx_eval.specs.OwnersSeen.{Owning, owning, lists_in, open_seen, list_place, item_count, next_place, places_for, put_at, put_entries, with_item, fill_seen, fill_all}
 use Rattle.rx_eval.specs.Reserving.{ReservedAreFilled}
 use Rattle.rx_eval.specs.Slots.{HasItem, HasPlace}
-use Rattle.rx_eval.proofs.EntryLemmas.{set_end}
 
 abbrev Items : Type 0
 Items = Table (Option (Term ℕ))
 
 -- ---- in one table
 
-set_front : {A : Type 0} (xs ys : List A) (i : ℕ) (x : A) → i < length xs → slice_set (xs ++ ys) i x ≡ slice_set xs i x ++ ys
-set_front [] ys i x h = absurd (omega arith)
-set_front (z ∷ xs) ys zero x h = refl
-set_front (z ∷ xs) ys (suc i) x h = ap (λ (l : List _). z ∷ l) (set_front xs ys i x (omega arith))
-
-pub set_length : {A : Type 0} (xs : List A) (i : ℕ) (x : A) → length (slice_set xs i x) ≡ length xs
-set_length (z ∷ xs) (suc i) x = ap suc (set_length xs i x)
-set_length _ _ x = refl
-
 -- an item that is reserved and filled is the item
 put_filled : (p : Chars) (v : Term ℕ) (t : Items) → with_item (list_place p t) (item_count p t) v (put p (Some None) t) ≡ put p (Some (Some v)) t
 put_filled p v [] = refl
 put_filled p v (row ∷ t) =
-    by_test (bytes_eq row.0 p) (λ e. rw e (ap (λ (l : List (Option (Term ℕ))). (row.0, l) ∷ t) (set_end row.1 None (Some v))))
+    by_test (bytes_eq row.0 p) (λ e. rw e (ap (λ (l : List (Option (Term ℕ))). (row.0, l) ∷ t) (set-append_seam row.1 None [] (Some v))))
     (λ e. rw e (ap (λ (l : Items). row ∷ l) (put_filled p v t)))
 
 -- what was put is there
@@ -49,7 +41,7 @@ has_still p item (suc l) i (row ∷ t) h = by_test (bytes_eq row.0 p) (λ e. rw 
 fill_put : (p : Chars) (item : Option (Option (Term ℕ))) (v : Term ℕ) (l i : ℕ) (t : Items) → HasItem l i t → with_item l i v (put p item t) ≡ put p item (with_item l i v t)
 fill_put p item v l i [] h = absurd h
 fill_put p item v zero i (row ∷ t) h =
-    by_test (bytes_eq row.0 p) (λ e. rw e (ap (λ (s : List (Option (Term ℕ))). (row.0, s) ∷ t) (set_front row.1 (option_to_list item) i (Some v) h))) (λ e. rw e refl)
+    by_test (bytes_eq row.0 p) (λ e. rw e (ap (λ (s : List (Option (Term ℕ))). (row.0, s) ∷ t) (set-append_left row.1 (option_to_list item) i (Some v) h))) (λ e. rw e refl)
 fill_put p item v (suc l) i (row ∷ t) h = by_test (bytes_eq row.0 p) (λ e. rw e refl) (λ e. rw e (ap (λ (s : Items). row ∷ s) (fill_put p item v l i t h)))
 
 same_place : (p : Chars) (l i : ℕ) (v : Term ℕ) (t : Items) → list_place p (with_item l i v t) ≡ list_place p t
@@ -59,7 +51,7 @@ same_place p (suc l) i v (row ∷ t) = by_test (bytes_eq row.0 p) (λ e. rw e re
 
 same_count : (p : Chars) (l i : ℕ) (v : Term ℕ) (t : Items) → item_count p (with_item l i v t) ≡ item_count p t
 same_count p l i v [] = refl
-same_count p zero i v (row ∷ t) = by_test (bytes_eq row.0 p) (λ e. rw e (set_length row.1 i (Some v))) (λ e. rw e refl)
+same_count p zero i v (row ∷ t) = by_test (bytes_eq row.0 p) (λ e. rw e (length-set row.1 i (Some v))) (λ e. rw e refl)
 same_count p (suc l) i v (row ∷ t) = by_test (bytes_eq row.0 p) (λ e. rw e refl) (λ e. rw e (same_count p l i v t))
 
 -- ---- among the owners

@@ -1,5 +1,6 @@
 -- What the calls keep, and what they come to.
 use Rattle.std.proofs.Common.{◌≡◌, ◌∙◌, ℕ, suc, ◌+◌, ◌≤◌, ◌^◌, ◌⊎◌, inl, inr, Bool, true, false, List, [], ◌∷◌, ◌++◌, map, length, Option, Some, None, unwrap_or, refl, sym, ap, ap₂, subst, subst₂, arith}
+use Rattle.std.proofs.lemmas.List.{nil_from_length}
 use Rattle.std.proofs.lemmas.List.{length-map}
 use Rattle.rx_terms.specs.Text.{Chars}
 use Rattle.rx_model.specs.Sets.{Among}
@@ -17,7 +18,7 @@ use Rattle.rx_rdfa.specs.Made.{made}
 use Rattle.rx_rdfa.specs.Renaming.{rename_inherited, labels}
 use Rattle.rx_rdfa.proofs.Calls.{after-append, frames_at, calls_read}
 use Rattle.rx_rdfa.proofs.Machine.{reading_makes}
-use Rattle.rx_rdfa.proofs.Growing.{node_then, term_then}
+use Rattle.rx_rdfa.proofs.Growing.{map_then, triple_then}
 use Rattle.rx_eval.specs.Labels.{Numbered}
 use Rattle.rx_eval.specs.States.{State}
 use Rattle.rx_eval.specs.Opened.{handed_on, Opens, begun_state, read_text}
@@ -159,8 +160,7 @@ module _ (to : Numbering) where
   numbers_are = λ i b. number_is b (to b) i
 
   numbered_by : (ys : List (Triple Bnode)) → map (rename number_only) (map (rename (named to)) ys) ≡ map (rename (λ b. number_only (named to b))) ys
-  numbered_by [] = refl
-  numbered_by (t ∷ ys) = λ i. record { subject = sym (node_then number_only (named to) t.subject) i; predicate = t.predicate; object = sym (term_then number_only (named to) t.object) i } ∷ numbered_by ys i
+  numbered_by ys = sym (map_then (rename (λ b. number_only (named to b))) (rename number_only) (rename (named to)) (triple_then number_only (named to)) ys)
 
   list_numbered : (xs : List (Triple ℕ)) (ys : List (Triple Bnode)) → map (rename Number) xs ≡ map (rename (named to)) ys → xs ≡ map (rename (number_in to)) ys
   list_numbered xs ys e = sym (back xs) ∙ ap (map (rename number_only)) e ∙ numbered_by ys ∙ ap (λ (f : Bnode → ℕ). map (rename f) ys) numbers_are
@@ -210,12 +210,8 @@ module _ (to : Numbering) where
   unfolding cells
   rootless_made state tree p = ap (finished model state.base) e ∙ ap (λ (m : Machine Bnode Owner). m.out) (sym e)
     where
-      none : (ls : List Layer) → length ls ≡ 0 → ls ≡ []
-      none [] q = refl
-      none (l ∷ ls) q = absurd (omega (arith, q))
-
       e : after model state.base (calls tree) begun ≡ begun
-      e = p.by.rootless (none p.layers (sym (length-map p.layers (λ l. l.at)) ∙ ap length (sym p.by.standings) ∙ (frames_at model state.base (calls tree)).open_elements ∙ ap (λ (l : Line). length l.facts) (balanced tree no_line).1))
+      e = p.by.rootless (nil_from_length p.layers (sym (length-map p.layers (λ l. l.at)) ∙ ap length (sym p.by.standings) ∙ (frames_at model state.base (calls tree)).open_elements ∙ ap (λ (l : Line). length l.facts) (balanced tree no_line).1))
 
   list_is : (base : Chars) (tree : Nodes Facts) → finished model base (after model base (calls tree) begun) ≡ made model base tree
   list_is base tree = ap (finished model base) (calls_read base tree begun) ∙ reading_makes base tree

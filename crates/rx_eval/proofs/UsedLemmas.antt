@@ -1,12 +1,14 @@
 -- The number of a new node, and the owners that an element begins.
 use Rattle.std.proofs.Common.{◌≡◌, ◌∙◌, ℕ, suc, ◌+◌, ◌≤◌, ◌⊎◌, inl, inr, Bool, true, false, not, ◌&&◌, ◌||◌, ◌==◌, List, [], ◌∷◌, ◌++◌, length, Option, Some, None, is_none, unwrap_or, nat_eq, refl, sym, ap, subst, arith, append-nil, length-append}
+use Rattle.std.proofs.Math.Bool.{or-true}
+use Rattle.rx_terms.proofs.Bools.{untrue, by_test}
 use Rattle.std.specs.Prelude.{IfSome, if◌then◌else◌}
 use Rattle.std.specs.Option.{option_or}
 use Rattle.std.specs.Bool.{then_some}
 use Rattle.std.proofs.lemmas.Bool.Decides.{Decides-eqb}
 use Rattle.rx_terms.specs.Text.{Chars}
 use Rattle.rx_model.specs.Terms.{Node, Blank, Term, same_node}
-use Rattle.rx_model.proofs.Sets.{or_cases, and_left, and_right, or_left, or_right}
+use Rattle.rx_model.proofs.Sets.{or_cases, and_left, and_right}
 use Rattle.rx_rdfa.specs.Naming.{Path, Naming}
 use Rattle.rx_rdfa.specs.Blanks.{Owner, same_owner}
 use Rattle.rx_rdfa.specs.Facts.{Facts}
@@ -45,10 +47,6 @@ module _ (M : Naming ℕ ℕ) (base : Chars) (at : Standing ℕ ℕ) (here : Res
       go None e = refl
       go (Some x) e = absurd (cc)
 
-  not_true : (b : Bool) → not b ≡ true → b ≡ false
-  not_true true h = absurd (cc)
-  not_true false h = refl
-
   pub used : (makes_resource at.facts at.path ≡ true → MadeIn M base at here) → makes_new at.facts at.path here ≡ true
       → ((handed M at here).subject ≡ new_blank M at) ⊎ ((handed M at here).object ≡ new_blank M at)
   used k h = go (or_cases (makes_resource at.facts at.path) (not here.skipped && hangs at.facts here) h)
@@ -59,24 +57,17 @@ module _ (M : Naming ℕ ℕ) (base : Chars) (at : Standing ℕ ℕ) (here : Res
 
       go : (makes_resource at.facts at.path ≡ true) ⊎ ((not here.skipped && hangs at.facts here) ≡ true) → ((handed M at here).subject ≡ new_blank M at) ⊎ ((handed M at here).object ≡ new_blank M at)
       go (inl e) = let m = k e in made m m.is
-      go (inr e) = inr ((handed_new (not_true here.skipped (and_left (not here.skipped) (hangs at.facts here) e))).1 ∙ object_hangs (and_right (not here.skipped) (hangs at.facts here) e))
+      go (inr e) = inr ((handed_new (untrue here.skipped (and_left (not here.skipped) (hangs at.facts here) e))).1 ∙ object_hangs (and_right (not here.skipped) (hangs at.facts here) e))
 
 same_number : (n : ℕ) → (n == n) ≡ true
 same_number n = (Decides-eqb n n).1 refl
 
-blank_is : (node : Node ℕ) (n : ℕ) → node ≡ Blank n → is_blank node n ≡ true
-blank_is node n e = ap (λ (x : Node ℕ). is_blank x n) e ∙ same_number n
-
 pub drawn_used : (context : Inherited ℕ ℕ) (fresh : ℕ) → (context.subject ≡ Blank fresh) ⊎ (context.object ≡ Blank fresh) → drawn_after context fresh ≡ fresh + 1
-drawn_used context fresh (inl e) = ap (λ (b : Bool). if b then fresh + 1 else fresh) (or_left (is_blank context.subject fresh) (is_blank context.object fresh) (blank_is context.subject fresh e))
-drawn_used context fresh (inr e) = ap (λ (b : Bool). if b then fresh + 1 else fresh) (or_right (is_blank context.subject fresh) (is_blank context.object fresh) (blank_is context.object fresh e))
+drawn_used context fresh (inl e) = rw (e, same_number fresh) refl
+drawn_used context fresh (inr e) = rw (e, same_number fresh, or-true (is_blank context.subject fresh)) refl
 
 pub drawn_least : (context : Inherited ℕ ℕ) (fresh : ℕ) → (fresh ≤ drawn_after context fresh) × (drawn_after context fresh ≤ fresh + 1)
-drawn_least context fresh = go (is_blank context.subject fresh || is_blank context.object fresh)
-  where
-    go : (b : Bool) → (fresh ≤ (if b then fresh + 1 else fresh)) × ((if b then fresh + 1 else fresh) ≤ fresh + 1)
-    go true = (omega arith, omega arith)
-    go false = (omega arith, omega arith)
+drawn_least context fresh = by_test (is_blank context.subject fresh || is_blank context.object fresh) (λ t. rw t (omega arith, omega arith)) (λ f. rw f (omega arith, omega arith))
 
 -- ---- the owners that begin
 
