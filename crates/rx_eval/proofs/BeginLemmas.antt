@@ -1,16 +1,9 @@
 -- The start of an element.
-use Rattle.std.proofs.Common.{◌≡◌, ◌∙◌, ℕ, suc, ◌+◌, ◌≤◌, ◌^◌, ◌⊎◌, inl, inr, Bool, true, false, not, ◌&&◌, ◌||◌, List, [], ◌∷◌, ◌++◌, map, filter_map, length, Option, Some, None, option_map, is_none, unwrap_or, bytes_eq, nat_eq, refl, sym, ap, ap₂, subst, subst₂, arith, append-nil, length-append}
+use Rattle.rx_terms.proofs.Common.{◌≡◌, ◌∙◌, ℕ, suc, ◌+◌, ◌≤◌, ◌^◌, ◌⊎◌, inl, inr, Bool, true, false, List, [], ◌∷◌, ◌++◌, map, filter_map, length, Option, Some, None, option_map, is_none, bytes_eq, nat_eq, refl, sym, ap, ap₂, subst, subst₂, arith, append-nil, length-append, IfSome, is_some, if◌then◌else◌, map-append, filter-append, Chars, by_test}
+use Rattle.std.proofs.Common.{not, ◌&&◌, ◌||◌, unwrap_or}
 use Rattle.std.proofs.lemmas.Option.{IfSome_then}
-use Rattle.std.specs.Prelude.{IfSome, is_some, encode_utf8_all, if◌then◌else◌}
-use Rattle.std.proofs.lemmas.List.{map-append}
-use Rattle.std.proofs.lemmas.List.Elements.{filter-append}
-use Rattle.rx_terms.specs.Text.{Chars}
-use Rattle.rx_model.specs.Sets.{Among}
-use Rattle.rx_model.specs.Terms.{Term, Triple, same_node}
-use Rattle.rx_model.specs.Numbered.{rename_node, rename_term, rename}
-use Rattle.rx_model.specs.Copied.{spo}
-use Rattle.rx_model.proofs.Sets.{Among_left, Among_right, Among_map, false_unless}
-use Rattle.rx_model.proofs.Exact.{exact_texts}
+use Rattle.std.specs.Prelude.{encode_utf8_all}
+use Rattle.rx_model.proofs.Common.{Among, Term, Triple, same_node, rename_node, rename_term, rename, spo, Among_left, Among_right, Among_map, false_unless, exact_texts}
 use Rattle.rx_rdfa.specs.Naming.{Path, Naming}
 use Rattle.rx_rdfa.specs.Blanks.{Bnode, Author, Made, Cell, Owner, First, Of, Below, same_owner, same_bnode, model}
 use Rattle.rx_rdfa.specs.Facts.{Facts}
@@ -27,7 +20,6 @@ use Rattle.rx_eval.specs.Labels.{Numbered, number_of}
 use Rattle.rx_eval.specs.Moment.{moment}
 use Rattle.rx_eval.specs.Places.{level_at, standing_by}
 use Rattle.rx_eval.specs.TextRules.{text_literal}
-use Rattle.rx_terms.proofs.Bools.{by_test}
 use Rattle.rx_eval.specs.OwnersSeen.{Owning, put_entries, places_for, fill_all}
 use Rattle.rx_eval.specs.States.{Text, Frame, State}
 use Rattle.rx_eval.specs.Entering.{Gathers, next_number, owner_begun, places_at}

@@ -1,16 +1,8 @@
 -- The lists of an owner at its end: their cells draw numbers, and the triples are the rules'.
-use Rattle.std.proofs.Common.{◌≡◌, ◌∙◌, ℕ, suc, ◌+◌, ◌<◌, ◌≤◌, ◌^◌, ◌⊎◌, inl, inr, Bool, true, false, cond, not, List, [], ◌∷◌, ◌++◌, map, filter, flat_map, filter_map, length, Option, Some, None, option_map, option_to_list, unwrap_or, bytes_eq, refl, sym, ap, ap₂, subst, arith, true≢false}
-use Rattle.std.specs.Prelude.{nat_lt, if◌then◌else◌}
-use Rattle.std.proofs.lemmas.List.Elements.{filter_map-append}
-use Rattle.std.proofs.lemmas.Bool.Decides.{nat_tests}
-use Rattle.rx_terms.specs.Text.{Chars}
-use Rattle.rx_model.specs.Sets.{Among, distinct}
-use Rattle.rx_model.specs.Terms.{Node, Blank, Term}
-use Rattle.rx_model.specs.Numbered.{rename_node, rename_term, rename}
-use Rattle.rx_model.specs.Copied.{spo}
-use Rattle.rx_model.proofs.Sets.{Among_of_filter, false_unless}
-use Rattle.rx_model.proofs.Exact.{exact_texts}
-use Rattle.rx_model.specs.Vocabulary.{rdf_first, rdf_rest}
+use Rattle.rx_terms.proofs.Common.{◌≡◌, ◌∙◌, ℕ, suc, ◌+◌, ◌<◌, ◌≤◌, ◌^◌, ◌⊎◌, inl, inr, Bool, true, false, cond, List, [], ◌∷◌, ◌++◌, map, filter, flat_map, filter_map, length, Option, Some, None, option_map, option_to_list, bytes_eq, refl, sym, ap, ap₂, subst, arith, true≢false, if◌then◌else◌, filter_map-append, nat_tests, Chars, by_test}
+use Rattle.std.proofs.Common.{not, unwrap_or}
+use Rattle.std.specs.Prelude.{nat_lt}
+use Rattle.rx_model.proofs.Common.{Among, distinct, Node, Blank, Term, rename_node, rename_term, rename, spo, Among_of_filter, false_unless, exact_texts, rdf_first, rdf_rest}
 use Rattle.rx_rdfa.specs.Blanks.{Bnode, Author, Made, Cell, Owner, same_owner, model}
 use Rattle.rx_rdfa.specs.Element.{to_node}
 use Rattle.rx_rdfa.specs.Lists.{Entry, map_entry, of_owner, lists, items, cell_or_nil, chain, list_of, cells_from, cells}
@@ -25,7 +17,6 @@ use Rattle.rx_rdfa.proofs.Tables.{tables_are_lists}
 use Rattle.rx_lists.specs.Cells.{size, cells_of}
 use Rattle.rx_lists.specs.Owners.{itself}
 use Rattle.rx_eval.specs.Labels.{Numbered}
-use Rattle.rx_terms.proofs.Bools.{by_test}
 use Rattle.rx_eval.specs.Numbering.{Numbering, Name, Number, name_by, named, Grown, Numbers}
 use Rattle.rx_eval.specs.Slots.{Slots, item_of, table_in}
 use Rattle.rx_eval.proofs.NumberLemmas.{raised}

@@ -1,17 +1,13 @@
 -- Labels draw their numbers one after another.
-use Rattle.std.proofs.Common.{◌≡◌, ◌∙◌, Result, Ok, Err, IfOk, OnErr, ℕ, suc, Some, slice_get, ◌+◌, ◌<◌, ◌≤◌, ◌^◌, List, [], ◌∷◌, ◌++◌, length, drop, take, flat_map, refl, sym, ap, subst, arith, length-append, append-nil, append_assoc, add-one}
-use Rattle.std.proofs.lemmas.List.{take_all}
-use Rattle.std.proofs.lemmas.Option.{slice_get_within, get_or_from_slice_get}
+use Rattle.rx_terms.proofs.Common.{◌≡◌, ◌∙◌, Result, Ok, Err, IfOk, ℕ, suc, Some, slice_get, ◌+◌, ◌<◌, ◌≤◌, ◌^◌, List, [], ◌∷◌, ◌++◌, length, drop, take, flat_map, refl, sym, ap, subst, arith, length-append, append-nil, append_assoc, add-one, take_all, slice_get_within, get_or_from_slice_get, is_some, IfOk-weaker, Chars, by_test}
+use Rattle.std.proofs.Common.{OnErr}
 use Rattle.std.proofs.Math.Seq.{take-suc, drop-cons}
-use Rattle.std.specs.Prelude.{is_some}
 use Rattle.std.proofs.lemmas.List.{at_drop_all}
-use Rattle.std.proofs.lemmas.Result.{IfOk-weaker, on_err_weaker}
-use Rattle.rx_terms.specs.Text.{Chars}
+use Rattle.std.proofs.lemmas.Result.{on_err_weaker}
 use Rattle.rx_rdfa.specs.Renaming.{label_of}
 use Rattle.rx_curie.specs.declared.refs.Ref.{Ref as CodeRef}
 use Rattle.rx_curie.specs.Seen.{ref_seen, refs_seen}
 use Rattle.rx_eval.specs.Labels.{Numbered, number_of, draw, Drawn, DrawnSome}
-use Rattle.rx_terms.proofs.Bools.{by_test}
 
 pub drop_at : {A : Type 0} (xs : List A) (i : ℕ) (x : A) → slice_get xs i ≡ Some x → drop i xs ≡ x ∷ drop (suc i) xs
 drop_at xs i x h = drop-cons xs i x (slice_get_within xs i x h) ∙ ap (λ (y : _). y ∷ drop (suc i) xs) (get_or_from_slice_get xs i x x h)

@@ -1,14 +1,8 @@
 -- One element by the rules' names and by numbers.
-use Rattle.std.proofs.Common.{◌≡◌, ◌∙◌, ℕ, suc, Bool, true, false, not, ◌&&◌, List, [], ◌++◌, map, filter_map, length, Option, Some, None, option_map, is_some, is_none, unwrap_or, nat_eq, refl, sym, ap, ap₂}
-use Rattle.std.proofs.lemmas.Bool.{and_from}
-use Rattle.std.specs.Prelude.{if◌then◌else◌}
-use Rattle.std.specs.Option.{option_or}
+use Rattle.rx_terms.proofs.Common.{◌≡◌, ◌∙◌, ℕ, suc, Bool, true, false, List, [], ◌++◌, map, filter_map, length, Option, Some, None, option_map, is_none, nat_eq, refl, sym, ap, ap₂, and_from, if◌then◌else◌, option_or, Chars}
+use Rattle.std.proofs.Common.{not, ◌&&◌, is_some, unwrap_or}
 use Rattle.std.specs.Bool.{then_some}
-use Rattle.rx_terms.specs.Text.{Chars}
-use Rattle.rx_model.specs.Sets.{Among}
-use Rattle.rx_model.specs.Terms.{Node, Blank, Term, Triple, same_node}
-use Rattle.rx_model.specs.Numbered.{rename_node, rename_term, rename}
-use Rattle.rx_model.proofs.Sets.{or_left, or_right}
+use Rattle.rx_model.proofs.Common.{Among, Node, Blank, Term, Triple, same_node, rename_node, rename_term, rename, or_left, or_right}
 use Rattle.rx_rdfa.specs.Naming.{Path, Naming}
 use Rattle.rx_rdfa.specs.Blanks.{Bnode, Author, Made, Owner, Of, Below, same_bnode, model}
 use Rattle.rx_rdfa.specs.Facts.{Facts}

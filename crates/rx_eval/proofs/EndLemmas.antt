@@ -1,16 +1,8 @@
 -- The end of an element.
-use Rattle.std.proofs.Common.{◌≡◌, ◌∙◌, ℕ, suc, ◌<◌, ◌≤◌, ◌⊎◌, inl, inr, Bool, true, false, ◌||◌, ◌==◌, List, [], ◌∷◌, ◌++◌, map, length, Option, Some, None, option_map, bytes_eq, refl, sym, ap, ap₂, subst, subst₂, arith, append-nil, append_assoc, length-append}
+use Rattle.rx_terms.proofs.Common.{◌≡◌, ◌∙◌, ℕ, suc, ◌<◌, ◌≤◌, ◌⊎◌, inl, inr, Bool, true, false, List, [], ◌∷◌, ◌++◌, map, length, Option, Some, None, option_map, bytes_eq, refl, sym, ap, ap₂, subst, subst₂, arith, append-nil, append_assoc, length-append, or_parts, IfSome, if◌then◌else◌, map-append, Decides-eqb, Chars, by_test}
+use Rattle.std.proofs.Common.{◌||◌, ◌==◌}
 use Rattle.std.proofs.lemmas.Option.{IfSome_then}
-use Rattle.std.proofs.lemmas.Bool.{or_parts}
-use Rattle.std.specs.Prelude.{IfSome, if◌then◌else◌}
-use Rattle.std.proofs.lemmas.List.{map-append}
-use Rattle.std.proofs.lemmas.Bool.Decides.{Decides-eqb}
-use Rattle.rx_terms.specs.Text.{Chars}
-use Rattle.rx_model.specs.Sets.{Among}
-use Rattle.rx_model.specs.Terms.{Iri, Term, Triple}
-use Rattle.rx_model.specs.Numbered.{rename_term, rename}
-use Rattle.rx_model.proofs.Sets.{false_unless}
-use Rattle.rx_model.proofs.Exact.{exact_texts}
+use Rattle.rx_model.proofs.Common.{Among, Iri, Term, Triple, rename_term, rename, false_unless, exact_texts}
 use Rattle.rx_rdfa.specs.Naming.{Path}
 use Rattle.rx_rdfa.specs.Blanks.{Bnode, Made, Cell, Owner, First, Of, Below, same_owner, model}
 use Rattle.rx_rdfa.specs.Resources.{Inherited, resources}
@@ -24,7 +16,6 @@ use Rattle.rx_rdfa.proofs.Calls.{after-append}
 use Rattle.rx_rdfa.proofs.Exact.{exact_owners}
 use Rattle.rx_rdfa.proofs.RenamedMachine.{fill_rename}
 use Rattle.rx_eval.specs.TextRules.{text_literal}
-use Rattle.rx_terms.proofs.Bools.{by_test}
 use Rattle.rx_eval.specs.States.{Text, Frame, State}
 use Rattle.rx_eval.specs.Keeping.{gathers_some}
 use Rattle.rx_eval.specs.Ending.{Ending, ending, end_owner, say_text, end_frame, TextAt, Closes}

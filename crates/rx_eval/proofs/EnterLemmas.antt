@@ -1,12 +1,9 @@
 -- The start of an element: what its parts come to is what the rules say.
-use Rattle.std.proofs.Common.{◌≡◌, ◌∙◌, ℕ, suc, Bool, true, false, List, [], ◌∷◌, ◌++◌, map, filter_map, length, Option, Some, None, option_map, nat_eq, refl, sym, ap, ap₂, arith, append_assoc, length-append, Result, Ok, Err, OnOk}
-use Rattle.std.specs.Prelude.{not, ◌&&◌, is_some, is_none, if◌then◌else◌}
-use Rattle.std.proofs.lemmas.List.{map-append}
-use Rattle.rx_terms.specs.Text.{Chars}
+use Rattle.rx_terms.proofs.Common.{◌≡◌, ◌∙◌, ℕ, suc, Bool, true, false, List, [], ◌∷◌, ◌++◌, map, filter_map, length, Option, Some, None, option_map, nat_eq, refl, sym, ap, ap₂, arith, append_assoc, length-append, Result, Ok, Err, OnOk, not, ◌&&◌, is_some, if◌then◌else◌, map-append, Chars, by_test}
+use Rattle.std.specs.Prelude.{is_none}
 use Rattle.rx_terms.specs.declared.triples.Node.{Node as CodeNode}
 use Rattle.rx_terms.specs.declared.triples.Term.{Term as CodeTerm}
-use Rattle.rx_model.specs.Terms.{Node, Term, same_node}
-use Rattle.rx_model.specs.Seen.{node_seen, term_seen}
+use Rattle.rx_model.proofs.Common.{Node, Term, same_node, node_seen, term_seen}
 use Rattle.rx_rdfa.specs.Naming.{Naming}
 use Rattle.rx_rdfa.specs.Facts.{Facts}
 use Rattle.rx_rdfa.specs.Resources.{Hanging, Forward, Reverse, InList, Inherited, Standing, Resources, resources, only}
@@ -18,7 +15,6 @@ use Rattle.rx_lists.specs.declared.lists.Owner.{Owner}
 use Rattle.rx_eval.specs.Labels.{Numbered}
 use Rattle.rx_eval.specs.Moment.{moment}
 use Rattle.rx_eval.specs.TextRules.{resource_term}
-use Rattle.rx_terms.proofs.Bools.{by_test}
 use Rattle.rx_eval.specs.Handing.{begun, begun_number}
 use Rattle.rx_eval.specs.Elements.{handed_by, owner_in, begun_below, begun_below_number}
 use Rattle.rx_eval.specs.OwnersSeen.{Owning, owning_seen, owners_seen, put_entries}

@@ -1,16 +1,13 @@
 -- Places are filled at the ends of elements: what becomes of that when slots are put, and owners begin and end.
-use Rattle.std.proofs.Common.{◌≡◌, ◌∙◌, ℕ, zero, suc, ◌<◌, ◌≤◌, Bool, false, ◌||◌, List, [], ◌∷◌, ◌++◌, map, length, Option, Some, None, option_map, refl, sym, ap, ap₂, subst, subst₂, arith, length-append}
-use Rattle.std.proofs.lemmas.List.{length-set}
-use Rattle.std.proofs.lemmas.Bool.{or_parts}
-use Rattle.std.proofs.lemmas.List.{map-append}
-use Rattle.rx_model.specs.Terms.{Node, Term}
+use Rattle.rx_terms.proofs.Common.{◌≡◌, ◌∙◌, ℕ, zero, suc, ◌<◌, ◌≤◌, Bool, false, List, [], ◌∷◌, ◌++◌, map, length, Option, Some, None, option_map, refl, sym, ap, ap₂, subst, subst₂, arith, length-append, length-set, or_parts, map-append, by_test}
+use Rattle.std.proofs.Common.{◌||◌}
+use Rattle.rx_model.proofs.Common.{Node, Term}
 use Rattle.rx_rdfa.specs.Naming.{Path}
 use Rattle.rx_rdfa.specs.Blanks.{Owner, same_owner}
 use Rattle.rx_rdfa.specs.Lists.{Entry, map_entry, of_owner}
 use Rattle.rx_rdfa.specs.Machine.{Slot, Full, Waiting, fill, fill_slot}
 use Rattle.rx_rdfa.specs.Tables.{Table, table_from}
 use Rattle.rx_lists.specs.declared.lists.SlotId.{SlotId}
-use Rattle.rx_terms.proofs.Bools.{by_test}
 use Rattle.rx_eval.specs.OwnersSeen.{Owning, owning, put_entries, with_item, fill_seen, fill_all}
 use Rattle.rx_eval.specs.Slots.{Slots, Open, owner_place, item_of, table_in, owners_of, slot_waits, waits, HasItem, HasPlace, HasPlaces, Waiter, Fills, FillUp, Apart, WithinPlaces, WithinOption, Within}
 use Rattle.rx_eval.proofs.PlaceLemmas.{still_at, fill_past_all}

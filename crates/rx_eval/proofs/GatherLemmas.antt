@@ -1,8 +1,5 @@
 -- The frame of an element that is opened: its owners, and its text where it gathers that.
-use Rattle.std.proofs.Common.{◌≡◌, ◌∙◌, ℕ, Bool, true, false, List, [], ◌++◌, Option, Some, None, refl, ap, subst, sym}
-use Rattle.rx_terms.proofs.Bools.{both}
-use Rattle.std.specs.Prelude.{◌&&◌, is_some, IfSome, if◌then◌else◌}
-use Rattle.rx_terms.specs.Text.{Chars}
+use Rattle.rx_terms.proofs.Common.{◌≡◌, ◌∙◌, ℕ, Bool, true, false, List, [], ◌++◌, Option, Some, None, refl, ap, subst, sym, both, ◌&&◌, is_some, IfSome, if◌then◌else◌, Chars}
 use Rattle.rx_rdfa.specs.Naming.{Naming}
 use Rattle.rx_rdfa.specs.Resources.{Standing, Resources, resources}
 use Rattle.rx_rdfa.specs.Inherited.{listed, object_below, own_owner}

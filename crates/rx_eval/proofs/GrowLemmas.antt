@@ -1,6 +1,5 @@
 -- Lists that grow by one after another of another list.
-use Rattle.std.proofs.Common.{◌≡◌, ◌∙◌, ℕ, suc, ◌+◌, List, [], ◌∷◌, ◌++◌, map, drop, Some, slice_get, refl, sym, ap, append_assoc, add-one}
-use Rattle.std.proofs.lemmas.List.{map-append}
+use Rattle.rx_terms.proofs.Common.{◌≡◌, ◌∙◌, ℕ, suc, ◌+◌, List, [], ◌∷◌, ◌++◌, map, drop, Some, slice_get, refl, sym, ap, append_assoc, add-one, map-append}
 use Rattle.rx_eval.proofs.DrawLemmas.{drop_at}
 
 pub record Growing {A : Type 0} (now left whole : List A) : Type 0 where

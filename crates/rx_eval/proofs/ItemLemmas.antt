@@ -1,12 +1,7 @@
 -- The entries of an element that is opened: which of them are empty, and how they are filled at its end.
-use Rattle.std.proofs.Common.{◌≡◌, ◌∙◌, ℕ, ◌<◌, ◌≤◌, inl, inr, Bool, true, false, ◌||◌, List, [], ◌∷◌, ◌++◌, map, filter_map, length, Option, Some, None, option_map, bytes_eq, refl, sym, ap, ap₂, subst, arith, append_assoc}
-use Rattle.std.specs.Prelude.{if◌then◌else◌}
-use Rattle.std.proofs.lemmas.List.{map-append}
-use Rattle.rx_terms.specs.Text.{Chars}
-use Rattle.rx_model.specs.Sets.{Among}
-use Rattle.rx_model.specs.Terms.{Node, Term, Resource}
-use Rattle.rx_model.proofs.Sets.{false_unless}
-use Rattle.rx_model.proofs.Exact.{exact_texts}
+use Rattle.rx_terms.proofs.Common.{◌≡◌, ◌∙◌, ℕ, ◌<◌, ◌≤◌, inl, inr, Bool, true, false, List, [], ◌∷◌, ◌++◌, map, filter_map, length, Option, Some, None, option_map, bytes_eq, refl, sym, ap, ap₂, subst, arith, append_assoc, if◌then◌else◌, map-append, Chars, by_test}
+use Rattle.std.proofs.Common.{◌||◌}
+use Rattle.rx_model.proofs.Common.{Among, Node, Term, Resource, false_unless, exact_texts}
 use Rattle.rx_rdfa.specs.Naming.{Path, Naming}
 use Rattle.rx_rdfa.specs.Blanks.{Bnode, Owner, same_owner}
 use Rattle.rx_rdfa.specs.Resources.{Hanging, Forward, Reverse, InList, Standing, Resources}
@@ -15,7 +10,6 @@ use Rattle.rx_rdfa.specs.Lists.{Entry, map_entry, entry, linked, touched, valued
 use Rattle.rx_rdfa.specs.Machine.{Slot, Full, Waiting, fill, fill_slot, slot_of}
 use Rattle.rx_rdfa.specs.Renaming.{rename_slot}
 use Rattle.rx_rdfa.proofs.Exact.{exact_owners}
-use Rattle.rx_terms.proofs.Bools.{by_test}
 use Rattle.rx_eval.specs.OwnersSeen.{Owning, put_at, put_entries, places_for, fill_all}
 use Rattle.rx_eval.specs.Numbering.{Name, Number}
 use Rattle.rx_eval.specs.Slots.{Slots, Open, owner_place, item_of, slot_waits, waits, HasPlaces, WithinPlaces}

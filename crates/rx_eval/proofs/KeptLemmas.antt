@@ -1,7 +1,6 @@
 -- Which frames keep text, by the rules.
-use Rattle.std.proofs.Common.{◌≡◌, ◌∙◌, Bool, true, false, List, [], ◌∷◌, ◌++◌, map, is_some, refl, sym, ap, ap₂}
-use Rattle.std.proofs.lemmas.List.{map-append}
-use Rattle.rx_terms.specs.Text.{Chars}
+use Rattle.rx_terms.proofs.Common.{◌≡◌, ◌∙◌, Bool, true, false, List, [], ◌∷◌, ◌++◌, map, refl, sym, ap, ap₂, map-append, Chars}
+use Rattle.std.proofs.Common.{is_some}
 use Rattle.rx_rdfa.specs.Naming.{Path}
 use Rattle.rx_rdfa.specs.Facts.{Facts}
 use Rattle.rx_rdfa.specs.Blanks.{Bnode, Owner, model}

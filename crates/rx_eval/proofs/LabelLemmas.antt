@@ -1,12 +1,8 @@
 -- Labels and their numbers.
-use Rattle.std.proofs.Common.{◌≡◌, ◌∙◌, ℕ, ◌+◌, ◌<◌, false, cond, List, [], ◌∷◌, ◌++◌, map, length, get_or, Some, None, bytes_eq, refl, sym, ap, ap₂, subst, arith, Result, Ok, Err, OnOk}
-use Rattle.std.specs.List.{position, position_or_len, list_any}
+use Rattle.rx_terms.proofs.Common.{◌≡◌, ◌∙◌, ℕ, ◌+◌, ◌<◌, false, cond, List, [], ◌∷◌, ◌++◌, map, length, get_or, Some, None, bytes_eq, refl, sym, ap, ap₂, subst, arith, Result, Ok, Err, OnOk, position_or_len, list_any, chars, IsUtf8, map-append, length-map, by_test, same-chars}
+use Rattle.std.specs.List.{position}
 use Rattle.std.specs.Prelude.{nat_lt}
-use Rattle.std.specs.Str.{chars, IsUtf8}
-use Rattle.std.proofs.lemmas.List.{map-append, length-map}
-use Rattle.rx_terms.proofs.Bools.{by_test}
-use Rattle.rx_terms.proofs.CharLemmas.{same-chars}
-use Rattle.rx_model.proofs.Exact.{exact_texts}
+use Rattle.rx_model.proofs.Common.{exact_texts}
 use Rattle.rx_lists.specs.Rows.{first_place, FoundAt}
 use Rattle.rx_lists.proofs.RowLemmas.{found_in, same_turned, not_first, behind}
 use Rattle.rx_eval.specs.Labels.{Numbered, number_of}

@@ -1,12 +1,9 @@
 -- Text, and the end of an element.
-use Rattle.std.proofs.Common.{◌≡◌, ◌∙◌, ℕ, suc, inl, inr, Bool, true, false, ◌||◌, List, [], ◌∷◌, ◌++◌, map, length, Option, Some, None, refl, sym, ap, ap₂, subst, subst₂, append_assoc}
+use Rattle.rx_terms.proofs.Common.{◌≡◌, ◌∙◌, ℕ, suc, inl, inr, Bool, true, false, List, [], ◌∷◌, ◌++◌, map, length, Option, Some, None, refl, sym, ap, ap₂, subst, subst₂, append_assoc, length-map, or_parts, IfSome, is_some, if◌then◌else◌, Chars}
+use Rattle.std.proofs.Common.{◌||◌}
 use Rattle.rx_rdfa.proofs.Growing.{map_then}
-use Rattle.std.proofs.lemmas.List.{length-map}
 use Rattle.std.proofs.lemmas.Option.{IfSome_then}
-use Rattle.std.proofs.lemmas.Bool.{or_parts}
-use Rattle.std.specs.Prelude.{IfSome, is_some, if◌then◌else◌}
-use Rattle.rx_terms.specs.Text.{Chars}
-use Rattle.rx_model.specs.Sets.{Among}
+use Rattle.rx_model.proofs.Common.{Among}
 use Rattle.rx_rdfa.specs.Naming.{Path}
 use Rattle.rx_rdfa.specs.Blanks.{Bnode, Owner, First, Of, Below, model}
 use Rattle.rx_rdfa.specs.Inherited.{below}

@@ -1,11 +1,6 @@
 -- What is renamed by numbers stays so when more have numbers.
-use Rattle.std.proofs.Common.{◌≡◌, ◌∙◌, ℕ, Bool, List, map, Option, Some, None, option_map, nat_eq, refl, sym, ap, ap₂}
-use Rattle.rx_terms.proofs.Bools.{same_truth}
-use Rattle.rx_model.specs.Sets.{IsExact}
-use Rattle.rx_model.specs.Terms.{Node, Term, Triple}
-use Rattle.rx_model.specs.Numbered.{rename_node, rename_term, rename}
-use Rattle.rx_model.proofs.Sets.{false_unless}
-use Rattle.rx_model.proofs.Exact.{exact_numbers}
+use Rattle.rx_terms.proofs.Common.{◌≡◌, ◌∙◌, ℕ, Bool, List, map, Option, Some, None, option_map, nat_eq, refl, sym, ap, ap₂, same_truth}
+use Rattle.rx_model.proofs.Common.{IsExact, Node, Term, Triple, rename_node, rename_term, rename, false_unless, exact_numbers}
 use Rattle.rx_rdfa.specs.Resources.{Inherited}
 use Rattle.rx_rdfa.specs.Lists.{Entry, map_entry}
 use Rattle.rx_rdfa.specs.Machine.{Slot, Full, Waiting}

@@ -1,8 +1,6 @@
 -- The start of an element on the stack.
-use Rattle.std.proofs.Common.{◌≡◌, ◌∙◌, ℕ, suc, Bool, true, ◌+◌, ◌<◌, ◌^◌, List, [], ◌∷◌, map, length, Option, Some, None, is_some, option_map, refl, sym, ap, subst, arith}
-use Rattle.std.specs.Prelude.{IfSome, ◌==◌}
-use Rattle.std.proofs.lemmas.Bool.Decides.{nat_tests}
-use Rattle.rx_terms.specs.Text.{Chars}
+use Rattle.rx_terms.proofs.Common.{◌≡◌, ◌∙◌, ℕ, suc, Bool, true, ◌+◌, ◌<◌, ◌^◌, List, [], ◌∷◌, map, length, Option, Some, None, option_map, refl, sym, ap, subst, arith, IfSome, ◌==◌, nat_tests, Chars}
+use Rattle.std.proofs.Common.{is_some}
 use Rattle.rx_rdfa.specs.Facts.{Facts}
 use Rattle.rx_rdfa.specs.Resources.{Inherited}
 use Rattle.rx_eval.specs.declared.places.Level.{Level}

@@ -1,11 +1,9 @@
 -- An element by two namings that differ only in names for which it isn't asked: that of a new node which it doesn't make,
 -- and those of owners which it doesn't begin.
-use Rattle.std.proofs.Common.{◌≡◌, ◌∙◌, ◌⊎◌, inl, inr, ℕ, zero, suc, length, arith, Bool, true, false, cond, not, ◌&&◌, ◌||◌, List, [], ◌∷◌, ◌++◌, map, filter_map, Option, Some, None, option_map, is_none, is_some, unwrap_or, refl, ap, ap₂}
-use Rattle.rx_model.proofs.Sets.{and_left}
-use Rattle.std.specs.Option.{option_or}
+use Rattle.rx_terms.proofs.Common.{◌≡◌, ◌∙◌, ◌⊎◌, inl, inr, ℕ, zero, suc, length, arith, Bool, true, false, cond, List, [], ◌∷◌, ◌++◌, map, filter_map, Option, Some, None, option_map, is_none, refl, ap, ap₂, option_or, Chars}
+use Rattle.std.proofs.Common.{not, ◌&&◌, ◌||◌, is_some, unwrap_or}
+use Rattle.rx_model.proofs.Common.{and_left, Node, Iri, Blank, Term, Resource, same_node}
 use Rattle.std.specs.Bool.{then_some}
-use Rattle.rx_terms.specs.Text.{Chars}
-use Rattle.rx_model.specs.Terms.{Node, Iri, Blank, Term, Resource, same_node}
 use Rattle.rx_rdfa.specs.Naming.{Path, Naming}
 use Rattle.rx_rdfa.specs.Facts.{Facts}
 use Rattle.rx_rdfa.specs.Resources.{Hanging, Forward, Reverse, InList, Standing, Resources, resource_named, has_link, is_plain_property, is_root, is_root_child, is_head_or_body, only, about, linked_resource, base_at_root, default_subject, new_blank, of_property, of_no_link, of_link, resources}

@@ -1,10 +1,6 @@
 -- The end of one owner: its lists are written and it is forgotten.
-use Rattle.std.proofs.Common.{◌≡◌, ◌∙◌, ℕ, suc, ◌+◌, List, [], ◌∷◌, ◌++◌, map, length, Option, Some, None, refl, sym, ap, ap₂, subst, append-nil}
-use Rattle.std.specs.Prelude.{IfSome}
-use Rattle.std.proofs.lemmas.List.{map-append}
-use Rattle.rx_terms.specs.Text.{Chars}
-use Rattle.rx_model.specs.Terms.{Node, Triple}
-use Rattle.rx_model.specs.Numbered.{rename_node, rename}
+use Rattle.rx_terms.proofs.Common.{◌≡◌, ◌∙◌, ℕ, suc, ◌+◌, List, [], ◌∷◌, ◌++◌, map, length, Option, Some, None, refl, sym, ap, ap₂, subst, append-nil, IfSome, map-append, Chars}
+use Rattle.rx_model.proofs.Common.{Node, Triple, rename_node, rename, false_unless}
 use Rattle.rx_rdfa.specs.Naming.{Path}
 use Rattle.rx_rdfa.specs.Blanks.{Bnode, Made, Cell, Owner, same_owner, model}
 use Rattle.rx_rdfa.specs.Lists.{Entry, map_entry, of_owner, cells}
@@ -12,7 +8,6 @@ use Rattle.rx_rdfa.specs.Machine.{Slot, settle}
 use Rattle.rx_rdfa.specs.Renaming.{rename_slot}
 use Rattle.rx_rdfa.proofs.Exact.{exact_owners}
 use Rattle.rx_eval.specs.Labels.{Numbered}
-use Rattle.rx_model.proofs.Sets.{false_unless}
 use Rattle.rx_eval.specs.OwnersSeen.{Owning, owning, open_seen, cells_seen, ended_by, forgotten_seen}
 use Rattle.rx_eval.specs.Ending.{Ending, cells_count, end_owner}
 use Rattle.rx_eval.specs.Numbering.{Numbering, Number, named, Grown, Numbers}

@@ -1,13 +1,11 @@
 -- Places in lists: one that is there stays where it is when lists grow.
-use Rattle.std.proofs.Common.{◌≡◌, ◌∙◌, ℕ, zero, suc, List, [], ◌∷◌, ◌++◌, map, Option, Some, None, option_to_list, bytes_eq, refl, sym, ap, ap₂, arith, length-append}
-use Rattle.std.proofs.lemmas.List.{set-append_left, length-set}
+use Rattle.rx_terms.proofs.Common.{◌≡◌, ◌∙◌, ℕ, zero, suc, List, [], ◌∷◌, ◌++◌, map, Option, Some, None, option_to_list, bytes_eq, refl, sym, ap, ap₂, arith, length-append, length-set, Chars, by_test}
+use Rattle.std.proofs.lemmas.List.{set-append_left}
 use Rattle.std.proofs.Math.Seq.{set-append_seam}
-use Rattle.rx_terms.specs.Text.{Chars}
-use Rattle.rx_model.specs.Terms.{Term}
+use Rattle.rx_model.proofs.Common.{Term}
 use Rattle.rx_rdfa.specs.Tables.{Table, put}
 use Rattle.rx_rdfa.specs.Lists.{entry}
 use Rattle.rx_lists.specs.declared.lists.SlotId.{SlotId}
-use Rattle.rx_terms.proofs.Bools.{by_test}
 use Rattle.rx_eval.specs.Listing.{Entries}
 use Rattle.rx_eval.specs.OwnersSeen.{Owning, owning, lists_in, open_seen, list_place, item_count, next_place, places_for, put_at, put_entries, with_item, fill_seen, fill_all}
 use Rattle.rx_eval.specs.Reserving.{ReservedAreFilled}

@@ -1,12 +1,8 @@
 -- An element that says no more than what it refers to, where it may wait: what it opens and ends.
-use Rattle.std.proofs.Common.{◌≡◌, ◌∙◌, ◌<◌, ◌-◌, ◌+◌, ℕ, suc, Bool, true, false, List, [], ◌∷◌, ◌++◌, length, Option, Some, None, refl, sym, ap, ap₂, subst, append-nil, append_assoc, length-append, arith}
-use Rattle.std.specs.Prelude.{◌||◌, ◌==◌, is_some, nat_eq, filter_map, if◌then◌else◌}
-use Rattle.std.proofs.lemmas.Bool.Decides.{nat_tests}
-use Rattle.rx_terms.specs.Text.{Chars}
-use Rattle.rx_terms.proofs.Bools.{by_test}
+use Rattle.rx_terms.proofs.Common.{◌≡◌, ◌∙◌, ◌<◌, ◌-◌, ◌+◌, ℕ, suc, Bool, true, false, List, [], ◌∷◌, ◌++◌, length, Option, Some, None, refl, sym, ap, ap₂, subst, append-nil, append_assoc, length-append, arith, ◌||◌, ◌==◌, is_some, if◌then◌else◌, nat_tests, Chars, by_test}
+use Rattle.std.specs.Prelude.{nat_eq, filter_map}
 use Rattle.rx_refs.specs.Resolve.{resolved}
-use Rattle.rx_model.specs.Seen.{node_seen}
-use Rattle.rx_model.specs.Terms.{Node, Iri, Blank, Term, Triple, same_node}
+use Rattle.rx_model.proofs.Common.{node_seen, Node, Iri, Blank, Term, Triple, same_node}
 use Rattle.rx_rdfa.specs.Naming.{Naming}
 use Rattle.rx_rdfa.specs.Facts.{Facts, Ref, IriRef, LabelRef, RelativeRef}
 use Rattle.rx_rdfa.specs.Resources.{Hanging, Inherited, Standing, Resources, resources}

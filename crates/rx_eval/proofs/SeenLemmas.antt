@@ -1,14 +1,11 @@
 -- What is put into the code's lists, as the rules see it.
-use Rattle.std.proofs.Common.{◌≡◌, ◌∙◌, ℕ, Bool, zero, suc, List, [], ◌∷◌, ◌++◌, map, filter_map, Option, Some, None, option_map, option_to_list, slice_set, bytes_eq, refl, sym, ap, ap₂, length, drop, ◌≤◌, slice_index_or, Result, OnOk}
-use Rattle.std.specs.Prelude.{if◌then◌else◌}
-use Rattle.std.proofs.lemmas.List.{map-append, map-set, length-map}
-use Rattle.std.proofs.lemmas.Result.{on_ok_weaker}
-use Rattle.rx_terms.specs.Text.{Chars}
+use Rattle.rx_terms.proofs.Common.{◌≡◌, ◌∙◌, ℕ, Bool, zero, suc, List, [], ◌∷◌, ◌++◌, map, filter_map, Option, Some, None, option_map, option_to_list, slice_set, bytes_eq, refl, sym, ap, ap₂, length, drop, ◌≤◌, Result, OnOk, if◌then◌else◌, map-append, length-map, on_ok_weaker, Chars, by_test}
+use Rattle.std.proofs.Common.{slice_index_or}
+use Rattle.std.proofs.lemmas.List.{map-set}
 use Rattle.rx_terms.specs.declared.triples.Node.{Node as CodeNode}
 use Rattle.rx_terms.specs.declared.triples.Node.TheVariants as code_node
 use Rattle.rx_terms.specs.declared.triples.Term.{Term as CodeTerm}
-use Rattle.rx_model.specs.Terms.{Term}
-use Rattle.rx_model.specs.Seen.{node_seen, term_seen}
+use Rattle.rx_model.proofs.Common.{Term, node_seen, term_seen}
 use Rattle.rx_rdfa.specs.Tables.{put}
 use Rattle.rx_rdfa.specs.Lists.{entry}
 use Rattle.rx_lists.specs.Owners.{Owned, Owners, Slots, changed, with_term, itself, open_at, place_of, slots_of, trimmed, trimmed_by, forgotten, lists_of}
@@ -26,7 +23,6 @@ use Rattle.rx_eval.specs.Entries.{put_each, put_awaited, slots_for}
 use Rattle.rx_eval.specs.OwnersSeen.{Owning, owning, slots_seen, owning_seen, owners_seen, put_at, put_entries, with_item, open_seen, lists_in, list_place, item_count, next_place, places_for, fill_seen, fill_all, cells_seen, ended_by, ended, forgotten_seen}
 use Rattle.rx_eval.specs.Listing.{Entries, awaited_entry}
 use Rattle.rx_eval.proofs.DrawLemmas.{nothing_left}
-use Rattle.rx_terms.proofs.Bools.{by_test}
 
 abbrev pub item_seen : Option (Option CodeTerm) → Option (Option (Term ℕ))
 item_seen item = option_map (option_map term_seen) item

@@ -1,10 +1,7 @@
 -- An element of which nothing is said, below the root, by the rules: it is skipped, adds nothing and has no label.
-use Rattle.std.proofs.Common.{◌≡◌, ◌∙◌, ◌<◌, ℕ, zero, suc, true, false, List, [], ◌∷◌, ◌++◌, length, Option, Some, None, refl, sym, ap, append-nil, arith}
-use Rattle.std.specs.Prelude.{is_none, ◌==◌, if◌then◌else◌}
-use Rattle.std.proofs.lemmas.Bool.Decides.{nat_tests}
-use Rattle.rx_terms.specs.Text.{Chars}
-use Rattle.rx_terms.proofs.Bools.{both}
-use Rattle.rx_model.specs.Terms.{Triple}
+use Rattle.rx_terms.proofs.Common.{◌≡◌, ◌∙◌, ◌<◌, ℕ, zero, suc, true, false, List, [], ◌∷◌, ◌++◌, length, None, refl, sym, ap, append-nil, arith, ◌==◌, if◌then◌else◌, nat_tests, Chars, both}
+use Rattle.std.specs.Prelude.{is_none}
+use Rattle.rx_model.proofs.Common.{Triple}
 use Rattle.rx_rdfa.specs.Facts.{Facts}
 use Rattle.rx_rdfa.specs.Renaming.{labels}
 use Rattle.rx_rdfa.specs.Resources.{Inherited, Standing, Resources, resources, is_root}
@@ -21,10 +18,7 @@ use Rattle.rx_eval.specs.Skipping.{skipped_frame}
 use Rattle.rx_eval.specs.States.{State, Frame}
 use Rattle.rx_eval.proofs.EnterLemmas.{below_is_handed, below_skipped, lists_skipped, gathers_skipped}
 use Rattle.rx_eval.proofs.GatherLemmas.{no_own, no_below}
-
-pub none_is : {A : Type 0} (o : Option A) → is_none o ≡ true → o ≡ None
-none_is None h = refl
-none_is (Some a) h = absurd (cc)
+use Rattle.rx_model.proofs.Copied.{of_none}
 
 -- what is absent, where nothing is said but for href
 pub record SaysNoMore (facts : Facts) : Type 0 where
@@ -47,14 +41,14 @@ no_more facts h =
     let about = both (is_none facts.about) _ parts.1 in
     let resource = both (is_none facts.resource) _ about.1 in
     record {
-      about = none_is facts.about about.0;
-      resource = none_is facts.resource resource.0;
-      src = none_is facts.src resource.1;
-      rel = none_is facts.rel rel.0;
-      rev = none_is facts.rev rev.0;
-      property = none_is facts.property property.0;
-      types = none_is facts.types types.0;
-      vocab = none_is facts.vocab types.1;
+      about = of_none facts.about about.0;
+      resource = of_none facts.resource resource.0;
+      src = of_none facts.src resource.1;
+      rel = of_none facts.rel rel.0;
+      rev = of_none facts.rev rev.0;
+      property = of_none facts.property property.0;
+      types = of_none facts.types types.0;
+      vocab = of_none facts.vocab types.1;
     }
 
 record Silent (facts : Facts) : Type 0 where
@@ -67,7 +61,7 @@ silent facts h =
     let about = both (is_none facts.about) _ parts.1 in
     let resource = both (is_none facts.resource) _ about.1 in
     let href = both (is_none facts.href) _ resource.1 in
-    record { others = no_more facts (rw (parts.0, about.0, resource.0, href.1) refl); href = none_is facts.href href.0 }
+    record { others = no_more facts (rw (parts.0, about.0, resource.0, href.1) refl); href = of_none facts.href href.0 }
 
 no_labels : (facts : Facts) → Silent facts → labels facts ≡ []
 no_labels facts s = rw (s.others.about, s.others.resource, s.href, s.others.src, s.others.types) refl

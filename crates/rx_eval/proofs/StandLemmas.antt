@@ -1,12 +1,8 @@
 -- What the calls keep, and what they come to.
-use Rattle.std.proofs.Common.{◌≡◌, ◌∙◌, ℕ, suc, ◌+◌, ◌≤◌, ◌^◌, ◌⊎◌, inl, inr, Bool, true, false, List, [], ◌∷◌, ◌++◌, map, length, Option, Some, None, unwrap_or, refl, sym, ap, ap₂, subst, subst₂, arith}
+use Rattle.rx_terms.proofs.Common.{◌≡◌, ◌∙◌, ℕ, suc, ◌+◌, ◌≤◌, ◌^◌, ◌⊎◌, inl, inr, Bool, true, false, List, [], ◌∷◌, ◌++◌, map, length, Option, Some, None, refl, sym, ap, ap₂, subst, subst₂, arith, length-map, Chars}
+use Rattle.std.proofs.Common.{unwrap_or}
 use Rattle.std.proofs.lemmas.List.{nil_from_length}
-use Rattle.std.proofs.lemmas.List.{length-map}
-use Rattle.rx_terms.specs.Text.{Chars}
-use Rattle.rx_model.specs.Sets.{Among}
-use Rattle.rx_model.specs.Terms.{Node, Iri, Blank, Term, Resource, Literal, Triple}
-use Rattle.rx_model.specs.Numbered.{rename_node, rename_term, rename, blank_of_node, blank_of_term, blanks_of, blanks}
-use Rattle.rx_model.proofs.Sets.{Among_cases}
+use Rattle.rx_model.proofs.Common.{Among, Node, Iri, Blank, Term, Resource, Literal, Triple, rename_node, rename_term, rename, blank_of_node, blank_of_term, blanks_of, blanks, Among_cases}
 use Rattle.rx_rdfa.specs.Blanks.{Bnode, Owner, model}
 use Rattle.rx_rdfa.specs.Tree.{Nodes, end, element, text}
 use Rattle.rx_rdfa.specs.Facts.{Facts}

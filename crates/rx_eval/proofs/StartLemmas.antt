@@ -1,8 +1,6 @@
 -- The triples of an element's start: what its parts come to is what the rules say.
-use Rattle.std.proofs.Common.{◌≡◌, ◌∙◌, ℕ, List, [], ◌∷◌, ◌++◌, map, filter_map, Option, Some, None, option_map, option_to_list, refl, sym, ap, ap₂, append_assoc}
-use Rattle.std.specs.Prelude.{is_some, if◌then◌else◌}
-use Rattle.rx_terms.specs.Text.{Chars}
-use Rattle.rx_model.specs.Terms.{Node, Iri, Term, Triple}
+use Rattle.rx_terms.proofs.Common.{◌≡◌, ◌∙◌, ℕ, List, [], ◌∷◌, ◌++◌, map, filter_map, Option, Some, None, option_map, option_to_list, refl, sym, ap, ap₂, append_assoc, is_some, if◌then◌else◌, Chars, by_test}
+use Rattle.rx_model.proofs.Common.{Node, Iri, Term, Triple}
 use Rattle.rx_rdfa.specs.Iris.{uses_vocabulary}
 use Rattle.rx_rdfa.specs.Naming.{Naming}
 use Rattle.rx_rdfa.specs.Resources.{Standing, Resources, resources, only}
@@ -13,7 +11,6 @@ use Rattle.rx_eval.specs.declared.contexts.IncompleteTriple.TheVariants as code
 use Rattle.rx_eval.specs.Contexts.{waiting_seen}
 use Rattle.rx_eval.specs.Triples.{completed_by}
 use Rattle.rx_eval.specs.Starts.{vocabulary_by, typed_by, linked_by, values_of, found_by, start_by}
-use Rattle.rx_terms.proofs.Bools.{by_test}
 
 module _ (N : Naming ℕ ℕ) (base : Chars) (S : Standing ℕ ℕ) where
   voc : (v : Option Chars) → vocabulary_by base v ≡ option_to_list (option_map (λ vocab. to_node (Iri base) uses_vocabulary (Iri vocab)) v)

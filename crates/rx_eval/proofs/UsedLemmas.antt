@@ -1,14 +1,8 @@
 -- The number of a new node, and the owners that an element begins.
-use Rattle.std.proofs.Common.{◌≡◌, ◌∙◌, ℕ, suc, ◌+◌, ◌≤◌, ◌⊎◌, inl, inr, Bool, true, false, not, ◌&&◌, ◌||◌, ◌==◌, List, [], ◌∷◌, ◌++◌, length, Option, Some, None, is_none, unwrap_or, nat_eq, refl, sym, ap, subst, arith, append-nil, length-append}
-use Rattle.std.proofs.Math.Bool.{or-true}
-use Rattle.rx_terms.proofs.Bools.{untrue, by_test}
-use Rattle.std.specs.Prelude.{IfSome, if◌then◌else◌}
-use Rattle.std.specs.Option.{option_or}
+use Rattle.rx_terms.proofs.Common.{◌≡◌, ◌∙◌, ℕ, suc, ◌+◌, ◌≤◌, ◌⊎◌, inl, inr, Bool, true, false, List, [], ◌∷◌, ◌++◌, length, Option, Some, None, is_none, nat_eq, refl, sym, ap, subst, arith, append-nil, length-append, or-true, untrue, by_test, IfSome, if◌then◌else◌, option_or, Decides-eqb, Chars}
+use Rattle.std.proofs.Common.{not, ◌&&◌, ◌||◌, ◌==◌, unwrap_or}
 use Rattle.std.specs.Bool.{then_some}
-use Rattle.std.proofs.lemmas.Bool.Decides.{Decides-eqb}
-use Rattle.rx_terms.specs.Text.{Chars}
-use Rattle.rx_model.specs.Terms.{Node, Blank, Term, same_node}
-use Rattle.rx_model.proofs.Sets.{or_cases, and_left, and_right}
+use Rattle.rx_model.proofs.Common.{Node, Blank, Term, same_node, or_cases, and_left, and_right}
 use Rattle.rx_rdfa.specs.Naming.{Path, Naming}
 use Rattle.rx_rdfa.specs.Blanks.{Owner, same_owner}
 use Rattle.rx_rdfa.specs.Facts.{Facts}

@@ -1,6 +1,5 @@
-use Rattle.std.proofs.Common.{◌∙◌, ◌++◌, ◌+◌, ap, List, ℕ}
-use Rattle.rx_model.specs.Terms.{Triple}
-use Rattle.rx_model.specs.Seen.{triples_seen}
+use Rattle.rx_terms.proofs.Common.{◌∙◌, ◌++◌, ◌+◌, ap, List, ℕ}
+use Rattle.rx_model.proofs.Common.{Triple, triples_seen}
 use Rattle.rx_eval.proofs.SeenLemmas.{seen_forgotten, seen_cells, seen_count}
 use Rattle.rx_eval.proofs.closing.end_lists.Goals as goal
 

@@ -1,7 +1,6 @@
-use Rattle.std.proofs.Common.{◌∙◌, ap, sym, length, is_some, option_map}
-use Rattle.std.proofs.lemmas.List.{length-map}
-use Rattle.std.proofs.lemmas.Result.{IfOk-weaker, on_ok_weaker}
-use Rattle.rx_model.specs.Seen.{term_seen}
+use Rattle.rx_terms.proofs.Common.{◌∙◌, ap, sym, length, option_map, length-map, IfOk-weaker, on_ok_weaker}
+use Rattle.std.proofs.Common.{is_some}
+use Rattle.rx_model.proofs.Common.{term_seen}
 use Rattle.rx_curie.specs.Seen.{facts_seen}
 use Rattle.rx_eval.specs.Contexts.{context_seen}
 use Rattle.rx_eval.specs.ElementResources.{found_seen}

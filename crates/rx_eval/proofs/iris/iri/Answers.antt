@@ -1,8 +1,4 @@
-use Rattle.std.proofs.Common.{◌≡◌, ◌∙◌, subst, sym, ap}
-use Rattle.std.specs.Prelude.{string_bytes}
-use Rattle.std.specs.Str.{chars}
-use Rattle.rx_terms.specs.Iri.{IsIri}
-use Rattle.rx_terms.proofs.CharLemmas.{ascii-chars}
+use Rattle.rx_terms.proofs.Common.{◌≡◌, ◌∙◌, subst, sym, ap, string_bytes, chars, IsIri, ascii-chars}
 use Rattle.rx_terms.proofs.OkLemmas.{ok_is}
 use Rattle.rx_eval.proofs.iris.iri.Goals as goal
 use Rattle.rx_eval.proofs.iris.iri.Goals.{In_ok-text}

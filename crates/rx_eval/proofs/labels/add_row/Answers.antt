@@ -1,6 +1,4 @@
-use Rattle.std.proofs.Common.{ap, ◌∙◌, ◌++◌, ◌∷◌, [], Bool}
-use Rattle.std.specs.Prelude.{if◌then◌else◌, string_bytes}
-use Rattle.std.proofs.lemmas.Str.{IsUtf8-string_bytes}
+use Rattle.rx_terms.proofs.Common.{ap, ◌∙◌, ◌++◌, ◌∷◌, [], Bool, if◌then◌else◌, string_bytes, IsUtf8-string_bytes}
 use Rattle.rx_eval.proofs.LabelLemmas.{none_kept}
 use Rattle.rx_eval.proofs.labels.add_row.Goals as goal
 

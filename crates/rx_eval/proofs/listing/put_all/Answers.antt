@@ -1,6 +1,5 @@
-use Rattle.std.proofs.Common.{filter_map, map, option_map, []}
-use Rattle.std.specs.Prelude.{if◌then◌else◌}
-use Rattle.rx_model.specs.Seen.{node_seen, term_seen}
+use Rattle.rx_terms.proofs.Common.{filter_map, map, option_map, [], if◌then◌else◌}
+use Rattle.rx_model.proofs.Common.{node_seen, term_seen}
 use Rattle.rx_curie.specs.Seen.{facts_seen}
 use Rattle.rx_eval.specs.ElementResources.{found_seen}
 use Rattle.rx_eval.specs.Contexts.{waiting_seen}

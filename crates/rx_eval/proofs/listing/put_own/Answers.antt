@@ -1,7 +1,6 @@
-use Rattle.std.proofs.lemmas.Result.{IfOk-weaker, on_ok_weaker}
-use Rattle.std.proofs.Common.{◌∙◌, ap, Some, option_map, Bool}
+use Rattle.rx_terms.proofs.Common.{IfOk-weaker, on_ok_weaker, ◌∙◌, ap, Some, option_map, Bool}
 use Rattle.std.specs.Prelude.{is_none}
-use Rattle.rx_model.specs.Seen.{node_seen, term_seen}
+use Rattle.rx_model.proofs.Common.{node_seen, term_seen}
 use Rattle.rx_rdfa.specs.Inherited.{listed, hangs}
 use Rattle.rx_curie.specs.Seen.{facts_seen}
 use Rattle.rx_eval.specs.ElementResources.{found_seen}

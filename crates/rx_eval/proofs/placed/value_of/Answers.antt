@@ -1,8 +1,6 @@
-use Rattle.std.proofs.Common.{◌≡◌, ◌∙◌, ap, subst, sym, ℕ, Option, option_map, None, Some, unwrap_or, IfOk}
-use Rattle.std.specs.Str.{chars}
-use Rattle.rx_terms.specs.Text.{Chars}
-use Rattle.rx_model.specs.Seen.{term_seen}
-use Rattle.rx_model.specs.Terms.{Term}
+use Rattle.rx_terms.proofs.Common.{◌≡◌, ◌∙◌, ap, subst, sym, ℕ, Option, option_map, None, Some, IfOk, chars, Chars}
+use Rattle.std.proofs.Common.{unwrap_or}
+use Rattle.rx_model.proofs.Common.{term_seen, Term}
 use Rattle.rx_rdfa.specs.Resources.{Resources}
 use Rattle.rx_rdfa.specs.Value.{rule, value_now, value_of_text}
 use Rattle.rx_curie.specs.Seen.{facts_seen}

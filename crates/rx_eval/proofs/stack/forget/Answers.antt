@@ -1,5 +1,4 @@
-use Rattle.std.proofs.Common.{◌∙◌, [], refl, sym, ap, Bool, List, ℕ}
-use Rattle.std.specs.Prelude.{if◌then◌else◌}
+use Rattle.rx_terms.proofs.Common.{◌∙◌, [], refl, sym, ap, Bool, List, ℕ, if◌then◌else◌}
 use Rattle.rx_eval.proofs.stack.forget.Goals as goal
 
 pub returns-then-ends : goal.returns-then-ends

@@ -1,6 +1,5 @@
-use Rattle.std.proofs.Common.{◌++◌, map, drop}
-use Rattle.rx_model.specs.Seen.{node_seen, term_seen, triples_seen}
-use Rattle.rx_model.specs.Copied.{spo}
+use Rattle.rx_terms.proofs.Common.{◌++◌, map, drop}
+use Rattle.rx_model.proofs.Common.{node_seen, term_seen, triples_seen, spo}
 use Rattle.rx_eval.specs.Triples.{ToCome}
 use Rattle.rx_eval.proofs.triples.push_first.Given as goal
 

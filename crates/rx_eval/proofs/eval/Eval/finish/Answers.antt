@@ -1,6 +1,5 @@
-use Rattle.std.proofs.Common.{◌≡◌, ◌∙◌, ap, sym, subst, List, ℕ}
-use Rattle.std.proofs.lemmas.Result.{IfOk-weaker}
-use Rattle.rx_model.specs.Terms.{Triple}
+use Rattle.rx_terms.proofs.Common.{◌≡◌, ◌∙◌, ap, sym, subst, List, ℕ, IfOk-weaker}
+use Rattle.rx_model.proofs.Common.{Triple}
 use Rattle.rx_eval.specs.States.{State}
 use Rattle.rx_eval.specs.Standing.{Makes}
 use Rattle.rx_eval.proofs.ReferringLemmas.{out_waits}

@@ -1,5 +1,4 @@
-use Rattle.std.proofs.Common.{rules, ◌≡◌, ◌∙◌, ap}
-use Rattle.std.specs.Str.{chars}
+use Rattle.rx_terms.proofs.Common.{rules, ◌≡◌, ◌∙◌, ap, chars}
 use Rattle.rx_eval.specs.Opened.{read_text}
 use Rattle.rx_eval.specs.Referring.{with_pending}
 use Rattle.rx_eval.specs.States.{State}

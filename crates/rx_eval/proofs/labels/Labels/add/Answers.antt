@@ -1,7 +1,4 @@
-use Rattle.std.proofs.Common.{◌∙◌, ap}
-use Rattle.std.specs.Prelude.{string_bytes}
-use Rattle.std.specs.Str.{chars}
-use Rattle.std.proofs.lemmas.Str.{IsUtf8-string_bytes}
+use Rattle.rx_terms.proofs.Common.{◌∙◌, ap, string_bytes, chars, IsUtf8-string_bytes}
 use Rattle.rx_eval.proofs.LabelLemmas.{is_new_in, added, same_size, texts_more, if_both}
 use Rattle.rx_eval.proofs.labels.Labels.add.Goals as goal
 

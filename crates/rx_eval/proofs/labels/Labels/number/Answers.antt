@@ -1,7 +1,4 @@
-use Rattle.std.proofs.Common.{◌∙◌}
-use Rattle.std.specs.Prelude.{string_bytes}
-use Rattle.std.specs.Str.{chars}
-use Rattle.std.proofs.lemmas.Str.{IsUtf8-string_bytes}
+use Rattle.rx_terms.proofs.Common.{◌∙◌, string_bytes, chars, IsUtf8-string_bytes}
 use Rattle.rx_eval.proofs.LabelLemmas.{found, missing, same_position, same_size}
 use Rattle.rx_eval.proofs.labels.Labels.number.Goals as goal
 

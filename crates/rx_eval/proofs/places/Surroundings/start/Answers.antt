@@ -1,6 +1,5 @@
-use Rattle.std.proofs.Common.{◌∙◌, ◌++◌, ap, refl, List, ℕ, option_map}
-use Rattle.rx_model.specs.Terms.{Triple}
-use Rattle.rx_model.specs.Seen.{term_seen, triples_seen}
+use Rattle.rx_terms.proofs.Common.{◌∙◌, ◌++◌, ap, refl, List, ℕ, option_map}
+use Rattle.rx_model.proofs.Common.{Triple, term_seen, triples_seen}
 use Rattle.rx_curie.specs.Seen.{facts_seen}
 use Rattle.rx_eval.specs.ElementResources.{found_seen}
 use Rattle.rx_eval.specs.Places.{naming, standing}

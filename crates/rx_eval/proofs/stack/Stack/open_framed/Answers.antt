@@ -1,6 +1,5 @@
-use Rattle.std.proofs.Common.{◌≡◌, ◌∙◌, ◌<◌, arith, List, length, ◌++◌, refl, sym, ap, Bool}
-use Rattle.std.proofs.lemmas.List.{length-map}
-use Rattle.rx_model.specs.Seen.{triples_seen}
+use Rattle.rx_terms.proofs.Common.{◌≡◌, ◌∙◌, ◌<◌, arith, List, length, ◌++◌, refl, sym, ap, Bool, length-map}
+use Rattle.rx_model.proofs.Common.{triples_seen}
 use Rattle.rx_curie.specs.Seen.{facts_seen}
 use Rattle.rx_eval.specs.OwnersSeen.{owners_seen}
 use Rattle.rx_eval.specs.Places.{level_at}

@@ -1,8 +1,5 @@
-use Rattle.std.proofs.Common.{◌≡◌, ◌∙◌, ◌++◌, ◌∷◌, ℕ, List, length, Option, sym, ap, ap₂, arith}
-use Rattle.std.specs.Prelude.{is_some}
-use Rattle.std.proofs.lemmas.List.{length-map}
-use Rattle.rx_model.specs.Seen.{node_seen}
-use Rattle.rx_model.specs.Terms.{Node}
+use Rattle.rx_terms.proofs.Common.{◌≡◌, ◌∙◌, ◌++◌, ◌∷◌, ℕ, List, length, Option, sym, ap, ap₂, arith, is_some, length-map}
+use Rattle.rx_model.proofs.Common.{node_seen, Node}
 use Rattle.rx_rdfa.specs.Resources.{Inherited}
 use Rattle.rx_eval.specs.Contexts.{context_seen}
 use Rattle.rx_eval.specs.Entering.{begun_seen}
