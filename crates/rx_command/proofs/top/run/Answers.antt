@@ -14,8 +14,8 @@ use Rattle.rx_command.proofs.top.run.Goals.{After-run_several-status, After-outc
 -- what a run for several pages says
 said : (g : Over) (c : After-run_several-status g)
     → SeveralSays (job c.args.words.now) c.run_several-status.result
-        (record { told = g.F.Shelf.told c.args.shelf.now; read_faults = g.F.Shelf.faults c.args.shelf.now; held = g.O.Sink.held c.args.out.now; write_faults = g.O.Sink.faults c.args.out.now; said = g.E.Sink.held c.args.err.now; say_faults = g.E.Sink.faults c.args.err.now })
-        (record { told = g.F.Shelf.told c.run_several-status.new.shelf; read_faults = g.F.Shelf.faults c.run_several-status.new.shelf; held = g.O.Sink.held c.run_several-status.new.out; write_faults = g.O.Sink.faults c.run_several-status.new.out; said = g.E.Sink.held c.run_several-status.new.err; say_faults = g.E.Sink.faults c.run_several-status.new.err })
+    (record { told = g.F.Shelf.told c.args.shelf.now; read_faults = g.F.Shelf.faults c.args.shelf.now; held = g.O.Sink.held c.args.out.now; write_faults = g.O.Sink.faults c.args.out.now; said = g.E.Sink.held c.args.err.now; say_faults = g.E.Sink.faults c.args.err.now })
+    (record { told = g.F.Shelf.told c.run_several-status.new.shelf; read_faults = g.F.Shelf.faults c.run_several-status.new.shelf; held = g.O.Sink.held c.run_several-status.new.out; write_faults = g.O.Sink.faults c.run_several-status.new.out; said = g.E.Sink.held c.run_several-status.new.err; say_faults = g.E.Sink.faults c.run_several-status.new.err })
 said g c = several_says (job c.args.words.now) _ _ _ _ (c.in-Ok.ensures ∙ ap Some c.in-Several.ensures) c.run_several-status.ensures.ends
 
 -- what a run for one page takes
