@@ -1,5 +1,5 @@
 -- How a run ends, exit by exit.
-use Rattle.std.proofs.Common.{◌≡◌, ◌∙◌, ℕ, ◌⊎◌, inl, inr, List, [], refl, sym, ap, subst, Option, Some, None, append-nil, encode_utf8_all}
+use Rattle.std.proofs.Common.{◌≡◌, ◌≢◌, ◌∙◌, ℕ, ◌⊎◌, inl, inr, List, [], refl, sym, ap, subst, Option, Some, None, append-nil, encode_utf8_all}
 use Rattle.rx_ports.specs.Counts.{Rose}
 use Rattle.rx_ports.specs.Files.{file_of}
 use Rattle.rx_ports.specs.Shelves.{ShelfContent, WhereKnown, GrowsBy, GrowsByPart, Stays}
@@ -7,7 +7,7 @@ use Rattle.rx_ports.proofs.MoveLemmas.{moves_same, moves_at, moves_weaker}
 use Rattle.rx_terms.specs.Text.{Chars}
 use Rattle.rx_rdfa.specs.Names.{Context}
 use Rattle.rx_grammar.specs.declared.faults.Fault.{Fault}
-use Rattle.rx_job.specs.Words.{Job, Asked, Gathering, reads, gathers, samples, job, page_asked, gathering_in}
+use Rattle.rx_job.specs.Words.{Job, Asked, Gathering, reads, gathers, samples, job, gathering_in}
 use Rattle.rx_page.specs.Tasks.{TaskGives}
 use Rattle.rx_page.specs.Written.{text_of, Denoted}
 use Rattle.rx_page.specs.declared.outcomes.Outcome.{Outcome}
@@ -18,8 +18,8 @@ use Rattle.rx_command.specs.Outcome.{NamesPage, IsLacking, LacksOne, JobLacks}
 use Rattle.rx_command.specs.Inputs.{JobText, JobRefused, TellsThat, WhereTold}
 use Rattle.rx_command.specs.Gathering.{IsGathered, DenotesGathered}
 use Rattle.rx_command.specs.Samples.{Yields}
-use Rattle.rx_command.specs.Runs.{Devices, SampleEnds, EndsAs, SaysAs, GatheringEnds, Says, SaysNothing, usage_line, context_line, refused_line}
-use Rattle.rx_command.specs.Endings.{OfPage, IsAnswer, nothing_asked, of_sample, of_page, of_fault, no_file, no_context, of_pages, no_file_of_several, no_context_of_several, IsDue, Ends, answers, shelf_failed, out_failed, no_memory}
+use Rattle.rx_command.specs.Runs.{Devices, SampleEnds, EndsAs, SaysAs, GatheringEnds, Says, SaysNothing, TakesJob, usage_line, context_line, refused_line}
+use Rattle.rx_command.specs.Endings.{OfPage, IsAnswer, nothing_asked, of_sample, of_page, of_fault, no_file, no_context, of_pages, no_file_of_several, no_context_of_several, IsDue, Ends, RunEnds, answers, shelf_failed, out_failed, no_memory}
 use Rattle.rx_command.specs.declared.statuses.Status.{Status}
 use Rattle.rx_command.specs.declared.statuses.Status.TheVariants as status
 use Rattle.rx_command.proofs.RunLemmas.{one_shelf, page_job}
@@ -70,6 +70,11 @@ bad_answer shelf (Some (reads asked)) h = no_context asked h
 bad_answer shelf (Some (gathers g)) h = no_context_of_several g h
 bad_answer shelf _ h = absurd h
 
+-- a run that writes no whole text
+pub without_text : (words : List Chars) (s : Status) (old new : Devices) → s ≢ status.Done → WhereKnown (TakesJob (job words)) old.told new.told → ((shelf : ShelfContent) → old.told ≡ Some shelf → Ends shelf (job words) s old new)
+    → RunEnds words s old new
+without_text words s old new other taken gives = record { gives = gives; reads = taken; whole = λ is. absurd (other is) }
+
 module _ (words : List Chars) (old new : Devices) (shelf : ShelfContent) (tells : old.told ≡ Some shelf) where
   at_job : (k : Option Job) (s : Status) (text line : List ℕ) → job words ≡ k → IsAnswer shelf k s text line → IsAnswer shelf (job words) s text line
   at_job k s text line e a = subst (λ z. IsAnswer shelf z s text line) (sym e) a
@@ -118,9 +123,9 @@ module _ (words : List Chars) (old new : Devices) (shelf : ShelfContent) (tells 
   ends_several g j s e = several_at g j s e.ends e.says
 
   -- for one page
-  module _ (asked : Asked) (a : page_asked words ≡ Some asked) where
+  module _ (asked : Asked) (a : job words ≡ Some (reads asked)) where
     of_one : (s : Status) (text line : List ℕ) → IsAnswer shelf (Some (reads asked)) s text line → IsAnswer shelf (job words) s text line
-    of_one s text line i = at_job (Some (reads asked)) s text line (page_job words asked a) i
+    of_one s text line i = at_job (Some (reads asked)) s text line a i
 
     pub ends_done : (found : Outcome) → WhereKnown (JobText asked found) old.told new.told → Denoted found → WhereKnown (GrowsBy (text_of found)) old.held new.held → SaysNothing old.said new.said old.say_faults new.say_faults
         → Ends shelf (job words) status.Done old new
@@ -138,7 +143,7 @@ module _ (words : List Chars) (old new : Devices) (shelf : ShelfContent) (tells 
         let r = moves_at shelf m tells in
         let p = (r.1).page in
         let due : IsDue shelf (Some (reads asked)) (text_of found) = record { context = (r.1).context; bytes = p.bytes; is_context = (r.1).holds; file = p.file; holds_so = p.gives } in
-        out_failed (text_of found) refl rose (subst (λ k. IsDue shelf k (text_of found)) (sym (page_job words asked a)) due) grows
+        out_failed (text_of found) refl rose (subst (λ k. IsDue shelf k (text_of found)) (sym a) due) grows
 
     pub ends_refused : (fault : Fault) → WhereKnown (JobRefused asked fault) old.told new.told → WhereKnown Stays old.held new.held → Says (refused_line fault) old.said new.said old.say_faults new.say_faults
         → Ends shelf (job words) (status.Refused fault) old new

@@ -5,7 +5,7 @@ use Rattle.std.proofs.lemmas.Bool.Decides.{nat_tests}
 use Rattle.rx_ports.specs.Counts.{Rose}
 use Rattle.rx_ports.specs.Files.{file_of}
 use Rattle.rx_ports.specs.Shelves.{ShelfContent, WhereKnown, Lacks}
-use Rattle.rx_ports.proofs.MoveLemmas.{moves_at, moves_then}
+use Rattle.rx_ports.proofs.MoveLemmas.{moves_same, moves_at, moves_then}
 use Rattle.rx_names.specs.ContextFiles.{context_of}
 use Rattle.rx_chars.specs.declared.syntax.Syntax.{Syntax}
 use Rattle.rx_grammar.specs.declared.faults.Fault.{Fault}
@@ -17,7 +17,7 @@ use Rattle.rx_model.specs.Seen.{triples_seen}
 use Rattle.rx_rdfa.specs.Names.{Context}
 use Rattle.rx_rdfa.specs.Standard.{standard}
 use Rattle.rx_job.specs.declared.formats.Format.{Format}
-use Rattle.rx_job.specs.Words.{Asked, Task, Extraction, Itemization, extracts, itemizes, checks}
+use Rattle.rx_job.specs.Words.{Asked, Task, Extraction, extracts, itemizes, checks}
 use Rattle.rx_nest.specs.Ways.{Way}
 use Rattle.rx_command.specs.declared.errors.InputError.{InputError}
 use Rattle.rx_command.specs.declared.errors.InputError.TheVariants as error
@@ -174,17 +174,17 @@ page_text e context name named form outcome list n f spelled denotes x y c =
     let made = text_made e context form outcome list c.bytes f spelled denotes c.gives in
     record { page = record { bytes = c.bytes; file = sym (ap (λ n. file_of x.files n) n) ∙ c.file; gives = made.0; graph = made.1; left = c.left }; starts = c.starts }
 
--- of a job that is known to be an extraction, or a check
+-- of a job that is known
+pub for_task : (holds : Task → Context → List ℕ → Type 0) (asked other : Asked) (context : Context) → asked ≡ other → holds other.task context (encode_utf8_all other.page) → holds asked.task context (encode_utf8_all asked.page)
+for_task holds asked other context is h = subst (λ (k : Asked). holds k.task context (encode_utf8_all k.page)) (sym is) h
+
+-- to be an extraction
 pub for_extraction : (holds : Task → Context → List ℕ → Type 0) (asked : Asked) (approach : Approach) (f : Format) (graph : Option (Bor Chars)) (e : Extraction) (file : Option Chars) (page : Chars)
     → asked ≡ record { task = extracts e; context = file; page = page } → approach.syntax ≡ e.syntax → f ≡ e.format → approach.address ≡ e.address → option_map (λ iri. iri.now) graph ≡ e.graph
     → holds (extracts (extraction_of approach f graph)) approach.context (encode_utf8_all page) → holds asked.task approach.context (encode_utf8_all asked.page)
 for_extraction holds asked approach f graph e file page is s k a n h =
     let same : extraction_of approach f graph ≡ e = λ i. record { syntax = s i; format = k i; graph = n i; address = a i } in
-    subst (λ (k : Asked). holds k.task approach.context (encode_utf8_all k.page)) (sym is) (subst (λ (x : Extraction). holds (extracts x) approach.context (encode_utf8_all page)) same h)
-
-pub for_check : (holds : Task → Context → List ℕ → Type 0) (asked : Asked) (syntax : Syntax) (file : Option Chars) (page : Chars) (context : Context)
-    → asked ≡ record { task = checks syntax; context = file; page = page } → holds (checks syntax) context (encode_utf8_all page) → holds asked.task context (encode_utf8_all asked.page)
-for_check holds asked syntax file page context is h = subst (λ (k : Asked). holds k.task context (encode_utf8_all k.page)) (sym is) h
+    for_task holds asked (record { task = extracts e; context = file; page = page }) approach.context is (subst (λ (x : Extraction). holds (extracts x) approach.context (encode_utf8_all page)) same h)
 
 pub page_found : (task : Task) (way : Way) (context : Context) (name named : List ℕ) (fault : Fault) → named ≡ name → way ≡ way_in task context → (x y : ShelfContent) → Finds way named fault x y → PageRefused task context name fault x y
 page_found task way context name named fault e w x y f =
@@ -200,23 +200,12 @@ fails_clean way name named e told now n g is = subst (λ x. WhereKnown (ReadsCle
 pub fails_no_context : (way : Way) (name : List ℕ) (e : InputError) (told now : Option ShelfContent) → PageFails way name e told now → e ≡ error.BadContext → ⊥
 fails_no_context way name e told now g is = subst (λ x. PageFails way name x told now) is g
 
-pub for_itemization : (holds : Task → Context → List ℕ → Type 0) (asked : Asked) (i : Itemization) (page : Chars) (context : Context)
-    → asked ≡ record { task = itemizes i; context = None; page = page } → holds (itemizes i) context (encode_utf8_all page) → holds asked.task context (encode_utf8_all asked.page)
-for_itemization holds asked i page context is h = subst (λ (k : Asked). holds k.task context (encode_utf8_all k.page)) (sym is) h
-
 -- where no context file is named the standard context holds, and nothing is read
 standard_holds : (x : ShelfContent) → ReadsContext None standard x x
 standard_holds x = record { is = refl; takes = record { files = refl; size = omega arith; most = omega arith; starts = omega arith }; starts = omega arith }
 
 pub standard_stays : (told : Option ShelfContent) → WhereKnown (ReadsContext None standard) told told
-standard_stays None = record { same = refl; taken = λ x y p q. absurd (cc) }
-standard_stays (Some t) = record { same = refl; taken = λ x y p q. at x y (some_told t x p) (some_told t y q) }
-  where
-    some_told : (a b : ShelfContent) → ◌≡◌ {A = Option ShelfContent} (Some a) (Some b) → a ≡ b
-    some_told a b e = cc
-
-    at : (x y : ShelfContent) → t ≡ x → t ≡ y → ReadsContext None standard x y
-    at x y p q = subst (λ (z : ShelfContent). ReadsContext None standard z y) p (subst (λ (z : ShelfContent). ReadsContext None standard t z) q (standard_holds t))
+standard_stays told = moves_same (ReadsContext None standard) standard_holds told
 
 -- what a call gives
 

@@ -1,7 +1,5 @@
 -- The worked row of two pages in one document, and that of a page's items.
 use Rattle.std.proofs.Common.{◌≡◌, inl, inr, ℕ, List, [], ◌∷◌, refl, sym, ap, subst, arith, Some, None, codes, encode_utf8_all}
-use Rattle.std.specs.Fmt.{decimal}
-use Rattle.std.proofs.lemmas.Fmt.{decimal_digit}
 use lib.Utf8.{encode}
 use Rattle.json.specs.Print.{escape_byte}
 use Rattle.serde_json.specs.Data.{Data, null}
@@ -45,6 +43,7 @@ use Rattle.rx_command.specs.Endings.{of_page, of_pages}
 use Rattle.rx_command.specs.Rows.{Row, file, shelf_with, small_page, item_page, item_text, item_words, many_words, many_files, many_text}
 use Rattle.rx_command.specs.declared.statuses.Status.TheVariants as status
 use Rattle.rx_command.proofs.GatheringLemmas.{judged_graphs}
+use Rattle.rx_command.proofs.SampleRow.{digit_0}
 use Rattle.rx_command.proofs.WorkedPages.{read_to, first_tree, small_tree, small_is, iri_writable}
 
 -- ---- two pages
@@ -80,12 +79,9 @@ are_judged : JudgesEach GivesTriples Html names.standard many_files two_pages.pa
 unfolding encode
 are_judged = (record { bytes = small_page; file = refl; address = refl; judged = a_gives }, (record { bytes = []; file = refl; address = refl; judged = empty_first }, tt))
 
-zero_digit : decimal 0 ≡ codes "0"
-zero_digit = decimal_digit 0 (omega arith)
-
 many_spelled : many_text ≡ encode_utf8_all (gathered two_judged)
 unfolding encode components_of step without_dots target resolved
-many_spelled = rw zero_digit refl
+many_spelled = rw digit_0 refl
 
 abbrev two_lines : List (Line ℕ)
 two_lines = statement (codes "http://a.example/") a_triple ∷ comment (codes "http://b.example/") ended ∷ []

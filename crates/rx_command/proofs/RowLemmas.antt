@@ -24,11 +24,11 @@ use Rattle.rx_page.proofs.TextLemmas.{the_text}
 use Rattle.rx_command.specs.Samples.{sample_page}
 use Rattle.rx_command.specs.Endings.{nothing_asked, of_page, of_fault, no_file, no_context, no_file_of_several}
 use Rattle.rx_command.specs.Runs.{refused_line}
-use Rattle.rx_command.specs.Rows.{RowsAreAnswered, Row, file, small_page, small_text, usage, check_words, extract_words, many_words}
+use Rattle.rx_command.specs.Rows.{RowsAreAnswered, Row, file, small_page, small_text, check_words, extract_words, many_words}
 use Rattle.rx_command.specs.declared.statuses.Status.TheVariants as status
 use Rattle.rx_command.proofs.SampleNodes.{samples_are_pages}
 use Rattle.rx_command.proofs.MoreRows.{two_pages, ended, empty_first, gathered_row, items_row}
-use Rattle.rx_command.proofs.SampleRow.{sample_row}
+use Rattle.rx_command.proofs.SampleRow.{digit_0, digit_1, sample_row}
 use Rattle.rx_command.proofs.WorkedPages.{read_to, small_is, extraction, small_has, small_denotes, mismatched, mismatch_first, relative, relative_first}
 
 -- what the words ask for
@@ -41,30 +41,6 @@ an_extraction = record {
   context = Some (codes "names.json");
   page = codes "page.html";
 }
-
-pub no_words : Row [] [] status.Usage [] usage
-no_words = nothing_asked
-
-pub no_page_named : Row (codes "check" ∷ []) (file small_page) status.Usage [] usage
-no_page_named = nothing_asked
-
-pub no_task : Row (codes "page.html" ∷ []) (file small_page) status.Usage [] usage
-no_task = nothing_asked
-
-pub no_address : Row (codes "extract" ∷ codes "page.html" ∷ []) (file small_page) status.Usage [] usage
-no_address = nothing_asked
-
-pub twice_an_option : Row (codes "check" ∷ codes "--syntax" ∷ codes "html" ∷ codes "--syntax" ∷ codes "html" ∷ codes "page.html" ∷ []) (file small_page) status.Usage [] usage
-twice_an_option = nothing_asked
-
-pub no_items : Row (codes "sample" ∷ codes "0" ∷ []) [] status.Usage [] usage
-no_items = nothing_asked
-
-pub too_many_items : Row (codes "sample" ∷ codes "100001" ∷ []) [] status.Usage [] usage
-too_many_items = nothing_asked
-
-pub no_page : Row check_words [] status.ReadFault [] []
-no_page = no_file a_check (inr (tt, refl))
 
 pub other_page : Row check_words ((codes "other.html", small_page) ∷ []) status.ReadFault [] []
 unfolding encode
@@ -118,17 +94,11 @@ refused_so bytes fault first =
 unended_so : (bytes : List ℕ) (fault : Fault) → IsRead (rdfa_way Html names.standard) bytes → end_of (page_read Html standard bytes) ≡ Err fault → HasFirst (rdfa_way Html names.standard) bytes fault
 unended_so bytes fault read e = end_first (rdfa_way Html names.standard) (refusal_laws names.standard) bytes fault read (finds_only_faults Html standard bytes fault e)
 
-zero_digit : decimal 0 ≡ codes "0"
-zero_digit = decimal_digit 0 (omega arith)
-
-one_digit : decimal 1 ≡ codes "1"
-one_digit = decimal_digit 1 (omega arith)
-
 fourteen : decimal 14 ≡ codes "14"
-fourteen = decimal_step 14 (omega arith) (omega arith) ∙ ap (λ z. z ++ 52 ∷ []) one_digit
+fourteen = decimal_step 14 (omega arith) (omega arith) ∙ ap (λ z. z ++ 52 ∷ []) digit_1
 
 empty_line : refused_line (record { kind = Unended; token = 0; at = 0 }) ≡ codes "refused: Unended at byte 0 in token 0\n"
-empty_line = rw zero_digit refl
+empty_line = rw digit_0 refl
 
 cut_line : refused_line (record { kind = Unended; token = 14; at = 14 }) ≡ codes "refused: Unended at byte 14 in token 14\n"
 cut_line = rw fourteen refl
@@ -152,16 +122,16 @@ nine : decimal 9 ≡ codes "9"
 nine = decimal_digit 9 (omega arith)
 
 twelve : decimal 12 ≡ codes "12"
-twelve = decimal_step 12 (omega arith) (omega arith) ∙ ap (λ z. z ++ 50 ∷ []) one_digit
+twelve = decimal_step 12 (omega arith) (omega arith) ∙ ap (λ z. z ++ 50 ∷ []) digit_1
 
 fifteen : decimal 15 ≡ codes "15"
-fifteen = decimal_step 15 (omega arith) (omega arith) ∙ ap (λ z. z ++ 53 ∷ []) one_digit
+fifteen = decimal_step 15 (omega arith) (omega arith) ∙ ap (λ z. z ++ 53 ∷ []) digit_1
 
 mismatch_line : refused_line mismatched ≡ codes "refused: Mismatch at byte 12 in token 9\n"
 mismatch_line = rw (twelve, nine) refl
 
 relative_line : refused_line relative ≡ codes "refused: RelativeVocab at byte 15 in token 0\n"
-relative_line = rw (fifteen, zero_digit) refl
+relative_line = rw (fifteen, digit_0) refl
 
 pub mismatch : Row check_words (file (codes "<html><b></i></b></html>")) (status.Refused (record { kind = Mismatch; token = 9; at = 12 })) [] (codes "refused: Mismatch at byte 12 in token 9\n")
 mismatch =
@@ -173,14 +143,14 @@ relative_vocab =
 
 pub rows_are_answered : RowsAreAnswered
 rows_are_answered = record {
-  no_words = no_words;
-  no_page_named = no_page_named;
-  no_task = no_task;
-  no_address = no_address;
-  twice_an_option = twice_an_option;
-  no_items = no_items;
-  too_many_items = too_many_items;
-  no_page = no_page;
+  no_words = nothing_asked;
+  no_page_named = nothing_asked;
+  no_task = nothing_asked;
+  no_address = nothing_asked;
+  twice_an_option = nothing_asked;
+  no_items = nothing_asked;
+  too_many_items = nothing_asked;
+  no_page = no_file a_check (inr (tt, refl));
   other_page = other_page;
   no_context_file = no_context_file;
   no_page_beside_context = no_page_beside_context;

@@ -32,10 +32,6 @@ job_of _ asked p = absurd (cc)
 pub page_job : (words : List (List ℕ)) (asked : Asked) → page_asked words ≡ Some asked → job words ≡ Some (reads asked)
 page_job words asked p = job_of (job words) asked p
 
--- a job that reads a page is that of the words
-pub asks_page : (words : List (List ℕ)) (j : CodeJob) → job words ≡ Some (asked_by j) → ReadsPage j → page_asked words ≡ Some (page_by j)
-asks_page words j e r = ap page_in (e ∙ ap Some r.asks)
-
 -- ---- a sample
 
 no_reading : (asked : Option Asked) (count : ℕ) → option_map reads asked ≡ Some (samples count) → ⊥
@@ -95,29 +91,24 @@ pub not_lack : (asked : Asked) (bytes : List ℕ) (x : ShelfContent) → HasCont
 not_lack asked bytes x c f (inl l) = not_missing asked.context x c l
 not_lack asked bytes x c f (inr l) = there _ bytes f l.1
 
-pub meets : (words : List (List ℕ)) (told : Option ShelfContent) (k : Option Job) (fact : Option Job → ShelfContent → Type 0) → job words ≡ k → TellsThat (fact k) told → Meets fact words told
-meets words None k fact e h = absurd h
-meets words (Some t) k fact e h = record { shelf = t; tells = refl; holds = subst (λ z. fact z t) (sym e) h }
-
-pub read_cause : (words : List (List ℕ)) (told : Option ShelfContent) (asked : Asked) (before now : ℕ) → page_asked words ≡ Some asked → Rose before now ⊎ TellsThat (IsLacking asked) told → ReadCause words told before now
-read_cause words told asked before now a (inl rose) = record { asks = ap reads_files (page_job words asked a); cause = inl rose }
-read_cause words told asked before now a (inr lacks) = record { asks = ap reads_files (page_job words asked a); cause = inr (meets words told (Some (reads asked)) JobLacks (page_job words asked a) lacks) }
+pub read_cause : (words : List (List ℕ)) (told : Option ShelfContent) (k : Option Job) (before now : ℕ) → job words ≡ k → reads_files k ≡ true → Rose before now ⊎ TellsThat (JobLacks k) told → ReadCause words told before now
+read_cause words told k before now j asks (inl rose) = record { asks = ap reads_files j ∙ asks; cause = inl rose }
+read_cause words None k before now j asks (inr lacks) = absurd lacks
+read_cause words (Some t) k before now j asks (inr lacks) = record { asks = ap reads_files j ∙ asks; cause = inr (record { shelf = t; tells = refl; holds = subst (λ z. JobLacks z t) (sym j) lacks }) }
 
 -- ---- how much was taken
 
-pub reads_all : (words : List (List ℕ)) (asked : Asked) (found : Outcome) (told now : Option ShelfContent) → page_asked words ≡ Some asked → WhereKnown (JobText asked found) told now → WhereKnown (ReadsAll (job words)) told now
+pub reads_all : (words : List (List ℕ)) (asked : Asked) (found : Outcome) (told now : Option ShelfContent) → job words ≡ Some (reads asked) → WhereKnown (JobText asked found) told now → WhereKnown (ReadsAll (job words)) told now
 reads_all words asked text told now a m =
-    subst (λ k. WhereKnown (ReadsAll k) told now) (sym (page_job words asked a)) (moves_weaker (ReadsAll (Some (reads asked))) (λ x y j. record { starts = j.starts; left = j.page.left }) m)
+    subst (λ k. WhereKnown (ReadsAll k) told now) (sym a) (moves_weaker (ReadsAll (Some (reads asked))) (λ x y j. record { starts = j.starts; left = j.page.left }) m)
 
 -- a sample reads no file
 pub sample_reads_all : (words : List (List ℕ)) (count : ℕ) (told : Option ShelfContent) → job words ≡ Some (samples count) → WhereKnown (ReadsAll (job words)) told told
 sample_reads_all words count told j = subst (λ k. WhereKnown (ReadsAll k) told told) (sym j) (moves_same (ReadsAll (Some (samples count))) (λ x. record { starts = omega arith; left = tt }) told)
 
-pub to_fault : (words : List (List ℕ)) (asked : Asked) (fault : Fault) (old new : Option ShelfContent) → page_asked words ≡ Some asked → WhereKnown (JobRefused asked fault) old new → WhereKnown (TakesToFault (page_asked words) fault) old new
-to_fault words asked fault old new a m = subst (λ k. WhereKnown (TakesToFault k fault) old new) (sym a) (moves_weaker (TakesToFault (Some asked) fault) (λ x y j. j.reads) m)
-
-pub takes_files : (words : List (List ℕ)) (asked : Asked) (old new : Option ShelfContent) → page_asked words ≡ Some asked → WhereKnown (TakesFiles (Some asked)) old new → WhereKnown (TakesJob (job words)) old new
-takes_files words asked old new a m = subst (λ k. WhereKnown (TakesJob k) old new) (sym (page_job words asked a)) m
+pub to_fault : (words : List (List ℕ)) (asked : Asked) (fault same : Fault) (old new : Option ShelfContent) → job words ≡ Some (reads asked) → fault ≡ same → WhereKnown (JobRefused asked fault) old new → WhereKnown (TakesToFault (page_asked words) same) old new
+to_fault words asked fault same old new a e m =
+    subst (λ k. WhereKnown (TakesToFault (page_in k) same) old new) (sym a) (subst (λ f. WhereKnown (TakesToFault (Some asked) f) old new) e (moves_weaker (TakesToFault (Some asked) fault) (λ x y j. j.reads) m))
 
 no_file_taken : (asked : Option Asked) (x : ShelfContent) → TakesFiles asked x x
 no_file_taken asked x = record { files = refl; size = omega arith; most = omega arith; starts = omega arith }
@@ -130,21 +121,3 @@ none_taken _ x = no_file_taken None x
 -- nothing was read
 pub took_nothing : (words : List (List ℕ)) (told : Option ShelfContent) → WhereKnown (TakesJob (job words)) told told
 took_nothing words told = moves_same (TakesJob (job words)) (λ x. none_taken (job words) x) told
-
-pub stops_cleanly : (words : List (List ℕ)) (asked : Asked) (old new : Option ShelfContent) → page_asked words ≡ Some asked → WhereKnown (StopsCleanly (Some asked)) old new → WhereKnown (StopsCleanly (page_asked words)) old new
-stops_cleanly words asked old new a m = subst (λ k. WhereKnown (StopsCleanly k) old new) (sym a) m
-
--- ---- where the page was not read
-
-module _ (words : List (List ℕ)) (told : Option ShelfContent) (asked : Asked) (a : page_asked words ≡ Some asked) where
-  its_context : context_asked words ≡ asked.context
-  its_context = ap context_in (page_job words asked a)
-
-  pub names_context : is_some asked.context ≡ true → is_some (context_asked words) ≡ true
-  names_context n = ap is_some its_context ∙ n
-
-  pub takes_context : (now : Option ShelfContent) → WhereKnown (TakesContext asked.context) told now → WhereKnown (TakesContext (context_asked words)) told now
-  takes_context now m = subst (λ k. WhereKnown (TakesContext k) told now) (sym its_context) m
-
-  pub no_gathering_asked : gathering_asked words ≡ None
-  no_gathering_asked = ap gathering_in (page_job words asked a)

@@ -41,10 +41,10 @@ one_cut = codes "<!DOCTYPE html>\n<html vocab=\"http://schema.org/\">\n<body typ
 
 -- ---- numbers
 
-digit_0 : decimal 0 ≡ codes "0"
+pub digit_0 : decimal 0 ≡ codes "0"
 digit_0 = decimal_digit 0 (omega arith)
 
-digit_1 : decimal 1 ≡ codes "1"
+pub digit_1 : decimal 1 ≡ codes "1"
 digit_1 = decimal_digit 1 (omega arith)
 
 digit_3 : decimal 3 ≡ codes "3"

@@ -10,9 +10,9 @@ use Rattle.rx_chars.specs.declared.syntax.Syntax.{Syntax}
 use Rattle.rx_many.specs.Pages.{Page}
 use Rattle.rx_many.specs.Writing.{gathered}
 use Rattle.rx_many.specs.Dataset.{DenotesPages}
-use Rattle.rx_job.specs.Words.{Gathering, Listed, gathers, samples, job, page_in, page_asked}
-use Rattle.rx_command.specs.Contexts.{HasContext, HasOther, LacksContext, TakesContext, context_in, context_asked}
-use Rattle.rx_command.specs.Outcome.{LacksPage, LacksOne, JobLacks, LacksFile}
+use Rattle.rx_job.specs.Words.{Gathering, Job, Listed, gathers, samples, page_in}
+use Rattle.rx_command.specs.Contexts.{HasContext, HasOther, LacksContext, TakesContext, context_in}
+use Rattle.rx_command.specs.Outcome.{LacksPage, LacksOne, JobLacks}
 use Rattle.rx_command.specs.Gathering.{FileList, GivesTriples, JudgesEach, IsGathered, DenotesGathered, HasPages, TakesGathering, GathersPages}
 use Rattle.rx_command.specs.Inputs.{TellsThat, WhereTold}
 use Rattle.rx_command.specs.declared.statuses.Status.{Status}
@@ -20,7 +20,7 @@ use Rattle.rx_command.specs.declared.statuses.Status.TheVariants as status
 use Rattle.rx_command.specs.Runs.{Devices, EndsAs, SaysAs, GatheringEnds, ReadCause, TakesJob, StopsCleanly, StartsEach, ReadsAll, Says, SaysNothing, reads_files, context_line}
 use Rattle.rx_command.proofs.InputLemmas.{has_context}
 use Rattle.rx_command.proofs.GatheringLemmas.{judged_graphs}
-use Rattle.rx_command.proofs.RunLemmas.{there, not_other, not_missing, meets}
+use Rattle.rx_command.proofs.RunLemmas.{there, not_other, not_missing}
 
 -- ---- how it ends
 
@@ -103,59 +103,45 @@ ends_unsaid old new _ e b = e
 
 -- ---- the run
 
-module _ (words : List (List ℕ)) (g : Gathering) (j : job words ≡ Some (gathers g)) (s : Status) (old new : Devices) (e : GatheringEnds g s old new) where
-  no_page : page_asked words ≡ None
-  no_page = ap page_in j
+-- what a run for several pages says of what is asked for
+pub record SeveralSays (k : Option Job) (s : Status) (old new : Devices) : Type 0 where
+  pub no_usage : s ≢ status.Usage
+  pub no_refusal : (fault : Fault) → s ≢ status.Refused fault
+  pub asks : k ≢ None
+  pub no_sample : (count : ℕ) → k ≢ Some (samples count)
+  pub reads : WhereKnown (TakesJob k) old.told new.told
+  pub whole : s ≡ status.Done → WhereKnown (ReadsAll k) old.told new.told
+  pub cleanly : WhereKnown (StopsCleanly (page_in k)) old.told new.told
+  pub files : reads_files k ≡ true
+  pub failed : s ≡ status.ReadFault → Rose old.read_faults new.read_faults ⊎ TellsThat (JobLacks k) old.told
+  pub write_fault : s ≡ status.WriteFault → Rose old.write_faults new.write_faults
+  pub unwritten : s ≢ status.Done → s ≢ status.WriteFault → WhereKnown Stays old.held new.held
+  pub names_context : s ≡ status.BadContext → is_some (context_in k) ≡ true
+  pub takes_context : s ≡ status.BadContext → WhereKnown (TakesContext (context_in k)) old.told new.told
+  pub says_context : s ≡ status.BadContext → Says context_line old.said new.said old.say_faults new.say_faults
+  pub says_nothing : s ≢ status.BadContext → SaysNothing old.said new.said old.say_faults new.say_faults
 
-  its_context : context_asked words ≡ g.context
-  its_context = ap context_in j
+of_gathering : (g : Gathering) (s : Status) (old new : Devices) → GatheringEnds g s old new → SeveralSays (Some (gathers g)) s old new
+of_gathering g s old new e = record {
+  no_usage = ends_at status.Usage;
+  no_refusal = λ fault. ends_at (status.Refused fault);
+  asks = λ none. cc;
+  no_sample = λ count is. cc;
+  reads = e.takes;
+  whole = λ is. moves_weaker (ReadsAll (Some (gathers g))) (λ x y starts. record { starts = starts; left = tt }) (ends_at status.Done is).4;
+  cleanly = moves_weaker (StopsCleanly None) (λ x y t. tt) e.takes;
+  files = refl;
+  failed = λ is. (ends_at status.ReadFault is).0;
+  write_fault = λ is. (ends_at status.WriteFault is).3;
+  unwritten = ends_unwritten g old new s e.ends;
+  names_context = λ is. (ends_at status.BadContext is).0;
+  takes_context = λ is. (ends_at status.BadContext is).2;
+  says_context = λ is. subst (λ (z : Status). SaysAs z old new) is e.says;
+  says_nothing = ends_unsaid old new s e.says;
+}
+  where
+    ends_at : (t : Status) → s ≡ t → EndsAs g t old new
+    ends_at t is = subst (λ (z : Status). EndsAs g z old new) is e.ends
 
-  ends_at : (k : Status) → s ≡ k → EndsAs g k old new
-  ends_at k is = subst (λ (z : Status). EndsAs g z old new) is e.ends
-
-  pub never_usage : s ≡ status.Usage → ⊥
-  never_usage is = ends_at status.Usage is
-
-  pub never_refused : (fault : Fault) → s ≡ status.Refused fault → ⊥
-  never_refused fault is = ends_at (status.Refused fault) is
-
-  pub never_nothing : job words ≡ None → ⊥
-  never_nothing none = let both : None ≡ Some (gathers g) = sym none ∙ j in absurd (cc)
-
-  pub never_sample : (count : ℕ) → job words ≡ Some (samples count) → ⊥
-  never_sample count is = let both : Some (samples count) ≡ Some (gathers g) = sym is ∙ j in absurd (cc)
-
-  pub several_reads_all : s ≡ status.Done → WhereKnown (ReadsAll (job words)) old.told new.told
-  several_reads_all is =
-      subst (λ k. WhereKnown (ReadsAll k) old.told new.told) (sym j) (moves_weaker (ReadsAll (Some (gathers g))) (λ x y e. record { starts = e; left = tt }) (ends_at status.Done is).4)
-
-  pub several_cleanly : WhereKnown (StopsCleanly (page_asked words)) old.told new.told
-  several_cleanly = subst (λ k. WhereKnown (StopsCleanly k) old.told new.told) (sym no_page) (moves_weaker (StopsCleanly None) (λ x y t. tt) e.takes)
-
-  cause_of : Rose old.read_faults new.read_faults ⊎ TellsThat (LacksOne g) old.told → Rose old.read_faults new.read_faults ⊎ LacksFile words old.told
-  cause_of (inl rose) = inl rose
-  cause_of (inr lacks) = inr (meets words old.told (Some (gathers g)) JobLacks j lacks)
-
-  pub several_failed : s ≡ status.ReadFault → ReadCause words old.told old.read_faults new.read_faults
-  several_failed is = let d = ends_at status.ReadFault is in record { asks = ap reads_files j; cause = cause_of d.0 }
-
-  pub several_write_fault : s ≡ status.WriteFault → Rose old.write_faults new.write_faults
-  several_write_fault is = (ends_at status.WriteFault is).3
-
-  pub several_unwritten : s ≢ status.Done → s ≢ status.WriteFault → WhereKnown Stays old.held new.held
-  several_unwritten d w = ends_unwritten g old new s e.ends d w
-
-  pub several_name_context : s ≡ status.BadContext → is_some (context_asked words) ≡ true
-  several_name_context is = ap is_some its_context ∙ (ends_at status.BadContext is).0
-
-  pub several_take_context : s ≡ status.BadContext → WhereKnown (TakesContext (context_asked words)) old.told new.told
-  several_take_context is = subst (λ k. WhereKnown (TakesContext k) old.told new.told) (sym its_context) (ends_at status.BadContext is).2
-
-  pub several_say_context : s ≡ status.BadContext → Says context_line old.said new.said old.say_faults new.say_faults
-  several_say_context is = subst (λ (z : Status). SaysAs z old new) is e.says
-
-  pub several_say_nothing : s ≢ status.BadContext → SaysNothing old.said new.said old.say_faults new.say_faults
-  several_say_nothing b = ends_unsaid old new s e.says b
-
-  pub several_take : WhereKnown (TakesJob (job words)) old.told new.told
-  several_take = subst (λ k. WhereKnown (TakesJob k) old.told new.told) (sym j) e.takes
+pub several_says : (k : Option Job) (g : Gathering) (s : Status) (old new : Devices) → k ≡ Some (gathers g) → GatheringEnds g s old new → SeveralSays k s old new
+several_says k g s old new j e = subst (λ z. SeveralSays z s old new) (sym j) (of_gathering g s old new e)

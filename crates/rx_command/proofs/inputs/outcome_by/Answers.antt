@@ -15,7 +15,7 @@ use Rattle.rx_command.specs.Reading.{page_limit, ReadsClean}
 use Rattle.rx_page.specs.Tasks.{way_in}
 use Rattle.rx_command.specs.Inputs.{PageText, PageRefused, JobRefused}
 use Rattle.rx_command.specs.Runs.{TakesFiles, StopsCleanly}
-use Rattle.rx_command.proofs.InputLemmas.{takes_both, if_job, job_refused, page_failed, page_stops, for_itemization, standard_stays}
+use Rattle.rx_command.proofs.InputLemmas.{takes_both, if_job, job_refused, page_failed, page_stops, for_task, standard_stays}
 use Rattle.rx_command.proofs.inputs.outcome_by.Goals as goal
 
 abbrev asked_for : Syntax → Chars → Chars → Asked
@@ -26,16 +26,16 @@ returns-in_ok-address-in-Items-clause-ok g c =
     let asked : Asked = page_by c.args.job.now in
     let i : Itemization = record { syntax = c.in-Items.syntax; address = c.in_ok-address-in-Items.address } in
     if_job c.itemize.result asked None standard _ _ _ (sym (ap (λ (k : Asked). k.context) (ap page_by c.in-Items.is))) (standard_stays (g.F.Shelf.told c.args.shelf.now))
-    (for_itemization (λ (task : Task) (context : Context) (name : List ℕ). IfOk c.itemize.result (λ outcome. WhereKnown (PageText task context name outcome) (g.F.Shelf.told c.args.shelf.now) (g.F.Shelf.told c.itemize.new.shelf)))
-    asked i c.in-Items.page standard (ap page_by c.in-Items.is ∙ ap (λ address. asked_for c.in-Items.syntax address c.in-Items.page) (sym c.in_ok-address-in-Items.ensures)) (c.itemize.ensures.ok standard))
+    (for_task (λ (task : Task) (context : Context) (name : List ℕ). IfOk c.itemize.result (λ outcome. WhereKnown (PageText task context name outcome) (g.F.Shelf.told c.args.shelf.now) (g.F.Shelf.told c.itemize.new.shelf)))
+    asked (record { task = itemizes i; context = None; page = c.in-Items.page }) standard (ap page_by c.in-Items.is ∙ ap (λ address. asked_for c.in-Items.syntax address c.in-Items.page) (sym c.in_ok-address-in-Items.ensures)) (c.itemize.ensures.ok standard))
 
 pub returns-in_ok-address-in-Items-clause-refused : goal.returns-in_ok-address-in-Items-clause-refused
 returns-in_ok-address-in-Items-clause-refused g c fault is =
     let asked : Asked = page_by c.args.job.now in
     let i : Itemization = record { syntax = c.in-Items.syntax; address = c.in_ok-address-in-Items.address } in
     moves_then (JobRefused asked fault) (λ x y z r p. job_refused asked None standard fault (sym (ap (λ (k : Asked). k.context) (ap page_by c.in-Items.is))) x y z r p) (standard_stays (g.F.Shelf.told c.args.shelf.now))
-    (for_itemization (λ (task : Task) (context : Context) (name : List ℕ). WhereKnown (PageRefused task context name fault) (g.F.Shelf.told c.args.shelf.now) (g.F.Shelf.told c.itemize.new.shelf))
-    asked i c.in-Items.page standard (ap page_by c.in-Items.is ∙ ap (λ address. asked_for c.in-Items.syntax address c.in-Items.page) (sym c.in_ok-address-in-Items.ensures)) (c.itemize.ensures.refused standard fault is))
+    (for_task (λ (task : Task) (context : Context) (name : List ℕ). WhereKnown (PageRefused task context name fault) (g.F.Shelf.told c.args.shelf.now) (g.F.Shelf.told c.itemize.new.shelf))
+    asked (record { task = itemizes i; context = None; page = c.in-Items.page }) standard (ap page_by c.in-Items.is ∙ ap (λ address. asked_for c.in-Items.syntax address c.in-Items.page) (sym c.in_ok-address-in-Items.ensures)) (c.itemize.ensures.refused standard fault is))
 
 pub returns-in_ok-address-in-Items-clause-takes : goal.returns-in_ok-address-in-Items-clause-takes
 returns-in_ok-address-in-Items-clause-takes g c =

@@ -3,7 +3,7 @@ use Rattle.rx_ports.specs.Counts.{Rose}
 use Rattle.rx_ports.specs.Shelves.{WhereKnown, Lacks}
 use Rattle.rx_ports.proofs.MoveLemmas.{moves_weaker, moves_then}
 use Rattle.rx_rdfa.specs.Names.{Context}
-use Rattle.rx_job.specs.Words.{Asked, Task, Extraction}
+use Rattle.rx_job.specs.Words.{Asked, Task, Extraction, checks}
 use Rattle.rx_job.specs.Jobs.{page_by}
 use Rattle.rx_command.specs.Files.{TakesOf}
 use Rattle.rx_nest.specs.Ways.{Way}
@@ -12,7 +12,7 @@ use Rattle.rx_command.specs.Reading.{page_limit, ReadsClean}
 use Rattle.rx_page.specs.Tasks.{way_in}
 use Rattle.rx_command.specs.Inputs.{PageText, PageRefused, JobRefused}
 use Rattle.rx_command.specs.Runs.{TakesFiles, StopsCleanly}
-use Rattle.rx_command.proofs.InputLemmas.{takes_before, takes_both, if_job, job_refused, page_failed, context_stops, page_stops, for_extraction, for_check}
+use Rattle.rx_command.proofs.InputLemmas.{takes_before, takes_both, if_job, job_refused, page_failed, context_stops, page_stops, for_extraction, for_task}
 use Rattle.rx_command.proofs.inputs.outcome_under_context.Goals as goal
 
 pub returns-in-Err-clause-takes : goal.returns-in-Err-clause-takes
@@ -63,15 +63,15 @@ pub returns-in-Check-clause-ok : goal.returns-in-Check-clause-ok
 returns-in-Check-clause-ok g c =
     let asked : Asked = page_by c.args.job.now in
     if_job c.check.result asked _ c.in-Ok.context _ _ _ c.context.ensures c.in-Ok.ensures.ok
-    (for_check (λ (task : Task) (context : Context) (name : List ℕ). IfOk c.check.result (λ outcome. WhereKnown (PageText task context name outcome) (g.F.Shelf.told c.read_context.new.shelf) (g.F.Shelf.told c.check.new.shelf)))
-    asked c.in-Check.syntax c.in-Check.context c.in-Check.page c.in-Ok.context (ap page_by c.in-Check.is) c.check.ensures.ok)
+    (for_task (λ (task : Task) (context : Context) (name : List ℕ). IfOk c.check.result (λ outcome. WhereKnown (PageText task context name outcome) (g.F.Shelf.told c.read_context.new.shelf) (g.F.Shelf.told c.check.new.shelf)))
+    asked (record { task = checks c.in-Check.syntax; context = c.in-Check.context; page = c.in-Check.page }) c.in-Ok.context (ap page_by c.in-Check.is) c.check.ensures.ok)
 
 pub returns-in-Check-clause-refused : goal.returns-in-Check-clause-refused
 returns-in-Check-clause-refused g c fault is =
     let asked : Asked = page_by c.args.job.now in
     moves_then (JobRefused asked fault) (λ x y z r p. job_refused asked _ c.in-Ok.context fault c.context.ensures x y z r p) c.in-Ok.ensures.ok
-    (for_check (λ (task : Task) (context : Context) (name : List ℕ). WhereKnown (PageRefused task context name fault) (g.F.Shelf.told c.read_context.new.shelf) (g.F.Shelf.told c.check.new.shelf))
-    asked c.in-Check.syntax c.in-Check.context c.in-Check.page c.in-Ok.context (ap page_by c.in-Check.is) (c.check.ensures.refused fault is))
+    (for_task (λ (task : Task) (context : Context) (name : List ℕ). WhereKnown (PageRefused task context name fault) (g.F.Shelf.told c.read_context.new.shelf) (g.F.Shelf.told c.check.new.shelf))
+    asked (record { task = checks c.in-Check.syntax; context = c.in-Check.context; page = c.in-Check.page }) c.in-Ok.context (ap page_by c.in-Check.is) (c.check.ensures.refused fault is))
 
 pub returns-in-Check-clause-takes : goal.returns-in-Check-clause-takes
 returns-in-Check-clause-takes g c =
