@@ -1,5 +1,5 @@
 -- Where the elements of one table stand for those of another, visits and JSON are alike.
-use Rattle.std.specs.Prelude.{◌≡◌, ℕ, zero, suc, ⊤, Bool, true, false, not, ◌&&◌, ◌||◌, ◌==◌, nat_lt, nat_le, cond, codes, List, [], ◌∷◌, ◌++◌, map, filter, flat_map, length, Option, Some, None, option_map}
+use Rattle.std.specs.Prelude.{◌≡◌, ℕ, zero, suc, ⊤, Bool, true, false, not, ◌&&◌, ◌||◌, ◌==◌, nat_lt, nat_le, cond, codes, List, [], ◌∷◌, ◌++◌, map, filter, flat_map, Option, Some, None, option_map}
 use Rattle.std.specs.Option.{option_or}
 use Rattle.std.specs.List.{list_any}
 use Rattle.std.proofs.Common.{refl, sym, ap, ◌∙◌}
@@ -13,26 +13,19 @@ use Rattle.rx_microdata.specs.Properties.{is_any}
 use Rattle.rx_microdata.specs.Visits.{Visit, Bounds, is_cycle, items_in, visits_from, visits_by, fault_of, first_fault}
 use Rattle.rx_microdata.specs.Json.{Outcome, Given, refused, string_of, item_of, named, json_of_item, json_by, list_of, outcome_by}
 use Rattle.rx_items.specs.Rows.{needed}
+use Rattle.std.proofs.lemmas.List.{map-append, length-map}
 
 abbrev pub Each : {X : Type 0} → (X → Type 0) → List X → Type 0
 Each P [] = ⊤
 Each P (x ∷ xs) = P x × Each P xs
 
-each_append : {X : Type 0} (P : X → Type 0) (a b : List X) → Each P a → Each P b → Each P (a ++ b)
+pub each_append : {X : Type 0} (P : X → Type 0) (a b : List X) → Each P a → Each P b → Each P (a ++ b)
 each_append P [] b p q = q
 each_append P (x ∷ a) b p q = (p.0, each_append P a b p.1 q)
-
-pub map_append : {X Y : Type 0} (f : X → Y) (a b : List X) → map f (a ++ b) ≡ map f a ++ map f b
-map_append f [] b = refl
-map_append f (x ∷ a) b = ap (λ l. f x ∷ l) (map_append f a b)
 
 map_compose : {X Y Z : Type 0} (f : X → Y) (g : Y → Z) (a : List X) → map g (map f a) ≡ map (λ x. g (f x)) a
 map_compose f g [] = refl
 map_compose f g (x ∷ a) = ap (λ l. g (f x) ∷ l) (map_compose f g a)
-
-length_map : {X Y : Type 0} (f : X → Y) (a : List X) → length (map f a) ≡ length a
-length_map f [] = refl
-length_map f (x ∷ a) = ap suc (length_map f a)
 
 abbrev chosen : Bool → Data → Data → Data
 chosen b nested plain = elim b as (λ nested. Data) [ true ↦ nested | false ↦ plain ]
@@ -120,7 +113,7 @@ module _ (place past : Placed → ℕ) (scope : Placed → Option ℕ) where
             ≡ map moved (flat_map each_name (cond b (x ∷ filter is_item ps) (filter is_item ps)))
         by true h =
             let head = sym (map_compose (λ (name : Chars). x) moved (names_of x)) in
-            (λ i. head i ++ h i) ∙ sym (map_append moved (each_name x) (items_in ps))
+            (λ i. head i ++ h i) ∙ sym (map-append moved (each_name x) (items_in ps))
         by false h = h
 
     const_good : (x : Placed) (names : List Chars) → Item Good x → Each (Item Good) (map (λ (name : Chars). x) names)
@@ -148,7 +141,7 @@ module _ (place past : Placed → ℕ) (scope : Placed → Option ℕ) where
     flat_alike left path (x ∷ xs) g same =
         let head = same x g.0 in
         let rest = flat_alike left path xs g.1 same in
-        (λ i. head i ++ rest i) ∙ sym (map_append (map moved) (visits_from from left path x) (flat_map (visits_from from left path) xs))
+        (λ i. head i ++ rest i) ∙ sym (map-append (map moved) (visits_from from left path x) (flat_map (visits_from from left path) xs))
 
     onward_alike : (left : ℕ) (above : Visit) (root : Placed) → Item Good root → (b : Bool)
         → ((e : Placed) → Item Good e → visits_from to left (map moved (root ∷ above)) (moved e) ≡ map (map moved) (visits_from from left (root ∷ above) e))
@@ -188,7 +181,7 @@ module _ (place past : Placed → ℕ) (scope : Placed → Option ℕ) where
     fault_alike : (bounds : Bounds) (before : ℕ) (visit : Visit) → Each Good visit → fault_of bounds before (map moved visit) ≡ fault_of bounds before visit
     fault_alike bounds before visit g =
         let c = cycle_alike visit g in
-        let l = length_map moved visit in
+        let l = length-map visit moved in
         λ i. cond (c i) (Some Cycle) (cond (nat_lt bounds.nested (l i)) (Some ItemsTooNested) (cond (nat_le bounds.visits before) (Some ItemsTooMany) None))
 
     first_alike : (bounds : Bounds) (before : ℕ) (visits : List Visit) → Each (Each Good) visits

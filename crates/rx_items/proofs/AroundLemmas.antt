@@ -1,5 +1,5 @@
 -- The rows of a page lie in each other: by their scopes, and by the items around them.
-use Rattle.std.proofs.Common.{◌≡◌, ◌∙◌, ◌+◌, ◌<◌, ℕ, zero, suc, Bool, true, false, cond, List, [], ◌∷◌, ◌++◌, Contains, Option, Some, None, refl, sym, ap, subst, arith}
+use Rattle.std.proofs.Common.{◌≡◌, ◌∙◌, ◌+◌, ◌<◌, ℕ, suc, Bool, true, false, cond, List, ◌∷◌, ◌++◌, Contains, Option, Some, None, refl, sym, ap, subst, arith}
 use Rattle.std.specs.Prelude.{slice_get}
 use mathlib.Core.Logic.{◌⊎◌, inl, inr}
 use Rattle.std.proofs.lemmas.List.Elements.{Contains-append_left, Contains-append_right}
@@ -11,13 +11,14 @@ use Rattle.rx_microdata.specs.Elements.{Placed, is_item, scope_in}
 use Rattle.rx_microdata.specs.Laws.{is_before}
 use Rattle.rx_microdata.proofs.Lists.{first, later}
 use Rattle.rx_items.specs.Rows.{matters, behind, row_count, rows_from, rows_of, with_row}
-use Rattle.rx_items.specs.Showing.{ShowsRow, ShowsRows}
+use Rattle.rx_items.specs.Showing.{ShowsRows}
 use Rattle.rx_items.specs.declared.rows.Row.{Row}
-use Rattle.rx_items.proofs.Alike.{Each}
+use Rattle.rx_items.proofs.Alike.{Each, each_append}
 use Rattle.rx_items.specs.Lying.{Lies}
 use Rattle.rx_items.proofs.HoldLemmas.{place_is}
-use Rattle.rx_items.proofs.NestLemmas.{Fits, before_more, each_append, each_both, each_by, laid, not_item, numbered, row_at, scope_before, scope_none}
+use Rattle.rx_items.proofs.NestLemmas.{Fits, before_more, each_both, each_by, laid, not_item, numbered, row_at, scope_before, scope_none}
 use Rattle.rx_items.proofs.StartLemmas.{each_at, nests_at}
+use Rattle.rx_items.proofs.ShowLemmas.{shown_by, row_of}
 
 -- an item that is the nearest one around a row, and in which the row is
 pub record IsAround (e item : Placed) : Type 0 where
@@ -108,22 +109,6 @@ item_around tree j k e there scope_is = by (each_at (HasAround None (rows_of tre
         let low = a.2.low in
         let high = a.2.high in
         (item, ap (slice_get (rows_of tree)) (sym at ∙ index) ∙ found, a.2.begins, omega (arith, at, here, low), omega (arith, here, high))
-
--- what a row shows, and what shows it
-module _ (words gathered : Chars) (times : List Chars) where
-  shown_by : (rows : List Row) (ps : List Placed) (i : ℕ) (row : Row) → ShowsRows words gathered times rows ps → slice_get rows i ≡ Some row
-      → (p : Placed) × (slice_get ps i ≡ Some p) × ShowsRow words gathered times row p
-  shown_by [] ps i row s g = absurd (cc (g))
-  shown_by (r ∷ rows) [] i row s g = absurd s
-  shown_by (r ∷ rows) (p ∷ ps) zero row s g = let same : r ≡ row = cc (g) in (p, refl, subst (λ (x : Row). ShowsRow words gathered times x p) same s.0)
-  shown_by (r ∷ rows) (p ∷ ps) (suc i) row s g = shown_by rows ps i row s.1 g
-
-  row_of : (rows : List Row) (ps : List Placed) (i : ℕ) (p : Placed) → ShowsRows words gathered times rows ps → slice_get ps i ≡ Some p
-      → (row : Row) × (slice_get rows i ≡ Some row) × ShowsRow words gathered times row p
-  row_of rows [] i p s g = absurd (cc (g))
-  row_of [] (q ∷ ps) i p s g = absurd s
-  row_of (r ∷ rows) (q ∷ ps) zero p s g = let same : q ≡ p = cc (g) in (r, refl, subst (λ (x : Placed). ShowsRow words gathered times r x) same s.0)
-  row_of (r ∷ rows) (q ∷ ps) (suc i) p s g = row_of rows ps i p s.1 g
 
 pub lies : (words gathered : Chars) (times : List Chars) (rows : List Row) (tree : Tree) → ShowsRows words gathered times rows (rows_of tree) → Lies rows
 lies words gathered times rows tree s = record {

@@ -1,5 +1,5 @@
 -- What stands beside a table's rows, one after another.
-use Rattle.std.proofs.Common.{◌≡◌, ◌∙◌, ◌+◌, ◌≤◌, ℕ, zero, suc, Bool, true, false, List, [], ◌∷◌, ◌++◌, length, Contains, ◌↔◌, Option, Some, None, option_map, refl, sym, ap, subst, arith}
+use Rattle.std.proofs.Common.{◌≡◌, ◌∙◌, ◌+◌, ◌≤◌, ℕ, zero, suc, true, false, List, [], ◌∷◌, ◌++◌, length, Contains, ◌↔◌, Option, Some, None, option_map, refl, sym, ap, subst, arith}
 use Rattle.std.specs.Prelude.{filter_map, slice_get, unwrap_or}
 use mathlib.Core.Logic.{◌⊎◌, inl, inr}
 use Rattle.std.proofs.lemmas.List.{length-append}
@@ -21,12 +21,10 @@ use Rattle.rx_items.specs.declared.kept.Run.{Run}
 use Rattle.rx_items.proofs.NestLemmas.{numbered}
 use Rattle.rx_items.proofs.PropertyLemmas.{properties_are}
 use Rattle.rx_items.proofs.ReachLemmas.{reach_alone}
+use Rattle.rx_terms.proofs.Bools.{not_both_ways}
 
-pub same_there : (ps : List Placed) (i : ℕ) (a b : Placed) → slice_get ps i ≡ Some a → slice_get ps i ≡ Some b → a ≡ b
-same_there ps i a b e f = let found : Some a ≡ Some b = sym e ∙ f in cc (found)
-
-pub same_row : (rows : List Row) (i : ℕ) (a b : Row) → slice_get rows i ≡ Some a → slice_get rows i ≡ Some b → a ≡ b
-same_row rows i a b e f = let found : Some a ≡ Some b = sym e ∙ f in cc (found)
+pub same_there : {X : Type 0} (xs : List X) (i : ℕ) (a b : X) → slice_get xs i ≡ Some a → slice_get xs i ≡ Some b → a ≡ b
+same_there xs i a b e f = let found : Some a ≡ Some b = sym e ∙ f in cc (found)
 
 at_end : (xs : List BesideRow) (x d : BesideRow) (i : ℕ) → slice_get (xs ++ x ∷ []) i ≡ Some d → slice_get xs i ≡ Some d ⊎ ((i ≡ length xs) × (x ≡ d))
 at_end [] x d zero g = inr (refl, cc (g))
@@ -66,7 +64,7 @@ pub fits_by : (words text : Chars) (times : List Chars) (ps : List Placed) (memb
     → AreTokens words (types_in row.head.words) (types_beside x) (distinct_tokens (unwrap_or s.itemtype []))
     → (is_item p ≡ true → Reaches ps members place (runs_beside x) p) → Builds words ps members rows place x
 fits_by words text times ps members rows place row p x row_is there s names types reach = λ row2 p2 row2_is there2.
-    subst (λ (r : Row). Fits words ps members place r p2 x) (same_row rows place row row2 row_is row2_is)
+    subst (λ (r : Row). Fits words ps members place r p2 x) (same_there rows place row row2 row_is row2_is)
     (subst (λ (q : Placed). Fits words ps members place row q x) (same_there ps place p p2 there there2) (record {
       names = subst (AreTokens words (names_in row.head.words) (names_beside x)) (sym (ap (λ (o : Option (List Chars)). unwrap_or o []) s.names ∙ named s.itemprop)) names;
       types = subst (AreTokens words (types_in row.head.words) (types_beside x)) (sym s.types) types;
@@ -79,11 +77,7 @@ pub fits_plain : (words text : Chars) (times : List Chars) (ps : List Placed) (m
     → AreTokens words (types_in row.head.words) (types_beside x) (distinct_tokens (unwrap_or s.itemtype []))
     → row.head.is_item ≡ false → Builds words ps members rows place x
 fits_plain words text times ps members rows place row p x row_is there s names types plain =
-    fits_by words text times ps members rows place row p x row_is there s names types (λ item. absurd (clash row.head.is_item (s.is_item ∙ item) plain))
-  where
-    clash : (b : Bool) → b ≡ true → b ≡ false → ⊥
-    clash true e f = cc (f)
-    clash false e f = cc (e)
+    fits_by words text times ps members rows place row p x row_is there s names types (λ item. absurd (not_both_ways row.head.is_item (s.is_item ∙ item) plain))
 
 pub fits_there : (words text : Chars) (times : List Chars) (ps : List Placed) (members : List ℕ) (rows : List Row) (place : ℕ) (row : Row) (p : Placed) (x : BesideRow)
     → slice_get rows place ≡ Some row → slice_get ps place ≡ Some p → (s : ShowsRow words text times row p)

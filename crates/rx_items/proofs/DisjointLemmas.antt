@@ -139,12 +139,7 @@ before_it low end run p rises before = by (nat_le run.to (max run.from end)) bef
 
 covers_all : (low end : ℕ) (runs : List Run) (p : ℕ) → RisesFrom low runs → Covered runs p → Covered (unshared end runs) p ⊎ Before low end p
 covers_all low end [] p rises c = absurd c
-covers_all low end (run ∷ runs) p rises (inl w) = in_front (here low end run p rises.0 w)
-  where
-    in_front : Covered (rest_of end run) p ⊎ Before low end p → Covered (rest_of end run ++ unshared (end_of end run) runs) p ⊎ Before low end p
-    in_front (inl d) = inl (covered_left (rest_of end run) (unshared (end_of end run) runs) p d)
-    in_front (inr d) = inr d
-covers_all low end (run ∷ runs) p rises (inr c) = by (covers_all run.from (end_of end run) runs p rises.1 c)
+covers_all low end (run ∷ runs) p rises c = go (covers_all run.from (end_of end run) runs p rises.1) c
   where
     in_front : Covered (rest_of end run) p ⊎ Before low end p → Covered (rest_of end run ++ unshared (end_of end run) runs) p ⊎ Before low end p
     in_front (inl d) = inl (covered_left (rest_of end run) (unshared (end_of end run) runs) p d)
@@ -153,6 +148,10 @@ covers_all low end (run ∷ runs) p rises (inr c) = by (covers_all run.from (end
     by : Covered (unshared (end_of end run) runs) p ⊎ Before run.from (end_of end run) p → Covered (rest_of end run ++ unshared (end_of end run) runs) p ⊎ Before low end p
     by (inl d) = inl (covered_right (rest_of end run) (unshared (end_of end run) runs) p d)
     by (inr d) = in_front (before_it low end run p rises.0 d)
+
+    go : (Covered runs p → Covered (unshared (end_of end run) runs) p ⊎ Before run.from (end_of end run) p) → Within run p ⊎ Covered runs p → Covered (rest_of end run ++ unshared (end_of end run) runs) p ⊎ Before low end p
+    go ih (inl w) = in_front (here low end run p rises.0 w)
+    go ih (inr c) = by (ih c)
 
 pub same_members : (runs sorted list : List Run) → IsPermutation runs sorted → IsNonDecreasingBy (λ (run : Run). run.from) sorted → list ≡ unshared 0 sorted
     → (members : List ℕ) (x : ℕ) → Contains (in_runs members list) x ↔ Contains (in_runs members runs) x

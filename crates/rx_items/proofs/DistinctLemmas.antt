@@ -1,20 +1,11 @@
 -- The tokens of a text, each once, with a set of those that were seen.
 use Rattle.std.proofs.Common.{◌≡◌, ◌∙◌, refl, sym, ap, ℕ, Bool, true, false, not, ◌||◌, cond, List, [], ◌∷◌, ◌++◌, append_assoc}
-use Rattle.std.proofs.lemmas.Map.Text.{is_eq-slice_cmp}
-use Rattle.std.specs.Ordering.{is_eq, nat_cmp}
-use Rattle.std.specs.Cmp.Lexicographic.{slice_cmp, nat_list_eq_equiv}
+use Rattle.std.specs.Cmp.Lexicographic.{nat_list_eq_equiv}
 use Rattle.std.specs.Str.{chars, IsUtf8}
 use Rattle.rx_terms.specs.Text.{Chars}
 use Rattle.rx_terms.proofs.CharLemmas.{same-chars}
 use Rattle.rx_grammar.specs.Names.{same, is_among}
 use Rattle.rx_microdata.specs.Facts.{without_repeats_of}
-
-or_is : (b d : Bool) → cond b true d ≡ (b || d)
-or_is true d = refl
-or_is false d = refl
-
-pub text_added : (name text : List ℕ) (before : Bool) → cond (is_eq (slice_cmp nat_cmp name text)) true before ≡ (same name text || before)
-text_added name text before = ap (λ b. cond b true before) (is_eq-slice_cmp name text) ∙ or_is (same name text) before
 
 -- the set has the texts of a list
 pub record Sees (has : List ℕ → Bool) (seen : List Chars) : Type 0 where

@@ -1,5 +1,5 @@
 -- What the visits of a page come to, step by step.
-use Rattle.std.proofs.Common.{◌≡◌, ◌∙◌, ◌+◌, ℕ, suc, Bool, true, false, ◌==◌, ◌||◌, cond, List, [], ◌∷◌, ◌++◌, map, filter, length, Option, Some, None, option_map, refl, sym, ap, subst, arith, nat_lt, append_assoc}
+use Rattle.std.proofs.Common.{◌≡◌, ◌∙◌, ◌+◌, ℕ, suc, Bool, true, false, ◌==◌, ◌||◌, cond, List, [], ◌∷◌, ◌++◌, map, filter, length, Option, Some, None, option_map, refl, sym, ap, subst, arith, nat_lt}
 use Rattle.std.specs.Prelude.{flat_map, nat_le}
 use Rattle.std.specs.List.{list_any}
 use Rattle.std.specs.Option.{option_or}
@@ -12,6 +12,7 @@ use Rattle.rx_microdata.specs.Elements.{Placed, is_item, names_of}
 use Rattle.rx_microdata.specs.Visits.{Visit, Bounds, visits_from, standard_bounds, fault_of, first_fault, items_in}
 use Rattle.rx_items.specs.Rows.{properties_in}
 use Rattle.rx_items.specs.Expanding.{path_of, kind_of, NoFault, FaultIs, Step, with_name, steps_of, steps_in, visits_of, visits_in}
+use Rattle.std.proofs.lemmas.Grind.{flat_map-append}
 
 -- ---- faults in a row
 
@@ -89,14 +90,10 @@ fault_is before above root =
 
 -- ---- steps
 
-pub flat_append : {X Y : Type 0} (f : X → List Y) (xs ys : List X) → flat_map f (xs ++ ys) ≡ flat_map f xs ++ flat_map f ys
-flat_append {X} {Y} f [] ys = refl
-flat_append {X} {Y} f (x ∷ xs) ys = ap (λ (l : List Y). f x ++ l) (flat_append f xs ys) ∙ sym (append_assoc (f x) (flat_map f xs) (flat_map f ys))
-
 module _ (rows : List Placed) (base : Chars) (above : Visit) (left : ℕ) where
   pub fault_stays : (start : ℕ) (done more : List Step) (fault : Fault) → FaultIs start (visits_in rows base above left done) fault → FaultIs start (visits_in rows base above left (done ++ more)) fault
   fault_stays start done more fault f =
-      subst (λ (vs : List Visit). FaultIs start vs fault) (sym (flat_append (λ (s : Step). visits_of rows base above left s.element) done more))
+      subst (λ (vs : List Visit). FaultIs start vs fault) (sym (flat_map-append (λ (s : Step). visits_of rows base above left s.element) done more))
       (fault_then start (visits_in rows base above left done) (visits_in rows base above left more) fault f)
 
   -- ---- what the definitions go by is what the steps go by
@@ -118,13 +115,13 @@ module _ (rows : List Placed) (base : Chars) (above : Visit) (left : ℕ) where
 
   pub steps_visits : (es : List Placed) → visits_in rows base above left (steps_in es) ≡ flat_map (visits_from (properties_in rows) (suc left) above) (items_in es)
   steps_visits [] = refl
-  steps_visits (e ∷ es) = flat_append (λ (s : Step). visits_of rows base above left s.element) (steps_of e) (steps_in es) ∙ by (is_item e) refl (steps_visits es)
+  steps_visits (e ∷ es) = flat_map-append (λ (s : Step). visits_of rows base above left s.element) (steps_of e) (steps_in es) ∙ by (is_item e) refl (steps_visits es)
     where
       by : (b : Bool) → is_item e ≡ b → visits_in rows base above left (steps_in es) ≡ flat_map (visits_from (properties_in rows) (suc left) above) (items_in es)
           → visits_in rows base above left (steps_of e) ++ visits_in rows base above left (steps_in es)
           ≡ flat_map (visits_from (properties_in rows) (suc left) above) (items_in (e ∷ es))
       by true item ih =
           (λ i. item_visits e (names_of e) item i ++ ih i)
-          ∙ sym (flat_append (visits_from (properties_in rows) (suc left) above) (map (λ (name : Chars). e) (names_of e)) (items_in es))
+          ∙ sym (flat_map-append (visits_from (properties_in rows) (suc left) above) (map (λ (name : Chars). e) (names_of e)) (items_in es))
           ∙ ap (λ b. flat_map (visits_from (properties_in rows) (suc left) above) (items_when e es b)) (sym item)
       by false plain ih = ap (λ (l : List Visit). l ++ visits_in rows base above left (steps_in es)) (no_visits e (names_of e) plain) ∙ ih ∙ ap (λ b. flat_map (visits_from (properties_in rows) (suc left) above) (items_when e es b)) (sym plain)

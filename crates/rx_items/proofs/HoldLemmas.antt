@@ -1,13 +1,13 @@
 -- What is kept of a page, row by row.
-use Rattle.std.proofs.Common.{get_or, ◌≡◌, ◌∙◌, ◌+◌, ◌<◌, ◌≤◌, ℕ, zero, suc, Bool, true, false, cond, List, [], ◌∷◌, filter, length, Contains, ◌↔◌, Some, None, refl, sym, ap, subst, arith, nat_cmp, Less}
+use Rattle.std.proofs.Common.{get_or, ◌≡◌, ◌∙◌, ◌+◌, ◌<◌, ◌≤◌, ℕ, zero, suc, Bool, true, false, cond, List, [], ◌∷◌, filter, length, Contains, ◌↔◌, Some, None, sym, ap, subst, arith, nat_cmp, Less}
 use Rattle.std.specs.Prelude.{slice_get}
-use Rattle.std.proofs.lemmas.Option.{slice_get-get_or}
+use Rattle.std.proofs.lemmas.Option.{slice_get-get_or, slice_get_past}
 use Rattle.std.specs.List.{AllByRecursion}
 use Rattle.std.specs.List.Sorted.{IsStrictlySortedBy}
 use Rattle.rx_terms.specs.Text.{Chars}
 use Rattle.rx_microdata.specs.Elements.{Placed, is_item, names_of}
 use Rattle.rx_items.specs.Rows.{properties_in}
-use Rattle.rx_items.specs.Showing.{ShowsRow, ShowsRows}
+use Rattle.rx_items.specs.Showing.{ShowsRow}
 use Rattle.rx_items.specs.Words.{names_in, types_in}
 use Rattle.rx_items.specs.declared.rows.Row.{Row}
 use Rattle.rx_items.specs.Held.{AreTokens, AtPlace, IsElement, NamesAt, Reaches, ShowsElement, ShowsTokens, Numbered, is_there, names_beside, others_beside, own_beside, places, types_beside, AllStand, HoldsRows}
@@ -18,47 +18,18 @@ use Rattle.rx_items.specs.declared.kept.Kept.{Kept}
 use Rattle.rx_items.specs.declared.kept.Run.{Run}
 use Rattle.rx_items.specs.declared.kept.Tokens.{Tokens}
 use Rattle.rx_items.proofs.RisingLemmas.{Rises, same_rising, less_of}
-
--- a row and what it shows
-pub shows_at : (words gathered : Chars) (times : List Chars) (rows : List Row) (ps : List Placed) (i : ℕ) (row : Row) (p : Placed) → ShowsRows words gathered times rows ps
-    → slice_get rows i ≡ Some row → slice_get ps i ≡ Some p → ShowsRow words gathered times row p
-shows_at words gathered times [] ps i row p s f g = absurd (cc (f))
-shows_at words gathered times (r1 ∷ rows) [] i row p s f g = absurd s
-shows_at words gathered times (r1 ∷ rows) (p1 ∷ ps) zero row p s f g =
-    let same : p1 ≡ p = cc (g) in
-    let alike : r1 ≡ row = cc (f) in
-    subst (λ (x : Row). ShowsRow words gathered times x p) alike (subst (λ (x : Placed). ShowsRow words gathered times r1 x) same s.0)
-shows_at words gathered times (r1 ∷ rows) (p1 ∷ ps) (suc i) row p s f g = shows_at words gathered times rows ps i row p s.1 f g
-
-pub as_long : (words gathered : Chars) (times : List Chars) (rows : List Row) (ps : List Placed) → ShowsRows words gathered times rows ps → length rows ≡ length ps
-as_long words gathered times [] [] s = refl
-as_long words gathered times [] (p ∷ ps) s = absurd s
-as_long words gathered times (r ∷ rows) [] s = absurd s
-as_long words gathered times (r ∷ rows) (p ∷ ps) s = ap suc (as_long words gathered times rows ps s.1)
-
--- the row of a place before the end
-pub placed_at : (ps : List Placed) (i : ℕ) → i < length ps → (p : Placed) × (slice_get ps i ≡ Some p)
-placed_at [] i lt = absurd (omega (arith, lt))
-placed_at (p ∷ ps) zero lt = (p, refl)
-placed_at (p ∷ ps) (suc i) lt = placed_at ps i (omega (arith, lt))
-
-none_at : (ps : List Placed) (i : ℕ) → length ps ≤ i → slice_get ps i ≡ None
-none_at [] i le = refl
-none_at (p ∷ ps) zero le = absurd (omega (arith, le))
-none_at (p ∷ ps) (suc i) le = none_at ps i (omega (arith, le))
+use Rattle.rx_items.proofs.ShowLemmas.{shows_length, shown_by}
 
 -- behind all rows there is no element
 pub behind_rows : (kept : Kept) (rows : List Placed) (base : Chars) (i : ℕ) → HoldsRows kept rows base → length kept.rows.items ≤ i → slice_get rows i ≡ None
 behind_rows kept rows base i h le =
-    let size = as_long kept.words kept.text kept.times.items kept.rows.items rows h.shown in none_at rows i (omega (arith, size, le))
+    let size = shows_length kept.words kept.text kept.times.items kept.rows.items rows h.shown in slice_get_past rows i (omega (arith, size, le))
 
 -- the row at a place shows what stands there
 pub row_there : (kept : Kept) (rows : List Placed) (base : Chars) (i : ℕ) (row : Row) → HoldsRows kept rows base → i < length kept.rows.items → row ≡ get_or kept.rows.items i row
     → (p : Placed) × (slice_get rows i ≡ Some p) × ShowsRow kept.words kept.text kept.times.items row p
 row_there kept rows base i row h lt is =
-    let size = as_long kept.words kept.text kept.times.items kept.rows.items rows h.shown in
-    let p = placed_at rows i (omega (arith, lt, size)) in
-    (p.0, p.1, shows_at kept.words kept.text kept.times.items kept.rows.items rows i row p.0 h.shown (slice_get-get_or kept.rows.items i row lt ∙ ap Some (sym is)) p.1)
+    shown_by kept.words kept.text kept.times.items kept.rows.items rows i row h.shown (slice_get-get_or kept.rows.items i row lt ∙ ap Some (sym is))
 
 -- what a test says of it is what it says of the place
 pub told_there : (test : Placed → Bool) (rows : List Placed) (i : ℕ) (p : Placed) (told : Bool) → slice_get rows i ≡ Some p → told ≡ test p → told ≡ is_there test (slice_get rows i)
@@ -71,14 +42,12 @@ pub element_there : (kept : Kept) (rows : List Placed) (base : Chars) (i : ℕ) 
     → AreTokens kept.words (types_in row.head.words) (types_beside x) p.facts.types → ShowsElement kept.words kept.text kept.times.items e p)
     → e.own ≡ own_beside x → e.others.now ≡ others_beside x → AtPlace kept rows i (Some e)
 element_there kept rows base i row x e h lt row_is x_is shown own others =
-    let size = as_long kept.words kept.text kept.times.items kept.rows.items rows h.shown in
-    let p = placed_at rows i (omega (arith, lt, size)) in
-    let row_shows = shows_at kept.words kept.text kept.times.items kept.rows.items rows i row p.0 h.shown row_is p.1 in
+    let p = shown_by kept.words kept.text kept.times.items kept.rows.items rows i row h.shown row_is in
     let fits = h.extras.fit i row p.0 x row_is p.1 x_is in (
       p.0,
       p.1,
       record {
-        shown = shown p.0 row_shows fits.names fits.types;
+        shown = shown p.0 p.2 fits.names fits.types;
         reached = λ item. subst (λ (runs : List Run). Reaches rows kept.members.items i runs p.0) (λ j. sym own j ∷ sym others j) (fits.reach item);
       },
     )
@@ -89,8 +58,7 @@ pub names_there : (kept : Kept) (rows : List Placed) (base : Chars) (i : ℕ) (r
     → ((words : Chars) (texts : List Chars) → AreTokens words (names_in row.head.words) (names_beside x) texts → ShowsTokens words names texts)
     → NamesAt kept rows i (Some names)
 names_there kept rows base i row x names h lt row_is x_is shows =
-    let size = as_long kept.words kept.text kept.times.items kept.rows.items rows h.shown in
-    let p = placed_at rows i (omega (arith, lt, size)) in
+    let p = shown_by kept.words kept.text kept.times.items kept.rows.items rows i row h.shown row_is in
     (p.0, p.1, shows kept.words (names_of p.0) (h.extras.fit i row p.0 x row_is p.1 x_is).names)
 
 -- an element is that of the row at its place

@@ -1,5 +1,5 @@
 -- The first row of each id, from the back.
-use Rattle.std.proofs.Common.{◌≡◌, ◌∙◌, ◌+◌, ◌<◌, ◌≤◌, ℕ, zero, suc, Bool, true, false, ◌||◌, cond, List, [], ◌∷◌, length, drop, get_or, Option, Some, None, option_map, is_eq, refl, sym, ap, arith, nat_cmp}
+use Rattle.std.proofs.Common.{◌≡◌, ◌∙◌, ◌+◌, ◌<◌, ◌≤◌, ℕ, zero, suc, Bool, true, false, cond, List, [], ◌∷◌, length, drop, get_or, Option, Some, None, option_map, is_eq, refl, sym, ap, arith, nat_cmp, drop-cons, add-one}
 use Rattle.std.specs.Prelude.{slice_get, IfOk, OnOk, Result, Ok, Err}
 use Rattle.std.specs.Cmp.Lexicographic.{slice_cmp, nat_list_eq_equiv}
 use Rattle.std.proofs.lemmas.Map.Text.{is_eq-slice_cmp}
@@ -21,14 +21,9 @@ use Rattle.std.specs.Map.{lookup}
 use denote.Ref.{Bor}
 use Rattle.rx_items.specs.Ids.{Looks, LooksFor, has_references, place_of}
 use Rattle.rx_items.proofs.HoldLemmas.{place_is}
-
-or_none : (a b : Bool) → (a || b) ≡ false → a ≡ false
-or_none true b e = absurd (cc (e))
-or_none false b e = refl
-
-or_none_behind : (a b : Bool) → (a || b) ≡ false → b ≡ false
-or_none_behind true b e = absurd (cc (e))
-or_none_behind false b e = e
+use Rattle.rx_terms.proofs.Bools.{neither}
+use Rattle.rx_items.proofs.ShowLemmas.{shown_by}
+use Rattle.std.proofs.lemmas.Option.{slice_get-get_or, slice_get_within, get_or_from_slice_get}
 
 pub put_under : (id text : List ℕ) (new old : Option ℕ) → cond (is_eq (slice_cmp nat_cmp id text)) new old ≡ cond (same id text) new old
 put_under id text new old = ap (λ b. cond b new old) (is_eq-slice_cmp id text)
@@ -46,15 +41,12 @@ noted (Ok x) words span id place new old (Some part) utf8 told shown f = λ text
 
 pub row_shown : (words gathered : Chars) (times : List Chars) (rows : List Row) (ps : List Placed) (i : ℕ) (d : Row) → ShowsRows words gathered times rows ps → i < length rows
     → (p : Placed) × (slice_get ps i ≡ Some p) × ShowsRow words gathered times (get_or rows i d) p
-row_shown words gathered times [] ps i d s lt = absurd (omega (arith, lt))
-row_shown words gathered times (r ∷ rows) [] i d s lt = absurd s
-row_shown words gathered times (r ∷ rows) (p ∷ ps) zero d s lt = (p, refl, s.0)
-row_shown words gathered times (r ∷ rows) (p ∷ ps) (suc i) d s lt = row_shown words gathered times rows ps i d s.1 (omega (arith, lt))
+row_shown words gathered times rows ps i d s lt = shown_by words gathered times rows ps i (get_or rows i d) s (slice_get-get_or rows i d lt)
 
 drop_there : (ps : List Placed) (i : ℕ) (p : Placed) → slice_get ps i ≡ Some p → drop i ps ≡ p ∷ drop (i + 1) ps
-drop_there [] i p g = absurd (cc (g))
-drop_there (x ∷ ps) zero p g = let same : x ≡ p = cc (g) in ap (λ (y : Placed). y ∷ ps) same
-drop_there (x ∷ ps) (suc i) p g = let up : suc (i + 1) ≡ suc i + 1 = omega arith in drop_there ps i p g ∙ ap (λ n. p ∷ drop n (x ∷ ps)) up
+drop_there ps i p g =
+    let here = get_or_from_slice_get ps i p p g in
+    drop-cons ps i p (slice_get_within ps i p g) ∙ (λ j. here j ∷ drop (sym (add-one i) j) ps)
 
 -- one row more at the front
 pub id_turn : (ps : List Placed) (i j : ℕ) (p : Placed) (text : Chars) (new old : Option ℕ) → Numbered 0 ps → slice_get ps i ≡ Some p → j ≡ i + 1
@@ -86,10 +78,10 @@ pub looks_for_none : {P : Type 0} (rows : List Row) (place : ℕ) (row : Row) (s
 looks_for_none [] place row span g none is = absurd (cc (g))
 looks_for_none (r ∷ rows) zero row span g none is =
     let same : r ≡ row = cc (g) in
-    let no : row.head.words.has_references ≡ false = ap has_references (sym same) ∙ or_none r.head.words.has_references (list_any has_references rows) none in
+    let no : row.head.words.has_references ≡ false = ap has_references (sym same) ∙ (neither r.head.words.has_references (list_any has_references rows) none).0 in
     let clash : None ≡ Some span = ap (λ b. span_if b row.head.words.item_id_end row.head.words.references_end) (sym no) ∙ is in
     absurd (cc (clash))
-looks_for_none (r ∷ rows) (suc place) row span g none is = looks_for_none rows place row span g (or_none_behind r.head.words.has_references (list_any has_references rows) none) is
+looks_for_none (r ∷ rows) (suc place) row span g none is = looks_for_none rows place row span g (neither r.head.words.has_references (list_any has_references rows) none).1 is
 
 pub looks_for : {E : Type 0} (rows : List Row) (look : Chars → Option ℕ) (r : Result (BTreeMap (Bor (List ℕ)) ℕ) E) → IfOk r (λ ids. Looks ids look) → IfOk r (λ ids. LooksFor rows ids look)
 looks_for rows look (Ok ids) looks = λ place row there span is. looks

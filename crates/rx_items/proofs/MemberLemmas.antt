@@ -1,33 +1,25 @@
 -- Which rows stand in a run of members.
 use Rattle.std.proofs.Common.{◌≡◌, ◌∙◌, ◌+◌, ◌-◌, ◌*◌, ◌<◌, ◌≤◌, ℕ, zero, suc, true, List, [], ◌∷◌, length, take, drop, get_or, Contains, Option, Some, None, refl, sym, ap, subst, arith}
 use Rattle.std.specs.Prelude.{slice_get}
-use Rattle.std.proofs.lemmas.Option.{slice_get-get_or}
+use Rattle.std.proofs.lemmas.Option.{slice_get-get_or, slice_get_within, get_or_from_slice_get}
 use Rattle.std.proofs.lemmas.Bool.{cases_lt, ltb-true, ltb-false}
 use Rattle.rx_terms.specs.Text.{Chars}
 use Rattle.rx_microdata.specs.Elements.{Placed, names_of}
 use Rattle.rx_microdata.specs.Properties.{is_any}
-use Rattle.rx_microdata.proofs.Lists.{first, later}
 use mathlib.Core.Logic.{◌⊎◌, inl, inr}
 use Rattle.rx_items.specs.Properties.{part}
 use Rattle.rx_items.specs.Members.{RunOf, Sorted, key_at, key_of, scope_number, scope_of}
-use Rattle.rx_items.specs.Showing.{ShowsRows}
 use Rattle.rx_items.specs.declared.kept.Run.{Run}
 use Rattle.rx_items.specs.declared.rows.Row.{Row}
+use Rattle.rx_items.proofs.ShowLemmas.{shown_by, row_of}
 
 -- ---- places of a list
 
-there_is : (xs : List ℕ) (x : ℕ) → Contains xs x → (i : ℕ) × (slice_get xs i ≡ Some x)
+pub there_is : {X : Type 0} (xs : List X) (x : X) → Contains xs x → (i : ℕ) × (slice_get xs i ≡ Some x)
 there_is xs x c = (c.0, slice_get-get_or xs c.0 x c.1 ∙ ap Some c.2)
 
 is_there : (xs : List ℕ) (i x : ℕ) → slice_get xs i ≡ Some x → Contains xs x
-is_there [] i x g = absurd (cc (g))
-is_there (y ∷ xs) zero x g = let same : y ≡ x = cc (g) in subst (λ z. Contains (y ∷ xs) z) same (first y xs)
-is_there (y ∷ xs) (suc i) x g = later y x xs (is_there xs i x g)
-
-short_of : (xs : List ℕ) (i x : ℕ) → slice_get xs i ≡ Some x → i < length xs
-short_of [] i x g = absurd (cc (g))
-short_of (y ∷ xs) zero x g = omega arith
-short_of (y ∷ xs) (suc i) x g = let lt = short_of xs i x g in omega (arith, lt)
+is_there xs i x g = (i, slice_get_within xs i x g, get_or_from_slice_get xs i x x g)
 
 in_front : (n : ℕ) (xs : List ℕ) (i x : ℕ) → slice_get (take n xs) i ≡ Some x → (i < n) × (slice_get xs i ≡ Some x)
 in_front zero xs i x g = absurd (cc (g))
@@ -73,25 +65,6 @@ of_part xs run x p =
     is_there (part xs run) (p.at - run.from) x
     (to_front (run.to - run.from) (drop run.from xs) (p.at - run.from) x (omega (arith, low, high)) (to_back run.from xs (p.at - run.from) x (ap (slice_get xs) at ∙ p.is)))
 
--- ---- the rows of members
-
-module _ (words gathered : Chars) (times : List Chars) where
-  -- a member is that of a row with a name
-  pub named_row : (rows : List Row) (ps : List Placed) (x : ℕ) (row : Row) → ShowsRows words gathered times rows ps → slice_get rows x ≡ Some row
-      → (p : Placed) × (slice_get ps x ≡ Some p) × (row.head.named ≡ is_any (names_of p)) × (row.scope ≡ p.scope)
-  named_row [] ps x row s g = absurd (cc (g))
-  named_row (r ∷ rows) [] x row s g = absurd s
-  named_row (r ∷ rows) (p ∷ ps) zero row s g = let same : r ≡ row = cc (g) in (p, refl, ap (λ (r : Row). r.head.named) (sym same) ∙ s.0.named, ap (λ (r : Row). r.scope) (sym same) ∙ s.0.scope)
-  named_row (r ∷ rows) (p ∷ ps) (suc x) row s g = named_row rows ps x row s.1 g
-
-  pub row_named : (rows : List Row) (ps : List Placed) (x : ℕ) (p : Placed) → ShowsRows words gathered times rows ps → slice_get ps x ≡ Some p
-      → (row : Row) × (slice_get rows x ≡ Some row) × (row.head.named ≡ is_any (names_of p)) × (row.scope ≡ p.scope)
-  row_named [] [] x p s g = absurd (cc (g))
-  row_named [] (q ∷ ps) x p s g = absurd s
-  row_named (r ∷ rows) [] x p s g = absurd s
-  row_named (r ∷ rows) (q ∷ ps) zero p s g = let same : q ≡ p = cc (g) in (r, refl, s.0.named ∙ ap (λ (p : Placed). is_any (names_of p)) same, s.0.scope ∙ ap (λ (p : Placed). p.scope) same)
-  row_named (r ∷ rows) (q ∷ ps) (suc x) p s g = row_named rows ps x p s.1 g
-
 -- ---- a run between two places
 
 pub same_number : (a b : Option ℕ) → scope_number a ≡ scope_number b → a ≡ b
@@ -114,37 +87,27 @@ within_keys : (s n f t x : ℕ) → x < 18446744073709551615 → t ≤ 184467440
 within_keys s n f t x small most low high begins =
     let same : s ≡ n = omega (arith, small, most, low, high, begins) in (same, omega (arith, small, most, low, high, begins, same), omega (arith, small, most, low, high, begins, same))
 
-got : (xs : List ℕ) (i x : ℕ) → slice_get xs i ≡ Some x → get_or xs i x ≡ x
-got [] i x g = refl
-got (y ∷ xs) zero x g = cc (g)
-got (y ∷ xs) (suc i) x g = got xs i x g
-
-pub row_short : (ps : List Placed) (i : ℕ) (p : Placed) → slice_get ps i ≡ Some p → i < length ps
-row_short [] i p g = absurd (cc (g))
-row_short (q ∷ ps) zero p g = omega arith
-row_short (q ∷ ps) (suc i) p g = let lt = row_short ps i p g in omega (arith, lt)
-
 module _ (words gathered : Chars) (times : List Chars) (rows : List Row) (ps : List Placed) (members : List ℕ) (s : Sorted words gathered times rows ps members)
     (scope : Option ℕ) (from to : ℕ) (run : Run) (r : RunOf rows members scope from to run) where
   pub in_range : (x : ℕ) → Contains (part members run) x → InRange ps scope from to x
   in_range x c =
       let p = in_part members run x c in
       let named = (s.same x).0 (is_there members p.at x p.is) in
-      let shown = named_row words gathered times rows ps x named.row s.shows named.is in
-      let here = got members p.at x p.is in
+      let shown = shown_by words gathered times rows ps x named.row s.shows named.is in
+      let here = get_or_from_slice_get members p.at x x p.is in
       let low : key_of scope from ≤ key_at rows x =
-      subst (λ y. key_of scope from ≤ key_at rows y) here (ltb-false (key_at rows (get_or members p.at x)) (key_of scope from) (r.begins.1 p.at x p.low (short_of members p.at x p.is))) in
+      subst (λ y. key_of scope from ≤ key_at rows y) here (ltb-false (key_at rows (get_or members p.at x)) (key_of scope from) (r.begins.1 p.at x p.low (slice_get_within members p.at x p.is))) in
       let high : key_at rows x < key_of scope to =
       subst (λ y. key_at rows y < key_of scope to) here (ltb-true (key_at rows (get_or members p.at x)) (key_of scope to) (r.ends.0 p.at x (omega arith) p.high)) in
-      let number : key_at rows x ≡ key_of shown.0.scope x = ap (λ (o : Option Row). key_of (scope_of o) x) named.is ∙ ap (λ (o : Option ℕ). key_of o x) shown.3 in
-      let short = row_short ps x shown.0 shown.1 in
+      let number : key_at rows x ≡ key_of shown.0.scope x = ap (λ (o : Option Row). key_of (scope_of o) x) named.is ∙ ap (λ (o : Option ℕ). key_of o x) shown.2.scope in
+      let short = slice_get_within ps x shown.0 shown.1 in
       let small = s.small in
       let parts = within_keys (scope_number shown.0.scope) (scope_number scope) from to x (omega (arith, short, small)) r.to_small
       (subst (λ n. key_of scope from ≤ n) number low) (subst (λ n. n < key_of scope to) number high) r.from_small in
       record {
         row = shown.0;
         is = shown.1;
-        named = sym shown.2 ∙ named.named;
+        named = sym shown.2.named ∙ named.named;
         scope_is = same_number shown.0.scope scope parts.0;
         low = parts.1;
         high = parts.2;
@@ -152,14 +115,14 @@ module _ (words gathered : Chars) (times : List Chars) (rows : List Row) (ps : L
 
   pub of_range : (x : ℕ) → InRange ps scope from to x → Contains (part members run) x
   of_range x h =
-      let shown = row_named words gathered times rows ps x h.row s.shows h.is in
-      let there = there_is members x ((s.same x).1 (record { row = shown.0; is = shown.1; named = shown.2 ∙ h.named })) in
-      let number : key_at rows x ≡ key_of scope x = ap (λ (o : Option Row). key_of (scope_of o) x) shown.1 ∙ ap (λ (o : Option ℕ). key_of o x) (shown.3 ∙ h.scope_is) in
-      let here = got members there.0 x there.1 in
+      let shown = row_of words gathered times rows ps x h.row s.shows h.is in
+      let there = there_is members x ((s.same x).1 (record { row = shown.0; is = shown.1; named = shown.2.named ∙ h.named })) in
+      let number : key_at rows x ≡ key_of scope x = ap (λ (o : Option Row). key_of (scope_of o) x) shown.1 ∙ ap (λ (o : Option ℕ). key_of o x) (shown.2.scope ∙ h.scope_is) in
+      let here = get_or_from_slice_get members there.0 x x there.1 in
       of_part members run x (record {
         at = there.0;
         low = low there.0 number here (cases_lt there.0 run.from);
-        high = high there.0 number here (short_of members there.0 x there.1) (cases_lt there.0 run.to);
+        high = high there.0 number here (slice_get_within members there.0 x there.1) (cases_lt there.0 run.to);
         is = there.1;
       })
     where

@@ -1,5 +1,5 @@
 -- How the rows of a tree lie in each other.
-use Rattle.std.specs.Prelude.{◌≡◌, ℕ, suc, ◌+◌, ◌<◌, ◌≤◌, Bool, true, false, ◌||◌, cond, List, [], ◌∷◌, ◌++◌, length, Option, Some, None, is_some}
+use Rattle.std.specs.Prelude.{◌≡◌, ℕ, suc, ◌+◌, ◌<◌, ◌≤◌, Bool, true, false, cond, List, [], ◌∷◌, ◌++◌, length, Option, Some, None}
 use Rattle.std.proofs.Common.{refl, sym, subst}
 use mathlib.Core.Logic.{◌⊎◌, inl, inr}
 use native.Mathlib.Omega.{arith}
@@ -11,11 +11,8 @@ use Rattle.rx_microdata.specs.Laws.{is_before}
 use Rattle.rx_items.specs.Rows.{matters, behind, row_count, rows_from, with_row, needed}
 use Rattle.rx_items.specs.Held.{Numbered}
 use Rattle.std.proofs.lemmas.List.{length-append}
-use Rattle.rx_items.proofs.Alike.{Each}
-
-pub each_append : (P : Placed → Type 0) (a b : List Placed) → Each P a → Each P b → Each P (a ++ b)
-each_append P [] b p q = q
-each_append P (x ∷ a) b p q = (p.0, each_append P a b p.1 q)
+use Rattle.rx_items.proofs.Alike.{Each, each_append}
+use Rattle.std.proofs.lemmas.Bool.{or_parts}
 
 pub each_by : (P Q : Placed → Type 0) (a : List Placed) → ((x : Placed) → P x → Q x) → Each P a → Each Q a
 each_by P Q [] f p = tt
@@ -89,11 +86,7 @@ pairs_both : (a b : List Placed) → Pairs a a → Pairs a b → Pairs b a → P
 pairs_both a b aa ab ba bb = each_append (λ s. Each (Nests s) (a ++ b)) a b (pairs_right a a b aa ab) (pairs_right b a b ba bb)
 
 pub not_item : (tag : StartTag) (inner : Tree) → matters (facts_of tag inner) ≡ false → begins_item tag ≡ false
-not_item tag inner none = by (begins_item tag) none
-  where
-    by : (b : Bool) → (b || (is_some (facts_of tag inner).names || is_some (facts_of tag inner).id)) ≡ false → b ≡ false
-    by true e = absurd (cc (e))
-    by false e = refl
+not_item tag inner none = (or_parts (begins_item tag) _ none).0
 
 pub scope_before : (tag : StartTag) (place : ℕ) (scope : Option ℕ) → is_before scope place ≡ true → is_before (scope_in tag place scope) (suc place) ≡ true
 scope_before tag place scope h = by (begins_item tag)

@@ -18,9 +18,10 @@ use Rattle.rx_items.specs.Held.{HoldsRows}
 use Rattle.rx_items.specs.Expanding.{At, NoFault, FaultIs, HasFault, Finds}
 use Rattle.rx_items.specs.Pages.{top_visits, top_data, IsTextOf, JsonGives, TextGives}
 use Rattle.rx_items.specs.declared.kept.Kept.{Kept}
-use Rattle.rx_items.proofs.FoundLemmas.{none_then, then_fault, fault_then, none_at_all, flat_append}
-use Rattle.rx_items.proofs.HoldLemmas.{as_long as rows_as_long}
+use Rattle.rx_items.proofs.FoundLemmas.{none_then, then_fault, fault_then, none_at_all}
+use Rattle.rx_items.proofs.ShowLemmas.{shows_length}
 use Rattle.rx_items.proofs.TakeLemmas.{one_more, cut_at}
+use Rattle.std.proofs.lemmas.Grind.{flat_map-append}
 
 pub tops_at : {kept : Kept} {rows : List Placed} {base : Chars} (path : List ℕ) → HoldsRows kept rows base → path ≡ [] → At kept rows base path [] 40
 tops_at path h e = record { holds = h; path_is = e; deep = omega arith }
@@ -29,7 +30,7 @@ pub item_of_top : (e : Placed) → is_top_level e ≡ true → is_item e ≡ tru
 item_of_top e top = (and_parts (is_item e) (is_absent e.facts.names) top).0
 
 pub as_long : (kept : Kept) (rows : List Placed) (base : Chars) → HoldsRows kept rows base → length kept.rows.items ≡ length rows
-as_long kept rows base h = rows_as_long kept.words kept.text kept.times.items kept.rows.items rows h.shown
+as_long kept rows base h = shows_length kept.words kept.text kept.times.items kept.rows.items rows h.shown
 
 pub record RowThere (rows : List Placed) (i : ℕ) : Type 0 where
   pub row : Placed
@@ -50,13 +51,13 @@ module _ (rows : List Placed) (base : Chars) where
 
   row_visits : (i : ℕ) (e : Placed) → i < length rows → e ≡ get_or rows i e → flat_map (top_visits rows base) (take (i + 1) rows) ≡ flat_map (top_visits rows base) (take i rows) ++ top_visits rows base e
   row_visits i e lt is =
-      ap (flat_map (top_visits rows base)) (one_more rows i e lt) ∙ flat_append (top_visits rows base) (take i rows) (get_or rows i e ∷ [])
+      ap (flat_map (top_visits rows base)) (one_more rows i e lt) ∙ flat_map-append (top_visits rows base) (take i rows) (get_or rows i e ∷ [])
       ∙ ap (λ (l : List Visit). flat_map (top_visits rows base) (take i rows) ++ l) (append-nil (top_visits rows base (get_or rows i e)))
       ∙ ap (λ (x : Placed). flat_map (top_visits rows base) (take i rows) ++ top_visits rows base x) (sym is)
 
   pub row_data : (i : ℕ) (e : Placed) → i < length rows → e ≡ get_or rows i e → flat_map (top_data rows base) (take (i + 1) rows) ≡ flat_map (top_data rows base) (take i rows) ++ top_data rows base e
   row_data i e lt is =
-      ap (flat_map (top_data rows base)) (one_more rows i e lt) ∙ flat_append (top_data rows base) (take i rows) (get_or rows i e ∷ [])
+      ap (flat_map (top_data rows base)) (one_more rows i e lt) ∙ flat_map-append (top_data rows base) (take i rows) (get_or rows i e ∷ [])
       ∙ ap (λ (l : List Data). flat_map (top_data rows base) (take i rows) ++ l) (append-nil (top_data rows base (get_or rows i e)))
       ∙ ap (λ (x : Placed). flat_map (top_data rows base) (take i rows) ++ top_data rows base x) (sym is)
 
@@ -83,7 +84,7 @@ module _ (rows : List Placed) (base : Chars) where
   tops_err i before e stop.NoMemory lt is d f = tt
   tops_err i before e (stop.Fault fault) lt is d f =
       let all : flat_map (top_visits rows base) rows ≡ flat_map (top_visits rows base) (take i rows) ++ (top_visits rows base e ++ flat_map (top_visits rows base) (drop (i + 1) rows)) =
-      ap (flat_map (top_visits rows base)) (cut_at rows i e lt) ∙ flat_append (top_visits rows base) (take i rows) (get_or rows i e ∷ drop (i + 1) rows)
+      ap (flat_map (top_visits rows base)) (cut_at rows i e lt) ∙ flat_map-append (top_visits rows base) (take i rows) (get_or rows i e ∷ drop (i + 1) rows)
       ∙ ap (λ (x : Placed). flat_map (top_visits rows base) (take i rows) ++ (top_visits rows base x ++ flat_map (top_visits rows base) (drop (i + 1) rows))) (sym is) in
       subst (λ (vs : List Visit). FaultIs 0 vs fault) (sym all ∙ all_visits rows)
       (then_fault 0 before (flat_map (top_visits rows base) (take i rows)) (top_visits rows base e ++ flat_map (top_visits rows base) (drop (i + 1) rows)) fault d

@@ -12,8 +12,9 @@ use Rattle.rx_items.specs.Held.{ShowsTokens}
 use Rattle.rx_items.specs.declared.kept.Tokens.{Tokens}
 use Rattle.rx_items.specs.declared.kept.Tokens.TheVariants as tokens
 use Rattle.rx_items.specs.Expanding.{NoFault, FaultIs, HasFault, Finds, Step, with_name, steps_of, steps_in, visits_of, visits_in, again, count_of}
-use Rattle.rx_items.proofs.FoundLemmas.{none_then, then_fault, fault_then, none_at_all, flat_append, no_visits}
+use Rattle.rx_items.proofs.FoundLemmas.{none_then, then_fault, fault_then, none_at_all, no_visits}
 use Rattle.rx_items.proofs.VisitLemmas.{steps_one, property_err}
+use Rattle.std.proofs.lemmas.Grind.{flat_map-append}
 
 -- ---- the same visits so many times
 
@@ -65,7 +66,7 @@ module _ (rows : List Placed) (base : Chars) (above : Visit) (left : ℕ) where
   -- ---- properties in a row
 
   both_visits : (xs ys : List Step) → visits_in rows base above left (xs ++ ys) ≡ visits_in rows base above left xs ++ visits_in rows base above left ys
-  both_visits xs ys = flat_append (λ (s : Step). visits_of rows base above left s.element) xs ys
+  both_visits xs ys = flat_map-append (λ (s : Step). visits_of rows base above left s.element) xs ys
 
   pub each_stop : (start middle : ℕ) (es : List Placed) (i : ℕ) (e : Placed) (x : Stop) → i < length es → e ≡ get_or es i e → NoFault start (visits_in rows base above left (steps_in (take i es))) middle
       → HasFault middle (visits_in rows base above left (steps_of e)) x → HasFault start (visits_in rows base above left (steps_in es)) x

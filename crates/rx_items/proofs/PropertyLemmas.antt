@@ -8,7 +8,7 @@ use Rattle.rx_terms.specs.Text.{Chars}
 use Rattle.rx_microdata.specs.Elements.{Placed, names_of}
 use Rattle.rx_microdata.specs.Properties.{is_any, first_with_id, has_id}
 use Rattle.rx_microdata.specs.Laws.{is_scope, is_property_by_scope, reaches_by_scope}
-use Rattle.rx_microdata.proofs.Lists.{first, later, first_or_later, and_parts, and_of, or_parts, or_left, or_right, true_not, not_true}
+use Rattle.rx_microdata.proofs.Lists.{first, later, first_or_later, and_parts, and_of, or_parts, or_left, or_right, true_not, not_true, none, kept, keeps, not_so, contradiction, found_first}
 use Rattle.rx_items.specs.Rows.{properties_in}
 use Rattle.rx_items.specs.Held.{Numbered, places}
 use Rattle.rx_items.specs.Properties.{gathered, in_runs, is_other}
@@ -16,31 +16,7 @@ use Rattle.rx_items.specs.Starts.{RunsReach}
 use Rattle.rx_items.specs.declared.kept.Run.{Run}
 use Rattle.rx_items.proofs.HoldLemmas.{place_is}
 use Rattle.rx_items.proofs.ReferenceLemmas.{one_more}
-
-no_member : {X : Type 0} (x : X) → Contains [] x → ⊥
-no_member x c = let lt = c.1 in absurd (omega (arith, lt))
-
-in_filter : (p : ℕ → Bool) (xs : List ℕ) (x : ℕ) → Contains (filter p xs) x → Contains xs x × (p x ≡ true)
-in_filter p [] x c = absurd (no_member x c)
-in_filter p (y ∷ xs) x c = by (p y) refl c (in_filter p xs x)
-  where
-    by : (b : Bool) → p y ≡ b → Contains (cond b (y ∷ filter p xs) (filter p xs)) x → (Contains (filter p xs) x → Contains xs x × (p x ≡ true)) → Contains (y ∷ xs) x × (p x ≡ true)
-    by false e c ih = let r = ih c in (later y x xs r.0, r.1)
-    by true e c ih = go (first_or_later y x (filter p xs) c)
-      where
-        go : (y ≡ x) ⊎ Contains (filter p xs) x → Contains (y ∷ xs) x × (p x ≡ true)
-        go (inl same) = (subst (λ z. Contains (y ∷ xs) z) same (first y xs), ap p (sym same) ∙ e)
-        go (inr c) = let r = ih c in (later y x xs r.0, r.1)
-
-to_filter : (p : ℕ → Bool) (xs : List ℕ) (x : ℕ) → Contains xs x → p x ≡ true → Contains (filter p xs) x
-to_filter p [] x c e = absurd (no_member x c)
-to_filter p (y ∷ xs) x c e = by (p y) refl (first_or_later y x xs c) (λ d. to_filter p xs x d e)
-  where
-    by : (b : Bool) → p y ≡ b → (y ≡ x) ⊎ Contains xs x → (Contains xs x → Contains (filter p xs) x) → Contains (cond b (y ∷ filter p xs) (filter p xs)) x
-    by true f (inl same) ih = subst (λ z. Contains (y ∷ filter p xs) z) same (first y (filter p xs))
-    by true f (inr c) ih = later y x (filter p xs) (ih c)
-    by false f (inl same) ih = absurd (true≢false (sym e ∙ ap p (sym same) ∙ f))
-    by false f (inr c) ih = ih c
+use Rattle.rx_items.proofs.MemberLemmas.{there_is}
 
 -- a row at this place that a test lets through
 pub record Let (q : Placed → Bool) (ps : List Placed) (x : ℕ) : Type 0 where
@@ -49,7 +25,7 @@ pub record Let (q : Placed → Bool) (ps : List Placed) (x : ℕ) : Type 0 where
   pub passes : q row ≡ true
 
 placed : (q : Placed → Bool) (ps : List Placed) (k x : ℕ) → Numbered k ps → Contains (places (filter q ps)) x → (i : ℕ) × (x ≡ k + i) × Let q ps i
-placed q [] k x n c = absurd (no_member x c)
+placed q [] k x n c = none x c
 placed q (p ∷ ps) k x n c = by (q p) refl c (placed q ps (suc k) x n.1)
   where
     up : (i : ℕ) × (x ≡ suc k + i) × Let q ps i → (i : ℕ) × (x ≡ k + i) × Let q (p ∷ ps) i
@@ -78,12 +54,7 @@ to_places q (p ∷ ps) (suc i) row g e = by (q p) (to_places q ps i row g e)
     by false c = c
 
 found_at : (t : Chars) (ps : List Placed) (p : Placed) → first_with_id ps t ≡ Some p → (i : ℕ) × (slice_get ps i ≡ Some p)
-found_at t [] p e = absurd (cc (e))
-found_at t (x ∷ ps) p e = by (has_id t x) e (found_at t ps p)
-  where
-    by : (b : Bool) → cond b (Some x) (first_with_id ps t) ≡ Some p → (first_with_id ps t ≡ Some p → (i : ℕ) × (slice_get ps i ≡ Some p)) → (i : ℕ) × (slice_get (x ∷ ps) i ≡ Some p)
-    by true e ih = (0, e)
-    by false e ih = let r = ih e in (suc r.0, r.1)
+found_at t ps p e = there_is ps p (found_first (has_id t) ps p e).0
 
 module _ (ps : List Placed) (n : Numbered 0 ps) where
   abbrev pub look : Chars → Option ℕ
@@ -94,7 +65,7 @@ module _ (ps : List Placed) (n : Numbered 0 ps) where
 
   start_any : (f : Placed → Bool) (refs : List Chars) (place : ℕ) (start : Placed) → Contains (filter_map look refs) place → slice_get ps place ≡ Some start → f start ≡ true
       → list_any f (filter_map (first_with_id ps) refs) ≡ true
-  start_any f [] place start c g e = absurd (no_member place c)
+  start_any f [] place start c g e = none place c
   start_any f (t ∷ refs) place start c g e =
       ap (list_any f) (one_more (first_with_id ps) t refs) ∙ by (first_with_id ps t) refl (subst (λ (l : List ℕ). Contains l place) (one_more look t refs) c) (λ d. start_any f refs place start d g e)
     where
@@ -143,18 +114,10 @@ module _ (ps : List Placed) (n : Numbered 0 ps) where
       at_root = place_is ps place root n there
 
       other : (e : Placed) → slice_get ps x ≡ Some e → is_other place x ≡ true → not (root.place == e.place) ≡ true
-      other e g h = let at = place_is ps x e n g in true_not (root.place == e.place) (turned (x == place) (root.place == e.place) (not_true (x == place) h) (λ t. eq-eqb x place (sym at ∙ sym (eqb-true root.place e.place t) ∙ at_root)))
-        where
-          turned : (a b : Bool) → a ≡ false → (b ≡ true → a ≡ true) → b ≡ false
-          turned a true e f = absurd (true≢false (sym (f refl) ∙ e))
-          turned a false e f = refl
+      other e g h = let at = place_is ps x e n g in true_not (root.place == e.place) (not_so (root.place == e.place) (λ t. contradiction (x == place) (eq-eqb x place (sym at ∙ sym (eqb-true root.place e.place t) ∙ at_root)) (not_true (x == place) h)))
 
       back_other : (e : Placed) → slice_get ps x ≡ Some e → not (root.place == e.place) ≡ true → is_other place x ≡ true
-      back_other e g h = let at = place_is ps x e n g in true_not (x == place) (turned (root.place == e.place) (x == place) (not_true (root.place == e.place) h) (λ t. eq-eqb root.place e.place (at_root ∙ sym (eqb-true x place t) ∙ sym at)))
-        where
-          turned : (a b : Bool) → a ≡ false → (b ≡ true → a ≡ true) → b ≡ false
-          turned a true e f = absurd (true≢false (sym (f refl) ∙ e))
-          turned a false e f = refl
+      back_other e g h = let at = place_is ps x e n g in true_not (x == place) (not_so (x == place) (λ t. contradiction (root.place == e.place) (eq-eqb root.place e.place (at_root ∙ sym (eqb-true x place t) ∙ sym at)) (not_true (root.place == e.place) h)))
 
       passes : (e : Placed) → slice_get ps x ≡ Some e → is_other place x ≡ true → is_any (names_of e) ≡ true
           → (is_scope root.place e.scope || list_any (reaches_by_scope e) (filter_map (first_with_id ps) root.facts.references)) ≡ true → is_property_by_scope ps root e ≡ true
@@ -180,7 +143,7 @@ module _ (ps : List Placed) (n : Numbered 0 ps) where
 
       to : Contains (gathered members runs place) x → Contains (places (properties_in ps root)) x
       to c =
-          let f = in_filter (is_other place) (in_runs members runs) x c in
+          let f = kept (is_other place) (in_runs members runs) x c in
           let r = reached ((reach x).0 f.0) f.1 in
           subst (λ y. Contains (places (properties_in ps root)) y) (place_is ps x r.row n r.is) (to_places (is_property_by_scope ps root) ps x r.row r.is r.passes)
 
@@ -192,7 +155,7 @@ module _ (ps : List Placed) (n : Numbered 0 ps) where
           let is : slice_get ps x ≡ Some row = ap (slice_get ps) (sym plain) ∙ p.2.is in
           let parts = and_parts (not (root.place == row.place) && is_any (names_of row)) (is_scope root.place row.scope || list_any (reaches_by_scope row) (filter_map (first_with_id ps) root.facts.references)) p.2.passes in
           let fronts = and_parts (not (root.place == row.place)) (is_any (names_of row)) parts.0 in
-          to_filter (is_other place) (in_runs members runs) x ((reach x).1 (within row is fronts.1 (or_parts (is_scope root.place row.scope) (list_any (reaches_by_scope row) (filter_map (first_with_id ps) root.facts.references)) parts.1)))
+          keeps (is_other place) (in_runs members runs) x ((reach x).1 (within row is fronts.1 (or_parts (is_scope root.place row.scope) (list_any (reaches_by_scope row) (filter_map (first_with_id ps) root.facts.references)) parts.1)))
           (back_other row is fronts.0)
         where
           scope_of : (o : Option ℕ) → is_scope root.place o ≡ true → o ≡ Some place

@@ -2,7 +2,7 @@
 use Rattle.std.specs.Prelude.{◌≡◌, ℕ, zero, suc, ◌+◌, ◌≤◌, ⊤, Bool, true, false, ◌==◌, nat_lt, cond, List, [], ◌∷◌, ◌++◌, map, filter, length, Contains, Option, Some, option_map}
 use Rattle.std.proofs.Common.{refl, sym, ap, subst, ◌∙◌}
 use Rattle.std.proofs.lemmas.Bool.{ltb-true, lt-ltb, eqb-true, eq-eqb, cases_lt}
-use Rattle.std.proofs.lemmas.List.{length-append}
+use Rattle.std.proofs.lemmas.List.{length-append, append_assoc, map-append}
 use mathlib.Core.Logic.{inl, inr}
 use native.Mathlib.Omega.{arith}
 use Rattle.rx_grammar.specs.Trees.{StartTag, Tree, end, element, text}
@@ -11,22 +11,11 @@ use Rattle.rx_microdata.specs.Elements.{Placed, count, scope_in, placed_from}
 use Rattle.rx_microdata.proofs.Lists.{none, three, bool_same}
 use Rattle.rx_items.specs.Rows.{matters, needed, behind, row_count, with_row, rows_from}
 use Rattle.rx_items.specs.Ranks.{marks, rank_in}
-use Rattle.rx_items.proofs.Alike.{moved, map_append}
+use Rattle.rx_items.proofs.Alike.{moved}
+use Rattle.std.proofs.lemmas.List.Elements.{filter-append}
 
 abbrev pub is_row : Placed → Bool
 is_row e = matters e.facts
-
-append_assoc : (a b c : List Bool) → (a ++ b) ++ c ≡ a ++ (b ++ c)
-append_assoc [] b c = refl
-append_assoc (x ∷ a) b c = ap (λ l. x ∷ l) (append_assoc a b c)
-
-filter_append : {X : Type 0} (p : X → Bool) (xs ys : List X) → filter p (xs ++ ys) ≡ filter p xs ++ filter p ys
-filter_append p [] ys = refl
-filter_append p (x ∷ xs) ys = by (p x) (filter_append p xs ys)
-  where
-    by : (b : Bool) → filter p (xs ++ ys) ≡ filter p xs ++ filter p ys → cond b (x ∷ filter p (xs ++ ys)) (filter p (xs ++ ys)) ≡ cond b (x ∷ filter p xs) (filter p xs) ++ filter p ys
-    by true rest = ap (λ l. x ∷ l) rest
-    by false rest = rest
 
 behind_more : (b : Bool) (m n : ℕ) → m ≤ n → behind b m ≤ behind b n
 behind_more true m n h = omega (arith, h)
@@ -105,7 +94,7 @@ module _ (rank : ℕ → ℕ) where
       let after = (λ i. rows_from (option_map rank scope) (past i) more) ∙ rows_are_ranked scope (suc place + count inner) more r.2 in
       let ins = placed_from (scope_in tag place scope) (suc place) inner in
       let aft = placed_from scope (suc place + count inner) more in
-      let all = (λ i. inside i ++ after i) ∙ sym (map_append ranked (filter is_row ins) (filter is_row aft)) ∙ ap (map ranked) (sym (filter_append is_row ins aft)) in
+      let all = (λ i. inside i ++ after i) ∙ sym (map-append ranked (filter is_row ins) (filter is_row aft)) ∙ ap (map ranked) (sym (filter-append is_row ins aft)) in
       join b
       (record { place = rank place; past = behind b (rank place) + row_count inner; scope = option_map rank scope; facts = needed (facts_of tag inner) })
       (record { place = place; past = suc place + count inner; scope = scope; facts = facts_of tag inner })

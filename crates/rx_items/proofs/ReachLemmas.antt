@@ -1,41 +1,34 @@
 -- The runs of an item's starts, one after another.
-use Rattle.std.proofs.Common.{◌≡◌, ◌∙◌, ◌+◌, ◌<◌, ◌≤◌, ℕ, zero, suc, Bool, true, false, cond, ◌==◌, List, [], ◌∷◌, ◌++◌, length, take, get_or, Contains, ◌↔◌, Option, Some, None, refl, sym, ap, subst, arith, append_assoc}
+use Rattle.std.proofs.Common.{◌≡◌, ◌∙◌, ◌+◌, ◌<◌, ◌≤◌, ℕ, suc, Bool, true, false, cond, ◌==◌, List, [], ◌∷◌, ◌++◌, length, take, get_or, Contains, ◌↔◌, Option, Some, None, refl, sym, ap, subst, arith, append_assoc}
 use Rattle.std.specs.Prelude.{slice_get}
 use mathlib.Core.Logic.{◌⊎◌, inl, inr}
 use Rattle.std.proofs.lemmas.List.{append-nil, take_all}
 use Rattle.std.proofs.lemmas.List.Elements.{Contains-append_left, Contains-append_right, Contains-append_cases, Contains-push, Contains-push_cases}
-use Rattle.std.proofs.lemmas.Option.{slice_get-get_or, slice_get_past}
+use Rattle.std.proofs.lemmas.Option.{slice_get-get_or, slice_get_past, slice_get_within}
 use Rattle.std.proofs.lemmas.Bool.{cases_lt}
 use Rattle.std.proofs.lemmas.Bool.Decides.{nat_tests}
 use Rattle.rx_terms.specs.Text.{Chars}
 use Rattle.rx_grammar.specs.Trees.{Tree}
 use Rattle.rx_microdata.specs.Elements.{Placed, is_item}
 use Rattle.rx_items.specs.Rows.{rows_of, row_count}
-use Rattle.rx_items.specs.Showing.{ShowsRow, ShowsRows}
+use Rattle.rx_items.specs.Showing.{ShowsRow}
 use Rattle.rx_items.specs.Members.{Sorted, RunOf}
 use Rattle.rx_items.specs.Properties.{in_runs, part}
 use Rattle.rx_items.specs.Starts.{reach_end, Reached, FromChildren, FromStart, RunsReach}
 use Rattle.rx_items.specs.declared.kept.Run.{Run}
 use Rattle.rx_items.specs.declared.rows.Row.{Row}
 use Rattle.rx_items.proofs.IdLemmas.{row_shown}
-use Rattle.rx_items.proofs.MemberLemmas.{in_range, of_range, row_short}
+use Rattle.rx_items.proofs.MemberLemmas.{in_range, of_range}
 use Rattle.rx_items.proofs.NestLemmas.{laid, numbered}
 use Rattle.rx_items.proofs.StartLemmas.{end_by, run_reaches, reached_in_run}
 use Rattle.rx_items.proofs.TakeLemmas.{one_more}
 use Rattle.rx_items.specs.Growing.{nothing_kept}
+use Rattle.rx_items.proofs.ShowLemmas.{shows_length}
+use Rattle.rx_microdata.proofs.Lists.{none as none_in}
 
 pub runs_more : (members : List ℕ) (runs : List Run) (run : Run) → in_runs members (runs ++ run ∷ []) ≡ in_runs members runs ++ part members run
 runs_more members [] run = append-nil (part members run)
 runs_more members (r ∷ runs) run = ap (λ (l : List ℕ). part members r ++ l) (runs_more members runs run) ∙ sym (append_assoc (part members r) (in_runs members runs) (part members run))
-
-pub rows_length : (words gathered : Chars) (times : List Chars) (rows : List Row) (ps : List Placed) → ShowsRows words gathered times rows ps → length rows ≡ length ps
-rows_length words gathered times [] [] s = refl
-rows_length words gathered times [] (p ∷ ps) s = absurd s
-rows_length words gathered times (r ∷ rows) [] s = absurd s
-rows_length words gathered times (r ∷ rows) (p ∷ ps) s = ap suc (rows_length words gathered times rows ps s.1)
-
-no_place : (x : ℕ) → Contains [] x → ⊥
-no_place x c = let lt = c.1 in absurd (omega (arith, lt))
 
 -- what a start reaches, where it is a row
 pub record StartAt (ps : List Placed) (place x : ℕ) : Type 0 where
@@ -53,7 +46,7 @@ module _ (words gathered : Chars) (times : List Chars) (rows : List Row) (tree :
       named = o.named;
       scope_is = o.scope_is;
       low = omega arith;
-      high = let size = rows_length words gathered times rows (rows_of tree) s.shows in let short = row_short (rows_of tree) x o.row o.is in omega (arith, size, short);
+      high = let size = shows_length words gathered times rows (rows_of tree) s.shows in let short = slice_get_within (rows_of tree) x o.row o.is in omega (arith, size, short);
     })),
   )
 
@@ -87,15 +80,15 @@ module _ (words gathered : Chars) (times : List Chars) (rows : List Row) (tree :
   start_members place run some none = by (cases_lt place (length rows))
     where
       size : length rows ≡ length (rows_of tree)
-      size = rows_length words gathered times rows (rows_of tree) s.shows
+      size = shows_length words gathered times rows (rows_of tree) s.shows
 
       by : (place < length rows) ⊎ (length rows ≤ place) → (x : ℕ) → Contains (part members run) x ↔ StartAt (rows_of tree) place x
       by (inl lt) =
           let shown = row_shown words gathered times rows (rows_of tree) place nothing_kept s.shows lt in
           start_there place run (get_or rows place nothing_kept) shown.0 shown.1 shown.2 (some (get_or rows place nothing_kept) (slice_get-get_or rows place nothing_kept lt))
       by (inr over) = λ x. (
-        (λ c. absurd (no_place x (subst (λ (r : Run). Contains (part members r) x) (none (slice_get_past rows place over)) c))),
-        (λ a. let short = row_short (rows_of tree) place a.start a.there in let e = size in absurd (omega (arith, short, e, over))),
+        (λ c. none_in x (subst (λ (r : Run). Contains (part members r) x) (none (slice_get_past rows place over)) c)),
+        (λ a. let short = slice_get_within (rows_of tree) place a.start a.there in let e = size in absurd (omega (arith, short, e, over))),
       )
 
   pub reach_begins : (place : ℕ) (old new : List Run) (run : Run) → old ≡ [] → ((members : List ℕ) → in_runs members new ≡ in_runs members old ++ part members run) → RunOf rows members (Some place) 0 (length rows) run
@@ -109,7 +102,7 @@ module _ (words gathered : Chars) (times : List Chars) (rows : List Row) (tree :
     where
       back : in_runs members new ≡ part members run → (FromChildren (rows_of tree) place x → Contains (part members run) x) → RunsReach (rows_of tree) place [] x → Contains (in_runs members new) x
       back is f (inl o) = subst (λ (l : List ℕ). Contains l x) (sym is) (f o)
-      back is f (inr a) = absurd (no_place a.place a.among)
+      back is f (inr a) = none_in a.place a.among
 
   -- where there is no start
   pub reach_alone : (place : ℕ) (starts : List ℕ) (run : Run) (others : List Run) → starts ≡ [] → others ≡ [] → RunOf rows members (Some place) 0 (length rows) run
@@ -149,11 +142,6 @@ module _ (words gathered : Chars) (times : List Chars) (rows : List Row) (tree :
 pub reach_ends : (ps : List Placed) (place : ℕ) (starts : List ℕ) (i : ℕ) (inside : List ℕ) → length starts ≤ i → ((x : ℕ) → Contains inside x ↔ RunsReach ps place (take i starts) x)
     → (x : ℕ) → Contains inside x ↔ RunsReach ps place starts x
 reach_ends ps place starts i inside over h = subst (λ (l : List ℕ). (x : ℕ) → Contains inside x ↔ RunsReach ps place l x) (take_all i starts over) h
-
-pub same_default : (xs : List ℕ) (i d e : ℕ) → i < length xs → get_or xs i d ≡ get_or xs i e
-same_default [] i d e lt = absurd (omega (arith, lt))
-same_default (x ∷ xs) zero d e lt = refl
-same_default (x ∷ xs) (suc i) d e lt = same_default xs i d e (omega (arith, lt))
 
 pub not_none : (n : ℕ) → (suc n == 0) ≡ false
 not_none n = grind (arith, nat_tests)

@@ -10,7 +10,7 @@ use Rattle.std.proofs.lemmas.List.Filters.{dedup_is}
 use Rattle.std.proofs.lemmas.List.Elements.{All-from_recursion, All-contains}
 use Rattle.std.proofs.lemmas.List.Sorted.{Contains-permutation, IsPermutation-sym}
 use mathlib.Core.Logic.{◌⊎◌, inl, inr}
-use Rattle.rx_microdata.proofs.Lists.{first, later, first_or_later}
+use Rattle.rx_microdata.proofs.Lists.{first, later, first_or_later, none}
 
 abbrev pub Rises : List ℕ → Type 0
 Rises xs = IsStrictlySortedBy nat_cmp xs
@@ -40,9 +40,6 @@ less_of x y lt = by (nat_cmp x y) refl
 above_first : (x z : ℕ) (xs : List ℕ) → AllByRecursion (λ (y : ℕ). nat_cmp x y ≡ Less) xs → Contains xs z → x < z
 above_first x z xs all c = below_of x z (All-contains (λ (y : ℕ). nat_cmp x y ≡ Less) xs z (All-from_recursion (λ (y : ℕ). nat_cmp x y ≡ Less) xs all) c)
 
-no_member : (x : ℕ) → Contains [] x → ⊥
-no_member x c = let lt = c.1 in absurd (omega (arith, lt))
-
 first_of_both : (x y : ℕ) (xs ys : List ℕ) → Rises (x ∷ xs) → Rises (y ∷ ys) → Contains (y ∷ ys) x → Contains (x ∷ xs) y → x ≡ y
 unfolding IsStrictlySortedBy
 first_of_both x y xs ys p q c d = by (first_or_later y x ys c) (first_or_later x y xs d)
@@ -64,8 +61,8 @@ in_rest x y xs ys p same all z c = by (first_or_later y z ys (all z (later x z x
 pub same_rising : (xs ys : List ℕ) → Rises xs → Rises ys → ((x : ℕ) → Contains xs x → Contains ys x) → ((x : ℕ) → Contains ys x → Contains xs x) → xs ≡ ys
 unfolding IsStrictlySortedBy
 same_rising [] [] p q f g = refl
-same_rising [] (y ∷ ys) p q f g = absurd (no_member y (g y (first y ys)))
-same_rising (x ∷ xs) [] p q f g = absurd (no_member x (f x (first x xs)))
+same_rising [] (y ∷ ys) p q f g = none y (g y (first y ys))
+same_rising (x ∷ xs) [] p q f g = none x (f x (first x xs))
 same_rising (x ∷ xs) (y ∷ ys) p q f g =
     let e = first_of_both x y xs ys p q (f x (first x xs)) (g y (first y ys)) in
     let rest = same_rising xs ys p.1 q.1 (in_rest x y xs ys p e f) (in_rest y x ys xs q (sym e) g) in

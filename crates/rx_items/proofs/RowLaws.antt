@@ -1,5 +1,5 @@
 -- The rows of a page come to what the page comes to.
-use Rattle.std.specs.Prelude.{◌≡◌, ℕ, ◌≤◌, Bool, true, false, not, ◌&&◌, ◌||◌, ◌==◌, cond, ◌⊎◌, List, [], ◌∷◌, ◌++◌, map, filter, filter_map, find, Contains, Option, Some, None, option_map, is_some, unwrap_or}
+use Rattle.std.specs.Prelude.{◌≡◌, ℕ, ◌≤◌, Bool, true, false, not, ◌&&◌, ◌||◌, ◌==◌, cond, ◌⊎◌, List, [], ◌∷◌, map, filter, filter_map, find, Contains, Option, Some, None, option_map, is_some, unwrap_or}
 use Rattle.std.specs.List.{list_any, cons_option}
 use Rattle.std.proofs.Common.{refl, sym, ap, subst, ◌∙◌}
 use mathlib.Core.Logic.{inl, inr}
@@ -17,6 +17,8 @@ use Rattle.rx_items.specs.Rows.{matters, rows_from, rows_of, properties_in, Rows
 use Rattle.rx_items.specs.Ranks.{marks, rank_in}
 use Rattle.rx_items.proofs.Alike.{Each, Item, Moves, outcome_alike}
 use Rattle.rx_items.proofs.RankLemmas.{is_row, ranked, Ranks, Counts, rows_are_ranked, row_counts, lt_same, eq_same, rank_rises, ranks_from}
+use Rattle.std.proofs.lemmas.List.{append-nil}
+use Rattle.std.proofs.lemmas.Bool.{or_parts, and_left, and_right}
 
 -- a filter of what is moved is the moved filter, where the tests agree on rows and other elements fail
 module _ (f : Placed → Placed) (p q : Placed → Bool) where
@@ -41,29 +43,17 @@ module _ (f : Placed → Placed) (p q : Placed → Bool) where
 
 -- what matters
 no_item : (facts : Facts) → matters facts ≡ false → facts.is_item ≡ false
-no_item facts h = by facts.is_item (is_some facts.names || is_some facts.id) h
-  where
-    by : (a b : Bool) → (a || b) ≡ false → a ≡ false
-    by true b e = e
-    by false b e = refl
-
-rest_of : (a b : Bool) → (a || b) ≡ false → b ≡ false
-rest_of true b e = contradiction true refl e
-rest_of false b e = e
-
-front_of : (a b : Bool) → (a || b) ≡ false → a ≡ false
-front_of true b e = e
-front_of false b e = refl
+no_item facts h = (or_parts facts.is_item _ h).0
 
 no_names : (facts : Facts) → matters facts ≡ false → is_any (unwrap_or facts.names []) ≡ false
-no_names facts h = by facts.names (front_of (is_some facts.names) (is_some facts.id) (rest_of facts.is_item (is_some facts.names || is_some facts.id) h))
+no_names facts h = by facts.names (or_parts (is_some facts.names) _ (or_parts facts.is_item _ h).1).0
   where
     by : (o : Option (List Chars)) → is_some o ≡ false → is_any (unwrap_or o []) ≡ false
     by None e = refl
     by (Some names) e = contradiction true refl e
 
 no_id : (facts : Facts) (token : Chars) → matters facts ≡ false → is_same_id token facts.id ≡ false
-no_id facts token h = by facts.id (rest_of (is_some facts.names) (is_some facts.id) (rest_of facts.is_item (is_some facts.names || is_some facts.id) h))
+no_id facts token h = by facts.id (or_parts (is_some facts.names) _ (or_parts facts.is_item _ h).1).1
   where
     by : (o : Option Chars) → is_some o ≡ false → is_same_id token o ≡ false
     by None e = refl
@@ -87,10 +77,6 @@ named_matters facts h =
     by : (o : Option (List Chars)) → is_any (unwrap_or o []) ≡ true → is_some o ≡ true
     by None e = contradiction false e refl
     by (Some names) e = refl
-
-fails_at : (a b c : Bool) → b ≡ false → (a && b && c) ≡ false
-fails_at true b c e = ap (λ x. x && c) e
-fails_at false b c e = refl
 
 module _ (f : Placed → Placed) (ids : (token : Chars) (e : Placed) → has_id token (f e) ≡ has_id token e) where
   first_moved : (token : Chars) (xs : List Placed) → find (has_id token) (map f (filter is_row xs)) ≡ option_map f (find (has_id token) xs)
@@ -116,12 +102,8 @@ module _ (tree : Tree) where
   abbrev rank : ℕ → ℕ
   rank = rank_in (marks tree)
 
-  append_nil : (xs : List Bool) → xs ++ [] ≡ xs
-  append_nil [] = refl
-  append_nil (x ∷ xs) = ap (λ l. x ∷ l) (append_nil xs)
-
   ranks : Ranks rank 0 tree
-  ranks = ranks_from (marks tree) [] tree [] 0 refl (sym (append_nil (marks tree)))
+  ranks = ranks_from (marks tree) [] tree [] 0 refl (sym (append-nil (marks tree)))
 
   rank_zero : (ms : List Bool) → rank_in ms 0 ≡ 0
   rank_zero [] = refl
@@ -219,7 +201,7 @@ module _ (tree : Tree) where
       ap (λ rows. properties_in rows (move root)) rows_moved
       ∙ filter_moved move (is_property_by_scope page root) (is_property_by_scope (map move (filter is_row page)) (move root)) page
       (λ e h t. test_same root e g.0 (h, t))
-      (λ e h t. fails_at (not (root.place == e.place)) (is_any (names_of e)) _ (no_names e.facts t))
+      (λ e h t. and_left (not (root.place == e.place) && is_any (names_of e)) _ (and_right (not (root.place == e.place)) _ (no_names e.facts t)))
       ∙ ap (map move) (sym (scopes_list tree root (g.0).0 g.1))
 
   each_of : (P : Placed → Type 0) (xs : List Placed) → ((e : Placed) → Contains xs e → P e) → Each P xs
@@ -240,11 +222,7 @@ module _ (tree : Tree) where
   tops_moved : filter is_top_level (rows_of tree) ≡ map move (filter is_top_level page)
   tops_moved =
       ap (filter is_top_level) rows_moved
-      ∙ filter_moved move is_top_level is_top_level page (λ e h t. refl) (λ e h t. fails_first (is_item e) _ (no_item e.facts t))
-    where
-      fails_first : (a b : Bool) → a ≡ false → (a && b) ≡ false
-      fails_first true b e = contradiction true refl e
-      fails_first false b e = refl
+      ∙ filter_moved move is_top_level is_top_level page (λ e h t. refl) (λ e h t. and_left (is_item e) _ (no_item e.facts t))
 
   tops_good : Each (Item Good) (filter is_top_level page)
   tops_good = each_of (Item Good) (filter is_top_level page) (λ e h.

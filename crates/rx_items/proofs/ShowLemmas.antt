@@ -1,6 +1,6 @@
 -- What rows stand for stays as the table grows.
-use Rattle.std.specs.Prelude.{◌≡◌, ℕ, suc, ◌≤◌, ⊤, List, [], ◌∷◌, ◌++◌, length, Option, Some, None}
-use Rattle.std.proofs.Common.{refl, ap, ◌∙◌}
+use Rattle.std.specs.Prelude.{◌≡◌, ℕ, suc, ◌≤◌, ⊤, List, [], ◌∷◌, ◌++◌, length, Option, Some, None, slice_get, zero}
+use Rattle.std.proofs.Common.{refl, ap, ◌∙◌, subst}
 use native.Mathlib.Omega.{arith}
 use Rattle.rx_terms.specs.Text.{Chars}
 use Rattle.rx_microdata.specs.Facts.{Value}
@@ -11,8 +11,8 @@ use Rattle.rx_items.specs.declared.spans.Span.{Span}
 use Rattle.rx_items.specs.declared.rows.Row.{Row}
 use Rattle.rx_items.specs.declared.rows.RowValue.{RowValue}
 use Rattle.rx_items.specs.declared.rows.RowValue.TheVariants as value
-use Rattle.rx_items.proofs.ListLemmas.{append_assoc}
 use Rattle.rx_items.proofs.SaidLemmas.{Keeps}
+use Rattle.std.proofs.lemmas.List.{append_assoc}
 
 pub stands_more : (text more : Chars) (span : Span) (part : Chars) → ShowsPart text span part → ShowsPart (text ++ more) span part
 stands_more text more span part s = record {
@@ -94,12 +94,8 @@ shows_length words text times (row ∷ rows) [] s = absurd s
 shows_length words text times (row ∷ rows) (p ∷ ps) s = ap suc (shows_length words text times rows ps s.1)
 
 own_weaker : (low lower : ℕ) (r : RowValue) → lower ≤ low → OwnFrom low r → OwnFrom lower r
-own_weaker low lower value.Empty l o = tt
-own_weaker low lower (value.Written span) l o = tt
-own_weaker low lower (value.Reference span) l o = tt
-own_weaker low lower (value.Running from) l o = tt
-own_weaker low lower (value.Run span) l o = tt
 own_weaker low lower (value.ChildText time) l o = omega (arith, l, o)
+own_weaker low lower _ l o = tt
 
 pub owns_weaker : (low lower : ℕ) (rows : List Row) → lower ≤ low → OwnsFrom low rows → OwnsFrom lower rows
 owns_weaker low lower [] l o = tt
@@ -108,3 +104,19 @@ owns_weaker low lower (row ∷ rows) l o = (own_weaker low lower row.value l o.0
 pub owns_append : (low : ℕ) (rows more : List Row) → OwnsFrom low rows → OwnsFrom low more → OwnsFrom low (rows ++ more)
 owns_append low [] more o q = q
 owns_append low (row ∷ rows) more o q = (o.0, owns_append low rows more o.1 q)
+
+-- what a row shows, and what shows it
+module _ (words gathered : Chars) (times : List Chars) where
+  pub shown_by : (rows : List Row) (ps : List Placed) (i : ℕ) (row : Row) → ShowsRows words gathered times rows ps → slice_get rows i ≡ Some row
+      → (p : Placed) × (slice_get ps i ≡ Some p) × ShowsRow words gathered times row p
+  shown_by [] ps i row s g = absurd (cc (g))
+  shown_by (r ∷ rows) [] i row s g = absurd s
+  shown_by (r ∷ rows) (p ∷ ps) zero row s g = let same : r ≡ row = cc (g) in (p, refl, subst (λ (x : Row). ShowsRow words gathered times x p) same s.0)
+  shown_by (r ∷ rows) (p ∷ ps) (suc i) row s g = shown_by rows ps i row s.1 g
+
+  pub row_of : (rows : List Row) (ps : List Placed) (i : ℕ) (p : Placed) → ShowsRows words gathered times rows ps → slice_get ps i ≡ Some p
+      → (row : Row) × (slice_get rows i ≡ Some row) × ShowsRow words gathered times row p
+  row_of rows [] i p s g = absurd (cc (g))
+  row_of [] (q ∷ ps) i p s g = absurd s
+  row_of (r ∷ rows) (q ∷ ps) zero p s g = let same : q ≡ p = cc (g) in (r, refl, subst (λ (x : Placed). ShowsRow words gathered times r x) same s.0)
+  row_of (r ∷ rows) (q ∷ ps) (suc i) p s g = row_of rows ps i p s.1 g

@@ -1,15 +1,14 @@
 -- Of each tree the table shows the rows.
-use Rattle.std.specs.Prelude.{◌≡◌, ℕ, suc, ◌+◌, ◌-◌, ◌≤◌, Bool, true, false, ◌||◌, cond, List, [], ◌∷◌, ◌++◌, length, take, slice_get, slice_index_or, slice_set, Option, Some, None, is_some, codes}
+use Rattle.std.specs.Prelude.{◌≡◌, ℕ, suc, ◌+◌, ◌-◌, ◌≤◌, Bool, true, false, ◌||◌, cond, List, [], ◌∷◌, ◌++◌, length, take, slice_get, slice_index_or, slice_set, Option, Some, None, codes}
 use Rattle.std.proofs.Common.{refl, sym, ap, subst, ◌∙◌}
-use Rattle.std.proofs.lemmas.Bool.{lt-ltb}
-use Rattle.std.proofs.lemmas.List.{length-append}
+use Rattle.std.proofs.lemmas.Bool.{lt-ltb, or_left, or_right}
+use Rattle.std.proofs.lemmas.List.{length-append, append-nil, append_assoc}
 use native.Mathlib.Omega.{arith}
 use Rattle.rx_terms.specs.Text.{Chars}
 use Rattle.rx_grammar.specs.Tokens.{value_of}
 use Rattle.rx_grammar.specs.Trees.{StartTag, Tree, end, element, text}
-use Rattle.rx_microdata.specs.Facts.{Value, attribute, begins_item, facts_of, all_text, own_text}
+use Rattle.rx_microdata.specs.Facts.{Value, attribute, facts_of, all_text, own_text}
 use Rattle.rx_microdata.specs.Elements.{Placed, scope_in}
-use Rattle.rx_microdata.proofs.Lists.{contradiction}
 use Rattle.rx_items.specs.Rows.{matters, needed, behind, row_count, with_row, rows_from}
 use Rattle.rx_items.specs.Spans.{mark_of}
 use Rattle.rx_items.specs.Words.{is_marked, text_of_words}
@@ -20,10 +19,12 @@ use Rattle.rx_items.specs.declared.rows.Row.{Row}
 use Rattle.rx_items.specs.declared.rows.Open.{Open}
 use Rattle.rx_items.specs.declared.values.Taken.{Taken}
 use Rattle.rx_items.specs.declared.values.Taken.TheVariants as taken
-use Rattle.rx_items.proofs.ListLemmas.{append_nil, append_assoc, get_there, set_there, last_of, front_of, get_behind}
-use Rattle.rx_items.proofs.SaidLemmas.{OwnIn, said_length, said_nothing, said_more, said_twice, Keeps, keeps}
+use Rattle.rx_items.proofs.ListLemmas.{last_of, front_of, get_behind}
+use Rattle.rx_items.proofs.SaidLemmas.{OwnIn, said_there, said_length, said_nothing, said_more, said_twice, Keeps, keeps}
 use Rattle.rx_items.proofs.ShowLemmas.{stands_more, OwnFrom, OwnsFrom, rows_more, shows_append, shows_length, owns_weaker, owns_append}
 use Rattle.rx_items.proofs.TakenLemmas.{More, more_then, all_words, words_shown, marks_matter, ShowsTaken, taken_shown, taken_on, any_names}
+use Rattle.std.proofs.Math.Seq.{get_or-append_seam, set-append_seam}
+use Rattle.rx_items.proofs.NestLemmas.{not_item}
 
 -- what some nodes, with this text and own text, add below an open element: these rows
 record Grown (at : Open) (g : Growing) (all own : Chars) (ps : List Placed) (later : Growing) : Type 0 where
@@ -93,9 +94,9 @@ text_on true t c m = append_assoc t c m
 text_on false t c m = refl
 
 -- text
-says : (at : Open) (g later : Growing) (chars all own : Chars) (ps : List Placed) → innermost g.line ≡ at → OwnIn at.own (length g.times)
-    → Grown at (said g chars) all own ps later → Grown at g (chars ++ all) (chars ++ own) ps later
-says at g later chars all own ps e o c =
+says : (at : Open) (g later : Growing) (chars all own : Chars) (ps : List Placed) → innermost g.line ≡ at → Grown at (said g chars) all own ps later
+    → Grown at g (chars ++ all) (chars ++ own) ps later
+says at g later chars all own ps e c =
     let size : length (said g chars).times ≡ length g.times = said_length (innermost g.line).own chars g.times in
     record {
       new = c.new;
@@ -109,23 +110,23 @@ says at g later chars all own ps e o c =
       more_times = c.more_times;
       times =
           c.times ∙ ap (λ (o : Open). with_said at.own own (with_said o.own chars g.times) ++ c.more_times) e
-          ∙ ap (λ l. l ++ c.more_times) (said_twice at.own chars own g.times o);
+          ∙ ap (λ l. l ++ c.more_times) (said_twice at.own chars own g.times);
       shown = c.shown;
       owns = subst (λ n. OwnsFrom n c.new) size c.owns;
     }
 
-nothing : (at : Open) (g : Growing) → OwnIn at.own (length g.times) → Grown at g [] [] [] g
-nothing at g o = record {
+nothing : (at : Open) (g : Growing) → Grown at g [] [] [] g
+nothing at g = record {
   new = [];
-  rows = sym (append_nil g.rows);
+  rows = sym (append-nil g.rows);
   line = refl;
   more_words = [];
-  words = sym (append_nil g.words);
+  words = sym (append-nil g.words);
   more_text = [];
-  text_is = sym (append_nil g.text);
+  text_is = sym (append-nil g.text);
   gathered = λ e. refl;
   more_times = [];
-  times = sym (append_nil (with_said at.own [] g.times) ∙ said_nothing at.own g.times o);
+  times = sym (append-nil (with_said at.own [] g.times) ∙ said_nothing at.own g.times);
   shown = tt;
   owns = tt;
 }
@@ -177,43 +178,24 @@ abbrev own_times : Taken → Chars → List Chars → List Chars
 own_times taken.ChildText own more = own ∷ more
 own_times _ own more = more
 
-or_right_true : (a b : Bool) → b ≡ true → (a || b) ≡ true
-or_right_true true b e = refl
-or_right_true false b e = e
-
-or_true : (a b : Bool) → a ≡ true → (a || b) ≡ true
-or_true true b e = refl
-or_true false b e = contradiction false e refl
-
 own_in : (tk : Taken) (times : List Chars) → OwnIn (own_of tk (length times)) (length (with_own tk times))
-own_in taken.Empty times = tt
-own_in (taken.Written span) times = tt
-own_in (taken.Reference span) times = tt
-own_in taken.Text times = tt
 own_in taken.ChildText times = let e = length-append times ([] ∷ []) in omega (arith, e)
+own_in _ times = tt
 
 own_size : (tk : Taken) (times : List Chars) → length times ≤ length (with_own tk times)
-own_size taken.Empty times = omega arith
-own_size (taken.Written span) times = omega arith
-own_size (taken.Reference span) times = omega arith
-own_size taken.Text times = omega arith
 own_size taken.ChildText times = let e = length-append times ([] ∷ []) in omega (arith, e)
+own_size _ times = omega arith
 
 own_said : (own : Chars) (times : List Chars) → with_said (Some (length times)) own (times ++ ([] ∷ [])) ≡ times ++ (own ∷ [])
 own_said own times =
-    let e = length-append times ([] ∷ []) in
-    ap (λ b. cond b (slice_set (times ++ ([] ∷ [])) (length times) (slice_index_or (times ++ ([] ∷ [])) (length times) [] ++ own)) (times ++ ([] ∷ [])))
-    (lt-ltb (length times) (length (times ++ ([] ∷ []))) (omega (arith, e)))
-    ∙ ap (λ x. slice_set (times ++ ([] ∷ [])) (length times) (x ++ own)) (get_there times [] [] [])
-    ∙ set_there times [] own []
+    said_there (length times) own (times ++ ([] ∷ []))
+    ∙ ap (λ x. slice_set (times ++ ([] ∷ [])) (length times) (x ++ own)) (get_or-append_seam times [] [] [])
+    ∙ set-append_seam times [] [] own
 
 times_are : (tk : Taken) (own : Chars) (times more : List Chars)
     → with_said (own_of tk (length times)) own (with_own tk times) ++ more ≡ times ++ own_times tk own more
-times_are taken.Empty own times more = refl
-times_are (taken.Written span) own times more = refl
-times_are (taken.Reference span) own times more = refl
-times_are taken.Text own times more = refl
 times_are taken.ChildText own times more = ap (λ l. l ++ more) (own_said own times) ∙ append_assoc times (own ∷ []) more
+times_are _ own times more = refl
 
 -- the value of a row whose element has ended
 value_shown : (tk : Taken) (words later front longer more_text : Chars) (times more : List Chars) (v : Value) (all own : Chars)
@@ -231,17 +213,14 @@ value_shown taken.Text words later front longer mt times more v all own w t g s 
       record {
         front = front;
         rest = [];
-        is_run = record { is_whole = whole ∙ ap (λ l. front ++ l) (sym (append_nil all)); from = refl; to = ap mark_of whole };
+        is_run = record { is_whole = whole ∙ ap (λ l. front ++ l) (sym (append-nil all)); from = refl; to = ap mark_of whole };
       },
     )
 value_shown taken.ChildText words later front longer mt times more v all own w t g s = (own, s, get_behind times own more)
 
 own_from : (tk : Taken) (mark last : ℕ) (size : ℕ) → OwnFrom size (ended_value (row_value tk mark size) last)
-own_from taken.Empty mark last size = tt
-own_from (taken.Written span) mark last size = tt
-own_from (taken.Reference span) mark last size = tt
-own_from taken.Text mark last size = tt
 own_from taken.ChildText mark last size = omega arith
+own_from _ mark last size = tt
 
 -- a row ends
 row_ends : (rows new whole : List Row) (row : Row) (mark : ℕ) → whole ≡ (rows ++ (row ∷ [])) ++ new
@@ -253,9 +232,9 @@ row_ends rows new whole row mark e =
     ap (λ b. cond b (slice_set whole (length rows) (ended (slice_index_or whole (length rows) nothing_kept) (length whole) mark)) whole)
     (lt-ltb (length rows) (length whole) (omega (arith, size, long)))
     ∙ ap (λ (x : Row). slice_set whole (length rows) (ended x (length whole) mark))
-    (ap (λ (l : List Row). slice_index_or l (length rows) nothing_kept) split ∙ get_there rows row nothing_kept new)
+    (ap (λ (l : List Row). slice_index_or l (length rows) nothing_kept) split ∙ get_or-append_seam rows row new nothing_kept)
     ∙ ap (λ (l : List Row). slice_set l (length rows) (ended row (length whole) mark)) split
-    ∙ set_there rows row (ended row (length whole) mark) new
+    ∙ set-append_seam rows row new (ended row (length whole) mark)
 
 module _ (g : Growing) (t : StartTag) (inner : Tree) where
   abbrev kept_text : Chars
@@ -306,7 +285,7 @@ module _ (g : Growing) (t : StartTag) (inner : Tree) where
       let shown_value =
       subst (λ (l : List Chars). ShowsValue g2.words g2.text l (ended_value (row_value tk (mark_of g.text) (length g.times)) (mark_of g2.text)) (needed (facts_of t inner)).value) (sym times)
       (value_shown tk (text_taken kept_text (tag_in t)) g2.words g.text g2.text a.more_text g.times a.more_times (needed (facts_of t inner)).value (all_text inner) (own_text inner)
-      words_more a.text_is (λ k. a.gathered (or_right_true at.gathers (is_text tk) k)) (taken_shown kept_text t inner)) in
+      words_more a.text_is (λ k. a.gathered (or_right at.gathers (is_text tk) k)) (taken_shown kept_text t inner)) in
       let row : ShowsRow g2.words g2.text g2.times (ended (new_row at) (length g2.rows) (mark_of g2.text)) (placed at) = record {
         token = refl;
         at = refl;
@@ -335,19 +314,12 @@ module _ (g : Growing) (t : StartTag) (inner : Tree) where
         words = all_more.1;
         more_text = a.more_text;
         text_is = a.text_is;
-        gathered = λ k. a.gathered (or_true at.gathers (is_text tk) k);
+        gathered = λ k. a.gathered (or_left at.gathers (is_text tk) k);
         more_times = own_times tk (own_text inner) a.more_times;
         times = times;
         shown = (row, a.shown);
         owns = (own_from tk (mark_of g.text) (mark_of g2.text) (length g.times), owns_weaker (length marked.times) (length g.times) a.new (own_size tk g.times) a.owns);
       }
-
-no_item : (t : StartTag) → is_marked t.attributes ≡ false → begins_item t ≡ false
-no_item t h = by (begins_item t) (is_some (value_of t.attributes (codes "itemprop")) || is_some (value_of t.attributes (codes "id"))) h
-  where
-    by : (a b : Bool) → (a || b) ≡ false → a ≡ false
-    by true b e = e
-    by false b e = refl
 
 -- the rows of an element and of what follows it
 element_rows : (t : StartTag) (inner more : Tree) (scope : Option ℕ) (place : ℕ) (b : Bool) → is_marked t.attributes ≡ b
@@ -423,17 +395,17 @@ module _ (t : StartTag) (inner more : Tree) (in_inner : Grows inner) (in_more : 
       let a = in_inner x (passed g) last tt in
       let start = passes at g (after (passed g) inner) (all_text inner) (own_text inner) (rows_from at.scope (length g.rows) inner) e a in
       follows (finished (after (passed g) inner)) false (rows_from at.scope (length g.rows) inner) m start
-      (ap (λ b. rows_from (cond b (Some (length g.rows)) at.scope) (length g.rows) inner) (no_item t m))
+      (ap (λ b. rows_from (cond b (Some (length g.rows)) at.scope) (length g.rows) inner) (not_item t inner (marks_matter t inner ∙ m)))
 
   by_mark : (b : Bool) → is_marked t.attributes ≡ b → Whole (after (finished (after (cond b (marked g t inner) (passed g)) inner)) more)
   by_mark true m = is_marked_row m
   by_mark false m = is_passed m
 
 grows : (tree : Tree) → Grows tree
-grows end at g e o = nothing at g o
+grows end at g e o = nothing at g
 grows (element t inner more) at g e o = by_mark t inner more (grows inner) (grows more) at g e o (is_marked t.attributes) refl
 grows (text chars more) at g e o =
-    says at g (after (said g chars) more) chars (all_text more) (own_text more) (rows_from at.scope (length g.rows) more) e o
+    says at g (after (said g chars) more) chars (all_text more) (own_text more) (rows_from at.scope (length g.rows) more) e
     (grows more at (said g chars) e (own_grows at.own (length g.times) (length (said g chars).times) (said_size g chars) o))
   where
     said_size : (g : Growing) (chars : Chars) → length g.times ≤ length (said g chars).times

@@ -14,8 +14,8 @@ use Rattle.rx_items.specs.Showing.{ShowsPart, ShowsWord, tag_in}
 use Rattle.rx_items.specs.declared.spans.Span.{Span}
 use Rattle.rx_items.specs.declared.values.Taken.{Taken}
 use Rattle.rx_items.specs.declared.values.Taken.TheVariants as taken
-use Rattle.rx_items.proofs.ListLemmas.{append_nil, append_assoc}
 use Rattle.rx_items.proofs.ShowLemmas.{word_more}
+use Rattle.std.proofs.lemmas.List.{append-nil, append_assoc}
 
 -- one text is another with more at its end
 abbrev pub More : Chars → Chars → Type 0
@@ -25,7 +25,7 @@ pub more_then : (a b c : Chars) → More a b → More b c → More a c
 more_then a b c p q = (p.0 ++ q.0, q.1 ∙ ap (λ l. l ++ q.0) p.1 ∙ append_assoc a p.0 q.0)
 
 pub no_more : (a : Chars) → More a a
-no_more a = ([], sym (append_nil a))
+no_more a = ([], sym (append-nil a))
 
 pub word_on : (text : Chars) (o : Option Chars) → More text (word_text text o)
 word_on text None = no_more text
@@ -36,7 +36,7 @@ word_shown text None = tt
 word_shown text (Some part) = record {
   front = text;
   rest = [];
-  is_run = record { is_whole = ap (λ l. text ++ l) (sym (append_nil part)); from = refl; to = refl };
+  is_run = record { is_whole = ap (λ l. text ++ l) (sym (append-nil part)); from = refl; to = refl };
 }
 
 -- where it stands, by where the text ended before and behind it

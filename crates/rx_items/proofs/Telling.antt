@@ -1,8 +1,7 @@
 -- The table after some signs, and the base that is known then.
-use Rattle.std.specs.Prelude.{◌≡◌, ℕ, suc, ◌-◌, Bool, true, false, nat_lt, cond, List, [], ◌∷◌, ◌++◌, map, length, slice_set, slice_index_or, Option, Some, None}
+use Rattle.std.specs.Prelude.{◌≡◌, ℕ, suc, ◌-◌, Bool, true, false, cond, List, [], ◌∷◌, ◌++◌, map, length}
 use Rattle.std.proofs.Common.{refl, sym, ap, subst, ◌∙◌}
-use Rattle.std.proofs.lemmas.Bool.{ltb-true}
-use Rattle.std.proofs.lemmas.List.{length-append, length-take-le}
+use Rattle.std.proofs.lemmas.List.{length-append, length-take-le, append-nil, append_assoc}
 use native.Mathlib.Omega.{arith}
 use Rattle.rx_terms.specs.Text.{Chars}
 use Rattle.rx_grammar.specs.Trees.{StartTag, Tree, end, element, text}
@@ -14,38 +13,18 @@ use Rattle.rx_base.specs.Seekings.{seek, sought, first_child}
 use Rattle.rx_base.proofs.Lines.{seeks_append, said_seeks}
 use Rattle.rx_items.specs.Words.{is_marked, text_of_words}
 use Rattle.rx_items.specs.Values.{taken_of, text_taken}
-use Rattle.rx_items.specs.Growing.{Growing, innermost, with_said, said, finished, begun, added, passed, head_of}
+use Rattle.rx_items.specs.Growing.{Growing, innermost, said, finished, begun, added, passed, head_of}
 use Rattle.rx_items.specs.Showing.{tag_in, after, nothing_read}
 use Rattle.rx_items.specs.Collecting.{Setting, told, told_all, BaseIs, BaseMoves, Collects}
 use Rattle.rx_items.specs.declared.collectors.Base.{Base}
 use Rattle.rx_items.specs.declared.collectors.Collector.{Collector}
 use Rattle.rx_items.specs.declared.rows.Open.{Open}
-use Rattle.rx_items.proofs.ListLemmas.{append_nil, append_assoc}
 use Rattle.rx_items.proofs.SaidLemmas.{said_nothing, said_twice}
 
 -- ---- text in pieces
 
-none_said : (own : Option ℕ) (times : List Chars) → with_said own [] times ≡ times
-none_said None times = refl
-none_said (Some own) times = go (nat_lt own (length times)) refl
-  where
-    go : (b : Bool) → nat_lt own (length times) ≡ b → with_said (Some own) [] times ≡ times
-    go true e = said_nothing (Some own) times (ltb-true own (length times) e)
-    go false e = ap (λ b. cond b (slice_set times own (slice_index_or times own [] ++ [])) times) e
-
-both_said : (own : Option ℕ) (a b : Chars) (times : List Chars) → with_said own b (with_said own a times) ≡ with_said own (a ++ b) times
-both_said None a b times = refl
-both_said (Some own) a b times = go (nat_lt own (length times)) refl
-  where
-    outside : nat_lt own (length times) ≡ false → (c : Chars) → with_said (Some own) c times ≡ times
-    outside e c = ap (λ b. cond b (slice_set times own (slice_index_or times own [] ++ c)) times) e
-
-    go : (t : Bool) → nat_lt own (length times) ≡ t → with_said (Some own) b (with_said (Some own) a times) ≡ with_said (Some own) (a ++ b) times
-    go true e = said_twice (Some own) a b times (ltb-true own (length times) e)
-    go false e = ap (with_said (Some own) b) (outside e a) ∙ outside e b ∙ sym (outside e (a ++ b))
-
 nothing_more : (b : Bool) (chars : Chars) → cond b (chars ++ []) chars ≡ chars
-nothing_more true chars = append_nil chars
+nothing_more true chars = append-nil chars
 nothing_more false chars = refl
 
 more_text : (t : Bool) (chars a b : Chars) → cond t (cond t (chars ++ a) chars ++ b) (cond t (chars ++ a) chars) ≡ cond t (chars ++ (a ++ b)) chars
@@ -55,13 +34,13 @@ more_text false chars a b = refl
 said_none : (g : Growing) → said g [] ≡ g
 said_none g =
     let texts = nothing_more (innermost g.line).gathers g.text in
-    let times = none_said (innermost g.line).own g.times in
+    let times = said_nothing (innermost g.line).own g.times in
     λ i. record g { text = texts i; times = times i }
 
 said_both : (g : Growing) (a b : Chars) → said (said g a) b ≡ said g (a ++ b)
 said_both g a b =
     let texts = more_text (innermost g.line).gathers g.text a b in
-    let times = both_said (innermost g.line).own a b g.times in
+    let times = said_twice (innermost g.line).own a b g.times in
     λ i. record g { text = texts i; times = times i }
 
 pub told_said : (g : Growing) (chars : Chars) → told_all g (map sign.said chars) ≡ said g chars

@@ -1,5 +1,5 @@
 -- A text without white space is a token.
-use Rattle.std.proofs.Common.{◌≡◌, ◌∙◌, ℕ, ◌<◌, nat_lt, cond, Bool, true, false, not, ◌&&◌, ◌==◌, List, [], ◌∷◌, length, take, drop, get_or, refl, ap, arith, Some, None}
+use Rattle.std.proofs.Common.{◌≡◌, ◌∙◌, ℕ, ◌<◌, nat_lt, cond, Bool, true, false, not, ◌==◌, List, [], ◌∷◌, length, take, drop, get_or, refl, ap, arith, Some, None}
 use Rattle.std.specs.Char.{is_ascii_whitespace}
 use Rattle.std.specs.List.{list_all, position, position_or_len}
 use Rattle.std.specs.Str.{chars, IsUtf8, IsTrimAsciiStart}
@@ -9,10 +9,7 @@ use Rattle.std.proofs.lemmas.List.Sums.{fails_before_first}
 use Rattle.rx_terms.specs.Text.{tokens}
 use Rattle.rx_terms.proofs.CharLemmas.{chars-end}
 use Rattle.rx_words.proofs.TokenLemmas.{found-end, first-token, tokens-first}
-
-not-empty : (empty : Bool) → not empty ≡ true → empty ≡ false
-not-empty true e = absurd (cc)
-not-empty false e = refl
+use Rattle.rx_terms.proofs.Bools.{untrue, both}
 
 pub one_token : (text : List ℕ) (empty : Bool) → IsUtf8 text → None ≡ position is_ascii_whitespace text → empty ≡ (length text == 0) → not empty ≡ true
     → tokens (chars text) ≡ chars text ∷ []
@@ -21,7 +18,7 @@ one_token text empty utf8 none is some =
     let filled : 0 < length text = grind (arith, nat_tests) in
     let first : is_ascii_whitespace (get_or text 0 0) ≡ false = fails_before_first is_ascii_whitespace text 0 0 (omega (arith, end, filled)) in
     let untrimmed : IsTrimAsciiStart text text = (0, refl, omega arith, (λ i l. absurd (omega (arith, l))), (λ l. first)) in
-    let cut = first-token text text (take (length text) text) (drop (length text) text) (length text) empty utf8 utf8 untrimmed is (not-empty empty some) end refl refl in
+    let cut = first-token text text (take (length text) text) (drop (length text) text) (length text) empty utf8 utf8 untrimmed is (untrue empty some) end refl refl in
     let front : chars (take (length text) text) ≡ chars text = ap chars (take_all (length text) text (omega arith)) in
     let rest : tokens (chars (drop (length text) text)) ≡ [] = ap tokens (chars-end (drop (length text) text) (omega (arith, length-drop (length text) text))) in
     tokens-first (chars text) (chars (take (length text) text)) (chars (drop (length text) text)) cut.0 ∙ (λ i. front i ∷ rest i)
@@ -29,19 +26,12 @@ one_token text empty utf8 none is some =
 visible : (c : ℕ) → nat_lt 32 c ≡ true → is_ascii_whitespace c ≡ false
 visible c h = grind (arith, nat_tests)
 
-first_of : (a b : Bool) → (a && b) ≡ true → a ≡ true
-first_of true b h = refl
-first_of false b h = absurd (cc)
-
-second_of : (a b : Bool) → (a && b) ≡ true → b ≡ true
-second_of true b h = h
-second_of false b h = absurd (cc)
-
 none_white : (text : List ℕ) → list_all (λ b. nat_lt 32 b) text ≡ true → position_or_len is_ascii_whitespace text ≡ length text
 none_white [] h = refl
 none_white (c ∷ text) h =
-    let rest = none_white text (second_of (nat_lt 32 c) (list_all (λ b. nat_lt 32 b) text) h) in
-    rw (visible c (first_of (nat_lt 32 c) (list_all (λ b. nat_lt 32 b) text) h)) (omega (arith, rest))
+    let parts = both (nat_lt 32 c) (list_all (λ b. nat_lt 32 b) text) h in
+    let rest = none_white text parts.1 in
+    rw (visible c parts.0) (omega (arith, rest))
 
 no_place : (n m : ℕ) → n ≡ m → None ≡ cond (nat_lt n m) (Some n) None
 no_place n m e =

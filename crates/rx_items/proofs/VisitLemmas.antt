@@ -21,6 +21,7 @@ use Rattle.rx_items.specs.declared.visits.Trail.{Trail}
 use Rattle.rx_items.proofs.FoundLemmas.{fault_is, path_size, steps_visits, fault_stays}
 use Rattle.rx_items.proofs.TakeLemmas.{cut_at, one_more}
 use Rattle.rx_items.proofs.HoldLemmas.{place_is}
+use Rattle.std.proofs.lemmas.Grind.{flat_map-append}
 
 -- what `?` hands on
 pub err_told : {X E : Type 0} (P : Result X E → Type 0) (r : Result X E) (x : E) → IsErrAnd r (λ y. y ≡ x) → P (Err x) → P r
@@ -34,17 +35,11 @@ pub no_element : (rows : List Placed) (place : ℕ) (e : Placed) → slice_get r
 no_element rows place e row none = let found : Some e ≡ None = sym row ∙ none in cc (found)
 
 module _ (rows : List Placed) (base : Chars) (above : Visit) (left : ℕ) where
-  -- ---- a property under each of its names
-
   -- ---- properties in a row
-
-  steps_append : (xs ys : List Placed) → steps_in (xs ++ ys) ≡ steps_in xs ++ steps_in ys
-  steps_append [] ys = refl
-  steps_append (x ∷ xs) ys = ap (λ (l : List Step). steps_of x ++ l) (steps_append xs ys) ∙ sym (append_assoc (steps_of x) (steps_in xs) (steps_in ys))
 
   pub steps_one : (es : List Placed) (i : ℕ) (e : Placed) → i < length es → e ≡ get_or es i e → steps_in (take (i + 1) es) ≡ steps_in (take i es) ++ steps_of e
   steps_one es i e lt is =
-      ap steps_in (one_more es i e lt) ∙ steps_append (take i es) (get_or es i e ∷ []) ∙ ap (λ (l : List Step). steps_in (take i es) ++ l) (append-nil (steps_of (get_or es i e)))
+      ap steps_in (one_more es i e lt) ∙ flat_map-append steps_of (take i es) (get_or es i e ∷ []) ∙ ap (λ (l : List Step). steps_in (take i es) ++ l) (append-nil (steps_of (get_or es i e)))
       ∙ ap (λ (x : Placed). steps_in (take i es) ++ steps_of x) (sym is)
 
   pub property_err : (start : ℕ) (es : List Placed) (i : ℕ) (e : Placed) (x : Stop) → i < length es → e ≡ get_or es i e
@@ -52,7 +47,7 @@ module _ (rows : List Placed) (base : Chars) (above : Visit) (left : ℕ) where
   property_err start es i e stop.NoMemory lt is f = tt
   property_err start es i e (stop.Fault fault) lt is f =
       let all : steps_in es ≡ (steps_in (take i es) ++ steps_of e) ++ steps_in (drop (i + 1) es) =
-      ap steps_in (cut_at es i e lt) ∙ steps_append (take i es) (get_or es i e ∷ drop (i + 1) es)
+      ap steps_in (cut_at es i e lt) ∙ flat_map-append steps_of (take i es) (get_or es i e ∷ drop (i + 1) es)
       ∙ sym (append_assoc (steps_in (take i es)) (steps_of (get_or es i e)) (steps_in (drop (i + 1) es)))
       ∙ ap (λ (x : Placed). (steps_in (take i es) ++ steps_of x) ++ steps_in (drop (i + 1) es)) (sym is) in
       subst (λ (steps : List Step). FaultIs start (visits_in rows base above left steps) fault) (sym all)

@@ -1,23 +1,18 @@
 -- The members of rows, item by item.
-use Rattle.std.proofs.Common.{◌≡◌, ◌∙◌, ◌+◌, ◌-◌, ◌<◌, ◌≤◌, ◌==◌, ◌&&◌, nat_lt, ℕ, zero, suc, Bool, true, false, cond, List, [], ◌∷◌, ◌++◌, length, get_or, Contains, Option, Some, None, refl, sym, ap, subst, arith}
+use Rattle.std.proofs.Common.{◌≡◌, ◌∙◌, ◌+◌, ◌-◌, ◌<◌, ◌≤◌, ◌==◌, ◌&&◌, nat_lt, ℕ, suc, Bool, true, false, cond, List, [], ◌∷◌, ◌++◌, length, get_or, Contains, Option, Some, None, refl, sym, ap, subst, arith}
 use Rattle.std.specs.Prelude.{slice_get, ⊤}
 use Rattle.std.proofs.lemmas.List.Elements.{Contains-get_or, Contains-append_left, Contains-append_cases, Contains-push, Contains-push_cases}
 use Rattle.std.proofs.lemmas.List.Sorted.{IsNonDecreasingBy-push}
 use Rattle.std.proofs.lemmas.Bool.{cases_lt, eqb-true, eq-eqb, ltb-true, lt-ltb, le-ltb}
-use Rattle.std.proofs.lemmas.List.{append-nil}
+use Rattle.std.proofs.lemmas.List.{append-nil, get_or_default}
 use mathlib.Core.Logic.{◌⊎◌, inl, inr}
 use Rattle.rx_microdata.proofs.Lists.{and_parts, and_of}
 use Rattle.rx_items.specs.declared.rows.Row.{Row}
 use Rattle.rx_items.specs.Lying.{Lies}
 use Rattle.rx_items.specs.Members.{Adds, AddsItem, AllBelow, AreBelow, AreMembers, FirstBelow, IsNamed, Rises, key_at, key_of, next_place, scope_number, scope_of}
-use Rattle.rx_items.proofs.BuildLemmas.{same_row}
+use Rattle.rx_items.proofs.BuildLemmas.{same_there}
 use Rattle.rx_items.proofs.MemberLemmas.{same_number}
-use Rattle.rx_items.proofs.ReachLemmas.{same_default}
-
-pub row_within : (rows : List Row) (i : ℕ) (row : Row) → slice_get rows i ≡ Some row → i < length rows
-row_within [] i row g = absurd (cc (g))
-row_within (r ∷ rows) zero row g = omega arith
-row_within (r ∷ rows) (suc i) row g = let lt = row_within rows i row g in omega (arith, lt)
+use Rattle.std.proofs.lemmas.Option.{slice_get_within}
 
 -- ---- members that rise
 
@@ -117,7 +112,7 @@ module _ (rows : List Row) (scope : Option ℕ) (from place : ℕ) (initial old 
       by lies before x found low_x high_x is named scope_is (inl lt) t = still x (a.all lies before x found low_x lt is named scope_is)
       by lies before x found low_x high_x is named scope_is (inr le) (inr ge) =
           let same : place ≡ x = omega (arith, le, ge) in
-          let alike : found ≡ row = same_row rows x found row is (ap (slice_get rows) (sym same) ∙ there) in
+          let alike : found ≡ row = same_there rows x found row is (ap (slice_get rows) (sym same) ∙ there) in
           subst (λ n. Contains new n) same (here (ap (λ (r : Row). r.head.named) (sym alike) ∙ named) (ap (λ (r : Row). r.scope) (sym alike) ∙ scope_is))
       by lies before x found low_x high_x is named scope_is (inr le) (inl lt) =
           let inner = passed_by row place x lt high_x in
@@ -144,7 +139,7 @@ item_none rows place row members there plain = record {
   only = λ x c. inl c;
   all = λ lies x found is named scope_is.
       let around = lies.around x place found is scope_is in
-      let alike : around.0 ≡ row = same_row rows place around.0 row around.1 there in
+      let alike : around.0 ≡ row = same_there rows place around.0 row around.1 there in
       let clash : true ≡ false = sym around.2 ∙ ap (λ (r : Row). r.head.is_item) alike ∙ plain in
       absurd (cc (clash));
   rises = λ up below. (up, below_more rows members (key_of (Some place) 0) (key_of (Some (suc place)) 0) (omega arith) below);
@@ -156,7 +151,7 @@ item_some rows place row old new there a = record {
   only = a.only;
   all = λ lies x found is named scope_is.
       let around = lies.around x place found is scope_is in
-      let alike : around.0 ≡ row = same_row rows place around.0 row around.1 there in
+      let alike : around.0 ≡ row = same_there rows place around.0 row around.1 there in
       let low = around.3 in
       let high : x < row.past = subst (λ (r : Row). x < r.past) alike around.4 in
       a.all lies (omega arith) x found (omega (arith, low)) high is named scope_is;
@@ -193,7 +188,7 @@ done_first rows members a =
     by x (inr c) = c
 
     all : Lies rows → (x : ℕ) (row : Row) → slice_get rows x ≡ Some row → row.head.named ≡ true → (o : Option ℕ) → row.scope ≡ o → IsDone o 0 → Contains members x
-    all lies x row is named None e done = a.all lies (omega arith) x row (omega arith) (row_within rows x row is) is named e
+    all lies x row is named None e done = a.all lies (omega arith) x row (omega arith) (slice_get_within rows x row is) is named e
     all lies x row is named (Some k) e done = absurd (omega (arith, done))
 
 pub done_next : (rows : List Row) (place : ℕ) (old new : List ℕ) → AddsItem rows place old new → Done rows place old → Done rows (place + 1) new
@@ -233,7 +228,7 @@ done_all rows place members past d lies x = (
     is_done row is (Some k) e =
         let around = lies.around x k row is e in
         let low = around.3 in
-        let short = row_within rows x row is in
+        let short = slice_get_within rows x row is in
         omega (arith, low, short, past)
 
 -- ---- where a bound falls
@@ -244,7 +239,7 @@ first_by_last rows members bound count default some fits under up = (
   fits,
   (λ k d low high.
       let le = up k (count - 1) d (omega (arith, high)) (omega (arith, some, fits)) in
-      let same : key_at rows (get_or members (count - 1) d) ≡ key_at rows (get_or members (count - 1) default) = ap (key_at rows) (same_default members (count - 1) d default (omega (arith, some, fits))) in
+      let same : key_at rows (get_or members (count - 1) d) ≡ key_at rows (get_or members (count - 1) default) = ap (key_at rows) (get_or_default members (count - 1) d default (omega (arith, some, fits))) in
       lt-ltb (key_at rows (get_or members k d)) bound (omega (arith, le, same, under))),
 )
 
@@ -254,6 +249,6 @@ point_here rows members bound at default fits over up f = (
   f.1,
   (λ k d low high.
       let le = up at k d low high in
-      let here : key_at rows (get_or members at d) ≡ key_at rows (get_or members at default) = ap (key_at rows) (same_default members at d default fits) in
+      let here : key_at rows (get_or members at d) ≡ key_at rows (get_or members at default) = ap (key_at rows) (get_or_default members at d default fits) in
       le-ltb (key_at rows (get_or members k d)) bound (omega (arith, le, here, over))),
 )

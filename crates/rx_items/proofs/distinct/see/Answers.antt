@@ -1,5 +1,5 @@
 use Rattle.std.proofs.Common.{◌∙◌}
-use Rattle.rx_items.proofs.DistinctLemmas.{text_added}
+use Rattle.rx_tags.proofs.RepeatLemmas.{text_added}
 use Rattle.rx_items.proofs.distinct.see.Goals as goal
 
 pub returns-clause-added : goal.returns-clause-added

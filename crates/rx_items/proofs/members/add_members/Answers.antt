@@ -1,7 +1,7 @@
 use Rattle.std.proofs.Common.{◌<◌, length, get_or, arith}
-use Rattle.std.proofs.lemmas.Option.{slice_get-get_or}
+use Rattle.std.proofs.lemmas.Option.{slice_get-get_or, slice_get_within}
 use Rattle.rx_items.specs.Growing.{nothing_kept}
-use Rattle.rx_items.proofs.WalkLemmas.{adds_turn, adds_all, row_within}
+use Rattle.rx_items.proofs.WalkLemmas.{adds_turn, adds_all}
 use Rattle.rx_items.proofs.members.add_members.Goals as goal
 
 pub loop-place-preserved : goal.loop-place-preserved
@@ -25,4 +25,4 @@ pub returns : goal.returns
 returns c =
     let l = c.loop-place in
     adds_all c.args.rows.now c.args.scope c.args.from c.args.to l.place c.args.members.now.items l.members.items
-    (λ x row lt is. let short = row_within c.args.rows.now x row is in let end = c.min-end.ensures in let past = c.loop-place-test.false in omega (arith, end, past, lt, short)) l.invariant.bound l.invariant.adds
+    (λ x row lt is. let short = slice_get_within c.args.rows.now x row is in let end = c.min-end.ensures in let past = c.loop-place-test.false in omega (arith, end, past, lt, short)) l.invariant.bound l.invariant.adds

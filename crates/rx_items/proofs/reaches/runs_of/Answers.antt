@@ -1,7 +1,8 @@
 use Rattle.rx_items.specs.Properties.{in_runs}
 use Rattle.rx_items.specs.Rows.{rows_of}
-use Rattle.rx_items.proofs.ReachLemmas.{reach_begins, reach_turn, reach_ends, same_default, start_members}
+use Rattle.rx_items.proofs.ReachLemmas.{reach_begins, reach_turn, reach_ends, start_members}
 use Rattle.rx_items.proofs.reaches.runs_of.Goals as goal
+use Rattle.std.proofs.lemmas.List.{get_or_default}
 
 pub loop-start-init : goal.loop-start-init
 loop-start-init c words gathered times tree sorted up =
@@ -14,7 +15,7 @@ loop-start-preserved c words gathered times tree sorted up =
     let members = c.args.members.now in
     let l = c.loop-start in
     reach_turn words gathered times c.args.rows.now tree members sorted c.args.place c.args.starts.now l.start-index _ l.runs.items c.add_run-in-loop-start.new.runs.items c.start_run.result
-    c.loop-start-test.true (same_default c.args.starts.now l.start-index 0 _ c.loop-start-test.true) c.in_ok-add_run-2.ensures
+    c.loop-start-test.true (get_or_default c.args.starts.now l.start-index 0 _ c.loop-start-test.true) c.in_ok-add_run-2.ensures
     (start_members words gathered times c.args.rows.now tree members sorted _ c.start_run.result (λ row found. c.start_run.ensures.run row up found) c.start_run.ensures.none)
     (l.invariant words gathered times tree sorted up)
 
