@@ -1,10 +1,9 @@
 -- How a run ends, exit by exit.
-use Rattle.std.proofs.Common.{◌≡◌, ◌≢◌, ◌∙◌, ℕ, ◌⊎◌, inl, inr, List, [], refl, sym, ap, subst, Option, Some, None, append-nil, encode_utf8_all}
+use Rattle.rx_terms.proofs.Common.{◌≡◌, ◌≢◌, ◌∙◌, ℕ, ◌⊎◌, inl, inr, List, [], refl, sym, ap, subst, Option, Some, None, append-nil, encode_utf8_all, Chars}
 use Rattle.rx_ports.specs.Counts.{Rose}
 use Rattle.rx_ports.specs.Files.{file_of}
 use Rattle.rx_ports.specs.Shelves.{ShelfContent, WhereKnown, GrowsBy, GrowsByPart, Stays}
 use Rattle.rx_ports.proofs.MoveLemmas.{moves_same, moves_at, moves_weaker}
-use Rattle.rx_terms.specs.Text.{Chars}
 use Rattle.rx_rdfa.specs.Names.{Context}
 use Rattle.rx_grammar.specs.declared.faults.Fault.{Fault}
 use Rattle.rx_job.specs.Words.{Job, Asked, Gathering, reads, gathers, samples, job, gathering_in}

@@ -1,8 +1,7 @@
 -- What follows from how a run ends.
-use Rattle.std.proofs.Common.{◌≡◌, ℕ, inl, inr, List, refl, sym, ap, subst, Option, Some, None}
+use Rattle.rx_terms.proofs.Common.{◌≡◌, ℕ, inl, inr, List, refl, sym, ap, subst, Option, Some, None, Chars}
 use Rattle.rx_ports.specs.Counts.{Rose}
 use Rattle.rx_ports.specs.Shelves.{ShelfContent, WhereKnown, GrowsBy, GrowsByPart}
-use Rattle.rx_terms.specs.Text.{Chars}
 use Rattle.rx_rdfa.specs.Names.{Context}
 use Rattle.rx_grammar.specs.declared.faults.Fault.{Fault}
 use Rattle.rx_job.specs.Words.{Job, Asked, Gathering, reads, gathers, samples, job, page_in, gathering_in}

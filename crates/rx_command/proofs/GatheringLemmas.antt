@@ -1,19 +1,14 @@
 -- Several pages that are read one after another.
-use Rattle.std.proofs.Common.{◌≡◌, ◌∙◌, ◌+◌, ◌-◌, ◌≤◌, ◌⊎◌, inl, inr, ℕ, zero, suc, nat_eq, List, [], ◌∷◌, ◌++◌, length, take, drop, sym, ap, subst, refl, arith, Option, Some, None, encode_utf8_all, append_assoc, length-append, add-one}
+use Rattle.rx_terms.proofs.Common.{◌≡◌, ◌∙◌, ◌+◌, ◌-◌, ◌≤◌, ◌⊎◌, inl, inr, ℕ, zero, suc, nat_eq, List, [], ◌∷◌, ◌++◌, length, take, drop, sym, ap, subst, refl, arith, Option, Some, None, encode_utf8_all, append_assoc, length-append, add-one, take_all, take-append-drop, Chars}
 use Rattle.std.specs.Prelude.{slice_get}
-use Rattle.std.proofs.lemmas.List.{take_all, take-append-drop}
 use Rattle.rx_ports.specs.Counts.{Rose}
 use Rattle.rx_ports.specs.Files.{file_of}
 use Rattle.rx_ports.specs.Shelves.{ShelfContent, WhereKnown, Lacks}
 use Rattle.rx_ports.proofs.MoveLemmas.{moves_then}
-use Rattle.rx_chars.specs.declared.syntax.Syntax.{Syntax}
+use Rattle.rx_grammar.proofs.Common.{Syntax}
 use Rattle.rx_grammar.specs.declared.faults.Fault.{Fault}
-use Rattle.rx_terms.specs.Text.{Chars}
 use Rattle.rx_terms.specs.declared.triples.Triple.{Triple as CodeTriple}
-use Rattle.rx_model.specs.Copied.{copied}
-use Rattle.rx_model.specs.Numbered.{numbered, Renamed}
-use Rattle.rx_model.specs.Seen.{triples_seen}
-use Rattle.rx_model.specs.Terms.{Triple, set_of}
+use Rattle.rx_model.proofs.Common.{copied, numbered, Renamed, triples_seen, Triple, set_of}
 use Rattle.rx_rdfa.specs.Names.{Context}
 use Rattle.rx_rdfa.specs.Whole.{graph_of}
 use Rattle.rx_rdfa.proofs.Whole.{written_denotes}

@@ -1,19 +1,16 @@
 -- From what was read of the files that a job names to what they are.
 use Rattle.std.specs.Prelude.{option_map}
-use Rattle.std.proofs.Common.{nat_eq, ◌≡◌, ◌∙◌, ◌+◌, ◌≤◌, ◌<◌, ◌⊎◌, inl, inr, ℕ, nat_le, true, false, ◌&&◌, List, [], ◌++◌, length, sym, ap, subst, refl, arith, Option, Some, None, Result, Ok, Err, IfOk, is_some, encode_utf8_all, length-append, append-nil}
-use Rattle.std.proofs.lemmas.Bool.Decides.{nat_tests}
+use Rattle.rx_terms.proofs.Common.{nat_eq, ◌≡◌, ◌∙◌, ◌+◌, ◌≤◌, ◌<◌, ◌⊎◌, inl, inr, ℕ, true, false, List, [], ◌++◌, length, sym, ap, subst, refl, arith, Option, Some, None, Result, Ok, Err, IfOk, encode_utf8_all, length-append, append-nil, nat_tests, Chars, by_test}
+use Rattle.std.proofs.Common.{nat_le, ◌&&◌, is_some}
 use Rattle.rx_ports.specs.Counts.{Rose}
 use Rattle.rx_ports.specs.Files.{file_of}
 use Rattle.rx_ports.specs.Shelves.{ShelfContent, WhereKnown, Lacks}
 use Rattle.rx_ports.proofs.MoveLemmas.{moves_same, moves_at, moves_then}
 use Rattle.rx_names.specs.ContextFiles.{context_of}
-use Rattle.rx_chars.specs.declared.syntax.Syntax.{Syntax}
+use Rattle.rx_grammar.proofs.Common.{Syntax}
 use Rattle.rx_grammar.specs.declared.faults.Fault.{Fault}
-use Rattle.rx_terms.specs.Text.{Chars}
 use Rattle.rx_terms.specs.declared.triples.Triple.{Triple as CodeTriple}
-use Rattle.rx_model.specs.Copied.{copied}
-use Rattle.rx_model.specs.Numbered.{numbered}
-use Rattle.rx_model.specs.Seen.{triples_seen}
+use Rattle.rx_model.proofs.Common.{copied, numbered, triples_seen}
 use Rattle.rx_rdfa.specs.Names.{Context}
 use Rattle.rx_rdfa.specs.Standard.{standard}
 use Rattle.rx_job.specs.declared.formats.Format.{Format}
@@ -30,7 +27,6 @@ use Rattle.rx_command.specs.Files.{ReadsFile, TakesOf, size_of}
 use Rattle.rx_command.specs.Contexts.{IsContextFile, IsContext, HasContext, TakesContext, ReadsContext, context_size, context_count}
 use Rattle.rx_page.specs.Contexts.{largest_context, is_context}
 use Rattle.rx_page.proofs.ContextLemmas.{short, too_long}
-use Rattle.rx_terms.proofs.Bools.{by_test}
 use Rattle.rx_command.specs.Inputs.{PageText, PageRefused, JobText, JobRefused, TellsThat, WhereTold}
 use Rattle.rx_page.specs.Tasks.{IsRight, way_in}
 use Rattle.rx_command.specs.Outcome.{IsLacking, ReadsTo}

@@ -1,7 +1,6 @@
 -- Items of a page, from what was read of it to what it is.
-use Rattle.std.proofs.Common.{◌≡◌, ◌∙◌, ℕ, true, false, List, sym, ap, inr}
-use Rattle.rx_terms.specs.Text.{Chars}
-use Rattle.rx_grammar.specs.Trees.{Tree}
+use Rattle.rx_terms.proofs.Common.{◌≡◌, ◌∙◌, ℕ, true, false, List, sym, ap, inr, Chars}
+use Rattle.rx_grammar.proofs.Common.{Tree}
 use Rattle.rx_grammar.specs.declared.faults.Fault.{Fault}
 use Rattle.rx_rdfa.specs.Names.{Context}
 use Rattle.rx_microdata.specs.Json.{Refused, outcome}

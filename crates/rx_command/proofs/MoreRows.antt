@@ -1,21 +1,18 @@
 -- The worked row of two pages in one document, and that of a page's items.
-use Rattle.std.proofs.Common.{◌≡◌, inl, inr, ℕ, List, [], ◌∷◌, refl, sym, ap, subst, arith, Some, None, codes, encode_utf8_all}
+use Rattle.rx_terms.proofs.Common.{◌≡◌, inl, inr, ℕ, List, [], ◌∷◌, refl, sym, ap, subst, arith, Some, None, codes, encode_utf8_all}
 use lib.Utf8.{encode}
 use Rattle.json.specs.Print.{escape_byte}
 use Rattle.serde_json.specs.Data.{Data, null}
-use Rattle.rx_chars.specs.declared.syntax.Syntax.TheVariants.{Html}
+use Rattle.rx_grammar.proofs.Common.{Html, Tree}
 use Rattle.rx_grammar.specs.declared.faults.Fault.{Fault}
 use Rattle.rx_grammar.specs.declared.faults.Kind.TheVariants.{Unended}
-use Rattle.rx_grammar.specs.Trees.{Tree}
 use Rattle.rx_pages.specs.Nesting.{told_trees}
 use Rattle.rx_pages.specs.PageReader.{page_read}
 use Rattle.rx_pages.proofs.OnlyPages.{finds_only_faults, reads_only_pages}
 use Rattle.rx_refs.specs.Parts.{components_of}
 use Rattle.rx_refs.specs.Dots.{step, without_dots}
 use Rattle.rx_refs.specs.Resolve.{target, resolved}
-use Rattle.rx_model.specs.Terms.{Iri, Literal, Plain, Triple}
-use Rattle.rx_model.specs.Copied.{spo}
-use Rattle.rx_model.specs.Sets.{Among}
+use Rattle.rx_model.proofs.Common.{Iri, Literal, Plain, Triple, spo, Among}
 use Rattle.rx_rdfa.specs.Resources.{resources}
 use Rattle.rx_rdfa.specs.Inherited.{below}
 use Rattle.rx_rdfa.specs.Times.{time_kind}

@@ -1,16 +1,13 @@
 -- There is one answer to what is asked for.
-use Rattle.std.proofs.Common.{◌≡◌, ◌∙◌, ℕ, inl, inr, List, [], ◌∷◌, refl, sym, ap, ap₂, subst, Option, Some, encode_utf8_all}
+use Rattle.rx_terms.proofs.Common.{◌≡◌, ◌∙◌, ℕ, inl, inr, List, [], ◌∷◌, refl, sym, ap, ap₂, subst, Option, Some, encode_utf8_all, Chars}
 use Rattle.rx_ports.specs.Shelves.{ShelfContent}
-use Rattle.rx_terms.specs.Text.{Chars}
-use Rattle.rx_chars.specs.declared.syntax.Syntax.{Syntax}
-use Rattle.rx_chars.specs.declared.syntax.Syntax.TheVariants.{Html}
+use Rattle.rx_grammar.proofs.Common.{Syntax, Html, Tree}
 use Rattle.rx_grammar.specs.declared.faults.Fault.{Fault}
 use Rattle.rx_rdfa.specs.Names.{Context}
 use Rattle.rx_pages.proofs.Trees.{one_tree}
 use Rattle.rx_walk.specs.RefusalLaws.{refusal_laws}
 use Rattle.rx_many.specs.Pages.{Page, Judgement, refused, accepted}
 use Rattle.rx_many.specs.Writing.{gathered}
-use Rattle.rx_grammar.specs.Trees.{Tree}
 use Rattle.rx_job.specs.Words.{Job, Asked, Gathering, Listed}
 use Rattle.rx_page.specs.Settings.{standard, rdfa_way}
 use Rattle.rx_rdfa.specs.Whole.{written}

@@ -1,19 +1,11 @@
 -- The sample page as it is fed.
-use Rattle.std.proofs.Common.{◌≡◌, ◌∙◌, ℕ, suc, nat_eq, ◌+◌, ◌≤◌, ◌<◌, ◌⊎◌, inl, inr, ⊎_elim, List, [], ◌++◌, length, refl, sym, ap, subst, arith, None, Result, Ok, Err, IfOk, OnOk, encode_utf8_all, append_assoc, append-nil, length-append, nat_lt}
-use Rattle.std.proofs.lemmas.List.{length-map}
-use Rattle.std.proofs.lemmas.Bool.{cases_lt}
-use Rattle.std.proofs.lemmas.Bool.Decides.{nat_tests}
-use Rattle.rx_terms.proofs.Bools.{split}
-use Rattle.rx_chars.specs.declared.syntax.Syntax.TheVariants.{Html}
-use Rattle.rx_terms.specs.Text.{Chars}
+use Rattle.rx_terms.proofs.Common.{◌≡◌, ◌∙◌, ℕ, suc, nat_eq, ◌+◌, ◌≤◌, ◌<◌, ◌⊎◌, inl, inr, ⊎_elim, List, [], ◌++◌, length, refl, sym, ap, subst, arith, None, Result, Ok, Err, IfOk, OnOk, encode_utf8_all, append_assoc, append-nil, length-append, nat_lt, length-map, cases_lt, nat_tests, split, Chars}
+use Rattle.rx_grammar.proofs.Common.{Html, FaultAt}
 use Rattle.rx_terms.specs.declared.triples.Triple.{Triple as CodeTriple}
 use Rattle.rx_grammar.specs.declared.limits.Limits.{Limits}
 use Rattle.rx_rdfa.specs.Names.{Context}
 use Rattle.rx_grammar.specs.declared.faults.Fault.{Fault}
-use Rattle.rx_model.specs.Copied.{copied}
-use Rattle.rx_model.specs.Numbered.{numbered}
-use Rattle.rx_model.specs.Seen.{triples_seen}
-use Rattle.rx_model.specs.Terms.{Triple}
+use Rattle.rx_model.proofs.Common.{copied, numbered, triples_seen, Triple}
 use Rattle.rx_nquads.specs.Writing.{nquads}
 use Rattle.rx_rdfa.specs.Standard as names
 use Rattle.rx_pages.proofs.Underway.{reads_what_is_underway}
@@ -28,7 +20,6 @@ use Rattle.rx_command.specs.Samples.{head, item_before, item_behind, items_to, c
 use Rattle.rx_nest.specs.Faults.{Refuses, Stops}
 use Rattle.rx_command.specs.Feeding.{Fed, FedTo, FedWhole, IsDue, TakesPiece, larger, Deepens, IsDeepestTo}
 use Rattle.rx_command.specs.declared.samples.Feeding.{Feeding}
-use Rattle.rx_grammar.specs.PageFaults.{FaultAt}
 use Rattle.rx_pages.proofs.OneOf.{not_both}
 use Rattle.rx_page.proofs.FaultLemmas.{page_has_none}
 use Rattle.rx_page.proofs.MadeLemmas.{list_written}

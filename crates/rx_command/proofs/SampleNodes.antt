@@ -1,13 +1,9 @@
 -- The tokens of the sample page of every number nest as a page, of which no start tag is refused.
-use Rattle.std.proofs.Common.{ℕ, zero, suc, ◌+◌, ◌≤◌, true, List, [], ◌∷◌, length, refl, sym, subst}
+use Rattle.rx_terms.proofs.Common.{ℕ, zero, suc, ◌+◌, ◌≤◌, true, List, [], ◌∷◌, length, refl, sym, subst, line_feed}
 use Rattle.std.specs.Prelude.{codes}
 use Rattle.std.specs.Fmt.{decimal}
-use Rattle.rx_terms.specs.Ascii.{line_feed}
-use Rattle.rx_chars.specs.declared.syntax.Syntax.TheVariants.{Html}
-use Rattle.rx_grammar.specs.Contents.{outside, in_html}
-use Rattle.rx_grammar.specs.Trees.{Tree, end, element}
-use Rattle.rx_grammar.specs.Items.{start_of}
-use Rattle.rx_grammar.specs.Pages.{no_more, passed, a_doctype, Document, Page, nothing}
+use Rattle.rx_grammar.proofs.Common.{Html, outside, in_html, Tree, end, element, start_of, Document, Page, nothing}
+use Rattle.rx_grammar.specs.Pages.{no_more, passed, a_doctype}
 use Rattle.rx_rdfa.specs.Standard as names
 use Rattle.rx_page.specs.Settings.{standard}
 use Rattle.rx_command.specs.Samples.{SamplesArePages}

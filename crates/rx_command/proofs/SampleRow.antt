@@ -1,12 +1,9 @@
 -- The worked row of the sample of one item.
-use Rattle.std.proofs.Common.{◌≡◌, ◌∙◌, ℕ, ◌≤◌, List, [], ◌∷◌, ◌++◌, length, refl, sym, ap, subst, arith, None, Ok, codes, encode_utf8_all}
+use Rattle.rx_terms.proofs.Common.{◌≡◌, ◌∙◌, ℕ, ◌≤◌, List, [], ◌∷◌, ◌++◌, length, refl, sym, ap, subst, arith, None, Ok, codes, encode_utf8_all, Chars}
 use Rattle.std.specs.Fmt.{decimal, digits}
 use Rattle.std.proofs.lemmas.Fmt.{decimal_digit, decimal_step}
 use lib.Utf8.{encode}
-use Rattle.rx_terms.specs.Text.{Chars}
-use Rattle.rx_chars.specs.declared.syntax.Syntax.TheVariants.{Html}
-use Rattle.rx_grammar.specs.Pages.{Page}
-use Rattle.rx_grammar.specs.Trees.{Tree}
+use Rattle.rx_grammar.proofs.Common.{Html, Page, Tree}
 use Rattle.rx_pages.specs.Nesting.{told_trees}
 use Rattle.rx_pages.specs.PageReader.{Progress, page_read}
 use Rattle.rx_pages.proofs.OnlyPages.{reads_only_pages}
@@ -14,8 +11,7 @@ use Rattle.rx_pages.proofs.Underway.{reads_what_is_underway}
 use Rattle.rx_refs.specs.Parts.{components_of}
 use Rattle.rx_refs.specs.Dots.{step, without_dots}
 use Rattle.rx_refs.specs.Resolve.{target, resolved}
-use Rattle.rx_model.specs.Terms.{Node, Iri, Blank, Resource, Literal, Plain, Triple}
-use Rattle.rx_model.specs.Copied.{spo}
+use Rattle.rx_model.proofs.Common.{Node, Iri, Blank, Resource, Literal, Plain, Triple, spo}
 use Rattle.rx_rdfa.specs.Resources.{resources}
 use Rattle.rx_rdfa.specs.Inherited.{below}
 use Rattle.rx_rdfa.specs.Times.{time_kind}

@@ -1,19 +1,12 @@
 -- The tokens of the sample page of every number: their characters are the page's, and each is spelled as it is written.
-use Rattle.std.proofs.Common.{◌≡◌, ◌∙◌, ℕ, zero, suc, ◌+◌, ◌*◌, ◌≤◌, true, false, List, [], ◌∷◌, ◌++◌, length, refl, sym, ap, arith, append_assoc, length-append}
+use Rattle.rx_terms.proofs.Common.{◌≡◌, ◌∙◌, ℕ, zero, suc, ◌+◌, ◌*◌, ◌≤◌, true, false, List, [], ◌∷◌, ◌++◌, length, refl, sym, ap, arith, append_assoc, length-append, list_all, and_parts, and_from, nat_tests, line_feed, less_than_sign, Chars}
 use Rattle.std.specs.Prelude.{codes}
 use Rattle.std.specs.Char.{is_ascii_digit}
 use Rattle.std.specs.Fmt.{decimal}
-use Rattle.std.specs.List.{list_all}
-use Rattle.std.proofs.lemmas.Bool.{and_parts, and_from}
-use Rattle.std.proofs.lemmas.Bool.Decides.{nat_tests}
 use Rattle.std.proofs.lemmas.Fmt.{digits_decimal, length-decimal-le}
 use Rattle.std.proofs.lemmas.Str.Parse.{numerals_by_value}
-use Rattle.rx_terms.specs.Ascii.{line_feed, less_than_sign}
-use Rattle.rx_terms.specs.Text.{Chars}
-use Rattle.rx_chars.specs.declared.syntax.Syntax.TheVariants.{Html}
+use Rattle.rx_grammar.proofs.Common.{Html, Attribute, Tag, character, doctype, a_character, a_doctype}
 use Rattle.rx_grammar.specs.declared.contents.Content.TheVariants as content
-use Rattle.rx_grammar.specs.Tokens.{Attribute, Tag, character, doctype}
-use Rattle.rx_grammar.specs.Spelling.{a_character, a_doctype}
 use Rattle.rx_reader.proofs.TagLaws.{spells_each}
 use Rattle.rx_page.specs.Settings.{standard}
 use Rattle.rx_job.specs.Words.{most_items}

@@ -17,7 +17,7 @@ use Rattle.rx_command.specs.Gathering.{FileList, GivesTriples, JudgesEach, IsGat
 use Rattle.rx_command.specs.Inputs.{TellsThat, WhereTold}
 use Rattle.rx_command.specs.declared.statuses.Status.{Status}
 use Rattle.rx_command.specs.declared.statuses.Status.TheVariants as status
-use Rattle.rx_command.specs.Runs.{Devices, EndsAs, SaysAs, GatheringEnds, ReadCause, TakesJob, StopsCleanly, StartsEach, ReadsAll, Says, SaysNothing, reads_files, context_line}
+use Rattle.rx_command.specs.Runs.{Devices, EndsAs, SaysAs, GatheringEnds, TakesJob, StopsCleanly, StartsEach, ReadsAll, Says, SaysNothing, reads_files, context_line}
 use Rattle.rx_command.proofs.InputLemmas.{has_context}
 use Rattle.rx_command.proofs.GatheringLemmas.{judged_graphs}
 use Rattle.rx_command.proofs.RunLemmas.{there, not_other, not_missing}

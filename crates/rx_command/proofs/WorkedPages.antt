@@ -1,17 +1,9 @@
 -- Pages and faults of the worked rows, read byte by byte.
-use Rattle.std.proofs.Common.{◌≡◌, ◌∙◌, ⊎_elim, inl, inr, ℕ, true, false, List, [], ◌∷◌, ◌++◌, refl, sym, ap, subst, None, Result, Ok, Err, codes, encode_utf8_all, append_assoc, append-nil}
-use Rattle.std.proofs.lemmas.List.{append_cancel_left}
-use Rattle.std.specs.Str.{chars, all_scalars}
+use Rattle.rx_terms.proofs.Common.{◌≡◌, ◌∙◌, ⊎_elim, inl, inr, ℕ, true, false, List, [], ◌∷◌, ◌++◌, refl, sym, ap, subst, None, Result, Ok, Err, codes, encode_utf8_all, append_assoc, append-nil, append_cancel_left, chars, all_scalars, Chars, has_scheme, has_forbidden, ascii-chars}
 use lib.Utf8.{encode}
-use Rattle.rx_terms.specs.Text.{Chars}
-use Rattle.rx_terms.specs.Iri.{has_scheme, has_forbidden}
-use Rattle.rx_terms.proofs.CharLemmas.{ascii-chars}
-use Rattle.rx_chars.specs.declared.syntax.Syntax.TheVariants.{Html}
+use Rattle.rx_grammar.proofs.Common.{Html, FaultAt, Page, Tree, end}
 use Rattle.rx_grammar.specs.declared.faults.Fault.{Fault}
 use Rattle.rx_grammar.specs.declared.faults.Kind.TheVariants.{Mismatch, RelativeVocab}
-use Rattle.rx_grammar.specs.PageFaults.{FaultAt}
-use Rattle.rx_grammar.specs.Pages.{Page}
-use Rattle.rx_grammar.specs.Trees.{Tree, end}
 use Rattle.rx_pages.specs.Nesting.{told_trees}
 use Rattle.rx_pages.specs.PageReader.{Progress, page_read, page_on, nothing_read, spot_of}
 use Rattle.rx_pages.proofs.OnlyPages.{finds_only_faults, reads_only_pages}
@@ -26,10 +18,7 @@ use Rattle.rx_nest.proofs.Meanings.{meant, read_as_meant}
 use Rattle.rx_refs.specs.Parts.{components_of}
 use Rattle.rx_refs.specs.Dots.{step, without_dots}
 use Rattle.rx_refs.specs.Resolve.{target, resolved}
-use Rattle.rx_model.specs.Terms.{Iri, Literal, Plain, Triple, set_of}
-use Rattle.rx_model.specs.Copied.{spo}
-use Rattle.rx_model.specs.Numbered.{Renamed}
-use Rattle.rx_model.specs.Sets.{Among}
+use Rattle.rx_model.proofs.Common.{Iri, Literal, Plain, Triple, set_of, spo, Renamed, Among}
 use Rattle.rx_rdfa.specs.Resources.{resources}
 use Rattle.rx_rdfa.specs.Inherited.{below}
 use Rattle.rx_rdfa.specs.Times.{time_kind}

@@ -1,18 +1,11 @@
 -- The nodes of tokens that are written one after another, of which no start tag is refused.
-use Rattle.std.proofs.Common.{◌≡◌, ◌∙◌, ℕ, suc, ◌+◌, false, List, [], ◌∷◌, ◌++◌, map, length, refl, sym, ap, subst, Option, None, append_assoc, append-nil}
+use Rattle.rx_terms.proofs.Common.{◌≡◌, ◌∙◌, ℕ, suc, ◌+◌, false, List, [], ◌∷◌, ◌++◌, map, length, refl, sym, ap, subst, Option, None, append_assoc, append-nil, option_or, Chars}
 use Rattle.std.specs.Prelude.{option_map}
-use Rattle.std.specs.Option.{option_or}
-use Rattle.rx_terms.specs.Text.{Chars}
-use Rattle.rx_chars.specs.declared.syntax.Syntax.TheVariants.{Html}
+use Rattle.rx_grammar.proofs.Common.{Html, Place, in_html, place_in, is_alone, is_self_closed, is_plaintext, hides, drops_line_feed, Tag, tag, Tree, StartTag, end, element, text, after_text, has_element, Item, start_of, enders, Drops, Holds, nothing, a_text, closed, shown}
 use Rattle.rx_grammar.specs.declared.contents.Content.{Content}
 use Rattle.rx_grammar.specs.declared.contents.Content.TheVariants as content
 use Rattle.rx_grammar.specs.declared.faults.Fault.{Fault}
-use Rattle.rx_grammar.specs.Contents.{Place, in_html, place_in, is_alone, is_self_closed, is_plaintext, hides, drops_line_feed}
-use Rattle.rx_grammar.specs.Tokens.{Tag, tag}
-use Rattle.rx_grammar.specs.Trees.{Tree, StartTag, end, element, text, after_text, has_element}
-use Rattle.rx_grammar.specs.Items.{Item, start_of}
-use Rattle.rx_grammar.specs.Omission.{enders}
-use Rattle.rx_grammar.specs.Pages.{Drops, another, no_more, Holds, nothing, a_text, closed, shown}
+use Rattle.rx_grammar.specs.Pages.{another, no_more}
 use Rattle.rx_rdfa.specs.Facts.{facts}
 use Rattle.rx_rdfa.specs.Names.{Context}
 use Rattle.rx_rdfa.specs.Refusals.{Refusal, refusal}

@@ -1,26 +1,10 @@
 -- Tokens of HTML that are written one after another, with characters of one byte each.
-use Rattle.std.proofs.Common.{◌≡◌, ◌∙◌, ℕ, ◌+◌, ◌-◌, ◌≤◌, Bool, true, false, List, [], ◌∷◌, ◌++◌, length, refl, sym, ap, subst, arith, Option, None}
-use Rattle.std.specs.Prelude.{◌&&◌, ◌==◌, not}
-use Rattle.std.specs.Char.{len_utf8}
-use Rattle.std.specs.List.{list_all}
-use Rattle.std.proofs.lemmas.Bool.{and_parts, and_from, ltb-true}
-use Rattle.std.proofs.lemmas.Bool.Decides.{nat_tests}
-use Rattle.std.proofs.lemmas.List.Folds.{list_all-append}
+use Rattle.rx_terms.proofs.Common.{◌≡◌, ◌∙◌, ℕ, ◌+◌, ◌-◌, ◌≤◌, Bool, true, false, List, [], ◌∷◌, ◌++◌, length, refl, sym, ap, subst, arith, Option, None, ◌&&◌, ◌==◌, not, len_utf8, list_all, and_parts, and_from, ltb-true, nat_tests, list_all-append, is_ascii, less_than_sign, greater_than_sign, right_bracket, solidus, Chars, ascii-same}
 use Rattle.std.proofs.lemmas.Str.{len_utf8_ascii}
-use Rattle.rx_terms.specs.Ascii.{is_ascii, less_than_sign, greater_than_sign, right_bracket, solidus}
-use Rattle.rx_terms.specs.Text.{Chars}
-use Rattle.rx_terms.proofs.CharLemmas.{ascii-same}
-use Rattle.rx_chars.specs.Characters.{Entry, IsRead, placed, without_mark, entered, as_line_end, carriage_return, byte_order_mark}
-use Rattle.rx_chars.specs.declared.syntax.Syntax.TheVariants.{Html}
+use Rattle.rx_grammar.proofs.Common.{Entry, IsRead, placed, without_mark, entered, as_line_end, carriage_return, byte_order_mark, Html, Tag, Token, tag, character, SpellsTag, Spells, a_tag, a_character, has_markup, is_text, Tree, Item, Spelled, no_more, one, values, next_of, last_from, Fits, AllFit, is_strict_literal, no_section_end, Document, Page, has_no_nul}
 use Rattle.rx_grammar.specs.declared.contents.Content.{Content}
 use Rattle.rx_grammar.specs.declared.contents.Content.TheVariants as content
 use Rattle.rx_grammar.specs.declared.limits.Limits.{Limits}
-use Rattle.rx_grammar.specs.Tokens.{Tag, Token, tag, character}
-use Rattle.rx_grammar.specs.Tags.{SpellsTag}
-use Rattle.rx_grammar.specs.Spelling.{Spells, a_tag, a_character, has_markup, is_text}
-use Rattle.rx_grammar.specs.Trees.{Tree}
-use Rattle.rx_grammar.specs.Items.{Item, Spelled, no_more, one, values, next_of, last_from, Fits, AllFit, is_strict_literal, no_section_end}
-use Rattle.rx_grammar.specs.Pages.{Document, Page, has_no_nul}
 
 -- a token, the content that it stands in, its first character and the others
 pub record Written : Type 0 where

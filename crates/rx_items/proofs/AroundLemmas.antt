@@ -1,11 +1,8 @@
 -- The rows of a page lie in each other: by their scopes, and by the items around them.
-use Rattle.std.proofs.Common.{◌≡◌, ◌∙◌, ◌+◌, ◌<◌, ℕ, suc, Bool, true, false, cond, List, ◌∷◌, ◌++◌, Contains, Option, Some, None, refl, sym, ap, subst, arith}
+use Rattle.rx_terms.proofs.Common.{◌≡◌, ◌∙◌, ◌+◌, ◌<◌, ℕ, suc, Bool, true, false, cond, List, ◌∷◌, ◌++◌, Contains, Option, Some, None, refl, sym, ap, subst, arith, Contains-append_left, Contains-append_right, slice_get-get_or, Chars}
 use Rattle.std.specs.Prelude.{slice_get}
 use mathlib.Core.Logic.{◌⊎◌, inl, inr}
-use Rattle.std.proofs.lemmas.List.Elements.{Contains-append_left, Contains-append_right}
-use Rattle.std.proofs.lemmas.Option.{slice_get-get_or}
-use Rattle.rx_terms.specs.Text.{Chars}
-use Rattle.rx_grammar.specs.Trees.{StartTag, Tree, end, element, text}
+use Rattle.rx_grammar.proofs.Common.{StartTag, Tree, end, element, text}
 use Rattle.rx_microdata.specs.Facts.{begins_item, facts_of}
 use Rattle.rx_microdata.specs.Elements.{Placed, is_item, scope_in}
 use Rattle.rx_microdata.specs.Laws.{is_before}

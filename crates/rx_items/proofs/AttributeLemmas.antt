@@ -1,13 +1,8 @@
 -- The value of a tag's attribute, whose name is ASCII.
 use Rattle.std.specs.Prelude.{◌≡◌, ℕ, true, List, Option, Some, None, MatchOption}
-use Rattle.std.specs.List.{list_all}
-use Rattle.std.specs.Str.{chars}
-use Rattle.std.proofs.Common.{sym, ap, ◌∙◌}
+use Rattle.rx_terms.proofs.Common.{list_all, chars, sym, ap, ◌∙◌, is_ascii, ascii-chars, seen_slice}
 use denote.Ref.{Bor}
-use Rattle.rx_terms.specs.Ascii.{is_ascii}
-use Rattle.rx_terms.proofs.CharLemmas.{ascii-chars}
-use Rattle.rx_terms.specs.Text.{seen_slice}
-use Rattle.rx_grammar.specs.Tokens.{Attribute, value_of}
+use Rattle.rx_grammar.proofs.Common.{Attribute, value_of}
 
 pub found : (attributes : List Attribute) (name : List ℕ) (result : Option (Bor (List ℕ))) → list_all is_ascii name ≡ true
     → MatchOption result (value_of attributes (chars name) ≡ None) (λ value. value_of attributes (chars name) ≡ Some (chars value.now))

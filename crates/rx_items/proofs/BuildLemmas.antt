@@ -1,10 +1,9 @@
 -- What stands beside a table's rows, one after another.
-use Rattle.std.proofs.Common.{◌≡◌, ◌∙◌, ◌+◌, ◌≤◌, ℕ, zero, suc, true, false, List, [], ◌∷◌, ◌++◌, length, Contains, ◌↔◌, Option, Some, None, option_map, refl, sym, ap, subst, arith}
-use Rattle.std.specs.Prelude.{filter_map, slice_get, unwrap_or}
+use Rattle.rx_terms.proofs.Common.{◌≡◌, ◌∙◌, ◌+◌, ◌≤◌, ℕ, zero, suc, true, false, List, [], ◌∷◌, ◌++◌, length, Contains, ◌↔◌, Option, Some, None, option_map, refl, sym, ap, subst, arith, unwrap_or, Chars, tokens, not_both_ways}
+use Rattle.std.specs.Prelude.{filter_map, slice_get}
 use mathlib.Core.Logic.{◌⊎◌, inl, inr}
 use Rattle.std.proofs.lemmas.List.{length-append}
-use Rattle.rx_terms.specs.Text.{Chars, tokens}
-use Rattle.rx_grammar.specs.Trees.{Tree}
+use Rattle.rx_grammar.proofs.Common.{Tree}
 use Rattle.rx_microdata.specs.Elements.{Placed, is_item}
 use Rattle.rx_microdata.specs.Facts.{distinct_tokens}
 use Rattle.rx_items.specs.Rows.{rows_of}
@@ -21,7 +20,6 @@ use Rattle.rx_items.specs.declared.kept.Run.{Run}
 use Rattle.rx_items.proofs.NestLemmas.{numbered}
 use Rattle.rx_items.proofs.PropertyLemmas.{properties_are}
 use Rattle.rx_items.proofs.ReachLemmas.{reach_alone}
-use Rattle.rx_terms.proofs.Bools.{not_both_ways}
 
 pub same_there : {X : Type 0} (xs : List X) (i : ℕ) (a b : X) → slice_get xs i ≡ Some a → slice_get xs i ≡ Some b → a ≡ b
 same_there xs i a b e f = let found : Some a ≡ Some b = sym e ∙ f in cc (found)

@@ -1,10 +1,7 @@
 -- How deep the JSON of a page's items nests.
-use Rattle.std.proofs.Common.{◌≡◌, ◌≤◌, ◌+◌, ◌*◌, ℕ, zero, suc, Bool, true, false, List, [], ◌∷◌, ◌++◌, map, subst, arith, Option, Some, None, Ordering, Less, Equal, Greater, nat_cmp}
+use Rattle.rx_terms.proofs.Common.{◌≡◌, ◌≤◌, ◌+◌, ◌*◌, ℕ, zero, suc, Bool, true, false, List, [], ◌∷◌, ◌++◌, map, subst, arith, Option, Some, None, Ordering, Less, Equal, Greater, nat_cmp, match_ordering, slice_cmp, Chars}
 use Rattle.std.specs.Prelude.{codes, filter, flat_map, encode_utf8_all}
-use Rattle.std.specs.Ordering.{match_ordering}
-use Rattle.std.specs.Cmp.Lexicographic.{slice_cmp}
 use Rattle.serde_json.specs.Data.{Data, Members, null, boolean, number, string, array, object, no_members, member, depth, items_depth, members_depth}
-use Rattle.rx_terms.specs.Text.{Chars}
 use Rattle.rx_grammar.specs.declared.faults.Kind.{Kind}
 use Rattle.rx_microdata.specs.Facts.{Facts, said}
 use Rattle.rx_microdata.specs.Elements.{Placed, is_item, names_of, is_top_level}

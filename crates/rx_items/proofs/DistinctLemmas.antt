@@ -1,10 +1,8 @@
 -- The tokens of a text, each once, with a set of those that were seen.
-use Rattle.std.proofs.Common.{◌≡◌, ◌∙◌, refl, sym, ap, ℕ, Bool, true, false, not, ◌||◌, cond, List, [], ◌∷◌, ◌++◌, append_assoc}
+use Rattle.rx_terms.proofs.Common.{◌≡◌, ◌∙◌, refl, sym, ap, ℕ, Bool, true, false, cond, List, [], ◌∷◌, ◌++◌, append_assoc, chars, IsUtf8, Chars, same-chars}
+use Rattle.std.proofs.Common.{not, ◌||◌}
 use Rattle.std.specs.Cmp.Lexicographic.{nat_list_eq_equiv}
-use Rattle.std.specs.Str.{chars, IsUtf8}
-use Rattle.rx_terms.specs.Text.{Chars}
-use Rattle.rx_terms.proofs.CharLemmas.{same-chars}
-use Rattle.rx_grammar.specs.Names.{same, is_among}
+use Rattle.rx_grammar.proofs.Common.{same, is_among}
 use Rattle.rx_microdata.specs.Facts.{without_repeats_of}
 
 -- the set has the texts of a list

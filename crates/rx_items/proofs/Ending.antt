@@ -1,9 +1,7 @@
 -- The items of a whole page.
 use Rattle.std.specs.Prelude.{◌≡◌, List, ℕ, Option, Err}
-use Rattle.std.proofs.Common.{sym, ap, subst, ◌∙◌}
-use Rattle.rx_terms.specs.Text.{Chars}
-use Rattle.rx_grammar.specs.Items.{start_of}
-use Rattle.rx_grammar.specs.Trees.{Tree}
+use Rattle.rx_terms.proofs.Common.{sym, ap, subst, ◌∙◌, Chars}
+use Rattle.rx_grammar.proofs.Common.{start_of, Tree}
 use Rattle.rx_rdfa.specs.Base.{base_by, root_href}
 use Rattle.rx_rdfa.specs.Pages.{tags_of}
 use Rattle.rx_nest.specs.Signs.{signs_of}

@@ -1,10 +1,8 @@
 -- What is kept of a page, row by row.
-use Rattle.std.proofs.Common.{get_or, ◌≡◌, ◌∙◌, ◌+◌, ◌<◌, ◌≤◌, ℕ, zero, suc, Bool, true, false, cond, List, [], ◌∷◌, filter, length, Contains, ◌↔◌, Some, None, sym, ap, subst, arith, nat_cmp, Less}
+use Rattle.rx_terms.proofs.Common.{get_or, ◌≡◌, ◌∙◌, ◌+◌, ◌<◌, ◌≤◌, ℕ, zero, suc, Bool, true, false, cond, List, [], ◌∷◌, filter, length, Contains, ◌↔◌, Some, None, sym, ap, subst, arith, nat_cmp, Less, slice_get-get_or, AllByRecursion, Chars}
 use Rattle.std.specs.Prelude.{slice_get}
-use Rattle.std.proofs.lemmas.Option.{slice_get-get_or, slice_get_past}
-use Rattle.std.specs.List.{AllByRecursion}
+use Rattle.std.proofs.lemmas.Option.{slice_get_past}
 use Rattle.std.specs.List.Sorted.{IsStrictlySortedBy}
-use Rattle.rx_terms.specs.Text.{Chars}
 use Rattle.rx_microdata.specs.Elements.{Placed, is_item, names_of}
 use Rattle.rx_items.specs.Rows.{properties_in}
 use Rattle.rx_items.specs.Showing.{ShowsRow}

@@ -1,13 +1,10 @@
 -- The first row of each id, from the back.
-use Rattle.std.proofs.Common.{◌≡◌, ◌∙◌, ◌+◌, ◌<◌, ◌≤◌, ℕ, zero, suc, Bool, true, false, cond, List, [], ◌∷◌, length, drop, get_or, Option, Some, None, option_map, is_eq, refl, sym, ap, arith, nat_cmp, drop-cons, add-one}
+use Rattle.rx_terms.proofs.Common.{◌≡◌, ◌∙◌, ◌+◌, ◌<◌, ◌≤◌, ℕ, zero, suc, Bool, true, false, cond, List, [], ◌∷◌, length, drop, get_or, Option, Some, None, option_map, refl, sym, ap, arith, nat_cmp, add-one, slice_cmp, chars, IsUtf8, list_any, Chars, same-chars, slice_get-get_or, slice_get_within, get_or_from_slice_get, or_parts}
+use Rattle.std.proofs.Common.{is_eq, drop-cons}
 use Rattle.std.specs.Prelude.{slice_get, IfOk, OnOk, Result, Ok, Err}
-use Rattle.std.specs.Cmp.Lexicographic.{slice_cmp, nat_list_eq_equiv}
+use Rattle.std.specs.Cmp.Lexicographic.{nat_list_eq_equiv}
 use Rattle.std.proofs.lemmas.Map.Text.{is_eq-slice_cmp}
-use Rattle.std.specs.Str.{chars, IsUtf8}
-use Rattle.std.specs.List.{list_any}
-use Rattle.rx_terms.specs.Text.{Chars}
-use Rattle.rx_terms.proofs.CharLemmas.{same-chars}
-use Rattle.rx_grammar.specs.Names.{same}
+use Rattle.rx_grammar.proofs.Common.{same}
 use Rattle.rx_microdata.specs.Elements.{Placed}
 use Rattle.rx_microdata.specs.Properties.{first_with_id, is_same_id}
 use Rattle.rx_items.specs.Held.{Numbered}
@@ -21,9 +18,7 @@ use Rattle.std.specs.Map.{lookup}
 use denote.Ref.{Bor}
 use Rattle.rx_items.specs.Ids.{Looks, LooksFor, has_references, place_of}
 use Rattle.rx_items.proofs.HoldLemmas.{place_is}
-use Rattle.rx_terms.proofs.Bools.{neither}
 use Rattle.rx_items.proofs.ShowLemmas.{shown_by}
-use Rattle.std.proofs.lemmas.Option.{slice_get-get_or, slice_get_within, get_or_from_slice_get}
 
 pub put_under : (id text : List ℕ) (new old : Option ℕ) → cond (is_eq (slice_cmp nat_cmp id text)) new old ≡ cond (same id text) new old
 put_under id text new old = ap (λ b. cond b new old) (is_eq-slice_cmp id text)
@@ -78,10 +73,10 @@ pub looks_for_none : {P : Type 0} (rows : List Row) (place : ℕ) (row : Row) (s
 looks_for_none [] place row span g none is = absurd (cc (g))
 looks_for_none (r ∷ rows) zero row span g none is =
     let same : r ≡ row = cc (g) in
-    let no : row.head.words.has_references ≡ false = ap has_references (sym same) ∙ (neither r.head.words.has_references (list_any has_references rows) none).0 in
+    let no : row.head.words.has_references ≡ false = ap has_references (sym same) ∙ (or_parts r.head.words.has_references (list_any has_references rows) none).0 in
     let clash : None ≡ Some span = ap (λ b. span_if b row.head.words.item_id_end row.head.words.references_end) (sym no) ∙ is in
     absurd (cc (clash))
-looks_for_none (r ∷ rows) (suc place) row span g none is = looks_for_none rows place row span g (neither r.head.words.has_references (list_any has_references rows) none).1 is
+looks_for_none (r ∷ rows) (suc place) row span g none is = looks_for_none rows place row span g (or_parts r.head.words.has_references (list_any has_references rows) none).1 is
 
 pub looks_for : {E : Type 0} (rows : List Row) (look : Chars → Option ℕ) (r : Result (BTreeMap (Bor (List ℕ)) ℕ) E) → IfOk r (λ ids. Looks ids look) → IfOk r (λ ids. LooksFor rows ids look)
 looks_for rows look (Ok ids) looks = λ place row there span is. looks

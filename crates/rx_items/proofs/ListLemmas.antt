@@ -1,8 +1,7 @@
 -- Lists: their ends, and one place that is set.
-use Rattle.std.specs.Prelude.{◌≡◌, ℕ, zero, suc, ◌-◌, ◌<◌, List, [], ◌∷◌, ◌++◌, length, take, slice_get, slice_index_or, slice_set, Some}
-use Rattle.std.proofs.Common.{refl, ap, ◌∙◌}
+use Rattle.rx_terms.proofs.Common.{slice_index_or, refl, ap, ◌∙◌, none-some}
+use Rattle.std.specs.Prelude.{◌≡◌, ℕ, zero, suc, ◌-◌, ◌<◌, List, [], ◌∷◌, ◌++◌, length, take, slice_get, slice_set, Some}
 use Rattle.std.proofs.lemmas.List.{length-append}
-use Rattle.std.proofs.lemmas.Option.{none-some}
 use native.Mathlib.Omega.{arith}
 use Rattle.std.proofs.Math.Seq.{get_or-append_seam, take-append_seam}
 

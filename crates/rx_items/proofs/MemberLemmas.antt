@@ -1,9 +1,7 @@
 -- Which rows stand in a run of members.
-use Rattle.std.proofs.Common.{◌≡◌, ◌∙◌, ◌+◌, ◌-◌, ◌*◌, ◌<◌, ◌≤◌, ℕ, zero, suc, true, List, [], ◌∷◌, length, take, drop, get_or, Contains, Option, Some, None, refl, sym, ap, subst, arith}
+use Rattle.rx_terms.proofs.Common.{◌≡◌, ◌∙◌, ◌+◌, ◌-◌, ◌*◌, ◌<◌, ◌≤◌, ℕ, zero, suc, true, List, [], ◌∷◌, length, take, drop, get_or, Contains, Option, Some, None, refl, sym, ap, subst, arith, slice_get-get_or, slice_get_within, get_or_from_slice_get, cases_lt, ltb-true, Chars}
 use Rattle.std.specs.Prelude.{slice_get}
-use Rattle.std.proofs.lemmas.Option.{slice_get-get_or, slice_get_within, get_or_from_slice_get}
-use Rattle.std.proofs.lemmas.Bool.{cases_lt, ltb-true, ltb-false}
-use Rattle.rx_terms.specs.Text.{Chars}
+use Rattle.std.proofs.lemmas.Bool.{ltb-false}
 use Rattle.rx_microdata.specs.Elements.{Placed, names_of}
 use Rattle.rx_microdata.specs.Properties.{is_any}
 use mathlib.Core.Logic.{◌⊎◌, inl, inr}

@@ -1,11 +1,9 @@
 -- Values in byte order of their names come to the same groups, and these are told where the name changes.
-use Rattle.std.proofs.Common.{◌≡◌, ◌∙◌, ◌+◌, ◌<◌, ◌≤◌, ℕ, suc, Bool, true, false, true≢false, not, ◌&&◌, cond, List, [], ◌∷◌, ◌++◌, map, filter, length, get_or, drop, drop-cons, drop_of_length-le, Option, Some, None, Ordering, Less, Equal, Greater, is_eq, nat_cmp, Global, Vec, refl, sym, ap, subst, arith, append_assoc, append-nil, encode_utf8_all}
+use Rattle.rx_terms.proofs.Common.{◌≡◌, ◌∙◌, ◌+◌, ◌<◌, ◌≤◌, ℕ, suc, Bool, true, false, true≢false, cond, List, [], ◌∷◌, ◌++◌, map, filter, length, get_or, drop, drop_of_length-le, Option, Some, None, Ordering, Less, Equal, Greater, nat_cmp, refl, sym, ap, subst, arith, append_assoc, append-nil, encode_utf8_all, is_lt, slice_cmp, filter-append, Chars}
+use Rattle.std.proofs.Common.{not, ◌&&◌, drop-cons, is_eq, Global, Vec}
 use Rattle.std.specs.Prelude.{flat_map, slice_get, IfOk, Result, Ok, Err}
-use Rattle.std.specs.Ordering.{is_lt}
-use Rattle.std.specs.Cmp.Lexicographic.{slice_cmp}
 use Rattle.std.specs.List.Sorted.{IsSortedBy, IsStableBy, ties}
 use Rattle.std.proofs.lemmas.Cmp.{nat_list_cmp_total, tied_itself}
-use Rattle.std.proofs.lemmas.List.Elements.{filter-append}
 use Rattle.std.proofs.lemmas.Map.Text.{is_eq-slice_cmp}
 use Rattle.std.proofs.lemmas.Slice.Eq.{bytes_eq-Decides}
 use Rattle.serde.specs.Event as event
@@ -13,7 +11,6 @@ use Rattle.serde.specs.Event.{Event}
 use Rattle.serde.specs.declared.name.Case.TheVariants.{AsIs}
 use Rattle.serde_json.specs.Data.{Data, array, Items, no_items, item, Members, no_members, member}
 use Rattle.rx_json.specs.Events.{data_events, items_events, members_events}
-use Rattle.rx_terms.specs.Text.{Chars}
 use Rattle.rx_microdata.specs.Elements.{Placed, names_of}
 use Rattle.rx_microdata.specs.Json.{with_value, grouped, named}
 use Rattle.rx_items.specs.Held.{AllStand, places}

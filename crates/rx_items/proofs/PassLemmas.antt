@@ -1,8 +1,7 @@
 -- The visits of a page without its JSON, step by step.
-use Rattle.std.proofs.Common.{◌≡◌, ◌∙◌, ◌+◌, ◌-◌, ◌<◌, ◌≤◌, ℕ, zero, suc, Bool, true, false, List, [], ◌∷◌, ◌++◌, map, length, take, get_or, refl, sym, ap, subst, arith, append_assoc}
+use Rattle.rx_terms.proofs.Common.{◌≡◌, ◌∙◌, ◌+◌, ◌-◌, ◌<◌, ◌≤◌, ℕ, zero, suc, Bool, true, false, List, [], ◌∷◌, ◌++◌, map, length, take, get_or, refl, sym, ap, subst, arith, append_assoc, take_all, Chars}
 use Rattle.std.specs.Prelude.{Result}
-use Rattle.std.proofs.lemmas.List.{append-nil, take_all}
-use Rattle.rx_terms.specs.Text.{Chars}
+use Rattle.std.proofs.lemmas.List.{append-nil}
 use Rattle.rx_grammar.specs.declared.stops.Stop.{Stop}
 use Rattle.rx_grammar.specs.declared.stops.Stop.TheVariants as stop
 use Rattle.rx_microdata.specs.Elements.{Placed, is_item, names_of}

@@ -1,14 +1,13 @@
 -- The runs of an item give its properties, and no others.
-use Rattle.std.proofs.Common.{◌≡◌, ◌∙◌, ◌+◌, ℕ, zero, suc, Bool, true, false, not, true≢false, ◌==◌, ◌&&◌, ◌||◌, cond, List, [], ◌∷◌, ◌++◌, filter, Contains, ◌↔◌, Option, Some, None, option_map, refl, sym, ap, subst, arith}
+use Rattle.rx_terms.proofs.Common.{◌≡◌, ◌∙◌, ◌+◌, ℕ, zero, suc, Bool, true, false, true≢false, cond, List, [], ◌∷◌, ◌++◌, filter, Contains, ◌↔◌, Option, Some, None, option_map, refl, sym, ap, subst, arith, list_any, eq-eqb, Chars}
+use Rattle.std.proofs.Common.{not, ◌==◌, ◌&&◌, ◌||◌}
 use Rattle.std.specs.Prelude.{slice_get, filter_map, option_to_list}
-use Rattle.std.specs.List.{list_any}
 use mathlib.Core.Logic.{◌⊎◌, inl, inr}
-use Rattle.std.proofs.lemmas.Bool.{eqb-true, eq-eqb}
-use Rattle.rx_terms.specs.Text.{Chars}
+use Rattle.std.proofs.lemmas.Bool.{eqb-true}
 use Rattle.rx_microdata.specs.Elements.{Placed, names_of}
 use Rattle.rx_microdata.specs.Properties.{is_any, first_with_id, has_id}
 use Rattle.rx_microdata.specs.Laws.{is_scope, is_property_by_scope, reaches_by_scope}
-use Rattle.rx_microdata.proofs.Lists.{first, later, first_or_later, and_parts, and_of, or_parts, or_left, or_right, true_not, not_true, none, kept, keeps, not_so, contradiction, found_first}
+use Rattle.rx_microdata.proofs.Lists.{first, later, first_or_later, and_parts, and_of, or_parts, or_left, or_right, true_not, not_true, none, kept, keeps, contradiction, found_first}
 use Rattle.rx_items.specs.Rows.{properties_in}
 use Rattle.rx_items.specs.Held.{Numbered, places}
 use Rattle.rx_items.specs.Properties.{gathered, in_runs, is_other}
@@ -17,6 +16,7 @@ use Rattle.rx_items.specs.declared.kept.Run.{Run}
 use Rattle.rx_items.proofs.HoldLemmas.{place_is}
 use Rattle.rx_items.proofs.ReferenceLemmas.{one_more}
 use Rattle.rx_items.proofs.MemberLemmas.{there_is}
+use Rattle.std.proofs.lemmas.Bool.{false_from_ne_true}
 
 -- a row at this place that a test lets through
 pub record Let (q : Placed → Bool) (ps : List Placed) (x : ℕ) : Type 0 where
@@ -114,10 +114,10 @@ module _ (ps : List Placed) (n : Numbered 0 ps) where
       at_root = place_is ps place root n there
 
       other : (e : Placed) → slice_get ps x ≡ Some e → is_other place x ≡ true → not (root.place == e.place) ≡ true
-      other e g h = let at = place_is ps x e n g in true_not (root.place == e.place) (not_so (root.place == e.place) (λ t. contradiction (x == place) (eq-eqb x place (sym at ∙ sym (eqb-true root.place e.place t) ∙ at_root)) (not_true (x == place) h)))
+      other e g h = let at = place_is ps x e n g in true_not (root.place == e.place) (false_from_ne_true (root.place == e.place) (λ t. contradiction (x == place) (eq-eqb x place (sym at ∙ sym (eqb-true root.place e.place t) ∙ at_root)) (not_true (x == place) h)))
 
       back_other : (e : Placed) → slice_get ps x ≡ Some e → not (root.place == e.place) ≡ true → is_other place x ≡ true
-      back_other e g h = let at = place_is ps x e n g in true_not (x == place) (not_so (x == place) (λ t. contradiction (root.place == e.place) (eq-eqb root.place e.place (at_root ∙ sym (eqb-true x place t) ∙ sym at)) (not_true (root.place == e.place) h)))
+      back_other e g h = let at = place_is ps x e n g in true_not (x == place) (false_from_ne_true (x == place) (λ t. contradiction (root.place == e.place) (eq-eqb root.place e.place (at_root ∙ sym (eqb-true x place t) ∙ sym at)) (not_true (root.place == e.place) h)))
 
       passes : (e : Placed) → slice_get ps x ≡ Some e → is_other place x ≡ true → is_any (names_of e) ≡ true
           → (is_scope root.place e.scope || list_any (reaches_by_scope e) (filter_map (first_with_id ps) root.facts.references)) ≡ true → is_property_by_scope ps root e ≡ true

@@ -1,14 +1,12 @@
 -- The runs of an item's starts, one after another.
-use Rattle.std.proofs.Common.{◌≡◌, ◌∙◌, ◌+◌, ◌<◌, ◌≤◌, ℕ, suc, Bool, true, false, cond, ◌==◌, List, [], ◌∷◌, ◌++◌, length, take, get_or, Contains, ◌↔◌, Option, Some, None, refl, sym, ap, subst, arith, append_assoc}
+use Rattle.rx_terms.proofs.Common.{◌≡◌, ◌∙◌, ◌+◌, ◌<◌, ◌≤◌, ℕ, suc, Bool, true, false, cond, List, [], ◌∷◌, ◌++◌, length, take, get_or, Contains, ◌↔◌, Option, Some, None, refl, sym, ap, subst, arith, append_assoc, take_all, Contains-append_left, Contains-append_right, Contains-append_cases, slice_get-get_or, slice_get_within, cases_lt, nat_tests, Chars}
+use Rattle.std.proofs.Common.{◌==◌}
 use Rattle.std.specs.Prelude.{slice_get}
 use mathlib.Core.Logic.{◌⊎◌, inl, inr}
-use Rattle.std.proofs.lemmas.List.{append-nil, take_all}
-use Rattle.std.proofs.lemmas.List.Elements.{Contains-append_left, Contains-append_right, Contains-append_cases, Contains-push, Contains-push_cases}
-use Rattle.std.proofs.lemmas.Option.{slice_get-get_or, slice_get_past, slice_get_within}
-use Rattle.std.proofs.lemmas.Bool.{cases_lt}
-use Rattle.std.proofs.lemmas.Bool.Decides.{nat_tests}
-use Rattle.rx_terms.specs.Text.{Chars}
-use Rattle.rx_grammar.specs.Trees.{Tree}
+use Rattle.std.proofs.lemmas.List.{append-nil}
+use Rattle.std.proofs.lemmas.List.Elements.{Contains-push, Contains-push_cases}
+use Rattle.std.proofs.lemmas.Option.{slice_get_past}
+use Rattle.rx_grammar.proofs.Common.{Tree}
 use Rattle.rx_microdata.specs.Elements.{Placed, is_item}
 use Rattle.rx_items.specs.Rows.{rows_of, row_count}
 use Rattle.rx_items.specs.Showing.{ShowsRow}

@@ -1,9 +1,6 @@
 -- Texts as JSON.
-use Rattle.std.proofs.Common.{◌≡◌, ◌∙◌, ℕ, List, [], refl, sym, ap}
-use Rattle.std.specs.Prelude.{Option, Some, None, slice_get, unwrap_or}
-use Rattle.std.specs.Str.{chars}
-use Rattle.std.proofs.lemmas.Str.{chars-nil}
-use Rattle.rx_terms.specs.Text.{Chars}
+use Rattle.rx_terms.proofs.Common.{◌≡◌, ◌∙◌, ℕ, List, [], refl, sym, ap, unwrap_or, chars, chars-nil, Chars}
+use Rattle.std.specs.Prelude.{Option, Some, None, slice_get}
 use Rattle.rx_values.specs.Marks.{CutAt}
 use Rattle.rx_microdata.specs.Facts.{Written, said}
 use Rattle.rx_microdata.specs.Facts as facts

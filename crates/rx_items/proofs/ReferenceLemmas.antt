@@ -1,8 +1,6 @@
 -- Tokens that are looked up one after another.
-use Rattle.std.proofs.Common.{◌≡◌, ◌∙◌, ℕ, List, [], ◌∷◌, ◌++◌, append_assoc, Option, Some, None, sym, ap, refl, subst}
-use Rattle.std.specs.Prelude.{option_to_list, filter_map, unwrap_or}
-use Rattle.std.specs.Str.{chars}
-use Rattle.rx_terms.specs.Text.{Chars}
+use Rattle.rx_terms.proofs.Common.{◌≡◌, ◌∙◌, ℕ, List, [], ◌∷◌, ◌++◌, append_assoc, Option, Some, None, sym, ap, refl, subst, unwrap_or, chars, Chars}
+use Rattle.std.specs.Prelude.{option_to_list, filter_map}
 use Rattle.rx_items.specs.Spans.{IsRun}
 use Rattle.rx_items.specs.Showing.{ShowsWord}
 use Rattle.rx_items.specs.declared.spans.Span.{Span}

@@ -1,10 +1,8 @@
 -- The rows of a page come to what the page comes to.
-use Rattle.std.specs.Prelude.{◌≡◌, ℕ, ◌≤◌, Bool, true, false, not, ◌&&◌, ◌||◌, ◌==◌, cond, ◌⊎◌, List, [], ◌∷◌, map, filter, filter_map, find, Contains, Option, Some, None, option_map, is_some, unwrap_or}
-use Rattle.std.specs.List.{list_any, cons_option}
-use Rattle.std.proofs.Common.{refl, sym, ap, subst, ◌∙◌}
+use Rattle.rx_terms.proofs.Common.{not, ◌&&◌, ◌||◌, ◌==◌, is_some, unwrap_or, list_any, cons_option, refl, sym, ap, subst, ◌∙◌, Chars, or_parts, and_right}
+use Rattle.std.specs.Prelude.{◌≡◌, ℕ, ◌≤◌, Bool, true, false, cond, ◌⊎◌, List, [], ◌∷◌, map, filter, filter_map, find, Contains, Option, Some, None, option_map}
 use mathlib.Core.Logic.{inl, inr}
-use Rattle.rx_terms.specs.Text.{Chars}
-use Rattle.rx_grammar.specs.Trees.{Tree}
+use Rattle.rx_grammar.proofs.Common.{Tree}
 use Rattle.rx_microdata.specs.Facts.{Facts}
 use Rattle.rx_microdata.specs.Elements.{Placed, elements_of, is_item, names_of, is_top_level}
 use Rattle.rx_microdata.specs.Properties.{is_any, is_same_id, has_id, first_with_id, properties}
@@ -18,7 +16,7 @@ use Rattle.rx_items.specs.Ranks.{marks, rank_in}
 use Rattle.rx_items.proofs.Alike.{Each, Item, Moves, outcome_alike}
 use Rattle.rx_items.proofs.RankLemmas.{is_row, ranked, Ranks, Counts, rows_are_ranked, row_counts, lt_same, eq_same, rank_rises, ranks_from}
 use Rattle.std.proofs.lemmas.List.{append-nil}
-use Rattle.std.proofs.lemmas.Bool.{or_parts, and_left, and_right}
+use Rattle.std.proofs.lemmas.Bool.{and_left}
 
 -- a filter of what is moved is the moved filter, where the tests agree on rows and other elements fail
 module _ (f : Placed → Placed) (p q : Placed → Bool) where

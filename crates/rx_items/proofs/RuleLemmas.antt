@@ -1,12 +1,7 @@
 -- Bytes and characters of an element's name have the value stand in one place.
-use Rattle.std.specs.Prelude.{◌≡◌, ℕ, true, ◌||◌, List, [], ◌∷◌, codes}
-use Rattle.std.specs.List.{list_all}
-use Rattle.std.specs.Str.{chars, IsUtf8}
-use Rattle.std.proofs.Common.{refl}
-use Rattle.rx_terms.specs.Ascii.{is_ascii}
-use Rattle.rx_terms.specs.Text.{Chars}
-use Rattle.rx_terms.proofs.CharLemmas.{same-ascii}
-use Rattle.rx_grammar.specs.Names.{is_among}
+use Rattle.rx_terms.proofs.Common.{◌||◌, list_all, chars, IsUtf8, refl, is_ascii, Chars, same-ascii}
+use Rattle.std.specs.Prelude.{◌≡◌, ℕ, true, List, [], ◌∷◌, codes}
+use Rattle.rx_grammar.proofs.Common.{is_among}
 use Rattle.rx_microdata.specs.Facts.{source_of, embedding_names, linking_names, valued_names}
 use Rattle.rx_microdata.proofs.Lists.{and_parts}
 

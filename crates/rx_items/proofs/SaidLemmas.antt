@@ -1,13 +1,11 @@
 -- The own texts of times while text is said.
-use Rattle.std.specs.Prelude.{◌≡◌, ℕ, ◌<◌, ◌≤◌, ⊤, nat_lt, List, [], ◌++◌, length, slice_get, slice_index_or, slice_set, Option, Some, None}
-use Rattle.std.proofs.Common.{refl, sym, ap, ◌∙◌}
-use Rattle.std.proofs.lemmas.Bool.{ltb-false, cases_lt}
-use Rattle.std.proofs.lemmas.List.{append-nil, append_assoc, length-set, set-get_or, get_or_append_left, set-append_left, get_or-set_same, set-set, set_past}
+use Rattle.rx_terms.proofs.Common.{⊤, slice_index_or, refl, sym, ap, ◌∙◌, cases_lt, length-set, Chars, split}
+use Rattle.std.specs.Prelude.{◌≡◌, ℕ, ◌<◌, ◌≤◌, nat_lt, List, [], ◌++◌, length, slice_get, slice_set, Option, Some, None}
+use Rattle.std.proofs.lemmas.Bool.{ltb-false}
+use Rattle.std.proofs.lemmas.List.{append-nil, append_assoc, set-get_or, get_or_append_left, set-append_left, get_or-set_same, set-set, set_past}
 use native.Mathlib.Omega.{arith}
-use Rattle.rx_terms.specs.Text.{Chars}
 use Rattle.rx_items.specs.Growing.{with_said}
 use Rattle.rx_items.proofs.ListLemmas.{get_other, get_append}
-use Rattle.rx_terms.proofs.Bools.{split}
 use mathlib.Core.Logic.{◌⊎◌, inl, inr}
 
 abbrev pub OwnIn : Option ℕ → ℕ → Type 0

@@ -1,8 +1,7 @@
 -- What rows stand for stays as the table grows.
-use Rattle.std.specs.Prelude.{◌≡◌, ℕ, suc, ◌≤◌, ⊤, List, [], ◌∷◌, ◌++◌, length, Option, Some, None, slice_get, zero}
-use Rattle.std.proofs.Common.{refl, ap, ◌∙◌, subst}
+use Rattle.rx_terms.proofs.Common.{⊤, refl, ap, ◌∙◌, subst, Chars}
+use Rattle.std.specs.Prelude.{◌≡◌, ℕ, suc, ◌≤◌, List, [], ◌∷◌, ◌++◌, length, Option, Some, None, slice_get, zero}
 use native.Mathlib.Omega.{arith}
-use Rattle.rx_terms.specs.Text.{Chars}
 use Rattle.rx_microdata.specs.Facts.{Value}
 use Rattle.rx_microdata.specs.Elements.{Placed}
 use Rattle.rx_items.specs.Words.{id_in, item_id_in, names_in, references_in, types_in}

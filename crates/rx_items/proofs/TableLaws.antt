@@ -1,12 +1,9 @@
 -- Of each tree the table shows the rows.
-use Rattle.std.specs.Prelude.{◌≡◌, ℕ, suc, ◌+◌, ◌-◌, ◌≤◌, Bool, true, false, ◌||◌, cond, List, [], ◌∷◌, ◌++◌, length, take, slice_get, slice_index_or, slice_set, Option, Some, None, codes}
-use Rattle.std.proofs.Common.{refl, sym, ap, subst, ◌∙◌}
-use Rattle.std.proofs.lemmas.Bool.{lt-ltb, or_left, or_right}
+use Rattle.rx_terms.proofs.Common.{◌||◌, slice_index_or, refl, sym, ap, subst, ◌∙◌, lt-ltb, or_left, or_right, Chars}
+use Rattle.std.specs.Prelude.{◌≡◌, ℕ, suc, ◌+◌, ◌-◌, ◌≤◌, Bool, true, false, cond, List, [], ◌∷◌, ◌++◌, length, take, slice_get, slice_set, Option, Some, None, codes}
 use Rattle.std.proofs.lemmas.List.{length-append, append-nil, append_assoc}
 use native.Mathlib.Omega.{arith}
-use Rattle.rx_terms.specs.Text.{Chars}
-use Rattle.rx_grammar.specs.Tokens.{value_of}
-use Rattle.rx_grammar.specs.Trees.{StartTag, Tree, end, element, text}
+use Rattle.rx_grammar.proofs.Common.{value_of, StartTag, Tree, end, element, text}
 use Rattle.rx_microdata.specs.Facts.{Value, attribute, facts_of, all_text, own_text}
 use Rattle.rx_microdata.specs.Elements.{Placed, scope_in}
 use Rattle.rx_items.specs.Rows.{matters, needed, behind, row_count, with_row, rows_from}

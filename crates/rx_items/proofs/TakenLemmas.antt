@@ -1,9 +1,7 @@
 -- What is kept of a tag says what the rules read of it.
-use Rattle.std.specs.Prelude.{◌≡◌, Bool, true, false, not, ◌&&◌, ◌||◌, cond, List, [], ◌∷◌, ◌++◌, Option, Some, None, is_some, option_map, unwrap_or, codes}
-use Rattle.std.proofs.Common.{refl, sym, ap, subst, ◌∙◌}
-use Rattle.rx_terms.specs.Text.{Chars, tokens}
-use Rattle.rx_grammar.specs.Tokens.{Attribute, value_of}
-use Rattle.rx_grammar.specs.Trees.{StartTag, Tree}
+use Rattle.rx_terms.proofs.Common.{not, ◌&&◌, ◌||◌, is_some, unwrap_or, refl, sym, ap, subst, ◌∙◌, Chars, tokens}
+use Rattle.std.specs.Prelude.{◌≡◌, Bool, true, false, cond, List, [], ◌∷◌, ◌++◌, Option, Some, None, option_map, codes}
+use Rattle.rx_grammar.proofs.Common.{Attribute, value_of, StartTag, Tree}
 use Rattle.rx_microdata.specs.Facts.{Value, Written, Reference, Source, AsWritten, AsReference, OrOwnText, AllText, source_of, value_from, value_of_element, attribute, facts_of, all_text, own_text, distinct_tokens, without_repeats_of, referred as referred_value}
 use Rattle.rx_microdata.specs.Properties.{is_any}
 use Rattle.rx_items.specs.Rows.{matters, is_valued, needed}

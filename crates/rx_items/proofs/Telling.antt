@@ -1,10 +1,9 @@
 -- The table after some signs, and the base that is known then.
 use Rattle.std.specs.Prelude.{◌≡◌, ℕ, suc, ◌-◌, Bool, true, false, cond, List, [], ◌∷◌, ◌++◌, map, length}
-use Rattle.std.proofs.Common.{refl, sym, ap, subst, ◌∙◌}
+use Rattle.rx_terms.proofs.Common.{refl, sym, ap, subst, ◌∙◌, Chars}
 use Rattle.std.proofs.lemmas.List.{length-append, length-take-le, append-nil, append_assoc}
 use native.Mathlib.Omega.{arith}
-use Rattle.rx_terms.specs.Text.{Chars}
-use Rattle.rx_grammar.specs.Trees.{StartTag, Tree, end, element, text}
+use Rattle.rx_grammar.proofs.Common.{StartTag, Tree, end, element, text}
 use Rattle.rx_rdfa.specs.Tree.{Tag}
 use Rattle.rx_nest.specs.Signs as sign
 use Rattle.rx_nest.specs.Signs.{Sign, signs_of}

@@ -1,15 +1,10 @@
 -- A text without white space is a token.
-use Rattle.std.proofs.Common.{◌≡◌, ◌∙◌, ℕ, ◌<◌, nat_lt, cond, Bool, true, false, not, ◌==◌, List, [], ◌∷◌, length, take, drop, get_or, refl, ap, arith, Some, None}
-use Rattle.std.specs.Char.{is_ascii_whitespace}
-use Rattle.std.specs.List.{list_all, position, position_or_len}
-use Rattle.std.specs.Str.{chars, IsUtf8, IsTrimAsciiStart}
-use Rattle.std.proofs.lemmas.Bool.Decides.{nat_tests}
-use Rattle.std.proofs.lemmas.List.{take_all, length-drop}
+use Rattle.rx_terms.proofs.Common.{◌≡◌, ◌∙◌, ℕ, ◌<◌, nat_lt, cond, Bool, true, false, List, [], ◌∷◌, length, take, drop, get_or, refl, ap, arith, Some, None, is_ascii_whitespace, list_all, position_or_len, chars, IsUtf8, nat_tests, take_all, length-drop, tokens, chars-end, untrue, both}
+use Rattle.std.proofs.Common.{not, ◌==◌}
+use Rattle.std.specs.List.{position}
+use Rattle.std.specs.Str.{IsTrimAsciiStart}
 use Rattle.std.proofs.lemmas.List.Sums.{fails_before_first}
-use Rattle.rx_terms.specs.Text.{tokens}
-use Rattle.rx_terms.proofs.CharLemmas.{chars-end}
 use Rattle.rx_words.proofs.TokenLemmas.{found-end, first-token, tokens-first}
-use Rattle.rx_terms.proofs.Bools.{untrue, both}
 
 pub one_token : (text : List ℕ) (empty : Bool) → IsUtf8 text → None ≡ position is_ascii_whitespace text → empty ≡ (length text == 0) → not empty ≡ true
     → tokens (chars text) ≡ chars text ∷ []

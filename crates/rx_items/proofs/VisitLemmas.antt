@@ -1,10 +1,8 @@
 -- The visit of an item, and those of its properties.
-use Rattle.std.proofs.Common.{◌≡◌, ◌∙◌, ◌+◌, ◌<◌, ◌≤◌, ℕ, zero, suc, Bool, true, false, ◌==◌, cond, List, [], ◌∷◌, ◌++◌, length, take, drop, get_or, Option, Some, None, option_map, refl, sym, ap, subst, arith, nat_lt, append_assoc}
-use Rattle.std.specs.Prelude.{flat_map, nat_le, slice_get, Result, Ok, Err, IsErrAnd}
-use Rattle.std.specs.List.{list_any}
-use Rattle.std.specs.Option.{option_or}
+use Rattle.rx_terms.proofs.Common.{◌≡◌, ◌∙◌, ◌+◌, ◌<◌, ◌≤◌, ℕ, zero, suc, Bool, true, false, cond, List, [], ◌∷◌, ◌++◌, length, take, drop, get_or, Option, Some, None, option_map, refl, sym, ap, subst, arith, nat_lt, append_assoc, nat_le, list_any, option_or, Chars}
+use Rattle.std.proofs.Common.{◌==◌}
+use Rattle.std.specs.Prelude.{flat_map, slice_get, Result, Ok, Err, IsErrAnd}
 use Rattle.std.proofs.lemmas.List.{append-nil}
-use Rattle.rx_terms.specs.Text.{Chars}
 use Rattle.rx_grammar.specs.declared.faults.Kind.{Kind}
 use Rattle.rx_grammar.specs.declared.faults.Kind.TheVariants.{Cycle, ItemsTooNested, ItemsTooMany}
 use Rattle.rx_grammar.specs.declared.stops.Stop.{Stop}

@@ -1,7 +1,7 @@
 -- The events of an item and of a page, part by part.
-use Rattle.std.proofs.Common.{◌≡◌, ◌∙◌, ◌+◌, ◌-◌, ◌<◌, ◌≤◌, ℕ, zero, suc, Bool, true, false, true≢false, ◌==◌, encode_utf8_all, List, [], ◌∷◌, ◌++◌, map, filter, length, take, drop, drop_of_length-le, get_or, codes, Option, Some, None, refl, sym, ap, arith, append_assoc, append-nil}
+use Rattle.rx_terms.proofs.Common.{◌≡◌, ◌∙◌, ◌+◌, ◌-◌, ◌<◌, ◌≤◌, ℕ, zero, suc, Bool, true, false, true≢false, encode_utf8_all, List, [], ◌∷◌, ◌++◌, map, filter, length, take, drop, drop_of_length-le, get_or, codes, Option, Some, None, refl, sym, ap, arith, append_assoc, append-nil, take_all, Chars}
+use Rattle.std.proofs.Common.{◌==◌}
 use Rattle.std.specs.Prelude.{flat_map, slice_get, OnOk, Result, Ok, Err}
-use Rattle.std.proofs.lemmas.List.{take_all}
 use Rattle.serde.specs.Event as event
 use Rattle.serde.specs.Event.{Event, Log, Logs}
 use Rattle.serde.specs.declared.name.Case.TheVariants.{AsIs}
@@ -9,7 +9,6 @@ use Rattle.serde_json.specs.Data.{Data, array, object, item, Items, Members, no_
 use Rattle.serde_json.specs.View.{items_of}
 use Rattle.rx_json.specs.Events.{Grows, data_events, members_events, each_events}
 use Rattle.rx_json.proofs.GrowLemmas.{one, none, both, told_as, each_more, object_made, array_made, cut, row_turn}
-use Rattle.rx_terms.specs.Text.{Chars}
 use Rattle.rx_refs.specs.Resolve.{resolved}
 use Rattle.rx_microdata.specs.Facts.{Facts, said}
 use Rattle.rx_microdata.specs.Elements.{Placed, is_item, is_top_level}

@@ -1,9 +1,8 @@
-use Rattle.std.proofs.Common.{arith, ◌⊎◌, ◌∙◌, ℕ, List, refl, sym, ap, subst, encode_utf8_all, None, Some, IfOk}
+use Rattle.rx_terms.proofs.Common.{arith, ◌⊎◌, ◌∙◌, ℕ, List, refl, sym, ap, subst, encode_utf8_all, None, Some, IfOk, Chars}
 use Rattle.rx_ports.specs.Counts.{Rose}
 use Rattle.rx_ports.specs.Shelves.{WhereKnown, Lacks}
 use Rattle.rx_ports.proofs.MoveLemmas.{moves_then}
-use Rattle.rx_chars.specs.declared.syntax.Syntax.{Syntax}
-use Rattle.rx_terms.specs.Text.{Chars}
+use Rattle.rx_grammar.proofs.Common.{Syntax}
 use Rattle.rx_rdfa.specs.Names.{Context}
 use Rattle.rx_rdfa.specs.Standard.{standard}
 use Rattle.rx_job.specs.Words.{Asked, Task, Itemization, itemizes}

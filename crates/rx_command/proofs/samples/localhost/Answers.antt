@@ -1,7 +1,4 @@
-use Rattle.std.proofs.Common.{◌≡◌, ◌∙◌, sym, ap, refl, Err, true, false, codes}
-use Rattle.std.specs.Str.{chars}
-use Rattle.rx_terms.specs.Iri.{has_scheme, has_forbidden}
-use Rattle.rx_terms.proofs.CharLemmas.{ascii-chars}
+use Rattle.rx_terms.proofs.Common.{◌≡◌, ◌∙◌, sym, ap, refl, Err, true, false, codes, chars, has_scheme, has_forbidden, ascii-chars}
 use Rattle.rx_command.specs.Samples.{sample_address}
 use Rattle.rx_command.proofs.samples.localhost.Goals as goal
 

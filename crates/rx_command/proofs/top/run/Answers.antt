@@ -1,4 +1,4 @@
-use Rattle.std.proofs.Common.{◌≡◌, ◌∙◌, subst, sym, ap, refl, Some, Err, is_some}
+use Rattle.std.proofs.Common.{◌∙◌, subst, sym, ap, refl, Some, Err, is_some}
 use Rattle.rx_job.specs.Jobs.{page_by}
 use Rattle.rx_ports.specs.Shelves.{WhereKnown}
 use Rattle.rx_job.specs.Words.{job, reads, page_in, gathering_in}

@@ -1,7 +1,5 @@
-use Rattle.std.proofs.Common.{◌≡◌, ℕ, List, ◌++◌, length}
-use Rattle.std.specs.Str.{chars, IsUtf8}
-use Rattle.rx_terms.specs.Text.{Chars, tokens}
-use Rattle.rx_grammar.specs.Names.{is_among}
+use Rattle.rx_terms.proofs.Common.{◌≡◌, ℕ, List, ◌++◌, length, chars, IsUtf8, Chars, tokens}
+use Rattle.rx_grammar.proofs.Common.{is_among}
 use Rattle.rx_microdata.specs.Facts.{distinct_tokens, without_repeats_of}
 use Rattle.rx_items.specs.Distinct.{has_text}
 use Rattle.rx_items.proofs.distinct.distinct.Given as goal

@@ -1,5 +1,4 @@
-use Rattle.std.proofs.Common.{◌∙◌, ap, sym, Some}
-use Rattle.std.proofs.lemmas.Option.{slice_get-get_or}
+use Rattle.rx_terms.proofs.Common.{◌∙◌, ap, sym, Some, slice_get-get_or}
 use Rattle.rx_items.proofs.HoldLemmas.{behind_rows, names_there}
 use Rattle.rx_items.proofs.elements.names_at.Goals as goal
 

@@ -1,5 +1,4 @@
-use Rattle.std.proofs.Common.{◌∙◌, get_or}
-use Rattle.std.proofs.lemmas.Option.{slice_get-get_or}
+use Rattle.rx_terms.proofs.Common.{◌∙◌, get_or, slice_get-get_or}
 use Rattle.rx_items.specs.Growing.{nothing_kept}
 use Rattle.rx_items.specs.Rows.{rows_of}
 use Rattle.rx_items.specs.declared.kept.BesideRow.TheVariants as extra

@@ -1,7 +1,5 @@
-use Rattle.std.proofs.Common.{ℕ, List, ◌∷◌, Contains, ◌↔◌, ◌∙◌, Option, None, get_or, sym, subst}
+use Rattle.rx_terms.proofs.Common.{ℕ, List, ◌∷◌, Contains, ◌↔◌, ◌∙◌, Option, None, get_or, sym, subst, slice_get-get_or, Chars}
 use Rattle.std.specs.Prelude.{filter_map}
-use Rattle.std.proofs.lemmas.Option.{slice_get-get_or}
-use Rattle.rx_terms.specs.Text.{Chars}
 use Rattle.rx_items.specs.Rows.{rows_of}
 use Rattle.rx_items.specs.Ids.{LooksWhere, look_in}
 use Rattle.rx_items.specs.Growing.{nothing_kept}

@@ -1,6 +1,5 @@
-use Rattle.std.proofs.Common.{◌≡◌, ◌+◌, ◌-◌, ◌*◌, ◌≤◌, ℕ, List, suc, take, length, Some, true}
+use Rattle.rx_terms.proofs.Common.{◌≡◌, ◌+◌, ◌-◌, ◌*◌, ◌≤◌, ℕ, List, suc, take, length, Some, true, Chars}
 use Rattle.std.specs.Prelude.{slice_get}
-use Rattle.rx_terms.specs.Text.{Chars}
 use Rattle.rx_microdata.specs.Elements.{Placed, is_item}
 use Rattle.rx_microdata.specs.Visits.{Visit, visits_from}
 use Rattle.rx_items.specs.Rows.{properties_in}

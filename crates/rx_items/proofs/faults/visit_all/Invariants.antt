@@ -1,6 +1,5 @@
-use Rattle.std.proofs.Common.{◌≡◌, [], List, take}
+use Rattle.rx_terms.proofs.Common.{◌≡◌, [], List, take, Chars}
 use Rattle.std.specs.Prelude.{flat_map}
-use Rattle.rx_terms.specs.Text.{Chars}
 use Rattle.rx_microdata.specs.Elements.{Placed}
 use Rattle.rx_items.specs.Held.{HoldsRows}
 use Rattle.rx_items.specs.Expanding.{NoFault}

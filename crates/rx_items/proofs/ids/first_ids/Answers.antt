@@ -1,5 +1,4 @@
-use Rattle.std.proofs.Common.{◌≡◌, ◌∙◌, ◌+◌, ◌-◌, List, Option, option_map, ap, sym, arith, subst}
-use Rattle.std.specs.Str.{chars}
+use Rattle.rx_terms.proofs.Common.{◌≡◌, ◌∙◌, ◌+◌, ◌-◌, List, Option, option_map, ap, sym, arith, subst, chars}
 use Rattle.rx_microdata.specs.Elements.{Placed}
 use Rattle.rx_microdata.specs.Properties.{first_with_id}
 use Rattle.rx_items.specs.Growing.{nothing_kept}

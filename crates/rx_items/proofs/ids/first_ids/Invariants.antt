@@ -1,6 +1,4 @@
-use Rattle.std.proofs.Common.{◌≡◌, ℕ, List, option_map, drop}
-use Rattle.std.specs.Str.{chars, IsUtf8}
-use Rattle.rx_terms.specs.Text.{Chars}
+use Rattle.rx_terms.proofs.Common.{◌≡◌, ℕ, List, option_map, drop, chars, IsUtf8, Chars}
 use Rattle.rx_microdata.specs.Elements.{Placed}
 use Rattle.rx_microdata.specs.Properties.{first_with_id}
 use Rattle.rx_items.specs.Held.{Numbered}

@@ -1,5 +1,4 @@
-use Rattle.std.proofs.Common.{◌≡◌, drop}
-use Rattle.std.specs.List.{list_any}
+use Rattle.rx_terms.proofs.Common.{◌≡◌, drop, list_any}
 use Rattle.rx_items.specs.Ids.{has_references}
 use Rattle.rx_items.proofs.ids.refer.Given as goal
 

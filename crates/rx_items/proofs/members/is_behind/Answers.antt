@@ -1,5 +1,4 @@
-use Rattle.std.proofs.Common.{◌<◌, ℕ, subst, arith}
-use Rattle.std.proofs.lemmas.Bool.{ltb-true}
+use Rattle.rx_terms.proofs.Common.{◌<◌, ℕ, subst, arith, ltb-true}
 use Rattle.rx_items.proofs.WalkLemmas.{first_by_last}
 use Rattle.rx_items.proofs.members.is_behind.Goals as goal
 

@@ -1,5 +1,4 @@
-use Rattle.std.proofs.Common.{◌≡◌}
-use Rattle.std.proofs.lemmas.Result.{on_ok_weaker}
+use Rattle.rx_terms.proofs.Common.{◌≡◌, on_ok_weaker}
 use Rattle.rx_microdata.specs.Elements.{names_of}
 use Rattle.rx_items.specs.Held.{ShowsTokens}
 use Rattle.rx_items.specs.declared.kept.Tokens.TheVariants as tokens

@@ -1,6 +1,5 @@
-use Rattle.std.proofs.Common.{◌≡◌, ◌++◌, List, drop}
+use Rattle.rx_terms.proofs.Common.{◌≡◌, ◌++◌, List, drop, Chars}
 use Rattle.std.specs.Prelude.{flat_map}
-use Rattle.rx_terms.specs.Text.{Chars}
 use Rattle.rx_microdata.specs.Elements.{Placed}
 use Rattle.rx_items.specs.Held.{HoldsRows}
 use Rattle.rx_items.specs.Named.{keys_at, keys_seen}

@@ -1,5 +1,4 @@
-use Rattle.std.proofs.Common.{◌∙◌, sym, ap, encode_utf8_all}
-use Rattle.std.proofs.lemmas.Str.{encodes-chars}
+use Rattle.rx_terms.proofs.Common.{◌∙◌, sym, ap, encode_utf8_all, encodes-chars}
 use Rattle.rx_items.proofs.named.token_at.Goals as goal
 
 pub returns : goal.returns

@@ -1,8 +1,6 @@
-use Rattle.std.proofs.Common.{[], ◌∙◌, ap, sym, Some}
-use Rattle.std.proofs.lemmas.Result.{on_ok_weaker}
-use Rattle.std.proofs.lemmas.Option.{slice_get-get_or, slice_get_past}
-use Rattle.std.specs.Str.{chars}
-use Rattle.std.specs.Prelude.{slice_get, unwrap_or}
+use Rattle.rx_terms.proofs.Common.{[], ◌∙◌, ap, sym, Some, on_ok_weaker, slice_get-get_or, chars, unwrap_or}
+use Rattle.std.proofs.lemmas.Option.{slice_get_past}
+use Rattle.std.specs.Prelude.{slice_get}
 use Rattle.rx_microdata.specs.Json.{string_of}
 use Rattle.rx_items.proofs.ReadingLemmas.{cut_at_start, found_time, no_time}
 use Rattle.rx_items.proofs.WritingLemmas.{data_told}

@@ -1,9 +1,6 @@
-use Rattle.std.proofs.Common.{◌≡◌, ◌∙◌, [], List, Option, Some, ap, sym}
-use Rattle.std.proofs.lemmas.Result.{on_ok_weaker}
-use Rattle.std.specs.Prelude.{slice_get, unwrap_or}
-use Rattle.rx_terms.specs.Text.{Chars}
+use Rattle.rx_terms.proofs.Common.{◌≡◌, ◌∙◌, [], List, Option, Some, ap, sym, on_ok_weaker, unwrap_or, Chars, chars}
+use Rattle.std.specs.Prelude.{slice_get}
 use Rattle.rx_microdata.specs.Facts as facts
-use Rattle.std.specs.Str.{chars}
 use Rattle.rx_microdata.specs.Facts.{said}
 use Rattle.rx_microdata.specs.Json.{string_of}
 use Rattle.rx_items.proofs.ReadingLemmas.{empty_value}

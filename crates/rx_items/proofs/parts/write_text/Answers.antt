@@ -1,7 +1,4 @@
-use Rattle.std.proofs.Common.{sym}
-use Rattle.std.proofs.lemmas.Result.{on_ok_weaker}
-use Rattle.std.proofs.lemmas.Str.{encodes-chars}
-use Rattle.std.specs.Str.{chars}
+use Rattle.rx_terms.proofs.Common.{sym, on_ok_weaker, encodes-chars, chars}
 use Rattle.rx_items.proofs.WritingLemmas.{text_told}
 use Rattle.rx_items.proofs.parts.write_text.Goals as goal
 

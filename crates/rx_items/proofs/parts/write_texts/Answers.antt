@@ -1,5 +1,4 @@
-use Rattle.std.proofs.Common.{◌∙◌, map, drop}
-use Rattle.std.specs.Str.{chars}
+use Rattle.rx_terms.proofs.Common.{◌∙◌, map, drop, chars}
 use Rattle.rx_json.specs.Events.{each_events}
 use Rattle.rx_json.proofs.GrowLemmas.{turn, ends_at, row_end}
 use Rattle.rx_microdata.specs.Json.{string_of}

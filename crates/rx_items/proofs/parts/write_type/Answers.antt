@@ -1,6 +1,4 @@
-use Rattle.std.proofs.Common.{[], ◌∷◌}
-use Rattle.std.proofs.lemmas.Result.{on_ok_weaker}
-use Rattle.std.specs.Str.{chars}
+use Rattle.rx_terms.proofs.Common.{[], ◌∷◌, on_ok_weaker, chars}
 use Rattle.rx_items.proofs.WritingLemmas.{several_made}
 use Rattle.rx_items.proofs.parts.write_type.Goals as goal
 

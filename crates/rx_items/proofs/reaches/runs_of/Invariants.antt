@@ -1,6 +1,5 @@
-use Rattle.std.proofs.Common.{ℕ, List, take, Contains, ◌↔◌}
-use Rattle.rx_terms.specs.Text.{Chars}
-use Rattle.rx_grammar.specs.Trees.{Tree}
+use Rattle.rx_terms.proofs.Common.{ℕ, List, take, Contains, ◌↔◌, Chars}
+use Rattle.rx_grammar.proofs.Common.{Tree}
 use Rattle.rx_items.specs.Rows.{rows_of}
 use Rattle.rx_items.specs.Members.{Rises, Sorted}
 use Rattle.rx_items.specs.Properties.{in_runs}

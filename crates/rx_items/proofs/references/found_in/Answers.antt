@@ -1,7 +1,5 @@
-use Rattle.std.proofs.Common.{rules, ◌∙◌}
+use Rattle.rx_terms.proofs.Common.{rules, ◌∙◌, chars, IsUtf8, tokens}
 use Rattle.std.specs.Prelude.{filter_map}
-use Rattle.std.specs.Str.{chars, IsUtf8}
-use Rattle.rx_terms.specs.Text.{tokens}
 use Rattle.rx_items.proofs.ReferenceLemmas.{token_turn}
 use Rattle.rx_items.proofs.references.found_in.Goals as goal
 

@@ -1,7 +1,5 @@
-use Rattle.std.proofs.Common.{◌≡◌, ℕ, ◌++◌, Option, length}
+use Rattle.rx_terms.proofs.Common.{◌≡◌, ℕ, ◌++◌, Option, length, chars, Chars, tokens}
 use Rattle.std.specs.Prelude.{filter_map}
-use Rattle.std.specs.Str.{chars}
-use Rattle.rx_terms.specs.Text.{Chars, tokens}
 use Rattle.rx_items.specs.Ids.{Looks}
 use Rattle.rx_items.proofs.references.found_in.Given as goal
 use denote.Text.{Utf8}

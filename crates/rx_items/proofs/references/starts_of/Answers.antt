@@ -1,6 +1,5 @@
-use Rattle.std.proofs.Common.{ℕ, Contains, ◌↔◌}
+use Rattle.rx_terms.proofs.Common.{ℕ, Contains, ◌↔◌, Chars, tokens}
 use Rattle.std.specs.Prelude.{IfOk, filter_map}
-use Rattle.rx_terms.specs.Text.{Chars, tokens}
 use Rattle.rx_items.proofs.ReferenceLemmas.{of_word}
 use Rattle.rx_items.proofs.references.starts_of.Goals as goal
 

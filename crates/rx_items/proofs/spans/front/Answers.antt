@@ -1,5 +1,4 @@
-use Rattle.std.proofs.Common.{◌∙◌, ap}
-use Rattle.std.specs.Str.{chars}
+use Rattle.rx_terms.proofs.Common.{◌∙◌, ap, chars}
 use Rattle.rx_items.proofs.SpanLemmas.{boundary, taken}
 use Rattle.rx_items.proofs.spans.front.Goals as goal
 

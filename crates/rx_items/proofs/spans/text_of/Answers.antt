@@ -1,5 +1,4 @@
-use Rattle.std.proofs.Common.{◌++◌, ℕ, sym, subst}
-use Rattle.std.specs.Str.{chars}
+use Rattle.rx_terms.proofs.Common.{◌++◌, ℕ, sym, subst, chars}
 use Rattle.rx_values.specs.Marks.{CutAt}
 use Rattle.rx_items.proofs.SpanLemmas.{run_begins, run_ends}
 use Rattle.rx_items.proofs.spans.text_of.Goals as goal

@@ -1,8 +1,6 @@
-use Rattle.std.proofs.Common.{◌≡◌, Bool, true, false, not, ◌==◌, List, ℕ, length, take, drop, refl, sym, ap}
-use Rattle.std.specs.Char.{is_ascii_whitespace}
-use Rattle.std.specs.List.{position_or_len}
-use Rattle.std.specs.Str.{chars, IsUtf8, IsTrimAsciiStart}
-use Rattle.rx_terms.specs.Text.{tokens}
+use Rattle.rx_terms.proofs.Common.{◌≡◌, Bool, true, false, List, ℕ, length, take, drop, refl, sym, ap, is_ascii_whitespace, position_or_len, chars, IsUtf8, tokens}
+use Rattle.std.proofs.Common.{not, ◌==◌}
+use Rattle.std.specs.Str.{IsTrimAsciiStart}
 use Rattle.rx_words.proofs.TokenLemmas.{no-tokens, first-token, tokens-first}
 use Rattle.rx_microdata.specs.Properties.{is_any}
 use Rattle.rx_items.proofs.values.has_token.Goals as goal

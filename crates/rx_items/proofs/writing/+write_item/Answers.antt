@@ -1,5 +1,4 @@
-use Rattle.std.proofs.Common.{◌∙◌, [], ◌∷◌, ap, sym, None}
-use Rattle.std.proofs.lemmas.Result.{on_ok_weaker}
+use Rattle.rx_terms.proofs.Common.{◌∙◌, [], ◌∷◌, ap, sym, None, on_ok_weaker}
 use Rattle.serde.specs.Event as event
 use Rattle.rx_json.specs.Events.{data_events}
 use Rattle.rx_json.proofs.GrowLemmas.{one, both, told_as, object_made, turn}

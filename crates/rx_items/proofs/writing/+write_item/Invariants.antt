@@ -1,6 +1,5 @@
-use Rattle.std.proofs.Common.{◌+◌, ◌*◌, List, drop, None}
+use Rattle.rx_terms.proofs.Common.{◌+◌, ◌*◌, List, drop, None, Chars}
 use Rattle.rx_json.proofs.GrowLemmas.{Left}
-use Rattle.rx_terms.specs.Text.{Chars}
 use Rattle.rx_microdata.specs.Elements.{Placed}
 use Rattle.rx_items.specs.Held.{HoldsRows}
 use Rattle.rx_items.specs.Named.{keys_seen, name_seen, events_behind}

@@ -1,5 +1,4 @@
-use Rattle.std.proofs.Common.{filter, map}
-use Rattle.std.proofs.lemmas.Result.{on_ok_weaker}
+use Rattle.rx_terms.proofs.Common.{filter, map, on_ok_weaker}
 use Rattle.rx_microdata.specs.Elements.{is_top_level}
 use Rattle.rx_microdata.specs.Json.{json_of_item}
 use Rattle.rx_items.specs.Rows.{properties_in}

@@ -1,5 +1,4 @@
-use Rattle.std.proofs.Common.{◌∙◌, ap, sym}
-use Rattle.std.proofs.lemmas.Result.{on_ok_weaker}
+use Rattle.rx_terms.proofs.Common.{◌∙◌, ap, sym, on_ok_weaker}
 use Rattle.rx_microdata.specs.Elements.{is_top_level}
 use Rattle.rx_items.specs.Held.{is_there}
 use Rattle.rx_items.proofs.HoldLemmas.{is_element}

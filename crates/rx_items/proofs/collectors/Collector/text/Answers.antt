@@ -1,5 +1,4 @@
-use Rattle.std.proofs.Common.{refl}
-use Rattle.std.specs.Str.{chars}
+use Rattle.rx_terms.proofs.Common.{refl, chars}
 use Rattle.rx_items.proofs.Telling.{collects_said}
 use Rattle.rx_items.proofs.collectors.Collector.text.Goals as goal
 
