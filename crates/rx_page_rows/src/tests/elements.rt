@@ -48,6 +48,10 @@ fn feed(rt: &impl Abort, nest: &mut Nest, piece: &[u8], out: &mut String) -> boo
     panic!(rt; "too many events")
 }
 
+fn start(rt: &impl Abort, alloc: Global, syntax: Syntax, limits: Limits) -> Nest {
+    Nest::new(alloc, syntax, limits).expect(rt, "memory")
+}
+
 // What is told of the page in pieces of this size.
 fn read(
     rt: &impl Abort,
@@ -57,7 +61,7 @@ fn read(
     page: &[u8],
     size: usize,
 ) -> String {
-    let mut nest = Nest::new(alloc, syntax, limits).expect(rt, "memory");
+    let mut nest = start(rt, alloc, syntax, limits);
     let mut out = String::new(alloc);
     for piece in page.chunks(size.max(1)) {
         if !feed(rt, &mut nest, piece, &mut out) {
@@ -70,6 +74,10 @@ fn read(
     }
     drop(nest);
     out
+}
+
+pub(crate) fn check_told(rt: &impl Abort, found: &str, expected: &str, size: usize) {
+    assert_eq!(rt; found, expected, "in pieces of {size}");
 }
 
 const SIZES: &[usize] = &[1, 2, 3, 7, 9999];
@@ -85,7 +93,19 @@ fn check_page(
 ) {
     for size in SIZES {
         let found = read(rt, alloc, syntax, limits, page, *size);
-        assert_eq!(rt; found.as_str(), expected, "in pieces of {size}");
+        check_told(rt, found.as_str(), expected, *size);
+    }
+}
+
+fn check_pages(
+    rt: &impl Abort,
+    alloc: Global,
+    syntax: Syntax,
+    limits: Limits,
+    rows: &[(&[u8], &str)],
+) {
+    for (page, expected) in rows {
+        check_page(rt, alloc, syntax, limits, *page, *expected);
     }
 }
 
@@ -224,9 +244,7 @@ const TABLES: &[(Syntax, Option<Limits>, &[(&[u8], &str)])] = &[
 fn pages(rt: HostRuntime) {
     for (syntax, limits, rows) in TABLES {
         let limits = limits.unwrap_or(Limits::standard());
-        for (page, expected) in *rows {
-            check_page(&rt, rt.alloc(), *syntax, limits, *page, *expected);
-        }
+        check_pages(&rt, rt.alloc(), *syntax, limits, *rows);
     }
 }
 
@@ -275,18 +293,31 @@ const MISMATCH: Fault = Fault {
     at: 13,
 };
 
+fn is_refused(nest: &mut Nest, piece: &[u8]) -> bool {
+    match nest.step(piece) {
+        Err(stop) => stop == Stop::Fault(MISMATCH),
+        Ok((_taken, _event)) => false,
+    }
+}
+
+fn are_refused(nest: &mut Nest, pieces: &[u8]) -> bool {
+    for piece in pieces.chunks(1) {
+        if !is_refused(nest, piece) {
+            return false;
+        }
+    }
+    true
+}
+
 /// Whether a fault that was answered is answered by each step, and at the end.
 #[test]
 fn comes_again(rt: HostRuntime) {
-    let mut nest = Nest::new(rt.alloc(), Syntax::Html, Limits::standard()).expect(&rt, "memory");
+    let mut nest = start(&rt, rt.alloc(), Syntax::Html, Limits::standard());
     let mut out = String::new(rt.alloc());
-    assert!(rt; !feed(&rt, &mut nest, b"<html><i>x</b>", &mut out));
-    for piece in b"x</i></html>".chunks(1) {
-        match nest.step(piece) {
-            Err(stop) => assert!(rt; stop == Stop::Fault(MISMATCH)),
-            Ok((_taken, _event)) => panic!(rt; "no fault"),
-        }
-    }
-    assert!(rt; nest.end() == Err(Stop::Fault(MISMATCH)));
+    let is_taken = feed(&rt, &mut nest, b"<html><i>x</b>", &mut out);
+    drop(out);
+    assert!(rt; !is_taken && are_refused(&mut nest, b"x</i></html>"));
+    let end = nest.end();
     drop(nest);
+    assert!(rt; end == Err(Stop::Fault(MISMATCH)));
 }

@@ -1,5 +1,7 @@
+use crate::tests::names::standard;
+use crate::tests::tags::check_text;
 use rx_curie::{Datatype, ElementKind, Facts, FactsError, IriMaker, Ref};
-use rx_names::{Context, Names};
+use rx_names::Names;
 use rx_tags::{Syntax, Tag, TagBuf, TagStep};
 use rx_terms::{Iri, Lang, Text};
 use std::alloc::Global;
@@ -58,27 +60,23 @@ fn push_facts(rt: &impl Abort, text: &mut String, facts: &Facts) {
     }
     push_refs(rt, text, facts);
     push_iris(rt, text, facts);
-    push_text(
-        rt,
-        text,
-        "content",
-        facts.content.as_ref().map(Text::as_str),
-    );
-    push_text(
-        rt,
-        text,
-        "datetime",
-        facts.datetime.as_ref().map(Text::as_str),
-    );
+    push_value(rt, text, facts);
+    let inlist = if facts.inlist { "inlist " } else { "" };
+    text.push_str(inlist).expect(rt, "memory");
+    push_text(rt, text, "vocab", facts.vocab.as_ref().map(Iri::as_str));
+    push_text(rt, text, "lang", facts.lang.as_ref().map(Lang::as_str));
+}
+
+fn push_value(rt: &impl Abort, text: &mut String, facts: &Facts) {
+    let content = facts.content.as_ref().map(Text::as_str);
+    push_text(rt, text, "content", content);
+    let datetime = facts.datetime.as_ref().map(Text::as_str);
+    push_text(rt, text, "datetime", datetime);
     match &facts.datatype {
         Some(Datatype::Is(iri)) => push_text(rt, text, "datatype", Some(iri.as_str())),
         Some(Datatype::Empty) => text.push_str("datatype ").expect(rt, "memory"),
         None => {}
     }
-    let inlist = if facts.inlist { "inlist " } else { "" };
-    text.push_str(inlist).expect(rt, "memory");
-    push_text(rt, text, "vocab", facts.vocab.as_ref().map(Iri::as_str));
-    push_text(rt, text, "lang", facts.lang.as_ref().map(Lang::as_str));
 }
 
 fn push_text(rt: &impl Abort, text: &mut String, name: &str, value: Option<&str>) {
@@ -268,17 +266,24 @@ const FACTS: &[(&[u8], &str)] = &[
     ),
 ];
 
+fn check(rt: &impl Abort, alloc: Global, tags: &[u8], expected: &str) {
+    let mut names = standard(rt, alloc);
+    let mut maker = IriMaker::new(alloc).expect(rt, "memory");
+    let answer = facts_by(rt, alloc, &mut maker, &mut names, tags);
+    drop(maker);
+    drop(names);
+    check_text(rt, answer.as_str(), expected);
+}
+
 #[test]
 fn facts_of_tags(rt: HostRuntime) {
     for (tags, expected) in FACTS {
-        let context = Context::standard(rt.alloc()).expect(&rt, "memory");
-        let mut names = Names::new(rt.alloc(), context, 512).expect(&rt, "memory");
-        let mut maker = IriMaker::new(rt.alloc()).expect(&rt, "memory");
-        let answer = facts_by(&rt, rt.alloc(), &mut maker, &mut names, *tags);
-        drop(maker);
-        drop(names);
-        assert_eq!(rt; answer.as_str(), *expected);
+        check(&rt, rt.alloc(), *tags, *expected);
     }
+}
+
+#[test]
+fn a_reference_is_cloned(rt: HostRuntime) {
     let iri = Ref::Iri(Iri::of(rt.alloc(), "v:x").expect(&rt, "an IRI"));
     let copy = iri.try_clone().expect(&rt, "memory");
     assert!(rt; copy == iri);

@@ -1,3 +1,4 @@
+use crate::tests::tags::check_text;
 use rx_names::{Context, ContextError, Names};
 use rx_tags::{Syntax, TagBuf, TagStep};
 use std::alloc::Global;
@@ -23,10 +24,14 @@ fn push_all(rt: &impl Abort, alloc: Global, names: &mut Names, tags: &[u8], end:
     drop(buf);
 }
 
+pub(crate) fn standard(rt: &impl Abort, alloc: Global) -> Names {
+    let context = Context::standard(alloc).expect(rt, "memory");
+    Names::new(alloc, context, 512).expect(rt, "memory")
+}
+
 /// The standard names at the last of these tags.
 fn names_at(rt: &impl Abort, alloc: Global, tags: &[u8]) -> Names {
-    let context = Context::standard(alloc).expect(rt, "memory");
-    let mut names = Names::new(alloc, context, 512).expect(rt, "memory");
+    let mut names = standard(rt, alloc);
     push_all(rt, alloc, &mut names, tags, false);
     names
 }
@@ -248,15 +253,23 @@ const TERMS: &[(&[u8], &str, &str)] = &[
     (b"{\"terms\":{\"x/y\":\"c:\"}}", "x", "none"),
 ];
 
+fn names_by(rt: &impl Abort, alloc: Global, bytes: &[u8]) -> Names {
+    let context = Context::of_json(alloc, bytes).expect(rt, "a context");
+    Names::new(alloc, context, 1).expect(rt, "memory")
+}
+
 #[test]
-fn context_files(rt: HostRuntime) {
+fn prefixes_of_context_files(rt: HostRuntime) {
     for (bytes, expected) in PREFIXES {
         let answer = prefixes_shown(&rt, rt.alloc(), *bytes);
-        assert_eq!(rt; answer.as_str(), *expected);
+        check_text(&rt, answer.as_str(), *expected);
     }
+}
+
+#[test]
+fn terms_of_context_files(rt: HostRuntime) {
     for (bytes, name, expected) in TERMS {
-        let context = Context::of_json(rt.alloc(), *bytes).expect(&rt, "a context");
-        let names = Names::new(rt.alloc(), context, 1).expect(&rt, "memory");
+        let names = names_by(&rt, rt.alloc(), *bytes);
         assert!(rt; answer(&names, Question::Term(*name)) == *expected);
         drop(names);
     }

@@ -21,6 +21,10 @@ fn read(buf: &mut TagBuf, text: &[u8]) -> (usize, Result<TagStep, TagError>)
     (text.len(), Ok(TagStep::More))
 }
 
+pub(crate) fn check_text(rt: &impl Abort, found: &str, expected: &str) {
+    assert_eq!(rt; found, expected);
+}
+
 /// The tag with its marks, its name, and each attribute's name and value.
 fn shown(rt: &impl Abort, alloc: Global, tag: Tag<'_>) -> String {
     let mut text = String::new(alloc);
@@ -35,6 +39,17 @@ fn shown(rt: &impl Abort, alloc: Global, tag: Tag<'_>) -> String {
         text.push_str("|/").expect(rt, "memory");
     }
     text
+}
+
+/// What the buffer has read once it is given the last characters of a tag.
+fn read_whole(rt: &impl Abort, alloc: Global, buf: &mut TagBuf, text: &[u8]) -> String
+    requires { MayStep buf.old }
+{
+    let (taken, answer) = read(buf, text);
+    match answer {
+        Ok(TagStep::Done) if taken == text.len() => shown(rt, alloc, buf.tag(7, 9)),
+        _ => panic!(rt; "no tag"),
+    }
 }
 
 /// Tags behind their `<`, and what they are.
@@ -96,15 +111,9 @@ const WHOLE_TAGS: &[(Syntax, &[u8], &str)] = &[
 fn whole_tags(rt: HostRuntime) {
     for (syntax, text, tag) in WHOLE_TAGS {
         let mut buf = TagBuf::new(rt.alloc(), *syntax).expect(&rt, "memory");
-        let (taken, answer) = read(&mut buf, *text);
-        match answer {
-            Ok(TagStep::Done) if taken == text.len() => {
-                let found = shown(&rt, rt.alloc(), buf.tag(7, 9));
-                assert_eq!(rt; found.as_str(), *tag);
-            }
-            _ => panic!(rt; "not {tag}"),
-        }
+        let found = read_whole(&rt, rt.alloc(), &mut buf, *text);
         drop(buf);
+        check_text(&rt, found.as_str(), *tag);
     }
 }
 
@@ -201,7 +210,6 @@ const AT_ONCE: &[(Syntax, &[u8], usize)] = &[
     (Syntax::Xhtml, b"p a='1' b=\"<\"", 11),
 ];
 
-/// Of the last tag all but its last character are taken at once.
 #[test]
 fn many_at_once(rt: HostRuntime) {
     for (syntax, text, count) in AT_ONCE {
@@ -209,17 +217,16 @@ fn many_at_once(rt: HostRuntime) {
         assert!(rt; buf.take_front(*text) == *count);
         drop(buf);
     }
+}
+
+/// All but the last character are taken at once.
+#[test]
+fn many_at_once_and_one(rt: HostRuntime) {
     let mut buf = TagBuf::new(rt.alloc(), Syntax::Html).expect(&rt, "memory");
     let _taken = buf.take_front(b"p a='&lt;b' C=\"d e\">");
-    let (_one, answer) = read(&mut buf, b">");
-    match answer {
-        Ok(TagStep::Done) => {
-            let found = shown(&rt, rt.alloc(), buf.tag(0, 19));
-            assert_eq!(rt; found.as_str(), "p|a=<b|c=d e");
-        }
-        _ => panic!(rt; "no tag"),
-    }
+    let found = read_whole(&rt, rt.alloc(), &mut buf, b">");
     drop(buf);
+    check_text(&rt, found.as_str(), "p|a=<b|c=d e");
 }
 
 /// A tag of five thousand attributes, two of which come again.

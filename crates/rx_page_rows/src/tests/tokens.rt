@@ -1,7 +1,7 @@
 ghost use Rattle.std.specs.Prelude.{◌≡◌, ◌≤◌, true};
 ghost use Rattle.rx_scan.specs.Steps.{is_of_syntax};
 
-use crate::tests::elements::show_stop;
+use crate::tests::elements::{check_told, show_stop};
 use rx_scan::{Content, Fault, Kind, Limits, RawName, Scan, Stop, Syntax, Token};
 use std::alloc::Global;
 use std::process::Abort;
@@ -64,6 +64,31 @@ const LIMITS: Limits = Limits {
     page: 999,
 };
 
+fn start(rt: &impl Abort, alloc: Global, syntax: Syntax, limits: Limits) -> Scan {
+    Scan::new(alloc, syntax, limits).expect(rt, "memory")
+}
+
+// The page in pieces of each size.
+fn check_page(
+    rt: &impl Abort,
+    alloc: Global,
+    syntax: Syntax,
+    content: Content,
+    drop_newline: bool,
+    page: &[u8],
+    expected: &str,
+)
+    requires { is_of_syntax syntax content ≡ true }
+{
+    for size in 1..8 {
+        let mut scan = Scan::new(alloc, syntax, LIMITS).expect(rt, "memory");
+        scan.enter(content, drop_newline);
+        let found = read(rt, alloc, &mut scan, page, size);
+        drop(scan);
+        check_told(rt, found.as_str(), expected, size);
+    }
+}
+
 // Each page of the table in pieces of each size.
 fn check(
     rt: &impl Abort,
@@ -76,13 +101,7 @@ fn check(
     requires { is_of_syntax syntax content ≡ true }
 {
     for (page, expected) in rows {
-        for size in 1..8 {
-            let mut scan = Scan::new(alloc, syntax, LIMITS).expect(rt, "memory");
-            scan.enter(content, drop_newline);
-            let found = read(rt, alloc, &mut scan, *page, size);
-            drop(scan);
-            assert_eq!(rt; found.as_str(), *expected, "in pieces of {size}");
-        }
+        check_page(rt, alloc, syntax, content, drop_newline, *page, *expected);
     }
 }
 
@@ -224,6 +243,12 @@ fn in_html(rt: HostRuntime) {
     check(&rt, alloc, html, Content::Html, false, HTML);
     check(&rt, alloc, html, Content::Html, true, DROPPED);
     check(&rt, alloc, html, Content::Html, false, PARAGRAPH);
+}
+
+#[test]
+fn in_other_content(rt: HostRuntime) {
+    let alloc = rt.alloc();
+    let html = Syntax::Html;
     check(&rt, alloc, html, Content::Foreign, false, FOREIGN);
     check(&rt, alloc, html, Content::Outside, false, OUTSIDE);
     check(&rt, alloc, html, Content::Raw(RawName::Script), false, RAW);
@@ -262,10 +287,10 @@ fn limits(rt: HostRuntime) {
         page: 6,
     };
     for (page, expected) in LIMITED {
-        let mut scan = Scan::new(rt.alloc(), Syntax::Html, limits).expect(&rt, "memory");
+        let mut scan = start(&rt, rt.alloc(), Syntax::Html, limits);
         let found = read(&rt, rt.alloc(), &mut scan, *page, 3);
         drop(scan);
-        assert_eq!(rt; found.as_str(), *expected);
+        check_told(&rt, found.as_str(), *expected, 3);
     }
 }
 
@@ -283,15 +308,23 @@ fn is_refused(scan: &mut Scan, piece: &[u8]) -> bool {
     }
 }
 
+/// Whether the last tag is the paragraph, and the place is behind it.
+fn has_paragraph(scan: &Scan) -> bool {
+    match scan.last() {
+        Some(tag) => tag.name() == "p" && tag.token == 0 && tag.at == 6 && scan.place() == 7,
+        None => false,
+    }
+}
+
 /// A tag is lent from its step on, with its place. A fault is answered again, by a step and at the end, and lends no tag.
 #[test]
 fn last_answers(rt: HostRuntime) {
-    let mut scan = Scan::new(rt.alloc(), Syntax::Html, Limits::standard()).expect(&rt, "memory");
+    let mut scan = start(&rt, rt.alloc(), Syntax::Html, Limits::standard());
     assert!(rt; scan.last().is_none() && scan.step(b"<p a=b>").is_ok());
-    let tag = scan.last().expect(&rt, "a tag");
-    assert!(rt; tag.name() == "p" && tag.token == 0 && tag.at == 6 && scan.place() == 7);
+    assert!(rt; has_paragraph(&scan));
     assert!(rt; is_refused(&mut scan, b"x") && scan.last().is_none());
     assert!(rt; is_refused(&mut scan, b"  "));
-    assert!(rt; scan.end() == Err(Stop::Fault(OUTSIDE_TEXT)));
+    let end = scan.end();
     drop(scan);
+    assert!(rt; end == Err(Stop::Fault(OUTSIDE_TEXT)));
 }

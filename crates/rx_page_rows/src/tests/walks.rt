@@ -1,5 +1,5 @@
 //! Pages that are walked through, and pages that are refused.
-use crate::tests::elements::show_stop;
+use crate::tests::elements::{check_told, show_stop};
 use crate::tests::evaluator::iri;
 use rx_eval::Direction;
 use rx_names::Context;
@@ -46,11 +46,7 @@ const SIZES: &[usize] = &[1, 2, 3, 7, 9999];
 fn check_page(rt: &impl Abort, alloc: Global, limits: Limits, page: &[u8], expected: &str) {
     for size in SIZES {
         let found = read(rt, alloc, limits, page, *size);
-        assert_eq!(rt;
-            found.as_str().trim_start(),
-            expected,
-            "in pieces of {size}"
-        );
+        check_told(rt, found.as_str().trim_start(), expected, *size);
     }
 }
 
@@ -189,18 +185,25 @@ const MISMATCH: Fault = Fault {
     at: 13,
 };
 
+fn is_refused(walk: &mut Walk, page: &[u8]) -> bool {
+    walk.feed(page) == Err(Stop::Fault(MISMATCH))
+}
+
+fn is_over(walk: &Walk) -> bool {
+    walk.depth() == 0 && walk.rows() == 0 && walk.inherited().is_none()
+}
+
 /// A page at whose end the walk gives no list: fed once and fed again, it answers the fault, which comes at the end too.
 #[test]
 fn a_fault_comes_again(rt: HostRuntime) {
-    let fault = Stop::Fault(MISMATCH);
     for is_fed_again in [false, true] {
         let mut walk = start(&rt, rt.alloc(), Limits::standard());
-        assert!(rt; walk.feed(b"<html><i>x</b></i></html>") == Err(fault));
-        assert!(rt; !is_fed_again || walk.feed(b"x") == Err(fault));
-        assert!(rt; walk.depth() == 0 && walk.rows() == 0 && walk.inherited().is_none());
+        assert!(rt; is_refused(&mut walk, b"<html><i>x</b></i></html>"));
+        assert!(rt; !is_fed_again || is_refused(&mut walk, b"x"));
+        assert!(rt; is_over(&walk));
         match walk.finish() {
             Ok(_list) => panic!(rt; "no fault"),
-            Err(stop) => assert!(rt; stop == fault),
+            Err(stop) => assert!(rt; stop == Stop::Fault(MISMATCH)),
         }
     }
 }

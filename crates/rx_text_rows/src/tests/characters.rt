@@ -146,14 +146,22 @@ const CLASSES: &[(char, bool, bool)] = &[
 ];
 
 #[test]
-fn tables(rt: HostRuntime) {
+fn named_references(rt: HostRuntime) {
     for (name, c) in NAMES {
         assert!(rt; named(*name) == *c);
     }
+}
+
+#[test]
+fn numeric_references(rt: HostRuntime) {
     for (number, html, xhtml) in NUMBERS {
         assert!(rt; numeric(*number, Syntax::Html) == *html);
         assert!(rt; numeric(*number, Syntax::Xhtml) == *xhtml);
     }
+}
+
+#[test]
+fn classes(rt: HostRuntime) {
     for (c, starts, stands) in CLASSES {
         assert!(rt; is_nc_start(*c) == *starts && is_nc(*c) == *stands);
     }

@@ -5,6 +5,7 @@ use std::alloc::Global;
 use std::fs;
 use std::io::{self, ErrorKind, Write};
 use std::process::Abort;
+use std::rt::Files;
 
 /// A writer that takes a few bytes at a time, and records its calls, `w` for a write and `f` for a flush. Its flushes fail
 /// where it is broken.
@@ -128,32 +129,62 @@ fn is_answered(shelf: &mut impl Shelf, call: Call) -> bool {
     }
 }
 
-#[test]
-fn file_shelf_reads_files(rt: HostRuntime) {
-    for (name, text) in FILES {
-        fs::write(&rt, *name, *text).expect(&rt, "a file");
-    }
-    for calls in CALLS {
-        let mut shelf = FileShelf::new(&rt);
-        for call in *calls {
-            assert!(rt; is_answered(&mut shelf, *call));
+fn are_answered(shelf: &mut impl Shelf, calls: &[Call]) -> bool {
+    for call in calls {
+        if !is_answered(shelf, *call) {
+            return false;
         }
     }
-    for (name, _text) in FILES {
-        fs::remove_file(&rt, *name).expect(&rt, "a file");
+    true
+}
+
+fn make_file<R: Files + Abort>(rt: &R, name: &str, bytes: &[u8]) {
+    fs::write(rt, name, bytes).expect(rt, "a file");
+}
+
+fn remove_file<R: Files + Abort>(rt: &R, name: &str) {
+    fs::remove_file(rt, name).expect(rt, "a file");
+}
+
+fn make_files<R: Files + Abort>(rt: &R) {
+    for (name, text) in FILES {
+        make_file(rt, *name, text.as_bytes());
     }
+}
+
+fn remove_files<R: Files + Abort>(rt: &R) {
+    for (name, _text) in FILES {
+        remove_file(rt, *name);
+    }
+}
+
+#[test]
+fn file_shelf_reads_files(rt: HostRuntime) {
+    make_files(&rt);
+    for calls in CALLS {
+        let mut shelf = FileShelf::new(&rt);
+        assert!(rt; are_answered(&mut shelf, *calls));
+        drop(shelf);
+    }
+    remove_files(&rt);
+}
+
+fn is_filled(shelf: &mut impl Shelf, name: &str) -> bool {
+    let mut buf = [0u8; 10_001];
+    shelf.start_file(name) == Ok(())
+        && shelf.read(&mut buf) == Ok(10_000)
+        && buf.iter().filter(|byte| **byte == 7).count() == 10_000
+        && shelf.read(&mut buf) == Ok(0)
 }
 
 #[test]
 fn file_shelf_fills_a_large_buffer(rt: HostRuntime) {
     let name = "rx_ports_file_shelf_fills_a_large_buffer";
-    fs::write(&rt, name, [7u8; 10_000]).expect(&rt, "a file");
+    make_file(&rt, name, &[7u8; 10_000]);
     let mut shelf = FileShelf::new(&rt);
-    let mut buf = [0u8; 10_001];
-    assert!(rt; shelf.start_file(name) == Ok(()) && shelf.read(&mut buf) == Ok(10_000));
-    assert!(rt; buf.iter().filter(|byte| **byte == 7).count() == 10_000);
-    assert!(rt; shelf.read(&mut buf) == Ok(0));
-    fs::remove_file(&rt, name).expect(&rt, "a file");
+    assert!(rt; is_filled(&mut shelf, name));
+    drop(shelf);
+    remove_file(&rt, name);
 }
 
 fn two_files(rt: &impl Abort, alloc: Global) -> FileList {
