@@ -1,11 +1,9 @@
 -- What the calls answer, and what is kept.
 use Rattle.std.specs.Prelude.{◌≡◌, ◌≢◌, ◌⊎◌, ℕ, Bool, true, false, List, [], ◌++◌, length, min, take, drop, Option, Some, None, option_map, option_and_then, Result, Ok, Err}
-use Rattle.rx_grammar.specs.declared.faults.Fault.{Fault}
-use Rattle.rx_rdfa.specs.Names.{Context}
+use Rattle.rx_rdfa.specs.Common.{Fault, Context, kind_name}
 use Rattle.rx_nquads.specs.Quads.{Quad}
 use Rattle.rx_quads.specs.Listed.{ShowsOne}
 use Rattle.rx_quads.specs.declared.terms.ShownQuad.{ShownQuad}
-use Rattle.rx_grammar.specs.Kinds.{kind_name}
 use Rattle.rx_session.specs.Kinds.{kind_number}
 use Rattle.rx_session.specs.Requests.{Opens, extraction_in}
 use Rattle.rx_session.specs.Sessions.{IsFed, FeedGives, FinishGives, FeedAgain, FinishAgain, KeepsQuads, text_in, nodes_in, quads_in, shown_in, fault_in}

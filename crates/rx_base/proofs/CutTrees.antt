@@ -1,13 +1,9 @@
 -- What is sought where the signs of a page's tree are cut.
-use Rattle.rx_terms.proofs.Common.{◌≡◌, ◌∙◌, ℕ, suc, ◌≤◌, ◌<◌, Bool, true, false, List, [], ◌∷◌, ◌++◌, map, length, refl, sym, ap, subst, append-nil, inl, inr, ◌⊎◌, ⊎_elim, Option, Some, None, arith, nat_lt, nat_tests, not, ◌&&◌, ◌||◌, is_some, if◌then◌else◌, option_or, or-false, Chars, or_right}
-use Rattle.std.proofs.Common.{nat_le}
-use Rattle.rx_grammar.proofs.Common.{StartTag, Tree, end, element, text}
-use Rattle.rx_rdfa.specs.Base.{first_href, head_href, root_href}
-use Rattle.rx_rdfa.specs.Tree.{Tag}
+use Rattle.rx_rdfa.proofs.Common.{◌≡◌, ◌∙◌, ℕ, suc, ◌≤◌, ◌<◌, Bool, true, false, List, [], ◌∷◌, ◌++◌, map, length, refl, sym, ap, subst, append-nil, inl, inr, ◌⊎◌, ⊎_elim, Option, Some, None, arith, nat_lt, nat_le, nat_tests, not, ◌&&◌, ◌||◌, is_some, if◌then◌else◌, option_or, Chars, or_right, StartTag, Tree, end, element, text, first_href, head_href, root_href, Tag, read_tag, tags_of}
+use Rattle.std.proofs.Math.Bool.{or-false}
 use Rattle.rx_nest.specs.Signs.{Sign, begun, said, finished, signs_of}
 use Rattle.rx_nest.specs.Fronts.{Lie}
 use Rattle.rx_base.specs.Lines.{line_of}
-use Rattle.rx_rdfa.specs.Pages.{read_tag, tags_of}
 use Rattle.rx_base.specs.Seekings.{Seeking, first_child, base_child, known, base_href, known_by, seek, seeks, sought}
 use Rattle.rx_base.specs.KnownBases.{is_head, has_begun, has_base, child_decides, is_decided}
 use Rattle.rx_base.proofs.Lines.{line_append, seeks_append, said_line, said_seeks, tree_line}

@@ -1,10 +1,6 @@
 -- The base that is found by the signs of a page.
-use Rattle.rx_terms.proofs.Common.{◌≡◌, ◌∙◌, ℕ, suc, Bool, true, false, List, [], ◌∷◌, ◌++◌, map, length, refl, ap, Option, Some, None, codes, bytes_eq, arith, nat_tests, ◌==◌, if◌then◌else◌, option_or, Chars}
-use Rattle.rx_grammar.proofs.Common.{StartTag, Tree, end, element, text}
-use Rattle.rx_rdfa.specs.Base.{first_href, head_href}
-use Rattle.rx_rdfa.specs.Tree.{Tag}
+use Rattle.rx_rdfa.proofs.Common.{◌≡◌, ◌∙◌, ℕ, suc, Bool, true, false, List, [], ◌∷◌, ◌++◌, map, length, refl, ap, Option, Some, None, codes, bytes_eq, arith, nat_tests, ◌==◌, if◌then◌else◌, option_or, Chars, StartTag, Tree, end, element, text, first_href, head_href, Tag, read_tag, tags_of}
 use Rattle.rx_nest.specs.Signs.{Sign, begun, said, finished, signs_of}
-use Rattle.rx_rdfa.specs.Pages.{read_tag, tags_of}
 use Rattle.rx_base.specs.Seekings.{Seeking, first_child, base_child, known, base_href, known_by, seek, seeks, BaseIsFound}
 use Rattle.rx_base.proofs.Lines.{seeks_append, said_line, said_seeks, tree_line}
 

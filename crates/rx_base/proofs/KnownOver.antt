@@ -1,17 +1,8 @@
 -- The seeking knows the base exactly over the bytes of which a front decides it.
-use Rattle.rx_terms.proofs.Common.{⊎_elim, ◌≡◌, ◌∙◌, ℕ, ◌+◌, ◌≤◌, Bool, true, false, List, [], ◌∷◌, ◌++◌, map, length, refl, sym, ap, subst, append_assoc, append-nil, Option, None, Result, Ok, Err, arith, if◌then◌else◌, length-map, Chars}
+use Rattle.rx_pages.proofs.Common.{⊎_elim, ◌≡◌, ◌∙◌, ℕ, ◌+◌, ◌≤◌, Bool, true, false, List, [], ◌∷◌, ◌++◌, map, length, refl, sym, ap, subst, append_assoc, append-nil, Option, None, Result, Ok, Err, arith, if◌then◌else◌, length-map, Chars, Syntax, start_of, Tree, end, element, Page, Line, Phase, Fault, Limits, closing, closed, IsWide, Event, says, spot_of, Progress, page_byte_on, page_on, page_read, nothing_read, fault_stays, page_append, nothing_unfinished}
+use Rattle.rx_rdfa.proofs.Common.{root_href, read_tag, tags_of}
 use Rattle.std.specs.Str.{encode_utf8_all}
-use Rattle.rx_grammar.proofs.Common.{Syntax, start_of, Tree, end, element, Page, Line, Phase}
-use Rattle.rx_grammar.specs.declared.faults.Fault.{Fault}
-use Rattle.rx_grammar.specs.declared.limits.Limits.{Limits}
-use Rattle.rx_pages.specs.Closings.{closing, closed, IsWide}
-use Rattle.rx_pages.specs.Nesting.{Event, says}
-use Rattle.rx_pages.specs.PageReader.{spot_of, Progress, page_byte_on, page_on, page_read, nothing_read}
 use Rattle.rx_pages.proofs.Closings.{fronts_close}
-use Rattle.rx_pages.proofs.FaultWalk.{fault_stays}
-use Rattle.rx_pages.proofs.ScanSteps.{page_append}
-use Rattle.rx_pages.proofs.Underway.{nothing_unfinished}
-use Rattle.rx_rdfa.specs.Base.{root_href}
 use Rattle.rx_nest.specs.Fronts.{Lie}
 use Rattle.rx_nest.specs.ShownLines.{shown_line, open_after}
 use Rattle.rx_nest.specs.Signs.{Sign, said, is_hidden, Sight, see, sees, nothing_seen, signs_of}
@@ -20,7 +11,6 @@ use Rattle.rx_nest.proofs.ShownLines.{page_held}
 use Rattle.rx_nest.proofs.TextSteps.{sees_append}
 use Rattle.rx_nest.proofs.TagPlaces.{shows_more}
 use Rattle.rx_base.specs.Lines.{line_of}
-use Rattle.rx_rdfa.specs.Pages.{read_tag, tags_of}
 use Rattle.rx_base.specs.Seekings.{Seeking, first_child, base_child, known, seeks, sought}
 use Rattle.rx_base.specs.KnownBases.{is_decided, IsKnownOver, KnowsOverBytes}
 use Rattle.rx_base.proofs.Lines.{line_is, seeks_append, said_seeks}

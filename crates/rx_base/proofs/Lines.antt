@@ -1,11 +1,8 @@
 -- The elements that are open after some signs, and what is sought then.
-use Rattle.rx_terms.proofs.Common.{◌≡◌, ◌∙◌, List, [], ◌∷◌, ◌++◌, map, refl, ap, Chars}
-use Rattle.rx_grammar.proofs.Common.{Line, Tree, end, element, text}
-use Rattle.rx_rdfa.specs.Tree.{Tag}
+use Rattle.rx_rdfa.proofs.Common.{◌≡◌, ◌∙◌, List, [], ◌∷◌, ◌++◌, map, refl, ap, Chars, Line, Tree, end, element, text, Tag, read_tag}
 use Rattle.rx_nest.specs.Signs.{Sign, begun, said, finished, signs_of}
 use Rattle.rx_nest.specs.ShownLines.{open_after}
 use Rattle.rx_base.specs.Lines.{line_on, line_of}
-use Rattle.rx_rdfa.specs.Pages.{read_tag}
 use Rattle.rx_base.specs.Seekings.{Seeking, seek, seeks}
 
 pub line_append : (line : List Tag) (xs ys : List Sign) → line_of line (xs ++ ys) ≡ line_of (line_of line xs) ys

@@ -1,11 +1,8 @@
 -- The seeking knows the base from the first of the moments on.
-use Rattle.rx_terms.proofs.Common.{◌≡◌, ◌∙◌, ℕ, suc, ◌≤◌, Bool, true, false, List, [], ◌∷◌, ◌++◌, length, refl, sym, ap, subst, append_assoc, append-nil, Option, Some, None, codes, bytes_eq, arith, ◌==◌, if◌then◌else◌, Chars}
+use Rattle.rx_rdfa.proofs.Common.{◌≡◌, ◌∙◌, ℕ, suc, ◌≤◌, Bool, true, false, List, [], ◌∷◌, ◌++◌, length, refl, sym, ap, subst, append_assoc, append-nil, Option, Some, None, codes, bytes_eq, arith, ◌==◌, if◌then◌else◌, Chars, StartTag, Tag, read_tag}
 use Rattle.std.proofs.lemmas.List.{length-append}
-use Rattle.rx_grammar.proofs.Common.{StartTag}
-use Rattle.rx_rdfa.specs.Tree.{Tag}
 use Rattle.rx_nest.specs.Signs.{Sign, begun, said, finished}
 use Rattle.rx_base.specs.Lines.{line_on, line_of}
-use Rattle.rx_rdfa.specs.Pages.{read_tag}
 use Rattle.rx_base.specs.Seekings.{Seeking, first_child, base_child, known, base_href, known_by, seek, seeks, sought}
 use Rattle.rx_base.specs.Moments.{children_on, children_of, Moment, base_begins, head_ends, body_begins, page_ends, MomentAt, NoneAmong, IsKnown, KnowsAtTheFirstMoment}
 use Rattle.rx_base.proofs.Lines.{line_append}

@@ -1,10 +1,5 @@
 -- Behind the byte that completes a tag nothing is unfinished; any other byte tells text alone.
-use Rattle.std.proofs.Common.{◌≡◌, ◌∙◌, ⊎_elim, ℕ, List, [], ◌++◌, sym, ap, Result, Ok, Err}
-use Rattle.rx_chars.specs.declared.syntax.Syntax.{Syntax}
-use Rattle.rx_grammar.specs.declared.faults.Kind.{Kind}
-use Rattle.rx_grammar.specs.declared.limits.Limits.{Limits}
-use Rattle.rx_pages.specs.Nesting.{Event, Step}
-use Rattle.rx_pages.specs.PageReader.{spot_of, Scanned, read_byte, Progress, steps_on, no_step, progress_of, nested_items, telling, page_byte_on}
+use Rattle.rx_pages.proofs.Common.{◌≡◌, ◌∙◌, ⊎_elim, ℕ, List, [], ◌++◌, sym, ap, Result, Ok, Err, Syntax, Kind, Limits, Event, Step, spot_of, Scanned, read_byte, Progress, steps_on, no_step, progress_of, nested_items, telling, page_byte_on}
 use Rattle.rx_nest.proofs.QuietReading.{AllSay, StepSays, items_say}
 use Rattle.rx_nest.proofs.TokenPlacing.{After, HasNoTag, Where, byte_tags}
 

@@ -1,18 +1,12 @@
 -- When a page's base is known, by its bytes: by a front of them, and the tree that this front has once it is closed.
 use Rattle.std.specs.Prelude.{◌≡◌, ◌↔◌, ℕ, Bool, false, true, not, ◌&&◌, ◌||◌, nat_lt, nat_le, is_some, List, ◌++◌, length, Option, None, codes, bytes_eq}
-use Rattle.rx_terms.specs.Text.{Chars}
-use Rattle.rx_chars.specs.declared.syntax.Syntax.{Syntax}
-use Rattle.rx_grammar.specs.declared.limits.Limits.{Limits}
-use Rattle.rx_grammar.specs.Trees.{StartTag, Tree, end, element, text}
-use Rattle.rx_grammar.specs.Pages.{Page}
+use Rattle.rx_rdfa.specs.Common.{Chars, Syntax, Limits, StartTag, Tree, end, element, text, Page, root_href, read_tag, tags_of}
 use Rattle.rx_grammar.specs.Begun.{Line, Phase, Begun}
 use Rattle.rx_pages.specs.Closings.{closed, IsWide}
-use Rattle.rx_rdfa.specs.Base.{root_href}
 use Rattle.rx_nest.specs.Signs.{Sign}
 use Rattle.rx_nest.specs.Nests.{Nested, NestStands}
 use Rattle.rx_nest.specs.Readings.{OwesNone}
 use Rattle.rx_nest.specs.ShownLines.{shown_line}
-use Rattle.rx_rdfa.specs.Pages.{read_tag, tags_of}
 use Rattle.rx_base.specs.Seekings.{base_href, known, sought}
 
 abbrev pub is_head : StartTag → Bool

@@ -1,7 +1,6 @@
 -- The elements that are open after some signs.
 use Rattle.std.specs.Prelude.{List, [], ◌∷◌}
-use Rattle.rx_rdfa.specs.Pages.{read_tag}
-use Rattle.rx_rdfa.specs.Tree.{Tag}
+use Rattle.rx_rdfa.specs.Common.{read_tag, Tag}
 use Rattle.rx_nest.specs.Signs.{Sign, begun, said, finished}
 
 -- the elements around the innermost one

@@ -1,11 +1,8 @@
 -- When a page's base is known, by the elements that are open and the children that the root has so far.
 use Rattle.std.specs.Prelude.{◌≡◌, ◌↔◌, true, false, List, [], ◌∷◌, ◌++◌, Option, Some, None, codes, bytes_eq}
-use Rattle.rx_terms.specs.Text.{Chars}
-use Rattle.rx_grammar.specs.Trees.{StartTag}
-use Rattle.rx_rdfa.specs.Tree.{Tag}
+use Rattle.rx_rdfa.specs.Common.{Chars, StartTag, Tag, read_tag}
 use Rattle.rx_nest.specs.Signs.{Sign, begun, finished}
 use Rattle.rx_base.specs.Lines.{line_on, line_of}
-use Rattle.rx_rdfa.specs.Pages.{read_tag}
 use Rattle.rx_base.specs.Seekings.{base_href, known, sought}
 
 -- an element that begins where the root alone is open is its child

@@ -1,12 +1,8 @@
 -- The seeking of a page's base, sign by sign.
 use Rattle.std.specs.Prelude.{◌≡◌, ◌==◌, ℕ, List, [], ◌∷◌, length, Option, Some, None, codes, bytes_eq, if◌then◌else◌}
-use Rattle.rx_terms.specs.Text.{Chars}
-use Rattle.rx_grammar.specs.Trees.{StartTag, Tree, end, element}
-use Rattle.rx_rdfa.specs.Base.{root_href}
-use Rattle.rx_rdfa.specs.Tree.{Tag, attribute}
+use Rattle.rx_rdfa.specs.Common.{Chars, StartTag, Tree, end, element, root_href, Tag, attribute, read_tag, tags_of}
 use Rattle.rx_nest.specs.Signs.{Sign, begun, said, finished, signs_of}
 use Rattle.rx_base.specs.Lines.{line_on}
-use Rattle.rx_rdfa.specs.Pages.{read_tag, tags_of}
 
 -- what is looked for: the root's first child, or a child of that one, where it is a head, which is a base with href; or
 -- what was found: such a href, or that there is none

@@ -1,7 +1,6 @@
 //! The base of a page.
 ghost use Rattle.std.specs.Prelude.{◌≡◌, IfOk};
-ghost use Rattle.rx_rdfa.specs.Base.{base_by};
-ghost use Rattle.rx_terms.specs.Text.{seen_slice};
+ghost use Rattle.rx_rdfa.specs.Common.{base_by, seen_slice};
 
 use rx_refs::{resolve, without_fragment};
 use rx_terms::{Iri, NoMemory};

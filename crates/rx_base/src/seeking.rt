@@ -4,10 +4,7 @@
 //! known as early as can be: at the first `base` with `href`, at the end of that head, at the start of another first child,
 //! or at the root's end.
 ghost use Rattle.std.specs.Prelude.{◌≡◌, true, None, bytes_eq, if◌then◌else◌};
-ghost use Rattle.std.specs.List.{list_all};
-ghost use Rattle.std.specs.Str.{chars};
-ghost use Rattle.rx_terms.specs.Ascii.{is_ascii};
-ghost use Rattle.rx_terms.specs.Text.{seen_slice};
+ghost use Rattle.rx_terms.specs.Common.{list_all, chars, is_ascii, seen_slice};
 ghost use Rattle.rx_base.specs.Seekings.{known, base_href, seek_begun, seek_finished, first_child, base_child};
 ghost use Rattle.rx_rdfa.specs.Tree.{attribute as attribute_of};
 ghost use Rattle.rx_base.specs.Tags.{tag_of};

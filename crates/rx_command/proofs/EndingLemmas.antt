@@ -1,24 +1,7 @@
 -- How a run ends, exit by exit.
-use Rattle.rx_terms.proofs.Common.{◌≡◌, ◌≢◌, ◌∙◌, ℕ, ◌⊎◌, inl, inr, List, [], refl, sym, ap, subst, Option, Some, None, append-nil, encode_utf8_all, Chars}
-use Rattle.rx_ports.specs.Counts.{Rose}
-use Rattle.rx_ports.specs.Files.{file_of}
-use Rattle.rx_ports.specs.Shelves.{ShelfContent, WhereKnown, GrowsBy, GrowsByPart, Stays}
-use Rattle.rx_ports.proofs.MoveLemmas.{moves_same, moves_at, moves_weaker}
-use Rattle.rx_rdfa.specs.Names.{Context}
-use Rattle.rx_grammar.specs.declared.faults.Fault.{Fault}
-use Rattle.rx_job.specs.Words.{Job, Asked, Gathering, reads, gathers, samples, job, gathering_in}
-use Rattle.rx_page.specs.Tasks.{TaskGives}
+use Rattle.rx_command.proofs.Common.{◌≡◌, ◌≢◌, ◌∙◌, ℕ, ◌⊎◌, inl, inr, List, [], refl, sym, ap, subst, Option, Some, None, append-nil, encode_utf8_all, Chars, Rose, file_of, ShelfContent, WhereKnown, GrowsBy, GrowsByPart, Stays, moves_same, moves_at, moves_weaker, Context, Fault, Job, Asked, Gathering, reads, gathers, samples, job, gathering_in, TaskGives, the_fault, the_text, IsContext, HasOther, context_in, NamesPage, IsLacking, LacksOne, JobLacks, JobText, JobRefused, TellsThat, WhereTold, IsGathered, DenotesGathered, Yields, Devices, SampleEnds, EndsAs, SaysAs, GatheringEnds, Says, SaysNothing, TakesJob, usage_line, context_line, refused_line, OfPage, IsAnswer, nothing_asked, of_sample, of_page, of_fault, no_file, no_context, of_pages, no_file_of_several, no_context_of_several, IsDue, Ends, RunEnds, answers, shelf_failed, out_failed, no_memory}
 use Rattle.rx_page.specs.Written.{text_of, Denoted}
 use Rattle.rx_page.specs.declared.outcomes.Outcome.{Outcome}
-use Rattle.rx_page.proofs.OutcomeLemmas.{the_fault}
-use Rattle.rx_page.proofs.TextLemmas.{the_text}
-use Rattle.rx_command.specs.Contexts.{IsContext, HasOther, context_in}
-use Rattle.rx_command.specs.Outcome.{NamesPage, IsLacking, LacksOne, JobLacks}
-use Rattle.rx_command.specs.Inputs.{JobText, JobRefused, TellsThat, WhereTold}
-use Rattle.rx_command.specs.Gathering.{IsGathered, DenotesGathered}
-use Rattle.rx_command.specs.Samples.{Yields}
-use Rattle.rx_command.specs.Runs.{Devices, SampleEnds, EndsAs, SaysAs, GatheringEnds, Says, SaysNothing, TakesJob, usage_line, context_line, refused_line}
-use Rattle.rx_command.specs.Endings.{OfPage, IsAnswer, nothing_asked, of_sample, of_page, of_fault, no_file, no_context, of_pages, no_file_of_several, no_context_of_several, IsDue, Ends, RunEnds, answers, shelf_failed, out_failed, no_memory}
 use Rattle.rx_command.specs.declared.statuses.Status.{Status}
 use Rattle.rx_command.specs.declared.statuses.Status.TheVariants as status
 use Rattle.rx_command.proofs.RunLemmas.{one_shelf, page_job}

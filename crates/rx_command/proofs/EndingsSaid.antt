@@ -1,19 +1,6 @@
 -- What follows from how a run ends.
-use Rattle.rx_terms.proofs.Common.{◌≡◌, ℕ, inl, inr, List, refl, sym, ap, subst, Option, Some, None, Chars}
-use Rattle.rx_ports.specs.Counts.{Rose}
-use Rattle.rx_ports.specs.Shelves.{ShelfContent, WhereKnown, GrowsBy, GrowsByPart}
-use Rattle.rx_rdfa.specs.Names.{Context}
-use Rattle.rx_grammar.specs.declared.faults.Fault.{Fault}
-use Rattle.rx_job.specs.Words.{Job, Asked, Gathering, reads, gathers, samples, job, page_in, gathering_in}
-use Rattle.rx_page.specs.Tasks.{TaskGives}
+use Rattle.rx_command.proofs.Common.{◌≡◌, ℕ, inl, inr, List, refl, sym, ap, subst, Option, Some, None, Chars, Rose, ShelfContent, WhereKnown, GrowsBy, GrowsByPart, Context, Fault, Job, Asked, Gathering, reads, gathers, samples, job, page_in, gathering_in, TaskGives, the_fault, HasContext, HasOther, context_in, NamesPage, HasPageFault, HasBadContext, JobLacks, HasAll, HasPages, SaysOfSample, Yields, YieldsBoth, Devices, EndsSo, OfPage, IsAnswer, nothing_asked, of_sample, of_page, of_fault, no_file, no_context, of_pages, no_file_of_several, no_context_of_several, IsDue, Ends, answers, shelf_failed, out_failed, no_memory, EndingsSay}
 use Rattle.rx_page.specs.Outcomes.{IsTheFault, IsTheText}
-use Rattle.rx_page.proofs.OutcomeLemmas.{the_fault}
-use Rattle.rx_command.specs.Contexts.{HasContext, HasOther, context_in}
-use Rattle.rx_command.specs.Outcome.{NamesPage, HasPageFault, HasBadContext, JobLacks}
-use Rattle.rx_command.specs.Gathering.{HasAll, HasPages}
-use Rattle.rx_command.specs.Samples.{SaysOfSample, Yields, YieldsBoth}
-use Rattle.rx_command.specs.Runs.{Devices, EndsSo}
-use Rattle.rx_command.specs.Endings.{OfPage, IsAnswer, nothing_asked, of_sample, of_page, of_fault, no_file, no_context, of_pages, no_file_of_several, no_context_of_several, IsDue, Ends, answers, shelf_failed, out_failed, no_memory, EndingsSay}
 use Rattle.rx_command.specs.declared.statuses.Status.{Status}
 use Rattle.rx_command.specs.declared.statuses.Status.TheVariants as status
 use Rattle.rx_command.proofs.RunLemmas.{one_shelf, page_job, not_missing, not_other}

@@ -1,9 +1,6 @@
 -- What was read of a file, read by read.
-use Rattle.std.proofs.Common.{◌≡◌, ◌∙◌, ℕ, ◌+◌, ◌≤◌, ◌<◌, List, [], ◌∷◌, ◌++◌, length, take, sym, ap, refl, arith, Ok, Err, Some, append_assoc, length-append, length-take}
-use Rattle.rx_ports.specs.Shelves.{ShelfContent, Starts, Reads}
-use Rattle.rx_ports.specs.Files.{file_of}
+use Rattle.rx_command.proofs.Common.{◌≡◌, ◌∙◌, ℕ, ◌+◌, ◌≤◌, ◌<◌, List, [], ◌∷◌, ◌++◌, length, take, sym, ap, refl, arith, Ok, Err, Some, append_assoc, length-append, length-take, ShelfContent, Starts, Reads, file_of, HasRead, ReadsFile, ReadsOn, TakesSome, TakesOf, size_of}
 use Rattle.rx_ports.specs.declared.shelf.Failed.{Failed}
-use Rattle.rx_command.specs.Files.{HasRead, ReadsFile, ReadsOn, TakesSome, TakesOf, size_of}
 
 -- nothing of a started file was read
 pub read_start : (name bytes : List ℕ) (x y : ShelfContent) → bytes ≡ [] → Starts name (Ok tt) x y → HasRead name bytes x y

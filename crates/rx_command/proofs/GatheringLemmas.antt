@@ -1,32 +1,10 @@
 -- Several pages that are read one after another.
-use Rattle.rx_terms.proofs.Common.{◌≡◌, ◌∙◌, ◌+◌, ◌-◌, ◌≤◌, ◌⊎◌, inl, inr, ℕ, zero, suc, nat_eq, List, [], ◌∷◌, ◌++◌, length, take, drop, sym, ap, subst, refl, arith, Option, Some, None, encode_utf8_all, append_assoc, length-append, add-one, take_all, take-append-drop, Chars}
-use Rattle.std.specs.Prelude.{slice_get}
-use Rattle.rx_ports.specs.Counts.{Rose}
-use Rattle.rx_ports.specs.Files.{file_of}
-use Rattle.rx_ports.specs.Shelves.{ShelfContent, WhereKnown, Lacks}
-use Rattle.rx_ports.proofs.MoveLemmas.{moves_then}
-use Rattle.rx_grammar.proofs.Common.{Syntax}
-use Rattle.rx_grammar.specs.declared.faults.Fault.{Fault}
+use Rattle.rx_command.proofs.Common.{◌≡◌, ◌∙◌, ◌+◌, ◌-◌, ◌≤◌, ◌⊎◌, inl, inr, ℕ, zero, suc, nat_eq, List, [], ◌∷◌, ◌++◌, length, take, drop, sym, ap, subst, refl, arith, Option, Some, None, encode_utf8_all, append_assoc, length-append, add-one, Chars, slice_get, Rose, file_of, ShelfContent, WhereKnown, Lacks, moves_then, Syntax, Fault, copied, numbered, Renamed, Triple, set_of, Context, graph_of, Gathering, Listed, Way, rdfa_way, HasFirst, GivesList, page_limit, ReadsWhole, Finds, TakesToFirst, TakesOf, size_of, IsContext, LacksContext, TakesContext, ReadsContext, TellsThat, LacksPage, LacksOne, base_in, facts_in, way_of, FileList, GivesTriples, GivesGraph, IsJudged, Judges, JudgesEach, IsPart, AreParts, total, TakesGathering, IsThat, TakesPart, TakesParts, ReadsListed, ReadsEach, AddsPage, AddsPages, GathersPages, as_read}
+use Rattle.rx_items.proofs.Common.{take_all, take-append-drop, triples_seen, written_denotes}
 use Rattle.rx_terms.specs.declared.triples.Triple.{Triple as CodeTriple}
-use Rattle.rx_model.proofs.Common.{copied, numbered, Renamed, triples_seen, Triple, set_of}
-use Rattle.rx_rdfa.specs.Names.{Context}
-use Rattle.rx_rdfa.specs.Whole.{graph_of}
-use Rattle.rx_rdfa.proofs.Whole.{written_denotes}
 use Rattle.rx_many.specs.Pages.{Page, Judgement, refused, accepted, refused_page, accepted_page}
-use Rattle.rx_job.specs.Words.{Gathering, Listed}
-use Rattle.rx_nest.specs.Ways.{Way}
 use Rattle.rx_command.specs.declared.pages.Approach.{Approach}
-use Rattle.rx_page.specs.Settings.{rdfa_way, HasFirst, GivesList}
-use Rattle.rx_command.specs.Reading.{page_limit, ReadsWhole, Finds, TakesToFirst}
-use Rattle.rx_command.specs.Files.{TakesOf, size_of}
-use Rattle.rx_command.specs.Contexts.{IsContext, LacksContext, TakesContext, ReadsContext}
-use Rattle.rx_command.specs.Inputs.{TellsThat}
-use Rattle.rx_command.specs.Outcome.{LacksPage, LacksOne}
-use Rattle.rx_page.specs.Tasks.{base_in, facts_in}
-use Rattle.rx_command.specs.Ways.{way_of}
-use Rattle.rx_command.specs.Gathering.{FileList, GivesTriples, GivesGraph, IsJudged, Judges, JudgesEach, IsPart, AreParts, total, TakesGathering, IsThat, TakesPart, TakesParts, ReadsListed, ReadsEach, AddsPage, AddsPages, GathersPages}
 use Rattle.rx_command.proofs.InputLemmas.{one_context, has_context, rose_before}
-use Rattle.rx_page.specs.Texts.{as_read}
 use Rattle.rx_page.proofs.MadeLemmas.{list_written}
 use Rattle.rx_page.proofs.ProperLemmas.{written_read}
 

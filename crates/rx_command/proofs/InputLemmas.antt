@@ -1,45 +1,21 @@
 -- From what was read of the files that a job names to what they are.
-use Rattle.std.specs.Prelude.{option_map}
-use Rattle.rx_terms.proofs.Common.{nat_eq, ◌≡◌, ◌∙◌, ◌+◌, ◌≤◌, ◌<◌, ◌⊎◌, inl, inr, ℕ, true, false, List, [], ◌++◌, length, sym, ap, subst, refl, arith, Option, Some, None, Result, Ok, Err, IfOk, encode_utf8_all, length-append, append-nil, nat_tests, Chars, by_test}
-use Rattle.std.proofs.Common.{nat_le, ◌&&◌, is_some}
-use Rattle.rx_ports.specs.Counts.{Rose}
-use Rattle.rx_ports.specs.Files.{file_of}
-use Rattle.rx_ports.specs.Shelves.{ShelfContent, WhereKnown, Lacks}
-use Rattle.rx_ports.proofs.MoveLemmas.{moves_same, moves_at, moves_then}
+use Rattle.rx_command.proofs.Common.{option_map, nat_eq, ◌≡◌, ◌∙◌, ◌+◌, ◌≤◌, ◌<◌, ◌⊎◌, inl, inr, ℕ, true, false, List, [], ◌++◌, length, sym, ap, subst, refl, arith, Option, Some, None, Result, Ok, Err, IfOk, encode_utf8_all, length-append, append-nil, nat_le, ◌&&◌, is_some, nat_tests, Chars, Rose, file_of, ShelfContent, WhereKnown, Lacks, moves_same, moves_at, moves_then, Syntax, Fault, copied, numbered, Context, Asked, Task, Extraction, extracts, itemizes, checks, Way, largest_piece, page_limit, ReadsWhole, Finds, ReadsClean, IsClean, PageFails, HasFirst, GivesList, GivesRight, refuses_so, refuses_first, ReadsFile, TakesOf, size_of, IsContextFile, IsContext, HasContext, TakesContext, ReadsContext, context_size, context_count, PageText, PageRefused, JobText, JobRefused, TellsThat, WhereTold, IsRight, way_in, IsLacking, ReadsTo, as_read, ok_line, TakesFiles, StopsCleanly, extraction_of}
+use Rattle.rx_model.proofs.Common.{by_test, triples_seen, Bor}
 use Rattle.rx_names.specs.ContextFiles.{context_of}
-use Rattle.rx_grammar.proofs.Common.{Syntax}
-use Rattle.rx_grammar.specs.declared.faults.Fault.{Fault}
 use Rattle.rx_terms.specs.declared.triples.Triple.{Triple as CodeTriple}
-use Rattle.rx_model.proofs.Common.{copied, numbered, triples_seen}
-use Rattle.rx_rdfa.specs.Names.{Context}
 use Rattle.rx_rdfa.specs.Standard.{standard}
 use Rattle.rx_job.specs.declared.formats.Format.{Format}
-use Rattle.rx_job.specs.Words.{Asked, Task, Extraction, extracts, itemizes, checks}
-use Rattle.rx_nest.specs.Ways.{Way}
 use Rattle.rx_command.specs.declared.errors.InputError.{InputError}
 use Rattle.rx_command.specs.declared.errors.InputError.TheVariants as error
-use Rattle.rx_command.specs.Reading.{largest_piece, page_limit, ReadsWhole, Finds, ReadsClean, IsClean, PageFails}
-use Rattle.rx_page.specs.Settings.{HasFirst, GivesList, GivesRight}
 use Rattle.rx_command.proofs.ReadLemmas.{unread_clean}
-use Rattle.rx_page.proofs.FrontLemmas.{refuses_so}
-use Rattle.rx_page.proofs.OutcomeLemmas.{refuses_first}
-use Rattle.rx_command.specs.Files.{ReadsFile, TakesOf, size_of}
-use Rattle.rx_command.specs.Contexts.{IsContextFile, IsContext, HasContext, TakesContext, ReadsContext, context_size, context_count}
 use Rattle.rx_page.specs.Contexts.{largest_context, is_context}
 use Rattle.rx_page.proofs.ContextLemmas.{short, too_long}
-use Rattle.rx_command.specs.Inputs.{PageText, PageRefused, JobText, JobRefused, TellsThat, WhereTold}
-use Rattle.rx_page.specs.Tasks.{IsRight, way_in}
-use Rattle.rx_command.specs.Outcome.{IsLacking, ReadsTo}
-use Rattle.rx_page.specs.Texts.{as_read, ok_line}
-use Rattle.rx_command.specs.Runs.{TakesFiles, StopsCleanly}
-use Rattle.rx_command.specs.Ways.{extraction_of}
 use Rattle.rx_page.specs.Forms.{form_in, IsFormText, FormDenotes}
 use Rattle.rx_page.specs.Written.{text_of, Denoted}
 use Rattle.rx_page.specs.declared.forms.Form.{Form}
 use Rattle.rx_page.specs.declared.outcomes.Outcome.{Outcome}
 use Rattle.rx_page.specs.declared.outcomes.Outcome.TheVariants as found
 use Rattle.rx_command.specs.declared.pages.Approach.{Approach}
-use denote.Ref.{Bor}
 use Rattle.rx_page.proofs.MadeLemmas.{text_made}
 
 -- ---- the context file

@@ -1,21 +1,9 @@
 -- Items of a page, from what was read of it to what it is.
-use Rattle.rx_terms.proofs.Common.{◌≡◌, ◌∙◌, ℕ, true, false, List, sym, ap, inr, Chars}
-use Rattle.rx_grammar.proofs.Common.{Tree}
-use Rattle.rx_grammar.specs.declared.faults.Fault.{Fault}
-use Rattle.rx_rdfa.specs.Names.{Context}
-use Rattle.rx_microdata.specs.Json.{Refused, outcome}
-use Rattle.rx_microdata.specs.Visits.{standard_bounds}
+use Rattle.rx_command.proofs.Common.{◌≡◌, ◌∙◌, ℕ, true, false, List, sym, ap, inr, Chars, Tree, Fault, Context, file_of, ShelfContent, Itemization, itemizes, PageText, PageRefused, JsonText, HasItems, GivesItems, ReadsWhole}
+use Rattle.rx_items.proofs.Common.{Refused, outcome, standard_bounds}
 use Rattle.rx_items.specs.declared.kept.Kept.{Kept}
 use Rattle.rx_page.specs.JsonTexts.{AreItems}
-use Rattle.rx_ports.specs.Files.{file_of}
-use Rattle.rx_ports.specs.Shelves.{ShelfContent}
-use Rattle.rx_job.specs.Words.{Itemization, itemizes}
 use Rattle.rx_page.specs.declared.outcomes.Outcome.{Outcome as Found}
-use Rattle.rx_command.specs.Inputs.{PageText, PageRefused}
-use Rattle.rx_page.specs.Texts.{JsonText}
-use Rattle.rx_page.specs.Tasks.{HasItems}
-use Rattle.rx_page.specs.Settings.{GivesItems}
-use Rattle.rx_command.specs.Reading.{ReadsWhole}
 use Rattle.rx_page.specs.Written.{text_of}
 use Rattle.rx_page.proofs.ItemLemmas.{item_of_items}
 

@@ -17,3 +17,4 @@ pub mod WorkedPages
 pub mod MoreRows
 pub mod SampleRow
 pub mod RowLemmas
+pub mod Common

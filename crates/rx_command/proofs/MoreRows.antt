@@ -1,43 +1,24 @@
 -- The worked row of two pages in one document, and that of a page's items.
-use Rattle.rx_terms.proofs.Common.{◌≡◌, inl, inr, ℕ, List, [], ◌∷◌, refl, sym, ap, subst, arith, Some, None, codes, encode_utf8_all}
+use Rattle.rx_command.proofs.Common.{◌≡◌, inl, inr, ℕ, List, [], ◌∷◌, refl, sym, ap, subst, arith, Some, None, codes, encode_utf8_all, Html, Tree, Fault, page_read, finds_only_faults, reads_only_pages, Iri, Literal, Plain, Triple, spo, written, refusal_laws, Gathering, Itemization, itemizes, standard, rdfa_way, HasFirst, base_in, facts_in, HasItems, JsonText, end_first, no_bytes_read, the_text, GivesTriples, JudgesEach, IsGathered, DenotesGathered, of_page, of_pages, Row, file, shelf_with, small_page, item_page, item_text, item_words, many_words, many_files, many_text}
+use Rattle.rx_items.proofs.Common.{Data, null, Unended, Outcome, Given, Refused, outcome, standard_bounds}
+use Rattle.rx_jsonld.proofs.Common.{Among, WritableTriple}
 use lib.Utf8.{encode}
 use Rattle.json.specs.Print.{escape_byte}
-use Rattle.serde_json.specs.Data.{Data, null}
-use Rattle.rx_grammar.proofs.Common.{Html, Tree}
-use Rattle.rx_grammar.specs.declared.faults.Fault.{Fault}
-use Rattle.rx_grammar.specs.declared.faults.Kind.TheVariants.{Unended}
 use Rattle.rx_pages.specs.Nesting.{told_trees}
-use Rattle.rx_pages.specs.PageReader.{page_read}
-use Rattle.rx_pages.proofs.OnlyPages.{finds_only_faults, reads_only_pages}
 use Rattle.rx_refs.specs.Parts.{components_of}
 use Rattle.rx_refs.specs.Dots.{step, without_dots}
 use Rattle.rx_refs.specs.Resolve.{target, resolved}
-use Rattle.rx_model.proofs.Common.{Iri, Literal, Plain, Triple, spo, Among}
 use Rattle.rx_rdfa.specs.Resources.{resources}
 use Rattle.rx_rdfa.specs.Inherited.{below}
 use Rattle.rx_rdfa.specs.Times.{time_kind}
 use Rattle.rx_rdfa.specs.Element.{start_of, end_of}
 use Rattle.rx_rdfa.specs.Lists.{entries_at, cells}
-use Rattle.rx_rdfa.specs.Whole.{written}
 use Rattle.rx_rdfa.specs.Standard as names
-use Rattle.rx_walk.specs.RefusalLaws.{refusal_laws}
-use Rattle.rx_microdata.specs.Json.{Outcome, Given, Refused, outcome}
-use Rattle.rx_microdata.specs.Visits.{standard_bounds}
-use Rattle.rx_pieces.specs.Writable.{WritableTriple}
 use Rattle.rx_many.specs.Lines.{Line, comment, statement, lines_from, numbered_lines, kept}
 use Rattle.rx_many.specs.Pages.{Page, refused_page, accepted_page}
 use Rattle.rx_many.specs.Standing.{WritableLine, Spells}
 use Rattle.rx_many.specs.Writing.{gathered}
 use Rattle.rx_many.proofs.DatasetLemmas.{denotes_pages}
-use Rattle.rx_job.specs.Words.{Gathering, Itemization, itemizes}
-use Rattle.rx_page.specs.Settings.{standard, rdfa_way, HasFirst}
-use Rattle.rx_page.specs.Tasks.{base_in, facts_in, HasItems}
-use Rattle.rx_page.specs.Texts.{JsonText}
-use Rattle.rx_page.proofs.FrontLemmas.{end_first, no_bytes_read}
-use Rattle.rx_page.proofs.TextLemmas.{the_text}
-use Rattle.rx_command.specs.Gathering.{GivesTriples, JudgesEach, IsGathered, DenotesGathered}
-use Rattle.rx_command.specs.Endings.{of_page, of_pages}
-use Rattle.rx_command.specs.Rows.{Row, file, shelf_with, small_page, item_page, item_text, item_words, many_words, many_files, many_text}
 use Rattle.rx_command.specs.declared.statuses.Status.TheVariants as status
 use Rattle.rx_command.proofs.GatheringLemmas.{judged_graphs}
 use Rattle.rx_command.proofs.SampleRow.{digit_0}

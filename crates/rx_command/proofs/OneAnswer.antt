@@ -1,26 +1,9 @@
 -- There is one answer to what is asked for.
-use Rattle.rx_terms.proofs.Common.{◌≡◌, ◌∙◌, ℕ, inl, inr, List, [], ◌∷◌, refl, sym, ap, ap₂, subst, Option, Some, encode_utf8_all, Chars}
-use Rattle.rx_ports.specs.Shelves.{ShelfContent}
-use Rattle.rx_grammar.proofs.Common.{Syntax, Html, Tree}
-use Rattle.rx_grammar.specs.declared.faults.Fault.{Fault}
-use Rattle.rx_rdfa.specs.Names.{Context}
+use Rattle.rx_command.proofs.Common.{◌≡◌, ◌∙◌, ℕ, inl, inr, List, [], ◌∷◌, refl, sym, ap, ap₂, subst, Option, Some, encode_utf8_all, Chars, ShelfContent, Syntax, Html, Tree, Fault, Context, refusal_laws, Job, Asked, Gathering, Listed, standard, rdfa_way, written, base_in, facts_in, TaskGives, one_first, page_has_none, tree_of_text, HasOther, IsLacking, LacksOne, FileList, GivesTriples, IsJudged, Judges, JudgesEach, IsGathered, IsSample, line_for, triples_in, sample_page, refused_line, OfPage, IsAnswer, nothing_asked, of_sample, of_page, of_fault, no_file, no_context, of_pages, no_file_of_several, no_context_of_several, IsSame, OneAnswer}
 use Rattle.rx_pages.proofs.Trees.{one_tree}
-use Rattle.rx_walk.specs.RefusalLaws.{refusal_laws}
 use Rattle.rx_many.specs.Pages.{Page, Judgement, refused, accepted}
 use Rattle.rx_many.specs.Writing.{gathered}
-use Rattle.rx_job.specs.Words.{Job, Asked, Gathering, Listed}
-use Rattle.rx_page.specs.Settings.{standard, rdfa_way}
-use Rattle.rx_rdfa.specs.Whole.{written}
-use Rattle.rx_page.specs.Tasks.{base_in, facts_in, TaskGives}
 use Rattle.rx_page.specs.Outcomes.{IsTheFault, IsTheText}
-use Rattle.rx_page.proofs.FaultLemmas.{one_first, page_has_none}
-use Rattle.rx_page.proofs.TextLemmas.{tree_of_text}
-use Rattle.rx_command.specs.Contexts.{HasOther}
-use Rattle.rx_command.specs.Outcome.{IsLacking, LacksOne}
-use Rattle.rx_command.specs.Gathering.{FileList, GivesTriples, IsJudged, Judges, JudgesEach, IsGathered}
-use Rattle.rx_command.specs.Samples.{IsSample, line_for, triples_in, sample_page}
-use Rattle.rx_command.specs.Runs.{refused_line}
-use Rattle.rx_command.specs.Endings.{OfPage, IsAnswer, nothing_asked, of_sample, of_page, of_fault, no_file, no_context, of_pages, no_file_of_several, no_context_of_several, IsSame, OneAnswer}
 use Rattle.rx_command.specs.declared.statuses.Status.{Status}
 use Rattle.rx_command.specs.declared.statuses.Status.TheVariants as status
 use Rattle.rx_command.proofs.InputLemmas.{has_context, one_context}

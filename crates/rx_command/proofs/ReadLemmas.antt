@@ -1,28 +1,13 @@
 -- A page that is read as its bytes come.
-use Rattle.std.proofs.Common.{◌≡◌, ◌∙◌, ℕ, ◌+◌, ◌≤◌, ◌<◌, List, [], ◌∷◌, ◌++◌, length, take, sym, ap, subst, refl, arith, Option, Some, Result, Ok, Err, append_assoc, append-nil, length-append, length-take}
-use Rattle.rx_terms.specs.Text.{Chars}
-use Rattle.rx_chars.specs.declared.syntax.Syntax.{Syntax}
-use Rattle.rx_grammar.specs.declared.faults.Fault.{Fault}
-use Rattle.rx_grammar.specs.declared.limits.Limits.{Limits}
-use Rattle.rx_nest.specs.Faults.{Stops}
-use Rattle.rx_nest.specs.Ways.{Way, IsRefusal}
-use Rattle.rx_rdfa.specs.Names.{Context}
+use Rattle.rx_command.proofs.Common.{◌≡◌, ◌∙◌, ℕ, ◌+◌, ◌≤◌, ◌<◌, List, [], ◌∷◌, ◌++◌, length, take, sym, ap, subst, refl, arith, Option, Some, Result, Ok, Err, append_assoc, append-nil, length-append, length-take, Chars, Syntax, Fault, Limits, Stops, Way, IsRefusal, Context, file_of, ShelfContent, WhereKnown, Reads, moves_then, moves_weaker, HasRead, TakesSome, standard, setting_for, item_setting_for, HasFirst, largest_piece, Decides, Adds, AddsNone, NextGives, EndFails, EndGives, ReadsWhole, Finds, ReadsClean, TakesToFirst, IsFile, Fed, PageFails, PageGives, refused_from, no_bytes_read, clean_of}
 use Rattle.rx_walk.specs.Walks as walks
 use Rattle.rx_walk.specs.Walks.{Walked}
 use Rattle.rx_items.specs.Walks as item
 use Rattle.rx_walk.specs.Checks as checks
 use Rattle.rx_walk.specs.Checks.{Checked}
-use Rattle.rx_ports.specs.Files.{file_of}
-use Rattle.rx_ports.specs.Shelves.{ShelfContent, WhereKnown, Reads}
-use Rattle.rx_ports.proofs.MoveLemmas.{moves_then, moves_weaker}
 use Rattle.rx_command.specs.declared.errors.InputError.{InputError}
 use Rattle.rx_command.specs.declared.errors.InputError.TheVariants as error
-use Rattle.rx_command.specs.Files.{HasRead, TakesSome}
-use Rattle.rx_page.specs.Settings.{standard, setting_for, item_setting_for, HasFirst}
-use Rattle.rx_command.specs.Reading.{largest_piece, Decides, Adds, AddsNone, NextGives, EndFails, EndGives, ReadsWhole, Finds, ReadsClean, TakesToFirst, IsFile, Fed, PageFails, PageGives}
-use Rattle.rx_page.proofs.FaultLemmas.{refused_from}
 use Rattle.rx_page.specs.Readers.{IsRead}
-use Rattle.rx_page.proofs.FrontLemmas.{no_bytes_read, clean_of}
 
 -- a reader that begins with the standard limits
 pub start_walk : (syntax : Syntax) (context : Context) (address : Chars) (l : Limits) (v : Walked) → l ≡ standard

@@ -1,30 +1,14 @@
 -- Each worked row by its rule.
-use Rattle.std.proofs.Common.{◌≡◌, ◌∙◌, ℕ, ◌≤◌, inl, inr, List, [], ◌∷◌, ◌++◌, refl, ap, subst, arith, Some, None, Err, codes}
-use Rattle.std.specs.Fmt.{decimal}
+use Rattle.rx_command.proofs.Common.{◌≡◌, ◌∙◌, ℕ, ◌≤◌, inl, inr, List, [], ◌∷◌, ◌++◌, refl, ap, subst, arith, Some, None, Err, codes, decimal, Html, Fault, page_read, end_of, finds_only_faults, refusal_laws, standard, rdfa_way, HasFirst, end_first, the_fault, Asked, extracts, checks, most_items, IsRight, the_text, sample_page, nothing_asked, of_page, of_fault, no_file, no_context, no_file_of_several, refused_line, RowsAreAnswered, Row, file, small_page, small_text, check_words, extract_words, many_words}
 use Rattle.std.proofs.lemmas.Fmt.{decimal_digit, decimal_step}
 use lib.Utf8.{encode}
 use Rattle.std.specs.Str.{is_utf8, chars}
 use Rattle.json.specs.Json.{value}
 use Rattle.json.specs.Lex.{lex, punctuate}
-use Rattle.rx_chars.specs.declared.syntax.Syntax.TheVariants.{Html}
-use Rattle.rx_grammar.specs.declared.faults.Fault.{Fault}
 use Rattle.rx_grammar.specs.declared.faults.Kind.TheVariants.{Unended, Mismatch, RelativeVocab}
-use Rattle.rx_pages.specs.PageReader.{page_read, end_of}
-use Rattle.rx_pages.proofs.OnlyPages.{finds_only_faults}
 use Rattle.rx_rdfa.specs.Standard as names
-use Rattle.rx_walk.specs.RefusalLaws.{refusal_laws}
-use Rattle.rx_page.specs.Settings.{standard, rdfa_way, HasFirst}
 use Rattle.rx_page.specs.Readers.{IsRead}
-use Rattle.rx_page.proofs.FrontLemmas.{end_first}
-use Rattle.rx_page.proofs.OutcomeLemmas.{the_fault}
-use Rattle.rx_job.specs.Words.{Asked, extracts, checks, most_items}
 use Rattle.rx_job.specs.declared.formats.Format.TheVariants.{Nquads}
-use Rattle.rx_page.specs.Tasks.{IsRight}
-use Rattle.rx_page.proofs.TextLemmas.{the_text}
-use Rattle.rx_command.specs.Samples.{sample_page}
-use Rattle.rx_command.specs.Endings.{nothing_asked, of_page, of_fault, no_file, no_context, no_file_of_several}
-use Rattle.rx_command.specs.Runs.{refused_line}
-use Rattle.rx_command.specs.Rows.{RowsAreAnswered, Row, file, small_page, small_text, check_words, extract_words, many_words}
 use Rattle.rx_command.specs.declared.statuses.Status.TheVariants as status
 use Rattle.rx_command.proofs.SampleNodes.{samples_are_pages}
 use Rattle.rx_command.proofs.MoreRows.{two_pages, ended, empty_first, gathered_row, items_row}

@@ -1,22 +1,12 @@
 -- From what was read of the files to what comes of the page.
-use Rattle.rx_terms.proofs.Common.{◌≡◌, ◌≢◌, ◌∙◌, ℕ, ◌⊎◌, ◌≤◌, inl, inr, List, [], ◌∷◌, sym, ap, subst, refl, Option, Some, None, true, false, encode_utf8_all, arith, option_and_then, split}
-use Rattle.std.specs.Prelude.{codes, option_map}
-use Rattle.rx_ports.specs.Counts.{Rose}
-use Rattle.rx_ports.specs.Shelves.{ShelfContent, WhereKnown, Stays}
-use Rattle.rx_ports.specs.Files.{file_of}
-use Rattle.rx_ports.proofs.MoveLemmas.{moves_same, moves_weaker}
-use Rattle.rx_grammar.specs.declared.faults.Fault.{Fault}
-use Rattle.rx_job.specs.Words.{Asked, Gathering, Job, reads, gathers, samples, count_of, sampling, several, extraction, itemization, checking, given, is_word, most_items, job, page_in, page_asked}
+use Rattle.rx_command.proofs.Common.{◌≡◌, ◌≢◌, ◌∙◌, ℕ, ◌⊎◌, ◌≤◌, inl, inr, List, [], ◌∷◌, sym, ap, subst, refl, Option, Some, None, true, false, encode_utf8_all, arith, option_and_then, codes, option_map, Rose, ShelfContent, WhereKnown, Stays, file_of, moves_same, moves_weaker, Fault, Asked, Gathering, Job, reads, gathers, samples, count_of, sampling, several, extraction, itemization, checking, given, is_word, most_items, job, page_in, page_asked, HasContext, HasOther, LacksContext, IsLacking, JobLacks, JobText, JobRefused, TellsThat, SampleEnds, ReadCause, TakesFiles, TakesJob, TakesToFault, ReadsAll, reads_files}
+use Rattle.rx_terms.proofs.Bools.{split}
 use Rattle.rx_job.proofs.NumberLemmas.{few_counted}
-use Rattle.rx_command.specs.Contexts.{HasContext, HasOther, LacksContext}
 use Rattle.rx_page.specs.Contexts.{is_context}
-use Rattle.rx_command.specs.Outcome.{IsLacking, JobLacks}
 use Rattle.rx_command.proofs.GatheringLemmas.{context_taken}
-use Rattle.rx_command.specs.Inputs.{JobText, JobRefused, TellsThat}
 use Rattle.rx_page.specs.declared.outcomes.Outcome.{Outcome}
 use Rattle.rx_command.specs.declared.statuses.Status.{Status}
 use Rattle.rx_command.specs.declared.statuses.Status.TheVariants as status
-use Rattle.rx_command.specs.Runs.{SampleEnds, ReadCause, TakesFiles, TakesJob, TakesToFault, ReadsAll, reads_files}
 
 pub one_shelf : (told : Option ShelfContent) (x y : ShelfContent) → told ≡ Some x → told ≡ Some y → x ≡ y
 one_shelf told x y e f = let both : Some x ≡ Some y = sym e ∙ f in (cc)

@@ -1,32 +1,19 @@
 -- The sample page as it is fed.
-use Rattle.rx_terms.proofs.Common.{◌≡◌, ◌∙◌, ℕ, suc, nat_eq, ◌+◌, ◌≤◌, ◌<◌, ◌⊎◌, inl, inr, ⊎_elim, List, [], ◌++◌, length, refl, sym, ap, subst, arith, None, Result, Ok, Err, IfOk, OnOk, encode_utf8_all, append_assoc, append-nil, length-append, nat_lt, length-map, cases_lt, nat_tests, split, Chars}
-use Rattle.rx_grammar.proofs.Common.{Html, FaultAt}
+use Rattle.rx_command.proofs.Common.{◌≡◌, ◌∙◌, ℕ, suc, nat_eq, ◌+◌, ◌≤◌, ◌<◌, ◌⊎◌, inl, inr, ⊎_elim, List, [], ◌++◌, length, refl, sym, ap, subst, arith, None, Result, Ok, Err, IfOk, OnOk, encode_utf8_all, append_assoc, append-nil, length-append, nat_lt, nat_tests, Chars, Html, Limits, Context, Fault, copied, numbered, Triple, Way, standard, setting_for, rdfa_way, most_items, head, item_before, item_behind, items_to, cut_in, sample_page, tail, HasDepth, IsCut, in_item, at_end, IsDeepest, sample_setting, sample_address, triples_in, line_with, line_for, IsSample, Refuses, Stops, page_has_none, not_longer, refusal_laws}
+use Rattle.rx_items.proofs.Common.{length-map, cases_lt, FaultAt, triples_seen, read_tag}
+use Rattle.rx_pages.proofs.Common.{split, reads_what_is_underway}
 use Rattle.rx_terms.specs.declared.triples.Triple.{Triple as CodeTriple}
-use Rattle.rx_grammar.specs.declared.limits.Limits.{Limits}
-use Rattle.rx_rdfa.specs.Names.{Context}
-use Rattle.rx_grammar.specs.declared.faults.Fault.{Fault}
-use Rattle.rx_model.proofs.Common.{copied, numbered, triples_seen, Triple}
 use Rattle.rx_nquads.specs.Writing.{nquads}
 use Rattle.rx_rdfa.specs.Standard as names
-use Rattle.rx_pages.proofs.Underway.{reads_what_is_underway}
 use Rattle.rx_nest.specs.ShownLines.{shown_line}
 use Rattle.rx_nest.proofs.ShownLines.{stands_underway}
-use Rattle.rx_rdfa.specs.Pages.{read_tag}
 use Rattle.rx_walk.specs.Walks.{Walked, WalkStands, Ended, DepthGives}
-use Rattle.rx_nest.specs.Ways.{Way}
-use Rattle.rx_page.specs.Settings.{standard, setting_for, rdfa_way}
-use Rattle.rx_job.specs.Words.{most_items}
-use Rattle.rx_command.specs.Samples.{head, item_before, item_behind, items_to, cut_in, sample_page, tail, HasDepth, IsCut, in_item, at_end, IsDeepest, sample_setting, sample_address, triples_in, line_with, line_for, IsSample}
-use Rattle.rx_nest.specs.Faults.{Refuses, Stops}
 use Rattle.rx_command.specs.Feeding.{Fed, FedTo, FedWhole, IsDue, TakesPiece, larger, Deepens, IsDeepestTo}
 use Rattle.rx_command.specs.declared.samples.Feeding.{Feeding}
 use Rattle.rx_pages.proofs.OneOf.{not_both}
-use Rattle.rx_page.proofs.FaultLemmas.{page_has_none}
 use Rattle.rx_page.proofs.MadeLemmas.{list_written}
 use Rattle.rx_command.proofs.SampleNodes.{samples_are_pages}
 use Rattle.rx_page.specs.Readers.{shown_read}
-use Rattle.rx_page.proofs.FrontLemmas.{not_longer}
-use Rattle.rx_walk.specs.RefusalLaws.{refusal_laws}
 
 -- how a sample page is read
 abbrev pub sample_way : Way

@@ -1,12 +1,8 @@
 -- The tokens of the sample page of every number nest as a page, of which no start tag is refused.
-use Rattle.rx_terms.proofs.Common.{ℕ, zero, suc, ◌+◌, ◌≤◌, true, List, [], ◌∷◌, length, refl, sym, subst, line_feed}
-use Rattle.std.specs.Prelude.{codes}
-use Rattle.std.specs.Fmt.{decimal}
-use Rattle.rx_grammar.proofs.Common.{Html, outside, in_html, Tree, end, element, start_of, Document, Page, nothing}
-use Rattle.rx_grammar.specs.Pages.{no_more, passed, a_doctype}
+use Rattle.rx_command.proofs.Common.{ℕ, zero, suc, ◌+◌, ◌≤◌, true, List, [], ◌∷◌, length, refl, sym, subst, codes, decimal, Html, Tree, end, element, Document, Page, nothing, no_more, passed, a_doctype, standard, SamplesArePages}
+use Rattle.rx_turtle.proofs.Common.{line_feed, start_of}
+use Rattle.rx_grammar.specs.Contents.{outside, in_html}
 use Rattle.rx_rdfa.specs.Standard as names
-use Rattle.rx_page.specs.Settings.{standard}
-use Rattle.rx_command.specs.Samples.{SamplesArePages}
 use Rattle.rx_command.proofs.WrittenTokens.{Written, chars_in, item_of, items_at, letter, letters, start_token, end_token, page_written}
 use Rattle.rx_command.proofs.WrittenNodes.{Encloses, enclosed, Held, HeldAnywhere, held_none, held_letters, held_element, taken_all, element_taken}
 use Rattle.rx_command.proofs.SampleTokens.{html_run, body_run, div_run, span_run, html_tag, body_tag, div_tag, span_tag, doctype_token, line_end, html_token, name_behind, name_in, item_tokens, tokens_of, html_closed, body_closed, in_body, in_root, page_tokens, page_chars, page_spelled, page_size}

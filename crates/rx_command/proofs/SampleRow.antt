@@ -1,17 +1,12 @@
 -- The worked row of the sample of one item.
-use Rattle.rx_terms.proofs.Common.{◌≡◌, ◌∙◌, ℕ, ◌≤◌, List, [], ◌∷◌, ◌++◌, length, refl, sym, ap, subst, arith, None, Ok, codes, encode_utf8_all, Chars}
+use Rattle.rx_command.proofs.Common.{◌≡◌, ◌∙◌, ℕ, ◌≤◌, List, [], ◌∷◌, ◌++◌, length, refl, sym, ap, subst, arith, None, Ok, codes, encode_utf8_all, Chars, Html, Page, Tree, Progress, page_read, reads_only_pages, Node, Iri, Blank, Resource, Literal, Plain, Triple, spo, standard, IsAccepted, sample_page, cut_in, IsCut, in_item, at_end, HasDepth, IsDeepest, IsSample, triples_in, line_with, of_sample, Row, one_line}
+use Rattle.rx_pages.proofs.Common.{told_trees, reads_what_is_underway}
 use Rattle.std.specs.Fmt.{decimal, digits}
 use Rattle.std.proofs.lemmas.Fmt.{decimal_digit, decimal_step}
 use lib.Utf8.{encode}
-use Rattle.rx_grammar.proofs.Common.{Html, Page, Tree}
-use Rattle.rx_pages.specs.Nesting.{told_trees}
-use Rattle.rx_pages.specs.PageReader.{Progress, page_read}
-use Rattle.rx_pages.proofs.OnlyPages.{reads_only_pages}
-use Rattle.rx_pages.proofs.Underway.{reads_what_is_underway}
 use Rattle.rx_refs.specs.Parts.{components_of}
 use Rattle.rx_refs.specs.Dots.{step, without_dots}
 use Rattle.rx_refs.specs.Resolve.{target, resolved}
-use Rattle.rx_model.proofs.Common.{Node, Iri, Blank, Resource, Literal, Plain, Triple, spo}
 use Rattle.rx_rdfa.specs.Resources.{resources}
 use Rattle.rx_rdfa.specs.Inherited.{below}
 use Rattle.rx_rdfa.specs.Times.{time_kind}
@@ -20,11 +15,6 @@ use Rattle.rx_rdfa.specs.Lists.{entries_at, cells}
 use Rattle.rx_rdfa.specs.Standard as names
 use Rattle.rx_nest.specs.ShownLines.{shown_line}
 use Rattle.rx_nquads.specs.Writing.{nquads}
-use Rattle.rx_page.specs.Settings.{standard}
-use Rattle.rx_page.specs.Tasks.{IsAccepted}
-use Rattle.rx_command.specs.Samples.{sample_page, cut_in, IsCut, in_item, at_end, HasDepth, IsDeepest, IsSample, triples_in, line_with}
-use Rattle.rx_command.specs.Endings.{of_sample}
-use Rattle.rx_command.specs.Rows.{Row, one_line}
 use Rattle.rx_command.specs.declared.statuses.Status.TheVariants as status
 use Rattle.rx_command.proofs.WorkedPages.{read_to, first_tree}
 

@@ -1,16 +1,10 @@
 -- The tokens of the sample page of every number: their characters are the page's, and each is spelled as it is written.
-use Rattle.rx_terms.proofs.Common.{◌≡◌, ◌∙◌, ℕ, zero, suc, ◌+◌, ◌*◌, ◌≤◌, true, false, List, [], ◌∷◌, ◌++◌, length, refl, sym, ap, arith, append_assoc, length-append, list_all, and_parts, and_from, nat_tests, line_feed, less_than_sign, Chars}
-use Rattle.std.specs.Prelude.{codes}
-use Rattle.std.specs.Char.{is_ascii_digit}
-use Rattle.std.specs.Fmt.{decimal}
-use Rattle.std.proofs.lemmas.Fmt.{digits_decimal, length-decimal-le}
+use Rattle.rx_grammar.proofs.Common.{list_all, and_parts, and_from, nat_tests, Chars, codes, is_ascii_digit, decimal, digits_decimal, length-decimal-le, Html, Attribute, Tag, character, doctype, a_character, a_doctype}
+use Rattle.rx_command.proofs.Common.{◌≡◌, ◌∙◌, ℕ, zero, suc, ◌+◌, ◌*◌, ◌≤◌, true, false, List, [], ◌∷◌, ◌++◌, length, refl, sym, ap, arith, append_assoc, length-append, standard, most_items, head, item_before, item_behind, items_to, tail, sample_page}
+use Rattle.rx_terms.specs.Ascii.{line_feed, less_than_sign}
 use Rattle.std.proofs.lemmas.Str.Parse.{numerals_by_value}
-use Rattle.rx_grammar.proofs.Common.{Html, Attribute, Tag, character, doctype, a_character, a_doctype}
 use Rattle.rx_grammar.specs.declared.contents.Content.TheVariants as content
 use Rattle.rx_reader.proofs.TagLaws.{spells_each}
-use Rattle.rx_page.specs.Settings.{standard}
-use Rattle.rx_job.specs.Words.{most_items}
-use Rattle.rx_command.specs.Samples.{head, item_before, item_behind, items_to, tail, sample_page}
 use Rattle.rx_job.proofs.NumberLemmas.{tells}
 use Rattle.rx_command.proofs.WrittenTokens.{Written, chars_in, letter, letters, tag_token, start_token, end_tag, end_run, end_token, is_text_char, IsWritten, AreWritten, tag_written, letters_written}
 

@@ -1,23 +1,10 @@
 -- How a job of several pages ends, and what that says of a run.
-use Rattle.std.proofs.Common.{◌≡◌, ◌≢◌, ◌∙◌, ℕ, ◌⊎◌, inl, inr, List, [], ◌∷◌, sym, ap, subst, refl, Option, Some, None, is_some, true, false, encode_utf8_all}
-use Rattle.std.specs.Str.{chars}
-use Rattle.rx_ports.specs.Counts.{Rose}
-use Rattle.rx_ports.specs.Shelves.{ShelfContent, WhereKnown, GrowsBy, GrowsByPart, Stays}
-use Rattle.rx_ports.proofs.MoveLemmas.{moves_at, moves_weaker}
-use Rattle.rx_grammar.specs.declared.faults.Fault.{Fault}
-use Rattle.rx_rdfa.specs.Names.{Context}
-use Rattle.rx_chars.specs.declared.syntax.Syntax.{Syntax}
+use Rattle.rx_command.proofs.Common.{◌≡◌, ◌≢◌, ◌∙◌, ℕ, ◌⊎◌, inl, inr, List, [], ◌∷◌, sym, ap, subst, refl, Option, Some, None, is_some, true, false, encode_utf8_all, chars, Rose, ShelfContent, WhereKnown, GrowsBy, GrowsByPart, Stays, moves_at, moves_weaker, Fault, Context, Syntax, Gathering, Job, Listed, gathers, samples, page_in, HasContext, HasOther, LacksContext, TakesContext, context_in, LacksPage, LacksOne, JobLacks, FileList, GivesTriples, JudgesEach, IsGathered, DenotesGathered, HasPages, TakesGathering, GathersPages, TellsThat, WhereTold, Devices, EndsAs, SaysAs, GatheringEnds, TakesJob, StopsCleanly, StartsEach, ReadsAll, Says, SaysNothing, reads_files, context_line}
 use Rattle.rx_many.specs.Pages.{Page}
 use Rattle.rx_many.specs.Writing.{gathered}
 use Rattle.rx_many.specs.Dataset.{DenotesPages}
-use Rattle.rx_job.specs.Words.{Gathering, Job, Listed, gathers, samples, page_in}
-use Rattle.rx_command.specs.Contexts.{HasContext, HasOther, LacksContext, TakesContext, context_in}
-use Rattle.rx_command.specs.Outcome.{LacksPage, LacksOne, JobLacks}
-use Rattle.rx_command.specs.Gathering.{FileList, GivesTriples, JudgesEach, IsGathered, DenotesGathered, HasPages, TakesGathering, GathersPages}
-use Rattle.rx_command.specs.Inputs.{TellsThat, WhereTold}
 use Rattle.rx_command.specs.declared.statuses.Status.{Status}
 use Rattle.rx_command.specs.declared.statuses.Status.TheVariants as status
-use Rattle.rx_command.specs.Runs.{Devices, EndsAs, SaysAs, GatheringEnds, TakesJob, StopsCleanly, StartsEach, ReadsAll, Says, SaysNothing, reads_files, context_line}
 use Rattle.rx_command.proofs.InputLemmas.{has_context}
 use Rattle.rx_command.proofs.GatheringLemmas.{judged_graphs}
 use Rattle.rx_command.proofs.RunLemmas.{there, not_other, not_missing}

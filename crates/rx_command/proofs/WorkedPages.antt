@@ -1,44 +1,25 @@
 -- Pages and faults of the worked rows, read byte by byte.
-use Rattle.rx_terms.proofs.Common.{◌≡◌, ◌∙◌, ⊎_elim, inl, inr, ℕ, true, false, List, [], ◌∷◌, ◌++◌, refl, sym, ap, subst, None, Result, Ok, Err, codes, encode_utf8_all, append_assoc, append-nil, append_cancel_left, chars, all_scalars, Chars, has_scheme, has_forbidden, ascii-chars}
+use Rattle.rx_command.proofs.Common.{◌≡◌, ◌∙◌, ⊎_elim, inl, inr, ℕ, true, false, List, [], ◌∷◌, ◌++◌, refl, sym, ap, subst, None, Result, Ok, Err, codes, encode_utf8_all, append_assoc, append-nil, chars, all_scalars, Chars, Html, Page, Tree, end, Fault, Progress, page_read, page_on, nothing_read, spot_of, finds_only_faults, reads_only_pages, MeaningAt, for_form, for_meaning, Way, IsRefusal, Iri, Literal, Plain, Triple, set_of, spo, Renamed, written, graph_of, refusal_laws, Extraction, standard, rdfa_way, HasFirst, IsAccepted, HasText, Denotes, base_in, facts_in, fronts, none_read, small_page, small_text}
+use Rattle.rx_turtle.proofs.Common.{append_cancel_left, has_scheme, has_forbidden, ascii-chars, FaultAt, Mismatch, RelativeVocab, Among, written_denotes, quads, WritableTriple, WritableIri}
+use Rattle.rx_pages.proofs.Common.{told_trees, fault_stays, page_append}
 use lib.Utf8.{encode}
-use Rattle.rx_grammar.proofs.Common.{Html, FaultAt, Page, Tree, end}
-use Rattle.rx_grammar.specs.declared.faults.Fault.{Fault}
-use Rattle.rx_grammar.specs.declared.faults.Kind.TheVariants.{Mismatch, RelativeVocab}
-use Rattle.rx_pages.specs.Nesting.{told_trees}
-use Rattle.rx_pages.specs.PageReader.{Progress, page_read, page_on, nothing_read, spot_of}
-use Rattle.rx_pages.proofs.OnlyPages.{finds_only_faults, reads_only_pages}
-use Rattle.rx_pages.proofs.FaultWalk.{fault_stays}
-use Rattle.rx_pages.proofs.ScanSteps.{page_append}
 use Rattle.rx_nest.specs.Signs.{sees, nothing_seen}
-use Rattle.rx_nest.specs.Faults.{MeaningAt, for_form, for_meaning}
 use Rattle.rx_nest.specs.RefusedTags.{ReaderRefuses}
-use Rattle.rx_nest.specs.Ways.{Way, IsRefusal}
 use Rattle.rx_nest.proofs.Firsts.{meaning_first}
 use Rattle.rx_nest.proofs.Meanings.{meant, read_as_meant}
 use Rattle.rx_refs.specs.Parts.{components_of}
 use Rattle.rx_refs.specs.Dots.{step, without_dots}
 use Rattle.rx_refs.specs.Resolve.{target, resolved}
-use Rattle.rx_model.proofs.Common.{Iri, Literal, Plain, Triple, set_of, spo, Renamed, Among}
 use Rattle.rx_rdfa.specs.Resources.{resources}
 use Rattle.rx_rdfa.specs.Inherited.{below}
 use Rattle.rx_rdfa.specs.Times.{time_kind}
 use Rattle.rx_rdfa.specs.Element.{start_of, end_of as element_end}
 use Rattle.rx_rdfa.specs.Lists.{entries_at, cells}
-use Rattle.rx_rdfa.specs.Whole.{written, graph_of}
-use Rattle.rx_rdfa.proofs.Whole.{written_denotes}
 use Rattle.rx_rdfa.specs.Standard as names
-use Rattle.rx_walk.specs.RefusalLaws.{refusal_laws}
 use Rattle.rx_nquads.specs.Document.{Nquads}
-use Rattle.rx_nquads.specs.Quads.{quads}
 use Rattle.rx_nquads.specs.Writing.{nquads}
 use Rattle.rx_nquads.proofs.Denoting.{denotes}
-use Rattle.rx_pieces.specs.Writable.{WritableTriple, WritableIri}
-use Rattle.rx_job.specs.Words.{Extraction}
 use Rattle.rx_job.specs.declared.formats.Format.TheVariants as format
-use Rattle.rx_page.specs.Settings.{standard, rdfa_way, HasFirst}
-use Rattle.rx_page.specs.Tasks.{IsAccepted, HasText, Denotes, base_in, facts_in}
-use Rattle.rx_page.proofs.FaultLemmas.{fronts, none_read}
-use Rattle.rx_command.specs.Rows.{small_page, small_text}
 
 -- ---- a page with one triple
 

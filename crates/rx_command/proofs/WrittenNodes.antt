@@ -1,17 +1,10 @@
 -- The nodes of tokens that are written one after another, of which no start tag is refused.
-use Rattle.rx_terms.proofs.Common.{◌≡◌, ◌∙◌, ℕ, suc, ◌+◌, false, List, [], ◌∷◌, ◌++◌, map, length, refl, sym, ap, subst, Option, None, append_assoc, append-nil, option_or, Chars}
-use Rattle.std.specs.Prelude.{option_map}
-use Rattle.rx_grammar.proofs.Common.{Html, Place, in_html, place_in, is_alone, is_self_closed, is_plaintext, hides, drops_line_feed, Tag, tag, Tree, StartTag, end, element, text, after_text, has_element, Item, start_of, enders, Drops, Holds, nothing, a_text, closed, shown}
-use Rattle.rx_grammar.specs.declared.contents.Content.{Content}
+use Rattle.rx_pages.proofs.Common.{◌≡◌, ◌∙◌, ℕ, suc, ◌+◌, false, List, [], ◌∷◌, ◌++◌, map, length, refl, sym, ap, subst, Option, None, append_assoc, append-nil, option_or, Chars, option_map, Html, Place, in_html, place_in, is_alone, is_self_closed, is_plaintext, hides, drops_line_feed, Tag, tag, Tree, StartTag, end, element, text, after_text, has_element, Item, start_of, enders, Content, Fault}
+use Rattle.rx_eval.proofs.Common.{facts, Context, Refusal, refusal, read_tag}
+use Rattle.rx_grammar.specs.Pages.{Drops, Holds, nothing, a_text, closed, shown, another, no_more}
 use Rattle.rx_grammar.specs.declared.contents.Content.TheVariants as content
-use Rattle.rx_grammar.specs.declared.faults.Fault.{Fault}
-use Rattle.rx_grammar.specs.Pages.{another, no_more}
-use Rattle.rx_rdfa.specs.Facts.{facts}
-use Rattle.rx_rdfa.specs.Names.{Context}
-use Rattle.rx_rdfa.specs.Refusals.{Refusal, refusal}
 use Rattle.rx_rdfa.specs.Tree.{Tag as RulesTag}
 use Rattle.rx_nest.specs.Signs.{Sign, said, finished, signs_of}
-use Rattle.rx_rdfa.specs.Pages.{read_tag}
 use Rattle.rx_walk.specs.Refused.{fault_of, refused_in}
 use Rattle.rx_command.proofs.WrittenTokens.{Written, item_of, items_at, letters, start_token, end_tag, end_run, end_token}
 

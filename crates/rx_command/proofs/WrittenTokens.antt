@@ -1,10 +1,6 @@
 -- Tokens of HTML that are written one after another, with characters of one byte each.
-use Rattle.rx_terms.proofs.Common.{◌≡◌, ◌∙◌, ℕ, ◌+◌, ◌-◌, ◌≤◌, Bool, true, false, List, [], ◌∷◌, ◌++◌, length, refl, sym, ap, subst, arith, Option, None, ◌&&◌, ◌==◌, not, len_utf8, list_all, and_parts, and_from, ltb-true, nat_tests, list_all-append, is_ascii, less_than_sign, greater_than_sign, right_bracket, solidus, Chars, ascii-same}
-use Rattle.std.proofs.lemmas.Str.{len_utf8_ascii}
-use Rattle.rx_grammar.proofs.Common.{Entry, IsRead, placed, without_mark, entered, as_line_end, carriage_return, byte_order_mark, Html, Tag, Token, tag, character, SpellsTag, Spells, a_tag, a_character, has_markup, is_text, Tree, Item, Spelled, no_more, one, values, next_of, last_from, Fits, AllFit, is_strict_literal, no_section_end, Document, Page, has_no_nul}
-use Rattle.rx_grammar.specs.declared.contents.Content.{Content}
+use Rattle.rx_reader.proofs.Common.{◌≡◌, ◌∙◌, ℕ, ◌+◌, ◌-◌, ◌≤◌, Bool, true, false, List, [], ◌∷◌, ◌++◌, length, refl, sym, ap, subst, arith, Option, None, ◌&&◌, ◌==◌, not, len_utf8, list_all, and_parts, and_from, ltb-true, nat_tests, list_all-append, is_ascii, less_than_sign, greater_than_sign, right_bracket, solidus, Chars, ascii-same, len_utf8_ascii, Entry, IsRead, placed, without_mark, entered, as_line_end, carriage_return, byte_order_mark, Html, Tag, Token, tag, character, SpellsTag, Spells, a_tag, a_character, has_markup, is_text, Tree, Item, Spelled, no_more, one, values, next_of, last_from, Fits, AllFit, is_strict_literal, no_section_end, Document, Page, has_no_nul, Content, Limits}
 use Rattle.rx_grammar.specs.declared.contents.Content.TheVariants as content
-use Rattle.rx_grammar.specs.declared.limits.Limits.{Limits}
 
 -- a token, the content that it stands in, its first character and the others
 pub record Written : Type 0 where

@@ -1,12 +1,10 @@
 -- What a call says of a shelf that may tell its files.
 use Rattle.std.specs.Prelude.{◌≡◌, ◌⊎◌, ℕ, List, Option, Result, Ok, Err, IfOk, IsErrOf, encode_utf8_all}
-use Rattle.rx_terms.specs.Text.{Chars}
+use Rattle.rx_rdfa.specs.Common.{Chars, Fault, Context}
 use Rattle.rx_ports.specs.Counts.{Rose}
 use Rattle.rx_ports.specs.Shelves.{ShelfContent, WhereKnown, Lacks}
-use Rattle.rx_grammar.specs.declared.faults.Fault.{Fault}
 use Rattle.rx_command.specs.declared.errors.InputError.{InputError}
 use Rattle.rx_command.specs.declared.errors.InputError.TheVariants as error
-use Rattle.rx_rdfa.specs.Names.{Context}
 use Rattle.rx_job.specs.Words.{Task}
 use Rattle.rx_nest.specs.Ways.{Way}
 use Rattle.rx_command.specs.Reading.{ReadsClean}

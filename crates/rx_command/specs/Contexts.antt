@@ -2,9 +2,7 @@
 use Rattle.std.specs.Prelude.{◌≡◌, ℕ, ◌+◌, ◌≤◌, Bool, true, false, List, length, Option, Some, None, encode_utf8_all}
 use Rattle.rx_ports.specs.Files.{file_of}
 use Rattle.rx_ports.specs.Shelves.{ShelfContent}
-use Rattle.rx_terms.specs.Text.{Chars}
-use Rattle.rx_rdfa.specs.Names.{Context}
-use Rattle.rx_rdfa.specs.Standard.{standard}
+use Rattle.rx_rdfa.specs.Common.{Chars, Context, standard}
 use Rattle.rx_names.specs.ContextFiles.{context_of}
 use Rattle.rx_job.specs.Words.{Job, reads, gathers, samples, job}
 use Rattle.rx_command.specs.Files.{size_of}

@@ -3,9 +3,7 @@ use Rattle.std.specs.Prelude.{◌≡◌, ℕ, List, [], Option, Some, None, enco
 use Rattle.rx_ports.specs.Counts.{Rose}
 use Rattle.rx_ports.specs.Files.{file_of}
 use Rattle.rx_ports.specs.Shelves.{ShelfContent, WhereKnown, GrowsBy, GrowsByPart, Stays}
-use Rattle.rx_terms.specs.Text.{Chars}
-use Rattle.rx_rdfa.specs.Names.{Context}
-use Rattle.rx_grammar.specs.declared.faults.Fault.{Fault}
+use Rattle.rx_rdfa.specs.Common.{Chars, Context, Fault}
 use Rattle.rx_job.specs.Words.{Job, Asked, Gathering, reads, gathers, samples, job}
 use Rattle.rx_page.specs.Tasks.{TaskGives}
 use Rattle.rx_page.specs.Outcomes.{IsTheFault, IsTheText}

@@ -1,16 +1,8 @@
 -- Several pages in one dataset: what each is judged to be, and how much is read of it.
 use Rattle.std.specs.Prelude.{◌≡◌, ℕ, ◌+◌, ◌≤◌, List, [], ◌∷◌, ◌++◌, length, Option, Some, is_some, true, encode_utf8_all}
-use Rattle.std.specs.Str.{chars}
+use Rattle.rx_rdfa.specs.Common.{chars, Chars, Triple, set_of, Renamed, Context, written, graph_of, Syntax, Fault, Tree}
 use Rattle.rx_ports.specs.Files.{file_of}
 use Rattle.rx_ports.specs.Shelves.{ShelfContent, WhereKnown}
-use Rattle.rx_terms.specs.Text.{Chars}
-use Rattle.rx_model.specs.Terms.{Triple, set_of}
-use Rattle.rx_model.specs.Numbered.{Renamed}
-use Rattle.rx_rdfa.specs.Names.{Context}
-use Rattle.rx_rdfa.specs.Whole.{written, graph_of}
-use Rattle.rx_chars.specs.declared.syntax.Syntax.{Syntax}
-use Rattle.rx_grammar.specs.declared.faults.Fault.{Fault}
-use Rattle.rx_grammar.specs.Trees.{Tree}
 use Rattle.rx_many.specs.Pages.{Page, Judgement, refused, accepted}
 use Rattle.rx_many.specs.Writing.{gathered}
 use Rattle.rx_many.specs.Dataset.{DenotesPages}

@@ -2,8 +2,7 @@
 use Rattle.std.specs.Prelude.{◌≡◌, ℕ, ◌+◌, List, [], Option, Some, None, encode_utf8_all}
 use Rattle.rx_ports.specs.Files.{file_of}
 use Rattle.rx_ports.specs.Shelves.{ShelfContent}
-use Rattle.rx_rdfa.specs.Names.{Context}
-use Rattle.rx_grammar.specs.declared.faults.Fault.{Fault}
+use Rattle.rx_rdfa.specs.Common.{Context, Fault}
 use Rattle.rx_job.specs.Words.{Asked, Task}
 use Rattle.rx_command.specs.Reading.{IsClean}
 use Rattle.rx_command.specs.Contexts.{IsContext, context_size, context_count}

@@ -2,9 +2,7 @@
 use Rattle.std.specs.Prelude.{◌≡◌, ◌⊎◌, ◌+◌, ◌≤◌, ℕ, false, List, [], ◌∷◌, encode_utf8_all, Option, Some, None}
 use Rattle.rx_ports.specs.Shelves.{ShelfContent}
 use Rattle.rx_ports.specs.Files.{file_of}
-use Rattle.rx_terms.specs.Text.{Chars}
-use Rattle.rx_rdfa.specs.Names.{Context}
-use Rattle.rx_grammar.specs.declared.faults.Fault.{Fault}
+use Rattle.rx_rdfa.specs.Common.{Chars, Context, Fault}
 use Rattle.rx_job.specs.Words.{Job, Asked, Task, Gathering, Listed, reads, gathers, samples, extracts, itemizes, checks, job, page_asked}
 use Rattle.rx_command.specs.Contexts.{IsContext, HasContext, HasOther, LacksContext, context_in}
 use Rattle.rx_command.specs.Reading.{largest_piece}

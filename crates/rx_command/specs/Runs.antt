@@ -4,16 +4,14 @@ use Rattle.std.specs.Fmt.{decimal}
 use Rattle.rx_ports.specs.Counts.{Rose}
 use Rattle.rx_ports.specs.Files.{file_of}
 use Rattle.rx_ports.specs.Shelves.{ShelfContent, WhereKnown, GrowsBy, GrowsByPart, Stays}
-use Rattle.rx_terms.specs.Text.{Chars}
+use Rattle.rx_rdfa.specs.Common.{Chars, kind_name, Fault}
 use Rattle.rx_job.specs.Words.{Job, Asked, Gathering, reads, gathers, samples, job, page_in}
-use Rattle.rx_grammar.specs.Kinds.{kind_name}
 use Rattle.rx_command.specs.Files.{size_of}
 use Rattle.rx_command.specs.Contexts.{HasOther, TakesContext, context_size, context_limit, context_count}
 use Rattle.rx_command.specs.Outcome.{LacksFile, LacksOne, ReadsTo}
 use Rattle.rx_command.specs.Gathering.{IsGathered, DenotesGathered, TakesGathering}
 use Rattle.rx_command.specs.Inputs.{StopsClean, TellsThat, WhereTold}
 use Rattle.rx_command.specs.Samples.{IsSample}
-use Rattle.rx_grammar.specs.declared.faults.Fault.{Fault}
 use Rattle.rx_command.specs.Reading.{page_limit}
 use Rattle.rx_command.specs.declared.statuses.Status.{Status}
 use Rattle.rx_command.specs.declared.statuses.Status.TheVariants as status

@@ -1,14 +1,9 @@
 -- The sample page, and the line that is said of it. Own.
 use Rattle.std.specs.Prelude.{◌≡◌, ◌≤◌, ◌<◌, ◌⊎◌, ℕ, zero, suc, List, ◌++◌, length, Option, Some, None, encode_utf8_all, codes}
-use Rattle.std.specs.Fmt.{decimal}
-use Rattle.rx_terms.specs.Text.{Chars}
-use Rattle.rx_model.specs.Terms.{Triple}
+use Rattle.rx_grammar.specs.Common.{Chars, Html, Entry, Tree, Line, Phase}
+use Rattle.rx_model.specs.Common.{decimal, Triple}
 use Rattle.rx_rdfa.specs.Standard as names
 use Rattle.rx_rdfa.specs.Whole.{written}
-use Rattle.rx_chars.specs.declared.syntax.Syntax.TheVariants.{Html}
-use Rattle.rx_chars.specs.Characters.{Entry}
-use Rattle.rx_grammar.specs.Trees.{Tree}
-use Rattle.rx_grammar.specs.Begun.{Line, Phase}
 use Rattle.rx_pages.specs.Fronts.{IsUnderway}
 use Rattle.rx_nest.specs.ShownLines.{shown_line}
 use Rattle.rx_nquads.specs.Writing.{nquads}

@@ -1,15 +1,13 @@
 -- How a page is read whose triples are wanted, of what the code is given.
 use Rattle.std.specs.Prelude.{ℕ, List, Option}
-use Rattle.rx_terms.specs.Text.{Chars}
+use Rattle.rx_grammar.specs.Common.{Chars, Syntax, Bor}
 use Rattle.rx_terms.specs.declared.triples.Triple.{Triple as CodeTriple}
-use Rattle.rx_chars.specs.declared.syntax.Syntax.{Syntax}
 use Rattle.rx_nquads.specs.Graphs.{lent_name}
 use Rattle.rx_job.specs.Words.{Extraction, Task, extracts, itemizes}
 use Rattle.rx_job.specs.declared.formats.Format.{Format}
 use Rattle.rx_nest.specs.Ways.{Way}
 use Rattle.rx_page.specs.Settings.{rdfa_way, GivesList}
 use Rattle.rx_command.specs.declared.pages.Approach.{Approach}
-use denote.Ref.{Bor}
 
 abbrev pub way_of : Approach → Way
 way_of approach = rdfa_way approach.syntax approach.context

@@ -1,8 +1,5 @@
 -- The facts of a tag from its attributes.
-use Rattle.rx_terms.proofs.Common.{◌≡◌, ◌∙◌, refl, ap₂, Bool, List, ℕ, Option, Some, None, Bor, is_some, option_and_then, Chars, seen_slice}
-use Rattle.rx_rdfa.specs.Tree.{Tag}
-use Rattle.rx_rdfa.specs.Names.{Context}
-use Rattle.rx_rdfa.specs.Facts.{link}
+use Rattle.rx_rdfa.proofs.Common.{◌≡◌, ◌∙◌, refl, ap₂, Bool, List, ℕ, Option, Some, None, Bor, is_some, option_and_then, Chars, seen_slice, Tag, Context, link}
 
 pub is_some-seen : (r : Option (Bor (List ℕ))) → is_some r ≡ is_some (seen_slice r)
 is_some-seen None = refl

@@ -1,9 +1,6 @@
 -- The current language is a language tag.
-use Rattle.rx_terms.proofs.Common.{◌≡◌, ◌∙◌, true, false, cond, List, [], ◌∷◌, Option, Some, None, MatchOption, Result, Ok, Err, codes, sym, ap, option_or, Chars, by_test}
-use Rattle.std.specs.Prelude.{IfOk}
+use Rattle.rx_rdfa.proofs.Common.{◌≡◌, ◌∙◌, true, false, cond, List, [], ◌∷◌, Option, Some, None, MatchOption, Result, Ok, Err, codes, sym, ap, option_or, Chars, by_test, IfOk, Tag, attribute, language, declared_or, as_lang}
 use Rattle.rx_terms.specs.Lang.{is_lang}
-use Rattle.rx_rdfa.specs.Tree.{Tag, attribute}
-use Rattle.rx_rdfa.specs.Names.{language, declared_or, as_lang}
 
 said-form : (value v : Chars) → as_lang value ≡ Some v → is_lang v ≡ true
 said-form value v e =

@@ -1,7 +1,5 @@
 -- What is made of texts with a scheme.
-use Rattle.rx_terms.proofs.Common.{◌≡◌, ◌∙◌, true, [], ◌∷◌, ◌++◌, append_assoc, sym, ap, subst, bytes_decides, Chars, IsIri, has_scheme}
-use Rattle.std.specs.Prelude.{bytes_eq}
-use Rattle.rx_refs.specs.Resolve.{cleaned}
+use Rattle.rx_rdfa.proofs.Common.{◌≡◌, ◌∙◌, true, [], ◌∷◌, ◌++◌, append_assoc, sym, ap, subst, bytes_decides, Chars, IsIri, has_scheme, bytes_eq, cleaned}
 use Rattle.rx_refs.proofs.SchemeLemmas.{cut-scheme, cleaned-has-scheme, cleaned-clean, cleaned-append, has_scheme-cut, uncleaned}
 
 pub clean-iri : (text : Chars) → has_scheme text ≡ true → IsIri (cleaned text)

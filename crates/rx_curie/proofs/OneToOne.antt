@@ -1,6 +1,5 @@
 -- What is seen of facts tells which they are.
-use Rattle.std.proofs.Common.{◌≡◌, List, [], ◌∷◌, Option, Some, None, option_map, ap, refl}
-use Rattle.rx_rdfa.specs.Facts.{Facts}
+use Rattle.rx_rdfa.proofs.Common.{◌≡◌, List, [], ◌∷◌, Option, Some, None, option_map, ap, refl, Facts}
 use Rattle.rx_curie.specs.declared.facts.ElementKind.{ElementKind as CodeKind}
 use Rattle.rx_curie.specs.declared.facts.ElementKind.TheVariants as code_kind
 use Rattle.rx_curie.specs.declared.refs.Ref.{Ref as CodeRef}

@@ -1,9 +1,5 @@
 -- Words, as they are read.
-use Rattle.rx_terms.proofs.Common.{◌≡◌, ◌≢◌, ◌∙◌, ℕ, Bool, true, false, List, [], ◌∷◌, ◌++◌, reverse, Option, Some, None, MatchOption, Bor, codes, sym, ap, refl, arith, is_some, chars, nat_tests, reverse-append, reverse-reverse, right_bracket, Chars, begins_with, is_empty, seen_slice, has_scheme, ascii-chars, by_test}
-use Rattle.std.proofs.Common.{◌==◌}
-use Rattle.rx_terms.specs.Ascii.{left_bracket}
-use Rattle.rx_rdfa.specs.Tree.{Tag}
-use Rattle.rx_rdfa.specs.Names.{Context}
+use Rattle.rx_rdfa.proofs.Common.{◌≡◌, ◌≢◌, ◌∙◌, ℕ, Bool, true, false, List, [], ◌∷◌, ◌++◌, reverse, Option, Some, None, MatchOption, Bor, codes, sym, ap, refl, arith, ◌==◌, is_some, chars, nat_tests, reverse-append, reverse-reverse, right_bracket, left_bracket, Chars, begins_with, is_empty, seen_slice, has_scheme, ascii-chars, by_test, Tag, Context}
 use Rattle.rx_rdfa.specs.Readings.{Joined, read_parts, xhtml_vocabulary}
 use Rattle.rx_curie.specs.Brackets.{before_bracket, inside_brackets}
 use Rattle.rx_reader.proofs.Fronts.{begins_append}

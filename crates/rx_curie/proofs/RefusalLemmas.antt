@@ -1,19 +1,9 @@
 -- What is refused of a start tag.
-use Rattle.rx_terms.proofs.Common.{◌≡◌, ◌∙◌, ℕ, ◌<◌, ◌/◌, ◌%◌, Bool, true, false, List, [], ◌∷◌, ◌++◌, codes, Option, Some, None, option_map, sym, ap, subst, refl, arith, is_some, option_and_then, if◌then◌else◌, bytes_decides, list_all, Chars, trimmed, has_scheme, is_scheme, is_scheme_char, is_forbidden, has_forbidden, by_test}
-use Rattle.std.proofs.Common.{◌==◌, ◌&&◌, not}
-use Rattle.std.specs.Prelude.{bytes_eq}
-use Rattle.rx_terms.specs.Iri.{begins_with_letter}
-use Rattle.rx_refs.specs.Parts.{before, behind}
-use Rattle.rx_refs.specs.Dots.{holds}
-use Rattle.rx_refs.specs.Resolve.{cleaned, cleaned_char, digit}
+use Rattle.rx_rdfa.proofs.Common.{◌≡◌, ◌∙◌, ℕ, ◌<◌, ◌/◌, ◌%◌, Bool, true, false, List, [], ◌∷◌, ◌++◌, codes, Option, Some, None, option_map, sym, ap, subst, refl, arith, ◌==◌, ◌&&◌, not, is_some, option_and_then, if◌then◌else◌, bytes_eq, bytes_decides, list_all, Chars, trimmed, has_scheme, is_scheme, is_scheme_char, is_forbidden, has_forbidden, begins_with_letter, by_test, before, behind, holds, cleaned, cleaned_char, digit, Tag, attribute, Context, vocab, declared_or, unless_empty, Facts, Datatype, Empty, Is, facts, predicate, predicates, datatype_of, Kind}
 use Rattle.rx_refs.proofs.PartLemmas.{behind-some, behind-none, before-lacks}
 use Rattle.rx_refs.proofs.SchemeLemmas.{cleaned-append, has_scheme-cut, has_scheme-uncut, none_at, forbidden-small, uncleaned}
-use Rattle.rx_rdfa.specs.Tree.{Tag, attribute}
-use Rattle.rx_rdfa.specs.Names.{Context, vocab, declared_or, unless_empty}
 use Rattle.rx_terms.specs.Literal.{rdf_lang_string}
-use Rattle.rx_rdfa.specs.Facts.{Facts, Datatype, Empty, Is, facts, predicate, predicates, datatype_of}
 use Rattle.rx_rdfa.specs.Refusals.{Refusal, RelativeVocab, XmlLiteral, HtmlLiteral, is_relative, is_datatype, refusal, rdf_xml_literal, rdf_html}
-use Rattle.rx_grammar.specs.declared.faults.Kind.{Kind}
 use Rattle.rx_names.specs.Lines.{Kept, NamesStand}
 use Rattle.rx_curie.specs.declared.facts.FactsError.TheVariants as error
 use Rattle.rx_curie.specs.Given.{own_vocabulary, vocabulary_from, kind_of, RefusesFor}

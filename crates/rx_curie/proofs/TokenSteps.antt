@@ -1,10 +1,6 @@
 -- Tokens that are read one after another.
-use Rattle.rx_terms.proofs.Common.{◌≡◌, ◌∙◌, Bool, true, false, List, [], ◌∷◌, ◌++◌, filter, append_assoc, Option, Some, None, sym, ap, refl, Chars}
-use Rattle.std.specs.Prelude.{option_to_list}
+use Rattle.rx_rdfa.proofs.Common.{◌≡◌, ◌∙◌, Bool, true, false, List, [], ◌∷◌, ◌++◌, filter, append_assoc, Option, Some, None, sym, ap, refl, Chars, option_to_list, Tag, Context, predicate, stays_beside_property, present_unless_none}
 use Rattle.std.specs.List.{filter_map}
-use Rattle.rx_rdfa.specs.Tree.{Tag}
-use Rattle.rx_rdfa.specs.Names.{Context}
-use Rattle.rx_rdfa.specs.Facts.{predicate, stays_beside_property, present_unless_none}
 
 -- one token more, of which `p` makes a value or none
 module _ {A B : Type 0} (p : A → Option B) where

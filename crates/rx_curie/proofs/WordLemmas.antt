@@ -1,8 +1,5 @@
 -- Texts that are compared with a word without being made.
-use Rattle.rx_terms.proofs.Common.{◌≡◌, ◌∙◌, ℕ, true, false, [], ◌∷◌, ◌++◌, sym, ap, subst, refl, arith, list_all, and_parts, nat_tests, Decides-eqb, Chars, begins_with, is_forbidden, by_test}
-use Rattle.std.proofs.Common.{◌==◌, ◌&&◌, not}
-use Rattle.std.specs.Prelude.{bytes_eq}
-use Rattle.rx_refs.specs.Resolve.{cleaned}
+use Rattle.rx_rdfa.proofs.Common.{◌≡◌, ◌∙◌, ℕ, true, false, [], ◌∷◌, ◌++◌, sym, ap, subst, refl, arith, ◌==◌, ◌&&◌, not, list_all, and_parts, nat_tests, Decides-eqb, Chars, begins_with, is_forbidden, by_test, bytes_eq, cleaned}
 use Rattle.rx_curie.specs.Refusing.{is_uncleaned}
 
 pub same-behind : (front a b : Chars) → bytes_eq (front ++ a) (front ++ b) ≡ bytes_eq a b

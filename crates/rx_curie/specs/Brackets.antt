@@ -1,7 +1,6 @@
 -- A text in brackets.
 use Rattle.std.specs.Prelude.{◌==◌, [], ◌∷◌, reverse, Option, Some, None, if◌then◌else◌}
-use Rattle.rx_terms.specs.Ascii.{left_bracket, right_bracket}
-use Rattle.rx_terms.specs.Text.{Chars}
+use Rattle.rx_terms.specs.Common.{left_bracket, right_bracket, Chars}
 
 abbrev pub before_bracket : Chars → Option Chars
 before_bracket [] = None

@@ -1,16 +1,10 @@
 -- What the code answers of a start tag.
 use Rattle.std.specs.Prelude.{◌≡◌, Bool, true, false, not, ◌&&◌, List, ◌∷◌, Option, Some, None, codes, is_some, is_none, option_and_then, option_map, Result, MatchResult, if◌then◌else◌}
-use Rattle.rx_terms.specs.Text.{Chars, trimmed}
-use Rattle.rx_rdfa.specs.Tree.{Tag, attribute}
-use Rattle.rx_rdfa.specs.Names.{Context, unless_empty, vocab}
-use Rattle.rx_rdfa.specs.Facts.{Facts, Other, Ref, Datatype}
+use Rattle.rx_rdfa.specs.Common.{Chars, trimmed, Tag, attribute, Context, unless_empty, vocab, Facts, Other, Ref, Datatype, Refusal, RelativeVocab, XmlLiteral, HtmlLiteral, refusal, is_relative, is_of_meaning, Kind}
 use Rattle.rx_rdfa.specs.Facts as the
-use Rattle.rx_rdfa.specs.Refusals.{Refusal, RelativeVocab, XmlLiteral, HtmlLiteral, refusal, is_relative}
 use Rattle.rx_names.specs.Lines.{NamesStand}
 use Rattle.rx_names.specs.Views.{names_seen}
 use Rattle.rx_names.specs.declared.names.NamesView.{NamesView}
-use Rattle.rx_grammar.specs.Kinds.{is_of_meaning}
-use Rattle.rx_grammar.specs.declared.faults.Kind.{Kind}
 use Rattle.rx_grammar.specs.declared.faults.Kind.TheVariants as kind
 use Rattle.rx_curie.specs.declared.facts.Facts.{Facts as CodeFacts}
 use Rattle.rx_curie.specs.declared.facts.FactsError.{FactsError}

@@ -1,14 +1,6 @@
 -- Why a start tag is refused, by what its `datatype` reads to.
 use Rattle.std.specs.Prelude.{Bool, true, false, not, ◌==◌, ◌&&◌, ℕ, List, Option, Some, None, bytes_eq, option_and_then, if◌then◌else◌}
-use Rattle.rx_terms.specs.Ascii.{percent_sign}
-use Rattle.rx_terms.specs.Iri.{is_forbidden}
-use Rattle.rx_terms.specs.Text.{Chars, trimmed}
-use Rattle.rx_rdfa.specs.Tree.{Tag}
-use Rattle.rx_rdfa.specs.Names.{Context}
-use Rattle.rx_rdfa.specs.Facts.{predicate}
-use Rattle.rx_rdfa.specs.Refusals.{Refusal, XmlLiteral, HtmlLiteral, rdf_xml_literal, rdf_html}
-use Rattle.rx_grammar.specs.declared.faults.Kind.{Kind}
-use Rattle.rx_grammar.specs.Kinds.{is_of_meaning}
+use Rattle.rx_rdfa.specs.Common.{percent_sign, is_forbidden, Chars, trimmed, Tag, Context, predicate, Refusal, XmlLiteral, HtmlLiteral, rdf_xml_literal, rdf_html, Kind, is_of_meaning}
 
 abbrev pub is_iri : Option Chars → Chars → Bool
 is_iri None word = false

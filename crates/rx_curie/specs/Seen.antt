@@ -1,7 +1,6 @@
 -- The code's facts and readings as those of the rules.
 use Rattle.std.specs.Prelude.{◌≡◌, ◌++◌, List, map, Option, option_map, option_to_list}
-use Rattle.std.specs.Str.{chars}
-use Rattle.rx_rdfa.specs.Facts.{ElementKind, Head, Body, Time, Other, Ref, IriRef, LabelRef, RelativeRef, ref_of, Datatype, Empty, Is, Facts}
+use Rattle.rx_rdfa.specs.Common.{chars, ElementKind, Head, Body, Time, Other, Ref, IriRef, LabelRef, RelativeRef, ref_of, Datatype, Empty, Is, Facts}
 use Rattle.rx_rdfa.specs.Readings.{Reading, Full, Joined, Label, Reference}
 use Rattle.rx_curie.specs.declared.facts.ElementKind.{ElementKind as CodeKind}
 use Rattle.rx_curie.specs.declared.facts.ElementKind.TheVariants as code_kind

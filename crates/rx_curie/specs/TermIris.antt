@@ -1,9 +1,6 @@
 -- IRIs of terms, and what a reading makes of them.
 use Rattle.std.specs.Prelude.{◌≡◌, true, ◌++◌, Option, option_map, option_and_then}
-use Rattle.rx_terms.specs.Text.{Chars}
-use Rattle.rx_refs.specs.Resolve.{cleaned}
-use Rattle.rx_rdfa.specs.Readings.{Reading, is_term}
-use Rattle.rx_rdfa.specs.Facts.{IriRef, iri_of, ref_of}
+use Rattle.rx_rdfa.specs.Common.{Chars, cleaned, Reading, is_term, IriRef, iri_of, ref_of}
 
 -- the text is a term, and the IRI that of the term under the vocabulary
 abbrev pub IsTermIri : Chars → Chars → Chars → Type 0

@@ -1,13 +1,6 @@
 //! What says how a literal is meant: datatype, vocabulary and language.
 ghost use Rattle.std.specs.Prelude.{◌≡◌, ◌++◌, false, OnOk, Some, option_map, bytes_eq, true};
-ghost use Rattle.std.specs.List.{list_all};
-ghost use Rattle.std.specs.Str.{chars};
-ghost use Rattle.rx_terms.specs.Ascii.{is_ascii};
-ghost use Rattle.rx_terms.specs.Iri.{has_scheme};
-ghost use Rattle.rx_terms.specs.Text.{Chars, seen_slice};
-ghost use Rattle.rx_refs.specs.Resolve.{cleaned};
-ghost use Rattle.rx_rdfa.specs.Names.{language, unless_empty};
-ghost use Rattle.rx_rdfa.specs.Refusals.{is_relative};
+ghost use Rattle.rx_rdfa.specs.Common.{list_all, chars, is_ascii, has_scheme, Chars, seen_slice, cleaned, language, unless_empty, is_relative};
 ghost use Rattle.rx_rdfa.specs.Facts as the;
 ghost use Rattle.rx_names.specs.Lines.{vocabulary_of};
 ghost use Rattle.rx_names.specs.Views.{names_seen, Along};

@@ -1,9 +1,6 @@
 //! The IRIs of readings, of which a page has few, and most of them many times.
 ghost use Rattle.std.specs.Prelude.{◌≡◌, ◌++◌, true, IfOk, IfSome};
-ghost use Rattle.std.specs.Str.{chars};
-ghost use Rattle.rx_terms.specs.Iri.{has_scheme};
-ghost use Rattle.rx_refs.specs.Resolve.{cleaned};
-ghost use Rattle.rx_rdfa.specs.Readings.{is_term};
+ghost use Rattle.rx_rdfa.specs.Common.{chars, has_scheme, cleaned, is_term};
 ghost use Rattle.rx_curie.specs.TermIris.{IsTermIri};
 
 use crate::comparisons::are_text;

@@ -1,8 +1,6 @@
 //! The predicates of `property`, `rel` and `rev`.
 ghost use Rattle.std.specs.Prelude.{◌≡◌, ◌++◌, false, true, IfOk, OnOk, option_map, option_and_then, option_to_list};
-ghost use Rattle.std.specs.Str.{chars};
-ghost use Rattle.rx_terms.specs.Text.{seen_slice};
-ghost use Rattle.rx_rdfa.specs.Refusals.{is_relative};
+ghost use Rattle.rx_rdfa.specs.Common.{chars, seen_slice, is_relative};
 ghost use Rattle.rx_rdfa.specs.Readings as readings;
 ghost use Rattle.rx_rdfa.specs.Facts as the;
 ghost use Rattle.rx_names.specs.Lines.{vocabulary_of};

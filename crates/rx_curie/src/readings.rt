@@ -1,13 +1,9 @@
 //! What a word of an attribute means.
 ghost use Rattle.std.specs.Prelude.{◌≡◌, true, false, Option, Some, None, option_map, codes, if◌then◌else◌};
-ghost use Rattle.std.specs.Str.{chars};
-ghost use Rattle.rx_terms.specs.Text.{begins_with, seen_slice};
-ghost use Rattle.rx_rdfa.specs.Names.{vocab};
-ghost use Rattle.rx_rdfa.specs.Refusals.{is_relative};
+ghost use Rattle.rx_rdfa.specs.Common.{chars, begins_with, seen_slice, vocab, is_relative, has_scheme};
 ghost use Rattle.rx_rdfa.specs.Readings as the;
 ghost use Rattle.rx_names.specs.Lines.{vocabulary_of};
 ghost use Rattle.rx_names.specs.Views.{names_seen, Along};
-ghost use Rattle.rx_terms.specs.Iri.{has_scheme};
 ghost use Rattle.rx_curie.specs.Brackets.{inside_brackets};
 ghost use Rattle.rx_curie.specs.Absolute.{none_or_absolute, none_or_named};
 ghost use Rattle.rx_curie.specs.Seen.{reading_seen};

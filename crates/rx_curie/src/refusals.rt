@@ -1,10 +1,6 @@
 //! The faults for which a start tag is refused.
 ghost use Rattle.std.specs.Prelude.{◌≡◌, ◌++◌, false, true, None, Some, bytes_eq, option_map};
-ghost use Rattle.std.specs.List.{list_all};
-ghost use Rattle.std.specs.Str.{chars};
-ghost use Rattle.rx_terms.specs.Ascii.{is_ascii};
-ghost use Rattle.rx_terms.specs.Text.{seen_slice};
-ghost use Rattle.rx_rdfa.specs.Refusals.{is_relative, refusal};
+ghost use Rattle.rx_rdfa.specs.Common.{list_all, chars, is_ascii, seen_slice, is_relative, refusal};
 ghost use Rattle.rx_rdfa.specs.Facts as the;
 ghost use Rattle.rx_names.specs.Lines.{vocabulary_of};
 ghost use Rattle.rx_names.specs.Views.{names_seen, Along};

@@ -1,7 +1,6 @@
 //! What `about`, `resource`, `href` and `src` name.
 ghost use Rattle.std.specs.Prelude.{◌≡◌, IfOk, OnOk, option_map};
-ghost use Rattle.std.specs.Str.{chars};
-ghost use Rattle.rx_terms.specs.Text.{seen_slice};
+ghost use Rattle.rx_terms.specs.Common.{chars, seen_slice};
 ghost use Rattle.rx_rdfa.specs.Facts as the;
 ghost use Rattle.rx_names.specs.Views.{Along};
 ghost use Rattle.rx_curie.specs.Given.{resource_in};

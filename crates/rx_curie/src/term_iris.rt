@@ -1,8 +1,6 @@
 //! The IRIs of terms under a vocabulary, of which a page has few, and most of them many times.
 ghost use Rattle.std.specs.Prelude.{◌≡◌, Some, true, false, IfOk, IfSome};
-ghost use Rattle.std.specs.Str.{chars};
-ghost use Rattle.rx_rdfa.specs.Refusals.{is_relative};
-ghost use Rattle.rx_rdfa.specs.Readings.{is_term, read_term};
+ghost use Rattle.rx_rdfa.specs.Common.{chars, is_relative, is_term, read_term};
 ghost use Rattle.rx_names.specs.Lines.{vocabulary_of};
 ghost use Rattle.rx_names.specs.Views.{names_seen, Along};
 ghost use Rattle.rx_curie.specs.TermIris.{MakesIri};

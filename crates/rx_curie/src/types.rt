@@ -1,10 +1,7 @@
 //! The types of `typeof`.
 ghost use Rattle.std.specs.Prelude.{◌≡◌, false, true, IfOk, OnOk, option_map};
-ghost use Rattle.std.specs.Str.{chars};
-ghost use Rattle.rx_terms.specs.Text.{seen_slice};
-ghost use Rattle.rx_rdfa.specs.Refusals.{is_relative};
+ghost use Rattle.rx_rdfa.specs.Common.{chars, seen_slice, is_relative, is_term};
 ghost use Rattle.rx_rdfa.specs.Readings as readings;
-ghost use Rattle.rx_rdfa.specs.Readings.{is_term};
 ghost use Rattle.rx_rdfa.specs.Facts as the;
 ghost use Rattle.rx_names.specs.Lines.{vocabulary_of};
 ghost use Rattle.rx_names.specs.Views.{names_seen, Along};

@@ -1,20 +1,7 @@
 -- The start of an element.
-use Rattle.rx_terms.proofs.Common.{◌≡◌, ◌∙◌, ℕ, suc, ◌+◌, ◌≤◌, ◌^◌, ◌⊎◌, inl, inr, Bool, true, false, List, [], ◌∷◌, ◌++◌, map, filter_map, length, Option, Some, None, option_map, is_none, bytes_eq, nat_eq, refl, sym, ap, ap₂, subst, subst₂, arith, append-nil, length-append, IfSome, is_some, if◌then◌else◌, map-append, filter-append, Chars, by_test}
-use Rattle.std.proofs.Common.{not, ◌&&◌, ◌||◌, unwrap_or}
-use Rattle.std.proofs.lemmas.Option.{IfSome_then}
-use Rattle.std.specs.Prelude.{encode_utf8_all}
-use Rattle.rx_model.proofs.Common.{Among, Term, Triple, same_node, rename_node, rename_term, rename, spo, Among_left, Among_right, Among_map, false_unless, exact_texts}
-use Rattle.rx_rdfa.specs.Naming.{Path, Naming}
-use Rattle.rx_rdfa.specs.Blanks.{Bnode, Author, Made, Cell, Owner, First, Of, Below, same_owner, same_bnode, model}
-use Rattle.rx_rdfa.specs.Facts.{Facts}
-use Rattle.rx_rdfa.specs.Resources.{Inherited, Standing, Resources, resources}
-use Rattle.rx_rdfa.specs.Inherited.{listed, handed, own_owner, object_below}
-use Rattle.rx_rdfa.specs.Value.{rule, value_now, value_of_text}
-use Rattle.rx_rdfa.specs.Element.{start_of, end_of, text_value, properties_by}
-use Rattle.rx_rdfa.specs.Lists.{Entry, map_entry, entry, linked, touched, awaited, entries_by, of_owner}
+use Rattle.rx_rdfa.proofs.Common.{IfSome, is_some, if◌then◌else◌, encode_utf8_all, map-append, filter-append, Chars, by_test, IfSome_then, Among, Term, Triple, same_node, rename_node, rename_term, rename, spo, Among_left, Among_right, Among_map, false_unless, exact_texts, Path, Naming, Bnode, Author, Made, Cell, Owner, First, Of, Below, same_owner, same_bnode, model, Facts, Inherited, Standing, Resources, resources, listed, handed, own_owner, object_below, rule, value_now, value_of_text, start_of, end_of, text_value, properties_by, Entry, map_entry, entry, linked, touched, awaited, entries_by, of_owner, rename_slot, rename_inherited, labels, exact_bnodes}
+use Rattle.std.proofs.Common.{◌≡◌, ◌∙◌, ℕ, suc, ◌+◌, ◌≤◌, ◌^◌, ◌⊎◌, inl, inr, Bool, true, false, List, [], ◌∷◌, ◌++◌, map, filter_map, length, Option, Some, None, option_map, is_none, bytes_eq, nat_eq, refl, sym, ap, ap₂, subst, subst₂, arith, append-nil, length-append, not, ◌&&◌, ◌||◌, unwrap_or}
 use Rattle.rx_rdfa.specs.Machine.{Slot, Full, Waiting, fill, fill_slot, slot_of, rule_at, value_at, reserved, inherit, Machine, enter}
-use Rattle.rx_rdfa.specs.Renaming.{rename_slot, rename_inherited, labels}
-use Rattle.rx_rdfa.proofs.Exact.{exact_bnodes}
 use Rattle.rx_lists.specs.declared.lists.SlotId.{SlotId}
 use Rattle.rx_eval.specs.Labels.{Numbered, number_of}
 use Rattle.rx_eval.specs.Moment.{moment}

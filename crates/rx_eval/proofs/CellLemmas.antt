@@ -1,16 +1,8 @@
 -- The lists of an owner at its end: their cells draw numbers, and the triples are the rules'.
-use Rattle.rx_terms.proofs.Common.{◌≡◌, ◌∙◌, ℕ, suc, ◌+◌, ◌<◌, ◌≤◌, ◌^◌, ◌⊎◌, inl, inr, Bool, true, false, cond, List, [], ◌∷◌, ◌++◌, map, filter, flat_map, filter_map, length, Option, Some, None, option_map, option_to_list, bytes_eq, refl, sym, ap, ap₂, subst, arith, true≢false, if◌then◌else◌, filter_map-append, nat_tests, Chars, by_test}
-use Rattle.std.proofs.Common.{not, unwrap_or}
-use Rattle.std.specs.Prelude.{nat_lt}
-use Rattle.rx_model.proofs.Common.{Among, distinct, Node, Blank, Term, rename_node, rename_term, rename, spo, Among_of_filter, false_unless, exact_texts, rdf_first, rdf_rest}
-use Rattle.rx_rdfa.specs.Blanks.{Bnode, Author, Made, Cell, Owner, same_owner, model}
-use Rattle.rx_rdfa.specs.Element.{to_node}
+use Rattle.rx_rdfa.proofs.Common.{if◌then◌else◌, nat_lt, filter_map-append, nat_tests, Chars, by_test, Among, distinct, Node, Blank, Term, rename_node, rename_term, rename, spo, Among_of_filter, false_unless, exact_texts, rdf_first, rdf_rest, Bnode, Author, Made, Cell, Owner, same_owner, model, to_node, Slot, Full, Waiting, settle, rename_slot, exact_owners, term_then}
+use Rattle.std.proofs.Common.{◌≡◌, ◌∙◌, ℕ, suc, ◌+◌, ◌<◌, ◌≤◌, ◌^◌, ◌⊎◌, inl, inr, Bool, true, false, cond, List, [], ◌∷◌, ◌++◌, map, filter, flat_map, filter_map, length, Option, Some, None, option_map, option_to_list, bytes_eq, refl, sym, ap, ap₂, subst, arith, true≢false, not, unwrap_or}
 use Rattle.rx_rdfa.specs.Lists.{Entry, map_entry, of_owner, lists, items, cell_or_nil, chain, list_of, cells_from, cells}
-use Rattle.rx_rdfa.specs.Machine.{Slot, Full, Waiting, settle}
-use Rattle.rx_rdfa.specs.Renaming.{rename_slot}
 use Rattle.rx_rdfa.specs.Tables.{Table, put, table_from, table_of}
-use Rattle.rx_rdfa.proofs.Exact.{exact_owners}
-use Rattle.rx_rdfa.proofs.Growing.{term_then}
 use Rattle.rx_rdfa.proofs.RenamedLists.{CellsAlike, of_owner_rename, cells_alike, cells_from_rename}
 use Rattle.rx_rdfa.proofs.RenamedMachine.{settle_rename}
 use Rattle.rx_rdfa.proofs.Tables.{tables_are_lists}

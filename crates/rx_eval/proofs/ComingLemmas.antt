@@ -1,6 +1,5 @@
 -- Elements that are still to come.
-use Rattle.std.proofs.Common.{◌≡◌, ◌∙◌, ℕ, suc, inl, inr, [], ◌∷◌, ◌++◌, length, refl, sym, ap, arith, append_assoc, length-append}
-use Rattle.rx_rdfa.specs.Naming.{Path}
+use Rattle.rx_rdfa.proofs.Common.{◌≡◌, ◌∙◌, ℕ, suc, inl, inr, [], ◌∷◌, ◌++◌, length, refl, sym, ap, arith, append_assoc, length-append, Path}
 use Rattle.rx_eval.specs.Standing.{Ahead, Coming}
 
 -- two that end alike in front of what they share

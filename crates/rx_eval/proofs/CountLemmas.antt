@@ -1,8 +1,6 @@
 -- The labels of types are counted one after another.
-use Rattle.std.proofs.Common.{◌≡◌, ◌∙◌, ℕ, suc, ◌+◌, List, length, drop, flat_map, Some, slice_get, ap, arith, length-append}
-use Rattle.rx_rdfa.specs.Renaming.{label_of}
+use Rattle.rx_eval.proofs.Common.{◌≡◌, ◌∙◌, ℕ, suc, ◌+◌, List, length, drop, flat_map, Some, slice_get, ap, arith, length-append, label_of, ref_seen, refs_seen}
 use Rattle.rx_curie.specs.declared.refs.Ref.{Ref as CodeRef}
-use Rattle.rx_curie.specs.Seen.{ref_seen, refs_seen}
 use Rattle.rx_eval.proofs.DrawLemmas.{drop_at}
 
 abbrev pub labels_in : List CodeRef → ℕ

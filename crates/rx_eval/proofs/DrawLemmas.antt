@@ -1,10 +1,6 @@
 -- Labels draw their numbers one after another.
-use Rattle.rx_terms.proofs.Common.{◌≡◌, ◌∙◌, Result, Ok, Err, IfOk, ℕ, suc, Some, slice_get, ◌+◌, ◌<◌, ◌≤◌, ◌^◌, List, [], ◌∷◌, ◌++◌, length, drop, take, flat_map, refl, sym, ap, subst, arith, length-append, append-nil, append_assoc, add-one, take_all, slice_get_within, get_or_from_slice_get, is_some, IfOk-weaker, Chars, by_test}
-use Rattle.std.proofs.Common.{OnErr}
+use Rattle.rx_rdfa.proofs.Common.{◌≡◌, ◌∙◌, Result, Ok, Err, IfOk, ℕ, suc, Some, slice_get, ◌+◌, ◌<◌, ◌≤◌, ◌^◌, List, [], ◌∷◌, ◌++◌, length, drop, take, flat_map, refl, sym, ap, subst, arith, length-append, append-nil, append_assoc, add-one, OnErr, take_all, at_drop_all, slice_get_within, get_or_from_slice_get, is_some, IfOk-weaker, on_err_weaker, Chars, by_test, label_of}
 use Rattle.std.proofs.Math.Seq.{take-suc, drop-cons}
-use Rattle.std.proofs.lemmas.List.{at_drop_all}
-use Rattle.std.proofs.lemmas.Result.{on_err_weaker}
-use Rattle.rx_rdfa.specs.Renaming.{label_of}
 use Rattle.rx_curie.specs.declared.refs.Ref.{Ref as CodeRef}
 use Rattle.rx_curie.specs.Seen.{ref_seen, refs_seen}
 use Rattle.rx_eval.specs.Labels.{Numbered, number_of, draw, Drawn, DrawnSome}

@@ -1,18 +1,11 @@
 -- One element by the rules' names and by numbers.
-use Rattle.rx_terms.proofs.Common.{◌≡◌, ◌∙◌, ℕ, suc, Bool, true, false, List, [], ◌++◌, map, filter_map, length, Option, Some, None, option_map, is_none, nat_eq, refl, sym, ap, ap₂, and_from, if◌then◌else◌, option_or, Chars}
-use Rattle.std.proofs.Common.{not, ◌&&◌, is_some, unwrap_or}
-use Rattle.std.specs.Bool.{then_some}
-use Rattle.rx_model.proofs.Common.{Among, Node, Blank, Term, Triple, same_node, rename_node, rename_term, rename, or_left, or_right}
-use Rattle.rx_rdfa.specs.Naming.{Path, Naming}
-use Rattle.rx_rdfa.specs.Blanks.{Bnode, Author, Made, Owner, Of, Below, same_bnode, model}
-use Rattle.rx_rdfa.specs.Facts.{Facts}
+use Rattle.rx_rdfa.proofs.Common.{and_from, if◌then◌else◌, option_or, Chars, then_some, Among, Node, Blank, Term, Triple, same_node, rename_node, rename_term, rename, Path, Naming, Bnode, Author, Made, Owner, Of, Below, same_bnode, model, Facts, Rule, rule, value_now, value_of_text, value, entries_by, rename_entry, rename_resources, rename_rule, rename_inherited, rename_standing, labels, AgreeAt}
+use Rattle.std.proofs.Common.{◌≡◌, ◌∙◌, ℕ, suc, Bool, true, false, List, [], ◌++◌, map, filter_map, length, Option, Some, None, option_map, is_none, nat_eq, refl, sym, ap, ap₂, not, ◌&&◌, is_some, unwrap_or}
+use Rattle.rx_model.proofs.Sets.{or_left, or_right}
 use Rattle.rx_rdfa.specs.Resources.{Inherited, Standing, Resources, resources}
 use Rattle.rx_rdfa.specs.Inherited.{hangs, object_below, handed, below}
-use Rattle.rx_rdfa.specs.Value.{Rule, rule, value_now, value_of_text, value}
 use Rattle.rx_rdfa.specs.Element.{of_vocabulary, types_by, links_by, properties_by, completed, text_value, start_of, end_of}
-use Rattle.rx_rdfa.specs.Lists.{entries_by}
 use Rattle.rx_rdfa.specs.Machine.{Slot, Full, Waiting, slot_of, rule_at, value_at, reserved}
-use Rattle.rx_rdfa.specs.Renaming.{rename_entry, rename_resources, rename_rule, rename_inherited, rename_standing, labels, AgreeAt}
 use Rattle.rx_rdfa.proofs.Sent.{map_or, map_then}
 use Rattle.rx_rdfa.proofs.RenamedResources.{same_nodes, resources_rename, below_rename, hangs_is}
 use Rattle.rx_rdfa.proofs.RenamedElement.{rule_rename, value_now_rename, value_rename, start_rename, end_rename}

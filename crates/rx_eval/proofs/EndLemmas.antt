@@ -1,19 +1,5 @@
 -- The end of an element.
-use Rattle.rx_terms.proofs.Common.{◌≡◌, ◌∙◌, ℕ, suc, ◌<◌, ◌≤◌, ◌⊎◌, inl, inr, Bool, true, false, List, [], ◌∷◌, ◌++◌, map, length, Option, Some, None, option_map, bytes_eq, refl, sym, ap, ap₂, subst, subst₂, arith, append-nil, append_assoc, length-append, or_parts, IfSome, if◌then◌else◌, map-append, Decides-eqb, Chars, by_test}
-use Rattle.std.proofs.Common.{◌||◌, ◌==◌}
-use Rattle.std.proofs.lemmas.Option.{IfSome_then}
-use Rattle.rx_model.proofs.Common.{Among, Iri, Term, Triple, rename_term, rename, false_unless, exact_texts}
-use Rattle.rx_rdfa.specs.Naming.{Path}
-use Rattle.rx_rdfa.specs.Blanks.{Bnode, Made, Cell, Owner, First, Of, Below, same_owner, model}
-use Rattle.rx_rdfa.specs.Resources.{Inherited, resources}
-use Rattle.rx_rdfa.specs.Inherited.{below, up}
-use Rattle.rx_rdfa.specs.Element.{end_of}
-use Rattle.rx_rdfa.specs.Lists.{Entry, map_entry, of_owner, cells}
-use Rattle.rx_rdfa.specs.Calls.{Call, Leave, after}
-use Rattle.rx_rdfa.specs.Machine.{Slot, Full, Waiting, fill, fill_slot, settle, number, Machine, value_at, left, leave_with, leave, begun}
-use Rattle.rx_rdfa.specs.Renaming.{rename_slot}
-use Rattle.rx_rdfa.proofs.Calls.{after-append}
-use Rattle.rx_rdfa.proofs.Exact.{exact_owners}
+use Rattle.rx_rdfa.proofs.Common.{◌≡◌, ◌∙◌, ℕ, suc, ◌<◌, ◌≤◌, ◌⊎◌, inl, inr, Bool, true, false, List, [], ◌∷◌, ◌++◌, map, length, Option, Some, None, option_map, bytes_eq, refl, sym, ap, ap₂, subst, subst₂, arith, append-nil, append_assoc, length-append, ◌||◌, ◌==◌, or_parts, IfSome, if◌then◌else◌, map-append, Decides-eqb, Chars, by_test, IfSome_then, Among, Iri, Term, Triple, rename_term, rename, false_unless, exact_texts, Path, Bnode, Made, Cell, Owner, First, Of, Below, same_owner, model, Inherited, resources, below, up, end_of, Entry, map_entry, of_owner, cells, Call, Leave, after, Slot, Full, Waiting, fill, fill_slot, settle, number, Machine, value_at, left, leave_with, leave, begun, rename_slot, after-append, exact_owners}
 use Rattle.rx_rdfa.proofs.RenamedMachine.{fill_rename}
 use Rattle.rx_eval.specs.TextRules.{text_literal}
 use Rattle.rx_eval.specs.States.{Text, Frame, State}

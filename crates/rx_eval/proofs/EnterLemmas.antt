@@ -1,26 +1,12 @@
 -- The start of an element: what its parts come to is what the rules say.
-use Rattle.rx_terms.proofs.Common.{◌≡◌, ◌∙◌, ℕ, suc, Bool, true, false, List, [], ◌∷◌, ◌++◌, map, filter_map, length, Option, Some, None, option_map, nat_eq, refl, sym, ap, ap₂, arith, append_assoc, length-append, Result, Ok, Err, OnOk, not, ◌&&◌, is_some, if◌then◌else◌, map-append, Chars, by_test}
-use Rattle.std.specs.Prelude.{is_none}
+use Rattle.rx_eval.proofs.Common.{◌≡◌, ◌∙◌, ℕ, suc, Bool, true, false, List, [], ◌∷◌, ◌++◌, map, filter_map, length, Option, Some, None, option_map, nat_eq, refl, sym, ap, ap₂, arith, append_assoc, length-append, Result, Ok, Err, OnOk, not, ◌&&◌, is_some, if◌then◌else◌, is_none, map-append, Chars, by_test, Node, Term, same_node, node_seen, term_seen, Naming, Facts, rule, value_now, gathers, entry, entries_by, linked, awaited, Owners, owned, Numbered, moment, resource_term, Owning, owning_seen, owners_seen, put_entries, Entries, linked_entries, awaited_entry, entries_in, next_number, naming_by, own_number, begun_seen, begun_for, owners_begun, owner_begun, owner_for, owner_seen}
 use Rattle.rx_terms.specs.declared.triples.Node.{Node as CodeNode}
 use Rattle.rx_terms.specs.declared.triples.Term.{Term as CodeTerm}
-use Rattle.rx_model.proofs.Common.{Node, Term, same_node, node_seen, term_seen}
-use Rattle.rx_rdfa.specs.Naming.{Naming}
-use Rattle.rx_rdfa.specs.Facts.{Facts}
 use Rattle.rx_rdfa.specs.Resources.{Hanging, Forward, Reverse, InList, Inherited, Standing, Resources, resources, only}
 use Rattle.rx_rdfa.specs.Inherited.{listed, hangs, object_below, own_owner, owner_below, handed, below}
-use Rattle.rx_rdfa.specs.Value.{rule, value_now, gathers}
-use Rattle.rx_rdfa.specs.Lists.{entry, entries_by, linked, awaited}
-use Rattle.rx_lists.specs.Owners.{Owners, owned}
 use Rattle.rx_lists.specs.declared.lists.Owner.{Owner}
-use Rattle.rx_eval.specs.Labels.{Numbered}
-use Rattle.rx_eval.specs.Moment.{moment}
-use Rattle.rx_eval.specs.TextRules.{resource_term}
 use Rattle.rx_eval.specs.Handing.{begun, begun_number}
 use Rattle.rx_eval.specs.Elements.{handed_by, owner_in, begun_below, begun_below_number}
-use Rattle.rx_eval.specs.OwnersSeen.{Owning, owning_seen, owners_seen, put_entries}
-use Rattle.rx_eval.specs.Listing.{Entries, linked_entries, awaited_entry, entries_in}
-use Rattle.rx_eval.specs.Entering.{next_number, naming_by, own_number, begun_seen, begun_for, owners_begun, owner_begun, owner_for}
-use Rattle.rx_eval.specs.States.{owner_seen}
 
 -- ---- the owners
 

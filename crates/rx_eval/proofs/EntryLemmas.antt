@@ -1,14 +1,11 @@
 -- Entries that are put one after another.
-use Rattle.rx_terms.proofs.Common.{◌≡◌, ◌∙◌, ℕ, zero, suc, ◌+◌, ◌≤◌, List, [], ◌∷◌, ◌++◌, length, drop, Option, Some, None, slice_get, bytes_eq, refl, sym, ap, add-one, append_assoc, append-nil, Chars, by_test}
+use Rattle.rx_eval.proofs.Common.{◌≡◌, ◌∙◌, ℕ, zero, suc, ◌+◌, ◌≤◌, List, [], ◌∷◌, ◌++◌, length, drop, Option, Some, None, slice_get, bytes_eq, refl, sym, ap, add-one, append_assoc, append-nil, Chars, by_test, put, SlotId, put_each, slots_for, put_awaited}
 use Rattle.std.proofs.Math.Seq.{set-append_seam}
 use Rattle.rx_terms.specs.declared.triples.Term.{Term}
-use Rattle.rx_rdfa.specs.Tables.{put}
 use Rattle.rx_lists.specs.Owners.{owned, Owners, Slots, changed, with_term, place_of, slots_of, lists_of, open_at}
 use Rattle.rx_lists.specs.SlotIds.{slot_in}
 use Rattle.rx_lists.specs.declared.lists.Owner.{Owner}
-use Rattle.rx_lists.specs.declared.lists.SlotId.{SlotId}
 use Rattle.rx_eval.specs.declared.contexts.IncompleteTriple.{IncompleteTriple}
-use Rattle.rx_eval.specs.Entries.{put_each, slots_for, put_awaited}
 use Rattle.rx_eval.proofs.DrawLemmas.{drop_at, nothing_left}
 
 -- a slot that is reserved and filled is an item

@@ -1,11 +1,5 @@
 -- Places are filled at the ends of elements: what becomes of that when slots are put, and owners begin and end.
-use Rattle.rx_terms.proofs.Common.{◌≡◌, ◌∙◌, ℕ, zero, suc, ◌<◌, ◌≤◌, Bool, false, List, [], ◌∷◌, ◌++◌, map, length, Option, Some, None, option_map, refl, sym, ap, ap₂, subst, subst₂, arith, length-append, length-set, or_parts, map-append, by_test}
-use Rattle.std.proofs.Common.{◌||◌}
-use Rattle.rx_model.proofs.Common.{Node, Term}
-use Rattle.rx_rdfa.specs.Naming.{Path}
-use Rattle.rx_rdfa.specs.Blanks.{Owner, same_owner}
-use Rattle.rx_rdfa.specs.Lists.{Entry, map_entry, of_owner}
-use Rattle.rx_rdfa.specs.Machine.{Slot, Full, Waiting, fill, fill_slot}
+use Rattle.rx_rdfa.proofs.Common.{◌≡◌, ◌∙◌, ℕ, zero, suc, ◌<◌, ◌≤◌, Bool, false, List, [], ◌∷◌, ◌++◌, map, length, Option, Some, None, option_map, refl, sym, ap, ap₂, subst, subst₂, arith, length-append, ◌||◌, length-set, map-append, or_parts, by_test, Node, Term, Path, Owner, same_owner, Entry, map_entry, of_owner, Slot, Full, Waiting, fill, fill_slot}
 use Rattle.rx_rdfa.specs.Tables.{Table, table_from}
 use Rattle.rx_lists.specs.declared.lists.SlotId.{SlotId}
 use Rattle.rx_eval.specs.OwnersSeen.{Owning, owning, put_entries, with_item, fill_seen, fill_all}

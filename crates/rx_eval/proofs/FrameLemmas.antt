@@ -1,8 +1,7 @@
 -- The last frame.
-use Rattle.std.proofs.Common.{◌≡◌, ◌∙◌, ℕ, zero, suc, ◌-◌, ◌≤◌, List, [], ◌∷◌, length, get_or, refl, ap, arith}
+use Rattle.rx_eval.proofs.Common.{◌≡◌, ◌∙◌, ℕ, zero, suc, ◌-◌, ◌≤◌, List, [], ◌∷◌, length, get_or, refl, ap, arith, around_in}
 use Rattle.rx_eval.specs.declared.contexts.EvaluationContext.{EvaluationContext}
 use Rattle.rx_eval.specs.declared.frames.Frame.{Frame}
-use Rattle.rx_eval.specs.Opening.{around_in}
 
 last_context : (page : EvaluationContext) (frames : List Frame) (n : ℕ) (f : Frame) → length frames ≡ suc n → f ≡ get_or frames n f → f.context ≡ around_in page frames
 last_context page (x ∷ []) zero f e h = ap (λ (y : Frame). y.context) h

@@ -1,17 +1,6 @@
 -- The frame of an element that is opened: its owners, and its text where it gathers that.
-use Rattle.rx_terms.proofs.Common.{◌≡◌, ◌∙◌, ℕ, Bool, true, false, List, [], ◌++◌, Option, Some, None, refl, ap, subst, sym, both, ◌&&◌, is_some, IfSome, if◌then◌else◌, Chars}
-use Rattle.rx_rdfa.specs.Naming.{Naming}
-use Rattle.rx_rdfa.specs.Resources.{Standing, Resources, resources}
-use Rattle.rx_rdfa.specs.Inherited.{listed, object_below, own_owner}
-use Rattle.rx_rdfa.specs.Lists.{linked, touched}
-use Rattle.rx_lists.specs.declared.lists.SlotId.{SlotId}
-use Rattle.rx_eval.specs.Labels.{Numbered}
-use Rattle.rx_eval.specs.Moment.{moment}
+use Rattle.rx_eval.proofs.Common.{◌≡◌, ◌∙◌, ℕ, Bool, true, false, List, [], ◌++◌, Option, Some, None, refl, ap, subst, sym, both, ◌&&◌, is_some, IfSome, if◌then◌else◌, Chars, Naming, Standing, Resources, resources, listed, object_below, own_owner, linked, touched, SlotId, Numbered, moment, Owning, put_entries, places_for, Entries, own_places, text_seen, Gathers, naming_by, next_number, owner_begun, owner_for, owners_begun, places_by}
 use Rattle.rx_eval.specs.declared.frames.Gathered.{Gathered}
-use Rattle.rx_eval.specs.OwnersSeen.{Owning, put_entries, places_for}
-use Rattle.rx_eval.specs.Listing.{Entries, own_places}
-use Rattle.rx_eval.specs.States.{text_seen}
-use Rattle.rx_eval.specs.Entering.{Gathers, naming_by, next_number, owner_begun, owner_for, owners_begun, places_by}
 use Rattle.rx_eval.proofs.EnterLemmas.{linked_is}
 
 -- ---- the places

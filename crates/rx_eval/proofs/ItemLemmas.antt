@@ -1,15 +1,5 @@
 -- The entries of an element that is opened: which of them are empty, and how they are filled at its end.
-use Rattle.rx_terms.proofs.Common.{◌≡◌, ◌∙◌, ℕ, ◌<◌, ◌≤◌, inl, inr, Bool, true, false, List, [], ◌∷◌, ◌++◌, map, filter_map, length, Option, Some, None, option_map, bytes_eq, refl, sym, ap, ap₂, subst, arith, append_assoc, if◌then◌else◌, map-append, Chars, by_test}
-use Rattle.std.proofs.Common.{◌||◌}
-use Rattle.rx_model.proofs.Common.{Among, Node, Term, Resource, false_unless, exact_texts}
-use Rattle.rx_rdfa.specs.Naming.{Path, Naming}
-use Rattle.rx_rdfa.specs.Blanks.{Bnode, Owner, same_owner}
-use Rattle.rx_rdfa.specs.Resources.{Hanging, Forward, Reverse, InList, Standing, Resources}
-use Rattle.rx_rdfa.specs.Inherited.{listed, hangs, own_owner}
-use Rattle.rx_rdfa.specs.Lists.{Entry, map_entry, entry, linked, touched, valued, awaited, entries_by}
-use Rattle.rx_rdfa.specs.Machine.{Slot, Full, Waiting, fill, fill_slot, slot_of}
-use Rattle.rx_rdfa.specs.Renaming.{rename_slot}
-use Rattle.rx_rdfa.proofs.Exact.{exact_owners}
+use Rattle.rx_rdfa.proofs.Common.{◌≡◌, ◌∙◌, ℕ, ◌<◌, ◌≤◌, inl, inr, Bool, true, false, List, [], ◌∷◌, ◌++◌, map, filter_map, length, Option, Some, None, option_map, bytes_eq, refl, sym, ap, ap₂, subst, arith, append_assoc, ◌||◌, if◌then◌else◌, map-append, Chars, by_test, Among, Node, Term, Resource, false_unless, exact_texts, Path, Naming, Bnode, Owner, same_owner, Hanging, Forward, Reverse, InList, Standing, Resources, listed, hangs, own_owner, Entry, map_entry, entry, linked, touched, valued, awaited, entries_by, Slot, Full, Waiting, fill, fill_slot, slot_of, rename_slot, exact_owners}
 use Rattle.rx_eval.specs.OwnersSeen.{Owning, put_at, put_entries, places_for, fill_all}
 use Rattle.rx_eval.specs.Numbering.{Name, Number}
 use Rattle.rx_eval.specs.Slots.{Slots, Open, owner_place, item_of, slot_waits, waits, HasPlaces, WithinPlaces}

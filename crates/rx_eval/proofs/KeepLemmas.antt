@@ -1,13 +1,7 @@
 -- Which text is kept.
-use Rattle.rx_terms.proofs.Common.{◌≡◌, ◌∙◌, ℕ, suc, ◌<◌, ◌≤◌, ◌-◌, ◌+◌, Bool, true, false, List, [], ◌∷◌, ◌++◌, length, Option, Some, None, option_map, refl, sym, ap, subst, arith, length-append, true≢false, ◌||◌, ◌==◌, if◌then◌else◌, nat_tests, Chars, by_test}
-use Rattle.std.proofs.Common.{is_some}
+use Rattle.rx_eval.proofs.Common.{◌≡◌, ◌∙◌, ℕ, suc, ◌<◌, ◌≤◌, ◌-◌, ◌+◌, Bool, true, false, List, [], ◌∷◌, ◌++◌, length, Option, Some, None, option_map, refl, sym, ap, subst, arith, length-append, true≢false, is_some, ◌||◌, ◌==◌, if◌then◌else◌, nat_tests, Chars, by_test, frame_seen, text_seen, Inherited, context_seen, all_frames, IsRooted, gathers_some, first_gathering, first_of, is_place, IsSound}
 use Rattle.rx_eval.specs.declared.frames.Frame.{Frame as CodeFrame}
 use Rattle.rx_eval.specs.declared.frames.Gathered.{Gathered}
-use Rattle.rx_eval.specs.States.{frame_seen, text_seen}
-use Rattle.rx_rdfa.specs.Resources.{Inherited}
-use Rattle.rx_eval.specs.Contexts.{context_seen}
-use Rattle.rx_eval.specs.Skipping.{all_frames, IsRooted}
-use Rattle.rx_eval.specs.Keeping.{gathers_some, first_gathering, first_of, is_place, IsSound}
 use Rattle.rx_eval.proofs.ListLemmas.{suc_is}
 use Rattle.rx_eval.proofs.NumberLemmas.{none_is}
 use Rattle.rx_eval.proofs.SkippedLemmas.{framed_more, counted_length, one_longer, skipped_fit, rooted_more, rooted_less, rooted_in, none_gathers, others_gather}

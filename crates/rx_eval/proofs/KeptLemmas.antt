@@ -1,17 +1,5 @@
 -- Which frames keep text, by the rules.
-use Rattle.rx_terms.proofs.Common.{◌≡◌, ◌∙◌, Bool, true, false, List, [], ◌∷◌, ◌++◌, map, refl, sym, ap, ap₂, map-append, Chars}
-use Rattle.std.proofs.Common.{is_some}
-use Rattle.rx_rdfa.specs.Naming.{Path}
-use Rattle.rx_rdfa.specs.Facts.{Facts}
-use Rattle.rx_rdfa.specs.Blanks.{Bnode, Owner, model}
-use Rattle.rx_rdfa.specs.Resources.{Standing}
-use Rattle.rx_rdfa.specs.Inherited.{inherited, up}
-use Rattle.rx_rdfa.specs.Machine.{begun}
-use Rattle.rx_rdfa.specs.Calls.{Call, Line, after, line_after, no_line}
-use Rattle.rx_rdfa.proofs.Calls.{standings_of, at_after, at_begun}
-use Rattle.rx_eval.specs.States.{Frame, State}
-use Rattle.rx_eval.specs.Numbering.{Numbering}
-use Rattle.rx_eval.specs.Standing.{Layer, frames_in, gathers_text, LayersStand, Phase}
+use Rattle.rx_eval.proofs.Common.{◌≡◌, ◌∙◌, Bool, true, false, List, [], ◌∷◌, ◌++◌, map, refl, sym, ap, ap₂, is_some, map-append, Chars, Path, Facts, Bnode, Owner, model, Standing, inherited, up, begun, Call, Line, after, line_after, no_line, standings_of, at_after, at_begun, Frame, State, Numbering, Layer, frames_in, gathers_text, LayersStand, Phase}
 use Rattle.rx_eval.specs.KeptTexts.{gathering_along, gathering_after, KeepsWhereGathered}
 
 abbrev keeps : Frame → Bool

@@ -1,11 +1,7 @@
 -- Labels and their numbers.
-use Rattle.rx_terms.proofs.Common.{◌≡◌, ◌∙◌, ℕ, ◌+◌, ◌<◌, false, cond, List, [], ◌∷◌, ◌++◌, map, length, get_or, Some, None, bytes_eq, refl, sym, ap, ap₂, subst, arith, Result, Ok, Err, OnOk, position_or_len, list_any, chars, IsUtf8, map-append, length-map, by_test, same-chars}
-use Rattle.std.specs.List.{position}
-use Rattle.std.specs.Prelude.{nat_lt}
-use Rattle.rx_model.proofs.Common.{exact_texts}
+use Rattle.rx_eval.proofs.Common.{◌≡◌, ◌∙◌, ℕ, ◌+◌, ◌<◌, false, cond, List, [], ◌∷◌, ◌++◌, map, length, get_or, Some, None, bytes_eq, refl, sym, ap, ap₂, subst, arith, Result, Ok, Err, OnOk, position_or_len, list_any, position, chars, IsUtf8, map-append, length-map, by_test, same-chars, nat_lt, exact_texts, Numbered, number_of}
 use Rattle.rx_lists.specs.Rows.{first_place, FoundAt}
 use Rattle.rx_lists.proofs.RowLemmas.{found_in, same_turned, not_first, behind}
-use Rattle.rx_eval.specs.Labels.{Numbered, number_of}
 use Rattle.rx_eval.specs.Rows.{rows, IsNew}
 
 number_at : (p : List ℕ) (ks : List (List ℕ)) (ns : List ℕ) (d : ℕ) → length ks ≡ length ns → first_place p ks < length ks → Some (get_or ns (first_place p ks) d) ≡ number_of (rows ks ns) p

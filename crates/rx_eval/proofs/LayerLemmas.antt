@@ -1,14 +1,5 @@
 -- The frames of the open elements, and the owners that are open.
-use Rattle.rx_terms.proofs.Common.{◌≡◌, ◌∙◌, ℕ, suc, ◌+◌, ◌<◌, ◌≤◌, ⊎_elim, false, List, [], ◌∷◌, ◌++◌, map, length, Option, Some, None, option_map, refl, sym, ap, subst, arith, append-nil, length-append, IfSome, cases_lt, Chars, by_test}
-use Rattle.std.proofs.lemmas.Option.{IfSome_then}
-use Rattle.rx_model.proofs.Common.{Node, false_unless}
-use Rattle.rx_rdfa.specs.Blanks.{Owner, First, Of, Below, same_owner, model}
-use Rattle.rx_rdfa.specs.Resources.{Inherited, resources}
-use Rattle.rx_rdfa.specs.Inherited.{below}
-use Rattle.rx_rdfa.specs.Element.{end_of}
-use Rattle.rx_rdfa.specs.Machine.{value_at, inherit}
-use Rattle.rx_rdfa.specs.Renaming.{rename_inherited}
-use Rattle.rx_rdfa.proofs.Exact.{exact_owners}
+use Rattle.rx_rdfa.proofs.Common.{◌≡◌, ◌∙◌, ℕ, suc, ◌+◌, ◌<◌, ◌≤◌, ⊎_elim, false, List, [], ◌∷◌, ◌++◌, map, length, Option, Some, None, option_map, refl, sym, ap, subst, arith, append-nil, length-append, IfSome, cases_lt, Chars, by_test, IfSome_then, Node, false_unless, Owner, First, Of, Below, same_owner, model, Inherited, resources, below, end_of, value_at, inherit, rename_inherited, exact_owners}
 use Rattle.rx_eval.specs.TextRules.{text_literal}
 use Rattle.rx_eval.specs.States.{Frame}
 use Rattle.rx_eval.specs.Opened.{handed_on}

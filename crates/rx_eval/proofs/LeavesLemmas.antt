@@ -1,14 +1,5 @@
 -- Text, and the end of an element.
-use Rattle.rx_terms.proofs.Common.{◌≡◌, ◌∙◌, ℕ, suc, inl, inr, Bool, true, false, List, [], ◌∷◌, ◌++◌, map, length, Option, Some, None, refl, sym, ap, ap₂, subst, subst₂, append_assoc, length-map, or_parts, IfSome, is_some, if◌then◌else◌, Chars}
-use Rattle.std.proofs.Common.{◌||◌}
-use Rattle.rx_rdfa.proofs.Growing.{map_then}
-use Rattle.std.proofs.lemmas.Option.{IfSome_then}
-use Rattle.rx_model.proofs.Common.{Among}
-use Rattle.rx_rdfa.specs.Naming.{Path}
-use Rattle.rx_rdfa.specs.Blanks.{Bnode, Owner, First, Of, Below, model}
-use Rattle.rx_rdfa.specs.Inherited.{below}
-use Rattle.rx_rdfa.specs.Machine.{Machine, read}
-use Rattle.rx_rdfa.specs.Renaming.{rename_inherited}
+use Rattle.rx_rdfa.proofs.Common.{◌≡◌, ◌∙◌, ℕ, suc, inl, inr, Bool, true, false, List, [], ◌∷◌, ◌++◌, map, length, Option, Some, None, refl, sym, ap, ap₂, subst, subst₂, append_assoc, ◌||◌, length-map, or_parts, IfSome, is_some, if◌then◌else◌, Chars, map_then, IfSome_then, Among, Path, Bnode, Owner, First, Of, Below, model, below, Machine, read, rename_inherited}
 use Rattle.rx_eval.specs.States.{Frame, State}
 use Rattle.rx_eval.specs.Keeping.{gathers_some}
 use Rattle.rx_eval.specs.Opened.{read_text}

@@ -36,3 +36,4 @@ pub mod DrawLemmas
 pub mod TripleLemmas
 pub mod StartLemmas
 pub mod TextLemmas
+pub mod Common

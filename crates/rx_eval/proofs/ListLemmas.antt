@@ -1,12 +1,6 @@
 -- The owners' tables while slots are put into lists, owners begin and end, and places are filled.
-use Rattle.rx_terms.proofs.Common.{◌≡◌, ◌∙◌, ℕ, suc, Bool, true, false, List, [], ◌∷◌, ◌++◌, map, Option, Some, None, option_map, refl, sym, ap, ap₂, append-nil, append_assoc, if◌then◌else◌, map-append, filter-append, by_test}
-use Rattle.rx_model.proofs.Common.{Term, rename_term}
-use Rattle.rx_rdfa.specs.Blanks.{Bnode, Owner, same_owner}
-use Rattle.rx_rdfa.specs.Lists.{Entry, map_entry, of_owner}
-use Rattle.rx_rdfa.specs.Machine.{Slot, Full, Waiting}
-use Rattle.rx_rdfa.specs.Renaming.{rename_slot, rename_entry}
+use Rattle.rx_rdfa.proofs.Common.{◌≡◌, ◌∙◌, ℕ, suc, Bool, true, false, List, [], ◌∷◌, ◌++◌, map, Option, Some, None, option_map, refl, sym, ap, ap₂, append-nil, append_assoc, if◌then◌else◌, map-append, filter-append, by_test, Term, rename_term, Bnode, Owner, same_owner, Entry, map_entry, of_owner, Slot, Full, Waiting, rename_slot, rename_entry, exact_owners}
 use Rattle.rx_rdfa.specs.Tables.{Table, put, table_from}
-use Rattle.rx_rdfa.proofs.Exact.{exact_owners}
 use Rattle.rx_eval.specs.OwnersSeen.{Owning, owning, put_at, put_entries}
 use Rattle.rx_eval.specs.Numbering.{Name, Number, name_by, named}
 use Rattle.rx_eval.specs.Slots.{Slots, Open, owner_place, item_of, table_in, owners_of, Apart}

@@ -1,8 +1,7 @@
 -- The code's test of nodes is that of the rules.
-use Rattle.rx_terms.proofs.Common.{◌≡◌, ◌↔◌, Bool, true, rules, nat_eq, same_truth}
+use Rattle.rx_model.proofs.Common.{◌≡◌, ◌↔◌, Bool, true, rules, nat_eq, same_truth, same_node, node_seen, exact_numbers, exact_nodes}
 use Rattle.rx_terms.specs.declared.triples.Node.{Node as CodeNode}
 use Rattle.rx_terms.specs.contracts.triples.NodePartialEq.TheImpl as node_impl
-use Rattle.rx_model.proofs.Common.{same_node, node_seen, exact_numbers, exact_nodes}
 
 abbrev pub node_eq : CodeNode → CodeNode → Bool
 node_eq = (node_impl.ghosts).eq

@@ -1,9 +1,5 @@
 -- Labels draw numbers for authors' blank nodes, and an element for its own new one.
-use Rattle.rx_terms.proofs.Common.{◌≡◌, ◌∙◌, ℕ, ◌+◌, ◌<◌, ◌≤◌, ◌^◌, ◌⊎◌, inl, inr, true, false, List, [], ◌∷◌, ◌++◌, length, Option, Some, None, bytes_eq, refl, sym, ap, arith, is_some, Chars, by_test}
-use Rattle.rx_model.proofs.Common.{Among, false_unless, exact_texts}
-use Rattle.rx_rdfa.specs.Naming.{Path}
-use Rattle.rx_rdfa.specs.Blanks.{Bnode, Author, Made, Cell, Owner, same_bnode}
-use Rattle.rx_rdfa.proofs.Exact.{exact_bnodes}
+use Rattle.rx_rdfa.proofs.Common.{◌≡◌, ◌∙◌, ℕ, ◌+◌, ◌<◌, ◌≤◌, ◌^◌, ◌⊎◌, inl, inr, true, false, List, [], ◌∷◌, ◌++◌, length, Option, Some, None, bytes_eq, refl, sym, ap, arith, is_some, Chars, by_test, Among, false_unless, exact_texts, Path, Bnode, Author, Made, Cell, Owner, same_bnode, exact_bnodes}
 use Rattle.rx_eval.specs.Labels.{Numbered, number_of, draw}
 use Rattle.rx_eval.specs.Numbering.{Numbering, Grown, with_number, Numbers}
 use Rattle.rx_eval.proofs.NameLemmas.{grown_same, grown_then}

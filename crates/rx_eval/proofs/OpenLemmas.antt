@@ -1,17 +1,6 @@
 -- The start of an element on the stack.
-use Rattle.rx_terms.proofs.Common.{◌≡◌, ◌∙◌, ℕ, suc, Bool, true, ◌+◌, ◌<◌, ◌^◌, List, [], ◌∷◌, map, length, Option, Some, None, option_map, refl, sym, ap, subst, arith, IfSome, ◌==◌, nat_tests, Chars}
-use Rattle.std.proofs.Common.{is_some}
-use Rattle.rx_rdfa.specs.Facts.{Facts}
-use Rattle.rx_rdfa.specs.Resources.{Inherited}
+use Rattle.rx_eval.proofs.Common.{◌≡◌, ◌∙◌, ℕ, suc, Bool, true, ◌+◌, ◌<◌, ◌^◌, List, [], ◌∷◌, map, length, Option, Some, None, option_map, refl, sym, ap, subst, arith, is_some, IfSome, ◌==◌, nat_tests, Chars, Facts, Inherited, Owning, Gathers, resources_by, places_at, Numbered, Drawn, context_seen, waiting_seen, around_in, all_frames, handed_on, text_seen}
 use Rattle.rx_eval.specs.declared.places.Level.{Level}
-use Rattle.rx_eval.specs.OwnersSeen.{Owning}
-use Rattle.rx_eval.specs.Entering.{Gathers, resources_by, places_at}
-use Rattle.rx_eval.specs.Labels.{Numbered, Drawn}
-use Rattle.rx_eval.specs.Contexts.{context_seen, waiting_seen}
-use Rattle.rx_eval.specs.Opening.{around_in}
-use Rattle.rx_eval.specs.Skipping.{all_frames}
-use Rattle.rx_eval.specs.Opened.{handed_on}
-use Rattle.rx_eval.specs.States.{text_seen}
 use Rattle.rx_eval.specs.declared.contexts.EvaluationContext.{EvaluationContext}
 use Rattle.rx_eval.specs.declared.frames.Frame.{Frame as CodeFrame}
 use Rattle.rx_eval.specs.declared.frames.Gathered.{Gathered}

@@ -1,14 +1,8 @@
 -- An element by two namings that differ only in names for which it isn't asked: that of a new node which it doesn't make,
 -- and those of owners which it doesn't begin.
-use Rattle.rx_terms.proofs.Common.{◌≡◌, ◌∙◌, ◌⊎◌, inl, inr, ℕ, zero, suc, length, arith, Bool, true, false, cond, List, [], ◌∷◌, ◌++◌, map, filter_map, Option, Some, None, option_map, is_none, refl, ap, ap₂, option_or, Chars}
-use Rattle.std.proofs.Common.{not, ◌&&◌, ◌||◌, is_some, unwrap_or}
-use Rattle.rx_model.proofs.Common.{and_left, Node, Iri, Blank, Term, Resource, same_node}
-use Rattle.std.specs.Bool.{then_some}
-use Rattle.rx_rdfa.specs.Naming.{Path, Naming}
-use Rattle.rx_rdfa.specs.Facts.{Facts}
+use Rattle.rx_rdfa.proofs.Common.{option_or, Chars, and_left, Node, Iri, Blank, Term, Resource, same_node, then_some, Path, Naming, Facts, listed, hangs, object_below, own_owner, hanging_of, owner_below, handed, Entry, entry, linked, awaited, entries_by}
+use Rattle.std.proofs.Common.{◌≡◌, ◌∙◌, ◌⊎◌, inl, inr, ℕ, zero, suc, length, arith, Bool, true, false, cond, List, [], ◌∷◌, ◌++◌, map, filter_map, Option, Some, None, option_map, is_none, refl, ap, ap₂, not, ◌&&◌, ◌||◌, is_some, unwrap_or}
 use Rattle.rx_rdfa.specs.Resources.{Hanging, Forward, Reverse, InList, Standing, Resources, resource_named, has_link, is_plain_property, is_root, is_root_child, is_head_or_body, only, about, linked_resource, base_at_root, default_subject, new_blank, of_property, of_no_link, of_link, resources}
-use Rattle.rx_rdfa.specs.Inherited.{listed, hangs, object_below, own_owner, hanging_of, owner_below, handed}
-use Rattle.rx_rdfa.specs.Lists.{Entry, entry, linked, awaited, entries_by}
 use Rattle.rx_eval.specs.Places.{level_at, path_at}
 
 -- ---- options of which the last isn't asked, or is what is had

@@ -1,12 +1,5 @@
 -- The end of one owner: its lists are written and it is forgotten.
-use Rattle.rx_terms.proofs.Common.{◌≡◌, ◌∙◌, ℕ, suc, ◌+◌, List, [], ◌∷◌, ◌++◌, map, length, Option, Some, None, refl, sym, ap, ap₂, subst, append-nil, IfSome, map-append, Chars}
-use Rattle.rx_model.proofs.Common.{Node, Triple, rename_node, rename, false_unless}
-use Rattle.rx_rdfa.specs.Naming.{Path}
-use Rattle.rx_rdfa.specs.Blanks.{Bnode, Made, Cell, Owner, same_owner, model}
-use Rattle.rx_rdfa.specs.Lists.{Entry, map_entry, of_owner, cells}
-use Rattle.rx_rdfa.specs.Machine.{Slot, settle}
-use Rattle.rx_rdfa.specs.Renaming.{rename_slot}
-use Rattle.rx_rdfa.proofs.Exact.{exact_owners}
+use Rattle.rx_rdfa.proofs.Common.{◌≡◌, ◌∙◌, ℕ, suc, ◌+◌, List, [], ◌∷◌, ◌++◌, map, length, Option, Some, None, refl, sym, ap, ap₂, subst, append-nil, IfSome, map-append, Chars, Node, Triple, rename_node, rename, false_unless, Path, Bnode, Made, Cell, Owner, same_owner, model, Entry, map_entry, of_owner, cells, Slot, settle, rename_slot, exact_owners}
 use Rattle.rx_eval.specs.Labels.{Numbered}
 use Rattle.rx_eval.specs.OwnersSeen.{Owning, owning, open_seen, cells_seen, ended_by, forgotten_seen}
 use Rattle.rx_eval.specs.Ending.{Ending, cells_count, end_owner}

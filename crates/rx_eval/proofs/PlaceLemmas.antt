@@ -1,10 +1,6 @@
 -- Places in lists: one that is there stays where it is when lists grow.
-use Rattle.rx_terms.proofs.Common.{◌≡◌, ◌∙◌, ℕ, zero, suc, List, [], ◌∷◌, ◌++◌, map, Option, Some, None, option_to_list, bytes_eq, refl, sym, ap, ap₂, arith, length-append, length-set, Chars, by_test}
-use Rattle.std.proofs.lemmas.List.{set-append_left}
-use Rattle.std.proofs.Math.Seq.{set-append_seam}
-use Rattle.rx_model.proofs.Common.{Term}
+use Rattle.rx_rdfa.proofs.Common.{◌≡◌, ◌∙◌, ℕ, zero, suc, List, [], ◌∷◌, ◌++◌, map, Option, Some, None, option_to_list, bytes_eq, refl, sym, ap, ap₂, arith, length-append, length-set, set-append_left, Chars, by_test, set-append_seam, Term, entry}
 use Rattle.rx_rdfa.specs.Tables.{Table, put}
-use Rattle.rx_rdfa.specs.Lists.{entry}
 use Rattle.rx_lists.specs.declared.lists.SlotId.{SlotId}
 use Rattle.rx_eval.specs.Listing.{Entries}
 use Rattle.rx_eval.specs.OwnersSeen.{Owning, owning, lists_in, open_seen, list_place, item_count, next_place, places_for, put_at, put_entries, with_item, fill_seen, fill_all}

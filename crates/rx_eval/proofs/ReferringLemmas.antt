@@ -1,28 +1,10 @@
 -- An element that says no more than what it refers to, where it may wait: what it opens and ends.
-use Rattle.rx_terms.proofs.Common.{◌≡◌, ◌∙◌, ◌<◌, ◌-◌, ◌+◌, ℕ, suc, Bool, true, false, List, [], ◌∷◌, ◌++◌, length, Option, Some, None, refl, sym, ap, ap₂, subst, append-nil, append_assoc, length-append, arith, ◌||◌, ◌==◌, is_some, if◌then◌else◌, nat_tests, Chars, by_test}
-use Rattle.std.specs.Prelude.{nat_eq, filter_map}
-use Rattle.rx_refs.specs.Resolve.{resolved}
-use Rattle.rx_model.proofs.Common.{node_seen, Node, Iri, Blank, Term, Triple, same_node}
-use Rattle.rx_rdfa.specs.Naming.{Naming}
-use Rattle.rx_rdfa.specs.Facts.{Facts, Ref, IriRef, LabelRef, RelativeRef}
+use Rattle.rx_eval.proofs.Common.{◌≡◌, ◌∙◌, ◌<◌, ◌-◌, ◌+◌, ℕ, suc, Bool, true, false, List, [], ◌∷◌, ◌++◌, length, Option, Some, None, refl, sym, ap, ap₂, subst, append-nil, append_assoc, length-append, arith, ◌||◌, ◌==◌, is_some, if◌then◌else◌, nat_eq, filter_map, nat_tests, Chars, by_test, resolved, node_seen, Node, Iri, Blank, Term, Triple, same_node, Naming, Facts, Ref, IriRef, LabelRef, RelativeRef, rule, value_now, Ending, Closes, ending, end_owner, cells_count, start_at, below_at, gathers_at, own_at, below_own_at, lists_at, owner_begun, begun_seen, gathers_some, Numbered, moment, handed_on, skipped_state, read_text, Opens, drawn_after, Owning, owning, cells_seen, ended_by, ended, forgotten_seen, level_at, standing_by, says_no_more, reference_in, only_reference, referring_context, referring_frame, referred_by, with_pending, is_iri, LetsWait, MayWait, IsKept, skipped_frame, skipped_frames, State, Frame}
 use Rattle.rx_rdfa.specs.Resources.{Hanging, Inherited, Standing, Resources, resources}
 use Rattle.rx_rdfa.specs.Inherited.{below}
 use Rattle.rx_rdfa.specs.Element.{start_of, properties_by, completed}
-use Rattle.rx_rdfa.specs.Value.{rule, value_now}
-use Rattle.rx_eval.specs.Ending.{Ending, Closes, ending, end_owner, cells_count}
-use Rattle.rx_eval.specs.Entering.{start_at, below_at, gathers_at, own_at, below_own_at, lists_at, owner_begun, begun_seen}
-use Rattle.rx_eval.specs.Keeping.{gathers_some}
-use Rattle.rx_eval.specs.Labels.{Numbered}
-use Rattle.rx_eval.specs.Moment.{moment}
-use Rattle.rx_eval.specs.Opened.{handed_on, skipped_state, read_text, Opens}
-use Rattle.rx_eval.specs.Opening.{drawn_after}
-use Rattle.rx_eval.specs.OwnersSeen.{Owning, owning, cells_seen, ended_by, ended, forgotten_seen}
-use Rattle.rx_eval.specs.Places.{level_at, standing_by}
 use Rattle.rx_eval.specs.declared.places.Level.{Level}
-use Rattle.rx_eval.specs.Referring.{says_no_more, reference_in, only_reference, referring_context, referring_frame, referred_by, with_pending, is_iri, LetsWait, MayWait, IsKept}
 use Rattle.rx_eval.specs.declared.pending.Pending.{Pending}
-use Rattle.rx_eval.specs.Skipping.{skipped_frame, skipped_frames}
-use Rattle.rx_eval.specs.States.{State, Frame}
 use Rattle.rx_eval.specs.Waits.{Shows, waits as waits_in}
 use Rattle.rx_eval.specs.declared.inherited.Inherited.{Inherited as Shown}
 use Rattle.rx_eval.proofs.OwnersLemmas.{last_seen}

@@ -1,13 +1,8 @@
 -- What is put into the code's lists, as the rules see it.
-use Rattle.rx_terms.proofs.Common.{◌≡◌, ◌∙◌, ℕ, Bool, zero, suc, List, [], ◌∷◌, ◌++◌, map, filter_map, Option, Some, None, option_map, option_to_list, slice_set, bytes_eq, refl, sym, ap, ap₂, length, drop, ◌≤◌, Result, OnOk, if◌then◌else◌, map-append, length-map, on_ok_weaker, Chars, by_test}
-use Rattle.std.proofs.Common.{slice_index_or}
-use Rattle.std.proofs.lemmas.List.{map-set}
+use Rattle.rx_rdfa.proofs.Common.{◌≡◌, ◌∙◌, ℕ, Bool, zero, suc, List, [], ◌∷◌, ◌++◌, map, filter_map, Option, Some, None, option_map, option_to_list, slice_set, bytes_eq, refl, sym, ap, ap₂, length, drop, ◌≤◌, Result, OnOk, slice_index_or, if◌then◌else◌, map-append, length-map, map-set, on_ok_weaker, Chars, by_test, Term, node_seen, term_seen, put, entry}
 use Rattle.rx_terms.specs.declared.triples.Node.{Node as CodeNode}
 use Rattle.rx_terms.specs.declared.triples.Node.TheVariants as code_node
 use Rattle.rx_terms.specs.declared.triples.Term.{Term as CodeTerm}
-use Rattle.rx_model.proofs.Common.{Term, node_seen, term_seen}
-use Rattle.rx_rdfa.specs.Tables.{put}
-use Rattle.rx_rdfa.specs.Lists.{entry}
 use Rattle.rx_lists.specs.Owners.{Owned, Owners, Slots, changed, with_term, itself, open_at, place_of, slots_of, trimmed, trimmed_by, forgotten, lists_of}
 use Rattle.rx_lists.specs.SlotIds.{slot_in}
 use Rattle.rx_lists.specs.declared.lists.Owner.{Owner}

@@ -1,16 +1,8 @@
 -- What is shown of the frames is what the rules hand on.
-use Rattle.std.proofs.Common.{◌≡◌, ◌∙◌, List, [], ◌∷◌, map, refl, sym, ap, ap₂}
-use Rattle.rx_model.specs.Numbered.{rename_node}
-use Rattle.rx_rdfa.specs.Blanks.{Bnode, Owner}
+use Rattle.rx_eval.proofs.Common.{◌≡◌, ◌∙◌, List, [], ◌∷◌, map, refl, sym, ap, ap₂, rename_node, Bnode, Owner, Call, rename_hanging, State, handed_on, Numbering, Name, Number, named, EvaluatorStands, context_after}
 use Rattle.rx_rdfa.specs.Resources as rules
-use Rattle.rx_rdfa.specs.Calls.{Call}
-use Rattle.rx_rdfa.specs.Renaming.{rename_hanging}
 use Rattle.rx_eval.specs.declared.inherited.Inherited.{Inherited}
-use Rattle.rx_eval.specs.States.{State}
-use Rattle.rx_eval.specs.Opened.{handed_on}
 use Rattle.rx_eval.specs.Waits.{wait_by, Shows}
-use Rattle.rx_eval.specs.Numbering.{Numbering, Name, Number, named}
-use Rattle.rx_eval.specs.Standing.{EvaluatorStands, context_after}
 use Rattle.rx_eval.specs.Shown.{ShowsAfter}
 use Rattle.rx_eval.proofs.StandLemmas.{hands_on}
 

@@ -1,21 +1,7 @@
 -- An element of which nothing is said, below the root, by the rules: it is skipped, adds nothing and has no label.
-use Rattle.rx_terms.proofs.Common.{◌≡◌, ◌∙◌, ◌<◌, ℕ, zero, suc, true, false, List, [], ◌∷◌, ◌++◌, length, None, refl, sym, ap, append-nil, arith, ◌==◌, if◌then◌else◌, nat_tests, Chars, both}
-use Rattle.std.specs.Prelude.{is_none}
-use Rattle.rx_model.proofs.Common.{Triple}
-use Rattle.rx_rdfa.specs.Facts.{Facts}
-use Rattle.rx_rdfa.specs.Renaming.{labels}
+use Rattle.rx_eval.proofs.Common.{◌≡◌, ◌∙◌, ◌<◌, ℕ, zero, suc, true, false, List, [], ◌∷◌, ◌++◌, length, None, refl, sym, ap, append-nil, arith, ◌==◌, if◌then◌else◌, is_none, nat_tests, Chars, both, Triple, Facts, labels, claims_nothing, says_nothing, Numbered, draw, says_no_more, moment, level_at, path_at, standing_by, Closes, gathers_some, handed_on, skipped_state, Opens, skipped_frame, State, Frame}
 use Rattle.rx_rdfa.specs.Resources.{Inherited, Standing, Resources, resources, is_root}
 use Rattle.rx_rdfa.specs.Element.{start_of}
-use Rattle.rx_eval.specs.ElementResources.{claims_nothing, says_nothing}
-use Rattle.rx_eval.specs.Labels.{Numbered, draw}
-use Rattle.rx_eval.specs.Referring.{says_no_more}
-use Rattle.rx_eval.specs.Moment.{moment}
-use Rattle.rx_eval.specs.Places.{level_at, path_at, standing_by}
-use Rattle.rx_eval.specs.Ending.{Closes}
-use Rattle.rx_eval.specs.Keeping.{gathers_some}
-use Rattle.rx_eval.specs.Opened.{handed_on, skipped_state, Opens}
-use Rattle.rx_eval.specs.Skipping.{skipped_frame}
-use Rattle.rx_eval.specs.States.{State, Frame}
 use Rattle.rx_eval.proofs.EnterLemmas.{below_is_handed, below_skipped, lists_skipped, gathers_skipped}
 use Rattle.rx_eval.proofs.GatherLemmas.{no_own, no_below}
 use Rattle.rx_model.proofs.Copied.{of_none}

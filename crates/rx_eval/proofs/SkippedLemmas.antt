@@ -1,14 +1,7 @@
 -- The frames of all open elements, where the skipped ones are counted.
-use Rattle.std.proofs.Common.{◌≡◌, ◌∙◌, ◌<◌, ◌≤◌, ◌-◌, ◌+◌, ℕ, zero, suc, false, List, [], ◌∷◌, ◌++◌, length, refl, sym, ap, arith, append_assoc, length-append}
-use Rattle.rx_rdfa.specs.Resources.{Inherited}
-use Rattle.rx_eval.specs.Contexts.{context_seen}
+use Rattle.rx_eval.proofs.Common.{◌≡◌, ◌∙◌, ◌<◌, ◌≤◌, ◌-◌, ◌+◌, ℕ, zero, suc, false, List, [], ◌∷◌, ◌++◌, length, refl, sym, ap, arith, append_assoc, length-append, Inherited, context_seen, around_in, handed_on, Frame, frame_seen, gathers_some, skipped_frame, skipped_frames, all_frames, IsRooted}
 use Rattle.rx_eval.specs.declared.contexts.EvaluationContext.{EvaluationContext}
 use Rattle.rx_eval.specs.declared.frames.Frame.{Frame as CodeFrame}
-use Rattle.rx_eval.specs.Opening.{around_in}
-use Rattle.rx_eval.specs.Opened.{handed_on}
-use Rattle.rx_eval.specs.States.{Frame, frame_seen}
-use Rattle.rx_eval.specs.Keeping.{gathers_some}
-use Rattle.rx_eval.specs.Skipping.{skipped_frame, skipped_frames, all_frames, IsRooted}
 
 -- one more with a frame of its own, inside as many skipped ones as it counts, and so many skipped ones in it
 counted_all : (a : Inherited ℕ ℕ) (fs : List CodeFrame) (f : CodeFrame) (m : ℕ)

@@ -1,20 +1,11 @@
 -- What the calls keep, and what they come to.
-use Rattle.rx_terms.proofs.Common.{◌≡◌, ◌∙◌, ℕ, suc, ◌+◌, ◌≤◌, ◌^◌, ◌⊎◌, inl, inr, Bool, true, false, List, [], ◌∷◌, ◌++◌, map, length, Option, Some, None, refl, sym, ap, ap₂, subst, subst₂, arith, length-map, Chars}
-use Rattle.std.proofs.Common.{unwrap_or}
-use Rattle.std.proofs.lemmas.List.{nil_from_length}
-use Rattle.rx_model.proofs.Common.{Among, Node, Iri, Blank, Term, Resource, Literal, Triple, rename_node, rename_term, rename, blank_of_node, blank_of_term, blanks_of, blanks, Among_cases}
-use Rattle.rx_rdfa.specs.Blanks.{Bnode, Owner, model}
+use Rattle.rx_rdfa.proofs.Common.{length-map, nil_from_length, Chars, Among, Node, Iri, Blank, Term, Resource, Literal, Triple, rename_node, rename_term, rename, blank_of_node, blank_of_term, blanks_of, blanks, Among_cases, Bnode, Owner, model, Facts, Inherited, made, rename_inherited, labels, after-append, frames_at, calls_read, map_then, triple_then}
+use Rattle.std.proofs.Common.{◌≡◌, ◌∙◌, ℕ, suc, ◌+◌, ◌≤◌, ◌^◌, ◌⊎◌, inl, inr, Bool, true, false, List, [], ◌∷◌, ◌++◌, map, length, Option, Some, None, refl, sym, ap, ap₂, subst, subst₂, arith, unwrap_or}
 use Rattle.rx_rdfa.specs.Tree.{Nodes, end, element, text}
-use Rattle.rx_rdfa.specs.Facts.{Facts}
-use Rattle.rx_rdfa.specs.Resources.{Inherited}
 use Rattle.rx_rdfa.specs.Machine.{Machine, enter, read, inherit, begun, finished}
 use Rattle.rx_rdfa.specs.Calls.{Call, Enter, Read, Leave, calls, after, Line, move, line_after, no_line}
 use Rattle.rx_rdfa.specs.Lists.{cells}
-use Rattle.rx_rdfa.specs.Made.{made}
-use Rattle.rx_rdfa.specs.Renaming.{rename_inherited, labels}
-use Rattle.rx_rdfa.proofs.Calls.{after-append, frames_at, calls_read}
 use Rattle.rx_rdfa.proofs.Machine.{reading_makes}
-use Rattle.rx_rdfa.proofs.Growing.{map_then, triple_then}
 use Rattle.rx_eval.specs.Labels.{Numbered}
 use Rattle.rx_eval.specs.States.{State}
 use Rattle.rx_eval.specs.Opened.{handed_on, Opens, begun_state, read_text}

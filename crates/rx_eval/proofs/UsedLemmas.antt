@@ -1,14 +1,9 @@
 -- The number of a new node, and the owners that an element begins.
-use Rattle.rx_terms.proofs.Common.{◌≡◌, ◌∙◌, ℕ, suc, ◌+◌, ◌≤◌, ◌⊎◌, inl, inr, Bool, true, false, List, [], ◌∷◌, ◌++◌, length, Option, Some, None, is_none, nat_eq, refl, sym, ap, subst, arith, append-nil, length-append, or-true, untrue, by_test, IfSome, if◌then◌else◌, option_or, Decides-eqb, Chars}
-use Rattle.std.proofs.Common.{not, ◌&&◌, ◌||◌, ◌==◌, unwrap_or}
-use Rattle.std.specs.Bool.{then_some}
-use Rattle.rx_model.proofs.Common.{Node, Blank, Term, same_node, or_cases, and_left, and_right}
-use Rattle.rx_rdfa.specs.Naming.{Path, Naming}
-use Rattle.rx_rdfa.specs.Blanks.{Owner, same_owner}
-use Rattle.rx_rdfa.specs.Facts.{Facts}
+use Rattle.rx_rdfa.proofs.Common.{untrue, by_test, IfSome, if◌then◌else◌, option_or, Decides-eqb, Chars, then_some, Node, Blank, Term, same_node, or_cases, and_left, and_right, Path, Naming, Owner, same_owner, Facts, of_owner, entries_by}
+use Rattle.std.proofs.Common.{◌≡◌, ◌∙◌, ℕ, suc, ◌+◌, ◌≤◌, ◌⊎◌, inl, inr, Bool, true, false, List, [], ◌∷◌, ◌++◌, length, Option, Some, None, is_none, nat_eq, refl, sym, ap, subst, arith, append-nil, length-append, not, ◌&&◌, ◌||◌, ◌==◌, unwrap_or}
+use Rattle.std.proofs.Math.Bool.{or-true}
 use Rattle.rx_rdfa.specs.Resources.{Inherited, Standing, Resources, new_blank, resources}
 use Rattle.rx_rdfa.specs.Inherited.{hangs, object_below, handed, below}
-use Rattle.rx_rdfa.specs.Lists.{of_owner, entries_by}
 use Rattle.rx_eval.specs.Blanks.{is_blank}
 use Rattle.rx_eval.specs.Labels.{Numbered}
 use Rattle.rx_eval.specs.Moment.{moment}

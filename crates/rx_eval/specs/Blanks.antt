@@ -1,7 +1,6 @@
 -- Blank nodes by their numbers.
 use Rattle.std.specs.Prelude.{ℕ, Bool, false, ◌||◌, ◌==◌, ◌+◌, Option, Some, None, if◌then◌else◌}
-use Rattle.rx_model.specs.Terms.{Node, Iri, Blank}
-use Rattle.rx_rdfa.specs.Resources.{Resources}
+use Rattle.rx_rdfa.specs.Common.{Node, Iri, Blank, Resources}
 
 -- the node is the blank node of the number
 abbrev pub is_blank : Node ℕ → ℕ → Bool

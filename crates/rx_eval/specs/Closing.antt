@@ -1,11 +1,9 @@
 -- The end of an element, part by part.
 use Rattle.std.specs.Prelude.{◌≡◌, ℕ, List, [], ◌∷◌, map}
 use Rattle.rx_terms.specs.declared.triples.Term.{Term as CodeTerm}
-use Rattle.rx_model.specs.Terms.{Node, Term, Triple}
-use Rattle.rx_model.specs.Copied.{spo}
+use Rattle.rx_model.specs.Common.{Node, Term, Triple, spo, Chars}
 use Rattle.rx_lists.specs.Owners.{Owners, changed, with_term}
 use Rattle.rx_lists.specs.declared.lists.SlotId.{SlotId}
-use Rattle.rx_terms.specs.Text.{Chars}
 use Rattle.rx_eval.specs.TextRules.{text_literal}
 use Rattle.rx_eval.specs.OwnersSeen.{owners_seen, fill_all}
 use Rattle.rx_eval.specs.declared.frames.Gathered.{Gathered}

@@ -1,7 +1,6 @@
 -- What an element hands on, as the rules see it.
 use Rattle.std.specs.Prelude.{ℕ, map}
-use Rattle.rx_model.specs.Seen.{node_seen}
-use Rattle.rx_rdfa.specs.Resources.{Inherited}
+use Rattle.rx_rdfa.specs.Common.{node_seen, Inherited}
 use Rattle.rx_rdfa.specs.Resources as rules
 use Rattle.rx_eval.specs.declared.contexts.IncompleteTriple.{IncompleteTriple}
 use Rattle.rx_eval.specs.declared.contexts.IncompleteTriple.TheVariants.{Forward, Reverse, InList}

@@ -1,12 +1,6 @@
 -- What the code finds of an element, as the resources of the rules.
 use Rattle.std.specs.Prelude.{ℕ, Bool, ◌&&◌, Option, option_map, is_none, unwrap_or}
-use Rattle.std.specs.Option.{option_or}
-use Rattle.rx_terms.specs.Text.{Chars}
-use Rattle.rx_model.specs.Terms.{Node, Iri, Blank}
-use Rattle.rx_model.specs.Seen.{node_seen}
-use Rattle.rx_rdfa.specs.Naming.{Naming}
-use Rattle.rx_rdfa.specs.Facts.{Facts, Ref}
-use Rattle.rx_rdfa.specs.Resources.{Standing, Resources, about, base_at_root, linked_resource, parent_for_head_and_body, new_blank}
+use Rattle.rx_rdfa.specs.Common.{option_or, Chars, Node, Iri, Blank, node_seen, Naming, Facts, Ref, Standing, Resources, about, base_at_root, linked_resource, parent_for_head_and_body, new_blank}
 use Rattle.rx_eval.specs.declared.resources.ElementResources.{ElementResources}
 use Rattle.rx_eval.specs.declared.places.Surroundings.{Surroundings}
 

@@ -1,10 +1,7 @@
 -- The start of an element, part by part.
 use Rattle.std.specs.Prelude.{ℕ, List, [], Option, Some, None, unwrap_or, if◌then◌else◌}
 use Rattle.rx_terms.specs.declared.triples.Node.{Node as CodeNode}
-use Rattle.rx_model.specs.Terms.{Node}
-use Rattle.rx_rdfa.specs.Facts.{Facts}
-use Rattle.rx_rdfa.specs.Resources.{Hanging, Inherited, Resources}
-use Rattle.rx_rdfa.specs.Inherited.{hangs}
+use Rattle.rx_rdfa.specs.Common.{Node, Facts, Hanging, Inherited, Resources, hangs}
 use Rattle.rx_lists.specs.Owners.{Owners}
 use Rattle.rx_lists.specs.declared.lists.Owner.{Owner}
 use Rattle.rx_eval.specs.Handing.{begun, begun_number}

@@ -1,11 +1,8 @@
 -- What the end of an element does to the triples and the lists.
 use Rattle.std.specs.Prelude.{◌≡◌, ℕ, ◌+◌, ◌==◌, true, List, [], ◌∷◌, ◌++◌, map, filter_map, length, Option, Some, None, if◌then◌else◌}
-use Rattle.rx_terms.specs.Text.{Chars}
-use Rattle.rx_model.specs.Terms.{Node, Term, Triple}
-use Rattle.rx_model.specs.Copied.{spo}
+use Rattle.rx_model.specs.Common.{Chars, Node, Term, Triple, spo, triples_seen}
 use Rattle.rx_values.specs.Marks.{CutAt}
 use Rattle.rx_terms.specs.declared.triples.Triple.{Triple as CodeTriple}
-use Rattle.rx_model.specs.Seen.{triples_seen}
 use Rattle.rx_lists.specs.Owners.{Owners, itself}
 use Rattle.rx_lists.specs.Cells.{size}
 use Rattle.rx_eval.specs.TextRules.{text_literal}

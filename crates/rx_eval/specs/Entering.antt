@@ -1,16 +1,7 @@
 -- The start of an element, by the rules.
 use Rattle.std.specs.Prelude.{◌≡◌, ℕ, suc, Bool, not, ◌&&◌, List, [], ◌∷◌, ◌++◌, length, map, Option, Some, None, option_map, IfSome, nat_eq, if◌then◌else◌}
-use Rattle.rx_terms.specs.Text.{Chars}
+use Rattle.rx_rdfa.specs.Common.{Chars, Node, Term, Triple, same_node, node_seen, term_seen, Naming, Facts, Inherited, Standing, Resources, resources, listed, below, handed, object_below, own_owner, start_of, rule, value_now, gathers, entries_by, linked, touched}
 use Rattle.rx_terms.specs.declared.triples.Term.{Term as CodeTerm}
-use Rattle.rx_model.specs.Terms.{Node, Term, Triple, same_node}
-use Rattle.rx_model.specs.Seen.{node_seen, term_seen}
-use Rattle.rx_rdfa.specs.Naming.{Naming}
-use Rattle.rx_rdfa.specs.Facts.{Facts}
-use Rattle.rx_rdfa.specs.Resources.{Inherited, Standing, Resources, resources}
-use Rattle.rx_rdfa.specs.Inherited.{listed, below, handed, object_below, own_owner}
-use Rattle.rx_rdfa.specs.Element.{start_of}
-use Rattle.rx_rdfa.specs.Value.{rule, value_now, gathers}
-use Rattle.rx_rdfa.specs.Lists.{entries_by, linked, touched}
 use Rattle.rx_lists.specs.declared.lists.SlotId.{SlotId}
 use Rattle.rx_lists.specs.Owners.{Owners}
 use Rattle.rx_eval.specs.Contexts.{context_seen, waiting_seen}

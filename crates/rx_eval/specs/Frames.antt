@@ -1,9 +1,6 @@
 -- What waits below an element without object.
 use Rattle.std.specs.Prelude.{ℕ, Bool, List, ◌++◌, map, if◌then◌else◌}
-use Rattle.rx_terms.specs.Text.{Chars}
-use Rattle.rx_rdfa.specs.Facts.{Facts}
-use Rattle.rx_rdfa.specs.Resources.{Hanging, Forward, Reverse, InList}
-use Rattle.rx_rdfa.specs.Inherited.{listed}
+use Rattle.rx_rdfa.specs.Common.{Chars, Facts, Hanging, Forward, Reverse, InList, listed}
 
 abbrev pub forward_by : Bool → ℕ → Chars → Hanging ℕ
 forward_by inlist owner = if inlist then InList owner else Forward

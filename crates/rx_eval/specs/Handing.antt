@@ -1,8 +1,7 @@
 -- What an element begins and hands on.
 use Rattle.std.specs.Prelude.{ℕ, [], ◌∷◌, ◌++◌, Option, Some, None, nat_eq, if◌then◌else◌}
 use Rattle.rx_terms.specs.declared.triples.Node.{Node}
-use Rattle.rx_model.specs.Terms.{same_node}
-use Rattle.rx_model.specs.Seen.{node_seen}
+use Rattle.rx_model.specs.Common.{same_node, node_seen}
 use Rattle.rx_lists.specs.Owners.{Owners, owned}
 use Rattle.rx_lists.specs.declared.lists.Owner.{Owner}
 

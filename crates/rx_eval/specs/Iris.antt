@@ -1,8 +1,6 @@
 -- The IRIs that any element's start may need.
 use Rattle.std.specs.Prelude.{◌≡◌}
-use Rattle.rx_terms.specs.Text.{Chars}
-use Rattle.rx_rdfa.specs.Iris.{uses_vocabulary}
-use Rattle.rx_model.specs.Vocabulary.{rdf_type}
+use Rattle.rx_rdfa.specs.Common.{Chars, uses_vocabulary, rdf_type}
 
 -- the two are rdf:type and rdfa:usesVocabulary
 abbrev pub AreOwn : Chars → Chars → Type 0

@@ -1,8 +1,6 @@
 -- Which text is kept: all that comes while some open element gathers its own.
 use Rattle.std.specs.Prelude.{◌≡◌, ◌≤◌, ◌==◌, ℕ, suc, Bool, false, List, [], ◌∷◌, length, Option, Some, None, is_some, option_map, if◌then◌else◌}
-use Rattle.std.specs.List.{list_any}
-use Rattle.rx_terms.specs.Text.{Chars}
-use Rattle.rx_rdfa.specs.Resources.{Inherited}
+use Rattle.rx_rdfa.specs.Common.{list_any, Chars, Inherited}
 use Rattle.rx_eval.specs.States.{Frame}
 use Rattle.rx_eval.specs.Skipping.{all_frames, IsRooted}
 use Rattle.rx_eval.specs.declared.frames.Frame.{Frame as CodeFrame}

@@ -1,11 +1,6 @@
 -- Which frames keep text, by the rules.
 use Rattle.std.specs.Prelude.{◌≡◌, Bool, true, false, List, [], ◌∷◌, ◌++◌, map, Some, is_some, codes}
-use Rattle.rx_terms.specs.Text.{Chars}
-use Rattle.rx_rdfa.specs.Naming.{Path}
-use Rattle.rx_rdfa.specs.Facts.{Facts}
-use Rattle.rx_rdfa.specs.Blanks.{model}
-use Rattle.rx_rdfa.specs.Inherited.{inherited, up}
-use Rattle.rx_rdfa.specs.Calls.{Call, line_after, no_line}
+use Rattle.rx_rdfa.specs.Common.{Chars, Path, Facts, model, inherited, up, Call, line_after, no_line}
 use Rattle.rx_curie.specs.Given.{no_facts}
 use Rattle.rx_eval.specs.States.{State}
 use Rattle.rx_eval.specs.Numbering.{Numbering}

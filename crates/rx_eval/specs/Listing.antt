@@ -1,12 +1,6 @@
 -- What an element puts into lists, part by part.
 use Rattle.std.specs.Prelude.{◌≡◌, ℕ, Bool, is_none, List, [], ◌++◌, map, filter_map, Option, Some, None, option_map, if◌then◌else◌}
-use Rattle.rx_terms.specs.Text.{Chars}
-use Rattle.rx_model.specs.Terms.{Node, Term}
-use Rattle.rx_model.specs.Seen.{term_seen}
-use Rattle.rx_rdfa.specs.Facts.{Facts}
-use Rattle.rx_rdfa.specs.Resources.{Hanging, Forward, Reverse, InList, Resources}
-use Rattle.rx_rdfa.specs.Inherited.{listed, hangs}
-use Rattle.rx_rdfa.specs.Lists.{Entry, entry}
+use Rattle.rx_rdfa.specs.Common.{Chars, Node, Term, term_seen, Facts, Hanging, Forward, Reverse, InList, Resources, listed, hangs, Entry, entry}
 use Rattle.rx_lists.specs.declared.lists.SlotId.{SlotId}
 use Rattle.rx_lists.specs.Owners.{Owners}
 use Rattle.rx_terms.specs.declared.triples.Term.{Term as CodeTerm}

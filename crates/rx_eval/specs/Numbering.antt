@@ -1,7 +1,6 @@
 -- Which of the rules' blank nodes have numbers.
 use Rattle.std.specs.Prelude.{◌≡◌, ◌<◌, ◌≤◌, ◌^◌, ◌⊎◌, ℕ, Bool, false, Option, Some, None, nat_eq, if◌then◌else◌}
-use Rattle.rx_terms.specs.Text.{Chars}
-use Rattle.rx_rdfa.specs.Blanks.{Bnode, Author, same_bnode}
+use Rattle.rx_rdfa.specs.Common.{Chars, Bnode, Author, same_bnode}
 use Rattle.rx_eval.specs.Labels.{Numbered, number_of}
 
 -- the numbers that are drawn so far, each for one blank node

@@ -1,10 +1,6 @@
 -- What the start of an element does to the stack, by the rules.
 use Rattle.std.specs.Prelude.{◌≡◌, ◌<◌, ◌≤◌, ◌^◌, ◌+◌, false, ℕ, List, [], ◌∷◌, ◌++◌, length, Some, IfSome, is_some, encode_utf8_all, if◌then◌else◌}
-use Rattle.rx_terms.specs.Text.{Chars}
-use Rattle.rx_model.specs.Terms.{Iri}
-use Rattle.rx_rdfa.specs.Facts.{Facts}
-use Rattle.rx_rdfa.specs.Renaming.{labels}
-use Rattle.rx_rdfa.specs.Resources.{Inherited}
+use Rattle.rx_rdfa.specs.Common.{Chars, Iri, Facts, labels, Inherited}
 use Rattle.rx_eval.specs.Labels.{Numbered, draw}
 use Rattle.rx_eval.specs.Places.{level_at}
 use Rattle.rx_eval.specs.declared.places.Level.{Level}

@@ -1,10 +1,7 @@
 -- The owners of lists, as the rules see them.
 use Rattle.std.specs.Prelude.{ℕ, suc, List, [], ◌∷◌, map, length, Option, Some, None, option_map, option_and_then, slice_get, slice_set, slice_index_or, filter_map, bytes_eq, if◌then◌else◌}
-use Rattle.rx_terms.specs.Text.{Chars}
-use Rattle.rx_model.specs.Terms.{Node, Term, Triple}
-use Rattle.rx_model.specs.Seen.{node_seen, term_seen}
+use Rattle.rx_rdfa.specs.Common.{Chars, Node, Term, Triple, node_seen, term_seen, Entry}
 use Rattle.rx_rdfa.specs.Tables.{Table, put}
-use Rattle.rx_rdfa.specs.Lists.{Entry}
 use Rattle.rx_lists.specs.Cells.{cells_of}
 use Rattle.rx_lists.specs.declared.lists.SlotId.{SlotId}
 use Rattle.rx_lists.specs.Owners.{Owned, Owners, Slots, itself}

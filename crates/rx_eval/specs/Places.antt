@@ -1,11 +1,6 @@
 -- Where an element stands, and how its blank nodes are named.
 use Rattle.std.specs.Prelude.{ℕ, zero, suc, [], ◌∷◌, Option}
-use Rattle.rx_terms.specs.Text.{Chars}
-use Rattle.rx_model.specs.Terms.{Node}
-use Rattle.rx_rdfa.specs.Naming.{Path, Naming}
-use Rattle.rx_rdfa.specs.Facts.{Facts, Ref}
-use Rattle.rx_rdfa.specs.Resources.{Standing, Inherited, Resources, resource_named}
-use Rattle.rx_rdfa.specs.Inherited.{object_below}
+use Rattle.rx_rdfa.specs.Common.{Chars, Node, Path, Naming, Facts, Ref, Standing, Inherited, Resources, resource_named, object_below}
 use Rattle.rx_eval.specs.Contexts.{context_seen}
 use Rattle.rx_eval.specs.Labels.{Numbered}
 use Rattle.rx_eval.specs.Moment.{moment, labelled}

@@ -1,11 +1,6 @@
 -- The resources of one element by themselves.
 use Rattle.std.specs.Prelude.{◌≡◌, ℕ, Bool, [], Option, option_map}
-use Rattle.rx_terms.specs.Text.{Chars}
-use Rattle.rx_model.specs.Terms.{Node}
-use Rattle.rx_model.specs.Seen.{node_seen}
-use Rattle.rx_rdfa.specs.Facts.{Facts}
-use Rattle.rx_rdfa.specs.Renaming.{labels}
-use Rattle.rx_rdfa.specs.Resources.{Inherited, Resources, resources}
+use Rattle.rx_rdfa.specs.Common.{Chars, Node, node_seen, Facts, labels, Inherited, Resources, resources}
 use Rattle.rx_eval.specs.Blanks.{number_after}
 use Rattle.rx_eval.specs.Labels.{Numbered, draw}
 use Rattle.rx_eval.specs.Moment.{moment}

@@ -1,11 +1,7 @@
 -- An element that says no more than what it refers to: where it stands, nothing waits for a subject, and its frame is known
 -- by the resource alone.
 use Rattle.std.specs.Prelude.{◌≡◌, ◌<◌, ◌≤◌, ◌+◌, true, false, ℕ, [], ◌∷◌, ◌++◌, Bool, Option, Some, None, is_none, ◌&&◌, length, nat_eq, if◌then◌else◌}
-use Rattle.rx_terms.specs.Text.{Chars}
-use Rattle.rx_model.specs.Seen.{node_seen}
-use Rattle.rx_model.specs.Terms.{Node, Iri, Blank, same_node}
-use Rattle.rx_rdfa.specs.Facts.{Facts, Ref, IriRef, LabelRef, RelativeRef}
-use Rattle.rx_rdfa.specs.Resources.{Inherited}
+use Rattle.rx_rdfa.specs.Common.{Chars, node_seen, Node, Iri, Blank, same_node, Facts, Ref, IriRef, LabelRef, RelativeRef, Inherited}
 use Rattle.rx_eval.specs.ElementResources.{claims_nothing}
 use Rattle.rx_eval.specs.OwnersSeen.{ended}
 use Rattle.rx_eval.specs.Entering.{begun_seen, owner_begun}

@@ -1,8 +1,6 @@
 -- Places that are reserved in lists, and filled later.
 use Rattle.std.specs.Prelude.{◌≡◌, ℕ, List, ◌++◌, map, Option, Some, None}
-use Rattle.rx_terms.specs.Text.{Chars}
-use Rattle.rx_model.specs.Terms.{Term}
-use Rattle.rx_rdfa.specs.Lists.{entry}
+use Rattle.rx_rdfa.specs.Common.{Chars, Term, entry}
 use Rattle.rx_eval.specs.Listing.{Entries}
 use Rattle.rx_eval.specs.OwnersSeen.{Owning, put_entries, places_for, fill_all}
 

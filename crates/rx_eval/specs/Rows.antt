@@ -1,7 +1,6 @@
 -- Labels and their numbers, side by side.
 use Rattle.std.specs.Prelude.{◌≡◌, ℕ, false, List, [], ◌∷◌, bytes_eq}
-use Rattle.std.specs.List.{list_any}
-use Rattle.rx_terms.specs.Text.{Chars}
+use Rattle.rx_terms.specs.Common.{list_any, Chars}
 use Rattle.rx_eval.specs.Labels.{Numbered}
 
 abbrev pub rows : List Chars → List ℕ → Numbered

@@ -1,12 +1,6 @@
 -- What an evaluator shows, by the rules, and what it gives at the end.
 use Rattle.std.specs.Prelude.{◌≡◌, ℕ, List, map}
-use Rattle.rx_terms.specs.Text.{Chars}
-use Rattle.rx_model.specs.Terms.{Triple}
-use Rattle.rx_model.specs.Numbered.{rename_node}
-use Rattle.rx_model.specs.Seen.{node_seen}
-use Rattle.rx_rdfa.specs.Tree.{Nodes}
-use Rattle.rx_rdfa.specs.Facts.{Facts}
-use Rattle.rx_rdfa.specs.Calls.{Call, calls}
+use Rattle.rx_rdfa.specs.Common.{Chars, Triple, rename_node, node_seen, Nodes, Facts, Call, calls}
 use Rattle.rx_eval.specs.declared.inherited.Inherited.{Inherited}
 use Rattle.rx_eval.specs.States.{State}
 use Rattle.rx_eval.specs.Waits.{waits, wait_by}

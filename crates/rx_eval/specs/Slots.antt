@@ -1,11 +1,7 @@
 -- The slots of all lists while a page is read, by numbers: what the open owners' tables are, and how places in them are
 -- filled.
 use Rattle.std.specs.Prelude.{◌≡◌, ◌<◌, ◌||◌, ℕ, zero, suc, Bool, false, List, [], ◌∷◌, map, length, Option, Some, None, option_map, bytes_eq, if◌then◌else◌}
-use Rattle.rx_model.specs.Terms.{Node, Term}
-use Rattle.rx_rdfa.specs.Naming.{Path}
-use Rattle.rx_rdfa.specs.Blanks.{Owner, same_owner}
-use Rattle.rx_rdfa.specs.Lists.{Entry, map_entry, of_owner}
-use Rattle.rx_rdfa.specs.Machine.{Slot, Full, Waiting, fill}
+use Rattle.rx_rdfa.specs.Common.{Node, Term, Path, Owner, same_owner, Entry, map_entry, of_owner, Slot, Full, Waiting, fill}
 use Rattle.rx_rdfa.specs.Tables.{Table, table_from}
 use Rattle.rx_lists.specs.declared.lists.SlotId.{SlotId}
 use Rattle.rx_eval.specs.OwnersSeen.{Owning, owning, fill_all}

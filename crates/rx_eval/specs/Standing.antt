@@ -1,22 +1,8 @@
 -- What an evaluator stands for: the calls that it has taken, under a numbering of blank nodes.
 use Rattle.std.specs.Prelude.{◌≡◌, ◌≤◌, ◌⊎◌, ◌&&◌, ℕ, suc, Bool, true, false, not, List, [], ◌∷◌, ◌++◌, map, length, Option, Some, None, option_map, is_some, unwrap_or, IfSome}
-use Rattle.rx_terms.specs.Text.{Chars}
-use Rattle.rx_model.specs.Sets.{Among}
-use Rattle.rx_model.specs.Terms.{Node, Iri, Triple}
-use Rattle.rx_model.specs.Numbered.{rename_node, rename_term, rename, blanks}
-use Rattle.rx_rdfa.specs.Naming.{Path, Naming}
-use Rattle.rx_rdfa.specs.Tree.{Nodes}
-use Rattle.rx_rdfa.specs.Facts.{Facts}
+use Rattle.rx_rdfa.specs.Common.{Chars, Among, Node, Iri, Triple, rename_node, rename_term, rename, blanks, Path, Naming, Nodes, Facts, Bnode, Made, Cell, Owner, First, Of, Below, same_owner, model, Inherited, Standing, resources, below, up, inherited, gathers, end_of, map_entry, of_owner, rename_slot, rename_inherited, Call, after, line_after, no_line}
 use Rattle.rx_rdfa.specs.Made.{made}
-use Rattle.rx_rdfa.specs.Blanks.{Bnode, Made, Cell, Owner, First, Of, Below, same_owner, model}
-use Rattle.rx_rdfa.specs.Resources.{Inherited, Standing, resources}
-use Rattle.rx_rdfa.specs.Inherited.{below, up, inherited}
-use Rattle.rx_rdfa.specs.Value.{gathers}
-use Rattle.rx_rdfa.specs.Element.{end_of}
-use Rattle.rx_rdfa.specs.Lists.{map_entry, of_owner}
 use Rattle.rx_rdfa.specs.Machine.{Slot, Full, Waiting, Machine, value_at, finished, begun}
-use Rattle.rx_rdfa.specs.Renaming.{rename_slot, rename_inherited}
-use Rattle.rx_rdfa.specs.Calls.{Call, after, line_after, no_line}
 use Rattle.rx_values.specs.Marks.{CutAt}
 use Rattle.rx_lists.specs.declared.lists.SlotId.{SlotId}
 use Rattle.rx_eval.specs.TextRules.{text_literal}

@@ -1,16 +1,6 @@
 -- The triples of an element's start, part by part.
 use Rattle.std.specs.Prelude.{ℕ, List, [], ◌∷◌, ◌++◌, map, filter_map, Option, Some, None, is_some, if◌then◌else◌}
-use Rattle.rx_terms.specs.Text.{Chars}
-use Rattle.rx_model.specs.Terms.{Node, Iri, Term, Triple}
-use Rattle.rx_model.specs.Copied.{spo}
-use Rattle.rx_rdfa.specs.Iris.{uses_vocabulary}
-use Rattle.rx_model.specs.Vocabulary.{rdf_type}
-use Rattle.rx_rdfa.specs.Naming.{Naming}
-use Rattle.rx_rdfa.specs.Facts.{Facts, Ref}
-use Rattle.rx_rdfa.specs.Resources.{Resources, resource_named, only}
-use Rattle.rx_rdfa.specs.Inherited.{listed}
-use Rattle.rx_rdfa.specs.Element.{to_node}
-use Rattle.rx_model.specs.Seen.{node_seen}
+use Rattle.rx_rdfa.specs.Common.{Chars, Node, Iri, Term, Triple, spo, uses_vocabulary, rdf_type, Naming, Facts, Ref, Resources, resource_named, only, listed, to_node, node_seen}
 use Rattle.rx_eval.specs.TextRules.{resource_term, value_by}
 use Rattle.rx_eval.specs.Places.{naming, named}
 use Rattle.rx_eval.specs.Triples.{completed_by}

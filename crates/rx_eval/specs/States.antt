@@ -1,9 +1,6 @@
 -- The stack of contexts, as the rules see it.
 use Rattle.std.specs.Prelude.{ℕ, Bool, List, Option, option_map}
-use Rattle.rx_terms.specs.Text.{Chars}
-use Rattle.rx_model.specs.Terms.{Node, Triple}
-use Rattle.rx_model.specs.Seen.{node_seen}
-use Rattle.rx_rdfa.specs.Resources.{Inherited}
+use Rattle.rx_rdfa.specs.Common.{Chars, Node, Triple, node_seen, Inherited}
 use Rattle.rx_lists.specs.declared.lists.SlotId.{SlotId}
 use Rattle.rx_lists.specs.declared.lists.Owner.{Owner}
 use Rattle.rx_eval.specs.Labels.{Numbered}

@@ -1,17 +1,11 @@
 -- How an element's text is its value.
 use Rattle.std.specs.Prelude.{◌≡◌, ℕ, Option, Some, None, option_map, not, ◌&&◌, is_some, is_none}
-use Rattle.std.specs.Option.{option_or}
-use Rattle.rx_terms.specs.Text.{Chars}
+use Rattle.rx_rdfa.specs.Common.{option_or, Chars, Node, Term, Resource, Naming, Facts, ElementKind, Datatype, Empty, Is, Head, Body, Other, Resources, resource_attribute, has_link, only, typed_literal, plain_literal, time_literal, literal_by, rule, rule_or, value, value_now, value_of_text, ByResource, ByTyped, ByText}
 use Rattle.rx_terms.specs.declared.triples.Node.{Node as CodeNode}
 use Rattle.rx_terms.specs.declared.triples.Node.TheVariants as code_node
 use Rattle.rx_terms.specs.declared.triples.Term.{Term as CodeTerm}
 use Rattle.rx_terms.specs.declared.triples.Term.TheVariants as code_term
-use Rattle.rx_model.specs.Terms.{Node, Term, Resource}
-use Rattle.rx_rdfa.specs.Naming.{Naming}
-use Rattle.rx_rdfa.specs.Facts.{Facts, ElementKind, Datatype, Empty, Is, Head, Body, Other}
 use Rattle.rx_rdfa.specs.Facts as facts
-use Rattle.rx_rdfa.specs.Resources.{Resources, resource_attribute, has_link, only}
-use Rattle.rx_rdfa.specs.Value.{typed_literal, plain_literal, time_literal, literal_by, rule, rule_or, value, value_now, value_of_text, ByResource, ByTyped, ByText}
 use Rattle.rx_eval.specs.declared.values.TextRule.{TextRule}
 use Rattle.rx_eval.specs.declared.values.TextRule.TheVariants.{Plain, Typed, Time}
 

@@ -1,10 +1,7 @@
 -- The triples that wait, when an element with a subject completes them.
 use Rattle.std.specs.Prelude.{◌≡◌, ℕ, List, ◌++◌, drop, map, Option, Some, None}
-use Rattle.rx_terms.specs.Text.{Chars}
+use Rattle.rx_rdfa.specs.Common.{Chars, Node, Triple, triples_seen, to_node}
 use Rattle.rx_terms.specs.declared.triples.Triple.{Triple as CodeTriple}
-use Rattle.rx_model.specs.Terms.{Node, Triple}
-use Rattle.rx_model.specs.Seen.{triples_seen}
-use Rattle.rx_rdfa.specs.Element.{to_node}
 use Rattle.rx_eval.specs.declared.contexts.IncompleteTriple.{IncompleteTriple}
 use Rattle.rx_eval.specs.declared.contexts.IncompleteTriple.TheVariants.{Forward, Reverse, InList}
 

@@ -1,7 +1,6 @@
 -- The triples that wait, as they are shown: all but the owners of lists.
 use Rattle.std.specs.Prelude.{◌≡◌, ℕ, List, map}
-use Rattle.rx_terms.specs.Text.{Chars}
-use Rattle.rx_model.specs.Seen.{node_seen}
+use Rattle.rx_model.specs.Common.{Chars, node_seen}
 use Rattle.rx_rdfa.specs.Resources as rules
 use Rattle.rx_eval.specs.declared.contexts.IncompleteTriple.{IncompleteTriple}
 use Rattle.rx_eval.specs.declared.contexts.IncompleteTriple.TheVariants as code

@@ -1,7 +1,6 @@
 //! The end of an element (RDFa Core 1.1, section 7.5, steps 11 and 14).
 ghost use Rattle.std.specs.Prelude.{◌≡◌, ◌+◌, OnOk, IfOk, option_map};
-ghost use Rattle.std.specs.Str.{chars};
-ghost use Rattle.rx_model.specs.Seen.{node_seen, term_seen, triples_seen};
+ghost use Rattle.rx_model.specs.Common.{chars, node_seen, term_seen, triples_seen};
 ghost use Rattle.rx_lists.specs.Appends.{Appends};
 ghost use Rattle.rx_eval.specs.OwnersSeen.{owners_seen, open_seen, cells_seen, forgotten_seen};
 ghost use Rattle.rx_eval.specs.States.{frame_seen, owner_seen};

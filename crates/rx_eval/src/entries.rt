@@ -1,9 +1,7 @@
 //! What elements put into lists (RDFa Core 1.1, section 7.5, steps 9 to 12).
 ghost use Rattle.std.specs.Prelude.{◌≡◌, OnOk, IfOk, Some, None, map};
-ghost use Rattle.rx_rdfa.specs.Tables.{put};
+ghost use Rattle.rx_rdfa.specs.Common.{put, term_seen, entry};
 ghost use Rattle.rx_lists.specs.Owners.{changed};
-ghost use Rattle.rx_model.specs.Seen.{term_seen};
-ghost use Rattle.rx_rdfa.specs.Lists.{entry};
 ghost use Rattle.rx_eval.specs.OwnersSeen.{owners_seen, places_for};
 ghost use Rattle.rx_eval.specs.Listing.{Puts};
 ghost use Rattle.rx_eval.specs.Entries.{put_each, slots_for, put_awaited};

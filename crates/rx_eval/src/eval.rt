@@ -1,8 +1,6 @@
 //! The stack of contexts, where an element that says no more than what it refers to waits for its frame.
 ghost use Rattle.std.specs.Prelude.{◌≡◌, ◌<◌, ◌≤◌, ◌^◌, ◌+◌, ◌↔◌, nat_le, true, false, List, [], None, length, IfOk, OnOk, OnErr, IsOk, IsErr};
-ghost use Rattle.std.specs.Str.{chars};
-ghost use Rattle.rx_model.specs.Seen.{triples_seen, node_seen};
-ghost use Rattle.rx_rdfa.specs.Calls.{Call, Enter, Read, Leave, line_after, no_line};
+ghost use Rattle.rx_rdfa.specs.Common.{chars, triples_seen, node_seen, Call, Enter, Read, Leave, line_after, no_line};
 ghost use Rattle.rx_rdfa.specs.Renaming.{labels as labels_of};
 ghost use Rattle.rx_curie.specs.Seen.{facts_seen};
 ghost use Rattle.rx_eval.specs.Keeping.{gathers_some};

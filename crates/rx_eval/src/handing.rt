@@ -1,7 +1,6 @@
 //! What an element begins and hands on (RDFa Core 1.1, section 7.5, steps 8, 10 and 13).
 ghost use Rattle.std.specs.Prelude.{◌≡◌, [], ◌∷◌, ◌++◌, Some, OnOk, IfOk, nat_eq, length};
-ghost use Rattle.rx_model.specs.Terms.{same_node};
-ghost use Rattle.rx_model.specs.Seen.{node_seen};
+ghost use Rattle.rx_model.specs.Common.{same_node, node_seen};
 ghost use Rattle.rx_lists.specs.Owners.{owned};
 ghost use Rattle.rx_eval.specs.Handing.{begun, begun_number};
 

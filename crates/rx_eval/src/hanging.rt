@@ -1,7 +1,6 @@
 //! What an element hands on to its children (RDFa Core 1.1, section 7.5, steps 10 and 13).
 ghost use Rattle.std.specs.Prelude.{◌≡◌, IfOk, option_map};
-ghost use Rattle.rx_model.specs.Seen.{node_seen};
-ghost use Rattle.rx_rdfa.specs.Inherited.{hangs, holds_some, listed};
+ghost use Rattle.rx_rdfa.specs.Common.{node_seen, hangs, holds_some, listed};
 ghost use Rattle.rx_curie.specs.Seen.{facts_seen};
 ghost use Rattle.rx_eval.specs.ElementResources.{found_seen};
 ghost use Rattle.rx_eval.specs.Places.{object_under};

@@ -1,10 +1,6 @@
 //! The IRIs that RDFa's triples have of their own.
 ghost use Rattle.std.specs.Prelude.{◌≡◌, ◌++◌, IfOk, true};
-ghost use Rattle.std.specs.List.{list_all};
-ghost use Rattle.rx_terms.specs.Ascii.{is_ascii};
-ghost use Rattle.rx_terms.specs.Iri.{IsIri};
-ghost use Rattle.rx_rdfa.specs.Iris.{uses_vocabulary, xsd};
-ghost use Rattle.rx_model.specs.Vocabulary.{rdf_type};
+ghost use Rattle.rx_rdfa.specs.Common.{list_all, is_ascii, IsIri, uses_vocabulary, xsd, rdf_type};
 ghost use Rattle.rx_values.specs.Kinds.{kind_name};
 
 use rx_terms::{Iri, NoMemory};

@@ -1,10 +1,9 @@
 //! What an element puts into lists at its start.
 ghost use Rattle.std.specs.Prelude.{◌≡◌, OnOk, IfOk, Some, map, option_map, filter_map};
-ghost use Rattle.rx_model.specs.Seen.{node_seen, term_seen};
+ghost use Rattle.rx_rdfa.specs.Common.{node_seen, term_seen, listed};
 ghost use Rattle.rx_curie.specs.Seen.{facts_seen};
 ghost use Rattle.rx_eval.specs.ElementResources.{found_seen};
 ghost use Rattle.rx_eval.specs.Contexts.{waiting_seen};
-ghost use Rattle.rx_rdfa.specs.Inherited.{listed};
 ghost use Rattle.rx_eval.specs.OwnersSeen.{owners_seen, places_for};
 ghost use Rattle.rx_eval.specs.Listing.{Puts, entries_for, linked_entries, touched_entries, awaited_entry, own_entries, listed_entries, entries_put, places_unless, own_reserved, reserved};
 

@@ -1,7 +1,6 @@
 //! The resources of one element, and its value, by themselves.
 ghost use Rattle.std.specs.Prelude.{◌≡◌, ◌<◌, ◌≤◌, ◌^◌, ◌+◌, ◌-◌, length, option_map, IfOk, OnErr};
-ghost use Rattle.std.specs.Str.{chars};
-ghost use Rattle.rx_model.specs.Seen.{node_seen, term_seen};
+ghost use Rattle.rx_model.specs.Common.{chars, node_seen, term_seen};
 ghost use Rattle.rx_rdfa.specs.Renaming.{labels as labels_of};
 ghost use Rattle.rx_curie.specs.Seen.{facts_seen};
 ghost use Rattle.rx_eval.specs.Contexts.{context_seen};

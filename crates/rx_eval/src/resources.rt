@@ -1,7 +1,6 @@
 //! The resources of one element (RDFa Core 1.1, section 7.5, steps 5 and 6; HTML+RDFa 1.1, section 3.1).
 ghost use Rattle.std.specs.Prelude.{◌≡◌, ◌&&◌, IfOk, option_map, option_copied};
-ghost use Rattle.rx_model.specs.Seen.{node_seen};
-ghost use Rattle.rx_rdfa.specs.Resources.{has_link, is_plain_property, resource_named, linked_resource, default_subject, of_link, of_property, of_no_link, resources, is_root_child, is_head_or_body};
+ghost use Rattle.rx_rdfa.specs.Common.{node_seen, has_link, is_plain_property, resource_named, linked_resource, default_subject, of_link, of_property, of_no_link, resources, is_root_child, is_head_or_body};
 ghost use Rattle.rx_curie.specs.Seen.{ref_seen, facts_seen};
 ghost use Rattle.rx_eval.specs.ElementResources.{claims_nothing, names_nothing, says_nothing, linked_ref, fresh_node, page_node, property_type, found_seen};
 ghost use Rattle.rx_eval.specs.Places.{path_at, naming, ruled};

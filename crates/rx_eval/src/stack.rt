@@ -1,9 +1,7 @@
 //! The stack of contexts: the open elements that have their frames, and those of which nothing is said.
 ghost use Rattle.std.specs.Prelude.{◌≡◌, ◌∷◌, ◌<◌, ◌≤◌, ◌^◌, ◌+◌, ◌↔◌, ◌==◌, nat_le, true, false, [], None, Some, option_map, if◌then◌else◌, length, IfOk, OnOk, OnErr, IsOk, IsErr};
-ghost use Rattle.std.specs.Str.{chars};
-ghost use Rattle.rx_model.specs.Seen.{triples_seen, node_seen};
+ghost use Rattle.rx_rdfa.specs.Common.{chars, triples_seen, node_seen, resolved};
 ghost use Rattle.rx_model.specs.Terms.{Iri as named_by};
-ghost use Rattle.rx_refs.specs.Resolve.{resolved};
 ghost use Rattle.rx_rdfa.specs.Renaming.{labels as labels_of};
 ghost use Rattle.rx_curie.specs.Seen.{facts_seen};
 ghost use Rattle.rx_eval.specs.Contexts.{context_seen};

@@ -1,9 +1,6 @@
 //! The triples of an element's start, in the order of the steps.
 ghost use Rattle.std.specs.Prelude.{◌≡◌, ◌∷◌, [], OnOk, IfOk, option_map};
-ghost use Rattle.rx_model.specs.Seen.{node_seen, term_seen};
-ghost use Rattle.rx_rdfa.specs.Inherited.{listed};
-ghost use Rattle.rx_rdfa.specs.Resources.{resources};
-ghost use Rattle.rx_rdfa.specs.Element.{start_of};
+ghost use Rattle.rx_rdfa.specs.Common.{node_seen, term_seen, listed, resources, start_of};
 ghost use Rattle.rx_curie.specs.Seen.{facts_seen, ref_seen, refs_seen};
 ghost use Rattle.rx_eval.specs.ElementResources.{found_seen};
 ghost use Rattle.rx_eval.specs.TextRules.{resource_term};

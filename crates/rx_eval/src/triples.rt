@@ -1,8 +1,7 @@
 //! The triples of an element's start (RDFa Core 1.1, section 7.5, steps 2, 7, 9, 11 and 12).
 ghost use Rattle.std.specs.Prelude.{◌≡◌, ◌≤◌, ◌+◌, ◌∷◌, [], OnOk, length, map, filter_map};
-ghost use Rattle.rx_model.specs.Seen.{node_seen, term_seen};
+ghost use Rattle.rx_model.specs.Common.{node_seen, term_seen, spo};
 ghost use Rattle.rx_lists.specs.Appends.{Appends};
-ghost use Rattle.rx_model.specs.Copied.{spo};
 ghost use Rattle.rx_eval.specs.Triples.{GainsFirst, completed_by};
 
 use crate::contexts::IncompleteTriple;

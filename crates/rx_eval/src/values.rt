@@ -1,9 +1,6 @@
 //! The value of `property` (RDFa Core 1.1, section 7.5, step 11; HTML+RDFa 1.1, section 3.1).
 ghost use Rattle.std.specs.Prelude.{◌≡◌, IfOk, option_map, option_copied, is_some};
-ghost use Rattle.std.specs.Str.{chars};
-ghost use Rattle.rx_model.specs.Seen.{node_seen, term_seen};
-ghost use Rattle.rx_rdfa.specs.Resources.{resource_attribute, resource_named};
-ghost use Rattle.rx_rdfa.specs.Value.{typed_literal, plain_literal, time_literal, is_time};
+ghost use Rattle.rx_rdfa.specs.Common.{chars, node_seen, term_seen, resource_attribute, resource_named, typed_literal, plain_literal, time_literal, is_time};
 ghost use Rattle.rx_curie.specs.Seen.{datatype_seen, facts_seen, ref_seen, kind_seen};
 ghost use Rattle.rx_eval.specs.ElementResources.{found_seen};
 ghost use Rattle.rx_eval.specs.Moment.{labelled};

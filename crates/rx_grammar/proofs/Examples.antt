@@ -1,11 +1,8 @@
 -- Tags that were worked out by hand, as the definitions read them.
-use Rattle.rx_terms.proofs.Common.{◌≡◌, true, false, [], ◌∷◌, ◌++◌, Some, refl, arith, Chars, list_all}
-use Rattle.std.specs.Prelude.{codes}
-use Rattle.rx_chars.specs.declared.syntax.Syntax.TheVariants.{Html}
+use Rattle.rx_grammar.proofs.Common.{◌≡◌, true, false, [], ◌∷◌, ◌++◌, Some, refl, arith, Chars, list_all, codes, Html, SpellsTag}
 use Rattle.rx_grammar.specs.References.{Denotes, nothing, character, reference, kept, is_plain, meaning}
 use Rattle.rx_chars.specs.Named.{named, named_table}
 use Rattle.rx_grammar.specs.Shapes.{a_start, no_more, one, no_value, unquoted, quoted}
-use Rattle.rx_grammar.specs.Tags.{SpellsTag}
 
 -- plain characters are their own value
 plain : (text : Chars) → list_all (is_plain Html) text ≡ true → Denotes Html (meaning Html) text text

@@ -1,7 +1,6 @@
 -- The tokens of a page in order, each with its place and the content that it is spelled in.
 use Rattle.std.specs.Prelude.{◌≡◌, ℕ, ◌+◌, ◌≤◌, Bool, true, false, ◌&&◌, ◌==◌, List, [], ◌∷◌, ◌++◌, map, Option, Some, None, if◌then◌else◌}
-use Rattle.rx_terms.specs.Ascii.{right_bracket, greater_than_sign, line_feed}
-use Rattle.rx_terms.specs.Text.{Chars}
+use Rattle.rx_terms.specs.Common.{right_bracket, greater_than_sign, line_feed, Chars}
 use Rattle.rx_chars.specs.Characters.{Entry}
 use Rattle.rx_chars.specs.declared.syntax.Syntax.{Syntax}
 use Rattle.rx_grammar.specs.declared.contents.Content.{Content}

@@ -14,3 +14,4 @@ pub mod Begun
 pub mod PageFaults
 pub mod Laws
 pub mod Kinds
+pub mod Common

@@ -1,9 +1,6 @@
 -- The names of elements that the grammar knows, and the table of end tags that may be omitted.
 use Rattle.std.specs.Prelude.{Bool, ◌||◌, ◌==◌, List, [], ◌∷◌, Option, Some, None, codes, nat_eq, if◌then◌else◌}
-use Rattle.std.specs.Cmp.Lexicographic.{pointwise}
-use Rattle.std.specs.List.{list_any}
-use Rattle.rx_terms.specs.Text.{Chars}
-use Rattle.rx_terms.specs.Ascii.{hyphen}
+use Rattle.rx_terms.specs.Common.{pointwise, list_any, Chars, hyphen}
 use Rattle.rx_grammar.specs.declared.contents.RawName.{RawName}
 use Rattle.rx_grammar.specs.declared.contents.RawName.TheVariants.{Script, Style, Iframe, Noembed, Noframes, Xmp, Title, Textarea}
 

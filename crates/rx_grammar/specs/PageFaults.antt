@@ -1,8 +1,6 @@
 -- The one fault of bytes that are no page.
 use Rattle.std.specs.Prelude.{◌≡◌, ◌≢◌, ℕ, ◌+◌, ◌≤◌, ◌<◌, ◌⊎◌, Bool, true, false, not, ◌||◌, ◌&&◌, ◌==◌, nat_le, List, [], ◌∷◌, ◌++◌, length, take, drop, codes, Option, Some, None, if◌then◌else◌}
-use Rattle.std.specs.List.{list_any}
-use Rattle.rx_terms.specs.Ascii.{ampersand, solidus, less_than_sign, greater_than_sign, is_white_space, right_bracket}
-use Rattle.rx_terms.specs.Text.{Chars, lowered, begins_with}
+use Rattle.rx_terms.specs.Common.{list_any, ampersand, solidus, less_than_sign, greater_than_sign, is_white_space, right_bracket, Chars, lowered, begins_with}
 use Rattle.rx_chars.specs.Utf8.{IsCharacter, BeginsCharacter, BeginNone}
 use Rattle.rx_chars.specs.Characters.{Entry, IsRead}
 use Rattle.rx_chars.specs.declared.syntax.Syntax.{Syntax}

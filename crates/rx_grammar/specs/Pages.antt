@@ -1,7 +1,6 @@
 -- What a page is, and which tree it has.
 use Rattle.std.specs.Prelude.{◌≡◌, ℕ, suc, ◌≤◌, ◌==◌, Bool, true, false, not, ◌&&◌, List, [], ◌∷◌, ◌++◌, length, codes, Some, None, if◌then◌else◌}
-use Rattle.std.specs.List.{list_all}
-use Rattle.rx_terms.specs.Text.{Chars}
+use Rattle.rx_terms.specs.Common.{list_all, Chars}
 use Rattle.rx_chars.specs.Characters.{Entry, IsRead}
 use Rattle.rx_chars.specs.declared.syntax.Syntax.{Syntax}
 use Rattle.rx_grammar.specs.declared.contents.Content.{Content}

@@ -1,8 +1,6 @@
 -- Character references, and the texts that are read with them (HTML, 13.1.4 and 13.5; XML 1.0, 4.1).
 use Rattle.std.specs.Prelude.{◌≡◌, ℕ, ◌+◌, ◌-◌, ◌*◌, Bool, true, false, not, ◌||◌, ◌&&◌, ◌==◌, [], ◌∷◌, ◌++◌, Option, Some, None, codes, if◌then◌else◌}
-use Rattle.std.specs.List.{list_all}
-use Rattle.rx_terms.specs.Ascii.{tab, line_feed, space, quotation_mark, number_sign, ampersand, apostrophe, semicolon, less_than_sign, greater_than_sign, between, is_letter, is_digit, is_letter_or_digit}
-use Rattle.rx_terms.specs.Text.{Chars}
+use Rattle.rx_terms.specs.Common.{list_all, tab, line_feed, space, quotation_mark, number_sign, ampersand, apostrophe, semicolon, less_than_sign, greater_than_sign, between, is_letter, is_digit, is_letter_or_digit, Chars}
 use Rattle.rx_chars.specs.declared.syntax.Syntax.{Syntax}
 use Rattle.rx_chars.specs.declared.syntax.Syntax.TheVariants.{Html, Xhtml}
 use Rattle.rx_chars.specs.Named.{named}

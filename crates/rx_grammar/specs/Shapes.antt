@@ -1,9 +1,7 @@
 -- How the characters of a tag are cut into its name, its attributes and its end (HTML, 13.1.2.1 to 13.1.2.3 and 13.2.5.6 to 13.2.5.40;
 -- XML 1.0, 3.1). A value is still as it is written.
 use Rattle.std.specs.Prelude.{◌≡◌, ℕ, Bool, true, false, not, ◌||◌, ◌&&◌, ◌==◌, List, [], ◌∷◌, ◌++◌}
-use Rattle.std.specs.List.{list_all}
-use Rattle.rx_terms.specs.Ascii.{quotation_mark, apostrophe, solidus, colon, less_than_sign, equals_sign, greater_than_sign, is_letter, is_white_space}
-use Rattle.rx_terms.specs.Text.{Chars}
+use Rattle.rx_terms.specs.Common.{list_all, quotation_mark, apostrophe, solidus, colon, less_than_sign, equals_sign, greater_than_sign, is_letter, is_white_space, Chars}
 use Rattle.rx_chars.specs.declared.syntax.Syntax.{Syntax}
 use Rattle.rx_chars.specs.declared.syntax.Syntax.TheVariants.{Html, Xhtml}
 use Rattle.rx_chars.specs.NcName.{is_nc_start, is_nc}

@@ -1,8 +1,6 @@
 -- Which characters spell which token, in each content.
 use Rattle.std.specs.Prelude.{◌≡◌, ◌≢◌, ℕ, Bool, true, false, not, ◌||◌, ◌&&◌, ◌==◌, [], ◌∷◌, ◌++◌, codes, Option, Some, None}
-use Rattle.std.specs.List.{list_all}
-use Rattle.rx_terms.specs.Ascii.{ampersand, solidus, semicolon, less_than_sign, greater_than_sign, question_mark, left_bracket, is_letter, is_white_space}
-use Rattle.rx_terms.specs.Text.{Chars, lowered, begins_with}
+use Rattle.rx_terms.specs.Common.{list_all, ampersand, solidus, semicolon, less_than_sign, greater_than_sign, question_mark, left_bracket, is_letter, is_white_space, Chars, lowered, begins_with}
 use Rattle.rx_chars.specs.declared.syntax.Syntax.{Syntax}
 use Rattle.rx_chars.specs.declared.syntax.Syntax.TheVariants.{Html, Xhtml}
 use Rattle.rx_grammar.specs.declared.contents.Content.{Content}

@@ -1,7 +1,6 @@
 -- The first character of a tag that is faulty, and its kind.
 use Rattle.std.specs.Prelude.{◌≡◌, ℕ, true, false, List, [], ◌∷◌, ◌++◌, None}
-use Rattle.rx_terms.specs.Ascii.{quotation_mark, apostrophe, ampersand, semicolon, less_than_sign, greater_than_sign}
-use Rattle.rx_terms.specs.Text.{Chars}
+use Rattle.rx_terms.specs.Common.{quotation_mark, apostrophe, ampersand, semicolon, less_than_sign, greater_than_sign, Chars}
 use Rattle.rx_chars.specs.declared.syntax.Syntax.{Syntax}
 use Rattle.rx_chars.specs.declared.syntax.Syntax.TheVariants.{Html, Xhtml}
 use Rattle.rx_grammar.specs.declared.faults.Kind.{Kind}

@@ -1,7 +1,6 @@
 -- The tokens of a page.
 use Rattle.std.specs.Prelude.{ℕ, Bool, List, [], ◌∷◌, Option, Some, None, if◌then◌else◌}
-use Rattle.std.specs.List.{list_any}
-use Rattle.rx_terms.specs.Text.{Chars}
+use Rattle.rx_terms.specs.Common.{list_any, Chars}
 use Rattle.rx_grammar.specs.Names.{same}
 
 -- a name and a value

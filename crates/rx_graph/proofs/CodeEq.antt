@@ -1,5 +1,5 @@
 -- The code's tests of equality are exact.
-use Rattle.rx_terms.proofs.Common.{◌≡◌, ◌↔◌, Bool, true, rules, nat_eq, sym, same_truth}
+use Rattle.rx_model.proofs.Common.{◌≡◌, ◌↔◌, Bool, true, rules, nat_eq, sym, same_truth, IsExact, same_node, exact_numbers, exact_nodes}
 use Rattle.rx_terms.specs.declared.triples.Triple.{Triple as CodeTriple}
 use Rattle.rx_terms.specs.contracts.triples.TriplePartialEq.TheImpl as triple_eq
 use Rattle.rx_terms.specs.declared.triples.Blank.{Blank as CodeBlank}
@@ -7,7 +7,6 @@ use Rattle.rx_terms.specs.contracts.triples.BlankPartialEq.TheImpl as blank_impl
 use Rattle.rx_graph.specs.declared.resources.Resource.{Resource}
 use Rattle.rx_graph.specs.contracts.resources.ResourcePartialEq.TheImpl as resource_impl
 use Rattle.rx_graph.specs.Resources.{resource_seen}
-use Rattle.rx_model.proofs.Common.{IsExact, same_node, exact_numbers, exact_nodes}
 
 abbrev pub code_eq : CodeTriple → CodeTriple → Bool
 code_eq = (triple_eq.ghosts).eq

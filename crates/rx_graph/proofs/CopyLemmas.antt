@@ -1,12 +1,7 @@
 -- What is copied from patterns, by their numbers.
-use Rattle.rx_terms.proofs.Common.{◌≡◌, ◌⊎◌, ⊎_elim, ℕ, zero, suc, ◌+◌, ◌<◌, ◌≤◌, Bool, true, false, nat_eq, nat_lt, List, [], ◌∷◌, ◌++◌, flat_map, length, take, get_or, slice_get, slice_set, Option, Some, None, option_map, is_none, refl, sym, ap, ap₂, subst, ◌∙◌, inl, inr, true≢false, arith, append-nil, cons_option, cases_lt, and_from, nat_tests, Decides-eqb, take_all, same_truth}
-use Rattle.std.proofs.Common.{not, ◌&&◌, ◌||◌, ◌==◌, if◌then◌else◌}
-use Rattle.std.specs.List.Sorted.{IsPermutation, IsNonDecreasing}
+use Rattle.rx_model.proofs.Common.{◌≡◌, ◌⊎◌, ⊎_elim, ℕ, zero, suc, ◌+◌, ◌<◌, ◌≤◌, Bool, true, false, nat_eq, nat_lt, List, [], ◌∷◌, ◌++◌, flat_map, length, take, get_or, slice_get, slice_set, Option, Some, None, option_map, is_none, refl, sym, ap, ap₂, subst, ◌∙◌, inl, inr, true≢false, arith, append-nil, not, ◌&&◌, ◌||◌, ◌==◌, if◌then◌else◌, cons_option, cases_lt, and_from, nat_tests, Decides-eqb, take_all, same_truth, IsPermutation, IsNonDecreasing, Among, Node, Triple, same_node, edges, live, says_pattern, Leads, here, onward, leads, triple_seen, triples_seen, exact_numbers, exact_nodes, Among_left, Among_right, Among_cases, or_cases, and_left, and_right, of_pair, pattern_true}
 use Rattle.rx_terms.specs.declared.triples.Triple.{Triple as CodeTriple}
-use Rattle.rx_model.proofs.Common.{Among, Node, Triple, same_node, edges, live, says_pattern, triple_seen, triples_seen, exact_numbers, exact_nodes, Among_left, Among_right, Among_cases, or_cases, and_left, and_right}
-use Rattle.rx_model.specs.Copied.{Leads, here, onward, leads}
 use Rattle.rx_model.proofs.Leads.{leads_along}
-use Rattle.rx_model.proofs.Copied.{of_pair, pattern_true}
 use Rattle.rx_graph.specs.Rows.{pushed, empty_rows}
 use Rattle.rx_graph.specs.Resources.{number_in, live_by}
 use Rattle.rx_graph.specs.Patterns.{places, edges_by, ArePatterns, AreReferenced}

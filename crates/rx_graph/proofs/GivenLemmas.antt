@@ -1,8 +1,6 @@
 -- A list in which blank nodes are given their numbers from left to right, in place.
-use Rattle.rx_terms.proofs.Common.{◌≡◌, ℕ, zero, suc, ◌+◌, ◌<◌, ◌≤◌, List, [], ◌∷◌, ◌++◌, map, length, take, drop, get_or, slice_get, slice_set, Some, refl, sym, ap, ◌∙◌, nat_eq, Result, Ok, Err, IfOk, arith, map-append, take_all, slice_get-get_or}
+use Rattle.rx_model.proofs.Common.{◌≡◌, ℕ, zero, suc, ◌+◌, ◌<◌, ◌≤◌, List, [], ◌∷◌, ◌++◌, map, length, take, drop, get_or, slice_get, slice_set, Some, refl, sym, ap, ◌∙◌, nat_eq, Result, Ok, Err, IfOk, arith, map-append, take_all, slice_get-get_or, distinct, with_all, same_triple, set_of, blanks_of, blanks, place_in, rename, numbered, Renamed, triple_seen, triples_seen, exact_numbers, numbers_one_to_one}
 use Rattle.rx_terms.specs.declared.triples.Triple.{Triple as CodeTriple}
-use Rattle.rx_model.proofs.Common.{distinct, with_all, same_triple, set_of, blanks_of, blanks, place_in, rename, numbered, Renamed, triple_seen, triples_seen, exact_numbers}
-use Rattle.rx_model.proofs.Numbered.{numbers_one_to_one}
 use Rattle.rx_graph.proofs.NumberLemmas.{numbers_turn, front_turn, numbered_once}
 
 -- ---- one element of a list is set

@@ -1,7 +1,5 @@
 -- Lists to which each element comes once, from left to right, and the places of the elements.
-use Rattle.rx_terms.proofs.Common.{◌≡◌, suc, ◌+◌, Bool, true, false, List, [], ◌∷◌, ◌++◌, length, refl, sym, ap, ◌∙◌, inl, inr, true≢false, append_assoc, append-nil, cond, arith}
-use Rattle.std.proofs.Common.{◌||◌, if◌then◌else◌}
-use Rattle.rx_model.proofs.Common.{Among, IsExact, contains, distinct, with_one, with_all, place_in, Among_right, Among-contains, Among_distinct}
+use Rattle.rx_model.proofs.Common.{◌≡◌, suc, ◌+◌, Bool, true, false, List, [], ◌∷◌, ◌++◌, length, refl, sym, ap, ◌∙◌, inl, inr, true≢false, append_assoc, append-nil, cond, arith, ◌||◌, if◌then◌else◌, Among, IsExact, contains, distinct, with_one, with_all, place_in, Among_right, Among-contains, Among_distinct}
 use Rattle.rx_graph.proofs.SetLemmas.{distinct_grows}
 
 module _ {B : Type 0} (same : B → B → Bool) where

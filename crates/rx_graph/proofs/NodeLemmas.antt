@@ -1,11 +1,10 @@
 -- Borrowed nodes and their list.
-use Rattle.rx_terms.proofs.Common.{◌≡◌, suc, ◌+◌, Bool, true, false, nat_lt, nat_eq, List, [], ◌∷◌, map, length, position, Some, option_map, refl, sym, ap, ◌∙◌, arith, AllByRecursion, position_or_len, nat_tests}
-use Rattle.std.proofs.Common.{if◌then◌else◌}
-use Rattle.std.specs.List.{IsDistinct}
+use Rattle.rx_model.proofs.Common.{nat_tests, contains, with_one, same_node}
+use Rattle.std.proofs.Common.{◌≡◌, suc, ◌+◌, Bool, true, false, nat_lt, nat_eq, List, [], ◌∷◌, map, length, position, Some, option_map, refl, sym, ap, ◌∙◌, arith, if◌then◌else◌}
+use Rattle.std.specs.List.{AllByRecursion, position_or_len, IsDistinct}
 use Rattle.rx_graph.specs.declared.resources.Resource.{Resource}
 use Rattle.rx_graph.specs.Resources.{resource_seen, number_in, AreDistinct}
 use Rattle.rx_unique.specs.Unique.{insert_key}
-use Rattle.rx_model.proofs.Common.{contains, with_one, same_node}
 use Rattle.rx_graph.proofs.CodeEq.{resource_eq, resources_agree_back}
 use Rattle.rx_graph.proofs.SetLemmas.{insert_seen}
 

@@ -1,8 +1,5 @@
 -- Numbering from left to right.
-use Rattle.rx_terms.proofs.Common.{◌≡◌, ℕ, ◌+◌, Bool, true, false, List, [], ◌∷◌, ◌++◌, map, refl, sym, ap, ap₂, ◌∙◌, inl, nat_eq, arith, append_assoc, append-nil, cond, take, slice_get, Some, position_or_len, map-append, same_truth}
-use Rattle.std.proofs.Common.{if◌then◌else◌}
-use Rattle.rx_model.proofs.Common.{Among, contains, distinct, with_one, with_all, Node, Iri, Blank, Term, Resource, Literal, Triple, same_triple, blank_of_node, blank_of_term, blanks_of, blanks, place_in, rename_node, rename_term, rename, numbered, Among_left, Among_right, Among_distinct, Among_flat_map, exact_numbers, exact_triples, triple_seen, triples_seen}
-use Rattle.rx_model.proofs.Numbered.{place_tells}
+use Rattle.rx_model.proofs.Common.{◌≡◌, ℕ, ◌+◌, Bool, true, false, List, [], ◌∷◌, ◌++◌, map, refl, sym, ap, ap₂, ◌∙◌, inl, nat_eq, arith, append_assoc, append-nil, cond, take, slice_get, Some, if◌then◌else◌, position_or_len, map-append, same_truth, Among, contains, distinct, with_one, with_all, Node, Iri, Blank, Term, Resource, Literal, Triple, same_triple, blank_of_node, blank_of_term, blanks_of, blanks, place_in, rename_node, rename_term, rename, numbered, Among_left, Among_right, Among_distinct, Among_flat_map, exact_numbers, exact_triples, triple_seen, triples_seen, place_tells}
 use Rattle.rx_terms.specs.declared.triples.Blank.{Blank as CodeBlank}
 use Rattle.rx_terms.specs.declared.triples.Triple.{Triple as CodeTriple}
 use Rattle.rx_unique.specs.Unique.{insert_key}

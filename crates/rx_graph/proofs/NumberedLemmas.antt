@@ -1,7 +1,6 @@
 -- Blank nodes that have their numbers already.
-use Rattle.rx_terms.proofs.Common.{◌≡◌, ◌∙◌, ℕ, zero, suc, ◌<◌, ◌≤◌, true, false, List, [], ◌∷◌, ◌++◌, map, length, refl, sym, ap, ap₂, true≢false, nat_eq, cond, arith, length-append, ◌+◌, take, slice_get, Option, Some, None, MatchOption, ⊎_elim, cases_lt, nat_tests}
-use Rattle.std.proofs.Common.{◌||◌, if◌then◌else◌, take_all, IfSome, is_some}
-use Rattle.rx_model.proofs.Common.{Among, contains, distinct, with_one, with_all, Node, Iri, Blank, Term, Resource, Literal, Triple, blanks, place_in, rename_node, rename_term, rename, numbered, blanks_of, exact_numbers, triple_seen, triples_seen}
+use Rattle.rx_model.proofs.Common.{cases_lt, nat_tests, Among, contains, distinct, with_one, with_all, Node, Iri, Blank, Term, Resource, Literal, Triple, blanks, place_in, rename_node, rename_term, rename, numbered, blanks_of, exact_numbers, triple_seen, triples_seen}
+use Rattle.std.proofs.Common.{◌≡◌, ◌∙◌, ℕ, zero, suc, ◌<◌, ◌≤◌, true, false, List, [], ◌∷◌, ◌++◌, map, length, refl, sym, ap, ap₂, true≢false, nat_eq, cond, arith, length-append, ◌+◌, take, slice_get, Option, Some, None, MatchOption, ⊎_elim, ◌||◌, if◌then◌else◌, take_all, IfSome, is_some}
 use Rattle.rx_terms.specs.declared.triples.Triple.{Triple as CodeTriple}
 use Rattle.rx_graph.specs.Numbering.{numbers_to}
 use Rattle.rx_graph.proofs.Growing.{contains_append, place_append, contains_behind, place_behind, has_last, in_distinct}

@@ -1,10 +1,6 @@
 -- The patterns of a list, from left to right.
-use Rattle.rx_terms.proofs.Common.{◌≡◌, ℕ, suc, zero, ◌+◌, ◌<◌, ◌≤◌, Bool, true, false, nat_eq, List, [], ◌∷◌, ◌++◌, filter_map, flat_map, length, take, slice_get, Option, Some, None, option_map, refl, sym, ap, ap₂, subst, ◌∙◌, true≢false, arith, append-nil, bytes_eq, or_parts, filter_map-append, take_all, slice_get_within, cons_option, list_any, or-false}
-use Rattle.std.proofs.Common.{◌&&◌, ◌||◌, if◌then◌else◌}
+use Rattle.rx_model.proofs.Common.{◌≡◌, ℕ, suc, zero, ◌+◌, ◌<◌, ◌≤◌, Bool, true, false, nat_eq, List, [], ◌∷◌, ◌++◌, filter_map, flat_map, length, take, slice_get, Option, Some, None, option_map, refl, sym, ap, ap₂, subst, ◌∙◌, true≢false, arith, append-nil, bytes_eq, ◌&&◌, ◌||◌, if◌then◌else◌, or_parts, filter_map-append, take_all, slice_get_within, cons_option, list_any, or-false, contains, distinct, with_one, Node, Iri, Term, Resource, Literal, Triple, same_node, same_triple, same_term, live, says_pattern, is_referenced, treated, copied, rdfa_copy, rdfa_pattern, type_pattern, is_pattern, pattern_object, edge, replaced, rdf_type, triple_seen, triples_seen, exact_numbers, exact_nodes}
 use Rattle.rx_terms.specs.declared.triples.Triple.{Triple as CodeTriple}
-use Rattle.rx_model.proofs.Common.{contains, distinct, with_one, Node, Iri, Term, Resource, Literal, Triple, same_node, same_triple, live, says_pattern, is_referenced, treated, copied, rdf_type, triple_seen, triples_seen, exact_numbers, exact_nodes}
-use Rattle.rx_model.specs.Terms.{same_term}
-use Rattle.rx_model.specs.Copied.{rdfa_copy, rdfa_pattern, type_pattern, is_pattern, pattern_object, edge, replaced}
 use Rattle.rx_graph.specs.Resources.{number_in, object_by, live_by}
 use Rattle.rx_graph.specs.Rows.{empty_rows}
 use Rattle.rx_graph.specs.Patterns.{copies, places, ArePatterns, AreReferenced, edge_by, edges_by}

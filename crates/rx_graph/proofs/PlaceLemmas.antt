@@ -1,15 +1,7 @@
 -- Places in order, and what is given there.
-use Rattle.rx_terms.proofs.Common.{◌≡◌, ℕ, suc, ◌+◌, ◌<◌, ◌≤◌, Bool, true, false, nat_eq, nat_lt, List, [], ◌∷◌, ◌++◌, flat_map, filter_map, length, take, get_or, slice_get, Option, Some, None, is_none, refl, sym, ap, ap₂, subst, ◌∙◌, true≢false, arith, append-nil, append_assoc, length-append, inl, inr, cons_option, nat_tests, take_all, filter_map-append}
-use Rattle.std.proofs.Common.{not, ◌&&◌, ◌||◌, if◌then◌else◌}
-use Rattle.std.specs.List.{sum_by}
+use Rattle.rx_model.proofs.Common.{◌≡◌, ℕ, suc, ◌+◌, ◌<◌, ◌≤◌, Bool, true, false, nat_eq, nat_lt, List, [], ◌∷◌, ◌++◌, flat_map, filter_map, length, take, get_or, slice_get, Option, Some, None, is_none, refl, sym, ap, ap₂, subst, ◌∙◌, true≢false, arith, append-nil, append_assoc, length-append, inl, inr, not, ◌&&◌, ◌||◌, if◌then◌else◌, cons_option, sum_by, nat_tests, take_all, filter_map-append, IsPermutation, IsNonDecreasing, IsPermutation-refl, IsPermutation-trans, IsPermutation-cons, IsPermutation-middle, IsPermutation-append, sum_by-IsPermutation, sum_by-cons, flat_map-append, Among, contains, with_one, with_all, Node, Triple, same_node, same_triple, live, edges, treated, copied, is_referenced, says_pattern, spo, leads, given, triple_seen, triples_seen, exact_numbers, exact_triples, Among-contains, or_cases, or_left, or_right}
 use Rattle.std.specs.Option.{option_to_list}
-use Rattle.std.specs.List.Sorted.{IsPermutation, IsNonDecreasing}
-use Rattle.std.proofs.lemmas.List.Sorted.{IsPermutation-refl, IsPermutation-trans, IsPermutation-cons, IsPermutation-middle, IsPermutation-append, sum_by-IsPermutation}
-use Rattle.std.proofs.lemmas.List.Sums.{sum_by-cons}
-use Rattle.std.proofs.lemmas.Grind.{flat_map-append}
 use Rattle.rx_terms.specs.declared.triples.Triple.{Triple as CodeTriple}
-use Rattle.rx_model.proofs.Common.{Among, contains, with_one, with_all, Node, Triple, same_node, same_triple, live, edges, treated, copied, is_referenced, says_pattern, spo, triple_seen, triples_seen, exact_numbers, exact_triples, Among-contains, or_cases, or_left, or_right}
-use Rattle.rx_model.specs.Copied.{leads, given}
 use Rattle.rx_graph.specs.Patterns.{places, ArePatterns, AreReferenced, edges_by, given_one}
 use Rattle.rx_graph.specs.Copying.{gives, contents, given_from, given_at}
 use Rattle.rx_graph.specs.Ways.{EachOnce}

@@ -1,7 +1,6 @@
 -- A set that is made of a list from its last triple on.
-use Rattle.rx_terms.proofs.Common.{◌≡◌, ◌∙◌, List, [], ◌∷◌, ◌++◌, reverse, sym, ap, ap₂, nat_eq, reverse-append, reverse-reverse}
+use Rattle.rx_model.proofs.Common.{◌≡◌, ◌∙◌, List, [], ◌∷◌, ◌++◌, reverse, sym, ap, ap₂, nat_eq, reverse-append, reverse-reverse, distinct, with_one, with_all, same_triple, triple_seen, triples_seen, exact_numbers, exact_triples}
 use Rattle.rx_terms.specs.declared.triples.Triple.{Triple as CodeTriple}
-use Rattle.rx_model.proofs.Common.{distinct, with_one, with_all, same_triple, triple_seen, triples_seen, exact_numbers, exact_triples}
 use Rattle.rx_graph.proofs.Growing.{all_distinct}
 
 -- what is there and what is left, the last of it first, come to the graph of the list

@@ -1,11 +1,8 @@
 -- Lists that grow by what they lack.
-use Rattle.rx_terms.proofs.Common.{◌≡◌, Bool, true, false, ◌≤◌, List, [], ◌∷◌, ◌++◌, map, filter, refl, sym, ap, ap₂, ◌∙◌, inl, inr, true≢false, nat_eq, ℕ, append-nil, Result, Ok, Err, is_err, IfOk, suc, ◌+◌, take, length, slice_get, slice_set, get_or, zero, ◌<◌, Option, None, Some, arith, slice_get_within, get_or_from_slice_get, AllByRecursion, list_any, filter-append, map-append, length-map, same_truth}
-use Rattle.std.proofs.Common.{not, ◌||◌, ◌&&◌, if◌then◌else◌, is_ok, IfSome}
-use Rattle.std.proofs.Math.Seq.{take-suc}
-use Rattle.std.specs.List.{IsDistinct}
+use Rattle.rx_model.proofs.Common.{◌≡◌, Bool, true, false, ◌≤◌, List, [], ◌∷◌, ◌++◌, map, filter, refl, sym, ap, ap₂, ◌∙◌, inl, inr, true≢false, nat_eq, ℕ, append-nil, Result, Ok, Err, is_err, IfOk, suc, ◌+◌, take, length, slice_get, slice_set, get_or, zero, ◌<◌, Option, None, Some, arith, not, ◌||◌, ◌&&◌, if◌then◌else◌, is_ok, IfSome, slice_get_within, get_or_from_slice_get, filter-append, map-append, length-map, same_truth, take-suc, Among, IsExact, contains, distinct, with_one, same_triple, triple_seen, triples_seen, Among_of_distinct, and_left, and_right, exact_numbers, exact_triples}
+use Rattle.std.specs.List.{AllByRecursion, list_any, IsDistinct}
 use Rattle.rx_unique.specs.Unique.{insert_key}
 use Rattle.rx_terms.specs.declared.triples.Triple.{Triple as CodeTriple}
-use Rattle.rx_model.proofs.Common.{Among, IsExact, contains, distinct, with_one, same_triple, triple_seen, triples_seen, Among_of_distinct, and_left, and_right, exact_numbers, exact_triples}
 use Rattle.rx_model.proofs.Seen.{triple_tells, list_tells}
 use Rattle.rx_graph.specs.Graph.{IsNumbered}
 use Rattle.rx_graph.specs.Rows.{pushed}

@@ -1,8 +1,6 @@
 -- Numbers that lead to numbers.
-use Rattle.rx_terms.proofs.Common.{◌≡◌, ◌⊎◌, ⊎_elim, ℕ, zero, suc, ◌+◌, ◌<◌, ◌≤◌, Bool, true, false, nat_eq, nat_lt, List, [], ◌∷◌, ◌++◌, map, length, replicate, get_or, slice_get, slice_set, Some, refl, sym, ap, ap₂, subst, ◌∙◌, inl, inr, true≢false, arith, append-nil, append_assoc, length-append, cases_lt, nat_tests, Decides-eqb, length-set, slice_get_within, AllByRecursion, list_any, same_truth}
-use Rattle.std.proofs.Common.{not, ◌&&◌, ◌||◌, if◌then◌else◌}
-use Rattle.rx_model.proofs.Common.{Among, contains, with_one, Among_left, Among_right, Among_cases, Among-contains, Among_by_contains, exact_numbers}
-use Rattle.std.specs.List.{IsDistinct}
+use Rattle.rx_model.proofs.Common.{◌≡◌, ◌⊎◌, ⊎_elim, ℕ, zero, suc, ◌+◌, ◌<◌, ◌≤◌, Bool, true, false, nat_eq, nat_lt, List, [], ◌∷◌, ◌++◌, map, length, replicate, get_or, slice_get, slice_set, Some, refl, sym, ap, ap₂, subst, ◌∙◌, inl, inr, true≢false, arith, append-nil, append_assoc, length-append, not, ◌&&◌, ◌||◌, if◌then◌else◌, cases_lt, nat_tests, Decides-eqb, length-set, slice_get_within, same_truth, Among, contains, with_one, Among_left, Among_right, Among_cases, Among-contains, Among_by_contains, exact_numbers}
+use Rattle.std.specs.List.{AllByRecursion, list_any, IsDistinct}
 use Rattle.rx_unique.specs.Unique.{insert_key}
 use Rattle.rx_graph.proofs.Growing.{has_one}
 use Rattle.rx_graph.specs.Rows.{pushed, empty_rows}

@@ -1,8 +1,6 @@
 -- What is copied from patterns, by their numbers.
 use Rattle.std.specs.Prelude.{◌≡◌, ◌⊎◌, ◌<◌, ℕ, Bool, false, not, ◌&&◌, List, [], length, get_or, slice_get, Option, Some, None, option_map, is_none, filter_map, nat_eq, if◌then◌else◌}
-use Rattle.rx_model.specs.Sets.{Among}
-use Rattle.rx_model.specs.Terms.{Node, Triple, same_node}
-use Rattle.rx_model.specs.Copied.{edges, given, leads, says_pattern, treated}
+use Rattle.rx_model.specs.Common.{Among, Node, Triple, same_node, edges, given, leads, says_pattern, treated}
 use Rattle.rx_graph.specs.Resources.{number_in, live_by}
 use Rattle.rx_graph.specs.Rows.{pushed}
 use Rattle.rx_graph.specs.Patterns.{places, edges_by, given_one, is_given, ArePatterns, AreReferenced}

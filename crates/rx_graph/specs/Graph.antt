@@ -1,10 +1,7 @@
 -- A graph as the list of its triples, each once.
 use Rattle.std.specs.Prelude.{◌≡◌, ℕ, Bool, true, List, nat_eq}
 use Rattle.rx_terms.specs.declared.triples.Triple.{Triple as CodeTriple}
-use Rattle.rx_model.specs.Sets.{with_all}
-use Rattle.rx_model.specs.Terms.{Triple, same_triple}
-use Rattle.rx_model.specs.Numbered.{numbered}
-use Rattle.rx_model.specs.Seen.{triples_seen}
+use Rattle.rx_model.specs.Common.{with_all, Triple, same_triple, numbered, triples_seen}
 
 -- Behind the code's triples of one list stand these, each where it isn't there yet.
 abbrev pub Adds : List (Triple ℕ) → List CodeTriple → List CodeTriple → Type 0

@@ -1,8 +1,6 @@
 -- The patterns of a list of triples, and the places of triples in it.
 use Rattle.std.specs.Prelude.{◌≡◌, ℕ, suc, Bool, not, ◌&&◌, List, [], ◌∷◌, filter_map, Option, Some, None, option_map, is_none, nat_eq, bytes_eq, if◌then◌else◌}
-use Rattle.rx_model.specs.Sets.{contains}
-use Rattle.rx_model.specs.Terms.{Node, Triple, same_node}
-use Rattle.rx_model.specs.Copied.{rdfa_copy, is_pattern, is_referenced, live, says_pattern, spo}
+use Rattle.rx_model.specs.Common.{contains, Node, Triple, same_node, rdfa_copy, is_pattern, is_referenced, live, says_pattern, spo}
 use Rattle.rx_graph.specs.Resources.{live_by}
 
 -- the triple's predicate is rdfa:copy

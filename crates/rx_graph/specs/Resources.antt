@@ -2,10 +2,8 @@
 use Rattle.std.specs.Prelude.{◌≡◌, ℕ, suc, false, List, [], ◌∷◌, Option, Some, None, option_map, nat_eq, bytes_eq, if◌then◌else◌}
 use Rattle.rx_graph.specs.declared.resources.Resource.{Resource}
 use Rattle.rx_graph.specs.declared.resources.Resource.TheVariants as borrowed
-use Rattle.rx_model.specs.Sets.{contains}
-use Rattle.rx_model.specs.Terms.{Node, Iri, Blank, Term, Literal, Triple, same_node}
+use Rattle.rx_model.specs.Common.{contains, Node, Iri, Blank, Term, Literal, Triple, same_node, rdfa_copy}
 use Rattle.rx_model.specs.Terms as model
-use Rattle.rx_model.specs.Copied.{rdfa_copy}
 
 abbrev pub resource_seen : Resource → Node ℕ
 resource_seen (borrowed.Iri iri) = Iri iri.now

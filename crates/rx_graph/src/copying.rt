@@ -1,7 +1,6 @@
 //! Property copying (HTML+RDFa 1.1, section 3.5).
 ghost use Rattle.std.specs.Prelude.{◌≡◌, IfOk, nat_eq};
-ghost use Rattle.rx_model.specs.Copied.{copied};
-ghost use Rattle.rx_model.specs.Seen.{triples_seen};
+ghost use Rattle.rx_model.specs.Common.{copied, triples_seen};
 
 use crate::graphs::Graph;
 use crate::keyed::Keyed;

@@ -1,8 +1,6 @@
 //! A graph.
 ghost use Rattle.std.specs.Prelude.{◌≡◌, ◌<◌, length, IfOk, Some, slice_get, ◌==◌, nat_eq, true};
-ghost use Rattle.rx_model.specs.Sets.{distinct};
-ghost use Rattle.rx_model.specs.Terms.{same_triple};
-ghost use Rattle.rx_model.specs.Seen.{triples_seen};
+ghost use Rattle.rx_model.specs.Common.{distinct, same_triple, triples_seen};
 ghost use Rattle.rx_graph.specs.Graph.{IsNumbered};
 
 use crate::keyed::Keyed;

@@ -1,7 +1,6 @@
 //! An index of the patterns of a list, and what copying each gives.
 ghost use Rattle.std.specs.Prelude.{◌≡◌, [], flat_map, get_or, option_map, IfOk, OnOk};
-ghost use Rattle.std.specs.List.Sorted.{IsPermutation, IsNonDecreasing};
-ghost use Rattle.rx_model.specs.Seen.{triple_seen, triples_seen};
+ghost use Rattle.rx_model.specs.Common.{IsPermutation, IsNonDecreasing, triple_seen, triples_seen};
 ghost use Rattle.rx_graph.specs.Resources.{resource_seen, number_in};
 ghost use Rattle.rx_graph.specs.Patterns.{ArePatterns};
 ghost use Rattle.rx_graph.specs.Ways.{mark_at, EachOnce};

@@ -1,9 +1,6 @@
 //! The numbering of blank nodes.
 ghost use Rattle.std.specs.Prelude.{◌≡◌, [], true, IfOk, IfSome, MatchOption, OnOk, nat_eq};
-ghost use Rattle.rx_model.specs.Sets.{with_one, with_all};
-ghost use Rattle.rx_model.specs.Terms.{set_of};
-ghost use Rattle.rx_model.specs.Numbered.{blank_of_node, blank_of_term, blanks_of, place_in, rename_node, rename_term, rename, numbered, Renamed};
-ghost use Rattle.rx_model.specs.Seen.{node_seen, term_seen, triple_seen, triples_seen};
+ghost use Rattle.rx_model.specs.Common.{with_one, with_all, set_of, blank_of_node, blank_of_term, blanks_of, place_in, rename_node, rename_term, rename, numbered, Renamed, node_seen, term_seen, triple_seen, triples_seen};
 ghost use Rattle.rx_graph.specs.Graph.{IsNumbered};
 ghost use Rattle.rx_graph.specs.Numbering.{numbers_to};
 

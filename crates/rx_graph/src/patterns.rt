@@ -1,7 +1,6 @@
 //! The patterns of a list of triples, and what they give.
 ghost use Rattle.std.specs.Prelude.{◌≡◌, true, filter_map, option_to_list, IfOk, OnOk, nat_eq};
-ghost use Rattle.rx_model.specs.Copied.{is_pattern};
-ghost use Rattle.rx_model.specs.Seen.{node_seen, triple_seen, triples_seen};
+ghost use Rattle.rx_model.specs.Common.{is_pattern, node_seen, triple_seen, triples_seen};
 ghost use Rattle.rx_graph.specs.Graph.{Adds};
 ghost use Rattle.rx_graph.specs.Resources.{resource_seen};
 ghost use Rattle.rx_graph.specs.Patterns.{ArePatterns, AreReferenced, edges_by, given_one};

@@ -1,8 +1,6 @@
 //! Nodes that are borrowed from triples.
 ghost use Rattle.std.specs.Prelude.{◌≡◌, ◌<◌, [], length, OnErr, OnOk, Some, slice_get, option_map, nat_eq};
-ghost use Rattle.rx_model.specs.Sets.{contains, with_one};
-ghost use Rattle.rx_model.specs.Terms.{same_node};
-ghost use Rattle.rx_model.specs.Seen.{node_seen, term_seen, triple_seen};
+ghost use Rattle.rx_model.specs.Common.{contains, with_one, same_node, node_seen, term_seen, triple_seen};
 ghost use Rattle.rx_graph.specs.Resources.{resource_seen, resource_of, number_in, live_by, AreDistinct};
 
 use crate::vocabulary::copies;

@@ -1,8 +1,6 @@
 //! Triples, each once.
 ghost use Rattle.std.specs.Prelude.{◌≡◌, ◌<◌, [], length, IfOk, OnOk, Some, slice_get, nat_eq};
-ghost use Rattle.rx_model.specs.Sets.{distinct, with_one};
-ghost use Rattle.rx_model.specs.Terms.{same_triple};
-ghost use Rattle.rx_model.specs.Seen.{triple_seen, triples_seen};
+ghost use Rattle.rx_model.specs.Common.{distinct, with_one, same_triple, triple_seen, triples_seen};
 
 use crate::keyed::Keyed;
 use indexmap::IndexSet;

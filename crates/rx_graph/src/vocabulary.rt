@@ -1,11 +1,7 @@
 //! RDFa's vocabulary for patterns.
 ghost use Rattle.std.specs.Prelude.{◌≡◌, true, bytes_eq, nat_eq};
-ghost use Rattle.std.specs.List.{list_all};
-ghost use Rattle.rx_terms.specs.Ascii.{is_ascii};
-ghost use Rattle.rx_model.specs.Copied.{rdfa_copy, rdfa_pattern, says_pattern};
-ghost use Rattle.rx_model.specs.Seen.{term_seen, triple_seen};
+ghost use Rattle.rx_model.specs.Common.{list_all, is_ascii, rdfa_copy, rdfa_pattern, says_pattern, term_seen, triple_seen, same_term};
 ghost use Rattle.rx_model.specs.Terms as model;
-ghost use Rattle.rx_model.specs.Terms.{same_term};
 
 use rx_terms::{Iri, Term, Triple};
 

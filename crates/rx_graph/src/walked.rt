@@ -1,7 +1,6 @@
 //! What one walk through a list tells.
 ghost use Rattle.std.specs.Prelude.{◌≡◌, true, false, IfSome};
-ghost use Rattle.std.specs.List.{list_any};
-ghost use Rattle.rx_model.specs.Seen.{triples_seen};
+ghost use Rattle.rx_model.specs.Common.{list_any, triples_seen};
 ghost use Rattle.rx_graph.specs.Graph.{IsNumbered};
 ghost use Rattle.rx_graph.specs.Patterns.{copies};
 

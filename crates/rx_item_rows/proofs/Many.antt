@@ -1,12 +1,6 @@
 -- The first fault of many items in a row.
-use Rattle.rx_terms.proofs.Common.{not, ◌&&◌, ◌==◌, nat_le, option_or, list_any, refl, sym, ap, subst, ◌∙◌, leb-true, le-leb, false_from_ne_true, Chars}
-use Rattle.std.specs.Prelude.{◌≡◌, ℕ, zero, suc, ◌+◌, ◌<◌, Bool, true, false, cond, List, [], ◌∷◌, ◌++◌, map, filter, flat_map, length, Contains, Option, Some, None}
-use Rattle.std.specs.Option.{option_map}
-use mathlib.Core.Logic.{inl, inr}
-use native.Mathlib.Omega.{arith}
-use Rattle.rx_grammar.specs.declared.faults.Kind.{Kind}
-use Rattle.rx_grammar.specs.declared.faults.Kind.TheVariants.{ItemsTooMany}
-use Rattle.rx_grammar.proofs.Common.{end, element}
+use Rattle.rx_rdfa.proofs.Common.{not, ◌&&◌, ◌==◌, nat_le, ◌≡◌, ℕ, zero, suc, ◌+◌, ◌<◌, Bool, true, false, cond, List, [], ◌∷◌, ◌++◌, map, filter, flat_map, length, Contains, Option, Some, None, list_any, refl, sym, ap, subst, ◌∙◌, leb-true, le-leb, false_from_ne_true, Chars, inl, inr, arith, Kind, ItemsTooMany, end, element}
+use Rattle.std.specs.Option.{option_or, option_map}
 use Rattle.rx_microdata.specs.Elements.{Placed, placed_from, elements_of, is_item, names_of, is_top_level, count}
 use Rattle.rx_microdata.specs.Properties.{is_any, is_property, starts_of, properties, reaches}
 use Rattle.rx_microdata.specs.Facts.{facts_of}

@@ -1,7 +1,6 @@
 -- The worked row of a visit too many at the standard bounds, which is too long to be computed.
 use Rattle.std.specs.Prelude.{◌≡◌, ℕ, zero, suc, ◌+◌, ◌*◌, false, [], ◌∷◌, codes}
-use Rattle.rx_grammar.specs.declared.faults.Kind.TheVariants.{ItemsTooMany}
-use Rattle.rx_grammar.specs.Trees.{StartTag, Tree, end, element}
+use Rattle.rx_rdfa.specs.Common.{ItemsTooMany, StartTag, Tree, end, element}
 use Rattle.rx_microdata.specs.Visits.{standard_bounds}
 use Rattle.rx_microdata.specs.Json.{Refused, outcome}
 use Rattle.rx_item_rows.specs.Pages.{here}

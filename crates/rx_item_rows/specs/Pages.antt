@@ -1,16 +1,12 @@
 -- How the pages of worked rows are written, and what is shown of them.
 use Rattle.std.specs.Prelude.{◌≡◌, ℕ, false, List, [], ◌∷◌, map, codes, encode_utf8_all}
-use Prim.Native.String.{String}
+use Rattle.rx_rdfa.specs.Common.{String, Chars, Attribute, Tree, end, element, text, Kind}
 use Rattle.json.specs.Print.{escape_byte}
 use Rattle.serde_json.specs.Written.{compact_text}
 use lib.Utf8.{encode}
-use Rattle.rx_terms.specs.Text.{Chars}
 use Rattle.rx_refs.specs.Parts.{components_of}
 use Rattle.rx_refs.specs.Dots.{step, without_dots}
 use Rattle.rx_refs.specs.Resolve.{target, resolved}
-use Rattle.rx_grammar.specs.Tokens.{Attribute}
-use Rattle.rx_grammar.specs.Trees.{Tree, end, element, text}
-use Rattle.rx_grammar.specs.declared.faults.Kind.{Kind}
 use Rattle.rx_microdata.specs.Visits.{Bounds}
 use Rattle.rx_microdata.specs.Json.{Outcome, Given, Refused, outcome}
 

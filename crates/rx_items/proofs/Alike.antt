@@ -1,15 +1,5 @@
 -- Where the elements of one table stand for those of another, visits and JSON are alike.
-use Rattle.rx_terms.proofs.Common.{⊤, not, ◌&&◌, ◌||◌, ◌==◌, nat_le, option_or, list_any, refl, sym, ap, ◌∙◌, Chars, map-append, length-map}
-use Rattle.std.specs.Prelude.{◌≡◌, ℕ, zero, suc, Bool, true, false, nat_lt, cond, codes, List, [], ◌∷◌, ◌++◌, map, filter, flat_map, Option, Some, None, option_map}
-use Rattle.rx_grammar.specs.declared.faults.Kind.{Kind}
-use Rattle.rx_grammar.specs.declared.faults.Kind.TheVariants.{Cycle, ItemsTooNested, ItemsTooMany}
-use Rattle.serde_json.specs.Data.{Data, object, member, array, no_members}
-use Rattle.rx_microdata.specs.Facts.{Value, Written, said}
-use Rattle.rx_microdata.specs.Elements.{Placed, is_item, names_of}
-use Rattle.rx_microdata.specs.Properties.{is_any}
-use Rattle.rx_microdata.specs.Visits.{Visit, Bounds, is_cycle, items_in, visits_from, visits_by, fault_of, first_fault}
-use Rattle.rx_microdata.specs.Json.{Outcome, Given, refused, string_of, item_of, named, json_of_item, json_by, list_of, outcome_by}
-use Rattle.rx_items.specs.Rows.{needed}
+use Rattle.rx_items.proofs.Common.{⊤, not, ◌&&◌, ◌||◌, ◌==◌, nat_le, ◌≡◌, ℕ, zero, suc, Bool, true, false, nat_lt, cond, codes, List, [], ◌∷◌, ◌++◌, map, filter, flat_map, Option, Some, None, option_map, option_or, list_any, refl, sym, ap, ◌∙◌, Chars, map-append, length-map, Kind, Cycle, ItemsTooNested, ItemsTooMany, Data, object, member, array, no_members, Value, Written, said, Placed, is_item, names_of, is_any, Visit, Bounds, is_cycle, items_in, visits_from, visits_by, fault_of, first_fault, Outcome, Given, refused, string_of, item_of, named, json_of_item, json_by, list_of, outcome_by, needed}
 
 abbrev pub Each : {X : Type 0} → (X → Type 0) → List X → Type 0
 Each P [] = ⊤

@@ -1,14 +1,5 @@
 -- The rows of a page lie in each other: by their scopes, and by the items around them.
-use Rattle.rx_terms.proofs.Common.{◌≡◌, ◌∙◌, ◌+◌, ◌<◌, ℕ, suc, Bool, true, false, cond, List, ◌∷◌, ◌++◌, Contains, Option, Some, None, refl, sym, ap, subst, arith, Contains-append_left, Contains-append_right, slice_get-get_or, Chars}
-use Rattle.std.specs.Prelude.{slice_get}
-use mathlib.Core.Logic.{◌⊎◌, inl, inr}
-use Rattle.rx_grammar.proofs.Common.{StartTag, Tree, end, element, text}
-use Rattle.rx_microdata.specs.Facts.{begins_item, facts_of}
-use Rattle.rx_microdata.specs.Elements.{Placed, is_item, scope_in}
-use Rattle.rx_microdata.specs.Laws.{is_before}
-use Rattle.rx_microdata.proofs.Lists.{first, later}
-use Rattle.rx_items.specs.Rows.{matters, behind, row_count, rows_from, rows_of, with_row}
-use Rattle.rx_items.specs.Showing.{ShowsRows}
+use Rattle.rx_items.proofs.Common.{◌≡◌, ◌∙◌, ◌+◌, ◌<◌, ℕ, suc, Bool, true, false, cond, List, ◌∷◌, ◌++◌, Contains, Option, Some, None, refl, sym, ap, subst, arith, Contains-append_left, Contains-append_right, slice_get-get_or, Chars, slice_get, ◌⊎◌, inl, inr, StartTag, Tree, end, element, text, begins_item, facts_of, Placed, is_item, scope_in, is_before, first, later, matters, behind, row_count, rows_from, rows_of, with_row, ShowsRows}
 use Rattle.rx_items.specs.declared.rows.Row.{Row}
 use Rattle.rx_items.proofs.Alike.{Each, each_append}
 use Rattle.rx_items.specs.Lying.{Lies}

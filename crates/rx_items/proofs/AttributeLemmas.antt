@@ -1,8 +1,5 @@
 -- The value of a tag's attribute, whose name is ASCII.
-use Rattle.std.specs.Prelude.{◌≡◌, ℕ, true, List, Option, Some, None, MatchOption}
-use Rattle.rx_terms.proofs.Common.{list_all, chars, sym, ap, ◌∙◌, is_ascii, ascii-chars, seen_slice}
-use denote.Ref.{Bor}
-use Rattle.rx_grammar.proofs.Common.{Attribute, value_of}
+use Rattle.rx_grammar.proofs.Common.{◌≡◌, ℕ, true, List, Option, Some, None, MatchOption, list_all, chars, sym, ap, ◌∙◌, is_ascii, ascii-chars, seen_slice, Bor, Attribute, value_of}
 
 pub found : (attributes : List Attribute) (name : List ℕ) (result : Option (Bor (List ℕ))) → list_all is_ascii name ≡ true
     → MatchOption result (value_of attributes (chars name) ≡ None) (λ value. value_of attributes (chars name) ≡ Some (chars value.now))

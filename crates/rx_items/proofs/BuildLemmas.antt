@@ -1,20 +1,9 @@
 -- What stands beside a table's rows, one after another.
-use Rattle.rx_terms.proofs.Common.{◌≡◌, ◌∙◌, ◌+◌, ◌≤◌, ℕ, zero, suc, true, false, List, [], ◌∷◌, ◌++◌, length, Contains, ◌↔◌, Option, Some, None, option_map, refl, sym, ap, subst, arith, unwrap_or, Chars, tokens, not_both_ways}
-use Rattle.std.specs.Prelude.{filter_map, slice_get}
-use mathlib.Core.Logic.{◌⊎◌, inl, inr}
-use Rattle.std.proofs.lemmas.List.{length-append}
-use Rattle.rx_grammar.proofs.Common.{Tree}
-use Rattle.rx_microdata.specs.Elements.{Placed, is_item}
-use Rattle.rx_microdata.specs.Facts.{distinct_tokens}
-use Rattle.rx_items.specs.Rows.{rows_of}
-use Rattle.rx_items.specs.Showing.{ShowsRow, ShowsWord}
-use Rattle.rx_items.specs.Words.{names_in, types_in}
+use Rattle.rx_items.proofs.Common.{◌≡◌, ◌∙◌, ◌+◌, ◌≤◌, ℕ, zero, suc, true, false, List, [], ◌∷◌, ◌++◌, length, Contains, ◌↔◌, Option, Some, None, option_map, refl, sym, ap, subst, arith, unwrap_or, filter_map, slice_get, Chars, tokens, not_both_ways, ◌⊎◌, inl, inr, length-append, Tree, Placed, is_item, distinct_tokens, rows_of, ShowsRow, ShowsWord, names_in, types_in, look_in, RunOf, Sorted}
 use Rattle.rx_items.specs.declared.rows.Row.{Row}
 use Rattle.rx_items.specs.declared.spans.Span.{Span}
 use Rattle.rx_items.specs.Held.{AllFit, AreTokens, Fits, Reaches, names_beside, runs_beside, types_beside}
 use Rattle.rx_items.specs.Built.{Builds}
-use Rattle.rx_items.specs.Ids.{look_in}
-use Rattle.rx_items.specs.Members.{RunOf, Sorted}
 use Rattle.rx_items.specs.declared.kept.BesideRow.{BesideRow}
 use Rattle.rx_items.specs.declared.kept.Run.{Run}
 use Rattle.rx_items.proofs.NestLemmas.{numbered}

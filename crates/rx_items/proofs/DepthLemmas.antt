@@ -1,13 +1,6 @@
 -- How deep the JSON of a page's items nests.
-use Rattle.rx_terms.proofs.Common.{◌≡◌, ◌≤◌, ◌+◌, ◌*◌, ℕ, zero, suc, Bool, true, false, List, [], ◌∷◌, ◌++◌, map, subst, arith, Option, Some, None, Ordering, Less, Equal, Greater, nat_cmp, match_ordering, slice_cmp, Chars}
-use Rattle.std.specs.Prelude.{codes, filter, flat_map, encode_utf8_all}
-use Rattle.serde_json.specs.Data.{Data, Members, null, boolean, number, string, array, object, no_members, member, depth, items_depth, members_depth}
-use Rattle.rx_grammar.specs.declared.faults.Kind.{Kind}
-use Rattle.rx_microdata.specs.Facts.{Facts, said}
-use Rattle.rx_microdata.specs.Elements.{Placed, is_item, names_of, is_top_level}
-use Rattle.rx_microdata.specs.Properties.{properties}
-use Rattle.rx_microdata.specs.Visits.{Bounds, Visit, standard_bounds, visits_by, first_fault}
-use Rattle.rx_microdata.specs.Json.{string_of, list_of, onto, with_value, grouped, with_types, with_id, item_of, named, json_of_item, json_by, Outcome, Given, refused, outcome_of}
+use Rattle.rx_items.proofs.Common.{◌≡◌, ◌≤◌, ◌+◌, ◌*◌, ℕ, zero, suc, Bool, true, false, List, [], ◌∷◌, ◌++◌, map, subst, arith, Option, Some, None, Ordering, Less, Equal, Greater, nat_cmp, slice_cmp, Chars, codes, filter, flat_map, encode_utf8_all, Data, Members, null, boolean, number, string, array, object, no_members, member, depth, items_depth, members_depth, Kind, Facts, said, Placed, is_item, names_of, is_top_level, properties, Bounds, Visit, standard_bounds, visits_by, first_fault, string_of, list_of, onto, with_value, grouped, with_types, with_id, item_of, named, json_of_item, json_by, Outcome, Given, refused, outcome_of}
+use Rattle.std.specs.Ordering.{match_ordering}
 use Rattle.rx_items.specs.JsonLaws.{JsonNests}
 
 texts_flat : (texts : List Chars) → items_depth (list_of (map string_of texts)) ≤ 0

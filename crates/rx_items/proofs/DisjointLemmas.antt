@@ -1,13 +1,5 @@
 -- Runs in order of their begins, of each what is behind those before it: the same members, each in one run.
-use Rattle.std.proofs.Common.{◌≡◌, ◌<◌, ◌≤◌, ℕ, Bool, true, false, cond, List, [], ◌∷◌, ◌++◌, length, get_or, max, nat_le, Contains, ◌↔◌, Some, refl, sym, subst, arith}
-use Rattle.std.specs.Prelude.{slice_get}
-use mathlib.Core.Logic.{◌⊎◌, inl, inr}
-use Rattle.std.specs.List.Sorted.{IsNonDecreasingBy, IsPermutation}
-use Rattle.std.proofs.lemmas.List.Sorted.{Contains-permutation, IsPermutation-sym, IsNonDecreasingBy-drop}
-use Rattle.std.proofs.lemmas.List.Elements.{Contains-append_left, Contains-append_right, Contains-append_cases}
-use Rattle.std.proofs.lemmas.Bool.{cases_lt, leb-true, leb-false}
-use Rattle.rx_microdata.proofs.Lists.{first, later, first_or_later, none}
-use Rattle.rx_items.specs.Properties.{in_runs, part}
+use Rattle.rx_items.proofs.Common.{◌≡◌, ◌<◌, ◌≤◌, ℕ, Bool, true, false, cond, List, [], ◌∷◌, ◌++◌, length, get_or, max, nat_le, Contains, ◌↔◌, Some, refl, sym, subst, arith, slice_get, ◌⊎◌, inl, inr, IsNonDecreasingBy, IsPermutation, Contains-permutation, IsPermutation-sym, IsNonDecreasingBy-drop, Contains-append_left, Contains-append_right, Contains-append_cases, cases_lt, leb-true, leb-false, first, later, first_or_later, none, in_runs, part}
 use Rattle.rx_items.specs.Disjoint.{Apart, rest_of, end_of, unshared}
 use Rattle.rx_items.specs.declared.kept.Run.{Run}
 use Rattle.rx_items.proofs.MemberLemmas.{in_part, of_part}

@@ -1,9 +1,5 @@
 -- The tokens of a text, each once, with a set of those that were seen.
-use Rattle.rx_terms.proofs.Common.{◌≡◌, ◌∙◌, refl, sym, ap, ℕ, Bool, true, false, cond, List, [], ◌∷◌, ◌++◌, append_assoc, chars, IsUtf8, Chars, same-chars}
-use Rattle.std.proofs.Common.{not, ◌||◌}
-use Rattle.std.specs.Cmp.Lexicographic.{nat_list_eq_equiv}
-use Rattle.rx_grammar.proofs.Common.{same, is_among}
-use Rattle.rx_microdata.specs.Facts.{without_repeats_of}
+use Rattle.rx_items.proofs.Common.{◌≡◌, ◌∙◌, refl, sym, ap, ℕ, Bool, true, false, cond, List, [], ◌∷◌, ◌++◌, append_assoc, not, ◌||◌, chars, IsUtf8, Chars, same-chars, nat_list_eq_equiv, same, is_among, without_repeats_of}
 
 -- the set has the texts of a list
 pub record Sees (has : List ℕ → Bool) (seen : List Chars) : Type 0 where

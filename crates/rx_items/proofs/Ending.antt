@@ -1,12 +1,7 @@
 -- The items of a whole page.
-use Rattle.std.specs.Prelude.{◌≡◌, List, ℕ, Option, Err}
-use Rattle.rx_terms.proofs.Common.{sym, ap, subst, ◌∙◌, Chars}
-use Rattle.rx_grammar.proofs.Common.{start_of, Tree}
+use Rattle.rx_items.proofs.Common.{◌≡◌, List, ℕ, Option, Err, sym, ap, subst, ◌∙◌, Chars, start_of, Tree, tags_of, signs_of, Stop, rows_of, Growing, ShowsRows, after, nothing_read, Setting, way_of, Collects, BaseIs}
 use Rattle.rx_rdfa.specs.Base.{base_by, root_href}
-use Rattle.rx_rdfa.specs.Pages.{tags_of}
-use Rattle.rx_nest.specs.Signs.{signs_of}
 use Rattle.rx_microdata.specs.Base.{base_in}
-use Rattle.rx_grammar.specs.declared.stops.Stop.{Stop}
 use Rattle.rx_grammar.specs.declared.stops.Stop.TheVariants as stop
 use Rattle.rx_nest.specs.Readings.{IsWhole, Whole, Unfinished}
 use Rattle.rx_base.specs.Seekings.{known, sought}
@@ -14,10 +9,6 @@ use Rattle.rx_base.specs.Sought.{sought_seen}
 use Rattle.rx_base.specs.declared.seeking.Sought.{Sought}
 use Rattle.rx_base.specs.declared.seeking.Sought.TheVariants as looks
 use Rattle.rx_base.proofs.Found.{base_found}
-use Rattle.rx_items.specs.Rows.{rows_of}
-use Rattle.rx_items.specs.Growing.{Growing}
-use Rattle.rx_items.specs.Showing.{ShowsRows, after, nothing_read}
-use Rattle.rx_items.specs.Collecting.{Setting, way_of, Collects, BaseIs}
 use Rattle.rx_items.specs.declared.collectors.Base.{Base}
 use Rattle.rx_items.specs.declared.collectors.Base.TheVariants as base
 use Rattle.rx_items.specs.declared.collectors.Collector.{Collector}

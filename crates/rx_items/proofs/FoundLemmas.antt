@@ -1,16 +1,5 @@
 -- What the visits of a page come to, step by step.
-use Rattle.rx_terms.proofs.Common.{◌≡◌, ◌∙◌, ◌+◌, ℕ, suc, Bool, true, false, cond, List, [], ◌∷◌, ◌++◌, map, filter, length, Option, Some, None, option_map, refl, sym, ap, subst, arith, nat_lt, nat_le, list_any, option_or, Chars}
-use Rattle.std.proofs.Common.{◌==◌, ◌||◌}
-use Rattle.std.specs.Prelude.{flat_map}
-use Rattle.std.proofs.lemmas.List.{length-append}
-use Rattle.rx_grammar.specs.declared.faults.Fault.{Fault}
-use Rattle.rx_grammar.specs.declared.faults.Kind.{Kind}
-use Rattle.rx_grammar.specs.declared.faults.Kind.TheVariants.{Cycle, ItemsTooNested, ItemsTooMany}
-use Rattle.rx_microdata.specs.Elements.{Placed, is_item, names_of}
-use Rattle.rx_microdata.specs.Visits.{Visit, Bounds, visits_from, standard_bounds, fault_of, first_fault, items_in}
-use Rattle.rx_items.specs.Rows.{properties_in}
-use Rattle.rx_items.specs.Expanding.{path_of, kind_of, NoFault, FaultIs, Step, with_name, steps_of, steps_in, visits_of, visits_in}
-use Rattle.std.proofs.lemmas.Grind.{flat_map-append}
+use Rattle.rx_items.proofs.Common.{◌≡◌, ◌∙◌, ◌+◌, ℕ, suc, Bool, true, false, cond, List, [], ◌∷◌, ◌++◌, map, filter, length, Option, Some, None, option_map, refl, sym, ap, subst, arith, nat_lt, ◌==◌, ◌||◌, nat_le, flat_map, list_any, option_or, Chars, length-append, Fault, Kind, Cycle, ItemsTooNested, ItemsTooMany, Placed, is_item, names_of, Visit, Bounds, visits_from, standard_bounds, fault_of, first_fault, items_in, properties_in, path_of, kind_of, NoFault, FaultIs, Step, with_name, steps_of, steps_in, visits_of, visits_in, flat_map-append}
 
 -- ---- faults in a row
 

@@ -1,15 +1,7 @@
 -- What is kept of a page, row by row.
-use Rattle.rx_terms.proofs.Common.{get_or, ◌≡◌, ◌∙◌, ◌+◌, ◌<◌, ◌≤◌, ℕ, zero, suc, Bool, true, false, cond, List, [], ◌∷◌, filter, length, Contains, ◌↔◌, Some, None, sym, ap, subst, arith, nat_cmp, Less, slice_get-get_or, AllByRecursion, Chars}
-use Rattle.std.specs.Prelude.{slice_get}
-use Rattle.std.proofs.lemmas.Option.{slice_get_past}
+use Rattle.rx_items.proofs.Common.{get_or, ◌≡◌, ◌∙◌, ◌+◌, ◌<◌, ◌≤◌, ℕ, zero, suc, Bool, true, false, cond, List, [], ◌∷◌, filter, length, Contains, ◌↔◌, Some, None, sym, ap, subst, arith, nat_cmp, Less, slice_get-get_or, slice_get_past, AllByRecursion, Chars, slice_get, Placed, is_item, names_of, properties_in, ShowsRow, names_in, types_in, AreTokens, AtPlace, IsElement, NamesAt, Reaches, ShowsElement, ShowsTokens, Numbered, is_there, names_beside, others_beside, own_beside, places, types_beside, AllStand, HoldsRows, gathered}
 use Rattle.std.specs.List.Sorted.{IsStrictlySortedBy}
-use Rattle.rx_microdata.specs.Elements.{Placed, is_item, names_of}
-use Rattle.rx_items.specs.Rows.{properties_in}
-use Rattle.rx_items.specs.Showing.{ShowsRow}
-use Rattle.rx_items.specs.Words.{names_in, types_in}
 use Rattle.rx_items.specs.declared.rows.Row.{Row}
-use Rattle.rx_items.specs.Held.{AreTokens, AtPlace, IsElement, NamesAt, Reaches, ShowsElement, ShowsTokens, Numbered, is_there, names_beside, others_beside, own_beside, places, types_beside, AllStand, HoldsRows}
-use Rattle.rx_items.specs.Properties.{gathered}
 use Rattle.rx_items.specs.declared.kept.Element.{Element}
 use Rattle.rx_items.specs.declared.kept.BesideRow.{BesideRow}
 use Rattle.rx_items.specs.declared.kept.Kept.{Kept}

@@ -1,22 +1,9 @@
 -- The first row of each id, from the back.
-use Rattle.rx_terms.proofs.Common.{◌≡◌, ◌∙◌, ◌+◌, ◌<◌, ◌≤◌, ℕ, zero, suc, Bool, true, false, cond, List, [], ◌∷◌, length, drop, get_or, Option, Some, None, option_map, refl, sym, ap, arith, nat_cmp, add-one, slice_cmp, chars, IsUtf8, list_any, Chars, same-chars, slice_get-get_or, slice_get_within, get_or_from_slice_get, or_parts}
-use Rattle.std.proofs.Common.{is_eq, drop-cons}
-use Rattle.std.specs.Prelude.{slice_get, IfOk, OnOk, Result, Ok, Err}
-use Rattle.std.specs.Cmp.Lexicographic.{nat_list_eq_equiv}
-use Rattle.std.proofs.lemmas.Map.Text.{is_eq-slice_cmp}
-use Rattle.rx_grammar.proofs.Common.{same}
-use Rattle.rx_microdata.specs.Elements.{Placed}
-use Rattle.rx_microdata.specs.Properties.{first_with_id, is_same_id}
-use Rattle.rx_items.specs.Held.{Numbered}
-use Rattle.rx_items.specs.Spans.{IsRun}
-use Rattle.rx_items.specs.Words.{references_in, span_if}
-use Rattle.rx_items.specs.Showing.{ShowsRow, ShowsRows, ShowsWord}
+use Rattle.rx_items.proofs.Common.{◌≡◌, ◌∙◌, ◌+◌, ◌<◌, ◌≤◌, ℕ, zero, suc, Bool, true, false, cond, List, [], ◌∷◌, length, drop, get_or, Option, Some, None, option_map, refl, sym, ap, arith, nat_cmp, add-one, is_eq, drop-cons, slice_cmp, nat_list_eq_equiv, chars, IsUtf8, list_any, Chars, same-chars, slice_get-get_or, slice_get_within, get_or_from_slice_get, or_parts, slice_get, IfOk, OnOk, Result, Ok, Err, same, Placed, first_with_id, is_same_id, Numbered, IsRun, references_in, span_if, ShowsRow, ShowsRows, ShowsWord, Looks, LooksFor, has_references, place_of}
+use Rattle.rx_terms.proofs.Common.{is_eq-slice_cmp, BTreeMap, is_at, Bor}
 use Rattle.rx_items.specs.declared.spans.Span.{Span}
 use Rattle.rx_items.specs.declared.rows.Row.{Row}
-use Rattle.std.specs.BTreeMap.{BTreeMap, is_at}
 use Rattle.std.specs.Map.{lookup}
-use denote.Ref.{Bor}
-use Rattle.rx_items.specs.Ids.{Looks, LooksFor, has_references, place_of}
 use Rattle.rx_items.proofs.HoldLemmas.{place_is}
 use Rattle.rx_items.proofs.ShowLemmas.{shown_by}
 

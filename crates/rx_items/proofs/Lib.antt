@@ -37,3 +37,4 @@ pub mod SaidLemmas
 mod ShowLemmas
 mod TakenLemmas
 pub mod TableLaws
+pub mod Common

@@ -1,9 +1,5 @@
 -- Lists: their ends, and one place that is set.
-use Rattle.rx_terms.proofs.Common.{slice_index_or, refl, ap, ◌∙◌, none-some}
-use Rattle.std.specs.Prelude.{◌≡◌, ℕ, zero, suc, ◌-◌, ◌<◌, List, [], ◌∷◌, ◌++◌, length, take, slice_get, slice_set, Some}
-use Rattle.std.proofs.lemmas.List.{length-append}
-use native.Mathlib.Omega.{arith}
-use Rattle.std.proofs.Math.Seq.{get_or-append_seam, take-append_seam}
+use Rattle.rx_items.proofs.Common.{slice_index_or, ◌≡◌, ℕ, zero, suc, ◌-◌, ◌<◌, List, [], ◌∷◌, ◌++◌, length, take, slice_get, slice_set, Some, refl, ap, ◌∙◌, none-some, length-append, arith, get_or-append_seam, take-append_seam}
 
 module _ {X : Type 0} where
   snoc_size : (xs : List X) (x : X) → length (xs ++ (x ∷ [])) - 1 ≡ length xs

@@ -1,10 +1,7 @@
 -- Places that rise, and among which an item's own isn't.
 use Rattle.std.proofs.Common.{◌≡◌, ◌∙◌, ◌<◌, ◌≤◌, ℕ, Bool, true, false, not, ◌==◌, cond, List, [], ◌∷◌, length, filter, Contains, ◌↔◌, refl, sym, ap, subst, arith, nat_lt, nat_cmp, Less, ltb-true}
-use Rattle.std.specs.List.{AllByRecursion}
+use Rattle.rx_items.proofs.Common.{AllByRecursion, append-nil, and_parts, part, gathered, is_other, is_next, rise_behind, are_listed}
 use Rattle.std.specs.List.Sorted.{IsStrictlySortedBy}
-use Rattle.std.proofs.lemmas.List.{append-nil}
-use Rattle.rx_microdata.proofs.Lists.{and_parts}
-use Rattle.rx_items.specs.Properties.{part, gathered, is_other, is_next, rise_behind, are_listed}
 use Rattle.rx_items.specs.declared.kept.Run.{Run}
 use Rattle.rx_items.proofs.RisingLemmas.{Rises, less_of}
 use Rattle.rx_items.proofs.ReachLemmas.{not_none}

@@ -1,12 +1,5 @@
 -- Which rows stand in a run of members.
-use Rattle.rx_terms.proofs.Common.{◌≡◌, ◌∙◌, ◌+◌, ◌-◌, ◌*◌, ◌<◌, ◌≤◌, ℕ, zero, suc, true, List, [], ◌∷◌, length, take, drop, get_or, Contains, Option, Some, None, refl, sym, ap, subst, arith, slice_get-get_or, slice_get_within, get_or_from_slice_get, cases_lt, ltb-true, Chars}
-use Rattle.std.specs.Prelude.{slice_get}
-use Rattle.std.proofs.lemmas.Bool.{ltb-false}
-use Rattle.rx_microdata.specs.Elements.{Placed, names_of}
-use Rattle.rx_microdata.specs.Properties.{is_any}
-use mathlib.Core.Logic.{◌⊎◌, inl, inr}
-use Rattle.rx_items.specs.Properties.{part}
-use Rattle.rx_items.specs.Members.{RunOf, Sorted, key_at, key_of, scope_number, scope_of}
+use Rattle.rx_items.proofs.Common.{◌≡◌, ◌∙◌, ◌+◌, ◌-◌, ◌*◌, ◌<◌, ◌≤◌, ℕ, zero, suc, true, List, [], ◌∷◌, length, take, drop, get_or, Contains, Option, Some, None, refl, sym, ap, subst, arith, slice_get-get_or, slice_get_within, get_or_from_slice_get, cases_lt, ltb-true, ltb-false, Chars, slice_get, Placed, names_of, is_any, ◌⊎◌, inl, inr, part, RunOf, Sorted, key_at, key_of, scope_number, scope_of}
 use Rattle.rx_items.specs.declared.kept.Run.{Run}
 use Rattle.rx_items.specs.declared.rows.Row.{Row}
 use Rattle.rx_items.proofs.ShowLemmas.{shown_by, row_of}

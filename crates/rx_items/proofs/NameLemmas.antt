@@ -1,20 +1,9 @@
 -- Values in byte order of their names come to the same groups, and these are told where the name changes.
-use Rattle.rx_terms.proofs.Common.{◌≡◌, ◌∙◌, ◌+◌, ◌<◌, ◌≤◌, ℕ, suc, Bool, true, false, true≢false, cond, List, [], ◌∷◌, ◌++◌, map, filter, length, get_or, drop, drop_of_length-le, Option, Some, None, Ordering, Less, Equal, Greater, nat_cmp, refl, sym, ap, subst, arith, append_assoc, append-nil, encode_utf8_all, is_lt, slice_cmp, filter-append, Chars}
-use Rattle.std.proofs.Common.{not, ◌&&◌, drop-cons, is_eq, Global, Vec}
-use Rattle.std.specs.Prelude.{flat_map, slice_get, IfOk, Result, Ok, Err}
-use Rattle.std.specs.List.Sorted.{IsSortedBy, IsStableBy, ties}
-use Rattle.std.proofs.lemmas.Cmp.{nat_list_cmp_total, tied_itself}
-use Rattle.std.proofs.lemmas.Map.Text.{is_eq-slice_cmp}
-use Rattle.std.proofs.lemmas.Slice.Eq.{bytes_eq-Decides}
+use Rattle.rx_items.proofs.Common.{slice_cmp, filter-append, Chars, flat_map, slice_get, IfOk, Result, Ok, Err, IsSortedBy, IsStableBy, ties, Data, array, Items, no_items, item, Members, no_members, member, data_events, items_events, members_events, Placed, names_of, with_value, grouped, named, AllStand, places, data_of}
+use Rattle.rx_model.proofs.Common.{◌≡◌, ◌∙◌, ◌+◌, ◌<◌, ◌≤◌, ℕ, suc, Bool, true, false, true≢false, cond, List, [], ◌∷◌, ◌++◌, map, filter, length, get_or, drop, drop_of_length-le, Option, Some, None, Ordering, Less, Equal, Greater, nat_cmp, refl, sym, ap, subst, arith, append_assoc, append-nil, encode_utf8_all, not, ◌&&◌, drop-cons, is_eq, Global, Vec, is_lt, nat_list_cmp_total, tied_itself, is_eq-slice_cmp, bytes_eq-Decides}
 use Rattle.serde.specs.Event as event
 use Rattle.serde.specs.Event.{Event}
 use Rattle.serde.specs.declared.name.Case.TheVariants.{AsIs}
-use Rattle.serde_json.specs.Data.{Data, array, Items, no_items, item, Members, no_members, member}
-use Rattle.rx_json.specs.Events.{data_events, items_events, members_events}
-use Rattle.rx_microdata.specs.Elements.{Placed, names_of}
-use Rattle.rx_microdata.specs.Json.{with_value, grouped, named}
-use Rattle.rx_items.specs.Held.{AllStand, places}
-use Rattle.rx_items.specs.Expanding.{data_of}
 use Rattle.rx_items.specs.Named.{Key, keyed, key_at, keys_in, keys_if, keys_at, keys_seen, is_before, ByName, opening, value_if, value_at, grouped_at, events_behind}
 use Rattle.rx_items.specs.declared.named.Named.{Named}
 use Rattle.rx_json.proofs.PlainLemmas.{turned}

@@ -1,16 +1,6 @@
 -- How the rows of a tree lie in each other.
-use Rattle.std.specs.Prelude.{◌≡◌, ℕ, suc, ◌+◌, ◌<◌, ◌≤◌, Bool, true, false, cond, List, [], ◌∷◌, ◌++◌, length, Option, Some, None}
-use Rattle.rx_terms.proofs.Common.{refl, sym, subst, or_parts}
-use mathlib.Core.Logic.{◌⊎◌, inl, inr}
-use native.Mathlib.Omega.{arith}
+use Rattle.rx_items.proofs.Common.{◌≡◌, ℕ, suc, ◌+◌, ◌<◌, ◌≤◌, Bool, true, false, cond, List, [], ◌∷◌, ◌++◌, length, Option, Some, None, refl, sym, subst, or_parts, ◌⊎◌, inl, inr, arith, StartTag, Tree, end, element, text, begins_item, facts_of, Placed, is_item, scope_in, is_before, matters, behind, row_count, rows_from, with_row, needed, Numbered, length-append}
 use borrow.Author.Tests.{ltb-true, lt-ltb}
-use Rattle.rx_grammar.proofs.Common.{StartTag, Tree, end, element, text}
-use Rattle.rx_microdata.specs.Facts.{begins_item, facts_of}
-use Rattle.rx_microdata.specs.Elements.{Placed, is_item, scope_in}
-use Rattle.rx_microdata.specs.Laws.{is_before}
-use Rattle.rx_items.specs.Rows.{matters, behind, row_count, rows_from, with_row, needed}
-use Rattle.rx_items.specs.Held.{Numbered}
-use Rattle.std.proofs.lemmas.List.{length-append}
 use Rattle.rx_items.proofs.Alike.{Each, each_append}
 
 pub each_by : (P Q : Placed → Type 0) (a : List Placed) → ((x : Placed) → P x → Q x) → Each P a → Each Q a

@@ -1,26 +1,11 @@
 -- The top-level items of a page, one after another.
-use Rattle.rx_terms.proofs.Common.{◌≡◌, ◌∙◌, ◌+◌, ◌<◌, ◌≤◌, ℕ, zero, suc, Bool, true, false, cond, List, [], ◌∷◌, ◌++◌, map, filter, length, take, drop, get_or, Option, Some, None, refl, sym, ap, subst, arith, take_all, Chars}
-use Rattle.std.specs.Prelude.{flat_map, slice_get, Result, Err}
-use Rattle.std.proofs.lemmas.List.{append-nil}
-use Rattle.serde_json.specs.Data.{Data}
+use Rattle.rx_items.proofs.Common.{◌≡◌, ◌∙◌, ◌+◌, ◌<◌, ◌≤◌, ℕ, zero, suc, Bool, true, false, cond, List, [], ◌∷◌, ◌++◌, map, filter, length, take, drop, get_or, Option, Some, None, refl, sym, ap, subst, arith, take_all, append-nil, Chars, flat_map, slice_get, Result, Err, Data, Fault, Kind, Stop, Placed, is_item, is_top_level, is_absent, Visit, visits_from, visits_by, first_fault, standard_bounds, Outcome, Given, Refused, json_of_item, json_by, refused, and_parts, properties_in, outcome_in, HoldsRows, At, NoFault, FaultIs, HasFault, Finds, top_visits, top_data, IsTextOf, JsonGives, TextGives, flat_map-append}
 use Rattle.serde_json.specs.Written.{compact_text}
-use Rattle.rx_grammar.specs.declared.faults.Fault.{Fault}
-use Rattle.rx_grammar.specs.declared.faults.Kind.{Kind}
-use Rattle.rx_grammar.specs.declared.stops.Stop.{Stop}
 use Rattle.rx_grammar.specs.declared.stops.Stop.TheVariants as stop
-use Rattle.rx_microdata.specs.Elements.{Placed, is_item, is_top_level, is_absent}
-use Rattle.rx_microdata.specs.Visits.{Visit, visits_from, visits_by, first_fault, standard_bounds}
-use Rattle.rx_microdata.specs.Json.{Outcome, Given, Refused, json_of_item, json_by, refused}
-use Rattle.rx_microdata.proofs.Lists.{and_parts}
-use Rattle.rx_items.specs.Rows.{properties_in, outcome_in}
-use Rattle.rx_items.specs.Held.{HoldsRows}
-use Rattle.rx_items.specs.Expanding.{At, NoFault, FaultIs, HasFault, Finds}
-use Rattle.rx_items.specs.Pages.{top_visits, top_data, IsTextOf, JsonGives, TextGives}
 use Rattle.rx_items.specs.declared.kept.Kept.{Kept}
 use Rattle.rx_items.proofs.FoundLemmas.{none_then, then_fault, fault_then, none_at_all}
 use Rattle.rx_items.proofs.ShowLemmas.{shows_length}
 use Rattle.rx_items.proofs.TakeLemmas.{one_more, cut_at}
-use Rattle.std.proofs.lemmas.Grind.{flat_map-append}
 
 pub tops_at : {kept : Kept} {rows : List Placed} {base : Chars} (path : List ℕ) → HoldsRows kept rows base → path ≡ [] → At kept rows base path [] 40
 tops_at path h e = record { holds = h; path_is = e; deep = omega arith }

@@ -1,19 +1,10 @@
 -- The visits of a page without its JSON, step by step.
-use Rattle.rx_terms.proofs.Common.{◌≡◌, ◌∙◌, ◌+◌, ◌-◌, ◌<◌, ◌≤◌, ℕ, zero, suc, Bool, true, false, List, [], ◌∷◌, ◌++◌, map, length, take, get_or, refl, sym, ap, subst, arith, append_assoc, take_all, Chars}
-use Rattle.std.specs.Prelude.{Result}
-use Rattle.std.proofs.lemmas.List.{append-nil}
-use Rattle.rx_grammar.specs.declared.stops.Stop.{Stop}
+use Rattle.rx_items.proofs.Common.{◌≡◌, ◌∙◌, ◌+◌, ◌-◌, ◌<◌, ◌≤◌, ℕ, zero, suc, Bool, true, false, List, [], ◌∷◌, ◌++◌, map, length, take, get_or, refl, sym, ap, subst, arith, append_assoc, take_all, append-nil, Chars, Result, Stop, Placed, is_item, names_of, Visit, visits_from, properties_in, ShowsTokens, NoFault, FaultIs, HasFault, Finds, Step, with_name, steps_of, steps_in, visits_of, visits_in, again, count_of, flat_map-append}
 use Rattle.rx_grammar.specs.declared.stops.Stop.TheVariants as stop
-use Rattle.rx_microdata.specs.Elements.{Placed, is_item, names_of}
-use Rattle.rx_microdata.specs.Visits.{Visit, visits_from}
-use Rattle.rx_items.specs.Rows.{properties_in}
-use Rattle.rx_items.specs.Held.{ShowsTokens}
 use Rattle.rx_items.specs.declared.kept.Tokens.{Tokens}
 use Rattle.rx_items.specs.declared.kept.Tokens.TheVariants as tokens
-use Rattle.rx_items.specs.Expanding.{NoFault, FaultIs, HasFault, Finds, Step, with_name, steps_of, steps_in, visits_of, visits_in, again, count_of}
 use Rattle.rx_items.proofs.FoundLemmas.{none_then, then_fault, fault_then, none_at_all, no_visits}
 use Rattle.rx_items.proofs.VisitLemmas.{steps_one, property_err}
-use Rattle.std.proofs.lemmas.Grind.{flat_map-append}
 
 -- ---- the same visits so many times
 

@@ -1,22 +1,10 @@
 -- The runs of an item give its properties, and no others.
-use Rattle.rx_terms.proofs.Common.{◌≡◌, ◌∙◌, ◌+◌, ℕ, zero, suc, Bool, true, false, true≢false, cond, List, [], ◌∷◌, ◌++◌, filter, Contains, ◌↔◌, Option, Some, None, option_map, refl, sym, ap, subst, arith, list_any, eq-eqb, Chars}
-use Rattle.std.proofs.Common.{not, ◌==◌, ◌&&◌, ◌||◌}
-use Rattle.std.specs.Prelude.{slice_get, filter_map, option_to_list}
-use mathlib.Core.Logic.{◌⊎◌, inl, inr}
-use Rattle.std.proofs.lemmas.Bool.{eqb-true}
-use Rattle.rx_microdata.specs.Elements.{Placed, names_of}
-use Rattle.rx_microdata.specs.Properties.{is_any, first_with_id, has_id}
-use Rattle.rx_microdata.specs.Laws.{is_scope, is_property_by_scope, reaches_by_scope}
+use Rattle.rx_items.proofs.Common.{◌≡◌, ◌∙◌, ◌+◌, ℕ, zero, suc, Bool, true, false, true≢false, cond, List, [], ◌∷◌, ◌++◌, filter, Contains, ◌↔◌, Option, Some, None, option_map, refl, sym, ap, subst, arith, not, ◌==◌, ◌&&◌, ◌||◌, list_any, eq-eqb, eqb-true, false_from_ne_true, Chars, slice_get, filter_map, option_to_list, ◌⊎◌, inl, inr, Placed, names_of, is_any, first_with_id, has_id, is_scope, is_property_by_scope, reaches_by_scope, properties_in, Numbered, places, gathered, in_runs, is_other, RunsReach}
 use Rattle.rx_microdata.proofs.Lists.{first, later, first_or_later, and_parts, and_of, or_parts, or_left, or_right, true_not, not_true, none, kept, keeps, contradiction, found_first}
-use Rattle.rx_items.specs.Rows.{properties_in}
-use Rattle.rx_items.specs.Held.{Numbered, places}
-use Rattle.rx_items.specs.Properties.{gathered, in_runs, is_other}
-use Rattle.rx_items.specs.Starts.{RunsReach}
 use Rattle.rx_items.specs.declared.kept.Run.{Run}
 use Rattle.rx_items.proofs.HoldLemmas.{place_is}
 use Rattle.rx_items.proofs.ReferenceLemmas.{one_more}
 use Rattle.rx_items.proofs.MemberLemmas.{there_is}
-use Rattle.std.proofs.lemmas.Bool.{false_from_ne_true}
 
 -- a row at this place that a test lets through
 pub record Let (q : Placed → Bool) (ps : List Placed) (x : ℕ) : Type 0 where

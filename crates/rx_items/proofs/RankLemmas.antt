@@ -1,15 +1,6 @@
 -- The rows of a tree are its elements that matter, renumbered.
-use Rattle.rx_terms.proofs.Common.{⊤, ◌==◌, refl, sym, ap, subst, ◌∙◌, ltb-true, lt-ltb, eq-eqb, cases_lt, map-append, filter-append}
-use Rattle.std.specs.Prelude.{◌≡◌, ℕ, zero, suc, ◌+◌, ◌≤◌, Bool, true, false, nat_lt, cond, List, [], ◌∷◌, ◌++◌, map, filter, length, Contains, Option, Some, option_map}
-use Rattle.std.proofs.lemmas.Bool.{eqb-true}
-use Rattle.std.proofs.lemmas.List.{length-append, append_assoc}
-use mathlib.Core.Logic.{inl, inr}
-use native.Mathlib.Omega.{arith}
-use Rattle.rx_grammar.proofs.Common.{StartTag, Tree, end, element, text}
-use Rattle.rx_microdata.specs.Facts.{begins_item, facts_of}
-use Rattle.rx_microdata.specs.Elements.{Placed, count, scope_in, placed_from}
-use Rattle.rx_microdata.proofs.Lists.{none, three, bool_same}
-use Rattle.rx_items.specs.Rows.{matters, needed, behind, row_count, with_row, rows_from}
+use Rattle.rx_items.proofs.Common.{⊤, ◌==◌, ◌≡◌, ℕ, zero, suc, ◌+◌, ◌≤◌, Bool, true, false, nat_lt, cond, List, [], ◌∷◌, ◌++◌, map, filter, length, Contains, Option, Some, option_map, refl, sym, ap, subst, ◌∙◌, ltb-true, lt-ltb, eq-eqb, cases_lt, eqb-true, filter-append, inl, inr, arith, StartTag, Tree, end, element, text, begins_item, facts_of, Placed, count, scope_in, placed_from, none, three, bool_same, matters, needed, behind, row_count, with_row, rows_from}
+use Rattle.std.proofs.lemmas.List.{map-append, length-append, append_assoc}
 use Rattle.rx_items.specs.Ranks.{marks, rank_in}
 use Rattle.rx_items.proofs.Alike.{moved}
 

@@ -1,18 +1,5 @@
 -- The runs of an item's starts, one after another.
-use Rattle.rx_terms.proofs.Common.{◌≡◌, ◌∙◌, ◌+◌, ◌<◌, ◌≤◌, ℕ, suc, Bool, true, false, cond, List, [], ◌∷◌, ◌++◌, length, take, get_or, Contains, ◌↔◌, Option, Some, None, refl, sym, ap, subst, arith, append_assoc, take_all, Contains-append_left, Contains-append_right, Contains-append_cases, slice_get-get_or, slice_get_within, cases_lt, nat_tests, Chars}
-use Rattle.std.proofs.Common.{◌==◌}
-use Rattle.std.specs.Prelude.{slice_get}
-use mathlib.Core.Logic.{◌⊎◌, inl, inr}
-use Rattle.std.proofs.lemmas.List.{append-nil}
-use Rattle.std.proofs.lemmas.List.Elements.{Contains-push, Contains-push_cases}
-use Rattle.std.proofs.lemmas.Option.{slice_get_past}
-use Rattle.rx_grammar.proofs.Common.{Tree}
-use Rattle.rx_microdata.specs.Elements.{Placed, is_item}
-use Rattle.rx_items.specs.Rows.{rows_of, row_count}
-use Rattle.rx_items.specs.Showing.{ShowsRow}
-use Rattle.rx_items.specs.Members.{Sorted, RunOf}
-use Rattle.rx_items.specs.Properties.{in_runs, part}
-use Rattle.rx_items.specs.Starts.{reach_end, Reached, FromChildren, FromStart, RunsReach}
+use Rattle.rx_items.proofs.Common.{◌≡◌, ◌∙◌, ◌+◌, ◌<◌, ◌≤◌, ℕ, suc, Bool, true, false, cond, List, [], ◌∷◌, ◌++◌, length, take, get_or, Contains, ◌↔◌, Option, Some, None, refl, sym, ap, subst, arith, append_assoc, ◌==◌, take_all, append-nil, Contains-append_left, Contains-append_right, Contains-append_cases, Contains-push, Contains-push_cases, slice_get-get_or, slice_get_within, slice_get_past, cases_lt, nat_tests, Chars, slice_get, ◌⊎◌, inl, inr, Tree, Placed, is_item, rows_of, row_count, ShowsRow, Sorted, RunOf, in_runs, part, reach_end, Reached, FromChildren, FromStart, RunsReach, nothing_kept}
 use Rattle.rx_items.specs.declared.kept.Run.{Run}
 use Rattle.rx_items.specs.declared.rows.Row.{Row}
 use Rattle.rx_items.proofs.IdLemmas.{row_shown}
@@ -20,7 +7,6 @@ use Rattle.rx_items.proofs.MemberLemmas.{in_range, of_range}
 use Rattle.rx_items.proofs.NestLemmas.{laid, numbered}
 use Rattle.rx_items.proofs.StartLemmas.{end_by, run_reaches, reached_in_run}
 use Rattle.rx_items.proofs.TakeLemmas.{one_more}
-use Rattle.rx_items.specs.Growing.{nothing_kept}
 use Rattle.rx_items.proofs.ShowLemmas.{shows_length}
 use Rattle.rx_microdata.proofs.Lists.{none as none_in}
 

@@ -1,15 +1,9 @@
 -- The compact text of a value of texts in lists and objects, whose names rise, is read back as that value.
-use Rattle.rx_terms.proofs.Common.{◌≡◌, ℕ, zero, suc, Bool, true, false, List, [], ◌∷◌, ◌++◌, map, refl, subst, arith, Option, Some, None, Ordering, Less, Equal, Greater, nat_cmp, match_ordering, slice_cmp, Chars}
-use Rattle.std.specs.Prelude.{codes, filter, flat_map, encode_utf8_all}
-use Rattle.serde_json.specs.Data.{Data, Members, null, boolean, number, string, array, object, no_members, member}
+use Rattle.rx_items.proofs.Common.{◌≡◌, ℕ, zero, suc, Bool, true, false, List, [], ◌∷◌, ◌++◌, map, refl, subst, arith, Option, Some, None, Ordering, Less, Equal, Greater, nat_cmp, slice_cmp, Chars, codes, filter, flat_map, encode_utf8_all, Data, Members, null, boolean, number, string, array, object, no_members, member, Facts, said, Placed, is_item, names_of, is_top_level, properties, standard_bounds, string_of, list_of, onto, with_value, grouped, with_types, with_id, item_of, named, json_of_item, json_by}
+use Rattle.std.specs.Ordering.{match_ordering}
 use Rattle.rx_json.specs.Plain.{Leads, IsPlain, ArePlain, MembersArePlain}
 use Rattle.rx_json.proofs.PlainLemmas.{turned, leads_one, leads_through}
 use Rattle.rx_json.proofs.ReadLemmas.{read_back}
-use Rattle.rx_microdata.specs.Facts.{Facts, said}
-use Rattle.rx_microdata.specs.Elements.{Placed, is_item, names_of, is_top_level}
-use Rattle.rx_microdata.specs.Properties.{properties}
-use Rattle.rx_microdata.specs.Visits.{standard_bounds}
-use Rattle.rx_microdata.specs.Json.{string_of, list_of, onto, with_value, grouped, with_types, with_id, item_of, named, json_of_item, json_by}
 use Rattle.rx_items.specs.JsonLaws.{JsonIsReadBack}
 use Rattle.rx_items.proofs.DepthLemmas.{given_is, json_nests}
 

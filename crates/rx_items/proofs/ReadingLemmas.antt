@@ -1,10 +1,7 @@
 -- Texts as JSON.
-use Rattle.rx_terms.proofs.Common.{◌≡◌, ◌∙◌, ℕ, List, [], refl, sym, ap, unwrap_or, chars, chars-nil, Chars}
-use Rattle.std.specs.Prelude.{Option, Some, None, slice_get}
+use Rattle.rx_items.proofs.Common.{◌≡◌, ◌∙◌, ℕ, List, [], refl, sym, ap, unwrap_or, Option, Some, None, slice_get, chars, chars-nil, Chars, Written, said, string_of}
 use Rattle.rx_values.specs.Marks.{CutAt}
-use Rattle.rx_microdata.specs.Facts.{Written, said}
 use Rattle.rx_microdata.specs.Facts as facts
-use Rattle.rx_microdata.specs.Json.{string_of}
 
 pub cut_at_start : (text : Chars) → CutAt text 0 [] text
 cut_at_start text = record { whole = refl; size = refl }

@@ -1,8 +1,5 @@
 -- Tokens that are looked up one after another.
-use Rattle.rx_terms.proofs.Common.{◌≡◌, ◌∙◌, ℕ, List, [], ◌∷◌, ◌++◌, append_assoc, Option, Some, None, sym, ap, refl, subst, unwrap_or, chars, Chars}
-use Rattle.std.specs.Prelude.{option_to_list, filter_map}
-use Rattle.rx_items.specs.Spans.{IsRun}
-use Rattle.rx_items.specs.Showing.{ShowsWord}
+use Rattle.rx_items.proofs.Common.{◌≡◌, ◌∙◌, ℕ, List, [], ◌∷◌, ◌++◌, append_assoc, Option, Some, None, sym, ap, refl, subst, unwrap_or, option_to_list, filter_map, chars, Chars, IsRun, ShowsWord}
 use Rattle.rx_items.specs.declared.spans.Span.{Span}
 
 module _ {A B : Type 0} (p : A → Option B) where

@@ -1,16 +1,11 @@
 -- Places that rise: two lists of the same ones are one list.
-use Rattle.std.proofs.Common.{◌≡◌, ◌<◌, ℕ, List, [], ◌∷◌, Contains, ◌↔◌, ◌==◌, refl, sym, subst, arith, Ordering, Less, Equal, Greater, nat_cmp}
-use Rattle.std.specs.List.{AllByRecursion}
+use Rattle.rx_items.proofs.Common.{◌≡◌, ◌<◌, ℕ, List, [], ◌∷◌, Contains, ◌↔◌, ◌==◌, refl, sym, subst, arith, Ordering, Less, Equal, Greater, nat_cmp, AllByRecursion, All-from_recursion, All-contains, Contains-permutation, IsPermutation-sym, ◌⊎◌, inl, inr, first, later, first_or_later, none}
 use Rattle.std.specs.List.Sorted.{IsStrictlySortedBy, IsSorted, IsPermutation}
 use Rattle.std.specs.List.Retain.{IsFiltered, DiffersFromLast}
 use Rattle.std.proofs.lemmas.Cmp.{ranked, nat_cmp_total}
 use Rattle.std.specs.Cmp.{unsigned_ties}
 use Rattle.std.proofs.lemmas.List.Kept.{Contains-dedup_nat, Contains-from_dedup, IsStrictlySortedBy-dedup}
 use Rattle.std.proofs.lemmas.List.Filters.{dedup_is}
-use Rattle.std.proofs.lemmas.List.Elements.{All-from_recursion, All-contains}
-use Rattle.std.proofs.lemmas.List.Sorted.{Contains-permutation, IsPermutation-sym}
-use mathlib.Core.Logic.{◌⊎◌, inl, inr}
-use Rattle.rx_microdata.proofs.Lists.{first, later, first_or_later, none}
 
 abbrev pub Rises : List ℕ → Type 0
 Rises xs = IsStrictlySortedBy nat_cmp xs

@@ -1,22 +1,11 @@
 -- The rows of a page come to what the page comes to.
-use Rattle.rx_terms.proofs.Common.{not, ◌&&◌, ◌||◌, ◌==◌, is_some, unwrap_or, list_any, cons_option, refl, sym, ap, subst, ◌∙◌, Chars, or_parts, and_right}
-use Rattle.std.specs.Prelude.{◌≡◌, ℕ, ◌≤◌, Bool, true, false, cond, ◌⊎◌, List, [], ◌∷◌, map, filter, filter_map, find, Contains, Option, Some, None, option_map}
-use mathlib.Core.Logic.{inl, inr}
-use Rattle.rx_grammar.proofs.Common.{Tree}
-use Rattle.rx_microdata.specs.Facts.{Facts}
-use Rattle.rx_microdata.specs.Elements.{Placed, elements_of, is_item, names_of, is_top_level}
-use Rattle.rx_microdata.specs.Properties.{is_any, is_same_id, has_id, first_with_id, properties}
-use Rattle.rx_microdata.specs.Laws.{is_before, reaches_by_scope, is_scope, is_property_by_scope}
-use Rattle.rx_microdata.specs.Json.{outcome_by}
-use Rattle.rx_microdata.proofs.Lists.{first, later, contradiction, or_left, or_right, and_parts, found_first, kept}
+use Rattle.rx_items.proofs.Common.{list_any, cons_option, refl, sym, ap, subst, ◌∙◌, Chars, or_parts, and_right, and_left, inl, inr, Tree, Facts, Placed, elements_of, is_item, names_of, is_top_level, is_any, is_same_id, has_id, first_with_id, properties, is_before, reaches_by_scope, is_scope, is_property_by_scope, outcome_by, first, later, contradiction, or_left, or_right, and_parts, found_first, kept, matters, rows_from, rows_of, properties_in, RowsSuffice, append-nil}
+use Rattle.std.specs.Prelude.{not, ◌&&◌, ◌||◌, ◌==◌, is_some, unwrap_or, ◌≡◌, ℕ, ◌≤◌, Bool, true, false, cond, ◌⊎◌, List, [], ◌∷◌, map, filter, filter_map, find, Contains, Option, Some, None, option_map}
 use Rattle.rx_microdata.proofs.Scopes.{scopes}
 use Rattle.rx_microdata.proofs.ScopesList.{list as scopes_list}
-use Rattle.rx_items.specs.Rows.{matters, rows_from, rows_of, properties_in, RowsSuffice}
 use Rattle.rx_items.specs.Ranks.{marks, rank_in}
 use Rattle.rx_items.proofs.Alike.{Each, Item, Moves, outcome_alike}
 use Rattle.rx_items.proofs.RankLemmas.{is_row, ranked, Ranks, Counts, rows_are_ranked, row_counts, lt_same, eq_same, rank_rises, ranks_from}
-use Rattle.std.proofs.lemmas.List.{append-nil}
-use Rattle.std.proofs.lemmas.Bool.{and_left}
 
 -- a filter of what is moved is the moved filter, where the tests agree on rows and other elements fail
 module _ (f : Placed → Placed) (p q : Placed → Bool) where

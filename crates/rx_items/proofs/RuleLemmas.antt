@@ -1,9 +1,5 @@
 -- Bytes and characters of an element's name have the value stand in one place.
-use Rattle.rx_terms.proofs.Common.{◌||◌, list_all, chars, IsUtf8, refl, is_ascii, Chars, same-ascii}
-use Rattle.std.specs.Prelude.{◌≡◌, ℕ, true, List, [], ◌∷◌, codes}
-use Rattle.rx_grammar.proofs.Common.{is_among}
-use Rattle.rx_microdata.specs.Facts.{source_of, embedding_names, linking_names, valued_names}
-use Rattle.rx_microdata.proofs.Lists.{and_parts}
+use Rattle.rx_items.proofs.Common.{◌||◌, ◌≡◌, ℕ, true, List, [], ◌∷◌, codes, list_all, chars, IsUtf8, refl, is_ascii, Chars, same-ascii, is_among, source_of, embedding_names, linking_names, valued_names, and_parts}
 
 among-chars : (names : List Chars) → list_all (λ name. list_all is_ascii name) names ≡ true → (bytes : List ℕ) → IsUtf8 bytes
     → is_among names bytes ≡ is_among names (chars bytes)

@@ -1,12 +1,8 @@
 -- The own texts of times while text is said.
-use Rattle.rx_terms.proofs.Common.{⊤, slice_index_or, refl, sym, ap, ◌∙◌, cases_lt, length-set, Chars, split}
-use Rattle.std.specs.Prelude.{◌≡◌, ℕ, ◌<◌, ◌≤◌, nat_lt, List, [], ◌++◌, length, slice_get, slice_set, Option, Some, None}
-use Rattle.std.proofs.lemmas.Bool.{ltb-false}
-use Rattle.std.proofs.lemmas.List.{append-nil, append_assoc, set-get_or, get_or_append_left, set-append_left, get_or-set_same, set-set, set_past}
-use native.Mathlib.Omega.{arith}
-use Rattle.rx_items.specs.Growing.{with_said}
+use Rattle.rx_items.proofs.Common.{⊤, slice_index_or, ◌≡◌, ℕ, ◌<◌, ◌≤◌, nat_lt, List, [], ◌++◌, length, slice_get, slice_set, Option, Some, None, refl, sym, ap, ◌∙◌, cases_lt, ltb-false, Chars, arith, with_said, ◌⊎◌, inl, inr}
+use Rattle.std.proofs.lemmas.List.{length-set, append-nil, append_assoc, set-get_or, get_or_append_left, set-append_left, get_or-set_same, set-set, set_past}
+use Rattle.rx_terms.proofs.Bools.{split}
 use Rattle.rx_items.proofs.ListLemmas.{get_other, get_append}
-use mathlib.Core.Logic.{◌⊎◌, inl, inr}
 
 abbrev pub OwnIn : Option ℕ → ℕ → Type 0
 OwnIn None size = ⊤

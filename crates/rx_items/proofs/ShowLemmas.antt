@@ -1,11 +1,5 @@
 -- What rows stand for stays as the table grows.
-use Rattle.rx_terms.proofs.Common.{⊤, refl, ap, ◌∙◌, subst, Chars}
-use Rattle.std.specs.Prelude.{◌≡◌, ℕ, suc, ◌≤◌, List, [], ◌∷◌, ◌++◌, length, Option, Some, None, slice_get, zero}
-use native.Mathlib.Omega.{arith}
-use Rattle.rx_microdata.specs.Facts.{Value}
-use Rattle.rx_microdata.specs.Elements.{Placed}
-use Rattle.rx_items.specs.Words.{id_in, item_id_in, names_in, references_in, types_in}
-use Rattle.rx_items.specs.Showing.{ShowsPart, ShowsWord, ShowsValue, ShowsRow, ShowsRows}
+use Rattle.rx_items.proofs.Common.{⊤, ◌≡◌, ℕ, suc, ◌≤◌, List, [], ◌∷◌, ◌++◌, length, Option, Some, None, slice_get, zero, refl, ap, ◌∙◌, subst, Chars, arith, Value, Placed, id_in, item_id_in, names_in, references_in, types_in, ShowsPart, ShowsWord, ShowsValue, ShowsRow, ShowsRows}
 use Rattle.rx_items.specs.declared.spans.Span.{Span}
 use Rattle.rx_items.specs.declared.rows.Row.{Row}
 use Rattle.rx_items.specs.declared.rows.RowValue.{RowValue}

@@ -1,13 +1,7 @@
 -- Where a text is cut, in bytes and in characters.
-use Rattle.std.specs.Prelude.{◌-◌}
-use Rattle.std.proofs.Common.{◌≡◌, ◌∙◌, ℕ, true, List, ◌++◌, length, take, refl, sym, ap, subst}
-use Rattle.std.proofs.Math.Seq.{take-append_seam}
+use Rattle.rx_items.proofs.Common.{◌-◌, ◌≡◌, ◌∙◌, ℕ, true, List, ◌++◌, length, take, refl, sym, ap, subst, take-append_seam, length-append, encodes-chars, scalars-chars, chars-encodes, encodes-append, IsCharBoundary-at_seam, arith, IsRun, mark_of}
 use Rattle.std.specs.Str.{chars, IsUtf8, IsCharBoundary, encode_utf8_all, all_scalars}
-use Rattle.std.proofs.lemmas.List.{length-append}
-use Rattle.std.proofs.lemmas.Str.{encodes-chars, scalars-chars, chars-encodes, encodes-append, IsCharBoundary-at_seam}
-use native.Mathlib.Omega.{arith}
 use Rattle.rx_values.specs.Marks.{CutAt}
-use Rattle.rx_items.specs.Spans.{IsRun, mark_of}
 use Rattle.rx_items.specs.declared.spans.Span.{Span}
 use Rattle.rx_values.proofs.CutLemmas.{front_scalars, rest_scalars}
 

@@ -1,13 +1,6 @@
 -- What a start reaches is a run of members.
-use Rattle.std.proofs.Common.{◌≡◌, ◌∙◌, ◌+◌, ◌<◌, ◌≤◌, ℕ, zero, suc, Bool, true, false, ◌==◌, ◌&&◌, cond, List, [], ◌∷◌, Option, Some, None, refl, sym, ap, subst, arith, nat_lt}
-use Rattle.std.specs.Prelude.{slice_get}
-use mathlib.Core.Logic.{◌⊎◌, inl, inr}
-use Rattle.std.proofs.lemmas.Bool.{cases_lt, ltb-true, lt-ltb, eqb-true, eq-eqb}
-use Rattle.rx_microdata.specs.Elements.{Placed, is_item, is_below}
-use Rattle.rx_microdata.specs.Laws.{is_before, reaches_by_scope}
+use Rattle.rx_items.proofs.Common.{◌≡◌, ◌∙◌, ◌+◌, ◌<◌, ◌≤◌, ℕ, zero, suc, Bool, true, false, ◌==◌, ◌&&◌, cond, List, [], ◌∷◌, Option, Some, None, refl, sym, ap, subst, arith, nat_lt, slice_get, ◌⊎◌, inl, inr, cases_lt, ltb-true, lt-ltb, eqb-true, eq-eqb, Placed, is_item, is_below, is_before, reaches_by_scope, Numbered, Reached}
 use Rattle.rx_microdata.proofs.Lists.{or_parts, or_left, or_right, and_parts, and_of}
-use Rattle.rx_items.specs.Held.{Numbered}
-use Rattle.rx_items.specs.Starts.{Reached}
 use Rattle.rx_items.proofs.Alike.{Each}
 use Rattle.rx_items.proofs.HoldLemmas.{place_is}
 use Rattle.rx_items.proofs.MemberLemmas.{InRange}

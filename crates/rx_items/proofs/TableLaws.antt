@@ -1,17 +1,9 @@
 -- Of each tree the table shows the rows.
-use Rattle.rx_terms.proofs.Common.{◌||◌, slice_index_or, refl, sym, ap, subst, ◌∙◌, lt-ltb, or_left, or_right, Chars}
-use Rattle.std.specs.Prelude.{◌≡◌, ℕ, suc, ◌+◌, ◌-◌, ◌≤◌, Bool, true, false, cond, List, [], ◌∷◌, ◌++◌, length, take, slice_get, slice_set, Option, Some, None, codes}
+use Rattle.rx_items.proofs.Common.{◌||◌, slice_index_or, ◌≡◌, ℕ, suc, ◌+◌, ◌-◌, ◌≤◌, Bool, true, false, cond, List, [], ◌∷◌, ◌++◌, length, take, slice_get, slice_set, Option, Some, None, codes, refl, sym, ap, subst, ◌∙◌, Chars, arith, value_of, StartTag, Tree, end, element, text, Value, attribute, facts_of, all_text, own_text, Placed, scope_in, matters, needed, behind, row_count, with_row, rows_from, mark_of, is_marked, text_of_words, ShowsPart, ShowsValue, ShowsRow, ShowsRows, tag_in, after, nothing_read, TablesShow, get_or-append_seam, set-append_seam}
+use Rattle.std.proofs.lemmas.Bool.{lt-ltb, or_left, or_right}
 use Rattle.std.proofs.lemmas.List.{length-append, append-nil, append_assoc}
-use native.Mathlib.Omega.{arith}
-use Rattle.rx_grammar.proofs.Common.{value_of, StartTag, Tree, end, element, text}
-use Rattle.rx_microdata.specs.Facts.{Value, attribute, facts_of, all_text, own_text}
-use Rattle.rx_microdata.specs.Elements.{Placed, scope_in}
-use Rattle.rx_items.specs.Rows.{matters, needed, behind, row_count, with_row, rows_from}
-use Rattle.rx_items.specs.Spans.{mark_of}
-use Rattle.rx_items.specs.Words.{is_marked, text_of_words}
 use Rattle.rx_items.specs.Values.{taken_of, text_taken}
 use Rattle.rx_items.specs.Growing.{Growing, nothing_open, innermost, row_value, is_text, own_of, with_own, passed, added, head_of, with_said, said, ended_value, ended, nothing_kept, with_end, finished}
-use Rattle.rx_items.specs.Showing.{ShowsPart, ShowsValue, ShowsRow, ShowsRows, tag_in, after, nothing_read, TablesShow}
 use Rattle.rx_items.specs.declared.rows.Row.{Row}
 use Rattle.rx_items.specs.declared.rows.Open.{Open}
 use Rattle.rx_items.specs.declared.values.Taken.{Taken}
@@ -20,7 +12,6 @@ use Rattle.rx_items.proofs.ListLemmas.{last_of, front_of, get_behind}
 use Rattle.rx_items.proofs.SaidLemmas.{OwnIn, said_there, said_length, said_nothing, said_more, said_twice, Keeps, keeps}
 use Rattle.rx_items.proofs.ShowLemmas.{stands_more, OwnFrom, OwnsFrom, rows_more, shows_append, shows_length, owns_weaker, owns_append}
 use Rattle.rx_items.proofs.TakenLemmas.{More, more_then, all_words, words_shown, marks_matter, ShowsTaken, taken_shown, taken_on, any_names}
-use Rattle.std.proofs.Math.Seq.{get_or-append_seam, set-append_seam}
 use Rattle.rx_items.proofs.NestLemmas.{not_item}
 
 -- what some nodes, with this text and own text, add below an open element: these rows

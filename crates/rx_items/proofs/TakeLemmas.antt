@@ -1,7 +1,5 @@
 -- The first places of a list, and one more.
-use Rattle.std.proofs.Common.{◌≡◌, ◌∙◌, ◌+◌, ◌<◌, ℕ, List, [], ◌∷◌, ◌++◌, length, take, drop, get_or, drop-cons, add-one, sym}
-use Rattle.std.proofs.lemmas.List.{take-append-drop}
-use Rattle.std.proofs.Math.Seq.{take-suc}
+use Rattle.rx_terms.proofs.Common.{◌≡◌, ◌∙◌, ◌+◌, ◌<◌, ℕ, List, [], ◌∷◌, ◌++◌, length, take, drop, get_or, drop-cons, add-one, sym, take-append-drop, take-suc}
 
 pub cut_at : {X : Type 0} (xs : List X) (i : ℕ) (d : X) → i < length xs → xs ≡ take i xs ++ (get_or xs i d ∷ drop (i + 1) xs)
 cut_at xs i d lt = sym (take-append-drop i xs) ∙ (λ j. take i xs ++ (drop-cons xs i d lt ∙ (λ k. get_or xs i d ∷ drop (sym (add-one i) k) xs)) j)

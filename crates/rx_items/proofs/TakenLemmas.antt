@@ -1,14 +1,7 @@
 -- What is kept of a tag says what the rules read of it.
-use Rattle.rx_terms.proofs.Common.{not, ◌&&◌, ◌||◌, is_some, unwrap_or, refl, sym, ap, subst, ◌∙◌, Chars, tokens}
-use Rattle.std.specs.Prelude.{◌≡◌, Bool, true, false, cond, List, [], ◌∷◌, ◌++◌, Option, Some, None, option_map, codes}
-use Rattle.rx_grammar.proofs.Common.{Attribute, value_of, StartTag, Tree}
+use Rattle.rx_items.proofs.Common.{not, ◌&&◌, ◌||◌, is_some, unwrap_or, ◌≡◌, Bool, true, false, cond, List, [], ◌∷◌, ◌++◌, Option, Some, None, option_map, codes, refl, sym, ap, subst, ◌∙◌, Chars, tokens, Attribute, value_of, StartTag, Tree, is_any, matters, is_valued, needed, mark_of, word_text, word_span, span_if, names_in, id_in, types_in, item_id_in, references_in, is_marked, after_names, after_id, after_types, after_item_id, text_of_words, words_of, ShowsPart, ShowsWord, tag_in}
 use Rattle.rx_microdata.specs.Facts.{Value, Written, Reference, Source, AsWritten, AsReference, OrOwnText, AllText, source_of, value_from, value_of_element, attribute, facts_of, all_text, own_text, distinct_tokens, without_repeats_of, referred as referred_value}
-use Rattle.rx_microdata.specs.Properties.{is_any}
-use Rattle.rx_items.specs.Rows.{matters, is_valued, needed}
-use Rattle.rx_items.specs.Spans.{mark_of}
-use Rattle.rx_items.specs.Words.{word_text, word_span, span_if, names_in, id_in, types_in, item_id_in, references_in, is_marked, after_names, after_id, after_types, after_item_id, text_of_words, words_of}
 use Rattle.rx_items.specs.Values.{is_asked, taken_of, text_taken, taken_by, text_by, written, referred, own_unless}
-use Rattle.rx_items.specs.Showing.{ShowsPart, ShowsWord, tag_in}
 use Rattle.rx_items.specs.declared.spans.Span.{Span}
 use Rattle.rx_items.specs.declared.values.Taken.{Taken}
 use Rattle.rx_items.specs.declared.values.Taken.TheVariants as taken

@@ -1,20 +1,13 @@
 -- The table after some signs, and the base that is known then.
-use Rattle.std.specs.Prelude.{◌≡◌, ℕ, suc, ◌-◌, Bool, true, false, cond, List, [], ◌∷◌, ◌++◌, map, length}
-use Rattle.rx_terms.proofs.Common.{refl, sym, ap, subst, ◌∙◌, Chars}
+use Rattle.rx_items.proofs.Common.{◌≡◌, ℕ, suc, ◌-◌, Bool, true, false, cond, List, [], ◌∷◌, ◌++◌, map, length, refl, sym, ap, subst, ◌∙◌, Chars, arith, StartTag, Tree, end, element, text, Sign, signs_of, is_marked, text_of_words, tag_in, after, nothing_read, Setting, told, told_all, BaseIs, BaseMoves, Collects}
 use Rattle.std.proofs.lemmas.List.{length-append, length-take-le, append-nil, append_assoc}
-use native.Mathlib.Omega.{arith}
-use Rattle.rx_grammar.proofs.Common.{StartTag, Tree, end, element, text}
 use Rattle.rx_rdfa.specs.Tree.{Tag}
 use Rattle.rx_nest.specs.Signs as sign
-use Rattle.rx_nest.specs.Signs.{Sign, signs_of}
 use Rattle.rx_base.specs.Lines.{line_of, line_on}
 use Rattle.rx_base.specs.Seekings.{seek, sought, first_child}
 use Rattle.rx_base.proofs.Lines.{seeks_append, said_seeks}
-use Rattle.rx_items.specs.Words.{is_marked, text_of_words}
 use Rattle.rx_items.specs.Values.{taken_of, text_taken}
 use Rattle.rx_items.specs.Growing.{Growing, innermost, said, finished, begun, added, passed, head_of}
-use Rattle.rx_items.specs.Showing.{tag_in, after, nothing_read}
-use Rattle.rx_items.specs.Collecting.{Setting, told, told_all, BaseIs, BaseMoves, Collects}
 use Rattle.rx_items.specs.declared.collectors.Base.{Base}
 use Rattle.rx_items.specs.declared.collectors.Collector.{Collector}
 use Rattle.rx_items.specs.declared.rows.Open.{Open}

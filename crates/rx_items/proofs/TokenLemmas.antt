@@ -1,9 +1,6 @@
 -- A text without white space is a token.
-use Rattle.rx_terms.proofs.Common.{◌≡◌, ◌∙◌, ℕ, ◌<◌, nat_lt, cond, Bool, true, false, List, [], ◌∷◌, length, take, drop, get_or, refl, ap, arith, Some, None, is_ascii_whitespace, list_all, position_or_len, chars, IsUtf8, nat_tests, take_all, length-drop, tokens, chars-end, untrue, both}
-use Rattle.std.proofs.Common.{not, ◌==◌}
-use Rattle.std.specs.List.{position}
-use Rattle.std.specs.Str.{IsTrimAsciiStart}
-use Rattle.std.proofs.lemmas.List.Sums.{fails_before_first}
+use Rattle.rx_terms.proofs.Common.{◌≡◌, ◌∙◌, ℕ, ◌<◌, nat_lt, cond, Bool, true, false, List, [], ◌∷◌, length, take, drop, get_or, refl, ap, arith, Some, None, not, ◌==◌, is_ascii_whitespace, chars, IsUtf8, IsTrimAsciiStart, nat_tests, take_all, length-drop, tokens, chars-end, untrue, both, fails_before_first}
+use Rattle.std.specs.List.{list_all, position_or_len, position}
 use Rattle.rx_words.proofs.TokenLemmas.{found-end, first-token, tokens-first}
 
 pub one_token : (text : List ℕ) (empty : Bool) → IsUtf8 text → None ≡ position is_ascii_whitespace text → empty ≡ (length text == 0) → not empty ≡ true

@@ -1,25 +1,12 @@
 -- The visit of an item, and those of its properties.
-use Rattle.rx_terms.proofs.Common.{◌≡◌, ◌∙◌, ◌+◌, ◌<◌, ◌≤◌, ℕ, zero, suc, Bool, true, false, cond, List, [], ◌∷◌, ◌++◌, length, take, drop, get_or, Option, Some, None, option_map, refl, sym, ap, subst, arith, nat_lt, append_assoc, nat_le, list_any, option_or, Chars}
-use Rattle.std.proofs.Common.{◌==◌}
-use Rattle.std.specs.Prelude.{flat_map, slice_get, Result, Ok, Err, IsErrAnd}
-use Rattle.std.proofs.lemmas.List.{append-nil}
-use Rattle.rx_grammar.specs.declared.faults.Kind.{Kind}
-use Rattle.rx_grammar.specs.declared.faults.Kind.TheVariants.{Cycle, ItemsTooNested, ItemsTooMany}
-use Rattle.rx_grammar.specs.declared.stops.Stop.{Stop}
+use Rattle.rx_items.proofs.Common.{◌≡◌, ◌∙◌, ◌+◌, ◌<◌, ◌≤◌, ℕ, zero, suc, Bool, true, false, cond, List, [], ◌∷◌, ◌++◌, length, take, drop, get_or, Option, Some, None, option_map, refl, sym, ap, subst, arith, nat_lt, append_assoc, ◌==◌, nat_le, flat_map, slice_get, Result, Ok, Err, IsErrAnd, list_any, option_or, Chars, append-nil, Kind, Cycle, ItemsTooNested, ItemsTooMany, Stop, Placed, Visit, visits_from, standard_bounds, fault_of, first_fault, is_cycle, items_in, Refused, properties_in, AllStand, places, At, path_of, kind_of, NoFault, FaultIs, HasFault, Finds, Enters, Step, steps_of, steps_in, visits_in, flat_map-append}
 use Rattle.rx_grammar.specs.declared.stops.Stop.TheVariants as stop
-use Rattle.rx_microdata.specs.Elements.{Placed}
-use Rattle.rx_microdata.specs.Visits.{Visit, visits_from, standard_bounds, fault_of, first_fault, is_cycle, items_in}
-use Rattle.rx_microdata.specs.Json.{Refused}
-use Rattle.rx_items.specs.Rows.{properties_in}
-use Rattle.rx_items.specs.Held.{AllStand, places}
-use Rattle.rx_items.specs.Expanding.{At, path_of, kind_of, NoFault, FaultIs, HasFault, Finds, Enters, Step, steps_of, steps_in, visits_in}
 use Rattle.rx_items.specs.declared.kept.Element.{Element}
 use Rattle.rx_items.specs.declared.kept.Kept.{Kept}
 use Rattle.rx_items.specs.declared.visits.Trail.{Trail}
 use Rattle.rx_items.proofs.FoundLemmas.{fault_is, path_size, steps_visits, fault_stays}
 use Rattle.rx_items.proofs.TakeLemmas.{cut_at, one_more}
 use Rattle.rx_items.proofs.HoldLemmas.{place_is}
-use Rattle.std.proofs.lemmas.Grind.{flat_map-append}
 
 -- what `?` hands on
 pub err_told : {X E : Type 0} (P : Result X E → Type 0) (r : Result X E) (x : E) → IsErrAnd r (λ y. y ≡ x) → P (Err x) → P r

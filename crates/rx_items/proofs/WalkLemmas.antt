@@ -1,18 +1,9 @@
 -- The members of rows, item by item.
-use Rattle.std.proofs.Common.{◌≡◌, ◌∙◌, ◌+◌, ◌-◌, ◌<◌, ◌≤◌, ◌==◌, ◌&&◌, nat_lt, ℕ, suc, Bool, true, false, cond, List, [], ◌∷◌, ◌++◌, length, get_or, Contains, Option, Some, None, refl, sym, ap, subst, arith}
-use Rattle.std.specs.Prelude.{slice_get, ⊤}
-use Rattle.std.proofs.lemmas.List.Elements.{Contains-get_or, Contains-append_left, Contains-append_cases, Contains-push, Contains-push_cases}
-use Rattle.std.proofs.lemmas.List.Sorted.{IsNonDecreasingBy-push}
-use Rattle.std.proofs.lemmas.Bool.{cases_lt, eqb-true, eq-eqb, ltb-true, lt-ltb, le-ltb}
-use Rattle.std.proofs.lemmas.List.{append-nil, get_or_default}
-use mathlib.Core.Logic.{◌⊎◌, inl, inr}
-use Rattle.rx_microdata.proofs.Lists.{and_parts, and_of}
+use Rattle.rx_items.proofs.Common.{◌≡◌, ◌∙◌, ◌+◌, ◌-◌, ◌<◌, ◌≤◌, ◌==◌, ◌&&◌, nat_lt, ℕ, suc, Bool, true, false, cond, List, [], ◌∷◌, ◌++◌, length, get_or, Contains, Option, Some, None, refl, sym, ap, subst, arith, slice_get, ⊤, Contains-get_or, Contains-append_left, Contains-append_cases, Contains-push, Contains-push_cases, IsNonDecreasingBy-push, cases_lt, eqb-true, eq-eqb, ltb-true, lt-ltb, le-ltb, append-nil, get_or_default, ◌⊎◌, inl, inr, and_parts, and_of, Adds, AddsItem, AllBelow, AreBelow, AreMembers, FirstBelow, IsNamed, Rises, key_at, key_of, next_place, scope_number, scope_of, slice_get_within}
 use Rattle.rx_items.specs.declared.rows.Row.{Row}
 use Rattle.rx_items.specs.Lying.{Lies}
-use Rattle.rx_items.specs.Members.{Adds, AddsItem, AllBelow, AreBelow, AreMembers, FirstBelow, IsNamed, Rises, key_at, key_of, next_place, scope_number, scope_of}
 use Rattle.rx_items.proofs.BuildLemmas.{same_there}
 use Rattle.rx_items.proofs.MemberLemmas.{same_number}
-use Rattle.std.proofs.lemmas.Option.{slice_get_within}
 
 -- ---- members that rise
 

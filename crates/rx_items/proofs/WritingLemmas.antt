@@ -1,25 +1,13 @@
 -- The events of an item and of a page, part by part.
-use Rattle.rx_terms.proofs.Common.{◌≡◌, ◌∙◌, ◌+◌, ◌-◌, ◌<◌, ◌≤◌, ℕ, zero, suc, Bool, true, false, true≢false, encode_utf8_all, List, [], ◌∷◌, ◌++◌, map, filter, length, take, drop, drop_of_length-le, get_or, codes, Option, Some, None, refl, sym, ap, arith, append_assoc, append-nil, take_all, Chars}
-use Rattle.std.proofs.Common.{◌==◌}
-use Rattle.std.specs.Prelude.{flat_map, slice_get, OnOk, Result, Ok, Err}
+use Rattle.rx_items.proofs.Common.{take_all, Chars, flat_map, slice_get, OnOk, Result, Ok, Err, Data, array, object, item, Items, Members, no_members, member, Grows, data_events, members_events, each_events, resolved, Facts, said, Placed, is_item, is_top_level, string_of, list_of, with_id, with_types, item_of, grouped, named, json_of_item, properties_in, AllStand, OfRows, data_of, keys_in, key_seen, keys_seen, opening, ending, events_behind, value_behind, value_if, value_at, grouped_at, page_data, top_data}
+use Rattle.std.proofs.Common.{◌≡◌, ◌∙◌, ◌+◌, ◌-◌, ◌<◌, ◌≤◌, ℕ, zero, suc, Bool, true, false, true≢false, encode_utf8_all, List, [], ◌∷◌, ◌++◌, map, filter, length, take, drop, drop_of_length-le, get_or, codes, Option, Some, None, refl, sym, ap, arith, append_assoc, append-nil, ◌==◌}
 use Rattle.serde.specs.Event as event
 use Rattle.serde.specs.Event.{Event, Log, Logs}
 use Rattle.serde.specs.declared.name.Case.TheVariants.{AsIs}
-use Rattle.serde_json.specs.Data.{Data, array, object, item, Items, Members, no_members, member}
 use Rattle.serde_json.specs.View.{items_of}
-use Rattle.rx_json.specs.Events.{Grows, data_events, members_events, each_events}
 use Rattle.rx_json.proofs.GrowLemmas.{one, none, both, told_as, each_more, object_made, array_made, cut, row_turn}
-use Rattle.rx_refs.specs.Resolve.{resolved}
-use Rattle.rx_microdata.specs.Facts.{Facts, said}
-use Rattle.rx_microdata.specs.Elements.{Placed, is_item, is_top_level}
-use Rattle.rx_microdata.specs.Json.{string_of, list_of, with_id, with_types, item_of, grouped, named, json_of_item}
-use Rattle.rx_items.specs.Rows.{properties_in}
-use Rattle.rx_items.specs.Held.{AllStand, OfRows}
 use Rattle.rx_items.specs.declared.kept.Kept.{Kept}
-use Rattle.rx_items.specs.Expanding.{data_of}
-use Rattle.rx_items.specs.Named.{keys_in, key_seen, keys_seen, opening, ending, events_behind, value_behind, value_if, value_at, grouped_at}
 use Rattle.rx_items.specs.declared.named.Named.{Named}
-use Rattle.rx_items.specs.Pages.{page_data, top_data}
 use Rattle.rx_items.proofs.NameLemmas.{keys_grouped}
 use Rattle.rx_items.proofs.PageLemmas.{row_data, all_data}
 

@@ -1,8 +1,6 @@
 -- What stands beside a table's rows, one after another.
-use denote.Ref.{Bor}
+use Rattle.rx_terms.specs.Common.{Bor, BTreeMap, Chars}
 use Rattle.std.specs.Prelude.{◌≡◌, ℕ, List, Some, slice_get}
-use Rattle.std.specs.BTreeMap.{BTreeMap}
-use Rattle.rx_terms.specs.Text.{Chars}
 use Rattle.rx_grammar.specs.Trees.{Tree}
 use Rattle.rx_microdata.specs.Elements.{Placed}
 use Rattle.rx_items.specs.Rows.{rows_of}

@@ -1,10 +1,6 @@
 -- What is kept of a page while its elements are told: the table, and the base as far as it is known.
 use Rattle.std.specs.Prelude.{◌≡◌, List, [], ◌∷◌, Option, Result}
-use Rattle.rx_terms.specs.Text.{Chars}
-use Rattle.rx_chars.specs.declared.syntax.Syntax.{Syntax}
-use Rattle.rx_grammar.specs.declared.limits.Limits.{Limits}
-use Rattle.rx_grammar.specs.declared.stops.Stop.{Stop}
-use Rattle.rx_rdfa.specs.Base.{base_by}
+use Rattle.rx_rdfa.specs.Common.{Chars, Syntax, Limits, Stop, base_by}
 use Rattle.rx_nest.specs.Signs as sign
 use Rattle.rx_nest.specs.Signs.{Sign}
 use Rattle.rx_nest.specs.Listening.{Hears}

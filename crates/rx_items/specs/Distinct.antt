@@ -1,9 +1,7 @@
 -- The tokens that were seen, as a sorted set of texts has them.
 use Rattle.std.specs.Prelude.{ℕ, Bool, List}
 use Rattle.std.specs.BTreeSet.{BTreeSet, contains_by}
-use Rattle.std.specs.Cmp.Lexicographic.{slice_cmp}
-use Rattle.std.specs.Ordering.{nat_cmp}
-use denote.Ref.{Bor}
+use Rattle.rx_terms.specs.Common.{slice_cmp, nat_cmp, Bor}
 
 -- whether the set has a text of these bytes
 abbrev pub has_text : BTreeSet (Bor (List ℕ)) → List ℕ → Bool

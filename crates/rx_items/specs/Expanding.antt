@@ -1,12 +1,7 @@
 -- The visits of an item's properties, one after another, and the JSON that they come to.
 use Rattle.std.specs.Prelude.{◌≡◌, ⊤, ℕ, zero, suc, ◌+◌, true, false, ◌==◌, nat_le, List, [], ◌∷◌, ◌++◌, map, flat_map, length, Option, Some, None, Result, Ok, Err, if◌then◌else◌}
-use Rattle.std.specs.List.{list_any}
+use Rattle.rx_rdfa.specs.Common.{list_any, Chars, Fault, Kind, Cycle, ItemsTooNested, ItemsTooMany, Stop}
 use Rattle.serde_json.specs.Data.{Data}
-use Rattle.rx_terms.specs.Text.{Chars}
-use Rattle.rx_grammar.specs.declared.faults.Fault.{Fault}
-use Rattle.rx_grammar.specs.declared.faults.Kind.{Kind}
-use Rattle.rx_grammar.specs.declared.faults.Kind.TheVariants.{Cycle, ItemsTooNested, ItemsTooMany}
-use Rattle.rx_grammar.specs.declared.stops.Stop.{Stop}
 use Rattle.rx_grammar.specs.declared.stops.Stop.TheVariants as stop
 use Rattle.rx_microdata.specs.Facts.{said}
 use Rattle.rx_microdata.specs.Elements.{Placed, is_item, names_of}

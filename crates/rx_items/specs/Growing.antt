@@ -1,7 +1,6 @@
 -- The table while its page is read: what each event makes of it.
 use Rattle.std.specs.Prelude.{◌≡◌, ℕ, Bool, true, false, ◌-◌, not, ◌&&◌, ◌||◌, nat_lt, List, [], ◌∷◌, ◌++◌, length, take, slice_index_or, slice_set, Option, Some, None, is_some, codes, if◌then◌else◌}
-use Rattle.rx_terms.specs.Text.{Chars}
-use Rattle.rx_grammar.specs.Tokens.{Tag, value_of}
+use Rattle.rx_grammar.specs.Common.{Chars, Tag, value_of}
 use Rattle.rx_items.specs.Spans.{mark_of}
 use Rattle.rx_items.specs.Words.{is_marked, words_of, text_of_words}
 use Rattle.rx_items.specs.Values.{is_named, taken_of, text_taken}

@@ -1,10 +1,8 @@
 -- What is kept of a page, and the rows that it stands for.
-use denote.Ref.{Bor}
+use Rattle.rx_grammar.specs.Common.{Bor, Chars, Tree}
 use Rattle.std.specs.Prelude.{◌≡◌, ⊤, ℕ, suc, Bool, true, false, List, [], ◌∷◌, map, length, slice_get, Contains, ◌↔◌, Option, Some, None, option_map, unwrap_or, Vec, Result, IfOk}
 use Rattle.std.specs.declared.alloc.Global.{Global}
-use Rattle.rx_terms.specs.Text.{Chars}
 use Rattle.rx_terms.specs.declared.texts.NoMemory.{NoMemory}
-use Rattle.rx_grammar.specs.Trees.{Tree}
 use Rattle.rx_microdata.specs.Facts.{distinct_tokens}
 use Rattle.rx_microdata.specs.Elements.{Placed, is_item, names_of, is_top_level}
 use Rattle.rx_items.specs.Rows.{properties_in, rows_of}

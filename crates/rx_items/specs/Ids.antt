@@ -1,16 +1,11 @@
 -- The first row of each id, as a sorted map of texts has them.
 use Rattle.std.specs.Prelude.{◌≡◌, ℕ, Bool, List, Option, Some, option_map, filter_map, slice_get, Contains, ◌↔◌, if◌then◌else◌}
-use Rattle.std.specs.Str.{chars, IsUtf8}
-use Rattle.rx_terms.specs.Text.{Chars, tokens}
-use Rattle.std.specs.BTreeMap.{BTreeMap, get_by}
-use Rattle.std.specs.Cmp.Lexicographic.{slice_cmp}
-use Rattle.std.specs.Ordering.{nat_cmp}
+use Rattle.rx_terms.specs.Common.{chars, IsUtf8, Chars, tokens, BTreeMap, get_by, slice_cmp, nat_cmp, Bor}
 use Rattle.rx_microdata.specs.Elements.{Placed}
 use Rattle.rx_microdata.specs.Properties.{first_with_id, is_same_id}
 use Rattle.rx_items.specs.Words.{references_in}
 use Rattle.rx_items.specs.declared.rows.Row.{Row}
 use Rattle.rx_items.specs.declared.spans.Span.{Span}
-use denote.Ref.{Bor}
 
 -- the place under a text of these bytes
 abbrev pub place_of : BTreeMap (Bor (List ℕ)) ℕ → List ℕ → Option ℕ

@@ -1,8 +1,6 @@
 -- The places of the rows with a name, by the item around and then in tree order.
 use Rattle.std.specs.Prelude.{◌≡◌, ◌<◌, ◌≤◌, ◌↔◌, ◌⊎◌, ◌&&◌, true, false, nat_lt, length, ℕ, suc, ◌+◌, ◌*◌, List, slice_get, Contains, Option, Some, None, if◌then◌else◌}
-use Rattle.std.specs.List.{AllWithin}
-use Rattle.std.specs.List.Sorted.{IsNonDecreasingBy, IsPartitionPoint}
-use Rattle.rx_terms.specs.Text.{Chars}
+use Rattle.rx_terms.specs.Common.{AllWithin, IsNonDecreasingBy, IsPartitionPoint, Chars}
 use Rattle.rx_microdata.specs.Elements.{Placed}
 use Rattle.rx_items.specs.Showing.{ShowsRows}
 use Rattle.rx_items.specs.Lying.{Lies}

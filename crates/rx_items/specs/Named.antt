@@ -1,15 +1,11 @@
 -- The properties of an item under each of their names, in tree order and by name, and the events that they come to.
-use denote.Ref.{Bor}
+use Rattle.rx_terms.specs.Common.{Bor, is_lt, nat_cmp, slice_cmp, IsSortedBy, IsStableBy, Chars}
 use Rattle.std.specs.Prelude.{◌≡◌, ℕ, Bool, true, false, List, [], ◌∷◌, ◌++◌, map, flat_map, slice_get, Option, Some, None, option_map, bytes_eq, encode_utf8_all, if◌then◌else◌}
-use Rattle.std.specs.Ordering.{is_lt, nat_cmp}
-use Rattle.std.specs.Cmp.Lexicographic.{slice_cmp}
-use Rattle.std.specs.List.Sorted.{IsSortedBy, IsStableBy}
 use Rattle.serde.specs.Event as event
 use Rattle.serde.specs.Event.{Event}
 use Rattle.serde.specs.declared.name.Case.TheVariants.{AsIs}
 use Rattle.serde_json.specs.Data.{Data, Members, null, no_members, object}
 use Rattle.rx_json.specs.Events.{data_events}
-use Rattle.rx_terms.specs.Text.{Chars}
 use Rattle.rx_microdata.specs.Elements.{Placed, is_item, names_of}
 use Rattle.rx_microdata.specs.Json.{json_of_item, with_value}
 use Rattle.rx_items.specs.Rows.{properties_in}

@@ -1,8 +1,7 @@
 -- The elements of a page that matter: items, those with property names, and those that itemref may find. Of the others
 -- neither properties nor visits nor the JSON say anything.
 use Rattle.std.specs.Prelude.{◌≡◌, ℕ, suc, ◌+◌, Bool, not, ◌&&◌, ◌||◌, List, [], ◌∷◌, ◌++◌, filter, Option, None, unwrap_or, is_some, if◌then◌else◌}
-use Rattle.rx_terms.specs.Text.{Chars}
-use Rattle.rx_grammar.specs.Trees.{Tree, end, element, text}
+use Rattle.rx_grammar.specs.Common.{Chars, Tree, end, element, text}
 use Rattle.rx_microdata.specs.Facts.{Facts, Written, facts_of}
 use Rattle.rx_microdata.specs.Elements.{Placed, scope_in, elements_of, is_top_level}
 use Rattle.rx_microdata.specs.Properties.{is_any}

@@ -1,8 +1,6 @@
 -- What the rows of a table stand for.
 use Rattle.std.specs.Prelude.{◌≡◌, ⊤, false, List, [], ◌∷◌, slice_get, Option, Some, None, option_map, unwrap_or}
-use Rattle.rx_terms.specs.Text.{Chars, tokens}
-use Rattle.rx_grammar.specs.Tokens.{Tag}
-use Rattle.rx_grammar.specs.Trees.{StartTag, Tree, end, element, text}
+use Rattle.rx_grammar.specs.Common.{Chars, tokens, Tag, StartTag, Tree, end, element, text}
 use Rattle.rx_microdata.specs.Facts.{Value, Written, Reference, distinct_tokens}
 use Rattle.rx_microdata.specs.Elements.{Placed, names_of}
 use Rattle.rx_microdata.specs.Properties.{is_any}

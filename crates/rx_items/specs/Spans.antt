@@ -1,7 +1,6 @@
 -- Runs of a text that is kept, by the places of their bytes.
 use Rattle.std.specs.Prelude.{◌≡◌, ℕ, ◌++◌, length}
-use Rattle.std.specs.Str.{encode_utf8_all}
-use Rattle.rx_terms.specs.Text.{Chars}
+use Rattle.rx_terms.specs.Common.{encode_utf8_all, Chars}
 use Rattle.rx_items.specs.declared.spans.Span.{Span}
 
 -- how many bytes a text takes

@@ -1,7 +1,6 @@
 -- Where the search for an item's properties begins.
 use Rattle.std.specs.Prelude.{◌≡◌, ℕ, ◌+◌, true, List, Some, slice_get, Contains, ◌↔◌, ◌⊎◌, if◌then◌else◌}
-use Rattle.rx_terms.specs.Text.{Chars}
-use Rattle.rx_grammar.specs.Trees.{Tree}
+use Rattle.rx_grammar.specs.Common.{Chars, Tree}
 use Rattle.rx_microdata.specs.Elements.{Placed, names_of}
 use Rattle.rx_microdata.specs.Properties.{is_any}
 use Rattle.rx_microdata.specs.Laws.{reaches_by_scope}

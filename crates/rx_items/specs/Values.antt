@@ -1,7 +1,6 @@
 -- What a tag says of the value of its element.
 use Rattle.std.specs.Prelude.{Bool, not, ◌&&◌, List, [], Option, Some, None, is_some, unwrap_or, codes, if◌then◌else◌}
-use Rattle.rx_terms.specs.Text.{Chars, tokens}
-use Rattle.rx_grammar.specs.Tokens.{Attribute, Tag, value_of}
+use Rattle.rx_grammar.specs.Common.{Chars, tokens, Attribute, Tag, value_of}
 use Rattle.rx_microdata.specs.Facts.{Source, AsWritten, AsReference, OrOwnText, AllText, source_of}
 use Rattle.rx_microdata.specs.Properties.{is_any}
 use Rattle.rx_items.specs.Words.{word_span, word_text}

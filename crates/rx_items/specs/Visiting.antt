@@ -1,7 +1,6 @@
 -- What is said of the steps of a visit: whatever rows are held, and on whatever path they are reached.
 use Rattle.std.specs.Prelude.{◌≡◌, ⊤, ℕ, suc, true, List, slice_get, Some, Result}
-use Rattle.rx_terms.specs.Text.{Chars}
-use Rattle.rx_grammar.specs.declared.stops.Stop.{Stop}
+use Rattle.rx_rdfa.specs.Common.{Chars, Stop}
 use Rattle.rx_microdata.specs.Elements.{Placed, is_item}
 use Rattle.rx_microdata.specs.Visits.{Visit, visits_from}
 use Rattle.rx_items.specs.Rows.{properties_in}

@@ -1,11 +1,8 @@
 -- What a walk for a page's items stands for, and what its calls answer of a page's bytes.
 use Rattle.std.specs.Prelude.{◌≡◌, ℕ, true, false, List, length, Result, Ok, Err, IfOk}
 use Rattle.rx_terms.specs.declared.texts.NoMemory.{NoMemory}
-use Rattle.rx_grammar.specs.declared.faults.Kind.TheVariants.{Unended}
-use Rattle.rx_grammar.specs.Pages.{Page}
+use Rattle.rx_rdfa.specs.Common.{Unended, Page, Tree, Stop}
 use Rattle.rx_grammar.specs.PageFaults.{FaultAt}
-use Rattle.rx_grammar.specs.Trees.{Tree}
-use Rattle.rx_grammar.specs.declared.stops.Stop.{Stop}
 use Rattle.rx_grammar.specs.declared.stops.Stop.TheVariants as stop
 use Rattle.rx_scan.specs.Entries.{IsNoMemory}
 use Rattle.rx_scan.specs.Steps.{is_quiet}

@@ -1,7 +1,6 @@
 -- What is kept of a tag's attributes.
 use Rattle.std.specs.Prelude.{◌≡◌, ℕ, Bool, ◌||◌, List, ◌++◌, Option, Some, None, is_some, codes, if◌then◌else◌}
-use Rattle.rx_terms.specs.Text.{Chars, seen_slice}
-use Rattle.rx_grammar.specs.Tokens.{Attribute, value_of}
+use Rattle.rx_grammar.specs.Common.{Chars, seen_slice, Attribute, value_of}
 use Rattle.rx_items.specs.Spans.{mark_of, span_of}
 use Rattle.rx_items.specs.declared.spans.Span.{Span}
 use Rattle.rx_items.specs.declared.rows.Words.{Words}

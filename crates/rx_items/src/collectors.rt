@@ -1,9 +1,7 @@
 //! What is kept of a page while its elements are told.
 ghost use Rattle.std.specs.Prelude.{◌≡◌, ◌∷◌, [], map, IfOk, IsOk, OnOk};
 ghost use Rattle.std.proofs.Common.{refl};
-ghost use Rattle.std.specs.Str.{chars};
-ghost use Rattle.rx_rdfa.specs.Base.{base_by};
-ghost use Rattle.rx_terms.specs.Text.{seen_slice};
+ghost use Rattle.rx_rdfa.specs.Common.{chars, base_by, seen_slice};
 ghost use Rattle.rx_nest.specs.Nests.{tag_shown};
 ghost use Rattle.rx_nest.specs.Signs.{begun, said, finished};
 ghost use Rattle.rx_nest.specs.Ways.{none_refuses};

@@ -1,9 +1,6 @@
 //! The tokens of a text, each once.
 ghost use Rattle.std.specs.Prelude.{◌≡◌, ℕ, List, [], ◌∷◌, ◌++◌, ◌||◌, nat_lt, not, true, None, Some, IfOk, OnOk};
-ghost use Rattle.std.specs.List.{list_all};
-ghost use Rattle.std.specs.Str.{chars};
-ghost use Rattle.rx_terms.specs.Text.{Chars, tokens};
-ghost use Rattle.rx_grammar.specs.Names.{same};
+ghost use Rattle.rx_grammar.specs.Common.{list_all, chars, Chars, tokens, same};
 ghost use Rattle.rx_microdata.specs.Facts.{distinct_tokens};
 ghost use Rattle.rx_items.specs.Showing.{ShowsPart};
 ghost use Rattle.rx_items.specs.Distinct.{has_text};

@@ -1,7 +1,6 @@
 //! The properties of an item.
 ghost use Rattle.std.specs.Prelude.{◌≡◌, ◌++◌, ℕ, Contains, ◌↔◌, ◌∷◌, IfOk, IfSome, OnOk, filter, take, drop};
-ghost use Rattle.std.specs.Ordering.{nat_cmp};
-ghost use Rattle.std.specs.List.Sorted.{IsStrictlySortedBy};
+ghost use Rattle.rx_terms.specs.Common.{nat_cmp, IsStrictlySortedBy};
 ghost use Rattle.rx_items.specs.Properties.{part, gathered, is_other, are_listed, rise_behind, is_next};
 
 use crate::kept::Run;

@@ -1,7 +1,6 @@
 //! The first row of each id.
 ghost use Rattle.std.specs.Prelude.{◌≡◌, ℕ, List, Some, IfOk, OnOk, option_copied, if◌then◌else◌};
-ghost use Rattle.std.specs.List.{list_any};
-ghost use Rattle.rx_grammar.specs.Names.{same};
+ghost use Rattle.rx_grammar.specs.Common.{list_any, same};
 ghost use Rattle.rx_items.specs.Built.{OfNumbered};
 ghost use Rattle.rx_items.specs.Held.{OfWord};
 ghost use Rattle.rx_items.specs.Ids.{IsNoted, Looks, LooksFor, has_references, look_in, place_of};

@@ -1,7 +1,6 @@
 //! The items of a whole page.
-ghost use Rattle.rx_grammar.specs.Trees.{Tree};
+ghost use Rattle.rx_grammar.specs.Common.{Tree, Chars};
 ghost use Rattle.rx_microdata.specs.Elements.{elements_of};
-ghost use Rattle.rx_terms.specs.Text.{Chars};
 ghost use Rattle.rx_microdata.specs.Json.{outcome_of};
 ghost use Rattle.rx_microdata.specs.Visits.{standard_bounds};
 ghost use Rattle.rx_items.specs.Rows.{rows_of};

@@ -1,8 +1,6 @@
 //! The properties of an item under each of their names, by name.
-ghost use Rattle.std.specs.Str.{encode_utf8_all};
+ghost use Rattle.rx_terms.specs.Common.{encode_utf8_all, IsSortedBy, IsStableBy, Chars};
 ghost use Rattle.std.specs.Prelude.{◌≡◌, ◌∷◌, ◌++◌, [], map, flat_map, IfOk, OnOk};
-ghost use Rattle.std.specs.List.Sorted.{IsSortedBy, IsStableBy};
-ghost use Rattle.rx_terms.specs.Text.{Chars};
 ghost use Rattle.rx_items.specs.Rows.{properties_in};
 ghost use Rattle.rx_items.specs.Showing.{ShowsPart};
 ghost use Rattle.rx_items.specs.Held.{OfRows};

@@ -1,9 +1,8 @@
 //! What stands beside an item's properties, and values that are no items, as serde writes them.
 ghost use Rattle.std.specs.Prelude.{◌∷◌, [], slice_get, unwrap_or, map, OnOk};
-ghost use Rattle.std.specs.Str.{chars};
+ghost use Rattle.rx_rdfa.specs.Common.{chars, resolved};
 ghost use Rattle.serde_json.specs.Data.{no_members};
 ghost use Rattle.rx_json.specs.Events.{Grows, data_events, each_events, members_events};
-ghost use Rattle.rx_refs.specs.Resolve.{resolved};
 ghost use Rattle.rx_microdata.specs.Facts.{said};
 ghost use Rattle.rx_microdata.specs.Json.{string_of, with_id, with_types};
 ghost use Rattle.rx_items.specs.Held.{OfWord};

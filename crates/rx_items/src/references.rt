@@ -1,7 +1,6 @@
 //! The elements to which an item refers.
 ghost use Rattle.std.specs.Prelude.{◌≡◌, ◌++◌, [], ℕ, Option, IfOk, OnOk, filter_map, option_to_list, unwrap_or};
-ghost use Rattle.std.specs.Str.{chars};
-ghost use Rattle.rx_terms.specs.Text.{Chars, tokens};
+ghost use Rattle.rx_terms.specs.Common.{chars, Chars, tokens};
 ghost use Rattle.rx_items.specs.Held.{OfWord};
 ghost use Rattle.rx_items.specs.Ids.{AreReferred, LooksWhere, OfIds};
 

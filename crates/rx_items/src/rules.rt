@@ -1,7 +1,6 @@
 //! Where the value of a property stands, by the element's name.
 ghost use Rattle.std.specs.Prelude.{◌≡◌, true};
-ghost use Rattle.std.specs.List.{list_all};
-ghost use Rattle.rx_terms.specs.Ascii.{is_ascii};
+ghost use Rattle.rx_terms.specs.Common.{list_all, is_ascii};
 ghost use Rattle.rx_microdata.specs.Facts as facts;
 ghost use Rattle.rx_items.specs.Rules.{name_in, source_seen};
 

@@ -1,7 +1,6 @@
 //! Runs of a text that is kept.
 ghost use Rattle.std.specs.Prelude.{◌≡◌, ◌++◌, IfOk, OnOk};
-ghost use Rattle.std.specs.Str.{chars};
-ghost use Rattle.rx_terms.specs.Text.{Chars};
+ghost use Rattle.rx_terms.specs.Common.{chars, Chars};
 ghost use Rattle.rx_values.specs.Marks.{CutAt};
 ghost use Rattle.rx_items.specs.Spans.{IsRun, span_of};
 

@@ -1,9 +1,6 @@
 //! What a tag says of the value of its element.
 ghost use Rattle.std.specs.Prelude.{◌≡◌, true, [], IfOk, OnOk, unwrap_or};
-ghost use Rattle.std.specs.List.{list_all};
-ghost use Rattle.std.specs.Str.{chars};
-ghost use Rattle.rx_terms.specs.Ascii.{is_ascii};
-ghost use Rattle.rx_terms.specs.Text.{tokens, seen_slice};
+ghost use Rattle.rx_terms.specs.Common.{list_all, chars, is_ascii, tokens, seen_slice};
 ghost use Rattle.rx_microdata.specs.Facts as facts;
 ghost use Rattle.rx_microdata.specs.Properties.{is_any};
 ghost use Rattle.rx_tags.specs.Seen.{tag_seen};

@@ -1,10 +1,6 @@
 //! The attributes of a tag that Microdata reads.
 ghost use Rattle.std.specs.Prelude.{◌≡◌, true, IfOk, OnOk, List, is_some};
-ghost use Rattle.std.specs.List.{list_all};
-ghost use Rattle.std.specs.Str.{chars};
-ghost use Rattle.rx_terms.specs.Ascii.{is_ascii};
-ghost use Rattle.rx_grammar.specs.Tokens.{Attribute, value_of};
-ghost use Rattle.rx_terms.specs.Text.{seen_slice};
+ghost use Rattle.rx_grammar.specs.Common.{list_all, chars, is_ascii, Attribute, value_of, seen_slice};
 ghost use Rattle.rx_tags.specs.Seen.{tag_seen};
 ghost use Rattle.rx_items.specs.Words.{AreMarks, kept_of, word_span, word_text, words_of, text_of_words, is_marked};
 

@@ -1,6 +1,5 @@
 -- Pages of words, pair by pair.
-use Rattle.rx_terms.proofs.Common.{◌≡◌, ◌∙◌, ◌<◌, length, arith, true, false, List, [], ◌∷◌, ◌++◌, ap, refl, sym, append_assoc, append-nil, Option, Some, None, option_map, list_all, and_from, nat_tests, list_all-append, Chars}
-use Rattle.std.proofs.Common.{◌&&◌, ◌==◌, option_and_then}
+use Rattle.rx_terms.proofs.Common.{◌≡◌, ◌∙◌, ◌<◌, length, arith, true, false, List, [], ◌∷◌, ◌++◌, ap, refl, sym, append_assoc, append-nil, Option, Some, None, option_map, ◌&&◌, ◌==◌, option_and_then, list_all, and_from, nat_tests, list_all-append, Chars}
 use Rattle.rx_chars.specs.declared.syntax.Syntax.{Syntax}
 use Rattle.rx_job.specs.declared.errors.JobError.{JobError}
 use Rattle.rx_job.specs.declared.errors.JobError.TheVariants as error

@@ -1,7 +1,5 @@
 -- Numbers of the command line.
-use Rattle.rx_terms.proofs.Common.{◌≡◌, ◌∙◌, ℕ, ◌≤◌, ◌<◌, ◌^◌, Bool, true, false, List, [], ◌∷◌, length, refl, sym, ap, subst, arith, Option, Some, None, Result, Ok, Err, encode_utf8_all, if◌then◌else◌, not, ◌==◌, list_all, and_parts, and_from, nat_tests, is_ascii, ascii-same, split}
-use Rattle.std.proofs.Common.{nat_le, ◌&&◌}
-use Rattle.std.specs.Char.{is_ascii_digit}
+use Rattle.rx_terms.proofs.Common.{◌≡◌, ◌∙◌, ℕ, ◌≤◌, ◌<◌, ◌^◌, Bool, true, false, List, [], ◌∷◌, length, refl, sym, ap, subst, arith, Option, Some, None, Result, Ok, Err, encode_utf8_all, nat_le, ◌&&◌, if◌then◌else◌, not, ◌==◌, list_all, and_parts, and_from, nat_tests, is_ascii, ascii-same, split, is_ascii_digit}
 use Rattle.std.specs.Int.{IsInRange}
 use Rattle.std.specs.Result.{OkIff}
 use Rattle.std.specs.Str.Parse.{ParsesUnsigned, digits_value}

@@ -1,6 +1,5 @@
 -- The options at the front of words, one after another.
-use Rattle.rx_terms.proofs.Common.{◌≡◌, ◌∙◌, ◌<◌, length, arith, true, false, Bool, List, [], ◌∷◌, ◌++◌, ap, refl, sym, subst, append_assoc, append-nil, Option, Some, None, bytes_decides, Chars, by_test}
-use Rattle.std.proofs.Common.{is_some, ◌||◌, if◌then◌else◌}
+use Rattle.rx_terms.proofs.Common.{◌≡◌, ◌∙◌, ◌<◌, length, arith, true, false, Bool, List, [], ◌∷◌, ◌++◌, ap, refl, sym, subst, append_assoc, append-nil, Option, Some, None, is_some, ◌||◌, if◌then◌else◌, bytes_decides, Chars, by_test}
 use Rattle.rx_job.specs.declared.options.Name.{Name}
 use Rattle.rx_job.specs.declared.options.Name.TheVariants as name
 use Rattle.rx_job.specs.Options.{NoOption, word_of, named, put, value_of, with_value, none_given}

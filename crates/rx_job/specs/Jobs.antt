@@ -1,7 +1,6 @@
 -- Jobs, as contracts see them.
 use Rattle.std.specs.Prelude.{◌≡◌, Bool, true, false, List, [], ◌∷◌, ◌++◌, Option, Some, None, option_map, Result, MatchResult}
-use Rattle.rx_terms.specs.Text.{Chars}
-use Rattle.rx_terms.specs.Iri.{is_iri}
+use Rattle.rx_terms.specs.Common.{Chars, is_iri, Bor}
 use Rattle.rx_chars.specs.declared.syntax.Syntax.TheVariants.{Html}
 use Rattle.rx_job.specs.Words.{Arguments, Asked, Gathering, Given, Job, Listed, reads, gathers, samples, extracts, itemizes, checks, behind, given_by, is_graph, is_listed, leading, listed}
 use Rattle.rx_job.specs.declared.arguments.Arguments.{Arguments as Lent}
@@ -15,7 +14,6 @@ use Rattle.rx_job.specs.declared.jobs.Job.{Job as CodeJob}
 use Rattle.rx_job.specs.declared.jobs.Job.TheVariants.{Extract, Items, Check, Many, Sample}
 use Rattle.rx_job.specs.declared.errors.JobError.{JobError}
 use Rattle.rx_job.specs.declared.errors.JobError.TheVariants as error
-use denote.Ref.{Bor}
 
 abbrev pub asked_by : CodeJob → Job
 asked_by (Extract syntax format graph context address page) =

@@ -1,10 +1,6 @@
 //! Words of the command line.
 ghost use Rattle.std.specs.Prelude.{◌≡◌, IsTrue, nat_eq};
-ghost use Rattle.std.specs.Cmp.Lexicographic.{pointwise};
-ghost use Rattle.std.specs.List.{list_all};
-ghost use Rattle.std.specs.Char.{is_ascii_digit};
-ghost use Rattle.std.specs.Str.{chars};
-ghost use Rattle.rx_terms.specs.Ascii.{is_ascii};
+ghost use Rattle.rx_terms.specs.Common.{pointwise, list_all, is_ascii_digit, chars, is_ascii};
 ghost use Rattle.rx_job.specs.Words.{are_names, count_of, is_file_if_any, is_file_name, is_number, is_page_name};
 ghost use Rattle.rx_job.specs.Jobs.{text_in};
 

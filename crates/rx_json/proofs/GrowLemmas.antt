@@ -1,6 +1,5 @@
 -- Events one behind another.
-use Rattle.std.proofs.Common.{◌≡◌, ◌∙◌, ◌+◌, ◌<◌, ◌≤◌, suc, List, [], ◌∷◌, ◌++◌, length, map, drop, drop-cons, drop_of_length-le, get_or, refl, sym, ap, arith, append_assoc, append-nil, Some, None}
-use Rattle.std.specs.Prelude.{ℕ}
+use Rattle.rx_terms.proofs.Common.{◌≡◌, ◌∙◌, ◌+◌, ◌<◌, ◌≤◌, suc, List, [], ◌∷◌, ◌++◌, length, map, drop, drop-cons, drop_of_length-le, get_or, refl, sym, ap, arith, append_assoc, append-nil, Some, None, ℕ}
 use Rattle.serde.specs.Event as event
 use Rattle.serde.specs.Event.{Event, Log, Logs}
 use Rattle.serde.specs.declared.name.Case.TheVariants.{AsIs}

@@ -1,6 +1,5 @@
 -- Names that rise, and values without numbers.
-use Rattle.rx_terms.proofs.Common.{◌≡◌, ◌∙◌, ℕ, false, List, refl, ap, Ordering, Less, Equal, Greater, nat_cmp, match_ordering, ordering_reverse, slice_cmp, or_from}
-use Rattle.std.proofs.lemmas.Cmp.{nat_list_cmp_total}
+use Rattle.rx_terms.proofs.Common.{◌≡◌, ◌∙◌, ℕ, false, List, refl, ap, Ordering, Less, Equal, Greater, nat_cmp, match_ordering, ordering_reverse, slice_cmp, or_from, nat_list_cmp_total}
 use Rattle.serde_json.specs.Data.{Data, Items, Members, null, boolean, number, string, array, object, no_items, item, no_members, member}
 use Rattle.serde_json.specs.Written.{has_float, items_have_float, members_have_float}
 use Rattle.rx_json.specs.Plain.{Leads, IsPlain, ArePlain, MembersArePlain}

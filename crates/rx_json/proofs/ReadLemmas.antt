@@ -1,6 +1,5 @@
 -- The compact text of a plain value is read back as that value.
-use Rattle.std.proofs.Common.{◌≡◌, ◌∙◌, ◌≤◌, ℕ, suc, max, List, [], refl, sym, ap, ap₂, arith, append-nil, Option, Some, option_map, option_and_then, Less, Greater, nat_cmp}
-use Rattle.std.specs.Cmp.Lexicographic.{slice_cmp}
+use Rattle.rx_terms.proofs.Common.{◌≡◌, ◌∙◌, ◌≤◌, ℕ, suc, max, List, [], refl, sym, ap, ap₂, arith, append-nil, Option, Some, option_map, option_and_then, Less, Greater, nat_cmp, slice_cmp}
 use Rattle.json.specs.Token.{Token}
 use Rattle.json.specs.Lex.{tokens}
 use Rattle.json.specs.Json as json

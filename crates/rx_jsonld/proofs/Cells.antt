@@ -1,15 +1,8 @@
 -- Chains of cells, and the cells that are listed.
-use Rattle.rx_terms.proofs.Common.{◌≡◌, ◌↔◌, ◌∙◌, ◌⊎◌, ◌<◌, ℕ, zero, suc, nat_eq, Bool, true, false, cond, List, [], ◌∷◌, length, bytes_eq, Option, Some, None, refl, sym, ap, inl, inr, subst, true≢false, arith, Chars, and_from}
-use Rattle.std.proofs.Common.{not, ◌&&◌}
-use Rattle.rx_model.proofs.Common.{Among, Node, Iri, Blank, Term, Resource, Literal, Triple, set_of, spo, rdf_type, rdf_first, rdf_rest, rdf_nil, Among_flat_map, Among_of_flat_map, Among-contains, Among_by_contains, false_unless, and_left, and_right, exact_numbers, exact_texts}
-use Rattle.rx_shapes.specs.Shapes.{Ends, onward, Cell, IsShape, HaveShapes}
-use Rattle.rx_shapes.specs.declared.shapes.Shape.{Shape}
+use Rattle.rx_jsonld.proofs.Common.{◌≡◌, ◌↔◌, ◌∙◌, ◌⊎◌, ◌<◌, ℕ, zero, suc, nat_eq, Bool, true, false, cond, List, [], ◌∷◌, length, bytes_eq, Option, Some, None, refl, sym, ap, inl, inr, subst, true≢false, arith, not, ◌&&◌, Chars, and_from, Among, Node, Iri, Blank, Term, Resource, Literal, Triple, set_of, spo, rdf_type, rdf_first, rdf_rest, rdf_nil, Among_flat_map, Among_of_flat_map, Among-contains, Among_by_contains, false_unless, and_left, and_right, exact_numbers, exact_texts, Ends, onward, Cell, IsShape, HaveShapes, Shape, objects_of, first_of, object_at, ListsCells, GoesOn, IsListed, first_one, later_one, blank_in, numbers_from, chain, is_cell_by, is_cell, may_list, cell_by, first_cell, cells_at, listed, is_listed}
 use Rattle.rx_shapes.specs.declared.shapes.Shape.TheVariants as shape
-use Rattle.rx_shapes.specs.Subjects.{objects_of, first_of, object_at}
 use Rattle.rx_shapes.proofs.Heights.{Differ, height, height_once, heights_alike}
 use Rattle.rx_shapes.proofs.CellLemmas.{CellOf, cell_of, cell_inner, first_some, first_each, rest_some, rest_each, Enough, none_left, child_enough, first_enough, first_is_not_rest}
-use Rattle.rx_jsonld.specs.Laws.{ListsCells}
-use Rattle.rx_jsonld.specs.Lists.{GoesOn, IsListed, first_one, later_one, blank_in, numbers_from, chain, is_cell_by, is_cell, may_list, cell_by, first_cell, cells_at, listed, is_listed}
 
 only_one : {A : Type 0} (xs : List A) (x : A) → Among xs x → ((y : A) → Among xs y → y ≡ x) → first_of xs ≡ Some x
 only_one [] x m h = absurd m

@@ -1,23 +1,10 @@
 -- The value of a list denotes its triples.
-use Rattle.rx_terms.proofs.Common.{◌≡◌, ◌∙◌, ◌⊎◌, ◌↔◌, ◌≤◌, ◌<◌, ◌^◌, ℕ, suc, ◌+◌, nat_eq, Bool, true, false, cond, List, [], ◌∷◌, ◌++◌, map, flat_map, length, get_or, refl, sym, ap, inl, inr, subst, true≢false, arith, append_assoc, IsIri, Chars, untrue}
-use Rattle.std.proofs.Common.{not}
+use Rattle.rx_jsonld.proofs.Common.{◌≡◌, ◌∙◌, ◌⊎◌, ◌↔◌, ◌≤◌, ◌<◌, ◌^◌, ℕ, suc, ◌+◌, nat_eq, Bool, true, false, cond, List, [], ◌∷◌, ◌++◌, map, flat_map, length, get_or, refl, sym, ap, inl, inr, subst, true≢false, arith, append_assoc, not, IsIri, Chars, untrue, decimal_is_IsNumeral, items_of, Among, contains, Node, Iri, Blank, Term, Resource, Literal, Triple, same_node, same_triple, set_of, spo, rename_node, rename_term, rename, blank_of_node, blank_of_term, blanks_of, place_in, Has, Renamed, Among_right, Among_cases, Among_map, Among_of_map, Among_filter, Among_of_filter, Among_flat_map, Among_of_flat_map, Among_by_contains, Among-contains, Among_of_distinct, false_unless, exact_numbers, exact_triples, rdf_first, rdf_rest, proper_term, proper_triple, WritableNode, WritableTerm, IsWritable, Shape, has_subject, about, subjects, HaveShapes, cells_at, listed, is_listed, node_value, tops, jsonld, all_triples, Name, Label, Place, JsonLd, ValueDenotes}
 use Rattle.std.specs.Str.Parse.{digits_value}
-use Rattle.std.proofs.lemmas.Fmt.{decimal_is_IsNumeral}
 use Rattle.std.proofs.lemmas.List.{length-append}
-use Rattle.serde_json.specs.View.{items_of}
-use Rattle.rx_model.proofs.Common.{Among, contains, Node, Iri, Blank, Term, Resource, Literal, Triple, same_node, same_triple, set_of, spo, rename_node, rename_term, rename, blank_of_node, blank_of_term, blanks_of, place_in, Has, Renamed, Among_right, Among_cases, Among_map, Among_of_map, Among_filter, Among_of_filter, Among_flat_map, Among_of_flat_map, Among_by_contains, Among-contains, Among_of_distinct, false_unless, exact_numbers, exact_triples, rdf_first, rdf_rest}
-use Rattle.rx_nquads.specs.Quads.{proper_term, proper_triple}
-use Rattle.rx_pieces.specs.Writable.{WritableNode, WritableTerm, IsWritable}
-use Rattle.rx_shapes.specs.declared.shapes.Shape.{Shape}
-use Rattle.rx_shapes.specs.Subjects.{has_subject, about, subjects}
 use Rattle.rx_shapes.proofs.Grouped.{same_nodes, about_there, subject_there, of_about}
-use Rattle.rx_shapes.specs.Shapes.{HaveShapes}
 use Rattle.rx_shapes.proofs.Heights.{Differ}
 use Rattle.rx_shapes.proofs.Times.{times, times_append, times_there, one_if, once_differ, differ_filter, distinct_differ}
-use Rattle.rx_jsonld.specs.Lists.{cells_at, listed, is_listed}
-use Rattle.rx_jsonld.specs.Value.{node_value, tops, jsonld}
-use Rattle.rx_jsonld.specs.Meaning.{all_triples, Name, Label, Place, JsonLd}
-use Rattle.rx_jsonld.specs.Laws.{ValueDenotes}
 use Rattle.rx_jsonld.proofs.Cells.{IsChain, cells_chain, chain_differs, one_root, of_listed, to_listed, listed_there, there_listed, root_subject}
 use Rattle.rx_jsonld.proofs.Parts.{PartStands, Naming, FreeNode, label_of, item_is, cell_triples, told}
 use Rattle.rx_jsonld.proofs.Docs.{Docs, docs}

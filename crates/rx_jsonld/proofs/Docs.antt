@@ -1,17 +1,6 @@
 -- The document of a list of triples, and what it says.
-use Rattle.rx_terms.proofs.Common.{◌≡◌, ◌∙◌, ◌⊎◌, ℕ, ◌+◌, false, List, [], ◌∷◌, ◌++◌, map, flat_map, length, codes, refl, sym, ap, ap₂, inl, inr, subst, arith, map-append, IsIri}
-use Rattle.serde_json.specs.Data.{Members, no_members, member}
-use Rattle.serde_json.specs.View.{items_of}
-use Rattle.rx_model.proofs.Common.{Among, Node, Triple, rename, Among_left, Among_right, Among_cases}
-use Rattle.rx_pieces.specs.Writable.{WritableTerm}
-use Rattle.rx_shapes.specs.declared.shapes.Shape.{Shape}
-use Rattle.rx_shapes.specs.Subjects.{about}
-use Rattle.rx_shapes.specs.Shapes.{HaveShapes}
+use Rattle.rx_jsonld.proofs.Common.{◌≡◌, ◌∙◌, ◌⊎◌, ℕ, ◌+◌, false, List, [], ◌∷◌, ◌++◌, map, flat_map, length, codes, refl, sym, ap, ap₂, inl, inr, subst, arith, map-append, IsIri, Members, no_members, member, items_of, Among, Node, Triple, rename, Among_left, Among_right, Among_cases, WritableTerm, Shape, about, HaveShapes, cells_at, is_listed, string_of, id_text, with_said, with_all, node_value, Id, NodeObject, Document, SpellsEach, SpellsNode, ids, cells_of_all, entries_triples, triples_by, node_triples, all_triples, Name, Label, Place}
 use Rattle.rx_shapes.proofs.Times.{times, times_append}
-use Rattle.rx_jsonld.specs.Lists.{cells_at, is_listed}
-use Rattle.rx_jsonld.specs.Value.{string_of, id_text, with_said, with_all, node_value}
-use Rattle.rx_jsonld.specs.Document.{Id, NodeObject, Document, SpellsEach, SpellsNode, ids}
-use Rattle.rx_jsonld.specs.Meaning.{cells_of_all, entries_triples, triples_by, node_triples, all_triples, Name, Label, Place}
 use Rattle.rx_jsonld.proofs.Parts.{PartStands, stands_front, stands_behind, Naming, FreeNode, names_node, node_named, told}
 use Rattle.rx_jsonld.proofs.PlainLemmas.{rising_differ, all_said_plain}
 use Rattle.rx_jsonld.proofs.Entries.{Part, part_cells, part_triples, part_entries, Inserted, AllFine, all_spelled, all_size, all_named, said_step}

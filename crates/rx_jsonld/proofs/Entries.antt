@@ -1,21 +1,8 @@
 -- The members of a node object, as they come one after another, and what they say.
-use Rattle.rx_terms.proofs.Common.{◌≡◌, ◌∙◌, ℕ, ◌+◌, nat_cmp, Bool, true, false, cond, List, [], ◌∷◌, ◌++◌, map, flat_map, length, bytes_eq, codes, encode_utf8_all, Option, Some, None, Ordering, Less, Equal, Greater, refl, sym, ap, ap₂, subst, true≢false, arith, append_assoc, append-nil, match_ordering, slice_cmp, map-append, encodes_same, IsIri, Chars}
-use Rattle.std.proofs.Common.{◌&&◌, not, is_eq}
-use Rattle.std.proofs.lemmas.List.{length-append}
-use Rattle.std.proofs.lemmas.Map.Text.{is_eq-slice_cmp}
-use Rattle.std.proofs.lemmas.Slice.Eq.{bytes_eq-Decides}
-use Rattle.serde_json.specs.Data.{Data, Items, Members, array, no_items, item, no_members, member}
-use Rattle.rx_model.proofs.Common.{Among, Node, Iri, Blank, Term, Resource, Literal, Triple, spo, rdf_type, rdf_first, rdf_rest, rename_node, rename_term, rename, exact_texts}
+use Rattle.rx_jsonld.proofs.Common.{◌≡◌, ◌∙◌, ℕ, ◌+◌, nat_cmp, Bool, true, false, cond, List, [], ◌∷◌, ◌++◌, map, flat_map, length, bytes_eq, codes, encode_utf8_all, Option, Some, None, Ordering, Less, Equal, Greater, refl, sym, ap, ap₂, subst, true≢false, arith, append_assoc, append-nil, ◌&&◌, not, is_eq, slice_cmp, encodes_same, IsIri, Chars, Data, Items, Members, array, no_items, item, no_members, member, Among, Node, Iri, Blank, Term, Resource, Literal, Triple, spo, rdf_type, rdf_first, rdf_rest, rename_node, rename_term, rename, exact_texts, proper_term, WritableTerm, Shape, HaveShapes, is_cell_by, is_cell, may_list, cell_by, first_cell, cells_at, is_listed, string_of, id_text, type_by, type_of, object_value, said_by, with_said, items_and, behind, with_last, Object, Entry, Id, Types, Property, NamesNode, SpellsEach, SpellsArray, SpellsName, SpellsObject, SpellsEntry, SpellsEntries, id_in, ids, cells_in, cells_in_all, cells_of, cells_of_all, node_of, object_triples, objects_triples, type_triple, entry_triples, entries_triples, Name, Label, Place}
+use Rattle.rx_terms.proofs.Common.{match_ordering, is_eq-slice_cmp, bytes_eq-Decides}
+use Rattle.std.proofs.lemmas.List.{map-append, length-append}
 use Rattle.rx_graph.specs.Resources.{resource_of}
-use Rattle.rx_nquads.specs.Quads.{proper_term}
-use Rattle.rx_pieces.specs.Writable.{WritableTerm}
-use Rattle.rx_shapes.specs.declared.shapes.Shape.{Shape}
-use Rattle.rx_shapes.specs.Shapes.{HaveShapes}
-use Rattle.rx_jsonld.specs.Lists.{is_cell_by, is_cell, may_list, cell_by, first_cell, cells_at, is_listed}
-use Rattle.rx_jsonld.specs.Value.{string_of, id_text, type_by, type_of, object_value, said_by, with_said}
-use Rattle.rx_jsonld.specs.Members.{items_and, behind, with_last}
-use Rattle.rx_jsonld.specs.Document.{Object, Entry, Id, Types, Property, NamesNode, SpellsEach, SpellsArray, SpellsName, SpellsObject, SpellsEntry, SpellsEntries, id_in, ids}
-use Rattle.rx_jsonld.specs.Meaning.{cells_in, cells_in_all, cells_of, cells_of_all, node_of, object_triples, objects_triples, type_triple, entry_triples, entries_triples, Name, Label, Place}
 use Rattle.rx_jsonld.proofs.OneDocument.{id_is_no_iri, type_is_no_iri}
 use Rattle.rx_jsonld.proofs.Cells.{cells_none}
 use Rattle.rx_jsonld.proofs.Parts.{PartStands, stands_front, stands_behind, Naming, FreeNode, FreeTerm, names_node, node_named, cell_triples, told, ObjectDoc, object_doc, free_object}

@@ -1,19 +1,7 @@
 -- The events of lists, of values in a row, of literals, and of what a triple says.
-use Rattle.std.proofs.Common.{◌≡◌, ◌∙◌, ◌+◌, ◌<◌, ◌≤◌, ℕ, Bool, true, if◌then◌else◌, List, [], ◌∷◌, ◌++◌, length, map, drop, drop_of_length-le, get_or, codes, encode_utf8_all, Option, Some, None, refl, sym, ap, append_assoc, append-nil}
-use Rattle.std.specs.Prelude.{IfOk, OnOk, Result, Ok, Err}
+use Rattle.rx_jsonld.proofs.Common.{◌≡◌, ◌∙◌, ◌+◌, ◌<◌, ◌≤◌, ℕ, Bool, true, if◌then◌else◌, List, [], ◌∷◌, ◌++◌, length, map, drop, drop_of_length-le, get_or, codes, encode_utf8_all, Option, Some, None, refl, sym, ap, append_assoc, append-nil, IfOk, OnOk, Result, Ok, Err, AsIs, Data, Grows, data_events, each_events, members_events, both, told_as, each_items, cut, Chars, Kind, Tagged, Typed, Node, Triple, Shape, IsWritable, value_by, value_said, chain, first_cell, numbers_from, item_value, list_from, list_value, literal_members, node_value, object_by, object_value, plain_value, type_of}
 use Rattle.serde.specs.Event as event
 use Rattle.serde.specs.Event.{Event, Log}
-use Rattle.serde.specs.declared.name.Case.TheVariants.{AsIs}
-use Rattle.serde_json.specs.Data.{Data}
-use Rattle.rx_json.specs.Events.{Grows, data_events, each_events, members_events}
-use Rattle.rx_json.proofs.GrowLemmas.{both, told_as, each_items, cut}
-use Rattle.rx_terms.specs.Text.{Chars}
-use Rattle.rx_model.specs.Terms.{Kind, Tagged, Typed, Node, Triple}
-use Rattle.rx_shapes.specs.declared.shapes.Shape.{Shape}
-use Rattle.rx_pieces.specs.Writable.{IsWritable}
-use Rattle.rx_jsonld.specs.Groups.{value_by, value_said}
-use Rattle.rx_jsonld.specs.Lists.{chain, first_cell, numbers_from}
-use Rattle.rx_jsonld.specs.Value.{item_value, list_from, list_value, literal_members, node_value, object_by, object_value, plain_value, type_of}
 
 abbrev list_begun : List Event
 list_begun = event.map_begins None ∷ event.field_key (codes "@list") AsIs ∷ event.seq_begins None ∷ []

@@ -1,15 +1,7 @@
 -- A list's value nests six levels deep at most.
-use Rattle.rx_terms.proofs.Common.{◌≤◌, ℕ, suc, List, [], ◌∷◌, map, codes, Option, Some, None, Ordering, Less, Equal, Greater, arith, nat_cmp, cond, Bool, true, false, match_ordering, slice_cmp, Chars}
-use Rattle.serde_json.specs.Data.{Data, null, boolean, number, string, array, object, Items, no_items, item, Members, no_members, member, depth, items_depth, members_depth}
-use Rattle.serde_json.specs.View.{items_of}
-use Rattle.rx_model.proofs.Common.{Kind, Plain, Tagged, Typed, Node, Blank, Term, Resource, Literal, Triple, rdf_first}
-use Rattle.rx_shapes.specs.declared.shapes.Shape.{Shape}
-use Rattle.rx_shapes.specs.Subjects.{about, object_at}
+use Rattle.rx_jsonld.proofs.Common.{◌≤◌, ℕ, suc, List, [], ◌∷◌, map, codes, Option, Some, None, Ordering, Less, Equal, Greater, arith, nat_cmp, cond, Bool, true, false, slice_cmp, Chars, Data, null, boolean, number, string, array, object, Items, no_items, item, Members, no_members, member, depth, items_depth, members_depth, items_of, Kind, Plain, Tagged, Typed, Node, Blank, Term, Resource, Literal, Triple, rdf_first, Shape, about, object_at, first_cell, cells_at, string_of, id_text, literal_members, term_value, list_value, item_by, item_value, is_empty_list, plain_value, type_of, object_by, said_by, with_all, node_value, tops, jsonld, items_and, behind, with_last, ValuesAreFlat}
+use Rattle.std.specs.Ordering.{match_ordering}
 use Rattle.rx_json.proofs.PlainLemmas.{no_float}
-use Rattle.rx_jsonld.specs.Lists.{first_cell, cells_at}
-use Rattle.rx_jsonld.specs.Value.{string_of, id_text, literal_members, term_value, list_value, item_by, item_value, is_empty_list, plain_value, type_of, object_by, said_by, with_all, node_value, tops, jsonld}
-use Rattle.rx_jsonld.specs.Members.{items_and, behind, with_last}
-use Rattle.rx_jsonld.specs.Laws.{ValuesAreFlat}
 use Rattle.rx_jsonld.proofs.PlainLemmas.{value_plain}
 
 items_and_flat : (most : ℕ) (values : Items) (value : Data) → items_depth values ≤ most → depth value ≤ most → items_depth (items_and values value) ≤ most

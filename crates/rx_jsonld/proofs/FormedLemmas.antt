@@ -1,12 +1,6 @@
 -- What a value denotes is made of terms that have their form.
-use Rattle.rx_terms.proofs.Common.{◌+◌, ℕ, zero, suc, Bool, true, false, cond, List, [], ◌∷◌, ◌++◌, map, bytes_eq, Option, refl, sym, subst, inl, inr, IsIri, Chars}
-use Rattle.serde_json.specs.Data.{Data, Items, Members, no_items, item, no_members, member}
+use Rattle.rx_jsonld.proofs.Common.{◌+◌, ℕ, zero, suc, Bool, true, false, cond, List, [], ◌∷◌, ◌++◌, map, bytes_eq, Option, refl, sym, subst, inl, inr, IsIri, Chars, Data, Items, Members, no_items, item, no_members, member, Among, Kind, Plain, Tagged, Typed, Node, Iri, Blank, Term, Resource, Literal, Triple, rename_node, rename_term, rename, Among_cases, rdf_type, rdf_first, rdf_rest, rdf_nil, proper_kind, Item, Reference, Value, Object, Single, ListObject, Entry, Id, Types, Property, NodeObject, Document, NamesNode, IsFormed, SpellsEach, SpellsName, SpellsItem, SpellsObject, SpellsEntry, SpellsEntries, SpellsNode, id_in, ids, cells_in, cells_of, cells_of_all, node_by, node_of, term_of, list_node, list_triples, object_triples, objects_triples, type_triple, entry_triples, entries_triples, triples_by, node_triples, all_triples, Label, Place, IsFormedNode, IsFormedTerm, IsFormedTriple, DenotesFormed}
 use Rattle.rx_terms.specs.Literal.{xsd_string}
-use Rattle.rx_model.proofs.Common.{Among, Kind, Plain, Tagged, Typed, Node, Iri, Blank, Term, Resource, Literal, Triple, rename_node, rename_term, rename, Among_cases, rdf_type, rdf_first, rdf_rest, rdf_nil}
-use Rattle.rx_nquads.specs.Quads.{proper_kind}
-use Rattle.rx_jsonld.specs.Document.{Item, Reference, Value, Object, Single, ListObject, Entry, Id, Types, Property, NodeObject, Document, NamesNode, IsFormed, SpellsEach, SpellsName, SpellsItem, SpellsObject, SpellsEntry, SpellsEntries, SpellsNode, id_in, ids}
-use Rattle.rx_jsonld.specs.Meaning.{cells_in, cells_of, cells_of_all, node_by, node_of, term_of, list_node, list_triples, object_triples, objects_triples, type_triple, entry_triples, entries_triples, triples_by, node_triples, all_triples, Label, Place}
-use Rattle.rx_jsonld.specs.Laws.{IsFormedNode, IsFormedTerm, IsFormedTriple, DenotesFormed}
 use Rattle.rx_jsonld.proofs.Parts.{no_label}
 
 -- ---- lists of triples

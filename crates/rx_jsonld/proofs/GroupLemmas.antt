@@ -1,23 +1,8 @@
 -- Places that are put behind those of their keys, and the name of a node before them.
-use denote.Ref.{Bor}
-use Rattle.rx_terms.proofs.Common.{◌≡◌, ◌∙◌, ◌<◌, refl, sym, ap, ℕ, List, [], ◌∷◌, ◌++◌, Bool, true, false, true≢false, codes, slice_get, Option, Some, None, Ordering, Less, Equal, Greater, nat_eq, nat_cmp, encode_utf8_all, inl, inr, arith, nat_tests, encode_ascii, slice_cmp, AllByRecursion, is_letter, IsIri, Chars}
-use Rattle.std.proofs.Common.{Global, Vec}
-use Rattle.std.proofs.lemmas.Cmp.{nat_list_cmp_total}
+use Rattle.rx_jsonld.proofs.Common.{◌≡◌, ◌∙◌, ◌<◌, refl, sym, ap, ℕ, List, [], ◌∷◌, ◌++◌, Bool, true, false, true≢false, codes, slice_get, Option, Some, None, Ordering, Less, Equal, Greater, nat_eq, nat_cmp, encode_utf8_all, inl, inr, arith, Global, Vec, nat_tests, encode_ascii, slice_cmp, is_letter, IsIri, begins_with_scheme, Chars, split_at, front_grows, Data, array, object, item, Members, no_members, member, items_of, Among, Node, Triple, Among_of_filter, Shape, has_subject, about, IsWritable, key_by, key_of, value_by, value_said, value_at, values_at, grouped, with_found, id_text, string_of, type_of, said_by, with_said, with_all, node_value, items_and, with_last}
+use Rattle.rx_terms.proofs.Common.{Bor, AllByRecursion, nat_list_cmp_total, insert_entry, is_at}
 use Rattle.std.specs.List.Sorted.{IsStrictlySortedBy}
 use Rattle.std.specs.Map.{keys_of, lookup, set_value}
-use Rattle.std.specs.BTreeMap.{insert_entry, is_at}
-use Rattle.serde_json.specs.Data.{Data, array, object, item, Members, no_members, member}
-use Rattle.serde_json.specs.View.{items_of}
-use Rattle.rx_terms.specs.Iri.{begins_with_scheme}
-use Rattle.rx_terms.specs.Text.{split_at, front_grows}
-use Rattle.rx_model.proofs.Common.{Among, Node, Triple, Among_of_filter}
-use Rattle.rx_shapes.specs.declared.shapes.Shape.{Shape}
-use Rattle.rx_shapes.specs.Subjects.{has_subject, about}
-use Rattle.rx_pieces.specs.Writable.{IsWritable}
-use Rattle.rx_jsonld.specs.Groups.{key_by, key_of, value_by, value_said, value_at, values_at, grouped}
-use Rattle.rx_jsonld.specs.Places.{with_found}
-use Rattle.rx_jsonld.specs.Value.{id_text, string_of, type_of, said_by, with_said, with_all, node_value}
-use Rattle.rx_jsonld.specs.Members.{items_and, with_last}
 
 abbrev Group : Type 0
 Group = Bor (List ℕ) × Vec ℕ Global

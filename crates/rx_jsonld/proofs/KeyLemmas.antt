@@ -1,8 +1,5 @@
 -- No object of a document's value has a key twice.
-use Rattle.rx_terms.proofs.Common.{ℕ, refl, sym, inl, inr, subst, List, [], ◌∷◌, Chars}
-use Rattle.serde_json.specs.Data.{Data, Items, Members, object, no_items, item, no_members, member}
-use Rattle.rx_model.proofs.Common.{Kind, Plain, Tagged, Typed}
-use Rattle.rx_jsonld.specs.Document.{Item, Reference, Value, Object, Single, ListObject, Entry, Id, Types, Property, NodeObject, SpellsEach, SpellsArray, SpellsText, SpellsName, SpellsItem, SpellsValue, SpellsObject, SpellsEntry, SpellsEntries, SpellsNode, KeysDifferIn, KeysDifferInItems, KeysDifferInMembers, KeysStandOnce}
+use Rattle.rx_jsonld.proofs.Common.{ℕ, refl, sym, inl, inr, subst, List, [], ◌∷◌, Chars, Data, Items, Members, object, no_items, item, no_members, member, Kind, Plain, Tagged, Typed, Item, Reference, Value, Object, Single, ListObject, Entry, Id, Types, Property, NodeObject, SpellsEach, SpellsArray, SpellsText, SpellsName, SpellsItem, SpellsValue, SpellsObject, SpellsEntry, SpellsEntries, SpellsNode, KeysDifferIn, KeysDifferInItems, KeysDifferInMembers, KeysStandOnce}
 
 module _ {A : Type 0} (Spelled : Data → A → Type 0) (once : (value : Data) (a : A) → Spelled value a → KeysDifferIn value) where
   each_once : (values : Items) (list : List A) → SpellsEach Spelled values list → KeysDifferInItems values

@@ -12,3 +12,4 @@ pub mod PlainLemmas
 pub mod GroupLemmas
 pub mod KeyLemmas
 pub mod FormedLemmas
+pub mod Common

@@ -1,12 +1,8 @@
 -- A value is that of at most one document.
 use lib.Utf8.{encode}
-use Rattle.rx_terms.proofs.Common.{◌≡◌, bytes_eq, ◌∙◌, ℕ, List, [], ◌∷◌, refl, sym, ap, ap₂, inl, inr, subst, codes, encode_utf8_all, true≢false, encodes_same, Chars, IsIri}
-use Rattle.serde_json.specs.Data.{Data, Items, Members, string, array, object, no_items, item, no_members, member}
-use Rattle.rx_terms.specs.Text.{split_at}
-use Rattle.rx_model.proofs.Common.{Kind, Plain, Tagged, Typed, set_of, Renamed}
+use Rattle.rx_jsonld.proofs.Common.{◌≡◌, bytes_eq, ◌∙◌, ℕ, List, [], ◌∷◌, refl, sym, ap, ap₂, inl, inr, subst, codes, encode_utf8_all, true≢false, encodes_same, Chars, split_at, IsIri, Data, Items, Members, string, array, object, no_items, item, no_members, member, Kind, Plain, Tagged, Typed, set_of, Renamed, named_triples, DenotesOne}
 use Rattle.rx_model.proofs.Renamings.{renamed_across}
 use Rattle.rx_jsonld.specs.Document.{Item, Reference, Value, Single, ListObject, Entry, Id, Types, Property, Document, SpellsEach, SpellsArray, SpellsText, SpellsName, SpellsItem, SpellsObject, SpellsValue, SpellsEntry, SpellsEntries, SpellsNode, AreTwo, one, SpellsOne}
-use Rattle.rx_jsonld.specs.Meaning.{named_triples, DenotesOne}
 use Rattle.rx_jsonld.proofs.GroupLemmas.{not_letter}
 
 -- ---- arrays

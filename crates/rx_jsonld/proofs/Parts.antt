@@ -1,21 +1,6 @@
 -- What is said of a node, as a document has it.
-use Rattle.rx_terms.proofs.Common.{◌≡◌, ◌∙◌, ℕ, suc, ◌+◌, Bool, true, false, cond, List, [], ◌∷◌, ◌++◌, map, length, bytes_eq, Option, Some, None, refl, sym, ap, ap₂, inl, inr, subst, true≢false, arith, nat_tests, length-map, IsIri, Chars, colon}
-use Rattle.std.proofs.Common.{◌&&◌, ◌==◌}
-use Rattle.std.specs.Fmt.{decimal}
-use Rattle.serde_json.specs.Data.{Data, array, no_items}
-use Rattle.serde_json.specs.View.{items_of}
-use Rattle.rx_terms.specs.Ascii.{low_line}
-use Rattle.rx_model.proofs.Common.{Among, Plain, Tagged, Typed, Node, Iri, Blank, Term, Resource, Literal, Triple, spo, rename_node, rename_term, rename, and_right, exact_texts, rdf_first, rdf_rest, rdf_nil}
-use Rattle.rx_nquads.specs.Quads.{proper_term, proper_triple}
-use Rattle.rx_pieces.specs.Writable.{WritableKind, WritableTerm}
-use Rattle.rx_shapes.specs.declared.shapes.Shape.{Shape}
-use Rattle.rx_shapes.specs.Shapes.{HaveShapes}
-use Rattle.rx_shapes.specs.Subjects.{object_at}
-use Rattle.rx_jsonld.specs.Lists.{first_cell, cells_at, is_listed}
-use Rattle.rx_jsonld.specs.Value.{id_text, literal_members, term_value, list_value, item_by, item_value, is_empty_list, may_be_empty, object_by, object_value}
+use Rattle.rx_jsonld.proofs.Common.{◌≡◌, ◌∙◌, ℕ, suc, ◌+◌, Bool, true, false, cond, List, [], ◌∷◌, ◌++◌, map, length, bytes_eq, Option, Some, None, refl, sym, ap, ap₂, inl, inr, subst, true≢false, arith, ◌&&◌, ◌==◌, nat_tests, length-map, IsIri, Chars, colon, low_line, decimal, Data, array, no_items, items_of, Among, Plain, Tagged, Typed, Node, Iri, Blank, Term, Resource, Literal, Triple, spo, rename_node, rename_term, rename, and_right, exact_texts, rdf_first, rdf_rest, rdf_nil, proper_term, proper_triple, WritableKind, WritableTerm, Shape, HaveShapes, object_at, first_cell, cells_at, is_listed, id_text, literal_members, term_value, list_value, item_by, item_value, is_empty_list, may_be_empty, object_by, object_value, Item, Reference, Object, Single, ListObject, Entry, Id, Types, Property, NamesNode, SpellsEach, SpellsArray, SpellsText, SpellsItem, SpellsObject, SpellsEntry, SpellsEntries, id_in, ids, label_in, cells_in, node_by, node_of, term_of, list_node, list_triples, object_triples, Name, Label, Place}
 use Rattle.rx_jsonld.specs.Document as doc
-use Rattle.rx_jsonld.specs.Document.{Item, Reference, Object, Single, ListObject, Entry, Id, Types, Property, NamesNode, SpellsEach, SpellsArray, SpellsText, SpellsItem, SpellsObject, SpellsEntry, SpellsEntries, id_in, ids}
-use Rattle.rx_jsonld.specs.Meaning.{label_in, cells_in, node_by, node_of, term_of, list_node, list_triples, object_triples, Name, Label, Place}
 use Rattle.rx_jsonld.proofs.OneDocument.{label_is_no_iri}
 use Rattle.rx_jsonld.proofs.Cells.{node_after, item_found, Link, IsChain, cells_chain, cells_none, cells_begin, item_free, object_free}
 

@@ -1,24 +1,15 @@
 -- What is found by the places of a node's triples.
-use Rattle.rx_terms.proofs.Common.{◌≡◌, ◌∙◌, ℕ, zero, suc, ◌+◌, ◌-◌, ◌<◌, nat_eq, Bool, true, false, cond, List, [], ◌∷◌, ◌++◌, map, filter, flat_map, take, slice_get, Option, Some, None, option_to_list, refl, sym, ap, ap₂, subst, inl, inr, arith, append-nil, append_assoc, nat_tests, map-append, take-map, filter-append, Chars, same_truth}
-use Rattle.std.proofs.Common.{not, ◌&&◌, ◌||◌}
-use Rattle.std.proofs.lemmas.Grind.{flat_map-append}
-use Rattle.serde_json.specs.Data.{Data, Members}
+use Rattle.rx_jsonld.proofs.Common.{◌≡◌, ◌∙◌, ℕ, zero, suc, ◌+◌, ◌-◌, ◌<◌, nat_eq, Bool, true, false, cond, List, [], ◌∷◌, ◌++◌, map, filter, flat_map, take, slice_get, Option, Some, None, option_to_list, refl, sym, ap, ap₂, subst, inl, inr, arith, append-nil, append_assoc, not, ◌&&◌, ◌||◌, nat_tests, map-append, take-map, Chars, same_truth, Data, Members, Among, contains, distinct, with_one, Node, Iri, Blank, Triple, same_node, node_seen, triple_seen, triples_seen, Among_cases, Among-contains, Among_by_contains, Among_distinct, Among_of_distinct, rdf_rest, WritableTriple, Shape, about, subjects, object_at, blank_in, numbers_from, chain, cells_at, listed, is_listed, with_said, with_all, node_value, nodes_added, with_found, with_places, starts, node_at}
+use Rattle.rx_terms.proofs.Common.{filter-append, flat_map-append}
 use Rattle.rx_terms.specs.declared.triples.Blank.{Blank as Number}
 use Rattle.rx_terms.specs.declared.triples.Triple.{Triple as CodeTriple}
-use Rattle.rx_model.proofs.Common.{Among, contains, distinct, with_one, Node, Iri, Blank, Triple, same_node, node_seen, triple_seen, triples_seen, Among_cases, Among-contains, Among_by_contains, Among_distinct, Among_of_distinct, rdf_rest}
 use Rattle.rx_graph.proofs.PatternLemmas.{contains_added}
 use Rattle.rx_graph.proofs.SetLemmas.{distinct_grows, seen_more}
-use Rattle.rx_pieces.specs.Writable.{WritableTriple}
 use Rattle.rx_shapes.specs.Rows.{positions}
 use Rattle.rx_shapes.specs.Places.{places_of, picked}
-use Rattle.rx_shapes.specs.declared.shapes.Shape.{Shape}
 use Rattle.rx_shapes.proofs.IndexLemmas.{seen_at}
-use Rattle.rx_shapes.specs.Subjects.{about, subjects, object_at}
 use Rattle.rx_shapes.proofs.Grouped.{same_nodes, same_back}
 use Rattle.rx_shapes.proofs.PlaceLemmas.{picked_about}
-use Rattle.rx_jsonld.specs.Lists.{blank_in, numbers_from, chain, cells_at, listed, is_listed}
-use Rattle.rx_jsonld.specs.Value.{with_said, with_all, node_value}
-use Rattle.rx_jsonld.specs.Places.{nodes_added, with_found, with_places, starts, node_at}
 
 -- ---- what the triples of a node say
 

@@ -1,18 +1,8 @@
 -- A list's value has no number, and the keys of its objects rise, so that each stands once.
-use Rattle.rx_terms.proofs.Common.{◌≡◌, ◌∙◌, ℕ, Bool, true, false, cond, List, [], ◌∷◌, map, filter, bytes_eq, codes, Option, Some, None, Ordering, Less, Equal, Greater, nat_cmp, refl, sym, ap, match_ordering, slice_cmp, Chars}
-use Rattle.std.proofs.Common.{not, is_eq}
-use Rattle.std.proofs.lemmas.Map.Text.{is_eq-slice_cmp}
-use Rattle.serde_json.specs.Data.{Data, null, boolean, number, string, array, object, Items, no_items, item, Members, no_members, member}
-use Rattle.serde_json.specs.View.{items_of}
-use Rattle.rx_model.proofs.Common.{Kind, Plain, Tagged, Typed, Node, Blank, Term, Resource, Literal, Triple, rdf_first}
-use Rattle.rx_shapes.specs.declared.shapes.Shape.{Shape}
-use Rattle.rx_shapes.specs.Subjects.{about, object_at}
+use Rattle.rx_jsonld.proofs.Common.{◌≡◌, ◌∙◌, ℕ, Bool, true, false, cond, List, [], ◌∷◌, map, filter, bytes_eq, codes, Option, Some, None, Ordering, Less, Equal, Greater, nat_cmp, refl, sym, ap, not, is_eq, slice_cmp, Chars, Data, null, boolean, number, string, array, object, Items, no_items, item, Members, no_members, member, items_of, Kind, Plain, Tagged, Typed, Node, Blank, Term, Resource, Literal, Triple, rdf_first, Shape, about, object_at, first_cell, cells_at, string_of, id_text, literal_members, term_value, list_value, item_by, item_value, is_empty_list, plain_value, type_of, object_by, said_by, with_all, node_value, tops, jsonld, items_and, behind, with_last, keys, KeysDiffer}
+use Rattle.rx_terms.proofs.Common.{match_ordering, is_eq-slice_cmp}
 use Rattle.rx_json.specs.Plain.{Leads, IsPlain, ArePlain, MembersArePlain}
 use Rattle.rx_json.proofs.PlainLemmas.{turned, leads_one, leads_through}
-use Rattle.rx_jsonld.specs.Lists.{first_cell, cells_at}
-use Rattle.rx_jsonld.specs.Value.{string_of, id_text, literal_members, term_value, list_value, item_by, item_value, is_empty_list, plain_value, type_of, object_by, said_by, with_all, node_value, tops, jsonld}
-use Rattle.rx_jsonld.specs.Members.{items_and, behind, with_last}
-use Rattle.rx_jsonld.specs.Document.{keys, KeysDiffer}
 
 -- ---- keys that rise
 

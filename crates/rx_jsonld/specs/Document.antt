@@ -2,12 +2,7 @@
 -- that are no texts (our own limits). IRIs and language tags are those of N-Quads.
 use Rattle.std.specs.Prelude.{◌≡◌, ◌⊎◌, ℕ, true, List, [], ◌∷◌, ◌++◌, bytes_eq, codes, encode_utf8_all}
 use Rattle.serde_json.specs.Data.{Data, Items, Members, null, boolean, number, string, array, object, no_items, item, no_members, member}
-use Rattle.rx_terms.specs.Ascii.{colon, low_line}
-use Rattle.rx_terms.specs.Text.{Chars}
-use Rattle.rx_terms.specs.Iri.{IsIri}
-use Rattle.rx_terms.specs.Lang.{is_lang}
-use Rattle.rx_model.specs.Sets.{distinct}
-use Rattle.rx_model.specs.Terms.{Kind, Plain, Tagged, Typed}
+use Rattle.rx_model.specs.Common.{colon, low_line, Chars, IsIri, is_lang, distinct, Kind, Plain, Tagged, Typed}
 
 -- ---- syntax
 

@@ -1,13 +1,9 @@
 -- What is said of a node, by places under keys.
-use denote.Ref.{Bor}
+use Rattle.rx_model.specs.Common.{Bor, BTreeMap, get_by, slice_cmp, nat_cmp, Node, Triple}
 use Rattle.std.specs.Prelude.{ℕ, List, [], ◌∷◌, map, codes, encode_utf8_all, slice_get, Option, Some, None, Vec}
 use Rattle.std.specs.Global.{Global}
-use Rattle.std.specs.BTreeMap.{BTreeMap, get_by}
-use Rattle.std.specs.Cmp.Lexicographic.{slice_cmp}
-use Rattle.std.specs.Ordering.{nat_cmp}
 use Rattle.serde_json.specs.Data.{Data, null, array, object, Members, no_members, member}
 use Rattle.serde_json.specs.View.{items_of}
-use Rattle.rx_model.specs.Terms.{Node, Triple}
 use Rattle.rx_shapes.specs.declared.shapes.Shape.{Shape}
 use Rattle.rx_jsonld.specs.Value.{id_text, object_value, string_of, type_of}
 

@@ -2,9 +2,7 @@
 use Rattle.std.specs.Prelude.{◌≡◌, ◌↔◌, ◌≤◌, ℕ, false, List, map, nat_eq}
 use Rattle.serde_json.specs.Data.{Data, depth}
 use Rattle.serde_json.specs.Written.{has_float}
-use Rattle.rx_terms.specs.Iri.{IsIri}
-use Rattle.rx_model.specs.Sets.{Among, distinct}
-use Rattle.rx_model.specs.Terms.{Node, Iri, Blank, Term, Resource, Literal, Triple, same_triple, set_of}
+use Rattle.rx_model.specs.Common.{IsIri, Among, distinct, Node, Iri, Blank, Term, Resource, Literal, Triple, same_triple, set_of}
 use Rattle.rx_shapes.specs.declared.shapes.Shape.{Shape}
 use Rattle.rx_pieces.specs.Writable.{IsWritable}
 use Rattle.rx_nquads.specs.Quads.{proper_triple}

@@ -1,11 +1,7 @@
 -- Which cells of RDF's lists are written as items of `@list` (JSON-LD 1.1, 4.3.1 says what such a list stands for; which cells
 -- are written so is our own choice).
 use Rattle.std.specs.Prelude.{◌≡◌, ℕ, zero, suc, nat_eq, Bool, true, false, not, ◌&&◌, List, [], ◌∷◌, flat_map, length, bytes_eq, Option, Some, None, if◌then◌else◌}
-use Rattle.rx_terms.specs.Text.{Chars}
-use Rattle.rx_model.specs.Sets.{contains}
-use Rattle.rx_model.specs.Terms.{Node, Iri, Blank, Term, Resource, Literal, Triple, Graph}
-use Rattle.rx_model.specs.Copied.{spo}
-use Rattle.rx_model.specs.Vocabulary.{rdf_type, rdf_first, rdf_rest}
+use Rattle.rx_model.specs.Common.{Chars, contains, Node, Iri, Blank, Term, Resource, Literal, Triple, Graph, spo, rdf_type, rdf_first, rdf_rest}
 use Rattle.rx_shapes.specs.Shapes.{Cell}
 use Rattle.rx_shapes.specs.declared.shapes.Shape.{Shape}
 use Rattle.rx_shapes.specs.declared.shapes.Shape.TheVariants as shape

@@ -2,12 +2,7 @@
 -- JSON-LD to RDF) and 8.3 (List to RDF).
 use Rattle.std.specs.Prelude.{ℕ, suc, ◌+◌, ◌&&◌, ◌==◌, List, [], ◌∷◌, ◌++◌, map, length, Option, Some, None, if◌then◌else◌}
 use Rattle.serde_json.specs.Data.{Data}
-use Rattle.rx_terms.specs.Ascii.{colon, low_line}
-use Rattle.rx_terms.specs.Text.{Chars}
-use Rattle.rx_model.specs.Terms.{Node, Iri, Blank, Term, Resource, Literal, Triple, set_of}
-use Rattle.rx_model.specs.Copied.{spo}
-use Rattle.rx_model.specs.Vocabulary.{rdf_type, rdf_first, rdf_rest, rdf_nil}
-use Rattle.rx_model.specs.Numbered.{Renamed}
+use Rattle.rx_model.specs.Common.{colon, low_line, Chars, Node, Iri, Blank, Term, Resource, Literal, Triple, set_of, spo, rdf_type, rdf_first, rdf_rest, rdf_nil, Renamed}
 use Rattle.rx_nquads.specs.Quads.{proper_kind}
 use Rattle.rx_jsonld.specs.Document.{Item, Reference, Value, Object, Single, ListObject, Entry, Id, Types, Property, NodeObject, Document, Spells, ids}
 

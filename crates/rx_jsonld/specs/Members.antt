@@ -1,7 +1,6 @@
 -- The values of each key of an object, as they come one after another.
 use Rattle.std.specs.Prelude.{ℕ, List}
-use Rattle.std.specs.Ordering.{nat_cmp, match_ordering}
-use Rattle.std.specs.Cmp.Lexicographic.{slice_cmp}
+use Rattle.rx_terms.specs.Common.{nat_cmp, match_ordering, slice_cmp}
 use Rattle.serde_json.specs.Data.{Data, Items, Members, array, no_items, item, no_members, member}
 
 -- the values with one more at their end

@@ -1,8 +1,7 @@
 -- What the code works out by the places of triples in a list.
 use Rattle.std.specs.Prelude.{◌≡◌, ℕ, nat_eq, Bool, false, not, ◌&&◌, List, [], ◌∷◌, slice_get, Option, Some, None, if◌then◌else◌}
 use Rattle.serde_json.specs.Data.{Data, Members}
-use Rattle.rx_model.specs.Sets.{with_one}
-use Rattle.rx_model.specs.Terms.{Node, Blank, Triple, same_node}
+use Rattle.rx_model.specs.Common.{with_one, Node, Blank, Triple, same_node}
 use Rattle.rx_shapes.specs.Places.{places_of}
 use Rattle.rx_shapes.specs.Table.{Table, places_in}
 use Rattle.rx_shapes.specs.declared.shapes.Shape.{Shape}

@@ -2,10 +2,7 @@
 use Rattle.std.specs.Prelude.{◌≡◌, ℕ, List, [], ◌∷◌, codes, get_or}
 use Rattle.serde_json.specs.Data.{Data, Members, string, array, object, no_members, member}
 use Rattle.serde_json.specs.View.{items_of}
-use Rattle.rx_terms.specs.Text.{Chars}
-use Rattle.rx_model.specs.Terms.{Plain, Tagged, Typed, Node, Iri, Blank, Term, Resource, Literal, Triple}
-use Rattle.rx_model.specs.Copied.{spo}
-use Rattle.rx_model.specs.Vocabulary.{rdf_type, rdf_first, rdf_rest, rdf_nil}
+use Rattle.rx_model.specs.Common.{Chars, Plain, Tagged, Typed, Node, Iri, Blank, Term, Resource, Literal, Triple, spo, rdf_type, rdf_first, rdf_rest, rdf_nil}
 use Rattle.rx_shapes.specs.declared.shapes.Shape.{Shape}
 use Rattle.rx_shapes.specs.declared.shapes.Shape.TheVariants.{Labelled, Inside, Cell}
 use Rattle.rx_jsonld.specs.Value.{jsonld}

@@ -3,9 +3,7 @@
 use Rattle.std.specs.Prelude.{ℕ, Bool, false, not, ◌&&◌, List, [], ◌∷◌, map, filter, length, codes, bytes_eq, encode_utf8_all, Option, Some, None, if◌then◌else◌}
 use Rattle.serde_json.specs.Data.{Data, Members, null, string, array, object, no_members, member}
 use Rattle.serde_json.specs.View.{items_of}
-use Rattle.rx_terms.specs.Text.{Chars}
-use Rattle.rx_model.specs.Terms.{Kind, Plain, Tagged, Typed, Node, Iri, Blank, Term, Resource, Literal, Triple}
-use Rattle.rx_model.specs.Vocabulary.{rdf_type, rdf_first, rdf_rest, rdf_nil}
+use Rattle.rx_model.specs.Common.{Chars, Kind, Plain, Tagged, Typed, Node, Iri, Blank, Term, Resource, Literal, Triple, rdf_type, rdf_first, rdf_rest, rdf_nil}
 use Rattle.rx_graph.specs.Resources.{resource_of}
 use Rattle.rx_pieces.specs.Writing.{blank_text}
 use Rattle.rx_shapes.specs.declared.shapes.Shape.{Shape}

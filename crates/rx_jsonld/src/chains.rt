@@ -1,8 +1,7 @@
 //! Chains of cells, and which of them are listed.
 ghost use Rattle.std.specs.Prelude.{◌≡◌, length, map, option_map, IfOk};
 ghost use Rattle.rx_model.specs.Terms as model;
-ghost use Rattle.rx_model.specs.Seen.{node_seen, term_seen, triple_seen, triples_seen};
-ghost use Rattle.rx_model.specs.Vocabulary.{rdf_rest};
+ghost use Rattle.rx_model.specs.Common.{node_seen, term_seen, triple_seen, triples_seen, rdf_rest};
 ghost use Rattle.rx_shapes.specs.Table.{shape_in};
 ghost use Rattle.rx_shapes.specs.Subjects.{object_at};
 ghost use Rattle.rx_shapes.specs.Cells.{predicate_of};

@@ -1,8 +1,6 @@
 //! The cells that are listed.
 ghost use Rattle.std.specs.Prelude.{◌≡◌, length, map, nat_eq, IfOk, OnOk, []};
-ghost use Rattle.rx_model.specs.Sets.{distinct};
-ghost use Rattle.rx_model.specs.Terms.{same_triple};
-ghost use Rattle.rx_model.specs.Seen.{node_seen, triple_seen, triples_seen};
+ghost use Rattle.rx_model.specs.Common.{distinct, same_triple, node_seen, triple_seen, triples_seen};
 ghost use Rattle.rx_pieces.specs.Writable.{IsWritable};
 ghost use Rattle.rx_shapes.specs.Table.{shape_in};
 ghost use Rattle.rx_jsonld.specs.Lists.{cells_at, chain, is_listed, listed};

@@ -1,9 +1,6 @@
 -- The triples of a list, cell by cell.
-use Rattle.rx_terms.proofs.Common.{◌≡◌, ◌∙◌, ℕ, suc, ◌+◌, ◌<◌, ◌^◌, List, [], ◌∷◌, ◌++◌, filter_map, length, Option, refl, sym, ap, arith, append_assoc, Chars}
+use Rattle.rx_rdfa.proofs.Common.{◌≡◌, ◌∙◌, ℕ, suc, ◌+◌, ◌<◌, ◌^◌, List, [], ◌∷◌, ◌++◌, filter_map, length, Option, refl, sym, ap, arith, append_assoc, Chars, Node, Iri, Blank, Term, Triple, term_seen, spo, rdf_first, rdf_rest, rdf_nil, to_node, list_of, chain, cell_or_nil}
 use Rattle.rx_terms.specs.declared.triples.Term.{Term as CodeTerm}
-use Rattle.rx_model.proofs.Common.{Node, Iri, Blank, Term, Triple, term_seen, spo, rdf_first, rdf_rest, rdf_nil}
-use Rattle.rx_rdfa.specs.Element.{to_node}
-use Rattle.rx_rdfa.specs.Lists.{list_of, chain, cell_or_nil}
 use Rattle.rx_lists.specs.Owners.{itself}
 use Rattle.rx_lists.specs.Cells.{linked, one_cell, terms_in}
 

@@ -1,11 +1,6 @@
 -- The triples of an owner's lists, list by list.
-use Rattle.rx_terms.proofs.Common.{◌≡◌, ◌∙◌, ℕ, zero, suc, ◌+◌, ◌≤◌, ◌<◌, ◌^◌, List, [], ◌∷◌, ◌++◌, filter_map, length, drop, get_or, Option, Some, None, refl, sym, ap, ap₂, subst, arith, append_assoc, append-nil, add-one, slice_get, slice_set, Bool, true, false, ◌-◌, take, option_to_list, length-append, not, length-map, Chars}
-use Rattle.std.proofs.Common.{drop-cons}
-use Rattle.std.proofs.Math.Seq.{take-append_seam}
-use Rattle.std.proofs.lemmas.List.{at_drop_all}
+use Rattle.rx_rdfa.proofs.Common.{◌≡◌, ◌∙◌, ℕ, zero, suc, ◌+◌, ◌≤◌, ◌<◌, ◌^◌, List, [], ◌∷◌, ◌++◌, filter_map, length, drop, get_or, Option, Some, None, refl, sym, ap, ap₂, subst, arith, append_assoc, append-nil, add-one, slice_get, slice_set, Bool, true, false, ◌-◌, take, option_to_list, length-append, drop-cons, not, length-map, at_drop_all, Chars, take-append_seam, Node, Triple, term_seen, list_of}
 use Rattle.rx_terms.specs.declared.triples.Term.{Term as CodeTerm}
-use Rattle.rx_model.proofs.Common.{Node, Triple, term_seen}
-use Rattle.rx_rdfa.specs.Lists.{list_of}
 use Rattle.rx_lists.specs.Owners.{Owned, Owners, Slots, itself, is_finished, trimmed, trimmed_by}
 use Rattle.rx_lists.specs.Cells.{cells_of, items_seen, size, terms_in}
 

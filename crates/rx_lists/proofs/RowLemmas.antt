@@ -1,12 +1,7 @@
 -- Predicates and their slots, side by side, as a table.
-use Rattle.rx_terms.proofs.Common.{◌≡◌, ◌∙◌, ℕ, zero, suc, ◌+◌, ◌<◌, ◌≤◌, Bool, false, cond, List, [], ◌∷◌, ◌++◌, length, Option, Some, None, option_to_list, bytes_eq, refl, sym, ap, subst, arith, append-nil, rules, slice_set, position_or_len, list_any, nat_tests, by_test, length-map}
-use Rattle.std.proofs.Common.{slice_index_or}
-use Rattle.std.specs.List.{position}
-use Rattle.std.specs.Prelude.{nat_lt}
+use Rattle.rx_rdfa.proofs.Common.{◌≡◌, ◌∙◌, ℕ, zero, suc, ◌+◌, ◌<◌, ◌≤◌, Bool, false, cond, List, [], ◌∷◌, ◌++◌, length, Option, Some, None, option_to_list, bytes_eq, refl, sym, ap, subst, arith, append-nil, rules, slice_set, slice_index_or, position_or_len, list_any, position, nat_tests, by_test, length-map, nat_lt, IsExact, exact_texts, put}
 use Rattle.rx_terms.specs.declared.triples.Term.{Term}
 use Rattle.rx_terms.specs.contracts.iris.IriPartialEq.TheImpl as iri_impl
-use Rattle.rx_model.proofs.Common.{IsExact, exact_texts}
-use Rattle.rx_rdfa.specs.Tables.{put}
 use Rattle.rx_terms.specs.declared.triples.Node.{Node}
 use Rattle.rx_lists.specs.Owners.{Owned, owned, with_lists, with_slot, with_term, Slots, slots_at, predicates_of, place_of, slots_of}
 use Rattle.rx_lists.specs.Rows.{rows, first_place, FoundAt}

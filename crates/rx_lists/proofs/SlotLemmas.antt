@@ -1,8 +1,6 @@
 -- Writing to one row of several.
-use Rattle.std.proofs.Common.{◌≡◌, ◌∙◌, ℕ, zero, suc, ◌<◌, true, false, List, [], ◌∷◌, ◌++◌, map, length, get_or, Result, Ok, Err, refl, ap, ap₂, arith, is_ok, is_err}
-use Rattle.std.specs.Prelude.{if◌then◌else◌}
+use Rattle.rx_terms.proofs.Common.{◌≡◌, ◌∙◌, ℕ, zero, suc, ◌<◌, true, false, List, [], ◌∷◌, ◌++◌, map, length, get_or, Result, Ok, Err, refl, ap, ap₂, arith, is_ok, is_err, if◌then◌else◌, map-set, length-map}
 use Rattle.std.proofs.Math.ListN.{set}
-use Rattle.std.proofs.lemmas.List.{map-set, length-map}
 
 module _ {R X : Type 0} (f : R → List X) where
   at_row : (rows : List R) (i : ℕ) (r : R) → i < length rows → r ≡ get_or rows i r → f r ≡ get_or (map f rows) i []

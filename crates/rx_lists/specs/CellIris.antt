@@ -1,7 +1,6 @@
 -- The IRIs that the triples of lists have of their own.
 use Rattle.std.specs.Prelude.{◌≡◌}
-use Rattle.rx_terms.specs.Text.{Chars}
-use Rattle.rx_model.specs.Vocabulary.{rdf_first, rdf_rest, rdf_nil}
+use Rattle.rx_model.specs.Common.{Chars, rdf_first, rdf_rest, rdf_nil}
 
 -- the three are rdf:first, rdf:rest and rdf:nil
 abbrev pub AreOfCells : Chars → Chars → Chars → Type 0

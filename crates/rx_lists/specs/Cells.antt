@@ -1,14 +1,8 @@
 -- The triples of an owner's lists: RDF Schema 1.1, 5.2, with cells numbered in the order of the slots.
 use Rattle.std.specs.Prelude.{ℕ, ◌+◌, List, [], ◌∷◌, ◌++◌, map, length, filter_map, Option, Some, None}
-use Rattle.rx_terms.specs.Text.{Chars}
+use Rattle.rx_rdfa.specs.Common.{Chars, Node, Iri, Blank, Term, Triple, node_seen, term_seen, spo, rdf_first, rdf_rest, rdf_nil, to_node, list_of}
 use Rattle.rx_terms.specs.declared.triples.Term.{Term as CodeTerm}
-use Rattle.rx_model.specs.Terms.{Node, Iri, Blank, Term, Triple}
-use Rattle.rx_model.specs.Seen.{node_seen, term_seen}
-use Rattle.rx_model.specs.Copied.{spo}
-use Rattle.rx_model.specs.Vocabulary.{rdf_first, rdf_rest, rdf_nil}
-use Rattle.rx_rdfa.specs.Element.{to_node}
 use Rattle.rx_rdfa.specs.Tables.{Table}
-use Rattle.rx_rdfa.specs.Lists.{list_of}
 use Rattle.rx_lists.specs.Owners.{Owned, Slots, itself}
 
 -- the terms of the slots that have one

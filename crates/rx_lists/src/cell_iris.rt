@@ -1,9 +1,6 @@
 //! The IRIs that the triples of lists have of their own.
 ghost use Rattle.std.specs.Prelude.{◌≡◌, IfOk, true};
-ghost use Rattle.std.specs.List.{list_all};
-ghost use Rattle.rx_terms.specs.Ascii.{is_ascii};
-ghost use Rattle.rx_terms.specs.Iri.{IsIri};
-ghost use Rattle.rx_model.specs.Vocabulary.{rdf_first, rdf_rest, rdf_nil};
+ghost use Rattle.rx_model.specs.Common.{list_all, is_ascii, IsIri, rdf_first, rdf_rest, rdf_nil};
 
 use rx_terms::{Iri, NoMemory};
 use std::alloc::Global;

@@ -1,9 +1,6 @@
 //! The triples of a list (RDF Schema 1.1, section 5.2).
 ghost use Rattle.std.specs.Prelude.{◌≡◌, ◌+◌, ◌<◌, ◌^◌, ◌∷◌, [], OnOk, IfOk, length};
-ghost use Rattle.rx_model.specs.Seen.{node_seen, term_seen};
-ghost use Rattle.rx_model.specs.Copied.{spo};
-ghost use Rattle.rx_model.specs.Vocabulary.{rdf_rest};
-ghost use Rattle.rx_rdfa.specs.Lists.{list_of};
+ghost use Rattle.rx_rdfa.specs.Common.{node_seen, term_seen, spo, rdf_rest, list_of};
 ghost use Rattle.rx_lists.specs.Cells.{cell_node, one_cell, terms_in};
 ghost use Rattle.rx_lists.specs.Appends.{Appends};
 

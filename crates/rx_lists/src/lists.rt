@@ -1,7 +1,6 @@
 //! The lists of all owners that aren't finished.
 ghost use Rattle.std.specs.Prelude.{◌≡◌, slice_get, ◌-◌, ◌+◌, ◌<◌, ◌^◌, [], ◌∷◌, ◌++◌, length, true, not, OnOk, OnErr, IfOk, IsTrue, ◌↔◌, Some, None, slice_set};
-ghost use Rattle.rx_model.specs.Seen.{triples_seen};
-ghost use Rattle.rx_rdfa.specs.Tables.{put};
+ghost use Rattle.rx_rdfa.specs.Common.{triples_seen, put};
 ghost use Rattle.rx_lists.specs.Cells.{finished_cells, items_seen, size};
 ghost use Rattle.rx_lists.specs.Owners.{is_finished, forgotten, owned, changed, lists_of, open_at, trimmed, with_term};
 ghost use Rattle.rx_lists.specs.SlotIds.{slot_in};

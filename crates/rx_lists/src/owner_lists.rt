@@ -1,7 +1,6 @@
 //! The lists of one owner.
 ghost use Rattle.std.specs.Prelude.{◌≡◌, ◌+◌, ◌^◌, slice_index_or, ◌∷◌, ◌++◌, ◌<◌, [], OnOk, OnErr, IfOk, IsTrue, ◌↔◌, Some, None, slice_get, length};
-ghost use Rattle.rx_rdfa.specs.Tables.{put};
-ghost use Rattle.rx_model.specs.Seen.{node_seen, triples_seen};
+ghost use Rattle.rx_rdfa.specs.Common.{put, node_seen, triples_seen};
 ghost use Rattle.rx_lists.specs.Cells.{cells_of, items_seen, size};
 ghost use Rattle.rx_lists.specs.Rows.{FoundAt, first_slots};
 ghost use Rattle.rx_lists.specs.Owners.{owned, with_slot, predicates_of, with_lists, with_term, place_of, slots_of, slots_at};

@@ -1,8 +1,6 @@
 -- The comment on a page as bytes.
-use Rattle.rx_terms.proofs.Common.{◌≡◌, ◌∙◌, ℕ, ◌<◌, ◌^◌, true, List, ◌++◌, codes, refl, sym, ap, ap₂, append_assoc, list_all, encodes-append, is_ascii, line_feed, Chars, ascii-same}
+use Rattle.rx_terms.proofs.Common.{◌≡◌, ◌∙◌, ℕ, ◌<◌, ◌^◌, true, List, ◌++◌, codes, refl, sym, ap, ap₂, append_assoc, list_all, encodes-append, is_ascii, line_feed, Chars, ascii-same, decimal, IsAscii-decimal}
 use Rattle.std.specs.Str.{encode_utf8_all}
-use Rattle.std.specs.Fmt.{decimal}
-use Rattle.std.proofs.lemmas.Fmt.{IsAscii-decimal}
 use Rattle.rx_grammar.specs.declared.faults.Kind.{Kind}
 use Rattle.rx_grammar.specs.declared.faults.Kind.TheVariants as kind
 use Rattle.rx_pieces.proofs.Adding.{all_ascii}

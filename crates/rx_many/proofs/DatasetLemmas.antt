@@ -1,12 +1,7 @@
 -- What the document of several pages denotes.
-use Rattle.rx_terms.proofs.Common.{◌≡◌, ◌⊎◌, ℕ, zero, suc, ◌+◌, ◌<◌, ◌^◌, Bool, true, false, List, [], ◌∷◌, ◌++◌, flat_map, codes, Some, refl, sym, ap, ap₂, ◌∙◌, inl, inr, subst, arith, chars, chars-encodes, line_feed, Chars, is_forbidden}
-use Rattle.std.proofs.Common.{if◌then◌else◌}
-use Rattle.std.specs.Fmt.{decimal}
-use Rattle.std.proofs.lemmas.Fmt.{decimal_is_IsNumeral}
+use Rattle.rx_model.proofs.Common.{◌≡◌, ◌⊎◌, ℕ, zero, suc, ◌+◌, ◌<◌, ◌^◌, Bool, true, false, List, [], ◌∷◌, ◌++◌, flat_map, codes, Some, refl, sym, ap, ap₂, ◌∙◌, inl, inr, subst, arith, if◌then◌else◌, chars, chars-encodes, line_feed, Chars, is_forbidden, decimal, decimal_is_IsNumeral, Among, contains, Node, Iri, Blank, Term, Resource, Literal, Triple, blank_of_node, blank_of_term, blanks_of, place_in, rename_node, rename_term, rename, Among_cases, Among_left, Among_right, Among_map, Among_of_map, Among_flat_map, Among_of_flat_map, Among_distinct, place_tells}
 use Rattle.rx_grammar.specs.declared.faults.Fault.{Fault}
 use Rattle.rx_refs.specs.Resolve.{without_fragment}
-use Rattle.rx_model.proofs.Common.{Among, contains, Node, Iri, Blank, Term, Resource, Literal, Triple, blank_of_node, blank_of_term, blanks_of, place_in, rename_node, rename_term, rename, Among_cases, Among_left, Among_right, Among_map, Among_of_map, Among_flat_map, Among_of_flat_map, Among_distinct}
-use Rattle.rx_model.proofs.Numbered.{place_tells}
 use Rattle.rx_pieces.specs.Writable.{WritableText}
 use Rattle.rx_pieces.proofs.Scalars.{joined, literally}
 use Rattle.rx_nquads.specs.Quads.{Quad, quad_of}

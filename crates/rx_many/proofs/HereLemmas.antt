@@ -1,7 +1,5 @@
 -- Blank nodes of one page behind those of the pages before it.
-use Rattle.rx_terms.proofs.Common.{◌≡◌, ◌∙◌, ℕ, suc, ◌+◌, ◌<◌, ◌≤◌, Bool, true, false, List, [], ◌∷◌, ◌++◌, map, length, refl, sym, ap, ap₂, nat_eq, arith, length-append, append-nil, cond, map-append, length-map}
-use Rattle.std.proofs.Common.{◌||◌, ◌&&◌, if◌then◌else◌}
-use Rattle.rx_model.proofs.Common.{contains, with_one, with_all, place_in, blank_of_node, rename_node, exact_numbers, Node}
+use Rattle.rx_model.proofs.Common.{◌≡◌, ◌∙◌, ℕ, suc, ◌+◌, ◌<◌, ◌≤◌, Bool, true, false, List, [], ◌∷◌, ◌++◌, map, length, refl, sym, ap, ap₂, nat_eq, arith, length-append, append-nil, cond, ◌||◌, ◌&&◌, if◌then◌else◌, map-append, length-map, contains, with_one, with_all, place_in, blank_of_node, rename_node, exact_numbers, Node}
 use Rattle.rx_terms.specs.declared.triples.Blank.{Blank as CodeBlank}
 use Rattle.rx_graph.proofs.Growing.{contains_append, place_append, place_behind, one_behind, kept_all, has_all}
 use Rattle.rx_graph.proofs.NumberLemmas.{same_node_by}

@@ -1,9 +1,6 @@
 -- The keys of the code's sets, and what they are in the model.
-use Rattle.rx_terms.proofs.Common.{◌≡◌, ℕ, Bool, true, false, List, [], ◌∷◌, length, slice_get, Some, option_map, map, suc, refl, sym, ap, ap₂, ◌∙◌, rules, nat_eq, bytes_eq, arith, true≢false, list_any, slice_get_within, Chars, same_truth, untrue, and_from}
-use Rattle.std.proofs.Common.{not}
-use Rattle.std.proofs.lemmas.Option.{slice_get-map}
+use Rattle.rx_model.proofs.Common.{◌≡◌, ℕ, Bool, true, false, List, [], ◌∷◌, length, slice_get, Some, option_map, map, suc, refl, sym, ap, ap₂, ◌∙◌, rules, nat_eq, bytes_eq, arith, true≢false, not, list_any, slice_get_within, slice_get-map, Chars, same_truth, untrue, and_from, IsExact, contains, with_one, Triple, same_triple, triple_seen, and_left, and_right, exact_numbers, exact_texts, exact_triples}
 use Rattle.rx_unique.specs.Unique.{insert_key}
-use Rattle.rx_model.proofs.Common.{IsExact, contains, with_one, Triple, same_triple, triple_seen, and_left, and_right, exact_numbers, exact_texts, exact_triples}
 use Rattle.rx_model.proofs.Seen.{triple_tells}
 use Rattle.rx_graph.proofs.SetLemmas.{any_seen, insert_seen}
 use Rattle.rx_many.specs.declared.statements.Statement.{Statement}

@@ -1,10 +1,8 @@
 -- A document that grows by one line.
-use Rattle.rx_terms.proofs.Common.{◌≡◌, ℕ, suc, zero, ◌+◌, Bool, true, false, List, [], ◌∷◌, ◌++◌, map, flat_map, take, length, slice_get, Some, refl, sym, ap, ap₂, ◌∙◌, inl, inr, subst, append_assoc, append-nil, arith, encodes-append, map-append, Chars, or-true, or-false}
-use Rattle.std.proofs.Common.{◌||◌, if◌then◌else◌}
+use Rattle.rx_model.proofs.Common.{◌≡◌, ℕ, suc, zero, ◌+◌, Bool, true, false, List, [], ◌∷◌, ◌++◌, map, flat_map, take, length, slice_get, Some, refl, sym, ap, ap₂, ◌∙◌, inl, inr, subst, append_assoc, append-nil, arith, ◌||◌, if◌then◌else◌, encodes-append, map-append, Chars, or-true, or-false, Among, contains, distinct, with_one, with_all, Triple, place_in, triple_seen, triples_seen, Among_cases, Among_left, Among_right, false_unless}
 use Rattle.std.specs.Str.{encode_utf8_all}
 use Rattle.rx_terms.specs.declared.triples.Triple.{Triple as CodeTriple}
 use Rattle.rx_grammar.specs.declared.faults.Fault.{Fault}
-use Rattle.rx_model.proofs.Common.{Among, contains, distinct, with_one, with_all, Triple, place_in, triple_seen, triples_seen, Among_cases, Among_left, Among_right, false_unless}
 use Rattle.rx_graph.proofs.SetLemmas.{seen_more}
 use Rattle.rx_graph.proofs.Growing.{all_distinct, place_stays}
 use Rattle.rx_graph.proofs.NumberLemmas.{same_triple_by}

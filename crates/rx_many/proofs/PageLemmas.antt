@@ -1,9 +1,7 @@
 -- The triples of one page, whose blank nodes come behind those of the pages before it.
-use Rattle.rx_terms.proofs.Common.{◌≡◌, ◌∙◌, ℕ, zero, suc, ◌+◌, ◌<◌, ◌≤◌, true, false, List, [], ◌∷◌, ◌++◌, map, flat_map, take, length, Some, refl, sym, ap, ap₂, subst, inl, inr, arith, append-nil, length-append, nat_eq, true≢false, Bool, slice_get, map-append, length-map, Chars, and_from, untrue}
-use Rattle.std.proofs.Common.{◌||◌, ◌&&◌, not}
+use Rattle.rx_model.proofs.Common.{◌≡◌, ◌∙◌, ℕ, zero, suc, ◌+◌, ◌<◌, ◌≤◌, true, false, List, [], ◌∷◌, ◌++◌, map, flat_map, take, length, Some, refl, sym, ap, ap₂, subst, inl, inr, arith, append-nil, length-append, nat_eq, true≢false, Bool, slice_get, ◌||◌, ◌&&◌, not, map-append, length-map, Chars, and_from, untrue, Among, contains, with_one, with_all, Node, Iri, Blank, Term, Resource, Literal, Triple, blank_of_node, blank_of_term, blanks_of, place_in, rename_node, rename_term, rename, or_cases, and_left, and_right, Among_left, Among_right, false_unless, Among_cases, Among_of_map, Among_flat_map, Among_of_flat_map, Among_of_distinct, Among_by_contains}
 use Rattle.std.specs.Str.{encode_utf8_all}
 use Rattle.rx_refs.specs.Resolve.{without_fragment}
-use Rattle.rx_model.proofs.Common.{Among, contains, with_one, with_all, Node, Iri, Blank, Term, Resource, Literal, Triple, blank_of_node, blank_of_term, blanks_of, place_in, rename_node, rename_term, rename, or_cases, and_left, and_right, Among_left, Among_right, false_unless, Among_cases, Among_of_map, Among_flat_map, Among_of_flat_map, Among_of_distinct, Among_by_contains}
 use Rattle.rx_graph.proofs.NumberLemmas.{same_triple_by}
 use Rattle.rx_pieces.specs.Writable.{WritableTriple}
 use Rattle.rx_many.specs.Blank.{has_blank, is_blank_node, is_blank_term}

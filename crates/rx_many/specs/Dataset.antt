@@ -1,10 +1,7 @@
 -- What the document of several pages denotes: the quads of the accepted pages.
 use Rattle.std.specs.Prelude.{◌≡◌, ◌↔◌, ℕ, List, Some, slice_get}
-use Rattle.rx_terms.specs.Text.{Chars}
+use Rattle.rx_model.specs.Common.{Chars, Among, Triple, rename, blanks_of}
 use Rattle.rx_refs.specs.Resolve.{without_fragment}
-use Rattle.rx_model.specs.Sets.{Among}
-use Rattle.rx_model.specs.Terms.{Triple}
-use Rattle.rx_model.specs.Numbered.{rename, blanks_of}
 use Rattle.rx_nquads.specs.Quads.{Quad, quad_of}
 use Rattle.rx_nquads.specs.Document.{Nquads}
 use Rattle.rx_many.specs.Pages.{Page, accepted_page}

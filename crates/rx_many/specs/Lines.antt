@@ -1,12 +1,9 @@
 -- The lines of a document of several pages: RDF 1.1 Datasets, 2 and 3.3 (each page's graph is a named one), with blank nodes
 -- that no two pages share (RDF 1.1 Semantics, 4.1: graphs are merged).
 use Rattle.std.specs.Prelude.{ℕ, suc, Bool, false, ◌&&◌, List, [], ◌∷◌, ◌++◌, map, flat_map, nat_eq, bytes_eq, if◌then◌else◌}
-use Rattle.rx_terms.specs.Text.{Chars}
+use Rattle.rx_model.specs.Common.{Chars, contains, distinct, Triple, same_triple, rename, blanks_of, place_in}
 use Rattle.rx_grammar.specs.declared.faults.Fault.{Fault}
 use Rattle.rx_refs.specs.Resolve.{without_fragment}
-use Rattle.rx_model.specs.Sets.{contains, distinct}
-use Rattle.rx_model.specs.Terms.{Triple, same_triple}
-use Rattle.rx_model.specs.Numbered.{rename, blanks_of, place_in}
 use Rattle.rx_many.specs.Pages.{Page, Judgement, refused, accepted}
 
 -- a line over any type B of blank nodes: that the page of this address is refused, or a triple in the graph of this name

@@ -1,8 +1,7 @@
 -- The names of pages' graphs, and which of them several pages have.
 use Rattle.std.specs.Prelude.{◌≡◌, ℕ, List, map, take, slice_get, Some}
-use Rattle.rx_terms.specs.Text.{Chars}
+use Rattle.rx_model.specs.Common.{Chars, Among}
 use Rattle.rx_refs.specs.Resolve.{without_fragment}
-use Rattle.rx_model.specs.Sets.{Among}
 use Rattle.rx_many.specs.declared.pages.Page.{Page}
 
 -- the graph of a page has its address without fragment as its name

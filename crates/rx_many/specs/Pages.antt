@@ -1,8 +1,7 @@
 -- Pages of a dataset, as they were judged.
 use Rattle.std.specs.Prelude.{ℕ, List}
-use Rattle.rx_terms.specs.Text.{Chars}
+use Rattle.rx_model.specs.Common.{Chars, Triple}
 use Rattle.rx_grammar.specs.declared.faults.Fault.{Fault}
-use Rattle.rx_model.specs.Terms.{Triple}
 
 -- what comes of a page: it is refused with its first fault, or gives the triples of its graph
 pub data Judgement : Type 0 where

@@ -1,10 +1,8 @@
 -- Worked examples: pages, and their document.
 use Rattle.std.specs.Prelude.{◌≡◌, ℕ, List, [], ◌∷◌, ◌++◌, codes}
-use Rattle.rx_terms.specs.Text.{Chars}
+use Rattle.rx_model.specs.Common.{Chars, Plain, Iri, Blank, Term, Resource, Literal, Triple, spo}
 use Rattle.rx_grammar.specs.declared.faults.Fault.{Fault}
 use Rattle.rx_grammar.specs.declared.faults.Kind.TheVariants.{Mismatch, Unended}
-use Rattle.rx_model.specs.Terms.{Plain, Iri, Blank, Term, Resource, Literal, Triple}
-use Rattle.rx_model.specs.Copied.{spo}
 use Rattle.rx_many.specs.Pages.{Page, refused_page, accepted_page}
 use Rattle.rx_many.specs.Writing.{gathered}
 

@@ -1,9 +1,7 @@
 -- A document of which some lines are there.
 use Rattle.std.specs.Prelude.{◌≡◌, ℕ, ◌<◌, ◌^◌, Bool, true, false, ◌+◌, List, [], ◌∷◌, ◌++◌, length, map, slice_get, Option, Some, MatchOption, Result, OnOk, encode_utf8_all}
-use Rattle.rx_terms.specs.Text.{Chars}
+use Rattle.rx_model.specs.Common.{Chars, Among, contains, Triple}
 use Rattle.rx_grammar.specs.declared.faults.Fault.{Fault}
-use Rattle.rx_model.specs.Sets.{Among, contains}
-use Rattle.rx_model.specs.Terms.{Triple}
 use Rattle.rx_nquads.specs.Lines.{written}
 use Rattle.rx_pieces.specs.Writable.{WritableIri, WritableTriple}
 use Rattle.rx_many.specs.Blank.{has_blank}

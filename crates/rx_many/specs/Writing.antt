@@ -1,8 +1,7 @@
 -- The document of several pages, character by character: N-Quads, with a comment for each page that is refused. The layout
 -- and the comments are our own choice.
 use Rattle.std.specs.Prelude.{ℕ, List, ◌++◌, codes, flat_map, Some}
-use Rattle.std.specs.Fmt.{decimal}
-use Rattle.rx_terms.specs.Text.{Chars}
+use Rattle.rx_terms.specs.Common.{decimal, Chars}
 use Rattle.rx_grammar.specs.declared.faults.Fault.{Fault}
 use Rattle.rx_grammar.specs.Kinds.{kind_name}
 use Rattle.rx_nquads.specs.Writing as nquads

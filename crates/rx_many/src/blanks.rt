@@ -1,8 +1,6 @@
 //! The numbering of the blank nodes of several pages.
 ghost use Rattle.std.specs.Prelude.{◌≡◌, ◌<◌, ◌+◌, [], IfOk, IsTrue, OnOk, length, nat_eq};
-ghost use Rattle.rx_model.specs.Sets.{with_one, with_all};
-ghost use Rattle.rx_model.specs.Numbered.{blank_of_node, blank_of_term, blanks_of, place_in, rename_node, rename_term, rename};
-ghost use Rattle.rx_model.specs.Seen.{node_seen, term_seen, triple_seen};
+ghost use Rattle.rx_model.specs.Common.{with_one, with_all, blank_of_node, blank_of_term, blanks_of, place_in, rename_node, rename_term, rename, node_seen, term_seen, triple_seen};
 ghost use Rattle.rx_many.specs.Numbering.{number_at, numbers_of};
 
 use rx_terms::{Blank, NoMemory, Node, Term, Triple};

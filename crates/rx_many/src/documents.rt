@@ -1,7 +1,6 @@
 //! A document that is being written.
 ghost use Rattle.std.specs.Prelude.{◌≡◌, ◌<◌, ℕ, List, [], ◌∷◌, IfOk, OnOk, Some, length, map, slice_get};
-ghost use Rattle.rx_terms.specs.Text.{Chars};
-ghost use Rattle.rx_model.specs.Seen.{triple_seen, triples_seen};
+ghost use Rattle.rx_model.specs.Common.{Chars, triple_seen, triples_seen};
 ghost use Rattle.rx_many.specs.Lines.{Line, comment, lines_from, numbered_lines};
 ghost use Rattle.rx_many.specs.Pages.{accepted_page};
 ghost use Rattle.rx_many.specs.Seen.{page_seen};

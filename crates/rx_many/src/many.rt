@@ -1,7 +1,6 @@
 //! The dataset of several pages.
 ghost use Rattle.std.specs.Prelude.{◌≡◌, [], ◌∷◌, ◌++◌, IfOk, OnOk, OnErr, encode_utf8_all};
-ghost use Rattle.std.specs.Str.{chars};
-ghost use Rattle.rx_model.specs.Seen.{triples_seen};
+ghost use Rattle.rx_model.specs.Common.{chars, triples_seen};
 ghost use Rattle.rx_many.specs.Dataset.{DenotesPages};
 ghost use Rattle.rx_many.specs.Pages.{accepted_page, refused_page};
 ghost use Rattle.rx_many.specs.Seen.{page_seen};

@@ -1,7 +1,6 @@
 //! The statements of a document.
 ghost use Rattle.std.specs.Prelude.{◌≡◌, ◌<◌, ◌&&◌, [], IfOk, OnOk, Some, length, not, slice_get};
-ghost use Rattle.rx_model.specs.Sets.{with_one};
-ghost use Rattle.rx_model.specs.Seen.{node_seen, term_seen, triple_seen};
+ghost use Rattle.rx_model.specs.Common.{with_one, node_seen, term_seen, triple_seen};
 ghost use Rattle.rx_many.specs.Blank.{has_blank, is_blank_node, is_blank_term};
 ghost use Rattle.rx_many.specs.Lines.{same_line};
 ghost use Rattle.rx_many.specs.Seen.{statement_seen};

@@ -1,7 +1,5 @@
 -- The list of properties holds the properties, and no others.
-use Rattle.rx_terms.proofs.Common.{not, ◌&&◌, ◌==◌, nat_le, list_any, list_all, Contains-append_left, Contains-append_right, Contains-append_cases}
-use Rattle.std.specs.Prelude.{◌≡◌, Bool, true, List, filter, filter_map, Contains}
-use mathlib.Core.Logic.{inl, inr}
+use Rattle.rx_terms.proofs.Common.{not, ◌&&◌, ◌==◌, nat_le, ◌≡◌, Bool, true, List, filter, filter_map, Contains, list_any, list_all, Contains-append_left, Contains-append_right, Contains-append_cases, inl, inr}
 use Rattle.rx_microdata.specs.Elements.{Placed, is_below, is_item, names_of}
 use Rattle.rx_microdata.specs.Properties.{IsChild, IsStart, child, named, Reaches, itself, downward, IsProperty, is_any, first_with_id, is_child, starts_of, reaches, is_property, properties}
 use Rattle.rx_microdata.specs.Laws.{PropertiesAre}

@@ -1,9 +1,5 @@
 -- The elements of a page, and so its properties, stand in tree order.
-use Rattle.std.specs.Prelude.{ℕ, suc, ◌+◌, ◌<◌, ◌≤◌, Bool, List, [], ◌∷◌, ◌++◌, filter, All, Option, None}
-use Rattle.std.proofs.lemmas.List.Elements.{All-nil, All-cons, All-head, All-tail, All-append, All-weaker, All-filter}
-use Rattle.std.proofs.lemmas.Bool.{cond_both}
-use native.Mathlib.Omega.{arith}
-use Rattle.rx_grammar.specs.Trees.{Tree, end, element, text}
+use Rattle.rx_grammar.proofs.Common.{ℕ, suc, ◌+◌, ◌<◌, ◌≤◌, Bool, List, [], ◌∷◌, ◌++◌, filter, All, Option, None, All-nil, All-cons, All-head, All-tail, All-append, All-weaker, All-filter, cond_both, arith, Tree, end, element, text}
 use Rattle.rx_microdata.specs.Facts.{facts_of}
 use Rattle.rx_microdata.specs.Elements.{Placed, count, scope_in, placed_from, elements_of}
 use Rattle.rx_microdata.specs.Properties.{is_property, starts_of}

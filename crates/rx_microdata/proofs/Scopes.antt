@@ -1,10 +1,5 @@
 -- The nearest item around each element is the column `scope`, and tells what a start reaches.
-use Rattle.rx_terms.proofs.Common.{not, ◌&&◌, ◌==◌, nat_le, list_all, refl, sym, ap, subst, ◌∙◌, Contains-append_left, Contains-append_right, ltb-true, lt-ltb, leb-true, le-leb, cases_lt, false_from_ne_true}
-use Rattle.std.specs.Prelude.{◌≡◌, ℕ, suc, ◌+◌, ◌<◌, ◌≤◌, Bool, true, false, nat_lt, cond, ◌⊎◌, List, ◌∷◌, ◌++◌, Contains, Option, Some, None}
-use Rattle.std.proofs.lemmas.List.Elements.{All-contains}
-use mathlib.Core.Logic.{inl, inr}
-use native.Mathlib.Omega.{arith}
-use Rattle.rx_grammar.proofs.Common.{StartTag, Tree, end, element, text}
+use Rattle.rx_grammar.proofs.Common.{not, ◌&&◌, ◌==◌, nat_le, ◌≡◌, ℕ, suc, ◌+◌, ◌<◌, ◌≤◌, Bool, true, false, nat_lt, cond, ◌⊎◌, List, ◌∷◌, ◌++◌, Contains, Option, Some, None, list_all, refl, sym, ap, subst, ◌∙◌, Contains-append_left, Contains-append_right, All-contains, ltb-true, lt-ltb, leb-true, le-leb, cases_lt, false_from_ne_true, inl, inr, arith, StartTag, Tree, end, element, text}
 use Rattle.rx_microdata.specs.Facts.{begins_item, facts_of}
 use Rattle.rx_microdata.specs.Elements.{Placed, count, scope_in, placed_from, elements_of, is_below, IsBelow, is_item}
 use Rattle.rx_microdata.specs.Properties.{reaches}

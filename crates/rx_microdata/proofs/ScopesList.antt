@@ -1,11 +1,5 @@
 -- The test by `scope` lists the properties of an item.
-use Rattle.rx_terms.proofs.Common.{not, ◌&&◌, ◌||◌, ◌==◌, list_any, refl, sym, ap, subst, ◌∙◌, list_any-append, leb-true, le-leb, eq-eqb, cases_lt, false_from_ne_true, none-some}
-use Rattle.std.specs.Prelude.{◌≡◌, ℕ, ◌<◌, ◌≤◌, Bool, true, false, cond, ◌⊎◌, List, [], ◌∷◌, filter, filter_map, find, All, Contains, Option, Some, None}
-use Rattle.std.proofs.lemmas.List.Elements.{All-contains}
-use Rattle.std.proofs.lemmas.Bool.{eqb-true}
-use mathlib.Core.Logic.{inl, inr}
-use native.Mathlib.Omega.{arith}
-use Rattle.rx_grammar.proofs.Common.{Tree}
+use Rattle.rx_rdfa.proofs.Common.{not, ◌&&◌, ◌||◌, ◌==◌, ◌≡◌, ℕ, ◌<◌, ◌≤◌, Bool, true, false, cond, ◌⊎◌, List, [], ◌∷◌, filter, filter_map, find, All, Contains, Option, Some, None, list_any, refl, sym, ap, subst, ◌∙◌, list_any-append, leb-true, le-leb, eq-eqb, cases_lt, false_from_ne_true, eqb-true, none-some, All-contains, inl, inr, arith, Tree}
 use Rattle.rx_microdata.specs.Elements.{Placed, elements_of, is_below, IsBelow, is_item, names_of}
 use Rattle.rx_microdata.specs.Properties.{IsChild, Reaches, itself, downward, is_any, first_with_id, has_id, is_child, starts_of, reaches, is_property}
 use Rattle.rx_microdata.specs.Laws.{Rise, is_scope, reaches_by_scope, is_property_by_scope, ScopesList}

@@ -1,8 +1,5 @@
 -- The list of visits has those of the relation.
-use Rattle.rx_terms.proofs.Common.{⊤, refl, sym, subst, Contains-append_left, Contains-append_right, Contains-append_cases}
-use Rattle.std.specs.Prelude.{◌≡◌, ℕ, zero, suc, ◌+◌, ◌-◌, ◌≤◌, Bool, true, false, List, [], ◌∷◌, filter, flat_map, length, Contains}
-use mathlib.Core.Logic.{inl, inr}
-use native.Mathlib.Omega.{arith}
+use Rattle.rx_terms.proofs.Common.{⊤, ◌≡◌, ℕ, zero, suc, ◌+◌, ◌-◌, ◌≤◌, Bool, true, false, List, [], ◌∷◌, filter, flat_map, length, Contains, refl, sym, subst, Contains-append_left, Contains-append_right, Contains-append_cases, inl, inr, arith}
 use Rattle.rx_microdata.specs.Elements.{Placed, is_top_level}
 use Rattle.rx_microdata.specs.Properties.{properties}
 use Rattle.rx_microdata.specs.Visits.{Visit, Bounds, IsVisit, top, next, is_cycle, items_in, visits_from, visits_to}

@@ -1,12 +1,7 @@
 -- Where no visit is faulty the JSON is whole.
-use Rattle.rx_terms.proofs.Common.{nat_le, not, ◌&&◌, ◌==◌, option_or, list_any, refl, sym, ap, subst, ◌∙◌, lt-ltb, none-some, Chars}
-use Rattle.std.specs.Prelude.{◌≡◌, ℕ, zero, suc, ◌+◌, nat_lt, Bool, true, false, cond, codes, List, [], ◌∷◌, ◌++◌, map, filter, flat_map, length, Contains, Option, Some, None}
-use Rattle.std.specs.Option.{option_map}
-use mathlib.Core.Logic.{inl, inr}
-use native.Mathlib.Omega.{arith}
+use Rattle.rx_rdfa.proofs.Common.{nat_le, not, ◌&&◌, ◌==◌, ◌≡◌, ℕ, zero, suc, ◌+◌, nat_lt, Bool, true, false, cond, codes, List, [], ◌∷◌, ◌++◌, map, filter, flat_map, length, Contains, Option, Some, None, list_any, refl, sym, ap, subst, ◌∙◌, lt-ltb, none-some, Chars, inl, inr, arith, Kind, Cycle, ItemsTooNested, ItemsTooMany}
+use Rattle.std.specs.Option.{option_or, option_map}
 use Rattle.serde_json.specs.Data.{Data, object, member, array, no_members}
-use Rattle.rx_grammar.specs.declared.faults.Kind.{Kind}
-use Rattle.rx_grammar.specs.declared.faults.Kind.TheVariants.{Cycle, ItemsTooNested, ItemsTooMany}
 use Rattle.rx_microdata.specs.Elements.{Placed, is_item, names_of, is_top_level}
 use Rattle.rx_microdata.specs.Properties.{is_any, properties, is_property, starts_of, reaches}
 use Rattle.rx_microdata.specs.Facts.{said}

@@ -1,7 +1,6 @@
 -- The elements of a page as a table in document order, each with the place at which what is in it ends.
 use Rattle.std.specs.Prelude.{ℕ, suc, ◌+◌, Bool, true, false, ◌&&◌, nat_lt, List, [], ◌∷◌, ◌++◌, Option, Some, None, unwrap_or, IsTrue, if◌then◌else◌}
-use Rattle.rx_terms.specs.Text.{Chars}
-use Rattle.rx_grammar.specs.Trees.{StartTag, Tree, end, element, text}
+use Rattle.rx_grammar.specs.Common.{Chars, StartTag, Tree, end, element, text}
 use Rattle.rx_microdata.specs.Facts.{Facts, begins_item, facts_of}
 
 -- an element: its place in document order, the place past all that is in it, the place of the nearest item around it, and

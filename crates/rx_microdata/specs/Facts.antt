@@ -1,11 +1,6 @@
 -- What Microdata reads of an element: HTML, 5.2.
 use Rattle.std.specs.Prelude.{ℕ, Bool, List, [], ◌∷◌, ◌++◌, Option, Some, None, option_map, unwrap_or, is_some, codes, if◌then◌else◌}
-use Prim.Native.String.{String}
-use Rattle.rx_terms.specs.Text.{Chars, tokens}
-use Rattle.rx_refs.specs.Resolve.{resolved}
-use Rattle.rx_grammar.specs.Names.{same, is_among}
-use Rattle.rx_grammar.specs.Tokens.{value_of}
-use Rattle.rx_grammar.specs.Trees.{StartTag, Tree, end, element, text}
+use Rattle.rx_rdfa.specs.Common.{String, Chars, tokens, resolved, same, is_among, value_of, StartTag, Tree, end, element, text}
 
 -- a value as it is written, or a reference from which it is resolved
 pub data Value : Type 0 where

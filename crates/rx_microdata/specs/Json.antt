@@ -1,14 +1,8 @@
 -- The items of a page as JSON: HTML, 5.4.1. Own rules: types lose repeats, keys stand in byte order, faults refuse.
 use Rattle.std.specs.Prelude.{ℕ, zero, suc, true, false, List, [], ◌∷◌, map, filter, flat_map, Option, Some, None, codes, encode_utf8_all}
-use Rattle.std.specs.Ordering.{nat_cmp, match_ordering}
-use Rattle.std.specs.Cmp.Lexicographic.{slice_cmp}
+use Rattle.rx_rdfa.specs.Common.{nat_cmp, match_ordering, slice_cmp, Chars, resolved, Tree, Fault, Kind}
 use Rattle.serde_json.specs.Data.{Data, Items, Members, null, string, array, object, no_items, no_members, member}
 use Rattle.serde_json.specs.Data as json
-use Rattle.rx_terms.specs.Text.{Chars}
-use Rattle.rx_refs.specs.Resolve.{resolved}
-use Rattle.rx_grammar.specs.Trees.{Tree}
-use Rattle.rx_grammar.specs.declared.faults.Fault.{Fault}
-use Rattle.rx_grammar.specs.declared.faults.Kind.{Kind}
 use Rattle.rx_microdata.specs.Base.{base_in}
 use Rattle.rx_microdata.specs.Facts.{Facts, said}
 use Rattle.rx_microdata.specs.Elements.{Placed, elements_of, is_item, names_of, is_top_level}

@@ -1,7 +1,6 @@
 -- What the definitions come to.
 use Rattle.std.specs.Prelude.{◌≡◌, ℕ, Bool, true, false, not, filter, filter_map, IsTrue, ◌==◌, nat_lt, ◌&&◌, ◌||◌, Option, Some, None, ◌<◌, List, [], ◌∷◌, All, Contains, ◌↔◌, ⊤}
-use Rattle.std.specs.List.{list_any}
-use Rattle.rx_grammar.specs.Trees.{Tree}
+use Rattle.rx_grammar.specs.Common.{list_any, Tree}
 use Rattle.rx_microdata.specs.Elements.{Placed, is_below, is_item, names_of, elements_of}
 use Rattle.rx_microdata.specs.Properties.{IsProperty, is_any, first_with_id, reaches, properties}
 

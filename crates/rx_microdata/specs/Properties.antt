@@ -1,8 +1,6 @@
 -- The properties of an item: HTML, 5.2.5.
 use Rattle.std.specs.Prelude.{Bool, true, false, not, ◌&&◌, ◌||◌, ◌==◌, nat_le, List, [], ◌∷◌, ◌++◌, filter, filter_map, find, Contains, Option, Some, None, IsTrue, IsFalse, ◌≡◌}
-use Rattle.std.specs.List.{list_any, list_all}
-use Rattle.rx_terms.specs.Text.{Chars}
-use Rattle.rx_grammar.specs.Names.{same}
+use Rattle.rx_grammar.specs.Common.{list_any, list_all, Chars, same}
 use Rattle.rx_microdata.specs.Elements.{Placed, is_below, IsBelow, is_item, names_of}
 
 abbrev pub is_any : List Chars → Bool

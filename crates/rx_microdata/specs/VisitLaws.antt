@@ -1,8 +1,6 @@
 -- What the definitions of visits come to.
 use Rattle.std.specs.Prelude.{◌≡◌, ℕ, suc, ◌+◌, length, slice_get, ◌≤◌, ◌<◌, ◌↔◌, Contains, List, ◌++◌, Some, None}
-use Rattle.std.specs.Option.{option_or}
-use Rattle.rx_grammar.specs.declared.faults.Kind.{Kind}
-use Rattle.rx_terms.specs.Text.{Chars}
+use Rattle.rx_rdfa.specs.Common.{option_or, Kind, Chars}
 use Rattle.rx_microdata.specs.Elements.{Placed}
 use Rattle.rx_microdata.specs.Visits.{Bounds, Visit, IsVisit, fault_of, first_fault, visits_to}
 use Rattle.rx_microdata.specs.Json.{json_of}

@@ -1,9 +1,6 @@
 -- The visits to items in order of expansion, and the first that is faulty: HTML, 5.4.1, with limits of our own.
 use Rattle.std.specs.Prelude.{ℕ, zero, suc, Bool, true, false, ◌==◌, nat_lt, nat_le, List, [], ◌∷◌, map, filter, flat_map, length, Contains, IsTrue, IsFalse, Option, Some, None, option_map, if◌then◌else◌}
-use Rattle.std.specs.List.{list_any}
-use Rattle.std.specs.Option.{option_or}
-use Rattle.rx_grammar.specs.declared.faults.Kind.{Kind}
-use Rattle.rx_grammar.specs.declared.faults.Kind.TheVariants.{Cycle, ItemsTooNested, ItemsTooMany}
+use Rattle.rx_rdfa.specs.Common.{list_any, option_or, Kind, Cycle, ItemsTooNested, ItemsTooMany}
 use Rattle.rx_microdata.specs.Elements.{Placed, is_item, names_of, is_top_level}
 use Rattle.rx_microdata.specs.Properties.{properties}
 

@@ -1,6 +1,5 @@
 -- The law of copying.
-use Rattle.rx_terms.proofs.Common.{◌≡◌, ◌≢◌, ◌⊎◌, Bool, true, false, cond, List, [], ◌∷◌, flat_map, filter_map, Option, Some, None, option_map, is_none, refl, sym, ap, ◌∙◌, subst, inl, inr, true≢false, bytes_eq, Chars, and_from, untrue}
-use Rattle.std.proofs.Common.{not, ◌&&◌}
+use Rattle.rx_terms.proofs.Common.{◌≡◌, ◌≢◌, ◌⊎◌, Bool, true, false, cond, List, [], ◌∷◌, flat_map, filter_map, Option, Some, None, option_map, is_none, refl, sym, ap, ◌∙◌, subst, inl, inr, true≢false, bytes_eq, not, ◌&&◌, Chars, and_from, untrue, cond_some}
 use Rattle.rx_model.specs.Sets.{Among, IsExact}
 use Rattle.rx_model.specs.Terms.{Node, Iri, Term, Resource, Literal, Triple, same_node, same_term, same_triple}
 use Rattle.rx_model.specs.Copied.{rdfa_copy, rdfa_pattern, spo, type_pattern, copy, SaysPattern, Closed, held, copied_from, Referenced, SaysLive, patterned, is_pattern, pattern_object, live, edge, edges, leads, says_pattern, is_referenced, given, replaced, treated, copied, CopiesPatterns}
@@ -8,7 +7,6 @@ use Rattle.rx_model.specs.Vocabulary.{rdf_type}
 use Rattle.rx_model.proofs.Sets.{or_cases, or_left, or_right, and_left, and_right, false_unless, Among-contains, Among_by_contains, Among_of_distinct, Among_distinct, Among_flat_map, Among_of_flat_map, Among_filter_map, Among_of_filter_map}
 use Rattle.rx_model.proofs.Leads.{leads_self, leads_on, leads_pair, leads_keep}
 use Rattle.rx_model.proofs.Exact.{exact_texts, exact_nodes, exact_terms, exact_triples}
-use Rattle.std.proofs.lemmas.Option.{cond_some}
 
 copy_is_no_type : rdfa_copy ≢ rdf_type
 copy_is_no_type e = true≢false (sym ((exact_texts rdfa_copy rdf_type).1 e))

@@ -1,6 +1,5 @@
 -- The tests of equality are exact.
-use Rattle.rx_terms.proofs.Common.{◌≡◌, Bool, nat_eq, refl, ap, ap₂, bytes_eq, bytes_decides, Decides-eqb, and_from}
-use Rattle.std.proofs.Common.{◌&&◌}
+use Rattle.rx_terms.proofs.Common.{◌≡◌, Bool, nat_eq, refl, ap, ap₂, bytes_eq, ◌&&◌, bytes_decides, Decides-eqb, and_from}
 use Rattle.rx_model.specs.Sets.{IsExact}
 use Rattle.rx_model.specs.Terms.{Plain, Tagged, Typed, Iri, Blank, Resource, Literal, Triple, same_kind, same_node, same_term, same_triple}
 use Rattle.rx_model.proofs.Sets.{and_left, and_right}

@@ -1,9 +1,8 @@
 -- Where pairs lead.
-use Rattle.std.proofs.Common.{◌≡◌, ◌⊎◌, Bool, true, ◌&&◌, List, [], ◌∷◌, refl, ◌∙◌, subst, inl, inr}
+use Rattle.rx_terms.proofs.Common.{◌≡◌, ◌⊎◌, Bool, true, ◌&&◌, List, [], ◌∷◌, refl, ◌∙◌, subst, inl, inr, and_from}
 use Rattle.rx_model.specs.Sets.{Among, IsExact}
 use Rattle.rx_model.specs.Copied.{Leads, here, onward, leads, LeadsAlong}
 use Rattle.rx_model.proofs.Sets.{or_cases, or_left, or_right, and_left, and_right}
-use Rattle.std.proofs.lemmas.Bool.{and_from}
 
 module _ {A : Type 0} (same : A → A → Bool) (exact : IsExact same) where
   pub leads_self : (es : List (A × A)) (a : A) → leads same es a a ≡ true

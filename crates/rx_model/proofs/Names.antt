@@ -1,11 +1,6 @@
 -- The law of names.
-use Rattle.rx_terms.proofs.Common.{◌≡◌, ◌⊎◌, ℕ, Bool, true, false, cond, nat_eq, List, [], ◌∷◌, ◌++◌, map, refl, sym, ap, ap₂, ◌∙◌, inl, inr, true≢false, Decides-eqb, same_truth}
-use Rattle.rx_model.specs.Sets.{Among, IsExact, contains}
-use Rattle.rx_model.specs.Terms.{Node, Iri, Blank, Term, Resource, Literal, Triple}
-use Rattle.rx_model.specs.Numbered.{rename_node, rename_term, rename, blank_of_node, blank_of_term, blanks, numbered}
-use Rattle.rx_model.specs.Copied.{copied}
+use Rattle.rx_model.proofs.Common.{◌≡◌, ◌⊎◌, ℕ, Bool, true, false, cond, nat_eq, List, [], ◌∷◌, ◌++◌, map, refl, sym, ap, ap₂, ◌∙◌, inl, inr, true≢false, Decides-eqb, same_truth, Among, IsExact, contains, Node, Iri, Blank, Term, Resource, Literal, Triple, rename_node, rename_term, rename, blank_of_node, blank_of_term, blanks, numbered, copied, Among_left, Among_right, Among-contains, Among_by_contains, false_unless}
 use Rattle.rx_model.specs.Renaming.{NamesDoNotMatter}
-use Rattle.rx_model.proofs.Sets.{Among_left, Among_right, Among-contains, Among_by_contains, false_unless}
 use Rattle.rx_model.proofs.Renaming.{numbers_forget_names, copying_keeps_names}
 
 -- a number, or a blank node that has none

@@ -1,11 +1,5 @@
 -- The laws of renaming.
-use Rattle.rx_terms.proofs.Common.{◌≡◌, suc, Bool, true, false, cond, List, [], ◌∷◌, ◌++◌, map, filter, flat_map, filter_map, Option, Some, None, option_map, is_none, bytes_eq, refl, sym, ap, ap₂, ◌∙◌, cons_option, map-append, Chars}
-use Rattle.std.proofs.Common.{not, ◌&&◌, ◌||◌}
-use Rattle.rx_model.specs.Sets.{contains, distinct}
-use Rattle.rx_model.specs.Terms.{Node, Iri, Blank, Term, Resource, Literal, Triple, same_node, same_term, same_triple}
-use Rattle.rx_model.specs.Numbered.{rename_node, rename_term, rename, blank_of_node, blank_of_term, blanks, place_in, numbered}
-use Rattle.rx_model.specs.Copied.{rdfa_copy, rdfa_pattern, spo, type_pattern, is_pattern, pattern_object, live, edge, edges, leads, says_pattern, is_referenced, given, replaced, treated, copied}
-use Rattle.rx_model.specs.Vocabulary.{rdf_type}
+use Rattle.rx_model.proofs.Common.{◌≡◌, suc, Bool, true, false, cond, List, [], ◌∷◌, ◌++◌, map, filter, flat_map, filter_map, Option, Some, None, option_map, is_none, bytes_eq, refl, sym, ap, ap₂, ◌∙◌, not, ◌&&◌, ◌||◌, cons_option, map-append, Chars, contains, distinct, Node, Iri, Blank, Term, Resource, Literal, Triple, same_node, same_term, same_triple, rename_node, rename_term, rename, blank_of_node, blank_of_term, blanks, place_in, numbered, rdfa_copy, rdfa_pattern, spo, type_pattern, is_pattern, pattern_object, live, edge, edges, leads, says_pattern, is_referenced, given, replaced, treated, copied, rdf_type}
 use Rattle.rx_model.specs.Renaming.{NumbersForgetNames, CopyingKeepsNames}
 
 -- ---- lists under a function that keeps apart

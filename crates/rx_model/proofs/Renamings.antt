@@ -1,12 +1,6 @@
 -- Two graphs that are one graph renamed are each other renamed.
-use Rattle.std.proofs.Common.{◌≡◌, ◌∙◌, ◌⊎◌, ℕ, Bool, true, false, cond, nat_eq, List, [], ◌∷◌, ◌++◌, Option, Some, refl, sym, ap, inl, inr, subst, true≢false}
-use Rattle.std.specs.List.{find}
+use Rattle.rx_model.proofs.Common.{◌≡◌, ◌∙◌, ◌⊎◌, ℕ, Bool, true, false, cond, nat_eq, List, [], ◌∷◌, ◌++◌, Option, Some, refl, sym, ap, inl, inr, subst, true≢false, find, Among, Node, Iri, Blank, Term, Resource, Literal, Triple, set_of, rename_node, rename_term, rename, blank_of_node, blank_of_term, blanks_of, blanks, Has, Renamed, Among_left, Among_right, Among_cases, Among_flat_map, Among_of_flat_map, exact_numbers}
 use Rattle.std.specs.Option.{option_map, unwrap_or}
-use Rattle.rx_model.specs.Sets.{Among}
-use Rattle.rx_model.specs.Terms.{Node, Iri, Blank, Term, Resource, Literal, Triple, set_of}
-use Rattle.rx_model.specs.Numbered.{rename_node, rename_term, rename, blank_of_node, blank_of_term, blanks_of, blanks, Has, Renamed}
-use Rattle.rx_model.proofs.Sets.{Among_left, Among_right, Among_cases, Among_flat_map, Among_of_flat_map}
-use Rattle.rx_model.proofs.Exact.{exact_numbers}
 
 -- ---- the blank nodes of a triple that is renamed
 

@@ -1,5 +1,5 @@
 -- What is seen of a term tells which it is.
-use Rattle.std.proofs.Common.{◌≡◌, ℕ, List, [], ◌∷◌, ap, ap₂, refl}
+use Rattle.rx_model.proofs.Common.{◌≡◌, ℕ, List, [], ◌∷◌, ap, ap₂, refl, Triple, kind_seen, node_seen, term_seen, triple_seen, triples_seen, SeenOneToOne}
 use Rattle.rx_terms.specs.declared.literals.LiteralKind.{LiteralKind}
 use Rattle.rx_terms.specs.declared.literals.LiteralKind.TheVariants as code_kind
 use Rattle.rx_terms.specs.declared.literals.Literal.{Literal as CodeLiteral}
@@ -9,8 +9,6 @@ use Rattle.rx_terms.specs.declared.triples.Node.TheVariants as code_node
 use Rattle.rx_terms.specs.declared.triples.Term.{Term as CodeTerm}
 use Rattle.rx_terms.specs.declared.triples.Term.TheVariants as code_term
 use Rattle.rx_terms.specs.declared.triples.Triple.{Triple as CodeTriple}
-use Rattle.rx_model.specs.Terms.{Triple}
-use Rattle.rx_model.specs.Seen.{kind_seen, node_seen, term_seen, triple_seen, triples_seen, SeenOneToOne}
 
 kinds : (a b : LiteralKind) → kind_seen a ≡ kind_seen b → a ≡ b
 kinds code_kind.Plain code_kind.Plain e = refl

@@ -5,3 +5,4 @@ pub mod Numbered
 pub mod Copied
 pub mod Renaming
 pub mod Seen
+pub mod Common

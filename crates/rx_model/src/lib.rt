@@ -5,11 +5,8 @@
 #![tactic(auto)]
 
 ghost use Rattle.std.specs.Prelude.{ℕ, nat_eq};
-ghost use Rattle.rx_model.specs.Terms.{Node};
-ghost use Rattle.rx_model.specs.Copied.{CopiesPatterns, LeadsAlong};
-ghost use Rattle.rx_model.specs.Numbered.{NumbersOneToOne};
+ghost use Rattle.rx_model.specs.Common.{Node, CopiesPatterns, LeadsAlong, NumbersOneToOne, SeenOneToOne};
 ghost use Rattle.rx_model.specs.Renaming.{NamesDoNotMatter};
-ghost use Rattle.rx_model.specs.Seen.{SeenOneToOne};
 
 /// The set of the copied list is the patterned set of the list.
 pub fn copying_follows_patterns()

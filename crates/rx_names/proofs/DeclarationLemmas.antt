@@ -1,14 +1,9 @@
 -- What a tag declares, one declaration after another.
-use Rattle.rx_terms.proofs.Common.{◌≡◌, ◌≢◌, ◌∙◌, ℕ, ◌+◌, ◌<◌, ap, sym, refl, arith, Bool, true, false, cond, Option, Some, None, List, [], ◌∷◌, ◌++◌, map, reverse, filter, take, drop, length, get_or, bytes_eq, codes, append_assoc, Result, Ok, Err, OnOk, MatchOption, Bor, chars, and_from, nat_tests, map-append, take_more, reverse-append, reverse-reverse, lowered_char, colon, Chars, trimmed, lowered, begins_with, seen_slice, has_scheme, ascii-chars, by_test}
-use Rattle.std.proofs.Common.{◌&&◌, ◌==◌}
+use Rattle.rx_rdfa.proofs.Common.{◌≡◌, ◌≢◌, ◌∙◌, ℕ, ◌+◌, ◌<◌, ap, sym, refl, arith, Bool, true, false, cond, Option, Some, None, List, [], ◌∷◌, ◌++◌, map, reverse, filter, take, drop, length, get_or, bytes_eq, codes, append_assoc, Result, Ok, Err, OnOk, MatchOption, Bor, ◌&&◌, ◌==◌, chars, and_from, nat_tests, lowered_char, colon, Chars, trimmed, lowered, begins_with, seen_slice, has_scheme, ascii-chars, by_test, flat_map-append, bytes_eq-Decides, Table, counts, xmlns_of, prefix_name, without_colon, pairs_after, and_right}
+use Rattle.std.proofs.lemmas.List.{map-append, take_more, reverse-append, reverse-reverse, append-nil}
 use Rattle.std.specs.List.{flat_map}
-use Rattle.std.proofs.lemmas.Grind.{flat_map-append}
-use Rattle.std.proofs.lemmas.List.{append-nil}
-use Rattle.std.proofs.lemmas.Slice.Eq.{bytes_eq-Decides}
-use Rattle.rx_rdfa.specs.Names.{Table, counts, xmlns_of, prefix_name, without_colon, pairs_after}
 use Rattle.rx_names.specs.declared.rows.Declaration.{Declaration}
 use Rattle.rx_names.specs.Rows.{mapping_rows, prefix_row}
-use Rattle.rx_model.proofs.Common.{and_right}
 
 pub becomes : {A E : Type 0} (r : Result A E) (new a b : List Declaration) → a ≡ b → OnOk r (new ≡ a) → OnOk r (new ≡ b)
 becomes (Ok x) new a b e h = h ∙ e

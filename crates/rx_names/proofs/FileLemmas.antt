@@ -1,8 +1,5 @@
 -- Context files, as serde_json reads them.
-use Rattle.rx_terms.proofs.Common.{◌≡◌, ◌∙◌, ◌↔◌, ℕ, Bool, true, false, cond, List, Some, None, sym, ap, option_and_then, IsUtf8, by_test}
-use Rattle.std.proofs.Common.{IsTrue}
-use Rattle.std.specs.Str.{is_utf8}
-use Rattle.std.proofs.lemmas.Str.{is_utf8-from_IsUtf8, IsUtf8-from_is_utf8}
+use Rattle.rx_terms.proofs.Common.{◌≡◌, ◌∙◌, ◌↔◌, ℕ, Bool, true, false, cond, List, Some, None, sym, ap, IsTrue, option_and_then, IsUtf8, is_utf8, by_test, is_utf8-from_IsUtf8, IsUtf8-from_is_utf8}
 use Rattle.serde_json.specs.Data.{Data}
 use Rattle.serde_json.specs.Read.{read}
 use Rattle.rx_names.specs.ContextFiles.{context_of_data, context_of}

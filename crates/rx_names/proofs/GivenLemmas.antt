@@ -1,8 +1,5 @@
 -- Tables that are written out.
-use Rattle.rx_terms.proofs.Common.{◌≡◌, ◌∙◌, ℕ, suc, zero, ◌<◌, true, false, List, [], ◌∷◌, length, get_or, Option, Some, None, bytes_eq, sym, ap, refl, arith, Bor, list_all, option_or, chars, and_parts, IsIri, has_scheme, has_forbidden, Chars, lowered, by_test}
-use Rattle.std.proofs.Common.{not}
-use Rattle.std.proofs.lemmas.Slice.Eq.{bytes_eq-Decides}
-use Rattle.rx_terms.specs.Iri.{is_iri}
+use Rattle.rx_terms.proofs.Common.{◌≡◌, ◌∙◌, ℕ, suc, zero, ◌<◌, true, false, List, [], ◌∷◌, length, get_or, Option, Some, None, bytes_eq, sym, ap, refl, arith, Bor, not, list_all, option_or, chars, and_parts, IsIri, has_scheme, has_forbidden, is_iri, Chars, lowered, by_test, bytes_eq-Decides}
 use Rattle.rx_rdfa.specs.Names.{Table, value_at}
 use Rattle.rx_names.specs.Tables.{rise}
 use Rattle.rx_names.specs.Given.{given, are_given, are_lowered}

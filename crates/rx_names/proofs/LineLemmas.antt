@@ -1,7 +1,6 @@
 -- What is kept of a line says what the rules say of it.
-use Rattle.rx_terms.proofs.Common.{◌≡◌, ◌∙◌, suc, ◌≤◌, Bool, List, [], ◌∷◌, ◌++◌, map, reverse, filter, length, Option, Some, None, Result, Ok, Err, OnOk, option_map, bytes_eq, codes, sym, ap, subst, refl, arith, length-append, append-nil, option_or, reverse-append, length-map, Chars, trimmed, begins_with, by_test}
+use Rattle.rx_terms.proofs.Common.{◌≡◌, ◌∙◌, suc, ◌≤◌, Bool, List, [], ◌∷◌, ◌++◌, map, reverse, filter, length, Option, Some, None, Result, Ok, Err, OnOk, option_map, bytes_eq, codes, sym, ap, subst, refl, arith, length-append, append-nil, option_or, reverse-append, length-map, Chars, trimmed, begins_with, by_test, sum_by-cons}
 use Rattle.std.specs.List.{flat_map}
-use Rattle.std.proofs.lemmas.List.Sums.{sum_by-cons}
 use Rattle.rx_rdfa.specs.Tree.{Tag, attribute}
 use Rattle.rx_rdfa.specs.Names.{Context, Table, value_at, counts, xmlns_of, of_prefix, declarations, declared_or, unless_empty, as_lang, prefix, vocab, language}
 use Rattle.rx_names.specs.Rows.{prefix_row, vocabulary_rows, language_rows, language_attribute, rows_of, last_of, prefix_in, vocabulary_in, language_in, flattened, declared, one_if_some}

@@ -1,10 +1,9 @@
 -- The number of a text, a byte at a time.
-use Rattle.rx_terms.proofs.Common.{◌≡◌, ◌∙◌, ℕ, ◌+◌, ◌<◌, ◌≤◌, ap, sym, map, drop, length, get_or, List, ◌∷◌, to_ascii_lowercase, chars, encodes-chars, lowered}
-use Rattle.std.proofs.Common.{IsUtf8, fold}
+use Rattle.rx_terms.proofs.Common.{to_ascii_lowercase, chars, encodes-chars, lowered, at_drop_more, at_drop_all}
+use Rattle.std.proofs.Common.{◌≡◌, ◌∙◌, ℕ, ◌+◌, ◌<◌, ◌≤◌, ap, sym, map, drop, length, get_or, List, ◌∷◌, IsUtf8, fold}
 use Rattle.std.specs.Hash.DefaultHasher as sip
 use Rattle.std.specs.Hash as fed
 use Rattle.std.specs.declared.hash.DefaultHasher.{DefaultHasher}
-use Rattle.std.proofs.lemmas.List.{at_drop_more, at_drop_all}
 use Rattle.rx_words.proofs.CaseLemmas.{encodes-lower}
 use Rattle.rx_names.specs.Numbers.{number_of}
 

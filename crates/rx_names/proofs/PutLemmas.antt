@@ -1,13 +1,7 @@
 -- A row that is put into a table in byte order.
-use Rattle.rx_terms.proofs.Common.{Result, Ok, Err, ◌≡◌, ◌<◌, ◌≤◌, ◌∙◌, ℕ, zero, suc, Bool, true, false, cond, List, [], ◌∷◌, ◌++◌, map, length, get_or, take, drop, Option, Some, None, option_map, bytes_eq, refl, sym, ap, subst, Ordering, arith, unwrap_or, list_all, option_or, is_lt, is_eq, match_ordering, ordering_reverse, slice_cmp, and_parts, and_from, map-append, take-map, drop-map, length-map, Chars, lowered, by_test}
-use Rattle.std.specs.Prelude.{encode_utf8_all, is_ok, is_err}
-use Rattle.std.specs.List.{find}
-use Rattle.std.specs.List.Sorted.{IsNonDecreasingBy, IsPartitionPoint}
-use Rattle.std.specs.Ordering.{nat_cmp, ordering_index}
+use Rattle.rx_terms.proofs.Common.{Result, Ok, Err, ◌≡◌, ◌<◌, ◌≤◌, ◌∙◌, ℕ, zero, suc, Bool, true, false, cond, List, [], ◌∷◌, ◌++◌, map, length, get_or, take, drop, Option, Some, None, option_map, bytes_eq, refl, sym, ap, subst, Ordering, arith, unwrap_or, encode_utf8_all, is_ok, is_err, list_all, find, option_or, slice_cmp, and_parts, and_from, false≢true, map-append, take-map, drop-map, length-map, Chars, lowered, by_test, IsNonDecreasingBy, IsPartitionPoint, nat_list_cmp_total, bytes_eq-Decides}
+use Rattle.std.specs.Ordering.{is_lt, is_eq, match_ordering, ordering_reverse, nat_cmp, ordering_index}
 use Rattle.std.specs.declared.cmp.Ordering.TheVariants.{Less, Equal, Greater}
-use Rattle.std.proofs.lemmas.Bool.{false≢true}
-use Rattle.std.proofs.lemmas.Cmp.{nat_list_cmp_total}
-use Rattle.std.proofs.lemmas.Slice.Eq.{bytes_eq-Decides}
 use Rattle.rx_rdfa.specs.Names.{Table, value_at}
 use Rattle.rx_names.specs.Tables.{byte_order, is_before, rise, put, folded_onto, folded}
 use Rattle.rx_names.specs.declared.tables.Mapping.{Mapping}

@@ -1,9 +1,7 @@
 -- Lists of rows.
-use Rattle.rx_terms.proofs.Common.{◌≡◌, ◌∙◌, ℕ, suc, ◌-◌, ◌<◌, ◌≤◌, ap, sym, refl, arith, Bool, true, false, Option, Some, None, List, [], ◌∷◌, ◌++◌, take, drop, length, get_or, slice_get, map, bytes_eq, true≢false, list_all, option_or, and_parts, take-append-drop, take-map, length-map, slice_get_within, get_or_from_slice_get, nat_tests, list_all-append, Chars}
-use Rattle.std.proofs.Common.{◌==◌, ◌&&◌, take-take, if◌then◌else◌, take-suc}
-use Rattle.std.specs.Option.{option_map}
-use Rattle.std.proofs.lemmas.Slice.Eq.{bytes_eq-Decides}
-use Rattle.std.proofs.lemmas.List.Folds.{list_all_at}
+use Rattle.rx_terms.proofs.Common.{list_all, and_parts, take-append-drop, take-map, length-map, slice_get_within, get_or_from_slice_get, nat_tests, list_all-append, list_all_at, Chars, bytes_eq-Decides}
+use Rattle.std.proofs.Common.{◌≡◌, ◌∙◌, ℕ, suc, ◌-◌, ◌<◌, ◌≤◌, ap, sym, refl, arith, Bool, true, false, Option, Some, None, List, [], ◌∷◌, ◌++◌, take, drop, length, get_or, slice_get, map, bytes_eq, true≢false, ◌==◌, ◌&&◌, take-take, if◌then◌else◌, take-suc}
+use Rattle.std.specs.Option.{option_or, option_map}
 use Rattle.rx_names.specs.declared.rows.Declaration.{Declaration}
 use Rattle.rx_names.specs.declared.rows.Declaration.TheVariants as row
 use Rattle.rx_names.specs.Rows.{is_sound, last_of, prefix_in, vocabulary_in, language_in}

@@ -1,16 +1,7 @@
 -- Tables in byte order: what a binary search finds, and what is put in.
-use Rattle.rx_terms.proofs.Common.{◌≡◌, ◌<◌, ◌∙◌, ⊎_elim, ℕ, zero, suc, true, false, cond, List, [], ◌∷◌, map, length, get_or, Some, None, option_map, bytes_eq, refl, sym, ap, subst, Ordering, arith, cases_lt, and_parts, encodes_same, list_all, is_lt, is_eq, ordering_reverse, slice_cmp, Chars}
+use Rattle.rx_terms.proofs.Common.{◌≡◌, ◌<◌, ◌∙◌, ⊎_elim, ℕ, zero, suc, true, false, cond, List, [], ◌∷◌, map, length, get_or, Some, None, option_map, bytes_eq, refl, sym, ap, subst, Ordering, arith, cases_lt, and_parts, false≢true, encodes_same, list_all, find, slice_cmp, Chars, encode_utf8_all, same_from_decides, nat_list_cmp_total, alike_right, bytes_eq-Decides, is_eq-slice_cmp, IsSortedBy, IsNonDecreasingBy, IsPartitionPoint, searchable_from_sorted}
+use Rattle.std.specs.Ordering.{is_lt, is_eq, ordering_reverse, nat_cmp, ordering_index}
 use native.Mathlib.Numerals.{unary_clauses}
-use Rattle.std.specs.Prelude.{encode_utf8_all}
-use Rattle.std.proofs.lemmas.Bool.{false≢true}
-use Rattle.std.proofs.lemmas.Bool.Decides.{same_from_decides}
-use Rattle.std.proofs.lemmas.Cmp.{nat_list_cmp_total, alike_right}
-use Rattle.std.proofs.lemmas.Slice.Eq.{bytes_eq-Decides}
-use Rattle.std.proofs.lemmas.Map.Text.{is_eq-slice_cmp}
-use Rattle.std.specs.List.{find}
-use Rattle.std.specs.Ordering.{nat_cmp, ordering_index}
-use Rattle.std.specs.List.Sorted.{IsSortedBy, IsNonDecreasingBy, IsPartitionPoint}
-use Rattle.std.proofs.lemmas.List.Sorted.{searchable_from_sorted}
 use Rattle.std.specs.declared.cmp.Ordering.TheVariants.{Less, Equal, Greater}
 use Rattle.rx_rdfa.specs.Names.{Table, value_at}
 use Rattle.rx_names.specs.declared.tables.Mapping.{Mapping}

@@ -1,6 +1,5 @@
 -- Terms of ASCII, by their bytes.
-use Rattle.rx_terms.proofs.Common.{◌≡◌, ◌∙◌, ℕ, true, List, [], ◌∷◌, ap, refl, list_all, chars, and_parts, and_from, is_ascii, solidus, ascii-chars}
-use Rattle.std.proofs.Common.{◌||◌, ◌==◌}
+use Rattle.rx_terms.proofs.Common.{◌≡◌, ◌∙◌, ℕ, true, List, [], ◌∷◌, ap, refl, ◌||◌, ◌==◌, list_all, chars, and_parts, and_from, is_ascii, solidus, ascii-chars}
 use Rattle.rx_chars.specs.NcName.{is_nc}
 use Rattle.rx_names.specs.Words.{is_term_byte}
 

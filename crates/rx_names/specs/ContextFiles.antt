@@ -1,13 +1,9 @@
 -- A context file: JSON text (RFC 8259) that is an object with no members but `prefixes` and `terms`, each an object of texts.
 use Rattle.std.specs.Prelude.{Bool, true, not, ◌&&◌, ◌||◌, List, [], Option, Some, None, codes, bytes_eq, option_map, option_and_then, ℕ, if◌then◌else◌}
-use Rattle.std.specs.Str.{chars, is_utf8}
+use Rattle.rx_rdfa.specs.Common.{chars, is_utf8, Chars, lowered, is_iri, Table, Context, is_nc_name, is_term}
 use Rattle.serde_json.specs.Data.{Data, Members, no_members, member}
 use Rattle.serde_json.specs.Read.{read}
 use Rattle.serde_json.specs.Find.{get, as_str, as_object}
-use Rattle.rx_terms.specs.Text.{Chars, lowered}
-use Rattle.rx_terms.specs.Iri.{is_iri}
-use Rattle.rx_rdfa.specs.Names.{Table, Context, is_nc_name}
-use Rattle.rx_rdfa.specs.Readings.{is_term}
 use Rattle.rx_names.specs.Tables.{put}
 use Rattle.rx_names.specs.declared.context_files.MappingKind.{MappingKind}
 use Rattle.rx_names.specs.declared.context_files.MappingKind.TheVariants.{Prefix, Term}

@@ -1,12 +1,7 @@
 -- A table that is written out.
 use Rattle.std.specs.Prelude.{ℕ, Bool, ◌&&◌, List, map, bytes_eq}
-use Rattle.std.specs.List.{list_all}
-use Rattle.std.specs.Str.{chars}
-use Rattle.rx_terms.specs.Iri.{is_iri}
-use Rattle.rx_terms.specs.Text.{lowered}
-use Rattle.rx_rdfa.specs.Names.{Table}
+use Rattle.rx_rdfa.specs.Common.{list_all, chars, is_iri, lowered, Table, Bor}
 use Rattle.rx_names.specs.Tables.{rise}
-use denote.Ref.{Bor}
 
 abbrev pub given : List (Bor (List ℕ) × Bor (List ℕ)) → Table
 given rows = map (λ row. (chars row.0.now, chars row.1.now)) rows

@@ -1,9 +1,6 @@
 -- The names in force along a line of tags, as they are kept: all rows of the tags, and for each tag how many stood below it.
 use Rattle.std.specs.Prelude.{◌≡◌, ℕ, ◌-◌, List, [], ◌∷◌, ◌++◌, take, length, slice_index, sum_by, Option}
-use Rattle.std.specs.Option.{option_or}
-use Rattle.rx_terms.specs.Text.{Chars}
-use Rattle.rx_rdfa.specs.Tree.{Tag}
-use Rattle.rx_rdfa.specs.Names.{Context, value_at}
+use Rattle.rx_rdfa.specs.Common.{option_or, Chars, Tag, Context, value_at}
 use Rattle.rx_names.specs.declared.rows.Declaration.{Declaration}
 use Rattle.rx_names.specs.Rows.{rows_of, last_of, prefix_in, vocabulary_in, language_in, flattened, declared}
 

@@ -1,10 +1,6 @@
 -- Marks of names, by which most names that a tag doesn't have are told at once.
 use Rattle.std.specs.Prelude.{◌≡◌, ℕ, ◌+◌, ◌*◌, ◌%◌, ◌^◌, ◌==◌, Bool, false, List, [], None, length, get_or, bit_and}
-use Rattle.std.specs.List.{flat_map}
-use Rattle.std.specs.Str.{encode_utf8_all}
-use Rattle.rx_terms.specs.Text.{Chars}
-use Rattle.rx_rdfa.specs.Tree.{value_of_first}
-use Rattle.rx_rdfa.specs.Names.{xmlns_of}
+use Rattle.rx_rdfa.specs.Common.{flat_map, encode_utf8_all, Chars, value_of_first, xmlns_of}
 
 -- one of 64 bits, by the length in bytes and the first byte
 unfoldable pub mark_of : List ℕ → ℕ

@@ -1,9 +1,7 @@
 -- Numbers by which declarations are found. Declarations of one prefix have one number, others may share it.
 use Rattle.std.specs.Prelude.{◌≡◌, ℕ, true, List, map}
-use Rattle.std.specs.List.{list_all}
-use Rattle.std.specs.Str.{encode_utf8_all}
+use Rattle.rx_terms.specs.Common.{list_all, encode_utf8_all, Chars}
 use Rattle.std.specs.Hash.DefaultHasher as sip
-use Rattle.rx_terms.specs.Text.{Chars}
 use Rattle.rx_names.specs.declared.rows.Declaration.{Declaration}
 use Rattle.rx_names.specs.declared.rows.Declaration.TheVariants as row
 use Rattle.rx_names.specs.Rows.{is_sound}

@@ -1,10 +1,6 @@
 -- The declarations that are kept of a tag, and what a list of them says.
 use Rattle.std.specs.Prelude.{ℕ, ◌+◌, Bool, true, ◌&&◌, List, [], ◌∷◌, ◌++◌, map, Option, Some, None, codes, bytes_eq, filter, length, if◌then◌else◌}
-use Rattle.std.specs.Option.{option_or}
-use Rattle.rx_terms.specs.Text.{Chars, trimmed, lowered, begins_with}
-use Rattle.rx_terms.specs.Iri.{has_scheme}
-use Rattle.rx_rdfa.specs.Tree.{Tag, attribute}
-use Rattle.rx_rdfa.specs.Names.{Table, counts, declarations, of_prefix, unless_empty, as_lang}
+use Rattle.rx_rdfa.specs.Common.{option_or, Chars, trimmed, lowered, begins_with, has_scheme, Tag, attribute, Table, counts, declarations, of_prefix, unless_empty, as_lang}
 use Rattle.rx_names.specs.declared.rows.Declaration.{Declaration}
 use Rattle.rx_names.specs.declared.rows.Declaration.TheVariants as row
 

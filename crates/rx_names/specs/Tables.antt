@@ -1,11 +1,7 @@
 -- Tables of names in byte order.
 use Rattle.std.specs.Prelude.{◌≡◌, ℕ, ◌≤◌, Bool, true, ◌&&◌, [], ◌∷◌, ◌++◌, length, take, drop, Option, Some, None, option_map, encode_utf8_all, unwrap_or}
-use Rattle.std.specs.List.{list_all}
+use Rattle.rx_rdfa.specs.Common.{list_all, is_lt, nat_cmp, match_ordering, slice_cmp, Chars, lowered, Table}
 use Rattle.std.specs.declared.cmp.Ordering.{Ordering}
-use Rattle.std.specs.Ordering.{is_lt, nat_cmp, match_ordering}
-use Rattle.std.specs.Cmp.Lexicographic.{slice_cmp}
-use Rattle.rx_terms.specs.Text.{Chars, lowered}
-use Rattle.rx_rdfa.specs.Names.{Table}
 
 -- the order of the texts' UTF-8 forms
 abbrev pub byte_order : Chars → Chars → Ordering

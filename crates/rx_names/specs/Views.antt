@@ -1,7 +1,6 @@
 -- What the lent view stands for.
 use Rattle.std.specs.Prelude.{List}
-use Rattle.rx_rdfa.specs.Tree.{Tag}
-use Rattle.rx_rdfa.specs.Names.{Context}
+use Rattle.rx_rdfa.specs.Common.{Tag, Context}
 use Rattle.rx_names.specs.Lines.{Kept, NamesStand}
 use Rattle.rx_names.specs.declared.names.NamesView.{NamesView}
 

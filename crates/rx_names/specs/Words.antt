@@ -1,7 +1,6 @@
 -- How names of prefixes and terms begin.
 use Rattle.std.specs.Prelude.{ℕ, Bool, false, ◌&&◌, ◌||◌, ◌==◌, [], ◌∷◌}
-use Rattle.rx_terms.specs.Ascii.{is_ascii, solidus}
-use Rattle.rx_terms.specs.Text.{Chars}
+use Rattle.rx_terms.specs.Common.{is_ascii, solidus, Chars}
 use Rattle.rx_chars.specs.NcName.{is_nc_start, is_nc}
 
 abbrev pub begins_name : Chars → Bool

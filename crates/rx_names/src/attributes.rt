@@ -1,10 +1,6 @@
 //! Attributes by their names.
 ghost use Rattle.std.specs.Prelude.{◌≡◌, ◌||◌, [], None, true, false, codes, get_or};
-ghost use Rattle.std.specs.List.{list_all};
-ghost use Rattle.std.specs.Str.{chars};
-ghost use Rattle.rx_terms.specs.Ascii.{is_ascii};
-ghost use Rattle.rx_rdfa.specs.Tree.{attribute};
-ghost use Rattle.rx_terms.specs.Text.{seen_slice, begins_with};
+ghost use Rattle.rx_rdfa.specs.Common.{list_all, chars, is_ascii, attribute, seen_slice, begins_with};
 ghost use Rattle.rx_names.specs.Marks.{mark_of, name_mark, has_mark};
 ghost use Rattle.rx_names.specs.Rows.{rows_of};
 ghost use Rattle.rx_names.specs.Silence.{IsSilent};

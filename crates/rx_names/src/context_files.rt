@@ -1,9 +1,7 @@
 //! Context files.
 ghost use Rattle.std.specs.Prelude.{◌≡◌, ◌||◌, codes, bytes_eq, [], Some, None, option_map, option_and_then, if◌then◌else◌};
-ghost use Rattle.std.specs.Str.{chars};
+ghost use Rattle.rx_terms.specs.Common.{chars, lowered, is_iri};
 ghost use Rattle.serde_json.specs.View.{view, members_view};
-ghost use Rattle.rx_terms.specs.Text.{lowered};
-ghost use Rattle.rx_terms.specs.Iri.{is_iri};
 ghost use Rattle.rx_names.specs.ContextFiles.{prefix_row, term_row, row_of, text_of, table_on, table_of, are_known, context_of_data, context_of};
 ghost use Rattle.rx_names.specs.FileErrors.{FileGives};
 

@@ -1,9 +1,6 @@
 //! The context that a page starts from.
 ghost use Rattle.std.specs.Prelude.{◌≡◌, ◌<◌, length, true, IfOk, IfSome, Some, slice_get};
-ghost use Rattle.std.specs.Str.{chars};
-ghost use Rattle.rx_terms.specs.Iri.{IsIri, has_scheme};
-ghost use Rattle.rx_terms.specs.Text.{lowered, seen_slice};
-ghost use Rattle.rx_rdfa.specs.Names.{value_at, term};
+ghost use Rattle.rx_rdfa.specs.Common.{chars, IsIri, has_scheme, lowered, seen_slice, value_at, term};
 ghost use Rattle.rx_rdfa.specs.Standard as the;
 ghost use Rattle.rx_names.specs.Tables.{rise};
 

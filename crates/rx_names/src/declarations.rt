@@ -1,10 +1,6 @@
 //! What a start tag declares.
 ghost use Rattle.std.specs.Prelude.{◌≡◌, [], ◌∷◌, ◌++◌, OnOk, IfOk};
-ghost use Rattle.std.specs.List.{flat_map};
-ghost use Rattle.std.specs.Str.{chars};
-ghost use Rattle.rx_terms.specs.Text.{lowered, tokens, seen_slice};
-ghost use Rattle.rx_rdfa.specs.Names.{counts, xmlns_of, of_prefix, pairs, unless_empty};
-ghost use Rattle.rx_rdfa.specs.Tree.{attribute};
+ghost use Rattle.rx_rdfa.specs.Common.{flat_map, chars, lowered, tokens, seen_slice, counts, xmlns_of, of_prefix, pairs, unless_empty, attribute};
 ghost use Rattle.rx_names.specs.Tags.{tag_of};
 ghost use Rattle.rx_names.specs.Rows.{rows_of, mapping_rows, vocabulary_rows, language_rows, language_attribute};
 

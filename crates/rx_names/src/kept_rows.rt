@@ -1,9 +1,6 @@
 //! The declarations of the open elements.
 ghost use Rattle.std.specs.Prelude.{◌≡◌, [], ◌++◌, length, take, map, true, OnOk, OnErr, IfSome};
-ghost use Rattle.std.specs.List.{list_all};
-ghost use Rattle.std.specs.Str.{chars};
-ghost use Rattle.rx_terms.specs.Iri.{has_scheme};
-ghost use Rattle.rx_terms.specs.Text.{lowered, seen_slice};
+ghost use Rattle.rx_terms.specs.Common.{list_all, chars, has_scheme, lowered, seen_slice};
 ghost use Rattle.rx_names.specs.Rows.{is_sound, last_of, prefix_in, vocabulary_in, language_in, flattened};
 ghost use Rattle.rx_names.specs.Numbers.{row_number};
 

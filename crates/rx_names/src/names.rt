@@ -1,10 +1,7 @@
 //! The names in force along the open elements.
 ghost use Rattle.std.specs.Prelude.{◌≡◌, ◌<◌, ◌≤◌, [], ◌∷◌, ◌++◌, List, length, true, OnOk, OnErr, IfOk, IfSome};
-ghost use Rattle.std.specs.Str.{chars};
-ghost use Rattle.rx_terms.specs.Iri.{has_scheme};
-ghost use Rattle.rx_terms.specs.Text.{lowered, seen_slice};
+ghost use Rattle.rx_rdfa.specs.Common.{chars, has_scheme, lowered, seen_slice, prefix, vocab, language, term};
 ghost use Rattle.rx_rdfa.specs.Tree.{Tag as StartTag};
-ghost use Rattle.rx_rdfa.specs.Names.{prefix, vocab, language, term};
 ghost use Rattle.rx_names.specs.Tags.{tag_of};
 ghost use Rattle.rx_names.specs.Lines.{no_tags, pushed, popped, NamesStand, prefix_of, vocabulary_of, language_of, declared_along};
 ghost use Rattle.rx_names.specs.Views.{names_seen, Along};

@@ -69,9 +69,7 @@ impl Rows {
 
 impl Declaration {
     ghost use Rattle.std.specs.Prelude.{◌≡◌, true, option_map, IfSome};
-    ghost use Rattle.std.specs.Str.{chars};
-    ghost use Rattle.rx_terms.specs.Iri.{has_scheme};
-    ghost use Rattle.rx_terms.specs.Text.{lowered, seen_slice};
+    ghost use Rattle.rx_terms.specs.Common.{chars, has_scheme, lowered, seen_slice};
     ghost use Rattle.rx_names.specs.Rows.{is_sound, prefix_in, vocabulary_in, language_in};
     ghost use Rattle.rx_names.specs.Numbers.{row_number};
 

@@ -1,9 +1,6 @@
 //! The tables of the context that holds where no other is named. They stand in the program, and take no memory.
 ghost use Rattle.std.specs.Prelude.{◌≡◌, ◌<◌, length, true, IfSome, Some, slice_get};
-ghost use Rattle.std.specs.Str.{chars};
-ghost use Rattle.rx_terms.specs.Iri.{IsIri, has_scheme};
-ghost use Rattle.rx_terms.specs.Text.{lowered, seen_slice};
-ghost use Rattle.rx_rdfa.specs.Names.{value_at, term};
+ghost use Rattle.rx_rdfa.specs.Common.{chars, IsIri, has_scheme, lowered, seen_slice, value_at, term};
 ghost use Rattle.rx_names.specs.Contexts.{standard_tables};
 ghost use Rattle.rx_names.specs.Given.{given, are_given};
 ghost use Rattle.rx_names.specs.Tables.{rise};

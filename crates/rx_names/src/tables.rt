@@ -1,11 +1,6 @@
 //! Tables from names to IRIs.
 ghost use Rattle.std.specs.Prelude.{◌≡◌, ◌<◌, [], length, true, OnOk, OnErr, IfOk, IfSome, MatchOption, Some, slice_get, is_some, unwrap_or};
-ghost use Rattle.std.specs.Cmp.Lexicographic.{slice_cmp};
-ghost use Rattle.std.specs.Ordering.{nat_cmp};
-ghost use Rattle.std.specs.Str.{chars};
-ghost use Rattle.rx_terms.specs.Iri.{IsIri, has_scheme};
-ghost use Rattle.rx_terms.specs.Text.{Chars, lowered, seen_slice};
-ghost use Rattle.rx_rdfa.specs.Names.{value_at};
+ghost use Rattle.rx_rdfa.specs.Common.{slice_cmp, nat_cmp, chars, IsIri, has_scheme, Chars, lowered, seen_slice, value_at};
 ghost use Rattle.rx_names.specs.Tables.{byte_order, rise, put, folded, IsThere, IsGap};
 
 use rx_terms::{Iri, NoMemory, Text};

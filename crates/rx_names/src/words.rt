@@ -1,10 +1,6 @@
 //! Names of prefixes and terms.
 ghost use Rattle.std.specs.Prelude.{◌≡◌, ◌||◌, ◌==◌, codes, bytes_eq};
-ghost use Rattle.std.specs.List.{list_all};
-ghost use Rattle.std.specs.Str.{chars};
-ghost use Rattle.rx_terms.specs.Ascii.{solidus};
-ghost use Rattle.rx_rdfa.specs.Names.{is_nc_name};
-ghost use Rattle.rx_rdfa.specs.Readings.{is_term};
+ghost use Rattle.rx_rdfa.specs.Common.{list_all, chars, solidus, is_nc_name, is_term};
 ghost use Rattle.rx_chars.specs.NcName as nc;
 ghost use Rattle.rx_names.specs.Words.{begins_name, is_term_byte};
 

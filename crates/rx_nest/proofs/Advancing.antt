@@ -1,10 +1,5 @@
 -- What is due and what is read are told in turn.
-use Rattle.rx_terms.proofs.Common.{◌≡◌, ◌∙◌, ℕ, zero, suc, Bool, true, false, List, [], ◌++◌, refl, sym, ap, subst, append_assoc, append-nil, Option, Some, None, Err, arith, nat_tests, if◌then◌else◌}
-use Rattle.std.specs.Prelude.{◌-◌, nat_lt, take, drop}
-use Rattle.rx_grammar.proofs.Common.{Syntax, Item, StartTag}
-use Rattle.rx_grammar.specs.declared.faults.Fault.{Fault}
-use Rattle.rx_grammar.specs.declared.limits.Limits.{Limits}
-use Rattle.rx_pages.specs.PageReader.{no_bytes, no_page, Scanning}
+use Rattle.rx_pages.proofs.Common.{◌≡◌, ◌∙◌, ℕ, zero, suc, Bool, true, false, List, [], ◌++◌, refl, sym, ap, subst, append_assoc, append-nil, Option, Some, None, Err, arith, nat_tests, if◌then◌else◌, ◌-◌, nat_lt, take, drop, Syntax, Item, StartTag, Fault, Limits, no_bytes, no_page, Scanning, Stop}
 use Rattle.rx_scan.specs.Scanner.{Scanner}
 use Rattle.rx_scan.specs.Steps as scan
 use Rattle.rx_nest.specs.declared.lines.TagAction.{TagAction}
@@ -19,7 +14,6 @@ use Rattle.rx_nest.specs.Signs.{Sign, sees, nothing_seen}
 use Rattle.rx_nest.specs.Follows.{flags_of, own_signs}
 use Rattle.rx_scan.proofs.MarkLemmas.{none_marked}
 use Rattle.rx_nest.specs.TreeTokens.{first_own, next_own, next_owed, first_of, paid}
-use Rattle.rx_grammar.specs.declared.stops.Stop.{Stop}
 use Rattle.rx_grammar.specs.declared.stops.Stop.TheVariants as stop
 use Rattle.rx_nest.specs.Falling.{FallsBy}
 use Rattle.rx_nest.specs.Nests.{ReadGives, StaysAtFault, FaultGives, OpenBefore, Nested, At, NestStands, Stops, Unshown, LendsStart, begins_own, IsATag, a_tag, read_before, read_now, TokenOf, DidOf, Done, DidLends, did_signs, did_more, did_skipped, heard_signs, hears_more, hears_skipped, Lends, Heeds, last_tag, owed_signs, owes_begin, left}

@@ -1,10 +1,5 @@
 -- Where something was told of a page the limit on depth has a level.
-use Rattle.rx_terms.proofs.Common.{◌≡◌, ◌∙◌, ℕ, ◌≤◌, Bool, true, false, List, [], ◌++◌, refl, sym, ap, append-nil, inl, inr, ◌⊎◌, ⊎_elim, None, Ok, arith, nat_tests, ◌&&◌, not, nat_le, if◌then◌else◌}
-use Rattle.rx_grammar.proofs.Common.{Syntax, Tag, inside_of, Phase, before, within, first_row, tag_rows, start_rows, end_rows, has_ended, is_before, root_name, same, is_plaintext, is_self_closed}
-use Rattle.rx_grammar.specs.declared.faults.Kind.TheVariants.{Outside, RootNotHtml, Plaintext, SelfClosed, TooDeep}
-use Rattle.rx_grammar.specs.declared.limits.Limits.{Limits}
-use Rattle.rx_pages.specs.Nesting.{Event, Nesting}
-use Rattle.rx_pages.specs.PageReader.{Progress, page_read}
+use Rattle.rx_pages.proofs.Common.{◌≡◌, ◌∙◌, ℕ, ◌≤◌, Bool, true, false, List, [], ◌++◌, refl, sym, ap, append-nil, inl, inr, ◌⊎◌, ⊎_elim, None, Ok, arith, nat_tests, ◌&&◌, not, nat_le, if◌then◌else◌, Syntax, Tag, inside_of, Phase, before, within, first_row, tag_rows, start_rows, end_rows, has_ended, is_before, root_name, same, is_plaintext, is_self_closed, Outside, RootNotHtml, Plaintext, SelfClosed, TooDeep, Limits, Event, Nesting, Progress, page_read}
 use Rattle.rx_nest.proofs.Fronts.{first_and_last}
 use Rattle.rx_nest.proofs.ShownLines.{page_holds}
 

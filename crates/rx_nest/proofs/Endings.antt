@@ -1,13 +1,5 @@
 -- The end of a page.
-use Rattle.rx_terms.proofs.Common.{◌≡◌, ◌≢◌, ◌∙◌, ℕ, Bool, true, false, List, [], ◌∷◌, ◌++◌, refl, sym, ap, subst, length, Some, None, Result, Ok, Err, ◌&&◌, if◌then◌else◌, chars, Chars}
-use Rattle.std.specs.Prelude.{map, take}
-use Rattle.rx_grammar.proofs.Common.{Syntax, Item, FaultAt}
-use Rattle.rx_grammar.specs.declared.faults.Fault.{Fault}
-use Rattle.rx_grammar.specs.declared.faults.Kind.TheVariants.{Unended}
-use Rattle.rx_grammar.specs.declared.limits.Limits.{Limits}
-use Rattle.rx_pages.specs.Nesting.{Event}
-use Rattle.rx_pages.specs.PageReader.{Progress, page_read, end_of, may_end, is_over, fault_in, Scanning}
-use Rattle.rx_pages.proofs.OnlyPages.{found_fault}
+use Rattle.rx_pages.proofs.Common.{◌≡◌, ◌≢◌, ◌∙◌, ℕ, Bool, true, false, List, [], ◌∷◌, ◌++◌, refl, sym, ap, subst, length, Some, None, Result, Ok, Err, ◌&&◌, if◌then◌else◌, map, take, chars, Chars, Syntax, Item, FaultAt, Fault, Unended, Limits, Event, Progress, page_read, end_of, may_end, is_over, fault_in, Scanning, found_fault, read_size}
 use Rattle.rx_scan.specs.Scanner.{Scanner}
 use Rattle.rx_scan.specs.Steps as scan
 use Rattle.rx_nest.specs.Lines.{Lines, is_none_open}
@@ -19,7 +11,6 @@ use Rattle.rx_nest.specs.declared.tree_tokens.EventKind.TheVariants as did
 use Rattle.rx_nest.specs.declared.nests.Event as shown
 use Rattle.rx_nest.specs.declared.nests.Event.TheVariants as event
 use Rattle.rx_nest.specs.Nests.{did_skipped, is_skipped, DidOf, TellsOf, Nested, At, NestStands, Done, DidLends, did_signs, did_more, event_signs, is_more, Speaks, Shown, Stepped, EndsWith, Ended, last_tag, last_text, owed_signs}
-use Rattle.rx_pages.proofs.Sizes.{read_size}
 use Rattle.rx_nest.proofs.TreeSeen.{whole}
 
 module _ (syntax : Syntax) (limits : Limits) (bytes : List ℕ) (told : List Event) (v : Scanner) (line : Lines) (at : At syntax limits bytes told v line) where

@@ -1,14 +1,5 @@
 -- Where a page's fault lies.
-use Rattle.rx_terms.proofs.Common.{◌≡◌, ◌∙◌, ℕ, ◌+◌, ◌<◌, ◌≤◌, List, [], ◌∷◌, ◌++◌, length, refl, sym, ap, Option, Some, None, Result, Ok, Err, arith, zero, suc, Bool, true, false, take, drop, if◌then◌else◌}
-use Rattle.rx_grammar.proofs.Common.{Syntax, Page, FaultAt, Tree}
-use Rattle.rx_grammar.specs.declared.faults.Fault.{Fault}
-use Rattle.rx_grammar.specs.declared.faults.Kind.TheVariants.{Unended}
-use Rattle.rx_grammar.specs.declared.limits.Limits.{Limits}
-use Rattle.rx_pages.specs.PageReader.{Progress, page_read, page_on, nothing_read, no_page, spot_of, end_of, may_end, fault_in}
-use Rattle.rx_pages.proofs.FaultWalk.{fault_stays}
-use Rattle.rx_pages.proofs.PageRead.{page_is_read}
-use Rattle.rx_pages.proofs.ScanSteps.{page_append}
-use Rattle.rx_pages.proofs.Trees.{one_tree}
+use Rattle.rx_pages.proofs.Common.{◌≡◌, ◌∙◌, ℕ, ◌+◌, ◌<◌, ◌≤◌, List, [], ◌∷◌, ◌++◌, length, refl, sym, ap, Option, Some, None, Result, Ok, Err, arith, zero, suc, Bool, true, false, take, drop, if◌then◌else◌, Syntax, Page, FaultAt, Tree, Fault, Unended, Limits, Progress, page_read, page_on, nothing_read, no_page, spot_of, end_of, may_end, fault_in, fault_stays, page_is_read, page_append, one_tree}
 use Rattle.rx_nest.specs.Signs.{Sign, Sight, sees, nothing_seen, signs_of}
 use Rattle.rx_nest.specs.Fronts.{Lie}
 use Rattle.rx_nest.proofs.Sizes.{within_so}

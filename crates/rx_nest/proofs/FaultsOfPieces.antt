@@ -1,11 +1,8 @@
 -- Where a fault lies that a piece of a page brings.
-use Rattle.rx_terms.proofs.Common.{◌≡◌, ◌∙◌, ℕ, ◌+◌, ◌≤◌, List, [], ◌++◌, length, sym, ap, subst, None, Ok, Err, arith, take, drop, append-nil, nat_tests, nat_le, by_test}
-use Rattle.rx_grammar.specs.declared.faults.Fault.{Fault}
-use Rattle.rx_pages.specs.PageReader.{Progress, page_read}
+use Rattle.rx_pages.proofs.Common.{◌≡◌, ◌∙◌, ℕ, ◌+◌, ◌≤◌, List, [], ◌++◌, length, sym, ap, subst, None, Ok, Err, arith, take, drop, append-nil, nat_tests, nat_le, by_test, Fault, Progress, page_read, Stop}
 use Rattle.rx_pages.proofs.FaultFronts.{faults_follow_fronts}
 use Rattle.rx_nest.specs.Nests.{Nested}
 use Rattle.rx_nest.specs.Signs.{Sign, Sight, sees, nothing_seen}
-use Rattle.rx_grammar.specs.declared.stops.Stop.{Stop}
 use Rattle.rx_grammar.specs.declared.stops.Stop.TheVariants as stop
 use Rattle.rx_nest.specs.Faults.{Refuses, Stops, StopGives, for_form, for_meaning}
 use Rattle.rx_nest.specs.FaultPlaces.{PlaceGives, PlaceLaw, of_form, of_meaning, Placed}

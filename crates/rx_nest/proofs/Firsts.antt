@@ -1,17 +1,9 @@
 -- Which fault comes first.
-use Rattle.rx_terms.proofs.Common.{◌≡◌, ◌∙◌, ℕ, ◌<◌, ◌≤◌, Bool, true, false, List, [], ◌∷◌, ◌++◌, length, refl, sym, ap, subst, Option, Some, None, Result, Ok, Err, arith, length-append, append_assoc, append-nil, ◌⊎◌, inl, inr, ⊎_elim, take, append_cancel_left, if◌then◌else◌}
-use Rattle.rx_grammar.proofs.Common.{Syntax, FaultAt}
-use Rattle.rx_grammar.specs.declared.faults.Fault.{Fault}
-use Rattle.rx_grammar.specs.declared.faults.Kind.TheVariants.{Unended}
-use Rattle.rx_grammar.specs.declared.limits.Limits.{Limits}
-use Rattle.rx_pages.specs.PageReader.{Progress, page_read, page_on, nothing_read, spot_of, end_of, may_end, fault_in}
-use Rattle.rx_pages.proofs.FaultWalk.{fault_stays}
-use Rattle.rx_pages.proofs.FaultsRead.{fault_is_read}
-use Rattle.rx_pages.proofs.ScanSteps.{page_append}
+use Rattle.rx_pages.proofs.Common.{append_cancel_left, if◌then◌else◌, Syntax, FaultAt, Fault, Unended, Limits, Progress, page_read, page_on, nothing_read, spot_of, end_of, may_end, fault_in, fault_stays, fault_is_read, page_append, read_size}
+use Rattle.std.proofs.Common.{◌≡◌, ◌∙◌, ℕ, ◌<◌, ◌≤◌, Bool, true, false, List, [], ◌∷◌, ◌++◌, length, refl, sym, ap, subst, Option, Some, None, Result, Ok, Err, arith, length-append, append_assoc, append-nil, ◌⊎◌, inl, inr, ⊎_elim, take}
 use Rattle.rx_nest.specs.Signs.{Sign, sees, nothing_seen}
 use Rattle.rx_nest.specs.Nests as nests
 use Rattle.rx_nest.proofs.Sizes.{take_front, within_so}
-use Rattle.rx_pages.proofs.Sizes.{read_size}
 use Rattle.rx_nest.specs.Ways.{Way, IsRefusal}
 use Rattle.rx_nest.proofs.TagPlaces.{LiesIn, page_lies, shows_more}
 use Rattle.rx_nest.proofs.TokenPlacing.{refused_such}

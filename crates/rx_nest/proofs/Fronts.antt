@@ -1,12 +1,5 @@
 -- What a page's bytes show at any time is the front of one element.
-use Rattle.rx_terms.proofs.Common.{◌≡◌, ◌≢◌, ◌∙◌, ℕ, zero, suc, ◌≤◌, ◌<◌, Bool, true, false, List, [], ◌∷◌, ◌++◌, refl, sym, ap, subst, length, append_assoc, append-nil, Some, None, Ok, arith, nat_tests, ◌&&◌, not, nat_le, if◌then◌else◌, Chars, by_test}
-use Rattle.std.specs.Prelude.{map}
-use Rattle.rx_grammar.proofs.Common.{Syntax, same, is_among, Tag, is_alone, is_html, is_plaintext, is_self_closed, hides, StartTag, Item, start_of, enders, is_omissible, is_held, root_name, Line, inside_of, parent_of, Phase, before, within, after, Rows, first_row, tag_rows, start_rows, end_rows, under_start, after_start, after_end, is_innermost, has_ended, is_before}
-use Rattle.rx_grammar.specs.declared.faults.Kind.{Kind}
-use Rattle.rx_grammar.specs.declared.limits.Limits.{Limits}
-use Rattle.rx_grammar.specs.PageFaults.{is_no_line}
-use Rattle.rx_pages.specs.Nesting.{Event, begins, says, finishes, Nesting, Step, tag_passes, begun_under, over, line_above, going_on, ended_by_start, ended_under, ended_by_end}
-use Rattle.rx_pages.specs.PageReader.{Progress, page_read}
+use Rattle.rx_pages.proofs.Common.{◌≡◌, ◌≢◌, ◌∙◌, ℕ, zero, suc, ◌≤◌, ◌<◌, Bool, true, false, List, [], ◌∷◌, ◌++◌, refl, sym, ap, subst, length, append_assoc, append-nil, Some, None, Ok, arith, nat_tests, ◌&&◌, not, nat_le, if◌then◌else◌, map, Chars, by_test, Syntax, same, is_among, Tag, is_alone, is_html, is_plaintext, is_self_closed, hides, StartTag, Item, start_of, enders, is_omissible, is_held, root_name, Line, inside_of, parent_of, Phase, before, within, after, Rows, first_row, tag_rows, start_rows, end_rows, under_start, after_start, after_end, is_innermost, has_ended, is_before, is_no_line, Kind, Limits, Event, begins, says, finishes, Nesting, Step, tag_passes, begun_under, over, line_above, going_on, ended_by_start, ended_under, ended_by_end, Progress, page_read}
 use Rattle.rx_nest.specs.Signs.{Sign, begun, said, finished, Flags, is_hidden, Sight, see, sees, nothing_seen}
 use Rattle.rx_nest.specs.Nests.{Nested, NestStands, owed_signs, last_tag}
 use Rattle.rx_nest.specs.Fronts.{Front, unbegun, inside, over as ended, goes, goes_on, front_of, levels_of, IsFront}

@@ -1,16 +1,6 @@
 -- What the scanner tells, and the elements take, is what the page's bytes lead to.
-use Rattle.rx_terms.proofs.Common.{◌≡◌, ◌≢◌, ◌∙◌, ℕ, zero, suc, ◌+◌, Bool, true, false, List, [], ◌∷◌, ◌++◌, refl, sym, ap, subst, append_assoc, append-nil, Some, Result, Ok, Err, ◌&&◌, not, if◌then◌else◌, Chars}
-use Rattle.std.specs.Prelude.{map, take, slice_get}
-use Rattle.rx_grammar.proofs.Common.{Syntax, doctype, tag, Item, Line, inside_of, Phase, before}
-use Rattle.rx_grammar.specs.declared.faults.Fault.{Fault}
-use Rattle.rx_grammar.specs.declared.faults.Kind.{Kind}
-use Rattle.rx_grammar.specs.declared.limits.Limits.{Limits}
+use Rattle.rx_pages.proofs.Common.{◌≡◌, ◌≢◌, ◌∙◌, ℕ, zero, suc, ◌+◌, Bool, true, false, List, [], ◌∷◌, ◌++◌, refl, sym, ap, subst, append_assoc, append-nil, Some, Result, Ok, Err, ◌&&◌, not, if◌then◌else◌, map, take, slice_get, Chars, Syntax, doctype, tag, Item, Line, inside_of, Phase, before, Fault, Kind, Limits, Event, Nesting, Step, content_at, doctype_step, step_by, nest_step, Spot, spot_of, Scanning, Scanned, scan_from, read_byte, is_none_left, may_lead, steps_on, with_events, telling, no_step, progress_of, page_on, page_read, nothing_read, IsKept, is_kept, page_scan, page_append, page_last, page_byte_fault, from_there, LastByte, last_byte}
 use Rattle.rx_grammar.specs.Tokens as tokens
-use Rattle.rx_pages.specs.Nesting.{Event, Nesting, Step, content_at, doctype_step, step_by, nest_step}
-use Rattle.rx_pages.specs.PageReader.{Spot, spot_of, Scanning, Scanned, scan_from, read_byte, is_none_left, may_lead, steps_on, with_events, telling, no_step, progress_of, page_on, page_read, nothing_read}
-use Rattle.rx_pages.proofs.TokenWalk.{IsKept, is_kept}
-use Rattle.rx_pages.proofs.ScanSteps.{page_scan, page_append, page_last, page_byte_fault, from_there}
-use Rattle.rx_pages.proofs.LastToken.{LastByte, last_byte}
 use Rattle.rx_pages.proofs.Doctyped.{OneByte, one_byte, byte_leads}
 use Rattle.rx_pages.proofs.Leads.{scan_same}
 use Rattle.rx_tags.specs.declared.tags.Tag.{Tag}

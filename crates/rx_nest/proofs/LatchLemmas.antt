@@ -1,6 +1,5 @@
 -- What was answered comes again, and nothing is promised after it but that.
-use Rattle.std.proofs.Common.{◌≡◌, ◌≢◌, ◌∙◌, true, false, None, Some, Result, Ok, Err, refl, sym, ap}
-use Rattle.rx_grammar.specs.declared.stops.Stop.{Stop}
+use Rattle.rx_pages.proofs.Common.{◌≡◌, ◌≢◌, ◌∙◌, true, false, None, Some, Result, Ok, Err, refl, sym, ap, Stop}
 use Rattle.rx_grammar.specs.declared.stops.Stop.TheVariants as stop
 use Rattle.rx_scan.specs.Entries.{IsNoMemory}
 use Rattle.rx_scan.specs.Latches.{Latched, Repeats, latched_by}

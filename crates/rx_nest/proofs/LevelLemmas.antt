@@ -1,7 +1,5 @@
 -- The open elements, the innermost first, and how they change.
-use Rattle.rx_terms.proofs.Common.{◌≡◌, ◌∙◌, ℕ, zero, suc, ◌+◌, ◌<◌, ◌≤◌, Bool, true, List, [], ◌∷◌, ◌++◌, refl, ap, subst, length, slice_set, arith, if◌then◌else◌, get_or-set_other, by_test}
-use Rattle.std.proofs.Common.{nat_le}
-use Rattle.std.proofs.lemmas.List.{get_or-set_same, get_or_append_left, length-append}
+use Rattle.rx_grammar.proofs.Common.{◌≡◌, ◌∙◌, ℕ, zero, suc, ◌+◌, ◌<◌, ◌≤◌, Bool, true, List, [], ◌∷◌, ◌++◌, refl, ap, subst, length, slice_set, arith, nat_le, if◌then◌else◌, get_or-set_other, get_or-set_same, get_or_append_left, length-append, by_test}
 use Rattle.rx_nest.specs.Levels.{Level, Levels, no_level, innermost_first, kept}
 use Rattle.rx_pages.proofs.BytesOn.{over}
 

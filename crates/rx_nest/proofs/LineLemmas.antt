@@ -1,9 +1,5 @@
 -- What a tag does to the levels, it does to the open elements.
-use Rattle.rx_terms.proofs.Common.{◌≡◌, ◌∙◌, ℕ, suc, ◌+◌, Bool, true, false, cond, List, [], ◌∷◌, ◌++◌, append_assoc, append-nil, refl, sym, ap, length, arith, ◌&&◌, not, Chars, by_test}
-use Rattle.rx_grammar.proofs.Common.{Syntax, same, is_among, Place, is_html, enders, is_omissible, is_held, Line, inside_of, parent_of, after_start, under_start, after_end, is_innermost}
-use Rattle.rx_grammar.specs.Omission.{names_of, has_row}
-use Rattle.rx_grammar.specs.PageFaults.{is_no_line}
-use Rattle.rx_pages.specs.Nesting.{Event, ended_by_start, ended_under, ended_by_end}
+use Rattle.rx_pages.proofs.Common.{◌≡◌, ◌∙◌, ℕ, suc, ◌+◌, Bool, true, false, cond, List, [], ◌∷◌, ◌++◌, append_assoc, append-nil, refl, sym, ap, length, arith, ◌&&◌, not, Chars, by_test, Syntax, same, is_among, Place, is_html, enders, is_omissible, is_held, names_of, has_row, Line, inside_of, parent_of, after_start, under_start, after_end, is_innermost, is_no_line, Event, ended_by_start, ended_under, ended_by_end}
 use Rattle.rx_nest.specs.Levels.{Level, Levels, row_at, place_under, name_under, ends_by, kept, ended, one_if}
 use Rattle.rx_nest.specs.Lines.{is_none_open, is_named, kept_at_start, ended_at_start}
 use Rattle.rx_nest.specs.Signs.{Sign, finished, sees, finishing}

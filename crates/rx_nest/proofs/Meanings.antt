@@ -1,13 +1,6 @@
 -- The start tags that the grammar calls refused are those that the reader shows as refused.
-use Rattle.rx_terms.proofs.Common.{◌≡◌, ◌∙◌, ℕ, ◌+◌, ◌≤◌, ◌<◌, List, [], ◌∷◌, ◌++◌, length, take, drop, refl, sym, ap, ⊎_elim, Option, Some, None, Ok, arith, less_than_sign}
-use Rattle.rx_grammar.specs.declared.faults.Fault.{Fault}
-use Rattle.rx_grammar.specs.declared.limits.Limits.{Limits}
-use Rattle.rx_grammar.proofs.Common.{Line, Phase, Begun, Page, Tree}
-use Rattle.rx_pages.specs.Closings.{closed, IsWide, ClosedTells}
-use Rattle.rx_pages.specs.Fronts.{ReadsTo}
-use Rattle.rx_pages.specs.PageReader.{Progress, page_read}
+use Rattle.rx_pages.proofs.Common.{◌≡◌, ◌∙◌, ℕ, ◌+◌, ◌≤◌, ◌<◌, List, [], ◌∷◌, ◌++◌, length, take, drop, refl, sym, ap, ⊎_elim, Option, Some, None, Ok, arith, less_than_sign, Fault, Limits, Line, Phase, Begun, Page, Tree, closed, IsWide, ClosedTells, ReadsTo, Progress, page_read, nothing_unfinished}
 use Rattle.rx_pages.proofs.ClosedTold.{fronts_tell}
-use Rattle.rx_pages.proofs.Underway.{nothing_unfinished}
 use Rattle.rx_nest.specs.Fronts.{ShowsMore}
 use Rattle.rx_nest.specs.Signs.{Sign, sees, nothing_seen, signs_of}
 use Rattle.rx_nest.specs.Faults.{MeaningAt}

@@ -1,7 +1,5 @@
 -- Names are compared with words of ASCII as their bytes are.
-use Rattle.rx_terms.proofs.Common.{◌≡◌, ℕ, Bool, true, List, [], ◌∷◌, refl, chars, IsUtf8, list_all, and_parts, is_ascii, Chars, same-ascii}
-use Rattle.rx_grammar.proofs.Common.{is_among}
-use Rattle.rx_grammar.specs.Names.{row_among}
+use Rattle.rx_grammar.proofs.Common.{◌≡◌, ℕ, Bool, true, List, [], ◌∷◌, refl, chars, IsUtf8, list_all, and_parts, is_ascii, Chars, same-ascii, is_among, row_among}
 
 abbrev pub are_ascii : List Chars → Bool
 are_ascii names = list_all (list_all is_ascii) names

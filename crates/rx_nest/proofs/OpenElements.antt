@@ -1,16 +1,5 @@
 -- The open elements that are kept are those of the grammar's front, and a fault leaves them as they were.
-use Rattle.rx_terms.proofs.Common.{◌≡◌, ◌∙◌, ℕ, Bool, true, false, List, [], ◌∷◌, ◌++◌, refl, sym, ap, subst, append_assoc, Option, Result, None, Ok, Err}
-use Rattle.std.specs.Prelude.{take}
-use Rattle.rx_grammar.proofs.Common.{Entry, Syntax, values, next_of, Line, Phase, Begun}
-use Rattle.rx_grammar.specs.declared.faults.Fault.{Fault}
-use Rattle.rx_grammar.specs.declared.faults.Kind.{Kind}
-use Rattle.rx_grammar.specs.declared.limits.Limits.{Limits}
-use Rattle.rx_pages.specs.Nesting.{Event, Step}
-use Rattle.rx_pages.specs.PageReader.{Scanned, Progress, read_byte, scan_from, spot_of, steps_on, no_step, progress_of, nested_items, page_byte_on, page_on, page_read, nothing_read, telling, token_at}
-use Rattle.rx_pages.specs.Fronts.{ReadsTo}
-use Rattle.rx_pages.proofs.ScanSteps.{page_append}
-use Rattle.rx_pages.proofs.Underway.{reads_to, nothing_unfinished, unfinished_follows_front, ok_is}
-use Rattle.rx_grammar.specs.declared.stops.Stop.{Stop}
+use Rattle.rx_pages.proofs.Common.{◌≡◌, ◌∙◌, ℕ, Bool, true, false, List, [], ◌∷◌, ◌++◌, refl, sym, ap, subst, append_assoc, Option, Result, None, Ok, Err, take, Entry, Syntax, values, next_of, Line, Phase, Begun, Fault, Kind, Limits, Event, Step, Scanned, Progress, read_byte, scan_from, spot_of, steps_on, no_step, progress_of, nested_items, page_byte_on, page_on, page_read, nothing_read, telling, token_at, ReadsTo, page_append, reads_to, nothing_unfinished, unfinished_follows_front, ok_is, Stop}
 use Rattle.rx_grammar.specs.declared.stops.Stop.TheVariants as stop
 use Rattle.rx_tags.specs.declared.tags.Tag.{Tag}
 use Rattle.rx_tags.specs.Seen.{tag_seen}

@@ -1,7 +1,5 @@
 -- Names that stand in no table, or in one alone.
-use Rattle.rx_terms.proofs.Common.{◌≡◌, true, List, [], ◌∷◌, refl, sym, subst, ⊎_elim, Chars}
-use Rattle.std.proofs.lemmas.Bool.{or_cases}
-use Rattle.rx_grammar.proofs.Common.{is_among, same}
+use Rattle.rx_grammar.proofs.Common.{◌≡◌, true, List, [], ◌∷◌, refl, sym, subst, ⊎_elim, Chars, or_cases, is_among, same}
 use Rattle.rx_pages.proofs.Contents.{same_is}
 use Rattle.rx_nest.specs.Ordinary.{IsPlain, IsOrdinary, ordinary_names, omissible_names}
 

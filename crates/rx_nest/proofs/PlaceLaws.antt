@@ -1,14 +1,7 @@
 -- Where the faults lie that a piece of a page brings, and what stands before them.
-use Rattle.rx_terms.proofs.Common.{◌≡◌, ◌∙◌, ℕ, ◌+◌, ◌≤◌, ◌<◌, List, [], ◌∷◌, ◌++◌, length, take, drop, refl, sym, ap, subst, Option, Some, None, Result, Ok, arith, less_than_sign}
-use Rattle.rx_grammar.proofs.Common.{Syntax, Line, Phase, Item, Tree, Page}
-use Rattle.rx_grammar.specs.declared.faults.Fault.{Fault}
-use Rattle.rx_grammar.specs.declared.limits.Limits.{Limits}
-use Rattle.rx_pages.specs.Closings.{closed, IsWide, IsFront, Bare, AllEnd, ClosedTells}
-use Rattle.rx_pages.specs.Nesting.{Event, begins, says, finishes, Nesting, Goes, stands, goes}
-use Rattle.rx_pages.specs.PageReader.{Progress, page_read}
+use Rattle.rx_pages.proofs.Common.{◌≡◌, ◌∙◌, ℕ, ◌+◌, ◌≤◌, ◌<◌, List, [], ◌∷◌, ◌++◌, length, take, drop, refl, sym, ap, subst, Option, Some, None, Result, Ok, arith, less_than_sign, Syntax, Line, Phase, Item, Tree, Page, Fault, Limits, closed, IsWide, IsFront, Bare, AllEnd, ClosedTells, Event, begins, says, finishes, Nesting, Goes, stands, goes, Progress, page_read, read_size}
 use Rattle.rx_pages.proofs.ClosedTold.{fronts_tell}
 use Rattle.rx_nest.specs.Signs.{Sign, Sight, sees, nothing_seen, signs_of}
-use Rattle.rx_pages.proofs.Sizes.{read_size}
 use Rattle.rx_nest.proofs.TagPlaces.{shows_more}
 use Rattle.rx_nest.proofs.TextSteps.{sees_append}
 use Rattle.rx_nest.specs.RefusedTags.{ReaderRefuses}

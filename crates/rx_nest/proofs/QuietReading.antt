@@ -1,17 +1,7 @@
 -- What is read of a piece without `<` and `&` between two tokens: text.
-use Rattle.rx_terms.proofs.Common.{◌≡◌, ◌∙◌, ℕ, zero, suc, ◌<◌, Bool, true, false, List, [], ◌∷◌, ◌++◌, map, take, drop, refl, sym, ap, ap₂, subst, Option, None, Some, Result, Ok, Err, eqb-true, lit<, append_assoc, append-nil, ◌&&◌, ◌||◌, ◌==◌, not, nat_le, if◌then◌else◌, and_from, or_parts, append_cancel_left, map-append, less_than_sign, ampersand, greater_than_sign, Chars, by_test, split, both, untrue}
-use Rattle.rx_grammar.proofs.Common.{Syntax, More, Char, Bad, answer_of, Entry, byte_order_mark, line_feed, carriage_return, as_line_end, Tag, Token, tag, character, reference, kept, section, comment, doctype, has_references, is_text, values, Item, is_literal, is_line_feed, Phase, before, StartTag}
-use Rattle.rx_chars.specs.declared.utf8.Utf8Step.{Utf8Step}
-use Rattle.rx_grammar.specs.declared.contents.Content.{Content}
-use Rattle.rx_grammar.specs.declared.faults.Fault.{Fault}
-use Rattle.rx_grammar.specs.declared.faults.Kind.{Kind}
-use Rattle.rx_grammar.specs.declared.limits.Limits.{Limits}
-use Rattle.rx_pages.specs.Scanner.{Verdict, goes_on, whole, ended, refused, verdict, at_first}
+use Rattle.rx_pages.proofs.Common.{◌≡◌, ◌∙◌, ℕ, zero, suc, ◌<◌, Bool, true, false, List, [], ◌∷◌, ◌++◌, map, take, drop, refl, sym, ap, ap₂, subst, Option, None, Some, Result, Ok, Err, eqb-true, lit<, append_assoc, append-nil, ◌&&◌, ◌||◌, ◌==◌, not, nat_le, if◌then◌else◌, and_from, or_parts, append_cancel_left, map-append, less_than_sign, ampersand, greater_than_sign, Chars, by_test, split, both, untrue, Syntax, More, Char, Bad, answer_of, Entry, byte_order_mark, line_feed, carriage_return, as_line_end, Tag, Token, tag, character, reference, kept, section, comment, doctype, has_references, is_text, values, Item, is_literal, is_line_feed, Phase, before, StartTag, Utf8Step, Content, Fault, Kind, Limits, Verdict, goes_on, whole, ended, refused, verdict, at_first, Spot, spot_of, Scanning, starts_at, Scanned, first_of, token_at, is_doctype, item_of, is_too_long, completed, read_char, read_answer, read_byte, Progress, with_events, step_on, steps_on, no_step, progress_of, nested_items, page_byte_on, telling, page_on, page_read, nothing_read, page_append, Stop, token_of_item, equal}
 use Rattle.rx_pages.specs.Nesting.{Event, begins, says, finishes, Nesting, Step, nest_step, step_by, text_step, told as told_text, doctype_step}
 use Rattle.rx_pages.specs.PageReader as reader
-use Rattle.rx_pages.specs.PageReader.{Spot, spot_of, Scanning, starts_at, Scanned, first_of, token_at, is_doctype, item_of, is_too_long, completed, read_char, read_answer, read_byte, Progress, with_events, step_on, steps_on, no_step, progress_of, nested_items, page_byte_on, telling, page_on, page_read, nothing_read}
-use Rattle.rx_pages.proofs.ScanSteps.{page_append}
-use Rattle.rx_grammar.specs.declared.stops.Stop.{Stop}
 use Rattle.rx_grammar.specs.declared.stops.Stop.TheVariants as stop
 use Rattle.rx_scan.specs.Entries.{IsNoMemory}
 use Rattle.rx_scan.specs.Steps.{is_quiet}
@@ -29,8 +19,6 @@ use Rattle.rx_nest.specs.Readings.{OwesNone}
 use Rattle.rx_nest.specs.Listening.{is_calm}
 use Rattle.rx_nest.specs.Quiets.{HasMemory}
 use Rattle.rx_scan.proofs.QuietLemmas.{last_byte, begins_line}
-use Rattle.rx_pages.proofs.LastToken.{token_of_item}
-use Rattle.rx_reader.proofs.Fronts.{equal}
 
 unlike : (held : List ℕ) (byte c d : ℕ) → (byte == d) ≡ false → answer_of (held ++ byte ∷ []) ≡ Char c → (10 == d) ≡ false → d < 128 → (as_line_end c == d) ≡ false
 unlike held byte c d q e n l =

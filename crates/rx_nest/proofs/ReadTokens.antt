@@ -1,18 +1,7 @@
 -- What was taken of a piece, and what the elements made of it, is what the page's bytes lead to.
-use Rattle.rx_terms.proofs.Common.{◌≡◌, ◌≢◌, ◌∙◌, ⊎_elim, inl, inr, ℕ, ◌+◌, Bool, true, false, List, [], ◌∷◌, ◌++◌, refl, sym, ap, subst, length, append_assoc, append-nil, Some, Result, Ok, Err, ◌&&◌, if◌then◌else◌, chars, Chars, by_test}
-use Rattle.std.specs.Prelude.{◌⊎◌, map, take, drop, codes}
-use Rattle.rx_grammar.proofs.Common.{Syntax, Html, Xhtml, same, is_among, name_of_raw, Place, inside_html, in_html, html_in_svg, Item, Line, inside_of}
-use Rattle.rx_grammar.specs.declared.contents.Content.{Content}
+use Rattle.rx_pages.proofs.Common.{◌≡◌, ◌≢◌, ◌∙◌, ⊎_elim, inl, inr, ℕ, ◌+◌, Bool, true, false, List, [], ◌∷◌, ◌++◌, refl, sym, ap, subst, length, append_assoc, append-nil, Some, Result, Ok, Err, ◌&&◌, if◌then◌else◌, ◌⊎◌, map, take, drop, codes, chars, Chars, by_test, Syntax, Html, Xhtml, same, is_among, name_of_raw, Place, inside_html, in_html, html_in_svg, inside_at, inside_foreign, raw_place, raw_names, rcdata_names, Item, Line, inside_of, Content, RawName, Fault, Kind, Limits, Event, Nesting, Step, content_at, nest_step, Spot, spot_of, Scanning, scan_from, may_lead, Progress, Stop}
 use Rattle.rx_grammar.specs.declared.contents.Content.TheVariants as content
-use Rattle.rx_grammar.specs.declared.contents.RawName.{RawName}
-use Rattle.rx_grammar.specs.declared.faults.Fault.{Fault}
-use Rattle.rx_grammar.specs.declared.faults.Kind.{Kind}
-use Rattle.rx_grammar.specs.declared.limits.Limits.{Limits}
 use Rattle.rx_grammar.specs.Tokens as tokens
-use Rattle.rx_grammar.specs.Contents.{inside_at, inside_foreign, raw_place, raw_names, rcdata_names}
-use Rattle.rx_pages.specs.Nesting.{Event, Nesting, Step, content_at, nest_step}
-use Rattle.rx_pages.specs.PageReader.{Spot, spot_of, Scanning, scan_from, may_lead, Progress}
-use Rattle.rx_grammar.specs.declared.stops.Stop.{Stop}
 use Rattle.rx_grammar.specs.declared.stops.Stop.TheVariants as stop
 use Rattle.rx_tags.specs.declared.tags.Tag.{Tag}
 use Rattle.rx_tags.specs.Seen.{tag_seen}

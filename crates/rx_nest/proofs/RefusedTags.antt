@@ -1,13 +1,5 @@
 -- Behind a start tag that is refused nothing is unfinished.
-use Rattle.std.proofs.Common.{◌≡◌, ◌∙◌, ⊎_elim, ℕ, zero, suc, ◌+◌, ◌<◌, List, [], ◌∷◌, ◌++◌, length, take, refl, sym, ap, subst, append-nil, Option, Some, None, Result, Ok, Err, arith}
-use Rattle.std.proofs.lemmas.List.{length-append}
-use Rattle.rx_grammar.specs.declared.faults.Fault.{Fault}
-use Rattle.rx_grammar.specs.declared.faults.Kind.{Kind}
-use Rattle.rx_pages.specs.Nesting.{Step}
-use Rattle.rx_pages.specs.PageReader.{spot_of, Scanned, read_byte, Progress, steps_on, no_step, progress_of, nested_items, telling, page_on, page_read, nothing_read}
-use Rattle.rx_pages.specs.Fronts.{ReadsTo}
-use Rattle.rx_pages.proofs.ScanSteps.{page_append}
-use Rattle.rx_pages.proofs.Underway.{nothing_unfinished}
+use Rattle.rx_pages.proofs.Common.{◌≡◌, ◌∙◌, ⊎_elim, ℕ, zero, suc, ◌+◌, ◌<◌, List, [], ◌∷◌, ◌++◌, length, take, refl, sym, ap, subst, append-nil, Option, Some, None, Result, Ok, Err, arith, length-append, Fault, Kind, Step, spot_of, Scanned, read_byte, Progress, steps_on, no_step, progress_of, nested_items, telling, page_on, page_read, nothing_read, ReadsTo, page_append, nothing_unfinished}
 use Rattle.rx_nest.specs.Signs.{Sight, sees, nothing_seen, signs_of}
 use Rattle.rx_nest.proofs.TextSteps.{sees_append}
 use Rattle.rx_nest.proofs.TagPlaces.{shows_more}

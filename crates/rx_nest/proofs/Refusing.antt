@@ -1,11 +1,9 @@
 -- Where a fault lies that is one of a start tag, and which signs leave a page accepted.
-use Rattle.std.proofs.Common.{◌≡◌, ◌∙◌, append_assoc, append-nil, ap, sym, ℕ, ◌≤◌, List, [], ◌∷◌, ◌++◌, refl, Option, Some, None, ⊎_elim, arith}
-use Rattle.rx_grammar.specs.declared.faults.Fault.{Fault}
+use Rattle.rx_pages.proofs.Common.{◌≡◌, ◌∙◌, append_assoc, append-nil, ap, sym, ℕ, ◌≤◌, List, [], ◌∷◌, ◌++◌, refl, Option, Some, None, ⊎_elim, arith, Fault, Event}
 use Rattle.rx_nest.specs.Signs.{Sign, begun, said, finished, Sight, sees}
 use Rattle.rx_nest.specs.Fronts.{Lie}
 use Rattle.rx_nest.specs.Ways.{IsAtTag, IsAtOne, IsRefusal}
 use Rattle.rx_nest.proofs.TokenPlacing.{AllBegin, AllBegun, all_add}
-use Rattle.rx_pages.specs.Nesting.{Event}
 
 pub at_from : (from to : ℕ) (signs : List Sign) (fault : Fault) → Lie from to signs → IsAtOne fault signs → from ≤ fault.at
 at_from from to [] fault h o = absurd o

@@ -1,7 +1,5 @@
 -- The rows are of ASCII, and so are the names that choose a content.
-use Rattle.rx_terms.proofs.Common.{◌≡◌, ℕ, true, List, refl, chars, IsUtf8, same-ascii}
-use Rattle.std.specs.Prelude.{codes}
-use Rattle.rx_grammar.proofs.Common.{inside_html}
+use Rattle.rx_grammar.proofs.Common.{◌≡◌, ℕ, true, List, refl, chars, IsUtf8, same-ascii, codes, inside_html}
 use Rattle.rx_nest.specs.Rows.{row_seen}
 use Rattle.rx_nest.specs.declared.tables.OmittedEnd.{OmittedEnd}
 use Rattle.rx_nest.specs.declared.tables.OmittedEnd.TheVariants.{Item}

@@ -1,8 +1,5 @@
 -- What the events of a page show is what its tree shows.
-use Rattle.rx_terms.proofs.Common.{◌≡◌, ◌∙◌, ℕ, zero, suc, Bool, true, false, List, [], ◌∷◌, ◌++◌, refl, sym, ap, subst, length, append_assoc, append-nil, if◌then◌else◌, map-append, Chars, by_test}
-use Rattle.std.specs.Prelude.{map}
-use Rattle.rx_grammar.proofs.Common.{StartTag, Tree, end, element, text, after_text, shown}
-use Rattle.rx_pages.specs.Nesting.{Event, begins, says, finishes, told_trees, with_element, with_text}
+use Rattle.rx_pages.proofs.Common.{◌≡◌, ◌∙◌, ℕ, zero, suc, Bool, true, false, List, [], ◌∷◌, ◌++◌, refl, sym, ap, subst, length, append_assoc, append-nil, if◌then◌else◌, map, map-append, Chars, by_test, StartTag, Tree, end, element, text, after_text, shown, Event, begins, says, finishes, told_trees, with_element, with_text}
 use Rattle.rx_nest.specs.Signs.{Sign, begun, said, finished, Flags, is_hidden, Sight, see, sees, nothing_seen, signs_of}
 
 -- what an element's end shows

@@ -1,13 +1,6 @@
 -- What a nest has shown to begin, and not to end, are the open elements that the tree shows.
-use Rattle.rx_terms.proofs.Common.{◌≡◌, ◌∙◌, ℕ, Bool, true, false, List, [], ◌∷◌, ◌++◌, refl, sym, ap, subst, append_assoc, append-nil, Option, Some, None, Result, Ok, Err, ◌&&◌, ◌||◌, not, if◌then◌else◌, Chars, by_test, split}
-use Rattle.std.specs.Prelude.{map}
-use Rattle.rx_grammar.proofs.Common.{Syntax, same, is_among, Tag, Token, tag, character, reference, kept, section, comment, doctype, is_alone, is_html, hides, StartTag, Item, is_line_feed, start_of, enders, is_omissible, is_held, Line, inside_of, parent_of, Phase, before, within, first_row, tag_rows, under_start, after_start, after_end}
-use Rattle.rx_grammar.specs.declared.faults.Fault.{Fault}
-use Rattle.rx_grammar.specs.declared.faults.Kind.{Kind}
-use Rattle.rx_grammar.specs.declared.limits.Limits.{Limits}
+use Rattle.rx_pages.proofs.Common.{◌≡◌, ◌∙◌, ℕ, Bool, true, false, List, [], ◌∷◌, ◌++◌, refl, sym, ap, subst, append_assoc, append-nil, Option, Some, None, Result, Ok, Err, ◌&&◌, ◌||◌, not, if◌then◌else◌, map, Chars, by_test, split, Syntax, same, is_among, Tag, Token, tag, character, reference, kept, section, comment, doctype, is_alone, is_html, hides, StartTag, Item, is_line_feed, start_of, enders, is_omissible, is_held, Line, inside_of, parent_of, Phase, before, within, first_row, tag_rows, under_start, after_start, after_end, Fault, Kind, Limits, Scanned, Progress, spot_of, read_byte, with_events, step_on, steps_on, no_step, progress_of, nested_items, page_byte_on, telling, page_on, page_read, nothing_read, reads_to, is_underway, ok_is}
 use Rattle.rx_pages.specs.Nesting.{Event, begins, says, finishes, Nesting, not_begun, Step, nest_step, step_by, unless_refused, tag_passes, begun_under, over, line_above, text_step, told, doctype_step, going_on, ended_by_start, ended_under, ended_by_end}
-use Rattle.rx_pages.specs.PageReader.{Scanned, Progress, spot_of, read_byte, with_events, step_on, steps_on, no_step, progress_of, nested_items, page_byte_on, telling, page_on, page_read, nothing_read}
-use Rattle.rx_pages.proofs.Underway.{reads_to, is_underway, ok_is}
 use Rattle.rx_nest.specs.Signs.{Sign, begun, said, finished, Flags, is_hidden, Sight, see, sees, ended_sight, nothing_seen}
 use Rattle.rx_nest.specs.ShownLines.{tag_of, is_hidden_in, shown_line, outer, open_on, open_after, StandsUnderway, ShowsOpenOnes}
 use Rattle.rx_nest.proofs.TextSteps.{sees_append}

@@ -1,15 +1,6 @@
 -- Where a page's reading stands, and where its fault is.
-use Rattle.rx_terms.proofs.Common.{◌≡◌, ◌∙◌, ⊎_elim, inl, inr, append-nil, ℕ, ◌+◌, ◌≤◌, ◌<◌, List, [], ◌∷◌, ◌++◌, refl, sym, ap, subst, length, length-append, append_assoc, Result, Ok, Err, arith, append_cancel_left}
-use Rattle.std.specs.Prelude.{◌⊎◌, ◌-◌, take}
-use Rattle.rx_grammar.proofs.Common.{Syntax, FaultAt}
-use Rattle.rx_grammar.specs.declared.faults.Fault.{Fault}
-use Rattle.rx_grammar.specs.declared.limits.Limits.{Limits}
-use Rattle.rx_pages.specs.Nesting.{Event}
-use Rattle.rx_pages.specs.PageReader.{Spot, Progress, Reading, spot_of, page_byte, page_byte_on, telling, page_on, page_read, nothing_read, end_of}
-use Rattle.rx_pages.proofs.FaultWalk.{fault_stays}
-use Rattle.rx_pages.proofs.OnlyPages.{found_fault}
-use Rattle.rx_pages.proofs.Sizes.{AllSized, all_sized, read_size}
-use Rattle.rx_pages.proofs.ScanSteps.{page_append}
+use Rattle.rx_pages.proofs.Common.{append_cancel_left, ◌⊎◌, ◌-◌, take, Syntax, FaultAt, Fault, Limits, Event, Spot, Progress, Reading, spot_of, page_byte, page_byte_on, telling, page_on, page_read, nothing_read, end_of, fault_stays, found_fault, AllSized, all_sized, read_size, page_append}
+use Rattle.std.proofs.Common.{◌≡◌, ◌∙◌, ⊎_elim, inl, inr, append-nil, ℕ, ◌+◌, ◌≤◌, ◌<◌, List, [], ◌∷◌, ◌++◌, refl, sym, ap, subst, length, length-append, append_assoc, Result, Ok, Err, arith}
 use Rattle.rx_nest.specs.Nests.{Faults, NoneYet, Stops}
 use Rattle.rx_pages.proofs.FaultFronts.{faults_follow_fronts}
 

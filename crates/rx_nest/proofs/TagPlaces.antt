@@ -1,16 +1,8 @@
 -- Where the tags stand that some bytes show.
-use Rattle.rx_terms.proofs.Common.{◌≡◌, ◌∙◌, ℕ, ◌+◌, ◌≤◌, ◌<◌, List, [], ◌∷◌, ◌++◌, suc, refl, sym, ap, subst, length, length-append, append_assoc, append-nil, Result, Ok, Err, arith}
-use Rattle.rx_grammar.proofs.Common.{Syntax, StartTag}
-use Rattle.rx_grammar.specs.declared.faults.Fault.{Fault}
-use Rattle.rx_grammar.specs.declared.faults.Kind.{Kind}
-use Rattle.rx_grammar.specs.declared.limits.Limits.{Limits}
-use Rattle.rx_pages.specs.Nesting.{Event, Step}
-use Rattle.rx_pages.specs.PageReader.{spot_of, Scanned, token_at, read_byte, Progress, steps_on, no_step, progress_of, nested_items, page_byte_on, telling, page_on, page_read, nothing_read}
-use Rattle.rx_pages.proofs.ByteFacts.{byte_is}
-use Rattle.rx_pages.proofs.ScanSteps.{page_append}
+use Rattle.rx_pages.proofs.Common.{Syntax, StartTag, Fault, Kind, Limits, Event, Step, spot_of, Scanned, token_at, read_byte, Progress, steps_on, no_step, progress_of, nested_items, page_byte_on, telling, page_on, page_read, nothing_read, byte_is, page_append, read_size}
+use Rattle.std.proofs.Common.{◌≡◌, ◌∙◌, ℕ, ◌+◌, ◌≤◌, ◌<◌, List, [], ◌∷◌, ◌++◌, suc, refl, sym, ap, subst, length, length-append, append_assoc, append-nil, Result, Ok, Err, arith}
 use Rattle.rx_nest.specs.Signs.{Sign, begun, said, finished, Sight, sees, nothing_seen}
 use Rattle.rx_nest.specs.Fronts.{Lie, ShowsMore}
-use Rattle.rx_pages.proofs.Sizes.{read_size}
 use Rattle.rx_nest.proofs.TextSteps.{sees_append}
 use Rattle.rx_nest.proofs.TokenPlacing.{After, AllBegin, AllBegun, StepBegins, TagAt, all_add, begin_append, begin_such, byte_tags, items_such}
 

@@ -1,11 +1,5 @@
 -- A tag is taken as the tables of nesting say.
-use Rattle.rx_terms.proofs.Common.{◌≡◌, ◌∙◌, ⊎_elim, ℕ, Bool, true, false, cond, List, [], ◌∷◌, ◌++◌, append_assoc, append-nil, refl, sym, ap, subst, length, Option, Some, None, Result, Ok, Err, ◌&&◌, ◌||◌, not, if◌then◌else◌, Chars, by_test}
-use Rattle.std.proofs.Common.{nat_le}
-use Rattle.std.specs.Prelude.{drop}
-use Rattle.rx_grammar.proofs.Common.{Syntax, Tag, tag, Place, is_alone, hides, drops_line_feed, place_in, StartTag, Item, start_of, is_held, Line, inside_of, within, Rows, first_row, start_rows, end_rows, under_start, after_end, has_ended, is_before}
-use Rattle.rx_grammar.specs.declared.faults.Kind.{Kind}
-use Rattle.rx_grammar.specs.declared.faults.Kind.TheVariants.{TooDeep, NothingOpen, Mismatch}
-use Rattle.rx_pages.specs.Nesting.{Nesting, Event, begins, finishes, Step, nest_step, step_by, unless_refused, over, line_above, ended_under, ended_by_end, begun_under, tag_passes}
+use Rattle.rx_pages.proofs.Common.{◌≡◌, ◌∙◌, ⊎_elim, ℕ, Bool, true, false, cond, List, [], ◌∷◌, ◌++◌, append_assoc, append-nil, refl, sym, ap, subst, length, Option, Some, None, Result, Ok, Err, nat_le, ◌&&◌, ◌||◌, not, if◌then◌else◌, drop, Chars, by_test, Syntax, Tag, tag, Place, is_alone, hides, drops_line_feed, place_in, StartTag, Item, start_of, is_held, Line, inside_of, within, Rows, first_row, start_rows, end_rows, under_start, after_end, has_ended, is_before, Kind, TooDeep, NothingOpen, Mismatch, Nesting, Event, begins, finishes, Step, nest_step, step_by, unless_refused, over, line_above, ended_under, ended_by_end, begun_under, tag_passes}
 use Rattle.rx_nest.specs.declared.lines.TagEffect.{TagEffect}
 use Rattle.rx_nest.specs.declared.lines.Refused.{Refused}
 use Rattle.rx_nest.specs.declared.lines.Refused.TheVariants.{Fault, NoMemory}

@@ -1,10 +1,6 @@
 -- Tokens of text leave the elements as they are, and show their text.
-use Rattle.rx_terms.proofs.Common.{◌≡◌, ◌∙◌, Bool, true, false, List, [], ◌∷◌, ◌++◌, refl, sym, ap, append_assoc, append-nil, Option, Some, Ok, ◌&&◌, if◌then◌else◌, map-append, and_from, Chars, untrue}
-use Rattle.std.specs.Prelude.{map}
-use Rattle.rx_grammar.proofs.Common.{Syntax, Token, character, reference, kept, section, comment, Item, text_of, is_line_feed, Phase, within}
-use Rattle.rx_grammar.specs.declared.limits.Limits.{Limits}
+use Rattle.rx_pages.proofs.Common.{◌≡◌, ◌∙◌, Bool, true, false, List, [], ◌∷◌, ◌++◌, refl, sym, ap, append_assoc, append-nil, Option, Some, Ok, ◌&&◌, if◌then◌else◌, map, map-append, and_from, Chars, untrue, Syntax, Token, character, reference, kept, section, comment, Item, text_of, is_line_feed, Phase, within, Limits, Spot, spot_of, is_none_left, steps_on, no_step, with_events}
 use Rattle.rx_pages.specs.Nesting.{Nesting, Event, Step, going_on, told, text_step, step_by, nest_step}
-use Rattle.rx_pages.specs.PageReader.{Spot, spot_of, is_none_left, steps_on, no_step, with_events}
 use Rattle.rx_pages.proofs.ScanSteps.{Stays, one_step}
 use Rattle.rx_scan.specs.Steps.{joined, texts_of, keeps_first}
 use Rattle.rx_nest.specs.Signs.{Sign, said, Flags, is_hidden, Sight, see, sees}

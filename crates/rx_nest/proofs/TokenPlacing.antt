@@ -1,28 +1,12 @@
 -- Before each start tag that is shown stands the front of a page.
-use Rattle.rx_terms.proofs.Common.{◌≡◌, ◌∙◌, ℕ, zero, suc, ◌+◌, ◌<◌, ◌≤◌, Bool, true, false, List, [], ◌∷◌, ◌++◌, map, refl, sym, ap, subst, length, length-append, append_assoc, append-nil, Option, Some, None, Result, Ok, Err, arith, take, inl, inr, ⊎_elim, ◌&&◌, ◌||◌, ◌==◌, not, nat_le, if◌then◌else◌, greater_than_sign, less_than_sign, ampersand, Chars, by_test, split}
-use Rattle.std.specs.Prelude.{◌⊎◌}
-use Rattle.rx_grammar.proofs.Common.{Syntax, More, Char, Bad, answer_of, Entry, byte_order_mark, line_feed, carriage_return, as_line_end, StartTag, Tag, Token, tag, character, reference, kept, section, comment, doctype, is_alone, is_html, has_references, is_text, start_of, values, Item, is_literal, is_line_feed, same, is_among, enders, is_omissible, is_held, Line, inside_of, parent_of, Phase, before, first_row, tag_rows, under_start}
-use Rattle.rx_chars.specs.declared.utf8.Utf8Step.{Utf8Step}
-use Rattle.rx_grammar.specs.declared.contents.Content.{Content}
-use Rattle.rx_grammar.specs.declared.faults.Fault.{Fault}
-use Rattle.rx_grammar.specs.declared.faults.Kind.{Kind}
-use Rattle.rx_grammar.specs.declared.faults.Kind.TheVariants.{NotUtf8, PageTooLong, Unended}
-use Rattle.rx_grammar.specs.declared.limits.Limits.{Limits}
-use Rattle.rx_pages.specs.Closings.{IsFront}
-use Rattle.rx_pages.specs.Scanner.{Verdict, goes_on, whole, ended, refused, verdict, at_first}
+use Rattle.rx_pages.proofs.Common.{◌&&◌, ◌||◌, ◌==◌, not, nat_le, if◌then◌else◌, ◌⊎◌, greater_than_sign, less_than_sign, ampersand, Chars, by_test, split, Syntax, More, Char, Bad, answer_of, Entry, byte_order_mark, line_feed, carriage_return, as_line_end, StartTag, Tag, Token, tag, character, reference, kept, section, comment, doctype, is_alone, is_html, has_references, is_text, start_of, values, Item, is_literal, is_line_feed, same, is_among, enders, is_omissible, is_held, Line, inside_of, parent_of, Phase, before, first_row, tag_rows, under_start, Utf8Step, Content, Fault, Kind, NotUtf8, PageTooLong, Unended, Limits, IsFront, Verdict, goes_on, whole, ended, refused, verdict, at_first, Spot, spot_of, Scanning, starts_at, Scanned, first_of, token_at, is_doctype, item_of, is_too_long, told_first, with_item, after_token, read_char, read_answer, read_byte, Progress, Reading, with_events, step_on, steps_on, no_step, progress_of, nested_items, page_byte_on, telling, page_on, page_read, nothing_read, end_of, may_end, fault_in, is_none_left, found_fault, page_append, IsKept, is_kept, read_size, item_first, item_last, token_of_item}
+use Rattle.std.proofs.Common.{◌≡◌, ◌∙◌, ℕ, zero, suc, ◌+◌, ◌<◌, ◌≤◌, Bool, true, false, List, [], ◌∷◌, ◌++◌, map, refl, sym, ap, subst, length, length-append, append_assoc, append-nil, Option, Some, None, Result, Ok, Err, arith, take, inl, inr, ⊎_elim}
 use Rattle.rx_pages.specs.Nesting.{Event, begins, says, finishes, Nesting, Step, nest_step, step_by, unless_refused, tag_passes, begun_under, text_step, told as told_text, doctype_step, ended_by_start, ended_under, ended_by_end}
 use Rattle.rx_pages.specs.PageReader as reader
-use Rattle.rx_pages.specs.PageReader.{Spot, spot_of, Scanning, starts_at, Scanned, first_of, token_at, is_doctype, item_of, is_too_long, told_first, with_item, after_token, read_char, read_answer, read_byte, Progress, Reading, with_events, step_on, steps_on, no_step, progress_of, nested_items, page_byte_on, telling, page_on, page_read, nothing_read, end_of, may_end, fault_in, is_none_left}
 use Rattle.rx_pages.proofs.EndedRuns.{ended_kept}
 use Rattle.rx_pages.proofs.FaultFronts.{faults_follow_fronts}
-use Rattle.rx_pages.proofs.OnlyPages.{found_fault}
-use Rattle.rx_pages.proofs.ScanSteps.{page_append}
-use Rattle.rx_pages.proofs.TokenWalk.{IsKept, is_kept}
 use Rattle.rx_nest.specs.Signs.{Sign, begun, said, finished, Flags, Sight, is_hidden, see, sees, nothing_seen}
-use Rattle.rx_pages.proofs.Sizes.{read_size}
 use Rattle.rx_nest.specs.Ways.{Way, IsAtTag, IsAtOne, IsRefusal}
-use Rattle.rx_pages.proofs.ByteFacts.{item_first, item_last}
-use Rattle.rx_pages.proofs.LastToken.{token_of_item}
 
 -- a start tag from this offset to that of the byte that completes it
 pub record TagAt (n at : ℕ) (t : StartTag) : Type 0 where

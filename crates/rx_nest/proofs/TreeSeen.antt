@@ -1,15 +1,6 @@
 -- The events of a page end each element that they begin, so what they show is the tree.
-use Rattle.rx_terms.proofs.Common.{◌≡◌, ◌∙◌, ℕ, Bool, true, false, List, [], ◌∷◌, ◌++◌, refl, sym, ap, subst, length, append_assoc, Option, Some, None, Result, Ok, ◌&&◌, not, if◌then◌else◌, Chars, by_test}
-use Rattle.rx_grammar.proofs.Common.{Syntax, same, is_among, Tag, Token, tag, character, reference, kept, section, comment, doctype, is_alone, is_html, hides, drops_line_feed, StartTag, Tree, Item, start_of, is_line_feed, enders, is_omissible, is_held, Line, inside_of, parent_of, Phase, before, within, after, Page, first_row, tag_rows, start_rows, end_rows, under_start, after_start, after_end, is_innermost}
-use Rattle.rx_grammar.specs.declared.faults.Fault.{Fault}
-use Rattle.rx_grammar.specs.declared.faults.Kind.{Kind}
-use Rattle.rx_grammar.specs.declared.faults.Kind.TheVariants.{NothingOpen, Mismatch}
-use Rattle.rx_grammar.specs.declared.limits.Limits.{Limits}
-use Rattle.rx_grammar.specs.PageFaults.{is_no_line}
+use Rattle.rx_pages.proofs.Common.{◌≡◌, ◌∙◌, ℕ, Bool, true, false, List, [], ◌∷◌, ◌++◌, refl, sym, ap, subst, length, append_assoc, Option, Some, None, Result, Ok, ◌&&◌, not, if◌then◌else◌, Chars, by_test, Syntax, same, is_among, Tag, Token, tag, character, reference, kept, section, comment, doctype, is_alone, is_html, hides, drops_line_feed, StartTag, Tree, Item, start_of, is_line_feed, enders, is_omissible, is_held, Line, inside_of, parent_of, Phase, before, within, after, Page, first_row, tag_rows, start_rows, end_rows, under_start, after_start, after_end, is_innermost, is_no_line, Fault, Kind, NothingOpen, Mismatch, Limits, Progress, page_read, end_of, page_is_told, read_page}
 use Rattle.rx_pages.specs.Nesting.{Event, begins, finishes, Nesting, Step, going_on, told, text_step, doctype_step, over, line_above, begun_under, ended_by_start, ended_under, ended_by_end, tag_passes, unless_refused, step_by, Goes, stands, goes, IsAt}
-use Rattle.rx_pages.specs.PageReader.{Progress, page_read, end_of}
-use Rattle.rx_pages.proofs.PageRead.{page_is_told}
-use Rattle.rx_pages.proofs.OnlyPages.{read_page}
 use Rattle.rx_nest.specs.Signs.{sees, nothing_seen, signs_of}
 use Rattle.rx_nest.proofs.SeenTrees.{Ends, tree_is_seen}
 

@@ -1,8 +1,6 @@
 -- What becomes of a reading, turn by turn.
 use Rattle.std.proofs.Common.{◌+◌, ◌≡◌, ◌∙◌, ℕ, zero, suc, ◌<◌, true, List, [], ◌++◌, length, take, drop, refl, sym, ap, subst, Option, Some, None, Ok, Err, arith, length-append, length-take, append-nil, append_assoc}
-use Rattle.rx_grammar.specs.declared.faults.Fault.{Fault}
-use Rattle.rx_grammar.specs.Trees.{StartTag}
-use Rattle.rx_grammar.specs.declared.stops.Stop.{Stop}
+use Rattle.rx_pages.proofs.Common.{Fault, StartTag, Stop}
 use Rattle.rx_grammar.specs.declared.stops.Stop.TheVariants as stop
 use Rattle.rx_nest.specs.declared.nests.Event.{Event}
 use Rattle.rx_nest.specs.declared.tree_tokens.PendingEvents.{PendingEvents}

@@ -1,16 +1,6 @@
 -- Bytes that are read are read alike under wider limits of tag and page.
-use Rattle.rx_terms.proofs.Common.{◌≡◌, ◌∙◌, ℕ, ◌+◌, ◌≤◌, Bool, true, false, cond, List, [], ◌∷◌, ◌++◌, refl, sym, ap, subst, Result, Ok, Err, arith, nat_tests, ◌&&◌, ◌||◌, ◌==◌, not}
-use Rattle.std.proofs.Common.{nat_le}
-use Rattle.rx_grammar.proofs.Common.{Syntax, More, Char, Bad, answer_of, Entry, byte_order_mark, line_feed, carriage_return, as_line_end, values, Item, is_known_tag}
-use Rattle.rx_chars.specs.declared.utf8.Utf8Step.{Utf8Step}
-use Rattle.rx_grammar.specs.declared.faults.Fault.{Fault}
-use Rattle.rx_grammar.specs.declared.faults.Kind.{Kind}
-use Rattle.rx_grammar.specs.declared.faults.Kind.TheVariants.{PageTooLong, TagTooLong}
-use Rattle.rx_grammar.specs.declared.limits.Limits.{Limits}
-use Rattle.rx_pages.specs.Scanner.{Verdict, goes_on, whole, ended, refused, verdict}
+use Rattle.rx_pages.proofs.Common.{◌≡◌, ◌∙◌, ℕ, ◌+◌, ◌≤◌, Bool, true, false, cond, List, [], ◌∷◌, ◌++◌, refl, sym, ap, subst, Result, Ok, Err, arith, nat_le, nat_tests, ◌&&◌, ◌||◌, ◌==◌, not, Syntax, More, Char, Bad, answer_of, Entry, byte_order_mark, line_feed, carriage_return, as_line_end, values, Item, is_known_tag, Utf8Step, Fault, Kind, PageTooLong, TagTooLong, Limits, Verdict, goes_on, whole, ended, refused, verdict, Spot, spot_of, Scanning, starts_at, Scanned, first_of, token_at, item_of, is_too_long, told_first, with_item, after_token, read_entry, read_char, read_answer, read_byte, Progress, nested_items, telling, page_byte_on, page_on, page_read, nothing_read, fault_stays}
 use Rattle.rx_pages.specs.PageReader as reader
-use Rattle.rx_pages.specs.PageReader.{Spot, spot_of, Scanning, starts_at, Scanned, first_of, token_at, item_of, is_too_long, told_first, with_item, after_token, read_entry, read_char, read_answer, read_byte, Progress, nested_items, telling, page_byte_on, page_on, page_read, nothing_read}
-use Rattle.rx_pages.proofs.FaultWalk.{fault_stays}
 
 -- what is read is the same
 abbrev Same : Result Scanned Kind → Result Scanned Kind → Type 0

@@ -2,10 +2,7 @@
 use Rattle.std.specs.Prelude.{◌≡◌, ◌<◌, ◌+◌, ℕ, List, ◌++◌, length, take, Some, None}
 use Rattle.rx_grammar.specs.declared.faults.Fault.{Fault}
 use Rattle.rx_grammar.specs.declared.limits.Limits.{Limits}
-use Rattle.rx_grammar.specs.Begun.{Line, Phase, Begun}
-use Rattle.rx_grammar.specs.PageFaults.{FaultAt}
-use Rattle.rx_grammar.specs.Pages.{Page}
-use Rattle.rx_grammar.specs.Trees.{Tree}
+use Rattle.rx_grammar.specs.Common.{Line, Phase, Begun, FaultAt, Page, Tree}
 use Rattle.rx_pages.specs.Closings.{closed, IsWide}
 use Rattle.rx_grammar.specs.declared.stops.Stop.{Stop}
 use Rattle.rx_grammar.specs.declared.stops.Stop.TheVariants as stop

@@ -1,11 +1,6 @@
 -- The open elements that are kept are those of the page's tokens.
 use Rattle.std.specs.Prelude.{◌≡◌, Bool, false, List, [], ◌∷◌, map, if◌then◌else◌}
-use Rattle.rx_chars.specs.declared.syntax.Syntax.{Syntax}
-use Rattle.rx_grammar.specs.Trees.{StartTag}
-use Rattle.rx_grammar.specs.Tokens.{Token, tag}
-use Rattle.rx_grammar.specs.Items.{Item, start_of}
-use Rattle.rx_grammar.specs.Omission.{is_held}
-use Rattle.rx_grammar.specs.Begun.{Line, inside_of, parent_of, Phase, before, within, after}
+use Rattle.rx_grammar.specs.Common.{Syntax, StartTag, Token, tag, Item, start_of, is_held, Line, inside_of, parent_of, Phase, before, within, after}
 use Rattle.rx_pages.specs.Nesting.{Nesting}
 use Rattle.rx_nest.specs.declared.lines.TagAction.{TagAction}
 use Rattle.rx_nest.specs.declared.lines.TagAction.TheVariants.{Alone, Begin, Finish, Nothing}

@@ -1,11 +1,8 @@
 -- The open elements, as they are kept: of each its name and what its ancestors make of it. The innermost stands first.
 use Rattle.std.specs.Prelude.{◌≡◌, ℕ, zero, suc, ◌+◌, Bool, false, not, ◌&&◌, List, [], ◌∷◌, Option, None, slice_index_or, take, option_map, if◌then◌else◌}
-use Rattle.rx_terms.specs.Text.{Chars}
-use Rattle.rx_grammar.specs.Names.{same, is_among, row_of}
-use Rattle.rx_grammar.specs.Contents.{Place, outside, is_html}
+use Rattle.rx_grammar.specs.Common.{Chars, same, is_among, row_of, Place, outside, is_html, names_of, has_row}
 use Rattle.rx_nest.specs.declared.levels.Traits.{Traits}
 use Rattle.rx_nest.specs.Rows.{row_seen}
-use Rattle.rx_grammar.specs.Omission.{names_of, has_row}
 
 -- Of an open element: its name; the place inside; the start tags that end it, where its end tag may be omitted; whether it is a p that its parent's
 -- end doesn't end; whether it is in the page's tree, and whether what it holds isn't.

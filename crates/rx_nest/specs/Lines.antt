@@ -1,14 +1,7 @@
 -- What a tag does to the open elements.
 use Rattle.std.specs.Prelude.{◌≡◌, ◌⊎◌, ℕ, Bool, true, false, not, ◌&&◌, ◌||◌, nat_le, [], ◌∷◌, length, drop, Some, None, Result, Ok, Err, if◌then◌else◌}
-use Rattle.rx_terms.specs.Text.{Chars}
-use Rattle.rx_chars.specs.declared.syntax.Syntax.{Syntax}
+use Rattle.rx_grammar.specs.Common.{Chars, Syntax, same, Tag, place_in, is_alone, is_html, is_plaintext, is_self_closed, hides, drops_line_feed, is_held, root_name, Rows, first_row}
 use Rattle.rx_grammar.specs.declared.faults.Kind.TheVariants.{Mismatch, NothingOpen, Outside, Plaintext, RootNotHtml, SelfClosed, TooDeep}
-use Rattle.rx_grammar.specs.Names.{same}
-use Rattle.rx_grammar.specs.Tokens.{Tag}
-use Rattle.rx_grammar.specs.Contents.{place_in, is_alone, is_html, is_plaintext, is_self_closed, hides, drops_line_feed}
-use Rattle.rx_grammar.specs.Omission.{is_held}
-use Rattle.rx_grammar.specs.Pages.{root_name}
-use Rattle.rx_grammar.specs.PageFaults.{Rows, first_row}
 use Rattle.rx_nest.specs.declared.lines.TagAction.{TagAction}
 use Rattle.rx_nest.specs.declared.lines.TagAction.TheVariants.{Alone, Begin, Finish, Nothing}
 use Rattle.rx_nest.specs.declared.lines.TagEffect.{TagEffect}

@@ -1,9 +1,7 @@
 -- The open elements that a nest keeps, and so its depth, are those of the grammar.
 use Rattle.std.specs.Prelude.{◌≡◌, ℕ, List, length, None}
-use Rattle.rx_chars.specs.Characters.{Entry}
-use Rattle.rx_chars.specs.declared.syntax.Syntax.{Syntax}
+use Rattle.rx_grammar.specs.Common.{Entry, Syntax, Line, Phase, Begun}
 use Rattle.rx_grammar.specs.declared.limits.Limits.{Limits}
-use Rattle.rx_grammar.specs.Begun.{Line, Phase, Begun}
 use Rattle.rx_pages.specs.Fronts.{IsUnderway}
 use Rattle.rx_nest.specs.Lines.{Lines}
 use Rattle.rx_nest.specs.Follows.{AreLevels}

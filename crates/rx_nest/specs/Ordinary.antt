@@ -1,12 +1,8 @@
 -- Names that stand in no table of HTML: an element of such a name holds HTML, and only its end tag ends it. And names that
 -- stand in the table of omitted end tags alone.
 use Rattle.std.specs.Prelude.{◌≡◌, false, List, [], ◌∷◌, None, codes}
-use Rattle.rx_terms.specs.Text.{Chars}
-use Rattle.rx_chars.specs.declared.syntax.Syntax.{Syntax}
-use Rattle.rx_chars.specs.declared.syntax.Syntax.TheVariants.{Html}
+use Rattle.rx_grammar.specs.Common.{Chars, Syntax, Html, in_html, inside_html, is_foreign_root, is_void, is_among, row_of, same}
 use Rattle.rx_grammar.specs.declared.contents.Content.TheVariants as content
-use Rattle.rx_grammar.specs.Contents.{in_html, inside_html, is_foreign_root, is_void}
-use Rattle.rx_grammar.specs.Names.{is_among, row_of, same}
 use Rattle.rx_nest.specs.Levels.{Levels, place_under}
 
 -- those of them that most pages have most often

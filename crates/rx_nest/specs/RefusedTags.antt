@@ -1,9 +1,7 @@
 -- A start tag that is refused for what it means, by the grammar and by the reader.
 use Rattle.std.specs.Prelude.{◌≡◌, ◌↔◌, ◌+◌, ℕ, List, ◌++◌, take, Some, None, Ok}
 use Rattle.rx_grammar.specs.declared.faults.Fault.{Fault}
-use Rattle.rx_grammar.specs.Pages.{Page}
-use Rattle.rx_grammar.specs.Trees.{Tree}
-use Rattle.rx_grammar.specs.Begun.{Line, Phase, Begun}
+use Rattle.rx_grammar.specs.Common.{Page, Tree, Line, Phase, Begun}
 use Rattle.rx_pages.specs.PageReader.{Progress, page_read}
 use Rattle.rx_nest.specs.Signs.{sees, nothing_seen, signs_of}
 use Rattle.rx_nest.specs.Ways.{Way, IsAtOne, IsRefusal}

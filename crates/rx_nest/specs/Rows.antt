@@ -1,7 +1,6 @@
 -- The rows of the table of end tags that may be omitted.
 use Rattle.std.specs.Prelude.{List, [], ◌∷◌, codes}
-use Rattle.rx_terms.specs.Text.{Chars}
-use Rattle.rx_grammar.specs.Names.{table_parts, paragraph_enders}
+use Rattle.rx_grammar.specs.Common.{Chars, table_parts, paragraph_enders}
 use Rattle.rx_nest.specs.declared.tables.OmittedEnd.{OmittedEnd}
 use Rattle.rx_nest.specs.declared.tables.OmittedEnd.TheVariants.{Item, Definition, Paragraph, Choice, Part, TableRow, Cell}
 

@@ -1,12 +1,7 @@
 -- The open elements that the tree shows: what a template holds is no part of it.
 use Rattle.std.specs.Prelude.{◌≡◌, ◌||◌, Bool, false, ℕ, List, [], ◌∷◌, if◌then◌else◌}
-use Rattle.rx_chars.specs.Characters.{Entry}
-use Rattle.rx_chars.specs.declared.syntax.Syntax.{Syntax}
+use Rattle.rx_grammar.specs.Common.{Entry, Syntax, Tag, hides, StartTag, Line, inside_of, Phase}
 use Rattle.rx_grammar.specs.declared.limits.Limits.{Limits}
-use Rattle.rx_grammar.specs.Tokens.{Tag}
-use Rattle.rx_grammar.specs.Contents.{hides}
-use Rattle.rx_grammar.specs.Trees.{StartTag}
-use Rattle.rx_grammar.specs.Begun.{Line, inside_of, Phase}
 use Rattle.rx_pages.specs.Fronts.{IsUnderway}
 use Rattle.rx_nest.specs.Signs.{Sign, begun, said, finished}
 use Rattle.rx_nest.specs.Nests.{Nested, NestStands}

@@ -1,10 +1,9 @@
 -- How a page is read, and which of its start tags are refused for what they mean.
 use Rattle.std.specs.Prelude.{◌≡◌, ◌⊎◌, List, [], ◌∷◌, ◌++◌, Option, Some, None}
 use Rattle.std.proofs.Common.{refl, sym, subst}
-use Rattle.rx_chars.specs.declared.syntax.Syntax.{Syntax}
+use Rattle.rx_grammar.specs.Common.{Syntax, StartTag}
 use Rattle.rx_grammar.specs.declared.faults.Fault.{Fault}
 use Rattle.rx_grammar.specs.declared.limits.Limits.{Limits}
-use Rattle.rx_grammar.specs.Trees.{StartTag}
 use Rattle.rx_nest.specs.Signs.{Sign, begun, said, finished}
 
 -- a page's syntax and limits, and the fault of the first start tag among some signs of it that is refused

@@ -1,9 +1,6 @@
 //! What the grammar says of the names of elements.
 ghost use Rattle.std.specs.Prelude.{◌≡◌, ◌==◌, true, option_map, codes, [], ◌∷◌};
-ghost use Rattle.std.specs.List.{list_any};
-ghost use Rattle.rx_terms.specs.Ascii.{hyphen};
-ghost use Rattle.std.specs.Str.{chars};
-ghost use Rattle.rx_grammar.specs.Names.{same, is_among};
+ghost use Rattle.rx_grammar.specs.Common.{list_any, hyphen, chars, same, is_among};
 ghost use Rattle.rx_grammar.specs.Names as the_names;
 ghost use Rattle.rx_grammar.specs.Contents as contents;
 ghost use Rattle.rx_grammar.specs.Omission as omission;

@@ -1,9 +1,7 @@
 //! What a tag does to the open elements.
 ghost use Rattle.std.specs.Prelude.{◌≡◌, OnOk, true, false, nat_le, length, not, ◌&&◌, if◌then◌else◌, option_map};
 ghost use Rattle.rx_grammar.specs.Contents as contents;
-ghost use Rattle.rx_grammar.specs.Names.{row_of};
-ghost use Rattle.rx_grammar.specs.Omission.{is_held};
-ghost use Rattle.rx_grammar.specs.PageFaults.{first_row};
+ghost use Rattle.rx_grammar.specs.Common.{row_of, is_held, first_row};
 ghost use Rattle.rx_tags.specs.Seen.{tag_seen};
 ghost use Rattle.rx_nest.specs.Levels as levels;
 ghost use Rattle.rx_nest.specs.Rows.{row_seen};

@@ -1,9 +1,5 @@
 -- The names of the blank nodes of a document: its labels are free, and its places are below their number.
-use Rattle.rx_terms.proofs.Common.{◌≤◌, ◌<◌, ℕ, suc, ◌+◌, List, [], ◌∷◌, refl, inl, inr, subst, arith}
-use Rattle.rx_model.proofs.Common.{Among, Node, Iri, Blank, Term, Resource, Literal, Triple, set_of, blank_of_node, blank_of_term, Has, Among_cases}
-use Rattle.rx_notation.specs.Short.{Prefixes}
-use Rattle.rx_notation.specs.Syntax.{Subject, Named, Labelled, Sort, Object, Objects, Items, Predicates, Further, Part, IriOrLabel, Quoted, Anonymous, Nil, Bracketed, Collection, Single, Comma, Last, Item, Predicate, Done, Semicolon, Also, Statement}
-use Rattle.rx_notation.specs.Meaning.{predicate_of, unlabelled, Of, node_of, term_of, triples, all_triples, Name, Label, Place}
+use Rattle.rx_notation.proofs.Common.{◌≤◌, ◌<◌, ℕ, suc, ◌+◌, List, [], ◌∷◌, refl, inl, inr, subst, arith, Among, Node, Iri, Blank, Term, Resource, Literal, Triple, set_of, blank_of_node, blank_of_term, Has, Among_cases, Prefixes, Subject, Named, Labelled, Sort, Object, Objects, Items, Predicates, Further, Part, IriOrLabel, Quoted, Anonymous, Nil, Bracketed, Collection, Single, Comma, Last, Item, Predicate, Done, Semicolon, Also, Statement, predicate_of, unlabelled, Of, node_of, term_of, triples, all_triples, Name, Label, Place}
 use Rattle.rx_notation.proofs.Spelled.{GoodSubject, Good, GoodStatement}
 
 abbrev pub all_unlabelled : List Statement → ℕ

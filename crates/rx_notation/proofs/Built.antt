@@ -1,19 +1,9 @@
 -- The parts of the nested document are good ones.
-use Rattle.rx_terms.proofs.Common.{◌≡◌, ℕ, zero, suc, ◌<◌, ◌^◌, Bool, true, false, cond, List, [], ◌∷◌, bytes_eq, refl, sym, inl, inr, subst, Chars, IsIri}
-use Rattle.rx_model.proofs.Common.{Among, Kind, Plain, Tagged, Typed, Node, Iri, Blank, Term, Resource, Literal, Triple, set_of, spo, rdf_type, rdf_first, rdf_rest, rdf_nil}
-use Rattle.rx_pieces.specs.Writable.{WritableKind, IsWritable}
-use Rattle.rx_shapes.specs.Shapes.{Inner, Cell, IsShape, HaveShapes}
-use Rattle.rx_shapes.specs.declared.shapes.Shape.{Shape}
+use Rattle.rx_notation.proofs.Common.{◌≡◌, ℕ, zero, suc, ◌<◌, ◌^◌, Bool, true, false, cond, List, [], ◌∷◌, bytes_eq, refl, sym, inl, inr, subst, Chars, IsIri, Among, Kind, Plain, Tagged, Typed, Node, Iri, Blank, Term, Resource, Literal, Triple, set_of, spo, rdf_type, rdf_first, rdf_rest, rdf_nil, WritableKind, IsWritable, Inner, Cell, IsShape, HaveShapes, Shape, Prefixes, predicates_of, objects_of, Named, By, Type_of, Object, Items, Part, IriOrLabel, Nil, predicate_says, object_says, reference_to, verb_of, suffix_of, objects_after, some_objects, predicates_after, some_predicates, bracketed, object_by, cells, node_by, written, CellOf, cell_of, cell_inner, Enough, none_left, child_enough}
 use Rattle.rx_shapes.specs.declared.shapes.Shape.TheVariants as shape
-use Rattle.rx_notation.specs.Short.{Prefixes}
-use Rattle.rx_shapes.specs.Subjects.{predicates_of, objects_of}
-use Rattle.rx_notation.specs.Syntax.{Named, By, Type_of, Object, Items, Part, IriOrLabel, Nil}
-use Rattle.rx_shapes.proofs.Grouped.{predicate_says, object_says}
-use Rattle.rx_notation.specs.Nesting.{reference_to, verb_of, suffix_of, objects_after, some_objects, predicates_after, some_predicates, bracketed, object_by, cells, node_by, written}
 use Rattle.rx_notation.proofs.Spelled.{GoodVerb, GoodSuffix, Good}
 use Rattle.rx_notation.proofs.Declared.{good_reference}
 use Rattle.rx_notation.proofs.CellParts.{cell_last, cell_more}
-use Rattle.rx_shapes.proofs.CellLemmas.{CellOf, cell_of, cell_inner, Enough, none_left, child_enough}
 
 -- ---- lists of parts
 

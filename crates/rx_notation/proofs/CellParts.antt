@@ -1,10 +1,5 @@
 -- A cell of a list in the document: its item, and what comes after it.
-use Rattle.rx_terms.proofs.Common.{◌≡◌, ◌∙◌, ℕ, List, [], ◌∷◌, ◌++◌, refl, ap, ap₂, inl}
-use Rattle.rx_model.proofs.Common.{Among, Iri, Blank, Term, Resource, Triple, rdf_first, rdf_rest, rdf_nil}
-use Rattle.rx_shapes.specs.Subjects.{objects_of}
-use Rattle.rx_shapes.proofs.CellLemmas.{CellOf, first_some, first_each, rest_some, rest_each}
-use Rattle.rx_notation.specs.Syntax.{Object, Items, Part, Last, Item}
-use Rattle.rx_notation.specs.Nesting.{one_object, items_by, cells}
+use Rattle.rx_notation.proofs.Common.{◌≡◌, ◌∙◌, ℕ, List, [], ◌∷◌, ◌++◌, refl, ap, ap₂, inl, Among, Iri, Blank, Term, Resource, Triple, rdf_first, rdf_rest, rdf_nil, objects_of, CellOf, first_some, first_each, rest_some, rest_each, Object, Items, Part, Last, Item, one_object, items_by, cells}
 use Rattle.rx_notation.proofs.Means.{in_term, in_cells}
 
 head_is : (os : List (Term ℕ)) (x : Term ℕ) → Among os x → ((o : Term ℕ) → Among os o → o ≡ x) → (more : List (Term ℕ)) × (os ≡ x ∷ more)

@@ -1,8 +1,5 @@
 -- The prefixes that a text uses.
-use Rattle.rx_terms.proofs.Common.{◌≡◌, ◌∙◌, ◌⊎◌, ℕ, Bool, true, false, cond, List, [], ◌∷◌, ◌++◌, map, filter, flat_map, length, drop, Option, Some, None, bytes_eq, refl, sym, ap, ap₂, inl, inr, subst, true≢false, arith, and_parts, and_from, nat_tests, Chars, begins_with}
-use Rattle.std.proofs.Common.{not, ◌||◌, ◌==◌}
-use Rattle.rx_model.proofs.Common.{Among, IsExact, contains, Triple, Among_filter, Among_of_filter, Among_of_filter_map, Among-contains, Among_by_contains, Among_map, Among_of_map, false_unless, or_left, or_right, exact_texts}
-use Rattle.rx_model.proofs.Sets.{Among_filter_map}
+use Rattle.rx_model.proofs.Common.{◌≡◌, ◌∙◌, ◌⊎◌, ℕ, Bool, true, false, cond, List, [], ◌∷◌, ◌++◌, map, filter, flat_map, length, drop, Option, Some, None, bytes_eq, refl, sym, ap, ap₂, inl, inr, subst, true≢false, arith, not, ◌||◌, ◌==◌, and_parts, and_from, nat_tests, Chars, begins_with, Among, IsExact, contains, Triple, Among_filter, Among_of_filter, Among_of_filter_map, Among-contains, Among_by_contains, Among_map, Among_of_map, false_unless, or_left, or_right, Among_filter_map, exact_texts}
 use Rattle.rx_notation.specs.Short.{Prefix, Prefixes, is_before, is_prefix_name, is_local_name, local_name, shortens, is_preferred, preferred, best, prefix_of}
 use Rattle.rx_notation.specs.Layout.{iris_of, used, same_prefix, those_among, placed, in_byte_order, prefixes_used}
 use Rattle.rx_notation.specs.Spelling.{names_differ}

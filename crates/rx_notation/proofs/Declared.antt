@@ -1,14 +1,6 @@
 -- The prefixes that a document declares are those of its short forms.
-use Rattle.rx_terms.proofs.Common.{◌≡◌, ◌∙◌, ℕ, Bool, true, false, cond, List, [], ◌∷◌, ◌++◌, filter, flat_map, codes, Option, Some, None, bytes_eq, refl, sym, ap, inl, inr, subst, and_from, Chars, IsIri}
-use Rattle.std.proofs.Common.{◌&&◌}
-use Rattle.rx_model.proofs.Common.{Among, contains, Kind, Typed, rdf_type, Among_filter, Among_of_filter, Among-contains, Among_by_contains, Among_cases, Among_left, Among_right, exact_texts}
-use Rattle.rx_nquads.specs.Quads.{kind_of, proper_kind}
-use Rattle.rx_notation.specs.Short.{Prefix, Prefixes, is_prefix_name, local_name, prefix_of}
-use Rattle.rx_notation.specs.Layout.{in_byte_order}
-use Rattle.rx_notation.specs.Syntax.{Reference, Full, Short, Subject, Named, Labelled, Verb, By, Type_of, Suffix, Datatype, Sort, Part, IriOrLabel, Quoted, Anonymous, Nil, Bracketed, Collection, Single, Comma, Last, Item, Predicate, Done, Semicolon, Also, Statement}
-use Rattle.rx_notation.specs.Meaning.{iri_of, is_known, is_known_subject, is_known_verb, is_known_suffix, all_known, are_known, predicate_of, kind_by}
+use Rattle.rx_notation.proofs.Common.{◌≡◌, ◌∙◌, ℕ, Bool, true, false, cond, List, [], ◌∷◌, ◌++◌, filter, flat_map, codes, Option, Some, None, bytes_eq, refl, sym, ap, inl, inr, subst, ◌&&◌, and_from, Chars, IsIri, Among, contains, Kind, Typed, rdf_type, Among_filter, Among_of_filter, Among-contains, Among_by_contains, Among_cases, Among_left, Among_right, exact_texts, kind_of, proper_kind, Prefix, Prefixes, is_prefix_name, local_name, prefix_of, in_byte_order, Reference, Full, Short, Subject, Named, Labelled, Verb, By, Type_of, Suffix, Datatype, Sort, Part, IriOrLabel, Quoted, Anonymous, Nil, Bracketed, Collection, Single, Comma, Last, Item, Predicate, Done, Semicolon, Also, Statement, iri_of, is_known, is_known_subject, is_known_verb, is_known_suffix, all_known, are_known, predicate_of, kind_by, reference_by, reference_to, verb_of, suffix_of, name_in, names_of_subject, names_of_verb, names_of_suffix, piece_names, prefixes_named}
 use Rattle.rx_notation.proofs.Chosen.{Apart, Agree, prefix_fits, front_and_rest, known_there, of_ordered, ordered_there, apart_filter, apart_ordered}
-use Rattle.rx_notation.specs.Nesting.{reference_by, reference_to, verb_of, suffix_of, name_in, names_of_subject, names_of_verb, names_of_suffix, piece_names, prefixes_named}
 use Rattle.rx_notation.specs.Writing.{Piece, words, subject, verb, quoted, inside_gap, line_gap, pieces, all_pieces}
 use Rattle.rx_notation.proofs.Spelled.{GoodReference, GoodSubject, GoodVerb, GoodSuffix, Good, GoodStatement}
 

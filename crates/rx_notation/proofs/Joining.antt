@@ -1,7 +1,5 @@
 -- Texts of tokens, joined.
-use Rattle.rx_terms.proofs.Common.{◌≡◌, true, List, [], ◌∷◌, ◌++◌, refl, sym, ap, subst, append_assoc, Chars}
-use Rattle.rx_notation.specs.Grammar.{Token}
-use Rattle.rx_notation.specs.Spelling.{SpellsToken, is_gap, SpellsBehind, SpellsTokens}
+use Rattle.rx_notation.proofs.Common.{◌≡◌, true, List, [], ◌∷◌, ◌++◌, refl, sym, ap, subst, append_assoc, Chars, Token, SpellsToken, is_gap, SpellsBehind, SpellsTokens}
 
 -- the text begins with the first of some tokens
 abbrev pub Opens : Chars → List Token → Type 0

@@ -1,13 +1,6 @@
 -- The document of the flat layout, and that the layout is its text.
-use Rattle.rx_terms.proofs.Common.{◌≡◌, ◌∙◌, ℕ, Bool, true, false, cond, List, [], ◌∷◌, ◌++◌, map, flat_map, codes, Option, Some, None, bytes_eq, refl, sym, ap, ap₂, inl, inr, append_assoc, and_from, Chars}
-use Rattle.rx_model.proofs.Common.{Among, Kind, Typed, Node, Iri, Blank, Term, Resource, Literal, Triple, rdf_type}
-use Rattle.rx_pieces.specs.Writing.{string_text}
-use Rattle.rx_shapes.specs.Subjects.{subjects, objects_of, predicates_of}
-use Rattle.rx_shapes.proofs.Grouped.{subject_says, predicate_says}
-use Rattle.rx_notation.specs.Short.{Prefix, Prefixes, prefix_of}
+use Rattle.rx_notation.proofs.Common.{◌≡◌, ◌∙◌, ℕ, Bool, true, false, cond, List, [], ◌∷◌, ◌++◌, map, flat_map, codes, Option, Some, None, bytes_eq, refl, sym, ap, ap₂, inl, inr, append_assoc, and_from, Chars, Among, Kind, Typed, Node, Iri, Blank, Term, Resource, Literal, Triple, rdf_type, string_text, subjects, objects_of, predicates_of, subject_says, predicate_says, Prefix, Prefixes, prefix_of, Type_of, By, Object, Part, IriOrLabel, Quoted, Statement, Document, is_flat, are_flat, reference_by, reference_to, verb_of, suffix_of, subject_of, objects_after, some_objects, predicates_after, some_predicates, said_of}
 use Rattle.rx_notation.specs.Layout as flat
-use Rattle.rx_notation.specs.Syntax.{Type_of, By, Object, Part, IriOrLabel, Quoted, Statement, Document, is_flat, are_flat}
-use Rattle.rx_notation.specs.Nesting.{reference_by, reference_to, verb_of, suffix_of, subject_of, objects_after, some_objects, predicates_after, some_predicates, said_of}
 use Rattle.rx_notation.specs.Writing.{Piece, words, reference_text, subject_text, verb_text, suffix_text, inside_gap, line_gap, pieces, statement_pieces, all_pieces, document_text}
 use Rattle.rx_notation.proofs.Spelled.{texts}
 

@@ -1,19 +1,6 @@
 -- The layout denotes its triples.
-use Rattle.rx_terms.proofs.Common.{◌≡◌, ◌↔◌, ℕ, Bool, true, false, cond, List, [], ◌∷◌, ◌++◌, map, flat_map, None, bytes_eq, refl, sym, ap, ap₂, inl, inr, subst, Chars, IsIri}
-use Rattle.rx_model.proofs.Common.{Among, Kind, Plain, Tagged, Typed, Node, Iri, Blank, Term, Resource, Literal, Triple, spo, rdf_type, Among_left, Among_right, Among_flat_map, Among_of_map}
-use Rattle.rx_nquads.specs.Quads.{IsProper, proper_triple}
-use Rattle.rx_pieces.specs.Writable.{WritableNode, WritableKind, WritableTerm, IsWritable}
+use Rattle.rx_notation.proofs.Common.{◌≡◌, ◌↔◌, ℕ, Bool, true, false, cond, List, [], ◌∷◌, ◌++◌, map, flat_map, None, bytes_eq, refl, sym, ap, ap₂, inl, inr, subst, Chars, IsIri, Among, Kind, Plain, Tagged, Typed, Node, Iri, Blank, Term, Resource, Literal, Triple, spo, rdf_type, Among_left, Among_right, Among_flat_map, Among_of_map, IsProper, proper_triple, WritableNode, WritableKind, WritableTerm, IsWritable, Prefix, Prefixes, iris_of_node, iris_of_kind, iris_of_term, iris_of_predicate, iris_of, prefixes_used, turtle, subjects, predicates_of, objects_of, subject_there, subject_says, predicate_says, object_says, Named, Labelled, By, Type_of, IriOrLabel, Statement, document_tokens, SpellsTokens, Turtle, are_known, all_triples, reference_to, subject_of, verb_of, suffix_of, names_used, IsContext, LayoutDenotes}
 use Rattle.rx_nquads.proofs.Proper.{proper_stays}
-use Rattle.rx_notation.specs.Short.{Prefix, Prefixes}
-use Rattle.rx_notation.specs.Layout.{iris_of_node, iris_of_kind, iris_of_term, iris_of_predicate, iris_of, prefixes_used, turtle}
-use Rattle.rx_shapes.specs.Subjects.{subjects, predicates_of, objects_of}
-use Rattle.rx_shapes.proofs.Grouped.{subject_there, subject_says, predicate_says, object_says}
-use Rattle.rx_notation.specs.Syntax.{Named, Labelled, By, Type_of, IriOrLabel, Statement}
-use Rattle.rx_notation.specs.Grammar.{document_tokens}
-use Rattle.rx_notation.specs.Spelling.{SpellsTokens}
-use Rattle.rx_notation.specs.Meaning.{Turtle, are_known, all_triples}
-use Rattle.rx_notation.specs.Nesting.{reference_to, subject_of, verb_of, suffix_of, names_used}
-use Rattle.rx_notation.specs.Laws.{IsContext, LayoutDenotes}
 use Rattle.rx_notation.proofs.Chosen.{Apart, Agree, names_apart, apart_names, used_apart, used_of, used_fits, used_there, none_used, declared_agree}
 use Rattle.rx_notation.proofs.Spelled.{GoodPrefix, GoodReference, GoodSubject, GoodVerb, GoodSuffix, Good, GoodStatement, document_spelled}
 use Rattle.rx_notation.proofs.Declared.{declared_reference, known_by, reference_means}

@@ -19,3 +19,4 @@ pub mod NestedMeaning
 pub mod Unfolded
 pub mod Stated
 pub mod CellParts
+pub mod Common

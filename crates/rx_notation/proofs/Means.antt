@@ -1,16 +1,7 @@
 -- What the nested parts of a document mean.
-use Rattle.rx_terms.proofs.Common.{◌≡◌, ◌∙◌, ◌⊎◌, ◌↔◌, ℕ, zero, suc, ◌+◌, Bool, true, false, cond, List, [], ◌∷◌, ◌++◌, flat_map, length, bytes_eq, refl, sym, ap, inl, inr, subst, arith, append-nil, and_parts, Chars}
-use Rattle.std.proofs.Common.{◌&&◌}
+use Rattle.rx_notation.proofs.Common.{◌≡◌, ◌∙◌, ◌⊎◌, ◌↔◌, ℕ, zero, suc, ◌+◌, Bool, true, false, cond, List, [], ◌∷◌, ◌++◌, flat_map, length, bytes_eq, refl, sym, ap, inl, inr, subst, arith, append-nil, ◌&&◌, and_parts, Chars, Among, Kind, Node, Iri, Blank, Term, Resource, Literal, Triple, spo, Among_left, Among_right, Among_cases, exact_texts, rdf_first, rdf_rest, rdf_nil, proper_term, proper_triple, Shape, Prefixes, predicates_of, objects_of, Named, Labelled, Sort, Object, Objects, Predicates, Further, Part, IriOrLabel, Quoted, Nil, Single, Comma, Predicate, Done, Also, is_known_verb, all_known, predicate_of, unlabelled, term_of, triples, reference_to, verb_of, suffix_of, objects_after, some_objects, predicates_after, object_by}
 use Rattle.std.proofs.lemmas.List.{length-append}
-use Rattle.rx_model.proofs.Common.{Among, Kind, Node, Iri, Blank, Term, Resource, Literal, Triple, spo, Among_left, Among_right, Among_cases, exact_texts, rdf_first, rdf_rest, rdf_nil}
-use Rattle.rx_nquads.specs.Quads.{proper_term, proper_triple}
-use Rattle.rx_shapes.specs.declared.shapes.Shape.{Shape}
 use Rattle.rx_shapes.specs.declared.shapes.Shape.TheVariants as shape
-use Rattle.rx_notation.specs.Short.{Prefixes}
-use Rattle.rx_shapes.specs.Subjects.{predicates_of, objects_of}
-use Rattle.rx_notation.specs.Syntax.{Named, Labelled, Sort, Object, Objects, Predicates, Further, Part, IriOrLabel, Quoted, Nil, Single, Comma, Predicate, Done, Also}
-use Rattle.rx_notation.specs.Meaning.{is_known_verb, all_known, predicate_of, unlabelled, term_of, triples}
-use Rattle.rx_notation.specs.Nesting.{reference_to, verb_of, suffix_of, objects_after, some_objects, predicates_after, object_by}
 use Rattle.rx_notation.proofs.Chosen.{Agree}
 use Rattle.rx_notation.proofs.Declared.{reference_means, verb_means, kind_means}
 

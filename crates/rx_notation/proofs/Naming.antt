@@ -1,8 +1,5 @@
 -- The triples of a document under other names of its blank nodes.
-use Rattle.rx_terms.proofs.Common.{◌≡◌, ◌∙◌, ℕ, suc, ◌+◌, true, List, [], ◌∷◌, ◌++◌, map, refl, sym, ap, ap₂, inl, inr, subst, true≢false, and_parts, map-append, Chars}
-use Rattle.rx_model.proofs.Common.{Among, Node, Iri, Blank, Term, Resource, Literal, Triple, set_of, spo, rename_node, rename_term, rename, blank_of_node, blank_of_term, blanks_of, Has, Among_map, Among_of_map, Among_cases}
-use Rattle.rx_notation.specs.Short.{Prefixes}
-use Rattle.rx_notation.specs.Syntax.{Subject, Named, Labelled, Sort, Object, Objects, Items, Predicates, Further, Part, IriOrLabel, Quoted, Anonymous, Nil, Bracketed, Collection, Single, Comma, Last, Item, Predicate, Done, Semicolon, Also, Statement, is_flat, are_flat}
+use Rattle.rx_notation.proofs.Common.{◌≡◌, ◌∙◌, ℕ, suc, ◌+◌, true, List, [], ◌∷◌, ◌++◌, map, refl, sym, ap, ap₂, inl, inr, subst, true≢false, and_parts, map-append, Chars, Among, Node, Iri, Blank, Term, Resource, Literal, Triple, set_of, spo, rename_node, rename_term, rename, blank_of_node, blank_of_term, blanks_of, Has, Among_map, Among_of_map, Among_cases, Prefixes, Subject, Named, Labelled, Sort, Object, Objects, Items, Predicates, Further, Part, IriOrLabel, Quoted, Anonymous, Nil, Bracketed, Collection, Single, Comma, Last, Item, Predicate, Done, Semicolon, Also, Statement, is_flat, are_flat}
 use Rattle.rx_notation.specs.Meaning.{rdf_first, rdf_rest, rdf_nil, predicate_of, unlabelled, Of, node_of, term_of, triples, all_triples, Name, Label, Place, FlatIsNested}
 
 triple_path : {B : Type 0} (p : Chars) {s r : Node B} {o q : Term B} → s ≡ r → o ≡ q → spo s p o ≡ spo r p q

@@ -1,32 +1,15 @@
 -- The nested text denotes its list.
-use Rattle.rx_terms.proofs.Common.{◌≡◌, ◌∙◌, ◌⊎◌, ◌↔◌, ◌<◌, ℕ, zero, suc, ◌+◌, nat_eq, true, List, [], ◌∷◌, map, filter, length, codes, refl, sym, ap, inl, inr, subst, true≢false, arith, Chars}
-use Rattle.rx_model.proofs.Common.{Among, Node, Iri, Blank, Term, Triple, same_node, same_triple, set_of, spo, rename, Has, Among_filter, Among_of_filter, Among_map, Among_of_map, exact_numbers, exact_triples}
-use Rattle.rx_shapes.specs.Shapes.{Inner, IsShape, HaveShapes}
-use Rattle.rx_shapes.specs.declared.shapes.Shape.{Shape}
+use Rattle.rx_notation.proofs.Common.{◌≡◌, ◌∙◌, ◌⊎◌, ◌↔◌, ◌<◌, ℕ, zero, suc, ◌+◌, nat_eq, true, List, [], ◌∷◌, map, filter, length, codes, refl, sym, ap, inl, inr, subst, true≢false, arith, Chars, Among, Node, Iri, Blank, Term, Triple, same_node, same_triple, set_of, spo, rename, Has, Among_filter, Among_of_filter, Among_map, Among_of_map, exact_numbers, exact_triples, Inner, IsShape, HaveShapes, Shape, Prefix, Prefixes, subjects, predicates_of, objects_of, Object, Part, Statement, Spells, are_known, all_triples, Name, Label, Place, NestedTurtle, IsContext, proper_triple, IsWritable, same_nodes, subject_there, subject_says, predicate_says, object_says, subject_of, object_by, written, is_top, is_top_by, statement_of, names_used, prefixes_named, document_of, nested, Piece, words, line_gap, pieces, all_pieces, Differ, cell_inner, Enough, first_enough}
+use Rattle.rx_notation.proofs.Spelled.{GoodPrefix, GoodSubject, Good, GoodStatement, document_spelled}
 use Rattle.rx_shapes.specs.declared.shapes.Shape.TheVariants as shape
-use Rattle.rx_notation.specs.Short.{Prefix, Prefixes}
-use Rattle.rx_shapes.specs.Subjects.{subjects, predicates_of, objects_of}
-use Rattle.rx_notation.specs.Syntax.{Object, Part, Statement}
-use Rattle.rx_notation.specs.Spelling.{Spells}
-use Rattle.rx_notation.specs.Meaning.{are_known, all_triples, Name, Label, Place, NestedTurtle}
-use Rattle.rx_notation.specs.Laws.{IsContext}
-use Rattle.rx_nquads.specs.Quads.{proper_triple}
-use Rattle.rx_pieces.specs.Writable.{IsWritable}
 use Rattle.rx_notation.proofs.Chosen.{Apart, names_apart, apart_names, Agree, declared_agree}
-use Rattle.rx_notation.proofs.Spelled.{GoodPrefix}
-use Rattle.rx_shapes.proofs.Grouped.{same_nodes, subject_there, subject_says, predicate_says, object_says}
 use Rattle.rx_notation.proofs.Naming.{triples_renamed}
-use Rattle.rx_notation.specs.Nesting.{subject_of, object_by, written, is_top, is_top_by, statement_of, names_used, prefixes_named, document_of, nested}
-use Rattle.rx_notation.specs.Writing.{Piece, words, line_gap, pieces, all_pieces}
 use Rattle.rx_notation.specs.Writing as piece
 use Rattle.rx_notation.specs.NestedLaws.{NestedDenotes}
-use Rattle.rx_notation.proofs.Spelled.{GoodSubject, Good, GoodStatement, document_spelled}
 use Rattle.rx_notation.proofs.Declared.{subject_names, Proper, proper_more, part_names, none_named, known_by, named_there, of_named, named_apart, good_reference}
-use Rattle.rx_shapes.proofs.Heights.{Differ}
 use Rattle.rx_notation.proofs.Means.{in_term, NamedSo, Under, Means}
 use Rattle.rx_notation.proofs.Stated.{SaidTop, size_of, said_top, stated}
 use Rattle.rx_notation.proofs.Nodes.{all_mean, term_means}
-use Rattle.rx_shapes.proofs.CellLemmas.{cell_inner, Enough, first_enough}
 use Rattle.rx_notation.proofs.Built.{Free, all_good, object_good, line_good, some_predicates_good}
 use Rattle.rx_notation.proofs.Bounds.{all_unlabelled, BoundName, names_bound}
 use Rattle.rx_notation.proofs.Once.{nodes_at, below_all, below_inner, below_differ}

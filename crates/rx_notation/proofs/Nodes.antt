@@ -1,20 +1,9 @@
 -- What nodes mean that are written where they are used.
-use Rattle.rx_terms.proofs.Common.{◌≡◌, ◌∙◌, ◌⊎◌, ◌↔◌, ℕ, zero, suc, ◌+◌, List, [], ◌∷◌, ◌++◌, length, refl, sym, ap, inl, inr, subst, arith, and_parts, Chars}
+use Rattle.rx_notation.proofs.Common.{◌≡◌, ◌∙◌, ◌⊎◌, ◌↔◌, ℕ, zero, suc, ◌+◌, List, [], ◌∷◌, ◌++◌, length, refl, sym, ap, inl, inr, subst, arith, and_parts, Chars, Among, Node, Iri, Blank, Term, Resource, Literal, Triple, set_of, spo, Among_left, Among_right, Among_cases, rdf_first, rdf_rest, rdf_nil, proper_term, proper_triple, Inner, Cell, IsShape, HaveShapes, Shape, Prefixes, predicates_of, objects_of, Sort, Object, Items, Predicates, Part, Last, Item, all_known, unlabelled, term_of, triples, predicate_there, object_there, predicate_says, object_says, predicates_after, bracketed, object_by, cells, node_by, written, CellOf, cell_of, cell_inner, Enough, none_left, child_enough}
 use Rattle.std.proofs.lemmas.List.{length-append}
-use Rattle.rx_model.proofs.Common.{Among, Node, Iri, Blank, Term, Resource, Literal, Triple, set_of, spo, Among_left, Among_right, Among_cases, rdf_first, rdf_rest, rdf_nil}
-use Rattle.rx_nquads.specs.Quads.{proper_term, proper_triple}
-use Rattle.rx_shapes.specs.Shapes.{Inner, Cell, IsShape, HaveShapes}
-use Rattle.rx_shapes.specs.declared.shapes.Shape.{Shape}
 use Rattle.rx_shapes.specs.declared.shapes.Shape.TheVariants as shape
-use Rattle.rx_notation.specs.Short.{Prefixes}
-use Rattle.rx_shapes.specs.Subjects.{predicates_of, objects_of}
-use Rattle.rx_notation.specs.Syntax.{Sort, Object, Items, Predicates, Part, Last, Item}
-use Rattle.rx_notation.specs.Meaning.{all_known, unlabelled, term_of, triples}
-use Rattle.rx_shapes.proofs.Grouped.{predicate_there, object_there, predicate_says, object_says}
-use Rattle.rx_notation.specs.Nesting.{predicates_after, bracketed, object_by, cells, node_by, written}
 use Rattle.rx_notation.proofs.Chosen.{Agree}
 use Rattle.rx_notation.proofs.CellParts.{in_cell, cell_last, cell_more}
-use Rattle.rx_shapes.proofs.CellLemmas.{CellOf, cell_of, cell_inner, Enough, none_left, child_enough}
 use Rattle.rx_notation.proofs.Means.{in_term, in_cells, in_predicates, in_shape, ordered, NamedSo, named_front, named_behind, Known, Under, under_left, under_right, under_cases, Means, iri_means, literal_means, labelled_means, SaidBy, MeansPredicates, AllSay, predicates_mean}
 
 module _ (context declared : Prefixes) (agree : Agree context declared) (list : List (Triple ℕ)) (place : ℕ → ℕ) where

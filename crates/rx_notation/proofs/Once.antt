@@ -1,15 +1,8 @@
 -- Each node that is written where it is used is written once.
-use Rattle.rx_terms.proofs.Common.{◌≡◌, ◌∙◌, ◌≤◌, ℕ, zero, suc, ◌+◌, nat_eq, Bool, true, false, bytes_eq, List, [], ◌∷◌, ◌++◌, map, filter, flat_map, length, refl, sym, ap, inl, inr, subst, true≢false, arith, Chars}
-use Rattle.rx_model.proofs.Common.{Among, Node, Iri, Blank, Term, Resource, Literal, Triple, same_node, set_of, spo, Among_cases, Among_of_filter, Among_of_map, exact_numbers, exact_texts, rdf_first, rdf_rest}
-use Rattle.rx_shapes.specs.Shapes.{Parent, Ends, at_iri, at_top, onward, Inner, Cell, IsShape, HaveShapes}
-use Rattle.rx_shapes.specs.declared.shapes.Shape.{Shape}
+use Rattle.rx_notation.proofs.Common.{◌≡◌, ◌∙◌, ◌≤◌, ℕ, zero, suc, ◌+◌, nat_eq, Bool, true, false, bytes_eq, List, [], ◌∷◌, ◌++◌, map, filter, flat_map, length, refl, sym, ap, inl, inr, subst, true≢false, arith, Chars, Among, Node, Iri, Blank, Term, Resource, Literal, Triple, same_node, set_of, spo, Among_cases, Among_of_filter, Among_of_map, exact_numbers, exact_texts, rdf_first, rdf_rest, Parent, Ends, at_iri, at_top, onward, Inner, Cell, IsShape, HaveShapes, Shape, has_subject, has_predicate, about, predicates_of, objects_of, same_nodes, object_says, Differ, CellOf, cell_of, cell_inner, first_is_not_rest}
 use Rattle.rx_shapes.specs.declared.shapes.Shape.TheVariants as shape
-use Rattle.rx_shapes.specs.Subjects.{has_subject, has_predicate, about, predicates_of, objects_of}
-use Rattle.rx_shapes.proofs.Grouped.{same_nodes, object_says}
-use Rattle.rx_shapes.proofs.Heights.{Differ}
 use Rattle.rx_shapes.proofs.Times.{one_if, times, times_append, once_differ, differ_filter, distinct_differ}
 use Rattle.rx_notation.proofs.Means.{in_term, in_cells, in_objects, in_predicates, in_shape, ordered}
-use Rattle.rx_shapes.proofs.CellLemmas.{CellOf, cell_of, cell_inner, first_is_not_rest}
 use Rattle.rx_notation.proofs.CellParts.{in_cell}
 
 -- ---- how often a node stands in a list

@@ -1,8 +1,5 @@
 -- A list of tokens is that of at most one document.
-use Rattle.std.proofs.Common.{◌≡◌, ◌∙◌, Bool, true, false, List, [], ◌∷◌, refl, sym, ap, ap₂, true≢false}
-use Rattle.rx_notation.specs.Short.{Prefix, Prefixes}
-use Rattle.rx_notation.specs.Syntax.{Verb, By, Type_of, Sort, Object, Objects, Items, Further, Part, IriOrLabel, Quoted, Anonymous, Nil, Bracketed, Collection, Single, Comma, Last, Item, Predicate, Done, Semicolon, Also, Statement}
-use Rattle.rx_notation.specs.Grammar.{Terminal, At_prefix, Full_stop, Semicolon_sign, Comma_sign, Right_bracket, Right_parenthesis, Token, terminal, verb_token, tokens, statement_tokens, prefix_tokens, TokensOfOne}
+use Rattle.rx_notation.proofs.Common.{◌≡◌, ◌∙◌, Bool, true, false, List, [], ◌∷◌, refl, sym, ap, ap₂, true≢false, Prefix, Prefixes, Verb, By, Type_of, Sort, Object, Objects, Items, Further, Part, IriOrLabel, Quoted, Anonymous, Nil, Bracketed, Collection, Single, Comma, Last, Item, Predicate, Done, Semicolon, Also, Statement, Terminal, At_prefix, Full_stop, Semicolon_sign, Comma_sign, Right_bracket, Right_parenthesis, Token, terminal, verb_token, tokens, statement_tokens, prefix_tokens, TokensOfOne}
 
 -- ---- what may follow a part
 

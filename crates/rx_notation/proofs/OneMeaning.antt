@@ -1,8 +1,5 @@
 -- A text denotes at most one graph.
-use Rattle.rx_terms.proofs.Common.{ℕ, List, sym, subst}
-use Rattle.rx_model.proofs.Common.{Among, Triple, set_of, Renamed}
-use Rattle.rx_notation.specs.Syntax.{Document}
-use Rattle.rx_notation.specs.Meaning.{all_triples, Name, Label, Place, DenotesOne, NestedDenotesOne}
+use Rattle.rx_notation.proofs.Common.{ℕ, List, sym, subst, Among, Triple, set_of, Renamed, Document, all_triples, Name, Label, Place, DenotesOne, NestedDenotesOne}
 use Rattle.rx_notation.proofs.OneText.{spells_one}
 use Rattle.rx_model.proofs.Renamings.{renamed_across}
 

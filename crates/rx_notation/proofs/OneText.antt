@@ -1,15 +1,8 @@
 -- A text spells at most one document.
-use Rattle.rx_terms.proofs.Common.{◌≡◌, ◌∙◌, ℕ, ◌<◌, Bool, true, false, List, [], ◌∷◌, ◌++◌, codes, refl, sym, ap, ap₂, true≢false, arith, append_assoc, bytes_eq, list_all, list_any, and_parts, and_from, nat_tests, is_letter, is_letter_or_digit, colon, line_feed, quotation_mark, less_than_sign, Chars}
-use Rattle.std.proofs.Common.{not, ◌==◌, ◌||◌, if◌then◌else◌}
-use Rattle.rx_terms.specs.Ascii.{low_line, hyphen, space, commercial_at, circumflex_accent}
-use Rattle.rx_model.proofs.Common.{or_left, or_right}
+use Rattle.rx_notation.proofs.Common.{◌≡◌, ◌∙◌, ℕ, ◌<◌, Bool, true, false, List, [], ◌∷◌, ◌++◌, codes, refl, sym, ap, ap₂, true≢false, arith, append_assoc, bytes_eq, not, ◌==◌, ◌||◌, if◌then◌else◌, list_all, list_any, and_parts, and_from, nat_tests, is_letter, is_letter_or_digit, colon, line_feed, quotation_mark, less_than_sign, low_line, hyphen, space, commercial_at, circumflex_accent, Chars, or_left, or_right, is_name_char, is_prefix_name, is_local_name, Reference, Full, Short, Subject, Named, Labelled, Suffix, Bare, Language, Datatype, Terminal, At_prefix, Small_a, Full_stop, Semicolon_sign, Comma_sign, Left_bracket, Right_bracket, Brackets, Left_parenthesis, Right_parenthesis, Parentheses, Token, terminal, declared, iri_or_label, quoted, document_tokens, terminal_text, SpellsReference, SpellsSubject, SpellsSuffix, SpellsQuoted, SpellsToken, is_separator, is_gap, SpellsBehind, SpellsTokens, SpellsOne}
 use Rattle.rx_nquads.specs.Spelling.{tagged}
 use Rattle.rx_nquads.proofs.Cuts.{lacks, differs, cut, lacks_append, lacks_where}
 use Rattle.rx_nquads.proofs.OneMeaning.{space_marks, line_feed_marks, iri_lacks, label_lacks, kind_lacks, one_iri, one_label, one_string}
-use Rattle.rx_notation.specs.Short.{is_name_char, is_prefix_name, is_local_name}
-use Rattle.rx_notation.specs.Syntax.{Reference, Full, Short, Subject, Named, Labelled, Suffix, Bare, Language, Datatype}
-use Rattle.rx_notation.specs.Grammar.{Terminal, At_prefix, Small_a, Full_stop, Semicolon_sign, Comma_sign, Left_bracket, Right_bracket, Brackets, Left_parenthesis, Right_parenthesis, Parentheses, Token, terminal, declared, iri_or_label, quoted, document_tokens}
-use Rattle.rx_notation.specs.Spelling.{terminal_text, SpellsReference, SpellsSubject, SpellsSuffix, SpellsQuoted, SpellsToken, is_separator, is_gap, SpellsBehind, SpellsTokens, SpellsOne}
 use Rattle.rx_notation.proofs.OneDocument.{one_document}
 
 -- ---- lists cut where a test fails

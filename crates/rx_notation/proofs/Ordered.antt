@@ -1,11 +1,9 @@
 -- Contexts whose names rise in byte order.
-use Rattle.rx_terms.proofs.Common.{◌≡◌, ◌∙◌, Bool, true, false, cond, [], ◌∷◌, map, filter, bytes_eq, encode_utf8_all, refl, sym, ap, subst, inl, inr, true≢false, list_all, is_lt, ordering_reverse, slice_cmp, and_parts, and_from, Chars}
-use Rattle.std.proofs.Common.{not}
+use Rattle.rx_model.proofs.Common.{◌≡◌, ◌∙◌, Bool, true, false, cond, [], ◌∷◌, map, filter, bytes_eq, encode_utf8_all, refl, sym, ap, subst, inl, inr, true≢false, not, list_all, and_parts, and_from, Chars, Among, contains, Among_by_contains, Among_of_map, false_unless, exact_texts}
+use Rattle.std.specs.Ordering.{is_lt, ordering_reverse, nat_cmp}
+use Rattle.std.specs.Cmp.Lexicographic.{slice_cmp, nat_list_cmp_total}
 use Rattle.std.specs.declared.cmp.Ordering.{Ordering}
 use Rattle.std.specs.declared.cmp.Ordering.TheVariants.{Greater}
-use Rattle.std.specs.Ordering.{nat_cmp}
-use Rattle.std.specs.Cmp.Lexicographic.{nat_list_cmp_total}
-use Rattle.rx_model.proofs.Common.{Among, contains, Among_by_contains, Among_of_map, false_unless, exact_texts}
 use Rattle.rx_notation.specs.Short.{Prefix, Prefixes, is_before, names_rise}
 use Rattle.rx_notation.specs.Layout.{used, same_prefix, those_among, placed, in_byte_order}
 use Rattle.rx_notation.specs.Spelling.{names_differ}

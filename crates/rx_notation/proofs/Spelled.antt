@@ -1,14 +1,7 @@
 -- The text of a document spells it.
-use Rattle.rx_terms.proofs.Common.{◌≡◌, ℕ, ◌<◌, ◌^◌, true, List, [], ◌∷◌, ◌++◌, flat_map, codes, refl, sym, ap, inl, inr, subst, append_assoc, ◌∙◌, line_feed, quotation_mark, Chars, IsIri}
+use Rattle.rx_notation.proofs.Common.{◌≡◌, ℕ, ◌<◌, ◌^◌, true, List, [], ◌∷◌, ◌++◌, flat_map, codes, refl, sym, ap, inl, inr, subst, append_assoc, ◌∙◌, line_feed, quotation_mark, Chars, IsIri, Among, escaped_text, string_text, iri_text, Prefix, Prefixes, is_prefix_name, is_local_name, prefix_text, prefixes_text, Reference, Full, Short, Subject, Named, Labelled, Verb, By, Type_of, Suffix, Bare, Language, Datatype, Sort, Further, Part, IriOrLabel, Quoted, Anonymous, Nil, Bracketed, Collection, Single, Comma, Last, Item, Predicate, Done, Semicolon, Also, Statement, Document, At_prefix, Full_stop, Semicolon_sign, Comma_sign, Left_bracket, Right_bracket, Brackets, Left_parenthesis, Right_parenthesis, Parentheses, Token, terminal, declared, iri_or_label, quoted, verb_token, tokens, statement_tokens, prefix_tokens, document_tokens, SpellsReference, SpellsSubject, SpellsSuffix, SpellsToken, is_gap, SpellsBehind, SpellsTokens}
 use Rattle.rx_terms.specs.Lang.{is_lang}
-use Rattle.rx_model.proofs.Common.{Among}
-use Rattle.rx_pieces.specs.Writing.{escaped_text, string_text, iri_text}
 use Rattle.rx_nquads.proofs.Denoting.{label_spelled, string_spelled}
-use Rattle.rx_notation.specs.Short.{Prefix, Prefixes, is_prefix_name, is_local_name}
-use Rattle.rx_notation.specs.Layout.{prefix_text, prefixes_text}
-use Rattle.rx_notation.specs.Syntax.{Reference, Full, Short, Subject, Named, Labelled, Verb, By, Type_of, Suffix, Bare, Language, Datatype, Sort, Further, Part, IriOrLabel, Quoted, Anonymous, Nil, Bracketed, Collection, Single, Comma, Last, Item, Predicate, Done, Semicolon, Also, Statement, Document}
-use Rattle.rx_notation.specs.Grammar.{At_prefix, Full_stop, Semicolon_sign, Comma_sign, Left_bracket, Right_bracket, Brackets, Left_parenthesis, Right_parenthesis, Parentheses, Token, terminal, declared, iri_or_label, quoted, verb_token, tokens, statement_tokens, prefix_tokens, document_tokens}
-use Rattle.rx_notation.specs.Spelling.{SpellsReference, SpellsSubject, SpellsSuffix, SpellsToken, is_gap, SpellsBehind, SpellsTokens}
 use Rattle.rx_notation.proofs.Joining.{Opens, Puts, all_tokens, behind_gap, behind_token, opens_token, puts_token, puts_then, adds_gap}
 use Rattle.rx_notation.specs.Writing.{reference_text, subject_text, verb_text, suffix_text, Piece, words, piece_text, inside_gap, line_gap, pieces, all_pieces, document_text}
 

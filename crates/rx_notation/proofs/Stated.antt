@@ -1,14 +1,6 @@
 -- What statements mean whose objects are each written as it is meant.
-use Rattle.rx_terms.proofs.Common.{◌≡◌, ◌⊎◌, ◌↔◌, ℕ, ◌+◌, true, List, [], ◌∷◌, map, flat_map, length, refl, sym, ap, inl, inr, subst, arith, and_parts, Chars}
+use Rattle.rx_notation.proofs.Common.{◌≡◌, ◌⊎◌, ◌↔◌, ℕ, ◌+◌, true, List, [], ◌∷◌, map, flat_map, length, refl, sym, ap, inl, inr, subst, arith, and_parts, Chars, Among, Node, Iri, Blank, Term, Triple, spo, Among_map, Among_of_map, proper_triple, Prefixes, subjects, predicates_of, objects_of, predicate_there, object_there, subject_says, predicate_says, object_says, Object, Predicates, Part, Statement, is_known_subject, all_known, are_known, unlabelled, node_of, triples, all_triples, subject_of, some_predicates, said_of}
 use Rattle.std.proofs.lemmas.List.{length-append}
-use Rattle.rx_model.proofs.Common.{Among, Node, Iri, Blank, Term, Triple, spo, Among_map, Among_of_map}
-use Rattle.rx_nquads.specs.Quads.{proper_triple}
-use Rattle.rx_notation.specs.Short.{Prefixes}
-use Rattle.rx_shapes.specs.Subjects.{subjects, predicates_of, objects_of}
-use Rattle.rx_shapes.proofs.Grouped.{predicate_there, object_there, subject_says, predicate_says, object_says}
-use Rattle.rx_notation.specs.Syntax.{Object, Predicates, Part, Statement}
-use Rattle.rx_notation.specs.Meaning.{is_known_subject, all_known, are_known, unlabelled, node_of, triples, all_triples}
-use Rattle.rx_notation.specs.Nesting.{subject_of, some_predicates, said_of}
 use Rattle.rx_notation.proofs.Chosen.{Agree}
 use Rattle.rx_notation.proofs.Declared.{reference_means}
 use Rattle.rx_notation.proofs.Means.{in_term, in_predicates, NamedSo, named_front, named_behind, Under, Means, OneOf, none_told, joined, SaidBy, MeansPredicates, AllSay, predicates_mean}

@@ -1,13 +1,7 @@
 -- Each inner node of a list is written in its document.
-use Rattle.rx_terms.proofs.Common.{◌≡◌, ◌∙◌, ◌⊎◌, ℕ, zero, suc, List, ◌∷◌, ◌++◌, length, refl, sym, ap, inl, inr, subst, Chars}
-use Rattle.rx_model.proofs.Common.{Among, Node, Iri, Blank, Term, Resource, Triple, set_of, spo, Among_left, Among_right, Among_flat_map, rdf_first, rdf_rest}
-use Rattle.rx_shapes.specs.Shapes.{Parent, Ends, at_iri, at_top, onward, Inner, Cell, IsShape, HaveShapes}
-use Rattle.rx_shapes.specs.declared.shapes.Shape.{Shape}
+use Rattle.rx_notation.proofs.Common.{◌≡◌, ◌∙◌, ◌⊎◌, ℕ, zero, suc, List, ◌∷◌, ◌++◌, length, refl, sym, ap, inl, inr, subst, Chars, Among, Node, Iri, Blank, Term, Resource, Triple, set_of, spo, Among_left, Among_right, Among_flat_map, rdf_first, rdf_rest, Parent, Ends, at_iri, at_top, onward, Inner, Cell, IsShape, HaveShapes, Shape, predicates_of, objects_of, predicate_there, object_there, CellOf, cell_of, Enough, none_left, child_enough, first_enough}
 use Rattle.rx_shapes.specs.declared.shapes.Shape.TheVariants as shape
-use Rattle.rx_shapes.specs.Subjects.{predicates_of, objects_of}
-use Rattle.rx_shapes.proofs.Grouped.{predicate_there, object_there}
 use Rattle.rx_notation.proofs.Means.{in_term, in_cells, in_objects, in_predicates, in_shape}
-use Rattle.rx_shapes.proofs.CellLemmas.{CellOf, cell_of, Enough, none_left, child_enough, first_enough}
 use Rattle.rx_notation.proofs.CellParts.{in_cell}
 use Rattle.rx_notation.proofs.Once.{nodes_at, cells_at, below_all}
 

@@ -1,17 +1,7 @@
 -- What a node is written as, without counting levels: a node in brackets by its own objects, a cell by its item and what
 -- comes behind.
-use Rattle.rx_terms.proofs.Common.{◌≡◌, ◌∙◌, ℕ, zero, suc, List, [], ◌∷◌, length, ◌<◌, ◌+◌, refl, sym, ap, ap₂, inl, inr, subst, arith, Chars}
-use Rattle.rx_model.proofs.Common.{Among, Iri, Blank, Term, Resource, Literal, Triple, set_of, spo, rdf_first, rdf_rest}
-use Rattle.rx_shapes.specs.Shapes.{Inner, Cell, IsShape, HaveShapes}
-use Rattle.rx_shapes.specs.declared.shapes.Shape.{Shape}
+use Rattle.rx_notation.proofs.Common.{◌≡◌, ◌∙◌, ℕ, zero, suc, List, [], ◌∷◌, length, ◌<◌, ◌+◌, refl, sym, ap, ap₂, inl, inr, subst, arith, Chars, Among, Iri, Blank, Term, Resource, Literal, Triple, set_of, spo, rdf_first, rdf_rest, Inner, Cell, IsShape, HaveShapes, Shape, Prefixes, predicates_of, objects_of, Labelled, Object, Objects, Items, Predicates, Part, IriOrLabel, Bracketed, Collection, Single, Comma, Last, Item, Predicate, Done, Also, object_says, objects_after, some_objects, cells, verb_of, predicates_after, bracketed, inside, object_by, node_by, written, height, CellOf, cell_of, cell_inner, Enough, none_left, child_enough, first_enough}
 use Rattle.rx_shapes.specs.declared.shapes.Shape.TheVariants as shape
-use Rattle.rx_notation.specs.Short.{Prefixes}
-use Rattle.rx_shapes.specs.Subjects.{predicates_of, objects_of}
-use Rattle.rx_notation.specs.Syntax.{Labelled, Object, Objects, Items, Predicates, Part, IriOrLabel, Bracketed, Collection, Single, Comma, Last, Item, Predicate, Done, Also}
-use Rattle.rx_shapes.proofs.Grouped.{object_says}
-use Rattle.rx_notation.specs.Nesting.{objects_after, some_objects, cells, verb_of, predicates_after, bracketed, inside, object_by, node_by, written}
-use Rattle.rx_shapes.proofs.Heights.{height}
-use Rattle.rx_shapes.proofs.CellLemmas.{CellOf, cell_of, cell_inner, Enough, none_left, child_enough, first_enough}
 use Rattle.rx_notation.proofs.CellParts.{cell_last, cell_more}
 
 -- ---- parts of objects that are written alike

@@ -1,8 +1,6 @@
 -- Laws of the layout, and those that join it with what a text denotes.
 use Rattle.std.specs.Prelude.{◌≡◌, ℕ, true, List, map}
-use Rattle.rx_terms.specs.Iri.{IsIri}
-use Rattle.rx_model.specs.Sets.{Among}
-use Rattle.rx_model.specs.Terms.{Triple}
+use Rattle.rx_model.specs.Common.{IsIri, Among, Triple}
 use Rattle.rx_nquads.specs.Quads.{proper_triple, IsProper}
 use Rattle.rx_pieces.specs.Writable.{IsWritable}
 use Rattle.rx_notation.specs.Short.{Prefix, Prefixes, names_rise}

@@ -1,10 +1,7 @@
 -- The Turtle text of a list of triples, character by character (the choice of the layout is our own): the prefixes that
 -- it uses, then each subject with all that is said of it.
 use Rattle.std.specs.Prelude.{ℕ, Bool, ◌&&◌, List, [], ◌∷◌, ◌++◌, map, filter, filter_map, flat_map, codes, bytes_eq, Option, Some, None, if◌then◌else◌}
-use Rattle.rx_terms.specs.Text.{Chars}
-use Rattle.rx_model.specs.Sets.{contains}
-use Rattle.rx_model.specs.Terms.{Kind, Plain, Tagged, Typed, Node, Iri, Blank, Term, Resource, Literal, Triple}
-use Rattle.rx_model.specs.Vocabulary.{rdf_type}
+use Rattle.rx_model.specs.Common.{Chars, contains, Kind, Plain, Tagged, Typed, Node, Iri, Blank, Term, Resource, Literal, Triple, rdf_type}
 use Rattle.rx_shapes.specs.Subjects.{subjects, predicates_of, objects_of}
 use Rattle.rx_pieces.specs.Writing.{string_text, iri_text, blank_text}
 use Rattle.rx_notation.specs.Short.{Prefix, Prefixes, is_before, prefix_of, short_text}

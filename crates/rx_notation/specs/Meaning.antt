@@ -1,12 +1,6 @@
 -- What a document denotes: RDF 1.1 Turtle, 7.
 use Rattle.std.specs.Prelude.{◌≡◌, ◌↔◌, ℕ, suc, ◌+◌, Bool, true, ◌&&◌, List, [], ◌∷◌, ◌++◌, codes, bytes_eq, if◌then◌else◌}
-use Rattle.std.specs.List.{list_all, list_any}
-use Rattle.rx_terms.specs.Text.{Chars}
-use Rattle.rx_model.specs.Sets.{Among}
-use Rattle.rx_model.specs.Terms.{Kind, Plain, Tagged, Node, Iri, Blank, Term, Resource, Literal, Triple, set_of}
-use Rattle.rx_model.specs.Copied.{spo}
-use Rattle.rx_model.specs.Vocabulary.{rdf_type}
-use Rattle.rx_model.specs.Numbered.{Renamed}
+use Rattle.rx_model.specs.Common.{list_all, list_any, Chars, Among, Kind, Plain, Tagged, Node, Iri, Blank, Term, Resource, Literal, Triple, set_of, spo, rdf_type, Renamed}
 use Rattle.rx_nquads.specs.Quads.{kind_of}
 use Rattle.rx_notation.specs.Short.{Prefix, Prefixes}
 use Rattle.rx_notation.specs.Syntax.{Reference, Full, Short, Subject, Named, Labelled, Verb, By, Type_of, Suffix, Bare, Language, Datatype, Sort, Object, Objects, Items, Predicates, Further, Part, IriOrLabel, Quoted, Anonymous, Nil, Bracketed, Collection, Single, Comma, Last, Item, Predicate, Done, Semicolon, Also, Statement, Document, are_flat}

@@ -1,7 +1,6 @@
 -- What holds of the nested text.
 use Rattle.std.specs.Prelude.{◌≡◌, ℕ, List, map, nat_eq}
-use Rattle.rx_model.specs.Sets.{distinct}
-use Rattle.rx_model.specs.Terms.{Triple, same_triple}
+use Rattle.rx_model.specs.Common.{distinct, Triple, same_triple}
 use Rattle.rx_shapes.specs.declared.shapes.Shape.{Shape}
 use Rattle.rx_shapes.specs.Shapes.{HaveShapes}
 use Rattle.rx_notation.specs.Short.{Prefixes}

@@ -1,9 +1,6 @@
 -- Worked examples of the nested layout: a context, triples, the shapes of their blank nodes, and the text.
 use Rattle.std.specs.Prelude.{◌≡◌, ℕ, List, [], ◌∷◌, ◌++◌, codes, get_or}
-use Rattle.rx_terms.specs.Text.{Chars}
-use Rattle.rx_model.specs.Terms.{Plain, Node, Iri, Blank, Term, Resource, Literal, Triple}
-use Rattle.rx_model.specs.Copied.{spo}
-use Rattle.rx_model.specs.Vocabulary.{rdf_type}
+use Rattle.rx_model.specs.Common.{Chars, Plain, Node, Iri, Blank, Term, Resource, Literal, Triple, spo, rdf_type}
 use Rattle.rx_shapes.specs.declared.shapes.Shape.{Shape}
 use Rattle.rx_shapes.specs.declared.shapes.Shape.TheVariants.{Labelled, Inside, Cell}
 use Rattle.rx_notation.specs.Short.{Prefixes}

@@ -1,9 +1,6 @@
 -- Worked examples of the layout: a context, triples, and their text.
 use Rattle.std.specs.Prelude.{◌≡◌, ℕ, List, [], ◌∷◌, ◌++◌, codes}
-use Rattle.rx_terms.specs.Text.{Chars}
-use Rattle.rx_model.specs.Terms.{Plain, Tagged, Typed, Node, Iri, Blank, Term, Resource, Literal, Triple}
-use Rattle.rx_model.specs.Copied.{spo}
-use Rattle.rx_model.specs.Vocabulary.{rdf_type}
+use Rattle.rx_model.specs.Common.{Chars, Plain, Tagged, Typed, Node, Iri, Blank, Term, Resource, Literal, Triple, spo, rdf_type}
 use Rattle.rx_notation.specs.Short.{Prefixes}
 use Rattle.rx_notation.specs.Layout.{turtle}
 

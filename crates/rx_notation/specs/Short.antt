@@ -1,10 +1,6 @@
 -- Short forms of IRIs: RDF 1.1 Turtle, 2.4. Which names they have, and which form is taken, is our own choice.
 use Rattle.std.specs.Prelude.{ℕ, ◌==◌, nat_lt, Bool, true, false, ◌&&◌, ◌||◌, List, [], ◌∷◌, ◌++◌, length, drop, filter, codes, Option, Some, None, encode_utf8_all, if◌then◌else◌}
-use Rattle.std.specs.List.{list_all}
-use Rattle.std.specs.Ordering.{is_lt, nat_cmp}
-use Rattle.std.specs.Cmp.Lexicographic.{slice_cmp}
-use Rattle.rx_terms.specs.Ascii.{is_letter, is_letter_or_digit, hyphen, low_line}
-use Rattle.rx_terms.specs.Text.{Chars, begins_with}
+use Rattle.rx_terms.specs.Common.{list_all, is_lt, nat_cmp, slice_cmp, is_letter, is_letter_or_digit, hyphen, low_line, Chars, begins_with}
 
 -- a prefix: its name, and the IRI that it stands for
 abbrev pub Prefix : Type 0

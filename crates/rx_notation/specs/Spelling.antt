@@ -1,11 +1,7 @@
 -- How a document is spelled: the terminals of RDF 1.1 Turtle, 6.5, with the limits that N-Quads has here on IRIs, labels
 -- and strings (own choice), and what stands between tokens.
 use Rattle.std.specs.Prelude.{◌≡◌, ℕ, Bool, true, not, ◌&&◌, ◌||◌, ◌==◌, List, [], ◌∷◌, ◌++◌, map, codes, bytes_eq}
-use Rattle.std.specs.List.{list_all}
-use Rattle.rx_terms.specs.Ascii.{line_feed, space, quotation_mark, colon, commercial_at, circumflex_accent}
-use Rattle.rx_terms.specs.Text.{Chars, is_empty}
-use Rattle.rx_terms.specs.Lang.{is_lang}
-use Rattle.rx_model.specs.Sets.{contains}
+use Rattle.rx_model.specs.Common.{list_all, line_feed, space, quotation_mark, colon, commercial_at, circumflex_accent, Chars, is_empty, is_lang, contains}
 use Rattle.rx_nquads.specs.Spelling.{SpellsIri, SpellsLabel, SpellsString}
 use Rattle.rx_notation.specs.Short.{Prefix, is_prefix_name, is_local_name}
 use Rattle.rx_notation.specs.Syntax.{Reference, Full, Short, Subject, Named, Labelled, Suffix, Bare, Language, Datatype, Document}

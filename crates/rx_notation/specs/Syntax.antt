@@ -2,8 +2,7 @@
 -- prefixes are declared by `@prefix` before all statements, a subject is an IRI or a labelled blank node, and a literal
 -- is quoted.
 use Rattle.std.specs.Prelude.{ℕ, Bool, true, false, ◌&&◌, List}
-use Rattle.std.specs.List.{list_all}
-use Rattle.rx_terms.specs.Text.{Chars}
+use Rattle.rx_terms.specs.Common.{list_all, Chars}
 use Rattle.rx_notation.specs.Short.{Prefixes}
 
 -- [135s] iri: in full, or by the name of a prefix and a local name

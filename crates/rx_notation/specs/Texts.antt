@@ -1,9 +1,6 @@
 -- Worked examples of what texts denote.
 use Rattle.std.specs.Prelude.{◌≡◌, ℕ, true, List, [], ◌∷◌, ◌++◌, codes}
-use Rattle.rx_terms.specs.Text.{Chars}
-use Rattle.rx_model.specs.Terms.{Plain, Tagged, Typed, Node, Iri, Blank, Term, Resource, Literal, Triple}
-use Rattle.rx_model.specs.Copied.{spo}
-use Rattle.rx_model.specs.Vocabulary.{rdf_type}
+use Rattle.rx_model.specs.Common.{Chars, Plain, Tagged, Typed, Node, Iri, Blank, Term, Resource, Literal, Triple, spo, rdf_type}
 use Rattle.rx_notation.specs.Syntax.{Full, Short, Subject, Named, Labelled, By, Type_of, Bare, Language, Datatype, Part, Object, IriOrLabel, Quoted, Anonymous, Nil, Bracketed, Collection, Single, Comma, Last, Item, Predicate, Done, Semicolon, Also, Document}
 use Rattle.rx_notation.specs.Spelling.{Spells}
 use Rattle.rx_notation.specs.Meaning.{rdf_first, rdf_rest, rdf_nil, are_known, all_triples, Turtle, Name, Label, Place, NestedTurtle}

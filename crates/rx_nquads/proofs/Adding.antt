@@ -1,6 +1,5 @@
 -- Characters of a line, one part after another.
-use Rattle.rx_terms.proofs.Common.{◌≡◌, ◌∙◌, ℕ, ◌++◌, sym, ap, refl, append_assoc, codes, Option, chars, Chars}
-use Rattle.rx_model.proofs.Common.{Triple}
+use Rattle.rx_model.proofs.Common.{◌≡◌, ◌∙◌, ℕ, ◌++◌, sym, ap, refl, append_assoc, codes, Option, chars, Chars, Triple}
 use Rattle.rx_pieces.specs.Writing.{iri_text}
 use Rattle.rx_pieces.specs.Underway.{Delivery}
 use Rattle.rx_pieces.specs.Writable.{Adds}

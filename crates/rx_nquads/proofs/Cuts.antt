@@ -1,6 +1,5 @@
 -- A list cut at the first mark, and characters that a spelling has not.
-use Rattle.rx_terms.proofs.Common.{◌≡◌, ℕ, Bool, true, false, List, [], ◌∷◌, ◌++◌, refl, sym, ap, ◌∙◌, true≢false, arith, list_all, list_any, list_all-append, and_parts, and_from, nat_tests}
-use Rattle.std.proofs.Common.{not, ◌==◌, ◌&&◌, ◌||◌}
+use Rattle.rx_terms.proofs.Common.{◌≡◌, ℕ, Bool, true, false, List, [], ◌∷◌, ◌++◌, refl, sym, ap, ◌∙◌, true≢false, arith, not, ◌==◌, ◌&&◌, ◌||◌, list_all, list_any, list_all-append, and_parts, and_from, nat_tests}
 
 abbrev pub differs : ℕ → ℕ → Bool
 differs mark c = not (c == mark)

@@ -1,13 +1,8 @@
 -- What the text of a graph denotes.
-use Rattle.rx_terms.proofs.Common.{◌≡◌, ◌⊎◌, ℕ, ◌+◌, ◌<◌, ◌≤◌, ◌^◌, Bool, true, false, List, [], ◌∷◌, ◌++◌, map, length, take, slice_get, get_or, codes, Option, Some, None, refl, sym, ap, ap₂, ◌∙◌, inl, inr, subst, arith, append_assoc, append-nil, drop, chars, and_from, nat_tests, chars-encodes, take_all, map-append, line_feed, carriage_return, quotation_mark, reverse_solidus, Chars}
-use Rattle.std.proofs.Common.{not, ◌==◌, take-append-drop}
-use Rattle.std.specs.Str.{encode_utf8_all}
-use Rattle.std.specs.Fmt.{decimal}
+use Rattle.rx_model.proofs.Common.{◌≡◌, ◌⊎◌, ℕ, ◌+◌, ◌<◌, ◌≤◌, ◌^◌, Bool, true, false, List, [], ◌∷◌, ◌++◌, map, length, take, slice_get, get_or, codes, Option, Some, None, refl, sym, ap, ap₂, ◌∙◌, inl, inr, subst, arith, append_assoc, append-nil, drop, not, ◌==◌, take-append-drop, and_from, nat_tests, chars-encodes, take_all, map-append, line_feed, carriage_return, quotation_mark, reverse_solidus, space, full_stop, Chars, decimal, decimal_is_IsNumeral, decimal_digit, first_decimal, Among, triple_seen, triples_seen, Kind, Plain, Tagged, Typed, Node, Iri, Blank, Term, Resource, Literal, Triple, Among_map, Among_of_map, Among_cases}
+use Rattle.std.specs.Str.{chars, encode_utf8_all}
 use Rattle.std.specs.Option.{option_map}
-use Rattle.std.proofs.lemmas.Fmt.{decimal_is_IsNumeral, decimal_digit, first_decimal}
-use Rattle.rx_terms.specs.Ascii.{space, full_stop}
 use Rattle.rx_terms.specs.declared.triples.Triple.{Triple as CodeTriple}
-use Rattle.rx_model.proofs.Common.{Among, triple_seen, triples_seen, Kind, Plain, Tagged, Typed, Node, Iri, Blank, Term, Resource, Literal, Triple, Among_map, Among_of_map, Among_cases}
 use Rattle.rx_graph.proofs.SetLemmas.{seen_more}
 use Rattle.rx_nquads.specs.Quads.{proper_kind, proper_term, quad_of, quads}
 use Rattle.rx_nquads.specs.Spelling.{SpellsIri, SpellsLabel, SpellsNode, has_leading_zero, escape, SpellsString, nothing, itself, escaped, SpellsKind, plain, tagged, typed, SpellsTerm}

@@ -1,6 +1,5 @@
 -- What a text denotes whose parts denote something: of one line, and of one text behind another.
-use Rattle.rx_terms.proofs.Common.{◌≡◌, ◌⊎◌, ℕ, true, List, [], ◌∷◌, ◌++◌, Option, refl, sym, ap, ◌∙◌, inl, inr, subst, append_assoc, append-nil, arith, line_feed, number_sign, Chars}
-use Rattle.rx_model.proofs.Common.{Among, Triple, Among_cases, Among_left, Among_right}
+use Rattle.rx_model.proofs.Common.{◌≡◌, ◌⊎◌, ℕ, true, List, [], ◌∷◌, ◌++◌, Option, refl, sym, ap, ◌∙◌, inl, inr, subst, append_assoc, append-nil, arith, line_feed, number_sign, Chars, Among, Triple, Among_cases, Among_left, Among_right}
 use Rattle.rx_nquads.specs.Quads.{Quad, quad_of}
 use Rattle.rx_nquads.specs.Document.{States, SaysNothing, Nquads, joined_lines, has_no_line_feed}
 use Rattle.rx_nquads.specs.Writing.{line_text}

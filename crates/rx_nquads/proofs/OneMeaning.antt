@@ -1,12 +1,8 @@
 -- A line states at most one quad, and a text denotes at most one set of quads.
-use Rattle.rx_terms.proofs.Common.{◌≡◌, ℕ, Bool, true, false, ◌≢◌, List, [], ◌∷◌, ◌++◌, Option, Some, None, refl, sym, ap, ap₂, ◌∙◌, inl, inr, subst, true≢false, arith, append_assoc, list_all, append_cancel_left, and_from, or_left, or_right, nat_tests, line_feed, quotation_mark, reverse_solidus, less_than_sign, greater_than_sign, Chars, is_forbidden}
-use Rattle.std.proofs.Common.{not, ◌==◌, ◌||◌}
+use Rattle.rx_model.proofs.Common.{◌≡◌, ℕ, Bool, true, false, ◌≢◌, List, [], ◌∷◌, ◌++◌, Option, Some, None, refl, sym, ap, ap₂, ◌∙◌, inl, inr, subst, true≢false, arith, append_assoc, not, ◌==◌, ◌||◌, list_all, append_cancel_left, nat_tests, line_feed, quotation_mark, reverse_solidus, less_than_sign, greater_than_sign, space, commercial_at, circumflex_accent, full_stop, hyphen, low_line, Chars, is_forbidden, digit_value, is_lang, is_subtag_char, Among, Kind, Tagged, Node, Iri, Blank, Term, Resource, Literal}
+use Rattle.std.proofs.lemmas.Bool.{and_from, or_left, or_right}
 use Rattle.std.specs.Str.Parse.{AllDigits, digits_value}
-use Rattle.std.specs.Char.{digit_value}
-use Rattle.rx_terms.specs.Ascii.{space, commercial_at, circumflex_accent, full_stop, hyphen, low_line}
-use Rattle.rx_terms.specs.Lang.{is_lang, is_subtag_char}
 use Rattle.rx_terms.proofs.LangLemmas.{is_left, left-start, left-hyphen, left-empty, left-char, left-other}
-use Rattle.rx_model.proofs.Common.{Among, Kind, Tagged, Node, Iri, Blank, Term, Resource, Literal}
 use Rattle.rx_nquads.specs.Quads.{kind_of}
 use Rattle.rx_nquads.specs.Spelling.{SpellsIri, SpellsLabel, SpellsNode, stands_for_itself, escape, SpellsString, nothing, itself, escaped, SpellsKind, plain, tagged, typed, SpellsLiteral, SpellsTerm}
 use Rattle.rx_nquads.specs.Document.{SpellsGraph, StatesOne, DenotesOne, joined_lines, has_no_line_feed}

@@ -1,8 +1,5 @@
 -- A literal that is no typed xsd:string stays as it is.
-use Rattle.std.proofs.Common.{◌≡◌, ◌≢◌, ℕ, Bool, true, false, refl, ap, bytes_eq, if◌then◌else◌}
-use Rattle.rx_terms.specs.Literal.{xsd_string}
-use Rattle.rx_model.specs.Terms.{Kind, Plain, Tagged, Typed, Term, Resource, Literal}
-use Rattle.rx_model.proofs.Exact.{exact_texts}
+use Rattle.rx_model.proofs.Common.{◌≡◌, ◌≢◌, ℕ, Bool, true, false, refl, ap, bytes_eq, if◌then◌else◌, xsd_string, Kind, Plain, Tagged, Typed, Term, Resource, Literal, exact_texts}
 use Rattle.rx_nquads.specs.Quads.{proper_kind, proper_term, IsProper, ProperStays}
 
 kind_stays : (kind : Kind) → kind ≢ Typed xsd_string → proper_kind kind ≡ kind

@@ -1,10 +1,6 @@
 -- What a text in N-Quads denotes: RDF 1.1 N-Quads, section 2, as far as it is read here (own choice).
 use Rattle.std.specs.Prelude.{◌≡◌, ◌↔◌, ◌⊎◌, ℕ, Bool, true, not, ◌==◌, List, [], ◌∷◌, ◌++◌, flat_map, Option, Some, None}
-use Rattle.std.specs.List.{list_all}
-use Rattle.rx_terms.specs.Ascii.{line_feed, space, number_sign, full_stop}
-use Rattle.rx_terms.specs.Text.{Chars}
-use Rattle.rx_model.specs.Sets.{Among}
-use Rattle.rx_model.specs.Terms.{Node}
+use Rattle.rx_model.specs.Common.{list_all, line_feed, space, number_sign, full_stop, Chars, Among, Node}
 use Rattle.rx_nquads.specs.Quads.{Quad}
 use Rattle.rx_nquads.specs.Spelling.{SpellsIri, SpellsNode, SpellsTerm}
 

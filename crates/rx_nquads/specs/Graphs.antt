@@ -1,13 +1,10 @@
 -- The text of the code's graph, all of it in the graph of a name that is lent or in the default graph, and what it denotes.
 use Rattle.std.specs.Prelude.{ℕ, List, Option, option_map, encode_utf8_all}
-use Rattle.std.specs.Str.{chars}
-use Rattle.rx_terms.specs.Text.{Chars}
+use Rattle.rx_model.specs.Common.{chars, Chars, triple_seen, triples_seen, Bor}
 use Rattle.rx_terms.specs.declared.triples.Triple.{Triple as CodeTriple}
-use Rattle.rx_model.specs.Seen.{triple_seen, triples_seen}
 use Rattle.rx_nquads.specs.Document.{Nquads}
 use Rattle.rx_nquads.specs.Quads.{quads}
 use Rattle.rx_nquads.specs.Writing.{line_text, nquads}
-use denote.Ref.{Bor}
 
 abbrev pub lent_name : Option (Bor Chars) → Option Chars
 lent_name name = option_map (λ iri. iri.now) name

@@ -1,7 +1,6 @@
 -- Quads: RDF 1.1 Concepts, 4. Blank nodes are numbers.
 use Rattle.std.specs.Prelude.{◌≡◌, ◌≢◌, ℕ, List, map, Option, option_map, bytes_eq, if◌then◌else◌}
-use Rattle.rx_terms.specs.Text.{Chars}
-use Rattle.rx_terms.specs.Literal.{xsd_string}
+use Rattle.rx_terms.specs.Common.{Chars, xsd_string}
 use Rattle.rx_model.specs.Terms.{Kind, Plain, Tagged, Typed, Node, Iri, Term, Resource, Literal, Triple}
 
 -- a triple in the graph of a name, or in the default graph

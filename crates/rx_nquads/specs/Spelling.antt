@@ -3,11 +3,7 @@
 -- zero, so that each number has one label, and a string has no escapes but `\"`, `\\`, `\n` and `\r`.
 use Rattle.std.specs.Prelude.{◌≡◌, ℕ, Bool, true, false, not, ◌||◌, ◌==◌, [], ◌∷◌, ◌++◌, codes, Option, Some, None, if◌then◌else◌}
 use Rattle.std.specs.Str.Parse.{IsNumeral, digits_value}
-use Rattle.rx_terms.specs.Ascii.{line_feed, carriage_return, quotation_mark, reverse_solidus, less_than_sign, greater_than_sign, commercial_at, circumflex_accent}
-use Rattle.rx_terms.specs.Text.{Chars}
-use Rattle.rx_terms.specs.Iri.{IsIri}
-use Rattle.rx_terms.specs.Lang.{is_lang}
-use Rattle.rx_model.specs.Terms.{Kind, Plain, Tagged, Node, Iri, Blank, Term, Resource, Literal}
+use Rattle.rx_model.specs.Common.{line_feed, carriage_return, quotation_mark, reverse_solidus, less_than_sign, greater_than_sign, commercial_at, circumflex_accent, Chars, IsIri, is_lang, Kind, Plain, Tagged, Node, Iri, Blank, Term, Resource, Literal}
 use Rattle.rx_nquads.specs.Quads.{kind_of}
 
 -- IRIREF: `<`, an IRI and `>`

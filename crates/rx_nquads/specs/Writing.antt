@@ -1,7 +1,6 @@
 -- The N-Quads text of a list of triples, character by character (the choice of the layout is our own).
 use Rattle.std.specs.Prelude.{ℕ, List, [], ◌++◌, codes, flat_map, Option, Some, None}
-use Rattle.rx_terms.specs.Text.{Chars}
-use Rattle.rx_model.specs.Terms.{Kind, Plain, Tagged, Typed, Node, Iri, Blank, Term, Resource, Literal, Triple}
+use Rattle.rx_model.specs.Common.{Chars, Kind, Plain, Tagged, Typed, Node, Iri, Blank, Term, Resource, Literal, Triple}
 use Rattle.rx_pieces.specs.Writing.{string_text, iri_text, blank_text}
 
 abbrev pub node_text : Node ℕ → Chars

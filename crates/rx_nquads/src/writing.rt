@@ -1,8 +1,7 @@
 //! The text of a graph.
 ghost use Rattle.std.specs.Prelude.{◌≡◌, ◌≤◌, ◌++◌, Err, IfOk, IsErrOf, OnErr, OnOk, encode_utf8_all, option_map, false};
-ghost use Rattle.std.specs.Str.{chars};
+ghost use Rattle.rx_model.specs.Common.{chars, triple_seen, triples_seen};
 ghost use Rattle.rx_ports.specs.Counts.{Rose};
-ghost use Rattle.rx_model.specs.Seen.{triple_seen, triples_seen};
 ghost use Rattle.rx_nquads.specs.Graphs.{DenoteGraph, graph_bytes, lent_name, line_bytes};
 ghost use Rattle.rx_nquads.specs.Writing.{graph_text, line_text, nquads};
 ghost use Rattle.rx_pieces.specs.Underway.{Sends, SendsPart};

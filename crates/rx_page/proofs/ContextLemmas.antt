@@ -1,11 +1,9 @@
 -- What the bytes of a context file give.
-use Rattle.std.proofs.Common.{◌≡◌, ◌∙◌, ◌≤◌, ◌<◌, ℕ, nat_le, true, false, ◌&&◌, List, length, ap, arith, Result, Ok, Err, is_some}
-use Rattle.std.proofs.lemmas.Bool.Decides.{nat_tests}
+use Rattle.rx_turtle.proofs.Common.{◌≡◌, ◌∙◌, ◌≤◌, ◌<◌, ℕ, nat_le, true, false, ◌&&◌, List, length, ap, arith, Result, Ok, Err, is_some, nat_tests, Context}
 use Rattle.rx_names.specs.ContextFiles.{context_of}
 use Rattle.rx_names.specs.FileErrors.{FileGives}
 use Rattle.rx_names.specs.declared.context_files.ContextError.{ContextError}
 use Rattle.rx_names.specs.declared.context_files.ContextError.TheVariants as error
-use Rattle.rx_rdfa.specs.Names.{Context}
 use Rattle.rx_page.specs.Contexts.{largest_context, is_context, ContextGives}
 
 pub short : (n : ℕ) → n ≤ largest_context → nat_le n largest_context ≡ true

@@ -1,22 +1,12 @@
 -- The first fault of a page, of its form or of what its start tags mean.
-use Rattle.rx_terms.proofs.Common.{◌≡◌, ◌∙◌, ⊎_elim, inl, inr, ℕ, ◌≤◌, Bool, true, false, List, [], ◌∷◌, ◌++◌, length, refl, sym, ap, arith, Option, Some, None, Result, Ok, Err, length-append, if◌then◌else◌}
-use Rattle.std.specs.Prelude.{◌⊎◌}
-use Rattle.rx_grammar.specs.declared.faults.Fault.{Fault}
-use Rattle.rx_grammar.specs.declared.faults.Kind.TheVariants.{Unended}
-use Rattle.rx_grammar.proofs.Common.{FaultAt, Page, Tree}
-use Rattle.rx_pages.specs.PageReader.{Progress, page_read, end_of, may_end, fault_in}
-use Rattle.rx_pages.proofs.FaultsRead.{fault_is_read}
+use Rattle.rx_pages.proofs.Common.{if◌then◌else◌, ◌⊎◌, Fault, Unended, FaultAt, Page, Tree, Progress, page_read, end_of, may_end, fault_in, fault_is_read, page_is_told, one_tree, read_size}
+use Rattle.rx_items.proofs.Common.{Sign, sees, nothing_seen, signs_of, MeaningAt, Refuses, for_form, for_meaning, Way, IsRefusal}
+use Rattle.std.proofs.Common.{◌≡◌, ◌∙◌, ⊎_elim, inl, inr, ℕ, ◌≤◌, Bool, true, false, List, [], ◌∷◌, ◌++◌, length, refl, sym, ap, arith, Option, Some, None, Result, Ok, Err, length-append}
 use Rattle.rx_pages.proofs.OneOf.{not_both as not_both_at, one_fault}
-use Rattle.rx_pages.proofs.PageRead.{page_is_told}
-use Rattle.rx_pages.proofs.Trees.{one_tree}
-use Rattle.rx_nest.specs.Signs.{Sign, sees, nothing_seen, signs_of}
 use Rattle.rx_nest.proofs.Sizes.{within_so}
-use Rattle.rx_pages.proofs.Sizes.{read_size}
 use Rattle.rx_nest.proofs.TagPlaces.{shows_more}
 use Rattle.rx_nest.proofs.TreeSeen.{whole}
-use Rattle.rx_nest.specs.Faults.{MeaningAt, Refuses, for_form, for_meaning}
 use Rattle.rx_nest.specs.RefusedTags.{ReaderRefuses}
-use Rattle.rx_nest.specs.Ways.{Way, IsRefusal}
 use Rattle.rx_nest.proofs.Meanings.{read_as_meant}
 use Rattle.rx_nest.proofs.Refusing.{at_from}
 

@@ -1,14 +1,6 @@
 -- Bytes that were read without a fault.
-use Rattle.std.proofs.Common.{◌≡◌, ◌∙◌, ℕ, ◌≤◌, List, [], length, ap, refl, None, Ok}
-use Rattle.rx_grammar.specs.declared.faults.Fault.{Fault}
-use Rattle.rx_grammar.specs.declared.faults.Kind.TheVariants.{Unended}
-use Rattle.rx_grammar.specs.declared.limits.Limits.{Limits}
-use Rattle.rx_grammar.specs.PageFaults.{FaultAt}
-use Rattle.rx_pages.specs.PageReader.{no_page}
+use Rattle.rx_items.proofs.Common.{◌≡◌, ◌∙◌, ℕ, ◌≤◌, List, [], length, ap, refl, None, Ok, Fault, Unended, Limits, FaultAt, no_page, for_form, Way, IsRefusal, none_refuses, Context}
 use Rattle.rx_pages.proofs.Sizes.{read_size}
-use Rattle.rx_nest.specs.Faults.{for_form}
-use Rattle.rx_nest.specs.Ways.{Way, IsRefusal, none_refuses}
-use Rattle.rx_rdfa.specs.Names.{Context}
 use Rattle.rx_walk.specs.RefusalLaws.{refusal_laws}
 use Rattle.rx_job.specs.Words.{Task, extracts, itemizes, checks}
 use Rattle.rx_page.specs.Readers.{IsRead}

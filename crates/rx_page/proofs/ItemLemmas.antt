@@ -1,19 +1,8 @@
 -- Items of a page, from what was read of it to what it is.
-use Rattle.rx_terms.proofs.Common.{◌≡◌, ◌∙◌, ℕ, suc, Bool, true, false, List, [], ◌∷◌, ◌++◌, refl, ap, subst, Option, Some, None, Err, if◌then◌else◌, option_or, Chars}
+use Rattle.rx_items.proofs.Common.{◌≡◌, ◌∙◌, ℕ, suc, Bool, true, false, List, [], ◌∷◌, ◌++◌, refl, ap, subst, Option, Some, None, Err, if◌then◌else◌, Vec, codes, filter, option_map, option_or, Chars, Tree, Fault, Kind, Cycle, ItemsTooNested, ItemsTooMany, Stop, elements_of, is_top_level, Outcome, Given, Refused, json_by, refused, outcome, properties, Bounds, Visit, standard_bounds, is_cycle, fault_of, first_fault, visits_by, IsTextOf, TextGives}
 use Rattle.std.specs.declared.alloc.Global.{Global}
-use Rattle.std.specs.Prelude.{Vec, codes, filter, option_map}
-use Rattle.rx_grammar.proofs.Common.{Tree}
-use Rattle.rx_grammar.specs.declared.faults.Fault.{Fault}
-use Rattle.rx_grammar.specs.declared.faults.Kind.{Kind}
-use Rattle.rx_grammar.specs.declared.faults.Kind.TheVariants.{Cycle, ItemsTooNested, ItemsTooMany}
-use Rattle.rx_grammar.specs.declared.stops.Stop.{Stop}
 use Rattle.rx_grammar.specs.declared.stops.Stop.TheVariants as stop
 use Rattle.rx_microdata.specs.Base.{base_in}
-use Rattle.rx_microdata.specs.Elements.{elements_of, is_top_level}
-use Rattle.rx_microdata.specs.Json.{Outcome, Given, Refused, json_by, refused, outcome}
-use Rattle.rx_microdata.specs.Properties.{properties}
-use Rattle.rx_microdata.specs.Visits.{Bounds, Visit, standard_bounds, is_cycle, fault_of, first_fault, visits_by}
-use Rattle.rx_items.specs.Pages.{IsTextOf, TextGives}
 use Rattle.rx_page.specs.JsonTexts.{JsonTextGives}
 use Rattle.rx_page.specs.Texts.{JsonText}
 use Rattle.rx_page.specs.Tasks.{is_of_items}

@@ -1,25 +1,15 @@
 -- Which kinds the faults of a page's form have, and which those of its start tags.
-use Rattle.rx_terms.proofs.Common.{◌≡◌, ◌∙◌, ℕ, Bool, true, false, List, [], ◌∷◌, refl, sym, ap, subst, Option, Some, None, if◌then◌else◌, option_or, Chars}
-use Rattle.std.specs.Prelude.{option_map}
-use Rattle.rx_grammar.proofs.Common.{Syntax, Line, Phase, Item, FaultAt, Faulty, Rows, first_row, start_rows, end_rows, RunFault, unknown, bad, no_reference, ValueFault, TagFault, Tag}
+use Rattle.rx_items.proofs.Common.{◌≡◌, ◌∙◌, ℕ, Bool, true, false, List, [], ◌∷◌, refl, sym, ap, subst, Option, Some, None, if◌then◌else◌, option_map, option_or, Chars, Syntax, Item, FaultAt, Faulty, Rows, first_row, start_rows, end_rows, page_too_long, not_utf8, nul, tag_too_long, known_too_long, decided, unended, Tag, Fault, Kind, Limits, read_tag, facts, Context}
+use Rattle.rx_grammar.proofs.Common.{Line, Phase, RunFault, unknown, bad, no_reference, ValueFault, TagFault, bad_tag, repeated, is_of_meaning}
 use Rattle.rx_grammar.specs.declared.contents.Content.{Content}
-use Rattle.rx_grammar.specs.declared.faults.Fault.{Fault}
-use Rattle.rx_grammar.specs.declared.faults.Kind.{Kind}
-use Rattle.rx_grammar.specs.declared.limits.Limits.{Limits}
-use Rattle.rx_grammar.specs.PageFaults.{page_too_long, not_utf8, nul, tag_too_long, known_too_long, decided, unended}
 use Rattle.rx_grammar.specs.PageFaults as faults
-use Rattle.rx_grammar.specs.TagFaults.{bad_tag, repeated}
 use Rattle.rx_grammar.specs.TagFaults as tags
 use Rattle.rx_nest.specs.Signs.{Sign, begun, said, finished}
 use Rattle.rx_base.specs.Lines.{line_on}
-use Rattle.rx_rdfa.specs.Pages.{read_tag}
 use Rattle.rx_curie.specs.Given.{kind_of}
-use Rattle.rx_rdfa.specs.Facts.{facts}
-use Rattle.rx_rdfa.specs.Names.{Context}
 use Rattle.rx_rdfa.specs.Refusals.{Refusal, RelativeVocab, XmlLiteral, HtmlLiteral, refusal}
 use Rattle.rx_rdfa.specs.Tree as tree
 use Rattle.rx_walk.specs.Refused.{refused_in}
-use Rattle.rx_grammar.specs.Kinds.{is_of_meaning}
 use Rattle.rx_page.specs.Tasks.{is_of_items}
 
 -- a kind of a page's form is neither of items nor of meaning

@@ -1,21 +1,10 @@
 -- What is made of the list that a walk gives is what the rules have of the page.
-use Rattle.rx_terms.proofs.Common.{◌≡◌, ◌∙◌, ℕ, nat_eq, List, ap, subst, Chars}
+use Rattle.rx_eval.proofs.Common.{◌≡◌, ◌∙◌, ℕ, nat_eq, List, ap, subst, Chars, copied, numbered, triples_seen, Triple, same_bnode, model, Facts, Context, Nodes, written, exact_bnodes, Tree, Numbering, Makes, number_in, written_denotes}
 use Rattle.rx_terms.specs.declared.triples.Triple.{Triple as CodeTriple}
-use Rattle.rx_model.proofs.Common.{copied, numbered, triples_seen, Triple}
 use Rattle.rx_model.proofs.Names.{names_do_not_matter}
-use Rattle.rx_rdfa.specs.Blanks.{same_bnode, model}
-use Rattle.rx_rdfa.specs.Facts.{Facts}
 use Rattle.rx_rdfa.specs.Made.{made}
-use Rattle.rx_rdfa.specs.Names.{Context}
-use Rattle.rx_rdfa.specs.Tree.{Nodes}
-use Rattle.rx_rdfa.specs.Whole.{written}
-use Rattle.rx_rdfa.proofs.Exact.{exact_bnodes}
-use Rattle.rx_grammar.proofs.Common.{Tree}
-use Rattle.rx_eval.specs.Numbering.{Numbering}
-use Rattle.rx_eval.specs.Standing.{Makes, number_in}
 use Rattle.rx_walk.specs.Walks.{IsMade}
 use Rattle.rx_page.specs.Tasks.{base_in, facts_in, IsAccepted, HasText, Denotes}
-use Rattle.rx_rdfa.proofs.Whole.{written_denotes}
 use Rattle.rx_job.specs.Words.{Extraction}
 use Rattle.rx_page.specs.Settings.{GivesList}
 use Rattle.rx_page.specs.Forms.{IsFormText, FormDenotes, form_of}

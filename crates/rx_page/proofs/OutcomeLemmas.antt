@@ -1,24 +1,10 @@
 -- Each byte list has one outcome.
-use Rattle.rx_terms.proofs.Common.{◌≡◌, ◌∙◌, ⊎_elim, inl, inr, ℕ, Bool, true, false, List, [], ◌∷◌, ◌++◌, refl, sym, ap, subst, Option, Some, None, Result, Ok, Err, append_assoc, append-nil, append_cancel_left, not, if◌then◌else◌}
-use Rattle.std.specs.Prelude.{◌⊎◌}
-use Rattle.rx_grammar.specs.declared.faults.Fault.{Fault}
-use Rattle.rx_grammar.specs.declared.faults.Kind.TheVariants.{Unended}
-use Rattle.rx_grammar.proofs.Common.{FaultAt, Page, Tree}
-use Rattle.rx_pages.specs.PageReader.{Progress, page_read, page_byte_on, page_on, nothing_read, spot_of, end_of, may_end, fault_in}
+use Rattle.rx_items.proofs.Common.{append_cancel_left, Fault, Unended, FaultAt, Page, Tree, one_tree, Sign, sees, nothing_seen, signs_of, MeaningAt, Refuses, for_form, for_meaning, Way, IsRefusal, Context, Outcome, Given, Refused, outcome, standard_bounds, Data}
+use Rattle.rx_pages.proofs.Common.{◌≡◌, ◌∙◌, ⊎_elim, inl, inr, ℕ, Bool, true, false, List, [], ◌∷◌, ◌++◌, refl, sym, ap, subst, Option, Some, None, Result, Ok, Err, append_assoc, append-nil, not, if◌then◌else◌, ◌⊎◌, Progress, page_read, page_byte_on, page_on, nothing_read, spot_of, end_of, may_end, fault_in, fault_stays, page_is_told, page_append}
 use Rattle.rx_pages.proofs.BytesOn.{page_or_fault}
-use Rattle.rx_pages.proofs.FaultWalk.{fault_stays}
-use Rattle.rx_pages.proofs.PageRead.{page_is_told}
-use Rattle.rx_pages.proofs.ScanSteps.{page_append}
-use Rattle.rx_pages.proofs.Trees.{one_tree}
-use Rattle.rx_nest.specs.Signs.{Sign, sees, nothing_seen, signs_of}
 use Rattle.rx_nest.proofs.TreeSeen.{whole}
-use Rattle.rx_nest.specs.Faults.{MeaningAt, Refuses, for_form, for_meaning}
-use Rattle.rx_nest.specs.Ways.{Way, IsRefusal}
 use Rattle.rx_nest.proofs.Firsts.{meaning_first}
 use Rattle.rx_nest.proofs.Meanings.{meant, read_as_meant}
-use Rattle.rx_rdfa.specs.Names.{Context}
-use Rattle.rx_microdata.specs.Json.{Outcome, Given, Refused, outcome}
-use Rattle.rx_microdata.specs.Visits.{standard_bounds}
 use Rattle.rx_job.specs.Words.{Task, Itemization, extracts, itemizes, checks}
 use Rattle.rx_page.specs.Settings.{standard, HasFirst}
 use Rattle.rx_page.specs.Tasks.{TaskRefuses, syntax_in, way_in, is_of_items}
@@ -28,7 +14,6 @@ use Rattle.rx_page.proofs.FaultLemmas.{fronts, none_read, page_has_none, one_fir
 use Rattle.rx_page.proofs.ItemLemmas.{item_kind}
 use Rattle.rx_page.proofs.KindLemmas.{form_kind, meaning_kind}
 use Rattle.rx_page.proofs.FrontLemmas.{refuses_so}
-use Rattle.serde_json.specs.Data.{Data}
 
 module _ (way : Way) (law : IsRefusal way.refused) where
   abbrev SignsOf : Progress → List Sign

@@ -1,14 +1,9 @@
 -- The triples that RDFa's rules give are read as they are, and the quads of a list are its triples as they are read.
-use Rattle.rx_terms.proofs.Common.{◌≡◌, ℕ, List, [], ◌∷◌, map, refl, sym, ap, subst, chars, Chars}
-use Rattle.std.specs.Prelude.{Option}
-use Rattle.rx_model.proofs.Common.{Term, Resource, Literal, Triple}
-use Rattle.rx_rdfa.specs.Facts.{Facts}
+use Rattle.rx_turtle.proofs.Common.{◌≡◌, ℕ, List, [], ◌∷◌, map, refl, sym, ap, subst, chars, Chars, Option, Term, Resource, Literal, Triple, Facts, written, quads, proper_triple, IsProper}
 use Rattle.rx_rdfa.specs.Proper as rules
 use Rattle.rx_rdfa.specs.Tree.{Nodes}
-use Rattle.rx_rdfa.specs.Whole.{written}
 use Rattle.rx_rdfa.proofs.Proper.{literals_are_proper}
 use Rattle.rx_nquads.specs.Document.{Nquads}
-use Rattle.rx_nquads.specs.Quads.{quads, proper_triple, IsProper}
 use Rattle.rx_notation.proofs.LayoutMeaning.{layout_denotes}
 use Rattle.rx_page.specs.Forms.{in_graph, FormDenotes}
 use Rattle.rx_page.specs.declared.forms.Form.{Form}

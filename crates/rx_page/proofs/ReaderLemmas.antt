@@ -1,12 +1,9 @@
 -- What a page's walks answer, as what they read a page for has it.
-use Rattle.rx_terms.proofs.Common.{ℕ, List, Result, Ok, Err, Chars}
+use Rattle.rx_items.proofs.Common.{ℕ, List, Result, Ok, Err, Chars, Stop, Sign, Way, IsRefusal, none_refuses}
 use Rattle.rx_terms.specs.declared.triples.Triple.{Triple as CodeTriple}
-use Rattle.rx_grammar.specs.declared.stops.Stop.{Stop}
 use Rattle.rx_grammar.specs.declared.stops.Stop.TheVariants as stop
 use Rattle.rx_nest.specs.Readings as readings
 use Rattle.rx_nest.specs.Readings.{Read, ReadingStands, Unfinished}
-use Rattle.rx_nest.specs.Signs.{Sign}
-use Rattle.rx_nest.specs.Ways.{Way, IsRefusal, none_refuses}
 use Rattle.rx_walk.specs.Checks as checks
 use Rattle.rx_walk.specs.RefusalLaws.{refusal_laws}
 use Rattle.rx_walk.specs.Settings.{Setting, way_of}

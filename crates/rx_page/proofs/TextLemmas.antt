@@ -1,18 +1,8 @@
 -- A task makes one text of a page.
-use Rattle.rx_terms.proofs.Common.{◌≡◌, ◌∙◌, ℕ, List, ◌++◌, refl, sym, ap, subst, encode_utf8_all, Chars}
-use Rattle.std.specs.Prelude.{codes}
-use Rattle.rx_model.proofs.Common.{Triple, Graph, set_of}
-use Rattle.rx_shapes.specs.Shapes.{Inner, Cell, last_cell, next_cell, IsShape, HaveShapes}
-use Rattle.rx_shapes.specs.declared.shapes.Shape.{Shape}
+use Rattle.rx_items.proofs.Common.{◌≡◌, ◌∙◌, ℕ, List, ◌++◌, refl, sym, ap, subst, encode_utf8_all, Chars, codes, Triple, Graph, set_of, Tree, one_tree, Context, written, Given, Data}
+use Rattle.rx_jsonld.proofs.Common.{Inner, Cell, last_cell, next_cell, IsShape, HaveShapes, Shape, jsonld}
 use Rattle.rx_shapes.specs.declared.shapes.Shape.TheVariants as shape
 use Rattle.rx_notation.specs.Nesting.{nested}
-use Rattle.rx_jsonld.specs.Value.{jsonld}
-use Rattle.rx_grammar.proofs.Common.{Tree}
-use Rattle.rx_pages.proofs.Trees.{one_tree}
-use Rattle.rx_rdfa.specs.Names.{Context}
-use Rattle.rx_rdfa.specs.Whole.{written}
-use Rattle.rx_microdata.specs.Json.{Given}
-use Rattle.serde_json.specs.Data.{Data}
 use Rattle.serde_json.specs.Written.{compact_text}
 use Rattle.rx_job.specs.Words.{Task, Extraction, extracts, itemizes, checks}
 use Rattle.rx_page.specs.Outcomes.{IsTheTree, IsTheText}

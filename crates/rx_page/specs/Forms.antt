@@ -1,9 +1,6 @@
 -- How triples are written, and what such a text denotes.
 use Rattle.std.specs.Prelude.{◌≡◌, ℕ, List, map, Option, option_map, encode_utf8_all}
-use Rattle.std.specs.Str.{chars}
-use Rattle.rx_terms.specs.Text.{Chars}
-use Rattle.rx_model.specs.Terms.{Iri, Triple}
-use Rattle.rx_rdfa.specs.Names.{Context}
+use Rattle.rx_rdfa.specs.Common.{chars, Chars, Iri, Triple, Context}
 use Rattle.rx_nquads.specs.Document.{Nquads}
 use Rattle.rx_nquads.specs.Quads.{Quad}
 use Rattle.rx_nquads.specs.Writing.{nquads}

@@ -1,8 +1,6 @@
 -- What the text of a page's items is.
 use Rattle.std.specs.Prelude.{◌≡◌, ℕ, List, Result, Ok, Err}
-use Rattle.rx_terms.specs.Text.{Chars}
-use Rattle.rx_grammar.specs.Trees.{Tree}
-use Rattle.rx_grammar.specs.declared.stops.Stop.{Stop}
+use Rattle.rx_rdfa.specs.Common.{Chars, Tree, Stop}
 use Rattle.rx_grammar.specs.declared.stops.Stop.TheVariants as stop
 use Rattle.rx_microdata.specs.Base.{base_in}
 use Rattle.rx_microdata.specs.Json.{Refused, outcome}

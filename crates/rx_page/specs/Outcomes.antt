@@ -1,11 +1,6 @@
 -- The one outcome of a page.
 use Rattle.std.specs.Prelude.{◌≡◌, ◌⊎◌, ℕ, Bool, true, not, List}
-use Rattle.rx_rdfa.specs.Names.{Context}
-use Rattle.rx_grammar.specs.declared.faults.Fault.{Fault}
-use Rattle.rx_grammar.specs.Kinds.{is_of_meaning}
-use Rattle.rx_grammar.specs.declared.faults.Kind.{Kind}
-use Rattle.rx_grammar.specs.Trees.{Tree}
-use Rattle.rx_grammar.specs.Pages.{Page}
+use Rattle.rx_rdfa.specs.Common.{Context, Fault, is_of_meaning, Kind, Tree, Page}
 use Rattle.rx_microdata.specs.Json.{Given, outcome}
 use Rattle.rx_microdata.specs.Visits.{standard_bounds}
 use Rattle.serde_json.specs.Data.{Data}

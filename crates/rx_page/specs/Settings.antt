@@ -1,11 +1,7 @@
 -- How a page is read, by what it is read for.
 use Rattle.std.specs.Prelude.{ℕ, List}
-use Rattle.rx_terms.specs.Text.{Chars}
+use Rattle.rx_rdfa.specs.Common.{Chars, Syntax, Fault, Limits, Context}
 use Rattle.rx_terms.specs.declared.triples.Triple.{Triple as CodeTriple}
-use Rattle.rx_chars.specs.declared.syntax.Syntax.{Syntax}
-use Rattle.rx_grammar.specs.declared.faults.Fault.{Fault}
-use Rattle.rx_grammar.specs.declared.limits.Limits.{Limits}
-use Rattle.rx_rdfa.specs.Names.{Context}
 use Rattle.rx_nest.specs.Faults.{Refuses}
 use Rattle.rx_nest.specs.Ways.{Way, refuses_none}
 use Rattle.rx_walk.specs.Settings.{Setting, way_of}

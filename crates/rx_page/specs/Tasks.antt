@@ -1,21 +1,7 @@
 -- What a task makes of the bytes of a page: a text, or a refusal.
 use Rattle.std.specs.Prelude.{◌≡◌, ◌⊎◌, ℕ, Bool, true, false, List, [], None}
-use Rattle.rx_terms.specs.Text.{Chars}
-use Rattle.rx_model.specs.Terms.{Triple, set_of}
-use Rattle.rx_model.specs.Numbered.{Renamed}
-use Rattle.rx_rdfa.specs.Base.{base_of}
-use Rattle.rx_rdfa.specs.Facts.{Facts, with_facts}
-use Rattle.rx_rdfa.specs.Names.{Context}
-use Rattle.rx_rdfa.specs.Tree.{Nodes}
-use Rattle.rx_rdfa.specs.Whole.{written, graph_of}
-use Rattle.rx_chars.specs.declared.syntax.Syntax.{Syntax}
-use Rattle.rx_grammar.specs.declared.faults.Fault.{Fault}
-use Rattle.rx_grammar.specs.declared.faults.Kind.{Kind}
-use Rattle.rx_grammar.specs.declared.faults.Kind.TheVariants.{Cycle, ItemsTooNested, ItemsTooMany}
-use Rattle.rx_grammar.specs.Trees.{Tree}
-use Rattle.rx_grammar.specs.Pages.{Page}
+use Rattle.rx_rdfa.specs.Common.{Chars, Triple, set_of, Renamed, base_of, Facts, with_facts, Context, Nodes, written, graph_of, Syntax, Fault, Kind, Cycle, ItemsTooNested, ItemsTooMany, Tree, Page, tags_of}
 use Rattle.rx_nest.specs.Signs.{signs_of}
-use Rattle.rx_rdfa.specs.Pages.{tags_of}
 use Rattle.rx_walk.specs.Refused.{refused_in}
 use Rattle.rx_microdata.specs.Json.{Refused, outcome}
 use Rattle.rx_microdata.specs.Visits.{standard_bounds}

@@ -1,9 +1,6 @@
 -- Texts of a list of triples, of items, and of a page that is right.
 use Rattle.std.specs.Prelude.{◌≡◌, ℕ, List, ◌++◌, map, encode_utf8_all, codes}
-use Rattle.rx_terms.specs.Text.{Chars}
-use Rattle.rx_model.specs.Terms.{Triple}
-use Rattle.rx_rdfa.specs.Names.{Context}
-use Rattle.rx_grammar.specs.Trees.{Tree}
+use Rattle.rx_rdfa.specs.Common.{Chars, Triple, Context, Tree}
 use Rattle.rx_nquads.specs.Quads.{proper_triple}
 use Rattle.rx_shapes.specs.declared.shapes.Shape.{Shape}
 use Rattle.rx_shapes.specs.Shapes.{HaveShapes}

@@ -1,12 +1,7 @@
 -- What is written of what a page gives.
 use Rattle.std.specs.Prelude.{ℕ, nat_eq, List, map, encode_utf8_all}
-use Rattle.std.specs.Str.{chars}
+use Rattle.rx_rdfa.specs.Common.{chars, copied, numbered, triples_seen, Triple, Context}
 use Rattle.rx_terms.specs.declared.triples.Triple.{Triple as CodeTriple}
-use Rattle.rx_model.specs.Copied.{copied}
-use Rattle.rx_model.specs.Numbered.{numbered}
-use Rattle.rx_model.specs.Seen.{triples_seen}
-use Rattle.rx_model.specs.Terms.{Triple}
-use Rattle.rx_rdfa.specs.Names.{Context}
 use Rattle.rx_nquads.specs.Document.{Nquads}
 use Rattle.rx_nquads.specs.Quads.{quads, proper_triple}
 use Rattle.rx_nquads.specs.Writing.{nquads}

@@ -1,8 +1,6 @@
 //! Texts of JSON: of a page's items, and of a graph.
 ghost use Rattle.std.specs.Prelude.{◌≡◌, ◌++◌, IfOk, codes};
-ghost use Rattle.rx_terms.specs.Text.{Chars};
-ghost use Rattle.rx_grammar.specs.Trees.{Tree};
-ghost use Rattle.rx_model.specs.Seen.{triples_seen};
+ghost use Rattle.rx_rdfa.specs.Common.{Chars, Tree, triples_seen};
 ghost use Rattle.rx_page.specs.JsonTexts.{AreItems, JsonTextGives};
 ghost use Rattle.rx_page.specs.Texts.{as_read, IsJsonldText, JsonDenotes};
 

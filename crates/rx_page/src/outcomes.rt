@@ -1,7 +1,6 @@
 //! What a page gives, and writing it.
 ghost use Rattle.std.specs.Prelude.{◌≡◌, IfOk, OnOk, IsErrOf};
-ghost use Rattle.rx_model.specs.Copied.{copied};
-ghost use Rattle.rx_model.specs.Seen.{triples_seen};
+ghost use Rattle.rx_model.specs.Common.{copied, triples_seen};
 ghost use Rattle.rx_ports.specs.Counts.{Rose};
 ghost use Rattle.rx_ports.specs.Shelves.{WhereKnown, GrowsBy, GrowsByPart};
 ghost use Rattle.rx_page.specs.Forms.{IsFormText, FormDenotes};

@@ -1,9 +1,8 @@
 //! A graph with the shapes of its blank nodes.
 ghost use Rattle.std.specs.Prelude.{◌≡◌, IfOk, OnOk, IsErrOf, map};
-ghost use Rattle.std.specs.Str.{chars};
+ghost use Rattle.rx_model.specs.Common.{chars, triples_seen};
 ghost use Rattle.rx_ports.specs.Counts.{Rose};
 ghost use Rattle.rx_ports.specs.Shelves.{WhereKnown, GrowsBy, GrowsByPart};
-ghost use Rattle.rx_model.specs.Seen.{triples_seen};
 ghost use Rattle.rx_shapes.specs.Table.{AreShapes};
 ghost use Rattle.rx_nquads.specs.Quads.{proper_triple};
 ghost use Rattle.rx_notation.specs.Meaning.{NestedTurtle};

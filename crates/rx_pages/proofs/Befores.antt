@@ -1,9 +1,6 @@
 -- A token that something follows stands before a `<` too; outside the root, and where it is a tag, also before nothing.
-use Rattle.rx_terms.proofs.Common.{◌≡◌, ◌∙◌, ◌⊎◌, inl, inr, ℕ, Bool, true, false, List, [], ◌∷◌, ◌++◌, Option, Some, None, refl, ap, sym, eqb-true, ◌||◌, ◌&&◌, ◌==◌, not, list_all, ampersand, solidus, semicolon, number_sign, lowered_char, is_letter, is_digit, is_letter_or_digit, Chars, lowered, begins_with, both, not_both_ways, and-false}
-use Rattle.rx_grammar.proofs.Common.{Entry, Syntax, same, is_hexadecimal_digit, is_x, is_body, begins_number, is_begun, stops_at, Token, tag, kept, ends_name, Spells, has_less_than, keeps_runs, raw_name, begins_end, stops_end, a_tag, an_end_of_raw, a_character, a_less_than, a_raw_run, a_reference, a_kept_run, a_comment, a_bogus_comment, a_question, a_strict_comment, an_instruction, a_section, a_doctype, Item, last_from, Spelled, no_more, one, values, next_of}
-use Rattle.rx_grammar.specs.declared.contents.Content.{Content}
+use Rattle.rx_reader.proofs.Common.{◌≡◌, ◌∙◌, ◌⊎◌, inl, inr, ℕ, Bool, true, false, List, [], ◌∷◌, ◌++◌, Option, Some, None, refl, ap, sym, eqb-true, ◌||◌, ◌&&◌, ◌==◌, not, list_all, ampersand, solidus, semicolon, number_sign, lowered_char, is_letter, is_digit, is_letter_or_digit, Chars, lowered, begins_with, both, not_both_ways, and-false, Entry, Syntax, same, is_hexadecimal_digit, is_x, is_body, begins_number, is_begun, stops_at, Token, tag, kept, ends_name, Spells, has_less_than, keeps_runs, raw_name, begins_end, stops_end, a_tag, an_end_of_raw, a_character, a_less_than, a_raw_run, a_reference, a_kept_run, a_comment, a_bogus_comment, a_question, a_strict_comment, an_instruction, a_section, a_doctype, Item, last_from, Spelled, no_more, one, values, next_of, Content, unless}
 use Rattle.rx_grammar.specs.declared.contents.Content.TheVariants as content
-use Rattle.rx_reader.proofs.Classes.{unless}
 use Rattle.rx_pages.proofs.RawEnds.{IsRawName, is_raw_name}
 
 none_less : (test : ℕ → Bool) → test 60 ≡ false → (text : Chars) → list_all test (text ++ 60 ∷ []) ≡ false

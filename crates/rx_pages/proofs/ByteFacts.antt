@@ -1,11 +1,5 @@
 -- What holds of each byte that is read.
-use Rattle.rx_terms.proofs.Common.{◌≡◌, ◌∙◌, ℕ, ◌+◌, Bool, false, List, [], ◌∷◌, ◌++◌, refl, sym, ap, subst, Result, Ok, Err, ◌&&◌, ◌||◌, ◌==◌, not, nat_le, greater_than_sign, split}
-use Rattle.rx_grammar.proofs.Common.{Syntax, More, Char, Bad, answer_of, Entry, byte_order_mark, line_feed, carriage_return, as_line_end, Token, values, Item, is_literal, last_from}
-use Rattle.rx_chars.specs.declared.utf8.Utf8Step.{Utf8Step}
-use Rattle.rx_grammar.specs.declared.contents.Content.{Content}
-use Rattle.rx_grammar.specs.declared.faults.Kind.{Kind}
-use Rattle.rx_grammar.specs.declared.faults.Kind.TheVariants.{BadDoctype, NotUtf8, Nul, PageTooLong, StrictText, TagTooLong}
-use Rattle.rx_grammar.specs.declared.limits.Limits.{Limits}
+use Rattle.rx_reader.proofs.Common.{◌≡◌, ◌∙◌, ℕ, ◌+◌, Bool, false, List, [], ◌∷◌, ◌++◌, refl, sym, ap, subst, Result, Ok, Err, ◌&&◌, ◌||◌, ◌==◌, not, nat_le, greater_than_sign, split, Syntax, More, Char, Bad, answer_of, Entry, byte_order_mark, line_feed, carriage_return, as_line_end, Token, values, Item, is_literal, last_from, Utf8Step, Content, Kind, BadDoctype, NotUtf8, Nul, PageTooLong, StrictText, TagTooLong, Limits}
 use Rattle.rx_pages.specs.Scanner.{Verdict, goes_on, whole, ended, refused, verdict}
 use Rattle.rx_pages.specs.PageReader.{Spot, Scanning, Scanned, first_of, starts_at, token_at, entering, item_of, is_doctype, is_too_long, completed, told_first, with_item, after_token, told, read_entry, read_char, read_answer, read_byte}
 

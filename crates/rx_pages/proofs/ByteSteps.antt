@@ -1,14 +1,5 @@
 -- Reading a page byte by byte: what the bytes of one character do.
-use Rattle.rx_terms.proofs.Common.{◌≡◌, ◌≢◌, ◌∙◌, ℕ, suc, ◌+◌, ◌-◌, ◌<◌, ◌≤◌, Bool, true, false, List, [], ◌∷◌, ◌++◌, refl, sym, ap, subst, length, append_assoc, append-nil, Result, Ok, Err, arith, nat_tests, ◌&&◌, ◌==◌, if◌then◌else◌, IsScalar, encode}
-use Rattle.std.proofs.Common.{nat_le}
-use Rattle.std.proofs.lemmas.List.{length-append}
-use Rattle.rx_grammar.proofs.Common.{Syntax, More, Char, answer_of, IsCharacter, values, is_known_tag}
-use Rattle.rx_chars.proofs.Utf8Forms.{character_of_form}
-use Rattle.rx_chars.proofs.Utf8Exact.{answer_is}
-use Rattle.rx_grammar.specs.declared.faults.Fault.{Fault}
-use Rattle.rx_grammar.specs.declared.faults.Kind.{Kind}
-use Rattle.rx_grammar.specs.declared.faults.Kind.TheVariants.{PageTooLong, TagTooLong, Nul}
-use Rattle.rx_grammar.specs.declared.limits.Limits.{Limits}
+use Rattle.rx_reader.proofs.Common.{◌≡◌, ◌≢◌, ◌∙◌, ℕ, suc, ◌+◌, ◌-◌, ◌<◌, ◌≤◌, Bool, true, false, List, [], ◌∷◌, ◌++◌, refl, sym, ap, subst, length, append_assoc, append-nil, Result, Ok, Err, arith, nat_le, nat_tests, ◌&&◌, ◌==◌, if◌then◌else◌, IsScalar, encode, length-append, Syntax, More, Char, answer_of, IsCharacter, values, is_known_tag, character_of_form, answer_is, Fault, Kind, PageTooLong, TagTooLong, Nul, Limits}
 use Rattle.rx_pages.specs.Nesting.{Step, content_at}
 use Rattle.rx_pages.specs.PageReader.{Spot, Scanning, Scanned, first_of, token_at, is_too_long, holding, read_char, read_answer, spot_of, steps_on, no_step, Reading, Progress, progress_of, nested_items, page_byte_on, page_on, telling}
 use Rattle.rx_pages.proofs.EntrySteps.{Stood, placed_at, map_scanned, stood_by, nested_by}

@@ -1,20 +1,9 @@
 -- One more byte: the page goes on with it, or it decides a fault. So bytes that are no page have a fault.
-use Rattle.rx_terms.proofs.Common.{◌≡◌, ◌≢◌, ◌∙◌, ◌⊎◌, ⊎_elim, inl, inr, ℕ, ◌+◌, ◌-◌, ◌<◌, ◌≤◌, Bool, true, false, List, [], ◌∷◌, ◌++◌, refl, sym, ap, subst, length, append_assoc, append-nil, eqb-true, Some, None, arith, ◌&&◌, ◌==◌, not, IsScalar, len_utf8, all_scalars, encodes, scalar, length-encode, and_parts, and_from, cond-true, cond-false, nat_tests, by_test, not_both_ways}
-use Rattle.std.proofs.Common.{nat_le}
-use lib.Utf8.{encode}
-use Rattle.std.proofs.lemmas.List.{length-append}
-use Rattle.rx_grammar.proofs.Common.{Syntax, More, Char, Bad, answer_of, BeginsCharacter, Entry, entered, placed, without_mark, as_line_end, Tree, values, next_of, Item, Spelled, no_more, has_no_nul, Page, Document, Line, inside_of, Phase, before, after, Stands, not_begun, ended, is_known_tag, token_of, IsShort, Before, Reached, FaultAt}
-use Rattle.rx_chars.specs.declared.utf8.Utf8Step.{Utf8Step}
-use Rattle.rx_chars.specs.Utf8.{Answers}
-use Rattle.rx_chars.proofs.Utf8Exact.{answers_from}
-use Rattle.rx_chars.proofs.Utf8Forms.{form_of}
-use Rattle.rx_grammar.specs.declared.faults.Fault.{Fault}
+use Rattle.rx_reader.proofs.Common.{◌≡◌, ◌≢◌, ◌∙◌, ◌⊎◌, ⊎_elim, inl, inr, ℕ, ◌+◌, ◌-◌, ◌<◌, ◌≤◌, Bool, true, false, List, [], ◌∷◌, ◌++◌, refl, sym, ap, subst, length, append_assoc, append-nil, eqb-true, Some, None, arith, nat_le, ◌&&◌, ◌==◌, not, IsScalar, len_utf8, all_scalars, length-encode, and_parts, and_from, cond-true, cond-false, nat_tests, by_test, not_both_ways, length-append, Syntax, More, Char, Bad, answer_of, BeginsCharacter, Answers, Entry, entered, placed, without_mark, as_line_end, Tree, values, next_of, Item, Spelled, no_more, has_no_nul, Page, Document, Line, inside_of, Phase, before, after, Stands, not_begun, ended, is_known_tag, token_of, IsShort, Before, Reached, FaultAt, IsPart, GoesOn, begins_one, is_one, Utf8Step, answers_from, form_of, Fault, Limits, PageOrFault}
+use lib.Utf8.{encodes, scalar, encode}
 use Rattle.rx_grammar.specs.declared.faults.Kind.TheVariants as kind
-use Rattle.rx_grammar.specs.declared.limits.Limits.{Limits}
 use Rattle.rx_grammar.specs.Pages as pages
-use Rattle.rx_grammar.specs.PageFaults.{IsPart, GoesOn, begins_one, is_one}
 use Rattle.rx_grammar.specs.PageFaults as faults
-use Rattle.rx_grammar.specs.Laws.{PageOrFault}
 use Rattle.rx_pages.proofs.CharSteps.{passes, entry_at}
 use Rattle.rx_pages.proofs.CharWalk.{is_started, ends_return}
 use Rattle.rx_pages.proofs.Snocs.{entered_one, page_snoc}

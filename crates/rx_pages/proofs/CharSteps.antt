@@ -1,10 +1,5 @@
 -- Reading a page character by character: what its entries lead to.
-use Rattle.rx_terms.proofs.Common.{◌≡◌, ◌∙◌, ℕ, ◌+◌, ◌-◌, Bool, true, false, List, [], ◌∷◌, ◌++◌, ap, length, append-nil, Result, Ok, Err, arith, ◌&&◌, ◌||◌, ◌==◌, not, if◌then◌else◌, IsScalar, encode}
-use Rattle.rx_grammar.proofs.Common.{Syntax, Entry, byte_order_mark, line_feed, carriage_return, as_line_end, values}
-use Rattle.rx_grammar.specs.declared.faults.Fault.{Fault}
-use Rattle.rx_grammar.specs.declared.faults.Kind.{Kind}
-use Rattle.rx_grammar.specs.declared.faults.Kind.TheVariants.{TagTooLong}
-use Rattle.rx_grammar.specs.declared.limits.Limits.{Limits}
+use Rattle.rx_reader.proofs.Common.{◌≡◌, ◌∙◌, ℕ, ◌+◌, ◌-◌, Bool, true, false, List, [], ◌∷◌, ◌++◌, ap, length, append-nil, Result, Ok, Err, arith, ◌&&◌, ◌||◌, ◌==◌, not, if◌then◌else◌, IsScalar, encode, Syntax, Entry, byte_order_mark, line_feed, carriage_return, as_line_end, values, Fault, Kind, TagTooLong, Limits}
 use Rattle.rx_pages.specs.Nesting.{content_at}
 use Rattle.rx_pages.specs.Scanner.{verdict}
 use Rattle.rx_pages.specs.PageReader.{Scanning, Scanned, first_of, is_too_long, passed, told, read_entry, spot_of, Progress, nested_items, telling}

@@ -1,8 +1,5 @@
 -- Reading the characters of a page from left to right.
-use Rattle.rx_terms.proofs.Common.{◌≡◌, ◌≢◌, ◌∙◌, ℕ, ◌+◌, ◌-◌, ◌<◌, ◌≤◌, Bool, true, false, List, [], ◌∷◌, ◌++◌, refl, sym, ap, subst, length, nat_lt, append_assoc, Ok, arith, ◌&&◌, ◌==◌, not, IsScalar, len_utf8, all_scalars, encode, encodes, scalar, length-encode, nat_tests, and_parts, cond-true, cond-false, or-false, list_all, by_test, untrue}
-use Rattle.std.proofs.lemmas.List.{length-append}
-use Rattle.rx_grammar.proofs.Common.{Syntax, Entry, byte_order_mark, line_feed, carriage_return, line_end_entry, placed, entered, without_mark, values, is_known_tag}
-use Rattle.rx_grammar.specs.declared.limits.Limits.{Limits}
+use Rattle.rx_reader.proofs.Common.{◌≡◌, ◌≢◌, ◌∙◌, ℕ, ◌+◌, ◌-◌, ◌<◌, ◌≤◌, Bool, true, false, List, [], ◌∷◌, ◌++◌, refl, sym, ap, subst, length, nat_lt, append_assoc, Ok, arith, ◌&&◌, ◌==◌, not, IsScalar, len_utf8, all_scalars, encode, encodes, scalar, length-encode, nat_tests, and_parts, cond-true, cond-false, or-false, list_all, by_test, untrue, length-append, Syntax, Entry, byte_order_mark, line_feed, carriage_return, line_end_entry, placed, entered, without_mark, values, is_known_tag, Limits}
 use Rattle.rx_pages.specs.Nesting.{content_at}
 use Rattle.rx_pages.specs.PageReader.{first_of, is_too_long, spot_of, Progress, page_on}
 use Rattle.rx_pages.proofs.EntrySteps.{Stood, entry_step}

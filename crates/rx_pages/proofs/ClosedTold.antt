@@ -1,13 +1,8 @@
 -- What the front of a page tells, and what it tells once it is closed.
-use Rattle.rx_terms.proofs.Common.{◌≡◌, ◌∙◌, ℕ, ◌+◌, ◌≤◌, true, false, List, [], ◌∷◌, ◌++◌, Option, refl, ap, sym, subst, length, append-nil, length-append, arith, not, ◌==◌, encodes, encodes-append}
-use Rattle.std.specs.Prelude.{Ok, encode_utf8_all}
-use lib.Utf8.{encode}
-use Rattle.rx_grammar.proofs.Common.{Entry, placed, Syntax, Item, Spelled, no_more, one, has_no_nul, Line, Phase, after}
-use Rattle.rx_grammar.specs.declared.limits.Limits.{Limits}
+use Rattle.rx_pages.proofs.Common.{not, ◌==◌, Ok, encode_utf8_all, encodes-append, Entry, placed, Syntax, Item, Spelled, no_more, one, has_no_nul, Line, Phase, after, Limits, page_on, nothing_read, closing, closed, IsWide, AllEnd, Tells, FrontsTell}
+use Rattle.std.proofs.Common.{◌≡◌, ◌∙◌, ℕ, ◌+◌, ◌≤◌, true, false, List, [], ◌∷◌, ◌++◌, Option, refl, ap, sym, subst, length, append-nil, length-append, arith}
+use lib.Utf8.{encodes, encode}
 use Rattle.rx_pages.specs.Nesting.{Event, not_begun, content_at, Goes, IsAt}
-use Rattle.rx_pages.specs.PageReader.{page_on, nothing_read}
-use Rattle.rx_pages.specs.Closings.{closing, closed, IsWide, AllEnd, Tells}
-use Rattle.rx_pages.specs.Laws.{FrontsTell}
 use Rattle.rx_pages.proofs.ByteSteps.{progress_at}
 use Rattle.rx_pages.proofs.Closings.{page_entries, entered_tag, all_append, all_fit, last_within, Reaches, closes, as_meant, is_page, Fronted, fronted}
 use Rattle.rx_pages.proofs.FrontRead.{AllBelow, below_behind, page_below, front_is_read}

@@ -1,9 +1,5 @@
 -- The front of a page goes on to a page: what is open is closed, from the innermost element on.
-use Rattle.rx_terms.proofs.Common.{◌≡◌, ◌∙◌, ℕ, ◌+◌, ◌-◌, ◌<◌, ◌≤◌, Bool, true, false, List, [], ◌∷◌, ◌++◌, Option, Some, None, refl, ap, sym, subst, subst₂, length, append_assoc, append-nil, arith, ◌&&◌, ◌||◌, ◌==◌, not, nat_le, list_all, len_utf8, all_scalars, encode, encodes, scalar, length-encode, encodes-append, and_from, cond-false, nat_tests, greater_than_sign, Chars, both, untrue, and-false}
-use Rattle.std.specs.Prelude.{codes, Ok, encode_utf8_all}
-use Rattle.std.proofs.lemmas.List.{length-append}
-use Rattle.rx_grammar.proofs.Common.{Entry, byte_order_mark, line_feed, carriage_return, placed, entered, without_mark, Syntax, Html, Xhtml, Tag, Token, tag, SpellsTag, Spells, a_tag, outside, is_alone, is_self_closed, is_plaintext, drops_line_feed, StartTag, values, Item, last_from, Spelled, no_more, one, Fits, AllFit, is_literal, no_section_end, start_of, has_no_nul, Document, Line, inside_of, Phase, before, within, after, Stands, not_begun, still_open, ended, Begun}
-use Rattle.rx_grammar.specs.declared.limits.Limits.{Limits}
+use Rattle.rx_reader.proofs.Common.{◌≡◌, ◌∙◌, ℕ, ◌+◌, ◌-◌, ◌<◌, ◌≤◌, Bool, true, false, List, [], ◌∷◌, ◌++◌, Option, Some, None, refl, ap, sym, subst, subst₂, length, append_assoc, append-nil, arith, ◌&&◌, ◌||◌, ◌==◌, not, nat_le, codes, Ok, encode_utf8_all, list_all, len_utf8, all_scalars, encode, encodes, scalar, length-encode, encodes-append, and_from, cond-false, nat_tests, greater_than_sign, Chars, both, untrue, and-false, length-append, Entry, byte_order_mark, line_feed, carriage_return, placed, entered, without_mark, Syntax, Html, Xhtml, Tag, Token, tag, SpellsTag, Spells, a_tag, outside, is_alone, is_self_closed, is_plaintext, drops_line_feed, StartTag, values, Item, last_from, Spelled, no_more, one, Fits, AllFit, is_literal, no_section_end, start_of, has_no_nul, Document, Line, inside_of, Phase, before, within, after, Stands, not_begun, still_open, ended, Begun, Limits}
 use Rattle.rx_grammar.specs.Shapes as shapes
 use Rattle.rx_pages.specs.Nesting as nesting
 use Rattle.rx_pages.specs.Nesting.{Event, Nesting, Step, content_at, over, step_by, nest_step, Goes, stands, goes, IsAt}

@@ -1,15 +1,7 @@
 -- Comments, instructions and sections are read as they are spelled.
-use Rattle.rx_terms.proofs.Common.{◌≡◌, ◌∙◌, ℕ, Bool, true, false, [], ◌∷◌, ◌++◌, Option, refl, ap, sym, append_assoc, inl, inr, ◌+◌, arith, ◌&&◌, not, cond-true, cond-false, and_from, or_left, or_right, or_parts, map-append, lowered_char, greater_than_sign, Chars, begins_with, lowered, both, either, not_both_ways, by_test, and-false, ◌||◌}
-use Rattle.std.specs.Prelude.{◌-◌, codes, length, take}
-use Rattle.std.proofs.lemmas.List.{length-append}
-use Rattle.std.proofs.Math.Seq.{take-append_seam}
-use Rattle.rx_grammar.proofs.Common.{Syntax, Html, Xhtml, Token, comment, section, ends_with, ends_comment, begins_declaration, IsFirst, has_markup, has_sections}
-use Rattle.rx_grammar.specs.declared.contents.Content.{Content}
+use Rattle.rx_reader.proofs.Common.{◌≡◌, ◌∙◌, ℕ, Bool, true, false, [], ◌∷◌, ◌++◌, Option, refl, ap, sym, append_assoc, inl, inr, ◌+◌, arith, ◌&&◌, not, ◌||◌, ◌-◌, codes, length, take, cond-true, cond-false, and_from, or_left, or_right, or_parts, map-append, length-append, lowered_char, greater_than_sign, Chars, begins_with, lowered, both, either, not_both_ways, by_test, and-false, take-append_seam, Syntax, Html, Xhtml, Token, comment, section, ends_with, ends_comment, begins_declaration, IsFirst, has_markup, has_sections, Content, begins_more, snoc_front, section_markup}
 use Rattle.rx_pages.specs.Scanner.{goes_on, whole, whole_if, after_mark, in_markup, in_section, verdict, GoesOn, ReadAs}
 use Rattle.rx_pages.proofs.Reading.{all_go, go_append, read_to, reads_first, markup_is}
-use Rattle.rx_reader.proofs.Fronts.{begins_more}
-use Rattle.rx_reader.proofs.ValueFaults.{snoc_front}
-use Rattle.rx_reader.proofs.OneToken.{section_markup}
 
 pub none_if : (b : Bool) (t : Token) → b ≡ false → whole_if b t ≡ goes_on
 none_if b t h = rw h refl

@@ -1,17 +1,10 @@
 -- What is read as a document type is one, and where none goes on a character is refused.
-use Rattle.rx_terms.proofs.Common.{◌≡◌, ◌∙◌, ℕ, true, cond, [], ◌∷◌, ◌++◌, Option, Some, None, refl, ap, sym, subst, append_assoc, eqb-true, ◌||◌, ◌==◌, not, list_all, greater_than_sign, is_white_space, Chars, split}
-use Rattle.std.specs.Prelude.{codes}
-use Rattle.rx_terms.specs.Ascii.{left_bracket}
-use Rattle.rx_grammar.proofs.Common.{Syntax, Html, Xhtml, doctype, cased, cased_char, has_markup, doctype_word, IsDoctype, a_doctype}
-use Rattle.rx_grammar.specs.declared.contents.Content.{Content}
-use Rattle.rx_grammar.specs.declared.faults.Kind.TheVariants.{BadDoctype}
-use Rattle.rx_grammar.specs.PageFaults.{BeginsDoctype, BeginsNoDoctype}
+use Rattle.rx_reader.proofs.Common.{◌≡◌, ◌∙◌, ℕ, true, cond, [], ◌∷◌, ◌++◌, Option, Some, None, refl, ap, sym, subst, append_assoc, eqb-true, ◌||◌, ◌==◌, not, codes, list_all, greater_than_sign, is_white_space, left_bracket, Chars, split, Syntax, Html, Xhtml, doctype, cased, cased_char, has_markup, doctype_word, IsDoctype, a_doctype, Content, BadDoctype, BeginsDoctype, BeginsNoDoctype, of_white}
 use Rattle.rx_pages.specs.Scanner.{DoctypePhase, keyword, spaces, naming, passed, closed, in_name, doctype_move, doctype_on, refused, told_of_doctype}
 use Rattle.rx_pages.proofs.Doctypes.{on_none, on_append, behind}
 use Rattle.rx_pages.proofs.Pending.{begun_goes}
 use Rattle.rx_pages.proofs.Reading.{markup_is}
 use Rattle.rx_pages.proofs.Refusals.{IsRefused}
-use Rattle.rx_reader.proofs.Classes.{of_white}
 
 -- what stands behind the name
 pub record Rest (text : Chars) : Type 0 where

@@ -1,13 +1,5 @@
 -- Where one token is complete among some bytes, and that a document type is complete only where it may come.
-use Rattle.rx_terms.proofs.Common.{◌≡◌, ◌∙◌, ℕ, Bool, true, false, List, [], ◌∷◌, ◌++◌, refl, sym, ap, subst, Result, Ok, Err, ◌&&◌, ◌||◌, ◌==◌, not, nat_le, if◌then◌else◌, greater_than_sign}
-use Rattle.rx_grammar.proofs.Common.{Syntax, More, Char, Bad, answer_of, Entry, byte_order_mark, line_feed, carriage_return, as_line_end, Token, kept, doctype, values, Item, is_literal}
-use Rattle.rx_chars.specs.declared.utf8.Utf8Step.{Utf8Step}
-use Rattle.rx_grammar.specs.declared.faults.Kind.{Kind}
-use Rattle.rx_grammar.specs.declared.faults.Kind.TheVariants.{BadDoctype, NotUtf8, Nul, PageTooLong, StrictText, TagTooLong}
-use Rattle.rx_grammar.specs.declared.limits.Limits.{Limits}
-use Rattle.rx_pages.specs.Scanner.{Verdict, goes_on, whole, ended, refused, verdict}
-use Rattle.rx_pages.specs.PageReader.{Spot, Scanning, Scanned, first_of, starts_at, token_at, item_of, is_doctype, is_too_long, completed, with_item, told, read_entry, read_char, read_answer, read_byte, scan_from}
-use Rattle.rx_pages.proofs.TokenWalk.{IsKept, is_kept}
+use Rattle.rx_pages.proofs.Common.{◌≡◌, ◌∙◌, ℕ, Bool, true, false, List, [], ◌∷◌, ◌++◌, refl, sym, ap, subst, Result, Ok, Err, ◌&&◌, ◌||◌, ◌==◌, not, nat_le, if◌then◌else◌, greater_than_sign, Syntax, More, Char, Bad, answer_of, Entry, byte_order_mark, line_feed, carriage_return, as_line_end, Token, kept, doctype, values, Item, is_literal, Utf8Step, Kind, BadDoctype, NotUtf8, Nul, PageTooLong, StrictText, TagTooLong, Limits, Verdict, goes_on, whole, ended, refused, verdict, Spot, Scanning, Scanned, first_of, starts_at, token_at, item_of, is_doctype, is_too_long, completed, with_item, told, read_entry, read_char, read_answer, read_byte, scan_from, IsKept, is_kept}
 use Rattle.rx_pages.proofs.EndedRuns.{ended_kept}
 use Rattle.rx_pages.proofs.ScanSteps.{First, first, ok_same, scan_first, with_before}
 

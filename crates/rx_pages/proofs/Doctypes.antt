@@ -1,17 +1,8 @@
 -- The document type is read as it is spelled.
-use Rattle.rx_terms.proofs.Common.{◌≡◌, ◌≢◌, ◌∙◌, ℕ, suc, ◌+◌, ◌<◌, length, Bool, true, false, [], ◌∷◌, ◌++◌, Option, Some, None, refl, ap, sym, subst, append_assoc, arith, eqb-true, ◌&&◌, ◌||◌, ◌==◌, not, list_all, list_any, cond-true, cond-false, or_from, or_parts, map-append, length-map, lowered_char, greater_than_sign, is_white_space, Chars, begins_with, lowered, both, not_both_ways, by_test, untrue, and-false}
-use Rattle.std.specs.Prelude.{codes, drop}
-use Rattle.std.proofs.lemmas.List.{length-append}
-use Rattle.rx_terms.specs.Ascii.{left_bracket}
-use Rattle.rx_grammar.proofs.Common.{Syntax, Html, Xhtml, one_or_more, doctype, comment, cased, cased_char, has_markup, has_sections, ends_with, begins_declaration, doctype_word, IsDoctype}
-use Rattle.rx_grammar.specs.declared.contents.Content.{Content}
+use Rattle.rx_reader.proofs.Common.{◌≡◌, ◌≢◌, ◌∙◌, ℕ, suc, ◌+◌, ◌<◌, length, Bool, true, false, [], ◌∷◌, ◌++◌, Option, Some, None, refl, ap, sym, subst, append_assoc, arith, eqb-true, ◌&&◌, ◌||◌, ◌==◌, not, codes, drop, list_all, list_any, cond-true, cond-false, or_from, or_parts, map-append, length-map, length-append, lowered_char, greater_than_sign, is_white_space, left_bracket, Chars, begins_with, lowered, both, not_both_ways, by_test, untrue, and-false, Syntax, Html, Xhtml, one_or_more, doctype, comment, cased, cased_char, has_markup, has_sections, ends_with, begins_declaration, doctype_word, IsDoctype, Content, drop-append_seam, of_one, of_white, equal, begins_append, has_end, kept_case}
 use Rattle.rx_pages.specs.Scanner.{goes_on, DoctypePhase, keyword, spaces, naming, passed, closed, doctype_move, doctype_move_on, doctype_on, told_of_doctype, in_doctype, after_mark, in_markup, verdict, GoesOn, ReadAs}
 use Rattle.rx_pages.proofs.Reading.{Last, no_last, a_last, last_of, all_go, go_append, read_to, markup_is}
-use Rattle.std.proofs.Math.Seq.{drop-append_seam}
 use Rattle.rx_pages.proofs.Comments.{none_if, bogus_at}
-use Rattle.rx_reader.proofs.Classes.{of_one, of_white}
-use Rattle.rx_reader.proofs.Fronts.{equal, begins_append, has_end}
-use Rattle.rx_reader.proofs.OneToken.{kept_case}
 
 pub on_none : (s : Syntax) (text : Chars) → doctype_on s None text ≡ None
 on_none s [] = refl

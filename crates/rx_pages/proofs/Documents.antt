@@ -1,8 +1,6 @@
 -- The tokens of a whole page lead to its end, and tell its tree.
-use Rattle.rx_terms.proofs.Common.{◌≡◌, ◌∙◌, ℕ, suc, ◌+◌, Bool, true, false, List, [], ◌∷◌, ◌++◌, Some, refl, ap, sym, subst, arith, append-nil, not, bytes_decides, Chars}
-use Rattle.std.specs.Prelude.{Ok}
-use Rattle.rx_grammar.proofs.Common.{Syntax, Tag, Token, tag, character, reference, kept, section, comment, doctype, Place, outside, place_in, is_alone, hides, drops_line_feed, StartTag, Tree, end, element, after_text, has_element, Item, start_of, text_of, enders, is_ended_by, Opens, Closes, Drops, shown, Holds, nothing, a_text, alone, closed, unclosed, Lead, root_name, Document, Phase, before, after}
-use Rattle.rx_grammar.specs.Pages.{a_comment, is_between, passed, a_doctype}
+use Rattle.rx_grammar.proofs.Common.{◌≡◌, ◌∙◌, ℕ, suc, ◌+◌, Bool, true, false, List, [], ◌∷◌, ◌++◌, Some, refl, ap, sym, subst, arith, append-nil, not, Ok, bytes_decides, Chars, Syntax, Tag, Token, tag, character, reference, kept, section, comment, doctype, Place, outside, place_in, is_alone, hides, drops_line_feed, StartTag, Tree, end, element, after_text, has_element, Item, start_of, text_of, enders, is_ended_by, Phase, before, after}
+use Rattle.rx_grammar.specs.Pages.{Opens, Closes, Drops, shown, Holds, nothing, a_text, alone, closed, unclosed, Lead, root_name, Document, a_comment, is_between, passed, a_doctype}
 use Rattle.rx_grammar.specs.Pages as pages
 use Rattle.rx_pages.specs.Nesting.{Event, begins, finishes, Nesting, not_begun, over, step_by, told, Goes, stands, goes, with_element, told_trees}
 use Rattle.rx_pages.proofs.Nested.{Ready, Reads, Careless, not_deeper, of_token, alone_goes, close_goes, whole, runs, nothing_shown}

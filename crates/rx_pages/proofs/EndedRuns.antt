@@ -1,14 +1,5 @@
 -- A token that the next character tells is a run that stays text.
-use Rattle.rx_terms.proofs.Common.{◌≡◌, ℕ, Bool, true, false, cond, [], ◌∷◌, ◌++◌, sym, Option, Some, None, Result, Ok, Err, ◌&&◌, ◌||◌, ◌==◌, not, if◌then◌else◌, ampersand, semicolon, less_than_sign, greater_than_sign, Chars, lowered, begins_with}
-use Rattle.std.specs.Prelude.{◌-◌, codes, length, take, drop}
-use Rattle.rx_terms.specs.Ascii.{question_mark}
-use Rattle.rx_grammar.proofs.Common.{Syntax, Html, Xhtml, is_name, is_body, is_begun, meaning, Token, tag, character, reference, kept, section, comment, doctype, ends_with, has_references, keeps_runs, has_sections, has_less_than, is_text, begins_markup, raw_name, begins_end, stops_end, ends_comment, meets_opening}
-use Rattle.rx_grammar.specs.declared.contents.Content.{Content}
-use Rattle.rx_grammar.specs.declared.faults.Kind.{Kind}
-use Rattle.rx_grammar.specs.declared.faults.Kind.TheVariants.{BadDoctype, BadReference, BadTag, Outside, StrictText, UnknownReference}
-use Rattle.rx_grammar.specs.Spelling.{exclamation_mark}
-use Rattle.rx_reader.specs.Tables.{is_html, is_last}
-use Rattle.rx_reader.specs.TagReader.{TagState, fresh, tag_on, tag_of}
+use Rattle.rx_reader.proofs.Common.{◌≡◌, ℕ, Bool, true, false, cond, [], ◌∷◌, ◌++◌, sym, Option, Some, None, Result, Ok, Err, ◌&&◌, ◌||◌, ◌==◌, not, if◌then◌else◌, ◌-◌, codes, length, take, drop, ampersand, semicolon, less_than_sign, greater_than_sign, question_mark, Chars, lowered, begins_with, Syntax, Html, Xhtml, is_name, is_body, is_begun, meaning, Token, tag, character, reference, kept, section, comment, doctype, ends_with, has_references, keeps_runs, has_sections, has_less_than, is_text, begins_markup, raw_name, begins_end, stops_end, ends_comment, exclamation_mark, meets_opening, Content, Kind, BadDoctype, BadReference, BadTag, Outside, StrictText, UnknownReference, is_html, is_last, TagState, fresh, tag_on, tag_of}
 use Rattle.rx_pages.specs.Scanner.{Verdict, goes_on, whole, ended, refused, whole_if, told_of_tag, in_tag, told_of_reference, in_run, in_raw, DoctypePhase, keyword, closed, told_of_doctype, in_doctype, in_section, in_strict_comment, in_opening, after_mark, after_question, less_than_text, in_markup, after_less_than, is_mark, doctype_on, verdict}
 use Rattle.rx_pages.proofs.TokenWalk.{IsKept, is_kept}
 

@@ -1,10 +1,5 @@
 -- The bytes before the token of a fault are the front of a page.
-use Rattle.rx_terms.proofs.Common.{◌≡◌, ◌∙◌, ℕ, ◌≤◌, true, List, [], ◌∷◌, ◌++◌, None, refl, ap, sym, subst, length, arith, ◌==◌, not, and_parts, and_from}
-use Rattle.std.specs.Prelude.{take}
-use Rattle.std.proofs.lemmas.List.{length-append}
-use Rattle.rx_grammar.proofs.Common.{Entry, Syntax, values, next_of, Item, has_no_nul, Line, Phase, Begun, token_of, Before, Reached}
-use Rattle.rx_grammar.specs.declared.limits.Limits.{Limits}
-use Rattle.rx_grammar.specs.PageFaults.{page_too_long, not_utf8, nul, tag_too_long, known_too_long, decided, unended}
+use Rattle.rx_reader.proofs.Common.{◌≡◌, ◌∙◌, ℕ, ◌≤◌, true, List, [], ◌∷◌, ◌++◌, None, refl, ap, sym, subst, length, arith, ◌==◌, not, take, and_parts, and_from, length-append, Entry, Syntax, values, next_of, Item, has_no_nul, Line, Phase, Begun, token_of, Before, Reached, page_too_long, not_utf8, nul, tag_too_long, known_too_long, decided, unended, Limits}
 use Rattle.rx_pages.specs.Laws.{FaultsFollowFronts}
 use Rattle.rx_pages.specs.Closings.{IsFront}
 use Rattle.rx_pages.proofs.Foreparts.{Forepart, forepart}

@@ -1,15 +1,6 @@
 -- The reader of bytes finds each fault.
-use Rattle.rx_terms.proofs.Common.{◌≡◌, ◌≢◌, ◌∙◌, ⊎_elim, ℕ, ◌+◌, ◌-◌, ◌<◌, ◌≤◌, true, false, List, [], ◌∷◌, ◌++◌, refl, sym, ap, subst, length, append_assoc, append-nil, Ok, Err, eqb-true, arith, ◌&&◌, ◌==◌, if◌then◌else◌, Chars, by_test}
-use Rattle.std.proofs.Common.{nat_le}
-use Rattle.std.proofs.lemmas.List.{length-append}
-use Rattle.rx_grammar.proofs.Common.{Syntax, More, Char, Bad, answer_of, IsCharacter, BeginsCharacter, Entry, values, Item, Line, inside_of, Phase, before, within, after, is_known_tag, token_of, IsShort, IsPending, Unfinished, Reached, Before}
-use Rattle.rx_chars.specs.Utf8.{BeginNone}
-use Rattle.rx_chars.proofs.Utf8Exact.{answer_is}
-use Rattle.rx_grammar.specs.declared.contents.Content.{Content}
-use Rattle.rx_grammar.specs.declared.faults.Kind.{Kind}
+use Rattle.rx_reader.proofs.Common.{◌≡◌, ◌≢◌, ◌∙◌, ⊎_elim, ℕ, ◌+◌, ◌-◌, ◌<◌, ◌≤◌, true, false, List, [], ◌∷◌, ◌++◌, refl, sym, ap, subst, length, append_assoc, append-nil, Ok, Err, eqb-true, arith, nat_le, ◌&&◌, ◌==◌, if◌then◌else◌, Chars, by_test, length-append, Syntax, More, Char, Bad, answer_of, IsCharacter, BeginsCharacter, BeginNone, Entry, values, Item, Line, inside_of, Phase, before, within, after, is_known_tag, token_of, IsShort, IsPending, Unfinished, Reached, Before, IsPart, answer_is, Content, Kind, Limits}
 use Rattle.rx_grammar.specs.declared.faults.Kind.TheVariants as kind
-use Rattle.rx_grammar.specs.declared.limits.Limits.{Limits}
-use Rattle.rx_grammar.specs.PageFaults.{IsPart}
 use Rattle.rx_grammar.specs.PageFaults as faults
 use Rattle.rx_pages.specs.Nesting.{IsAt}
 use Rattle.rx_pages.specs.Scanner.{GoesOn}

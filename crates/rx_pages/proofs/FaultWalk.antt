@@ -1,11 +1,5 @@
 -- Reading the characters of a page up to the one that decides a fault.
-use Rattle.rx_terms.proofs.Common.{◌≡◌, ◌∙◌, ◌⊎◌, ⊎_elim, ℕ, ◌+◌, ◌-◌, ◌<◌, ◌≤◌, Bool, true, false, List, [], ◌∷◌, ◌++◌, refl, sym, ap, subst, length, append_assoc, Ok, Err, arith, ◌&&◌, ◌==◌, not, IsScalar, len_utf8, all_scalars, encode, encodes, scalar, length-encode, and_parts, cond-true, cond-false, or-false, by_test, untrue}
-use Rattle.std.proofs.lemmas.List.{length-append}
-use Rattle.rx_grammar.proofs.Common.{Syntax, Entry, byte_order_mark, line_feed, carriage_return, placed, entered, without_mark}
-use Rattle.rx_grammar.specs.declared.faults.Fault.{Fault}
-use Rattle.rx_grammar.specs.declared.faults.Kind.{Kind}
-use Rattle.rx_grammar.specs.declared.faults.Kind.TheVariants.{TagTooLong}
-use Rattle.rx_grammar.specs.declared.limits.Limits.{Limits}
+use Rattle.rx_reader.proofs.Common.{◌≡◌, ◌∙◌, ◌⊎◌, ⊎_elim, ℕ, ◌+◌, ◌-◌, ◌<◌, ◌≤◌, Bool, true, false, List, [], ◌∷◌, ◌++◌, refl, sym, ap, subst, length, append_assoc, Ok, Err, arith, ◌&&◌, ◌==◌, not, IsScalar, len_utf8, all_scalars, encode, encodes, scalar, length-encode, and_parts, cond-true, cond-false, or-false, by_test, untrue, length-append, Syntax, Entry, byte_order_mark, line_feed, carriage_return, placed, entered, without_mark, Fault, Kind, TagTooLong, Limits}
 use Rattle.rx_pages.specs.PageReader.{first_of, is_too_long, spot_of, page_on}
 use Rattle.rx_pages.proofs.EntrySteps.{Stood, entry_step}
 use Rattle.rx_pages.proofs.ByteSteps.{progress_at, settle}

@@ -1,15 +1,7 @@
 -- The reader of bytes finds each fault of the grammar.
-use Rattle.rx_terms.proofs.Common.{◌≡◌, ◌≢◌, ◌∙◌, ⊎_elim, inl, inr, ℕ, ◌+◌, ◌<◌, ◌≤◌, Bool, true, false, List, [], ◌∷◌, ◌++◌, refl, sym, ap, subst, length, Some, Result, Ok, Err, arith, ◌&&◌, not, if◌then◌else◌, greater_than_sign, right_bracket, Chars, and-false}
-use Rattle.std.proofs.Common.{nat_le}
-use Rattle.std.proofs.lemmas.List.{length-append}
-use Rattle.rx_grammar.proofs.Common.{Syntax, Entry, Tag, Token, tag, character, doctype, values, Item, is_literal, is_strict_literal, Line, inside_of, Phase, before, is_known_tag, token_of, IsPending, IsShort, Unfinished, Reached, first_row, tag_rows, Faulty, FaultAt, Before}
-use Rattle.rx_grammar.specs.declared.contents.Content.{Content}
+use Rattle.rx_reader.proofs.Common.{◌≡◌, ◌≢◌, ◌∙◌, ⊎_elim, inl, inr, ℕ, ◌+◌, ◌<◌, ◌≤◌, Bool, true, false, List, [], ◌∷◌, ◌++◌, refl, sym, ap, subst, length, Some, Result, Ok, Err, arith, nat_le, ◌&&◌, not, if◌then◌else◌, greater_than_sign, right_bracket, Chars, and-false, length-append, Syntax, Entry, Tag, Token, tag, character, doctype, values, Item, is_literal, is_strict_literal, Line, inside_of, Phase, before, is_known_tag, token_of, IsPending, IsShort, Unfinished, Reached, first_row, tag_rows, Faulty, FaultAt, Before, ends_in_brackets, Content, Fault, Kind, Limits}
 use Rattle.rx_grammar.specs.declared.contents.Content.TheVariants as content
-use Rattle.rx_grammar.specs.declared.faults.Fault.{Fault}
-use Rattle.rx_grammar.specs.declared.faults.Kind.{Kind}
 use Rattle.rx_grammar.specs.declared.faults.Kind.TheVariants as kind
-use Rattle.rx_grammar.specs.declared.limits.Limits.{Limits}
-use Rattle.rx_grammar.specs.PageFaults.{ends_in_brackets}
 use Rattle.rx_grammar.specs.PageFaults as faults
 use Rattle.rx_pages.specs.Nesting.{Event, Nesting, content_at, IsAt, step_by, unless_refused, tag_passes}
 use Rattle.rx_pages.specs.Scanner.{GoesOn, Verdict, whole, refused, verdict}

@@ -1,10 +1,7 @@
 -- The first front of a list of characters that meets a test.
-use Rattle.rx_terms.proofs.Common.{◌≡◌, ◌≢◌, ◌∙◌, ℕ, Bool, true, false, [], ◌∷◌, ◌++◌, refl, ap, sym, subst, append-nil, append_assoc, inl, inr, eqb-true, ◌&&◌, ◌==◌, Chars, begins_with, both, either, not_both_ways, by_test, or_right}
-use Rattle.rx_grammar.proofs.Common.{same, ends_with, IsFirst}
+use Rattle.rx_reader.proofs.Common.{◌≡◌, ◌≢◌, ◌∙◌, ℕ, Bool, true, false, [], ◌∷◌, ◌++◌, refl, ap, sym, subst, append-nil, append_assoc, inl, inr, eqb-true, ◌&&◌, ◌==◌, Chars, begins_with, both, either, not_both_ways, by_test, or_right, same, ends_with, IsFirst, snoc_front, same_self}
 use Rattle.rx_pages.proofs.Reading.{Last, no_last, a_last, last_of}
 use Rattle.rx_pages.proofs.Contents.{same_is}
-use Rattle.rx_reader.proofs.ValueFaults.{snoc_front}
-use Rattle.rx_reader.proofs.OneToken.{same_self}
 
 -- no front meets the test, nor does the whole
 abbrev pub NoFront : (Chars → Bool) → Chars → Type 0

@@ -1,8 +1,5 @@
 -- The bytes before a character of a page are read as the characters before it.
-use Rattle.rx_terms.proofs.Common.{◌≡◌, ◌∙◌, ℕ, ◌+◌, ◌-◌, ◌≤◌, Bool, true, false, List, [], ◌∷◌, ◌++◌, refl, sym, ap, subst, length, append_assoc, append-nil, arith, ◌&&◌, ◌==◌, len_utf8, all_scalars, encode, encodes, scalar, length-encode, encodes-append, and_parts, and_from, cond-true, cond-false, by_test}
-use Rattle.std.specs.Prelude.{take}
-use Rattle.std.proofs.lemmas.List.{length-append}
-use Rattle.rx_grammar.proofs.Common.{Entry, IsRead, byte_order_mark, line_feed, carriage_return, line_end_entry, placed, entered, without_mark, token_of}
+use Rattle.rx_grammar.proofs.Common.{◌≡◌, ◌∙◌, ℕ, ◌+◌, ◌-◌, ◌≤◌, Bool, true, false, List, [], ◌∷◌, ◌++◌, refl, sym, ap, subst, length, append_assoc, append-nil, arith, ◌&&◌, ◌==◌, take, len_utf8, all_scalars, encode, encodes, scalar, length-encode, encodes-append, and_parts, and_from, cond-true, cond-false, by_test, length-append, Entry, IsRead, byte_order_mark, line_feed, carriage_return, line_end_entry, placed, entered, without_mark, token_of}
 use Rattle.rx_pages.proofs.CharWalk.{len_positive}
 use Rattle.rx_pages.proofs.OnlyPages.{take_front}
 use Rattle.rx_reader.proofs.InTables.{no_end}

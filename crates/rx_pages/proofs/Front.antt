@@ -1,6 +1,5 @@
 -- The tokens at the front of a page lead to its open elements.
-use Rattle.rx_terms.proofs.Common.{◌≡◌, ℕ, suc, ◌+◌, false, List, [], ◌∷◌, refl, subst, arith, append-nil, length}
-use Rattle.rx_grammar.proofs.Common.{Syntax, Tree, end, element, text, has_element, Item, start_of, Line, before, within, after, Open, a_root, a_child, not_begun, still_open, ended}
+use Rattle.rx_grammar.proofs.Common.{◌≡◌, ℕ, suc, ◌+◌, false, List, [], ◌∷◌, refl, subst, arith, append-nil, length, Syntax, Tree, end, element, text, has_element, Item, start_of, Line, before, within, after, Open, a_root, a_child, not_begun, still_open, ended}
 use Rattle.rx_pages.specs.Nesting as nesting
 use Rattle.rx_pages.specs.Nesting.{Event, Nesting, Goes, stands, IsAt}
 use Rattle.rx_pages.specs.Laws.{FrontsLead}

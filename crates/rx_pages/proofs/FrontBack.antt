@@ -1,7 +1,5 @@
 -- Spelled tokens that lead to open elements stand at the front of a page.
-use Rattle.rx_terms.proofs.Common.{◌≡◌, ◌∙◌, ℕ, true, false, List, [], ◌∷◌, ◌++◌, Option, Some, None, refl, ap, sym, subst, append-nil, append_assoc, Chars, not_both_ways}
-use Rattle.rx_grammar.proofs.Common.{Entry, Syntax, Token, Spells, has_references, keeps_runs, has_sections, has_less_than, raw_name, a_tag, an_end_of_raw, a_character, a_less_than, a_raw_run, a_reference, a_kept_run, a_comment, a_bogus_comment, a_question, a_strict_comment, an_instruction, a_section, a_doctype, Item, Spelled, no_more, one, Line, Phase, Stands, not_begun}
-use Rattle.rx_grammar.specs.declared.contents.Content.{Content}
+use Rattle.rx_reader.proofs.Common.{◌≡◌, ◌∙◌, ℕ, true, false, List, [], ◌∷◌, ◌++◌, Option, Some, None, refl, ap, sym, subst, append-nil, append_assoc, Chars, not_both_ways, Entry, Syntax, Token, Spells, has_references, keeps_runs, has_sections, has_less_than, raw_name, a_tag, an_end_of_raw, a_character, a_less_than, a_raw_run, a_reference, a_kept_run, a_comment, a_bogus_comment, a_question, a_strict_comment, an_instruction, a_section, a_doctype, Item, Spelled, no_more, one, Line, Phase, Stands, not_begun, Content}
 use Rattle.rx_grammar.specs.declared.contents.Content.TheVariants as content
 use Rattle.rx_grammar.specs.Pages as pages
 use Rattle.rx_pages.specs.Nesting.{Event, Nesting, Goes, stands, goes, IsAt}

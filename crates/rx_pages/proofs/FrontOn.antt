@@ -1,13 +1,8 @@
 -- One more character behind the front of a page: the front goes on with it, or it decides a fault.
-use Rattle.rx_terms.proofs.Common.{◌≡◌, ◌≢◌, ◌∙◌, ◌⊎◌, inl, inr, ℕ, ◌+◌, Bool, true, false, List, [], ◌∷◌, ◌++◌, refl, sym, ap, subst, eqb-true, append_assoc, append-nil, Option, Some, None, Result, Ok, Err, arith, ◌&&◌, ◌||◌, ◌==◌, not, if◌then◌else◌, all_scalars, encodes, and_parts, and_from, ampersand, less_than_sign, greater_than_sign, Chars, by_test, and-false}
-use Rattle.rx_grammar.proofs.Common.{Syntax, Entry, entered, placed, without_mark, Token, tag, character, kept, Spells, has_references, is_text, values, next_of, Item, Spelled, no_more, one, Fits, AllFit, is_literal, is_strict_literal, no_section_end, has_no_nul, Line, inside_of, Phase, Stands, token_of, IsPending, IsShort, Reached, Faulty}
-use Rattle.rx_grammar.specs.declared.contents.Content.{Content}
+use Rattle.rx_reader.proofs.Common.{◌≡◌, ◌≢◌, ◌∙◌, ◌⊎◌, inl, inr, ℕ, ◌+◌, Bool, true, false, List, [], ◌∷◌, ◌++◌, refl, sym, ap, subst, eqb-true, append_assoc, append-nil, Option, Some, None, Result, Ok, Err, arith, ◌&&◌, ◌||◌, ◌==◌, not, if◌then◌else◌, all_scalars, encodes, and_parts, and_from, ampersand, less_than_sign, greater_than_sign, Chars, by_test, and-false, Syntax, Entry, entered, placed, without_mark, Token, tag, character, kept, Spells, has_references, is_text, values, next_of, Item, Spelled, no_more, one, Fits, AllFit, is_literal, is_strict_literal, no_section_end, has_no_nul, Line, inside_of, Phase, Stands, token_of, IsPending, IsShort, Reached, Faulty, ends_in_brackets, Content, Kind, Limits}
 use Rattle.rx_grammar.specs.declared.contents.Content.TheVariants as content
-use Rattle.rx_grammar.specs.declared.faults.Kind.{Kind}
 use Rattle.rx_grammar.specs.declared.faults.Kind.TheVariants as kind
-use Rattle.rx_grammar.specs.declared.limits.Limits.{Limits}
 use Rattle.rx_grammar.specs.Spelling as spelling
-use Rattle.rx_grammar.specs.PageFaults.{ends_in_brackets}
 use Rattle.rx_pages.specs.Nesting.{Nesting, Step, text_step, step_by, nest_step}
 use Rattle.rx_pages.specs.Scanner.{GoesOn, Verdict, goes_on, whole, ended, refused, verdict, at_first, at_last, at_next}
 use Rattle.rx_pages.specs.Faults.{by_token, by_section_end}

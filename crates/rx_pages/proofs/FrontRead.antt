@@ -1,7 +1,5 @@
 -- The reader of bytes reads each front of a page.
-use Rattle.rx_terms.proofs.Common.{◌≡◌, ◌∙◌, ℕ, ◌+◌, ◌-◌, ◌<◌, ◌≤◌, Bool, true, false, List, [], ◌∷◌, ◌++◌, refl, sym, ap, subst, length, append_assoc, append-nil, None, Ok, arith, ◌&&◌, ◌==◌, not, len_utf8, encodes, and_parts, and_from, cond-true, cond-false, nat_tests, by_test, split}
-use Rattle.rx_grammar.proofs.Common.{Syntax, Entry, IsRead, byte_order_mark, line_feed, carriage_return, as_line_end, placed, entered, without_mark, values, next_of, Item, Spelled, AllFit, no_section_end, has_no_nul, is_known_tag}
-use Rattle.rx_grammar.specs.declared.limits.Limits.{Limits}
+use Rattle.rx_reader.proofs.Common.{◌≡◌, ◌∙◌, ℕ, ◌+◌, ◌-◌, ◌<◌, ◌≤◌, Bool, true, false, List, [], ◌∷◌, ◌++◌, refl, sym, ap, subst, length, append_assoc, append-nil, None, Ok, arith, ◌&&◌, ◌==◌, not, len_utf8, encodes, and_parts, and_from, cond-true, cond-false, nat_tests, by_test, split, Syntax, Entry, IsRead, byte_order_mark, line_feed, carriage_return, as_line_end, placed, entered, without_mark, values, next_of, Item, Spelled, AllFit, no_section_end, has_no_nul, is_known_tag, Limits}
 use Rattle.rx_pages.specs.Nesting.{Event, Nesting, not_begun, content_at, Goes}
 use Rattle.rx_pages.specs.Scanner.{GoesOn}
 use Rattle.rx_pages.specs.PageReader.{first_of, page_on, nothing_read}

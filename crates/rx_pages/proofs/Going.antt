@@ -1,8 +1,5 @@
 -- A page goes on from each of its fronts.
-use Rattle.std.proofs.Common.{◌∙◌, [], ◌++◌, refl, append_assoc}
-use Rattle.rx_grammar.specs.Begun.{after}
-use Rattle.rx_pages.specs.Nesting.{IsAt}
-use Rattle.rx_pages.specs.Laws.{PagesGoOn}
+use Rattle.rx_pages.proofs.Common.{◌∙◌, [], ◌++◌, refl, append_assoc, after, IsAt, PagesGoOn}
 use Rattle.rx_pages.proofs.Documents.{document_tells}
 use Rattle.rx_pages.proofs.Front.{fronts_lead}
 use Rattle.rx_pages.proofs.Prefix.{first_tokens}

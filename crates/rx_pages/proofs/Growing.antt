@@ -1,8 +1,6 @@
 -- How the front of a page grows: what is open is extended, ended and closed.
-use Rattle.rx_terms.proofs.Common.{◌≡◌, ◌≢◌, ◌∙◌, ℕ, suc, Bool, true, false, List, [], ◌∷◌, ◌++◌, refl, ap, sym, subst, append_assoc, inl, inr, ◌⊎◌, ◌||◌, ◌&&◌, Chars, both, not_both_ways}
-use Rattle.rx_grammar.proofs.Common.{Syntax, is_among, Place, outside, hides, StartTag, Tree, end, element, after_text, has_element, Item, is_line_feed, start_of, enders, is_ended_by, Opens, Closes, Drops, shown, Holds, nothing, a_text, alone, closed, unclosed, Lead, Document, Line, inside_of, parent_of, enders_of, Open, a_root, a_child}
-use Rattle.rx_grammar.specs.declared.contents.Content.{Content}
-use Rattle.rx_grammar.specs.Pages.{a_line_feed, another, no_more, a_comment}
+use Rattle.rx_reader.proofs.Common.{◌≡◌, ◌≢◌, ◌∙◌, ℕ, suc, Bool, true, false, List, [], ◌∷◌, ◌++◌, refl, ap, sym, subst, append_assoc, inl, inr, ◌⊎◌, ◌||◌, ◌&&◌, Chars, both, not_both_ways, Syntax, is_among, Place, outside, hides, StartTag, Tree, end, element, after_text, has_element, Item, is_line_feed, start_of, enders, is_ended_by, Line, inside_of, parent_of, enders_of, Open, a_root, a_child, Content}
+use Rattle.rx_grammar.specs.Pages.{Opens, Closes, Drops, shown, Holds, nothing, a_text, alone, closed, unclosed, Lead, Document, a_line_feed, another, no_more, a_comment}
 use Rattle.rx_grammar.specs.Pages as pages
 use Rattle.rx_pages.proofs.Nested.{has_after_text}
 use Rattle.rx_pages.proofs.Documents.{no_end_outside}

@@ -1,13 +1,6 @@
 -- The reader of bytes finds a fault that a character decides.
-use Rattle.rx_terms.proofs.Common.{◌≡◌, ◌≢◌, ◌∙◌, ⊎_elim, ℕ, ◌+◌, ◌<◌, ◌≤◌, Bool, true, false, List, [], ◌∷◌, ◌++◌, refl, sym, ap, subst, append_assoc, append-nil, Option, Some, Ok, Err, arith, ◌&&◌, ◌||◌, ◌==◌, if◌then◌else◌, and_parts, false_from_ne_true, or_parts, less_than_sign, ampersand, Chars, by_test, and-true}
-use Rattle.std.proofs.Common.{nat_le}
-use Rattle.rx_grammar.proofs.Common.{Syntax, Entry, Token, character, Spells, has_references, is_text, values, Item, is_known_tag, Reached, has_no_nul, Line, inside_of, Phase}
-use Rattle.rx_grammar.specs.declared.contents.Content.{Content}
+use Rattle.rx_reader.proofs.Common.{◌≡◌, ◌≢◌, ◌∙◌, ⊎_elim, ℕ, ◌+◌, ◌<◌, ◌≤◌, Bool, true, false, List, [], ◌∷◌, ◌++◌, refl, sym, ap, subst, append_assoc, append-nil, Option, Some, Ok, Err, arith, nat_le, ◌&&◌, ◌||◌, ◌==◌, if◌then◌else◌, and_parts, false_from_ne_true, or_parts, less_than_sign, ampersand, Chars, by_test, and-true, Syntax, Entry, Token, character, Spells, has_references, is_text, values, Item, is_known_tag, Reached, has_no_nul, Line, inside_of, Phase, Content, Fault, Kind, Outside, Limits}
 use Rattle.rx_grammar.specs.declared.contents.Content.TheVariants as content
-use Rattle.rx_grammar.specs.declared.faults.Fault.{Fault}
-use Rattle.rx_grammar.specs.declared.faults.Kind.{Kind}
-use Rattle.rx_grammar.specs.declared.faults.Kind.TheVariants.{Outside}
-use Rattle.rx_grammar.specs.declared.limits.Limits.{Limits}
 use Rattle.rx_grammar.specs.Spelling as spelling
 use Rattle.rx_pages.specs.Nesting.{Event, Nesting, not_begun, content_at, going_on, IsAt}
 use Rattle.rx_pages.specs.Scanner.{GoesOn, goes_on, whole, refused}

@@ -1,14 +1,8 @@
 -- Unfinished characters go on, and faults are decided as the tables say, both ways.
-use Rattle.rx_terms.proofs.Common.{◌≡◌, ◌≢◌, ◌∙◌, ℕ, Bool, true, false, List, [], ◌∷◌, ◌++◌, Option, Some, None, refl, ap, sym, subst, ◌&&◌, Chars, split}
-use Rattle.std.specs.Prelude.{codes, Err}
-use Rattle.rx_grammar.proofs.Common.{Syntax, Html, Xhtml, same, is_among, name_of_raw, Token, tag, doctype, in_html, inside_html, html_in_svg, Place, Spells, keeps_runs, a_doctype, begins, begins_tag, Item, Line, inside_of, Phase, before, Unfinished, tag_rows, first_row, Faulty}
-use Rattle.rx_grammar.specs.declared.contents.Content.{Content}
+use Rattle.rx_reader.proofs.Common.{◌≡◌, ◌≢◌, ◌∙◌, ℕ, Bool, true, false, List, [], ◌∷◌, ◌++◌, Option, Some, None, refl, ap, sym, subst, ◌&&◌, codes, Err, Chars, split, Syntax, Html, Xhtml, same, is_among, name_of_raw, Token, tag, doctype, in_html, inside_html, html_in_svg, Place, raw_place, raw_names, rcdata_names, inside_foreign, inside_at, Spells, keeps_runs, a_doctype, begins, begins_tag, Item, Line, inside_of, Phase, before, Content, RawName, Kind, reads_on}
+use Rattle.rx_grammar.specs.PageFaults.{Unfinished, tag_rows, first_row, Faulty, token_begun, tag_begun, run_begun, opening_begun, in_tag, no_markup, in_run, in_comment, section_end, no_doctype, late_doctype, outside_text, outside_less_than, outside_section, at_tag}
 use Rattle.rx_grammar.specs.declared.contents.Content.TheVariants as content
-use Rattle.rx_grammar.specs.declared.contents.RawName.{RawName}
-use Rattle.rx_grammar.specs.declared.faults.Kind.{Kind}
 use Rattle.rx_grammar.specs.declared.faults.Kind.TheVariants as kind
-use Rattle.rx_grammar.specs.Contents.{raw_place, raw_names, rcdata_names, inside_foreign, inside_at}
-use Rattle.rx_grammar.specs.PageFaults.{token_begun, tag_begun, run_begun, opening_begun, in_tag, no_markup, in_run, in_comment, section_end, no_doctype, late_doctype, outside_text, outside_less_than, outside_section, at_tag}
 use Rattle.rx_pages.specs.Nesting.{Nesting, Step, unless_refused, tag_passes, doctype_step, step_by, nest_step, IsAt}
 use Rattle.rx_pages.specs.Scanner.{GoesOn, ReadAs, at_last, at_next}
 use Rattle.rx_pages.specs.Faults.{Decides, by_character, by_token, by_section_end}
@@ -22,7 +16,6 @@ use Rattle.rx_pages.proofs.DoctypeFaults.{refuses_doctype}
 use Rattle.rx_pages.proofs.TagRuns.{tag_goes_on, tag_refused}
 use Rattle.rx_pages.proofs.Pends.{occurs}
 use Rattle.rx_pages.proofs.PendsOn.{pends, unfinished, spells_read, faulty_read}
-use Rattle.rx_reader.proofs.TagFaultLaws.{reads_on}
 
 -- the contents inside of open elements
 abbrev Fits : Place → Type 0

@@ -1,9 +1,6 @@
 -- The characters of a whole tag are known to be one.
-use Rattle.rx_terms.proofs.Common.{◌≡◌, ◌∙◌, ℕ, true, [], ◌∷◌, ◌++◌, refl, sym, ap, subst, Option, Some, None, cond-true, cond-false, list_all, solidus, greater_than_sign, is_white_space, Chars, by_test, both}
-use Rattle.rx_grammar.proofs.Common.{Syntax, Html, Tag, Token, tag, Shape, a_start, an_end, ends_name, SpellsTag, cased, Spells, has_markup, raw_name, is_known_tag}
-use Rattle.rx_grammar.specs.declared.contents.Content.{Content}
+use Rattle.rx_reader.proofs.Common.{◌≡◌, ◌∙◌, ℕ, true, [], ◌∷◌, ◌++◌, refl, sym, ap, subst, Option, Some, None, cond-true, cond-false, list_all, solidus, greater_than_sign, is_white_space, Chars, by_test, both, Syntax, Html, Tag, Token, tag, Shape, a_start, an_end, ends_name, SpellsTag, cased, Spells, has_markup, raw_name, is_known_tag, is_known_after, is_known_raw, Content}
 use Rattle.rx_grammar.specs.Spelling as spelling
-use Rattle.rx_grammar.specs.PageFaults.{is_known_after, is_known_raw}
 use Rattle.rx_pages.proofs.Reading.{markup_raw}
 use Rattle.rx_pages.proofs.TagRuns.{KnownEnd, is_known_by}
 use Rattle.rx_pages.proofs.Markup.{first_is}

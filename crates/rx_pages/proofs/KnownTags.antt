@@ -1,13 +1,6 @@
 -- Characters that are known to be a tag are read as one.
-use Rattle.rx_terms.proofs.Common.{◌≡◌, ℕ, Bool, true, [], ◌∷◌, ◌++◌, refl, sym, subst, inl, inr, Result, Ok, Err, ◌==◌, and_parts, less_than_sign, Chars, by_test}
-use Rattle.rx_grammar.proofs.Common.{Syntax, tag, begins, is_known_tag}
-use Rattle.rx_grammar.specs.declared.contents.Content.{Content}
-use Rattle.rx_grammar.specs.declared.faults.Kind.{Kind}
-use Rattle.rx_grammar.specs.PageFaults.{is_known_after}
-use Rattle.rx_reader.specs.Tables.{is_last}
-use Rattle.rx_reader.specs.TagReader.{TagState, tag_of}
+use Rattle.rx_reader.proofs.Common.{◌≡◌, ℕ, Bool, true, [], ◌∷◌, ◌++◌, refl, sym, subst, inl, inr, Result, Ok, Err, ◌==◌, and_parts, less_than_sign, Chars, by_test, Syntax, tag, begins, is_known_tag, is_known_after, Content, Kind, is_last, TagState, tag_of, of_one}
 use Rattle.rx_pages.specs.Scanner.{Verdict, goes_on, whole, refused, whole_if, told_of_tag, verdict}
-use Rattle.rx_reader.proofs.Classes.{of_one}
 use Rattle.rx_pages.proofs.TagRuns.{known_end, is_known_by, end_more, Known, in_markup', in_raw', known, is_known, verdict_at}
 use Rattle.rx_pages.proofs.Markup.{is_first}
 

@@ -1,8 +1,5 @@
 -- A tag is complete at the last byte that was read.
-use Rattle.rx_terms.proofs.Common.{◌≡◌, ◌∙◌, ℕ, ◌+◌, List, [], ◌∷◌, ◌++◌, refl, sym, ap, subst, length, Ok, arith}
-use Rattle.rx_grammar.proofs.Common.{Syntax, Token, Entry, values, Item}
-use Rattle.rx_grammar.specs.declared.limits.Limits.{Limits}
-use Rattle.rx_grammar.specs.declared.contents.Content.{Content}
+use Rattle.rx_reader.proofs.Common.{◌≡◌, ◌∙◌, ℕ, ◌+◌, List, [], ◌∷◌, ◌++◌, refl, sym, ap, subst, length, Ok, arith, Syntax, Token, Entry, values, Item, Limits, Content}
 use Rattle.rx_pages.specs.PageReader.{Spot, Scanning, Scanned, token_at, read_byte, scan_from, item_of}
 use Rattle.rx_pages.proofs.TokenWalk.{IsKept}
 use Rattle.rx_pages.proofs.EndedRuns.{ended_kept}

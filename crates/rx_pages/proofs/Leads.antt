@@ -1,13 +1,5 @@
 -- Whether a document type may still come matters only where a token is complete.
-use Rattle.rx_terms.proofs.Common.{◌≡◌, ◌∙◌, ℕ, Bool, true, false, List, [], ◌∷◌, ◌++◌, refl, sym, ap, Result, Ok, Err, ◌&&◌, ◌||◌, ◌==◌, not, nat_le, if◌then◌else◌, greater_than_sign, by_test}
-use Rattle.rx_grammar.proofs.Common.{Syntax, More, Char, Bad, answer_of, Entry, byte_order_mark, line_feed, carriage_return, as_line_end, values, Item, is_literal}
-use Rattle.rx_chars.specs.declared.utf8.Utf8Step.{Utf8Step}
-use Rattle.rx_grammar.specs.declared.contents.Content.{Content}
-use Rattle.rx_grammar.specs.declared.faults.Kind.{Kind}
-use Rattle.rx_grammar.specs.declared.faults.Kind.TheVariants.{BadDoctype, NotUtf8, Nul, PageTooLong, StrictText, TagTooLong}
-use Rattle.rx_grammar.specs.declared.limits.Limits.{Limits}
-use Rattle.rx_pages.specs.Scanner.{Verdict, goes_on, whole, ended, refused, verdict}
-use Rattle.rx_pages.specs.PageReader.{Spot, Scanning, Scanned, first_of, starts_at, token_at, item_of, is_doctype, is_too_long, completed, with_item, told, read_entry, read_char, read_answer, read_byte, scan_from}
+use Rattle.rx_pages.proofs.Common.{◌≡◌, ◌∙◌, ℕ, Bool, true, false, List, [], ◌∷◌, ◌++◌, refl, sym, ap, Result, Ok, Err, ◌&&◌, ◌||◌, ◌==◌, not, nat_le, if◌then◌else◌, greater_than_sign, by_test, Syntax, More, Char, Bad, answer_of, Entry, byte_order_mark, line_feed, carriage_return, as_line_end, values, Item, is_literal, Utf8Step, Content, Kind, BadDoctype, NotUtf8, Nul, PageTooLong, StrictText, TagTooLong, Limits, Verdict, goes_on, whole, ended, refused, verdict, Spot, Scanning, Scanned, first_of, starts_at, token_at, item_of, is_doctype, is_too_long, completed, with_item, told, read_entry, read_char, read_answer, read_byte, scan_from}
 use Rattle.rx_pages.proofs.ScanSteps.{first, scan_first, with_before}
 
 -- a result that tells no token is the same here and there

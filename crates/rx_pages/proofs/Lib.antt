@@ -66,3 +66,4 @@ pub mod OnePlace
 pub mod ClosedTold
 pub mod Sizes
 pub mod Underway
+pub mod Common

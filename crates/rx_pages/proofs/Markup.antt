@@ -1,17 +1,7 @@
 -- Tags are read as they are spelled.
-use Rattle.rx_terms.proofs.Common.{◌≡◌, ◌≢◌, ◌∙◌, inl, inr, Bool, ℕ, true, false, [], ◌∷◌, ◌++◌, Option, refl, ap, sym, append_assoc, ◌&&◌, ◌||◌, ◌==◌, not, cond-true, cond-false, solidus, Chars, either, not_both_ways, by_test}
-use Rattle.std.specs.Prelude.{Result, Ok, Err}
-use Rattle.rx_grammar.proofs.Common.{Syntax, Html, Xhtml, meaning, Tag, tag, begins_tag, begins, SpellsTag, has_markup, begins_markup}
-use Rattle.rx_grammar.specs.declared.contents.Content.{Content}
-use Rattle.rx_grammar.specs.declared.faults.Kind.{Kind}
-use Rattle.rx_grammar.specs.declared.faults.Kind.TheVariants.{BadTag}
-use Rattle.rx_reader.specs.Tables.{is_html, is_last}
-use Rattle.rx_reader.specs.TagReader.{TagState, fresh, tag_on, checked}
+use Rattle.rx_reader.proofs.Common.{◌≡◌, ◌≢◌, ◌∙◌, inl, inr, Bool, ℕ, true, false, [], ◌∷◌, ◌++◌, Option, refl, ap, sym, append_assoc, ◌&&◌, ◌||◌, ◌==◌, not, Result, Ok, Err, cond-true, cond-false, solidus, Chars, either, not_both_ways, by_test, Syntax, Html, Xhtml, meaning, Tag, tag, begins_tag, begins, SpellsTag, has_markup, begins_markup, Content, Kind, BadTag, is_html, is_last, TagState, fresh, tag_on, checked, of_one, reads_each, on_err, stuck, tag_on-append, tag_first}
 use Rattle.rx_pages.specs.Scanner.{goes_on, whole, told_of_tag, in_tag, in_markup, is_mark, ReadAs}
 use Rattle.rx_pages.proofs.Reading.{Last, no_last, a_last, last_of, all_go, read_to, markup_is}
-use Rattle.rx_reader.proofs.Classes.{of_one}
-use Rattle.rx_reader.proofs.TagLaws.{reads_each, on_err, stuck, tag_on-append}
-use Rattle.rx_reader.proofs.OneToken.{tag_first}
 
 -- before its end a tag goes on
 before_end : (s : Syntax) (o : Result TagState Kind) (more : Chars) (last : TagState) → tag_on s (meaning s) o more ≡ Ok last → more ≢ [] → told_of_tag o ≡ goes_on

@@ -1,12 +1,8 @@
 -- What the nodes of a page are, the steps of their tokens tell.
-use Rattle.rx_terms.proofs.Common.{cond-true, cond-false, or_parts, nat_tests, bytes_decides, ◌≡◌, ◌∙◌, ℕ, suc, ◌+◌, Bool, true, false, List, [], ◌∷◌, ◌++◌, Some, None, refl, ap, sym, subst, arith, ◌&&◌, not, nat_le, Chars, both, by_test}
-use Rattle.std.proofs.lemmas.Grind.{common_steps}
-use Rattle.std.specs.Prelude.{Result, Ok, length}
-use Rattle.rx_grammar.proofs.Common.{Syntax, same, is_among, Tag, Token, tag, character, reference, kept, section, comment, Place, outside, place_in, is_alone, is_html, is_plaintext, is_self_closed, hides, drops_line_feed, StartTag, Tree, end, element, after_text, has_element, Item, start_of, text_of, enders, is_omissible, is_held, is_ended_by, Opens, Closes, Drops, shown, Holds, nothing, a_text, alone, closed, unclosed, root_name, Line, inside_of, parent_of, enders_of, Phase, within, under_start, after_end, is_innermost, has_ended, is_before, first_row}
-use Rattle.rx_grammar.specs.declared.contents.Content.{Content}
-use Rattle.rx_grammar.specs.declared.faults.Kind.{Kind}
+use Rattle.rx_reader.proofs.Common.{cond-true, cond-false, or_parts, nat_tests, bytes_decides, ◌≡◌, ◌∙◌, ℕ, suc, ◌+◌, Bool, true, false, List, [], ◌∷◌, ◌++◌, Some, None, refl, ap, sym, subst, arith, ◌&&◌, not, nat_le, Result, Ok, length, Chars, both, by_test, common_steps, Syntax, same, is_among, Tag, Token, tag, character, reference, kept, section, comment, StartTag, Tree, end, element, after_text, has_element, Item, start_of, text_of, enders, is_omissible, is_held, is_ended_by, Line, inside_of, parent_of, enders_of, Phase, within, under_start, after_end, is_innermost, has_ended, is_before, first_row, Content, Kind}
+use Rattle.rx_grammar.specs.Contents.{Place, outside, place_in, is_alone, is_html, is_plaintext, is_self_closed, hides, drops_line_feed}
+use Rattle.rx_grammar.specs.Pages.{Opens, Closes, Drops, shown, Holds, nothing, a_text, alone, closed, unclosed, root_name, a_line_feed, another, no_more, a_comment}
 use Rattle.rx_grammar.specs.declared.faults.Kind.TheVariants as kind
-use Rattle.rx_grammar.specs.Pages.{a_line_feed, another, no_more, a_comment}
 use Rattle.rx_pages.specs.Nesting.{Event, begins, says, finishes, Nesting, Step, ended_under, ended_by_end, over, begun_under, line_above, step_by, nest_step, Goes, stands, goes, with_element, with_text, told_trees}
 use Rattle.rx_pages.proofs.Contents.{omissible_html}
 use Rattle.rx_pages.proofs.Steps.{inside_at, in_line, after_one, undropped, dropped, of_start, of_end, passing, ended}

@@ -1,7 +1,5 @@
 -- A byte list has a tree or a fault, and one of them alone.
-use Rattle.std.proofs.Common.{◌≡◌, ◌∙◌, sym, Result, Ok, Err}
-use Rattle.rx_grammar.specs.Laws.{NotBoth, OneFault}
-use Rattle.rx_grammar.specs.declared.faults.Fault.{Fault}
+use Rattle.rx_reader.proofs.Common.{◌≡◌, ◌∙◌, sym, Result, Ok, Err, NotBoth, OneFault, Fault}
 use Rattle.rx_pages.specs.PageReader.{Progress}
 use Rattle.rx_pages.proofs.PageRead.{page_is_read}
 use Rattle.rx_pages.proofs.FaultsRead.{fault_is_read}

@@ -1,11 +1,6 @@
 -- The front of a page has one line of open elements and one phase, whatever comes next.
-use Rattle.rx_terms.proofs.Common.{◌≡◌, ◌∙◌, ℕ, List, [], ◌∷◌, ◌++◌, Some, None, ap, sym, subst, append_assoc}
-use Rattle.std.specs.Prelude.{Ok}
-use Rattle.std.proofs.lemmas.List.{append_cancel_right}
-use Rattle.rx_grammar.proofs.Common.{Entry, Syntax, Spells, Item, Spelled, no_more, one, values, next_of}
+use Rattle.rx_pages.proofs.Common.{◌≡◌, ◌∙◌, ℕ, List, [], ◌∷◌, ◌++◌, Some, None, ap, sym, subst, append_assoc, Ok, append_cancel_right, Entry, Syntax, Spells, Item, Spelled, no_more, one, values, next_of, Event, Nesting, Step, nest_step, Goes, stands, goes, OnePlace}
 use Rattle.rx_chars.proofs.CharactersLemmas.{one_reading}
-use Rattle.rx_pages.specs.Nesting.{Event, Nesting, Step, nest_step, Goes, stands, goes}
-use Rattle.rx_pages.specs.Laws.{OnePlace}
 use Rattle.rx_pages.proofs.Tokens.{same_item}
 use Rattle.rx_pages.proofs.Snocs.{values_next}
 use Rattle.rx_pages.proofs.Front.{fronts_lead}

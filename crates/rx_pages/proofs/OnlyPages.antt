@@ -1,9 +1,5 @@
 -- The reader of bytes reads pages alone to their ends, and finds faults of the grammar alone.
-use Rattle.rx_terms.proofs.Common.{◌≡◌, ◌∙◌, ⊎_elim, ℕ, ◌+◌, List, [], ◌∷◌, ◌++◌, refl, sym, ap, subst, length, Result, Ok, Err}
-use Rattle.std.specs.Prelude.{take}
-use Rattle.rx_grammar.proofs.Common.{Syntax, Tree, Page, FaultAt}
-use Rattle.rx_grammar.specs.declared.faults.Fault.{Fault}
-use Rattle.rx_grammar.specs.declared.limits.Limits.{Limits}
+use Rattle.rx_reader.proofs.Common.{◌≡◌, ◌∙◌, ⊎_elim, ℕ, ◌+◌, List, [], ◌∷◌, ◌++◌, refl, sym, ap, subst, length, Result, Ok, Err, take, Syntax, Tree, Page, FaultAt, Fault, Limits}
 use Rattle.rx_pages.specs.Nesting.{told_trees}
 use Rattle.rx_pages.specs.PageReader.{Progress, page_read, end_of}
 use Rattle.rx_pages.specs.Laws.{IsPageRead, ReadsOnlyPages, FindsOnlyFaults, FaultsStay}

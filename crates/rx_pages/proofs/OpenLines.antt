@@ -1,7 +1,5 @@
 -- What holds wherever tokens lead: a page that is over has nothing open, and the open elements have the names of start tags.
-use Rattle.rx_terms.proofs.Common.{◌≡◌, ◌∙◌, ◌⊎◌, ⊎_elim, inl, inr, ℕ, ◌+◌, Bool, true, false, List, [], ◌∷◌, ◌++◌, Option, refl, ap, sym, subst, ◌&&◌, ◌==◌, not, list_all, len_utf8, all_scalars, scalar, and_from, cond-true, cond-false, Chars, both, by_test, split}
-use Rattle.std.specs.Prelude.{Result, Ok}
-use Rattle.rx_grammar.proofs.Common.{Entry, line_feed, carriage_return, as_line_end, placed, entered, without_mark, Syntax, same, is_among, Tag, Token, tag, character, reference, kept, section, comment, doctype, is_alone, is_html, Spells, enders, is_omissible, is_held, Item, Spelled, no_more, one, values, next_of, is_line_feed, has_no_nul, Line, inside_of, parent_of, Phase, before, within, after, under_start, after_start, after_end, first_row, tag_rows}
+use Rattle.rx_grammar.proofs.Common.{◌≡◌, ◌∙◌, ◌⊎◌, ⊎_elim, inl, inr, ℕ, ◌+◌, Bool, true, false, List, [], ◌∷◌, ◌++◌, Option, refl, ap, sym, subst, ◌&&◌, ◌==◌, not, Result, Ok, list_all, len_utf8, all_scalars, scalar, and_from, cond-true, cond-false, Chars, both, by_test, split, Entry, line_feed, carriage_return, as_line_end, placed, entered, without_mark, Syntax, same, is_among, Tag, Token, tag, character, reference, kept, section, comment, doctype, is_alone, is_html, Spells, enders, is_omissible, is_held, Item, Spelled, no_more, one, values, next_of, is_line_feed, has_no_nul, Line, inside_of, parent_of, Phase, before, within, after, under_start, after_start, after_end, first_row, tag_rows}
 use Rattle.rx_grammar.specs.declared.faults.Kind.{Kind}
 use Rattle.rx_pages.specs.Nesting.{Event, Nesting, Step, over, begun_under, line_above, tag_passes, going_on, text_step, doctype_step, step_by, Goes, stands, goes}
 use Rattle.rx_pages.proofs.Steps.{passes}

@@ -1,17 +1,8 @@
 -- The names of open elements: their end tags are spelled with them.
-use Rattle.rx_terms.proofs.Common.{◌≡◌, ◌∙◌, ◌⊎◌, inl, inr, ℕ, ◌+◌, ◌<◌, Bool, true, false, List, [], ◌∷◌, ◌++◌, Option, Some, refl, ap, sym, subst, arith, ◌&&◌, ◌==◌, not, list_all, scalar, and_from, cond-true, cond-false, nat_tests, solidus, greater_than_sign, carriage_return, line_feed, lowered_char, is_letter, Chars, lowered, both, by_test, split, not_both_ways}
-use Rattle.std.specs.Prelude.{codes, map}
-use lib.Utf8.{low_scalar}
-use Rattle.rx_terms.specs.Ascii.{between}
-use Rattle.rx_grammar.proofs.Common.{Syntax, Html, Xhtml, same, is_among, name_of_raw, Tag, tag, ends_name, begins_tag, is_tag_char, Shape, a_start, an_end, cased, is_repeated, SpellsTag, Spells, has_markup, raw_name, a_tag, an_end_of_raw, Place, in_html, inside_html, html_in_svg, place_in, StartTag, Line, inside_of}
-use Rattle.rx_grammar.specs.declared.contents.Content.{Content}
+use Rattle.rx_reader.proofs.Common.{◌≡◌, ◌∙◌, ◌⊎◌, inl, inr, ℕ, ◌+◌, ◌<◌, Bool, true, false, List, [], ◌∷◌, ◌++◌, Option, Some, refl, ap, sym, subst, arith, ◌&&◌, ◌==◌, not, codes, map, list_all, scalar, low_scalar, and_from, cond-true, cond-false, nat_tests, Chars, lowered, both, by_test, split, not_both_ways, Syntax, Html, Xhtml, same, is_among, name_of_raw, Tag, tag, ends_name, begins_tag, is_tag_char, Shape, a_start, an_end, is_tag_name, is_strict_start, is_strict_char, cased, is_repeated, SpellsTag, Spells, has_markup, raw_name, a_tag, an_end_of_raw, Place, in_html, inside_html, html_in_svg, place_in, raw_place, raw_names, rcdata_names, inside_at, StartTag, Line, inside_of, Content, RawName, of_one, unless, kept_case}
+use Rattle.rx_terms.specs.Ascii.{solidus, greater_than_sign, carriage_return, line_feed, lowered_char, is_letter, between}
 use Rattle.rx_grammar.specs.declared.contents.Content.TheVariants as content
-use Rattle.rx_grammar.specs.declared.contents.RawName.{RawName}
-use Rattle.rx_grammar.specs.Shapes.{is_tag_name, is_strict_start, is_strict_char}
-use Rattle.rx_grammar.specs.Contents.{raw_place, raw_names, rcdata_names, inside_at}
-use Rattle.rx_reader.proofs.Classes.{of_one, unless}
 use Rattle.rx_pages.proofs.Contents.{same_is}
-use Rattle.rx_reader.proofs.OneToken.{kept_case}
 
 -- a character of a page
 abbrev pub is_fair : ℕ → Bool

@@ -1,8 +1,5 @@
 -- The reader of bytes reads each page.
-use Rattle.rx_terms.proofs.Common.{◌≡◌, ◌∙◌, ℕ, List, [], ◌++◌, refl, sym, ap, subst, length, append-nil, Ok, Err, true, false, if◌then◌else◌}
-use Rattle.rx_grammar.proofs.Common.{Syntax, IsRead, Tree, Item, Page, has_no_nul, Phase, after}
-use Rattle.rx_grammar.specs.declared.faults.Kind.TheVariants.{Unended}
-use Rattle.rx_grammar.specs.declared.limits.Limits.{Limits}
+use Rattle.rx_reader.proofs.Common.{◌≡◌, ◌∙◌, ℕ, List, [], ◌++◌, refl, sym, ap, subst, length, append-nil, Ok, Err, true, false, if◌then◌else◌, Syntax, IsRead, Tree, Item, Page, has_no_nul, Phase, after, Unended, Limits}
 use Rattle.rx_pages.specs.Nesting.{IsAt, told_trees}
 use Rattle.rx_pages.specs.PageReader.{Progress, nothing_read, page_on, page_read, end_of, is_over, fault_in}
 use Rattle.rx_pages.specs.Laws.{PageIsRead}

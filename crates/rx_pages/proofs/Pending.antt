@@ -1,10 +1,7 @@
 -- Characters that begin a token go on, and no token is read within them.
-use Rattle.rx_terms.proofs.Common.{◌≡◌, ◌∙◌, ℕ, [], ◌∷◌, ◌++◌, Option, refl, sym, subst, append-nil, append_assoc, inl, inr, Chars}
-use Rattle.rx_grammar.proofs.Common.{Syntax, Token, Spells}
-use Rattle.rx_grammar.specs.declared.contents.Content.{Content}
+use Rattle.rx_reader.proofs.Common.{◌≡◌, ◌∙◌, ℕ, [], ◌∷◌, ◌++◌, Option, refl, sym, subst, append-nil, append_assoc, inl, inr, Chars, Syntax, Token, Spells, Content, two_fronts}
 use Rattle.rx_pages.specs.Scanner.{Verdict, goes_on, whole, verdict, GoesOn, ReadAs, at_last, at_next}
 use Rattle.rx_pages.proofs.Spellings.{reads_each}
-use Rattle.rx_reader.proofs.Fronts.{two_fronts}
 
 module _ (s : Syntax) (i : Content) where
   pub goes_front : (before a b : Chars) → GoesOn s i before (a ++ b) → GoesOn s i before a

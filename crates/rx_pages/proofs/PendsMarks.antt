@@ -1,11 +1,7 @@
 -- What the next character makes of `<`, and of what begins with `<!` and `<?`.
-use Rattle.rx_terms.proofs.Common.{◌≡◌, ◌∙◌, ℕ, length, take, Bool, true, false, [], ◌∷◌, ◌++◌, Option, Some, None, refl, ap, sym, subst, append_assoc, arith, ◌==◌, length-map, lowered_char, greater_than_sign, Chars, split}
-use Rattle.std.specs.Prelude.{codes, ◌-◌}
-use Rattle.rx_grammar.proofs.Common.{Syntax, Html, Xhtml, Token, comment, section, doctype, cased, Spells, IsFirst, has_markup, has_sections, has_less_than, begins_markup, ends_with, ends_comment, begins_declaration, doctype_word, IsDoctype, Faulty, meets_opening, is_opening_begun}
-use Rattle.rx_grammar.specs.declared.contents.Content.{Content}
+use Rattle.rx_reader.proofs.Common.{◌≡◌, ◌∙◌, ℕ, length, take, Bool, true, false, [], ◌∷◌, ◌++◌, Option, Some, None, refl, ap, sym, subst, append_assoc, arith, ◌==◌, codes, ◌-◌, length-map, lowered_char, greater_than_sign, Chars, split, Syntax, Html, Xhtml, Token, comment, section, doctype, cased, Spells, IsFirst, has_markup, has_sections, has_less_than, begins_markup, ends_with, ends_comment, begins_declaration, doctype_word, IsDoctype, Faulty, meets_opening, is_opening_begun, openings, BeginsDoctype, BeginsNoDoctype, Content, of_one, snoc_front}
 use Rattle.rx_grammar.specs.declared.faults.Kind.TheVariants as kind
 use Rattle.rx_grammar.specs.Spelling as spelling
-use Rattle.rx_grammar.specs.PageFaults.{openings, BeginsDoctype, BeginsNoDoctype}
 use Rattle.rx_grammar.specs.PageFaults as faults
 use Rattle.rx_pages.specs.Scanner.{Verdict, whole_if, DoctypePhase, keyword, spaces, naming, passed, closed, doctype_on, told_of_doctype, verdict}
 use Rattle.rx_pages.proofs.Reading.{markup_is}
@@ -14,8 +10,6 @@ use Rattle.rx_pages.proofs.Doctypes.{on_none, on_append, behind, behind_word}
 use Rattle.rx_pages.proofs.DoctypeFaults.{is_doctype, completion, Closable, Next, keyword_closes, closes_on}
 use Rattle.rx_pages.proofs.FirstFronts.{NoFront, NoneBefore, no_front_snoc, first_here, none_before_snoc, whole_first, ends_so}
 use Rattle.rx_pages.proofs.Pends.{is_closed, Pends, in_question, in_instruction, in_html_comment, in_strict, in_a_doctype, in_a_section, Out, other_than}
-use Rattle.rx_reader.proofs.Classes.{of_one}
-use Rattle.rx_reader.proofs.ValueFaults.{snoc_front}
 
 -- a run that ends at the first front that meets a test
 module _ (s : Syntax) (i : Content) (run : Chars) (c : ℕ) where

@@ -1,15 +1,9 @@
 -- What the next character makes of `<`, and of `<!` before it is known what begins there.
-use Rattle.rx_terms.proofs.Common.{◌≡◌, ◌∙◌, ℕ, Bool, true, false, List, [], ◌∷◌, ◌++◌, refl, ap, sym, subst, append-nil, inl, inr, ◌&&◌, ◌||◌, ◌==◌, not, list_any, map-append, cond-true, cond-false, and_from, or_parts, lowered_char, solidus, is_letter, Chars, lowered, begins_with, both, either, not_both_ways, by_test, split, untrue, and-false}
-use Rattle.std.specs.Prelude.{codes}
-use Rattle.rx_grammar.proofs.Common.{Syntax, Html, Xhtml, comment, begins_tag, Spells, has_markup, has_sections, has_less_than, begins_markup, ends_with, ends_comment, begins_declaration, Faulty, meets_opening, is_opening_begun}
-use Rattle.rx_grammar.specs.declared.contents.Content.{Content}
+use Rattle.rx_reader.proofs.Common.{◌≡◌, ◌∙◌, ℕ, Bool, true, false, List, [], ◌∷◌, ◌++◌, refl, ap, sym, subst, append-nil, inl, inr, ◌&&◌, ◌||◌, ◌==◌, not, codes, list_any, map-append, cond-true, cond-false, and_from, or_parts, lowered_char, solidus, is_letter, Chars, lowered, begins_with, both, either, not_both_ways, by_test, split, untrue, and-false, Syntax, Html, Xhtml, comment, begins_tag, Spells, has_markup, has_sections, has_less_than, begins_markup, ends_with, ends_comment, begins_declaration, Faulty, meets_opening, is_opening_begun, openings, Content, fresh, ReadsOn, of_one, equal, has_end, repeats_once}
 use Rattle.rx_grammar.specs.declared.contents.Content.TheVariants as content
 use Rattle.rx_grammar.specs.declared.faults.Kind.TheVariants as kind
 use Rattle.rx_grammar.specs.Spelling as spelling
-use Rattle.rx_grammar.specs.PageFaults.{openings}
 use Rattle.rx_grammar.specs.PageFaults as faults
-use Rattle.rx_reader.specs.TagReader.{fresh}
-use Rattle.rx_reader.specs.Laws.{ReadsOn}
 use Rattle.rx_pages.specs.Scanner.{keyword, whole_if, goes_on, is_mark, in_tag, verdict}
 use Rattle.rx_pages.proofs.Reading.{markup_is}
 use Rattle.rx_pages.proofs.Comments.{none_if, bogus_at}
@@ -19,9 +13,6 @@ use Rattle.rx_pages.proofs.FirstFronts.{NoFront, no_front_nil, none_before_nil, 
 use Rattle.rx_pages.proofs.TagRuns.{in_markup'}
 use Rattle.rx_pages.proofs.Pends.{occurs, Pends, in_a_tag, in_question, in_instruction, in_bogus, in_html_comment, in_strict, in_a_doctype, in_a_section, in_an_opening, Out, tag_out}
 use Rattle.rx_pages.proofs.PendsMarks.{by_whole, as_verdict}
-use Rattle.rx_reader.proofs.Classes.{of_one}
-use Rattle.rx_reader.proofs.Fronts.{equal, has_end}
-use Rattle.rx_reader.proofs.TagLaws.{repeats_once}
 use Rattle.rx_pages.proofs.Markup.{is_first}
 
 outside_html : (i : Content) → has_markup i ≡ true → occurs Html i ≡ true → has_less_than i ≡ false → i ≡ content.Outside

@@ -1,8 +1,5 @@
 -- What a tag leaves open of the elements at the front of a page.
-use Rattle.rx_terms.proofs.Common.{cond-true, cond-false, and_from, ◌≡◌, ◌∙◌, ℕ, ◌+◌, Bool, true, false, cond, List, [], ◌∷◌, Option, Some, refl, ap, sym, arith, length, ◌&&◌, not, Chars, both, untrue, not_both_ways, by_test, split}
-use Rattle.rx_grammar.proofs.Common.{Syntax, same, is_among, Tag, tag, Place, is_html, StartTag, Item, enders, is_omissible, is_held, is_ended_by, Line, inside_of, parent_of, enders_of, Open, after_start, after_end}
-use Rattle.rx_grammar.specs.Names.{row_of}
-use Rattle.rx_grammar.specs.Omission.{names_of, has_row, ends_by}
+use Rattle.rx_grammar.proofs.Common.{cond-true, cond-false, and_from, ◌≡◌, ◌∙◌, ℕ, ◌+◌, Bool, true, false, cond, List, [], ◌∷◌, Option, Some, refl, ap, sym, arith, length, ◌&&◌, not, Chars, both, untrue, not_both_ways, by_test, split, Syntax, same, is_among, row_of, Tag, tag, Place, is_html, StartTag, Item, enders, is_omissible, is_held, is_ended_by, names_of, has_row, ends_by, Line, inside_of, parent_of, enders_of, Open, after_start, after_end}
 use Rattle.rx_pages.proofs.Contents.{omissible_html}
 use Rattle.rx_pages.proofs.Steps.{same_turned}
 use Rattle.rx_pages.proofs.Growing.{pops}

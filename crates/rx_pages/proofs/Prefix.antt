@@ -1,8 +1,5 @@
 -- The tokens at the front of a page's characters are the first of the page's tokens.
-use Rattle.rx_terms.proofs.Common.{◌≡◌, ◌∙◌, ℕ, List, [], ◌∷◌, ◌++◌, Option, None, refl, ap, sym, subst, append_assoc, Chars}
-use Rattle.std.specs.Prelude.{Ok}
-use Rattle.rx_grammar.proofs.Common.{Entry, Syntax, Token, Spells, a_tag, an_end_of_raw, a_character, a_less_than, a_raw_run, a_reference, a_kept_run, a_comment, a_bogus_comment, a_question, a_strict_comment, an_instruction, a_section, a_doctype, Item, Spelled, no_more, one, values, next_of}
-use Rattle.rx_grammar.specs.declared.contents.Content.{Content}
+use Rattle.rx_reader.proofs.Common.{◌≡◌, ◌∙◌, ℕ, List, [], ◌∷◌, ◌++◌, Option, None, refl, ap, sym, subst, append_assoc, Chars, Ok, Entry, Syntax, Token, Spells, a_tag, an_end_of_raw, a_character, a_less_than, a_raw_run, a_reference, a_kept_run, a_comment, a_bogus_comment, a_question, a_strict_comment, an_instruction, a_section, a_doctype, Item, Spelled, no_more, one, values, next_of, Content}
 use Rattle.rx_pages.specs.Nesting.{Event, Nesting, Step, nest_step, Goes, stands, goes}
 use Rattle.rx_pages.proofs.Tokens.{same_item}
 

@@ -1,16 +1,8 @@
 -- The end tags of raw elements, in HTML.
-use Rattle.rx_terms.proofs.Common.{◌≡◌, ◌∙◌, ℕ, ◌+◌, true, false, [], ◌∷◌, ◌++◌, Some, refl, ap, sym, subst, arith, ◌==◌, not, list_all, cond-false, and_from, nat_tests, lowered_char, is_letter, is_white_space, solidus, greater_than_sign, Chars, lowered, both, not_both_ways, by_test, untrue}
-use Rattle.rx_terms.specs.Ascii.{between}
-use Rattle.rx_grammar.proofs.Common.{Syntax, Html, name_of_raw, Tag, ends_name, Shape, a_start, an_end, cased, SpellsTag, raw_name}
-use Rattle.rx_grammar.specs.declared.contents.Content.{Content}
+use Rattle.rx_reader.proofs.Common.{◌≡◌, ◌∙◌, ℕ, ◌+◌, true, false, [], ◌∷◌, ◌++◌, Some, refl, ap, sym, subst, arith, ◌==◌, not, list_all, cond-false, and_from, nat_tests, lowered_char, is_letter, is_white_space, solidus, greater_than_sign, between, Chars, lowered, both, not_both_ways, by_test, untrue, Syntax, Html, name_of_raw, Tag, ends_name, Shape, a_start, an_end, is_tag_name, cased, SpellsTag, raw_name, Content, RawName, ReadsOn, of_white, of_one, unless, reads_each}
 use Rattle.rx_grammar.specs.declared.contents.Content.TheVariants as content
-use Rattle.rx_grammar.specs.declared.contents.RawName.{RawName}
 use Rattle.rx_grammar.specs.declared.contents.RawName.TheVariants.{Script}
-use Rattle.rx_grammar.specs.Shapes.{is_tag_name}
-use Rattle.rx_reader.specs.Laws.{ReadsOn}
 use Rattle.rx_pages.proofs.TagRuns.{KnownEnd, front_of}
-use Rattle.rx_reader.proofs.Classes.{of_white, of_one, unless}
-use Rattle.rx_reader.proofs.TagLaws.{reads_each}
 
 -- their names are letters in lower case
 pub record IsRawName (name : Chars) : Type 0 where

@@ -1,13 +1,8 @@
 -- Raw text and its end tag are read as they are spelled.
-use Rattle.rx_terms.proofs.Common.{◌≡◌, ◌≢◌, ◌∙◌, ℕ, true, false, [], ◌∷◌, ◌++◌, Option, Some, None, refl, ap, sym, subst, append-nil, append_assoc, ◌&&◌, not, cond-true, cond-false, and_from, map-append, lowered_char, solidus, Chars, begins_with, lowered, both, by_test, untrue}
-use Rattle.rx_grammar.proofs.Common.{Syntax, Tag, tag, kept, SpellsTag, raw_name, begins_end, stops_end}
-use Rattle.rx_grammar.specs.declared.contents.Content.{Content}
-use Rattle.rx_grammar.specs.Spelling.{IsBefore}
+use Rattle.rx_reader.proofs.Common.{◌≡◌, ◌≢◌, ◌∙◌, ℕ, true, false, [], ◌∷◌, ◌++◌, Option, Some, None, refl, ap, sym, subst, append-nil, append_assoc, ◌&&◌, not, cond-true, cond-false, and_from, map-append, lowered_char, solidus, Chars, begins_with, lowered, both, by_test, untrue, Syntax, Tag, tag, kept, SpellsTag, raw_name, begins_end, stops_end, IsBefore, Content, begins_front, RawEnd, raw_end, not_front, run_not_end}
 use Rattle.rx_pages.specs.Scanner.{goes_on, whole, in_raw, ReadAs, at_next}
 use Rattle.rx_pages.proofs.Reading.{Last, no_last, a_last, last_of, all_go, read_to, raw_is}
 use Rattle.rx_pages.proofs.Markup.{tag_goes, tag_ends, more_left}
-use Rattle.rx_reader.proofs.Fronts.{begins_front}
-use Rattle.rx_reader.proofs.OneToken.{RawEnd, raw_end, not_front, run_not_end}
 
 -- each front of what may begin an end tag may begin one
 pub begins_end_front : (name a b : Chars) → begins_end name (a ++ b) ≡ true → begins_end name a ≡ true

@@ -1,6 +1,5 @@
 -- The characters of the front of a page's bytes are the first of the page's characters.
-use Rattle.rx_terms.proofs.Common.{◌≡◌, ◌∙◌, ℕ, ◌+◌, ◌-◌, Bool, false, List, [], ◌∷◌, ◌++◌, refl, ap, sym, ◌&&◌, ◌==◌, len_utf8, chars, chars-append, chars-encodes, cond-true, cond-false, by_test}
-use Rattle.rx_grammar.proofs.Common.{Entry, IsRead, line_feed, carriage_return, byte_order_mark, placed, without_mark, line_end_entry, entered}
+use Rattle.rx_grammar.proofs.Common.{◌≡◌, ◌∙◌, ℕ, ◌+◌, ◌-◌, Bool, false, List, [], ◌∷◌, ◌++◌, refl, ap, sym, ◌&&◌, ◌==◌, len_utf8, chars, chars-append, chars-encodes, cond-true, cond-false, by_test, Entry, IsRead, line_feed, carriage_return, byte_order_mark, placed, without_mark, line_end_entry, entered}
 
 -- one list begins with another
 pub record Begins (all front : List Entry) : Type 0 where

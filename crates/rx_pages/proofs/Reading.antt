@@ -1,7 +1,5 @@
 -- What leads from character to character to a verdict.
-use Rattle.rx_terms.proofs.Common.{◌≡◌, ◌≢◌, ◌∙◌, ℕ, Bool, true, false, [], ◌∷◌, ◌++◌, Option, Some, None, refl, ap, sym, subst, append-nil, append_assoc, Chars, not_both_ways}
-use Rattle.rx_grammar.proofs.Common.{Syntax, Token, IsFirst, has_markup, raw_name}
-use Rattle.rx_grammar.specs.declared.contents.Content.{Content}
+use Rattle.rx_reader.proofs.Common.{◌≡◌, ◌≢◌, ◌∙◌, ℕ, Bool, true, false, [], ◌∷◌, ◌++◌, Option, Some, None, refl, ap, sym, subst, append-nil, append_assoc, Chars, not_both_ways, Syntax, Token, IsFirst, has_markup, raw_name, Content}
 use Rattle.rx_grammar.specs.declared.contents.Content.TheVariants as content
 use Rattle.rx_pages.specs.Scanner.{goes_on, whole, after_less_than, in_markup, verdict, GoesOn, ReadAs, at_last}
 

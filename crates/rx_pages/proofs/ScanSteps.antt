@@ -1,9 +1,5 @@
 -- What is read under one spot is read of the page, as long as its tokens leave the spot as it is.
-use Rattle.rx_terms.proofs.Common.{◌≡◌, ◌∙◌, ℕ, List, [], ◌∷◌, ◌++◌, refl, sym, ap, subst, append_assoc, append-nil, Result, Ok, Err}
-use Rattle.rx_grammar.proofs.Common.{Syntax, Item}
-use Rattle.rx_grammar.specs.declared.faults.Fault.{Fault}
-use Rattle.rx_grammar.specs.declared.faults.Kind.{Kind}
-use Rattle.rx_grammar.specs.declared.limits.Limits.{Limits}
+use Rattle.rx_reader.proofs.Common.{◌≡◌, ◌∙◌, ℕ, List, [], ◌∷◌, ◌++◌, refl, sym, ap, subst, append_assoc, append-nil, Result, Ok, Err, Syntax, Item, Fault, Kind, Limits}
 use Rattle.rx_pages.specs.Nesting.{Event, Nesting, Step, nest_step}
 use Rattle.rx_pages.specs.PageReader.{Spot, Scanning, Scanned, fault_in, read_byte, with_items, scan_byte_on, scan_on, scan_from, spot_of, step_on, steps_on, no_step, with_events, Progress, progress_of, nested_items, page_byte_on, page_on, telling}
 use Rattle.rx_pages.proofs.TokenWalk.{steps_from}

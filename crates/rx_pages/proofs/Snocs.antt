@@ -1,7 +1,5 @@
 -- One more character, and one more token, behind those of a front.
-use Rattle.rx_terms.proofs.Common.{◌≡◌, ◌∙◌, ℕ, ◌+◌, ◌-◌, Bool, true, false, List, [], ◌∷◌, ◌++◌, refl, sym, ap, subst, length, append_assoc, append-nil, Option, Some, Ok, arith, ◌&&◌, ◌==◌, if◌then◌else◌, len_utf8, encode, encodes, length-encode, and_parts, cond-true, cond-false, right_bracket, greater_than_sign, by_test, or-false}
-use Rattle.std.proofs.lemmas.List.{length-append}
-use Rattle.rx_grammar.proofs.Common.{Syntax, Entry, byte_order_mark, line_feed, carriage_return, line_end_entry, placed, entered, without_mark, Spells, values, next_of, Item, last_from, Spelled, no_more, one, Fits, AllFit, is_literal, no_section_end}
+use Rattle.rx_grammar.proofs.Common.{◌≡◌, ◌∙◌, ℕ, ◌+◌, ◌-◌, Bool, true, false, List, [], ◌∷◌, ◌++◌, refl, sym, ap, subst, length, append_assoc, append-nil, Option, Some, Ok, arith, ◌&&◌, ◌==◌, if◌then◌else◌, len_utf8, encode, encodes, length-encode, and_parts, cond-true, cond-false, right_bracket, greater_than_sign, by_test, or-false, length-append, Syntax, Entry, byte_order_mark, line_feed, carriage_return, line_end_entry, placed, entered, without_mark, Spells, values, next_of, Item, last_from, Spelled, no_more, one, Fits, AllFit, is_literal, no_section_end}
 use Rattle.rx_pages.specs.Nesting.{Event, Nesting, Step, content_at, nest_step, Goes, stands, goes}
 use Rattle.rx_pages.proofs.CharSteps.{passes, entry_at}
 use Rattle.rx_pages.proofs.CharWalk.{ends_return, is_started, no_return, no_mark}

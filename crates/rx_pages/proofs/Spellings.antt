@@ -1,7 +1,5 @@
 -- Each token is read as it is spelled.
-use Rattle.rx_terms.proofs.Common.{◌≡◌, ℕ, Option, sym, subst, Chars}
-use Rattle.rx_grammar.proofs.Common.{Syntax, Html, Xhtml, Token, a_tag, an_end_of_raw, a_character, a_less_than, a_raw_run, a_reference, a_kept_run, a_comment, a_bogus_comment, a_question, a_strict_comment, an_instruction, a_section, a_doctype}
-use Rattle.rx_grammar.specs.declared.contents.Content.{Content}
+use Rattle.rx_reader.proofs.Common.{◌≡◌, ℕ, Option, sym, subst, Chars, Syntax, Html, Xhtml, Token, a_tag, an_end_of_raw, a_character, a_less_than, a_raw_run, a_reference, a_kept_run, a_comment, a_bogus_comment, a_question, a_strict_comment, an_instruction, a_section, a_doctype, Content}
 use Rattle.rx_pages.specs.Laws.{ReadsEachToken}
 use Rattle.rx_pages.specs.Scanner.{ReadAs}
 use Rattle.rx_pages.proofs.Comments.{reads_comment, reads_bogus, reads_question, reads_instruction, reads_strict_comment, reads_section}

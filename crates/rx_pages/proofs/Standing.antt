@@ -1,12 +1,9 @@
 -- Where the tokens lead, they stand at the front of a page.
-use Rattle.rx_terms.proofs.Common.{cond-true, cond-false, nat_tests, ◌≡◌, ◌∙◌, ℕ, zero, suc, ◌+◌, ◌-◌, ◌<◌, Bool, true, false, List, [], ◌∷◌, ◌++◌, Some, None, refl, ap, sym, subst, arith, length, append_assoc, inl, inr, ◌⊎◌, ◌&&◌, not, nat_le, Chars, not_both_ways, by_test, split}
-use Rattle.std.proofs.lemmas.Bool.{not-false}
-use Rattle.std.specs.Prelude.{Result, Ok}
-use Rattle.rx_grammar.proofs.Common.{Syntax, same, is_among, Tag, Token, tag, character, reference, kept, section, comment, doctype, outside, is_alone, is_html, StartTag, Tree, end, element, Item, is_line_feed, start_of, text_of, Opens, Closes, Drops, Holds, nothing, a_text, alone, Lead, root_name, Document, Line, inside_of, enders_of, Phase, before, within, after, Open, a_root, a_child, Stands, not_begun, still_open, ended, under_start, after_start, after_end, is_innermost, has_ended, is_before, first_row, tag_rows, start_rows, end_rows}
+use Rattle.rx_grammar.proofs.Common.{cond-true, cond-false, not-false, nat_tests, ◌≡◌, ◌∙◌, ℕ, zero, suc, ◌+◌, ◌-◌, ◌<◌, Bool, true, false, List, [], ◌∷◌, ◌++◌, Some, None, refl, ap, sym, subst, arith, length, append_assoc, inl, inr, ◌⊎◌, ◌&&◌, not, nat_le, Result, Ok, Chars, not_both_ways, by_test, split, Syntax, same, is_among, Tag, Token, tag, character, reference, kept, section, comment, doctype, outside, is_alone, is_html, StartTag, Tree, end, element, Item, is_line_feed, start_of, text_of, Line, inside_of, enders_of, Phase, before, within, after, Open, a_root, a_child, Stands, not_begun, still_open, ended, under_start, after_start, after_end, is_innermost, has_ended, is_before, first_row, tag_rows, start_rows, end_rows}
+use Rattle.rx_grammar.specs.Pages.{Opens, Closes, Drops, Holds, nothing, a_text, alone, Lead, root_name, Document, a_comment, is_between, passed, a_doctype}
 use Rattle.rx_grammar.specs.declared.contents.Content.TheVariants as content
 use Rattle.rx_grammar.specs.declared.faults.Kind.{Kind}
 use Rattle.rx_grammar.specs.declared.faults.Kind.TheVariants as kind
-use Rattle.rx_grammar.specs.Pages.{a_comment, is_between, passed, a_doctype}
 use Rattle.rx_grammar.specs.Pages as pages
 use Rattle.rx_pages.specs.Nesting.{Event, finishes, Step, ended_under, ended_by_end, over, begun_under, line_above, tag_passes, unless_refused, text_step, step_by, nest_step}
 use Rattle.rx_pages.proofs.Contents.{html_is, same_is, plaintext_by, self_closed_by}

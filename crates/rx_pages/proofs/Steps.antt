@@ -1,10 +1,7 @@
 -- How one token steps: after a dropped line feed, and where it ends elements whose end tags are omitted.
-use Rattle.rx_terms.proofs.Common.{cond-true, ◌≡◌, ◌∙◌, ℕ, Bool, true, false, cond, List, [], ◌∷◌, ◌++◌, Option, Some, None, refl, ap, sym, ◌&&◌, not, nat_le, bytes_decides, Chars, both, not_both_ways, by_test, untrue}
-use Rattle.std.specs.Prelude.{Ok, length}
-use Rattle.rx_grammar.proofs.Common.{Syntax, same, is_among, Tag, Token, tag, character, reference, kept, section, is_alone, is_html, is_plaintext, is_self_closed, StartTag, Item, is_line_feed, enders, is_omissible, is_held, Line, inside_of, parent_of, Phase, within, Rows, under_start, after_end, is_innermost, first_row, tag_rows, start_rows, end_rows}
+use Rattle.rx_grammar.proofs.Common.{cond-true, ◌≡◌, ◌∙◌, ℕ, Bool, true, false, cond, List, [], ◌∷◌, ◌++◌, Option, Some, None, refl, ap, sym, ◌&&◌, not, nat_le, Ok, length, bytes_decides, Chars, both, not_both_ways, by_test, untrue, Syntax, same, is_among, Tag, Token, tag, character, reference, kept, section, is_alone, is_html, is_plaintext, is_self_closed, StartTag, Item, is_line_feed, enders, is_omissible, is_held, ends_by, Line, inside_of, parent_of, Phase, within, Rows, under_start, after_end, is_innermost, first_row, tag_rows, start_rows, end_rows}
 use Rattle.rx_grammar.specs.declared.faults.Kind.{Kind}
 use Rattle.rx_grammar.specs.declared.faults.Kind.TheVariants as kind
-use Rattle.rx_grammar.specs.Omission.{ends_by}
 use Rattle.rx_pages.specs.Nesting.{Event, finishes, Nesting, Step, ended_under, ended_by_end, over, begun_under, line_above, tag_passes, unless_refused, step_by}
 use Rattle.rx_pages.proofs.Contents.{same_is, AllHtml, omissible_html, plaintext_by, self_closed_by}
 

@@ -1,26 +1,11 @@
 -- A run that is known to be a tag is read as one.
-use Rattle.rx_terms.proofs.Common.{suc, ◌≡◌, ◌≢◌, ◌∙◌, ℕ, ◌+◌, ◌≤◌, length, take, Bool, true, false, [], ◌∷◌, ◌++◌, Some, Ok, Err, refl, ap, sym, subst, append-nil, append_assoc, inl, inr, ◌⊎◌, arith, ◌&&◌, ◌==◌, not, and_parts, cond-true, cond-false, and_right, length-map, take-append-drop, lowered_char, solidus, less_than_sign, Chars, begins_with, lowered, both, by_test, and-false}
-use Rattle.std.specs.Prelude.{drop}
-use Rattle.std.proofs.Math.Seq.{take-append_seam, drop-append_seam}
-use Rattle.std.proofs.lemmas.List.{length-append}
-use Rattle.rx_grammar.proofs.Common.{Syntax, same, name_of_raw, meaning, ends_name, begins, TagFault, has_markup, raw_name, begins_end, stops_end, is_known_tag}
-use Rattle.rx_grammar.specs.declared.contents.Content.{Content}
+use Rattle.rx_reader.proofs.Common.{suc, ◌≡◌, ◌≢◌, ◌∙◌, ℕ, ◌+◌, ◌≤◌, length, take, Bool, true, false, [], ◌∷◌, ◌++◌, Some, Ok, Err, refl, ap, sym, subst, append-nil, append_assoc, inl, inr, ◌⊎◌, arith, ◌&&◌, ◌==◌, not, drop, and_parts, cond-true, cond-false, and_right, length-map, take-append-drop, length-append, lowered_char, solidus, less_than_sign, Chars, begins_with, lowered, both, by_test, and-false, take-append_seam, drop-append_seam, Syntax, same, name_of_raw, meaning, ends_name, begins, TagFault, has_markup, raw_name, begins_end, stops_end, is_known_tag, is_known_end, Content, Kind, BadTag, is_last, TagState, fresh, moved, checked, tag_step, tag_step_on, tag_on, ReadsOn, two_fronts, begins_append, last_none, on_err, tag_on-append, parts, is_refused, same_self}
 use Rattle.rx_grammar.specs.declared.contents.Content.TheVariants as content
-use Rattle.rx_grammar.specs.declared.faults.Kind.{Kind}
-use Rattle.rx_grammar.specs.declared.faults.Kind.TheVariants.{BadTag}
-use Rattle.rx_grammar.specs.PageFaults.{is_known_end}
-use Rattle.rx_reader.specs.Tables.{is_last}
-use Rattle.rx_reader.specs.TagReader.{TagState, fresh, moved, checked, tag_step, tag_step_on, tag_on}
-use Rattle.rx_reader.specs.Laws.{ReadsOn}
 use Rattle.rx_pages.specs.Scanner.{goes_on, refused, told_of_tag, in_tag, in_raw, verdict, GoesOn}
 use Rattle.rx_pages.proofs.Reading.{all_go, markup_is, raw_is}
 use Rattle.rx_pages.proofs.RawText.{begins_end_front}
 use Rattle.rx_pages.proofs.Contents.{same_is}
 use Rattle.rx_pages.proofs.Refusals.{IsRefused}
-use Rattle.rx_reader.proofs.Fronts.{two_fronts, begins_append}
-use Rattle.rx_reader.proofs.TagLaws.{last_none, on_err, tag_on-append}
-use Rattle.rx_reader.proofs.TagFaultLaws.{parts, is_refused}
-use Rattle.rx_reader.proofs.OneToken.{same_self}
 use Rattle.rx_pages.proofs.Markup.{is_first, markup_tag}
 
 -- The fronts of what is read as a tag are read so.

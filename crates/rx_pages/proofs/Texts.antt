@@ -1,14 +1,8 @@
 -- Text and references are read as they are spelled.
-use Rattle.rx_terms.proofs.Common.{◌≡◌, ◌∙◌, ℕ, true, false, [], ◌∷◌, ◌++◌, Option, Some, None, refl, ap, sym, append_assoc, ◌&&◌, ◌==◌, not, list_all, cond-true, cond-false, or_from, or_parts, ampersand, semicolon, less_than_sign, Chars, both, untrue, not_both_ways, by_test}
-use Rattle.rx_grammar.proofs.Common.{Syntax, Html, is_body, is_begun, stops_at, meaning, character, reference, kept, has_references, keeps_runs, has_less_than, is_text, begins_markup}
-use Rattle.rx_grammar.specs.declared.contents.Content.{Content}
-use Rattle.rx_grammar.specs.Spelling.{IsBefore}
+use Rattle.rx_reader.proofs.Common.{◌≡◌, ◌∙◌, ℕ, true, false, [], ◌∷◌, ◌++◌, Option, Some, None, refl, ap, sym, append_assoc, ◌&&◌, ◌==◌, not, list_all, cond-true, cond-false, or_from, or_parts, ampersand, semicolon, less_than_sign, Chars, both, untrue, not_both_ways, by_test, Syntax, Html, is_body, is_begun, stops_at, meaning, character, reference, kept, has_references, keeps_runs, has_less_than, is_text, begins_markup, IsBefore, Content, of_one, begun_front, begun_no_mark, keeps_has, less_markup, less_no_text, amp_no_text}
 use Rattle.rx_pages.specs.Scanner.{whole, told_of_reference, is_mark, verdict, GoesOn, ReadAs, at_last, at_next}
 use Rattle.rx_pages.proofs.Reading.{all_go, read_to, markup_is}
-use Rattle.rx_reader.proofs.Classes.{of_one}
-use Rattle.rx_reader.proofs.Fronts.{begun_front, begun_no_mark}
 use Rattle.rx_reader.proofs.TextComplete.{body_begun}
-use Rattle.rx_reader.proofs.OneToken.{keeps_has, less_markup, less_no_text, amp_no_text}
 
 -- no run goes on with a semicolon
 pub semicolon_stops : (body : Chars) → is_begun (body ++ 59 ∷ []) ≡ false

@@ -1,11 +1,5 @@
 -- Reading the entries of a page token by token.
-use Rattle.rx_terms.proofs.Common.{◌≡◌, ◌∙◌, ℕ, ◌+◌, ◌<◌, Bool, true, false, List, [], ◌∷◌, ◌++◌, refl, sym, ap, subst, append_assoc, append-nil, Result, Ok, Err, ◌&&◌, ◌||◌, ◌==◌, not, if◌then◌else◌, greater_than_sign, right_bracket, less_than_sign, ampersand, Chars, by_test, false_from_ne_true}
-use Rattle.std.proofs.Common.{nat_le}
-use Rattle.rx_grammar.proofs.Common.{Syntax, Entry, Token, tag, character, reference, kept, section, comment, doctype, has_references, is_text, values, Item, is_literal, Phase, before, is_known_tag}
-use Rattle.rx_grammar.specs.declared.contents.Content.{Content}
-use Rattle.rx_grammar.specs.declared.faults.Kind.{Kind}
-use Rattle.rx_grammar.specs.declared.faults.Kind.TheVariants.{BadDoctype, StrictText}
-use Rattle.rx_grammar.specs.declared.limits.Limits.{Limits}
+use Rattle.rx_reader.proofs.Common.{◌≡◌, ◌∙◌, ℕ, ◌+◌, ◌<◌, Bool, true, false, List, [], ◌∷◌, ◌++◌, refl, sym, ap, subst, append_assoc, append-nil, Result, Ok, Err, nat_le, ◌&&◌, ◌||◌, ◌==◌, not, if◌then◌else◌, greater_than_sign, right_bracket, less_than_sign, ampersand, Chars, by_test, false_from_ne_true, Syntax, Entry, Token, tag, character, reference, kept, section, comment, doctype, has_references, is_text, values, Item, is_literal, Phase, before, is_known_tag, Content, Kind, BadDoctype, StrictText, Limits}
 use Rattle.rx_pages.specs.Nesting.{Event, Nesting, Step, content_at, nest_step, step_by, going_on, doctype_step, text_step}
 use Rattle.rx_pages.specs.Scanner.{Verdict, goes_on, whole, ended, at_first, verdict, GoesOn}
 use Rattle.rx_pages.specs.PageReader.{Spot, Scanning, Scanned, first_of, is_too_long, item_of, is_doctype, entering, completed, told_first, with_item, told as told_by, spot_of, may_lead, with_events, steps_on, no_step}

@@ -1,9 +1,6 @@
 -- The tokens of a page are determined by its characters: two lists of tokens that are spelled by the same characters, and both nest, tell the same.
-use Rattle.rx_terms.proofs.Common.{◌≡◌, ◌∙◌, ℕ, List, [], ◌∷◌, ◌++◌, None, refl, ap, sym, subst, map-append}
-use Rattle.std.specs.Prelude.{Ok}
-use Rattle.rx_grammar.proofs.Common.{Entry, Syntax, Spells, Item, Spelled, no_more, one, values, next_of, last_from}
+use Rattle.rx_reader.proofs.Common.{◌≡◌, ◌∙◌, ℕ, List, [], ◌∷◌, ◌++◌, None, refl, ap, sym, subst, map-append, Ok, Entry, Syntax, Spells, Item, Spelled, no_more, one, values, next_of, last_from, one_token}
 use Rattle.rx_pages.specs.Nesting.{Event, Nesting, Step, nest_step, Goes, stands, goes}
-use Rattle.rx_reader.proofs.OneToken.{one_token}
 
 -- two lists of entries with equal characters in front are equal, and so is what follows
 pub record SameFront (xs ys m n : List Entry) : Type 0 where

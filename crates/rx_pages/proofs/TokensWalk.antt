@@ -1,9 +1,6 @@
 -- Reading all tokens of a front.
-use Rattle.rx_terms.proofs.Common.{◌≡◌, ◌∙◌, ℕ, ◌+◌, ◌≤◌, Bool, true, false, cond, List, [], ◌∷◌, ◌++◌, refl, sym, ap, subst, append_assoc, append-nil, Option, Some, None, Ok, arith, ◌&&◌, if◌then◌else◌, greater_than_sign, right_bracket, Chars, and-false}
-use Rattle.rx_grammar.proofs.Common.{Syntax, Entry, Token, tag, kept, Spells, values, next_of, Item, last_from, Spelled, no_more, one, Fits, AllFit, is_literal, is_strict_literal, no_section_end, is_known_tag}
-use Rattle.rx_grammar.specs.declared.contents.Content.{Content}
+use Rattle.rx_reader.proofs.Common.{◌≡◌, ◌∙◌, ℕ, ◌+◌, ◌≤◌, Bool, true, false, cond, List, [], ◌∷◌, ◌++◌, refl, sym, ap, subst, append_assoc, append-nil, Option, Some, None, Ok, arith, ◌&&◌, if◌then◌else◌, greater_than_sign, right_bracket, Chars, and-false, Syntax, Entry, Token, tag, kept, Spells, values, next_of, Item, last_from, Spelled, no_more, one, Fits, AllFit, is_literal, is_strict_literal, no_section_end, is_known_tag, Content, Limits}
 use Rattle.rx_grammar.specs.declared.contents.Content.TheVariants as content
-use Rattle.rx_grammar.specs.declared.limits.Limits.{Limits}
 use Rattle.rx_pages.specs.Nesting.{Event, Nesting, Step, content_at, nest_step, Goes, stands, goes}
 use Rattle.rx_pages.specs.Scanner.{Verdict, whole, ended, verdict, GoesOn, ReadAs, at_last, at_next}
 use Rattle.rx_pages.specs.PageReader.{item_of}

@@ -1,8 +1,6 @@
 -- A byte list has at most one tree.
-use Rattle.std.proofs.Common.{◌≡◌, ◌∙◌, [], ◌∷◌, refl, ap, sym}
+use Rattle.rx_grammar.proofs.Common.{◌≡◌, ◌∙◌, [], ◌∷◌, refl, ap, sym, after, OneTree}
 use Rattle.rx_chars.proofs.CharactersLemmas.{one_reading}
-use Rattle.rx_grammar.specs.Begun.{after}
-use Rattle.rx_grammar.specs.Laws.{OneTree}
 use Rattle.rx_pages.specs.Nesting.{told_trees}
 use Rattle.rx_pages.proofs.Documents.{document_tells}
 use Rattle.rx_pages.proofs.Tokens.{same_tokens}

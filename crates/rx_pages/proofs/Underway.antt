@@ -1,12 +1,6 @@
 -- The reader reads exactly the bytes that the grammar has underway, and comes to where it says.
-use Rattle.rx_terms.proofs.Common.{◌≡◌, ◌∙◌, ℕ, ◌+◌, ◌≤◌, true, false, List, [], ◌∷◌, ◌++◌, inl, refl, sym, ap, subst, length, append_assoc, append-nil, Result, None, Ok, Err, arith, if◌then◌else◌, encodes}
-use Rattle.std.specs.Prelude.{take}
-use Rattle.std.proofs.lemmas.List.{length-append}
-use Rattle.rx_grammar.proofs.Common.{Entry, IsRead, Syntax, values, next_of, has_no_nul, Line, Phase, IsShort, token_of, FaultAt}
-use Rattle.rx_grammar.specs.declared.faults.Fault.{Fault}
-use Rattle.rx_grammar.specs.declared.faults.Kind.TheVariants.{Unended}
-use Rattle.rx_grammar.specs.declared.limits.Limits.{Limits}
-use Rattle.rx_grammar.specs.Begun.{Begun as BegunPage}
+use Rattle.rx_reader.proofs.Common.{◌≡◌, ◌∙◌, ℕ, ◌+◌, ◌≤◌, true, false, List, [], ◌∷◌, ◌++◌, inl, refl, sym, ap, subst, length, append_assoc, append-nil, Result, None, Ok, Err, arith, if◌then◌else◌, take, encodes, length-append, Entry, IsRead, Syntax, values, next_of, has_no_nul, IsShort, token_of, FaultAt, Fault, Unended, Limits}
+use Rattle.rx_grammar.specs.Begun.{Line, Phase, Begun as BegunPage}
 use Rattle.rx_pages.specs.PageReader.{Progress, page_read, end_of, fault_in, may_end, first_of, starts_at, token_at}
 use Rattle.rx_pages.specs.Fronts.{ReadsTo, IsUnderway, ReadsWhatIsUnderway, NothingUnfinished, UnfinishedFollowsFront}
 use Rattle.rx_pages.proofs.FaultRead.{stands_there, state, at_part}

@@ -1,14 +1,7 @@
 -- How the front of a page goes on to a page: what is open is closed, from the innermost element on.
 use Rattle.std.specs.Prelude.{◌≡◌, ℕ, ◌+◌, ◌<◌, ◌≤◌, Ok, List, [], ◌∷◌, ◌++◌, length, codes, Option, encode_utf8_all, if◌then◌else◌}
-use Rattle.rx_terms.specs.Text.{Chars}
-use Rattle.rx_chars.specs.declared.syntax.Syntax.{Syntax}
+use Rattle.rx_grammar.specs.Common.{Chars, Syntax, Tree, Page, Line, Phase, Begun, is_before, Item, less_than_sign}
 use Rattle.rx_grammar.specs.declared.limits.Limits.{Limits}
-use Rattle.rx_grammar.specs.Trees.{Tree}
-use Rattle.rx_grammar.specs.Pages.{Page}
-use Rattle.rx_grammar.specs.Begun.{Line, Phase, Begun}
-use Rattle.rx_grammar.specs.PageFaults.{is_before}
-use Rattle.rx_grammar.specs.Items.{Item}
-use Rattle.rx_terms.specs.Ascii.{less_than_sign}
 use Rattle.rx_pages.specs.Nesting.{Event, begins, says, finishes, Nesting, not_begun, Goes}
 use Rattle.rx_pages.specs.PageReader.{Progress, page_read}
 

@@ -1,15 +1,10 @@
 -- How a character decides a fault, behind whole tokens.
 use Rattle.std.specs.Prelude.{◌≡◌, ℕ, true, List, [], ◌∷◌, ◌++◌, Err}
-use Rattle.rx_terms.specs.Ascii.{greater_than_sign}
-use Rattle.rx_terms.specs.Text.{Chars}
-use Rattle.rx_chars.specs.declared.syntax.Syntax.{Syntax}
+use Rattle.rx_grammar.specs.Common.{greater_than_sign, Chars, Syntax, Item, Line, Phase, ends_in_brackets}
 use Rattle.rx_grammar.specs.declared.contents.Content.{Content}
 use Rattle.rx_grammar.specs.declared.contents.Content.TheVariants.{Strict}
 use Rattle.rx_grammar.specs.declared.faults.Kind.{Kind}
 use Rattle.rx_grammar.specs.declared.faults.Kind.TheVariants.{StrictText}
-use Rattle.rx_grammar.specs.Items.{Item}
-use Rattle.rx_grammar.specs.Begun.{Line, Phase}
-use Rattle.rx_grammar.specs.PageFaults.{ends_in_brackets}
 use Rattle.rx_pages.specs.Nesting.{Nesting, nest_step, IsAt}
 use Rattle.rx_pages.specs.Scanner.{whole, refused, verdict, GoesOn}
 

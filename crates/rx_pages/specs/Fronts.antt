@@ -1,11 +1,7 @@
 -- What the reader has come to behind some bytes of a page, by the grammar alone.
 use Rattle.std.specs.Prelude.{◌≡◌, ◌↔◌, ℕ, ◌≤◌, List, [], ◌++◌, length, take, None, Ok}
-use Rattle.rx_chars.specs.Characters.{Entry}
-use Rattle.rx_chars.specs.declared.syntax.Syntax.{Syntax}
+use Rattle.rx_grammar.specs.Common.{Entry, Syntax, values, next_of, Item, Line, inside_of, Phase, Begun, Reached, IsPending, IsPart, IsShort, token_of}
 use Rattle.rx_grammar.specs.declared.limits.Limits.{Limits}
-use Rattle.rx_grammar.specs.Items.{values, next_of, Item}
-use Rattle.rx_grammar.specs.Begun.{Line, inside_of, Phase, Begun}
-use Rattle.rx_grammar.specs.PageFaults.{Reached, IsPending, IsPart, IsShort, token_of}
 use Rattle.rx_pages.specs.Nesting.{IsAt}
 use Rattle.rx_pages.specs.PageReader.{Progress, page_read, token_at}
 

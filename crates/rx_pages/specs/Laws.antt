@@ -1,20 +1,11 @@
 -- What holds of the tables.
 use Rattle.std.specs.Prelude.{◌≡◌, ◌≢◌, ◌↔◌, ℕ, ◌+◌, ◌≤◌, take, List, [], ◌∷◌, ◌++◌, Option, None, Ok, Err}
-use Rattle.rx_terms.specs.Text.{Chars}
-use Rattle.rx_chars.specs.declared.syntax.Syntax.{Syntax}
+use Rattle.rx_grammar.specs.Common.{Chars, Syntax, Token, Spells, Entry, Item, Spelled, Tree, Page, Unfinished, Faulty, Reached, FaultAt, Line, inside_of, Phase, after, Stands, Begun}
 use Rattle.rx_grammar.specs.declared.contents.Content.{Content}
-use Rattle.rx_grammar.specs.Tokens.{Token}
-use Rattle.rx_grammar.specs.Spelling.{Spells}
-use Rattle.rx_chars.specs.Characters.{Entry}
-use Rattle.rx_grammar.specs.Items.{Item, Spelled}
 use Rattle.rx_grammar.specs.declared.limits.Limits.{Limits}
-use Rattle.rx_grammar.specs.Trees.{Tree}
-use Rattle.rx_grammar.specs.Pages.{Page}
 use Rattle.rx_grammar.specs.declared.faults.Fault.{Fault}
 use Rattle.rx_grammar.specs.declared.faults.Kind.{Kind}
 use Rattle.rx_grammar.specs.declared.faults.Kind.TheVariants.{Unended}
-use Rattle.rx_grammar.specs.PageFaults.{Unfinished, Faulty, Reached, FaultAt}
-use Rattle.rx_grammar.specs.Begun.{Line, inside_of, Phase, after, Stands, Begun}
 use Rattle.rx_pages.specs.Nesting.{Event, Nesting, not_begun, Goes, IsAt, told_trees}
 use Rattle.rx_pages.specs.Scanner.{GoesOn, ReadAs}
 use Rattle.rx_pages.specs.Faults.{Decides}

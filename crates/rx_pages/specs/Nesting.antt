@@ -1,19 +1,9 @@
 -- How the tokens of a page nest, one after another: which elements stand open, and what each token begins, says and ends.
 use Rattle.std.specs.Prelude.{◌≡◌, ℕ, Bool, true, false, not, ◌&&◌, List, [], ◌∷◌, ◌++◌, Option, Some, None, Result, Ok, Err, if◌then◌else◌}
-use Rattle.rx_terms.specs.Text.{Chars}
-use Rattle.rx_chars.specs.declared.syntax.Syntax.{Syntax}
+use Rattle.rx_grammar.specs.Common.{Chars, Syntax, same, is_among, Tag, Token, tag, character, reference, kept, section, comment, doctype, is_alone, is_html, hides, drops_line_feed, StartTag, Tree, end, element, after_text, Item, is_line_feed, start_of, enders, is_omissible, is_held, shown, Line, inside_of, parent_of, Phase, before, within, after, under_start, after_end, tag_rows, first_row}
 use Rattle.rx_grammar.specs.declared.contents.Content.{Content}
 use Rattle.rx_grammar.specs.declared.faults.Kind.{Kind}
 use Rattle.rx_grammar.specs.declared.faults.Kind.TheVariants.{BadDoctype}
-use Rattle.rx_grammar.specs.Names.{same, is_among}
-use Rattle.rx_grammar.specs.Tokens.{Tag, Token, tag, character, reference, kept, section, comment, doctype}
-use Rattle.rx_grammar.specs.Contents.{is_alone, is_html, hides, drops_line_feed}
-use Rattle.rx_grammar.specs.Trees.{StartTag, Tree, end, element, after_text}
-use Rattle.rx_grammar.specs.Items.{Item, is_line_feed, start_of}
-use Rattle.rx_grammar.specs.Omission.{enders, is_omissible, is_held}
-use Rattle.rx_grammar.specs.Pages.{shown}
-use Rattle.rx_grammar.specs.Begun.{Line, inside_of, parent_of, Phase, before, within, after}
-use Rattle.rx_grammar.specs.PageFaults.{under_start, after_end, tag_rows, first_row}
 
 -- What is told of a page: an element begins, and whether what it holds is hidden; text; the innermost element ends.
 pub data Event : Type 0 where

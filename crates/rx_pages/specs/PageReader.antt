@@ -1,20 +1,14 @@
 -- How the bytes of a page are read, one after another: which tokens a byte completes, and which fault it decides.
 use Rattle.std.specs.Prelude.{ℕ, ◌+◌, ◌-◌, Bool, true, false, not, ◌&&◌, ◌||◌, ◌==◌, nat_le, List, [], ◌∷◌, ◌++◌, length, Result, Ok, Err, if◌then◌else◌}
-use Rattle.rx_terms.specs.Ascii.{right_bracket, greater_than_sign}
-use Rattle.rx_chars.specs.declared.syntax.Syntax.{Syntax}
+use Rattle.rx_grammar.specs.Common.{right_bracket, greater_than_sign, Syntax, answer_of, Token, doctype, values, last_from, Item, is_literal, Phase, before, after, is_known_tag}
 use Rattle.rx_chars.specs.declared.utf8.Utf8Step.{Utf8Step}
 use Rattle.rx_chars.specs.declared.utf8.Utf8Step.TheVariants.{More, Char, Bad}
-use Rattle.rx_chars.specs.Utf8.{answer_of}
 use Rattle.rx_chars.specs.Characters.{Entry, byte_order_mark, line_feed, carriage_return, as_line_end}
 use Rattle.rx_grammar.specs.declared.contents.Content.{Content}
 use Rattle.rx_grammar.specs.declared.faults.Fault.{Fault}
 use Rattle.rx_grammar.specs.declared.faults.Kind.{Kind}
 use Rattle.rx_grammar.specs.declared.faults.Kind.TheVariants.{BadDoctype, NotUtf8, Nul, PageTooLong, StrictText, TagTooLong, Unended}
 use Rattle.rx_grammar.specs.declared.limits.Limits.{Limits}
-use Rattle.rx_grammar.specs.Tokens.{Token, doctype}
-use Rattle.rx_grammar.specs.Items.{values, last_from, Item, is_literal}
-use Rattle.rx_grammar.specs.Begun.{Phase, before, after}
-use Rattle.rx_grammar.specs.PageFaults.{is_known_tag}
 use Rattle.rx_pages.specs.Nesting.{Event, Nesting, not_begun, content_at, Step, nest_step}
 use Rattle.rx_pages.specs.Scanner.{Verdict, goes_on, whole, ended, refused, verdict}
 

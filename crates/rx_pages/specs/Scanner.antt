@@ -1,17 +1,9 @@
 -- How the tokens of a page are told apart, one character after another: what the next character says of the characters since the last token.
 use Rattle.std.specs.Prelude.{◌≡◌, ℕ, ◌-◌, Bool, not, ◌||◌, ◌&&◌, ◌==◌, [], ◌∷◌, ◌++◌, length, take, drop, codes, Option, Some, None, Result, Ok, Err, if◌then◌else◌}
-use Rattle.rx_terms.specs.Ascii.{ampersand, semicolon, less_than_sign, greater_than_sign, question_mark, left_bracket, is_white_space}
-use Rattle.rx_terms.specs.Text.{Chars, lowered, begins_with}
-use Rattle.rx_chars.specs.declared.syntax.Syntax.{Syntax}
-use Rattle.rx_chars.specs.declared.syntax.Syntax.TheVariants.{Html, Xhtml}
+use Rattle.rx_grammar.specs.Common.{ampersand, semicolon, less_than_sign, greater_than_sign, question_mark, left_bracket, is_white_space, Chars, lowered, begins_with, Syntax, Html, Xhtml, is_name, is_body, is_begun, meaning, Token, tag, character, reference, kept, section, comment, doctype, cased_char, exclamation_mark, ends_with, has_references, keeps_runs, has_sections, has_less_than, is_text, begins_markup, raw_name, begins_end, stops_end, ends_comment, meets_opening}
 use Rattle.rx_grammar.specs.declared.contents.Content.{Content}
 use Rattle.rx_grammar.specs.declared.faults.Kind.{Kind}
 use Rattle.rx_grammar.specs.declared.faults.Kind.TheVariants.{BadTag, BadDoctype, BadReference, Outside, StrictText, UnknownReference}
-use Rattle.rx_grammar.specs.References.{is_name, is_body, is_begun, meaning}
-use Rattle.rx_grammar.specs.Tokens.{Token, tag, character, reference, kept, section, comment, doctype}
-use Rattle.rx_grammar.specs.Tags.{cased_char}
-use Rattle.rx_grammar.specs.Spelling.{exclamation_mark, ends_with, has_references, keeps_runs, has_sections, has_less_than, is_text, begins_markup, raw_name, begins_end, stops_end, ends_comment}
-use Rattle.rx_grammar.specs.PageFaults.{meets_opening}
 use Rattle.rx_reader.specs.Tables.{is_html, is_last}
 use Rattle.rx_reader.specs.TagReader.{TagState, fresh, tag_on, tag_of}
 

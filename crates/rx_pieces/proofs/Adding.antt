@@ -1,11 +1,7 @@
 -- Characters added to a text, one part after another.
-use Rattle.rx_terms.proofs.Common.{◌≡◌, ◌∙◌, ℕ, ◌<◌, ◌≤◌, ◌^◌, true, false, List, [], ◌∷◌, ◌++◌, sym, ap, ap₂, refl, subst, append_assoc, append-nil, suc, codes, Bool, encode_utf8, arith, ◌-◌, length, drop, ◌+◌, and_from, and_parts, or_parts, nat_tests, chars, IsUtf8, list_all, list_any, encodes-append, encodes-chars, encode_ascii, scalars-chars, list_any-append, is_ascii, line_feed, carriage_return, quotation_mark, reverse_solidus, Chars, IsIri, ascii-chars, ascii-same}
-use Rattle.std.proofs.Common.{◌||◌, ◌==◌, IsAscii, set, length-set}
-use Rattle.std.specs.Str.{encode_utf8_all}
-use Rattle.std.specs.Fmt.{decimal}
-use Rattle.std.proofs.lemmas.List.{drop-set}
-use Rattle.std.proofs.lemmas.Fmt.{IsAscii-decimal}
-use Rattle.rx_terms.specs.Lang.{is_lang}
+use Rattle.rx_terms.proofs.Common.{and_from, and_parts, or_parts, nat_tests, list_all, list_any, encodes-append, encodes-chars, encode_ascii, scalars-chars, list_any-append, is_ascii, line_feed, carriage_return, quotation_mark, reverse_solidus, Chars, IsIri, ascii-chars, ascii-same, decimal, drop-set, IsAscii-decimal, is_lang}
+use Rattle.std.proofs.Common.{◌≡◌, ◌∙◌, ℕ, ◌<◌, ◌≤◌, ◌^◌, true, false, List, [], ◌∷◌, ◌++◌, sym, ap, ap₂, refl, subst, append_assoc, append-nil, suc, codes, Bool, encode_utf8, arith, ◌-◌, length, drop, ◌+◌, ◌||◌, ◌==◌, IsAscii, set, length-set}
+use Rattle.std.specs.Str.{chars, IsUtf8, encode_utf8_all}
 use Rattle.rx_pieces.specs.Writing.{is_escaped, escaped_char, escaped_text, iri_text, blank_text}
 use Rattle.rx_pieces.specs.Underway.{Delivery, AddsBytes}
 use Rattle.rx_pieces.specs.Writable.{Adds, WritableText, WritableIri, WritableTag}

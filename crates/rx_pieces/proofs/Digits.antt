@@ -1,7 +1,5 @@
 -- The digits of a number before others.
-use Rattle.std.proofs.Common.{◌≡◌, ◌∙◌, ℕ, ◌+◌, ◌-◌, ◌/◌, ◌%◌, ◌^◌, ◌<◌, ◌≤◌, List, [], ◌∷◌, ◌++◌, length, drop, set, append_assoc, sym, ap, arith}
-use Rattle.std.specs.Fmt.{decimal}
-use Rattle.std.proofs.lemmas.Fmt.{decimal_digit, decimal_step, decimal_nonempty}
+use Rattle.rx_terms.proofs.Common.{◌≡◌, ◌∙◌, ℕ, ◌+◌, ◌-◌, ◌/◌, ◌%◌, ◌^◌, ◌<◌, ◌≤◌, List, [], ◌∷◌, ◌++◌, length, drop, set, append_assoc, sym, ap, arith, decimal, decimal_digit, decimal_step, decimal_nonempty}
 use Rattle.std.proofs.lemmas.List.{drop-set, length-append}
 
 pub some : (number end : ℕ) → number < 2 ^ 64 → length (decimal number) ≤ end → 1 ≤ end

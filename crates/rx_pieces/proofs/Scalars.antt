@@ -1,8 +1,5 @@
 -- Texts whose characters are Unicode scalar values.
-use Rattle.rx_terms.proofs.Common.{◌≡◌, ℕ, ◌<◌, ◌^◌, Bool, true, false, [], ◌∷◌, ◌++◌, codes, refl, all_scalars, list_all, and_parts, and_from, line_feed, carriage_return, quotation_mark, reverse_solidus, is_ascii, Chars, ascii-same}
-use Rattle.std.proofs.Common.{◌==◌}
-use Rattle.std.specs.Fmt.{decimal}
-use Rattle.std.proofs.lemmas.Fmt.{IsAscii-decimal}
+use Rattle.rx_terms.proofs.Common.{◌≡◌, ℕ, ◌<◌, ◌^◌, Bool, true, false, [], ◌∷◌, ◌++◌, codes, refl, ◌==◌, all_scalars, list_all, and_parts, and_from, line_feed, carriage_return, quotation_mark, reverse_solidus, is_ascii, Chars, ascii-same, decimal, IsAscii-decimal}
 use Rattle.rx_pieces.specs.Writing.{escaped_char, escaped_text, iri_text, blank_text}
 use Rattle.rx_pieces.specs.Writable.{WritableText, WritableIri}
 use Rattle.rx_pieces.proofs.Adding.{all_ascii}

@@ -1,6 +1,5 @@
 -- Bytes handed over to a sink, one part after another.
-use Rattle.std.proofs.Common.{◌≡◌, ◌∙◌, ℕ, ◌+◌, ◌≤◌, Bool, true, false, List, [], ◌++◌, length, take, drop, Option, refl, sym, ap, ap₂, subst, append_assoc, append-nil, length-append, take-append-drop, Result, Ok, Err, OnOk, OnErr, is_err, take-add, Some, arith}
-use Rattle.std.proofs.lemmas.List.{take_at, drop_at, take-append-le}
+use Rattle.rx_model.proofs.Common.{◌≡◌, ◌∙◌, ℕ, ◌+◌, ◌≤◌, Bool, true, false, List, [], ◌++◌, length, take, drop, Option, refl, sym, ap, ap₂, subst, append_assoc, append-nil, length-append, take-append-drop, Result, Ok, Err, OnOk, OnErr, is_err, take-add, Some, arith, take_at, drop_at, take-append-le}
 use Rattle.rx_ports.specs.Counts.{Rose}
 use Rattle.rx_ports.specs.Shelves.{WhereKnown, GrowsBy, GrowsByPart}
 use Rattle.rx_ports.specs.declared.shelf.Failed.{Failed}

@@ -1,13 +1,8 @@
 -- What every value of the code is: its texts are of Unicode scalar values, its IRIs are IRIs, its language tags have
 -- their form, and the numbers of its blank nodes are below 2 ^ 64. The writer says so of what it has written.
 use Rattle.std.specs.Prelude.{◌≡◌, ℕ, ◌<◌, ◌^◌, true, List, Option, Some, None, encode_utf8_all}
-use Rattle.std.specs.Str.{all_scalars}
-use Rattle.rx_terms.specs.Text.{Chars}
-use Rattle.rx_terms.specs.Iri.{IsIri}
-use Rattle.rx_terms.specs.Lang.{is_lang}
+use Rattle.rx_model.specs.Common.{all_scalars, Chars, IsIri, is_lang, Among, Kind, Plain, Tagged, Typed, Node, Iri, Blank, Term, Resource, Literal, Triple}
 use Rattle.rx_pieces.specs.Underway.{Underway, Delivery, delivery, AddsBytes}
-use Rattle.rx_model.specs.Sets.{Among}
-use Rattle.rx_model.specs.Terms.{Kind, Plain, Tagged, Typed, Node, Iri, Blank, Term, Resource, Literal, Triple}
 
 -- the characters were handed over, whatever was before
 pub record Adds (old new : Delivery) (text : Chars) : Type 0 where

@@ -1,9 +1,7 @@
 -- How the terms that N-Quads and Turtle write alike are written, character by character (the choice of the escapes is our
 -- own).
 use Rattle.std.specs.Prelude.{ℕ, Bool, ◌||◌, ◌==◌, [], ◌∷◌, ◌++◌, codes, flat_map, if◌then◌else◌}
-use Rattle.std.specs.Fmt.{decimal}
-use Rattle.rx_terms.specs.Ascii.{line_feed, carriage_return, quotation_mark, reverse_solidus}
-use Rattle.rx_terms.specs.Text.{Chars}
+use Rattle.rx_terms.specs.Common.{decimal, line_feed, carriage_return, quotation_mark, reverse_solidus, Chars}
 
 -- the characters that have an escape: `"`, `\`, LF and CR
 abbrev pub is_escaped : ℕ → Bool

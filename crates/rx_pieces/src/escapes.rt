@@ -1,7 +1,6 @@
 //! Strings, in which some characters have an escape.
 ghost use Rattle.std.specs.Prelude.{◌≡◌, ◌++◌};
-ghost use Rattle.std.specs.List.{list_any};
-ghost use Rattle.std.specs.Str.{chars};
+ghost use Rattle.rx_terms.specs.Common.{list_any, chars};
 ghost use Rattle.rx_pieces.specs.Writing.{is_escaped, escaped_char, escaped_text};
 ghost use Rattle.rx_pieces.specs.Writable.{Pushes, WritableText};
 

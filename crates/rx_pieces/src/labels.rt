@@ -1,8 +1,6 @@
 //! Labels of blank nodes. A label is made from its end, in an array that has what stands behind it.
 ghost use Rattle.std.specs.Prelude.{◌≡◌, ◌+◌, ◌≤◌, ◌<◌, ◌^◌, ◌++◌, true, length, drop, codes};
-ghost use Rattle.std.specs.Fmt.{decimal};
-ghost use Rattle.std.specs.List.{list_all};
-ghost use Rattle.rx_terms.specs.Ascii.{is_ascii};
+ghost use Rattle.rx_terms.specs.Common.{decimal, list_all, is_ascii};
 ghost use Rattle.rx_pieces.specs.Writing.{blank_text};
 ghost use Rattle.rx_pieces.specs.Writable.{Pushes};
 

@@ -1,8 +1,7 @@
 -- How many blank nodes a list has that was numbered.
-use Rattle.rx_terms.proofs.Common.{◌≡◌, ◌∙◌, ◌↔◌, ◌⊎◌, ℕ, zero, suc, ◌+◌, ◌^◌, ◌<◌, ◌≤◌, Bool, true, false, cond, List, [], ◌∷◌, ◌++◌, map, filter, length, take, slice_get, Some, Result, Ok, Err, refl, sym, ap, ap₂, subst, inl, inr, true≢false, nat_lt, arith, map-append, nat_tests, untrue}
-use Rattle.std.proofs.Common.{not, IsErrAnd, if◌then◌else◌, take_all}
+use Rattle.rx_model.proofs.Common.{map-append, nat_tests, untrue, Among, IsExact, distinct, Node, Iri, Blank, Term, Resource, Literal, Triple, Graph, rename_node, rename_term, rename, blank_of_node, blank_of_term, blanks_of, blanks, place_in, numbered, Has, Renamed, triple_seen, triples_seen, Among_map, Among_of_map, Among_of_filter, Among_distinct, Among_of_distinct}
+use Rattle.std.proofs.Common.{◌≡◌, ◌∙◌, ◌↔◌, ◌⊎◌, ℕ, zero, suc, ◌+◌, ◌^◌, ◌<◌, ◌≤◌, Bool, true, false, cond, List, [], ◌∷◌, ◌++◌, map, filter, length, take, slice_get, Some, Result, Ok, Err, refl, sym, ap, ap₂, subst, inl, inr, true≢false, nat_lt, arith, not, IsErrAnd, if◌then◌else◌, take_all}
 use Rattle.rx_terms.specs.declared.triples.Triple.{Triple as CodeTriple}
-use Rattle.rx_model.proofs.Common.{Among, IsExact, distinct, Node, Iri, Blank, Term, Resource, Literal, Triple, Graph, rename_node, rename_term, rename, blank_of_node, blank_of_term, blanks_of, blanks, place_in, numbered, Has, Renamed, triple_seen, triples_seen, Among_map, Among_of_map, Among_of_filter, Among_distinct, Among_of_distinct}
 use Rattle.rx_graph.proofs.SetLemmas.{seen_more}
 use Rattle.rx_quads.specs.Raised.{Counts, raised, AreFrom, past_one, past_all, past, NumbersWithoutGaps}
 use Rattle.rx_graph.proofs.NumberLemmas.{blanks_more}

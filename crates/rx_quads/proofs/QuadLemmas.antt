@@ -1,9 +1,6 @@
 -- A quad of a list that is shown.
-use Rattle.rx_terms.proofs.Common.{◌≡◌, ◌∙◌, ℕ, List, map, slice_get, ap, Option, Some, Chars}
-use Rattle.std.specs.Prelude.{option_map}
-use Rattle.std.proofs.lemmas.Option.{slice_get-map}
+use Rattle.rx_model.proofs.Common.{◌≡◌, ◌∙◌, ℕ, List, map, slice_get, ap, Option, Some, Chars, option_map, slice_get-map, triple_seen, triples_seen}
 use Rattle.rx_terms.specs.declared.triples.Triple.{Triple as CodeTriple}
-use Rattle.rx_model.proofs.Common.{triple_seen, triples_seen}
 use Rattle.rx_nquads.specs.Quads.{Quad, quad_of, quads}
 use Rattle.rx_quads.specs.Listed.{ShowsOne}
 use Rattle.rx_quads.specs.Shown.{quad_bytes, shown_quad}

@@ -1,8 +1,7 @@
 -- Numbers that are raised.
-use Rattle.rx_terms.proofs.Common.{◌≡◌, ◌∙◌, ℕ, zero, suc, ◌+◌, ◌≤◌, List, [], ◌∷◌, ◌++◌, map, length, take, slice_get, Some, refl, sym, ap, ap₂, subst, nat_eq, arith, Result, Ok, Err, IfOk, map-append}
-use Rattle.std.proofs.Common.{take_all}
+use Rattle.rx_model.proofs.Common.{map-append, Among, distinct, Node, Iri, Blank, Term, Resource, Literal, Triple, same_triple, set_of, rename_node, rename_term, rename, Renamed, triple_seen, triples_seen, Among_map, Among_of_map, exact_numbers, exact_triples}
+use Rattle.std.proofs.Common.{◌≡◌, ◌∙◌, ℕ, zero, suc, ◌+◌, ◌≤◌, List, [], ◌∷◌, ◌++◌, map, length, take, slice_get, Some, refl, sym, ap, ap₂, subst, nat_eq, arith, Result, Ok, Err, IfOk, take_all}
 use Rattle.rx_terms.specs.declared.triples.Triple.{Triple as CodeTriple}
-use Rattle.rx_model.proofs.Common.{Among, distinct, Node, Iri, Blank, Term, Resource, Literal, Triple, same_triple, set_of, rename_node, rename_term, rename, Renamed, triple_seen, triples_seen, Among_map, Among_of_map, exact_numbers, exact_triples}
 use Rattle.rx_graph.proofs.SetLemmas.{distinct_apart, seen_more}
 use Rattle.rx_quads.specs.Raised.{raised, RaisesOneToOne}
 

@@ -1,8 +1,7 @@
 -- The quads of a graph, of which one is shown.
 use Rattle.std.specs.Prelude.{◌≡◌, ℕ, ◌≤◌, Bool, true, false, List, length, slice_get, Option, Some}
-use Rattle.rx_terms.specs.Text.{Chars}
+use Rattle.rx_model.specs.Common.{Chars, triples_seen}
 use Rattle.rx_terms.specs.declared.triples.Triple.{Triple as CodeTriple}
-use Rattle.rx_model.specs.Seen.{triples_seen}
 use Rattle.rx_nquads.specs.Quads.{Quad, quads}
 use Rattle.rx_quads.specs.Shown.{quad_bytes, shown_quad}
 use Rattle.rx_quads.specs.declared.terms.ShownQuad.{ShownQuad}

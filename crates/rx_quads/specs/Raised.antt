@@ -1,8 +1,6 @@
 -- Blank nodes that are numbered from a number on, and how many there are.
 use Rattle.std.specs.Prelude.{◌≡◌, ◌↔◌, ℕ, zero, suc, ◌+◌, ◌^◌, ◌<◌, ◌≤◌, Bool, List, [], ◌∷◌, map, nat_lt, if◌then◌else◌, Result, MatchResult}
-use Rattle.rx_model.specs.Sets.{Among}
-use Rattle.rx_model.specs.Terms.{Triple, set_of}
-use Rattle.rx_model.specs.Numbered.{rename, blanks, numbered, Renamed}
+use Rattle.rx_model.specs.Common.{Among, Triple, set_of, rename, blanks, numbered, Renamed}
 
 -- the triples with the number of each blank node raised by `first`; where that is 0, the triples themselves
 abbrev pub raised : ℕ → List (Triple ℕ) → List (Triple ℕ)

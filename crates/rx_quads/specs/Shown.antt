@@ -1,8 +1,6 @@
 -- The terms of quads as bytes, in UTF-8.
 use Rattle.std.specs.Prelude.{ℕ, List, [], ◌++◌, codes, bytes_eq, encode_utf8_all, Option, Some, None, option_map, if◌then◌else◌}
-use Rattle.std.specs.Fmt.{decimal}
-use Rattle.rx_terms.specs.Literal.{xsd_string}
-use Rattle.rx_terms.specs.Text.{Chars}
+use Rattle.rx_terms.specs.Common.{decimal, xsd_string, Chars}
 use Rattle.rx_model.specs.Terms.{Kind, Plain, Tagged, Typed, Node, Iri, Blank, Term, Resource, Literal}
 use Rattle.rx_nquads.specs.Quads.{Quad}
 use Rattle.rx_quads.specs.declared.terms.TermKind.{TermKind}

@@ -1,6 +1,5 @@
 //! How many blank nodes a graph has.
-ghost use Rattle.rx_model.specs.Numbered.{blank_of_node, blank_of_term, blanks_of};
-ghost use Rattle.rx_model.specs.Seen.{node_seen, term_seen, triple_seen, triples_seen};
+ghost use Rattle.rx_model.specs.Common.{blank_of_node, blank_of_term, blanks_of, node_seen, term_seen, triple_seen, triples_seen};
 ghost use Rattle.rx_quads.specs.Raised.{Counts, past, past_one, past_all};
 
 use rx_graph::Graph;

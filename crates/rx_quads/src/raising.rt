@@ -1,9 +1,6 @@
 //! Blank nodes that are numbered from a number on.
 ghost use Rattle.std.specs.Prelude.{◌≡◌, ◌+◌, IfOk, map, nat_eq};
-ghost use Rattle.rx_model.specs.Sets.{distinct};
-ghost use Rattle.rx_model.specs.Terms.{same_triple};
-ghost use Rattle.rx_model.specs.Numbered.{rename_node, rename_term, rename};
-ghost use Rattle.rx_model.specs.Seen.{node_seen, term_seen, triple_seen, triples_seen};
+ghost use Rattle.rx_model.specs.Common.{distinct, same_triple, rename_node, rename_term, rename, node_seen, term_seen, triple_seen, triples_seen};
 ghost use Rattle.rx_quads.specs.Raised.{raised};
 
 use rx_graph::Graph;

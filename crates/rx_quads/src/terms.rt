@@ -1,7 +1,6 @@
 //! The terms of a quad as bytes.
 ghost use Rattle.std.specs.Prelude.{◌≡◌, ◌++◌, IfOk, OnOk, codes, string_bytes};
-ghost use Rattle.std.specs.Fmt.{decimal};
-ghost use Rattle.rx_model.specs.Seen.{kind_seen, node_seen, term_seen, triple_seen};
+ghost use Rattle.rx_model.specs.Common.{decimal, kind_seen, node_seen, term_seen, triple_seen};
 ghost use Rattle.rx_nquads.specs.Graphs.{lent_name};
 ghost use Rattle.rx_nquads.specs.Quads.{proper_kind, proper_term, quad_of};
 ghost use Rattle.rx_quads.specs.Shown.{plain_bytes, iri_bytes, label_bytes, node_bytes, datatype_bytes, literal_bytes, term_bytes, named, graph_bytes, quad_bytes, shown_term, shown_quad};

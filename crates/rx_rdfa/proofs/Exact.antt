@@ -1,7 +1,5 @@
 -- The tests of the model's names are exact.
-use Rattle.rx_terms.proofs.Common.{◌≡◌, refl, ap, bytes_eq, Decides-eqb, and_from}
-use Rattle.std.proofs.Common.{◌&&◌, ◌==◌}
-use Rattle.rx_model.proofs.Common.{IsExact, and_left, and_right, exact_texts}
+use Rattle.rx_model.proofs.Common.{◌≡◌, refl, ap, bytes_eq, ◌&&◌, ◌==◌, Decides-eqb, and_from, IsExact, and_left, and_right, exact_texts}
 use Rattle.rx_rdfa.specs.Blanks.{First, Of, Below, Author, Made, Cell, same_owner, same_bnode}
 
 pub exact_owners : IsExact same_owner

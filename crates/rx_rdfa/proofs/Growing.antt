@@ -1,6 +1,5 @@
 -- A renaming by steps is the steps one after another: what a numbering that grows comes to.
-use Rattle.rx_terms.proofs.Common.{◌≡◌, List, [], ◌∷◌, map, refl, ap, ap₂}
-use Rattle.rx_model.proofs.Common.{Node, Iri, Blank, Term, Resource, Literal, Triple, rename_node, rename_term, rename}
+use Rattle.rx_model.proofs.Common.{◌≡◌, List, [], ◌∷◌, map, refl, ap, ap₂, Node, Iri, Blank, Term, Resource, Literal, Triple, rename_node, rename_term, rename}
 use Rattle.rx_rdfa.specs.Resources.{Hanging, Forward, Inherited}
 use Rattle.rx_rdfa.specs.Renaming.{rename_hanging, rename_inherited}
 

@@ -13,3 +13,4 @@ pub mod RenamedLists
 pub mod RenamedMade
 pub mod RenamedMachine
 pub mod Growing
+pub mod Common

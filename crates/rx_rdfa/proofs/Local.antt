@@ -1,19 +1,9 @@
 -- The law of locality.
-use Rattle.rx_terms.proofs.Common.{◌≡◌, ◌≢◌, ℕ, suc, ◌≤◌, Bool, true, false, cond, List, [], ◌∷◌, ◌++◌, map, flat_map, filter_map, length, Option, Some, None, refl, sym, ap, ap₂, ◌∙◌, subst, inl, inr, arith, append_assoc, append-nil, filter-append, Chars}
-use Rattle.rx_model.proofs.Common.{Among, Term, Resource, same_node, Among_cases, Among_of_map, Among_of_filter_map, Among_of_flat_map, false_unless}
+use Rattle.rx_rdfa.proofs.Common.{◌≡◌, ◌≢◌, ℕ, suc, ◌≤◌, Bool, true, false, cond, List, [], ◌∷◌, ◌++◌, map, flat_map, filter_map, length, Option, Some, None, refl, sym, ap, ap₂, ◌∙◌, subst, inl, inr, arith, append_assoc, append-nil, filter-append, Chars, Among, Term, Resource, same_node, Among_cases, Among_of_map, Among_of_filter_map, Among_of_flat_map, false_unless, Path, Owner, First, Of, Below, Bnode, Cell, ModelNode, ModelTriple, same_owner, same_bnode, model, Facts, Hanging, Forward, Reverse, InList, Inherited, Resources, Standing, resources, Place, places_from, places, start, end', standing, in_order_from, in_order, rule, value, end_and_lists, page_lists, exact_owners, flat_map-append}
 use Rattle.rx_rdfa.specs.Tree.{Nodes, end, element, text, all_text}
-use Rattle.rx_rdfa.specs.Naming.{Path}
-use Rattle.rx_rdfa.specs.Blanks.{Owner, First, Of, Below, Bnode, Cell, ModelNode, ModelTriple, same_owner, same_bnode, model}
-use Rattle.rx_rdfa.specs.Facts.{Facts}
-use Rattle.rx_rdfa.specs.Resources.{Hanging, Forward, Reverse, InList, Inherited, Resources, Standing, resources}
 use Rattle.rx_rdfa.specs.Inherited.{listed, hangs, object_below, own_owner, owner_below, hanging_of, handed, below, up, inherited}
-use Rattle.rx_rdfa.specs.Element.{Place, places_from, places, start, end', standing, in_order_from, in_order}
 use Rattle.rx_rdfa.specs.Lists.{Entry, entry, linked, touched, valued, awaited, entries_by, entries_at, entries_of, entries, of_owner, cells_from, cells}
-use Rattle.rx_rdfa.specs.Value.{rule, value}
-use Rattle.rx_rdfa.specs.Made.{end_and_lists, page_lists}
 use Rattle.rx_rdfa.specs.Local.{ListsAreLocal}
-use Rattle.rx_rdfa.proofs.Exact.{exact_owners}
-use Rattle.std.proofs.lemmas.Grind.{flat_map-append}
 
 abbrev pub ModelEntry : Type 0
 ModelEntry = Entry Owner (Term Bnode)

@@ -1,6 +1,5 @@
 -- The law of the list of a tree.
-use Rattle.rx_terms.proofs.Common.{◌⊎◌, ℕ, suc, List, [], ◌∷◌, ◌++◌, refl, sym, subst, inl, inr, Chars}
-use Rattle.rx_model.proofs.Common.{Among, Triple, Among_left, Among_right, Among_cases}
+use Rattle.rx_model.proofs.Common.{◌⊎◌, ℕ, suc, List, [], ◌∷◌, ◌++◌, refl, sym, subst, inl, inr, Chars, Among, Triple, Among_left, Among_right, Among_cases}
 use Rattle.rx_rdfa.specs.Naming.{Path, Naming}
 use Rattle.rx_rdfa.specs.Blanks.{model}
 use Rattle.rx_rdfa.specs.Tree.{Nodes, end, element, text}

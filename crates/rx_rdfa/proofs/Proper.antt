@@ -1,17 +1,7 @@
 -- No literal that the rules make is typed xsd:string.
-use Rattle.rx_terms.proofs.Common.{◌≡◌, ◌≢◌, ℕ, suc, Bool, true, false, cond, List, [], ◌∷◌, ◌++◌, map, filter, flat_map, filter_map, Option, Some, None, refl, sym, ◌∙◌, subst, inl, inr, true≢false, bytes_eq, option_map, unwrap_or, not, ◌&&◌, option_or, Chars}
-use Rattle.std.specs.Prelude.{codes, option_to_list, is_none}
-use Rattle.rx_model.proofs.Common.{Among, distinct, Plain, Typed, Node, Iri, Blank, Term, Resource, Literal, Triple, same_node, same_triple, spo, live, edges, says_pattern, treated, is_referenced, copied, rename_term, rename, blanks, place_in, numbered, exact_texts, Among_cases, Among_of_map, Among_of_filter, Among_of_filter_map, Among_of_flat_map, Among_of_distinct, rdf_type, rdf_first, rdf_rest}
-use Rattle.rx_model.specs.Copied.{leads, given, replaced}
+use Rattle.rx_rdfa.proofs.Common.{◌≡◌, ◌≢◌, ℕ, suc, Bool, true, false, cond, List, [], ◌∷◌, ◌++◌, map, filter, flat_map, filter_map, Option, Some, None, refl, sym, ◌∙◌, subst, inl, inr, true≢false, bytes_eq, option_map, unwrap_or, not, ◌&&◌, codes, option_to_list, is_none, option_or, Chars, Among, distinct, Plain, Typed, Node, Iri, Blank, Term, Resource, Literal, Triple, same_node, same_triple, spo, live, edges, says_pattern, treated, is_referenced, copied, leads, given, replaced, rename_term, rename, blanks, place_in, numbered, exact_texts, Among_cases, Among_of_map, Among_of_filter, Among_of_filter_map, Among_of_flat_map, Among_of_distinct, rdf_type, rdf_first, rdf_rest, Naming, same_bnode, model, Nodes, all_text, Facts, Datatype, Empty, Is, Ref, Hanging, Forward, Resources, Standing, resources, resource_named, listed, hangs, own_owner, below, kind_by_lang, plain_literal, time_literal_by, time_literal, Rule, ByDatatype, ByContent, ByDatetime, ByTimeText, literal_by, rule, value_now, value_of_text, value}
 use Rattle.rx_rdfa.specs.Iris.{xsd, xsd_string, uses_vocabulary}
 use Rattle.rx_rdfa.specs.Times.{◌andThen◌, follows, is_zone, after_char, after_year, after_month, after_date, after_clock, is_duration, time_kind}
-use Rattle.rx_rdfa.specs.Naming.{Naming}
-use Rattle.rx_rdfa.specs.Blanks.{same_bnode, model}
-use Rattle.rx_rdfa.specs.Tree.{Nodes, all_text}
-use Rattle.rx_rdfa.specs.Facts.{Facts, Datatype, Empty, Is, Ref}
-use Rattle.rx_rdfa.specs.Resources.{Hanging, Forward, Resources, Standing, resources, resource_named}
-use Rattle.rx_rdfa.specs.Inherited.{listed, hangs, own_owner, below}
-use Rattle.rx_rdfa.specs.Value.{kind_by_lang, plain_literal, time_literal_by, time_literal, Rule, ByDatatype, ByContent, ByDatetime, ByTimeText, literal_by, rule, value_now, value_of_text, value}
 use Rattle.rx_rdfa.specs.Element.{places, to_node, standing, of_vocabulary, types_by, links_by, properties_by, completed, text_value, start_of, end_of}
 use Rattle.rx_rdfa.specs.Lists.{Entry, entry, linked, touched, valued, awaited, entries_by, entries_at, entries_of, entries, of_owner, lists, items, cell_or_nil, chain, list_of, cells}
 use Rattle.rx_rdfa.specs.Made.{raw, made}

@@ -1,13 +1,6 @@
 -- Renaming goes through the entries of an element, and the lists of an owner.
-use Rattle.rx_terms.proofs.Common.{◌≡◌, ℕ, suc, Bool, true, false, cond, List, [], ◌∷◌, ◌++◌, map, filter, flat_map, filter_map, Option, Some, None, option_map, refl, sym, ap, ap₂, ◌∙◌, inl, inr, bytes_eq, Chars}
-use Rattle.rx_model.proofs.Common.{Among, distinct, spo, Node, Blank, Term, Resource, rename_node, rename_term, rename, rdf_first, rdf_rest}
-use Rattle.rx_rdfa.specs.Naming.{Naming}
-use Rattle.rx_rdfa.specs.Resources.{Hanging, Forward, Reverse, InList, Standing, Resources, resources}
-use Rattle.rx_rdfa.specs.Inherited.{listed, hangs, own_owner}
-use Rattle.rx_rdfa.specs.Value.{rule, value}
-use Rattle.rx_rdfa.specs.Element.{to_node}
+use Rattle.rx_rdfa.proofs.Common.{◌≡◌, ℕ, suc, Bool, true, false, cond, List, [], ◌∷◌, ◌++◌, map, filter, flat_map, filter_map, Option, Some, None, option_map, refl, sym, ap, ap₂, ◌∙◌, inl, inr, bytes_eq, Chars, Among, distinct, spo, Node, Blank, Term, Resource, rename_node, rename_term, rename, rdf_first, rdf_rest, Naming, Hanging, Forward, Reverse, InList, Standing, Resources, resources, listed, hangs, own_owner, rule, value, to_node, rename_entry, rename_hanging, rename_standing, rename_resources, AgreeAt}
 use Rattle.rx_rdfa.specs.Lists.{Entry, entry, linked, touched, valued, awaited, entries_by, entries_at, of_owner, lists, items, cell_or_nil, chain, list_of, cells_from, cells}
-use Rattle.rx_rdfa.specs.Renaming.{rename_entry, rename_hanging, rename_standing, rename_resources, AgreeAt}
 use Rattle.rx_rdfa.proofs.RenamedResources.{owner_is, hangs_is, resources_rename}
 use Rattle.rx_rdfa.proofs.RenamedElement.{map_cond_nil, map_unless, map_both, map_each, rule_rename, value_rename}
 

@@ -1,15 +1,6 @@
 -- Renaming goes through the list of a tree's triples.
-use Rattle.rx_terms.proofs.Common.{◌≡◌, ℕ, suc, List, [], ◌∷◌, ◌++◌, map, flat_map, refl, ap, ap₂, ◌∙◌, Chars}
-use Rattle.rx_model.proofs.Common.{Node, Iri, Term, rename_node, rename_term, rename}
-use Rattle.rx_rdfa.specs.Naming.{Path, Naming}
+use Rattle.rx_rdfa.proofs.Common.{◌≡◌, ℕ, suc, List, [], ◌∷◌, ◌++◌, map, flat_map, refl, ap, ap₂, ◌∙◌, Chars, Node, Iri, Term, rename_node, rename_term, rename, Path, Naming, Facts, Inherited, Standing, Resources, resources, below, inherited, up, at_page, Place, places, in_order_from, in_order, standing, start, start_of, end', end_of, Entry, entries_of, entries_at, entries, cells, lists_below, lists_of, page_lists, end_and_lists, made, rename_entry, rename_inherited, rename_standing, AgreeAt, Agree}
 use Rattle.rx_rdfa.specs.Tree.{Nodes, end, element, text, all_text}
-use Rattle.rx_rdfa.specs.Facts.{Facts}
-use Rattle.rx_rdfa.specs.Resources.{Inherited, Standing, Resources, resources}
-use Rattle.rx_rdfa.specs.Inherited.{below, inherited, up, at_page}
-use Rattle.rx_rdfa.specs.Element.{Place, places, in_order_from, in_order, standing, start, start_of, end', end_of}
-use Rattle.rx_rdfa.specs.Lists.{Entry, entries_of, entries_at, entries, cells}
-use Rattle.rx_rdfa.specs.Made.{lists_below, lists_of, page_lists, end_and_lists, made}
-use Rattle.rx_rdfa.specs.Renaming.{rename_entry, rename_inherited, rename_standing, AgreeAt, Agree}
 use Rattle.rx_rdfa.proofs.RenamedResources.{resources_rename, below_rename}
 use Rattle.rx_rdfa.proofs.RenamedElement.{map_both, start_rename, end_rename}
 use Rattle.rx_rdfa.proofs.RenamedLists.{entries_at_rename, cells_alike, cells_rename}

@@ -1,8 +1,6 @@
 -- Functions that go through options and tests. The facts are records, so that what they speak of is found.
 use Rattle.std.proofs.Common.{◌≡◌, Bool, true, false, cond, Option, Some, None, option_map, is_none, unwrap_or, refl, ap, ap₂, ◌∙◌}
-use Rattle.std.specs.Option.{option_or}
-use Rattle.std.specs.Bool.{then_some}
-use Rattle.rx_rdfa.specs.Resources.{only}
+use Rattle.rx_rdfa.proofs.Common.{option_or, then_some, only}
 
 module _ {B C : Type 0} (h : B → C) where
   pub map_or : (a b : Option B) → option_map h (option_or a b) ≡ option_or (option_map h a) (option_map h b)

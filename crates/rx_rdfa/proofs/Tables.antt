@@ -1,8 +1,5 @@
 -- The law of tables.
-use Rattle.rx_terms.proofs.Common.{◌≡◌, cond, Bool, true, false, List, [], ◌∷◌, ◌++◌, map, filter, filter_map, Option, Some, None, bytes_eq, option_to_list, refl, sym, ap, ap₂, ◌∙◌, subst, inl, inr, true≢false, append_assoc, append-nil, map-append, cons_option, filter-append, filter_map-append, Chars}
-use Rattle.std.proofs.Common.{not, ◌||◌}
-use Rattle.rx_model.proofs.Common.{Among, IsExact, contains, distinct, Among_of_filter, false_unless, Among-contains, Among_distinct, exact_texts}
-use Rattle.rx_rdfa.specs.Lists.{Entry, lists, items}
+use Rattle.rx_rdfa.proofs.Common.{◌≡◌, cond, Bool, true, false, List, [], ◌∷◌, ◌++◌, map, filter, filter_map, Option, Some, None, bytes_eq, option_to_list, refl, sym, ap, ap₂, ◌∙◌, subst, inl, inr, true≢false, append_assoc, append-nil, not, ◌||◌, map-append, cons_option, filter-append, filter_map-append, Chars, Among, IsExact, contains, distinct, Among_of_filter, false_unless, Among-contains, Among_distinct, exact_texts, Entry, lists, items}
 use Rattle.rx_rdfa.specs.Tables.{Table, put, table_from, table_of, TablesAreLists}
 
 -- no two are alike

@@ -1,8 +1,5 @@
 -- What is written denotes the graph.
-use Rattle.rx_model.proofs.Common.{Triple, Graph, set_of, copied, Renamed}
-use Rattle.rx_model.specs.Copied.{Closed, held, copied_from, patterned}
-use Rattle.rx_model.proofs.Copied.{copies_patterns}
-use Rattle.rx_model.proofs.Numbered.{numbers_one_to_one}
+use Rattle.rx_model.proofs.Common.{Triple, Graph, set_of, copied, Closed, held, copied_from, patterned, Renamed, copies_patterns, numbers_one_to_one}
 use Rattle.rx_rdfa.specs.Blanks.{same_bnode, model}
 use Rattle.rx_rdfa.specs.Made.{raw, made}
 use Rattle.rx_rdfa.specs.Whole.{graph_of, written, WrittenDenotes}

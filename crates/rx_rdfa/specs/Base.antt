@@ -1,8 +1,7 @@
 -- The base of a page: HTML's base element. Own rule: it is looked for in the root's first element child alone, where
 -- that is named head.
 use Rattle.std.specs.Prelude.{Option, Some, None, codes, bytes_eq, if◌then◌else◌}
-use Rattle.std.specs.Option.{option_or}
-use Rattle.rx_terms.specs.Text.{Chars}
+use Rattle.rx_terms.specs.Common.{option_or, Chars}
 use Rattle.rx_refs.specs.Resolve.{resolved, without_fragment}
 use Rattle.rx_rdfa.specs.Tree.{Tag, Nodes, end, element, text, attribute}
 

@@ -1,7 +1,6 @@
 -- The model's names: an author's label, the place where an element makes a blank node, and a cell of a list.
 use Rattle.std.specs.Prelude.{ℕ, Bool, true, false, ◌&&◌, ◌==◌, bytes_eq}
-use Rattle.rx_terms.specs.Text.{Chars}
-use Rattle.rx_model.specs.Terms.{Node, Triple}
+use Rattle.rx_model.specs.Common.{Chars, Node, Triple}
 use Rattle.rx_rdfa.specs.Naming.{Path, Naming}
 
 -- whose list it is: the page's, or that of the new subject of the element at a place, or of the object below it

@@ -1,10 +1,7 @@
 -- The triples of one element: RDFa Core 1.1, 7.5, steps 2, 7, 9, 11 and 12.
 use Rattle.std.specs.Prelude.{ℕ, suc, List, [], ◌∷◌, ◌++◌, map, filter_map, Option, Some, None, option_map, option_to_list, if◌then◌else◌}
-use Rattle.rx_terms.specs.Text.{Chars}
-use Rattle.rx_model.specs.Terms.{Node, Iri, Term, Resource, Triple}
-use Rattle.rx_model.specs.Copied.{spo}
+use Rattle.rx_model.specs.Common.{Chars, Node, Iri, Term, Resource, Triple, spo, rdf_type}
 use Rattle.rx_rdfa.specs.Iris.{uses_vocabulary}
-use Rattle.rx_model.specs.Vocabulary.{rdf_type}
 use Rattle.rx_rdfa.specs.Naming.{Path, Naming}
 use Rattle.rx_rdfa.specs.Tree.{Nodes, end, element, text, all_text}
 use Rattle.rx_rdfa.specs.Facts.{Facts}

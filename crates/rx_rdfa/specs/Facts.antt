@@ -1,7 +1,6 @@
 -- What an element's start tag says under the names in force: RDFa Core 1.1, 5 and 7.4, HTML+RDFa 1.1, 3.1.
 use Rattle.std.specs.Prelude.{Bool, not, ◌&&◌, List, [], ◌∷◌, ◌++◌, filter, filter_map, Option, Some, None, option_map, option_and_then, is_some, bytes_eq, codes, if◌then◌else◌}
-use Rattle.rx_terms.specs.Text.{Chars, trimmed, tokens}
-use Rattle.rx_terms.specs.Literal.{rdf_lang_string}
+use Rattle.rx_terms.specs.Common.{Chars, trimmed, tokens, rdf_lang_string}
 use Rattle.rx_refs.specs.Resolve.{cleaned}
 use Rattle.rx_rdfa.specs.Tree.{Tag, attribute, Nodes, end, element, text}
 use Rattle.rx_rdfa.specs.Names.{Context, language, unless_empty}

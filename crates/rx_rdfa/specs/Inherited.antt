@@ -1,9 +1,7 @@
 -- What the children of an element inherit: RDFa Core 1.1, 7.5, steps 8, 10 and 13.
 use Rattle.std.specs.Prelude.{Bool, true, false, ◌&&◌, ◌||◌, List, [], ◌∷◌, ◌++◌, map, Option, Some, None, is_none, unwrap_or, if◌then◌else◌}
-use Rattle.std.specs.Option.{option_or}
+use Rattle.rx_model.specs.Common.{option_or, Chars, Node, Iri, same_node}
 use Rattle.std.specs.Bool.{then_some}
-use Rattle.rx_terms.specs.Text.{Chars}
-use Rattle.rx_model.specs.Terms.{Node, Iri, same_node}
 use Rattle.rx_rdfa.specs.Naming.{Path, Naming}
 use Rattle.rx_rdfa.specs.Facts.{Facts}
 use Rattle.rx_rdfa.specs.Resources.{Hanging, Forward, Reverse, InList, Inherited, Resources, Standing, resources, new_blank}

@@ -23,3 +23,4 @@ pub mod Machine
 pub mod Calls
 pub mod Tables
 pub mod Renaming
+pub mod Common

@@ -1,10 +1,6 @@
 -- Lists: RDFa Core 1.1, 7.5, steps 8 to 12 and 14.
 use Rattle.std.specs.Prelude.{ℕ, suc, Bool, List, [], ◌∷◌, ◌++◌, map, filter, flat_map, filter_map, Option, Some, None, option_map, bytes_eq, if◌then◌else◌}
-use Rattle.rx_terms.specs.Text.{Chars}
-use Rattle.rx_model.specs.Sets.{distinct}
-use Rattle.rx_model.specs.Terms.{Node, Iri, Blank, Term, Resource, Triple}
-use Rattle.rx_model.specs.Copied.{spo}
-use Rattle.rx_model.specs.Vocabulary.{rdf_first, rdf_rest, rdf_nil}
+use Rattle.rx_model.specs.Common.{Chars, distinct, Node, Iri, Blank, Term, Resource, Triple, spo, rdf_first, rdf_rest, rdf_nil}
 use Rattle.rx_rdfa.specs.Naming.{Naming}
 use Rattle.rx_rdfa.specs.Tree.{Nodes, all_text}
 use Rattle.rx_rdfa.specs.Facts.{Facts}

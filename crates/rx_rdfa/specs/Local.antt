@@ -1,7 +1,6 @@
 -- The list of a tree's triples, with each owner's lists worked out from its own element and what is inside it.
 use Rattle.std.specs.Prelude.{◌≡◌, List, ◌∷◌, ◌++◌, flat_map}
-use Rattle.rx_terms.specs.Text.{Chars}
-use Rattle.rx_model.specs.Terms.{Term, Triple}
+use Rattle.rx_model.specs.Common.{Chars, Term, Triple}
 use Rattle.rx_rdfa.specs.Tree.{Nodes}
 use Rattle.rx_rdfa.specs.Naming.{Naming}
 use Rattle.rx_rdfa.specs.Blanks.{model}

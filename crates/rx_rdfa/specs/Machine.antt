@@ -1,8 +1,7 @@
 -- Reading a tree from left to right with one frame for each open element: what an evaluator keeps, and what each of its
 -- calls does.
 use Rattle.std.specs.Prelude.{◌≡◌, ℕ, suc, List, [], ◌∷◌, ◌++◌, map, filter_map, Option, Some, None, bytes_eq, if◌then◌else◌}
-use Rattle.rx_terms.specs.Text.{Chars}
-use Rattle.rx_model.specs.Terms.{Term, Triple}
+use Rattle.rx_model.specs.Common.{Chars, Term, Triple}
 use Rattle.rx_rdfa.specs.Tree.{Nodes, end, element, text}
 use Rattle.rx_rdfa.specs.Naming.{Path, Naming}
 use Rattle.rx_rdfa.specs.Blanks.{model}

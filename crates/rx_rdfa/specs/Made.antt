@@ -1,8 +1,6 @@
 -- The triples of a tree by RDFa Core 1.1, 7.5: as a set, and as a list in the order in which they are written (own rule).
 use Rattle.std.specs.Prelude.{List, ◌++◌, ◌⊎◌, ◌↔◌}
-use Rattle.rx_terms.specs.Text.{Chars}
-use Rattle.rx_model.specs.Sets.{Among}
-use Rattle.rx_model.specs.Terms.{Iri, Term, Triple, Graph}
+use Rattle.rx_model.specs.Common.{Chars, Among, Iri, Term, Triple, Graph}
 use Rattle.rx_rdfa.specs.Tree.{Nodes}
 use Rattle.rx_rdfa.specs.Naming.{Naming}
 use Rattle.rx_rdfa.specs.Blanks.{ModelTriple, model}

@@ -1,13 +1,8 @@
 -- The names in force at an element: RDFa Core 1.1, sections 6 and 9, and 7.5, steps 2 to 4. A line is an element's
 -- start tag, its parent's, and so on up to the root's.
 use Rattle.std.specs.Prelude.{Bool, false, not, ◌&&◌, ◌==◌, List, [], ◌∷◌, ◌++◌, drop, reverse, filter, find, flat_map, Option, Some, None, option_map, bytes_eq, codes, if◌then◌else◌}
-use Rattle.std.specs.Option.{option_or}
-use Rattle.std.specs.List.{list_all}
+use Rattle.rx_terms.specs.Common.{option_or, list_all, colon, Chars, trimmed, lowered, tokens, begins_with, has_scheme, is_lang}
 use Rattle.rx_chars.specs.NcName.{is_nc_start, is_nc}
-use Rattle.rx_terms.specs.Ascii.{colon}
-use Rattle.rx_terms.specs.Text.{Chars, trimmed, lowered, tokens, begins_with}
-use Rattle.rx_terms.specs.Iri.{has_scheme}
-use Rattle.rx_terms.specs.Lang.{is_lang}
 use Rattle.rx_rdfa.specs.Tree.{Tag, attribute}
 
 -- a table from names to IRIs

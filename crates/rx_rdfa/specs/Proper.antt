@@ -1,8 +1,6 @@
 -- Literals: RDF 1.1 Concepts, 3.3. One without a datatype of its own is an xsd:string, so that none is typed so.
 use Rattle.std.specs.Prelude.{◌≢◌, ℕ}
-use Rattle.rx_terms.specs.Text.{Chars}
-use Rattle.rx_model.specs.Sets.{Among}
-use Rattle.rx_model.specs.Terms.{Typed, Term, Resource, Literal, Triple}
+use Rattle.rx_model.specs.Common.{Chars, Among, Typed, Term, Resource, Literal, Triple}
 use Rattle.rx_rdfa.specs.Iris.{xsd_string}
 use Rattle.rx_rdfa.specs.Tree.{Nodes}
 use Rattle.rx_rdfa.specs.Facts.{Facts}

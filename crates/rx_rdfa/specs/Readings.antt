@@ -1,10 +1,6 @@
 -- What an attribute's value means: RDFa Core 1.1, 7.4.
 use Rattle.std.specs.Prelude.{Bool, false, ◌&&◌, ◌||◌, ◌==◌, [], ◌∷◌, List, reverse, Option, Some, None, option_map, bytes_eq, codes, if◌then◌else◌}
-use Rattle.std.specs.Option.{option_or}
-use Rattle.std.specs.List.{list_all}
-use Rattle.rx_terms.specs.Ascii.{colon, solidus, left_bracket, right_bracket}
-use Rattle.rx_terms.specs.Text.{Chars, trimmed, lowered, split_at, begins_with}
-use Rattle.rx_terms.specs.Iri.{has_scheme}
+use Rattle.rx_terms.specs.Common.{option_or, list_all, colon, solidus, left_bracket, right_bracket, Chars, trimmed, lowered, split_at, begins_with, has_scheme}
 use Rattle.rx_chars.specs.NcName.{is_nc_start, is_nc}
 use Rattle.rx_rdfa.specs.Tree.{Tag}
 use Rattle.rx_rdfa.specs.Names.{Context, prefix, vocab, term}

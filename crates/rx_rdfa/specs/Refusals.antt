@@ -1,7 +1,6 @@
 -- Start tags that are refused for what they mean, their own declarations being in force. Own rules.
 use Rattle.std.specs.Prelude.{Bool, false, not, ◌&&◌, Option, Some, None, is_some, bytes_eq, codes, if◌then◌else◌}
-use Rattle.rx_terms.specs.Text.{Chars}
-use Rattle.rx_terms.specs.Iri.{has_scheme}
+use Rattle.rx_terms.specs.Common.{Chars, has_scheme}
 use Rattle.rx_rdfa.specs.Facts.{Facts, Datatype, Empty, Is}
 
 pub data Refusal : Type 0 where

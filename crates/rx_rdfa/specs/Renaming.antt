@@ -1,8 +1,6 @@
 -- Two ways of naming blank nodes and owners: what the rules give with the one is what they give with the other, renamed.
 use Rattle.std.specs.Prelude.{◌≡◌, ℕ, List, [], ◌∷◌, ◌++◌, map, flat_map, Option, Some, None, option_map}
-use Rattle.rx_terms.specs.Text.{Chars}
-use Rattle.rx_model.specs.Sets.{Among}
-use Rattle.rx_model.specs.Numbered.{rename_node, rename_term, rename}
+use Rattle.rx_model.specs.Common.{Chars, Among, rename_node, rename_term, rename}
 use Rattle.rx_rdfa.specs.Naming.{Path, Naming}
 use Rattle.rx_rdfa.specs.Blanks.{Bnode, Owner, model}
 use Rattle.rx_rdfa.specs.Tree.{Nodes}

@@ -1,10 +1,8 @@
 -- The resources of one element: RDFa Core 1.1, 7.5, steps 5.1, 5.2 and 6, and HTML+RDFa 1.1, 3.1.
 use Rattle.std.specs.Prelude.{Bool, true, false, not, ◌&&◌, ◌||◌, List, [], ◌∷◌, Option, None, option_map, is_some, is_none, unwrap_or, if◌then◌else◌}
-use Rattle.std.specs.Option.{option_or}
+use Rattle.rx_model.specs.Common.{option_or, Chars, Node, Iri, Blank}
 use Rattle.std.specs.Bool.{then_some}
-use Rattle.rx_terms.specs.Text.{Chars}
 use Rattle.rx_refs.specs.Resolve.{resolved}
-use Rattle.rx_model.specs.Terms.{Node, Iri, Blank}
 use Rattle.rx_rdfa.specs.Naming.{Path, Naming}
 use Rattle.rx_rdfa.specs.Facts.{Facts, Ref, IriRef, LabelRef, RelativeRef, ElementKind, Head, Body, Time, Other}
 

@@ -1,7 +1,6 @@
 -- The context that holds where no other is named: RDFa Core 1.1, 9 and HTML+RDFa 1.1, 3.1. Own selection of its prefixes.
 use Rattle.std.specs.Prelude.{List, [], ◌∷◌, map, codes}
-use Prim.Native.String.{String}
-use Rattle.rx_terms.specs.Text.{Chars}
+use Rattle.rx_terms.specs.Common.{String, Chars}
 use Rattle.rx_rdfa.specs.Names.{Context}
 
 abbrev pub row_of : String × String → Chars × Chars

@@ -1,10 +1,7 @@
 -- Texts that have the form of a time: XML Schema 1.1 Part 2, the lexical forms of six datatypes (own restatement). The
 -- whole text has the form; white space isn't trimmed.
 use Rattle.std.specs.Prelude.{ℕ, ◌+◌, ◌*◌, ◌-◌, Bool, true, false, not, ◌&&◌, ◌||◌, ◌==◌, nat_le, [], ◌∷◌, ◌++◌, length, Option, Some, None, option_map, option_and_then, codes, if◌then◌else◌}
-use Rattle.std.specs.Option.{option_or}
-use Rattle.std.specs.List.{list_all}
-use Rattle.rx_terms.specs.Ascii.{between, is_digit, hyphen, plus_sign, colon, full_stop}
-use Rattle.rx_terms.specs.Text.{Chars, is_empty}
+use Rattle.rx_terms.specs.Common.{option_or, list_all, between, is_digit, hyphen, plus_sign, colon, full_stop, Chars, is_empty}
 use Rattle.rx_rdfa.specs.Iris.{xsd}
 
 infixl 20 ◌andThen◌

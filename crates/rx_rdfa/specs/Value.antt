@@ -1,8 +1,6 @@
 -- The value of property: RDFa Core 1.1, 7.5, step 11, and HTML+RDFa 1.1, 3.1, with the order of the rules our own.
 use Rattle.std.specs.Prelude.{Bool, true, false, not, ◌&&◌, Option, Some, None, option_map, is_some, is_none, bytes_eq, unwrap_or, if◌then◌else◌}
-use Rattle.std.specs.Option.{option_or}
-use Rattle.rx_terms.specs.Text.{Chars}
-use Rattle.rx_model.specs.Terms.{Kind, Plain, Tagged, Typed, Node, Term, Resource, Literal}
+use Rattle.rx_model.specs.Common.{option_or, Chars, Kind, Plain, Tagged, Typed, Node, Term, Resource, Literal}
 use Rattle.rx_rdfa.specs.Iris.{xsd_string}
 use Rattle.rx_rdfa.specs.Times.{time_datatype}
 use Rattle.rx_rdfa.specs.Naming.{Naming}

@@ -1,9 +1,6 @@
 -- What is written of a page, and the graph that it denotes.
 use Rattle.std.specs.Prelude.{ℕ, List}
-use Rattle.rx_terms.specs.Text.{Chars}
-use Rattle.rx_model.specs.Terms.{Triple, Graph, set_of}
-use Rattle.rx_model.specs.Copied.{copied, patterned}
-use Rattle.rx_model.specs.Numbered.{numbered, Renamed}
+use Rattle.rx_model.specs.Common.{Chars, Triple, Graph, set_of, copied, patterned, numbered, Renamed}
 use Rattle.rx_rdfa.specs.Tree.{Nodes}
 use Rattle.rx_rdfa.specs.Blanks.{Bnode, same_bnode, model}
 use Rattle.rx_rdfa.specs.Facts.{Facts}

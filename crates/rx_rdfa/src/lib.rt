@@ -4,18 +4,10 @@
 //! Definitions are in `specs/`. Each function here is a law about them, and does nothing when it is called.
 #![tactic(auto)]
 
-ghost use Rattle.rx_model.specs.Copied.{CopiesPatterns, LeadsAlong};
-ghost use Rattle.rx_model.specs.Numbered.{NumbersOneToOne};
-ghost use Rattle.rx_model.specs.Terms.{Term, same_node};
-ghost use Rattle.rx_rdfa.specs.Blanks.{Bnode, Owner, same_bnode};
-ghost use Rattle.rx_rdfa.specs.Calls.{CallsRead, FramesAreContexts};
+ghost use Rattle.rx_rdfa.specs.Common.{CopiesPatterns, LeadsAlong, NumbersOneToOne, Term, same_node, Bnode, Owner, same_bnode, CallsRead, FramesAreContexts, ReadingMakes, MadeRenames, TablesAreLists, WrittenDenotes};
 ghost use Rattle.rx_rdfa.specs.Local.{ListsAreLocal};
-ghost use Rattle.rx_rdfa.specs.Machine.{ReadingMakes};
 ghost use Rattle.rx_rdfa.specs.Made.{MadeIsRaw};
 ghost use Rattle.rx_rdfa.specs.Proper.{LiteralsAreProper};
-ghost use Rattle.rx_rdfa.specs.Renaming.{MadeRenames};
-ghost use Rattle.rx_rdfa.specs.Tables.{TablesAreLists};
-ghost use Rattle.rx_rdfa.specs.Whole.{WrittenDenotes};
 
 /// The list of a tree's triples has those of its set, and no others.
 pub fn made_is_raw()

@@ -1,7 +1,5 @@
 -- Which tags go on with a character: the phases alone tell.
-use Rattle.rx_terms.proofs.Common.{◌≡◌, ℕ, Bool, true, false, eqb-true, [], ◌∷◌, ◌++◌, Option, Some, None, refl, ap, sym, ◌∙◌, subst, ◌==◌, list_all, is_white_space, solidus, greater_than_sign, Chars, split, not_both_ways}
-use Rattle.rx_grammar.proofs.Common.{Syntax, Html, Xhtml, Tag, ends_name, begins, begins_tag, is_tag_char, Shape, a_start, an_end}
-use Rattle.rx_grammar.specs.TagFaults.{BeginsShape, BeginsNoShape}
+use Rattle.rx_grammar.proofs.Common.{◌≡◌, ℕ, Bool, true, false, eqb-true, [], ◌∷◌, ◌++◌, Option, Some, None, refl, ap, sym, ◌∙◌, subst, ◌==◌, list_all, is_white_space, solidus, greater_than_sign, Chars, split, not_both_ways, Syntax, Html, Xhtml, Tag, ends_name, begins, begins_tag, is_tag_char, Shape, a_start, an_end, BeginsShape, BeginsNoShape}
 use Rattle.rx_reader.specs.declared.phases.TagPhase.{TagPhase}
 use Rattle.rx_reader.specs.declared.phases.TagPhase.TheVariants as phase
 use Rattle.rx_reader.specs.declared.phases.TagAction.TheVariants as action

@@ -1,7 +1,5 @@
 -- Which characters belong to no two classes.
-use Rattle.rx_terms.proofs.Common.{◌≡◌, ℕ, Bool, true, false, eqb-true, refl, sym, inl, inr, subst, ◌||◌, ◌==◌, not, is_white_space, solidus, equals_sign, greater_than_sign, either, not_both_ways}
-use Rattle.rx_grammar.proofs.Common.{Syntax, Html, Xhtml, ends_name, begins_attribute, continues_attribute, is_tag_char}
-use Rattle.rx_grammar.specs.Shapes.{is_strict_char, is_strict_start, is_attribute_char}
+use Rattle.rx_grammar.proofs.Common.{◌≡◌, ℕ, Bool, true, false, eqb-true, refl, sym, inl, inr, subst, ◌||◌, ◌==◌, not, is_white_space, solidus, equals_sign, greater_than_sign, either, not_both_ways, Syntax, Html, Xhtml, ends_name, begins_attribute, continues_attribute, is_tag_char, is_strict_char, is_strict_start, is_attribute_char}
 
 -- what holds of the five holds of white space
 pub of_white : (P : ℕ → Type 0) (c : ℕ) → is_white_space c ≡ true → P 9 → P 10 → P 12 → P 13 → P 32 → P c

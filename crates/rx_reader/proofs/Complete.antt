@@ -1,7 +1,6 @@
 -- The table cuts attributes as the grammar spells them.
-use Rattle.rx_terms.proofs.Common.{◌≡◌, ℕ, Bool, true, false, List, [], ◌∷◌, ◌++◌, Some, None, refl, ap, sym, ◌∙◌, append_assoc, inl, inr, ◌||◌, ◌==◌, list_all, is_white_space, solidus, equals_sign, greater_than_sign, Chars, both, either, by_test}
-use Rattle.rx_grammar.proofs.Common.{Syntax, Html, Xhtml, Attribute, ends_name, begins, begins_attribute}
-use Rattle.rx_grammar.specs.Shapes.{is_gap, is_last_gap, is_strict_end, ends_in_solidus, is_attribute_name, ends_unquoted, Assigns, no_value, unquoted, quoted, Attributes, no_more, one}
+use Rattle.rx_grammar.proofs.Common.{◌≡◌, ℕ, Bool, true, false, List, [], ◌∷◌, ◌++◌, Some, None, refl, ap, sym, ◌∙◌, append_assoc, inl, inr, ◌||◌, ◌==◌, list_all, is_white_space, solidus, equals_sign, greater_than_sign, Chars, both, either, by_test, Syntax, Html, Xhtml, Attribute}
+use Rattle.rx_grammar.specs.Shapes.{ends_name, begins, begins_attribute, is_gap, is_last_gap, is_strict_end, ends_in_solidus, is_attribute_name, ends_unquoted, Assigns, no_value, unquoted, quoted, Attributes, no_more, one}
 use Rattle.rx_reader.specs.declared.phases.TagPhase.{TagPhase}
 use Rattle.rx_reader.specs.declared.phases.TagPhase.TheVariants as phase
 use Rattle.rx_reader.specs.declared.phases.TagAction.TheVariants as action

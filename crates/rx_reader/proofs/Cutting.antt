@@ -1,7 +1,5 @@
 -- What the table does with parts of a tag's attributes.
-use Rattle.rx_terms.proofs.Common.{cond, sym, ◌≡◌, ℕ, true, false, [], ◌∷◌, ◌++◌, Option, Some, refl, ap, ◌∙◌, append_assoc, append-nil, inl, inr, eq-eqb, cond-true, cond-false, or_parts, ◌&&◌, ◌==◌, not, list_all, is_white_space, equals_sign, quotation_mark, Chars, both, either, untrue}
-use Rattle.rx_grammar.proofs.Common.{Syntax, Html, is_quote, continues_attribute}
-use Rattle.rx_grammar.specs.Shapes.{is_unquoted, is_unquoted_char}
+use Rattle.rx_grammar.proofs.Common.{cond, sym, ◌≡◌, ℕ, true, false, [], ◌∷◌, ◌++◌, Option, Some, refl, ap, ◌∙◌, append_assoc, append-nil, inl, inr, eq-eqb, cond-true, cond-false, or_parts, ◌&&◌, ◌==◌, not, list_all, is_white_space, equals_sign, quotation_mark, Chars, both, either, untrue, Syntax, Html, is_quote, continues_attribute, is_unquoted, is_unquoted_char}
 use Rattle.rx_reader.specs.declared.phases.TagPhase.{TagPhase}
 use Rattle.rx_reader.specs.declared.phases.TagPhase.TheVariants as phase
 use Rattle.rx_reader.specs.declared.phases.TagAction.{TagAction}

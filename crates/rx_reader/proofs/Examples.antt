@@ -1,12 +1,6 @@
 -- Tags that were worked out by hand, as the tables read them.
-use Rattle.rx_terms.proofs.Common.{◌≡◌, true, false, [], ◌∷◌, ◌++◌, refl, Result, Ok, Err, Chars}
-use Rattle.std.specs.Prelude.{codes}
-use Rattle.rx_grammar.proofs.Common.{Html, Xhtml, meaning, Tag}
+use Rattle.rx_reader.proofs.Common.{◌≡◌, true, false, [], ◌∷◌, ◌++◌, refl, Result, Ok, Err, Chars, codes, Html, Xhtml, meaning, Tag, Kind, BadTag, StrictText, UnknownReference, RepeatedAttribute, value_read, TagState, tag_on, fresh, tag_of}
 use Rattle.rx_chars.specs.Named.{named_table}
-use Rattle.rx_grammar.specs.declared.faults.Kind.{Kind}
-use Rattle.rx_grammar.specs.declared.faults.Kind.TheVariants.{BadTag, StrictText, UnknownReference, RepeatedAttribute}
-use Rattle.rx_reader.specs.Values.{value_read}
-use Rattle.rx_reader.specs.TagReader.{TagState, tag_on, fresh, tag_of}
 
 abbrev tag_in : Result TagState Kind → Result Tag Kind
 tag_in (Ok s) = Ok (tag_of s)

@@ -1,7 +1,5 @@
 -- Two fronts of one list.
-use Rattle.rx_terms.proofs.Common.{◌≡◌, ℕ, Bool, true, false, cond, eqb-true, [], ◌∷◌, ◌++◌, refl, ap, sym, ◌∙◌, inl, inr, ◌⊎◌, subst, ◌&&◌, ◌==◌, not, eq-eqb, or_left, or_right, and_from, list_all, list_any, is_letter, is_digit, is_letter_or_digit, number_sign, semicolon, greater_than_sign, Chars, begins_with, is_empty, both, either, untrue, not_both_ways, by_test}
-use Rattle.std.specs.Prelude.{codes}
-use Rattle.rx_grammar.proofs.Common.{same, is_hexadecimal_digit, is_x, begins_number, is_begun, ends_with, IsFirst}
+use Rattle.rx_grammar.proofs.Common.{◌≡◌, ℕ, Bool, true, false, cond, eqb-true, [], ◌∷◌, ◌++◌, refl, ap, sym, ◌∙◌, inl, inr, ◌⊎◌, subst, ◌&&◌, ◌==◌, not, codes, eq-eqb, or_left, or_right, and_from, list_all, list_any, is_letter, is_digit, is_letter_or_digit, number_sign, semicolon, greater_than_sign, Chars, begins_with, is_empty, both, either, untrue, not_both_ways, by_test, same, is_hexadecimal_digit, is_x, begins_number, is_begun, ends_with, IsFirst}
 use Rattle.rx_reader.proofs.Classes.{of_one, unless}
 
 pub equal : (n : ℕ) → (n == n) ≡ true

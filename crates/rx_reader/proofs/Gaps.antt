@@ -1,7 +1,5 @@
 -- What stands before an attribute or before the end of a tag, one character at a time.
-use Rattle.rx_terms.proofs.Common.{◌≡◌, ℕ, Bool, true, false, [], ◌∷◌, ◌++◌, refl, ◌∙◌, ◌==◌, list_all, list_all-append, is_white_space, solidus, Chars, both, or_left, and_from}
-use Rattle.rx_grammar.proofs.Common.{Syntax, Html, Xhtml, one_or_more}
-use Rattle.rx_grammar.specs.Shapes.{first_then, is_gap, is_last_gap, is_strict_end, ends_in_solidus}
+use Rattle.rx_grammar.proofs.Common.{◌≡◌, ℕ, Bool, true, false, [], ◌∷◌, ◌++◌, refl, ◌∙◌, ◌==◌, list_all, list_all-append, is_white_space, solidus, Chars, both, or_left, and_from, Syntax, Html, Xhtml, one_or_more, first_then, is_gap, is_last_gap, is_strict_end, ends_in_solidus}
 use Rattle.rx_reader.proofs.Classes.{of_white}
 use Rattle.rx_reader.proofs.Complete.{is_between}
 

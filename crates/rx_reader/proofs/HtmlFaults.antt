@@ -1,8 +1,6 @@
 -- Which character decides a fault of a value of HTML, and what stands before it.
-use Rattle.rx_terms.proofs.Common.{◌≡◌, ℕ, Bool, true, false, [], ◌∷◌, ◌++◌, refl, ap, sym, ◌∙◌, append_assoc, inl, inr, ◌&&◌, ◌==◌, not, list_all, is_white_space, is_letter, is_digit, is_letter_or_digit, solidus, ampersand, semicolon, number_sign, Chars, both, either, untrue, not_both_ways}
-use Rattle.rx_grammar.proofs.Common.{Syntax, is_hexadecimal_digit, is_x, begins_number, is_begun, meaning, is_quote, RunFault, unknown, bad, no_reference, ValueFault}
+use Rattle.rx_grammar.proofs.Common.{◌≡◌, ℕ, Bool, true, false, [], ◌∷◌, ◌++◌, refl, ap, sym, ◌∙◌, append_assoc, inl, inr, ◌&&◌, ◌==◌, not, list_all, is_white_space, is_letter, is_digit, is_letter_or_digit, solidus, ampersand, semicolon, number_sign, Chars, both, either, untrue, not_both_ways, Syntax, is_hexadecimal_digit, is_x, begins_number, is_begun, meaning, is_quote, RunFault, unknown, bad, no_reference, ValueFault, in_run, less_than}
 use Rattle.rx_grammar.specs.declared.faults.Kind.{Kind}
-use Rattle.rx_grammar.specs.TagFaults.{in_run, less_than}
 use Rattle.rx_reader.specs.Tables.{is_html}
 use Rattle.rx_reader.proofs.Classes.{of_white, of_one, unless}
 use Rattle.rx_reader.proofs.TextComplete.{body_begun}

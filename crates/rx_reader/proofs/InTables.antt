@@ -1,6 +1,5 @@
 -- How phases follow one another in a tag: what begins a value, and what stands directly before.
-use Rattle.rx_terms.proofs.Common.{◌≡◌, ℕ, Bool, true, false, cond, List, [], ◌∷◌, ◌++◌, Some, None, refl, sym, inl, inr, ◌⊎◌, ◌||◌, ◌&&◌, ◌==◌, not, is_white_space, solidus, equals_sign, greater_than_sign, quotation_mark, apostrophe, split}
-use Rattle.rx_grammar.proofs.Common.{Syntax, is_quote, begins_tag, is_tag_char, begins_attribute, continues_attribute}
+use Rattle.rx_grammar.proofs.Common.{◌≡◌, ℕ, Bool, true, false, cond, List, [], ◌∷◌, ◌++◌, Some, None, refl, sym, inl, inr, ◌⊎◌, ◌||◌, ◌&&◌, ◌==◌, not, is_white_space, solidus, equals_sign, greater_than_sign, quotation_mark, apostrophe, split, Syntax, is_quote, begins_tag, is_tag_char, begins_attribute, continues_attribute}
 use Rattle.rx_reader.specs.declared.phases.TagPhase.{TagPhase}
 use Rattle.rx_reader.specs.declared.phases.TagPhase.TheVariants as phase
 use Rattle.rx_reader.specs.declared.phases.TagAction.TheVariants as action

@@ -1,8 +1,6 @@
 -- Where a tag stands within a value, by its shape and by the table.
-use Rattle.rx_terms.proofs.Common.{◌≡◌, ℕ, Bool, true, false, List, [], ◌∷◌, ◌++◌, Option, Some, None, refl, ap, sym, ◌∙◌, append_assoc, append-nil, inl, inr, ◌⊎◌, subst, ◌||◌, ◌&&◌, not, semicolon, Chars, both, untrue, not_both_ways}
-use Rattle.rx_grammar.proofs.Common.{Syntax, Attribute, Tag, ValueFault}
+use Rattle.rx_grammar.proofs.Common.{◌≡◌, ℕ, Bool, true, false, List, [], ◌∷◌, ◌++◌, Option, Some, None, refl, ap, sym, ◌∙◌, append_assoc, append-nil, inl, inr, ◌⊎◌, subst, ◌||◌, ◌&&◌, not, semicolon, Chars, both, untrue, not_both_ways, Syntax, Attribute, Tag, ValueFault, EndsValue, double, single, no_mark, IsInValue}
 use Rattle.rx_grammar.specs.declared.faults.Kind.{Kind}
-use Rattle.rx_grammar.specs.TagFaults.{EndsValue, double, single, no_mark, IsInValue}
 use Rattle.rx_reader.specs.declared.phases.TagPhase.{TagPhase}
 use Rattle.rx_reader.specs.declared.phases.TagPhase.TheVariants as phase
 use Rattle.rx_reader.specs.declared.phases.TagAction.TheVariants as action

@@ -23,3 +23,4 @@ pub mod HtmlFaults
 pub mod InValues
 pub mod TagRefusals
 pub mod TagFaultLaws
+pub mod Common

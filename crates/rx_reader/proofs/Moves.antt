@@ -1,6 +1,5 @@
 -- The phases among attributes are left for no others.
-use Rattle.rx_terms.proofs.Common.{◌≡◌, ℕ, Bool, true, false, cond, Some, None, refl, ◌==◌, is_white_space, solidus, equals_sign, greater_than_sign, quotation_mark, apostrophe, split}
-use Rattle.rx_grammar.proofs.Common.{Syntax, begins_attribute, continues_attribute}
+use Rattle.rx_grammar.proofs.Common.{◌≡◌, ℕ, Bool, true, false, cond, Some, None, refl, ◌==◌, is_white_space, solidus, equals_sign, greater_than_sign, quotation_mark, apostrophe, split, Syntax, begins_attribute, continues_attribute}
 use Rattle.rx_reader.specs.declared.phases.TagPhase.{TagPhase}
 use Rattle.rx_reader.specs.declared.phases.TagPhase.TheVariants as phase
 use Rattle.rx_reader.specs.declared.phases.TagAction.{TagAction}

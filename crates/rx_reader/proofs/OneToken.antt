@@ -1,18 +1,13 @@
 -- At most one front of a list of characters is a token's spelling, and it is one token's.
-use Rattle.rx_terms.proofs.Common.{◌≡◌, ◌≢◌, ℕ, Bool, true, false, cond, [], ◌∷◌, ◌++◌, Option, Some, None, refl, ap, sym, ◌∙◌, append_assoc, append-nil, inl, inr, subst, ◌||◌, ◌&&◌, ◌==◌, not, list_all, list_any, lowered_char, ampersand, solidus, semicolon, less_than_sign, is_letter, is_white_space, Chars, begins_with, lowered, is_empty, both, either, untrue, not_both_ways, by_test, append_cancel_left, map-append, or_left, or_right, and_from, or_parts}
-use Rattle.std.specs.Prelude.{codes}
-use Rattle.rx_grammar.proofs.Common.{Syntax, Html, Xhtml, same, name_of_raw, is_body, is_begun, stops_at, meaning, Tag, Token, tag, character, reference, kept, section, comment, doctype, ends_name, begins_tag, Shape, a_start, an_end, SpellsTag, cased, cased_char, ends_with, IsFirst, has_markup, has_references, keeps_runs, has_sections, has_less_than, is_text, begins_markup, raw_name, begins_end, stops_end, ends_comment, begins_declaration, doctype_word, IsDoctype, Spells, a_tag, an_end_of_raw, a_character, a_less_than, a_raw_run, a_reference, a_kept_run, a_comment, a_bogus_comment, a_question, a_strict_comment, an_instruction, a_section, a_doctype, next_of}
+use Rattle.rx_grammar.proofs.Common.{◌≡◌, ◌≢◌, ℕ, Bool, true, false, cond, [], ◌∷◌, ◌++◌, Option, Some, None, refl, ap, sym, ◌∙◌, append_assoc, append-nil, inl, inr, subst, ◌||◌, ◌&&◌, ◌==◌, not, codes, list_all, list_any, lowered_char, ampersand, solidus, semicolon, less_than_sign, is_letter, is_white_space, Chars, begins_with, lowered, is_empty, both, either, untrue, not_both_ways, by_test, append_cancel_left, map-append, append_cancel_right, or_left, or_right, and_from, or_parts, Syntax, Html, Xhtml, same, name_of_raw, is_body, is_begun, stops_at, meaning, Tag, Token, tag, character, reference, kept, section, comment, doctype, ends_name, begins_tag, Shape, a_start, an_end, SpellsTag, cased, cased_char, ends_with, IsFirst, has_markup, has_references, keeps_runs, has_sections, has_less_than, is_text, begins_markup, raw_name, begins_end, stops_end, ends_comment, begins_declaration, doctype_word, IsDoctype, Spells, a_tag, an_end_of_raw, a_character, a_less_than, a_raw_run, a_reference, a_kept_run, a_comment, a_bogus_comment, a_question, a_strict_comment, an_instruction, a_section, a_doctype, IsBefore, next_of, OneToken, IsSameToken}
 use Rattle.rx_grammar.specs.declared.contents.Content.{Content}
 use Rattle.rx_grammar.specs.declared.contents.Content.TheVariants as content
 use Rattle.rx_grammar.specs.declared.contents.RawName.{RawName}
 use Rattle.rx_grammar.specs.declared.contents.RawName.TheVariants as raw
-use Rattle.rx_grammar.specs.Spelling.{IsBefore}
-use Rattle.rx_grammar.specs.Laws.{OneToken, IsSameToken}
 use Rattle.rx_reader.proofs.Classes.{of_one, of_white, unless}
 use Rattle.rx_reader.proofs.Fronts.{equal, all_front, Longer, two_fronts, one_first, only_end, one_end, ends_at, begins_append, begins_front, begins_more, begins_within, has_end, begun_no_mark, begun_front}
 use Rattle.rx_reader.proofs.TagLaws.{one, one_front}
 use Rattle.rx_reader.proofs.TextComplete.{body_begun}
-use Rattle.std.proofs.lemmas.List.{append_cancel_right}
 use Rattle.rx_reader.proofs.Gaps.{all_of_some}
 
 -- what follows `<!`

@@ -1,14 +1,10 @@
 -- Pages and faults that were worked out by hand, as the definitions read them.
-use Rattle.rx_terms.proofs.Common.{◌≡◌, ℕ, ◌+◌, ◌≤◌, true, false, List, [], ◌∷◌, ◌++◌, Option, Some, None, refl, sym, subst, arith, inl, inr, Chars}
-use Rattle.std.specs.Prelude.{codes}
-use Rattle.rx_grammar.proofs.Common.{Entry, placed, Html, Xhtml, Tag, tag, character, SpellsTag, a_tag, a_character, Place, outside, place_in, StartTag, end, element, text, Tree, Spelled, Item, no_more, one, start_of, Opens, Closes, Drops, Holds, nothing, a_text, closed, unclosed, Document, Page, Lead, Stands, before, within, a_root, a_child, not_begun, still_open, FaultAt, Reached, Before, Unfinished, no_reference, BeginsCharacter}
-use Rattle.rx_grammar.specs.declared.contents.Content.{Content}
+use Rattle.rx_reader.proofs.Common.{◌≡◌, ℕ, ◌+◌, ◌≤◌, true, false, List, [], ◌∷◌, ◌++◌, Option, Some, None, refl, sym, subst, arith, inl, inr, Chars, codes, Entry, placed, Html, Xhtml, Tag, tag, character, SpellsTag, a_tag, a_character, Place, outside, place_in, StartTag, end, element, text, Tree, Spelled, Item, no_more, one, start_of, Stands, before, within, a_root, a_child, not_begun, still_open, no_reference, BeginsCharacter, Content, Limits, spells_each}
+use Rattle.rx_grammar.specs.Pages.{Opens, Closes, Drops, Holds, nothing, a_text, closed, unclosed, Document, Page, Lead}
+use Rattle.rx_grammar.specs.PageFaults.{FaultAt, Reached, Before, Unfinished, page_too_long, not_utf8, nul, tag_too_long, decided, unended, is_one, token_begun, run_begun, in_run, at_tag, section_end}
 use Rattle.rx_grammar.specs.declared.contents.Content.TheVariants as content
 use Rattle.rx_grammar.specs.declared.faults.Kind.TheVariants as kind
-use Rattle.rx_grammar.specs.declared.limits.Limits.{Limits}
 use Rattle.rx_grammar.specs.Pages as pages
-use Rattle.rx_grammar.specs.PageFaults.{page_too_long, not_utf8, nul, tag_too_long, decided, unended, is_one, token_begun, run_begun, in_run, at_tag, section_end}
-use Rattle.rx_reader.proofs.TagLaws.{spells_each}
 
 abbrev limits : Limits
 limits = record { depth = 512; tag = 1048576; page = 1073741824 }

@@ -1,6 +1,5 @@
 -- Runs after an `&`, one character at a time.
-use Rattle.rx_terms.proofs.Common.{◌≡◌, ℕ, Bool, true, false, eqb-true, [], ◌∷◌, ◌++◌, refl, inl, inr, subst, ◌&&◌, ◌==◌, not, list_all, list_all-append, is_letter, is_digit, is_letter_or_digit, number_sign, semicolon, Chars, both, either, untrue, split, not_both_ways, by_test}
-use Rattle.rx_grammar.proofs.Common.{is_hexadecimal_digit, is_x, is_body, is_begun, stops_at}
+use Rattle.rx_grammar.proofs.Common.{◌≡◌, ℕ, Bool, true, false, eqb-true, [], ◌∷◌, ◌++◌, refl, inl, inr, subst, ◌&&◌, ◌==◌, not, list_all, list_all-append, is_letter, is_digit, is_letter_or_digit, number_sign, semicolon, Chars, both, either, untrue, split, not_both_ways, by_test, is_hexadecimal_digit, is_x, is_body, is_begun, stops_at}
 use Rattle.rx_reader.specs.declared.phases.RunPhase.{RunPhase}
 use Rattle.rx_reader.specs.declared.phases.RunPhase.TheVariants as run
 use Rattle.rx_reader.specs.declared.phases.RunMove.{RunMove}

@@ -1,7 +1,6 @@
 -- What the table cuts is attributes as the grammar spells them.
-use Rattle.rx_terms.proofs.Common.{◌≡◌, ℕ, Bool, true, false, cond, List, [], ◌∷◌, ◌++◌, Some, None, refl, ap, sym, append_assoc, append-nil, subst, ◌&&◌, ◌==◌, not, list_all, is_white_space, solidus, equals_sign, greater_than_sign, quotation_mark, apostrophe, Chars, both, split, not_both_ways}
-use Rattle.rx_grammar.proofs.Common.{Syntax, Html, Xhtml, Attribute, one_or_more, ends_name, begins, is_quote, begins_attribute, continues_attribute}
-use Rattle.rx_grammar.specs.Shapes.{is_gap, is_attribute_name, is_unquoted, is_unquoted_char, ends_unquoted, Assigns, no_value, unquoted, quoted, Attributes, no_more, one}
+use Rattle.rx_grammar.proofs.Common.{◌≡◌, ℕ, Bool, true, false, cond, List, [], ◌∷◌, ◌++◌, Some, None, refl, ap, sym, append_assoc, append-nil, subst, ◌&&◌, ◌==◌, not, list_all, is_white_space, solidus, equals_sign, greater_than_sign, quotation_mark, apostrophe, Chars, both, split, not_both_ways, Syntax, Html, Xhtml, Attribute, one_or_more}
+use Rattle.rx_grammar.specs.Shapes.{ends_name, begins, is_quote, begins_attribute, continues_attribute, is_gap, is_attribute_name, is_unquoted, is_unquoted_char, ends_unquoted, Assigns, no_value, unquoted, quoted, Attributes, no_more, one}
 use Rattle.rx_reader.specs.declared.phases.TagPhase.{TagPhase}
 use Rattle.rx_reader.specs.declared.phases.TagPhase.TheVariants as phase
 use Rattle.rx_reader.specs.declared.phases.TagAction.TheVariants as action

@@ -1,8 +1,6 @@
 -- Each spelled tag is read.
-use Rattle.rx_terms.proofs.Common.{◌≡◌, ℕ, true, List, [], ◌∷◌, ◌++◌, Option, Some, None, Result, Ok, Err, refl, ap, sym, ◌∙◌, append_assoc, append-nil, subst, Chars, both}
-use Rattle.rx_grammar.proofs.Common.{Syntax, Denotes, Attribute, Tag, cased_char, Reads}
+use Rattle.rx_grammar.proofs.Common.{◌≡◌, ℕ, true, List, [], ◌∷◌, ◌++◌, Option, Some, None, Result, Ok, Err, refl, ap, sym, ◌∙◌, append_assoc, append-nil, subst, Chars, both, Syntax, Denotes, Attribute, Tag, cased_char, Reads, AreRead}
 use Rattle.rx_grammar.specs.declared.faults.Kind.{Kind}
-use Rattle.rx_grammar.specs.Tags.{AreRead}
 use Rattle.rx_reader.specs.declared.phases.TagPhase.{TagPhase}
 use Rattle.rx_reader.specs.declared.phases.TagPhase.TheVariants as phase
 use Rattle.rx_reader.specs.declared.phases.TagAction.TheVariants as action

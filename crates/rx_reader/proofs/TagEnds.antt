@@ -1,7 +1,5 @@
 -- Where a tag may be ended, and what its last attribute is then.
-use Rattle.rx_terms.proofs.Common.{◌≡◌, ℕ, true, false, List, [], ◌∷◌, ◌++◌, Option, Some, refl, ap, sym, ◌∙◌, Chars, not_both_ways}
-use Rattle.rx_grammar.proofs.Common.{Syntax, Html, Xhtml, Attribute, is_quote}
-use Rattle.rx_grammar.specs.TagFaults.{EndsValue, double, single, no_mark}
+use Rattle.rx_grammar.proofs.Common.{◌≡◌, ℕ, true, false, List, [], ◌∷◌, ◌++◌, Option, Some, refl, ap, sym, ◌∙◌, Chars, not_both_ways, Syntax, Html, Xhtml, Attribute, is_quote, EndsValue, double, single, no_mark}
 use Rattle.rx_reader.specs.declared.phases.TagPhase.{TagPhase}
 use Rattle.rx_reader.specs.declared.phases.TagPhase.TheVariants as phase
 use Rattle.rx_reader.specs.Tables.{is_last, is_html}

@@ -1,9 +1,7 @@
 -- The faults of tags are the reader's, at exactly their character.
-use Rattle.rx_terms.proofs.Common.{◌≡◌, ℕ, true, false, [], ◌∷◌, ◌++◌, Some, None, Result, Ok, Err, refl, ap, sym, ◌∙◌, append_assoc, subst, ◌&&◌, Chars, both, split, by_test, not_both_ways}
-use Rattle.rx_grammar.proofs.Common.{Syntax, meaning, Shape, Tag, is_repeated, Reads, TagFault}
+use Rattle.rx_grammar.proofs.Common.{◌≡◌, ℕ, true, false, [], ◌∷◌, ◌++◌, Some, None, Result, Ok, Err, refl, ap, sym, ◌∙◌, append_assoc, subst, ◌&&◌, Chars, both, split, by_test, not_both_ways, Syntax, meaning, Shape, Tag, is_repeated, Reads, TagFault, Faultless, BeginsTag, bad_tag, in_value, repeated}
 use Rattle.rx_grammar.specs.declared.faults.Kind.{Kind}
 use Rattle.rx_grammar.specs.declared.faults.Kind.TheVariants.{BadTag, RepeatedAttribute}
-use Rattle.rx_grammar.specs.TagFaults.{Faultless, BeginsTag, bad_tag, in_value, repeated}
 use Rattle.rx_reader.specs.declared.phases.TagPhase.{TagPhase}
 use Rattle.rx_reader.specs.declared.phases.TagPhase.TheVariants as phase
 use Rattle.rx_reader.specs.Tables.{is_last}

@@ -1,9 +1,7 @@
 -- Why the reader refuses a character of a tag, and that it refuses each fault.
-use Rattle.rx_terms.proofs.Common.{◌≡◌, ℕ, true, false, cond, [], ◌∷◌, ◌++◌, Some, None, Result, Ok, Err, refl, ap, sym, ◌∙◌, append_assoc, append-nil, inl, inr, ◌⊎◌, subst, ◌&&◌, ◌==◌, cond-true, cond-false, is_white_space, solidus, equals_sign, greater_than_sign, quotation_mark, apostrophe, semicolon, Chars, both, split, by_test, not_both_ways}
-use Rattle.rx_grammar.proofs.Common.{Syntax, Html, Xhtml, meaning, is_quote, begins_tag, is_tag_char, begins_attribute, continues_attribute, Tag, is_repeated, Reads, ValueFault, TagFault}
+use Rattle.rx_grammar.proofs.Common.{◌≡◌, ℕ, true, false, cond, [], ◌∷◌, ◌++◌, Some, None, Result, Ok, Err, refl, ap, sym, ◌∙◌, append_assoc, append-nil, inl, inr, ◌⊎◌, subst, ◌&&◌, ◌==◌, cond-true, cond-false, is_white_space, solidus, equals_sign, greater_than_sign, quotation_mark, apostrophe, semicolon, Chars, both, split, by_test, not_both_ways, Syntax, Html, Xhtml, meaning, is_quote, begins_tag, is_tag_char, begins_attribute, continues_attribute, Tag, is_repeated, Reads, ValueFault, TagFault, IsInValue, DecidesValue, BeginsNoShape, bad_tag, in_value, repeated}
 use Rattle.rx_grammar.specs.declared.faults.Kind.{Kind}
 use Rattle.rx_grammar.specs.declared.faults.Kind.TheVariants.{BadTag, RepeatedAttribute}
-use Rattle.rx_grammar.specs.TagFaults.{IsInValue, DecidesValue, BeginsNoShape, bad_tag, in_value, repeated}
 use Rattle.rx_reader.specs.declared.phases.TagPhase.{TagPhase}
 use Rattle.rx_reader.specs.declared.phases.TagPhase.TheVariants as phase
 use Rattle.rx_reader.specs.declared.phases.TagAction.TheVariants as action

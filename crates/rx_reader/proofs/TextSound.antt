@@ -1,9 +1,8 @@
 -- What is read of text with references is what the grammar says.
-use Rattle.rx_terms.proofs.Common.{◌≡◌, ℕ, true, cond, [], ◌∷◌, ◌++◌, Option, Some, None, Result, Ok, Err, refl, ap, sym, ◌∙◌, append_assoc, append-nil, subst, ◌==◌, ampersand, semicolon, Chars, split}
-use Rattle.rx_grammar.proofs.Common.{Syntax, Html, Xhtml, is_body, is_begun, stops_at, is_plain, Denotes}
+use Rattle.rx_grammar.proofs.Common.{◌≡◌, ℕ, true, cond, [], ◌∷◌, ◌++◌, Option, Some, None, Result, Ok, Err, refl, ap, sym, ◌∙◌, append_assoc, append-nil, subst, ◌==◌, ampersand, semicolon, Chars, split, Syntax, Html, Xhtml}
+use Rattle.rx_grammar.specs.References.{is_body, is_begun, stops_at, is_plain, Denotes, value_char, IsKept, nothing, character, reference, kept}
 use Rattle.rx_grammar.specs.declared.faults.Kind.{Kind}
 use Rattle.rx_grammar.specs.declared.faults.Kind.TheVariants.{StrictText}
-use Rattle.rx_grammar.specs.References.{value_char, IsKept, nothing, character, reference, kept}
 use Rattle.rx_reader.specs.declared.phases.RunPhase.{RunPhase}
 use Rattle.rx_reader.specs.declared.phases.RunPhase.TheVariants as phases
 use Rattle.rx_reader.specs.declared.phases.RunMove.{RunMove}

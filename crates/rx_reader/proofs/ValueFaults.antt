@@ -1,9 +1,7 @@
 -- The faults of values are the reader's.
-use Rattle.rx_terms.proofs.Common.{◌≡◌, ℕ, Bool, true, false, eqb-true, [], ◌∷◌, ◌++◌, Option, Some, None, Result, Ok, Err, refl, ap, sym, ◌∙◌, append_assoc, inl, inr, subst, ◌||◌, ◌==◌, not, ampersand, semicolon, less_than_sign, Chars, either, split, not_both_ways}
-use Rattle.rx_grammar.proofs.Common.{Syntax, Html, Xhtml, is_body, is_plain, meaning, is_quote, RunFault, unknown, bad, no_reference, ValueFault}
+use Rattle.rx_grammar.proofs.Common.{◌≡◌, ℕ, Bool, true, false, eqb-true, [], ◌∷◌, ◌++◌, Option, Some, None, Result, Ok, Err, refl, ap, sym, ◌∙◌, append_assoc, inl, inr, subst, ◌||◌, ◌==◌, not, ampersand, semicolon, less_than_sign, Chars, either, split, not_both_ways, Syntax, Html, Xhtml, is_body, is_plain, meaning, is_quote, RunFault, unknown, bad, no_reference, ValueFault, in_run, less_than}
 use Rattle.rx_grammar.specs.declared.faults.Kind.{Kind}
 use Rattle.rx_grammar.specs.declared.faults.Kind.TheVariants.{StrictText}
-use Rattle.rx_grammar.specs.TagFaults.{in_run, less_than}
 use Rattle.rx_reader.specs.declared.phases.RunPhase.{RunPhase}
 use Rattle.rx_reader.specs.declared.phases.RunPhase.TheVariants as run
 use Rattle.rx_reader.specs.declared.phases.RunMove.{RunMove}

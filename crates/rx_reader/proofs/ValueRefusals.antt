@@ -1,9 +1,7 @@
 -- What the grammar calls a value's fault is refused, with its kind.
-use Rattle.rx_terms.proofs.Common.{◌≡◌, ℕ, true, false, cond, [], ◌∷◌, ◌++◌, Option, None, Result, Ok, Err, refl, ap, sym, ◌∙◌, append-nil, append_assoc, subst, ◌&&◌, list_all, ampersand, semicolon, less_than_sign, is_letter, is_letter_or_digit, Chars, not_both_ways}
-use Rattle.rx_grammar.proofs.Common.{Syntax, Html, Xhtml, is_name, is_body, is_begun, stops_at, meaning, is_quote, RunFault, unknown, bad, no_reference, ValueFault}
+use Rattle.rx_grammar.proofs.Common.{◌≡◌, ℕ, true, false, cond, [], ◌∷◌, ◌++◌, Option, None, Result, Ok, Err, refl, ap, sym, ◌∙◌, append-nil, append_assoc, subst, ◌&&◌, list_all, ampersand, semicolon, less_than_sign, is_letter, is_letter_or_digit, Chars, not_both_ways, Syntax, Html, Xhtml, is_name, is_body, is_begun, stops_at, meaning, is_quote, RunFault, unknown, bad, no_reference, ValueFault, in_run, less_than}
 use Rattle.rx_grammar.specs.declared.faults.Kind.{Kind}
 use Rattle.rx_grammar.specs.declared.faults.Kind.TheVariants.{StrictText, UnknownReference, BadReference}
-use Rattle.rx_grammar.specs.TagFaults.{in_run, less_than}
 use Rattle.rx_reader.specs.declared.phases.RunPhase.{RunPhase}
 use Rattle.rx_reader.specs.declared.phases.RunPhase.TheVariants as run
 use Rattle.rx_reader.specs.declared.phases.RunMove.{RunMove}

@@ -1,8 +1,6 @@
 -- A tag as it is written, read one character at a time: between the grammar's shapes, the table's phases and the reader.
-use Rattle.rx_terms.proofs.Common.{◌≡◌, ℕ, true, false, List, [], ◌∷◌, ◌++◌, Option, Some, None, Result, Ok, Err, refl, ap, sym, ◌∙◌, append_assoc, append-nil, subst, list_all, map-append, is_white_space, solidus, greater_than_sign, Chars, both}
-use Rattle.rx_grammar.proofs.Common.{Syntax, Html, Xhtml, Denotes, Attribute, Tag, ends_name, begins, begins_tag, is_tag_char, Shape, a_start, an_end, cased_char, cased}
+use Rattle.rx_grammar.proofs.Common.{◌≡◌, ℕ, true, false, List, [], ◌∷◌, ◌++◌, Option, Some, None, Result, Ok, Err, refl, ap, sym, ◌∙◌, append_assoc, append-nil, subst, list_all, map-append, is_white_space, solidus, greater_than_sign, Chars, both, Syntax, Html, Xhtml, Denotes, Attribute, Tag, ends_name, begins, begins_tag, is_tag_char, Shape, a_start, an_end, cased_char, cased, AreRead}
 use Rattle.rx_grammar.specs.declared.faults.Kind.{Kind}
-use Rattle.rx_grammar.specs.Tags.{AreRead}
 use Rattle.rx_reader.specs.declared.phases.TagPhase.{TagPhase}
 use Rattle.rx_reader.specs.declared.phases.TagPhase.TheVariants as phase
 use Rattle.rx_reader.specs.declared.phases.TagAction.TheVariants as action

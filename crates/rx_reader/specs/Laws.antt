@@ -1,10 +1,6 @@
 -- The reader reads exactly what the grammar spells.
 use Rattle.std.specs.Prelude.{◌≡◌, ◌↔◌, ℕ, true, false, [], ◌∷◌, ◌++◌, Option, None, Ok, Err}
-use Rattle.rx_terms.specs.Text.{Chars}
-use Rattle.rx_chars.specs.declared.syntax.Syntax.{Syntax}
-use Rattle.rx_grammar.specs.References.{Denotes, meaning}
-use Rattle.rx_grammar.specs.Tokens.{Tag}
-use Rattle.rx_grammar.specs.Tags.{SpellsTag}
+use Rattle.rx_grammar.specs.Common.{Chars, Syntax, Denotes, meaning, Tag, SpellsTag}
 use Rattle.rx_grammar.specs.TagFaults.{BeginsShape, BeginsNoShape, BeginsTag, TagFault}
 use Rattle.rx_grammar.specs.declared.faults.Kind.{Kind}
 use Rattle.rx_reader.specs.declared.phases.TagPhase.{TagPhase}

@@ -1,9 +1,6 @@
 -- What each character does in a tag, and in a run that may become a reference.
 use Rattle.std.specs.Prelude.{ℕ, Bool, true, false, ◌==◌, Option, Some, None, if◌then◌else◌}
-use Rattle.rx_terms.specs.Ascii.{quotation_mark, number_sign, apostrophe, solidus, semicolon, equals_sign, greater_than_sign, is_letter, is_digit, is_letter_or_digit, is_white_space}
-use Rattle.rx_chars.specs.declared.syntax.Syntax.{Syntax}
-use Rattle.rx_chars.specs.declared.syntax.Syntax.TheVariants.{Html, Xhtml}
-use Rattle.rx_grammar.specs.References.{is_hexadecimal_digit, is_x}
+use Rattle.rx_grammar.specs.Common.{quotation_mark, number_sign, apostrophe, solidus, semicolon, equals_sign, greater_than_sign, is_letter, is_digit, is_letter_or_digit, is_white_space, Syntax, Html, Xhtml, is_hexadecimal_digit, is_x}
 use Rattle.rx_grammar.specs.Shapes.{begins_tag, is_tag_char, begins_attribute, continues_attribute}
 use Rattle.rx_reader.specs.declared.phases.TagPhase.{TagPhase}
 use Rattle.rx_reader.specs.declared.phases.TagPhase.TheVariants as phase

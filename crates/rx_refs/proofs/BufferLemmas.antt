@@ -1,9 +1,7 @@
 -- The buffer of a path that grows, from its bytes.
-use Rattle.rx_terms.proofs.Common.{◌≡◌, ◌≢◌, ◌∙◌, ℕ, ◌+◌, Bool, true, false, List, [], ◌∷◌, ◌++◌, Result, Ok, Err, length, take, drop, sym, ap, refl, arith, length-append, chars, IsUtf8, IsCharBoundary, list_all, bytes_decides, take-append-drop, take_all, chars-nil, encodes-chars, chars-append, IsUtf8-append, IsUtf8-take, Chars, is_ascii, ascii-same, ascii-chars, by_test}
-use Rattle.std.specs.Prelude.{OnOk, codes}
-use Rattle.std.specs.Str.{encode_utf8_all}
-use Rattle.std.proofs.lemmas.List.{append_assoc, drop_all, take-append-le, drop-append-le, take-take, drop-take}
-use Rattle.std.proofs.lemmas.Str.{IsUtf8-drop, IsCharBoundary-from_drop}
+use Rattle.rx_terms.proofs.Common.{◌≡◌, ◌≢◌, ◌∙◌, ℕ, ◌+◌, Bool, true, false, List, [], ◌∷◌, ◌++◌, Result, Ok, Err, length, take, drop, sym, ap, refl, arith, length-append, list_all, bytes_decides, chars-nil, encodes-chars, chars-append, IsUtf8-append, IsUtf8-take, IsUtf8-drop, IsCharBoundary-from_drop, Chars, is_ascii, ascii-same, ascii-chars, by_test, OnOk, codes}
+use Rattle.std.specs.Str.{chars, IsUtf8, IsCharBoundary, encode_utf8_all}
+use Rattle.std.proofs.lemmas.List.{take-append-drop, take_all, append_assoc, drop_all, take-append-le, drop-append-le, take-take, drop-take}
 use Rattle.rx_refs.specs.Dots.{is}
 use Rattle.rx_refs.specs.Segments.{Grown, slashed, pushed, cut_back, after_segment, after_last}
 

@@ -1,11 +1,7 @@
 -- Plain references, from the bytes that the code looks at.
-use Rattle.rx_terms.proofs.Common.{◌≡◌, ◌∙◌, ℕ, zero, suc, ◌+◌, ◌<◌, ◌≤◌, ◌/◌, Bool, true, false, List, [], ◌∷◌, ◌++◌, length, take, drop, get_or, sym, ap, subst, refl, arith, Option, Some, None, length-append, if◌then◌else◌, IfSome, list_all, chars, IsUtf8, IsCharBoundary, and_parts, and_from, or_parts, nat_tests, take-append-drop, length-take, list_all-append, chars-nil, encodes-chars, chars-append, chars_past_char, encode_ascii, IsUtf8-past_char, is_ascii, Chars, begins_with, is_forbidden, has_forbidden, IsIri, is_scheme, by_test, untrue, ascii-chars, ascii-utf8, and-false}
-use Rattle.std.proofs.Common.{not, ◌==◌, ◌||◌, ◌&&◌}
-use Rattle.std.specs.Prelude.{codes, nat_lt, encode_utf8}
-use Rattle.std.specs.Str.{encode_utf8_all}
-use Rattle.std.proofs.lemmas.List.{append_assoc, append-nil}
-use Rattle.std.proofs.lemmas.Str.{IsCharBoundary-from_drop}
-use Rattle.std.proofs.Math.Seq.{take-append_seam, drop-append_seam}
+use Rattle.rx_terms.proofs.Common.{◌≡◌, ◌∙◌, ℕ, zero, suc, ◌+◌, ◌<◌, ◌≤◌, ◌/◌, Bool, true, false, List, [], ◌∷◌, ◌++◌, length, take, drop, get_or, sym, ap, subst, refl, arith, Option, Some, None, length-append, not, ◌==◌, ◌||◌, ◌&&◌, if◌then◌else◌, IfSome, codes, nat_lt, encode_utf8, list_all, and_parts, and_from, or_parts, nat_tests, list_all-append, chars-nil, encodes-chars, chars-append, chars_past_char, encode_ascii, IsUtf8-past_char, IsCharBoundary-from_drop, is_ascii, Chars, begins_with, is_forbidden, has_forbidden, IsIri, is_scheme, by_test, untrue, ascii-chars, ascii-utf8, and-false, take-append_seam, drop-append_seam}
+use Rattle.std.specs.Str.{chars, IsUtf8, IsCharBoundary, encode_utf8_all}
+use Rattle.std.proofs.lemmas.List.{take-append-drop, length-take, append_assoc, append-nil}
 use lib.Utf8.{encode, next}
 use Rattle.rx_refs.specs.Parts.{before, hierarchical_part}
 use Rattle.rx_refs.specs.Dots.{holds}

@@ -1,7 +1,6 @@
 -- References that begin with `../`: they take segments off the base's path, and nothing else is worked out.
-use Rattle.rx_terms.proofs.Common.{◌≡◌, ◌∙◌, ℕ, zero, suc, ◌≤◌, Bool, true, false, [], ◌∷◌, ◌++◌, length, sym, ap, refl, arith, Option, Some, None, is_some, and_parts, and_from, or_parts, append_cancel_left, Chars, is_empty, is_scheme, has_scheme, is_forbidden, has_forbidden, IsIri, by_test}
-use Rattle.std.proofs.Common.{not, ◌==◌, ◌||◌, ◌&&◌}
-use Rattle.std.proofs.lemmas.List.{append_assoc, append-nil}
+use Rattle.rx_terms.proofs.Common.{◌≡◌, ◌∙◌, ℕ, zero, suc, ◌≤◌, Bool, true, false, [], ◌∷◌, ◌++◌, length, sym, ap, refl, arith, Option, Some, None, not, ◌==◌, ◌||◌, ◌&&◌, is_some, and_parts, and_from, or_parts, Chars, is_empty, is_scheme, has_scheme, is_forbidden, has_forbidden, IsIri, by_test}
+use Rattle.std.proofs.lemmas.List.{append_cancel_left, append_assoc, append-nil}
 use Rattle.rx_refs.specs.Parts.{before, from_first, behind_scheme, hierarchical_part, authority_of, path_of, components_of, delimited, recomposed}
 use Rattle.rx_refs.specs.Dots.{holds, step, without_dots, without_last_segment}
 use Rattle.rx_refs.specs.Segments.{reduced}

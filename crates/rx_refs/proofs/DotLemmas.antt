@@ -1,8 +1,6 @@
 -- The loop of 5.2.4, segment by segment.
-use Rattle.rx_terms.proofs.Common.{◌≡◌, ◌∙◌, ℕ, zero, suc, ◌≤◌, Bool, true, false, [], ◌∷◌, ◌++◌, length, drop, sym, ap, refl, arith, if◌then◌else◌, bytes_decides, nat_tests, length-drop, Chars, begins_with, by_test, and-false}
-use Rattle.std.proofs.Common.{◌==◌, ◌||◌}
-use Rattle.std.specs.Prelude.{codes}
-use Rattle.std.proofs.lemmas.List.{append-nil, append_assoc}
+use Rattle.rx_terms.proofs.Common.{◌≡◌, ◌∙◌, ℕ, zero, suc, ◌≤◌, Bool, true, false, [], ◌∷◌, ◌++◌, length, drop, sym, ap, refl, arith, ◌==◌, ◌||◌, if◌then◌else◌, codes, bytes_decides, nat_tests, Chars, begins_with, by_test, and-false}
+use Rattle.std.proofs.lemmas.List.{length-drop, append-nil, append_assoc}
 use Rattle.rx_refs.specs.Parts.{from_first}
 use Rattle.rx_refs.specs.Dots.{Buffers, is, holds, without_last_segment, step, after_steps, without_dots}
 use Rattle.rx_refs.specs.Segments.{Grown, slashed, buffers_at, reduced, pushed, cut_back, after_segment, after_last, Takes}

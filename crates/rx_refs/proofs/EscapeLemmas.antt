@@ -1,9 +1,6 @@
 -- The bytes of an escape, and the loop that writes them.
-use Rattle.rx_terms.proofs.Common.{◌≡◌, ◌∙◌, ℕ, zero, suc, ◌+◌, ◌<◌, ◌/◌, ◌%◌, Bool, true, false, List, [], ◌∷◌, ◌++◌, length, length-append, take, get_or, sym, ap, subst, refl, arith, if◌then◌else◌, list_all, chars, IsUtf8, IsCharBoundary, all_scalars, and_parts, and_from, chars-append, chars-encodes, chars_past_char, scalars-chars, encode_ascii, is_ascii, Chars, is_forbidden, ascii-chars}
-use Rattle.std.specs.Prelude.{codes, encode_utf8}
+use Rattle.rx_terms.proofs.Common.{◌≡◌, ◌∙◌, ℕ, zero, suc, ◌+◌, ◌<◌, ◌/◌, ◌%◌, Bool, true, false, List, [], ◌∷◌, ◌++◌, length, length-append, take, get_or, sym, ap, subst, refl, arith, if◌then◌else◌, codes, encode_utf8, list_all, chars, IsUtf8, IsCharBoundary, all_scalars, and_parts, and_from, chars-append, chars-encodes, chars_past_char, scalars-chars, encode_ascii, IsCharBoundary-from_take, is_ascii, Chars, is_forbidden, ascii-chars, take-append_seam}
 use Rattle.std.proofs.lemmas.List.{append_assoc, append-nil}
-use Rattle.std.proofs.lemmas.Str.{IsCharBoundary-from_take}
-use Rattle.std.proofs.Math.Seq.{take-append_seam}
 use borrow.Author.Tests.{ltb-true}
 use Rattle.rx_refs.specs.Resolve.{digit, escaped, cleaned}
 use Rattle.rx_refs.specs.Views.{Keeps}

@@ -1,7 +1,5 @@
 -- Where a text is cut at its first `mark`.
-use Rattle.rx_terms.proofs.Common.{◌≡◌, ◌∙◌, ℕ, true, false, [], ◌∷◌, ◌++◌, ap, refl, arith, Option, Some, None, nat_tests, by_test, Chars}
-use Rattle.std.proofs.Common.{◌==◌}
-use Rattle.rx_terms.specs.Text.{split_at, front_grows}
+use Rattle.rx_terms.proofs.Common.{◌≡◌, ◌∙◌, ℕ, true, false, [], ◌∷◌, ◌++◌, ap, refl, arith, Option, Some, None, ◌==◌, nat_tests, by_test, Chars, split_at, front_grows}
 use Rattle.rx_refs.specs.Parts.{before, from_first, behind}
 use Rattle.rx_refs.specs.Dots.{holds}
 use Rattle.rx_words.proofs.EndLemmas.{same_char}

@@ -1,10 +1,6 @@
 -- What a plain reference means.
-use Rattle.rx_terms.proofs.Common.{◌≡◌, ◌∙◌, ℕ, zero, suc, ◌≤◌, Bool, true, false, [], ◌∷◌, ◌++◌, drop, length, reverse, sym, ap, refl, arith, Option, Some, None, if◌then◌else◌, is_some, list_all, and_parts, and_from, or_parts, nat_tests, reverse-append, reverse-reverse, list_any-append, option_or, is_white_space, Chars, begins_with, is_empty, trimmed, is_scheme_char, is_scheme, has_scheme, is_forbidden, has_forbidden, IsIri, by_test, untrue}
-use Rattle.std.proofs.Common.{not, ◌==◌, ◌||◌, ◌&&◌}
-use Rattle.std.specs.Prelude.{codes}
-use Rattle.std.proofs.lemmas.List.{append_assoc, append-nil}
-use Rattle.rx_terms.specs.Text.{without_leading_space}
-use Rattle.rx_terms.specs.Iri.{begins_with_letter}
+use Rattle.rx_terms.proofs.Common.{◌≡◌, ◌∙◌, ℕ, zero, suc, ◌≤◌, Bool, true, false, [], ◌∷◌, ◌++◌, drop, length, reverse, sym, ap, refl, arith, Option, Some, None, not, ◌==◌, ◌||◌, ◌&&◌, if◌then◌else◌, is_some, codes, list_all, and_parts, and_from, or_parts, nat_tests, list_any-append, option_or, is_white_space, Chars, begins_with, is_empty, trimmed, without_leading_space, is_scheme_char, is_scheme, has_scheme, is_forbidden, has_forbidden, IsIri, begins_with_letter, by_test, untrue}
+use Rattle.std.proofs.lemmas.List.{reverse-append, reverse-reverse, append_assoc, append-nil}
 use Rattle.rx_refs.specs.Parts.{Components, before, from_first, behind, scheme_of, behind_scheme, hierarchical_part, authority_of, path_of, query_of, components_of, delimited, recomposed}
 use Rattle.rx_refs.specs.Dots.{holds, step, without_dots}
 use Rattle.rx_refs.specs.Segments.{reduced}

@@ -1,7 +1,5 @@
 -- The loop of 5.2.4 and its rules.
-use Rattle.rx_terms.proofs.Common.{◌≡◌, ◌∙◌, ℕ, zero, suc, ◌<◌, ◌≤◌, Bool, true, false, [], ◌∷◌, ◌++◌, length, sym, ap, subst, refl, arith, length-append, Chars, begins_with, by_test}
-use Rattle.std.proofs.Common.{◌||◌}
-use Rattle.std.specs.Prelude.{codes}
+use Rattle.rx_terms.proofs.Common.{◌≡◌, ◌∙◌, ℕ, zero, suc, ◌<◌, ◌≤◌, Bool, true, false, [], ◌∷◌, ◌++◌, length, sym, ap, subst, refl, arith, length-append, ◌||◌, Chars, begins_with, by_test, codes}
 use Rattle.rx_refs.specs.Dots.{is, first_segment, behind_first_segment, without_last_segment, step, without_dots}
 use Rattle.rx_refs.specs.Rules.{IsOther, EndsWith, DotsByRules}
 use Rattle.rx_refs.specs.Rules.EndsWith.{at_end, a_parent, a_here, b_inside, b_last, c_inside, c_last, d_here, d_parent, e_other}

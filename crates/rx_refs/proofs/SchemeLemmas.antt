@@ -1,9 +1,6 @@
 -- Schemes, and what of them is left in what a reference means.
-use Rattle.rx_terms.proofs.Common.{◌≡◌, ◌∙◌, ℕ, zero, suc, ◌<◌, ◌/◌, ◌%◌, length, get_or, Bool, true, false, List, [], ◌∷◌, ◌++◌, drop, sym, ap, refl, arith, Option, Some, None, list_all, list_any, and_parts, nat_tests, list_any-append, Chars, is_scheme_char, is_scheme, has_scheme, is_forbidden, has_forbidden, IsIri, by_test}
-use Rattle.std.proofs.Common.{◌==◌}
-use Rattle.std.specs.Prelude.{codes}
+use Rattle.rx_terms.proofs.Common.{◌≡◌, ◌∙◌, ℕ, zero, suc, ◌<◌, ◌/◌, ◌%◌, length, get_or, Bool, true, false, List, [], ◌∷◌, ◌++◌, drop, sym, ap, refl, arith, Option, Some, None, ◌==◌, list_all, list_any, and_parts, nat_tests, list_any-append, Chars, is_scheme_char, is_scheme, has_scheme, is_forbidden, has_forbidden, IsIri, begins_with_letter, begins_with_scheme, by_test, codes}
 use Rattle.std.proofs.lemmas.List.{append_assoc}
-use Rattle.rx_terms.specs.Iri.{begins_with_letter, begins_with_scheme}
 use Rattle.rx_refs.specs.Resolve.{digit, escaped, cleaned_char, cleaned}
 use Rattle.rx_refs.specs.Parts.{before, behind, scheme_of, behind_scheme}
 use Rattle.rx_refs.specs.Dots.{holds}

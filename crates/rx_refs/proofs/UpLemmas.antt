@@ -1,8 +1,6 @@
 -- `../` at the front, from the bytes that the code looks at.
-use Rattle.rx_terms.proofs.Common.{◌≡◌, ◌∙◌, ℕ, zero, suc, ◌+◌, ◌-◌, ◌*◌, ◌<◌, ◌≤◌, true, false, List, [], ◌∷◌, ◌++◌, length, take, drop, Option, Some, sym, ap, subst, refl, arith, length-append, if◌then◌else◌, IfSome, list_all, and_parts, and_from, length-take, length-drop, chars, IsUtf8, IsCharBoundary, encodes-chars, list_all-append, is_ascii, Chars, IsIri, by_test}
-use Rattle.std.proofs.Common.{◌==◌, ◌&&◌}
-use Rattle.std.proofs.lemmas.List.{append_assoc, append-nil, take-take, drop-drop}
-use Rattle.std.proofs.Math.Seq.{take-append_seam, drop-append_seam}
+use Rattle.rx_terms.proofs.Common.{◌≡◌, ◌∙◌, ℕ, zero, suc, ◌+◌, ◌-◌, ◌*◌, ◌<◌, ◌≤◌, true, false, List, [], ◌∷◌, ◌++◌, length, take, drop, Option, Some, sym, ap, subst, refl, arith, length-append, ◌==◌, ◌&&◌, if◌then◌else◌, IfSome, list_all, and_parts, and_from, chars, IsUtf8, IsCharBoundary, encodes-chars, list_all-append, is_ascii, Chars, IsIri, by_test, take-append_seam, drop-append_seam}
+use Rattle.std.proofs.lemmas.List.{length-take, length-drop, append_assoc, append-nil, take-take, drop-drop}
 use Rattle.rx_refs.specs.Parts.{hierarchical_part}
 use Rattle.rx_refs.specs.Resolve.{through_last_slash, resolved}
 use Rattle.rx_refs.specs.Dots.{holds, without_last_segment}

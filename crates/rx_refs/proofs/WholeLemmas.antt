@@ -1,6 +1,5 @@
 -- The components joined again, and the target of a reference.
-use Rattle.rx_terms.proofs.Common.{◌≡◌, ◌∙◌, ℕ, true, false, [], ◌∷◌, ◌++◌, drop, sym, ap, subst, refl, Option, Some, None, is_some, option_or, Chars, begins_with, is_empty, trimmed, is_scheme, has_scheme, has_forbidden, by_test}
-use Rattle.std.specs.Prelude.{codes}
+use Rattle.rx_terms.proofs.Common.{◌≡◌, ◌∙◌, ℕ, true, false, [], ◌∷◌, ◌++◌, drop, sym, ap, subst, refl, Option, Some, None, is_some, codes, option_or, Chars, begins_with, is_empty, trimmed, is_scheme, has_scheme, has_forbidden, by_test}
 use Rattle.std.proofs.lemmas.List.{append_assoc, append-nil}
 use Rattle.rx_refs.specs.Parts.{Components, before, behind, scheme_of, behind_scheme, authority_of, path_of, components_of, delimited, recomposed}
 use Rattle.rx_refs.specs.Dots.{holds, without_dots}

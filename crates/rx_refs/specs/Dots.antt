@@ -1,8 +1,6 @@
 -- The dot segments of a path: RFC 3986, section 5.2.4, on the pair of its input buffer and its output buffer.
 use Rattle.std.specs.Prelude.{◌≡◌, ℕ, zero, suc, Bool, false, ◌||◌, ◌==◌, [], ◌∷◌, ◌++◌, drop, length, codes, bytes_eq, if◌then◌else◌}
-use Rattle.std.specs.List.{list_any}
-use Rattle.rx_terms.specs.Ascii.{solidus}
-use Rattle.rx_terms.specs.Text.{Chars, begins_with}
+use Rattle.rx_terms.specs.Common.{list_any, solidus, Chars, begins_with}
 use Rattle.rx_refs.specs.Parts.{before, from_first}
 
 pub record Buffers : Type 0 where

@@ -1,8 +1,6 @@
 -- Laws of the definitions.
 use Rattle.std.specs.Prelude.{◌≡◌, Bool, true, false, bytes_eq}
-use Rattle.std.specs.List.{list_all}
-use Rattle.rx_terms.specs.Text.{Chars, trimmed}
-use Rattle.rx_terms.specs.Iri.{has_scheme, has_forbidden, IsIri}
+use Rattle.rx_terms.specs.Common.{list_all, Chars, trimmed, has_scheme, has_forbidden, IsIri}
 use Rattle.rx_refs.specs.Parts.{components_of, recomposed}
 use Rattle.rx_refs.specs.Resolve.{resolved}
 use Rattle.rx_refs.specs.Rows.{base, normal, abnormal, own, elsewhere}

@@ -1,8 +1,6 @@
 -- A URI reference and its five components: RFC 3986, section 3, Appendix B and section 5.3.
 use Rattle.std.specs.Prelude.{ℕ, ◌==◌, [], ◌∷◌, ◌++◌, drop, codes, Option, Some, None, if◌then◌else◌}
-use Rattle.rx_terms.specs.Ascii.{colon, solidus, question_mark, number_sign}
-use Rattle.rx_terms.specs.Text.{Chars, begins_with}
-use Rattle.rx_terms.specs.Iri.{has_scheme}
+use Rattle.rx_terms.specs.Common.{colon, solidus, question_mark, number_sign, Chars, begins_with, has_scheme}
 
 pub record Components : Type 0 where
   pub scheme : Option Chars

@@ -1,10 +1,7 @@
 -- References that only take the place of the base's end: nothing in them is worked out.
 use Rattle.std.specs.Prelude.{◌≡◌, ℕ, zero, suc, ◌+◌, Bool, true, false, not, ◌||◌, ◌&&◌, ◌==◌, nat_lt, List, [], ◌∷◌, ◌++◌, length, codes, Option, Some, None, if◌then◌else◌, IfSome, drop, ◌≤◌}
-use Rattle.std.specs.List.{list_all}
-use Rattle.rx_terms.specs.Ascii.{colon, solidus, question_mark, number_sign, full_stop}
-use Rattle.rx_terms.specs.Text.{Chars, begins_with}
+use Rattle.rx_terms.specs.Common.{list_all, colon, solidus, question_mark, number_sign, full_stop, Chars, begins_with, is_forbidden, has_forbidden, is_scheme}
 use Rattle.rx_refs.specs.Dots.{without_last_segment}
-use Rattle.rx_terms.specs.Iri.{is_forbidden, has_forbidden, is_scheme}
 use Rattle.rx_refs.specs.declared.plain.Split.{Split}
 
 -- no segment begins with `.`, where `start` says whether one begins here

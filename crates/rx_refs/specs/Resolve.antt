@@ -1,10 +1,6 @@
 -- Resolution of references: RFC 3986, sections 5.2.2 to 5.3, and the rules that are our own.
 use Rattle.std.specs.Prelude.{ℕ, ◌/◌, ◌%◌, ◌&&◌, [], ◌∷◌, ◌++◌, codes, slice_index, is_some, if◌then◌else◌}
-use Rattle.std.specs.List.{flat_map}
-use Rattle.std.specs.Option.{option_or}
-use Rattle.rx_terms.specs.Ascii.{solidus, number_sign, percent_sign}
-use Rattle.rx_terms.specs.Text.{Chars, begins_with, is_empty, trimmed}
-use Rattle.rx_terms.specs.Iri.{is_forbidden}
+use Rattle.rx_terms.specs.Common.{flat_map, option_or, solidus, number_sign, percent_sign, Chars, begins_with, is_empty, trimmed, is_forbidden}
 use Rattle.rx_refs.specs.Parts.{Components, components_of, recomposed, before}
 use Rattle.rx_refs.specs.Dots.{holds, without_dots}
 

@@ -1,7 +1,6 @@
 -- The path that grows segment by segment in the code, against the buffers of `Dots`.
 use Rattle.std.specs.Prelude.{◌≡◌, Bool, ◌∷◌, ◌++◌, length, if◌then◌else◌, codes, true}
-use Rattle.rx_terms.specs.Ascii.{solidus}
-use Rattle.rx_terms.specs.Text.{Chars}
+use Rattle.rx_terms.specs.Common.{solidus, Chars}
 use Rattle.rx_refs.specs.Dots.{Buffers, after_steps, without_last_segment, is}
 
 pub record Grown : Type 0 where

@@ -1,7 +1,6 @@
 -- What the code's values stand for.
 use Rattle.std.specs.Prelude.{◌≡◌, ◌++◌, List, ℕ, String, string_bytes}
-use Rattle.std.specs.Str.{chars}
-use Rattle.rx_terms.specs.Text.{Chars, seen_slice}
+use Rattle.rx_terms.specs.Common.{chars, Chars, seen_slice}
 use Rattle.rx_refs.specs.Parts.{Components}
 use Rattle.rx_refs.specs.Dots.{without_dots}
 use Rattle.rx_refs.specs.Resolve.{through_last_slash}

@@ -1,7 +1,6 @@
 //! A base against which many references are resolved.
 ghost use Rattle.std.specs.Prelude.{◌≡◌, IfOk};
-ghost use Rattle.std.specs.Str.{chars};
-ghost use Rattle.rx_terms.specs.Iri.{IsIri};
+ghost use Rattle.rx_terms.specs.Common.{chars, IsIri};
 ghost use Rattle.rx_refs.specs.Resolve.{resolved};
 
 use crate::plain::{Split, split_of};

@@ -1,7 +1,6 @@
 //! Paths without their dot segments (RFC 3986, section 5.2.4), written at the end of one buffer.
 ghost use Rattle.std.specs.Prelude.{◌≡◌, [], ◌++◌, IfOk, OnOk, false, string_bytes};
-ghost use Rattle.std.specs.Str.{chars};
-ghost use Rattle.rx_terms.specs.Ascii.{solidus};
+ghost use Rattle.rx_terms.specs.Common.{chars, solidus};
 ghost use Rattle.rx_refs.specs.Dots.{holds, without_dots, without_last_segment};
 ghost use Rattle.rx_refs.specs.Resolve.{behind_base, through_last_slash};
 ghost use Rattle.rx_refs.specs.Segments.{Takes, pushed, cut_back, after_segment, after_last};

@@ -1,7 +1,6 @@
 //! Escapes for the characters that no IRI may have.
 ghost use Rattle.std.specs.Prelude.{◌≡◌, ◌++◌, IfOk, OnOk, OnErr, true, string_bytes};
-ghost use Rattle.std.specs.Str.{chars};
-ghost use Rattle.rx_terms.specs.Iri.{is_forbidden, has_forbidden};
+ghost use Rattle.rx_terms.specs.Common.{chars, is_forbidden, has_forbidden};
 ghost use Rattle.rx_refs.specs.Resolve.{cleaned, escaped};
 ghost use Rattle.rx_refs.specs.Views.{Keeps};
 

@@ -1,8 +1,7 @@
 //! The components of a reference.
 ghost use Rattle.std.specs.Prelude.{◌≡◌};
-ghost use Rattle.std.specs.Str.{chars};
+ghost use Rattle.rx_terms.specs.Common.{chars, seen_slice};
 ghost use Rattle.rx_refs.specs.Parts.{components_of, scheme_of, behind_scheme, authority_of, path_of};
-ghost use Rattle.rx_terms.specs.Text.{seen_slice};
 ghost use Rattle.rx_refs.specs.Views.{seen};
 
 use crate::slices::{behind_slashes, cut, cut_at_slash, split_once};

@@ -1,9 +1,6 @@
 //! References that only take the place of the base's end, so that nothing in them is worked out.
 ghost use Rattle.std.specs.Prelude.{◌≡◌, ◌≤◌, ◌*◌, ◌&&◌, not, ◌++◌, codes, true, false, length, take, drop, IfSome};
-ghost use Rattle.std.specs.List.{list_all};
-ghost use Rattle.rx_terms.specs.Iri.{is_forbidden, has_forbidden, IsIri, is_scheme_char, begins_with_letter, is_scheme};
-ghost use Rattle.std.specs.Str.{chars, IsCharBoundary};
-ghost use Rattle.rx_terms.specs.Text.{Chars, begins_with};
+ghost use Rattle.rx_terms.specs.Common.{list_all, is_forbidden, has_forbidden, IsIri, is_scheme_char, begins_with_letter, is_scheme, chars, IsCharBoundary, Chars, begins_with};
 ghost use Rattle.rx_refs.specs.Resolve.{resolved};
 ghost use Rattle.rx_refs.specs.Plain.{is_plain, begins_climb, ups, count_of, last_from, is_plain_from, keeps_all, fragment_from, begins_query, path_end_from, IsWhole, is_scheme_byte, is_site_byte, IsSchemeEnd, IsSite, IsSplit, folder_from, is_one_slash, begins_path};
 

@@ -1,8 +1,7 @@
 //! The components of a target joined again (RFC 3986, section 5.3).
 ghost use Rattle.std.specs.Prelude.{◌≡◌, ◌++◌, IfOk, OnOk, codes, string_bytes};
-ghost use Rattle.std.specs.Str.{chars};
+ghost use Rattle.rx_terms.specs.Common.{chars, seen_slice};
 ghost use Rattle.rx_refs.specs.Parts.{recomposed, delimited, behind_delimiter};
-ghost use Rattle.rx_terms.specs.Text.{seen_slice};
 ghost use Rattle.rx_refs.specs.Views.{seen_path, seen_target, Grows};
 
 use crate::dots::{push_merged_path, push_path};

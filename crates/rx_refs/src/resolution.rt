@@ -1,9 +1,8 @@
 //! What a reference means against a base.
 ghost use Rattle.std.specs.Prelude.{◌≡◌, ◌++◌, IfOk, IfSome, take, drop, string_bytes, encode_utf8_all};
-ghost use Rattle.std.specs.Str.{chars, IsCharBoundary};
+ghost use Rattle.rx_terms.specs.Common.{chars, IsCharBoundary, IsIri};
 ghost use Rattle.rx_refs.specs.Resolve.{resolved, without_fragment};
 ghost use Rattle.rx_refs.specs.Plain.{IsSplit};
-ghost use Rattle.rx_terms.specs.Iri.{IsIri};
 
 use crate::escapes::clean_string;
 use crate::parts::split;

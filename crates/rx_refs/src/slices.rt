@@ -1,8 +1,6 @@
 //! Slices of a text, cut at characters of ASCII.
 ghost use Rattle.std.specs.Prelude.{◌≡◌, ◌<◌, ◌++◌, false, MatchOption, take, codes};
-ghost use Rattle.std.specs.Str.{chars, IsCharBoundary};
-ghost use Rattle.rx_terms.specs.Ascii.{solidus};
-ghost use Rattle.rx_terms.specs.Text.{begins_with, seen_slice};
+ghost use Rattle.rx_terms.specs.Common.{chars, IsCharBoundary, solidus, begins_with, seen_slice};
 ghost use Rattle.rx_refs.specs.Parts.{before, behind, from_first};
 ghost use Rattle.rx_refs.specs.Dots.{CutsAt, holds, without_last_segment};
 

@@ -1,7 +1,6 @@
 //! What a reference leads to, before its path is worked out (RFC 3986, section 5.2.2).
 ghost use Rattle.std.specs.Prelude.{◌≡◌, ◌&&◌, is_some};
-ghost use Rattle.std.specs.Str.{chars};
-ghost use Rattle.rx_terms.specs.Text.{is_empty};
+ghost use Rattle.rx_terms.specs.Common.{chars, is_empty};
 ghost use Rattle.rx_refs.specs.Resolve.{target, relative_path};
 ghost use Rattle.rx_refs.specs.Views.{seen, seen_target, seen_path};
 

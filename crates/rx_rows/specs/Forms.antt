@@ -1,8 +1,6 @@
 -- Texts that have the form of a time, each with its datatype, and texts that have none.
 use Rattle.std.specs.Prelude.{◌≡◌, Bool, true, false, List, [], ◌∷◌, Option, Some, None, is_none, bytes_eq, codes}
-use Rattle.std.specs.List.{list_all}
-use Prim.Native.String.{String}
-use Rattle.rx_terms.specs.Text.{Chars}
+use Rattle.rx_terms.specs.Common.{list_all, String, Chars}
 use Rattle.rx_rdfa.specs.Times.{time_kind}
 
 abbrev pub is_named : Option Chars → Chars → Bool

@@ -1,7 +1,6 @@
 -- Links: rel and rev, resources, elements that are skipped.
 use Rattle.std.specs.Prelude.{[], ◌∷◌, codes}
-use Rattle.rx_rdfa.specs.Iris.{uses_vocabulary}
-use Rattle.rx_model.specs.Vocabulary.{rdf_type}
+use Rattle.rx_rdfa.specs.Common.{uses_vocabulary, rdf_type}
 use Rattle.rx_rows.specs.Pages.{Example, here, body, page, tag, chars, says, v, iri, blank, at, plain, tagged}
 
 abbrev pub product_with_offer : Example

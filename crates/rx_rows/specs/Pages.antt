@@ -1,23 +1,15 @@
 -- How the pages of examples are written, and what is written of them.
 use Rattle.std.specs.Prelude.{◌≡◌, ℕ, List, [], ◌∷◌, ◌++◌, map, codes}
-use Prim.Native.String.{String}
-use Rattle.rx_terms.specs.Text.{Chars}
+use Rattle.rx_rdfa.specs.Common.{String, Chars, Node, Iri, Blank, Term, Resource, Literal, Plain, Tagged, Typed, Triple, spo, rdf_nil, standard, row_of, with_facts, base_of, written}
 use Rattle.rx_refs.specs.Parts.{components_of}
 use Rattle.rx_refs.specs.Dots.{step, without_dots}
 use Rattle.rx_refs.specs.Resolve.{target, resolved}
-use Rattle.rx_model.specs.Terms.{Node, Iri, Blank, Term, Resource, Literal, Plain, Tagged, Typed, Triple}
-use Rattle.rx_model.specs.Copied.{spo}
-use Rattle.rx_model.specs.Vocabulary.{rdf_nil}
-use Rattle.rx_rdfa.specs.Standard.{standard, row_of}
 use Rattle.rx_rdfa.specs.Tree.{Tag, Nodes, end, element, text}
-use Rattle.rx_rdfa.specs.Facts.{with_facts}
-use Rattle.rx_rdfa.specs.Base.{base_of}
 use Rattle.rx_rdfa.specs.Resources.{resources}
 use Rattle.rx_rdfa.specs.Inherited.{below}
 use Rattle.rx_rdfa.specs.Times.{time_kind}
 use Rattle.rx_rdfa.specs.Element.{start_of, end_of}
 use Rattle.rx_rdfa.specs.Lists.{entries_at, cells}
-use Rattle.rx_rdfa.specs.Whole.{written}
 
 -- a piece of a page, to be put in front of what follows it
 abbrev pub Piece : Type 0

@@ -1,7 +1,6 @@
 -- Property copying.
 use Rattle.std.specs.Prelude.{[], ◌∷◌}
-use Rattle.rx_model.specs.Copied.{rdfa_copy}
-use Rattle.rx_model.specs.Vocabulary.{rdf_type}
+use Rattle.rx_model.specs.Common.{rdfa_copy, rdf_type}
 use Rattle.rx_rows.specs.Pages.{Example, here, body, tag, chars, says, v, iri, at, plain}
 
 abbrev pub two_levels : Example

@@ -1,9 +1,6 @@
 -- Start tags that are refused for what they mean, and some that aren't.
 use Rattle.std.specs.Prelude.{◌≡◌, List, [], ◌∷◌, Option, Some, None, map, codes}
-use Prim.Native.String.{String}
-use Rattle.rx_rdfa.specs.Standard.{standard, row_of}
-use Rattle.rx_rdfa.specs.Facts.{facts}
-use Rattle.rx_rdfa.specs.Refusals.{Refusal, RelativeVocab, XmlLiteral, HtmlLiteral, refusal}
+use Rattle.rx_rdfa.specs.Common.{String, standard, row_of, facts, Refusal, RelativeVocab, XmlLiteral, HtmlLiteral, refusal}
 
 -- why a start tag with these attributes is refused, if it is
 unfoldable pub refused : List (String × String) → Option Refusal

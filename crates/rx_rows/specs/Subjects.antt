@@ -1,7 +1,6 @@
 -- Subjects: about, references, the base.
 use Rattle.std.specs.Prelude.{[], ◌∷◌, codes}
-use Rattle.rx_rdfa.specs.Iris.{uses_vocabulary}
-use Rattle.rx_model.specs.Vocabulary.{rdf_type}
+use Rattle.rx_rdfa.specs.Common.{uses_vocabulary, rdf_type}
 use Rattle.rx_rows.specs.Pages.{Example, here, body, page, tag, chars, says, v, iri, blank, at, plain}
 
 abbrev pub one_paragraph : Example

@@ -1,20 +1,8 @@
 -- What is spelled from where nothing is unfinished is scanned so, byte by byte, and what is faulty is refused so.
-use Rattle.rx_terms.proofs.Common.{◌≡◌, ◌≢◌, ◌∙◌, inl, inr, ⊎_elim, ℕ, ◌+◌, ◌-◌, ◌≤◌, ◌<◌, Bool, true, false, List, [], ◌∷◌, ◌++◌, refl, sym, ap, subst, length, append_assoc, append-nil, Ok, arith, Option, Some, None, Result, Err, ◌&&◌, ◌||◌, ◌==◌, nat_le, not, IsScalar, len_utf8, all_scalars, encode, encodes, scalar, length-encode, and_parts, cond-true, cond-false, and_from, ne_eqb, false_from_ne_true, by_test, split, or-false, or-true, and-false, greater_than_sign, Chars}
-use Rattle.std.proofs.Common.{nat_le}
-use Rattle.std.specs.Prelude.{codes}
-use Rattle.std.proofs.lemmas.List.{length-append}
-use Rattle.std.proofs.lemmas.Bool.{and_left}
-use Rattle.rx_grammar.proofs.Common.{Syntax, More, Char, Bad, answer_of, BeginsCharacter, IsCharacter, Entry, byte_order_mark, line_feed, carriage_return, as_line_end, values, Item, is_literal, is_strict_literal, has_no_nul, is_known_tag, Faulty, Html, Xhtml, Token, tag, doctype, begins, begins_tag, Line, Phase, before}
-use Rattle.rx_chars.proofs.Utf8Exact.{answer_is}
-use Rattle.rx_chars.proofs.Utf8Forms.{character_of_form}
-use Rattle.rx_grammar.specs.declared.contents.Content.{Content}
-use Rattle.rx_grammar.specs.declared.limits.Limits.{Limits}
-use Rattle.rx_grammar.specs.PageFaults.{IsPart}
-use Rattle.rx_reader.proofs.Fronts.{two_fronts}
-use Rattle.rx_pages.specs.Scanner.{GoesOn, Verdict, ended, refused, verdict, ReadAs, at_last, at_next}
+use Rattle.rx_pages.proofs.Common.{◌≡◌, ◌≢◌, ◌∙◌, inl, inr, ⊎_elim, ℕ, ◌+◌, ◌-◌, ◌≤◌, ◌<◌, Bool, true, false, List, [], ◌∷◌, ◌++◌, refl, sym, ap, subst, length, append_assoc, append-nil, Ok, arith, Option, Some, None, Result, Err, nat_le, ◌&&◌, ◌||◌, ◌==◌, not, codes, IsScalar, len_utf8, all_scalars, encode, encodes, scalar, length-encode, and_parts, cond-true, cond-false, and_from, ne_eqb, false_from_ne_true, and_left, by_test, split, or-false, or-true, and-false, greater_than_sign, Chars, length-append, Syntax, More, Char, Bad, answer_of, BeginsCharacter, IsCharacter, Entry, byte_order_mark, line_feed, carriage_return, as_line_end, values, Item, is_literal, is_strict_literal, has_no_nul, is_known_tag, Faulty, IsPart, Html, Xhtml, Token, tag, doctype, Line, Phase, before, answer_is, character_of_form, Content, Limits, two_fronts, GoesOn, Verdict, ended, refused, verdict, ReadAs, at_last, at_next, pending_goes, item_content, no_literal, Utf8Step, Fault, Kind, values_append, token_of_item, scan_fault}
+use Rattle.rx_grammar.specs.Shapes.{begins, begins_tag}
 use Rattle.rx_pages.specs.PageReader.{Spot, Scanning, Scanned, first_of, starts_at, token_at, holding, passed, entering, is_too_long, told, read_char, read_answer, read_byte, with_items, scan_on, scan_from, fault_in, item_of, is_doctype, told_first, with_item, after_token, read_entry}
 use Rattle.rx_pages.proofs.Pends.{occurs}
-use Rattle.rx_pages.proofs.FaultsRead.{pending_goes, item_content, no_literal}
 use Rattle.rx_pages.proofs.CharSteps.{passes, entry_at}
 use Rattle.rx_pages.proofs.CharWalk.{first_among, len_positive, no_mark, no_return}
 use Rattle.rx_pages.proofs.FrontRead.{rises, mark_some, line_feed_some, nul_entry}
@@ -23,9 +11,6 @@ use Rattle.rx_pages.proofs.TokensWalk.{Rises, flags_behind, two_lasts}
 use Rattle.rx_scan.specs.Spelled.{entries_at, AllBefore, has_character, ends_in_return, Spells, IsBetween, Left, is_over, Enters, FitsWith, IsNoToken, Refuses, page_too_long, not_utf8, nul, tag_too_long, known_too_long, decided, section_end, late_doctype, FirstFault, ScansWhatIsSpelled, RefusesWhatIsFaulty}
 use Rattle.rx_scan.proofs.SpelledLemmas.{first_known, same_flags, passing_is, none_entered, same_content, scans_so, refuses_so, whole_verdict}
 use Rattle.rx_scan.proofs.AheadLemmas.{Tail, at_end, reads_entry, bound_with, bound_run}
-use Rattle.rx_chars.specs.declared.utf8.Utf8Step.{Utf8Step}
-use Rattle.rx_grammar.specs.declared.faults.Fault.{Fault}
-use Rattle.rx_grammar.specs.declared.faults.Kind.{Kind}
 use Rattle.rx_grammar.specs.declared.faults.Kind.TheVariants as kind
 use Rattle.rx_grammar.specs.Spelling as spelling
 use Rattle.rx_grammar.specs.PageFaults as faults
@@ -35,10 +20,7 @@ use Rattle.rx_pages.proofs.Openings.{refuses_opening}
 use Rattle.rx_pages.proofs.DoctypeFaults.{refuses_doctype}
 use Rattle.rx_pages.proofs.TagRuns.{tag_refused}
 use Rattle.rx_pages.proofs.Spellings.{reads_each}
-use Rattle.rx_pages.proofs.Tokens.{values_append}
 use Rattle.rx_pages.proofs.KnownTags.{known_more}
-use Rattle.rx_pages.proofs.LastToken.{token_of_item}
-use Rattle.rx_pages.proofs.ScanSteps.{scan_fault}
 use Rattle.rx_scan.specs.Spelled as spelled
 use Rattle.rx_pages.proofs.Judged.{strict_keeps}
 use Rattle.rx_scan.proofs.RunLemmas.{on_append}

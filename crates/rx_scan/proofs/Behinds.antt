@@ -1,10 +1,6 @@
 -- Behind `<!` and `<?`, and in a document type, a move says what the verdict is.
-use Rattle.rx_terms.proofs.Common.{◌≡◌, ◌∙◌, ℕ, Bool, true, false, [], ◌∷◌, ◌++◌, refl, ap, sym, subst, append_assoc, append-nil, eqb-true, ◌+◌, arith, Option, Some, None, length, ◌&&◌, ◌||◌, ◌==◌, if◌then◌else◌, cond-true, cond-false, nat_tests, less_than_sign, is_white_space, Chars, split, both}
-use Rattle.std.specs.Prelude.{◌-◌, take, length, codes}
-use Rattle.rx_grammar.proofs.Common.{Syntax, same, comment, section, ends_with, ends_comment, cased_char}
-use Rattle.rx_grammar.specs.declared.contents.Content.{Content}
+use Rattle.rx_pages.proofs.Common.{◌≡◌, ◌∙◌, ℕ, Bool, true, false, [], ◌∷◌, ◌++◌, refl, ap, sym, subst, append_assoc, append-nil, eqb-true, ◌+◌, arith, Option, Some, None, length, ◌&&◌, ◌||◌, ◌==◌, if◌then◌else◌, ◌-◌, take, codes, cond-true, cond-false, nat_tests, less_than_sign, is_white_space, Chars, split, both, Syntax, same, comment, section, ends_with, ends_comment, cased_char, Content, length-append, BadDoctype}
 use Rattle.rx_pages.specs.Scanner as told
-use Rattle.std.proofs.lemmas.List.{length-append}
 use Rattle.rx_scan.specs.declared.marks.CommentPhase.{CommentPhase}
 use Rattle.rx_scan.specs.declared.marks.CommentPhase.TheVariants as comments
 use Rattle.rx_scan.specs.declared.marks.StrictPhase.{StrictPhase}
@@ -18,7 +14,6 @@ use Rattle.rx_scan.specs.Marks.{may_close, after_dash, after_bang, in_comment, a
 use Rattle.rx_scan.specs.Pending.{Pending, PendsAs, Behind, judge_of, CommentEnds, is_start, is_start_dash, has_dash, has_dashes, has_bang, StrictEnds, has_strict_dash, has_strict_dashes, SectionEnds, bracket_text, DoctypeIs, DoctypeEnds, is_one}
 use Rattle.rx_scan.specs.Meant.{Means, Goes}
 use Rattle.rx_scan.proofs.Snoc.{snoc_same, ends_snoc, ends_one, empty_snoc, lone_snoc, either_way, head_of, word_at}
-use Rattle.rx_grammar.specs.declared.faults.Kind.TheVariants.{BadDoctype}
 use Rattle.rx_scan.specs.declared.marks.DoctypePhase.{DoctypePhase}
 use Rattle.rx_scan.specs.declared.marks.DoctypePhase.TheVariants as phases
 use Rattle.rx_scan.specs.declared.marks.Whole.TheVariants as whole

@@ -1,15 +1,6 @@
 -- What one byte does is what the reader of bytes says.
-use Rattle.rx_terms.proofs.Common.{◌≡◌, ◌∙◌, ◌⊎◌, ℕ, ◌+◌, ◌-◌, Bool, true, false, List, [], ◌∷◌, ◌++◌, refl, ap, sym, subst, Result, Ok, Err, inl, inr, length, arith, eqb-true, ◌<◌, ◌≢◌, ◌&&◌, ◌||◌, ◌==◌, not, nat_le, MatchBool, if◌then◌else◌, cond-true, cond-false, Chars, by_test, both, either, untrue, and-false}
-use Rattle.std.proofs.lemmas.Bool.{lt-leb}
-use Rattle.std.proofs.lemmas.List.{length-append}
-use Rattle.rx_grammar.proofs.Common.{answer_of, More, Char, Bad, Entry, byte_order_mark, line_feed, carriage_return, as_line_end, Syntax, values, is_known_tag}
-use Rattle.rx_chars.specs.declared.utf8.Utf8Step.{Utf8Step}
-use Rattle.rx_grammar.specs.declared.contents.Content.{Content}
-use Rattle.rx_grammar.specs.declared.faults.Kind.{Kind}
-use Rattle.rx_grammar.specs.declared.faults.Kind.TheVariants.{NotUtf8, Nul, PageTooLong, TagTooLong}
-use Rattle.rx_grammar.specs.declared.limits.Limits.{Limits}
+use Rattle.rx_pages.proofs.Common.{◌≡◌, ◌∙◌, ◌⊎◌, ℕ, ◌+◌, ◌-◌, Bool, true, false, List, [], ◌∷◌, ◌++◌, refl, ap, sym, subst, Result, Ok, Err, inl, inr, length, arith, eqb-true, ◌<◌, ◌≢◌, ◌&&◌, ◌||◌, ◌==◌, not, nat_le, MatchBool, if◌then◌else◌, cond-true, cond-false, lt-leb, Chars, by_test, both, either, untrue, and-false, length-append, answer_of, More, Char, Bad, Entry, byte_order_mark, line_feed, carriage_return, as_line_end, Syntax, values, is_known_tag, Utf8Step, Content, Kind, NotUtf8, Nul, PageTooLong, TagTooLong, Limits, Stop, values_append}
 use Rattle.rx_pages.specs.PageReader as reader
-use Rattle.rx_grammar.specs.declared.stops.Stop.{Stop}
 use Rattle.rx_grammar.specs.declared.stops.Stop.TheVariants as stop
 use Rattle.rx_tags.specs.TagBufs.{TagSoFar}
 use Rattle.rx_scan.specs.declared.answers.TokenKind.{TokenKind}
@@ -27,7 +18,6 @@ use Rattle.rx_scan.proofs.Standing.{some_mark, no_values, after, place_on, start
 use Rattle.rx_scan.proofs.Simulation.{known, known_with}
 use Rattle.rx_scan.proofs.MarkLemmas.{mark_is}
 use Rattle.rx_scan.proofs.EntryLemmas.{enters, Gives, gives_at, gives_by, refuses, nothing_told}
-use Rattle.rx_pages.proofs.Tokens.{values_append}
 use Rattle.rx_tags.proofs.TakeLemmas.{match_by}
 
 -- what pends has a first character, or there is nothing

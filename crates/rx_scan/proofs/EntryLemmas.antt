@@ -1,9 +1,6 @@
 -- What an answer says of the reader of bytes; and that what one character does is so: by its move, and the token that begins, goes on or is whole with it.
-use Rattle.rx_terms.proofs.Common.{◌≡◌, ◌∙◌, ℕ, ◌+◌, Bool, true, false, [], ◌∷◌, ◌++◌, ap, sym, Result, Ok, List, refl, subst, Err, Option, Some, None, append-nil, ◌&&◌, not, ◌==◌, if◌then◌else◌, cond-false, cond-true, greater_than_sign, right_bracket, line_feed, Chars, is_empty, both, not_both_ways, split, and-false, and-true}
-use Rattle.std.specs.Prelude.{encode_utf8_all}
-use Rattle.rx_grammar.proofs.Common.{Entry, Syntax, Token, character, reference, section, comment, doctype, kept, tag, Item, values, is_literal, is_strict_literal, text_of, is_line_feed, meaning}
-use Rattle.rx_grammar.specs.declared.contents.Content.{Content}
-use Rattle.rx_grammar.specs.declared.faults.Kind.{Kind}
+use Rattle.rx_pages.proofs.Common.{◌≡◌, ◌∙◌, ℕ, ◌+◌, Bool, true, false, [], ◌∷◌, ◌++◌, ap, sym, Result, Ok, List, refl, subst, Err, Option, Some, None, append-nil, ◌&&◌, not, ◌==◌, if◌then◌else◌, encode_utf8_all, cond-false, cond-true, Chars, is_empty, both, not_both_ways, split, and-false, and-true, Entry, Syntax, Token, character, reference, section, comment, doctype, kept, tag, Item, values, is_literal, is_strict_literal, text_of, is_line_feed, meaning, Content, Kind, Stop, StrictText, BadDoctype, Limits, is_last, TagState, fresh, tag_on, tag_step, tag_of, parts_of, is_closing, tag_on-append, token_of_item, Fault, item_content, item_first, item_last}
+use Rattle.rx_terms.specs.Ascii.{greater_than_sign, right_bracket, line_feed}
 use Rattle.rx_pages.specs.Scanner as verdicts
 use Rattle.rx_pages.specs.PageReader as reader
 use Rattle.rx_scan.specs.declared.marks.TokenState.TheVariants as mark
@@ -14,7 +11,6 @@ use Rattle.rx_scan.specs.Scanner.{Reading, spot_of}
 use Rattle.rx_scan.specs.Steps.{ReadsAs, a_line_feed, joined, IsOne, a_comment, an_empty_section, setting_after, keeps_first, Skips, Tells, texts_of}
 use Rattle.rx_scan.specs.Buffers.{Buffered}
 use Rattle.rx_scan.proofs.Standing.{whole, is_character, no_literal, some_mark, no_values, went, begins}
-use Rattle.rx_grammar.specs.declared.stops.Stop.{Stop}
 use Rattle.rx_grammar.specs.declared.stops.Stop.TheVariants as stop
 use Rattle.rx_tags.specs.TagBufs.{no_tag, TagSoFar, MayStep, StepGives}
 use Rattle.rx_scan.specs.declared.answers.TokenKind.{TokenKind}
@@ -22,25 +18,16 @@ use Rattle.rx_scan.specs.declared.answers.TokenKind.TheVariants as what
 use Rattle.rx_scan.specs.declared.marks.TokenState.{TokenState}
 use Rattle.rx_scan.specs.Entries as entries
 use Rattle.rx_scan.specs.Meant as meant
-use Rattle.rx_grammar.specs.declared.faults.Kind.TheVariants.{StrictText, BadDoctype}
 use Rattle.rx_reader.specs.Values.{no_meaning}
 use Rattle.rx_scan.specs.declared.marks.Move.TheVariants as move
 use Rattle.rx_scan.specs.declared.marks.Whole.TheVariants as whole_mark
-use Rattle.rx_grammar.specs.declared.limits.Limits.{Limits}
 use Rattle.rx_scan.specs.declared.marks.First.{First}
 use Rattle.rx_scan.specs.declared.marks.First.TheVariants as first
 use Rattle.rx_scan.specs.Marks as marks
 use Rattle.rx_scan.proofs.Simulation.{simulates}
 use Rattle.rx_tags.specs.declared.tag_text.TagStep.TheVariants.{More as tag_step_more}
-use Rattle.rx_reader.specs.Tables.{is_last}
-use Rattle.rx_reader.specs.TagReader.{TagState, fresh, tag_on, tag_step, tag_of, parts_of, is_closing}
-use Rattle.rx_reader.proofs.TagLaws.{tag_on-append}
 use Rattle.rx_scan.specs.declared.marks.Brackets.TheVariants as brackets
 use Rattle.rx_scan.specs.declared.marks.Move.{Move}
-use Rattle.rx_pages.proofs.LastToken.{token_of_item}
-use Rattle.rx_grammar.specs.declared.faults.Fault.{Fault}
-use Rattle.rx_pages.proofs.FaultsRead.{item_content}
-use Rattle.rx_pages.proofs.ByteFacts.{item_first, item_last}
 
 -- the text has grown by that of these tokens
 pub record Grows (old : Reading) (items : List Item) (new : Reading) : Type 0 where

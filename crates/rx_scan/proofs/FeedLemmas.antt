@@ -1,14 +1,10 @@
 -- Characters of a tag that are taken at once are read like its bytes one after another, in the tag or behind its `<`.
-use Rattle.rx_terms.proofs.Common.{◌≡◌, ◌∙◌, ℕ, ◌+◌, ◌≤◌, ◌<◌, Bool, true, false, List, [], ◌∷◌, ◌++◌, length, take, refl, ap, sym, subst, Ok, append_assoc, arith, length-take-le, eqb-true, zero, suc, ◌==◌, not, nat_le, MatchBool, leb-true, and_parts, and_from, and_right, or_from}
-use Rattle.std.specs.Prelude.{◌^◌}
-use Rattle.rx_grammar.proofs.Common.{as_line_end}
-use Rattle.rx_chars.proofs.Utf8Answers.{first_whole}
+use Rattle.rx_pages.proofs.Common.{◌≡◌, ◌∙◌, ℕ, ◌+◌, ◌≤◌, ◌<◌, Bool, true, false, List, [], ◌∷◌, ◌++◌, length, take, refl, ap, sym, subst, Ok, append_assoc, arith, length-take-le, eqb-true, zero, suc, ◌==◌, not, nat_le, MatchBool, ◌^◌, leb-true, and_parts, and_from, and_right, or_from, as_line_end, first_whole, TagState}
 use Rattle.rx_scan.specs.declared.marks.TokenState.{TokenState}
 use Rattle.rx_scan.specs.declared.marks.TokenState.TheVariants as mark
 use Rattle.rx_scan.specs.declared.marks.Move.{Move}
 use Rattle.rx_scan.specs.KnownTags as known_tags
 use Rattle.rx_pages.specs.PageReader as reader
-use Rattle.rx_reader.specs.TagReader.{TagState}
 use Rattle.rx_tags.specs.Fronts.{is_printed, GoesTo}
 use Rattle.rx_tags.specs.TagBufs.{TagSoFar, MayStep, TakesMore}
 use Rattle.rx_tags.proofs.TakeLemmas.{is_none, goes_unfinished, chosen as some_taken, match_by}

@@ -1,7 +1,5 @@
 -- What is taken at once is read like its bytes one after another: text with its references, and characters of a tag.
-use Rattle.rx_terms.proofs.Common.{◌≡◌, ◌∙◌, ℕ, ◌+◌, ◌-◌, ◌≤◌, ◌<◌, false, List, [], ◌∷◌, ◌++◌, length, take, drop, ap, sym, subst, arith, eqb-true, take-add, length-take-le, inl, inr, ◌⊎◌, Bool, true, refl, Option, Some, None, append_assoc, encode_utf8_all, ◌==◌, MatchBool, IfSome, eqb-false, cases_lt, and_parts, take_rest, list_all, all_scalars, Chars, begins_with, split}
-use Rattle.std.proofs.Common.{length-drop}
-use Rattle.std.specs.Prelude.{codes}
+use Rattle.rx_grammar.proofs.Common.{◌≡◌, ◌∙◌, ℕ, ◌+◌, ◌-◌, ◌≤◌, ◌<◌, false, List, [], ◌∷◌, ◌++◌, length, take, drop, ap, sym, subst, arith, eqb-true, take-add, length-take-le, inl, inr, ◌⊎◌, Bool, true, refl, Option, Some, None, append_assoc, encode_utf8_all, length-drop, ◌==◌, MatchBool, IfSome, codes, eqb-false, cases_lt, and_parts, take_rest, list_all, all_scalars, Chars, begins_with, split, chars_from_encodes, Syntax, Html, Xhtml, meaning}
 use Rattle.rx_scan.specs.declared.marks.TokenState.TheVariants as mark
 use Rattle.rx_pages.specs.PageReader as reader
 use Rattle.rx_tags.specs.TagBufs.{MayStep}
@@ -11,8 +9,6 @@ use Rattle.rx_scan.specs.Scanner.{Reading}
 use Rattle.rx_scan.specs.Steps.{ReadsAs}
 use Rattle.rx_scan.proofs.FeedLemmas.{feed_on, feeds_steps, open_on}
 use Rattle.rx_scan.proofs.RunLemmas.{ReadsOn, reads_none}
-use Rattle.std.proofs.lemmas.Str.{chars_from_encodes}
-use Rattle.rx_grammar.proofs.Common.{Syntax, Html, Xhtml, meaning}
 use Rattle.rx_chars.specs.Named.{named, named_table}
 use Rattle.rx_reader.specs.declared.phases.RunPhase.TheVariants as run
 use Rattle.rx_reader.specs.declared.phases.RunMove.TheVariants as run_moves

@@ -1,18 +1,8 @@
 -- The byte order mark: what the reader of bytes makes of its bytes.
-use Rattle.rx_terms.proofs.Common.{◌≡◌, ◌∙◌, ◌⊎◌, ℕ, Bool, true, false, List, [], ◌∷◌, ◌++◌, refl, ap, sym, subst, Result, Ok, Err, inl, inr, length, arith, append_assoc, append-nil, ◌&&◌, ◌||◌, ◌==◌, not, nat_le, cond-true, cond-false, by_test, split}
-use Rattle.std.proofs.lemmas.List.{length-append}
-use Rattle.rx_grammar.proofs.Common.{answer_of, More, Char, Bad, Entry, byte_order_mark, line_feed, carriage_return, as_line_end, Syntax, Item, values, is_literal}
-use Rattle.rx_chars.specs.declared.utf8.Utf8Step.{Utf8Step}
-use Rattle.rx_chars.proofs.Utf8Exact.{answers_from}
-use Rattle.rx_chars.proofs.Utf8Forms.{tables_agree}
-use Rattle.rx_grammar.specs.declared.faults.Fault.{Fault}
-use Rattle.rx_grammar.specs.declared.faults.Kind.{Kind}
-use Rattle.rx_grammar.specs.declared.limits.Limits.{Limits}
-use Rattle.rx_reader.proofs.ValueFaults.{snoc_front, snoc_last}
+use Rattle.rx_pages.proofs.Common.{◌≡◌, ◌∙◌, ◌⊎◌, ℕ, Bool, true, false, List, [], ◌∷◌, ◌++◌, refl, ap, sym, subst, Result, Ok, Err, inl, inr, length, arith, append_assoc, append-nil, ◌&&◌, ◌||◌, ◌==◌, not, nat_le, cond-true, cond-false, by_test, split, length-append, answer_of, More, Char, Bad, Entry, byte_order_mark, line_feed, carriage_return, as_line_end, Syntax, Item, values, is_literal, Utf8Step, answers_from, tables_agree, Fault, Kind, Limits, snoc_front, snoc_last, scan_fault}
 use Rattle.rx_pages.specs.Scanner as verdicts
 use Rattle.rx_pages.specs.PageReader as reader
 use Rattle.rx_scan.specs.Steps.{mark_bytes, HasMark}
-use Rattle.rx_pages.proofs.ScanSteps.{scan_fault}
 
 -- only the mark's bytes are read as it
 pub mark_is : (bytes : List ℕ) → answer_of bytes ≡ Char byte_order_mark → bytes ≡ mark_bytes

@@ -1,16 +1,9 @@
 -- Behind `<!` a move says what the verdict is: by the words that may stand there, as texts.
-use Rattle.rx_terms.proofs.Common.{◌≡◌, ◌∙◌, ℕ, ◌+◌, Bool, true, false, [], ◌∷◌, ◌++◌, refl, ap, sym, subst, Option, append_assoc, append-nil, eqb-true, cond, length, map, arith, slice_get, ◌==◌, ◌&&◌, not, cond-true, cond-false, or_from, or_left, or_right, ne_eqb, and_right, length-map, map-append, lowered_char, Chars, begins_with, lowered, split, by_test, both, untrue, not_both_ways, and-false, list_all, ◌||◌}
-use Rattle.std.proofs.Common.{eq-eqb}
-use Rattle.std.specs.Prelude.{codes, drop}
-use Rattle.std.proofs.lemmas.List.{length-append}
-use Rattle.std.proofs.Math.Seq.{drop-append_seam}
-use Rattle.rx_grammar.proofs.Common.{Syntax, Html, Xhtml, comment, has_markup, has_sections, begins_declaration, is_known_tag, meets_opening}
-use Rattle.rx_grammar.specs.declared.contents.Content.{Content}
-use Rattle.rx_grammar.specs.declared.faults.Kind.TheVariants.{BadTag, Outside}
+use Rattle.rx_pages.proofs.Common.{◌==◌, ◌&&◌, not, ◌||◌, codes, drop, cond-true, cond-false, or_from, or_left, or_right, ne_eqb, and_right, length-map, map-append, length-append, lowered_char, Chars, begins_with, lowered, split, by_test, both, untrue, not_both_ways, and-false, list_all, drop-append_seam, Syntax, Html, Xhtml, comment, has_markup, has_sections, begins_declaration, is_known_tag, meets_opening, Content, BadTag, Outside, equal, begins_append}
+use Rattle.std.proofs.Common.{◌≡◌, ◌∙◌, ℕ, ◌+◌, Bool, true, false, [], ◌∷◌, ◌++◌, refl, ap, sym, subst, Option, append_assoc, append-nil, eqb-true, cond, length, map, arith, slice_get, eq-eqb}
 use Rattle.rx_pages.specs.Scanner as told
 use Rattle.rx_pages.proofs.Reading.{markup_is}
 use Rattle.rx_pages.proofs.Comments.{bogus_at}
-use Rattle.rx_reader.proofs.Fronts.{equal, begins_append}
 use Rattle.rx_scan.specs.declared.marks.Word.{Word}
 use Rattle.rx_scan.specs.declared.marks.Word.TheVariants as word
 use Rattle.rx_scan.specs.declared.marks.CommentPhase.TheVariants as comments

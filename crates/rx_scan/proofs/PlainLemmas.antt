@@ -1,14 +1,9 @@
 -- Plain bytes, and the plain characters that they are, also above ASCII.
-use Rattle.rx_terms.proofs.Common.{◌≡◌, ◌∙◌, inl, inr, ℕ, ◌≤◌, Bool, true, false, List, [], ◌∷◌, refl, ap, sym, arith, encode_utf8, encode_utf8_all, length, take, drop, get_or, subst, take-add, ◌==◌, nat_le, ◌&&◌, list_all, IsUtf8, and_parts, and_from, cases_lt, lt-ltb, or_parts, nat_tests, list_all-append, encode_ascii, IsUtf8-append, is_ascii, ascii-utf8, by_test, untrue}
-use Rattle.std.proofs.Common.{not}
-use Rattle.std.specs.Prelude.{◌+◌}
-use Rattle.std.proofs.lemmas.Bool.{both_ways, leb-false, eqb-true}
-use Rattle.std.proofs.lemmas.Str.{IsUtf8-encode}
+use Rattle.rx_grammar.proofs.Common.{◌≡◌, ◌∙◌, inl, inr, ℕ, ◌≤◌, Bool, true, false, List, [], ◌∷◌, refl, ap, sym, arith, encode_utf8, encode_utf8_all, length, take, drop, get_or, subst, take-add, not, ◌==◌, nat_le, ◌&&◌, ◌+◌, list_all, IsUtf8, nat_tests, list_all-append, encode_ascii, IsUtf8-append, IsUtf8-encode, is_ascii, ascii-utf8, by_test, untrue, is_well_formed, scalar_value, is_in, tail, tables_agree}
+use Rattle.std.proofs.lemmas.Bool.{and_parts, and_from, cases_lt, lt-ltb, or_parts, both_ways, leb-false, eqb-true}
 use Rattle.rx_scan.specs.Plain.{is_stop, is_plain, is_plain_ascii}
-use Rattle.rx_chars.specs.Utf8.{is_well_formed, scalar_value, is_in, tail}
 use Rattle.rx_chars.specs.Held.{fits_second}
 use Rattle.rx_chars.proofs.Utf8Rows.{whole_two, whole_three, whole_four}
-use Rattle.rx_chars.proofs.Utf8Forms.{tables_agree}
 use Rattle.rx_scan.specs.WideChars.{BeginsWide}
 
 -- a plain character is none that isn't

@@ -1,13 +1,5 @@
 -- The turns of the loop over a piece: between tokens a byte tells text, begins a token, or is skipped.
-use Rattle.rx_terms.proofs.Common.{◌≡◌, ◌∙◌, ◌⊎◌, ℕ, ◌<◌, Bool, true, false, List, [], ◌∷◌, ◌++◌, refl, ap, sym, subst, Result, Ok, Err, inl, inr, eqb-true, arith, length, get_or, lit<, zero, suc, ◌≢◌, ◌+◌, take, Some, ◌&&◌, ◌||◌, ◌==◌, not, nat_le, if◌then◌else◌, cond-true, cond-false, or_left, or_right, encode_ascii, Chars, split, by_test, both, either, untrue}
-use Rattle.std.specs.Prelude.{IfOk}
-use Rattle.rx_grammar.proofs.Common.{answer_of, More, Char, Bad, carriage_return, as_line_end, is_strict_literal, character, has_references, is_text}
-use Rattle.rx_chars.specs.declared.utf8.Utf8Step.{Utf8Step}
-use Rattle.rx_chars.proofs.Utf8Exact.{answers_from}
-use Rattle.rx_chars.proofs.Utf8Forms.{tables_agree}
-use Rattle.rx_grammar.specs.declared.faults.Kind.{Kind}
-use Rattle.rx_grammar.specs.declared.faults.Kind.TheVariants.{StrictText}
-use Rattle.rx_grammar.specs.declared.stops.Stop.{Stop}
+use Rattle.rx_pages.proofs.Common.{◌≡◌, ◌∙◌, ◌⊎◌, ℕ, ◌<◌, Bool, true, false, List, [], ◌∷◌, ◌++◌, refl, ap, sym, subst, Result, Ok, Err, inl, inr, eqb-true, arith, length, get_or, lit<, zero, suc, ◌≢◌, ◌+◌, take, Some, ◌&&◌, ◌||◌, ◌==◌, not, nat_le, if◌then◌else◌, IfOk, cond-true, cond-false, or_left, or_right, encode_ascii, Chars, split, by_test, both, either, untrue, answer_of, More, Char, Bad, carriage_return, as_line_end, is_strict_literal, character, has_references, is_text, Utf8Step, answers_from, tables_agree, Kind, StrictText, Stop, Fault}
 use Rattle.rx_grammar.specs.declared.stops.Stop.TheVariants as stop
 use Rattle.rx_scan.specs.declared.answers.TokenKind.{TokenKind}
 use Rattle.rx_scan.specs.declared.answers.TokenKind.TheVariants as what
@@ -24,7 +16,6 @@ use Rattle.rx_scan.specs.Entries as entries
 use Rattle.rx_scan.specs.Steps.{is_quiet, is_tag, is_token, stopped_at, Took, Runs, MayLend, texts_of}
 use Rattle.rx_scan.proofs.ByteLemmas.{reads_other}
 use Rattle.rx_scan.proofs.RunLemmas.{IsApart, ReadsOn, apart, took_text, took_all, more_read, took_token, faults}
-use Rattle.rx_grammar.specs.declared.faults.Fault.{Fault}
 use Rattle.rx_pages.specs.PageReader as reader
 use Rattle.rx_tags.specs.TagBufs.{MayStep}
 use Rattle.rx_tags.proofs.TakeLemmas.{match_by}

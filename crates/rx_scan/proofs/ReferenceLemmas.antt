@@ -1,14 +1,10 @@
 -- A reference that is taken at once is read like its bytes one after another.
-use Rattle.rx_terms.proofs.Common.{◌≡◌, ◌∙◌, ℕ, ◌+◌, ◌≤◌, ◌<◌, true, false, List, [], ◌∷◌, ◌++◌, length, refl, ap, sym, subst, Option, Some, Ok, append_assoc, append-nil, arith, encode_utf8_all, ◌-◌, take, ◌&&◌, ◌==◌, not, list_all, cond-true, and_parts, or_from, ne_eqb, nat_tests, list_all-append, is_ascii, Chars, ascii-same, and-false}
-use Rattle.std.proofs.lemmas.List.{length-append}
-use Rattle.rx_grammar.proofs.Common.{as_line_end, meaning, values, Syntax}
-use Rattle.rx_chars.proofs.Utf8Answers.{first_whole}
+use Rattle.rx_reader.proofs.Common.{◌≡◌, ◌∙◌, ℕ, ◌+◌, ◌≤◌, ◌<◌, true, false, List, [], ◌∷◌, ◌++◌, length, refl, ap, sym, subst, Option, Some, Ok, append_assoc, append-nil, arith, encode_utf8_all, ◌-◌, take, ◌&&◌, ◌==◌, not, list_all, cond-true, and_parts, or_from, ne_eqb, nat_tests, list_all-append, is_ascii, Chars, ascii-same, and-false, length-append, as_line_end, meaning, values, Syntax, first_whole, run_move, take-append_seam}
 use Rattle.rx_pages.specs.PageReader as reader
 use Rattle.rx_reader.specs.declared.phases.RunPhase.{RunPhase}
 use Rattle.rx_reader.specs.declared.phases.RunPhase.TheVariants as run
 use Rattle.rx_reader.specs.declared.phases.RunMove.{RunMove}
 use Rattle.rx_reader.specs.declared.phases.RunMove.TheVariants as run_moves
-use Rattle.rx_reader.specs.Tables.{run_move}
 use Rattle.rx_reader.proofs.Runs.{RunIs, at_ampersand, goes_on, closes}
 use Rattle.rx_tags.specs.TagBufs.{no_tag}
 use Rattle.rx_scan.specs.declared.answers.TokenKind.TheVariants as what
@@ -28,7 +24,6 @@ use Rattle.rx_scan.specs.WholeReferences.{IsReference, TellsReference, body_from
 use Rattle.rx_scan.proofs.ByteLemmas.{other_read}
 use Rattle.rx_scan.proofs.References.{no_closes, no_stops, run_is, run_ascii}
 use Rattle.rx_scan.proofs.RunLemmas.{ReadsOn, reads_more}
-use Rattle.std.proofs.Math.Seq.{take-append_seam}
 
 -- Outside tags and between characters, this byte is a character that enters.
 record IsAlone (v : Reading) (b : ℕ) : Type 0 where

@@ -1,14 +1,9 @@
 -- After `&` a move says what the verdict is.
-use Rattle.rx_terms.proofs.Common.{◌≡◌, ◌∙◌, ℕ, true, false, [], ◌∷◌, ◌++◌, refl, ap, sym, subst, eqb-true, inl, inr, arith, append-nil, append_assoc, ◌==◌, ◌&&◌, not, if◌then◌else◌, list_all, nat_tests, cond-true, cond-false, and_from, ampersand, is_ascii, is_letter, is_digit, is_letter_or_digit, Chars, ascii-same, split, both, either, untrue}
-use Rattle.rx_grammar.proofs.Common.{Syntax, is_name, is_body, is_begun, is_hexadecimal_digit, is_x, keeps_runs, kept}
-use Rattle.rx_grammar.specs.declared.contents.Content.{Content}
-use Rattle.rx_grammar.specs.declared.faults.Kind.TheVariants.{UnknownReference, BadReference}
+use Rattle.rx_reader.proofs.Common.{◌≡◌, ◌∙◌, ℕ, true, false, [], ◌∷◌, ◌++◌, refl, ap, sym, subst, eqb-true, inl, inr, arith, append-nil, append_assoc, ◌==◌, ◌&&◌, not, if◌then◌else◌, list_all, nat_tests, cond-true, cond-false, and_from, ampersand, is_ascii, is_letter, is_digit, is_letter_or_digit, Chars, ascii-same, split, both, either, untrue, Syntax, is_name, is_body, is_begun, is_hexadecimal_digit, is_x, keeps_runs, kept, Content, UnknownReference, BadReference, run_move, no_meaning}
 use Rattle.rx_reader.specs.declared.phases.RunPhase.{RunPhase}
 use Rattle.rx_reader.specs.declared.phases.RunPhase.TheVariants as run
 use Rattle.rx_reader.specs.declared.phases.RunMove.{RunMove}
 use Rattle.rx_reader.specs.declared.phases.RunMove.TheVariants as run_moves
-use Rattle.rx_reader.specs.Tables.{run_move}
-use Rattle.rx_reader.specs.Values.{no_meaning}
 use Rattle.rx_reader.proofs.Runs.{RunIs, at_ampersand, in_name, at_hash, in_decimal, at_mark, in_hexadecimal, goes_on, closes, stops, run_begun}
 use Rattle.rx_pages.specs.Scanner as told
 use Rattle.rx_pages.proofs.Texts.{semicolon_stops}

@@ -1,11 +1,6 @@
 -- The bytes of a piece one after another.
-use Rattle.rx_terms.proofs.Common.{◌≡◌, ◌∙◌, ◌⊎◌, inl, inr, ℕ, ◌+◌, ◌<◌, ◌≤◌, Bool, true, false, List, [], ◌∷◌, ◌++◌, length, take, drop, refl, ap, sym, subst, Option, Some, None, Result, Ok, Err, append_assoc, arith, get_or, take_more, take-append-drop, slice_get-get_or, Chars}
-use Rattle.std.proofs.lemmas.List.{length-append}
-use Rattle.rx_grammar.proofs.Common.{Syntax, Item, text_of}
-use Rattle.rx_grammar.specs.declared.faults.Fault.{Fault}
-use Rattle.rx_grammar.specs.declared.limits.Limits.{Limits}
+use Rattle.rx_pages.proofs.Common.{◌≡◌, ◌∙◌, ◌⊎◌, inl, inr, ℕ, ◌+◌, ◌<◌, ◌≤◌, Bool, true, false, List, [], ◌∷◌, ◌++◌, length, take, drop, refl, ap, sym, subst, Option, Some, None, Result, Ok, Err, append_assoc, arith, get_or, take_more, take-append-drop, length-append, slice_get-get_or, Chars, Syntax, Item, text_of, Fault, Limits, Stop, scan_fault}
 use Rattle.rx_pages.specs.PageReader as reader
-use Rattle.rx_grammar.specs.declared.stops.Stop.{Stop}
 use Rattle.rx_grammar.specs.declared.stops.Stop.TheVariants as stop
 use Rattle.rx_scan.specs.declared.answers.TokenKind.{TokenKind}
 use Rattle.rx_scan.specs.declared.answers.TokenKind.TheVariants as what
@@ -17,7 +12,6 @@ use Rattle.rx_scan.specs.Steps.{ReadsAs, joined, texts_of, keeps_first, after_so
 use Rattle.rx_scan.proofs.EntryLemmas.{GivesOk, IsTold}
 use Rattle.rx_scan.proofs.MarkLemmas.{Earlier, none_marked, mark_snoc, mark_none, all_held, before_mark}
 use Rattle.rx_scan.proofs.ByteLemmas.{PassesMark, reads, reads_other, mark_skips}
-use Rattle.rx_pages.proofs.ScanSteps.{scan_fault}
 
 -- while text is told, no token is begun, and what might be skipped is over
 pub record IsApart (v : Reading) : Type 0 where

@@ -1,13 +1,5 @@
 -- Text that is taken at once is read like its bytes one after another: plain characters, and a line end of CR and LF.
-use Rattle.rx_terms.proofs.Common.{◌≡◌, ◌∙◌, ℕ, ◌+◌, ◌≤◌, Bool, true, false, List, [], ◌∷◌, ◌++◌, length, refl, ap, sym, subst, Ok, append_assoc, append-nil, arith, encode_utf8, encode_utf8_all, ◌&&◌, ◌==◌, not, nat_le, IsScalar, list_all, all_scalars, cond-true, cond-false, and_parts, or_from, and_right, length-encode, and-false}
-use Rattle.std.proofs.lemmas.Bool.{lt-leb}
-use Rattle.std.proofs.lemmas.List.{length-append}
-use Rattle.std.proofs.lemmas.Str.{len_utf8_bounds}
-use Rattle.rx_grammar.proofs.Common.{as_line_end, answer_of, Char, More, is_strict_literal, has_references, is_text, character}
-use Rattle.rx_chars.specs.declared.utf8.Utf8Step.{Utf8Step}
-use Rattle.rx_chars.proofs.Utf8Exact.{answer_is}
-use Rattle.rx_chars.proofs.Utf8Forms.{tables_agree}
-use Rattle.rx_grammar.specs.declared.contents.Content.{Content}
+use Rattle.rx_pages.proofs.Common.{◌≡◌, ◌∙◌, ℕ, ◌+◌, ◌≤◌, Bool, true, false, List, [], ◌∷◌, ◌++◌, length, refl, ap, sym, subst, Ok, append_assoc, append-nil, arith, encode_utf8, encode_utf8_all, ◌&&◌, ◌==◌, not, nat_le, IsScalar, list_all, all_scalars, cond-true, cond-false, and_parts, or_from, and_right, lt-leb, length-encode, len_utf8_bounds, and-false, length-append, as_line_end, answer_of, Char, More, is_strict_literal, has_references, is_text, character, Utf8Step, answer_is, tables_agree, Content, first_whole}
 use Rattle.rx_grammar.specs.declared.contents.Content.TheVariants as content
 use Rattle.rx_scan.specs.declared.marks.TokenState.{TokenState}
 use Rattle.rx_scan.specs.declared.marks.TokenState.TheVariants as mark
@@ -29,7 +21,6 @@ use Rattle.rx_scan.proofs.ByteLemmas.{chosen, other_read, character_read}
 use Rattle.rx_scan.proofs.PlainLemmas.{is_none}
 use Rattle.rx_scan.proofs.RunLemmas.{ReadsOn, reads_more}
 use Rattle.rx_scan.specs.declared.places.Setting.{Setting}
-use Rattle.rx_chars.proofs.Utf8Answers.{first_whole}
 use Rattle.rx_scan.specs.WholeReferences.{TellsLineEnd}
 
 -- in a content that has text a plain character is text

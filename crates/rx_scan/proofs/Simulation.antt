@@ -1,12 +1,6 @@
 -- The table says what the verdicts are: of each mark and each character.
-use Rattle.rx_terms.proofs.Common.{◌≡◌, ◌∙◌, ℕ, false, [], ◌∷◌, ◌++◌, refl, ap, sym, append-nil, length, map, arith, add-one, ◌&&◌, ◌==◌, cond-true, cond-false, and_right, length-map, lowered_char, solidus, Chars, lowered, and-false}
-use Rattle.std.specs.Prelude.{◌≤◌, ◌+◌, drop, take}
-use Rattle.std.proofs.lemmas.List.{length-append}
-use Rattle.rx_grammar.proofs.Common.{Syntax, same, name_of_raw, ends_name, begins, is_known_tag}
-use Rattle.rx_grammar.specs.declared.contents.Content.{Content}
+use Rattle.rx_reader.proofs.Common.{◌≡◌, ◌∙◌, ℕ, false, [], ◌∷◌, ◌++◌, refl, ap, sym, append-nil, length, map, arith, add-one, ◌&&◌, ◌==◌, ◌≤◌, ◌+◌, drop, take, cond-true, cond-false, and_right, length-map, length-append, lowered_char, solidus, Chars, lowered, and-false, Syntax, same, name_of_raw, ends_name, begins, is_known_tag, is_known_after, is_known_raw, is_known_end, Content, common_steps}
 use Rattle.rx_grammar.specs.declared.contents.Content.TheVariants as content
-use Rattle.std.proofs.lemmas.Grind.{common_steps}
-use Rattle.rx_grammar.specs.PageFaults.{is_known_after, is_known_raw, is_known_end}
 use Rattle.rx_tags.specs.TagBufs.{TagSoFar}
 use Rattle.rx_scan.specs.declared.marks.TokenState.{TokenState}
 use Rattle.rx_scan.specs.declared.marks.TokenState.TheVariants as mark

@@ -1,8 +1,5 @@
 -- Tests of a text by its last character, and what stands behind a front of it.
-use Rattle.rx_terms.proofs.Common.{◌≡◌, ◌∙◌, ℕ, Bool, true, false, [], ◌∷◌, ◌++◌, refl, ap, sym, eqb-true, Option, Some, None, length, slice_get, ◌&&◌, ◌||◌, ◌==◌, Chars, is_empty, begins_with, both, same_truth, and-false, and-true, or-false, list_all, eq-eqb}
-use Rattle.rx_grammar.proofs.Common.{same, ends_with}
-use Rattle.std.proofs.Math.Bool.{and_assoc, and_comm}
-use Rattle.rx_reader.proofs.Fronts.{equal}
+use Rattle.rx_pages.proofs.Common.{◌≡◌, ◌∙◌, ℕ, Bool, true, false, [], ◌∷◌, ◌++◌, refl, ap, sym, eqb-true, Option, Some, None, length, slice_get, ◌&&◌, ◌||◌, ◌==◌, Chars, is_empty, begins_with, both, same_truth, and-false, and-true, or-false, and_assoc, and_comm, list_all, eq-eqb, same, ends_with, equal}
 
 -- same d for both
 either_and : (a b d : Bool) → ((a && d) || (d && b)) ≡ (d && (a || b))

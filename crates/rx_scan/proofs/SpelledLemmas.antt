@@ -1,49 +1,26 @@
 -- What is scanned is what the bytes spell, in whatever content.
-use Rattle.rx_terms.proofs.Common.{◌≡◌, ◌≢◌, ◌∙◌, inl, inr, ℕ, ◌+◌, ◌-◌, ◌≤◌, ◌<◌, Bool, true, false, List, [], ◌∷◌, ◌++◌, refl, sym, ap, subst, length, append_assoc, append-nil, eqb-true, Option, Some, None, Result, Ok, Err, arith, ◌&&◌, ◌||◌, ◌==◌, not, len_utf8, all_scalars, encode, encodes, length-encode, and_parts, and_from, and_right, cond-true, cond-false, leb-true, eqb-false, false_from_ne_true, or_right, or-false, ampersand, less_than_sign, right_bracket, greater_than_sign, by_test, split, untrue, Chars}
-use Rattle.std.proofs.Common.{nat_le}
-use Rattle.std.specs.Prelude.{take}
-use Rattle.std.proofs.lemmas.List.{length-append}
-use Rattle.std.proofs.lemmas.Bool.{leb-false}
-use Rattle.rx_grammar.proofs.Common.{Syntax, Html, More, Char, Bad, answer_of, BeginsCharacter, IsCharacter, Entry, byte_order_mark, line_feed, carriage_return, as_line_end, Token, tag, character, doctype, values, next_of, Item, Spelled, no_more, one, Fits, AllFit, is_literal, is_strict_literal, no_section_end, has_no_nul, IsPending, is_known_tag}
-use Rattle.rx_chars.specs.declared.utf8.Utf8Step.{Utf8Step}
-use Rattle.rx_chars.specs.Utf8.{Answers}
-use Rattle.rx_chars.proofs.Utf8Exact.{answers_from}
-use Rattle.rx_chars.proofs.Utf8Forms.{form_of}
-use Rattle.rx_grammar.specs.declared.contents.Content.{Content}
+use Rattle.rx_pages.proofs.Common.{◌≡◌, ◌≢◌, ◌∙◌, inl, inr, ℕ, ◌+◌, ◌-◌, ◌≤◌, ◌<◌, Bool, true, false, List, [], ◌∷◌, ◌++◌, refl, sym, ap, subst, length, append_assoc, append-nil, eqb-true, Option, Some, None, Result, Ok, Err, arith, nat_le, ◌&&◌, ◌||◌, ◌==◌, not, take, len_utf8, all_scalars, encode, encodes, length-encode, and_parts, and_from, and_right, cond-true, cond-false, leb-true, eqb-false, false_from_ne_true, or_right, leb-false, or-false, ampersand, less_than_sign, right_bracket, greater_than_sign, by_test, split, untrue, Chars, length-append, Syntax, Html, More, Char, Bad, answer_of, BeginsCharacter, IsCharacter, Answers, Entry, byte_order_mark, line_feed, carriage_return, as_line_end, Token, tag, character, doctype, values, next_of, Item, Spelled, no_more, one, Fits, AllFit, is_literal, is_strict_literal, no_section_end, has_no_nul, IsPending, is_known_tag, Utf8Step, answers_from, form_of, Content, Fault, Kind, TagTooLong, Limits, GoesOn, Verdict, goes_on, whole, ended, refused, verdict, at_first, ReadAs, at_last, at_next, values_append, item_last, item_first, pending_goes, token_of_item, IsKept, is_kept, scan_fault, Stop}
+use Rattle.rx_pages.proofs.TokensWalk.{two_lasts, kept_literal, flags_behind}
 use Rattle.rx_grammar.specs.declared.contents.Content.TheVariants as content
-use Rattle.rx_grammar.specs.declared.faults.Fault.{Fault}
-use Rattle.rx_grammar.specs.declared.faults.Kind.{Kind}
-use Rattle.rx_grammar.specs.declared.faults.Kind.TheVariants.{TagTooLong}
-use Rattle.rx_grammar.specs.declared.limits.Limits.{Limits}
 use Rattle.rx_grammar.specs.Spelling as spelling
 use Rattle.rx_grammar.specs.PageFaults as faults
-use Rattle.rx_pages.specs.Scanner.{GoesOn, Verdict, goes_on, whole, ended, refused, verdict, at_first, ReadAs, at_last, at_next}
 use Rattle.rx_pages.specs.PageReader.{Spot, Scanning, Scanned, first_of, starts_at, token_at, fault_in, holding, passed, entering, item_of, is_doctype, completed, told_first, with_item, after_token, told, read_entry, read_char, read_answer, read_byte, with_items, scan_on, scan_from}
-use Rattle.rx_pages.proofs.Tokens.{values_append}
 use Rattle.rx_pages.proofs.Prefix.{any_next}
 use Rattle.rx_pages.proofs.Pends.{occurs}
 use Rattle.rx_pages.proofs.PendsOn.{spells_read, faulty_read, pends, unfinished}
 use Rattle.rx_pages.proofs.FrontOn.{goes_more, no_nul_more}
 use Rattle.rx_pages.proofs.KnownSpelled.{spelled_known}
-use Rattle.rx_pages.proofs.ByteFacts.{item_last, item_first}
 use Rattle.rx_pages.proofs.Spellings.{reads_each}
-use Rattle.rx_pages.proofs.TokensWalk.{two_lasts, kept_literal}
-use Rattle.rx_pages.proofs.FaultsRead.{pending_goes}
-use Rattle.rx_pages.proofs.LastToken.{token_of_item}
 use Rattle.rx_pages.proofs.CharSteps.{passes, entry_at}
 use Rattle.rx_pages.proofs.CharWalk.{is_started, ends_return, no_return, no_mark}
 use Rattle.rx_pages.proofs.BytesOn.{encodes_more, scalars_more, some_entered}
 use Rattle.rx_pages.proofs.Snocs.{entered_one, values_next, spelled_snoc, return_snoc, flags_snoc, sections_snoc, fit_snoc, entered_snoc, started_snoc}
-use Rattle.rx_pages.proofs.TokensWalk.{flags_behind}
-use Rattle.rx_pages.proofs.TokenWalk.{IsKept, is_kept}
 use Rattle.rx_pages.proofs.EndedRuns.{ended_kept}
-use Rattle.rx_pages.proofs.ScanSteps.{scan_fault}
 use Rattle.rx_scan.specs.Steps.{Steps, is_of_syntax}
 use Rattle.rx_scan.specs.Spelled.{brackets_behind, entries_at, AllInside, MayCome, AllMayCome, AllBefore, has_character, ends_in_return, Spells, IsBetween, is_over, Enters, FitsWith, IsNoToken, Refuses, page_too_long, not_utf8, nul, tag_too_long, known_too_long, decided, section_end, late_doctype, FirstFault, StepAnswers, StepsSpell}
 use Rattle.rx_scan.specs.Spelled as spelled
 use Rattle.rx_scan.specs.Scanner.{spot_of}
 use Rattle.rx_scan.specs.declared.answers.Token as shown
-use Rattle.rx_grammar.specs.declared.stops.Stop.{Stop}
 use Rattle.rx_grammar.specs.declared.stops.Stop.TheVariants as stop
 use Rattle.rx_pages.proofs.KnownTags.{one_unknown}
 use Rattle.rx_scan.proofs.RunLemmas.{on_append}

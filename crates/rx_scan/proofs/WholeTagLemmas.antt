@@ -1,16 +1,8 @@
 -- A tag that is taken whole is read like its bytes one after another.
-use Rattle.rx_terms.proofs.Common.{◌≡◌, ◌∙◌, ℕ, ◌+◌, ◌-◌, ◌≤◌, ◌<◌, Bool, true, false, List, [], ◌∷◌, length, take, drop, refl, ap, sym, subst, inl, Ok, arith, get_or, length-take-le, Some, zero, suc, list_all, not, or_from, and-false}
-use Rattle.std.proofs.Common.{length-drop}
-use Rattle.std.specs.Prelude.{slice_get}
-use Rattle.std.proofs.lemmas.Grind.{common_steps}
-use Rattle.rx_grammar.proofs.Common.{as_line_end, has_markup}
+use Rattle.rx_pages.proofs.Common.{◌≡◌, ◌∙◌, ℕ, ◌+◌, ◌-◌, ◌≤◌, ◌<◌, Bool, true, false, List, [], ◌∷◌, length, take, drop, refl, ap, sym, subst, inl, Ok, arith, get_or, length-take-le, Some, zero, suc, length-drop, list_all, not, slice_get, or_from, and-false, common_steps, as_line_end, has_markup, first_whole, Content, is_last, TagState}
 use Rattle.rx_chars.specs.Held.{is_none_held}
-use Rattle.rx_chars.proofs.Utf8Answers.{first_whole}
-use Rattle.rx_grammar.specs.declared.contents.Content.{Content}
 use Rattle.rx_grammar.specs.declared.contents.Content.TheVariants as content
 use Rattle.rx_pages.specs.PageReader as reader
-use Rattle.rx_reader.specs.Tables.{is_last}
-use Rattle.rx_reader.specs.TagReader.{TagState}
 use Rattle.rx_tags.specs.declared.tag_text.TagStep.TheVariants.{Done}
 use Rattle.rx_tags.specs.Fronts.{is_printed, GoesBy}
 use Rattle.rx_tags.specs.TagBufs.{TagSoFar, StepGives, TakesWhole, no_tag}

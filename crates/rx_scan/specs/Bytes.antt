@@ -1,7 +1,6 @@
 -- Characters that surely belong to a tag.
 use Rattle.std.specs.Prelude.{◌≡◌, ℕ, true, false, ◌==◌}
-use Rattle.rx_chars.specs.Characters.{byte_order_mark, carriage_return}
-use Rattle.rx_terms.specs.Ascii.{line_feed}
+use Rattle.rx_grammar.specs.Common.{byte_order_mark, carriage_return, line_feed}
 use Rattle.rx_scan.specs.declared.marks.TokenState.{TokenState}
 use Rattle.rx_scan.specs.declared.marks.Move.TheVariants as move
 use Rattle.rx_scan.specs.KnownTags.{is_tag_with}

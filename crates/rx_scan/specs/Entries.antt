@@ -1,17 +1,11 @@
 -- What the scanner does with one character.
 use Rattle.std.specs.Prelude.{◌≡◌, ℕ, ◌+◌, ◌≤◌, Bool, true, false, not, ◌&&◌, ◌||◌, ◌==◌, nat_le, MatchBool, List, [], ◌∷◌, ◌++◌, encode_utf8_all, Option, Some, None, Result, Ok, Err, if◌then◌else◌}
-use Rattle.rx_terms.specs.Ascii.{line_feed, greater_than_sign, right_bracket}
-use Rattle.rx_terms.specs.Text.{Chars, is_empty}
+use Rattle.rx_grammar.specs.Common.{line_feed, greater_than_sign, right_bracket, Chars, is_empty, answer_of, byte_order_mark, carriage_return, as_line_end, character, meaning, is_strict_literal}
 use Rattle.rx_chars.specs.declared.utf8.Utf8Step.{Utf8Step}
 use Rattle.rx_chars.specs.declared.utf8.Utf8Step.TheVariants.{More, Char, Bad}
-use Rattle.rx_chars.specs.Utf8.{answer_of}
-use Rattle.rx_chars.specs.Characters.{byte_order_mark, carriage_return, as_line_end}
 use Rattle.rx_grammar.specs.declared.faults.Fault.{Fault}
 use Rattle.rx_grammar.specs.declared.faults.Kind.{Kind}
 use Rattle.rx_grammar.specs.declared.faults.Kind.TheVariants.{BadDoctype, NotUtf8, Nul, PageTooLong, StrictText, TagTooLong}
-use Rattle.rx_grammar.specs.Tokens.{character}
-use Rattle.rx_grammar.specs.References.{meaning}
-use Rattle.rx_grammar.specs.Items.{is_strict_literal}
 use Rattle.rx_reader.specs.Values.{no_meaning}
 use Rattle.rx_reader.specs.Tables.{is_last}
 use Rattle.rx_reader.specs.TagReader.{is_closing}

@@ -1,7 +1,6 @@
 -- Whether the characters since the last token are known to begin a tag.
 use Rattle.std.specs.Prelude.{ℕ, Bool, true, false, ◌||◌, ◌==◌, slice_get, Option, Some, None}
-use Rattle.rx_terms.specs.Ascii.{solidus}
-use Rattle.rx_chars.specs.declared.syntax.Syntax.{Syntax}
+use Rattle.rx_grammar.specs.Common.{solidus, Syntax}
 use Rattle.rx_grammar.specs.declared.contents.Content.{Content}
 use Rattle.rx_grammar.specs.Shapes.{begins_tag, ends_name}
 use Rattle.rx_scan.specs.declared.marks.TokenState.{TokenState}

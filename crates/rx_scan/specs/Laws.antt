@@ -1,9 +1,7 @@
 -- What joins the moves to the verdicts on characters.
 use Rattle.std.specs.Prelude.{◌≡◌, ℕ, [], ◌∷◌, ◌++◌}
-use Rattle.rx_terms.specs.Text.{Chars}
-use Rattle.rx_chars.specs.declared.syntax.Syntax.{Syntax}
+use Rattle.rx_grammar.specs.Common.{Chars, Syntax, is_known_tag}
 use Rattle.rx_grammar.specs.declared.contents.Content.{Content}
-use Rattle.rx_grammar.specs.PageFaults.{is_known_tag}
 use Rattle.rx_scan.specs.KnownTags.{is_tag, is_tag_with}
 use Rattle.rx_scan.specs.Marks.{move_of}
 use Rattle.rx_scan.specs.Meant.{Means}

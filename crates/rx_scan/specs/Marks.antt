@@ -1,16 +1,10 @@
 -- What each character does, by the mark of the characters since the last token.
 use Rattle.std.specs.Prelude.{ℕ, ◌+◌, Bool, true, false, not, ◌&&◌, ◌==◌, [], ◌∷◌, length, codes, slice_get, Option, Some, None, if◌then◌else◌}
-use Rattle.rx_terms.specs.Ascii.{ampersand, hyphen, solidus, less_than_sign, greater_than_sign, question_mark, left_bracket, right_bracket, lowered_char, is_white_space}
-use Rattle.rx_terms.specs.Text.{Chars}
-use Rattle.rx_chars.specs.declared.syntax.Syntax.{Syntax}
-use Rattle.rx_chars.specs.declared.syntax.Syntax.TheVariants.{Html, Xhtml}
+use Rattle.rx_grammar.specs.Common.{ampersand, hyphen, solidus, less_than_sign, greater_than_sign, question_mark, left_bracket, right_bracket, lowered_char, is_white_space, Chars, Syntax, Html, Xhtml, name_of_raw, cased_char, exclamation_mark, has_references, keeps_runs, has_sections, has_less_than, is_text, begins_markup}
 use Rattle.rx_grammar.specs.declared.contents.Content.{Content}
 use Rattle.rx_grammar.specs.declared.contents.Content.TheVariants as content
 use Rattle.rx_grammar.specs.declared.faults.Kind.TheVariants.{BadTag, BadDoctype, Outside, StrictText}
-use Rattle.rx_grammar.specs.Names.{name_of_raw}
 use Rattle.rx_grammar.specs.Shapes.{ends_name}
-use Rattle.rx_grammar.specs.Tags.{cased_char}
-use Rattle.rx_grammar.specs.Spelling.{exclamation_mark, has_references, keeps_runs, has_sections, has_less_than, is_text, begins_markup}
 use Rattle.rx_reader.specs.declared.phases.RunPhase.TheVariants as run
 use Rattle.rx_reader.specs.declared.phases.RunMove.{RunMove}
 use Rattle.rx_reader.specs.declared.phases.RunMove.TheVariants as run_moves

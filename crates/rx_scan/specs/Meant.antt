@@ -1,13 +1,9 @@
 -- What a move says of the characters since the last token and the next one.
 use Rattle.std.proofs.Common.{◌≡◌, ℕ, false, [], ◌∷◌, ◌++◌, Ok}
 use Rattle.std.specs.Prelude.{encode_utf8_all, if◌then◌else◌}
-use Rattle.rx_terms.specs.Ascii.{less_than_sign}
-use Rattle.rx_terms.specs.Text.{Chars}
-use Rattle.rx_chars.specs.declared.syntax.Syntax.{Syntax}
+use Rattle.rx_grammar.specs.Common.{less_than_sign, Chars, Syntax, meaning, is_name, character, kept, section, comment, doctype}
 use Rattle.rx_grammar.specs.declared.contents.Content.{Content}
 use Rattle.rx_grammar.specs.declared.faults.Kind.TheVariants.{UnknownReference, BadReference}
-use Rattle.rx_grammar.specs.References.{meaning, is_name}
-use Rattle.rx_grammar.specs.Tokens.{character, kept, section, comment, doctype}
 use Rattle.rx_reader.specs.Tables.{is_last}
 use Rattle.rx_reader.specs.Values.{no_meaning}
 use Rattle.rx_reader.specs.TagReader.{TagState, fresh, tag_on, tag_step}

@@ -1,14 +1,7 @@
 -- What a mark says of the characters since the last token, with what is kept of them.
 use Rattle.std.specs.Prelude.{◌≡◌, ℕ, Bool, true, false, ◌==◌, [], ◌∷◌, ◌++◌, length, map, codes, Some, Ok}
-use Rattle.rx_terms.specs.Ascii.{ampersand, less_than_sign, greater_than_sign, lowered_char}
-use Rattle.rx_terms.specs.Text.{Chars, is_empty}
-use Rattle.rx_chars.specs.declared.syntax.Syntax.{Syntax}
+use Rattle.rx_grammar.specs.Common.{ampersand, less_than_sign, greater_than_sign, lowered_char, Chars, is_empty, Syntax, same, meaning, comment, exclamation_mark, ends_with, ends_comment, has_markup, raw_name, is_known_tag}
 use Rattle.rx_grammar.specs.declared.contents.Content.{Content}
-use Rattle.rx_grammar.specs.Names.{same}
-use Rattle.rx_grammar.specs.References.{meaning}
-use Rattle.rx_grammar.specs.Tokens.{comment}
-use Rattle.rx_grammar.specs.Spelling.{exclamation_mark, ends_with, ends_comment, has_markup, raw_name}
-use Rattle.rx_grammar.specs.PageFaults.{is_known_tag}
 use Rattle.rx_reader.specs.declared.phases.TagPhase.{TagPhase}
 use Rattle.rx_reader.specs.declared.phases.TagPhase.TheVariants as phase
 use Rattle.rx_reader.specs.declared.phases.RunPhase.{RunPhase}

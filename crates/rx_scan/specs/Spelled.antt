@@ -1,23 +1,14 @@
 -- What the bytes spell that a scanner takes, and why it refuses one, by the grammar alone: in whatever content of the syntax it was set.
 use Rattle.std.specs.Prelude.{◌≡◌, ◌≢◌, ◌↔◌, ◌≤◌, ◌<◌, ◌+◌, ◌==◌, ◌&&◌, ◌||◌, not, ℕ, Bool, true, false, List, [], ◌∷◌, ◌++◌, length, take, encode_utf8_all, Result, Ok, Err, Some, None, if◌then◌else◌}
 use Rattle.std.specs.Char.{len_utf8}
-use Rattle.std.specs.Str.{all_scalars}
-use Rattle.rx_terms.specs.Ascii.{greater_than_sign, right_bracket}
-use Rattle.rx_terms.specs.Text.{Chars}
+use Rattle.rx_grammar.specs.Common.{all_scalars, greater_than_sign, right_bracket, Chars, IsCharacter, BeginNone, Syntax, Token, doctype, Line, Phase, values, next_of, Item, Spelled, AllFit, is_literal, is_strict_literal, no_section_end, has_no_nul, IsPending, IsPart, Faulty, is_known_tag}
 use Rattle.rx_chars.specs.Characters.{Entry, byte_order_mark, line_feed, carriage_return, as_line_end, placed, entered}
-use Rattle.rx_chars.specs.Utf8.{IsCharacter, BeginNone}
-use Rattle.rx_chars.specs.declared.syntax.Syntax.{Syntax}
 use Rattle.rx_grammar.specs.declared.contents.Content.{Content}
 use Rattle.rx_grammar.specs.declared.limits.Limits.{Limits}
 use Rattle.rx_grammar.specs.declared.faults.Fault.{Fault}
 use Rattle.rx_grammar.specs.declared.faults.Kind.{Kind}
 use Rattle.rx_grammar.specs.declared.faults.Kind.TheVariants as kind
-use Rattle.rx_grammar.specs.Tokens.{Token, doctype}
 use Rattle.rx_grammar.specs.Spelling as grammar
-use Rattle.rx_grammar.specs.Begun.{Line, Phase}
-use Rattle.rx_grammar.specs.Items.{values, next_of, Item, Spelled, AllFit, is_literal, is_strict_literal, no_section_end}
-use Rattle.rx_grammar.specs.Pages.{has_no_nul}
-use Rattle.rx_grammar.specs.PageFaults.{IsPending, IsPart, Faulty, is_known_tag}
 use Rattle.rx_grammar.specs.PageFaults as faults
 use Rattle.rx_pages.specs.PageReader.{Spot, Scanning, Scanned, token_at, scan_from}
 use Rattle.rx_scan.specs.Scanner.{Scanner, spot_of}

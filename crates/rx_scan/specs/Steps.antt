@@ -1,18 +1,11 @@
 -- What a scanner stands for, and what its calls answer of the bytes.
 use Rattle.std.specs.Prelude.{◌≡◌, ◌≢◌, ℕ, ◌+◌, ◌<◌, ◌≤◌, ◌⊎◌, Bool, true, false, not, ◌||◌, ◌&&◌, ◌==◌, List, [], ◌∷◌, ◌++◌, length, take, slice_get, Option, Some, None, Result, Ok, Err, if◌then◌else◌}
-use Rattle.std.specs.List.{list_all}
-use Rattle.std.specs.Str.{chars}
-use Rattle.rx_terms.specs.Ascii.{ampersand, less_than_sign}
-use Rattle.rx_terms.specs.Text.{Chars, is_empty}
-use Rattle.rx_chars.specs.declared.syntax.Syntax.{Syntax}
-use Rattle.rx_chars.specs.declared.syntax.Syntax.TheVariants.{Html, Xhtml}
+use Rattle.rx_grammar.specs.Common.{list_all, chars, ampersand, less_than_sign, Chars, is_empty, Syntax, Html, Xhtml, Tag, Token, tag, section, comment, doctype, values, Item, text_of, is_line_feed}
 use Rattle.rx_grammar.specs.declared.contents.Content.{Content}
 use Rattle.rx_grammar.specs.declared.contents.Content.TheVariants as content
 use Rattle.rx_grammar.specs.declared.faults.Fault.{Fault}
 use Rattle.rx_grammar.specs.declared.faults.Kind.TheVariants.{Unended}
 use Rattle.rx_grammar.specs.declared.limits.Limits.{Limits}
-use Rattle.rx_grammar.specs.Tokens.{Tag, Token, tag, section, comment, doctype}
-use Rattle.rx_grammar.specs.Items.{values, Item, text_of, is_line_feed}
 use Rattle.rx_reader.specs.Tables.{is_last}
 use Rattle.rx_reader.specs.TagReader.{parts_of, is_closing}
 use Rattle.rx_pages.specs.PageReader.{Scanning, token_at, starts_at, fault_in, Scanned, read_byte, scan_from, is_none_left}

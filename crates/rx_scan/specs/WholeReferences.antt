@@ -1,11 +1,6 @@
 -- References and line ends that stand whole in a piece, and are taken at once, and the text that stands around them.
 use Rattle.std.specs.Prelude.{◌≡◌, ◌+◌, ◌≤◌, ◌<◌, ℕ, true, List, [], ◌∷◌, ◌++◌, length, take, codes, Option, Some, None, if◌then◌else◌}
-use Rattle.rx_terms.specs.Ascii.{line_feed, ampersand, semicolon, quotation_mark, less_than_sign, greater_than_sign}
-use Rattle.rx_terms.specs.Text.{Chars, begins_with}
-use Rattle.rx_chars.specs.declared.syntax.Syntax.{Syntax}
-use Rattle.rx_chars.specs.Characters.{carriage_return}
-use Rattle.rx_grammar.specs.References.{meaning}
-use Rattle.rx_grammar.specs.Spelling.{has_references}
+use Rattle.rx_grammar.specs.Common.{line_feed, ampersand, semicolon, quotation_mark, less_than_sign, greater_than_sign, Chars, begins_with, Syntax, carriage_return, meaning, has_references}
 use Rattle.rx_reader.specs.declared.phases.RunPhase.{RunPhase}
 use Rattle.rx_reader.specs.declared.phases.RunPhase.TheVariants as run
 use Rattle.rx_reader.specs.declared.phases.RunMove.{RunMove}

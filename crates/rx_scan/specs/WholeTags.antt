@@ -1,7 +1,6 @@
 -- A tag that stands whole is taken at once.
 use Rattle.std.specs.Prelude.{◌≡◌, ◌+◌, ◌<◌, ℕ, true, false, List, [], ◌∷◌, take, Ok}
-use Rattle.rx_terms.specs.Ascii.{less_than_sign, greater_than_sign}
-use Rattle.rx_grammar.specs.Spelling.{has_markup}
+use Rattle.rx_grammar.specs.Common.{less_than_sign, greater_than_sign, has_markup}
 use Rattle.rx_tags.specs.Lists.{ClosesAt}
 use Rattle.rx_scan.specs.declared.answers.TokenKind.TheVariants as what
 use Rattle.rx_scan.specs.declared.marks.TokenState.TheVariants as mark

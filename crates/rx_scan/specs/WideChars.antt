@@ -1,7 +1,6 @@
 -- Characters above ASCII at the front of some bytes.
 use Rattle.std.specs.Prelude.{◌≡◌, ◌≤◌, ℕ, true, List, length, take}
-use Rattle.std.specs.List.{list_all}
-use Rattle.std.specs.Str.{IsUtf8}
+use Rattle.rx_terms.specs.Common.{list_all, IsUtf8}
 use Rattle.rx_scan.specs.Plain.{is_plain}
 
 -- So many bytes at the front are one of them, and none of its bytes means anything else.

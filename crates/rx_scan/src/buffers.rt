@@ -1,7 +1,6 @@
 //! Text that is gathered a character at a time.
 ghost use Rattle.std.specs.Prelude.{◌≡◌, ◌+◌, ◌≤◌, true, [], ◌∷◌, ◌++◌, length, IfOk, IsOk, OnErr, OnOk, encode_utf8_all};
-ghost use Rattle.std.specs.Str.{chars};
-ghost use Rattle.rx_terms.specs.Text.{is_empty};
+ghost use Rattle.rx_terms.specs.Common.{chars, is_empty};
 
 use rx_terms::NoMemory;
 use std::alloc::Global;

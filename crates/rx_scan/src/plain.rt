@@ -1,8 +1,7 @@
 //! The plain text at the front of some bytes.
 ghost use Rattle.std.specs.Prelude.{◌≡◌, ◌<◌, ◌≤◌, true, get_or, length, map, take};
-ghost use Rattle.std.specs.List.{list_all};
+ghost use Rattle.rx_terms.specs.Common.{list_all, IsUtf8};
 ghost use Rattle.std.specs.Simd.Lanes.{mask_l};
-ghost use Rattle.std.specs.Str.{IsUtf8};
 ghost use Rattle.rx_scan.specs.Plain.{ends_ascii, is_plain, is_plain_ascii, is_stop};
 
 use crate::wide_chars::wide_length;

@@ -1,9 +1,7 @@
 //! Characters above ASCII, told from their bytes by the table of well-formed UTF-8 (RFC 3629, section 4).
 ghost use Rattle.std.specs.Prelude.{◌≡◌, ◌≤◌, ◌&&◌, true, length, take};
-ghost use Rattle.std.specs.List.{list_all};
-ghost use Rattle.std.specs.Str.{IsUtf8};
+ghost use Rattle.rx_grammar.specs.Common.{list_all, IsUtf8, is_in, tail};
 ghost use Rattle.rx_chars.specs.Held as held;
-ghost use Rattle.rx_chars.specs.Utf8.{is_in, tail};
 ghost use Rattle.rx_scan.specs.Plain.{is_plain};
 ghost use Rattle.rx_scan.specs.WideChars.{BeginsWide};
 

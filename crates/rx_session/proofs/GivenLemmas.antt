@@ -1,14 +1,6 @@
 -- What is made of the triples of a page that was read.
-use Rattle.rx_terms.proofs.Common.{◌≡◌, ◌∙◌, ℕ, zero, suc, Bool, true, false, List, [], ◌∷◌, ◌+◌, map, refl, sym, ap, ap₂, subst, Chars}
-use Rattle.std.specs.Prelude.{Option, Vec}
+use Rattle.rx_rdfa.proofs.Common.{◌≡◌, ◌∙◌, ℕ, zero, suc, Bool, true, false, List, [], ◌∷◌, ◌+◌, map, refl, sym, ap, ap₂, subst, Chars, Option, Vec, Term, Resource, Literal, Triple, set_of, rename_node, rename_term, rename, Renamed, copied, same_bnode, model, made, Context, written, graph_of, exact_bnodes, written_denotes}
 use Rattle.rx_terms.specs.declared.triples.Triple.{Triple as CodeTriple}
-use Rattle.rx_model.proofs.Common.{Term, Resource, Literal, Triple, set_of, rename_node, rename_term, rename, Renamed, copied}
-use Rattle.rx_rdfa.specs.Blanks.{same_bnode, model}
-use Rattle.rx_rdfa.specs.Made.{made}
-use Rattle.rx_rdfa.specs.Names.{Context}
-use Rattle.rx_rdfa.specs.Whole.{written, graph_of}
-use Rattle.rx_rdfa.proofs.Exact.{exact_bnodes}
-use Rattle.rx_rdfa.proofs.Whole.{written_denotes}
 use Rattle.rx_pages.proofs.Trees.{one_tree}
 use Rattle.rx_nquads.specs.Quads.{Quad, quads, proper_term}
 use Rattle.rx_job.specs.Words.{Extraction, extracts}

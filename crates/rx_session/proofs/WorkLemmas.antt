@@ -1,11 +1,6 @@
 -- A page that is being read, and what its calls answer.
-use Rattle.rx_terms.proofs.Common.{◌≡◌, ℕ, List, ◌++◌, refl, sym, subst, inr, Result, Ok, Err, Chars}
-use Rattle.std.specs.Prelude.{Bool, Vec}
+use Rattle.rx_items.proofs.Common.{◌≡◌, ℕ, List, ◌++◌, refl, sym, subst, inr, Result, Ok, Err, Chars, Bool, Vec, Syntax, Tree, Fault, Context, Stop}
 use Rattle.std.specs.declared.alloc.Global.{Global}
-use Rattle.rx_grammar.proofs.Common.{Syntax, Tree}
-use Rattle.rx_grammar.specs.declared.faults.Fault.{Fault}
-use Rattle.rx_rdfa.specs.Names.{Context}
-use Rattle.rx_grammar.specs.declared.stops.Stop.{Stop}
 use Rattle.rx_grammar.specs.declared.stops.Stop.TheVariants as stop
 use Rattle.rx_walk.specs.Settings.{Setting, way_of}
 use Rattle.rx_walk.specs.Walks as walks

@@ -1,10 +1,6 @@
 -- What a page that was read gives.
 use Rattle.std.specs.Prelude.{◌≡◌, ℕ, zero, suc, Bool, true, false, List, [], map, Option, Some, None, option_map}
-use Rattle.rx_model.specs.Terms.{Triple, set_of}
-use Rattle.rx_model.specs.Numbered.{Renamed}
-use Rattle.rx_rdfa.specs.Names.{Context}
-use Rattle.rx_rdfa.specs.Whole.{written, graph_of}
-use Rattle.rx_grammar.specs.Trees.{Tree}
+use Rattle.rx_rdfa.specs.Common.{Triple, set_of, Renamed, Context, written, graph_of, Tree, Bor}
 use Rattle.rx_nquads.specs.Quads.{Quad, quads}
 use Rattle.rx_job.specs.Words.{Task, Extraction, extracts, itemizes, checks}
 use Rattle.rx_page.specs.Outcomes.{IsTheTree, IsTheText}
@@ -18,7 +14,6 @@ use Rattle.rx_session.specs.declared.given.Given.{Given}
 use Rattle.rx_session.specs.declared.given.Given.TheVariants as given
 use Rattle.rx_session.specs.declared.outputs.Plan.{Plan}
 use Rattle.rx_session.specs.declared.outputs.Plan.TheVariants as plan
-use denote.Ref.{Bor}
 
 -- ---- by the definitions
 

@@ -1,12 +1,7 @@
 -- What numbers and bytes from outside ask for.
 use Rattle.std.specs.Prelude.{◌≡◌, ℕ, ◌≤◌, ◌^◌, Bool, true, false, ◌&&◌, ◌==◌, nat_lt, List, [], length, Option, Some, None, is_some, option_map, option_and_then, Result, Ok, Err, if◌then◌else◌}
-use Rattle.std.specs.Str.{chars, is_utf8}
-use Rattle.rx_chars.specs.declared.syntax.Syntax.{Syntax}
+use Rattle.rx_rdfa.specs.Common.{chars, is_utf8, Syntax, is_iri, Chars, Context, standard, Bor}
 use Rattle.rx_chars.specs.declared.syntax.Syntax.TheVariants.{Html, Xhtml}
-use Rattle.rx_terms.specs.Iri.{is_iri}
-use Rattle.rx_terms.specs.Text.{Chars}
-use Rattle.rx_rdfa.specs.Names.{Context}
-use Rattle.rx_rdfa.specs.Standard.{standard}
 use Rattle.rx_names.specs.ContextFiles.{context_of}
 use Rattle.rx_job.specs.declared.formats.Format.TheVariants.{Nquads, Turtle, Nested, Jsonld}
 use Rattle.rx_job.specs.Words.{itemizes, checks}
@@ -18,7 +13,6 @@ use Rattle.rx_session.specs.declared.outputs.Output.TheVariants.{Text, Quads}
 use Rattle.rx_session.specs.declared.errors.OpenError.{OpenError}
 use Rattle.rx_session.specs.declared.errors.OpenError.TheVariants as error
 use Rattle.rx_session.specs.declared.sessions.State.{State}
-use denote.Ref.{Bor}
 
 -- bytes that are lent, if any
 abbrev pub bytes_in : Option (Bor (List ℕ)) → Option (List ℕ)

@@ -1,8 +1,6 @@
 -- What a session stands for, and what its calls answer.
 use Rattle.std.specs.Prelude.{◌≡◌, ℕ, Bool, true, false, List, [], ◌++◌, Option, Some, None, Result, Ok, Err}
-use Rattle.rx_grammar.specs.declared.faults.Fault.{Fault}
-use Rattle.rx_rdfa.specs.Names.{Context}
-use Rattle.rx_grammar.specs.declared.stops.Stop.{Stop}
+use Rattle.rx_rdfa.specs.Common.{Fault, Context, Stop}
 use Rattle.rx_grammar.specs.declared.stops.Stop.TheVariants as stop
 use Rattle.rx_nquads.specs.Quads.{Quad}
 use Rattle.rx_page.specs.Outcomes.{IsTheFault}

@@ -1,7 +1,6 @@
 -- What a session is opened for.
 use Rattle.std.specs.Prelude.{ℕ, Bool, true, false, Option}
-use Rattle.rx_terms.specs.Text.{Chars}
-use Rattle.rx_rdfa.specs.Names.{Context}
+use Rattle.rx_rdfa.specs.Common.{Chars, Context}
 use Rattle.rx_job.specs.declared.formats.Format.{Format}
 use Rattle.rx_job.specs.declared.formats.Format.TheVariants as format
 use Rattle.rx_job.specs.Words as words

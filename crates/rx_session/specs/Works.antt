@@ -1,13 +1,10 @@
 -- What a page that is being read stands for, and what its calls answer.
 use Rattle.std.specs.Prelude.{◌≡◌, ℕ, Bool, List, ◌++◌, Result, Ok, Err}
-use Rattle.rx_grammar.specs.declared.faults.Fault.{Fault}
-use Rattle.rx_rdfa.specs.Names.{Context}
-use Rattle.rx_grammar.specs.declared.stops.Stop.{Stop}
+use Rattle.rx_rdfa.specs.Common.{Fault, Context, Stop, Syntax}
 use Rattle.rx_grammar.specs.declared.stops.Stop.TheVariants as stop
 use Rattle.rx_walk.specs.Walks as walks
 use Rattle.rx_walk.specs.Checks as check
 use Rattle.rx_items.specs.Walks as items
-use Rattle.rx_chars.specs.declared.syntax.Syntax.{Syntax}
 use Rattle.rx_job.specs.Words.{Extraction, Itemization, Task, extracts, itemizes, checks}
 use Rattle.rx_page.specs.Outcomes.{IsTheFault}
 use Rattle.rx_page.specs.Settings.{setting_for, item_setting_for}

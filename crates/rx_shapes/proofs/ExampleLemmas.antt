@@ -1,8 +1,5 @@
 -- The worked examples of shapes.
-use Rattle.rx_terms.proofs.Common.{◌≡◌, ◌⊎◌, ℕ, false, nat_eq, List, [], ◌∷◌, filter, refl, sym, ap, subst, ◌∙◌, inl, inr, true≢false, Chars}
-use Rattle.rx_model.proofs.Common.{Among, Node, Iri, Blank, Term, Resource, Triple, set_of, same_node, same_triple, spo, exact_numbers, exact_nodes, exact_triples, Among_filter, Among_of_filter, rdf_first, rdf_rest, rdf_nil}
-use Rattle.rx_model.specs.Terms.{same_term}
-use Rattle.rx_model.proofs.Exact.{exact_terms}
+use Rattle.rx_model.proofs.Common.{◌≡◌, ◌⊎◌, ℕ, false, nat_eq, List, [], ◌∷◌, filter, refl, sym, ap, subst, ◌∙◌, inl, inr, true≢false, Chars, Among, Node, Iri, Blank, Term, Resource, Triple, set_of, same_node, same_triple, same_term, spo, exact_numbers, exact_nodes, exact_triples, exact_terms, Among_filter, Among_of_filter, rdf_first, rdf_rest, rdf_nil}
 use Rattle.rx_shapes.specs.Shapes.{Parent, Ends, at_iri, at_top, onward, Inner, Pair, Cell, last_cell, next_cell}
 use Rattle.rx_shapes.specs.Examples.{page, knows, likes, nil, nested, below_top, two_parents, self_loop, cycle, list_of_two, third_triple, list_in_list, no_end, nil_as_subject, list_alone, ExamplesHold}
 

@@ -1,7 +1,5 @@
 -- Lists in which each stands once, and which of their elements pass a test.
-use Rattle.rx_terms.proofs.Common.{◌≡◌, ◌⊎◌, ℕ, suc, ◌+◌, Bool, true, false, List, [], ◌∷◌, filter, slice_get, Some, refl, sym, ap, ap₂, subst, ◌∙◌, inl, inr, true≢false, arith, cond, untrue}
-use Rattle.std.proofs.Common.{not, if◌then◌else◌}
-use Rattle.rx_model.proofs.Common.{Among, IsExact, distinct, false_unless, Among_of_filter}
+use Rattle.rx_model.proofs.Common.{◌≡◌, ◌⊎◌, ℕ, suc, ◌+◌, Bool, true, false, List, [], ◌∷◌, filter, slice_get, Some, refl, sym, ap, ap₂, subst, ◌∙◌, inl, inr, true≢false, arith, cond, not, if◌then◌else◌, untrue, Among, IsExact, distinct, false_unless, Among_of_filter}
 use Rattle.rx_shapes.specs.Rows.{positions}
 use Rattle.rx_shapes.proofs.RowLemmas.{positions_none, at_position, position_of, get_among, same_some}
 

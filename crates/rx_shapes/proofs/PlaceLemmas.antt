@@ -1,7 +1,5 @@
 -- What is found by the places of a node's triples.
-use Rattle.rx_terms.proofs.Common.{◌≡◌, ◌∙◌, ℕ, suc, Bool, true, false, cond, nat_eq, List, [], ◌∷◌, ◌++◌, map, filter, length, length-append, slice_get, Option, Some, None, option_to_list, refl, sym, ap, ap₂, arith, append_assoc, option_or, Chars}
-use Rattle.std.proofs.Common.{if◌then◌else◌}
-use Rattle.rx_model.proofs.Common.{Node, Term, Triple, same_node}
+use Rattle.rx_model.proofs.Common.{◌≡◌, ◌∙◌, ℕ, suc, Bool, true, false, cond, nat_eq, List, [], ◌∷◌, ◌++◌, map, filter, length, length-append, slice_get, Option, Some, None, option_to_list, refl, sym, ap, ap₂, arith, append_assoc, if◌then◌else◌, option_or, Chars, Node, Term, Triple, same_node}
 use Rattle.rx_shapes.specs.Rows.{positions}
 use Rattle.rx_shapes.specs.Places.{places_of, picked}
 use Rattle.rx_shapes.specs.Subjects.{about, has_subject, has_predicate, first_of, object_at}

@@ -1,7 +1,5 @@
 -- Numbers that are reached.
-use Rattle.rx_terms.proofs.Common.{◌≡◌, ◌↔◌, ◌⊎◌, ℕ, suc, zero, ◌+◌, ◌<◌, Bool, true, false, nat_eq, List, [], ◌∷◌, ◌++◌, length, get_or, slice_set, replicate, refl, sym, ap, subst, ◌∙◌, inl, inr, true≢false, arith, append-nil, append_assoc, length-append, Decides-eqb}
-use Rattle.std.proofs.Common.{if◌then◌else◌}
-use Rattle.rx_model.proofs.Common.{Among, Among_left, Among_right, Among_cases}
+use Rattle.rx_model.proofs.Common.{◌≡◌, ◌↔◌, ◌⊎◌, ℕ, suc, zero, ◌+◌, ◌<◌, Bool, true, false, nat_eq, List, [], ◌∷◌, ◌++◌, length, get_or, slice_set, replicate, refl, sym, ap, subst, ◌∙◌, inl, inr, true≢false, arith, append-nil, append_assoc, length-append, if◌then◌else◌, Decides-eqb, Among, Among_left, Among_right, Among_cases}
 use Rattle.rx_shapes.specs.Reach.{Reach, unreached, marked, reach_added, reach_all}
 
 -- how many have no mark

@@ -1,8 +1,5 @@
 -- Tables, rows of numbers, and where things stand in a list.
-use Rattle.rx_terms.proofs.Common.{◌≡◌, ℕ, suc, zero, ◌+◌, ◌<◌, ◌≤◌, Bool, true, false, nat_eq, List, [], ◌∷◌, ◌++◌, length, take, get_or, slice_get, Option, Some, None, refl, sym, ap, ap₂, subst, ◌∙◌, inl, inr, true≢false, arith, append-nil, Decides-eqb, take_all}
-use Rattle.std.proofs.Common.{if◌then◌else◌}
-use Rattle.rx_model.proofs.Common.{Among, false_unless}
-use Rattle.rx_model.proofs.Sets.{under_cond}
+use Rattle.rx_model.proofs.Common.{◌≡◌, ℕ, suc, zero, ◌+◌, ◌<◌, ◌≤◌, Bool, true, false, nat_eq, List, [], ◌∷◌, ◌++◌, length, take, get_or, slice_get, Option, Some, None, refl, sym, ap, ap₂, subst, ◌∙◌, inl, inr, true≢false, arith, append-nil, if◌then◌else◌, Decides-eqb, take_all, Among, false_unless, under_cond}
 use Rattle.rx_graph.specs.Rows.{pushed, empty_rows}
 use Rattle.rx_graph.proofs.SetLemmas.{one_more}
 use Rattle.rx_graph.proofs.PatternLemmas.{empty_more}

@@ -1,7 +1,5 @@
 -- The shapes of nodes, by their numbers.
-use Rattle.rx_terms.proofs.Common.{◌≡◌, ◌⊎◌, ℕ, ◌+◌, Bool, true, false, nat_eq, List, [], ◌∷◌, length, get_or, slice_get, Option, Some, None, refl, sym, ap, ap₂, subst, ◌∙◌, inl, inr, true≢false, arith, bytes_eq, Decides-eqb, and_from}
-use Rattle.std.proofs.Common.{◌&&◌, ◌==◌, if◌then◌else◌}
-use Rattle.rx_model.proofs.Common.{Among, Node, Iri, Blank, Term, Resource, Literal, Triple, set_of, same_node, same_triple, spo, exact_texts, exact_numbers, exact_nodes, exact_triples, false_unless, and_left, and_right, rdf_first, rdf_rest, rdf_nil}
+use Rattle.rx_model.proofs.Common.{◌≡◌, ◌⊎◌, ℕ, ◌+◌, Bool, true, false, nat_eq, List, [], ◌∷◌, length, get_or, slice_get, Option, Some, None, refl, sym, ap, ap₂, subst, ◌∙◌, inl, inr, true≢false, arith, bytes_eq, ◌&&◌, ◌==◌, if◌then◌else◌, Decides-eqb, and_from, Among, Node, Iri, Blank, Term, Resource, Literal, Triple, set_of, same_node, same_triple, spo, exact_texts, exact_numbers, exact_nodes, exact_triples, false_unless, and_left, and_right, rdf_first, rdf_rest, rdf_nil}
 use Rattle.rx_graph.specs.Resources.{number_in}
 use Rattle.rx_graph.proofs.PatternLemmas.{number_small, number_same, number_there}
 use Rattle.rx_shapes.specs.declared.chains.Link.{Link}

@@ -1,7 +1,5 @@
 -- How often a number stands in a list, and lists whose elements differ.
-use Rattle.rx_terms.proofs.Common.{◌≡◌, ◌∙◌, ◌≤◌, ℕ, ◌+◌, nat_eq, Bool, true, false, cond, List, [], ◌∷◌, ◌++◌, filter, refl, sym, ap, inl, inr, true≢false, arith}
-use Rattle.std.proofs.Common.{not}
-use Rattle.rx_model.proofs.Common.{Among, IsExact, distinct, Among_of_filter, exact_numbers}
+use Rattle.rx_model.proofs.Common.{◌≡◌, ◌∙◌, ◌≤◌, ℕ, ◌+◌, nat_eq, Bool, true, false, cond, List, [], ◌∷◌, ◌++◌, filter, refl, sym, ap, inl, inr, true≢false, arith, not, Among, IsExact, distinct, Among_of_filter, exact_numbers}
 use Rattle.rx_shapes.proofs.Heights.{Differ}
 
 -- ---- how often a number stands in a list

@@ -1,9 +1,6 @@
 -- What a cell of a list has: its item by rdf:first, and what comes after it by rdf:rest (RDF Schema 1.1, 5.2).
 use Rattle.std.specs.Prelude.{ℕ, List, [], ◌∷◌, slice_get, bytes_eq, Option, Some, None, if◌then◌else◌}
-use Rattle.std.specs.Option.{option_or}
-use Rattle.rx_terms.specs.Text.{Chars}
-use Rattle.rx_model.specs.Terms.{Term, Triple}
-use Rattle.rx_model.specs.Vocabulary.{rdf_first, rdf_rest}
+use Rattle.rx_model.specs.Common.{option_or, Chars, Term, Triple, rdf_first, rdf_rest}
 use Rattle.rx_shapes.specs.declared.cells.CellPart.{CellPart}
 use Rattle.rx_shapes.specs.declared.cells.CellPart.TheVariants as part
 

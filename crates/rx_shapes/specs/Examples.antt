@@ -1,11 +1,8 @@
 -- Worked examples of shapes.
 use Rattle.std.specs.Prelude.{◌≡◌, ℕ, List, [], ◌∷◌, codes, nat_eq}
-use Rattle.rx_terms.specs.Text.{Chars}
-use Rattle.rx_model.specs.Terms.{Node, Iri, Blank, Resource, Triple, set_of}
-use Rattle.rx_model.specs.Copied.{spo}
+use Rattle.rx_model.specs.Common.{Chars, Node, Iri, Blank, Resource, Triple, set_of, spo, rdf_first, rdf_rest, rdf_nil}
 use Rattle.rx_shapes.specs.declared.shapes.Shape.TheVariants as shape
 use Rattle.rx_shapes.specs.Shapes.{IsShape}
-use Rattle.rx_model.specs.Vocabulary.{rdf_first, rdf_rest, rdf_nil}
 use Rattle.rx_shapes.specs.Places.{places_of}
 
 abbrev pub page : Node ℕ

@@ -1,7 +1,6 @@
 -- What holds of shapes.
 use Rattle.std.specs.Prelude.{List}
-use Rattle.rx_model.specs.Terms.{Triple, set_of}
-use Rattle.rx_model.specs.Numbered.{Has, Renamed}
+use Rattle.rx_model.specs.Common.{Triple, set_of, Has, Renamed}
 use Rattle.rx_shapes.specs.declared.shapes.Shape.{Shape}
 use Rattle.rx_shapes.specs.Shapes.{IsShape}
 

@@ -1,7 +1,6 @@
 -- The chains of parents and of lists, by the numbers of nodes.
 use Rattle.std.specs.Prelude.{◌≡◌, ◌↔◌, ℕ, Bool, nat_eq, true, false, ◌&&◌, ◌==◌, List, [], ◌∷◌, length, Option, Some, None, slice_get, get_or, bytes_eq, if◌then◌else◌}
-use Rattle.rx_model.specs.Terms.{Node, Iri, Blank, Term, Resource, Literal, Triple, same_node, same_triple, set_of}
-use Rattle.rx_model.specs.Sets.{Among, contains, distinct, with_one}
+use Rattle.rx_model.specs.Common.{Node, Iri, Blank, Term, Resource, Literal, Triple, same_node, same_triple, set_of, Among, contains, distinct, with_one, rdf_first, rdf_rest, rdf_nil}
 use Rattle.rx_graph.specs.Resources.{number_in}
 use Rattle.rx_shapes.specs.Rows.{filed, table}
 use Rattle.rx_shapes.specs.declared.chains.Link.{Link}
@@ -9,7 +8,6 @@ use Rattle.rx_shapes.specs.declared.chains.Link.TheVariants as link
 use Rattle.rx_shapes.specs.declared.shapes.Shape.{Shape}
 use Rattle.rx_shapes.specs.declared.shapes.Shape.TheVariants as shape
 use Rattle.rx_shapes.specs.Shapes.{Inner, Cell, IsShape}
-use Rattle.rx_model.specs.Vocabulary.{rdf_first, rdf_rest, rdf_nil}
 
 -- the number of a term, where it is a blank node that has one
 abbrev pub object_number : List (Node ℕ) → Term ℕ → Option ℕ

@@ -1,10 +1,7 @@
 -- Which blank nodes a text can write where they are used: RDF 1.1 Turtle, 2.7 (nesting blank nodes) and 2.8
 -- (collections). The standard says how such a text is read; which nodes of a graph have which shape is our own.
 use Rattle.std.specs.Prelude.{◌≡◌, ◌⊎◌, ℕ, List}
-use Rattle.rx_terms.specs.Text.{Chars}
-use Rattle.rx_model.specs.Terms.{Node, Iri, Blank, Term, Resource, Triple, Graph, set_of}
-use Rattle.rx_model.specs.Copied.{spo}
-use Rattle.rx_model.specs.Vocabulary.{rdf_first, rdf_rest, rdf_nil}
+use Rattle.rx_model.specs.Common.{Chars, Node, Iri, Blank, Term, Resource, Triple, Graph, set_of, spo, rdf_first, rdf_rest, rdf_nil}
 use Rattle.rx_shapes.specs.declared.shapes.Shape.{Shape}
 use Rattle.rx_shapes.specs.declared.shapes.Shape.TheVariants as shape
 

@@ -1,8 +1,6 @@
 -- What a list of triples says of each subject, in order of first occurrence.
 use Rattle.std.specs.Prelude.{ℕ, nat_eq, Bool, List, [], ◌∷◌, map, filter, bytes_eq, Option, Some, None}
-use Rattle.rx_terms.specs.Text.{Chars}
-use Rattle.rx_model.specs.Sets.{distinct}
-use Rattle.rx_model.specs.Terms.{Node, Term, Triple, same_node}
+use Rattle.rx_model.specs.Common.{Chars, distinct, Node, Term, Triple, same_node}
 
 abbrev pub has_subject : Node ℕ → Triple ℕ → Bool
 has_subject node t = same_node nat_eq t.subject node

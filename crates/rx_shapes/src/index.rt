@@ -1,8 +1,6 @@
 //! Nodes by number.
 ghost use Rattle.std.specs.Prelude.{◌≡◌, [], length, IfOk, OnOk, nat_eq};
-ghost use Rattle.rx_model.specs.Terms.{same_node};
-ghost use Rattle.rx_model.specs.Sets.{with_one};
-ghost use Rattle.rx_model.specs.Seen.{node_seen, term_seen, triple_seen, triples_seen};
+ghost use Rattle.rx_model.specs.Common.{same_node, with_one, node_seen, term_seen, triple_seen, triples_seen};
 ghost use Rattle.rx_graph.specs.Resources.{number_in};
 ghost use Rattle.rx_shapes.specs.Links.{object_number, triple_added, IsIndex};
 
@@ -20,8 +18,7 @@ pub(crate) struct Index {
 
 impl Model for Index {
     ghost use Rattle.std.specs.Prelude.{ℕ, List, map};
-    ghost use Rattle.rx_model.specs.Terms.{Node};
-    ghost use Rattle.rx_model.specs.Seen.{node_seen};
+    ghost use Rattle.rx_model.specs.Common.{Node, node_seen};
 
     ghost Value = { List (Node ℕ) };
 

@@ -1,8 +1,6 @@
 //! RDF's vocabulary for lists and types.
 ghost use Rattle.std.specs.Prelude.{◌≡◌, true, bytes_eq};
-ghost use Rattle.std.specs.List.{list_all};
-ghost use Rattle.rx_terms.specs.Ascii.{is_ascii};
-ghost use Rattle.rx_model.specs.Vocabulary.{rdf_type, rdf_first, rdf_rest, rdf_nil};
+ghost use Rattle.rx_model.specs.Common.{list_all, is_ascii, rdf_type, rdf_first, rdf_rest, rdf_nil};
 
 use rx_terms::Iri;
 

@@ -1,13 +1,8 @@
 -- What is done at a tag's `>` is what the reader does.
-use Rattle.rx_terms.proofs.Common.{◌≡◌, ◌∙◌, sym, ap, subst, refl, ℕ, [], ◌∷◌, ◌++◌, List, Bool, true, false, Result, Ok, Err, ◌&&◌, and-false, greater_than_sign, Chars}
-use Rattle.std.proofs.Common.{not}
-use Rattle.rx_grammar.proofs.Common.{Syntax, Html, Xhtml, Attribute, meaning, has_repeat, is_repeated}
+use Rattle.rx_reader.proofs.Common.{◌≡◌, ◌∙◌, sym, ap, subst, refl, ℕ, [], ◌∷◌, ◌++◌, List, Bool, true, false, Result, Ok, Err, not, ◌&&◌, and-false, greater_than_sign, Chars, Syntax, Html, Xhtml, Attribute, meaning, has_repeat, is_repeated, Move, is_last, is_html, no_value_yet, TagState, with_attribute, moved, checked}
 use Rattle.rx_reader.specs.declared.phases.TagPhase.{TagPhase}
 use Rattle.rx_reader.specs.declared.phases.TagAction.{TagAction}
 use Rattle.rx_reader.specs.declared.phases.TagAction.TheVariants as action
-use Rattle.rx_reader.specs.Tables.{Move, is_last, is_html}
-use Rattle.rx_reader.specs.Values.{no_value_yet}
-use Rattle.rx_reader.specs.TagReader.{TagState, with_attribute, moved, checked}
 use Rattle.rx_tags.specs.declared.pairs.TagError.{TagError}
 use Rattle.rx_tags.specs.declared.pairs.TagError.TheVariants.{Bad, NoMemory}
 use Rattle.rx_tags.specs.Fronts.{Closes}

@@ -1,11 +1,5 @@
 -- Bytes that are looked at sixteen at a time.
-use Rattle.rx_terms.proofs.Common.{◌≡◌, ◌∙◌, ℕ, ◌+◌, ◌%◌, ◌^◌, ◌<◌, ◌≤◌, Bool, true, false, cond, List, [], ◌∷◌, map, replicate, length, take, drop, refl, sym, ap, ap₂, arith, take-add, zero, suc, ◌&&◌, list_all, and_from, and_parts, length-map, length-take, take_all, list_all-append}
-use Rattle.std.proofs.Common.{not, eqb, leb, w8, Fits}
-use Rattle.std.specs.List.{prefix_len}
-use Rattle.std.proofs.lemmas.Bool.{agree_below, agree_below_at, both_ways}
-use Rattle.std.proofs.lemmas.List.{take-take}
-use Rattle.std.proofs.lemmas.List.Sums.{prefix_len-le-length}
-use Rattle.std.proofs.lemmas.Simd.{mask_l-mod, zip2_of_maps, leading_from_mask_l, trailing_mask_l}
+use Rattle.rx_terms.proofs.Common.{◌≡◌, ◌∙◌, ℕ, ◌+◌, ◌%◌, ◌^◌, ◌<◌, ◌≤◌, Bool, true, false, cond, List, [], ◌∷◌, map, replicate, length, take, drop, refl, sym, ap, ap₂, arith, take-add, zero, suc, not, eqb, leb, w8, Fits, ◌&&◌, list_all, prefix_len, and_from, and_parts, agree_below, agree_below_at, both_ways, length-map, length-take, take_all, take-take, list_all-append, prefix_len-le-length, mask_l-mod, zip2_of_maps, leading_from_mask_l, trailing_mask_l}
 use lib.Bits.{bit_or}
 use lib.Count.{count_trailing_zeros}
 use lib.Lanes.{zip2, mask_l, top, Each1, chunk}

@@ -1,8 +1,5 @@
 -- Attributes that are copied as they are written are read like their characters one after another.
-use Rattle.rx_terms.proofs.Common.{◌≡◌, ◌∙◌, ℕ, ◌+◌, ◌-◌, ◌≤◌, ◌<◌, List, [], ◌∷◌, ◌++◌, length, take, drop, refl, ap, sym, subst, arith, take-add, length-take-le, get_or, chars, IsUtf8, take-append-drop, take_rest, map-append, chars-nil, ascii-utf8, ascii-chars, Chars}
-use Rattle.std.proofs.Common.{length-drop}
-use Rattle.std.proofs.lemmas.Str.{IsUtf8-nil}
-use Rattle.rx_grammar.proofs.Common.{Syntax, Attribute}
+use Rattle.rx_grammar.proofs.Common.{◌≡◌, ◌∙◌, ℕ, ◌+◌, ◌-◌, ◌≤◌, ◌<◌, List, [], ◌∷◌, ◌++◌, length, take, drop, refl, ap, sym, subst, arith, take-add, length-take-le, get_or, length-drop, chars, IsUtf8, take-append-drop, take_rest, map-append, chars-nil, IsUtf8-nil, ascii-utf8, ascii-chars, Chars, Syntax, Attribute}
 use Rattle.rx_reader.specs.declared.phases.RunPhase.{RunPhase}
 use Rattle.rx_reader.specs.declared.phases.RunPhase.TheVariants as run
 use Rattle.rx_reader.specs.declared.phases.TagPhase.TheVariants as phase

@@ -1,8 +1,5 @@
 -- Names that have different marks are different.
-use Rattle.rx_terms.proofs.Common.{◌≡◌, ◌∙◌, sym, ap, ap₂, refl, ℕ, ◌+◌, ◌<◌, List, [], ◌∷◌, length, take, Bool, true, false, get_or, eqb-true, inl, inr, ◌==◌, ◌||◌, and_parts, eqb-false, get_or-set_other, by_test, either, not_both_ways}
-use Rattle.std.specs.Prelude.{nat_eq, slice_set}
-use Rattle.std.proofs.lemmas.Grind.{get_or-set_at}
-use Rattle.rx_grammar.proofs.Common.{same}
+use Rattle.rx_grammar.proofs.Common.{◌≡◌, ◌∙◌, sym, ap, ap₂, refl, ℕ, ◌+◌, ◌<◌, List, [], ◌∷◌, length, take, Bool, true, false, get_or, eqb-true, inl, inr, ◌==◌, ◌||◌, nat_eq, slice_set, and_parts, eqb-false, get_or-set_other, by_test, either, not_both_ways, get_or-set_at, same}
 use Rattle.rx_tags.specs.declared.attributes.AttributeSpan.{AttributeSpan}
 use Rattle.rx_tags.specs.Reading.{piece}
 use Rattle.rx_tags.specs.Repeats.{is_named, mark_of}

@@ -1,6 +1,5 @@
 -- Numbers past the last code point may be cut down to the first one past it.
-use Rattle.std.proofs.Common.{◌≡◌, ◌∙◌, sym, refl, ℕ, ◌+◌, ◌*◌, ◌≤◌, ◌<◌, List, [], ◌∷◌, arith, inl, inr, ◌⊎◌, zero, suc, length, drop, get_or}
-use Rattle.rx_grammar.specs.References.{number_from, digit_value}
+use Rattle.rx_grammar.proofs.Common.{◌≡◌, ◌∙◌, sym, refl, ℕ, ◌+◌, ◌*◌, ◌≤◌, ◌<◌, List, [], ◌∷◌, arith, inl, inr, ◌⊎◌, zero, suc, length, drop, get_or, number_from, digit_value}
 use Rattle.rx_tags.specs.Numbers.{capped}
 use Rattle.std.proofs.Math.Nat.{min-eq_left, min-eq_right, min-le_right}
 

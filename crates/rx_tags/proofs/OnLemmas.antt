@@ -1,12 +1,8 @@
 -- What ends a value, a name or a run is read like one character more.
-use Rattle.rx_terms.proofs.Common.{◌≡◌, ◌∙◌, ℕ, ◌+◌, ◌-◌, ◌<◌, ◌≤◌, true, false, List, [], length, take, drop, refl, ap, sym, subst, Result, Ok, Err, is_err, arith, eqb-true, get_or, cond-true, Chars}
-use Rattle.rx_grammar.proofs.Common.{Syntax, meaning}
-use Rattle.rx_grammar.specs.declared.faults.Kind.{Kind}
+use Rattle.rx_reader.proofs.Common.{◌≡◌, ◌∙◌, ℕ, ◌+◌, ◌-◌, ◌<◌, ◌≤◌, true, false, List, [], length, take, drop, refl, ap, sym, subst, Result, Ok, Err, is_err, arith, eqb-true, get_or, cond-true, Chars, Syntax, meaning, Kind, Move, go, move_of, TagState, with_attribute, moved, checked}
 use Rattle.rx_reader.specs.declared.phases.TagPhase.{TagPhase}
 use Rattle.rx_reader.specs.declared.phases.TagPhase.TheVariants as phase
 use Rattle.rx_reader.specs.declared.phases.TagAction.TheVariants as action
-use Rattle.rx_reader.specs.Tables.{Move, go, move_of}
-use Rattle.rx_reader.specs.TagReader.{TagState, with_attribute, moved, checked}
 use Rattle.rx_tags.specs.Fronts.{is_printed, ends_value, Skips, GoesTo, TakesFront, TakesOn}
 use Rattle.rx_tags.specs.declared.pairs.TagError.{TagError}
 use Rattle.rx_tags.specs.Pairs.{Pairs, AddGives}

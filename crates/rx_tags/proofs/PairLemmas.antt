@@ -1,19 +1,12 @@
 -- What the moves of a value do is what the reader does.
-use Rattle.rx_terms.proofs.Common.{◌≡◌, ◌∙◌, sym, ap, subst, refl, Some, None, ℕ, true, false, [], ◌∷◌, ◌++◌, Option, Result, Ok, Err, arith, nat_tests, and_parts, and_from, list_all, ascii-same, ampersand, number_sign, semicolon, is_ascii, is_letter, is_digit, is_letter_or_digit, Chars, by_test, split}
-use Rattle.std.proofs.Common.{◌==◌, if◌then◌else◌}
+use Rattle.rx_reader.proofs.Common.{◌≡◌, ◌∙◌, sym, ap, subst, refl, Some, None, ℕ, true, false, [], ◌∷◌, ◌++◌, Option, Result, Ok, Err, arith, ◌==◌, if◌then◌else◌, nat_tests, and_parts, and_from, list_all, ascii-same, ampersand, number_sign, semicolon, is_ascii, is_letter, is_digit, is_letter_or_digit, Chars, by_test, split, encode_utf8_all, OnOk, OnErr, Syntax, Html, Xhtml, is_plain, is_x, is_hexadecimal_digit, Kind, StrictText, run_move, Value, no_meaning, known_as, plain_step, meant, run_step, value_step, value_end, is_run}
 use Rattle.std.proofs.lemmas.List.{append-nil, append_assoc}
-use Rattle.std.specs.Prelude.{encode_utf8_all, OnOk, OnErr}
 use Rattle.std.specs.Result.{is_err}
 use Rattle.rx_terms.specs.declared.texts.NoMemory.{NoMemory}
-use Rattle.rx_grammar.proofs.Common.{Syntax, Html, Xhtml, is_plain, is_x, is_hexadecimal_digit}
-use Rattle.rx_grammar.specs.declared.faults.Kind.{Kind}
-use Rattle.rx_grammar.specs.declared.faults.Kind.TheVariants.{StrictText}
 use Rattle.rx_reader.specs.declared.phases.RunPhase.{RunPhase}
 use Rattle.rx_reader.specs.declared.phases.RunPhase.TheVariants as run
 use Rattle.rx_reader.specs.declared.phases.RunMove.{RunMove}
 use Rattle.rx_reader.specs.declared.phases.RunMove.TheVariants as reader
-use Rattle.rx_reader.specs.Tables.{run_move}
-use Rattle.rx_reader.specs.Values.{Value, no_meaning, known_as, plain_step, meant, run_step, value_step, value_end, is_run}
 use Rattle.rx_tags.specs.declared.values.ValueMove.{ValueMove}
 use Rattle.rx_tags.specs.declared.values.ValueMove.TheVariants.{Begins, Is, Goes, Closes, Bad}
 use Rattle.rx_tags.specs.ValueMoves.{plain_move, of_run, value_move}

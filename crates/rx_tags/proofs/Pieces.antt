@@ -1,9 +1,6 @@
 -- Pieces of a buffer that grows at its end.
-use Rattle.rx_terms.proofs.Common.{◌≡◌, ◌∙◌, sym, ap, refl, ℕ, ◌+◌, ◌-◌, ◌≤◌, ◌<◌, List, [], ◌∷◌, ◌++◌, length, take, drop, arith, encode_utf8, zero, suc, slice_get, get_or, Some, true, chars, IsUtf8, IsScalar, list_all, take-append-drop, length-drop, length-take, map-append, chars-append, chars_past_char, chars-nil, encodes-chars, IsUtf8-append, ascii-utf8, ascii-chars, is_ascii, Chars}
-use Rattle.std.specs.Prelude.{encode_utf8_all}
-use Rattle.std.proofs.lemmas.Grind.{common_steps}
-use Rattle.std.proofs.lemmas.List.{take-append-le, drop-append-le, length-append, append_assoc, append-nil}
-use Rattle.std.proofs.lemmas.Str.{IsUtf8-encode, IsUtf8-nil}
+use Rattle.rx_terms.proofs.Common.{◌≡◌, ◌∙◌, sym, ap, refl, ℕ, ◌+◌, ◌-◌, ◌≤◌, ◌<◌, List, [], ◌∷◌, ◌++◌, length, take, drop, arith, encode_utf8, zero, suc, slice_get, get_or, Some, true, chars, IsUtf8, IsScalar, list_all, chars-append, chars_past_char, chars-nil, encodes-chars, IsUtf8-append, IsUtf8-encode, IsUtf8-nil, ascii-utf8, ascii-chars, is_ascii, Chars, encode_utf8_all, common_steps}
+use Rattle.std.proofs.lemmas.List.{take-append-drop, length-drop, length-take, map-append, take-append-le, drop-append-le, length-append, append_assoc, append-nil}
 use Rattle.rx_tags.specs.declared.attributes.AttributeSpan.{AttributeSpan}
 use Rattle.rx_tags.specs.Reading.{Reading, piece, row_read, rows_read, read_as, RowFits, RowsFit, Fits, nothing_read}
 

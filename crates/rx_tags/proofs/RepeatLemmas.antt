@@ -1,15 +1,8 @@
 -- Names that stand twice.
-use Rattle.rx_terms.proofs.Common.{◌≡◌, ◌∙◌, sym, ap, refl, ℕ, ◌+◌, ◌-◌, ◌≤◌, ◌<◌, zero, suc, List, [], ◌∷◌, ◌++◌, length, take, drop, arith, Bool, true, false, cond, ◌||◌, not, slice_index_or, slice_cmp, is_eq, chars, IsUtf8, length-drop, length-map, map-append, list_any-append, nat_tests, or-false, Chars, same-chars, by_test, or_parts}
-use Rattle.std.proofs.lemmas.Grind.{common_steps}
-use Rattle.std.specs.Prelude.{nat_eq}
-use Rattle.std.specs.Ordering.{nat_cmp}
-use Rattle.std.proofs.lemmas.Map.Text.{is_eq-slice_cmp}
-use Rattle.std.proofs.lemmas.List.{length-append, append_assoc, append-nil}
+use Rattle.rx_grammar.proofs.Common.{◌≡◌, ◌∙◌, sym, ap, refl, ℕ, ◌+◌, ◌-◌, ◌≤◌, ◌<◌, zero, suc, List, [], ◌∷◌, ◌++◌, length, take, drop, arith, Bool, true, false, cond, ◌||◌, not, slice_index_or, nat_eq, slice_cmp, chars, IsUtf8, list_any-append, nat_tests, or-false, or_comm, Chars, same-chars, by_test, or_parts, common_steps, is_eq-slice_cmp, same, Attribute, has_name, has_repeat, without, firsts}
+use Rattle.std.specs.Ordering.{is_eq, nat_cmp}
+use Rattle.std.proofs.lemmas.List.{length-drop, length-map, map-append, length-append, append_assoc, append-nil}
 use Rattle.std.proofs.Math.Seq.{drop-cons, take-suc}
-use Rattle.std.proofs.Math.Bool.{or_comm}
-use Rattle.rx_grammar.proofs.Common.{same, Attribute, has_repeat}
-use Rattle.rx_grammar.specs.Tokens.{has_name}
-use Rattle.rx_grammar.specs.Tags.{without, firsts}
 use Rattle.rx_tags.proofs.Pieces.{rows_fit_append}
 use Rattle.rx_tags.specs.declared.attributes.AttributeSpan.{AttributeSpan}
 use Rattle.rx_tags.specs.Reading.{Reading, piece, row_read, rows_read, read_as, RowFits, RowsFit, Fits}

@@ -1,15 +1,9 @@
 -- Outside a value's phases no value is being read.
-use Rattle.rx_terms.proofs.Common.{◌≡◌, ◌∙◌, sym, ap, refl, subst, ℕ, [], Bool, true, false, Some, None, Option, Result, Ok, Err, quotation_mark, apostrophe, solidus, equals_sign, greater_than_sign, is_white_space, Chars, split, not_both_ways}
-use Rattle.std.proofs.Common.{◌==◌, not, if◌then◌else◌}
-use Rattle.rx_grammar.proofs.Common.{Syntax, begins_tag, is_tag_char, begins_attribute, continues_attribute}
-use Rattle.rx_grammar.specs.declared.faults.Kind.{Kind}
+use Rattle.rx_reader.proofs.Common.{◌≡◌, ◌∙◌, sym, ap, refl, subst, ℕ, [], Bool, true, false, Some, None, Option, Result, Ok, Err, ◌==◌, not, if◌then◌else◌, quotation_mark, apostrophe, solidus, equals_sign, greater_than_sign, is_white_space, Chars, split, not_both_ways, Syntax, begins_tag, is_tag_char, begins_attribute, continues_attribute, Kind, move_of, is_html, is_last, Value, no_value_yet, value_end, TagState, with_attribute}
 use Rattle.rx_reader.specs.declared.phases.TagPhase.{TagPhase}
 use Rattle.rx_reader.specs.declared.phases.TagPhase.TheVariants as phase
 use Rattle.rx_reader.specs.declared.phases.TagAction.{TagAction}
 use Rattle.rx_reader.specs.declared.phases.TagAction.TheVariants as action
-use Rattle.rx_reader.specs.Tables.{move_of, is_html, is_last}
-use Rattle.rx_reader.specs.Values.{Value, no_value_yet, value_end}
-use Rattle.rx_reader.specs.TagReader.{TagState, with_attribute}
 use Rattle.rx_tags.specs.Pairs.{Pairs}
 use Rattle.rx_tags.specs.TagReads.{is_value_phase, IsSettled, ActGives, CanEnd, state_of}
 

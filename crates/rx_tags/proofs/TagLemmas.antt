@@ -1,13 +1,8 @@
 -- A tag that stands whole is read like its characters one after another.
-use Rattle.rx_terms.proofs.Common.{◌≡◌, ◌∙◌, ℕ, ◌+◌, ◌-◌, ◌≤◌, ◌<◌, Bool, List, length, take, drop, refl, ap, sym, subst, arith, get_or, take_rest, solidus, greater_than_sign, Chars}
-use Rattle.std.proofs.Common.{length-drop}
-use Rattle.std.proofs.lemmas.Grind.{common_steps}
-use Rattle.rx_grammar.proofs.Common.{Syntax, Html, Xhtml, has_repeat}
+use Rattle.rx_reader.proofs.Common.{◌≡◌, ◌∙◌, ℕ, ◌+◌, ◌-◌, ◌≤◌, ◌<◌, Bool, List, length, take, drop, refl, ap, sym, subst, arith, get_or, length-drop, take_rest, solidus, greater_than_sign, Chars, common_steps, Syntax, Html, Xhtml, has_repeat, go, move_of, TagState}
 use Rattle.rx_reader.specs.declared.phases.TagPhase.{TagPhase}
 use Rattle.rx_reader.specs.declared.phases.TagPhase.TheVariants as phase
 use Rattle.rx_reader.specs.declared.phases.TagAction.TheVariants as action
-use Rattle.rx_reader.specs.Tables.{go, move_of}
-use Rattle.rx_reader.specs.TagReader.{TagState}
 use Rattle.rx_tags.specs.Fronts.{GainsName, TakesFront}
 use Rattle.rx_tags.specs.Lists.{ClosesAt, TakesList, TakesBehind, TakesTag}
 use Rattle.rx_tags.specs.Pairs.{Pairs, no_pairs}

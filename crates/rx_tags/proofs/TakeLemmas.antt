@@ -1,18 +1,11 @@
 -- Characters that a tag takes at once are read like one after another.
-use Rattle.rx_terms.proofs.Common.{◌≡◌, ◌∙◌, ℕ, ◌+◌, ◌-◌, ◌≤◌, ◌<◌, Bool, true, false, List, [], ◌∷◌, ◌++◌, length, take, drop, refl, ap, sym, subst, Result, Ok, append_assoc, arith, eqb-true, take-add, length-take-le, get_or, inl, inr, ◌==◌, ◌&&◌, nat_le, MatchBool, list_all, cond-true, cond-false, or_left, or_right, lt-ltb, le-leb, leb-true, eqb-false, and_parts, and_from, cases_lt, take_more, take_rest, list_all-append, is_ascii, Chars, by_test}
-use Rattle.std.proofs.Common.{length-drop}
-use Rattle.std.proofs.lemmas.Bool.{lt-leb, both_ways}
+use Rattle.rx_reader.proofs.Common.{◌≡◌, ◌∙◌, ℕ, ◌+◌, ◌-◌, ◌≤◌, ◌<◌, Bool, true, false, List, [], ◌∷◌, ◌++◌, length, take, drop, refl, ap, sym, subst, Result, Ok, append_assoc, arith, eqb-true, take-add, length-take-le, get_or, inl, inr, length-drop, ◌==◌, ◌&&◌, nat_le, MatchBool, list_all, cond-true, cond-false, or_left, or_right, lt-ltb, le-leb, leb-true, eqb-false, and_parts, and_from, cases_lt, lt-leb, both_ways, take_more, take_rest, list_all-append, is_ascii, Chars, by_test, Syntax, Html, Xhtml, meaning, cased_char, Kind, Move, go, move_of, is_last, Value, known_as, plain_step, value_step, is_run, TagState, with_value, moved, checked, tag_on}
 use Rattle.rx_chars.specs.NcName.{is_nc, is_nc_start}
-use Rattle.rx_grammar.proofs.Common.{Syntax, Html, Xhtml, meaning, cased_char}
-use Rattle.rx_grammar.specs.declared.faults.Kind.{Kind}
 use Rattle.rx_reader.specs.declared.phases.RunPhase.{RunPhase}
 use Rattle.rx_reader.specs.declared.phases.RunPhase.TheVariants as run
 use Rattle.rx_reader.specs.declared.phases.TagPhase.{TagPhase}
 use Rattle.rx_reader.specs.declared.phases.TagPhase.TheVariants as phase
 use Rattle.rx_reader.specs.declared.phases.TagAction.TheVariants as action
-use Rattle.rx_reader.specs.Tables.{Move, go, move_of, is_last}
-use Rattle.rx_reader.specs.Values.{Value, known_as, plain_step, value_step, is_run}
-use Rattle.rx_reader.specs.TagReader.{TagState, with_value, moved, checked, tag_on}
 use Rattle.rx_tags.specs.Fronts.{is_printed, is_plain, is_small, is_quoted, is_naming, named, opens_key, GoesTo, GoesBy, TakesFront, GainsValue, GainsKey, GainsName}
 use Rattle.rx_tags.specs.Pairs.{Pairs, pairs_read, IsPending}
 use Rattle.rx_tags.specs.Reading.{Reading}

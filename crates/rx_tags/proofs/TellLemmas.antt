@@ -1,12 +1,5 @@
 -- What the reader's answers tell of the characters so far, and they of the answers, by the grammar.
-use Rattle.rx_terms.proofs.Common.{◌≡◌, ◌∙◌, sym, ap, subst, refl, ℕ, ◌+◌, true, false, List, [], ◌∷◌, ◌++◌, take, append_assoc, Result, Ok, Err, inl, inr, take_more, greater_than_sign, Chars, not_both_ways}
-use Rattle.rx_grammar.proofs.Common.{Syntax, meaning, Tag, SpellsTag, TagFault}
-use Rattle.rx_grammar.specs.declared.faults.Kind.{Kind}
-use Rattle.rx_grammar.specs.TagFaults.{BeginsTag}
-use Rattle.rx_reader.specs.Tables.{is_last}
-use Rattle.rx_reader.specs.TagReader.{TagState, fresh, tag_step, tag_step_on, tag_on, parts_of}
-use Rattle.rx_reader.proofs.TagLaws.{spells_each, reads_each, tag_on-append}
-use Rattle.rx_reader.proofs.TagFaultLaws.{begins_from, reads_on, refuses_each_fault, is_refused}
+use Rattle.rx_reader.proofs.Common.{◌≡◌, ◌∙◌, sym, ap, subst, refl, ℕ, ◌+◌, true, false, List, [], ◌∷◌, ◌++◌, take, append_assoc, Result, Ok, Err, inl, inr, take_more, greater_than_sign, Chars, not_both_ways, Syntax, meaning, Tag, SpellsTag, TagFault, BeginsTag, Kind, is_last, TagState, fresh, tag_step, tag_step_on, tag_on, parts_of, spells_each, reads_each, tag_on-append, begins_from, reads_on, refuses_each_fault, is_refused}
 use Rattle.rx_tags.specs.declared.tag_text.TagStep.{TagStep}
 use Rattle.rx_tags.specs.declared.tag_text.TagStep.TheVariants.{More, Done}
 use Rattle.rx_tags.specs.declared.pairs.TagError.{TagError}

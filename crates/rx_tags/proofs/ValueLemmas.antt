@@ -1,6 +1,5 @@
 -- The first attribute of a name.
-use Rattle.rx_terms.proofs.Common.{◌≡◌, ap, refl, ℕ, suc, zero, ◌+◌, true, false, List, [], ◌∷◌, Some, slice_get, drop, arith, Chars}
-use Rattle.rx_grammar.proofs.Common.{same, Attribute, value_of}
+use Rattle.rx_grammar.proofs.Common.{◌≡◌, ap, refl, ℕ, suc, zero, ◌+◌, true, false, List, [], ◌∷◌, Some, slice_get, drop, arith, Chars, same, Attribute, value_of}
 
 drop_at : (xs : List Attribute) (i : ℕ) (a : Attribute) → slice_get xs i ≡ Some a → drop i xs ≡ a ∷ drop (i + 1) xs
 drop_at [] i a h = absurd (cc)

@@ -1,10 +1,8 @@
 -- An attribute that stands whole is read like its characters one after another.
-use Rattle.rx_terms.proofs.Common.{◌≡◌, ℕ, ◌+◌, ◌<◌, true, false, List, [], ◌++◌, length, take, drop, refl, ap, sym, subst, arith, get_or, zero, suc, ◌==◌, MatchBool, list_all, take_rest, length-drop, Chars}
-use Rattle.rx_grammar.proofs.Common.{Syntax}
+use Rattle.rx_reader.proofs.Common.{◌≡◌, ℕ, ◌+◌, ◌<◌, true, false, List, [], ◌++◌, length, take, drop, refl, ap, sym, subst, arith, get_or, zero, suc, ◌==◌, MatchBool, list_all, Chars, Syntax, TagState, Value, known_as, no_value_yet}
+use Rattle.std.proofs.lemmas.List.{take_rest, length-drop}
 use Rattle.rx_reader.specs.declared.phases.TagPhase.{TagPhase}
 use Rattle.rx_reader.specs.declared.phases.TagPhase.TheVariants as phase
-use Rattle.rx_reader.specs.TagReader.{TagState}
-use Rattle.rx_reader.specs.Values.{Value, known_as, no_value_yet}
 use Rattle.rx_tags.specs.Fronts.{is_printed, is_plain, opens_key, GoesTo, TakesFront, GainsValue, IsWhole, GainsWhole}
 use Rattle.rx_tags.specs.Pairs.{Pairs}
 use Rattle.rx_tags.specs.TagReads.{state_of, is_value_phase, IsSettled}

@@ -1,10 +1,6 @@
 -- Characters at the front of some bytes that a tag takes at once.
 use Rattle.std.specs.Prelude.{◌≡◌, ◌+◌, ◌<◌, ◌≤◌, ℕ, Bool, true, false, not, ◌&&◌, ◌||◌, ◌==◌, List, [], ◌∷◌, ◌++◌, length, take, drop, get_or, Option, Some, None, Ok}
-use Rattle.std.specs.List.{list_all}
-use Rattle.rx_terms.specs.Ascii.{quotation_mark, ampersand, apostrophe, less_than_sign, equals_sign, greater_than_sign, between}
-use Rattle.rx_terms.specs.Text.{Chars}
-use Rattle.rx_chars.specs.declared.syntax.Syntax.{Syntax}
-use Rattle.rx_grammar.specs.References.{meaning}
+use Rattle.rx_grammar.specs.Common.{list_all, quotation_mark, ampersand, apostrophe, less_than_sign, equals_sign, greater_than_sign, between, Chars, Syntax, meaning}
 use Rattle.rx_reader.specs.declared.phases.RunPhase.TheVariants as run
 use Rattle.rx_reader.specs.declared.phases.TagPhase.{TagPhase}
 use Rattle.rx_reader.specs.declared.phases.TagPhase.TheVariants as phase

@@ -1,10 +1,6 @@
 -- Attributes that stand whole at the front of some bytes, a space apart, and a tag that stands whole there.
 use Rattle.std.specs.Prelude.{◌≡◌, ◌+◌, ◌<◌, ℕ, false, List, [], ◌∷◌, ◌++◌, length, take, drop, get_or}
-use Rattle.rx_terms.specs.Ascii.{greater_than_sign}
-use Rattle.rx_terms.specs.Text.{Chars}
-use Rattle.rx_chars.specs.declared.syntax.Syntax.{Syntax}
-use Rattle.rx_grammar.specs.Tags.{has_repeat}
-use Rattle.rx_grammar.specs.Tokens.{Attribute}
+use Rattle.rx_grammar.specs.Common.{greater_than_sign, Chars, Syntax, has_repeat, Attribute}
 use Rattle.rx_reader.specs.declared.phases.TagPhase.{TagPhase}
 use Rattle.rx_reader.specs.declared.phases.TagPhase.TheVariants as phase
 use Rattle.rx_reader.specs.TagReader.{TagState}

@@ -1,8 +1,6 @@
 -- A start tag's attributes as they are read into one buffer of bytes.
 use Rattle.std.specs.Prelude.{ℕ, ◌-◌, ◌≤◌, List, [], ◌∷◌, ◌++◌, length, map, take, drop}
-use Rattle.std.specs.Str.{chars, IsUtf8}
-use Rattle.rx_terms.specs.Text.{Chars}
-use Rattle.rx_grammar.specs.Tokens.{Attribute}
+use Rattle.rx_grammar.specs.Common.{chars, IsUtf8, Chars, Attribute}
 use Rattle.rx_tags.specs.declared.attributes.AttributeSpan.{AttributeSpan}
 
 -- The attributes that are whole, and of the one that is read its name, the value that is known, and what stands after

@@ -1,14 +1,9 @@
 -- The names of a tag's attributes, as a sorted set of texts has them.
 use Rattle.std.specs.Prelude.{◌≡◌, ◌+◌, ◌*◌, ◌%◌, ℕ, Bool, true, List, [], ◌∷◌, length, get_or}
 use Rattle.std.specs.BTreeSet.{BTreeSet, contains_by}
-use Rattle.std.specs.Cmp.Lexicographic.{slice_cmp}
-use Rattle.std.specs.List.{list_any}
-use Rattle.std.specs.Ordering.{nat_cmp}
-use Rattle.rx_grammar.specs.Names.{same}
-use Rattle.rx_grammar.specs.Tags.{firsts, has_repeat}
+use Rattle.rx_grammar.specs.Common.{slice_cmp, list_any, nat_cmp, same, firsts, has_repeat, Bor}
 use Rattle.rx_tags.specs.Reading.{piece, rows_read, RowsFit}
 use Rattle.rx_tags.specs.declared.attributes.AttributeSpan.{AttributeSpan}
-use denote.Ref.{Bor}
 
 -- whether the set has a text of these bytes
 abbrev pub has_text : BTreeSet (Bor (List ℕ)) → List ℕ → Bool

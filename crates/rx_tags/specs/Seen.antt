@@ -1,11 +1,9 @@
 -- The tag that is lent.
 use Rattle.std.specs.Prelude.{◌≡◌, ℕ, List, Option, Some, None, MatchOption}
-use Rattle.std.specs.Str.{chars}
-use Rattle.rx_terms.specs.Text.{Chars}
+use Rattle.rx_terms.specs.Common.{chars, Chars, Bor}
 use Rattle.rx_grammar.specs.Tokens.{Attribute, Tag as TheTag, value_of}
 use Rattle.rx_reader.specs.TagReader.{parts_of}
 use Rattle.rx_tags.specs.declared.tags.Tag.{Tag}
-use denote.Ref.{Bor}
 
 abbrev pub tag_seen : Tag → TheTag
 tag_seen tag = parts_of tag.text.now.state

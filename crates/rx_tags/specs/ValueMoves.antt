@@ -1,9 +1,6 @@
 -- What each character does to a value: the tables of the reader, with the character that the value gets.
 use Rattle.std.specs.Prelude.{ℕ, ◌==◌, if◌then◌else◌}
-use Rattle.rx_terms.specs.Ascii.{ampersand}
-use Rattle.rx_chars.specs.declared.syntax.Syntax.{Syntax}
-use Rattle.rx_chars.specs.declared.syntax.Syntax.TheVariants.{Html, Xhtml}
-use Rattle.rx_grammar.specs.References.{is_plain, value_char}
+use Rattle.rx_grammar.specs.Common.{ampersand, Syntax, Html, Xhtml, is_plain, value_char}
 use Rattle.rx_reader.specs.declared.phases.RunPhase.{RunPhase}
 use Rattle.rx_reader.specs.declared.phases.RunMove.{RunMove}
 use Rattle.rx_reader.specs.declared.phases.RunMove.TheVariants as reader

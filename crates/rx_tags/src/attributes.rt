@@ -1,9 +1,6 @@
 //! The attributes of one tag in one buffer.
 ghost use Rattle.std.specs.Prelude.{◌≡◌, ◌<◌, ◌≤◌, true, false, [], ◌∷◌, ◌++◌, length, take, IfOk, OnErr, OnOk, encode_utf8_all, Some, slice_get};
-ghost use Rattle.std.specs.List.{list_all};
-ghost use Rattle.std.specs.Str.{chars};
-ghost use Rattle.rx_terms.specs.Ascii.{is_ascii};
-ghost use Rattle.rx_grammar.specs.Tags.{firsts, has_repeat};
+ghost use Rattle.rx_grammar.specs.Common.{list_all, chars, is_ascii, firsts, has_repeat};
 ghost use Rattle.rx_tags.specs.Reading.{all_read, begun_behind};
 
 use crate::lists::list_rows;

@@ -1,7 +1,6 @@
 //! Names that stand twice among the attributes of a tag.
 ghost use Rattle.std.specs.Prelude.{◌≡◌, ◌<◌, ℕ, List, ◌||◌, not, true, false, length, IfOk, MatchOption, OnOk};
-ghost use Rattle.rx_grammar.specs.Names.{same};
-ghost use Rattle.rx_grammar.specs.Tags.{firsts, has_repeat};
+ghost use Rattle.rx_grammar.specs.Common.{same, firsts, has_repeat};
 ghost use Rattle.rx_tags.specs.Reading.{rows_read, RowsFit};
 ghost use Rattle.rx_tags.specs.Repeats.{has_text, is_named, mark_of, KeepsFirsts};
 

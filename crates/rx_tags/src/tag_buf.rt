@@ -1,7 +1,6 @@
 //! One tag that is read a character at a time.
 ghost use Rattle.std.specs.Prelude.{◌≡◌, ◌<◌, true, [], ◌∷◌, ◌++◌, IfOk, take};
-ghost use Rattle.rx_terms.specs.Text.{Chars};
-ghost use Rattle.rx_grammar.specs.Tags.{SpellsTag};
+ghost use Rattle.rx_grammar.specs.Common.{Chars, SpellsTag};
 ghost use Rattle.rx_reader.specs.Tables.{is_last};
 ghost use Rattle.rx_reader.specs.TagReader.{parts_of};
 ghost use Rattle.rx_tags.specs.Seen.{tag_seen};

@@ -1,7 +1,6 @@
 //! The name of one tag while it is read.
 ghost use Rattle.std.specs.Prelude.{◌≡◌, ◌≤◌, ◌==◌, [], ◌∷◌, ◌++◌, MatchBool, OnErr, OnOk, length, take, true};
-ghost use Rattle.std.specs.List.{list_all};
-ghost use Rattle.std.specs.Str.{chars};
+ghost use Rattle.rx_terms.specs.Common.{list_all, chars};
 ghost use Rattle.rx_tags.specs.Fronts.{GainsName, is_small};
 
 use crate::fronts::small_length;
@@ -17,8 +16,7 @@ pub(crate) struct TagName {
 }
 
 impl Model for TagName {
-    ghost use Rattle.std.specs.Str.{chars, IsUtf8};
-    ghost use Rattle.rx_terms.specs.Text.{Chars};
+    ghost use Rattle.rx_terms.specs.Common.{chars, IsUtf8, Chars};
 
     ghost Value = { Chars };
 

@@ -1,7 +1,6 @@
 //! A tag as borrowed slices.
 ghost use Rattle.std.specs.Prelude.{◌≡◌, ◌<◌, length, slice_get, None, Some};
-ghost use Rattle.rx_grammar.specs.Names.{same};
-ghost use Rattle.std.specs.Str.{chars};
+ghost use Rattle.rx_grammar.specs.Common.{same, chars};
 ghost use Rattle.rx_reader.specs.TagReader.{parts_of};
 ghost use Rattle.rx_tags.specs.Seen.{IsValueOf, tag_seen};
 

@@ -1,9 +1,5 @@
 -- A language tag, read from left to right.
-use Rattle.std.proofs.Common.{◌≡◌, ℕ, Bool, true, false, not, ◌&&◌, ◌||◌, ◌==◌, List, [], ◌∷◌, refl}
-use Rattle.std.specs.List.{list_all}
-use Rattle.rx_terms.specs.Text.{is_empty, onto_first}
-use Rattle.rx_terms.specs.Ascii.{hyphen}
-use Rattle.rx_terms.specs.Lang.{subtags, is_subtag_char, is_subtag, are_subtags}
+use Rattle.rx_terms.proofs.Common.{◌≡◌, ℕ, Bool, true, false, not, ◌&&◌, ◌||◌, ◌==◌, List, [], ◌∷◌, refl, list_all, is_empty, onto_first, hyphen, subtags, is_subtag_char, is_subtag, are_subtags}
 
 -- what is left of a tag whose current part is the first or a later one, and empty so far or not
 abbrev pub are_left : Bool → Bool → List (List ℕ) → Bool

@@ -1,9 +1,8 @@
 -- The number of a text.
 use Rattle.std.proofs.Common.{◌≡◌, ◌∙◌, ℕ, List, ap, sym, IsUtf8}
-use Rattle.std.specs.Str.{chars}
+use Rattle.rx_terms.proofs.Common.{chars, encodes-chars}
 use Rattle.std.specs.Hash.DefaultHasher as sip
 use Rattle.std.specs.declared.hash.DefaultHasher.{DefaultHasher}
-use Rattle.std.proofs.lemmas.Str.{encodes-chars}
 use Rattle.rx_terms.specs.Iri.{number_of}
 
 -- all bytes were written at once

@@ -4,3 +4,4 @@ pub mod Iri
 pub mod Iris
 pub mod Lang
 pub mod Literal
+pub mod Common

@@ -1,13 +1,10 @@
 //! Internationalized resource identifiers (RFC 3987), as far as N-Quads and Turtle take them.
 ghost use Rattle.std.specs.Prelude.{◌≡◌, IfOk, IsErrOf, ◌↔◌, true, false, encode_utf8_all, nat_eq, string_bytes};
-ghost use Rattle.std.specs.List.{list_all};
-ghost use Rattle.std.specs.Str.{chars};
-ghost use Rattle.std.specs.Cmp.Lexicographic.{pointwise, nat_list_eq_equiv};
+ghost use Rattle.rx_terms.specs.Common.{list_all, chars, pointwise, nat_list_eq_equiv, is_scheme_char, is_scheme, begins_with_letter, has_scheme, is_forbidden, has_forbidden, IsIri, number_of};
 ghost use Rattle.std.specs.Cmp.{partial_equiv_from_equiv};
 ghost use Rattle.std.specs.Hash as fed;
 ghost use Rattle.std.specs.Cmp.Rules.{hashing};
 ghost use Rattle.std.proofs.Common.{rules};
-ghost use Rattle.rx_terms.specs.Iri.{is_scheme_char, is_scheme, begins_with_letter, has_scheme, is_forbidden, has_forbidden, IsIri, number_of};
 
 use crate::texts::NoMemory;
 use std::alloc::Global;

@@ -1,7 +1,6 @@
 //! Language tags.
 ghost use Rattle.std.specs.Prelude.{◌≡◌, IfOk, MatchOption, false, true, encode_utf8_all};
-ghost use Rattle.std.specs.Str.{chars};
-ghost use Rattle.rx_terms.specs.Lang.{is_lang, is_subtag_char};
+ghost use Rattle.rx_terms.specs.Common.{chars, is_lang, is_subtag_char};
 
 use crate::texts::{NoMemory, Text};
 use std::alloc::Global;

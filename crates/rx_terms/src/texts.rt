@@ -1,7 +1,6 @@
 //! Text that is shared, and want of memory.
 ghost use Rattle.std.specs.Prelude.{◌≡◌, IfOk, nat_eq, encode_utf8_all, string_bytes};
-ghost use Rattle.std.specs.Str.{chars};
-ghost use Rattle.std.specs.Cmp.Lexicographic.{pointwise, nat_list_eq_equiv};
+ghost use Rattle.rx_terms.specs.Common.{chars, pointwise, nat_list_eq_equiv};
 ghost use Rattle.std.specs.Cmp.{partial_equiv_from_equiv};
 ghost use Rattle.std.specs.Hash as fed;
 ghost use Rattle.std.specs.Cmp.Rules.{hashing};

@@ -1,13 +1,6 @@
 -- Terms added to a text.
-use Rattle.rx_terms.proofs.Common.{◌≡◌, ℕ, List, ◌++◌, refl, sym, ap, append_assoc, codes, chars, Chars}
-use Rattle.rx_notation.specs.Short.{Prefixes, local_name}
-use Rattle.rx_notation.specs.Layout.{short_iri}
-use Rattle.rx_pieces.specs.Underway.{Delivery, AddsBytes}
-use Rattle.rx_pieces.specs.Writable.{Adds}
+use Rattle.rx_turtle.proofs.Common.{◌≡◌, ℕ, List, ◌++◌, refl, sym, ap, append_assoc, codes, chars, Chars, Prefixes, local_name, short_iri, Delivery, AddsBytes, Adds, bytes_by, adds_then, adds_by, literal, IsShort}
 use Rattle.rx_pieces.specs.Writing.{string_text, escaped_text}
-use Rattle.rx_pieces.proofs.Sending.{bytes_by}
-use Rattle.rx_pieces.proofs.Adding.{adds_then, adds_by, literal}
-use Rattle.rx_turtle.specs.Shorts.{IsShort}
 
 pub short_added : {a b c d : Delivery} (context : Prefixes) (iri name : Chars) (local : List ℕ) → IsShort context iri name local → Adds a b name → Adds b c (chars (codes ":")) → AddsBytes c d local → Adds a d (short_iri context iri)
 short_added {a} {b} {c} {d} context iri name local s first colon last =

@@ -1,16 +1,9 @@
 -- Triples in one list, in which those of a group stand side by side.
-use Rattle.rx_terms.proofs.Common.{◌≡◌, ◌∙◌, ℕ, zero, suc, ◌+◌, ◌<◌, ◌≤◌, Bool, true, false, cond, nat_eq, List, [], ◌∷◌, ◌++◌, map, filter, flat_map, length, take, drop, drop_of_length-le, slice_get, Some, Bor, inl, inr, refl, sym, ap, ap₂, subst, true≢false, arith, append-nil, append_assoc, list_all, and_from, and_parts, or_parts, nat_tests, take_all, length-map, map-append, take-map, drop-map, filter-append, list_all-append}
-use Rattle.std.proofs.Common.{◌==◌, not, ◌||◌, take-append-drop, if◌then◌else◌}
-use Rattle.std.proofs.lemmas.Grind.{flat_map-append}
+use Rattle.rx_turtle.proofs.Common.{◌≡◌, ◌∙◌, ℕ, zero, suc, ◌+◌, ◌<◌, ◌≤◌, Bool, true, false, cond, nat_eq, List, [], ◌∷◌, ◌++◌, map, filter, flat_map, length, take, drop, drop_of_length-le, slice_get, Some, Bor, inl, inr, refl, sym, ap, ap₂, subst, true≢false, arith, append-nil, append_assoc, ◌==◌, not, ◌||◌, take-append-drop, if◌then◌else◌, list_all, and_from, and_parts, or_parts, nat_tests, take_all, length-map, map-append, take-map, drop-map, Among, contains, with_one, Node, Triple, same_node, Among_of_distinct, exact_nodes, exact_numbers, AreDistinct, one_more, same_back, Keyed, key_by, has_key, keys_by, keys_in, grouped, all_in, put_before, runs, starts, like_first, Said, said_by, said_in, by_predicate}
+use Rattle.rx_terms.proofs.Common.{filter-append, list_all-append, flat_map-append}
 use Rattle.rx_terms.specs.declared.triples.Triple.{Triple as CodeTriple}
-use Rattle.rx_model.proofs.Common.{Among, contains, with_one, Node, Triple, same_node, Among_of_distinct, exact_nodes, exact_numbers}
-use Rattle.rx_graph.specs.Resources.{AreDistinct}
-use Rattle.rx_graph.proofs.SetLemmas.{one_more}
-use Rattle.rx_shapes.proofs.Grouped.{same_back}
 use Rattle.rx_turtle.specs.declared.keys.By.{By}
 use Rattle.rx_turtle.specs.declared.keys.By.TheVariants as by
-use Rattle.rx_turtle.specs.Groups.{Keyed, key_by, has_key, keys_by, keys_in, grouped}
-use Rattle.rx_turtle.specs.Runs.{all_in, put_before, runs, starts, like_first, Said, said_by, said_in, by_predicate}
 use Rattle.rx_turtle.proofs.GroupLemmas.{lent_seen, lent_at, mapped_more, front_at, same_self, keys_more, rows_by}
 use Rattle.rx_turtle.proofs.TakenLemmas.{distinct_keys, same_there, none_with, keys_of_pairs}
 

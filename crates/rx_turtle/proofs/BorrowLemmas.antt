@@ -1,8 +1,6 @@
 -- Triples that are lent, one after another.
-use Rattle.rx_terms.proofs.Common.{◌≡◌, ◌∙◌, ℕ, ◌+◌, List, [], ◌∷◌, ◌++◌, map, take, slice_get, Some, Bor, sym, ap, map-append}
+use Rattle.rx_turtle.proofs.Common.{◌≡◌, ◌∙◌, ℕ, ◌+◌, List, [], ◌∷◌, ◌++◌, map, take, slice_get, Some, Bor, sym, ap, map-append, triples_seen, seen_more}
 use Rattle.rx_terms.specs.declared.triples.Triple.{Triple as CodeTriple}
-use Rattle.rx_model.proofs.Common.{triples_seen}
-use Rattle.rx_graph.proofs.SetLemmas.{seen_more}
 use Rattle.rx_turtle.proofs.GroupLemmas.{lent_seen}
 
 pub pushed_seen : {A B : Type 0} (f : A → B) (old new : List A) (a : A) (before after : List B) → new ≡ old ++ a ∷ [] → map f old ≡ before → before ++ f a ∷ [] ≡ after → map f new ≡ after

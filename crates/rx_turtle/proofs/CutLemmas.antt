@@ -1,17 +1,8 @@
 -- What is written of triples that are cut where their key changes.
-use Rattle.rx_terms.proofs.Common.{◌≡◌, ◌∙◌, ℕ, zero, suc, ◌+◌, ◌<◌, ◌≤◌, Bool, true, false, List, [], ◌∷◌, ◌++◌, map, flat_map, length, length-append, take, drop, drop_of_length-le, Bor, refl, sym, ap, ap₂, arith, append_assoc, append-nil, codes, chars, nat_tests, drop-map, Chars, ascii-chars}
-use Rattle.std.proofs.Common.{◌==◌, take-append-drop, if◌then◌else◌}
+use Rattle.rx_turtle.proofs.Common.{◌≡◌, ◌∙◌, ℕ, zero, suc, ◌+◌, ◌<◌, ◌≤◌, Bool, true, false, List, [], ◌∷◌, ◌++◌, map, flat_map, length, length-append, take, drop, drop_of_length-le, Bor, refl, sym, ap, ap₂, arith, append_assoc, append-nil, codes, ◌==◌, take-append-drop, if◌then◌else◌, chars, nat_tests, drop-map, Chars, ascii-chars, Node, Triple, Prefixes, separated, Delivery, Adds, adds_then, adds_nothing, adds_by, adds_failed, Keyed, key_by, has_key, all_in, put_before, runs, said_in}
 use Rattle.rx_terms.specs.declared.triples.Triple.{Triple as CodeTriple}
-use Rattle.rx_model.proofs.Common.{Node, Triple}
-use Rattle.rx_notation.specs.Short.{Prefixes}
-use Rattle.rx_notation.specs.Layout.{separated}
-use Rattle.rx_pieces.specs.Underway.{Delivery}
-use Rattle.rx_pieces.specs.Writable.{Adds}
-use Rattle.rx_pieces.proofs.Adding.{adds_then, adds_nothing, adds_by, adds_failed}
 use Rattle.rx_turtle.specs.declared.keys.By.{By}
 use Rattle.rx_turtle.specs.declared.keys.By.TheVariants as by
-use Rattle.rx_turtle.specs.Groups.{Keyed, key_by, has_key}
-use Rattle.rx_turtle.specs.Runs.{all_in, put_before, runs, said_in}
 use Rattle.rx_turtle.proofs.GroupLemmas.{lent_seen}
 use Rattle.rx_turtle.proofs.ArrangedLemmas.{first_key, seen_length}
 use Rattle.rx_turtle.specs.Written.{group_text, first_line, said_text, statements_text, first_statement, later}

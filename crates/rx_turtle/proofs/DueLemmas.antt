@@ -1,18 +1,12 @@
 -- Stacks of tasks, and what is pushed on them.
-use Rattle.std.proofs.Common.{◌≡◌, ◌∙◌, ◌↔◌, ℕ, zero, suc, ◌+◌, ◌-◌, ◌<◌, ◌≤◌, ◌==◌, Bool, true, false, true≢false, List, [], ◌∷◌, ◌++◌, map, length, Bor, slice_get, Option, Some, None, option_to_list, IsSome, MatchOption, refl, sym, ap, ap₂, arith, append_assoc, if◌then◌else◌}
-use Rattle.std.proofs.lemmas.Bool.Decides.{nat_tests}
+use Rattle.rx_turtle.proofs.Common.{◌≡◌, ◌∙◌, ◌↔◌, ℕ, zero, suc, ◌+◌, ◌-◌, ◌<◌, ◌≤◌, ◌==◌, Bool, true, false, true≢false, List, [], ◌∷◌, ◌++◌, map, length, Bor, slice_get, Option, Some, None, option_to_list, IsSome, MatchOption, refl, sym, ap, ap₂, arith, append_assoc, if◌then◌else◌, nat_tests, Node, Term, Triple, Keyed, key_by, has_key, put_before, runs, Fixed, IriOrLabel, Verb, Due, Say, Object, task_seen, due_on, behind, object_due, line_due, lines_due, verb_due, behind_due, tail_due, next_due, first_due, tail_at, bracket_due, item_due, rest_due, statement_due}
 use Rattle.rx_terms.specs.declared.triples.Triple.{Triple as CodeTriple}
-use Rattle.rx_model.specs.Terms.{Node, Term, Triple}
 use Rattle.rx_turtle.specs.declared.stack.Task.{Task}
 use Rattle.rx_turtle.specs.declared.tokens.Words.{Words}
 use Rattle.rx_turtle.specs.declared.tokens.Words.TheVariants as fixed
 use Rattle.rx_turtle.specs.declared.keys.By.TheVariants as by
-use Rattle.rx_turtle.specs.Groups.{Keyed, key_by, has_key}
-use Rattle.rx_turtle.specs.Runs.{put_before, runs}
 use Rattle.rx_turtle.proofs.GroupLemmas.{lent_seen}
 use Rattle.rx_turtle.proofs.ArrangedLemmas.{first_key, seen_length}
-use Rattle.rx_turtle.specs.Tokens.{Fixed, IriOrLabel, Verb}
-use Rattle.rx_turtle.specs.Due.{Due, Say, Object, task_seen, due_on, behind, object_due, line_due, lines_due, verb_due, behind_due, tail_due, next_due, first_due, tail_at, bracket_due, item_due, rest_due, statement_due}
 
 -- ---- the stack
 

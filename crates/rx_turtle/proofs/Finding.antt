@@ -1,15 +1,9 @@
 -- The place that is found by the end of an IRI is that of the prefix of its short form.
-use Rattle.rx_terms.proofs.Common.{◌≡◌, ◌∙◌, ℕ, zero, suc, ◌+◌, ◌-◌, ◌<◌, ◌≤◌, Bool, true, false, cond, nat_lt, nat_eq, List, [], ◌∷◌, ◌++◌, filter, length, take, drop, drop_of_length-le, get_or, slice_get, Option, Some, None, inl, inr, refl, sym, ap, ap₂, subst, true≢false, arith, option_or, list_all, and_parts, and_from, and_right, nat_tests, take-append-drop, slice_get-get_or, encodes-append, encodes_same, is_ascii, Chars, begins_with, ascii-same, same_truth}
-use Rattle.std.proofs.Common.{◌&&◌, ◌==◌, find, if◌then◌else◌}
+use Rattle.rx_turtle.proofs.Common.{◌≡◌, ◌∙◌, ℕ, zero, suc, ◌+◌, ◌-◌, ◌<◌, ◌≤◌, Bool, true, false, cond, nat_lt, nat_eq, List, [], ◌∷◌, ◌++◌, filter, length, take, drop, drop_of_length-le, get_or, slice_get, Option, Some, None, inl, inr, refl, sym, ap, ap₂, subst, true≢false, arith, ◌&&◌, ◌==◌, find, if◌then◌else◌, option_or, list_all, and_parts, and_from, and_right, nat_tests, slice_get-get_or, encodes-append, encodes_same, is_ascii, Chars, begins_with, ascii-same, same_truth, Among, Among_of_filter, false_unless, exact_texts, Prefix, Prefixes, is_before, is_name_char, is_prefix_name, is_local_name, local_name, shortens, preferred, best, prefix_of, names_rise, best_among, front_and_rest, before_all, not_after, passes, begins_local, stands_for, place_from, place_at, place_below, place_of, IsPlace}
+use Rattle.std.proofs.lemmas.List.{take-append-drop, length-take-le, take_at, drop_at, length-append}
 use Rattle.std.specs.Str.{encode_utf8_all}
-use Rattle.std.proofs.lemmas.List.{length-take-le, take_at, drop_at, length-append}
-use Rattle.rx_model.proofs.Common.{Among, Among_of_filter, false_unless, exact_texts}
-use Rattle.rx_notation.specs.Short.{Prefix, Prefixes, is_before, is_name_char, is_prefix_name, is_local_name, local_name, shortens, preferred, best, prefix_of, names_rise}
-use Rattle.rx_notation.proofs.Chosen.{best_among, front_and_rest}
 use Rattle.rx_notation.proofs.OneText.{local_chars}
-use Rattle.rx_notation.proofs.Ordered.{before_all, not_after, passes}
 use Rattle.rx_turtle.proofs.GroupLemmas.{front_at}
-use Rattle.rx_turtle.specs.Shorts.{begins_local, stands_for, place_from, place_at, place_below, place_of, IsPlace}
 
 -- ---- lists
 

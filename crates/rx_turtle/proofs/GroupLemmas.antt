@@ -1,15 +1,9 @@
 -- Triples that are put into groups.
-use Rattle.rx_terms.proofs.Common.{◌≡◌, ◌∙◌, ℕ, zero, suc, ◌+◌, ◌<◌, ◌≤◌, Bool, true, false, nat_eq, List, [], ◌∷◌, ◌++◌, map, filter, length, take, drop, slice_get, slice_set, get_or, Result, Ok, Err, is_err, Option, Some, None, option_map, Bor, refl, sym, ap, ap₂, true≢false, arith, append-nil, map-append, filter-append}
-use Rattle.std.proofs.Common.{◌||◌, is_ok, if◌then◌else◌}
-use Rattle.std.proofs.lemmas.Option.{slice_get-map}
+use Rattle.rx_turtle.proofs.Common.{◌≡◌, ◌∙◌, ℕ, zero, suc, ◌+◌, ◌<◌, ◌≤◌, Bool, true, false, nat_eq, List, [], ◌∷◌, ◌++◌, map, filter, length, take, drop, slice_get, slice_set, get_or, Result, Ok, Err, is_err, Option, Some, None, option_map, Bor, refl, sym, ap, ap₂, true≢false, arith, append-nil, ◌||◌, is_ok, if◌then◌else◌, map-append, slice_get-map, contains, distinct, with_one, Node, Triple, same_node, triple_seen, exact_nodes, exact_numbers, resource_seen, number_in, AreDistinct, distinct_grows, one_more, same_back, Keyed, group_seen, key_by, has_key, keys_by, put_in}
+use Rattle.std.proofs.lemmas.List.Elements.{filter-append}
 use Rattle.rx_terms.specs.declared.triples.Triple.{Triple as CodeTriple}
-use Rattle.rx_model.proofs.Common.{contains, distinct, with_one, Node, Triple, same_node, triple_seen, exact_nodes, exact_numbers}
-use Rattle.rx_graph.specs.Resources.{resource_seen, number_in, AreDistinct}
-use Rattle.rx_graph.proofs.SetLemmas.{distinct_grows, one_more}
-use Rattle.rx_shapes.proofs.Grouped.{same_back}
 use Rattle.rx_turtle.specs.declared.keys.By.{By}
 use Rattle.rx_turtle.specs.declared.groups.Group.{Group}
-use Rattle.rx_turtle.specs.Groups.{Keyed, group_seen, key_by, has_key, keys_by, put_in}
 
 abbrev pub lent_seen : Bor CodeTriple → Triple ℕ
 lent_seen t = triple_seen t.now

@@ -1,8 +1,5 @@
 -- What is known of the IRIs of a text.
-use Rattle.rx_terms.proofs.Common.{◌≡◌, ◌∙◌, ℕ, ◌<◌, Bool, true, false, nat_eq, List, length, get_or, slice_set, Option, Some, None, refl, sym, ap, subst, pointwise, get_or-set_other, Chars}
-use Rattle.std.proofs.Common.{if◌then◌else◌}
-use Rattle.std.proofs.lemmas.List.{get_or-set_same, get_or_default}
-use Rattle.rx_model.proofs.Common.{exact_texts}
+use Rattle.rx_model.proofs.Common.{◌≡◌, ◌∙◌, ℕ, ◌<◌, Bool, true, false, nat_eq, List, length, get_or, slice_set, Option, Some, None, refl, sym, ap, subst, if◌then◌else◌, pointwise, get_or-set_other, get_or-set_same, get_or_default, Chars, exact_texts}
 use Rattle.rx_turtle.specs.declared.known.Entry.{Entry}
 use Rattle.rx_turtle.specs.declared.known.Entry.TheVariants.{Empty, Kept}
 use Rattle.rx_turtle.specs.Slots.{IsSo}

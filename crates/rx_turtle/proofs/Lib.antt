@@ -19,3 +19,4 @@ pub mod GroupLemmas
 pub mod TakenLemmas
 pub mod ArrangedLemmas
 pub mod BorrowLemmas
+pub mod Common

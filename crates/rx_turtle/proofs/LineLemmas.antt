@@ -1,14 +1,6 @@
 -- Prefixes and statements, one after another.
-use Rattle.rx_terms.proofs.Common.{◌≡◌, ◌∙◌, ℕ, zero, suc, ◌+◌, Bool, true, false, List, [], ◌∷◌, ◌++◌, map, flat_map, length, take, drop, slice_get, Some, refl, sym, ap, ap₂, arith, append_assoc, append-nil, codes, true≢false, chars, list_all, list_any, nat_tests, is_ascii, Chars, ascii-chars}
-use Rattle.std.proofs.Common.{◌==◌, if◌then◌else◌, take-append-drop}
+use Rattle.rx_turtle.proofs.Common.{◌≡◌, ◌∙◌, ℕ, zero, suc, ◌+◌, Bool, true, false, List, [], ◌∷◌, ◌++◌, map, flat_map, length, take, drop, slice_get, Some, refl, sym, ap, ap₂, arith, append_assoc, append-nil, codes, true≢false, ◌==◌, if◌then◌else◌, take-append-drop, chars, list_all, list_any, nat_tests, is_ascii, Chars, ascii-chars, one_more, Prefix, Prefixes, separated, prefix_text, prefixes_text, Delivery, Adds, adds_then, adds_by, adds_failed, iri_before, chosen}
 use Rattle.std.proofs.lemmas.Grind.{flat_map-append}
-use Rattle.rx_graph.proofs.SetLemmas.{one_more}
-use Rattle.rx_notation.specs.Short.{Prefix, Prefixes}
-use Rattle.rx_notation.specs.Layout.{separated, prefix_text, prefixes_text}
-use Rattle.rx_pieces.specs.Underway.{Delivery}
-use Rattle.rx_pieces.specs.Writable.{Adds}
-use Rattle.rx_pieces.proofs.Adding.{adds_then, adds_by, adds_failed, iri_before}
-use Rattle.rx_turtle.specs.Uses.{chosen}
 use Rattle.rx_turtle.proofs.GroupLemmas.{mapped_more}
 
 -- ---- a list with one more

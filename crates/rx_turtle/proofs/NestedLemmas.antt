@@ -1,21 +1,8 @@
 -- The text of a nested plan is that of the nested layout, and what it denotes.
-use Rattle.rx_terms.proofs.Common.{◌≡◌, ◌∙◌, ℕ, Bool, true, false, cond, nat_eq, List, [], ◌∷◌, ◌++◌, map, filter_map, flat_map, length, bytes_eq, Option, Some, None, refl, sym, ap, ap₂, subst, codes, chars, chars-encodes, Chars, same_truth}
-use Rattle.std.proofs.Common.{if◌then◌else◌}
-use Rattle.std.specs.Str.{encode_utf8_all}
-use Rattle.rx_model.proofs.Common.{Among, contains, distinct, Plain, Tagged, Typed, Iri, Blank, Literal, Triple, same_triple, spo, rdf_type, Among_map, Among_of_map, Among_of_filter_map, Among-contains, Among_by_contains, exact_texts}
-use Rattle.rx_pieces.specs.Writable.{WritableText, IsWritable}
-use Rattle.rx_pieces.specs.Writing.{string_text}
+use Rattle.rx_notation.proofs.Common.{◌≡◌, ◌∙◌, ℕ, Bool, true, false, cond, nat_eq, List, [], ◌∷◌, ◌++◌, map, filter_map, flat_map, length, bytes_eq, Option, Some, None, refl, sym, ap, ap₂, subst, codes, if◌then◌else◌, chars-encodes, Chars, same_truth, Among, contains, distinct, Plain, Tagged, Typed, Iri, Blank, Literal, Triple, same_triple, spo, rdf_type, Among_map, Among_of_map, Among_of_filter_map, Among-contains, Among_by_contains, exact_texts, WritableText, IsWritable, string_text, Prefix, Prefixes, prefix_of, names_rise, iris_of, same_prefix, those_among, in_byte_order, prefixes_text, iris_of_predicate, IsContext, proper_triple, NestedTurtle, Type_of, By, Apart, names_apart, one_of, exact_prefixes, prefix_fits, rising, reference_to, name_in, names_of_verb, piece_names, prefixes_named, names_used, statements, nested, piece_text, all_pieces}
+use Rattle.rx_turtle.proofs.Common.{AreRows, marked_all, unmarked, chosen, Shown, Fixed, IriOrLabel, Verb, Quoted, tokens_seen, words_text, piece_of, pieces_of, shown_text, shown_texts, iris_of_shown, WritableShown, list_of, shapes_of, IsSource, AreTokens}
+use Rattle.std.specs.Str.{chars, encode_utf8_all}
 use Rattle.rx_pieces.proofs.Scalars.{joined, literally}
-use Rattle.rx_notation.specs.Short.{Prefix, Prefixes, prefix_of, names_rise}
-use Rattle.rx_notation.specs.Layout.{iris_of, same_prefix, those_among, in_byte_order, prefixes_text, iris_of_predicate}
-use Rattle.rx_notation.specs.Laws.{IsContext}
-use Rattle.rx_nquads.specs.Quads.{proper_triple}
-use Rattle.rx_notation.specs.Meaning.{NestedTurtle}
-use Rattle.rx_notation.specs.Syntax.{Type_of, By}
-use Rattle.rx_notation.proofs.Chosen.{Apart, names_apart, one_of, exact_prefixes, prefix_fits}
-use Rattle.rx_notation.proofs.Ordered.{rising}
-use Rattle.rx_notation.specs.Nesting.{reference_to, name_in, names_of_verb, piece_names, prefixes_named, names_used, statements, nested}
-use Rattle.rx_notation.specs.Writing.{piece_text, all_pieces}
 use Rattle.rx_notation.proofs.Declared.{of_named}
 use Rattle.rx_notation.proofs.LaidOut.{reference_is, verb_is, suffix_is}
 use Rattle.rx_notation.proofs.NestedMeaning.{nested_denotes}
@@ -23,10 +10,6 @@ use Rattle.rx_turtle.specs.declared.source.Source.{Source}
 use Rattle.rx_turtle.specs.declared.tokens.Token.{Token}
 use Rattle.rx_turtle.specs.declared.tokens.Words.{Words}
 use Rattle.rx_turtle.specs.declared.tokens.Words.TheVariants as fixed
-use Rattle.rx_turtle.specs.Rows.{AreRows}
-use Rattle.rx_turtle.specs.Uses.{marked_all, unmarked, chosen}
-use Rattle.rx_turtle.specs.Tokens.{Shown, Fixed, IriOrLabel, Verb, Quoted, tokens_seen, words_text, piece_of, pieces_of, shown_text, shown_texts, iris_of_shown, WritableShown}
-use Rattle.rx_turtle.specs.Due.{list_of, shapes_of, IsSource, AreTokens}
 use Rattle.rx_turtle.specs.Nested.{iris_of_tokens, AreWritable}
 use Rattle.rx_turtle.proofs.Finding.{filter_same}
 use Rattle.rx_turtle.proofs.RunLemmas.{have_shapes}

@@ -1,16 +1,10 @@
 -- The index of the prefixes by IRI.
-use Rattle.rx_terms.proofs.Common.{◌≡◌, ◌∙◌, ℕ, zero, suc, ◌+◌, ◌-◌, ◌<◌, ◌≤◌, Bool, true, false, cond, nat_eq, List, [], ◌∷◌, ◌++◌, length, length-append, take, inl, inr, drop, get_or, slice_get, Option, Some, None, refl, sym, ap, subst, true≢false, arith, chars, IsUtf8, pointwise, option_or, list_all, encodes-chars, encodes-append, IsIri, Chars, begins_with}
-use Rattle.std.proofs.Common.{◌&&◌, take_all, drop_at, if◌then◌else◌}
-use Rattle.std.proofs.lemmas.List.{get_or-take, length-take-le}
-use Rattle.std.specs.Str.{encode_utf8_all}
-use Rattle.rx_model.proofs.Common.{exact_texts, exact_numbers, Among, false_unless}
-use Rattle.rx_pieces.proofs.Adding.{text_of, iri_of}
+use Rattle.rx_turtle.proofs.Common.{option_or, list_all, encodes-chars, encodes-append, IsIri, Chars, begins_with, get_or-take, length-take-le, exact_texts, exact_numbers, Among, false_unless, text_of, iri_of, Prefix, Prefixes, is_before, is_name_char, is_prefix_name, prefix_of, names_rise, prefix_fits, front_and_rest, begins_local, stands_for, place_from, place_at, place_below, place_of, IsShort, IsRow, AreRows}
+use Rattle.std.proofs.Common.{◌≡◌, ◌∙◌, ℕ, zero, suc, ◌+◌, ◌-◌, ◌<◌, ◌≤◌, Bool, true, false, cond, nat_eq, List, [], ◌∷◌, ◌++◌, length, length-append, take, inl, inr, drop, get_or, slice_get, Option, Some, None, refl, sym, ap, subst, true≢false, arith, ◌&&◌, take_all, drop_at, if◌then◌else◌}
+use Rattle.std.specs.Str.{chars, IsUtf8, encode_utf8_all}
+use Rattle.std.specs.Cmp.Lexicographic.{pointwise}
 use Rattle.rx_names.specs.Tables.{rise}
-use Rattle.rx_notation.specs.Short.{Prefix, Prefixes, is_before, is_name_char, is_prefix_name, prefix_of, names_rise}
-use Rattle.rx_notation.proofs.Chosen.{prefix_fits, front_and_rest}
 use Rattle.rx_turtle.specs.declared.places.Places.{Places}
-use Rattle.rx_turtle.specs.Shorts.{begins_local, stands_for, place_from, place_at, place_below, place_of, IsShort}
-use Rattle.rx_turtle.specs.Rows.{IsRow, AreRows}
 use Rattle.rx_turtle.specs.Slots.{told, Tells}
 use Rattle.rx_turtle.specs.Places.{found_in, Knows, PutsBytes, Puts, Finds}
 use Rattle.rx_turtle.proofs.GroupLemmas.{front_at}

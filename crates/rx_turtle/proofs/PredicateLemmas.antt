@@ -1,10 +1,6 @@
 -- The predicates of a node's triples, as keys of groups.
-use Rattle.rx_terms.proofs.Common.{◌≡◌, ◌∙◌, ℕ, nat_eq, List, map, sym, ap, bytes_eq}
-use Rattle.rx_model.proofs.Common.{distinct, Node, Iri, Triple, same_node, exact_texts, exact_nodes, exact_numbers}
-use Rattle.rx_graph.proofs.SetLemmas.{distinct_apart}
-use Rattle.rx_shapes.specs.Subjects.{about, predicates_of}
+use Rattle.rx_turtle.proofs.Common.{◌≡◌, ◌∙◌, ℕ, nat_eq, List, map, sym, ap, bytes_eq, distinct, Node, Iri, Triple, same_node, exact_texts, exact_nodes, exact_numbers, distinct_apart, about, predicates_of, keys_by}
 use Rattle.rx_turtle.specs.declared.keys.By.TheVariants as by
-use Rattle.rx_turtle.specs.Groups.{keys_by}
 use Rattle.rx_turtle.proofs.GroupLemmas.{map_twice}
 
 pub keys_are : (list : List (Triple ℕ)) (s : Node ℕ) → keys_by by.Predicate (about list s) ≡ map {B = Node ℕ} (λ p. Iri p) (predicates_of list s)

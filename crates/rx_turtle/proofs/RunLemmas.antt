@@ -1,20 +1,9 @@
 -- The tokens that come of what is due, one after another.
-use Rattle.rx_terms.proofs.Common.{◌≡◌, ◌∙◌, ℕ, zero, suc, ◌+◌, ◌<◌, ◌≤◌, Bool, true, false, cond, nat_eq, List, [], ◌∷◌, ◌++◌, map, filter, length, take, slice_get, Some, refl, sym, ap, subst, inl, inr, arith, append_assoc, append-nil, take_all, map-append, Chars}
-use Rattle.rx_model.proofs.Common.{Among, Node, Triple, same_node, Among_of_distinct, Among_distinct, exact_nodes, exact_numbers}
-use Rattle.rx_graph.proofs.SetLemmas.{one_more}
-use Rattle.rx_shapes.specs.declared.shapes.Shape.{Shape}
-use Rattle.rx_notation.specs.Short.{Prefixes}
-use Rattle.rx_shapes.specs.Subjects.{subjects, predicates_of}
-use Rattle.rx_shapes.proofs.Grouped.{subject_says}
-use Rattle.rx_shapes.specs.Shapes.{HaveShapes}
-use Rattle.rx_notation.specs.Nesting.{is_top, statement_of}
-use Rattle.rx_notation.specs.Writing.{Piece, statement_pieces, all_pieces}
+use Rattle.rx_turtle.proofs.Common.{◌≡◌, ◌∙◌, ℕ, zero, suc, ◌+◌, ◌<◌, ◌≤◌, Bool, true, false, cond, nat_eq, List, [], ◌∷◌, ◌++◌, map, filter, length, take, slice_get, Some, refl, sym, ap, subst, inl, inr, arith, append_assoc, append-nil, take_all, map-append, Chars, Among, Node, Triple, same_node, Among_of_distinct, Among_distinct, exact_nodes, exact_numbers, one_more, Prefixes, subjects, predicates_of, subject_says, is_top, statement_of, Keyed, has_key, keys_by, grouped, Shown, token_seen, tokens_seen, piece_of, pieces_of, Due, Say, statement_due, opened, AreCells, due_pieces, one_said, all_said, list_of, shapes_of, IsSource, Comes, Says, AreTokens, IsSubject}
+use Rattle.rx_notation.proofs.Common.{Shape, HaveShapes, Piece, statement_pieces, all_pieces}
 use Rattle.rx_turtle.specs.declared.keys.By.TheVariants as by
 use Rattle.rx_turtle.specs.declared.source.Source.{Source}
 use Rattle.rx_turtle.specs.declared.tokens.Token.{Token}
-use Rattle.rx_turtle.specs.Groups.{Keyed, has_key, keys_by, grouped}
-use Rattle.rx_turtle.specs.Tokens.{Shown, token_seen, tokens_seen, piece_of, pieces_of}
-use Rattle.rx_turtle.specs.Due.{Due, Say, statement_due, opened, AreCells, due_pieces, one_said, all_said, list_of, shapes_of, IsSource, Comes, Says, AreTokens, IsSubject}
 use Rattle.rx_turtle.proofs.TurnLemmas.{cells_turn, comes_turn, statement_cells, statement_comes}
 
 pub have_shapes : (source : Source) → IsSource source → HaveShapes (list_of source) (shapes_of source)

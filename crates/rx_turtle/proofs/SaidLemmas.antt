@@ -1,11 +1,8 @@
 -- What is said of a node, by the places of its triples.
-use Rattle.std.proofs.Common.{◌≡◌, ◌∙◌, ℕ, ◌+◌, nat_eq, List, [], ◌∷◌, ◌++◌, take, slice_get, Some, option_to_list, refl, sym, ap, append_assoc, append-nil}
-use Rattle.rx_model.specs.Terms.{Node, Triple}
-use Rattle.rx_graph.proofs.SetLemmas.{one_more}
+use Rattle.rx_turtle.proofs.Common.{◌≡◌, ◌∙◌, ℕ, ◌+◌, nat_eq, List, [], ◌∷◌, ◌++◌, take, slice_get, Some, option_to_list, refl, sym, ap, append_assoc, append-nil, Node, Triple, one_more, Keyed, grouped}
 use Rattle.rx_shapes.specs.Places.{places_of, picked}
 use Rattle.rx_shapes.proofs.PlaceLemmas.{picked_about}
 use Rattle.rx_turtle.specs.declared.keys.By.TheVariants as by
-use Rattle.rx_turtle.specs.Groups.{Keyed, grouped}
 use Rattle.rx_turtle.specs.Said.{said_of}
 
 -- ---- the triples at some places

@@ -1,15 +1,6 @@
 -- All characters of a text are Unicode scalar values.
-use Rattle.rx_terms.proofs.Common.{◌≡◌, ℕ, zero, suc, Bool, true, false, List, [], ◌∷◌, ◌++◌, map, flat_map, length, drop, bytes_eq, Option, Some, None, refl, inl, inr, codes, all_scalars, and_parts, Chars}
-use Rattle.std.proofs.Common.{if◌then◌else◌}
-use Rattle.rx_model.proofs.Common.{Among, Kind, Plain, Tagged, Typed, Node, Iri, Blank, Term, Resource, Literal, Triple, spo, rdf_type}
-use Rattle.rx_pieces.specs.Writable.{WritableText, WritableIri, WritableNode, WritableKind, WritableTerm, WritableTriple, IsWritable}
+use Rattle.rx_turtle.proofs.Common.{◌≡◌, ℕ, zero, suc, Bool, true, false, List, [], ◌∷◌, ◌++◌, map, flat_map, length, drop, bytes_eq, Option, Some, None, refl, inl, inr, codes, if◌then◌else◌, all_scalars, and_parts, Chars, Among, Kind, Plain, Tagged, Typed, Node, Iri, Blank, Term, Resource, Literal, Triple, spo, rdf_type, WritableText, WritableIri, WritableNode, WritableKind, WritableTerm, WritableTriple, IsWritable, Prefix, Prefixes, prefix_of, short_iri, resource_text, verb_text, suffix_text, object_text, separated, predicate_text, statement_text, prefixes_used, prefix_text, prefixes_text, turtle, subjects, predicates_of, objects_of, prefix_fits, used_of, subject_says, predicate_says, object_says, IsRow, AreRows}
 use Rattle.rx_pieces.proofs.Scalars.{joined, literally, string_writable, iri_writable, blank_writable}
-use Rattle.rx_notation.specs.Short.{Prefix, Prefixes, prefix_of}
-use Rattle.rx_notation.specs.Layout.{short_iri, resource_text, verb_text, suffix_text, object_text, separated, predicate_text, statement_text, prefixes_used, prefix_text, prefixes_text, turtle}
-use Rattle.rx_shapes.specs.Subjects.{subjects, predicates_of, objects_of}
-use Rattle.rx_notation.proofs.Chosen.{prefix_fits, used_of}
-use Rattle.rx_shapes.proofs.Grouped.{subject_says, predicate_says, object_says}
-use Rattle.rx_turtle.specs.Rows.{IsRow, AreRows}
 
 dropped : (n : ℕ) (text : Chars) → all_scalars text ≡ true → all_scalars (drop n text) ≡ true
 dropped zero text h = h

@@ -1,12 +1,8 @@
 -- What slots tell.
-use Rattle.rx_terms.proofs.Common.{◌≡◌, ◌∙◌, ℕ, ◌-◌, ◌<◌, Bool, true, false, nat_eq, List, length, get_or, slice_set, Option, Some, None, refl, sym, ap, ap₂, subst, true≢false, arith, pointwise, nat_tests, get_or-set_other, length-set}
-use Rattle.std.proofs.Common.{bit_and, if◌then◌else◌}
-use Rattle.std.proofs.lemmas.List.{get_or-set_same, get_or_default}
-use Rattle.rx_model.proofs.Common.{exact_texts, false_unless}
+use Rattle.rx_model.proofs.Common.{◌≡◌, ◌∙◌, ℕ, ◌-◌, ◌<◌, Bool, true, false, nat_eq, List, length, get_or, slice_set, Option, Some, None, refl, sym, ap, ap₂, subst, true≢false, arith, bit_and, if◌then◌else◌, pointwise, nat_tests, get_or-set_other, length-set, get_or-set_same, get_or_default, exact_texts, false_unless, Bor}
 use Rattle.rx_turtle.specs.declared.slots.Slot.{Slot}
 use Rattle.rx_turtle.specs.declared.slots.Slot.TheVariants.{Free, One, Many}
 use Rattle.rx_turtle.specs.Slots.{number_of, slot_of, told_by, told, with_iri, IsSo, Tells}
-use denote.Ref.{Bor}
 
 pub so_also : (told : Option (Option ℕ)) (a b : Option ℕ) → a ≡ b → IsSo told a → IsSo told b
 so_also None a b e h = h

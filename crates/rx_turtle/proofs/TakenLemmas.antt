@@ -1,15 +1,11 @@
 -- Triples that are put into groups one after another.
-use Rattle.rx_terms.proofs.Common.{◌≡◌, ◌∙◌, ℕ, zero, suc, ◌+◌, ◌<◌, ◌≤◌, Bool, true, false, nat_eq, List, [], ◌∷◌, ◌++◌, map, filter, length, take, slice_get, Option, Some, None, option_map, Bor, refl, sym, ap, ap₂, subst, true≢false, arith, take_all, map-append, filter-append, or_parts, same_truth}
-use Rattle.std.proofs.Common.{◌||◌, if◌then◌else◌}
+use Rattle.rx_turtle.proofs.Common.{◌≡◌, ◌∙◌, ℕ, zero, suc, ◌+◌, ◌<◌, ◌≤◌, Bool, true, false, nat_eq, List, [], ◌∷◌, ◌++◌, map, filter, length, take, slice_get, Option, Some, None, option_map, Bor, refl, sym, ap, ap₂, subst, true≢false, arith, ◌||◌, if◌then◌else◌, take_all, map-append, or_parts, same_truth, contains, distinct, with_one, Among-contains, Among_by_contains, Among_of_distinct, Among_distinct, false_unless, Node, Triple, same_node, exact_nodes, exact_numbers, number_in, AreDistinct, same_nodes, Keyed, key_by, has_key, keys_by, keys_in, grouped, put_in, taken_at, taken_in}
+use Rattle.std.proofs.lemmas.List.Elements.{filter-append}
 use Rattle.rx_terms.specs.declared.triples.Triple.{Triple as CodeTriple}
-use Rattle.rx_model.proofs.Common.{contains, distinct, with_one, Among-contains, Among_by_contains, Among_of_distinct, Among_distinct, false_unless, Node, Triple, same_node, exact_nodes, exact_numbers}
-use Rattle.rx_graph.specs.Resources.{number_in, AreDistinct}
 use Rattle.rx_graph.proofs.PatternLemmas.{none_there}
-use Rattle.rx_shapes.proofs.Grouped.{same_nodes}
 use Rattle.rx_shapes.proofs.Heights.{Differ}
 use Rattle.rx_shapes.proofs.Times.{distinct_differ}
 use Rattle.rx_turtle.specs.declared.keys.By.{By}
-use Rattle.rx_turtle.specs.Groups.{Keyed, key_by, has_key, keys_by, keys_in, grouped, put_in, taken_at, taken_in}
 use Rattle.rx_turtle.proofs.GroupLemmas.{lent_seen, mapped_more, same_self, paired, rows_by, keys_more, others_stay, one_put, last_in}
 
 -- ---- keys

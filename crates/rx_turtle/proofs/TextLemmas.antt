@@ -1,22 +1,9 @@
 -- The text of a plan is that of the layout, and what it denotes.
-use Rattle.rx_terms.proofs.Common.{◌≡◌, ◌∙◌, ℕ, Bool, true, List, [], ◌∷◌, ◌++◌, map, filter, flat_map, refl, sym, ap, ap₂, subst, codes, chars, chars-encodes, Chars}
-use Rattle.std.specs.Str.{encode_utf8_all}
-use Rattle.rx_model.proofs.Common.{Node, Iri, Triple}
-use Rattle.rx_notation.specs.Short.{Prefixes, names_rise}
-use Rattle.rx_notation.specs.Layout.{resource_text, verb_text, object_text, separated, predicate_text, statement_text, prefixes_text, turtle}
-use Rattle.rx_shapes.specs.Subjects.{has_predicate, subjects, about, predicates_of}
-use Rattle.rx_notation.specs.Laws.{IsContext}
-use Rattle.rx_pieces.specs.Writable.{IsWritable}
-use Rattle.rx_nquads.specs.Quads.{proper_triple}
-use Rattle.rx_notation.specs.Meaning.{Turtle}
+use Rattle.rx_turtle.proofs.Common.{◌≡◌, ◌∙◌, ℕ, Bool, true, List, [], ◌∷◌, ◌++◌, map, filter, flat_map, refl, sym, ap, ap₂, subst, codes, chars-encodes, Chars, Node, Iri, Triple, Prefixes, names_rise, resource_text, verb_text, object_text, separated, predicate_text, statement_text, prefixes_text, turtle, has_predicate, subjects, about, predicates_of, IsWritable, proper_triple, rising, Keyed, has_key, keys_by, grouped, Said, said_by, plan, group_text, said_text, plan_text, AreRows, used_marks, chosen}
+use Rattle.rx_notation.proofs.Common.{IsContext, Turtle}
+use Rattle.std.specs.Str.{chars, encode_utf8_all}
 use Rattle.rx_notation.proofs.LayoutMeaning.{layout_denotes}
-use Rattle.rx_notation.proofs.Ordered.{rising}
 use Rattle.rx_turtle.specs.declared.keys.By.TheVariants as by
-use Rattle.rx_turtle.specs.Groups.{Keyed, has_key, keys_by, grouped}
-use Rattle.rx_turtle.specs.Runs.{Said, said_by}
-use Rattle.rx_turtle.specs.Written.{plan, group_text, said_text, plan_text}
-use Rattle.rx_turtle.specs.Rows.{AreRows}
-use Rattle.rx_turtle.specs.Uses.{used_marks, chosen}
 use Rattle.rx_turtle.proofs.GroupLemmas.{map_twice}
 use Rattle.rx_turtle.proofs.PredicateLemmas.{keys_are}
 use Rattle.rx_turtle.proofs.ScalarLemmas.{turtle_writable}

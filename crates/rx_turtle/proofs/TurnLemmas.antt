@@ -1,26 +1,15 @@
 -- What is due comes to the pieces of nested Turtle, turn by turn.
-use Rattle.rx_terms.proofs.Common.{◌≡◌, ◌∙◌, ℕ, Bool, true, false, cond, List, [], ◌∷◌, ◌++◌, map, filter, length, codes, bytes_eq, Option, Some, None, refl, sym, ap, ap₂, subst, inl, inr, Chars}
-use Rattle.rx_model.proofs.Common.{Among, Node, Iri, Blank, Term, Resource, Literal, Triple, set_of, rdf_first, rdf_rest, rdf_nil}
-use Rattle.rx_shapes.specs.Shapes.{Cell, IsShape, HaveShapes}
-use Rattle.rx_shapes.specs.declared.shapes.Shape.{Shape}
+use Rattle.rx_notation.proofs.Common.{◌≡◌, ◌∙◌, ℕ, Bool, true, false, cond, List, [], ◌∷◌, ◌++◌, map, filter, length, codes, bytes_eq, Option, Some, None, refl, sym, ap, ap₂, subst, inl, inr, Chars, Among, Node, Iri, Blank, Term, Resource, Literal, Triple, set_of, rdf_first, rdf_rest, rdf_nil, Cell, IsShape, HaveShapes, Shape, about, has_predicate, predicates_of, objects_of, first_of, object_at, CellOf, cell_of, predicate_says, Prefixes, reference_to, verb_of, subject_of, objects_after, some_objects, predicates_after, bracketed, some_predicates, one_object, items_by, node_by, object_by, written, statement_of, Piece, words, subject, verb, inside_gap, line_gap, pieces, statement_pieces}
+use Rattle.rx_turtle.proofs.Common.{Keyed, has_key, Shown, Fixed, IriOrLabel, words_text, piece_of, Due, Say, Object, After, behind, parted, object_due, objects_due, line_due, lines_due, bracket_due, item_due, rest_due, iri_due, statement_due, cell_due, node_due, term_due, opened, AreCells, one_due, due_pieces}
 use Rattle.rx_shapes.specs.declared.shapes.Shape.TheVariants as shape
-use Rattle.rx_shapes.specs.Subjects.{about, has_predicate, predicates_of, objects_of, first_of, object_at}
-use Rattle.rx_shapes.proofs.CellLemmas.{CellOf, cell_of}
-use Rattle.rx_shapes.proofs.Grouped.{predicate_says}
-use Rattle.rx_notation.specs.Short.{Prefixes}
 use Rattle.rx_notation.specs.Syntax.{Named, Object as An_object, Items, Part, IriOrLabel as Noun, Nil}
-use Rattle.rx_notation.specs.Nesting.{reference_to, verb_of, subject_of, objects_after, some_objects, predicates_after, bracketed, some_predicates, one_object, items_by, node_by, object_by, written, statement_of}
 use Rattle.rx_notation.specs.Nesting as nesting
-use Rattle.rx_notation.specs.Writing.{Piece, words, subject, verb, inside_gap, line_gap, pieces, statement_pieces}
 use Rattle.rx_notation.proofs.CellParts.{rests}
 use Rattle.rx_notation.proofs.Unfolded.{node_unfolds, cell_unfolds}
 use Rattle.rx_turtle.specs.declared.keys.By.TheVariants as by
 use Rattle.rx_turtle.specs.declared.tokens.Words.{Words}
 use Rattle.rx_turtle.specs.declared.tokens.Words.TheVariants as fixed
-use Rattle.rx_turtle.specs.Groups.{Keyed, has_key}
 use Rattle.rx_turtle.specs.Said.{said_of}
-use Rattle.rx_turtle.specs.Tokens.{Shown, Fixed, IriOrLabel, words_text, piece_of}
-use Rattle.rx_turtle.specs.Due.{Due, Say, Object, After, behind, parted, object_due, objects_due, line_due, lines_due, bracket_due, item_due, rest_due, iri_due, statement_due, cell_due, node_due, term_due, opened, AreCells, one_due, due_pieces}
 use Rattle.rx_turtle.proofs.GroupLemmas.{map_twice}
 use Rattle.rx_turtle.proofs.PredicateLemmas.{keys_are}
 

@@ -1,13 +1,5 @@
 -- Which prefixes are used.
-use Rattle.rx_terms.proofs.Common.{◌≡◌, ◌∙◌, ℕ, zero, suc, ◌+◌, ◌<◌, ◌≤◌, Bool, true, false, List, [], ◌∷◌, ◌++◌, map, filter, filter_map, flat_map, length, take, slice_get, slice_set, Option, Some, None, refl, sym, ap, ap₂, subst, inl, inr, arith, cond, take_all, length-map, or_right, Chars}
-use Rattle.std.proofs.Common.{◌||◌}
-use Rattle.rx_model.proofs.Common.{Among, contains, Triple, Among_cases, false_unless}
-use Rattle.rx_notation.specs.Short.{Prefix, Prefixes, prefix_of, names_rise}
-use Rattle.rx_notation.specs.Layout.{iris_of, used, same_prefix, prefixes_used}
-use Rattle.rx_notation.proofs.Chosen.{Apart, names_apart, exact_prefixes}
-use Rattle.rx_notation.proofs.Ordered.{rising}
-use Rattle.rx_turtle.specs.Shorts.{place_of, IsPlace}
-use Rattle.rx_turtle.specs.Uses.{marked, marked_all, unmarked, used_marks, chosen}
+use Rattle.rx_turtle.proofs.Common.{◌≡◌, ◌∙◌, ℕ, zero, suc, ◌+◌, ◌<◌, ◌≤◌, Bool, true, false, List, [], ◌∷◌, ◌++◌, map, filter, filter_map, flat_map, length, take, slice_get, slice_set, Option, Some, None, refl, sym, ap, ap₂, subst, inl, inr, arith, cond, ◌||◌, take_all, length-map, or_right, Chars, Among, contains, Triple, Among_cases, false_unless, Prefix, Prefixes, prefix_of, names_rise, iris_of, used, same_prefix, prefixes_used, Apart, names_apart, exact_prefixes, rising, place_of, IsPlace, marked, marked_all, unmarked, used_marks, chosen}
 use Rattle.rx_turtle.proofs.Finding.{place_is}
 use Rattle.rx_turtle.proofs.GroupLemmas.{mapped_more}
 use Rattle.rx_turtle.proofs.LineLemmas.{flat_map_last}

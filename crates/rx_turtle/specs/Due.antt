@@ -1,11 +1,7 @@
 -- What is due: the tokens that are still to come, of which some are known and others come of an object or of a cell.
 use Rattle.std.specs.Prelude.{◌≡◌, ℕ, zero, suc, List, [], ◌∷◌, ◌++◌, map, length, bytes_eq, Option, Some, None, Bool, true, false, if◌then◌else◌}
-use Rattle.rx_terms.specs.Text.{Chars}
-use Rattle.rx_model.specs.Sets.{Among}
-use Rattle.rx_model.specs.Seen.{term_seen, triples_seen}
-use Rattle.rx_model.specs.Terms.{Node, Iri, Blank, Term, Resource, Literal, Triple, set_of}
+use Rattle.rx_model.specs.Common.{Chars, Among, term_seen, triples_seen, Node, Iri, Blank, Term, Resource, Literal, Triple, set_of, rdf_first, rdf_rest, rdf_nil}
 use Rattle.rx_shapes.specs.Shapes.{Cell}
-use Rattle.rx_model.specs.Vocabulary.{rdf_first, rdf_rest, rdf_nil}
 use Rattle.rx_shapes.specs.Table.{AreShapes, shape_in}
 use Rattle.rx_shapes.specs.declared.shapes.Shape.{Shape}
 use Rattle.rx_shapes.specs.declared.shapes.Shape.TheVariants as shape

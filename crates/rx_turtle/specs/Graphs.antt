@@ -1,8 +1,7 @@
 -- The texts of the code's graph, and what they denote.
 use Rattle.std.specs.Prelude.{ℕ, List, map, encode_utf8_all}
-use Rattle.std.specs.Str.{chars}
+use Rattle.rx_model.specs.Common.{chars, triples_seen}
 use Rattle.rx_terms.specs.declared.triples.Triple.{Triple as CodeTriple}
-use Rattle.rx_model.specs.Seen.{triples_seen}
 use Rattle.rx_shapes.specs.Table.{Table, shape_in}
 use Rattle.rx_nquads.specs.Quads.{proper_triple}
 use Rattle.rx_notation.specs.Layout.{turtle}

@@ -1,14 +1,11 @@
 -- Triples in groups: those of a subject, and of these those of a predicate.
 use Rattle.std.specs.Prelude.{◌≡◌, ℕ, zero, suc, Bool, nat_eq, List, [], ◌∷◌, ◌++◌, map, filter, Option, Some, None}
-use Rattle.rx_model.specs.Sets.{distinct}
-use Rattle.rx_model.specs.Terms.{Node, Iri, Triple, same_node}
+use Rattle.rx_model.specs.Common.{distinct, Node, Iri, Triple, same_node, triple_seen, Bor}
 use Rattle.rx_terms.specs.declared.triples.Triple.{Triple as CodeTriple}
-use Rattle.rx_model.specs.Seen.{triple_seen}
 use Rattle.rx_graph.specs.Resources.{resource_seen, number_in}
 use Rattle.rx_turtle.specs.declared.keys.By.{By}
 use Rattle.rx_turtle.specs.declared.keys.By.TheVariants as by
 use Rattle.rx_turtle.specs.declared.groups.Group.{Group}
-use denote.Ref.{Bor}
 
 -- triples of the code that are lent, as triples of the model
 abbrev pub lent_triples : List (Bor CodeTriple) → List (Triple ℕ)

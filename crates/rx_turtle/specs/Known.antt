@@ -1,7 +1,6 @@
 -- What is known of the IRIs of a text.
 use Rattle.std.specs.Prelude.{◌≡◌, ℕ, nat_eq, List, get_or, Option, Some, None, if◌then◌else◌}
-use Rattle.std.specs.Cmp.Lexicographic.{pointwise}
-use Rattle.rx_terms.specs.Text.{Chars}
+use Rattle.rx_terms.specs.Common.{pointwise, Chars}
 use Rattle.rx_notation.specs.Short.{Prefixes}
 use Rattle.rx_turtle.specs.declared.known.Entry.{Entry}
 use Rattle.rx_turtle.specs.declared.known.Entry.TheVariants.{Empty, Kept}

@@ -1,10 +1,9 @@
 -- The text of a nested plan.
 use Rattle.std.specs.Prelude.{List, ◌++◌, flat_map}
-use Rattle.rx_terms.specs.Text.{Chars}
+use Rattle.rx_model.specs.Common.{Chars, Among}
 use Rattle.rx_notation.specs.Layout.{prefixes_text}
 use Rattle.rx_turtle.specs.declared.nested_plan.NestedPlan.{NestedPlan}
 use Rattle.rx_turtle.specs.declared.tokens.Token.{Token}
-use Rattle.rx_model.specs.Sets.{Among}
 use Rattle.rx_turtle.specs.Tokens.{Shown, tokens_seen, shown_texts, iris_of_shown, WritableShown}
 use Rattle.rx_turtle.specs.Uses.{chosen}
 

@@ -1,8 +1,6 @@
 -- An index of the prefixes by IRI.
 use Rattle.std.specs.Prelude.{◌≡◌, ℕ, ◌-◌, ◌<◌, true, false, nat_eq, List, length, get_or, Option, Some, if◌then◌else◌}
-use Rattle.std.specs.Cmp.Lexicographic.{pointwise, slice_cmp}
-use Rattle.std.specs.Ordering.{nat_cmp}
-use Rattle.std.specs.BTreeMap.{get_by}
+use Rattle.rx_terms.specs.Common.{pointwise, slice_cmp, nat_cmp, get_by}
 use Rattle.rx_notation.specs.Short.{Prefix, Prefixes, is_name_char}
 use Rattle.rx_turtle.specs.declared.places.Places.{Places}
 use Rattle.rx_turtle.specs.Shorts.{stands_for, place_from}

@@ -1,7 +1,6 @@
 -- Triples that stand side by side.
 use Rattle.std.specs.Prelude.{ℕ, nat_eq, Bool, false, List, [], ◌∷◌, map, filter, flat_map, if◌then◌else◌}
-use Rattle.rx_model.specs.Sets.{contains}
-use Rattle.rx_model.specs.Terms.{Node, Triple, same_node}
+use Rattle.rx_model.specs.Common.{contains, Node, Triple, same_node}
 use Rattle.rx_turtle.specs.declared.keys.By.{By}
 use Rattle.rx_turtle.specs.declared.keys.By.TheVariants as by
 use Rattle.rx_turtle.specs.Groups.{Keyed, key_by, has_key, grouped}

@@ -1,9 +1,6 @@
 -- How the prefix of an IRI's short form is found: by the characters at its end, which are those of a local name.
 use Rattle.std.specs.Prelude.{◌≡◌, ◌<◌, ◌≤◌, ◌-◌, ℕ, zero, suc, Bool, false, ◌&&◌, ◌||◌, ◌==◌, nat_eq, List, [], ◌∷◌, take, length, get_or, Option, Some, None, MatchOption, slice_get, encode_utf8_all, if◌then◌else◌}
-use Rattle.std.specs.Cmp.Lexicographic.{pointwise}
-use Rattle.std.specs.Option.{option_or}
-use Rattle.rx_terms.specs.Ascii.{is_letter, low_line}
-use Rattle.rx_terms.specs.Text.{Chars}
+use Rattle.rx_terms.specs.Common.{pointwise, option_or, is_letter, low_line, Chars}
 use Rattle.rx_notation.specs.Short.{Prefix, Prefixes, is_name_char, is_prefix_name, local_name, prefix_of}
 
 -- what begins a local name

@@ -1,9 +1,8 @@
 -- What a number of a text tells of the IRIs that prefixes stand for.
 use Rattle.std.specs.Prelude.{◌≡◌, ℕ, ◌+◌, ◌-◌, ◌*◌, nat_lt, nat_eq, List, length, get_or, Option, Some, None, bit_and, if◌then◌else◌}
-use Rattle.std.specs.Cmp.Lexicographic.{pointwise}
+use Rattle.rx_terms.specs.Common.{pointwise, Bor}
 use Rattle.rx_turtle.specs.declared.slots.Slot.{Slot}
 use Rattle.rx_turtle.specs.declared.slots.Slot.TheVariants.{Free, One, Many}
-use denote.Ref.{Bor}
 
 -- a number of the text
 abbrev pub number_of : List ℕ → ℕ

@@ -1,8 +1,6 @@
 -- The tokens of a nested text, apart from the prefixes, which are known only once all tokens are.
 use Rattle.std.specs.Prelude.{ℕ, List, [], ◌++◌, map, flat_map, codes}
-use Rattle.rx_terms.specs.Text.{Chars}
-use Rattle.rx_model.specs.Terms.{Kind, Node, Iri, Blank, Literal}
-use Rattle.rx_model.specs.Seen.{kind_seen}
+use Rattle.rx_model.specs.Common.{Chars, Kind, Node, Iri, Blank, Literal, kind_seen}
 use Rattle.rx_graph.specs.Resources.{resource_seen}
 use Rattle.rx_pieces.specs.Writable.{WritableText, WritableNode, WritableKind}
 use Rattle.rx_notation.specs.Short.{Prefixes}

@@ -1,7 +1,6 @@
 -- Which prefixes of a context are used: a mark for each.
 use Rattle.std.specs.Prelude.{ℕ, Bool, true, false, List, [], ◌∷◌, map, flat_map, slice_set, Option, Some, None}
-use Rattle.rx_terms.specs.Text.{Chars}
-use Rattle.rx_model.specs.Terms.{Triple}
+use Rattle.rx_model.specs.Common.{Chars, Triple}
 use Rattle.rx_notation.specs.Short.{Prefix, Prefixes}
 use Rattle.rx_notation.specs.Layout.{iris_of}
 use Rattle.rx_turtle.specs.Shorts.{place_of}

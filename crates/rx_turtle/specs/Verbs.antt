@@ -1,7 +1,6 @@
 -- Predicates, where they are given as nodes; none is a blank node.
 use Rattle.std.specs.Prelude.{ℕ, List, []}
-use Rattle.rx_terms.specs.Text.{Chars}
-use Rattle.rx_model.specs.Terms.{Node, Iri, Blank}
+use Rattle.rx_model.specs.Common.{Chars, Node, Iri, Blank}
 use Rattle.rx_pieces.specs.Writing.{blank_text}
 use Rattle.rx_notation.specs.Short.{Prefixes}
 use Rattle.rx_notation.specs.Layout.{verb_text, iris_of_predicate}

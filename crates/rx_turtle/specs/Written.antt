@@ -1,7 +1,6 @@
 -- The text of triples that are in groups.
 use Rattle.std.specs.Prelude.{ℕ, List, [], ◌∷◌, ◌++◌, map, flat_map, codes}
-use Rattle.rx_terms.specs.Text.{Chars}
-use Rattle.rx_model.specs.Terms.{Triple}
+use Rattle.rx_model.specs.Common.{Chars, Triple}
 use Rattle.rx_notation.specs.Short.{Prefixes}
 use Rattle.rx_notation.specs.Layout.{resource_text, object_text, separated, prefixes_text}
 use Rattle.rx_turtle.specs.declared.keys.By.TheVariants as by

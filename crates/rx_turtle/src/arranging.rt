@@ -1,8 +1,6 @@
 //! Triples in the order in which they are written.
 ghost use Rattle.std.specs.Prelude.{◌≡◌, ◌<◌, ◌++◌, length, map, flat_map, nat_eq, IfOk, OnOk, take, drop, [], ◌∷◌};
-ghost use Rattle.rx_model.specs.Sets.{contains};
-ghost use Rattle.rx_model.specs.Terms.{same_node};
-ghost use Rattle.rx_model.specs.Seen.{triple_seen, triples_seen};
+ghost use Rattle.rx_model.specs.Common.{contains, same_node, triple_seen, triples_seen};
 ghost use Rattle.rx_graph.specs.Resources.{resource_seen};
 ghost use Rattle.rx_turtle.specs.declared.keys.By.TheVariants as by;
 ghost use Rattle.rx_turtle.specs.Groups.{key_by, grouped, lent_triples, those_with, Appends};

@@ -1,8 +1,6 @@
 //! Triples in groups.
 ghost use Rattle.std.specs.Prelude.{◌≡◌, ◌<◌, [], ◌∷◌, ◌++◌, true, length, map, nat_eq, IfOk, OnOk, Some, slice_get};
-ghost use Rattle.rx_model.specs.Sets.{with_one};
-ghost use Rattle.rx_model.specs.Terms.{same_node};
-ghost use Rattle.rx_model.specs.Seen.{triple_seen};
+ghost use Rattle.rx_model.specs.Common.{with_one, same_node, triple_seen};
 ghost use Rattle.rx_graph.specs.Resources.{resource_seen, number_in, AreDistinct};
 ghost use Rattle.rx_turtle.specs.Groups.{Keyed, keys_in, grouped, put_in, taken_in, lent_triples};
 

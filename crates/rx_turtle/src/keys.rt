@@ -1,7 +1,6 @@
 //! What triples of a group have in common.
 ghost use Rattle.std.specs.Prelude.{◌≡◌, nat_eq};
-ghost use Rattle.rx_model.specs.Terms.{same_node};
-ghost use Rattle.rx_model.specs.Seen.{triple_seen};
+ghost use Rattle.rx_model.specs.Common.{same_node, triple_seen};
 ghost use Rattle.rx_graph.specs.Resources.{resource_seen};
 ghost use Rattle.rx_turtle.specs.Groups.{key_by, has_key};
 

@@ -1,7 +1,6 @@
 //! What is known of the IRIs of a text, so that one that comes again isn't shortened anew.
 ghost use Rattle.std.specs.Prelude.{◌≡◌, ◌<◌, ℕ, length, Option, Some, None, IfOk, nat_eq, if◌then◌else◌};
-ghost use Rattle.std.specs.Cmp.Lexicographic.{pointwise};
-ghost use Rattle.rx_terms.specs.Text.{Chars};
+ghost use Rattle.rx_terms.specs.Common.{pointwise, Chars};
 ghost use Rattle.rx_turtle.specs.Slots.{IsSo};
 ghost use Rattle.rx_turtle.specs.Known.{kept_by, IsEntry, AreEntries};
 

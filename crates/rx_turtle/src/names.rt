@@ -1,7 +1,6 @@
 //! The names of prefixes, and local names.
 ghost use Rattle.std.specs.Prelude.{◌≡◌};
-ghost use Rattle.std.specs.List.{list_all};
-ghost use Rattle.std.specs.Str.{chars};
+ghost use Rattle.rx_terms.specs.Common.{list_all, chars};
 ghost use Rattle.rx_notation.specs.Short.{is_name_char, is_prefix_name};
 ghost use Rattle.rx_turtle.specs.Shorts.{begins_local, begins_name};
 

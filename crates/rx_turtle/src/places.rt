@@ -1,7 +1,6 @@
 //! An index of the prefixes by IRI.
 ghost use Rattle.std.specs.Prelude.{◌≡◌, ℕ, false, get_or, IfOk, OnOk};
-ghost use Rattle.std.specs.Str.{chars};
-ghost use Rattle.rx_terms.specs.Iri.{IsIri};
+ghost use Rattle.rx_terms.specs.Common.{chars, IsIri};
 ghost use Rattle.rx_notation.specs.Short.{Prefixes};
 ghost use Rattle.rx_turtle.specs.Shorts.{place_from};
 ghost use Rattle.rx_turtle.specs.Places.{Finds, Puts, PutsBytes};

@@ -1,7 +1,6 @@
 //! The prefixes of a text, a line each.
 ghost use Rattle.std.specs.Prelude.{◌≡◌, [], flat_map, length, if◌then◌else◌};
-ghost use Rattle.std.specs.List.{list_any};
-ghost use Rattle.std.specs.Str.{chars};
+ghost use Rattle.rx_terms.specs.Common.{list_any, chars};
 ghost use Rattle.rx_notation.specs.Layout.{prefix_text, prefixes_text};
 ghost use Rattle.rx_pieces.specs.Writable.{Pushes};
 ghost use Rattle.rx_turtle.specs.Uses.{chosen};

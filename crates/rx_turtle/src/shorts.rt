@@ -1,8 +1,6 @@
 //! Short forms of IRIs under a context's prefixes.
 ghost use Rattle.std.specs.Prelude.{◌≡◌, ◌<◌, ◌≤◌, ◌-◌, length, true, false, IfOk, MatchOption, None, Some, slice_get, get_or, List, ℕ, drop, encode_utf8_all};
-ghost use Rattle.std.specs.Str.{chars};
-ghost use Rattle.rx_terms.specs.Iri.{IsIri};
-ghost use Rattle.rx_terms.specs.Text.{begins_with};
+ghost use Rattle.rx_terms.specs.Common.{chars, IsIri, begins_with};
 ghost use Rattle.rx_notation.specs.Short.{is_name_char, prefix_of, names_rise};
 ghost use Rattle.rx_turtle.specs.Shorts.{EndsNone, place_at, place_below, place_of, IsPlace, IsShort};
 ghost use Rattle.rx_turtle.specs.Rows.{AreRows};

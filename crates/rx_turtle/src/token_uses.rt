@@ -1,8 +1,6 @@
 //! Which prefixes the tokens of a text use.
 ghost use Rattle.std.specs.Prelude.{◌≡◌, [], ◌∷◌, true, IfOk, OnOk, nat_eq};
-ghost use Rattle.rx_model.specs.Seen.{triples_seen};
-ghost use Rattle.rx_model.specs.Sets.{distinct};
-ghost use Rattle.rx_model.specs.Terms.{same_triple};
+ghost use Rattle.rx_model.specs.Common.{triples_seen, distinct, same_triple};
 ghost use Rattle.rx_graph.specs.Resources.{resource_seen};
 ghost use Rattle.rx_pieces.specs.Writable.{WritableNode, IsWritable};
 ghost use Rattle.rx_notation.specs.Layout.{iris_of_node};

@@ -1,10 +1,8 @@
 -- Where numbers stand in a list that grows and shrinks at its end.
-use Rattle.rx_terms.proofs.Common.{◌≡◌, ◌∙◌, ℕ, zero, suc, ◌<◌, ap, sym, refl, arith, Bool, true, false, Option, Some, None, List, [], ◌∷◌, ◌++◌, take, length, get_or, slice_get, append_assoc, append-nil, map, cond, nat_cmp, Result, OnOk, Ok, Err, option_or, is_eq, map-append, length-map, nat_tests}
-use Rattle.std.proofs.Common.{◌==◌, if◌then◌else◌, OnErr}
-use Rattle.std.specs.Option.{option_map}
+use Rattle.rx_terms.proofs.Common.{◌≡◌, ◌∙◌, ℕ, zero, suc, ◌<◌, ap, sym, refl, arith, Bool, true, false, Option, Some, None, List, [], ◌∷◌, ◌++◌, take, length, get_or, slice_get, append_assoc, append-nil, map, cond, nat_cmp, Result, OnOk, Ok, Err, ◌==◌, if◌then◌else◌, OnErr, is_eq, map-append, length-map, get_or-map, nat_tests}
+use Rattle.std.specs.Option.{option_or, option_map}
 use Rattle.std.specs.Cmp.{unsigned_tied}
 use Rattle.std.specs.BTreeMap.{BTreeMap, get}
-use Rattle.std.proofs.lemmas.List.{get_or-map}
 use Rattle.rx_unique.specs.Places.{last_place, earlier_places, AreFiled}
 
 -- one more number

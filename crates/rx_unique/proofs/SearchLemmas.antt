@@ -1,12 +1,8 @@
 -- Where a key stands among keys, each of which is there once.
-use Rattle.rx_terms.proofs.Common.{◌≡◌, ◌∙◌, ℕ, zero, suc, ◌+◌, ◌<◌, ◌≤◌, ◌⊎◌, ap, sym, refl, arith, inl, inr, Bool, true, false, cond, Option, Some, None, List, [], ◌∷◌, ◌++◌, take, length, get_or, slice_get, nat_lt, true≢false, map, subst, option_or, list_any, position_or_len, cases_lt, nat_tests, length-map, map-append, slice_get_within, get_or_from_slice_get, slice_get-get_or}
-use Rattle.std.proofs.Common.{not, ◌||◌, ◌==◌, is_some, if◌then◌else◌}
-use Rattle.std.specs.Option.{option_map}
+use Rattle.rx_terms.proofs.Common.{◌≡◌, ◌∙◌, ℕ, zero, suc, ◌+◌, ◌<◌, ◌≤◌, ◌⊎◌, ap, sym, refl, arith, inl, inr, Bool, true, false, cond, Option, Some, None, List, [], ◌∷◌, ◌++◌, take, length, get_or, slice_get, nat_lt, true≢false, map, subst, not, ◌||◌, ◌==◌, is_some, if◌then◌else◌, cases_lt, nat_tests, length-map, map-append, get_or-map, slice_get_within, get_or_from_slice_get, slice_get-get_or, position, position_or_len_is, passes_at_first}
+use Rattle.std.specs.Option.{option_or, option_map}
+use Rattle.std.specs.List.{list_any, position_or_len, IsDistinct}
 use Rattle.std.specs.Cmp.{IsEquivalence}
-use Rattle.std.specs.List.{IsDistinct}
-use Rattle.std.specs.Prelude.{position}
-use Rattle.std.proofs.lemmas.List.{get_or-map}
-use Rattle.std.proofs.lemmas.List.Sums.{position_or_len_is, passes_at_first}
 use Rattle.std.proofs.lemmas.Map.Keys.{apart_from_distinct, IsDistinct-push}
 use Rattle.rx_unique.specs.Places.{last_place}
 use Rattle.rx_unique.specs.Slots.{mark_of, IsOther, IsHeld, AreHeld}

@@ -1,8 +1,5 @@
 -- What slots say of keys.
-use Rattle.rx_terms.proofs.Common.{◌≡◌, ◌≢◌, ◌∙◌, ℕ, zero, suc, ◌+◌, ◌<◌, ◌≤◌, ◌⊎◌, inl, inr, ap, sym, refl, arith, true, false, true≢false, nat_eq, Option, Some, None, List, [], ◌∷◌, ◌++◌, take, length, get_or, slice_get, subst, cases_lt, nat_tests}
-use Rattle.std.proofs.Common.{IfSome, IfNone}
-use Rattle.std.specs.Option.{option_eq}
-use Rattle.std.proofs.Math.Seq.{take-suc}
+use Rattle.rx_terms.proofs.Common.{◌≡◌, ◌≢◌, ◌∙◌, ℕ, zero, suc, ◌+◌, ◌<◌, ◌≤◌, ◌⊎◌, inl, inr, ap, sym, refl, arith, true, false, true≢false, nat_eq, Option, Some, None, List, [], ◌∷◌, ◌++◌, take, length, get_or, slice_get, subst, IfSome, IfNone, cases_lt, nat_tests, option_eq, take-suc}
 use Rattle.rx_unique.specs.Slots.{mark_of, IsOther, IsHeld, AreHeld}
 
 -- lists with one more at their end

@@ -1,8 +1,6 @@
 -- Where numbers stand in a list.
 use Rattle.std.specs.Prelude.{◌≡◌, ℕ, suc, ◌==◌, List, [], ◌∷◌, ◌++◌, Option, Some, None, if◌then◌else◌}
-use Rattle.std.specs.Option.{option_map, option_or}
-use Rattle.std.specs.Ordering.{nat_cmp}
-use Rattle.std.specs.BTreeMap.{BTreeMap, get}
+use Rattle.rx_terms.specs.Common.{option_map, option_or, nat_cmp, BTreeMap, get}
 
 -- the place at which the number stands last
 abbrev pub last_place : ℕ → List ℕ → Option ℕ

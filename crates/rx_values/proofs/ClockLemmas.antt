@@ -1,7 +1,5 @@
 -- A fraction of any digits.
-use Rattle.rx_terms.proofs.Common.{◌≡◌, ℕ, Bool, true, false, List, [], ◌∷◌, refl, not, ◌&&◌, if◌then◌else◌, list_all, is_digit, is_empty}
-use Rattle.std.specs.Prelude.{Some, None}
-use Rattle.rx_rdfa.specs.Times.{digits, after_digits, after_some_digits, after_fraction}
+use Rattle.rx_rdfa.proofs.Common.{◌≡◌, ℕ, Bool, true, false, List, [], ◌∷◌, refl, not, ◌&&◌, if◌then◌else◌, Some, None, list_all, is_digit, is_empty, digits, after_digits, after_some_digits, after_fraction}
 
 all_go : (c : ℕ) (text : List ℕ) (b : Bool) → is_digit c ≡ b → list_all is_digit (digits text) ≡ true → list_all is_digit (digits (c ∷ text)) ≡ true
 all_go c text true e more = rw e (rw (e, more) refl)

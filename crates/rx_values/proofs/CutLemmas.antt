@@ -1,8 +1,6 @@
 -- Where a text is cut at a mark, in bytes and in characters.
-use Rattle.rx_terms.proofs.Common.{◌≡◌, ◌∙◌, ℕ, true, List, [], ◌∷◌, ◌++◌, length, take, drop, refl, sym, ap, subst, arith, chars, IsUtf8, IsCharBoundary, all_scalars, and_parts, and_from, take-append-drop, length-take, encodes-chars, scalars-chars, chars-append, chars-encodes, encodes-append, IsUtf8-take}
-use Rattle.std.proofs.Math.Seq.{take-append_seam, drop-append_seam}
-use Rattle.std.specs.Str.{encode_utf8_all}
-use Rattle.std.proofs.lemmas.Str.{IsCharBoundary-at_seam}
+use Rattle.rx_terms.proofs.Common.{◌≡◌, ◌∙◌, ℕ, true, List, [], ◌∷◌, ◌++◌, length, take, drop, refl, sym, ap, subst, arith, and_parts, and_from, take-append-drop, length-take, encodes-chars, scalars-chars, chars-append, chars-encodes, encodes-append, IsUtf8-take, IsCharBoundary-at_seam, take-append_seam, drop-append_seam}
+use Rattle.std.specs.Str.{chars, IsUtf8, IsCharBoundary, all_scalars, encode_utf8_all}
 use Rattle.rx_values.specs.Marks.{CutAt}
 
 pub front_scalars : (front rest : List ℕ) → all_scalars (front ++ rest) ≡ true → all_scalars front ≡ true

@@ -1,8 +1,6 @@
 -- The digits at the front of a text, as std cuts them.
-use Rattle.rx_terms.proofs.Common.{◌≡◌, ℕ, suc, ◌-◌, ◌≤◌, Bool, true, false, List, [], ◌∷◌, length, take, drop, refl, ap, arith, take_all, is_digit}
+use Rattle.rx_terms.proofs.Common.{◌≡◌, ℕ, suc, ◌-◌, ◌≤◌, Bool, true, false, List, [], ◌∷◌, length, take, drop, refl, ap, arith, take_all, is_digit, take_while, take_while-cons}
 use native.Mathlib.Numerals.{unary_clauses}
-use Rattle.std.specs.List.{take_while}
-use Rattle.std.proofs.lemmas.List.Sums.{take_while-cons}
 use Rattle.rx_rdfa.specs.Times.{digits, after_digits}
 
 pub record DigitsTo (text : List ℕ) (count : ℕ) (digits_are rest_is : List ℕ) : Type 0 where

@@ -1,6 +1,5 @@
 -- A text that has the form of a time is ASCII.
-use Rattle.rx_terms.proofs.Common.{◌≡◌, ◌∙◌, ℕ, ◌<◌, Bool, true, false, List, [], ◌∷◌, refl, sym, ap, arith, Option, Some, None, ◌⊎◌, ⊎_elim, lit<, not, ◌&&◌, ◌||◌, ◌==◌, if◌then◌else◌, option_or, list_all, chars, IsUtf8, and_parts, and_from, false_from_ne_true, nat_tests, encodes-chars, is_ascii, is_digit, colon, is_empty, ascii-same, ascii-chars, either}
-use Rattle.rx_terms.specs.Ascii.{hyphen, plus_sign, full_stop}
+use Rattle.rx_terms.proofs.Common.{◌≡◌, ◌∙◌, ℕ, ◌<◌, Bool, true, false, List, [], ◌∷◌, refl, sym, ap, arith, Option, Some, None, ◌⊎◌, ⊎_elim, lit<, not, ◌&&◌, ◌||◌, ◌==◌, if◌then◌else◌, option_or, list_all, chars, IsUtf8, and_parts, and_from, false_from_ne_true, nat_tests, encodes-chars, is_ascii, is_digit, colon, hyphen, plus_sign, full_stop, is_empty, ascii-same, ascii-chars, either}
 use Rattle.rx_rdfa.specs.Times.{◌andThen◌, after_char, after_two, digits, after_digits, after_some_digits, follows, is_zero, is_offset, is_zone, is_year, without_minus, after_year, after_month, after_date, after_fraction, after_hms, after_clock, Parts, with_part, part, seconds, ends_with_part, are_time_parts, is_duration, time_kind}
 
 abbrev all_ascii : List ℕ → Bool

@@ -1,7 +1,6 @@
 -- Times of day, to the second.
 use Rattle.std.specs.Prelude.{ℕ, Option}
-use Rattle.rx_terms.specs.Ascii.{colon}
-use Rattle.rx_terms.specs.Text.{Chars}
+use Rattle.rx_terms.specs.Common.{colon, Chars}
 use Rattle.rx_rdfa.specs.Times.{after_char, after_two, ◌andThen◌}
 
 -- what follows hours from a low to a high number, minutes and seconds, both at most the last

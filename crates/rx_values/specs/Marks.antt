@@ -1,7 +1,6 @@
 -- Where a text may be cut.
 use Rattle.std.specs.Prelude.{◌≡◌, ℕ, ◌++◌, length}
-use Rattle.std.specs.Str.{encode_utf8_all}
-use Rattle.rx_terms.specs.Text.{Chars}
+use Rattle.rx_terms.specs.Common.{encode_utf8_all, Chars}
 
 -- the text is the front and the rest, and the front takes so many bytes as UTF-8
 pub record CutAt (text : Chars) (mark : ℕ) (front rest : Chars) : Type 0 where

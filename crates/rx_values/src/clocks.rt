@@ -1,7 +1,6 @@
 //! Times of day (XML Schema 1.1 Part 2, section 3.3.8).
 ghost use Rattle.std.specs.Prelude.{◌≡◌, ◌∷◌, option_copied};
-ghost use Rattle.rx_terms.specs.Ascii.{is_digit};
-ghost use Rattle.rx_rdfa.specs.Times.{after_fraction, after_hms, after_clock, is_zero};
+ghost use Rattle.rx_rdfa.specs.Common.{is_digit, after_fraction, after_hms, after_clock, is_zero};
 ghost use Rattle.rx_values.specs.Clocks.{after_seconds};
 
 use crate::readers::{after_char, after_some_digits, after_two, split_digits};

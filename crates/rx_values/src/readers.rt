@@ -1,8 +1,6 @@
 //! What follows at the front of a text, which is looked at byte by byte: all that the forms of times have is ASCII.
 ghost use Rattle.std.specs.Prelude.{◌≡◌, ◌&&◌, ◌+◌, ◌*◌, ◌-◌, option_copied, length};
-ghost use Rattle.std.specs.List.{take_while};
-ghost use Rattle.rx_terms.specs.Ascii.{is_digit, between};
-ghost use Rattle.rx_rdfa.specs.Times.{after_char, after_two, digits, after_digits, after_some_digits, without_minus};
+ghost use Rattle.rx_rdfa.specs.Common.{take_while, is_digit, between, after_char, after_two, digits, after_digits, after_some_digits, without_minus};
 
 /// What follows the character, where it stands first.
 pub(crate) fn after_char(text: &[u8], c: u8) -> Option<&[u8]>

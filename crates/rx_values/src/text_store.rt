@@ -1,7 +1,6 @@
 //! One buffer for the text of all elements that gather it.
 ghost use Rattle.std.specs.Prelude.{◌≡◌, [], ◌++◌, length, OnOk, OnErr, encode_utf8_all};
-ghost use Rattle.std.specs.Str.{chars};
-ghost use Rattle.rx_terms.specs.Text.{Chars};
+ghost use Rattle.rx_terms.specs.Common.{chars, Chars};
 ghost use Rattle.rx_values.specs.Marks.{CutAt, NoCut};
 
 use rx_terms::NoMemory;

@@ -1,9 +1,8 @@
 -- Signs of a page in which no start tag is refused, and the names in force behind them.
 use Rattle.std.specs.Prelude.{◌≡◌, List, [], ◌++◌, None, Result}
-use Rattle.rx_rdfa.specs.Names.{Context}
+use Rattle.rx_rdfa.specs.Common.{Context, Stop}
 use Rattle.rx_names.specs.Lines as names
 use Rattle.rx_names.specs.Lines.{Kept}
-use Rattle.rx_grammar.specs.declared.stops.Stop.{Stop}
 use Rattle.rx_nest.specs.Fronts.{IsFront}
 use Rattle.rx_nest.specs.Signs.{Sign}
 use Rattle.rx_nest.specs.Listening.{Hears}

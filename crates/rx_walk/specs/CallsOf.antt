@@ -1,16 +1,8 @@
 -- What an evaluator is told of a page.
 use Rattle.std.specs.Prelude.{◌≡◌, List, [], ◌∷◌, ◌++◌, map}
-use Rattle.rx_terms.specs.Text.{Chars}
-use Rattle.rx_grammar.specs.Trees.{Tree}
-use Rattle.rx_rdfa.specs.Blanks.{Bnode, Owner, model}
-use Rattle.rx_rdfa.specs.Calls.{Call, Enter, Read, Leave, calls, after}
-use Rattle.rx_rdfa.specs.Facts.{facts, with_facts}
-use Rattle.rx_rdfa.specs.Machine.{Machine}
-use Rattle.rx_rdfa.specs.Names.{Context}
-use Rattle.rx_rdfa.specs.Tree.{Tag}
+use Rattle.rx_rdfa.specs.Common.{Chars, Tree, Bnode, Owner, model, Call, Enter, Read, Leave, calls, after, facts, with_facts, Machine, Context, Tag, read_tag, tags_of}
 use Rattle.rx_nest.specs.Signs.{Sign, begun, said, finished, signs_of}
 use Rattle.rx_base.specs.Lines.{line_on}
-use Rattle.rx_rdfa.specs.Pages.{read_tag, tags_of}
 
 -- the call for a sign: a start tag with its facts below a line, a character, an end
 abbrev pub call_of : Context → List Tag → Sign → Call

@@ -1,15 +1,10 @@
 -- What is known of a page's elements after some signs of it.
 use Rattle.std.specs.Prelude.{◌≡◌, ℕ, false, List, [], ◌∷◌, ◌++◌, length, None, Result}
-use Rattle.rx_terms.specs.Text.{Chars}
-use Rattle.rx_rdfa.specs.Facts.{facts}
-use Rattle.rx_rdfa.specs.Names.{Context, vocab}
-use Rattle.rx_rdfa.specs.Refusals.{is_relative}
-use Rattle.rx_rdfa.specs.Tree.{Tag}
+use Rattle.rx_rdfa.specs.Common.{Chars, facts, Context, vocab, is_relative, Tag, Stop}
 use Rattle.rx_names.specs.Lines as names
 use Rattle.rx_curie.specs.declared.facts.Facts.{Facts as CodeFacts}
 use Rattle.rx_curie.specs.Given.{vocabulary_from}
 use Rattle.rx_curie.specs.Seen.{facts_seen}
-use Rattle.rx_grammar.specs.declared.stops.Stop.{Stop}
 use Rattle.rx_nest.specs.Signs.{Sign}
 use Rattle.rx_nest.specs.Fronts.{IsFront}
 use Rattle.rx_nest.specs.Ways.{Way}

@@ -1,7 +1,6 @@
 -- What calls make of an evaluator's state.
 use Rattle.std.specs.Prelude.{◌≡◌, ◌↔◌, ℕ, zero, suc, Option, Some, None, List, [], ◌∷◌, nat_le, if◌then◌else◌}
-use Rattle.rx_terms.specs.Text.{Chars}
-use Rattle.rx_rdfa.specs.Calls.{Call, Enter, Read, Leave}
+use Rattle.rx_rdfa.specs.Common.{Chars, Call, Enter, Read, Leave}
 use Rattle.rx_nest.specs.Fronts.{Front, unbegun, inside, over, levels_of}
 use Rattle.rx_eval.specs.Opened.{Opens, MayOpen, begun_state, read_text}
 use Rattle.rx_eval.specs.Ending.{Closes}

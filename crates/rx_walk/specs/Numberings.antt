@@ -1,14 +1,7 @@
 -- The numbers that a page's blank nodes have at any time.
 use Rattle.std.specs.Prelude.{◌≡◌, ℕ, List, [], ◌∷◌, ◌++◌, Some}
-use Rattle.rx_terms.specs.Text.{Chars}
+use Rattle.rx_rdfa.specs.Common.{Chars, triples_seen, Tree, base_of, line_after, no_line, Facts, facts, with_facts, Context, Tag, tags_of}
 use Rattle.rx_terms.specs.declared.triples.Triple.{Triple as CodeTriple}
-use Rattle.rx_model.specs.Seen.{triples_seen}
-use Rattle.rx_grammar.specs.Trees.{Tree}
-use Rattle.rx_rdfa.specs.Base.{base_of}
-use Rattle.rx_rdfa.specs.Calls.{line_after, no_line}
-use Rattle.rx_rdfa.specs.Facts.{Facts, facts, with_facts}
-use Rattle.rx_rdfa.specs.Names.{Context}
-use Rattle.rx_rdfa.specs.Tree.{Tag}
 use Rattle.rx_nest.specs.Signs.{Sign}
 use Rattle.rx_eval.specs.declared.inherited.Inherited.{Inherited}
 use Rattle.rx_eval.specs.Numbering.{Numbering, Grown}
@@ -18,7 +11,6 @@ use Rattle.rx_eval.specs.Standing as eval
 use Rattle.rx_eval.specs.States.{State}
 use Rattle.rx_eval.specs.Waits.{Shows}
 use Rattle.rx_base.specs.Lines.{line_of}
-use Rattle.rx_rdfa.specs.Pages.{tags_of}
 use Rattle.rx_walk.specs.CallsOf.{calls_of}
 use Rattle.rx_walk.specs.Settings.{Setting}
 use Rattle.rx_walk.specs.Walks.{Walked, WalkStands, Ended, state_of}

@@ -1,17 +1,10 @@
 -- Start tags are refused one after another.
 use Rattle.std.specs.Prelude.{◌≡◌, ◌⊎◌, List, [], ◌∷◌, ◌++◌, Option, Some, None, option_map}
-use Rattle.std.specs.Option.{option_or}
+use Rattle.rx_rdfa.specs.Common.{option_or, Fault, StartTag, facts, Context, Refusal, refusal, Tag, read_tag}
 use Rattle.std.proofs.Common.{◌∙◌, refl, sym, ap, subst, inl, inr}
-use Rattle.rx_grammar.specs.declared.faults.Fault.{Fault}
-use Rattle.rx_grammar.specs.Trees.{StartTag}
-use Rattle.rx_rdfa.specs.Facts.{facts}
-use Rattle.rx_rdfa.specs.Names.{Context}
-use Rattle.rx_rdfa.specs.Refusals.{Refusal, refusal}
-use Rattle.rx_rdfa.specs.Tree.{Tag}
 use Rattle.rx_nest.specs.Signs.{Sign, begun, said, finished}
 use Rattle.rx_nest.specs.Ways.{IsAtTag, IsAtOne, IsRefusal}
 use Rattle.rx_base.specs.Lines.{line_on, line_of}
-use Rattle.rx_rdfa.specs.Pages.{read_tag}
 use Rattle.rx_walk.specs.Refused.{fault_of, refused_at, refused_in}
 
 or_assoc : (a b c : Option Fault) → option_or (option_or a b) c ≡ option_or a (option_or b c)

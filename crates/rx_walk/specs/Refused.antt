@@ -1,16 +1,9 @@
 -- Pages that are refused for what their start tags mean.
 use Rattle.std.specs.Prelude.{List, [], ◌∷◌, Option, None, option_map}
-use Rattle.std.specs.Option.{option_or}
-use Rattle.rx_grammar.specs.declared.faults.Fault.{Fault}
-use Rattle.rx_grammar.specs.Trees.{StartTag}
-use Rattle.rx_rdfa.specs.Facts.{facts}
-use Rattle.rx_rdfa.specs.Names.{Context}
-use Rattle.rx_rdfa.specs.Refusals.{Refusal, refusal}
-use Rattle.rx_rdfa.specs.Tree.{Tag}
+use Rattle.rx_rdfa.specs.Common.{option_or, Fault, StartTag, facts, Context, Refusal, refusal, Tag, read_tag}
 use Rattle.rx_curie.specs.Given.{kind_of}
 use Rattle.rx_nest.specs.Signs.{Sign, begun, said, finished}
 use Rattle.rx_base.specs.Lines.{line_on}
-use Rattle.rx_rdfa.specs.Pages.{read_tag}
 
 -- the fault of a tag that is refused for this
 abbrev pub fault_of : StartTag → Refusal → Fault

@@ -1,8 +1,6 @@
 -- How a page is read by RDFa's rules.
 use Rattle.std.specs.Prelude.{[]}
-use Rattle.rx_chars.specs.declared.syntax.Syntax.{Syntax}
-use Rattle.rx_grammar.specs.declared.limits.Limits.{Limits}
-use Rattle.rx_rdfa.specs.Names.{Context}
+use Rattle.rx_rdfa.specs.Common.{Syntax, Limits, Context}
 use Rattle.rx_nest.specs.Ways.{Way}
 use Rattle.rx_walk.specs.Refused.{refused_in}
 

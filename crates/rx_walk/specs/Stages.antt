@@ -1,9 +1,7 @@
 -- How far the seeking of the base has come, and what was told until then.
 use Rattle.std.specs.Prelude.{◌≡◌, ℕ, List, [], ◌∷◌, ◌++◌, Option, Some, None, Result, IfOk}
-use Rattle.rx_terms.specs.Text.{Chars, seen_slice}
+use Rattle.rx_rdfa.specs.Common.{Chars, seen_slice, base_by, Call, Enter, Leave}
 use Rattle.rx_terms.specs.declared.texts.NoMemory.{NoMemory}
-use Rattle.rx_rdfa.specs.Base.{base_by}
-use Rattle.rx_rdfa.specs.Calls.{Call, Enter, Leave}
 use Rattle.rx_curie.specs.Seen.{facts_seen}
 use Rattle.rx_nest.specs.Fronts.{Front, unbegun}
 use Rattle.rx_eval.specs.States.{State}

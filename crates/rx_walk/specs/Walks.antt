@@ -1,17 +1,8 @@
 -- What a walk stands for, and what its calls answer of a page's bytes.
 use Rattle.std.specs.Prelude.{◌≡◌, ◌≢◌, ◌↔◌, is_some, ◌≤◌, ◌||◌, ◌==◌, ℕ, true, false, List, [], map, length, Option, Some, None, Result, Ok, Err, if◌then◌else◌}
-use Rattle.rx_terms.specs.Text.{Chars}
+use Rattle.rx_rdfa.specs.Common.{Chars, triples_seen, Page, StartTag, Tree, end, element, base_of, with_facts, Context, Tag, Stop, read_tag, tags_of}
+use Rattle.rx_grammar.specs.Common.{Entry, Line, Phase}
 use Rattle.rx_terms.specs.declared.triples.Triple.{Triple as CodeTriple}
-use Rattle.rx_model.specs.Seen.{triples_seen}
-use Rattle.rx_chars.specs.Characters.{Entry}
-use Rattle.rx_grammar.specs.Begun.{Line, Phase}
-use Rattle.rx_grammar.specs.Pages.{Page}
-use Rattle.rx_grammar.specs.Trees.{StartTag, Tree, end, element}
-use Rattle.rx_rdfa.specs.Base.{base_of}
-use Rattle.rx_rdfa.specs.Facts.{with_facts}
-use Rattle.rx_rdfa.specs.Names.{Context}
-use Rattle.rx_rdfa.specs.Tree.{Tag}
-use Rattle.rx_grammar.specs.declared.stops.Stop.{Stop}
 use Rattle.rx_scan.specs.Entries.{IsNoMemory}
 use Rattle.rx_scan.specs.Steps.{is_quiet}
 use Rattle.rx_pages.specs.Fronts.{IsUnderway}
@@ -31,7 +22,6 @@ use Rattle.rx_walk.specs.declared.courses.RdfaListener.{RdfaListener}
 use Rattle.rx_walk.specs.declared.stages.Stage.{Stage}
 use Rattle.rx_walk.specs.declared.stages.Stage.TheVariants as stage
 use Rattle.rx_base.specs.KnownBases.{IsKnownOver}
-use Rattle.rx_rdfa.specs.Pages.{read_tag, tags_of}
 use Rattle.rx_walk.specs.CallsOf.{calls_of}
 use Rattle.rx_walk.specs.Refused.{refused_in}
 use Rattle.rx_walk.specs.Settings.{Setting, way_of}

@@ -1,7 +1,6 @@
 //! The elements of a page as they are told: the names in force, and what the evaluator is told of them.
 ghost use Rattle.std.specs.Prelude.{◌≡◌, ◌<◌, ◌+◌, ◌∷◌, [], false, map, OnOk, IfOk, IsOk};
-ghost use Rattle.std.specs.Str.{chars};
-ghost use Rattle.rx_rdfa.specs.Refusals.{is_relative};
+ghost use Rattle.rx_rdfa.specs.Common.{chars, is_relative, Chars};
 ghost use Rattle.rx_names.specs.Lines as lines;
 ghost use Rattle.rx_names.specs.Tags.{tag_of};
 ghost use Rattle.rx_nest.specs.Nests.{tag_shown};
@@ -10,7 +9,6 @@ ghost use Rattle.rx_walk.specs.Quiets.{IsIdle};
 ghost use Rattle.rx_walk.specs.Courses.{Runs, runs_at, way_at, AreFacts, MayHear, HearsOn};
 ghost use Rattle.rx_curie.specs.Given.{own_vocabulary};
 ghost use Rattle.rx_walk.specs.RefusalLaws.{refusal_laws};
-ghost use Rattle.rx_terms.specs.Text.{Chars};
 ghost use Rattle.rx_walk.specs.Settings.{Setting};
 
 use crate::origins::Origin;

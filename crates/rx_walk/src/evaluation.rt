@@ -1,8 +1,6 @@
 //! What is told an evaluator.
 ghost use Rattle.std.specs.Prelude.{◌≡◌, ◌<◌, false, [], ◌∷◌, length, IfOk, OnOk};
-ghost use Rattle.std.specs.Str.{chars};
-ghost use Rattle.rx_rdfa.specs.Base.{base_by};
-ghost use Rattle.rx_terms.specs.Text.{seen_slice};
+ghost use Rattle.rx_rdfa.specs.Common.{chars, base_by, seen_slice};
 ghost use Rattle.rx_curie.specs.Seen.{facts_seen};
 ghost use Rattle.rx_eval.specs.Opened.{Opens, MayOpen};
 ghost use Rattle.rx_eval.specs.Ending.{Closes};

@@ -1,7 +1,6 @@
 //! How far the seeking of the base has come.
 ghost use Rattle.std.specs.Prelude.{◌≡◌, [], ◌∷◌, ◌++◌, IsOk, OnOk};
-ghost use Rattle.std.specs.Str.{chars};
-ghost use Rattle.rx_rdfa.specs.Calls.{Enter, Leave};
+ghost use Rattle.rx_rdfa.specs.Common.{chars, Enter, Leave};
 ghost use Rattle.rx_curie.specs.Seen.{facts_seen};
 ghost use Rattle.rx_names.specs.Tags.{tag_of};
 ghost use Rattle.rx_walk.specs.CallsOf.{singles};

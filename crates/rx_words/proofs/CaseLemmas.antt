@@ -1,11 +1,6 @@
 -- Lower case, in bytes and in characters.
-use Rattle.rx_terms.proofs.Common.{◌≡◌, ◌∙◌, ℕ, ◌<◌, ◌≤◌, ◌↔◌, Bool, false, List, [], ◌∷◌, ◌++◌, map, sym, ap, refl, arith, bytes_eq, to_ascii_lowercase, chars, IsUtf8, nat_tests, map-append, encodes-chars, encode_ascii, encodes_same, lowered_char, Chars, lowered, by_test}
-use Rattle.std.proofs.Common.{IsTrue}
-use Rattle.std.specs.Prelude.{nat_lt, ◌+◌, ◌/◌}
-use Rattle.std.specs.Str.{encode_utf8_all}
-use Rattle.std.proofs.lemmas.Bool.Decides.{same_from_decides}
-use Rattle.std.proofs.lemmas.Slice.Eq.{bytes_eq-Decides}
-use Rattle.std.proofs.lemmas.Str.{chars_from_encodes}
+use Rattle.rx_terms.proofs.Common.{◌≡◌, ◌∙◌, ℕ, ◌<◌, ◌≤◌, ◌↔◌, Bool, false, List, [], ◌∷◌, ◌++◌, map, sym, ap, refl, arith, bytes_eq, IsTrue, to_ascii_lowercase, nat_tests, same_from_decides, map-append, encodes-chars, encode_ascii, encodes_same, chars_from_encodes, lowered_char, Chars, lowered, by_test, nat_lt, ◌+◌, ◌/◌, bytes_eq-Decides}
+use Rattle.std.specs.Str.{chars, IsUtf8, encode_utf8_all}
 use Rattle.std.proofs.lemmas.Str.Ascii.{lowercase_is}
 use lib.Utf8.{encode, next}
 

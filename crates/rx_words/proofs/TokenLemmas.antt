@@ -1,14 +1,8 @@
 -- The first token of a text, in bytes and in characters.
-use Rattle.rx_terms.proofs.Common.{◌≡◌, ◌≢◌, ◌∙◌, ℕ, suc, ◌<◌, ◌≤◌, Bool, true, false, List, [], ◌∷◌, ◌++◌, length, take, drop, get_or, sym, ap, refl, arith, Option, ⊎_elim, unwrap_or, is_ascii_whitespace, list_all, position_or_len, chars, IsUtf8, IsCharBoundary, and_parts, and_from, cases_lt, nat_tests, take-append-drop, length-take, length-drop, list_all-append, encodes-chars, chars-append, encode_ascii, IsUtf8-take, is_white_space, Chars, tokens, ascii-chars, ascii-utf8, chars-end, by_test, not_both_ways}
-use Rattle.std.proofs.Common.{not, ◌==◌}
-use Rattle.std.specs.Prelude.{nat_lt}
-use Rattle.std.specs.Char.{encode_utf8}
-use Rattle.std.specs.List.{position}
-use Rattle.std.specs.Str.{IsTrimAsciiStart, encode_utf8_all}
-use Rattle.std.proofs.lemmas.List.{get_or-take, get_or-drop}
-use Rattle.std.proofs.lemmas.List.Sums.{prefix_len-le-length, fails_before_first, passes_at_first}
-use Rattle.std.proofs.lemmas.Str.{char_from_byte, IsUtf8-drop, IsCharBoundary-end, IsCharBoundary-before_ascii}
-use Rattle.rx_terms.specs.Text.{ends_token, onto_first}
+use Rattle.rx_terms.proofs.Common.{◌≡◌, ◌≢◌, ◌∙◌, ℕ, suc, ◌<◌, ◌≤◌, Bool, true, false, List, [], ◌∷◌, ◌++◌, length, take, drop, get_or, sym, ap, refl, arith, Option, ⊎_elim, not, ◌==◌, unwrap_or, nat_lt, and_parts, and_from, cases_lt, nat_tests, take-append-drop, length-take, length-drop, get_or-take, get_or-drop, list_all-append, encodes-chars, chars-append, encode_ascii, IsUtf8-take, char_from_byte, IsUtf8-drop, IsCharBoundary-end, IsCharBoundary-before_ascii, is_white_space, Chars, tokens, ends_token, onto_first, ascii-chars, ascii-utf8, chars-end, by_test, not_both_ways, prefix_len-le-length, fails_before_first, passes_at_first}
+use Rattle.std.specs.Char.{is_ascii_whitespace, encode_utf8}
+use Rattle.std.specs.List.{list_all, position_or_len, position}
+use Rattle.std.specs.Str.{chars, IsUtf8, IsCharBoundary, IsTrimAsciiStart, encode_utf8_all}
 use Rattle.rx_words.proofs.TrimLemmas.{same-white, each-white, white-ascii, nonempty-bytes}
 use Rattle.rx_words.specs.Tokens.{is_filled, IsFirstToken}
 

@@ -1,10 +1,8 @@
 -- What `trim_ascii`, which counts bytes, is in characters.
-use Rattle.rx_terms.proofs.Common.{◌≡◌, ◌∙◌, ℕ, suc, ◌<◌, ◌≤◌, ◌+◌, ◌-◌, true, false, List, [], ◌∷◌, ◌++◌, length, take, drop, reverse, get_or, sym, ap, refl, arith, length-append, is_ascii_whitespace, list_all, chars, IsUtf8, and_parts, and_from, nat_tests, take-append-drop, length-take, length-drop, reverse-append, reverse-reverse, list_all-append, encodes-chars, encodes-append, chars-append, encode_ascii, length-encode, is_white_space, is_ascii, Chars, trimmed, ascii-chars, ascii-utf8, by_test, not_both_ways}
-use Rattle.std.specs.Char.{encode_utf8}
-use Rattle.std.specs.Str.{IsTrimAscii, encode_utf8_all}
-use Rattle.std.proofs.lemmas.List.{append-nil, get_or-take, get_or-drop, get_or_push}
-use Rattle.std.proofs.lemmas.Str.{byte_from_char, len_utf8_bounds}
-use Rattle.rx_terms.specs.Text.{without_leading_space}
+use Rattle.rx_terms.proofs.Common.{◌≡◌, ◌∙◌, ℕ, suc, ◌<◌, ◌≤◌, ◌+◌, ◌-◌, true, false, List, [], ◌∷◌, ◌++◌, length, take, drop, reverse, get_or, sym, ap, refl, arith, length-append, list_all, and_parts, and_from, nat_tests, list_all-append, encodes-chars, encodes-append, chars-append, encode_ascii, length-encode, byte_from_char, len_utf8_bounds, is_white_space, is_ascii, Chars, trimmed, without_leading_space, ascii-chars, ascii-utf8, by_test, not_both_ways}
+use Rattle.std.specs.Char.{is_ascii_whitespace, encode_utf8}
+use Rattle.std.specs.Str.{chars, IsUtf8, IsTrimAscii, encode_utf8_all}
+use Rattle.std.proofs.lemmas.List.{take-append-drop, length-take, length-drop, reverse-append, reverse-reverse, append-nil, get_or-take, get_or-drop, get_or_push}
 
 -- Lists: white space around what neither begins nor ends with it
 

@@ -1,8 +1,6 @@
 -- The first token of a text: HTML Standard, 2.3.7 (space-separated tokens).
 use Rattle.std.specs.Prelude.{◌≡◌, ◌≢◌, ℕ, Bool, true, not, [], ◌++◌}
-use Rattle.std.specs.List.{list_all}
-use Rattle.rx_terms.specs.Ascii.{is_white_space}
-use Rattle.rx_terms.specs.Text.{Chars, ends_token}
+use Rattle.rx_terms.specs.Common.{list_all, is_white_space, Chars, ends_token}
 
 -- no white space
 abbrev pub is_filled : ℕ → Bool

@@ -1,7 +1,6 @@
 //! Cuts of a text at its ends or at a mark.
 ghost use Rattle.std.specs.Prelude.{◌≡◌, ◌≢◌, ◌<◌, [], ◌∷◌, ◌++◌, MatchOption, Some, None, false};
-ghost use Rattle.std.specs.Str.{chars};
-ghost use Rattle.rx_terms.specs.Text.{Chars, trimmed, split_at, begins_with, is_empty};
+ghost use Rattle.rx_terms.specs.Common.{chars, Chars, trimmed, split_at, begins_with, is_empty};
 
 /// The text without the white space at both ends.
 pub fn trim(text: &str) -> &str

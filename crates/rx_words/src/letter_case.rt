@@ -1,7 +1,6 @@
 //! Texts in lower case, as far as A to Z go.
 ghost use Rattle.std.specs.Prelude.{◌≡◌, IfOk, bytes_eq};
-ghost use Rattle.std.specs.Str.{chars};
-ghost use Rattle.rx_terms.specs.Text.{lowered};
+ghost use Rattle.rx_terms.specs.Common.{chars, lowered};
 
 use rx_terms::{NoMemory, Text};
 use std::alloc::Global;

@@ -1,9 +1,6 @@
 //! The tokens of a text.
 ghost use Rattle.std.specs.Prelude.{◌≡◌, ◌<◌, [], ◌∷◌, length, MatchOption, IfSome};
-ghost use Rattle.std.specs.List.{position, position_or_len};
-ghost use Rattle.std.specs.Char.{is_ascii_whitespace};
-ghost use Rattle.std.specs.Str.{chars};
-ghost use Rattle.rx_terms.specs.Text.{tokens};
+ghost use Rattle.rx_terms.specs.Common.{position, position_or_len, is_ascii_whitespace, chars, tokens};
 ghost use Rattle.rx_words.specs.Tokens.{IsFirstToken};
 
 /// The first token and what stands behind it, or `None` exactly where the text has no token: a token is a maximal run

@@ -1,5 +1,4 @@
-use Rattle.std.specs.Prelude.{nat_eq}
-use Rattle.rx_model.proofs.Exact.{exact_numbers}
+use Rattle.rx_model.proofs.Common.{nat_eq, exact_numbers}
 use Rattle.rx_model.proofs.Names.{names_do_not_matter}
 use Rattle.rx_model.proofs.names_do_not_matter.Goals as goal
 

@@ -1,6 +1,4 @@
-use Rattle.std.specs.Prelude.{nat_eq}
-use Rattle.rx_model.proofs.Exact.{exact_numbers}
-use Rattle.rx_model.proofs.Numbered.{numbers_one_to_one}
+use Rattle.rx_model.proofs.Common.{nat_eq, exact_numbers, numbers_one_to_one}
 use Rattle.rx_model.proofs.numbering_renames.Goals as goal
 
 pub returns : goal.returns

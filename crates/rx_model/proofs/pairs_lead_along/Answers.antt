@@ -1,5 +1,4 @@
-use Rattle.std.specs.Prelude.{nat_eq}
-use Rattle.rx_model.proofs.Exact.{exact_numbers}
+use Rattle.rx_model.proofs.Common.{nat_eq, exact_numbers}
 use Rattle.rx_model.proofs.Leads.{leads_along}
 use Rattle.rx_model.proofs.pairs_lead_along.Goals as goal
 

@@ -1,6 +1,4 @@
-use Rattle.std.proofs.Common.{◌≡◌, refl, arith, codes}
-use Rattle.std.specs.Fmt.{decimal}
-use Rattle.std.proofs.lemmas.Fmt.{decimal_digit}
+use Rattle.rx_terms.proofs.Common.{◌≡◌, refl, arith, codes, decimal, decimal_digit}
 use lib.Utf8.{encode}
 use Rattle.rx_notation.specs.NestedRows.{Holds, collection, empty_collection, used_twice, product_nested, cycle, third_triple, list_in_list, nil_as_subject, mixed, nothing_said}
 use Rattle.rx_notation.proofs.nested_rows_hold.Goals as goal

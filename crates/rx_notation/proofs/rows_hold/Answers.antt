@@ -1,6 +1,4 @@
-use Rattle.std.proofs.Common.{◌≡◌, ◌∙◌, ap, refl, arith, ◌++◌, codes}
-use Rattle.std.specs.Fmt.{decimal}
-use Rattle.std.proofs.lemmas.Fmt.{decimal_digit, decimal_step}
+use Rattle.rx_terms.proofs.Common.{◌≡◌, ◌∙◌, ap, refl, arith, ◌++◌, codes, decimal, decimal_digit, decimal_step}
 use lib.Utf8.{encode}
 use Rattle.rx_notation.specs.Rows.{Holds, product, cells, nothing_said, overlapping, unshortened, types, one_type, literals, mixed}
 use Rattle.rx_notation.proofs.rows_hold.Goals as goal

@@ -1,14 +1,6 @@
-use Rattle.rx_terms.proofs.Common.{◌≡◌, ℕ, ◌+◌, ◌<◌, true, List, [], ◌∷◌, ◌++◌, map, codes, refl, sym, subst, true≢false, arith, Chars, IsIri}
-use Rattle.std.proofs.lemmas.Fmt.{decimal_digit}
-use Rattle.rx_model.proofs.Common.{Triple}
+use Rattle.rx_notation.proofs.Common.{◌≡◌, ℕ, ◌+◌, ◌<◌, true, List, [], ◌∷◌, ◌++◌, map, codes, refl, sym, subst, true≢false, arith, Chars, IsIri, decimal_digit, Triple, iri_text, Prefix, is_prefix_name, is_local_name, Full, Short, Named, Labelled, Type_of, Suffix, Bare, Language, Datatype, IriOrLabel, Single, Predicate, Done, Document, are_flat, Terminal, At_prefix, Small_a, Full_stop, Semicolon_sign, Comma_sign, Left_bracket, Right_bracket, Brackets, Left_parenthesis, Right_parenthesis, Parentheses, Token, terminal, declared, iri_or_label, quoted, document_tokens, terminal_text, SpellsSuffix, SpellsToken, is_gap, SpellsTokens, names_differ, Spells, are_known, Turtle}
 use Rattle.rx_nquads.specs.Spelling.{SpellsLabel, SpellsString, nothing, itself, escaped}
-use Rattle.rx_pieces.specs.Writing.{iri_text}
 use Rattle.rx_nquads.proofs.Denoting.{label_spelled}
-use Rattle.rx_notation.specs.Short.{Prefix, is_prefix_name, is_local_name}
-use Rattle.rx_notation.specs.Syntax.{Full, Short, Named, Labelled, Type_of, Suffix, Bare, Language, Datatype, IriOrLabel, Single, Predicate, Done, Document, are_flat}
-use Rattle.rx_notation.specs.Grammar.{Terminal, At_prefix, Small_a, Full_stop, Semicolon_sign, Comma_sign, Left_bracket, Right_bracket, Brackets, Left_parenthesis, Right_parenthesis, Parentheses, Token, terminal, declared, iri_or_label, quoted, document_tokens}
-use Rattle.rx_notation.specs.Spelling.{terminal_text, SpellsSuffix, SpellsToken, is_gap, SpellsTokens, names_differ, Spells}
-use Rattle.rx_notation.specs.Meaning.{are_known, Turtle}
 use Rattle.rx_notation.specs.Rows.{v, schema}
 use Rattle.rx_notation.specs.Texts.{short, wide, collection, empty_collection, offer, nested, DenotesNone, undeclared, declared_twice}
 use Rattle.rx_notation.proofs.Joining.{Puts, all_tokens, puts_token, puts_then, adds_gap}

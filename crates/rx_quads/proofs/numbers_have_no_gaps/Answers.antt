@@ -1,5 +1,4 @@
-use Rattle.std.proofs.Common.{nat_eq}
-use Rattle.rx_model.proofs.Exact.{exact_numbers}
+use Rattle.rx_model.proofs.Common.{nat_eq, exact_numbers}
 use Rattle.rx_quads.proofs.CountLemmas.{numbers_without_gaps}
 use Rattle.rx_quads.proofs.numbers_have_no_gaps.Goals as goal
 

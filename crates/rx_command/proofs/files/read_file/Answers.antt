@@ -1,5 +1,4 @@
-use Rattle.std.proofs.Common.{arith, rules, ◌≡◌, ◌∙◌, ◌≤◌, ◌<◌, ◌+◌, length}
-use Rattle.rx_ports.proofs.MoveLemmas.{moves_then, moves_weaker}
+use Rattle.rx_command.proofs.Common.{arith, rules, ◌≡◌, ◌∙◌, ◌≤◌, ◌<◌, ◌+◌, length, moves_then, moves_weaker}
 use Rattle.rx_command.proofs.FileLemmas.{read_start, read_more, read_end, read_past, takes_none, takes_read, takes_more}
 use Rattle.rx_command.proofs.files.read_file.Goals as goal
 

@@ -1,5 +1,4 @@
-use Rattle.std.proofs.Common.{arith, ◌≡◌, ◌<◌, ◌++◌, length, take}
-use Rattle.rx_ports.proofs.MoveLemmas.{moves_weaker}
+use Rattle.rx_command.proofs.Common.{arith, ◌≡◌, ◌<◌, ◌++◌, length, take, moves_weaker}
 use Rattle.rx_command.proofs.FileLemmas.{reads_on, reads_some}
 use Rattle.rx_command.proofs.files.read_on.Goals as goal
 

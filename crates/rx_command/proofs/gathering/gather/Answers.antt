@@ -1,8 +1,5 @@
-use Rattle.std.proofs.Common.{◌≡◌, ap, Err}
-use Rattle.rx_ports.proofs.MoveLemmas.{moves_weaker}
+use Rattle.rx_command.proofs.Common.{◌≡◌, ap, Err, moves_weaker, several_seen, TakesGathering}
 use Rattle.rx_command.specs.declared.errors.InputError.TheVariants.{Failed}
-use Rattle.rx_job.specs.Jobs.{several_seen}
-use Rattle.rx_command.specs.Gathering.{TakesGathering}
 use Rattle.rx_command.proofs.GatheringLemmas.{context_taken, gathering_takes, gathers_pages, context_failed, gathering_failed}
 use Rattle.rx_command.proofs.gathering.gather.Goals as goal
 

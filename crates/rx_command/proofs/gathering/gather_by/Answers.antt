@@ -1,5 +1,4 @@
-use Rattle.std.proofs.Common.{◌≡◌, ◌≤◌, ap, arith, length, Err, ◌∙◌, refl}
-use Rattle.rx_job.specs.Words.{Listed}
+use Rattle.rx_command.proofs.Common.{◌≡◌, ◌≤◌, ap, arith, length, Err, ◌∙◌, refl, Listed}
 use Rattle.rx_command.specs.declared.errors.InputError.TheVariants.{Failed}
 use Rattle.rx_command.proofs.GatheringLemmas.{none_added, next_added, all_added, all_taken, some_taken, listed_failed}
 use Rattle.rx_command.proofs.gathering.gather_by.Goals as goal

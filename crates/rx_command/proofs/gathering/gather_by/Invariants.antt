@@ -1,6 +1,4 @@
-use Rattle.std.proofs.Common.{◌≡◌, ◌≤◌, take, vec_len}
-use Rattle.rx_command.specs.Reading.{IsPiece}
-use Rattle.rx_command.specs.Gathering.{AddsPages}
+use Rattle.rx_command.proofs.Common.{◌≡◌, ◌≤◌, take, vec_len, IsPiece, AddsPages}
 use Rattle.rx_command.proofs.gathering.gather_by.Given as goal
 
 abbrev pub invariant-loop-i : goal.invariant-loop-i

@@ -1,10 +1,5 @@
-use Rattle.std.proofs.Common.{◌≡◌, [], ◌∷◌, ◌++◌}
-use Rattle.rx_many.specs.Pages.{refused_page}
+use Rattle.rx_command.proofs.Common.{◌≡◌, [], ◌∷◌, ◌++◌, refused_page, moves_same, Listed, TakesPart, way_of}
 use Rattle.rx_command.proofs.GatheringLemmas.{takes_nothing, page_takes, adds_accepted, adds_refused}
-use Rattle.rx_ports.proofs.MoveLemmas.{moves_same}
-use Rattle.rx_job.specs.Words.{Listed}
-use Rattle.rx_command.specs.Gathering.{TakesPart}
-use Rattle.rx_command.specs.Ways.{way_of}
 use Rattle.rx_command.proofs.InputLemmas.{fails_refused, fails_no_context}
 use Rattle.rx_command.proofs.gathering.gather_page.Goals as goal
 

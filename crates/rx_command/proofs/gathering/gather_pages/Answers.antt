@@ -1,5 +1,4 @@
-use Rattle.rx_ports.proofs.MoveLemmas.{moves_same}
-use Rattle.rx_command.specs.Gathering.{TakesParts}
+use Rattle.rx_command.proofs.Common.{moves_same, TakesParts}
 use Rattle.rx_command.proofs.GatheringLemmas.{none_taken}
 use Rattle.rx_command.proofs.gathering.gather_pages.Goals as goal
 

@@ -1,9 +1,5 @@
-use Rattle.std.proofs.Common.{◌≡◌, refl, encode_utf8_all}
-use Rattle.rx_ports.proofs.MoveLemmas.{moves_weaker}
+use Rattle.rx_command.proofs.Common.{◌≡◌, refl, encode_utf8_all, moves_weaker, checks, rdfa_way, PageText, PageRefused}
 use Rattle.rx_command.specs.declared.errors.InputError.TheVariants as error
-use Rattle.rx_job.specs.Words.{checks}
-use Rattle.rx_page.specs.Settings.{rdfa_way}
-use Rattle.rx_command.specs.Inputs.{PageText, PageRefused}
 use Rattle.rx_page.specs.declared.outcomes.Outcome.TheVariants.{Right}
 use Rattle.rx_command.proofs.InputLemmas.{page_right, page_found, fails_refused, fails_clean, fails_no_context}
 use Rattle.rx_command.proofs.inputs.check.Goals as goal

@@ -1,12 +1,6 @@
-use Rattle.std.proofs.Common.{◌≡◌, refl, subst, encode_utf8_all}
-use Rattle.rx_grammar.specs.declared.faults.Fault.{Fault}
-use Rattle.rx_ports.specs.Shelves.{WhereKnown}
-use Rattle.rx_ports.proofs.MoveLemmas.{moves_weaker}
+use Rattle.rx_command.proofs.Common.{◌≡◌, refl, subst, encode_utf8_all, Fault, WhereKnown, moves_weaker, Itemization, itemizes, item_way, PageText, PageRefused}
 use Rattle.rx_command.specs.declared.errors.InputError.TheVariants as error
 use Rattle.rx_page.specs.declared.outcomes.Outcome.TheVariants.{Json}
-use Rattle.rx_job.specs.Words.{Itemization, itemizes}
-use Rattle.rx_page.specs.Settings.{item_way}
-use Rattle.rx_command.specs.Inputs.{PageText, PageRefused}
 use Rattle.rx_command.proofs.InputLemmas.{page_found, fails_refused, fails_clean, fails_no_context}
 use Rattle.rx_command.proofs.ItemLemmas.{page_items, page_item_fault}
 use Rattle.rx_command.proofs.inputs.itemize.Goals as goal

@@ -1,19 +1,5 @@
-use Rattle.rx_terms.proofs.Common.{arith, ◌⊎◌, ◌∙◌, ℕ, List, refl, sym, ap, subst, encode_utf8_all, None, Some, IfOk, Chars}
-use Rattle.rx_ports.specs.Counts.{Rose}
-use Rattle.rx_ports.specs.Shelves.{WhereKnown, Lacks}
-use Rattle.rx_ports.proofs.MoveLemmas.{moves_then}
-use Rattle.rx_grammar.proofs.Common.{Syntax}
-use Rattle.rx_rdfa.specs.Names.{Context}
+use Rattle.rx_command.proofs.Common.{arith, ◌⊎◌, ◌∙◌, ℕ, List, refl, sym, ap, subst, encode_utf8_all, None, Some, IfOk, Chars, Rose, WhereKnown, Lacks, moves_then, Syntax, Context, Asked, Task, Itemization, itemizes, page_by, Way, TakesOf, item_way, page_limit, ReadsClean, way_in, PageText, PageRefused, JobRefused, TakesFiles, StopsCleanly}
 use Rattle.rx_rdfa.specs.Standard.{standard}
-use Rattle.rx_job.specs.Words.{Asked, Task, Itemization, itemizes}
-use Rattle.rx_job.specs.Jobs.{page_by}
-use Rattle.rx_nest.specs.Ways.{Way}
-use Rattle.rx_command.specs.Files.{TakesOf}
-use Rattle.rx_page.specs.Settings.{item_way}
-use Rattle.rx_command.specs.Reading.{page_limit, ReadsClean}
-use Rattle.rx_page.specs.Tasks.{way_in}
-use Rattle.rx_command.specs.Inputs.{PageText, PageRefused, JobRefused}
-use Rattle.rx_command.specs.Runs.{TakesFiles, StopsCleanly}
 use Rattle.rx_command.proofs.InputLemmas.{takes_both, if_job, job_refused, page_failed, page_stops, for_task, standard_stays}
 use Rattle.rx_command.proofs.inputs.outcome_by.Goals as goal
 

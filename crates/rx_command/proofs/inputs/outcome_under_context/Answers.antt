@@ -1,17 +1,4 @@
-use Rattle.std.proofs.Common.{◌⊎◌, ℕ, List, refl, sym, ap, subst, encode_utf8_all, Some, IfOk}
-use Rattle.rx_ports.specs.Counts.{Rose}
-use Rattle.rx_ports.specs.Shelves.{WhereKnown, Lacks}
-use Rattle.rx_ports.proofs.MoveLemmas.{moves_weaker, moves_then}
-use Rattle.rx_rdfa.specs.Names.{Context}
-use Rattle.rx_job.specs.Words.{Asked, Task, Extraction, checks}
-use Rattle.rx_job.specs.Jobs.{page_by}
-use Rattle.rx_command.specs.Files.{TakesOf}
-use Rattle.rx_nest.specs.Ways.{Way}
-use Rattle.rx_page.specs.Settings.{rdfa_way}
-use Rattle.rx_command.specs.Reading.{page_limit, ReadsClean}
-use Rattle.rx_page.specs.Tasks.{way_in}
-use Rattle.rx_command.specs.Inputs.{PageText, PageRefused, JobRefused}
-use Rattle.rx_command.specs.Runs.{TakesFiles, StopsCleanly}
+use Rattle.rx_command.proofs.Common.{◌⊎◌, ℕ, List, refl, sym, ap, subst, encode_utf8_all, Some, IfOk, Rose, WhereKnown, Lacks, moves_weaker, moves_then, Context, Asked, Task, Extraction, checks, page_by, TakesOf, Way, rdfa_way, page_limit, ReadsClean, way_in, PageText, PageRefused, JobRefused, TakesFiles, StopsCleanly}
 use Rattle.rx_command.proofs.InputLemmas.{takes_before, takes_both, if_job, job_refused, page_failed, context_stops, page_stops, for_extraction, for_task}
 use Rattle.rx_command.proofs.inputs.outcome_under_context.Goals as goal
 

@@ -1,5 +1,4 @@
-use Rattle.std.proofs.Common.{ap}
-use Rattle.rx_job.specs.Jobs.{text_in}
+use Rattle.rx_command.proofs.Common.{ap, text_in}
 use Rattle.rx_command.proofs.InputLemmas.{if_context}
 use Rattle.rx_command.proofs.inputs.read_context.Goals as goal
 

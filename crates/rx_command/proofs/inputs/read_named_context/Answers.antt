@@ -1,5 +1,4 @@
-use Rattle.std.proofs.Common.{◌≡◌, ◌∙◌, ap, sym, subst, false, Ok, List, ℕ}
-use Rattle.rx_ports.proofs.MoveLemmas.{moves_weaker}
+use Rattle.rx_command.proofs.Common.{◌≡◌, ◌∙◌, ap, sym, subst, false, Ok, List, ℕ, moves_weaker}
 use Rattle.rx_page.specs.Contexts.{is_context, ContextGives}
 use Rattle.rx_command.proofs.InputLemmas.{was_none, was_context, takes_context}
 use Rattle.rx_command.proofs.inputs.read_named_context.Goals as goal

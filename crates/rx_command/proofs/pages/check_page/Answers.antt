@@ -1,6 +1,4 @@
-use Rattle.std.proofs.Common.{refl}
-use Rattle.rx_page.specs.Settings.{setting_for}
-use Rattle.rx_page.proofs.FrontLemmas.{limits_are}
+use Rattle.rx_command.proofs.Common.{refl, setting_for, limits_are}
 use Rattle.rx_command.proofs.ReadLemmas.{start_check}
 use Rattle.rx_command.proofs.pages.check_page.Goals as goal
 

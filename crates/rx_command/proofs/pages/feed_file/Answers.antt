@@ -1,14 +1,8 @@
-use Rattle.std.proofs.Common.{arith, ap, subst, inl, ◌≡◌, ◌≤◌, ◌+◌, [], length, refl, Err, ◌∙◌}
-use Rattle.rx_ports.proofs.MoveLemmas.{moves_weaker, moves_then}
-use Rattle.rx_grammar.specs.declared.limits.Limits.{Limits}
-use Rattle.rx_command.specs.Files.{HasRead, TakesOf}
+use Rattle.rx_command.proofs.Common.{arith, ap, subst, inl, ◌≡◌, ◌≤◌, ◌+◌, [], length, refl, Err, ◌∙◌, moves_weaker, moves_then, Limits, HasRead, TakesOf, largest_piece, page_limit, ReadsClean, TakesToFirst, standard, not_longer}
 use Rattle.rx_command.specs.declared.errors.InputError.TheVariants.{Failed}
-use Rattle.rx_command.specs.Reading.{largest_piece, page_limit, ReadsClean, TakesToFirst}
 use Rattle.rx_command.proofs.FileLemmas.{read_start, takes_none, takes_more}
 use Rattle.rx_command.proofs.InputLemmas.{rose_before}
 use Rattle.rx_command.proofs.ReadLemmas.{more_so_far, next_found, file_fed, unread_clean, unread_first, to_first}
-use Rattle.rx_page.specs.Settings.{standard}
-use Rattle.rx_page.proofs.FrontLemmas.{not_longer}
 use Rattle.rx_command.proofs.pages.feed_file.Goals as goal
 
 pub returns-in_default-clause-takes : goal.returns-in_default-clause-takes

@@ -1,6 +1,4 @@
-use Rattle.std.proofs.Common.{◌≤◌, ◌≡◌, ◌+◌, ◌-◌, [], vec_len}
-use Rattle.rx_page.specs.Settings.{standard}
-use Rattle.rx_command.specs.Reading.{IsPiece, page_limit}
+use Rattle.rx_command.proofs.Common.{◌≤◌, ◌≡◌, ◌+◌, ◌-◌, [], vec_len, standard, IsPiece, page_limit}
 use Rattle.rx_command.proofs.ReadLemmas.{SoFar}
 use Rattle.rx_command.proofs.pages.feed_file.Given as goal
 

@@ -1,6 +1,4 @@
-use Rattle.std.proofs.Common.{arith, ◌≡◌, ◌<◌, ◌≤◌, List, ℕ, length, take, length-take}
-use Rattle.rx_ports.proofs.MoveLemmas.{moves_weaker}
-use Rattle.rx_command.specs.Reading.{largest_piece, Adds}
+use Rattle.rx_command.proofs.Common.{arith, ◌≡◌, ◌<◌, ◌≤◌, List, ℕ, length, take, length-take, moves_weaker, largest_piece, Adds}
 use Rattle.rx_command.proofs.FileLemmas.{reads_some}
 use Rattle.rx_command.proofs.ReadLemmas.{read_adds, piece_refused}
 use Rattle.rx_command.proofs.pages.feed_next.Goals as goal

@@ -1,6 +1,4 @@
-use Rattle.std.proofs.Common.{refl}
-use Rattle.rx_page.specs.Settings.{item_setting_for}
-use Rattle.rx_page.proofs.FrontLemmas.{limits_are}
+use Rattle.rx_command.proofs.Common.{refl, item_setting_for, limits_are}
 use Rattle.rx_command.proofs.ReadLemmas.{start_items}
 use Rattle.rx_command.proofs.pages.read_items.Goals as goal
 

@@ -1,7 +1,4 @@
-use Rattle.std.proofs.Common.{arith}
-use Rattle.rx_ports.proofs.MoveLemmas.{moves_same}
-use Rattle.rx_command.specs.Reading.{TakesToFirst}
-use Rattle.rx_command.specs.Ways.{way_of}
+use Rattle.rx_command.proofs.Common.{arith, moves_same, TakesToFirst, way_of}
 use Rattle.rx_command.proofs.ReadLemmas.{unread_first}
 use Rattle.rx_command.proofs.pages.read_page.Goals as goal
 

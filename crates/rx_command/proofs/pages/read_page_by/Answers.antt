@@ -1,9 +1,4 @@
-use Rattle.std.proofs.Common.{arith, refl}
-use Rattle.rx_ports.proofs.MoveLemmas.{moves_same}
-use Rattle.rx_page.specs.Settings.{setting_for}
-use Rattle.rx_page.proofs.FrontLemmas.{limits_are}
-use Rattle.rx_command.specs.Reading.{TakesToFirst}
-use Rattle.rx_command.specs.Ways.{way_of}
+use Rattle.rx_command.proofs.Common.{arith, refl, moves_same, setting_for, limits_are, TakesToFirst, way_of}
 use Rattle.rx_command.proofs.ReadLemmas.{start_walk, unread_first}
 use Rattle.rx_command.proofs.pages.read_page_by.Goals as goal
 

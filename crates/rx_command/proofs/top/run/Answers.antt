@@ -1,9 +1,4 @@
-use Rattle.std.proofs.Common.{◌∙◌, subst, sym, ap, refl, Some, Err, is_some}
-use Rattle.rx_job.specs.Jobs.{page_by}
-use Rattle.rx_ports.specs.Shelves.{WhereKnown}
-use Rattle.rx_job.specs.Words.{job, reads, page_in, gathering_in}
-use Rattle.rx_command.specs.Contexts.{TakesContext, context_in}
-use Rattle.rx_command.specs.Runs.{TakesJob, StopsCleanly}
+use Rattle.rx_command.proofs.Common.{◌∙◌, subst, sym, ap, refl, Some, Err, is_some, page_by, WhereKnown, job, reads, page_in, gathering_in, TakesContext, context_in, TakesJob, StopsCleanly}
 use Rattle.rx_command.proofs.RunLemmas.{took_nothing, few_asked, sample_nothing, read_cause, reads_all, sample_reads_all, to_fault}
 use Rattle.rx_command.proofs.SeveralLemmas.{SeveralSays, several_says}
 use Rattle.rx_command.proofs.EndingLemmas.{unused, untouched, says_line, without_text, ends_usage, ends_memory, ends_sample, ends_several, ends_done, ends_partly, ends_failed, ends_bad, ends_refused}

@@ -1,7 +1,4 @@
-use Rattle.std.proofs.Common.{ap, refl, Err}
-use Rattle.rx_ports.specs.Shelves.{Stays}
-use Rattle.rx_ports.proofs.MoveLemmas.{moves_same}
-use Rattle.rx_job.specs.Jobs.{several_seen}
+use Rattle.rx_command.proofs.Common.{ap, refl, Err, Stays, moves_same, several_seen}
 use Rattle.rx_command.proofs.SeveralLemmas.{ends_done, ends_partly}
 use Rattle.rx_command.proofs.top.run_several.Goals as goal
 

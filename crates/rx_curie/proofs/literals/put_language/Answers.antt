@@ -1,5 +1,4 @@
-use Rattle.rx_terms.proofs.Common.{◌∙◌, List, ℕ, Ok, chars}
-use Rattle.rx_rdfa.specs.Tree.{Tag}
+use Rattle.rx_rdfa.proofs.Common.{◌∙◌, List, ℕ, Ok, chars, Tag}
 use Rattle.rx_names.specs.Lines.{NamesStand}
 use Rattle.rx_names.specs.Views.{names_seen}
 use Rattle.rx_curie.proofs.LangForms.{made-language}

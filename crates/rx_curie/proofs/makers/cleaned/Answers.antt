@@ -1,5 +1,4 @@
-use Rattle.rx_terms.proofs.Common.{string_bytes, chars}
-use Rattle.rx_terms.proofs.OkLemmas.{ok_is}
+use Rattle.rx_terms.proofs.Common.{string_bytes, chars, ok_is}
 use Rattle.rx_curie.proofs.MadeLemmas.{text-iri}
 use Rattle.rx_curie.proofs.makers.cleaned.Goals as goal
 

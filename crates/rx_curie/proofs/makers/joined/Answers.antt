@@ -1,7 +1,5 @@
-use Rattle.rx_terms.proofs.Common.{◌≡◌, ◌∙◌, ◌++◌, ap, string_bytes, chars, chars-nil}
-use Rattle.rx_terms.proofs.OkLemmas.{ok_is}
+use Rattle.rx_rdfa.proofs.Common.{◌≡◌, ◌∙◌, ◌++◌, ap, string_bytes, chars, chars-nil, ok_is, cleaned}
 use Rattle.rx_curie.proofs.MadeLemmas.{text-iri, two-pieces, scheme-more}
-use Rattle.rx_refs.specs.Resolve.{cleaned}
 use Rattle.rx_curie.proofs.makers.joined.Goals as goal
 use Rattle.rx_curie.proofs.makers.joined.Goals.{In_ok-push_clean-2}
 

@@ -1,12 +1,8 @@
-use Rattle.rx_terms.proofs.Common.{◌≡◌, List, [], length, true, false, chars, tokens}
-use Rattle.rx_rdfa.specs.Tree.{Tag}
-use Rattle.rx_rdfa.specs.Facts.{link}
+use Rattle.rx_rdfa.proofs.Common.{◌≡◌, List, [], length, true, false, chars, tokens, Tag, link, Utf8, shadow}
 use Rattle.rx_names.specs.Lines.{NamesStand}
 use Rattle.rx_names.specs.Views.{names_seen}
 use Rattle.rx_curie.proofs.TokenSteps.{so_far}
 use Rattle.rx_curie.proofs.predicates.kept_predicates.Given as goal
-use denote.Text.{Utf8}
-use denote.Shadow.{shadow}
 
 abbrev pub invariant-loop-token : goal.invariant-loop-token
 invariant-loop-token l = record {

@@ -1,5 +1,4 @@
-use Rattle.rx_terms.proofs.Common.{rules, chars, tokens}
-use Rattle.rx_rdfa.specs.Facts.{predicate}
+use Rattle.rx_rdfa.proofs.Common.{rules, chars, tokens, predicate}
 use Rattle.rx_names.specs.Views.{names_seen}
 use Rattle.rx_curie.proofs.TokenSteps.{token-step}
 use Rattle.rx_curie.proofs.predicates.predicates.Goals as goal

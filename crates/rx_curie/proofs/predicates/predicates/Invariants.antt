@@ -1,12 +1,8 @@
-use Rattle.rx_terms.proofs.Common.{◌≡◌, ◌++◌, List, length, chars, tokens}
+use Rattle.rx_rdfa.proofs.Common.{◌≡◌, ◌++◌, List, length, chars, tokens, Tag, predicate, predicates, Utf8, shadow}
 use Rattle.std.specs.List.{filter_map}
-use Rattle.rx_rdfa.specs.Tree.{Tag}
-use Rattle.rx_rdfa.specs.Facts.{predicate, predicates}
 use Rattle.rx_names.specs.Lines.{NamesStand}
 use Rattle.rx_names.specs.Views.{names_seen}
 use Rattle.rx_curie.proofs.predicates.predicates.Given as goal
-use denote.Text.{Utf8}
-use denote.Shadow.{shadow}
 
 abbrev pub invariant-loop-token : goal.invariant-loop-token
 invariant-loop-token l = record {

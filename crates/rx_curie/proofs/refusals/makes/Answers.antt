@@ -1,5 +1,4 @@
-use Rattle.rx_terms.proofs.Common.{◌∙◌, ◌++◌, sym, ap, chars}
-use Rattle.rx_rdfa.specs.Facts.{iri_of}
+use Rattle.rx_rdfa.proofs.Common.{◌∙◌, ◌++◌, sym, ap, chars, iri_of}
 use Rattle.rx_curie.specs.Refusing.{is_iri}
 use Rattle.rx_curie.specs.Seen.{reading_seen}
 use Rattle.rx_curie.specs.declared.readings.Reading.{Reading}

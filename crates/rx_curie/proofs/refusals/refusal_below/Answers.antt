@@ -1,5 +1,4 @@
-use Rattle.rx_terms.proofs.Common.{◌∙◌, ◌∷◌, List, ℕ, Option, Bor, ap, sym, option_map, is_some, seen_slice}
-use Rattle.rx_rdfa.specs.Refusals.{is_relative}
+use Rattle.rx_rdfa.proofs.Common.{◌∙◌, ◌∷◌, List, ℕ, Option, Bor, ap, sym, option_map, is_some, seen_slice, is_relative}
 use Rattle.rx_names.specs.Views.{names_seen}
 use Rattle.rx_curie.specs.Given.{kind_of}
 use Rattle.rx_curie.specs.Refusing.{markup_of}

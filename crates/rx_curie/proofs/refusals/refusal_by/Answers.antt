@@ -1,5 +1,4 @@
-use Rattle.std.proofs.Common.{◌∙◌, ◌∷◌, ap, sym, option_map}
-use Rattle.rx_rdfa.specs.Refusals.{is_relative}
+use Rattle.rx_rdfa.proofs.Common.{◌∙◌, ◌∷◌, ap, sym, option_map, is_relative}
 use Rattle.rx_names.specs.Views.{names_seen}
 use Rattle.rx_curie.specs.Given.{kind_of}
 use Rattle.rx_curie.proofs.RefusalLemmas.{own-refused, own-relative}

@@ -1,6 +1,5 @@
-use Rattle.rx_terms.proofs.Common.{rules, option_map, chars, Chars, tokens}
+use Rattle.rx_rdfa.proofs.Common.{rules, option_map, chars, Chars, tokens, ref_of}
 use Rattle.rx_rdfa.specs.Readings.{read_term}
-use Rattle.rx_rdfa.specs.Facts.{ref_of}
 use Rattle.rx_names.specs.Views.{names_seen}
 use Rattle.rx_curie.specs.Seen.{refs_seen}
 use Rattle.rx_curie.proofs.TokenSteps.{token-step}

@@ -1,14 +1,10 @@
-use Rattle.rx_terms.proofs.Common.{◌≡◌, ◌++◌, List, length, option_map, chars, tokens}
+use Rattle.rx_rdfa.proofs.Common.{◌≡◌, ◌++◌, List, length, option_map, chars, tokens, Tag, ref_of, types_of, Utf8, shadow}
 use Rattle.std.specs.List.{filter_map}
-use Rattle.rx_rdfa.specs.Tree.{Tag}
 use Rattle.rx_rdfa.specs.Readings.{read_term}
-use Rattle.rx_rdfa.specs.Facts.{ref_of, types_of}
 use Rattle.rx_names.specs.Lines.{NamesStand}
 use Rattle.rx_names.specs.Views.{names_seen}
 use Rattle.rx_curie.specs.Seen.{refs_seen}
 use Rattle.rx_curie.proofs.types.types_of.Given as goal
-use denote.Text.{Utf8}
-use denote.Shadow.{shadow}
 
 abbrev pub invariant-loop-token : goal.invariant-loop-token
 invariant-loop-token l = record {

@@ -1,5 +1,4 @@
-use Rattle.rx_terms.proofs.Common.{◌∙◌, ◌++◌, ◌+◌, ap, List, ℕ}
-use Rattle.rx_model.proofs.Common.{Triple, triples_seen}
+use Rattle.rx_model.proofs.Common.{◌∙◌, ◌++◌, ◌+◌, ap, List, ℕ, Triple, triples_seen}
 use Rattle.rx_eval.proofs.SeenLemmas.{seen_forgotten, seen_cells, seen_count}
 use Rattle.rx_eval.proofs.closing.end_lists.Goals as goal
 

@@ -1,5 +1,4 @@
-use Rattle.std.proofs.Common.{◌≡◌, ◌++◌}
-use Rattle.rx_model.specs.Seen.{triples_seen}
+use Rattle.rx_model.proofs.Common.{◌≡◌, ◌++◌, triples_seen}
 use Rattle.rx_eval.proofs.closing.push_all.Given as goal
 
 abbrev pub invariant-loop-triple : goal.invariant-loop-triple

@@ -1,12 +1,4 @@
-use Rattle.rx_terms.proofs.Common.{◌∙◌, ap, sym, length, option_map, length-map, IfOk-weaker, on_ok_weaker}
-use Rattle.std.proofs.Common.{is_some}
-use Rattle.rx_model.proofs.Common.{term_seen}
-use Rattle.rx_curie.specs.Seen.{facts_seen}
-use Rattle.rx_eval.specs.Contexts.{context_seen}
-use Rattle.rx_eval.specs.ElementResources.{found_seen}
-use Rattle.rx_eval.specs.Places.{standing}
-use Rattle.rx_eval.specs.OwnersSeen.{owners_seen}
-use Rattle.rx_eval.specs.States.{owner_seen}
+use Rattle.rx_eval.proofs.Common.{◌∙◌, ap, sym, length, option_map, is_some, length-map, IfOk-weaker, on_ok_weaker, term_seen, facts_seen, context_seen, found_seen, standing, owners_seen, owner_seen}
 use Rattle.rx_eval.proofs.GatherLemmas.{gathers_found, own_found, below_found, no_own, no_below}
 use Rattle.rx_eval.proofs.EnterLemmas.{below_is_handed, below_skipped, lists_skipped, lists_entered, gathers_entered, gathers_skipped, gathers_is, on_always}
 use Rattle.rx_eval.proofs.elements.enter.Goals as goal

@@ -1,15 +1,6 @@
-use Rattle.std.proofs.Common.{◌∙◌, ap, ap₂, length, map, option_map, refl}
-use Rattle.std.specs.Prelude.{is_some, is_none}
-use Rattle.rx_model.specs.Seen.{node_seen, term_seen}
-use Rattle.rx_curie.specs.Seen.{facts_seen}
+use Rattle.rx_eval.proofs.Common.{◌∙◌, ap, ap₂, length, map, option_map, refl, is_some, is_none, node_seen, term_seen, facts_seen, context_seen, waiting_seen, found_seen, naming, standing, naming_by, owners_seen, put_entries, entries_in}
 use Rattle.rx_lists.specs.declared.lists.Owner.{Owner}
-use Rattle.rx_eval.specs.Contexts.{context_seen, waiting_seen}
-use Rattle.rx_eval.specs.ElementResources.{found_seen}
-use Rattle.rx_eval.specs.Places.{naming, standing}
 use Rattle.rx_eval.specs.Elements.{handed_by, owner_in}
-use Rattle.rx_eval.specs.Entering.{naming_by}
-use Rattle.rx_eval.specs.OwnersSeen.{owners_seen, put_entries}
-use Rattle.rx_eval.specs.Listing.{entries_in}
 use Rattle.rx_eval.proofs.EnterLemmas.{handed_is, owners_are, own_is, own_seen, below_seen}
 use Rattle.rx_eval.proofs.GatherLemmas.{gathers_places}
 use Rattle.rx_eval.proofs.elements.enter_found.Goals as goal

@@ -1,5 +1,4 @@
-use Rattle.std.proofs.Common.{drop}
-use Rattle.rx_eval.specs.Entries.{put_awaited}
+use Rattle.rx_eval.proofs.Common.{drop, put_awaited}
 use Rattle.rx_eval.proofs.EntryLemmas.{ToAwait}
 use Rattle.rx_eval.proofs.entries.add_awaited.Given as goal
 

@@ -1,5 +1,4 @@
-use Rattle.std.proofs.Common.{drop, Some}
-use Rattle.rx_eval.specs.Entries.{put_each}
+use Rattle.rx_eval.proofs.Common.{drop, Some, put_each}
 use Rattle.rx_eval.proofs.EntryLemmas.{ToPut}
 use Rattle.rx_eval.proofs.entries.add_each.Given as goal
 

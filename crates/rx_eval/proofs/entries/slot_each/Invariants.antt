@@ -1,5 +1,4 @@
-use Rattle.std.proofs.Common.{drop, Some, None}
-use Rattle.rx_eval.specs.Entries.{put_each, slots_for}
+use Rattle.rx_eval.proofs.Common.{drop, Some, None, put_each, slots_for}
 use Rattle.rx_eval.proofs.EntryLemmas.{ToPut, ToReserve}
 use Rattle.rx_eval.proofs.entries.slot_each.Given as goal
 

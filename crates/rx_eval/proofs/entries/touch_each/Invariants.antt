@@ -1,5 +1,4 @@
-use Rattle.std.proofs.Common.{drop, None}
-use Rattle.rx_eval.specs.Entries.{put_each}
+use Rattle.rx_eval.proofs.Common.{drop, None, put_each}
 use Rattle.rx_eval.proofs.EntryLemmas.{ToPut}
 use Rattle.rx_eval.proofs.entries.touch_each.Given as goal
 

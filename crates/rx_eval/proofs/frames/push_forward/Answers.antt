@@ -1,5 +1,4 @@
-use Rattle.rx_eval.specs.Contexts.{waiting_seen}
-use Rattle.rx_eval.specs.Frames.{forward_by}
+use Rattle.rx_eval.proofs.Common.{waiting_seen, forward_by}
 use Rattle.rx_eval.proofs.GrowLemmas.{one_grown, mapped_more}
 use Rattle.rx_eval.proofs.frames.push_forward.Goals as goal
 

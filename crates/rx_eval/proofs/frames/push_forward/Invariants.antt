@@ -1,6 +1,4 @@
-use Rattle.std.proofs.Common.{◌++◌, map, drop}
-use Rattle.rx_eval.specs.Contexts.{waiting_seen}
-use Rattle.rx_eval.specs.Frames.{forward_by}
+use Rattle.rx_eval.proofs.Common.{◌++◌, map, drop, waiting_seen, forward_by}
 use Rattle.rx_eval.proofs.GrowLemmas.{Growing}
 use Rattle.rx_eval.proofs.frames.push_forward.Given as goal
 

@@ -1,6 +1,4 @@
-use Rattle.std.proofs.Common.{ap}
-use Rattle.rx_eval.specs.Contexts.{waiting_seen}
-use Rattle.rx_eval.specs.Frames.{reverse_by}
+use Rattle.rx_eval.proofs.Common.{ap, waiting_seen, reverse_by}
 use Rattle.rx_eval.proofs.GrowLemmas.{one_grown, mapped_more}
 use Rattle.rx_eval.proofs.frames.push_reverse.Goals as goal
 

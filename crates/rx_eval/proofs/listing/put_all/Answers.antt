@@ -1,10 +1,4 @@
-use Rattle.rx_terms.proofs.Common.{filter_map, map, option_map, [], if◌then◌else◌}
-use Rattle.rx_model.proofs.Common.{node_seen, term_seen}
-use Rattle.rx_curie.specs.Seen.{facts_seen}
-use Rattle.rx_eval.specs.ElementResources.{found_seen}
-use Rattle.rx_eval.specs.Contexts.{waiting_seen}
-use Rattle.rx_eval.specs.OwnersSeen.{owners_seen}
-use Rattle.rx_eval.specs.Listing.{own_entries, awaited_entry}
+use Rattle.rx_eval.proofs.Common.{filter_map, map, option_map, [], if◌then◌else◌, node_seen, term_seen, facts_seen, found_seen, waiting_seen, owners_seen, own_entries, awaited_entry}
 use Rattle.rx_eval.proofs.SeenLemmas.{two_put}
 use Rattle.rx_eval.proofs.listing.put_all.Goals as goal
 

@@ -1,11 +1,4 @@
-use Rattle.rx_terms.proofs.Common.{IfOk-weaker, on_ok_weaker, ◌∙◌, ap, Some, option_map, Bool}
-use Rattle.std.specs.Prelude.{is_none}
-use Rattle.rx_model.proofs.Common.{node_seen, term_seen}
-use Rattle.rx_rdfa.specs.Inherited.{listed, hangs}
-use Rattle.rx_curie.specs.Seen.{facts_seen}
-use Rattle.rx_eval.specs.ElementResources.{found_seen}
-use Rattle.rx_eval.specs.OwnersSeen.{owners_seen, put_entries}
-use Rattle.rx_eval.specs.Listing.{linked_entries, touched_entries, entries_for}
+use Rattle.rx_eval.proofs.Common.{IfOk-weaker, on_ok_weaker, ◌∙◌, ap, Some, option_map, Bool, is_none, node_seen, term_seen, listed, hangs, facts_seen, found_seen, owners_seen, put_entries, linked_entries, touched_entries, entries_for}
 use Rattle.rx_eval.proofs.SeenLemmas.{three_put, places_then}
 use Rattle.rx_eval.proofs.listing.put_own.Goals as goal
 

@@ -1,6 +1,4 @@
-use Rattle.std.proofs.Common.{◌≡◌, ◌+◌, ◌≤◌, length, drop, flat_map}
-use Rattle.rx_rdfa.specs.Renaming.{label_of}
-use Rattle.rx_curie.specs.Seen.{refs_seen}
+use Rattle.rx_eval.proofs.Common.{◌≡◌, ◌+◌, ◌≤◌, length, drop, flat_map, label_of, refs_seen}
 use Rattle.rx_eval.proofs.numbers.count_all.Given as goal
 
 abbrev pub invariant-loop-i : goal.invariant-loop-i

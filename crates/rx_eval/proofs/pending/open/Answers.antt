@@ -1,10 +1,6 @@
-use Rattle.std.proofs.Common.{◌<◌, ◌∙◌, ℕ, sym, subst, length}
-use Rattle.rx_curie.specs.Seen.{facts_seen}
-use Rattle.rx_eval.specs.Opened.{Opens}
-use Rattle.rx_eval.specs.States.{State}
+use Rattle.rx_eval.proofs.Common.{◌<◌, ◌∙◌, ℕ, sym, subst, length, facts_seen, Opens, State, with_pending}
 use Rattle.rx_eval.proofs.ReferringLemmas.{rooted_waits}
 use Rattle.rx_eval.proofs.SilentLemmas.{skipped_opens}
-use Rattle.rx_eval.specs.Referring.{with_pending}
 use Rattle.rx_eval.proofs.pending.open.Goals as goal
 
 pub returns-then-says_nothing-clause-ok : goal.returns-then-says_nothing-clause-ok

@@ -1,8 +1,4 @@
-use Rattle.std.proofs.Common.{ℕ, sym, subst}
-use Rattle.rx_model.specs.Terms.{Node}
-use Rattle.rx_curie.specs.Seen.{facts_seen}
-use Rattle.rx_eval.specs.Opened.{Opens}
-use Rattle.rx_eval.specs.Referring.{referred_by}
+use Rattle.rx_eval.proofs.Common.{ℕ, sym, subst, Node, facts_seen, Opens, referred_by}
 use Rattle.rx_eval.proofs.ReferringLemmas.{opens_referring}
 use Rattle.rx_eval.proofs.pending.open_settled.Goals as goal
 

@@ -1,12 +1,5 @@
-use Rattle.rx_terms.proofs.Common.{◌≡◌, ◌∙◌, ap, subst, sym, ℕ, Option, option_map, None, Some, IfOk, chars, Chars}
-use Rattle.std.proofs.Common.{unwrap_or}
-use Rattle.rx_model.proofs.Common.{term_seen, Term}
-use Rattle.rx_rdfa.specs.Resources.{Resources}
-use Rattle.rx_rdfa.specs.Value.{rule, value_now, value_of_text}
-use Rattle.rx_curie.specs.Seen.{facts_seen}
-use Rattle.rx_eval.specs.Moment.{labelled, moment}
+use Rattle.rx_eval.proofs.Common.{◌≡◌, ◌∙◌, ap, subst, sym, ℕ, Option, option_map, None, Some, IfOk, unwrap_or, chars, Chars, term_seen, Term, Resources, rule, value_now, value_of_text, facts_seen, labelled, moment, value_with}
 use Rattle.rx_eval.specs.Placing.{placed_seen}
-use Rattle.rx_eval.specs.TextRules.{value_with}
 use Rattle.rx_eval.proofs.TextLemmas.{ok_text}
 use Rattle.rx_eval.proofs.placed.value_of.Goals as goal
 

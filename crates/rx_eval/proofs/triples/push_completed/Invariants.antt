@@ -1,6 +1,4 @@
-use Rattle.std.proofs.Common.{◌++◌, filter_map, drop}
-use Rattle.rx_model.specs.Seen.{node_seen, triples_seen}
-use Rattle.rx_eval.specs.Triples.{completed_by, ToCome}
+use Rattle.rx_eval.proofs.Common.{◌++◌, filter_map, drop, node_seen, triples_seen, completed_by, ToCome}
 use Rattle.rx_eval.proofs.triples.push_completed.Given as goal
 
 abbrev pub invariant-loop-one : goal.invariant-loop-one

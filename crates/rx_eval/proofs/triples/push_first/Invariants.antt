@@ -1,6 +1,4 @@
-use Rattle.rx_terms.proofs.Common.{◌++◌, map, drop}
-use Rattle.rx_model.proofs.Common.{node_seen, term_seen, triples_seen, spo}
-use Rattle.rx_eval.specs.Triples.{ToCome}
+use Rattle.rx_eval.proofs.Common.{◌++◌, map, drop, node_seen, term_seen, triples_seen, spo, ToCome}
 use Rattle.rx_eval.proofs.triples.push_first.Given as goal
 
 abbrev pub invariant-loop-i : goal.invariant-loop-i

@@ -1,6 +1,5 @@
-use Rattle.rx_terms.proofs.Common.{◌∙◌, ap, arith, List, nat_eq}
+use Rattle.rx_model.proofs.Common.{◌∙◌, ap, arith, List, nat_eq, same_triple, with_all, treated, edges, triple_seen, triples_seen}
 use Rattle.rx_terms.specs.declared.triples.Triple.{Triple}
-use Rattle.rx_model.proofs.Common.{same_triple, with_all, treated, edges, triple_seen, triples_seen}
 use Rattle.rx_graph.proofs.PlaceLemmas.{treated_turn, treated_end}
 use Rattle.rx_graph.proofs.copying.treat_each.Goals as goal
 

@@ -1,5 +1,4 @@
-use Rattle.rx_terms.proofs.Common.{◌≡◌, [], flat_map, take, nat_eq}
-use Rattle.rx_model.proofs.Common.{same_triple, with_all, triples_seen, treated, edges}
+use Rattle.rx_model.proofs.Common.{◌≡◌, [], flat_map, take, nat_eq, same_triple, with_all, triples_seen, treated, edges}
 use Rattle.rx_graph.proofs.copying.treat_each.Given as goal
 
 abbrev pub invariant-loop-i : goal.invariant-loop-i

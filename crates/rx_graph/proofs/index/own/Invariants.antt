@@ -1,5 +1,4 @@
-use Rattle.std.proofs.Common.{take}
-use Rattle.rx_model.specs.Seen.{triples_seen}
+use Rattle.rx_model.proofs.Common.{take, triples_seen}
 use Rattle.rx_graph.specs.Copying.{AreOwn}
 use Rattle.rx_graph.proofs.index.own.Given as goal
 

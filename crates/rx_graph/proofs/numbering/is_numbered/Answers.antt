@@ -1,6 +1,5 @@
-use Rattle.rx_terms.proofs.Common.{◌∙◌, ap, sym, nat_eq, arith}
-use Rattle.std.proofs.Common.{take_all}
 use Rattle.rx_model.proofs.Common.{distinct, blanks, triples_seen}
+use Rattle.std.proofs.Common.{◌∙◌, ap, sym, nat_eq, arith, take_all}
 use Rattle.rx_graph.proofs.NumberLemmas.{numbers_turn}
 use Rattle.rx_graph.proofs.NumberedLemmas.{numbered_already}
 use Rattle.rx_graph.proofs.numbering.is_numbered.Goals as goal

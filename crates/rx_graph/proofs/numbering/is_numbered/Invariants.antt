@@ -1,5 +1,4 @@
-use Rattle.rx_terms.proofs.Common.{◌≡◌, take, nat_eq}
-use Rattle.rx_model.proofs.Common.{distinct, blanks, triples_seen}
+use Rattle.rx_model.proofs.Common.{◌≡◌, take, nat_eq, distinct, blanks, triples_seen}
 use Rattle.rx_graph.specs.Numbering.{numbers_to}
 use Rattle.rx_graph.proofs.numbering.is_numbered.Given as goal
 

@@ -1,5 +1,4 @@
-use Rattle.std.proofs.Common.{◌∙◌, ap, arith}
-use Rattle.rx_model.specs.Seen.{triples_seen}
+use Rattle.rx_model.proofs.Common.{◌∙◌, ap, arith, triples_seen}
 use Rattle.rx_graph.proofs.GivenLemmas.{given_start, given_turn, given_end, relabelled}
 use Rattle.rx_graph.proofs.numbering.relabel_owned.Goals as goal
 

@@ -1,5 +1,4 @@
-use Rattle.rx_terms.proofs.Common.{◌∙◌, ap, sym, arith, nat_eq}
-use Rattle.rx_model.proofs.Common.{same_node, with_one}
+use Rattle.rx_model.proofs.Common.{◌∙◌, ap, sym, arith, nat_eq, same_node, with_one}
 use Rattle.rx_graph.proofs.PatternLemmas.{patterns_found, patterns_kept, patterns_end}
 use Rattle.rx_graph.proofs.patterns.pattern_nodes.Goals.{then-says_pattern+in_ok-add, else-says_pattern}
 use Rattle.rx_graph.proofs.patterns.pattern_nodes.Goals as goal

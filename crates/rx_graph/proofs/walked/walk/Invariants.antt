@@ -1,6 +1,4 @@
-use Rattle.rx_terms.proofs.Common.{◌≡◌, false, take, nat_eq, list_any}
-use Rattle.std.proofs.Common.{IfSome}
-use Rattle.rx_model.proofs.Common.{triples_seen, distinct, blanks}
+use Rattle.rx_model.proofs.Common.{◌≡◌, false, take, nat_eq, IfSome, list_any, triples_seen, distinct, blanks}
 use Rattle.rx_graph.specs.Numbering.{numbers_to}
 use Rattle.rx_graph.specs.Patterns.{copies}
 use Rattle.rx_graph.proofs.walked.walk.Given as goal

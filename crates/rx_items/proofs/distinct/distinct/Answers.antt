@@ -1,5 +1,4 @@
-use Rattle.rx_terms.proofs.Common.{rules, ◌∙◌, sym, ap, ◌∷◌, ◌++◌, List, chars, IsUtf8, Chars, tokens}
-use Rattle.rx_microdata.specs.Facts.{distinct_tokens, without_repeats_of}
+use Rattle.rx_items.proofs.Common.{rules, ◌∙◌, sym, ap, ◌∷◌, ◌++◌, List, chars, IsUtf8, Chars, tokens, distinct_tokens, without_repeats_of}
 use Rattle.rx_items.specs.Distinct.{has_text}
 use Rattle.rx_items.proofs.DistinctLemmas.{Sees, sees_new, unseen, new_turn}
 use Rattle.rx_items.proofs.distinct.distinct.Goals as goal

@@ -1,10 +1,7 @@
-use Rattle.rx_terms.proofs.Common.{◌≡◌, ℕ, List, ◌++◌, length, chars, IsUtf8, Chars, tokens}
-use Rattle.rx_grammar.proofs.Common.{is_among}
+use Rattle.rx_grammar.proofs.Common.{◌≡◌, ℕ, List, ◌++◌, length, chars, IsUtf8, Chars, tokens, is_among, Utf8, shadow}
 use Rattle.rx_microdata.specs.Facts.{distinct_tokens, without_repeats_of}
 use Rattle.rx_items.specs.Distinct.{has_text}
 use Rattle.rx_items.proofs.distinct.distinct.Given as goal
-use denote.Text.{Utf8}
-use denote.Shadow.{shadow}
 
 abbrev pub invariant-loop-token : goal.invariant-loop-token
 invariant-loop-token l = record {

@@ -1,5 +1,4 @@
-use Rattle.std.proofs.Common.{◌≡◌, ◌&&◌, nat_lt, drop}
-use Rattle.std.specs.List.{list_all}
+use Rattle.rx_terms.proofs.Common.{◌≡◌, ◌&&◌, nat_lt, drop, list_all}
 use Rattle.rx_items.proofs.distinct.is_unbroken.Given as goal
 
 abbrev pub invariant-loop-byte : goal.invariant-loop-byte

@@ -1,6 +1,4 @@
-use Rattle.std.proofs.Common.{ap, sym}
-use Rattle.rx_microdata.specs.Elements.{is_top_level}
-use Rattle.rx_items.specs.Held.{is_there}
+use Rattle.rx_items.proofs.Common.{ap, sym, is_top_level, is_there}
 use Rattle.rx_items.proofs.HoldLemmas.{behind_rows, row_there, told_there}
 use Rattle.rx_items.proofs.elements.is_top_at.Goals as goal
 

@@ -1,5 +1,4 @@
-use Rattle.std.proofs.Common.{sym, subst}
-use Rattle.rx_items.specs.Showing.{ShowsValue}
+use Rattle.rx_items.proofs.Common.{sym, subst, ShowsValue}
 use Rattle.rx_items.specs.declared.rows.RowValue.{RowValue}
 use Rattle.rx_items.proofs.HoldLemmas.{behind_rows, row_there}
 use Rattle.rx_items.proofs.elements.value_at.Goals as goal

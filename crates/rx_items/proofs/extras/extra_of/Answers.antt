@@ -1,6 +1,4 @@
-use Rattle.rx_terms.proofs.Common.{◌∙◌, get_or, slice_get-get_or}
-use Rattle.rx_items.specs.Growing.{nothing_kept}
-use Rattle.rx_items.specs.Rows.{rows_of}
+use Rattle.rx_items.proofs.Common.{◌∙◌, get_or, slice_get-get_or, nothing_kept, rows_of}
 use Rattle.rx_items.specs.declared.kept.BesideRow.TheVariants as extra
 use Rattle.rx_items.proofs.BuildLemmas.{fits_by, reaches_alone, refers_not}
 use Rattle.rx_items.proofs.IdLemmas.{row_shown}

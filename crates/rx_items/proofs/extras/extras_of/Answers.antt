@@ -1,5 +1,4 @@
-use Rattle.std.proofs.Common.{length}
-use Rattle.rx_items.specs.Rows.{rows_of}
+use Rattle.rx_items.proofs.Common.{length, rows_of}
 use Rattle.rx_items.proofs.BuildLemmas.{fit_turn, fit_end}
 use Rattle.rx_items.proofs.extras.extras_of.Goals as goal
 

@@ -1,9 +1,4 @@
-use Rattle.rx_terms.proofs.Common.{List, Chars}
-use Rattle.rx_grammar.proofs.Common.{Tree}
-use Rattle.rx_items.specs.Rows.{rows_of}
-use Rattle.rx_items.specs.Members.{Rises, Sorted}
-use Rattle.rx_items.specs.Ids.{LooksFor, look_in}
-use Rattle.rx_items.specs.Held.{AllFit}
+use Rattle.rx_items.proofs.Common.{List, Chars, Tree, rows_of, Rises, Sorted, LooksFor, look_in, AllFit}
 use Rattle.rx_items.proofs.extras.extras_of.Given as goal
 
 abbrev pub invariant-loop-place : goal.invariant-loop-place

@@ -1,13 +1,5 @@
-use Rattle.rx_terms.proofs.Common.{ℕ, List, ◌∷◌, Contains, ◌↔◌, ◌∙◌, Option, None, get_or, sym, subst, slice_get-get_or, Chars}
-use Rattle.std.specs.Prelude.{filter_map}
-use Rattle.rx_items.specs.Rows.{rows_of}
-use Rattle.rx_items.specs.Ids.{LooksWhere, look_in}
-use Rattle.rx_items.specs.Growing.{nothing_kept}
-use Rattle.rx_items.specs.Showing.{ShowsWord}
+use Rattle.rx_items.proofs.Common.{ℕ, List, ◌∷◌, Contains, ◌↔◌, ◌∙◌, Option, None, get_or, sym, subst, slice_get-get_or, Chars, filter_map, rows_of, LooksWhere, look_in, nothing_kept, ShowsWord, in_runs, RunsReach, Reaches}
 use Rattle.rx_items.specs.declared.spans.Span.{Span}
-use Rattle.rx_items.specs.Properties.{in_runs}
-use Rattle.rx_items.specs.Starts.{RunsReach}
-use Rattle.rx_items.specs.Held.{Reaches}
 use Rattle.rx_items.specs.declared.kept.Run.{Run}
 use Rattle.rx_items.proofs.IdLemmas.{row_shown}
 use Rattle.rx_items.proofs.NestLemmas.{numbered}

@@ -1,10 +1,4 @@
-use Rattle.std.proofs.Common.{◌∙◌, ℕ, suc, List, ◌∷◌, ap, sym, subst, Contains, ◌↔◌, arith}
-use Rattle.rx_microdata.specs.Visits.{visits_from}
-use Rattle.rx_microdata.specs.Elements.{is_item, names_of}
-use Rattle.rx_items.specs.Rows.{properties_in}
-use Rattle.rx_items.specs.Held.{is_there}
-use Rattle.rx_items.specs.Properties.{gathered}
-use Rattle.rx_items.specs.Expanding.{HasFault, NoFault, steps_in, visits_in, again}
+use Rattle.rx_items.proofs.Common.{◌∙◌, ℕ, suc, List, ◌∷◌, ap, sym, subst, Contains, ◌↔◌, arith, visits_from, is_item, names_of, properties_in, is_there, gathered, HasFault, NoFault, steps_in, visits_in, again}
 use Rattle.rx_items.proofs.HoldLemmas.{is_element, list_is, all_stand, place_is}
 use Rattle.rx_items.proofs.VisitLemmas.{at_path, no_element, row_at, list_end, told, enter_err, enter_ok, group_err, group_ok}
 use Rattle.rx_items.proofs.PassLemmas.{times_err, times_on, times_end, counted, item_passed, plain_passed, each_stop, each_more, each_end}

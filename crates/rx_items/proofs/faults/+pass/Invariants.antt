@@ -1,10 +1,4 @@
-use Rattle.rx_terms.proofs.Common.{◌≡◌, ◌+◌, ◌-◌, ◌*◌, ◌≤◌, ℕ, List, suc, take, length, Some, true, Chars}
-use Rattle.std.specs.Prelude.{slice_get}
-use Rattle.rx_microdata.specs.Elements.{Placed, is_item}
-use Rattle.rx_microdata.specs.Visits.{Visit, visits_from}
-use Rattle.rx_items.specs.Rows.{properties_in}
-use Rattle.rx_items.specs.Held.{IsElement, AllStand, places}
-use Rattle.rx_items.specs.Expanding.{At, NoFault, again, steps_in, visits_in}
+use Rattle.rx_items.proofs.Common.{◌≡◌, ◌+◌, ◌-◌, ◌*◌, ◌≤◌, ℕ, List, suc, take, length, Some, true, Chars, slice_get, Placed, is_item, Visit, visits_from, properties_in, IsElement, AllStand, places, At, NoFault, again, steps_in, visits_in}
 use Rattle.rx_items.proofs.faults.+pass.Given as goal
 
 abbrev pub decreases-pass : goal.decreases-pass

@@ -1,6 +1,4 @@
-use Rattle.std.proofs.Common.{◌∙◌, [], ap, sym}
-use Rattle.rx_microdata.specs.Elements.{is_top_level}
-use Rattle.rx_items.specs.Held.{is_there}
+use Rattle.rx_items.proofs.Common.{◌∙◌, [], ap, sym, is_top_level, is_there}
 use Rattle.rx_items.proofs.HoldLemmas.{is_element}
 use Rattle.rx_items.proofs.VisitLemmas.{no_element}
 use Rattle.rx_items.proofs.PageLemmas.{tops_at, item_of_top, top_plain, top_passed}

@@ -1,6 +1,5 @@
-use Rattle.std.proofs.Common.{◌∙◌, ◌<◌, ◌≤◌, ℕ, List, length, ap, subst}
+use Rattle.rx_items.proofs.Common.{◌∙◌, ◌<◌, ◌≤◌, ℕ, List, length, ap, subst, VisitsGive}
 use Rattle.rx_items.specs.declared.rows.Row.{Row}
-use Rattle.rx_items.specs.Pages.{VisitsGive}
 use Rattle.rx_items.proofs.VisitLemmas.{err_told}
 use Rattle.rx_items.proofs.PageLemmas.{as_long, row_there, tops_err, visited_on, visited_end}
 use Rattle.rx_items.proofs.faults.visit_all.Goals as goal

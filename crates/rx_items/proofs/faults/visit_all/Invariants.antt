@@ -1,9 +1,4 @@
-use Rattle.rx_terms.proofs.Common.{◌≡◌, [], List, take, Chars}
-use Rattle.std.specs.Prelude.{flat_map}
-use Rattle.rx_microdata.specs.Elements.{Placed}
-use Rattle.rx_items.specs.Held.{HoldsRows}
-use Rattle.rx_items.specs.Expanding.{NoFault}
-use Rattle.rx_items.specs.Pages.{top_visits}
+use Rattle.rx_items.proofs.Common.{◌≡◌, [], List, take, Chars, flat_map, Placed, HoldsRows, NoFault, top_visits}
 use Rattle.rx_items.proofs.faults.visit_all.Given as goal
 
 abbrev pub invariant-loop-place : goal.invariant-loop-place

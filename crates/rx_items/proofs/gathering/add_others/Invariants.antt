@@ -1,5 +1,4 @@
-use Rattle.std.proofs.Common.{◌≡◌, ◌++◌, take, filter}
-use Rattle.rx_items.specs.Properties.{is_other}
+use Rattle.rx_items.proofs.Common.{◌≡◌, ◌++◌, take, filter, is_other}
 use Rattle.rx_items.proofs.gathering.add_others.Given as goal
 
 abbrev pub invariant-loop-member : goal.invariant-loop-member

@@ -1,5 +1,4 @@
-use Rattle.std.proofs.Common.{◌≡◌, ◌++◌, ◌∷◌, drop}
-use Rattle.rx_items.specs.Properties.{gathered}
+use Rattle.rx_items.proofs.Common.{◌≡◌, ◌++◌, ◌∷◌, drop, gathered}
 use Rattle.rx_items.proofs.gathering.gathered.Given as goal
 
 abbrev pub invariant-loop-run : goal.invariant-loop-run

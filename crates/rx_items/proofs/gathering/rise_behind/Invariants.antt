@@ -1,5 +1,4 @@
-use Rattle.std.proofs.Common.{◌≡◌, drop}
-use Rattle.rx_items.specs.Properties.{rise_behind}
+use Rattle.rx_items.proofs.Common.{◌≡◌, drop, rise_behind}
 use Rattle.rx_items.proofs.gathering.rise_behind.Given as goal
 
 abbrev pub invariant-loop-member : goal.invariant-loop-member

@@ -1,10 +1,5 @@
-use Rattle.rx_terms.proofs.Common.{◌≡◌, ◌∙◌, ◌+◌, ◌-◌, List, Option, option_map, ap, sym, arith, subst, chars}
-use Rattle.rx_microdata.specs.Elements.{Placed}
-use Rattle.rx_microdata.specs.Properties.{first_with_id}
-use Rattle.rx_items.specs.Growing.{nothing_kept}
-use Rattle.rx_items.specs.Showing.{ShowsWord}
+use Rattle.rx_items.proofs.Common.{◌≡◌, ◌∙◌, ◌+◌, ◌-◌, List, Option, option_map, ap, sym, arith, subst, chars, Placed, first_with_id, nothing_kept, ShowsWord, place_of}
 use Rattle.rx_items.specs.declared.spans.Span.{Span}
-use Rattle.rx_items.specs.Ids.{place_of}
 use Rattle.rx_items.proofs.IdLemmas.{no_ids, empty_ids, row_shown, id_turn, all_ids}
 use Rattle.rx_items.proofs.ids.first_ids.Goals as goal
 

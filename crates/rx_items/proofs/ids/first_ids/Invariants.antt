@@ -1,9 +1,4 @@
-use Rattle.rx_terms.proofs.Common.{◌≡◌, ℕ, List, option_map, drop, chars, IsUtf8, Chars}
-use Rattle.rx_microdata.specs.Elements.{Placed}
-use Rattle.rx_microdata.specs.Properties.{first_with_id}
-use Rattle.rx_items.specs.Held.{Numbered}
-use Rattle.rx_items.specs.Ids.{place_of}
-use Rattle.rx_items.specs.Showing.{ShowsRows}
+use Rattle.rx_items.proofs.Common.{◌≡◌, ℕ, List, option_map, drop, chars, IsUtf8, Chars, Placed, first_with_id, Numbered, place_of, ShowsRows}
 use Rattle.rx_items.proofs.ids.first_ids.Given as goal
 
 abbrev pub invariant-loop-place : goal.invariant-loop-place

@@ -1,5 +1,4 @@
-use Rattle.std.proofs.Common.{◌∙◌, sym}
-use Rattle.rx_items.specs.Ids.{look_in}
+use Rattle.rx_items.proofs.Common.{◌∙◌, sym, look_in}
 use Rattle.rx_items.proofs.IdLemmas.{looks_for, looks_for_none}
 use Rattle.rx_items.proofs.ids.ids_of.Goals as goal
 

@@ -1,5 +1,4 @@
-use Rattle.rx_terms.proofs.Common.{◌≡◌, drop, list_any}
-use Rattle.rx_items.specs.Ids.{has_references}
+use Rattle.rx_items.proofs.Common.{◌≡◌, drop, list_any, has_references}
 use Rattle.rx_items.proofs.ids.refer.Given as goal
 
 abbrev pub invariant-loop-row : goal.invariant-loop-row

@@ -1,8 +1,5 @@
-use Rattle.std.proofs.Common.{List, None, sym, subst, length}
-use Rattle.rx_items.specs.Rows.{rows_of}
-use Rattle.rx_items.specs.Showing.{ShowsRows}
+use Rattle.rx_items.proofs.Common.{List, None, sym, subst, length, rows_of, ShowsRows, AllFit}
 use Rattle.rx_items.specs.declared.rows.Row.{Row}
-use Rattle.rx_items.specs.Held.{AllFit}
 use Rattle.rx_items.proofs.NestLemmas.{numbered}
 use Rattle.rx_items.proofs.keeping.kept_of.Goals as goal
 

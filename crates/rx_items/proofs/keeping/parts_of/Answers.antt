@@ -1,6 +1,4 @@
-use Rattle.std.proofs.Common.{None, subst, ◌≤◌, ℕ}
-use Rattle.rx_items.specs.Rows.{rows_of}
-use Rattle.rx_items.specs.Members.{Sorted}
+use Rattle.rx_items.proofs.Common.{None, subst, ◌≤◌, ℕ, rows_of, Sorted}
 use Rattle.rx_items.proofs.AroundLemmas.{lies}
 use Rattle.rx_items.proofs.NestLemmas.{numbered}
 use Rattle.rx_items.proofs.keeping.parts_of.Goals as goal

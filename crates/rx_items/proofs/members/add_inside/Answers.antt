@@ -1,5 +1,4 @@
-use Rattle.rx_terms.proofs.Common.{get_or, slice_get-get_or, on_ok_weaker}
-use Rattle.rx_items.specs.Growing.{nothing_kept}
+use Rattle.rx_items.proofs.Common.{get_or, slice_get-get_or, on_ok_weaker, nothing_kept}
 use Rattle.rx_items.proofs.WalkLemmas.{item_none, item_some}
 use Rattle.rx_items.proofs.members.add_inside.Goals as goal
 

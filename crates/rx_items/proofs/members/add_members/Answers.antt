@@ -1,5 +1,4 @@
-use Rattle.rx_terms.proofs.Common.{◌<◌, length, get_or, arith, slice_get-get_or, slice_get_within}
-use Rattle.rx_items.specs.Growing.{nothing_kept}
+use Rattle.rx_items.proofs.Common.{◌<◌, length, get_or, arith, slice_get-get_or, slice_get_within, nothing_kept}
 use Rattle.rx_items.proofs.WalkLemmas.{adds_turn, adds_all}
 use Rattle.rx_items.proofs.members.add_members.Goals as goal
 

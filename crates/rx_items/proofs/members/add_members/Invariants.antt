@@ -1,5 +1,4 @@
-use Rattle.std.proofs.Common.{◌-◌, ◌≤◌}
-use Rattle.rx_items.specs.Members.{Adds}
+use Rattle.rx_items.proofs.Common.{◌-◌, ◌≤◌, Adds}
 use Rattle.rx_items.proofs.members.add_members.Given as goal
 
 abbrev pub invariant-loop-place : goal.invariant-loop-place

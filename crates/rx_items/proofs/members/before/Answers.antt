@@ -1,6 +1,4 @@
-use Rattle.std.proofs.Common.{rules, ℕ, nat_lt}
-use Rattle.std.proofs.lemmas.List.Sorted.{IsPartitionPoint-from_clause, IsPartitionedBy-ltb}
-use Rattle.rx_items.specs.Members.{key_at}
+use Rattle.rx_items.proofs.Common.{rules, ℕ, nat_lt, IsPartitionPoint-from_clause, IsPartitionedBy-ltb, key_at}
 use Rattle.rx_items.proofs.members.before.Goals as goal
 
 pub returns : goal.returns

@@ -1,5 +1,4 @@
-use Rattle.std.proofs.Common.{◌-◌, length}
-use Rattle.rx_items.specs.Members.{FirstBelow, Rises}
+use Rattle.rx_items.proofs.Common.{◌-◌, length, FirstBelow, Rises}
 use Rattle.rx_items.proofs.members.before_from.Given as goal
 
 abbrev pub invariant-loop-at : goal.invariant-loop-at

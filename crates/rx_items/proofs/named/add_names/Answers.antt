@@ -1,6 +1,4 @@
-use Rattle.rx_terms.proofs.Common.{◌≡◌, on_ok_weaker}
-use Rattle.rx_microdata.specs.Elements.{names_of}
-use Rattle.rx_items.specs.Held.{ShowsTokens}
+use Rattle.rx_items.proofs.Common.{◌≡◌, on_ok_weaker, names_of, ShowsTokens}
 use Rattle.rx_items.specs.declared.kept.Tokens.TheVariants as tokens
 use Rattle.rx_items.proofs.HoldLemmas.{place_is}
 use Rattle.rx_items.proofs.NameLemmas.{no_keys, one_key, several_keys}

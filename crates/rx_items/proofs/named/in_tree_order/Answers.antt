@@ -1,6 +1,4 @@
-use Rattle.std.proofs.Common.{ℕ, List, ◌∷◌, subst, Contains, ◌↔◌}
-use Rattle.rx_items.specs.Properties.{gathered}
-use Rattle.rx_items.specs.Rows.{properties_in}
+use Rattle.rx_items.proofs.Common.{ℕ, List, ◌∷◌, subst, Contains, ◌↔◌, gathered, properties_in}
 use Rattle.rx_items.proofs.HoldLemmas.{list_is, all_stand}
 use Rattle.rx_items.proofs.NameLemmas.{keys_found}
 use Rattle.rx_items.proofs.named.in_tree_order.Goals as goal

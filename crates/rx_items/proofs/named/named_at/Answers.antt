@@ -1,5 +1,4 @@
-use Rattle.std.proofs.Common.{flat_map}
-use Rattle.rx_items.specs.Named.{keys_at, keys_seen}
+use Rattle.rx_items.proofs.Common.{flat_map, keys_at, keys_seen}
 use Rattle.rx_items.proofs.NameLemmas.{places_turn, places_end}
 use Rattle.rx_items.proofs.named.named_at.Goals as goal
 

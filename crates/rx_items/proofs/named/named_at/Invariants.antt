@@ -1,8 +1,4 @@
-use Rattle.rx_terms.proofs.Common.{◌≡◌, ◌++◌, List, drop, Chars}
-use Rattle.std.specs.Prelude.{flat_map}
-use Rattle.rx_microdata.specs.Elements.{Placed}
-use Rattle.rx_items.specs.Held.{HoldsRows}
-use Rattle.rx_items.specs.Named.{keys_at, keys_seen}
+use Rattle.rx_items.proofs.Common.{◌≡◌, ◌++◌, List, drop, Chars, flat_map, Placed, HoldsRows, keys_at, keys_seen}
 use Rattle.rx_items.proofs.named.named_at.Given as goal
 
 abbrev pub invariant-loop-place : goal.invariant-loop-place

@@ -1,6 +1,4 @@
-use Rattle.std.proofs.Common.{rules}
-use Rattle.std.proofs.lemmas.Cmp.{nat_list_cmp_total}
-use Rattle.std.proofs.lemmas.List.Sorted.{answers_always, ranks_by}
+use Rattle.rx_terms.proofs.Common.{rules, nat_list_cmp_total, answers_always, ranks_by}
 use Rattle.rx_items.specs.Named.{is_before}
 use Rattle.rx_items.specs.declared.named.Named.{Named}
 use Rattle.rx_items.proofs.named.sort.Goals as goal

@@ -1,7 +1,5 @@
 use Rattle.serde_json.specs.View.{view}
-use Rattle.rx_microdata.specs.Visits.{standard_bounds}
-use Rattle.rx_items.specs.Rows.{outcome_in}
-use Rattle.rx_items.specs.Pages.{JsonGives}
+use Rattle.rx_items.proofs.Common.{standard_bounds, outcome_in, JsonGives}
 use Rattle.rx_items.proofs.VisitLemmas.{err_told}
 use Rattle.rx_items.proofs.PageLemmas.{json_refused, json_given}
 use Rattle.rx_items.proofs.pages.page_of.Goals as goal

@@ -1,6 +1,4 @@
-use Rattle.rx_microdata.specs.Visits.{standard_bounds}
-use Rattle.rx_items.specs.Rows.{outcome_in}
-use Rattle.rx_items.specs.Pages.{TextGives}
+use Rattle.rx_items.proofs.Common.{standard_bounds, outcome_in, TextGives}
 use Rattle.rx_items.proofs.VisitLemmas.{err_told}
 use Rattle.rx_items.proofs.PageLemmas.{text_given, text_refused}
 use Rattle.rx_items.proofs.pages.text_of.Goals as goal

@@ -1,9 +1,4 @@
-use Rattle.rx_terms.proofs.Common.{Some, None, on_ok_weaker, Chars}
-use Rattle.std.specs.Prelude.{Option, OnOk}
-use Rattle.rx_json.specs.Events.{Grows, members_events}
-use Rattle.serde_json.specs.Data.{no_members}
-use Rattle.rx_microdata.specs.Json.{with_id}
-use Rattle.rx_items.specs.Showing.{ShowsWord}
+use Rattle.rx_items.proofs.Common.{Some, None, on_ok_weaker, Chars, Option, OnOk, Grows, members_events, no_members, with_id, ShowsWord}
 use Rattle.rx_items.proofs.WritingLemmas.{id_told}
 use Rattle.rx_items.proofs.parts.write_id.Goals as goal
 

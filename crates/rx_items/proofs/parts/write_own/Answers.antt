@@ -1,7 +1,4 @@
-use Rattle.rx_terms.proofs.Common.{[], ◌∙◌, ap, sym, Some, on_ok_weaker, slice_get-get_or, chars, unwrap_or}
-use Rattle.std.proofs.lemmas.Option.{slice_get_past}
-use Rattle.std.specs.Prelude.{slice_get}
-use Rattle.rx_microdata.specs.Json.{string_of}
+use Rattle.rx_items.proofs.Common.{[], ◌∙◌, ap, sym, Some, on_ok_weaker, slice_get-get_or, slice_get_past, chars, unwrap_or, slice_get, string_of}
 use Rattle.rx_items.proofs.ReadingLemmas.{cut_at_start, found_time, no_time}
 use Rattle.rx_items.proofs.WritingLemmas.{data_told}
 use Rattle.rx_items.proofs.parts.write_own.Goals as goal

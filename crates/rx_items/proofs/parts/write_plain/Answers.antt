@@ -1,8 +1,5 @@
-use Rattle.rx_terms.proofs.Common.{◌≡◌, ◌∙◌, [], List, Option, Some, ap, sym, on_ok_weaker, unwrap_or, Chars, chars}
-use Rattle.std.specs.Prelude.{slice_get}
+use Rattle.rx_items.proofs.Common.{◌≡◌, ◌∙◌, [], List, Option, Some, ap, sym, on_ok_weaker, unwrap_or, slice_get, Chars, chars, said, string_of}
 use Rattle.rx_microdata.specs.Facts as facts
-use Rattle.rx_microdata.specs.Facts.{said}
-use Rattle.rx_microdata.specs.Json.{string_of}
 use Rattle.rx_items.proofs.ReadingLemmas.{empty_value}
 use Rattle.rx_items.proofs.WritingLemmas.{data_told}
 use Rattle.rx_items.proofs.parts.write_plain.Goals as goal

@@ -1,7 +1,5 @@
-use Rattle.rx_terms.proofs.Common.{◌∙◌, map, drop, chars}
-use Rattle.rx_json.specs.Events.{each_events}
+use Rattle.rx_items.proofs.Common.{◌∙◌, map, drop, chars, each_events, string_of}
 use Rattle.rx_json.proofs.GrowLemmas.{turn, ends_at, row_end}
-use Rattle.rx_microdata.specs.Json.{string_of}
 use Rattle.rx_items.proofs.WritingLemmas.{text_turn}
 use Rattle.rx_items.proofs.parts.write_texts.Goals as goal
 

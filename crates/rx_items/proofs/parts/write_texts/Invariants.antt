@@ -1,7 +1,4 @@
-use Rattle.std.proofs.Common.{drop, map}
-use Rattle.rx_json.specs.Events.{each_events}
-use Rattle.rx_json.proofs.GrowLemmas.{Left}
-use Rattle.rx_microdata.specs.Json.{string_of}
+use Rattle.rx_items.proofs.Common.{drop, map, each_events, Left, string_of}
 use Rattle.rx_items.proofs.parts.write_texts.Given as goal
 
 abbrev pub invariant-loop-text : goal.invariant-loop-text

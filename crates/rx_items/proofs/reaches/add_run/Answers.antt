@@ -1,5 +1,4 @@
-use Rattle.std.proofs.Common.{◌∙◌, ap}
-use Rattle.rx_items.specs.Properties.{in_runs}
+use Rattle.rx_items.proofs.Common.{◌∙◌, ap, in_runs}
 use Rattle.rx_items.proofs.ReachLemmas.{runs_more}
 use Rattle.rx_items.proofs.reaches.add_run.Goals as goal
 

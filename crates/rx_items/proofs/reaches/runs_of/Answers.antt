@@ -1,8 +1,6 @@
-use Rattle.rx_items.specs.Properties.{in_runs}
-use Rattle.rx_items.specs.Rows.{rows_of}
+use Rattle.rx_items.proofs.Common.{in_runs, rows_of, get_or_default}
 use Rattle.rx_items.proofs.ReachLemmas.{reach_begins, reach_turn, reach_ends, start_members}
 use Rattle.rx_items.proofs.reaches.runs_of.Goals as goal
-use Rattle.std.proofs.lemmas.List.{get_or_default}
 
 pub loop-start-init : goal.loop-start-init
 loop-start-init c words gathered times tree sorted up =

@@ -1,9 +1,4 @@
-use Rattle.rx_terms.proofs.Common.{ℕ, List, take, Contains, ◌↔◌, Chars}
-use Rattle.rx_grammar.proofs.Common.{Tree}
-use Rattle.rx_items.specs.Rows.{rows_of}
-use Rattle.rx_items.specs.Members.{Rises, Sorted}
-use Rattle.rx_items.specs.Properties.{in_runs}
-use Rattle.rx_items.specs.Starts.{RunsReach}
+use Rattle.rx_items.proofs.Common.{ℕ, List, take, Contains, ◌↔◌, Chars, Tree, rows_of, Rises, Sorted, in_runs, RunsReach}
 use Rattle.rx_items.proofs.reaches.runs_of.Given as goal
 
 abbrev pub invariant-loop-start : goal.invariant-loop-start

@@ -1,5 +1,4 @@
-use Rattle.rx_terms.proofs.Common.{rules, ◌∙◌, chars, IsUtf8, tokens}
-use Rattle.std.specs.Prelude.{filter_map}
+use Rattle.rx_terms.proofs.Common.{rules, ◌∙◌, chars, IsUtf8, tokens, filter_map}
 use Rattle.rx_items.proofs.ReferenceLemmas.{token_turn}
 use Rattle.rx_items.proofs.references.found_in.Goals as goal
 

@@ -1,9 +1,6 @@
-use Rattle.rx_terms.proofs.Common.{◌≡◌, ℕ, ◌++◌, Option, length, chars, Chars, tokens}
-use Rattle.std.specs.Prelude.{filter_map}
+use Rattle.rx_terms.proofs.Common.{◌≡◌, ℕ, ◌++◌, Option, length, chars, Chars, tokens, filter_map, Utf8, shadow}
 use Rattle.rx_items.specs.Ids.{Looks}
 use Rattle.rx_items.proofs.references.found_in.Given as goal
-use denote.Text.{Utf8}
-use denote.Shadow.{shadow}
 
 abbrev pub invariant-loop-token : goal.invariant-loop-token
 invariant-loop-token l = record {

@@ -1,5 +1,4 @@
-use Rattle.rx_terms.proofs.Common.{ℕ, Contains, ◌↔◌, Chars, tokens}
-use Rattle.std.specs.Prelude.{IfOk, filter_map}
+use Rattle.rx_terms.proofs.Common.{ℕ, Contains, ◌↔◌, Chars, tokens, IfOk, filter_map}
 use Rattle.rx_items.proofs.ReferenceLemmas.{of_word}
 use Rattle.rx_items.proofs.references.starts_of.Goals as goal
 

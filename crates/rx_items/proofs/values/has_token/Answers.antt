@@ -1,8 +1,5 @@
-use Rattle.rx_terms.proofs.Common.{◌≡◌, Bool, true, false, List, ℕ, length, take, drop, refl, sym, ap, is_ascii_whitespace, position_or_len, chars, IsUtf8, tokens}
-use Rattle.std.proofs.Common.{not, ◌==◌}
-use Rattle.std.specs.Str.{IsTrimAsciiStart}
+use Rattle.rx_items.proofs.Common.{◌≡◌, Bool, true, false, List, ℕ, length, take, drop, refl, sym, ap, not, ◌==◌, is_ascii_whitespace, position_or_len, chars, IsUtf8, IsTrimAsciiStart, tokens, is_any}
 use Rattle.rx_words.proofs.TokenLemmas.{no-tokens, first-token, tokens-first}
-use Rattle.rx_microdata.specs.Properties.{is_any}
 use Rattle.rx_items.proofs.values.has_token.Goals as goal
 
 something_left : (text left : List ℕ) (empty : Bool) → IsUtf8 text → IsUtf8 left → IsTrimAsciiStart text left → empty ≡ (length left == 0) → not empty ≡ is_any (tokens (chars text))

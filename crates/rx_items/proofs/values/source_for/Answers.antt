@@ -1,5 +1,4 @@
-use Rattle.std.proofs.Common.{◌∙◌, ap}
-use Rattle.rx_microdata.specs.Facts.{source_of}
+use Rattle.rx_items.proofs.Common.{◌∙◌, ap, source_of}
 use Rattle.rx_items.proofs.RuleLemmas.{source-chars}
 use Rattle.rx_items.proofs.values.source_for.Goals as goal
 

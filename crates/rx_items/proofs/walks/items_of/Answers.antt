@@ -1,10 +1,5 @@
-use Rattle.std.proofs.Common.{subst}
-use Rattle.std.specs.Prelude.{IfOk}
-use Rattle.rx_nest.specs.Signs.{signs_of}
+use Rattle.rx_items.proofs.Common.{subst, IfOk, signs_of, rows_of, HoldsRows, BaseIs}
 use Rattle.rx_base.specs.Seekings.{sought}
-use Rattle.rx_items.specs.Rows.{rows_of}
-use Rattle.rx_items.specs.Held.{HoldsRows}
-use Rattle.rx_items.specs.Collecting.{BaseIs}
 use Rattle.rx_items.specs.declared.collectors.Base.{Base}
 use Rattle.rx_items.proofs.Ending.{base_known, base_is, rows_shown}
 use Rattle.rx_items.proofs.walks.items_of.Goals as goal

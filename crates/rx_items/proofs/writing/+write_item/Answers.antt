@@ -1,13 +1,6 @@
-use Rattle.rx_terms.proofs.Common.{◌∙◌, [], ◌∷◌, ap, sym, None, on_ok_weaker}
+use Rattle.rx_items.proofs.Common.{◌∙◌, [], ◌∷◌, ap, sym, None, on_ok_weaker, data_events, one, both, told_as, object_made, turn, is_item, json_of_item, properties_in, is_there, keys_in, keys_seen, name_seen, ending, events_behind, value_at, grouped_at}
 use Rattle.serde.specs.Event as event
-use Rattle.rx_json.specs.Events.{data_events}
-use Rattle.rx_json.proofs.GrowLemmas.{one, both, told_as, object_made, turn}
-use Rattle.rx_microdata.specs.Elements.{is_item}
-use Rattle.rx_microdata.specs.Json.{json_of_item}
-use Rattle.rx_items.specs.Rows.{properties_in}
-use Rattle.rx_items.specs.Held.{is_there}
 use Rattle.rx_items.proofs.HoldLemmas.{all_stand}
-use Rattle.rx_items.specs.Named.{keys_in, keys_seen, name_seen, ending, events_behind, value_at, grouped_at}
 use Rattle.rx_items.proofs.NameLemmas.{by_name_told}
 use Rattle.rx_items.proofs.WritingLemmas.{item_told, member_turn, member_end, value_none, value_item, data_told}
 use Rattle.rx_items.proofs.writing.+write_item.Goals as goal

@@ -1,8 +1,4 @@
-use Rattle.rx_terms.proofs.Common.{◌+◌, ◌*◌, List, drop, None, Chars}
-use Rattle.rx_json.proofs.GrowLemmas.{Left}
-use Rattle.rx_microdata.specs.Elements.{Placed}
-use Rattle.rx_items.specs.Held.{HoldsRows}
-use Rattle.rx_items.specs.Named.{keys_seen, name_seen, events_behind}
+use Rattle.rx_items.proofs.Common.{◌+◌, ◌*◌, List, drop, None, Chars, Left, Placed, HoldsRows, keys_seen, name_seen, events_behind}
 use Rattle.rx_items.proofs.writing.+write_item.Given as goal
 
 abbrev pub decreases-write_item : goal.decreases-write_item

@@ -1,10 +1,6 @@
-use Rattle.std.proofs.Common.{◌≡◌, ◌∙◌, ◌∷◌, [], List, Bool, false, sym, ap, None, if◌then◌else◌}
-use Rattle.std.proofs.lemmas.Result.{on_ok_weaker}
-use Rattle.std.specs.Str.{bytes_eq}
+use Rattle.rx_items.proofs.Common.{◌≡◌, ◌∙◌, ◌∷◌, [], List, Bool, false, sym, ap, None, if◌then◌else◌, on_ok_weaker, bytes_eq, one, both, told_as, opening}
 use Rattle.serde.specs.Event as event
 use Rattle.serde.specs.Event.{Event}
-use Rattle.rx_json.proofs.GrowLemmas.{one, both, told_as}
-use Rattle.rx_items.specs.Named.{opening}
 use Rattle.rx_items.proofs.writing.next_values.Goals as goal
 
 pub returns : goal.returns

@@ -1,7 +1,4 @@
-use Rattle.std.proofs.Common.{[], filter, refl, arith}
-use Rattle.rx_microdata.specs.Elements.{is_top_level}
-use Rattle.rx_microdata.specs.Json.{json_by}
-use Rattle.rx_items.specs.Rows.{properties_in}
+use Rattle.rx_items.proofs.Common.{[], filter, refl, arith, is_top_level, json_by, properties_in}
 use Rattle.rx_items.proofs.DepthLemmas.{json_within}
 use Rattle.rx_items.proofs.ReadLemmas.{json_plain}
 use Rattle.rx_items.proofs.writing.value.Goals as goal

@@ -1,7 +1,4 @@
-use Rattle.rx_terms.proofs.Common.{filter, map, on_ok_weaker}
-use Rattle.rx_microdata.specs.Elements.{is_top_level}
-use Rattle.rx_microdata.specs.Json.{json_of_item}
-use Rattle.rx_items.specs.Rows.{properties_in}
+use Rattle.rx_items.proofs.Common.{filter, map, on_ok_weaker, is_top_level, json_of_item, properties_in}
 use Rattle.rx_items.proofs.WritingLemmas.{page_made}
 use Rattle.rx_items.proofs.writing.write_page.Goals as goal
 

@@ -1,12 +1,5 @@
-use Rattle.rx_terms.proofs.Common.{◌∙◌, [], ◌∷◌, ap, sym, on_ok_weaker}
+use Rattle.rx_items.proofs.Common.{◌∙◌, [], ◌∷◌, ap, sym, on_ok_weaker, data_events, one, told_as, is_item, said, string_of, is_there, value_at}
 use Rattle.serde.specs.Event as event
-use Rattle.rx_json.specs.Events.{data_events}
-use Rattle.rx_json.proofs.GrowLemmas.{one, told_as}
-use Rattle.rx_microdata.specs.Elements.{is_item}
-use Rattle.rx_microdata.specs.Facts.{said}
-use Rattle.rx_microdata.specs.Json.{string_of}
-use Rattle.rx_items.specs.Held.{is_there}
-use Rattle.rx_items.specs.Named.{value_at}
 use Rattle.rx_items.proofs.WritingLemmas.{value_none, value_plain, data_told}
 use Rattle.rx_items.proofs.writing.write_plain_at.Goals as goal
 

@@ -1,6 +1,4 @@
-use Rattle.rx_terms.proofs.Common.{◌∙◌, ap, sym, on_ok_weaker}
-use Rattle.rx_microdata.specs.Elements.{is_top_level}
-use Rattle.rx_items.specs.Held.{is_there}
+use Rattle.rx_items.proofs.Common.{◌∙◌, ap, sym, on_ok_weaker, is_top_level, is_there}
 use Rattle.rx_items.proofs.HoldLemmas.{is_element}
 use Rattle.rx_items.proofs.VisitLemmas.{no_element}
 use Rattle.rx_items.proofs.PageLemmas.{item_of_top}

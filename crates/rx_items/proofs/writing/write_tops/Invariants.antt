@@ -1,9 +1,4 @@
-use Rattle.rx_terms.proofs.Common.{List, take, Chars}
-use Rattle.std.specs.Prelude.{flat_map}
-use Rattle.rx_json.specs.Events.{Grows, each_events}
-use Rattle.rx_microdata.specs.Elements.{Placed}
-use Rattle.rx_items.specs.Held.{HoldsRows}
-use Rattle.rx_items.specs.Pages.{top_data}
+use Rattle.rx_items.proofs.Common.{List, take, Chars, flat_map, Grows, each_events, Placed, HoldsRows, top_data}
 use Rattle.rx_items.proofs.writing.write_tops.Given as goal
 
 abbrev pub invariant-loop-place : goal.invariant-loop-place

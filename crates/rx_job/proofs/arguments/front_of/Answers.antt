@@ -1,5 +1,4 @@
-use Rattle.std.proofs.Common.{◌∙◌, sym, ap}
-use Rattle.std.specs.Prelude.{option_map}
+use Rattle.rx_terms.proofs.Common.{◌∙◌, sym, ap, option_map}
 use Rattle.rx_job.specs.Jobs.{options_seen}
 use Rattle.rx_job.proofs.WordLemmas.{reads_all, puts, puts_none, all_read, all_behind}
 use Rattle.rx_job.proofs.arguments.front_of.Goals as goal

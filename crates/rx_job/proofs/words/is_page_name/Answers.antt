@@ -1,5 +1,4 @@
-use Rattle.std.proofs.Common.{◌≡◌, ◌∙◌, ℕ, List, [], ◌∷◌, Some, None, false, not, ◌==◌, refl, ap, slice_get}
-use Rattle.std.specs.Str.{chars}
+use Rattle.rx_terms.proofs.Common.{◌≡◌, ◌∙◌, ℕ, List, [], ◌∷◌, Some, None, false, not, ◌==◌, refl, ap, slice_get, chars}
 use Rattle.rx_job.specs.Words.{is_page_name}
 use Rattle.rx_job.proofs.words.is_page_name.Goals as goal
 

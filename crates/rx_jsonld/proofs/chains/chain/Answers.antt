@@ -1,6 +1,4 @@
-use Rattle.rx_terms.proofs.Common.{◌∙◌, ◌++◌, ◌-◌, ap, sym, arith, length, map, option_map, length-map, map-append}
-use Rattle.rx_model.proofs.Common.{triple_seen, triples_seen}
-use Rattle.rx_jsonld.specs.Lists.{chain, numbers_from}
+use Rattle.rx_jsonld.proofs.Common.{◌∙◌, ◌++◌, ◌-◌, ap, sym, arith, length, map, option_map, length-map, map-append, triple_seen, triples_seen, chain, numbers_from}
 use Rattle.rx_jsonld.proofs.PlaceLemmas.{chain_turn, number_of}
 use Rattle.rx_jsonld.proofs.chains.chain.Goals as goal
 

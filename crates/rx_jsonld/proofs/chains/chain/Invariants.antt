@@ -1,6 +1,4 @@
-use Rattle.std.proofs.Common.{◌≡◌, ◌++◌, ◌-◌, length, map, option_map}
-use Rattle.rx_model.specs.Seen.{triples_seen}
-use Rattle.rx_jsonld.specs.Lists.{chain, numbers_from}
+use Rattle.rx_jsonld.proofs.Common.{◌≡◌, ◌++◌, ◌-◌, length, map, option_map, triples_seen, chain, numbers_from}
 use Rattle.rx_jsonld.proofs.chains.chain.Given as goal
 
 abbrev pub invariant-loop : goal.invariant-loop

@@ -1,6 +1,5 @@
-use Rattle.std.proofs.Common.{◌∙◌}
+use Rattle.rx_jsonld.proofs.Common.{◌∙◌, triples_seen}
 use Rattle.rx_model.specs.Terms as model
-use Rattle.rx_model.specs.Seen.{triples_seen}
 use Rattle.rx_shapes.specs.Cells.{predicate_of}
 use Rattle.rx_shapes.proofs.PlaceLemmas.{object_found}
 use Rattle.rx_jsonld.proofs.chains.object_at.Goals as goal

@@ -1,7 +1,5 @@
-use Rattle.rx_terms.proofs.Common.{◌∙◌, on_ok_weaker}
-use Rattle.rx_model.proofs.Common.{triple_seen, triples_seen}
+use Rattle.rx_jsonld.proofs.Common.{◌∙◌, on_ok_weaker, triple_seen, triples_seen, grouped}
 use Rattle.rx_shapes.proofs.IndexLemmas.{seen_at}
-use Rattle.rx_jsonld.specs.Groups.{grouped}
 use Rattle.rx_jsonld.proofs.GroupLemmas.{found_under}
 use Rattle.rx_jsonld.proofs.groups.add_place.Goals as goal
 

@@ -1,8 +1,4 @@
-use Rattle.std.proofs.Common.{◌≡◌, ℕ, drop}
-use Rattle.rx_model.specs.Seen.{triples_seen}
-use Rattle.rx_shapes.specs.declared.shapes.Shape.{Shape}
-use Rattle.rx_jsonld.specs.Groups.{grouped}
-use Rattle.rx_jsonld.specs.Places.{with_places}
+use Rattle.rx_jsonld.proofs.Common.{◌≡◌, ℕ, drop, triples_seen, Shape, grouped, with_places}
 use Rattle.rx_jsonld.proofs.groups.add_places.Given as goal
 
 abbrev pub invariant-loop-place : goal.invariant-loop-place

@@ -1,8 +1,5 @@
 use denote.Ref.{Bor}
-use Rattle.std.proofs.Common.{◌≡◌, ◌∙◌, ℕ, List, Vec, Global, BTreeMap, ap, sym}
-use Rattle.std.proofs.lemmas.Result.{on_ok_weaker}
-use Rattle.rx_jsonld.specs.Groups.{grouped, places_under, value_at}
-use Rattle.rx_jsonld.specs.Members.{with_last}
+use Rattle.rx_jsonld.proofs.Common.{◌≡◌, ◌∙◌, ℕ, List, Vec, Global, BTreeMap, ap, sym, on_ok_weaker, grouped, places_under, value_at, with_last}
 use Rattle.rx_jsonld.proofs.GroupLemmas.{put_behind}
 use Rattle.rx_jsonld.proofs.groups.put_place.Goals as goal
 

@@ -1,5 +1,4 @@
-use Rattle.std.proofs.Common.{◌∙◌, ℕ, List, [], ◌∷◌, ◌++◌, ap}
-use Rattle.rx_jsonld.specs.Groups.{grouped}
+use Rattle.rx_jsonld.proofs.Common.{◌∙◌, ℕ, List, [], ◌∷◌, ◌++◌, ap, grouped}
 use Rattle.rx_jsonld.proofs.GroupLemmas.{put_first}
 use Rattle.rx_jsonld.proofs.groups.start_group.Goals as goal
 

@@ -1,5 +1,4 @@
-use Rattle.std.proofs.Common.{◌≡◌, drop, map}
-use Rattle.rx_jsonld.specs.Places.{nodes_added}
+use Rattle.rx_jsonld.proofs.Common.{◌≡◌, drop, map, nodes_added}
 use Rattle.rx_jsonld.proofs.listed.add_all.Given as goal
 
 abbrev pub invariant-loop-cell : goal.invariant-loop-cell

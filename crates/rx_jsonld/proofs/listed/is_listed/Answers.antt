@@ -1,6 +1,4 @@
-use Rattle.rx_terms.proofs.Common.{◌∙◌, ap, nat_eq}
-use Rattle.rx_model.proofs.Common.{contains, same_node, node_seen, triples_seen}
-use Rattle.rx_shapes.specs.Table.{shape_in}
+use Rattle.rx_jsonld.proofs.Common.{◌∙◌, ap, nat_eq, contains, same_node, node_seen, triples_seen, shape_in}
 use Rattle.rx_jsonld.proofs.PlaceLemmas.{listed_found}
 use Rattle.rx_jsonld.proofs.listed.is_listed.Goals as goal
 

@@ -1,9 +1,5 @@
-use Rattle.rx_terms.proofs.Common.{◌∙◌, ℕ, List, ap, map, on_ok_weaker}
+use Rattle.rx_jsonld.proofs.Common.{◌∙◌, ℕ, List, ap, map, on_ok_weaker, triples_seen, data_events, told_as, item_value, list_value}
 use Rattle.rx_terms.specs.declared.triples.Blank.{Blank}
-use Rattle.rx_model.proofs.Common.{triples_seen}
-use Rattle.rx_json.specs.Events.{data_events}
-use Rattle.rx_json.proofs.GrowLemmas.{told_as}
-use Rattle.rx_jsonld.specs.Value.{item_value, list_value}
 use Rattle.rx_jsonld.proofs.said.write_chain.Goals as goal
 
 pub returns : goal.returns

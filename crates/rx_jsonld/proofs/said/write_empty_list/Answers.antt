@@ -1,5 +1,4 @@
-use Rattle.std.proofs.lemmas.Result.{on_ok_weaker}
-use Rattle.rx_json.proofs.GrowLemmas.{both}
+use Rattle.rx_jsonld.proofs.Common.{on_ok_weaker, both}
 use Rattle.rx_jsonld.proofs.said.write_empty_list.Goals as goal
 
 pub returns : goal.returns

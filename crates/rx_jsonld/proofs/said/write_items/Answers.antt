@@ -1,8 +1,5 @@
-use Rattle.std.proofs.Common.{drop, map}
-use Rattle.rx_model.specs.Seen.{triples_seen}
-use Rattle.rx_json.specs.Events.{each_events}
+use Rattle.rx_jsonld.proofs.Common.{drop, map, triples_seen, each_events, item_value}
 use Rattle.rx_json.proofs.GrowLemmas.{turn, ends_at}
-use Rattle.rx_jsonld.specs.Value.{item_value}
 use Rattle.rx_jsonld.proofs.EventLemmas.{cells_turn, cells_end}
 use Rattle.rx_jsonld.proofs.said.write_items.Goals as goal
 

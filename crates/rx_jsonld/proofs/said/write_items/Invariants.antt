@@ -1,8 +1,4 @@
-use Rattle.std.proofs.Common.{drop, map}
-use Rattle.rx_model.specs.Seen.{triples_seen}
-use Rattle.rx_json.specs.Events.{each_events}
-use Rattle.rx_json.proofs.GrowLemmas.{Left}
-use Rattle.rx_jsonld.specs.Value.{item_value}
+use Rattle.rx_jsonld.proofs.Common.{drop, map, triples_seen, each_events, Left, item_value}
 use Rattle.rx_jsonld.proofs.said.write_items.Given as goal
 
 abbrev pub invariant-loop-cell : goal.invariant-loop-cell

@@ -1,6 +1,4 @@
-use Rattle.rx_terms.proofs.Common.{map, on_ok_weaker}
-use Rattle.rx_model.proofs.Common.{triples_seen}
-use Rattle.rx_jsonld.specs.Value.{item_value}
+use Rattle.rx_jsonld.proofs.Common.{map, on_ok_weaker, triples_seen, item_value}
 use Rattle.rx_jsonld.proofs.EventLemmas.{list_made}
 use Rattle.rx_jsonld.proofs.said.write_list.Goals as goal
 

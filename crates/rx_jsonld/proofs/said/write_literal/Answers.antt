@@ -1,7 +1,4 @@
-use Rattle.rx_terms.proofs.Common.{refl, on_ok_weaker}
-use Rattle.rx_model.specs.Seen.{kind_seen}
-use Rattle.rx_json.proofs.GrowLemmas.{object_made}
-use Rattle.rx_jsonld.specs.Value.{literal_members}
+use Rattle.rx_jsonld.proofs.Common.{refl, on_ok_weaker, kind_seen, object_made, literal_members}
 use Rattle.rx_jsonld.proofs.said.write_literal.Goals as goal
 
 pub returns : goal.returns

@@ -1,11 +1,6 @@
-use Rattle.rx_terms.proofs.Common.{◌∷◌, codes, refl, on_ok_weaker}
+use Rattle.rx_jsonld.proofs.Common.{◌∷◌, codes, refl, on_ok_weaker, AsIs, member, no_members, data_events, one, both, object_made, id_text, string_of}
 use Rattle.serde.specs.Event as event
-use Rattle.serde.specs.declared.name.Case.TheVariants.{AsIs}
-use Rattle.serde_json.specs.Data.{member, no_members}
 use Rattle.rx_graph.specs.Resources.{resource_seen}
-use Rattle.rx_json.specs.Events.{data_events}
-use Rattle.rx_json.proofs.GrowLemmas.{one, both, object_made}
-use Rattle.rx_jsonld.specs.Value.{id_text, string_of}
 use Rattle.rx_jsonld.proofs.said.write_reference.Goals as goal
 
 pub returns : goal.returns

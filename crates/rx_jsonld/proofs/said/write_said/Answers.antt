@@ -1,8 +1,4 @@
-use Rattle.rx_terms.proofs.Common.{ap, on_ok_weaker}
-use Rattle.rx_model.proofs.Common.{triple_seen, triples_seen}
-use Rattle.rx_shapes.specs.Table.{shape_in}
-use Rattle.rx_json.specs.Events.{data_events}
-use Rattle.rx_json.proofs.GrowLemmas.{told_as}
+use Rattle.rx_jsonld.proofs.Common.{ap, on_ok_weaker, triple_seen, triples_seen, shape_in, data_events, told_as}
 use Rattle.rx_jsonld.proofs.EventLemmas.{object_told}
 use Rattle.rx_jsonld.proofs.said.write_said.Goals as goal
 

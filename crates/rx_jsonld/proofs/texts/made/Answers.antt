@@ -1,7 +1,4 @@
-use Rattle.std.proofs.Common.{[], refl, arith}
-use Rattle.rx_model.specs.Seen.{triples_seen}
-use Rattle.rx_shapes.specs.Table.{shape_in}
-use Rattle.rx_jsonld.specs.Value.{jsonld}
+use Rattle.rx_jsonld.proofs.Common.{[], refl, arith, triples_seen, shape_in, jsonld}
 use Rattle.rx_jsonld.proofs.Flat.{value_flat}
 use Rattle.rx_jsonld.proofs.PlainLemmas.{value_plain}
 use Rattle.rx_jsonld.proofs.texts.made.Goals as goal

@@ -1,10 +1,5 @@
-use Rattle.rx_terms.proofs.Common.{IfOk-weaker, ◌∙◌, ap, map, subst, sym}
-use Rattle.serde_json.specs.Data.{Data}
+use Rattle.rx_jsonld.proofs.Common.{IfOk-weaker, ◌∙◌, ap, map, subst, sym, Data, triples_seen, shape_in, proper_triple, JsonLd}
 use Rattle.serde_json.specs.Written.{has_float}
-use Rattle.rx_model.proofs.Common.{triples_seen}
-use Rattle.rx_shapes.specs.Table.{shape_in}
-use Rattle.rx_nquads.specs.Quads.{proper_triple}
-use Rattle.rx_jsonld.specs.Meaning.{JsonLd}
 use Rattle.rx_jsonld.proofs.Denotes.{value_denotes}
 use Rattle.rx_jsonld.proofs.Flat.{values_are_flat}
 use Rattle.rx_jsonld.proofs.texts.value.Goals as goal

@@ -1,8 +1,4 @@
-use Rattle.std.proofs.Common.{refl, take}
-use Rattle.rx_model.specs.Seen.{node_seen, triples_seen}
-use Rattle.rx_shapes.specs.Table.{shape_in}
-use Rattle.rx_json.proofs.GrowLemmas.{each_turn}
-use Rattle.rx_jsonld.specs.Places.{node_at}
+use Rattle.rx_jsonld.proofs.Common.{refl, take, node_seen, triples_seen, shape_in, each_turn, node_at}
 use Rattle.rx_jsonld.proofs.PlaceLemmas.{nodes_until, node_turn}
 use Rattle.rx_jsonld.proofs.texts.write_each.Goals as goal
 

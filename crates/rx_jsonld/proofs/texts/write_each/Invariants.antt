@@ -1,8 +1,4 @@
-use Rattle.std.proofs.Common.{take}
-use Rattle.rx_model.specs.Seen.{triples_seen}
-use Rattle.rx_shapes.specs.Table.{shape_in}
-use Rattle.rx_pieces.specs.Writable.{IsWritable}
-use Rattle.rx_json.specs.Events.{Grows, each_events}
+use Rattle.rx_jsonld.proofs.Common.{take, triples_seen, shape_in, IsWritable, Grows, each_events}
 use Rattle.rx_jsonld.proofs.PlaceLemmas.{nodes_until}
 use Rattle.rx_jsonld.proofs.texts.write_each.Given as goal
 

@@ -1,10 +1,4 @@
-use Rattle.std.proofs.Common.{◌∙◌, ℕ, List, ap, sym, not, ◌&&◌}
-use Rattle.std.proofs.lemmas.Result.{on_ok_weaker}
-use Rattle.rx_model.specs.Seen.{node_seen, triples_seen}
-use Rattle.rx_shapes.specs.Table.{shape_in}
-use Rattle.rx_json.proofs.GrowLemmas.{told_as}
-use Rattle.rx_jsonld.specs.Lists.{is_listed}
-use Rattle.rx_jsonld.specs.Places.{starts}
+use Rattle.rx_jsonld.proofs.Common.{◌∙◌, ℕ, List, ap, sym, not, ◌&&◌, on_ok_weaker, node_seen, triples_seen, shape_in, told_as, is_listed, starts}
 use Rattle.rx_jsonld.proofs.EventLemmas.{node_told}
 use Rattle.rx_jsonld.proofs.texts.write_first.Goals as goal
 

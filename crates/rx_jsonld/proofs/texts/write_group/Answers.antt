@@ -1,8 +1,4 @@
-use Rattle.std.proofs.lemmas.Result.{on_ok_weaker}
-use Rattle.rx_model.specs.Seen.{triples_seen}
-use Rattle.rx_shapes.specs.Table.{shape_in}
-use Rattle.rx_json.proofs.GrowLemmas.{group_made}
-use Rattle.rx_jsonld.specs.Groups.{values_at}
+use Rattle.rx_jsonld.proofs.Common.{on_ok_weaker, triples_seen, shape_in, group_made, values_at}
 use Rattle.rx_jsonld.proofs.texts.write_group.Goals as goal
 
 pub returns : goal.returns

@@ -1,11 +1,6 @@
-use Rattle.std.proofs.Common.{◌≡◌, ◌++◌, [], ◌∷◌, rules}
+use Rattle.rx_jsonld.proofs.Common.{◌≡◌, ◌++◌, [], ◌∷◌, rules, AsIs, triples_seen, shape_in, data_events, members_events, array_at, grouped}
 use Rattle.serde.specs.Event as event
-use Rattle.serde.specs.declared.name.Case.TheVariants.{AsIs}
-use Rattle.rx_model.specs.Seen.{triples_seen}
-use Rattle.rx_shapes.specs.Table.{shape_in}
-use Rattle.rx_json.specs.Events.{data_events, members_events}
 use Rattle.rx_json.proofs.GrowLemmas.{turn, ends_at}
-use Rattle.rx_jsonld.specs.Groups.{array_at, grouped}
 use Rattle.rx_jsonld.proofs.texts.write_groups.Goals as goal
 
 pub loop-key-preserved : goal.loop-key-preserved

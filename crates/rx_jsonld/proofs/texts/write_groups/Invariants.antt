@@ -1,8 +1,4 @@
-use Rattle.rx_model.specs.Seen.{triples_seen}
-use Rattle.rx_shapes.specs.Table.{shape_in}
-use Rattle.rx_json.specs.Events.{members_events}
-use Rattle.rx_json.proofs.GrowLemmas.{Left}
-use Rattle.rx_jsonld.specs.Groups.{grouped}
+use Rattle.rx_jsonld.proofs.Common.{triples_seen, shape_in, members_events, Left, grouped}
 use Rattle.rx_jsonld.proofs.texts.write_groups.Given as goal
 
 abbrev pub invariant-loop-key : goal.invariant-loop-key

@@ -1,10 +1,4 @@
-use Rattle.rx_terms.proofs.Common.{◌∙◌, ap, codes, on_ok_weaker}
-use Rattle.serde_json.specs.Data.{Members, object, member, no_members}
-use Rattle.rx_model.proofs.Common.{node_seen, triples_seen}
-use Rattle.rx_shapes.specs.Table.{shape_in}
-use Rattle.rx_json.specs.Events.{data_events}
-use Rattle.rx_json.proofs.GrowLemmas.{told_as}
-use Rattle.rx_jsonld.specs.Value.{id_text, string_of}
+use Rattle.rx_jsonld.proofs.Common.{◌∙◌, ap, codes, on_ok_weaker, Members, object, member, no_members, node_seen, triples_seen, shape_in, data_events, told_as, id_text, string_of}
 use Rattle.rx_jsonld.proofs.GroupLemmas.{node_made}
 use Rattle.rx_jsonld.proofs.PlaceLemmas.{said_found}
 use Rattle.rx_jsonld.proofs.texts.write_node.Goals as goal

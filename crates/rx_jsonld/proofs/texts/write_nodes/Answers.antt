@@ -1,8 +1,4 @@
-use Rattle.rx_terms.proofs.Common.{map, on_ok_weaker}
-use Rattle.rx_model.proofs.Common.{triples_seen}
-use Rattle.rx_shapes.specs.Table.{shape_in}
-use Rattle.rx_json.proofs.GrowLemmas.{array_made}
-use Rattle.rx_jsonld.specs.Value.{node_value, tops}
+use Rattle.rx_jsonld.proofs.Common.{map, on_ok_weaker, triples_seen, shape_in, array_made, node_value, tops}
 use Rattle.rx_jsonld.proofs.texts.write_nodes.Goals as goal
 
 pub returns : goal.returns

@@ -1,13 +1,5 @@
-use Rattle.rx_terms.proofs.Common.{◌∷◌, ◌++◌, ℕ, codes, refl, ap, on_ok_weaker}
+use Rattle.rx_jsonld.proofs.Common.{◌∷◌, ◌++◌, ℕ, codes, refl, ap, on_ok_weaker, AsIs, member, node_seen, triples_seen, Node, shape_in, data_events, members_events, one, both, told_as, object_made, grouped, id_text, string_of}
 use Rattle.serde.specs.Event as event
-use Rattle.serde.specs.declared.name.Case.TheVariants.{AsIs}
-use Rattle.serde_json.specs.Data.{member}
-use Rattle.rx_model.proofs.Common.{node_seen, triples_seen, Node}
-use Rattle.rx_shapes.specs.Table.{shape_in}
-use Rattle.rx_json.specs.Events.{data_events, members_events}
-use Rattle.rx_json.proofs.GrowLemmas.{one, both, told_as, object_made}
-use Rattle.rx_jsonld.specs.Groups.{grouped}
-use Rattle.rx_jsonld.specs.Value.{id_text, string_of}
 use Rattle.rx_jsonld.proofs.texts.write_object.Goals as goal
 
 pub returns : goal.returns

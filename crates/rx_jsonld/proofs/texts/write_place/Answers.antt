@@ -1,10 +1,5 @@
-use Rattle.rx_terms.proofs.Common.{Option, ap, sym, on_ok_weaker, ℕ}
-use Rattle.rx_model.proofs.Common.{triples_seen, Triple}
-use Rattle.rx_shapes.specs.Table.{shape_in}
+use Rattle.rx_jsonld.proofs.Common.{Option, ap, sym, ℕ, on_ok_weaker, triples_seen, Triple, shape_in, data_events, told_as, value_if}
 use Rattle.rx_shapes.proofs.IndexLemmas.{seen_at}
-use Rattle.rx_json.specs.Events.{data_events}
-use Rattle.rx_json.proofs.GrowLemmas.{told_as}
-use Rattle.rx_jsonld.specs.Groups.{value_if}
 use Rattle.rx_jsonld.proofs.texts.write_place.Goals as goal
 
 pub returns : goal.returns

@@ -1,9 +1,5 @@
-use Rattle.std.proofs.Common.{drop}
-use Rattle.rx_model.specs.Seen.{triples_seen}
-use Rattle.rx_shapes.specs.Table.{shape_in}
-use Rattle.rx_json.specs.Events.{each_events}
+use Rattle.rx_jsonld.proofs.Common.{drop, triples_seen, shape_in, each_events, value_at, values_at}
 use Rattle.rx_json.proofs.GrowLemmas.{turn, ends_at, row_turn, row_end}
-use Rattle.rx_jsonld.specs.Groups.{value_at, values_at}
 use Rattle.rx_jsonld.proofs.texts.write_places.Goals as goal
 
 pub loop-place-preserved : goal.loop-place-preserved

@@ -1,9 +1,4 @@
-use Rattle.std.proofs.Common.{drop}
-use Rattle.rx_model.specs.Seen.{triples_seen}
-use Rattle.rx_shapes.specs.Table.{shape_in}
-use Rattle.rx_json.specs.Events.{each_events}
-use Rattle.rx_json.proofs.GrowLemmas.{Left}
-use Rattle.rx_jsonld.specs.Groups.{values_at}
+use Rattle.rx_jsonld.proofs.Common.{drop, triples_seen, shape_in, each_events, Left, values_at}
 use Rattle.rx_jsonld.proofs.texts.write_places.Given as goal
 
 abbrev pub invariant-loop-place : goal.invariant-loop-place

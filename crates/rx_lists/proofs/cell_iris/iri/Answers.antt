@@ -1,5 +1,4 @@
-use Rattle.rx_terms.proofs.Common.{◌≡◌, ◌∙◌, subst, sym, ap, string_bytes, chars, IsIri, ascii-chars}
-use Rattle.rx_terms.proofs.OkLemmas.{ok_is}
+use Rattle.rx_terms.proofs.Common.{◌≡◌, ◌∙◌, subst, sym, ap, string_bytes, chars, IsIri, ascii-chars, ok_is}
 use Rattle.rx_lists.proofs.cell_iris.iri.Goals as goal
 use Rattle.rx_lists.proofs.cell_iris.iri.Goals.{In_ok-text}
 

@@ -1,5 +1,4 @@
-use Rattle.std.proofs.Common.{◌+◌, ◌++◌, length, map, filter_map, drop}
-use Rattle.rx_model.specs.Seen.{node_seen, term_seen, triples_seen}
+use Rattle.rx_model.proofs.Common.{◌+◌, ◌++◌, length, map, filter_map, drop, node_seen, term_seen, triples_seen}
 use Rattle.rx_lists.specs.Owners.{itself}
 use Rattle.rx_lists.specs.Cells.{linked}
 use Rattle.rx_lists.proofs.CellLemmas.{Left}

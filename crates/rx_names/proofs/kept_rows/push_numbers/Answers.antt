@@ -1,5 +1,4 @@
-use Rattle.std.proofs.Common.{◌≡◌, ap, sym, ◌∙◌, take, map, rules}
-use Rattle.std.proofs.lemmas.List.{take_at}
+use Rattle.rx_terms.proofs.Common.{◌≡◌, ap, sym, ◌∙◌, take, map, rules, take_at}
 use Rattle.rx_names.specs.Numbers.{row_number}
 use Rattle.rx_names.proofs.kept_rows.push_numbers.Goals as goal
 

@@ -1,5 +1,4 @@
-use Rattle.std.proofs.Common.{◌∙◌, refl}
-use Rattle.std.specs.Prelude.{codes, [], ◌∷◌}
+use Rattle.rx_terms.proofs.Common.{◌∙◌, refl, codes, [], ◌∷◌}
 use Rattle.rx_nest.proofs.NameLemmas.{among-chars}
 use Rattle.rx_nest.proofs.element_names.drops.Goals as goal
 

@@ -1,6 +1,5 @@
-use Rattle.std.proofs.Common.{◌∙◌, refl}
+use Rattle.rx_grammar.proofs.Common.{◌∙◌, refl, html_in_svg}
 use Rattle.rx_nest.proofs.NameLemmas.{among-chars}
-use Rattle.rx_grammar.specs.Contents.{html_in_svg}
 use Rattle.rx_nest.proofs.element_names.holds_html_in_svg.Goals as goal
 
 pub returns : goal.returns

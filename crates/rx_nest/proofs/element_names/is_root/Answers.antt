@@ -1,5 +1,4 @@
-use Rattle.rx_terms.proofs.Common.{◌∙◌, refl, same-ascii}
-use Rattle.std.specs.Prelude.{codes}
+use Rattle.rx_terms.proofs.Common.{◌∙◌, refl, same-ascii, codes}
 use Rattle.rx_nest.proofs.element_names.is_root.Goals as goal
 
 pub returns : goal.returns

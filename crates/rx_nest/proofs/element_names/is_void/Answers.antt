@@ -1,6 +1,5 @@
-use Rattle.std.proofs.Common.{◌∙◌, refl}
+use Rattle.rx_grammar.proofs.Common.{◌∙◌, refl, void_names}
 use Rattle.rx_nest.proofs.NameLemmas.{among-chars}
-use Rattle.rx_grammar.specs.Names.{void_names}
 use Rattle.rx_nest.proofs.element_names.is_void.Goals as goal
 
 pub returns : goal.returns

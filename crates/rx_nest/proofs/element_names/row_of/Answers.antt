@@ -1,6 +1,5 @@
-use Rattle.std.proofs.Common.{◌∙◌, refl}
+use Rattle.rx_grammar.proofs.Common.{◌∙◌, refl, omissible_rows}
 use Rattle.rx_nest.proofs.NameLemmas.{row-chars}
-use Rattle.rx_grammar.specs.Names.{omissible_rows}
 use Rattle.rx_nest.proofs.element_names.row_of.Goals as goal
 
 pub returns : goal.returns

@@ -1,5 +1,4 @@
-use Rattle.std.proofs.Common.{codes, refl, option_map}
-use Rattle.rx_model.specs.Seen.{triple_seen}
+use Rattle.rx_model.proofs.Common.{codes, refl, option_map, triple_seen}
 use Rattle.rx_pieces.proofs.Adding.{adds_then, adds_by, literal}
 use Rattle.rx_nquads.proofs.Adding.{line_spaced}
 use Rattle.rx_nquads.proofs.writing.push_line.Goals as goal

@@ -1,5 +1,4 @@
-use Rattle.std.proofs.Common.{ap, encode_utf8_all}
-use Rattle.rx_shapes.specs.Table.{shape_in}
+use Rattle.rx_jsonld.proofs.Common.{ap, encode_utf8_all, shape_in}
 use Rattle.rx_notation.specs.Nesting.{nested}
 use Rattle.rx_page.proofs.outcomes.nested_of.Goals as goal
 

@@ -1,8 +1,5 @@
-use Rattle.rx_terms.proofs.Common.{refl, subst, chars, Chars}
-use Rattle.std.specs.Prelude.{Option}
-use Rattle.rx_model.proofs.Common.{triples_seen}
+use Rattle.rx_jsonld.proofs.Common.{refl, subst, chars, Chars, Option, triples_seen, quads}
 use Rattle.rx_nquads.specs.Document.{Nquads}
-use Rattle.rx_nquads.specs.Quads.{quads}
 use Rattle.rx_page.specs.declared.forms.Form.TheVariants as forms
 use Rattle.rx_page.proofs.ProperLemmas.{quads_denote}
 use Rattle.rx_page.proofs.texts.nquads_of.Goals as goal

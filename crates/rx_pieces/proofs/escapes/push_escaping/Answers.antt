@@ -1,5 +1,4 @@
-use Rattle.rx_terms.proofs.Common.{◌≡◌, ◌∙◌, ap, chars, chars_past_char, IsUtf8-past_char, chars-end}
-use Rattle.std.specs.Str.Iter.{chars_rest}
+use Rattle.rx_terms.proofs.Common.{◌≡◌, ◌∙◌, ap, chars, chars_past_char, IsUtf8-past_char, chars-end, chars_rest}
 use Rattle.rx_pieces.specs.Underway.{delivery}
 use Rattle.rx_pieces.proofs.Adding.{left_start, left_less, left_none}
 use Rattle.rx_pieces.proofs.escapes.push_escaping.Goals as goal

@@ -1,5 +1,4 @@
-use Rattle.std.specs.Str.{chars, IsUtf8}
-use Rattle.std.specs.Str.Iter.{chars_rest}
+use Rattle.rx_terms.proofs.Common.{chars, IsUtf8, chars_rest}
 use Rattle.rx_pieces.specs.Underway.{delivery}
 use Rattle.rx_pieces.proofs.Adding.{Left}
 use Rattle.rx_pieces.proofs.escapes.push_escaping.Given as goal

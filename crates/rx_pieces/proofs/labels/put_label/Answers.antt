@@ -1,6 +1,4 @@
-use Rattle.std.proofs.Common.{◌≤◌, ℕ, ◌^◌, ◌<◌, length, rules, arith}
-use Rattle.std.specs.Fmt.{decimal}
-use Rattle.std.proofs.lemmas.Fmt.{length-decimal-le}
+use Rattle.rx_terms.proofs.Common.{◌≤◌, ℕ, ◌^◌, ◌<◌, length, rules, arith, decimal, length-decimal-le}
 use Rattle.rx_pieces.proofs.Adding.{labelled}
 use Rattle.rx_pieces.proofs.labels.put_label.Goals as goal
 

@@ -1,5 +1,4 @@
-use Rattle.std.proofs.Common.{◌≡◌, take}
-use Rattle.rx_model.specs.Seen.{triples_seen}
+use Rattle.rx_model.proofs.Common.{◌≡◌, take, triples_seen}
 use Rattle.rx_quads.specs.Raised.{past}
 use Rattle.rx_quads.proofs.counting.count_nodes.Given as goal
 

@@ -1,5 +1,4 @@
-use Rattle.std.proofs.Common.{◌∙◌}
-use Rattle.rx_model.specs.Seen.{triples_seen}
+use Rattle.rx_model.proofs.Common.{◌∙◌, triples_seen}
 use Rattle.rx_quads.proofs.RaisedLemmas.{raised_zero, raised_by, raised_ok}
 use Rattle.rx_quads.proofs.raising.raised.Goals as goal
 

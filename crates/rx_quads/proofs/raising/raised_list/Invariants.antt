@@ -1,5 +1,4 @@
-use Rattle.rx_terms.proofs.Common.{◌≡◌, ◌+◌, take, map}
-use Rattle.rx_model.proofs.Common.{rename, triples_seen}
+use Rattle.rx_model.proofs.Common.{◌≡◌, ◌+◌, take, map, rename, triples_seen}
 use Rattle.rx_quads.proofs.raising.raised_list.Given as goal
 
 abbrev pub invariant-loop-i : goal.invariant-loop-i

@@ -1,5 +1,4 @@
-use Rattle.rx_terms.proofs.Common.{◌≡◌, ◌∙◌, refl, ap, sym, true, false, bytes_eq, same-ascii}
-use Rattle.rx_terms.specs.Literal.{xsd_string}
+use Rattle.rx_terms.proofs.Common.{◌≡◌, ◌∙◌, refl, ap, sym, true, false, bytes_eq, same-ascii, xsd_string}
 use Rattle.rx_quads.proofs.terms.bytes_of_datatype.Goals as goal
 
 pub returns-then-eq : goal.returns-then-eq

@@ -1,5 +1,4 @@
-use Rattle.rx_terms.proofs.Common.{◌≡◌, ◌++◌, string_bytes, chars, IsUtf8}
-use Rattle.std.specs.Str.Iter.{chars_rest}
+use Rattle.rx_terms.proofs.Common.{◌≡◌, ◌++◌, string_bytes, chars, IsUtf8, chars_rest}
 use Rattle.rx_refs.specs.Resolve.{cleaned}
 use Rattle.rx_refs.specs.Views.{Keeps}
 use Rattle.rx_refs.proofs.escapes.push_escaping.Given as goal

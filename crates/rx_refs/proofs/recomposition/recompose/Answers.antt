@@ -1,5 +1,4 @@
-use Rattle.rx_terms.proofs.Common.{◌≡◌, ◌∙◌, ◌++◌, [], ap, refl, Option, string_bytes, chars, chars-nil, Chars, seen_slice, ascii-chars}
-use Rattle.std.specs.Prelude.{codes}
+use Rattle.rx_terms.proofs.Common.{◌≡◌, ◌∙◌, ◌++◌, [], ap, refl, Option, string_bytes, codes, chars, chars-nil, Chars, seen_slice, ascii-chars}
 use Rattle.rx_refs.specs.Parts.{delimited, recomposed}
 use Rattle.rx_refs.specs.Views.{seen_path}
 use Rattle.rx_refs.proofs.WholeLemmas.{components}

@@ -1,5 +1,4 @@
-use Rattle.rx_terms.proofs.Common.{◌≡◌, sym, subst, refl, string_bytes, chars, Chars, trimmed, IsIri}
-use Rattle.rx_terms.proofs.OkLemmas.{ok_is}
+use Rattle.rx_terms.proofs.Common.{◌≡◌, sym, subst, refl, string_bytes, chars, Chars, trimmed, IsIri, ok_is}
 use Rattle.rx_refs.specs.Parts.{Components, components_of, recomposed}
 use Rattle.rx_refs.specs.Resolve.{target, cleaned, resolved}
 use Rattle.rx_refs.specs.Views.{seen, seen_target}

@@ -1,9 +1,7 @@
-use Rattle.rx_terms.proofs.Common.{◌≡◌, ℕ, List, ◌∷◌, [], ◌++◌, Option, Some, None, MatchOption, false, sym, ap, ◌∙◌, refl, drop, length, ◌+◌, lit<, chars, IsUtf8, encode_ascii, begins_with}
-use Rattle.std.specs.Str.{encode_utf8_all}
-use Rattle.std.specs.Str.Pattern.{FindsTextPrefix}
+use Rattle.rx_terms.proofs.Common.{◌≡◌, ℕ, List, ◌∷◌, [], ◌++◌, Option, Some, None, MatchOption, false, sym, ap, ◌∙◌, refl, drop, length, ◌+◌, lit<, encode_ascii, begins_with, FindsTextPrefix, Bor}
+use Rattle.std.specs.Str.{chars, IsUtf8, encode_utf8_all}
 use Rattle.rx_refs.proofs.CutLemmas.{past-slash, prefix-none}
 use Rattle.rx_refs.proofs.slices.behind_slashes.Goals as goal
-use denote.Ref.{Bor}
 
 in_chars : (bs : List ℕ) (r : Option (Bor (List ℕ))) → IsUtf8 bs
     → MatchOption r (FindsTextPrefix (47 ∷ 47 ∷ []) bs None) (λ x. (n : ℕ) × FindsTextPrefix (47 ∷ 47 ∷ []) bs (Some n) × (x.now ≡ drop n bs) × (length x.now + n ≡ length bs))

@@ -1,9 +1,7 @@
-use Rattle.rx_terms.proofs.Common.{◌≡◌, ℕ, ◌<◌, List, ◌++◌, ◌∷◌, false, Option, Some, None, MatchOption, chars, IsUtf8}
-use Rattle.std.proofs.lemmas.Str.Pattern.{IsSplitOnceResult}
+use Rattle.rx_terms.proofs.Common.{◌≡◌, ℕ, ◌<◌, List, ◌++◌, ◌∷◌, false, Option, Some, None, MatchOption, chars, IsUtf8, IsSplitOnceResult, Bor}
 use Rattle.rx_refs.specs.Dots.{holds}
 use Rattle.rx_refs.proofs.CutLemmas.{lacking, first-char}
 use Rattle.rx_refs.proofs.slices.split_once.Goals as goal
-use denote.Ref.{Bor}
 
 in_chars : (mark : ℕ) (bs : List ℕ) (r : Option (Bor (List ℕ) × Bor (List ℕ))) → IsSplitOnceResult mark bs r → mark < 128 → IsUtf8 bs
     → MatchOption r (holds mark (chars bs) ≡ false) (λ cut. (chars bs ≡ chars cut.0.now ++ mark ∷ chars cut.1.now) × (holds mark (chars cut.0.now) ≡ false))

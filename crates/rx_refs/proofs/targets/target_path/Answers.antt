@@ -1,5 +1,4 @@
-use Rattle.rx_terms.proofs.Common.{◌≡◌, ◌∙◌, ◌∷◌, ◌++◌, [], false, true, sym, ap, refl, is_some, chars, Chars, is_empty, ascii-chars}
-use Rattle.std.proofs.Common.{◌&&◌}
+use Rattle.rx_terms.proofs.Common.{◌≡◌, ◌∙◌, ◌∷◌, ◌++◌, [], false, true, sym, ap, refl, ◌&&◌, is_some, chars, Chars, is_empty, ascii-chars}
 use Rattle.rx_refs.specs.Dots.{without_dots}
 use Rattle.rx_refs.specs.Resolve.{through_last_slash}
 use Rattle.rx_refs.specs.Views.{seen}

@@ -1,7 +1,4 @@
-use Rattle.std.proofs.Common.{◌∙◌, ◌++◌, ◌∷◌, [], subst}
-use Rattle.rx_chars.specs.Utf8.{Leaves}
-use Rattle.rx_chars.specs.declared.utf8.Utf8Step.{Utf8Step}
-use Rattle.rx_chars.proofs.Utf8Exact.{answer_is}
+use Rattle.rx_grammar.proofs.Common.{◌∙◌, ◌++◌, ◌∷◌, [], subst, Leaves, Utf8Step, answer_is}
 use Rattle.rx_scan.proofs.bytes.hold_byte.Goals as goal
 
 pub returns : goal.returns

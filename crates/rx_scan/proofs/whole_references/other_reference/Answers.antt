@@ -1,5 +1,4 @@
-use Rattle.std.proofs.Common.{◌∙◌, ap, sym, arith}
-use Rattle.rx_grammar.specs.References.{meaning}
+use Rattle.rx_grammar.proofs.Common.{◌∙◌, ap, sym, arith, meaning}
 use Rattle.rx_scan.proofs.ReferenceLemmas.{body_is}
 use Rattle.rx_scan.proofs.whole_references.other_reference.Goals as goal
 

@@ -1,5 +1,4 @@
-use Rattle.std.proofs.Common.{◌≡◌, drop}
-use Rattle.rx_model.specs.Seen.{triples_seen}
+use Rattle.rx_model.proofs.Common.{◌≡◌, drop, triples_seen}
 use Rattle.rx_shapes.specs.Cells.{object_among, predicate_of}
 use Rattle.rx_shapes.proofs.cells.object_of.Given as goal
 

@@ -1,5 +1,4 @@
-use Rattle.std.proofs.Common.{◌∙◌}
-use Rattle.rx_model.specs.Seen.{triples_seen}
+use Rattle.rx_model.proofs.Common.{◌∙◌, triples_seen}
 use Rattle.rx_shapes.proofs.ShapeLemmas.{cells_of_index}
 use Rattle.rx_shapes.proofs.links.cell_nodes.Goals as goal
 

@@ -1,5 +1,4 @@
-use Rattle.std.proofs.Common.{◌∙◌, ap₂}
-use Rattle.rx_model.specs.Seen.{triples_seen}
+use Rattle.rx_model.proofs.Common.{◌∙◌, ap₂, triples_seen}
 use Rattle.rx_shapes.specs.Links.{inner_marks}
 use Rattle.rx_shapes.proofs.ShapeLemmas.{inner_of_index}
 use Rattle.rx_shapes.proofs.links.inner_nodes.Goals as goal

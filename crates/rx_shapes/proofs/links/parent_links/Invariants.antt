@@ -1,5 +1,4 @@
-use Rattle.std.proofs.Common.{◌≡◌}
-use Rattle.rx_model.specs.Seen.{triples_seen}
+use Rattle.rx_model.proofs.Common.{◌≡◌, triples_seen}
 use Rattle.rx_shapes.specs.Links.{parent_links}
 use Rattle.rx_shapes.proofs.links.parent_links.Given as goal
 

@@ -1,5 +1,4 @@
-use Rattle.rx_terms.proofs.Common.{◌∙◌, ℕ, ap, arith, length, length-map}
-use Rattle.rx_model.proofs.Common.{Triple, triple_seen, triples_seen}
+use Rattle.rx_model.proofs.Common.{◌∙◌, ℕ, ap, arith, length, length-map, Triple, triple_seen, triples_seen}
 use Rattle.rx_graph.specs.Rows.{empty_rows}
 use Rattle.rx_graph.specs.Resources.{number_in}
 use Rattle.rx_shapes.specs.Rows.{filed_in}

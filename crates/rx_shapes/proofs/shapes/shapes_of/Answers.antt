@@ -1,5 +1,4 @@
-use Rattle.std.proofs.Common.{◌∙◌, sym, subst, ap₂}
-use Rattle.rx_model.specs.Seen.{triples_seen}
+use Rattle.rx_model.proofs.Common.{◌∙◌, sym, subst, ap₂, triples_seen}
 use Rattle.rx_shapes.specs.Links.{AreInner, shapes_by}
 use Rattle.rx_shapes.proofs.ShapeLemmas.{shapes_of_index}
 use Rattle.rx_shapes.proofs.shapes.shapes_of.Goals as goal

@@ -1,5 +1,4 @@
-use Rattle.std.proofs.Common.{refl, arith}
-use Rattle.std.proofs.lemmas.Simd.{zip2_splat}
+use Rattle.rx_terms.proofs.Common.{refl, arith, zip2_splat}
 use Rattle.rx_tags.specs.Lanes.{ends_plain}
 use Rattle.rx_tags.proofs.LaneLemmas.{hit, at_most, either, splat_first, masked}
 use Rattle.rx_tags.proofs.fronts.ends_plain.Goals as goal

@@ -1,5 +1,4 @@
-use Rattle.std.proofs.Common.{refl, arith}
-use Rattle.std.proofs.lemmas.Simd.{zip2_splat}
+use Rattle.rx_terms.proofs.Common.{refl, arith, zip2_splat}
 use Rattle.rx_tags.specs.Lanes.{ends_small}
 use Rattle.rx_tags.proofs.LaneLemmas.{at_most, either, splat_first, masked}
 use Rattle.rx_tags.proofs.fronts.ends_small.Goals as goal

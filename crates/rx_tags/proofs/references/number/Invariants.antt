@@ -1,5 +1,4 @@
-use Rattle.std.proofs.Common.{◌≡◌, ◌≤◌, drop}
-use Rattle.rx_grammar.specs.References.{number_from}
+use Rattle.rx_grammar.proofs.Common.{◌≡◌, ◌≤◌, drop, number_from}
 use Rattle.rx_tags.specs.Numbers.{capped}
 use Rattle.rx_tags.proofs.references.number.Given as goal
 

@@ -1,5 +1,4 @@
-use Rattle.std.proofs.Common.{◌≡◌, false, length, take}
-use Rattle.rx_grammar.specs.Tags.{has_repeat}
+use Rattle.rx_grammar.proofs.Common.{◌≡◌, false, length, take, has_repeat}
 use Rattle.rx_tags.specs.Reading.{rows_read}
 use Rattle.rx_tags.proofs.MarkLemmas.{Marked}
 use Rattle.rx_tags.proofs.repeats.are_marked_apart.Given as goal

@@ -1,5 +1,4 @@
-use Rattle.std.proofs.Common.{◌∙◌, ap, ◌||◌, arith}
-use Rattle.rx_grammar.specs.Names.{same}
+use Rattle.rx_grammar.proofs.Common.{◌∙◌, ap, ◌||◌, arith, same}
 use Rattle.rx_tags.specs.Repeats.{has_text}
 use Rattle.rx_tags.proofs.RepeatLemmas.{fit_at, kept_fit, names_turn, new_turn, old_turn}
 use Rattle.rx_tags.proofs.repeats.first_rows.Goals as goal

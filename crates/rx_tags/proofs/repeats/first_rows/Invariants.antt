@@ -1,5 +1,4 @@
-use Rattle.std.proofs.Common.{◌≡◌, ℕ, List, take}
-use Rattle.rx_grammar.specs.Tags.{firsts}
+use Rattle.rx_grammar.proofs.Common.{◌≡◌, ℕ, List, take, firsts}
 use Rattle.rx_tags.specs.Reading.{rows_read, RowsFit}
 use Rattle.rx_tags.specs.Repeats.{has_text, is_named}
 use Rattle.rx_tags.proofs.repeats.first_rows.Given as goal

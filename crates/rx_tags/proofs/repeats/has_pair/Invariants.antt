@@ -1,5 +1,4 @@
-use Rattle.std.proofs.Common.{◌≡◌, drop}
-use Rattle.rx_grammar.specs.Tags.{has_repeat}
+use Rattle.rx_grammar.proofs.Common.{◌≡◌, drop, has_repeat}
 use Rattle.rx_tags.specs.Reading.{rows_read}
 use Rattle.rx_tags.proofs.repeats.has_pair.Given as goal
 

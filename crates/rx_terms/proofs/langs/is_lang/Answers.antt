@@ -1,9 +1,4 @@
-use Rattle.std.proofs.Common.{◌≡◌, ◌∙◌, ℕ, List, sym, ap, true, false, ◌==◌, arith}
-use Rattle.std.specs.Str.{chars}
-use Rattle.std.specs.Str.Iter.{chars_rest}
-use Rattle.std.proofs.lemmas.Str.{chars_past_char, IsUtf8-past_char}
-use Rattle.std.proofs.lemmas.Bool.Decides.{nat_tests}
-use Rattle.rx_terms.proofs.CharLemmas.{chars-end}
+use Rattle.rx_terms.proofs.Common.{◌≡◌, ◌∙◌, ℕ, List, sym, ap, true, false, ◌==◌, arith, chars, chars_rest, chars_past_char, IsUtf8-past_char, nat_tests, chars-end}
 use Rattle.rx_terms.proofs.LangLemmas.{is_left, left-start, left-hyphen, left-empty, left-char, left-other, left-end}
 use Rattle.rx_terms.proofs.langs.is_lang.Goals as goal
 

@@ -1,7 +1,4 @@
-use Rattle.std.proofs.Common.{◌≡◌}
-use Rattle.std.specs.Str.{chars, IsUtf8}
-use Rattle.std.specs.Str.Iter.{chars_rest}
-use Rattle.rx_terms.specs.Lang.{is_lang}
+use Rattle.rx_terms.proofs.Common.{◌≡◌, chars, IsUtf8, chars_rest, is_lang}
 use Rattle.rx_terms.proofs.LangLemmas.{is_left}
 use Rattle.rx_terms.proofs.langs.is_lang.Given as goal
 

@@ -1,6 +1,4 @@
-use Rattle.std.proofs.Common.{map, arith, []}
-use Rattle.rx_graph.specs.Resources.{resource_seen}
-use Rattle.rx_turtle.specs.Runs.{by_predicate}
+use Rattle.rx_turtle.proofs.Common.{map, arith, [], resource_seen, by_predicate}
 use Rattle.rx_turtle.proofs.GroupLemmas.{lent_seen}
 use Rattle.rx_turtle.proofs.ArrangedLemmas.{rows_turn, rows_end}
 use Rattle.rx_turtle.proofs.arranging.arrange.Goals as goal

@@ -1,6 +1,4 @@
-use Rattle.std.proofs.Common.{◌≡◌, take, map}
-use Rattle.std.specs.Prelude.{flat_map}
-use Rattle.rx_turtle.specs.Runs.{by_predicate}
+use Rattle.rx_turtle.proofs.Common.{◌≡◌, take, map, flat_map, by_predicate}
 use Rattle.rx_turtle.proofs.GroupLemmas.{lent_seen}
 use Rattle.rx_turtle.proofs.arranging.arrange.Given as goal
 

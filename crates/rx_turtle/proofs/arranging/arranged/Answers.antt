@@ -1,9 +1,5 @@
-use Rattle.std.proofs.Common.{◌∙◌, ap, map}
-use Rattle.std.specs.Prelude.{flat_map}
-use Rattle.rx_model.specs.Seen.{triples_seen}
+use Rattle.rx_turtle.proofs.Common.{◌∙◌, ap, map, flat_map, triples_seen, grouped, by_predicate}
 use Rattle.rx_turtle.specs.declared.keys.By.TheVariants as by
-use Rattle.rx_turtle.specs.Groups.{grouped}
-use Rattle.rx_turtle.specs.Runs.{by_predicate}
 use Rattle.rx_turtle.proofs.GroupLemmas.{lent_seen}
 use Rattle.rx_turtle.proofs.ArrangedLemmas.{arranged_is}
 use Rattle.rx_turtle.proofs.arranging.arranged.Goals as goal

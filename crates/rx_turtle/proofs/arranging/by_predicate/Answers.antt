@@ -1,7 +1,5 @@
-use Rattle.std.proofs.Common.{◌≡◌, ◌∙◌, ◌++◌, [], ap, map, rules}
+use Rattle.rx_turtle.proofs.Common.{◌≡◌, ◌∙◌, ◌++◌, [], ap, map, rules, grouped, all_in}
 use Rattle.rx_turtle.specs.declared.keys.By.TheVariants as by
-use Rattle.rx_turtle.specs.Groups.{grouped}
-use Rattle.rx_turtle.specs.Runs.{all_in}
 use Rattle.rx_turtle.proofs.GroupLemmas.{lent_seen}
 use Rattle.rx_turtle.proofs.ArrangedLemmas.{predicates_are}
 use Rattle.rx_turtle.proofs.arranging.by_predicate.Goals as goal

@@ -1,5 +1,4 @@
-use Rattle.rx_terms.proofs.Common.{◌∙◌, ◌≡◌, map, length, sym, arith, refl, slice_get_read}
-use Rattle.rx_graph.specs.Resources.{resource_seen}
+use Rattle.rx_turtle.proofs.Common.{◌∙◌, ◌≡◌, map, length, sym, arith, refl, slice_get_read, resource_seen}
 use Rattle.rx_turtle.specs.declared.keys.By.TheVariants as by
 use Rattle.rx_turtle.proofs.GroupLemmas.{lent_seen, lent_at}
 use Rattle.rx_turtle.proofs.ArrangedLemmas.{occurs_here, occurs_later, occurs_not, seen_length}

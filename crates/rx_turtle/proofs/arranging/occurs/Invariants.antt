@@ -1,8 +1,5 @@
-use Rattle.rx_terms.proofs.Common.{◌≡◌, nat_eq, map, drop}
-use Rattle.rx_model.proofs.Common.{contains, same_node}
-use Rattle.rx_graph.specs.Resources.{resource_seen}
+use Rattle.rx_turtle.proofs.Common.{◌≡◌, nat_eq, map, drop, contains, same_node, resource_seen, key_by}
 use Rattle.rx_turtle.specs.declared.keys.By.TheVariants as by
-use Rattle.rx_turtle.specs.Groups.{key_by}
 use Rattle.rx_turtle.proofs.GroupLemmas.{lent_seen}
 use Rattle.rx_turtle.proofs.arranging.occurs.Given as goal
 

@@ -1,6 +1,5 @@
-use Rattle.rx_terms.proofs.Common.{◌∙◌, ◌≡◌, ◌<◌, ◌++◌, ap, ap₂, map, length, arith, append-nil, sym, take-map, drop-map}
+use Rattle.rx_turtle.proofs.Common.{◌∙◌, ◌≡◌, ◌<◌, ◌++◌, ap, ap₂, map, length, arith, append-nil, sym, take-map, drop-map, like_first}
 use Rattle.rx_turtle.specs.declared.keys.By.TheVariants as by
-use Rattle.rx_turtle.specs.Runs.{like_first}
 use Rattle.rx_turtle.proofs.GroupLemmas.{lent_seen}
 use Rattle.rx_turtle.proofs.ArrangedLemmas.{like_turn, like_end, element_at, seen_length}
 use Rattle.rx_turtle.proofs.arranging.push_few.Goals as goal

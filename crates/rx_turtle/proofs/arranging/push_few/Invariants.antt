@@ -1,7 +1,5 @@
-use Rattle.std.proofs.Common.{◌≡◌, ◌++◌, take, map}
+use Rattle.rx_turtle.proofs.Common.{◌≡◌, ◌++◌, take, map, keys_by, all_in}
 use Rattle.rx_turtle.specs.declared.keys.By.TheVariants as by
-use Rattle.rx_turtle.specs.Groups.{keys_by}
-use Rattle.rx_turtle.specs.Runs.{all_in}
 use Rattle.rx_turtle.proofs.GroupLemmas.{lent_seen, rows_by}
 use Rattle.rx_turtle.proofs.arranging.push_few.Given as goal
 

@@ -1,6 +1,4 @@
-use Rattle.std.proofs.Common.{map, arith, append-nil, sym}
-use Rattle.rx_graph.specs.Resources.{resource_seen}
-use Rattle.rx_turtle.specs.Groups.{Keyed}
+use Rattle.rx_turtle.proofs.Common.{map, arith, append-nil, sym, resource_seen, Keyed}
 use Rattle.rx_turtle.proofs.GroupLemmas.{lent_seen}
 use Rattle.rx_turtle.proofs.ArrangedLemmas.{rows_turn, rows_end}
 use Rattle.rx_turtle.proofs.arranging.push_groups.Goals as goal

@@ -1,5 +1,4 @@
-use Rattle.std.proofs.Common.{◌≡◌, ◌++◌, take, map}
-use Rattle.rx_turtle.specs.Runs.{all_in}
+use Rattle.rx_turtle.proofs.Common.{◌≡◌, ◌++◌, take, map, all_in}
 use Rattle.rx_turtle.proofs.GroupLemmas.{lent_seen}
 use Rattle.rx_turtle.proofs.arranging.push_groups.Given as goal
 

@@ -1,5 +1,4 @@
-use Rattle.rx_terms.proofs.Common.{◌≡◌, map, length, arith, refl, append-nil, sym, slice_get_read}
-use Rattle.rx_graph.specs.Resources.{resource_seen}
+use Rattle.rx_turtle.proofs.Common.{◌≡◌, map, length, arith, refl, append-nil, sym, slice_get_read, resource_seen}
 use Rattle.rx_turtle.specs.declared.keys.By.TheVariants as by
 use Rattle.rx_turtle.proofs.GroupLemmas.{lent_seen, lent_at}
 use Rattle.rx_turtle.proofs.ArrangedLemmas.{kept_turn, kept_end, seen_length}

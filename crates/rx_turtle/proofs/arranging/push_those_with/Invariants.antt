@@ -1,7 +1,5 @@
-use Rattle.std.proofs.Common.{◌≡◌, ◌++◌, take, map, filter}
-use Rattle.rx_graph.specs.Resources.{resource_seen}
+use Rattle.rx_turtle.proofs.Common.{◌≡◌, ◌++◌, take, map, filter, resource_seen, has_key}
 use Rattle.rx_turtle.specs.declared.keys.By.TheVariants as by
-use Rattle.rx_turtle.specs.Groups.{has_key}
 use Rattle.rx_turtle.proofs.GroupLemmas.{lent_seen}
 use Rattle.rx_turtle.proofs.arranging.push_those_with.Given as goal
 

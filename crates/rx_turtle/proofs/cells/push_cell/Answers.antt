@@ -1,8 +1,6 @@
-use Rattle.rx_terms.proofs.Common.{◌≡◌, ◌∙◌, nat_eq}
-use Rattle.rx_model.proofs.Common.{Blank, rdf_first, rdf_rest}
+use Rattle.rx_turtle.proofs.Common.{◌≡◌, ◌∙◌, nat_eq, Blank, rdf_first, rdf_rest, list_of}
 use Rattle.rx_shapes.specs.Places.{places_of}
 use Rattle.rx_shapes.proofs.PlaceLemmas.{object_found}
-use Rattle.rx_turtle.specs.Due.{list_of}
 use Rattle.rx_turtle.proofs.DueLemmas.{cell_pushed}
 use Rattle.rx_turtle.proofs.cells.push_cell.Goals as goal
 

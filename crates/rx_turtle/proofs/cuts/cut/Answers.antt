@@ -1,5 +1,4 @@
-use Rattle.rx_terms.proofs.Common.{refl, slice_get_read}
-use Rattle.rx_graph.specs.Resources.{resource_seen}
+use Rattle.rx_turtle.proofs.Common.{refl, slice_get_read, resource_seen}
 use Rattle.rx_turtle.proofs.ArrangedLemmas.{first_starts, cut_at, some_there}
 use Rattle.rx_turtle.proofs.cuts.cut.Goals as goal
 

@@ -1,5 +1,4 @@
-use Rattle.rx_terms.proofs.Common.{◌∙◌, ◌≡◌, ◌<◌, map, length, sym, arith, refl, slice_get_read}
-use Rattle.rx_graph.specs.Resources.{resource_seen}
+use Rattle.rx_turtle.proofs.Common.{◌∙◌, ◌≡◌, ◌<◌, map, length, sym, arith, refl, slice_get_read, resource_seen}
 use Rattle.rx_turtle.proofs.GroupLemmas.{lent_seen, lent_at}
 use Rattle.rx_turtle.proofs.ArrangedLemmas.{first_has, have_more, have_front, have_all, ends_at, ends_all, some_first, seen_length}
 use Rattle.rx_turtle.proofs.cuts.end_of_run.Goals as goal

@@ -1,6 +1,4 @@
-use Rattle.rx_terms.proofs.Common.{◌≡◌, ◌≤◌, true, take, map, list_all}
-use Rattle.rx_graph.specs.Resources.{resource_seen}
-use Rattle.rx_turtle.specs.Groups.{has_key}
+use Rattle.rx_turtle.proofs.Common.{◌≡◌, ◌≤◌, true, take, map, list_all, resource_seen, has_key}
 use Rattle.rx_turtle.proofs.GroupLemmas.{lent_seen}
 use Rattle.rx_turtle.proofs.cuts.end_of_run.Given as goal
 

@@ -1,6 +1,5 @@
-use Rattle.std.proofs.Common.{◌≡◌, ◌++◌, map}
+use Rattle.rx_turtle.proofs.Common.{◌≡◌, ◌++◌, map, tail_at}
 use Rattle.rx_turtle.proofs.GroupLemmas.{lent_seen}
-use Rattle.rx_turtle.specs.Due.{tail_at}
 use Rattle.rx_turtle.proofs.due.push_lines.Given as goal
 
 abbrev pub invariant-loop-i : goal.invariant-loop-i

@@ -1,5 +1,4 @@
-use Rattle.rx_terms.proofs.Common.{◌∙◌, ◌++◌, ap, map, on_ok_weaker}
-use Rattle.rx_model.proofs.Common.{triple_seen}
+use Rattle.rx_model.proofs.Common.{◌∙◌, ◌++◌, ap, map, on_ok_weaker, triple_seen}
 use Rattle.rx_turtle.proofs.GroupLemmas.{lent_seen}
 use Rattle.rx_turtle.proofs.DueLemmas.{next_is}
 use Rattle.rx_turtle.proofs.due.push_next.Goals as goal

@@ -1,8 +1,7 @@
-use Rattle.std.proofs.Common.{◌≡◌, map, length, arith}
+use Rattle.rx_turtle.proofs.Common.{◌≡◌, map, length, arith, adds_then}
 use Rattle.rx_turtle.specs.declared.keys.By.TheVariants as by
 use Rattle.rx_turtle.proofs.GroupLemmas.{lent_seen}
 use Rattle.rx_turtle.proofs.ArrangedLemmas.{seen_length}
-use Rattle.rx_pieces.proofs.Adding.{adds_then}
 use Rattle.rx_turtle.proofs.CutLemmas.{remains_start, remains_less, remains_none, lines_next, no_lines, none_left}
 use Rattle.rx_turtle.proofs.lines.push_lines.Goals as goal
 

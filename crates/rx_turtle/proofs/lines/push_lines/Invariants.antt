@@ -1,7 +1,5 @@
-use Rattle.std.proofs.Common.{◌-◌, drop, map, length}
-use Rattle.rx_pieces.specs.Underway.{delivery}
+use Rattle.rx_turtle.proofs.Common.{◌-◌, drop, map, length, delivery, runs}
 use Rattle.rx_turtle.specs.declared.keys.By.TheVariants as by
-use Rattle.rx_turtle.specs.Runs.{runs}
 use Rattle.rx_turtle.proofs.GroupLemmas.{lent_seen}
 use Rattle.rx_turtle.proofs.CutLemmas.{Remains, lines_from}
 use Rattle.rx_turtle.proofs.lines.push_lines.Given as goal

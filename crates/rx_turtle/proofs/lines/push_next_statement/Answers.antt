@@ -1,8 +1,5 @@
-use Rattle.std.proofs.Common.{sym, ap}
-use Rattle.rx_graph.specs.Resources.{resource_seen}
-use Rattle.rx_pieces.proofs.Adding.{adds_by}
+use Rattle.rx_turtle.proofs.Common.{sym, ap, resource_seen, adds_by, first_statement}
 use Rattle.rx_turtle.specs.declared.keys.By.TheVariants as by
-use Rattle.rx_turtle.specs.Written.{first_statement}
 use Rattle.rx_turtle.proofs.CutLemmas.{here_runs, later_runs}
 use Rattle.rx_turtle.proofs.lines.push_next_statement.Goals as goal
 

@@ -1,6 +1,4 @@
-use Rattle.rx_terms.proofs.Common.{ℕ, codes, refl, map, get_or, slice_get-get_or}
-use Rattle.rx_model.proofs.Common.{Triple}
-use Rattle.rx_notation.specs.Layout.{object_text}
+use Rattle.rx_turtle.proofs.Common.{ℕ, codes, refl, map, get_or, slice_get-get_or, Triple, object_text}
 use Rattle.rx_turtle.proofs.GroupLemmas.{lent_seen, lent_at}
 use Rattle.rx_turtle.proofs.LineLemmas.{listed}
 use Rattle.rx_turtle.proofs.lines.push_objects.Goals as goal

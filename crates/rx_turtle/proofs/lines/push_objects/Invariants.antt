@@ -1,7 +1,4 @@
-use Rattle.std.proofs.Common.{take, map}
-use Rattle.rx_pieces.specs.Underway.{delivery}
-use Rattle.rx_pieces.specs.Writable.{Adds}
-use Rattle.rx_turtle.specs.Written.{objects_text}
+use Rattle.rx_turtle.proofs.Common.{take, map, delivery, Adds, objects_text}
 use Rattle.rx_turtle.proofs.GroupLemmas.{lent_seen}
 use Rattle.rx_turtle.proofs.lines.push_objects.Given as goal
 

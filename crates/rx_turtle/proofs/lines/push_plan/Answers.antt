@@ -1,11 +1,6 @@
-use Rattle.std.proofs.Common.{ap, map}
-use Rattle.rx_notation.specs.Layout.{prefixes_text}
-use Rattle.rx_pieces.proofs.Adding.{adds_then, adds_by}
-use Rattle.rx_turtle.specs.Uses.{chosen}
+use Rattle.rx_turtle.proofs.Common.{ap, map, prefixes_text, adds_then, adds_by, chosen, runs, statements_text}
 use Rattle.rx_turtle.specs.declared.keys.By.TheVariants as by
-use Rattle.rx_turtle.specs.Runs.{runs}
 use Rattle.rx_turtle.proofs.GroupLemmas.{lent_seen}
-use Rattle.rx_turtle.specs.Written.{statements_text}
 use Rattle.rx_turtle.proofs.lines.push_plan.Goals as goal
 
 pub returns : goal.returns

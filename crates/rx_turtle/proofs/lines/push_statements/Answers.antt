@@ -1,9 +1,7 @@
-use Rattle.std.proofs.Common.{◌∙◌, ◌≡◌, drop, map, length, sym, ap, arith}
+use Rattle.rx_turtle.proofs.Common.{◌∙◌, ◌≡◌, drop, map, length, sym, ap, arith, runs, statements_text}
 use Rattle.rx_turtle.specs.declared.keys.By.TheVariants as by
-use Rattle.rx_turtle.specs.Runs.{runs}
 use Rattle.rx_turtle.proofs.GroupLemmas.{lent_seen}
 use Rattle.rx_turtle.proofs.ArrangedLemmas.{seen_length}
-use Rattle.rx_turtle.specs.Written.{statements_text}
 use Rattle.rx_turtle.proofs.CutLemmas.{remains_start, remains_less, remains_failed, remains_none, statements_next, none_left}
 use Rattle.rx_turtle.proofs.lines.push_statements.Goals as goal
 

@@ -1,9 +1,6 @@
-use Rattle.std.proofs.Common.{◌-◌, drop, map, length}
-use Rattle.rx_pieces.specs.Underway.{delivery}
+use Rattle.rx_turtle.proofs.Common.{◌-◌, drop, map, length, delivery, runs, statements_text}
 use Rattle.rx_turtle.specs.declared.keys.By.TheVariants as by
-use Rattle.rx_turtle.specs.Runs.{runs}
 use Rattle.rx_turtle.proofs.GroupLemmas.{lent_seen}
-use Rattle.rx_turtle.specs.Written.{statements_text}
 use Rattle.rx_turtle.proofs.CutLemmas.{Remains}
 use Rattle.rx_turtle.proofs.lines.push_statements.Given as goal
 

@@ -1,8 +1,4 @@
-use Rattle.std.proofs.Common.{ap}
-use Rattle.rx_notation.specs.Layout.{prefixes_text}
-use Rattle.rx_pieces.proofs.Adding.{adds_then, adds_by}
-use Rattle.rx_turtle.specs.Uses.{chosen}
-use Rattle.rx_turtle.specs.Tokens.{tokens_seen, shown_texts}
+use Rattle.rx_turtle.proofs.Common.{ap, prefixes_text, adds_then, adds_by, chosen, tokens_seen, shown_texts}
 use Rattle.rx_turtle.proofs.nested_plan.push_nested.Goals as goal
 
 pub returns : goal.returns

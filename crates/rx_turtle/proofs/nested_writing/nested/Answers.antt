@@ -1,5 +1,4 @@
-use Rattle.std.proofs.Common.{◌∙◌}
-use Rattle.rx_pieces.proofs.Sending.{holds_text}
+use Rattle.rx_turtle.proofs.Common.{◌∙◌, holds_text}
 use Rattle.rx_turtle.proofs.nested_writing.nested.Goals as goal
 
 pub returns-in-Ok-clause-bytes : goal.returns-in-Ok-clause-bytes

@@ -1,6 +1,4 @@
-use Rattle.std.proofs.Common.{rules}
-use Rattle.rx_turtle.specs.Tokens.{token_seen}
-use Rattle.rx_turtle.specs.Due.{task_seen}
+use Rattle.rx_turtle.proofs.Common.{rules, token_seen, task_seen}
 use Rattle.rx_turtle.proofs.RunLemmas.{running_turn, running_end, fewer_left}
 use Rattle.rx_turtle.proofs.nesting.run.Goals as goal
 

@@ -1,5 +1,4 @@
-use Rattle.std.proofs.Common.{◌∙◌, sym, map}
-use Rattle.rx_graph.specs.Resources.{resource_seen}
+use Rattle.rx_turtle.proofs.Common.{◌∙◌, sym, map, resource_seen}
 use Rattle.rx_turtle.proofs.GroupLemmas.{lent_seen}
 use Rattle.rx_turtle.proofs.RunLemmas.{pushed_cells, says_statement}
 use Rattle.rx_turtle.proofs.nesting.state.Goals as goal

@@ -1,5 +1,4 @@
-use Rattle.std.proofs.Common.{arith}
-use Rattle.rx_turtle.specs.Due.{list_of}
+use Rattle.rx_turtle.proofs.Common.{arith, list_of}
 use Rattle.rx_turtle.proofs.RunLemmas.{is_subject, stated_turn, stated_end}
 use Rattle.rx_turtle.proofs.nesting.tokens_about.Goals as goal
 

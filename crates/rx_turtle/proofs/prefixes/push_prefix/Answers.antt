@@ -1,5 +1,4 @@
-use Rattle.std.proofs.Common.{codes, refl}
-use Rattle.rx_pieces.proofs.Adding.{adds_then, adds_by, literal}
+use Rattle.rx_turtle.proofs.Common.{codes, refl, adds_then, adds_by, literal}
 use Rattle.rx_turtle.proofs.LineLemmas.{prefix_spelled}
 use Rattle.rx_turtle.proofs.prefixes.push_prefix.Goals as goal
 

@@ -1,8 +1,4 @@
-use Rattle.std.proofs.Common.{take, flat_map}
-use Rattle.rx_pieces.specs.Underway.{delivery}
-use Rattle.rx_pieces.specs.Writable.{Adds}
-use Rattle.rx_notation.specs.Layout.{prefix_text}
-use Rattle.rx_turtle.specs.Uses.{chosen}
+use Rattle.rx_turtle.proofs.Common.{take, flat_map, delivery, Adds, prefix_text, chosen}
 use Rattle.rx_turtle.proofs.prefixes.push_prefix_lines.Given as goal
 
 abbrev pub invariant-loop-i : goal.invariant-loop-i

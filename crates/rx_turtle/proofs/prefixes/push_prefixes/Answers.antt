@@ -1,5 +1,4 @@
-use Rattle.std.proofs.Common.{◌∙◌, codes, refl, sym}
-use Rattle.rx_pieces.proofs.Adding.{literal}
+use Rattle.rx_turtle.proofs.Common.{◌∙◌, codes, refl, sym, literal}
 use Rattle.rx_turtle.proofs.LineLemmas.{lines_ended, no_lines}
 use Rattle.rx_turtle.proofs.prefixes.push_prefixes.Goals as goal
 

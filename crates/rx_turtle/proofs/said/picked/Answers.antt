@@ -1,5 +1,4 @@
-use Rattle.rx_terms.proofs.Common.{map, slice_get-get_or}
-use Rattle.rx_model.proofs.Common.{triples_seen}
+use Rattle.rx_model.proofs.Common.{map, slice_get-get_or, triples_seen}
 use Rattle.rx_turtle.proofs.GroupLemmas.{lent_seen}
 use Rattle.rx_turtle.proofs.SaidLemmas.{picked_turn}
 use Rattle.rx_turtle.proofs.said.picked.Goals as goal

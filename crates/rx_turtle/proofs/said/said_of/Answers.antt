@@ -1,8 +1,5 @@
-use Rattle.std.proofs.Common.{◌∙◌, ap, map}
-use Rattle.rx_model.specs.Seen.{node_seen, triples_seen}
+use Rattle.rx_turtle.proofs.Common.{◌∙◌, ap, map, node_seen, triples_seen, grouped, runs}
 use Rattle.rx_turtle.specs.declared.keys.By.TheVariants as by
-use Rattle.rx_turtle.specs.Groups.{grouped}
-use Rattle.rx_turtle.specs.Runs.{runs}
 use Rattle.rx_turtle.proofs.GroupLemmas.{lent_seen}
 use Rattle.rx_turtle.proofs.SaidLemmas.{said_is}
 use Rattle.rx_turtle.proofs.said.said_of.Goals as goal

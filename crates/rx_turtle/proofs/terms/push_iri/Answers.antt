@@ -1,5 +1,4 @@
-use Rattle.std.proofs.Common.{codes, refl}
-use Rattle.rx_pieces.proofs.Adding.{between}
+use Rattle.rx_turtle.proofs.Common.{codes, refl, between}
 use Rattle.rx_turtle.proofs.AddLemmas.{short_added}
 use Rattle.rx_turtle.proofs.terms.push_iri.Goals as goal
 

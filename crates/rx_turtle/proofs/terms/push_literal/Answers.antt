@@ -1,7 +1,4 @@
-use Rattle.std.proofs.Common.{codes, refl}
-use Rattle.rx_model.specs.Seen.{kind_seen}
-use Rattle.rx_notation.specs.Layout.{suffix_text}
-use Rattle.rx_pieces.proofs.Adding.{adds_then, adds_by, behind_words, literal}
+use Rattle.rx_turtle.proofs.Common.{codes, refl, kind_seen, suffix_text, adds_then, adds_by, behind_words, literal}
 use Rattle.rx_turtle.proofs.AddLemmas.{string_ended}
 use Rattle.rx_turtle.proofs.terms.push_literal.Goals as goal
 

@@ -1,5 +1,4 @@
-use Rattle.std.proofs.Common.{codes, refl}
-use Rattle.rx_pieces.proofs.Adding.{adds_then, literal}
+use Rattle.rx_turtle.proofs.Common.{codes, refl, adds_then, literal}
 use Rattle.rx_turtle.proofs.terms.push_tag.Goals as goal
 
 pub returns : goal.returns

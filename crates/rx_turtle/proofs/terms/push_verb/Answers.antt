@@ -1,5 +1,4 @@
-use Rattle.std.proofs.Common.{◌∙◌, codes, refl, sym}
-use Rattle.rx_pieces.proofs.Adding.{literal}
+use Rattle.rx_turtle.proofs.Common.{◌∙◌, codes, refl, sym, literal}
 use Rattle.rx_turtle.proofs.terms.push_verb.Goals as goal
 
 pub returns-then-is_type : goal.returns-then-is_type

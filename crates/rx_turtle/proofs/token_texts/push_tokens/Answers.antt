@@ -1,5 +1,4 @@
-use Rattle.rx_terms.proofs.Common.{◌∙◌, refl, sym, map, slice_get_read}
-use Rattle.rx_turtle.specs.Tokens.{token_seen, shown_text}
+use Rattle.rx_turtle.proofs.Common.{◌∙◌, refl, sym, map, slice_get_read, token_seen, shown_text}
 use Rattle.rx_turtle.proofs.GroupLemmas.{seen_at}
 use Rattle.rx_turtle.proofs.LineLemmas.{joined, joined_failed}
 use Rattle.rx_turtle.proofs.token_texts.push_tokens.Goals as goal

@@ -1,7 +1,4 @@
-use Rattle.std.proofs.Common.{take}
-use Rattle.rx_pieces.specs.Underway.{delivery}
-use Rattle.rx_pieces.specs.Writable.{Adds}
-use Rattle.rx_turtle.specs.Tokens.{tokens_seen, shown_texts}
+use Rattle.rx_turtle.proofs.Common.{take, delivery, Adds, tokens_seen, shown_texts}
 use Rattle.rx_turtle.proofs.token_texts.push_tokens.Given as goal
 
 abbrev pub invariant-loop-i : goal.invariant-loop-i

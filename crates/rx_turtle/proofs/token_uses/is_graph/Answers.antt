@@ -1,6 +1,4 @@
-use Rattle.std.proofs.Common.{None, arith}
-use Rattle.rx_model.specs.Seen.{triple_seen}
-use Rattle.rx_pieces.specs.Writable.{WritableTriple}
+use Rattle.rx_turtle.proofs.Common.{None, arith, triple_seen, WritableTriple}
 use Rattle.rx_turtle.proofs.UseLemmas.{fine_more, fine_end}
 use Rattle.rx_turtle.proofs.token_uses.is_graph.Goals as goal
 

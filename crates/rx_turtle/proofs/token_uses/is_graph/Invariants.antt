@@ -1,6 +1,4 @@
-use Rattle.std.proofs.Common.{take}
-use Rattle.rx_model.specs.Seen.{triples_seen}
-use Rattle.rx_pieces.specs.Writable.{IsWritable}
+use Rattle.rx_turtle.proofs.Common.{take, triples_seen, IsWritable}
 use Rattle.rx_turtle.proofs.token_uses.is_graph.Given as goal
 
 abbrev pub invariant-loop-i : goal.invariant-loop-i

@@ -1,6 +1,4 @@
-use Rattle.rx_terms.proofs.Common.{◌∙◌, arith, ap, refl, slice_get_read}
-use Rattle.rx_turtle.specs.Tokens.{token_seen, iris_of_shown, WritableShown}
-use Rattle.rx_turtle.specs.Uses.{marked_all}
+use Rattle.rx_turtle.proofs.Common.{◌∙◌, arith, ap, refl, slice_get_read, token_seen, iris_of_shown, WritableShown, marked_all}
 use Rattle.rx_turtle.proofs.UseLemmas.{looked_start, looked_more, looked_marks, fine_end}
 use Rattle.rx_turtle.proofs.token_uses.mark_tokens.Goals as goal
 

@@ -1,5 +1,4 @@
-use Rattle.std.proofs.Common.{◌≡◌}
-use Rattle.rx_turtle.specs.Tokens.{token_seen, iris_of_shown, WritableShown}
+use Rattle.rx_turtle.proofs.Common.{◌≡◌, token_seen, iris_of_shown, WritableShown}
 use Rattle.rx_turtle.proofs.UseLemmas.{Looked}
 use Rattle.rx_turtle.proofs.token_uses.mark_tokens.Given as goal
 

@@ -1,8 +1,4 @@
-use Rattle.std.proofs.Common.{◌∙◌, None, arith, ap, refl}
-use Rattle.rx_model.specs.Seen.{triple_seen}
-use Rattle.rx_notation.specs.Layout.{iris_of}
-use Rattle.rx_pieces.specs.Writable.{WritableTriple}
-use Rattle.rx_turtle.specs.Uses.{marked_all}
+use Rattle.rx_turtle.proofs.Common.{◌∙◌, None, arith, ap, refl, triple_seen, iris_of, WritableTriple, marked_all}
 use Rattle.rx_turtle.proofs.UseLemmas.{looked_start, looked_more, looked_marks, fine_end}
 use Rattle.rx_turtle.proofs.uses.mark_all.Goals as goal
 

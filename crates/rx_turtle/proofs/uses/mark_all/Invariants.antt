@@ -1,7 +1,4 @@
-use Rattle.std.proofs.Common.{◌≡◌, None}
-use Rattle.rx_model.specs.Seen.{triple_seen}
-use Rattle.rx_pieces.specs.Writable.{WritableTriple}
-use Rattle.rx_notation.specs.Layout.{iris_of}
+use Rattle.rx_turtle.proofs.Common.{◌≡◌, None, triple_seen, WritableTriple, iris_of}
 use Rattle.rx_turtle.proofs.UseLemmas.{Looked}
 use Rattle.rx_turtle.proofs.uses.mark_all.Given as goal
 

@@ -1,5 +1,4 @@
-use Rattle.std.proofs.Common.{◌≡◌, take}
-use Rattle.rx_turtle.specs.Uses.{unmarked}
+use Rattle.rx_turtle.proofs.Common.{◌≡◌, take, unmarked}
 use Rattle.rx_turtle.proofs.uses.unmarked.Given as goal
 
 abbrev pub invariant-loop : goal.invariant-loop

@@ -1,6 +1,4 @@
-use Rattle.std.proofs.Common.{refl}
-use Rattle.rx_pieces.proofs.Adding.{adds_by}
-use Rattle.rx_pieces.proofs.Sending.{end_stands, whole_sent}
+use Rattle.rx_turtle.proofs.Common.{refl, adds_by, end_stands, whole_sent}
 use Rattle.rx_turtle.proofs.writing.write.Goals as goal
 
 pub returns-clause-ok : goal.returns-clause-ok

@@ -1,5 +1,4 @@
-use Rattle.std.proofs.Common.{◌∙◌, ap}
-use Rattle.rx_rdfa.specs.Times.{time_kind}
+use Rattle.rx_rdfa.proofs.Common.{◌∙◌, ap, time_kind}
 use Rattle.rx_values.proofs.PatternLemmas.{time_of_bytes}
 use Rattle.rx_values.proofs.patterns.pattern.Goals as goal
 

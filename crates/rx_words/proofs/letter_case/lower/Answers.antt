@@ -1,6 +1,4 @@
-use Rattle.rx_terms.proofs.Common.{◌∙◌, ap, map, to_ascii_lowercase, IsUtf8-string_bytes}
-use Rattle.std.proofs.Common.{string_bytes}
-use Rattle.rx_terms.proofs.OkLemmas.{ok_is}
+use Rattle.rx_terms.proofs.Common.{◌∙◌, ap, map, string_bytes, to_ascii_lowercase, IsUtf8-string_bytes, ok_is}
 use Rattle.rx_words.proofs.CaseLemmas.{lower-chars}
 use Rattle.rx_words.proofs.letter_case.lower.Goals as goal
 

@@ -1,21 +1,6 @@
 -- `discard` lets a handle go that owns nothing.
-use Rattle.std.proofs.Common.{◌≡◌, List, [], ◌∷◌, ◌++◌, refl, sym, subst}
-use Rattle.std.proofs.raw_atomic.Walks.{proved_at, leaves}
-use base.Logic.{SProp, ent, id⊢}
-use base.Fml.{ftrue}
-use prog.Wp.{WpFn}
-use mir.Val.{Val, vunit}
-use contract.Running.{tables}
+use Rattle.rx_jsonld.proofs.Common.{◌≡◌, List, [], ◌∷◌, ◌++◌, refl, sym, subst, proved_at, leaves, SProp, ent, id⊢, ftrue, WpFn, Val, vunit, tables, whole, sub, stop, fld, unit_lit, of_opd, returns, enter, alloc_all, pass_all, free_all, look_at, get, get_in, sets, yes, owns, plain, types_at, nothing, Stays, stay_dropped, walk_of, ends_at, Goes-blank}
 use types.Kit.{‵, raw, ◌⊛◌, ◌$◌, ◌∵◌, !, qed, by, drop, keep, use1, split, fsplit, join, feq_i, suffices}
-use types.Part.{whole, sub}
-use types.Run.{stop, fld, unit_lit, of_opd, returns, enter}
-use types.ByLocal.{alloc_all, pass_all, free_all, look_at, get, get_in, sets}
-use denote.Exit.{yes}
-use denote.RattleType.{owns}
-use denote.Signature.{plain, types_at}
-use denote.Steps.{nothing}
-use denote.Triple.Walked.{Stays, stay_dropped, walk_of, ends_at}
-use Rattle.std.proofs.alloc.Calls.{Goes-blank}
 use Rattle.rdfax_c.proofs.HandleSteps.{Handle, word, pointer_good, handle_good, handle_out}
 use Rattle.rdfax_c.specs.contracts.handles.Handle.discard as f
 use Rattle.rdfax_c.proofs.handles.Handle.discard.Statement.{statement}

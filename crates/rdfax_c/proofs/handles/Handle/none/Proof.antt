@@ -1,17 +1,7 @@
 -- `none` makes a handle of the null pointer, which owns nothing.
-use Rattle.std.proofs.Common.{[], ◌∷◌, refl, None}
-use Rattle.std.proofs.raw_atomic.Walks.{proved}
-use base.Logic.{id⊢}
-use base.Fml.{ftrue}
-use contract.Running.{tables}
+use Rattle.rx_jsonld.proofs.Common.{[], ◌∷◌, refl, None, proved, id⊢, ftrue, tables, agg, lit, of_opd, no_more, and_then, returns, enter, alloc_all, pass_all, free_all, look_at, sets, null_ptr, nothing, says, Stays, walk_of, ends_at}
 use types.Kit.{‵, raw, ◌⊛◌, ◌$◌, ◌∵◌, !, qed, done, drop, use1, split, join, suffices}
-use types.Part.{agg}
-use types.Run.{lit, of_opd, no_more, and_then, returns, enter}
-use types.ByLocal.{alloc_all, pass_all, free_all, look_at, sets}
-use denote.RawPtr.{null_ptr}
-use denote.Steps.{nothing}
 use denote.Triple.Entry.{on_entry}
-use denote.Triple.Walked.{says, Stays, walk_of, ends_at}
 use Rattle.rdfax_c.specs.Held.{held}
 use Rattle.rdfax_c.proofs.HandleSteps.{Handle, word, handle_good, handle_in}
 use Rattle.rdfax_c.specs.contracts.handles.Handle.none as f

@@ -1,27 +1,9 @@
 -- `release` gives the box's pointer back.
-use Rattle.std.proofs.Common.{◌≡◌, List, [], ◌∷◌, ◌++◌, ◌∙◌, refl, sym, ap, subst, Option, Some, None, is_some, true, false}
-use Rattle.std.proofs.raw_atomic.Walks.{proved_at}
-use base.Logic.{SProp, ent, id⊢, never, fst∗}
-use base.Fml.{ftrue}
-use prog.Wp.{WpFn}
+use Rattle.rx_jsonld.proofs.Common.{◌≡◌, List, [], ◌∷◌, ◌++◌, ◌∙◌, refl, sym, ap, subst, Option, Some, None, is_some, true, false, proved_at, SProp, ent, id⊢, never, fst∗, ftrue, WpFn, Val, vptr, sem, tables, whole, sub, agg, stop, fld, of_opd, no_more, and_then, returns, enter, alloc_all, pass_all, free_all, look_at, get, get_in, sets, impl, tnil, dnil, yes, RattleType, owns, Ptr, block_ptr, null_ptr, in_a_block, plain, types_at, nothing, heard, says, Stays, stay_dropped, walk_of, ends_at, Al, Goes-blank, handle_tells}
 use mir.Raw.{raw as bare}
-use mir.Val.{Val, vptr}
-use types.Logic.{sem}
 use contract.Monad.{fact}
-use contract.Running.{tables}
 use types.Kit.{‵, raw, ◌⊛◌, ◌$◌, ◌∵◌, !, qed, done, drop, move, keep, use1, split, fsplit, fpick, join, feq_i, rewrite, suffices}
-use types.Part.{whole, sub, agg}
-use types.Run.{stop, fld, of_opd, no_more, and_then, returns, enter}
-use types.ByLocal.{alloc_all, pass_all, free_all, look_at, get, get_in, sets}
-use mir.Syntax.{impl, tnil, dnil}
-use denote.Exit.{yes}
 use denote.Memory.{lone}
-use denote.RattleType.{RattleType, owns}
-use denote.RawPtr.{Ptr, block_ptr, null_ptr, in_a_block}
-use denote.Signature.{plain, types_at}
-use denote.Steps.{nothing, heard}
-use denote.Triple.Walked.{says, Stays, stay_dropped, walk_of, ends_at}
-use Rattle.std.proofs.alloc.Calls.{Al, Goes-blank, handle_tells}
 use Rattle.std.specs.contracts.alloc.Global as global
 use Rattle.std.proofs.alloc.Global.TheLaws as global_laws
 use Rattle.std.specs.contracts.impls.GlobalAllocator.TheImpl.{ghosts}

@@ -1,6 +1,5 @@
-use Rattle.std.proofs.Common.{◌≡◌, ◌∙◌, ℕ, ◌+◌, suc, ap, subst, arith}
+use Rattle.rx_command.proofs.Common.{◌≡◌, ◌∙◌, ℕ, ◌+◌, suc, ap, subst, arith, items_to}
 use Rattle.rx_command.specs.Feeding.{FedTo, IsDeepestTo}
-use Rattle.rx_command.specs.Samples.{items_to}
 use Rattle.rx_command.specs.declared.samples.Feeding.{Feeding}
 use Rattle.rx_command.proofs.SampleLemmas.{whole_due, if_whole, tail_due}
 use Rattle.rx_command.proofs.samples.Feeding.feed.Goals as goal

@@ -1,5 +1,4 @@
-use Rattle.std.proofs.Common.{refl}
-use Rattle.rx_page.proofs.FrontLemmas.{limits_are}
+use Rattle.rx_command.proofs.Common.{refl, limits_are}
 use Rattle.rx_command.proofs.SampleLemmas.{none_fed, started, head_is}
 use Rattle.rx_command.proofs.samples.Feeding.new.Goals as goal
 

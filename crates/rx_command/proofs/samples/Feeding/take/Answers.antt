@@ -1,6 +1,4 @@
-use Rattle.std.proofs.Common.{◌++◌, subst, refl, arith}
-use Rattle.rx_nest.specs.Faults.{StopGives}
-use Rattle.rx_command.specs.Samples.{sample_setting, sample_address}
+use Rattle.rx_command.proofs.Common.{◌++◌, subst, refl, arith, StopGives, sample_setting, sample_address}
 use Rattle.rx_command.proofs.SampleLemmas.{sample_way, no_stop, fed_piece, fits_on, deepens}
 use Rattle.rx_command.proofs.samples.Feeding.take.Goals as goal
 

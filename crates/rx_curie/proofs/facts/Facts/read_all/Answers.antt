@@ -1,5 +1,4 @@
-use Rattle.rx_terms.proofs.Common.{◌∙◌, ap, option_map, is_some, option_and_then, trimmed}
-use Rattle.rx_refs.specs.Resolve.{cleaned}
+use Rattle.rx_rdfa.proofs.Common.{◌∙◌, ap, option_map, is_some, option_and_then, trimmed, cleaned}
 use Rattle.rx_rdfa.specs.Facts as the
 use Rattle.rx_names.specs.Views.{names_seen}
 use Rattle.rx_curie.proofs.FactLemmas.{is_some-seen, link-is}

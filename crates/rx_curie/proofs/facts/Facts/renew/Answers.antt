@@ -1,6 +1,4 @@
-use Rattle.std.proofs.Common.{◌∙◌, ◌∷◌, ap, sym}
-use Rattle.rx_rdfa.specs.Facts.{facts, facts_of}
-use Rattle.rx_rdfa.specs.Refusals.{refusal}
+use Rattle.rx_rdfa.proofs.Common.{◌∙◌, ◌∷◌, ap, sym, facts, facts_of, refusal}
 use Rattle.rx_names.specs.Tags.{tag_of}
 use Rattle.rx_names.specs.Views.{names_seen}
 use Rattle.rx_curie.proofs.RefusalLemmas.{refuses-for, refuses-none, refused-line}

@@ -1,6 +1,4 @@
-use Rattle.rx_terms.proofs.Common.{◌∙◌, ◌++◌, ap, chars, chars-nil, Chars}
-use Rattle.rx_terms.proofs.OkLemmas.{ok_is}
-use Rattle.rx_refs.specs.Resolve.{cleaned}
+use Rattle.rx_rdfa.proofs.Common.{◌∙◌, ◌++◌, ap, chars, chars-nil, Chars, ok_is, cleaned}
 use Rattle.rx_curie.proofs.makers.IriMaker.cleaned.Goals as goal
 
 pub returns-in-Some : goal.returns-in-Some

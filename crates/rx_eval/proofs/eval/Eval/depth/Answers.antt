@@ -1,5 +1,4 @@
-use Rattle.std.proofs.Common.{◌∙◌, ap, length}
-use Rattle.rx_eval.specs.States.{State}
+use Rattle.rx_eval.proofs.Common.{◌∙◌, ap, length, State}
 use Rattle.rx_eval.proofs.ReferringLemmas.{count_waits, none_waits}
 use Rattle.rx_eval.proofs.StandLemmas.{depth_stands}
 use Rattle.rx_eval.proofs.eval.Eval.depth.Goals as goal

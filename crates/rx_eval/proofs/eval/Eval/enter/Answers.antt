@@ -1,9 +1,4 @@
-use Rattle.std.proofs.Common.{rules}
-use Rattle.rx_curie.specs.Seen.{facts_seen}
-use Rattle.rx_eval.specs.Opened.{MayOpen}
-use Rattle.rx_eval.specs.Referring.{with_pending}
-use Rattle.rx_eval.specs.States.{State}
-use Rattle.rx_eval.proofs.StandLemmas.{enter_stands}
+use Rattle.rx_eval.proofs.Common.{rules, facts_seen, MayOpen, with_pending, State, enter_stands}
 use Rattle.rx_eval.proofs.eval.Eval.enter.Goals as goal
 
 pub returns-clause-stands : goal.returns-clause-stands

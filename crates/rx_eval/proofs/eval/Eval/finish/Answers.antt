@@ -1,9 +1,5 @@
-use Rattle.rx_terms.proofs.Common.{◌≡◌, ◌∙◌, ap, sym, subst, List, ℕ, IfOk-weaker}
-use Rattle.rx_model.proofs.Common.{Triple}
-use Rattle.rx_eval.specs.States.{State}
-use Rattle.rx_eval.specs.Standing.{Makes}
+use Rattle.rx_eval.proofs.Common.{◌≡◌, ◌∙◌, ap, sym, subst, List, ℕ, IfOk-weaker, Triple, State, Makes, finish_makes}
 use Rattle.rx_eval.proofs.ReferringLemmas.{out_waits}
-use Rattle.rx_eval.proofs.StandLemmas.{finish_makes}
 use Rattle.rx_eval.proofs.eval.Eval.finish.Goals as goal
 
 pub returns-clause-made : goal.returns-clause-made

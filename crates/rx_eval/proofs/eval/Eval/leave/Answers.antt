@@ -1,6 +1,4 @@
-use Rattle.std.proofs.Common.{rules}
-use Rattle.rx_eval.specs.Referring.{with_pending}
-use Rattle.rx_eval.specs.States.{State}
+use Rattle.rx_eval.proofs.Common.{rules, with_pending, State}
 use Rattle.rx_eval.proofs.EndLemmas.{left_stands}
 use Rattle.rx_eval.proofs.eval.Eval.leave.Goals as goal
 

@@ -1,7 +1,4 @@
-use Rattle.rx_terms.proofs.Common.{rules, ◌≡◌, ◌∙◌, ap, chars}
-use Rattle.rx_eval.specs.Opened.{read_text}
-use Rattle.rx_eval.specs.Referring.{with_pending}
-use Rattle.rx_eval.specs.States.{State}
+use Rattle.rx_eval.proofs.Common.{rules, ◌≡◌, ◌∙◌, ap, chars, read_text, with_pending, State}
 use Rattle.rx_eval.proofs.ReferringLemmas.{reads_waits}
 use Rattle.rx_eval.proofs.StandLemmas.{text_as}
 use Rattle.rx_eval.proofs.eval.Eval.text.Goals as goal

@@ -1,9 +1,5 @@
-use Rattle.std.proofs.Common.{◌++◌, drop}
-use Rattle.rx_model.specs.Seen.{node_seen, triples_seen}
-use Rattle.rx_curie.specs.Seen.{refs_seen}
-use Rattle.rx_eval.specs.Places.{naming}
+use Rattle.rx_eval.proofs.Common.{◌++◌, drop, node_seen, triples_seen, refs_seen, naming, ToCome}
 use Rattle.rx_eval.specs.Starts.{types_of}
-use Rattle.rx_eval.specs.Triples.{ToCome}
 use Rattle.rx_eval.proofs.places.Surroundings.push_types.Given as goal
 
 abbrev pub invariant-loop-i : goal.invariant-loop-i

@@ -1,8 +1,4 @@
-use Rattle.rx_terms.proofs.Common.{◌∙◌, ◌++◌, ap, refl, List, ℕ, option_map}
-use Rattle.rx_model.proofs.Common.{Triple, term_seen, triples_seen}
-use Rattle.rx_curie.specs.Seen.{facts_seen}
-use Rattle.rx_eval.specs.ElementResources.{found_seen}
-use Rattle.rx_eval.specs.Places.{naming, standing}
+use Rattle.rx_eval.proofs.Common.{◌∙◌, ◌++◌, ap, refl, List, ℕ, option_map, Triple, term_seen, triples_seen, facts_seen, found_seen, naming, standing}
 use Rattle.rx_eval.proofs.StartLemmas.{start_is}
 use Rattle.rx_eval.proofs.places.Surroundings.start.Goals as goal
 

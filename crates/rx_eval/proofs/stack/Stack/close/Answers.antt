@@ -1,15 +1,7 @@
-use Rattle.std.proofs.Common.{◌≡◌, ◌∙◌, ◌-◌, refl, ap, length, ℕ, true, arith}
-use Rattle.std.specs.Prelude.{Option, Some, None, option_map, ◌==◌, if◌then◌else◌}
-use Rattle.rx_model.specs.Seen.{triples_seen}
-use Rattle.rx_eval.specs.Contexts.{context_seen}
-use Rattle.rx_eval.specs.OwnersSeen.{owners_seen}
-use Rattle.rx_eval.specs.States.{frame_seen, owner_seen}
-use Rattle.rx_eval.specs.Ending.{ending, end_owner, end_frame}
+use Rattle.rx_eval.proofs.Common.{◌≡◌, ◌∙◌, ◌-◌, refl, ap, length, ℕ, true, arith, Option, Some, None, option_map, ◌==◌, if◌then◌else◌, triples_seen, context_seen, owners_seen, frame_seen, owner_seen, ending, end_owner, end_frame, handed_on, all_frames}
 use Rattle.rx_eval.proofs.KeepLemmas.{sound_left, sound_uncounted, kept_left, kept_is, frames_left, depth_left}
 use Rattle.rx_eval.proofs.SilentLemmas.{skipped_closes}
 use Rattle.rx_eval.proofs.SkippedLemmas.{one_more, rooted_above}
-use Rattle.rx_eval.specs.Opened.{handed_on}
-use Rattle.rx_eval.specs.Skipping.{all_frames}
 use Rattle.rx_eval.proofs.stack.Stack.close.Goals as goal
 
 pub invariant_of-self : goal.invariant_of-self

@@ -1,5 +1,4 @@
-use Rattle.std.proofs.Common.{ap, ℕ}
-use Rattle.rx_rdfa.specs.Resources.{Inherited}
+use Rattle.rx_eval.proofs.Common.{ap, ℕ, Inherited}
 use Rattle.rx_eval.proofs.OpenLemmas.{around_is, shown_waits}
 use Rattle.rx_eval.proofs.stack.Stack.inherited.Goals as goal
 

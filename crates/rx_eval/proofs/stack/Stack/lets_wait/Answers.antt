@@ -1,5 +1,4 @@
-use Rattle.std.proofs.Common.{◌∙◌, sym, ap, arith}
-use Rattle.rx_eval.specs.OwnersSeen.{owners_seen}
+use Rattle.rx_eval.proofs.Common.{◌∙◌, sym, ap, arith, owners_seen}
 use Rattle.rx_eval.proofs.KeepLemmas.{quiet_is}
 use Rattle.rx_eval.proofs.OpenLemmas.{around_is, none_hangs}
 use Rattle.rx_eval.proofs.SeenLemmas.{ended_are}

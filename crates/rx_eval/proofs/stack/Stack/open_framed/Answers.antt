@@ -1,15 +1,6 @@
-use Rattle.rx_terms.proofs.Common.{◌≡◌, ◌∙◌, ◌<◌, arith, List, length, ◌++◌, refl, sym, ap, Bool, length-map}
-use Rattle.rx_model.proofs.Common.{triples_seen}
-use Rattle.rx_curie.specs.Seen.{facts_seen}
-use Rattle.rx_eval.specs.OwnersSeen.{owners_seen}
-use Rattle.rx_eval.specs.Places.{level_at}
-use Rattle.rx_eval.specs.Entering.{start_at, below_at, lists_at, gathers_at, own_at, below_own_at}
-use Rattle.rx_eval.specs.Contexts.{context_seen}
-use Rattle.rx_eval.specs.States.{frame_seen}
+use Rattle.rx_eval.proofs.Common.{◌≡◌, ◌∙◌, ◌<◌, arith, List, length, ◌++◌, refl, sym, ap, Bool, length-map, triples_seen, facts_seen, owners_seen, level_at, start_at, below_at, lists_at, gathers_at, own_at, below_own_at, context_seen, frame_seen, all_frames, first_of}
 use Rattle.rx_eval.specs.declared.frames.Frame.{Frame as CodeFrame}
-use Rattle.rx_eval.specs.Skipping.{all_frames}
 use Rattle.rx_eval.proofs.SkippedLemmas.{framed_more}
-use Rattle.rx_eval.specs.Keeping.{first_of}
 use Rattle.rx_eval.proofs.KeepLemmas.{sound_more}
 use Rattle.rx_eval.proofs.OpenLemmas.{around_is, text_is, opened_text, fresh_room}
 use Rattle.rx_eval.proofs.stack.Stack.open_framed.Goals as goal

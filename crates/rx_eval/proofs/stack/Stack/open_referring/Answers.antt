@@ -1,14 +1,4 @@
-use Rattle.rx_terms.proofs.Common.{◌≡◌, ◌∙◌, ◌++◌, ◌∷◌, ℕ, List, length, Option, sym, ap, ap₂, arith, is_some, length-map}
-use Rattle.rx_model.proofs.Common.{node_seen, Node}
-use Rattle.rx_rdfa.specs.Resources.{Inherited}
-use Rattle.rx_eval.specs.Contexts.{context_seen}
-use Rattle.rx_eval.specs.Entering.{begun_seen}
-use Rattle.rx_eval.specs.Keeping.{first_of}
-use Rattle.rx_eval.specs.Opened.{handed_on}
-use Rattle.rx_eval.specs.OwnersSeen.{Owning, owners_seen}
-use Rattle.rx_eval.specs.Referring.{referring_frame}
-use Rattle.rx_eval.specs.Skipping.{all_frames, skipped_frames}
-use Rattle.rx_eval.specs.States.{Frame, frame_seen}
+use Rattle.rx_eval.proofs.Common.{◌≡◌, ◌∙◌, ◌++◌, ◌∷◌, ℕ, List, length, Option, sym, ap, ap₂, arith, is_some, length-map, node_seen, Node, Inherited, context_seen, begun_seen, first_of, handed_on, Owning, owners_seen, referring_frame, all_frames, skipped_frames, Frame, frame_seen}
 use Rattle.rx_eval.specs.contracts.stack.Stack.{the_view}
 use Rattle.rx_eval.specs.declared.frames.Frame.{Frame as CodeFrame}
 use Rattle.rx_eval.specs.declared.frames.Gathered.{Gathered}

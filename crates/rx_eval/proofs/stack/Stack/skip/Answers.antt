@@ -1,10 +1,4 @@
-use Rattle.std.proofs.Common.{◌∙◌, ◌+◌, ℕ, List, [], ◌∷◌, ◌++◌, ap, ap₂, arith}
-use Rattle.rx_rdfa.specs.Resources.{Inherited}
-use Rattle.rx_eval.specs.Contexts.{context_seen}
-use Rattle.rx_eval.specs.States.{State, Frame}
-use Rattle.rx_eval.specs.Opened.{handed_on}
-use Rattle.rx_eval.specs.Opening.{drawn_after}
-use Rattle.rx_eval.specs.Skipping.{skipped_frame, all_frames}
+use Rattle.rx_eval.proofs.Common.{◌∙◌, ◌+◌, ℕ, List, [], ◌∷◌, ◌++◌, ap, ap₂, arith, Inherited, context_seen, State, Frame, handed_on, drawn_after, skipped_frame, all_frames}
 use Rattle.rx_eval.proofs.OpenLemmas.{around_is}
 use Rattle.rx_eval.proofs.SkippedLemmas.{one_more}
 use Rattle.rx_eval.proofs.KeepLemmas.{sound_counted}

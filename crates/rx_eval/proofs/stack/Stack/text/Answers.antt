@@ -1,6 +1,4 @@
-use Rattle.std.proofs.Common.{◌∙◌, ap, sym}
-use Rattle.rx_eval.specs.Keeping.{gathers_some}
-use Rattle.rx_eval.specs.States.{State}
+use Rattle.rx_eval.proofs.Common.{◌∙◌, ap, sym, gathers_some, State}
 use Rattle.rx_eval.proofs.KeepLemmas.{sound_grown}
 use Rattle.rx_eval.proofs.stack.Stack.text.Goals as goal
 

@@ -1,5 +1,4 @@
-use Rattle.rx_terms.proofs.Common.{◌∙◌, ap, sym, nat_eq}
-use Rattle.rx_model.proofs.Common.{distinct, same_triple, triples_seen, exact_numbers}
+use Rattle.rx_model.proofs.Common.{◌∙◌, ap, sym, nat_eq, distinct, same_triple, triples_seen, exact_numbers}
 use Rattle.rx_graph.proofs.SetLemmas.{still_numbered}
 use Rattle.rx_graph.proofs.graphs.Graph.of_keyed.Goals as goal
 

@@ -1,5 +1,4 @@
-use Rattle.rx_terms.proofs.Common.{◌∙◌, refl}
-use Rattle.rx_model.proofs.Common.{blank_of_term, term_seen}
+use Rattle.rx_model.proofs.Common.{◌∙◌, refl, blank_of_term, term_seen}
 use Rattle.rx_graph.proofs.NumberLemmas.{renamed_triple, subject_stays}
 use Rattle.rx_graph.proofs.numbering.Numbers.give.Goals as goal
 

@@ -1,6 +1,5 @@
-use Rattle.rx_terms.proofs.Common.{◌≡◌, ◌∙◌, subst, List, ℕ, on_ok_weaker}
+use Rattle.rx_model.proofs.Common.{◌≡◌, ◌∙◌, subst, List, ℕ, on_ok_weaker, node_seen, triples_seen}
 use Rattle.rx_terms.specs.declared.triples.Triple.{Triple}
-use Rattle.rx_model.proofs.Common.{node_seen, triples_seen}
 use Rattle.rx_graph.specs.Resources.{resource_seen}
 use Rattle.rx_graph.specs.Copying.{contents}
 use Rattle.rx_graph.proofs.PatternLemmas.{no_number}

@@ -1,5 +1,4 @@
-use Rattle.rx_terms.proofs.Common.{arith, slice_get-get_or}
-use Rattle.rx_model.proofs.Common.{node_seen, triples_seen}
+use Rattle.rx_model.proofs.Common.{arith, slice_get-get_or, node_seen, triples_seen}
 use Rattle.rx_graph.proofs.PlaceLemmas.{given_turn, given_all}
 use Rattle.rx_graph.proofs.patterns.Patterns.give_all.Goals as goal
 

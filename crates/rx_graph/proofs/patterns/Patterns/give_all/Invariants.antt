@@ -1,5 +1,4 @@
-use Rattle.rx_terms.proofs.Common.{◌≡◌, filter_map, take, nat_eq}
-use Rattle.rx_model.proofs.Common.{same_triple, with_all, node_seen, triples_seen}
+use Rattle.rx_model.proofs.Common.{◌≡◌, filter_map, take, nat_eq, same_triple, with_all, node_seen, triples_seen}
 use Rattle.rx_graph.specs.Copying.{given_at}
 use Rattle.rx_graph.proofs.patterns.Patterns.give_all.Given as goal
 

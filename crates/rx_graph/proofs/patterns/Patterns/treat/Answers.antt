@@ -1,6 +1,5 @@
-use Rattle.rx_terms.proofs.Common.{◌≡◌, ◌∙◌, ap, sym, subst, List, false, Some, None, nat_eq, option_map, on_ok_weaker}
+use Rattle.rx_model.proofs.Common.{◌≡◌, ◌∙◌, ap, sym, subst, List, false, Some, None, nat_eq, option_map, on_ok_weaker, contains, with_one, same_node, same_triple, edges, is_referenced, live, triple_seen, triples_seen, node_seen}
 use Rattle.rx_terms.specs.declared.triples.Triple.{Triple}
-use Rattle.rx_model.proofs.Common.{contains, with_one, same_node, same_triple, edges, is_referenced, live, triple_seen, triples_seen, node_seen}
 use Rattle.rx_graph.specs.Resources.{resource_seen}
 use Rattle.rx_graph.proofs.PatternLemmas.{live_is}
 use Rattle.rx_graph.proofs.PlaceLemmas.{treated_kept, treated_live, referenced_is}

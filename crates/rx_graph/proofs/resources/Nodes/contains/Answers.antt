@@ -1,5 +1,4 @@
-use Rattle.std.proofs.Common.{◌∙◌, nat_eq}
-use Rattle.rx_model.specs.Terms.{same_node}
+use Rattle.rx_model.proofs.Common.{◌∙◌, nat_eq, same_node}
 use Rattle.rx_graph.specs.Resources.{resource_seen}
 use Rattle.rx_graph.proofs.SetLemmas.{any_seen}
 use Rattle.rx_graph.proofs.CodeEq.{resource_eq, resources_agree_back}

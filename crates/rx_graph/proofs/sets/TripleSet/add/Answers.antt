@@ -1,5 +1,4 @@
-use Rattle.std.proofs.Common.{◌∙◌, ap}
-use Rattle.rx_model.specs.Seen.{triples_seen}
+use Rattle.rx_model.proofs.Common.{◌∙◌, ap, triples_seen}
 use Rattle.rx_graph.proofs.SetLemmas.{added_seen}
 use Rattle.rx_graph.proofs.CodeEq.{code_eq, exact_code}
 use Rattle.rx_graph.proofs.sets.TripleSet.add.Goals as goal

@@ -1,6 +1,5 @@
-use Rattle.std.proofs.Common.{refl}
+use Rattle.rx_items.proofs.Common.{refl, begun}
 use Rattle.rx_nest.specs.Nests.{tag_shown}
-use Rattle.rx_nest.specs.Signs.{begun}
 use Rattle.rx_items.proofs.Telling.{collects_next}
 use Rattle.rx_items.proofs.collectors.Collector.begin.Goals as goal
 

@@ -1,5 +1,4 @@
-use Rattle.std.proofs.Common.{refl}
-use Rattle.rx_nest.specs.Signs.{finished}
+use Rattle.rx_items.proofs.Common.{refl, finished}
 use Rattle.rx_items.proofs.Telling.{collects_next}
 use Rattle.rx_items.proofs.collectors.Collector.finish.Goals as goal
 

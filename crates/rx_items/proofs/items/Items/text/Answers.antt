@@ -1,10 +1,5 @@
-use Rattle.std.proofs.Common.{subst, sym}
-use Rattle.rx_microdata.specs.Json.{Outcome}
-use Rattle.rx_microdata.specs.Visits.{standard_bounds}
-use Rattle.rx_items.specs.Rows.{rows_of}
-use Rattle.rx_items.specs.Held.{HoldsRows}
+use Rattle.rx_items.proofs.Common.{subst, sym, Outcome, standard_bounds, rows_of, HoldsRows, TextGives}
 use Rattle.rx_items.specs.declared.kept.Kept.{Kept}
-use Rattle.rx_items.specs.Pages.{TextGives}
 use Rattle.rx_items.proofs.RowLaws.{rows_suffice}
 use Rattle.rx_items.proofs.items.Items.text.Goals as goal
 

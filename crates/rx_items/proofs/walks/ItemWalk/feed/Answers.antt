@@ -1,5 +1,4 @@
-use Rattle.std.proofs.Common.{sym, subst}
-use Rattle.rx_items.specs.Growing.{IsIdle}
+use Rattle.rx_items.proofs.Common.{sym, subst, IsIdle}
 use Rattle.rx_items.specs.Walks.{Walked, ItemWalkStands}
 use Rattle.rx_items.proofs.walks.ItemWalk.feed.Goals as goal
 

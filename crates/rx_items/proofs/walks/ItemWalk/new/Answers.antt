@@ -1,5 +1,4 @@
-use Rattle.std.proofs.Common.{refl}
-use Rattle.rx_items.specs.Collecting.{Setting}
+use Rattle.rx_items.proofs.Common.{refl, Setting}
 use Rattle.rx_items.proofs.walks.ItemWalk.new.Goals as goal
 
 pub new-requires : goal.new-requires

@@ -1,6 +1,4 @@
-use Rattle.rx_model.specs.Seen.{triples_seen}
-use Rattle.rx_shapes.specs.Table.{shape_in}
-use Rattle.rx_jsonld.specs.Value.{jsonld}
+use Rattle.rx_jsonld.proofs.Common.{triples_seen, shape_in, jsonld}
 use Rattle.rx_jsonld.proofs.EventLemmas.{of_writable}
 use Rattle.rx_jsonld.proofs.texts.NodeObjectsSerialize.serialize.Goals as goal
 

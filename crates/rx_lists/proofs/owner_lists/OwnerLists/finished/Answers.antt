@@ -1,6 +1,5 @@
-use Rattle.std.proofs.Common.{arith, ap}
+use Rattle.rx_model.proofs.Common.{arith, ap, node_seen, triples_seen}
 use Rattle.rx_lists.specs.Owners.{Owned}
-use Rattle.rx_model.specs.Seen.{node_seen, triples_seen}
 use Rattle.rx_lists.proofs.FinishLemmas.{next_list, room_for, all_written}
 use Rattle.rx_lists.proofs.owner_lists.OwnerLists.finished.Goals as goal
 

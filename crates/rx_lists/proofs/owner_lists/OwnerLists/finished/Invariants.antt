@@ -1,5 +1,4 @@
-use Rattle.std.proofs.Common.{drop}
-use Rattle.rx_model.specs.Seen.{node_seen, triples_seen}
+use Rattle.rx_model.proofs.Common.{drop, node_seen, triples_seen}
 use Rattle.rx_lists.proofs.FinishLemmas.{LeftOver}
 use Rattle.rx_lists.proofs.owner_lists.OwnerLists.finished.Given as goal
 

@@ -1,5 +1,4 @@
-use Rattle.std.proofs.Common.{ap, List}
-use Rattle.std.specs.Prelude.{Option, Some, slice_set}
+use Rattle.rx_terms.proofs.Common.{ap, List, Option, Some, slice_set}
 use Rattle.rx_terms.specs.declared.triples.Term.{Term}
 use Rattle.rx_lists.proofs.SlotLemmas.{row_is, row_set}
 use Rattle.rx_lists.proofs.slot_rows.SlotRows.put.Goals as goal

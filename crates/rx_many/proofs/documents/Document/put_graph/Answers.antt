@@ -1,5 +1,4 @@
-use Rattle.rx_terms.proofs.Common.{map, refl, sym, subst, on_ok_weaker, Chars}
-use Rattle.rx_model.proofs.Common.{triples_seen}
+use Rattle.rx_model.proofs.Common.{map, refl, sym, subst, on_ok_weaker, Chars, triples_seen}
 use Rattle.rx_many.specs.Lines.{statement_at}
 use Rattle.rx_many.specs.Standing.{AreNew}
 use Rattle.rx_many.proofs.PageLemmas.{turned, in_graph}

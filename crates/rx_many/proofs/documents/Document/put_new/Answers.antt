@@ -1,6 +1,4 @@
-use Rattle.std.proofs.Common.{ap, refl}
-use Rattle.rx_terms.proofs.OkLemmas.{on_ok_both}
-use Rattle.rx_model.specs.Seen.{triple_seen}
+use Rattle.rx_model.proofs.Common.{ap, refl, on_ok_both, triple_seen}
 use Rattle.rx_many.proofs.PageLemmas.{own_statement}
 use Rattle.rx_many.proofs.documents.Document.put_new.Goals as goal
 

@@ -1,6 +1,4 @@
-use Rattle.rx_terms.proofs.Common.{◌∙◌, ◌++◌, ◌∷◌, [], refl, sym, ap, on_ok_weaker}
-use Rattle.std.proofs.Common.{if◌then◌else◌}
-use Rattle.rx_model.proofs.Common.{rename, triple_seen}
+use Rattle.rx_model.proofs.Common.{◌∙◌, ◌++◌, ◌∷◌, [], refl, sym, ap, if◌then◌else◌, on_ok_weaker, rename, triple_seen}
 use Rattle.rx_many.specs.Lines.{statement}
 use Rattle.rx_many.specs.Numbering.{number_at}
 use Rattle.rx_many.proofs.PageLemmas.{old_statement, new_statement}

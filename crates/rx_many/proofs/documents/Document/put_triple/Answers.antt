@@ -1,5 +1,4 @@
-use Rattle.rx_terms.proofs.Common.{◌∙◌, sym, refl, inl}
-use Rattle.rx_model.proofs.Common.{rename, triple_seen}
+use Rattle.rx_model.proofs.Common.{◌∙◌, sym, refl, inl, rename, triple_seen}
 use Rattle.rx_many.specs.Blank.{has_blank}
 use Rattle.rx_many.specs.Lines.{at_place}
 use Rattle.rx_many.proofs.PageLemmas.{repeats, repeats_not, same_blanks}

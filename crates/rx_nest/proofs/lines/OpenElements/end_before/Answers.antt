@@ -1,5 +1,4 @@
-use Rattle.std.proofs.Common.{◌≡◌, ◌≤◌, ◌∙◌, true, false, ap, subst, length, nat_le}
-use Rattle.std.specs.Str.{chars}
+use Rattle.rx_terms.proofs.Common.{◌≡◌, ◌≤◌, ◌∙◌, true, false, ap, subst, length, nat_le, chars}
 use Rattle.rx_nest.specs.Levels.{Levels, ends_by}
 use Rattle.rx_nest.specs.Lines.{Lines}
 use Rattle.rx_nest.proofs.LevelLemmas.{kept_full}

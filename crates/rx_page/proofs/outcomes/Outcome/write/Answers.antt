@@ -1,5 +1,4 @@
-use Rattle.std.proofs.Common.{OnOk, IsErrOf, ℕ, List, subst, sym, rules}
-use Rattle.rx_ports.specs.Shelves.{WhereKnown, GrowsBy, GrowsByPart}
+use Rattle.rx_jsonld.proofs.Common.{OnOk, IsErrOf, ℕ, List, subst, sym, rules, WhereKnown, GrowsBy, GrowsByPart}
 use Rattle.rx_pieces.specs.declared.errors.WriteError.TheVariants as error
 use Rattle.rx_page.specs.Written.{text_of, Denoted}
 use Rattle.rx_page.specs.declared.outcomes.Outcome.{Outcome}

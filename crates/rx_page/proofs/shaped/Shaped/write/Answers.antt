@@ -1,9 +1,5 @@
-use Rattle.std.proofs.Common.{OnOk, IsErrOf, map, ℕ, List, subst}
-use Rattle.std.specs.Str.{chars}
-use Rattle.rx_ports.specs.Shelves.{WhereKnown, GrowsBy, GrowsByPart}
+use Rattle.rx_notation.proofs.Common.{OnOk, IsErrOf, map, ℕ, List, subst, chars, WhereKnown, GrowsBy, GrowsByPart, proper_triple, NestedTurtle}
 use Rattle.rx_pieces.specs.declared.errors.WriteError.TheVariants as error
-use Rattle.rx_nquads.specs.Quads.{proper_triple}
-use Rattle.rx_notation.specs.Meaning.{NestedTurtle}
 use Rattle.rx_page.specs.Shaped.{Shaped}
 use Rattle.rx_page.specs.Written.{nested_text}
 use Rattle.rx_page.proofs.shaped.Shaped.write.Goals as goal

@@ -1,5 +1,4 @@
-use Rattle.std.proofs.Common.{refl}
-use Rattle.rx_items.specs.Collecting.{way_of}
+use Rattle.rx_items.proofs.Common.{refl, way_of}
 use Rattle.rx_page.specs.Readers.{shown_read}
 use Rattle.rx_page.proofs.ReaderLemmas.{items_ended}
 use Rattle.rx_page.proofs.walks.ItemWalkPageReader.finish.Goals as goal

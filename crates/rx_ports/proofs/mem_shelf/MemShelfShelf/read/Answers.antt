@@ -1,6 +1,4 @@
-use Rattle.std.proofs.Common.{arith, ap, ◌≡◌, ◌≤◌, ◌+◌, ℕ, List, ◌++◌, length, take, drop, Option, Some, None, sym, ◌∙◌}
-use Rattle.std.proofs.lemmas.Grind.{common_steps}
-use Rattle.std.proofs.lemmas.List.{drop-drop, take-append-drop}
+use Rattle.rx_terms.proofs.Common.{arith, ap, ◌≡◌, ◌≤◌, ◌+◌, ℕ, List, ◌++◌, length, take, drop, Option, Some, None, sym, ◌∙◌, common_steps, drop-drop, take-append-drop}
 use Rattle.rx_ports.specs.MemShelf.{left_of}
 use Rattle.rx_ports.specs.Files.{file_bytes}
 use Rattle.rx_ports.proofs.MoveLemmas.{moves_some}

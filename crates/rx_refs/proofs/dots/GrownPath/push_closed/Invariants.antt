@@ -1,6 +1,4 @@
-use Rattle.rx_terms.proofs.Common.{◌≡◌, ◌++◌, length, chars, Chars}
-use denote.Text.{Utf8}
-use denote.Shadow.{shadow}
+use Rattle.rx_terms.proofs.Common.{◌≡◌, ◌++◌, length, chars, Chars, Utf8, shadow}
 use Rattle.rx_refs.specs.Resolve.{through_last_slash}
 use Rattle.rx_refs.specs.Segments.{Takes}
 use Rattle.rx_refs.proofs.dots.GrownPath.push_closed.Given as goal

@@ -1,5 +1,4 @@
-use Rattle.std.proofs.Common.{◌≡◌, ◌⊎◌, ◌+◌, ◌-◌, ◌≤◌, ◌<◌, [], true, take, length}
-use Rattle.rx_pages.specs.PageReader.{Scanning}
+use Rattle.rx_pages.proofs.Common.{◌≡◌, ◌⊎◌, ◌+◌, ◌-◌, ◌≤◌, ◌<◌, [], true, take, length, Scanning}
 use Rattle.rx_tags.specs.TagBufs.{MayStep}
 use Rattle.rx_scan.specs.declared.marks.TokenState.TheVariants as mark
 use Rattle.rx_scan.specs.Steps.{ReadsAs, is_quiet}

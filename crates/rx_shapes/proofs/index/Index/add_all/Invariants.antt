@@ -1,5 +1,4 @@
-use Rattle.std.proofs.Common.{take}
-use Rattle.rx_model.specs.Seen.{triples_seen}
+use Rattle.rx_model.proofs.Common.{take, triples_seen}
 use Rattle.rx_shapes.specs.Links.{HasNodes}
 use Rattle.rx_shapes.proofs.index.Index.add_all.Given as goal
 

@@ -1,5 +1,4 @@
-use Rattle.std.proofs.Common.{◌∙◌, sym, ap, arith}
-use Rattle.rx_grammar.specs.Tags.{has_repeat}
+use Rattle.rx_grammar.proofs.Common.{◌∙◌, sym, ap, arith, has_repeat}
 use Rattle.rx_tags.specs.Reading.{Reading}
 use Rattle.rx_tags.proofs.Pieces.{rows_fit_past}
 use Rattle.rx_tags.proofs.RepeatLemmas.{nothing_left, keeps_fit}

@@ -1,5 +1,4 @@
-use Rattle.std.proofs.Common.{◌∙◌, sym, ap, refl, Ok, ◌++◌}
-use Rattle.rx_grammar.specs.References.{meaning}
+use Rattle.rx_grammar.proofs.Common.{◌∙◌, sym, ap, refl, Ok, ◌++◌, meaning}
 use Rattle.rx_tags.specs.Pairs.{after_first}
 use Rattle.rx_tags.proofs.PairLemmas.{applied, step_law, goes_pending, run_is, pushed_value, closes_none, closes_some}
 use Rattle.rx_tags.proofs.pairs.Pairs.take.Goals as goal

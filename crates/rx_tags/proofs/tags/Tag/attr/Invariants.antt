@@ -1,5 +1,4 @@
-use Rattle.rx_terms.proofs.Common.{◌≡◌, drop, chars}
-use Rattle.rx_grammar.proofs.Common.{value_of}
+use Rattle.rx_grammar.proofs.Common.{◌≡◌, drop, chars, value_of}
 use Rattle.rx_tags.specs.Seen.{tag_seen}
 use Rattle.rx_tags.proofs.tags.Tag.attr.Given as goal
 

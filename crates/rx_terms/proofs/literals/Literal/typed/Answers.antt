@@ -1,8 +1,5 @@
-use Rattle.std.proofs.Common.{◌≡◌, ◌≢◌, ◌∙◌, ℕ, List, ap, sym, refl, true, false, nat_eq}
-use Rattle.std.specs.Cmp.Lexicographic.{pointwise, bytes_decides}
-use Rattle.rx_terms.specs.Literal.{xsd_string}
+use Rattle.rx_terms.proofs.Common.{◌≡◌, ◌≢◌, ◌∙◌, ℕ, List, ap, sym, refl, true, false, nat_eq, pointwise, bytes_decides, xsd_string, same-ascii}
 use Rattle.rx_terms.specs.declared.literals.LiteralKind.TheVariants.{Typed}
-use Rattle.rx_terms.proofs.CharLemmas.{same-ascii}
 use Rattle.rx_terms.proofs.literals.Literal.typed.Goals as goal
 
 other_kind : (datatype : List ℕ) → pointwise nat_eq datatype xsd_string ≡ false → Typed datatype ≢ Typed xsd_string

@@ -1,7 +1,5 @@
-use Rattle.std.proofs.Common.{◌∙◌, sym, ap}
-use Rattle.std.specs.Prelude.{string_bytes}
+use Rattle.rx_terms.proofs.Common.{◌∙◌, sym, ap, string_bytes, encodes-chars}
 use Rattle.std.specs.Str.{chars, encode_utf8_all}
-use Rattle.std.proofs.lemmas.Str.{encodes-chars}
 use Rattle.rx_terms.proofs.texts.Text.as_str.Goals as goal
 
 pub returns-clause-bytes : goal.returns-clause-bytes

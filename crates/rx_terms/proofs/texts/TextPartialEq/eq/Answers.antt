@@ -1,7 +1,4 @@
-use Rattle.std.proofs.Common.{◌∙◌, ap, nat_eq}
-use Rattle.std.specs.Str.{chars}
-use Rattle.std.specs.Cmp.Lexicographic.{pointwise}
-use Rattle.rx_terms.proofs.CharLemmas.{same-chars}
+use Rattle.rx_terms.proofs.Common.{◌∙◌, ap, nat_eq, chars, pointwise, same-chars}
 use Rattle.rx_terms.proofs.texts.TextPartialEq.eq.Goals as goal
 
 pub returns : goal.returns

@@ -1,5 +1,4 @@
-use Rattle.std.proofs.Common.{◌<◌, arith, length}
-use Rattle.rx_graph.specs.Resources.{resource_seen}
+use Rattle.rx_turtle.proofs.Common.{◌<◌, arith, length, resource_seen}
 use Rattle.rx_turtle.proofs.TakenLemmas.{key_at}
 use Rattle.rx_turtle.proofs.groups.Groups.is_at.Goals as goal
 

@@ -1,5 +1,4 @@
-use Rattle.rx_terms.proofs.Common.{◌∙◌, take, map, ap, sym, arith, refl, slice_get_read}
-use Rattle.rx_turtle.specs.Groups.{keys_in}
+use Rattle.rx_turtle.proofs.Common.{◌∙◌, take, map, ap, sym, arith, refl, slice_get_read, keys_in}
 use Rattle.rx_turtle.proofs.GroupLemmas.{lent_seen}
 use Rattle.rx_turtle.proofs.TakenLemmas.{taken_turn, taken_end, taken_once}
 use Rattle.rx_turtle.proofs.groups.Groups.of.Goals as goal

@@ -1,5 +1,4 @@
-use Rattle.std.proofs.Common.{◌≡◌, take, map}
-use Rattle.rx_turtle.specs.Groups.{keys_in, grouped}
+use Rattle.rx_turtle.proofs.Common.{◌≡◌, take, map, keys_in, grouped}
 use Rattle.rx_turtle.proofs.GroupLemmas.{lent_seen}
 use Rattle.rx_turtle.proofs.groups.Groups.of.Given as goal
 

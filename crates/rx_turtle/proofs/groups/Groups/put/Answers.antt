@@ -1,5 +1,4 @@
-use Rattle.rx_terms.proofs.Common.{◌∙◌, ◌<◌, ap, sym, arith, length, refl, length-map}
-use Rattle.rx_turtle.specs.Groups.{Keyed, group_seen}
+use Rattle.rx_turtle.proofs.Common.{◌∙◌, ◌<◌, ap, sym, arith, length, refl, length-map, Keyed, group_seen}
 use Rattle.rx_turtle.proofs.GroupLemmas.{put_seen}
 use Rattle.rx_turtle.proofs.groups.Groups.put.Goals as goal
 

@@ -1,8 +1,5 @@
-use Rattle.rx_terms.proofs.Common.{◌∙◌, ap, sym, on_ok_weaker}
+use Rattle.rx_turtle.proofs.Common.{◌∙◌, ap, sym, on_ok_weaker, triple_seen, resource_seen, keys_in}
 use Rattle.rx_terms.proofs.OkLemmas.{on_ok_both}
-use Rattle.rx_model.proofs.Common.{triple_seen}
-use Rattle.rx_graph.specs.Resources.{resource_seen}
-use Rattle.rx_turtle.specs.Groups.{keys_in}
 use Rattle.rx_turtle.proofs.TakenLemmas.{keys_put, keys_begun}
 use Rattle.rx_turtle.proofs.groups.Groups.take.Goals as goal
 

@@ -1,6 +1,4 @@
-use Rattle.std.proofs.Common.{◌∙◌, ap}
-use Rattle.rx_model.specs.Seen.{triple_seen}
-use Rattle.rx_turtle.specs.Groups.{put_in}
+use Rattle.rx_turtle.proofs.Common.{◌∙◌, ap, triple_seen, put_in}
 use Rattle.rx_turtle.proofs.TakenLemmas.{put_last}
 use Rattle.rx_turtle.proofs.groups.Groups.take_new.Goals as goal
 

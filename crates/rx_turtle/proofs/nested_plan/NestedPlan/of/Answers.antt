@@ -1,10 +1,6 @@
-use Rattle.std.proofs.Common.{◌∙◌, ap, sym, subst, length}
-use Rattle.rx_model.specs.Seen.{triples_seen}
+use Rattle.rx_turtle.proofs.Common.{◌∙◌, ap, sym, subst, length, triples_seen, names_rise, nested, marked_all, unmarked}
 use Rattle.rx_shapes.specs.Table.{shape_in}
-use Rattle.rx_notation.specs.Short.{names_rise}
-use Rattle.rx_notation.specs.Nesting.{nested}
 use Rattle.rx_turtle.specs.Nested.{iris_of_tokens, AreWritable}
-use Rattle.rx_turtle.specs.Uses.{marked_all, unmarked}
 use Rattle.rx_turtle.proofs.NestedLemmas.{nested_is, marks_long, text_denotes}
 use Rattle.rx_turtle.proofs.nested_plan.NestedPlan.of.Goals as goal
 

@@ -1,6 +1,5 @@
-use Rattle.std.proofs.Common.{drop}
+use Rattle.rx_turtle.proofs.Common.{drop, AreRows}
 use Rattle.rx_turtle.specs.Places.{Finds}
-use Rattle.rx_turtle.specs.Rows.{AreRows}
 use Rattle.rx_turtle.proofs.places.Places.of.Given as goal
 
 abbrev pub invariant-loop-place : goal.invariant-loop-place

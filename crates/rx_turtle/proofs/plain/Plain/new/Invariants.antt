@@ -1,5 +1,4 @@
-use Rattle.std.proofs.Common.{◌≡◌, ℕ, true, false, length, get_or}
-use Rattle.rx_notation.specs.Short.{is_name_char}
+use Rattle.rx_turtle.proofs.Common.{◌≡◌, ℕ, true, false, length, get_or, is_name_char}
 use Rattle.rx_turtle.proofs.plain.Plain.new.Given as goal
 
 abbrev pub invariant-loop-i : goal.invariant-loop-i

@@ -1,8 +1,4 @@
-use Rattle.std.proofs.Common.{◌∙◌, ap, sym, length}
-use Rattle.rx_model.specs.Seen.{triples_seen}
-use Rattle.rx_notation.specs.Short.{names_rise}
-use Rattle.rx_notation.specs.Layout.{turtle}
-use Rattle.rx_turtle.specs.Uses.{used_marks}
+use Rattle.rx_turtle.proofs.Common.{◌∙◌, ap, sym, length, triples_seen, names_rise, turtle, used_marks}
 use Rattle.rx_turtle.proofs.TextLemmas.{text_is, text_denotes}
 use Rattle.rx_turtle.proofs.UseLemmas.{marks_size}
 use Rattle.rx_turtle.proofs.plan.Plan.of.Goals as goal

@@ -1,5 +1,4 @@
-use Rattle.std.proofs.Common.{◌∙◌, ap, sym}
-use Rattle.rx_notation.specs.Short.{names_rise}
+use Rattle.rx_turtle.proofs.Common.{◌∙◌, ap, sym, names_rise}
 use Rattle.rx_turtle.proofs.PlaceLemmas.{rises}
 use Rattle.rx_turtle.proofs.shorts.Shorts.len.Goals as goal
 

@@ -1,6 +1,4 @@
-use Rattle.std.proofs.Common.{◌∙◌, ap, sym, subst, length}
-use Rattle.rx_notation.specs.Short.{names_rise, prefix_of}
-use Rattle.rx_turtle.specs.Shorts.{IsPlace}
+use Rattle.rx_turtle.proofs.Common.{◌∙◌, ap, sym, subst, length, names_rise, prefix_of, IsPlace}
 use Rattle.rx_turtle.proofs.Finding.{place_is}
 use Rattle.rx_turtle.proofs.PlaceLemmas.{rises, no_place}
 use Rattle.rx_turtle.proofs.shorts.Shorts.place.Goals as goal

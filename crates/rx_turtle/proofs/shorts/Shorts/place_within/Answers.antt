@@ -1,5 +1,4 @@
-use Rattle.std.proofs.Common.{◌∙◌, arith, refl, length}
-use Rattle.rx_turtle.specs.Shorts.{place_below}
+use Rattle.rx_turtle.proofs.Common.{◌∙◌, arith, refl, length, place_below}
 use Rattle.rx_turtle.proofs.PlaceLemmas.{goes_on, from_start}
 use Rattle.rx_turtle.proofs.shorts.Shorts.place_within.Goals as goal
 

@@ -1,5 +1,4 @@
-use Rattle.rx_terms.proofs.Common.{◌≡◌, ◌≤◌, length, option_or}
-use Rattle.rx_turtle.specs.Shorts.{place_at, place_below}
+use Rattle.rx_turtle.proofs.Common.{◌≡◌, ◌≤◌, length, option_or, place_at, place_below}
 use Rattle.rx_turtle.proofs.shorts.Shorts.place_within.Given as goal
 
 abbrev pub invariant-loop-left : goal.invariant-loop-left
