@@ -1,16 +1,16 @@
 -- Decoding a byte at a time against whole texts.
-use Rattle.std.proofs.Common.{◌≡◌, ◌≢◌, ◌⊎◌, ⊎_elim, inl, inr, ℕ, true, List, [], ◌∷◌, ◌++◌, refl, sym, ap, ◌∙◌, subst, append_assoc}
+use Rattle.std.proofs.Common.{length, length-append, arith, ◌≡◌, ◌≢◌, ◌⊎◌, ⊎_elim, inl, inr, ℕ, true, List, [], ◌∷◌, ◌++◌, refl, sym, ap, ◌∙◌, subst, append_assoc}
 use Rattle.std.proofs.lemmas.Bool.{and_parts, and_from, both_ways}
 use Rattle.std.proofs.lemmas.List.{append-nil}
 use Rattle.std.proofs.lemmas.Str.{encodes-append, cons_from_encodes}
 use Rattle.std.specs.Char.{IsScalar}
 use Rattle.std.specs.Str.{all_scalars, IsUtf8}
 use lib.Utf8.{encode, encodes, scalar}
-use Rattle.rx_chars.specs.Utf8.{is_well_formed, begins_sequence, well_formed_rows, IsCharacter, BeginsCharacter, BeginNone, Answers}
+use Rattle.rx_chars.specs.Utf8.{begins_sequence, IsCharacter, BeginsCharacter, BeginNone, Answers}
 use Rattle.rx_chars.specs.Decoding.{IsDecoded, BeginNoText, DecodesMore}
 use Rattle.rx_chars.specs.declared.utf8.Utf8Step.{Utf8Step}
 use Rattle.rx_chars.specs.declared.utf8.Utf8Step.TheVariants.{More, Char, Bad}
-use Rattle.rx_chars.proofs.Utf8Exact.{any_longer, whole_excludes, begins-from_rows}
+use Rattle.rx_chars.proofs.Utf8Exact.{rows_begin, whole_excludes, begins-from_rows}
 use Rattle.rx_chars.proofs.Utf8Forms.{form_of, character_of_form}
 
 -- two fronts of one list: the second has the first in front, or the first goes on
@@ -31,18 +31,15 @@ scalars-append (x ∷ xs) ys left right =
 -- what begins a character has no whole one in front
 no_whole : (d : ℕ) (rest held : List ℕ) → IsScalar d → encode d ++ rest ≡ held → BeginsCharacter held → ⊥
 no_whole d rest held scalar_d same begun =
-    let whole : is_well_formed (encode d) ≡ true = (character_of_form d scalar_d).well_formed in
-    longer rest begun.more begun.longer
-    (subst (λ bytes. is_well_formed bytes ≡ true) (append_assoc (encode d) rest begun.more)
-    (subst (λ bytes. is_well_formed (bytes ++ begun.more) ≡ true) (sym same) begun.character.well_formed))
-    whole
-  where
-    longer : (rest more : List ℕ) → more ≢ [] → is_well_formed (encode d ++ (rest ++ more)) ≡ true → is_well_formed (encode d) ≡ true → ⊥
-    longer [] [] some all whole = some refl
-    longer [] (m ∷ more) some all whole =
-        both_ways (begins_sequence (encode d)) (whole_excludes (encode d) whole) (any_longer well_formed_rows (encode d) m more all)
-    longer (r ∷ rest) more some all whole =
-        both_ways (begins_sequence (encode d)) (whole_excludes (encode d) whole) (any_longer well_formed_rows (encode d) r (rest ++ more) all)
+    both_ways (begins_sequence (encode d)) (whole_excludes (encode d) (character_of_form d scalar_d).well_formed) (rows_begin (encode d) (record {
+      more = rest ++ begun.more;
+      value = begun.value;
+      longer = some rest begun.more begun.longer;
+      character = subst (λ bytes. IsCharacter bytes begun.value) (ap (λ bytes. bytes ++ begun.more) (sym same) ∙ append_assoc (encode d) rest begun.more) begun.character;
+    })) where
+      some : (rest more : List ℕ) → more ≢ [] → rest ++ more ≢ []
+      some [] more longer e = longer e
+      some (r ∷ rest) more longer e = cc e
 
 -- a text that begins with the characters goes on with a text
 without_front : (cs ds xs : List ℕ) → all_scalars ds ≡ true → encodes ds ≡ encodes cs ++ xs → (es : List ℕ) × ((all_scalars es ≡ true) × (encodes es ≡ xs))
@@ -78,11 +75,7 @@ bad_begins_none bytes characters held byte decoded none more text =
         (same ∙ (ap (λ x. held ++ x ∷ m) next ∙ sym (append_assoc held (byte ∷ []) m))) (character_of_form e scalar_e))
 
     no_text : (es : List ℕ) → all_scalars es ≡ true → encodes es ≡ held ++ byte ∷ more → ⊥
-    no_text [] scalars same = nothing held same
-      where
-        nothing : (held : List ℕ) → [] ≡ held ++ byte ∷ more → ⊥
-        nothing [] e = cc
-        nothing (h ∷ held) e = cc
+    no_text [] scalars same = omega (arith, ap length same, length-append held (byte ∷ more))
     no_text (e ∷ es) scalars same =
         let scalar_e = (and_parts (scalar e) (all_scalars es) scalars).0 in
         ⊎_elim

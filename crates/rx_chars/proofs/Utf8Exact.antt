@@ -1,5 +1,5 @@
 -- The tests by rows against the relations: which bytes begin a sequence, and that exactly one answer holds.
-use Rattle.std.proofs.Common.{◌≡◌, ◌≢◌, ◌↔◌, ◌⊎◌, inl, inr, ⊎_elim, ℕ, Bool, true, false, ◌&&◌, nat_le, List, [], ◌∷◌, ◌++◌, refl, sym, ap, ◌∙◌, subst, arith}
+use Rattle.std.proofs.Common.{◌≡◌, ◌≢◌, ◌↔◌, ⊎_elim, ℕ, Bool, true, false, ◌&&◌, nat_le, List, [], ◌∷◌, ◌++◌, refl, sym, ap, ◌∙◌, subst, arith}
 use Rattle.std.proofs.lemmas.Bool.{and_parts, and_from, or_cases, or_left, or_right, cases_Bool, false_from_ne_true, false≢true, both_ways}
 use Rattle.std.proofs.lemmas.Bool.Decides.{nat_tests}
 use Rattle.std.proofs.lemmas.List.{append-nil}
@@ -11,37 +11,16 @@ use Rattle.rx_chars.specs.declared.utf8.Utf8Step.TheVariants.{More, Char, Bad}
 use Rattle.rx_chars.proofs.Utf8Rows.{whole_one, whole_two, whole_three, begun_one, begun_two, begun_three, begun_more}
 use Rattle.rx_chars.proofs.Utf8Answers.{at_whole, at_begun, at_none}
 
--- the front of a sequence is one itself, or begins one
-row_front : (row : List Range) (bytes more : List ℕ) → fills row (bytes ++ more) ≡ true → (fills row bytes ≡ true) ⊎ (begins_row row bytes ≡ true)
-row_front [] [] more whole = inl refl
-row_front [] (b ∷ bytes) more whole = absurd (false≢true whole)
-row_front (r ∷ row) [] more whole = inr refl
-row_front (r ∷ row) (b ∷ bytes) more whole =
-    let parts = and_parts (is_in r b) (fills row (bytes ++ more)) whole in
-    ⊎_elim (λ h. inl (and_from (is_in r b) (fills row bytes) parts.0 h)) (λ h. inr (and_from (is_in r b) (begins_row row bytes) parts.0 h))
-    (row_front row bytes more parts.1)
-
-any_front : (rows : List (List Range)) (bytes more : List ℕ) → list_any (λ row. fills row (bytes ++ more)) rows ≡ true
-    → (list_any (λ row. fills row bytes) rows ≡ true) ⊎ (list_any (λ row. begins_row row bytes) rows ≡ true)
-any_front [] bytes more some = absurd (false≢true some)
-any_front (row ∷ rows) bytes more some =
-    ⊎_elim
-    (λ here. ⊎_elim (λ h. inl (or_left (fills row bytes) (list_any (λ row. fills row bytes) rows) h))
-    (λ h. inr (or_left (begins_row row bytes) (list_any (λ row. begins_row row bytes) rows) h)) (row_front row bytes more here))
-    (λ there. ⊎_elim (λ h. inl (or_right (fills row bytes) (list_any (λ row. fills row bytes) rows) h))
-    (λ h. inr (or_right (begins_row row bytes) (list_any (λ row. begins_row row bytes) rows) h)) (any_front rows bytes more there))
-    (or_cases (fills row (bytes ++ more)) (list_any (λ row. fills row (bytes ++ more)) rows) some)
-
--- a shorter front begins one
+-- a shorter front of a sequence begins one
 row_longer : (row : List Range) (bytes : List ℕ) (m : ℕ) (more : List ℕ) → fills row (bytes ++ m ∷ more) ≡ true → begins_row row bytes ≡ true
-row_longer [] [] m more whole = absurd (false≢true whole)
-row_longer [] (b ∷ bytes) m more whole = absurd (false≢true whole)
 row_longer (r ∷ row) [] m more whole = refl
 row_longer (r ∷ row) (b ∷ bytes) m more whole =
     let parts = and_parts (is_in r b) (fills row (bytes ++ m ∷ more)) whole in
     and_from (is_in r b) (begins_row row bytes) parts.0 (row_longer row bytes m more parts.1)
+row_longer [] [] m more whole = absurd (false≢true whole)
+row_longer [] (b ∷ bytes) m more whole = absurd (false≢true whole)
 
-pub any_longer : (rows : List (List Range)) (bytes : List ℕ) (m : ℕ) (more : List ℕ) → list_any (λ row. fills row (bytes ++ m ∷ more)) rows ≡ true
+any_longer : (rows : List (List Range)) (bytes : List ℕ) (m : ℕ) (more : List ℕ) → list_any (λ row. fills row (bytes ++ m ∷ more)) rows ≡ true
     → list_any (λ row. begins_row row bytes) rows ≡ true
 any_longer [] bytes m more some = absurd (false≢true some)
 any_longer (row ∷ rows) bytes m more some =
@@ -51,11 +30,6 @@ any_longer (row ∷ rows) bytes m more some =
     (or_cases (fills row (bytes ++ m ∷ more)) (list_any (λ row. fills row (bytes ++ m ∷ more)) rows) some)
 
 -- what begins a row can be completed
-pub record Completed (rows : List (List Range)) (bytes : List ℕ) : Type 0 where
-  pub next : ℕ
-  pub more : List ℕ
-  pub whole : list_any (λ row. fills row (bytes ++ next ∷ more)) rows ≡ true
-
 abbrev is_filled : Range → Bool
 is_filled range = nat_le range.0 range.1
 
@@ -86,23 +60,17 @@ row_completed (r ∷ row) (b ∷ bytes) filled begun =
     let rest = row_completed row bytes parts.1 here.1 in
     (rest.0, (rest.1.0, and_from (is_in r b) (fills row (bytes ++ rest.0 ∷ rest.1.0)) here.0 rest.1.1))
 
-any_completed : (rows : List (List Range)) (bytes : List ℕ) → are_filled rows ≡ true → list_any (λ row. begins_row row bytes) rows ≡ true → Completed rows bytes
+any_completed : (rows : List (List Range)) (bytes : List ℕ) → are_filled rows ≡ true → list_any (λ row. begins_row row bytes) rows ≡ true
+    → (next : ℕ) × ((more : List ℕ) × (list_any (λ row. fills row (bytes ++ next ∷ more)) rows ≡ true))
 any_completed [] bytes filled some = absurd (false≢true some)
 any_completed (row ∷ rows) bytes filled some =
     let parts = and_parts (list_all is_filled row) (are_filled rows) filled in
+    let there : List ℕ → Bool = λ whole. list_any (λ row. fills row whole) rows in
     ⊎_elim
-    (λ here. let rest = row_completed row bytes parts.0 here in
-    record {
-      next = rest.0;
-      more = rest.1.0;
-      whole = or_left (fills row (bytes ++ rest.0 ∷ rest.1.0)) (list_any (λ row. fills row (bytes ++ rest.0 ∷ rest.1.0)) rows) rest.1.1;
-    })
-    (λ there. let rest = any_completed rows bytes parts.1 there in
-    record {
-      next = rest.next;
-      more = rest.more;
-      whole = or_right (fills row (bytes ++ rest.next ∷ rest.more)) (list_any (λ row. fills row (bytes ++ rest.next ∷ rest.more)) rows) rest.whole;
-    })
+    (λ h. let r = row_completed row bytes parts.0 h in
+    let whole = bytes ++ r.0 ∷ r.1.0 in (r.0, (r.1.0, or_left (fills row whole) (there whole) r.1.1)))
+    (λ h. let r = any_completed rows bytes parts.1 h in
+    let whole = bytes ++ r.0 ∷ r.1.0 in (r.0, (r.1.0, or_right (fills row whole) (there whole) r.1.1)))
     (or_cases (begins_row row bytes) (list_any (λ row. begins_row row bytes) rows) some)
 
 -- no sequence begins a longer one
@@ -127,10 +95,10 @@ pub begins-from_rows : (bytes : List ℕ) → begins_sequence bytes ≡ true →
 begins-from_rows bytes begun =
     let rest = any_completed well_formed_rows bytes refl begun in
     record {
-      more = rest.next ∷ rest.more;
-      value = scalar_value (bytes ++ rest.next ∷ rest.more);
+      more = rest.0 ∷ rest.1.0;
+      value = scalar_value (bytes ++ rest.0 ∷ rest.1.0);
       longer = λ e. cc;
-      character = record { well_formed = rest.whole; scalar = refl };
+      character = record { well_formed = rest.1.1; scalar = refl };
     }
 
 pub rows_begin : (bytes : List ℕ) → BeginsCharacter bytes → begins_sequence bytes ≡ true
@@ -141,9 +109,8 @@ rows_begin bytes begun = go begun.more begun.longer begun.character.well_formed
     go (m ∷ more) longer whole = any_longer well_formed_rows bytes m more whole
 
 none-from_rows : (bytes : List ℕ) → is_well_formed bytes ≡ false → begins_sequence bytes ≡ false → BeginNone bytes
-none-from_rows bytes whole begun more value character =
-    ⊎_elim (λ h. both_ways (is_well_formed bytes) whole h) (λ h. both_ways (begins_sequence bytes) begun h)
-    (any_front well_formed_rows bytes more character.well_formed)
+none-from_rows bytes whole begun [] value character = both_ways (is_well_formed bytes) whole (sym (ap is_well_formed (append-nil bytes)) ∙ character.well_formed)
+none-from_rows bytes whole begun (m ∷ more) value character = both_ways (begins_sequence bytes) begun (any_longer well_formed_rows bytes m more character.well_formed)
 
 none_whole : (bytes : List ℕ) → BeginNone bytes → is_well_formed bytes ≡ false
 none_whole bytes none = false_from_ne_true (is_well_formed bytes) (λ whole.

@@ -26,67 +26,46 @@ second_of a b fit = record {
   no_more = λ e. grind (arith, nat_tests);
 }
 
+-- a byte between two others
+pub record Within (low high b : ℕ) : Type 0 where
+  pub from : low ≤ b
+  pub to : b ≤ high
+
+within_of : (low high b : ℕ) → is_in (low, high) b ≡ true → Within low high b
+within_of low high b h = record { from = grind (arith, nat_tests); to = grind (arith, nat_tests) }
+
 pub record Two (a b : ℕ) : Type 0 where
-  pub low : 0xC2 ≤ a
-  pub high : a ≤ 0xDF
-  pub second_low : 0x80 ≤ b
-  pub second_high : b ≤ 0xBF
+  pub lead : Within 0xC2 0xDF a
+  pub second : Within 0x80 0xBF b
 
 pub record Three (a b c : ℕ) : Type 0 where
-  pub low : 0xE0 ≤ a
-  pub high : a ≤ 0xEF
+  pub lead : Within 0xE0 0xEF a
   pub second : Second a b
-  pub third_low : 0x80 ≤ c
-  pub third_high : c ≤ 0xBF
+  pub third : Within 0x80 0xBF c
 
 pub record Four (a b c d : ℕ) : Type 0 where
-  pub low : 0xF0 ≤ a
-  pub high : a ≤ 0xF4
+  pub lead : Within 0xF0 0xF4 a
   pub second : Second a b
-  pub third_low : 0x80 ≤ c
-  pub third_high : c ≤ 0xBF
-  pub fourth_low : 0x80 ≤ d
-  pub fourth_high : d ≤ 0xBF
+  pub third : Within 0x80 0xBF c
+  pub fourth : Within 0x80 0xBF d
 
 pub two_of : (a b : ℕ) → is_well_formed (a ∷ b ∷ []) ≡ true → Two a b
 two_of a b whole =
     let parts = and_parts (is_in (0xC2, 0xDF) a) (is_in tail b) (sym (whole_two a b) ∙ whole) in
-    let lead : is_in (0xC2, 0xDF) a ≡ true = parts.0 in
-    let second : is_in tail b ≡ true = parts.1 in
-    record { low = grind (arith, nat_tests); high = grind (arith, nat_tests); second_low = grind (arith, nat_tests); second_high = grind (arith, nat_tests) }
+    record { lead = within_of 0xC2 0xDF a parts.0; second = within_of 0x80 0xBF b parts.1 }
 
 pub three_of : (a b c : ℕ) → is_well_formed (a ∷ b ∷ c ∷ []) ≡ true → Three a b c
 three_of a b c whole =
     let parts = and_parts (is_in (0xE0, 0xEF) a) (fits_second a b && is_in tail c) (sym (whole_three a b c) ∙ whole) in
     let inner = and_parts (fits_second a b) (is_in tail c) parts.1 in
-    from a b c parts.0 inner.0 inner.1
-  where
-    from : (a b c : ℕ) → is_in (0xE0, 0xEF) a ≡ true → fits_second a b ≡ true → is_in tail c ≡ true → Three a b c
-    from a b c lead fit third = record {
-      low = grind (arith, nat_tests);
-      high = grind (arith, nat_tests);
-      second = second_of a b fit;
-      third_low = grind (arith, nat_tests);
-      third_high = grind (arith, nat_tests);
-    }
+    record { lead = within_of 0xE0 0xEF a parts.0; second = second_of a b inner.0; third = within_of 0x80 0xBF c inner.1 }
 
 pub four_of : (a b c d : ℕ) → is_well_formed (a ∷ b ∷ c ∷ d ∷ []) ≡ true → Four a b c d
 four_of a b c d whole =
     let parts = and_parts (is_in (0xF0, 0xF4) a) (fits_second a b && (is_in tail c && is_in tail d)) (sym (whole_four a b c d) ∙ whole) in
     let inner = and_parts (fits_second a b) (is_in tail c && is_in tail d) parts.1 in
     let last = and_parts (is_in tail c) (is_in tail d) inner.1 in
-    from a b c d parts.0 inner.0 last.0 last.1
-  where
-    from : (a b c d : ℕ) → is_in (0xF0, 0xF4) a ≡ true → fits_second a b ≡ true → is_in tail c ≡ true → is_in tail d ≡ true → Four a b c d
-    from a b c d lead fit third fourth = record {
-      low = grind (arith, nat_tests);
-      high = grind (arith, nat_tests);
-      second = second_of a b fit;
-      third_low = grind (arith, nat_tests);
-      third_high = grind (arith, nat_tests);
-      fourth_low = grind (arith, nat_tests);
-      fourth_high = grind (arith, nat_tests);
-    }
+    record { lead = within_of 0xF0 0xF4 a parts.0; second = second_of a b inner.0; third = within_of 0x80 0xBF c last.0; fourth = within_of 0x80 0xBF d last.1 }
 
 scalar_at : (v : ℕ) → v < 0x110000 → (v < 0xD800) ⊎ (0xDFFF < v) → IsScalar v
 scalar_at v high gap = grind (arith, nat_tests)
