@@ -1,6 +1,7 @@
 -- The first fault of many visits.
-use Rattle.rx_rdfa.proofs.Common.{◌≡◌, ℕ, zero, suc, ◌+◌, ◌<◌, List, [], ◌∷◌, length, slice_get, Option, Some, None, refl, sym, ap, ◌∙◌, none-some, arith, Kind}
+use Rattle.rx_terms.proofs.Common.{◌≡◌, ℕ, zero, suc, ◌+◌, ◌<◌, List, [], ◌∷◌, length, slice_get, Option, Some, None, refl, sym, ap, ◌∙◌, none-some, arith}
 use Rattle.std.specs.Option.{option_or, option_map}
+use Rattle.rx_grammar.specs.declared.faults.Kind.{Kind}
 use Rattle.rx_microdata.specs.Visits.{Visit, Bounds, fault_of, first_fault}
 use Rattle.rx_microdata.specs.VisitLaws.{FaultsInRow, FirstFaultsAre}
 use Rattle.rx_microdata.proofs.Lists.{some_same}

@@ -3,23 +3,20 @@ use Rattle.rx_terms.proofs.Common.{not, ◌&&◌, ◌==◌, nat_le, ◌≡◌, B
 use Rattle.rx_microdata.specs.Elements.{Placed, is_below, is_item, names_of}
 use Rattle.rx_microdata.specs.Properties.{IsChild, IsStart, child, named, Reaches, itself, downward, IsProperty, is_any, first_with_id, is_child, starts_of, reaches, is_property, properties}
 use Rattle.rx_microdata.specs.Laws.{PropertiesAre}
-use Rattle.rx_microdata.proofs.Lists.{and_parts, and_of, and_false, false_and, or_parts, or_left, or_right, not_true, true_not, each_passes, all_pass, found, any_passes, kept, keeps, given, gives}
+use Rattle.rx_microdata.proofs.Lists.{and_parts, and_of, or_parts, or_left, or_right, not_true, true_not, apart_from, apart_to, found, any_passes, kept, keeps, given, gives}
 
 module _ (page : List Placed) where
   pub child_from : (outer e : Placed) → is_child page outer e ≡ true → IsChild page outer e
   child_from outer e h =
-      let crosses : Placed → Bool = λ between. is_below outer between && is_below between e in
-      let parts = and_parts (is_below outer e) (list_all (λ between. not (crosses between)) page) h in (
+      let parts = and_parts (is_below outer e) (list_all (λ between. not (is_below outer between && is_below between e)) page) h in (
         parts.0,
-        λ between held below.
-            and_false (is_below outer between) (is_below between e) (not_true (crosses between) (each_passes (λ b. not (crosses b)) page between parts.1 held)) below,
+        apart_from (is_below outer) (λ between. is_below between e) page parts.1,
       )
 
   pub child_to : (outer e : Placed) → IsChild page outer e → is_child page outer e ≡ true
   child_to outer e h =
-      let crosses : Placed → Bool = λ between. is_below outer between && is_below between e in
-      and_of (is_below outer e) (list_all (λ between. not (crosses between)) page) h.0
-      (all_pass (λ b. not (crosses b)) page (λ between held. true_not (crosses between) (false_and (is_below outer between) (is_below between e) (h.1 between held))))
+      and_of (is_below outer e) (list_all (λ between. not (is_below outer between && is_below between e)) page) h.0
+      (apart_to (is_below outer) (λ between. is_below between e) page h.1)
 
   start_from : (root start : Placed) → Contains (starts_of page root) start → IsStart page root start
   start_from root start h =
@@ -37,31 +34,29 @@ module _ (page : List Placed) where
       (gives (first_with_id page) root.facts.references token start held e)
 
   module _ (start e : Placed) where
-    stops : Placed → Bool
-    stops between = nat_le start.place between.place && is_below between e && is_item between
+    -- whether an element is between, and whether none of those is an item
+    inner : Placed → Bool
+    inner between = nat_le start.place between.place && is_below between e
+
+    free : Bool
+    free = list_all (λ between. not (inner between && is_item between)) page
 
     pub reaches_from : reaches page e start ≡ true → Reaches page start e
-    unfolding stops
-    reaches_from h = elim (or_parts (start.place == e.place) (is_below start e && list_all (λ b. not (stops b)) page) h) as (λ _. Reaches page start e) [
+    unfolding inner free
+    reaches_from h = elim (or_parts (start.place == e.place) (is_below start e && free) h) as (λ _. Reaches page start e) [
       | inl same ↦ itself same
       | inr below ↦
-          let parts = and_parts (is_below start e) (list_all (λ b. not (stops b)) page) below in
-          downward parts.0 (λ between held from inside.
-          and_false (nat_le start.place between.place && is_below between e) (is_item between)
-          (not_true (stops between) (each_passes (λ b. not (stops b)) page between parts.1 held))
-          (and_of (nat_le start.place between.place) (is_below between e) from inside))
+          let parts = and_parts (is_below start e) free below in
+          downward parts.0 (λ between held from inside. apart_from inner is_item page parts.1 between held (and_of (nat_le start.place between.place) (is_below between e) from inside))
     ]
 
     pub reaches_to : Reaches page start e → reaches page e start ≡ true
-    unfolding stops
-    reaches_to (itself same) = or_left (start.place == e.place) (is_below start e && list_all (λ b. not (stops b)) page) same
-    reaches_to (downward below free) =
-        or_right (start.place == e.place) (is_below start e && list_all (λ b. not (stops b)) page)
-        (and_of (is_below start e) (list_all (λ b. not (stops b)) page) below
-        (all_pass (λ b. not (stops b)) page (λ between held.
-        true_not (stops between)
-        (false_and (nat_le start.place between.place && is_below between e) (is_item between) (λ both.
-        let parts = and_parts (nat_le start.place between.place) (is_below between e) both in free between held parts.0 parts.1)))))
+    unfolding inner free
+    reaches_to (itself same) = or_left (start.place == e.place) (is_below start e && free) same
+    reaches_to (downward below k) =
+        or_right (start.place == e.place) (is_below start e && free)
+        (and_of (is_below start e) free below
+        (apart_to inner is_item page (λ between held both. let parts = and_parts (nat_le start.place between.place) (is_below between e) both in k between held parts.0 parts.1)))
 
   module _ (root e : Placed) where
     property_from : Contains (properties page root) e → IsProperty page root e

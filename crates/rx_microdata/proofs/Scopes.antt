@@ -1,11 +1,11 @@
 -- The nearest item around each element is the column `scope`, and tells what a start reaches.
-use Rattle.rx_grammar.proofs.Common.{not, ◌&&◌, ◌==◌, nat_le, ◌≡◌, ℕ, suc, ◌+◌, ◌<◌, ◌≤◌, Bool, true, false, nat_lt, cond, ◌⊎◌, List, ◌∷◌, ◌++◌, Contains, Option, Some, None, list_all, refl, sym, ap, subst, ◌∙◌, Contains-append_left, Contains-append_right, All-contains, ltb-true, lt-ltb, leb-true, le-leb, cases_lt, false_from_ne_true, inl, inr, arith, StartTag, Tree, end, element, text}
+use Rattle.rx_grammar.proofs.Common.{list_all, refl, sym, ap, subst, ◌∙◌, ltb-true, lt-ltb, leb-true, le-leb, cases_lt, false_from_ne_true, inl, inr, arith, StartTag, Tree, end, element, text}
+use Rattle.std.specs.Prelude.{⊤, not, ◌&&◌, ◌||◌, ◌==◌, nat_le, ◌≡◌, ℕ, suc, ◌+◌, ◌<◌, ◌≤◌, Bool, true, false, nat_lt, cond, ◌⊎◌, List, [], ◌∷◌, ◌++◌, All, Contains, Option, Some, None}
+use Rattle.std.proofs.lemmas.List.Elements.{Contains-append_left, Contains-append_right, All-nil, All-cons, All-head, All-tail, All-append, All-weaker, All-contains, All-contains_itself}
 use Rattle.rx_microdata.specs.Facts.{begins_item, facts_of}
 use Rattle.rx_microdata.specs.Elements.{Placed, count, scope_in, placed_from, elements_of, is_below, IsBelow, is_item}
-use Rattle.rx_microdata.specs.Properties.{reaches}
-use Rattle.rx_microdata.specs.Laws.{is_before, reaches_by_scope, ScopesTell}
-use Rattle.rx_microdata.proofs.Lists.{and_parts, and_of, false_and, or_parts, or_left, or_right, not_true, true_not, each_passes, all_pass, none, first, later, three, bool_same, contradiction}
-use Rattle.rx_microdata.proofs.PropertiesRise.{Within, placed_within}
+use Rattle.rx_microdata.specs.Laws.{is_before, ScopesTell}
+use Rattle.rx_microdata.proofs.Lists.{and_parts, and_of, none, first, later, first_or_later, three, bool_same, contradiction, apart_from, apart_to}
 
 pub below_parts : (c e : Placed) → IsBelow c e → (c.place < e.place) × (e.place < c.past)
 below_parts c e h =
@@ -33,10 +33,26 @@ Source xs scope e = (e.scope ≡ scope) ⊎ Holder xs e
 abbrev pub Nearest : List Placed → Placed → Type 0
 Nearest xs e = (c : Placed) → Contains xs c → IsBelow c e → is_item c ≡ true → AtMost c.place e.scope
 
-module _ (scope : Option ℕ) (low : ℕ) (tag : StartTag) (inner more : Tree) where
-  past : ℕ
-  past = suc low + count inner
+abbrev pub Within : ℕ → ℕ → Placed → Type 0
+Within low high e = (low ≤ e.place) × (e.place < e.past) × (e.past ≤ high)
 
+pub placed_within : (scope : Option ℕ) (low : ℕ) (tree : Tree) → All (Within low (low + count tree)) (placed_from scope low tree)
+placed_within scope low end = All-nil (Within low (low + 0))
+placed_within scope low (element tag inner more) =
+    let P = Within low (low + suc (count inner + count more)) in
+    let past : ℕ = suc low + count inner in
+    let inside : List Placed = placed_from (scope_in tag low scope) (suc low) inner in
+    let behind : List Placed = placed_from scope past more in
+    All-cons P (record { place = low; past = past; scope = scope; facts = facts_of tag inner }) (inside ++ behind)
+    (omega arith, omega arith, omega arith)
+    (All-append P inside behind
+    (All-weaker (Within (suc low) past) P (λ e h. let a = h.0 in let b = h.1 in let c = h.2 in (omega arith, b, omega arith)) inside (placed_within (scope_in tag low scope) (suc low) inner))
+    (All-weaker (Within past (past + count more)) P (λ e h. let a = h.0 in let b = h.1 in let c = h.2 in (omega arith, b, omega arith)) behind (placed_within scope past more)))
+placed_within scope low (text chars more) = placed_within scope low more
+
+-- ---- an element gives the scope, or an item around
+
+module _ (scope : Option ℕ) (low : ℕ) (tag : StartTag) (inner more : Tree) where
   abbrev pub head : Placed
   head = record { place = low; past = suc low + count inner; scope = scope; facts = facts_of tag inner }
 
@@ -46,30 +62,8 @@ module _ (scope : Option ℕ) (low : ℕ) (tag : StartTag) (inner more : Tree) w
   abbrev pub behind : List Placed
   behind = placed_from scope (suc low + count inner) more
 
-  pub in_range : (e : Placed) → Contains inside e → Within (suc low) (suc low + count inner) e
+  in_range : (e : Placed) → Contains inside e → Within (suc low) (suc low + count inner) e
   in_range e h = All-contains (Within (suc low) (suc low + count inner)) inside e (placed_within (scope_in tag low scope) (suc low) inner) h
-
-  pub in_rest : (e : Placed) → Contains behind e → Within (suc low + count inner) (suc low + count inner + count more) e
-  in_rest e h = All-contains (Within (suc low + count inner) (suc low + count inner + count more)) behind e (placed_within scope (suc low + count inner) more) h
-
-  lift_inside : (e : Placed) → Contains inside e → Contains (head ∷ (inside ++ behind)) e
-  lift_inside e h = later head e (inside ++ behind) (Contains-append_left inside behind e h)
-
-  lift_behind : (e : Placed) → Contains behind e → Contains (head ∷ (inside ++ behind)) e
-  lift_behind e h = later head e (inside ++ behind) (Contains-append_right inside behind e h)
-
-  at_head : (e : Placed) → head ≡ e → Source (head ∷ (inside ++ behind)) scope e × Nearest (head ∷ (inside ++ behind)) e
-  at_head e same =
-      let place : low ≡ e.place = ap (λ (x : Placed). x.place) same in (
-        inl (sym (ap (λ (x : Placed). x.scope) same)),
-        λ c held below item.
-            let b = (below_parts c e below).0 in
-            elim (three head c inside behind held) as (λ _. AtMost c.place e.scope) [
-              | inl is ↦ let q : low ≡ c.place = ap (λ (x : Placed). x.place) is in absurd (omega arith)
-              | inr (inl i) ↦ let w = (in_range c i).0 in absurd (omega arith)
-              | inr (inr r) ↦ let w = (in_rest c r).0 in absurd (omega arith)
-            ],
-      )
 
   by_tag : (e : Placed) → Contains inside e → (b : Bool) → begins_item tag ≡ b → e.scope ≡ cond b (Some low) scope → Source (head ∷ (inside ++ behind)) scope e
   by_tag e h true t s =
@@ -78,109 +72,111 @@ module _ (scope : Option ℕ) (low : ℕ) (tag : StartTag) (inner more : Tree) w
       inr (head, first head (inside ++ behind), t, below_of head e (omega arith) (omega arith), s)
   by_tag e h false t s = inl s
 
+  source_at : (e : Placed) → (head ≡ e) ⊎ (Contains inside e ⊎ Contains behind e)
+      → (Contains inside e → Source inside (scope_in tag low scope) e) → (Contains behind e → Source behind scope e) → Source (head ∷ (inside ++ behind)) scope e
+  source_at e (inl same) f g = inl (sym (ap (λ (x : Placed). x.scope) same))
+  source_at e (inr (inl i)) f g = elim (f i) as (λ _. Source (head ∷ (inside ++ behind)) scope e) [
+    | inl s ↦ by_tag e i (begins_item tag) refl s
+    | inr held ↦ inr (held.0, later head held.0 (inside ++ behind) (Contains-append_left inside behind held.0 held.1), held.2, held.3, held.4)
+  ]
+  source_at e (inr (inr r)) f g = elim (g r) as (λ _. Source (head ∷ (inside ++ behind)) scope e) [
+    | inl s ↦ inl s
+    | inr held ↦ inr (held.0, later head held.0 (inside ++ behind) (Contains-append_right inside behind held.0 held.1), held.2, held.3, held.4)
+  ]
+
   head_at_most : (e : Placed) → Source inside (scope_in tag low scope) e → begins_item tag ≡ true → AtMost low e.scope
   head_at_most e (inl s) t = at_most low low e.scope (s ∙ ap (λ b. cond b (Some low) scope) t) (omega arith)
   head_at_most e (inr held) t =
       let w = (in_range held.0 held.1).0 in
       at_most low (held.0).place e.scope held.4 (omega arith)
 
-  at_inside : (e : Placed) → Contains inside e → Source inside (scope_in tag low scope) e × Nearest inside e
-      → Source (head ∷ (inside ++ behind)) scope e × Nearest (head ∷ (inside ++ behind)) e
-  at_inside e h known =
-      let w = in_range e h in
-      let ew1 = w.1 in let ew2 = w.2 in (
-        elim (known.0) as (λ _. Source (head ∷ (inside ++ behind)) scope e) [
-          | inl s ↦ by_tag e h (begins_item tag) refl s
-          | inr held ↦ inr (held.0, lift_inside held.0 held.1, held.2, held.3, held.4)
-        ],
-        λ c held below item.
-            let b = (below_parts c e below).0 in
-            elim (three head c inside behind held) as (λ _. AtMost c.place e.scope) [
-              | inl is ↦ subst (λ (x : Placed). is_item x ≡ true → AtMost x.place e.scope) is (head_at_most e known.0) item
-              | inr (inl i) ↦ known.1 c i below item
-              | inr (inr r) ↦ let q = (in_rest c r).0 in absurd (omega arith)
-            ],
-      )
+source : (scope : Option ℕ) (low : ℕ) (tree : Tree) (e : Placed) → Contains (placed_from scope low tree) e → Source (placed_from scope low tree) scope e
+source scope low end e h = none e h
+source scope low (element tag inner more) e h =
+    source_at scope low tag inner more e (three (head scope low tag inner more) e (inside scope low tag inner more) (behind scope low tag inner more) h)
+    (source (scope_in tag low scope) (suc low) inner e) (source scope (suc low + count inner) more e)
+source scope low (text chars more) e h = source scope low more e h
 
-  at_behind : (e : Placed) → Contains behind e → Source behind scope e × Nearest behind e
-      → Source (head ∷ (inside ++ behind)) scope e × Nearest (head ∷ (inside ++ behind)) e
-  at_behind e h known =
-      let low_end = (in_rest e h).0 in (
-        elim (known.0) as (λ _. Source (head ∷ (inside ++ behind)) scope e) [
-          | inl s ↦ inl s
-          | inr held ↦ inr (held.0, lift_behind held.0 held.1, held.2, held.3, held.4)
-        ],
-        λ c held below item.
-            let b = (below_parts c e below).1 in
-            elim (three head c inside behind held) as (λ _. AtMost c.place e.scope) [
-              | inl is ↦ let q : suc low + count inner ≡ c.past = ap (λ (x : Placed). x.past) is in absurd (omega arith)
-              | inr (inl i) ↦ let q = (in_range c i).2 in absurd (omega arith)
-              | inr (inr r) ↦ known.1 c r below item
-            ],
-      )
+-- ---- the order of the elements
+
+-- x stands before y; y inside x ends where x ends, or before, and has it or a nearer item around
+abbrev pub Before : Placed → Placed → Type 0
+Before x y = (x.place < y.place) × (y.place < x.past → (y.past ≤ x.past) × (is_item x ≡ true → AtMost x.place y.scope))
+
+abbrev pub Ordered : List Placed → Type 0
+Ordered [] = ⊤
+Ordered (x ∷ xs) = All (Before x) xs × Ordered xs
+
+ordered_append : (low bound high : ℕ) (xs ys : List Placed) → Ordered xs → Ordered ys → All (Within low bound) xs → All (Within bound high) ys → Ordered (xs ++ ys)
+ordered_append low bound high [] ys r s a b = s
+ordered_append low bound high (x ∷ xs) ys r s a b =
+    let w = All-head (Within low bound) x xs a in
+    let w1 = w.1 in let w2 = w.2 in (
+      All-append (Before x) xs ys r.0 (All-weaker (Within bound high) (Before x) (λ y h. let h0 = h.0 in (omega arith, λ l. absurd (omega (arith, l)))) ys b),
+      ordered_append low bound high xs ys r.1 s (All-tail (Within low bound) x xs a) b,
+    )
+
+pub ordered : (scope : Option ℕ) (low : ℕ) (tree : Tree) → Ordered (placed_from scope low tree)
+ordered scope low end = tt
+ordered scope low (element tag inner more) =
+    let past : ℕ = suc low + count inner in
+    let x : Placed = head scope low tag inner more in
+    let xs : List Placed = inside scope low tag inner more in
+    let ys : List Placed = behind scope low tag inner more in
+    let in_rest = placed_within scope past more in (
+      All-append (Before x) xs ys
+          (All-weaker (Contains xs) (Before x) (λ y held.
+          let w = in_range scope low tag inner more y held in
+          let w0 = w.0 in (omega arith, λ l. (w.2, λ item. head_at_most scope low tag inner more y (source (scope_in tag low scope) (suc low) inner y held) item))) xs (All-contains_itself xs))
+          (All-weaker (Within past (past + count more)) (Before x) (λ y h. let h0 = h.0 in (omega arith, λ l. absurd (omega (arith, l)))) ys in_rest),
+      ordered_append (suc low) past (past + count more) xs ys (ordered (scope_in tag low scope) (suc low) inner) (ordered scope past more)
+          (placed_within (scope_in tag low scope) (suc low) inner) in_rest,
+    )
+ordered scope low (text chars more) = ordered scope low more
+
+-- of two elements one stands before the other
+one_before : (xs : List Placed) → Ordered xs → (x y : Placed) → Contains xs x → Contains xs y → (x ≡ y) ⊎ (Before x y ⊎ Before y x)
+one_before [] r x y hx hy = none x hx
+one_before (z ∷ xs) r x y hx hy = by (first_or_later z x xs hx) (first_or_later z y xs hy) (one_before xs r.1 x y)
+  where
+    by : (z ≡ x) ⊎ Contains xs x → (z ≡ y) ⊎ Contains xs y → (Contains xs x → Contains xs y → (x ≡ y) ⊎ (Before x y ⊎ Before y x)) → (x ≡ y) ⊎ (Before x y ⊎ Before y x)
+    by (inl sx) (inl sy) ih = inl (sym sx ∙ sy)
+    by (inl sx) (inr ly) ih = inr (inl (subst (λ w. Before w y) sx (All-contains (Before z) xs y r.0 ly)))
+    by (inr lx) (inl sy) ih = inr (inr (subst (λ w. Before w x) sy (All-contains (Before z) xs x r.0 lx)))
+    by (inr lx) (inr ly) ih = ih lx ly
+
+-- an element is known by its place
+pub same_place : (xs : List Placed) → Ordered xs → (x y : Placed) → Contains xs x → Contains xs y → x.place ≡ y.place → x ≡ y
+same_place xs r x y hx hy e = elim (one_before xs r x y hx hy) as (λ _. x ≡ y) [
+  | inl same ↦ same
+  | inr (inl b) ↦ let l = b.0 in absurd (omega arith)
+  | inr (inr b) ↦ let l = b.0 in absurd (omega arith)
+]
+
+-- what is below an element stands behind it
+before_below : (xs : List Placed) → Ordered xs → (b c : Placed) → Contains xs b → Contains xs c → IsBelow b c → (c.past ≤ b.past) × (is_item b ≡ true → AtMost b.place c.scope)
+before_below xs r b c hb hc below =
+    let w = below_parts b c below in
+    let w0 = w.0 in
+    elim (one_before xs r b c hb hc) as (λ _. (c.past ≤ b.past) × (is_item b ≡ true → AtMost b.place c.scope)) [
+      | inl same ↦ let q : b.place ≡ c.place = ap (λ (x : Placed). x.place) same in absurd (omega arith)
+      | inr (inl h) ↦ h.1 w.1
+      | inr (inr h) ↦ let l = h.0 in absurd (omega arith)
+    ]
 
 pub scopes : (scope : Option ℕ) (low : ℕ) (tree : Tree) (e : Placed) → Contains (placed_from scope low tree) e
     → Source (placed_from scope low tree) scope e × Nearest (placed_from scope low tree) e
-scopes scope low end e h = none e h
-scopes scope low (element tag inner more) e h =
-    elim (three (head scope low tag inner more) e (inside scope low tag inner more) (behind scope low tag inner more) h)
-    as (λ _. Source (placed_from scope low (element tag inner more)) scope e × Nearest (placed_from scope low (element tag inner more)) e) [
-      | inl same ↦ at_head scope low tag inner more e same
-      | inr (inl i) ↦ at_inside scope low tag inner more e i (scopes (scope_in tag low scope) (suc low) inner e i)
-      | inr (inr r) ↦ at_behind scope low tag inner more e r (scopes scope (suc low + count inner) more e r)
-    ]
-scopes scope low (text chars more) e h = scopes scope low more e h
-
-module _ (scope : Option ℕ) (low : ℕ) (tag : StartTag) (inner more : Tree) where
-  nested_at : (b c : Placed) → Contains (head scope low tag inner more ∷ (inside scope low tag inner more ++ behind scope low tag inner more)) b
-      → Contains (head scope low tag inner more ∷ (inside scope low tag inner more ++ behind scope low tag inner more)) c
-      → IsBelow b c
-      → (Contains (inside scope low tag inner more) b → Contains (inside scope low tag inner more) c → c.past ≤ b.past)
-      → (Contains (behind scope low tag inner more) b → Contains (behind scope low tag inner more) c → c.past ≤ b.past)
-      → c.past ≤ b.past
-  nested_at b c hb hc below in_inside in_behind =
-      let x = (below_parts b c below).0 in
-      let y = (below_parts b c below).1 in
-      let first_part = inside scope low tag inner more in
-      let last_part = behind scope low tag inner more in
-      elim (three (head scope low tag inner more) b first_part last_part hb) as (λ _. c.past ≤ b.past) [
-        | inl is ↦
-            let place : low ≡ b.place = ap (λ (e : Placed). e.place) is in
-            let past : suc low + count inner ≡ b.past = ap (λ (e : Placed). e.past) is in
-            elim (three (head scope low tag inner more) c first_part last_part hc) as (λ _. c.past ≤ b.past) [
-              | inl at ↦ let q : low ≡ c.place = ap (λ (e : Placed). e.place) at in absurd (omega arith)
-              | inr (inl i) ↦ let q = (in_range scope low tag inner more c i).2 in omega arith
-              | inr (inr r) ↦ let q = (in_rest scope low tag inner more c r).0 in absurd (omega arith)
-            ]
-        | inr (inl bi) ↦
-            let b0 = (in_range scope low tag inner more b bi).0 in
-            let b2 = (in_range scope low tag inner more b bi).2 in
-            elim (three (head scope low tag inner more) c first_part last_part hc) as (λ _. c.past ≤ b.past) [
-              | inl at ↦ let q : low ≡ c.place = ap (λ (e : Placed). e.place) at in absurd (omega arith)
-              | inr (inl i) ↦ in_inside bi i
-              | inr (inr r) ↦ let q = (in_rest scope low tag inner more c r).0 in absurd (omega arith)
-            ]
-        | inr (inr br) ↦
-            let b0 = (in_rest scope low tag inner more b br).0 in
-            elim (three (head scope low tag inner more) c first_part last_part hc) as (λ _. c.past ≤ b.past) [
-              | inl at ↦ let q : low ≡ c.place = ap (λ (e : Placed). e.place) at in absurd (omega arith)
-              | inr (inl i) ↦
-                  let q1 = (in_range scope low tag inner more c i).1 in
-                  let q2 = (in_range scope low tag inner more c i).2 in
-                  absurd (omega arith)
-              | inr (inr r) ↦ in_behind br r
-            ]
-      ]
+scopes scope low tree e h = (
+  source scope low tree e h,
+  λ c held below item. (before_below (placed_from scope low tree) (ordered scope low tree) c e held h below).1 item,
+)
 
 -- what is below an element ends where it ends, or before
 pub nested : (scope : Option ℕ) (low : ℕ) (tree : Tree) (b c : Placed) → Contains (placed_from scope low tree) b → Contains (placed_from scope low tree) c
     → IsBelow b c → c.past ≤ b.past
-nested scope low end b c hb hc below = none b hb
-nested scope low (element tag inner more) b c hb hc below =
-    nested_at scope low tag inner more b c hb hc below
-    (λ i j. nested (scope_in tag low scope) (suc low) inner b c i j below)
-    (λ i j. nested scope (suc low + count inner) more b c i j below)
-nested scope low (text chars more) b c hb hc below = nested scope low more b c hb hc below
+nested scope low tree b c hb hc below = (before_below (placed_from scope low tree) (ordered scope low tree) b c hb hc below).0
+
+-- ---- what a start reaches
 
 before_than : (n m : ℕ) (scope : Option ℕ) → AtMost n scope → is_before scope m ≡ true → n < m
 before_than n m None a b = absurd a
@@ -193,6 +189,9 @@ module _ (tree : Tree) (start e : Placed) (here : Contains (elements_of tree) e)
   abbrev stops : Placed → Bool
   stops between = nat_le start.place between.place && is_below between e && is_item between
 
+  abbrev from_start : Placed → Bool
+  from_start between = nat_le start.place between.place && is_below between e
+
   forth : is_below start e ≡ true → list_all (λ b. not (stops b)) page ≡ true → is_before e.scope start.place ≡ true
   forth below free = elim ((scopes None 0 tree e here).0) as (λ _. is_before e.scope start.place ≡ true) [
     | inl s ↦ ap (λ o. is_before o start.place) s
@@ -200,39 +199,25 @@ module _ (tree : Tree) (start e : Placed) (here : Contains (elements_of tree) e)
         ap (λ o. is_before o start.place) held.4
         ∙ elim (cases_lt (held.0).place start.place) as (λ _. nat_lt (held.0).place start.place ≡ true) [
           | inl l ↦ lt-ltb (held.0).place start.place l
-          | inr l ↦
-              contradiction (stops held.0)
-              (and_of (nat_le start.place (held.0).place && is_below held.0 e) (is_item held.0)
-              (and_of (nat_le start.place (held.0).place) (is_below held.0 e) (le-leb start.place (held.0).place l) held.3) held.2)
-              (not_true (stops held.0) (each_passes (λ b. not (stops b)) page held.0 free held.1))
+          | inr l ↦ contradiction (is_item held.0) held.2 (apart_from from_start is_item page free held.0 held.1 (and_of (nat_le start.place (held.0).place) (is_below held.0 e) (le-leb start.place (held.0).place l) held.3))
         ]
   ]
 
   back : is_before e.scope start.place ≡ true → list_all (λ b. not (stops b)) page ≡ true
-  back before = all_pass (λ b. not (stops b)) page (λ between held.
-      true_not (stops between) (false_and (nat_le start.place between.place && is_below between e) (is_item between) (λ both.
+  back before = apart_to from_start is_item page (λ between held both.
       let parts = and_parts (nat_le start.place between.place) (is_below between e) both in
       let from = leb-true start.place between.place parts.0 in
       false_from_ne_true (is_item between) (λ item.
       let n = before_than between.place start.place e.scope ((scopes None 0 tree e here).1 between held parts.1 item) before in
-      omega (arith, n, from)))))
+      omega (arith, n, from)))
 
-  same : reaches page e start ≡ reaches_by_scope e start
-  same = bool_same (reaches page e start) (reaches_by_scope e start)
-      (λ h. elim (or_parts (start.place == e.place) (is_below start e && list_all (λ b. not (stops b)) page) h) as (λ _. reaches_by_scope e start ≡ true) [
-        | inl s ↦ or_left (start.place == e.place) (is_below start e && is_before e.scope start.place) s
-        | inr b ↦
-            let parts = and_parts (is_below start e) (list_all (λ b. not (stops b)) page) b in
-            or_right (start.place == e.place) (is_below start e && is_before e.scope start.place)
-            (and_of (is_below start e) (is_before e.scope start.place) parts.0 (forth parts.0 parts.1))
-      ])
-      (λ h. elim (or_parts (start.place == e.place) (is_below start e && is_before e.scope start.place) h) as (λ _. reaches page e start ≡ true) [
-        | inl s ↦ or_left (start.place == e.place) (is_below start e && list_all (λ b. not (stops b)) page) s
-        | inr b ↦
-            let parts = and_parts (is_below start e) (is_before e.scope start.place) b in
-            or_right (start.place == e.place) (is_below start e && list_all (λ b. not (stops b)) page)
-            (and_of (is_below start e) (list_all (λ b. not (stops b)) page) parts.0 (back parts.1))
-      ])
+-- two tests behind one that has to pass
+and_same : (a b c : Bool) → (a ≡ true → b ≡ c) → (a && b) ≡ (a && c)
+and_same true b c f = f refl
+and_same false b c f = refl
 
 pub tell : ScopesTell
-tell tree start e there here = same tree start e here
+tell tree start e there here =
+    let free : Bool = list_all (λ b. not (stops tree start e here b)) (elements_of tree) in
+    ap (λ b. start.place == e.place || b)
+    (and_same (is_below start e) free (is_before e.scope start.place) (λ below. bool_same free (is_before e.scope start.place) (forth tree start e here below) (back tree start e here)))

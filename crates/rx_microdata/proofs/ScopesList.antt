@@ -1,55 +1,25 @@
 -- The test by `scope` lists the properties of an item.
-use Rattle.rx_rdfa.proofs.Common.{not, ◌&&◌, ◌||◌, ◌==◌, ◌≡◌, ℕ, ◌<◌, ◌≤◌, Bool, true, false, cond, ◌⊎◌, List, [], ◌∷◌, filter, filter_map, find, All, Contains, Option, Some, None, list_any, refl, sym, ap, subst, ◌∙◌, list_any-append, leb-true, le-leb, eq-eqb, cases_lt, false_from_ne_true, eqb-true, none-some, All-contains, inl, inr, arith, Tree}
+use Rattle.rx_grammar.proofs.Common.{not, ◌&&◌, ◌||◌, ◌==◌, ◌≡◌, ℕ, ◌<◌, ◌≤◌, Bool, true, false, List, [], ◌∷◌, filter, filter_map, find, Contains, Option, Some, None, list_any, refl, sym, ap, subst, ◌∙◌, list_any-append, none-some, split, All-contains, inl, inr, arith, Tree}
+use Rattle.std.proofs.lemmas.Bool.{leb-true, le-leb, eq-eqb, cases_lt, false_from_ne_true, eqb-true}
 use Rattle.rx_microdata.specs.Elements.{Placed, elements_of, is_below, IsBelow, is_item, names_of}
 use Rattle.rx_microdata.specs.Properties.{IsChild, Reaches, itself, downward, is_any, first_with_id, has_id, is_child, starts_of, reaches, is_property}
 use Rattle.rx_microdata.specs.Laws.{Rise, is_scope, reaches_by_scope, is_property_by_scope, ScopesList}
 use Rattle.rx_microdata.proofs.Lists.{and_parts, and_of, or_parts, none, first_or_later, or_left, or_right, some_same, contradiction, bool_same, found, any_passes, kept, keeps, given, found_first, has_first, filter_same, any_same}
 use Rattle.rx_microdata.proofs.PropertiesAre.{child_from, child_to, reaches_from, reaches_to}
 use Rattle.rx_microdata.proofs.PropertiesRise.{placed_rise}
-use Rattle.rx_microdata.proofs.Scopes.{below_parts, below_of, AtMost, scopes, nested, tell}
+use Rattle.rx_microdata.proofs.Scopes.{below_parts, below_of, AtMost, ordered, same_place, scopes, nested, tell}
 
--- an element is known by its place
-pub same_place : (xs : List Placed) → Rise xs → (x y : Placed) → Contains xs x → Contains xs y → x.place ≡ y.place → x ≡ y
-same_place [] r x y hx hy e = none x hx
-same_place (z ∷ xs) r x y hx hy e = elim (first_or_later z x xs hx) as (λ _. x ≡ y) [
-  | inl sx ↦
-      elim (first_or_later z y xs hy) as (λ _. x ≡ y) [
-        | inl sy ↦ sym sx ∙ sy
-        | inr ly ↦
-            let q : z.place ≡ x.place = ap (λ (w : Placed). w.place) sx in
-            let l = All-contains (λ (w : Placed). z.place < w.place) xs y r.0 ly in
-            absurd (omega arith)
-      ]
-  | inr lx ↦
-      elim (first_or_later z y xs hy) as (λ _. x ≡ y) [
-        | inl sy ↦
-            let q : z.place ≡ y.place = ap (λ (w : Placed). w.place) sy in
-            let l = All-contains (λ (w : Placed). z.place < w.place) xs x r.0 lx in
-            absurd (omega arith)
-        | inr ly ↦ same_place xs r.1 x y lx ly e
-      ]
-]
-
-module _ (p : Placed → Bool) where
-  least_by : (b : Bool) (z c x : Placed) (xs : List Placed) → p z ≡ b → All (λ (w : Placed). z.place < w.place) xs
-      → cond b (Some z) (find p xs) ≡ Some c → (z ≡ x) ⊎ Contains xs x → p x ≡ true
-      → (find p xs ≡ Some c → Contains xs x → c.place ≤ x.place) → c.place ≤ x.place
-  least_by true z c x xs e r h (inl s) g f =
-      let q : z.place ≡ x.place = ap (λ (w : Placed). w.place) s in
-      let k : z.place ≡ c.place = ap (λ (w : Placed). w.place) (some_same z c h) in
-      omega arith
-  least_by true z c x xs e r h (inr l) g f =
-      let q = All-contains (λ (w : Placed). z.place < w.place) xs x r l in
-      let k : z.place ≡ c.place = ap (λ (w : Placed). w.place) (some_same z c h) in
-      omega arith
-  least_by false z c x xs e r h (inl s) g f = contradiction (p z) (ap p s ∙ g) e
-  least_by false z c x xs e r h (inr l) g f = f h l
-
-  -- the first that passes has the least place
-  pub least : (xs : List Placed) → Rise xs → (c x : Placed) → find p xs ≡ Some c → Contains xs x → p x ≡ true → c.place ≤ x.place
-  least [] r c x h hx g = none x hx
-  least (z ∷ xs) r c x h hx g =
-      least_by (p z) z c x xs refl r.0 h (first_or_later z x xs hx) g (λ h' l. least xs r.1 c x h' l g)
+-- the first that passes has the least place
+pub least : (p : Placed → Bool) (xs : List Placed) → Rise xs → (c x : Placed) → find p xs ≡ Some c → Contains xs x → p x ≡ true → c.place ≤ x.place
+least p [] r c x h hx g = none x hx
+least p (z ∷ xs) r c x h hx g = split (λ o. o ≡ Some c → c.place ≤ x.place) (p z) (Some z) (find p xs)
+    (λ t e.
+    let k : z.place ≡ c.place = ap (λ (w : Placed). w.place) (some_same z c e) in
+    elim (first_or_later z x xs hx) as (λ _. c.place ≤ x.place) [
+      | inl s ↦ let q : z.place ≡ x.place = ap (λ (w : Placed). w.place) s in omega arith
+      | inr l ↦ let q = All-contains (λ (w : Placed). z.place < w.place) xs x r.0 l in omega arith
+    ])
+    (λ t e. elim (first_or_later z x xs hx) as (λ _. c.place ≤ x.place) [ inl s ↦ contradiction (p z) (ap p s ∙ g) t | inr l ↦ least p xs r.1 c x e l g ]) h
 
 scope_from : (place : ℕ) (scope : Option ℕ) → is_scope place scope ≡ true → scope ≡ Some place
 scope_from place None h = contradiction false h refl
@@ -63,7 +33,7 @@ module _ (tree : Tree) (root e : Placed) (root_here : Contains (elements_of tree
   page = elements_of tree
 
   rises : Rise page
-  rises = placed_rise None 0 tree
+  rises = placed_rise tree
 
   inside_of : (b c : Placed) → Contains page b → Contains page c → IsBelow b c → c.past ≤ b.past
   inside_of b c hb hc below = nested None 0 tree b c hb hc below
@@ -173,7 +143,7 @@ module _ (tree : Tree) (root e : Placed) (root_here : Contains (elements_of tree
         | inl n ↦ absurd (none-some root.place (sym n ∙ s))
         | inr held ↦
             let q = some_same (held.0).place root.place (sym held.4 ∙ s) in
-            let is = same_place page rises held.0 root held.1 root_here q in
+            let is = same_place page (ordered None 0 tree) held.0 root held.1 root_here q in
             back_to (subst (λ (x : Placed). IsBelow x e) is held.3) s
       ]
 

@@ -1,30 +1,20 @@
 -- The list of visits has those of the relation.
-use Rattle.rx_terms.proofs.Common.{⊤, ◌≡◌, ℕ, zero, suc, ◌+◌, ◌-◌, ◌≤◌, Bool, true, false, List, [], ◌∷◌, filter, flat_map, length, Contains, refl, sym, subst, Contains-append_left, Contains-append_right, Contains-append_cases, inl, inr, arith}
+use Rattle.rx_terms.proofs.Common.{⊤, ◌≡◌, ℕ, zero, suc, ◌+◌, ◌-◌, ◌≤◌, Bool, true, false, List, [], ◌∷◌, filter, flat_map, length, Contains, refl, subst, inl, inr, arith}
 use Rattle.rx_microdata.specs.Elements.{Placed, is_top_level}
 use Rattle.rx_microdata.specs.Properties.{properties}
 use Rattle.rx_microdata.specs.Visits.{Visit, Bounds, IsVisit, top, next, is_cycle, items_in, visits_from, visits_to}
 use Rattle.rx_microdata.specs.VisitLaws.{VisitsAre}
-use Rattle.rx_microdata.proofs.Lists.{none, first, later, first_or_later, kept, keeps, contradiction}
-
-module _ {X Y : Type 0} (f : X → List Y) where
-  pub from_one : (xs : List X) (z : Y) → Contains (flat_map f xs) z → (x : X) × Contains xs x × Contains (f x) z
-  from_one [] z h = none z h
-  from_one (x ∷ xs) z h = elim (Contains-append_cases (f x) (flat_map f xs) z h) as (λ _. (y : X) × Contains (x ∷ xs) y × Contains (f y) z) [
-    | inl a ↦ (x, first x xs, a)
-    | inr b ↦ let w = from_one xs z b in (w.0, later x w.0 xs w.1, w.2)
-  ]
-
-  pub of_one : (xs : List X) (x : X) (z : Y) → Contains xs x → Contains (f x) z → Contains (flat_map f xs) z
-  of_one [] x z h g = none x h
-  of_one (y ∷ xs) x z h g = elim (first_or_later y x xs h) as (λ _. Contains (flat_map f (y ∷ xs)) z) [
-    | inl same ↦ Contains-append_left (f y) (flat_map f xs) z (subst (λ w. Contains (f w) z) (sym same) g)
-    | inr l ↦ Contains-append_right (f y) (flat_map f xs) z (of_one xs x z l g)
-  ]
+use Rattle.rx_microdata.proofs.Lists.{none, first, later, first_or_later, kept, keeps, from_one, of_one, contradiction}
 
 module _ (page : List Placed) where
-  abbrev onward : ℕ → Placed → Visit → Bool → List Visit
+  abbrev pub onward : ℕ → Placed → Visit → Bool → List Visit
   onward left root above true = []
   onward left root above false = flat_map (visits_from (properties page) left (root ∷ above)) (items_in (properties page root))
+
+  pub goes_on : (left : ℕ) (root e : Placed) (above : Visit) (b : Bool) → b ≡ false → Contains (items_in (properties page root)) e
+      → (v : Visit) → Contains (visits_from (properties page) left (root ∷ above) e) v → Contains (onward left root above b) v
+  goes_on left root e above true c held v h = contradiction true refl c
+  goes_on left root e above false c held v h = of_one (visits_from (properties page) left (root ∷ above)) (items_in (properties page root)) e v held h
 
   abbrev Right : ℕ → Visit → Type 0
   Right deep visit = IsVisit page visit × (length visit ≤ deep)
@@ -53,12 +43,6 @@ module _ (page : List Placed) where
     Among [] = ⊤
     Among (root ∷ above) = (left : ℕ) → left + length above ≡ suc bounds.nested → (visit : Visit) → Contains (visits_from (properties page) left above root) visit → Contains (visits_to page bounds) visit
 
-    step : (left : ℕ) (above : Visit) (root e : Placed) (b : Bool) → b ≡ false → (visit : Visit)
-        → Contains (items_in (properties page root)) e → Contains (visits_from (properties page) left (root ∷ above) e) visit
-        → Contains (onward left root above b) visit
-    step left above root e true c visit held h = contradiction true refl c
-    step left above root e false c visit held h = of_one (visits_from (properties page) left (root ∷ above)) (items_in (properties page root)) e visit held h
-
     among : (visit : Visit) → IsVisit page visit → Among visit
     among visit (top root held is) = λ left d v h.
         let e : left ≡ suc bounds.nested = omega arith in
@@ -66,7 +50,7 @@ module _ (page : List Placed) where
         (subst (λ n. Contains (visits_from (properties page) n [] root) v) e h)
     among visit (next e root above is c held) = λ left d v h.
         among (root ∷ above) is (suc left) (omega arith) v
-        (later (root ∷ above) v _ (step left above root e (is_cycle (root ∷ above)) c v held h))
+        (later (root ∷ above) v _ (goes_on left root e above (is_cycle (root ∷ above)) c held v h))
 
     itself_among : (visit : Visit) → IsVisit page visit → Among visit → length visit ≤ suc bounds.nested → Contains (visits_to page bounds) visit
     itself_among visit (top root held is) a l = a (suc bounds.nested) (omega arith) (root ∷ []) (first (root ∷ []) _)

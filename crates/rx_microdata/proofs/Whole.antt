@@ -1,15 +1,17 @@
 -- Where no visit is faulty the JSON is whole.
-use Rattle.rx_rdfa.proofs.Common.{nat_le, not, ◌&&◌, ◌==◌, ◌≡◌, ℕ, zero, suc, ◌+◌, nat_lt, Bool, true, false, cond, codes, List, [], ◌∷◌, ◌++◌, map, filter, flat_map, length, Contains, Option, Some, None, list_any, refl, sym, ap, subst, ◌∙◌, lt-ltb, none-some, Chars, inl, inr, arith, Kind, Cycle, ItemsTooNested, ItemsTooMany}
+use Rattle.rx_terms.proofs.Common.{nat_le, not, ◌&&◌, ◌==◌, ◌≡◌, ℕ, zero, suc, ◌+◌, nat_lt, Bool, true, false, cond, codes, List, [], ◌∷◌, ◌++◌, map, filter, flat_map, length, Contains, Option, Some, None, list_any, refl, sym, ap, subst, ◌∙◌, lt-ltb, none-some, Chars, inl, inr, arith}
 use Rattle.std.specs.Option.{option_or, option_map}
 use Rattle.serde_json.specs.Data.{Data, object, member, array, no_members}
+use Rattle.rx_grammar.specs.declared.faults.Kind.{Kind}
+use Rattle.rx_grammar.specs.declared.faults.Kind.TheVariants.{Cycle, ItemsTooNested, ItemsTooMany}
 use Rattle.rx_microdata.specs.Elements.{Placed, is_item, names_of, is_top_level}
 use Rattle.rx_microdata.specs.Properties.{is_any, properties, is_property, starts_of, reaches}
 use Rattle.rx_microdata.specs.Facts.{said}
 use Rattle.rx_microdata.specs.Visits.{Visit, Bounds, is_cycle, items_in, visits_from, visits_to, fault_of, first_fault}
 use Rattle.rx_microdata.specs.Json.{json_of_item, item_of, named, string_of, list_of}
 use Rattle.rx_microdata.specs.VisitLaws.{JsonIsWhole}
-use Rattle.rx_microdata.proofs.Lists.{none, first, later, first_or_later, kept, keeps, and_parts, contradiction}
-use Rattle.rx_microdata.proofs.VisitsAre.{of_one}
+use Rattle.rx_microdata.proofs.Lists.{none, first, later, first_or_later, kept, keeps, of_one, and_parts, contradiction}
+use Rattle.rx_microdata.proofs.VisitsAre.{goes_on}
 
 flat_map_same : {X Y : Type 0} (f g : X → List Y) (xs : List X) → ((z : X) → Contains xs z → f z ≡ g z) → flat_map f xs ≡ flat_map g xs
 flat_map_same f g [] h = refl
@@ -60,15 +62,6 @@ has_name [] e h = contradiction false h refl
 has_name (name ∷ names) e h = first e (map (λ (n : Chars). e) names)
 
 module _ (page : List Placed) (base : Chars) (bounds : Bounds) (more : ℕ) where
-  abbrev onward : ℕ → Placed → Visit → Bool → List Visit
-  onward left root above true = []
-  onward left root above false = flat_map (visits_from (properties page) left (root ∷ above)) (items_in (properties page root))
-
-  goes_on : (left : ℕ) (root e : Placed) (above : Visit) (b : Bool) → b ≡ false → Contains (items_in (properties page root)) e → (v : Visit)
-      → Contains (visits_from (properties page) left (root ∷ above) e) v → Contains (onward left root above b) v
-  goes_on left root e above true c held v h = contradiction true refl c
-  goes_on left root e above false c held v h = of_one (visits_from (properties page) left (root ∷ above)) (items_in (properties page root)) e v held h
-
   in_item : (root e : Placed) → Contains (properties page root) e → is_item e ≡ true → Contains (items_in (properties page root)) e
   in_item root e h i =
       let w = kept (is_property page root (starts_of page root)) page e h in
@@ -94,7 +87,7 @@ module _ (page : List Placed) (base : Chars) (bounds : Bounds) (more : ℕ) wher
       let s : suc left + more ≡ suc (left + more) = omega arith in
       let below : (e : Placed) → Contains (properties page root) e → is_item e ≡ true → json_of_item (properties page) base left e ≡ json_of_item (properties page) base (left + more) e = λ e held i.
       item_same left (root ∷ above) e (omega arith) (λ v h.
-      sound v (later (root ∷ above) v _ (goes_on (suc left) root e above (is_cycle (root ∷ above)) calm (in_item root e held i) v h))) in
+      sound v (later (root ∷ above) v _ (goes_on page (suc left) root e above (is_cycle (root ∷ above)) calm (in_item root e held i) v h))) in
       let same : json_of_item (properties page) base (suc left) root ≡ json_of_item (properties page) base (suc (left + more)) root =
       ap (item_of base root.facts) (flat_map_same (λ e. named e (valued (is_item e) left e)) (λ e. named e (valued (is_item e) (left + more) e)) (properties page root)
       (λ e held. ap (named e) (value_same (is_item e) left e (below e held)))) in

@@ -68,25 +68,12 @@ module _ {B : Type 0} (same : B → B → Bool) (exact : IsExact same) where
             let c : u ≡ copy e.0 e.1 = λ i. record { subject = (p i).0; predicate = l.0 i; object = (l.1 ∙ ap (λ (x : Node B × Node B). Resource x.1) p) i } in
             (subst (Among list) c m, subst (λ z. Among list (type_pattern z)) (ap (λ (x : Node B × Node B). x.1) p) l.2)
 
-    es : List (Node B × Node B)
-    es = edges same list
-
     pattern_held : {u : Triple B} → Closed (Among list) u → SaysPattern u.predicate u.object → Among list u
     pattern_held (held h) s = h
     pattern_held (copied_from a b c n) s = absurd (n s)
 
     no_copy_says : (o : Term B) → ¬ (SaysPattern rdfa_copy o)
     no_copy_says o s = copy_is_no_type s.0
-
-    -- u is copied from the list: from the triple (v, p, o) of a pattern v to which a live copy triple of the subject leads
-    record Gets (u : Triple B) : Type 0 where
-      t : Node B
-      v : Node B
-      copies : Among list (copy u.subject t)
-      says : Among list (type_pattern t)
-      way : leads (same_node same) (edges same list) t v ≡ true
-      has : Among list (spo v u.predicate u.object)
-      new : ¬ (SaysPattern u.predicate u.object)
 
     -- t is where a live copy triple of s leads
     record Reaches (s t : Node B) : Type 0 where
@@ -95,21 +82,27 @@ module _ {B : Type 0} (same : B → B → Bool) (exact : IsExact same) where
       says : Among list (type_pattern by)
       way : leads (same_node same) (edges same list) by t ≡ true
 
+    -- u is copied from the list: from the triple (v, p, o) of a pattern v to which a live copy triple of the subject leads
+    record Gets (u : Triple B) : Type 0 where
+      v : Node B
+      reaches : Reaches u.subject v
+      has : Among list (spo v u.predicate u.object)
+      new : ¬ (SaysPattern u.predicate u.object)
+
+    reaches_on : (s t v : Node B) → leads (same_node same) (edges same list) t v ≡ true → Reaches s t → Reaches s v
+    reaches_on s t v w r = record { by = r.by; copies = r.copies; says = r.says; way = leads_on (same_node same) (exact_nodes same exact) (edges same list) r.by t v r.way w }
+
+    -- a copy triple of a pattern leads to it
+    reaches_pair : (s t v : Node B) → Among list (copy t v) → Among list (type_pattern v) → Reaches s t → Reaches s v
+    reaches_pair s t v h p r = reaches_on s t v (leads_pair (same_node same) (exact_nodes same exact) (edges same list) t v (pair_in t v h p)) r
+
     reached : (s t : Node B) → Among list (type_pattern t) → Among list (copy s t) ⊎ Gets (copy s t) → Reaches s t
     reached s t p (inl h) = record { by = t; copies = h; says = p; way = leads_self (same_node same) (exact_nodes same exact) (edges same list) t }
-    reached s t p (inr k) = record { by = k.t; copies = k.copies; says = k.says; way = leads_on (same_node same) (exact_nodes same exact) (edges same list) k.t k.v t k.way (leads_pair (same_node same) (exact_nodes same exact) (edges same list) k.v t (pair_in k.v t k.has p)) }
+    reached s t p (inr k) = reaches_pair s k.v t k.has p k.reaches
 
     got_by : (s t : Node B) (p : Chars) (o : Term B) → ¬ (SaysPattern p o) → Reaches s t → Among list (spo t p o) ⊎ Gets (spo t p o) → Gets (spo s p o)
-    got_by s t p o n r (inl h) = record { t = r.by; v = t; copies = r.copies; says = r.says; way = r.way; has = h; new = n }
-    got_by s t p o n r (inr k) = record {
-      t = r.by;
-      v = k.v;
-      copies = r.copies;
-      says = r.says;
-      way = leads_on (same_node same) (exact_nodes same exact) (edges same list) r.by t k.v r.way (leads_on (same_node same) (exact_nodes same exact) (edges same list) t k.t k.v (leads_pair (same_node same) (exact_nodes same exact) (edges same list) t k.t (pair_in t k.t k.copies k.says)) k.way);
-      has = k.has;
-      new = n;
-    }
+    got_by s t p o n r (inl h) = record { v = t; reaches = r; has = h; new = n }
+    got_by s t p o n r (inr k) = let q = k.reaches in record { v = k.v; reaches = reaches_on s q.by k.v q.way (reaches_pair s t q.by q.copies q.says r); has = k.has; new = n }
 
     -- what is in the closed set is in the list or is got from it
     got : {u : Triple B} → Closed (Among list) u → Among list u ⊎ Gets u
@@ -124,13 +117,12 @@ module _ {B : Type 0} (same : B → B → Bool) (exact : IsExact same) where
     unfolding Copies
     copies_on s e m c = let p = of_pair e m in (copied_from c.0 (held c.1) (held p.0) (no_copy_says (Resource e.1)), p.1)
 
-    copies_reached : (s t v : Node B) → leads (same_node same) (edges same list) t v ≡ true → Among list (copy s t) → Among list (type_pattern t) → Copies s v
-    unfolding Copies
-    copies_reached s t v w h k = leads_keep (same_node same) (exact_nodes same exact) (Copies s) (edges same list) (copies_on s) t v w (held h, k)
-
     is_closed : (u : Triple B) → Gets u → Closed (Among list) u
     unfolding Copies
-    is_closed u k = let c = copies_reached u.subject k.t k.v k.way k.copies k.says in copied_from c.0 (held c.1) (held k.has) k.new
+    is_closed u k =
+        let r = k.reaches in
+        let c = leads_keep (same_node same) (exact_nodes same exact) (Copies u.subject) (edges same list) (copies_on u.subject) r.by k.v r.way (held r.copies, r.says) in
+        copied_from c.0 (held c.1) (held k.has) k.new
 
     -- ---- the two conditions, by the list
     referenced_from : (s t : Node B) → Among list (type_pattern t) → Among list (copy s t) ⊎ Gets (copy s t) → is_referenced same (edges same list) t ≡ true
@@ -171,9 +163,9 @@ module _ {B : Type 0} (same : B → B → Bool) (exact : IsExact same) where
 
     treated_at : (u : Triple B) → is_referenced same (edges same list) u.subject ≡ false → live same list u.predicate u.object ≡ None → Among list u ⊎ Gets u → Among (flat_map (treated same list (edges same list)) list) u
     treated_at u r l (inl h) = Among_flat_map (treated same list (edges same list)) list u u h (rw (treats_kept u r l) (inl refl))
-    treated_at u r l (inr k) = Among_flat_map (treated same list (edges same list)) list (copy u.subject k.t) u k.copies
-        (rw (treats_live (copy u.subject k.t) k.t r (live_some k.t k.says))
-        (Among_filter_map (given same list (edges same list) u.subject k.t) list (spo k.v u.predicate u.object) u k.has (gives u.subject k.t k.v u.predicate u.object k.way (not_says u.predicate u.object k.new) l)))
+    treated_at u r l (inr k) = let t = k.reaches.by in Among_flat_map (treated same list (edges same list)) list (copy u.subject t) u k.reaches.copies
+        (rw (treats_live (copy u.subject t) t r (live_some t k.reaches.says))
+        (Among_filter_map (given same list (edges same list) u.subject t) list (spo k.v u.predicate u.object) u k.has (gives u.subject t k.v u.predicate u.object k.reaches.way (not_says u.predicate u.object k.new) l)))
 
     all_in : (u : Triple B) → patterned (Among list) u → Among (copied same list) u
     all_in u (c, r, l) = Among_distinct (same_triple same) (exact_triples same exact) (flat_map (treated same list (edges same list)) list) u
@@ -201,7 +193,7 @@ module _ {B : Type 0} (same : B → B → Bool) (exact : IsExact same) where
     of_given_all s t c k r u w m e = let d = of_given s t w u e in
         subst (patterned (Among list)) (sym d.3)
         (from_gets (spo s w.predicate w.object) r d.2
-        (is_closed (spo s w.predicate w.object) (record { t = t; v = w.subject; copies = c; says = k; way = d.0; has = m; new = λ h. true≢false (sym (says_true w.predicate w.object h) ∙ d.1) })))
+        (is_closed (spo s w.predicate w.object) (record { v = w.subject; reaches = record { by = t; copies = c; says = k; way = d.0 }; has = m; new = λ h. true≢false (sym (says_true w.predicate w.object h) ∙ d.1) })))
 
     of_treated : (c u : Triple B) → Among list c → (r : Bool) → is_referenced same (edges same list) c.subject ≡ r → (l : Option (Node B)) → live same list c.predicate c.object ≡ l → Among (cond r [] (replaced same list (edges same list) c l)) u → patterned (Among list) u
     of_treated c u m true e l f h = absurd h

@@ -11,19 +11,13 @@ pub exact_kinds : IsExact same_kind
 exact_kinds Plain Plain = (λ h. refl, λ e. refl)
 exact_kinds (Tagged a) (Tagged b) = (λ h. ap Tagged ((exact_texts a b).0 h), λ e. (exact_texts a b).1 (cc))
 exact_kinds (Typed a) (Typed b) = (λ h. ap Typed ((exact_texts a b).0 h), λ e. (exact_texts a b).1 (cc))
-exact_kinds Plain (Tagged b) = (λ h. cc, λ e. cc)
-exact_kinds Plain (Typed b) = (λ h. cc, λ e. cc)
-exact_kinds (Tagged a) Plain = (λ h. cc, λ e. cc)
-exact_kinds (Tagged a) (Typed b) = (λ h. cc, λ e. cc)
-exact_kinds (Typed a) Plain = (λ h. cc, λ e. cc)
-exact_kinds (Typed a) (Tagged b) = (λ h. cc, λ e. cc)
+exact_kinds _ _ = (λ h. cc, λ e. cc)
 
 module _ {B : Type 0} (same : B → B → Bool) (exact : IsExact same) where
   pub exact_nodes : IsExact (same_node same)
   exact_nodes (Iri a) (Iri b) = (λ h. ap Iri ((exact_texts a b).0 h), λ e. (exact_texts a b).1 (cc))
   exact_nodes (Blank a) (Blank b) = (λ h. ap Blank ((exact a b).0 h), λ e. (exact a b).1 (cc))
-  exact_nodes (Iri a) (Blank b) = (λ h. cc, λ e. cc)
-  exact_nodes (Blank a) (Iri b) = (λ h. cc, λ e. cc)
+  exact_nodes _ _ = (λ h. cc, λ e. cc)
 
   pub exact_terms : IsExact (same_term same)
   exact_terms (Resource a) (Resource b) = (λ h. ap Resource ((exact_nodes a b).0 h), λ e. (exact_nodes a b).1 (cc))
@@ -31,8 +25,7 @@ module _ {B : Type 0} (same : B → B → Bool) (exact : IsExact same) where
     λ h. ap₂ Literal ((exact_texts a b).0 (and_left (bytes_eq a b) (same_kind k l) h)) ((exact_kinds k l).0 (and_right (bytes_eq a b) (same_kind k l) h)),
     λ e. and_from (bytes_eq a b) (same_kind k l) ((exact_texts a b).1 (cc)) ((exact_kinds k l).1 (cc)),
   )
-  exact_terms (Resource a) (Literal b l) = (λ h. cc, λ e. cc)
-  exact_terms (Literal a k) (Resource b) = (λ h. cc, λ e. cc)
+  exact_terms _ _ = (λ h. cc, λ e. cc)
 
   triple_path : (t u : Triple B) → t.subject ≡ u.subject → t.predicate ≡ u.predicate → t.object ≡ u.object → t ≡ u
   triple_path t u p q r = λ i. record { subject = p i; predicate = q i; object = r i }

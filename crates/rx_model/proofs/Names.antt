@@ -1,6 +1,7 @@
 -- The law of names.
-use Rattle.rx_model.proofs.Common.{◌≡◌, ◌⊎◌, ℕ, Bool, true, false, cond, nat_eq, List, [], ◌∷◌, ◌++◌, map, refl, sym, ap, ap₂, ◌∙◌, inl, inr, true≢false, Decides-eqb, same_truth, Among, IsExact, contains, Node, Iri, Blank, Term, Resource, Literal, Triple, rename_node, rename_term, rename, blank_of_node, blank_of_term, blanks, numbered, copied, Among_left, Among_right, Among-contains, Among_by_contains, false_unless}
+use Rattle.rx_model.proofs.Common.{◌≡◌, ◌⊎◌, ℕ, Bool, true, false, cond, nat_eq, List, map, refl, sym, ap, ◌∙◌, inl, inr, true≢false, Decides-eqb, same_truth, Among, IsExact, contains, Triple, rename, blanks, numbered, copied, Among-contains, Among_by_contains, false_unless}
 use Rattle.rx_model.specs.Renaming.{NamesDoNotMatter}
+use Rattle.rx_model.proofs.Renamings.{all_twice}
 use Rattle.rx_model.proofs.Renaming.{numbers_forget_names, copying_keeps_names}
 
 -- a number, or a blank node that has none
@@ -33,25 +34,9 @@ module _ {A : Type 0} (same : A → A → Bool) (exact : IsExact same) (table : 
       go false p true q = rw (p, q) (apart' p q)
       go false p false q = rw (p, q) refl
 
-  agree_node : (n : Node A) → ((b : A) → Among (blank_of_node n) b → Among table b) → rename_node {B = ℕ ⊎ A} inl (rename_node to n) ≡ rename_node number n
-  unfolding number
-  agree_node (Iri iri) h = refl
-  agree_node (Blank b) h = ap Blank (rw (Among-contains same exact table b (h b (inl refl))) refl)
-
-  agree_term : (t : Term A) → ((b : A) → Among (blank_of_term t) b → Among table b) → rename_term {B = ℕ ⊎ A} inl (rename_term to t) ≡ rename_term number t
-  agree_term (Resource n) h = ap Resource (agree_node n h)
-  agree_term (Literal lexical kind) h = refl
-
   agree : (list : List (Triple A)) → ((b : A) → Among (blanks list) b → Among table b) → map (rename {B = ℕ ⊎ A} inl) (map (rename to) list) ≡ map (rename number) list
-  agree [] h = refl
-  agree (t ∷ list) h =
-      let here : (b : A) → Among (blank_of_node t.subject ++ blank_of_term t.object) b → Among table b = λ b m. h b (Among_left (blank_of_node t.subject ++ blank_of_term t.object) (blanks list) b m) in
-      ap₂ ◌∷◌ (λ i. record {
-        subject = agree_node t.subject (λ b m. here b (Among_left (blank_of_node t.subject) (blank_of_term t.object) b m)) i;
-        predicate = t.predicate;
-        object = agree_term t.object (λ b m. here b (Among_right (blank_of_node t.subject) (blank_of_term t.object) b m)) i;
-      })
-      (agree list (λ b m. h b (Among_right (blank_of_node t.subject ++ blank_of_term t.object) (blanks list) b m)))
+  unfolding number
+  agree list h = all_twice to inl number list (λ b m. rw (Among-contains same exact table b (h b m)) refl)
 
   drawn : (list : List (Triple A)) → ((b : A) → Among (blanks list) b → Among table b)
       → numbered nat_eq (copied nat_eq (map (rename to) list)) ≡ numbered same (copied same list)

@@ -1,17 +1,19 @@
 -- The laws of renaming.
-use Rattle.rx_model.proofs.Common.{◌≡◌, suc, Bool, true, false, cond, List, [], ◌∷◌, ◌++◌, map, filter, flat_map, filter_map, Option, Some, None, option_map, is_none, bytes_eq, refl, sym, ap, ap₂, ◌∙◌, not, ◌&&◌, ◌||◌, cons_option, map-append, Chars, contains, distinct, Node, Iri, Blank, Term, Resource, Literal, Triple, same_node, same_term, same_triple, rename_node, rename_term, rename, blank_of_node, blank_of_term, blanks, place_in, numbered, rdfa_copy, rdfa_pattern, spo, type_pattern, is_pattern, pattern_object, live, edge, edges, leads, says_pattern, is_referenced, given, replaced, treated, copied, rdf_type}
+use Rattle.rx_model.proofs.Common.{◌≡◌, suc, Bool, true, false, cond, List, [], ◌∷◌, ◌++◌, map, filter, flat_map, filter_map, Option, Some, None, option_map, is_none, bytes_eq, refl, sym, ap, ap₂, ◌∙◌, not, ◌&&◌, ◌||◌, cons_option, map-append, Chars, contains, distinct, Node, Iri, Blank, Term, Resource, Literal, Triple, same_node, same_term, same_triple, rename_node, rename_term, rename, blanks_of, blanks, place_in, numbered, rdfa_copy, rdfa_pattern, spo, type_pattern, is_pattern, pattern_object, live, edge, edges, leads, says_pattern, is_referenced, given, replaced, treated, copied, rdf_type}
+use Rattle.rx_model.proofs.Renamings.{triple_blanks, all_twice}
 use Rattle.rx_model.specs.Renaming.{NumbersForgetNames, CopyingKeepsNames}
+
+-- a choice under a function
+cond_of : {X Y : Type 0} (h : X → Y) (b : Bool) (x y : X) → cond b (h x) (h y) ≡ h (cond b x y)
+cond_of h true x y = refl
+cond_of h false x y = refl
 
 -- ---- lists under a function that keeps apart
 
 module _ {A B : Type 0} (same : A → A → Bool) (same' : B → B → Bool) (f : A → B) (keeps : (a b : A) → same a b ≡ same' (f a) (f b)) where
-  map_cons_if : (b : Bool) (x : A) (xs : List A) → cond b (f x ∷ map f xs) (map f xs) ≡ map f (cond b (x ∷ xs) xs)
-  map_cons_if true x xs = refl
-  map_cons_if false x xs = refl
-
   filter_map_same : (x : A) (xs : List A) → filter (λ y. not (same' (f x) y)) (map f xs) ≡ map f (filter (λ y. not (same x y)) xs)
   filter_map_same x [] = refl
-  filter_map_same x (y ∷ ys) = ap₂ (λ b zs. cond (not b) (f y ∷ zs) zs) (sym (keeps x y)) (filter_map_same x ys) ∙ map_cons_if (not (same x y)) y (filter (λ y. not (same x y)) ys)
+  filter_map_same x (y ∷ ys) = ap₂ (λ b zs. cond (not b) (f y ∷ zs) zs) (sym (keeps x y)) (filter_map_same x ys) ∙ cond_of (map f) (not (same x y)) (y ∷ filter (λ y. not (same x y)) ys) (filter (λ y. not (same x y)) ys)
 
   distinct_map : (xs : List A) → distinct same' (map f xs) ≡ map f (distinct same xs)
   distinct_map [] = refl
@@ -26,42 +28,21 @@ module _ {A B : Type 0} (same : A → A → Bool) (same' : B → B → Bool) (f 
   place_map (x ∷ xs) a = ap₂ (λ b n. cond b 0 (suc n)) (sym (keeps x a)) (place_map xs a)
 
 module _ {A B : Type 0} (same : A → A → Bool) (same' : B → B → Bool) (f : A → B) (keeps : (a b : A) → same a b ≡ same' (f a) (f b)) where
-  blank_node : (n : Node A) → blank_of_node (rename_node f n) ≡ map f (blank_of_node n)
-  blank_node (Iri iri) = refl
-  blank_node (Blank b) = refl
-
-  blank_term : (t : Term A) → blank_of_term (rename_term f t) ≡ map f (blank_of_term t)
-  blank_term (Resource n) = blank_node n
-  blank_term (Literal lexical kind) = refl
-
   blanks_map : (list : List (Triple A)) → blanks (map (rename f) list) ≡ map f (blanks list)
   blanks_map [] = refl
-  blanks_map (t ∷ list) = ap₂ ◌++◌ (ap₂ ◌++◌ (blank_node t.subject) (blank_term t.object) ∙ sym (map-append f (blank_of_node t.subject) (blank_of_term t.object))) (blanks_map list)
-      ∙ sym (map-append f (blank_of_node t.subject ++ blank_of_term t.object) (blanks list))
-
-  number_node : (xs : List A) (n : Node A) → rename_node (place_in same' (map f xs)) (rename_node f n) ≡ rename_node (place_in same xs) n
-  number_node xs (Iri iri) = refl
-  number_node xs (Blank b) = ap Blank (place_map same same' f keeps xs b)
-
-  number_term : (xs : List A) (t : Term A) → rename_term (place_in same' (map f xs)) (rename_term f t) ≡ rename_term (place_in same xs) t
-  number_term xs (Resource n) = ap Resource (number_node xs n)
-  number_term xs (Literal lexical kind) = refl
-
-  number_all : (xs : List A) (list : List (Triple A)) → map (rename (place_in same' (map f xs))) (map (rename f) list) ≡ map (rename (place_in same xs)) list
-  number_all xs [] = refl
-  number_all xs (t ∷ list) = ap₂ ◌∷◌ (λ i. record { subject = number_node xs t.subject i; predicate = t.predicate; object = number_term xs t.object i }) (number_all xs list)
+  blanks_map (t ∷ list) = ap₂ ◌++◌ (triple_blanks f t) (blanks_map list) ∙ sym (map-append f (blanks_of t) (blanks list))
 
   numbers_forget : (list : List (Triple A)) → numbered same' (map (rename f) list) ≡ numbered same list
   numbers_forget list = ap (λ z. map (rename (place_in same' (distinct same' z))) (map (rename f) list)) (blanks_map list)
       ∙ ap (λ z. map (rename (place_in same' z)) (map (rename f) list)) (distinct_map same same' f keeps (blanks list))
-      ∙ number_all (distinct same (blanks list)) list
+      ∙ all_twice f (place_in same' (map f (distinct same (blanks list)))) (place_in same (distinct same (blanks list))) list (λ a h. place_map same same' f keeps (distinct same (blanks list)) a)
 
 pub numbers_forget_names : {A B : Type 0} (same : A → A → Bool) (same' : B → B → Bool) → NumbersForgetNames same same'
 numbers_forget_names same same' f keeps list = numbers_forget same same' f keeps list
 
 -- ---- copying
 
-filter_map_map : {A B C D : Type 0} (f : A → B) (g : C → D) (h : A → Option C) (h' : B → Option D) → ((x : A) → h' (f x) ≡ option_map g (h x)) → (xs : List A) → filter_map h' (map f xs) ≡ map g (filter_map h xs)
+pub filter_map_map : {A B C D : Type 0} (f : A → B) (g : C → D) (h : A → Option C) (h' : B → Option D) → ((x : A) → h' (f x) ≡ option_map g (h x)) → (xs : List A) → filter_map h' (map f xs) ≡ map g (filter_map h xs)
 filter_map_map f g h h' k [] = refl
 filter_map_map f g h h' k (x ∷ xs) = ap₂ cons_option (k x) (filter_map_map f g h h' k xs) ∙ go (h x)
   where
@@ -75,16 +56,14 @@ flat_map_map f g h h' k (x ∷ xs) = ap₂ ◌++◌ (k x) (flat_map_map f g h h'
 
 module _ {A B : Type 0} (same : A → A → Bool) (same' : B → B → Bool) (f : A → B) (keeps : (a b : A) → same a b ≡ same' (f a) (f b)) where
   keeps_node : (a b : Node A) → same_node same a b ≡ same_node same' (rename_node f a) (rename_node f b)
-  keeps_node (Iri a) (Iri b) = refl
-  keeps_node (Iri a) (Blank b) = refl
-  keeps_node (Blank a) (Iri b) = refl
   keeps_node (Blank a) (Blank b) = keeps a b
+  keeps_node (Iri a) (Iri b) = refl
+  keeps_node _ _ = refl
 
   keeps_term : (a b : Term A) → same_term same a b ≡ same_term same' (rename_term f a) (rename_term f b)
   keeps_term (Resource a) (Resource b) = keeps_node a b
-  keeps_term (Resource a) (Literal b l) = refl
-  keeps_term (Literal a k) (Resource b) = refl
   keeps_term (Literal a k) (Literal b l) = refl
+  keeps_term _ _ = refl
 
   keeps_triple : (t u : Triple A) → same_triple same t u ≡ same_triple same' (rename f t) (rename f u)
   keeps_triple t u = ap₂ (λ a b. a && bytes_eq t.predicate u.predicate && b) (keeps_node t.subject u.subject) (keeps_term t.object u.object)
@@ -92,20 +71,12 @@ module _ {A B : Type 0} (same : A → A → Bool) (same' : B → B → Bool) (f 
   pattern_map : (list : List (Triple A)) (t : Node A) → is_pattern same' (map (rename f) list) (rename_node f t) ≡ is_pattern same list t
   pattern_map list t = contains_map (same_triple same) (same_triple same') (rename f) keeps_triple list (type_pattern t)
 
-  cond_some : (b : Bool) (t : Node A) → cond b (Some (rename_node f t)) None ≡ option_map (rename_node f) (cond b (Some t) None)
-  cond_some true t = refl
-  cond_some false t = refl
-
   object_map : (list : List (Triple A)) (o : Term A) → pattern_object same' (map (rename f) list) (rename_term f o) ≡ option_map (rename_node f) (pattern_object same list o)
-  object_map list (Resource t) = ap (λ b. cond b (Some (rename_node f t)) None) (pattern_map list t) ∙ cond_some (is_pattern same list t) t
+  object_map list (Resource t) = ap (λ b. cond b (Some (rename_node f t)) None) (pattern_map list t) ∙ cond_of (option_map (rename_node f)) (is_pattern same list t) (Some t) None
   object_map list (Literal lexical kind) = refl
 
-  if_copy : (b : Bool) (o : Option (Node A)) → cond b (option_map (rename_node f) o) None ≡ option_map (rename_node f) (cond b o None)
-  if_copy true o = refl
-  if_copy false o = refl
-
   live_map : (list : List (Triple A)) (p : Chars) (o : Term A) → live same' (map (rename f) list) p (rename_term f o) ≡ option_map (rename_node f) (live same list p o)
-  live_map list p o = ap (λ z. cond (bytes_eq p rdfa_copy) z None) (object_map list o) ∙ if_copy (bytes_eq p rdfa_copy) (pattern_object same list o)
+  live_map list p o = ap (λ z. cond (bytes_eq p rdfa_copy) z None) (object_map list o) ∙ cond_of (option_map (rename_node f)) (bytes_eq p rdfa_copy) (pattern_object same list o) None
 
   pair : Node A × Node A → Node B × Node B
   pair e = (rename_node f e.0, rename_node f e.1)
@@ -136,29 +107,21 @@ module _ {A B : Type 0} (same : A → A → Bool) (same' : B → B → Bool) (f 
   none_map None = refl
   none_map (Some t) = refl
 
-  some_if : (b : Bool) (t : Triple A) → cond b (Some (rename f t)) None ≡ option_map (rename f) (cond b (Some t) None)
-  some_if true t = refl
-  some_if false t = refl
-
   given_map : (list : List (Triple A)) (es : List (Node A × Node A)) (s t : Node A) (u : Triple A)
       → given same' (map (rename f) list) (map pair es) (rename_node f s) (rename_node f t) (rename f u) ≡ option_map (rename f) (given same list es s t u)
   given_map list es s t u =
       (λ i. cond (leads_map es t u.subject i && not (says_map u.predicate u.object i) && (ap is_none (live_map list u.predicate u.object) ∙ none_map (live same list u.predicate u.object)) i) (Some (rename f (spo s u.predicate u.object))) None)
-      ∙ some_if (leads (same_node same) es t u.subject && not (says_pattern same u.predicate u.object) && is_none (live same list u.predicate u.object)) (spo s u.predicate u.object)
+      ∙ cond_of (option_map (rename f)) (leads (same_node same) es t u.subject && not (says_pattern same u.predicate u.object) && is_none (live same list u.predicate u.object)) (Some (spo s u.predicate u.object)) None
 
   replaced_map : (list : List (Triple A)) (es : List (Node A × Node A)) (u : Triple A) (o : Option (Node A)) → replaced same' (map (rename f) list) (map pair es) (rename f u) (option_map (rename_node f) o) ≡ map (rename f) (replaced same list es u o)
   replaced_map list es u None = refl
   replaced_map list es u (Some t) = filter_map_map (rename f) (rename f) (given same list es u.subject t) (given same' (map (rename f) list) (map pair es) (rename_node f u.subject) (rename_node f t)) (given_map list es u.subject t) list
 
-  unless_map : (b : Bool) (xs : List (Triple A)) → cond b [] (map (rename f) xs) ≡ map (rename f) (cond b [] xs)
-  unless_map true xs = refl
-  unless_map false xs = refl
-
   treated_map : (list : List (Triple A)) (es : List (Node A × Node A)) (u : Triple A) → treated same' (map (rename f) list) (map pair es) (rename f u) ≡ map (rename f) (treated same list es u)
   treated_map list es u =
       ap₂ (λ b zs. cond b [] zs) (referenced_map es u.subject)
       (ap (replaced same' (map (rename f) list) (map pair es) (rename f u)) (live_map list u.predicate u.object) ∙ replaced_map list es u (live same list u.predicate u.object))
-      ∙ unless_map (is_referenced same es u.subject) (replaced same list es u (live same list u.predicate u.object))
+      ∙ cond_of (map (rename f)) (is_referenced same es u.subject) [] (replaced same list es u (live same list u.predicate u.object))
 
   copying_keeps : (list : List (Triple A)) → copied same' (map (rename f) list) ≡ map (rename f) (copied same list)
   copying_keeps list =

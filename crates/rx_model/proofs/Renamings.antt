@@ -1,40 +1,44 @@
 -- Two graphs that are one graph renamed are each other renamed.
-use Rattle.rx_model.proofs.Common.{◌≡◌, ◌∙◌, ◌⊎◌, ℕ, Bool, true, false, cond, nat_eq, List, [], ◌∷◌, ◌++◌, Option, Some, refl, sym, ap, inl, inr, subst, true≢false, find, Among, Node, Iri, Blank, Term, Resource, Literal, Triple, set_of, rename_node, rename_term, rename, blank_of_node, blank_of_term, blanks_of, blanks, Has, Renamed, Among_left, Among_right, Among_cases, Among_flat_map, Among_of_flat_map, exact_numbers}
+use Rattle.rx_model.proofs.Common.{◌≡◌, ◌∙◌, ℕ, nat_eq, List, [], ◌∷◌, ◌++◌, map, Option, Some, refl, sym, ap, ap₂, inl, inr, subst, true≢false, map-append, find, Among, Node, Iri, Blank, Term, Resource, Literal, Triple, set_of, rename_node, rename_term, rename, blank_of_node, blank_of_term, blanks_of, blanks, Has, Renamed, Among_left, Among_right, Among_of_map, Among_flat_map, Among_of_flat_map, exact_numbers}
+use Rattle.rx_terms.proofs.Bools.{split}
 use Rattle.std.specs.Option.{option_map, unwrap_or}
 
 -- ---- the blank nodes of a triple that is renamed
 
 module _ {A B : Type 0} (f : A → B) where
-  node_blank : (n : Node A) (b : B) → Among (blank_of_node (rename_node f n)) b → (a : A) × Among (blank_of_node n) a × (f a ≡ b)
-  node_blank (Iri iri) b h = absurd h
-  node_blank (Blank a) b (inl q) = (a, inl refl, q)
-  node_blank (Blank a) b (inr h) = absurd h
+  blank_node : (n : Node A) → blank_of_node (rename_node f n) ≡ map f (blank_of_node n)
+  blank_node (Iri iri) = refl
+  blank_node (Blank b) = refl
 
-  term_blank : (t : Term A) (b : B) → Among (blank_of_term (rename_term f t)) b → (a : A) × Among (blank_of_term t) a × (f a ≡ b)
-  term_blank (Resource n) b h = node_blank n b h
-  term_blank (Literal lexical kind) b h = absurd h
+  blank_term : (t : Term A) → blank_of_term (rename_term f t) ≡ map f (blank_of_term t)
+  blank_term (Resource n) = blank_node n
+  blank_term (Literal lexical kind) = refl
+
+  pub triple_blanks : (t : Triple A) → blanks_of (rename f t) ≡ map f (blanks_of t)
+  triple_blanks t = ap₂ ◌++◌ (blank_node t.subject) (blank_term t.object) ∙ sym (map-append f (blank_of_node t.subject) (blank_of_term t.object))
 
   triple_blank : (t : Triple A) (b : B) → Among (blanks_of (rename f t)) b → (a : A) × Among (blanks_of t) a × (f a ≡ b)
-  triple_blank t b h = go (Among_cases (blank_of_node (rename_node f t.subject)) (blank_of_term (rename_term f t.object)) b h)
-    where
-      go : Among (blank_of_node (rename_node f t.subject)) b ⊎ Among (blank_of_term (rename_term f t.object)) b → (a : A) × Among (blanks_of t) a × (f a ≡ b)
-      go (inl k) = let found = node_blank t.subject b k in (found.0, Among_left (blank_of_node t.subject) (blank_of_term t.object) found.0 found.1, found.2)
-      go (inr k) = let found = term_blank t.object b k in (found.0, Among_right (blank_of_node t.subject) (blank_of_term t.object) found.0 found.1, found.2)
+  triple_blank t b h = Among_of_map f (blanks_of t) b (subst (λ list. Among list b) (triple_blanks t) h)
 
+-- renamed twice is renamed once
 module _ {A B C : Type 0} (f : A → B) (g : B → C) (h : A → C) where
-  node_twice : (n : Node A) → ((a : A) → Among (blank_of_node n) a → g (f a) ≡ h a) → rename_node g (rename_node f n) ≡ rename_node h n
+  pub node_twice : (n : Node A) → ((a : A) → Among (blank_of_node n) a → g (f a) ≡ h a) → rename_node g (rename_node f n) ≡ rename_node h n
   node_twice (Iri iri) same = refl
   node_twice (Blank a) same = ap Blank (same a (inl refl))
 
-  term_twice : (t : Term A) → ((a : A) → Among (blank_of_term t) a → g (f a) ≡ h a) → rename_term g (rename_term f t) ≡ rename_term h t
+  pub term_twice : (t : Term A) → ((a : A) → Among (blank_of_term t) a → g (f a) ≡ h a) → rename_term g (rename_term f t) ≡ rename_term h t
   term_twice (Resource n) same = ap Resource (node_twice n same)
   term_twice (Literal lexical kind) same = refl
 
-  triple_twice : (t : Triple A) → ((a : A) → Among (blanks_of t) a → g (f a) ≡ h a) → rename g (rename f t) ≡ rename h t
+  pub triple_twice : (t : Triple A) → ((a : A) → Among (blanks_of t) a → g (f a) ≡ h a) → rename g (rename f t) ≡ rename h t
   triple_twice t same =
       let subject = node_twice t.subject (λ a k. same a (Among_left (blank_of_node t.subject) (blank_of_term t.object) a k)) in
       let object = term_twice t.object (λ a k. same a (Among_right (blank_of_node t.subject) (blank_of_term t.object) a k)) in
       λ i. record { subject = subject i; predicate = t.predicate; object = object i }
+
+  pub all_twice : (list : List (Triple A)) → ((a : A) → Among (blanks list) a → g (f a) ≡ h a) → map (rename g) (map (rename f) list) ≡ map (rename h) list
+  all_twice [] same = refl
+  all_twice (t ∷ list) same = ap₂ ◌∷◌ (triple_twice t (λ a k. same a (Among_left (blanks_of t) (blanks list) a k))) (all_twice list (λ a k. same a (Among_right (blanks_of t) (blanks list) a k)))
 
 -- ---- a name found by the number that it is renamed to
 
@@ -44,13 +48,12 @@ module _ {A : Type 0} (f : A → ℕ) where
 
   found : (names : List A) (n : ℕ) (a : A) → Among names a → f a ≡ n → (b : A) × (by_number names n ≡ Some b) × Among names b × (f b ≡ n)
   found [] n a h e = absurd h
-  found (x ∷ names) n a h e = go (nat_eq (f x) n) refl h (found names n a)
-    where
-      go : (t : Bool) → nat_eq (f x) n ≡ t → (x ≡ a) ⊎ Among names a → (Among names a → f a ≡ n → (b : A) × (by_number names n ≡ Some b) × Among names b × (f b ≡ n))
-          → (b : A) × (cond (nat_eq (f x) n) (Some x) (by_number names n) ≡ Some b) × (((x ≡ b) ⊎ Among names b)) × (f b ≡ n)
-      go true q k ih = (x, ap (λ z. cond z (Some x) (by_number names n)) q, inl refl, (exact_numbers (f x) n).0 q)
-      go false q (inl k) ih = absurd (true≢false (sym ((exact_numbers (f x) n).1 (ap f k ∙ e)) ∙ q))
-      go false q (inr k) ih = let rest = ih k e in (rest.0, ap (λ z. cond z (Some x) (by_number names n)) q ∙ rest.1, inr rest.2, rest.3)
+  found (x ∷ names) n a h e = split (λ o. (b : A) × (o ≡ Some b) × Among (x ∷ names) b × (f b ≡ n)) (nat_eq (f x) n) (Some x) (by_number names n)
+      (λ t. (x, refl, inl refl, (exact_numbers (f x) n).0 t))
+      (λ t. elim h [
+        | inl k ↦ absurd (true≢false (sym ((exact_numbers (f x) n).1 (ap f k ∙ e)) ∙ t))
+        | inr k ↦ (let rest = found names n a k e in (rest.0, rest.1, inr rest.2, rest.3))
+      ])
 
 -- ---- between two graphs
 

@@ -14,12 +14,7 @@ kinds : (a b : LiteralKind) → kind_seen a ≡ kind_seen b → a ≡ b
 kinds code_kind.Plain code_kind.Plain e = refl
 kinds (code_kind.Tagged a) (code_kind.Tagged b) e = ap code_kind.Tagged (cc)
 kinds (code_kind.Typed a) (code_kind.Typed b) e = ap code_kind.Typed (cc)
-kinds code_kind.Plain (code_kind.Tagged b) e = cc
-kinds code_kind.Plain (code_kind.Typed b) e = cc
-kinds (code_kind.Tagged a) code_kind.Plain e = cc
-kinds (code_kind.Tagged a) (code_kind.Typed b) e = cc
-kinds (code_kind.Typed a) code_kind.Plain e = cc
-kinds (code_kind.Typed a) (code_kind.Tagged b) e = cc
+kinds _ _ e = cc
 
 number_tells : (a b : CodeBlank) → a.0 ≡ b.0 → a ≡ b
 number_tells a b e = λ i. record { 0 = e i }
@@ -33,19 +28,13 @@ triple_path a b p q r = λ i. record { subject = p i; predicate = q i; object = 
 pub node_tells : (a b : CodeNode) → node_seen a ≡ node_seen b → a ≡ b
 node_tells (code_node.Iri a) (code_node.Iri b) e = ap code_node.Iri (cc)
 node_tells (code_node.Blank a) (code_node.Blank b) e = ap code_node.Blank (number_tells a b (cc))
-node_tells (code_node.Iri a) (code_node.Blank b) e = cc
-node_tells (code_node.Blank a) (code_node.Iri b) e = cc
+node_tells _ _ e = cc
 
 pub term_tells : (a b : CodeTerm) → term_seen a ≡ term_seen b → a ≡ b
 term_tells (code_term.Iri a) (code_term.Iri b) e = ap code_term.Iri (cc)
 term_tells (code_term.Blank a) (code_term.Blank b) e = ap code_term.Blank (number_tells a b (cc))
 term_tells (code_term.Literal a) (code_term.Literal b) e = ap code_term.Literal (literal_path a b (cc) (kinds a.kind b.kind (cc)))
-term_tells (code_term.Iri a) (code_term.Blank b) e = cc
-term_tells (code_term.Iri a) (code_term.Literal b) e = cc
-term_tells (code_term.Blank a) (code_term.Iri b) e = cc
-term_tells (code_term.Blank a) (code_term.Literal b) e = cc
-term_tells (code_term.Literal a) (code_term.Iri b) e = cc
-term_tells (code_term.Literal a) (code_term.Blank b) e = cc
+term_tells _ _ e = cc
 
 pub triple_tells : (a b : CodeTriple) → triple_seen a ≡ triple_seen b → a ≡ b
 triple_tells a b e = triple_path a b
@@ -56,8 +45,7 @@ triple_tells a b e = triple_path a b
 pub list_tells : (a b : List CodeTriple) → triples_seen a ≡ triples_seen b → a ≡ b
 list_tells [] [] e = refl
 list_tells (a ∷ as') (b ∷ bs) e = ap₂ ◌∷◌ (triple_tells a b (cc)) (list_tells as' bs (cc))
-list_tells [] (b ∷ bs) e = cc
-list_tells (a ∷ as') [] e = cc
+list_tells _ _ e = cc
 
 pub seen_one_to_one : SeenOneToOne
 seen_one_to_one = record { nodes = node_tells; terms = term_tells; triples = triple_tells; lists = list_tells }

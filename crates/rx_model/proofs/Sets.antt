@@ -1,17 +1,8 @@
 -- Elements of lists, and the words that make lists of lists.
-use Rattle.rx_terms.proofs.Common.{◌≡◌, ◌⊎◌, Bool, true, false, not, cond, ◌&&◌, ◌||◌, List, [], ◌∷◌, ◌++◌, map, filter, flat_map, filter_map, Option, Some, None, refl, sym, ap, ◌∙◌, subst, inl, inr, true≢false, cons_option}
+use Rattle.rx_terms.proofs.Common.{◌≡◌, ◌⊎◌, Bool, true, false, not, cond, ◌&&◌, List, [], ◌∷◌, ◌++◌, map, filter, flat_map, filter_map, Option, Some, None, refl, sym, ap, ◌∙◌, subst, inl, inr, true≢false, cons_option, by_test, split}
+pub use Rattle.std.proofs.lemmas.Bool.{or_left, or_right}
+pub use Rattle.rx_terms.proofs.Bools.{either as or_cases}
 use Rattle.rx_model.specs.Sets.{Among, IsExact, contains, distinct}
-
-pub or_cases : (a b : Bool) → (a || b) ≡ true → (a ≡ true) ⊎ (b ≡ true)
-or_cases true b h = inl refl
-or_cases false b h = inr h
-
-pub or_left : (a b : Bool) → a ≡ true → (a || b) ≡ true
-or_left a b h = rw h
-
-pub or_right : (a b : Bool) → b ≡ true → (a || b) ≡ true
-or_right true b h = refl
-or_right false b h = h
 
 pub and_left : (a b : Bool) → (a && b) ≡ true → a ≡ true
 and_left true b h = refl
@@ -51,12 +42,9 @@ module _ {A : Type 0} where
 
   pub Among_of_filter : (p : A → Bool) (xs : List A) (a : A) → Among (filter p xs) a → Among xs a × (p a ≡ true)
   Among_of_filter p [] a h = absurd h
-  Among_of_filter p (x ∷ xs) a h = go (p x) refl h (Among_of_filter p xs a)
-    where
-      go : (b : Bool) → p x ≡ b → Among (cond b (x ∷ filter p xs) (filter p xs)) a → (Among (filter p xs) a → Among xs a × (p a ≡ true)) → Among (x ∷ xs) a × (p a ≡ true)
-      go true e (inl q) ih = (inl q, sym (ap p q) ∙ e)
-      go true e (inr k) ih = (inr (ih k).0, (ih k).1)
-      go false e k ih = (inr (ih k).0, (ih k).1)
+  Among_of_filter p (x ∷ xs) a h = split (λ l. Among l a → Among (x ∷ xs) a × (p a ≡ true)) (p x) (x ∷ filter p xs) (filter p xs)
+      (λ t m. elim m [ inl q ↦ (inl q, sym (ap p q) ∙ t) | inr k ↦ (let r = Among_of_filter p xs a k in (inr r.0, r.1)) ])
+      (λ t k. let r = Among_of_filter p xs a k in (inr r.0, r.1)) h
 
   pub Among-contains : (same : A → A → Bool) → IsExact same → (xs : List A) (a : A) → Among xs a → contains same xs a ≡ true
   Among-contains same exact [] a h = absurd h
@@ -75,11 +63,8 @@ module _ {A : Type 0} where
   pub Among_distinct : (same : A → A → Bool) → IsExact same → (xs : List A) (a : A) → Among xs a → Among (distinct same xs) a
   Among_distinct same exact [] a h = h
   Among_distinct same exact (x ∷ xs) a (inl q) = inl q
-  Among_distinct same exact (x ∷ xs) a (inr h) = go (same x a) refl (Among_distinct same exact xs a h)
-    where
-      go : (b : Bool) → same x a ≡ b → Among (distinct same xs) a → Among (distinct same (x ∷ xs)) a
-      go true e k = inl ((exact x a).0 e)
-      go false e k = inr (Among_filter (λ y. not (same x y)) (distinct same xs) a k (ap not e))
+  Among_distinct same exact (x ∷ xs) a (inr h) = by_test (same x a) (λ t. inl ((exact x a).0 t))
+      (λ t. inr (Among_filter (λ y. not (same x y)) (distinct same xs) a (Among_distinct same exact xs a h) (ap not t)))
 
 pub under_option : {B : Type 0} (o : Option B) (ys : List B) (b : B) → Among ys b → Among (cons_option o ys) b
 under_option None ys b h = h
@@ -103,11 +88,10 @@ module _ {A B : Type 0} where
 
   pub Among_of_flat_map : (f : A → List B) (xs : List A) (b : B) → Among (flat_map f xs) b → (a : A) × Among xs a × Among (f a) b
   Among_of_flat_map f [] b h = absurd h
-  Among_of_flat_map f (x ∷ xs) b h = go (Among_cases (f x) (flat_map f xs) b h) (Among_of_flat_map f xs b)
-    where
-      go : Among (f x) b ⊎ Among (flat_map f xs) b → (Among (flat_map f xs) b → (a : A) × Among xs a × Among (f a) b) → (a : A) × Among (x ∷ xs) a × Among (f a) b
-      go (inl k) ih = (x, inl refl, k)
-      go (inr k) ih = let r = ih k in (r.0, inr r.1, r.2)
+  Among_of_flat_map f (x ∷ xs) b h = elim (Among_cases (f x) (flat_map f xs) b h) [
+    | inl k ↦ (x, inl refl, k)
+    | inr k ↦ (let r = Among_of_flat_map f xs b k in (r.0, inr r.1, r.2))
+  ]
 
   pub Among_filter_map : (f : A → Option B) (xs : List A) (a : A) (b : B) → Among xs a → f a ≡ Some b → Among (filter_map f xs) b
   Among_filter_map f [] a b h e = absurd h

@@ -18,9 +18,4 @@ exact_bnodes (Cell o p i) (Cell q r j) = (
       λ k. Cell (a k) (b k) (c k),
   λ e. and_from (same_owner o q && bytes_eq p r) (i == j) (and_from (same_owner o q) (bytes_eq p r) ((exact_owners o q).1 (cc)) ((exact_texts p r).1 (cc))) ((Decides-eqb i j).1 (cc)),
 )
-exact_bnodes (Author a) (Made b) = (λ h. cc, λ e. cc)
-exact_bnodes (Author a) (Cell q r j) = (λ h. cc, λ e. cc)
-exact_bnodes (Made a) (Author b) = (λ h. cc, λ e. cc)
-exact_bnodes (Made a) (Cell q r j) = (λ h. cc, λ e. cc)
-exact_bnodes (Cell o p i) (Author b) = (λ h. cc, λ e. cc)
-exact_bnodes (Cell o p i) (Made b) = (λ h. cc, λ e. cc)
+exact_bnodes _ _ = (λ h. cc, λ e. cc)

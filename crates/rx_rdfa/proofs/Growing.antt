@@ -1,5 +1,6 @@
 -- A renaming by steps is the steps one after another: what a numbering that grows comes to.
-use Rattle.rx_model.proofs.Common.{◌≡◌, List, [], ◌∷◌, map, refl, ap, ap₂, Node, Iri, Blank, Term, Resource, Literal, Triple, rename_node, rename_term, rename}
+use Rattle.rx_model.proofs.Common.{◌≡◌, List, [], ◌∷◌, map, refl, sym, ap₂, Node, Term, Triple, rename_node, rename_term, rename}
+use Rattle.rx_model.proofs.Renamings.{node_twice, term_twice, triple_twice}
 use Rattle.rx_rdfa.specs.Resources.{Hanging, Forward, Inherited}
 use Rattle.rx_rdfa.specs.Renaming.{rename_hanging, rename_inherited}
 
@@ -9,15 +10,13 @@ map_then k h f e (x ∷ list) = ap₂ ◌∷◌ (e x) (map_then k h f e list)
 
 module _ {A B C : Type 0} (h : B → C) (f : A → B) where
   pub node_then : (x : Node A) → rename_node (λ a. h (f a)) x ≡ rename_node h (rename_node f x)
-  node_then (Iri iri) = refl
-  node_then (Blank b) = refl
+  node_then x = sym (node_twice f h (λ a. h (f a)) x (λ a k. refl))
 
   pub term_then : (x : Term A) → rename_term (λ a. h (f a)) x ≡ rename_term h (rename_term f x)
-  term_then (Resource node) = ap Resource (node_then node)
-  term_then (Literal lexical kind) = refl
+  term_then x = sym (term_twice f h (λ a. h (f a)) x (λ a k. refl))
 
   pub triple_then : (t : Triple A) → rename (λ a. h (f a)) t ≡ rename h (rename f t)
-  triple_then t = λ i. record { subject = node_then t.subject i; predicate = t.predicate; object = term_then t.object i }
+  triple_then t = sym (triple_twice f h (λ a. h (f a)) t (λ a k. refl))
 
 module _ {O P Q : Type 0} (h : P → Q) (f : O → P) where
   hanging_then : (x : Hanging O) → rename_hanging (λ o. h (f o)) x ≡ rename_hanging h (rename_hanging f x)

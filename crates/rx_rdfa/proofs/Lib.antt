@@ -1,4 +1,5 @@
 pub mod Exact
+pub mod Every
 pub mod Made
 pub mod Whole
 pub mod Proper

@@ -1,11 +1,20 @@
 -- The law of reading.
-use Rattle.rx_rdfa.proofs.Common.{cons_option, map-append, filter_map-append, Chars, Among, Term, Resource, Among_of_filter_map, false_unless, exact_texts, Path, Owner, Of, Below, Bnode, ModelNode, ModelTriple, model, Facts, Hanging, Forward, Reverse, InList, Inherited, Resources, Standing, resources, listed, hangs, own_owner, below, up, inherited, value_now, value_of_text, Place, places_from, start, end_of, standing, in_order_from, in_order, lists_of, lists_below, page_lists, flat_map-append}
-use Rattle.std.proofs.Common.{◌≡◌, ◌≢◌, ℕ, suc, Bool, true, false, cond, List, [], ◌∷◌, ◌++◌, length, map, flat_map, filter_map, Option, Some, None, refl, sym, ap, ap₂, ◌∙◌, subst, arith, append_assoc, append-nil, bytes_eq, unwrap_or}
+use Rattle.rx_model.proofs.Common.{cons_option, map-append, filter_map-append, Chars, Among, Term, Resource, Among_of_filter_map, false_unless, exact_texts, flat_map-append}
+use Rattle.std.proofs.Common.{◌≡◌, ◌≢◌, ℕ, suc, cond, List, [], ◌∷◌, ◌++◌, length, map, flat_map, filter_map, Option, Some, None, option_map, refl, sym, ap, ap₂, ◌∙◌, subst, arith, append_assoc, append-nil, bytes_eq, unwrap_or}
 use Rattle.rx_rdfa.specs.Tree.{Nodes, end, element, text, all_text}
+use Rattle.rx_rdfa.specs.Naming.{Path}
+use Rattle.rx_rdfa.specs.Blanks.{Owner, Bnode, ModelNode, ModelTriple, model}
+use Rattle.rx_rdfa.specs.Facts.{Facts}
+use Rattle.rx_rdfa.specs.Resources.{Hanging, Forward, Reverse, InList, Inherited, Resources, Standing, resources}
+use Rattle.rx_rdfa.specs.Inherited.{listed, hangs, own_owner, up, inherited}
+use Rattle.rx_rdfa.specs.Value.{value_now, value_of_text}
+use Rattle.rx_rdfa.specs.Element.{Place, places_from, start, end_of, standing, in_order_from, in_order}
 use Rattle.rx_rdfa.specs.Lists.{map_entry, Entry, entry, linked, touched, valued, awaited, entries_by, entries_at, entries_of, entries}
+use Rattle.rx_rdfa.specs.Made.{lists_of, lists_below, page_lists}
 use Rattle.rx_rdfa.specs.Local.{local_end}
 use Rattle.rx_rdfa.specs.Machine.{Slot, Full, Machine, inherit, slot_of, rule_at, value_at, reserved, fill_slot, fill, settled_item, settled_with, settled, settle, entered, number, leave, run, finished, ReadingMakes}
-use Rattle.rx_rdfa.proofs.Local.{ModelEntry, of_model_owner, itself, OwnerUnder, InheritedUnder, inherited_up, inherited_under, by_under, Inside, inside_up, inside_less, Free, free_append, free_up, free_less, free_at, nothing_of, not_under, under_length, entries_under, own_free_after, inner_free_after, cells_by_owner, of_owner_append, lists_are_local}
+use Rattle.rx_rdfa.proofs.Local.{ModelEntry, of_model_owner, Under, itself, OwnerUnder, InheritedUnder, inherited_up, inherited_under, by_under, Inside, inside_at, inside_less, inside_under, Free, free_append, free_fewer, free_of, under_length, entries_under, own_free_after, inner_free_after, lists_alike, of_owner_append, lists_are_local}
+use Rattle.rx_rdfa.proofs.Sent.{map_cond_nil, map_unless, map_both, map_each}
 
 -- ---- slots
 
@@ -20,8 +29,7 @@ full_stays r v o p None = refl
 full_stays r v o p (Some x) = refl
 
 fill_full : (r : Path) (v : Term Bnode) (xs : List ModelEntry) → fill r v (map full_entry xs) ≡ map full_entry xs
-fill_full r v [] = refl
-fill_full r v (x ∷ xs) = ap₂ ◌∷◌ (full_stays r v x.owner x.predicate x.item) (fill_full r v xs)
+fill_full r v xs = map_each (map_entry (fill_slot r v)) full_entry full_entry xs (λ x. full_stays r v x.owner x.predicate x.item)
 
 settled_full : (o : Owner) (p : Chars) (item : Option (Term Bnode)) → settled (map_entry Full (entry o item p)) ≡ Some (entry o item p)
 settled_full o p None = refl
@@ -41,29 +49,13 @@ owner_of_settled x (Some item) e q = let k : entry x.owner item x.predicate ≡ 
 -- ---- entries under a function of their items
 
 module _ {T U : Type 0} (h : T → U) where
-  map_some : (o : Owner) (x : T) (ps : List Chars) → map (map_entry h) (map (entry o (Some x)) ps) ≡ map (entry o (Some (h x))) ps
-  map_some o x [] = refl
-  map_some o x (p ∷ ps) = ap (λ z. entry o (Some (h x)) p ∷ z) (map_some o x ps)
-
-  map_none : (o : Owner) (ps : List Chars) → map (map_entry h) (map (entry o None) ps) ≡ map (entry o None) ps
-  map_none o [] = refl
-  map_none o (p ∷ ps) = ap (λ z. entry o None p ∷ z) (map_none o ps)
-
-  if_map : {A B : Type 0} (f : A → B) (b : Bool) (xs : List A) (ys : List B) → map f xs ≡ ys → map f (cond b xs []) ≡ cond b ys []
-  if_map f true xs ys e = e
-  if_map f false xs ys e = refl
-
-  unless_map : {A B : Type 0} (f : A → B) (b : Bool) (xs : List A) (ys : List B) → map f xs ≡ ys → map f (cond b [] xs) ≡ cond b [] ys
-  unless_map f true xs ys e = refl
-  unless_map f false xs ys e = e
-
-  joined_map : {A B : Type 0} (f : A → B) (xs ys : List A) (us vs : List B) → map f xs ≡ us → map f ys ≡ vs → map f (xs ++ ys) ≡ us ++ vs
-  joined_map f xs ys us vs e q = map-append f xs ys ∙ ap₂ ◌++◌ e q
+  map_items : (o : Owner) (item : Option T) (ps : List Chars) → map (map_entry h) (map (entry o item) ps) ≡ map (entry o (option_map h item)) ps
+  map_items o item ps = map_each (map_entry h) (entry o item) (entry o (option_map h item)) ps (λ p. refl)
 
   module _ (full : Term Bnode → T) (v : T) (at : Standing Bnode Owner) (here : Resources Bnode) where
     map_linked : (o : Option ModelNode) → map (map_entry h) (linked model full v at here o) ≡ linked model (λ x. h (full x)) (h v) at here o
     map_linked None = refl
-    map_linked (Some object) = map_some (own_owner model at here) (full (Resource object)) (listed at.facts.rel)
+    map_linked (Some object) = map_items (own_owner model at here) (Some (full (Resource object))) (listed at.facts.rel)
 
     map_awaited : (hs : List (Hanging Owner)) → map (map_entry h) (filter_map (awaited model full v at here) hs) ≡ filter_map (awaited model (λ x. h (full x)) (h v) at here) hs
     map_awaited [] = refl
@@ -72,14 +64,14 @@ module _ {T U : Type 0} (h : T → U) where
     map_awaited (InList o p ∷ hs) = ap (λ z. entry o (Some (h (full (Resource here.subject)))) p ∷ z) (map_awaited hs)
 
     map_entries : map (map_entry h) (entries_by model full v at here) ≡ entries_by model (λ x. h (full x)) (h v) at here
-    map_entries = unless_map (map_entry h) here.skipped _ _
-        (joined_map (map_entry h) (cond at.facts.inlist (linked model full v at here here.object ++ touched model full v at here ++ valued model full v at here) []) (filter_map (awaited model full v at here) at.around.hanging) _ _
-        (if_map (map_entry h) at.facts.inlist _ _
-        (joined_map (map_entry h) (linked model full v at here here.object ++ touched model full v at here) (valued model full v at here) _ _
-        (joined_map (map_entry h) (linked model full v at here here.object) (touched model full v at here) _ _
+    map_entries = map_unless (map_entry h) here.skipped _ _
+        (map_both (map_entry h) (cond at.facts.inlist (linked model full v at here here.object ++ touched model full v at here ++ valued model full v at here) []) (filter_map (awaited model full v at here) at.around.hanging) _ _
+        (map_cond_nil (map_entry h) at.facts.inlist _ _
+        (map_both (map_entry h) (linked model full v at here here.object ++ touched model full v at here) (valued model full v at here) _ _
+        (map_both (map_entry h) (linked model full v at here here.object) (touched model full v at here) _ _
         (map_linked here.object)
-        (if_map (map_entry h) (hangs at.facts here) _ _ (map_none (own_owner model at here) (listed at.facts.rel))))
-        (map_some (own_owner model at here) v (listed at.facts.property))))
+        (map_cond_nil (map_entry h) (hangs at.facts here) _ _ (map_items (own_owner model at here) None (listed at.facts.rel))))
+        (map_items (own_owner model at here) (Some v) (listed at.facts.property))))
         (map_awaited at.around.hanging))
 
 -- ---- what an element reserves
@@ -115,16 +107,13 @@ reserved_under base at k e m =
     subst (OwnerUnder at.path) (owner_of_settled q.0 (settled_item q.0.item) e q.2)
     (by_under Full (slot_of at.path (value_now (rule_at model base at) at.facts)) at (resources model base at) k q.0 q.1)
 
-reserved_free : (base : Chars) (at : Standing Bnode Owner) → InheritedUnder at.path at.around → Free at.path 0 (settle (reserved model base at))
-unfolding Free
-reserved_free base at k o s = nothing_of o (settle (reserved model base at)) (λ e m q.
-    not_under (Inside at.path 0) at.path (λ s k u. absurd (omega (arith, under_length k.at, under_length u))) o s (subst (OwnerUnder at.path) q (reserved_under base at k e m)))
+reserved_free : (base : Chars) (at : Standing Bnode Owner) → InheritedUnder at.path at.around → Free (Inside at.path 0) (settle (reserved model base at))
+reserved_free base at k = free_of (Inside at.path 0) (settle (reserved model base at)) (λ e m. (at.path, reserved_under base at k e m, λ s k u. absurd (omega (arith, under_length k.at, under_length u))))
 
 -- ---- texts
 
 read_read : (t u : Chars) (texts : List Chars) → map (λ x. x ++ u) (map (λ x. x ++ t) texts) ≡ map (λ x. x ++ (t ++ u)) texts
-read_read t u [] = refl
-read_read t u (x ∷ texts) = ap₂ ◌∷◌ (append_assoc x t u) (read_read t u texts)
+read_read t u texts = map_each (λ x. x ++ u) (λ x. x ++ t) (λ x. x ++ (t ++ u)) texts (λ x. append_assoc x t u)
 
 read_nothing : (texts : List Chars) → texts ≡ map (λ x. x ++ []) texts
 read_nothing [] = refl
@@ -140,9 +129,13 @@ next_after i (text chars rest) = next_after i rest
 abbrev state : List (Standing Bnode Owner) → Path → ℕ → List Chars → List (Entry Owner (Slot Bnode)) → List ModelTriple → Machine Bnode Owner
 state standings path next texts slots out = record { standings = standings; path = path; next = next; texts = texts; slots = slots; out = out }
 
--- no slot waits for an element of the nodes from number i on
-Still : Path → ℕ → List (Entry Owner (Slot Bnode)) → Type 0
-Still path i slots = (r : Path) → Inside path i r → (v : Term Bnode) → fill r v slots ≡ slots
+-- where P holds no owner stands that has an entry, and no slot waits for the element there
+record Ready (P : Path → Type 0) (slots : List (Entry Owner (Slot Bnode))) : Type 0 where
+  free : Free P (settle slots)
+  still : (r : Path) → P r → (v : Term Bnode) → fill r v slots ≡ slots
+
+ready_fewer : (P Q : Path → Type 0) → ((s : Path) → P s → Q s) → (slots : List (Entry Owner (Slot Bnode))) → Ready Q slots → Ready P slots
+ready_fewer P Q f slots h = record { free = free_fewer P Q f (settle slots) h.free; still = λ r w v. h.still r (f r w) v }
 
 in_row : {A : Type 0} (a b c d e : List A) → (((a ++ b) ++ c) ++ d) ++ e ≡ a ++ (b ++ (c ++ (d ++ e)))
 in_row a b c d e = simp append_assoc
@@ -156,10 +149,6 @@ module _ (base : Chars) where
 
   gives : List Facts → Path → ℕ → Nodes Facts → List ModelTriple
   gives above path i nodes = in_order_from (start model base) (local_end model base) above path i nodes
-
-  lists_alike : (at : Standing Bnode Owner) (xs ys : List ModelEntry) → of_model_owner (Below at.path) xs ≡ of_model_owner (Below at.path) ys → of_model_owner (Of at.path) xs ≡ of_model_owner (Of at.path) ys
-      → lists_below model base xs at ++ lists_of model base xs at ≡ lists_below model base ys at ++ lists_of model base ys at
-  lists_alike at xs ys e q = ap₂ ◌++◌ (cells_by_owner (Below at.path) (below model base at).object xs ys e) (cells_by_owner (Of at.path) (resources model base at).subject xs ys q)
 
   only_new : (o : Owner) (L M : List ModelEntry) → of_model_owner o L ≡ [] → of_model_owner o (L ++ M) ≡ of_model_owner o M
   only_new o L M e = of_owner_append o L M ∙ ap (λ z. z ++ of_model_owner o M) e
@@ -178,59 +167,44 @@ module _ (base : Chars) where
   settle_left slots M = settle-append slots (map full_entry M) ∙ ap (λ z. settle slots ++ z) (settle_full M)
 
   leave_is : (at : Standing Bnode Owner) (chars : Chars) (n : ℕ) (standings : List (Standing Bnode Owner)) (texts : List Chars) (slots : List (Entry Owner (Slot Bnode))) (out : List ModelTriple) (I : List ModelEntry)
-      → fill at.path (value_at model base at chars) slots ≡ slots → of_model_owner (Below at.path) (settle slots) ≡ [] → of_model_owner (Of at.path) (settle slots) ≡ []
+      → Ready (Under at.path) slots
       → leave model base (state (at ∷ standings) at.path n (chars ∷ texts) ((slots ++ reserved model base at) ++ map full_entry I) out)
       ≡ state standings (up at.path) (suc (number at.path)) texts (slots ++ map full_entry (entries_at model base at chars ++ I)) (out ++ (end_of model base at chars ++ (lists_below model base (entries_at model base at chars ++ I) at ++ lists_of model base (entries_at model base at chars ++ I) at)))
-  leave_is at chars n standings texts slots out I e b o =
+  unfolding Free
+  leave_is at chars n standings texts slots out I h =
       let M : List ModelEntry = entries_at model base at chars ++ I in
       let s : settle (slots ++ map full_entry M) ≡ settle slots ++ M = settle_left slots M in
-      ap (λ z. state standings (up at.path) (suc (number at.path)) texts z (out ++ (end_of model base at chars ++ (lists_below model base (settle z) at ++ lists_of model base (settle z) at)))) (slots_left at chars slots I e)
+      ap (λ z. state standings (up at.path) (suc (number at.path)) texts z (out ++ (end_of model base at chars ++ (lists_below model base (settle z) at ++ lists_of model base (settle z) at)))) (slots_left at chars slots I (h.still at.path itself (value_at model base at chars)))
       ∙ ap (λ z. state standings (up at.path) (suc (number at.path)) texts (slots ++ map full_entry M) (out ++ (end_of model base at chars ++ z)))
-      (lists_alike at (settle (slots ++ map full_entry M)) M
-      (ap (of_model_owner (Below at.path)) s ∙ only_new (Below at.path) (settle slots) M b)
-      (ap (of_model_owner (Of at.path)) s ∙ only_new (Of at.path) (settle slots) M o))
+      (lists_alike base at (settle (slots ++ map full_entry M)) M (λ o w. ap (of_model_owner o) s ∙ only_new o (settle slots) M (h.free o w)))
 
   -- the slots while the inside of an element is read, and after it is left
-  free_in : (path : Path) (i : ℕ) (at : Standing Bnode Owner) (slots : List (Entry Owner (Slot Bnode))) → at.path ≡ i ∷ path → InheritedUnder at.path at.around → Free path i (settle slots) → Free at.path 0 (settle (slots ++ reserved model base at))
-  free_in path i at slots q k h = subst (Free at.path 0) (sym (settle-append slots (reserved model base at)))
-      (free_append at.path 0 (settle slots) (settle (reserved model base at)) (subst (λ z. Free z 0 (settle slots)) (sym q) (free_up path i (settle slots) h)) (reserved_free base at k))
+  ready_in : (at : Standing Bnode Owner) (slots : List (Entry Owner (Slot Bnode))) → InheritedUnder at.path at.around → Ready (Under at.path) slots → Ready (Inside at.path 0) (slots ++ reserved model base at)
+  ready_in at slots k h = let g = ready_fewer (Inside at.path 0) (Under at.path) (inside_under at.path) slots h in record {
+    free = subst (Free (Inside at.path 0)) (sym (settle-append slots (reserved model base at))) (free_append (Inside at.path 0) (settle slots) (settle (reserved model base at)) g.free (reserved_free base at k));
+    still = λ r w v. fill-append r v slots (reserved model base at) ∙ ap₂ ◌++◌ (g.still r w v) (reserved_stays base at r v (λ e. absurd (omega (arith, under_length w.at, ap length e))));
+  }
 
-  still_in : (path : Path) (i : ℕ) (at : Standing Bnode Owner) (slots : List (Entry Owner (Slot Bnode))) → at.path ≡ i ∷ path → Still path i slots → Still at.path 0 (slots ++ reserved model base at)
-  unfolding Still
-  still_in path i at slots q h r w v = fill-append r v slots (reserved model base at)
-      ∙ ap₂ ◌++◌ (h r (inside_up path i r (subst (λ z. Inside z 0 r) q w)) v) (reserved_stays base at r v (λ e. absurd (omega (arith, under_length w.at, ap length e))))
-
-  still_after : (path : Path) (i : ℕ) (slots : List (Entry Owner (Slot Bnode))) (M : List ModelEntry) → Still path i slots → Still path (suc i) (slots ++ map full_entry M)
-  unfolding Still
-  still_after path i slots M h r w v = fill-append r v slots (map full_entry M) ∙ ap₂ ◌++◌ (h r (inside_less path i r w) v) (fill_full r v M)
-
-  free_after : (path : Path) (i : ℕ) (above : List Facts) (facts : Facts) (inside : Nodes Facts) (slots : List (Entry Owner (Slot Bnode))) → Free path i (settle slots)
-      → Free path (suc i) (settle (slots ++ map full_entry (f (record { above = above; facts = facts; path = i ∷ path; inside = inside }) ++ ents (facts ∷ above) (i ∷ path) 0 inside)))
-  unfolding f ents
-  free_after path i above facts inside slots h =
-      let p : Place = record { above = above; facts = facts; path = i ∷ path; inside = inside } in
-      subst (Free path (suc i)) (sym (settle_left slots (f p ++ ents (facts ∷ above) (i ∷ path) 0 inside)))
-      (free_append path (suc i) (settle slots) (f p ++ ents (facts ∷ above) (i ∷ path) 0 inside) (free_less path i (settle slots) h)
-      (free_append path (suc i) (f p) (ents (facts ∷ above) (i ∷ path) 0 inside) (own_free_after (entries_of model base) (entries_under base) p i path refl) (inner_free_after (entries_of model base) (entries_under base) (facts ∷ above) path i inside)))
-
-  still_at : (path : Path) (i : ℕ) (slots : List (Entry Owner (Slot Bnode))) → Still path i slots → (v : Term Bnode) → fill (i ∷ path) v slots ≡ slots
-  unfolding Still
-  still_at path i slots h v = h (i ∷ path) (record { j = i; from = omega arith; at = itself }) v
+  ready_after : (path : Path) (i : ℕ) (slots : List (Entry Owner (Slot Bnode))) (M : List ModelEntry) → Free (Inside path (suc i)) M → Ready (Inside path i) slots → Ready (Inside path (suc i)) (slots ++ map full_entry M)
+  ready_after path i slots M m h = let g = ready_fewer (Inside path (suc i)) (Inside path i) (inside_less path i) slots h in record {
+    free = subst (Free (Inside path (suc i))) (sym (settle_left slots M)) (free_append (Inside path (suc i)) (settle slots) M g.free m);
+    still = λ r w v. fill-append r v slots (map full_entry M) ∙ ap₂ ◌++◌ (g.still r w v) (fill_full r v M);
+  }
 
   slots_in_row : (ps qs : List Place) (p : Place) (slots : List (Entry Owner (Slot Bnode))) → (slots ++ map full_entry (f p ++ flat_map f ps)) ++ map full_entry (flat_map f qs) ≡ slots ++ map full_entry (flat_map f (p ∷ (ps ++ qs)))
   slots_in_row ps qs p slots = append_assoc slots (map full_entry (f p ++ flat_map f ps)) (map full_entry (flat_map f qs))
       ∙ ap (λ z. slots ++ z) (sym (map-append full_entry (f p ++ flat_map f ps) (flat_map f qs)) ∙ ap (map full_entry) (append_assoc (f p) (flat_map f ps) (flat_map f qs) ∙ ap (λ z. f p ++ z) (sym (flat_map-append f ps qs))))
 
   run_is : (above : List Facts) (path : Path) (i : ℕ) (nodes : Nodes Facts) (standings : List (Standing Bnode Owner)) (texts : List Chars) (slots : List (Entry Owner (Slot Bnode))) (out : List ModelTriple)
-      → inherit model base standings ≡ inherited model base above path → Free path i (settle slots) → Still path i slots
+      → inherit model base standings ≡ inherited model base above path → Ready (Inside path i) slots
       → run model base nodes (state standings path i texts slots out)
       ≡ state standings path (next_after i nodes) (map (λ t. t ++ all_text nodes) texts) (slots ++ map full_entry (ents above path i nodes)) (out ++ gives above path i nodes)
   unfolding run ents gives f
-  run_is above path i end standings texts slots out h free still = λ k. state standings path i (read_nothing texts k) (sym (append-nil slots) k) (sym (append-nil out) k)
-  run_is above path i (text chars rest) standings texts slots out h free still =
-      run_is above path i rest standings (map (λ t. t ++ chars) texts) slots out h free still
+  run_is above path i end standings texts slots out h ready = λ k. state standings path i (read_nothing texts k) (sym (append-nil slots) k) (sym (append-nil out) k)
+  run_is above path i (text chars rest) standings texts slots out h ready =
+      run_is above path i rest standings (map (λ t. t ++ chars) texts) slots out h ready
       ∙ ap (λ z. state standings path (next_after i rest) z (slots ++ map full_entry (ents above path i rest)) (out ++ gives above path i rest)) (read_read chars (all_text rest) texts)
-  run_is above path i (element facts inside rest) standings texts slots out h free still =
+  run_is above path i (element facts inside rest) standings texts slots out h ready =
       let p : Place = record { above = above; facts = facts; path = i ∷ path; inside = inside } in
       let at : Standing Bnode Owner = standing model base p in
       let T : Chars = all_text inside in
@@ -239,23 +213,24 @@ module _ (base : Chars) where
       let texts' : List Chars = map (λ t. t ++ T) texts in
       let out' : List ModelTriple = (out ++ start model base p) ++ gives (facts ∷ above) (i ∷ path) 0 inside in
       let slots' : List (Entry Owner (Slot Bnode)) = slots ++ map full_entry (f p ++ I) in
+      let ready' : Ready (Under (i ∷ path)) slots = ready_fewer (Under (i ∷ path)) (Inside path i) (inside_at path i) slots ready in
       -- what is inherited
       ap (λ (z : Inherited Bnode Owner). run model base rest (leave model base (run model base inside (entered model base (record { facts = facts; path = i ∷ path; around = z }) (state standings path i texts slots out))))) h
       -- what is inside
       ∙ ap (λ z. run model base rest (leave model base z))
       (run_is (facts ∷ above) (i ∷ path) 0 inside (at ∷ standings) ([] ∷ texts) (slots ++ reserved model base at) (out ++ start model base p) refl
-      (free_in path i at slots refl (inherited_up (i ∷ path) (inherited model base above path) (inherited_under base above path)) free)
-      (still_in path i at slots refl still))
+      (ready_in at slots (inherited_up (i ∷ path) (inherited model base above path) (inherited_under base above path)) ready'))
       -- its end
       ∙ ap (λ z. run model base rest z)
-      (leave_is at T (next_after 0 inside) standings texts' slots out' I (still_at path i slots still (value_at model base at T)) (free_at path i (settle slots) free (Below (i ∷ path)) refl) (free_at path i (settle slots) free (Of (i ∷ path)) refl))
+      (leave_is at T (next_after 0 inside) standings texts' slots out' I ready')
       -- what follows
-      ∙ run_is above path (suc i) rest standings texts' slots' (out' ++ local_end model base p) h (free_after path i above facts inside slots free) (still_after path i slots (f p ++ I) still)
+      ∙ run_is above path (suc i) rest standings texts' slots' (out' ++ local_end model base p) h (ready_after path i slots (f p ++ I)
+      (free_append (Inside path (suc i)) (f p) I (own_free_after f (entries_under base) p i path refl) (inner_free_after f (entries_under base) (facts ∷ above) path i inside)) ready)
       ∙ (λ k. state standings path (next_after (suc i) rest) (read_read T (all_text rest) texts k) (slots_in_row (places_from (facts ∷ above) (i ∷ path) 0 inside) (places_from above path (suc i) rest) p slots k) (in_row out (start model base p) (gives (facts ∷ above) (i ∷ path) 0 inside) (local_end model base p) (gives above path (suc i) rest) k))
 
 pub reading_makes : ReadingMakes
-unfolding ents gives f Free Still
+unfolding ents gives f Free
 reading_makes base tree =
-    ap (finished model base) (run_is base [] [] 0 tree [] [] [] [] refl (λ o s. refl) (λ r w v. refl))
+    ap (finished model base) (run_is base [] [] 0 tree [] [] [] [] refl (record { free = λ o s. refl; still = λ r w v. refl }))
     ∙ ap (λ z. in_order (start model base) (local_end model base) tree ++ page_lists model base z) (settle_full (entries model base tree))
     ∙ sym (lists_are_local base tree)

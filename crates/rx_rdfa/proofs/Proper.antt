@@ -1,55 +1,21 @@
 -- No literal that the rules make is typed xsd:string.
-use Rattle.rx_rdfa.proofs.Common.{◌≡◌, ◌≢◌, ℕ, suc, Bool, true, false, cond, List, [], ◌∷◌, ◌++◌, map, filter, flat_map, filter_map, Option, Some, None, refl, sym, ◌∙◌, subst, inl, inr, true≢false, bytes_eq, option_map, unwrap_or, not, ◌&&◌, codes, option_to_list, is_none, option_or, Chars, Among, distinct, Plain, Typed, Node, Iri, Blank, Term, Resource, Literal, Triple, same_node, same_triple, spo, live, edges, says_pattern, treated, is_referenced, copied, leads, given, replaced, rename_term, rename, blanks, place_in, numbered, exact_texts, Among_cases, Among_of_map, Among_of_filter, Among_of_filter_map, Among_of_flat_map, Among_of_distinct, rdf_type, rdf_first, rdf_rest, Naming, same_bnode, model, Nodes, all_text, Facts, Datatype, Empty, Is, Ref, Hanging, Forward, Resources, Standing, resources, resource_named, listed, hangs, own_owner, below, kind_by_lang, plain_literal, time_literal_by, time_literal, Rule, ByDatatype, ByContent, ByDatetime, ByTimeText, literal_by, rule, value_now, value_of_text, value}
+use Rattle.rx_model.proofs.Common.{◌≡◌, ◌≢◌, ℕ, suc, Bool, true, false, cond, List, [], ◌∷◌, ◌++◌, map, filter, flat_map, filter_map, Option, Some, None, refl, sym, ◌∙◌, inl, inr, true≢false, bytes_eq, option_map, option_or, Chars, distinct, Plain, Typed, Node, Iri, Blank, Term, Resource, Literal, Triple, same_node, same_triple, spo, live, edges, says_pattern, treated, is_referenced, copied, leads, given, replaced, rename_term, rename, blanks, place_in, numbered, exact_texts, Among_of_filter, Among_of_distinct, rdf_type, rdf_first, rdf_rest}
+use Rattle.rx_terms.proofs.Common.{unwrap_or, not, ◌&&◌, codes, option_to_list, is_none, split}
 use Rattle.rx_rdfa.specs.Iris.{xsd, xsd_string, uses_vocabulary}
 use Rattle.rx_rdfa.specs.Times.{◌andThen◌, follows, is_zone, after_char, after_year, after_month, after_date, after_clock, is_duration, time_kind}
+use Rattle.rx_rdfa.specs.Naming.{Naming}
+use Rattle.rx_rdfa.specs.Blanks.{same_bnode, model}
+use Rattle.rx_rdfa.specs.Tree.{Nodes, all_text}
+use Rattle.rx_rdfa.specs.Facts.{Facts, Datatype, Empty, Is, Ref}
+use Rattle.rx_rdfa.specs.Resources.{Hanging, Forward, Resources, Standing, resources, resource_named}
+use Rattle.rx_rdfa.specs.Inherited.{listed, below}
+use Rattle.rx_rdfa.specs.Value.{kind_by_lang, plain_literal, time_literal_by, time_literal, Rule, ByDatatype, ByContent, ByDatetime, ByTimeText, literal_by, rule, value_now, value_of_text, value}
 use Rattle.rx_rdfa.specs.Element.{places, to_node, standing, of_vocabulary, types_by, links_by, properties_by, completed, text_value, start_of, end_of}
-use Rattle.rx_rdfa.specs.Lists.{Entry, entry, linked, touched, valued, awaited, entries_by, entries_at, entries_of, entries, of_owner, lists, items, cell_or_nil, chain, list_of, cells}
+use Rattle.rx_rdfa.specs.Lists.{Entry, awaited, entries_at, entries_of, entries, of_owner, lists, items, cell_or_nil, chain, list_of, cells}
 use Rattle.rx_rdfa.specs.Made.{raw, made}
 use Rattle.rx_rdfa.specs.Proper.{IsProper, LiteralsAreProper}
 use Rattle.rx_rdfa.proofs.Made.{made_is_raw}
-
--- ---- what all of a list have
-
-module _ {A : Type 0} (P : A → Type 0) where
-  abbrev All : List A → Type 0
-  All list = (a : A) → Among list a → P a
-
-  -- what is there has it
-  abbrev IfThere : Option A → Type 0
-  IfThere None = Unit {0}
-  IfThere (Some a) = P a
-
-  all_none : All []
-  all_none a h = absurd h
-
-  all_more : (x : A) (xs : List A) → P x → All xs → All (x ∷ xs)
-  all_more x xs p q a (inl e) = subst P e p
-  all_more x xs p q a (inr h) = q a h
-
-  all_both : (xs ys : List A) → All xs → All ys → All (xs ++ ys)
-  all_both xs ys p q a h = elim (Among_cases xs ys a h) [ inl k ↦ p a k | inr k ↦ q a k ]
-
-  all_if : (b : Bool) (xs : List A) → All xs → All (cond b xs [])
-  all_if true xs p a h = p a h
-  all_if false xs p a h = absurd h
-
-  all_unless : (b : Bool) (xs : List A) → All xs → All (cond b [] xs)
-  all_unless true xs p a h = absurd h
-  all_unless false xs p a h = p a h
-
-  there_if : (b : Bool) (a : A) → P a → IfThere (cond b (Some a) None)
-  there_if true a p = p
-  there_if false a p = tt
-
-  module _ {X : Type 0} where
-    all_mapped : (f : X → A) (xs : List X) → ((x : X) → Among xs x → P (f x)) → All (map f xs)
-    all_mapped f xs p a h = let r = Among_of_map f xs a h in subst P r.2 (p r.0 r.1)
-
-    all_kept : (f : X → Option A) (xs : List X) → ((x : X) → Among xs x → IfThere (f x)) → All (filter_map f xs)
-    all_kept f xs p a h = let r = Among_of_filter_map f xs a h in subst IfThere r.2 (p r.0 r.1)
-
-    all_flat : (f : X → List A) (xs : List X) → ((x : X) → Among xs x → All (f x)) → All (flat_map f xs)
-    all_flat f xs p a h = let r = Among_of_flat_map f xs a h in p r.0 r.1 a r.2
+use Rattle.rx_rdfa.proofs.Every.{All, IfThere, all_none, all_more, all_both, all_unless, all_mapped, all_kept, all_flat, entries_all}
 
 -- ---- values
 
@@ -73,26 +39,20 @@ lang_kind (Some lang) string k = cc
 abbrev IsOther : Chars → Type 0
 IsOther name = bytes_eq (xsd ++ name) xsd_string ≡ false
 
--- what holds of each of six names holds of the one that is chosen
-chosen : (P : Chars → Type 0) (a b c d e f : Bool) (u v w x y z : Chars) → P u → P v → P w → P x → P y → P z
-    → IfThere P (cond a (Some u) (cond b (Some v) (cond c (Some w) (cond d (Some x) (cond e (Some y) (cond f (Some z) None))))))
-chosen P true b c d e f u v w x y z o p q r s t = o
-chosen P false true c d e f u v w x y z o p q r s t = p
-chosen P false false true d e f u v w x y z o p q r s t = q
-chosen P false false false true e f u v w x y z o p q r s t = r
-chosen P false false false false true f u v w x y z o p q r s t = s
-chosen P false false false false false true u v w x y z o p q r s t = t
-chosen P false false false false false false u v w x y z o p q r s t = tt
+-- the first whose test holds, else another
+there_or : {A : Type 0} (P : A → Type 0) (b : Bool) (a : A) (o : Option A) → P a → IfThere P o → IfThere P (cond b (Some a) o)
+there_or P b a o p q = split (IfThere P) b (Some a) o (λ _. p) (λ _. q)
 
 -- no text's form is that of xsd:string
 time_is_other : (text : Chars) → IfThere IsOther (time_kind text)
 unfolding time_kind
 time_is_other text =
-    chosen IsOther
-    (follows is_zone (after_year text)) (follows is_zone (after_month text)) (follows is_zone (after_date text)) (follows is_zone (after_clock text))
-    (follows is_zone (after_date text andThen after_char 84 andThen after_clock)) (is_duration text)
-    (codes "gYear") (codes "gYearMonth") (codes "date") (codes "time") (codes "dateTime") (codes "duration")
-    refl refl refl refl refl refl
+    there_or IsOther (follows is_zone (after_year text)) (codes "gYear") _ refl
+    (there_or IsOther (follows is_zone (after_month text)) (codes "gYearMonth") _ refl
+    (there_or IsOther (follows is_zone (after_date text)) (codes "date") _ refl
+    (there_or IsOther (follows is_zone (after_clock text)) (codes "time") _ refl
+    (there_or IsOther (follows is_zone (after_date text andThen after_char 84 andThen after_clock)) (codes "dateTime") _ refl
+    (there_or IsOther (is_duration text) (codes "duration") None refl tt)))))
 
 -- the literals of a value: of a language or none, of a time, of a datatype
 module _ (B : Type 0) where
@@ -210,34 +170,9 @@ module _ {B O : Type 0} (n : Naming B O) (base : Chars) (at : Standing B O) wher
     completed_proper (Forward p) = tt
     completed_proper _ = tt
 
-    -- of the entries each kind, in the order of the steps
-    module _ (v : Term B) (k : IsTerm v) where
-      linked_proper : (o : Option (Node B)) → All HasProperItem (linked n (λ w. w) v at here o)
-      linked_proper None = all_none HasProperItem
-      linked_proper (Some object) = all_mapped HasProperItem (entry (own_owner n at here) (Some (Resource object))) (listed at.facts.rel) (λ p m. tt)
-
-      touched_proper : All HasProperItem (touched n (λ w. w) v at here)
-      touched_proper =
-          let to : Chars → Entry O (Term B) = entry (own_owner n at here) None in
-          all_if HasProperItem (hangs at.facts here) (map to (listed at.facts.rel)) (all_mapped HasProperItem to (listed at.facts.rel) (λ p m. tt))
-
-      valued_proper : All HasProperItem (valued n (λ w. w) v at here)
-      valued_proper = all_mapped HasProperItem (entry (own_owner n at here) (Some v)) (listed at.facts.property) (λ p m. k)
-
-      awaited_proper : (h : Hanging O) → IfThere HasProperItem (awaited n (λ w. w) v at here h)
-      awaited_proper (Forward p) = tt
-      awaited_proper _ = tt
-
-      entries_by_proper : All HasProperItem (entries_by n (λ w. w) v at here)
-      entries_by_proper =
-          let l : List (Entry O (Term B)) = linked n (λ w. w) v at here here.object in
-          let t : List (Entry O (Term B)) = touched n (λ w. w) v at here in
-          let w : List (Entry O (Term B)) = valued n (λ w. w) v at here in
-          let ends : List (Entry O (Term B)) = filter_map (awaited n (λ w. w) v at here) at.around.hanging in
-          all_unless HasProperItem here.skipped (cond at.facts.inlist (l ++ t ++ w) [] ++ ends)
-          (all_both HasProperItem (cond at.facts.inlist (l ++ t ++ w) []) ends
-          (all_if HasProperItem at.facts.inlist (l ++ t ++ w) (all_both HasProperItem (l ++ t) w (all_both HasProperItem l t (linked_proper here.object) touched_proper) valued_proper))
-          (all_kept HasProperItem (awaited n (λ w. w) v at here) at.around.hanging (λ h m. awaited_proper h)))
+    awaited_proper : (v : Term B) (h : Hanging O) → IfThere HasProperItem (awaited n (λ w. w) v at here h)
+    awaited_proper v (Forward p) = tt
+    awaited_proper v _ = tt
 
   -- all that an element gives, at its start and its end, and its entries
   start_proper : All HasProper (start_of n base at)
@@ -271,7 +206,7 @@ module _ {B O : Type 0} (n : Naming B O) (base : Chars) (at : Standing B O) wher
   entries_at_proper text =
       let here = resources n base at in
       let v : Term B = value (rule n base at.facts here) at.facts text in
-      entries_by_proper here v (value_proper (rule n base at.facts here) at.facts text)
+      entries_all HasProperItem n (λ w. w) v at here (λ object p. tt) (λ p. tt) (λ p. value_proper (rule n base at.facts here) at.facts text) (λ h m. awaited_proper here v h)
 
 -- ---- a tree
 
@@ -293,9 +228,9 @@ module _ {B : Type 0} (same : B → B → Bool) (list : List (Triple B)) (all : 
   -- what a pattern gives has an object of the list, and so has what is copied
   given_proper : (pairs : List (Node B × Node B)) (s t : Node B) (u : Triple B) → HasProper u → IfThere HasProper (given same list pairs s t u)
   given_proper pairs s t u h =
-      there_if HasProper
+      there_or HasProper
       (leads (same_node same) pairs t u.subject && not (says_pattern same u.predicate u.object) && is_none (live same list u.predicate u.object))
-      (spo s u.predicate u.object) h
+      (spo s u.predicate u.object) None h tt
 
   replaced_proper : (pairs : List (Node B × Node B)) (u : Triple B) (o : Option (Node B)) → HasProper u → All HasProper (replaced same list pairs u o)
   replaced_proper pairs u None h = all_more HasProper u [] h (all_none HasProper)

@@ -1,27 +1,17 @@
 -- Renaming goes through the value of property, and the triples of one element.
-use Rattle.rx_rdfa.proofs.Common.{map-append, option_or, Chars, Node, Iri, Term, spo, rename_node, rename_term, rename, rdf_type, Naming, Facts, Datatype, Empty, Is, Ref, Hanging, Forward, Reverse, InList, Standing, Resources, resource_attribute, has_link, only, resource_named, resources, listed, time_datatype, Rule, ByDatatype, ByContent, ByDatetime, ByTimeText, ByResource, ByTyped, rule_or, rule, literal_by, time_literal_by, is_time, value_now, value_of_text, value, rename_hanging, rename_standing, rename_resources, rename_rule, label_of, AgreeAt}
-use Rattle.std.proofs.Common.{◌≡◌, Bool, true, false, cond, List, [], ◌∷◌, ◌++◌, map, flat_map, filter_map, Option, Some, None, option_map, option_to_list, is_none, refl, ap, ap₂, ◌∙◌, not, ◌&&◌, is_some, unwrap_or}
+use Rattle.rx_model.proofs.Common.{option_or, Chars, Node, Iri, Term, spo, rename_node, rename_term, rename, rdf_type}
+use Rattle.std.proofs.Common.{◌≡◌, cond, List, [], ◌∷◌, ◌++◌, map, flat_map, filter_map, Option, Some, None, option_map, option_to_list, is_none, refl, ap, ap₂, ◌∙◌, not, ◌&&◌, is_some, unwrap_or}
 use Rattle.rx_rdfa.specs.Iris.{uses_vocabulary}
+use Rattle.rx_rdfa.specs.Naming.{Naming}
+use Rattle.rx_rdfa.specs.Facts.{Facts, Datatype, Empty, Is, Ref}
+use Rattle.rx_rdfa.specs.Resources.{Hanging, Forward, Standing, Resources, resource_attribute, has_link, only, resource_named, resources}
+use Rattle.rx_rdfa.specs.Inherited.{listed}
+use Rattle.rx_rdfa.specs.Times.{time_datatype}
+use Rattle.rx_rdfa.specs.Value.{Rule, ByDatatype, ByContent, ByDatetime, ByTimeText, ByResource, ByTyped, rule_or, rule, literal_by, time_literal_by, is_time, value_now, value_of_text, value}
 use Rattle.rx_rdfa.specs.Element.{to_node, of_vocabulary, types_by, links_by, properties_by, completed, text_value, start_of, end_of}
-use Rattle.rx_rdfa.proofs.Sent.{map_only, map_unwrap, map_cond}
+use Rattle.rx_rdfa.specs.Renaming.{rename_hanging, rename_standing, rename_resources, rename_rule, label_of, AgreeAt}
+use Rattle.rx_rdfa.proofs.Sent.{map_only, map_unwrap, map_cond, map_unless, map_both, map_each, map_found}
 use Rattle.rx_rdfa.proofs.RenamedResources.{Alike, alike_left, alike_right, alike_at, named, named_option, resources_rename}
-
--- ---- lists under a function
-
-pub map_cond_nil : {A B : Type 0} (h : A → B) (b : Bool) (xs : List A) (ys : List B) → map h xs ≡ ys → map h (cond b xs []) ≡ cond b ys []
-map_cond_nil h true xs ys e = e
-map_cond_nil h false xs ys e = refl
-
-pub map_unless : {A B : Type 0} (h : A → B) (b : Bool) (xs : List A) (ys : List B) → map h xs ≡ ys → map h (cond b [] xs) ≡ cond b [] ys
-map_unless h true xs ys e = refl
-map_unless h false xs ys e = e
-
-pub map_both : {A B : Type 0} (h : A → B) (xs ys : List A) (us vs : List B) → map h xs ≡ us → map h ys ≡ vs → map h (xs ++ ys) ≡ us ++ vs
-map_both h xs ys us vs e q = map-append h xs ys ∙ ap₂ ◌++◌ e q
-
-pub map_each : {A B C : Type 0} (h : B → C) (k : A → B) (k' : A → C) (xs : List A) → ((x : A) → h (k x) ≡ k' x) → map h (map k xs) ≡ map k' xs
-map_each h k k' [] e = refl
-map_each h k k' (x ∷ xs) e = ap₂ ◌∷◌ (e x) (map_each h k k' xs e)
 
 -- ---- the value
 
@@ -109,12 +99,9 @@ module _ {B O C P : Type 0} (f : B → C) (g : O → P) (n : Naming B O) (m : Na
     properties_is None = refl
     properties_is (Some v) = map_unless (rename f) at.facts.inlist _ _ (map_each (rename f) (λ p. spo here.subject p v) _ (listed at.facts.property) (λ p. refl))
 
-    completed_is : (hanging : List (Hanging O)) → map (rename f) (filter_map (completed n base at here) hanging)
-        ≡ filter_map (completed m base (rename_standing f g at) (rename_resources f here)) (map (rename_hanging g) hanging)
-    completed_is [] = refl
-    completed_is (Forward p ∷ hanging) = ap₂ ◌∷◌ refl (completed_is hanging)
-    completed_is (Reverse p ∷ hanging) = ap₂ ◌∷◌ refl (completed_is hanging)
-    completed_is (InList owner p ∷ hanging) = completed_is hanging
+    completed_is : (x : Hanging O) → option_map (rename f) (completed n base at here x) ≡ completed m base (rename_standing f g at) (rename_resources f here) (rename_hanging g x)
+    completed_is (Forward p) = refl
+    completed_is _ = refl
 
   pub start_rename : map (rename f) (start_of n base at) ≡ start_of m base (rename_standing f g at)
   unfolding start_of
@@ -128,7 +115,7 @@ module _ {B O C P : Type 0} (f : B → C) (g : O → P) (n : Naming B O) (m : Na
       (map_both (rename f) (types_by n base at here.typed) _ _ _ (types_is here.typed) (links_is here here.object))
       (properties_is here (value_now (rule n base at.facts here) at.facts)
       ∙ ap (properties_by m base there (rename_resources f here)) (value_now_rename f (rule n base at.facts here) at.facts ∙ ap (λ (z : Rule C). value_now z at.facts) (rule_rename here))))
-      (completed_is here at.around.hanging)))
+      (map_found (rename f) (completed n base at here) _ (rename_hanging g) (completed_is here) at.around.hanging)))
       ∙ ap (λ (z : Resources C). of_vocabulary m base there ++ cond z.skipped [] (types_by m base there z.typed ++ links_by m base there z z.object ++ properties_by m base there z (value_now (rule m base at.facts z) at.facts) ++ filter_map (completed m base there z) there.around.hanging))
       (resources_rename f g n m base at k)
 

@@ -1,51 +1,52 @@
 -- Renaming goes through the entries of an element, and the lists of an owner.
-use Rattle.rx_rdfa.proofs.Common.{◌≡◌, ℕ, suc, Bool, true, false, cond, List, [], ◌∷◌, ◌++◌, map, filter, flat_map, filter_map, Option, Some, None, option_map, refl, sym, ap, ap₂, ◌∙◌, inl, inr, bytes_eq, Chars, Among, distinct, spo, Node, Blank, Term, Resource, rename_node, rename_term, rename, rdf_first, rdf_rest, Naming, Hanging, Forward, Reverse, InList, Standing, Resources, resources, listed, hangs, own_owner, rule, value, to_node, rename_entry, rename_hanging, rename_standing, rename_resources, AgreeAt}
+use Rattle.rx_model.proofs.Common.{◌≡◌, ℕ, suc, Bool, cond, List, [], ◌∷◌, ◌++◌, map, filter, flat_map, filter_map, Option, Some, None, option_map, refl, sym, ap, ◌∙◌, bytes_eq, Chars, Among, distinct, spo, Node, Blank, Term, Resource, rename_node, rename_term, rename, rdf_first, rdf_rest}
+use Rattle.rx_rdfa.specs.Naming.{Naming}
+use Rattle.rx_rdfa.specs.Resources.{Hanging, Forward, InList, Standing, Resources, resources}
+use Rattle.rx_rdfa.specs.Inherited.{listed, hangs, own_owner}
+use Rattle.rx_rdfa.specs.Value.{rule, value}
+use Rattle.rx_rdfa.specs.Element.{to_node}
 use Rattle.rx_rdfa.specs.Lists.{Entry, entry, linked, touched, valued, awaited, entries_by, entries_at, of_owner, lists, items, cell_or_nil, chain, list_of, cells_from, cells}
+use Rattle.rx_rdfa.specs.Renaming.{rename_entry, rename_hanging, rename_standing, rename_resources, AgreeAt}
 use Rattle.rx_rdfa.proofs.RenamedResources.{owner_is, hangs_is, resources_rename}
-use Rattle.rx_rdfa.proofs.RenamedElement.{map_cond_nil, map_unless, map_both, map_each, rule_rename, value_rename}
+use Rattle.rx_rdfa.proofs.RenamedElement.{rule_rename, value_rename}
+use Rattle.rx_rdfa.proofs.Sent.{map_cond_nil, map_unless, map_both, map_each, map_filtered, map_found, map_flat}
 
 -- ---- entries
 
 module _ {B O C P T U : Type 0} (f : B → C) (g : O → P) (n : Naming B O) (m : Naming C P) (h : T → U) (full : Term B → T) (full' : Term C → U) (fulls : (x : Term B) → h (full x) ≡ full' (rename_term f x))
     (v : T) (at : Standing B O) (k : AgreeAt f g n m at.facts at.path) (here : Resources B) where
-  there : Standing C P
+  abbrev there : Standing C P
   there = rename_standing f g at
 
-  here' : Resources C
+  abbrev here' : Resources C
   here' = rename_resources f here
 
   linked_is : (object : Option (Node B)) → map (rename_entry g h) (linked n full v at here object) ≡ linked m full' (h v) there here' (option_map (rename_node f) object)
-  unfolding there here'
   linked_is None = refl
   linked_is (Some object) = map_each (rename_entry g h) (entry (own_owner n at here) (Some (full (Resource object)))) _ (listed at.facts.rel)
       (λ p i. entry (owner_is f g n m at k here i) (Some (fulls (Resource object) i)) p)
 
   touched_is : map (rename_entry g h) (touched n full v at here) ≡ touched m full' (h v) there here'
-  unfolding there here'
   touched_is = map_cond_nil (rename_entry g h) (hangs at.facts here) _ _
       (map_each (rename_entry g h) (entry (own_owner n at here) None) (entry (own_owner m (rename_standing f g at) (rename_resources f here)) None) (listed at.facts.rel) (λ p i. entry (owner_is f g n m at k here i) None p))
       ∙ ap (λ (b : Bool). cond b (map (entry (own_owner m (rename_standing f g at) (rename_resources f here)) None) (listed at.facts.rel)) []) (hangs_is f g n m at k here)
 
   valued_is : map (rename_entry g h) (valued n full v at here) ≡ valued m full' (h v) there here'
-  unfolding there here'
   valued_is = map_each (rename_entry g h) (entry (own_owner n at here) (Some v)) _ (listed at.facts.property) (λ p i. entry (owner_is f g n m at k here i) (Some (h v)) p)
 
-  awaited_is : (hanging : List (Hanging O)) → map (rename_entry g h) (filter_map (awaited n full v at here) hanging) ≡ filter_map (awaited m full' (h v) there here') (map (rename_hanging g) hanging)
-  unfolding there here'
-  awaited_is [] = refl
-  awaited_is (Forward p ∷ hanging) = awaited_is hanging
-  awaited_is (Reverse p ∷ hanging) = awaited_is hanging
-  awaited_is (InList owner p ∷ hanging) = ap₂ ◌∷◌ (λ i. entry (g owner) (Some (fulls (Resource here.subject) i)) p) (awaited_is hanging)
+  awaited_is : (x : Hanging O) → option_map (rename_entry g h) (awaited n full v at here x) ≡ awaited m full' (h v) there here' (rename_hanging g x)
+  awaited_is (InList owner p) = λ i. Some (entry (g owner) (Some (fulls (Resource here.subject) i)) p)
+  awaited_is (Forward p) = refl
+  awaited_is _ = refl
 
   pub entries_by_rename : map (rename_entry g h) (entries_by n full v at here) ≡ entries_by m full' (h v) (rename_standing f g at) (rename_resources f here)
-  unfolding there here'
   entries_by_rename = map_unless (rename_entry g h) here.skipped _ _
       (map_both (rename_entry g h) (cond at.facts.inlist (linked n full v at here here.object ++ touched n full v at here ++ valued n full v at here) []) _ _ _
       (map_cond_nil (rename_entry g h) at.facts.inlist _ _
       (map_both (rename_entry g h) (linked n full v at here here.object ++ touched n full v at here) _ _ _
       (map_both (rename_entry g h) (linked n full v at here here.object) _ _ _ (linked_is here.object) touched_is)
       valued_is))
-      (awaited_is at.around.hanging))
+      (map_found (rename_entry g h) (awaited n full v at here) (awaited m full' (h v) there here') (rename_hanging g) awaited_is at.around.hanging))
 
 pub entries_at_rename : {B O C P : Type 0} (f : B → C) (g : O → P) (n : Naming B O) (m : Naming C P) (base : Chars) (at : Standing B O) → AgreeAt f g n m at.facts at.path
     → (s : Chars) → map (rename_entry g (rename_term f)) (entries_at n base at s) ≡ entries_at m base (rename_standing f g at) s
@@ -63,34 +64,16 @@ entries_at_rename f g n m base at k s =
 module _ {O P T U : Type 0} (g : O → P) (h : T → U) where
   pub of_owner_rename : (same : O → O → Bool) (same' : P → P → Bool) → ((a b : O) → same a b ≡ same' (g a) (g b))
       → (owner : O) (list : List (Entry O T)) → map (rename_entry g h) (of_owner same owner list) ≡ of_owner same' (g owner) (map (rename_entry g h) list)
-  of_owner_rename same same' k owner [] = refl
-  of_owner_rename same same' k owner (e ∷ list) = go (same e.owner owner)
-      ∙ ap₂ (λ b z. cond b (rename_entry g h e ∷ z) z) (k e.owner owner) (of_owner_rename same same' k owner list)
-    where
-      go : (b : Bool) → map (rename_entry g h) (cond b (e ∷ of_owner same owner list) (of_owner same owner list))
-          ≡ cond b (rename_entry g h e ∷ map (rename_entry g h) (of_owner same owner list)) (map (rename_entry g h) (of_owner same owner list))
-      go true = refl
-      go false = refl
-
-  predicates_rename : (list : List (Entry O T)) → map (λ (e : Entry P U). e.predicate) (map (rename_entry g h) list) ≡ map (λ (e : Entry O T). e.predicate) list
-  predicates_rename [] = refl
-  predicates_rename (e ∷ list) = ap (λ z. e.predicate ∷ z) (predicates_rename list)
+  of_owner_rename same same' k owner list = map_filtered (rename_entry g h) (λ e. same e.owner owner) (λ e. same' e.owner (g owner)) (λ e. k e.owner owner) list
 
   pub lists_rename : (list : List (Entry O T)) → lists (map (rename_entry g h) list) ≡ lists list
-  lists_rename list = ap (distinct bytes_eq) (predicates_rename list)
+  lists_rename list = ap (distinct bytes_eq) (map_each (λ (e : Entry P U). e.predicate) (rename_entry g h) (λ (e : Entry O T). e.predicate) list (λ e. refl))
 
   pub items_rename : (p : Chars) (list : List (Entry O T)) → map h (items p list) ≡ items p (map (rename_entry g h) list)
-  items_rename p [] = refl
-  items_rename p (e ∷ list) = go (bytes_eq e.predicate p) e.item (items_rename p list)
-    where
-      of : List (Entry O T) → List T
-      of xs = filter_map (λ (x : Entry O T). x.item) xs
-
-      go : (b : Bool) (item : Option T) → map h (items p list) ≡ items p (map (rename_entry g h) list)
-          → map h (filter_map (λ (x : Entry O T). x.item) (cond b (record { owner = e.owner; predicate = e.predicate; item = item } ∷ filter (λ x. bytes_eq x.predicate p) list) (filter (λ x. bytes_eq x.predicate p) list)))
-          ≡ filter_map (λ (x : Entry P U). x.item) (cond b (record { owner = g e.owner; predicate = e.predicate; item = option_map h item } ∷ filter (λ x. bytes_eq x.predicate p) (map (rename_entry g h) list)) (filter (λ x. bytes_eq x.predicate p) (map (rename_entry g h) list)))
-      go true (Some x) ih = ap (λ z. h x ∷ z) ih
-      go _ _ ih = ih
+  items_rename p list =
+      let here : Entry O T → Bool = λ e. bytes_eq e.predicate p in
+      map_found h (λ (e : Entry O T). e.item) (λ (e : Entry P U). e.item) (rename_entry g h) (λ e. refl) (filter here list)
+      ∙ ap (filter_map (λ (e : Entry P U). e.item)) (map_filtered (rename_entry g h) here (λ (e : Entry P U). bytes_eq e.predicate p) (λ e. refl) list)
 
 -- ---- cells
 
@@ -117,18 +100,10 @@ module _ {B C : Type 0} (f : B → C) (cell : ℕ → B) (cell' : ℕ → C) whe
   list_is subject p list k = λ j. to_node (rename_node f subject) p (cell_or_nil_is 0 list k j) ∷ chain_is 0 list k j
 
 module _ {B O C P : Type 0} (f : B → C) (g : O → P) (cell : Chars → ℕ → B) (cell' : Chars → ℕ → C) (subject : Node B) where
-  each_list : (own : List (Entry O (Term B))) (ps : List Chars) → ((p : Chars) → Among ps p → CellsAlike f (cell p) (cell' p) 0 (items p own))
-      → map (rename f) (flat_map (λ p. list_of (cell p) subject p (items p own)) ps)
-      ≡ flat_map (λ p. list_of (cell' p) (rename_node f subject) p (items p (map (rename_entry g (rename_term f)) own))) ps
-  each_list own [] k = refl
-  each_list own (p ∷ ps) k = map_both (rename f) (list_of (cell p) subject p (items p own)) _ _ _
-      (list_is f (cell p) (cell' p) subject p (items p own) (k p (inl refl))
-      ∙ ap (list_of (cell' p) (rename_node f subject) p) (items_rename g (rename_term f) p own))
-      (each_list own ps (λ q a. k q (inr a)))
-
   pub cells_from_rename : (own : List (Entry O (Term B))) → ((p : Chars) → Among (lists own) p → CellsAlike f (cell p) (cell' p) 0 (items p own))
       → map (rename f) (cells_from cell subject own) ≡ cells_from cell' (rename_node f subject) (map (rename_entry g (rename_term f)) own)
-  cells_from_rename own k = each_list own (lists own) k
+  cells_from_rename own k = map_flat (rename f) (λ p. list_of (cell p) subject p (items p own)) (λ p. list_of (cell' p) (rename_node f subject) p (items p (map (rename_entry g (rename_term f)) own))) (lists own)
+      (λ p a. list_is f (cell p) (cell' p) subject p (items p own) (k p a) ∙ ap (list_of (cell' p) (rename_node f subject) p) (items_rename g (rename_term f) p own))
       ∙ ap (flat_map (λ p. list_of (cell' p) (rename_node f subject) p (items p (map (rename_entry g (rename_term f)) own)))) (sym (lists_rename g (rename_term f) own))
 
 pub cells_rename : {B O C P : Type 0} (f : B → C) (g : O → P) (n : Naming B O) (m : Naming C P) → ((a b : O) → n.same_owner a b ≡ m.same_owner (g a) (g b))

@@ -1,9 +1,20 @@
 -- Renaming goes through reading with frames.
-use Rattle.rx_rdfa.proofs.Common.{◌≡◌, suc, Bool, true, false, cond, List, [], ◌∷◌, ◌++◌, map, Option, Some, None, option_map, refl, sym, ap, ap₂, ◌∙◌, bytes_eq, map-append, Chars, Term, Triple, rename_term, rename, Path, Naming, model, Facts, Inherited, Standing, Resources, resources, up, Rule, value_now, value, rule, start_of, end_of, Entry, entry, entries_by, lists_below, lists_of, page_lists, rename_entry, rename_slot, rename_inherited, rename_standing, rename_resources, rename_rule, rename_machine, AgreeAt, Agree, MadeRenames}
+use Rattle.rx_model.proofs.Common.{◌≡◌, suc, Bool, true, false, cond, List, [], ◌∷◌, ◌++◌, map, Option, Some, None, option_map, refl, sym, ap, ap₂, ◌∙◌, bytes_eq, map-append, Chars, Term, Triple, rename_term, rename}
+use Rattle.rx_rdfa.specs.Naming.{Path, Naming}
+use Rattle.rx_rdfa.specs.Blanks.{model}
 use Rattle.rx_rdfa.specs.Tree.{Nodes, end, element, text}
-use Rattle.rx_rdfa.specs.Machine.{Slot, Full, Waiting, Machine, inherit, slot_of, rule_at, value_at, reserved, fill_slot, fill, settle, entered, enter, read, number, left, leave_with, leave, run, begun, finished}
+use Rattle.rx_rdfa.specs.Facts.{Facts}
+use Rattle.rx_rdfa.specs.Resources.{Inherited, Standing, Resources, resources}
+use Rattle.rx_rdfa.specs.Inherited.{up}
+use Rattle.rx_rdfa.specs.Value.{Rule, value_now, value, rule}
+use Rattle.rx_rdfa.specs.Element.{start_of, end_of}
+use Rattle.rx_rdfa.specs.Lists.{Entry, entry, entries_by}
+use Rattle.rx_rdfa.specs.Made.{lists_below, lists_of, page_lists}
+use Rattle.rx_rdfa.specs.Machine.{Slot, Full, Waiting, Machine, inherit, slot_of, rule_at, value_at, reserved, fill_slot, fill, settled, settle, entered, enter, read, number, left, leave_with, leave, run, begun, finished}
+use Rattle.rx_rdfa.specs.Renaming.{rename_entry, rename_slot, rename_inherited, rename_standing, rename_resources, rename_rule, rename_machine, AgreeAt, Agree, MadeRenames}
 use Rattle.rx_rdfa.proofs.RenamedResources.{resources_rename, below_rename}
 use Rattle.rx_rdfa.proofs.RenamedElement.{rule_rename, value_now_rename, value_rename, start_rename, end_rename}
+use Rattle.rx_rdfa.proofs.Sent.{map_found}
 use Rattle.rx_rdfa.proofs.RenamedLists.{entries_by_rename}
 use Rattle.rx_rdfa.proofs.RenamedMade.{agree_at, page_rename, lists_below_rename, lists_of_rename, page_lists_rename, made_rename}
 use Rattle.rx_rdfa.proofs.Machine.{reading_makes}
@@ -28,14 +39,12 @@ module _ {B O C P : Type 0} (f : B → C) (g : O → P) where
   fill_rename r v (e ∷ slots) = ap₂ ◌∷◌ (λ i. entry (g e.owner) (filled_option r v e.item i) e.predicate) (fill_rename r v slots)
 
   pub settle_rename : (slots : List (Entry O (Slot B))) → map (rename_entry g (rename_term f)) (settle slots) ≡ settle (map (rename_entry g (rename_slot f)) slots)
-  settle_rename [] = refl
-  settle_rename (e ∷ slots) = go e.item (settle_rename slots)
+  settle_rename slots = map_found (rename_entry g (rename_term f)) settled settled (rename_entry g (rename_slot f)) (λ e. by e.owner e.predicate e.item) slots
     where
-      go : (o : Option (Slot B)) → map (rename_entry g (rename_term f)) (settle slots) ≡ settle (map (rename_entry g (rename_slot f)) slots)
-          → map (rename_entry g (rename_term f)) (settle (entry e.owner o e.predicate ∷ slots)) ≡ settle (map (rename_entry g (rename_slot f)) (entry e.owner o e.predicate ∷ slots))
-      go None ih = ap (λ z. entry (g e.owner) None e.predicate ∷ z) ih
-      go (Some (Full w)) ih = ap (λ z. entry (g e.owner) (Some (rename_term f w)) e.predicate ∷ z) ih
-      go (Some (Waiting r)) ih = ih
+      by : (o : O) (p : Chars) (item : Option (Slot B)) → option_map (rename_entry g (rename_term f)) (settled (entry o item p)) ≡ settled (entry (g o) (option_map (rename_slot f) item) p)
+      by o p (Some (Full w)) = refl
+      by o p (Some (Waiting r)) = refl
+      by o p None = refl
 
   slot_of_is : (path : Path) (o : Option (Term B)) → rename_slot f (slot_of path o) ≡ slot_of path (option_map (rename_term f) o)
   slot_of_is path None = refl

@@ -1,8 +1,17 @@
 -- Renaming goes through the list of a tree's triples.
-use Rattle.rx_rdfa.proofs.Common.{◌≡◌, ℕ, suc, List, [], ◌∷◌, ◌++◌, map, flat_map, refl, ap, ap₂, ◌∙◌, Chars, Node, Iri, Term, rename_node, rename_term, rename, Path, Naming, Facts, Inherited, Standing, Resources, resources, below, inherited, up, at_page, Place, places, in_order_from, in_order, standing, start, start_of, end', end_of, Entry, entries_of, entries_at, entries, cells, lists_below, lists_of, page_lists, end_and_lists, made, rename_entry, rename_inherited, rename_standing, AgreeAt, Agree}
+use Rattle.rx_model.proofs.Common.{◌≡◌, ℕ, suc, List, [], ◌∷◌, ◌++◌, map, refl, ap, ap₂, ◌∙◌, Chars, Node, Iri, Term, rename_node, rename_term, rename}
+use Rattle.rx_rdfa.specs.Naming.{Path, Naming}
 use Rattle.rx_rdfa.specs.Tree.{Nodes, end, element, text, all_text}
+use Rattle.rx_rdfa.specs.Facts.{Facts}
+use Rattle.rx_rdfa.specs.Resources.{Inherited, Standing, Resources, resources}
+use Rattle.rx_rdfa.specs.Inherited.{below, inherited, up, at_page}
+use Rattle.rx_rdfa.specs.Element.{Place, places, in_order_from, in_order, standing, start, start_of, end', end_of}
+use Rattle.rx_rdfa.specs.Lists.{Entry, entries_of, entries_at, entries, cells}
+use Rattle.rx_rdfa.specs.Made.{lists_below, lists_of, page_lists, end_and_lists, made}
+use Rattle.rx_rdfa.specs.Renaming.{rename_entry, rename_inherited, rename_standing, AgreeAt, Agree}
 use Rattle.rx_rdfa.proofs.RenamedResources.{resources_rename, below_rename}
-use Rattle.rx_rdfa.proofs.RenamedElement.{map_both, start_rename, end_rename}
+use Rattle.rx_rdfa.proofs.RenamedElement.{start_rename, end_rename}
+use Rattle.rx_rdfa.proofs.Sent.{map_both, map_flat}
 use Rattle.rx_rdfa.proofs.RenamedLists.{entries_at_rename, cells_alike, cells_rename}
 
 -- what is renamed of each place in order
@@ -15,10 +24,6 @@ in_order_rename h front back front' back' k l above path i (element facts inside
     map_both h (front p) _ _ _ (k p)
     (map_both h (in_order_from front back (facts ∷ above) (i ∷ path) 0 inside) _ _ _ (in_order_rename h front back front' back' k l (facts ∷ above) (i ∷ path) 0 inside)
     (map_both h (back p) _ _ _ (l p) (in_order_rename h front back front' back' k l above path (suc i) rest)))
-
-flat_map_rename : {A A' X : Type 0} (h : A → A') (f : X → List A) (f' : X → List A') → ((x : X) → map h (f x) ≡ f' x) → (xs : List X) → map h (flat_map f xs) ≡ flat_map f' xs
-flat_map_rename h f f' k [] = refl
-flat_map_rename h f f' k (x ∷ xs) = map_both h (f x) _ _ _ (k x) (flat_map_rename h f f' k xs)
 
 module _ {B O C P : Type 0} (f : B → C) (g : O → P) (n : Naming B O) (m : Naming C P) (k : Agree f g n m) (base : Chars) where
   pub agree_at : (facts : Facts) (path : Path) → AgreeAt f g n m facts path
@@ -48,7 +53,7 @@ module _ {B O C P : Type 0} (f : B → C) (g : O → P) (n : Naming B O) (m : Na
       ∙ ap (λ z. entries_at m base z (all_text p.inside)) (standing_rename p)
 
   pub entries_rename : (tree : Nodes Facts) → map (rename_entry g (rename_term f)) (entries n base tree) ≡ entries m base tree
-  entries_rename tree = flat_map_rename (rename_entry g (rename_term f)) (entries_of n base) (entries_of m base) entries_of_is (places tree)
+  entries_rename tree = map_flat (rename_entry g (rename_term f)) (entries_of n base) (entries_of m base) (places tree) (λ p h. entries_of_is p)
 
   cells_is : (all : List (Entry O (Term B))) (owner : O) (owner' : P) (subject : Node B) (subject' : Node C) → g owner ≡ owner' → rename_node f subject ≡ subject'
       → map (rename f) (cells n all owner subject) ≡ cells m (map (rename_entry g (rename_term f)) all) owner' subject'

@@ -1,8 +1,12 @@
 -- Renaming goes through the resources of an element, and what its children inherit.
-use Rattle.rx_rdfa.proofs.Common.{map-append, option_or, Chars, then_some, Among, Node, Iri, Blank, same_node, rename_node, Among_left, Among_right, Naming, Facts, Ref, LabelRef, rename_hanging, rename_inherited, rename_standing, rename_resources, label_of, label_of_option, labels, AgreeAt}
+use Rattle.rx_model.proofs.Common.{map-append, option_or, Chars, Among, Node, Iri, Blank, same_node, rename_node, Among_left, Among_right}
 use Rattle.std.proofs.Common.{◌≡◌, Bool, true, false, cond, List, [], ◌∷◌, ◌++◌, map, flat_map, Option, Some, None, option_map, is_none, refl, ap, ap₂, ◌∙◌, inl, not, ◌&&◌, ◌||◌, unwrap_or}
+use Rattle.std.specs.Bool.{then_some}
+use Rattle.rx_rdfa.specs.Naming.{Naming}
+use Rattle.rx_rdfa.specs.Facts.{Facts, Ref, LabelRef}
 use Rattle.rx_rdfa.specs.Resources.{Forward, Reverse, InList, Standing, Resources, resource_named, about, linked_resource, base_at_root, parent_for_head_and_body, has_typeof, has_link, is_plain_property, is_root, is_root_child, is_head_or_body, new_blank, default_subject, of_property, of_no_link, of_link, only, resources}
 use Rattle.rx_rdfa.specs.Inherited.{listed, holds_some, hangs, object_below, own_owner, hanging_of, owner_below, handed, below}
+use Rattle.rx_rdfa.specs.Renaming.{rename_hanging, rename_inherited, rename_standing, rename_resources, label_of, label_of_option, labels, AgreeAt}
 use Rattle.rx_rdfa.proofs.Sent.{Sent, SentOption, map_or, map_then, map_unwrap, none_map, map_cond, or_is, then_is, only_is, unwrap_is, none_is, cond_is}
 
 pub same_nodes : {B C : Type 0} (to : B → C) (same : B → B → Bool) (same' : C → C → Bool) → ((a b : B) → same a b ≡ same' (to a) (to b))
@@ -71,51 +75,42 @@ module _ {B O C P : Type 0} (f : B → C) (n : Naming B O) (m : Naming C P) wher
     named_option (Some r) k = record { path = ap Some (named r k) }
 
 module _ {B O C P : Type 0} (f : B → C) (g : O → P) (n : Naming B O) (m : Naming C P) (base : Chars) (at : Standing B O) (k : AgreeAt f g n m at.facts at.path) where
-  r : Node B → Node C
+  abbrev r : Node B → Node C
   r = rename_node f
 
-  there : Standing C P
+  abbrev there : Standing C P
   there = rename_standing f g at
 
   about_is : SentOption r (about n base at) (about m base there)
-  unfolding r there
   about_is = named_option f n m base at.facts.about (alike_at f n m at.facts k.author).about_labels
 
   linked_is : SentOption r (linked_resource n base at) (linked_resource m base there)
-  unfolding r there
   linked_is = named_option f n m base (option_or at.facts.resource (option_or at.facts.href at.facts.src)) (alike_at f n m at.facts k.author).resource_labels
 
   base_is : Sent r (Iri base) (Iri base)
-  unfolding r there
   base_is = record { path = refl }
 
   root_is : SentOption r (base_at_root n base at) (base_at_root m base there)
-  unfolding there
   root_is = then_is (is_root at.path) base_is
 
   object_is : Sent r at.around.object there.around.object
-  unfolding r there
   object_is = record { path = refl }
 
   parent_is : SentOption r (parent_for_head_and_body n base at) (parent_for_head_and_body m base there)
-  unfolding there
   parent_is = then_is (is_root_child at.path && is_head_or_body at.facts.kind) object_is
 
   blank_is : Sent r (new_blank n at) (new_blank m there)
-  unfolding r there
   blank_is = record { path = ap Blank k.made }
 
   default_is : Sent r (default_subject n base at) (default_subject m base there)
   default_is = unwrap_is (or_is about_is root_is) object_is
 
   property_is : Sent (rename_resources f) (of_property n base at) (of_property m base there)
-  unfolding r there
   property_is =
       let typed = then_is (has_typeof n base at) (unwrap_is (or_is about_is (or_is root_is (or_is linked_is parent_is))) blank_is) in
       record { path = λ i. record { subject = default_is.path i; typed = typed.path i; object = typed.path i; skipped = false } }
 
   no_link_is : Sent (rename_resources f) (of_no_link n base at) (of_no_link m base there)
-  unfolding r there
   no_link_is =
       let subject = unwrap_is (or_is about_is (or_is linked_is (or_is root_is (or_is parent_is (then_is (has_typeof n base at) blank_is))))) object_is in
       let typed = then_is (has_typeof n base at) subject in
@@ -129,7 +124,6 @@ module _ {B O C P : Type 0} (f : B → C) (g : O → P) (n : Naming B O) (m : Na
       }
 
   link_is : Sent (rename_resources f) (of_link n base at) (of_link m base there)
-  unfolding r there
   link_is =
       let object = or_is linked_is (then_is (has_typeof n base at && is_none (about n base at)) blank_is) in
       let typed = only_is (has_typeof n base at) (or_is about_is object) in
@@ -143,22 +137,18 @@ module _ {B O C P : Type 0} (f : B → C) (g : O → P) (n : Naming B O) (m : Na
             }) (none_is about_is);
       }
 
-  resources_is : Sent (rename_resources f) (resources n base at) (resources m base there)
-  unfolding there resources
-  resources_is = cond_is (has_link at.facts) link_is (cond_is (is_plain_property at.facts) property_is no_link_is)
-
   pub resources_rename : rename_resources f (resources n base at) ≡ resources m base (rename_standing f g at)
-  unfolding there
-  resources_rename = resources_is.path
+  unfolding resources
+  resources_rename = (cond_is {h = rename_resources f} (has_link at.facts) link_is (cond_is (is_plain_property at.facts) property_is no_link_is)).path
 
 module _ {B O C P : Type 0} (f : B → C) (g : O → P) (n : Naming B O) (m : Naming C P) (at : Standing B O) (k : AgreeAt f g n m at.facts at.path) (here : Resources B) where
-  r' : Node B → Node C
+  abbrev r' : Node B → Node C
   r' = rename_node f
 
-  there' : Standing C P
+  abbrev there' : Standing C P
   there' = rename_standing f g at
 
-  here' : Resources C
+  abbrev here' : Resources C
   here' = rename_resources f here
 
   pub owner_is : g (own_owner n at here) ≡ own_owner m (rename_standing f g at) (rename_resources f here)
@@ -166,7 +156,6 @@ module _ {B O C P : Type 0} (f : B → C) (g : O → P) (n : Naming B O) (m : Na
       ∙ ap₂ (λ t o. cond t (g at.around.owner) o) (same_nodes f n.same m.same k.same here.subject at.around.object) k.of
 
   below_owner_is : (o : Option (Node B)) (owner : O) → g (owner_below n at here o owner) ≡ owner_below m there' here' (option_map r' o) (g owner)
-  unfolding there' here' r'
   below_owner_is None owner = refl
   below_owner_is (Some object) owner = map_cond g (same_node n.same object here.subject) owner (n.below at.path)
       ∙ ap₂ (λ t o. cond t (g owner) o) (same_nodes f n.same m.same k.same object here.subject) k.below
@@ -175,18 +164,15 @@ module _ {B O C P : Type 0} (f : B → C) (g : O → P) (n : Naming B O) (m : Na
   hangs_is = ap (λ t. t && (holds_some (listed at.facts.rel) || holds_some (listed at.facts.rev))) (none_map (rename_node f) here.object)
 
   object_below_is : option_map r' (object_below n at here) ≡ object_below m there' here'
-  unfolding there' here' r'
   object_below_is = map_or (rename_node f) here.object (then_some (hangs at.facts here) (new_blank n at))
       ∙ ap (option_or (option_map (rename_node f) here.object)) (map_then (rename_node f) (hangs at.facts here) (new_blank n at) ∙ ap₂ then_some hangs_is (ap Blank k.made))
 
   hanging_is : (owner : O) → map (rename_hanging g) (hanging_of n at here owner) ≡ hanging_of m there' here' (g owner)
-  unfolding there'
   hanging_is owner = map-append (rename_hanging g) (map (cond at.facts.inlist (InList owner) Forward) (listed at.facts.rel)) (map Reverse (listed at.facts.rev))
       ∙ ap₂ ◌++◌ (rel_is g at.facts.inlist owner (listed at.facts.rel)) (rev_is g (listed at.facts.rev))
 
-  handed_is : rename_inherited f g (handed n at here) ≡ handed m there' here'
-  unfolding there' here' r'
-  handed_is =
+  pub handed_rename : rename_inherited f g (handed n at here) ≡ handed m (rename_standing f g at) (rename_resources f here)
+  handed_rename =
       map_cond (rename_inherited f g) here.skipped at.around (record {
         subject = here.subject;
         object = unwrap_or (object_below n at here) here.subject;
@@ -200,10 +186,6 @@ module _ {B O C P : Type 0} (f : B → C) (g : O → P) (n : Naming B O) (m : Na
             ∙ ap₂ (λ t h. cond t h []) hangs_is (hanging_is (own_owner n at here) ∙ ap (hanging_of m there' here') owner_is)) i;
         owner = (below_owner_is (object_below n at here) (own_owner n at here) ∙ ap₂ (owner_below m there' here') object_below_is owner_is) i;
       })
-
-  pub handed_rename : rename_inherited f g (handed n at here) ≡ handed m (rename_standing f g at) (rename_resources f here)
-  unfolding there' here'
-  handed_rename = handed_is
 
 pub below_rename : {B O C P : Type 0} (f : B → C) (g : O → P) (n : Naming B O) (m : Naming C P) (base : Chars) (at : Standing B O) → AgreeAt f g n m at.facts at.path
     → rename_inherited f g (below n base at) ≡ below m base (rename_standing f g at)

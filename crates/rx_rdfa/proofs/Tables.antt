@@ -1,128 +1,76 @@
 -- The law of tables.
-use Rattle.rx_rdfa.proofs.Common.{◌≡◌, cond, Bool, true, false, List, [], ◌∷◌, ◌++◌, map, filter, filter_map, Option, Some, None, bytes_eq, option_to_list, refl, sym, ap, ap₂, ◌∙◌, subst, inl, inr, true≢false, append_assoc, append-nil, not, ◌||◌, map-append, cons_option, filter-append, filter_map-append, Chars, Among, IsExact, contains, distinct, Among_of_filter, false_unless, Among-contains, Among_distinct, exact_texts, Entry, lists, items}
-use Rattle.rx_rdfa.specs.Tables.{Table, put, table_from, table_of, TablesAreLists}
+use Rattle.rx_model.proofs.Common.{◌≡◌, Bool, true, false, cond, List, [], ◌∷◌, ◌++◌, map, filter, filter_map, Option, Some, None, bytes_eq, option_to_list, refl, sym, ap, ap₂, ◌∙◌, append_assoc, append-nil, true≢false, not, ◌&&◌, cons_option, by_test, same_truth, Chars, false_unless, exact_texts}
+use Rattle.std.proofs.lemmas.List.Elements.{filter_agree}
+use Rattle.rx_rdfa.specs.Lists.{Entry, lists, items}
+use Rattle.rx_rdfa.specs.Tables.{Table, put, table_from, TablesAreLists}
 
--- no two are alike
-abbrev Apart : {A : Type 0} → List A → Type 0
-Apart [] = Unit {0}
-Apart (x ∷ xs) = (¬ (Among xs x)) × Apart xs
+flipped : (a b : Chars) → bytes_eq a b ≡ bytes_eq b a
+flipped a b = same_truth (bytes_eq a b) (bytes_eq b a) (λ h. (exact_texts b a).1 (sym ((exact_texts a b).0 h))) (λ h. (exact_texts a b).1 (sym ((exact_texts b a).0 h)))
 
-module _ {A : Type 0} (same : A → A → Bool) (exact : IsExact same) where
-  apart_filter : (p : A → Bool) (xs : List A) → Apart xs → Apart (filter p xs)
-  apart_filter p [] h = tt
-  apart_filter p (x ∷ xs) h = go (p x) ((λ m. h.0 (Among_of_filter p xs x m).0), apart_filter p xs h.1)
-    where
-      go : (b : Bool) → (¬ (Among (filter p xs) x)) × Apart (filter p xs) → Apart (cond b (x ∷ filter p xs) (filter p xs))
-      go true k = k
-      go false k = k.1
+of_item : {T : Type 0} (item : Option T) (xs : List T) → option_to_list item ++ xs ≡ cons_option item xs
+of_item None xs = refl
+of_item (Some x) xs = refl
 
-  apart_distinct : (xs : List A) → Apart (distinct same xs)
-  apart_distinct [] = tt
-  apart_distinct (x ∷ xs) = ((λ m. let r = Among_of_filter (λ y. not (same x y)) (distinct same xs) x m in true≢false (sym r.1 ∙ ap not ((exact x x).1 refl))), apart_filter (λ y. not (same x y)) (distinct same xs) (apart_distinct xs))
+and_turned : (a b : Bool) → (a && b) ≡ (b && a)
+and_turned true true = refl
+and_turned false false = refl
+and_turned _ _ = refl
 
-  contains_filter : (p : A → Bool) (xs : List A) (a : A) → p a ≡ true → contains same (filter p xs) a ≡ contains same xs a
-  contains_filter p [] a h = refl
-  contains_filter p (x ∷ xs) a h = go (p x) refl (same x a) refl (contains_filter p xs a h)
-    where
-      go : (b : Bool) → p x ≡ b → (c : Bool) → same x a ≡ c → contains same (filter p xs) a ≡ contains same xs a → contains same (cond b (x ∷ filter p xs) (filter p xs)) a ≡ (same x a || contains same xs a)
-      go true e c q ih = ap (λ z. same x a || z) ih
-      go false e true q ih = absurd (true≢false (sym h ∙ ap p (sym ((exact x a).0 q)) ∙ e))
-      go false e false q ih = ih ∙ sym (ap (λ z. z || contains same xs a) q)
+-- what passes one test and then another passes both
+filter_both : {A : Type 0} (p q r : A → Bool) → ((x : A) → r x ≡ (q x && p x)) → (xs : List A) → filter p (filter q xs) ≡ filter r xs
+filter_both p q r k [] = refl
+filter_both p q r k (x ∷ xs) = by_test (q x) (λ t. rw (k x, t) (ap (λ z. cond (p x) (x ∷ z) z) (filter_both p q r k xs))) (λ t. rw (k x, t) (filter_both p q r k xs))
 
-  -- one more at the end
-  distinct_more : (xs : List A) (a : A) → distinct same (xs ++ a ∷ []) ≡ cond (contains same (distinct same xs) a) (distinct same xs) (distinct same xs ++ a ∷ [])
-  distinct_more [] a = refl
-  distinct_more (x ∷ xs) a = ap (λ z. x ∷ filter (λ y. not (same x y)) z) (distinct_more xs a) ∙ go (same x a) refl (contains same (distinct same xs) a) refl
-    where
-      D : List A
-      D = distinct same xs
+map_kept : {A B : Type 0} (f g : A → B) (p : A → Bool) → ((x : A) → p x ≡ true → f x ≡ g x) → (xs : List A) → map f (filter p xs) ≡ map g (filter p xs)
+map_kept f g p k [] = refl
+map_kept f g p k (x ∷ xs) = by_test (p x) (λ t. rw t (ap₂ ◌∷◌ (k x t) (map_kept f g p k xs))) (λ t. rw t (map_kept f g p k xs))
 
-      F : List A → List A
-      F ys = filter (λ y. not (same x y)) ys
-
-      go : (b : Bool) → same x a ≡ b → (c : Bool) → contains same (distinct same xs) a ≡ c
-          → x ∷ filter (λ y. not (same x y)) (cond (contains same (distinct same xs) a) (distinct same xs) (distinct same xs ++ a ∷ []))
-          ≡ cond (same x a || contains same (filter (λ y. not (same x y)) (distinct same xs)) a) (x ∷ filter (λ y. not (same x y)) (distinct same xs)) (x ∷ (filter (λ y. not (same x y)) (distinct same xs) ++ a ∷ []))
-      go true e true q = rw (e, q) refl
-      go true e false q = rw (e, q) (ap (λ z. x ∷ z) (filter-append (λ y. not (same x y)) (distinct same xs) (a ∷ []) ∙ ap (λ b. filter (λ y. not (same x y)) (distinct same xs) ++ cond (not b) (a ∷ []) []) e ∙ append-nil (filter (λ y. not (same x y)) (distinct same xs))))
-      go false e true q = rw (e, contains_filter (λ y. not (same x y)) (distinct same xs) a (ap not e), q) refl
-      go false e false q = rw (e, contains_filter (λ y. not (same x y)) (distinct same xs) a (ap not e), q)
-          (ap (λ z. x ∷ z) (filter-append (λ y. not (same x y)) (distinct same xs) (a ∷ []) ∙ ap (λ b. filter (λ y. not (same x y)) (distinct same xs) ++ cond (not b) (a ∷ []) []) e))
-
-module _ {T : Type 0} where
-  -- the items with one more at the end of p's
-  abbrev with_more : (f : Chars → List T) (p : Chars) (item : Option T) → Chars → List T
-  with_more f p item q = f q ++ cond (bytes_eq p q) (option_to_list item) []
-
-  abbrev rows : (f : Chars → List T) → List Chars → Table T
-  rows f ks = map (λ q. (q, f q)) ks
-
-  others_same : (f : Chars → List T) (p : Chars) (item : Option T) (ks : List Chars) → ¬ (Among ks p) → rows (with_more f p item) ks ≡ rows f ks
-  others_same f p item [] n = refl
-  others_same f p item (k ∷ ks) n = ap₂ ◌∷◌ (rw (false_unless (bytes_eq p k) (λ h. n (inl (sym ((exact_texts p k).0 h))))) (ap (λ (z : List T). (k, z)) (append-nil (f k)))) (others_same f p item ks (λ m. n (inr m)))
-
-  put_rows : (f : Chars → List T) (p : Chars) (item : Option T) (ks : List Chars) → Apart ks → put p item (rows f ks) ≡ cond (contains bytes_eq ks p) (rows (with_more f p item) ks) (rows (with_more f p item) ks ++ (p, option_to_list item) ∷ [])
-  put_rows f p item [] h = refl
-  put_rows f p item (k ∷ ks) h = go (bytes_eq k p) refl (contains bytes_eq ks p) refl (put_rows f p item ks h.1)
-    where
-      kept : bytes_eq k p ≡ false → ◌≡◌ {A = Chars × List T} (k, f k) (k, with_more f p item k)
-      kept e = rw (false_unless (bytes_eq p k) (λ h. true≢false (sym ((exact_texts k p).1 (sym ((exact_texts p k).0 h))) ∙ e))) (ap (λ (z : List T). (k, z)) (sym (append-nil (f k))))
-
-      go : (b : Bool) → bytes_eq k p ≡ b → (c : Bool) → contains bytes_eq ks p ≡ c → put p item (rows f ks) ≡ cond (contains bytes_eq ks p) (rows (with_more f p item) ks) (rows (with_more f p item) ks ++ (p, option_to_list item) ∷ [])
-          → cond (bytes_eq k p) ((k, f k ++ option_to_list item) ∷ rows f ks) ((k, f k) ∷ put p item (rows f ks))
-          ≡ cond (bytes_eq k p || contains bytes_eq ks p) ((k, with_more f p item k) ∷ rows (with_more f p item) ks) ((k, with_more f p item k) ∷ (rows (with_more f p item) ks ++ (p, option_to_list item) ∷ []))
-      go true e c q ih = rw (e, (exact_texts p k).1 (sym ((exact_texts k p).0 e))) (ap (λ z. (k, f k ++ option_to_list item) ∷ z) (sym (others_same f p item ks (λ m. h.0 (subst (Among ks) (sym ((exact_texts k p).0 e)) m)))))
-      go false e true q ih = rw (e, q) (ap₂ ◌∷◌ (kept e) (ih ∙ ap (λ b. cond b (rows (with_more f p item) ks) (rows (with_more f p item) ks ++ (p, option_to_list item) ∷ [])) q))
-      go false e false q ih = rw (e, q) (ap₂ ◌∷◌ (kept e) (ih ∙ ap (λ b. cond b (rows (with_more f p item) ks) (rows (with_more f p item) ks ++ (p, option_to_list item) ∷ [])) q))
-
-  of_item : (item : Option T) → option_to_list item ≡ cons_option item []
-  of_item None = refl
-  of_item (Some x) = refl
-
-  rows_alike : (f g : Chars → List T) (ks : List Chars) → ((q : Chars) → f q ≡ g q) → rows f ks ≡ rows g ks
-  rows_alike f g [] h = refl
-  rows_alike f g (k ∷ ks) h = ap₂ ◌∷◌ (ap (λ (z : List T). (k, z)) (h k)) (rows_alike f g ks h)
+abbrev others : Chars → Chars → Bool
+others p q = not (bytes_eq p q)
 
 module _ {O T : Type 0} where
-  -- the items when one more entry is at the end
-  items_more : (q : Chars) (xs : List (Entry O T)) (e : Entry O T) → items q (xs ++ e ∷ []) ≡ with_more (λ q. items q xs) e.predicate e.item q
-  items_more q xs e =
-      ap (filter_map (λ (x : Entry O T). x.item)) (filter-append (λ (x : Entry O T). bytes_eq x.predicate q) xs (e ∷ []))
-      ∙ filter_map-append (λ (x : Entry O T). x.item) (filter (λ x. bytes_eq x.predicate q) xs) (cond (bytes_eq e.predicate q) (e ∷ []) [])
-      ∙ ap (λ z. items q xs ++ z) (go (bytes_eq e.predicate q))
+  -- the entries whose predicates pass the test
+  abbrev kept : (Chars → Bool) → List (Entry O T) → List (Entry O T)
+  kept P ys = filter (λ (e : Entry O T). P e.predicate) ys
+
+  -- the first row takes its items, and the rows below the entries of other predicates
+  first_row : (p : Chars) (vs : List T) (t : Table T) (ys : List (Entry O T)) → table_from ((p, vs) ∷ t) ys ≡ (p, vs ++ items p ys) ∷ table_from t (kept (others p) ys)
+  first_row p vs t [] = ap (λ (z : List T). (p, z) ∷ t) (sym (append-nil vs))
+  first_row p vs t (e ∷ ys) = by_test (bytes_eq p e.predicate)
+      (λ h. rw (flipped e.predicate p, h) (first_row p (vs ++ option_to_list e.item) t ys
+      ∙ ap (λ (z : List T). (p, z) ∷ table_from t (kept (others p) ys)) (append_assoc vs (option_to_list e.item) (items p ys) ∙ ap (λ z. vs ++ z) (of_item e.item (items p ys)))))
+      (λ h. rw (flipped e.predicate p, h) (first_row p vs (put e.predicate e.item t) ys))
+
+  items_kept : (P : Chars → Bool) (p : Chars) → P p ≡ true → (ys : List (Entry O T)) → items p (kept P ys) ≡ items p ys
+  items_kept P p h ys = ap (filter_map (λ (e : Entry O T). e.item))
+      (filter_both (λ (e : Entry O T). bytes_eq e.predicate p) (λ (e : Entry O T). P e.predicate) (λ (e : Entry O T). bytes_eq e.predicate p) (λ e. of (bytes_eq e.predicate p) (P e.predicate) (λ t. ap P ((exact_texts e.predicate p).0 t) ∙ h)) ys)
     where
-      go : (b : Bool) → filter_map (λ (x : Entry O T). x.item) (cond b (e ∷ []) []) ≡ cond b (option_to_list e.item) []
-      go true = sym (of_item e.item)
-      go false = refl
+      of : (a b : Bool) → (a ≡ true → b ≡ true) → a ≡ (b && a)
+      of true b k = sym (rw (k refl) refl)
+      of false true k = refl
+      of false false k = refl
 
-  no_items : (p : Chars) (xs : List (Entry O T)) → ¬ (Among (map (λ (x : Entry O T). x.predicate) xs) p) → items p xs ≡ []
-  no_items p [] n = refl
-  no_items p (x ∷ xs) n = rw (false_unless (bytes_eq x.predicate p) (λ h. n (inl ((exact_texts x.predicate p).0 h)))) (no_items p xs (λ m. n (inr m)))
-
-  put_more : (xs : List (Entry O T)) (e : Entry O T) → put e.predicate e.item (table_of xs) ≡ table_of (xs ++ e ∷ [])
-  put_more xs e =
+  table_kept : (P : Chars → Bool) (ys : List (Entry O T)) → table_from [] (kept P ys) ≡ map (λ q. (q, items q ys)) (filter P (lists ys))
+  table_kept P [] = refl
+  table_kept P (e ∷ ys) =
       let p : Chars = e.predicate in
-      let f : Chars → List T = λ q. items q xs in
-      let names : List Chars = map (λ (x : Entry O T). x.predicate) xs in
-      put_rows f p e.item (distinct bytes_eq names) (apart_distinct bytes_eq exact_texts names)
-      ∙ go (contains bytes_eq (distinct bytes_eq names) p) refl
-      ∙ ap (λ ks. map (λ q. (q, items q (xs ++ e ∷ []))) ks) (sym (distinct_more bytes_eq exact_texts names p) ∙ ap (distinct bytes_eq) (sym (map-append (λ (x : Entry O T). x.predicate) xs (e ∷ []))))
-    where
-      fresh : contains bytes_eq (lists xs) e.predicate ≡ false → option_to_list e.item ≡ items e.predicate (xs ++ e ∷ [])
-      fresh q = sym (items_more e.predicate xs e ∙ ap₂ (λ a b. a ++ cond b (option_to_list e.item) [])
-          (no_items e.predicate xs (λ m. true≢false (sym (Among-contains bytes_eq exact_texts (lists xs) e.predicate (Among_distinct bytes_eq exact_texts (map (λ (x : Entry O T). x.predicate) xs) e.predicate m)) ∙ q)))
-          ((exact_texts e.predicate e.predicate).1 refl))
+      let both : Chars → Bool = λ q. P q && others p q in
+      let row : Chars → Chars × List T = λ q. (q, items q (e ∷ ys)) in
+      let rest : table_from [] (kept both ys) ≡ map row (filter P (filter (others p) (lists ys))) =
+      table_kept both ys
+      ∙ map_kept (λ q. (q, items q ys)) row both (λ q h. rw (false_unless (bytes_eq p q) (λ t. true≢false (sym h ∙ rw t (and_turned (P q) false)))) refl) (lists ys)
+      ∙ ap (map row) (sym (filter_both P (others p) both (λ q. and_turned (P q) (others p q)) (lists ys)))
+      in
+      by_test (P p)
+      (λ h. rw (h, (exact_texts p p).1 refl) (first_row p (option_to_list e.item) [] (kept P ys)
+      ∙ ap₂ (λ (z : List T) (w : Table T). (p, z) ∷ w) (ap (λ z. option_to_list e.item ++ z) (items_kept P p h ys) ∙ of_item e.item (items p ys))
+      (ap (table_from []) (filter_both (λ (e : Entry O T). others p e.predicate) (λ (e : Entry O T). P e.predicate) (λ (e : Entry O T). both e.predicate) (λ e. refl) ys) ∙ rest)))
+      (λ h. rw h (ap (table_from []) (filter_agree (λ (e : Entry O T). P e.predicate) (λ (e : Entry O T). both e.predicate)
+      (λ e. by_test (bytes_eq p e.predicate) (λ t. rw (t, ap P (sym ((exact_texts p e.predicate).0 t)) ∙ h) refl) (λ t. rw t (and_turned true (P e.predicate)))) ys) ∙ rest))
 
-      go : (c : Bool) → contains bytes_eq (lists xs) e.predicate ≡ c
-          → cond (contains bytes_eq (lists xs) e.predicate) (rows (with_more (λ q. items q xs) e.predicate e.item) (lists xs)) (rows (with_more (λ q. items q xs) e.predicate e.item) (lists xs) ++ (e.predicate, option_to_list e.item) ∷ [])
-          ≡ rows (λ q. items q (xs ++ e ∷ [])) (cond (contains bytes_eq (lists xs) e.predicate) (lists xs) (lists xs ++ e.predicate ∷ []))
-      go true q = rw q (rows_alike (with_more (λ q. items q xs) e.predicate e.item) (λ q. items q (xs ++ e ∷ [])) (lists xs) (λ k. sym (items_more k xs e)))
-      go false q = rw q (ap₂ ◌++◌ (rows_alike (with_more (λ q. items q xs) e.predicate e.item) (λ q. items q (xs ++ e ∷ [])) (lists xs) (λ k. sym (items_more k xs e))) (ap (λ (z : List T). (e.predicate, z) ∷ []) (fresh q))
-          ∙ sym (map-append (λ (q : Chars). (q, items q (xs ++ e ∷ []))) (lists xs) (e.predicate ∷ [])))
-
-table_by : {O T : Type 0} (xs ys : List (Entry O T)) → table_from (table_of xs) ys ≡ table_of (xs ++ ys)
-table_by xs [] = ap table_of (sym (append-nil xs))
-table_by xs (e ∷ ys) = ap (λ z. table_from z ys) (put_more xs e) ∙ table_by (xs ++ e ∷ []) ys ∙ ap table_of (append_assoc xs (e ∷ []) ys)
+passes : {A : Type 0} (xs : List A) → filter (λ _. true) xs ≡ xs
+passes [] = refl
+passes (x ∷ xs) = ap (λ z. x ∷ z) (passes xs)
 
 pub tables_are_lists : {O T : Type 0} → TablesAreLists O T
-tables_are_lists own = table_by [] own
+tables_are_lists own = ap (table_from []) (sym (passes own)) ∙ table_kept (λ _. true) own ∙ ap (map (λ q. (q, items q own))) (passes (lists own))

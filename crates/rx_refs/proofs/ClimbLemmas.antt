@@ -1,65 +1,27 @@
 -- References that begin with `../`: they take segments off the base's path, and nothing else is worked out.
-use Rattle.rx_terms.proofs.Common.{◌≡◌, ◌∙◌, ℕ, zero, suc, ◌≤◌, Bool, true, false, [], ◌∷◌, ◌++◌, length, sym, ap, refl, arith, Option, Some, None, not, ◌==◌, ◌||◌, ◌&&◌, is_some, and_parts, and_from, or_parts, Chars, is_empty, is_scheme, has_scheme, is_forbidden, has_forbidden, IsIri, by_test}
-use Rattle.std.proofs.lemmas.List.{append_cancel_left, append_assoc, append-nil}
-use Rattle.rx_refs.specs.Parts.{before, from_first, behind_scheme, hierarchical_part, authority_of, path_of, components_of, delimited, recomposed}
+use Rattle.rx_terms.proofs.Common.{◌≡◌, ◌∙◌, ℕ, zero, suc, Bool, true, false, [], ◌∷◌, ◌++◌, length, sym, ap, refl, arith, not, ◌==◌, ◌||◌, ◌&&◌, is_some, and_parts, and_from, or_parts, Chars, is_empty, is_scheme, has_scheme, is_forbidden, has_forbidden, IsIri, by_test}
+use Rattle.std.proofs.lemmas.List.{append_assoc}
+use Rattle.rx_refs.specs.Parts.{before, behind_scheme, hierarchical_part, authority_of, path_of, components_of}
 use Rattle.rx_refs.specs.Dots.{holds, step, without_dots, without_last_segment}
 use Rattle.rx_refs.specs.Segments.{reduced}
-use Rattle.rx_refs.specs.Resolve.{through_last_slash, relative_path, target, cleaned, resolved}
+use Rattle.rx_refs.specs.Resolve.{through_last_slash, relative_path, resolved}
 use Rattle.rx_refs.specs.Plain.{no_dots, is_plain_from, climbs, ups}
 use Rattle.rx_words.proofs.EndLemmas.{same_char}
-use Rattle.rx_refs.proofs.PartLemmas.{before-from}
-use Rattle.rx_refs.proofs.DotLemmas.{at, from_first-shorter, reduced-step}
-use Rattle.rx_refs.proofs.SchemeLemmas.{cut-scheme, scheme-none, uncleaned, before-clean}
+use Rattle.rx_refs.proofs.DotLemmas.{at, reduced-step}
+use Rattle.rx_refs.proofs.SchemeLemmas.{cut-scheme, scheme-none, before-clean, clean-of}
 use Rattle.rx_refs.proofs.TargetLemmas.{relative-merged}
-use Rattle.rx_refs.proofs.WholeLemmas.{components, parts-whole, target-relative}
-use Rattle.rx_refs.proofs.PlainLemmas.{IsCutBase, HasRelative, base-parts, none-some, assembled, clean-both, clean-of, clean-trimmed, plain-clean, plain-dots, no_dot, flipped, dots-rest, dots-bare, dots-kept, hier-lacking}
-
--- A path without dots is moved whole, whatever follows
-
-slash-step : (d : ℕ) (input output : Chars) → (46 == d) ≡ false → step (at (47 ∷ d ∷ input) output) ≡ at (from_first 47 (d ∷ input)) (output ++ 47 ∷ before 47 (d ∷ input))
-unfolding step
-slash-step d input output h = rw h refl
-
-split-slash : (input rest : Chars) → (from_first 47 (input ++ 47 ∷ rest) ≡ from_first 47 input ++ 47 ∷ rest) × (before 47 (input ++ 47 ∷ rest) ≡ before 47 input)
-split-slash [] rest = (refl, refl)
-split-slash (c ∷ input) rest =
-    let r = split-slash input rest in
-    by_test (c == 47) (λ t. (rw t refl, rw t refl)) (λ t. (rw t r.0, rw t (ap (λ x. c ∷ x) r.1)))
-
-pass-step : (c : ℕ) (input rest output : Chars) → no_dots true (c ∷ input) ≡ true
-    → step (at (c ∷ (input ++ 47 ∷ rest)) output) ≡ at (from_first 47 (input ++ 47 ∷ rest)) (output ++ c ∷ before 47 (input ++ 47 ∷ rest))
-pass-step c input rest output h =
-    let p = no_dot c input h in
-    by_test (c == 47) (λ t. rw (same_char c 47 t) (go input (rw t at p.1))) (λ t. dots-bare c (input ++ 47 ∷ rest) output p.0 (flipped c 47 t)) where
-      go : (input : Chars) → no_dots true input ≡ true → step (at (47 ∷ (input ++ 47 ∷ rest)) output) ≡ at (from_first 47 (input ++ 47 ∷ rest)) (output ++ 47 ∷ before 47 (input ++ 47 ∷ rest))
-      go [] h = slash-step 47 rest output refl
-      go (d ∷ input) h = slash-step d (input ++ 47 ∷ rest) output (no_dot d input h).0
-
-pass : (n : ℕ) (input rest output : Chars) → length input ≤ n → no_dots true input ≡ true → reduced (at (input ++ 47 ∷ rest) output) ≡ reduced (at (47 ∷ rest) (output ++ input))
-pass n [] rest output l h = ap (λ (o : Chars). reduced (at (47 ∷ rest) o)) (sym (append-nil output))
-pass zero (c ∷ input) rest output l h = absurd (omega arith)
-pass (suc n) (c ∷ input) rest output l h =
-    let s = split-slash input rest in
-    let left = from_first 47 input in
-    let front = c ∷ before 47 input in
-    let shorter = from_first-shorter 47 input in
-    let later = dots-rest (c == 47) input (no_dot c input h).1 in
-    let moved : at (from_first 47 (input ++ 47 ∷ rest)) (output ++ c ∷ before 47 (input ++ 47 ∷ rest)) ≡ at (left ++ 47 ∷ rest) (output ++ front) = rw (s.0, s.1) refl in
-    reduced-step (c ∷ (input ++ 47 ∷ rest)) output
-    ∙ ap reduced (pass-step c input rest output h ∙ moved)
-    ∙ pass n left rest (output ++ front) (omega arith) later
-    ∙ ap (λ (x : Chars). reduced (at (47 ∷ rest) x)) (append_assoc output front left ∙ ap (λ (x : Chars). output ++ c ∷ x) (before-from 47 input))
+use Rattle.rx_refs.proofs.PlainLemmas.{IsCutBase, HasRelative, base-parts, same-target, clean-both, plain-is, pass, dots-kept, hier-lacking}
 
 -- Each `../` takes a segment
 
 climb : (k : ℕ) (rest path : Chars) → no_dots true rest ≡ true → reduced (at (47 ∷ (climbs k ++ rest)) path) ≡ ups k path ++ 47 ∷ rest
 unfolding step
-climb zero rest path h = dots-kept (length (47 ∷ rest)) (47 ∷ rest) path (omega arith) h
+climb zero rest path h = dots-kept (47 ∷ rest) path h
 climb (suc k) rest path h = reduced-step (47 ∷ 46 ∷ 46 ∷ 47 ∷ (climbs k ++ rest)) path ∙ climb k rest (without_last_segment path) h
 
 pub without-climbs : (k : ℕ) (path rest : Chars) → no_dots true path ≡ true → no_dots true rest ≡ true → without_dots (path ++ 47 ∷ (climbs k ++ rest)) ≡ ups k path ++ 47 ∷ rest
 unfolding reduced without_dots
-without-climbs k path rest h e = pass (length path) path (climbs k ++ rest) [] (omega arith) h ∙ climb k rest path e
+without-climbs k path rest h e = pass (length path) path (47 ∷ (climbs k ++ rest)) [] (omega arith) h refl ∙ climb k rest path e
 
 -- The base's path up to its last `/`
 
@@ -120,30 +82,19 @@ climb-parts k rest =
     let part : hierarchical_part (behind_scheme text) ≡ climbs (suc k) ++ hierarchical_part rest = ap hierarchical_part s.1 ∙ hier-lacking (climbs (suc k)) rest l.0 l.1 in
     record { no_scheme = s.0; no_authority = ap authority_of part; is_path = ap path_of part }
 
-behind-climbs : (d path rest : Chars) (query fragment : Option Chars) → recomposed (components None None (d ++ path) query fragment) ≡ d ++ rest → recomposed (components None None path query fragment) ≡ rest
-behind-climbs d path rest query fragment e =
-    let q = delimited (λ (x : Chars). 63 ∷ x) query in
-    let f = delimited (λ (x : Chars). 35 ∷ x) fragment in
-    append_cancel_left d ((path ++ q) ++ f) rest (sym (regroup d path q f) ∙ e) where
-      regroup : (d path q f : Chars) → ((d ++ path) ++ q) ++ f ≡ d ++ ((path ++ q) ++ f)
-      regroup d path q f = simp append_assoc
-
 -- So a reference of so many `../` and a rest in which nothing is worked out means the base up to the `/` behind what is
 -- left of its path, and that rest. That holds also above the root.
 pub plain-climbs : (base scheme authority path rest : Chars) (k : ℕ) → IsIri base → IsCutBase base scheme authority path → is_plain_from false true rest ≡ true
     → no_dots true (47 ∷ hierarchical_part path) ≡ true
     → resolved base (climbs (suc k) ++ rest) ≡ ((scheme ++ 58 ∷ 47 ∷ 47 ∷ authority) ++ (ups (suc k) (without_last_segment (47 ∷ hierarchical_part path)) ++ 47 ∷ [])) ++ rest
-unfolding resolved
 plain-climbs base scheme authority path rest k iri b plain flat =
-    let text : Chars = climbs (suc k) ++ rest in
     let front : Chars = scheme ++ 58 ∷ 47 ∷ 47 ∷ authority in
     let p : Chars = 47 ∷ hierarchical_part path in
     let x : Chars = without_last_segment p in
     let left : Chars = ups (suc k) x in
     let pre : Chars = left ++ 47 ∷ [] in
     let h : Chars = hierarchical_part rest in
-    let r = components_of text in
-    let parts = climb-parts k rest in
+    let is = plain-is false true rest plain in
     let base_is = base-parts base scheme authority path iri.scheme b in
     let covered : (is_some (components_of base).authority && is_empty (components_of base).path) ≡ false = rw (base_is.is_authority, base_is.is_path) refl in
     let relative : relative_path (components_of base) (climbs (suc k) ++ h) ≡ pre ++ h =
@@ -151,22 +102,10 @@ plain-climbs base scheme authority path rest k iri b plain flat =
     ∙ ap (λ (y : Chars). without_dots (through_last_slash y ++ (climbs (suc k) ++ h))) base_is.is_path
     ∙ ap (λ (y : Chars). without_dots (y ++ (climbs (suc k) ++ h))) (through-without p refl)
     ∙ ap without_dots (append_assoc x (47 ∷ []) (climbs (suc k) ++ h))
-    ∙ without-climbs (suc k) x h (without-flat true p flat) (plain-dots false true rest plain)
+    ∙ without-climbs (suc k) x h (without-flat true p flat) is.1
     ∙ sym (append_assoc left (47 ∷ []) h) in
-    let aims : target (components_of base) r ≡ components (components_of base).scheme (components_of base).authority (relative_path (components_of base) r.path) r.query r.fragment =
-    target-relative (components_of base) r (none-some r.scheme parts.no_scheme) (none-some r.authority parts.no_authority) (ap is_empty parts.is_path) in
-    let now : components (components_of base).scheme (components_of base).authority (relative_path (components_of base) r.path) r.query r.fragment ≡ components (Some scheme) (Some authority) (pre ++ h) r.query r.fragment =
-    same_five _ _ _ _ _ _ r.query r.fragment base_is.is_scheme base_is.is_authority (ap (relative_path (components_of base)) parts.is_path ∙ relative) in
-    let own : recomposed (components None None (climbs (suc k) ++ h) r.query r.fragment) ≡ text = ap recomposed (sym (same_five _ _ _ _ _ _ r.query r.fragment parts.no_scheme parts.no_authority parts.is_path)) ∙ parts-whole text in
-    let whole : recomposed (target (components_of base) r) ≡ (front ++ pre) ++ rest = ap recomposed (aims ∙ now) ∙ assembled scheme authority pre h rest r.query r.fragment (behind-climbs (climbs (suc k)) h rest r.query r.fragment own) in
     let both = clean-of front (47 ∷ path) (ap has_forbidden (sym b.whole) ∙ iri.clean) in
     let part_clean : has_forbidden p ≡ false = before-clean 63 (before 35 (47 ∷ path)) (before-clean 35 (47 ∷ path) both.1) in
     let left_clean : has_forbidden left ≡ false = ups-clean (suc k) x (without-clean p part_clean) in
-    let rest_clean = plain-clean false true rest plain in
-    let text_clean : has_forbidden text ≡ false = clean-both (climbs (suc k)) rest (climbs-lack (suc k)).2 rest_clean in
-    let front_clean : has_forbidden (front ++ pre) ≡ false = clean-both front pre both.0 (clean-both left (47 ∷ []) left_clean refl) in
-    ap (λ (y : Chars). cleaned (recomposed (target (components_of base) (components_of y)))) (clean-trimmed text text_clean)
-    ∙ ap cleaned whole
-    ∙ uncleaned ((front ++ pre) ++ rest) (clean-both (front ++ pre) rest front_clean rest_clean) where
-      same_five : (s t a d : Option Chars) (p q : Chars) (query fragment : Option Chars) → s ≡ t → a ≡ d → p ≡ q → components s a p query fragment ≡ components t d q query fragment
-      same_five s t a d p q query fragment e f g = rw (e, f, g) refl
+    same-target base (climbs (suc k)) rest scheme authority path pre h iri b (climb-parts k rest) refl relative
+    (clean-both front pre both.0 (clean-both left (47 ∷ []) left_clean refl)) (clean-both (climbs (suc k)) rest (climbs-lack (suc k)).2 is.0)

@@ -24,6 +24,11 @@ pub through-none : (text : Chars) → holds 47 text ≡ false → through_last_s
 through-none [] h = refl
 through-none (c ∷ text) h = rw h refl
 
+pub through-rest : (text : Chars) → (rest : Chars) × (text ≡ through_last_slash text ++ rest)
+through-rest [] = ([], refl)
+through-rest (c ∷ text) =
+    by_test (holds 47 (c ∷ text)) (λ t. let r = through-rest text in (r.0, rw t (ap (λ x. c ∷ x) r.1))) (λ t. (c ∷ text, rw t refl))
+
 pub without-slash : (front rest : Chars) → holds 47 rest ≡ false → without_last_segment (front ++ 47 ∷ rest) ≡ front
 without-slash [] rest h = rw h refl
 without-slash (c ∷ front) rest h = rw (holds-at front rest) (ap (λ x. c ∷ x) (without-slash front rest h))

@@ -1,5 +1,5 @@
 -- Where a text is cut at its first `mark`.
-use Rattle.rx_terms.proofs.Common.{◌≡◌, ◌∙◌, ℕ, true, false, [], ◌∷◌, ◌++◌, ap, refl, arith, Option, Some, None, ◌==◌, nat_tests, by_test, Chars, split_at, front_grows}
+use Rattle.rx_terms.proofs.Common.{◌≡◌, ◌∙◌, ℕ, true, false, [], ◌∷◌, ◌++◌, ap, refl, arith, Option, Some, None, ◌==◌, Bool, nat_tests, by_test, Chars, split_at, front_grows, or_parts, and_parts, and_from, list_any, list_all}
 use Rattle.rx_refs.specs.Parts.{before, from_first, behind}
 use Rattle.rx_refs.specs.Dots.{holds}
 use Rattle.rx_words.proofs.EndLemmas.{same_char}
@@ -59,3 +59,18 @@ uncut mark (c ∷ text) h =
     by_test (c == mark) (λ t. let g : true ≡ false = rw t at h in absurd (cc g)) (λ t.
     let g = uncut mark text (rw t at h) in
     (rw t (ap (λ x. c ∷ x) g.0), rw t g.1, rw t g.2))
+
+pub before-lacking : (mark : ℕ) (front rest : Chars) → holds mark front ≡ false → before mark (front ++ rest) ≡ front ++ before mark rest
+before-lacking mark [] rest h = refl
+before-lacking mark (c ∷ front) rest h =
+    let p = or_parts (c == mark) (holds mark front) h in
+    rw p.0 (ap (λ x. c ∷ x) (before-lacking mark front rest p.1))
+
+-- what all characters of one class are, and what none of them is
+pub all-of : (class test : ℕ → Bool) → ((c : ℕ) → class c ≡ true → test c ≡ true) → (text : Chars) → list_all class text ≡ true → list_all test text ≡ true
+all-of class test each [] h = refl
+all-of class test each (c ∷ text) h = let p = and_parts (class c) (list_all class text) h in and_from (test c) (list_all test text) (each c p.0) (all-of class test each text p.1)
+
+pub none-of : (class test : ℕ → Bool) → ((c : ℕ) → class c ≡ true → test c ≡ false) → (text : Chars) → list_all class text ≡ true → list_any test text ≡ false
+none-of class test each [] h = refl
+none-of class test each (c ∷ text) h = let p = and_parts (class c) (list_all class text) h in rw (each c p.0) (none-of class test each text p.1)

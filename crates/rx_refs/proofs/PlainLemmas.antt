@@ -1,17 +1,18 @@
 -- What a plain reference means.
 use Rattle.rx_terms.proofs.Common.{◌≡◌, ◌∙◌, ℕ, zero, suc, ◌≤◌, Bool, true, false, [], ◌∷◌, ◌++◌, drop, length, reverse, sym, ap, refl, arith, Option, Some, None, not, ◌==◌, ◌||◌, ◌&&◌, if◌then◌else◌, is_some, codes, list_all, and_parts, and_from, or_parts, nat_tests, list_any-append, option_or, is_white_space, Chars, begins_with, is_empty, trimmed, without_leading_space, is_scheme_char, is_scheme, has_scheme, is_forbidden, has_forbidden, IsIri, begins_with_letter, by_test, untrue}
-use Rattle.std.proofs.lemmas.List.{reverse-append, reverse-reverse, append_assoc, append-nil}
+use Rattle.std.proofs.lemmas.List.{append_cancel_left, reverse-append, reverse-reverse, append_assoc, append-nil}
 use Rattle.rx_refs.specs.Parts.{Components, before, from_first, behind, scheme_of, behind_scheme, hierarchical_part, authority_of, path_of, query_of, components_of, delimited, recomposed}
 use Rattle.rx_refs.specs.Dots.{holds, step, without_dots}
 use Rattle.rx_refs.specs.Segments.{reduced}
 use Rattle.rx_refs.specs.Resolve.{through_last_slash, relative_path, target, cleaned, resolved}
 use Rattle.rx_refs.specs.Plain.{no_dots, ends_path, is_plain_from, is_plain, begins_path, keeps_all, begins_query}
 use Rattle.rx_words.proofs.EndLemmas.{begins-front, same_char}
-use Rattle.rx_refs.proofs.PartLemmas.{before-from, cut-at}
+use Rattle.rx_refs.proofs.PartLemmas.{before-lacking, none-of, before-from, cut-at}
 use Rattle.rx_refs.proofs.DotLemmas.{at, from_first-shorter, reduced-step}
 use Rattle.rx_refs.proofs.RuleLemmas.{reduced-end}
-use Rattle.rx_refs.proofs.CutLemmas.{through-none}
-use Rattle.rx_refs.proofs.SchemeLemmas.{cut-scheme, scheme-cut, scheme-none, has_scheme-cut, uncleaned, before-clean, before-append, no_hash, scheme_chars}
+use Rattle.rx_refs.proofs.CutLemmas.{through-rest, through-none}
+pub use Rattle.rx_refs.proofs.SchemeLemmas.{scheme-clean}
+use Rattle.rx_refs.proofs.SchemeLemmas.{cut-scheme, scheme-cut, scheme-none, has_scheme-cut, uncleaned, before-clean, no_hash, scheme_chars, clean-of}
 use Rattle.rx_refs.proofs.TargetLemmas.{relative-merged}
 use Rattle.rx_refs.proofs.WholeLemmas.{components, parts-whole, target-relative, target-same, target-network, target-absolute, behind-mark, authority-path}
 
@@ -20,28 +21,21 @@ false_true h = absurd (cc h)
 
 -- What the test says
 
-pub plain-clean : (first start : Bool) (text : Chars) → is_plain_from first start text ≡ true → has_forbidden text ≡ false
-plain-clean first start [] h = refl
-plain-clean first start (c ∷ text) h =
-    by_test (is_forbidden c) (λ t. let g : false ≡ true = rw t at h in false_true g) (λ f.
-    by_test (ends_path c) (λ t. rw f (untrue (has_forbidden text) (rw (f, t) at h))) (λ e.
-    by_test (first && c == 58) (λ t. let g : false ≡ true = rw (f, e, t) at h in false_true g) (λ k.
-    by_test (start && c == 46) (λ t. let g : false ≡ true = rw (f, e, k, t) at h in false_true g) (λ d.
-    rw f (plain-clean (if c == 47 then false else first) (c == 47) text (rw (f, e, k, d) at h))))))
-
 no_end : (c : ℕ) → (c == 35) ≡ false → (c == 63) ≡ false → ends_path c ≡ false
 no_end c h k = rw (h, k) refl
 
-pub plain-dots : (first start : Bool) (text : Chars) → is_plain_from first start text ≡ true → no_dots start (hierarchical_part text) ≡ true
-plain-dots first start [] h = refl
-plain-dots first start (c ∷ text) h =
-    by_test (c == 35) (λ t. rw t refl) (λ a.
-    by_test (c == 63) (λ t. rw (a, t) refl) (λ b.
-    let e = no_end c a b in
+-- nothing is forbidden, and no segment begins with `.`
+pub plain-is : (first start : Bool) (text : Chars) → is_plain_from first start text ≡ true → (has_forbidden text ≡ false) × (no_dots start (hierarchical_part text) ≡ true)
+plain-is first start [] h = (refl, refl)
+plain-is first start (c ∷ text) h =
     by_test (is_forbidden c) (λ t. let g : false ≡ true = rw t at h in false_true g) (λ f.
+    by_test (c == 35) (λ t. (rw f (untrue (has_forbidden text) (rw (f, t) at h)), rw t refl)) (λ a.
+    by_test (c == 63) (λ t. (rw f (untrue (has_forbidden text) (rw (f, a, t) at h)), rw (a, t) refl)) (λ b.
+    let e = no_end c a b in
     by_test (first && c == 58) (λ t. let g : false ≡ true = rw (f, e, t) at h in false_true g) (λ k.
     by_test (start && c == 46) (λ t. let g : false ≡ true = rw (f, e, k, t) at h in false_true g) (λ d.
-    rw (a, b, d) (plain-dots (if c == 47 then false else first) (c == 47) text (rw (f, e, k, d) at h)))))))
+    let r = plain-is (if c == 47 then false else first) (c == 47) text (rw (f, e, k, d) at h) in
+    (rw f r.0, rw (a, b, d) r.1))))))
 
 with-colon : (start : Bool) (front rest : Chars) → list_all is_scheme_char front ≡ true → is_plain_from true start (front ++ 58 ∷ rest) ≡ false
 with-colon start [] rest h = refl
@@ -83,39 +77,58 @@ no_dot c text h =
     let p = and_parts (not (c == 46)) (no_dots (c == 47) text) h in
     (flipped c 46 (untrue (c == 46) p.0), p.1)
 
-dots-slash : (input output : Chars) → no_dots true input ≡ true → step (at (47 ∷ input) output) ≡ at (from_first 47 input) (output ++ 47 ∷ before 47 input)
-unfolding step
-dots-slash [] output h = refl
-dots-slash (d ∷ input) output h = rw (no_dot d input h).0 refl
-
 pub dots-bare : (c : ℕ) (input output : Chars) → (46 == c) ≡ false → (47 == c) ≡ false → step (at (c ∷ input) output) ≡ at (from_first 47 input) (output ++ c ∷ before 47 input)
 unfolding step
 dots-bare c input output h k = rw (h, k) refl
 
-dots-step : (c : ℕ) (input output : Chars) → no_dots true (c ∷ input) ≡ true → step (at (c ∷ input) output) ≡ at (from_first 47 input) (output ++ c ∷ before 47 input)
-dots-step c input output h =
-    let p = no_dot c input h in
-    by_test (c == 47) (λ t.
-    let rest : no_dots true input ≡ true = rw t at p.1 in
-    rw (same_char c 47 t) (dots-slash input output rest)) (λ t. dots-bare c input output p.0 (flipped c 47 t))
+-- a text without dots is moved whole, where nothing follows or a `/`
 
-pub dots-kept : (n : ℕ) (input output : Chars) → length input ≤ n → no_dots true input ≡ true → reduced (at input output) ≡ output ++ input
-dots-kept n [] output l h = reduced-end output ∙ sym (append-nil output)
-dots-kept zero (c ∷ input) output l h = absurd (omega arith)
-dots-kept (suc n) (c ∷ input) output l h =
-    let rest = from_first 47 input in
+abbrev not_dot : Chars → Bool
+not_dot [] = true
+not_dot (d ∷ text) = not (46 == d)
+
+slash-step : (text output : Chars) → not_dot text ≡ true → step (at (47 ∷ text) output) ≡ at (from_first 47 text) (output ++ 47 ∷ before 47 text)
+unfolding step
+slash-step [] output h = refl
+slash-step (d ∷ text) output h = rw (untrue (46 == d) h) refl
+
+split-slash : (input after : Chars) → before 47 after ≡ [] → (from_first 47 (input ++ after) ≡ from_first 47 input ++ after) × (before 47 (input ++ after) ≡ before 47 input)
+split-slash [] after b = (ap (λ (x : Chars). x ++ from_first 47 after) (sym b) ∙ before-from 47 after, b)
+split-slash (c ∷ input) after b =
+    let r = split-slash input after b in
+    by_test (c == 47) (λ t. (rw t refl, rw t refl)) (λ t. (rw t r.0, rw t (ap (λ x. c ∷ x) r.1)))
+
+pass-step : (c : ℕ) (input after output : Chars) → no_dots true (c ∷ input) ≡ true → before 47 after ≡ []
+    → step (at (c ∷ (input ++ after)) output) ≡ at (from_first 47 (input ++ after)) (output ++ c ∷ before 47 (input ++ after))
+pass-step c input after output h b =
+    let p = no_dot c input h in
+    by_test (c == 47) (λ t. rw (same_char c 47 t) (slash-step (input ++ after) output (go input after (rw t at p.1) b))) (λ t. dots-bare c (input ++ after) output p.0 (flipped c 47 t)) where
+      go : (input after : Chars) → no_dots true input ≡ true → before 47 after ≡ [] → not_dot (input ++ after) ≡ true
+      go [] [] h b = refl
+      go [] (d ∷ after) h b = by_test (d == 47) (λ t. let e = same_char d 47 t in rw e refl) (λ t. let g : d ∷ before 47 after ≡ [] = rw t at b in absurd (cc g))
+      go (d ∷ input) after h b = rw (no_dot d input h).0 refl
+
+pub pass : (n : ℕ) (input after output : Chars) → length input ≤ n → no_dots true input ≡ true → before 47 after ≡ [] → reduced (at (input ++ after) output) ≡ reduced (at after (output ++ input))
+pass n [] after output l h b = ap (λ (o : Chars). reduced (at after o)) (sym (append-nil output))
+pass zero (c ∷ input) after output l h b = absurd (omega arith)
+pass (suc n) (c ∷ input) after output l h b =
+    let s = split-slash input after b in
+    let left = from_first 47 input in
     let front = c ∷ before 47 input in
     let shorter = from_first-shorter 47 input in
     let later = dots-rest (c == 47) input (no_dot c input h).1 in
-    reduced-step (c ∷ input) output
-    ∙ ap reduced (dots-step c input output h)
-    ∙ dots-kept n rest (output ++ front) (omega arith) later
-    ∙ append_assoc output front rest
-    ∙ ap (λ (x : Chars). output ++ c ∷ x) (before-from 47 input)
+    let moved : at (from_first 47 (input ++ after)) (output ++ c ∷ before 47 (input ++ after)) ≡ at (left ++ after) (output ++ front) = rw (s.0, s.1) refl in
+    reduced-step (c ∷ (input ++ after)) output
+    ∙ ap reduced (pass-step c input after output h b ∙ moved)
+    ∙ pass n left after (output ++ front) (omega arith) later b
+    ∙ ap (λ (x : Chars). reduced (at after x)) (append_assoc output front left ∙ ap (λ (x : Chars). output ++ c ∷ x) (before-from 47 input))
+
+pub dots-kept : (input output : Chars) → no_dots true input ≡ true → reduced (at input output) ≡ output ++ input
+dots-kept input output h = ap (λ (x : Chars). reduced (at x output)) (sym (append-nil input)) ∙ pass (length input) input [] output (omega arith) h refl ∙ reduced-end (output ++ input)
 
 pub without-dots : (path : Chars) → no_dots true path ≡ true → without_dots path ≡ path
 unfolding reduced without_dots
-without-dots path h = dots-kept (length path) path [] (omega arith) h
+without-dots path h = dots-kept path [] h
 
 -- behind a path up to its last `/`
 pub dots-join : (start : Bool) (path rest : Chars) → no_dots start path ≡ true → holds 47 path ≡ true → no_dots true rest ≡ true → no_dots start (through_last_slash path ++ rest) ≡ true
@@ -153,12 +166,6 @@ clean-trimmed text h =
     ap (λ (x : Chars). reverse (without_leading_space (reverse x))) (clean-front text h) ∙ ap reverse (clean-front (reverse text) (clean-reverse text h)) ∙ reverse-reverse text
 
 -- The parts of a base
-
-pub before-lacking : (mark : ℕ) (front rest : Chars) → holds mark front ≡ false → before mark (front ++ rest) ≡ front ++ before mark rest
-before-lacking mark [] rest h = refl
-before-lacking mark (c ∷ front) rest h =
-    let p = or_parts (c == mark) (holds mark front) h in
-    rw p.0 (ap (λ x. c ∷ x) (before-lacking mark front rest p.1))
 
 pub hier-lacking : (front rest : Chars) → holds 35 front ≡ false → holds 63 front ≡ false → hierarchical_part (front ++ rest) ≡ front ++ hierarchical_part rest
 hier-lacking front rest h k = ap (before 63) (before-lacking 35 front rest h) ∙ before-lacking 63 front (before 35 rest) k
@@ -223,9 +230,6 @@ plain-parts text h k =
       is_path = ap path_of part ∙ rw none refl;
     }
 
-pub none-some : (o : Option Chars) → o ≡ None → is_some o ≡ false
-none-some o e = ap is_some e
-
 regroup : (s c a pre path q f : Chars) → ((((s ++ c) ++ a) ++ (pre ++ path)) ++ q) ++ f ≡ ((s ++ (c ++ a)) ++ pre) ++ ((path ++ q) ++ f)
 regroup s c a pre path q f = simp append_assoc
 
@@ -239,31 +243,37 @@ assembled scheme authority pre path text query fragment e =
 pub clean-both : (a b : Chars) → has_forbidden a ≡ false → has_forbidden b ≡ false → has_forbidden (a ++ b) ≡ false
 clean-both a b h k = list_any-append is_forbidden a b ∙ rw (h, k) refl
 
-pub clean-of : (a b : Chars) → has_forbidden (a ++ b) ≡ false → (has_forbidden a ≡ false) × (has_forbidden b ≡ false)
-clean-of a b h = or_parts (has_forbidden a) (has_forbidden b) (sym (list_any-append is_forbidden a b) ∙ h)
-
-same-target : (base text scheme authority rest pre : Chars) → IsIri base → IsCutBase base scheme authority rest → is_plain text ≡ true → begins_with (codes "//") text ≡ false
-    → is_empty (hierarchical_part text) ≡ false → relative_path (components_of base) (hierarchical_part text) ≡ pre ++ hierarchical_part text → has_forbidden ((scheme ++ 58 ∷ 47 ∷ 47 ∷ authority) ++ pre) ≡ false
-    → resolved base text ≡ ((scheme ++ 58 ∷ 47 ∷ 47 ∷ authority) ++ pre) ++ text
+-- a text without forbidden characters is taken as it is, and so is what it leads to
+pub means : (base text whole : Chars) → has_forbidden text ≡ false → has_forbidden whole ≡ false → recomposed (target (components_of base) (components_of text)) ≡ whole → resolved base text ≡ whole
 unfolding resolved
-same-target base text scheme authority rest pre iri b plain slashes some relative clean =
+means base text whole clean all is =
+    ap (λ (x : Chars). cleaned (recomposed (target (components_of base) (components_of x)))) (clean-trimmed text clean) ∙ ap cleaned is ∙ uncleaned whole all
+
+-- a reference of dot segments and what stands behind them, which leave a front of the base
+pub same-target : (base d text scheme authority rest pre path : Chars) → IsIri base → IsCutBase base scheme authority rest → HasRelative (components_of (d ++ text)) (d ++ path)
+    → is_empty (d ++ path) ≡ false → relative_path (components_of base) (d ++ path) ≡ pre ++ path → has_forbidden ((scheme ++ 58 ∷ 47 ∷ 47 ∷ authority) ++ pre) ≡ false → has_forbidden (d ++ text) ≡ false
+    → resolved base (d ++ text) ≡ ((scheme ++ 58 ∷ 47 ∷ 47 ∷ authority) ++ pre) ++ text
+same-target base d text scheme authority rest pre path iri b parts some relative clean whole =
     let front : Chars = (scheme ++ 58 ∷ 47 ∷ 47 ∷ authority) ++ pre in
-    let no = plain-clean true true text plain in
-    let r = components_of text in
-    let parts = plain-parts text plain slashes in
+    let o = components_of base in
+    let r = components_of (d ++ text) in
     let base_is = base-parts base scheme authority rest iri.scheme b in
-    let path = hierarchical_part text in
-    let aims : target (components_of base) r ≡ components (components_of base).scheme (components_of base).authority (relative_path (components_of base) r.path) r.query r.fragment =
-    target-relative (components_of base) r (none-some r.scheme parts.no_scheme) (none-some r.authority parts.no_authority) (ap is_empty parts.is_path ∙ some) in
-    let now : components (components_of base).scheme (components_of base).authority (relative_path (components_of base) r.path) r.query r.fragment ≡ components (Some scheme) (Some authority) (pre ++ path) r.query r.fragment =
-    same_five _ _ _ _ _ _ r.query r.fragment base_is.is_scheme base_is.is_authority (ap (relative_path (components_of base)) parts.is_path ∙ relative) in
-    let own : recomposed (components None None path r.query r.fragment) ≡ text = ap recomposed (sym (same_five _ _ _ _ _ _ r.query r.fragment parts.no_scheme parts.no_authority parts.is_path)) ∙ parts-whole text in
-    let whole : recomposed (target (components_of base) r) ≡ front ++ text = ap recomposed (aims ∙ now) ∙ assembled scheme authority pre path text r.query r.fragment own in
-    ap (λ (x : Chars). cleaned (recomposed (target (components_of base) (components_of x)))) (clean-trimmed text no)
-    ∙ ap cleaned whole
-    ∙ uncleaned (front ++ text) (clean-both front text clean no) where
+    let aims : target o r ≡ components o.scheme o.authority (relative_path o r.path) r.query r.fragment =
+    target-relative o r (ap is_some parts.no_scheme) (ap is_some parts.no_authority) (ap is_empty parts.is_path ∙ some) in
+    let now : components o.scheme o.authority (relative_path o r.path) r.query r.fragment ≡ components (Some scheme) (Some authority) (pre ++ path) r.query r.fragment =
+    same_five _ _ _ _ _ _ r.query r.fragment base_is.is_scheme base_is.is_authority (ap (relative_path o) parts.is_path ∙ relative) in
+    let own : recomposed (components None None (d ++ path) r.query r.fragment) ≡ d ++ text = ap recomposed (sym (same_five _ _ _ _ _ _ r.query r.fragment parts.no_scheme parts.no_authority parts.is_path)) ∙ parts-whole (d ++ text) in
+    means base (d ++ text) (front ++ text) whole (clean-both front text clean (clean-of d text whole).1)
+    (ap recomposed (aims ∙ now) ∙ assembled scheme authority pre path text r.query r.fragment (behind-dots d path text r.query r.fragment own)) where
       same_five : (s t a d : Option Chars) (p q : Chars) (query fragment : Option Chars) → s ≡ t → a ≡ d → p ≡ q → components s a p query fragment ≡ components t d q query fragment
       same_five s t a d p q query fragment e f g = rw (e, f, g) refl
+
+      behind-dots : (d path rest : Chars) (query fragment : Option Chars) → recomposed (components None None (d ++ path) query fragment) ≡ d ++ rest → recomposed (components None None path query fragment) ≡ rest
+      behind-dots d path rest query fragment e =
+          let q = delimited (λ (x : Chars). 63 ∷ x) query in
+          let f = delimited (λ (x : Chars). 35 ∷ x) fragment in
+          let regrouped : ((d ++ path) ++ q) ++ f ≡ d ++ ((path ++ q) ++ f) = simp append_assoc in
+          append_cancel_left d ((path ++ q) ++ f) rest (sym regrouped ∙ e)
 
 -- a reference that begins with one `/`
 pub plain-rooted : (base text scheme authority rest : Chars) → IsIri base → IsCutBase base scheme authority rest → is_plain text ≡ true → begins_with (codes "//") text ≡ false
@@ -272,17 +282,12 @@ plain-rooted base text scheme authority rest iri b plain slashes rooted =
     let front : Chars = scheme ++ 58 ∷ 47 ∷ 47 ∷ authority in
     let r = begins-front (codes "/") text rooted in
     let path : hierarchical_part text ≡ 47 ∷ hierarchical_part r.0 = ap hierarchical_part r.1 in
-    let dots = without-dots (hierarchical_part text) (plain-dots true true text plain) in
+    let is = plain-is true true text plain in
+    let dots = without-dots (hierarchical_part text) is.1 in
     let begins : begins_with (codes "/") (hierarchical_part text) ≡ true = ap (begins_with (codes "/")) path in
     let clean = (clean-of front (47 ∷ rest) (ap has_forbidden (sym b.whole) ∙ iri.clean)).0 in
-    same-target base text scheme authority rest [] iri b plain slashes (ap is_empty path) (rw begins dots) (ap has_forbidden (append-nil front) ∙ clean)
+    same-target base [] text scheme authority rest [] (hierarchical_part text) iri b (plain-parts text plain slashes) (ap is_empty path) (rw begins dots) (ap has_forbidden (append-nil front) ∙ clean) is.0
     ∙ ap (λ (x : Chars). x ++ text) (append-nil front)
-
-through-clean : (text : Chars) → has_forbidden text ≡ false → has_forbidden (through_last_slash text) ≡ false
-through-clean [] h = refl
-through-clean (c ∷ text) h =
-    let p = or_parts (is_forbidden c) (has_forbidden text) h in
-    by_test (holds 47 (c ∷ text)) (λ t. rw (t, p.0) (through-clean text p.1)) (λ t. rw t refl)
 
 path-begins : (text : Chars) → begins_path text ≡ true → (is_empty (hierarchical_part text) ≡ false) × (begins_with (codes "/") (hierarchical_part text) ≡ false) × (begins_with (codes "//") text ≡ false)
 path-begins [] h = absurd (cc h)
@@ -299,147 +304,122 @@ plain-relative base text scheme authority rest iri b plain begins flat =
     let front : Chars = scheme ++ 58 ∷ 47 ∷ 47 ∷ authority in
     let path : Chars = 47 ∷ hierarchical_part rest in
     let t = path-begins text begins in
+    let is = plain-is true true text plain in
     let base_is = base-parts base scheme authority rest iri.scheme b in
     let covered : (is_some (components_of base).authority && is_empty (components_of base).path) ≡ false = rw (base_is.is_authority, base_is.is_path) refl in
     let relative : relative_path (components_of base) (hierarchical_part text) ≡ through_last_slash path ++ hierarchical_part text =
     relative-merged (components_of base) (hierarchical_part text) t.1 covered
     ∙ ap (λ (x : Chars). without_dots (through_last_slash x ++ hierarchical_part text)) base_is.is_path
-    ∙ without-dots (through_last_slash path ++ hierarchical_part text) (dots-join true path (hierarchical_part text) flat refl (plain-dots true true text plain)) in
+    ∙ without-dots (through_last_slash path ++ hierarchical_part text) (dots-join true path (hierarchical_part text) flat refl is.1) in
     let both = clean-of front (47 ∷ rest) (ap has_forbidden (sym b.whole) ∙ iri.clean) in
     let part_clean : has_forbidden path ≡ false = before-clean 63 (before 35 (47 ∷ rest)) (before-clean 35 (47 ∷ rest) both.1) in
-    same-target base text scheme authority rest (through_last_slash path) iri b plain t.2 t.0 relative (clean-both front (through_last_slash path) both.0 (through-clean path part_clean))
+    let through = through-rest path in
+    let through_clean = (clean-of (through_last_slash path) through.0 (ap has_forbidden (sym through.1) ∙ part_clean)).0 in
+    same-target base [] text scheme authority rest (through_last_slash path) (hierarchical_part text) iri b (plain-parts text plain t.2) t.0 relative (clean-both front (through_last_slash path) both.0 through_clean) is.0
 
 -- a reference that is empty or a fragment
+
+-- the scheme of a base, and a front of what stands behind that
+scheme-front : (base : Chars) (f : Chars → Chars) → has_scheme base ≡ true → ((front rest : Chars) → list_all is_scheme_char front ≡ true → f (front ++ 58 ∷ rest) ≡ front ++ 58 ∷ f rest)
+    → delimited (λ (x : Chars). x ++ codes ":") (scheme_of base) ++ f (behind_scheme base) ≡ f base
+scheme-front base f h stays =
+    let c = cut-scheme base h in
+    let s = scheme-cut c.front c.rest c.lacks c.scheme in
+    let scheme : Chars = delimited (λ (x : Chars). x ++ codes ":") (scheme_of base) in
+    let is_scheme : scheme ≡ c.front ++ 58 ∷ [] = ap (λ (x : Option Chars). delimited (λ (y : Chars). y ++ codes ":") x) (ap scheme_of c.whole ∙ s.0) in
+    ap (λ (x : Chars). scheme ++ f x) (ap behind_scheme c.whole ∙ s.1)
+    ∙ ap (λ (x : Chars). x ++ f c.rest) is_scheme
+    ∙ append_assoc c.front (58 ∷ []) (f c.rest)
+    ∙ sym (ap f c.whole ∙ stays c.front c.rest (scheme_chars c.front c.scheme))
+
+path-front : (base : Chars) → has_scheme base ≡ true
+    → (delimited (λ (x : Chars). x ++ codes ":") (components_of base).scheme ++ delimited (λ (x : Chars). codes "//" ++ x) (components_of base).authority) ++ (components_of base).path ≡ hierarchical_part base
+unfolding components_of
+path-front base h =
+    let part : Chars = hierarchical_part (behind_scheme base) in
+    let scheme : Chars = delimited (λ (x : Chars). x ++ codes ":") (scheme_of base) in
+    append_assoc scheme (delimited (λ (x : Chars). codes "//" ++ x) (authority_of part)) (path_of part)
+    ∙ ap (λ (x : Chars). scheme ++ x) (authority-path part)
+    ∙ scheme-front base hierarchical_part h (λ front rest all. hier-lacking front (58 ∷ rest) (no_hash front all) (none-of is_scheme_char (λ c. c == 63) (λ c k. grind (arith, nat_tests)) front all))
 
 base-front : (base : Chars) → has_scheme base ≡ true
     → ((delimited (λ (x : Chars). x ++ codes ":") (components_of base).scheme ++ delimited (λ (x : Chars). codes "//" ++ x) (components_of base).authority) ++ (components_of base).path)
     ++ delimited (λ (x : Chars). codes "?" ++ x) (components_of base).query ≡ before 35 base
 unfolding components_of
 base-front base h =
-    let c = cut-scheme base h in
-    let s = scheme-cut c.front c.rest c.lacks c.scheme in
-    let rest : Chars = behind_scheme base in
-    let front : Chars = before 35 rest in
+    let front : Chars = before 35 (behind_scheme base) in
     let scheme : Chars = delimited (λ (x : Chars). x ++ codes ":") (scheme_of base) in
     let a : Chars = delimited (λ (x : Chars). codes "//" ++ x) (authority_of (before 63 front)) in
     let q : Chars = delimited (λ (x : Chars). 63 ∷ x) (behind 63 front) in
-    let p : Chars = path_of (before 63 front) in
-    let is_scheme : scheme ≡ c.front ++ 58 ∷ [] = ap (λ (x : Option Chars). delimited (λ (y : Chars). y ++ codes ":") x) (ap scheme_of c.whole ∙ s.0) in
-    let is_rest : rest ≡ c.rest = ap behind_scheme c.whole ∙ s.1 in
-    let is_front : before 35 base ≡ c.front ++ 58 ∷ before 35 c.rest = ap (before 35) c.whole ∙ before-append c.front (58 ∷ c.rest) (no_hash c.front (scheme_chars c.front c.scheme)) in
-    grouped scheme a p q
+    grouped scheme a (path_of (before 63 front)) q
     ∙ ap (λ (x : Chars). scheme ++ (x ++ q)) (authority-path (before 63 front))
     ∙ ap (λ (x : Chars). scheme ++ x) (behind-mark 63 front)
-    ∙ ap (λ (x : Chars). scheme ++ before 35 x) is_rest
-    ∙ ap (λ (x : Chars). x ++ before 35 c.rest) is_scheme
-    ∙ append_assoc c.front (58 ∷ []) (before 35 c.rest)
-    ∙ sym is_front where
+    ∙ scheme-front base (before 35) h (λ front rest all. before-lacking 35 front (58 ∷ rest) (no_hash front all)) where
       grouped : (s a p q : Chars) → ((s ++ a) ++ p) ++ q ≡ s ++ ((a ++ p) ++ q)
       grouped s a p q = simp append_assoc
 
-no-query : (text : Chars) → is_plain text ≡ true → keeps_all text ≡ true → (components_of text).query ≡ None
-unfolding components_of
-no-query text h k = ap query_of (scheme-none text (plain-scheme true text h)).1 ∙ go text k where
-  go : (text : Chars) → keeps_all text ≡ true → query_of text ≡ None
-  go [] k = refl
-  go (c ∷ text) k = rw k refl
+-- what a reference without a path leads to, and what is left of it
+record Same (base text : Chars) : Type 0 where
+  leads : target (components_of base) (components_of text)
+      ≡ components (components_of base).scheme (components_of base).authority (components_of base).path (option_or (components_of text).query (components_of base).query) (components_of text).fragment
+  own : delimited (λ (x : Chars). codes "?" ++ x) (components_of text).query ++ delimited (λ (x : Chars). codes "#" ++ x) (components_of text).fragment ≡ text
+  query : (components_of text).query ≡ query_of text
 
-keeps : (text : Chars) → keeps_all text ≡ true → (hierarchical_part text ≡ []) × (begins_with (codes "//") text ≡ false)
-keeps [] k = (refl, refl)
-keeps (c ∷ text) k = let s = same_char c 35 k in rw s (refl, refl)
+same-path : (base text : Chars) → is_plain text ≡ true → hierarchical_part text ≡ [] → begins_with (codes "//") text ≡ false → Same base text
+unfolding components_of
+same-path base text plain empty slashes =
+    let r = components_of text in
+    let parts = plain-parts text plain slashes in
+    let path : r.path ≡ [] = parts.is_path ∙ empty in
+    record {
+      leads = target-same (components_of base) r (ap is_some parts.no_scheme) (ap is_some parts.no_authority) (ap is_empty path);
+      own = alone r.scheme r.authority r.query r.fragment r.path parts.no_scheme parts.no_authority path ∙ parts-whole text;
+      query = ap query_of (scheme-none text (plain-scheme true text plain)).1;
+    } where
+      alone : (s a q fragment : Option Chars) (p : Chars) → s ≡ None → a ≡ None → p ≡ []
+          → delimited (λ (x : Chars). codes "?" ++ x) q ++ delimited (λ (x : Chars). codes "#" ++ x) fragment ≡ recomposed (components s a p q fragment)
+      alone s a q fragment p es ea ep = rw (es, ea, ep) refl
+
+keeps : (text : Chars) → keeps_all text ≡ true → (hierarchical_part text ≡ []) × (begins_with (codes "//") text ≡ false) × (query_of text ≡ None)
+keeps [] k = (refl, refl, refl)
+keeps (c ∷ text) k = let s = same_char c 35 k in rw s (refl, refl, refl)
 
 pub plain-same : (base text : Chars) → IsIri base → is_plain text ≡ true → keeps_all text ≡ true → resolved base text ≡ before 35 base ++ text
-unfolding resolved
 plain-same base text iri plain k =
     let b = components_of base in
     let r = components_of text in
-    let no = plain-clean true true text plain in
+    let clean = (plain-is true true text plain).0 in
     let e = keeps text k in
-    let parts = plain-parts text plain e.1 in
-    let query = no-query text plain k in
-    let path : r.path ≡ [] = parts.is_path ∙ e.0 in
+    let same = same-path base text plain e.0 e.1 in
+    let query = same.query ∙ e.2 in
     let f : Chars = delimited (λ (x : Chars). codes "#" ++ x) r.fragment in
-    let aims : target b r ≡ components b.scheme b.authority b.path (option_or r.query b.query) r.fragment =
-    target-same b r (none-some r.scheme parts.no_scheme) (none-some r.authority parts.no_authority) (ap is_empty path) in
-    let now : components b.scheme b.authority b.path (option_or r.query b.query) r.fragment ≡ components b.scheme b.authority b.path b.query r.fragment =
-    ap (λ (q : Option Chars). components b.scheme b.authority b.path (option_or q b.query) r.fragment) query in
-    let own : f ≡ text = alone r.scheme r.authority r.query r.fragment r.path parts.no_scheme parts.no_authority path query ∙ parts-whole text in
-    let whole : recomposed (target b r) ≡ before 35 base ++ text = ap recomposed (aims ∙ now) ∙ ap (λ (x : Chars). x ++ f) (base-front base iri.scheme) ∙ ap (λ (x : Chars). before 35 base ++ x) own in
-    ap (λ (x : Chars). cleaned (recomposed (target b (components_of x)))) (clean-trimmed text no)
-    ∙ ap cleaned whole
-    ∙ uncleaned (before 35 base ++ text) (clean-both (before 35 base) text (before-clean 35 base iri.clean) no) where
-      alone : (s a q fragment : Option Chars) (p : Chars) → s ≡ None → a ≡ None → p ≡ [] → q ≡ None → delimited (λ (x : Chars). codes "#" ++ x) fragment ≡ recomposed (components s a p q fragment)
-      alone s a q fragment p es ea ep eq = rw (es, ea, ep, eq) refl
+    let own : f ≡ text = ap (λ (o : Option Chars). delimited (λ (x : Chars). codes "?" ++ x) o ++ f) (sym query) ∙ same.own in
+    means base text (before 35 base ++ text) clean (clean-both (before 35 base) text (before-clean 35 base iri.clean) clean)
+    (ap recomposed (same.leads ∙ ap (λ (q : Option Chars). components b.scheme b.authority b.path (option_or q b.query) r.fragment) query)
+    ∙ ap (λ (x : Chars). x ++ f) (base-front base iri.scheme) ∙ ap (λ (x : Chars). before 35 base ++ x) own)
 
 -- a reference that is a query
 
-no_mark : (text : Chars) → list_all is_scheme_char text ≡ true → holds 63 text ≡ false
-no_mark [] h = refl
-no_mark (c ∷ text) h =
-    let p = and_parts (is_scheme_char c) (list_all is_scheme_char text) h in
-    let s = p.0 in
-    let other : (c == 63) ≡ false = grind (arith, nat_tests) in
-    rw (other, no_mark text p.1) refl
-
-path-front : (base : Chars) → has_scheme base ≡ true
-    → (delimited (λ (x : Chars). x ++ codes ":") (components_of base).scheme ++ delimited (λ (x : Chars). codes "//" ++ x) (components_of base).authority) ++ (components_of base).path ≡ hierarchical_part base
-unfolding components_of
-path-front base h =
-    let c = cut-scheme base h in
-    let s = scheme-cut c.front c.rest c.lacks c.scheme in
-    let part : Chars = hierarchical_part (behind_scheme base) in
-    let scheme : Chars = delimited (λ (x : Chars). x ++ codes ":") (scheme_of base) in
-    let is_scheme : scheme ≡ c.front ++ 58 ∷ [] = ap (λ (x : Option Chars). delimited (λ (y : Chars). y ++ codes ":") x) (ap scheme_of c.whole ∙ s.0) in
-    let is_rest : behind_scheme base ≡ c.rest = ap behind_scheme c.whole ∙ s.1 in
-    let chars = scheme_chars c.front c.scheme in
-    let is_front : hierarchical_part base ≡ c.front ++ 58 ∷ hierarchical_part c.rest = ap hierarchical_part c.whole ∙ hier-lacking c.front (58 ∷ c.rest) (no_hash c.front chars) (no_mark c.front chars) in
-    append_assoc scheme (delimited (λ (x : Chars). codes "//" ++ x) (authority_of part)) (path_of part)
-    ∙ ap (λ (x : Chars). scheme ++ x) (authority-path part)
-    ∙ ap (λ (x : Chars). scheme ++ hierarchical_part x) is_rest
-    ∙ ap (λ (x : Chars). x ++ hierarchical_part c.rest) is_scheme
-    ∙ append_assoc c.front (58 ∷ []) (hierarchical_part c.rest)
-    ∙ sym is_front
-
-has-query : (text : Chars) → is_plain text ≡ true → begins_query text ≡ true → is_some (components_of text).query ≡ true
-unfolding components_of
-has-query text h k = ap (λ (x : Chars). is_some (query_of x)) (scheme-none text (plain-scheme true text h)).1 ∙ go text k where
-  go : (text : Chars) → begins_query text ≡ true → is_some (query_of text) ≡ true
-  go [] k = absurd (cc k)
-  go (c ∷ text) k = let s = same_char c 63 k in rw s refl
-
-queries : (text : Chars) → begins_query text ≡ true → (hierarchical_part text ≡ []) × (begins_with (codes "//") text ≡ false)
+queries : (text : Chars) → begins_query text ≡ true → (hierarchical_part text ≡ []) × (begins_with (codes "//") text ≡ false) × (is_some (query_of text) ≡ true)
 queries [] k = absurd (cc k)
-queries (c ∷ text) k = let s = same_char c 63 k in rw s (refl, refl)
+queries (c ∷ text) k = let s = same_char c 63 k in rw s (refl, refl, refl)
 
 or-some : (a b : Option Chars) → is_some a ≡ true → option_or a b ≡ a
 or-some None b h = absurd (cc h)
 or-some (Some a) b h = refl
 
 pub plain-query : (base text : Chars) → IsIri base → is_plain text ≡ true → begins_query text ≡ true → resolved base text ≡ hierarchical_part base ++ text
-unfolding resolved
 plain-query base text iri plain k =
     let b = components_of base in
     let r = components_of text in
-    let no = plain-clean true true text plain in
+    let clean = (plain-is true true text plain).0 in
     let e = queries text k in
-    let parts = plain-parts text plain e.1 in
-    let path : r.path ≡ [] = parts.is_path ∙ e.0 in
+    let same = same-path base text plain e.0 e.1 in
     let q : Chars = delimited (λ (x : Chars). codes "?" ++ x) r.query in
     let f : Chars = delimited (λ (x : Chars). codes "#" ++ x) r.fragment in
-    let aims : target b r ≡ components b.scheme b.authority b.path (option_or r.query b.query) r.fragment =
-    target-same b r (none-some r.scheme parts.no_scheme) (none-some r.authority parts.no_authority) (ap is_empty path) in
-    let now : components b.scheme b.authority b.path (option_or r.query b.query) r.fragment ≡ components b.scheme b.authority b.path r.query r.fragment =
-    ap (λ (x : Option Chars). components b.scheme b.authority b.path x r.fragment) (or-some r.query b.query (has-query text plain k)) in
-    let own : q ++ f ≡ text = alone r.scheme r.authority r.query r.fragment r.path parts.no_scheme parts.no_authority path ∙ parts-whole text in
-    let whole : recomposed (target b r) ≡ hierarchical_part base ++ text =
-    ap recomposed (aims ∙ now) ∙ ap (λ (x : Chars). (x ++ q) ++ f) (path-front base iri.scheme) ∙ append_assoc (hierarchical_part base) q f ∙ ap (λ (x : Chars). hierarchical_part base ++ x) own in
-    let clean = before-clean 63 (before 35 base) (before-clean 35 base iri.clean) in
-    ap (λ (x : Chars). cleaned (recomposed (target b (components_of x)))) (clean-trimmed text no)
-    ∙ ap cleaned whole
-    ∙ uncleaned (hierarchical_part base ++ text) (clean-both (hierarchical_part base) text clean no) where
-      alone : (s a q fragment : Option Chars) (p : Chars) → s ≡ None → a ≡ None → p ≡ []
-          → delimited (λ (x : Chars). codes "?" ++ x) q ++ delimited (λ (x : Chars). codes "#" ++ x) fragment ≡ recomposed (components s a p q fragment)
-      alone s a q fragment p es ea ep = rw (es, ea, ep) refl
+    means base text (hierarchical_part base ++ text) clean (clean-both (hierarchical_part base) text (before-clean 63 (before 35 base) (before-clean 35 base iri.clean)) clean)
+    (ap recomposed (same.leads ∙ ap (λ (x : Option Chars). components b.scheme b.authority b.path x r.fragment) (or-some r.query b.query (ap is_some same.query ∙ e.2)))
+    ∙ ap (λ (x : Chars). (x ++ q) ++ f) (path-front base iri.scheme) ∙ append_assoc (hierarchical_part base) q f ∙ ap (λ (x : Chars). hierarchical_part base ++ x) same.own)
 
 -- a reference that stands alone
 
@@ -451,29 +431,19 @@ no-dots-path part h =
     let rest : no_dots true (from_first 47 (drop 2 part)) ≡ true = ap (λ (x : Chars). no_dots true (from_first 47 (drop 2 x))) r.1 ∙ dots-rest true r.0 flat in
     rw t rest) (λ t. rw t h)
 
-pub scheme-clean : (text : Chars) → list_all is_scheme_char text ≡ true → has_forbidden text ≡ false
-scheme-clean [] h = refl
-scheme-clean (c ∷ text) h =
-    let p = and_parts (is_scheme_char c) (list_all is_scheme_char text) h in
-    let s = p.0 in
-    let fine : is_forbidden c ≡ false = grind (arith, nat_tests) in
-    rw fine (scheme-clean text p.1)
-
 pub plain-whole : (base text front rest : Chars) → text ≡ front ++ 58 ∷ rest → holds 58 front ≡ false → is_scheme front ≡ true → is_plain_from false true rest ≡ true → resolved base text ≡ text
-unfolding resolved components_of
+unfolding components_of
 plain-whole base text front rest whole lacks scheme plain =
     let s = scheme-cut front rest lacks scheme in
     let is : scheme_of text ≡ Some front = ap scheme_of whole ∙ s.0 in
     let behind_is : behind_scheme text ≡ rest = ap behind_scheme whole ∙ s.1 in
     let r = components_of text in
-    let flat = without-dots (path_of (hierarchical_part rest)) (no-dots-path (hierarchical_part rest) (plain-dots false true rest plain)) in
+    let p = plain-is false true rest plain in
+    let flat = without-dots (path_of (hierarchical_part rest)) (no-dots-path (hierarchical_part rest) p.1) in
     let path_flat : without_dots r.path ≡ r.path =
     ap (λ (x : Chars). without_dots (path_of (hierarchical_part x))) behind_is ∙ flat ∙ sym (ap (λ (x : Chars). path_of (hierarchical_part x)) behind_is) in
-    let clean : has_forbidden text ≡ false = ap has_forbidden whole ∙ clean-both front (58 ∷ rest) (scheme-clean front (scheme_chars front scheme)) (plain-clean false true rest plain) in
-    ap (λ (x : Chars). cleaned (recomposed (target (components_of base) (components_of x)))) (clean-trimmed text clean)
-    ∙ ap (λ (x : Components). cleaned (recomposed x)) (target-absolute (components_of base) r (ap is_some is) ∙ ap (λ (p : Chars). components r.scheme r.authority p r.query r.fragment) path_flat)
-    ∙ ap cleaned (parts-whole text)
-    ∙ uncleaned text clean
+    let clean : has_forbidden text ≡ false = ap has_forbidden whole ∙ clean-both front (58 ∷ rest) (scheme-clean front (scheme_chars front scheme)) p.0 in
+    means base text text clean clean (ap recomposed (target-absolute (components_of base) r (ap is_some is) ∙ ap (λ (p : Chars). components r.scheme r.authority p r.query r.fragment) path_flat) ∙ parts-whole text)
 
 -- a reference that begins with an authority
 
@@ -485,28 +455,25 @@ has-authority text h k = ap (λ (x : Chars). is_some (authority_of (hierarchical
 
 pub plain-network : (base text front rest : Chars) → IsIri base → base ≡ front ++ 58 ∷ rest → holds 58 front ≡ false → is_plain text ≡ true → begins_with (codes "//") text ≡ true
     → resolved base text ≡ (front ++ 58 ∷ []) ++ text
-unfolding resolved components_of
+unfolding components_of
 plain-network base text front rest iri whole lacks plain slashes =
     let b = components_of base in
     let r = components_of text in
-    let no = plain-clean true true text plain in
+    let p = plain-is true true text plain in
     let form : is_scheme front ≡ true = sym (has_scheme-cut front rest lacks) ∙ ap has_scheme (sym whole) ∙ iri.scheme in
     let is : scheme_of base ≡ Some front = ap scheme_of whole ∙ (scheme-cut front rest lacks form).0 in
     let none = scheme-none text (plain-scheme true text plain) in
-    let flat = without-dots (path_of (hierarchical_part text)) (no-dots-path (hierarchical_part text) (plain-dots true true text plain)) in
+    let flat = without-dots (path_of (hierarchical_part text)) (no-dots-path (hierarchical_part text) p.1) in
     let path_flat : without_dots r.path ≡ r.path =
     ap (λ (x : Chars). without_dots (path_of (hierarchical_part x))) none.1 ∙ flat ∙ sym (ap (λ (x : Chars). path_of (hierarchical_part x)) none.1) in
     let aims : target b r ≡ components b.scheme r.authority r.path r.query r.fragment =
-    target-network b r (none-some r.scheme none.0) (has-authority text plain slashes) ∙ ap (λ (p : Chars). components b.scheme r.authority p r.query r.fragment) path_flat in
-    let made : recomposed (target b r) ≡ (front ++ 58 ∷ []) ++ text =
-    ap recomposed (aims ∙ ap (λ (x : Option Chars). components x r.authority r.path r.query r.fragment) is)
-    ∙ grouped (front ++ 58 ∷ []) (delimited (λ (x : Chars). codes "//" ++ x) r.authority) r.path (delimited (λ (x : Chars). codes "?" ++ x) r.query) (delimited (λ (x : Chars). codes "#" ++ x) r.fragment)
-    ∙ ap (λ (x : Chars). (front ++ 58 ∷ []) ++ x) (bare r.scheme r.authority r.query r.fragment r.path none.0 ∙ parts-whole text) in
+    target-network b r (ap is_some none.0) (has-authority text plain slashes) ∙ ap (λ (p : Chars). components b.scheme r.authority p r.query r.fragment) path_flat in
     let base_clean = ap has_forbidden (sym whole) ∙ iri.clean in
     let both = clean-of (front ++ 58 ∷ []) rest (ap has_forbidden (append_assoc front (58 ∷ []) rest) ∙ base_clean) in
-    ap (λ (x : Chars). cleaned (recomposed (target b (components_of x)))) (clean-trimmed text no)
-    ∙ ap cleaned made
-    ∙ uncleaned ((front ++ 58 ∷ []) ++ text) (clean-both (front ++ 58 ∷ []) text both.0 no) where
+    means base text ((front ++ 58 ∷ []) ++ text) p.0 (clean-both (front ++ 58 ∷ []) text both.0 p.0)
+    (ap recomposed (aims ∙ ap (λ (x : Option Chars). components x r.authority r.path r.query r.fragment) is)
+    ∙ grouped (front ++ 58 ∷ []) (delimited (λ (x : Chars). codes "//" ++ x) r.authority) r.path (delimited (λ (x : Chars). codes "?" ++ x) r.query) (delimited (λ (x : Chars). codes "#" ++ x) r.fragment)
+    ∙ ap (λ (x : Chars). (front ++ 58 ∷ []) ++ x) (bare r.scheme r.authority r.query r.fragment r.path none.0 ∙ parts-whole text)) where
       grouped : (s a p q f : Chars) → (((s ++ a) ++ p) ++ q) ++ f ≡ s ++ (((a ++ p) ++ q) ++ f)
       grouped s a p q f = simp append_assoc
 

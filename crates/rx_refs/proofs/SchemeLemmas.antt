@@ -1,10 +1,10 @@
 -- Schemes, and what of them is left in what a reference means.
-use Rattle.rx_terms.proofs.Common.{◌≡◌, ◌∙◌, ℕ, zero, suc, ◌<◌, ◌/◌, ◌%◌, length, get_or, Bool, true, false, List, [], ◌∷◌, ◌++◌, drop, sym, ap, refl, arith, Option, Some, None, ◌==◌, list_all, list_any, and_parts, nat_tests, list_any-append, Chars, is_scheme_char, is_scheme, has_scheme, is_forbidden, has_forbidden, IsIri, begins_with_letter, begins_with_scheme, by_test, codes}
+use Rattle.rx_terms.proofs.Common.{◌≡◌, ◌∙◌, ℕ, zero, suc, ◌<◌, ◌/◌, ◌%◌, length, get_or, Bool, true, false, List, [], ◌∷◌, ◌++◌, drop, sym, ap, refl, arith, Option, Some, None, ◌==◌, list_all, list_any, and_parts, or_parts, nat_tests, list_any-append, Chars, is_scheme_char, is_scheme, has_scheme, is_forbidden, has_forbidden, IsIri, begins_with_letter, begins_with_scheme, by_test, codes}
 use Rattle.std.proofs.lemmas.List.{append_assoc}
 use Rattle.rx_refs.specs.Resolve.{digit, escaped, cleaned_char, cleaned}
-use Rattle.rx_refs.specs.Parts.{before, behind, scheme_of, behind_scheme}
+use Rattle.rx_refs.specs.Parts.{before, from_first, behind, scheme_of, behind_scheme}
 use Rattle.rx_refs.specs.Dots.{holds}
-use Rattle.rx_refs.proofs.PartLemmas.{with_front, split_at-parts, behind-none, behind-some, before-lacks, cut-at, uncut}
+use Rattle.rx_refs.proofs.PartLemmas.{before-from, before-lacking, none-of, with_front, split_at-parts, behind-none, behind-some, before-lacks, cut-at, uncut}
 
 pub has_scheme-cut : (front rest : Chars) → holds 58 front ≡ false → has_scheme (front ++ 58 ∷ rest) ≡ is_scheme front
 has_scheme-cut front rest h =
@@ -59,29 +59,18 @@ pub scheme_chars : (text : Chars) → is_scheme text ≡ true → list_all is_sc
 scheme_chars text h = (and_parts (begins_with_letter text) (list_all is_scheme_char text) h).1
 
 pub no_hash : (text : Chars) → list_all is_scheme_char text ≡ true → holds 35 text ≡ false
-no_hash [] h = refl
-no_hash (c ∷ text) h =
-    let p = and_parts (is_scheme_char c) (list_all is_scheme_char text) h in
-    let s = p.0 in
-    let other : (c == 35) ≡ false = grind (arith, nat_tests) in
-    rw (other, no_hash text p.1) refl
+no_hash = none-of is_scheme_char (λ c. c == 35) (λ c h. grind (arith, nat_tests))
 
-pub before-append : (front rest : Chars) → holds 35 front ≡ false → before 35 (front ++ rest) ≡ front ++ before 35 rest
-before-append [] rest h = refl
-before-append (c ∷ front) rest h =
-    by_test (c == 35) (λ t. let g : true ≡ false = rw t at h in absurd (cc g)) (λ t. rw t (ap (λ x. c ∷ x) (before-append front rest (rw t at h))))
+pub clean-of : (a b : Chars) → has_forbidden (a ++ b) ≡ false → (has_forbidden a ≡ false) × (has_forbidden b ≡ false)
+clean-of a b h = or_parts (has_forbidden a) (has_forbidden b) (sym (list_any-append is_forbidden a b) ∙ h)
 
 pub before-clean : (mark : ℕ) (text : Chars) → has_forbidden text ≡ false → has_forbidden (before mark text) ≡ false
-before-clean mark [] h = refl
-before-clean mark (c ∷ text) h =
-    by_test (c == mark) (λ t. rw t refl) (λ t.
-    by_test (is_forbidden c) (λ f. let g : true ≡ false = rw f at h in absurd (cc g)) (λ f.
-    rw (t, f) (before-clean mark text (rw f at h))))
+before-clean mark text h = (clean-of (before mark text) (from_first mark text) (ap has_forbidden (before-from mark text) ∙ h)).0
 
 pub iri-front : (text : Chars) → IsIri text → IsIri (before 35 text)
 iri-front text iri =
     let c = cut-scheme text iri.scheme in
-    let front : before 35 text ≡ c.front ++ 58 ∷ before 35 c.rest = ap (before 35) c.whole ∙ before-append c.front (58 ∷ c.rest) (no_hash c.front (scheme_chars c.front c.scheme)) in
+    let front : before 35 text ≡ c.front ++ 58 ∷ before 35 c.rest = ap (before 35) c.whole ∙ before-lacking 35 c.front (58 ∷ c.rest) (no_hash c.front (scheme_chars c.front c.scheme)) in
     record { scheme = ap has_scheme front ∙ has_scheme-cut c.front (before 35 c.rest) c.lacks ∙ c.scheme; clean = before-clean 35 text iri.clean }
 
 -- Escapes leave a scheme, and no forbidden character
@@ -90,17 +79,19 @@ pub cleaned-append : (a b : Chars) → cleaned (a ++ b) ≡ cleaned a ++ cleaned
 cleaned-append [] b = refl
 cleaned-append (c ∷ a) b = ap (λ (x : Chars). cleaned_char c ++ x) (cleaned-append a b) ∙ sym (append_assoc (cleaned_char c) (cleaned a) (cleaned b))
 
-cleaned-scheme : (text : Chars) → list_all is_scheme_char text ≡ true → cleaned text ≡ text
-cleaned-scheme [] h = refl
-cleaned-scheme (c ∷ text) h =
-    let p = and_parts (is_scheme_char c) (list_all is_scheme_char text) h in
-    let s = p.0 in
-    let fine : is_forbidden c ≡ false = grind (arith, nat_tests) in
-    rw fine (ap (λ x. c ∷ x) (cleaned-scheme text p.1))
+pub uncleaned : (text : Chars) → has_forbidden text ≡ false → cleaned text ≡ text
+uncleaned [] h = refl
+uncleaned (c ∷ text) h =
+    let p = or_parts (is_forbidden c) (has_forbidden text) h in
+    rw p.0 (ap (λ x. c ∷ x) (uncleaned text p.1))
+
+-- the characters of a scheme stay
+pub scheme-clean : (text : Chars) → list_all is_scheme_char text ≡ true → has_forbidden text ≡ false
+scheme-clean = none-of is_scheme_char is_forbidden (λ c h. grind (arith, nat_tests))
 
 pub cleaned-has-scheme : (front rest : Chars) → holds 58 front ≡ false → is_scheme front ≡ true → has_scheme (cleaned (front ++ 58 ∷ rest)) ≡ true
 cleaned-has-scheme front rest lacks h =
-    let whole : cleaned (front ++ 58 ∷ rest) ≡ front ++ 58 ∷ cleaned rest = cleaned-append front (58 ∷ rest) ∙ ap (λ (x : Chars). x ++ 58 ∷ cleaned rest) (cleaned-scheme front (scheme_chars front h)) in
+    let whole : cleaned (front ++ 58 ∷ rest) ≡ front ++ 58 ∷ cleaned rest = cleaned-append front (58 ∷ rest) ∙ ap (λ (x : Chars). x ++ 58 ∷ cleaned rest) (uncleaned front (scheme-clean front (scheme_chars front h))) in
     ap has_scheme whole ∙ has_scheme-cut front (cleaned rest) lacks ∙ h
 
 pub none_at : (p : ℕ → Bool) (xs : List ℕ) (n : ℕ) → list_any p xs ≡ false → n < length xs → p (get_or xs n 0) ≡ false
@@ -124,8 +115,3 @@ cleaned_char-clean c = by_test (is_forbidden c) (λ t. rw t (escaped-clean c t))
 pub cleaned-clean : (text : Chars) → has_forbidden (cleaned text) ≡ false
 cleaned-clean [] = refl
 cleaned-clean (c ∷ text) = list_any-append is_forbidden (cleaned_char c) (cleaned text) ∙ rw (cleaned_char-clean c, cleaned-clean text) refl
-
-pub uncleaned : (text : Chars) → has_forbidden text ≡ false → cleaned text ≡ text
-uncleaned [] h = refl
-uncleaned (c ∷ text) h =
-    by_test (is_forbidden c) (λ t. let g : true ≡ false = rw t at h in absurd (cc g)) (λ t. rw t (ap (λ x. c ∷ x) (uncleaned text (rw t at h))))

@@ -1,6 +1,7 @@
 -- Where numbers stand in a list that grows and shrinks at its end.
-use Rattle.rx_terms.proofs.Common.{◌≡◌, ◌∙◌, ℕ, zero, suc, ◌<◌, ap, sym, refl, arith, Bool, true, false, Option, Some, None, List, [], ◌∷◌, ◌++◌, take, length, get_or, slice_get, append_assoc, append-nil, map, cond, nat_cmp, Result, OnOk, Ok, Err, ◌==◌, if◌then◌else◌, OnErr, is_eq, map-append, length-map, get_or-map, nat_tests}
+use Rattle.rx_terms.proofs.Common.{by_test, ◌≡◌, ◌∙◌, ℕ, zero, suc, ◌<◌, ap, sym, refl, arith, Bool, true, false, Option, Some, None, List, [], ◌∷◌, ◌++◌, take, length, get_or, slice_get, append_assoc, append-nil, map, cond, nat_cmp, Result, OnOk, Ok, Err, ◌==◌, if◌then◌else◌, OnErr, is_eq, nat_tests}
 use Rattle.std.specs.Option.{option_or, option_map}
+use Rattle.std.proofs.lemmas.List.{map-append, length-map, get_or-map, same_from_push}
 use Rattle.std.specs.Cmp.{unsigned_tied}
 use Rattle.std.specs.BTreeMap.{BTreeMap, get}
 use Rattle.rx_unique.specs.Places.{last_place, earlier_places, AreFiled}
@@ -29,41 +30,18 @@ earlier-at front (x ∷ xs) (suc k) l d = earlier-at (front ++ x ∷ []) xs k (o
 -- a place at which a number stands
 pub last-within : (n : ℕ) (xs : List ℕ) (p : ℕ) → last_place n xs ≡ Some p → slice_get xs p ≡ Some n
 last-within n [] p e = absurd (cc)
-last-within n (x ∷ xs) p e = there (last_place n xs) refl (λ q. last-within n xs q) where
-  equal : (x == n) ≡ true → x ≡ n
-  equal t = grind (arith, nat_tests)
-
-  first : (b : Bool) → (x == n) ≡ b → (if b then Some 0 else None) ≡ Some p → slice_get (x ∷ xs) p ≡ Some n
-  first true t q =
-      let z : 0 ≡ p = cc in
-      ap (slice_get (x ∷ xs)) (sym z) ∙ ap Some (equal t)
-  first false t q = absurd (cc)
-
+last-within n (x ∷ xs) p e = there (last_place n xs) refl (last-within n xs) where
   there : (o : Option ℕ) → last_place n xs ≡ o → ((q : ℕ) → last_place n xs ≡ Some q → slice_get xs q ≡ Some n) → slice_get (x ∷ xs) p ≡ Some n
-  there None k ih = first (x == n) refl (ap (λ (o : Option ℕ). option_or (option_map suc o) (if x == n then Some 0 else None)) (sym k) ∙ e)
+  there None k ih =
+      by_test (x == n) (λ t.
+      let whole : Some 0 ≡ Some p = rw (k, t) at e in
+      let is : 0 ≡ p = cc whole in
+      let equal : x ≡ n = grind (arith, nat_tests) in
+      rw (← is) (ap Some equal)) (λ t. let whole : None ≡ Some p = rw (k, t) at e in absurd (cc whole))
   there (Some q) k ih =
-      let whole : option_or (option_map suc (Some q)) (if x == n then Some 0 else None) ≡ Some p = ap (λ (o : Option ℕ). option_or (option_map suc o) (if x == n then Some 0 else None)) (sym k) ∙ e in
-      let is : suc q ≡ p = cc in
-      ap (slice_get (x ∷ xs)) (sym is) ∙ ih q k
-
--- lists that are one with their last items are one, and so are these
-snoc_front : {A : Type 0} (xs ys : List A) (x y : A) → xs ++ x ∷ [] ≡ ys ++ y ∷ [] → xs ≡ ys
-snoc_front [] [] x y e = refl
-snoc_front [] (b ∷ []) x y e = absurd (cc)
-snoc_front [] (b ∷ c ∷ ys) x y e = absurd (cc)
-snoc_front (a ∷ []) [] x y e = absurd (cc)
-snoc_front (a ∷ c ∷ xs) [] x y e = absurd (cc)
-snoc_front (a ∷ xs) (b ∷ ys) x y e =
-    let rest = snoc_front xs ys x y (cc) in
-    cc
-
-snoc_last : {A : Type 0} (xs ys : List A) (x y : A) → xs ++ x ∷ [] ≡ ys ++ y ∷ [] → x ≡ y
-snoc_last [] [] x y e = cc
-snoc_last [] (b ∷ []) x y e = absurd (cc)
-snoc_last [] (b ∷ c ∷ ys) x y e = absurd (cc)
-snoc_last (a ∷ []) [] x y e = absurd (cc)
-snoc_last (a ∷ c ∷ xs) [] x y e = absurd (cc)
-snoc_last (a ∷ xs) (b ∷ ys) x y e = snoc_last xs ys x y (cc)
+      let whole : Some (suc q) ≡ Some p = rw k at e in
+      let is : suc q ≡ p = cc whole in
+      rw (← is) (ih q k)
 
 -- entries with one more at their end, and what is kept of both
 module _ {A : Type 0} (number : A → ℕ) (before : A → Option ℕ) (items : List A) (x : A) (m n : BTreeMap ℕ ℕ) where
@@ -100,11 +78,12 @@ module _ {A : Type 0} (number : A → ℕ) (before : A → Option ℕ) (items : 
       let places : map before all ≡ map before items ++ before x ∷ [] = ap (map before) is ∙ map-append before items (x ∷ []) in
       let whole : map before items ++ before x ∷ [] ≡ earlier_places [] (map number items) ++ last_place (number x) (map number items) ∷ [] =
       sym places ∙ filed.before ∙ ap (earlier_places []) numbers ∙ earlier-more [] (map number items) (number x) in
-      let last : before x ≡ last_place (number x) (map number items) = snoc_last _ _ _ _ whole in
+      let ends = same_from_push _ _ _ _ whole in
+      let last : before x ≡ last_place (number x) (map number items) = ends.1 in
       let stays : (q : ℕ) → get nat_cmp m q ≡ (if number x == q then Some (length (map number items)) else last_place q (map number items)) =
       λ q. filed.told q ∙ ap (last_place q) numbers ∙ last-more q (map number items) (number x) in
       record {
-        before = snoc_front _ _ _ _ whole;
+        before = ends.0;
         told = λ q.
             updates q ∙ ap (λ (b : Bool). cond b (before x) (get nat_cmp m q)) (unsigned_tied (number x) q)
             ∙ ap (λ (o : Option ℕ). cond (number x == q) o (get nat_cmp m q)) last

@@ -1,14 +1,15 @@
 -- Where a key stands among keys, each of which is there once.
-use Rattle.rx_terms.proofs.Common.{◌≡◌, ◌∙◌, ℕ, zero, suc, ◌+◌, ◌<◌, ◌≤◌, ◌⊎◌, ap, sym, refl, arith, inl, inr, Bool, true, false, cond, Option, Some, None, List, [], ◌∷◌, ◌++◌, take, length, get_or, slice_get, nat_lt, true≢false, map, subst, not, ◌||◌, ◌==◌, is_some, if◌then◌else◌, cases_lt, nat_tests, length-map, map-append, get_or-map, slice_get_within, get_or_from_slice_get, slice_get-get_or, position, position_or_len_is, passes_at_first}
+use Rattle.rx_terms.proofs.Common.{eq-eqb, false_from_ne_true, cases_lt, ◌≡◌, ◌∙◌, ℕ, zero, suc, ◌+◌, ◌<◌, ◌≤◌, ◌⊎◌, ap, sym, refl, arith, inl, inr, Bool, true, false, cond, Option, Some, None, List, [], ◌∷◌, ◌++◌, take, length, get_or, slice_get, nat_lt, true≢false, map, subst, not, ◌||◌, ◌==◌, is_some, if◌then◌else◌, nat_tests, slice_get_within, get_or_from_slice_get, slice_get-get_or, position, position_or_len_is, passes_at_first, prefix_len-le-length}
 use Rattle.std.specs.Option.{option_or, option_map}
 use Rattle.std.specs.List.{list_any, position_or_len, IsDistinct}
+use Rattle.std.proofs.lemmas.List.{length-map, map-append, get_or-map, get_or-take, get_or_append_left, get_or_push, get_or_default, length_push, length-take, length-take-le}
 use Rattle.std.specs.Cmp.{IsEquivalence}
 use Rattle.std.proofs.lemmas.Map.Keys.{apart_from_distinct, IsDistinct-push}
 use Rattle.rx_unique.specs.Places.{last_place}
 use Rattle.rx_unique.specs.Slots.{mark_of, IsOther, IsHeld, AreHeld}
 use Rattle.rx_unique.specs.Unique.{AreKept, AreOthers, MayAdd, insert_key}
 use Rattle.rx_unique.proofs.PlaceLemmas.{last-within}
-use Rattle.rx_unique.proofs.SlotLemmas.{any-default, get-front, get-last, length-more, held-none, held-more}
+use Rattle.rx_unique.proofs.SlotLemmas.{held-none, held-more}
 
 -- how many places there are through this one
 abbrev pub reach : Option ℕ → ℕ
@@ -22,24 +23,12 @@ none_behind n (x ∷ xs) i far inside = by (last_place n xs) (x == n) refl i far
   by :
       (o : Option ℕ) (b : Bool) → (x == n) ≡ b → (i : ℕ) → reach (option_or (option_map suc o) (if b then Some 0 else None)) ≤ i → i < length (x ∷ xs)
       → ((j : ℕ) → reach o ≤ j → j < length xs → (get_or xs j 0 == n) ≡ false) → (get_or (x ∷ xs) i 0 == n) ≡ false
-  by (Some q) b t zero far inside ih = absurd (omega (arith, far))
-  by (Some q) b t (suc j) far inside ih = ih j (omega (arith, far)) (omega (arith, inside))
-  by None true t zero far inside ih = absurd (omega (arith, far))
-  by None true t (suc j) far inside ih = ih j (omega arith) (omega (arith, inside))
   by None false t zero far inside ih = t
-  by None false t (suc j) far inside ih = ih j (omega arith) (omega (arith, inside))
+  by None b t (suc j) far inside ih = ih j (omega arith) (omega (arith, inside))
+  by (Some q) b t (suc j) far inside ih = ih j (omega (arith, far)) (omega (arith, inside))
+  by o b t zero far inside ih = absurd (omega (arith, far))
 
 -- a front of a list
-length-front : (k : ℕ) (xs : List ℕ) → length (take k xs) ≤ k
-length-front zero xs = omega arith
-length-front (suc k) [] = omega arith
-length-front (suc k) (x ∷ xs) = let l = length-front k xs in omega (arith, l)
-
-front-length : (k : ℕ) (xs : List ℕ) → k ≤ length xs → length (take k xs) ≡ k
-front-length zero xs l = refl
-front-length (suc k) [] l = absurd (omega (arith, l))
-front-length (suc k) (x ∷ xs) l = ap suc (front-length k xs (omega (arith, l)))
-
 pub front-at : (xs : List ℕ) (k i : ℕ) → i < k → slice_get (take k xs) i ≡ slice_get xs i
 front-at [] zero i l = refl
 front-at [] (suc k) i l = refl
@@ -47,19 +36,11 @@ front-at (x ∷ xs) zero i l = absurd (omega (arith, l))
 front-at (x ∷ xs) (suc k) zero l = refl
 front-at (x ∷ xs) (suc k) (suc i) l = front-at xs k i (omega (arith, l))
 
-front-or : (xs : List ℕ) (k i : ℕ) → i < k → get_or (take k xs) i 0 ≡ get_or xs i 0
-front-or [] zero i l = refl
-front-or [] (suc k) i l = refl
-front-or (x ∷ xs) zero i l = absurd (omega (arith, l))
-front-or (x ∷ xs) (suc k) zero l = refl
-front-or (x ∷ xs) (suc k) (suc i) l = front-or xs k i (omega (arith, l))
-
 -- an earlier place is one before
 pub earlier-below : (numbers : List ℕ) (p q m : ℕ) → last_place m (take p numbers) ≡ Some q → q < p
 earlier-below numbers p q m e =
     let inside = slice_get_within (take p numbers) q m (last-within m (take p numbers) q e) in
-    let count : length (take p numbers) ≤ p = length-front p numbers in
-    omega (arith, inside, count)
+    omega (arith, inside, length-take p numbers)
 
 -- each turn comes nearer to the first place
 pub nearer : (numbers : List ℕ) (next before : Option ℕ) (p m : ℕ) → next ≡ Some p → before ≡ last_place m (take p numbers) → reach before < reach next
@@ -80,10 +61,8 @@ alone same test like keys once p x inside at holds = ap (λ (k : ℕ). cond (nat
   less a b l = grind (arith, nat_tests)
 
   before : (k : ℕ) → k < p → test (get_or keys k x) ≡ false
-  before k l = by (test (get_or keys k x)) refl where
-    by : (b : Bool) → test (get_or keys k x) ≡ b → b ≡ false
-    by false t = refl
-    by true t = absurd (true≢false (sym holds ∙ ap test at ∙ like (get_or keys k x) (get_or keys p x) t ∙ apart_from_distinct same keys k p x once l inside))
+  before k l =
+      false_from_ne_true (test (get_or keys k x)) (λ t. true≢false (sym holds ∙ ap test at ∙ like (get_or keys k x) (get_or keys p x) t ∙ apart_from_distinct same keys k p x once l inside))
 
   first : position_or_len test keys ≡ p
   first = position_or_len_is test keys p x (omega (arith, inside)) before (λ l. ap test (sym at) ∙ holds)
@@ -97,13 +76,9 @@ pub record Sought {K : Type 0} (test : K → Bool) (n : ℕ) (keys : List K) (ot
 module _ {K : Type 0} (number : K → ℕ) (test : K → Bool) (n : ℕ) (passes : (k : K) → test k ≡ true → n ≡ number k) (keys : List K) (others numbers : List ℕ) (apart : AreOthers number keys others numbers) where
   -- a key of another number doesn't
   other : (j : ℕ) (d : K) → j < length others → (get_or numbers j 0 == n) ≡ false → test (get_or keys (get_or others j 0) d) ≡ false
-  other j d inside unlike = by (test (get_or keys (get_or others j 0) d)) refl where
-    equal : (a b : ℕ) → a ≡ b → (a == b) ≡ true
-    equal a b e = grind (arith, nat_tests)
-
-    by : (b : Bool) → test (get_or keys (get_or others j 0) d) ≡ b → b ≡ false
-    by false t = refl
-    by true t = absurd (true≢false (sym (equal (get_or numbers j 0) n (apart.numbered j d inside ∙ sym (passes (get_or keys (get_or others j 0) d) t))) ∙ unlike))
+  other j d inside unlike =
+      false_from_ne_true (test (get_or keys (get_or others j 0) d))
+      (λ t. true≢false (sym (eq-eqb (get_or numbers j 0) n (apart.numbered j d inside ∙ sym (passes (get_or keys (get_or others j 0) d) t))) ∙ unlike))
 
   pub sought-first : (next : Option ℕ) → next ≡ last_place n numbers → Sought test n keys others numbers next
   sought-first next found = record {
@@ -117,19 +92,19 @@ module _ {K : Type 0} (number : K → ℕ) (test : K → Bool) (n : ℕ) (passes
   pub key-within : (next : Option ℕ) (p place : ℕ) → Sought test n keys others numbers next → next ≡ Some p → place ≡ get_or others p place → place < length keys
   key-within next p place sought is at =
       let inside : p < length others = within next p sought is in
-      omega (arith, apart.inside p inside, at ∙ any-default others p place 0 inside)
+      omega (arith, apart.inside p inside, at ∙ get_or_default others p place 0 inside)
 
   pub sought-before :
       (next before : Option ℕ) (p place : ℕ) (x : K) → Sought test n keys others numbers next → next ≡ Some p → place ≡ get_or others p place → x ≡ get_or keys place x → test x ≡ false
       → before ≡ last_place (get_or numbers p 0) (take p numbers) → Sought test n keys others numbers before
   sought-before next before p place x sought is stands at fails found = record {
     past = λ j d far inside. elim (cases_lt j p) [
-      | inl l ↦ other j d inside (ap (λ (k : ℕ). k == n) (sym (front-or numbers p j l)) ∙ none_behind n (take p numbers) j (omega (arith, far, ap reach last)) (omega (arith, l, whole)))
+      | inl l ↦ other j d inside (ap (λ (k : ℕ). k == n) (sym (get_or-take p numbers j 0 l)) ∙ none_behind n (take p numbers) j (omega (arith, far, ap reach last)) (omega (arith, l, whole)))
       | inr g ↦ elim (cases_lt p j) [
         | inl l ↦ sought.past j d (omega (arith, l, ap reach is)) inside
         | inr h ↦
             ap (λ (k : ℕ). test (get_or keys (get_or others k 0) d)) (here j g h) ∙ ap (λ (k : ℕ). test (get_or keys k d)) (sym stands-there)
-            ∙ ap test (any-default keys place d x inside-keys ∙ sym at) ∙ fails
+            ∙ ap test (get_or_default keys place d x inside-keys ∙ sym at) ∙ fails
       ]
     ];
     there = λ q e.
@@ -143,13 +118,13 @@ module _ {K : Type 0} (number : K → ℕ) (test : K → Bool) (n : ℕ) (passes
     inside-keys = key-within next p place sought is stands
 
     stands-there : place ≡ get_or others p 0
-    stands-there = stands ∙ any-default others p place 0 inside-p
+    stands-there = stands ∙ get_or_default others p place 0 inside-p
 
     last : before ≡ last_place n (take p numbers)
     last = found ∙ ap (λ (k : ℕ). last_place k (take p numbers)) (get_or_from_slice_get numbers p n 0 (sought.there p is))
 
     whole : length (take p numbers) ≡ p
-    whole = front-length p numbers (omega (arith, inside-p, apart.count))
+    whole = length-take-le p numbers (omega (arith, inside-p, apart.count))
 
     here : (i : ℕ) → p ≤ i → i ≤ p → i ≡ p
     here i g h = omega (arith, g, h)
@@ -167,7 +142,7 @@ absent test (x ∷ xs) fails =
 module _ {K : Type 0} (same : K → K → Bool) (quick number : K → ℕ) (test : K → Bool) (hash : ℕ) (passes : (k : K) → test k ≡ true → hash ≡ quick k) (keys : List K) (hashes slots others numbers : List ℕ) (kept : AreKept same quick number keys hashes slots others numbers) where
   hash-at : (i : ℕ) (d : K) → i < length keys → get_or hashes i 0 ≡ quick (get_or keys i d)
   hash-at i d inside =
-      ap (λ (l : List ℕ). get_or l i 0) kept.hashed ∙ any-default (map quick keys) i 0 (quick d) (omega (arith, inside, length-map keys quick))
+      ap (λ (l : List ℕ). get_or l i 0) kept.hashed ∙ get_or_default (map quick keys) i 0 (quick d) (omega (arith, inside, length-map keys quick))
       ∙ get_or-map quick keys i d (quick d) inside
 
   held-at : (i : ℕ) (d : K) → i < length keys → test (get_or keys i d) ≡ true → IsHeld slots others hash i
@@ -177,10 +152,7 @@ module _ {K : Type 0} (same : K → K → Bool) (quick number : K → ℕ) (test
 
   -- where the slot is free there is none
   pub free-none : mark_of slots hash ≡ 0 → None ≡ position test keys
-  free-none free = absent test keys (λ i d inside. by i d inside (test (get_or keys i d)) refl) where
-    by : (i : ℕ) (d : K) → i < length keys → (b : Bool) → test (get_or keys i d) ≡ b → b ≡ false
-    by i d inside false t = refl
-    by i d inside true t = absurd ((held-at i d inside t).taken free)
+  free-none free = absent test keys (λ i d inside. false_from_ne_true (test (get_or keys i d)) (λ t. (held-at i d inside t).taken free))
 
   -- nor where neither the first key of the slot passes nor one of the others
   pub sought-none :
@@ -188,7 +160,7 @@ module _ {K : Type 0} (same : K → K → Bool) (quick number : K → ℕ) (test
       → ((place : ℕ) → mark_of slots hash ≡ suc place → first ≡ place)
       → ((d : K) → first < length keys → test (get_or keys first d) ≡ false)
       → None ≡ position test keys
-  sought-none n next first sought is own fails = absent test keys (λ i d inside. by i d inside (test (get_or keys i d)) refl) where
+  sought-none n next first sought is own fails = absent test keys (λ i d inside. false_from_ne_true (test (get_or keys i d)) (λ t. refuted i d inside t (held-at i d inside t).own)) where
     refuted : (i : ℕ) (d : K) → i < length keys → test (get_or keys i d) ≡ true → (mark_of slots hash ≡ suc i) ⊎ IsOther others i → ⊥
     refuted i d inside t (inl mark) =
         let at : first ≡ i = own i mark in
@@ -197,10 +169,6 @@ module _ {K : Type 0} (same : K → K → Bool) (quick number : K → ℕ) (test
         true≢false
         (sym t ∙ ap (λ (k : ℕ). test (get_or keys k d)) (sym (get_or_from_slice_get others other.0 i 0 other.1))
         ∙ sought.past other.0 d (omega (arith, ap reach is)) (slice_get_within others other.0 i other.1))
-
-    by : (i : ℕ) (d : K) → i < length keys → (b : Bool) → test (get_or keys i d) ≡ b → b ≡ false
-    by i d inside false t = refl
-    by i d inside true t = absurd (refuted i d inside t (held-at i d inside t).own)
 
 -- ---- what a place says
 
@@ -247,13 +215,9 @@ module _ {K : Type 0} (test : K → Bool) where
   pub has-none : (keys : List K) → position test keys ≡ None → HasNone keys
   has-none keys is =
       let none : list_any test keys ≡ false = sym (place-any keys) ∙ ap is_some is in
-      record { any = none; at = whole keys none } where
-        whole : (xs : List K) → list_any test xs ≡ false → position_or_len test xs ≡ length xs
-        whole [] none = refl
-        whole (x ∷ xs) none = by (test x) none (λ t. whole xs t) where
-          by : (b : Bool) → (b || list_any test xs) ≡ false → (list_any test xs ≡ false → position_or_len test xs ≡ length xs) → cond (not b) (1 + position_or_len test xs) 0 ≡ suc (length xs)
-          by true t ih = absurd (cc)
-          by false t ih = omega (arith, ih t)
+      let most = prefix_len-le-length (λ x. not (test x)) keys in
+      let past : nat_lt (position_or_len test keys) (length keys) ≡ false = any-place keys ∙ none in
+      record { any = none; at = grind (arith, nat_tests) }
 
   -- the key at the place
   pub stored-old : (keys : List K) (p : ℕ) (d : K) → HasPlace keys p → (k : K) × (slice_get keys p ≡ Some k) × (test k ≡ true)
@@ -285,10 +249,10 @@ kept-none same quick number (x ∷ xs) hashes slots others numbers k h o n = abs
 
 module _ {K : Type 0} (number : K → ℕ) (keys more : List K) (k : K) (is : more ≡ keys ++ k ∷ []) where
   key-front : (i : ℕ) (d : K) → i < length keys → get_or more i d ≡ get_or keys i d
-  key-front i d l = ap (λ (xs : List K). get_or xs i d) is ∙ get-front keys k i d l
+  key-front i d l = ap (λ (xs : List K). get_or xs i d) is ∙ get_or_append_left keys (k ∷ []) d i l
 
   longer : length more ≡ suc (length keys)
-  longer = ap (λ (xs : List K). length xs) is ∙ length-more keys k
+  longer = omega (arith, ap (λ (xs : List K). length xs) is, length_push keys k)
 
   pub apart-still : (others numbers : List ℕ) → AreOthers number keys others numbers → AreOthers number more others numbers
   apart-still others numbers apart = record {
@@ -308,27 +272,27 @@ module _ {K : Type 0} (number : K → ℕ) (keys more : List K) (k : K) (is : mo
     ];
     numbered = λ j d l. elim (cases_lt j (length others)) [
       | inl b ↦
-          ap (λ (xs : List ℕ). get_or xs j 0) numbers-are ∙ get-front numbers n j 0 (omega (arith, b, apart.count)) ∙ apart.numbered j d b
+          ap (λ (xs : List ℕ). get_or xs j 0) numbers-are ∙ get_or_append_left numbers (n ∷ []) 0 j (omega (arith, b, apart.count)) ∙ apart.numbered j d b
           ∙ ap number (sym (key-front (get_or others j 0) d (apart.inside j b))) ∙ ap (λ (i : ℕ). number (get_or more i d)) (sym (other-front j b))
       | inr g ↦
-          ap (λ (xs : List ℕ). get_or xs j 0) numbers-are ∙ get-last numbers n j 0 (last j l g ∙ sym apart.count) ∙ of
-          ∙ ap number (sym (ap (λ (i : ℕ). get_or more i d) (other-here j (last j l g)) ∙ ap (λ (xs : List K). get_or xs place d) is ∙ get-last keys k place d at))
+          ap (λ (xs : List ℕ). get_or xs j 0) numbers-are ∙ get_or_push numbers n 0 j (apart.count ∙ sym (last j l g)) ∙ of
+          ∙ ap number (sym (ap (λ (i : ℕ). get_or more i d) (other-here j (last j l g)) ∙ ap (λ (xs : List K). get_or xs place d) is ∙ get_or_push keys k d place (sym at)))
     ];
   } where
     longer-others : length more_others ≡ suc (length others)
-    longer-others = ap (λ (xs : List ℕ). length xs) others-are ∙ length-more others place
+    longer-others = omega (arith, ap (λ (xs : List ℕ). length xs) others-are, length_push others place)
 
     longer-numbers : length more_numbers ≡ suc (length numbers)
-    longer-numbers = ap (λ (xs : List ℕ). length xs) numbers-are ∙ length-more numbers n
+    longer-numbers = omega (arith, ap (λ (xs : List ℕ). length xs) numbers-are, length_push numbers n)
 
     last : (j : ℕ) → j < length more_others → length others ≤ j → j ≡ length others
     last j l g = omega (arith, l, g, longer-others)
 
     other-front : (j : ℕ) → j < length others → get_or more_others j 0 ≡ get_or others j 0
-    other-front j l = ap (λ (xs : List ℕ). get_or xs j 0) others-are ∙ get-front others place j 0 l
+    other-front j l = ap (λ (xs : List ℕ). get_or xs j 0) others-are ∙ get_or_append_left others (place ∷ []) 0 j l
 
     other-here : (j : ℕ) → j ≡ length others → get_or more_others j 0 ≡ place
-    other-here j e = ap (λ (xs : List ℕ). get_or xs j 0) others-are ∙ get-last others place j 0 e
+    other-here j e = ap (λ (xs : List ℕ). get_or xs j 0) others-are ∙ get_or_push others place 0 j (sym e)
 
   pub apart-added :
       (others more_others numbers more_numbers : List ℕ) (place n : ℕ) → MayAdd place n others numbers more_others more_numbers

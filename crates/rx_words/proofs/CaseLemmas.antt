@@ -21,18 +21,10 @@ unfolding encode
 large-encoded c l =
     let small : nat_lt c 128 ≡ false = grind (arith, nat_tests) in
     by_test (nat_lt c 2048)
-    (λ t. rw (small, t) (two (192 + c / 64) (next c) (omega arith) (omega arith)))
+    (λ t. rw (small, t, byte-lower (192 + c / 64) (omega arith), byte-lower (next c) (omega arith)) refl)
     (λ t. by_test (nat_lt c 65536)
-    (λ u. rw (small, t, u) (three (224 + c / 4096) (next (c / 64)) (next c) (omega arith) (omega arith) (omega arith)))
-    (λ u. rw (small, t, u) (four (240 + c / 262144) (next (c / 4096)) (next (c / 64)) (next c) (omega arith) (omega arith) (omega arith) (omega arith)))) where
-      two : (a b : ℕ) → 90 < a → 90 < b → map to_ascii_lowercase (a ∷ b ∷ []) ≡ a ∷ b ∷ []
-      two a b p q = rw (byte-lower a p, byte-lower b q) refl
-
-      three : (a b c : ℕ) → 90 < a → 90 < b → 90 < c → map to_ascii_lowercase (a ∷ b ∷ c ∷ []) ≡ a ∷ b ∷ c ∷ []
-      three a b c p q r = rw (byte-lower a p, byte-lower b q, byte-lower c r) refl
-
-      four : (a b c d : ℕ) → 90 < a → 90 < b → 90 < c → 90 < d → map to_ascii_lowercase (a ∷ b ∷ c ∷ d ∷ []) ≡ a ∷ b ∷ c ∷ d ∷ []
-      four a b c d p q r s = rw (byte-lower a p, byte-lower b q, byte-lower c r, byte-lower d s) refl
+    (λ u. rw (small, t, u, byte-lower (224 + c / 4096) (omega arith), byte-lower (next (c / 64)) (omega arith), byte-lower (next c) (omega arith)) refl)
+    (λ u. rw (small, t, u, byte-lower (240 + c / 262144) (omega arith), byte-lower (next (c / 4096)) (omega arith), byte-lower (next (c / 64)) (omega arith), byte-lower (next c) (omega arith)) refl))
 
 encoded-lower : (c : ℕ) → map to_ascii_lowercase (encode c) ≡ encode (lowered_char c)
 encoded-lower c =

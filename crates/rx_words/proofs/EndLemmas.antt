@@ -1,5 +1,5 @@
 -- Cuts at the ends of a text, in bytes and in characters.
-use Rattle.rx_terms.proofs.Common.{◌≡◌, ◌≢◌, ◌∙◌, ℕ, suc, refl, Bool, true, ◌+◌, ◌-◌, ◌<◌, false, List, [], ◌∷◌, ◌++◌, length, take, drop, get_or, sym, ap, subst, arith, Option, Some, None, MatchOption, Bor, length-append, ◌==◌, and_parts, nat_tests, chars-nil, encodes-chars, encodes-append, chars-append, encode_ascii, IsUtf8-take, IsCharBoundary-before_ascii, Chars, begins_with, is_empty, ascii-chars, by_test, FindsTextPrefix, FindsCharSuffix, strip_suffix_char, get_or-append_seam, take-append_seam}
+use Rattle.rx_terms.proofs.Common.{◌≡◌, ◌≢◌, ◌∙◌, ℕ, suc, refl, true, ◌+◌, ◌-◌, ◌<◌, false, List, [], ◌∷◌, ◌++◌, length, take, drop, get_or, sym, ap, subst, arith, Option, Some, None, MatchOption, Bor, length-append, ◌==◌, and_parts, nat_tests, chars-nil, encodes-chars, encodes-append, chars-append, encode_ascii, IsUtf8-take, IsCharBoundary-before_ascii, Chars, begins_with, is_empty, ascii-chars, by_test, FindsTextPrefix, FindsCharSuffix, strip_suffix_char, get_or-append_seam, take-append_seam}
 use Rattle.std.specs.Str.{chars, IsUtf8, encode_utf8_all}
 
 pub same_char : (c mark : ℕ) → (c == mark) ≡ true → c ≡ mark

@@ -1,5 +1,5 @@
 -- The first token of a text, in bytes and in characters.
-use Rattle.rx_terms.proofs.Common.{◌≡◌, ◌≢◌, ◌∙◌, ℕ, suc, ◌<◌, ◌≤◌, Bool, true, false, List, [], ◌∷◌, ◌++◌, length, take, drop, get_or, sym, ap, refl, arith, Option, ⊎_elim, not, ◌==◌, unwrap_or, nat_lt, and_parts, and_from, cases_lt, nat_tests, take-append-drop, length-take, length-drop, get_or-take, get_or-drop, list_all-append, encodes-chars, chars-append, encode_ascii, IsUtf8-take, char_from_byte, IsUtf8-drop, IsCharBoundary-end, IsCharBoundary-before_ascii, is_white_space, Chars, tokens, ends_token, onto_first, ascii-chars, ascii-utf8, chars-end, by_test, not_both_ways, prefix_len-le-length, fails_before_first, passes_at_first}
+use Rattle.rx_terms.proofs.Common.{untrue, by_test, not_both_ways, ◌≡◌, ◌≢◌, ◌∙◌, ℕ, suc, ◌<◌, ◌≤◌, Bool, true, false, List, [], ◌∷◌, ◌++◌, length, take, drop, get_or, sym, ap, refl, arith, Option, ⊎_elim, not, ◌==◌, unwrap_or, nat_lt, and_parts, and_from, cases_lt, nat_tests, take-append-drop, length-take, length-drop, get_or-take, get_or-drop, list_all-append, encodes-chars, chars-append, encode_ascii, IsUtf8-take, char_from_byte, IsUtf8-drop, IsCharBoundary-end, IsCharBoundary-before_ascii, is_white_space, Chars, tokens, ends_token, onto_first, ascii-chars, ascii-utf8, chars-end, prefix_len-le-length, fails_before_first, passes_at_first}
 use Rattle.std.specs.Char.{is_ascii_whitespace, encode_utf8}
 use Rattle.std.specs.List.{list_all, position_or_len, position}
 use Rattle.std.specs.Str.{chars, IsUtf8, IsCharBoundary, IsTrimAsciiStart, encode_utf8_all}
@@ -12,14 +12,11 @@ tokens-white : (front text : Chars) → list_all is_white_space front ≡ true �
 tokens-white [] text h = refl
 tokens-white (c ∷ front) text h = let p = and_parts (is_white_space c) (list_all is_white_space front) h in rw p.0 (tokens-white front text p.1)
 
-filled-false : (c : ℕ) → is_filled c ≡ true → is_white_space c ≡ false
-filled-false c h = by_test (is_white_space c) (λ t. let g : false ≡ true = rw t at h in absurd (cc g)) (λ t. t)
-
 tokens-word : (c : ℕ) (word rest : Chars) → is_white_space c ≡ false → list_all is_filled word ≡ true → ends_token rest ≡ true → tokens (c ∷ (word ++ rest)) ≡ (c ∷ word) ∷ tokens rest
 tokens-word c [] rest h w e = rw (h, e) refl
 tokens-word c (d ∷ word) rest h w e =
     let p = and_parts (is_filled d) (list_all is_filled word) w in
-    let dark = filled-false d p.0 in
+    let dark = untrue (is_white_space d) p.0 in
     rw (h, dark) (ap (onto_first c) (sym (rw dark refl) ∙ tokens-word d word rest dark p.1 e))
 
 -- the first token of a text is the first of its tokens
@@ -27,18 +24,16 @@ pub tokens-first : (text token rest : Chars) → IsFirstToken text token rest �
 tokens-first text token rest f = ap tokens f.whole ∙ tokens-white f.front (token ++ rest) f.white ∙ go token f.some f.filled where
   go : (word : Chars) → word ≢ [] → list_all is_filled word ≡ true → tokens (word ++ rest) ≡ word ∷ tokens rest
   go [] some filled = absurd (some refl)
-  go (c ∷ word) some filled = let p = and_parts (is_filled c) (list_all is_filled word) filled in tokens-word c word rest (filled-false c p.0) p.1 f.ends
+  go (c ∷ word) some filled = let p = and_parts (is_filled c) (list_all is_filled word) filled in tokens-word c word rest (untrue (is_white_space c) p.0) p.1 f.ends
 
 -- Bytes
 
 unwrap-position : (p : ℕ → Bool) (xs : List ℕ) → unwrap_or (position p xs) (length xs) ≡ position_or_len p xs
-unwrap-position p xs = go (nat_lt (position_or_len p xs) (length xs)) refl where
-  go : (b : Bool) → nat_lt (position_or_len p xs) (length xs) ≡ b → unwrap_or (position p xs) (length xs) ≡ position_or_len p xs
-  go true e = rw e refl
-  go false e =
-      let most = prefix_len-le-length (λ x. not (p x)) xs in
-      let all : position_or_len p xs ≡ length xs = grind (arith, nat_tests) in
-      rw e (sym all)
+unwrap-position p xs =
+    by_test (nat_lt (position_or_len p xs) (length xs)) (λ t. rw t refl) (λ t.
+    let most = prefix_len-le-length (λ x. not (p x)) xs in
+    let all : position_or_len p xs ≡ length xs = grind (arith, nat_tests) in
+    rw t (sym all))
 
 pub found-end : (xs : List ℕ) (r : Option ℕ) (n : ℕ) → r ≡ position is_ascii_whitespace xs → n ≡ unwrap_or r (length xs) → n ≡ position_or_len is_ascii_whitespace xs
 found-end xs r n e f = f ∙ ap (λ (o : Option ℕ). unwrap_or o (length xs)) e ∙ unwrap-position is_ascii_whitespace xs
@@ -88,13 +83,10 @@ filled-chars : (cs : List ℕ) → list_all is_filled (encode_utf8_all cs) ≡ t
 filled-chars [] h = refl
 filled-chars (c ∷ cs) h =
     let parts = and_parts _ _ (sym (list_all-append is_filled (encode_utf8 c) (encode_utf8_all cs)) ∙ h) in
-    and_from _ _ (go (is_white_space c) refl parts.0) (filled-chars cs parts.1) where
-      go : (b : Bool) → is_white_space c ≡ b → list_all is_filled (encode_utf8 c) ≡ true → is_filled c ≡ true
-      go false e h = ap not e
-      go true e h =
-          let small : c < 128 = grind (arith, nat_tests) in
-          let one : list_all is_filled (c ∷ []) ≡ true = sym (ap (list_all is_filled) (encode_ascii c small)) ∙ h in
-          (and_parts (is_filled c) true one).0
+    and_from _ _ (by_test (is_white_space c) (λ t.
+    let small : c < 128 = grind (arith, nat_tests) in
+    let one : list_all is_filled (c ∷ []) ≡ true = sym (ap (list_all is_filled) (encode_ascii c small)) ∙ parts.0 in
+    (and_parts (is_filled c) true one).0) (λ t. ap not t)) (filled-chars cs parts.1)
 
 -- what stands behind a token ends it
 ends-chars : (r : List ℕ) → IsUtf8 r → (0 < length r → is_ascii_whitespace (get_or r 0 0) ≡ true) → ends_token (chars r) ≡ true
