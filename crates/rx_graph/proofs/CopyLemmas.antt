@@ -1,8 +1,8 @@
 -- What is copied from patterns, by their numbers.
-use Rattle.rx_model.proofs.Common.{◌≡◌, ◌⊎◌, ⊎_elim, ℕ, zero, suc, ◌+◌, ◌<◌, ◌≤◌, Bool, true, false, nat_eq, nat_lt, List, [], ◌∷◌, ◌++◌, flat_map, length, take, get_or, slice_get, slice_set, Option, Some, None, option_map, is_none, refl, sym, ap, ap₂, subst, ◌∙◌, inl, inr, true≢false, arith, append-nil, not, ◌&&◌, ◌||◌, ◌==◌, if◌then◌else◌, cons_option, cases_lt, and_from, nat_tests, Decides-eqb, take_all, same_truth, IsPermutation, IsNonDecreasing, Among, Node, Triple, same_node, edges, live, says_pattern, Leads, here, onward, leads, triple_seen, triples_seen, exact_numbers, exact_nodes, Among_left, Among_right, Among_cases, or_cases, and_left, and_right, of_pair, pattern_true}
+use Rattle.rx_model.proofs.Common.{◌≡◌, ◌⊎◌, ℕ, ◌+◌, ◌<◌, Bool, true, false, nat_eq, nat_lt, List, [], ◌∷◌, ◌++◌, flat_map, length, take, get_or, slice_get, slice_set, Option, Some, None, option_map, is_none, refl, sym, ap, ap₂, subst, ◌∙◌, inl, inr, true≢false, arith, append-nil, not, ◌&&◌, ◌||◌, ◌==◌, if◌then◌else◌, cons_option, and_from, nat_tests, Decides-eqb, same_truth, IsPermutation, IsNonDecreasing, Among, Node, Triple, same_node, edges, live, says_pattern, Leads, here, onward, leads, triple_seen, triples_seen, exact_numbers, exact_nodes, Among_left, Among_right, Among_cases, or_cases, and_left, and_right, of_pair, pattern_true}
 use Rattle.rx_terms.specs.declared.triples.Triple.{Triple as CodeTriple}
 use Rattle.rx_model.proofs.Leads.{leads_along}
-use Rattle.rx_graph.specs.Rows.{pushed, empty_rows}
+use Rattle.rx_graph.specs.Rows.{empty_rows}
 use Rattle.rx_graph.specs.Resources.{number_in, live_by}
 use Rattle.rx_graph.specs.Patterns.{places, edges_by, ArePatterns, AreReferenced}
 use Rattle.rx_graph.specs.Ways.{mark_at, Step, Goes, stays, goes_on, all_led, Led, led_here, led_on, EachOnce, IsWalk}
@@ -10,92 +10,69 @@ use Rattle.rx_graph.specs.Copying.{link_to, number_of, linked, AreLinks, gives_b
 use Rattle.rx_graph.proofs.SetLemmas.{seen_more}
 use Rattle.rx_graph.proofs.PatternLemmas.{edges_more, edges_are, live_is, places_more, length_so_far, number_same, number_small, number_there}
 use Rattle.rx_graph.proofs.PlaceLemmas.{place_for, any_of, any_has, any_by, sorted_places, same_places}
-use Rattle.rx_graph.proofs.WayLemmas.{goes_trans, goes_by, step_within, pushed_old, pushed_new, pushed_cases, pushed_length, pushed_beyond, pushed_row, empty_none, empty_row, empty_length}
+use Rattle.rx_graph.proofs.WayLemmas.{goes_trans, goes_by, step_within, pushed_new, pushed_length, pushed_row, Put, put_none, put_one, set_each, empty_none, empty_row, empty_length}
 
 -- ---- the links
 
 pub links_start : (nodes : List (Node ℕ)) (rows : List (List ℕ)) (n : ℕ) → n ≡ length nodes → rows ≡ empty_rows n → AreLinks [] nodes rows
 links_start nodes rows n size e = record {
   size = ap length e ∙ empty_length n ∙ size;
-  sound = λ a b s. absurd (empty_none n a b (subst (λ (z : List (List ℕ)). Step z a b) e s));
+  sound = λ a b s. absurd (empty_none rows n e a b s);
   complete = λ s t a b m. absurd m;
 }
 
 same_number : (o : Option ℕ) (a b : ℕ) → o ≡ Some a → o ≡ Some b → a ≡ b
-same_number o a b h k = let both : Some a ≡ Some b = sym h ∙ k in cc
+same_number o a b h k = cc
 
 -- a pair more
 module _ (pairs : List (Node ℕ × Node ℕ)) (nodes : List (Node ℕ)) (old : List (List ℕ)) (h : AreLinks pairs nodes old) (s t : Node ℕ) where
   abbrev more : List (Node ℕ × Node ℕ)
   more = pairs ++ (s, t) ∷ []
 
-  lifted : (a b : ℕ) → Step old a b → (x y : Node ℕ) × (number_in nodes x ≡ Some a) × (number_in nodes y ≡ Some b) × Among more (x, y)
-  lifted a b k = let r = h.sound a b k in (r.0, r.1, r.2, r.3, Among_left pairs ((s, t) ∷ []) (r.0, r.1) r.4)
+  abbrev Linked : ℕ → ℕ → Type 0
+  Linked a b = (x y : Node ℕ) × (number_in nodes x ≡ Some a) × (number_in nodes y ≡ Some b) × Among more (x, y)
 
-  -- the pair is an old one or the new one
-  which : (x y : Node ℕ) → Among more (x, y) → Among pairs (x, y) ⊎ ((s ≡ x) × (t ≡ y))
-  which x y m = elim (Among_cases pairs ((s, t) ∷ []) (x, y) m) [ inl k ↦ inl k | inr k ↦ elim k [ inl e ↦ inr (ap (λ (p : Node ℕ × Node ℕ). p.0) e, ap (λ (p : Node ℕ × Node ℕ). p.1) e) | inr n ↦ absurd n ] ]
+  link_put : (to from : Option ℕ) → number_in nodes t ≡ to → number_in nodes s ≡ from → Put Linked old (link_to old to from)
+  link_put (Some to) (Some from) p q = put_one Linked old from to (s, t, q, p, Among_right pairs ((s, t) ∷ []) (s, t) (inl refl))
+  link_put (Some to) None p q = put_none Linked old
+  link_put None from p q = put_none Linked old
 
-  -- a pair of which one has no number
-  unlinked : ((a b : ℕ) → number_in nodes s ≡ Some a → number_in nodes t ≡ Some b → ⊥) → AreLinks more nodes old
-  unlinked none = record {
-    size = h.size;
-    sound = lifted;
-    complete = λ x y a b m p q. elim (which x y m) [
-      | inl k ↦ h.complete x y a b k p q
-      | inr e ↦ absurd (none a b (ap (number_in nodes) e.0 ∙ p) (ap (number_in nodes) e.1 ∙ q))
-    ];
-  }
+  link_step : (to from : Option ℕ) → number_in nodes t ≡ to → number_in nodes s ≡ from → (a b : ℕ) → number_in nodes s ≡ Some a → number_in nodes t ≡ Some b → Step (link_to old to from) a b
+  link_step (Some to) (Some from) p q a b m n =
+      let first : a ≡ from = same_number (number_in nodes s) a from m q in
+      let second : b ≡ to = same_number (number_in nodes t) b to n p in
+      rw (first, second) (pushed_new old from to (omega (arith, h.size, number_small nodes s from q)))
+  link_step to from p q a b m n = absurd (cc)
 
   links_found : (to from : Option ℕ) → number_in nodes t ≡ to → number_in nodes s ≡ from → AreLinks more nodes (link_to old to from)
-  links_found None from p q = unlinked (λ a b m n. not_some b (sym p ∙ n))
-    where
-      not_some : (b : ℕ) → None ≡ Some b → ⊥
-      not_some b e = cc
-  links_found (Some to) None p q = unlinked (λ a b m n. not_some a (sym q ∙ m))
-    where
-      not_some : (b : ℕ) → None ≡ Some b → ⊥
-      not_some b e = cc
-  links_found (Some to) (Some from) p q = record {
-    size = pushed_length old from to ∙ h.size;
-    sound = λ a b k. elim (pushed_cases old from to a b k) [
-      | inl k ↦ lifted a b k
-      | inr e ↦ (s, t, q ∙ ap Some (sym e.0), p ∙ ap Some (sym e.1), Among_right pairs ((s, t) ∷ []) (s, t) (inl refl))
-    ];
-    complete = λ x y a b m na nb. elim (which x y m) [
-      | inl k ↦ pushed_old old from to a b (h.complete x y a b k na nb)
-      | inr e ↦ (
-          let first : a ≡ from = same_number (number_in nodes s) a from (ap (number_in nodes) e.0 ∙ na) q in
-          let second : b ≡ to = same_number (number_in nodes t) b to (ap (number_in nodes) e.1 ∙ nb) p in
-          let room : from < length old = subst (λ (z : ℕ). from < z) (sym h.size) (number_small nodes s from q) in
-          subst (λ (z : ℕ). Step (pushed old from to) z b) (sym first) (subst (λ (z : ℕ). Step (pushed old from to) from z) (sym second) (pushed_new old from to room))
-          )
-    ];
-  }
+  links_found to from p q =
+      let put = link_put to from p q in
+      record {
+        size = put.size ∙ h.size;
+        sound = put.each (λ a b k. let r = h.sound a b k in (r.0, r.1, r.2, r.3, Among_left pairs ((s, t) ∷ []) (r.0, r.1) r.4));
+        complete = λ x y a b m na nb. elim (Among_cases pairs ((s, t) ∷ []) (x, y) m) [
+          | inl k ↦ put.kept a b (h.complete x y a b k na nb)
+          | inr k ↦ elim k [
+            | inl e ↦ link_step to from p q a b (ap (λ (z : Node ℕ × Node ℕ). number_in nodes z.0) e ∙ na) (ap (λ (z : Node ℕ × Node ℕ). number_in nodes z.1) e ∙ nb)
+            | inr none ↦ absurd none
+          ]
+        ];
+      }
 
 -- one triple more
 pub links_turn : (list : List CodeTriple) (i : ℕ) (u : CodeTriple) (nodes : List (Node ℕ)) (old new : List (List ℕ)) → slice_get list i ≡ Some u → new ≡ linked nodes old (triple_seen u)
     → AreLinks (edges_by nodes (triples_seen (take i list))) nodes old → AreLinks (edges_by nodes (triples_seen (take (i + 1) list))) nodes new
-links_turn list i u nodes old new at turn h =
-    subst (λ (z : List (Node ℕ × Node ℕ)). AreLinks z nodes new) (sym (edges_more nodes list i u at)) (subst (AreLinks (edges_by nodes (triples_seen (take i list)) ++ edges_by nodes (triple_seen u ∷ [])) nodes) (sym turn) (go (live_by nodes (triple_seen u))))
+links_turn list i u nodes old new at turn h = rw (edges_more nodes list i u at, turn) (go (live_by nodes (triple_seen u)))
   where
     go : (o : Option (Node ℕ)) → AreLinks (edges_by nodes (triples_seen (take i list)) ++ cons_option (option_map {U = Node ℕ × Node ℕ} (λ (to : Node ℕ). ((triple_seen u).subject, to)) o) []) nodes (link_to old (number_of nodes o) (number_in nodes (triple_seen u).subject))
     go None = subst (λ (z : List (Node ℕ × Node ℕ)). AreLinks z nodes old) (sym (append-nil (edges_by nodes (triples_seen (take i list))))) h
     go (Some t) = links_found (edges_by nodes (triples_seen (take i list))) nodes old h (triple_seen u).subject t (number_in nodes t) (number_in nodes (triple_seen u).subject) refl refl
 
-pub links_end : (list : List CodeTriple) (i : ℕ) (nodes : List (Node ℕ)) (rows : List (List ℕ)) → length list ≤ i
-    → AreLinks (edges_by nodes (triples_seen (take i list))) nodes rows → AreLinks (edges_by nodes (triples_seen list)) nodes rows
-links_end list i nodes rows past h = subst (λ (z : List CodeTriple). AreLinks (edges_by nodes (triples_seen z)) nodes rows) (take_all i list past) h
-
 -- ---- the places of what is given
 
 put_row : (rows : List (List ℕ)) (o : Option ℕ) (place a : ℕ) → a < length rows → get_or (put_at rows o place) a [] ≡ get_or rows a [] ++ (if is_key a o then place ∷ [] else [])
 put_row rows None place a l = sym (append-nil (get_or rows a []))
-put_row rows (Some b) place a l = ⊎_elim (λ inside. pushed_row rows b place a inside) (λ past. beyond past (nat_eq a b) refl) (cases_lt b (length rows))
-  where
-    beyond : length rows ≤ b → (t : Bool) → nat_eq a b ≡ t → get_or (pushed rows b place) a [] ≡ get_or rows a [] ++ (if nat_eq a b then place ∷ [] else [])
-    beyond past true e = absurd (omega (arith, (Decides-eqb a b).0 e, past, l))
-    beyond past false e = rw e (ap (λ (z : List (List ℕ)). get_or z a []) (pushed_beyond rows b place past) ∙ sym (append-nil (get_or rows a [])))
+put_row rows (Some b) place a l = pushed_row rows b place a l
 
 put_length : (rows : List (List ℕ)) (o : Option ℕ) (place : ℕ) → length (put_at rows o place) ≡ length rows
 put_length rows None place = refl
@@ -116,9 +93,6 @@ own_turn list i u nodes roots old new at turn h = subst (AreOwn (triples_seen (t
       ∙ sym (places_more (owned nodes roots a) 0 (triples_seen (take i list)) (triple_seen u))
       ∙ ap (places (owned nodes roots a) 0) (sym (seen_more list i u at));
 })
-
-pub own_end : (list : List CodeTriple) (i : ℕ) (nodes : List (Node ℕ)) (roots : List ℕ) (rows : List (List ℕ)) → length list ≤ i → AreOwn (triples_seen (take i list)) nodes roots rows → AreOwn (triples_seen list) nodes roots rows
-own_end list i nodes roots rows past h = subst (λ (z : List CodeTriple). AreOwn (triples_seen z) nodes roots rows) (take_all i list past) h
 
 -- ---- ways by numbers are ways by pairs
 
@@ -233,15 +207,12 @@ module _ (list : List (Triple ℕ)) (nodes : List (Node ℕ)) (roots lead : List
         let owns : owned nodes roots (mark_at roots way.0) u ≡ true = owned_by u way.0 way.1 (gives_is u ∙ and_right (leads (same_node nat_eq) (edges nat_eq list) t u.subject) (not (says_pattern nat_eq u.predicate u.object) && is_none (live nat_eq list u.predicate u.object)) h) in
         let inside : mark_at roots way.0 < length x.links = x.joined.within way.0 (subst (λ (z : ℕ). way.0 < z) (sym x.links_are.size) (number_small nodes u.subject way.0 way.1)) in
         let room : mark_at roots way.0 < length own = subst (λ (z : ℕ). mark_at roots way.0 < z) (sym (x.own_are.size ∙ x.joined.size)) inside in
-        let place = place_for (owned nodes roots (mark_at roots way.0)) [] list u m owns in
-        let some : Among (get_or own (mark_at roots way.0) []) place.0 = subst (λ (z : List ℕ). Among z place.0) (sym (x.own_are.each (mark_at roots way.0) room)) place.1 in
-        let stands : mark_at lead (mark_at roots way.0) ≡ mark_at roots way.0 = elim (led_cases (mark_at roots way.0) (subst (λ (z : ℕ). mark_at roots way.0 < z) (sym x.nexts_are.size) inside)) [ inl e ↦ e | inr e ↦ absurd (not_empty (get_or own (mark_at roots way.0) []) place.0 some e.0) ] in
+        let stands : mark_at lead (mark_at roots way.0) ≡ mark_at roots way.0 = elim (led_cases (mark_at roots way.0) (subst (λ (z : ℕ). mark_at roots way.0 < z) (sym x.nexts_are.size) inside)) [
+          | inl e ↦ e
+          | inr e ↦ absurd (place_for (owned nodes roots (mark_at roots way.0)) 0 list u m owns (ap length (sym (x.own_are.each (mark_at roots way.0) room)) ∙ e.0))
+        ] in
         let small : mark_at lead (mark_at roots way.0) < length lead = subst (λ (z : ℕ). z < length lead) (sym stands) (subst (λ (z : ℕ). mark_at roots way.0 < z) (sym (x.leads_on.size ∙ x.nexts_are.size)) inside) in
         any_by (owned nodes roots) reached u (mark_at roots way.0) (subst (Among reached) stands (led_reached way.0 way.2 small)) owns
-      where
-        not_empty : (xs : List ℕ) (y : ℕ) → Among xs y → length xs ≡ 0 → ⊥
-        not_empty [] y n e = n
-        not_empty (z ∷ xs) y n e = omega (arith, e)
 
     same_test : (u : Triple ℕ) → Among list u → any_of (owned nodes roots) reached u ≡ gives list t u
     same_test u m = same_truth (any_of (owned nodes roots) reached u) (gives list t u) (reached_given u) (given_reached u m)
@@ -272,17 +243,7 @@ module _ (nodes : List (Node ℕ)) (roots lead : List ℕ) (nexts own : List (Li
   contents_start rows n e = record { each = λ a. inl (ap (λ (z : List (List ℕ)). get_or z a []) e ∙ empty_row n a) }
 
   pub contents_turn : (old new : List (List ℕ)) (a : ℕ) (found : List ℕ) → IsContent nodes roots lead nexts own a found → new ≡ slice_set old a found → AreContents nodes roots lead nexts own old → AreContents nodes roots lead nexts own new
-  contents_turn old new a found c turn h = subst (AreContents nodes roots lead nexts own) (sym turn) (record {
-    each = λ b. elim (row_cases old a found b) [
-      | inl e ↦ elim (h.each b) [ inl q ↦ inl (e ∙ q) | inr q ↦ inr (subst (IsContent nodes roots lead nexts own b) (sym e) q) ]
-      | inr e ↦ inr (subst (IsContent nodes roots lead nexts own b) (sym e.1) (subst (λ (z : ℕ). IsContent nodes roots lead nexts own z found) e.0 c))
-    ];
-  })
-    where
-      row_cases : (rows : List (List ℕ)) (a : ℕ) (found : List ℕ) (b : ℕ) → (get_or (slice_set rows a found) b [] ≡ get_or rows b []) ⊎ ((a ≡ b) × (get_or (slice_set rows a found) b [] ≡ found))
-      row_cases (y ∷ rows) zero found zero = inr (refl, refl)
-      row_cases (y ∷ rows) (suc a) found (suc b) = elim (row_cases rows a found b) [ inl e ↦ inl e | inr e ↦ inr (ap suc e.0, e.1) ]
-      row_cases _ _ found _ = inl refl
+  contents_turn old new a found c turn h = rw turn (record { each = set_each (λ b row. (row ≡ []) ⊎ IsContent nodes roots lead nexts own b row) (λ b. []) old a found (inr c) h.each })
 
   -- a row that isn't empty is what is given
   pub contents_at : (rows : List (List ℕ)) (a : ℕ) (row : List ℕ) → row ≡ get_or rows a [] → AreContents nodes roots lead nexts own rows → ¬ (row ≡ []) → IsContent nodes roots lead nexts own a row
@@ -292,11 +253,11 @@ module _ (nodes : List (Node ℕ)) (roots lead : List ℕ) (nexts own : List (Li
 
 pub no_lead : (f : ℕ → ℕ) (o r : Option ℕ) → r ≡ option_map f o → r ≡ None → o ≡ None
 no_lead f None r e h = refl
-no_lead f (Some k) r e h = let both : Some (f k) ≡ None = sym e ∙ h in cc
+no_lead f (Some k) r e h = absurd (cc)
 
 some_lead : (f : ℕ → ℕ) (o r : Option ℕ) (a : ℕ) → r ≡ option_map f o → r ≡ Some a → (k : ℕ) × (o ≡ Some k) × (f k ≡ a)
-some_lead f None r a e h = let both : None ≡ Some a = sym e ∙ h in cc
-some_lead f (Some k) r a e h = (k, refl, (let both : Some (f k) ≡ Some a = sym e ∙ h in cc))
+some_lead f None r a e h = absurd (cc)
+some_lead f (Some k) r a e h = (k, refl, cc)
 
 pub content_of : (list : List (Triple ℕ)) (nodes : List (Node ℕ)) (roots lead : List ℕ) (nexts own : List (List ℕ)) (t : Node ℕ) (from : ℕ) (found : List ℕ) (r : Option ℕ) → IsIndex list nodes roots lead nexts own
     → IsContent nodes roots lead nexts own from found → r ≡ option_map (λ (k : ℕ). mark_at lead (mark_at roots k)) (number_in nodes t) → r ≡ Some from → found ≡ contents list t

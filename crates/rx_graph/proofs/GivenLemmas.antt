@@ -1,36 +1,16 @@
 -- A list in which blank nodes are given their numbers from left to right, in place.
-use Rattle.rx_model.proofs.Common.{◌≡◌, ℕ, zero, suc, ◌+◌, ◌<◌, ◌≤◌, List, [], ◌∷◌, ◌++◌, map, length, take, drop, get_or, slice_get, slice_set, Some, refl, sym, ap, ◌∙◌, nat_eq, Result, Ok, Err, IfOk, arith, map-append, take_all, slice_get-get_or, distinct, with_all, same_triple, set_of, blanks_of, blanks, place_in, rename, numbered, Renamed, triple_seen, triples_seen, exact_numbers, numbers_one_to_one}
+use Rattle.rx_model.proofs.Common.{◌≡◌, ℕ, zero, suc, ◌+◌, ◌<◌, ◌≤◌, List, [], ◌∷◌, map, length, take, drop, get_or, slice_get, slice_set, Some, refl, sym, ap, ◌∙◌, nat_eq, Result, Ok, Err, IfOk, arith, slice_get-get_or, distinct, with_all, same_triple, set_of, blanks_of, blanks, place_in, rename, numbered, Renamed, triple_seen, triples_seen, exact_numbers, numbers_one_to_one}
+use Rattle.std.proofs.lemmas.List.{map-append, take_all, drop-set-lt, drop-drop, take_more_set, length-set}
 use Rattle.rx_terms.specs.declared.triples.Triple.{Triple as CodeTriple}
 use Rattle.rx_graph.proofs.NumberLemmas.{numbers_turn, front_turn, numbered_once}
 
--- ---- one element of a list is set
+get_first : {A : Type 0} (xs : List A) (i : ℕ) (d : A) → get_or xs i d ≡ get_or (drop i xs) 0 d
+get_first [] (suc i) d = refl
+get_first (x ∷ xs) (suc i) d = get_first xs i d
+get_first _ zero d = refl
 
-module _ {A : Type 0} where
-  set_length : (xs : List A) (i : ℕ) (x : A) → length (slice_set xs i x) ≡ length xs
-  set_length (y ∷ xs) (suc i) x = ap suc (set_length xs i x)
-  set_length _ _ x = refl
-
-  set_front : (xs : List A) (i : ℕ) (x : A) → i < length xs → take (suc i) (slice_set xs i x) ≡ take i xs ++ x ∷ []
-  set_front [] i x h = absurd (omega arith)
-  set_front (y ∷ xs) zero x h = refl
-  set_front (y ∷ xs) (suc i) x h = ap (λ z. y ∷ z) (set_front xs i x (omega arith))
-
-  set_rest : (xs : List A) (i : ℕ) (x : A) → drop (suc i) (slice_set xs i x) ≡ drop (suc i) xs
-  set_rest (y ∷ xs) (suc i) x = set_rest xs i x
-  set_rest _ _ x = refl
-
-  drop_one : (xs : List A) (i : ℕ) → drop (suc i) xs ≡ drop 1 (drop i xs)
-  drop_one [] (suc i) = refl
-  drop_one (x ∷ xs) (suc i) = drop_one xs i
-  drop_one _ zero = refl
-
-  get_first : (xs : List A) (i : ℕ) (d : A) → get_or xs i d ≡ get_or (drop i xs) 0 d
-  get_first [] (suc i) d = refl
-  get_first (x ∷ xs) (suc i) d = get_first xs i d
-  get_first _ zero d = refl
-
-one_up : (n : ℕ) → n + 1 ≡ suc n
-one_up n = omega arith
+drop_one : {A : Type 0} (xs : List A) (i : ℕ) → drop (i + 1) xs ≡ drop 1 (drop i xs)
+drop_one xs i = sym (drop-drop 1 i xs)
 
 -- ---- as far as a place
 
@@ -50,11 +30,11 @@ given_turn list now i numbers more d t u g within is grows renamed =
     let here : get_or list i d ≡ t = get_first list i d ∙ ap (λ z. get_or z 0 d) (sym g.rest) ∙ sym (get_first now i d) ∙ sym is in
     let at : slice_get list i ≡ Some t = slice_get-get_or list i d within ∙ ap Some here in
     record {
-      size = set_length now i u ∙ g.size;
+      size = length-set now i u ∙ g.size;
       known = numbers_turn list i t at numbers more g.known grows;
       front = front_turn list i t at numbers more g.known grows (triples_seen (take i now)) _ (triple_seen u) g.front renamed
-          (ap (λ n. triples_seen (take n (slice_set now i u))) (one_up i) ∙ ap triples_seen (set_front now i u (omega (arith, within, g.size))) ∙ map-append triple_seen (take i now) (u ∷ []));
-      rest = ap (λ n. drop n (slice_set now i u)) (one_up i) ∙ set_rest now i u ∙ drop_one now i ∙ ap (drop 1) g.rest ∙ sym (drop_one list i) ∙ ap (λ n. drop n list) (sym (one_up i));
+          (ap triples_seen (take_more_set now i u (omega (arith, within, g.size))) ∙ map-append triple_seen (take i now) (u ∷ []));
+      rest = drop-set-lt (i + 1) now i u (omega arith) ∙ drop_one now i ∙ ap (drop 1) g.rest ∙ sym (drop_one list i);
     }
 
 pub given_end : (list now : List CodeTriple) (i : ℕ) (numbers : List ℕ) → Given list now i numbers → length list ≤ i → triples_seen now ≡ numbered nat_eq (triples_seen list)

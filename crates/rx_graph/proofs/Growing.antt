@@ -1,5 +1,5 @@
 -- Lists to which each element comes once, from left to right, and the places of the elements.
-use Rattle.rx_model.proofs.Common.{◌≡◌, suc, ◌+◌, Bool, true, false, List, [], ◌∷◌, ◌++◌, length, refl, sym, ap, ◌∙◌, inl, inr, true≢false, append_assoc, append-nil, cond, arith, ◌||◌, if◌then◌else◌, Among, IsExact, contains, distinct, with_one, with_all, place_in, Among_right, Among-contains, Among_distinct}
+use Rattle.rx_model.proofs.Common.{◌≡◌, suc, ◌+◌, Bool, true, false, List, [], ◌∷◌, ◌++◌, length, refl, sym, ap, ◌∙◌, inl, inr, true≢false, append_assoc, append-nil, cond, arith, or_parts, by_test, Among, IsExact, contains, distinct, with_one, with_all, place_in, Among_right, Among-contains, Among_distinct, or_cases, or_left, or_right}
 use Rattle.rx_graph.proofs.SetLemmas.{distinct_grows}
 
 module _ {B : Type 0} (same : B → B → Bool) where
@@ -7,45 +7,27 @@ module _ {B : Type 0} (same : B → B → Bool) where
 
   pub contains_append : (xs ys : List B) (b : B) → contains same xs b ≡ true → contains same (xs ++ ys) b ≡ true
   contains_append [] ys b h = absurd (true≢false (sym h))
-  contains_append (x ∷ xs) ys b h = go (same x b) h (contains_append xs ys b)
-    where
-      go : (t : Bool) → (t || contains same xs b) ≡ true → (contains same xs b ≡ true → contains same (xs ++ ys) b ≡ true) → (t || contains same (xs ++ ys) b) ≡ true
-      go true k ih = refl
-      go false k ih = ih k
+  contains_append (x ∷ xs) ys b h = elim (or_cases (same x b) (contains same xs b) h) [ inl e ↦ or_left (same x b) (contains same (xs ++ ys) b) e | inr k ↦ or_right (same x b) (contains same (xs ++ ys) b) (contains_append xs ys b k) ]
 
   pub place_append : (xs ys : List B) (b : B) → contains same xs b ≡ true → place_in same (xs ++ ys) b ≡ place_in same xs b
   place_append [] ys b h = absurd (true≢false (sym h))
-  place_append (x ∷ xs) ys b h = go (same x b) h (place_append xs ys b)
-    where
-      go : (t : Bool) → (t || contains same xs b) ≡ true → (contains same xs b ≡ true → place_in same (xs ++ ys) b ≡ place_in same xs b) → cond t 0 (suc (place_in same (xs ++ ys) b)) ≡ cond t 0 (suc (place_in same xs b))
-      go true k ih = refl
-      go false k ih = ap suc (ih k)
+  place_append (x ∷ xs) ys b h = elim (or_cases (same x b) (contains same xs b) h) [ inl e ↦ rw e refl | inr k ↦ ap (λ n. cond (same x b) 0 (suc n)) (place_append xs ys b k) ]
 
   -- ---- what the front lacks
 
   pub contains_behind : (front xs : List B) (b : B) → contains same front b ≡ false → contains same (front ++ xs) b ≡ contains same xs b
   contains_behind [] xs b h = refl
-  contains_behind (x ∷ front) xs b h = go (same x b) h (contains_behind front xs b)
-    where
-      go : (t : Bool) → (t || contains same front b) ≡ false → (contains same front b ≡ false → contains same (front ++ xs) b ≡ contains same xs b) → (t || contains same (front ++ xs) b) ≡ contains same xs b
-      go true k ih = absurd (true≢false k)
-      go false k ih = ih k
+  contains_behind (x ∷ front) xs b h = let none = or_parts (same x b) (contains same front b) h in rw none.0 (contains_behind front xs b none.1)
 
   pub place_behind : (front xs : List B) (b : B) → contains same front b ≡ false → place_in same (front ++ xs) b ≡ length front + place_in same xs b
   place_behind [] xs b h = omega arith
-  place_behind (x ∷ front) xs b h = go (same x b) h (place_behind front xs b)
-    where
-      go : (t : Bool) → (t || contains same front b) ≡ false → (contains same front b ≡ false → place_in same (front ++ xs) b ≡ length front + place_in same xs b)
-          → cond t 0 (suc (place_in same (front ++ xs) b)) ≡ suc (length front) + place_in same xs b
-      go true k ih = absurd (true≢false k)
-      go false k ih = let it = ih k in omega (arith, it)
+  place_behind (x ∷ front) xs b h =
+      let none = or_parts (same x b) (contains same front b) h in
+      let rest = place_behind front xs b none.1 in
+      rw none.0 (omega (arith, rest))
 
   pub one_behind : (front xs : List B) (b : B) → contains same front b ≡ false → with_one same (front ++ xs) b ≡ front ++ with_one same xs b
-  one_behind front xs b h = ap (λ t. if t then front ++ xs else (front ++ xs) ++ b ∷ []) (contains_behind front xs b h) ∙ go (contains same xs b)
-    where
-      go : (t : Bool) → (if t then front ++ xs else (front ++ xs) ++ b ∷ []) ≡ front ++ (if t then xs else xs ++ b ∷ [])
-      go true = refl
-      go false = append_assoc front xs (b ∷ [])
+  one_behind front xs b h = rw (contains_behind front xs b h) (by_test (contains same xs b) (λ e. rw e refl) (λ e. rw e (append_assoc front xs (b ∷ []))))
 
   -- ---- one list after another
 
@@ -68,11 +50,7 @@ module _ {B : Type 0} (same : B → B → Bool) where
   kept_append xs ys = record { among = contains_append xs ys; places = place_append xs ys }
 
   kept_one : (seen : List B) (b : B) → Kept seen (with_one same seen b)
-  kept_one seen b = go (contains same seen b)
-    where
-      go : (t : Bool) → Kept seen (if t then seen else seen ++ b ∷ [])
-      go true = kept_self seen
-      go false = kept_append seen (b ∷ [])
+  kept_one seen b = by_test (contains same seen b) (λ e. rw e (kept_self seen)) (λ e. rw e (kept_append seen (b ∷ [])))
 
   pub kept_all : (seen more : List B) → Kept seen (with_all same seen more)
   kept_all seen [] = kept_self seen
@@ -83,11 +61,7 @@ module _ {B : Type 0} (same : B → B → Bool) (exact : IsExact same) where
   has_last xs b = Among-contains same exact (xs ++ b ∷ []) b (Among_right xs (b ∷ []) b (inl refl))
 
   pub has_one : (seen : List B) (b : B) → contains same (with_one same seen b) b ≡ true
-  has_one seen b = go (contains same seen b) refl
-    where
-      go : (t : Bool) → contains same seen b ≡ t → contains same (if t then seen else seen ++ b ∷ []) b ≡ true
-      go true e = e
-      go false e = has_last seen b
+  has_one seen b = by_test (contains same seen b) (λ e. rw e e) (λ e. rw e (has_last seen b))
 
   pub has_all : (seen more : List B) (b : B) → Among more b → contains same (with_all same seen more) b ≡ true
   has_all seen [] b h = absurd h

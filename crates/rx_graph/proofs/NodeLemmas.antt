@@ -1,5 +1,5 @@
 -- Borrowed nodes and their list.
-use Rattle.rx_model.proofs.Common.{nat_tests, contains, with_one, same_node}
+use Rattle.rx_model.proofs.Common.{nat_tests, by_test, contains, with_one, same_node}
 use Rattle.std.proofs.Common.{◌≡◌, suc, ◌+◌, Bool, true, false, nat_lt, nat_eq, List, [], ◌∷◌, map, length, position, Some, option_map, refl, sym, ap, ◌∙◌, arith, if◌then◌else◌}
 use Rattle.std.specs.List.{AllByRecursion, position_or_len, IsDistinct}
 use Rattle.rx_graph.specs.declared.resources.Resource.{Resource}
@@ -21,19 +21,12 @@ nodes_once [] h = tt
 nodes_once (x ∷ list) h = (none_alike x list h.0, nodes_once list h.1)
 
 position_more : (p : Resource → Bool) (x : Resource) (list : List Resource) → position p (x ∷ list) ≡ (if p x then Some 0 else option_map suc (position p list))
-position_more p x list = go (p x) refl (nat_lt (position_or_len p list) (length list)) refl
-  where
-    go : (b : Bool) → p x ≡ b → (t : Bool) → nat_lt (position_or_len p list) (length list) ≡ t → position p (x ∷ list) ≡ (if p x then Some 0 else option_map suc (position p list))
-    go true e t f =
-        let some : nat_lt 0 (suc (length list)) ≡ true = grind (arith, nat_tests) in
-        rw (e, some) refl
-    go false e true f =
-        let more : nat_lt (1 + position_or_len p list) (suc (length list)) ≡ true = grind (arith, nat_tests, f) in
-        let next : 1 + position_or_len p list ≡ suc (position_or_len p list) = omega arith in
-        rw (e, f, more) (ap Some next)
-    go false e false f =
-        let more : nat_lt (1 + position_or_len p list) (suc (length list)) ≡ false = grind (arith, nat_tests, f) in
-        rw (e, f, more) refl
+position_more p x list =
+    let some : nat_lt 0 (suc (length list)) ≡ true = grind (arith, nat_tests) in
+    let next : 1 + position_or_len p list ≡ suc (position_or_len p list) = omega arith in
+    by_test (p x) (λ e. rw (e, some) refl) (λ e. by_test (nat_lt (position_or_len p list) (length list))
+    (λ f. let more : nat_lt (1 + position_or_len p list) (suc (length list)) ≡ true = grind (arith, nat_tests, f) in rw (e, f, more) (ap Some next))
+    (λ f. let more : nat_lt (1 + position_or_len p list) (suc (length list)) ≡ false = grind (arith, nat_tests, f) in rw (e, f, more) refl))
 
 pub number_seen : (list : List Resource) (r : Resource) → position (resource_eq r) list ≡ number_in (map resource_seen list) (resource_seen r)
 number_seen [] r = refl

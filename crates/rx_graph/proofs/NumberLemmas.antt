@@ -1,5 +1,5 @@
 -- Numbering from left to right.
-use Rattle.rx_model.proofs.Common.{◌≡◌, ℕ, ◌+◌, Bool, true, false, List, [], ◌∷◌, ◌++◌, map, refl, sym, ap, ap₂, ◌∙◌, inl, nat_eq, arith, append_assoc, append-nil, cond, take, slice_get, Some, if◌then◌else◌, position_or_len, map-append, same_truth, Among, contains, distinct, with_one, with_all, Node, Iri, Blank, Term, Resource, Literal, Triple, same_triple, blank_of_node, blank_of_term, blanks_of, blanks, place_in, rename_node, rename_term, rename, numbered, Among_left, Among_right, Among_distinct, Among_flat_map, exact_numbers, exact_triples, triple_seen, triples_seen, place_tells}
+use Rattle.rx_model.proofs.Common.{◌≡◌, ℕ, ◌+◌, List, [], ◌∷◌, ◌++◌, map, refl, sym, ap, ap₂, ◌∙◌, inl, nat_eq, arith, append_assoc, append-nil, cond, take, slice_get, Some, position_or_len, map-append, same_truth, by_test, Among, contains, distinct, with_one, with_all, Node, Iri, Blank, Term, Resource, Literal, Triple, same_triple, blank_of_node, blank_of_term, blanks_of, blanks, place_in, rename_node, rename_term, rename, numbered, Among_left, Among_right, Among_distinct, Among_flat_map, exact_numbers, exact_triples, triple_seen, triples_seen, place_tells}
 use Rattle.rx_terms.specs.declared.triples.Blank.{Blank as CodeBlank}
 use Rattle.rx_terms.specs.declared.triples.Triple.{Triple as CodeTriple}
 use Rattle.rx_unique.specs.Unique.{insert_key}
@@ -110,11 +110,7 @@ numbered_once list once =
 -- ---- the place of one that is known
 
 place_new : (xs : List ℕ) (b : ℕ) → place_in nat_eq (with_one nat_eq xs b) b ≡ place_in nat_eq (xs ++ b ∷ []) b
-place_new xs b = go (contains nat_eq xs b) refl
-  where
-    go : (t : Bool) → contains nat_eq xs b ≡ t → place_in nat_eq (if t then xs else xs ++ b ∷ []) b ≡ place_in nat_eq (xs ++ b ∷ []) b
-    go true e = sym (place_append nat_eq xs (b ∷ []) b e)
-    go false e = refl
+place_new xs b = by_test (contains nat_eq xs b) (λ e. rw e (sym (place_append nat_eq xs (b ∷ []) b e))) (λ e. rw e refl)
 
 pub place_known : (list : List CodeBlank) (b : CodeBlank) → position_or_len (blank_eq b) list ≡ place_in nat_eq (with_one nat_eq (map number_of list) b.0) b.0
 place_known list b = sym (is_position_or_len (λ xs. place_in nat_eq (map number_of xs ++ b.0 ∷ []) b.0) (blank_eq b) none step list) ∙ sym (place_new (map number_of list) b.0)

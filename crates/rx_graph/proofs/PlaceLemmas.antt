@@ -1,5 +1,5 @@
 -- Places in order, and what is given there.
-use Rattle.rx_model.proofs.Common.{◌≡◌, ℕ, suc, ◌+◌, ◌<◌, ◌≤◌, Bool, true, false, nat_eq, nat_lt, List, [], ◌∷◌, ◌++◌, flat_map, filter_map, length, take, get_or, slice_get, Option, Some, None, is_none, refl, sym, ap, ap₂, subst, ◌∙◌, true≢false, arith, append-nil, append_assoc, length-append, inl, inr, not, ◌&&◌, ◌||◌, if◌then◌else◌, cons_option, sum_by, nat_tests, take_all, filter_map-append, IsPermutation, IsNonDecreasing, IsPermutation-refl, IsPermutation-trans, IsPermutation-cons, IsPermutation-middle, IsPermutation-append, sum_by-IsPermutation, sum_by-cons, flat_map-append, Among, contains, with_one, with_all, Node, Triple, same_node, same_triple, live, edges, treated, copied, is_referenced, says_pattern, spo, leads, given, triple_seen, triples_seen, exact_numbers, exact_triples, Among-contains, or_cases, or_left, or_right}
+use Rattle.rx_model.proofs.Common.{◌≡◌, ℕ, suc, ◌+◌, ◌<◌, ◌≤◌, Bool, true, false, nat_eq, List, [], ◌∷◌, ◌++◌, flat_map, filter_map, length, take, get_or, slice_get, Option, Some, None, is_none, refl, sym, ap, ap₂, subst, ◌∙◌, true≢false, arith, append-nil, inl, inr, ⊎_elim, not, ◌&&◌, ◌||◌, if◌then◌else◌, cases_lt, cons_option, sum_by, nat_tests, take_all, filter_map-append, by_test, IsPermutation, IsNonDecreasing, IsPermutation-refl, IsPermutation-trans, IsPermutation-cons, IsPermutation-middle, IsPermutation-append, sum_by-IsPermutation, sum_by-cons, flat_map-append, Among, contains, with_one, with_all, Node, Triple, same_node, same_triple, live, edges, treated, copied, is_referenced, says_pattern, spo, leads, given, triple_seen, triples_seen, exact_numbers, exact_triples, Among-contains, or_cases, or_left, or_right}
 use Rattle.std.specs.Option.{option_to_list}
 use Rattle.rx_terms.specs.declared.triples.Triple.{Triple as CodeTriple}
 use Rattle.rx_graph.specs.Patterns.{places, ArePatterns, AreReferenced, edges_by, given_one}
@@ -11,43 +11,21 @@ use Rattle.rx_graph.proofs.PatternLemmas.{edges_are}
 
 -- ---- places and triples
 
--- each triple that passes has a place
-pub place_for : (test : Triple ℕ → Bool) (front list : List (Triple ℕ)) (u : Triple ℕ) → Among list u → test u ≡ true
-    → (i : ℕ) × Among (places test (length front) list) i × (slice_get (front ++ list) i ≡ Some u)
-place_for test front [] u h p = absurd h
-place_for test front (t ∷ list) u h p = go (test t) refl h (λ m. further (place_for test (front ++ t ∷ []) list u m p))
-  where
-    longer : length (front ++ t ∷ []) ≡ suc (length front)
-    longer = omega (arith, length-append front (t ∷ []))
-
-    further : (i : ℕ) × Among (places test (length (front ++ t ∷ [])) list) i × (slice_get ((front ++ t ∷ []) ++ list) i ≡ Some u) → (i : ℕ) × Among (places test (suc (length front)) list) i × (slice_get (front ++ t ∷ list) i ≡ Some u)
-    further (i, m, at) = (i, subst (λ n. Among (places test n list) i) longer m, ap (λ z. slice_get z i) (sym (append_assoc front (t ∷ []) list)) ∙ at)
-
-    middle : (front : List (Triple ℕ)) → slice_get (front ++ t ∷ list) (length front) ≡ Some t
-    middle [] = refl
-    middle (x ∷ front) = middle front
-
-    go : (b : Bool) → test t ≡ b → Among (t ∷ list) u
-        → (Among list u → (i : ℕ) × Among (places test (suc (length front)) list) i × (slice_get (front ++ t ∷ list) i ≡ Some u))
-        → (i : ℕ) × Among (if b then length front ∷ places test (suc (length front)) list else places test (suc (length front)) list) i × (slice_get (front ++ t ∷ list) i ≡ Some u)
-    go true e (inl q) ih = (length front, inl refl, middle front ∙ ap Some q)
-    go true e (inr m) ih = let r = ih m in (r.0, inr r.1, r.2)
-    go false e (inl q) ih = absurd (true≢false (sym p ∙ sym (ap test q) ∙ e))
-    go false e (inr m) ih = ih m
+-- where a triple passes there is a place
+pub place_for : (test : Triple ℕ → Bool) (j : ℕ) (list : List (Triple ℕ)) (u : Triple ℕ) → Among list u → test u ≡ true → length (places test j list) ≡ 0 → ⊥
+place_for test j [] u h p e = h
+place_for test j (t ∷ list) u (inl q) p e = let some : length (j ∷ places test (suc j) list) ≡ 0 = rw (ap test q ∙ p) at e in omega (arith, some)
+place_for test j (t ∷ list) u (inr m) p e = by_test (test t) (λ y. let some : length (j ∷ places test (suc j) list) ≡ 0 = rw y at e in omega (arith, some)) (λ n. place_for test (suc j) list u m p (rw n at e))
 
 -- ---- two tests that no triple passes both
 
 merge : (p q : Triple ℕ → Bool) → ((t : Triple ℕ) → p t ≡ true → q t ≡ true → ⊥) → (j : ℕ) (list : List (Triple ℕ)) → IsPermutation (places p j list ++ places q j list) (places (λ t. p t || q t) j list)
 merge p q apart j [] = IsPermutation-refl []
-merge p q apart j (t ∷ list) = go (p t) refl (q t) refl (merge p q apart (suc j) list)
-  where
-    go : (b : Bool) → p t ≡ b → (c : Bool) → q t ≡ c → IsPermutation (places p (suc j) list ++ places q (suc j) list) (places (λ t. p t || q t) (suc j) list)
-        → IsPermutation ((if p t then j ∷ places p (suc j) list else places p (suc j) list) ++ (if q t then j ∷ places q (suc j) list else places q (suc j) list))
-        (if p t || q t then j ∷ places (λ t. p t || q t) (suc j) list else places (λ t. p t || q t) (suc j) list)
-    go true e true f ih = absurd (apart t e f)
-    go true e false f ih = rw (e, f) (IsPermutation-cons j _ _ ih)
-    go false e true f ih = rw (e, f) (IsPermutation-trans _ _ _ (IsPermutation-middle (places p (suc j) list) j (places q (suc j) list)) (IsPermutation-cons j _ _ ih))
-    go false e false f ih = rw (e, f) ih
+merge p q apart j (t ∷ list) =
+    let rest = merge p q apart (suc j) list in
+    let behind = IsPermutation-trans _ _ _ (IsPermutation-middle (places p (suc j) list) j (places q (suc j) list)) (IsPermutation-cons j _ _ rest) in
+    by_test (p t) (λ e. by_test (q t) (λ f. absurd (apart t e f)) (λ f. rw (e, f) (IsPermutation-cons j _ _ rest)))
+    (λ e. by_test (q t) (λ f. rw (e, f) behind) (λ f. rw (e, f) rest))
 
 no_places : (j : ℕ) (list : List (Triple ℕ)) → places (λ t. false) j list ≡ []
 no_places j [] = refl
@@ -67,12 +45,14 @@ any_by test [] t x m h = absurd m
 any_by test (y ∷ numbers) t x (inl e) h = or_left (test y t) (any_of test numbers t) (ap (λ (z : ℕ). test z t) e ∙ h)
 any_by test (y ∷ numbers) t x (inr m) h = or_right (test y t) (any_of test numbers t) (any_by test numbers t x m h)
 
-gathered : (test : ℕ → Triple ℕ → Bool) → ((x y : ℕ) (t : Triple ℕ) → test x t ≡ true → test y t ≡ true → x ≡ y) → (list : List (Triple ℕ)) (numbers : List ℕ) → EachOnce numbers
-    → IsPermutation (flat_map (λ (x : ℕ). places (test x) 0 list) numbers) (places (any_of test numbers) 0 list)
-gathered test tells list [] d = subst (IsPermutation []) (sym (no_places 0 list)) (IsPermutation-refl [])
-gathered test tells list (x ∷ numbers) d = IsPermutation-trans _ _ _
-    (IsPermutation-append (places (test x) 0 list) (places (test x) 0 list) (flat_map (λ (y : ℕ). places (test y) 0 list) numbers) (places (any_of test numbers) 0 list) (IsPermutation-refl (places (test x) 0 list)) (gathered test tells list numbers d.1))
-    (merge (test x) (any_of test numbers) apart 0 list)
+-- rows that are places, one after another, are the places of all
+gathered : (rows : List (List ℕ)) (test : ℕ → Triple ℕ → Bool) → ((x y : ℕ) (t : Triple ℕ) → test x t ≡ true → test y t ≡ true → x ≡ y) → (list : List (Triple ℕ)) (numbers : List ℕ) → EachOnce numbers
+    → ((x : ℕ) → Among numbers x → get_or rows x [] ≡ places (test x) 0 list) → IsPermutation (flat_map (λ (x : ℕ). get_or rows x []) numbers) (places (any_of test numbers) 0 list)
+gathered rows test tells list [] d are = subst (IsPermutation []) (sym (no_places 0 list)) (IsPermutation-refl [])
+gathered rows test tells list (x ∷ numbers) d are = rw (are x (inl refl)) (IsPermutation-trans _ _ _
+    (IsPermutation-append (places (test x) 0 list) (places (test x) 0 list) (flat_map (λ (y : ℕ). get_or rows y []) numbers) (places (any_of test numbers) 0 list) (IsPermutation-refl (places (test x) 0 list))
+    (gathered rows test tells list numbers d.1 (λ y m. are y (inr m))))
+    (merge (test x) (any_of test numbers) apart 0 list))
   where
     apart : (t : Triple ℕ) → test x t ≡ true → any_of test numbers t ≡ true → ⊥
     apart t h k =
@@ -82,115 +62,67 @@ gathered test tells list (x ∷ numbers) d = IsPermutation-trans _ _ _
 
 -- ---- ascending lists with the same elements
 
-abbrev at_least : ℕ → List ℕ → Type 0
-at_least n [] = Unit {0}
-at_least n (x ∷ xs) = (n ≤ x) × at_least n xs
+abbrev Rises : ℕ → List ℕ → Type 0
+Rises n [] = Unit {0}
+Rises n (x ∷ xs) = (n ≤ x) × Rises x xs
 
-abbrev Ascends : List ℕ → Type 0
-Ascends [] = Unit {0}
-Ascends (x ∷ xs) = at_least x xs × Ascends xs
-
-from_steps : (xs : List ℕ) → IsNonDecreasing xs → Ascends xs
-from_steps [] h = tt
-from_steps (x ∷ xs) h = (least xs (λ i l. h 0 (suc i) 0 (omega arith) (omega (arith, l))), from_steps xs (λ i j d l m. h (suc i) (suc j) d (omega (arith, l)) (omega (arith, m))))
-  where
-    least : (ys : List ℕ) → ((i : ℕ) → i < length ys → x ≤ get_or ys i 0) → at_least x ys
-    least [] k = tt
-    least (y ∷ ys) k = (k 0 (omega arith), least ys (λ i l. k (suc i) (omega (arith, l))))
+from_steps : (n : ℕ) (xs : List ℕ) → ((i : ℕ) → i < length xs → n ≤ get_or xs i 0) → IsNonDecreasing xs → Rises n xs
+from_steps n [] k h = tt
+from_steps n (x ∷ xs) k h = (k 0 (omega arith), from_steps x xs (λ i l. h 0 (suc i) 0 (omega arith) (omega (arith, l))) (λ i j d l m. h (suc i) (suc j) d (omega (arith, l)) (omega (arith, m))))
 
 -- how often a number stands in a list
-count : ℕ → List ℕ → ℕ
-count v [] = 0
-count v (x ∷ xs) = (if nat_eq x v then 1 else 0) + count v xs
+abbrev count : ℕ → List ℕ → ℕ
+count v xs = sum_by (λ x. if nat_eq x v then 1 else 0) xs
 
-count_sum : (v : ℕ) (xs : List ℕ) → sum_by (λ x. if nat_eq x v then 1 else 0) xs ≡ count v xs
-unfolding count
-count_sum v [] = refl
-count_sum v (x ∷ xs) = sum_by-cons (λ x. if nat_eq x v then 1 else 0) x xs ∙ ap (λ n. (if nat_eq x v then 1 else 0) + n) (count_sum v xs)
+count_cons : (v x : ℕ) (xs : List ℕ) → count v (x ∷ xs) ≡ (if nat_eq x v then 1 else 0) + count v xs
+count_cons v x xs = sum_by-cons (λ x. if nat_eq x v then 1 else 0) x xs
 
-count_below : (v : ℕ) (n : ℕ) (xs : List ℕ) → v < n → at_least n xs → count v xs ≡ 0
-unfolding count
+count_below : (v n : ℕ) (xs : List ℕ) → v < n → Rises n xs → count v xs ≡ 0
 count_below v n [] l h = refl
-count_below v n (x ∷ xs) l h =
-    let other : nat_eq x v ≡ false = grind (arith, nat_tests, l, h.0) in
-    let rest = count_below v n xs l h.1 in
-    rw (other, rest) refl
+count_below v n (x ∷ xs) l h = let other : nat_eq x v ≡ false = grind (arith, nat_tests, l, h.0) in count_cons v x xs ∙ rw (other, count_below v x xs (omega (arith, l, h.0)) h.1) refl
 
 count_own : (x : ℕ) (xs : List ℕ) → 0 < count x (x ∷ xs)
-unfolding count
-count_own x xs = let own : nat_eq x x ≡ true = grind (arith, nat_tests) in rw own (omega arith)
+count_own x xs = let own : nat_eq x x ≡ true = grind (arith, nat_tests) in rw (count_cons x x xs, own) (omega arith)
 
 -- the first of one isn't less than the first of the other
-not_less : (x y : ℕ) (xs ys : List ℕ) → at_least y ys → count x (x ∷ xs) ≡ count x (y ∷ ys) → x < y → ⊥
+not_less : (x y : ℕ) (xs ys : List ℕ) → Rises y ys → count x (x ∷ xs) ≡ count x (y ∷ ys) → x < y → ⊥
 not_less x y xs ys b c l =
     let some = count_own x xs in
     let none : count x (y ∷ ys) ≡ 0 = count_below x y (y ∷ ys) l (omega arith, b) in
     omega (arith, some, none, c)
 
-same_first : (x y : ℕ) (xs ys : List ℕ) → at_least x xs → at_least y ys → ((v : ℕ) → count v (x ∷ xs) ≡ count v (y ∷ ys)) → x ≡ y
-same_first x y xs ys a b c = go (nat_lt x y) refl (nat_lt y x) refl
-  where
-    go : (p : Bool) → nat_lt x y ≡ p → (q : Bool) → nat_lt y x ≡ q → x ≡ y
-    go true e q f = absurd (not_less x y xs ys b (c x) (grind (arith, nat_tests, e)))
-    go false e true f = absurd (not_less y x ys xs a (sym (c y)) (grind (arith, nat_tests, f)))
-    go false e false f = grind (arith, nat_tests, e, f)
+same_counts : (m n : ℕ) (xs ys : List ℕ) → Rises m xs → Rises n ys → ((v : ℕ) → count v xs ≡ count v ys) → xs ≡ ys
+same_counts m n [] [] a b c = refl
+same_counts m n [] (y ∷ ys) a b c = let some = count_own y ys in absurd (omega (arith, some, c y))
+same_counts m n (x ∷ xs) [] a b c = let some = count_own x xs in absurd (omega (arith, some, c x))
+same_counts m n (x ∷ xs) (y ∷ ys) a b c =
+    let first : x ≡ y = ⊎_elim (λ l. absurd (not_less x y xs ys b.1 (c x) l)) (λ k. ⊎_elim (λ l. absurd (not_less y x ys xs a.1 (sym (c y)) l)) (λ l. omega (arith, k, l)) (cases_lt y x)) (cases_lt x y) in
+    ap₂ ◌∷◌ first (same_counts x y xs ys a.1 b.1 (λ v. omega (arith, count_cons v x xs, count_cons v y ys, c v, ap {B = ℕ} (λ z. if nat_eq z v then 1 else 0) first)))
 
-count_none : (v : ℕ) → count v [] ≡ 0
-unfolding count
-count_none v = refl
+-- places rise
+lower : (m n : ℕ) (xs : List ℕ) → m ≤ n → Rises n xs → Rises m xs
+lower m n [] l h = tt
+lower m n (x ∷ xs) l h = (omega (arith, l, h.0), h.1)
 
-count_rest : (x : ℕ) (xs ys : List ℕ) → ((v : ℕ) → count v (x ∷ xs) ≡ count v (x ∷ ys)) → (v : ℕ) → count v xs ≡ count v ys
-unfolding count
-count_rest x xs ys c v = let both = c v in omega (arith, both)
-
-same_counts : (xs ys : List ℕ) → Ascends xs → Ascends ys → ((v : ℕ) → count v xs ≡ count v ys) → xs ≡ ys
-same_counts [] [] a b c = refl
-same_counts [] (y ∷ ys) a b c = let some = count_own y ys in absurd (omega (arith, some, c y, count_none y))
-same_counts (x ∷ xs) [] a b c = let some = count_own x xs in absurd (omega (arith, some, c x, count_none x))
-same_counts (x ∷ xs) (y ∷ ys) a b c =
-    let first : x ≡ y = same_first x y xs ys a.0 b.0 c in
-    ap₂ ◌∷◌ first (same_counts xs ys a.1 b.1 (count_rest x xs ys (λ v. c v ∙ ap (λ z. count v (z ∷ ys)) (sym first))))
-
--- places ascend
-places_least : (test : Triple ℕ → Bool) (m j : ℕ) (list : List (Triple ℕ)) → m ≤ j → at_least m (places test j list)
-places_least test m j [] l = tt
-places_least test m j (t ∷ list) l = go (test t) (places_least test m (suc j) list (omega (arith, l)))
-  where
-    go : (b : Bool) → at_least m (places test (suc j) list) → at_least m (if b then j ∷ places test (suc j) list else places test (suc j) list)
-    go true ih = (l, ih)
-    go false ih = ih
-
-places_ascend : (test : Triple ℕ → Bool) (j : ℕ) (list : List (Triple ℕ)) → Ascends (places test j list)
-places_ascend test j [] = tt
-places_ascend test j (t ∷ list) = go (test t) (places_ascend test (suc j) list)
-  where
-    go : (b : Bool) → Ascends (places test (suc j) list) → Ascends (if b then j ∷ places test (suc j) list else places test (suc j) list)
-    go true ih = (places_least test j (suc j) list (omega arith), ih)
-    go false ih = ih
-
--- rows that are places
-rows_are : (rows : List (List ℕ)) (test : ℕ → Triple ℕ → Bool) (list : List (Triple ℕ)) (numbers : List ℕ) → ((x : ℕ) → Among numbers x → get_or rows x [] ≡ places (test x) 0 list)
-    → flat_map (λ (x : ℕ). get_or rows x []) numbers ≡ flat_map (λ (x : ℕ). places (test x) 0 list) numbers
-rows_are rows test list [] h = refl
-rows_are rows test list (x ∷ numbers) h = ap₂ ◌++◌ (h x (inl refl)) (rows_are rows test list numbers (λ y m. h y (inr m)))
+places_rise : (test : Triple ℕ → Bool) (j : ℕ) (list : List (Triple ℕ)) → Rises j (places test j list)
+places_rise test j [] = tt
+places_rise test j (t ∷ list) =
+    let rest = lower j (suc j) (places test (suc j) list) (omega arith) (places_rise test (suc j) list) in
+    by_test (test t) (λ e. rw e (omega arith, rest)) (λ e. rw e rest)
 
 -- sorted, what was gathered is the places of all
 pub sorted_places : (rows : List (List ℕ)) (test : ℕ → Triple ℕ → Bool) → ((x y : ℕ) (t : Triple ℕ) → test x t ≡ true → test y t ≡ true → x ≡ y) → (list : List (Triple ℕ)) (numbers sorted : List ℕ) → EachOnce numbers
     → ((x : ℕ) → Among numbers x → get_or rows x [] ≡ places (test x) 0 list) → IsPermutation (flat_map (λ (x : ℕ). get_or rows x []) numbers) sorted → IsNonDecreasing sorted → sorted ≡ places (any_of test numbers) 0 list
 sorted_places rows test tells list numbers sorted d are p rises =
-    same_counts sorted (places (any_of test numbers) 0 list) (from_steps sorted rises) (places_ascend (any_of test numbers) 0 list)
-    (λ v. sym (count_sum v sorted) ∙ sum_by-IsPermutation (λ x. if nat_eq x v then 1 else 0) (flat_map (λ (x : ℕ). get_or rows x []) numbers) sorted p
-    ∙ ap (sum_by (λ x. if nat_eq x v then 1 else 0)) (rows_are rows test list numbers are)
-    ∙ sym (sum_by-IsPermutation (λ x. if nat_eq x v then 1 else 0) (flat_map (λ (x : ℕ). places (test x) 0 list) numbers) (places (any_of test numbers) 0 list) (gathered test tells list numbers d))
-    ∙ count_sum v (places (any_of test numbers) 0 list))
+    same_counts 0 0 sorted (places (any_of test numbers) 0 list) (from_steps 0 sorted (λ i l. omega arith) rises) (places_rise (any_of test numbers) 0 list)
+    (λ v. let once : ℕ → ℕ = λ x. if nat_eq x v then 1 else 0 in
+    sum_by-IsPermutation once (flat_map (λ (x : ℕ). get_or rows x []) numbers) sorted p
+    ∙ sym (sum_by-IsPermutation once (flat_map (λ (x : ℕ). get_or rows x []) numbers) (places (any_of test numbers) 0 list) (gathered rows test tells list numbers d are)))
 
 pub gathered_more : (rows : List (List ℕ)) (numbers : List ℕ) (i x : ℕ) → slice_get numbers i ≡ Some x → flat_map (λ (a : ℕ). get_or rows a []) (take (i + 1) numbers) ≡ flat_map (λ (a : ℕ). get_or rows a []) (take i numbers) ++ get_or rows x []
 gathered_more rows numbers i x at =
     ap (flat_map (λ (a : ℕ). get_or rows a [])) (one_more numbers i x at) ∙ flat_map-append (λ (a : ℕ). get_or rows a []) (take i numbers) (x ∷ [])
     ∙ ap (λ z. flat_map (λ (a : ℕ). get_or rows a []) (take i numbers) ++ z) (append-nil (get_or rows x []))
-
-pub gathered_end : (rows : List (List ℕ)) (numbers : List ℕ) (i : ℕ) (places : List ℕ) → length numbers ≤ i → places ≡ flat_map (λ (a : ℕ). get_or rows a []) (take i numbers) → places ≡ flat_map (λ (a : ℕ). get_or rows a []) numbers
-gathered_end rows numbers i places past h = h ∙ ap (flat_map (λ (a : ℕ). get_or rows a [])) (take_all i numbers past)
 
 -- two tests that agree on a list have the same places
 pub same_places : (p q : Triple ℕ → Bool) (j : ℕ) (list : List (Triple ℕ)) → ((t : Triple ℕ) → Among list t → p t ≡ q t) → places p j list ≡ places q j list
@@ -212,10 +144,6 @@ given_turn list s places k i start old new at turn before =
     ∙ sym (all_append (same_triple nat_eq) start (filter_map (given_at list s) (take k places)) (option_to_list (given_at list s i)))
     ∙ ap (with_all (same_triple nat_eq) start) (ap (λ z. filter_map (given_at list s) (take k places) ++ z) (sym (listed (given_at list s i))) ∙ sym (filter_map-append (given_at list s) (take k places) (i ∷ [])) ∙ ap (filter_map (given_at list s)) (sym (one_more places k i at)))
 
-pub given_all : (list : List (Triple ℕ)) (s : Node ℕ) (places : List ℕ) (k : ℕ) (start new : List (Triple ℕ)) → length places ≤ k
-    → new ≡ with_all (same_triple nat_eq) start (filter_map (given_at list s) (take k places)) → new ≡ with_all (same_triple nat_eq) start (filter_map (given_at list s) places)
-given_all list s places k start new past h = h ∙ ap (λ z. with_all (same_triple nat_eq) start (filter_map (given_at list s) z)) (take_all k places past)
-
 if_given : (list : List (Triple ℕ)) (s : Node ℕ) (test : Triple ℕ → Bool) → Triple ℕ → Option (Triple ℕ)
 if_given list s test u = if test u then given_one list s u else None
 
@@ -224,18 +152,11 @@ all_given : (whole : List (Triple ℕ)) (s : Node ℕ) (test : Triple ℕ → Bo
     → filter_map (given_at whole s) (places test j list) ≡ filter_map (if_given whole s test) list
 unfolding if_given
 all_given whole s test j [] h = refl
-all_given whole s test j (t ∷ list) h = go (test t) refl (all_given whole s test (suc j) list (λ n. next n ∙ h (suc n)))
-  where
-    next : (n : ℕ) → slice_get whole (suc j + n) ≡ slice_get whole (j + suc n)
-    next n = let same : suc j + n ≡ j + suc n = omega arith in ap (slice_get whole) same
-
-    own : slice_get whole j ≡ Some t
-    own = let same : j ≡ j + 0 = omega arith in ap (slice_get whole) same ∙ h 0
-
-    go : (b : Bool) → test t ≡ b → filter_map (given_at whole s) (places test (suc j) list) ≡ filter_map (if_given whole s test) list
-        → filter_map (given_at whole s) (if test t then j ∷ places test (suc j) list else places test (suc j) list) ≡ cons_option (if test t then given_one whole s t else None) (filter_map (if_given whole s test) list)
-    go true e ih = rw e (ap₂ cons_option (ap (given_from whole s) own) ih)
-    go false e ih = rw e ih
+all_given whole s test j (t ∷ list) h =
+    let here : j ≡ j + 0 = omega arith in
+    let next : (n : ℕ) → suc j + n ≡ j + suc n = λ n. omega arith in
+    let rest = all_given whole s test (suc j) list (λ n. ap (slice_get whole) (next n) ∙ h (suc n)) in
+    by_test (test t) (λ e. rw e (ap₂ cons_option (ap (given_from whole s) (ap (slice_get whole) here ∙ h 0)) rest)) (λ e. rw e rest)
 
 nested : (a b c : Bool) (u : Triple ℕ) → (if a && (b && c) then (if b && c then Some u else None) else None) ≡ (if a && b && c then Some u else None)
 nested true true true u = refl

@@ -1,6 +1,8 @@
 -- Numbers that lead to numbers.
-use Rattle.rx_model.proofs.Common.{◌≡◌, ◌⊎◌, ⊎_elim, ℕ, zero, suc, ◌+◌, ◌<◌, ◌≤◌, Bool, true, false, nat_eq, nat_lt, List, [], ◌∷◌, ◌++◌, map, length, replicate, get_or, slice_get, slice_set, Some, refl, sym, ap, ap₂, subst, ◌∙◌, inl, inr, true≢false, arith, append-nil, append_assoc, length-append, not, ◌&&◌, ◌||◌, if◌then◌else◌, cases_lt, nat_tests, Decides-eqb, length-set, slice_get_within, same_truth, Among, contains, with_one, Among_left, Among_right, Among_cases, Among-contains, Among_by_contains, exact_numbers}
+use Rattle.rx_model.proofs.Common.{◌≡◌, ◌⊎◌, ⊎_elim, ℕ, zero, suc, ◌+◌, ◌<◌, ◌≤◌, Bool, true, false, nat_eq, nat_lt, List, [], ◌∷◌, ◌++◌, length, replicate, take, get_or, slice_get, slice_set, Some, refl, sym, ap, ap₂, subst, ◌∙◌, inl, inr, arith, append-nil, append_assoc, not, ◌&&◌, ◌||◌, if◌then◌else◌, cases_lt, or_parts, nat_tests, Decides-eqb, same_truth, by_test, Among, contains, with_one, Among_left, Among_right, Among_cases, Among_by_contains, exact_numbers}
+use Rattle.std.proofs.lemmas.List.{length-set, take_all, get_or_past, length-replicate}
 use Rattle.std.specs.List.{AllByRecursion, list_any, IsDistinct}
+use Rattle.std.proofs.lemmas.Map.Steps.{length-le_from_distinct_below}
 use Rattle.rx_unique.specs.Unique.{insert_key}
 use Rattle.rx_graph.proofs.Growing.{has_one}
 use Rattle.rx_graph.specs.Rows.{pushed, empty_rows}
@@ -15,13 +17,10 @@ pub goes_trans : (rows : List (List ℕ)) (a b c : ℕ) → Goes rows a b → Go
 goes_trans rows a b _ h stays = h
 goes_trans rows a b _ h (goes_on x c k s) = goes_on x c (goes_trans rows a b x h k) s
 
-pub goes_step : (rows : List (List ℕ)) (a b : ℕ) → Step rows a b → Goes rows a b
-goes_step rows a b s = goes_on a b stays s
-
 -- what goes in the rows turned round comes back in the rows
 pub turned_goes : (rows turned : List (List ℕ)) (a b : ℕ) → IsTurned rows turned → Goes turned a b → Goes rows b a
 turned_goes rows turned a _ t stays = stays
-turned_goes rows turned a _ t (goes_on x c h s) = goes_trans rows c x a (goes_step rows c x (t.each x c s)) (turned_goes rows turned a x t h)
+turned_goes rows turned a _ t (goes_on x c h s) = goes_trans rows c x a (goes_on c x stays (t.each x c s)) (turned_goes rows turned a x t h)
 
 -- ways by steps that are ways
 pub goes_by : (rows nexts : List (List ℕ)) (a b : ℕ) → ((x y : ℕ) → Step nexts x y → Goes rows x y) → Goes nexts a b → Goes rows a b
@@ -30,34 +29,24 @@ goes_by rows nexts a _ h (goes_on x c k s) = goes_trans rows a x c (goes_by rows
 
 -- ---- rows
 
--- there is no row beyond the rows
-pub row_beyond : (rows : List (List ℕ)) (a : ℕ) → length rows ≤ a → get_or rows a [] ≡ []
-row_beyond (row ∷ rows) zero h = absurd (omega (arith, h))
-row_beyond (row ∷ rows) (suc a) h = row_beyond rows a (omega (arith, h))
-row_beyond [] _ h = refl
-
 -- what leads to something is a row's number
 pub step_within : (rows : List (List ℕ)) (a b : ℕ) → Step rows a b → a < length rows
-step_within rows a b s = ⊎_elim (λ l. l) (λ l. absurd (subst (λ (z : List ℕ). Among z b) (row_beyond rows a (omega (arith, l))) s)) (cases_lt a (length rows))
-
-pub pushed_old : (rows : List (List ℕ)) (a n x b : ℕ) → Step rows x b → Step (pushed rows a n) x b
-pushed_old (row ∷ rows) zero n zero b h = Among_left row (n ∷ []) b h
-pushed_old (row ∷ rows) zero n (suc x) b h = h
-pushed_old (row ∷ rows) (suc a) n zero b h = h
-pushed_old (row ∷ rows) (suc a) n (suc x) b h = pushed_old rows a n x b h
-pushed_old [] a n _ b h = absurd h
+step_within rows a b s = ⊎_elim (λ l. l) (λ l. absurd (subst (λ (z : List ℕ). Among z b) (get_or_past rows a [] l) s)) (cases_lt a (length rows))
 
 pub pushed_new : (rows : List (List ℕ)) (a n : ℕ) → a < length rows → Step (pushed rows a n) a n
 pushed_new [] a n h = absurd (omega (arith, h))
 pushed_new (row ∷ rows) zero n h = Among_right row (n ∷ []) n (inl refl)
 pushed_new (row ∷ rows) (suc a) n h = pushed_new rows a n (omega (arith, h))
 
-pub pushed_cases : (rows : List (List ℕ)) (a n x b : ℕ) → Step (pushed rows a n) x b → Step rows x b ⊎ ((x ≡ a) × (b ≡ n))
-pushed_cases (row ∷ rows) zero n zero b h = elim (Among_cases row (n ∷ []) b h) [ inl k ↦ inl k | inr k ↦ elim k [ inl e ↦ inr (refl, sym e) | inr m ↦ absurd m ] ]
-pushed_cases (row ∷ rows) zero n (suc x) b h = inl h
-pushed_cases (row ∷ rows) (suc a) n zero b h = inl h
-pushed_cases (row ∷ rows) (suc a) n (suc x) b h = elim (pushed_cases rows a n x b h) [ inl k ↦ inl k | inr k ↦ inr (ap suc k.0, k.1) ]
-pushed_cases [] a n _ b h = absurd h
+pushed_old : (rows : List (List ℕ)) (a n x b : ℕ) → Step rows x b → Step (pushed rows a n) x b
+pushed_old (row ∷ rows) (suc a) n (suc x) b h = pushed_old rows a n x b h
+pushed_old (row ∷ rows) zero n zero b h = Among_left row (n ∷ []) b h
+pushed_old _ _ n _ b h = h
+
+pushed_each : (P : ℕ → ℕ → Type 0) (rows : List (List ℕ)) (a n : ℕ) → P a n → ((x b : ℕ) → Step rows x b → P x b) → (x b : ℕ) → Step (pushed rows a n) x b → P x b
+pushed_each P (row ∷ rows) (suc a) n p h (suc x) b s = pushed_each (λ z. P (suc z)) rows a n p (λ z. h (suc z)) x b s
+pushed_each P (row ∷ rows) zero n p h zero b s = elim (Among_cases row (n ∷ []) b s) [ inl k ↦ h zero b k | inr k ↦ elim k [ inl e ↦ subst (P zero) e p | inr m ↦ absurd m ] ]
+pushed_each P _ _ n p h x b s = h x b s
 
 pub pushed_length : (rows : List (List ℕ)) (a n : ℕ) → length (pushed rows a n) ≡ length rows
 pushed_length (row ∷ rows) (suc a) n = ap suc (pushed_length rows a n)
@@ -69,20 +58,35 @@ pushed_beyond (row ∷ rows) zero n h = absurd (omega (arith, h))
 pushed_beyond (row ∷ rows) (suc a) n h = ap (λ z. row ∷ z) (pushed_beyond rows a n (omega (arith, h)))
 
 -- what stands in a row afterwards
-pub pushed_row : (rows : List (List ℕ)) (a n x : ℕ) → a < length rows → get_or (pushed rows a n) x [] ≡ get_or rows x [] ++ (if nat_eq x a then n ∷ [] else [])
+pub pushed_row : (rows : List (List ℕ)) (a n x : ℕ) → x < length rows → get_or (pushed rows a n) x [] ≡ get_or rows x [] ++ (if nat_eq x a then n ∷ [] else [])
 pushed_row [] a n x h = absurd (omega (arith, h))
 pushed_row (row ∷ rows) zero n zero h = refl
 pushed_row (row ∷ rows) zero n (suc x) h = let e : nat_eq (suc x) 0 ≡ false = grind (arith, nat_tests) in rw e (sym (append-nil (get_or rows x [])))
 pushed_row (row ∷ rows) (suc a) n zero h = let e : nat_eq 0 (suc a) ≡ false = grind (arith, nat_tests) in rw e (sym (append-nil row))
 pushed_row (row ∷ rows) (suc a) n (suc x) h = let e : nat_eq (suc x) (suc a) ≡ nat_eq x a = grind (arith, nat_tests) in rw e (pushed_row rows a n x (omega (arith, h)))
 
-pub empty_none : (n a b : ℕ) → Step (empty_rows n) a b → ⊥
-empty_none (suc n) (suc a) b h = empty_none n a b h
-empty_none _ _ b h = h
+-- new is old with numbers at the ends of rows: all steps are so if the old ones are
+pub record Put (P : ℕ → ℕ → Type 0) (old new : List (List ℕ)) : Type 0 where
+  pub size : length new ≡ length old
+  pub kept : (x b : ℕ) → Step old x b → Step new x b
+  pub each : ((x b : ℕ) → Step old x b → P x b) → (x b : ℕ) → Step new x b → P x b
+
+module _ (P : ℕ → ℕ → Type 0) where
+  pub put_none : (rows : List (List ℕ)) → Put P rows rows
+  put_none rows = record { size = refl; kept = λ x b s. s; each = λ h. h }
+
+  pub put_one : (rows : List (List ℕ)) (a n : ℕ) → P a n → Put P rows (pushed rows a n)
+  put_one rows a n p = record { size = pushed_length rows a n; kept = pushed_old rows a n; each = pushed_each P rows a n p }
+
+  put_then : (old mid new : List (List ℕ)) → Put P old mid → Put P mid new → Put P old new
+  put_then old mid new k l = record { size = l.size ∙ k.size; kept = λ x b s. l.kept x b (k.kept x b s); each = λ h. l.each (k.each h) }
 
 pub empty_row : (n a : ℕ) → get_or (empty_rows n) a [] ≡ []
 empty_row (suc n) (suc a) = empty_row n a
 empty_row _ _ = refl
+
+pub empty_none : (rows : List (List ℕ)) (n : ℕ) → rows ≡ empty_rows n → (a b : ℕ) → Step rows a b → ⊥
+empty_none rows n e a b s = subst (λ (z : List ℕ). Among z b) (ap (λ (z : List (List ℕ)). get_or z a []) e ∙ empty_row n a) s
 
 pub empty_length : (n : ℕ) → length (empty_rows n) ≡ n
 empty_length zero = refl
@@ -90,83 +94,53 @@ empty_length (suc n) = ap suc (empty_length n)
 
 -- ---- rows turned round
 
-turned_size : (a : ℕ) (rows : List (List ℕ)) (row : List ℕ) → length (turned_row a rows row) ≡ length rows
-turned_size a rows [] = refl
-turned_size a rows (b ∷ row) = turned_size a (pushed rows b a) row ∙ pushed_length rows b a
-
-turned_cases : (a : ℕ) (rows : List (List ℕ)) (row : List ℕ) (x y : ℕ) → Step (turned_row a rows row) x y → Step rows x y ⊎ ((y ≡ a) × Among row x)
-turned_cases a rows [] x y h = inl h
-turned_cases a rows (b ∷ row) x y h = elim (turned_cases a (pushed rows b a) row x y h) [
-  | inl k ↦ elim (pushed_cases rows b a x y k) [ inl m ↦ inl m | inr m ↦ inr (m.1, inl (sym m.0)) ]
-  | inr k ↦ inr (k.0, inr k.1)
-]
+turned_put : (P : ℕ → ℕ → Type 0) (a : ℕ) (rows : List (List ℕ)) (row : List ℕ) → ((b : ℕ) → Among row b → P b a) → Put P rows (turned_row a rows row)
+turned_put P a rows [] h = put_none P rows
+turned_put P a rows (b ∷ row) h = put_then P rows (pushed rows b a) (turned_row a (pushed rows b a) row) (put_one P rows b a (h b (inl refl))) (turned_put P a (pushed rows b a) row (λ c m. h c (inr m)))
 
 pub turned_start : (rows turned : List (List ℕ)) (n : ℕ) → n ≡ length rows → turned ≡ empty_rows n → IsTurned rows turned
-turned_start rows turned n size e = record {
-  size = ap length e ∙ empty_length n ∙ size;
-  each = λ a b s. absurd (empty_none n a b (subst (λ (z : List (List ℕ)). Step z a b) e s));
-}
+turned_start rows turned n size e = record { size = ap length e ∙ empty_length n ∙ size; each = λ a b s. absurd (empty_none turned n e a b s) }
 
 pub turned_turn : (rows old new : List (List ℕ)) (a : ℕ) (row : List ℕ) → row ≡ get_or rows a [] → new ≡ turned_row a old row → IsTurned rows old → IsTurned rows new
-turned_turn rows old new a row here turn t = record {
-  size = ap length turn ∙ turned_size a old row ∙ t.size;
-  each = λ x y s. elim (turned_cases a old row x y (subst (λ (z : List (List ℕ)). Step z x y) turn s)) [
-    | inl k ↦ t.each x y k
-    | inr k ↦ subst (λ (z : ℕ). Step rows z x) (sym k.0) (subst (λ (z : List ℕ). Among z x) here k.1)
-  ];
-}
+turned_turn rows old new a row here turn t =
+    let put = turned_put (λ x y. Step rows y x) a old row (λ b m. subst (λ (z : List ℕ). Among z b) here m) in
+    rw turn (record { size = put.size ∙ t.size; each = put.each t.each })
 
 -- ---- marks
 
--- one mark is set, and the others stay
-pub set_cases : (xs : List ℕ) (a x b d : ℕ) → (get_or (slice_set xs a x) b d ≡ get_or xs b d) ⊎ ((a ≡ b) × (get_or (slice_set xs a x) b d ≡ x))
-set_cases (y ∷ xs) zero x zero d = inr (refl, refl)
-set_cases (y ∷ xs) (suc a) x (suc b) d = elim (set_cases xs a x b d) [ inl e ↦ inl e | inr e ↦ inr (ap suc e.0, e.1) ]
-set_cases _ _ x _ d = inl refl
+-- what holds of each holds when one is set to what it holds of
+pub set_each : {A : Type 0} (P : ℕ → A → Type 0) (d : ℕ → A) (xs : List A) (a : ℕ) (x : A) → P a x → ((b : ℕ) → P b (get_or xs b (d b))) → (b : ℕ) → P b (get_or (slice_set xs a x) b (d b))
+set_each P d (y ∷ xs) (suc a) x p h (suc b) = set_each (λ z. P (suc z)) (λ z. d (suc z)) xs a x p (λ z. h (suc z)) b
+set_each P d (y ∷ xs) zero x p h zero = p
+set_each P d _ _ x p h b = h b
 
-replicate_length : (k n : ℕ) → length (replicate k n) ≡ k
-replicate_length zero n = refl
-replicate_length (suc k) n = ap suc (replicate_length k n)
-
-replicate_get : (k n a d : ℕ) → (get_or (replicate k n) a d ≡ n) ⊎ ((get_or (replicate k n) a d ≡ d) × (k ≤ a))
-replicate_get (suc k) n zero d = inl refl
-replicate_get (suc k) n (suc a) d = elim (replicate_get k n a d) [ inl e ↦ inl e | inr e ↦ inr (e.0, omega (arith, e.1)) ]
-replicate_get zero n _ d = inr (refl, omega arith)
+least_mark : (k n a d : ℕ) → (k ≤ a → n ≤ d) → n ≤ get_or (replicate k n) a d
+least_mark (suc k) n (suc a) d h = least_mark k n a d (λ l. h (omega (arith, l)))
+least_mark (suc k) n zero d h = omega arith
+least_mark zero n a d h = h (omega arith)
 
 last_cases : (xs : List ℕ) (x a d : ℕ) → (get_or (xs ++ x ∷ []) a d ≡ get_or xs a d) ⊎ ((a ≡ length xs) × (get_or (xs ++ x ∷ []) a d ≡ x))
 last_cases [] x zero d = inr (refl, refl)
 last_cases (y ∷ xs) x (suc a) d = elim (last_cases xs x a d) [ inl e ↦ inl e | inr e ↦ inr (ap suc e.0, e.1) ]
 last_cases _ x _ d = inl refl
 
--- each is its own mark
-pub own_mark : (n a : ℕ) → mark_at (numbers_to n) a ≡ a
+own_mark : (n a : ℕ) → mark_at (numbers_to n) a ≡ a
 own_mark (suc n) a = elim (last_cases (numbers_to n) n a a) [ inl e ↦ e ∙ own_mark n a | inr e ↦ e.1 ∙ sym (e.0 ∙ numbers_length n) ]
 own_mark zero _ = refl
 
-below : (a b n : ℕ) → a ≡ b → a < n → b < n
-below a b n e l = subst (λ (z : ℕ). z < n) e l
+-- each is its own mark
+own_marks : (marks : List ℕ) (n : ℕ) → marks ≡ numbers_to n → (a : ℕ) → mark_at marks a ≡ a
+own_marks marks n e a = ap (λ (z : List ℕ). mark_at z a) e ∙ own_mark n a
 
 pub marked_start : (rows : List (List ℕ)) (marks : List ℕ) (n : ℕ) → n ≡ length rows → marks ≡ replicate n n → Marked rows marks
-marked_start rows marks n size e = record {
-  size = ap length e ∙ replicate_length n n ∙ size;
-  each = λ a l. absurd (none a (below (mark_at marks a) (mark_at (replicate n n) a) (length rows) (ap (λ (z : List ℕ). mark_at z a) e) l));
-}
-  where
-    none : (a : ℕ) → mark_at (replicate n n) a < length rows → ⊥
-    none a l = elim (replicate_get n n a a) [ inl q ↦ omega (arith, q, l, size) | inr q ↦ omega (arith, q.0, q.1, l, size) ]
+marked_start rows marks n size e = rw e (record {
+  size = length-replicate n n ∙ size;
+  each = λ a l. let least = least_mark n n a a (λ k. k) in absurd (omega (arith, size, l, least));
+})
 
 spread_one_marked : (rows : List (List ℕ)) (root : ℕ) (marks : List ℕ) (b : ℕ) → Marked rows marks → (root < length rows → Goes rows root b) → Marked rows (spread_one root marks b)
-spread_one_marked rows root marks b m h = go (nat_lt (mark_at marks b) (length marks))
-  where
-    go : (t : Bool) → Marked rows (if t then marks else slice_set marks b root)
-    go true = m
-    go false = record {
-      size = length-set marks b root ∙ m.size;
-      each = λ a l. elim (set_cases marks b root a a) [
-        | inl e ↦ subst (λ (z : ℕ). Goes rows z a) (sym e) (m.each a (below (mark_at (slice_set marks b root) a) (mark_at marks a) (length rows) e l))
-        | inr e ↦ subst (λ (z : ℕ). Goes rows z a) (sym e.1) (subst (λ (z : ℕ). Goes rows root z) e.0 (h (below (mark_at (slice_set marks b root) a) root (length rows) e.1 l)))
-      ];
-    }
+spread_one_marked rows root marks b m h = by_test (nat_lt (mark_at marks b) (length marks)) (λ e. rw e m)
+    (λ e. rw e (record { size = length-set marks b root ∙ m.size; each = set_each (λ a z. z < length rows → Goes rows z a) (λ a. a) marks b root h m.each }))
 
 spread_all_marked : (rows : List (List ℕ)) (root : ℕ) (marks row : List ℕ) → Marked rows marks → ((b : ℕ) → Among row b → root < length rows → Goes rows root b) → Marked rows (spread_all root marks row)
 spread_all_marked rows root marks [] m h = m
@@ -174,107 +148,57 @@ spread_all_marked rows root marks (b ∷ row) m h = spread_all_marked rows root 
 
 -- a mark goes on to all of a row
 pub spread_turn : (rows : List (List ℕ)) (a mark : ℕ) (row old new : List ℕ) → row ≡ get_or rows a [] → mark ≡ mark_at old a → new ≡ spread_all mark old row → Marked rows old → Marked rows new
-spread_turn rows a mark row old new here is turn m = subst (Marked rows) (sym turn)
-    (spread_all_marked rows mark old row m (λ b k l. goes_on a b (subst (λ (z : ℕ). Goes rows z a) (sym is) (m.each a (below mark (mark_at old a) (length rows) is l))) (subst (λ (z : List ℕ). Among z b) here k)))
+spread_turn rows a mark row old new here is turn m =
+    rw (turn, is, here) (spread_all_marked rows (mark_at old a) old (get_or rows a []) m (λ b k l. goes_on a b (m.each a l) k))
 
 -- a number becomes its own mark
 pub spread_begun : (rows : List (List ℕ)) (a : ℕ) (old new : List ℕ) → new ≡ spread_one a old a → Marked rows old → Marked rows new
-spread_begun rows a old new turn m = subst (Marked rows) (sym turn) (spread_one_marked rows a old a m (λ l. stays))
+spread_begun rows a old new turn m = rw turn (spread_one_marked rows a old a m (λ l. stays))
 
 -- ---- roots
 
 pub marked_back : (rows turned : List (List ℕ)) (back : List ℕ) → IsTurned rows turned → Marked turned back → LeadsToMark rows back
 marked_back rows turned back t m = record {
   size = m.size ∙ t.size;
-  each = λ a l. turned_goes rows turned (mark_at back a) a t (m.each a (subst (λ (z : ℕ). mark_at back a < z) (sym t.size) l));
+  each = λ a l. turned_goes rows turned (mark_at back a) a t (m.each a (omega (arith, l, t.size)));
 }
 
 pub joined_start : (rows : List (List ℕ)) (roots : List ℕ) (n : ℕ) → n ≡ length rows → roots ≡ numbers_to n → Joined rows roots
 joined_start rows roots n size e = record {
   size = ap length e ∙ numbers_length n ∙ size;
-  within = λ a l. below a (mark_at roots a) (length rows) (sym (is a)) l;
-  down = λ a. subst (λ (z : ℕ). Goes rows z a) (sym (is a)) stays;
-  up = λ a. subst (λ (z : ℕ). Goes rows a z) (sym (is a)) stays;
+  within = λ a l. rw (own_marks roots n e a) l;
+  down = λ a. rw (own_marks roots n e a) stays;
+  up = λ a. rw (own_marks roots n e a) stays;
 }
-  where
-    is : (a : ℕ) → mark_at roots a ≡ a
-    is a = ap (λ (z : List ℕ). mark_at z a) e ∙ own_mark n a
 
-module _ (rows : List (List ℕ)) (back forth : List ℕ) (b : LeadsToMark rows back) (f : Marked rows forth) (a r n : ℕ) (size : n ≡ length rows) (is : (r ≡ a) ⊎ ((r ≡ mark_at back a) × (r ≡ mark_at forth a) × (r < n))) where
-  root_down : Goes rows r a
-  root_down = elim is [
-    | inl e ↦ subst (λ (z : ℕ). Goes rows z a) (sym e) stays
-    | inr e ↦ subst (λ (z : ℕ). Goes rows z a) (sym e.1) (f.each a (below r (mark_at forth a) (length rows) e.1 (subst (λ (z : ℕ). r < z) size e.2)))
-  ]
-
-  root_up : Goes rows a r
-  root_up = elim is [
-    | inl e ↦ subst (λ (z : ℕ). Goes rows a z) (sym e) stays
-    | inr e ↦ subst (λ (z : ℕ). Goes rows a z) (sym e.0) (b.each a (below r (mark_at back a) (length rows) e.0 (subst (λ (z : ℕ). r < z) size e.2)))
-  ]
-
-  root_within : a < length rows → r < length rows
-  root_within l = elim is [ inl e ↦ below a r (length rows) (sym e) l | inr e ↦ subst (λ (z : ℕ). r < z) size e.2 ]
-
-  -- one root more
-  pub joined_turn : (old new : List ℕ) → new ≡ slice_set old a r → Joined rows old → Joined rows new
-  joined_turn old new turn j = subst (Joined rows) (sym turn) (record {
-    size = length-set old a r ∙ j.size;
-    within = λ x l. elim (set_cases old a r x x) [
-      | inl e ↦ below (mark_at old x) (mark_at (slice_set old a r) x) (length rows) (sym e) (j.within x l)
-      | inr e ↦ below r (mark_at (slice_set old a r) x) (length rows) (sym e.1) (root_within (below x a (length rows) (sym e.0) l))
-    ];
-    down = λ x. elim (set_cases old a r x x) [
-      | inl e ↦ subst (λ (z : ℕ). Goes rows z x) (sym e) (j.down x)
-      | inr e ↦ subst (λ (z : ℕ). Goes rows z x) (sym e.1) (subst (λ (z : ℕ). Goes rows r z) e.0 root_down)
-    ];
-    up = λ x. elim (set_cases old a r x x) [
-      | inl e ↦ subst (λ (z : ℕ). Goes rows x z) (sym e) (j.up x)
-      | inr e ↦ subst (λ (z : ℕ). Goes rows x z) (sym e.1) (subst (λ (z : ℕ). Goes rows z r) e.0 root_up)
-    ];
-  })
+-- one root more
+pub joined_turn : (rows : List (List ℕ)) (back forth : List ℕ) → LeadsToMark rows back → Marked rows forth → (a r n : ℕ) → n ≡ length rows → (r ≡ a) ⊎ ((r ≡ mark_at back a) × (r ≡ mark_at forth a) × (r < n))
+    → (old new : List ℕ) → new ≡ slice_set old a r → Joined rows old → Joined rows new
+joined_turn rows back forth b f a r n size is old new turn j = rw turn (record {
+  size = length-set old a r ∙ j.size;
+  within = set_each (λ x z. x < length rows → z < length rows) (λ x. x) old a r (λ l. elim is [ inl e ↦ omega (arith, e, l) | inr e ↦ omega (arith, e.2, size) ]) j.within;
+  down = set_each (λ x z. Goes rows z x) (λ x. x) old a r (elim is [ inl e ↦ rw e stays | inr e ↦ rw e.1 (f.each a (omega (arith, e.1, e.2, size))) ]) j.down;
+  up = set_each (λ x z. Goes rows x z) (λ x. x) old a r (elim is [ inl e ↦ rw e stays | inr e ↦ rw e.0 (b.each a (omega (arith, e.0, e.2, size))) ]) j.up;
+})
 
 -- ---- what roots lead to
 
-next_size : (roots : List ℕ) (a : ℕ) (nexts : List (List ℕ)) (row : List ℕ) → length (next_row roots a nexts row) ≡ length nexts
-next_size roots a nexts [] = refl
-next_size roots a nexts (b ∷ row) = next_size roots a (if nat_eq a (mark_at roots b) then nexts else pushed nexts a (mark_at roots b)) row ∙ go (nat_eq a (mark_at roots b))
-  where
-    go : (t : Bool) → length (if t then nexts else pushed nexts a (mark_at roots b)) ≡ length nexts
-    go true = refl
-    go false = pushed_length nexts a (mark_at roots b)
+module _ (roots : List ℕ) (a : ℕ) where
+  abbrev next_one : List (List ℕ) → ℕ → List (List ℕ)
+  next_one nexts b = if nat_eq a (mark_at roots b) then nexts else pushed nexts a (mark_at roots b)
 
-next_old : (roots : List ℕ) (a : ℕ) (nexts : List (List ℕ)) (row : List ℕ) (x y : ℕ) → Step nexts x y → Step (next_row roots a nexts row) x y
-next_old roots a nexts [] x y h = h
-next_old roots a nexts (b ∷ row) x y h = next_old roots a (if nat_eq a (mark_at roots b) then nexts else pushed nexts a (mark_at roots b)) row x y (go (nat_eq a (mark_at roots b)))
-  where
-    go : (t : Bool) → Step (if t then nexts else pushed nexts a (mark_at roots b)) x y
-    go true = h
-    go false = pushed_old nexts a (mark_at roots b) x y h
+  next_one_put : (P : ℕ → ℕ → Type 0) (nexts : List (List ℕ)) (b : ℕ) → P a (mark_at roots b) → Put P nexts (next_one nexts b)
+  next_one_put P nexts b p = by_test (nat_eq a (mark_at roots b)) (λ e. rw e (put_none P nexts)) (λ e. rw e (put_one P nexts a (mark_at roots b) p))
 
-next_new : (roots : List ℕ) (a : ℕ) (nexts : List (List ℕ)) (row : List ℕ) (b : ℕ) → a < length nexts → Among row b → (a ≡ mark_at roots b) ⊎ Step (next_row roots a nexts row) a (mark_at roots b)
-next_new roots a nexts [] b l h = absurd h
-next_new roots a nexts (c ∷ row) b l (inl e) = go (nat_eq a (mark_at roots c)) refl
-  where
-    go : (t : Bool) → nat_eq a (mark_at roots c) ≡ t → (a ≡ mark_at roots b) ⊎ Step (next_row roots a (if nat_eq a (mark_at roots c) then nexts else pushed nexts a (mark_at roots c)) row) a (mark_at roots b)
-    go true q = inl ((Decides-eqb a (mark_at roots c)).0 q ∙ ap (mark_at roots) e)
-    go false q = inr (rw q (next_old roots a (pushed nexts a (mark_at roots c)) row a (mark_at roots b) (subst (λ (z : ℕ). Step (pushed nexts a (mark_at roots c)) a z) (ap (mark_at roots) e) (pushed_new nexts a (mark_at roots c) l))))
-next_new roots a nexts (c ∷ row) b l (inr m) = next_new roots a (if nat_eq a (mark_at roots c) then nexts else pushed nexts a (mark_at roots c)) row b (go (nat_eq a (mark_at roots c))) m
-  where
-    go : (t : Bool) → a < length (if t then nexts else pushed nexts a (mark_at roots c))
-    go true = l
-    go false = omega (arith, l, pushed_length nexts a (mark_at roots c))
+  next_put : (P : ℕ → ℕ → Type 0) (nexts : List (List ℕ)) (row : List ℕ) → ((b : ℕ) → Among row b → P a (mark_at roots b)) → Put P nexts (next_row roots a nexts row)
+  next_put P nexts [] h = put_none P nexts
+  next_put P nexts (b ∷ row) h = put_then P nexts (next_one nexts b) (next_row roots a (next_one nexts b) row) (next_one_put P nexts b (h b (inl refl))) (next_put P (next_one nexts b) row (λ c m. h c (inr m)))
 
-next_cases : (roots : List ℕ) (a : ℕ) (nexts : List (List ℕ)) (row : List ℕ) (x y : ℕ) → Step (next_row roots a nexts row) x y → Step nexts x y ⊎ ((x ≡ a) × ((b : ℕ) × Among row b × (mark_at roots b ≡ y)))
-next_cases roots a nexts [] x y h = inl h
-next_cases roots a nexts (c ∷ row) x y h = elim (next_cases roots a (if nat_eq a (mark_at roots c) then nexts else pushed nexts a (mark_at roots c)) row x y h) [
-  | inl k ↦ go (nat_eq a (mark_at roots c)) k
-  | inr k ↦ inr (k.0, (k.1.0, inr k.1.1, k.1.2))
-]
-  where
-    go : (t : Bool) → Step (if t then nexts else pushed nexts a (mark_at roots c)) x y → Step nexts x y ⊎ ((x ≡ a) × ((b : ℕ) × Among (c ∷ row) b × (mark_at roots b ≡ y)))
-    go true k = inl k
-    go false k = elim (pushed_cases nexts a (mark_at roots c) x y k) [ inl m ↦ inl m | inr m ↦ inr (m.0, (c, inl refl, sym m.1)) ]
+  next_new : (nexts : List (List ℕ)) (row : List ℕ) (b : ℕ) → a < length nexts → Among row b → (a ≡ mark_at roots b) ⊎ Step (next_row roots a nexts row) a (mark_at roots b)
+  next_new nexts [] b l h = absurd h
+  next_new nexts (c ∷ row) b l (inr m) = next_new (next_one nexts c) row b (omega (arith, l, (next_one_put (λ x y. Unit {0}) nexts c tt).size)) m
+  next_new nexts (c ∷ row) b l (inl e) = by_test (nat_eq a (mark_at roots c)) (λ q. inl ((Decides-eqb a (mark_at roots c)).0 q ∙ ap (mark_at roots) e))
+      (λ q. inr (rw (q, ← e) ((next_put (λ x y. Unit {0}) (pushed nexts a (mark_at roots c)) row (λ x m. tt)).kept a (mark_at roots c) (pushed_new nexts a (mark_at roots c) l))))
 
 -- as far as a row
 pub record NextsTo (rows : List (List ℕ)) (roots : List ℕ) (nexts : List (List ℕ)) (i : ℕ) : Type 0 where
@@ -285,97 +209,54 @@ pub record NextsTo (rows : List (List ℕ)) (roots : List ℕ) (nexts : List (Li
 pub nexts_start : (rows : List (List ℕ)) (roots : List ℕ) (nexts : List (List ℕ)) (n : ℕ) → n ≡ length rows → nexts ≡ empty_rows n → NextsTo rows roots nexts 0
 nexts_start rows roots nexts n size e = record {
   size = ap length e ∙ empty_length n ∙ size;
-  sound = λ a b s. absurd (empty_none n a b (subst (λ (z : List (List ℕ)). Step z a b) e s));
+  sound = λ a b s. absurd (empty_none nexts n e a b s);
   complete = λ a b l. absurd (omega (arith, l));
 }
 
 pub nexts_turn : (rows : List (List ℕ)) (roots : List ℕ) (old new : List (List ℕ)) (i root : ℕ) (row : List ℕ) → Joined rows roots → i < length rows → row ≡ get_or rows i [] → root ≡ mark_at roots i
     → new ≡ next_row roots root old row → NextsTo rows roots old i → NextsTo rows roots new (i + 1)
-nexts_turn rows roots old new i root row j inside here is turn h = subst (λ (z : List (List ℕ)). NextsTo rows roots z (i + 1)) (sym turn) (record {
-  size = next_size roots root old row ∙ h.size;
-  sound = λ a b s. elim (next_cases roots root old row a b s) [
-    | inl k ↦ h.sound a b k
-    | inr k ↦ (
-        let first : Goes rows a i = subst (λ (z : ℕ). Goes rows z i) (sym (k.0 ∙ is)) (j.down i) in
-        let second : Goes rows i k.1.0 = goes_step rows i k.1.0 (subst (λ (z : List ℕ). Among z k.1.0) here k.1.1) in
-        let third : Goes rows k.1.0 b = subst (λ (z : ℕ). Goes rows k.1.0 z) k.1.2 (j.up k.1.0) in
-        goes_trans rows a i b first (goes_trans rows i k.1.0 b second third)
-        )
-  ];
-  complete = λ a b l s. elim (cases_lt a i) [
-    | inl less ↦ elim (h.complete a b less s) [ inl e ↦ inl e | inr k ↦ inr (next_old roots root old row (mark_at roots a) (mark_at roots b) k) ]
-    | inr more ↦ (
-        let same : a ≡ i = omega (arith, l, more) in
-        let whose : root ≡ mark_at roots a = is ∙ ap (mark_at roots) (sym same) in
-        let mine : Among row b = subst (λ (z : List ℕ). Among z b) (ap (λ (n : ℕ). get_or rows n []) same ∙ sym here) s in
-        let room : root < length old = subst (λ (z : ℕ). root < z) (sym h.size) (below (mark_at roots i) root (length rows) (sym is) (j.within i inside)) in
-        elim (next_new roots root old row b room mine) [
-          | inl e ↦ inl (sym whose ∙ e)
-          | inr k ↦ inr (subst (λ (z : ℕ). Step (next_row roots root old row) z (mark_at roots b)) whose k)
-        ]
-        )
-  ];
-})
+nexts_turn rows roots old new i root row j inside here is turn h =
+    let mine : List ℕ = get_or rows i [] in
+    let put = next_put roots (mark_at roots i) (Goes rows) old (get_or rows i []) (λ b m. goes_trans rows (mark_at roots i) b (mark_at roots b) (goes_on i b (j.down i) m) (j.up b)) in
+    rw (turn, is, here) (record {
+      size = put.size ∙ h.size;
+      sound = put.each h.sound;
+      complete = λ a b l s. elim (cases_lt a i) [
+        | inl less ↦ elim (h.complete a b less s) [ inl e ↦ inl e | inr k ↦ inr (put.kept (mark_at roots a) (mark_at roots b) k) ]
+        | inr more ↦ (
+            let same : a ≡ i = omega (arith, l, more) in
+            rw same (next_new roots (mark_at roots i) old (get_or rows i []) b (omega (arith, h.size, j.within i inside)) (subst (λ (n : ℕ). Step rows n b) same s))
+            )
+      ];
+    })
 
 pub nexts_end : (rows : List (List ℕ)) (roots : List ℕ) (nexts : List (List ℕ)) (i : ℕ) → length rows ≤ i → NextsTo rows roots nexts i → AreNexts rows roots nexts
 nexts_end rows roots nexts i past h = record { size = h.size; sound = h.sound; complete = λ a b s. h.complete a b (omega (arith, past, step_within rows a b s)) s }
 
 -- ---- what stands for a root
 
-merged_cases : (a size only b : ℕ) → (merged a size only b ≡ only) ⊎ ((merged a size only b ≡ a) ⊎ (merged a size only b ≡ b))
-merged_cases a size only b = go (nat_lt b size && not (nat_eq b only)) (nat_lt only size)
+only_so : (P : ℕ → Type 0) (lead : List ℕ) (a only : ℕ) (row : List ℕ) → P only → P a → ((b : ℕ) → Among row b → P (mark_at lead b)) → P (only_lead lead a only row)
+only_so P lead a only [] p q h = p
+only_so P lead a only (c ∷ row) p q h = only_so P lead a (merged a (length lead) only (mark_at lead c)) row (go (nat_lt (mark_at lead c) (length lead) && not (nat_eq (mark_at lead c) only)) (nat_lt only (length lead))) q (λ b m. h b (inr m))
   where
-    go : (t u : Bool) → ((if t then (if u then a else b) else only) ≡ only) ⊎ (((if t then (if u then a else b) else only) ≡ a) ⊎ ((if t then (if u then a else b) else only) ≡ b))
-    go true true = inr (inl refl)
-    go true false = inr (inr refl)
-    go false u = inl refl
-
-only_cases : (lead : List ℕ) (a only : ℕ) (row : List ℕ) → (only_lead lead a only row ≡ only) ⊎ ((only_lead lead a only row ≡ a) ⊎ ((b : ℕ) × Among row b × (mark_at lead b ≡ only_lead lead a only row)))
-only_cases lead a only [] = inl refl
-only_cases lead a only (c ∷ row) = elim (only_cases lead a (merged a (length lead) only (mark_at lead c)) row) [
-  | inl e ↦ elim (merged_cases a (length lead) only (mark_at lead c)) [
-    | inl q ↦ inl (e ∙ q)
-    | inr k ↦ elim k [ inl q ↦ inr (inl (e ∙ q)) | inr q ↦ inr (inr (c, inl refl, sym (e ∙ q))) ]
-  ]
-  | inr k ↦ elim k [ inl e ↦ inr (inl e) | inr m ↦ inr (inr (m.0, inr m.1, m.2)) ]
-]
+    go : (t u : Bool) → P (if t then (if u then a else mark_at lead c) else only)
+    go true true = q
+    go true false = h c (inl refl)
+    go false u = p
 
 pub leads_start : (nexts : List (List ℕ)) (lead : List ℕ) (n : ℕ) → n ≡ length nexts → lead ≡ numbers_to n → LeadsToMark nexts lead
-leads_start nexts lead n size e = record {
-  size = ap length e ∙ numbers_length n ∙ size;
-  each = λ a l. subst (λ (z : ℕ). Goes nexts a z) (sym (ap (λ (z : List ℕ). mark_at z a) e ∙ own_mark n a)) stays;
-}
-
-module _ (nexts : List (List ℕ)) (old row : List ℕ) (top : ℕ) (here : row ≡ get_or nexts top []) (h : LeadsToMark nexts old) where
-  abbrev only : ℕ
-  only = only_lead old top (length old) row
-
-  only_goes : only < length nexts → Goes nexts top only
-  only_goes l = elim (only_cases old top (length old) row) [
-    | inl e ↦ absurd (omega (arith, e, l, h.size))
-    | inr k ↦ elim k [
-      | inl e ↦ subst (λ (z : ℕ). Goes nexts top z) (sym e) stays
-      | inr m ↦ subst (λ (z : ℕ). Goes nexts top z) m.2 (goes_trans nexts top m.0 (mark_at old m.0) (goes_step nexts top m.0 (subst (λ (z : List ℕ). Among z m.0) here m.1)) (h.each m.0 (below only (mark_at old m.0) (length nexts) (sym m.2) l)))
-    ]
-  ]
-
-  leads_set : LeadsToMark nexts (slice_set old top only)
-  leads_set = record {
-    size = length-set old top only ∙ h.size;
-    each = λ a l. elim (set_cases old top only a a) [
-      | inl e ↦ subst (λ (z : ℕ). Goes nexts a z) (sym e) (h.each a (below (mark_at (slice_set old top only) a) (mark_at old a) (length nexts) e l))
-      | inr e ↦ subst (λ (z : ℕ). Goes nexts a z) (sym e.1) (subst (λ (z : ℕ). Goes nexts z only) e.0 (only_goes (below (mark_at (slice_set old top only) a) only (length nexts) e.1 l)))
-    ];
-  }
-
-  leads_either : (t : Bool) → LeadsToMark nexts (if t then slice_set old top only else old)
-  leads_either true = leads_set
-  leads_either false = h
+leads_start nexts lead n size e = record { size = ap length e ∙ numbers_length n ∙ size; each = λ a l. rw (own_marks lead n e a) stays }
 
 -- one root more
 pub leads_turn : (nexts : List (List ℕ)) (old new own row : List ℕ) (top : ℕ) → row ≡ get_or nexts top []
     → new ≡ (if nat_eq (length own) 0 then slice_set old top (only_lead old top (length old) row) else old) → LeadsToMark nexts old → LeadsToMark nexts new
-leads_turn nexts old new own row top here turn h = subst (LeadsToMark nexts) (sym turn) (leads_either nexts old row top here h (nat_eq (length own) 0))
+leads_turn nexts old new own row top here turn h =
+    let only : ℕ = only_lead old top (length old) row in
+    let goes = only_so (λ z. z < length nexts → Goes nexts top z) old top (length old) row (λ l. absurd (omega (arith, l, h.size))) (λ l. stays)
+    (λ b m l. goes_trans nexts top b (mark_at old b) (goes_on top b stays (subst (λ (z : List ℕ). Among z b) here m)) (h.each b l)) in
+    rw turn (by_test (nat_eq (length own) 0)
+    (λ e. rw e (record { size = length-set old top only ∙ h.size; each = set_each (λ a z. z < length nexts → Goes nexts a z) (λ a. a) old top only goes h.each }))
+    (λ e. rw e h))
 
 -- as far as a root
 pub record LedTo (nexts own : List (List ℕ)) (lead : List ℕ) (i : ℕ) : Type 0 where
@@ -397,208 +278,136 @@ led_end nexts own lead i past h = record { each = λ a l. h.each a (omega (arith
 -- each stands for itself
 pub led_own : (nexts own : List (List ℕ)) (lead : List ℕ) (n : ℕ) → lead ≡ numbers_to n → AreLed nexts own lead
 led_own nexts own lead n e = record {
-  each = λ a l.
-      let own_is : nat_eq (mark_at lead a) a ≡ true = (Decides-eqb (mark_at lead a) a).1 (ap (λ (z : List ℕ). mark_at z a) e ∙ own_mark n a) in
-      ap (λ b. b || (nat_eq (length (get_or own a [])) 0 && all_led lead (mark_at lead a) (get_or nexts a []))) own_is;
+  each = λ a l. ap (λ b. b || (nat_eq (length (get_or own a [])) 0 && all_led lead (mark_at lead a) (get_or nexts a []))) ((Decides-eqb (mark_at lead a) a).1 (own_marks lead n e a));
 }
 
 -- ---- numbers that are added
 
-known_behind : (numbers : List ℕ) (x : ℕ) → (more : List ℕ) × (with_one nat_eq numbers x ≡ numbers ++ more) × ((v : ℕ) → Among more v → x ≡ v)
-known_behind numbers x = go (contains nat_eq numbers x)
-  where
-    go : (b : Bool) → (more : List ℕ) × ((if b then numbers else numbers ++ x ∷ []) ≡ numbers ++ more) × ((v : ℕ) → Among more v → x ≡ v)
-    go true = ([], sym (append-nil numbers), λ v m. absurd m)
-    go false = (x ∷ [], refl, λ v m. elim m [ inl e ↦ e | inr n ↦ absurd n ])
+-- new is old with more behind it, all of which are so
+record Grown (P : ℕ → Type 0) (old new : List ℕ) : Type 0 where
+  more : List ℕ
+  longer : new ≡ old ++ more
+  each : (v : ℕ) → Among more v → P v
 
-known_has : (numbers : List ℕ) (x : ℕ) → Among (with_one nat_eq numbers x) x
-known_has numbers x = Among_by_contains nat_eq exact_numbers (with_one nat_eq numbers x) x (has_one nat_eq exact_numbers numbers x)
+module _ (P : ℕ → Type 0) where
+  grown_none : (old : List ℕ) → Grown P old old
+  grown_none old = record { more = []; longer = sym (append-nil old); each = λ v m. absurd m }
 
-led_one_behind : (lead reached : List ℕ) (b : ℕ) → (more : List ℕ) × (led_one lead reached b ≡ reached ++ more) × ((v : ℕ) → Among more v → (mark_at lead b ≡ v) × (v < length lead))
-led_one_behind lead reached b = go (nat_lt (mark_at lead b) (length lead)) refl
-  where
-    go : (t : Bool) → nat_lt (mark_at lead b) (length lead) ≡ t
-        → (more : List ℕ) × ((if t then with_one nat_eq reached (mark_at lead b) else reached) ≡ reached ++ more) × ((v : ℕ) → Among more v → (mark_at lead b ≡ v) × (v < length lead))
-    go true e =
-        let less : mark_at lead b < length lead = grind (arith, nat_tests, e) in
-        let k = known_behind reached (mark_at lead b) in
-        (k.0, k.1, λ v m. (k.2 v m, subst (λ (z : ℕ). z < length lead) (k.2 v m) less))
-    go false e = ([], sym (append-nil reached), λ v m. absurd m)
+  grown_one : (old : List ℕ) (x : ℕ) → P x → Grown P old (with_one nat_eq old x)
+  grown_one old x p = by_test (contains nat_eq old x) (λ e. rw e (grown_none old))
+      (λ e. rw e (record { more = x ∷ []; longer = refl; each = λ v m. elim m [ inl q ↦ subst P q p | inr n ↦ absurd n ] }))
 
-led_one_has : (lead reached : List ℕ) (b : ℕ) → mark_at lead b < length lead → Among (led_one lead reached b) (mark_at lead b)
-led_one_has lead reached b l =
+  grown_then : (old mid new : List ℕ) → Grown P old mid → Grown P mid new → Grown P old new
+  grown_then old mid new g h = record {
+    more = g.more ++ h.more;
+    longer = h.longer ∙ ap (λ z. z ++ h.more) g.longer ∙ append_assoc old g.more h.more;
+    each = λ v m. elim (Among_cases g.more h.more v m) [ inl n ↦ g.each v n | inr n ↦ h.each v n ];
+  }
+
+  module _ (lead : List ℕ) where
+    grown_led : (old : List ℕ) (b : ℕ) → (mark_at lead b < length lead → P (mark_at lead b)) → Grown P old (led_one lead old b)
+    grown_led old b h = by_test (nat_lt (mark_at lead b) (length lead)) (λ e. rw e (grown_one old (mark_at lead b) (h (grind (arith, nat_tests, e))))) (λ e. rw e (grown_none old))
+
+    grown_all : (old row : List ℕ) → ((b : ℕ) → Among row b → mark_at lead b < length lead → P (mark_at lead b)) → Grown P old (led_all lead old row)
+    grown_all old [] h = grown_none old
+    grown_all old (b ∷ row) h = grown_then old (led_one lead old b) (led_all lead (led_one lead old b) row) (grown_led old b (h b (inl refl))) (grown_all (led_one lead old b) row (λ c m. h c (inr m)))
+
+all_led_in : (lead old row : List ℕ) (b : ℕ) → Among row b → mark_at lead b < length lead → Among (led_all lead old row) (mark_at lead b)
+all_led_in lead old [] b m l = absurd m
+all_led_in lead old (c ∷ row) b (inr m) l = all_led_in lead (led_one lead old c) row b m l
+all_led_in lead old (c ∷ row) b (inl e) l =
+    let rest = grown_all (λ v. Unit {0}) lead (led_one lead old c) row (λ x m k. tt) in
     let less : nat_lt (mark_at lead b) (length lead) ≡ true = grind (arith, nat_tests, l) in
-    rw less (known_has reached (mark_at lead b))
-
--- new is old with what stands for the numbers of a row behind it
-pub record Grown (lead row old new : List ℕ) : Type 0 where
-  pub more : List ℕ
-  pub longer : new ≡ old ++ more
-  pub sound : (v : ℕ) → Among more v → (b : ℕ) × Among row b × (mark_at lead b ≡ v) × (v < length lead)
-  pub all : (b : ℕ) → Among row b → mark_at lead b < length lead → Among new (mark_at lead b)
-
-grown_all : (lead reached row : List ℕ) → Grown lead row reached (led_all lead reached row)
-grown_all lead reached [] = record { more = []; longer = sym (append-nil reached); sound = λ v m. absurd m; all = λ b m l. absurd m }
-grown_all lead reached (b ∷ row) =
-    let first = led_one_behind lead reached b in
-    let rest = grown_all lead (led_one lead reached b) row in
-    record {
-      more = first.0 ++ rest.more;
-      longer = rest.longer ∙ ap (λ z. z ++ rest.more) first.1 ∙ append_assoc reached first.0 rest.more;
-      sound = λ v m. elim (Among_cases first.0 rest.more v m) [
-        | inl n ↦ (b, inl refl, (first.2 v n).0, (first.2 v n).1)
-        | inr n ↦ (let k = rest.sound v n in (k.0, inr k.1, k.2, k.3))
-      ];
-      all = λ c m l. elim m [
-        | inl e ↦ subst (λ (z : List ℕ). Among z (mark_at lead c)) (sym rest.longer)
-            (Among_left (led_one lead reached b) rest.more (mark_at lead c) (subst (λ (z : ℕ). Among (led_one lead reached b) (mark_at lead z)) e (led_one_has lead reached b (subst (λ (z : ℕ). mark_at lead z < length lead) (sym e) l))))
-        | inr n ↦ rest.all c n l
-      ];
-    }
+    let first : Among (led_one lead old b) (mark_at lead b) = rw less (Among_by_contains nat_eq exact_numbers (with_one nat_eq old (mark_at lead b)) (mark_at lead b) (has_one nat_eq exact_numbers old (mark_at lead b))) in
+    subst (λ (z : List ℕ). Among z (mark_at lead b)) (sym rest.longer) (Among_left (led_one lead old c) rest.more (mark_at lead b) (subst (λ (z : ℕ). Among (led_one lead old z) (mark_at lead b)) (sym e) first))
 
 -- ---- the loop over what is reached
 
 pub record Walking (nexts : List (List ℕ)) (lead : List ℕ) (from : ℕ) (reached : List ℕ) (done : ℕ) : Type 0 where
-  pub within : done ≤ length reached
-  pub small : (a : ℕ) → Among reached a → a < length lead
   pub start : from < length lead → Among reached from
   pub sound : (a : ℕ) → Among reached a → Led nexts lead from a
-  pub closed : (k a b : ℕ) → k < done → slice_get reached k ≡ Some a → Step nexts a b → mark_at lead b < length lead → Among reached (mark_at lead b)
+  pub closed : (a b : ℕ) → Among (take done reached) a → Step nexts a b → mark_at lead b < length lead → Among reached (mark_at lead b)
 
 pub walking_start : (nexts : List (List ℕ)) (lead : List ℕ) (from : ℕ) (empty reached : List ℕ) (n : ℕ) → n ≡ length lead → empty ≡ [] → reached ≡ (if nat_lt from n then with_one nat_eq empty from else empty) → Walking nexts lead from reached 0
-walking_start nexts lead from empty reached n size none is =
-    subst (λ (z : List ℕ). Walking nexts lead from z 0) (sym (is ∙ ap (λ (z : List ℕ). if nat_lt from n then with_one nat_eq z from else z) none ∙ ap (λ (m : ℕ). if nat_lt from m then from ∷ [] else []) size)) (go (nat_lt from (length lead)) refl)
+walking_start nexts lead from empty reached n size none is = rw (is, none) (record {
+  start = λ l. let t : nat_lt from n ≡ true = grind (arith, nat_tests, l, size) in rw t (inl refl);
+  sound = λ a m. go (nat_lt from n) refl a m;
+  closed = λ a b m. absurd m;
+})
   where
-    go : (t : Bool) → nat_lt from (length lead) ≡ t → Walking nexts lead from (if t then from ∷ [] else []) 0
-    go true e =
-        let less : from < length lead = grind (arith, nat_tests, e) in
-        record {
-          within = omega arith;
-          small = λ a m. elim m [ inl q ↦ subst (λ (z : ℕ). z < length lead) q less | inr n ↦ absurd n ];
-          start = λ l. inl refl;
-          sound = λ a m. elim m [ inl q ↦ subst (λ (z : ℕ). Led nexts lead from z) q (led_here less) | inr n ↦ absurd n ];
-          closed = λ k a b l. absurd (omega (arith, l));
-        }
-    go false e =
-        let not_less : from < length lead → ⊥ = λ l. true≢false (sym (let t : nat_lt from (length lead) ≡ true = grind (arith, nat_tests, l) in t) ∙ e) in
-        record {
-          within = omega arith;
-          small = λ a m. absurd m;
-          start = λ l. absurd (not_less l);
-          sound = λ a m. absurd m;
-          closed = λ k a b l. absurd (omega (arith, l));
-        }
+    go : (t : Bool) → nat_lt from n ≡ t → (a : ℕ) → Among (if t then from ∷ [] else []) a → Led nexts lead from a
+    go true e a (inl q) = subst (Led nexts lead from) q (led_here (grind (arith, nat_tests, e, size)))
+    go true e a (inr m) = absurd m
+    go false e a m = absurd m
 
 among_get : (xs : List ℕ) (k v : ℕ) → slice_get xs k ≡ Some v → Among xs v
 among_get [] k v h = cc
 among_get (x ∷ xs) zero v h = inl (cc)
 among_get (x ∷ xs) (suc k) v h = inr (among_get xs k v h)
 
-get_among : (xs : List ℕ) (v : ℕ) → Among xs v → (k : ℕ) × (k < length xs) × (slice_get xs k ≡ Some v)
-get_among [] v h = absurd h
-get_among (x ∷ xs) v (inl e) = (0, omega arith, ap Some e)
-get_among (x ∷ xs) v (inr m) = let r = get_among xs v m in (suc r.0, omega (arith, r.1), r.2)
-
-get_front : (xs ys : List ℕ) (k : ℕ) → k < length xs → slice_get (xs ++ ys) k ≡ slice_get xs k
-get_front [] ys k h = absurd (omega (arith, h))
-get_front (x ∷ xs) ys zero h = refl
-get_front (x ∷ xs) ys (suc k) h = get_front xs ys k (omega (arith, h))
+take_front : (xs ys : List ℕ) (k v : ℕ) → slice_get xs k ≡ Some v → take (suc k) (xs ++ ys) ≡ take k xs ++ v ∷ []
+take_front [] ys k v h = cc
+take_front (x ∷ xs) ys zero v h = let same : x ≡ v = cc in ap (λ z. z ∷ []) same
+take_front (x ∷ xs) ys (suc k) v h = ap (λ z. x ∷ z) (take_front xs ys k v h)
 
 pub walking_turn : (nexts : List (List ℕ)) (lead : List ℕ) (from p : ℕ) (old new row : List ℕ) (done : ℕ) → slice_get old done ≡ Some p → row ≡ get_or nexts p [] → new ≡ led_all lead old row
     → Walking nexts lead from old done → Walking nexts lead from new (done + 1)
 walking_turn nexts lead from p old new row done at here turn h =
-    let g = grown_all lead old row in
-    let inside : done < length old = slice_get_within old done p at in
-    let longer : new ≡ old ++ g.more = turn ∙ g.longer in
-    let moved : (v : ℕ) → Among old v → Among new v = λ v m. subst (λ (z : List ℕ). Among z v) (sym longer) (Among_left old g.more v m) in
-    record {
-      within = omega (arith, inside, ap length longer, length-append old g.more);
-      small = λ a m. elim (Among_cases old g.more a (subst (λ (z : List ℕ). Among z a) longer m)) [ inl n ↦ h.small a n | inr n ↦ (g.sound a n).3 ];
+    let g = grown_all (Led nexts lead from) lead old (get_or nexts p []) (λ b s l. led_on p b (mark_at lead b) (h.sound p (among_get old done p at)) s refl l) in
+    let moved : (v : ℕ) → Among old v → Among (led_all lead old (get_or nexts p [])) v = λ v m. rw g.longer (Among_left old g.more v m) in
+    let next : done + 1 ≡ suc done = omega arith in
+    rw (turn, here) (record {
       start = λ l. moved from (h.start l);
-      sound = λ a m. elim (Among_cases old g.more a (subst (λ (z : List ℕ). Among z a) longer m)) [
-        | inl n ↦ h.sound a n
-        | inr n ↦ (let k = g.sound a n in led_on p k.0 a (h.sound p (among_get old done p at)) (subst (λ (z : List ℕ). Among z k.0) here k.1) k.2 k.3)
+      sound = λ a m. elim (Among_cases old g.more a (subst (λ (z : List ℕ). Among z a) g.longer m)) [ inl n ↦ h.sound a n | inr n ↦ g.each a n ];
+      closed = λ a b m s l. elim (Among_cases (take done old) (p ∷ []) a (subst (λ (z : List ℕ). Among z a) (ap₂ take next g.longer ∙ take_front old g.more done p at) m)) [
+        | inl n ↦ moved (mark_at lead b) (h.closed a b n s l)
+        | inr n ↦ elim n [ inl e ↦ all_led_in lead old (get_or nexts p []) b (subst (λ (z : ℕ). Step nexts z b) (sym e) s) l | inr none ↦ absurd none ]
       ];
-      closed = λ k a b l at_k s less. elim (cases_lt k done) [
-        | inl before ↦ moved (mark_at lead b) (h.closed k a b before (sym (get_front old g.more k (omega (arith, before, inside))) ∙ sym (ap (λ (z : List ℕ). slice_get z k) longer) ∙ at_k) s less)
-        | inr behind ↦ (
-            let e : k ≡ done = omega (arith, l, behind) in
-            let is : Some a ≡ Some p = sym at_k ∙ ap (λ (z : List ℕ). slice_get z k) longer ∙ ap (slice_get (old ++ g.more)) e ∙ get_front old g.more done inside ∙ at in
-            let which : a ≡ p = cc in
-            subst (λ (z : List ℕ). Among z (mark_at lead b)) (sym turn) (g.all b (subst (λ (z : List ℕ). Among z b) (ap (λ (n : ℕ). get_or nexts n []) which ∙ sym here) s) less)
-            )
-      ];
-    }
+    })
+
+led_small : (nexts : List (List ℕ)) (lead : List ℕ) (from a : ℕ) → Led nexts lead from a → a < length lead
+led_small nexts lead from _ (led_here l) = l
+led_small nexts lead from _ (led_on a b c h s e l) = l
 
 pub walking_end : (nexts : List (List ℕ)) (lead : List ℕ) (from : ℕ) (reached : List ℕ) (done : ℕ) → length reached ≤ done → Walking nexts lead from reached done → IsWalk nexts lead from reached
 walking_end nexts lead from reached done past h = record {
-  small = h.small;
+  small = λ a m. led_small nexts lead from a (h.sound a m);
   start = h.start;
   sound = h.sound;
-  closed = λ a b m s l. let r = get_among reached a m in h.closed r.0 a b (omega (arith, r.1, past)) r.2 s l;
+  closed = λ a b m. h.closed a b (rw (take_all done reached past) m);
 }
-
--- ---- different numbers below a size are no more than the size
-
-without : ℕ → List ℕ → List ℕ
-without x [] = []
-without x (y ∷ ys) = if nat_eq y x then ys else y ∷ without x ys
-
-without_length : (x : ℕ) (ys : List ℕ) → Among ys x → length ys ≡ suc (length (without x ys))
-unfolding without
-without_length x [] h = absurd h
-without_length x (y ∷ ys) h = go (nat_eq y x) refl h (without_length x ys)
-  where
-    go : (b : Bool) → nat_eq y x ≡ b → (y ≡ x) ⊎ Among ys x → (Among ys x → length ys ≡ suc (length (without x ys))) → suc (length ys) ≡ suc (length (if nat_eq y x then ys else y ∷ without x ys))
-    go true e m ih = rw e refl
-    go false e (inl q) ih = absurd (true≢false (sym ((exact_numbers y x).1 q) ∙ e))
-    go false e (inr m) ih = rw e (ap suc (ih m))
-
-without_among : (x v : ℕ) (ys : List ℕ) → Among ys v → ¬ (x ≡ v) → Among (without x ys) v
-unfolding without
-without_among x v [] h n = absurd h
-without_among x v (y ∷ ys) h n = go (nat_eq y x) refl h (λ m. without_among x v ys m n)
-  where
-    go : (b : Bool) → nat_eq y x ≡ b → (y ≡ v) ⊎ Among ys v → (Among ys v → Among (without x ys) v) → Among (if nat_eq y x then ys else y ∷ without x ys) v
-    go true e (inl q) ih = absurd (n (sym ((exact_numbers y x).0 e) ∙ q))
-    go true e (inr m) ih = rw e m
-    go false e (inl q) ih = rw e (inl q)
-    go false e (inr m) ih = rw e (inr (ih m))
-
-no_more : (xs ys : List ℕ) → EachOnce xs → ((v : ℕ) → Among xs v → Among ys v) → length xs ≤ length ys
-no_more [] ys d h = omega arith
-no_more (x ∷ xs) ys d h =
-    let rest = no_more xs (without x ys) d.1 (λ v m. without_among x v ys (h v (inr m)) (λ q. true≢false (sym (Among-contains nat_eq exact_numbers xs x (subst (Among xs) (sym q) m)) ∙ d.0))) in
-    let size = without_length x ys (h x (inl refl)) in
-    omega (arith, rest, size)
-
-numbers_among : (n v : ℕ) → v < n → Among (numbers_to n) v
-numbers_among zero v l = absurd (omega (arith, l))
-numbers_among (suc n) v l = ⊎_elim (λ less. Among_left (numbers_to n) (n ∷ []) v (numbers_among n v less)) (λ more. Among_right (numbers_to n) (n ∷ []) v (inl (omega (arith, l, more)))) (cases_lt v n)
-
-pub walked_few : (nexts : List (List ℕ)) (lead : List ℕ) (from : ℕ) (reached : List ℕ) (done : ℕ) → EachOnce reached → Walking nexts lead from reached done → length reached ≤ length lead
-walked_few nexts lead from reached done d h =
-    let few = no_more reached (numbers_to (length lead)) d (λ v m. numbers_among (length lead) v (h.small v m)) in
-    omega (arith, few, numbers_length (length lead))
 
 -- ---- a set of numbers and a list of rows, as contracts see them
 
+same_eq : (x y : ℕ) → nat_eq x y ≡ nat_eq y x
+same_eq x y = same_truth (nat_eq x y) (nat_eq y x) (λ h. (exact_numbers y x).1 (sym ((exact_numbers x y).0 h))) (λ h. (exact_numbers x y).1 (sym ((exact_numbers y x).0 h)))
+
 any_number : (numbers : List ℕ) (x : ℕ) → list_any (nat_eq x) numbers ≡ contains nat_eq numbers x
 any_number [] x = refl
-any_number (y ∷ numbers) x = ap₂ ◌||◌ (same_truth (nat_eq x y) (nat_eq y x) (λ h. (exact_numbers y x).1 (sym ((exact_numbers x y).0 h))) (λ h. (exact_numbers x y).1 (sym ((exact_numbers y x).0 h)))) (any_number numbers x)
+any_number (y ∷ numbers) x = ap₂ ◌||◌ (same_eq x y) (any_number numbers x)
 
 pub insert_known : (numbers : List ℕ) (x : ℕ) → insert_key nat_eq numbers x ≡ with_one nat_eq numbers x
 insert_known numbers x = ap (λ b. if b then numbers else numbers ++ x ∷ []) (any_number numbers x)
 
-others_unlike : (x : ℕ) (numbers : List ℕ) → AllByRecursion (λ y. nat_eq x y ≡ false) numbers → contains nat_eq numbers x ≡ false
-others_unlike x [] h = refl
-others_unlike x (y ∷ numbers) h = ap₂ ◌||◌ (same_truth (nat_eq y x) false (λ k. sym h.0 ∙ (exact_numbers x y).1 (sym ((exact_numbers y x).0 k))) (λ k. absurd (true≢false (sym k)))) (others_unlike x numbers h.1)
+once_apart : (x : ℕ) (numbers : List ℕ) → contains nat_eq numbers x ≡ false → AllByRecursion (λ y. nat_eq x y ≡ false) numbers
+once_apart x [] h = tt
+once_apart x (y ∷ numbers) h = let both = or_parts (nat_eq y x) (contains nat_eq numbers x) h in (same_eq x y ∙ both.0, once_apart x numbers both.1)
+
+once_distinct : (numbers : List ℕ) → EachOnce numbers → IsDistinct nat_eq numbers
+unfolding IsDistinct
+once_distinct [] h = tt
+once_distinct (x ∷ numbers) h = (once_apart x numbers h.0, once_distinct numbers h.1)
+
+-- different numbers below a size are no more than the size
+pub walked_few : (nexts : List (List ℕ)) (lead : List ℕ) (from : ℕ) (reached : List ℕ) (done : ℕ) → EachOnce reached → Walking nexts lead from reached done → length reached ≤ length lead
+walked_few nexts lead from reached done once h =
+    length-le_from_distinct_below reached (length lead) (once_distinct reached once) (λ q m. led_small nexts lead from q (h.sound q (Among_by_contains nat_eq exact_numbers reached q (sym (any_number reached q) ∙ m))))
+
+unlike : (x : ℕ) (numbers : List ℕ) → AllByRecursion (λ y. nat_eq x y ≡ false) numbers → contains nat_eq numbers x ≡ false
+unlike x [] h = refl
+unlike x (y ∷ numbers) h = ap₂ ◌||◌ (same_eq y x ∙ h.0) (unlike x numbers h.1)
 
 pub numbers_once : (numbers : List ℕ) → IsDistinct nat_eq numbers → EachOnce numbers
 unfolding IsDistinct
 numbers_once [] h = tt
-numbers_once (x ∷ numbers) h = (others_unlike x numbers h.0, numbers_once numbers h.1)
-
-pub rows_filled : {V : Type 0} (items : V → List ℕ) (rows : List V) (i : ℕ) (row : V) → map items (slice_set rows i row) ≡ slice_set (map items rows) i (items row)
-rows_filled items (x ∷ rows) (suc i) row = ap (λ z. items x ∷ z) (rows_filled items rows i row)
-rows_filled items _ _ row = refl
+numbers_once (x ∷ numbers) h = (unlike x numbers h.0, numbers_once numbers h.1)

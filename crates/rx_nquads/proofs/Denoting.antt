@@ -1,5 +1,6 @@
 -- What the text of a graph denotes.
-use Rattle.rx_model.proofs.Common.{◌≡◌, ◌⊎◌, ℕ, ◌+◌, ◌<◌, ◌≤◌, ◌^◌, Bool, true, false, List, [], ◌∷◌, ◌++◌, map, length, take, slice_get, get_or, codes, Option, Some, None, refl, sym, ap, ap₂, ◌∙◌, inl, inr, subst, arith, append_assoc, append-nil, drop, not, ◌==◌, take-append-drop, and_from, nat_tests, chars-encodes, take_all, map-append, line_feed, carriage_return, quotation_mark, reverse_solidus, space, full_stop, Chars, decimal, decimal_is_IsNumeral, decimal_digit, first_decimal, Among, triple_seen, triples_seen, Kind, Plain, Tagged, Typed, Node, Iri, Blank, Term, Resource, Literal, Triple, Among_map, Among_of_map, Among_cases}
+use Rattle.rx_model.proofs.Common.{and_from, nat_tests, chars-encodes, take_all, map-append, line_feed, carriage_return, quotation_mark, reverse_solidus, space, full_stop, Chars, by_test, decimal, flat_map-append, decimal_is_IsNumeral, decimal_digit, first_decimal, Among, triple_seen, triples_seen, Kind, Plain, Tagged, Typed, Node, Iri, Blank, Term, Resource, Literal, Triple, Among_map, Among_of_map, Among_cases}
+use Rattle.std.proofs.Common.{◌≡◌, ◌⊎◌, ℕ, ◌+◌, ◌<◌, ◌≤◌, ◌^◌, true, false, List, [], ◌∷◌, ◌++◌, map, length, take, slice_get, get_or, codes, Option, Some, None, refl, sym, ap, ap₂, ◌∙◌, inl, inr, subst, arith, append_assoc, append-nil, drop, ◌==◌, take-append-drop, is_some}
 use Rattle.std.specs.Str.{chars, encode_utf8_all}
 use Rattle.std.specs.Option.{option_map}
 use Rattle.rx_terms.specs.declared.triples.Triple.{Triple as CodeTriple}
@@ -13,7 +14,7 @@ use Rattle.rx_pieces.specs.Underway.{Delivery}
 use Rattle.rx_pieces.specs.Writable.{Adds, WritableText, WritableIri, WritableNode, WritableKind, WritableTerm, WritableName, WritableTriple}
 use Rattle.rx_pieces.proofs.Adding.{adds_then, adds_by, adds_failed}
 use Rattle.rx_pieces.proofs.Scalars.{joined, literally, string_writable, iri_writable, blank_writable}
-use Rattle.rx_nquads.proofs.Cuts.{lacks, differs, lacks_append}
+use Rattle.rx_nquads.proofs.Cuts.{lacks, differs, lacks_append, differs_where}
 use Rattle.rx_nquads.proofs.OneMeaning.{line_feed_marks, iri_lacks, node_lacks, kind_lacks, states_one}
 
 -- ---- terms are spelled
@@ -27,11 +28,9 @@ above_zero (c ∷ []) h = refl
 above_zero (c ∷ d ∷ digits) h = grind (arith, nat_tests, h)
 
 shortest : (number : ℕ) → number < 2 ^ 64 → has_leading_zero (decimal number) ≡ false
-shortest number h = go (number == 0) refl
-  where
-    go : (b : Bool) → (number == 0) ≡ b → has_leading_zero (decimal number) ≡ false
-    go true e = let none : number ≡ 0 = grind (arith, nat_tests, e) in ap (λ n. has_leading_zero (decimal n)) none ∙ ap has_leading_zero (decimal_digit 0 (omega arith))
-    go false e = let some : 0 < number = grind (arith, nat_tests, e) in above_zero (decimal number) (first_decimal number some h)
+shortest number h = by_test (number == 0)
+    (λ e. let none : number ≡ 0 = grind (arith, nat_tests, e) in ap (λ n. has_leading_zero (decimal n)) none ∙ ap has_leading_zero (decimal_digit 0 (omega arith)))
+    (λ e. let some : 0 < number = grind (arith, nat_tests, e) in above_zero (decimal number) (first_decimal number some h))
 
 pub label_spelled : (number : ℕ) → number < 2 ^ 64 → SpellsLabel (blank_text number) number
 label_spelled number h = let d = decimal_is_IsNumeral number h in record { digits = decimal number; numeral = d.0; shortest = shortest number h; value = d.1; spelled = refl }
@@ -41,18 +40,13 @@ node_spelled (Iri iri) w = iri_spelled iri w
 node_spelled (Blank number) w = label_spelled number w
 
 char_spelled : (c : ℕ) (spelling text : Chars) → SpellsString spelling text → SpellsString (escaped_char c ++ spelling) (c ∷ text)
-char_spelled c spelling text s = go (c == quotation_mark) refl (c == reverse_solidus) refl (c == line_feed) refl (c == carriage_return) refl
-  where
-    is : (d : ℕ) → (c == d) ≡ true → c ≡ d
-    is d e = grind (arith, nat_tests, e)
-
-    go : (q : Bool) → (c == quotation_mark) ≡ q → (r : Bool) → (c == reverse_solidus) ≡ r → (l : Bool) → (c == line_feed) ≡ l → (k : Bool) → (c == carriage_return) ≡ k
-        → SpellsString (escaped_char c ++ spelling) (c ∷ text)
-    go true e r f l g k h = rw e (escaped quotation_mark c (ap Some (sym (is quotation_mark e))) s)
-    go false e true f l g k h = rw (e, f) (escaped reverse_solidus c (ap Some (sym (is reverse_solidus f))) s)
-    go false e false f true g k h = rw (e, f, g) (escaped 110 c (ap Some (sym (is line_feed g))) s)
-    go false e false f false g true h = rw (e, f, g, h) (escaped 114 c (ap Some (sym (is carriage_return h))) s)
-    go false e false f false g false h = rw (e, f, g, h) (itself c (rw (e, f, g, h) refl) s)
+char_spelled c spelling text s =
+    let is : (d : ℕ) → (c == d) ≡ true → c ≡ d = λ d e. grind (arith, nat_tests, e) in
+    by_test (c == quotation_mark) (λ e. rw e (escaped quotation_mark c (ap Some (sym (is quotation_mark e))) s))
+    (λ e. by_test (c == reverse_solidus) (λ f. rw (e, f) (escaped reverse_solidus c (ap Some (sym (is reverse_solidus f))) s))
+    (λ f. by_test (c == line_feed) (λ g. rw (e, f, g) (escaped 110 c (ap Some (sym (is line_feed g))) s))
+    (λ g. by_test (c == carriage_return) (λ h. rw (e, f, g, h) (escaped 114 c (ap Some (sym (is carriage_return h))) s))
+    (λ h. rw (e, f, g, h) (itself c (rw (e, f, g, h) refl) s)))))
 
 pub string_spelled : (text : Chars) → SpellsString (escaped_text text) text
 string_spelled [] = nothing
@@ -113,13 +107,9 @@ line_states name t w = record {
 string_lacks : (spelling text : Chars) → SpellsString spelling text → lacks line_feed spelling ≡ true
 string_lacks _ _ nothing = refl
 string_lacks _ _ (itself c {spelling = s} {text = t} h r) = and_from _ _ (grind (arith, nat_tests, h)) (string_lacks s t r)
-string_lacks _ _ (escaped mark c {spelling = s} {text = t} h r) = let solidus : differs line_feed reverse_solidus ≡ true = refl in and_from _ _ solidus (and_from _ _ (go (mark == line_feed) refl) (string_lacks s t r))
-  where
-    go : (b : Bool) → (mark == line_feed) ≡ b → differs line_feed mark ≡ true
-    go false e = ap not e
-    go true e =
-        let same : mark ≡ line_feed = grind (arith, nat_tests, e) in
-        let none : None ≡ Some c = ap escape (sym same) ∙ h in cc
+string_lacks _ _ (escaped mark c {spelling = s} {text = t} h r) =
+    let solidus : differs line_feed reverse_solidus ≡ true = refl in
+    and_from _ _ solidus (and_from _ _ (differs_where (λ d. is_some (escape d)) line_feed mark refl (ap is_some h)) (string_lacks s t r))
 
 term_lacks : (term : Term ℕ) → WritableTerm term → lacks line_feed (term_text term) ≡ true
 term_lacks (Resource node) w = node_lacks line_feed line_feed_marks (node_text node) node (node_spelled node w)
@@ -195,8 +185,7 @@ pub record Written (start out : Delivery) (name : Option Chars) (list : List Cod
   pub writable : (t : Triple ℕ) → Among (triples_seen (take i list)) t → WritableTriple name t
 
 nquads_more : (list : List (Triple ℕ)) (t : Triple ℕ) (name : Option Chars) → nquads (list ++ t ∷ []) name ≡ nquads list name ++ line_text name t
-nquads_more [] t name = append-nil (line_text name t)
-nquads_more (u ∷ list) t name = ap (λ z. line_text name u ++ z) (nquads_more list t name) ∙ sym (append_assoc (line_text name u) (nquads list name) (line_text name t))
+nquads_more list t name = flat_map-append (line_text name) list (t ∷ []) ∙ ap (λ z. nquads list name ++ z) (append-nil (line_text name t))
 
 among_last : (list : List (Triple ℕ)) (t u : Triple ℕ) → Among (list ++ t ∷ []) u → Among list u ⊎ (t ≡ u)
 among_last list t u m = elim (Among_cases list (t ∷ []) u m) [ inl h ↦ inl h | inr h ↦ elim h [ inl e ↦ inr e | inr n ↦ absurd n ] ]
@@ -210,13 +199,9 @@ written_more {name = name} list i t at w adds writable =
       writable = λ u m. elim (among_last (triples_seen (take i list)) (triple_seen t) u (subst (λ (z : List (Triple ℕ)). Among z u) more m)) [ inl h ↦ w.writable u h | inr e ↦ subst (WritableTriple name) e writable ];
     }
 
-nquads_both : (xs ys : List (Triple ℕ)) (name : Option Chars) → nquads (xs ++ ys) name ≡ nquads xs name ++ nquads ys name
-nquads_both [] ys name = refl
-nquads_both (x ∷ xs) ys name = ap (λ z. line_text name x ++ z) (nquads_both xs ys name) ∙ sym (append_assoc (line_text name x) (nquads xs name) (nquads ys name))
-
 nquads_cut : (list : List CodeTriple) (i : ℕ) (name : Option Chars) → nquads (triples_seen (take i list)) name ++ nquads (triples_seen (drop i list)) name ≡ nquads (triples_seen list) name
 nquads_cut list i name =
-    sym (nquads_both (triples_seen (take i list)) (triples_seen (drop i list)) name) ∙ ap (λ z. nquads z name) (sym (map-append triple_seen (take i list) (drop i list)) ∙ ap triples_seen (take-append-drop i list))
+    sym (flat_map-append (line_text name) (triples_seen (take i list)) (triples_seen (drop i list))) ∙ ap (λ z. nquads z name) (sym (map-append triple_seen (take i list) (drop i list)) ∙ ap triples_seen (take-append-drop i list))
 
 module _ {start out : Delivery} (name : Option Chars) (list : List CodeTriple) (i : ℕ) (w : Written start out name list i) where
   -- the sink failed, and no more is written

@@ -1,21 +1,15 @@
 -- What a text denotes whose parts denote something: of one line, and of one text behind another.
-use Rattle.rx_model.proofs.Common.{◌≡◌, ◌⊎◌, ℕ, true, List, [], ◌∷◌, ◌++◌, Option, refl, sym, ap, ◌∙◌, inl, inr, subst, append_assoc, append-nil, arith, line_feed, number_sign, Chars, Among, Triple, Among_cases, Among_left, Among_right}
+use Rattle.rx_model.proofs.Common.{◌≡◌, ◌⊎◌, ℕ, true, List, [], ◌∷◌, ◌++◌, Option, refl, sym, ap, ◌∙◌, inl, inr, subst, append-nil, arith, None, line_feed, number_sign, Chars, flat_map-append, Among, Triple, Among_cases, Among_left, Among_right}
 use Rattle.rx_nquads.specs.Quads.{Quad, quad_of}
 use Rattle.rx_nquads.specs.Document.{States, SaysNothing, Nquads, joined_lines, has_no_line_feed}
 use Rattle.rx_nquads.specs.Writing.{line_text}
 use Rattle.rx_pieces.specs.Writable.{WritableTriple}
 use Rattle.rx_nquads.proofs.Cuts.{lacks}
-use Rattle.rx_nquads.proofs.OneMeaning.{node_begins, states_one}
-use Rattle.rx_nquads.proofs.Denoting.{statement, line_ended, line_states, line_unbroken}
+use Rattle.rx_nquads.proofs.OneMeaning.{node_begins}
+use Rattle.rx_nquads.proofs.Denoting.{denotes}
 
 pub denotes_none : Nquads [] []
-denotes_none = record {
-  lines = [];
-  ended = refl;
-  unbroken = λ line m. absurd m;
-  each = λ line m. absurd m;
-  stated = λ q. (λ m. absurd m, λ s. absurd s.1);
-}
+denotes_none = denotes None [] (λ t m. absurd m)
 
 -- ---- a line
 
@@ -43,26 +37,12 @@ denotes_comment line h =
     }
 
 pub denotes_line : (name : Option Chars) (t : Triple ℕ) → WritableTriple name t → Nquads (line_text name t) (quad_of name t ∷ [])
-denotes_line name t w =
-    let whole : Chars = statement name t in
-    let q : Quad = quad_of name t in
-    let states : States whole q = line_states name t w in
-    record {
-      lines = whole ∷ [];
-      ended = line_ended name t ∙ one_line whole;
-      unbroken = λ other m. subst (λ (z : Chars). has_no_line_feed z ≡ true) (only whole other m) (line_unbroken name t w);
-      each = λ other m. inr (q, subst (λ (z : Chars). States z q) (only whole other m) states);
-      stated = λ r. (
-        λ m. (whole, inl refl, subst (λ (z : Quad). States whole z) (only q r m) states),
-        λ s. inl (states_one whole q r states (subst (λ (z : Chars). States z r) (sym (only whole s.0 s.1)) s.2)),
-      );
-    }
+denotes_line name t w = subst (λ (z : Chars). Nquads z (quad_of name t ∷ [])) (append-nil (line_text name t)) (denotes name (t ∷ []) (λ u m. subst (WritableTriple name) (only t u m) w))
 
 -- ---- one text behind another
 
 joined_both : (xs ys : List Chars) → joined_lines (xs ++ ys) ≡ joined_lines xs ++ joined_lines ys
-joined_both [] ys = refl
-joined_both (x ∷ xs) ys = ap (λ z. (x ++ line_feed ∷ []) ++ z) (joined_both xs ys) ∙ sym (append_assoc (x ++ line_feed ∷ []) (joined_lines xs) (joined_lines ys))
+joined_both xs ys = flat_map-append (λ line. line ++ line_feed ∷ []) xs ys
 
 module _ (a b : Chars) (xs ys : List Quad) (h : Nquads a xs) (k : Nquads b ys) where
   stated_in : (q : Quad) → Among (xs ++ ys) q → (line : Chars) × Among (h.lines ++ k.lines) line × States line q

@@ -1,12 +1,12 @@
 -- A line states at most one quad, and a text denotes at most one set of quads.
-use Rattle.rx_model.proofs.Common.{◌≡◌, ℕ, Bool, true, false, ◌≢◌, List, [], ◌∷◌, ◌++◌, Option, Some, None, refl, sym, ap, ap₂, ◌∙◌, inl, inr, subst, true≢false, arith, append_assoc, not, ◌==◌, ◌||◌, list_all, append_cancel_left, nat_tests, line_feed, quotation_mark, reverse_solidus, less_than_sign, greater_than_sign, space, commercial_at, circumflex_accent, full_stop, hyphen, low_line, Chars, is_forbidden, digit_value, is_lang, is_subtag_char, Among, Kind, Tagged, Node, Iri, Blank, Term, Resource, Literal}
+use Rattle.rx_model.proofs.Common.{◌≡◌, ℕ, Bool, true, false, ◌≢◌, List, [], ◌∷◌, ◌++◌, Option, Some, None, refl, sym, ap, ap₂, ◌∙◌, inl, inr, subst, true≢false, arith, append_assoc, nat_lt, ◌==◌, ◌||◌, list_all, append_cancel_left, nat_tests, line_feed, quotation_mark, reverse_solidus, less_than_sign, greater_than_sign, space, commercial_at, circumflex_accent, full_stop, hyphen, low_line, Chars, is_forbidden, by_test, digit_value, is_lang, is_subtag_char, Among, Kind, Node, Iri, Blank, Term, Resource, Literal}
 use Rattle.std.proofs.lemmas.Bool.{and_from, or_left, or_right}
 use Rattle.std.specs.Str.Parse.{AllDigits, digits_value}
 use Rattle.rx_terms.proofs.LangLemmas.{is_left, left-start, left-hyphen, left-empty, left-char, left-other}
 use Rattle.rx_nquads.specs.Quads.{kind_of}
 use Rattle.rx_nquads.specs.Spelling.{SpellsIri, SpellsLabel, SpellsNode, stands_for_itself, escape, SpellsString, nothing, itself, escaped, SpellsKind, plain, tagged, typed, SpellsLiteral, SpellsTerm}
 use Rattle.rx_nquads.specs.Document.{SpellsGraph, StatesOne, DenotesOne, joined_lines, has_no_line_feed}
-use Rattle.rx_nquads.proofs.Cuts.{lacks, differs, cut, lacks_append, lacks_where, lacks_any}
+use Rattle.rx_nquads.proofs.Cuts.{lacks, differs, cut, lacks_append, differs_where, lacks_where, lacks_any}
 
 -- ---- a mark that stands outside of all terms but strings
 
@@ -39,19 +39,11 @@ any_part true c h = grind (arith, nat_tests, h)
 
 left_chars : (first empty : Bool) (text : Chars) → is_left first empty text ≡ true → list_all is_tag_char text ≡ true
 left_chars first empty [] h = refl
-left_chars first empty (c ∷ text) h = go (c == hyphen) refl (left_chars false true text) (left_chars first false text)
-  where
-    hyphens : (b : Bool) → empty ≡ b → (c == hyphen) ≡ true → (is_left false true text ≡ true → list_all is_tag_char text ≡ true) → list_all is_tag_char (c ∷ text) ≡ true
-    hyphens true f e ih = absurd (true≢false (sym h ∙ left-empty first empty text c e f))
-    hyphens false f e ih = and_from _ _ (or_right (is_subtag_char false c) (c == hyphen) e) (ih (sym (left-hyphen first empty text c e f) ∙ h))
-
-    chars : (b : Bool) → is_subtag_char first c ≡ b → (c == hyphen) ≡ false → (is_left first false text ≡ true → list_all is_tag_char text ≡ true) → list_all is_tag_char (c ∷ text) ≡ true
-    chars true f e ih = and_from _ _ (or_left (is_subtag_char false c) (c == hyphen) (any_part first c f)) (ih (sym (left-char first empty text c e f) ∙ h))
-    chars false f e ih = absurd (true≢false (sym h ∙ left-other first empty text c e f))
-
-    go : (b : Bool) → (c == hyphen) ≡ b → (is_left false true text ≡ true → list_all is_tag_char text ≡ true) → (is_left first false text ≡ true → list_all is_tag_char text ≡ true) → list_all is_tag_char (c ∷ text) ≡ true
-    go true e ih jh = hyphens empty refl e ih
-    go false e ih jh = chars (is_subtag_char first c) refl e jh
+left_chars first empty (c ∷ text) h = by_test (c == hyphen)
+    (λ e. by_test empty (λ f. absurd (true≢false (sym h ∙ left-empty first empty text c e f)))
+    (λ f. and_from _ _ (or_right (is_subtag_char false c) (c == hyphen) e) (left_chars false true text (sym (left-hyphen first empty text c e f) ∙ h))))
+    (λ e. by_test (is_subtag_char first c) (λ f. and_from _ _ (or_left (is_subtag_char false c) (c == hyphen) (any_part first c f)) (left_chars first false text (sym (left-char first empty text c e f) ∙ h)))
+    (λ f. absurd (true≢false (sym h ∙ left-other first empty text c e f))))
 
 pub tag_chars : (tag : Chars) → is_lang tag ≡ true → list_all is_tag_char tag ≡ true
 tag_chars tag h = left_chars true true tag (sym (left-start tag) ∙ h)
@@ -60,14 +52,7 @@ tag_chars tag h = left_chars true true tag (sym (left-start tag) ∙ h)
 
 pub digits_lack : (mark : ℕ) → digit_value mark ≡ 36 → (digits : Chars) → AllDigits 10 digits → lacks mark digits ≡ true
 digits_lack mark n [] h = refl
-digits_lack mark n (c ∷ digits) h = and_from _ _ (go (c == mark) refl) (digits_lack mark n digits h.1)
-  where
-    go : (b : Bool) → (c == mark) ≡ b → differs mark c ≡ true
-    go false e = ap not e
-    go true e =
-        let same : c ≡ mark = grind (arith, nat_tests, e) in
-        let value : digit_value c ≡ 36 = ap digit_value same ∙ n in
-        absurd (omega (arith, h.0, value))
+digits_lack mark n (c ∷ digits) h = and_from _ _ (differs_where (λ d. nat_lt (digit_value d) 10) mark c (rw n refl) (grind (arith, nat_tests, h.0))) (digits_lack mark n digits h.1)
 
 module _ (mark : ℕ) (m : IsMark mark) where
   pub iri_lacks : (spelling iri : Chars) → SpellsIri spelling iri → lacks mark spelling ≡ true
@@ -110,16 +95,10 @@ one_node s r (Blank a) (Iri b) e h k =
     let both : 95 ∷ 58 ∷ 98 ∷ h.digits ≡ 60 ∷ (b ++ 62 ∷ []) = sym h.spelled ∙ e ∙ k.spelled in
     let heads : low_line ≡ less_than_sign = cc in absurd (omega (arith, heads))
 
-one_kind : (s r : Chars) (k l : Kind) → s ≡ r → SpellsKind s k → SpellsKind r l → k ≡ l
-one_kind _ _ _ _ e plain plain = refl
-one_kind _ _ _ _ e (tagged a h) (tagged b k) = ap Tagged (cc)
-one_kind _ _ _ _ e (typed s a h p) (typed r b k q) = p ∙ ap kind_of (one_iri s r a b (cc) h k) ∙ sym q
-one_kind _ _ _ _ e plain (tagged b k) = cc
-one_kind _ _ _ _ e plain (typed r b k q) = cc
-one_kind _ _ _ _ e (tagged a h) plain = cc
-one_kind _ _ _ _ e (typed s a h p) plain = cc
-one_kind _ _ _ _ e (tagged a h) (typed r b k q) = let heads : commercial_at ≡ circumflex_accent = cc in absurd (omega (arith, heads))
-one_kind _ _ _ _ e (typed s a h p) (tagged b k) = let heads : circumflex_accent ≡ commercial_at = cc in absurd (omega (arith, heads))
+one_kind : (s : Chars) (k l : Kind) → SpellsKind s k → SpellsKind s l → k ≡ l
+one_kind _ _ _ plain plain = refl
+one_kind _ _ _ (tagged a h) (tagged _ k) = refl
+one_kind _ _ _ (typed s a h p) (typed _ b k q) = p ∙ ap kind_of (one_iri s s a b refl h k) ∙ sym q
 
 -- ---- a term at the front of a text
 
@@ -169,7 +148,7 @@ literal_front s r x y t u k l h j e =
     sym (ap (λ z. z ++ space ∷ x) h.spelled ∙ literal_moved h.inside h.behind x) ∙ e ∙ ap (λ z. z ++ space ∷ y) j.spelled ∙ literal_moved j.inside j.behind y in
     let strings = one_string h.inside j.inside t u (h.behind ++ space ∷ x) (j.behind ++ space ∷ y) h.string j.string (cc) in
     let parts = cut space h.behind j.behind x y (kind_lacks space space_marks h.behind k h.kind_spelled) (kind_lacks space space_marks j.behind l j.kind_spelled) strings.1 in
-    (ap₂ Literal strings.0 (one_kind h.behind j.behind k l parts.0 h.kind_spelled j.kind_spelled), parts.1)
+    (ap₂ Literal strings.0 (one_kind h.behind k l h.kind_spelled (subst (λ (z : Chars). SpellsKind z l) (sym parts.0) j.kind_spelled)), parts.1)
 
 pub term_front : (s r x y : Chars) (o p : Term ℕ) → SpellsTerm s o → SpellsTerm r p → s ++ space ∷ x ≡ r ++ space ∷ y → (o ≡ p) × (x ≡ y)
 term_front s r x y (Resource n) (Resource m) h k e = let parts = node_front s r x y n m h k e in (ap Resource parts.0, parts.1)

@@ -1,6 +1,6 @@
 -- Characters added to a text, one part after another.
-use Rattle.rx_terms.proofs.Common.{and_from, and_parts, or_parts, nat_tests, list_all, list_any, encodes-append, encodes-chars, encode_ascii, scalars-chars, list_any-append, is_ascii, line_feed, carriage_return, quotation_mark, reverse_solidus, Chars, IsIri, ascii-chars, ascii-same, decimal, drop-set, IsAscii-decimal, is_lang}
-use Rattle.std.proofs.Common.{◌≡◌, ◌∙◌, ℕ, ◌<◌, ◌≤◌, ◌^◌, true, false, List, [], ◌∷◌, ◌++◌, sym, ap, ap₂, refl, subst, append_assoc, append-nil, suc, codes, Bool, encode_utf8, arith, ◌-◌, length, drop, ◌+◌, ◌||◌, ◌==◌, IsAscii, set, length-set}
+use Rattle.rx_terms.proofs.Common.{and_from, or_parts, nat_tests, list_all, list_any, encodes-append, encodes-chars, encode_ascii, scalars-chars, list_any-append, list_all-append, is_ascii, line_feed, carriage_return, quotation_mark, reverse_solidus, Chars, IsIri, ascii-chars, ascii-same, by_test, decimal, drop-set, IsAscii-decimal, flat_map-append, is_lang}
+use Rattle.std.proofs.Common.{◌≡◌, ◌∙◌, ℕ, ◌<◌, ◌≤◌, ◌^◌, true, false, List, [], ◌∷◌, ◌++◌, sym, ap, ap₂, refl, subst, append_assoc, append-nil, suc, codes, encode_utf8, arith, ◌-◌, length, drop, ◌+◌, ◌||◌, ◌==◌, IsAscii, set, length-set}
 use Rattle.std.specs.Str.{chars, IsUtf8, encode_utf8_all}
 use Rattle.rx_pieces.specs.Writing.{is_escaped, escaped_char, escaped_text, iri_text, blank_text}
 use Rattle.rx_pieces.specs.Underway.{Delivery, AddsBytes}
@@ -61,13 +61,9 @@ all_ascii (b ∷ bs) h = let low : b < 128 = h 0 in and_from _ _ (grind (arith, 
 
 -- ---- a label, and what stands behind it
 
-ascii_both : (xs ys : List ℕ) → list_all is_ascii xs ≡ true → list_all is_ascii ys ≡ true → list_all is_ascii (xs ++ ys) ≡ true
-ascii_both [] ys p q = q
-ascii_both (x ∷ xs) ys p q = let parts = and_parts _ _ p in and_from _ _ parts.0 (ascii_both xs ys parts.1 q)
-
 pub adds_label : {a b : Delivery} (text : List ℕ) (number : ℕ) (behind : List ℕ) → number < 2 ^ 64 → list_all is_ascii behind ≡ true → AddsBytes a b text → text ≡ codes "_:b" ++ (decimal number ++ behind) → Adds a b (blank_text number ++ behind)
 adds_label text number behind fits plain h spelled =
-    let all : list_all is_ascii (codes "_:b" ++ (decimal number ++ behind)) ≡ true = ascii_both (decimal number) behind (all_ascii (decimal number) (IsAscii-decimal number fits)) plain in
+    let all : list_all is_ascii (codes "_:b" ++ (decimal number ++ behind)) ≡ true = list_all-append is_ascii (decimal number) behind ∙ and_from _ _ (all_ascii (decimal number) (IsAscii-decimal number fits)) plain in
     ascii_bytes (codes "_:b" ++ (decimal number ++ behind)) all (bytes_by spelled h)
 
 -- the three bytes before the digits
@@ -105,13 +101,8 @@ none_by_bytes : (cs : Chars) → list_any is_escaped (encode_utf8_all cs) ≡ fa
 none_by_bytes [] h = refl
 none_by_bytes (c ∷ cs) h =
     let parts = or_parts (list_any is_escaped (encode_utf8 c)) (list_any is_escaped (encode_utf8_all cs)) (sym (list_any-append is_escaped (encode_utf8 c) (encode_utf8_all cs)) ∙ h) in
-    ap₂ ◌||◌ (go (is_escaped c) refl parts.0) (none_by_bytes cs parts.1)
-  where
-    go : (b : Bool) → is_escaped c ≡ b → list_any is_escaped (encode_utf8 c) ≡ false → is_escaped c ≡ false
-    go false e k = e
-    go true e k =
-        let small : c < 128 = grind (arith, nat_tests) in
-        (or_parts (is_escaped c) false (sym (ap (list_any is_escaped) (encode_ascii c small)) ∙ k)).0
+    let first = by_test (is_escaped c) (λ e. let small : c < 128 = grind (arith, nat_tests, e) in (or_parts (is_escaped c) false (sym (ap (list_any is_escaped) (encode_ascii c small)) ∙ parts.0)).0) (λ e. e) in
+    ap₂ ◌||◌ first (none_by_bytes cs parts.1)
 
 pub none_escaped : (bs : List ℕ) → IsUtf8 bs → list_any is_escaped bs ≡ false → list_any is_escaped (chars bs) ≡ false
 none_escaped bs u h = none_by_bytes (chars bs) (ap (list_any is_escaped) (encodes-chars bs u) ∙ h)
@@ -119,8 +110,7 @@ none_escaped bs u h = none_by_bytes (chars bs) (ap (list_any is_escaped) (encode
 -- ---- a string, character by character
 
 escaped_one_more : (text : Chars) (c : ℕ) → escaped_text (text ++ c ∷ []) ≡ escaped_text text ++ escaped_char c
-escaped_one_more [] c = append-nil (escaped_char c)
-escaped_one_more (d ∷ text) c = ap (λ z. escaped_char d ++ z) (escaped_one_more text c) ∙ sym (append_assoc (escaped_char d) (escaped_text text) (escaped_char c))
+escaped_one_more text c = flat_map-append escaped_char text (c ∷ []) ∙ ap (λ z. escaped_text text ++ z) (append-nil (escaped_char c))
 
 -- a front of the text is written, and this is left
 pub record Left (start now : Delivery) (whole left : Chars) : Type 0 where

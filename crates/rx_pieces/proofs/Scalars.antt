@@ -1,5 +1,5 @@
 -- Texts whose characters are Unicode scalar values.
-use Rattle.rx_terms.proofs.Common.{◌≡◌, ℕ, ◌<◌, ◌^◌, Bool, true, false, [], ◌∷◌, ◌++◌, codes, refl, ◌==◌, all_scalars, list_all, and_parts, and_from, line_feed, carriage_return, quotation_mark, reverse_solidus, is_ascii, Chars, ascii-same, decimal, IsAscii-decimal}
+use Rattle.rx_terms.proofs.Common.{◌≡◌, ℕ, ◌<◌, ◌^◌, true, [], ◌∷◌, ◌++◌, codes, refl, ◌==◌, all_scalars, list_all, and_parts, and_from, line_feed, carriage_return, quotation_mark, reverse_solidus, is_ascii, Chars, ascii-same, by_test, decimal, IsAscii-decimal}
 use Rattle.rx_pieces.specs.Writing.{escaped_char, escaped_text, iri_text, blank_text}
 use Rattle.rx_pieces.specs.Writable.{WritableText, WritableIri}
 use Rattle.rx_pieces.proofs.Adding.{all_ascii}
@@ -15,14 +15,8 @@ pub literally : (xs : Chars) → list_all is_ascii xs ≡ true → WritableText 
 literally xs h = record { scalars = (ascii-same xs h).1 }
 
 escaped_writable : (c : ℕ) → all_scalars (c ∷ []) ≡ true → all_scalars (escaped_char c) ≡ true
-escaped_writable c w = go (c == quotation_mark) refl (c == reverse_solidus) refl (c == line_feed) refl (c == carriage_return) refl
-  where
-    go : (q : Bool) → (c == quotation_mark) ≡ q → (r : Bool) → (c == reverse_solidus) ≡ r → (l : Bool) → (c == line_feed) ≡ l → (k : Bool) → (c == carriage_return) ≡ k → all_scalars (escaped_char c) ≡ true
-    go true e r f l g k h = rw e refl
-    go false e true f l g k h = rw (e, f) refl
-    go false e false f true g k h = rw (e, f, g) refl
-    go false e false f false g true h = rw (e, f, g, h) refl
-    go false e false f false g false h = rw (e, f, g, h) w
+escaped_writable c w = by_test (c == quotation_mark) (λ e. rw e refl) (λ e. by_test (c == reverse_solidus) (λ f. rw (e, f) refl)
+    (λ f. by_test (c == line_feed) (λ g. rw (e, f, g) refl) (λ g. by_test (c == carriage_return) (λ h. rw (e, f, g, h) refl) (λ h. rw (e, f, g, h) w))))
 
 pub string_writable : (text : Chars) → WritableText text → WritableText (escaped_text text)
 string_writable [] w = record { scalars = refl }

@@ -77,31 +77,22 @@ kept old new held faults bytes e = subst (λ (u : Underway). AddsBytes (delivery
 })
 
 module _ (now : Underway) (held next : Option (List ℕ)) (faults after : ℕ) (fine : now.failed ≡ false) (later : faults ≤ after) where
-  sent_whole : WhereKnown (GrowsBy now.waiting) held next → after ≡ faults → AddsBytes (delivery now held faults) (delivery (nothing_waits false) next after) []
-  sent_whole moves same = record {
+  sent_as : (grows : List ℕ → List ℕ → Type 0) (failed : Bool) → ((text x y z : List ℕ) → SentBut false now.waiting text x y → grows y z → SentBut failed [] text x z) → WhereKnown grows held next → (failed ≡ false → after ≡ faults) → (failed ≡ true → Rose faults after)
+      → AddsBytes (delivery now held faults) (delivery (nothing_waits failed) next after) []
+  sent_as grows failed then moves same rose = record {
     stands = λ start before text s. stands_by (sym (append-nil text)) (record {
-      told = moves_then _ (λ x y z p q. all_sent now.waiting text x y z (subst (λ (b : Bool). SentBut b now.waiting text x y) fine p) q) s.told moves;
+      told = moves_then _ (λ x y z p q. then text x y z (subst (λ (b : Bool). SentBut b now.waiting text x y) fine p) q) s.told moves;
       later = omega (arith, s.later, later);
-      steady = λ e. same ∙ s.steady fine;
-      cause = λ e. absurd (cc);
-    });
-  }
-
-  sent_part : WhereKnown (GrowsByPart now.waiting) held next → Rose faults after → AddsBytes (delivery now held faults) (delivery (nothing_waits true) next after) []
-  sent_part moves rose = record {
-    stands = λ start before text s. stands_by (sym (append-nil text)) (record {
-      told = moves_then _ (λ x y z p q. part_sent now.waiting text x y z (subst (λ (b : Bool). SentBut b now.waiting text x y) fine p) q) s.told moves;
-      later = omega (arith, s.later, later);
-      steady = λ e. absurd (cc);
-      cause = λ _. later_rose before faults after s.later rose;
+      steady = λ e. same e ∙ s.steady fine;
+      cause = λ e. later_rose before faults after s.later (rose e);
     });
   }
 
   -- what waited was given to the sink
   pub sent : (r : Result (Unit {0}) Failed) → OnOk r (WhereKnown (GrowsBy now.waiting) held next) → OnErr r (WhereKnown (GrowsByPart now.waiting) held next) → OnOk r (after ≡ faults) → OnErr r (Rose faults after)
       → AddsBytes (delivery now held faults) (delivery (nothing_waits (is_err r)) next after) []
-  sent (Ok u) whole part same rose = sent_whole whole same
-  sent (Err f) whole part same rose = sent_part part rose
+  sent (Ok u) whole part same rose = sent_as (GrowsBy now.waiting) false (all_sent now.waiting) whole (λ e. same) (λ e. absurd (cc))
+  sent (Err f) whole part same rose = sent_as (GrowsByPart now.waiting) true (part_sent now.waiting) part (λ e. absurd (cc)) (λ e. rose)
 
 -- a sink that failed is given nothing
 pub sent_nothing : (now : Underway) (held : Option (List ℕ)) (faults : ℕ) → now.failed ≡ true → AddsBytes (delivery now held faults) (delivery (nothing_waits true) held faults) []

@@ -1,5 +1,5 @@
-use Rattle.std.proofs.Common.{arith}
-use Rattle.rx_graph.proofs.CopyLemmas.{links_start, links_turn, links_end}
+use Rattle.std.proofs.Common.{arith, take_all}
+use Rattle.rx_graph.proofs.CopyLemmas.{links_start, links_turn}
 use Rattle.rx_graph.proofs.links.links.Goals as goal
 
 pub loop-i-init : goal.loop-i-init
@@ -9,4 +9,4 @@ pub loop-i-preserved : goal.loop-i-preserved
 loop-i-preserved c = links_turn c.args.triples.now c.loop-i.i c.at.result.now c.args.nodes.now c.loop-i.links _ c.at.ensures c.in_ok-link.ensures c.loop-i.invariant
 
 pub returns : goal.returns
-returns c = links_end c.args.triples.now c.loop-i.i c.args.nodes.now _ (omega (arith, c.loop-i-test.false, c.len-i-end.ensures)) c.loop-i.invariant
+returns c = rw (take_all c.loop-i.i c.args.triples.now (omega (arith, c.loop-i-test.false, c.len-i-end.ensures))) at c.loop-i.invariant

@@ -1,6 +1,6 @@
-use Rattle.std.proofs.Common.{◌∙◌, ap, sym, arith, option_map}
+use Rattle.std.proofs.Common.{◌∙◌, ap, sym, arith, option_map, take_all}
 use Rattle.rx_graph.specs.Resources.{resource_seen}
-use Rattle.rx_graph.proofs.PatternLemmas.{references_found, references_kept, references_end}
+use Rattle.rx_graph.proofs.PatternLemmas.{references_found, references_kept}
 use Rattle.rx_graph.proofs.patterns.referenced.Goals.{in-Some+in_ok-add, in_default}
 use Rattle.rx_graph.proofs.patterns.referenced.Goals as goal
 
@@ -12,4 +12,4 @@ loop-i-preserved c = elim c.match-live.branch [
 ]
 
 pub returns : goal.returns
-returns c = references_end _ c.args.triples.now c.loop-i.i _ (omega (arith, c.loop-i-test.false, c.len-i-end.ensures)) c.loop-i.invariant
+returns c = rw (take_all c.loop-i.i c.args.triples.now (omega (arith, c.loop-i-test.false, c.len-i-end.ensures))) at c.loop-i.invariant
