@@ -1,5 +1,5 @@
 -- Chains that end.
-use Rattle.rx_model.proofs.Common.{◌≡◌, ◌⊎◌, ℕ, suc, ◌+◌, ◌<◌, ◌≤◌, Bool, true, false, nat_lt, List, [], ◌∷◌, ◌++◌, length, get_or, slice_get, Some, None, refl, sym, ap, subst, ◌∙◌, inl, inr, arith, if◌then◌else◌, nat_tests, slice_get_within, Among, Among_left, Among_cases}
+use Rattle.rx_model.proofs.Common.{◌≡◌, ℕ, suc, ◌+◌, ◌<◌, ◌≤◌, true, nat_lt, List, [], ◌++◌, length, get_or, slice_get, Some, refl, sym, ap, subst, ◌∙◌, inl, inr, arith, length-append, nat_tests, slice_get_within, by_test, Among, Among_left, Among_cases}
 use Rattle.rx_shapes.specs.declared.chains.Link.{Link}
 use Rattle.rx_shapes.specs.declared.chains.Link.TheVariants as link
 use Rattle.rx_shapes.specs.Rows.{table, is_number, filed}
@@ -13,37 +13,17 @@ use Rattle.rx_shapes.proofs.ReachedLemmas.{IsReach, is_reach_start, Grown, grown
 row_below : (size a : ℕ) (l : Link) → a < size → source_row size l ≡ Some a → l ≡ link.To a
 row_below size a link.Ends less h = let e : size ≡ a = cc in absurd (omega (arith, e, less))
 row_below size a link.Breaks less h = absurd (cc)
-row_below size a (link.To b) less h = go (nat_lt b size) h
-  where
-    go : (t : Bool) → (if t then Some b else None) ≡ Some a → link.To b ≡ link.To a
-    go true q = let e : b ≡ a = cc in ap link.To e
-    go false q = absurd (cc)
-
-lt_false : (n : ℕ) → nat_lt n n ≡ true → ⊥
-lt_false n h = let less : n < n = grind (arith, nat_tests, h) in absurd (omega (arith, less))
+row_below size a (link.To b) less h = by_test (nat_lt b size) (λ t. let e : b ≡ a = cc (rw t at h) in ap link.To e) (λ t. absurd (cc (rw t at h)))
 
 row_last : (size : ℕ) (l : Link) → source_row size l ≡ Some size → l ≡ link.Ends
 row_last size link.Ends h = refl
 row_last size link.Breaks h = absurd (cc)
-row_last size (link.To b) h = go (nat_lt b size) refl h
-  where
-    go : (t : Bool) → nat_lt b size ≡ t → (if t then Some b else None) ≡ Some size → link.To b ≡ link.Ends
-    go true e q = let same : b ≡ size = cc in absurd (lt_false size (sym (ap (λ z. nat_lt z size) same) ∙ e))
-    go false e q = absurd (cc)
+row_last size (link.To b) h = by_test (nat_lt b size)
+    (λ t. let same : b ≡ size = cc (rw t at h) in let less : b < size = grind (arith, nat_tests, t) in absurd (omega (arith, same, less)))
+    (λ t. absurd (cc (rw t at h)))
 
 row_of : (size a : ℕ) → a < size → source_row size (link.To a) ≡ Some a
 row_of size a less = let test : nat_lt a size ≡ true = grind (arith, nat_tests, less) in rw test refl
-
-length_more : (xs ys : List ℕ) → length xs ≤ length (xs ++ ys)
-length_more [] ys = omega arith
-length_more (x ∷ xs) ys = let rest = length_more xs ys in omega (arith, rest)
-
-below_or_last : (k done : ℕ) → k < done + 1 → (k < done) ⊎ (k ≡ done)
-below_or_last k done l = go (nat_lt k done) refl
-  where
-    go : (t : Bool) → nat_lt k done ≡ t → (k < done) ⊎ (k ≡ done)
-    go true e = inl (grind (arith, nat_tests, e))
-    go false e = let past : done ≤ k = grind (arith, nat_tests, e) in inr (omega (arith, l, past))
 
 module _ (links : List Link) where
   abbrev sources_of : ℕ → List ℕ
@@ -106,20 +86,20 @@ module _ (links : List Link) where
     within =
         let longer : length (reach_all r (sources_of a)).list ≡ length (r.list ++ g.more) = ap length g.longer in
         let inside = slice_get_within r.list done a at in
-        let sum = length_more r.list g.more in
+        let sum = length-append r.list g.more in
         omega (arith, longer, inside, sum);
     start = λ b e. front b (h.start b e);
     sound = λ b k. elim (Among_cases r.list g.more b (subst (λ (z : List ℕ). Among z b) g.longer k)) [
       | inl o ↦ h.sound b o
       | inr o ↦ linked (source_leads a b less (g.sound b o)) (h.sound a (among_get r.list done a at))
     ];
-    closed = λ k c b below here_is leads. elim (below_or_last k done below) [
-      | inl earlier ↦ front b (h.closed k c b earlier (old k c earlier here_is) leads)
-      | inr now_is ↦ (
-          let same : c ≡ a = same_some (slice_get (reach_all r (sources_of a)).list done) c a (ap (slice_get (reach_all r (sources_of a)).list) (sym now_is) ∙ here_is) at_new in
-          g.all b (leads_source a b less (subst (λ (z : ℕ). slice_get links b ≡ Some (link.To z)) same leads)) (slice_get_within links b (link.To c) leads)
-          )
-    ];
+    closed = λ k c b below here_is leads. by_test (nat_lt k done)
+        (λ t. let earlier : k < done = grind (arith, nat_tests, t) in front b (h.closed k c b earlier (old k c earlier here_is) leads))
+        (λ t.
+        let past : done ≤ k = grind (arith, nat_tests, t) in
+        let now_is : k ≡ done = omega (arith, below, past) in
+        let same : c ≡ a = same_some (slice_get (reach_all r (sources_of a)).list done) c a (ap (slice_get (reach_all r (sources_of a)).list) (sym now_is) ∙ here_is) at_new in
+        g.all b (leads_source a b less (subst (λ (z : ℕ). slice_get links b ≡ Some (link.To z)) same leads)) (slice_get_within links b (link.To c) leads));
   }
     where
       front : (b : ℕ) → Among r.list b → Among (reach_all r (sources_of a)).list b

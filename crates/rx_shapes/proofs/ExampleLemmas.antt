@@ -1,6 +1,9 @@
 -- The worked examples of shapes.
 use Rattle.rx_model.proofs.Common.{◌≡◌, ◌⊎◌, ℕ, false, nat_eq, List, [], ◌∷◌, filter, refl, sym, ap, subst, ◌∙◌, inl, inr, true≢false, Chars, Among, Node, Iri, Blank, Term, Resource, Triple, set_of, same_node, same_triple, same_term, spo, exact_numbers, exact_nodes, exact_triples, exact_terms, Among_filter, Among_of_filter, rdf_first, rdf_rest, rdf_nil}
 use Rattle.rx_shapes.specs.Shapes.{Parent, Ends, at_iri, at_top, onward, Inner, Pair, Cell, last_cell, next_cell}
+use Rattle.rx_shapes.proofs.Grouped.{object_there}
+use Rattle.rx_shapes.proofs.Heights.{parent_once}
+use Rattle.rx_shapes.proofs.CellLemmas.{cell_of, rest_each}
 use Rattle.rx_shapes.specs.Examples.{page, knows, likes, nil, nested, below_top, two_parents, self_loop, cycle, list_of_two, third_triple, list_in_list, no_end, nil_as_subject, list_alone, ExamplesHold}
 
 -- the triples with an object, and those with a subject
@@ -55,19 +58,20 @@ two_have list b t u e f n p =
 no_inner : (list : List (Triple ℕ)) (b : ℕ) → ((n : Node ℕ) → ¬ (Parent (set_of list) b n)) → ¬ (Inner (set_of list) b)
 no_inner list b none i = none i.parent i.has
 
-one_parent : (list : List (Triple ℕ)) (b : ℕ) (n m : Node ℕ) → Parent (set_of list) b n → Parent (set_of list) b m → n ≡ m
-one_parent list b n m p q = ap (λ (t : Triple ℕ). t.subject) (q.alone (spo n p.predicate (Resource (Blank b))) p.held refl)
-
 -- ---- chains that come round again
 
 -- where all of some nodes have parents among them, no chain ends
-module _ (list : List (Triple ℕ)) (P : Node ℕ → Type 0) (no_iri : (iri : Chars) → ¬ (P (Iri iri))) (up : (b : ℕ) → P (Blank b) → (n : Node ℕ) × Parent (set_of list) b n × P n) where
-  never_ends : {n : Node ℕ} → Ends (set_of list) n → ¬ (P n)
-  never_ends (at_iri {iri}) p = no_iri iri p
-  never_ends (at_top {b} none) p = let r = up b p in none r.0 r.1
-  never_ends (onward {b} {parent = n} q rest) p = let r = up b p in never_ends rest (subst P (one_parent list b r.0 n r.1 q) r.2)
+module _ (list : List (Triple ℕ)) (P : ℕ → Type 0) (up : (b : ℕ) → P b → (n : ℕ) × Parent (set_of list) b (Blank n) × P n) where
+  abbrev Round : Node ℕ → Type 0
+  Round (Iri iri) = ⊥
+  Round (Blank b) = P b
 
-  never_inner : (b : ℕ) → P (Blank b) → ¬ (Inner (set_of list) b)
+  never_ends : {n : Node ℕ} → Ends (set_of list) n → ¬ (Round n)
+  never_ends (at_iri {iri}) p = p
+  never_ends (at_top {b} none) p = let r = up b p in none (Blank r.0) r.1
+  never_ends (onward {b} {parent = n} q rest) p = let r = up b p in never_ends rest (subst Round (parent_once list r.1 q) r.2)
+
+  never_inner : (b : ℕ) → P b → ¬ (Inner (set_of list) b)
   never_inner b p i = never_ends (onward i.has i.ends) p
 
 -- ---- pairs
@@ -82,21 +86,11 @@ has_pair list b item after e =
       alone = λ w m q. one_of_two t u w (subst (λ (z : List (Triple ℕ)). Among z w) e (said_in list b w m q));
     }
 
--- what a cell is the subject of
-record Two (list : List (Triple ℕ)) (b : ℕ) : Type 0 where
-  item : Term ℕ
-  after : Term ℕ
-  pair : Pair (set_of list) b item after
-
-two_of : (list : List (Triple ℕ)) (b : ℕ) → Cell (set_of list) b → Two list b
-two_of list _ (last_cell {b} {item} i p) = record { item = item; after = Resource (Iri rdf_nil); pair = p }
-two_of list _ (next_cell {b} {c} {item} i p rest) = record { item = item; after = Resource (Blank c); pair = p }
-
 -- a node with a triple whose predicate is another is no cell
 other_predicate : (list : List (Triple ℕ)) (b : ℕ) (t : Triple ℕ) → Among list t → t.subject ≡ Blank b → same_term nat_eq (Resource (Iri t.predicate)) (Resource (Iri rdf_first)) ≡ false
     → same_term nat_eq (Resource (Iri t.predicate)) (Resource (Iri rdf_rest)) ≡ false → ¬ (Cell (set_of list) b)
 other_predicate list b t m s e f c =
-    let two = two_of list b c in
+    let two = cell_of list b c in
     elim (two.pair.alone t m s) [
       | inl q ↦ true≢false (sym ((exact_terms nat_eq exact_numbers (Resource (Iri t.predicate)) (Resource (Iri rdf_first))).1 (ap (λ (z : Triple ℕ). Resource (Iri z.predicate)) q)) ∙ e)
       | inr q ↦ true≢false (sym ((exact_terms nat_eq exact_numbers (Resource (Iri t.predicate)) (Resource (Iri rdf_rest))).1 (ap (λ (z : Triple ℕ). Resource (Iri z.predicate)) q)) ∙ f)
@@ -105,22 +99,18 @@ other_predicate list b t m s e f c =
 -- nor is one without triples
 no_triples : (list : List (Triple ℕ)) (b : ℕ) → said list b ≡ [] → ¬ (Cell (set_of list) b)
 no_triples list b e c =
-    let two = two_of list b c in
+    let two = cell_of list b c in
     subst (λ (z : List (Triple ℕ)). Among z (spo (Blank b) rdf_first two.item)) e (said_in list b (spo (Blank b) rdf_first two.item) two.pair.first refl)
 
 -- nor one whose rest is an object that is neither rdf:nil nor a cell
 rest_is : (list : List (Triple ℕ)) (b : ℕ) (after : Term ℕ) → Among list (spo (Blank b) rdf_rest after) → same_term nat_eq after (Resource (Iri rdf_nil)) ≡ false → ((c : ℕ) → after ≡ Resource (Blank c) → ¬ (Cell (set_of list) c)) → ¬ (Cell (set_of list) b)
-rest_is list b after m not_nil none c = go c m
-  where
-    is_rest : (b : ℕ) (item other after : Term ℕ) → Pair (set_of list) b item other → Among list (spo (Blank b) rdf_rest after) → after ≡ other
-    is_rest b item other after p m = elim (p.alone (spo (Blank b) rdf_rest after) m refl) [
-      | inl q ↦ absurd (true≢false (sym ((exact_terms nat_eq exact_numbers (Resource (Iri rdf_rest)) (Resource (Iri rdf_first))).1 (ap (λ (z : Triple ℕ). Resource (Iri z.predicate)) q))))
-      | inr q ↦ ap (λ (z : Triple ℕ). z.object) q
+rest_is list b after m not_nil none c =
+    let two = cell_of list b c in
+    let is : after ≡ two.after = rest_each list b two after (object_there list (spo (Blank b) rdf_rest after) m) in
+    elim two.next [
+      | inl e ↦ true≢false (sym ((exact_terms nat_eq exact_numbers after (Resource (Iri rdf_nil))).1 (is ∙ e)) ∙ not_nil)
+      | inr d ↦ none d.0 (is ∙ d.1) d.2
     ]
-
-    go : {b : ℕ} → Cell (set_of list) b → Among list (spo (Blank b) rdf_rest after) → ⊥
-    go (last_cell {b} {item} i p) m = true≢false (sym ((exact_terms nat_eq exact_numbers after (Resource (Iri rdf_nil))).1 (is_rest b item (Resource (Iri rdf_nil)) after p m)) ∙ not_nil)
-    go (next_cell {b} {c = d} {item} i p rest) m = none d (is_rest b item (Resource (Blank d)) after p m) rest
 
 -- ---- the examples
 
@@ -140,36 +130,25 @@ last_by list b item i e = last_cell i (has_pair list b (Resource item) (Resource
 next_by : (list : List (Triple ℕ)) (b c : ℕ) (item : Node ℕ) → Inner (set_of list) b → said list b ≡ spo (Blank b) rdf_first (Resource item) ∷ spo (Blank b) rdf_rest (Resource (Blank c)) ∷ [] → Cell (set_of list) c → Cell (set_of list) b
 next_by list b c item i e rest = next_cell i (has_pair list b (Resource item) (Resource (Blank c)) e) rest
 
-abbrev In_cycle : Node ℕ → Type 0
-In_cycle n = (n ≡ Blank 0) ⊎ ((n ≡ Blank 1) ⊎ (n ≡ Blank 2))
+abbrev In_cycle : ℕ → Type 0
+In_cycle n = (n ≡ 0) ⊎ ((n ≡ 1) ⊎ (n ≡ 2))
 
-cycle_up : (b : ℕ) → In_cycle (Blank b) → (n : Node ℕ) × Parent (set_of cycle) b n × In_cycle n
-cycle_up b (inl e) = let q : b ≡ 0 = cc in (Blank 1, subst (λ (z : ℕ). Parent (set_of cycle) z (Blank 1)) (sym q) (has_parent cycle 0 (Blank 1) knows refl), inr (inl refl))
-cycle_up b (inr (inl e)) = let q : b ≡ 1 = cc in (Blank 0, subst (λ (z : ℕ). Parent (set_of cycle) z (Blank 0)) (sym q) (has_parent cycle 1 (Blank 0) knows refl), inl refl)
-cycle_up b (inr (inr e)) = let q : b ≡ 2 = cc in (Blank 1, subst (λ (z : ℕ). Parent (set_of cycle) z (Blank 1)) (sym q) (has_parent cycle 2 (Blank 1) likes refl), inr (inl refl))
+cycle_up : (b : ℕ) → In_cycle b → (n : ℕ) × Parent (set_of cycle) b (Blank n) × In_cycle n
+cycle_up b (inl e) = (1, subst (λ (z : ℕ). Parent (set_of cycle) z (Blank 1)) (sym e) (has_parent cycle 0 (Blank 1) knows refl), inr (inl refl))
+cycle_up b (inr (inl e)) = (0, subst (λ (z : ℕ). Parent (set_of cycle) z (Blank 0)) (sym e) (has_parent cycle 1 (Blank 0) knows refl), inl refl)
+cycle_up b (inr (inr e)) = (1, subst (λ (z : ℕ). Parent (set_of cycle) z (Blank 1)) (sym e) (has_parent cycle 2 (Blank 1) likes refl), inr (inl refl))
 
-cycle_no_iri : (iri : Chars) → ¬ (In_cycle (Iri iri))
-cycle_no_iri iri (inl e) = cc
-cycle_no_iri iri (inr (inl e)) = cc
-cycle_no_iri iri (inr (inr e)) = cc
+abbrev In_loop : ℕ → Type 0
+In_loop n = n ≡ 0
 
-abbrev In_loop : Node ℕ → Type 0
-In_loop n = n ≡ Blank 0
-
-loop_up : (b : ℕ) → In_loop (Blank b) → (n : Node ℕ) × Parent (set_of self_loop) b n × In_loop n
-loop_up b e = let q : b ≡ 0 = cc in (Blank 0, subst (λ (z : ℕ). Parent (set_of self_loop) z (Blank 0)) (sym q) (has_parent self_loop 0 (Blank 0) knows refl), refl)
-
-loop_no_iri : (iri : Chars) → ¬ (In_loop (Iri iri))
-loop_no_iri iri e = cc
+loop_up : (b : ℕ) → In_loop b → (n : ℕ) × Parent (set_of self_loop) b (Blank n) × In_loop n
+loop_up b e = (0, subst (λ (z : ℕ). Parent (set_of self_loop) z (Blank 0)) (sym e) (has_parent self_loop 0 (Blank 0) knows refl), refl)
 
 third_no_cell : ¬ (Cell (set_of third_triple) 1)
 third_no_cell = other_predicate third_triple 1 (spo (Blank 1) likes (Resource page)) (inr (inr (inr (inr (inr (inl refl)))))) refl refl refl
 
 third_next : (c : ℕ) → Resource (Blank 1) ≡ Resource (Blank c) → ¬ (Cell (set_of third_triple) c)
 third_next c e = let q : 1 ≡ c = cc in subst (λ (z : ℕ). ¬ (Cell (set_of third_triple) z)) q third_no_cell
-
-page_is_blank : (c : ℕ) → Resource page ≡ Resource (Blank c) → ¬ (Cell (set_of no_end) c)
-page_is_blank c e = absurd (cc)
 
 pub examples_hold : ExamplesHold
 examples_hold =
@@ -186,17 +165,17 @@ examples_hold =
       top = no_inner below_top 0 (no_parent below_top 0 refl);
       below_labelled = (inner_by below_top 1 (Blank 0) (has_parent below_top 1 (Blank 0) knows refl) (at_top (no_parent below_top 0 refl)), no_triples below_top 1 refl);
       two = no_inner two_parents 0 (two_have two_parents 0 (spo page knows (Resource (Blank 0))) (spo page likes (Resource (Blank 0))) refl refl);
-      loop = never_inner self_loop In_loop loop_no_iri loop_up 0 refl;
-      round = never_inner cycle In_cycle cycle_no_iri cycle_up 0 (inl refl);
-      round_again = never_inner cycle In_cycle cycle_no_iri cycle_up 1 (inr (inl refl));
-      below_cycle = never_inner cycle In_cycle cycle_no_iri cycle_up 2 (inr (inr refl));
+      loop = never_inner self_loop In_loop loop_up 0 refl;
+      round = never_inner cycle In_cycle cycle_up 0 (inl refl);
+      round_again = never_inner cycle In_cycle cycle_up 1 (inr (inl refl));
+      below_cycle = never_inner cycle In_cycle cycle_up 2 (inr (inr refl));
       first_cell = next_by list_of_two 0 1 page two_0 refl two_last;
       last_of_two = two_last;
       has_third = (below_it third_triple 0 1 rdf_rest refl third_0, third_no_cell);
       before_third = (third_0, rest_is third_triple 0 (Resource (Blank 1)) (inr (inr (inl refl))) refl third_next);
       outer_list = last_by list_in_list 0 (Blank 1) in_0 refl;
       inner_list = last_by list_in_list 1 page (below_it list_in_list 0 1 rdf_first refl in_0) refl;
-      without_end = (below_the_page no_end 0 knows refl, rest_is no_end 0 (Resource page) (inr (inr (inl refl))) refl page_is_blank);
+      without_end = (below_the_page no_end 0 knows refl, rest_is no_end 0 (Resource page) (inr (inr (inl refl))) refl (λ c e. absurd (cc)));
       beside_nil = last_by nil_as_subject 0 page (below_the_page nil_as_subject 0 knows refl) refl;
       below_nil = (inner_by nil_as_subject 1 nil (has_parent nil_as_subject 1 nil likes refl) at_iri, no_triples nil_as_subject 1 refl);
       alone = no_inner list_alone 0 (no_parent list_alone 0 refl);

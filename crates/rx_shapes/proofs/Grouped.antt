@@ -8,7 +8,7 @@ same_nodes = exact_nodes nat_eq exact_numbers
 pub same_back : (a b : Node ℕ) → same_node nat_eq a b ≡ same_node nat_eq b a
 same_back a b = same_truth (same_node nat_eq a b) (same_node nat_eq b a) (λ h. (same_nodes b a).1 (sym ((same_nodes a b).0 h))) (λ h. (same_nodes a b).1 (sym ((same_nodes b a).0 h)))
 
-triple_path : (t : Triple ℕ) (s : Node ℕ) (p : Chars) (o : Term ℕ) → t.subject ≡ s → t.predicate ≡ p → t.object ≡ o → t ≡ spo s p o
+pub triple_path : (t : Triple ℕ) (s : Node ℕ) (p : Chars) (o : Term ℕ) → t.subject ≡ s → t.predicate ≡ p → t.object ≡ o → t ≡ spo s p o
 triple_path t s p o e f g = λ i. record { subject = e i; predicate = f i; object = g i }
 
 module _ (list : List (Triple ℕ)) where

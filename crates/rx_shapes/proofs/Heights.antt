@@ -49,26 +49,18 @@ module _ (list : List (Triple ℕ)) where
   height (at_top none) = 0
   height (onward p e) = suc (height e)
 
-  blanks_alike : (b c : ℕ) → Blank b ≡ Blank c → b ≡ c
-  blanks_alike b c e = cc
-
   pub parent_once : {b : ℕ} {p q : Node ℕ} → Parent (set_of list) b p → Parent (set_of list) b q → p ≡ q
   parent_once {b} {p} {q} has other = ap (λ (t : Triple ℕ). t.subject) (other.alone (spo p has.predicate (Resource (Blank b))) has.held refl)
 
-  pub heights_alike : {x y : Node ℕ} → x ≡ y → (e : Ends (set_of list) x) (f : Ends (set_of list) y) → height e ≡ height f
-  heights_alike path at_iri at_iri = refl
-  heights_alike path at_iri (at_top none) = refl
-  heights_alike path at_iri (onward p f) = absurd (cc)
-  heights_alike path (at_top none) at_iri = refl
-  heights_alike path (at_top none) (at_top other) = refl
-  heights_alike path (at_top {b = b} none) (onward {b = c} {parent = q} p f) = absurd (none q (subst (λ (z : ℕ). Parent (set_of list) z q) (sym (blanks_alike b c path)) p))
-  heights_alike path (onward p e) at_iri = absurd (cc)
-  heights_alike path (onward {b = b} {parent = q} p e) (at_top {b = c} none) = absurd (none q (subst (λ (z : ℕ). Parent (set_of list) z q) (blanks_alike b c path) p))
-  heights_alike path (onward {b = b} {parent = q} p e) (onward {b = c} {parent = r} o f) =
-      ap suc (heights_alike (parent_once (subst (λ (z : ℕ). Parent (set_of list) z q) (blanks_alike b c path) p) o) e f)
-
   pub height_once : {node : Node ℕ} (e f : Ends (set_of list) node) → height e ≡ height f
-  height_once e f = heights_alike refl e f
+  height_once at_iri at_iri = refl
+  height_once (at_top none) (at_top other) = refl
+  height_once (at_top none) (onward {parent = q} p f) = absurd (none q p)
+  height_once (onward {parent = q} p e) (at_top none) = absurd (none q p)
+  height_once (onward p e) (onward o f) = ap suc (subst (λ (z : Node ℕ). (g : Ends (set_of list) z) → height e ≡ height g) (parent_once p o) (λ g. height_once e g) f)
+
+  pub heights_alike : {x y : Node ℕ} → x ≡ y → (e : Ends (set_of list) x) (f : Ends (set_of list) y) → height e ≡ height f
+  heights_alike path e f = subst (λ (z : Node ℕ). (g : Ends (set_of list) z) → height e ≡ height g) path (λ g. height_once e g) f
 
   -- the triples by which a node hangs from those above it
   abbrev hangs_by : {node : Node ℕ} → Ends (set_of list) node → List (Triple ℕ)
@@ -77,15 +69,13 @@ module _ (list : List (Triple ℕ)) where
   hangs_by (onward {b = b} {parent = q} p e) = spo q p.predicate (Resource (Blank b)) ∷ hangs_by e
 
   hangs_size : {node : Node ℕ} (e : Ends (set_of list) node) → length (hangs_by e) ≡ height e
-  hangs_size at_iri = refl
-  hangs_size (at_top none) = refl
   hangs_size (onward p e) = ap suc (hangs_size e)
+  hangs_size _ = refl
 
   hangs_there : {node : Node ℕ} (e : Ends (set_of list) node) (t : Triple ℕ) → Among (hangs_by e) t → Among list t
-  hangs_there at_iri t m = absurd m
-  hangs_there (at_top none) t m = absurd m
   hangs_there (onward p e) t (inl f) = subst (Among list) f p.held
   hangs_there (onward p e) t (inr m) = hangs_there e t m
+  hangs_there _ t m = absurd m
 
   record Above (most : ℕ) (t : Triple ℕ) : Type 0 where
     node : ℕ

@@ -1,5 +1,5 @@
 -- Nodes by number.
-use Rattle.rx_model.proofs.Common.{position_or_len, nat_tests, take_all, same_truth, contains, with_one, Node, Iri, Blank, Term, Resource, Literal, Triple, same_node, node_seen, triple_seen, triples_seen, exact_numbers, exact_nodes, false_unless, or_left, or_right, Among_cases}
+use Rattle.rx_model.proofs.Common.{position_or_len, nat_tests, take_all, same_truth, by_test, contains, with_one, Node, Iri, Blank, Term, Resource, Triple, same_node, node_seen, triple_seen, triples_seen, exact_numbers, exact_nodes, false_unless, or_left, or_right, Among_cases}
 use Rattle.std.proofs.Common.{◌≡◌, ℕ, suc, zero, ◌+◌, ◌≤◌, Bool, true, false, nat_eq, nat_lt, List, [], ◌∷◌, ◌++◌, map, length, take, position, slice_get, Some, option_map, refl, sym, ap, subst, ◌∙◌, inl, inr, true≢false, arith, rules, ◌↔◌, if◌then◌else◌}
 use Rattle.rx_unique.specs.Unique.{insert_key}
 use Rattle.rx_terms.specs.declared.triples.Node.{Node as CodeNode}
@@ -32,19 +32,14 @@ pub node_added_seen : (list : List CodeNode) (n : CodeNode) → map node_seen (i
 node_added_seen list n = insert_seen node_seen node_eq (same_node nat_eq) nodes_agree_back list n
 
 position_more : (p : CodeNode → Bool) (x : CodeNode) (list : List CodeNode) → position p (x ∷ list) ≡ (if p x then Some 0 else option_map suc (position p list))
-position_more p x list = go (p x) refl (nat_lt (position_or_len p list) (length list)) refl
-  where
-    go : (b : Bool) → p x ≡ b → (t : Bool) → nat_lt (position_or_len p list) (length list) ≡ t → position p (x ∷ list) ≡ (if p x then Some 0 else option_map suc (position p list))
-    go true e t f =
-        let some : nat_lt 0 (suc (length list)) ≡ true = grind (arith, nat_tests) in
-        rw (e, some) refl
-    go false e true f =
-        let more : nat_lt (1 + position_or_len p list) (suc (length list)) ≡ true = grind (arith, nat_tests, f) in
-        let next : 1 + position_or_len p list ≡ suc (position_or_len p list) = omega arith in
-        rw (e, f, more) (ap Some next)
-    go false e false f =
-        let more : nat_lt (1 + position_or_len p list) (suc (length list)) ≡ false = grind (arith, nat_tests, f) in
-        rw (e, f, more) refl
+position_more p x list = by_test (p x)
+    (λ e. let some : nat_lt 0 (suc (length list)) ≡ true = grind (arith, nat_tests) in rw (e, some) refl)
+    (λ e. by_test (nat_lt (position_or_len p list) (length list))
+    (λ f.
+    let more : nat_lt (1 + position_or_len p list) (suc (length list)) ≡ true = grind (arith, nat_tests, f) in
+    let next : 1 + position_or_len p list ≡ suc (position_or_len p list) = omega arith in
+    rw (e, f, more) (ap Some next))
+    (λ f. let more : nat_lt (1 + position_or_len p list) (suc (length list)) ≡ false = grind (arith, nat_tests, f) in rw (e, f, more) refl))
 
 pub number_seen : (list : List CodeNode) (n : CodeNode) → position (node_eq n) list ≡ number_in (map node_seen list) (node_seen n)
 number_seen [] n = refl
@@ -62,20 +57,15 @@ number_test nodes n k e s =
 -- ---- an object's number
 
 pub object_is : (nodes : List (Node ℕ)) (b k : ℕ) → number_in nodes (Blank b) ≡ Some k → (o : Term ℕ) → is_number k (object_number nodes o) ≡ true → o ≡ Resource (Blank b)
-object_is nodes b k e (Resource (Iri iri)) h = absurd (true≢false (sym h))
 object_is nodes b k e (Resource (Blank c)) h = ap Resource (number_same nodes (Blank c) (Blank b) k (is_number_true k (number_in nodes (Blank c)) h) e)
-object_is nodes b k e (Literal text kind) h = absurd (true≢false (sym h))
+object_is nodes b k e _ h = absurd (true≢false (sym h))
 
 pub is_object : (nodes : List (Node ℕ)) (b k : ℕ) → number_in nodes (Blank b) ≡ Some k → (o : Term ℕ) → o ≡ Resource (Blank b) → is_number k (object_number nodes o) ≡ true
 is_object nodes b k e o q = subst (λ (z : Term ℕ). is_number k (object_number nodes z) ≡ true) (sym q) (true_number k (number_in nodes (Blank b)) e)
 
 pub no_object : (nodes : List (Node ℕ)) (iri : List ℕ) (k : ℕ) → number_in nodes (Iri iri) ≡ Some k → (o : Term ℕ) → is_number k (object_number nodes o) ≡ false
-no_object nodes iri k e (Resource (Iri other)) = refl
-no_object nodes iri k e (Resource (Blank c)) = false_unless (is_number k (number_in nodes (Blank c))) (λ h. unlike_nodes c (number_same nodes (Blank c) (Iri iri) k (is_number_true k (number_in nodes (Blank c)) h) e))
-  where
-    unlike_nodes : (c : ℕ) → Blank c ≡ Iri iri → ⊥
-    unlike_nodes c q = cc
-no_object nodes iri k e (Literal text kind) = refl
+no_object nodes iri k e (Resource (Blank c)) = false_unless (is_number k (number_in nodes (Blank c))) (λ h. absurd (cc (number_same nodes (Blank c) (Iri iri) k (is_number_true k (number_in nodes (Blank c)) h) e)))
+no_object nodes iri k e _ = refl
 
 -- ---- the nodes of a list
 
@@ -86,9 +76,8 @@ has_node : (nodes : List (Node ℕ)) (s t : Node ℕ) → s ≡ t → contains (
 has_node nodes s t e = contains_added nodes s t ∙ or_right (contains (same_node nat_eq) nodes t) (same_node nat_eq s t) ((exact_nodes nat_eq exact_numbers s t).1 e)
 
 keeps_object : (nodes : List (Node ℕ)) (o : Term ℕ) (t : Node ℕ) → contains (same_node nat_eq) nodes t ≡ true → contains (same_node nat_eq) (object_added nodes o) t ≡ true
-keeps_object nodes (Resource (Iri iri)) t h = h
 keeps_object nodes (Resource (Blank b)) t h = keeps_node nodes (Blank b) t h
-keeps_object nodes (Literal text kind) t h = h
+keeps_object nodes _ t h = h
 
 has_object : (nodes : List (Node ℕ)) (o : Term ℕ) (b : ℕ) → o ≡ Resource (Blank b) → contains (same_node nat_eq) (object_added nodes o) (Blank b) ≡ true
 has_object nodes o b e = subst (λ (z : Term ℕ). contains (same_node nat_eq) (object_added nodes z) (Blank b) ≡ true) (sym e) (has_node nodes (Blank b) (Blank b) refl)

@@ -1,5 +1,5 @@
 -- What is found by the places of a node's triples.
-use Rattle.rx_model.proofs.Common.{◌≡◌, ◌∙◌, ℕ, suc, Bool, true, false, cond, nat_eq, List, [], ◌∷◌, ◌++◌, map, filter, length, length-append, slice_get, Option, Some, None, option_to_list, refl, sym, ap, ap₂, arith, append_assoc, if◌then◌else◌, option_or, Chars, Node, Term, Triple, same_node}
+use Rattle.rx_model.proofs.Common.{◌≡◌, ◌∙◌, ℕ, suc, Bool, true, false, cond, nat_eq, List, [], ◌∷◌, ◌++◌, map, filter, length, length-append, slice_get, Option, Some, None, option_to_list, refl, sym, ap, ap₂, arith, append_assoc, if◌then◌else◌, option_or, Chars, by_test, Node, Term, Triple, same_node}
 use Rattle.rx_shapes.specs.Rows.{positions}
 use Rattle.rx_shapes.specs.Places.{places_of, picked}
 use Rattle.rx_shapes.specs.Subjects.{about, has_subject, has_predicate, first_of, object_at}
@@ -18,12 +18,8 @@ module _ (test : Triple ℕ → Bool) where
   picked_from front [] = refl
   picked_from front (t ∷ list) =
       let size : length (front ++ t ∷ []) ≡ suc (length front) = omega (arith, length-append front (t ∷ [])) in
-      go (test t) (ap₂ (λ z n. picked z (positions test n list)) (sym (append_assoc front (t ∷ []) list)) (sym size) ∙ picked_from (front ++ t ∷ []) list)
-    where
-      go : (b : Bool) → picked (front ++ t ∷ list) (positions test (suc (length front)) list) ≡ filter test list
-          → picked (front ++ t ∷ list) (if b then length front ∷ positions test (suc (length front)) list else positions test (suc (length front)) list) ≡ cond b (t ∷ filter test list) (filter test list)
-      go true ih = ap₂ (λ o z. option_to_list o ++ z) (after_front front t list) ih
-      go false ih = ih
+      let rest = ap₂ (λ z n. picked z (positions test n list)) (sym (append_assoc front (t ∷ []) list)) (sym size) ∙ picked_from (front ++ t ∷ []) list in
+      by_test (test t) (λ e. rw e (ap₂ (λ o z. option_to_list o ++ z) (after_front front t list) rest)) (λ e. rw e rest)
 
 module _ (list : List (Triple ℕ)) (node : Node ℕ) (places : List ℕ) (are : places ≡ places_of nat_eq list node) where
   pub picked_about : picked list places ≡ about list node

@@ -1,5 +1,6 @@
 -- Numbers that are reached.
-use Rattle.rx_model.proofs.Common.{◌≡◌, ◌↔◌, ◌⊎◌, ℕ, suc, zero, ◌+◌, ◌<◌, Bool, true, false, nat_eq, List, [], ◌∷◌, ◌++◌, length, get_or, slice_set, replicate, refl, sym, ap, subst, ◌∙◌, inl, inr, true≢false, arith, append-nil, append_assoc, length-append, if◌then◌else◌, Decides-eqb, Among, Among_left, Among_right, Among_cases}
+use Rattle.rx_model.proofs.Common.{◌≡◌, ◌↔◌, ◌⊎◌, ℕ, suc, zero, ◌+◌, ◌<◌, Bool, true, false, nat_eq, List, [], ◌∷◌, ◌++◌, length, get_or, slice_set, replicate, refl, sym, ap, subst, ◌∙◌, inl, inr, true≢false, arith, append-nil, append_assoc, length-append, Decides-eqb, by_test, Among, Among_left, Among_right, Among_cases}
+use Rattle.std.proofs.lemmas.List.{length-set, get_or-set_other, get_or-set_same, get_or_default, length-replicate}
 use Rattle.rx_shapes.specs.Reach.{Reach, unreached, marked, reach_added, reach_all}
 
 -- how many have no mark
@@ -16,60 +17,28 @@ unmarked_set (false ∷ marks) zero h = refl
 unmarked_set (true ∷ marks) (suc a) h = unmarked_set marks a h
 unmarked_set (false ∷ marks) (suc a) h = ap suc (unmarked_set marks a h)
 
-length_set : (marks : List Bool) (a : ℕ) → length (slice_set marks a true) ≡ length marks
-length_set [] a = refl
-length_set (b ∷ marks) zero = refl
-length_set (b ∷ marks) (suc a) = ap suc (length_set marks a)
-
-set_this : (marks : List Bool) (a : ℕ) → get_or marks a true ≡ false → get_or (slice_set marks a true) a false ≡ true
-set_this [] a h = absurd (true≢false h)
-set_this (b ∷ marks) zero h = refl
-set_this (b ∷ marks) (suc a) h = set_this marks a h
-
-set_other : (marks : List Bool) (a x : ℕ) → ¬ (a ≡ x) → get_or (slice_set marks a true) x false ≡ get_or marks x false
-set_other [] a x n = refl
-set_other (b ∷ marks) zero zero n = absurd (n refl)
-set_other (b ∷ marks) zero (suc x) n = refl
-set_other (b ∷ marks) (suc a) zero n = refl
-set_other (b ∷ marks) (suc a) (suc x) n = set_other marks a x (λ e. n (ap suc e))
-
-or_equal : (a x : ℕ) → (a ≡ x) ⊎ (¬ (a ≡ x))
-or_equal a x = go (nat_eq a x) refl
-  where
-    go : (b : Bool) → nat_eq a x ≡ b → (a ≡ x) ⊎ (¬ (a ≡ x))
-    go true e = inl ((Decides-eqb a x).0 e)
-    go false e = inr (λ q. true≢false (sym ((Decides-eqb a x).1 q) ∙ e))
-
-set_true : (marks : List Bool) (a x : ℕ) → get_or marks a true ≡ false → (get_or (slice_set marks a true) x false ≡ true) ↔ ((a ≡ x) ⊎ (get_or marks x false ≡ true))
-set_true marks a x h = go (or_equal a x)
-  where
-    back : ¬ (a ≡ x) → (a ≡ x) ⊎ (get_or marks x false ≡ true) → get_or (slice_set marks a true) x false ≡ true
-    back n (inl e) = absurd (n e)
-    back n (inr q) = set_other marks a x n ∙ q
-
-    go : (a ≡ x) ⊎ (¬ (a ≡ x)) → (get_or (slice_set marks a true) x false ≡ true) ↔ ((a ≡ x) ⊎ (get_or marks x false ≡ true))
-    go (inl e) = (λ q. inl e, λ s. subst (λ (z : ℕ). get_or (slice_set marks a true) z false ≡ true) e (set_this marks a h))
-    go (inr n) = (λ q. inr (sym (set_other marks a x n) ∙ q), back n)
+within : (marks : List Bool) (a : ℕ) (d : Bool) → ¬ (get_or marks a d ≡ d) → a < length marks
+within [] a d n = absurd (n refl)
+within (b ∷ marks) zero d n = omega arith
+within (b ∷ marks) (suc a) d n = let less = within marks a d n in omega (arith, less)
 
 pub marked_within : (marks : List Bool) (a : ℕ) → get_or marks a false ≡ true → a < length marks
-marked_within [] a h = absurd (true≢false (sym h))
-marked_within (b ∷ marks) zero h = omega arith
-marked_within (b ∷ marks) (suc a) h = let less = marked_within marks a h in omega (arith, less)
+marked_within marks a h = within marks a false (λ e. true≢false (sym h ∙ e))
 
-either_default : (marks : List Bool) (a : ℕ) → a < length marks → get_or marks a true ≡ get_or marks a false
-either_default [] a h = absurd (omega (arith, h))
-either_default (b ∷ marks) zero h = refl
-either_default (b ∷ marks) (suc a) h = let less : a < length marks = omega (arith, h) in either_default marks a less
+set_true : (marks : List Bool) (a x : ℕ) → get_or marks a true ≡ false → (get_or (slice_set marks a true) x false ≡ true) ↔ ((a ≡ x) ⊎ (get_or marks x false ≡ true))
+set_true marks a x h = by_test (nat_eq a x) (λ t.
+    let same : a ≡ x = (Decides-eqb a x).0 t in
+    (λ q. inl same, λ s. subst (λ (z : ℕ). get_or (slice_set marks a true) z false ≡ true) same (get_or-set_same marks a true false (within marks a true (λ e. true≢false (sym e ∙ h))))))
+    (λ t.
+    let apart : ¬ (x ≡ a) = λ q. true≢false (sym ((Decides-eqb a x).1 (sym q)) ∙ t) in
+    let kept = get_or-set_other marks a x true false apart in
+    (λ q. inr (sym kept ∙ q), λ s. elim s [ inl q ↦ absurd (apart (sym q)) | inr q ↦ kept ∙ q ]))
 
 -- the marked ones are listed, each once
 pub record IsReach (n : ℕ) (r : Reach) : Type 0 where
   pub size : length r.marks ≡ n
   pub count : unmarked r.marks + length r.list ≡ n
   pub listed : (a : ℕ) → (get_or r.marks a false ≡ true) ↔ Among r.list a
-
-size_start : (n : ℕ) → length (replicate n false) ≡ n
-size_start zero = refl
-size_start (suc n) = ap suc (size_start n)
 
 all_start : (n : ℕ) → unmarked (replicate n false) ≡ n
 unfolding unmarked
@@ -83,14 +52,14 @@ none_start (suc n) (suc a) = none_start n a
 
 pub is_reach_start : (n : ℕ) → IsReach n (unreached n)
 is_reach_start n = record {
-  size = size_start n;
+  size = length-replicate n false;
   count = let each = all_start n in omega (arith, each);
   listed = λ a. (λ h. absurd (true≢false (sym h ∙ none_start n a)), λ m. absurd m);
 }
 
 mark_one : (n : ℕ) (r : Reach) (a : ℕ) → get_or r.marks a true ≡ false → IsReach n r → IsReach n (marked r a)
 mark_one n r a e h = record {
-  size = length_set r.marks a ∙ h.size;
+  size = length-set r.marks a true ∙ h.size;
   count =
       let less = unmarked_set r.marks a e in
       let longer = length-append r.list (a ∷ []) in
@@ -111,17 +80,15 @@ pub record Grown (n : ℕ) (r : Reach) (row : List ℕ) (new : Reach) : Type 0 w
   pub all : (x : ℕ) → Among row x → x < n → Among new.list x
 
 grown_one : (n : ℕ) (r : Reach) (a : ℕ) → IsReach n r → Grown n r (a ∷ []) (reach_added r a)
-grown_one n r a h = go (get_or r.marks a true) refl
+grown_one n r a h = by_test (get_or r.marks a true)
+    (λ e. rw e (record { reach = h; more = []; longer = sym (append-nil r.list); sound = λ x m. absurd m; all = there e }))
+    (λ e. rw e (record { reach = mark_one n r a e h; more = a ∷ []; longer = refl; sound = λ x m. m; all = λ x m less. Among_right r.list (a ∷ []) x m }))
   where
     there : get_or r.marks a true ≡ true → (x : ℕ) → (a ≡ x) ⊎ ⊥ → x < n → Among r.list x
     there e x (inl q) less =
-        let within : a < length r.marks = let size = h.size in omega (arith, size, q, less) in
-        subst (Among r.list) q ((h.listed a).0 (sym (either_default r.marks a within) ∙ e))
+        let inside : a < length r.marks = let size = h.size in omega (arith, size, q, less) in
+        subst (Among r.list) q ((h.listed a).0 (sym (get_or_default r.marks a true false inside) ∙ e))
     there e x (inr z) less = absurd z
-
-    go : (b : Bool) → get_or r.marks a true ≡ b → Grown n r (a ∷ []) (if b then r else marked r a)
-    go true e = record { reach = h; more = []; longer = sym (append-nil r.list); sound = λ x m. absurd m; all = there e }
-    go false e = record { reach = mark_one n r a e h; more = a ∷ []; longer = refl; sound = λ x m. m; all = λ x m less. Among_right r.list (a ∷ []) x m }
 
 pub grown_all : (n : ℕ) (row : List ℕ) (r : Reach) → IsReach n r → Grown n r row (reach_all r row)
 grown_all n [] r h = record { reach = h; more = []; longer = sym (append-nil r.list); sound = λ x m. m; all = λ x m less. absurd m }

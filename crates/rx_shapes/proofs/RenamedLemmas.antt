@@ -1,5 +1,5 @@
 -- Shapes where the blank nodes have other names.
-use Rattle.rx_model.proofs.Common.{◌≡◌, refl, sym, ap, subst, ◌∙◌, inl, inr, Chars, Among, Node, Iri, Blank, Term, Resource, Literal, Triple, Graph, set_of, spo, rename_node, rename_term, rename, blank_of_node, blank_of_term, Has, Renamed, Among_left, Among_right, rdf_first, rdf_rest, rdf_nil}
+use Rattle.rx_model.proofs.Common.{◌≡◌, refl, sym, ap, ap₂, subst, ◌∙◌, inl, inr, Chars, Among, Node, Iri, Blank, Term, Resource, Literal, Triple, Graph, set_of, spo, rename_node, rename_term, rename, blank_of_node, blank_of_term, Has, Renamed, Among_left, Among_right, rdf_first, rdf_rest, rdf_nil}
 use Rattle.rx_shapes.specs.declared.shapes.Shape.{Shape}
 use Rattle.rx_shapes.specs.declared.shapes.Shape.TheVariants as shape
 use Rattle.rx_shapes.specs.Shapes.{Parent, Ends, at_iri, at_top, onward, Inner, Pair, Cell, last_cell, next_cell, IsShape}
@@ -9,9 +9,8 @@ module _ {A B : Type 0} (g : Graph A) (h : Graph B) (r : Renamed g h) where
   -- ---- terms under their other names
 
   back_object : (o : Term A) (c : B) → rename_term r.to o ≡ Resource (Blank c) → (b : A) × (o ≡ Resource (Blank b)) × (r.to b ≡ c)
-  back_object (Resource (Iri iri)) c e = absurd (cc)
   back_object (Resource (Blank b)) c e = (b, refl, cc)
-  back_object (Literal text kind) c e = absurd (cc)
+  back_object _ c e = absurd (cc)
 
   back_subject : (n : Node A) (c : B) → rename_node r.to n ≡ Blank c → (b : A) × (n ≡ Blank b) × (r.to b ≡ c)
   back_subject (Iri iri) c e = absurd (cc)
@@ -19,8 +18,7 @@ module _ {A B : Type 0} (g : Graph A) (h : Graph B) (r : Renamed g h) where
 
   back_iri : (o : Term A) (iri : Chars) → rename_term r.to o ≡ Resource (Iri iri) → o ≡ Resource (Iri iri)
   back_iri (Resource (Iri other)) iri e = let q : other ≡ iri = cc in ap (λ (z : Chars). Resource (Iri z)) q
-  back_iri (Resource (Blank b)) iri e = absurd (cc)
-  back_iri (Literal text kind) iri e = absurd (cc)
+  back_iri _ iri e = absurd (cc)
 
   has_object : (t : Triple A) (b : A) → g t → t.object ≡ Resource (Blank b) → Has g b
   has_object t b m q = (t, m, Among_right (blank_of_node t.subject) (blank_of_term t.object) b (subst (λ (z : Term A). Among (blank_of_term z) b) (sym q) (inl refl)))
@@ -29,28 +27,23 @@ module _ {A B : Type 0} (g : Graph A) (h : Graph B) (r : Renamed g h) where
   has_subject t b m q = (t, m, Among_left (blank_of_node t.subject) (blank_of_term t.object) b (subst (λ (z : Node A). Among (blank_of_node z) b) (sym q) (inl refl)))
 
   -- the graph has the node, if it is a blank one
-  NodeHas : Node A → Type 0
+  abbrev NodeHas : Node A → Type 0
   NodeHas n = (b : A) → n ≡ Blank b → Has g b
 
-  TermHas : Term A → Type 0
+  abbrev TermHas : Term A → Type 0
   TermHas o = (b : A) → o ≡ Resource (Blank b) → Has g b
 
   node_one : (n m : Node A) → NodeHas n → NodeHas m → rename_node r.to n ≡ rename_node r.to m → n ≡ m
-  unfolding NodeHas
   node_one (Iri a) (Iri b) i j e = ap Iri (cc)
-  node_one (Iri a) (Blank b) i j e = cc
-  node_one (Blank a) (Iri b) i j e = cc
   node_one (Blank a) (Blank b) i j e = ap Blank (r.one_to_one a b (i a refl) (j b refl) (cc))
+  node_one _ _ i j e = absurd (cc)
 
   term_one : (o p : Term A) → TermHas o → TermHas p → rename_term r.to o ≡ rename_term r.to p → o ≡ p
-  unfolding TermHas NodeHas
   term_one (Resource n) (Resource m) i j e = ap Resource (node_one n m (λ b q. i b (ap Resource q)) (λ b q. j b (ap Resource q)) (cc))
-  term_one (Resource n) (Literal text kind) i j e = cc
-  term_one (Literal text kind) (Resource m) i j e = cc
-  term_one (Literal text kind) (Literal other sort) i j e = let p : text ≡ other = cc in let q : kind ≡ sort = cc in λ k. Literal (p k) (q k)
+  term_one (Literal text kind) (Literal other sort) i j e = ap₂ Literal (cc) (cc)
+  term_one _ _ i j e = absurd (cc)
 
   triple_one : (t u : Triple A) → g t → g u → rename r.to t ≡ rename r.to u → t ≡ u
-  unfolding TermHas NodeHas
   triple_one t u m n e =
       let s : t.subject ≡ u.subject = node_one t.subject u.subject (λ b q. has_subject t b m q) (λ b q. has_subject u b n q) (ap (λ (z : Triple B). z.subject) e) in
       let p : t.predicate ≡ u.predicate = ap (λ (z : Triple B). z.predicate) e in
@@ -95,28 +88,23 @@ module _ {A B : Type 0} (g : Graph A) (h : Graph B) (r : Renamed g h) where
       )
 
   parent_has : (b : A) (n : Node A) → Parent g b n → NodeHas n
-  unfolding NodeHas
   parent_has b n p = λ c q. has_subject (spo n p.predicate (Resource (Blank b))) c p.held q
 
   ends_forth : {n : Node A} → Ends g n → NodeHas n → Ends h (rename_node r.to n)
-  unfolding NodeHas
   ends_forth (at_iri {iri}) i = at_iri
   ends_forth (at_top {b} none) i = at_top (λ m p. let q = parent_back b m (i b refl) p in none q.0 q.1)
   ends_forth (onward {b} {parent = n} p rest) i = onward (parent_forth b n p) (ends_forth rest (parent_has b n p))
 
   ends_back : {m : Node B} → Ends h m → (n : Node A) → NodeHas n → rename_node r.to n ≡ m → Ends g n
-  unfolding NodeHas
-  ends_back (at_iri {iri}) (Iri other) i e = at_iri
   ends_back (at_iri {iri}) (Blank b) i e = absurd (cc)
-  ends_back (at_top {b = c} none) (Iri iri) i e = at_iri
   ends_back (at_top {b = c} none) (Blank b) i e =
       let q : r.to b ≡ c = cc in
       at_top (λ m p. none (rename_node r.to m) (subst (λ (z : B). Parent h z (rename_node r.to m)) q (parent_forth b m p)))
-  ends_back (onward {b = c} {parent = m} p rest) (Iri iri) i e = at_iri
   ends_back (onward {b = c} {parent = m} p rest) (Blank b) i e =
       let q : r.to b ≡ c = cc in
       let s = parent_back b m (i b refl) (subst (λ (z : B). Parent h z m) (sym q) p) in
       onward s.1 (ends_back rest s.0 (parent_has b s.0 s.1) s.2)
+  ends_back _ (Iri iri) i e = at_iri
 
   inner_forth : (b : A) → Inner g b → Inner h (r.to b)
   inner_forth b i = record { parent = rename_node r.to i.parent; has = parent_forth b i.parent i.has; ends = ends_forth i.ends (parent_has b i.parent i.has) }

@@ -1,5 +1,5 @@
 -- Tables, rows of numbers, and where things stand in a list.
-use Rattle.rx_model.proofs.Common.{◌≡◌, ℕ, suc, zero, ◌+◌, ◌<◌, ◌≤◌, Bool, true, false, nat_eq, List, [], ◌∷◌, ◌++◌, length, take, get_or, slice_get, Option, Some, None, refl, sym, ap, ap₂, subst, ◌∙◌, inl, inr, true≢false, arith, append-nil, if◌then◌else◌, Decides-eqb, take_all, Among, false_unless, under_cond}
+use Rattle.rx_model.proofs.Common.{◌≡◌, ℕ, suc, zero, ◌+◌, ◌<◌, ◌≤◌, Bool, true, false, nat_eq, List, [], ◌∷◌, ◌++◌, filter, length, take, get_or, slice_get, Option, Some, None, refl, sym, ap, ap₂, subst, ◌∙◌, inl, inr, true≢false, arith, append-nil, if◌then◌else◌, Decides-eqb, take_all, by_test, Among, Among_of_filter, false_unless, under_cond, get_or_from_slice_get}
 use Rattle.rx_graph.specs.Rows.{pushed, empty_rows}
 use Rattle.rx_graph.proofs.SetLemmas.{one_more}
 use Rattle.rx_graph.proofs.PatternLemmas.{empty_more}
@@ -40,25 +40,12 @@ module _ {A : Type 0} where
       let less : k < n = omega (arith, h) in
       table_get f (suc j) n k less ∙ ap (λ m. Some (f m)) next
 
-  pub table_get_or : (f : ℕ → A) (j n k : ℕ) (d : A) → k < n → get_or (table f j n) k d ≡ f (j + k)
-  table_get_or f j zero k d h = absurd (omega (arith, h))
-  table_get_or f j (suc n) zero d h = let same : j ≡ j + 0 = omega arith in ap f same
-  table_get_or f j (suc n) (suc k) d h =
-      let next : suc j + k ≡ j + suc k = omega arith in
-      let less : k < n = omega (arith, h) in
-      table_get_or f (suc j) n k d less ∙ ap f next
-
   -- the same of tables from 0
   pub got : (f : ℕ → A) (n k : ℕ) → k < n → slice_get (table f 0 n) k ≡ Some (f k)
   got f n k h = let same : 0 + k ≡ k = omega arith in table_get f 0 n k h ∙ ap (λ m. Some (f m)) same
 
   pub got_or : (f : ℕ → A) (n k : ℕ) (d : A) → k < n → get_or (table f 0 n) k d ≡ f k
-  got_or f n k d h = let same : 0 + k ≡ k = omega arith in table_get_or f 0 n k d h ∙ ap f same
-
-  pub within_or : (list : List A) (k : ℕ) (a d : A) → slice_get list k ≡ Some a → get_or list k d ≡ a
-  within_or [] k a d h = absurd (cc)
-  within_or (x ∷ list) zero a d h = cc
-  within_or (x ∷ list) (suc k) a d h = within_or list k a d h
+  got_or f n k d h = get_or_from_slice_get (table f 0 n) k (f k) d (got f n k h)
 
   pub table_same : (f g : ℕ → A) (j n : ℕ) → ((k : ℕ) → j ≤ k → f k ≡ g k) → table f j n ≡ table g j n
   table_same f g j zero h = refl
@@ -99,15 +86,10 @@ module _ {A : Type 0} where
 
   positions_more : (test : A → Bool) (j : ℕ) (list : List A) (a : A) → positions test j (list ++ a ∷ []) ≡ positions test j list ++ (if test a then (j + length list) ∷ [] else [])
   positions_more test j [] a = let same : j ≡ j + 0 = omega arith in ap (λ n. if test a then n ∷ [] else []) same
-  positions_more test j (x ∷ list) a = go (test x) (positions_more test (suc j) list a)
-    where
-      further : suc j + length list ≡ j + suc (length list)
-      further = omega arith
-
-      go : (b : Bool) → positions test (suc j) (list ++ a ∷ []) ≡ positions test (suc j) list ++ (if test a then (suc j + length list) ∷ [] else [])
-          → (if b then j ∷ positions test (suc j) (list ++ a ∷ []) else positions test (suc j) (list ++ a ∷ [])) ≡ (if b then j ∷ positions test (suc j) list else positions test (suc j) list) ++ (if test a then (j + suc (length list)) ∷ [] else [])
-      go true ih = ap (λ z. j ∷ z) (ih ∙ ap (λ n. positions test (suc j) list ++ (if test a then n ∷ [] else [])) further)
-      go false ih = ih ∙ ap (λ n. positions test (suc j) list ++ (if test a then n ∷ [] else [])) further
+  positions_more test j (x ∷ list) a =
+      let next : suc j + length list ≡ j + suc (length list) = omega arith in
+      let rest = positions_more test (suc j) list a ∙ ap (λ n. positions test (suc j) list ++ (if test a then n ∷ [] else [])) next in
+      by_test (test x) (λ e. rw e (ap (λ z. j ∷ z) rest)) (λ e. rw e rest)
 
   filed_more : (of : A → Option ℕ) (list : List A) (a : A) (k : ℕ) → filed of (list ++ a ∷ []) k ≡ filed of list k ++ (if is_number k (of a) then length list ∷ [] else [])
   filed_more of list a k =
@@ -173,20 +155,28 @@ module _ {A : Type 0} where
   positions_none test j [] h = refl
   positions_none test j (x ∷ list) h = ap (λ b. if b then j ∷ positions test (suc j) list else positions test (suc j) list) (h x (inl refl)) ∙ positions_none test (suc j) list (λ a m. h a (inr m))
 
-  -- each position is that of one that passes
-  position_has : (test : A → Bool) (j : ℕ) (list : List A) (i : ℕ) → Among (positions test j list) i → (k : ℕ) × (a : A) × (i ≡ j + k) × (slice_get list k ≡ Some a) × (test a ≡ true)
-  position_has test j [] i h = absurd h
-  position_has test j (x ∷ list) i h = go (test x) refl h (λ m. further (position_has test (suc j) list i m))
-    where
-      further : (k : ℕ) × (a : A) × (i ≡ suc j + k) × (slice_get list k ≡ Some a) × (test a ≡ true) → (k : ℕ) × (a : A) × (i ≡ j + k) × (slice_get (x ∷ list) k ≡ Some a) × (test a ≡ true)
-      further (k, a, e, at, p) = (suc k, a, omega (arith, e), at, p)
+  -- at the places of a row stand these, one after another
+  abbrev pub Stand : (ℕ → Option A) → List ℕ → List A → Type 0
+  Stand get [] [] = Unit {0}
+  Stand get (i ∷ row) (x ∷ xs) = (get i ≡ Some x) × Stand get row xs
+  Stand get _ _ = ⊥
 
-      go : (b : Bool) → test x ≡ b → Among (if b then j ∷ positions test (suc j) list else positions test (suc j) list) i
-          → (Among (positions test (suc j) list) i → (k : ℕ) × (a : A) × (i ≡ j + k) × (slice_get (x ∷ list) k ≡ Some a) × (test a ≡ true))
-          → (k : ℕ) × (a : A) × (i ≡ j + k) × (slice_get (x ∷ list) k ≡ Some a) × (test a ≡ true)
-      go true e (inl q) ih = (0, x, omega (arith, q), refl, e)
-      go true e (inr m) ih = ih m
-      go false e m ih = ih m
+  -- at the positions stand those that pass
+  passing_from : (get : ℕ → Option A) (test : A → Bool) (j : ℕ) (list : List A) → ((k : ℕ) → get (j + k) ≡ slice_get list k) → Stand get (positions test j list) (filter test list)
+  passing_from get test j [] h = tt
+  passing_from get test j (x ∷ list) h =
+      let rest = passing_from get test (suc j) list (λ k. let next : suc j + k ≡ j + suc k = omega arith in ap get next ∙ h (suc k)) in
+      let same : j ≡ j + 0 = omega arith in
+      by_test (test x) (λ e. rw e (ap get same ∙ h 0, rest)) (λ e. rw e rest)
+
+  pub passing : (test : A → Bool) (list : List A) → Stand (slice_get list) (positions test 0 list) (filter test list)
+  passing test list = passing_from (slice_get list) test 0 list (λ k. let same : 0 + k ≡ k = omega arith in ap (slice_get list) same)
+
+  standing : (get : ℕ → Option A) (row : List ℕ) (xs : List A) → Stand get row xs → (i : ℕ) → Among row i → (a : A) × (get i ≡ Some a) × Among xs a
+  standing get (k ∷ row) (x ∷ xs) s i (inl e) = (x, ap get (sym e) ∙ s.0, inl refl)
+  standing get (k ∷ row) (x ∷ xs) s i (inr m) = let r = standing get row xs s.1 i m in (r.0, r.1, inr r.2)
+  standing get [] xs s i m = absurd m
+  standing get (k ∷ row) [] s i m = absurd s
 
   -- and each that passes has a position
   position_for : (test : A → Bool) (j : ℕ) (list : List A) (k : ℕ) (a : A) → slice_get list k ≡ Some a → test a ≡ true → Among (positions test j list) (j + k)
@@ -200,10 +190,7 @@ module _ {A : Type 0} where
       under_cond (test x) j (positions test (suc j) list) (j + suc k) (subst (Among (positions test (suc j) list)) next (position_for test (suc j) list k a at p))
 
   pub at_position : (test : A → Bool) (list : List A) (i : ℕ) → Among (positions test 0 list) i → (a : A) × (slice_get list i ≡ Some a) × (test a ≡ true)
-  at_position test list i m =
-      let r = position_has test 0 list i m in
-      let e : r.0 ≡ i = omega (arith, r.2) in
-      (r.1, ap (slice_get list) (sym e) ∙ r.3, r.4)
+  at_position test list i m = let r = standing (slice_get list) (positions test 0 list) (filter test list) (passing test list) i m in (r.0, r.1, (Among_of_filter test list r.0 r.2).1)
 
   pub position_of : (test : A → Bool) (list : List A) (k : ℕ) (a : A) → slice_get list k ≡ Some a → test a ≡ true → Among (positions test 0 list) k
   position_of test list k a at p = let e : 0 + k ≡ k = omega arith in subst (Among (positions test 0 list)) e (position_for test 0 list k a at p)

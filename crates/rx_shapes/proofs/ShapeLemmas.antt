@@ -1,5 +1,5 @@
 -- The shapes of nodes, by their numbers.
-use Rattle.rx_model.proofs.Common.{◌≡◌, ◌⊎◌, ℕ, ◌+◌, Bool, true, false, nat_eq, List, [], ◌∷◌, length, get_or, slice_get, Option, Some, None, refl, sym, ap, ap₂, subst, ◌∙◌, inl, inr, true≢false, arith, bytes_eq, ◌&&◌, ◌==◌, if◌then◌else◌, Decides-eqb, and_from, Among, Node, Iri, Blank, Term, Resource, Literal, Triple, set_of, same_node, same_triple, spo, exact_texts, exact_numbers, exact_nodes, exact_triples, false_unless, and_left, and_right, rdf_first, rdf_rest, rdf_nil}
+use Rattle.rx_model.proofs.Common.{◌≡◌, ◌⊎◌, ℕ, Bool, true, false, nat_eq, List, [], ◌∷◌, length, get_or, slice_get, Option, Some, None, refl, sym, ap, ap₂, subst, ◌∙◌, inl, inr, true≢false, arith, bytes_eq, ◌&&◌, ◌==◌, if◌then◌else◌, Decides-eqb, and_from, by_test, Among, Node, Iri, Blank, Term, Resource, Literal, Triple, set_of, same_node, same_triple, spo, exact_texts, exact_numbers, exact_nodes, exact_triples, false_unless, and_left, and_right, rdf_first, rdf_rest, rdf_nil}
 use Rattle.rx_graph.specs.Resources.{number_in}
 use Rattle.rx_graph.proofs.PatternLemmas.{number_small, number_same, number_there}
 use Rattle.rx_shapes.specs.declared.chains.Link.{Link}
@@ -8,20 +8,22 @@ use Rattle.rx_shapes.specs.declared.shapes.Shape.{Shape}
 use Rattle.rx_shapes.specs.declared.shapes.Shape.TheVariants as shape
 use Rattle.rx_shapes.specs.Shapes.{Parent, Ends, at_iri, at_top, onward, Inner, Pair, Cell, last_cell, next_cell, IsShape}
 use Rattle.rx_shapes.specs.Places.{places_of}
-use Rattle.rx_shapes.specs.Rows.{is_number, positions, filed}
+use Rattle.rx_shapes.specs.Rows.{is_number, filed}
 use Rattle.rx_shapes.specs.Chains.{Leads, ending, linked, Settled}
 use Rattle.rx_shapes.specs.Links.{object_number, link_to, subject_link, parent_link, nil_link, rest_link, are_pair, pair_link, found_link, cell_link, inner_link, is_inner_by, shape_by, HasNodes, IsIndex, subject_rows, object_rows, parent_links, inner_marks, cell_links, shapes_by, AreInner, AreCells, AreNumbered}
 use Rattle.rx_shapes.specs.Table.{shape_at, places_at, AreShapes}
 use Rattle.rx_shapes.proofs.RowLemmas.{is_number_true, true_number, got, got_or, same_some, among_get, positions_same, positions_none}
-use Rattle.rx_shapes.proofs.OnceLemmas.{Once, once, single, Double, double, one_at, two_at}
+use Rattle.rx_shapes.proofs.OnceLemmas.{once, single, double, one_at, two_at}
+use Rattle.rx_shapes.proofs.Heights.{Differ}
+use Rattle.rx_shapes.proofs.Grouped.{triple_path}
+use Rattle.rx_shapes.proofs.CellLemmas.{first_is_not_rest}
 use Rattle.rx_shapes.proofs.IndexLemmas.{number_test, object_is, is_object, no_object}
 
 -- ---- words over variables
 
 one_long : (row : List ℕ) → (length row == 1) ≡ true → (i : ℕ) × (row ≡ i ∷ [])
-one_long [] h = absurd (true≢false (sym h))
 one_long (i ∷ []) h = (i, refl)
-one_long (i ∷ k ∷ more) h = let e : length (i ∷ k ∷ more) ≡ 1 = (Decides-eqb (length (i ∷ k ∷ more)) 1).0 h in absurd (omega (arith, e))
+one_long row h = let e : length row ≡ 1 = (Decides-eqb (length row) 1).0 h in absurd (omega (arith, e))
 
 is_one_long : (row : List ℕ) (i : ℕ) → row ≡ i ∷ [] → (length row == 1) ≡ true
 is_one_long row i e = (Decides-eqb (length row) 1).1 (ap length e)
@@ -52,31 +54,26 @@ rest_leads nodes (Resource (Iri iri)) p e = absurd (nil_never_leads (bytes_eq ir
 rest_leads nodes (Resource (Blank b)) p e = (b, refl, linked_number (number_in nodes (Blank b)) p e)
 rest_leads nodes (Literal text kind) p e = absurd (cc)
 
-first_is_no_rest : ¬ (rdf_first ≡ rdf_rest)
-first_is_no_rest e = true≢false (sym ((exact_texts rdf_first rdf_rest).1 e))
+module _ (list : List (Triple ℕ)) (nodes : List (Node ℕ)) (h : IsIndex list nodes) where
+  abbrev has : HasNodes list nodes
+  has = h.has
 
-spo_is : (t : Triple ℕ) (s : Node ℕ) (p : List ℕ) (o : Term ℕ) → t.subject ≡ s → t.predicate ≡ p → t.object ≡ o → t ≡ spo s p o
-spo_is t s p o e f g = λ i. record { subject = e i; predicate = f i; object = g i }
+  each : Differ list
+  each = once (same_triple nat_eq) (exact_triples nat_eq exact_numbers) list h.each_once
 
-module _ (list : List (Triple ℕ)) (nodes : List (Node ℕ)) (each : Once list) (has : HasNodes list nodes) where
   -- ---- parents
 
-  uses : ℕ → List ℕ
+  abbrev uses : ℕ → List ℕ
   uses k = filed (λ (t : Triple ℕ). object_number nodes t.object) list k
 
-  used : ℕ → Triple ℕ → Bool
+  abbrev used : ℕ → Triple ℕ → Bool
   used k t = is_number k (object_number nodes t.object)
 
-  uses_are : (k : ℕ) → uses k ≡ positions (used k) 0 list
-  unfolding uses used
-  uses_are k = refl
-
   parent_of : (b k i : ℕ) → number_in nodes (Blank b) ≡ Some k → uses k ≡ i ∷ [] → (t : Triple ℕ) × (slice_get list i ≡ Some t) × Parent (set_of list) b t.subject
-  unfolding used
   parent_of b k i e row =
-      let o = one_at (used k) list i (sym (uses_are k) ∙ row) in
+      let o = one_at (used k) list i row in
       let obj : o.it.object ≡ Resource (Blank b) = object_is nodes b k e o.it.object o.passes in
-      let whole : o.it ≡ spo o.it.subject o.it.predicate (Resource (Blank b)) = spo_is o.it o.it.subject o.it.predicate (Resource (Blank b)) refl refl obj in (
+      let whole : o.it ≡ spo o.it.subject o.it.predicate (Resource (Blank b)) = triple_path o.it o.it.subject o.it.predicate (Resource (Blank b)) refl refl obj in (
         o.it,
         o.at,
         record {
@@ -87,21 +84,16 @@ module _ (list : List (Triple ℕ)) (nodes : List (Node ℕ)) (each : Once list)
       )
 
   parent_row : (b k : ℕ) (n : Node ℕ) → number_in nodes (Blank b) ≡ Some k → (p : Parent (set_of list) b n) → (i : ℕ) × (uses k ≡ i ∷ []) × (slice_get list i ≡ Some (spo n p.predicate (Resource (Blank b))))
-  unfolding used
   parent_row b k n e p =
-      let s = single (used k) 0 list (spo n p.predicate (Resource (Blank b))) each p.held (is_object nodes b k e (Resource (Blank b)) refl) (λ u m q. p.alone u m (object_is nodes b k e u.object q)) in
-      let same : 0 + s.place ≡ s.place = omega arith in
-      (s.place, uses_are k ∙ s.row_is ∙ ap (λ z. z ∷ []) same, s.at)
+      single (used k) list (spo n p.predicate (Resource (Blank b))) each p.held (is_object nodes b k e (Resource (Blank b)) refl) (λ u m q. p.alone u m (object_is nodes b k e u.object q))
 
   iri_uses : (iri : List ℕ) (k : ℕ) → number_in nodes (Iri iri) ≡ Some k → uses k ≡ []
-  unfolding used
-  iri_uses iri k e = uses_are k ∙ positions_none (used k) 0 list (λ t m. no_object nodes iri k e t.object)
+  iri_uses iri k e = positions_none (used k) 0 list (λ t m. no_object nodes iri k e t.object)
 
-  links : List Link
+  abbrev links : List Link
   links = parent_links list nodes (object_rows list nodes) (length nodes)
 
   link_at : (n : Node ℕ) (k : ℕ) → number_in nodes n ≡ Some k → slice_get links k ≡ Some (parent_link list nodes (uses k))
-  unfolding links uses
   link_at n k e =
       let less = number_small nodes n k e in
       got (λ (k : ℕ). parent_link list nodes (get_or (object_rows list nodes) k [])) (length nodes) k less
@@ -119,38 +111,24 @@ module _ (list : List (Triple ℕ)) (nodes : List (Node ℕ)) (each : Once list)
   up b k p e leads = go (uses k) refl leads
     where
       go : (row : List ℕ) → uses k ≡ row → parent_link list nodes row ≡ link.To p → (n : Node ℕ) × Parent (set_of list) b n × (number_in nodes n ≡ Some p)
-      go [] row h = absurd (cc)
       go (i ∷ []) row h =
           let r = parent_of b k i e row in
           (r.0.subject, r.2, linked_number (number_in nodes r.0.subject) p (sym (ap (subject_link nodes) r.1) ∙ h))
-      go (i ∷ l ∷ more) row h = absurd (cc)
+      go _ row h = absurd (cc)
 
   ends_by : {k : ℕ} → Leads links k → (n : Node ℕ) → number_in nodes n ≡ Some k → Ends (set_of list) n
-  ends_by (ending {a = k} at) n e = go n e
-    where
-      here_is : (n : Node ℕ) → number_in nodes n ≡ Some k → parent_link list nodes (uses k) ≡ link.Ends
-      here_is n e = same_some (slice_get links k) (parent_link list nodes (uses k)) link.Ends (link_at n k e) at
-
-      go : (n : Node ℕ) → number_in nodes n ≡ Some k → Ends (set_of list) n
-      go (Iri iri) e = at_iri
-      go (Blank b) e = at_top (top b k e (here_is (Blank b) e))
-  ends_by (linked {a = k} {b = p} at rest) n e = go n e (λ m f. ends_by rest m f)
-    where
-      here_is : (n : Node ℕ) → number_in nodes n ≡ Some k → parent_link list nodes (uses k) ≡ link.To p
-      here_is n e = same_some (slice_get links k) (parent_link list nodes (uses k)) (link.To p) (link_at n k e) at
-
-      go : (n : Node ℕ) → number_in nodes n ≡ Some k → ((m : Node ℕ) → number_in nodes m ≡ Some p → Ends (set_of list) m) → Ends (set_of list) n
-      go (Iri iri) e ih = at_iri
-      go (Blank b) e ih = let r = up b k p e (here_is (Blank b) e) in onward r.1 (ih r.0 r.2)
+  ends_by (ending {a = k} at) (Blank b) e = at_top (top b k e (same_some (slice_get links k) (parent_link list nodes (uses k)) link.Ends (link_at (Blank b) k e) at))
+  ends_by (linked {a = k} {b = p} at rest) (Blank b) e =
+      let r = up b k p e (same_some (slice_get links k) (parent_link list nodes (uses k)) (link.To p) (link_at (Blank b) k e) at) in onward r.1 (ends_by rest r.0 r.2)
+  ends_by _ (Iri iri) e = at_iri
 
   -- a blank node without parent ends its chain
   top_link : (b k : ℕ) → number_in nodes (Blank b) ≡ Some k → ((n : Node ℕ) → ¬ (Parent (set_of list) b n)) → parent_link list nodes (uses k) ≡ link.Ends
   top_link b k e none = go (uses k) refl
     where
       go : (row : List ℕ) → uses k ≡ row → parent_link list nodes (uses k) ≡ link.Ends
-      go [] row = ap (parent_link list nodes) row
       go (i ∷ []) row = let r = parent_of b k i e row in absurd (none r.0.subject r.2)
-      go (i ∷ l ∷ more) row = ap (parent_link list nodes) row
+      go _ row = ap (parent_link list nodes) row
 
   led_by : {n : Node ℕ} → Ends (set_of list) n → (k : ℕ) → number_in nodes n ≡ Some k → Leads links k
   led_by (at_iri {iri}) k e = ending (link_at (Iri iri) k e ∙ ap (λ (z : List ℕ). Some (parent_link list nodes z)) (iri_uses iri k e))
@@ -168,7 +146,6 @@ module _ (list : List (Triple ℕ)) (nodes : List (Node ℕ)) (each : Once list)
   inner_of _ n p (onward {b} {parent} q rest) = record { parent = parent; has = q; ends = rest }
 
   inner_at : (ends : List Bool) (b k : ℕ) → number_in nodes (Blank b) ≡ Some k → get_or (inner_marks ends (object_rows list nodes) (length nodes)) k false ≡ (get_or ends k false && (length (uses k) == 1))
-  unfolding uses
   inner_at ends b k e =
       let less = number_small nodes (Blank b) k e in
       got_or (λ (k : ℕ). is_inner_by (get_or ends k false) (get_or (object_rows list nodes) k [])) (length nodes) k false less
@@ -195,36 +172,29 @@ module _ (list : List (Triple ℕ)) (nodes : List (Node ℕ)) (each : Once list)
 
   pub inner_nodes : (ends marks : List Bool) (links : List Link) (rows : List (List ℕ)) → rows ≡ object_rows list nodes → links ≡ parent_links list nodes rows (length nodes) → Settled links ends
       → marks ≡ inner_marks ends rows (length nodes) → AreInner list nodes marks
-  unfolding links
   inner_nodes ends marks those rows rows_are links_are s marks_are =
       subst (AreInner list nodes) (sym (marks_are ∙ ap (λ (z : List (List ℕ)). inner_marks ends z (length nodes)) rows_are))
       (are_inner ends (subst (λ (z : List Link). Settled z ends) (links_are ∙ ap (λ (z : List (List ℕ)). parent_links list nodes z (length nodes)) rows_are) s))
 
   -- ---- cells
 
-  places : ℕ → List ℕ
+  abbrev places : ℕ → List ℕ
   places k = filed (λ (t : Triple ℕ). number_in nodes t.subject) list k
 
-  said_of : ℕ → Triple ℕ → Bool
+  abbrev said_of : ℕ → Triple ℕ → Bool
   said_of k t = is_number k (number_in nodes t.subject)
 
-  places_are : (k : ℕ) → places k ≡ positions (said_of k) 0 list
-  unfolding places said_of
-  places_are k = refl
-
   said_is : (n : Node ℕ) (k : ℕ) → number_in nodes n ≡ Some k → (t : Triple ℕ) → said_of k t ≡ true → t.subject ≡ n
-  unfolding said_of
   said_is n k e t h = number_same nodes t.subject n k (is_number_true k (number_in nodes t.subject) h) e
 
   is_said : (n : Node ℕ) (k : ℕ) → number_in nodes n ≡ Some k → (t : Triple ℕ) → t.subject ≡ n → said_of k t ≡ true
-  unfolding said_of
   is_said n k e t q = true_number k (number_in nodes t.subject) (ap (number_in nodes) q ∙ e)
 
   pair_of : (c : ℕ) (t u : Triple ℕ) → Among list t → Among list u → t.subject ≡ Blank c → u.subject ≡ Blank c → are_pair t u ≡ true
       → ((w : Triple ℕ) → Among list w → w.subject ≡ Blank c → (w ≡ t) ⊎ (w ≡ u)) → Pair (set_of list) c t.object u.object
   pair_of c t u m n s r h alone =
-      let t_is : t ≡ spo (Blank c) rdf_first t.object = spo_is t (Blank c) rdf_first t.object s ((exact_texts t.predicate rdf_first).0 (and_left (bytes_eq t.predicate rdf_first) (bytes_eq u.predicate rdf_rest) h)) refl in
-      let u_is : u ≡ spo (Blank c) rdf_rest u.object = spo_is u (Blank c) rdf_rest u.object r ((exact_texts u.predicate rdf_rest).0 (and_right (bytes_eq t.predicate rdf_first) (bytes_eq u.predicate rdf_rest) h)) refl in
+      let t_is : t ≡ spo (Blank c) rdf_first t.object = triple_path t (Blank c) rdf_first t.object s ((exact_texts t.predicate rdf_first).0 (and_left (bytes_eq t.predicate rdf_first) (bytes_eq u.predicate rdf_rest) h)) refl in
+      let u_is : u ≡ spo (Blank c) rdf_rest u.object = triple_path u (Blank c) rdf_rest u.object r ((exact_texts u.predicate rdf_rest).0 (and_right (bytes_eq t.predicate rdf_first) (bytes_eq u.predicate rdf_rest) h)) refl in
       record {
         first = subst (Among list) t_is m;
         rest = subst (Among list) u_is n;
@@ -242,33 +212,30 @@ module _ (list : List (Triple ℕ)) (nodes : List (Node ℕ)) (each : Once list)
       → pair_link nodes t u ≡ l → ¬ (l ≡ link.Breaks) → FromPair c l
   by_pair c l t u m n s r alone h unbroken = go (are_pair t u) refl (are_pair u t) refl h
     where
-      turned : (w : Triple ℕ) → (w ≡ t) ⊎ (w ≡ u) → (w ≡ u) ⊎ (w ≡ t)
-      turned w (inl e) = inr e
-      turned w (inr e) = inl e
-
       go : (a : Bool) → are_pair t u ≡ a → (b : Bool) → are_pair u t ≡ b → (if a then rest_link nodes u.object else (if b then rest_link nodes t.object else link.Breaks)) ≡ l → FromPair c l
       go true e b f q = record { item = t.object; after = u.object; pair = pair_of c t u m n s r e alone; is = q }
-      go false e true f q = record { item = u.object; after = t.object; pair = pair_of c u t n m r s f (λ w k d. turned w (alone w k d)); is = q }
+      go false e true f q = record { item = u.object; after = t.object; pair = pair_of c u t n m r s f (λ w k d. elim (alone w k d) [ inl x ↦ inr x | inr x ↦ inl x ]); is = q }
       go false e false f q = absurd (unbroken (sym q))
 
   from_pair : (c k : ℕ) (l : Link) → number_in nodes (Blank c) ≡ Some k → cell_link list nodes (places k) ≡ l → ¬ (l ≡ link.Breaks) → FromPair c l
   from_pair c k l e h unbroken = go (places k) refl h
     where
       go : (row : List ℕ) → places k ≡ row → cell_link list nodes row ≡ l → FromPair c l
-      go [] row q = absurd (unbroken (sym q))
-      go (i ∷ []) row q = absurd (unbroken (sym q))
       go (i ∷ j ∷ []) row q =
-          let two = two_at (said_of k) list i j (sym (places_are k) ∙ row) in
+          let two = two_at (said_of k) list i j row in
           by_pair c l two.one two.other (among_get list i two.one two.at) (among_get list j two.other two.other_at)
           (said_is (Blank c) k e two.one two.passes) (said_is (Blank c) k e two.other two.other_passes)
           (λ w m s. two.alone w m (is_said (Blank c) k e w s))
           (sym (ap₂ (found_link nodes) two.at two.other_at) ∙ q) unbroken
-      go (i ∷ j ∷ x ∷ more) row q = absurd (unbroken (sym q))
+      go _ row q = absurd (unbroken (sym q))
 
   pair_to : (c k : ℕ) (item after : Term ℕ) → number_in nodes (Blank c) ≡ Some k → Pair (set_of list) c item after → cell_link list nodes (places k) ≡ rest_link nodes after
-  pair_to c k item after e p = go (double (said_of k) (spo (Blank c) rdf_first item) (spo (Blank c) rdf_rest after)
+  pair_to c k item after e p = elim (double (said_of k) list (spo (Blank c) rdf_first item) (spo (Blank c) rdf_rest after)
       (is_said (Blank c) k e (spo (Blank c) rdf_first item) refl) (is_said (Blank c) k e (spo (Blank c) rdf_rest after) refl)
-      (λ q. first_is_no_rest (ap (λ (z : Triple ℕ). z.predicate) q)) 0 list each p.first p.rest (λ w m s. p.alone w m (said_is (Blank c) k e w s)))
+      (λ q. first_is_not_rest (ap (λ (z : Triple ℕ). z.predicate) q)) each p.first p.rest (λ w m s. p.alone w m (said_is (Blank c) k e w s))) [
+        | inl d ↦ ap (cell_link list nodes) d.2 ∙ ap₂ (found_link nodes) d.3 d.4 ∙ straight
+        | inr d ↦ ap (cell_link list nodes) d.2 ∙ ap₂ (found_link nodes) d.3 d.4 ∙ crossed
+      ]
     where
       in_order : are_pair (spo (Blank c) rdf_first item) (spo (Blank c) rdf_rest after) ≡ true
       in_order = refl
@@ -282,24 +249,11 @@ module _ (list : List (Triple ℕ)) (nodes : List (Node ℕ)) (each : Once list)
       crossed : pair_link nodes (spo (Blank c) rdf_rest after) (spo (Blank c) rdf_first item) ≡ rest_link nodes after
       crossed = ap₂ (λ a b. if a then rest_link nodes item else (if b then rest_link nodes after else link.Breaks)) out_of_order in_order
 
-      at_places : (i j : ℕ) → positions (said_of k) 0 list ≡ (0 + i) ∷ (0 + j) ∷ [] → cell_link list nodes (places k) ≡ found_link nodes (slice_get list i) (slice_get list j)
-      at_places i j row =
-          let one : 0 + i ≡ i = omega arith in
-          let other : 0 + j ≡ j = omega arith in
-          ap (cell_link list nodes) (places_are k ∙ row ∙ ap₂ (λ y z. y ∷ z ∷ []) one other)
-
-      go : Double list (positions (said_of k) 0 list) 0 (spo (Blank c) rdf_first item) (spo (Blank c) rdf_rest after) → cell_link list nodes (places k) ≡ rest_link nodes after
-      go d = at_places d.place d.other d.row_is ∙ elim d.at [
-        | inl h ↦ ap₂ (found_link nodes) h.0 h.1 ∙ straight
-        | inr h ↦ ap₂ (found_link nodes) h.0 h.1 ∙ crossed
-      ]
-
   module _ (inner : List Bool) (are_in : AreInner list nodes inner) where
-    rests : List Link
+    abbrev rests : List Link
     rests = cell_links list nodes inner (subject_rows list nodes) (length nodes)
 
     rest_at : (n : Node ℕ) (k : ℕ) → number_in nodes n ≡ Some k → slice_get rests k ≡ Some (inner_link list nodes (get_or inner k false) (places k))
-    unfolding rests places
     rest_at n k e =
         let less = number_small nodes n k e in
         got (λ (k : ℕ). inner_link list nodes (get_or inner k false) (get_or (subject_rows list nodes) k [])) (length nodes) k less
@@ -307,24 +261,16 @@ module _ (list : List (Triple ℕ)) (nodes : List (Node ℕ)) (each : Once list)
 
     -- what an unbroken link tells of a node
     inner_pair : (c k : ℕ) (l : Link) → number_in nodes (Blank c) ≡ Some k → slice_get rests k ≡ Some l → ¬ (l ≡ link.Breaks) → Inner (set_of list) c × FromPair c l
-    inner_pair c k l e at unbroken = go (get_or inner k false) refl (same_some (slice_get rests k) (inner_link list nodes (get_or inner k false) (places k)) l (rest_at (Blank c) k e) at)
-      where
-        go : (b : Bool) → get_or inner k false ≡ b → inner_link list nodes (get_or inner k false) (places k) ≡ l → Inner (set_of list) c × FromPair c l
-        go true f q = ((are_in.each c k e).0 f, from_pair c k l e (sym (ap (λ (z : Bool). inner_link list nodes z (places k)) f) ∙ q) unbroken)
-        go false f q = absurd (unbroken (sym q ∙ ap (λ (z : Bool). inner_link list nodes z (places k)) f))
-
-    ends_unbroken : ¬ (link.Ends ≡ link.Breaks)
-    ends_unbroken e = cc
-
-    leads_unbroken : (p : ℕ) → ¬ (link.To p ≡ link.Breaks)
-    leads_unbroken p e = cc
+    inner_pair c k l e at unbroken =
+        let is = same_some (slice_get rests k) (inner_link list nodes (get_or inner k false) (places k)) l (rest_at (Blank c) k e) at in
+        by_test (get_or inner k false) (λ f. ((are_in.each c k e).0 f, from_pair c k l e (rw f at is) unbroken)) (λ f. absurd (unbroken (sym (rw f at is))))
 
     cell_by : {k : ℕ} → Leads rests k → (c : ℕ) → number_in nodes (Blank c) ≡ Some k → Cell (set_of list) c
     cell_by (ending {a = k} at) c e =
-        let r = inner_pair c k link.Ends e at ends_unbroken in
+        let r = inner_pair c k link.Ends e at (λ q. cc) in
         last_cell r.0 (subst (Pair (set_of list) c r.1.item) (rest_ends nodes r.1.after r.1.is) r.1.pair)
     cell_by (linked {a = k} {b = p} at rest) c e =
-        let r = inner_pair c k (link.To p) e at (leads_unbroken p) in
+        let r = inner_pair c k (link.To p) e at (λ q. cc) in
         let d = rest_leads nodes r.1.after p r.1.is in
         next_cell r.0 (subst (Pair (set_of list) c r.1.item) d.1 r.1.pair) (cell_by rest d.0 d.2)
 
@@ -342,7 +288,6 @@ module _ (list : List (Triple ℕ)) (nodes : List (Node ℕ)) (each : Once list)
         linked (inner_rest c k item (Resource (Blank d)) e i p ∙ ap (λ (z : Option ℕ). Some (link_to z)) number.1) (cell_leads rest number.0 number.1)
 
     pub cell_nodes : (marks : List Bool) (those : List Link) (rows : List (List ℕ)) → rows ≡ subject_rows list nodes → those ≡ cell_links list nodes inner rows (length nodes) → Settled those marks → AreCells list nodes marks
-    unfolding rests
     cell_nodes marks those rows rows_are links_are settled =
         let s : Settled rests marks = subst (λ (z : List Link). Settled z marks) (links_are ∙ ap (λ (z : List (List ℕ)). cell_links list nodes inner z (length nodes)) rows_are) settled in
         record { each = λ c k e. (λ h. cell_by ((s.each k).0 h) c e, λ h. (s.each k).1 (cell_leads h k e)) }
@@ -350,26 +295,20 @@ module _ (list : List (Triple ℕ)) (nodes : List (Node ℕ)) (each : Once list)
     -- ---- shapes
 
     pub have_shapes : (cells : List Bool) (shapes : List Shape) → AreCells list nodes cells → shapes ≡ shapes_by inner cells (length nodes) → AreNumbered list nodes shapes
-    have_shapes cells shapes are_cells shapes_are = record { each = λ b k e. subst (IsShape (set_of list) b) (sym (shape_is b k e)) (go b k e (get_or cells k false) refl (get_or inner k false) refl) }
-      where
-        shape_is : (b k : ℕ) → number_in nodes (Blank b) ≡ Some k → get_or shapes k shape.Labelled ≡ shape_by (get_or inner k false) (get_or cells k false)
-        shape_is b k e = ap (λ (z : List Shape). get_or z k shape.Labelled) shapes_are
-            ∙ got_or (λ (k : ℕ). shape_by (get_or inner k false) (get_or cells k false)) (length nodes) k shape.Labelled (number_small nodes (Blank b) k e)
-
-        go : (b k : ℕ) → number_in nodes (Blank b) ≡ Some k → (c : Bool) → get_or cells k false ≡ c → (i : Bool) → get_or inner k false ≡ i
-            → IsShape (set_of list) b (shape_by (get_or inner k false) (get_or cells k false))
-        go b k e true f i g = subst (λ (z : Bool). IsShape (set_of list) b (shape_by (get_or inner k false) z)) (sym f) ((are_cells.each b k e).0 f)
-        go b k e false f true g =
-            subst (λ (z : Bool). IsShape (set_of list) b (shape_by (get_or inner k false) z)) (sym f)
-            (subst (λ (z : Bool). IsShape (set_of list) b (shape_by z false)) (sym g) ((are_in.each b k e).0 g, λ h. true≢false (sym ((are_cells.each b k e).1 h) ∙ f)))
-        go b k e false f false g =
-            subst (λ (z : Bool). IsShape (set_of list) b (shape_by (get_or inner k false) z)) (sym f)
-            (subst (λ (z : Bool). IsShape (set_of list) b (shape_by z false)) (sym g) (λ h. true≢false (sym ((are_in.each b k e).1 h) ∙ g)))
+    have_shapes cells shapes are_cells shapes_are = record {
+      each = λ b k e.
+          let shape_is : get_or shapes k shape.Labelled ≡ shape_by (get_or inner k false) (get_or cells k false) = ap (λ (z : List Shape). get_or z k shape.Labelled) shapes_are
+          ∙ got_or (λ (k : ℕ). shape_by (get_or inner k false) (get_or cells k false)) (length nodes) k shape.Labelled (number_small nodes (Blank b) k e) in
+          subst (IsShape (set_of list) b) (sym shape_is)
+          (by_test (get_or cells k false) (λ f. rw f ((are_cells.each b k e).0 f)) (λ f.
+          let no_cell : ¬ (Cell (set_of list) b) = λ c. true≢false (sym ((are_cells.each b k e).1 c) ∙ f) in
+          by_test (get_or inner k false) (λ g. rw (f, g) ((are_in.each b k e).0 g, no_cell)) (λ g. rw (f, g) (λ i. true≢false (sym ((are_in.each b k e).1 i) ∙ g)))));
+    }
 
   -- ---- the whole table
 
   no_number : (s : Node ℕ) → number_in nodes s ≡ None → (k : ℕ) × (number_in nodes s ≡ Some k) → ⊥
-  no_number s e (k, f) = let bad : None ≡ Some k = sym e ∙ f in cc
+  no_number s e (k, f) = cc
 
   pub are_shapes : (rows : List (List ℕ)) (shapes : List Shape) → rows ≡ subject_rows list nodes → AreNumbered list nodes shapes → AreShapes list (record { nodes = nodes; places = rows; shapes = shapes })
   are_shapes rows shapes rows_are have = record { shape = λ b. shape_go b (number_in nodes (Blank b)) refl; places = λ node. places_go node (number_in nodes node) refl }
@@ -389,23 +328,3 @@ module _ (list : List (Triple ℕ)) (nodes : List (Node ℕ)) (each : Once list)
           ∙ sym (positions_none (λ (t : Triple ℕ). same_node nat_eq node t.subject) 0 list
           (λ t m. false_unless (same_node nat_eq node t.subject)
           (λ h. no_number t.subject (ap (number_in nodes) (sym ((exact_nodes nat_eq exact_numbers node t.subject).0 h)) ∙ e) (number_there nodes t.subject (has.subjects t m)))))
-
--- ---- the same of an index
-
-module _ (list : List (Triple ℕ)) (nodes : List (Node ℕ)) (h : IsIndex list nodes) where
-  each_once : Once list
-  each_once = once (same_triple nat_eq) (exact_triples nat_eq exact_numbers) list h.each_once
-
-  pub inner_of_index : (ends marks : List Bool) (links : List Link) (rows : List (List ℕ)) → rows ≡ object_rows list nodes → links ≡ parent_links list nodes rows (length nodes) → Settled links ends
-      → marks ≡ inner_marks ends rows (length nodes) → AreInner list nodes marks
-  inner_of_index = inner_nodes list nodes each_once h.has
-
-  pub cells_of_index : (inner : List Bool) → AreInner list nodes inner → (marks : List Bool) (links : List Link) (rows : List (List ℕ)) → rows ≡ subject_rows list nodes
-      → links ≡ cell_links list nodes inner rows (length nodes) → Settled links marks → AreCells list nodes marks
-  cells_of_index = cell_nodes list nodes each_once h.has
-
-  pub shapes_of_index : (inner : List Bool) → AreInner list nodes inner → (cells : List Bool) (shapes : List Shape) → AreCells list nodes cells → shapes ≡ shapes_by inner cells (length nodes) → AreNumbered list nodes shapes
-  shapes_of_index = have_shapes list nodes each_once h.has
-
-  pub table_of_index : (rows : List (List ℕ)) (shapes : List Shape) → rows ≡ subject_rows list nodes → AreNumbered list nodes shapes → AreShapes list (record { nodes = nodes; places = rows; shapes = shapes })
-  table_of_index = are_shapes list nodes each_once h.has

@@ -1,5 +1,5 @@
 -- How often a number stands in a list, and lists whose elements differ.
-use Rattle.rx_model.proofs.Common.{◌≡◌, ◌∙◌, ◌≤◌, ℕ, ◌+◌, nat_eq, Bool, true, false, cond, List, [], ◌∷◌, ◌++◌, filter, refl, sym, ap, inl, inr, true≢false, arith, not, Among, IsExact, distinct, Among_of_filter, exact_numbers}
+use Rattle.rx_model.proofs.Common.{◌≡◌, ◌∙◌, ◌≤◌, ℕ, ◌+◌, nat_eq, Bool, cond, List, [], ◌∷◌, ◌++◌, filter, refl, sym, ap, inl, inr, true≢false, arith, not, by_test, Among, IsExact, distinct, Among_of_filter, exact_numbers}
 use Rattle.rx_shapes.proofs.Heights.{Differ}
 
 -- ---- how often a number stands in a list
@@ -36,11 +36,8 @@ once_differ (x ∷ xs) h = (twice, once_differ xs (λ b m. let e = h b (inr m) i
 
 pub differ_filter : {A : Type 0} (test : A → Bool) (xs : List A) → Differ xs → Differ (filter test xs)
 differ_filter test [] h = tt
-differ_filter {A} test (x ∷ xs) h = go (test x) (differ_filter test xs h.1)
-  where
-    go : (b : Bool) → Differ (filter test xs) → Differ (cond b (x ∷ filter test xs) (filter test xs))
-    go true d = (λ m. h.0 (Among_of_filter test xs x m).0, d)
-    go false d = d
+differ_filter test (x ∷ xs) h =
+    let rest = differ_filter test xs h.1 in by_test (test x) (λ e. rw e (λ m. h.0 (Among_of_filter test xs x m).0, rest)) (λ e. rw e rest)
 
 pub distinct_differ : {A : Type 0} (same : A → A → Bool) → IsExact same → (xs : List A) → Differ (distinct same xs)
 distinct_differ same exact [] = tt

@@ -1,6 +1,6 @@
 use Rattle.rx_model.specs.Seen.{triples_seen}
-use Rattle.rx_shapes.proofs.ShapeLemmas.{table_of_index}
+use Rattle.rx_shapes.proofs.ShapeLemmas.{are_shapes}
 use Rattle.rx_shapes.proofs.shapes.Shapes.of.Goals as goal
 
 pub returns : goal.returns
-returns c = table_of_index (triples_seen c.args.graph.now) c.in_ok-nodes.nodes c.in_ok-nodes.ensures c.in-Ok.places c.in-Ok-shapes_of.shapes.items c.in-Ok.ensures c.in-Ok-shapes_of.ensures
+returns c = are_shapes (triples_seen c.args.graph.now) c.in_ok-nodes.nodes c.in_ok-nodes.ensures c.in-Ok.places c.in-Ok-shapes_of.shapes.items c.in-Ok.ensures c.in-Ok-shapes_of.ensures
