@@ -1,7 +1,9 @@
 -- What a tag declares, one declaration after another.
-use Rattle.rx_rdfa.proofs.Common.{◌≡◌, ◌≢◌, ◌∙◌, ℕ, ◌+◌, ◌<◌, ap, sym, refl, arith, Bool, true, false, cond, Option, Some, None, List, [], ◌∷◌, ◌++◌, map, reverse, filter, take, drop, length, get_or, bytes_eq, codes, append_assoc, Result, Ok, Err, OnOk, MatchOption, Bor, ◌&&◌, ◌==◌, chars, and_from, nat_tests, lowered_char, colon, Chars, trimmed, lowered, begins_with, seen_slice, has_scheme, ascii-chars, by_test, flat_map-append, bytes_eq-Decides, Table, counts, xmlns_of, prefix_name, without_colon, pairs_after, and_right}
+use Rattle.rx_terms.proofs.Common.{◌≡◌, ◌≢◌, ◌∙◌, ℕ, ◌+◌, ◌<◌, ap, sym, refl, arith, Bool, true, false, cond, Option, Some, None, List, [], ◌∷◌, ◌++◌, map, reverse, filter, take, drop, length, get_or, bytes_eq, codes, append_assoc, Result, Ok, Err, OnOk, MatchOption, Bor, ◌&&◌, ◌==◌, chars, and_from, nat_tests, lowered_char, colon, Chars, trimmed, lowered, begins_with, seen_slice, has_scheme, ascii-chars, by_test, flat_map-append, bytes_eq-Decides}
 use Rattle.std.proofs.lemmas.List.{map-append, take_more, reverse-append, reverse-reverse, append-nil}
+use Rattle.rx_model.proofs.Sets.{and_right}
 use Rattle.std.specs.List.{flat_map}
+use Rattle.rx_rdfa.specs.Names.{Table, counts, xmlns_of, prefix_name, without_colon, pairs_after}
 use Rattle.rx_names.specs.declared.rows.Declaration.{Declaration}
 use Rattle.rx_names.specs.Rows.{mapping_rows, prefix_row}
 

@@ -1,5 +1,5 @@
 -- What is kept of a line says what the rules say of it.
-use Rattle.rx_terms.proofs.Common.{◌≡◌, ◌∙◌, suc, ◌≤◌, Bool, List, [], ◌∷◌, ◌++◌, map, reverse, filter, length, Option, Some, None, Result, Ok, Err, OnOk, option_map, bytes_eq, codes, sym, ap, subst, refl, arith, length-append, append-nil, option_or, reverse-append, length-map, Chars, trimmed, begins_with, by_test, sum_by-cons}
+use Rattle.rx_terms.proofs.Common.{ap₂, ◌≡◌, ◌∙◌, suc, ◌≤◌, Bool, List, [], ◌∷◌, ◌++◌, map, reverse, filter, length, Option, Some, None, Result, Ok, Err, OnOk, option_map, bytes_eq, codes, sym, ap, subst, refl, arith, length-append, append-nil, option_or, reverse-append, length-map, Chars, trimmed, begins_with, by_test, sum_by-cons}
 use Rattle.std.specs.List.{flat_map}
 use Rattle.rx_rdfa.specs.Tree.{Tag, attribute}
 use Rattle.rx_rdfa.specs.Names.{Context, Table, value_at, counts, xmlns_of, of_prefix, declarations, declared_or, unless_empty, as_lang, prefix, vocab, language}
@@ -25,16 +25,19 @@ last-prefix name (row ∷ table) =
     ∙ ap (option_or (value_at name (reverse table))) (one-value name row)
     ∙ sym (ap (value_at name) (reverse-append (row ∷ []) table) ∙ value-append name (reverse table) (row ∷ []))
 
-no-prefix : (name : Chars) (v l : Option Chars) → last_of (prefix_in name) (vocabulary_rows v ++ language_rows l) ≡ None
-no-prefix name None None = refl
-no-prefix name None (Some l) = refl
-no-prefix name (Some v) None = refl
-no-prefix name (Some v) (Some l) = refl
+-- what the rows of a vocabulary and of a language say
+said-last : (name : Chars) (v l : Option Chars) → (last_of (prefix_in name) (vocabulary_rows v ++ language_rows l) ≡ None)
+    × (last_of vocabulary_in (vocabulary_rows v ++ language_rows l) ≡ option_map (λ value. unless_empty (trimmed value)) v)
+    × (last_of language_in (vocabulary_rows v ++ language_rows l) ≡ option_map as_lang l)
+said-last name None None = (refl, refl, refl)
+said-last name None (Some l) = (refl, refl, refl)
+said-last name (Some v) None = (refl, refl, refl)
+said-last name (Some v) (Some l) = (refl, refl, refl)
 
 prefix-tag : (name : Chars) (tag : Tag) → last_of (prefix_in name) (rows_of tag) ≡ value_at name (reverse (declarations tag))
 prefix-tag name tag =
     last-append (prefix_in name) (map prefix_row (declarations tag)) (vocabulary_rows (attribute tag (codes "vocab")) ++ language_rows (language_attribute tag))
-    ∙ ap (λ o. option_or o (last_of (prefix_in name) (map prefix_row (declarations tag)))) (no-prefix name (attribute tag (codes "vocab")) (language_attribute tag))
+    ∙ ap (λ o. option_or o (last_of (prefix_in name) (map prefix_row (declarations tag)))) (said-last name (attribute tag (codes "vocab")) (language_attribute tag)).0
     ∙ last-prefix name (declarations tag)
 
 prefix-kept : (context : Context) (line : List Tag) (name : Chars) → option_or (last_of (prefix_in name) (kept_of context line).rows) (value_at name context.prefixes) ≡ prefix context line name
@@ -49,39 +52,44 @@ pub prefix-line : (kept : Kept) (line : List Tag) (name : Chars) → NamesStand 
 prefix-line kept line name s =
     ap (λ (k : Kept). option_or (last_of (prefix_in name) k.rows) (value_at name kept.context.prefixes)) s.is ∙ prefix-kept kept.context line name
 
--- The default vocabulary
-
-no-vocabulary : (table : Table) → last_of vocabulary_in (map prefix_row table) ≡ None
-no-vocabulary [] = refl
-no-vocabulary (row ∷ table) = ap (λ o. option_or o None) (no-vocabulary table)
-
-vocabulary-last : (v l : Option Chars) → last_of vocabulary_in (vocabulary_rows v ++ language_rows l) ≡ option_map (λ value. unless_empty (trimmed value)) v
-vocabulary-last None None = refl
-vocabulary-last None (Some l) = refl
-vocabulary-last (Some v) None = refl
-vocabulary-last (Some v) (Some l) = refl
-
-vocabulary-tag : (tag : Tag) → last_of vocabulary_in (rows_of tag) ≡ option_map (λ value. unless_empty (trimmed value)) (attribute tag (codes "vocab"))
-vocabulary-tag tag =
-    last-append vocabulary_in (map prefix_row (declarations tag)) (vocabulary_rows (attribute tag (codes "vocab")) ++ language_rows (language_attribute tag))
-    ∙ ap (option_or (last_of vocabulary_in (vocabulary_rows (attribute tag (codes "vocab")) ++ language_rows (language_attribute tag)))) (no-vocabulary (declarations tag))
-    ∙ or-none (last_of vocabulary_in (vocabulary_rows (attribute tag (codes "vocab")) ++ language_rows (language_attribute tag)))
-    ∙ vocabulary-last (attribute tag (codes "vocab")) (language_attribute tag)
+-- The default vocabulary and the language
 
 -- what is said where something is declared, else what held before
 said-or : (o : Option Chars) (f : Chars → Option Chars) (before : Option (Option Chars)) → flattened (option_or (option_map f o) before) ≡ declared_or o f (flattened before)
 said-or None f before = refl
 said-or (Some value) f before = refl
 
-vocabulary-kept : (context : Context) (line : List Tag) → flattened (last_of vocabulary_in (kept_of context line).rows) ≡ vocab line
-vocabulary-kept context [] = refl
-vocabulary-kept context (tag ∷ above) =
-    ap flattened (last-append vocabulary_in (kept_of context above).rows (rows_of tag) ∙ ap (λ o. option_or o (last_of vocabulary_in (kept_of context above).rows)) (vocabulary-tag tag))
-    ∙ said-or (attribute tag (codes "vocab")) (λ value. unless_empty (trimmed value)) (last_of vocabulary_in (kept_of context above).rows)
-    ∙ ap (declared_or (attribute tag (codes "vocab")) (λ value. unless_empty (trimmed value))) (vocabulary-kept context above)
+-- what is said by rows of a kind of which a tag has one at most
+module _ (said : Declaration → Option (Option Chars)) (silent : (row : Chars × Chars) → said (prefix_row row) ≡ None) (of : Tag → Option Chars) (say : Chars → Option Chars)
+    (last : (tag : Tag) → last_of said (vocabulary_rows (attribute tag (codes "vocab")) ++ language_rows (language_attribute tag)) ≡ option_map say (of tag))
+    (along : List Tag → Option Chars) (first : along [] ≡ None) (next : (tag : Tag) (above : List Tag) → along (tag ∷ above) ≡ declared_or (of tag) say (along above)) where
+  none-said : (table : Table) → last_of said (map prefix_row table) ≡ None
+  none-said [] = refl
+  none-said (row ∷ table) = ap₂ option_or (none-said table) (silent row)
+
+  said-tag : (tag : Tag) → last_of said (rows_of tag) ≡ option_map say (of tag)
+  said-tag tag =
+      let rest = vocabulary_rows (attribute tag (codes "vocab")) ++ language_rows (language_attribute tag) in
+      last-append said (map prefix_row (declarations tag)) rest ∙ ap (option_or (last_of said rest)) (none-said (declarations tag)) ∙ or-none (last_of said rest) ∙ last tag
+
+  said-kept : (context : Context) (line : List Tag) → flattened (last_of said (kept_of context line).rows) ≡ along line
+  said-kept context [] = sym first
+  said-kept context (tag ∷ above) =
+      let before = last_of said (kept_of context above).rows in
+      ap flattened (last-append said (kept_of context above).rows (rows_of tag) ∙ ap (λ o. option_or o before) (said-tag tag))
+      ∙ said-or (of tag) say before ∙ ap (declared_or (of tag) say) (said-kept context above) ∙ sym (next tag above)
 
 pub vocabulary-line : (kept : Kept) (line : List Tag) → NamesStand kept line → vocabulary_of kept ≡ vocab line
-vocabulary-line kept line s = ap vocabulary_of s.is ∙ vocabulary-kept kept.context line
+vocabulary-line kept line s =
+    ap vocabulary_of s.is
+    ∙ said-kept vocabulary_in (λ row. refl) (λ tag. attribute tag (codes "vocab")) (λ value. unless_empty (trimmed value))
+    (λ tag. (said-last [] (attribute tag (codes "vocab")) (language_attribute tag)).1) vocab refl (λ tag above. refl) kept.context line
+
+pub language-line : (kept : Kept) (line : List Tag) → NamesStand kept line → language_of kept ≡ language line
+language-line kept line s =
+    ap language_of s.is
+    ∙ said-kept language_in (λ row. refl) language_attribute as_lang
+    (λ tag. (said-last [] (attribute tag (codes "vocab")) (language_attribute tag)).2) language refl (λ tag above. refl) kept.context line
 
 -- A tag that declares nothing
 
@@ -98,35 +106,6 @@ pub pushed_stands : {E : Type 0} (r : Result (Unit {0}) E) (old new : Kept) (tag
     → OnOk r ((line : List Tag) → NamesStand old line → NamesStand new (tag ∷ line))
 pushed_stands (Ok done) old new tag e = λ line s. subst (λ (k : Kept). NamesStand k (tag ∷ line)) (sym e) (record { is = ap (λ (k : Kept). pushed k tag) s.is })
 pushed_stands (Err error) old new tag e = tt
-
--- The language
-
-no-language : (table : Table) → last_of language_in (map prefix_row table) ≡ None
-no-language [] = refl
-no-language (row ∷ table) = ap (λ o. option_or o None) (no-language table)
-
-language-last : (v l : Option Chars) → last_of language_in (vocabulary_rows v ++ language_rows l) ≡ option_map as_lang l
-language-last None None = refl
-language-last None (Some l) = refl
-language-last (Some v) None = refl
-language-last (Some v) (Some l) = refl
-
-language-tag : (tag : Tag) → last_of language_in (rows_of tag) ≡ option_map as_lang (language_attribute tag)
-language-tag tag =
-    last-append language_in (map prefix_row (declarations tag)) (vocabulary_rows (attribute tag (codes "vocab")) ++ language_rows (language_attribute tag))
-    ∙ ap (option_or (last_of language_in (vocabulary_rows (attribute tag (codes "vocab")) ++ language_rows (language_attribute tag)))) (no-language (declarations tag))
-    ∙ or-none (last_of language_in (vocabulary_rows (attribute tag (codes "vocab")) ++ language_rows (language_attribute tag)))
-    ∙ language-last (attribute tag (codes "vocab")) (language_attribute tag)
-
-language-kept : (context : Context) (line : List Tag) → flattened (last_of language_in (kept_of context line).rows) ≡ language line
-language-kept context [] = refl
-language-kept context (tag ∷ above) =
-    ap flattened (last-append language_in (kept_of context above).rows (rows_of tag) ∙ ap (λ o. option_or o (last_of language_in (kept_of context above).rows)) (language-tag tag))
-    ∙ said-or (language_attribute tag) as_lang (last_of language_in (kept_of context above).rows)
-    ∙ ap (declared_or (language_attribute tag) as_lang) (language-kept context above)
-
-pub language-line : (kept : Kept) (line : List Tag) → NamesStand kept line → language_of kept ≡ language line
-language-line kept line s = ap language_of s.is ∙ language-kept kept.context line
 
 -- How many rows there are
 

@@ -1,10 +1,13 @@
 -- Marks of names.
-use Rattle.rx_rdfa.proofs.Common.{◌≡◌, ◌∙◌, ℕ, ◌/◌, true, false, Bool, List, [], ◌∷◌, ◌++◌, map, filter, Option, Some, None, MatchOption, Bor, take, drop, length, get_or, codes, ◌+◌, ◌<◌, bytes_eq, cond, sym, ap, subst, refl, arith, ◌==◌, ◌||◌, is_some, bit_and, bit_or, option_or, chars, IsUtf8, nat_tests, encodes-chars, Chars, trimmed, lowered, begins_with, or_parts, flat_map-append, bytes_eq-Decides, Tag, attribute, value_of_first, Table, counts, xmlns_of, of_prefix}
+use Rattle.rx_terms.proofs.Common.{option_or, chars, IsUtf8, nat_tests, encodes-chars, Chars, trimmed, lowered, begins_with, or_parts, flat_map-append, bytes_eq-Decides}
+use Rattle.std.proofs.Common.{◌≡◌, ◌∙◌, ℕ, ◌/◌, true, false, Bool, List, [], ◌∷◌, ◌++◌, map, filter, Option, Some, None, MatchOption, Bor, take, drop, length, get_or, codes, ◌+◌, ◌<◌, bytes_eq, cond, sym, ap, subst, refl, arith, ◌==◌, ◌||◌, is_some, bit_and, bit_or}
 use Rattle.std.proofs.lemmas.List.{take_more, append-nil}
 use Rattle.std.specs.List.{flat_map}
 use Rattle.std.proofs.lemmas.Nat.{and_or_self, or_shr}
 use Rattle.std.proofs.Math.Arith.{bin_ind}
 use Rattle.std.specs.Int.Bits.{and_zero_r, and_step, or_step}
+use Rattle.rx_rdfa.specs.Tree.{Tag, attribute, value_of_first}
+use Rattle.rx_rdfa.specs.Names.{Table, counts, xmlns_of, of_prefix}
 use Rattle.rx_names.specs.Marks.{mark_of, name_mark, has_mark, Marked}
 use Rattle.rx_names.specs.Rows.{prefix_row, vocabulary_rows, language_rows, rows_of}
 use Rattle.rx_names.proofs.DeclarationLemmas.{xmlns-chars}

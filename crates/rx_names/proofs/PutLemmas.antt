@@ -1,5 +1,5 @@
 -- A row that is put into a table in byte order.
-use Rattle.rx_terms.proofs.Common.{Result, Ok, Err, ◌≡◌, ◌<◌, ◌≤◌, ◌∙◌, ℕ, zero, suc, Bool, true, false, cond, List, [], ◌∷◌, ◌++◌, map, length, get_or, take, drop, Option, Some, None, option_map, bytes_eq, refl, sym, ap, subst, Ordering, arith, unwrap_or, encode_utf8_all, is_ok, is_err, list_all, find, option_or, slice_cmp, and_parts, and_from, false≢true, map-append, take-map, drop-map, length-map, Chars, lowered, by_test, IsNonDecreasingBy, IsPartitionPoint, nat_list_cmp_total, bytes_eq-Decides}
+use Rattle.rx_terms.proofs.Common.{false_from_ne_true, and_parts, and_from, false≢true, Result, Ok, Err, ◌≡◌, ◌<◌, ◌≤◌, ◌∙◌, ℕ, zero, suc, Bool, true, false, cond, List, [], ◌∷◌, ◌++◌, map, length, get_or, take, drop, Option, Some, None, option_map, bytes_eq, refl, sym, ap, subst, Ordering, arith, unwrap_or, encode_utf8_all, is_ok, is_err, list_all, find, option_or, slice_cmp, map-append, take-map, drop-map, length-map, Chars, lowered, by_test, IsNonDecreasingBy, IsPartitionPoint, nat_list_cmp_total, bytes_eq-Decides}
 use Rattle.std.specs.Ordering.{is_lt, is_eq, match_ordering, ordering_reverse, nat_cmp, ordering_index}
 use Rattle.std.specs.declared.cmp.Ordering.TheVariants.{Less, Equal, Greater}
 use Rattle.rx_rdfa.specs.Names.{Table, value_at}
@@ -16,25 +16,21 @@ less-is Greater h = absurd (false≢true h)
 turned : (a b : Chars) (o : Ordering) → byte_order a b ≡ o → byte_order b a ≡ ordering_reverse o
 turned a b o e = nat_list_cmp_total.antisymm (encode_utf8_all b) (encode_utf8_all a) ∙ ap ordering_reverse e
 
-put-less : (row first : Chars × Chars) (rows : Table) → byte_order row.0 first.0 ≡ Less → put row (first ∷ rows) ≡ Some (row ∷ first ∷ rows)
-put-less row first rows e = ap (λ o. match_ordering o (Some (row ∷ first ∷ rows)) None (option_map (λ table. first ∷ table) (put row rows))) e
-
-put-equal : (row first : Chars × Chars) (rows : Table) → byte_order row.0 first.0 ≡ Equal → put row (first ∷ rows) ≡ None
-put-equal row first rows e = ap (λ o. match_ordering o (Some (row ∷ first ∷ rows)) None (option_map (λ table. first ∷ table) (put row rows))) e
-
-put-greater : (row first : Chars × Chars) (rows : Table) → byte_order row.0 first.0 ≡ Greater → put row (first ∷ rows) ≡ option_map (λ table. first ∷ table) (put row rows)
-put-greater row first rows e = ap (λ o. match_ordering o (Some (row ∷ first ∷ rows)) None (option_map (λ table. first ∷ table) (put row rows))) e
+-- a row that is put before, at or behind a first one
+put-by : (row first : Chars × Chars) (rows : Table) {o : Ordering} → byte_order row.0 first.0 ≡ o
+    → put row (first ∷ rows) ≡ match_ordering o (Some (row ∷ first ∷ rows)) None (option_map (λ table. first ∷ table) (put row rows))
+put-by row first rows e = ap (λ o. match_ordering o (Some (row ∷ first ∷ rows)) None (option_map (λ table. first ∷ table) (put row rows))) e
 
 -- Where the name stands already, nothing is put in; where it would stand, it is.
 module _ {T : Type 0} (key value : T → Chars) where
   put-found : (rows : List T) (at : ℕ) (d : T) (row : Chars × Chars) → rise (map (view key value) rows) ≡ true → at < length rows
       → slice_cmp nat_cmp (bytes key value (get_or rows at d)) (encode_utf8_all row.0) ≡ Equal → put row (map (view key value) rows) ≡ None
   put-found [] at d row rising below same = absurd (omega arith)
-  put-found (first ∷ rows) zero d row rising below same = put-equal row (view key value first) (map (view key value) rows) (turned (key first) row.0 Equal same)
+  put-found (first ∷ rows) zero d row rising below same = put-by row (view key value first) (map (view key value) rows) (turned (key first) row.0 Equal same)
   put-found (first ∷ rows) (suc at) d row rising below same =
       let parts = and_parts (list_all (λ later. is_before (key first) later.0) (map (view key value) rows)) (rise (map (view key value) rows)) rising in
       let less = later_at key value (key first) rows at d parts.0 (omega arith) in
-      put-greater row (view key value first) (map (view key value) rows) (above (key first) (key (get_or rows at d)) row.0 less same)
+      put-by row (view key value first) (map (view key value) rows) (above (key first) (key (get_or rows at d)) row.0 less same)
       ∙ ap (option_map (λ table. view key value first ∷ table)) (put-found rows at d row parts.1 (omega arith) same)
     where
       above : (front there name : Chars) → is_lt (byte_order front there) ≡ true → byte_order there name ≡ Equal → byte_order name front ≡ Greater
@@ -48,9 +44,9 @@ module _ {T : Type 0} (key value : T → Chars) where
   put-gap [] zero row within parts = refl
   put-gap [] (suc gap) row within parts = absurd (omega arith)
   put-gap (first ∷ rows) zero row within parts =
-      put-less row (view key value first) (map (view key value) rows) (turned (key first) row.0 Greater (parts.1 0 first (omega arith) (omega arith)))
+      put-by row (view key value first) (map (view key value) rows) (turned (key first) row.0 Greater (parts.1 0 first (omega arith) (omega arith)))
   put-gap (first ∷ rows) (suc gap) row within parts =
-      put-greater row (view key value first) (map (view key value) rows) (turned (key first) row.0 Less (parts.0 0 first (omega arith) (omega arith)))
+      put-by row (view key value first) (map (view key value) rows) (turned (key first) row.0 Less (parts.0 0 first (omega arith) (omega arith)))
       ∙ ap (option_map (λ table. view key value first ∷ table))
       (put-gap rows gap row (omega arith) (
         (λ k d low high. parts.0 (suc k) d (omega arith) (omega arith)),
@@ -78,10 +74,10 @@ put-cases : {Q : Type 0} (row first : Chars × Chars) (rows t : Table) → put r
     → (byte_order first.0 row.0 ≡ Less → (rest : Table) → put row rows ≡ Some rest → first ∷ rest ≡ t → Q) → Q
 put-cases {Q} row first rows t e before behind = go (byte_order row.0 first.0) refl where
   go : (o : Ordering) → byte_order row.0 first.0 ≡ o → Q
-  go Less o = before o (some-same (sym (put-less row first rows o) ∙ e))
-  go Equal o = let none : None ≡ Some t = sym (put-equal row first rows o) ∙ e in absurd (cc none)
+  go Less o = before o (some-same (sym (put-by row first rows o) ∙ e))
+  go Equal o = let none : None ≡ Some t = sym (put-by row first rows o) ∙ e in absurd (cc none)
   go Greater o =
-      let m = mapped first (put row rows) t (sym (put-greater row first rows o) ∙ e) in
+      let m = mapped first (put row rows) t (sym (put-by row first rows o) ∙ e) in
       behind (turned row.0 first.0 Greater o) m.0 m.1 m.2
 
 all-put : (p : Chars × Chars → Bool) (row : Chars × Chars) (rows t : Table) → p row ≡ true → list_all p rows ≡ true → put row rows ≡ Some t → list_all p t ≡ true
@@ -112,12 +108,12 @@ exchanged false b x y z h = refl
 
 apart : (first row name : Chars) → byte_order first row ≡ Less → bytes_eq first name ≡ true → bytes_eq row name ≡ false
 apart first row name less s =
-    by_test (bytes_eq row name) (λ t.
+    false_from_ne_true (bytes_eq row name) (λ t.
     let here : first ≡ name = (bytes_eq-Decides first name).0 s in
     let there : row ≡ name = (bytes_eq-Decides row name).0 t in
     let same : bytes_eq first row ≡ true = (bytes_eq-Decides first row).1 (here ∙ sym there) in
     let other : bytes_eq first row ≡ false = sym (is_eq-byte_order first row) ∙ ap is_eq less in
-    absurd (false≢true (sym other ∙ same))) (λ t. t)
+    false≢true (sym other ∙ same))
 
 pub value-put : (row : Chars × Chars) (rows t : Table) (name : Chars) → put row rows ≡ Some t → value_at name t ≡ cond (bytes_eq row.0 name) (Some row.1) (value_at name rows)
 value-put row [] t name e = ap (value_at name) (sym (some-same e)) ∙ value-front row [] name
@@ -138,13 +134,13 @@ stands-there row (first ∷ rows) name e s = go (byte_order row.0 first.0) refl 
   none-mapped (Some rest) f = absurd (cc f)
 
   go : (o : Ordering) → byte_order row.0 first.0 ≡ o → (put row rows ≡ None → bytes_eq row.0 name ≡ true → (iri : Chars) × (value_at name rows ≡ Some iri)) → (iri : Chars) × (value_at name (first ∷ rows) ≡ Some iri)
-  go Less o ih = let some : Some (row ∷ first ∷ rows) ≡ None = sym (put-less row first rows o) ∙ e in absurd (cc some)
+  go Less o ih = let some : Some (row ∷ first ∷ rows) ≡ None = sym (put-by row first rows o) ∙ e in absurd (cc some)
   go Equal o ih =
       let same : row.0 ≡ first.0 = (bytes_eq-Decides row.0 first.0).0 (sym (is_eq-byte_order row.0 first.0) ∙ ap is_eq o) in
       let here : bytes_eq first.0 name ≡ true = ap (λ (x : Chars). bytes_eq x name) (sym same) ∙ s in
       (first.1, found-here first rows name here)
   go Greater o ih =
-      let later = ih (none-mapped (put row rows) (sym (put-greater row first rows o) ∙ e)) s in
+      let later = ih (none-mapped (put row rows) (sym (put-by row first rows o) ∙ e)) s in
       by_test (bytes_eq first.0 name) (λ t. (first.1, found-here first rows name t)) (λ t. (later.0, found-later first rows name t ∙ later.1))
 
 -- a row whose name doesn't
@@ -161,8 +157,7 @@ not-there row (first ∷ rows) t name h e s =
     put-cases row first rows t e
     (λ less is. not-below row.0 name (first ∷ rows) (and_from _ _ (ap is_lt less) (before-all row.0 first.0 rows less parts.0)) s)
     (λ less rest f is.
-    let other : bytes_eq first.0 name ≡ false =
-    by_test (bytes_eq first.0 name) (λ t. let g : true ≡ false = sym s ∙ apart first.0 row.0 name less t in absurd (cc g)) (λ t. t) in
+    let other = false_from_ne_true (bytes_eq first.0 name) (λ t. false≢true (sym (apart first.0 row.0 name less t) ∙ s)) in
     found-later first rows name other ∙ not-there row rows rest name parts.1 f s)
 
 -- what one name means where a row is put in unless its name stands there

@@ -1,5 +1,5 @@
 -- Lists of rows.
-use Rattle.rx_terms.proofs.Common.{list_all, and_parts, take-append-drop, take-map, length-map, slice_get_within, get_or_from_slice_get, nat_tests, list_all-append, list_all_at, Chars, bytes_eq-Decides}
+use Rattle.rx_terms.proofs.Common.{by_test, eq-eqb, false_from_ne_true, and_parts, list_all, take-append-drop, take-map, length-map, slice_get_within, get_or_from_slice_get, nat_tests, list_all-append, list_all_at, Chars, bytes_eq-Decides}
 use Rattle.std.proofs.Common.{◌≡◌, ◌∙◌, ℕ, suc, ◌-◌, ◌<◌, ◌≤◌, ap, sym, refl, arith, Bool, true, false, Option, Some, None, List, [], ◌∷◌, ◌++◌, take, drop, length, get_or, slice_get, map, bytes_eq, true≢false, ◌==◌, ◌&&◌, take-take, if◌then◌else◌, take-suc}
 use Rattle.std.specs.Option.{option_or, option_map}
 use Rattle.rx_names.specs.declared.rows.Declaration.{Declaration}
@@ -17,10 +17,7 @@ sound-front n rows h =
     (and_parts _ _ whole).0
 
 pub sound-at : (rows : List Declaration) (i : ℕ) (x : Declaration) → list_all is_sound rows ≡ true → i < length rows → x ≡ get_or rows i x → is_sound x ≡ true
-sound-at rows i x h within at = ap is_sound at ∙ whole (is_sound (get_or rows i x)) refl where
-  whole : (b : Bool) → is_sound (get_or rows i x) ≡ b → is_sound (get_or rows i x) ≡ true
-  whole true t = t
-  whole false t = absurd (true≢false (sym h ∙ list_all_at is_sound rows i x within t))
+sound-at rows i x h within at = ap is_sound at ∙ by_test (is_sound (get_or rows i x)) (λ t. t) (λ t. absurd (true≢false (sym h ∙ list_all_at is_sound rows i x within t)))
 
 -- what rows say that stand behind others
 pub or-none : {A : Type 0} (o : Option A) → option_or o None ≡ o
@@ -120,22 +117,15 @@ module _ {A : Type 0} (f : Declaration → Option A) (n : ℕ) (others : (x : De
 
 -- which rows say nothing
 pub other-prefix : (name : Chars) (x : Declaration) → (row_number x == number_of name) ≡ false → prefix_in name x ≡ None
-other-prefix name (row.Prefix key iri) t = silent (bytes_eq key name) refl where
-  same : (m k : ℕ) → m ≡ k → (m == k) ≡ true
-  same m k e = grind (arith, nat_tests)
-
-  silent : (b : Bool) → bytes_eq key name ≡ b → (if b then Some iri else None) ≡ None
-  silent true e = absurd (true≢false (sym (same (number_of key) (number_of name) (ap number_of ((bytes_eq-Decides key name).0 e))) ∙ t))
-  silent false e = refl
-other-prefix name (row.Vocabulary value) t = refl
-other-prefix name (row.Language value) t = refl
+other-prefix name (row.Prefix key iri) t =
+    ap (λ (b : Bool). if b then Some iri else None)
+    (false_from_ne_true (bytes_eq key name) (λ e. true≢false (sym (eq-eqb (number_of key) (number_of name) (ap number_of ((bytes_eq-Decides key name).0 e))) ∙ t)))
+other-prefix name x t = refl
 
 pub other-vocabulary : (x : Declaration) → (row_number x == 0) ≡ false → vocabulary_in x ≡ None
-other-vocabulary (row.Prefix key iri) t = refl
 other-vocabulary (row.Vocabulary value) t = absurd (cc)
-other-vocabulary (row.Language value) t = refl
+other-vocabulary x t = refl
 
 pub other-language : (x : Declaration) → (row_number x == 1) ≡ false → language_in x ≡ None
-other-language (row.Prefix key iri) t = refl
-other-language (row.Vocabulary value) t = refl
 other-language (row.Language value) t = absurd (cc)
+other-language x t = refl

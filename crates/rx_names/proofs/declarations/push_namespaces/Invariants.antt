@@ -1,5 +1,6 @@
-use Rattle.rx_rdfa.proofs.Common.{◌≡◌, ◌++◌, take, xmlns_of}
+use Rattle.std.proofs.Common.{◌≡◌, ◌++◌, take}
 use Rattle.std.specs.List.{flat_map}
+use Rattle.rx_rdfa.specs.Names.{xmlns_of}
 use Rattle.rx_names.specs.Tags.{tag_of}
 use Rattle.rx_names.specs.Rows.{mapping_rows}
 use Rattle.rx_names.proofs.declarations.push_namespaces.Given as goal

@@ -1,4 +1,5 @@
-use Rattle.rx_rdfa.proofs.Common.{◌≡◌, ◌++◌, length, chars, tokens, seen_slice, pairs, pairs_after, Utf8, shadow}
+use Rattle.rx_terms.proofs.Common.{◌≡◌, ◌++◌, length, chars, tokens, seen_slice, Utf8, shadow}
+use Rattle.rx_rdfa.specs.Names.{pairs, pairs_after}
 use Rattle.rx_names.specs.Rows.{mapping_rows}
 use Rattle.rx_names.proofs.declarations.push_pairs.Given as goal
 

@@ -1,4 +1,4 @@
-use Rattle.rx_terms.proofs.Common.{◌≡◌, ap, sym, ◌∙◌, take, map, rules, take_at}
+use Rattle.rx_model.proofs.Common.{◌≡◌, ap, sym, ◌∙◌, take, map, rules, take_at}
 use Rattle.rx_names.specs.Numbers.{row_number}
 use Rattle.rx_names.proofs.kept_rows.push_numbers.Goals as goal
 

@@ -1,4 +1,5 @@
-use Rattle.rx_rdfa.proofs.Common.{◌≡◌, ◌∷◌, List, OnOk, subst, Tag}
+use Rattle.std.proofs.Common.{◌≡◌, ◌∷◌, List, OnOk, subst}
+use Rattle.rx_rdfa.specs.Tree.{Tag}
 use Rattle.rx_names.specs.Lines.{NamesStand, pushed}
 use Rattle.rx_names.proofs.names.Names.push.Goals as goal
 
