@@ -1,7 +1,7 @@
 -- The tokens of the sample page of every number nest as a page, of which no start tag is refused.
 use Rattle.rx_command.proofs.Common.{ℕ, zero, suc, ◌+◌, ◌≤◌, true, List, [], ◌∷◌, length, refl, sym, subst, codes, decimal, Html, Tree, end, element, Document, Page, nothing, no_more, passed, a_doctype, standard, SamplesArePages}
-use Rattle.rx_turtle.proofs.Common.{line_feed, start_of}
-use Rattle.rx_grammar.specs.Contents.{outside, in_html}
+use Rattle.rx_grammar.proofs.Common.{start_of, outside, in_html}
+use Rattle.rx_terms.specs.Ascii.{line_feed}
 use Rattle.rx_rdfa.specs.Standard as names
 use Rattle.rx_command.proofs.WrittenTokens.{Written, chars_in, item_of, items_at, letter, letters, start_token, end_token, page_written}
 use Rattle.rx_command.proofs.WrittenNodes.{Encloses, enclosed, Held, HeldAnywhere, held_none, held_letters, held_element, taken_all, element_taken}

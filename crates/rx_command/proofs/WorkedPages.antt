@@ -1,9 +1,10 @@
 -- Pages and faults of the worked rows, read byte by byte.
 use Rattle.rx_command.proofs.Common.{◌≡◌, ◌∙◌, ⊎_elim, inl, inr, ℕ, true, false, List, [], ◌∷◌, ◌++◌, refl, sym, ap, subst, None, Result, Ok, Err, codes, encode_utf8_all, append_assoc, append-nil, chars, all_scalars, Chars, Html, Page, Tree, end, Fault, Progress, page_read, page_on, nothing_read, spot_of, finds_only_faults, reads_only_pages, MeaningAt, for_form, for_meaning, Way, IsRefusal, Iri, Literal, Plain, Triple, set_of, spo, Renamed, written, graph_of, refusal_laws, Extraction, standard, rdfa_way, HasFirst, IsAccepted, HasText, Denotes, base_in, facts_in, fronts, none_read, small_page, small_text}
-use Rattle.rx_turtle.proofs.Common.{append_cancel_left, has_scheme, has_forbidden, ascii-chars, FaultAt, Mismatch, RelativeVocab, Among, written_denotes, quads, WritableTriple, WritableIri}
-use Rattle.rx_pages.proofs.Common.{told_trees, fault_stays, page_append}
+use Rattle.rx_turtle.proofs.Common.{append_cancel_left, has_scheme, has_forbidden, ascii-chars, Among, quads, WritableTriple, WritableIri}
+use Rattle.rx_pages.proofs.Common.{FaultAt, told_trees, fault_stays, page_append}
+use Rattle.rx_items.proofs.Common.{written_denotes, sees, nothing_seen}
+use Rattle.rx_grammar.specs.declared.faults.Kind.TheVariants.{Mismatch, RelativeVocab}
 use lib.Utf8.{encode}
-use Rattle.rx_nest.specs.Signs.{sees, nothing_seen}
 use Rattle.rx_nest.specs.RefusedTags.{ReaderRefuses}
 use Rattle.rx_nest.proofs.Firsts.{meaning_first}
 use Rattle.rx_nest.proofs.Meanings.{meant, read_as_meant}

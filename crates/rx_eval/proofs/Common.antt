@@ -24,20 +24,17 @@ pub use Rattle.rx_eval.specs.Standing.{AllWaitFor, Coming, EvaluatorStands, Kept
 pub use Rattle.rx_eval.specs.States.{Frame, State, Text, frame_seen, owner_seen, text_seen}
 pub use Rattle.rx_eval.specs.TextRules.{IsTextRule, resource_term, rule_by, text_literal, text_rule, value_with}
 pub use Rattle.rx_eval.specs.Triples.{ToCome, completed_by}
-pub use Rattle.rx_grammar.proofs.Common.{same-chars, slice_get}
 pub use Rattle.rx_lists.specs.Owners.{Owners, owned}
 pub use Rattle.rx_lists.specs.declared.lists.SlotId.{SlotId}
 pub use Rattle.rx_model.specs.Seen.{triples_seen}
-pub use Rattle.rx_names.specs.Lines.{Kept, NamesStand, declared_along, kept_of, no_tags, vocabulary_of}
-pub use Rattle.rx_names.specs.Tags.{tag_of}
 pub use Rattle.rx_rdfa.proofs.Calls.{at_after, at_begun, standings_of}
-pub use Rattle.rx_rdfa.proofs.Common.{Among, Below, Blank, Bnode, Bool, ByContent, ByDatatype, ByDatetime, ByResource, ByTimeText, ByTyped, Call, Chars, Context, Datatype, Empty, Err, Facts, First, IfOk, IfOk-weaker, IfSome, Inherited, Iri, Is, IsUtf8, LabelRef, Leave, List, Machine, Naming, Node, Nodes, None, Of, Ok, OnOk, Option, Owner, Path, Ref, Resources, Result, Rule, Some, Standing, StartTag, Tag, Term, Tree, Triple, [], add-one, after, after-append, and_parts, ap, append-nil, append_assoc, ap₂, arith, attribute, awaited, begun, below, by_test, bytes_eq, chars, cond, copied, declared_or, drop, element, encode_utf8_all, end, end_of, entries_by, entry, exact_bnodes, exact_texts, facts, false, filter_map, flat_map, get_or, hangs, has_link, if◌then◌else◌, inherited, is_relative, is_time, label_of, labels, length, length-append, length-map, linked, list_any, listed, map, map-append, model, nat_eq, nat_tests, node_seen, not, numbered, object_below, on_ok_weaker, only, option_and_then, option_map, option_or, option_to_list, own_owner, plain_literal, position, position_or_len, put, read, read_tag, refl, refusal, rename, rename_hanging, rename_inherited, rename_node, rename_term, resource_attribute, resource_named, resources, root_href, rule, rule_or, rules, same_bnode, same_node, seen_slice, spo, subst, subst₂, suc, sym, tags_of, take, term_seen, text, to_node, touched, true, true≢false, unless_empty, up, value, value_at, value_now, value_of_text, vocab, written, written_denotes, zero, ℕ, ◌&&◌, ◌++◌, ◌+◌, ◌-◌, ◌<◌, ◌^◌, ◌||◌, ◌∙◌, ◌∷◌, ◌≡◌, ◌≢◌, ◌≤◌, ◌⊎◌}
+pub use Rattle.rx_rdfa.proofs.Common.{Among, Below, Blank, Bnode, Bool, ByContent, ByDatatype, ByDatetime, ByResource, ByTimeText, ByTyped, Call, Chars, Context, Datatype, Empty, Err, Facts, First, IfOk, IfOk-weaker, IfSome, Inherited, Iri, Is, IsUtf8, LabelRef, Leave, List, Machine, Naming, Node, Nodes, None, Of, Ok, OnOk, Option, Owner, Path, Ref, Resources, Result, Rule, Some, Standing, Tag, Term, Triple, [], add-one, after, after-append, and_parts, ap, append-nil, append_assoc, ap₂, arith, attribute, awaited, begun, below, by_test, bytes_eq, chars, cond, copied, declared_or, drop, encode_utf8_all, end_of, entries_by, entry, exact_bnodes, exact_texts, facts, false, filter_map, flat_map, get_or, hangs, has_link, if◌then◌else◌, inherited, is_relative, is_time, label_of, labels, length, length-append, length-map, linked, list_any, listed, map, map-append, model, nat_eq, nat_tests, node_seen, not, numbered, object_below, on_ok_weaker, only, option_and_then, option_map, option_or, option_to_list, own_owner, plain_literal, position, position_or_len, put, read, read_tag, refl, refusal, rename, rename_hanging, rename_inherited, rename_node, rename_term, resource_attribute, resource_named, resources, root_href, rule, rule_or, rules, same_bnode, same_node, seen_slice, spo, subst, subst₂, suc, sym, tags_of, take, term_seen, to_node, touched, true, true≢false, unless_empty, up, value, value_at, value_now, value_of_text, vocab, written, written_denotes, zero, ℕ, ◌&&◌, ◌++◌, ◌+◌, ◌-◌, ◌<◌, ◌^◌, ◌||◌, ◌∙◌, ◌∷◌, ◌≡◌, ◌≢◌, ◌≤◌, ◌⊎◌}
 pub use Rattle.rx_rdfa.specs.Base.{base_by, base_of}
 pub use Rattle.rx_rdfa.specs.Calls.{Enter, Line, Read, calls, line_after, no_line}
 pub use Rattle.rx_rdfa.specs.Facts.{ElementKind, IriRef, RelativeRef, Time, with_facts}
 pub use Rattle.rx_rdfa.specs.Refusals.{Refusal}
 pub use Rattle.rx_rdfa.specs.Value.{ByText, gathers}
-pub use Rattle.rx_reader.proofs.Common.{Fault, Limits, Page, Syntax, both, codes, ◌==◌}
 pub use Rattle.rx_refs.specs.Resolve.{resolved}
+pub use Rattle.rx_terms.proofs.Common.{both, same-chars, slice_get, ◌==◌}
 pub use Rattle.std.proofs.Common.{is_some, nat_le, unwrap_or}
-pub use Rattle.std.specs.Prelude.{IsOk, is_none, nat_lt}
+pub use Rattle.std.specs.Prelude.{IsOk, codes, is_none, nat_lt}

@@ -1,7 +1,7 @@
 -- Entries of lists, in the code's own owners.
 use Rattle.std.specs.Prelude.{ℕ, List, [], ◌∷◌, Option, Some, None}
-use Rattle.rx_grammar.specs.Common.{Chars, Term}
-use Rattle.rx_rdfa.specs.Tables.{put}
+use Rattle.rx_rdfa.specs.Common.{Chars, put}
+use Rattle.rx_terms.specs.declared.triples.Term.{Term}
 use Rattle.rx_lists.specs.Owners.{Owners, changed, lists_of, open_at}
 use Rattle.rx_lists.specs.SlotIds.{slot_in}
 use Rattle.rx_lists.specs.declared.lists.Owner.{Owner}

@@ -1,6 +1,7 @@
 -- Who owns lists, and the lists: what contracts see of them.
 use Rattle.std.specs.Prelude.{ℕ, suc, Bool, true, false, List, [], ◌∷◌, ◌++◌, Option, Some, None, option_and_then, option_map, bytes_eq, map, slice_get, slice_set, slice_index_or, if◌then◌else◌}
-use Rattle.rx_grammar.specs.Common.{Chars, Term}
+use Rattle.rx_terms.specs.Text.{Chars}
+use Rattle.rx_terms.specs.declared.triples.Term.{Term}
 use Rattle.rx_terms.specs.declared.triples.Node.{Node}
 use Rattle.rx_rdfa.specs.Tables.{Table}
 

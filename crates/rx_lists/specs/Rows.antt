@@ -1,6 +1,7 @@
 -- Predicates and their slots, side by side.
 use Rattle.std.specs.Prelude.{◌≡◌, ℕ, suc, ◌<◌, Bool, true, false, List, [], ◌∷◌, Option, Some, None, length, bytes_eq, if◌then◌else◌}
-use Rattle.rx_grammar.specs.Common.{Chars, Term}
+use Rattle.rx_terms.specs.Text.{Chars}
+use Rattle.rx_terms.specs.declared.triples.Term.{Term}
 use Rattle.rx_lists.specs.Owners.{Slots}
 
 abbrev pub rows : List Chars → List (List (Option Term)) → Slots

@@ -1,5 +1,5 @@
 -- What the bytes of a context file give.
-use Rattle.rx_turtle.proofs.Common.{◌≡◌, ◌∙◌, ◌≤◌, ◌<◌, ℕ, nat_le, true, false, ◌&&◌, List, length, ap, arith, Result, Ok, Err, is_some, nat_tests, Context}
+use Rattle.rx_eval.proofs.Common.{◌≡◌, ◌∙◌, ◌≤◌, ◌<◌, ℕ, nat_le, true, false, ◌&&◌, List, length, ap, arith, Result, Ok, Err, is_some, nat_tests, Context}
 use Rattle.rx_names.specs.ContextFiles.{context_of}
 use Rattle.rx_names.specs.FileErrors.{FileGives}
 use Rattle.rx_names.specs.declared.context_files.ContextError.{ContextError}

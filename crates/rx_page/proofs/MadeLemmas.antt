@@ -1,8 +1,8 @@
 -- What is made of the list that a walk gives is what the rules have of the page.
-use Rattle.rx_eval.proofs.Common.{◌≡◌, ◌∙◌, ℕ, nat_eq, List, ap, subst, Chars, copied, numbered, triples_seen, Triple, same_bnode, model, Facts, Context, Nodes, written, exact_bnodes, Tree, Numbering, Makes, number_in, written_denotes}
+use Rattle.rx_eval.proofs.Common.{◌≡◌, ◌∙◌, ℕ, nat_eq, List, ap, subst, Chars, copied, numbered, triples_seen, Triple, same_bnode, model, Facts, Context, Nodes, written, exact_bnodes, Numbering, Makes, number_in, written_denotes}
+use Rattle.rx_rdfa.proofs.Common.{Tree, made}
 use Rattle.rx_terms.specs.declared.triples.Triple.{Triple as CodeTriple}
 use Rattle.rx_model.proofs.Names.{names_do_not_matter}
-use Rattle.rx_rdfa.specs.Made.{made}
 use Rattle.rx_walk.specs.Walks.{IsMade}
 use Rattle.rx_page.specs.Tasks.{base_in, facts_in, IsAccepted, HasText, Denotes}
 use Rattle.rx_job.specs.Words.{Extraction}

@@ -1,7 +1,7 @@
 -- The triples that RDFa's rules give are read as they are, and the quads of a list are its triples as they are read.
-use Rattle.rx_turtle.proofs.Common.{◌≡◌, ℕ, List, [], ◌∷◌, map, refl, sym, ap, subst, chars, Chars, Option, Term, Resource, Literal, Triple, Facts, written, quads, proper_triple, IsProper}
+use Rattle.rx_rdfa.proofs.Common.{◌≡◌, ℕ, List, [], ◌∷◌, map, refl, sym, ap, subst, Option, chars, Chars, Term, Resource, Literal, Triple, Facts, written, Nodes}
+use Rattle.rx_nquads.specs.Quads.{quads, proper_triple, IsProper}
 use Rattle.rx_rdfa.specs.Proper as rules
-use Rattle.rx_rdfa.specs.Tree.{Nodes}
 use Rattle.rx_rdfa.proofs.Proper.{literals_are_proper}
 use Rattle.rx_nquads.specs.Document.{Nquads}
 use Rattle.rx_notation.proofs.LayoutMeaning.{layout_denotes}

@@ -1,5 +1,6 @@
 -- What bytes and numbers ask for.
-use Rattle.rx_turtle.proofs.Common.{◌≡◌, ◌∙◌, ℕ, Bool, true, false, not, ◌&&◌, List, refl, sym, ap, subst, Option, Some, None, option_map, if◌then◌else◌, chars, IsUtf8, is_utf8, is_utf8-from_IsUtf8, IsUtf8-from_is_utf8, IsIri, has_scheme, has_forbidden, is_iri, Chars, Syntax}
+use Rattle.rx_turtle.proofs.Common.{◌≡◌, ◌∙◌, ℕ, Bool, true, false, not, ◌&&◌, List, refl, sym, ap, subst, Option, Some, None, if◌then◌else◌, option_map, chars, IsUtf8, is_utf8, is_utf8-from_IsUtf8, IsUtf8-from_is_utf8, IsIri, has_scheme, has_forbidden, is_iri, Chars}
+use Rattle.rx_chars.specs.declared.syntax.Syntax.{Syntax}
 use Rattle.rx_job.specs.Words.{itemizes}
 use Rattle.rx_session.specs.Requests.{first_in, syntax_in, output_in, iri_in, graph_in, extraction_with, extraction_in, items_with, items_in}
 use Rattle.rx_session.specs.Wants.{plain, extraction_seen}

@@ -1,5 +1,4 @@
 -- The names of Turtle's writer that most proofs here cite, passed on from one place. Declares nothing.
-pub use Rattle.rx_grammar.specs.declared.faults.Kind.TheVariants.{Mismatch, RelativeVocab}
 pub use Rattle.rx_graph.proofs.SetLemmas.{distinct_apart, distinct_grows, one_more, seen_more}
 pub use Rattle.rx_graph.specs.Resources.{AreDistinct, number_in, resource_seen}
 pub use Rattle.rx_model.proofs.Common.{Among_distinct, Among_of_distinct, exact_nodes, false_unless, kind_seen, node_seen, slice_get-map, take-append-drop, triple_seen, triples_seen, with_one}
@@ -13,8 +12,6 @@ pub use Rattle.rx_pieces.proofs.Adding.{adds_by, adds_failed, adds_nothing, adds
 pub use Rattle.rx_pieces.proofs.Sending.{bytes_by, end_stands, holds_text, whole_sent}
 pub use Rattle.rx_pieces.specs.Underway.{AddsBytes, Delivery, delivery}
 pub use Rattle.rx_pieces.specs.Writable.{Adds, WritableIri, WritableTriple}
-pub use Rattle.rx_rdfa.proofs.Common.{Context, Facts, written, written_denotes}
-pub use Rattle.rx_reader.proofs.Common.{FaultAt, Syntax, start_of}
 pub use Rattle.rx_shapes.proofs.Grouped.{same_back}
 pub use Rattle.rx_terms.proofs.Common.{Bor, Err, IsUtf8, IsUtf8-from_is_utf8, MatchOption, Ok, Result, all_scalars, and_right, append_cancel_left, ascii-chars, ascii-same, begins_with, drop, drop-map, drop_of_length-le, encodes-append, encodes-chars, encodes_same, get_or, get_or-take, has_forbidden, has_scheme, is_ascii, is_err, is_iri, is_ok, is_utf8, is_utf8-from_IsUtf8, length-append, length-map, nat_lt, on_ok_weaker, option_or, option_to_list, or_parts, or_right, replicate, rules, slice_get, slice_get-get_or, slice_get_read, slice_set, take, take-map, take_all, ◌-◌}
 pub use Rattle.rx_turtle.specs.Due.{After, AreCells, AreTokens, Comes, Due, IsSource, IsSubject, Object, Say, Says, all_said, behind, behind_due, bracket_due, cell_due, due_on, due_pieces, first_due, iri_due, item_due, line_due, lines_due, list_of, next_due, node_due, object_due, objects_due, one_due, one_said, opened, parted, rest_due, shapes_of, statement_due, tail_at, tail_due, task_seen, term_due, verb_due}

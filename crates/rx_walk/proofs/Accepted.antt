@@ -1,6 +1,7 @@
 -- What becomes of signs that are accepted.
-use Rattle.rx_eval.proofs.Common.{◌≡◌, ◌∙◌, false, List, [], ◌∷◌, ◌++◌, map, refl, sym, ap, subst, Option, Some, None, option_or, Chars, option_map, Fault, StartTag, Context, facts, Refusal, refusal, is_relative, Tag, Kept, no_tags, kind_of, vocabulary_from}
-use Rattle.rx_grammar.specs.declared.faults.Kind.{Kind}
+use Rattle.rx_eval.proofs.Common.{◌≡◌, ◌∙◌, false, List, [], ◌∷◌, ◌++◌, map, refl, sym, ap, subst, Option, Some, None, option_map, option_or, Chars, Context, facts, Refusal, refusal, is_relative, Tag, kind_of, vocabulary_from}
+use Rattle.rx_pages.proofs.Common.{Fault, StartTag, Kind}
+use Rattle.rx_names.specs.Lines.{Kept, no_tags}
 use Rattle.rx_names.specs.Lines as names
 use Rattle.rx_nest.specs.Signs.{Sign, begun, said}
 use Rattle.rx_base.specs.Lines.{line_on, line_of}

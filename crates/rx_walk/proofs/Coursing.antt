@@ -1,5 +1,7 @@
 -- What becomes of the course.
-use Rattle.rx_eval.proofs.Common.{◌≡◌, ◌∙◌, ℕ, suc, ◌+◌, ◌≤◌, ◌<◌, Bool, true, false, List, [], ◌∷◌, ◌++◌, map, length, refl, sym, ap, subst, Option, Some, None, arith, length-append, option_or, is_some, option_and_then, if◌then◌else◌, codes, Fault, StartTag, Context, vocab, declared_or, unless_empty, is_relative, Tag, attribute, Kept, kept_of, vocabulary_of, own_vocabulary, vocabulary_from, read_tag, facts, facts_seen}
+use Rattle.rx_eval.proofs.Common.{◌≡◌, ◌∙◌, ℕ, suc, ◌+◌, ◌≤◌, ◌<◌, Bool, true, false, List, [], ◌∷◌, ◌++◌, map, length, refl, sym, ap, subst, Option, Some, None, arith, length-append, is_some, option_or, option_and_then, if◌then◌else◌, codes, Context, vocab, declared_or, unless_empty, is_relative, Tag, attribute, own_vocabulary, vocabulary_from, read_tag, facts, facts_seen}
+use Rattle.rx_pages.proofs.Common.{Fault, StartTag}
+use Rattle.rx_names.specs.Lines.{Kept, kept_of, vocabulary_of}
 use Rattle.rx_terms.specs.Text.{Chars, trimmed}
 use Rattle.rx_names.specs.Lines as names
 use Rattle.rx_names.proofs.LineLemmas.{vocabulary-line}

@@ -1,6 +1,6 @@
 -- A walk's numbering only grows.
-use Rattle.rx_eval.proofs.Common.{◌≡◌, ◌∙◌, ℕ, List, [], ◌∷◌, ◌++◌, refl, sym, ap, subst, subst₂, Option, Some, append-nil, Chars, Syntax, Page, Tree, Limits, base_by, base_of, root_href, Call, calls, with_facts, begun, Numbering, begun_state, State, finish_makes, tags_of}
-use Rattle.rx_pages.proofs.Common.{start_of, Progress}
+use Rattle.rx_eval.proofs.Common.{◌≡◌, ◌∙◌, ℕ, List, [], ◌∷◌, ◌++◌, refl, sym, ap, subst, subst₂, Option, Some, append-nil, Chars, base_by, base_of, root_href, Call, calls, with_facts, begun, Numbering, begun_state, State, finish_makes, tags_of}
+use Rattle.rx_pages.proofs.Common.{Syntax, Page, Tree, Limits, start_of, Progress}
 use Rattle.rx_nest.specs.Signs.{Sign, Sight, sees, nothing_seen, signs_of}
 use Rattle.rx_nest.proofs.TagPlaces.{shows_more}
 use Rattle.rx_eval.specs.Standing as eval

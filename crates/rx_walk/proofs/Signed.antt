@@ -1,5 +1,6 @@
 -- Signs one after another, and those of a tree.
-use Rattle.rx_eval.proofs.Common.{◌≡◌, ◌∙◌, List, [], ◌∷◌, ◌++◌, map, refl, sym, ap, append_assoc, Option, None, Chars, Fault, Tree, end, element, text, Call, Enter, Read, Leave, calls, facts, with_facts, Context, Tag, read_tag, tags_of}
+use Rattle.rx_eval.proofs.Common.{◌≡◌, ◌∙◌, List, [], ◌∷◌, ◌++◌, map, refl, sym, ap, append_assoc, Option, None, Chars, Call, Enter, Read, Leave, calls, facts, with_facts, Context, Tag, read_tag, tags_of}
+use Rattle.rx_pages.proofs.Common.{Fault, Tree, end, element, text}
 use Rattle.rx_nest.specs.Signs.{Sign, said, finished, signs_of}
 use Rattle.rx_base.specs.Lines.{line_on, line_of}
 use Rattle.rx_walk.specs.CallsOf.{call_of, calls_of, singles, singly}

@@ -1,6 +1,6 @@
 -- What a walk knows of its page.
-use Rattle.rx_eval.proofs.Common.{◌≡◌, ◌∙◌, ℕ, false, List, [], ◌∷◌, ◌++◌, length, sym, ap, subst, Option, Some, Chars, triples_seen, StartTag, Tree, end, element, base_by, root_href, Call, Context, begun_state, State, tags_of}
-use Rattle.rx_grammar.specs.Items.{start_of}
+use Rattle.rx_eval.proofs.Common.{◌≡◌, ◌∙◌, ℕ, false, List, [], ◌∷◌, ◌++◌, length, sym, ap, subst, Option, Some, Chars, triples_seen, base_by, root_href, Call, Context, begun_state, State, tags_of}
+use Rattle.rx_pages.proofs.Common.{StartTag, Tree, end, element, start_of}
 use Rattle.rx_terms.specs.declared.triples.Triple.{Triple as CodeTriple}
 use Rattle.rx_nest.specs.Signs.{Sign, finished, signs_of}
 use Rattle.rx_nest.specs.Readings.{Whole}

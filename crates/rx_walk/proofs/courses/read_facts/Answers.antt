@@ -1,4 +1,5 @@
-use Rattle.rx_eval.proofs.Common.{◌≡◌, ◌∷◌, List, false, sym, subst, facts, is_relative, Tag, Kept, NamesStand, vocabulary_of, facts_seen}
+use Rattle.rx_eval.proofs.Common.{◌≡◌, ◌∷◌, List, false, sym, subst, facts, is_relative, Tag, facts_seen}
+use Rattle.rx_names.specs.Lines.{Kept, NamesStand, vocabulary_of}
 use Rattle.rx_eval.proofs.SeenLemmas.{if_ok}
 use Rattle.rx_walk.proofs.courses.read_facts.Goals as goal
 

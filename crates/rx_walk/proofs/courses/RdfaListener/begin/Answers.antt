@@ -1,4 +1,6 @@
-use Rattle.rx_eval.proofs.Common.{◌≡◌, ◌∙◌, ◌≤◌, ◌+◌, [], ◌∷◌, false, length, refl, sym, ap, subst, arith, Enter, is_relative, Tag, Kept, NamesStand, tag_of, own_vocabulary}
+use Rattle.rx_eval.proofs.Common.{◌≡◌, ◌∙◌, ◌≤◌, ◌+◌, [], ◌∷◌, false, length, refl, sym, ap, subst, arith, Enter, is_relative, Tag, own_vocabulary}
+use Rattle.rx_names.specs.Lines.{Kept, NamesStand}
+use Rattle.rx_names.specs.Tags.{tag_of}
 use Rattle.rx_nest.specs.Nests.{tag_shown}
 use Rattle.rx_nest.specs.Signs.{begun}
 use Rattle.rx_base.specs.Lines.{line_of}

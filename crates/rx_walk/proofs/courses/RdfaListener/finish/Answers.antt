@@ -1,4 +1,5 @@
-use Rattle.rx_eval.proofs.Common.{◌-◌, [], refl, ap, arith, Kept}
+use Rattle.std.proofs.Common.{◌-◌, [], refl, ap, arith}
+use Rattle.rx_names.specs.Lines.{Kept}
 use Rattle.rx_nest.specs.Signs.{finished}
 use Rattle.rx_base.specs.Lines.{line_of}
 use Rattle.rx_walk.proofs.Fronting.{front_left}

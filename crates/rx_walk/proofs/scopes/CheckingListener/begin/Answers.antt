@@ -1,4 +1,6 @@
-use Rattle.rx_eval.proofs.Common.{◌≡◌, ◌∙◌, ◌∷◌, List, [], false, sym, ap, subst, Tag, Kept, NamesStand, tag_of}
+use Rattle.rx_eval.proofs.Common.{◌≡◌, ◌∙◌, ◌∷◌, List, [], false, sym, ap, subst, Tag}
+use Rattle.rx_names.specs.Lines.{Kept, NamesStand}
+use Rattle.rx_names.specs.Tags.{tag_of}
 use Rattle.rx_nest.specs.Nests.{tag_shown}
 use Rattle.rx_nest.specs.Signs.{begun}
 use Rattle.rx_base.specs.Lines.{line_of}

@@ -1,4 +1,5 @@
-use Rattle.rx_eval.proofs.Common.{[], ◌∷◌, refl, sym, subst, on_ok_weaker, Enter, facts_seen, tag_of}
+use Rattle.rx_eval.proofs.Common.{[], ◌∷◌, refl, sym, subst, on_ok_weaker, Enter, facts_seen}
+use Rattle.rx_names.specs.Tags.{tag_of}
 use Rattle.rx_base.specs.Seekings.{seek_begun}
 use Rattle.rx_walk.specs.Stages.{MayTake, Tells}
 use Rattle.rx_walk.specs.declared.stages.Stage.TheVariants as stage
