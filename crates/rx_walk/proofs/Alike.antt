@@ -1,6 +1,12 @@
 -- In which pieces text comes makes no difference.
-use Rattle.rx_eval.proofs.Common.{◌≡◌, ◌∙◌, Bool, true, false, List, [], ◌∷◌, ◌++◌, map, refl, sym, ap, subst, append_assoc, append-nil, if◌then◌else◌, Chars, Bnode, Owner, model, Machine, read, after-append, gathers_some, read_text, State}
+use Rattle.rx_terms.proofs.Common.{◌≡◌, ◌∙◌, Bool, true, false, List, [], ◌∷◌, ◌++◌, map, refl, sym, ap, subst, append_assoc, append-nil, if◌then◌else◌, Chars}
+use Rattle.rx_rdfa.specs.Blanks.{Bnode, Owner, model}
 use Rattle.rx_rdfa.specs.Calls.{Call, Enter, Read, Leave, step, after}
+use Rattle.rx_rdfa.specs.Machine.{Machine, read}
+use Rattle.rx_rdfa.proofs.Calls.{after-append}
+use Rattle.rx_eval.specs.Keeping.{gathers_some}
+use Rattle.rx_eval.specs.Opened.{read_text}
+use Rattle.rx_eval.specs.States.{State}
 use Rattle.rx_walk.specs.CallsOf.{singles, singly}
 use Rattle.rx_walk.specs.Leading.{Leads, PiecesLeadAlike}
 
@@ -58,21 +64,14 @@ singles_lead [] list old new h = subst (λ s. Leads list s new) (sym (reads_none
 singles_lead (c ∷ chars) list old new h =
     subst (λ s. Leads list s new) (ap (read_text chars) h.1 ∙ reads_both (c ∷ []) chars old) (singles_lead chars list h.0 new h.2)
 
-alike : (list : List Call) (old new : State) → Leads (singly list) old new → Leads list old new
-alike [] old new h = h
-alike (Enter facts ∷ list) old new h = (h.0, h.1, alike list h.0 new h.2)
-alike (Read chars ∷ list) old new h = (read_text chars old, refl, alike list (read_text chars old) new (singles_lead chars (singly list) old new h))
-alike (Leave ∷ list) old new h = (h.0, h.1, alike list h.0 new h.2)
-
-alike_back : (list : List Call) (old new : State) → Leads list old new → Leads (singly list) old new
-alike_back [] old new h = h
-alike_back (Enter facts ∷ list) old new h = (h.0, h.1, alike_back list h.0 new h.2)
-alike_back (Read chars ∷ list) old new h =
-    leads_singles chars (singly list) old new (subst (λ s. Leads (singly list) s new) h.1 (alike_back list h.0 new h.2))
-alike_back (Leave ∷ list) old new h = (h.0, h.1, alike_back list h.0 new h.2)
-
 pub pieces_lead : PiecesLeadAlike
-pieces_lead list old new = (alike list old new, alike_back list old new)
+pieces_lead [] old new = (λ h. h, λ h. h)
+pieces_lead (Enter facts ∷ list) old new = (λ h. (h.0, h.1, (pieces_lead list h.0 new).0 h.2), λ h. (h.0, h.1, (pieces_lead list h.0 new).1 h.2))
+pieces_lead (Read chars ∷ list) old new = (
+  λ h. (read_text chars old, refl, (pieces_lead list (read_text chars old) new).0 (singles_lead chars (singly list) old new h)),
+  λ h. leads_singles chars (singly list) old new (subst (λ s. Leads (singly list) s new) h.1 ((pieces_lead list h.0 new).1 h.2)),
+)
+pieces_lead (Leave ∷ list) old new = (λ h. (h.0, h.1, (pieces_lead list h.0 new).0 h.2), λ h. (h.0, h.1, (pieces_lead list h.0 new).1 h.2))
 
 -- one after another
 pub leads_then : (xs ys : List Call) (a b c : State) → Leads xs a b → Leads ys b c → Leads (xs ++ ys) a c

@@ -1,20 +1,29 @@
 -- What becomes of the course.
-use Rattle.rx_eval.proofs.Common.{◌≡◌, ◌∙◌, ℕ, suc, ◌+◌, ◌≤◌, ◌<◌, Bool, true, false, List, [], ◌∷◌, ◌++◌, map, length, refl, sym, ap, subst, Option, Some, None, arith, length-append, is_some, option_or, option_and_then, if◌then◌else◌, codes, Context, vocab, declared_or, unless_empty, is_relative, Tag, attribute, own_vocabulary, vocabulary_from, read_tag, facts, facts_seen}
-use Rattle.rx_pages.proofs.Common.{Fault, StartTag}
-use Rattle.rx_names.specs.Lines.{Kept, kept_of, vocabulary_of}
-use Rattle.rx_terms.specs.Text.{Chars, trimmed}
+use Rattle.rx_terms.proofs.Common.{◌≡◌, ◌∙◌, ℕ, suc, ◌+◌, ◌≤◌, ◌<◌, Bool, true, false, List, [], ◌∷◌, ◌++◌, map, length, refl, sym, ap, subst, subst₂, Option, Some, None, arith, length-append, option_or, is_some, option_and_then, if◌then◌else◌, Chars, trimmed}
+use Rattle.std.specs.Prelude.{codes}
+use Rattle.rx_grammar.specs.declared.faults.Fault.{Fault}
+use Rattle.rx_grammar.proofs.Common.{StartTag}
+use Rattle.rx_rdfa.specs.Names.{Context, vocab, declared_or, unless_empty}
+use Rattle.rx_rdfa.specs.Refusals.{is_relative}
+use Rattle.rx_rdfa.specs.Tree.{Tag, attribute}
 use Rattle.rx_names.specs.Lines as names
+use Rattle.rx_names.specs.Lines.{Kept, kept_of, vocabulary_of}
 use Rattle.rx_names.proofs.LineLemmas.{vocabulary-line}
+use Rattle.rx_curie.specs.Given.{own_vocabulary, vocabulary_from}
 use Rattle.rx_nest.specs.Signs.{Sign, begun, said}
 use Rattle.rx_nest.specs.Fronts.{IsFront}
 use Rattle.rx_walk.specs.declared.courses.RdfaListener.{RdfaListener}
 use Rattle.rx_walk.specs.declared.origins.Origin.{Origin}
 use Rattle.rx_base.specs.Lines.{around, line_on, line_of}
+use Rattle.rx_rdfa.specs.Pages.{read_tag}
 use Rattle.rx_walk.specs.CallsOf.{call_of, calls_of, singles}
-use Rattle.rx_base.specs.Seekings.{seek, sought}
+use Rattle.rx_base.specs.Seekings.{Seeking, seek, sought}
+use Rattle.rx_rdfa.specs.Calls.{Call}
 use Rattle.rx_walk.specs.Refused.{refused_at, refused_in}
 use Rattle.rx_walk.specs.Stages.{Staged, MayTake, MayBe, Tells}
+use Rattle.rx_rdfa.specs.Facts.{facts}
 use Rattle.rx_curie.specs.declared.facts.Facts.{Facts as CodeFacts}
+use Rattle.rx_curie.specs.Seen.{facts_seen}
 use Rattle.rx_walk.specs.Courses.{AllAbsolute, Runs, AreFacts}
 use Rattle.rx_walk.proofs.Signed.{calls_append, refused_append, said_calls, said_refused}
 use Rattle.rx_base.proofs.Lines.{line_append, seeks_append, said_line, said_seeks}
@@ -65,18 +74,16 @@ takes_one course context address levels signs sign r f =
     }
 
 module _ (context : Context) (address : Chars) (levels : ℕ) (old new : RdfaListener) (signs : List Sign) (r : Runs context address levels old signs) where
-  -- one more sign
-  pub runs_more : (sign : Sign) → IsFront levels (signs ++ sign ∷ []) → names.NamesStand new.names (line_on (line_of [] signs) sign) → new.names.context ≡ old.names.context → new.origin ≡ old.origin
-      → new.count ≡ length (line_on (line_of [] signs) sign) → AllAbsolute (line_on (line_of [] signs) sign) → refused_at context (line_of [] signs) sign ≡ None
-      → Tells old.origin (λ s. seek old.count s sign) (call_of context (line_of [] signs) sign ∷ []) old.stage new.stage → Runs context address levels new (signs ++ sign ∷ [])
-  runs_more sign f n c o k a e t =
-      let line : line_of [] (signs ++ sign ∷ []) ≡ line_on (line_of [] signs) sign = line_append [] signs (sign ∷ []) in
+  -- some signs more, with the calls for them
+  runs_on : (more : List Sign) (list : List Call) (turn : Seeking → Seeking) → calls_of context (line_of [] signs) more ≡ list → turn (sought signs) ≡ sought (signs ++ more)
+      → MayBe levels (calls_of context [] (signs ++ more)) → names.NamesStand new.names (line_of (line_of [] signs) more) → new.names.context ≡ old.names.context → new.origin ≡ old.origin
+      → new.count ≡ length (line_of (line_of [] signs) more) → AllAbsolute (line_of (line_of [] signs) more) → refused_in context (line_of [] signs) more ≡ None
+      → Tells old.origin turn list old.stage new.stage → Runs context address levels new (signs ++ more)
+  runs_on more list turn told turned may n c o k a e t =
+      let line : line_of [] (signs ++ more) ≡ line_of (line_of [] signs) more = line_append [] signs more in
       let here : Staged old.origin.address old.origin.levels (sought signs) (calls_of context [] signs) old.stage =
-      subst (λ x. Staged x old.origin.levels (sought signs) (calls_of context [] signs) old.stage) (sym r.address_is)
-      (subst (λ x. Staged address x (sought signs) (calls_of context [] signs) old.stage) (sym r.levels_are) r.staged) in
-      let next = t.staged (sought signs) (calls_of context [] signs) here in
-      let turned : seek old.count (sought signs) sign ≡ sought (signs ++ sign ∷ []) = ap (λ x. seek x (sought signs) sign) r.count_is ∙ sym (seeks_append [] (sought []) signs (sign ∷ [])) in
-      let told : calls_of context [] signs ++ call_of context (line_of [] signs) sign ∷ [] ≡ calls_of context [] (signs ++ sign ∷ []) = sym (calls_append context [] signs (sign ∷ [])) in
+      subst₂ (λ x l. Staged x l (sought signs) (calls_of context [] signs) old.stage) (sym r.address_is) (sym r.levels_are) r.staged in
+      let calls : calls_of context [] signs ++ list ≡ calls_of context [] (signs ++ more) = ap (λ l. calls_of context [] signs ++ l) (sym told) ∙ sym (calls_append context [] signs more) in
       record {
         names_are = subst (λ l. names.NamesStand new.names l) (sym line) n;
         context_is = c ∙ r.context_is;
@@ -84,42 +91,32 @@ module _ (context : Context) (address : Chars) (levels : ℕ) (old new : RdfaLis
         levels_are = ap (λ (x : Origin). x.levels) o ∙ r.levels_are;
         count_is = k ∙ ap length (sym line);
         absolute = subst AllAbsolute (sym line) a;
-        may = may_more context levels signs r.may sign f;
-        accepted = refused_append context [] signs (sign ∷ []) ∙ ap (λ x. option_or x (refused_in context (line_of [] signs) (sign ∷ []))) r.accepted ∙ (or_none (refused_at context (line_of [] signs) sign) ∙ e);
+        may = may;
+        accepted = refused_append context [] signs more ∙ ap (λ x. option_or x (refused_in context (line_of [] signs) more)) r.accepted ∙ e;
         staged =
-            subst (λ x. Staged address levels x (calls_of context [] (signs ++ sign ∷ [])) new.stage) turned
-            (subst (λ l. Staged address levels (seek old.count (sought signs) sign) l new.stage) told
-            (subst (λ x. Staged address x (seek old.count (sought signs) sign) (calls_of context [] signs ++ call_of context (line_of [] signs) sign ∷ []) new.stage) r.levels_are
-            (subst (λ x. Staged x old.origin.levels (seek old.count (sought signs) sign) (calls_of context [] signs ++ call_of context (line_of [] signs) sign ∷ []) new.stage) r.address_is next)));
+            subst₂ (λ x l. Staged address levels x l new.stage) turned calls
+            (subst₂ (λ x l. Staged x l (turn (sought signs)) (calls_of context [] signs ++ list) new.stage) r.address_is r.levels_are
+            (t.staged (sought signs) (calls_of context [] signs) here));
       }
+
+  -- one more sign
+  pub runs_more : (sign : Sign) → IsFront levels (signs ++ sign ∷ []) → names.NamesStand new.names (line_on (line_of [] signs) sign) → new.names.context ≡ old.names.context → new.origin ≡ old.origin
+      → new.count ≡ length (line_on (line_of [] signs) sign) → AllAbsolute (line_on (line_of [] signs) sign) → refused_at context (line_of [] signs) sign ≡ None
+      → Tells old.origin (λ s. seek old.count s sign) (call_of context (line_of [] signs) sign ∷ []) old.stage new.stage → Runs context address levels new (signs ++ sign ∷ [])
+  runs_more sign f n c o k a e t = runs_on (sign ∷ []) (call_of context (line_of [] signs) sign ∷ []) (λ s. seek old.count s sign) refl
+      (ap (λ x. seek x (sought signs) sign) r.count_is ∙ sym (seeks_append [] (sought []) signs (sign ∷ [])))
+      (may_more context levels signs r.may sign f) n c o k a (or_none (refused_at context (line_of [] signs) sign) ∙ e) t
 
   -- text
   pub runs_said : (chars : Chars) → IsFront levels (signs ++ map said chars) → new.names ≡ old.names → new.origin ≡ old.origin → new.count ≡ old.count
       → Tells old.origin (λ s. s) (singles chars) old.stage new.stage → Runs context address levels new (signs ++ map said chars)
   runs_said chars f n o k t =
-      let line : line_of [] (signs ++ map said chars) ≡ line_of [] signs = line_append [] signs (map said chars) ∙ said_line (line_of [] signs) chars in
-      let here : Staged old.origin.address old.origin.levels (sought signs) (calls_of context [] signs) old.stage =
-      subst (λ x. Staged x old.origin.levels (sought signs) (calls_of context [] signs) old.stage) (sym r.address_is)
-      (subst (λ x. Staged address x (sought signs) (calls_of context [] signs) old.stage) (sym r.levels_are) r.staged) in
-      let next = t.staged (sought signs) (calls_of context [] signs) here in
-      let turned : sought signs ≡ sought (signs ++ map said chars) = sym (seeks_append [] (sought []) signs (map said chars) ∙ said_seeks (line_of [] signs) (sought signs) chars) in
-      let told : calls_of context [] signs ++ singles chars ≡ calls_of context [] (signs ++ map said chars) =
-      sym (calls_append context [] signs (map said chars) ∙ ap (λ l. calls_of context [] signs ++ l) (said_calls context (line_of [] signs) chars)) in
-      record {
-        names_are = subst (λ l. names.NamesStand new.names l) (sym line) (subst (λ x. names.NamesStand x (line_of [] signs)) (sym n) r.names_are);
-        context_is = ap (λ (x : Kept). x.context) n ∙ r.context_is;
-        address_is = ap (λ (x : Origin). x.address) o ∙ r.address_is;
-        levels_are = ap (λ (x : Origin). x.levels) o ∙ r.levels_are;
-        count_is = k ∙ (r.count_is ∙ ap length (sym line));
-        absolute = subst AllAbsolute (sym line) r.absolute;
-        may = may_say context levels signs r.may chars f;
-        accepted = refused_append context [] signs (map said chars) ∙ ap (λ x. option_or x (refused_in context (line_of [] signs) (map said chars))) r.accepted ∙ said_refused context (line_of [] signs) chars;
-        staged =
-            subst (λ x. Staged address levels x (calls_of context [] (signs ++ map said chars)) new.stage) turned
-            (subst (λ l. Staged address levels (sought signs) l new.stage) told
-            (subst (λ x. Staged address x (sought signs) (calls_of context [] signs ++ singles chars) new.stage) r.levels_are
-            (subst (λ x. Staged x old.origin.levels (sought signs) (calls_of context [] signs ++ singles chars) new.stage) r.address_is next)));
-      }
+      let line : line_of [] signs ≡ line_of (line_of [] signs) (map said chars) = sym (said_line (line_of [] signs) chars) in
+      runs_on (map said chars) (singles chars) (λ s. s) (said_calls context (line_of [] signs) chars)
+      (sym (seeks_append [] (sought []) signs (map said chars) ∙ said_seeks (line_of [] signs) (sought signs) chars))
+      (may_say context levels signs r.may chars f)
+      (subst₂ (λ x l. names.NamesStand x l) (sym n) line r.names_are) (ap (λ (x : Kept). x.context) n) o (k ∙ r.count_is ∙ ap length line)
+      (subst AllAbsolute line r.absolute) (said_refused context (line_of [] signs) chars) t
 
   -- a start tag that is refused
   pub refused_next : (t : StartTag) (fault : Fault) → refused_at context (line_of [] signs) (begun t) ≡ Some fault → refused_in context [] (signs ++ begun t ∷ []) ≡ Some fault

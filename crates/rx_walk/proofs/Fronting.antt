@@ -1,12 +1,15 @@
 -- What the signs of one element say of the calls for them.
-use Rattle.rx_rdfa.proofs.Common.{◌≡◌, ◌∙◌, ℕ, zero, suc, ◌≤◌, ◌<◌, Bool, true, false, List, [], ◌∷◌, ◌++◌, map, length, refl, sym, ap, subst, Option, Some, None, arith, nat_le, nat_tests, if◌then◌else◌, Chars, by_test, Context, Tag, StartTag}
+use Rattle.rx_terms.proofs.Common.{◌≡◌, ◌∙◌, ℕ, zero, suc, ◌≤◌, ◌<◌, Bool, true, false, List, [], ◌∷◌, ◌++◌, map, length, refl, sym, ap, subst, Option, Some, None, arith, nat_tests, nat_le, if◌then◌else◌, Chars}
+use Rattle.rx_rdfa.specs.Names.{Context}
+use Rattle.rx_rdfa.specs.Tree.{Tag}
+use Rattle.rx_grammar.proofs.Common.{StartTag}
 use Rattle.rx_nest.specs.Signs.{Sign, begun, said, finished}
 use Rattle.rx_nest.specs.Fronts.{Front, unbegun, inside, over, levels_of, goes, goes_on, IsFront}
 use Rattle.rx_base.specs.Lines.{line_on, line_of}
 use Rattle.rx_walk.specs.CallsOf.{call_of, calls_of, singles}
 use Rattle.rx_walk.specs.Leading.{moves, within, move_all}
 use Rattle.rx_walk.specs.Stages.{MayBe}
-use Rattle.rx_walk.proofs.Moving.{none_moves, move_append}
+use Rattle.rx_walk.proofs.Moving.{none_moves, move_append, within_some}
 use Rattle.rx_walk.proofs.Signed.{calls_append, said_calls}
 
 none_goes : (signs : List Sign) → goes_on None signs ≡ None
@@ -20,15 +23,10 @@ goes_append (Some front) (x ∷ xs) ys = goes_append (goes front x) xs ys
 
 goes_same : (context : Context) (line : List Tag) (front : Front) (sign : Sign) → moves front (call_of context line sign) ≡ goes front sign
 goes_same context line unbegun (begun t) = refl
-goes_same context line unbegun (said c) = refl
-goes_same context line unbegun finished = refl
-goes_same context line (inside n) (begun t) = refl
-goes_same context line (inside n) (said c) = refl
 goes_same context line (inside zero) finished = refl
-goes_same context line (inside (suc n)) finished = refl
+goes_same context line (inside (suc n)) (said c) = refl
 goes_same context line over (begun t) = refl
-goes_same context line over (said c) = refl
-goes_same context line over finished = refl
+goes_same _ _ _ _ = refl
 
 -- moves within the levels are moves
 same_front : (context : Context) (levels : ℕ) (line : List Tag) (signs : List Sign) (front : Option Front) (last : Front)
@@ -41,29 +39,25 @@ same_front context levels line (sign ∷ signs) (Some front) last e =
     by : ((x : Option Front) → move_all levels x (calls_of context (line_on line sign) signs) ≡ Some last → goes_on x signs ≡ Some last)
         → (x : Option Front) → moves front (call_of context line sign) ≡ x → goes_on x signs ≡ Some last
     by ih None k = absurd (let w : None ≡ Some last = sym (none_moves levels (calls_of context (line_on line sign) signs)) ∙ (sym (ap (λ y. move_all levels (within levels y) (calls_of context (line_on line sign) signs)) k) ∙ e) in cc)
-    by ih (Some next) k =
-        by_test (nat_le (levels_of next) levels)
-        (λ t. ih (Some next) (sym (ap (λ b. move_all levels (if b then Some next else None) (calls_of context (line_on line sign) signs)) t) ∙ (sym (ap (λ y. move_all levels (within levels y) (calls_of context (line_on line sign) signs)) k) ∙ e)))
-        (λ f. absurd (let w : None ≡ Some last = sym (none_moves levels (calls_of context (line_on line sign) signs)) ∙ (sym (ap (λ b. move_all levels (if b then Some next else None) (calls_of context (line_on line sign) signs)) f) ∙ (sym (ap (λ y. move_all levels (within levels y) (calls_of context (line_on line sign) signs)) k) ∙ e)) in cc))
+    by ih (Some next) k = ih (Some next) (within_some levels next (calls_of context (line_on line sign) signs) last (sym (ap (λ y. move_all levels (within levels y) (calls_of context (line_on line sign) signs)) k) ∙ e)).1
 
--- as many elements are open as the line has
-counts : (signs : List Sign) (line : List Tag) (front last : Front) → levels_of front ≡ length line → goes_on (Some front) signs ≡ Some last → levels_of last ≡ length (line_of line signs)
-counts [] line front last c e = let is : front ≡ last = cc in ap levels_of (sym is) ∙ c
-counts (begun t ∷ signs) line unbegun last c e = counts signs (line_on line (begun t)) (inside 0) last (ap suc c) e
-counts (begun t ∷ signs) line (inside n) last c e = counts signs (line_on line (begun t)) (inside (suc n)) last (ap suc c) e
-counts (begun t ∷ signs) line over last c e = absurd (let w : None ≡ Some last = sym (none_goes signs) ∙ e in cc)
-counts (said x ∷ signs) line unbegun last c e = absurd (let w : None ≡ Some last = sym (none_goes signs) ∙ e in cc)
-counts (said x ∷ signs) line (inside n) last c e = counts signs line (inside n) last c e
-counts (said x ∷ signs) line over last c e = absurd (let w : None ≡ Some last = sym (none_goes signs) ∙ e in cc)
-counts (finished ∷ signs) line unbegun last c e = absurd (let w : None ≡ Some last = sym (none_goes signs) ∙ e in cc)
-counts (finished ∷ signs) [] (inside zero) last c e = absurd (cc)
-counts (finished ∷ signs) [] (inside (suc n)) last c e = absurd (cc)
-counts (finished ∷ signs) (t ∷ line) (inside zero) last c e = counts signs line over last (omega (arith, c)) e
-counts (finished ∷ signs) (t ∷ line) (inside (suc n)) last c e = counts signs line (inside n) last (omega (arith, c)) e
-counts (finished ∷ signs) line over last c e = absurd (let w : None ≡ Some last = sym (none_goes signs) ∙ e in cc)
+abbrev has_begun : Front → Bool
+has_begun unbegun = false
+has_begun _ = true
+
+-- as many elements are open as the line has, and what has begun stays so
+walked : (signs : List Sign) (line : List Tag) (front last : Front) → levels_of front ≡ length line → goes_on (Some front) signs ≡ Some last → (levels_of last ≡ length (line_of line signs)) × (has_begun front ≡ true → has_begun last ≡ true)
+walked [] line front last c e = let is : front ≡ last = cc in (ap levels_of (sym is) ∙ c, subst (λ f. has_begun f ≡ true) is)
+walked (begun t ∷ signs) line unbegun last c e = let w = walked signs (line_on line (begun t)) (inside 0) last (ap suc c) e in (w.0, λ b. w.1 refl)
+walked (begun t ∷ signs) line (inside n) last c e = let w = walked signs (line_on line (begun t)) (inside (suc n)) last (ap suc c) e in (w.0, λ b. w.1 refl)
+walked (said x ∷ signs) line (inside n) last c e = walked signs line (inside n) last c e
+walked (finished ∷ signs) (t ∷ line) (inside zero) last c e = let w = walked signs line over last (omega (arith, c)) e in (w.0, λ b. w.1 refl)
+walked (finished ∷ signs) (t ∷ line) (inside (suc n)) last c e = let w = walked signs line (inside n) last (omega (arith, c)) e in (w.0, λ b. w.1 refl)
+walked (finished ∷ signs) [] (inside n) last c e = absurd (cc)
+walked (x ∷ signs) line front last c e = absurd (let w : None ≡ Some last = sym (none_goes signs) ∙ e in cc)
 
 pub front_counts : (levels : ℕ) (signs : List Sign) → IsFront levels signs → length (line_of [] signs) ≤ levels
-front_counts levels signs f = let c = counts signs [] unbegun f.front refl f.leads in omega (arith, c, f.level)
+front_counts levels signs f = let c = (walked signs [] unbegun f.front refl f.leads).0 in omega (arith, c, f.level)
 
 -- one sign more
 one_more : (levels : ℕ) (next last : Front) → goes_on (Some next) [] ≡ Some last → levels_of last ≤ levels → within levels (Some next) ≡ Some last
@@ -138,32 +132,15 @@ front_left levels signs f = by (goes_on (Some unbegun) signs) refl (sym (goes_ap
 
     by : (x : Option Front) → goes_on (Some unbegun) signs ≡ x → goes_on x (finished ∷ []) ≡ Some f.front → 0 < length (line_of [] signs)
     by None k e = absurd (cc)
-    by (Some m) k e = on m (counts signs [] unbegun m refl k) e
+    by (Some m) k e = on m (walked signs [] unbegun m refl k).0 e
 
 -- as many elements are open as the line has, where the calls may be
 pub may_counts : (context : Context) (levels : ℕ) (signs : List Sign) (m : MayBe levels (calls_of context [] signs)) → levels_of m.front ≡ length (line_of [] signs)
-may_counts context levels signs m = counts signs [] unbegun m.front refl (reached context levels signs m)
-
-abbrev has_begun : Front → Bool
-has_begun unbegun = false
-has_begun _ = true
-
-still_begun : (signs : List Sign) (front last : Front) → has_begun front ≡ true → goes_on (Some front) signs ≡ Some last → has_begun last ≡ true
-still_begun [] front last b e = let is : front ≡ last = cc in subst (λ f. has_begun f ≡ true) is b
-still_begun (begun t ∷ signs) unbegun last b e = absurd (cc)
-still_begun (begun t ∷ signs) (inside n) last b e = still_begun signs (inside (suc n)) last refl e
-still_begun (begun t ∷ signs) over last b e = absurd (let w : None ≡ Some last = sym (none_goes signs) ∙ e in cc)
-still_begun (said x ∷ signs) unbegun last b e = absurd (cc)
-still_begun (said x ∷ signs) (inside n) last b e = still_begun signs (inside n) last refl e
-still_begun (said x ∷ signs) over last b e = absurd (let w : None ≡ Some last = sym (none_goes signs) ∙ e in cc)
-still_begun (finished ∷ signs) unbegun last b e = absurd (cc)
-still_begun (finished ∷ signs) (inside zero) last b e = still_begun signs over last refl e
-still_begun (finished ∷ signs) (inside (suc n)) last b e = still_begun signs (inside n) last refl e
-still_begun (finished ∷ signs) over last b e = absurd (let w : None ≡ Some last = sym (none_goes signs) ∙ e in cc)
+may_counts context levels signs m = (walked signs [] unbegun m.front refl (reached context levels signs m)).0
 
 -- where all elements have ended, the root has
 pub root_ended : (context : Context) (levels : ℕ) (t : StartTag) (signs : List Sign) (m : MayBe levels (calls_of context [] (begun t ∷ signs))) → length (line_of [] (begun t ∷ signs)) ≡ 0 → m.front ≡ over
-root_ended context levels t signs m none = by m.front (may_counts context levels (begun t ∷ signs) m) (still_begun signs (inside 0) m.front refl (reached context levels (begun t ∷ signs) m))
+root_ended context levels t signs m none = by m.front (may_counts context levels (begun t ∷ signs) m) ((walked signs (line_on [] (begun t)) (inside 0) m.front refl (reached context levels (begun t ∷ signs) m)).1 refl)
   where
     by : (f : Front) → levels_of f ≡ length (line_of [] (begun t ∷ signs)) → has_begun f ≡ true → f ≡ over
     by unbegun c b = absurd (cc)

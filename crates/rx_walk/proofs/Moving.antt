@@ -1,5 +1,10 @@
 -- Where calls lead, and what they need.
-use Rattle.rx_eval.proofs.Common.{◌≡◌, ◌∙◌, ℕ, zero, suc, ◌+◌, ◌≤◌, ◌<◌, Bool, true, false, List, [], ◌∷◌, ◌++◌, length, refl, sym, ap, subst, Option, Some, None, arith, length-append, append_assoc, nat_tests, ◌==◌, nat_le, if◌then◌else◌, Chars, by_test, Call, Enter, Read, Leave, Facts, Opens, begun_state, read_text, Closes, State}
+use Rattle.rx_terms.proofs.Common.{◌≡◌, ◌∙◌, ℕ, zero, suc, ◌+◌, ◌≤◌, ◌<◌, Bool, true, false, List, [], ◌∷◌, ◌++◌, length, refl, sym, ap, subst, Option, Some, None, arith, length-append, append_assoc, nat_tests, ◌==◌, nat_le, if◌then◌else◌, Chars, by_test}
+use Rattle.rx_rdfa.specs.Calls.{Call, Enter, Read, Leave}
+use Rattle.rx_rdfa.specs.Facts.{Facts}
+use Rattle.rx_eval.specs.Opened.{Opens, begun_state, read_text}
+use Rattle.rx_eval.specs.Ending.{Closes}
+use Rattle.rx_eval.specs.States.{State}
 use Rattle.rx_nest.specs.Fronts.{Front, unbegun, inside, over, levels_of}
 use Rattle.rx_walk.specs.Leading.{Steps, Leads, Led, moves, within, move_all}
 use Rattle.rx_walk.specs.Stages.{MayBe, MayFollow}
@@ -69,7 +74,7 @@ steps_at levels (Read chars) front next old new at s e = said_at levels front ne
 steps_at levels Leave front next old new at s e = closed levels front next old new at s e
 
 -- what a move within the levels says
-within_some : (levels : ℕ) (front : Front) (list : List Call) (last : Front) → move_all levels (within levels (Some front)) list ≡ Some last → (levels_of front ≤ levels) × (move_all levels (Some front) list ≡ Some last)
+pub within_some : (levels : ℕ) (front : Front) (list : List Call) (last : Front) → move_all levels (within levels (Some front)) list ≡ Some last → (levels_of front ≤ levels) × (move_all levels (Some front) list ≡ Some last)
 within_some levels front list last e =
     by_test (nat_le (levels_of front) levels)
     (λ t. (grind (arith, nat_tests), sym (ap (λ b. move_all levels (if b then Some front else None) list) t) ∙ e))

@@ -1,4 +1,5 @@
-use Rattle.rx_eval.proofs.Common.{◌≡◌, ◌∙◌, ◌∷◌, List, [], false, sym, ap, subst, Tag}
+use Rattle.std.proofs.Common.{◌∙◌, ◌∷◌, [], sym, ap, subst}
+use Rattle.rx_rdfa.specs.Tree.{Tag}
 use Rattle.rx_names.specs.Lines.{Kept, NamesStand}
 use Rattle.rx_names.specs.Tags.{tag_of}
 use Rattle.rx_nest.specs.Nests.{tag_shown}

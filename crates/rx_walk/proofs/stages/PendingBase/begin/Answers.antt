@@ -1,4 +1,4 @@
-use Rattle.rx_eval.proofs.Common.{◌∙◌, [], ◌∷◌, ◌++◌, sym, ap, seen_slice}
+use Rattle.rx_terms.proofs.Common.{◌∙◌, [], ◌∷◌, ◌++◌, sym, ap, seen_slice}
 use Rattle.rx_names.specs.Tags.{tag_of}
 use Rattle.rx_base.specs.Seekings.{seek_begun}
 use Rattle.rx_base.specs.Sought.{sought_seen}
