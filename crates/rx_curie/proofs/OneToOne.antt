@@ -12,56 +12,37 @@ use Rattle.rx_names.proofs.PutLemmas.{some-same}
 
 kinds : (a b : CodeKind) → kind_seen a ≡ kind_seen b → a ≡ b
 kinds code_kind.Head code_kind.Head e = refl
-kinds code_kind.Head code_kind.Body e = absurd (cc e)
-kinds code_kind.Head code_kind.Time e = absurd (cc e)
-kinds code_kind.Head code_kind.Other e = absurd (cc e)
-kinds code_kind.Body code_kind.Head e = absurd (cc e)
 kinds code_kind.Body code_kind.Body e = refl
-kinds code_kind.Body code_kind.Time e = absurd (cc e)
-kinds code_kind.Body code_kind.Other e = absurd (cc e)
-kinds code_kind.Time code_kind.Head e = absurd (cc e)
-kinds code_kind.Time code_kind.Body e = absurd (cc e)
 kinds code_kind.Time code_kind.Time e = refl
-kinds code_kind.Time code_kind.Other e = absurd (cc e)
-kinds code_kind.Other code_kind.Head e = absurd (cc e)
-kinds code_kind.Other code_kind.Body e = absurd (cc e)
-kinds code_kind.Other code_kind.Time e = absurd (cc e)
 kinds code_kind.Other code_kind.Other e = refl
+kinds _ _ e = absurd (cc e)
 
 refs : (a b : CodeRef) → ref_seen a ≡ ref_seen b → a ≡ b
 refs (code_ref.Iri a) (code_ref.Iri b) e = cc e
-refs (code_ref.Iri a) (code_ref.Label b) e = absurd (cc e)
-refs (code_ref.Iri a) (code_ref.Relative b) e = absurd (cc e)
-refs (code_ref.Label a) (code_ref.Iri b) e = absurd (cc e)
 refs (code_ref.Label a) (code_ref.Label b) e = cc e
-refs (code_ref.Label a) (code_ref.Relative b) e = absurd (cc e)
-refs (code_ref.Relative a) (code_ref.Iri b) e = absurd (cc e)
-refs (code_ref.Relative a) (code_ref.Label b) e = absurd (cc e)
 refs (code_ref.Relative a) (code_ref.Relative b) e = cc e
+refs _ _ e = absurd (cc e)
 
 datatypes : (a b : CodeDatatype) → datatype_seen a ≡ datatype_seen b → a ≡ b
 datatypes code_datatype.Empty code_datatype.Empty e = refl
-datatypes code_datatype.Empty (code_datatype.Is b) e = absurd (cc e)
-datatypes (code_datatype.Is a) code_datatype.Empty e = absurd (cc e)
 datatypes (code_datatype.Is a) (code_datatype.Is b) e = cc e
+datatypes _ _ e = absurd (cc e)
 
 lists : (a b : List CodeRef) → refs_seen a ≡ refs_seen b → a ≡ b
 lists [] [] e = refl
-lists [] (y ∷ b) e = absurd (cc e)
-lists (x ∷ a) [] e = absurd (cc e)
 lists (x ∷ a) (y ∷ b) e =
     let here : ref_seen x ≡ ref_seen y = cc e in
     let there : refs_seen a ≡ refs_seen b = cc e in
     joined (refs x y here) (lists a b there) where
       joined : {x y : CodeRef} {a b : List CodeRef} → x ≡ y → a ≡ b → x ∷ a ≡ y ∷ b
       joined p q = cc
+lists _ _ e = absurd (cc e)
 
 -- an option is told by what is seen of its value
 seen-option : {A B : Type 0} (f : A → B) → ((a b : A) → f a ≡ f b → a ≡ b) → (a b : Option A) → option_map f a ≡ option_map f b → a ≡ b
 seen-option f one None None e = refl
-seen-option f one None (Some b) e = absurd (cc e)
-seen-option f one (Some a) None e = absurd (cc e)
-seen-option {A} {B} f one (Some a) (Some b) e = ap Some (one a b (some-same e))
+seen-option f one (Some a) (Some b) e = ap Some (one a b (some-same e))
+seen-option f one _ _ e = absurd (cc e)
 
 facts : (a b : CodeFacts) → facts_seen a ≡ facts_seen b → a ≡ b
 facts a b e =
