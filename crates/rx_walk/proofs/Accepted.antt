@@ -1,16 +1,8 @@
 -- What becomes of signs that are accepted.
-use Rattle.rx_terms.proofs.Common.{◌≡◌, ◌∙◌, false, List, [], ◌∷◌, ◌++◌, map, refl, sym, ap, subst, Option, Some, None, option_or, Chars}
-use Rattle.std.specs.Prelude.{option_map}
-use Rattle.rx_grammar.specs.declared.faults.Fault.{Fault}
-use Rattle.rx_grammar.specs.declared.faults.Kind.{Kind}
-use Rattle.rx_grammar.proofs.Common.{StartTag}
-use Rattle.rx_rdfa.specs.Names.{Context}
-use Rattle.rx_rdfa.specs.Facts.{facts}
-use Rattle.rx_rdfa.specs.Refusals.{Refusal, refusal, is_relative}
-use Rattle.rx_rdfa.specs.Tree.{Tag}
+use Rattle.rx_eval.proofs.Common.{◌≡◌, ◌∙◌, false, List, [], ◌∷◌, ◌++◌, map, refl, sym, ap, subst, Option, Some, None, option_or, Chars, option_map, Context, facts, Refusal, refusal, is_relative, Tag, kind_of, vocabulary_from}
+use Rattle.rx_pages.proofs.Common.{Fault, Kind, StartTag}
 use Rattle.rx_names.specs.Lines as names
 use Rattle.rx_names.specs.Lines.{Kept, no_tags}
-use Rattle.rx_curie.specs.Given.{kind_of, vocabulary_from}
 use Rattle.rx_nest.specs.Signs.{Sign, begun, said}
 use Rattle.rx_base.specs.Lines.{line_on, line_of}
 use Rattle.rx_walk.specs.Refused.{fault_of, refused_at, refused_in}

@@ -1,12 +1,6 @@
 -- In which pieces text comes makes no difference.
-use Rattle.rx_terms.proofs.Common.{◌≡◌, ◌∙◌, Bool, true, false, List, [], ◌∷◌, ◌++◌, map, refl, sym, ap, subst, append_assoc, append-nil, if◌then◌else◌, Chars}
-use Rattle.rx_rdfa.specs.Blanks.{Bnode, Owner, model}
+use Rattle.rx_eval.proofs.Common.{◌≡◌, ◌∙◌, Bool, true, false, List, [], ◌∷◌, ◌++◌, map, refl, sym, ap, subst, append_assoc, append-nil, if◌then◌else◌, Chars, Bnode, Owner, model, Machine, read, after-append, gathers_some, read_text, State}
 use Rattle.rx_rdfa.specs.Calls.{Call, Enter, Read, Leave, step, after}
-use Rattle.rx_rdfa.specs.Machine.{Machine, read}
-use Rattle.rx_rdfa.proofs.Calls.{after-append}
-use Rattle.rx_eval.specs.Keeping.{gathers_some}
-use Rattle.rx_eval.specs.Opened.{read_text}
-use Rattle.rx_eval.specs.States.{State}
 use Rattle.rx_walk.specs.CallsOf.{singles, singly}
 use Rattle.rx_walk.specs.Leading.{Leads, PiecesLeadAlike}
 

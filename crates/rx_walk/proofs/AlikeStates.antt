@@ -1,28 +1,7 @@
 -- The calls decide an evaluator's state, but for how the rules for texts are written.
-use Rattle.rx_terms.proofs.Common.{◌≡◌, ◌∙◌, ℕ, Bool, true, false, List, [], ◌∷◌, ◌++◌, map, length, Option, Some, None, option_map, refl, sym, ap, ap₂, subst, subst₂, ◌==◌, IfSome, if◌then◌else◌, and_parts, map-append, length-map, Chars}
-use Rattle.std.proofs.Common.{is_some}
-use Rattle.std.specs.Prelude.{encode_utf8_all}
-use Rattle.rx_rdfa.specs.Blanks.{model}
-use Rattle.rx_rdfa.specs.Calls.{Call, Enter, Read, Leave, after}
-use Rattle.rx_rdfa.specs.Facts.{Facts}
-use Rattle.rx_rdfa.specs.Inherited.{listed}
-use Rattle.rx_rdfa.specs.Machine.{begun}
-use Rattle.rx_rdfa.specs.Renaming.{labels}
-use Rattle.rx_rdfa.specs.Resources.{Inherited}
-use Rattle.rx_rdfa.specs.Value.{rule, value_now, value_of_text}
-use Rattle.rx_eval.specs.Labels.{Numbered, draw}
-use Rattle.rx_eval.specs.Moment.{moment}
-use Rattle.rx_eval.specs.Places.{level_at}
+use Rattle.rx_eval.proofs.Common.{◌≡◌, ◌∙◌, ℕ, Bool, true, false, List, [], ◌∷◌, ◌++◌, map, length, Option, Some, None, option_map, refl, sym, ap, ap₂, subst, subst₂, is_some, ◌==◌, IfSome, if◌then◌else◌, encode_utf8_all, and_parts, map-append, length-map, Chars, model, Call, Enter, Read, Leave, after, Facts, listed, begun, labels, Inherited, rule, value_now, value_of_text, Numbered, draw, moment, level_at, Gathers, resources_by, start_at, below_at, gathers_at, own_at, below_own_at, places_at, lists_at, Ending, ending, end_owner, TextAt, Closes, handed_on, Opens, begun_state, read_text, drawn_after, Numbering, Layer, frames_in, KeptAt, LayersStand, Phase, EvaluatorStands, no_numbers, Text, Frame, State, begun_stands}
 use Rattle.rx_eval.specs.declared.places.Level.{Level}
-use Rattle.rx_eval.specs.Entering.{Gathers, resources_by, start_at, below_at, gathers_at, own_at, below_own_at, places_at, lists_at}
-use Rattle.rx_eval.specs.Ending.{Ending, ending, end_owner, TextAt, Closes}
-use Rattle.rx_eval.specs.Opened.{handed_on, Opens, begun_state, read_text}
-use Rattle.rx_eval.specs.Opening.{drawn_after}
-use Rattle.rx_eval.specs.Numbering.{Numbering}
-use Rattle.rx_eval.specs.Standing.{Layer, frames_in, KeptAt, LayersStand, Phase, EvaluatorStands, no_numbers}
-use Rattle.rx_eval.specs.States.{Text, Frame, State}
 use Rattle.rx_eval.proofs.FillLemmas.{snoc_front, snoc_last}
-use Rattle.rx_eval.proofs.StandLemmas.{begun_stands}
 use Rattle.rx_walk.specs.Leading.{Steps, Leads}
 use Rattle.rx_walk.proofs.Making.{one_on}
 use Rattle.rx_walk.proofs.SeenStates.{SeenText, SeenFrame, SeenState, text_of, frame_of, seen, handed, handed_is, some_gathers, gathers_is, end_seen, end_is, CutSeen, cut_seen, cut_back}

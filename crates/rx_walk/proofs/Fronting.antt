@@ -1,8 +1,5 @@
 -- What the signs of one element say of the calls for them.
-use Rattle.rx_terms.proofs.Common.{◌≡◌, ◌∙◌, ℕ, zero, suc, ◌≤◌, ◌<◌, Bool, true, false, List, [], ◌∷◌, ◌++◌, map, length, refl, sym, ap, subst, Option, Some, None, arith, nat_tests, nat_le, if◌then◌else◌, Chars}
-use Rattle.rx_rdfa.specs.Names.{Context}
-use Rattle.rx_rdfa.specs.Tree.{Tag}
-use Rattle.rx_grammar.proofs.Common.{StartTag}
+use Rattle.rx_rdfa.proofs.Common.{◌≡◌, ◌∙◌, ℕ, zero, suc, ◌≤◌, ◌<◌, Bool, true, false, List, [], ◌∷◌, ◌++◌, map, length, refl, sym, ap, subst, Option, Some, None, arith, nat_tests, nat_le, if◌then◌else◌, Chars, Context, Tag, StartTag}
 use Rattle.rx_nest.specs.Signs.{Sign, begun, said, finished}
 use Rattle.rx_nest.specs.Fronts.{Front, unbegun, inside, over, levels_of, goes, goes_on, IsFront}
 use Rattle.rx_base.specs.Lines.{line_on, line_of}

@@ -1,24 +1,13 @@
 -- A walk's numbering only grows.
-use Rattle.rx_terms.proofs.Common.{◌≡◌, ◌∙◌, ℕ, List, [], ◌∷◌, ◌++◌, refl, sym, ap, subst, subst₂, Option, Some, append-nil, Chars}
-use Rattle.rx_grammar.proofs.Common.{Syntax, start_of, Page, Tree}
-use Rattle.rx_grammar.specs.declared.limits.Limits.{Limits}
-use Rattle.rx_rdfa.specs.Base.{base_by, base_of, root_href}
-use Rattle.rx_rdfa.specs.Calls.{Call, calls}
-use Rattle.rx_rdfa.specs.Facts.{with_facts}
-use Rattle.rx_rdfa.specs.Machine.{begun}
-use Rattle.rx_pages.specs.PageReader.{Progress}
+use Rattle.rx_eval.proofs.Common.{◌≡◌, ◌∙◌, ℕ, List, [], ◌∷◌, ◌++◌, refl, sym, ap, subst, subst₂, Option, Some, append-nil, Chars, base_by, base_of, root_href, Call, calls, with_facts, begun, Numbering, begun_state, State, finish_makes, tags_of}
+use Rattle.rx_pages.proofs.Common.{Syntax, start_of, Page, Tree, Limits, Progress}
 use Rattle.rx_nest.specs.Signs.{Sign, Sight, sees, nothing_seen, signs_of}
 use Rattle.rx_nest.proofs.TagPlaces.{shows_more}
-use Rattle.rx_eval.specs.Numbering.{Numbering}
-use Rattle.rx_eval.specs.Opened.{begun_state}
 use Rattle.rx_eval.specs.Standing as eval
-use Rattle.rx_eval.specs.States.{State}
 use Rattle.rx_eval.proofs.ShownLemmas.{shows_after}
-use Rattle.rx_eval.proofs.StandLemmas.{finish_makes}
 use Rattle.rx_walk.specs.CallsOf.{calls_of}
 use Rattle.rx_walk.specs.Leading.{Leads}
 use Rattle.rx_base.specs.Lines.{line_of}
-use Rattle.rx_rdfa.specs.Pages.{tags_of}
 use Rattle.rx_walk.specs.Numberings.{NumbersBy, NumbersGrow, ListIsNumbered}
 use Rattle.rx_base.specs.Seekings.{first_child, known, seeks, sought}
 use Rattle.rx_walk.specs.Settings.{Setting}

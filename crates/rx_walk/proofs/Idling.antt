@@ -1,11 +1,6 @@
 -- Where no open element gathers its text a stage is idle, and text leaves it so.
-use Rattle.rx_terms.proofs.Common.{◌≡◌, ◌∙◌, ℕ, ap, false, List, [], ◌∷◌, Some, Result, Ok, Err, Chars}
-use Rattle.std.specs.Prelude.{IsOk, OnOk}
+use Rattle.rx_eval.proofs.Common.{◌≡◌, ◌∙◌, ℕ, ap, false, List, [], ◌∷◌, Some, Result, Ok, Err, Chars, IsOk, OnOk, Call, Enter, Read, Leave, gathers_some, begun_state, read_text, State}
 use Rattle.rx_terms.specs.declared.texts.NoMemory.{NoMemory}
-use Rattle.rx_rdfa.specs.Calls.{Call, Enter, Read, Leave}
-use Rattle.rx_eval.specs.Keeping.{gathers_some}
-use Rattle.rx_eval.specs.Opened.{begun_state, read_text}
-use Rattle.rx_eval.specs.States.{State}
 use Rattle.rx_walk.specs.declared.stages.Stage.{Stage}
 use Rattle.rx_walk.specs.declared.stages.Stage.TheVariants as stage
 use Rattle.rx_walk.specs.Leading.{Steps, Leads}

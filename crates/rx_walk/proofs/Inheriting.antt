@@ -1,11 +1,9 @@
 -- When what is inherited is shown.
-use Rattle.rx_terms.proofs.Common.{◌≡◌, ◌≢◌, ◌∙◌, ℕ, true, false, List, [], ◌∷◌, length, refl, sym, ap, subst, Option, Some, None, ◌||◌, is_some, Chars}
-use Rattle.rx_rdfa.specs.Tree.{Tag}
+use Rattle.rx_eval.proofs.Common.{◌≡◌, ◌≢◌, ◌∙◌, ℕ, true, false, List, [], ◌∷◌, length, refl, sym, ap, subst, Option, Some, None, ◌||◌, is_some, Chars, Tag, State}
 use Rattle.rx_nest.specs.Readings.{has_failed}
 use Rattle.rx_base.specs.Lines.{line_of}
 use Rattle.rx_base.specs.Seekings.{known, sought}
 use Rattle.rx_base.proofs.KnownOver.{knows_over_bytes}
-use Rattle.rx_eval.specs.States.{State}
 use Rattle.rx_eval.specs.declared.inherited.Inherited.{Inherited}
 use Rattle.rx_walk.specs.declared.stages.PendingBase.{PendingBase}
 use Rattle.rx_walk.specs.declared.stages.Stage.TheVariants as stage

@@ -1,22 +1,11 @@
 -- What the calls for a page's tree make: the list of the tree.
-use Rattle.rx_terms.proofs.Common.{◌≡◌, ◌∙◌, ℕ, List, [], ◌∷◌, ◌++◌, sym, ap, subst, append_assoc, append-nil, Chars}
+use Rattle.rx_eval.proofs.Common.{◌≡◌, ◌∙◌, ℕ, List, [], ◌∷◌, ◌++◌, sym, ap, subst, append_assoc, append-nil, Chars, base_of, Call, Enter, Read, Leave, calls, Facts, with_facts, Context, Nodes, Numbering, begun_state, EvaluatorStands, StandsOn, Makes, no_numbers, State, begun_stands, enter_stands, text_stands, finish_makes, tags_of}
+use Rattle.rx_grammar.specs.Trees.{Tree}
 use Rattle.rx_terms.specs.declared.triples.Triple.{Triple as CodeTriple}
-use Rattle.rx_grammar.proofs.Common.{Tree}
-use Rattle.rx_rdfa.specs.Base.{base_of}
-use Rattle.rx_rdfa.specs.Calls.{Call, Enter, Read, Leave, calls}
-use Rattle.rx_rdfa.specs.Facts.{Facts, with_facts}
-use Rattle.rx_rdfa.specs.Names.{Context}
-use Rattle.rx_rdfa.specs.Tree.{Nodes}
-use Rattle.rx_eval.specs.Numbering.{Numbering}
-use Rattle.rx_eval.specs.Opened.{begun_state}
-use Rattle.rx_eval.specs.Standing.{EvaluatorStands, StandsOn, Makes, no_numbers}
-use Rattle.rx_eval.specs.States.{State}
 use Rattle.rx_eval.proofs.EndLemmas.{left_stands}
 use Rattle.rx_eval.proofs.NameLemmas.{grown_same, grown_then}
-use Rattle.rx_eval.proofs.StandLemmas.{begun_stands, enter_stands, text_stands, finish_makes}
 use Rattle.rx_walk.specs.CallsOf.{singly}
 use Rattle.rx_walk.specs.Leading.{Steps, Leads}
-use Rattle.rx_rdfa.specs.Pages.{tags_of}
 use Rattle.rx_walk.specs.Walks.{Lists, IsMade}
 use Rattle.rx_walk.proofs.Alike.{pieces_lead}
 use Rattle.rx_walk.proofs.Signed.{calls_tree}

@@ -1,10 +1,5 @@
 -- Where calls lead, and what they need.
-use Rattle.rx_terms.proofs.Common.{◌≡◌, ◌∙◌, ℕ, zero, suc, ◌+◌, ◌≤◌, ◌<◌, Bool, true, false, List, [], ◌∷◌, ◌++◌, length, refl, sym, ap, subst, Option, Some, None, arith, length-append, append_assoc, nat_tests, ◌==◌, nat_le, if◌then◌else◌, Chars, by_test}
-use Rattle.rx_rdfa.specs.Calls.{Call, Enter, Read, Leave}
-use Rattle.rx_rdfa.specs.Facts.{Facts}
-use Rattle.rx_eval.specs.Opened.{Opens, begun_state, read_text}
-use Rattle.rx_eval.specs.Ending.{Closes}
-use Rattle.rx_eval.specs.States.{State}
+use Rattle.rx_eval.proofs.Common.{◌≡◌, ◌∙◌, ℕ, zero, suc, ◌+◌, ◌≤◌, ◌<◌, Bool, true, false, List, [], ◌∷◌, ◌++◌, length, refl, sym, ap, subst, Option, Some, None, arith, length-append, append_assoc, nat_tests, ◌==◌, nat_le, if◌then◌else◌, Chars, by_test, Call, Enter, Read, Leave, Facts, Opens, begun_state, read_text, Closes, State}
 use Rattle.rx_nest.specs.Fronts.{Front, unbegun, inside, over, levels_of}
 use Rattle.rx_walk.specs.Leading.{Steps, Leads, Led, moves, within, move_all}
 use Rattle.rx_walk.specs.Stages.{MayBe, MayFollow}

@@ -1,18 +1,9 @@
 -- A walk's blank nodes have numbers as the rules ask for.
-use Rattle.std.proofs.Common.{◌≡◌, ◌∙◌, suc, List, [], ◌∷◌, length, refl, sym, ap, arith}
+use Rattle.rx_eval.proofs.Common.{◌≡◌, ◌∙◌, suc, List, [], ◌∷◌, length, refl, sym, ap, arith, Facts, facts, Path, Context, Tag, no_numbers, begun_state, begun_stands, base_by, read_tag}
 use Rattle.rx_rdfa.specs.Calls.{Line, closed, move, line_after, no_line}
-use Rattle.rx_rdfa.specs.Facts.{Facts, facts}
-use Rattle.rx_rdfa.specs.Naming.{Path}
-use Rattle.rx_rdfa.specs.Names.{Context}
-use Rattle.rx_rdfa.specs.Tree.{Tag}
 use Rattle.rx_nest.specs.Signs.{Sign, begun, said, finished}
-use Rattle.rx_eval.specs.Standing.{no_numbers}
-use Rattle.rx_eval.specs.Opened.{begun_state}
 use Rattle.rx_eval.proofs.ShownLemmas.{shows_after}
-use Rattle.rx_eval.proofs.StandLemmas.{begun_stands}
-use Rattle.rx_rdfa.specs.Base.{base_by}
 use Rattle.rx_base.specs.Lines.{around, line_on, line_of}
-use Rattle.rx_rdfa.specs.Pages.{read_tag}
 use Rattle.rx_walk.specs.CallsOf.{call_of, calls_of}
 use Rattle.rx_base.specs.Seekings.{sought}
 use Rattle.rx_walk.specs.Numberings.{facts_along, IsNumbered}

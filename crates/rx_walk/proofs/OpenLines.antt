@@ -1,7 +1,5 @@
 -- The elements that the signs of a walk leave open are those that the page's tree shows, by the grammar.
-use Rattle.rx_terms.proofs.Common.{◌≡◌, ◌∙◌, ℕ, List, [], map, ap, Chars}
-use Rattle.rx_grammar.proofs.Common.{Entry, Line, Phase}
-use Rattle.rx_pages.specs.Fronts.{IsUnderway}
+use Rattle.rx_pages.proofs.Common.{◌≡◌, ◌∙◌, ℕ, List, [], map, ap, Chars, Entry, Line, Phase, IsUnderway}
 use Rattle.rx_nest.specs.ShownLines.{shown_line}
 use Rattle.rx_nest.proofs.ShownLines.{shows_open_ones}
 use Rattle.rx_base.specs.Lines.{line_of}

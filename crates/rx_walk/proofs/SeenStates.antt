@@ -1,17 +1,6 @@
 -- An evaluator's state up to how the rules for texts are written: of each such rule what it makes of a text.
-use Rattle.rx_terms.proofs.Common.{◌≡◌, ℕ, Bool, List, [], ◌∷◌, ◌++◌, map, Option, Some, None, option_map, refl, ap, ap₂, ◌||◌, IfSome, list_any, Chars}
-use Rattle.std.proofs.Common.{is_some}
-use Rattle.rx_model.proofs.Common.{Node, Term, Triple}
-use Rattle.rx_rdfa.specs.Resources.{Inherited}
+use Rattle.rx_eval.proofs.Common.{◌≡◌, ℕ, Bool, List, [], ◌∷◌, ◌++◌, map, Option, Some, None, option_map, refl, ap, ap₂, is_some, ◌||◌, IfSome, list_any, Chars, Node, Term, Triple, Inherited, SlotId, Numbered, text_literal, Owning, fill_all, Ending, ending, end_owner, said_triples, say_text, end_frame, TextAt, gathers_some, handed_on, Text, Frame, State}
 use Rattle.rx_values.specs.Marks.{CutAt}
-use Rattle.rx_lists.specs.declared.lists.SlotId.{SlotId}
-use Rattle.rx_eval.specs.Labels.{Numbered}
-use Rattle.rx_eval.specs.TextRules.{text_literal}
-use Rattle.rx_eval.specs.OwnersSeen.{Owning, fill_all}
-use Rattle.rx_eval.specs.Ending.{Ending, ending, end_owner, said_triples, say_text, end_frame, TextAt}
-use Rattle.rx_eval.specs.Keeping.{gathers_some}
-use Rattle.rx_eval.specs.Opened.{handed_on}
-use Rattle.rx_eval.specs.States.{Text, Frame, State}
 
 pub record SeenText : Type 0 where
   pub subject : Node ℕ

@@ -1,14 +1,8 @@
 -- Signs one after another, and those of a tree.
-use Rattle.rx_terms.proofs.Common.{◌≡◌, ◌∙◌, List, [], ◌∷◌, ◌++◌, map, refl, sym, ap, append_assoc, Option, None, Chars}
-use Rattle.rx_grammar.specs.declared.faults.Fault.{Fault}
-use Rattle.rx_grammar.proofs.Common.{Tree, end, element, text}
-use Rattle.rx_rdfa.specs.Calls.{Call, Enter, Read, Leave, calls}
-use Rattle.rx_rdfa.specs.Facts.{facts, with_facts}
-use Rattle.rx_rdfa.specs.Names.{Context}
-use Rattle.rx_rdfa.specs.Tree.{Tag}
+use Rattle.rx_eval.proofs.Common.{◌≡◌, ◌∙◌, List, [], ◌∷◌, ◌++◌, map, refl, sym, ap, append_assoc, Option, None, Chars, Call, Enter, Read, Leave, calls, facts, with_facts, Context, Tag, read_tag, tags_of}
+use Rattle.rx_pages.proofs.Common.{Fault, Tree, end, element, text}
 use Rattle.rx_nest.specs.Signs.{Sign, said, finished, signs_of}
 use Rattle.rx_base.specs.Lines.{line_on, line_of}
-use Rattle.rx_rdfa.specs.Pages.{read_tag, tags_of}
 use Rattle.rx_walk.specs.CallsOf.{call_of, calls_of, singles, singly}
 use Rattle.rx_base.proofs.Lines.{said_line, tree_line}
 use Rattle.rx_walk.specs.Refused.{refused_in}

@@ -1,10 +1,5 @@
 -- What becomes of the stage.
-use Rattle.rx_terms.proofs.Common.{◌≡◌, ◌∙◌, ℕ, ◌<◌, Bool, true, false, List, [], ◌∷◌, ◌++◌, length, refl, sym, ap, subst, Option, Some, None, zero, suc, ◌+◌, drop, get_or, slice_get, add-one, arith, append_assoc, append-nil, if◌then◌else◌, Chars}
-use Rattle.rx_rdfa.specs.Base.{base_by}
-use Rattle.rx_rdfa.specs.Calls.{Call, Enter, Leave}
-use Rattle.rx_rdfa.specs.Facts.{Facts}
-use Rattle.rx_eval.specs.Opened.{begun_state, read_text}
-use Rattle.rx_eval.specs.States.{State}
+use Rattle.rx_eval.proofs.Common.{◌≡◌, ◌∙◌, ℕ, ◌<◌, Bool, true, false, List, [], ◌∷◌, ◌++◌, length, refl, sym, ap, subst, Option, Some, None, zero, suc, ◌+◌, drop, get_or, slice_get, add-one, arith, append_assoc, append-nil, if◌then◌else◌, Chars, base_by, Call, Enter, Leave, Facts, begun_state, read_text, State}
 use Rattle.rx_walk.specs.declared.calls.Call.{Call as CodeCall}
 use Rattle.rx_walk.specs.declared.calls.Call.TheVariants as code
 use Rattle.rx_walk.specs.declared.origins.Origin.{Origin}

@@ -1,22 +1,5 @@
 -- What an evaluator stands for goes by what is seen of its state.
-use Rattle.rx_terms.proofs.Common.{◌≡◌, ◌∙◌, ℕ, suc, Bool, true, false, List, [], ◌∷◌, ◌++◌, map, length, Option, Some, None, option_map, refl, sym, ap, ap₂, subst, subst₂, IfSome, map-append, Chars}
-use Rattle.std.proofs.Common.{is_some}
-use Rattle.std.specs.Prelude.{◌⊎◌}
-use Rattle.rx_model.proofs.Common.{rename_node, rename_term, rename, Among, Triple}
-use Rattle.rx_rdfa.specs.Blanks.{Bnode, Owner, First, Of, Below, model}
-use Rattle.rx_rdfa.specs.Calls.{Call, after}
-use Rattle.rx_rdfa.specs.Element.{end_of}
-use Rattle.rx_rdfa.specs.Inherited.{below, up}
-use Rattle.rx_rdfa.specs.Machine.{value_at, begun}
-use Rattle.rx_rdfa.specs.Naming.{Path}
-use Rattle.rx_rdfa.specs.Renaming.{rename_inherited}
-use Rattle.rx_rdfa.specs.Resources.{Standing, resources}
-use Rattle.rx_lists.specs.declared.lists.SlotId.{SlotId}
-use Rattle.rx_eval.specs.Ending.{said_triples}
-use Rattle.rx_eval.specs.Numbering.{Numbering, Number, named}
-use Rattle.rx_eval.specs.Slots.{Open, owner_place, FillUp, WithinOption}
-use Rattle.rx_eval.specs.Standing.{Layer, frames_in, path_in, paths_in, begun_by, open_in, places_of, waiter_of, gathers_text, said_of, KeptAt, LayerStands, LayersStand, Coming, Pending, AllWaitFor, Phase, EvaluatorStands}
-use Rattle.rx_eval.specs.States.{Text, Frame, State}
+use Rattle.rx_eval.proofs.Common.{◌≡◌, ◌∙◌, ℕ, suc, Bool, true, false, List, [], ◌∷◌, ◌++◌, map, length, Option, Some, None, option_map, refl, sym, ap, ap₂, subst, subst₂, is_some, IfSome, ◌⊎◌, map-append, Chars, rename_node, rename_term, rename, Among, Triple, Bnode, Owner, First, Of, Below, model, Call, after, end_of, below, up, value_at, begun, Path, rename_inherited, Standing, resources, SlotId, said_triples, Numbering, Number, named, Open, owner_place, FillUp, WithinOption, Layer, frames_in, path_in, paths_in, begun_by, open_in, places_of, waiter_of, gathers_text, said_of, KeptAt, LayerStands, LayersStand, Coming, Pending, AllWaitFor, Phase, EvaluatorStands, Text, Frame, State}
 use Rattle.rx_walk.proofs.SeenStates.{SeenText, SeenFrame, SeenState, text_of, frame_of, seen, some_is, some_seen, some_back, unsnoc}
 
 abbrev said_seen : Option SeenText → Chars → List (Triple ℕ)

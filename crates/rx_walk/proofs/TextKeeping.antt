@@ -1,11 +1,6 @@
 -- The text that is kept is that of the outermost element that gathers.
-use Rattle.rx_terms.proofs.Common.{◌≡◌, ◌∙◌, ℕ, zero, suc, ◌+◌, ◌-◌, ◌≤◌, Bool, true, false, List, [], ◌∷◌, ◌++◌, map, length, take, refl, sym, ap, subst, arith, length-append, ◌||◌, is_some, if◌then◌else◌, Chars}
-use Rattle.rx_rdfa.specs.Names.{Context}
-use Rattle.rx_rdfa.specs.Tree.{Tag}
+use Rattle.rx_eval.proofs.Common.{◌≡◌, ◌∙◌, ℕ, zero, suc, ◌+◌, ◌-◌, ◌≤◌, Bool, true, false, List, [], ◌∷◌, ◌++◌, map, length, take, refl, sym, ap, subst, arith, length-append, ◌||◌, is_some, if◌then◌else◌, Chars, Context, Tag, gathers_some, begun_state, State, Frame}
 use Rattle.rx_nest.specs.Signs.{Sign, begun, said, finished}
-use Rattle.rx_eval.specs.Keeping.{gathers_some}
-use Rattle.rx_eval.specs.Opened.{begun_state}
-use Rattle.rx_eval.specs.States.{State, Frame}
 use Rattle.rx_base.specs.Lines.{line_on}
 use Rattle.rx_walk.specs.CallsOf.{call_of, calls_of}
 use Rattle.rx_base.specs.Seekings.{sought}

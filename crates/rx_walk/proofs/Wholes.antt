@@ -1,15 +1,9 @@
 -- What a walk knows of its page.
-use Rattle.rx_terms.proofs.Common.{◌≡◌, ◌∙◌, ℕ, false, List, [], ◌∷◌, ◌++◌, length, sym, ap, subst, Option, Some, Chars}
+use Rattle.rx_eval.proofs.Common.{◌≡◌, ◌∙◌, ℕ, false, List, [], ◌∷◌, ◌++◌, length, sym, ap, subst, Option, Some, Chars, triples_seen, base_by, root_href, Call, Context, begun_state, State, tags_of}
+use Rattle.rx_pages.proofs.Common.{start_of, StartTag, Tree, end, element}
 use Rattle.rx_terms.specs.declared.triples.Triple.{Triple as CodeTriple}
-use Rattle.rx_model.proofs.Common.{triples_seen}
-use Rattle.rx_grammar.proofs.Common.{start_of, StartTag, Tree, end, element}
-use Rattle.rx_rdfa.specs.Base.{base_by, root_href}
-use Rattle.rx_rdfa.specs.Calls.{Call}
-use Rattle.rx_rdfa.specs.Names.{Context}
 use Rattle.rx_nest.specs.Signs.{Sign, finished, signs_of}
 use Rattle.rx_nest.specs.Readings.{Whole}
-use Rattle.rx_eval.specs.Opened.{begun_state}
-use Rattle.rx_eval.specs.States.{State}
 use Rattle.rx_walk.specs.declared.courses.RdfaListener.{RdfaListener}
 use Rattle.rx_walk.specs.declared.stages.PendingBase.{PendingBase}
 use Rattle.rx_walk.specs.declared.stages.Stage.{Stage}
@@ -17,7 +11,6 @@ use Rattle.rx_walk.specs.declared.stages.Stage.TheVariants as stage
 use Rattle.rx_base.specs.declared.seeking.Sought.{Sought}
 use Rattle.rx_base.specs.declared.seeking.Sought.TheVariants as looks
 use Rattle.rx_base.specs.Lines.{line_of}
-use Rattle.rx_rdfa.specs.Pages.{tags_of}
 use Rattle.rx_walk.specs.CallsOf.{calls_of}
 use Rattle.rx_base.specs.Seekings.{Seeking, known, sought}
 use Rattle.rx_walk.specs.Leading.{Led}

@@ -1,9 +1,5 @@
-use Rattle.std.proofs.Common.{◌≡◌, ◌∷◌, List, false, sym, subst}
-use Rattle.rx_rdfa.specs.Facts.{facts}
-use Rattle.rx_rdfa.specs.Refusals.{is_relative}
-use Rattle.rx_rdfa.specs.Tree.{Tag}
+use Rattle.rx_eval.proofs.Common.{◌≡◌, ◌∷◌, List, false, sym, subst, facts, is_relative, Tag, facts_seen}
 use Rattle.rx_names.specs.Lines.{Kept, NamesStand, vocabulary_of}
-use Rattle.rx_curie.specs.Seen.{facts_seen}
 use Rattle.rx_eval.proofs.SeenLemmas.{if_ok}
 use Rattle.rx_walk.proofs.courses.read_facts.Goals as goal
 

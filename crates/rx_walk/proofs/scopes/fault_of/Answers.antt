@@ -1,10 +1,6 @@
-use Rattle.std.proofs.Common.{◌≡◌, ◌∙◌, false, sym, subst}
-use Rattle.rx_rdfa.specs.Facts.{facts}
-use Rattle.rx_rdfa.specs.Refusals.{refusal, is_relative}
-use Rattle.rx_rdfa.specs.Tree.{Tag}
+use Rattle.rx_eval.proofs.Common.{◌≡◌, ◌∙◌, false, sym, subst, facts, refusal, is_relative, Tag, own_vocabulary}
 use Rattle.rx_names.specs.Tags.{tag_of}
 use Rattle.rx_names.specs.Views.{names_seen}
-use Rattle.rx_curie.specs.Given.{own_vocabulary}
 use Rattle.rx_nest.specs.Nests.{tag_shown}
 use Rattle.rx_walk.proofs.Accepted.{fault_is, no_fault_is, fault_line}
 use Rattle.rx_walk.proofs.scopes.fault_of.Goals as goal

@@ -1,10 +1,6 @@
-use Rattle.std.proofs.Common.{◌≡◌, ◌∙◌, ◌≤◌, ◌+◌, [], ◌∷◌, false, length, refl, sym, ap, subst, arith}
-use Rattle.rx_rdfa.specs.Calls.{Enter}
-use Rattle.rx_rdfa.specs.Refusals.{is_relative}
-use Rattle.rx_rdfa.specs.Tree.{Tag}
+use Rattle.rx_eval.proofs.Common.{◌≡◌, ◌∙◌, ◌≤◌, ◌+◌, [], ◌∷◌, false, length, refl, sym, ap, subst, arith, Enter, is_relative, Tag, own_vocabulary}
 use Rattle.rx_names.specs.Lines.{Kept, NamesStand}
 use Rattle.rx_names.specs.Tags.{tag_of}
-use Rattle.rx_curie.specs.Given.{own_vocabulary}
 use Rattle.rx_nest.specs.Nests.{tag_shown}
 use Rattle.rx_nest.specs.Signs.{begun}
 use Rattle.rx_base.specs.Lines.{line_of}

@@ -1,5 +1,4 @@
-use Rattle.std.proofs.Common.{◌∙◌, ◌∷◌, [], sym, ap, subst}
-use Rattle.rx_rdfa.specs.Tree.{Tag}
+use Rattle.rx_eval.proofs.Common.{◌∙◌, ◌∷◌, [], sym, ap, subst, Tag}
 use Rattle.rx_names.specs.Lines.{Kept, NamesStand}
 use Rattle.rx_names.specs.Tags.{tag_of}
 use Rattle.rx_nest.specs.Nests.{tag_shown}

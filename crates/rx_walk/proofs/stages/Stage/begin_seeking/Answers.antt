@@ -1,6 +1,4 @@
-use Rattle.rx_terms.proofs.Common.{[], ◌∷◌, refl, sym, subst, on_ok_weaker}
-use Rattle.rx_rdfa.specs.Calls.{Enter}
-use Rattle.rx_curie.specs.Seen.{facts_seen}
+use Rattle.rx_eval.proofs.Common.{[], ◌∷◌, refl, sym, subst, on_ok_weaker, Enter, facts_seen}
 use Rattle.rx_names.specs.Tags.{tag_of}
 use Rattle.rx_base.specs.Seekings.{seek_begun}
 use Rattle.rx_walk.specs.Stages.{MayTake, Tells}

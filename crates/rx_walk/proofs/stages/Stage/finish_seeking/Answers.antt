@@ -1,5 +1,4 @@
-use Rattle.rx_terms.proofs.Common.{[], ◌∷◌, refl, sym, subst, on_ok_weaker}
-use Rattle.rx_rdfa.specs.Calls.{Leave}
+use Rattle.rx_eval.proofs.Common.{[], ◌∷◌, refl, sym, subst, on_ok_weaker, Leave}
 use Rattle.rx_base.specs.Seekings.{seek_finished}
 use Rattle.rx_walk.specs.Stages.{MayTake, Tells}
 use Rattle.rx_walk.specs.declared.stages.Stage.TheVariants as stage

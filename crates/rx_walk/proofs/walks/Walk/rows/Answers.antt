@@ -1,7 +1,6 @@
-use Rattle.std.proofs.Common.{◌∙◌, ◌≤◌, List, [], ap, subst, sym}
+use Rattle.rx_eval.proofs.Common.{◌∙◌, ◌≤◌, List, [], ap, subst, sym, Tag}
 use Rattle.rx_names.specs.Lines as names
 use Rattle.rx_names.specs.Lines.{declared_along}
-use Rattle.rx_rdfa.specs.Tree.{Tag}
 use Rattle.rx_base.specs.Lines.{line_of}
 use Rattle.rx_walk.specs.declared.courses.RdfaListener.{RdfaListener}
 use Rattle.rx_walk.specs.Walks.{Walked}
