@@ -17,9 +17,9 @@ use Rattle.rx_many.specs.Standing.{WritableComment, WritableLine, Spells}
 use Rattle.rx_many.specs.Writing.{comment_text, line_text}
 use Rattle.rx_grammar.specs.Kinds.{kind_name}
 use Rattle.rx_many.proofs.CommentLemmas.{names, ascii_decimal}
-use Rattle.rx_many.proofs.FreshLemmas.{contained}
+use Rattle.rx_many.proofs.FreshLemmas.{contained, GivenHere, line_here}
 use Rattle.rx_many.proofs.KeyLemmas.{exact_blanks}
-use Rattle.rx_many.proofs.PageLemmas.{twice}
+use Rattle.rx_many.proofs.PageLemmas.{triple_blanks, twice}
 
 -- ---- a line
 
@@ -74,39 +74,36 @@ texts_writable (l ∷ lines) w = joined (text_writable l (w l (inl refl))) (text
 
 -- ---- what is kept is all that is stated
 
-here_or_earlier : (earlier rest : List (Line ℕ)) (y : Line ℕ) → Among earlier y ⊎ Among ((if contains same_line earlier y then [] else y ∷ []) ++ rest) y
-here_or_earlier earlier rest y = go (contains same_line earlier y) refl
+here_or_earlier : (earlier lines : List (Line ℕ)) (y x : Line ℕ) → y ≡ x → Among earlier x ⊎ Among (kept_after earlier (y ∷ lines)) x
+here_or_earlier earlier lines y x e = subst (λ (z : Line ℕ). Among earlier z ⊎ Among (kept_after earlier (y ∷ lines)) z) e (go (contains same_line earlier y) refl)
   where
-    go : (b : Bool) → contains same_line earlier y ≡ b → Among earlier y ⊎ Among ((if b then [] else y ∷ []) ++ rest) y
+    go : (b : Bool) → contains same_line earlier y ≡ b → Among earlier y ⊎ Among ((if b then [] else y ∷ []) ++ kept_after (earlier ++ y ∷ []) lines) y
     go true e = inl (contained earlier y e)
     go false e = inr (inl refl)
 
 all_kept : (earlier lines : List (Line ℕ)) (x : Line ℕ) → Among lines x → Among earlier x ⊎ Among (kept_after earlier lines) x
 all_kept earlier [] x m = absurd m
-all_kept earlier (y ∷ lines) x (inl e) = subst (λ (z : Line ℕ). Among earlier z ⊎ Among (kept_after earlier (y ∷ lines)) z) e (here_or_earlier earlier (kept_after (earlier ++ y ∷ []) lines) y)
-all_kept earlier (y ∷ lines) x (inr m) = go (all_kept (earlier ++ y ∷ []) lines x m)
-  where
-    before : Among earlier x ⊎ Among (y ∷ []) x → Among earlier x ⊎ Among (kept_after earlier (y ∷ lines)) x
-    before (inl k) = inl k
-    before (inr (inl e)) = subst (λ (z : Line ℕ). Among earlier z ⊎ Among (kept_after earlier (y ∷ lines)) z) e (here_or_earlier earlier (kept_after (earlier ++ y ∷ []) lines) y)
-    before (inr (inr n)) = absurd n
-
-    go : Among (earlier ++ y ∷ []) x ⊎ Among (kept_after (earlier ++ y ∷ []) lines) x → Among earlier x ⊎ Among (kept_after earlier (y ∷ lines)) x
-    go (inl k) = before (Among_cases earlier (y ∷ []) x k)
-    go (inr k) = inr (Among_right (if contains same_line earlier y then [] else y ∷ []) (kept_after (earlier ++ y ∷ []) lines) x k)
+all_kept earlier (y ∷ lines) x (inl e) = here_or_earlier earlier lines y x e
+all_kept earlier (y ∷ lines) x (inr m) = elim (all_kept (earlier ++ y ∷ []) lines x m) [
+  | inl k ↦ elim (Among_cases earlier (y ∷ []) x k) [
+    | inl h ↦ inl h
+    | inr h ↦ elim h [ inl e ↦ here_or_earlier earlier lines y x e | inr n ↦ absurd n ]
+  ]
+  | inr k ↦ inr (Among_right (if contains same_line earlier y then [] else y ∷ []) (kept_after (earlier ++ y ∷ []) lines) x k)
+]
 
 kept_among : (earlier lines : List (Line ℕ)) (x : Line ℕ) → Among (kept_after earlier lines) x → Among lines x
 kept_among earlier [] x m = absurd m
-kept_among earlier (y ∷ lines) x m = go (Among_cases (if contains same_line earlier y then [] else y ∷ []) (kept_after (earlier ++ y ∷ []) lines) x m) (kept_among (earlier ++ y ∷ []) lines x)
+kept_among earlier (y ∷ lines) x m =
+    elim (Among_cases (if contains same_line earlier y then [] else y ∷ []) (kept_after (earlier ++ y ∷ []) lines) x m) [
+      | inl k ↦ one (contains same_line earlier y) k
+      | inr k ↦ inr (kept_among (earlier ++ y ∷ []) lines x k)
+    ]
   where
     one : (b : Bool) → Among (if b then [] else y ∷ []) x → Among (y ∷ lines) x
     one true n = absurd n
     one false (inl e) = inl e
     one false (inr n) = absurd n
-
-    go : Among (if contains same_line earlier y then [] else y ∷ []) x ⊎ Among (kept_after (earlier ++ y ∷ []) lines) x → (Among (kept_after (earlier ++ y ∷ []) lines) x → Among lines x) → Among (y ∷ lines) x
-    go (inl k) ih = one (contains same_line earlier y) k
-    go (inr k) ih = inr (ih k)
 
 -- ---- what the pages give, and their lines
 
@@ -132,26 +129,13 @@ record GivenBy (start : ℕ) (pages : List Page) (name : Chars) (u : Triple Page
   gives : Gives pages place name triple
   is : u ≡ rename (at_place (start + place)) triple
 
--- the same of one page
-record GivenHere (place : ℕ) (address : Chars) (judgement : Judgement) (name : Chars) (u : Triple PageBlank) : Type 0 where
-  triples : List (Triple ℕ)
-  accepts : judgement ≡ accepted triples
-  named : name ≡ without_fragment address
-  triple : Triple ℕ
-  given : Among triples triple
-  is : u ≡ rename (at_place place) triple
-
-line_here : (place : ℕ) (address : Chars) (judgement : Judgement) (name : Chars) (u : Triple PageBlank) → Among (lines_by place address judgement) (statement name u) → GivenHere place address judgement name u
-line_here place address (refused fault) name u (inl e) = absurd (cc)
-line_here place address (refused fault) name u (inr n) = absurd n
-line_here place address (accepted triples) name u m =
-    let s = Among_of_map (statement_at place (without_fragment address)) triples (statement name u) m in
-    let is : statement (without_fragment address) (rename (at_place place) s.0) ≡ statement name u = s.2 in
-    record { triples = triples; accepts = refl; named = cc; triple = s.0; given = s.1; is = cc }
-
 line_given : (start : ℕ) (pages : List Page) (name : Chars) (u : Triple PageBlank) → Among (lines_from start pages) (statement name u) → GivenBy start pages name u
 line_given start [] name u m = absurd m
-line_given start (page ∷ pages) name u m = go (Among_cases (lines_of start page) (lines_from (suc start) pages) (statement name u) m) (line_given (suc start) pages name u)
+line_given start (page ∷ pages) name u m =
+    elim (Among_cases (lines_of start page) (lines_from (suc start) pages) (statement name u) m) [
+      | inl k ↦ first (line_here start page.address page.judgement name u k)
+      | inr k ↦ later (line_given (suc start) pages name u k)
+    ]
   where
     first : GivenHere start page.address page.judgement name u → GivenBy start (page ∷ pages) name u
     first h =
@@ -174,27 +158,10 @@ line_given start (page ∷ pages) name u m = go (Among_cases (lines_of start pag
           is = g.is ∙ ap (λ n. rename (at_place n) g.triple) there;
         }
 
-    go : Among (lines_of start page) (statement name u) ⊎ Among (lines_from (suc start) pages) (statement name u) → (Among (lines_from (suc start) pages) (statement name u) → GivenBy (suc start) pages name u) → GivenBy start (page ∷ pages) name u
-    go (inl k) ih = first (line_here start page.address page.judgement name u k)
-    go (inr k) ih = later (ih k)
-
 -- ---- blank nodes that are renamed
 
-module _ (f : ℕ → PageBlank) where
-  node_blank : (n : Node ℕ) (b : ℕ) → Among (blank_of_node n) b → Among (blank_of_node (rename_node f n)) (f b)
-  node_blank (Iri iri) b m = absurd m
-  node_blank (Blank c) b (inl e) = inl (ap f e)
-  node_blank (Blank c) b (inr n) = absurd n
-
-  term_blank : (t : Term ℕ) (b : ℕ) → Among (blank_of_term t) b → Among (blank_of_term (rename_term f t)) (f b)
-  term_blank (Resource n) b m = node_blank n b m
-  term_blank (Literal text kind) b m = absurd m
-
-  blank_renamed : (t : Triple ℕ) (b : ℕ) → Among (blanks_of t) b → Among (blanks_of (rename f t)) (f b)
-  blank_renamed t b m = elim (Among_cases (blank_of_node t.subject) (blank_of_term t.object) b m) [
-    | inl k ↦ Among_left (blank_of_node (rename_node f t.subject)) (blank_of_term (rename_term f t.object)) (f b) (node_blank t.subject b k)
-    | inr k ↦ Among_right (blank_of_node (rename_node f t.subject)) (blank_of_term (rename_term f t.object)) (f b) (term_blank t.object b k)
-  ]
+blank_renamed : (f : ℕ → PageBlank) (t : Triple ℕ) (b : ℕ) → Among (blanks_of t) b → Among (blanks_of (rename f t)) (f b)
+blank_renamed f t b m = subst (λ (z : List PageBlank). Among z (f b)) (sym (triple_blanks f t)) (Among_map f (blanks_of t) b m)
 
 -- ---- the document
 

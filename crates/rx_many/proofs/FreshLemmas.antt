@@ -18,14 +18,12 @@ module _ {A B : Type 0} (to : A → B) where
   node_apart : (n m : Node A) → ((a b : A) → Among (blank_of_node n) a → Among (blank_of_node m) b → to a ≡ to b → a ≡ b) → rename_node to n ≡ rename_node to m → n ≡ m
   node_apart (Iri a) (Iri b) one e = ap Iri (cc)
   node_apart (Blank a) (Blank b) one e = ap Blank (one a b (inl refl) (inl refl) (cc))
-  node_apart (Iri a) (Blank b) one e = cc
-  node_apart (Blank a) (Iri b) one e = cc
+  node_apart n m one e = cc
 
   term_apart : (n m : Term A) → ((a b : A) → Among (blank_of_term n) a → Among (blank_of_term m) b → to a ≡ to b → a ≡ b) → rename_term to n ≡ rename_term to m → n ≡ m
   term_apart (Resource a) (Resource b) one e = ap Resource (node_apart a b one (cc))
   term_apart (Literal a l) (Literal b m) one e = cc
-  term_apart (Resource a) (Literal b m) one e = cc
-  term_apart (Literal a l) (Resource b) one e = cc
+  term_apart n m one e = cc
 
   triple_apart : (t u : Triple A) → ((a b : A) → Among (blanks_of t) a → Among (blanks_of u) b → to a ≡ to b → a ≡ b) → rename to t ≡ rename to u → t ≡ u
   triple_apart t u one e =
@@ -39,8 +37,7 @@ module _ {A B : Type 0} (to : A → B) where
   line_apart : (x l : Line A) → ((a b : A) → Among (line_blanks x) a → Among (line_blanks l) b → to a ≡ to b → a ≡ b) → rename_line to x ≡ rename_line to l → x ≡ l
   line_apart (comment a f) (comment b g) one e = cc
   line_apart (statement n t) (statement m u) one e = ap₂ statement (cc) (triple_apart t u one (cc))
-  line_apart (comment a f) (statement m u) one e = cc
-  line_apart (statement n t) (comment b g) one e = cc
+  line_apart x l one e = cc
 
 pub contained : (lines : List (Line ℕ)) (x : Line ℕ) → contains same_line lines x ≡ true → Among lines x
 contained [] x h = absurd (true≢false (sym h))
@@ -134,18 +131,27 @@ module _ (place : ℕ) (name : Chars) where
 
 -- ---- the pages
 
-pub line_named : (place : ℕ) (address : Chars) (judgement : Judgement) (name : Chars) (u : Triple PageBlank) → Among (lines_by place address judgement) (statement name u) → without_fragment address ≡ name
-line_named place address (refused fault) name u (inl e) = absurd (cc)
-line_named place address (refused fault) name u (inr n) = absurd n
-line_named place address (accepted triples) name u m =
+-- the triple that a line of one page states is given by it
+pub record GivenHere (place : ℕ) (address : Chars) (judgement : Judgement) (name : Chars) (u : Triple PageBlank) : Type 0 where
+  pub triples : List (Triple ℕ)
+  pub accepts : judgement ≡ accepted triples
+  pub named : name ≡ without_fragment address
+  pub triple : Triple ℕ
+  pub given : Among triples triple
+  pub is : u ≡ rename (at_place place) triple
+
+pub line_here : (place : ℕ) (address : Chars) (judgement : Judgement) (name : Chars) (u : Triple PageBlank) → Among (lines_by place address judgement) (statement name u) → GivenHere place address judgement name u
+line_here place address (refused fault) name u (inl e) = absurd (cc)
+line_here place address (refused fault) name u (inr n) = absurd n
+line_here place address (accepted triples) name u m =
     let s = Among_of_map (statement_at place (without_fragment address)) triples (statement name u) m in
     let is : statement (without_fragment address) (rename (at_place place) s.0) ≡ statement name u = s.2 in
-    cc
+    record { triples = triples; accepts = refl; named = cc; triple = s.0; given = s.1; is = cc }
 
 pub lines_named : (start : ℕ) (pages : List CodePage) (name : Chars) (u : Triple PageBlank) → Among (lines_from start (map page_seen pages)) (statement name u) → Among (map name_of pages) name
 lines_named start [] name u m = m
 lines_named start (page ∷ pages) name u m =
     elim (Among_cases (lines_of start (page_seen page)) (lines_from (suc start) (map page_seen pages)) (statement name u) m) [
-      | inl h ↦ inl (line_named start page.address (page_seen page).judgement name u h)
+      | inl h ↦ inl (sym (line_here start page.address (page_seen page).judgement name u h).named)
       | inr k ↦ inr (lines_named (suc start) pages name u k)
     ]

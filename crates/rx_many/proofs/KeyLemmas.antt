@@ -1,5 +1,5 @@
 -- The keys of the code's sets, and what they are in the model.
-use Rattle.rx_model.proofs.Common.{◌≡◌, ℕ, Bool, true, false, List, [], ◌∷◌, length, slice_get, Some, option_map, map, suc, refl, sym, ap, ap₂, ◌∙◌, rules, nat_eq, bytes_eq, arith, true≢false, not, list_any, slice_get_within, slice_get-map, Chars, same_truth, untrue, and_from, IsExact, contains, with_one, Triple, same_triple, triple_seen, and_left, and_right, exact_numbers, exact_texts, exact_triples}
+use Rattle.rx_model.proofs.Common.{length-map, ◌≡◌, ℕ, Bool, true, false, List, [], ◌∷◌, length, slice_get, Some, option_map, map, suc, refl, sym, ap, ap₂, ◌∙◌, rules, nat_eq, bytes_eq, arith, true≢false, not, list_any, slice_get_within, slice_get-map, Chars, same_truth, untrue, and_from, IsExact, contains, with_one, Triple, same_triple, triple_seen, and_left, and_right, exact_numbers, exact_texts, exact_triples}
 use Rattle.rx_unique.specs.Unique.{insert_key}
 use Rattle.rx_model.proofs.Seen.{triple_tells}
 use Rattle.rx_graph.proofs.SetLemmas.{any_seen, insert_seen}
@@ -58,17 +58,13 @@ statement_added list s = insert_seen statement_seen statement_eq same_line state
 pub statement_among : (list : List Statement) (s : Statement) → list_any (statement_eq s) list ≡ contains same_line (map statement_seen list) (statement_seen s)
 statement_among list s = any_seen statement_seen statement_eq same_line statements_agree list s
 
-length_map : {X Y : Type 0} (f : X → Y) (list : List X) → length (map f list) ≡ length list
-length_map f [] = refl
-length_map f (x ∷ list) = ap suc (length_map f list)
-
 -- a statement that wasn't there is the last one
 pub statement_new : (old new : List Statement) (s : Statement) (place : ℕ) (k : Statement) → not (list_any (statement_eq s) old) ≡ true → slice_get new place ≡ Some k → statement_eq s k ≡ true
     → IsAdded (map statement_seen old) (statement_seen s) (map statement_seen new) place
 statement_new old new s place k fresh at same = record {
   lacks = sym (statement_among old s) ∙ untrue (list_any (statement_eq s) old) fresh;
   at = slice_get-map statement_seen new place ∙ ap (option_map statement_seen) at ∙ ap (λ z. Some (statement_seen z)) (sym ((exact_statements s k).0 same));
-  within = omega (arith, slice_get_within new place k at, length_map statement_seen new);
+  within = omega (arith, slice_get_within new place k at, length-map new statement_seen);
 }
 
 pub statement_old : (old : List Statement) (s : Statement) → not (list_any (statement_eq s) old) ≡ false → contains same_line (map statement_seen old) (statement_seen s) ≡ true

@@ -1,5 +1,6 @@
 -- A document that grows by one line.
-use Rattle.rx_model.proofs.Common.{◌≡◌, ℕ, suc, zero, ◌+◌, Bool, true, false, List, [], ◌∷◌, ◌++◌, map, flat_map, take, length, slice_get, Some, refl, sym, ap, ap₂, ◌∙◌, inl, inr, subst, append_assoc, append-nil, arith, ◌||◌, if◌then◌else◌, encodes-append, map-append, Chars, or-true, or-false, Among, contains, distinct, with_one, with_all, Triple, place_in, triple_seen, triples_seen, Among_cases, Among_left, Among_right, false_unless}
+use Rattle.std.proofs.lemmas.List.Concat.{flat_map-append}
+use Rattle.rx_model.proofs.Common.{by_test, ◌≡◌, ℕ, suc, zero, ◌+◌, Bool, true, false, List, [], ◌∷◌, ◌++◌, map, flat_map, take, length, slice_get, Some, refl, sym, ap, ap₂, ◌∙◌, inl, inr, subst, append_assoc, append-nil, arith, ◌||◌, if◌then◌else◌, encodes-append, map-append, Chars, or-true, or-false, Among, contains, distinct, with_one, with_all, Triple, place_in, triple_seen, triples_seen, Among_cases, Among_left, Among_right, false_unless}
 use Rattle.std.specs.Str.{encode_utf8_all}
 use Rattle.rx_terms.specs.declared.triples.Triple.{Triple as CodeTriple}
 use Rattle.rx_grammar.specs.declared.faults.Fault.{Fault}
@@ -20,11 +21,10 @@ use Rattle.rx_many.proofs.KeyLemmas.{exact_blanks, alike}
 
 pub contains_both : {A : Type 0} (same : A → A → Bool) (xs ys : List A) (a : A) → contains same (xs ++ ys) a ≡ (contains same xs a || contains same ys a)
 contains_both same [] ys a = refl
-contains_both same (x ∷ xs) ys a = ap (λ b. same x a || b) (contains_both same xs ys a) ∙ or_moved (same x a) (contains same xs a) (contains same ys a)
-  where
-    or_moved : (p q r : Bool) → (p || (q || r)) ≡ ((p || q) || r)
-    or_moved true q r = refl
-    or_moved false q r = refl
+contains_both same (x ∷ xs) ys a = by_test (same x a) (λ t. rw t refl) (λ t. rw t (contains_both same xs ys a))
+
+flat_more : {A B : Type 0} (f : A → List B) (xs : List A) (x : A) → flat_map f (xs ++ x ∷ []) ≡ flat_map f xs ++ f x
+flat_more f xs x = flat_map-append f xs (x ∷ []) ∙ ap (λ z. flat_map f xs ++ z) (append-nil (f x))
 
 -- ---- what is kept of lines
 
@@ -38,10 +38,6 @@ kept_more earlier (y ∷ lines) x =
     ap (λ z. unless (contains same_line earlier y) y ++ z) (kept_more (earlier ++ y ∷ []) lines x)
     ∙ ap (λ z. unless (contains same_line earlier y) y ++ (kept_after (earlier ++ y ∷ []) lines ++ unless (contains same_line z x) x)) (append_assoc earlier (y ∷ []) lines)
     ∙ sym (append_assoc (unless (contains same_line earlier y) y) (kept_after (earlier ++ y ∷ []) lines) (unless (contains same_line (earlier ++ y ∷ lines) x) x))
-
-texts_more : (lines : List (Line ℕ)) (x : Line ℕ) → flat_map line_text (lines ++ x ∷ []) ≡ flat_map line_text lines ++ line_text x
-texts_more [] x = append-nil (line_text x)
-texts_more (y ∷ lines) x = ap (λ z. line_text y ++ z) (texts_more lines x) ∙ sym (append_assoc (line_text y) (flat_map line_text lines) (line_text x))
 
 module _ (text : List ℕ) (lines : List (Line ℕ)) (k : Spells text lines) (x : Line ℕ) where
   -- the line states what an earlier one does
@@ -60,7 +56,7 @@ module _ (text : List ℕ) (lines : List (Line ℕ)) (k : Spells text lines) (x 
       record {
         spelled =
             e ∙ ap (λ z. z ++ encode_utf8_all (line_text x)) k.spelled
-            ∙ sym (encodes-append (text_of lines) (line_text x)) ∙ ap encode_utf8_all (sym (texts_more (kept lines) x))
+            ∙ sym (encodes-append (text_of lines) (line_text x)) ∙ ap encode_utf8_all (sym (flat_more line_text (kept lines) x))
             ∙ ap (λ z. encode_utf8_all (flat_map line_text z)) (sym same);
         writable = λ line m. elim (Among_cases (kept lines) (x ∷ []) line (subst (λ (z : List (Line ℕ)). Among z line) same m)) [
           | inl h ↦ k.writable line h
@@ -105,12 +101,8 @@ no_comment (comment a f ∷ lines) address fault = no_comment lines address faul
 
 -- ---- numbers
 
-blanks_more : (lines : List (Line PageBlank)) (l : Line PageBlank) → flat_map line_blanks (lines ++ l ∷ []) ≡ flat_map line_blanks lines ++ line_blanks l
-blanks_more [] l = append-nil (line_blanks l)
-blanks_more (y ∷ lines) l = ap (λ z. line_blanks y ++ z) (blanks_more lines l) ∙ sym (append_assoc (line_blanks y) (flat_map line_blanks lines) (line_blanks l))
-
 pub table_more : (lines : List (Line PageBlank)) (l : Line PageBlank) → with_all same_blank (table lines) (line_blanks l) ≡ table (lines ++ l ∷ [])
-table_more lines l = all_distinct same_blank exact_blanks (flat_map line_blanks lines) (line_blanks l) ∙ ap (distinct same_blank) (sym (blanks_more lines l))
+table_more lines l = all_distinct same_blank exact_blanks (flat_map line_blanks lines) (line_blanks l) ∙ ap (distinct same_blank) (sym (flat_more line_blanks lines l))
 
 line_stays : (p q : PageBlank → ℕ) (l : Line PageBlank) → ((b : PageBlank) → Among (line_blanks l) b → p b ≡ q b) → rename_line p l ≡ rename_line q l
 line_stays p q (comment a f) h = refl
@@ -125,7 +117,7 @@ lines_stay p q (l ∷ lines) h =
 -- the lines by the numbers that there are with one more line
 pub numbers_stay : (lines : List (Line PageBlank)) (l : Line PageBlank) → numbered_lines lines ≡ map (rename_line (place_in same_blank (table (lines ++ l ∷ [])))) lines
 numbers_stay lines l = lines_stay (place_in same_blank (table lines)) (place_in same_blank (table (lines ++ l ∷ []))) lines
-    (λ b m. place_stays same_blank exact_blanks (flat_map line_blanks lines) (line_blanks l) b m ∙ ap (λ z. place_in same_blank (distinct same_blank z) b) (sym (blanks_more lines l)))
+    (λ b m. place_stays same_blank exact_blanks (flat_map line_blanks lines) (line_blanks l) b m ∙ ap (λ z. place_in same_blank (distinct same_blank z) b) (sym (flat_more line_blanks lines l)))
 
 pub numbered_more : (lines : List (Line PageBlank)) (l : Line PageBlank) → numbered_lines lines ++ rename_line (place_in same_blank (table (lines ++ l ∷ []))) l ∷ [] ≡ numbered_lines (lines ++ l ∷ [])
 numbered_more lines l =
@@ -136,33 +128,27 @@ numbered_more lines l =
 -- ---- one line more
 
 module _ (shared : List Chars) (d new : Document) (lines : List (Line PageBlank)) (s : Stands shared d lines) where
+  -- a line whose blank nodes have the numbers that there are with it
+  stands_with : (l : Line PageBlank) (x : Line ℕ) → x ≡ rename_line (place_in same_blank (table (lines ++ l ∷ []))) l → (text : List ℕ) (statements : List (Line ℕ))
+      → Spells text (numbered_lines lines ++ x ∷ []) → Holds shared statements (numbered_lines lines ++ x ∷ []) → new.text.bytes ≡ text → new.statements ≡ statements → Stands shared new (lines ++ l ∷ [])
+  stands_with l x is text statements spells holds e g =
+      let now : numbered_lines lines ++ x ∷ [] ≡ numbered_lines (lines ++ l ∷ []) = ap (λ z. numbered_lines lines ++ z ∷ []) is ∙ numbered_more lines l in
+      record {
+        spells = subst (λ (z : List (Line ℕ)). Spells new.text.bytes z) now (subst (λ (z : List ℕ). Spells z (numbered_lines lines ++ x ∷ [])) (sym e) spells);
+        holds = subst (λ (z : List (Line ℕ)). Holds shared new.statements z) now (subst (λ (z : List (Line ℕ)). Holds shared z (numbered_lines lines ++ x ∷ [])) (sym g) holds);
+      }
+
   comment_stands : (address : Chars) (fault : Fault) → new.text.bytes ≡ d.text.bytes ++ encode_utf8_all (line_text (comment address fault)) → new.statements ≡ d.statements → WritableComment address fault
       → Stands shared new (lines ++ comment address fault ∷ [])
   comment_stands address fault e g w =
-      let l : Line PageBlank = comment address fault in
-      let x : Line ℕ = comment address fault in
-      let spells : Spells new.text.bytes (numbered_lines lines ++ x ∷ []) = spells_new d.text.bytes (numbered_lines lines) s.spells x new.text.bytes (no_comment (numbered_lines lines) address fault) e w in
-      let holds : Holds shared d.statements (numbered_lines lines ++ x ∷ []) = holds_other shared d.statements (numbered_lines lines) s.holds x (λ name t m n. refl) in
-      record {
-        spells = subst (λ (z : List (Line ℕ)). Spells new.text.bytes z) (numbered_more lines l) spells;
-        holds = subst (λ (z : List (Line ℕ)). Holds shared new.statements z) (numbered_more lines l) (subst (λ (z : List (Line ℕ)). Holds shared z (numbered_lines lines ++ x ∷ [])) (sym g) holds);
-      }
+      stands_with (comment address fault) (comment address fault) refl new.text.bytes d.statements
+      (spells_new d.text.bytes (numbered_lines lines) s.spells (comment address fault) new.text.bytes (no_comment (numbered_lines lines) address fault) e w)
+      (holds_other shared d.statements (numbered_lines lines) s.holds (comment address fault) (λ name t m n. refl)) refl g
 
-  -- a line whose blank nodes have the numbers that there are with it
   module _ (l : Line PageBlank) (name : Chars) (u : Triple ℕ) (is : statement name u ≡ rename_line (place_in same_blank (table (lines ++ l ∷ []))) l) where
-    line_now : numbered_lines lines ++ statement name u ∷ [] ≡ numbered_lines (lines ++ l ∷ [])
-    line_now = ap (λ z. numbered_lines lines ++ z ∷ []) is ∙ numbered_more lines l
-
-    stands_with : (text : List ℕ) (statements : List (Line ℕ)) → Spells text (numbered_lines lines ++ statement name u ∷ []) → Holds shared statements (numbered_lines lines ++ statement name u ∷ [])
-        → new.text.bytes ≡ text → new.statements ≡ statements → Stands shared new (lines ++ l ∷ [])
-    stands_with text statements spells holds e g = record {
-      spells = subst (λ (z : List (Line ℕ)). Spells new.text.bytes z) line_now (subst (λ (z : List ℕ). Spells z (numbered_lines lines ++ statement name u ∷ [])) (sym e) spells);
-      holds = subst (λ (z : List (Line ℕ)). Holds shared new.statements z) line_now (subst (λ (z : List (Line ℕ)). Holds shared z (numbered_lines lines ++ statement name u ∷ [])) (sym g) holds);
-    }
-
     pub stands_old : Among shared name → has_blank u ≡ false → contains same_line d.statements (statement name u) ≡ true → new.text.bytes ≡ d.text.bytes → new.statements ≡ d.statements → Stands shared new (lines ++ l ∷ [])
     stands_old m n there e g =
-        stands_with d.text.bytes d.statements
+        stands_with l (statement name u) is d.text.bytes d.statements
         (spells_old d.text.bytes (numbered_lines lines) s.spells (statement name u) (sym (s.holds name u m n) ∙ there))
         (holds_old shared d.statements (numbered_lines lines) s.holds (statement name u) there) e g
 
@@ -171,7 +157,7 @@ module _ (shared : List Chars) (d new : Document) (lines : List (Line PageBlank)
         → Stands shared new (lines ++ l ∷ [])
     stands_new m n lacks e g w =
         let added : new.statements ≡ d.statements ++ statement name u ∷ [] = g ∙ ap (λ b. if b then d.statements else d.statements ++ statement name u ∷ []) lacks in
-        stands_with new.text.bytes (d.statements ++ statement name u ∷ [])
+        stands_with l (statement name u) is new.text.bytes (d.statements ++ statement name u ∷ [])
         (spells_new d.text.bytes (numbered_lines lines) s.spells (statement name u) new.text.bytes (sym (s.holds name u m n) ∙ lacks) e w)
         (holds_new shared d.statements (numbered_lines lines) s.holds (statement name u)) refl added
 
@@ -179,7 +165,7 @@ module _ (shared : List Chars) (d new : Document) (lines : List (Line PageBlank)
     pub stands_own : (Among shared name → has_blank u ≡ false → ⊥) → contains same_line (numbered_lines lines) (statement name u) ≡ false → new.text.bytes ≡ d.text.bytes ++ encode_utf8_all (line_text (statement name u))
         → new.statements ≡ d.statements → WritableTriple (Some name) u → Stands shared new (lines ++ l ∷ [])
     stands_own own lacks e g w =
-        stands_with new.text.bytes d.statements
+        stands_with l (statement name u) is new.text.bytes d.statements
         (spells_new d.text.bytes (numbered_lines lines) s.spells (statement name u) new.text.bytes lacks e w)
         (holds_other shared d.statements (numbered_lines lines) s.holds (statement name u) (in_own shared name u own)) refl g
 

@@ -1,12 +1,13 @@
 -- The triples of one page, whose blank nodes come behind those of the pages before it.
-use Rattle.rx_model.proofs.Common.{◌≡◌, ◌∙◌, ℕ, zero, suc, ◌+◌, ◌<◌, ◌≤◌, true, false, List, [], ◌∷◌, ◌++◌, map, flat_map, take, length, Some, refl, sym, ap, ap₂, subst, inl, inr, arith, append-nil, length-append, nat_eq, true≢false, Bool, slice_get, ◌||◌, ◌&&◌, not, map-append, length-map, Chars, and_from, untrue, Among, contains, with_one, with_all, Node, Iri, Blank, Term, Resource, Literal, Triple, blank_of_node, blank_of_term, blanks_of, place_in, rename_node, rename_term, rename, or_cases, and_left, and_right, Among_left, Among_right, false_unless, Among_cases, Among_of_map, Among_flat_map, Among_of_flat_map, Among_of_distinct, Among_by_contains}
+use Rattle.rx_model.proofs.Common.{◌≡◌, ◌∙◌, ℕ, zero, suc, ◌+◌, ◌<◌, ◌≤◌, true, false, List, [], ◌∷◌, ◌++◌, map, flat_map, take, length, Some, refl, sym, ap, ap₂, subst, inl, inr, arith, append-nil, length-append, nat_eq, true≢false, Bool, slice_get, ◌||◌, ◌&&◌, not, Chars, and_from, untrue, Among, contains, with_one, with_all, Node, Iri, Blank, Term, Resource, Literal, Triple, blank_of_node, blank_of_term, blanks_of, place_in, rename_node, rename_term, rename, or_cases, and_left, and_right, Among_left, Among_right, false_unless, Among_cases, Among_of_map, Among_flat_map, Among_of_flat_map, Among_of_distinct, Among_by_contains}
+use Rattle.std.proofs.lemmas.List.{length-take, map-append, length-map}
 use Rattle.std.specs.Str.{encode_utf8_all}
 use Rattle.rx_refs.specs.Resolve.{without_fragment}
 use Rattle.rx_graph.proofs.NumberLemmas.{same_triple_by}
 use Rattle.rx_pieces.specs.Writable.{WritableTriple}
 use Rattle.rx_many.specs.Blank.{has_blank, is_blank_node, is_blank_term}
 use Rattle.rx_many.specs.Names.{name_of, AreApart}
-use Rattle.rx_many.specs.Lines.{Line, PageBlank, statement, statement_at, at_place, line_blanks, lines_by, lines_of, lines_from, same_blank, same_line, table, rename_line, numbered_lines}
+use Rattle.rx_many.specs.Lines.{Line, PageBlank, comment, statement, statement_at, at_place, line_blanks, lines_by, lines_of, lines_from, same_blank, same_line, table, rename_line, numbered_lines}
 use Rattle.rx_many.specs.Numbering.{Numbers, number_at}
 use Rattle.rx_many.specs.Pages.{Judgement, refused, accepted, accepted_page}
 use Rattle.rx_many.specs.Seen.{page_seen}
@@ -14,7 +15,7 @@ use Rattle.rx_many.specs.declared.pages.Page.{Page as CodePage}
 use Rattle.rx_many.specs.Standing.{AreBefore, AreNew, ComeLast, DocumentStands, PageStands, Stands, Tells}
 use Rattle.rx_many.specs.Writing.{line_text}
 use Rattle.rx_many.specs.declared.documents.Document.{Document}
-use Rattle.rx_many.proofs.FreshLemmas.{still_new, line_named, lines_named}
+use Rattle.rx_many.proofs.FreshLemmas.{still_new, line_here, lines_named}
 use Rattle.rx_many.proofs.KeyLemmas.{exact_blanks}
 use Rattle.rx_many.proofs.HereLemmas.{known_here, number_here}
 use Rattle.rx_many.proofs.LineLemmas.{table_more, stands_old, stands_new, stands_own}
@@ -30,7 +31,7 @@ module _ {A B : Type 0} (to : A → B) where
   term_blanks (Resource n) = node_blanks n
   term_blanks (Literal lexical kind) = refl
 
-  triple_blanks : (t : Triple A) → blanks_of (rename to t) ≡ map to (blanks_of t)
+  pub triple_blanks : (t : Triple A) → blanks_of (rename to t) ≡ map to (blanks_of t)
   triple_blanks t = ap₂ ◌++◌ (node_blanks t.subject) (term_blanks t.object) ∙ sym (map-append to (blank_of_node t.subject) (blank_of_term t.object))
 
 module _ (f : ℕ → PageBlank) (p : PageBlank → ℕ) where
@@ -182,12 +183,11 @@ in_graph shared place d lines address name triples e s =
 -- ---- the blank nodes of the pages before
 
 line_place : (start : ℕ) (address : Chars) (judgement : Judgement) (l : Line PageBlank) (x : PageBlank) → Among (lines_by start address judgement) l → Among (line_blanks l) x → x.0 ≡ start
-line_place start address (refused fault) l x (inl e) n = absurd (subst (λ (z : Line PageBlank). Among (line_blanks z) x) (sym e) n)
-line_place start address (refused fault) l x (inr none) n = absurd none
-line_place start address (accepted triples) l x m n =
-    let s = Among_of_map (statement_at start (without_fragment address)) triples l m in
-    let of : Among (blanks_of (rename (at_place start) s.0)) x = subst (λ (z : Line PageBlank). Among (line_blanks z) x) (sym s.2) n in
-    let b = Among_of_map (at_place start) (blanks_of s.0) x (subst (λ (z : List PageBlank). Among z x) (triple_blanks (at_place start) s.0) of) in
+line_place start address judgement (comment a f) x m n = absurd n
+line_place start address judgement (statement name u) x m n =
+    let g = line_here start address judgement name u m in
+    let of : Among (blanks_of (rename (at_place start) g.triple)) x = subst (λ (z : Triple PageBlank). Among (blanks_of z) x) g.is n in
+    let b = Among_of_map (at_place start) (blanks_of g.triple) x (subst (λ (z : List PageBlank). Among z x) (triple_blanks (at_place start) g.triple) of) in
     sym (ap (λ (p : PageBlank). p.0) b.2)
 
 places_below : (start : ℕ) (pages : List CodePage) (x : PageBlank) → Among (flat_map line_blanks (lines_from start (map page_seen pages))) x → x.0 < start + length pages
@@ -199,18 +199,12 @@ places_below start (page ∷ pages) x m =
       | inr k ↦ (let later = places_below (suc start) pages x (Among_flat_map line_blanks (lines_from (suc start) (map page_seen pages)) s.0 x k s.2) in omega (arith, later))
     ]
 
-take_short : {A : Type 0} (n : ℕ) (xs : List A) → length (take n xs) ≤ n
-take_short zero xs = omega arith
-take_short (suc n) [] = omega arith
-take_short (suc n) (x ∷ xs) = let rest = take_short n xs in omega (arith, rest)
-
 pub pages_before : (pages : List CodePage) (i : ℕ) → AreBefore i (table (lines_from 0 (map page_seen (take i pages))))
 pages_before pages i b =
     let lines : List (Line PageBlank) = lines_from 0 (map page_seen (take i pages)) in
     false_unless (contains same_blank (table lines) (at_place i b))
     (λ h. let below = places_below 0 (take i pages) (at_place i b) (Among_of_distinct same_blank (flat_map line_blanks lines) (at_place i b) (Among_by_contains same_blank exact_blanks (table lines) (at_place i b) h)) in
-    let short = take_short i pages in
-    let apart : i < i = omega (arith, below, short) in omega (arith, apart))
+    let apart : i < i = omega (arith, below, length-take i pages) in omega (arith, apart))
 
 -- what a page states is in no line of those before, where it has a blank node or its graph's name is of this page alone
 pub page_is_new : (shared : List Chars) (pages : List CodePage) → AreApart shared pages → (i : ℕ) (page : CodePage) → slice_get pages i ≡ Some page
@@ -218,15 +212,14 @@ pub page_is_new : (shared : List Chars) (pages : List CodePage) → AreApart sha
 page_is_new shared pages apart i page at name t own m k = go (has_blank t) refl
   where
     named : name_of page ≡ name
-    named = line_named i page.address (page_seen page).judgement name t m
+    named = sym (line_here i page.address (page_seen page).judgement name t m).named
 
     go : (b : Bool) → has_blank t ≡ b → ⊥
     go true e =
         let x = its_blank t e in
         let here = line_place i page.address (page_seen page).judgement (statement name t) x.0 m x.1 in
         let below = places_below 0 (take i pages) x.0 (Among_flat_map line_blanks (lines_from 0 (map page_seen (take i pages))) (statement name t) x.0 k x.1) in
-        let short = take_short i pages in
-        omega (arith, here, below, short)
+        omega (arith, here, below, length-take i pages)
     go false e =
         apart i page at (λ h. own (subst (λ (z : Chars). Among shared z) named h) e)
         (subst (λ (z : Chars). Among (map name_of (take i pages)) z) (sym named) (lines_named 0 (take i pages) name t k))
