@@ -32,27 +32,20 @@ pub record From (ts : List Token) (es : List Event) (last : State) : Type 0 wher
   pub at : At next ts
   pub rest : TakesAll next es last
 
-added : (s new : State) (ts more : List Token) → At s ts → new ≡ with s more → At new (ts ++ more)
-added s new ts more a is =
-    subst (λ (n : State). At n (ts ++ more)) (sym is)
-    (record { no_key = a.no_key; no_flat = a.no_flat; none_flattens = a.none_flattens; tokens_are = ap (λ us. us ++ more) a.tokens_are })
+-- what is added to the tokens, at any depth
+grown : (s new : State) (ts more : List Token) (n : ℕ) → At s ts → new ≡ record s { depth = n; tokens = s.tokens ++ more } → At new (ts ++ more)
+grown s new ts more n a is =
+    subst (λ (m : State). At m (ts ++ more)) (sym is) (record { no_key = a.no_key; no_flat = a.no_flat; none_flattens = a.none_flattens; tokens_are = ap (λ us. us ++ more) a.tokens_are })
 
--- an open object, and one that ends
-opens : (s new : State) (ts : List Token) (n : ℕ) → At s ts → new ≡ record s { depth = n; tokens = s.tokens ++ Token.begin_object ∷ [] } → At new (ts ++ Token.begin_object ∷ [])
-opens s new ts n a is =
-    subst (λ (m : State). At m (ts ++ Token.begin_object ∷ [])) (sym is)
-    (record { no_key = a.no_key; no_flat = a.no_flat; none_flattens = a.none_flattens; tokens_are = ap (λ us. us ++ Token.begin_object ∷ []) a.tokens_are })
+added : (s new : State) (ts more : List Token) → At s ts → new ≡ with s more → At new (ts ++ more)
+added s new ts more a is = grown s new ts more s.depth a is
 
 never_last : (rest : List ℕ) (n : ℕ) → [] ≡ rest ++ n ∷ [] → ⊥
 never_last [] n e = cc
 never_last (x ∷ rest) n e = cc
 
 ends : (s new : State) (ts : List Token) → At s ts → TakesEnd s new → At new (ts ++ Token.end_object ∷ [])
-ends s new ts a t =
-    ⊎_elim (λ x. absurd (never_last x.0 (s.depth - 1) (sym a.no_flat ∙ x.1)))
-    (λ y. subst (λ (m : State). At m (ts ++ Token.end_object ∷ [])) (sym y.1)
-    (record { no_key = a.no_key; no_flat = a.no_flat; none_flattens = a.none_flattens; tokens_are = ap (λ us. us ++ Token.end_object ∷ []) a.tokens_are }))
-    t
+ends s new ts a t = ⊎_elim (λ x. absurd (never_last x.0 (s.depth - 1) (sym a.no_flat ∙ x.1))) (λ y. grown s new ts (Token.end_object ∷ []) (s.depth - 1) a y.1) t
 
 -- the branch that is not taken
 other : {X : Type 0} (b : Bool) (x y z : X) → b ≡ false → z ≡ (if b then x else y) → z ≡ y
@@ -75,7 +68,7 @@ module _ (last : State) where
         moved (ts ++ Token.begin_array ∷ []) (items_tokens (items_outline ds)) (ts ++ Token.begin_array ∷ items_tokens (items_outline ds)) es last (append_assoc ts _ _)
         (items_taken ds p t.0 (ts ++ Token.begin_array ∷ []) begun es (subst (λ us. TakesAll t.0 us last) (append_assoc (items_events ds) (event.seq_ends ∷ []) es) t.2))
     value_taken (object ms) p s ts a es t =
-        let begun = opens s t.0 ts (min (s.depth + 1) (2 ^ 64 - 1)) a (other s.flattens _ _ t.0 a.none_flattens t.1.1) in
+        let begun = grown s t.0 ts (Token.begin_object ∷ []) (min (s.depth + 1) (2 ^ 64 - 1)) a (other s.flattens _ _ t.0 a.none_flattens t.1.1) in
         moved (ts ++ Token.begin_object ∷ []) (members_tokens (members_outline ms)) (ts ++ Token.begin_object ∷ members_tokens (members_outline ms)) es last (append_assoc ts _ _)
         (members_taken ms p t.0 (ts ++ Token.begin_object ∷ []) begun es (subst (λ us. TakesAll t.0 us last) (append_assoc (members_events ms) (event.map_ends ∷ []) es) t.2))
 

@@ -11,7 +11,7 @@ use Rattle.serde_json.specs.Read.{read, max_depth, of_json, of_items, of_members
 use Rattle.serde_json.specs.Written.{compact_text, outline, items_outline, members_outline}
 use Rattle.serde_json.proofs.Texts.{print-outline}
 use Rattle.rx_json.specs.Plain.{Leads, IsPlain, ArePlain, MembersArePlain}
-use Rattle.rx_json.proofs.PlainLemmas.{turned}
+use Rattle.rx_json.proofs.PlainLemmas.{turned, outlined}
 
 -- a name comes behind each of these
 abbrev pub Trails : List ℕ → Members → Type 0
@@ -77,40 +77,6 @@ mutual
       ∙ of_members_outline (joined done (member name d no_members)) more (follow_more done name d more f.1 p.1) p.2
       ∙ ap Some (joined_on done name d more)
 
-mutual
-  has_numbers : (d : Data) → IsPlain d → tree.HasNumbers (outline d)
-  has_numbers null p = tt
-  has_numbers (boolean b) p = tt
-  has_numbers (number n) p = absurd p
-  has_numbers (string s) p = tt
-  has_numbers (array ds) p = items_have_numbers ds p
-  has_numbers (object ms) p = members_have_numbers ms p
-
-  items_have_numbers : (ds : Items) → ArePlain ds → tree.ItemsHaveNumbers (items_outline ds)
-  items_have_numbers no_items p = tt
-  items_have_numbers (item d ds) p = (has_numbers d p.0, items_have_numbers ds p.1)
-
-  members_have_numbers : (ms : Members) → MembersArePlain ms → tree.MembersHaveNumbers (members_outline ms)
-  members_have_numbers no_members p = tt
-  members_have_numbers (member name d more) p = (has_numbers d p.0, members_have_numbers more p.2)
-
-mutual
-  outline_depth : (d : Data) → tree.depth (outline d) ≡ depth d
-  outline_depth null = refl
-  outline_depth (boolean b) = refl
-  outline_depth (number n) = refl
-  outline_depth (string s) = refl
-  outline_depth (array ds) = ap suc (items_outline_depth ds)
-  outline_depth (object ms) = ap suc (members_outline_depth ms)
-
-  items_outline_depth : (ds : Items) → tree.items_depth (items_outline ds) ≡ items_depth ds
-  items_outline_depth no_items = refl
-  items_outline_depth (item d ds) = ap₂ max (outline_depth d) (items_outline_depth ds)
-
-  members_outline_depth : (ms : Members) → tree.members_depth (members_outline ms) ≡ members_depth ms
-  members_outline_depth no_members = refl
-  members_outline_depth (member name d more) = ap₂ max (outline_depth d) (members_outline_depth more)
-
 abbrev whole : Option (json.Json × List Token) → Option Data
 whole found = option_and_then of_json (option_and_then (λ (p : json.Json × List Token). json.if_last p.0 p.1) found)
 
@@ -118,10 +84,10 @@ whole found = option_and_then of_json (option_and_then (λ (p : json.Json × Lis
 pub tokens_read : (d : Data) → IsPlain d → depth d ≤ max_depth → (text : List ℕ) → tokens text ≡ tree.json_tokens (outline d) → read text ≡ Some d
 tokens_read d plain shallow text are =
     let ts : List Token = tree.json_tokens (outline d) in
-    let deep = outline_depth d in
+    let deep = (outlined d plain).2 in
     ap whole (ap (json.value max_depth) (are ∙ sym (append-nil ts)) ∙ value-json_tokens (outline d) max_depth [] (omega (arith, shallow, deep))) ∙ of_outline d plain
 
 pub read_back : (d : Data) → IsPlain d → depth d ≤ max_depth → read (compact_text d) ≡ Some d
 read_back d plain shallow =
     let ts : List Token = tree.json_tokens (outline d) in
-    tokens_read d plain shallow (compact_text d) (ap tokens (sym (print-outline d)) ∙ tokens-print ts (ArePrintable-json_tokens (outline d) (has_numbers d plain)))
+    tokens_read d plain shallow (compact_text d) (ap tokens (sym (print-outline d)) ∙ tokens-print ts (ArePrintable-json_tokens (outline d) (outlined d plain).1))

@@ -116,16 +116,13 @@ module _ (list : List (Triple ℕ)) where
 
   higher : (b : ℕ) (more : List ℕ) → IsChain (b ∷ more) → (x : ℕ) → Among more x → (e : Ends (set_of list) (Blank b)) (f : Ends (set_of list) (Blank x)) → height list e < height list f
   higher b [] links x m e f = absurd m
-  higher b (d ∷ more) links x (inl q) e f =
+  higher b (d ∷ more) links x m e f =
       let g : Ends (set_of list) (Blank d) = cell_ends d links.1.0.cell in
       let one : height list g ≡ suc (height list e) = one_higher b d links.1.0.cell (rest_there b d more links.0) e g in
-      let same : height list g ≡ height list f = heights_alike list (ap (λ (z : ℕ). Blank z) q) g f in
-      omega (arith, one, same)
-  higher b (d ∷ more) links x (inr m) e f =
-      let g : Ends (set_of list) (Blank d) = cell_ends d links.1.0.cell in
-      let one : height list g ≡ suc (height list e) = one_higher b d links.1.0.cell (rest_there b d more links.0) e g in
-      let less : height list g < height list f = higher d more links.1 x m g f in
-      omega (arith, one, less)
+      elim m [
+        | inl q ↦ let same = heights_alike list (ap (λ (z : ℕ). Blank z) q) g f in omega (arith, one, same)
+        | inr n ↦ let less = higher d more links.1 x n g f in omega (arith, one, less)
+      ]
 
   pub chain_differs : (cells : List ℕ) → IsChain cells → Differ cells
   chain_differs [] links = tt
@@ -247,11 +244,9 @@ module _ (list : List (Triple ℕ)) where
     root t u h k m n a b x cell (onto {c = c} cd cx rest r) (onto {c = d} ce cy other s) =
         let same : spo (Blank c) rdf_rest (Resource (Blank x)) ≡ spo (Blank d) rdf_rest (Resource (Blank x)) =
         same_parent x cell (spo (Blank c) rdf_rest (Resource (Blank x))) (spo (Blank d) rdf_rest (Resource (Blank x))) rest other refl refl in
-        let back : d ≡ c = blank_same d c (ap (λ (z : Triple ℕ). z.subject) (sym same)) in
+        let path : Blank d ≡ Blank c = ap (λ (z : Triple ℕ). z.subject) (sym same) in
+        let back : d ≡ c = cc in
         root t u h k m n a b c cd r (subst (Reached k) back s)
-      where
-        blank_same : (d c : ℕ) → Blank d ≡ Blank c → d ≡ c
-        blank_same d c e = cc
 
     pub one_root : (t u : Triple ℕ) (x : ℕ) → Among list t → Among list u → Among (cells_at shapes list t) x → Among (cells_at shapes list u) x → t ≡ u
     one_root t u x m n a b =
@@ -283,28 +278,23 @@ module _ (list : List (Triple ℕ)) where
 
     -- the object of a node that isn't listed, where it is no first cell
     pub object_free : (t : Triple ℕ) (o : ℕ) → Among list t → t.object ≡ Resource (Blank o) → is_listed shapes list t.subject ≡ false → first_cell shapes t ≡ None → is_listed shapes list (Blank o) ≡ false
-    object_free t o m e free none = unlisted o (λ l. go l (listed_at l.triple o l.at))
-      where
-        go : (l : Listed o) → ListedAt l.triple o → ⊥
-        go l at = elim at.from [
+    object_free t o m e free none = unlisted o (λ l.
+        let at = listed_at l.triple o l.at in
+        elim at.from [
           | inl q ↦
               let same : t ≡ l.triple = same_parent o at.cell t l.triple m l.there e (at.headed_by.head.object ∙ ap (λ z. Resource (Blank z)) (sym q)) in
-              nothing (subst (λ (z : List ℕ). Among z o) (cells_none l.triple (ap (first_cell shapes) (sym same) ∙ none)) l.at)
+              subst (λ (z : List ℕ). Among z o) (cells_none l.triple (ap (first_cell shapes) (sym same) ∙ none)) l.at
           | inr b ↦
               let same : t ≡ spo (Blank b.before) rdf_rest (Resource (Blank o)) = same_parent o at.cell t (spo (Blank b.before) rdf_rest (Resource (Blank o))) m b.rest e refl in
               let yes : is_listed shapes list t.subject ≡ true = ap (λ (z : Triple ℕ). is_listed shapes list z.subject) same ∙ there_listed b.before (to_listed l.triple b.before l.there b.there) in
               true≢false (sym yes ∙ free)
-        ]
-          where
-            nothing : ⊥ → ⊥
-            nothing x = x
+        ])
 
     -- an item of a cell
     pub item_free : (c o : ℕ) → Among list (spo (Blank c) rdf_first (Resource (Blank o))) → is_listed shapes list (Blank o) ≡ false
-    item_free c o m = unlisted o (λ l. go l (listed_at l.triple o l.at))
-      where
-        go : (l : Listed o) → ListedAt l.triple o → ⊥
-        go l at = elim at.from [
+    item_free c o m = unlisted o (λ l.
+        let at = listed_at l.triple o l.at in
+        elim at.from [
           | inl q ↦
               let same : l.triple ≡ spo (Blank c) rdf_first (Resource (Blank o)) = same_parent o at.cell l.triple (spo (Blank c) rdf_first (Resource (Blank o))) l.there m (at.headed_by.head.object ∙ ap (λ z. Resource (Blank z)) (sym q)) refl in
               no_item l.triple.predicate l.triple.subject (ap (λ (z : Triple ℕ). z.predicate) same) at.headed_by.head.may
@@ -312,7 +302,7 @@ module _ (list : List (Triple ℕ)) where
               let same : spo (Blank b.before) rdf_rest (Resource (Blank o)) ≡ spo (Blank c) rdf_first (Resource (Blank o)) =
               same_parent o at.cell (spo (Blank b.before) rdf_rest (Resource (Blank o))) (spo (Blank c) rdf_first (Resource (Blank o))) b.rest m refl refl in
               first_is_not_rest (sym (ap (λ (z : Triple ℕ). z.predicate) same))
-        ]
+        ])
 
     -- the subject of a head
     pub subject_free : (t : Triple ℕ) (h : ℕ) → Among list t → Head t h → is_listed shapes list t.subject ≡ false

@@ -1,10 +1,11 @@
 -- The value of a list denotes its triples.
-use Rattle.rx_jsonld.proofs.Common.{◌≡◌, ◌∙◌, ◌⊎◌, ◌↔◌, ◌≤◌, ◌<◌, ◌^◌, ℕ, suc, ◌+◌, nat_eq, Bool, true, false, cond, List, [], ◌∷◌, ◌++◌, map, flat_map, length, get_or, refl, sym, ap, inl, inr, subst, true≢false, arith, append_assoc, not, IsIri, Chars, untrue, decimal_is_IsNumeral, items_of, Among, contains, Node, Iri, Blank, Term, Resource, Literal, Triple, same_node, same_triple, set_of, spo, rename_node, rename_term, rename, blank_of_node, blank_of_term, blanks_of, place_in, Has, Renamed, Among_right, Among_cases, Among_map, Among_of_map, Among_filter, Among_of_filter, Among_flat_map, Among_of_flat_map, Among_by_contains, Among-contains, Among_of_distinct, false_unless, exact_numbers, exact_triples, rdf_first, rdf_rest, proper_term, proper_triple, WritableNode, WritableTerm, IsWritable, Shape, has_subject, about, subjects, HaveShapes, cells_at, listed, is_listed, node_value, tops, jsonld, all_triples, Name, Label, Place, JsonLd, ValueDenotes}
+use Rattle.rx_jsonld.proofs.Common.{◌≡◌, ◌∙◌, ◌↔◌, ◌≤◌, ◌<◌, ◌^◌, ℕ, suc, ◌+◌, nat_eq, true, false, cond, List, [], ◌∷◌, ◌++◌, map, flat_map, length, get_or, refl, sym, ap, inl, inr, subst, true≢false, arith, append_assoc, not, IsIri, Chars, decimal_is_IsNumeral, items_of, Among, contains, Node, Iri, Blank, Term, Resource, Literal, Triple, same_node, same_triple, set_of, spo, rename_node, rename_term, rename, blank_of_node, blank_of_term, blanks_of, place_in, Has, Renamed, Among_right, Among_cases, Among_map, Among_of_map, Among_filter, Among_of_filter, Among_flat_map, Among_of_flat_map, Among_by_contains, Among-contains, Among_of_distinct, false_unless, exact_numbers, exact_triples, rdf_first, rdf_rest, proper_term, proper_triple, WritableNode, WritableTerm, IsWritable, Shape, has_subject, about, subjects, HaveShapes, cells_at, listed, is_listed, node_value, tops, jsonld, all_triples, Name, Label, Place, JsonLd, ValueDenotes}
+use Rattle.rx_terms.proofs.Bools.{untrue, by_test}
 use Rattle.std.specs.Str.Parse.{digits_value}
 use Rattle.std.proofs.lemmas.List.{length-append}
 use Rattle.rx_shapes.proofs.Grouped.{same_nodes, about_there, subject_there, of_about}
 use Rattle.rx_shapes.proofs.Heights.{Differ}
-use Rattle.rx_shapes.proofs.Times.{times, times_append, times_there, one_if, once_differ, differ_filter, distinct_differ}
+use Rattle.rx_shapes.proofs.Times.{times, times_append, times_there, once_differ, differ_filter, distinct_differ}
 use Rattle.rx_jsonld.proofs.Cells.{IsChain, cells_chain, chain_differs, one_root, of_listed, to_listed, listed_there, there_listed, root_subject}
 use Rattle.rx_jsonld.proofs.Parts.{PartStands, Naming, FreeNode, label_of, item_is, cell_triples, told}
 use Rattle.rx_jsonld.proofs.Docs.{Docs, docs}
@@ -13,50 +14,35 @@ use Rattle.rx_jsonld.proofs.Docs.{Docs, docs}
 
 times_none : (b : ℕ) (xs : List ℕ) → ¬ (Among xs b) → times b xs ≡ 0
 times_none b [] h = refl
-times_none b (x ∷ xs) h = go (nat_eq b x) refl (times_none b xs (λ m. h (inr m)))
-  where
-    go : (t : Bool) → nat_eq b x ≡ t → times b xs ≡ 0 → one_if t + times b xs ≡ 0
-    go true e k = absurd (h (inl (sym ((exact_numbers b x).0 e))))
-    go false e k = omega (arith, k)
+times_none b (x ∷ xs) h =
+    let rest = times_none b xs (λ m. h (inr m)) in
+    by_test (nat_eq b x) (λ e. absurd (h (inl (sym ((exact_numbers b x).0 e))))) (λ e. rw e (omega (arith, rest)))
 
 is_there : (b : ℕ) (xs : List ℕ) → 1 ≤ times b xs → Among xs b
-is_there b xs h = go (contains nat_eq xs b) refl
-  where
-    go : (t : Bool) → contains nat_eq xs b ≡ t → Among xs b
-    go true e = Among_by_contains nat_eq exact_numbers xs b e
-    go false e =
-        let none : times b xs ≡ 0 = times_none b xs (λ m. true≢false (sym (Among-contains nat_eq exact_numbers xs b m) ∙ e)) in
-        absurd (omega (arith, h, none))
+is_there b xs h = by_test (contains nat_eq xs b) (λ e. Among_by_contains nat_eq exact_numbers xs b e) (λ e.
+    let none = times_none b xs (λ m. true≢false (sym (Among-contains nat_eq exact_numbers xs b m) ∙ e)) in
+    absurd (omega (arith, h, none)))
 
 differ_once : (b : ℕ) (xs : List ℕ) → Differ xs → times b xs ≤ 1
 differ_once b [] d = omega arith
-differ_once b (x ∷ xs) d = go (nat_eq b x) refl (differ_once b xs d.1)
-  where
-    go : (t : Bool) → nat_eq b x ≡ t → times b xs ≤ 1 → one_if t + times b xs ≤ 1
-    go true e k =
-        let none : times b xs ≡ 0 = times_none b xs (λ m. d.0 (subst (Among xs) ((exact_numbers b x).0 e) m)) in
-        omega (arith, none)
-    go false e k = omega (arith, k)
+differ_once b (x ∷ xs) d =
+    let rest = differ_once b xs d.1 in
+    by_test (nat_eq b x) (λ e. let none = times_none b xs (λ m. d.0 (subst (Among xs) ((exact_numbers b x).0 e) m)) in rw e (omega (arith, none))) (λ e. rw e (omega (arith, rest)))
 
 once_in_all : {A : Type 0} (f : A → List ℕ) (b : ℕ) (xs : List A) → Differ xs → ((x : A) → Among xs x → times b (f x) ≤ 1)
     → ((x y : A) → Among xs x → Among xs y → Among (f x) b → Among (f y) b → x ≡ y) → times b (flat_map f xs) ≤ 1
 once_in_all f b [] d one root = omega arith
-once_in_all {A} f b (x ∷ xs) d one root = go (contains nat_eq (f x) b) refl (once_in_all f b xs d.1 (λ y m. one y (inr m)) (λ y z m n. root y z (inr m) (inr n)))
-  where
-    both : times b (f x ++ flat_map f xs) ≡ times b (f x) + times b (flat_map f xs)
-    both = times_append b (f x) (flat_map f xs)
-
-    go : (t : Bool) → contains nat_eq (f x) b ≡ t → times b (flat_map f xs) ≤ 1 → times b (f x ++ flat_map f xs) ≤ 1
-    go true e rest =
-        let here : Among (f x) b = Among_by_contains nat_eq exact_numbers (f x) b e in
-        let none : times b (flat_map f xs) ≡ 0 = times_none b (flat_map f xs) (λ m.
-        let y = Among_of_flat_map f xs b m in
-        d.0 (subst (λ (z : A). Among xs z) (sym (root x y.0 (inl refl) (inr y.1) here y.2)) y.1)) in
-        let most : times b (f x) ≤ 1 = one x (inl refl) in
-        omega (arith, both, none, most)
-    go false e rest =
-        let none : times b (f x) ≡ 0 = times_none b (f x) (λ m. true≢false (sym (Among-contains nat_eq exact_numbers (f x) b m) ∙ e)) in
-        omega (arith, both, none, rest)
+once_in_all {A} f b (x ∷ xs) d one root =
+    let both = times_append b (f x) (flat_map f xs) in
+    let rest = once_in_all f b xs d.1 (λ y m. one y (inr m)) (λ y z m n. root y z (inr m) (inr n)) in
+    by_test (contains nat_eq (f x) b) (λ e.
+    let here : Among (f x) b = Among_by_contains nat_eq exact_numbers (f x) b e in
+    let none = times_none b (flat_map f xs) (λ m.
+    let y = Among_of_flat_map f xs b m in
+    d.0 (subst (λ (z : A). Among xs z) (sym (root x y.0 (inl refl) (inr y.1) here y.2)) y.1)) in
+    let most : times b (f x) ≤ 1 = one x (inl refl) in
+    omega (arith, both, none, most))
+    (λ e. let none = times_none b (f x) (λ m. true≢false (sym (Among-contains nat_eq exact_numbers (f x) b m) ∙ e)) in omega (arith, both, none, rest))
 
 -- ---- names by place
 
@@ -74,19 +60,11 @@ module _ (cells : List ℕ) where
 
   found_again : (xs : List ℕ) (b : ℕ) → Among xs b → get_or xs (place_in nat_eq xs b) 0 ≡ b
   found_again [] b m = absurd m
-  found_again (x ∷ xs) b m = go (nat_eq x b) refl m (found_again xs b)
-    where
-      go : (t : Bool) → nat_eq x b ≡ t → (x ≡ b) ⊎ Among xs b → (Among xs b → get_or xs (place_in nat_eq xs b) 0 ≡ b) → get_or (x ∷ xs) (cond t 0 (suc (place_in nat_eq xs b))) 0 ≡ b
-      go true e m ih = (exact_numbers x b).0 e
-      go false e (inl q) ih = absurd (true≢false (sym ((exact_numbers x b).1 q) ∙ e))
-      go false e (inr k) ih = ih k
+  found_again (x ∷ xs) b (inl q) = rw ((exact_numbers x b).1 q) q
+  found_again (x ∷ xs) b (inr k) = by_test (nat_eq x b) (λ e. rw e ((exact_numbers x b).0 e)) (λ e. rw e (found_again xs b k))
 
   name_again : (b : ℕ) → b < 2 ^ 64 → number_of (name_of b) ≡ b
-  name_again b h = go (contains nat_eq cells b) refl
-    where
-      go : (t : Bool) → contains nat_eq cells b ≡ t → number_of (cond t (Place (place_in nat_eq cells b)) (label_of b)) ≡ b
-      go true e = found_again cells b (Among_by_contains nat_eq exact_numbers cells b e)
-      go false e = (decimal_is_IsNumeral b h).1
+  name_again b h = by_test (contains nat_eq cells b) (λ e. rw e (found_again cells b (Among_by_contains nat_eq exact_numbers cells b e))) (λ e. rw e (decimal_is_IsNumeral b h).1)
 
   place_of_first : (front more : List ℕ) (x : ℕ) → ¬ (Among front x) → place_in nat_eq (front ++ x ∷ more) x ≡ length front
   place_of_first [] more x h = ap (λ t. cond t 0 (suc (place_in nat_eq more x))) ((exact_numbers x x).1 refl)
@@ -322,11 +300,7 @@ module _ (list : List (Triple ℕ)) (shapes : ℕ → Shape) (writable : IsWrita
       put_there l.triple (proper_triple u) l.there (root_subject list shapes have b l) (inr (cell_told (cells_at shapes list l.triple) (cells_chain list shapes have l.triple) b l.at u m q))
 
   in_docs : (u : Triple ℕ) → Among list u → Among the_docs.triples (proper_triple u)
-  in_docs u m = go (is_listed shapes list u.subject) refl
-    where
-      go : (t : Bool) → is_listed shapes list u.subject ≡ t → Among the_docs.triples (proper_triple u)
-      go true e = listed_put u m u.subject refl e
-      go false e = put_there u (proper_triple u) m e (inl refl)
+  in_docs u m = by_test (is_listed shapes list u.subject) (λ e. listed_put u m u.subject refl e) (λ e. put_there u (proper_triple u) m e (inl refl))
 
   same_triples : (u : Triple ℕ) → Among the_docs.triples u ↔ Among graph u
   same_triples u = (of_docs u, λ m. let f = Among_of_map proper_triple list u m in subst (Among the_docs.triples) f.2 (in_docs f.0 f.1))

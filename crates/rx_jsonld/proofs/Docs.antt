@@ -2,8 +2,8 @@
 use Rattle.rx_jsonld.proofs.Common.{◌≡◌, ◌∙◌, ◌⊎◌, ℕ, ◌+◌, false, List, [], ◌∷◌, ◌++◌, map, flat_map, length, codes, refl, sym, ap, ap₂, inl, inr, subst, arith, map-append, IsIri, Members, no_members, member, items_of, Among, Node, Triple, rename, Among_left, Among_right, Among_cases, WritableTerm, Shape, about, HaveShapes, cells_at, is_listed, string_of, id_text, with_said, with_all, node_value, Id, NodeObject, Document, SpellsEach, SpellsNode, ids, cells_of_all, entries_triples, triples_by, node_triples, all_triples, Name, Label, Place}
 use Rattle.rx_shapes.proofs.Times.{times, times_append}
 use Rattle.rx_jsonld.proofs.Parts.{PartStands, stands_front, stands_behind, Naming, FreeNode, names_node, node_named, told}
-use Rattle.rx_jsonld.proofs.PlainLemmas.{rising_differ, all_said_plain}
-use Rattle.rx_jsonld.proofs.Entries.{Part, part_cells, part_triples, part_entries, Inserted, AllFine, all_spelled, all_size, all_named, said_step}
+use Rattle.rx_jsonld.proofs.PlainLemmas.{rising_differ, id_said_fit}
+use Rattle.rx_jsonld.proofs.Entries.{Part, part_cells, part_triples, part_entries, Inserted, AllFine, all_fine, said_step}
 
 -- ---- counts
 
@@ -106,23 +106,24 @@ module _ (list : List (Triple ℕ)) (shapes : ℕ → Shape) (have : HaveShapes 
     node_doc of =
         let said = said_all (about list s) of (member (codes "@id") (string_of (id_text s)) no_members) (id_part ∷ []) id_fine in
         let ms : Members = with_all list shapes (about list s) (member (codes "@id") (string_of (id_text s)) no_members) in
+        let all = all_fine list shapes s ms said.now said.fine in
         record {
           node = part_entries said.now;
           spelled = record {
             members = ms;
             is_object = refl;
-            keys_differ = rising_differ ms (all_said_plain list shapes (about list s) (member (codes "@id") (string_of (id_text s)) no_members) (tt, tt, tt));
-            spelled = all_spelled list shapes s ms said.now said.fine;
+            keys_differ = rising_differ ms (id_said_fit list shapes s).0;
+            spelled = all.0;
             id = id_text s;
             named = said.same_ids;
           };
           cells = part_cells said.now;
           triples = part_triples said.now;
-          size = all_size list shapes s ms said.now said.fine;
+          size = all.1;
           named = λ names naming n k.
               ap (λ i. triples_by Label Place i (part_entries said.now) n) said.same_ids
               ∙ ap (λ z. entries_triples Label Place z (part_entries said.now) n) (node_named list shapes names naming s free_node)
-              ∙ all_named list shapes s names naming ms said.now said.fine n k;
+              ∙ all.2 names naming n k;
           count = λ b. let c = said.count b in omega (arith, c);
           from = λ u m. elim (said.from u m) [ inl k ↦ absurd k | inr k ↦ k ];
           put = λ u m. said.put u m;

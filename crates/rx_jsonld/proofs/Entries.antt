@@ -78,29 +78,30 @@ module _ (list : List (Triple ℕ)) (shapes : ℕ → Shape) (s : Node ℕ) wher
   AllFine (member key value more) [] = ⊥
   AllFine (member key value more) (part ∷ parts) = Fine key value part × AllFine more parts
 
-  pub all_spelled : (ms : Members) (parts : List Part) → AllFine ms parts → SpellsEntries ms (part_entries parts)
-  all_spelled no_members [] h = tt
-  all_spelled no_members (part ∷ parts) h = absurd h
-  all_spelled (member key value more) [] h = absurd h
-  all_spelled (member key value more) (part ∷ parts) h = (h.0.spelled, all_spelled more parts h.1)
-
-  pub all_size : (ms : Members) (parts : List Part) → AllFine ms parts → cells_of_all (part_entries parts) ≡ length (part_cells parts)
-  all_size no_members [] h = refl
-  all_size no_members (part ∷ parts) h = absurd h
-  all_size (member key value more) [] h = absurd h
-  all_size (member key value more) (part ∷ parts) h = ap₂ (λ a b. a + b) h.0.size (all_size more parts h.1) ∙ sym (length-append part.cells (part_cells parts))
-
-  pub all_named : (names : ℕ → Name) → Naming list shapes names → (ms : Members) (parts : List Part) → AllFine ms parts → (n : ℕ) → PartStands names n (part_cells parts)
-      → entries_triples Label Place (rename_node names s) (part_entries parts) n ≡ map (rename names) (part_triples parts)
-  all_named names naming no_members [] h n k = refl
-  all_named names naming no_members (part ∷ parts) h n k = absurd h
-  all_named names naming (member key value more) [] h n k = absurd h
-  all_named names naming (member key value more) (part ∷ parts) h n k =
-      let first = h.0.named names naming n (stands_front names n part.cells (part_cells parts) k) in
-      let rest : PartStands names (n + cells_of part.entry) (part_cells parts) = subst (λ z. PartStands names (n + z) (part_cells parts)) (sym h.0.size) (stands_behind names n part.cells (part_cells parts) k) in
-      ap₂ (λ a b. a ++ b) first (all_named names naming more parts h.1 (n + cells_of part.entry) rest) ∙ sym (map-append (rename names) part.triples (part_triples parts))
+  -- they spell the entries, and have their cells and triples
+  pub all_fine : (ms : Members) (parts : List Part) → AllFine ms parts → SpellsEntries ms (part_entries parts) × (cells_of_all (part_entries parts) ≡ length (part_cells parts))
+      × ((names : ℕ → Name) → Naming list shapes names → (n : ℕ) → PartStands names n (part_cells parts) → entries_triples Label Place (rename_node names s) (part_entries parts) n ≡ map (rename names) (part_triples parts))
+  all_fine no_members [] h = (tt, refl, λ names naming n k. refl)
+  all_fine (member key value more) (part ∷ parts) h =
+      let all = all_fine more parts h.1 in (
+        (h.0.spelled, all.0),
+        ap₂ (λ a b. a + b) h.0.size all.1 ∙ sym (length-append part.cells (part_cells parts)),
+        λ names naming n k.
+            let first = h.0.named names naming n (stands_front names n part.cells (part_cells parts) k) in
+            let rest : PartStands names (n + cells_of part.entry) (part_cells parts) = subst (λ z. PartStands names (n + z) (part_cells parts)) (sym h.0.size) (stands_behind names n part.cells (part_cells parts) k) in
+            ap₂ (λ a b. a ++ b) first (all.2 names naming (n + cells_of part.entry) rest) ∙ sym (map-append (rename names) part.triples (part_triples parts)),
+      )
+  all_fine _ _ h = absurd h
 
   -- ---- one thing more under a key
+
+  module _ (cells : List ℕ) (triples : List (Triple ℕ)) where
+    pub record Grown (ms : Members) (parts : List Part) : Type 0 where
+      pub now : List Part
+      pub fine : AllFine ms now
+      pub cells_put : Inserted cells (part_cells parts) (part_cells now)
+      pub triples_put : Inserted triples (part_triples parts) (part_triples now)
+      pub same_ids : ids (part_entries now) ≡ ids (part_entries parts)
 
   module _ (key : List ℕ) (value : Data) (cells : List ℕ) (triples : List (Triple ℕ)) where
     -- an entry that has it alone
@@ -119,15 +120,8 @@ module _ (list : List (Triple ℕ)) (shapes : ℕ → Shape) (s : Node ℕ) wher
       pub triples_are : now.triples ≡ part.triples ++ triples
       pub same_id : id_in now.entry ≡ id_in part.entry
 
-    pub record Grown (ms : Members) (parts : List Part) : Type 0 where
-      pub now : List Part
-      pub fine : AllFine ms now
-      pub cells_put : Inserted cells (part_cells parts) (part_cells now)
-      pub triples_put : Inserted triples (part_triples parts) (part_triples now)
-      pub same_ids : ids (part_entries now) ≡ ids (part_entries parts)
-
     module _ (fresh : Fresh) (extend : (old : Data) (part : Part) → Fine key old part → Extended old part) where
-      in_front : (ms : Members) (parts : List Part) → AllFine ms parts → Grown (member key (array (item value no_items)) ms) parts
+      in_front : (ms : Members) (parts : List Part) → AllFine ms parts → Grown cells triples (member key (array (item value no_items)) ms) parts
       in_front ms parts h = record {
         now = fresh.part ∷ parts;
         fine = (fresh.fine, h);
@@ -136,14 +130,12 @@ module _ (list : List (Triple ℕ)) (shapes : ℕ → Shape) (s : Node ℕ) wher
         same_ids = ap (λ z. z ++ ids (part_entries parts)) fresh.no_id;
       }
 
-      pub grown : (ms : Members) (parts : List Part) → AllFine ms parts → Grown (with_last key value ms) parts
+      pub grown : (ms : Members) (parts : List Part) → AllFine ms parts → Grown cells triples (with_last key value ms) parts
       grown no_members [] h = in_front no_members [] tt
-      grown no_members (part ∷ parts) h = absurd h
-      grown (member first old more) [] h = absurd h
       grown (member first old more) (part ∷ parts) h = go (slice_cmp nat_cmp key first) refl (grown more parts h.1)
         where
-          go : (o : Ordering) → slice_cmp nat_cmp key first ≡ o → Grown (with_last key value more) parts
-              → Grown (match_ordering o (member key (array (item value no_items)) (member first old more)) (member first (behind value old) more) (member first old (with_last key value more))) (part ∷ parts)
+          go : (o : Ordering) → slice_cmp nat_cmp key first ≡ o → Grown cells triples (with_last key value more) parts
+              → Grown cells triples (match_ordering o (member key (array (item value no_items)) (member first old more)) (member first (behind value old) more) (member first old (with_last key value more))) (part ∷ parts)
           go Less e ih = in_front (member first old more) (part ∷ parts) h
           go Equal e ih =
               let same : first ≡ key = sym (same_texts key first e) in
@@ -162,6 +154,7 @@ module _ (list : List (Triple ℕ)) (shapes : ℕ → Shape) (s : Node ℕ) wher
             triples_put = further_in part.triples triples (part_triples parts) (part_triples ih.now) ih.triples_put;
             same_ids = ap (λ z. id_in part.entry ++ z) ih.same_ids;
           }
+      grown _ _ h = absurd h
 
   -- ---- what a triple says
 
@@ -310,21 +303,11 @@ module _ (list : List (Triple ℕ)) (shapes : ℕ → Shape) (s : Node ℕ) wher
 
     -- ---- either
 
-    pub record Step (ms : Members) (parts : List Part) : Type 0 where
-      pub now : List Part
-      pub fine : AllFine ms now
-      pub cells_put : Inserted (cells_at shapes list t) (part_cells parts) (part_cells now)
-      pub triples_put : Inserted (told list shapes t) (part_triples parts) (part_triples now)
-      pub same_ids : ids (part_entries now) ≡ ids (part_entries parts)
-
-    pub said_step : (ms : Members) (parts : List Part) → AllFine ms parts → Step (with_said list shapes t ms) parts
+    pub said_step : (ms : Members) (parts : List Part) → AllFine ms parts → Grown (cells_at shapes list t) (told list shapes t) (with_said list shapes t ms) parts
     said_step ms parts h = go (type_of t) refl
       where
-        go : (o : Option (Node ℕ)) → type_of t ≡ o → Step (said_by list shapes t o ms) parts
+        go : (o : Option (Node ℕ)) → type_of t ≡ o → Grown (cells_at shapes list t) (told list shapes t) (said_by list shapes t o ms) parts
         go (Some node) e =
             let typed = typed_by t node (bytes_eq t.predicate rdf_type) refl e in
-            let g = grown (codes "@type") (string_of (id_text node)) (cells_at shapes list t) (told list shapes t) (type_fresh node typed) (type_extends node typed) ms parts h in
-            record { now = g.now; fine = g.fine; cells_put = g.cells_put; triples_put = g.triples_put; same_ids = g.same_ids }
-        go None e =
-            let g = grown (encode_utf8_all t.predicate) (object_value list shapes t) (cells_at shapes list t) (told list shapes t) says_fresh says_extends ms parts h in
-            record { now = g.now; fine = g.fine; cells_put = g.cells_put; triples_put = g.triples_put; same_ids = g.same_ids }
+            grown (codes "@type") (string_of (id_text node)) (cells_at shapes list t) (told list shapes t) (type_fresh node typed) (type_extends node typed) ms parts h
+        go None e = grown (encode_utf8_all t.predicate) (object_value list shapes t) (cells_at shapes list t) (told list shapes t) says_fresh says_extends ms parts h

@@ -1,5 +1,5 @@
 -- The events of lists, of values in a row, of literals, and of what a triple says.
-use Rattle.rx_jsonld.proofs.Common.{◌≡◌, ◌∙◌, ◌+◌, ◌<◌, ◌≤◌, ℕ, Bool, true, if◌then◌else◌, List, [], ◌∷◌, ◌++◌, length, map, drop, drop_of_length-le, get_or, codes, encode_utf8_all, Option, Some, None, refl, sym, ap, append_assoc, append-nil, IfOk, OnOk, Result, Ok, Err, AsIs, Data, Grows, data_events, each_events, members_events, both, told_as, each_items, cut, Chars, Kind, Tagged, Typed, Node, Triple, Shape, IsWritable, value_by, value_said, chain, first_cell, numbers_from, item_value, list_from, list_value, literal_members, node_value, object_by, object_value, plain_value, type_of}
+use Rattle.rx_jsonld.proofs.Common.{◌≡◌, ◌∙◌, ◌+◌, ◌<◌, ◌≤◌, ℕ, Bool, true, if◌then◌else◌, List, [], ◌∷◌, ◌++◌, length, map, drop, drop_of_length-le, get_or, codes, encode_utf8_all, Option, Some, None, refl, sym, ap, append_assoc, append-nil, OnOk, Result, Ok, Err, AsIs, Data, Grows, data_events, each_events, members_events, both, told_as, each_items, cut, Chars, Kind, Tagged, Typed, Node, Triple, Shape, IsWritable, value_by, value_said, chain, first_cell, numbers_from, item_value, list_from, list_value, literal_members, node_value, object_by, object_value, plain_value, type_of}
 use Rattle.serde.specs.Event as event
 use Rattle.serde.specs.Event.{Event, Log}
 

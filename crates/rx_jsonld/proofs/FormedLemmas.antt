@@ -1,6 +1,6 @@
 -- What a value denotes is made of terms that have their form.
-use Rattle.rx_jsonld.proofs.Common.{◌+◌, ℕ, zero, suc, Bool, true, false, cond, List, [], ◌∷◌, ◌++◌, map, bytes_eq, Option, refl, sym, subst, inl, inr, IsIri, Chars, Data, Items, Members, no_items, item, no_members, member, Among, Kind, Plain, Tagged, Typed, Node, Iri, Blank, Term, Resource, Literal, Triple, rename_node, rename_term, rename, Among_cases, rdf_type, rdf_first, rdf_rest, rdf_nil, proper_kind, Item, Reference, Value, Object, Single, ListObject, Entry, Id, Types, Property, NodeObject, Document, NamesNode, IsFormed, SpellsEach, SpellsName, SpellsItem, SpellsObject, SpellsEntry, SpellsEntries, SpellsNode, id_in, ids, cells_in, cells_of, cells_of_all, node_by, node_of, term_of, list_node, list_triples, object_triples, objects_triples, type_triple, entry_triples, entries_triples, triples_by, node_triples, all_triples, Label, Place, IsFormedNode, IsFormedTerm, IsFormedTriple, DenotesFormed}
-use Rattle.rx_terms.specs.Literal.{xsd_string}
+use Rattle.rx_jsonld.proofs.Common.{◌+◌, ℕ, zero, suc, List, [], ◌∷◌, ◌++◌, map, bytes_eq, Option, refl, sym, subst, inl, inr, IsIri, Chars, Data, Items, Members, no_items, item, no_members, member, Among, Kind, Plain, Tagged, Typed, Node, Iri, Blank, Term, Resource, Literal, Triple, rename_node, rename_term, rename, Among_cases, rdf_type, rdf_first, rdf_rest, rdf_nil, proper_kind, Item, Reference, Value, Object, Single, ListObject, Entry, Id, Types, Property, NodeObject, Document, NamesNode, IsFormed, SpellsEach, SpellsName, SpellsItem, SpellsObject, SpellsEntry, SpellsEntries, SpellsNode, id_in, ids, cells_in, cells_of, cells_of_all, node_by, node_of, term_of, list_node, list_triples, object_triples, objects_triples, type_triple, entry_triples, entries_triples, triples_by, node_triples, all_triples, Label, Place, IsFormedNode, IsFormedTerm, IsFormedTriple, DenotesFormed}
+use Rattle.rx_model.proofs.Common.{by_test, xsd_string}
 use Rattle.rx_jsonld.proofs.Parts.{no_label}
 
 -- ---- lists of triples
@@ -35,11 +35,7 @@ nil_iri = record { scheme = refl; clean = refl }
 kind_formed : (kind : Kind) → IsFormed kind → IsFormed (proper_kind kind)
 kind_formed Plain h = tt
 kind_formed (Tagged tag) h = h
-kind_formed (Typed datatype) h = go (bytes_eq datatype xsd_string)
-  where
-    go : (b : Bool) → IsFormed (cond b Plain (Typed datatype))
-    go true = tt
-    go false = h
+kind_formed (Typed datatype) h = by_test (bytes_eq datatype xsd_string) (λ e. rw e tt) (λ e. rw e h)
 
 -- ---- names of node objects
 
@@ -54,12 +50,11 @@ id_names key value (Property predicate objects) id h m = absurd m
 
 ids_name : (members : Members) (entries : List Entry) (id : Chars) → SpellsEntries members entries → Among (ids entries) id → NamesNode id
 ids_name no_members [] id h m = absurd m
-ids_name no_members (entry ∷ entries) id h m = absurd h
-ids_name (member key value more) [] id h m = absurd h
 ids_name (member key value more) (entry ∷ entries) id h m = elim (Among_cases (id_in entry) (ids entries) id m) [
   | inl k ↦ id_names key value entry id h.0 k
   | inr k ↦ ids_name more entries id h.1 k
 ]
+ids_name _ _ id h m = absurd h
 
 -- ---- triples
 

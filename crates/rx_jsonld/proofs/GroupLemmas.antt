@@ -1,6 +1,6 @@
 -- Places that are put behind those of their keys, and the name of a node before them.
-use Rattle.rx_jsonld.proofs.Common.{◌≡◌, ◌∙◌, ◌<◌, refl, sym, ap, ℕ, List, [], ◌∷◌, ◌++◌, Bool, true, false, true≢false, codes, slice_get, Option, Some, None, Ordering, Less, Equal, Greater, nat_eq, nat_cmp, encode_utf8_all, inl, inr, arith, Global, Vec, nat_tests, encode_ascii, slice_cmp, is_letter, IsIri, begins_with_scheme, Chars, split_at, front_grows, Data, array, object, item, Members, no_members, member, items_of, Among, Node, Triple, Among_of_filter, Shape, has_subject, about, IsWritable, key_by, key_of, value_by, value_said, value_at, values_at, grouped, with_found, id_text, string_of, type_of, said_by, with_said, with_all, node_value, items_and, with_last}
-use Rattle.rx_terms.proofs.Common.{Bor, AllByRecursion, nat_list_cmp_total, insert_entry, is_at}
+use Rattle.rx_jsonld.proofs.Common.{◌≡◌, ◌∙◌, ◌<◌, refl, sym, ap, ℕ, List, [], ◌∷◌, ◌++◌, Bool, false, true≢false, codes, slice_get, Option, Some, None, Ordering, Less, Equal, Greater, nat_eq, nat_cmp, encode_utf8_all, inl, inr, arith, Global, Vec, nat_tests, encode_ascii, slice_cmp, is_letter, IsIri, begins_with_scheme, Chars, split_at, front_grows, Data, array, object, item, Members, no_members, member, items_of, Among, Node, Triple, Among_of_filter, Shape, has_subject, about, IsWritable, key_by, key_of, value_by, value_said, value_at, values_at, grouped, with_found, id_text, string_of, type_of, said_by, with_said, with_all, node_value, items_and, with_last}
+use Rattle.rx_terms.proofs.Common.{Bor, AllByRecursion, by_test, nat_list_cmp_total, insert_entry, is_at}
 use Rattle.std.specs.List.Sorted.{IsStrictlySortedBy}
 use Rattle.std.specs.Map.{keys_of, lookup, set_value}
 
@@ -79,18 +79,14 @@ above_id c more h = rw (above_at c h) refl
 
 iri_above : (p : Chars) → IsIri p → slice_cmp nat_cmp (encode_utf8_all p) (codes "@id") ≡ Greater
 iri_above [] is = absurd (true≢false (sym is.scheme))
-iri_above (c ∷ text) is = go (is_letter c) refl
+iri_above (c ∷ text) is = by_test (is_letter c) (λ e.
+    let below : c < 128 = grind (arith, nat_tests, e) in
+    let above : 64 < c = grind (arith, nat_tests, e) in
+    ap (λ (bytes : List ℕ). slice_cmp nat_cmp (bytes ++ encode_utf8_all text) (codes "@id")) (encode_ascii c below) ∙ above_id c (encode_utf8_all text) above)
+    (λ e. absurd (true≢false (sym is.scheme ∙ at_start e)))
   where
-    go : (b : Bool) → is_letter c ≡ b → slice_cmp nat_cmp (encode_utf8_all (c ∷ text)) (codes "@id") ≡ Greater
-    go true e =
-        let below : c < 128 = grind (arith, nat_tests, e) in
-        let above : 64 < c = grind (arith, nat_tests, e) in
-        ap (λ (bytes : List ℕ). slice_cmp nat_cmp (bytes ++ encode_utf8_all text) (codes "@id")) (encode_ascii c below) ∙ above_id c (encode_utf8_all text) above
-    go false e = absurd (true≢false (sym is.scheme ∙ at_start (nat_eq c 58) refl))
-      where
-        at_start : (b : Bool) → nat_eq c 58 ≡ b → begins_with_scheme (split_at 58 (c ∷ text)) ≡ false
-        at_start true s = rw s refl
-        at_start false s = rw s (not_letter c (split_at 58 text) e)
+    at_start : is_letter c ≡ false → begins_with_scheme (split_at 58 (c ∷ text)) ≡ false
+    at_start e = by_test (nat_eq c 58) (λ s. rw s refl) (λ s. rw s (not_letter c (split_at 58 text) e))
 
 module _ (list : List (Triple ℕ)) (shapes : ℕ → Shape) (name : Data) where
   abbrev named : Members → Members

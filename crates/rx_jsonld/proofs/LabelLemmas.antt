@@ -1,5 +1,5 @@
 -- The label of a blank node in bytes.
-use Rattle.rx_jsonld.proofs.Common.{◌≡◌, ℕ, encode_utf8_all, ◌<◌, ◌^◌, ascii-same, decimal, IsAscii-decimal}
+use Rattle.rx_terms.proofs.Common.{◌≡◌, ℕ, encode_utf8_all, ◌<◌, ◌^◌, ascii-same, decimal, IsAscii-decimal}
 use Rattle.rx_pieces.specs.Writing.{blank_text}
 use Rattle.rx_pieces.proofs.Adding.{all_ascii}
 

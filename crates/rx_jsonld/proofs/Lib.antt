@@ -1,5 +1,4 @@
 pub mod OneDocument
-pub mod Flat
 pub mod Cells
 pub mod Parts
 pub mod Entries

@@ -1,5 +1,6 @@
 -- What is said of a node, as a document has it.
 use Rattle.rx_jsonld.proofs.Common.{◌≡◌, ◌∙◌, ℕ, suc, ◌+◌, Bool, true, false, cond, List, [], ◌∷◌, ◌++◌, map, length, bytes_eq, Option, Some, None, refl, sym, ap, ap₂, inl, inr, subst, true≢false, arith, ◌&&◌, ◌==◌, nat_tests, length-map, IsIri, Chars, colon, low_line, decimal, Data, array, no_items, items_of, Among, Plain, Tagged, Typed, Node, Iri, Blank, Term, Resource, Literal, Triple, spo, rename_node, rename_term, rename, and_right, exact_texts, rdf_first, rdf_rest, rdf_nil, proper_term, proper_triple, WritableKind, WritableTerm, Shape, HaveShapes, object_at, first_cell, cells_at, is_listed, id_text, literal_members, term_value, list_value, item_by, item_value, is_empty_list, may_be_empty, object_by, object_value, Item, Reference, Object, Single, ListObject, Entry, Id, Types, Property, NamesNode, SpellsEach, SpellsArray, SpellsText, SpellsItem, SpellsObject, SpellsEntry, SpellsEntries, id_in, ids, label_in, cells_in, node_by, node_of, term_of, list_node, list_triples, object_triples, Name, Label, Place}
+use Rattle.rx_terms.proofs.Bools.{by_test}
 use Rattle.rx_jsonld.specs.Document as doc
 use Rattle.rx_jsonld.proofs.OneDocument.{label_is_no_iri}
 use Rattle.rx_jsonld.proofs.Cells.{node_after, item_found, Link, IsChain, cells_chain, cells_none, cells_begin, item_free, object_free}
@@ -10,11 +11,9 @@ use Rattle.rx_jsonld.proofs.Cells.{node_after, item_found, Link, IsChain, cells_
 pub no_label : (iri : Chars) → IsIri iri → label_in iri ≡ None
 no_label [] is = refl
 no_label (c ∷ []) is = refl
-no_label (c ∷ d ∷ text) is = go (c == low_line) refl
-  where
-    go : (b : Bool) → (c == low_line) ≡ b → label_in (c ∷ d ∷ text) ≡ None
-    go true e = let same : c ≡ 95 = grind (arith, nat_tests, e) in label_is_no_iri (d ∷ text) (subst (λ z. IsIri (z ∷ d ∷ text)) same is)
-    go false e = ap (λ b. cond {A = Option Chars} (b && d == colon) (Some text) None) e
+no_label (c ∷ d ∷ text) is = by_test (c == low_line)
+    (λ e. let same : c ≡ 95 = grind (arith, nat_tests, e) in label_is_no_iri (d ∷ text) (subst (λ z. IsIri (z ∷ d ∷ text)) same is))
+    (λ e. ap (λ b. cond {A = Option Chars} (b && d == colon) (Some text) None) e)
 
 -- ---- names by place
 
@@ -47,6 +46,11 @@ module _ (list : List (Triple ℕ)) (shapes : ℕ → Shape) where
   abbrev pub FreeTerm : Term ℕ → Type 0
   FreeTerm (Resource node) = FreeNode node
   FreeTerm (Literal text kind) = WritableKind kind
+
+  free_term : (o : Term ℕ) → WritableTerm o → ((b : ℕ) → o ≡ Resource (Blank b) → is_listed shapes list (Blank b) ≡ false) → FreeTerm o
+  free_term (Resource (Iri iri)) w h = w.is_iri
+  free_term (Resource (Blank b)) w h = h b refl
+  free_term (Literal text kind) w h = w.1
 
   pub names_node : (node : Node ℕ) → FreeNode node → NamesNode (id_text node)
   names_node (Iri iri) h = inr h
@@ -106,12 +110,8 @@ module _ (list : List (Triple ℕ)) (shapes : ℕ → Shape) where
 
   module _ (have : HaveShapes list shapes) (objects : (t : Triple ℕ) → Among list t → WritableTerm t.object) where
     cell_item_free : (b : ℕ) (more : List ℕ) (l : Link list b more) → FreeTerm (item_at b)
-    cell_item_free b more l = subst FreeTerm (sym (item_is b more l)) (go l.of.item refl)
-      where
-        go : (o : Term ℕ) → l.of.item ≡ o → FreeTerm o
-        go (Resource (Iri iri)) e = (subst WritableTerm e (objects (spo (Blank b) rdf_first l.of.item) l.of.pair.first)).is_iri
-        go (Resource (Blank c)) e = item_free list shapes have b c (subst (λ (o : Term ℕ). Among list (spo (Blank b) rdf_first o)) e l.of.pair.first)
-        go (Literal text kind) e = (subst WritableTerm e (objects (spo (Blank b) rdf_first l.of.item) l.of.pair.first)).1
+    cell_item_free b more l = subst FreeTerm (sym (item_is b more l)) (free_term l.of.item (objects (spo (Blank b) rdf_first l.of.item) l.of.pair.first)
+        (λ c e. item_free list shapes have b c (subst (λ (o : Term ℕ). Among list (spo (Blank b) rdf_first o)) e l.of.pair.first)))
 
     items_spelled : (cells : List ℕ) → IsChain list cells → SpellsEach SpellsItem (items_of (map (item_value list) cells)) (items_doc cells)
     items_spelled [] links = tt
@@ -141,12 +141,7 @@ module _ (list : List (Triple ℕ)) (shapes : ℕ → Shape) where
           → object_triples Label Place s p object n ≡ spo s p (rename_term names (proper_term t.object)) ∷ map (rename names) (cell_triples (cells_at shapes list t))
 
     pub free_object : (t : Triple ℕ) → Among list t → is_listed shapes list t.subject ≡ false → first_cell shapes t ≡ None → FreeTerm t.object
-    free_object t m free none = go t.object refl
-      where
-        go : (o : Term ℕ) → t.object ≡ o → FreeTerm o
-        go (Resource (Iri iri)) e = (subst WritableTerm e (objects t m)).is_iri
-        go (Resource (Blank b)) e = object_free list shapes have t b m e free none
-        go (Literal text kind) e = (subst WritableTerm e (objects t m)).1
+    free_object t m free none = free_term t.object (objects t m) (λ b e. object_free list shapes have t b m e free none)
 
     list_object : (t : Triple ℕ) (h : ℕ) → first_cell shapes t ≡ Some h → ObjectDoc t
     list_object t h e =

@@ -1,6 +1,7 @@
 -- What is found by the places of a node's triples.
-use Rattle.rx_jsonld.proofs.Common.{◌≡◌, ◌∙◌, ℕ, zero, suc, ◌+◌, ◌-◌, ◌<◌, nat_eq, Bool, true, false, cond, List, [], ◌∷◌, ◌++◌, map, filter, flat_map, take, slice_get, Option, Some, None, option_to_list, refl, sym, ap, ap₂, subst, inl, inr, arith, append-nil, append_assoc, not, ◌&&◌, ◌||◌, nat_tests, map-append, take-map, Chars, same_truth, Data, Members, Among, contains, distinct, with_one, Node, Iri, Blank, Triple, same_node, node_seen, triple_seen, triples_seen, Among_cases, Among-contains, Among_by_contains, Among_distinct, Among_of_distinct, rdf_rest, WritableTriple, Shape, about, subjects, object_at, blank_in, numbers_from, chain, cells_at, listed, is_listed, with_said, with_all, node_value, nodes_added, with_found, with_places, starts, node_at}
-use Rattle.rx_terms.proofs.Common.{filter-append, flat_map-append}
+use Rattle.rx_jsonld.proofs.Common.{◌≡◌, ◌∙◌, ℕ, zero, suc, ◌+◌, ◌-◌, ◌<◌, nat_eq, Bool, true, false, cond, List, [], ◌∷◌, ◌++◌, map, filter, flat_map, take, slice_get, Option, Some, None, option_to_list, refl, sym, ap, ap₂, subst, inl, inr, arith, append-nil, append_assoc, not, ◌&&◌, ◌||◌, nat_tests, map-append, take-map, Chars, Data, Members, Among, contains, distinct, with_one, Node, Iri, Blank, Triple, same_node, node_seen, triple_seen, triples_seen, Among_cases, Among-contains, Among_by_contains, Among_distinct, Among_of_distinct, rdf_rest, WritableTriple, Shape, about, subjects, object_at, blank_in, numbers_from, chain, cells_at, listed, is_listed, with_said, with_all, node_value, nodes_added, with_found, with_places, starts, node_at}
+use Rattle.rx_model.proofs.Common.{filter-append, same_truth, by_test, flat_map-append}
+use Rattle.std.proofs.Math.Bool.{or-false, or_assoc}
 use Rattle.rx_terms.specs.declared.triples.Blank.{Blank as Number}
 use Rattle.rx_terms.specs.declared.triples.Triple.{Triple as CodeTriple}
 use Rattle.rx_graph.proofs.PatternLemmas.{contains_added}
@@ -44,12 +45,9 @@ starts_from s j zero (x ∷ rest) t at is =
     let here : nat_eq j (j + 0) ≡ true = grind (arith, nat_tests) in
     ap (λ b. starts (cond b (j ∷ positions (stands_for s) (suc j) rest) (positions (stands_for s) (suc j) rest)) (j + 0)) test ∙ here
 starts_from s j (suc k) (x ∷ rest) t at is =
-    go (stands_for s x) (starts_from s (suc j) k rest t at is) ∙ ap (λ b. not (b || contains (same_node nat_eq) (map subject_in (take k rest)) s)) (same_back s x.subject)
-  where
-    go : (b : Bool) → starts (positions (stands_for s) (suc j) rest) (suc j + k) ≡ not (contains (same_node nat_eq) (map subject_in (take k rest)) s)
-        → starts (cond b (j ∷ positions (stands_for s) (suc j) rest) (positions (stands_for s) (suc j) rest)) (j + suc k) ≡ not (b || contains (same_node nat_eq) (map subject_in (take k rest)) s)
-    go true ih = let later : nat_eq j (j + suc k) ≡ false = grind (arith, nat_tests) in later
-    go false ih = let next : j + suc k ≡ suc j + k = omega arith in ap (starts (positions (stands_for s) (suc j) rest)) next ∙ ih
+    let later : nat_eq j (j + suc k) ≡ false = grind (arith, nat_tests) in
+    let next : j + suc k ≡ suc j + k = omega arith in
+    by_test (stands_for s x) (λ e. rw (← same_back s x.subject, e) later) (λ e. rw (← same_back s x.subject, e) (ap (starts (positions (stands_for s) (suc j) rest)) next ∙ starts_from s (suc j) k rest t at is))
 
 among_distinct : (nodes : List (Node ℕ)) (s : Node ℕ) → contains (same_node nat_eq) nodes s ≡ contains (same_node nat_eq) (distinct (same_node nat_eq) nodes) s
 among_distinct nodes s = same_truth (contains (same_node nat_eq) nodes s) (contains (same_node nat_eq) (distinct (same_node nat_eq) nodes) s)
@@ -74,11 +72,7 @@ module _ (list : List CodeTriple) (shapes : ℕ → Shape) where
   grown nodes s true e = sym (append-nil _)
   grown nodes s false e =
       ap (map (node_value seen shapes)) (filter-append is_top nodes (s ∷ [])) ∙ map-append (node_value seen shapes) (filter is_top nodes) (filter is_top (s ∷ []))
-      ∙ ap (λ z. map (node_value seen shapes) (filter is_top nodes) ++ z) (last (is_top s))
-    where
-      last : (b : Bool) → map (node_value seen shapes) (cond b (s ∷ []) []) ≡ cond b (node_value seen shapes s ∷ []) []
-      last true = refl
-      last false = refl
+      ∙ ap (λ z. map (node_value seen shapes) (filter is_top nodes) ++ z) (by_test (is_top s) (λ t. rw t refl) (λ t. rw t refl))
 
   pub node_turn : (i : ℕ) (t : CodeTriple) (old new : List Data) → slice_get list i ≡ Some t → new ≡ old ++ node_at seen shapes i (node_seen t.subject)
       → old ≡ nodes_until (take i list) → new ≡ nodes_until (take (i + 1) list)
@@ -127,19 +121,11 @@ gathered_turn list shapes i t old new at turn writable h =
 
 -- ---- whether a node is a listed cell
 
-or_swap : (a b c : Bool) → ((a || b) || c) ≡ (a || (b || c))
-or_swap true b c = refl
-or_swap false b c = refl
-
 contains_all : (nodes : List (Node ℕ)) (xs : List ℕ) (b : ℕ) → contains (same_node nat_eq) (nodes_added nodes xs) (Blank b) ≡ (contains (same_node nat_eq) nodes (Blank b) || contains nat_eq xs b)
-contains_all nodes [] b = plain (contains (same_node nat_eq) nodes (Blank b))
-  where
-    plain : (b : Bool) → b ≡ (b || false)
-    plain true = refl
-    plain false = refl
+contains_all nodes [] b = sym (or-false (contains (same_node nat_eq) nodes (Blank b)))
 contains_all nodes (x ∷ xs) b =
     contains_all (with_one (same_node nat_eq) nodes (Blank x)) xs b ∙ ap (λ z. z || contains nat_eq xs b) (contains_added nodes (Blank x) (Blank b))
-    ∙ or_swap (contains (same_node nat_eq) nodes (Blank b)) (nat_eq x b) (contains nat_eq xs b)
+    ∙ or_assoc (contains (same_node nat_eq) nodes (Blank b)) (nat_eq x b) (contains nat_eq xs b)
 
 no_iri : (nodes : List (Node ℕ)) (xs : List ℕ) (iri : Chars) → contains (same_node nat_eq) nodes (Iri iri) ≡ false → contains (same_node nat_eq) (nodes_added nodes xs) (Iri iri) ≡ false
 no_iri nodes [] iri h = h

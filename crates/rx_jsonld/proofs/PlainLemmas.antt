@@ -1,8 +1,8 @@
--- A list's value has no number, and the keys of its objects rise, so that each stands once.
-use Rattle.rx_jsonld.proofs.Common.{◌≡◌, ◌∙◌, ℕ, Bool, true, false, cond, List, [], ◌∷◌, map, filter, bytes_eq, codes, Option, Some, None, Ordering, Less, Equal, Greater, nat_cmp, refl, sym, ap, not, is_eq, slice_cmp, Chars, Data, null, boolean, number, string, array, object, Items, no_items, item, Members, no_members, member, items_of, Kind, Plain, Tagged, Typed, Node, Blank, Term, Resource, Literal, Triple, rdf_first, Shape, about, object_at, first_cell, cells_at, string_of, id_text, literal_members, term_value, list_value, item_by, item_value, is_empty_list, plain_value, type_of, object_by, said_by, with_all, node_value, tops, jsonld, items_and, behind, with_last, keys, KeysDiffer}
-use Rattle.rx_terms.proofs.Common.{match_ordering, is_eq-slice_cmp}
+-- A list's value has no number, the keys of its objects rise, so that each stands once, and it nests six levels deep at most.
+use Rattle.rx_jsonld.proofs.Common.{◌≡◌, ◌∙◌, ℕ, false, List, [], ◌∷◌, map, filter, bytes_eq, codes, Option, Some, None, Ordering, Less, Equal, Greater, nat_cmp, refl, sym, ap, suc, ◌≤◌, arith, not, is_eq, slice_cmp, Chars, Data, number, array, Items, no_items, item, Members, no_members, member, depth, items_depth, members_depth, items_of, Kind, Plain, Tagged, Typed, Node, Blank, Term, Resource, Literal, Triple, rdf_first, Shape, about, object_at, first_cell, cells_at, string_of, id_text, literal_members, term_value, list_value, item_by, item_value, is_empty_list, plain_value, type_of, object_by, said_by, with_all, node_value, tops, jsonld, items_and, behind, with_last, ValuesAreFlat, keys, KeysDiffer}
+use Rattle.rx_terms.proofs.Common.{match_ordering, by_test, is_eq-slice_cmp}
 use Rattle.rx_json.specs.Plain.{Leads, IsPlain, ArePlain, MembersArePlain}
-use Rattle.rx_json.proofs.PlainLemmas.{turned, leads_one, leads_through}
+use Rattle.rx_json.proofs.PlainLemmas.{turned, leads_one, leads_through, no_float}
 
 -- ---- keys that rise
 
@@ -20,17 +20,26 @@ rising_differ (member key value more) p =
 
 -- ---- the value
 
-items_and_plain : (values : Items) (value : Data) → ArePlain values → IsPlain value → ArePlain (items_and values value)
-items_and_plain no_items value p q = (q, tt)
-items_and_plain (item first values) value p q = (p.0, items_and_plain values value p.1 q)
+-- plain, and no deeper than this
+abbrev Fits : ℕ → Data → Type 0
+Fits n d = IsPlain d × (depth d ≤ n)
 
-behind_plain : (value values : Data) → IsPlain value → IsPlain values → IsPlain (behind value values)
-behind_plain value null p q = (p, tt)
-behind_plain value (boolean b) p q = (p, tt)
-behind_plain value (number n) p q = absurd q
-behind_plain value (string s) p q = (p, tt)
-behind_plain value (array values) p q = items_and_plain values value q p
-behind_plain value (object ms) p q = (p, tt)
+abbrev ItemsFit : ℕ → Items → Type 0
+ItemsFit n ds = ArePlain ds × (items_depth ds ≤ n)
+
+abbrev MembersFit : ℕ → Members → Type 0
+MembersFit n ms = MembersArePlain ms × (members_depth ms ≤ n)
+
+items_and_fit : (n : ℕ) (values : Items) (value : Data) → ItemsFit n values → Fits n value → ItemsFit n (items_and values value)
+items_and_fit n no_items value p q = ((q.0, tt), omega (arith, q.1))
+items_and_fit n (item first values) value p q =
+    let more = items_and_fit n values value (p.0.1, omega (arith, p.1)) q in
+    ((p.0.0, more.0), omega (arith, p.1, more.1))
+
+behind_fits : (n : ℕ) (value values : Data) → Fits n value → Fits (suc n) values → Fits (suc n) (behind value values)
+behind_fits n value (number m) p q = absurd q.0
+behind_fits n value (array values) p q = let all = items_and_fit n values value (q.0, omega (arith, q.1)) p in (all.0, omega (arith, all.1))
+behind_fits n value _ p q = ((p.0, tt), omega (arith, p.1))
 
 leads_last : (before key : List ℕ) (value : Data) (members : Members) → slice_cmp nat_cmp before key ≡ Less → Leads before members → Leads before (with_last key value members)
 leads_last before key value no_members c l = (c, tt)
@@ -38,58 +47,68 @@ leads_last before key value (member first values more) c l =
     leads_one before (slice_cmp nat_cmp key first) (member key (array (item value no_items)) (member first values more)) (member first (behind value values) more) (member first values (with_last key value more))
     (c, (l.0, l.1)) (l.0, l.1) (l.0, leads_last before key value more c l.1)
 
-with_last_plain : (key : List ℕ) (value : Data) (members : Members) → IsPlain value → MembersArePlain members → MembersArePlain (with_last key value members)
-with_last_plain key value no_members v p = ((v, tt), tt, tt)
-with_last_plain key value (member first values more) v p = by (with_last_plain key value more v p.2) (slice_cmp nat_cmp key first) refl
+with_last_fit : (n : ℕ) (key : List ℕ) (value : Data) (members : Members) → Fits n value → MembersFit (suc n) members → MembersFit (suc n) (with_last key value members)
+with_last_fit n key value no_members v p = (((v.0, tt), tt, tt), omega (arith, v.1))
+with_last_fit n key value (member first values more) v p = by (with_last_fit n key value more v (p.0.2, omega (arith, p.1))) (slice_cmp nat_cmp key first) refl
   where
-    by : MembersArePlain (with_last key value more) → (o : Ordering) → slice_cmp nat_cmp key first ≡ o
-        → MembersArePlain (match_ordering o (member key (array (item value no_items)) (member first values more)) (member first (behind value values) more) (member first values (with_last key value more)))
-    by ih Less c = ((v, tt), (c, leads_through key first more c p.1), p)
-    by ih Equal c = (behind_plain value values v p.0, p.1, p.2)
-    by ih Greater c = (p.0, leads_last first key value more (turned key first Greater c) p.1, ih)
+    by : MembersFit (suc n) (with_last key value more) → (o : Ordering) → slice_cmp nat_cmp key first ≡ o
+        → MembersFit (suc n) (match_ordering o (member key (array (item value no_items)) (member first values more)) (member first (behind value values) more) (member first values (with_last key value more)))
+    by ih Less c = (((v.0, tt), (c, leads_through key first more c p.0.1), p.0), omega (arith, v.1, p.1))
+    by ih Equal c = let b = behind_fits n value values v (p.0.0, omega (arith, p.1)) in ((b.0, p.0.1, p.0.2), omega (arith, p.1, b.1))
+    by ih Greater c = ((p.0.0, leads_last first key value more (turned key first Greater c) p.0.1, ih.0), omega (arith, p.1, ih.1))
 
-literal_plain : (text : Chars) (kind : Kind) → MembersArePlain (literal_members text kind)
-literal_plain text Plain = (tt, tt, tt)
-literal_plain text (Tagged tag) = (tt, (refl, tt), (tt, tt, tt))
-literal_plain text (Typed datatype) = (tt, (refl, tt), (tt, tt, tt))
+literal_fits : (text : Chars) (kind : Kind) → MembersFit 0 (literal_members text kind)
+literal_fits text Plain = ((tt, tt, tt), omega arith)
+literal_fits text (Tagged tag) = ((tt, (refl, tt), (tt, tt, tt)), omega arith)
+literal_fits text (Typed datatype) = ((tt, (refl, tt), (tt, tt, tt)), omega arith)
 
-term_plain : (o : Term ℕ) → IsPlain (term_value o)
-term_plain (Resource node) = (tt, tt, tt)
-term_plain (Literal text kind) = literal_plain text kind
+term_fits : (o : Term ℕ) → Fits 1 (term_value o)
+term_fits (Resource node) = ((tt, tt, tt), omega arith)
+term_fits (Literal text kind) = let fits = literal_fits text kind in (fits.0, omega (arith, fits.1))
 
-all_plain : {A : Type 0} (f : A → Data) → ((a : A) → IsPlain (f a)) → (list : List A) → ArePlain (items_of (map f list))
-all_plain f h [] = tt
-all_plain f h (a ∷ list) = (h a, all_plain f h list)
+all_fit : {A : Type 0} (n : ℕ) (f : A → Data) → ((a : A) → Fits n (f a)) → (list : List A) → ItemsFit n (items_of (map f list))
+all_fit n f h [] = (tt, omega arith)
+all_fit n f h (a ∷ list) = let more = all_fit n f h list in (((h a).0, more.0), omega (arith, (h a).1, more.1))
 
 module _ (list : List (Triple ℕ)) (shapes : ℕ → Shape) where
-  item_plain : (o : Option (Term ℕ)) → IsPlain (item_by o)
-  item_plain (Some o) = term_plain o
-  item_plain None = tt
+  item_fits : (o : Option (Term ℕ)) → Fits 1 (item_by o)
+  item_fits (Some o) = term_fits o
+  item_fits None = (tt, omega arith)
 
-  list_plain : (cells : List ℕ) → IsPlain (list_value (map (item_value list) cells))
-  list_plain cells = (all_plain (item_value list) (λ b. item_plain (object_at list (Blank b) rdf_first)) cells, tt, tt)
+  list_fits : (cells : List ℕ) → Fits 3 (list_value (map (item_value list) cells))
+  list_fits cells = let all = all_fit 1 (item_value list) (λ b. item_fits (object_at list (Blank b) rdf_first)) cells in ((all.0, tt, tt), omega (arith, all.1))
 
-  object_plain : (predicate : Chars) (o : Term ℕ) → IsPlain (plain_value predicate o)
-  object_plain predicate o = go (is_empty_list predicate o)
-    where
-      go : (b : Bool) → IsPlain (cond b (list_value []) (term_value o))
-      go true = list_plain []
-      go false = term_plain o
+  plain_fits : (predicate : Chars) (o : Term ℕ) → Fits 3 (plain_value predicate o)
+  plain_fits predicate o =
+      let fits = term_fits o in
+      by_test (is_empty_list predicate o) (λ e. rw e (list_fits [])) (λ e. rw e (fits.0, omega (arith, fits.1)))
 
-  object_by_plain : (t : Triple ℕ) (o : Option ℕ) → IsPlain (object_by list shapes t o)
-  object_by_plain t (Some b) = list_plain (cells_at shapes list t)
-  object_by_plain t None = object_plain t.predicate t.object
+  object_fits : (t : Triple ℕ) (o : Option ℕ) → Fits 3 (object_by list shapes t o)
+  object_fits t (Some b) = list_fits (cells_at shapes list t)
+  object_fits t None = plain_fits t.predicate t.object
 
-  said_plain : (t : Triple ℕ) (o : Option (Node ℕ)) (members : Members) → MembersArePlain members → MembersArePlain (said_by list shapes t o members)
-  said_plain t (Some node) members h = with_last_plain (codes "@type") (string_of (id_text node)) members tt h
-  said_plain t None members h = with_last_plain _ _ members (object_by_plain t (first_cell shapes t)) h
+  said_fit : (t : Triple ℕ) (o : Option (Node ℕ)) (members : Members) → MembersFit 4 members → MembersFit 4 (said_by list shapes t o members)
+  said_fit t (Some node) members h = with_last_fit 3 (codes "@type") (string_of (id_text node)) members (tt, omega arith) h
+  said_fit t None members h = with_last_fit 3 _ _ members (object_fits t (first_cell shapes t)) h
 
-  pub all_said_plain : (ts : List (Triple ℕ)) (members : Members) → MembersArePlain members → MembersArePlain (with_all list shapes ts members)
-  all_said_plain [] ms h = h
-  all_said_plain (t ∷ ts) ms h = all_said_plain ts _ (said_plain t (type_of t) ms h)
+  all_said_fit : (ts : List (Triple ℕ)) (members : Members) → MembersFit 4 members → MembersFit 4 (with_all list shapes ts members)
+  all_said_fit [] ms h = h
+  all_said_fit (t ∷ ts) ms h = all_said_fit ts _ (said_fit t (type_of t) ms h)
 
-  node_plain : (subject : Node ℕ) → IsPlain (node_value list shapes subject)
-  node_plain subject = all_said_plain (about list subject) (member (codes "@id") (string_of (id_text subject)) no_members) (tt, tt, tt)
+  pub id_said_fit : (subject : Node ℕ) → MembersFit 4 (with_all list shapes (about list subject) (member (codes "@id") (string_of (id_text subject)) no_members))
+  id_said_fit subject = all_said_fit (about list subject) (member (codes "@id") (string_of (id_text subject)) no_members) ((tt, tt, tt), omega arith)
+
+  node_fits : (subject : Node ℕ) → Fits 5 (node_value list shapes subject)
+  node_fits subject = let all = id_said_fit subject in (all.0, omega (arith, all.1))
+
+  value_fits : Fits 6 (jsonld list shapes)
+  value_fits = let all = all_fit 5 (node_value list shapes) node_fits (tops list shapes) in (all.0, omega (arith, all.1))
 
   pub value_plain : IsPlain (jsonld list shapes)
-  value_plain = all_plain (node_value list shapes) node_plain (tops list shapes)
+  value_plain = value_fits.0
+
+  pub value_flat : depth (jsonld list shapes) ≤ 6
+  value_flat = value_fits.1
+
+pub values_are_flat : ValuesAreFlat
+values_are_flat = record { levels = λ list shapes. value_flat list shapes; no_float = λ list shapes. no_float (jsonld list shapes) (value_plain list shapes) }

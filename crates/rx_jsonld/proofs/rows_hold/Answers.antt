@@ -1,4 +1,4 @@
-use Rattle.rx_jsonld.proofs.Common.{◌≡◌, refl, arith, codes, decimal, decimal_digit}
+use Rattle.rx_model.proofs.Common.{◌≡◌, refl, arith, codes, decimal, decimal_digit}
 use lib.Utf8.{encode}
 use Rattle.rx_jsonld.specs.Rows.{Holds, two_items, empty_list, literals, two_blank_nodes, list_as_type, list_in_list, used_twice, shared_end, cycle, rest_of_no_cell, nil_elsewhere, said_again}
 use Rattle.rx_jsonld.proofs.rows_hold.Goals as goal

@@ -1,4 +1,4 @@
-use Rattle.rx_jsonld.proofs.Flat.{values_are_flat as law}
+use Rattle.rx_jsonld.proofs.PlainLemmas.{values_are_flat as law}
 use Rattle.rx_jsonld.proofs.values_are_flat.Goals as goal
 
 pub returns : goal.returns

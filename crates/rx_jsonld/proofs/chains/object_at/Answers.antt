@@ -1,4 +1,4 @@
-use Rattle.rx_jsonld.proofs.Common.{◌∙◌, triples_seen}
+use Rattle.rx_model.proofs.Common.{◌∙◌, triples_seen}
 use Rattle.rx_model.specs.Terms as model
 use Rattle.rx_shapes.specs.Cells.{predicate_of}
 use Rattle.rx_shapes.proofs.PlaceLemmas.{object_found}

@@ -1,4 +1,4 @@
-use Rattle.rx_jsonld.proofs.Common.{ap, on_ok_weaker, kind_seen}
+use Rattle.rx_model.proofs.Common.{ap, on_ok_weaker, kind_seen}
 use Rattle.rx_jsonld.proofs.EventLemmas.{tagged_told, typed_told}
 use Rattle.rx_jsonld.proofs.said.write_members.Goals as goal
 

@@ -1,6 +1,5 @@
 use Rattle.rx_jsonld.proofs.Common.{[], refl, arith, triples_seen, shape_in, jsonld}
-use Rattle.rx_jsonld.proofs.Flat.{value_flat}
-use Rattle.rx_jsonld.proofs.PlainLemmas.{value_plain}
+use Rattle.rx_jsonld.proofs.PlainLemmas.{value_flat, value_plain}
 use Rattle.rx_jsonld.proofs.texts.made.Goals as goal
 
 pub returns : goal.returns

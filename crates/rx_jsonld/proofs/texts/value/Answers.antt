@@ -1,7 +1,7 @@
 use Rattle.rx_jsonld.proofs.Common.{IfOk-weaker, ◌∙◌, ap, map, subst, sym, Data, triples_seen, shape_in, proper_triple, JsonLd}
 use Rattle.serde_json.specs.Written.{has_float}
 use Rattle.rx_jsonld.proofs.Denotes.{value_denotes}
-use Rattle.rx_jsonld.proofs.Flat.{values_are_flat}
+use Rattle.rx_jsonld.proofs.PlainLemmas.{values_are_flat}
 use Rattle.rx_jsonld.proofs.texts.value.Goals as goal
 
 pub returns-clause-denotes : goal.returns-clause-denotes
