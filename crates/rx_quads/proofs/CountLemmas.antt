@@ -1,6 +1,6 @@
 -- How many blank nodes a list has that was numbered.
-use Rattle.rx_model.proofs.Common.{map-append, nat_tests, untrue, Among, IsExact, distinct, Node, Iri, Blank, Term, Resource, Literal, Triple, Graph, rename_node, rename_term, rename, blank_of_node, blank_of_term, blanks_of, blanks, place_in, numbered, Has, Renamed, triple_seen, triples_seen, Among_map, Among_of_map, Among_of_filter, Among_distinct, Among_of_distinct}
-use Rattle.std.proofs.Common.{◌≡◌, ◌∙◌, ◌↔◌, ◌⊎◌, ℕ, zero, suc, ◌+◌, ◌^◌, ◌<◌, ◌≤◌, Bool, true, false, cond, List, [], ◌∷◌, ◌++◌, map, filter, length, take, slice_get, Some, Result, Ok, Err, refl, sym, ap, ap₂, subst, inl, inr, true≢false, nat_lt, arith, not, IsErrAnd, if◌then◌else◌, take_all}
+use Rattle.rx_model.proofs.Common.{map-append, nat_tests, untrue, by_test, Among, IsExact, distinct, Node, Iri, Blank, Term, Resource, Literal, Triple, Graph, rename_node, rename_term, rename, blank_of_node, blank_of_term, blanks_of, blanks, place_in, numbered, Has, Renamed, triple_seen, triples_seen, Among_map, Among_of_map, Among_of_filter, Among_distinct, Among_of_distinct}
+use Rattle.std.proofs.Common.{◌≡◌, ◌∙◌, ◌↔◌, ◌⊎◌, ℕ, zero, suc, ◌+◌, ◌^◌, ◌<◌, ◌≤◌, Bool, true, false, cond, List, [], ◌∷◌, ◌++◌, map, filter, length, take, slice_get, Some, Result, Ok, Err, refl, sym, ap, ap₂, subst, inl, inr, true≢false, nat_lt, arith, not, IsErrAnd, if◌then◌else◌, take_all, ◌-◌}
 use Rattle.rx_terms.specs.declared.triples.Triple.{Triple as CodeTriple}
 use Rattle.rx_graph.proofs.SetLemmas.{seen_more}
 use Rattle.rx_quads.specs.Raised.{Counts, raised, AreFrom, past_one, past_all, past, NumbersWithoutGaps}
@@ -9,18 +9,10 @@ use Rattle.rx_graph.proofs.NumberLemmas.{blanks_more}
 -- ---- one more than the largest
 
 past_from : (count b : ℕ) → (count ≤ past_one count b) × (b < past_one count b)
-past_from count b = go (nat_lt b count) refl
-  where
-    go : (t : Bool) → nat_lt b count ≡ t → (count ≤ (if t then count else b + 1)) × (b < (if t then count else b + 1))
-    go true e = (omega arith, grind (arith, nat_tests, e))
-    go false e = (grind (arith, nat_tests, e), omega arith)
+past_from count b = by_test (nat_lt b count) (λ e. rw e (omega arith, grind (arith, nat_tests, e))) (λ e. rw e (grind (arith, nat_tests, e), omega arith))
 
 past_is : (count b : ℕ) → (past_one count b ≡ count) ⊎ (past_one count b ≡ b + 1)
-past_is count b = go (nat_lt b count)
-  where
-    go : (t : Bool) → ((if t then count else b + 1) ≡ count) ⊎ ((if t then count else b + 1) ≡ b + 1)
-    go true = inl refl
-    go false = inr refl
+past_is count b = by_test (nat_lt b count) (λ e. rw e (inl refl)) (λ e. rw e (inr refl))
 
 count_below : (count : ℕ) (bs : List ℕ) → count ≤ past_all count bs
 count_below count [] = omega arith
@@ -34,12 +26,10 @@ all_below count (x ∷ bs) b (inr h) = all_below (past_one count x) bs b h
 
 largest : (count : ℕ) (bs : List ℕ) (b : ℕ) → past_all count bs ≡ b + 1 → (count ≡ b + 1) ⊎ Among bs b
 largest count [] b e = inl e
-largest count (x ∷ bs) b e = go (largest (past_one count x) bs b e) (past_is count x)
-  where
-    go : (past_one count x ≡ b + 1) ⊎ Among bs b → (past_one count x ≡ count) ⊎ (past_one count x ≡ x + 1) → (count ≡ b + 1) ⊎ Among (x ∷ bs) b
-    go (inr h) either = inr (inr h)
-    go (inl p) (inl q) = inl (sym q ∙ p)
-    go (inl p) (inr q) = inr (inl (omega (arith, p, q)))
+largest count (x ∷ bs) b e = elim (largest (past_one count x) bs b e) [
+  | inl p ↦ elim (past_is count x) [ inl q ↦ inl (sym q ∙ p) | inr q ↦ inr (inl (omega (arith, p, q))) ]
+  | inr h ↦ inr (inr h)
+]
 
 -- ---- from left to right
 
@@ -54,9 +44,6 @@ past_turn list i t count new at before is =
     ∙ sym (past_append 0 (blanks (triples_seen (take i list))) (blanks_of (triple_seen t)))
     ∙ ap (past_all 0) (sym (blanks_more (triples_seen (take i list)) (triple_seen t)))
     ∙ ap past (sym (seen_more list i t at))
-
-pub past_end : (list : List CodeTriple) (i count : ℕ) → length list ≤ i → count ≡ past (triples_seen (take i list)) → count ≡ past (triples_seen list)
-past_end list i count h e = e ∙ ap (λ ts. past (triples_seen ts)) (take_all i list h)
 
 -- a triple counts no further than the whole list
 at_most : (list : List CodeTriple) (i : ℕ) (t : CodeTriple) (start : ℕ) → slice_get list i ≡ Some t
@@ -110,11 +97,9 @@ module _ {B : Type 0} (same : B → B → Bool) (exact : IsExact same) where
   apart_filter : (p : B → Bool) (d : List B) → Apart d → Apart (filter p d)
   unfolding Apart
   apart_filter p [] a = tt
-  apart_filter p (x ∷ d) a = go (p x) (apart_filter p d a.1)
-    where
-      go : (t : Bool) → Apart (filter p d) → Apart (cond t (x ∷ filter p d) (filter p d))
-      go true ih = (λ y m. a.0 y (Among_of_filter p d y m).0, ih)
-      go false ih = ih
+  apart_filter p (x ∷ d) a =
+      let rest = apart_filter p d a.1 in
+      by_test (p x) (λ e. rw e ((λ y m. a.0 y (Among_of_filter p d y m).0), rest)) (λ e. rw e rest)
 
   apart_distinct : (xs : List B) → Apart (distinct same xs)
   unfolding Apart
@@ -133,12 +118,8 @@ module _ {B : Type 0} (same : B → B → Bool) (exact : IsExact same) where
 
   place_below : (d : List B) (y : B) → Among d y → place_in same d y < length d
   place_below [] y m = absurd m
-  place_below (x ∷ d) y m = go (same x y) refl m (place_below d y)
-    where
-      go : (t : Bool) → same x y ≡ t → Among (x ∷ d) y → (Among d y → place_in same d y < length d) → cond t 0 (suc (place_in same d y)) < suc (length d)
-      go true e k ih = omega arith
-      go false e (inl q) ih = absurd (true≢false (sym ((exact x y).1 q) ∙ e))
-      go false e (inr k) ih = let b = ih k in omega (arith, b)
+  place_below (x ∷ d) y (inl q) = rw ((exact x y).1 q) (omega arith)
+  place_below (x ∷ d) y (inr k) = let rest = place_below d y k in by_test (same x y) (λ e. rw e (omega arith)) (λ e. rw e (omega (arith, rest)))
 
   -- ---- numbered lists
 
@@ -159,21 +140,10 @@ module _ {B : Type 0} (same : B → B → Bool) (exact : IsExact same) where
         (subst (λ c. Among (map to (blanks list)) c) at.2 (Among_map to (blanks list) at.0 (Among_of_distinct same (blanks list) at.0 at.1)))
 
     numbered_from : (b : ℕ) → Among (blanks (numbered same list)) b ↔ (b < past (numbered same list))
-    numbered_from b = (λ m. all_below 0 (blanks (numbered same list)) b m, back)
-      where
-        back : b < past (numbered same list) → Among (blanks (numbered same list)) b
-        back h = go (past (numbered same list)) refl h
-          where
-            go : (n : ℕ) → past (numbered same list) ≡ n → b < n → Among (blanks (numbered same list)) b
-            go zero e k = absurd (omega (arith, k))
-            go (suc n) e k = by (largest 0 (blanks (numbered same list)) n (e ∙ one_up n))
-              where
-                one_up : (n : ℕ) → suc n ≡ n + 1
-                one_up n = omega arith
-
-                by : (0 ≡ n + 1) ⊎ Among (blanks (numbered same list)) n → Among (blanks (numbered same list)) b
-                by (inl z) = absurd (omega (arith, z))
-                by (inr m) = no_gap b n m (omega (arith, k))
+    numbered_from b = (
+      λ m. all_below 0 (blanks (numbered same list)) b m,
+      λ h. elim (largest 0 (blanks (numbered same list)) (past (numbered same list) - 1) (omega (arith, h))) [ inl z ↦ absurd (omega (arith, z)) | inr m ↦ no_gap b (past (numbered same list) - 1) m (omega (arith, h)) ],
+    )
 
 -- ---- and raised
 
@@ -181,27 +151,17 @@ raised_from : (first count : ℕ) (list : List (Triple ℕ)) → ((b : ℕ) → 
 raised_from zero count list are b = (λ m. let below = (are b).0 m in (omega arith, omega (arith, below)), λ h. let below = h.1 in (are b).1 (omega (arith, below)))
 raised_from (suc n) count list are b = (forth, back)
   where
-    to : ℕ → ℕ
-    to m = suc n + m
-
     forth : Among (blanks (map (rename (λ m. suc n + m)) list)) b → (suc n ≤ b) × (b < suc n + count)
     forth m =
         let of = Among_of_map (λ m. suc n + m) (blanks list) b (subst (λ bs. Among bs b) (list_blanks (λ m. suc n + m) list) m) in
         let below = (are of.0).0 of.1 in let is = of.2 in (omega (arith, is), omega (arith, is, below))
 
     back : (suc n ≤ b) × (b < suc n + count) → Among (blanks (map (rename (λ m. suc n + m)) list)) b
-    back h = go (split_off (suc n) b h.0)
-      where
-        split_off : (k b : ℕ) → k ≤ b → (m : ℕ) × (k + m ≡ b)
-        split_off zero b p = (b, omega arith)
-        split_off (suc k) zero p = absurd (omega (arith, p))
-        split_off (suc k) (suc b) p = let r = split_off k b (omega (arith, p)) in let e = r.1 in (r.0, omega (arith, e))
-
-        go : (m : ℕ) × (suc n + m ≡ b) → Among (blanks (map (rename (λ m. suc n + m)) list)) b
-        go r =
-            let e = r.1 in let within = h.1 in
-            subst (λ bs. Among bs b) (sym (list_blanks (λ m. suc n + m) list))
-            (subst (λ c. Among (map (λ m. suc n + m) (blanks list)) c) e (Among_map (λ m. suc n + m) (blanks list) r.0 ((are r.0).1 (omega (arith, e, within)))))
+    back h =
+        let m : ℕ = b - suc n in
+        let e : suc n + m ≡ b = omega (arith, h.0) in
+        subst (λ bs. Among bs b) (sym (list_blanks (λ m. suc n + m) list))
+        (subst (λ c. Among (map (λ m. suc n + m) (blanks list)) c) e (Among_map (λ m. suc n + m) (blanks list) m ((are m).1 (omega (arith, e, h.1)))))
 
 pub numbers_without_gaps : {B : Type 0} (same : B → B → Bool) → IsExact same → NumbersWithoutGaps same
 numbers_without_gaps same exact first list = raised_from first (past (numbered same list)) (numbered same list) (numbered_from same exact list)

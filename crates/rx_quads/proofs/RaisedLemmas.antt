@@ -11,14 +11,12 @@ module _ (n : ℕ) where
   node_apart : (a b : Node ℕ) → rename_node (λ m. n + m) a ≡ rename_node (λ m. n + m) b → a ≡ b
   node_apart (Iri a) (Iri b) e = ap Iri (cc)
   node_apart (Blank a) (Blank b) e = let same : n + a ≡ n + b = cc in ap Blank (omega (arith, same))
-  node_apart (Iri a) (Blank b) e = cc
-  node_apart (Blank a) (Iri b) e = cc
+  node_apart _ _ e = cc
 
   term_apart : (a b : Term ℕ) → rename_term (λ m. n + m) a ≡ rename_term (λ m. n + m) b → a ≡ b
   term_apart (Resource a) (Resource b) e = ap Resource (node_apart a b (cc))
   term_apart (Literal a k) (Literal b l) e = cc
-  term_apart (Resource a) (Literal b l) e = cc
-  term_apart (Literal a k) (Resource b) e = cc
+  term_apart _ _ e = cc
 
   triple_apart : (t u : Triple ℕ) → rename (λ m. n + m) t ≡ rename (λ m. n + m) u → t ≡ u
   triple_apart t u e =
