@@ -1,5 +1,5 @@
 -- The names of the blank nodes of a document: its labels are free, and its places are below their number.
-use Rattle.rx_notation.proofs.Common.{◌≤◌, ◌<◌, ℕ, suc, ◌+◌, List, [], ◌∷◌, refl, inl, inr, subst, arith, Among, Node, Iri, Blank, Term, Resource, Literal, Triple, set_of, blank_of_node, blank_of_term, Has, Among_cases, Prefixes, Subject, Named, Labelled, Sort, Object, Objects, Items, Predicates, Further, Part, IriOrLabel, Quoted, Anonymous, Nil, Bracketed, Collection, Single, Comma, Last, Item, Predicate, Done, Semicolon, Also, Statement, predicate_of, unlabelled, Of, node_of, term_of, triples, all_triples, Name, Label, Place}
+use Rattle.rx_notation.proofs.Common.{◌≤◌, ◌<◌, ℕ, suc, ◌+◌, List, [], ◌∷◌, refl, inl, inr, subst, arith, Among, Node, Iri, Blank, Term, Resource, Literal, Triple, set_of, blank_of_node, blank_of_term, Has, Among_cases, Prefixes, Subject, Named, Labelled, Sort, Object, Objects, Items, Predicates, Further, Part, IriOrLabel, Anonymous, Bracketed, Collection, Single, Comma, Last, Item, Predicate, Semicolon, Also, Statement, predicate_of, unlabelled, Of, node_of, term_of, triples, all_triples, Name, Label, Place}
 use Rattle.rx_notation.proofs.Spelled.{GoodSubject, Good, GoodStatement}
 
 abbrev pub all_unlabelled : List Statement → ℕ
@@ -39,69 +39,47 @@ module _ (free : ℕ → Type 0) (most : ℕ) where
     node_bound (Named reference) h = tt
     node_bound (Labelled number) h = h.1
 
-    term_bound : (o : Part Object) (n : ℕ) → Good context free o → n + unlabelled o ≤ most → (1 ≤ unlabelled o → n < most) → BoundTerm (term_of prefixes Label Place o n)
-    term_bound (IriOrLabel s) n h b k = node_bound s h
-    term_bound Anonymous n h b k = k (omega arith)
-    term_bound (Bracketed predicates) n h b k = k (omega arith)
-    term_bound (Collection items) n h b k = k (some_item items)
-    term_bound _ n h b k = tt
-
-    object_bound : (o : Part Object) (n : ℕ) → Good context free o → n + unlabelled o ≤ most → BoundTerm (term_of prefixes Label Place o n)
-    object_bound o n h b = term_bound o n h b (λ k. omega (arith, b, k))
+    term_bound : (o : Part Object) (n : ℕ) → Good context free o → n + unlabelled o ≤ most → BoundTerm (term_of prefixes Label Place o n)
+    term_bound (IriOrLabel s) n h b = node_bound s h
+    term_bound Anonymous n h b = omega (arith, b)
+    term_bound (Bracketed predicates) n h b = omega (arith, b)
+    term_bound (Collection items) n h b = let some = some_item items in omega (arith, b, some)
+    term_bound _ n h b = tt
 
     part_bound : {sort : Sort} (p : Part sort) (of : Of Name sort) (n : ℕ) → Good context free p → BoundOf sort of → n + unlabelled p ≤ most → (t : Triple Name) → Among (triples prefixes Label Place p of n) t → BoundTriple t
-    part_bound (IriOrLabel s) of n h k b t m = absurd m
-    part_bound (Quoted text suffix) of n h k b t m = absurd m
-    part_bound Anonymous of n h k b t m = absurd m
-    part_bound Nil of n h k b t m = absurd m
     part_bound (Bracketed predicates) of n h k b t m = part_bound predicates (Blank (Place n)) (suc n) h (omega (arith, b)) (omega (arith, b)) t m
     part_bound (Collection items) of n h k b t m = part_bound items tt n h tt b t m
-    part_bound (Single object) of n h k b t (inl e) = subst BoundTriple e (record { subject = k; object = object_bound object n h b })
+    part_bound (Single object) of n h k b t (inl e) = subst BoundTriple e (record { subject = k; object = term_bound object n h b })
     part_bound (Single object) of n h k b t (inr m) = part_bound object tt n h tt b t m
-    part_bound (Comma object objects) of n h k b t (inl e) = subst BoundTriple e (record { subject = k; object = object_bound object n h.0 (omega (arith, b)) })
+    part_bound (Comma object objects) of n h k b t (inl e) = subst BoundTriple e (record { subject = k; object = term_bound object n h.0 (omega (arith, b)) })
     part_bound (Comma object objects) of n h k b t (inr m) =
         elim (Among_cases (triples prefixes Label Place object tt n) (triples prefixes Label Place objects of (n + unlabelled object)) t m) [
           | inl q ↦ part_bound object tt n h.0 tt (omega (arith, b)) t q
           | inr q ↦ part_bound objects of (n + unlabelled object) h.1 k (omega (arith, b)) t q
         ]
-    part_bound (Last object) of n h k b t (inl e) = subst BoundTriple e (record { subject = below; object = object_bound object (suc n) h (omega (arith, b)) })
-      where
-        below : n < most
-        below = omega (arith, b)
+    part_bound (Last object) of n h k b t (inl e) = subst BoundTriple e (record { subject = omega (arith, b); object = term_bound object (suc n) h (omega (arith, b)) })
     part_bound (Last object) of n h k b t (inr m) =
         elim (Among_cases (triples prefixes Label Place object tt (suc n)) _ t m) [
           | inl q ↦ part_bound object tt (suc n) h tt (omega (arith, b)) t q
-          | inr q ↦ elim q [ inl e ↦ subst BoundTriple e (record { subject = below; object = tt }) | inr r ↦ absurd r ]
+          | inr q ↦ elim q [ inl e ↦ subst BoundTriple e (record { subject = omega (arith, b); object = tt }) | inr r ↦ absurd r ]
         ]
-      where
-        below : n < most
-        below = omega (arith, b)
-    part_bound (Item object items) of n h k b t (inl e) = subst BoundTriple e (record { subject = below; object = object_bound object (suc n) h.0 (omega (arith, b)) })
-      where
-        below : n < most
-        below = omega (arith, b)
+    part_bound (Item object items) of n h k b t (inl e) = subst BoundTriple e (record { subject = omega (arith, b); object = term_bound object (suc n) h.0 (omega (arith, b)) })
     part_bound (Item object items) of n h k b t (inr m) =
         elim (Among_cases (triples prefixes Label Place object tt (suc n)) _ t m) [
           | inl q ↦ part_bound object tt (suc n) h.0 tt (omega (arith, b)) t q
           | inr q ↦ elim q [
-            | inl e ↦ subst BoundTriple e (record { subject = below; object = next_below (some_item items) })
+            | inl e ↦ subst BoundTriple e (record { subject = omega (arith, b); object = let some = some_item items in omega (arith, b, some) })
             | inr r ↦ part_bound items tt (suc n + unlabelled object) h.1 tt (omega (arith, b)) t r
           ]
         ]
-      where
-        below : n < most
-        below = omega (arith, b)
-
-        next_below : 1 ≤ unlabelled items → suc n + unlabelled object < most
-        next_below q = omega (arith, b, q)
     part_bound (Predicate verb objects further) of n h k b t m =
         elim (Among_cases (triples prefixes Label Place objects (of, predicate_of prefixes verb) n) (triples prefixes Label Place further of (n + unlabelled objects)) t m) [
           | inl q ↦ part_bound objects (of, predicate_of prefixes verb) n h.1.0 k (omega (arith, b)) t q
           | inr q ↦ part_bound further of (n + unlabelled objects) h.1.1 k (omega (arith, b)) t q
         ]
-    part_bound Done of n h k b t m = absurd m
     part_bound (Semicolon further) of n h k b t m = absurd h
     part_bound (Also predicates) of n h k b t m = part_bound predicates of n h k b t m
+    part_bound _ of n h k b t m = absurd m
 
     all_bound : (statements : List Statement) (n : ℕ) → ((s : Statement) → Among statements s → GoodStatement context free s) → n + all_unlabelled statements ≤ most
         → (t : Triple Name) → Among (all_triples prefixes Label Place statements n) t → BoundTriple t

@@ -1,10 +1,11 @@
 -- The prefixes that a text uses.
-use Rattle.rx_model.proofs.Common.{◌≡◌, ◌∙◌, ◌⊎◌, ℕ, Bool, true, false, cond, List, [], ◌∷◌, ◌++◌, map, filter, flat_map, length, drop, Option, Some, None, bytes_eq, refl, sym, ap, ap₂, inl, inr, subst, true≢false, arith, not, ◌||◌, ◌==◌, and_parts, and_from, nat_tests, Chars, begins_with, Among, IsExact, contains, Triple, Among_filter, Among_of_filter, Among_of_filter_map, Among-contains, Among_by_contains, Among_map, Among_of_map, false_unless, or_left, or_right, Among_filter_map, exact_texts}
+use Rattle.rx_model.proofs.Common.{◌≡◌, ◌∙◌, ◌⊎◌, ◌↔◌, ℕ, Bool, true, false, cond, List, [], ◌∷◌, ◌++◌, map, filter, flat_map, length, drop, Option, Some, None, bytes_eq, refl, sym, ap, ap₂, inl, inr, subst, true≢false, arith, not, ◌==◌, and_parts, and_from, nat_tests, Chars, begins_with, by_test, Among, IsExact, contains, Triple, Among_filter, Among_of_filter, Among_of_filter_map, Among-contains, Among_by_contains, Among_map, Among_of_map, false_unless, or_left, or_right, Among_filter_map, exact_texts}
 use Rattle.rx_notation.specs.Short.{Prefix, Prefixes, is_before, is_prefix_name, is_local_name, local_name, shortens, is_preferred, preferred, best, prefix_of}
 use Rattle.rx_notation.specs.Layout.{iris_of, used, same_prefix, those_among, placed, in_byte_order, prefixes_used}
 use Rattle.rx_notation.specs.Spelling.{names_differ}
 use Rattle.rx_notation.specs.Meaning.{iri_at, is_known}
 use Rattle.rx_notation.specs.Syntax.{Short}
+use Rattle.rx_notation.specs.Nesting.{prefixes_named}
 
 -- ---- the prefix that is taken
 
@@ -32,6 +33,14 @@ prefix_fits context iri p e =
     let parts = and_parts _ _ found.1 in
     let more = and_parts _ _ parts.1 in
     record { there = found.0; is_name = parts.0; begins = more.0; is_local = more.1 }
+
+-- a case by the prefix of an IRI, with its equation
+pub by_prefix : {G : Type 0} (context : Prefixes) (iri : Chars) → (prefix_of context iri ≡ None → G) → ((p : Prefix) → prefix_of context iri ≡ Some p → G) → G
+by_prefix {G} context iri f g = go (prefix_of context iri) refl
+  where
+    go : (o : Option Prefix) → prefix_of context iri ≡ o → G
+    go None e = f e
+    go (Some p) e = g p e
 
 pub front_and_rest : (front text : Chars) → begins_with front text ≡ true → front ++ drop (length front) text ≡ text
 front_and_rest [] text h = refl
@@ -76,57 +85,44 @@ apart_names (p ∷ ps) h = and_from _ _ (ap not (false_unless (contains bytes_eq
 
 pub apart_filter : (test : Prefix → Bool) (ps : Prefixes) → Apart ps → Apart (filter test ps)
 apart_filter test [] h = tt
-apart_filter test (p ∷ ps) h = go (test p) (apart_filter test ps h.1)
-  where
-    go : (b : Bool) → Apart (filter test ps) → Apart (cond b (p ∷ filter test ps) (filter test ps))
-    go true k = (λ q m. h.0 q (Among_of_filter test ps q m).0, k)
-    go false k = k
+apart_filter test (p ∷ ps) h =
+    let rest = apart_filter test ps h.1 in by_test (test p) (λ e. rw e (λ q m. h.0 q (Among_of_filter test ps q m).0, rest)) (λ e. rw e rest)
 
 -- ---- prefixes in order
 
-of_placed : (p : Prefix) (ps : Prefixes) (q : Prefix) → Among (placed p ps) q → (p ≡ q) ⊎ Among ps q
-of_placed p [] q (inl e) = inl e
-of_placed p [] q (inr h) = absurd h
-of_placed p (first ∷ more) q h = go (is_before first.0 p.0) h (of_placed p more q)
+in_placed : (p : Prefix) (ps : Prefixes) (q : Prefix) → Among (placed p ps) q ↔ Among (p ∷ ps) q
+in_placed p [] q = (λ m. m, λ m. m)
+in_placed p (first ∷ more) q = go (is_before first.0 p.0) (in_placed p more q)
   where
-    go : (b : Bool) → Among (cond b (first ∷ placed p more) (p ∷ first ∷ more)) q → (Among (placed p more) q → (p ≡ q) ⊎ Among more q) → (p ≡ q) ⊎ Among (first ∷ more) q
-    go true (inl e) ih = inr (inl e)
-    go true (inr k) ih = elim (ih k) [ inl e ↦ inl e | inr m ↦ inr (inr m) ]
-    go false k ih = k
-
-placed_there : (p : Prefix) (ps : Prefixes) (q : Prefix) → (p ≡ q) ⊎ Among ps q → Among (placed p ps) q
-placed_there p [] q h = h
-placed_there p (first ∷ more) q h = go (is_before first.0 p.0) h (placed_there p more q)
-  where
-    go : (b : Bool) → (p ≡ q) ⊎ Among (first ∷ more) q → ((p ≡ q) ⊎ Among more q → Among (placed p more) q) → Among (cond b (first ∷ placed p more) (p ∷ first ∷ more)) q
-    go true (inl e) ih = inr (ih (inl e))
-    go true (inr (inl e)) ih = inl e
-    go true (inr (inr m)) ih = inr (ih (inr m))
-    go false k ih = k
+    go : (b : Bool) → Among (placed p more) q ↔ Among (p ∷ more) q → Among (cond b (first ∷ placed p more) (p ∷ first ∷ more)) q ↔ Among (p ∷ first ∷ more) q
+    go false ih = (λ m. m, λ m. m)
+    go true ih = (
+      λ m. elim m [ inl e ↦ inr (inl e) | inr k ↦ elim (ih.0 k) [ inl e ↦ inl e | inr l ↦ inr (inr l) ] ],
+      λ m. elim m [ inl e ↦ inr (ih.1 (inl e)) | inr k ↦ elim k [ inl e ↦ inl e | inr l ↦ inr (ih.1 (inr l)) ] ],
+    )
 
 apart_placed : (p : Prefix) (ps : Prefixes) → ((q : Prefix) → Among ps q → p.0 ≡ q.0 → ⊥) → Apart ps → Apart (placed p ps)
 apart_placed p [] h k = (h, tt)
 apart_placed p (first ∷ more) h k = go (is_before first.0 p.0) (apart_placed p more (λ q m. h q (inr m)) k.1)
   where
     from_first : (q : Prefix) → Among (placed p more) q → first.0 ≡ q.0 → ⊥
-    from_first q m e = elim (of_placed p more q m) [ inl f ↦ h first (inl refl) (ap (λ (z : Prefix). z.0) f ∙ sym e) | inr n ↦ k.0 q n e ]
+    from_first q m e = elim ((in_placed p more q).0 m) [ inl f ↦ h first (inl refl) (ap (λ (z : Prefix). z.0) f ∙ sym e) | inr n ↦ k.0 q n e ]
 
     go : (b : Bool) → Apart (placed p more) → Apart (cond b (first ∷ placed p more) (p ∷ first ∷ more))
     go true ih = (from_first, ih)
     go false ih = (h, k)
 
-pub of_ordered : (ps : Prefixes) (q : Prefix) → Among (in_byte_order ps) q → Among ps q
-of_ordered [] q h = h
-of_ordered (p ∷ ps) q h = elim (of_placed p (in_byte_order ps) q h) [ inl e ↦ inl e | inr m ↦ inr (of_ordered ps q m) ]
-
-pub ordered_there : (ps : Prefixes) (q : Prefix) → Among ps q → Among (in_byte_order ps) q
-ordered_there [] q h = h
-ordered_there (p ∷ ps) q (inl e) = placed_there p (in_byte_order ps) q (inl e)
-ordered_there (p ∷ ps) q (inr m) = placed_there p (in_byte_order ps) q (inr (ordered_there ps q m))
+pub in_ordered : (ps : Prefixes) (q : Prefix) → Among (in_byte_order ps) q ↔ Among ps q
+in_ordered [] q = (λ m. m, λ m. m)
+in_ordered (p ∷ ps) q =
+    let placed_in = in_placed p (in_byte_order ps) q in let more = in_ordered ps q in (
+      λ m. elim (placed_in.0 m) [ inl e ↦ inl e | inr k ↦ inr (more.0 k) ],
+      λ m. placed_in.1 (elim m [ inl e ↦ inl e | inr k ↦ inr (more.1 k) ]),
+    )
 
 pub apart_ordered : (ps : Prefixes) → Apart ps → Apart (in_byte_order ps)
 apart_ordered [] h = tt
-apart_ordered (p ∷ ps) h = apart_placed p (in_byte_order ps) (λ q m. h.0 q (of_ordered ps q m)) (apart_ordered ps h.1)
+apart_ordered (p ∷ ps) h = apart_placed p (in_byte_order ps) (λ q m. h.0 q ((in_ordered ps q).0 m)) (apart_ordered ps h.1)
 
 -- ---- the prefixes of a text
 
@@ -141,12 +137,12 @@ module _ (context : Prefixes) (list : List (Triple ℕ)) where
   used_apart h = apart_ordered (those_among (used context list) context) (apart_filter (contains same_prefix (used context list)) context h)
 
   pub used_of : (p : Prefix) → Among (prefixes_used context list) p → Among context p
-  used_of p m = (Among_of_filter (contains same_prefix (used context list)) context p (of_ordered (those_among (used context list) context) p m)).0
+  used_of p m = (Among_of_filter (contains same_prefix (used context list)) context p ((in_ordered (those_among (used context list) context) p).0 m)).0
 
   -- a prefix that is used makes a short form
   pub used_fits : (p : Prefix) → Among (prefixes_used context list) p → (iri : Chars) × Fits context iri p
   used_fits p m =
-      let found = Among_of_filter (contains same_prefix (used context list)) context p (of_ordered (those_among (used context list) context) p m) in
+      let found = Among_of_filter (contains same_prefix (used context list)) context p ((in_ordered (those_among (used context list) context) p).0 m) in
       let iri = Among_of_filter_map (prefix_of context) (flat_map iris_of list) p (Among_by_contains same_prefix exact_prefixes (used context list) p found.1) in
       (iri.0, prefix_fits context iri.0 p iri.2)
 
@@ -154,7 +150,7 @@ module _ (context : Prefixes) (list : List (Triple ℕ)) where
   used_there iri p m e =
       let among : Among (used context list) p = Among_filter_map (prefix_of context) (flat_map iris_of list) iri p m e in
       let there : Among (those_among (used context list) context) p = Among_filter (contains same_prefix (used context list)) context p (prefix_fits context iri p e).there (Among-contains same_prefix exact_prefixes (used context list) p among) in
-      ordered_there (those_among (used context list) context) p there
+      (in_ordered (those_among (used context list) context) p).1 there
 
 -- a short form by a prefix of the context that is declared means by this prefix
 abbrev pub Agree : Prefixes → Prefixes → Type 0
@@ -162,11 +158,9 @@ Agree context declared = (p : Prefix) (local : Chars) → Among context p → is
 
 pub declared_agree : (context : Prefixes) → Apart context → (ps : Prefixes) → ((q : Prefix) → Among ps q → Among context q) → Agree context ps
 declared_agree context apart [] of p local m k = absurd (true≢false (sym k))
-declared_agree context apart (q ∷ ps) of p local m k = go (bytes_eq q.0 p.0) refl k (declared_agree context apart ps (λ r n. of r (inr n)) p local m)
-  where
-    go : (b : Bool) → bytes_eq q.0 p.0 ≡ b → (b || is_known ps (Short p.0 local)) ≡ true → (is_known ps (Short p.0 local) ≡ true → iri_at ps p.0 ≡ p.1) → cond b q.1 (iri_at ps p.0) ≡ p.1
-    go true e k ih = ap (λ (z : Prefix). z.1) (one_of context apart p q m (of q (inl refl)) ((exact_texts q.0 p.0).0 e))
-    go false e k ih = ih k
+declared_agree context apart (q ∷ ps) of p local m k = by_test (bytes_eq q.0 p.0)
+    (λ e. rw e (ap (λ (z : Prefix). z.1) (one_of context apart p q m (of q (inl refl)) ((exact_texts q.0 p.0).0 e))))
+    (λ e. rw e (declared_agree context apart ps (λ r n. of r (inr n)) p local m (rw e at k)))
 
 -- what stands among prefixes is declared
 pub known_there : (ps : Prefixes) (p : Prefix) (local : Chars) → Among ps p → is_known ps (Short p.0 local) ≡ true
@@ -174,10 +168,14 @@ known_there [] p local h = absurd h
 known_there (q ∷ ps) p local (inl e) = or_left (bytes_eq q.0 p.0) _ ((exact_texts q.0 p.0).1 (ap (λ (z : Prefix). z.0) e))
 known_there (q ∷ ps) p local (inr m) = or_right (bytes_eq q.0 p.0) _ (known_there ps p local m)
 
+none_kept : (ps : Prefixes) → filter (λ (p : Prefix). false) ps ≡ []
+none_kept [] = refl
+none_kept (p ∷ ps) = none_kept ps
+
 -- a text of nothing uses none
 pub none_used : (context : Prefixes) → prefixes_used context [] ≡ []
-none_used context = ap in_byte_order (go context)
-  where
-    go : (ps : Prefixes) → those_among [] ps ≡ []
-    go [] = refl
-    go (p ∷ ps) = go ps
+none_used context = ap in_byte_order (none_kept context)
+
+-- nothing is declared where no name is used
+pub none_named : (context : Prefixes) → prefixes_named context [] ≡ []
+none_named context = ap in_byte_order (none_kept context)

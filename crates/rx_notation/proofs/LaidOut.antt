@@ -1,7 +1,9 @@
 -- The document of the flat layout, and that the layout is its text.
-use Rattle.rx_notation.proofs.Common.{◌≡◌, ◌∙◌, ℕ, Bool, true, false, cond, List, [], ◌∷◌, ◌++◌, map, flat_map, codes, Option, Some, None, bytes_eq, refl, sym, ap, ap₂, inl, inr, append_assoc, and_from, Chars, Among, Kind, Typed, Node, Iri, Blank, Term, Resource, Literal, Triple, rdf_type, string_text, subjects, objects_of, predicates_of, subject_says, predicate_says, Prefix, Prefixes, prefix_of, Type_of, By, Object, Part, IriOrLabel, Quoted, Statement, Document, is_flat, are_flat, reference_by, reference_to, verb_of, suffix_of, subject_of, objects_after, some_objects, predicates_after, some_predicates, said_of}
+use Rattle.rx_notation.proofs.Common.{◌≡◌, ◌∙◌, ℕ, true, List, [], ◌∷◌, ◌++◌, map, flat_map, codes, bytes_eq, refl, sym, ap, ap₂, inl, inr, append_assoc, and_from, Chars, Among, Kind, Typed, Node, Iri, Blank, Term, Resource, Literal, Triple, rdf_type, string_text, subjects, objects_of, predicates_of, subject_says, predicate_says, Prefixes, Sort, Object, Objects, Part, IriOrLabel, Quoted, Statement, Document, is_flat, are_flat, reference_to, verb_of, suffix_of, subject_of, objects_after, some_objects, predicates_after, some_predicates, said_of}
+use Rattle.rx_terms.proofs.Bools.{by_test}
 use Rattle.rx_notation.specs.Layout as flat
-use Rattle.rx_notation.specs.Writing.{Piece, words, reference_text, subject_text, verb_text, suffix_text, inside_gap, line_gap, pieces, statement_pieces, all_pieces, document_text}
+use Rattle.rx_notation.specs.Writing.{Piece, words, reference_text, subject_text, verb_text, suffix_text, inside_gap, line_gap, pieces, all_pieces, document_text}
+use Rattle.rx_notation.proofs.Chosen.{by_prefix}
 use Rattle.rx_notation.proofs.Spelled.{texts}
 
 module _ (context : Prefixes) where
@@ -15,79 +17,58 @@ module _ (context : Prefixes) where
   abbrev pub laid_out : List (Triple ℕ) → Document
   laid_out list = record { prefixes = flat.prefixes_used context list; statements = map (statement_for list) (subjects list) }
 
-  -- ---- no brackets and no parentheses
-
-  object_flat : (object : Term ℕ) → is_flat (object_for object) ≡ true
-  object_flat (Resource node) = refl
-  object_flat (Literal text kind) = refl
-
-  objects_flat : (object : Term ℕ) (more : List (Term ℕ)) → is_flat (objects_after object_for object more) ≡ true
-  objects_flat object [] = object_flat object
-  objects_flat object (next ∷ more) = and_from _ _ (object_flat object) (objects_flat next more)
-
-  some_objects_flat : (objects : List (Term ℕ)) → (o : Term ℕ) × Among objects o → is_flat (some_objects object_for objects) ≡ true
-  some_objects_flat [] some = absurd some.1
-  some_objects_flat (object ∷ more) some = objects_flat object more
-
   -- ---- texts of terms
 
   pub reference_is : (iri : Chars) → reference_text (reference_to context iri) ≡ flat.short_iri context iri
-  reference_is iri = go (prefix_of context iri)
-    where
-      go : (o : Option Prefix) → reference_text (reference_by o iri) ≡ flat.iri_by o iri
-      go None = refl
-      go (Some p) = refl
+  reference_is iri = by_prefix context iri (λ e. rw e refl) (λ p e. rw e refl)
 
   subject_is : (node : Node ℕ) → subject_text (subject_of context node) ≡ flat.resource_text context node
   subject_is (Iri iri) = reference_is iri
   subject_is (Blank number) = refl
 
   pub verb_is : (p : Chars) → verb_text (verb_of context p) ≡ flat.verb_text context p
-  verb_is p = go (bytes_eq p rdf_type)
-    where
-      go : (b : Bool) → verb_text (cond b Type_of (By (reference_to context p))) ≡ cond b (codes "a") (flat.short_iri context p)
-      go true = refl
-      go false = reference_is p
+  verb_is p = by_test (bytes_eq p rdf_type) (λ e. rw e refl) (λ e. rw e (reference_is p))
 
   pub suffix_is : (kind : Kind) → suffix_text (suffix_of context kind) ≡ flat.suffix_text context kind
   suffix_is (Typed datatype) = ap (λ z. codes "^^" ++ z) (reference_is datatype)
   suffix_is _ = refl
 
-  object_is : (o : Term ℕ) (gap : Chars) (rest : List Piece) → texts (pieces gap (object_for o) rest) ≡ flat.object_text context o ++ texts rest
-  object_is (Resource node) gap rest = ap (λ z. z ++ texts rest) (subject_is node)
-  object_is (Literal text kind) gap rest = ap (λ z. (string_text text ++ z) ++ texts rest) (suffix_is kind)
+  -- the part has no brackets and no parentheses, and this text
+  record Laid {sort : Sort} (gap : Chars) (part : Part sort) (text : Chars) : Type 0 where
+    level : is_flat part ≡ true
+    text_is : (rest : List Piece) → texts (pieces gap part rest) ≡ text ++ texts rest
+
+  object_laid : (o : Term ℕ) (gap : Chars) → Laid gap (object_for o) (flat.object_text context o)
+  object_laid (Resource node) gap = record { level = refl; text_is = λ rest. ap (λ z. z ++ texts rest) (subject_is node) }
+  object_laid (Literal text kind) gap = record { level = refl; text_is = λ rest. ap (λ z. (string_text text ++ z) ++ texts rest) (suffix_is kind) }
 
   -- ---- lists
 
   abbrev commas : List (Term ℕ) → Chars
   commas more = flat_map (λ next. codes " , " ++ next) (map (flat.object_text context) more)
 
-  objects_are : (o : Term ℕ) (more : List (Term ℕ)) (gap : Chars) (rest : List Piece) → texts (pieces gap (objects_after object_for o more) rest) ≡ (flat.object_text context o ++ commas more) ++ texts rest
-  objects_are o [] gap rest = object_is o gap rest ∙ sym (append_assoc (flat.object_text context o) [] (texts rest))
-  objects_are o (next ∷ more) gap rest =
-      object_is o gap (words (codes " , ") ∷ pieces gap (objects_after object_for next more) rest)
-      ∙ ap (λ z. flat.object_text context o ++ (codes " , " ++ z)) (objects_are next more gap rest)
-      ∙ sym (append_assoc (flat.object_text context o) (codes " , " ++ (flat.object_text context next ++ commas more)) (texts rest))
+  objects_laid : (o : Term ℕ) (more : List (Term ℕ)) (gap : Chars) → Laid gap (objects_after object_for o more) (flat.object_text context o ++ commas more)
+  objects_laid o [] gap = record { level = (object_laid o gap).level; text_is = λ rest. (object_laid o gap).text_is rest ∙ sym (append_assoc (flat.object_text context o) [] (texts rest)) }
+  objects_laid o (next ∷ more) gap =
+      let first = object_laid o gap in let behind = objects_laid next more gap in
+      record {
+        level = and_from _ _ first.level behind.level;
+        text_is = λ rest. first.text_is (words (codes " , ") ∷ pieces gap (objects_after object_for next more) rest)
+            ∙ ap (λ z. flat.object_text context o ++ (codes " , " ++ z)) (behind.text_is rest)
+            ∙ sym (append_assoc (flat.object_text context o) (codes " , " ++ (flat.object_text context next ++ commas more)) (texts rest));
+      }
 
   abbrev some_text : List (Term ℕ) → Chars
   some_text objects = flat.separated (codes " , ") (map (flat.object_text context) objects)
 
-  some_objects_are : (objects : List (Term ℕ)) → (o : Term ℕ) × Among objects o → (gap : Chars) (rest : List Piece) → texts (pieces gap (some_objects object_for objects) rest) ≡ some_text objects ++ texts rest
-  some_objects_are [] some gap rest = absurd some.1
-  some_objects_are (o ∷ more) some gap rest = objects_are o more gap rest
+  some_objects_laid : (objects : List (Term ℕ)) → (o : Term ℕ) × Among objects o → (gap : Chars) → Laid gap (some_objects object_for objects) (some_text objects)
+  some_objects_laid [] some gap = absurd some.1
+  some_objects_laid (o ∷ more) some gap = objects_laid o more gap
 
   module _ (objects : Chars → List (Term ℕ)) where
     -- each of these predicates has an object
     abbrev HaveObjects : List Chars → Type 0
     HaveObjects ps = (p : Chars) → Among ps p → (o : Term ℕ) × Among (objects p) o
-
-    predicates_flat : (p : Chars) (more : List Chars) → HaveObjects (p ∷ more) → is_flat (predicates_after context object_for objects p more) ≡ true
-    predicates_flat p [] some = and_from _ _ (some_objects_flat (objects p) (some p (inl refl))) refl
-    predicates_flat p (next ∷ more) some = and_from _ _ (some_objects_flat (objects p) (some p (inl refl))) (predicates_flat next more (λ q m. some q (inr m)))
-
-    some_predicates_flat : (ps : List Chars) → (p : Chars) × Among ps p → HaveObjects ps → is_flat (some_predicates context object_for objects ps) ≡ true
-    some_predicates_flat [] some have = absurd some.1
-    some_predicates_flat (first ∷ more) some have = predicates_flat first more have
 
     -- a predicate and its objects
     abbrev line : Chars → Chars
@@ -96,48 +77,50 @@ module _ (context : Prefixes) where
     abbrev semicolons : List Chars → Chars
     semicolons more = flat_map (λ next. codes " ;\n    " ++ next) (map line more)
 
-    line_is : (p : Chars) → (o : Term ℕ) × Among (objects p) o → (rest : List Piece)
-        → verb_text (verb_of context p) ++ (codes " " ++ texts (pieces inside_gap (some_objects object_for (objects p)) rest)) ≡ line p ++ texts rest
-    line_is p some rest =
-        ap₂ (λ v os. v ++ (codes " " ++ os)) (verb_is p) (some_objects_are (objects p) some inside_gap rest)
-        ∙ sym (append_assoc (flat.verb_text context p) (codes " " ++ some_text (objects p)) (texts rest))
+    abbrev line_part : Chars → Part Objects
+    line_part p = some_objects object_for (objects p)
 
-    predicates_are : (p : Chars) (more : List Chars) → HaveObjects (p ∷ more) → (rest : List Piece) → texts (pieces line_gap (predicates_after context object_for objects p more) rest) ≡ (line p ++ semicolons more) ++ texts rest
-    predicates_are p [] some rest = line_is p (some p (inl refl)) rest ∙ sym (append_assoc (line p) [] (texts rest))
-    predicates_are p (next ∷ more) some rest =
-        line_is p (some p (inl refl)) (words (codes " ;\n    ") ∷ pieces line_gap (predicates_after context object_for objects next more) rest)
-        ∙ ap (λ z. line p ++ (codes " ;\n    " ++ z)) (predicates_are next more (λ q m. some q (inr m)) rest)
-        ∙ sym (append_assoc (line p) (codes " ;\n    " ++ (line next ++ semicolons more)) (texts rest))
+    line_is : (p : Chars) → Laid inside_gap (line_part p) (some_text (objects p)) → (rest : List Piece) → verb_text (verb_of context p) ++ (codes " " ++ texts (pieces inside_gap (line_part p) rest)) ≡ line p ++ texts rest
+    line_is p laid rest =
+        ap₂ (λ v os. v ++ (codes " " ++ os)) (verb_is p) (laid.text_is rest) ∙ sym (append_assoc (flat.verb_text context p) (codes " " ++ some_text (objects p)) (texts rest))
 
-    abbrev said_text : List Chars → Chars
-    said_text ps = flat.separated (codes " ;\n    ") (map line ps)
+    predicates_laid : (p : Chars) (more : List Chars) → HaveObjects (p ∷ more) → Laid line_gap (predicates_after context object_for objects p more) (line p ++ semicolons more)
+    predicates_laid p [] some =
+        let first = some_objects_laid (objects p) (some p (inl refl)) inside_gap in
+        record { level = and_from _ _ first.level refl; text_is = λ rest. line_is p first rest ∙ sym (append_assoc (line p) [] (texts rest)) }
+    predicates_laid p (next ∷ more) some =
+        let first = some_objects_laid (objects p) (some p (inl refl)) inside_gap in
+        let behind = predicates_laid next more (λ q m. some q (inr m)) in
+        record {
+          level = and_from _ _ first.level behind.level;
+          text_is = λ rest. line_is p first (words (codes " ;\n    ") ∷ pieces line_gap (predicates_after context object_for objects next more) rest)
+              ∙ ap (λ z. line p ++ (codes " ;\n    " ++ z)) (behind.text_is rest)
+              ∙ sym (append_assoc (line p) (codes " ;\n    " ++ (line next ++ semicolons more)) (texts rest));
+        }
 
-    some_predicates_are : (ps : List Chars) → (p : Chars) × Among ps p → HaveObjects ps → (rest : List Piece) → texts (pieces line_gap (some_predicates context object_for objects ps) rest) ≡ said_text ps ++ texts rest
-    some_predicates_are [] some have rest = absurd some.1
-    some_predicates_are (p ∷ more) some have rest = predicates_are p more have rest
+    some_predicates_laid : (ps : List Chars) → (p : Chars) × Among ps p → HaveObjects ps → Laid line_gap (some_predicates context object_for objects ps) (flat.separated (codes " ;\n    ") (map line ps))
+    some_predicates_laid [] some have = absurd some.1
+    some_predicates_laid (p ∷ more) some have = predicates_laid p more have
 
   -- ---- statements
 
   module _ (list : List (Triple ℕ)) where
-    statement_is : (s : Node ℕ) → Among (subjects list) s → (rest : List Piece) → texts (statement_pieces (statement_for list s) rest) ≡ flat.statement_text context list s ++ texts rest
-    statement_is s m rest =
-        let said : Chars = said_text (objects_of list s) (predicates_of list s) in
-        ap₂ (λ a b. a ++ (codes " " ++ b)) (subject_is s) (some_predicates_are (objects_of list s) (predicates_of list s) (subject_says list s m) (predicate_says list s) (words (codes " .\n") ∷ rest)
-        ∙ sym (append_assoc said (codes " .\n") (texts rest)))
-        ∙ sym (append_assoc (flat.resource_text context s) (codes " " ++ (said ++ codes " .\n")) (texts rest))
-
-    statements_are : (nodes : List (Node ℕ)) → ((s : Node ℕ) → Among nodes s → Among (subjects list) s) → texts (all_pieces (map (statement_for list) nodes)) ≡ flat_map (flat.statement_text context list) nodes
-    statements_are [] there = refl
-    statements_are (s ∷ nodes) there =
-        statement_is s (there s (inl refl)) (all_pieces (map (statement_for list) nodes)) ∙ ap (λ z. flat.statement_text context list s ++ z) (statements_are nodes (λ r m. there r (inr m)))
+    statements_laid : (nodes : List (Node ℕ)) → ((s : Node ℕ) → Among nodes s → Among (subjects list) s)
+        → (are_flat (map (statement_for list) nodes) ≡ true) × (texts (all_pieces (map (statement_for list) nodes)) ≡ flat_map (flat.statement_text context list) nodes)
+    statements_laid [] there = (refl, refl)
+    statements_laid (s ∷ nodes) there =
+        let said : Chars = flat.separated (codes " ;\n    ") (map (line (objects_of list s)) (predicates_of list s)) in
+        let rest : List Piece = all_pieces (map (statement_for list) nodes) in
+        let first = some_predicates_laid (objects_of list s) (predicates_of list s) (subject_says list s (there s (inl refl))) (predicate_says list s) in
+        let behind = statements_laid nodes (λ r m. there r (inr m)) in (
+          and_from _ _ first.level behind.0,
+          ap₂ (λ a b. a ++ (codes " " ++ b)) (subject_is s) (first.text_is (words (codes " .\n") ∷ rest) ∙ sym (append_assoc said (codes " .\n") (texts rest)))
+              ∙ sym (append_assoc (flat.resource_text context s) (codes " " ++ (said ++ codes " .\n")) (texts rest))
+              ∙ ap (λ z. flat.statement_text context list s ++ z) behind.1,
+        )
 
     pub text_is : document_text (laid_out list) ≡ flat.turtle context list
-    text_is = ap (λ z. flat.prefixes_text (flat.prefixes_used context list) ++ z) (statements_are (subjects list) (λ s m. m))
-
-    statements_flat : (nodes : List (Node ℕ)) → ((s : Node ℕ) → Among nodes s → Among (subjects list) s) → are_flat (map (statement_for list) nodes) ≡ true
-    statements_flat [] there = refl
-    statements_flat (s ∷ nodes) there =
-        and_from _ _ (some_predicates_flat (objects_of list s) (predicates_of list s) (subject_says list s (there s (inl refl))) (predicate_says list s)) (statements_flat nodes (λ r m. there r (inr m)))
+    text_is = ap (λ z. flat.prefixes_text (flat.prefixes_used context list) ++ z) (statements_laid (subjects list) (λ s m. m)).1
 
     pub is_laid_flat : are_flat (laid_out list).statements ≡ true
-    is_laid_flat = statements_flat (subjects list) (λ s m. m)
+    is_laid_flat = (statements_laid (subjects list) (λ s m. m)).0

@@ -1,12 +1,11 @@
 -- The layout denotes its triples.
-use Rattle.rx_notation.proofs.Common.{◌≡◌, ◌↔◌, ℕ, Bool, true, false, cond, List, [], ◌∷◌, ◌++◌, map, flat_map, None, bytes_eq, refl, sym, ap, ap₂, inl, inr, subst, Chars, IsIri, Among, Kind, Plain, Tagged, Typed, Node, Iri, Blank, Term, Resource, Literal, Triple, spo, rdf_type, Among_left, Among_right, Among_flat_map, Among_of_map, IsProper, proper_triple, WritableNode, WritableKind, WritableTerm, IsWritable, Prefix, Prefixes, iris_of_node, iris_of_kind, iris_of_term, iris_of_predicate, iris_of, prefixes_used, turtle, subjects, predicates_of, objects_of, subject_there, subject_says, predicate_says, object_says, Named, Labelled, By, Type_of, IriOrLabel, Statement, document_tokens, SpellsTokens, Turtle, are_known, all_triples, reference_to, subject_of, verb_of, suffix_of, names_used, IsContext, LayoutDenotes}
+use Rattle.rx_notation.proofs.Common.{◌≡◌, ◌↔◌, ℕ, true, List, [], ◌∷◌, ◌++◌, map, flat_map, None, refl, sym, ap, ap₂, inl, inr, subst, Chars, Among, Node, Iri, Blank, Term, Resource, Literal, Triple, spo, Among_left, Among_right, Among_flat_map, IsProper, proper_triple, WritableNode, WritableTerm, IsWritable, Prefix, Prefixes, iris_of_node, iris_of_kind, iris_of_term, iris_of_predicate, iris_of, prefixes_used, turtle, subjects, predicates_of, objects_of, subject_there, Named, IriOrLabel, Statement, document_tokens, SpellsTokens, Turtle, are_known, all_triples, reference_to, subject_of, verb_of, names_used, IsContext, LayoutDenotes}
 use Rattle.rx_nquads.proofs.Proper.{proper_stays}
 use Rattle.rx_notation.proofs.Chosen.{Apart, Agree, names_apart, apart_names, used_apart, used_of, used_fits, used_there, none_used, declared_agree}
-use Rattle.rx_notation.proofs.Spelled.{GoodPrefix, GoodReference, GoodSubject, GoodVerb, GoodSuffix, Good, GoodStatement, document_spelled}
-use Rattle.rx_notation.proofs.Declared.{declared_reference, known_by, reference_means}
-use Rattle.rx_notation.proofs.Built.{some_predicates_good, line_by}
-use Rattle.rx_notation.proofs.Means.{in_term, in_predicates, NamedSo, Means, noun_means, literal_means}
-use Rattle.rx_notation.proofs.Stated.{said_top, stated}
+use Rattle.rx_notation.proofs.Spelled.{GoodPrefix, GoodSubject, GoodVerb, GoodStatement, document_spelled}
+use Rattle.rx_notation.proofs.Declared.{declared_reference, AllRefer, verb_good, suffix_good, take_all, reference_means}
+use Rattle.rx_notation.proofs.Means.{in_term, in_predicates, NamedSo, Means, noun_means, labelled_means, literal_means}
+use Rattle.rx_notation.proofs.Stated.{statements_good, said_top, stated}
 use Rattle.rx_notation.proofs.LaidOut.{object_for, statement_for, laid_out, text_is, is_laid_flat}
 
 none_in : {A : Type 0} (f : A → List ℕ) → ((x : A) → f x ≡ []) → (xs : List A) → flat_map f xs ≡ []
@@ -43,28 +42,22 @@ module _ (context : Prefixes) (list : List (Triple ℕ)) (c : IsContext context)
   abbrev Written : List Chars → Type 0
   Written iris = (iri : Chars) → Among iris iri → Among (flat_map iris_of list) iri
 
-  reference_good : (iri : Chars) → IsIri iri → Among (flat_map iris_of list) iri → GoodReference declared Any (reference_to context iri)
-  reference_good iri h m = declared_reference context declared Any iri h (λ p e. used_there context list iri p m e)
+  refer : (iris : List Chars) → Written iris → AllRefer context declared Any iris
+  refer iris i iri h m = declared_reference context declared Any iri h (λ p e. used_there context list iri p (i iri m) e)
 
   subject_good : (node : Node ℕ) → WritableNode node → Written (iris_of_node node) → GoodSubject declared Any (subject_of context node)
-  subject_good (Iri iri) h i = reference_good iri h.is_iri (i iri (inl refl))
+  subject_good (Iri iri) h i = refer (iri ∷ []) i iri h.is_iri (inl refl)
   subject_good (Blank number) h i = (h, tt)
 
-  verb_good : (p : Chars) → IsIri p → Written (iris_of_predicate p) → GoodVerb declared Any (verb_of context p)
-  verb_good p h i = go (bytes_eq p rdf_type) i
-    where
-      go : (b : Bool) → Written (cond b [] (p ∷ [])) → GoodVerb declared Any (cond b Type_of (By (reference_to context p)))
-      go true k = tt
-      go false k = reference_good p h (k p (inl refl))
+  abbrev place : ℕ → ℕ
+  place n = n
 
-  suffix_good : (kind : Kind) → WritableKind kind → Written (iris_of_kind kind) → GoodSuffix declared Any (suffix_of context kind)
-  suffix_good Plain h i = tt
-  suffix_good (Tagged tag) h i = h.is_tag
-  suffix_good (Typed datatype) h i = reference_good datatype h.is_iri (i datatype (inl refl))
-
-  object_good : (o : Term ℕ) → WritableTerm o → Written (iris_of_term o) → Good declared Any (object_for context o)
-  object_good (Resource node) h i = subject_good node h i
-  object_good (Literal text kind) h i = suffix_good kind h.1 i
+  object_means : (o : Term ℕ) → WritableTerm o → Written (iris_of_term o) → Means context declared agree list place declared Any (object_for context o) o (in_term no_nodes o)
+  object_means (Resource (Iri iri)) h i =
+      noun_means context declared agree list place declared Any (Iri iri) (IriOrLabel (Named (reference_to context iri))) (λ n k. ap (λ z. Resource (Iri z)) (reference_means context declared agree iri k)) (λ n. refl) refl
+      (subject_good (Iri iri) h i)
+  object_means (Resource (Blank number)) h i = labelled_means context declared agree list place declared Any number (h, tt)
+  object_means (Literal text kind) h i = literal_means context declared agree list place declared Any text kind (suffix_good context declared Any kind h.1 (refer (iris_of_kind kind) i))
 
   module _ (t : Triple ℕ) (m : Among list t) where
     behind_subject : Written (iris_of_predicate t.predicate ++ iris_of_term t.object)
@@ -73,26 +66,17 @@ module _ (context : Prefixes) (list : List (Triple ℕ)) (c : IsContext context)
     its_subject : GoodSubject declared Any (subject_of context t.subject)
     its_subject = subject_good t.subject (w.parts t m).subject (λ iri h. Among_flat_map iris_of list t iri m (Among_left (iris_of_node t.subject) _ iri h))
 
-    its_line : GoodVerb declared Any (verb_of context t.predicate) × Good declared Any (object_for context t.object)
+    its_line : GoodVerb declared Any (verb_of context t.predicate) × Means context declared agree list place declared Any (object_for context t.object) t.object (in_term no_nodes t.object)
     its_line = (
-      verb_good t.predicate (w.parts t m).predicate.is_iri (λ iri h. behind_subject iri (Among_left (iris_of_predicate t.predicate) (iris_of_term t.object) iri h)),
-      object_good t.object (w.parts t m).object (λ iri h. behind_subject iri (Among_right (iris_of_predicate t.predicate) (iris_of_term t.object) iri h)),
+      verb_good context declared Any t.predicate (w.parts t m).predicate.is_iri (refer (iris_of_predicate t.predicate) (λ iri h. behind_subject iri (Among_left (iris_of_predicate t.predicate) (iris_of_term t.object) iri h))),
+      object_means t.object (w.parts t m).object (λ iri h. behind_subject iri (Among_right (iris_of_predicate t.predicate) (iris_of_term t.object) iri h)),
     )
-
-  node_good : (s : Node ℕ) → Among (subjects list) s → GoodStatement declared Any (statement_for context list s)
-  node_good s m =
-      let p = subject_says list s m in
-      let o = predicate_says list s p.0 p.1 in (
-        its_subject (spo s p.0 o.0) (object_says list s p.0 o.0 o.1),
-        some_predicates_good context declared Any (object_for context) (objects_of list s) (predicates_of list s)
-            (line_by context declared Any (object_for context) list s (λ q r k. its_line (spo s q r) k)),
-      )
 
   abbrev all_statements : List Statement
   all_statements = map (statement_for context list) (subjects list)
 
-  statements_good : (s : Statement) → Among all_statements s → GoodStatement declared Any s
-  statements_good s m = let found = Among_of_map (statement_for context list) (subjects list) s m in subst (GoodStatement declared Any) found.2 (node_good found.0 found.1)
+  all_good : (s : Statement) → Among all_statements s → GoodStatement declared Any s
+  all_good s m = statements_good context declared agree list place declared Any (object_for context) no_nodes (λ s p o. its_line (spo s p o)) (subjects list) (λ s m. m) (λ t k n. its_subject t k) s m
 
   -- ---- the text is spelled, and its prefixes are declared
 
@@ -100,27 +84,18 @@ module _ (context : Prefixes) (list : List (Triple ℕ)) (c : IsContext context)
   prefixes_good p m = record { is_name = (used_fits context list p m).1.is_name; is_iri = c.iris p (used_of context list p m) }
 
   spelled : (all_statements ≡ [] → declared ≡ []) → SpellsTokens (turtle context list) (document_tokens (laid_out context list))
-  spelled none = subst (λ z. SpellsTokens z (document_tokens (laid_out context list))) (text_is context list) (document_spelled declared Any (laid_out context list) prefixes_good statements_good none)
+  spelled none = subst (λ z. SpellsTokens z (document_tokens (laid_out context list))) (text_is context list) (document_spelled declared Any (laid_out context list) prefixes_good all_good none)
 
   known : are_known declared all_statements ≡ true
-  known = known_by declared declared (names_used all_statements) (λ p m n. m) Any all_statements statements_good (λ n m. m)
+  known = (take_all declared declared (names_used all_statements) (λ p m n. m) Any all_statements all_good).1 (λ n m. m)
 
   -- ---- what it means
 
-  abbrev place : ℕ → ℕ
-  place n = n
-
-  each_means : (o : Term ℕ) → Means context declared agree list place (object_for context o) o (in_term no_nodes o)
-  each_means (Resource (Iri iri)) =
-      noun_means context declared agree list place (Iri iri) (IriOrLabel (Named (reference_to context iri))) (λ n k. ap (λ z. Resource (Iri z)) (reference_means context declared agree iri k)) (λ n. refl) refl
-  each_means (Resource (Blank number)) = noun_means context declared agree list place (Blank number) (IriOrLabel (Labelled number)) (λ n k. refl) (λ n. refl) refl
-  each_means (Literal text kind) = literal_means context declared agree list place text kind
-
   all_stated : (t : Triple ℕ) → Among (map proper_triple list) t ↔ Among (all_triples declared (λ number. number) place all_statements 0) t
   all_stated t =
-      stated context declared agree list place (object_for context) no_nodes each_means (subjects list) (λ s m. m) known
+      stated context declared agree list place declared Any (object_for context) no_nodes (λ s p o. its_line (spo s p o)) (subjects list) (λ s m. m) known
       (subst (NamedSo place 0) (sym (none_below list (subjects list))) tt)
-      (λ u m r e. inl (said_top context declared agree list place (object_for context) no_nodes each_means (subjects list) u m r e (subject_there list u m))) t
+      (λ u m r e. inl (said_top context declared agree list place declared Any (object_for context) no_nodes (λ s p o. its_line (spo s p o)) (subjects list) u m r e (subject_there list u m))) t
 
 none_said : (context : Prefixes) (list : List (Triple ℕ)) → map (statement_for context list) (subjects list) ≡ [] → prefixes_used context list ≡ []
 none_said context [] e = none_used context

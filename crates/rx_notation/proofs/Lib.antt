@@ -11,7 +11,6 @@ pub mod Spelled
 pub mod Declared
 pub mod Means
 pub mod Nodes
-pub mod Built
 pub mod Bounds
 pub mod Once
 pub mod There

@@ -1,8 +1,10 @@
 -- What the nested parts of a document mean.
-use Rattle.rx_notation.proofs.Common.{◌≡◌, ◌∙◌, ◌⊎◌, ◌↔◌, ℕ, zero, suc, ◌+◌, Bool, true, false, cond, List, [], ◌∷◌, ◌++◌, flat_map, length, bytes_eq, refl, sym, ap, inl, inr, subst, arith, append-nil, ◌&&◌, and_parts, Chars, Among, Kind, Node, Iri, Blank, Term, Resource, Literal, Triple, spo, Among_left, Among_right, Among_cases, exact_texts, rdf_first, rdf_rest, rdf_nil, proper_term, proper_triple, Shape, Prefixes, predicates_of, objects_of, Named, Labelled, Sort, Object, Objects, Predicates, Further, Part, IriOrLabel, Quoted, Nil, Single, Comma, Predicate, Done, Also, is_known_verb, all_known, predicate_of, unlabelled, term_of, triples, reference_to, verb_of, suffix_of, objects_after, some_objects, predicates_after, object_by}
+use Rattle.rx_notation.proofs.Common.{◌≡◌, ◌∙◌, ◌⊎◌, ◌↔◌, ◌<◌, ◌^◌, ℕ, zero, suc, ◌+◌, Bool, true, List, [], ◌∷◌, ◌++◌, flat_map, length, bytes_eq, refl, sym, ap, inl, inr, subst, arith, append-nil, ◌&&◌, and_parts, Chars, Among, Kind, Node, Iri, Blank, Term, Resource, Literal, Triple, spo, Among_left, Among_right, Among_cases, exact_texts, rdf_first, rdf_rest, rdf_nil, proper_term, proper_triple, Shape, Prefixes, predicates_of, objects_of, Named, Labelled, Sort, Object, Objects, Predicates, Further, Part, IriOrLabel, Quoted, Nil, Single, Comma, Predicate, Done, Also, is_known_verb, all_known, predicate_of, unlabelled, term_of, triples, reference_to, verb_of, suffix_of, objects_after, some_objects, predicates_after, object_by}
+use Rattle.rx_terms.proofs.Bools.{by_test}
 use Rattle.std.proofs.lemmas.List.{length-append}
 use Rattle.rx_shapes.specs.declared.shapes.Shape.TheVariants as shape
 use Rattle.rx_notation.proofs.Chosen.{Agree}
+use Rattle.rx_notation.proofs.Spelled.{GoodReference, GoodVerb, GoodSuffix, Good}
 use Rattle.rx_notation.proofs.Declared.{reference_means, verb_means, kind_means}
 
 -- ---- the nodes that a part has without a label, in order
@@ -62,7 +64,7 @@ pub record OneOf {A : Type 0} (P : A → Type 0) (xs : List A) : Type 0 where
 three_parts : (a b c : Bool) → (a && (b && c)) ≡ true → (a ≡ true) × (b ≡ true) × (c ≡ true)
 three_parts a b c h = let outer = and_parts a (b && c) h in let inner = and_parts b c outer.1 in (outer.0, inner.0, inner.1)
 
-module _ (context declared : Prefixes) (agree : Agree context declared) (list : List (Triple ℕ)) (place : ℕ → ℕ) where
+module _ (context declared : Prefixes) (agree : Agree context declared) (list : List (Triple ℕ)) (place : ℕ → ℕ) (scope : Prefixes) (free : ℕ → Type 0) where
   abbrev pub Known : {sort : Sort} → Part sort → Type 0
   Known part = all_known declared part ≡ true
 
@@ -78,17 +80,17 @@ module _ (context declared : Prefixes) (agree : Agree context declared) (list : 
     pub among : Among ns node
     pub said : triple.subject ≡ Blank node
 
+  pub under_by : {ns ms : List ℕ} {t : Triple ℕ} (u : Under ns t) → Among ms u.node → Under ms t
+  under_by u m = record { triple = u.triple; there = u.there; read = u.read; node = u.node; among = m; said = u.said }
+
   pub under_left : (xs ys : List ℕ) (t : Triple ℕ) → Under xs t → Under (xs ++ ys) t
-  under_left xs ys t u = record { triple = u.triple; there = u.there; read = u.read; node = u.node; among = Among_left xs ys u.node u.among; said = u.said }
+  under_left xs ys t u = under_by u (Among_left xs ys u.node u.among)
 
   pub under_right : (xs ys : List ℕ) (t : Triple ℕ) → Under ys t → Under (xs ++ ys) t
-  under_right xs ys t u = record { triple = u.triple; there = u.there; read = u.read; node = u.node; among = Among_right xs ys u.node u.among; said = u.said }
+  under_right xs ys t u = under_by u (Among_right xs ys u.node u.among)
 
   pub under_cases : (xs ys : List ℕ) (t : Triple ℕ) → Under (xs ++ ys) t → Under xs t ⊎ Under ys t
-  under_cases xs ys t u = elim (Among_cases xs ys u.node u.among) [
-    | inl m ↦ inl (record { triple = u.triple; there = u.there; read = u.read; node = u.node; among = m; said = u.said })
-    | inr m ↦ inr (record { triple = u.triple; there = u.there; read = u.read; node = u.node; among = m; said = u.said })
-  ]
+  under_cases xs ys t u = elim (Among_cases xs ys u.node u.among) [ inl m ↦ inl (under_by u m) | inr m ↦ inr (under_by u m) ]
 
   pub under_none : (t : Triple ℕ) → ¬ (Under [] t)
   under_none t u = absurd u.among
@@ -120,33 +122,33 @@ module _ (context declared : Prefixes) (agree : Agree context declared) (list : 
         ]
         back (inr u) = elim (under_cases ns ms t u) [ inl v ↦ Among_left mine theirs t (by.1 (inr v)) | inr v ↦ Among_right mine theirs t (on.1 (inr v)) ]
 
-  -- the part is this object, in which these nodes are written
+  -- the part is good, and it is this object, in which these nodes are written
   pub record Means (part : Part Object) (o : Term ℕ) (ns : List ℕ) : Type 0 where
     pub size : unlabelled part ≡ length ns
+    pub good : Good scope free part
     pub term : (n : ℕ) → Known part → NamedSo place n ns → term_of declared label place part n ≡ proper_term o
     pub says : (n : ℕ) → Known part → NamedSo place n ns → (t : Triple ℕ) → Among (triples declared label place part tt n) t ↔ Under ns t
 
   -- ---- parts without nodes inside
 
-  pub noun_means : (s : Node ℕ) (part : Part Object) → ((n : ℕ) → Known part → term_of declared label place part n ≡ Resource s) → ((n : ℕ) → triples declared label place part tt n ≡ []) → unlabelled part ≡ 0 → Means part (Resource s) []
-  noun_means s part term none size = record { size = size; term = λ n w h. term n w; says = λ n w h t. (λ m. absurd (subst (λ (z : List (Triple ℕ)). Among z t) (none n) m), λ u. absurd (under_none t u)) }
+  pub noun_means : (s : Node ℕ) (part : Part Object) → ((n : ℕ) → Known part → term_of declared label place part n ≡ Resource s) → ((n : ℕ) → triples declared label place part tt n ≡ []) → unlabelled part ≡ 0 → Good scope free part → Means part (Resource s) []
+  noun_means s part term none size good = record { size = size; good = good; term = λ n w h. term n w; says = λ n w h t. (λ m. absurd (subst (λ (z : List (Triple ℕ)). Among z t) (none n) m), λ u. absurd (under_none t u)) }
 
-  pub iri_means : (node : ℕ → Part Object) (iri : Chars) → Means (object_by context node (Resource (Iri iri))) (Resource (Iri iri)) []
-  iri_means node iri = go (bytes_eq iri rdf_nil) refl
-    where
-      go : (b : Bool) → bytes_eq iri rdf_nil ≡ b → Means (cond b Nil (IriOrLabel (Named (reference_to context iri)))) (Resource (Iri iri)) []
-      go true e = noun_means (Iri iri) Nil (λ n w. ap (λ z. Resource (Iri z)) (sym ((exact_texts iri rdf_nil).0 e))) (λ n. refl) refl
-      go false e = noun_means (Iri iri) (IriOrLabel (Named (reference_to context iri))) (λ n w. ap (λ z. Resource (Iri z)) (reference_means context declared agree iri w)) (λ n. refl) refl
+  pub iri_means : (node : ℕ → Part Object) (iri : Chars) → GoodReference scope free (reference_to context iri) → Means (object_by context node (Resource (Iri iri))) (Resource (Iri iri)) []
+  iri_means node iri good = by_test (bytes_eq iri rdf_nil)
+      (λ e. rw e (noun_means (Iri iri) Nil (λ n w. ap (λ z. Resource (Iri z)) (sym ((exact_texts iri rdf_nil).0 e))) (λ n. refl) refl tt))
+      (λ e. rw e (noun_means (Iri iri) (IriOrLabel (Named (reference_to context iri))) (λ n w. ap (λ z. Resource (Iri z)) (reference_means context declared agree iri w)) (λ n. refl) refl good))
 
-  pub literal_means : (text : Chars) (kind : Kind) → Means (Quoted text (suffix_of context kind)) (Literal text kind) []
-  literal_means text kind = record {
+  pub literal_means : (text : Chars) (kind : Kind) → GoodSuffix scope free (suffix_of context kind) → Means (Quoted text (suffix_of context kind)) (Literal text kind) []
+  literal_means text kind good = record {
     size = refl;
+    good = good;
     term = λ n w h. ap (Literal text) (kind_means context declared agree kind w);
     says = λ n w h t. (λ m. absurd m, λ u. absurd (under_none t u));
   }
 
-  pub labelled_means : (number : ℕ) → Means (IriOrLabel (Labelled number)) (Resource (Blank number)) []
-  labelled_means number = noun_means (Blank number) (IriOrLabel (Labelled number)) (λ n w. refl) (λ n. refl) refl
+  pub labelled_means : (number : ℕ) → (number < 2 ^ 64) × free number → Means (IriOrLabel (Labelled number)) (Resource (Blank number)) []
+  labelled_means number good = noun_means (Blank number) (IriOrLabel (Labelled number)) (λ n w. refl) (λ n. refl) refl good
 
   -- ---- lists of objects
 
@@ -164,6 +166,7 @@ module _ (context declared : Prefixes) (agree : Agree context declared) (list : 
 
     pub record MeansObjects (part : Part Objects) (objects : List (Term ℕ)) : Type 0 where
       pub size : unlabelled part ≡ length (in_objects nodes objects)
+      pub good : Good scope free part
       pub says : (s : Node ℕ) (p : Chars) (n : ℕ) → Known part → NamedSo place n (in_objects nodes objects) → (t : Triple ℕ)
           → Among (triples declared label place part (s, p) n) t ↔ (Said s p objects t ⊎ Under (in_objects nodes objects) t)
 
@@ -180,7 +183,7 @@ module _ (context declared : Prefixes) (agree : Agree context declared) (list : 
         )
 
     single_means : (first : Term ℕ) → Means (object first) first (in_term nodes first) → MeansObjects (Single (object first)) (first ∷ [])
-    single_means first m = record { size = sized; says = says }
+    single_means first m = record { size = sized; good = m.good; says = says }
       where
         ns : List ℕ
         ns = in_term nodes first
@@ -195,7 +198,7 @@ module _ (context declared : Prefixes) (agree : Agree context declared) (list : 
             (joined Says t first [] ns [] (its_triples first s p n) [] (its_said first m s p n w (named_front place n ns [] h) t) (none_told Says t))
 
     comma_means : (first : Term ℕ) (others : Part Objects) (behind : List (Term ℕ)) → Means (object first) first (in_term nodes first) → MeansObjects others behind → MeansObjects (Comma (object first) others) (first ∷ behind)
-    comma_means first others behind m rest = record { size = sized; says = says }
+    comma_means first others behind m rest = record { size = sized; good = (m.good, rest.good); says = says }
       where
         ns : List ℕ
         ns = in_term nodes first
@@ -227,6 +230,7 @@ module _ (context declared : Prefixes) (agree : Agree context declared) (list : 
     module _ (objects : Chars → List (Term ℕ)) where
       pub record MeansFurther (part : Part Further) (ps : List Chars) : Type 0 where
         pub size : unlabelled part ≡ length (in_predicates nodes objects ps)
+        pub good : Good scope free part
         pub says : (s : Node ℕ) (n : ℕ) → Known part → NamedSo place n (in_predicates nodes objects ps) → (t : Triple ℕ)
             → Among (triples declared label place part s n) t ↔ (SaidBy s objects ps t ⊎ Under (in_predicates nodes objects ps) t)
 
@@ -237,7 +241,7 @@ module _ (context declared : Prefixes) (agree : Agree context declared) (list : 
       line p = some_objects object (objects p)
 
       abbrev pub AllSay : List Chars → Type 0
-      AllSay ps = (p : Chars) → Among ps p → ((o : Term ℕ) × Among (objects p) o) × AllMean (objects p)
+      AllSay ps = (p : Chars) → Among ps p → GoodVerb scope free (verb_of context p) × (((o : Term ℕ) × Among (objects p) o) × AllMean (objects p))
 
       line_means : (p : Chars) → ((o : Term ℕ) × Among (objects p) o) × AllMean (objects p) → MeansObjects (line p) (objects p)
       line_means p all = some_objects_mean (objects p) all.0.0 all.0.1 all.1
@@ -249,11 +253,11 @@ module _ (context declared : Prefixes) (agree : Agree context declared) (list : 
           subst (λ z. Among (triples declared label place (line p) (s, z) n) t ↔ (Said s p (objects p) t ⊎ Under (in_objects nodes (objects p)) t)) (sym (verb_means context declared agree p v)) (m.says s p n w h t)
 
       done_means : MeansFurther Done []
-      done_means = record { size = refl; says = λ s n w h t. none_told (λ (p : Chars). Said s p (objects p) t) t }
+      done_means = record { size = refl; good = tt; says = λ s n w h t. none_told (λ (p : Chars). Said s p (objects p) t) t }
 
-      predicate_means : (first : Chars) (further : Part Further) (behind : List Chars) → MeansObjects (line first) (objects first) → MeansFurther further behind
+      predicate_means : (first : Chars) (further : Part Further) (behind : List Chars) → GoodVerb scope free (verb_of context first) → MeansObjects (line first) (objects first) → MeansFurther further behind
           → MeansPredicates (Predicate (verb_of context first) (line first) further) (first ∷ behind)
-      predicate_means first further behind m rest = record { size = sized; says = says }
+      predicate_means first further behind verb m rest = record { size = sized; good = (verb, (m.good, rest.good)); says = says }
         where
           ns : List ℕ
           ns = in_objects nodes (objects first)
@@ -274,6 +278,7 @@ module _ (context declared : Prefixes) (agree : Agree context declared) (list : 
               (line_says first m s n parts.0 parts.1 (named_front place n ns ms h) t) (rest.says s (n + unlabelled (line first)) parts.2 l t)
 
       pub predicates_mean : (first : Chars) (more : List Chars) → AllSay (first ∷ more) → MeansPredicates (predicates_after context object objects first more) (first ∷ more)
-      predicates_mean first [] all = predicate_means first Done [] (line_means first (all first (inl refl))) done_means
+      predicates_mean first [] all = let line = all first (inl refl) in predicate_means first Done [] line.0 (line_means first line.1) done_means
       predicates_mean first (next ∷ more) all =
-          predicate_means first (Also (predicates_after context object objects next more)) (next ∷ more) (line_means first (all first (inl refl))) (predicates_mean next more (λ p k. all p (inr k)))
+          let line = all first (inl refl) in
+          predicate_means first (Also (predicates_after context object objects next more)) (next ∷ more) line.0 (line_means first line.1) (predicates_mean next more (λ p k. all p (inr k)))

@@ -1,5 +1,5 @@
 -- The triples of a document under other names of its blank nodes.
-use Rattle.rx_notation.proofs.Common.{◌≡◌, ◌∙◌, ℕ, suc, ◌+◌, true, List, [], ◌∷◌, ◌++◌, map, refl, sym, ap, ap₂, inl, inr, subst, true≢false, and_parts, map-append, Chars, Among, Node, Iri, Blank, Term, Resource, Literal, Triple, set_of, spo, rename_node, rename_term, rename, blank_of_node, blank_of_term, blanks_of, Has, Among_map, Among_of_map, Among_cases, Prefixes, Subject, Named, Labelled, Sort, Object, Objects, Items, Predicates, Further, Part, IriOrLabel, Quoted, Anonymous, Nil, Bracketed, Collection, Single, Comma, Last, Item, Predicate, Done, Semicolon, Also, Statement, is_flat, are_flat}
+use Rattle.rx_notation.proofs.Common.{◌≡◌, ◌∙◌, ℕ, suc, ◌+◌, true, List, [], ◌∷◌, ◌++◌, map, refl, sym, ap, ap₂, inl, inr, subst, true≢false, and_parts, map-append, Chars, Among, Node, Iri, Blank, Term, Resource, Literal, Triple, set_of, spo, rename_node, rename_term, rename, blank_of_node, blank_of_term, blanks_of, Has, Among_map, Among_of_map, Among_cases, Prefixes, Subject, Named, Labelled, Sort, Object, Objects, Items, Predicates, Further, Part, IriOrLabel, Quoted, Nil, Bracketed, Collection, Single, Comma, Last, Item, Predicate, Semicolon, Also, Statement, is_flat, are_flat}
 use Rattle.rx_notation.specs.Meaning.{rdf_first, rdf_rest, rdf_nil, predicate_of, unlabelled, Of, node_of, term_of, triples, all_triples, Name, Label, Place, FlatIsNested}
 
 triple_path : {B : Type 0} (p : Chars) {s r : Node B} {o q : Term B} → s ≡ r → o ≡ q → spo s p o ≡ spo r p q
@@ -27,10 +27,6 @@ module _ {A B : Type 0} (to : A → B) (prefixes : Prefixes) (label place : ℕ 
   term_renamed _ n = refl
 
   part_renamed : {sort : Sort} (p : Part sort) (of : Of A sort) (n : ℕ) → map (rename to) (triples prefixes label place p of n) ≡ triples prefixes label_to place_to p (rename_of sort of) n
-  part_renamed (IriOrLabel s) of n = refl
-  part_renamed (Quoted text suffix) of n = refl
-  part_renamed Anonymous of n = refl
-  part_renamed Nil of n = refl
   part_renamed (Bracketed predicates) of n = part_renamed predicates (Blank (place n)) (suc n)
   part_renamed (Collection items) of n = part_renamed items tt n
   part_renamed (Single object) of n = ap₂ ◌∷◌ (triple_path of.1 refl (term_renamed object n)) (part_renamed object tt n)
@@ -50,9 +46,9 @@ module _ {A B : Type 0} (to : A → B) (prefixes : Prefixes) (label place : ℕ 
   part_renamed (Predicate verb objects further) of n =
       map-append (rename to) (triples prefixes label place objects (of, predicate_of prefixes verb) n) (triples prefixes label place further of (n + unlabelled objects))
       ∙ ap₂ ◌++◌ (part_renamed objects (of, predicate_of prefixes verb) n) (part_renamed further of (n + unlabelled objects))
-  part_renamed Done of n = refl
   part_renamed (Semicolon further) of n = part_renamed further of n
   part_renamed (Also predicates) of n = part_renamed predicates of n
+  part_renamed _ of n = refl
 
   -- the triples under other names are the triples renamed
   pub triples_renamed : (statements : List Statement) (n : ℕ) → map (rename to) (all_triples prefixes label place statements n) ≡ all_triples prefixes label_to place_to statements n
@@ -64,68 +60,44 @@ module _ {A B : Type 0} (to : A → B) (prefixes : Prefixes) (label place : ℕ 
 
 -- ---- documents without brackets and parentheses
 
-abbrev HasLabel : Node Name → Type 0
-HasLabel (Iri iri) = Unit {0}
-HasLabel (Blank (Label n)) = Unit {0}
-HasLabel (Blank (Place n)) = ⊥
+-- cells have places
+abbrev MayBeFlat : Sort → Type 0
+MayBeFlat Items = ⊥
+MayBeFlat _ = Unit {0}
 
-abbrev TermHasLabel : Term Name → Type 0
-TermHasLabel (Resource node) = HasLabel node
-TermHasLabel (Literal text kind) = Unit {0}
+-- their triples are the same for any places
+module _ {B : Type 0} (prefixes : Prefixes) (label place other : ℕ → B) where
+  node_same : (s : Subject) → node_of prefixes label place s ≡ node_of prefixes label other s
+  node_same (Named reference) = refl
+  node_same (Labelled number) = refl
 
-abbrev OfLabel : (sort : Sort) → Of Name sort → Type 0
-OfLabel Object of = Unit {0}
-OfLabel Objects of = HasLabel of.0
-OfLabel Items of = ⊥
-OfLabel _ of = HasLabel of
+  term_same : (o : Part Object) (n : ℕ) → is_flat o ≡ true → term_of prefixes label place o n ≡ term_of prefixes label other o n
+  term_same (IriOrLabel s) n h = ap Resource (node_same s)
+  term_same (Quoted text suffix) n h = refl
+  term_same Nil n h = refl
+  term_same _ n h = absurd (true≢false (sym h))
 
-record AllLabels (t : Triple Name) : Type 0 where
-  subject : HasLabel t.subject
-  object : TermHasLabel t.object
+  part_same : {sort : Sort} (p : Part sort) (of : Of B sort) (n : ℕ) → MayBeFlat sort → is_flat p ≡ true → triples prefixes label place p of n ≡ triples prefixes label other p of n
+  part_same (Single object) of n may h = ap₂ ◌∷◌ (triple_path of.1 refl (term_same object n h)) (part_same object tt n tt h)
+  part_same (Comma object objects) of n may h =
+      let parts = and_parts _ _ h in
+      ap₂ ◌∷◌ (triple_path of.1 refl (term_same object n parts.0)) (ap₂ ◌++◌ (part_same object tt n tt parts.0) (part_same objects of (n + unlabelled object) tt parts.1))
+  part_same (Predicate verb objects further) of n may h =
+      let parts = and_parts _ _ h in ap₂ ◌++◌ (part_same objects (of, predicate_of prefixes verb) n tt parts.0) (part_same further of (n + unlabelled objects) tt parts.1)
+  part_same (Semicolon further) of n may h = part_same further of n tt h
+  part_same (Also predicates) of n may h = part_same predicates of n tt h
+  part_same (Bracketed predicates) of n may h = absurd (true≢false (sym h))
+  part_same (Collection items) of n may h = absurd (true≢false (sym h))
+  part_same (Last object) of n may h = absurd may
+  part_same (Item object items) of n may h = absurd may
+  part_same _ of n may h = refl
 
-module _ (prefixes : Prefixes) where
-  node_label : (s : Subject) → HasLabel (node_of prefixes Label Place s)
-  node_label (Named reference) = tt
-  node_label (Labelled number) = tt
-
-  term_label : (o : Part Object) (n : ℕ) → is_flat o ≡ true → TermHasLabel (term_of prefixes Label Place o n)
-  term_label (IriOrLabel s) n h = node_label s
-  term_label (Quoted text suffix) n h = tt
-  term_label Nil n h = tt
-  term_label _ n h = absurd (true≢false (sym h))
-
-  part_labels : {sort : Sort} (p : Part sort) (of : Of Name sort) (n : ℕ) → is_flat p ≡ true → OfLabel sort of → (t : Triple Name) → Among (triples prefixes Label Place p of n) t → AllLabels t
-  part_labels (IriOrLabel s) of n h k t m = absurd m
-  part_labels (Quoted text suffix) of n h k t m = absurd m
-  part_labels Anonymous of n h k t m = absurd m
-  part_labels Nil of n h k t m = absurd m
-  part_labels (Bracketed predicates) of n h k t m = absurd (true≢false (sym h))
-  part_labels (Collection items) of n h k t m = absurd (true≢false (sym h))
-  part_labels (Single object) of n h k t (inl e) = subst AllLabels e (record { subject = k; object = term_label object n h })
-  part_labels (Single object) of n h k t (inr m) = part_labels object tt n h tt t m
-  part_labels (Comma object objects) of n h k t (inl e) = subst AllLabels e (record { subject = k; object = term_label object n (and_parts _ _ h).0 })
-  part_labels (Comma object objects) of n h k t (inr m) = either (part_labels object tt n (and_parts _ _ h).0 tt t) (part_labels objects of (n + unlabelled object) (and_parts _ _ h).1 k t)
-    where
-      either : (Among (triples prefixes Label Place object tt n) t → AllLabels t) → (Among (triples prefixes Label Place objects of (n + unlabelled object)) t → AllLabels t) → AllLabels t
-      either f g = elim (Among_cases (triples prefixes Label Place object tt n) (triples prefixes Label Place objects of (n + unlabelled object)) t m) [ inl q ↦ f q | inr q ↦ g q ]
-  part_labels (Last object) of n h k t m = absurd k
-  part_labels (Item object items) of n h k t m = absurd k
-  part_labels (Predicate verb objects further) of n h k t m =
-      either (part_labels objects (of, predicate_of prefixes verb) n (and_parts _ _ h).0 k t) (part_labels further of (n + unlabelled objects) (and_parts _ _ h).1 k t)
-    where
-      either : (Among (triples prefixes Label Place objects (of, predicate_of prefixes verb) n) t → AllLabels t) → (Among (triples prefixes Label Place further of (n + unlabelled objects)) t → AllLabels t) → AllLabels t
-      either f g = elim (Among_cases (triples prefixes Label Place objects (of, predicate_of prefixes verb) n) (triples prefixes Label Place further of (n + unlabelled objects)) t m) [ inl q ↦ f q | inr q ↦ g q ]
-  part_labels Done of n h k t m = absurd m
-  part_labels (Semicolon further) of n h k t m = part_labels further of n h k t m
-  part_labels (Also predicates) of n h k t m = part_labels predicates of n h k t m
-
-  all_labels : (statements : List Statement) (n : ℕ) → are_flat statements ≡ true → (t : Triple Name) → Among (all_triples prefixes Label Place statements n) t → AllLabels t
-  all_labels [] n h t m = absurd m
-  all_labels (s ∷ more) n h t m =
-      elim (Among_cases (triples prefixes Label Place s.predicates (node_of prefixes Label Place s.subject) n) (all_triples prefixes Label Place more (n + unlabelled s.predicates)) t m) [
-        | inl q ↦ part_labels s.predicates (node_of prefixes Label Place s.subject) n (and_parts _ _ h).0 (node_label s.subject) t q
-        | inr q ↦ all_labels more (n + unlabelled s.predicates) (and_parts _ _ h).1 t q
-      ]
+  all_same : (statements : List Statement) (n : ℕ) → are_flat statements ≡ true → all_triples prefixes label place statements n ≡ all_triples prefixes label other statements n
+  all_same [] n h = refl
+  all_same (s ∷ more) n h =
+      let parts = and_parts _ _ h in
+      ap₂ ◌++◌ (part_same s.predicates (node_of prefixes label place s.subject) n tt parts.0 ∙ ap (λ (z : Node B). triples prefixes label other s.predicates z n) (node_same s.subject))
+      (all_same more (n + unlabelled s.predicates) parts.1)
 
 -- the number of a name
 abbrev number : Name → ℕ
@@ -136,18 +108,16 @@ abbrev IsLabel : Name → Type 0
 IsLabel (Label n) = Unit {0}
 IsLabel (Place n) = ⊥
 
-node_name : (node : Node Name) (b : Name) → HasLabel node → Among (blank_of_node node) b → IsLabel b
-node_name (Iri iri) b h m = absurd m
-node_name (Blank (Label n)) b h (inl e) = subst IsLabel e tt
-node_name (Blank (Label n)) b h (inr m) = absurd m
-node_name (Blank (Place n)) b h m = absurd h
+node_name : (node : Node ℕ) (b : Name) → Among (blank_of_node (rename_node Label node)) b → IsLabel b
+node_name (Blank a) b m = elim m [ inl e ↦ subst IsLabel e tt | inr k ↦ absurd k ]
+node_name (Iri iri) b m = absurd m
 
-term_name : (o : Term Name) (b : Name) → TermHasLabel o → Among (blank_of_term o) b → IsLabel b
-term_name (Resource node) b h m = node_name node b h m
-term_name (Literal text kind) b h m = absurd m
-
-triple_name : (t : Triple Name) (b : Name) → AllLabels t → Among (blanks_of t) b → IsLabel b
-triple_name t b h m = elim (Among_cases (blank_of_node t.subject) (blank_of_term t.object) b m) [ inl q ↦ node_name t.subject b h.subject q | inr q ↦ term_name t.object b h.object q ]
+triple_name : (t : Triple ℕ) (b : Name) → Among (blanks_of (rename Label t)) b → IsLabel b
+triple_name t b m = elim (Among_cases (blank_of_node (rename_node Label t.subject)) (blank_of_term (rename_term Label t.object)) b m) [ inl q ↦ node_name t.subject b q | inr q ↦ of_term t.object q ]
+  where
+    of_term : (o : Term ℕ) → Among (blank_of_term (rename_term Label o)) b → IsLabel b
+    of_term (Resource node) q = node_name node b q
+    of_term (Literal text kind) q = absurd q
 
 one_label : (a b : Name) → IsLabel a → IsLabel b → number a ≡ number b → a ≡ b
 one_label (Label n) (Label m) h k e = ap Label e
@@ -158,7 +128,10 @@ pub flat_is_nested : FlatIsNested
 flat_is_nested text graph h =
     let p : Prefixes = h.document.prefixes in
     let ss : List Statement = h.document.statements in
-    let names : (b : Name) → Has (set_of (all_triples p Label Place ss 0)) b → IsLabel b = λ b has. triple_name has.0 b (all_labels p ss 0 h.flat has.0 has.1) has.2 in
+    let labels : all_triples p Label Place ss 0 ≡ map (rename Label) (all_triples p (λ n. n) (λ n. 0) ss 0) = all_same p Label Place (λ n. Label 0) ss 0 h.flat ∙ sym (triples_renamed Label p (λ n. n) (λ n. 0) ss 0) in
+    let names : (b : Name) → Has (set_of (all_triples p Label Place ss 0)) b → IsLabel b = λ b has.
+    let found = Among_of_map (rename Label) (all_triples p (λ n. n) (λ n. 0) ss 0) has.0 (subst (λ (z : List (Triple Name)). Among z has.0) labels has.1) in
+    triple_name found.0 b (subst (λ (z : Triple Name). Among (blanks_of z) b) (sym found.2) has.2) in
     let same = triples_renamed number p Label Place ss 0 in
     record {
       document = h.document;

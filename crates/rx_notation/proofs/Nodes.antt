@@ -1,27 +1,37 @@
 -- What nodes mean that are written where they are used.
-use Rattle.rx_notation.proofs.Common.{◌≡◌, ◌∙◌, ◌⊎◌, ◌↔◌, ℕ, zero, suc, ◌+◌, List, [], ◌∷◌, ◌++◌, length, refl, sym, ap, inl, inr, subst, arith, and_parts, Chars, Among, Node, Iri, Blank, Term, Resource, Literal, Triple, set_of, spo, Among_left, Among_right, Among_cases, rdf_first, rdf_rest, rdf_nil, proper_term, proper_triple, Inner, Cell, IsShape, HaveShapes, Shape, Prefixes, predicates_of, objects_of, Sort, Object, Items, Predicates, Part, Last, Item, all_known, unlabelled, term_of, triples, predicate_there, object_there, predicate_says, object_says, predicates_after, bracketed, object_by, cells, node_by, written, CellOf, cell_of, cell_inner, Enough, none_left, child_enough}
+use Rattle.rx_notation.proofs.Common.{◌≡◌, ◌∙◌, ◌⊎◌, ◌↔◌, ◌<◌, ◌^◌, ℕ, zero, suc, ◌+◌, List, [], ◌∷◌, ◌++◌, length, refl, sym, ap, inl, inr, subst, arith, and_parts, Chars, Among, Node, Iri, Blank, Term, Resource, Literal, Triple, set_of, spo, Among_left, Among_right, Among_cases, rdf_first, rdf_rest, rdf_nil, proper_term, proper_triple, WritableTerm, IsWritable, Inner, Cell, IsShape, HaveShapes, Shape, Prefixes, predicates_of, objects_of, Sort, Object, Items, Predicates, Part, Last, Item, all_known, unlabelled, term_of, triples, predicate_there, object_there, predicate_says, object_says, verb_of, predicates_after, bracketed, object_by, cells, node_by, written, CellOf, cell_of, cell_inner, Enough, none_left, child_enough}
 use Rattle.std.proofs.lemmas.List.{length-append}
 use Rattle.rx_shapes.specs.declared.shapes.Shape.TheVariants as shape
 use Rattle.rx_notation.proofs.Chosen.{Agree}
+use Rattle.rx_notation.proofs.Spelled.{GoodVerb, Good}
+use Rattle.rx_notation.proofs.Declared.{good_reference, verb_good, suffix_good}
 use Rattle.rx_notation.proofs.CellParts.{in_cell, cell_last, cell_more}
-use Rattle.rx_notation.proofs.Means.{in_term, in_cells, in_predicates, in_shape, ordered, NamedSo, named_front, named_behind, Known, Under, under_left, under_right, under_cases, Means, iri_means, literal_means, labelled_means, SaidBy, MeansPredicates, AllSay, predicates_mean}
+use Rattle.rx_notation.proofs.Means.{in_term, in_cells, in_predicates, in_shape, ordered, NamedSo, named_front, named_behind, Known, Under, under_by, under_left, under_right, under_cases, Means, iri_means, literal_means, labelled_means, SaidBy, MeansPredicates, AllSay, predicates_mean}
 
-module _ (context declared : Prefixes) (agree : Agree context declared) (list : List (Triple ℕ)) (place : ℕ → ℕ) where
+-- a label is that of a node that isn't written where it is used
+abbrev pub Free : List (Triple ℕ) → ℕ → Type 0
+Free list number = ¬ (Inner (set_of list) number)
+
+module _ (context declared : Prefixes) (agree : Agree context declared) (list : List (Triple ℕ)) (w : IsWritable list) (place : ℕ → ℕ) where
   abbrev MeansTerm : Part Object → Term ℕ → List ℕ → Type 0
-  MeansTerm part o ns = Means context declared agree list place part o ns
+  MeansTerm part o ns = Means context declared agree list place context (Free list) part o ns
 
   abbrev IsTold : List ℕ → Triple ℕ → Type 0
-  IsTold ns t = Under context declared agree list place ns t
+  IsTold ns t = Under context declared agree list place context (Free list) ns t
 
   abbrev Is_known : {sort : Sort} → Part sort → Type 0
-  Is_known part = Known context declared agree list place part
+  Is_known part = Known context declared agree list place context (Free list) part
 
   -- the part is the cells of a list from this one on
   pub record MeansItems (part : Part Items) (number : ℕ) (ns : List ℕ) : Type 0 where
     pub size : unlabelled part ≡ length ns
+    pub good : Good context (Free list) part
     pub head : (n : ℕ) → NamedSo place n ns → place n ≡ number
     pub says : (n : ℕ) → Is_known part → NamedSo place n ns → (t : Triple ℕ)
         → Among (triples declared (λ number. number) place part tt n) t ↔ IsTold ns t
+
+  pub good_verb : (s : Node ℕ) (p : Chars) (o : Term ℕ) → Among list (spo s p o) → GoodVerb context (Free list) (verb_of context p)
+  good_verb s p o m = verb_good context context (Free list) p (w.parts (spo s p o) m).predicate.is_iri (λ iri h k. good_reference context (Free list) iri h)
 
   -- ---- a node in brackets
 
@@ -29,7 +39,7 @@ module _ (context declared : Prefixes) (agree : Agree context declared) (list : 
   AllMeanOf node nodes number = (p : Chars) (o : Term ℕ) → Among list (spo (Blank number) p o) → MeansTerm (object_by context node o) o (in_term nodes o)
 
   abbrev Spoken : ℕ → List Chars → Triple ℕ → Type 0
-  Spoken number ps t = SaidBy context declared agree list place (Blank number) (objects_of list (Blank number)) ps t
+  Spoken number ps t = SaidBy context declared agree list place context (Free list) (Blank number) (objects_of list (Blank number)) ps t
 
   abbrev Speaks : ℕ → List Chars → Type 0
   Speaks number ps = (t : Triple ℕ) → Among list t → t.subject ≡ Blank number → Among ps t.predicate
@@ -47,7 +57,7 @@ module _ (context declared : Prefixes) (agree : Agree context declared) (list : 
         among = inl refl;
         said = refl;
       }
-      forth (inr u) = under_right context declared agree list place (number ∷ []) ns t u
+      forth (inr u) = under_right context declared agree list place context (Free list) (number ∷ []) ns t u
 
       spoken : (u : Triple ℕ) → Among list u → u.subject ≡ Blank number → proper_triple u ≡ t → Spoken number ps t
       spoken u m e r = record {
@@ -63,7 +73,7 @@ module _ (context declared : Prefixes) (agree : Agree context declared) (list : 
       back : IsTold (number ∷ ns) t → Spoken number ps t ⊎ IsTold ns t
       back u = elim u.among [
         | inl e ↦ inl (spoken u.triple u.there (u.said ∙ ap Blank (sym e)) u.read)
-        | inr m ↦ inr (record { triple = u.triple; there = u.there; read = u.read; node = u.node; among = m; said = u.said })
+        | inr m ↦ inr (under_by context declared agree list place context (Free list) u m)
       ]
 
   bracketed_means : (node : ℕ → Part Object) (nodes : ℕ → List ℕ) (number : ℕ) → AllMeanOf node nodes number
@@ -71,11 +81,13 @@ module _ (context declared : Prefixes) (agree : Agree context declared) (list : 
       → MeansTerm (bracketed context (object_by context node) (objects_of list (Blank number)) ps) (Resource (Blank number)) (number ∷ in_predicates nodes (objects_of list (Blank number)) ps)
   bracketed_means node nodes number each [] there speaks = record {
     size = refl;
+    good = tt;
     term = λ n w h. ap (λ z. Resource (Blank z)) h.0;
     says = λ n w h t. (λ a. absurd a, λ u. elim ((own_said number [] [] speaks t).1 u) [ inl y ↦ absurd y.among | inr v ↦ absurd v.among ]);
   }
   bracketed_means node nodes number each (first ∷ more) there speaks = record {
     size = ap suc m.size;
+    good = m.good;
     term = λ n w h. ap (λ z. Resource (Blank z)) h.0;
     says = says;
   }
@@ -83,11 +95,14 @@ module _ (context declared : Prefixes) (agree : Agree context declared) (list : 
       objects : Chars → List (Term ℕ)
       objects = objects_of list (Blank number)
 
-      all : AllSay context declared agree list place (object_by context node) nodes objects (first ∷ more)
-      all p k = (predicate_says list (Blank number) p (there p k), λ o l. each p o (object_says list (Blank number) p o l))
+      all : AllSay context declared agree list place context (Free list) (object_by context node) nodes objects (first ∷ more)
+      all p k =
+          let some = predicate_says list (Blank number) p (there p k) in
+          let held = object_says list (Blank number) p some.0 some.1 in
+          (good_verb (Blank number) p some.0 held, (some, λ o l. each p o (object_says list (Blank number) p o l)))
 
-      m : MeansPredicates context declared agree list place (object_by context node) nodes objects (predicates_after context (object_by context node) objects first more) (first ∷ more)
-      m = predicates_mean context declared agree list place (object_by context node) nodes objects first more all
+      m : MeansPredicates context declared agree list place context (Free list) (object_by context node) nodes objects (predicates_after context (object_by context node) objects first more) (first ∷ more)
+      m = predicates_mean context declared agree list place context (Free list) (object_by context node) nodes objects first more all
 
       ns : List ℕ
       ns = in_predicates nodes objects (first ∷ more)
@@ -120,16 +135,16 @@ module _ (context declared : Prefixes) (agree : Agree context declared) (list : 
       own u k e r = record { triple = u; there = k; read = r; node = number; among = inl refl; said = e }
 
       inner : IsTold (xs ++ ys) t → IsTold (number ∷ (xs ++ ys)) t
-      inner u = under_right context declared agree list place (number ∷ []) (xs ++ ys) t u
+      inner u = under_right context declared agree list place context (Free list) (number ∷ []) (xs ++ ys) t u
 
       forth_behind : Among (rest ∷ tail) t → IsTold (number ∷ (xs ++ ys)) t
       forth_behind (inl e) = own (spo (Blank number) rdf_rest c.after) c.pair.rest refl (sym is_rest ∙ e)
-      forth_behind (inr a) = inner (under_right context declared agree list place xs ys t (l.0 a))
+      forth_behind (inr a) = inner (under_right context declared agree list place context (Free list) xs ys t (l.0 a))
 
       forth : Among (first ∷ (mine ++ rest ∷ tail)) t → IsTold (number ∷ (xs ++ ys)) t
       forth (inl e) = own (spo (Blank number) rdf_first c.item) c.pair.first refl (sym is_first ∙ e)
       forth (inr a) = elim (Among_cases mine (rest ∷ tail) t a) [
-        | inl b ↦ inner (under_left context declared agree list place xs ys t (m.0 b))
+        | inl b ↦ inner (under_left context declared agree list place context (Free list) xs ys t (m.0 b))
         | inr b ↦ forth_behind b
       ]
 
@@ -140,7 +155,7 @@ module _ (context declared : Prefixes) (agree : Agree context declared) (list : 
       ]
 
       back_below : IsTold (xs ++ ys) t → Among (first ∷ (mine ++ rest ∷ tail)) t
-      back_below u = elim (under_cases context declared agree list place xs ys t u) [
+      back_below u = elim (under_cases context declared agree list place context (Free list) xs ys t u) [
         | inl v ↦ inr (Among_left mine (rest ∷ tail) t (m.1 v))
         | inr v ↦ inr (Among_right mine (rest ∷ tail) t (inr (l.1 v)))
       ]
@@ -148,14 +163,14 @@ module _ (context declared : Prefixes) (agree : Agree context declared) (list : 
       back : IsTold (number ∷ (xs ++ ys)) t → Among (first ∷ (mine ++ rest ∷ tail)) t
       back u = elim u.among [
         | inl e ↦ mine_back u.triple u.there (u.said ∙ ap Blank (sym e)) u.read
-        | inr k ↦ back_below (record { triple = u.triple; there = u.there; read = u.read; node = u.node; among = k; said = u.said })
+        | inr k ↦ back_below (under_by context declared agree list place context (Free list) u k)
       ]
 
   -- the item is a term that means what it is, and so is what comes behind
   module _ (node : ℕ → Part Object) (cell : ℕ → Part Items) (nodes : ℕ → List ℕ) (below : ℕ → List ℕ) (number : ℕ) (c : CellOf list number)
       (item : MeansTerm (object_by context node c.item) c.item (in_term nodes c.item)) where
     last_means : c.after ≡ Resource (Iri rdf_nil) → MeansItems (Last (object_by context node c.item)) number (number ∷ (in_term nodes c.item ++ []))
-    last_means e = record { size = sized; head = λ n h. h.0; says = says }
+    last_means e = record { size = sized; good = item.good; head = λ n h. h.0; says = says }
       where
         ns : List ℕ
         ns = in_term nodes c.item
@@ -176,7 +191,7 @@ module _ (context declared : Prefixes) (agree : Agree context declared) (list : 
             (item.says (suc n) w k t) (λ a. absurd a, λ u. absurd u.among)
 
     item_means : (d : ℕ) → c.after ≡ Resource (Blank d) → MeansItems (cell d) d (below d) → MeansItems (Item (object_by context node c.item) (cell d)) number (number ∷ (in_term nodes c.item ++ below d))
-    item_means d e behind = record { size = sized; head = λ n h. h.0; says = says }
+    item_means d e behind = record { size = sized; good = (item.good, behind.good); head = λ n h. h.0; says = says }
       where
         ns : List ℕ
         ns = in_term nodes c.item
@@ -224,45 +239,50 @@ module _ (context declared : Prefixes) (agree : Agree context declared) (list : 
     nodes_at left n = (ordered list shapes left n).0
 
     abbrev MeansNode : ℕ → ℕ → Type 0
-    MeansNode left number = (Inner (set_of list) number → Enough list left number) → MeansTerm (node_at left number) (Resource (Blank number)) (nodes_at left number)
+    MeansNode left number = number < 2 ^ 64 → (Inner (set_of list) number → Enough list left number) → MeansTerm (node_at left number) (Resource (Blank number)) (nodes_at left number)
 
     abbrev MeansCells : ℕ → ℕ → Type 0
     MeansCells left number = Cell (set_of list) number → Enough list left number → MeansItems (written context list shapes left number).1 number (ordered list shapes left number).1
 
-    pub term_means : (left : ℕ) → ((n : ℕ) → MeansNode left n) → (o : Term ℕ) → ((n : ℕ) → o ≡ Resource (Blank n) → Inner (set_of list) n → Enough list left n)
+    pub term_means : (left : ℕ) → ((n : ℕ) → MeansNode left n) → (o : Term ℕ) → WritableTerm o → ((n : ℕ) → o ≡ Resource (Blank n) → Inner (set_of list) n → Enough list left n)
         → MeansTerm (object_by context (node_at left) o) o (in_term (nodes_at left) o)
-    term_means left node (Resource (Iri iri)) enough = iri_means context declared agree list place (node_at left) iri
-    term_means left node (Resource (Blank n)) enough = node n (enough n refl)
-    term_means left node (Literal text kind) enough = literal_means context declared agree list place text kind
+    term_means left node (Resource (Iri iri)) h enough = iri_means context declared agree list place context (Free list) (node_at left) iri (good_reference context (Free list) iri h.is_iri)
+    term_means left node (Resource (Blank n)) h enough = node n h (enough n refl)
+    term_means left node (Literal text kind) h enough =
+        literal_means context declared agree list place context (Free list) text kind (suffix_good context context (Free list) kind h.1 (λ iri k m. good_reference context (Free list) iri k))
+
+    child_means : (left : ℕ) → ((n : ℕ) → MeansNode left n) → (number : ℕ) → Enough list (suc left) number → (p : Chars) (o : Term ℕ) → Among list (spo (Blank number) p o)
+        → MeansTerm (object_by context (node_at left) o) o (in_term (nodes_at left) o)
+    child_means left node number enough p o m =
+        term_means left node o (w.parts (spo (Blank number) p o) m).object (λ n e i. child_enough list left number n p enough (subst (λ (z : Term ℕ). Among list (spo (Blank number) p z)) e m) i)
 
     cells_at : (left : ℕ) → ((n : ℕ) → MeansNode left n) → ((n : ℕ) → MeansCells left n) → (number : ℕ) → Cell (set_of list) number → Enough list (suc left) number
         → MeansItems (cells (object_by context (node_at left)) (λ n. (written context list shapes left n).1) list number) number
         (in_cells (nodes_at left) (λ n. (ordered list shapes left n).1) number (objects_of list (Blank number) rdf_first) (objects_of list (Blank number) rdf_rest))
     cells_at left node below number is_cell enough =
         cells_mean (node_at left) (λ n. (written context list shapes left n).1) (nodes_at left) (λ n. (ordered list shapes left n).1) number c
-        (term_means left node c.item (λ n e i. child_enough list left number n rdf_first enough (subst (λ (z : Term ℕ). Among list (spo (Blank number) rdf_first z)) e c.pair.first) i))
+        (child_means left node number enough rdf_first c.item c.pair.first)
         (λ d e k. below d k (child_enough list left number d rdf_rest enough (subst (λ (z : Term ℕ). Among list (spo (Blank number) rdf_rest z)) e c.pair.rest) (cell_inner list d k)))
       where
         c : CellOf list number
         c = cell_of list number is_cell
 
     node_in : (left : ℕ) → ((n : ℕ) → MeansNode left n) → ((n : ℕ) → MeansCells left n) → (number : ℕ) → MeansNode (suc left) number
-    node_in left node below number enough = go (shapes number) (have number)
+    node_in left node below number small enough = go (shapes number) (have number)
       where
         go : (s : Shape) → IsShape (set_of list) number s
             → MeansTerm (node_by context list shapes (object_by context (node_at left)) (λ n. (written context list shapes left n).1) s number) (Resource (Blank number))
             (in_shape list shapes (nodes_at left) (λ n. (ordered list shapes left n).1) s number)
-        go shape.Labelled h = labelled_means context declared agree list place number
-        go shape.Inside h =
-            inside_means (node_at left) (nodes_at left) number (λ p o m. term_means left node o (λ n e i. child_enough list left number n p (enough h.0) (subst (λ (z : Term ℕ). Among list (spo (Blank number) p z)) e m) i))
+        go shape.Labelled h = labelled_means context declared agree list place context (Free list) number (small, h)
+        go shape.Inside h = inside_means (node_at left) (nodes_at left) number (child_means left node number (enough h.0))
         go shape.Cell h =
             let k = cells_at left node below number h (enough (cell_inner list number h)) in
-            record { size = k.size; term = λ n w g. ap (λ z. Resource (Blank z)) (k.head n g); says = k.says }
+            record { size = k.size; good = k.good; term = λ n known g. ap (λ z. Resource (Blank z)) (k.head n g); says = k.says }
 
     pub all_mean : (left : ℕ) → ((n : ℕ) → MeansNode left n) × ((n : ℕ) → MeansCells left n)
     all_mean zero = (
-      λ n enough. labelled_means context declared agree list place n,
+      λ n small enough. labelled_means context declared agree list place context (Free list) n (small, λ i. none_left list n i (enough i)),
       λ n is_cell enough. absurd (none_left list n (cell_inner list n is_cell) enough),
     )
     all_mean (suc left) =
-        let before = all_mean left in (λ n enough. node_in left before.0 before.1 n enough, λ n is_cell enough. cells_at left before.0 before.1 n is_cell enough)
+        let before = all_mean left in (λ n small enough. node_in left before.0 before.1 n small enough, λ n is_cell enough. cells_at left before.0 before.1 n is_cell enough)

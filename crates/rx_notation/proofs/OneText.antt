@@ -1,7 +1,8 @@
 -- A text spells at most one document.
-use Rattle.rx_notation.proofs.Common.{◌≡◌, ◌∙◌, ℕ, ◌<◌, Bool, true, false, List, [], ◌∷◌, ◌++◌, codes, refl, sym, ap, ap₂, true≢false, arith, append_assoc, bytes_eq, not, ◌==◌, ◌||◌, if◌then◌else◌, list_all, list_any, and_parts, and_from, nat_tests, is_letter, is_letter_or_digit, colon, line_feed, quotation_mark, less_than_sign, low_line, hyphen, space, commercial_at, circumflex_accent, Chars, or_left, or_right, is_name_char, is_prefix_name, is_local_name, Reference, Full, Short, Subject, Named, Labelled, Suffix, Bare, Language, Datatype, Terminal, At_prefix, Small_a, Full_stop, Semicolon_sign, Comma_sign, Left_bracket, Right_bracket, Brackets, Left_parenthesis, Right_parenthesis, Parentheses, Token, terminal, declared, iri_or_label, quoted, document_tokens, terminal_text, SpellsReference, SpellsSubject, SpellsSuffix, SpellsQuoted, SpellsToken, is_separator, is_gap, SpellsBehind, SpellsTokens, SpellsOne}
+use Rattle.rx_notation.proofs.Common.{◌≡◌, ◌∙◌, ℕ, ◌<◌, Bool, true, false, List, [], ◌∷◌, ◌++◌, codes, refl, sym, ap, ap₂, true≢false, arith, append_assoc, append-nil, bytes_eq, not, ◌==◌, ◌||◌, if◌then◌else◌, list_all, list_any, and_parts, and_from, nat_tests, is_letter, colon, line_feed, quotation_mark, less_than_sign, low_line, space, commercial_at, circumflex_accent, Chars, is_name_char, is_prefix_name, is_local_name, Reference, Full, Short, Subject, Named, Labelled, Suffix, Bare, Language, Datatype, Terminal, At_prefix, Small_a, Full_stop, Semicolon_sign, Comma_sign, Left_bracket, Right_bracket, Brackets, Left_parenthesis, Right_parenthesis, Parentheses, Token, terminal, declared, iri_or_label, quoted, document_tokens, terminal_text, SpellsReference, SpellsSubject, SpellsSuffix, SpellsQuoted, SpellsToken, is_separator, is_gap, SpellsBehind, SpellsTokens, SpellsOne}
+use Rattle.rx_model.proofs.Sets.{or_right, false_unless}
 use Rattle.rx_nquads.specs.Spelling.{tagged}
-use Rattle.rx_nquads.proofs.Cuts.{lacks, differs, cut, lacks_append, lacks_where}
+use Rattle.rx_nquads.proofs.Cuts.{lacks, cut, lacks_where}
 use Rattle.rx_nquads.proofs.OneMeaning.{space_marks, line_feed_marks, iri_lacks, label_lacks, kind_lacks, one_iri, one_label, one_string}
 use Rattle.rx_notation.proofs.OneDocument.{one_document}
 
@@ -12,11 +13,7 @@ is_same c d e = grind (arith, nat_tests, e)
 
 -- a number that passes a test is none that fails it
 other : (test : ℕ → Bool) (mark c : ℕ) → test mark ≡ false → test c ≡ true → (c == mark) ≡ false
-other test mark c n h = go (c == mark) refl
-  where
-    go : (b : Bool) → (c == mark) ≡ b → (c == mark) ≡ false
-    go false e = e
-    go true e = absurd (true≢false (sym h ∙ ap test (is_same c mark e) ∙ n))
+other test mark c n h = false_unless (c == mark) (λ e. true≢false (sym h ∙ ap test (is_same c mark e) ∙ n))
 
 -- the list begins with a number that fails the test
 abbrev pub stops : (ℕ → Bool) → List ℕ → Bool
@@ -51,14 +48,13 @@ inked_by (c ∷ list) h k = and_from _ _ (both (c == space) (c == line_feed) (an
     both false b p q = q
 
 letter_is_name_char : (c : ℕ) → is_letter c ≡ true → is_name_char c ≡ true
-letter_is_name_char c h = or_left (is_letter_or_digit c || c == low_line) (c == hyphen) (or_left (is_letter_or_digit c) (c == low_line) (or_left (is_letter c) _ h))
+letter_is_name_char c h = grind (arith, nat_tests, h)
 
 start_is_name_char : (c : ℕ) → (is_letter c || c == low_line) ≡ true → is_name_char c ≡ true
-start_is_name_char c h = go (is_letter c) refl h
-  where
-    go : (b : Bool) → is_letter c ≡ b → (b || c == low_line) ≡ true → is_name_char c ≡ true
-    go true e k = letter_is_name_char c e
-    go false e k = or_left (is_letter_or_digit c || c == low_line) (c == hyphen) (or_right (is_letter_or_digit c) (c == low_line) k)
+start_is_name_char c h = grind (arith, nat_tests, h)
+
+name_is_ink : (c : ℕ) → is_name_char c ≡ true → is_ink c ≡ true
+name_is_ink c h = grind (arith, nat_tests, h)
 
 pub name_chars : (name : Chars) → is_prefix_name name ≡ true → list_all is_name_char name ≡ true
 name_chars [] h = refl
@@ -68,18 +64,9 @@ pub local_chars : (name : Chars) → is_local_name name ≡ true → list_all is
 local_chars [] h = refl
 local_chars (c ∷ name) h = and_from _ _ (start_is_name_char c (and_parts _ _ h).0) (and_parts _ _ h).1
 
-module _ (mark : ℕ) (no_name : is_name_char mark ≡ false) where
-  name_lacks : (name : Chars) → is_prefix_name name ≡ true → lacks mark name ≡ true
-  name_lacks name h = lacks_where is_name_char mark no_name name (name_chars name h)
-
-  local_lacks : (name : Chars) → is_local_name name ≡ true → lacks mark name ≡ true
-  local_lacks name h = lacks_where is_name_char mark no_name name (local_chars name h)
-
-  short_lacks : differs mark colon ≡ true → (name local : Chars) → is_prefix_name name ≡ true → is_local_name local ≡ true → lacks mark (name ++ colon ∷ local) ≡ true
-  short_lacks c name local h k = lacks_append mark name (colon ∷ local) (name_lacks name h) (and_from _ _ c (local_lacks local k))
-
-  declared_lacks : differs mark colon ≡ true → (name : Chars) → is_prefix_name name ≡ true → lacks mark (name ++ colon ∷ []) ≡ true
-  declared_lacks c name h = lacks_append mark name (colon ∷ []) (name_lacks name h) (and_from _ _ c refl)
+named_inked : (name rest : Chars) → list_all is_name_char name ≡ true → inked rest ≡ true → inked (name ++ rest) ≡ true
+named_inked [] rest h k = k
+named_inked (c ∷ name) rest h k = and_from _ _ (name_is_ink c (and_parts _ _ h).0) (named_inked name rest (and_parts _ _ h).1 k)
 
 -- a name begins with a letter
 no_name : (name rest : Chars) (mark : ℕ) (x : Chars) → is_prefix_name name ≡ true → is_letter mark ≡ false → name ++ rest ≡ mark ∷ x → ⊥
@@ -91,7 +78,8 @@ no_name (c ∷ name) rest mark x h n e = let same : c ≡ mark = cc in true≢fa
 reference_inked : (spelling : Chars) (r : Reference) → SpellsReference spelling r → inked spelling ≡ true
 reference_inked spelling (Full iri) h = inked_by spelling (iri_lacks space space_marks spelling iri h) (iri_lacks line_feed line_feed_marks spelling iri h)
 reference_inked spelling (Short name local) h =
-    ap inked h.spelled ∙ inked_by (name ++ colon ∷ local) (short_lacks space refl refl name local h.is_name h.is_local) (short_lacks line_feed refl refl name local h.is_name h.is_local)
+    let behind : inked local ≡ true = ap inked (sym (append-nil local)) ∙ named_inked local [] (local_chars local h.is_local) refl in
+    ap inked h.spelled ∙ named_inked name (colon ∷ local) (name_chars name h.is_name) (and_from _ _ refl behind)
 
 subject_inked : (spelling : Chars) (s : Subject) → SpellsSubject spelling s → inked spelling ≡ true
 subject_inked spelling (Named r) h = reference_inked spelling r h
@@ -175,7 +163,7 @@ one_sign s r e = sym (read_back s) ∙ ap sign_in e ∙ read_back r
 
 -- names before a colon
 before_colon : (a b x y : Chars) → is_prefix_name a ≡ true → is_prefix_name b ≡ true → a ++ colon ∷ x ≡ b ++ colon ∷ y → (a ≡ b) × (x ≡ y)
-before_colon a b x y h k e = cut colon a b x y (name_lacks colon refl a h) (name_lacks colon refl b k) e
+before_colon a b x y h k e = cut colon a b x y (lacks_where is_name_char colon refl a (name_chars a h)) (lacks_where is_name_char colon refl b (name_chars b k)) e
 
 one_reference : (s r : Chars) (a b : Reference) → s ≡ r → SpellsReference s a → SpellsReference r b → a ≡ b
 one_reference s r (Full a) (Full b) e h k = ap Full (one_iri s r a b e h k)
@@ -236,7 +224,7 @@ one_token s r t u e n h k = absurd (no_kind s r t u e h k (λ z. omega (arith, z
 plain_inked : (spelling : Chars) (t : Token) → is_quoted t ≡ false → SpellsToken spelling t → inked spelling ≡ true
 unfolding is_quoted
 plain_inked spelling (terminal s) n h = ap inked h ∙ sign_inked s
-plain_inked spelling (declared name) n h = ap inked h.spelled ∙ inked_by (name ++ colon ∷ []) (declared_lacks space refl refl name h.is_name) (declared_lacks line_feed refl refl name h.is_name)
+plain_inked spelling (declared name) n h = ap inked h.spelled ∙ named_inked name (colon ∷ []) (name_chars name h.is_name) refl
 plain_inked spelling (iri_or_label subject) n h = subject_inked spelling subject h
 plain_inked spelling (quoted text suffix) n h = absurd (true≢false n)
 
@@ -279,12 +267,8 @@ mixed_front s r x y text suffix u n h k e =
 token_front : (s r x y : Chars) (t u : Token) → SpellsToken s t → SpellsToken r u → stops is_ink x ≡ true → stops is_ink y ≡ true → s ++ x ≡ r ++ y → (t ≡ u) × (x ≡ y)
 unfolding is_quoted
 token_front s r x y (quoted text suffix) (quoted text' suffix') h k p q e = quoted_front s r x y text text' suffix suffix' h k p q e
-token_front s r x y (quoted text suffix) (terminal u) h k p q e = absurd (mixed_front s r x y text suffix (terminal u) refl h k e)
-token_front s r x y (quoted text suffix) (declared u) h k p q e = absurd (mixed_front s r x y text suffix (declared u) refl h k e)
-token_front s r x y (quoted text suffix) (iri_or_label u) h k p q e = absurd (mixed_front s r x y text suffix (iri_or_label u) refl h k e)
-token_front s r x y (terminal t) (quoted text suffix) h k p q e = absurd (mixed_front r s y x text suffix (terminal t) refl k h (sym e))
-token_front s r x y (declared t) (quoted text suffix) h k p q e = absurd (mixed_front r s y x text suffix (declared t) refl k h (sym e))
-token_front s r x y (iri_or_label t) (quoted text suffix) h k p q e = absurd (mixed_front r s y x text suffix (iri_or_label t) refl k h (sym e))
+token_front s r x y (quoted text suffix) u h k p q e = absurd (mixed_front s r x y text suffix u refl h k e)
+token_front s r x y t (quoted text suffix) h k p q e = absurd (mixed_front r s y x text suffix t refl k h (sym e))
 token_front s r x y t u h k p q e = plain_front s r x y t u refl refl h k p q e
 
 -- ---- texts
@@ -294,32 +278,21 @@ sign_opens : (s : Terminal) (x : Chars) → stops is_separator (terminal_text s 
 sign_opens At_prefix x = refl
 sign_opens _ x = refl
 
-opens_by : (spelling x : Chars) → inked spelling ≡ true → (spelling ≡ [] → ⊥) → stops is_separator (spelling ++ x) ≡ true
-opens_by [] x h some = absurd (some refl)
-opens_by (c ∷ spelling) x h some = (and_parts _ _ h).0
-
-some_kind : (spelling : Chars) (n : ℕ) → kind spelling ≡ n → n < 9 → spelling ≡ [] → ⊥
+opens_by : (spelling x : Chars) (n : ℕ) → inked spelling ≡ true → kind spelling ≡ n → n < 4 → stops is_separator (spelling ++ x) ≡ true
 unfolding kind
-some_kind spelling n h small e = let nine : 9 ≡ n = ap kind (sym e) ∙ h in absurd (omega (arith, nine, small))
+opens_by [] x n h k small = absurd (omega (arith, k, small))
+opens_by (c ∷ spelling) x n h k small = (and_parts _ _ h).0
 
 token_opens : (spelling x : Chars) (t : Token) → SpellsToken spelling t → stops is_separator (spelling ++ x) ≡ true
 unfolding is_quoted
 token_opens spelling x (quoted text suffix) h = ap (λ z. stops is_separator (z ++ x)) h.spelled
 token_opens spelling x (terminal s) h = ap (λ z. stops is_separator (z ++ x)) h ∙ sign_opens s x
-token_opens spelling x t h =
-    opens_by spelling x (plain_inked spelling t refl h) (some_kind spelling (token_kind t) (kind_spelled spelling t h) (below_nine t refl))
-  where
-    below_nine : (u : Token) → is_quoted u ≡ false → token_kind u < 9
-    below_nine u n = let small = plain_small u n in omega (arith, small)
+token_opens spelling x t h = opens_by spelling x (token_kind t) (plain_inked spelling t refl h) (kind_spelled spelling t h) (plain_small t refl)
 
 -- what stands behind a token begins with a separator
 gap_stops : (gap rest : Chars) → is_gap gap ≡ true → stops is_ink (gap ++ rest) ≡ true
 gap_stops [] rest h = absurd (true≢false (sym h))
-gap_stops (c ∷ gap) rest h = go (is_separator c) (and_parts _ _ h).0
-  where
-    go : (b : Bool) → b ≡ true → not (not b) ≡ true
-    go true e = refl
-    go false e = e
+gap_stops (c ∷ gap) rest h = ap (λ b. not (not b)) (and_parts _ _ h).0
 
 behind_stops : (text : Chars) (ts : List Token) → SpellsBehind text ts → stops is_ink text ≡ true
 behind_stops text [] h = ap (stops is_ink) h
@@ -328,9 +301,6 @@ behind_stops text (t ∷ ts) (gap, spelling, rest, g, s, b, e) = ap (stops is_in
 some_behind : (spelling rest : Chars) → stops is_ink rest ≡ true → [] ≡ spelling ++ rest → ⊥
 some_behind [] rest h e = true≢false (sym h ∙ ap (stops is_ink) (sym e))
 some_behind (c ∷ spelling) rest h e = cc
-
-gap_separates : (gap : Chars) → is_gap gap ≡ true → list_all is_separator gap ≡ true
-gap_separates gap h = (and_parts _ _ h).1
 
 not_last : (gap spelling rest : Chars) → is_gap gap ≡ true → stops is_ink rest ≡ true → line_feed ∷ [] ≡ gap ++ (spelling ++ rest) → ⊥
 not_last [] spelling rest g h e = true≢false (sym g)
@@ -345,7 +315,7 @@ one_behind x y [] [] e h k = refl
 one_behind x y [] (u ∷ us) e h (gap, spelling, rest, g, s, b, q) = absurd (not_last gap spelling rest g (behind_stops rest us b) (sym h ∙ e ∙ q))
 one_behind x y (t ∷ ts) [] e (gap, spelling, rest, g, s, b, q) k = absurd (not_last gap spelling rest g (behind_stops rest ts b) (sym k ∙ sym e ∙ q))
 one_behind x y (t ∷ ts) (u ∷ us) e (gap, spelling, rest, g, s, b, q) (gap', spelling', rest', g', s', b', q') =
-    let gaps = cut_where is_separator gap gap' (spelling ++ rest) (spelling' ++ rest') (gap_separates gap g) (gap_separates gap' g') (token_opens spelling rest t s) (token_opens spelling' rest' u s') (sym q ∙ e ∙ q') in
+    let gaps = cut_where is_separator gap gap' (spelling ++ rest) (spelling' ++ rest') (and_parts _ _ g).1 (and_parts _ _ g').1 (token_opens spelling rest t s) (token_opens spelling' rest' u s') (sym q ∙ e ∙ q') in
     let front = token_front spelling spelling' rest rest' t u s s' (behind_stops rest ts b) (behind_stops rest' us b') gaps.1 in
     ap₂ ◌∷◌ front.0 (one_behind rest rest' ts us front.1 b b')
 

@@ -66,11 +66,8 @@ module _ (list : List (Triple ℕ)) (shapes : ℕ → Shape) (have : HaveShapes 
         enough_below : Enough list left b
         enough_below = child_enough list left a b p enough m i
 
-        blank_alike : (x y : ℕ) → Resource (Blank x) ≡ Resource (Blank y) → x ≡ y
-        blank_alike x y e = cc
-
         is_cell : c.after ≡ Resource (Blank b) → Cell (set_of list) b
-        is_cell e = elim c.next [ inl f ↦ absurd (cc (sym e ∙ f)) | inr d ↦ subst (Cell (set_of list)) (sym (blank_alike b d.0 (sym e ∙ d.1))) d.2 ]
+        is_cell e = elim c.next [ inl f ↦ absurd (cc (sym e ∙ f)) | inr d ↦ let same : d.0 ≡ b = cc (sym d.1 ∙ e) in subst (Cell (set_of list)) same d.2 ]
 
     child_written : (b a : ℕ) (p : Chars) → Among list (spo (Blank a) p (Resource (Blank b))) → Inner (set_of list) b → Inner (set_of list) a → Written a → Written b
     child_written b a p m i j w = go w.left w.enough w.all
@@ -88,10 +85,7 @@ module _ (list : List (Triple ℕ)) (shapes : ℕ → Shape) (have : HaveShapes 
     hanging_written : (b : ℕ) (q : Node ℕ) (has : Parent (set_of list) b q) → Ends (set_of list) q → Inner (set_of list) b → Written b
     hanging_written b (Iri iri) has at_iri i = top_written b (Iri iri) has.predicate has.held i (outer (Iri iri) has.predicate (Resource (Blank b)) has.held (λ a e. absurd (cc)))
     hanging_written b (Blank a) has (at_top none) i =
-        top_written b (Blank a) has.predicate has.held i (outer (Blank a) has.predicate (Resource (Blank b)) has.held (λ x e j. none j.parent (subst (λ z. Parent (set_of list) z j.parent) (sym (blanks_alike a x e)) j.has)))
-      where
-        blanks_alike : (x y : ℕ) → Blank x ≡ Blank y → x ≡ y
-        blanks_alike x y e = cc
+        top_written b (Blank a) has.predicate has.held i (outer (Blank a) has.predicate (Resource (Blank b)) has.held (λ x e j. let same : x ≡ a = cc (sym e) in none j.parent (subst (λ z. Parent (set_of list) z j.parent) same j.has)))
     hanging_written b (Blank a) has (onward {parent = r} p e) i =
         let j : Inner (set_of list) a = record { parent = r; has = p; ends = e } in
         child_written b a has.predicate has.held i j (hanging_written a r p e j)

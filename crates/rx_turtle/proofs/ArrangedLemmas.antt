@@ -1,7 +1,9 @@
 -- Triples in one list, in which those of a group stand side by side.
-use Rattle.rx_turtle.proofs.Common.{◌≡◌, ◌∙◌, ℕ, zero, suc, ◌+◌, ◌<◌, ◌≤◌, Bool, true, false, cond, nat_eq, List, [], ◌∷◌, ◌++◌, map, filter, flat_map, length, take, drop, drop_of_length-le, slice_get, Some, Bor, inl, inr, refl, sym, ap, ap₂, subst, true≢false, arith, append-nil, append_assoc, ◌==◌, not, ◌||◌, take-append-drop, if◌then◌else◌, list_all, and_from, and_parts, or_parts, nat_tests, take_all, length-map, map-append, take-map, drop-map, Among, contains, with_one, Node, Triple, same_node, Among_of_distinct, exact_nodes, exact_numbers, AreDistinct, one_more, same_back, Keyed, key_by, has_key, keys_by, keys_in, grouped, all_in, put_before, runs, starts, like_first, Said, said_by, said_in, by_predicate}
-use Rattle.rx_terms.proofs.Common.{filter-append, list_all-append, flat_map-append}
+use Rattle.rx_turtle.proofs.Common.{◌≡◌, ◌∙◌, ℕ, zero, suc, ◌+◌, ◌<◌, ◌≤◌, Bool, true, false, cond, nat_eq, List, [], ◌∷◌, ◌++◌, map, filter, flat_map, length, take, drop, drop_of_length-le, slice_get, Some, Bor, inl, inr, refl, sym, ap, ap₂, subst, true≢false, arith, append-nil, append_assoc, ◌==◌, not, ◌||◌, take-append-drop, if◌then◌else◌, list_all, and_from, and_parts, or_parts, nat_tests, take_all, length-map, map-append, take-map, drop-map, Among, contains, with_one, Node, Triple, same_node, exact_nodes, exact_numbers, AreDistinct, one_more, same_back, Keyed, key_by, has_key, keys_by, keys_in, grouped, all_in, put_before, runs, starts, like_first, Said, said_by, said_in, by_predicate}
+use Rattle.rx_model.proofs.Common.{filter-append, by_test, flat_map-append, Among_of_distinct, Among_filter, Among_of_map}
+use Rattle.std.proofs.lemmas.List.Folds.{list_all-append}
 use Rattle.rx_terms.specs.declared.triples.Triple.{Triple as CodeTriple}
+use Rattle.rx_shapes.proofs.RowLemmas.{get_among}
 use Rattle.rx_turtle.specs.declared.keys.By.{By}
 use Rattle.rx_turtle.specs.declared.keys.By.TheVariants as by
 use Rattle.rx_turtle.proofs.GroupLemmas.{lent_seen, lent_at, mapped_more, front_at, same_self, keys_more, rows_by}
@@ -20,11 +22,7 @@ module _ (kind : By) where
 
   pub first_key : (t : Triple ℕ) (groups : List Keyed) → (ts : List (Triple ℕ)) × (more : List Keyed) × (put_before kind t groups ≡ (key_by kind t, ts) ∷ more)
   first_key t [] = (t ∷ [], [], refl)
-  first_key t (group ∷ groups) = go (has_key kind group.0 t)
-    where
-      go : (b : Bool) → (ts : List (Triple ℕ)) × (more : List Keyed) × ((if b then (key_by kind t, t ∷ group.1) ∷ groups else (key_by kind t, t ∷ []) ∷ group ∷ groups) ≡ (key_by kind t, ts) ∷ more)
-      go true = (t ∷ group.1, groups, refl)
-      go false = (t ∷ [], group ∷ groups, refl)
+  first_key t (group ∷ groups) = by_test (has_key kind group.0 t) (λ e. (t ∷ group.1, groups, rw e refl)) (λ e. (t ∷ [], group ∷ groups, rw e refl))
 
   before_other : (key : Node ℕ) (x : Triple ℕ) (rest : List (Triple ℕ)) → has_key kind key x ≡ true → starts kind key rest ≡ false → put_before kind x (runs kind rest) ≡ (key, x ∷ []) ∷ runs kind rest
   before_other key x [] has none = ap (λ (k : Node ℕ). (k, x ∷ []) ∷ []) (is_key key x has)
@@ -45,58 +43,40 @@ module _ (kind : By) where
 
   next_starts : (key : Node ℕ) (groups : List Keyed) → Apart kind groups → contains (same_node nat_eq) (keys_in groups) key ≡ false → starts kind key (all_in groups) ≡ false
   next_starts key [] h none = refl
-  next_starts key (group ∷ groups) h none = go group.1 h.0 h.1
-    where
-      go : (ts : List (Triple ℕ)) → list_all (has_key kind group.0) ts ≡ true → 0 < length ts → starts kind key (ts ++ all_in groups) ≡ false
-      go [] all some = absurd (omega (arith, some))
-      go (t ∷ ts) all some =
-          let same : key_by kind t ≡ group.0 = is_key group.0 t (and_parts (has_key kind group.0 t) (list_all (has_key kind group.0) ts) all).0 in
-          ap (λ (k : Node ℕ). same_node nat_eq k key) same ∙ (or_parts (same_node nat_eq group.0 key) (contains (same_node nat_eq) (keys_in groups) key) none).0
+  next_starts key ((name, []) ∷ groups) h none = absurd (omega (arith, h.1))
+  next_starts key ((name, t ∷ ts) ∷ groups) h none =
+      let same : key_by kind t ≡ name = is_key name t (and_parts (has_key kind name t) (list_all (has_key kind name) ts) h.0).0 in
+      ap (λ (k : Node ℕ). same_node nat_eq k key) same ∙ (or_parts (same_node nat_eq name key) (contains (same_node nat_eq) (keys_in groups) key) none).0
 
   -- groups one behind another, cut again
   pub runs_of : (groups : List Keyed) → Apart kind groups → runs kind (all_in groups) ≡ groups
   runs_of [] h = refl
-  runs_of (group ∷ groups) h = go group.1 h.0 h.1 (runs_of groups h.3)
-    where
-      go : (ts : List (Triple ℕ)) → list_all (has_key kind group.0) ts ≡ true → 0 < length ts → runs kind (all_in groups) ≡ groups → runs kind (ts ++ all_in groups) ≡ (group.0, ts) ∷ groups
-      go [] all some ih = absurd (omega (arith, some))
-      go (t ∷ ts) all some ih = one_run group.0 t ts (all_in groups) all (next_starts group.0 groups h.3 h.2) ∙ ap (λ (z : List Keyed). (group.0, t ∷ ts) ∷ z) ih
+  runs_of ((name, []) ∷ groups) h = absurd (omega (arith, h.1))
+  runs_of ((name, t ∷ ts) ∷ groups) h = one_run name t ts (all_in groups) h.0 (next_starts name groups h.3 h.2) ∙ ap (λ (z : List Keyed). (name, t ∷ ts) ∷ z) (runs_of groups h.3)
 
 -- ---- the groups of a list are apart
 
-all_kept : (p : Triple ℕ → Bool) (list : List (Triple ℕ)) → list_all p (filter p list) ≡ true
-all_kept p [] = refl
-all_kept p (t ∷ list) = go (p t) refl (all_kept p list)
-  where
-    go : (b : Bool) → p t ≡ b → list_all p (filter p list) ≡ true → list_all p (cond b (t ∷ filter p list) (filter p list)) ≡ true
-    go true e ih = and_from (p t) (list_all p (filter p list)) e ih
-    go false e ih = ih
+all_filter : (q p : Triple ℕ → Bool) (list : List (Triple ℕ)) → ((t : Triple ℕ) → Among list t → p t ≡ true → q t ≡ true) → list_all q (filter p list) ≡ true
+all_filter q p [] h = refl
+all_filter q p (t ∷ list) h =
+    let rest = all_filter q p list (λ u m. h u (inr m)) in by_test (p t) (λ e. rw e (and_from (q t) (list_all q (filter p list)) (h t (inl refl) e) rest)) (λ e. rw e rest)
 
-all_still : (q p : Triple ℕ → Bool) (list : List (Triple ℕ)) → list_all q list ≡ true → list_all q (filter p list) ≡ true
-all_still q p [] h = refl
-all_still q p (t ∷ list) h =
-    let parts = and_parts (q t) (list_all q list) h in
-    go (p t) parts.0 (all_still q p list parts.1)
-  where
-    go : (b : Bool) → q t ≡ true → list_all q (filter p list) ≡ true → list_all q (cond b (t ∷ filter p list) (filter p list)) ≡ true
-    go true e ih = and_from (q t) (list_all q (filter p list)) e ih
-    go false e ih = ih
+all_there : (q : Triple ℕ → Bool) (list : List (Triple ℕ)) → list_all q list ≡ true → (t : Triple ℕ) → Among list t → q t ≡ true
+all_there q [] h t m = absurd m
+all_there q (u ∷ list) h t (inl e) = ap q (sym e) ∙ (and_parts (q u) (list_all q list) h).0
+all_there q (u ∷ list) h t (inr m) = all_there q list (and_parts (q u) (list_all q list) h).1 t m
 
 module _ (kind : By) where
   some_kept : (list : List (Triple ℕ)) (k : Node ℕ) → Among (map (key_by kind) list) k → 0 < length (filter (has_key kind k) list)
-  some_kept [] k m = absurd m
-  some_kept (t ∷ list) k m = go (has_key kind k t) refl m (some_kept list k)
-    where
-      go : (b : Bool) → has_key kind k t ≡ b → Among (key_by kind t ∷ map (key_by kind) list) k → (Among (map (key_by kind) list) k → 0 < length (filter (has_key kind k) list))
-          → 0 < length (cond b (t ∷ filter (has_key kind k) list) (filter (has_key kind k) list))
-      go true e m ih = omega arith
-      go false e (inl same) ih = absurd (true≢false (sym ((exact_nodes nat_eq exact_numbers (key_by kind t) k).1 same) ∙ e))
-      go false e (inr m) ih = ih m
+  some_kept list k m =
+      let t = Among_of_map (key_by kind) list k m in
+      let at = get_among (filter (has_key kind k) list) t.0 (Among_filter (has_key kind k) list t.0 t.1 ((exact_nodes nat_eq exact_numbers (key_by kind t.0) k).1 t.2)) in
+      omega (arith, at.1)
 
   rows_apart : (list : List (Triple ℕ)) (keys : List (Node ℕ)) → AreDistinct keys → ((k : Node ℕ) → Among keys k → Among (map (key_by kind) list) k) → Apart kind (rows_by kind list keys)
   rows_apart list [] d m = tt
   rows_apart list (k ∷ keys) d m = (
-    all_kept (has_key kind k) list,
+    all_filter (has_key kind k) (has_key kind k) list (λ t n h. h),
     some_kept list k (m k (inl refl)),
     ap (λ z. contains (same_node nat_eq) z k) (keys_of_pairs (λ key. filter (has_key kind key) list) kind keys) ∙ d.0,
     rows_apart list keys d.1 (λ j n. m j (inr n)),
@@ -110,7 +90,7 @@ module _ (kind : By) where
   all_rows q list [] h = refl
   all_rows q list (k ∷ keys) h =
       list_all-append q (filter (has_key kind k) list) (all_in (rows_by kind list keys))
-      ∙ and_from (list_all q (filter (has_key kind k) list)) (list_all q (all_in (rows_by kind list keys))) (all_still q (has_key kind k) list h) (all_rows q list keys h)
+      ∙ and_from (list_all q (filter (has_key kind k) list)) (list_all q (all_in (rows_by kind list keys))) (all_filter q (has_key kind k) list (λ t m e. all_there q list h t m)) (all_rows q list keys h)
 
   some_rows : (list : List (Triple ℕ)) → 0 < length list → 0 < length (all_in (grouped kind list))
   some_rows [] some = absurd (omega (arith, some))
@@ -171,8 +151,9 @@ module _ {A B : Type 0} (f : A → List B) where
       grows ∙ ap (λ z. z ++ f a) before ∙ append_assoc start (flat_map f (take i list)) (f a)
       ∙ ap (λ z. start ++ z) (sym (ap (flat_map f) (one_more list i a at) ∙ flat_map-append f (take i list) (a ∷ []) ∙ ap (λ z. flat_map f (take i list) ++ z) (append-nil (f a))))
 
-  pub rows_end : (list : List A) (i : ℕ) (start now : List B) → length list ≤ i → now ≡ start ++ flat_map f (take i list) → now ≡ start ++ flat_map f list
-  rows_end list i start now past h = h ∙ ap (λ z. start ++ flat_map f z) (take_all i list past)
+-- where all have been looked at, what was said of the first is said of all
+pub whole_end : {A B : Type 0} (f : List A → List B) (list : List A) (i : ℕ) (start now : List B) → length list ≤ i → now ≡ start ++ f (take i list) → now ≡ start ++ f list
+whole_end f list i start now past h = h ∙ ap (λ z. start ++ f z) (take_all i list past)
 
 -- those that are like one of them, for one after another
 module _ (kind : By) where
@@ -206,9 +187,6 @@ module _ (kind : By) where
           ap (λ z. (start ++ all_in (rows_by kind list keys)) ++ z) (front ∙ row) ∙ append_assoc start (all_in (rows_by kind list keys)) (filter (has_key kind key) list)
           ∙ ap (λ z. start ++ z) (sym both) ∙ ap (λ z. start ++ all_in (rows_by kind list z)) (sym added)
 
-  pub like_end : (list : List (Triple ℕ)) (i : ℕ) (start now : List (Triple ℕ)) → length list ≤ i → now ≡ start ++ all_in (rows_by kind list (keys_by kind (take i list))) → now ≡ start ++ all_in (grouped kind list)
-  like_end list i start now past h = h ∙ ap (λ z. start ++ all_in (rows_by kind list (keys_by kind z))) (take_all i list past)
-
   -- ---- the first that have one key
 
   -- the keys of the first triples, and whether the next one has it too
@@ -225,10 +203,7 @@ module _ (kind : By) where
   next_has_not list i t key at has = ap (starts kind key) (front_at list i t at) ∙ has
 
   pub none_next : (list : List (Triple ℕ)) (n : ℕ) (key : Node ℕ) → length list ≤ n → starts kind key (drop n list) ≡ false
-  none_next [] zero key past = refl
-  none_next [] (suc n) key past = refl
-  none_next (t ∷ list) zero key past = absurd (omega (arith, past))
-  none_next (t ∷ list) (suc n) key past = let less : length list ≤ n = omega (arith, past) in none_next list n key less
+  none_next list n key past = ap (starts kind key) (drop_of_length-le list past)
 
   pub cut_is : (list front rest : List (Triple ℕ)) (n : ℕ) (key : Node ℕ) → 0 < n → 0 < length list → front ≡ take n list → rest ≡ drop n list → list_all (has_key kind key) front ≡ true → starts kind key rest ≡ false
       → runs kind list ≡ (key, front) ∷ runs kind rest
@@ -260,8 +235,6 @@ module _ (kind : By) where
   pub occurs_not : (list : List (Triple ℕ)) (i : ℕ) (key : Node ℕ) (whole : Bool) → length list ≤ i → whole ≡ contains (same_node nat_eq) (map (key_by kind) (drop i list)) key → false ≡ whole
   occurs_not list i key whole past h = sym (h ∙ ap (λ z. contains (same_node nat_eq) (map (key_by kind) z) key) (drop_of_length-le list past))
 
-  -- ---- those that are like the first one
-
   -- ---- those that have a key
 
   pub kept_turn : (key : Node ℕ) (list : List (Triple ℕ)) (i : ℕ) (t : Triple ℕ) (start old new : List (Triple ℕ)) → slice_get list i ≡ Some t → new ≡ old ++ (if has_key kind key t then t ∷ [] else [])
@@ -269,9 +242,6 @@ module _ (kind : By) where
   kept_turn key list i t start old new at grows before =
       grows ∙ ap (λ z. z ++ filter (has_key kind key) (t ∷ [])) before ∙ append_assoc start (filter (has_key kind key) (take i list)) (filter (has_key kind key) (t ∷ []))
       ∙ ap (λ z. start ++ z) (sym (ap (filter (has_key kind key)) (one_more list i t at) ∙ filter-append (has_key kind key) (take i list) (t ∷ [])))
-
-  pub kept_end : (key : Node ℕ) (list : List (Triple ℕ)) (i : ℕ) (start now : List (Triple ℕ)) → length list ≤ i → now ≡ start ++ filter (has_key kind key) (take i list) → now ≡ start ++ filter (has_key kind key) list
-  kept_end key list i start now past h = h ∙ ap (λ z. start ++ filter (has_key kind key) z) (take_all i list past)
 
 -- ---- lists of the code
 
@@ -288,9 +258,6 @@ pub all_turn : (list : List (Bor CodeTriple)) (i : ℕ) (t : Bor CodeTriple) (st
 all_turn list i t start old new at grows before =
     ap (map lent_seen) grows ∙ map-append lent_seen old (t ∷ []) ∙ ap (λ z. z ++ lent_seen t ∷ []) before ∙ append_assoc start (map lent_seen (take i list)) (lent_seen t ∷ [])
     ∙ ap (λ z. start ++ z) (sym (mapped_more lent_seen list i t at))
-
-pub all_end : (list : List (Bor CodeTriple)) (i : ℕ) (start now : List (Triple ℕ)) → length list ≤ i → now ≡ start ++ map lent_seen (take i list) → now ≡ start ++ map lent_seen list
-all_end list i start now past h = h ∙ ap (λ z. start ++ map lent_seen z) (take_all i list past)
 
 module _ (kind : By) (list : List (Bor CodeTriple)) (key : Node ℕ) where
   -- a front of triples that have the key

@@ -1,5 +1,7 @@
 -- What is written of triples that are cut where their key changes.
-use Rattle.rx_turtle.proofs.Common.{◌≡◌, ◌∙◌, ℕ, zero, suc, ◌+◌, ◌<◌, ◌≤◌, Bool, true, false, List, [], ◌∷◌, ◌++◌, map, flat_map, length, length-append, take, drop, drop_of_length-le, Bor, refl, sym, ap, ap₂, arith, append_assoc, append-nil, codes, ◌==◌, take-append-drop, if◌then◌else◌, chars, nat_tests, drop-map, Chars, ascii-chars, Node, Triple, Prefixes, separated, Delivery, Adds, adds_then, adds_nothing, adds_by, adds_failed, Keyed, key_by, has_key, all_in, put_before, runs, said_in}
+use Rattle.rx_turtle.proofs.Common.{chars, nat_tests, drop-map, Chars, ascii-chars, Node, Triple, Prefixes, separated, Delivery, Adds, adds_then, adds_nothing, adds_by, adds_failed, Keyed, key_by, has_key, all_in, put_before, runs, said_in}
+use Rattle.std.proofs.Common.{◌≡◌, ◌∙◌, ℕ, zero, suc, ◌+◌, ◌<◌, ◌≤◌, Bool, true, false, List, [], ◌∷◌, ◌++◌, map, flat_map, length, length-append, take, drop, drop_of_length-le, Bor, refl, sym, ap, ap₂, arith, append_assoc, append-nil, codes, drop_at, ◌==◌, take-append-drop, if◌then◌else◌}
+use Rattle.rx_terms.proofs.Bools.{by_test}
 use Rattle.rx_terms.specs.declared.triples.Triple.{Triple as CodeTriple}
 use Rattle.rx_turtle.specs.declared.keys.By.{By}
 use Rattle.rx_turtle.specs.declared.keys.By.TheVariants as by
@@ -36,27 +38,19 @@ remains_failed {rest = rest} h failed = adds_by (sym h.both) (adds_failed rest f
 
 front_put : (kind : By) (t : Triple ℕ) (groups : List Keyed) → all_in (put_before kind t groups) ≡ t ∷ all_in groups
 front_put kind t [] = refl
-front_put kind t (group ∷ groups) = go (has_key kind group.0 t)
-  where
-    go : (b : Bool) → all_in (if b then (key_by kind t, t ∷ group.1) ∷ groups else (key_by kind t, t ∷ []) ∷ group ∷ groups) ≡ t ∷ all_in (group ∷ groups)
-    go true = refl
-    go false = refl
+front_put kind t (group ∷ groups) = by_test (has_key kind group.0 t) (λ e. rw e refl) (λ e. rw e refl)
 
 -- the parts are the list
 runs_all : (kind : By) (list : List (Triple ℕ)) → all_in (runs kind list) ≡ list
 runs_all kind [] = refl
 runs_all kind (t ∷ list) = front_put kind t (runs kind list) ∙ ap (λ z. t ∷ z) (runs_all kind list)
 
-behind_front : {A : Type 0} (front rest : List A) → drop (length front) (front ++ rest) ≡ rest
-behind_front [] rest = refl
-behind_front (x ∷ front) rest = behind_front front rest
-
 drop_back : {A : Type 0} (list front rest : List A) (n : ℕ) → list ≡ front ++ rest → n + length rest ≡ length list → drop n list ≡ rest
 drop_back list front rest n e sizes =
     let whole : length list ≡ length (front ++ rest) = ap length e in
     let both : length (front ++ rest) ≡ length front + length rest = length-append front rest in
     let same : n ≡ length front = omega (arith, sizes, whole, both) in
-    ap (λ m. drop m list) same ∙ ap (drop (length front)) e ∙ behind_front front rest
+    ap (λ m. drop m list) same ∙ ap (drop (length front)) e ∙ drop_at front rest (length front) refl
 
 -- the list from the next part on
 next_part : (kind : By) (list front rest : List (Triple ℕ)) (at n : ℕ) (key : Node ℕ) → runs kind (drop at list) ≡ (key, front) ∷ runs kind rest → n + length rest ≡ length list → drop n list ≡ rest

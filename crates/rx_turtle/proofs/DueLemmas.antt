@@ -1,5 +1,6 @@
 -- Stacks of tasks, and what is pushed on them.
 use Rattle.rx_turtle.proofs.Common.{◌≡◌, ◌∙◌, ◌↔◌, ℕ, zero, suc, ◌+◌, ◌-◌, ◌<◌, ◌≤◌, ◌==◌, Bool, true, false, true≢false, List, [], ◌∷◌, ◌++◌, map, length, Bor, slice_get, Option, Some, None, option_to_list, IsSome, MatchOption, refl, sym, ap, ap₂, arith, append_assoc, if◌then◌else◌, nat_tests, Node, Term, Triple, Keyed, key_by, has_key, put_before, runs, Fixed, IriOrLabel, Verb, Due, Say, Object, task_seen, due_on, behind, object_due, line_due, lines_due, verb_due, behind_due, tail_due, next_due, first_due, tail_at, bracket_due, item_due, rest_due, statement_due}
+use Rattle.rx_terms.proofs.Bools.{by_test}
 use Rattle.rx_terms.specs.declared.triples.Triple.{Triple as CodeTriple}
 use Rattle.rx_turtle.specs.declared.stack.Task.{Task}
 use Rattle.rx_turtle.specs.declared.tokens.Words.{Words}
@@ -32,11 +33,10 @@ popped None old new n e some h = absurd (true≢false (sym (some.1 h)))
 
 module _ (gap : Words) where
   none_behind : (list : List (Triple ℕ)) (i : ℕ) → length list ≤ suc i → tail_at gap i list ≡ []
-  none_behind [] i past = refl
-  none_behind (s ∷ []) zero past = refl
-  none_behind (s ∷ []) (suc i) past = refl
   none_behind (s ∷ t ∷ more) zero past = absurd (omega (arith, past))
   none_behind (s ∷ t ∷ more) (suc i) past = let less : length (t ∷ more) ≤ suc i = omega (arith, past) in none_behind (t ∷ more) i less
+  none_behind (s ∷ []) zero past = refl
+  none_behind _ _ past = refl
 
   pub tail_start : (list : List (Bor CodeTriple)) (i : ℕ) (start : List Due) → i ≡ length list - 1 → start ≡ tail_at gap i (map lent_seen list) ++ start
   tail_start list i start last =
@@ -44,10 +44,9 @@ module _ (gap : Words) where
       ap (λ z. z ++ start) (sym (none_behind (map lent_seen list) i (omega (arith, size, last))))
 
   one_behind : (list : List (Triple ℕ)) (i : ℕ) → tail_at gap i list ≡ next_due gap i list ++ tail_at gap (suc i) list
-  one_behind [] i = refl
-  one_behind (s ∷ []) zero = refl
   one_behind (s ∷ t ∷ more) zero = refl
   one_behind (s ∷ more) (suc i) = one_behind more i
+  one_behind _ _ = refl
 
   pub tail_turn : (list : List (Triple ℕ)) (n i : ℕ) (old new start : List Due) → n ≡ suc i → new ≡ next_due gap i list ++ old → old ≡ tail_at gap n list ++ start → new ≡ tail_at gap i list ++ start
   tail_turn list n i old new start up turn before =
@@ -58,35 +57,25 @@ module _ (gap : Words) where
   next_is list i s t at next = let up : suc i ≡ i + 1 = omega arith in go list i at (ap (slice_get list) up ∙ next)
     where
       go : (list : List (Triple ℕ)) (i : ℕ) → slice_get list i ≡ Some s → slice_get list (suc i) ≡ Some t → behind_due gap s t ≡ next_due gap i list
-      go [] i at next = absurd (cc)
-      go (x ∷ []) zero at next = absurd (cc)
       go (x ∷ y ∷ more) zero at next = let first : x ≡ s = cc in let second : y ≡ t = cc in ap₂ (λ a b. behind_due gap a b) (sym first) (sym second)
       go (x ∷ more) (suc i) at next = go more i at next
+      go _ i at next = absurd (cc)
 
   -- the objects of the first predicate behind its first one, and the other predicates
   tail_is : (t : Triple ℕ) (more : List (Triple ℕ)) → (objects : List (Triple ℕ)) × (groups : List Keyed) × (runs by.Predicate (t ∷ more) ≡ (key_by by.Predicate t, t ∷ objects) ∷ groups)
       × (tail_due gap t more ≡ behind object_due fixed.Comma objects ++ behind line_due gap groups)
   tail_is t [] = ([], [], refl, refl)
-  tail_is t (u ∷ more) = go (has_key by.Predicate (key_by by.Predicate u) t) refl (tail_is u more)
-    where
-      go : (b : Bool) → has_key by.Predicate (key_by by.Predicate u) t ≡ b
-          → (objects : List (Triple ℕ)) × (groups : List Keyed) × (runs by.Predicate (u ∷ more) ≡ (key_by by.Predicate u, u ∷ objects) ∷ groups) × (tail_due gap u more ≡ behind object_due fixed.Comma objects ++ behind line_due gap groups)
-          → (objects : List (Triple ℕ)) × (groups : List Keyed) × (runs by.Predicate (t ∷ u ∷ more) ≡ (key_by by.Predicate t, t ∷ objects) ∷ groups)
-          × (tail_due gap t (u ∷ more) ≡ behind object_due fixed.Comma objects ++ behind line_due gap groups)
-      go true e ih = (
-        u ∷ ih.0,
-        ih.1,
-        ap (put_before by.Predicate t) ih.2 ∙ ap (λ b. if b then (key_by by.Predicate t, t ∷ u ∷ ih.0) ∷ ih.1 else (key_by by.Predicate t, t ∷ []) ∷ (key_by by.Predicate u, u ∷ ih.0) ∷ ih.1) e,
-        ap (λ b. (if b then Say (Fixed fixed.Comma) ∷ Object u.object ∷ [] else Say (Fixed gap) ∷ (verb_due u ++ Object u.object ∷ [])) ++ tail_due gap u more) e
-            ∙ ap (λ z. Say (Fixed fixed.Comma) ∷ Object u.object ∷ z) ih.3,
-      )
-      go false e ih = (
+  tail_is t (u ∷ more) =
+      let rest = tail_is u more in
+      let turn : runs by.Predicate (t ∷ u ∷ more) ≡ put_before by.Predicate t ((key_by by.Predicate u, u ∷ rest.0) ∷ rest.1) = ap (put_before by.Predicate t) rest.2 in
+      by_test (has_key by.Predicate (key_by by.Predicate u) t)
+      (λ e. (u ∷ rest.0, rest.1, turn ∙ rw e refl, rw e (ap (λ z. Say (Fixed fixed.Comma) ∷ Object u.object ∷ z) rest.3)))
+      (λ e. (
         [],
-        (key_by by.Predicate u, u ∷ ih.0) ∷ ih.1,
-        ap (put_before by.Predicate t) ih.2 ∙ ap (λ b. if b then (key_by by.Predicate t, t ∷ u ∷ ih.0) ∷ ih.1 else (key_by by.Predicate t, t ∷ []) ∷ (key_by by.Predicate u, u ∷ ih.0) ∷ ih.1) e,
-        ap (λ b. (if b then Say (Fixed fixed.Comma) ∷ Object u.object ∷ [] else Say (Fixed gap) ∷ (verb_due u ++ Object u.object ∷ [])) ++ tail_due gap u more) e
-            ∙ ap (λ z. Say (Fixed gap) ∷ Say (Verb (key_by by.Predicate u)) ∷ Say (Fixed fixed.Space) ∷ Object u.object ∷ z) ih.3,
-      )
+        (key_by by.Predicate u, u ∷ rest.0) ∷ rest.1,
+        turn ∙ rw e refl,
+        rw e (ap (λ z. Say (Fixed gap) ∷ Say (Verb (key_by by.Predicate u)) ∷ Say (Fixed fixed.Space) ∷ Object u.object ∷ z) rest.3),
+      ))
 
   pub lines_are : (list : List (Triple ℕ)) → first_due list ++ tail_at gap 0 list ≡ lines_due gap (runs by.Predicate list)
   lines_are [] = refl

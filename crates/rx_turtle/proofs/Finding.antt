@@ -1,6 +1,7 @@
 -- The place that is found by the end of an IRI is that of the prefix of its short form.
-use Rattle.rx_turtle.proofs.Common.{◌≡◌, ◌∙◌, ℕ, zero, suc, ◌+◌, ◌-◌, ◌<◌, ◌≤◌, Bool, true, false, cond, nat_lt, nat_eq, List, [], ◌∷◌, ◌++◌, filter, length, take, drop, drop_of_length-le, get_or, slice_get, Option, Some, None, inl, inr, refl, sym, ap, ap₂, subst, true≢false, arith, ◌&&◌, ◌==◌, find, if◌then◌else◌, option_or, list_all, and_parts, and_from, and_right, nat_tests, slice_get-get_or, encodes-append, encodes_same, is_ascii, Chars, begins_with, ascii-same, same_truth, Among, Among_of_filter, false_unless, exact_texts, Prefix, Prefixes, is_before, is_name_char, is_prefix_name, is_local_name, local_name, shortens, preferred, best, prefix_of, names_rise, best_among, front_and_rest, before_all, not_after, passes, begins_local, stands_for, place_from, place_at, place_below, place_of, IsPlace}
-use Rattle.std.proofs.lemmas.List.{take-append-drop, length-take-le, take_at, drop_at, length-append}
+use Rattle.rx_turtle.proofs.Common.{◌≡◌, ◌∙◌, ℕ, zero, suc, ◌+◌, ◌-◌, ◌<◌, ◌≤◌, Bool, true, false, cond, nat_lt, nat_eq, List, [], ◌∷◌, ◌++◌, filter, length, take, drop, drop_of_length-le, get_or, slice_get, Option, Some, None, inl, inr, refl, sym, ap, ap₂, subst, true≢false, arith, ◌&&◌, ◌==◌, find, if◌then◌else◌, option_or, list_all, and_parts, and_from, and_right, nat_tests, slice_get-get_or, encodes-append, encodes_same, is_ascii, Chars, begins_with, ascii-same, Among, Among_of_filter, false_unless, exact_texts, Prefix, Prefixes, is_before, is_name_char, is_prefix_name, is_local_name, local_name, shortens, preferred, best, prefix_of, names_rise, best_among, front_and_rest, before_all, not_after, passes, begins_local, stands_for, place_from, place_at, place_below, place_of, IsPlace}
+use Rattle.std.proofs.lemmas.List.{take-append-drop, get_or-drop, length-take-le, take_at, drop_at, length-append}
+use Rattle.rx_terms.proofs.Bools.{same_truth, by_test}
 use Rattle.std.specs.Str.{encode_utf8_all}
 use Rattle.rx_notation.proofs.OneText.{local_chars}
 use Rattle.rx_turtle.proofs.GroupLemmas.{front_at}
@@ -10,11 +11,7 @@ use Rattle.rx_turtle.proofs.GroupLemmas.{front_at}
 module _ {A : Type 0} where
   found_holds : (test : A → Bool) (list : List A) (a : A) → find test list ≡ Some a → test a ≡ true
   found_holds test [] a h = absurd (cc)
-  found_holds test (x ∷ list) a h = go (test x) refl h (found_holds test list a)
-    where
-      go : (b : Bool) → test x ≡ b → cond b (Some x) (find test list) ≡ Some a → (find test list ≡ Some a → test a ≡ true) → test a ≡ true
-      go true e k ih = let same : x ≡ a = cc in ap test (sym same) ∙ e
-      go false e k ih = ih k
+  found_holds test (x ∷ list) a h = by_test (test x) (λ e. let same : x ≡ a = cc (rw e at h) in ap test (sym same) ∙ e) (λ e. found_holds test list a (rw e at h))
 
   find_same : (f g : A → Bool) (list : List A) → ((a : A) → f a ≡ g a) → find f list ≡ find g list
   find_same f g [] h = refl
@@ -72,23 +69,20 @@ module _ (fits : Prefix → Bool) (size : Prefix → ℕ) where
   -- the best of those up to a size: the first of that size, or the best of those below it
   one_up : SizesTell → (n : ℕ) (ps : Prefixes) → names_rise ps ≡ true → best (filter (below (suc n)) ps) ≡ option_or (find (at_size n) ps) (best (filter (below n) ps))
   one_up longer n [] rise = refl
-  one_up longer n (p ∷ more) rise = go (fits p) refl (nat_lt (size p) n) refl (nat_eq (size p) n) refl (one_up longer n more (and_parts _ _ rise).1)
-    where
-      go : (b : Bool) → fits p ≡ b → (c : Bool) → nat_lt (size p) n ≡ c → (d : Bool) → nat_eq (size p) n ≡ d
-          → best (filter (below (suc n)) more) ≡ option_or (find (at_size n) more) (best (filter (below n) more))
-          → best (filter (below (suc n)) (p ∷ more)) ≡ option_or (find (at_size n) (p ∷ more)) (best (filter (below n) (p ∷ more)))
-      go false e c f d g ih = rw e ih
-      go true e true f d g ih =
-          let up : nat_lt (size p) (suc n) ≡ true = grind (arith, nat_tests, f) in
-          let apart : nat_eq (size p) n ≡ false = grind (arith, nat_tests, f) in
-          rw (e, up, apart, f) (ap (λ o. Some (preferred p o)) ih ∙ gives_way longer n p more e f (find (at_size n) more) (best (filter (below n) more)) refl)
-      go true e false f true g ih =
-          let up : nat_lt (size p) (suc n) ≡ true = grind (arith, nat_tests, g) in
-          let same : size p ≡ n = grind (arith, nat_tests, g) in
-          rw (e, up, g) (ap Some (stays_first longer n p more e same (and_parts _ _ rise).0 (best (filter (below (suc n)) more)) refl))
-      go true e false f false g ih =
-          let past : nat_lt (size p) (suc n) ≡ false = grind (arith, nat_tests, f, g) in
-          rw (e, past, g, f) ih
+  one_up longer n (p ∷ more) rise =
+      let rest = one_up longer n more (and_parts _ _ rise).1 in
+      by_test (fits p) (λ e. by_test (nat_lt (size p) n)
+      (λ f.
+      let up : nat_lt (size p) (suc n) ≡ true = grind (arith, nat_tests, f) in
+      let apart : nat_eq (size p) n ≡ false = grind (arith, nat_tests, f) in
+      rw (e, up, apart, f) (ap (λ o. Some (preferred p o)) rest ∙ gives_way longer n p more e f (find (at_size n) more) (best (filter (below n) more)) refl))
+      (λ f. by_test (nat_eq (size p) n)
+      (λ g.
+      let up : nat_lt (size p) (suc n) ≡ true = grind (arith, nat_tests, g) in
+      let same : size p ≡ n = grind (arith, nat_tests, g) in
+      rw (e, up, g) (ap Some (stays_first longer n p more e same (and_parts _ _ rise).0 (best (filter (below (suc n)) more)) refl)))
+      (λ g. let past : nat_lt (size p) (suc n) ≡ false = grind (arith, nat_tests, f, g) in rw (e, past, g, f) rest)))
+      (λ e. rw e rest)
 
 -- ---- names
 
@@ -114,11 +108,6 @@ all_get test (x ∷ list) (suc i) h less = all_get test list i (and_parts _ _ h)
 
 drop_here : (list : List ℕ) (n : ℕ) → n < length list → drop n list ≡ get_or list n 0 ∷ drop (suc n) list
 drop_here list n h = front_at list n (get_or list n 0) (slice_get-get_or list n 0 h)
-
-get_drop : (list : List ℕ) (k i : ℕ) → get_or (drop k list) i 0 ≡ get_or list (k + i) 0
-get_drop list zero i = let same : i ≡ 0 + i = omega arith in ap (λ n. get_or list n 0) same
-get_drop [] (suc k) i = refl
-get_drop (x ∷ list) (suc k) i = let next : suc (k + i) ≡ suc k + i = omega arith in get_drop list k i ∙ ap (λ n. get_or (x ∷ list) n 0) next
 
 -- ---- the bytes of an IRI
 
@@ -177,23 +166,19 @@ ends_tell iri p q f g = go (cut_of iri p f) (cut_of iri q g)
 
 -- ---- the first that stands for some bytes
 
-none_found : (context : Prefixes) (bytes : List ℕ) (j : ℕ) → place_from j context bytes ≡ None → find (stands_for bytes) context ≡ None
-none_found [] bytes j h = refl
-none_found (p ∷ more) bytes j h = go (stands_for bytes p) refl h (none_found more bytes (suc j))
-  where
-    go : (b : Bool) → stands_for bytes p ≡ b → cond b (Some j) (place_from (suc j) more bytes) ≡ None → (place_from (suc j) more bytes ≡ None → find (stands_for bytes) more ≡ None) → find (stands_for bytes) (p ∷ more) ≡ None
-    go true e k ih = cc
-    go false e k ih = rw e (ih k)
+-- what is found from a place on
+abbrev Found : ℕ → Prefixes → List ℕ → Option ℕ → Type 0
+Found j context bytes None = find (stands_for bytes) context ≡ None
+Found j context bytes (Some i) = (k : ℕ) × (i ≡ j + k) × ((p : Prefix) × (slice_get context k ≡ Some p) × (find (stands_for bytes) context ≡ Some p))
 
-one_found : (context : Prefixes) (bytes : List ℕ) (j i : ℕ) → place_from j context bytes ≡ Some i → (k : ℕ) × (i ≡ j + k) × ((p : Prefix) × (slice_get context k ≡ Some p) × (find (stands_for bytes) context ≡ Some p))
-one_found [] bytes j i h = absurd (cc)
-one_found (p ∷ more) bytes j i h = go (stands_for bytes p) refl h (one_found more bytes (suc j) i)
+found_from : (context : Prefixes) (bytes : List ℕ) (j : ℕ) → Found j context bytes (place_from j context bytes)
+found_from [] bytes j = refl
+found_from (p ∷ more) bytes j = go (stands_for bytes p) refl (place_from (suc j) more bytes) (found_from more bytes (suc j))
   where
-    go : (b : Bool) → stands_for bytes p ≡ b → cond b (Some j) (place_from (suc j) more bytes) ≡ Some i
-        → (place_from (suc j) more bytes ≡ Some i → (k : ℕ) × (i ≡ suc j + k) × ((q : Prefix) × (slice_get more k ≡ Some q) × (find (stands_for bytes) more ≡ Some q)))
-        → (k : ℕ) × (i ≡ j + k) × ((q : Prefix) × (slice_get (p ∷ more) k ≡ Some q) × (find (stands_for bytes) (p ∷ more) ≡ Some q))
-    go true e k ih = let same : j ≡ i = cc in (0, omega (arith, same), (p, refl, rw e refl))
-    go false e k ih = let r = ih k in (suc r.0, omega (arith, r.1), (r.2.0, r.2.1, rw e r.2.2))
+    go : (b : Bool) → stands_for bytes p ≡ b → (o : Option ℕ) → Found (suc j) more bytes o → Found j (p ∷ more) bytes (cond b (Some j) o)
+    go true e o ih = (0, omega arith, (p, refl, rw e refl))
+    go false e None ih = rw e ih
+    go false e (Some i) ih = (suc ih.0, omega (arith, ih.1), (ih.2.0, ih.2.1, rw e ih.2.2))
 
 -- ---- from the end to the front
 
@@ -243,18 +228,17 @@ module _ (context : Prefixes) (rise : names_rise context ≡ true) (iri : Chars)
       let all : list_all is_name_char (drop (end_of p) text) ≡ true = ap (list_all is_name_char) (sym cut.rest) ∙ local_chars (local_name p iri) cut.is_local in
       let inside : n - end_of p < length (drop (end_of p) text) = omega (arith, before, less, cut.bytes, ap length cut.rest) in
       let name : is_name_char (get_or text n 0) ≡ true =
-      ap (λ k. is_name_char (get_or text k 0)) (sym at) ∙ ap is_name_char (sym (get_drop text (end_of p) (n - end_of p))) ∙ all_get is_name_char (drop (end_of p) text) (n - end_of p) all inside in
+      ap (λ k. is_name_char (get_or text k 0)) (sym at) ∙ ap is_name_char (sym (get_or-drop (end_of p) text (n - end_of p) 0)) ∙ all_get is_name_char (drop (end_of p) text) (n - end_of p) all inside in
       true≢false (sym name ∙ stop))
 
   -- the place of the first that stands for some bytes, where there is a reason to look
-  place_finds : (b : Bool) (bytes : List ℕ) (o : Option ℕ) → (if b then place_from 0 context bytes else None) ≡ o → IsPlace context (if b then find (stands_for bytes) context else None) o
-  place_finds true bytes None e = none_found context bytes 0 e
-  place_finds true bytes (Some i) e =
-      let r = one_found context bytes 0 i e in
-      let same : r.0 ≡ i = omega (arith, r.1) in
-      (r.2.0, ap (slice_get context) (sym same) ∙ r.2.1, r.2.2)
-  place_finds false bytes None e = refl
-  place_finds false bytes (Some i) e = absurd (cc)
+  place_finds : (b : Bool) (bytes : List ℕ) → IsPlace context (if b then find (stands_for bytes) context else None) (if b then place_from 0 context bytes else None)
+  place_finds true bytes = go (place_from 0 context bytes) (found_from context bytes 0)
+    where
+      go : (o : Option ℕ) → Found 0 context bytes o → IsPlace context (find (stands_for bytes) context) o
+      go None h = h
+      go (Some i) h = let same : h.0 ≡ i = omega (arith, h.1) in (h.2.0, ap (slice_get context) (sym same) ∙ h.2.1, h.2.2)
+  place_finds false bytes = refl
 
   one_or_other : (f b : Option Prefix) (o p : Option ℕ) → IsPlace context f o → IsPlace context b p → IsPlace context (option_or f b) (option_or o p)
   one_or_other f b None p h k = subst (λ (z : Option Prefix). IsPlace context (option_or z b) p) (sym h) k
@@ -269,23 +253,18 @@ module _ (context : Prefixes) (rise : names_rise context ≡ true) (iri : Chars)
     where
       nothing_less : (m : ℕ) → nat_lt m 0 ≡ false
       nothing_less m = grind (arith, nat_tests)
-  place_within (suc n) within tail = go (is_name_char (get_or text n 0)) refl (place_within n (omega (arith, within)))
-    where
-      less : n < length text
-      less = omega (arith, within)
-
-      go : (b : Bool) → is_name_char (get_or text n 0) ≡ b → (list_all is_name_char (drop n text) ≡ true → IsPlace context (best_below n) (place_below context text n))
-          → IsPlace context (best_below (suc n)) (if b then option_or (place_at context text n) (place_below context text n) else None)
-      go true e ih =
-          let all : list_all is_name_char (drop n text) ≡ true = ap (list_all is_name_char) (drop_here text n less) ∙ and_from _ _ e tail in
-          let first : find (at_size (shortens iri) end_of n) context ≡ find (λ (p : Prefix). begins_local (get_or text n 0) && stands_for (take n text) p) context =
-          find_same (at_size (shortens iri) end_of n) (λ (p : Prefix). begins_local (get_or text n 0) && stands_for (take n text) p) context (at_is n less tail) in
-          let choice : find (λ (p : Prefix). begins_local (get_or text n 0) && stands_for (take n text) p) context ≡ (if begins_local (get_or text n 0) then find (stands_for (take n text)) context else None) =
-          guarded (begins_local (get_or text n 0)) (take n text) in
-          subst (λ (z : Option Prefix). IsPlace context z (option_or (place_at context text n) (place_below context text n)))
-          (sym (one_up (shortens iri) end_of (ends_tell iri) n context rise ∙ ap (λ (z : Option Prefix). option_or z (best_below n)) (first ∙ choice)))
-          (one_or_other _ (best_below n) (place_at context text n) (place_below context text n) (place_finds (begins_local (get_or text n 0)) (take n text) (place_at context text n) refl) (ih all))
-      go false e ih = ap best (filter_none (below (shortens iri) end_of (suc n)) context (none_before n less e))
+  place_within (suc n) within tail =
+      let less : n < length text = omega (arith, within) in
+      let rest = place_within n (omega (arith, within)) in
+      by_test (is_name_char (get_or text n 0))
+      (λ e.
+      let all : list_all is_name_char (drop n text) ≡ true = ap (list_all is_name_char) (drop_here text n less) ∙ and_from _ _ e tail in
+      let first : find (at_size (shortens iri) end_of n) context ≡ find (λ (p : Prefix). begins_local (get_or text n 0) && stands_for (take n text) p) context =
+      find_same (at_size (shortens iri) end_of n) (λ (p : Prefix). begins_local (get_or text n 0) && stands_for (take n text) p) context (at_is n less tail) in
+      rw e (subst (λ (z : Option Prefix). IsPlace context z (option_or (place_at context text n) (place_below context text n)))
+      (sym (one_up (shortens iri) end_of (ends_tell iri) n context rise ∙ ap (λ (z : Option Prefix). option_or z (best_below n)) (first ∙ guarded (begins_local (get_or text n 0)) (take n text))))
+      (one_or_other _ (best_below n) (place_at context text n) (place_below context text n) (place_finds (begins_local (get_or text n 0)) (take n text)) (rest all))))
+      (λ e. rw e (ap best (filter_none (below (shortens iri) end_of (suc n)) context (none_before n less e))))
 
 pub place_is : (context : Prefixes) (iri : Chars) → names_rise context ≡ true → IsPlace context (prefix_of context iri) (place_of context iri)
 place_is context iri rise =

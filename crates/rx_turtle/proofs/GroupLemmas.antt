@@ -1,6 +1,6 @@
 -- Triples that are put into groups.
 use Rattle.rx_turtle.proofs.Common.{◌≡◌, ◌∙◌, ℕ, zero, suc, ◌+◌, ◌<◌, ◌≤◌, Bool, true, false, nat_eq, List, [], ◌∷◌, ◌++◌, map, filter, length, take, drop, slice_get, slice_set, get_or, Result, Ok, Err, is_err, Option, Some, None, option_map, Bor, refl, sym, ap, ap₂, true≢false, arith, append-nil, ◌||◌, is_ok, if◌then◌else◌, map-append, slice_get-map, contains, distinct, with_one, Node, Triple, same_node, triple_seen, exact_nodes, exact_numbers, resource_seen, number_in, AreDistinct, distinct_grows, one_more, same_back, Keyed, group_seen, key_by, has_key, keys_by, put_in}
-use Rattle.std.proofs.lemmas.List.Elements.{filter-append}
+use Rattle.rx_model.proofs.Common.{filter-append, by_test}
 use Rattle.rx_terms.specs.declared.triples.Triple.{Triple as CodeTriple}
 use Rattle.rx_turtle.specs.declared.keys.By.{By}
 use Rattle.rx_turtle.specs.declared.groups.Group.{Group}
@@ -41,15 +41,10 @@ module _ (kind : By) where
 
   pub others_stay : (f : Node ℕ → List (Triple ℕ)) (t : Triple ℕ) (keys : List (Node ℕ)) → contains (same_node nat_eq) keys (key_by kind t) ≡ false → paired (with_last f t) keys ≡ paired f keys
   others_stay f t [] h = refl
-  others_stay f t (x ∷ keys) h = go (same_node nat_eq x (key_by kind t)) refl h (others_stay f t keys)
-    where
-      go : (b : Bool) → same_node nat_eq x (key_by kind t) ≡ b → (b || contains (same_node nat_eq) keys (key_by kind t)) ≡ false
-          → (contains (same_node nat_eq) keys (key_by kind t) ≡ false → paired (with_last f t) keys ≡ paired f keys) → paired (with_last f t) (x ∷ keys) ≡ paired f (x ∷ keys)
-      go true e k ih = absurd (true≢false k)
-      go false e k ih =
-          let test : has_key kind x t ≡ false = same_back (key_by kind t) x ∙ e in
-          let row : with_last f t x ≡ f x = rw test (append-nil (f x)) in
-          ap₂ (λ (r : List (Triple ℕ)) (z : List Keyed). (x, r) ∷ z) row (ih k)
+  others_stay f t (x ∷ keys) h = by_test (same_node nat_eq x (key_by kind t)) (λ e. absurd (true≢false (rw e at h))) (λ e.
+      let test : has_key kind x t ≡ false = same_back (key_by kind t) x ∙ e in
+      let row : with_last f t x ≡ f x = rw test (append-nil (f x)) in
+      ap₂ (λ (r : List (Triple ℕ)) (z : List Keyed). (x, r) ∷ z) row (others_stay f t keys (rw e at h)))
 
   pub one_put : (f : Node ℕ → List (Triple ℕ)) (t : Triple ℕ) (keys : List (Node ℕ)) (n : ℕ) → AreDistinct keys → number_in keys (key_by kind t) ≡ Some n → put_in (paired f keys) n t ≡ paired (with_last f t) keys
   one_put f t [] n d h = absurd (cc)

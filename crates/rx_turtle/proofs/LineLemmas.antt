@@ -50,16 +50,14 @@ one_chosen mark row = if mark then row ∷ [] else []
 
 chosen_more : (marks : List Bool) (context : Prefixes) (i : ℕ) (mark : Bool) (row : Prefix) → slice_get marks i ≡ Some mark → slice_get context i ≡ Some row
     → chosen (take (i + 1) marks) (take (i + 1) context) ≡ chosen (take i marks) (take i context) ++ one_chosen mark row
-chosen_more [] context i mark row at there = absurd (cc)
-chosen_more (m ∷ marks) [] i mark row at there = absurd (cc)
-chosen_more (true ∷ marks) (p ∷ context) zero mark row at there = let same : true ≡ mark = cc in let is : p ≡ row = cc in ap₂ one_chosen same is
-chosen_more (false ∷ marks) (p ∷ context) zero mark row at there = let same : false ≡ mark = cc in let is : p ≡ row = cc in ap₂ one_chosen same is
 chosen_more (true ∷ marks) (p ∷ context) (suc i) mark row at there =
     let up : suc i + 1 ≡ suc (i + 1) = omega arith in
     ap (λ n. chosen (take n (true ∷ marks)) (take n (p ∷ context))) up ∙ ap (λ z. p ∷ z) (chosen_more marks context i mark row at there)
 chosen_more (false ∷ marks) (p ∷ context) (suc i) mark row at there =
     let up : suc i + 1 ≡ suc (i + 1) = omega arith in
     ap (λ n. chosen (take n (false ∷ marks)) (take n (p ∷ context))) up ∙ chosen_more marks context i mark row at there
+chosen_more (m ∷ marks) (p ∷ context) zero mark row at there = let same : m ≡ mark = cc in let is : p ≡ row = cc in ap₂ one_chosen same is
+chosen_more _ _ i mark row at there = absurd (cc)
 
 pub prefix_turn : {start now next : Delivery} (marks : List Bool) (context : Prefixes) (i : ℕ) (mark : Bool) (row : Prefix) → slice_get marks i ≡ Some mark → slice_get context i ≡ Some row
     → Adds start now (flat_map prefix_text (chosen (take i marks) (take i context))) → Adds now next (if mark then prefix_text row else [])

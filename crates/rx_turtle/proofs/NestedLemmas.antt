@@ -1,7 +1,8 @@
 -- The text of a nested plan is that of the nested layout, and what it denotes.
-use Rattle.rx_notation.proofs.Common.{◌≡◌, ◌∙◌, ℕ, Bool, true, false, cond, nat_eq, List, [], ◌∷◌, ◌++◌, map, filter_map, flat_map, length, bytes_eq, Option, Some, None, refl, sym, ap, ap₂, subst, codes, if◌then◌else◌, chars-encodes, Chars, same_truth, Among, contains, distinct, Plain, Tagged, Typed, Iri, Blank, Literal, Triple, same_triple, spo, rdf_type, Among_map, Among_of_map, Among_of_filter_map, Among-contains, Among_by_contains, exact_texts, WritableText, IsWritable, string_text, Prefix, Prefixes, prefix_of, names_rise, iris_of, same_prefix, those_among, in_byte_order, prefixes_text, iris_of_predicate, IsContext, proper_triple, NestedTurtle, Type_of, By, Apart, names_apart, one_of, exact_prefixes, prefix_fits, rising, reference_to, name_in, names_of_verb, piece_names, prefixes_named, names_used, statements, nested, piece_text, all_pieces}
+use Rattle.rx_notation.proofs.Common.{◌≡◌, ◌∙◌, ℕ, Bool, true, false, cond, nat_eq, List, [], ◌∷◌, ◌++◌, map, filter_map, flat_map, length, bytes_eq, Option, Some, None, refl, sym, ap, ap₂, subst, codes, if◌then◌else◌, chars-encodes, Chars, Among, contains, distinct, Plain, Tagged, Typed, Iri, Blank, Literal, Triple, same_triple, spo, rdf_type, Among_map, Among_of_map, Among_of_filter_map, Among-contains, Among_by_contains, exact_texts, WritableText, IsWritable, string_text, Prefix, Prefixes, prefix_of, names_rise, iris_of, same_prefix, those_among, in_byte_order, prefixes_text, iris_of_predicate, IsContext, proper_triple, NestedTurtle, Type_of, By, Apart, names_apart, one_of, exact_prefixes, prefix_fits, rising, reference_to, name_in, names_of_verb, piece_names, prefixes_named, names_used, statements, nested, piece_text, all_pieces}
 use Rattle.rx_turtle.proofs.Common.{AreRows, marked_all, unmarked, chosen, Shown, Fixed, IriOrLabel, Verb, Quoted, tokens_seen, words_text, piece_of, pieces_of, shown_text, shown_texts, iris_of_shown, WritableShown, list_of, shapes_of, IsSource, AreTokens}
 use Rattle.std.specs.Str.{chars, encode_utf8_all}
+use Rattle.rx_terms.proofs.Bools.{same_truth, by_test}
 use Rattle.rx_pieces.proofs.Scalars.{joined, literally}
 use Rattle.rx_notation.proofs.Declared.{of_named}
 use Rattle.rx_notation.proofs.LaidOut.{reference_is, verb_is, suffix_is}
@@ -20,12 +21,10 @@ use Rattle.rx_turtle.proofs.UseLemmas.{chosen_used, marks_size}
 
 module _ (context : Prefixes) where
   shown_is : (s : Shown) → shown_text context s ≡ piece_text (piece_of context s)
-  shown_is (Fixed words) = refl
   shown_is (IriOrLabel (Iri iri)) = sym (reference_is context iri)
-  shown_is (IriOrLabel (Blank number)) = refl
   shown_is (Verb (Iri iri)) = sym (verb_is context iri)
-  shown_is (Verb (Blank number)) = refl
   shown_is (Quoted text kind) = ap (λ z. string_text text ++ z) (sym (suffix_is context kind))
+  shown_is _ = refl
 
   texts_are : (list : List Shown) → shown_texts context list ≡ flat_map piece_text (pieces_of context list)
   texts_are [] = refl
@@ -47,18 +46,10 @@ module _ (context : Prefixes) where
       go (Some p) e = rw e refl
 
   names_is : (s : Shown) → piece_names (piece_of context s) ≡ names_by (iris_of_shown s)
-  names_is (Fixed words) = refl
   names_is (IriOrLabel (Iri iri)) = reference_name iri
-  names_is (IriOrLabel (Blank number)) = refl
-  names_is (Verb (Iri iri)) = go (bytes_eq iri rdf_type)
-    where
-      go : (b : Bool) → names_of_verb (cond b Type_of (By (reference_to context iri))) ≡ names_by (cond b [] (iri ∷ []))
-      go true = refl
-      go false = reference_name iri
-  names_is (Verb (Blank number)) = refl
-  names_is (Quoted text Plain) = refl
-  names_is (Quoted text (Tagged tag)) = refl
+  names_is (Verb (Iri iri)) = by_test (bytes_eq iri rdf_type) (λ e. rw e refl) (λ e. rw e (reference_name iri))
   names_is (Quoted text (Typed datatype)) = reference_name datatype
+  names_is _ = refl
 
   names_both : (xs ys : List Chars) → names_by (xs ++ ys) ≡ names_by xs ++ names_by ys
   names_both [] ys = refl
@@ -113,16 +104,7 @@ module _ (context : Prefixes) where
 
 words_writable : (words : Words) → WritableText (words_text words)
 words_writable fixed.Space = literally (codes " ") refl
-words_writable fixed.Comma = literally (codes " , ") refl
-words_writable fixed.LineGap = literally (words_text fixed.LineGap) refl
-words_writable fixed.InsideGap = literally (words_text fixed.InsideGap) refl
-words_writable fixed.Open = literally (codes "[ ") refl
-words_writable fixed.Close = literally (codes " ]") refl
-words_writable fixed.OpenList = literally (codes "( ") refl
-words_writable fixed.CloseList = literally (codes " )") refl
-words_writable fixed.Empty = literally (codes "[]") refl
-words_writable fixed.Nil = literally (codes "()") refl
-words_writable fixed.End = literally (codes " .\n") refl
+words_writable words = literally (words_text words) refl
 
 module _ (context : Prefixes) (source : Source) (tokens : List Token) (are : AreTokens source tokens) where
   abbrev those : List Shown

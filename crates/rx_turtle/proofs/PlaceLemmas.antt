@@ -1,8 +1,8 @@
 -- The index of the prefixes by IRI.
 use Rattle.rx_turtle.proofs.Common.{option_or, list_all, encodes-chars, encodes-append, IsIri, Chars, begins_with, get_or-take, length-take-le, exact_texts, exact_numbers, Among, false_unless, text_of, iri_of, Prefix, Prefixes, is_before, is_name_char, is_prefix_name, prefix_of, names_rise, prefix_fits, front_and_rest, begins_local, stands_for, place_from, place_at, place_below, place_of, IsShort, IsRow, AreRows}
+use Rattle.rx_model.proofs.Common.{pointwise, by_test}
 use Rattle.std.proofs.Common.{◌≡◌, ◌∙◌, ℕ, zero, suc, ◌+◌, ◌-◌, ◌<◌, ◌≤◌, Bool, true, false, cond, nat_eq, List, [], ◌∷◌, ◌++◌, length, length-append, take, inl, inr, drop, get_or, slice_get, Option, Some, None, refl, sym, ap, subst, true≢false, arith, ◌&&◌, take_all, drop_at, if◌then◌else◌}
 use Rattle.std.specs.Str.{chars, IsUtf8, encode_utf8_all}
-use Rattle.std.specs.Cmp.Lexicographic.{pointwise}
 use Rattle.rx_names.specs.Tables.{rise}
 use Rattle.rx_turtle.specs.declared.places.Places.{Places}
 use Rattle.rx_turtle.specs.Slots.{told, Tells}
@@ -24,7 +24,9 @@ module _ (iri : List ℕ) (place : ℕ) (old new : Places) (each : (bytes : List
 
   lengths_known : ((n : ℕ) → get_or new.lengths n false ≡ cond (nat_eq (length iri) n) true (get_or old.lengths n false)) → Knows old
       → (bytes : List ℕ) (p : ℕ) → found_in new bytes ≡ Some p → get_or new.lengths (length bytes) false ≡ true
-  lengths_known sizes k bytes p e = go (pointwise nat_eq iri bytes) refl (sym (each bytes) ∙ e)
+  lengths_known sizes k bytes p e = by_test (pointwise nat_eq iri bytes)
+      (λ t. here (length bytes) (ap length (sym ((exact_texts iri bytes).0 t))))
+      (λ t. kept (length bytes) (k.length_of bytes p (rw t at (sym (each bytes) ∙ e))))
     where
       here : (n : ℕ) → n ≡ length iri → get_or new.lengths n false ≡ true
       here n h = sizes n ∙ rw ((exact_numbers (length iri) n).1 (sym h)) refl
@@ -32,22 +34,16 @@ module _ (iri : List ℕ) (place : ℕ) (old new : Places) (each : (bytes : List
       kept : (n : ℕ) → get_or old.lengths n false ≡ true → get_or new.lengths n false ≡ true
       kept n h = sizes n ∙ ap (cond (nat_eq (length iri) n) true) h ∙ either (nat_eq (length iri) n)
 
-      go : (b : Bool) → pointwise nat_eq iri bytes ≡ b → (if b then Some place else found_in old bytes) ≡ Some p → get_or new.lengths (length bytes) false ≡ true
-      go true t h = here (length bytes) (ap length (sym ((exact_texts iri bytes).0 t)))
-      go false t h = kept (length bytes) (k.length_of bytes p h)
-
   abbrev ends_plain : Places → List ℕ → Bool
   ends_plain places bytes = get_or places.plain (get_or bytes (length bytes - 1) 0) false
 
   ends_known : (0 < length iri → ends_plain new iri ≡ false) → ((byte : ℕ) → get_or new.plain byte false ≡ true → get_or old.plain byte false ≡ true) → Knows old
       → (bytes : List ℕ) (p : ℕ) → found_in new bytes ≡ Some p → 0 < length bytes → ends_plain new bytes ≡ false
-  ends_known here kept k bytes p e some = go (pointwise nat_eq iri bytes) refl (sym (each bytes) ∙ e)
-    where
-      go : (b : Bool) → pointwise nat_eq iri bytes ≡ b → (if b then Some place else found_in old bytes) ≡ Some p → ends_plain new bytes ≡ false
-      go true t h =
-          let same : iri ≡ bytes = (exact_texts iri bytes).0 t in
-          subst (λ z. ends_plain new z ≡ false) same (here (subst (λ z. 0 < length z) (sym same) some))
-      go false t h = false_unless (ends_plain new bytes) (λ q. true≢false (sym (kept (get_or bytes (length bytes - 1) 0) q) ∙ k.ends bytes p h some))
+  ends_known here kept k bytes p e some = by_test (pointwise nat_eq iri bytes)
+      (λ t.
+      let same : iri ≡ bytes = (exact_texts iri bytes).0 t in
+      subst (λ z. ends_plain new z ≡ false) same (here (subst (λ z. 0 < length z) (sym same) some)))
+      (λ t. false_unless (ends_plain new bytes) (λ q. true≢false (sym (kept (get_or bytes (length bytes - 1) 0) q) ∙ k.ends bytes p (rw t at (sym (each bytes) ∙ e)) some)))
 
   pub put_bytes : ((n : ℕ) → get_or new.lengths n false ≡ cond (nat_eq (length iri) n) true (get_or old.lengths n false))
       → ((found : List ℕ → Option ℕ) → Tells old.slots found → Tells new.slots (λ bytes. if pointwise nat_eq iri bytes then Some place else found bytes))

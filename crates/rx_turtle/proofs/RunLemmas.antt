@@ -1,6 +1,7 @@
 -- The tokens that come of what is due, one after another.
 use Rattle.rx_turtle.proofs.Common.{◌≡◌, ◌∙◌, ℕ, zero, suc, ◌+◌, ◌<◌, ◌≤◌, Bool, true, false, cond, nat_eq, List, [], ◌∷◌, ◌++◌, map, filter, length, take, slice_get, Some, refl, sym, ap, subst, inl, inr, arith, append_assoc, append-nil, take_all, map-append, Chars, Among, Node, Triple, same_node, Among_of_distinct, Among_distinct, exact_nodes, exact_numbers, one_more, Prefixes, subjects, predicates_of, subject_says, is_top, statement_of, Keyed, has_key, keys_by, grouped, Shown, token_seen, tokens_seen, piece_of, pieces_of, Due, Say, statement_due, opened, AreCells, due_pieces, one_said, all_said, list_of, shapes_of, IsSource, Comes, Says, AreTokens, IsSubject}
 use Rattle.rx_notation.proofs.Common.{Shape, HaveShapes, Piece, statement_pieces, all_pieces}
+use Rattle.rx_terms.proofs.Bools.{by_test}
 use Rattle.rx_turtle.specs.declared.keys.By.TheVariants as by
 use Rattle.rx_turtle.specs.declared.source.Source.{Source}
 use Rattle.rx_turtle.specs.declared.tokens.Token.{Token}
@@ -92,13 +93,8 @@ module _ (context : Prefixes) (list : List (Triple ℕ)) (shapes : ℕ → Shape
   all_said_is : (f : Node ℕ → List (Triple ℕ)) (keys : List (Node ℕ)) → all_said context list shapes (map {B = Keyed} (λ key. (key, f key)) keys) []
       ≡ all_pieces (map (statement_of context list shapes) (filter (is_top shapes) keys))
   all_said_is f [] = refl
-  all_said_is f (key ∷ keys) = go (is_top shapes key) (all_said_is f keys)
-    where
-      go : (b : Bool) → all_said context list shapes (map {B = Keyed} (λ k. (k, f k)) keys) [] ≡ all_pieces (map (statement_of context list shapes) (filter (is_top shapes) keys))
-          → one_said context list shapes b key (all_said context list shapes (map {B = Keyed} (λ k. (k, f k)) keys) [])
-          ≡ all_pieces (map (statement_of context list shapes) (cond b (key ∷ filter (is_top shapes) keys) (filter (is_top shapes) keys)))
-      go true ih = ap (statement_pieces (statement_of context list shapes key)) ih
-      go false ih = ih
+  all_said_is f (key ∷ keys) =
+      let rest = all_said_is f keys in by_test (is_top shapes key) (λ e. rw e (ap (statement_pieces (statement_of context list shapes key)) rest)) (λ e. rw e rest)
 
 pub stated_turn : (source : Source) (groups : List Keyed) (i : ℕ) (row : Keyed) (now next : List Token) → slice_get groups i ≡ Some row → Says source row.0 now next
     → Stated source (take i groups) now → Stated source (take (i + 1) groups) next

@@ -1,5 +1,6 @@
 -- All characters of a text are Unicode scalar values.
-use Rattle.rx_turtle.proofs.Common.{◌≡◌, ℕ, zero, suc, Bool, true, false, List, [], ◌∷◌, ◌++◌, map, flat_map, length, drop, bytes_eq, Option, Some, None, refl, inl, inr, codes, if◌then◌else◌, all_scalars, and_parts, Chars, Among, Kind, Plain, Tagged, Typed, Node, Iri, Blank, Term, Resource, Literal, Triple, spo, rdf_type, WritableText, WritableIri, WritableNode, WritableKind, WritableTerm, WritableTriple, IsWritable, Prefix, Prefixes, prefix_of, short_iri, resource_text, verb_text, suffix_text, object_text, separated, predicate_text, statement_text, prefixes_used, prefix_text, prefixes_text, turtle, subjects, predicates_of, objects_of, prefix_fits, used_of, subject_says, predicate_says, object_says, IsRow, AreRows}
+use Rattle.rx_turtle.proofs.Common.{◌≡◌, ℕ, zero, suc, Bool, true, false, List, [], ◌∷◌, ◌++◌, map, flat_map, length, drop, bytes_eq, Option, Some, None, refl, subst, inl, inr, codes, if◌then◌else◌, all_scalars, and_parts, Chars, Among, Kind, Plain, Tagged, Typed, Node, Iri, Blank, Term, Resource, Literal, Triple, spo, rdf_type, WritableText, WritableIri, WritableNode, WritableKind, WritableTerm, WritableTriple, IsWritable, Prefix, Prefixes, prefix_of, short_iri, resource_text, verb_text, suffix_text, object_text, separated, predicate_text, statement_text, prefixes_used, prefix_text, prefixes_text, turtle, subjects, predicates_of, objects_of, prefix_fits, used_of, subject_says, predicate_says, object_says, IsRow, AreRows}
+use Rattle.rx_model.proofs.Common.{by_test, Among_of_map}
 use Rattle.rx_pieces.proofs.Scalars.{joined, literally, string_writable, iri_writable, blank_writable}
 
 dropped : (n : ℕ) (text : Chars) → all_scalars text ≡ true → all_scalars (drop n text) ≡ true
@@ -7,18 +8,14 @@ dropped zero text h = h
 dropped (suc n) [] h = h
 dropped (suc n) (c ∷ text) h = dropped n text (and_parts _ _ h).1
 
-module _ {A : Type 0} (f : A → Chars) where
-  pub all_writable : (list : List A) → ((a : A) → Among list a → WritableText (f a)) → WritableText (flat_map f list)
-  all_writable [] h = literally [] refl
-  all_writable (x ∷ list) h = joined (h x (inl refl)) (all_writable list (λ a m. h a (inr m)))
+pub all_writable : {A : Type 0} (f : A → Chars) (list : List A) → ((a : A) → Among list a → WritableText (f a)) → WritableText (flat_map f list)
+all_writable f [] h = literally [] refl
+all_writable f (x ∷ list) h = joined (h x (inl refl)) (all_writable f list (λ a m. h a (inr m)))
 
-  separated_writable : (between : Chars) → WritableText between → (list : List A) → ((a : A) → Among list a → WritableText (f a)) → WritableText (separated between (map f list))
-  separated_writable between b [] h = literally [] refl
-  separated_writable between b (x ∷ list) h = joined (h x (inl refl)) (behind list (λ a m. h a (inr m)))
-    where
-      behind : (more : List A) → ((a : A) → Among more a → WritableText (f a)) → WritableText (flat_map (λ next. between ++ next) (map f more))
-      behind [] k = literally [] refl
-      behind (y ∷ more) k = joined (joined b (k y (inl refl))) (behind more (λ a m. k a (inr m)))
+separated_writable : {A : Type 0} (f : A → Chars) (between : Chars) → WritableText between → (list : List A) → ((a : A) → Among list a → WritableText (f a)) → WritableText (separated between (map f list))
+separated_writable f between b [] h = literally [] refl
+separated_writable f between b (x ∷ list) h =
+    joined (h x (inl refl)) (all_writable (λ next. between ++ next) (map f list) (λ t m. let a = Among_of_map f list t m in joined b (subst WritableText a.2 (h a.0 (inr a.1)))))
 
 module _ (context : Prefixes) (rows : AreRows context) where
   short_writable : (iri : Chars) → WritableIri iri → WritableText (short_iri context iri)
@@ -35,11 +32,7 @@ module _ (context : Prefixes) (rows : AreRows context) where
   resource_writable (Blank number) w = blank_writable number w
 
   pub verb_writable : (predicate : Chars) → WritableIri predicate → WritableText (verb_text context predicate)
-  verb_writable predicate w = go (bytes_eq predicate rdf_type)
-    where
-      go : (b : Bool) → WritableText (if b then codes "a" else short_iri context predicate)
-      go true = literally (codes "a") refl
-      go false = short_writable predicate w
+  verb_writable predicate w = by_test (bytes_eq predicate rdf_type) (λ e. rw e (literally (codes "a") refl)) (λ e. rw e (short_writable predicate w))
 
   suffix_writable : (kind : Kind) → WritableKind kind → WritableText (suffix_text context kind)
   suffix_writable Plain w = literally [] refl

@@ -1,5 +1,5 @@
 -- What slots tell.
-use Rattle.rx_model.proofs.Common.{◌≡◌, ◌∙◌, ℕ, ◌-◌, ◌<◌, Bool, true, false, nat_eq, List, length, get_or, slice_set, Option, Some, None, refl, sym, ap, ap₂, subst, true≢false, arith, bit_and, if◌then◌else◌, pointwise, nat_tests, get_or-set_other, length-set, get_or-set_same, get_or_default, exact_texts, false_unless, Bor}
+use Rattle.rx_model.proofs.Common.{◌≡◌, ◌∙◌, ℕ, ◌-◌, ◌<◌, Bool, true, false, nat_eq, List, length, get_or, slice_set, Option, Some, None, refl, sym, ap, ap₂, subst, true≢false, arith, bit_and, if◌then◌else◌, pointwise, nat_tests, get_or-set_other, length-set, get_or-set_same, get_or_default, by_test, exact_texts, false_unless, Bor}
 use Rattle.rx_turtle.specs.declared.slots.Slot.{Slot}
 use Rattle.rx_turtle.specs.declared.slots.Slot.TheVariants.{Free, One, Many}
 use Rattle.rx_turtle.specs.Slots.{number_of, slot_of, told_by, told, with_iri, IsSo, Tells}
@@ -12,18 +12,11 @@ so_also (Some x) a b e h = h ∙ e
 told_with : (slot : Slot) (iri : Bor (List ℕ)) (place : ℕ) (bytes : List ℕ) (o : Option ℕ) → IsSo (told_by slot bytes) o
     → IsSo (told_by (with_iri slot iri place) bytes) (if pointwise nat_eq iri.now bytes then Some place else o)
 told_with Free iri place bytes o h = ap (λ (z : Option ℕ). if pointwise nat_eq iri.now bytes then Some place else z) h
-told_with (One other first) iri place bytes o h = go (pointwise nat_eq other.now iri.now) refl
-  where
-    go : (b : Bool) → pointwise nat_eq other.now iri.now ≡ b → IsSo (told_by (if b then One iri place else Many) bytes) (if pointwise nat_eq iri.now bytes then Some place else o)
-    go true e = within (pointwise nat_eq iri.now bytes) refl
-      where
-        same : other.now ≡ iri.now
-        same = (exact_texts other.now iri.now).0 e
-
-        within : (c : Bool) → pointwise nat_eq iri.now bytes ≡ c → (if c then Some place else None) ≡ (if c then Some place else o)
-        within true f = refl
-        within false f = sym (ap (λ (b : Bool). if b then Some first else None) (ap (λ z. pointwise nat_eq z bytes) same ∙ f)) ∙ h
-    go false e = tt
+told_with (One other first) iri place bytes o h = by_test (pointwise nat_eq other.now iri.now)
+    (λ e.
+    let same : other.now ≡ iri.now = (exact_texts other.now iri.now).0 e in
+    rw e (by_test (pointwise nat_eq iri.now bytes) (λ f. rw f refl) (λ f. rw f (sym (ap (λ (b : Bool). if b then Some first else None) (ap (λ z. pointwise nat_eq z bytes) same ∙ f)) ∙ h))))
+    (λ e. rw e tt)
 told_with Many iri place bytes o h = tt
 
 pub nat_is : (a b : ℕ) → nat_eq a b ≡ true → a ≡ b

@@ -1,8 +1,9 @@
 -- Triples that are put into groups one after another.
-use Rattle.rx_turtle.proofs.Common.{◌≡◌, ◌∙◌, ℕ, zero, suc, ◌+◌, ◌<◌, ◌≤◌, Bool, true, false, nat_eq, List, [], ◌∷◌, ◌++◌, map, filter, length, take, slice_get, Option, Some, None, option_map, Bor, refl, sym, ap, ap₂, subst, true≢false, arith, ◌||◌, if◌then◌else◌, take_all, map-append, or_parts, same_truth, contains, distinct, with_one, Among-contains, Among_by_contains, Among_of_distinct, Among_distinct, false_unless, Node, Triple, same_node, exact_nodes, exact_numbers, number_in, AreDistinct, same_nodes, Keyed, key_by, has_key, keys_by, keys_in, grouped, put_in, taken_at, taken_in}
-use Rattle.std.proofs.lemmas.List.Elements.{filter-append}
+use Rattle.rx_turtle.proofs.Common.{◌≡◌, ◌∙◌, ℕ, zero, suc, ◌+◌, ◌<◌, ◌≤◌, Bool, true, false, nat_eq, List, [], ◌∷◌, ◌++◌, map, filter, length, take, slice_get, Option, Some, None, option_map, Bor, refl, sym, ap, ap₂, subst, true≢false, arith, ◌||◌, if◌then◌else◌, take_all, map-append, or_parts, contains, distinct, with_one, Among-contains, Among_by_contains, Among_of_distinct, Among_distinct, false_unless, Node, Triple, same_node, exact_nodes, exact_numbers, number_in, AreDistinct, same_nodes, Keyed, key_by, has_key, keys_by, keys_in, grouped, put_in, taken_at, taken_in}
+use Rattle.rx_model.proofs.Common.{filter-append, same_truth, by_test}
 use Rattle.rx_terms.specs.declared.triples.Triple.{Triple as CodeTriple}
-use Rattle.rx_graph.proofs.PatternLemmas.{none_there}
+use Rattle.rx_graph.proofs.PatternLemmas.{none_there, number_node}
+use Rattle.rx_shapes.proofs.RowLemmas.{among_get}
 use Rattle.rx_shapes.proofs.Heights.{Differ}
 use Rattle.rx_shapes.proofs.Times.{distinct_differ}
 use Rattle.rx_turtle.specs.declared.keys.By.{By}
@@ -33,14 +34,7 @@ none_with kind (t ∷ list) k h =
     rw none (none_with kind list k parts.1)
 
 pub there : (keys : List (Node ℕ)) (s : Node ℕ) (n : ℕ) → number_in keys s ≡ Some n → contains (same_node nat_eq) keys s ≡ true
-there [] s n h = absurd (cc)
-there (x ∷ keys) s n h = go (same_node nat_eq x s) refl (number_in keys s) refl h (there keys s)
-  where
-    go : (b : Bool) → same_node nat_eq x s ≡ b → (o : Option ℕ) → number_in keys s ≡ o → (if b then Some 0 else option_map suc o) ≡ Some n
-        → ((m : ℕ) → number_in keys s ≡ Some m → contains (same_node nat_eq) keys s ≡ true) → (b || contains (same_node nat_eq) keys s) ≡ true
-    go true e o f q ih = refl
-    go false e (Some m) f q ih = ih m f
-    go false e None f q ih = absurd (cc)
+there keys s n h = Among-contains (same_node nat_eq) same_nodes keys s (among_get keys n s (number_node keys s n h))
 
 pub keys_of_pairs : (f : Node ℕ → List (Triple ℕ)) (kind : By) (keys : List (Node ℕ)) → keys_in (paired kind f keys) ≡ keys
 keys_of_pairs f kind [] = refl
@@ -100,9 +94,8 @@ module _ (kind : By) where
 -- the triple in a group of its own, which is the last
 pub put_last : (groups : List Keyed) (key : Node ℕ) (t : Triple ℕ) (n : ℕ) → n ≡ length groups → put_in (groups ++ (key, []) ∷ []) n t ≡ groups ++ (key, t ∷ []) ∷ []
 put_last [] key t zero e = refl
-put_last [] key t (suc n) e = absurd (omega (arith, e))
-put_last (g ∷ groups) key t zero e = absurd (omega (arith, e))
 put_last (g ∷ groups) key t (suc n) e = ap (λ z. g ∷ z) (put_last groups key t n (omega (arith, e)))
+put_last groups key t n e = absurd (omega (arith, e))
 
 -- ---- the keys of groups
 
@@ -121,10 +114,8 @@ pub key_at : (groups : List Keyed) (n : ℕ) (key : Node ℕ) (has : Bool) → n
 key_at [] n key has less tells is d = absurd (omega (arith, less))
 key_at (g ∷ groups) zero key has less tells is d = let same : same_node nat_eq g.0 key ≡ true = sym (tells g refl) ∙ is in rw same refl
 key_at (g ∷ groups) (suc n) key has less tells is d =
-    go (same_node nat_eq g.0 key) refl (key_at groups n key has (omega (arith, less)) (λ h at. tells h at) is d.1)
-  where
-    go : (b : Bool) → same_node nat_eq g.0 key ≡ b → number_in (keys_in groups) key ≡ Some n → (if b then Some 0 else option_map suc (number_in (keys_in groups) key)) ≡ Some (suc n)
-    go true e found =
-        let same : g.0 ≡ key = (exact_nodes nat_eq exact_numbers g.0 key).0 e in
-        absurd (true≢false (sym (there (keys_in groups) key n found) ∙ ap (contains (same_node nat_eq) (keys_in groups)) (sym same) ∙ d.0))
-    go false e found = ap (option_map suc) found
+    let found = key_at groups n key has (omega (arith, less)) (λ h at. tells h at) is d.1 in
+    by_test (same_node nat_eq g.0 key) (λ e.
+    let same : g.0 ≡ key = (exact_nodes nat_eq exact_numbers g.0 key).0 e in
+    absurd (true≢false (sym (there (keys_in groups) key n found) ∙ ap (contains (same_node nat_eq) (keys_in groups)) (sym same) ∙ d.0)))
+    (λ e. rw e (ap (option_map suc) found))

@@ -1,6 +1,7 @@
 -- What is due comes to the pieces of nested Turtle, turn by turn.
 use Rattle.rx_notation.proofs.Common.{◌≡◌, ◌∙◌, ℕ, Bool, true, false, cond, List, [], ◌∷◌, ◌++◌, map, filter, length, codes, bytes_eq, Option, Some, None, refl, sym, ap, ap₂, subst, inl, inr, Chars, Among, Node, Iri, Blank, Term, Resource, Literal, Triple, set_of, rdf_first, rdf_rest, rdf_nil, Cell, IsShape, HaveShapes, Shape, about, has_predicate, predicates_of, objects_of, first_of, object_at, CellOf, cell_of, predicate_says, Prefixes, reference_to, verb_of, subject_of, objects_after, some_objects, predicates_after, bracketed, some_predicates, one_object, items_by, node_by, object_by, written, statement_of, Piece, words, subject, verb, inside_gap, line_gap, pieces, statement_pieces}
 use Rattle.rx_turtle.proofs.Common.{Keyed, has_key, Shown, Fixed, IriOrLabel, words_text, piece_of, Due, Say, Object, After, behind, parted, object_due, objects_due, line_due, lines_due, bracket_due, item_due, rest_due, iri_due, statement_due, cell_due, node_due, term_due, opened, AreCells, one_due, due_pieces}
+use Rattle.rx_terms.proofs.Bools.{by_test}
 use Rattle.rx_shapes.specs.declared.shapes.Shape.TheVariants as shape
 use Rattle.rx_notation.specs.Syntax.{Named, Object as An_object, Items, Part, IriOrLabel as Noun, Nil}
 use Rattle.rx_notation.specs.Nesting as nesting
@@ -95,14 +96,9 @@ module _ (context : Prefixes) (list : List (Triple ℕ)) (shapes : ℕ → Shape
       ∙ sym (said_come (about_of node) (Among (predicates_of list node)) (λ q n. predicate_says list node q n) (predicates_of list node) p m (λ q n. n) (words (codes " .\n") ∷ rest)))
 
   items_come : (firsts rests : List (Term ℕ)) (rest : List Piece) → pieces inside_gap (items_by cell (one_object part_of firsts) rests) rest ≡ comes (item_due (first_of firsts) ++ rest_due (first_of rests)) rest
-  items_come [] [] rest = refl
   items_come [] (Resource (Blank number) ∷ more) rest = refl
-  items_come [] (Resource (Iri iri) ∷ more) rest = refl
-  items_come [] (Literal text kind ∷ more) rest = refl
-  items_come (first ∷ others) [] rest = refl
   items_come (first ∷ others) (Resource (Blank number) ∷ more) rest = refl
-  items_come (first ∷ others) (Resource (Iri iri) ∷ more) rest = refl
-  items_come (first ∷ others) (Literal text kind ∷ more) rest = refl
+  items_come _ _ rest = refl
 
   cells_come : (number : ℕ) (rest : List Piece) → pieces inside_gap (nesting.cells part_of cell list number) rest ≡ comes (cell_due list number) rest
   cells_come number rest = items_come (objects_of list (Blank number) rdf_first) (objects_of list (Blank number) rdf_rest) rest
@@ -163,11 +159,7 @@ module _ (list : List (Triple ℕ)) where
   node_cells shape.Cell number h = cells_both list (cell_due list number) (Say (Fixed fixed.CloseList) ∷ []) (cell_cells number h) tt
 
   iri_cells : (iri : Chars) → AreCells list (iri_due iri)
-  iri_cells iri = go (bytes_eq iri rdf_nil)
-    where
-      go : (b : Bool) → AreCells list (cond b (Say (Fixed fixed.Nil) ∷ []) (Say (IriOrLabel (Iri iri)) ∷ []))
-      go true = tt
-      go false = tt
+  iri_cells iri = by_test (bytes_eq iri rdf_nil) (λ e. rw e tt) (λ e. rw e tt)
 
   module _ (shapes : ℕ → Shape) (have : HaveShapes list shapes) where
     term_cells : (o : Term ℕ) → AreCells list (term_due list shapes o)
@@ -188,11 +180,7 @@ module _ (list : List (Triple ℕ)) where
     module _ (context : Prefixes) where
       opened_comes : (d : Due) (more : List Due) → AreCells list (d ∷ more) → (rest : List Piece) → one_due context list shapes d rest ≡ due_pieces context list shapes (opened list shapes d) rest
       opened_comes (Say token) more h rest = refl
-      opened_comes (Object (Resource (Iri iri))) more h rest = go (bytes_eq iri rdf_nil)
-        where
-          go : (b : Bool) → pieces inside_gap (cond b Nil (Noun (Named (reference_to context iri)))) rest ≡ due_pieces context list shapes (cond b (Say (Fixed fixed.Nil) ∷ []) (Say (IriOrLabel (Iri iri)) ∷ [])) rest
-          go true = refl
-          go false = refl
+      opened_comes (Object (Resource (Iri iri))) more h rest = by_test (bytes_eq iri rdf_nil) (λ e. rw e refl) (λ e. rw e refl)
       opened_comes (Object (Resource (Blank number))) more h rest =
           ap (λ (z : Part An_object). pieces inside_gap z rest) (node_unfolds context list shapes have number) ∙ node_comes context list shapes (shapes number) number rest
       opened_comes (Object (Literal text kind)) more h rest = refl

@@ -1,5 +1,7 @@
 -- Which prefixes are used.
 use Rattle.rx_turtle.proofs.Common.{◌≡◌, ◌∙◌, ℕ, zero, suc, ◌+◌, ◌<◌, ◌≤◌, Bool, true, false, List, [], ◌∷◌, ◌++◌, map, filter, filter_map, flat_map, length, take, slice_get, slice_set, Option, Some, None, refl, sym, ap, ap₂, subst, inl, inr, arith, cond, ◌||◌, take_all, length-map, or_right, Chars, Among, contains, Triple, Among_cases, false_unless, Prefix, Prefixes, prefix_of, names_rise, iris_of, used, same_prefix, prefixes_used, Apart, names_apart, exact_prefixes, rising, place_of, IsPlace, marked, marked_all, unmarked, used_marks, chosen}
+use Rattle.rx_terms.proofs.Bools.{by_test}
+use Rattle.rx_shapes.proofs.RowLemmas.{among_get}
 use Rattle.rx_turtle.proofs.Finding.{place_is}
 use Rattle.rx_turtle.proofs.GroupLemmas.{mapped_more}
 use Rattle.rx_turtle.proofs.LineLemmas.{flat_map_last}
@@ -71,11 +73,6 @@ or_assoc : (a b c : Bool) → ((a || b) || c) ≡ (a || (b || c))
 or_assoc true b c = refl
 or_assoc false b c = refl
 
-there_at : (context : Prefixes) (i : ℕ) (q : Prefix) → slice_get context i ≡ Some q → Among context q
-there_at [] i q at = absurd (cc)
-there_at (p ∷ context) zero q at = inl (cc)
-there_at (p ∷ context) (suc i) q at = inr (there_at context i q at)
-
 unlike : (p q : Prefix) → (p.0 ≡ q.0 → ⊥) → same_prefix q p ≡ false
 unlike p q apart = false_unless (same_prefix q p) (λ h. apart (ap (λ (z : Prefix). z.0) (sym ((exact_prefixes q p).0 h))))
 
@@ -86,7 +83,7 @@ one_mark f (p ∷ context) zero q apart at =
     ap₂ ◌∷◌ (sym (or_right (f p) (same_prefix q p) ((exact_prefixes q p).1 (sym same))))
     (map_same f (λ (r : Prefix). f r || same_prefix q r) context (λ r m. or_false (f r) ∙ ap (λ b. f r || b) (sym (unlike r q (λ e. apart.0 r m (ap (λ (z : Prefix). z.0) same ∙ sym e))))))
 one_mark f (p ∷ context) (suc i) q apart at =
-    ap₂ ◌∷◌ (or_false (f p) ∙ ap (λ b. f p || b) (sym (unlike p q (apart.0 q (there_at context i q at))))) (one_mark f context i q apart.1 at)
+    ap₂ ◌∷◌ (or_false (f p) ∙ ap (λ b. f p || b) (sym (unlike p q (apart.0 q (among_get context i q at))))) (one_mark f context i q apart.1 at)
 
 module _ (context : Prefixes) (rise : names_rise context ≡ true) where
   apart : Apart context
@@ -109,11 +106,7 @@ module _ (context : Prefixes) (rise : names_rise context ≡ true) where
 
   chosen_are : (f : Prefix → Bool) (ps : Prefixes) → chosen (map f ps) ps ≡ filter f ps
   chosen_are f [] = refl
-  chosen_are f (p ∷ ps) = go (f p) (chosen_are f ps)
-    where
-      go : (b : Bool) → chosen (map f ps) ps ≡ filter f ps → chosen (b ∷ map f ps) (p ∷ ps) ≡ cond b (p ∷ filter f ps) (filter f ps)
-      go true ih = ap (λ z. p ∷ z) ih
-      go false ih = ih
+  chosen_are f (p ∷ ps) = let rest = chosen_are f ps in by_test (f p) (λ e. rw e (ap (λ z. p ∷ z) rest)) (λ e. rw e rest)
 
   marks_are : (list : List (Triple ℕ)) → used_marks context list ≡ map (contains same_prefix (used context list)) context
   marks_are list = all_marks (flat_map iris_of list) (λ (p : Prefix). false)

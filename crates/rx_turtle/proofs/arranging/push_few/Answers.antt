@@ -1,7 +1,7 @@
-use Rattle.rx_turtle.proofs.Common.{◌∙◌, ◌≡◌, ◌<◌, ◌++◌, ap, ap₂, map, length, arith, append-nil, sym, take-map, drop-map, like_first}
+use Rattle.rx_turtle.proofs.Common.{◌∙◌, ◌≡◌, ◌<◌, ◌++◌, ℕ, List, ap, ap₂, map, length, arith, append-nil, sym, take-map, drop-map, Triple, keys_by, all_in, like_first}
 use Rattle.rx_turtle.specs.declared.keys.By.TheVariants as by
-use Rattle.rx_turtle.proofs.GroupLemmas.{lent_seen}
-use Rattle.rx_turtle.proofs.ArrangedLemmas.{like_turn, like_end, element_at, seen_length}
+use Rattle.rx_turtle.proofs.GroupLemmas.{lent_seen, rows_by}
+use Rattle.rx_turtle.proofs.ArrangedLemmas.{like_turn, whole_end, element_at, seen_length}
 use Rattle.rx_turtle.proofs.arranging.push_few.Goals as goal
 
 pub loop-i-init : goal.loop-i-init
@@ -21,4 +21,4 @@ loop-i-preserved c =
 pub returns : goal.returns
 returns c =
     let size : length (map lent_seen c.args.triples.now) ≡ length c.args.triples.now = seen_length c.args.triples.now in
-    like_end by.Predicate (map lent_seen c.args.triples.now) c.loop-i.i (map lent_seen c.args.list.now.items) (map lent_seen c.loop-i.list.items) (omega (arith, c.loop-i-test.false, size)) c.loop-i.invariant
+    whole_end (λ (some : List (Triple ℕ)). all_in (rows_by by.Predicate (map lent_seen c.args.triples.now) (keys_by by.Predicate some))) (map lent_seen c.args.triples.now) c.loop-i.i (map lent_seen c.args.list.now.items) (map lent_seen c.loop-i.list.items) (omega (arith, c.loop-i-test.false, size)) c.loop-i.invariant

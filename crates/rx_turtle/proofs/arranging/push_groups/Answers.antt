@@ -1,6 +1,6 @@
-use Rattle.rx_turtle.proofs.Common.{map, arith, append-nil, sym, resource_seen, Keyed}
+use Rattle.rx_turtle.proofs.Common.{map, flat_map, arith, append-nil, sym, resource_seen, Keyed}
 use Rattle.rx_turtle.proofs.GroupLemmas.{lent_seen}
-use Rattle.rx_turtle.proofs.ArrangedLemmas.{rows_turn, rows_end}
+use Rattle.rx_turtle.proofs.ArrangedLemmas.{rows_turn, whole_end}
 use Rattle.rx_turtle.proofs.arranging.push_groups.Goals as goal
 
 pub loop-i-init : goal.loop-i-init
@@ -13,4 +13,4 @@ loop-i-preserved c =
 
 pub returns : goal.returns
 returns c =
-    rows_end (λ (group : Keyed). group.1) c.args.groups.now c.loop-i.i (map lent_seen c.args.list.now.items) (map lent_seen c.loop-i.list.items) (omega (arith, c.loop-i-test.false, c.len-i-end.ensures)) c.loop-i.invariant
+    whole_end (flat_map (λ (group : Keyed). group.1)) c.args.groups.now c.loop-i.i (map lent_seen c.args.list.now.items) (map lent_seen c.loop-i.list.items) (omega (arith, c.loop-i-test.false, c.len-i-end.ensures)) c.loop-i.invariant

@@ -1,7 +1,7 @@
-use Rattle.rx_turtle.proofs.Common.{◌≡◌, map, length, arith, refl, append-nil, sym, slice_get_read, resource_seen}
+use Rattle.rx_turtle.proofs.Common.{◌≡◌, map, length, arith, refl, append-nil, sym, filter, slice_get_read, resource_seen, has_key}
 use Rattle.rx_turtle.specs.declared.keys.By.TheVariants as by
 use Rattle.rx_turtle.proofs.GroupLemmas.{lent_seen, lent_at}
-use Rattle.rx_turtle.proofs.ArrangedLemmas.{kept_turn, kept_end, seen_length}
+use Rattle.rx_turtle.proofs.ArrangedLemmas.{kept_turn, whole_end, seen_length}
 use Rattle.rx_turtle.proofs.arranging.push_those_with.Goals as goal
 
 pub loop-i-init : goal.loop-i-init
@@ -17,4 +17,4 @@ loop-i-preserved c =
 pub returns : goal.returns
 returns c =
     let size : length (map lent_seen c.args.triples.now) ≡ length c.args.triples.now = seen_length c.args.triples.now in
-    kept_end by.Predicate (resource_seen c.args.key) (map lent_seen c.args.triples.now) c.loop-i.i (map lent_seen c.args.list.now.items) (map lent_seen c.loop-i.list.items) (omega (arith, c.loop-i-test.false, size)) c.loop-i.invariant
+    whole_end (filter (has_key by.Predicate (resource_seen c.args.key))) (map lent_seen c.args.triples.now) c.loop-i.i (map lent_seen c.args.list.now.items) (map lent_seen c.loop-i.list.items) (omega (arith, c.loop-i-test.false, size)) c.loop-i.invariant

@@ -1,4 +1,4 @@
-use Rattle.rx_terms.proofs.Common.{◌∙◌, sym, ap, Some, if◌then◌else◌, on_ok_weaker, is_eq-slice_cmp}
+use Rattle.rx_model.proofs.Common.{◌∙◌, sym, ap, Some, if◌then◌else◌, on_ok_weaker, is_eq-slice_cmp}
 use Rattle.rx_graph.proofs.SetLemmas.{of_ok}
 use Rattle.rx_turtle.specs.Places.{found_in}
 use Rattle.rx_turtle.proofs.PlaceLemmas.{put_bytes}
