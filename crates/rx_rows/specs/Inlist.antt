@@ -1,196 +1,90 @@
 -- Lists.
-use Rattle.std.specs.Prelude.{[], ◌∷◌}
-use Rattle.rx_model.specs.Vocabulary.{rdf_first, rdf_rest}
-use Rattle.rx_rows.specs.Pages.{Example, here, body, tag, chars, says, v, iri, nil, blank, at, plain}
+use Rattle.std.specs.Prelude.{◌≡◌, List, [], ◌∷◌}
+use Rattle.rx_rows.specs.Pages.{Row, row, here, wrong, triples_text}
 
-abbrev pub text_at_its_start : Example
-text_at_its_start = record {
-  address = here;
-  page = body (
-      tag "p" (("about", "#a") ∷ ("property", "http://v.example/q") ∷ ("inlist", "") ∷ []) (chars "ab" ∷ tag "b" (("property", "http://v.example/q") ∷ ("inlist", "") ∷ []) (chars "c" ∷ []) ∷ [])
-      ∷ []
-      );
-  triples =
-      says (iri "http://h.example/d#a") (v "q") (at (blank 0))
-      ∷ says (blank 0) rdf_first (plain "abc")
-      ∷ says (blank 0) rdf_rest (at (blank 1))
-      ∷ says (blank 1) rdf_first (plain "c")
-      ∷ says (blank 1) rdf_rest (at nil)
-      ∷ [];
-}
+abbrev pub rows : List Row
+rows =
+    row "text at its start" "<html><body><p about=\"#a\" property=\"http://v.example/q\" inlist>ab<b property=\"http://v.example/q\" inlist>c</b></p></body></html>"
+    ("<http://h.example/d#a> <http://v.example/q> _:b0 ."
+    ∷ "_:b0 <http://www.w3.org/1999/02/22-rdf-syntax-ns#first> \"abc\" ."
+    ∷ "_:b0 <http://www.w3.org/1999/02/22-rdf-syntax-ns#rest> _:b1 ."
+    ∷ "_:b1 <http://www.w3.org/1999/02/22-rdf-syntax-ns#first> \"c\" ."
+    ∷ "_:b1 <http://www.w3.org/1999/02/22-rdf-syntax-ns#rest> <http://www.w3.org/1999/02/22-rdf-syntax-ns#nil> ." ∷ [])
+    ∷ row "waiting list" "<html><body><div rel=\"http://v.example/l\" inlist><i property=\"http://v.example/n\">1</i><i property=\"http://v.example/n\">2</i></div></body></html>"
+    ("_:b0 <http://v.example/n> \"1\" ."
+    ∷ "_:b0 <http://v.example/n> \"2\" ."
+    ∷ "<http://h.example/d> <http://v.example/l> _:b1 ."
+    ∷ "_:b1 <http://www.w3.org/1999/02/22-rdf-syntax-ns#first> _:b0 ."
+    ∷ "_:b1 <http://www.w3.org/1999/02/22-rdf-syntax-ns#rest> _:b2 ."
+    ∷ "_:b2 <http://www.w3.org/1999/02/22-rdf-syntax-ns#first> _:b0 ."
+    ∷ "_:b2 <http://www.w3.org/1999/02/22-rdf-syntax-ns#rest> <http://www.w3.org/1999/02/22-rdf-syntax-ns#nil> ." ∷ [])
+    ∷ row "empty list" "<html><body><div rel=\"http://v.example/l\" inlist></div></body></html>"
+    ("<http://h.example/d> <http://v.example/l> <http://www.w3.org/1999/02/22-rdf-syntax-ns#nil> ." ∷ [])
+    ∷ row "list below object" "<html><body><div about=\"#a\" rel=\"http://v.example/r\" resource=\"#b\"><i property=\"http://v.example/q\" inlist>x</i></div></body></html>"
+    ("<http://h.example/d#a> <http://v.example/r> <http://h.example/d#b> ."
+    ∷ "<http://h.example/d#b> <http://v.example/q> _:b0 ."
+    ∷ "_:b0 <http://www.w3.org/1999/02/22-rdf-syntax-ns#first> \"x\" ."
+    ∷ "_:b0 <http://www.w3.org/1999/02/22-rdf-syntax-ns#rest> <http://www.w3.org/1999/02/22-rdf-syntax-ns#nil> ." ∷ [])
+    ∷ row "item by rel" "<html><body><div rel=\"http://v.example/l\" inlist resource=\"#b\"></div></body></html>"
+    ("<http://h.example/d> <http://v.example/l> _:b0 ."
+    ∷ "_:b0 <http://www.w3.org/1999/02/22-rdf-syntax-ns#first> <http://h.example/d#b> ."
+    ∷ "_:b0 <http://www.w3.org/1999/02/22-rdf-syntax-ns#rest> <http://www.w3.org/1999/02/22-rdf-syntax-ns#nil> ." ∷ [])
+    ∷ row "rev beside inlist" "<html><body><div rel=\"http://v.example/l\" rev=\"http://v.example/r\" inlist resource=\"#b\"></div></body></html>"
+    ("<http://h.example/d#b> <http://v.example/r> <http://h.example/d> ."
+    ∷ "<http://h.example/d> <http://v.example/l> _:b0 ."
+    ∷ "_:b0 <http://www.w3.org/1999/02/22-rdf-syntax-ns#first> <http://h.example/d#b> ."
+    ∷ "_:b0 <http://www.w3.org/1999/02/22-rdf-syntax-ns#rest> <http://www.w3.org/1999/02/22-rdf-syntax-ns#nil> ." ∷ [])
+    ∷ row "rev waits beside inlist" "<html><body><div rev=\"http://v.example/r\" inlist><i about=\"#a\"></i></div></body></html>"
+    ("<http://h.example/d#a> <http://v.example/r> <http://h.example/d> ." ∷ [])
+    ∷ row "lists in order of first item"
+    "<html><body><p property=\"http://v.example/q\" inlist content=\"1\"></p><p property=\"http://v.example/l\" inlist content=\"2\"></p><p property=\"http://v.example/q\" inlist content=\"3\"></p></body></html>"
+    ("<http://h.example/d> <http://v.example/q> _:b0 ."
+    ∷ "_:b0 <http://www.w3.org/1999/02/22-rdf-syntax-ns#first> \"1\" ."
+    ∷ "_:b0 <http://www.w3.org/1999/02/22-rdf-syntax-ns#rest> _:b1 ."
+    ∷ "_:b1 <http://www.w3.org/1999/02/22-rdf-syntax-ns#first> \"3\" ."
+    ∷ "_:b1 <http://www.w3.org/1999/02/22-rdf-syntax-ns#rest> <http://www.w3.org/1999/02/22-rdf-syntax-ns#nil> ."
+    ∷ "<http://h.example/d> <http://v.example/l> _:b2 ."
+    ∷ "_:b2 <http://www.w3.org/1999/02/22-rdf-syntax-ns#first> \"2\" ."
+    ∷ "_:b2 <http://www.w3.org/1999/02/22-rdf-syntax-ns#rest> <http://www.w3.org/1999/02/22-rdf-syntax-ns#nil> ." ∷ [])
+    ∷ row "lists end with their element"
+    "<html><body><div about=\"#a\"><i property=\"http://v.example/q\" inlist content=\"1\"></i></div><div about=\"#a\"><i property=\"http://v.example/q\" inlist content=\"2\"></i></div></body></html>"
+    ("<http://h.example/d#a> <http://v.example/q> _:b0 ."
+    ∷ "_:b0 <http://www.w3.org/1999/02/22-rdf-syntax-ns#first> \"1\" ."
+    ∷ "_:b0 <http://www.w3.org/1999/02/22-rdf-syntax-ns#rest> <http://www.w3.org/1999/02/22-rdf-syntax-ns#nil> ."
+    ∷ "<http://h.example/d#a> <http://v.example/q> _:b1 ."
+    ∷ "_:b1 <http://www.w3.org/1999/02/22-rdf-syntax-ns#first> \"2\" ."
+    ∷ "_:b1 <http://www.w3.org/1999/02/22-rdf-syntax-ns#rest> <http://www.w3.org/1999/02/22-rdf-syntax-ns#nil> ." ∷ [])
+    ∷ row "same subject same list"
+    "<html><body><div about=\"#a\"><i about=\"#a\" property=\"http://v.example/q\" inlist content=\"1\"></i><i property=\"http://v.example/q\" inlist content=\"2\"></i></div></body></html>"
+    ("<http://h.example/d#a> <http://v.example/q> _:b0 ."
+    ∷ "_:b0 <http://www.w3.org/1999/02/22-rdf-syntax-ns#first> \"1\" ."
+    ∷ "_:b0 <http://www.w3.org/1999/02/22-rdf-syntax-ns#rest> _:b1 ."
+    ∷ "_:b1 <http://www.w3.org/1999/02/22-rdf-syntax-ns#first> \"2\" ."
+    ∷ "_:b1 <http://www.w3.org/1999/02/22-rdf-syntax-ns#rest> <http://www.w3.org/1999/02/22-rdf-syntax-ns#nil> ." ∷ [])
+    ∷ row "subject that is the object around"
+    "<html><body><div about=\"#a\" rel=\"http://v.example/r\" resource=\"#b\"><i about=\"#b\" property=\"http://v.example/q\" inlist content=\"1\"></i><i property=\"http://v.example/q\" inlist content=\"2\"></i></div></body></html>"
+    ("<http://h.example/d#a> <http://v.example/r> <http://h.example/d#b> ."
+    ∷ "<http://h.example/d#b> <http://v.example/q> _:b0 ."
+    ∷ "_:b0 <http://www.w3.org/1999/02/22-rdf-syntax-ns#first> \"1\" ."
+    ∷ "_:b0 <http://www.w3.org/1999/02/22-rdf-syntax-ns#rest> _:b1 ."
+    ∷ "_:b1 <http://www.w3.org/1999/02/22-rdf-syntax-ns#first> \"2\" ."
+    ∷ "_:b1 <http://www.w3.org/1999/02/22-rdf-syntax-ns#rest> <http://www.w3.org/1999/02/22-rdf-syntax-ns#nil> ." ∷ [])
+    ∷ row "lists of subject and object"
+    "<html><body><div about=\"#a\" rel=\"http://v.example/l\" inlist resource=\"#b\"><i property=\"http://v.example/q\" inlist content=\"1\"></i></div></body></html>"
+    ("<http://h.example/d#b> <http://v.example/q> _:b0 ."
+    ∷ "_:b0 <http://www.w3.org/1999/02/22-rdf-syntax-ns#first> \"1\" ."
+    ∷ "_:b0 <http://www.w3.org/1999/02/22-rdf-syntax-ns#rest> <http://www.w3.org/1999/02/22-rdf-syntax-ns#nil> ."
+    ∷ "<http://h.example/d#a> <http://v.example/l> _:b1 ."
+    ∷ "_:b1 <http://www.w3.org/1999/02/22-rdf-syntax-ns#first> <http://h.example/d#b> ."
+    ∷ "_:b1 <http://www.w3.org/1999/02/22-rdf-syntax-ns#rest> <http://www.w3.org/1999/02/22-rdf-syntax-ns#nil> ." ∷ [])
+    ∷ row "text that waits in two lists" "<html><body><p property=\"http://v.example/q http://v.example/l\" inlist>x</p></body></html>"
+    ("<http://h.example/d> <http://v.example/q> _:b0 ."
+    ∷ "_:b0 <http://www.w3.org/1999/02/22-rdf-syntax-ns#first> \"x\" ."
+    ∷ "_:b0 <http://www.w3.org/1999/02/22-rdf-syntax-ns#rest> <http://www.w3.org/1999/02/22-rdf-syntax-ns#nil> ."
+    ∷ "<http://h.example/d> <http://v.example/l> _:b1 ."
+    ∷ "_:b1 <http://www.w3.org/1999/02/22-rdf-syntax-ns#first> \"x\" ."
+    ∷ "_:b1 <http://www.w3.org/1999/02/22-rdf-syntax-ns#rest> <http://www.w3.org/1999/02/22-rdf-syntax-ns#nil> ." ∷ [])
+    ∷ []
 
-abbrev pub waiting_list : Example
-waiting_list = record {
-  address = here;
-  page = body (
-      tag "div" (("rel", "http://v.example/l") ∷ ("inlist", "") ∷ []) (tag "i" (("property", "http://v.example/n") ∷ []) (chars "1" ∷ []) ∷ tag "i" (("property", "http://v.example/n") ∷ []) (chars "2" ∷ []) ∷ [])
-      ∷ []
-      );
-  triples =
-      says (blank 0) (v "n") (plain "1")
-      ∷ says (blank 0) (v "n") (plain "2")
-      ∷ says (iri "http://h.example/d") (v "l") (at (blank 1))
-      ∷ says (blank 1) rdf_first (at (blank 0))
-      ∷ says (blank 1) rdf_rest (at (blank 2))
-      ∷ says (blank 2) rdf_first (at (blank 0))
-      ∷ says (blank 2) rdf_rest (at nil)
-      ∷ [];
-}
-
-abbrev pub empty_list : Example
-empty_list = record {
-  address = here;
-  page = body (tag "div" (("rel", "http://v.example/l") ∷ ("inlist", "") ∷ []) [] ∷ []);
-  triples = says (iri "http://h.example/d") (v "l") (at nil) ∷ [];
-}
-
-abbrev pub list_below_object : Example
-list_below_object = record {
-  address = here;
-  page = body (
-      tag "div" (("about", "#a") ∷ ("rel", "http://v.example/r") ∷ ("resource", "#b") ∷ []) (tag "i" (("property", "http://v.example/q") ∷ ("inlist", "") ∷ []) (chars "x" ∷ []) ∷ [])
-      ∷ []
-      );
-  triples =
-      says (iri "http://h.example/d#a") (v "r") (at (iri "http://h.example/d#b"))
-      ∷ says (iri "http://h.example/d#b") (v "q") (at (blank 0))
-      ∷ says (blank 0) rdf_first (plain "x")
-      ∷ says (blank 0) rdf_rest (at nil)
-      ∷ [];
-}
-
-abbrev pub item_by_rel : Example
-item_by_rel = record {
-  address = here;
-  page = body (tag "div" (("rel", "http://v.example/l") ∷ ("inlist", "") ∷ ("resource", "#b") ∷ []) [] ∷ []);
-  triples =
-      says (iri "http://h.example/d") (v "l") (at (blank 0))
-      ∷ says (blank 0) rdf_first (at (iri "http://h.example/d#b"))
-      ∷ says (blank 0) rdf_rest (at nil)
-      ∷ [];
-}
-
-abbrev pub rev_beside_inlist : Example
-rev_beside_inlist = record {
-  address = here;
-  page = body (
-      tag "div" (("rel", "http://v.example/l") ∷ ("rev", "http://v.example/r") ∷ ("inlist", "") ∷ ("resource", "#b") ∷ []) []
-      ∷ []
-      );
-  triples =
-      says (iri "http://h.example/d#b") (v "r") (at (iri "http://h.example/d"))
-      ∷ says (iri "http://h.example/d") (v "l") (at (blank 0))
-      ∷ says (blank 0) rdf_first (at (iri "http://h.example/d#b"))
-      ∷ says (blank 0) rdf_rest (at nil)
-      ∷ [];
-}
-
-abbrev pub rev_waits_beside_inlist : Example
-rev_waits_beside_inlist = record {
-  address = here;
-  page = body (tag "div" (("rev", "http://v.example/r") ∷ ("inlist", "") ∷ []) (tag "i" (("about", "#a") ∷ []) [] ∷ []) ∷ []);
-  triples = says (iri "http://h.example/d#a") (v "r") (at (iri "http://h.example/d")) ∷ [];
-}
-
-abbrev pub lists_in_order_of_first_item : Example
-lists_in_order_of_first_item = record {
-  address = here;
-  page = body (
-      tag "p" (("property", "http://v.example/q") ∷ ("inlist", "") ∷ ("content", "1") ∷ []) []
-      ∷ tag "p" (("property", "http://v.example/l") ∷ ("inlist", "") ∷ ("content", "2") ∷ []) []
-      ∷ tag "p" (("property", "http://v.example/q") ∷ ("inlist", "") ∷ ("content", "3") ∷ []) []
-      ∷ []
-      );
-  triples =
-      says (iri "http://h.example/d") (v "q") (at (blank 0))
-      ∷ says (blank 0) rdf_first (plain "1")
-      ∷ says (blank 0) rdf_rest (at (blank 1))
-      ∷ says (blank 1) rdf_first (plain "3")
-      ∷ says (blank 1) rdf_rest (at nil)
-      ∷ says (iri "http://h.example/d") (v "l") (at (blank 2))
-      ∷ says (blank 2) rdf_first (plain "2")
-      ∷ says (blank 2) rdf_rest (at nil)
-      ∷ [];
-}
-
-abbrev pub lists_end_with_their_element : Example
-lists_end_with_their_element = record {
-  address = here;
-  page = body (
-      tag "div" (("about", "#a") ∷ []) (tag "i" (("property", "http://v.example/q") ∷ ("inlist", "") ∷ ("content", "1") ∷ []) [] ∷ [])
-      ∷ tag "div" (("about", "#a") ∷ []) (tag "i" (("property", "http://v.example/q") ∷ ("inlist", "") ∷ ("content", "2") ∷ []) [] ∷ [])
-      ∷ []
-      );
-  triples =
-      says (iri "http://h.example/d#a") (v "q") (at (blank 0))
-      ∷ says (blank 0) rdf_first (plain "1")
-      ∷ says (blank 0) rdf_rest (at nil)
-      ∷ says (iri "http://h.example/d#a") (v "q") (at (blank 1))
-      ∷ says (blank 1) rdf_first (plain "2")
-      ∷ says (blank 1) rdf_rest (at nil)
-      ∷ [];
-}
-
-abbrev pub same_subject_same_list : Example
-same_subject_same_list = record {
-  address = here;
-  page = body (
-      tag "div" (("about", "#a") ∷ []) (tag "i" (("about", "#a") ∷ ("property", "http://v.example/q") ∷ ("inlist", "") ∷ ("content", "1") ∷ []) [] ∷ tag "i" (("property", "http://v.example/q") ∷ ("inlist", "") ∷ ("content", "2") ∷ []) [] ∷ [])
-      ∷ []
-      );
-  triples =
-      says (iri "http://h.example/d#a") (v "q") (at (blank 0))
-      ∷ says (blank 0) rdf_first (plain "1")
-      ∷ says (blank 0) rdf_rest (at (blank 1))
-      ∷ says (blank 1) rdf_first (plain "2")
-      ∷ says (blank 1) rdf_rest (at nil)
-      ∷ [];
-}
-
-abbrev pub subject_that_is_the_object_around : Example
-subject_that_is_the_object_around = record {
-  address = here;
-  page = body (
-      tag "div" (("about", "#a") ∷ ("rel", "http://v.example/r") ∷ ("resource", "#b") ∷ []) (tag "i" (("about", "#b") ∷ ("property", "http://v.example/q") ∷ ("inlist", "") ∷ ("content", "1") ∷ []) [] ∷ tag "i" (("property", "http://v.example/q") ∷ ("inlist", "") ∷ ("content", "2") ∷ []) [] ∷ [])
-      ∷ []
-      );
-  triples =
-      says (iri "http://h.example/d#a") (v "r") (at (iri "http://h.example/d#b"))
-      ∷ says (iri "http://h.example/d#b") (v "q") (at (blank 0))
-      ∷ says (blank 0) rdf_first (plain "1")
-      ∷ says (blank 0) rdf_rest (at (blank 1))
-      ∷ says (blank 1) rdf_first (plain "2")
-      ∷ says (blank 1) rdf_rest (at nil)
-      ∷ [];
-}
-
-abbrev pub lists_of_subject_and_object : Example
-lists_of_subject_and_object = record {
-  address = here;
-  page = body (
-      tag "div" (("about", "#a") ∷ ("rel", "http://v.example/l") ∷ ("inlist", "") ∷ ("resource", "#b") ∷ []) (tag "i" (("property", "http://v.example/q") ∷ ("inlist", "") ∷ ("content", "1") ∷ []) [] ∷ [])
-      ∷ []
-      );
-  triples =
-      says (iri "http://h.example/d#b") (v "q") (at (blank 0))
-      ∷ says (blank 0) rdf_first (plain "1")
-      ∷ says (blank 0) rdf_rest (at nil)
-      ∷ says (iri "http://h.example/d#a") (v "l") (at (blank 1))
-      ∷ says (blank 1) rdf_first (at (iri "http://h.example/d#b"))
-      ∷ says (blank 1) rdf_rest (at nil)
-      ∷ [];
-}
-
-abbrev pub text_that_waits_in_two_lists : Example
-text_that_waits_in_two_lists = record {
-  address = here;
-  page = body (tag "p" (("property", "http://v.example/q http://v.example/l") ∷ ("inlist", "") ∷ []) (chars "x" ∷ []) ∷ []);
-  triples =
-      says (iri "http://h.example/d") (v "q") (at (blank 0))
-      ∷ says (blank 0) rdf_first (plain "x")
-      ∷ says (blank 0) rdf_rest (at nil)
-      ∷ says (iri "http://h.example/d") (v "l") (at (blank 1))
-      ∷ says (blank 1) rdf_first (plain "x")
-      ∷ says (blank 1) rdf_rest (at nil)
-      ∷ [];
-}
+abbrev pub InlistHold : Type 0
+InlistHold = wrong (triples_text here) rows ≡ []

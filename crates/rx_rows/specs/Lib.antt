@@ -5,6 +5,10 @@ pub mod Words
 pub mod Values
 pub mod Inlist
 pub mod Patterns
-pub mod Hold
 pub mod Forms
 pub mod Refused
+pub mod Items
+pub mod Limits
+pub mod Many
+pub mod Trees
+pub mod Attributes

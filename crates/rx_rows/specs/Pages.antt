@@ -1,83 +1,106 @@
--- How the pages of examples are written, and what is written of them.
-use Rattle.std.specs.Prelude.{◌≡◌, ℕ, List, [], ◌∷◌, ◌++◌, map, codes}
-use Rattle.rx_rdfa.specs.Common.{String, Chars, Node, Iri, Blank, Term, Resource, Literal, Plain, Tagged, Typed, Triple, spo, rdf_nil, standard, row_of, with_facts, base_of, written}
-use Rattle.rx_refs.specs.Parts.{components_of}
-use Rattle.rx_refs.specs.Dots.{step, without_dots}
-use Rattle.rx_refs.specs.Resolve.{target, resolved}
-use Rattle.rx_rdfa.specs.Tree.{Tag, Nodes, end, element, text}
+-- How the pages of worked rows are read, and the text that is right for each.
+use Rattle.std.specs.Prelude.{ℕ, List, [], ◌∷◌, ◌++◌, None, Result, Ok, Err, codes, flat_map, bytes_eq, encode_utf8_all, if◌then◌else◌}
+use Rattle.rx_terms.specs.Common.{decimal, String, Chars}
+use Rattle.rx_chars.specs.Named.{named_table}
+use Rattle.rx_grammar.specs.Kinds.{kind_name}
+use Rattle.rx_grammar.specs.declared.limits.Limits.{Limits}
+use Rattle.rx_grammar.specs.declared.faults.Fault.{Fault}
+use Rattle.rx_grammar.specs.Common.{Syntax, Html, StartTag, Tree, end, element, text}
+use Rattle.rx_rdfa.specs.Common.{standard, with_facts, base_of, written}
+use Rattle.rx_rdfa.specs.Tree.{Tag, Nodes}
+use Rattle.rx_rdfa.specs.Pages.{tags_of}
 use Rattle.rx_rdfa.specs.Resources.{resources}
 use Rattle.rx_rdfa.specs.Inherited.{below}
 use Rattle.rx_rdfa.specs.Times.{time_kind}
-use Rattle.rx_rdfa.specs.Element.{start_of, end_of}
+use Rattle.rx_rdfa.specs.Element.{start_of, end_of as element_end}
 use Rattle.rx_rdfa.specs.Lists.{entries_at, cells}
+use Rattle.rx_pages.specs.Nesting.{told_trees}
+use Rattle.rx_pages.specs.PageReader.{Progress, page_read, end_of}
+use Rattle.rx_refs.specs.Parts.{components_of}
+use Rattle.rx_refs.specs.Dots.{step, without_dots}
+use Rattle.rx_refs.specs.Resolve.{target, resolved}
+use Rattle.rx_microdata.specs.Visits.{Bounds}
+use Rattle.rx_microdata.specs.Json.{Outcome, Given, Refused, outcome}
+use Rattle.rx_nquads.specs.Writing.{nquads}
+use Rattle.json.specs.Print.{escape_byte}
+use Rattle.serde_json.specs.Written.{compact_text}
+use Rattle.std.specs.Fmt.{digits}
+use lib.Utf8.{encode}
 
--- a piece of a page, to be put in front of what follows it
-abbrev pub Piece : Type 0
-Piece = Nodes Tag → Nodes Tag
+-- 512 levels, tags of 1 MiB, pages of 1 GiB
+abbrev pub limits : Limits
+limits = record { depth = 512; tag = 1048576; page = 1073741824 }
 
-abbrev pub in_row : List Piece → Piece
-in_row [] rest = rest
-in_row (piece ∷ more) rest = piece (in_row more rest)
+abbrev pub first_tree : List Tree → Tree
+first_tree [] = end
+first_tree (tree ∷ trees) = tree
 
--- a run of text
-abbrev pub chars : String → Piece
-chars run rest = text (codes run) rest
+-- the page's tree, and nothing where it is refused
+abbrev pub tree_told : Result Progress Fault → Tree
+tree_told (Ok progress) = first_tree (told_trees progress.told)
+tree_told (Err fault) = end
 
--- an element: its name, its attributes, and what is inside
-abbrev pub tag : String → List (String × String) → List Piece → Piece
-tag name attributes inside rest =
-    element (record { name = codes name; attributes = map row_of attributes }) (in_row inside end) rest
+abbrev pub refused_text : Fault → List ℕ
+refused_text fault = codes "refused: " ++ kind_name fault.kind ++ codes " at byte " ++ decimal fault.at ++ codes " in token " ++ decimal fault.token ++ codes "\n"
 
--- the page of one root
-abbrev pub page : Piece → Nodes Tag
-page root = root end
+-- a start tag with its attributes' values, in brackets
+abbrev pub tag_text : StartTag → Chars
+tag_text t =
+    codes "[" ++ t.name ++ flat_map (λ (a : Chars × Chars). codes " " ++ a.0 ++ codes "=" ++ a.1) t.attributes ++ (if t.slash then codes "/]" else codes "]")
 
--- the page with these pieces in its body
-abbrev pub body : List Piece → Nodes Tag
-body inside = page (tag "html" [] (tag "body" [] inside ∷ []))
+-- elements, each ended by a slash, and the text between
+abbrev pub nodes_text : Tree → Chars
+nodes_text end = []
+nodes_text (element t inside rest) = tag_text t ++ nodes_text inside ++ codes "/" ++ nodes_text rest
+nodes_text (text chars rest) = chars ++ nodes_text rest
+
+abbrev pub told_text : Result Progress Fault → List ℕ
+told_text (Ok progress) = encode_utf8_all (nodes_text (first_tree (told_trees progress.told))) ++ codes "\n"
+told_text (Err fault) = refused_text fault
+
+-- what a page is read as: its tree, or its fault
+unfoldable pub tree_text : Syntax → Limits → List ℕ → List ℕ
+unfolding encode digits named_table
+tree_text syntax limits page = told_text (end_of (page_read syntax limits page))
+
+-- the tree of a page in HTML
+abbrev pub tree_of : Chars → Tree
+tree_of page = tree_told (end_of (page_read Html limits (encode_utf8_all page)))
 
 -- the address of a page that names no other
 abbrev pub here : Chars
 here = codes "http://h.example/d"
 
--- the predicates of the examples' own vocabulary
-abbrev pub v : String → Chars
-v name = codes "http://v.example/" ++ codes name
+abbrev pub triples_of : Chars → Nodes Tag → Chars
+triples_of address tree = nquads (written (base_of tree address) (with_facts standard [] tree)) None
 
--- the triples that are written of a page at an address
-unfoldable pub graph : Chars → Nodes Tag → List (Triple ℕ)
-unfolding time_kind components_of step without_dots target resolved resources below start_of end_of entries_at cells
-graph address tree = written (base_of tree address) (with_facts standard [] tree)
+-- the N-Quads of what is written of a page at an address, in order
+unfoldable pub triples_text : Chars → Chars → List ℕ
+unfolding encode digits named_table time_kind components_of step without_dots target resolved resources below start_of element_end entries_at cells
+triples_text address page = encode_utf8_all (triples_of address (tags_of (tree_of page)))
 
--- a page with the triples that are to be written of it, in order
-pub record Example : Type 0 where
-  pub address : Chars
-  pub page : Nodes Tag
-  pub triples : List (Triple ℕ)
+abbrev pub outcome_text : Outcome → List ℕ
+outcome_text (Given value) = compact_text value ++ codes "\n"
+outcome_text (Refused fault) = refused_text fault
 
-abbrev pub Holds : Example → Type 0
-Holds example = graph example.address example.page ≡ example.triples
+-- the JSON of a page's items, or its fault
+unfoldable pub items_text : Bounds → Chars → List ℕ
+unfolding encode digits named_table components_of step without_dots target resolved escape_byte
+items_text bounds page = outcome_text (outcome bounds here (tree_of page))
 
-abbrev pub iri : String → Node ℕ
-iri characters = Iri (codes characters)
+-- a row: its name, a page, and the lines of the text that is right for it
+pub record Row : Type 0 where
+  pub name : String
+  pub page : String
+  pub lines : List String
 
-abbrev pub nil : Node ℕ
-nil = Iri rdf_nil
+abbrev pub row : String → String → List String → Row
+row name page lines = record { name = name; page = page; lines = lines }
 
-abbrev pub blank : ℕ → Node ℕ
-blank number = Blank number
+abbrev pub text_of_lines : List String → List ℕ
+text_of_lines lines = flat_map (λ line. encode_utf8_all (codes line) ++ codes "\n") lines
 
-abbrev pub at : Node ℕ → Term ℕ
-at node = Resource node
-
-abbrev pub plain : String → Term ℕ
-plain lexical = Literal (codes lexical) Plain
-
-abbrev pub tagged : String → String → Term ℕ
-tagged lexical lang = Literal (codes lexical) (Tagged (codes lang))
-
-abbrev pub typed : String → String → Term ℕ
-typed lexical datatype = Literal (codes lexical) (Typed (codes datatype))
-
-abbrev pub says : Node ℕ → Chars → Term ℕ → Triple ℕ
-says subject predicate object = spo subject predicate object
+-- the names of the rows that have another text
+abbrev pub wrong : (Chars → List ℕ) → List Row → List String
+wrong text_of [] = []
+wrong text_of (r ∷ rows) = if bytes_eq (text_of (codes r.page)) (text_of_lines r.lines) then wrong text_of rows else r.name ∷ wrong text_of rows

@@ -58,21 +58,9 @@ fn answer<'a>(names: &'a Names, question: Question<'_>) -> &'a str {
 
 /// Lines of tags, each behind its `<`, and what is known below the last one.
 const LINES: &[(&[u8], Question<'static>, &str)] = &[
-    (b"", Question::Prefix("e"), "none"),
     (b"", Question::Prefix("DC"), "http://purl.org/dc/terms/"),
     (b"", Question::Vocab, "none"),
     (b"", Question::Lang, "none"),
-    (
-        b"div prefix='e: http://v.example/'>",
-        Question::Prefix("e"),
-        "http://v.example/",
-    ),
-    // the last of a tag, the nearest of a line
-    (
-        b"p prefix='E: a:b e: c:d f-1: i:j'>",
-        Question::Prefix("e"),
-        "c:d",
-    ),
     (
         b"p prefix='f-1: i:j'>b prefix='F-1:\t x:y \n z'>i>",
         Question::Prefix("F-1"),
@@ -83,49 +71,15 @@ const LINES: &[(&[u8], Question<'static>, &str)] = &[
         Question::Prefix("e"),
         "c:d",
     ),
-    (b"p xmlns:E=' a:b '>", Question::Prefix("e"), "a:b"),
-    (
-        b"p prefix='e: a:b'>b xmlns:e='c:d'>",
-        Question::Prefix("E"),
-        "c:d",
-    ),
-    (b"p prefix='dc: i:j'>", Question::Prefix("Dc"), "i:j"),
-    // what doesn't count
-    (b"p prefix='_: a:b'>", Question::Prefix("_"), "none"),
-    (b"b xmlns:_='a:b'>", Question::Prefix("_"), "none"),
-    (b"p prefix='1: a:b'>", Question::Prefix("1"), "none"),
-    (b"p prefix='e: nothing'>", Question::Prefix("e"), "none"),
-    (
-        b"p prefix='e: a:b'>b prefix='e: nothing'>",
-        Question::Prefix("e"),
-        "a:b",
-    ),
-    (b"p prefix='e: : f: x:y'>", Question::Prefix("e"), "none"),
-    (b"p prefix='e: : f: x:y'>", Question::Prefix("f"), "x:y"),
-    (b"p prefix='x e: a:b'>", Question::Prefix("e"), "a:b"),
-    (b"p prefix='e:'>", Question::Prefix("e"), "none"),
-    (b"p prefix=''>", Question::Prefix("e"), "none"),
-    (b"b xmlns:='c:d'>", Question::Prefix(""), "none"),
-    (b"b xmlnse='e:f'>", Question::Prefix("e"), "none"),
     (b"p vocab=' a/ '>b>", Question::Vocab, "a/"),
     (b"p vocab=' a/ '>b vocab=' '>i>", Question::Vocab, "none"),
-    (b"p lang=de>i>", Question::Lang, "de"),
     (b"i lang='en-GB' xml:lang='en'>", Question::Lang, "en"),
-    (b"p lang=de>b lang=''>", Question::Lang, "none"),
-    (b"p lang=de>b lang=' en '>", Question::Lang, "none"),
-    (b"p lang=de>b lang=en xml:lang=1>i>", Question::Lang, "none"),
-    (
-        b"",
-        Question::Term("license"),
-        "http://www.w3.org/1999/xhtml/vocab#license",
-    ),
     (
         b"p vocab='v:'>",
         Question::Term("LICENSE"),
         "http://www.w3.org/1999/xhtml/vocab#license",
     ),
     (b"", Question::Term("licens"), "none"),
-    (b"", Question::Term("cc"), "none"),
 ];
 
 #[test]

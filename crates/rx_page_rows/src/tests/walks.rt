@@ -8,9 +8,10 @@ use rx_walk::{Fault, Inherited, Kind, Limits, Stop, Syntax, Walk};
 use std::alloc::Global;
 use std::process::Abort;
 
-fn start(rt: &impl Abort, alloc: Global, limits: Limits) -> Walk {
+fn start(rt: &impl Abort, alloc: Global) -> Walk {
     let context = Context::standard(alloc).expect(rt, "memory");
     let address = iri(rt, alloc, "http://h.example/d");
+    let limits = Limits::standard();
     Walk::new(alloc, Syntax::Html, context, address, limits).expect(rt, "memory")
 }
 
@@ -22,9 +23,9 @@ fn feed(walk: &mut Walk, page: &[u8], size: usize) -> Result<(), Stop> {
 }
 
 // The number of a page's triples, or its fault.
-fn read(rt: &impl Abort, alloc: Global, limits: Limits, page: &[u8], size: usize) -> String {
+fn read(rt: &impl Abort, alloc: Global, page: &[u8], size: usize) -> String {
     let mut out = String::new(alloc);
-    let mut walk = start(rt, alloc, limits);
+    let mut walk = start(rt, alloc);
     if let Err(stop) = feed(&mut walk, page, size) {
         drop(walk);
         show_stop(rt, &mut out, stop);
@@ -43,15 +44,14 @@ fn read(rt: &impl Abort, alloc: Global, limits: Limits, page: &[u8], size: usize
 
 const SIZES: &[usize] = &[1, 2, 3, 7, 9999];
 
-fn check_page(rt: &impl Abort, alloc: Global, limits: Limits, page: &[u8], expected: &str) {
+fn check_page(rt: &impl Abort, alloc: Global, page: &[u8], expected: &str) {
     for size in SIZES {
-        let found = read(rt, alloc, limits, page, *size);
+        let found = read(rt, alloc, page, *size);
         check_told(rt, found.as_str().trim_start(), expected, *size);
     }
 }
 
 const PAGES: &[(&[u8], &str)] = &[
-    (b"<html></html>", "0"),
     (
         b"<html><body><p about=\"http://h.example/s\" property=\"http://v.example/p\">Hi</p></body></html>",
         "1",
@@ -88,42 +88,12 @@ const PAGES: &[(&[u8], &str)] = &[
         b"<html><body><p about=\"#\xC3\xA9\" property=\"http://v.example/p\">\xC3\xA9&eacute;\r\n</p><script></scr</script></body></html>",
         "1",
     ),
-    (b"<html><i>x</b></i></html>", "Mismatch 10 13"),
-    (b"<html><body><p about", "Unended 12 20"),
-    (b"<html vocab=\"terms/\">", "RelativeVocab 0 20"),
-    (b"<html vocab=\"terms/\"></b>", "RelativeVocab 0 20"),
-    (
-        b"<html><p property=\"dc:title\" datatype=\"rdf:XMLLiteral\">",
-        "XmlLiteral 6 54",
-    ),
-    (
-        b"<html><p property=\"dc:title\" datatype=\"rdf:HTML\">",
-        "HtmlLiteral 6 48",
-    ),
-];
-
-// Limits of depth, in levels, and of a tag and a page, in bytes; and what a page comes to that meets them or passes one.
-const LIMITED: &[(u32, u64, u64, &[u8], &str)] = &[
-    (2, 1_048_576, 1_073_741_824, b"<html><b><i>", "TooDeep 9 11"),
-    (2, 1_048_576, 1_073_741_824, b"<html><b></b></html>", "0"),
-    (512, 6, 1_073_741_824, b"<html></html>", "TagTooLong 6 12"),
-    (512, 7, 1_073_741_824, b"<html></html>", "0"),
-    (512, 1_048_576, 12, b"<html></html>", "PageTooLong 6 12"),
-    (512, 1_048_576, 13, b"<html></html>", "0"),
 ];
 
 #[test]
 fn pages_in_pieces(rt: HostRuntime) {
     for (page, expected) in PAGES {
-        check_page(&rt, rt.alloc(), Limits::standard(), *page, *expected);
-    }
-    for (depth, tag, size, page, expected) in LIMITED {
-        let limits = Limits {
-            depth: *depth,
-            tag: *tag,
-            page: *size,
-        };
-        check_page(&rt, rt.alloc(), limits, *page, *expected);
+        check_page(&rt, rt.alloc(), *page, *expected);
     }
 }
 
@@ -132,7 +102,7 @@ const WITH_A_BASE: &[u8] =
 
 #[test]
 fn base_of_the_page(rt: HostRuntime) {
-    let mut walk = start(&rt, rt.alloc(), Limits::standard());
+    let mut walk = start(&rt, rt.alloc());
     assert!(rt; feed(&mut walk, WITH_A_BASE, 7).is_ok());
     let triples = walk.finish().expect(&rt, "a list");
     assert!(rt; triples.len() == 2 && text_of(&triples.at(0).subject) == "http://o.example/x");
@@ -158,7 +128,7 @@ fn is_shown(shown: &Inherited<'_>) -> bool {
 /// The context of an open element. A page without declarations keeps none.
 #[test]
 fn contexts_of_open_elements(rt: HostRuntime) {
-    let mut walk = start(&rt, rt.alloc(), Limits::standard());
+    let mut walk = start(&rt, rt.alloc());
     assert!(rt; walk.feed(b"<html>") == Ok(()) && walk.depth() == 1);
     assert!(rt; walk.inherited().is_none() && walk.rows() == 0);
     let more = b"<body><div about=\"#a\" rel=\"http://v.example/p\">";
@@ -171,7 +141,7 @@ fn contexts_of_open_elements(rt: HostRuntime) {
 
 #[test]
 fn names_of_open_elements(rt: HostRuntime) {
-    let mut walk = start(&rt, rt.alloc(), Limits::standard());
+    let mut walk = start(&rt, rt.alloc());
     let page =
         b"<html prefix=\"e: http://v.example/ f: http://v.example/\"><body lang=\"en\"><p>x</p>";
     assert!(rt; walk.feed(page) == Ok(()) && walk.depth() == 2 && walk.rows() == 3);
@@ -197,7 +167,7 @@ fn is_over(walk: &Walk) -> bool {
 #[test]
 fn a_fault_comes_again(rt: HostRuntime) {
     for is_fed_again in [false, true] {
-        let mut walk = start(&rt, rt.alloc(), Limits::standard());
+        let mut walk = start(&rt, rt.alloc());
         assert!(rt; is_refused(&mut walk, b"<html><i>x</b></i></html>"));
         assert!(rt; !is_fed_again || is_refused(&mut walk, b"x"));
         assert!(rt; is_over(&walk));

@@ -1,5 +1,7 @@
+use Rattle.std.proofs.Common.{refl}
+use Rattle.rx_rows.specs.Refused.{refused}
 use Rattle.rx_rows.proofs.refusals_hold.Goals as goal
-use Rattle.rx_rows.proofs.Refused.{examples}
 
 pub returns : goal.returns
-returns c = examples
+unfolding refused
+returns c = record { relative_vocabulary = refl; empty_vocabulary = refl; absolute_vocabulary = refl; html_literal = refl; xml_literal = refl; datatype_without_property = refl; vocabulary_first = refl; by_vocabulary = refl; other_prefix = refl }

@@ -11,8 +11,6 @@ const REST: &str = "http://www.w3.org/1999/02/22-rdf-syntax-ns#rest";
 
 const NIL: &str = "http://www.w3.org/1999/02/22-rdf-syntax-ns#nil";
 
-const TYPE: &str = "http://www.w3.org/1999/02/22-rdf-syntax-ns#type";
-
 const PAGE: Subject = Subject::Iri("http://h.example/d#a");
 
 const LIST: &[Row] = &[
@@ -25,15 +23,6 @@ const LIST: &[Row] = &[
 
 const LIST_TEXT: &str =
     "[{\"@id\":\"http://h.example/d#a\",\"http://v.example/q\":[{\"@list\":[{\"@value\":\"abc\"},{\"@value\":\"c\"}]}]}]";
-
-const EMPTY: &[Row] = &[(
-    Subject::Iri("http://h.example/d"),
-    "http://v.example/l",
-    Object::Iri(NIL),
-)];
-
-const EMPTY_TEXT: &str =
-    "[{\"@id\":\"http://h.example/d\",\"http://v.example/l\":[{\"@list\":[]}]}]";
 
 /// Literals of each kind, with keys out of order, and characters beyond ASCII.
 const LITERALS: &[Row] = &[
@@ -59,36 +48,7 @@ const LITERALS: &[Row] = &[
 const LITERALS_TEXT: &str =
     "[{\"@id\":\"http://h.example/d#a\",\"http://v.example/p\":[{\"@language\":\"de\",\"@value\":\"x\"}],\"http://v.example/r\":[{\"@type\":\"http://www.w3.org/2001/XMLSchema#int\",\"@value\":\"7\"}],\"http://v.example/s\":[{\"@value\":\"z\u{e9}\u{1f600}\\\"\\n\"},{\"@value\":\"y\"}],\"http://v.example/\u{e9}\":[{\"@id\":\"http://v.example/\u{e9}\"}]}]";
 
-const BLANKS: &[Row] = &[
-    (Subject::Blank(0), "http://v.example/p", Object::Plain("x")),
-    (Subject::Blank(1), TYPE, Object::Iri("http://v.example/T")),
-];
-
-const BLANKS_TEXT: &str =
-    "[{\"@id\":\"_:b0\",\"http://v.example/p\":[{\"@value\":\"x\"}]},{\"@id\":\"_:b1\",\"@type\":[\"http://v.example/T\"]}]";
-
-/// A list as a type is written by its cells.
-const TYPED_BY_A_LIST: &[Row] = &[
-    (PAGE, TYPE, Object::Blank(0)),
-    (
-        Subject::Blank(0),
-        FIRST,
-        Object::Iri("http://h.example/d#x"),
-    ),
-    (Subject::Blank(0), REST, Object::Iri(NIL)),
-];
-
-const TYPED_BY_A_LIST_TEXT: &str =
-    "[{\"@id\":\"http://h.example/d#a\",\"@type\":[\"_:b0\"]},{\"@id\":\"_:b0\",\"http://www.w3.org/1999/02/22-rdf-syntax-ns#first\":[{\"@id\":\"http://h.example/d#x\"}],\"http://www.w3.org/1999/02/22-rdf-syntax-ns#rest\":[{\"@id\":\"http://www.w3.org/1999/02/22-rdf-syntax-ns#nil\"}]}]";
-
-const GRAPHS: &[(&[Row], &str)] = &[
-    (&[], "[]"),
-    (LIST, LIST_TEXT),
-    (EMPTY, EMPTY_TEXT),
-    (LITERALS, LITERALS_TEXT),
-    (BLANKS, BLANKS_TEXT),
-    (TYPED_BY_A_LIST, TYPED_BY_A_LIST_TEXT),
-];
+const GRAPHS: &[(&[Row], &str)] = &[(LIST, LIST_TEXT), (LITERALS, LITERALS_TEXT)];
 
 fn check(rt: &impl Abort, alloc: Global, rows: &[Row], wanted: &str) {
     let graph = graph_of(rt, alloc, rows);

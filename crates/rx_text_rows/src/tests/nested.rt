@@ -65,41 +65,6 @@ const PRODUCT: &[Row] = &[
 const PRODUCT_TEXT: &str =
     "@prefix rdfa: <http://www.w3.org/ns/rdfa#> .\n@prefix schema: <http://schema.org/> .\n\n<http://shop.example/anvil> rdfa:usesVocabulary <http://schema.org/> ;\n    a schema:Product ;\n    schema:name \"Anvil\"@en ;\n    schema:image <http://shop.example/anvil.jpg> ;\n    schema:offers [ a schema:Offer ; schema:priceCurrency \"USD\"@en ; schema:price \"119.99\"@en ; schema:availability schema:InStock ] .\n";
 
-const LIST: &[Row] = &[
-    (
-        Subject::Iri("http://h.example/d#a"),
-        "http://v.example/q",
-        Object::Blank(0),
-    ),
-    (Subject::Blank(0), FIRST, Object::Plain("abc")),
-    (Subject::Blank(0), REST, Object::Blank(1)),
-    (Subject::Blank(1), FIRST, Object::Plain("c")),
-    (Subject::Blank(1), REST, Object::Iri(NIL)),
-];
-
-const LIST_TEXT: &str = "<http://h.example/d#a> <http://v.example/q> ( \"abc\" \"c\" ) .\n";
-
-const EMPTY_LIST: &[Row] = &[(PAGE, LIKES, Object::Iri(NIL))];
-
-const EMPTY_LIST_TEXT: &str = "<http://h.example/d> <http://v.example/l> () .\n";
-
-/// An item that stands twice in a list.
-const SHARED: &[Row] = &[
-    (Subject::Blank(0), "http://v.example/n", Object::Plain("1")),
-    (Subject::Blank(0), "http://v.example/n", Object::Plain("2")),
-    (PAGE, LIKES, Object::Blank(1)),
-    (Subject::Blank(1), FIRST, Object::Blank(0)),
-    (Subject::Blank(1), REST, Object::Blank(2)),
-    (Subject::Blank(2), FIRST, Object::Blank(0)),
-    (Subject::Blank(2), REST, Object::Iri(NIL)),
-];
-
-/// A node of two triples has a label.
-const SHARED_TEXT: &str =
-    "_:b0 <http://v.example/n> \"1\" , \"2\" .\n<http://h.example/d> <http://v.example/l> ( _:b0 _:b0 ) .\n";
-
-const OF_ITSELF: &[Row] = &[(Subject::Blank(0), "http://v.example/p", Object::Blank(0))];
-
 /// A cycle of three nodes with one parent each, and one that hangs from it.
 const CYCLE: &[Row] = &[
     (Subject::Blank(0), KNOWS, Object::Blank(1)),
@@ -127,45 +92,11 @@ const LISTS: &[Row] = &[
 const LISTS_TEXT: &str =
     "<http://h.example/d> <http://v.example/k> ( ( [ <http://v.example/k> [] ] ) () ) .\n";
 
-/// A cell of which something more is said, and one before it.
-const MORE: &[Row] = &[
-    (PAGE, KNOWS, Object::Blank(0)),
-    (Subject::Blank(0), FIRST, Object::Plain("a")),
-    (Subject::Blank(0), REST, Object::Blank(1)),
-    (Subject::Blank(1), FIRST, Object::Plain("b")),
-    (Subject::Blank(1), REST, Object::Iri(NIL)),
-    (Subject::Blank(1), LIKES, Object::Plain("c")),
-];
-
-/// A cell of three triples is none.
-const MORE_TEXT: &str =
-    "@prefix rdf: <http://www.w3.org/1999/02/22-rdf-syntax-ns#> .\n\n<http://h.example/d> <http://v.example/k> [ rdf:first \"a\" ; rdf:rest [ rdf:first \"b\" ; rdf:rest () ; <http://v.example/l> \"c\" ] ] .\n";
-
-/// The empty list as a subject.
-const ABOUT_NIL: &[Row] = &[
-    (Subject::Iri(NIL), KNOWS, Object::Blank(0)),
-    (
-        PAGE,
-        KNOWS,
-        Object::Typed("7", "http://www.w3.org/2001/XMLSchema#int"),
-    ),
-];
-
-const ABOUT_NIL_TEXT: &str =
-    "@prefix rdf: <http://www.w3.org/1999/02/22-rdf-syntax-ns#> .\n@prefix xsd: <http://www.w3.org/2001/XMLSchema#> .\n\nrdf:nil <http://v.example/k> [] .\n<http://h.example/d> <http://v.example/k> \"7\"^^xsd:int .\n";
-
 /// Triples, and their graph's text under the standard context.
 const GRAPHS: &[(&[Row], &str)] = &[
     (PRODUCT, PRODUCT_TEXT),
-    (&[], ""),
-    (LIST, LIST_TEXT),
-    (EMPTY_LIST, EMPTY_LIST_TEXT),
-    (SHARED, SHARED_TEXT),
-    (OF_ITSELF, "_:b0 <http://v.example/p> _:b0 .\n"),
     (CYCLE, CYCLE_TEXT),
     (LISTS, LISTS_TEXT),
-    (MORE, MORE_TEXT),
-    (ABOUT_NIL, ABOUT_NIL_TEXT),
 ];
 
 fn check(rt: &impl Abort, alloc: Global, rows: &[Row], context: &Context, wanted: &str) {

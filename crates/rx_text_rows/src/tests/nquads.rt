@@ -114,27 +114,6 @@ const PATTERNS: &[Row] = &[
 const COPIED: &str =
     "<http://h.example/d#s> <http://www.w3.org/1999/02/22-rdf-syntax-ns#type> <http://v.example/T> .\n<http://h.example/d#s> <http://v.example/p> \"1\" .\n<http://h.example/d#s> <http://v.example/q> \"2\" .\n";
 
-/// The two patterns alone.
-const PATTERN_CIRCLE: &[Row] = &[
-    (A, TYPE, Object::Iri(PATTERN)),
-    (A, "http://v.example/p", Object::Plain("1")),
-    (A, COPY, Object::Iri("http://h.example/d#b")),
-    (B, TYPE, Object::Iri(PATTERN)),
-    (B, "http://v.example/q", Object::Plain("2")),
-    (B, COPY, Object::Iri("http://h.example/d#a")),
-];
-
-const NO_PATTERN: &[Row] = &[(
-    Subject::Iri("http://h.example/d"),
-    COPY,
-    Object::Iri("http://h.example/d#a"),
-)];
-
-const BLANKS: &[Row] = &[
-    (Subject::Blank(7), "http://v.example/p", Object::Plain("x")),
-    (Subject::Blank(0), TYPE, Object::Iri("http://v.example/T")),
-];
-
 const QUAD: &[Row] = &[(
     Subject::Iri("http://h.example/s"),
     "http://v.example/p",
@@ -171,12 +150,6 @@ const REPEATS: &[Row] = &[
 const REPEATS_TEXT: &str =
     "_:b0 <http://v.example/p> \"c\" .\n_:b0 <http://v.example/p> \"a\" .\n_:b0 <http://v.example/p> \"b\" .\n_:b0 <http://v.example/p> \"d\" .\n";
 
-const BLANKS_TEXT: &str =
-    "_:b0 <http://v.example/p> \"x\" .\n_:b1 <http://www.w3.org/1999/02/22-rdf-syntax-ns#type> <http://v.example/T> .\n";
-
-const NO_PATTERN_TEXT: &str =
-    "<http://h.example/d> <http://www.w3.org/ns/rdfa#copy> <http://h.example/d#a> .\n";
-
 const QUAD_TEXT: &str = "<http://h.example/s> <http://v.example/p> \"Hi\" <http://g.example/> .\n";
 
 /// The graph of the rows as they are.
@@ -195,9 +168,6 @@ pub(crate) fn check_text(rt: &impl Abort, text: &[u8], wanted: &str) {
 /// Triples, whether their graph has a name, and its text.
 const GRAPHS: &[(&[Row], bool, &str)] = &[
     (PATTERNS, false, COPIED),
-    (PATTERN_CIRCLE, false, ""),
-    (NO_PATTERN, false, NO_PATTERN_TEXT),
-    (BLANKS, false, BLANKS_TEXT),
     (QUAD, true, QUAD_TEXT),
     (LITERALS, false, LITERALS_TEXT),
     (REPEATS, false, REPEATS_TEXT),

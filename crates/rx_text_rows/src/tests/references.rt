@@ -1,4 +1,4 @@
-//! The examples of RFC 3986, section 5.4, and some of our own rules, through the code.
+//! Each call once.
 use crate::tests::nquads::{check_text, iri};
 use rx_refs::{clean, has_scheme, resolve, split, without_fragment};
 use rx_terms::Iri;
@@ -9,50 +9,8 @@ const BASE: &str = "http://a/b/c/d;p?q";
 
 const ROWS: &[(&str, &str)] = &[
     ("g:h", "g:h"),
-    ("g", "http://a/b/c/g"),
-    ("./g", "http://a/b/c/g"),
-    ("g/", "http://a/b/c/g/"),
-    ("/g", "http://a/g"),
-    ("//g", "http://g"),
-    ("?y", "http://a/b/c/d;p?y"),
-    ("g?y", "http://a/b/c/g?y"),
-    ("#s", "http://a/b/c/d;p?q#s"),
-    ("g#s", "http://a/b/c/g#s"),
-    ("g?y#s", "http://a/b/c/g?y#s"),
-    (";x", "http://a/b/c/;x"),
-    ("g;x", "http://a/b/c/g;x"),
-    ("g;x?y#s", "http://a/b/c/g;x?y#s"),
-    ("", "http://a/b/c/d;p?q"),
-    (".", "http://a/b/c/"),
-    ("./", "http://a/b/c/"),
-    ("..", "http://a/b/"),
-    ("../", "http://a/b/"),
-    ("../g", "http://a/b/g"),
-    ("../..", "http://a/"),
-    ("../../", "http://a/"),
-    ("../../g", "http://a/g"),
-    ("../../../g", "http://a/g"),
-    ("../../../../g", "http://a/g"),
-    ("/./g", "http://a/g"),
-    ("/../g", "http://a/g"),
-    ("g.", "http://a/b/c/g."),
-    (".g", "http://a/b/c/.g"),
-    ("g..", "http://a/b/c/g.."),
-    ("..g", "http://a/b/c/..g"),
-    ("./../g", "http://a/b/g"),
-    ("./g/.", "http://a/b/c/g/"),
-    ("g/./h", "http://a/b/c/g/h"),
-    ("g/../h", "http://a/b/c/h"),
-    ("g;x=1/./y", "http://a/b/c/g;x=1/y"),
-    ("g;x=1/../y", "http://a/b/c/y"),
-    ("g?y/./x", "http://a/b/c/g?y/./x"),
-    ("g?y/../x", "http://a/b/c/g?y/../x"),
-    ("g#s/./x", "http://a/b/c/g#s/./x"),
-    ("g#s/../x", "http://a/b/c/g#s/../x"),
-    ("http:g", "http:g"),
+    ("../g?y#s", "http://a/b/g?y#s"),
     (" a b ", "http://a/b/c/a%20b"),
-    ("\té<", "http://a/b/c/é%3C"),
-    ("1:g", "http://a/b/c/1:g"),
 ];
 
 fn check(rt: &impl Abort, alloc: Global, base: &Iri, reference: &str, meaning: &str) {

@@ -55,19 +55,6 @@ const PRODUCT: &[Row] = &[
 const PRODUCT_TEXT: &str =
     "@prefix rdfa: <http://www.w3.org/ns/rdfa#> .\n@prefix schema: <http://schema.org/> .\n\n<http://shop.example/anvil> rdfa:usesVocabulary <http://schema.org/> ;\n    a schema:Product ;\n    schema:name \"Anvil\"@en ;\n    schema:image <http://shop.example/anvil.jpg> ;\n    schema:offers _:b0 .\n_:b0 a schema:Offer ;\n    schema:priceCurrency \"USD\"@en ;\n    schema:price \"119.99\"@en ;\n    schema:availability schema:InStock .\n";
 
-const LITERALS: &[Row] = &[
-    (Subject::Iri("x:s"), "x:p", Object::Plain("a\"b\\c\n")),
-    (Subject::Iri("x:s"), "x:q", Object::Plain("é")),
-    (
-        Subject::Iri("x:s"),
-        "x:p",
-        Object::Typed("7", "http://www.w3.org/2001/XMLSchema#int"),
-    ),
-];
-
-const LITERALS_TEXT: &str =
-    "@prefix xsd: <http://www.w3.org/2001/XMLSchema#> .\n\n<x:s> <x:p> \"a\\\"b\\\\c\\n\" , \"7\"^^xsd:int ;\n    <x:q> \"é\" .\n";
-
 /// Prefixes of which two stand for one IRI, one for a longer one, and one has a name that isn't written.
 const PREFIXES: &[u8] =
     b"{\"prefixes\":{\"a.b\":\"http://v.example/x/\",\"w\":\"http://v.example/\",\"v\":\"http://v.example/\",\"vx\":\"http://v.example/x\"}}";
@@ -90,11 +77,7 @@ const SHORT_TEXT: &str =
     "@prefix v: <http://v.example/> .\n@prefix vx: <http://v.example/x> .\n\nvx:y <http://v.example/x/y> <http://v.example/x.y> ;\n    v:p1 <http://v.example/1p> .\n";
 
 /// Triples, and their graph's text under the standard context.
-const GRAPHS: &[(&[Row], &str)] = &[
-    (PRODUCT, PRODUCT_TEXT),
-    (&[], ""),
-    (LITERALS, LITERALS_TEXT),
-];
+const GRAPHS: &[(&[Row], &str)] = &[(PRODUCT, PRODUCT_TEXT)];
 
 fn check(rt: &impl Abort, alloc: Global, rows: &[Row], context: &Context, wanted: &str) {
     let graph = graph_of(rt, alloc, rows);

@@ -1,14 +1,14 @@
 -- The first fault of many items in a row.
-use Rattle.rx_rdfa.proofs.Common.{not, ◌&&◌, ◌==◌, nat_le, ◌≡◌, ℕ, zero, suc, ◌+◌, ◌<◌, Bool, true, false, cond, List, [], ◌∷◌, ◌++◌, map, filter, flat_map, length, Contains, Option, Some, None, list_any, refl, sym, ap, subst, ◌∙◌, leb-true, le-leb, false_from_ne_true, Chars, inl, inr, arith, Kind, ItemsTooMany, end, element}
+use Rattle.rx_rdfa.proofs.Common.{not, ◌&&◌, ◌==◌, nat_le, ◌≡◌, ℕ, zero, suc, ◌+◌, ◌<◌, Bool, true, false, cond, List, [], ◌∷◌, ◌++◌, map, filter, flat_map, Contains, Option, Some, None, list_any, refl, sym, ap, subst, ◌∙◌, leb-true, le-leb, false_from_ne_true, Chars, inl, inr, arith, Kind, ItemsTooMany, end, element}
 use Rattle.std.specs.Option.{option_or, option_map}
 use Rattle.rx_microdata.specs.Elements.{Placed, placed_from, elements_of, is_item, names_of, is_top_level, count}
 use Rattle.rx_microdata.specs.Properties.{is_any, is_property, starts_of, properties, reaches}
 use Rattle.rx_microdata.specs.Facts.{facts_of}
 use Rattle.rx_microdata.specs.Base.{base_in}
-use Rattle.rx_microdata.specs.Visits.{Visit, standard_bounds, fault_of, first_fault, visits_from, visits_to}
+use Rattle.rx_microdata.specs.Visits.{Visit, standard_bounds, first_fault, visits_from, visits_to}
 use Rattle.rx_microdata.specs.Json.{Outcome, Refused, Given, refused, json_of, outcome_of}
-use Rattle.rx_item_rows.specs.Pages.{here}
-use Rattle.rx_item_rows.specs.Many.{tag_at, many, html, ManyRefuse}
+use Rattle.rx_rows.specs.Pages.{here}
+use Rattle.rx_rows.specs.Many.{tag_at, many, html, ManyRefuse}
 use Rattle.rx_microdata.proofs.Lists.{first_or_later, later, none}
 
 -- no element of the page has a name

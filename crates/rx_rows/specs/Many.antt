@@ -3,7 +3,7 @@ use Rattle.std.specs.Prelude.{◌≡◌, ℕ, zero, suc, ◌+◌, ◌*◌, false
 use Rattle.rx_rdfa.specs.Common.{ItemsTooMany, StartTag, Tree, end, element}
 use Rattle.rx_microdata.specs.Visits.{standard_bounds}
 use Rattle.rx_microdata.specs.Json.{Refused, outcome}
-use Rattle.rx_item_rows.specs.Pages.{here}
+use Rattle.rx_rows.specs.Pages.{here}
 
 -- the tag of the k-th `<i itemscope></i>` behind `<html>`
 abbrev pub tag_at : ℕ → StartTag
