@@ -16,5 +16,4 @@ pub use Rattle.rx_grammar.specs.Tags.{SpellsTag, cased_char, firsts, has_repeat,
 pub use Rattle.rx_grammar.specs.Tokens.{Attribute, Tag, Token, character, comment, doctype, kept, reference, section, tag, value_of}
 pub use Rattle.rx_grammar.specs.Trees.{StartTag, Tree, after_text, element, end, text}
 pub use Rattle.rx_terms.specs.Common.{Bor, Chars, IsUtf8, ampersand, apostrophe, begins_with, between, chars, equals_sign, greater_than_sign, hyphen, is_ascii, is_digit, is_empty, is_letter, is_letter_or_digit, is_white_space, left_bracket, less_than_sign, line_feed, list_all, list_any, lowered, lowered_char, nat_cmp, number_sign, question_mark, quotation_mark, right_bracket, seen_slice, semicolon, slice_cmp, solidus, tokens}
-pub use Rattle.rx_terms.specs.declared.triples.Term.{Term}
 pub use Rattle.std.specs.Str.{all_scalars}

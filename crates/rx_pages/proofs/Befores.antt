@@ -1,6 +1,7 @@
 -- A token that something follows stands before a `<` too; outside the root, and where it is a tag, also before nothing.
-use Rattle.rx_reader.proofs.Common.{◌≡◌, ◌∙◌, ◌⊎◌, inl, inr, ℕ, Bool, true, false, List, [], ◌∷◌, ◌++◌, Option, Some, None, refl, ap, sym, eqb-true, ◌||◌, ◌&&◌, ◌==◌, not, list_all, ampersand, solidus, semicolon, number_sign, lowered_char, is_letter, is_digit, is_letter_or_digit, Chars, lowered, begins_with, both, not_both_ways, and-false, Entry, Syntax, same, is_hexadecimal_digit, is_x, is_body, begins_number, is_begun, stops_at, Token, tag, kept, ends_name, Spells, has_less_than, keeps_runs, raw_name, begins_end, stops_end, a_tag, an_end_of_raw, a_character, a_less_than, a_raw_run, a_reference, a_kept_run, a_comment, a_bogus_comment, a_question, a_strict_comment, an_instruction, a_section, a_doctype, Item, last_from, Spelled, no_more, one, values, next_of, Content, unless}
+use Rattle.rx_reader.proofs.Common.{◌≡◌, ◌∙◌, ◌⊎◌, inl, inr, ℕ, Bool, true, false, List, [], ◌∷◌, ◌++◌, Option, Some, None, refl, ap, sym, eqb-true, ◌||◌, ◌&&◌, ◌==◌, not, list_all, ampersand, solidus, semicolon, number_sign, lowered_char, is_letter, is_digit, is_letter_or_digit, Chars, lowered, begins_with, both, not_both_ways, and-false, Entry, Syntax, same, is_hexadecimal_digit, is_x, is_body, begins_number, is_begun, stops_at, Token, tag, kept, ends_name, Spells, has_less_than, keeps_runs, raw_name, begins_end, stops_end, Item, last_from, Spelled, no_more, one, values, next_of, Content, unless}
 use Rattle.rx_grammar.specs.declared.contents.Content.TheVariants as content
+use Rattle.rx_pages.proofs.Prefix.{Minds, a_mark, an_end, a_run, other_next, spelled_before}
 use Rattle.rx_pages.proofs.RawEnds.{IsRawName, is_raw_name}
 
 none_less : (test : ℕ → Bool) → test 60 ≡ false → (text : Chars) → list_all test (text ++ 60 ∷ []) ≡ false
@@ -42,21 +43,13 @@ no_end name (c ∷ text) h = ap (λ b. lowered_char c == solidus && b) (no_front
 stops_raw : (name text : Chars) → IsRawName name → stops_end name text 60 ≡ true
 stops_raw name text raw = ap (λ b. not b && not (same (lowered text) (solidus ∷ name) && ends_name 60)) (no_end name text raw.letters) ∙ ap not (and-false (same (lowered text) (solidus ∷ name)))
 
-pub before_less : (s : Syntax) (i : Content) (text : Chars) (next : Option ℕ) (token : Token) → Spells s i text next token → Spells s i text (Some 60) token
-before_less s i _ next _ (a_tag text t m sp) = a_tag text t m sp
-before_less s i _ next _ (an_end_of_raw text name t r sp c n) = an_end_of_raw text name t r sp c n
-before_less s i _ next _ (a_character c h) = a_character c h
-before_less s i _ next _ (a_less_than e h b) = a_less_than e h refl
-before_less s i _ next _ (a_raw_run text name r h b) = a_raw_run text name r h (stops_raw name text (is_raw_name i name r))
-before_less s i _ next _ (a_reference body c r b m) = a_reference body c r b m
-before_less s i _ next _ (a_kept_run run k h b) = a_kept_run run k h (stops run)
-before_less s i _ next _ (a_comment text e m f) = a_comment text e m f
-before_less s i _ next _ (a_bogus_comment text e m n f) = a_bogus_comment text e m n f
-before_less s i _ next _ (a_question text e m f) = a_question text e m f
-before_less s i _ next _ (a_strict_comment text e m f) = a_strict_comment text e m f
-before_less s i _ next _ (an_instruction text e m f) = an_instruction text e m f
-before_less s i _ next _ (a_section text h f) = a_section text h f
-before_less s i _ next _ (a_doctype text m d) = a_doctype text m d
+before_less : (s : Syntax) (i : Content) (text : Chars) (next : Option ℕ) (token : Token) → Spells s i text next token → Spells s i text (Some 60) token
+before_less s i text next token sp = other_next s i text (Some 60) token (λ test m b. by test m) sp
+  where
+    by : {token : Token} (test : ℕ → Bool) → Minds i token test → test 60 ≡ true
+    by _ (a_mark h) = refl
+    by _ (an_end text name r) = stops_raw name text (is_raw_name i name r)
+    by _ (a_run run h) = stops run
 
 abbrev pub is_tag : Token → Bool
 is_tag (tag t) = true
@@ -75,29 +68,16 @@ no_raw i text name r (inl t) = cc
 no_raw i text name r (inr e) = let k = sym (ap raw_name e) ∙ r in cc
 
 pub before_nothing : (s : Syntax) (i : Content) (text : Chars) (next : Option ℕ) (token : Token) → IsLast i token → Spells s i text next token → Spells s i text None token
-before_nothing s i _ next _ l (a_tag text t m sp) = a_tag text t m sp
-before_nothing s i _ next _ l (an_end_of_raw text name t r sp c n) = an_end_of_raw text name t r sp c n
-before_nothing s i _ next _ l (a_character c h) = a_character c h
-before_nothing s i _ next _ l (a_less_than e h b) = absurd (none_outside i (60 ∷ []) has_less_than refl h l)
-before_nothing s i _ next _ l (a_raw_run text name r h b) = absurd (no_raw i (60 ∷ text) name r l)
-before_nothing s i _ next _ l (a_reference body c r b m) = a_reference body c r b m
-before_nothing s i _ next _ l (a_kept_run run k h b) = absurd (none_outside i (ampersand ∷ run) keeps_runs refl k l)
-before_nothing s i _ next _ l (a_comment text e m f) = a_comment text e m f
-before_nothing s i _ next _ l (a_bogus_comment text e m n f) = a_bogus_comment text e m n f
-before_nothing s i _ next _ l (a_question text e m f) = a_question text e m f
-before_nothing s i _ next _ l (a_strict_comment text e m f) = a_strict_comment text e m f
-before_nothing s i _ next _ l (an_instruction text e m f) = an_instruction text e m f
-before_nothing s i _ next _ l (a_section text h f) = a_section text h f
-before_nothing s i _ next _ l (a_doctype text m d) = a_doctype text m d
+before_nothing s i text next token l sp = other_next s i text None token (λ test m b. by test m l) sp
+  where
+    by : {token : Token} (test : ℕ → Bool) → Minds i token test → IsLast i token → ⊥
+    by _ (a_mark h) l = none_outside i (60 ∷ []) has_less_than refl h l
+    by _ (an_end text name r) l = no_raw i (60 ∷ text) name r l
+    by _ (a_run run h) l = none_outside i (ampersand ∷ run) keeps_runs refl h l
 
 module _ (syntax : Syntax) where
-  next_less : (i : Content) (text : Chars) (rest : List Entry) (next : Option ℕ) (token : Token) → Spells syntax i text (next_of (values rest) next) token → Spells syntax i text (next_of (values rest) (Some 60)) token
-  next_less i text [] next token sp = before_less syntax i text next token sp
-  next_less i text (e ∷ rest) next token sp = sp
-
   pub spelled_less : {entries : List Entry} {next : Option ℕ} {items : List Item} → Spelled syntax entries next items → Spelled syntax entries (Some 60) items
-  spelled_less no_more = no_more
-  spelled_less {next = next} (one c run rest item sp f l more) = one c run rest item (next_less item.content (values (c ∷ run)) rest next item.token sp) f l (spelled_less more)
+  spelled_less {next = next} h = spelled_before syntax next (Some 60) (λ i text token. before_less syntax i text next token) h
 
   -- the last of some tokens is such a one
   abbrev pub LastIs : List Item → Type 0

@@ -1,5 +1,5 @@
 -- Reading a page byte by byte: what the bytes of one character do.
-use Rattle.rx_reader.proofs.Common.{◌≡◌, ◌≢◌, ◌∙◌, ℕ, suc, ◌+◌, ◌-◌, ◌<◌, ◌≤◌, Bool, true, false, List, [], ◌∷◌, ◌++◌, refl, sym, ap, subst, length, append_assoc, append-nil, Result, Ok, Err, arith, nat_le, nat_tests, ◌&&◌, ◌==◌, if◌then◌else◌, IsScalar, encode, length-append, Syntax, More, Char, answer_of, IsCharacter, values, is_known_tag, character_of_form, answer_is, Fault, Kind, PageTooLong, TagTooLong, Nul, Limits}
+use Rattle.rx_reader.proofs.Common.{snoc_front, snoc_last, ◌≡◌, ◌≢◌, ◌∙◌, ℕ, suc, ◌+◌, ◌-◌, ◌<◌, ◌≤◌, Bool, true, false, List, [], ◌∷◌, ◌++◌, refl, sym, ap, subst, length, append_assoc, append-nil, Result, Ok, Err, arith, nat_le, nat_tests, ◌&&◌, ◌==◌, if◌then◌else◌, IsScalar, encode, length-append, Syntax, More, Char, answer_of, IsCharacter, values, is_known_tag, character_of_form, answer_is, Fault, Kind, PageTooLong, TagTooLong, Nul, Limits}
 use Rattle.rx_pages.specs.Nesting.{Step, content_at}
 use Rattle.rx_pages.specs.PageReader.{Spot, Scanning, Scanned, first_of, token_at, is_too_long, holding, read_char, read_answer, spot_of, steps_on, no_step, Reading, Progress, progress_of, nested_items, page_byte_on, page_on, telling}
 use Rattle.rx_pages.proofs.EntrySteps.{Stood, placed_at, map_scanned, stood_by, nested_by}
@@ -64,14 +64,6 @@ module _ (syntax : Syntax) (limits : Limits) (st : Stood) (s : Scanning) where
   settled after_return (Ok r) = stepped after_return r (steps_on syntax limits.depth (Ok (no_step st.nest)) r.items)
   settled after_return (Err kind) = refl
 
-two_lasts : (a b : List ℕ) (x y : ℕ) → a ++ x ∷ [] ≡ b ++ y ∷ [] → (a ≡ b) × (x ≡ y)
-two_lasts [] [] x y e = (refl, cc)
-two_lasts [] (c ∷ []) x y e = absurd (cc)
-two_lasts [] (c ∷ d ∷ b) x y e = absurd (cc)
-two_lasts (c ∷ []) [] x y e = absurd (cc)
-two_lasts (c ∷ d ∷ a) [] x y e = absurd (cc)
-two_lasts (c ∷ a) (d ∷ b) x y e = let r = two_lasts a b x y (cc) in let h : c ≡ d = cc in (ap (λ z. z ∷ a) h ∙ ap (λ z. d ∷ z) r.0, r.1)
-
 length_more : (a : List ℕ) (x : ℕ) → length (a ++ x ∷ []) ≡ length a + 1
 length_more [] x = refl
 length_more (y ∷ a) x = ap suc (length_more a x) ∙ (omega arith)
@@ -104,7 +96,7 @@ module _ (syntax : Syntax) (limits : Limits) (st : Stood) (started after_return 
       → page_on syntax limits (Ok (progress_at (start + length held) held started after_return st)) (bytes ++ rest) ≡ page_on syntax limits last_read rest
   bytes_on held [] rest e n z p k = absurd (n refl)
   bytes_on held (b ∷ []) rest e n z p k =
-      let q = two_lasts held front b byte e in
+      let q : (held ≡ front) × (b ≡ byte) = (snoc_front held front b byte e, snoc_last held front b byte e) in
       ap (λ x. page_on syntax limits x rest) (
       ap (λ h. page_byte_on syntax limits (Ok (progress_at (start + length h) h started after_return st)) b) q.0
       ∙ (ap (λ x. page_byte_on syntax limits (Ok (progress_at (start + length front) front started after_return st)) x) q.1

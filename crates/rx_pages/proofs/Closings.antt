@@ -1,6 +1,5 @@
 -- The front of a page goes on to a page: what is open is closed, from the innermost element on.
-use Rattle.rx_reader.proofs.Common.{◌≡◌, ◌∙◌, ℕ, ◌+◌, ◌-◌, ◌<◌, ◌≤◌, Bool, true, false, List, [], ◌∷◌, ◌++◌, Option, Some, None, refl, ap, sym, subst, subst₂, length, append_assoc, append-nil, arith, ◌&&◌, ◌||◌, ◌==◌, not, nat_le, codes, Ok, encode_utf8_all, list_all, len_utf8, all_scalars, encode, encodes, scalar, length-encode, encodes-append, and_from, cond-false, nat_tests, greater_than_sign, Chars, both, untrue, and-false, length-append, Entry, byte_order_mark, line_feed, carriage_return, placed, entered, without_mark, Syntax, Html, Xhtml, Tag, Token, tag, SpellsTag, Spells, a_tag, outside, is_alone, is_self_closed, is_plaintext, drops_line_feed, StartTag, values, Item, last_from, Spelled, no_more, one, Fits, AllFit, is_literal, no_section_end, start_of, has_no_nul, Document, Line, inside_of, Phase, before, within, after, Stands, not_begun, still_open, ended, Begun, Limits}
-use Rattle.rx_grammar.specs.Shapes as shapes
+use Rattle.rx_reader.proofs.Common.{◌≡◌, ◌∙◌, ℕ, ◌+◌, ◌-◌, ◌<◌, ◌≤◌, Bool, true, false, List, [], ◌∷◌, ◌++◌, Option, Some, None, refl, ap, sym, subst, subst₂, length, append_assoc, append-nil, arith, ◌&&◌, ◌||◌, ◌==◌, not, nat_le, codes, Ok, encode_utf8_all, list_all, len_utf8, all_scalars, encode, encodes, scalar, length-encode, encodes-append, and_from, cond-false, nat_tests, greater_than_sign, Chars, both, untrue, and-false, length-append, Entry, byte_order_mark, line_feed, carriage_return, placed, entered, without_mark, Syntax, Html, Xhtml, Tag, Token, tag, SpellsTag, Spells, a_tag, outside, is_alone, is_self_closed, is_plaintext, drops_line_feed, StartTag, values, Item, last_from, Spelled, no_more, one, Fits, AllFit, is_literal, no_section_end, start_of, has_no_nul, Document, Line, inside_of, Phase, before, within, after, Stands, not_begun, still_open, ended, Begun, Limits, spells_each}
 use Rattle.rx_pages.specs.Nesting as nesting
 use Rattle.rx_pages.specs.Nesting.{Event, Nesting, Step, content_at, over, step_by, nest_step, Goes, stands, goes, IsAt}
 use Rattle.rx_pages.specs.PageReader.{item_of}
@@ -98,20 +97,8 @@ abbrev html_tag : Tag
 html_tag = record { closing = false; name = codes "html"; attributes = []; slash = false }
 
 html_spelled : (s : Syntax) → SpellsTag s (codes "html>") html_tag
-html_spelled Html =
-    record {
-      parts = html_tag;
-      reads = record { written = html_tag; shape = shapes.a_start (codes "html") (62 ∷ []) refl refl (shapes.no_more [] refl); closing = refl; name = refl; attributes = tt; slash = refl };
-      unrepeated = refl;
-      is_tag = refl;
-    }
-html_spelled Xhtml =
-    record {
-      parts = html_tag;
-      reads = record { written = html_tag; shape = shapes.a_start (codes "html") (62 ∷ []) refl refl (shapes.no_more [] refl); closing = refl; name = refl; attributes = tt; slash = refl };
-      unrepeated = refl;
-      is_tag = refl;
-    }
+html_spelled Html = spells_each Html _ _ (record { last = _; run = refl; whole = refl; is_tag = refl })
+html_spelled Xhtml = spells_each Xhtml _ _ (record { last = _; run = refl; whole = refl; is_tag = refl })
 
 html_name : (s : Syntax) → IsName s (codes "html")
 html_name Html = record { whole = refl; low = refl; fair = refl }

@@ -16,7 +16,7 @@ pub use Rattle.rx_pages.proofs.Tokens.{values_append}
 pub use Rattle.rx_pages.proofs.Trees.{one_tree}
 pub use Rattle.rx_pages.proofs.Underway.{is_underway, nothing_unfinished, ok_is, reads_to, reads_what_is_underway, unfinished_follows_front}
 pub use Rattle.rx_pages.specs.Closings.{AllEnd, Bare, ClosedTells, IsFront, IsWide, Tells, closed, closing}
-pub use Rattle.rx_pages.specs.Fronts.{IsUnderway, ReadsTo}
+pub use Rattle.rx_pages.specs.Fronts.{ReadsTo}
 pub use Rattle.rx_pages.specs.Laws.{FrontsTell, OnePlace, PagesGoOn}
 pub use Rattle.rx_pages.specs.Nesting.{Event, Goes, IsAt, Nesting, Step, begins, begun_under, content_at, doctype_step, ended_by_end, ended_by_start, ended_under, finishes, goes, going_on, line_above, nest_step, over, says, stands, step_by, tag_passes, told_trees, unless_refused, with_element, with_text}
 pub use Rattle.rx_pages.specs.PageReader.{Progress, Reading, Scanned, Scanning, Spot, after_token, completed, end_of, entering, fault_in, first_of, is_doctype, is_none_left, is_over, is_too_long, item_of, may_end, may_lead, nested_items, no_bytes, no_page, no_step, nothing_read, page_byte, page_byte_on, page_on, page_read, progress_of, read_answer, read_byte, read_char, read_entry, scan_from, spot_of, starts_at, step_on, steps_on, telling, token_at, told, told_first, with_events, with_item}

@@ -13,13 +13,9 @@ abbrev pub IsOutside : Phase → Type 0
 IsOutside phase = (chars : Chars) → told phase chars ≡ []
 
 pub between_steps : (syntax : Syntax) (depth : ℕ) (phase : Phase) (item : Item) (token : Token) → IsOutside phase → is_between token ≡ true → step_by syntax depth (outside_at phase) item token ≡ Ok (record { next = outside_at phase; events = [] })
-between_steps syntax depth phase item (tag t) o h = absurd (cc)
 between_steps syntax depth phase item (character c) o h = ap (λ es. Ok (record { next = outside_at phase; events = es })) (o (c ∷ []))
-between_steps syntax depth phase item (reference c) o h = absurd (cc)
-between_steps syntax depth phase item (kept chars) o h = absurd (cc)
-between_steps syntax depth phase item (section chars) o h = absurd (cc)
 between_steps syntax depth phase item comment o h = refl
-between_steps syntax depth phase item doctype o h = absurd (cc)
+between_steps syntax depth phase item _ o h = absurd (cc)
 
 -- text outside the root tells nothing
 text_passes : (syntax : Syntax) (depth : ℕ) (phase : Phase) (item : Item) (token : Token) (chars : Chars) → IsOutside phase → text_of token ≡ Some chars → step_by syntax depth (outside_at phase) item token ≡ Ok (record { next = outside_at phase; events = [] })

@@ -1,5 +1,5 @@
 -- The reader of bytes finds each fault.
-use Rattle.rx_reader.proofs.Common.{◌≡◌, ◌≢◌, ◌∙◌, ⊎_elim, ℕ, ◌+◌, ◌-◌, ◌<◌, ◌≤◌, true, false, List, [], ◌∷◌, ◌++◌, refl, sym, ap, subst, length, append_assoc, append-nil, Ok, Err, eqb-true, arith, nat_le, ◌&&◌, ◌==◌, if◌then◌else◌, Chars, by_test, length-append, Syntax, More, Char, Bad, answer_of, IsCharacter, BeginsCharacter, BeginNone, Entry, values, Item, Line, inside_of, Phase, before, within, after, is_known_tag, token_of, IsShort, IsPending, Unfinished, Reached, Before, IsPart, answer_is, Content, Kind, Limits}
+use Rattle.rx_reader.proofs.Common.{◌≡◌, ◌≢◌, ◌∙◌, ⊎_elim, ℕ, ◌+◌, ◌-◌, ◌<◌, ◌≤◌, true, false, List, [], ◌∷◌, ◌++◌, refl, sym, ap, subst, length, append_assoc, append-nil, Ok, Err, eqb-true, arith, nat_le, ◌&&◌, ◌==◌, if◌then◌else◌, Chars, by_test, length-append, Syntax, More, Char, Bad, answer_of, IsCharacter, BeginsCharacter, BeginNone, Entry, values, Item, Line, inside_of, Phase, after, is_known_tag, token_of, IsShort, IsPending, Reached, IsPart, answer_is, Content, Kind, Limits}
 use Rattle.rx_grammar.specs.declared.faults.Kind.TheVariants as kind
 use Rattle.rx_grammar.specs.PageFaults as faults
 use Rattle.rx_pages.specs.Nesting.{IsAt}
@@ -141,8 +141,5 @@ module _ (pending_goes : PendingGoes) (syntax : Syntax) (limits : Limits) where
         final = progress_at (length whole + length part) part stands_there.started stands_there.after_return state
 
         not_over : (part : List ℕ) (run : List Entry) (phase : Phase) → (part ≡ [] → run ≡ [] → phase ≢ after) → (is_none_left part && is_none_left run && is_over phase) ≡ false
-        not_over (b ∷ part) run phase h = refl
-        not_over [] (e ∷ run) phase h = refl
-        not_over [] [] (before stood) h = refl
-        not_over [] [] within h = refl
         not_over [] [] after h = absurd (h refl refl refl)
+        not_over _ _ _ h = refl

@@ -1,5 +1,5 @@
 -- Spelled tokens that lead to open elements stand at the front of a page.
-use Rattle.rx_reader.proofs.Common.{◌≡◌, ◌∙◌, ℕ, true, false, List, [], ◌∷◌, ◌++◌, Option, Some, None, refl, ap, sym, subst, append-nil, append_assoc, Chars, not_both_ways, Entry, Syntax, Token, Spells, has_references, keeps_runs, has_sections, has_less_than, raw_name, a_tag, an_end_of_raw, a_character, a_less_than, a_raw_run, a_reference, a_kept_run, a_comment, a_bogus_comment, a_question, a_strict_comment, an_instruction, a_section, a_doctype, Item, Spelled, no_more, one, Line, Phase, Stands, not_begun, Content}
+use Rattle.rx_reader.proofs.Common.{◌≡◌, ◌∙◌, ℕ, true, false, List, [], ◌∷◌, ◌++◌, Option, Some, None, refl, ap, sym, subst, append-nil, append_assoc, Chars, not_both_ways, Entry, Syntax, Token, Spells, has_references, keeps_runs, has_sections, has_less_than, raw_name, a_less_than, a_raw_run, a_reference, a_kept_run, a_section, Item, Spelled, no_more, one, Line, Phase, Stands, not_begun, Content}
 use Rattle.rx_grammar.specs.declared.contents.Content.TheVariants as content
 use Rattle.rx_grammar.specs.Pages as pages
 use Rattle.rx_pages.specs.Nesting.{Event, Nesting, Goes, stands, goes, IsAt}
@@ -7,9 +7,6 @@ use Rattle.rx_pages.specs.Laws.{FrontsStand}
 use Rattle.rx_pages.proofs.Standing.{may_stand, one_more}
 
 pub spelled_outside : (syntax : Syntax) (inside : Content) (text : Chars) (next : Option ℕ) (token : Token) → Spells syntax inside text next token → inside ≡ content.Outside → may_stand token ≡ true
-spelled_outside s i _ next _ (a_tag text t m sp) o = refl
-spelled_outside s i _ next _ (an_end_of_raw text name t r sp c n) o = refl
-spelled_outside s i _ next _ (a_character c h) o = refl
 spelled_outside s i _ next _ (a_less_than e h b) o = absurd (not_both_ways _ h (ap has_less_than o))
 spelled_outside s i _ next _ (a_raw_run text name r h b) o = absurd (none (sym (ap raw_name o) ∙ r))
   where
@@ -17,13 +14,8 @@ spelled_outside s i _ next _ (a_raw_run text name r h b) o = absurd (none (sym (
     none e = cc
 spelled_outside s i _ next _ (a_reference body c r b m) o = absurd (not_both_ways _ r (ap has_references o))
 spelled_outside s i _ next _ (a_kept_run run k h b) o = absurd (not_both_ways _ k (ap keeps_runs o))
-spelled_outside s i _ next _ (a_comment text e m f) o = refl
-spelled_outside s i _ next _ (a_bogus_comment text e m n f) o = refl
-spelled_outside s i _ next _ (a_question text e m f) o = refl
-spelled_outside s i _ next _ (a_strict_comment text e m f) o = refl
-spelled_outside s i _ next _ (an_instruction text e m f) o = refl
 spelled_outside s i _ next _ (a_section text h f) o = absurd (not_both_ways _ h (ap has_sections o))
-spelled_outside s i _ next _ (a_doctype text m d) o = refl
+spelled_outside s i _ next _ _ o = refl
 
 module _ (syntax : Syntax) (depth : ℕ) (line : Line) (phase : Phase) where
   pub walk : {n : Nesting} {entries : List Entry} {next : Option ℕ} {items : List Item} {events : List Event} (first : List Item) → Stands syntax depth first n.line n.phase → Spelled syntax entries next items → Goes syntax depth (IsAt line phase) n items events

@@ -1,5 +1,5 @@
 -- One more character behind the front of a page: the front goes on with it, or it decides a fault.
-use Rattle.rx_reader.proofs.Common.{◌≡◌, ◌≢◌, ◌∙◌, ◌⊎◌, inl, inr, ℕ, ◌+◌, Bool, true, false, List, [], ◌∷◌, ◌++◌, refl, sym, ap, subst, eqb-true, append_assoc, append-nil, Option, Some, None, Result, Ok, Err, arith, ◌&&◌, ◌||◌, ◌==◌, not, if◌then◌else◌, all_scalars, encodes, and_parts, and_from, ampersand, less_than_sign, greater_than_sign, Chars, by_test, and-false, Syntax, Entry, entered, placed, without_mark, Token, tag, character, kept, Spells, has_references, is_text, values, next_of, Item, Spelled, no_more, one, Fits, AllFit, is_literal, is_strict_literal, no_section_end, has_no_nul, Line, inside_of, Phase, Stands, token_of, IsPending, IsShort, Reached, Faulty, ends_in_brackets, Content, Kind, Limits}
+use Rattle.rx_reader.proofs.Common.{◌≡◌, ◌≢◌, ◌∙◌, ◌⊎◌, inl, inr, ℕ, ◌+◌, Bool, true, false, List, [], ◌∷◌, ◌++◌, refl, sym, ap, subst, eqb-true, append_assoc, append-nil, Option, Some, None, Result, Ok, Err, arith, ◌&&◌, ◌||◌, ◌==◌, not, if◌then◌else◌, all_scalars, encodes, and_parts, and_from, ampersand, less_than_sign, greater_than_sign, Chars, by_test, and-false, Syntax, Entry, entered, placed, without_mark, Token, tag, character, kept, Spells, has_references, is_text, values, next_of, Item, Spelled, Fits, AllFit, is_literal, is_strict_literal, no_section_end, has_no_nul, Line, inside_of, Phase, Stands, token_of, IsPending, IsShort, Reached, Faulty, ends_in_brackets, Content, Kind, Limits}
 use Rattle.rx_grammar.specs.declared.contents.Content.TheVariants as content
 use Rattle.rx_grammar.specs.declared.faults.Kind.TheVariants as kind
 use Rattle.rx_grammar.specs.Spelling as spelling
@@ -10,7 +10,7 @@ use Rattle.rx_pages.specs.PageReader.{item_of}
 use Rattle.rx_pages.proofs.Tokens.{values_append}
 use Rattle.rx_pages.proofs.Judged.{inside_occurs, faults_are_decided, unfinished_goes_on}
 use Rattle.rx_pages.proofs.PendsOn.{spells_read, faulty_read}
-use Rattle.rx_pages.proofs.Prefix.{any_next}
+use Rattle.rx_pages.proofs.Prefix.{any_next, spelled_before}
 use Rattle.rx_pages.proofs.FrontBack.{spelled_outside}
 use Rattle.rx_pages.proofs.Standing.{one_more}
 use Rattle.rx_pages.proofs.Snocs.{values_next, spelled_snoc, sections_snoc, fit_snoc}
@@ -108,20 +108,12 @@ module _ (syntax : Syntax) (limits : Limits) where
 
   -- whatever comes next
   module _ (c : ℕ) where
-    spells_next : (i : Content) (text : Chars) (rest : List Entry) (token : Token) → Spells syntax i text (next_of (values rest) None) token → Spells syntax i text (next_of (values rest) (Some c)) token
-    spells_next i text [] token sp = any_next syntax i text token sp (Some c)
-    spells_next i text (e ∷ rest) token sp = sp
-
-    spelled_by : {es : List Entry} {next : Option ℕ} {items : List Item} → Spelled syntax es next items → next ≡ None → Spelled syntax es (Some c) items
-    spelled_by no_more n = no_more
-    spelled_by (one d run rest item sp f l more) n = one d run rest item (spells_next item.content (values (d ∷ run)) rest item.token (subst (λ x. Spells syntax item.content (values (d ∷ run)) (next_of (values rest) x) item.token) n sp)) f l (spelled_by more n)
-
     pub before_next : {chars : List ℕ} {items : List Item} {line : Line} {phase : Phase} {run : List Entry} → Here chars None items line phase run → Here chars (Some c) items line phase run
     before_next {items = items} {run = run} h =
         record { front = h.front; read = h.read; scalars = h.scalars; no_nul = h.no_nul; spelled = by run h.spelled; fit = h.fit; sections = h.sections; stands = h.stands; goes = h.goes }
       where
         by : (run : List Entry) → Spelled syntax h.front (next_of (values run) None) items → Spelled syntax h.front (next_of (values run) (Some c)) items
-        by [] sp = spelled_by sp refl
+        by [] sp = spelled_before syntax None (Some c) (λ i text token t. any_next syntax i text token t (Some c)) sp
         by (e ∷ run) sp = sp
 
   -- a page's characters, and one more that is entered

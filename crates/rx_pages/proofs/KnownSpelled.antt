@@ -1,5 +1,5 @@
 -- The characters of a whole tag are known to be one.
-use Rattle.rx_reader.proofs.Common.{◌≡◌, ◌∙◌, ℕ, true, [], ◌∷◌, ◌++◌, refl, sym, ap, subst, Option, Some, None, cond-true, cond-false, list_all, solidus, greater_than_sign, is_white_space, Chars, by_test, both, Syntax, Html, Tag, Token, tag, Shape, a_start, an_end, ends_name, SpellsTag, cased, Spells, has_markup, raw_name, is_known_tag, is_known_after, is_known_raw, Content}
+use Rattle.rx_reader.proofs.Common.{◌≡◌, ◌∙◌, ℕ, true, [], ◌∷◌, ◌++◌, refl, sym, ap, subst, Option, Some, None, cond-true, cond-false, list_all, solidus, greater_than_sign, is_white_space, Chars, by_test, both, Syntax, Html, Tag, Token, tag, Shape, a_start, an_end, ends_name, SpellsTag, cased, Spells, has_markup, is_known_tag, is_known_after, is_known_raw, Content}
 use Rattle.rx_grammar.specs.Spelling as spelling
 use Rattle.rx_pages.proofs.Reading.{markup_raw}
 use Rattle.rx_pages.proofs.TagRuns.{KnownEnd, is_known_by}

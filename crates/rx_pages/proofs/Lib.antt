@@ -67,3 +67,4 @@ pub mod ClosedTold
 pub mod Sizes
 pub mod Underway
 pub mod Common
+pub mod OneToken

@@ -1,5 +1,5 @@
 -- What characters that go on are, and what the next one makes of them: text, references, tags and raw text.
-use Rattle.rx_reader.proofs.Common.{◌≡◌, ◌≢◌, ◌∙◌, ℕ, cond, Bool, true, false, List, [], ◌∷◌, ◌++◌, Option, Some, None, Result, Ok, Err, refl, ap, sym, subst, inl, inr, eqb-true, ◌&&◌, ◌||◌, ◌==◌, not, codes, ampersand, semicolon, solidus, less_than_sign, Chars, lowered, both, either, not_both_ways, split, and-true, or_parts, Syntax, Html, Xhtml, same, name_of_raw, is_name, is_body, is_begun, stops_at, meaning, Tag, tag, reference, ends_name, begins, cased, SpellsTag, RunFault, unknown, bad, no_reference, Spells, has_markup, has_references, keeps_runs, has_sections, has_less_than, is_text, begins_markup, raw_name, begins_end, stops_end, ends_with, ends_comment, begins_declaration, doctype_word, Item, Line, Phase, Faulty, is_opening_begun, Content, Kind, is_last, TagState, fresh, tag_step, tag_step_on, tag_on, tag_of, ReadsOn, of_one, equal, spells_each, tag_on-append, repeats_once, refuses_each_fault}
+use Rattle.rx_reader.proofs.Common.{◌≡◌, ◌≢◌, ◌∙◌, ℕ, cond, Bool, true, false, List, [], ◌∷◌, ◌++◌, Option, Some, None, Result, Ok, Err, refl, ap, sym, subst, inl, inr, eqb-true, ◌&&◌, ◌||◌, ◌==◌, not, codes, ampersand, semicolon, solidus, less_than_sign, Chars, lowered, both, either, not_both_ways, split, and-true, or_parts, Syntax, Html, Xhtml, same, name_of_raw, is_name, is_body, is_begun, stops_at, meaning, Tag, tag, reference, ends_name, begins, cased, SpellsTag, RunFault, unknown, bad, no_reference, Spells, has_markup, has_references, keeps_runs, has_sections, is_text, raw_name, begins_end, stops_end, ends_with, ends_comment, begins_declaration, doctype_word, Item, Line, Phase, Faulty, is_opening_begun, Content, Kind, is_last, TagState, fresh, tag_step, tag_step_on, tag_on, tag_of, ReadsOn, of_one, equal, spells_each, tag_on-append, repeats_once, refuses_each_fault}
 use Rattle.rx_grammar.specs.declared.contents.Content.TheVariants as content
 use Rattle.rx_grammar.specs.declared.faults.Kind.TheVariants as kind
 use Rattle.rx_grammar.specs.Spelling as spelling

@@ -1,5 +1,5 @@
 -- What the next character makes of `<`, and of what begins with `<!` and `<?`.
-use Rattle.rx_reader.proofs.Common.{◌≡◌, ◌∙◌, ℕ, length, take, Bool, true, false, [], ◌∷◌, ◌++◌, Option, Some, None, refl, ap, sym, subst, append_assoc, arith, ◌==◌, codes, ◌-◌, length-map, lowered_char, greater_than_sign, Chars, split, Syntax, Html, Xhtml, Token, comment, section, doctype, cased, Spells, IsFirst, has_markup, has_sections, has_less_than, begins_markup, ends_with, ends_comment, begins_declaration, doctype_word, IsDoctype, Faulty, meets_opening, is_opening_begun, openings, BeginsDoctype, BeginsNoDoctype, Content, of_one, snoc_front}
+use Rattle.rx_reader.proofs.Common.{◌≡◌, ◌∙◌, ℕ, length, take, Bool, true, false, [], ◌∷◌, ◌++◌, Option, Some, None, refl, ap, sym, subst, append_assoc, arith, ◌==◌, codes, ◌-◌, length-map, lowered_char, greater_than_sign, Chars, split, Syntax, Html, Xhtml, Token, comment, section, doctype, cased, Spells, IsFirst, has_markup, has_sections, ends_with, ends_comment, doctype_word, IsDoctype, Faulty, BeginsDoctype, BeginsNoDoctype, Content, of_one, snoc_front}
 use Rattle.rx_grammar.specs.declared.faults.Kind.TheVariants as kind
 use Rattle.rx_grammar.specs.Spelling as spelling
 use Rattle.rx_grammar.specs.PageFaults as faults

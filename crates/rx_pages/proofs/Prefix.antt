@@ -1,24 +1,43 @@
 -- The tokens at the front of a page's characters are the first of the page's tokens.
-use Rattle.rx_reader.proofs.Common.{◌≡◌, ◌∙◌, ℕ, List, [], ◌∷◌, ◌++◌, Option, None, refl, ap, sym, subst, append_assoc, Chars, Ok, Entry, Syntax, Token, Spells, a_tag, an_end_of_raw, a_character, a_less_than, a_raw_run, a_reference, a_kept_run, a_comment, a_bogus_comment, a_question, a_strict_comment, an_instruction, a_section, a_doctype, Item, Spelled, no_more, one, values, next_of, Content}
+use Rattle.rx_reader.proofs.Common.{◌≡◌, ◌∙◌, ℕ, Bool, true, List, [], ◌∷◌, ◌++◌, Option, Some, None, refl, ap, sym, subst, append_assoc, Chars, Ok, Entry, Syntax, Token, Spells, a_tag, an_end_of_raw, a_character, a_less_than, a_raw_run, a_reference, a_kept_run, a_comment, a_bogus_comment, a_question, a_strict_comment, an_instruction, a_section, a_doctype, Item, Spelled, no_more, one, values, next_of, Content, kept, not, ampersand, less_than_sign, begins_markup, has_less_than, keeps_runs, raw_name, stops_end, stops_at, IsBefore}
 use Rattle.rx_pages.specs.Nesting.{Event, Nesting, Step, nest_step, Goes, stands, goes}
 use Rattle.rx_pages.proofs.Tokens.{same_item}
 
+-- a token for which it counts what follows, and what it has to be
+pub data Minds (i : Content) : Token → (ℕ → Bool) → Type 0 where
+  a_mark : has_less_than i ≡ true → Minds i (kept (less_than_sign ∷ [])) (λ c. not (begins_markup c))
+  an_end : (text name : Chars) → raw_name i ≡ Some name → Minds i (kept (less_than_sign ∷ text)) (stops_end name text)
+  a_run : (run : Chars) → keeps_runs i ≡ true → Minds i (kept (ampersand ∷ run)) (stops_at run)
+
+-- the others may stand before anything
+pub other_next : (s : Syntax) (i : Content) (text : Chars) {next : Option ℕ} (other : Option ℕ) (token : Token) → ((test : ℕ → Bool) → Minds i token test → IsBefore test next → IsBefore test other) → Spells s i text next token → Spells s i text other token
+other_next s i _ other _ k (a_tag text t m sp) = a_tag text t m sp
+other_next s i _ other _ k (an_end_of_raw text name t r sp c n) = an_end_of_raw text name t r sp c n
+other_next s i _ other _ k (a_character c h) = a_character c h
+other_next s i _ other _ k (a_less_than e h b) = a_less_than e h (k _ (a_mark h) b)
+other_next s i _ other _ k (a_raw_run text name r h b) = a_raw_run text name r h (k _ (an_end text name r) b)
+other_next s i _ other _ k (a_reference body c r b m) = a_reference body c r b m
+other_next s i _ other _ k (a_kept_run run l h b) = a_kept_run run l h (k _ (a_run run l) b)
+other_next s i _ other _ k (a_comment text e m f) = a_comment text e m f
+other_next s i _ other _ k (a_bogus_comment text e m n f) = a_bogus_comment text e m n f
+other_next s i _ other _ k (a_question text e m f) = a_question text e m f
+other_next s i _ other _ k (a_strict_comment text e m f) = a_strict_comment text e m f
+other_next s i _ other _ k (an_instruction text e m f) = an_instruction text e m f
+other_next s i _ other _ k (a_section text h f) = a_section text h f
+other_next s i _ other _ k (a_doctype text m d) = a_doctype text m d
+
 -- a token that nothing has to follow may stand before anything
 pub any_next : (s : Syntax) (i : Content) (text : Chars) (token : Token) → Spells s i text None token → (next : Option ℕ) → Spells s i text next token
-any_next s i _ _ (a_tag text t m sp) next = a_tag text t m sp
-any_next s i _ _ (an_end_of_raw text name t r sp c n) next = an_end_of_raw text name t r sp c n
-any_next s i _ _ (a_character c h) next = a_character c h
-any_next s i _ _ (a_less_than e h b) next = absurd b
-any_next s i _ _ (a_raw_run text name r h b) next = absurd b
-any_next s i _ _ (a_reference body c r b m) next = a_reference body c r b m
-any_next s i _ _ (a_kept_run run k h b) next = absurd b
-any_next s i _ _ (a_comment text e m f) next = a_comment text e m f
-any_next s i _ _ (a_bogus_comment text e m n f) next = a_bogus_comment text e m n f
-any_next s i _ _ (a_question text e m f) next = a_question text e m f
-any_next s i _ _ (a_strict_comment text e m f) next = a_strict_comment text e m f
-any_next s i _ _ (an_instruction text e m f) next = an_instruction text e m f
-any_next s i _ _ (a_section text h f) next = a_section text h f
-any_next s i _ _ (a_doctype text m d) next = a_doctype text m d
+any_next s i text token sp next = other_next s i text next token (λ test m b. absurd b) sp
+
+-- what follows the last of some tokens
+pub spelled_before : (s : Syntax) (next other : Option ℕ) → ((i : Content) (text : Chars) (token : Token) → Spells s i text next token → Spells s i text other token) → {entries : List Entry} {items : List Item} → Spelled s entries next items → Spelled s entries other items
+spelled_before s next other k no_more = no_more
+spelled_before s next other k (one c run rest item sp f l more) = one c run rest item (by rest sp) f l (spelled_before s next other k more)
+  where
+    by : (rest : List Entry) → Spells s item.content (values (c ∷ run)) (next_of (values rest) next) item.token → Spells s item.content (values (c ∷ run)) (next_of (values rest) other) item.token
+    by [] sp = k item.content (values (c ∷ run)) item.token sp
+    by (e ∷ rest) sp = sp
 
 next_more : (s : Syntax) (i : Content) (text : Chars) (token : Token) (a run rest : List Entry) → Spells s i text (next_of (values a) (next_of (values run) None)) token → Spells s i text (next_of (values (a ++ (run ++ rest))) None) token
 next_more s i text token [] [] rest h = any_next s i text token h (next_of (values rest) None)

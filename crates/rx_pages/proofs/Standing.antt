@@ -1,6 +1,6 @@
 -- Where the tokens lead, they stand at the front of a page.
 use Rattle.rx_grammar.proofs.Common.{cond-true, cond-false, not-false, nat_tests, ◌≡◌, ◌∙◌, ℕ, zero, suc, ◌+◌, ◌-◌, ◌<◌, Bool, true, false, List, [], ◌∷◌, ◌++◌, Some, None, refl, ap, sym, subst, arith, length, append_assoc, inl, inr, ◌⊎◌, ◌&&◌, not, nat_le, Result, Ok, Chars, not_both_ways, by_test, split, Syntax, same, is_among, Tag, Token, tag, character, reference, kept, section, comment, doctype, outside, is_alone, is_html, StartTag, Tree, end, element, Item, is_line_feed, start_of, text_of, Line, inside_of, enders_of, Phase, before, within, after, Open, a_root, a_child, Stands, not_begun, still_open, ended, under_start, after_start, after_end, is_innermost, has_ended, is_before, first_row, tag_rows, start_rows, end_rows}
-use Rattle.rx_grammar.specs.Pages.{Opens, Closes, Drops, Holds, nothing, a_text, alone, Lead, root_name, Document, a_comment, is_between, passed, a_doctype}
+use Rattle.rx_grammar.specs.Pages.{Opens, Holds, nothing, a_text, alone, Lead, root_name, Document, a_comment, is_between, passed, a_doctype}
 use Rattle.rx_grammar.specs.declared.contents.Content.TheVariants as content
 use Rattle.rx_grammar.specs.declared.faults.Kind.{Kind}
 use Rattle.rx_grammar.specs.declared.faults.Kind.TheVariants as kind
@@ -186,12 +186,9 @@ module _ (syntax : Syntax) (depth : ℕ) (item : Item) (outside_has : item.conte
       (λ closing. absurd (let p = passes (first_row (end_rows syntax [] u)) (record { next = over (line_above (after_end syntax u.name [])); events = ended_by_end syntax u.name [] ++ finishes ∷ [] }) step (sym (of_end u.closing _ _ _ _ closing) ∙ e) in let q = p.none in cc))
       (λ start. start_before syntax depth (items ++ item ∷ []) item items stood refl lead u step c k start e)
   lead_more items stood d lead c (character x) k may step e = arrived syntax depth (items ++ item ∷ []) item (text_step (record { line = []; phase = before stood; drops = d }) (is_line_feed (character x)) (x ∷ [])) step e (not_begun stood (lead_snoc lead item c (ap is_between k)))
-  lead_more items stood d lead c (reference x) k may step e = absurd (cc)
-  lead_more items stood d lead c (kept x) k may step e = absurd (cc)
-  lead_more items stood d lead c (section x) k may step e = absurd (cc)
   lead_more items stood d lead c comment k may step e = arrived syntax depth (items ++ item ∷ []) item (record { next = record { line = []; phase = before stood; drops = false }; events = [] }) step e (not_begun stood (lead_snoc lead item c (ap is_between k)))
-  lead_more items true d lead c doctype k may step e = absurd (cc)
   lead_more items false d lead c doctype k may step e = arrived syntax depth (items ++ item ∷ []) item (record { next = record { line = []; phase = before true; drops = false }; events = [] }) step e (not_begun true (lead_doctype lead refl item c k))
+  lead_more items stood d lead c _ k may step e = absurd (cc)
 
   open_more : {left : ℕ} (items : List Item) (t : StartTag) (above : Line) (d : Bool) → Open syntax left items [] (t ∷ above) → length (t ∷ above) + left ≡ depth → item.content ≡ (inside_of syntax (t ∷ above)).content → (token : Token) → item.token ≡ token → (step : Step)
       → step_by syntax depth (record { line = t ∷ above; phase = within; drops = d }) item token ≡ Ok step → More items step
@@ -224,11 +221,8 @@ module _ (syntax : Syntax) (depth : ℕ) (item : Item) (outside_has : item.conte
       (λ closing. absurd (let p = passes (first_row (end_rows syntax [] u)) (record { next = over (line_above (after_end syntax u.name [])); events = ended_by_end syntax u.name [] ++ finishes ∷ [] }) step (sym (of_end u.closing _ _ _ _ closing) ∙ e) in let q = p.none in cc))
       (λ start. absurd (let p = passes (first_row (start_rows syntax depth [] after u)) (begun_under syntax item u [] []) step (sym (of_start u.closing _ _ _ _ start) ∙ e) in let q = p.none in cc))
   after_more items d tree doc c (character x) k may step e = arrived syntax depth (items ++ item ∷ []) item (text_step (record { line = []; phase = after; drops = d }) (is_line_feed (character x)) (x ∷ [])) step e (ended tree (document_snoc syntax depth items tree doc item c (ap is_between k)))
-  after_more items d tree doc c (reference x) k may step e = absurd (cc)
-  after_more items d tree doc c (kept x) k may step e = absurd (cc)
-  after_more items d tree doc c (section x) k may step e = absurd (cc)
   after_more items d tree doc c comment k may step e = arrived syntax depth (items ++ item ∷ []) item (record { next = record { line = []; phase = after; drops = false }; events = [] }) step e (ended tree (document_snoc syntax depth items tree doc item c (ap is_between k)))
-  after_more items d tree doc c doctype k may step e = absurd (cc)
+  after_more items d tree doc c _ k may step e = absurd (cc)
 
   pub one_more : (items : List Item) (line : Line) (phase : Phase) (d : Bool) → Stands syntax depth items line phase → item.content ≡ (inside_of syntax line).content → (step : Step) → nest_step syntax depth (record { line = line; phase = phase; drops = d }) item ≡ Ok step → More items step
   one_more items line phase d (not_begun stood lead) c step e = lead_more items stood d lead c item.token refl (outside_has c) step e

@@ -1,6 +1,6 @@
 -- The tokens of a page are determined by its characters: two lists of tokens that are spelled by the same characters, and both nest, tell the same.
-use Rattle.rx_reader.proofs.Common.{◌≡◌, ◌∙◌, ℕ, List, [], ◌∷◌, ◌++◌, None, refl, ap, sym, subst, map-append, Ok, Entry, Syntax, Spells, Item, Spelled, no_more, one, values, next_of, last_from, one_token}
-use Rattle.rx_pages.specs.Nesting.{Event, Nesting, Step, nest_step, Goes, stands, goes}
+use Rattle.rx_reader.proofs.Common.{◌≡◌, ◌∙◌, List, [], ◌∷◌, ◌++◌, None, refl, ap, sym, subst, map-append, Entry, Syntax, Spells, Item, values, next_of, last_from}
+use Rattle.rx_pages.proofs.OneToken.{one_token}
 
 -- two lists of entries with equal characters in front are equal, and so is what follows
 pub record SameFront (xs ys m n : List Entry) : Type 0 where
@@ -39,23 +39,3 @@ same_item syntax c d run other rest others a b ci e h k af al bf bl =
       item = λ i. record { token = s.token_is i; content = ci i; first = firsts i; last = lasts i };
       rest_is = f.rest;
     }
-
--- the tokens and what they tell are equal
-pub record SameTokens (some others : List Item) (es fs : List Event) : Type 0 where
-  pub items : some ≡ others
-  pub events : es ≡ fs
-
-module _ (syntax : Syntax) (depth : ℕ) (meant expected : Nesting → Type 0) where
-  pub same_tokens : {n : Nesting} {xs ys : List Entry} {some others : List Item} {es fs : List Event} → Spelled syntax xs None some → Spelled syntax ys None others → xs ≡ ys → Goes syntax depth meant n some es → Goes syntax depth expected n others fs → SameTokens some others es fs
-  same_tokens no_more no_more e (stands n p) (stands m q) = record { items = refl; events = refl }
-  same_tokens no_more (one d other others item sp f l more) e g h = absurd (cc)
-  same_tokens (one c run rest item sp f l more) no_more e g h = absurd (cc)
-  same_tokens {n = n} (one c run rest a {items = items} sp f l more) (one d other others b {items = behind} sq k m most) e (goes {events = es} a2 step ci st g) (goes {events = fs} b2 next di nt h) =
-      let i = same_item syntax c d run other rest others a b (ci ∙ sym di) e sp sq f l k m in
-      let same_ok : Ok step ≡ Ok next = sym st ∙ (ap (nest_step syntax depth n) i.item ∙ nt) in
-      let same_step : step ≡ next = cc in
-      let r = same_tokens more most i.rest_is g (subst (λ (x : Step). Goes syntax depth expected x.next behind fs) (sym same_step) h) in
-      record {
-        items = ap (λ x. x ∷ items) i.item ∙ ap (λ x. b ∷ x) r.items;
-        events = ap (λ x. x.events ++ es) same_step ∙ ap (λ x. next.events ++ x) r.events;
-      }

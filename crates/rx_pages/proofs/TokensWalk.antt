@@ -1,5 +1,5 @@
 -- Reading all tokens of a front.
-use Rattle.rx_reader.proofs.Common.{◌≡◌, ◌∙◌, ℕ, ◌+◌, ◌≤◌, Bool, true, false, cond, List, [], ◌∷◌, ◌++◌, refl, sym, ap, subst, append_assoc, append-nil, Option, Some, None, Ok, arith, ◌&&◌, if◌then◌else◌, greater_than_sign, right_bracket, Chars, and-false, Syntax, Entry, Token, tag, kept, Spells, values, next_of, Item, last_from, Spelled, no_more, one, Fits, AllFit, is_literal, is_strict_literal, no_section_end, is_known_tag, Content, Limits}
+use Rattle.rx_reader.proofs.Common.{snoc_front, snoc_last, ◌≡◌, ◌∙◌, ℕ, ◌+◌, ◌≤◌, Bool, true, false, cond, List, [], ◌∷◌, ◌++◌, refl, sym, ap, subst, append_assoc, append-nil, Option, Some, None, Ok, arith, ◌&&◌, if◌then◌else◌, greater_than_sign, right_bracket, Chars, and-false, Syntax, Entry, Token, tag, kept, Spells, values, next_of, Item, last_from, Spelled, no_more, one, Fits, AllFit, is_literal, is_strict_literal, no_section_end, is_known_tag, Content, Limits}
 use Rattle.rx_grammar.specs.declared.contents.Content.TheVariants as content
 use Rattle.rx_pages.specs.Nesting.{Event, Nesting, Step, content_at, nest_step, Goes, stands, goes}
 use Rattle.rx_pages.specs.Scanner.{Verdict, whole, ended, verdict, GoesOn, ReadAs, at_last, at_next}
@@ -56,12 +56,7 @@ end_of (e ∷ es) = by (end_of es)
     by (an_end front d h) = an_end (e ∷ front) d (ap (λ x. e ∷ x) h)
 
 pub two_lasts : (a b : Chars) (x y : ℕ) → a ++ x ∷ [] ≡ b ++ y ∷ [] → (a ≡ b) × (x ≡ y)
-two_lasts [] [] x y e = (refl, cc)
-two_lasts [] (c ∷ []) x y e = absurd (cc)
-two_lasts [] (c ∷ d ∷ b) x y e = absurd (cc)
-two_lasts (c ∷ []) [] x y e = absurd (cc)
-two_lasts (c ∷ d ∷ a) [] x y e = absurd (cc)
-two_lasts (c ∷ a) (d ∷ b) x y e = let r = two_lasts a b x y (cc) in let h : c ≡ d = cc in (ap (λ z. z ∷ a) h ∙ ap (λ z. d ∷ z) r.0, r.1)
+two_lasts a b x y e = (snoc_front a b x y e, snoc_last a b x y e)
 
 pub kept_literal : (c : ℕ) (item : Item) → IsKept item.token → is_literal c item ≡ false
 kept_literal c item (is_kept text e) = ap (λ token. is_strict_literal c item.content token) e ∙ by item.content

@@ -5,13 +5,18 @@
 //! does what they say.
 #![tactic(auto)]
 
-ghost use Rattle.rx_grammar.specs.Laws.{NotBoth, OneFault, OneTree, PageOrFault};
+ghost use Rattle.rx_grammar.specs.Laws.{NotBoth, OneFault, OneToken, OneTree, PageOrFault};
 ghost use Rattle.rx_pages.specs.Fronts.{NothingUnfinished, ReadsWhatIsUnderway, UnfinishedFollowsFront};
 ghost use Rattle.rx_pages.specs.Laws.{FaultsAreDecided, FaultsFollowFronts, FaultsStay, FindsEachFault, FindsOnlyFaults, FrontsClose, FrontsLead, FrontsStand, FrontsTell, OnePlace, PagesGoOn, ReadsEachPage, ReadsEachToken, ReadsOnlyPages, SpellsEachToken, UnfinishedGoesOn};
 
 /// A byte list has at most one tree.
 pub fn one_tree()
     ensures { OneTree }
+{}
+
+/// In one syntax and content at most one front of a list of characters spells a token, and it spells one token only.
+pub fn one_token()
+    ensures { OneToken }
 {}
 
 /// Characters that spell a token are read as it.

@@ -1,58 +1,12 @@
 -- Which tags go on with a character: the phases alone tell.
-use Rattle.rx_grammar.proofs.Common.{◌≡◌, ℕ, Bool, true, false, eqb-true, [], ◌∷◌, ◌++◌, Option, Some, None, refl, ap, sym, ◌∙◌, subst, ◌==◌, list_all, is_white_space, solidus, greater_than_sign, Chars, split, not_both_ways, Syntax, Html, Xhtml, Tag, ends_name, begins, begins_tag, is_tag_char, Shape, a_start, an_end, BeginsShape, BeginsNoShape}
+use Rattle.rx_grammar.proofs.Common.{◌≡◌, ℕ, Bool, true, false, eqb-true, [], ◌∷◌, ◌++◌, Some, None, refl, ap, sym, ◌∙◌, subst, ◌==◌, list_all, is_white_space, solidus, greater_than_sign, Chars, split, Syntax, Html, Xhtml, Tag, ends_name, begins, begins_tag, is_tag_char, Shape, a_start, an_end, BeginsShape, BeginsNoShape}
 use Rattle.rx_reader.specs.declared.phases.TagPhase.{TagPhase}
 use Rattle.rx_reader.specs.declared.phases.TagPhase.TheVariants as phase
-use Rattle.rx_reader.specs.declared.phases.TagAction.TheVariants as action
 use Rattle.rx_reader.specs.Tables.{Move, move_of, is_last}
-use Rattle.rx_reader.specs.Cuts.{with_first, cut_by, cut_from}
 use Rattle.rx_reader.proofs.Classes.{of_one, of_end}
-use Rattle.rx_reader.proofs.Moves.{is_among, Stays, stays}
-use Rattle.rx_reader.proofs.Sound.{Result as Ended, after_value', sound}
-use Rattle.rx_reader.proofs.Written.{phase_by, phase_on, phases_on, nothing_written, written_phases, shape_written}
-
-pub phases_none : (s : Syntax) (text : Chars) → phases_on s None text ≡ None
-phases_none s [] = refl
-phases_none s (c ∷ text) = phases_none s text
-
-pub phases-append : (s : Syntax) (o : Option TagPhase) (a b : Chars) → phases_on s o (a ++ b) ≡ phases_on s (phases_on s o a) b
-phases-append s o [] b = refl
-phases-append s o (c ∷ a) b = phases-append s (phase_on s o c) a b
-
--- a phase in which the tag is whole
-pub record Whole (s : Syntax) (o : Option TagPhase) (text : Chars) : Type 0 where
-  pub q : TagPhase
-  pub reads : phases_on s o text ≡ Some q
-  pub whole : is_last q ≡ true
-
-nowhere : (s : Syntax) (text : Chars) (G : Type 0) → Whole s None text → G
-nowhere s text G w = absurd (let e = phases_none s text in let h = w.reads in cc)
-
-module _ (s : Syntax) where
-  -- attributes
-  pub record CutIs (text : Chars) (p : TagPhase) (key value : Chars) : Type 0 where
-    pub r : Ended
-    pub cut : cut_from s text p key value ≡ Some r
-
-  last_cut : (p : TagPhase) (key value : Chars) → is_among p ≡ true → is_last p ≡ true → CutIs [] p key value
-  last_cut phase.Opened key value i w = record { r = ([], false); cut = refl }
-  last_cut phase.Emptied key value i w = record { r = ([], true); cut = refl }
-  last_cut _ key value i w = absurd (cc)
-
-  abbrev ToCut : Chars → Type 0
-  ToCut text = (p : TagPhase) (key value : Chars) → is_among p ≡ true → Whole s (Some p) text → CutIs text p key value
-
-  to_move : (text : Chars) → ToCut text → (p : TagPhase) (key value : Chars) (c : ℕ) (m : Move) → Stays m → move_of s p c ≡ m → Whole s (phase_by m) text → CutIs (c ∷ text) p key value
-  to_move text ih p key value c None st e w = nowhere s text _ w
-  to_move text ih p key value c (Some (q, action.Skip)) st e w = let d = ih q key value st.0 w in record { r = d.r; cut = ap (λ m. cut_by (cut_from s text) key value c m) e ∙ d.cut }
-  to_move text ih p key value c (Some (q, action.Name)) st e w = absurd (let x = st.1 in cc)
-  to_move text ih p key value c (Some (q, action.Key)) st e w = let d = ih q (key ++ c ∷ []) value st.0 w in record { r = d.r; cut = ap (λ m. cut_by (cut_from s text) key value c m) e ∙ d.cut }
-  to_move text ih p key value c (Some (q, action.Value)) st e w = let d = ih q key (value ++ c ∷ []) st.0 w in record { r = d.r; cut = ap (λ m. cut_by (cut_from s text) key value c m) e ∙ d.cut }
-  to_move text ih p key value c (Some (q, action.Add)) st e w = let d = ih q [] [] st.0 w in record { r = ((key, value) ∷ d.r.0, d.r.1); cut = ap (λ m. cut_by (cut_from s text) key value c m) e ∙ ap (λ x. with_first (key, value) x) d.cut }
-  to_move text ih p key value c (Some (q, action.AddKey)) st e w = let d = ih q (c ∷ []) [] st.0 w in record { r = ((key, value) ∷ d.r.0, d.r.1); cut = ap (λ m. cut_by (cut_from s text) key value c m) e ∙ ap (λ x. with_first (key, value) x) d.cut }
-
-  pub to_cut : (text : Chars) → ToCut text
-  to_cut [] p key value i w = let e : p ≡ w.q = let r = w.reads in cc in last_cut p key value i (ap is_last e ∙ w.whole)
-  to_cut (c ∷ text) p key value i w = to_move text (to_cut text) p key value c (move_of s p c) (stays s p c i) refl (record { q = w.q; reads = w.reads; whole = w.whole })
+use Rattle.rx_reader.proofs.Sound.{after_value', sound}
+use Rattle.rx_reader.proofs.Steps.{phase_by, phases_on, nothing_written, written_phases, phases_none, phases-append, Whole, nowhere, next, not_whole}
+use Rattle.rx_reader.proofs.Written.{shape_written}
 
 -- each shape is read to its end
 pub shape_read : (s : Syntax) (text : Chars) (tag : Tag) → Shape s text tag → Whole s (Some phase.Start) text
@@ -72,14 +26,11 @@ module _ (s : Syntax) where
     pub ends : begins ends_name rest ≡ true
     pub reads : Whole s (Some phase.AfterValue) rest
 
-  not_last : (p : TagPhase) (G : Type 0) → is_last p ≡ false → Whole s (Some p) [] → G
-  not_last p G n w = absurd (not_both_ways (is_last p) (let e : p ≡ w.q = let r = w.reads in cc in ap is_last e ∙ w.whole) n)
-
   name_here : (c : ℕ) (text : Chars) → ends_name c ≡ true → Whole s (Some phase.Name) (c ∷ text) → NameRest (c ∷ text)
   name_here c text e w = record { more = []; rest = c ∷ text; is = refl; chars = refl; ends = e; reads = record { q = w.q; reads = of_end (λ x. phases_on s (Some phase.AfterValue) (x ∷ text) ≡ phases_on s (Some phase.Name) (x ∷ text)) c e refl refl refl refl refl refl refl ∙ w.reads; whole = w.whole } }
 
   name_rest : (text : Chars) → Whole s (Some phase.Name) text → NameRest text
-  name_rest [] w = not_last phase.Name _ refl w
+  name_rest [] w = not_whole s phase.Name _ refl w
   name_rest (c ∷ text) w =
       let P : Move → Type 0 = λ m. Whole s (phase_by m) text → NameRest (c ∷ text) in
       split P (is_white_space c) _ _
@@ -90,7 +41,7 @@ module _ (s : Syntax) where
       (λ e g. name_here c text (of_one (λ x. ends_name x ≡ true) c greater_than_sign e refl) w)
       (λ _. split P (is_tag_char s c) _ _
       (λ e g. let d = name_rest text g in record { more = c ∷ d.more; rest = d.rest; is = ap (λ x. c ∷ x) d.is; chars = rw e d.chars; ends = d.ends; reads = d.reads })
-      (λ _ g. nowhere s text _ g)))) (record { q = w.q; reads = w.reads; whole = w.whole })
+      (λ _ g. nowhere s text _ g)))) (next s phase.Name c text w)
 
   pub record EndRest (text : Chars) : Type 0 where
     pub more : Chars
@@ -112,15 +63,15 @@ module _ (s : Syntax) where
   gap_end c text e w = record { spaces = []; is = ap (λ x. x ∷ text) (eqb-true c greater_than_sign e) ∙ ap (λ x. greater_than_sign ∷ x) (sym (closed_rest text w)); white = refl }
 
   gap_rest : (text : Chars) → Whole s (Some phase.EndGap) text → GapRest text
-  gap_rest [] w = not_last phase.EndGap _ refl w
+  gap_rest [] w = not_whole s phase.EndGap _ refl w
   gap_rest (c ∷ text) w =
       let P : Move → Type 0 = λ m. Whole s (phase_by m) text → GapRest (c ∷ text) in
       split P (is_white_space c) _ _
       (λ e g. let d = gap_rest text g in record { spaces = c ∷ d.spaces; is = ap (λ x. c ∷ x) d.is; white = rw e d.white })
-      (λ _. split P (c == greater_than_sign) _ _ (λ e g. gap_end c text e g) (λ _ g. nowhere s text _ g)) (record { q = w.q; reads = w.reads; whole = w.whole })
+      (λ _. split P (c == greater_than_sign) _ _ (λ e g. gap_end c text e g) (λ _ g. nowhere s text _ g)) (next s phase.EndGap c text w)
 
   end_rest : (text : Chars) → Whole s (Some phase.EndName) text → EndRest text
-  end_rest [] w = not_last phase.EndName _ refl w
+  end_rest [] w = not_whole s phase.EndName _ refl w
   end_rest (c ∷ text) w =
       let P : Move → Type 0 = λ m. Whole s (phase_by m) text → EndRest (c ∷ text) in
       split P (is_white_space c) _ _
@@ -129,14 +80,14 @@ module _ (s : Syntax) where
       (λ e g. let d = gap_end c text e g in record { more = []; spaces = d.spaces; is = d.is; chars = refl; white = d.white })
       (λ _. split P (is_tag_char s c) _ _
       (λ e g. let d = end_rest text g in record { more = c ∷ d.more; spaces = d.spaces; is = ap (λ x. c ∷ x) d.is; chars = rw e d.chars; white = d.white })
-      (λ _ g. nowhere s text _ g))) (record { q = w.q; reads = w.reads; whole = w.whole })
+      (λ _ g. nowhere s text _ g))) (next s phase.EndName c text w)
 
   starts : (c : ℕ) (text : Chars) → begins_tag s c ≡ true → Whole s (Some phase.Name) text → Shaped s (c ∷ text)
   starts c text e w =
       let d = name_rest text w in
-      let k = to_cut s d.rest phase.AfterValue [] [] refl d.reads in
-      let t : Tag = record { closing = false; name = c ∷ d.more; attributes = k.r.0; slash = k.r.1 } in
-      record { tag = t; shape = subst (λ (x : Chars). Shape s (c ∷ x) t) (sym d.is) (a_start (c ∷ d.more) d.rest (rw e d.chars) d.ends (sound s d.rest phase.AfterValue [] [] [] k.r after_value' k.cut)) }
+      let k = sound s d.rest phase.AfterValue [] after_value' d.reads in
+      let t : Tag = record { closing = false; name = c ∷ d.more; attributes = k.attributes; slash = k.slash } in
+      record { tag = t; shape = subst (λ (x : Chars). Shape s (c ∷ x) t) (sym d.is) (a_start (c ∷ d.more) d.rest (rw e d.chars) d.ends k.are) }
 
   ends : (c : ℕ) (text : Chars) → begins_tag s c ≡ true → Whole s (Some phase.EndName) text → Shaped s (solidus ∷ c ∷ text)
   ends c text e w =
@@ -145,18 +96,18 @@ module _ (s : Syntax) where
       record { tag = t; shape = subst (λ (x : Chars). Shape s (solidus ∷ c ∷ x) t) (sym d.is) (an_end (c ∷ d.more) d.spaces (rw e d.chars) d.white) }
 
   end_starts : (text : Chars) → Whole s (Some phase.EndStart) text → Shaped s (solidus ∷ text)
-  end_starts [] w = not_last phase.EndStart _ refl w
-  end_starts (c ∷ text) w = split (λ (m : Move). Whole s (phase_by m) text → Shaped s (solidus ∷ c ∷ text)) (begins_tag s c) _ _ (λ e g. ends c text e g) (λ _ g. nowhere s text _ g) (record { q = w.q; reads = w.reads; whole = w.whole })
+  end_starts [] w = not_whole s phase.EndStart _ refl w
+  end_starts (c ∷ text) w = split (λ (m : Move). Whole s (phase_by m) text → Shaped s (solidus ∷ c ∷ text)) (begins_tag s c) _ _ (λ e g. ends c text e g) (λ _ g. nowhere s text _ g) (next s phase.EndStart c text w)
 
   pub shaped : (text : Chars) → Whole s (Some phase.Start) text → Shaped s text
-  shaped [] w = not_last phase.Start _ refl w
+  shaped [] w = not_whole s phase.Start _ refl w
   shaped (c ∷ text) w =
       let P : Move → Type 0 = λ m. Whole s (phase_by m) text → Shaped s (c ∷ text) in
       split P (begins_tag s c) _ _
       (λ e g. starts c text e g)
       (λ _. split P (c == solidus) _ _
       (λ e g. of_one (λ x. Shaped s (x ∷ text)) c solidus e (end_starts text g))
-      (λ _ g. nowhere s text _ g)) (record { q = w.q; reads = w.reads; whole = w.whole })
+      (λ _ g. nowhere s text _ g)) (next s phase.Start c text w)
 
 -- each phase but the last ones leads on to one
 pub record Leads (s : Syntax) (p : TagPhase) : Type 0 where
@@ -176,20 +127,16 @@ end_leads Xhtml = refl
 
 pub leads : (s : Syntax) (p : TagPhase) → is_last p ≡ false → Leads s p
 leads s phase.Start h = record { c = 97; rest = 62 ∷ []; q = phase.Opened; reads = start_leads s; whole = refl }
-leads s phase.Name h = record { c = 62; rest = []; q = phase.Opened; reads = refl; whole = refl }
-leads s phase.Gap h = record { c = 62; rest = []; q = phase.Opened; reads = refl; whole = refl }
-leads s phase.Solidus h = record { c = 62; rest = []; q = phase.Emptied; reads = refl; whole = refl }
 leads s phase.Key h = record { c = 61; rest = 34 ∷ 34 ∷ 62 ∷ []; q = phase.Opened; reads = refl; whole = refl }
 leads s phase.AfterKey h = record { c = 61; rest = 34 ∷ 34 ∷ 62 ∷ []; q = phase.Opened; reads = refl; whole = refl }
 leads s phase.BeforeValue h = record { c = 34; rest = 34 ∷ 62 ∷ []; q = phase.Opened; reads = refl; whole = refl }
 leads s phase.DoubleQuoted h = record { c = 34; rest = 62 ∷ []; q = phase.Opened; reads = refl; whole = refl }
 leads s phase.SingleQuoted h = record { c = 39; rest = 62 ∷ []; q = phase.Opened; reads = refl; whole = refl }
-leads s phase.Unquoted h = record { c = 62; rest = []; q = phase.Opened; reads = refl; whole = refl }
-leads s phase.AfterValue h = record { c = 62; rest = []; q = phase.Opened; reads = refl; whole = refl }
 leads s phase.EndStart h = record { c = 97; rest = 62 ∷ []; q = phase.Closed; reads = end_leads s; whole = refl }
-leads s phase.EndName h = record { c = 62; rest = []; q = phase.Closed; reads = refl; whole = refl }
-leads s phase.EndGap h = record { c = 62; rest = []; q = phase.Closed; reads = refl; whole = refl }
-leads s _ h = absurd (cc)
+leads s phase.Opened h = absurd (cc)
+leads s phase.Emptied h = absurd (cc)
+leads s phase.Closed h = absurd (cc)
+leads s _ h = record { c = 62; rest = []; q = _; reads = refl; whole = refl }
 
 module _ (s : Syntax) (front : Chars) (p : TagPhase) (at : phases_on s (Some phase.Start) front ≡ Some p) where
   -- they begin a tag

@@ -13,18 +13,18 @@ pub use Rattle.rx_grammar.specs.declared.contents.Content.{Content}
 pub use Rattle.rx_grammar.specs.declared.contents.RawName.{RawName}
 pub use Rattle.rx_grammar.specs.declared.faults.Fault.{Fault}
 pub use Rattle.rx_grammar.specs.declared.faults.Kind.{Kind}
-pub use Rattle.rx_grammar.specs.declared.faults.Kind.TheVariants.{BadDoctype, BadReference, BadTag, NotUtf8, Nul, Outside, PageTooLong, RepeatedAttribute, StrictText, TagTooLong, Unended, UnknownReference}
+pub use Rattle.rx_grammar.specs.declared.faults.Kind.TheVariants.{BadDoctype, BadReference, BadTag, NotUtf8, Nul, Outside, PageTooLong, StrictText, TagTooLong, Unended, UnknownReference}
 pub use Rattle.rx_grammar.specs.declared.limits.Limits.{Limits}
 pub use Rattle.rx_reader.proofs.Classes.{of_one, of_white, unless}
 pub use Rattle.rx_reader.proofs.Fronts.{begins_append, begins_front, begins_more, begun_front, begun_no_mark, equal, has_end, two_fronts}
-pub use Rattle.rx_reader.proofs.OneToken.{RawEnd, amp_no_text, keeps_has, kept_case, less_markup, less_no_text, not_front, one_token, raw_end, run_not_end, same_self, section_markup, tag_first}
+pub use Rattle.rx_reader.proofs.EndTags.{RawEnd, amp_no_text, keeps_has, kept_case, less_markup, less_no_text, not_front, raw_end, run_not_end, same_self, section_markup, tag_first}
 pub use Rattle.rx_reader.proofs.TagFaultLaws.{begins_from, is_refused, parts, reads_on, refuses_each_fault}
 pub use Rattle.rx_reader.proofs.TagLaws.{last_none, on_err, reads_each, repeats_once, spells_each, stuck, tag_on-append}
 pub use Rattle.rx_reader.proofs.ValueFaults.{snoc_front, snoc_last}
 pub use Rattle.rx_reader.specs.Laws.{ReadsOn}
 pub use Rattle.rx_reader.specs.Tables.{Move, go, is_html, is_last, move_of, run_move}
 pub use Rattle.rx_reader.specs.TagReader.{TagState, checked, fresh, moved, parts_of, tag_of, tag_on, tag_step, tag_step_on, with_attribute, with_value}
-pub use Rattle.rx_reader.specs.Values.{Value, is_run, known_as, meant, no_meaning, no_value_yet, plain_step, run_step, value_end, value_read, value_step}
+pub use Rattle.rx_reader.specs.Values.{Value, is_run, known_as, meant, no_meaning, no_value_yet, plain_step, run_step, value_end, value_step}
 pub use Rattle.rx_terms.proofs.Common.{IsScalar, OnErr, OnOk, add-one, and-false, and-true, and_right, ascii-same, both_ways, drop-append_seam, is_err, length-map, map, ne_eqb, or_from, subst₂, take-append_seam, take_more}
 pub use Rattle.rx_terms.specs.Ascii.{between, left_bracket, question_mark}
 pub use Rattle.std.proofs.lemmas.Bool.{lt-leb}

@@ -1,5 +1,5 @@
 -- Two fronts of one list.
-use Rattle.rx_grammar.proofs.Common.{◌≡◌, ℕ, Bool, true, false, cond, eqb-true, [], ◌∷◌, ◌++◌, refl, ap, sym, ◌∙◌, inl, inr, ◌⊎◌, subst, ◌&&◌, ◌==◌, not, codes, eq-eqb, or_left, or_right, and_from, list_all, list_any, is_letter, is_digit, is_letter_or_digit, number_sign, semicolon, greater_than_sign, Chars, begins_with, is_empty, both, either, untrue, not_both_ways, by_test, same, is_hexadecimal_digit, is_x, begins_number, is_begun, ends_with, IsFirst}
+use Rattle.rx_grammar.proofs.Common.{◌≡◌, ℕ, Bool, true, false, eqb-true, [], ◌∷◌, ◌++◌, refl, ap, sym, ◌∙◌, inl, inr, ◌⊎◌, subst, ◌&&◌, ◌==◌, not, codes, eq-eqb, or_left, or_right, and_from, list_all, list_any, is_letter, is_digit, is_letter_or_digit, number_sign, semicolon, greater_than_sign, Chars, begins_with, both, either, same, is_hexadecimal_digit, is_x, begins_number, is_begun, ends_with}
 use Rattle.rx_reader.proofs.Classes.{of_one, unless}
 
 pub equal : (n : ℕ) → (n == n) ≡ true
@@ -21,36 +21,6 @@ two_fronts (x ∷ xs) (y ∷ ys) m n e =
       | inr d ↦ inr (record { z = d.z; is = ap (λ c. c ∷ xs) h ∙ ap (λ r. y ∷ r) d.is; rest = d.rest })
     ]
 
--- the first front that meets a test has no longer one
-pub one_first : (test : Chars → Bool) (x z : Chars) → test x ≡ true → IsFirst test (x ++ z) → z ≡ []
-one_first test x [] h f = refl
-one_first test x (c ∷ z) h f = absurd (not_both_ways (test x) h (f.first x (c ∷ z) refl (λ e. cc)))
-
--- a mark stands at the end of a text alone
-abbrev pub only_end : ℕ → Chars → Bool
-only_end mark [] = false
-only_end mark (c ∷ text) = cond (c == mark) (is_empty text) (only_end mark text)
-
-empty_nil : (z : Chars) → is_empty z ≡ true → z ≡ []
-empty_nil [] h = refl
-empty_nil (c ∷ z) h = absurd (cc)
-
-pub one_end : (mark : ℕ) (text z : Chars) → only_end mark text ≡ true → only_end mark (text ++ z) ≡ true → z ≡ []
-one_end mark [] z h k = absurd (cc)
-one_end mark (c ∷ text) z h k =
-    by_test {G = z ≡ []} (c == mark)
-    (λ e. let a : is_empty text ≡ true = ap (λ b. cond b (is_empty text) (only_end mark text)) (sym e) ∙ h in
-    let b : is_empty (text ++ z) ≡ true = ap (λ b. cond b (is_empty (text ++ z)) (only_end mark (text ++ z))) (sym e) ∙ k in
-    let n : text ≡ [] = empty_nil text a in
-    empty_nil z (ap (λ (x : Chars). is_empty (x ++ z)) (sym n) ∙ b))
-    (λ e. one_end mark text z (ap (λ b. cond b (is_empty text) (only_end mark text)) (sym e) ∙ h) (ap (λ b. cond b (is_empty (text ++ z)) (only_end mark (text ++ z))) (sym e) ∙ k))
-
-pub ends_at : (mark : ℕ) (text : Chars) → list_all (λ c. not (c == mark)) text ≡ true → only_end mark (text ++ mark ∷ []) ≡ true
-ends_at mark [] h = ap (λ b. cond b true false) (equal mark)
-ends_at mark (c ∷ text) h =
-    let b = both (not (c == mark)) _ h in
-    ap (λ x. cond x (is_empty (text ++ mark ∷ [])) (only_end mark (text ++ mark ∷ []))) (untrue (c == mark) b.0) ∙ ends_at mark text b.1
-
 -- begins_with
 pub begins_append : (p q : Chars) → begins_with p (p ++ q) ≡ true
 begins_append [] q = refl
@@ -65,19 +35,6 @@ pub begins_more : (p text z : Chars) → begins_with p text ≡ true → begins_
 begins_more [] text z h = refl
 begins_more (c ∷ p) [] z h = absurd (cc)
 begins_more (c ∷ p) (d ∷ text) z h = let k = both (c == d) _ h in rw (k.0, begins_more p text z k.1) refl
-
--- a text with a mark that `p` hasn't is no front of `p`
-pub begins_within : (mark : ℕ) (p text z : Chars) → list_all (λ c. not (c == mark)) p ≡ true → list_any (λ c. c == mark) text ≡ true → begins_with p (text ++ z) ≡ true → begins_with p text ≡ true
-begins_within mark [] text z n a h = refl
-begins_within mark (c ∷ p) [] z n a h = absurd (cc)
-begins_within mark (c ∷ p) (d ∷ text) z n a h =
-    let b = both (not (c == mark)) _ n in
-    let k = both (c == d) _ h in
-    let e : d ≡ c = sym (eqb-true c d k.0) in
-    elim (either (d == mark) _ a) [
-      | inl f ↦ absurd (not_both_ways (c == mark) (subst (λ (x : ℕ). (x == mark) ≡ true) e f) (untrue (c == mark) b.0))
-      | inr f ↦ rw (k.0, begins_within mark p text z b.1 f k.1) refl
-    ]
 
 pub has_end : (text : Chars) → ends_with (codes ">") text ≡ true → list_any (λ c. c == greater_than_sign) text ≡ true
 has_end [] h = absurd (cc)

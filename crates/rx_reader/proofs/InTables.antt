@@ -1,7 +1,8 @@
 -- How phases follow one another in a tag: what begins a value, and what stands directly before.
-use Rattle.rx_grammar.proofs.Common.{◌≡◌, ℕ, Bool, true, false, cond, List, [], ◌∷◌, ◌++◌, Some, None, refl, sym, inl, inr, ◌⊎◌, ◌||◌, ◌&&◌, ◌==◌, not, is_white_space, solidus, equals_sign, greater_than_sign, quotation_mark, apostrophe, split, Syntax, is_quote, begins_tag, is_tag_char, begins_attribute, continues_attribute}
+use Rattle.rx_grammar.proofs.Common.{◌≡◌, ℕ, Bool, true, false, cond, List, [], ◌∷◌, ◌++◌, Some, None, refl, sym, inl, inr, ◌⊎◌, ◌||◌, ◌&&◌, ◌==◌, not, is_white_space, solidus, equals_sign, greater_than_sign, quotation_mark, apostrophe, split, not_both_ways, Syntax, is_quote, begins_tag, is_tag_char, begins_attribute, continues_attribute}
 use Rattle.rx_reader.specs.declared.phases.TagPhase.{TagPhase}
 use Rattle.rx_reader.specs.declared.phases.TagPhase.TheVariants as phase
+use Rattle.rx_reader.specs.declared.phases.TagAction.{TagAction}
 use Rattle.rx_reader.specs.declared.phases.TagAction.TheVariants as action
 use Rattle.rx_reader.specs.Tables.{Move, move_of, is_html}
 use Rattle.rx_reader.proofs.Classes.{of_one}
@@ -43,78 +44,96 @@ is_steady p (Some (q, action.Value)) = is_value_phase q && is_among q
 is_steady p (Some (q, action.Add)) = is_among q
 is_steady p (Some (q, action.AddKey)) = is_among q
 
-whichever : (p : TagPhase) (b : Bool) (x y : Move) → is_steady p x ≡ true → is_steady p y ≡ true → is_steady p (cond b x y) ≡ true
-whichever p b x y h k = split (λ (m : Move). is_steady p m ≡ true) b x y (λ _. h) (λ _. k)
-
-pub steady : (s : Syntax) (p : TagPhase) (c : ℕ) → is_steady p (move_of s p c) ≡ true
-steady s phase.Start c = whichever phase.Start (begins_tag s c) _ _ refl (whichever phase.Start (c == solidus) _ _ refl refl)
-steady s phase.Name c = whichever phase.Name (is_white_space c) _ _ refl (whichever phase.Name (c == solidus) _ _ refl (whichever phase.Name (c == greater_than_sign) _ _ refl (whichever phase.Name (is_tag_char s c) _ _ refl refl)))
-steady s phase.Gap c = whichever phase.Gap (is_white_space c) _ _ refl (whichever phase.Gap (c == solidus) _ _ refl (whichever phase.Gap (c == greater_than_sign) _ _ refl (whichever phase.Gap (begins_attribute s c) _ _ refl refl)))
-steady s phase.Solidus c = whichever phase.Solidus (c == greater_than_sign) _ _ refl (whichever phase.Solidus (is_html s) _ _ (whichever phase.Solidus (is_white_space c) _ _ refl (whichever phase.Solidus (c == solidus) _ _ refl (whichever phase.Solidus (c == greater_than_sign) _ _ refl (whichever phase.Solidus (begins_attribute s c) _ _ refl refl)))) refl)
-steady s phase.Key c = whichever phase.Key (is_white_space c) _ _ refl (whichever phase.Key (c == equals_sign) _ _ refl (whichever phase.Key (c == solidus) _ _ (whichever phase.Key (is_html s) _ _ refl refl) (whichever phase.Key (c == greater_than_sign) _ _ (whichever phase.Key (is_html s) _ _ refl refl) (whichever phase.Key (continues_attribute s c) _ _ refl refl))))
-steady s phase.AfterKey c = whichever phase.AfterKey (is_white_space c) _ _ refl (whichever phase.AfterKey (c == equals_sign) _ _ refl (whichever phase.AfterKey (is_html s) _ _ (whichever phase.AfterKey (c == solidus) _ _ refl (whichever phase.AfterKey (c == greater_than_sign) _ _ refl (whichever phase.AfterKey (begins_attribute s c) _ _ refl refl))) refl))
-steady s phase.BeforeValue c = whichever phase.BeforeValue (is_white_space c) _ _ refl (whichever phase.BeforeValue (c == quotation_mark) _ _ refl (whichever phase.BeforeValue (c == apostrophe) _ _ refl (whichever phase.BeforeValue (c == greater_than_sign) _ _ refl (whichever phase.BeforeValue (is_html s) _ _ refl refl))))
-steady s phase.DoubleQuoted c = whichever phase.DoubleQuoted (c == quotation_mark) _ _ refl refl
-steady s phase.SingleQuoted c = whichever phase.SingleQuoted (c == apostrophe) _ _ refl refl
-steady s phase.Unquoted c = whichever phase.Unquoted (is_white_space c) _ _ refl (whichever phase.Unquoted (c == greater_than_sign) _ _ refl refl)
-steady s phase.AfterValue c = whichever phase.AfterValue (is_white_space c) _ _ refl (whichever phase.AfterValue (c == solidus) _ _ refl (whichever phase.AfterValue (c == greater_than_sign) _ _ refl (whichever phase.AfterValue (is_html s) _ _ (whichever phase.AfterValue (begins_attribute s c) _ _ refl refl) refl)))
-steady s phase.EndStart c = whichever phase.EndStart (begins_tag s c) _ _ refl refl
-steady s phase.EndName c = whichever phase.EndName (is_white_space c) _ _ refl (whichever phase.EndName (c == greater_than_sign) _ _ refl (whichever phase.EndName (is_tag_char s c) _ _ refl refl))
-steady s phase.EndGap c = whichever phase.EndGap (is_white_space c) _ _ refl (whichever phase.EndGap (c == greater_than_sign) _ _ refl refl)
-steady s _ c = refl
-
 -- Values without quotes are HTML's.
 abbrev pub Quoted : Syntax → TagPhase → Move → Type 0
 Quoted s p None = Unit {0}
 Quoted s p (Some (q, a)) = is_unquoted_phase q ≡ true → (is_unquoted_phase p ≡ true) ⊎ (is_html s ≡ true)
-
-pub quoted_moves : (s : Syntax) (p : TagPhase) (c : ℕ) → Quoted s p (move_of s p c)
-quoted_moves s phase.Start c = split (Quoted s phase.Start) (begins_tag s c) _ _ (λ e0. (λ h. absurd (cc))) (λ _. (split (Quoted s phase.Start) (c == solidus) _ _ (λ e1. (λ h. absurd (cc))) (λ _. tt)))
-quoted_moves s phase.Name c = split (Quoted s phase.Name) (is_white_space c) _ _ (λ e0. (λ h. absurd (cc))) (λ _. (split (Quoted s phase.Name) (c == solidus) _ _ (λ e1. (λ h. absurd (cc))) (λ _. (split (Quoted s phase.Name) (c == greater_than_sign) _ _ (λ e2. (λ h. absurd (cc))) (λ _. (split (Quoted s phase.Name) (is_tag_char s c) _ _ (λ e3. (λ h. absurd (cc))) (λ _. tt)))))))
-quoted_moves s phase.Gap c = split (Quoted s phase.Gap) (is_white_space c) _ _ (λ e0. (λ h. absurd (cc))) (λ _. (split (Quoted s phase.Gap) (c == solidus) _ _ (λ e1. (λ h. absurd (cc))) (λ _. (split (Quoted s phase.Gap) (c == greater_than_sign) _ _ (λ e2. (λ h. absurd (cc))) (λ _. (split (Quoted s phase.Gap) (begins_attribute s c) _ _ (λ e3. (λ h. absurd (cc))) (λ _. tt)))))))
-quoted_moves s phase.Solidus c = split (Quoted s phase.Solidus) (c == greater_than_sign) _ _ (λ e0. (λ h. absurd (cc))) (λ _. (split (Quoted s phase.Solidus) (is_html s) _ _ (λ e1. (split (Quoted s phase.Solidus) (is_white_space c) _ _ (λ e2. (λ h. absurd (cc))) (λ _. (split (Quoted s phase.Solidus) (c == solidus) _ _ (λ e3. (λ h. absurd (cc))) (λ _. (split (Quoted s phase.Solidus) (c == greater_than_sign) _ _ (λ e4. (λ h. absurd (cc))) (λ _. (split (Quoted s phase.Solidus) (begins_attribute s c) _ _ (λ e5. (λ h. absurd (cc))) (λ _. tt))))))))) (λ _. tt)))
-quoted_moves s phase.Key c = split (Quoted s phase.Key) (is_white_space c) _ _ (λ e0. (λ h. absurd (cc))) (λ _. (split (Quoted s phase.Key) (c == equals_sign) _ _ (λ e1. (λ h. absurd (cc))) (λ _. (split (Quoted s phase.Key) (c == solidus) _ _ (λ e2. (split (Quoted s phase.Key) (is_html s) _ _ (λ e3. (λ h. absurd (cc))) (λ _. tt))) (λ _. (split (Quoted s phase.Key) (c == greater_than_sign) _ _ (λ e3. (split (Quoted s phase.Key) (is_html s) _ _ (λ e4. (λ h. absurd (cc))) (λ _. tt))) (λ _. (split (Quoted s phase.Key) (continues_attribute s c) _ _ (λ e4. (λ h. absurd (cc))) (λ _. tt)))))))))
-quoted_moves s phase.AfterKey c = split (Quoted s phase.AfterKey) (is_white_space c) _ _ (λ e0. (λ h. absurd (cc))) (λ _. (split (Quoted s phase.AfterKey) (c == equals_sign) _ _ (λ e1. (λ h. absurd (cc))) (λ _. (split (Quoted s phase.AfterKey) (is_html s) _ _ (λ e2. (split (Quoted s phase.AfterKey) (c == solidus) _ _ (λ e3. (λ h. absurd (cc))) (λ _. (split (Quoted s phase.AfterKey) (c == greater_than_sign) _ _ (λ e4. (λ h. absurd (cc))) (λ _. (split (Quoted s phase.AfterKey) (begins_attribute s c) _ _ (λ e5. (λ h. absurd (cc))) (λ _. tt))))))) (λ _. tt)))))
-quoted_moves s phase.BeforeValue c = split (Quoted s phase.BeforeValue) (is_white_space c) _ _ (λ e0. (λ h. absurd (cc))) (λ _. (split (Quoted s phase.BeforeValue) (c == quotation_mark) _ _ (λ e1. (λ h. absurd (cc))) (λ _. (split (Quoted s phase.BeforeValue) (c == apostrophe) _ _ (λ e2. (λ h. absurd (cc))) (λ _. (split (Quoted s phase.BeforeValue) (c == greater_than_sign) _ _ (λ e3. tt) (λ _. (split (Quoted s phase.BeforeValue) (is_html s) _ _ (λ e4. (λ _. inr e4)) (λ _. tt)))))))))
-quoted_moves s phase.DoubleQuoted c = split (Quoted s phase.DoubleQuoted) (c == quotation_mark) _ _ (λ e0. (λ h. absurd (cc))) (λ _. (λ h. absurd (cc)))
-quoted_moves s phase.SingleQuoted c = split (Quoted s phase.SingleQuoted) (c == apostrophe) _ _ (λ e0. (λ h. absurd (cc))) (λ _. (λ h. absurd (cc)))
-quoted_moves s phase.Unquoted c = split (Quoted s phase.Unquoted) (is_white_space c) _ _ (λ e0. (λ h. absurd (cc))) (λ _. (split (Quoted s phase.Unquoted) (c == greater_than_sign) _ _ (λ e1. (λ h. absurd (cc))) (λ _. (λ _. inl refl))))
-quoted_moves s phase.AfterValue c = split (Quoted s phase.AfterValue) (is_white_space c) _ _ (λ e0. (λ h. absurd (cc))) (λ _. (split (Quoted s phase.AfterValue) (c == solidus) _ _ (λ e1. (λ h. absurd (cc))) (λ _. (split (Quoted s phase.AfterValue) (c == greater_than_sign) _ _ (λ e2. (λ h. absurd (cc))) (λ _. (split (Quoted s phase.AfterValue) (is_html s) _ _ (λ e3. (split (Quoted s phase.AfterValue) (begins_attribute s c) _ _ (λ e4. (λ h. absurd (cc))) (λ _. tt))) (λ _. tt)))))))
-quoted_moves s phase.EndStart c = split (Quoted s phase.EndStart) (begins_tag s c) _ _ (λ e0. (λ h. absurd (cc))) (λ _. tt)
-quoted_moves s phase.EndName c = split (Quoted s phase.EndName) (is_white_space c) _ _ (λ e0. (λ h. absurd (cc))) (λ _. (split (Quoted s phase.EndName) (c == greater_than_sign) _ _ (λ e1. (λ h. absurd (cc))) (λ _. (split (Quoted s phase.EndName) (is_tag_char s c) _ _ (λ e2. (λ h. absurd (cc))) (λ _. tt)))))
-quoted_moves s phase.EndGap c = split (Quoted s phase.EndGap) (is_white_space c) _ _ (λ e0. (λ h. absurd (cc))) (λ _. (split (Quoted s phase.EndGap) (c == greater_than_sign) _ _ (λ e1. (λ h. absurd (cc))) (λ _. tt)))
-quoted_moves s _ c = tt
 
 -- Between attributes no other character stands directly before.
 abbrev pub Outer : ℕ → Move → Type 0
 Outer c None = Unit {0}
 Outer c (Some (q, a)) = is_between_phase q ≡ true → is_outer c ≡ true
 
-white_outer : (c : ℕ) → is_white_space c ≡ true → is_outer c ≡ true
-white_outer c h = rw h refl
+-- Outside a value's phase only HTML begins a value so.
+abbrev pub Valued : Syntax → TagPhase → Move → Type 0
+Valued s p (Some (q, action.Value)) = (is_value_phase p ≡ true) ⊎ (is_html s ≡ true)
+Valued s p _ = Unit {0}
 
-slash_outer : (c : ℕ) → (c == solidus) ≡ true → is_outer c ≡ true
-slash_outer c h = of_one (λ x. is_outer x ≡ true) c solidus h refl
+-- all that holds of a move
+pub record Holds (s : Syntax) (c : ℕ) (p : TagPhase) (m : Move) : Type 0 where
+  pub steady : is_steady p m ≡ true
+  pub quoted : Quoted s p m
+  pub outer : Outer c m
+  pub valued : Valued s p m
 
-double_outer : (c : ℕ) → (c == quotation_mark) ≡ true → is_outer c ≡ true
-double_outer c h = of_one (λ x. is_outer x ≡ true) c quotation_mark h refl
+module _ (s : Syntax) (c : ℕ) where
+  choose : {p : TagPhase} (b : Bool) (x y : Move) → (b ≡ true → Holds s c p x) → (b ≡ false → Holds s c p y) → Holds s c p (cond b x y)
+  choose {p = p} b x y f g = split (Holds s c p) b x y f g
 
-single_outer : (c : ℕ) → (c == apostrophe) ≡ true → is_outer c ≡ true
-single_outer c h = of_one (λ x. is_outer x ≡ true) c apostrophe h refl
+  none : {p : TagPhase} → Holds s c p None
+  none = record { steady = refl; quoted = tt; outer = tt; valued = tt }
 
-pub outer_moves : (s : Syntax) (p : TagPhase) (c : ℕ) → Outer c (move_of s p c)
-outer_moves s phase.Start c = split (Outer c) (begins_tag s c) _ _ (λ e0. (λ h. absurd (cc))) (λ _. (split (Outer c) (c == solidus) _ _ (λ e1. (λ h. absurd (cc))) (λ _. tt)))
-outer_moves s phase.Name c = split (Outer c) (is_white_space c) _ _ (λ e0. (λ _. white_outer c e0)) (λ _. (split (Outer c) (c == solidus) _ _ (λ e1. (λ _. slash_outer c e1)) (λ _. (split (Outer c) (c == greater_than_sign) _ _ (λ e2. (λ h. absurd (cc))) (λ _. (split (Outer c) (is_tag_char s c) _ _ (λ e3. (λ h. absurd (cc))) (λ _. tt)))))))
-outer_moves s phase.Gap c = split (Outer c) (is_white_space c) _ _ (λ e0. (λ _. white_outer c e0)) (λ _. (split (Outer c) (c == solidus) _ _ (λ e1. (λ _. slash_outer c e1)) (λ _. (split (Outer c) (c == greater_than_sign) _ _ (λ e2. (λ h. absurd (cc))) (λ _. (split (Outer c) (begins_attribute s c) _ _ (λ e3. (λ h. absurd (cc))) (λ _. tt)))))))
-outer_moves s phase.Solidus c = split (Outer c) (c == greater_than_sign) _ _ (λ e0. (λ h. absurd (cc))) (λ _. (split (Outer c) (is_html s) _ _ (λ e1. (split (Outer c) (is_white_space c) _ _ (λ e2. (λ _. white_outer c e2)) (λ _. (split (Outer c) (c == solidus) _ _ (λ e3. (λ _. slash_outer c e3)) (λ _. (split (Outer c) (c == greater_than_sign) _ _ (λ e4. (λ h. absurd (cc))) (λ _. (split (Outer c) (begins_attribute s c) _ _ (λ e5. (λ h. absurd (cc))) (λ _. tt))))))))) (λ _. tt)))
-outer_moves s phase.Key c = split (Outer c) (is_white_space c) _ _ (λ e0. (λ _. white_outer c e0)) (λ _. (split (Outer c) (c == equals_sign) _ _ (λ e1. (λ h. absurd (cc))) (λ _. (split (Outer c) (c == solidus) _ _ (λ e2. (split (Outer c) (is_html s) _ _ (λ e3. (λ _. slash_outer c e2)) (λ _. tt))) (λ _. (split (Outer c) (c == greater_than_sign) _ _ (λ e3. (split (Outer c) (is_html s) _ _ (λ e4. (λ h. absurd (cc))) (λ _. tt))) (λ _. (split (Outer c) (continues_attribute s c) _ _ (λ e4. (λ h. absurd (cc))) (λ _. tt)))))))))
-outer_moves s phase.AfterKey c = split (Outer c) (is_white_space c) _ _ (λ e0. (λ _. white_outer c e0)) (λ _. (split (Outer c) (c == equals_sign) _ _ (λ e1. (λ h. absurd (cc))) (λ _. (split (Outer c) (is_html s) _ _ (λ e2. (split (Outer c) (c == solidus) _ _ (λ e3. (λ _. slash_outer c e3)) (λ _. (split (Outer c) (c == greater_than_sign) _ _ (λ e4. (λ h. absurd (cc))) (λ _. (split (Outer c) (begins_attribute s c) _ _ (λ e5. (λ h. absurd (cc))) (λ _. tt))))))) (λ _. tt)))))
-outer_moves s phase.BeforeValue c = split (Outer c) (is_white_space c) _ _ (λ e0. (λ h. absurd (cc))) (λ _. (split (Outer c) (c == quotation_mark) _ _ (λ e1. (λ h. absurd (cc))) (λ _. (split (Outer c) (c == apostrophe) _ _ (λ e2. (λ h. absurd (cc))) (λ _. (split (Outer c) (c == greater_than_sign) _ _ (λ e3. tt) (λ _. (split (Outer c) (is_html s) _ _ (λ e4. (λ h. absurd (cc))) (λ _. tt)))))))))
-outer_moves s phase.DoubleQuoted c = split (Outer c) (c == quotation_mark) _ _ (λ e0. (λ _. double_outer c e0)) (λ _. (λ h. absurd (cc)))
-outer_moves s phase.SingleQuoted c = split (Outer c) (c == apostrophe) _ _ (λ e0. (λ _. single_outer c e0)) (λ _. (λ h. absurd (cc)))
-outer_moves s phase.Unquoted c = split (Outer c) (is_white_space c) _ _ (λ e0. (λ _. white_outer c e0)) (λ _. (split (Outer c) (c == greater_than_sign) _ _ (λ e1. (λ h. absurd (cc))) (λ _. (λ h. absurd (cc)))))
-outer_moves s phase.AfterValue c = split (Outer c) (is_white_space c) _ _ (λ e0. (λ _. white_outer c e0)) (λ _. (split (Outer c) (c == solidus) _ _ (λ e1. (λ _. slash_outer c e1)) (λ _. (split (Outer c) (c == greater_than_sign) _ _ (λ e2. (λ h. absurd (cc))) (λ _. (split (Outer c) (is_html s) _ _ (λ e3. (split (Outer c) (begins_attribute s c) _ _ (λ e4. (λ h. absurd (cc))) (λ _. tt))) (λ _. tt)))))))
-outer_moves s phase.EndStart c = split (Outer c) (begins_tag s c) _ _ (λ e0. (λ h. absurd (cc))) (λ _. tt)
-outer_moves s phase.EndName c = split (Outer c) (is_white_space c) _ _ (λ e0. (λ h. absurd (cc))) (λ _. (split (Outer c) (c == greater_than_sign) _ _ (λ e1. (λ h. absurd (cc))) (λ _. (split (Outer c) (is_tag_char s c) _ _ (λ e2. (λ h. absurd (cc))) (λ _. tt)))))
-outer_moves s phase.EndGap c = split (Outer c) (is_white_space c) _ _ (λ e0. (λ h. absurd (cc))) (λ _. (split (Outer c) (c == greater_than_sign) _ _ (λ e1. (λ h. absurd (cc))) (λ _. tt)))
-outer_moves s _ c = tt
+  -- to a phase that is neither between attributes nor a value without quotes
+  within : {p q : TagPhase} {a : TagAction} → is_steady p (Some (q, a)) ≡ true → is_unquoted_phase q ≡ false → is_between_phase q ≡ false → Valued s p (Some (q, a)) → Holds s c p (Some (q, a))
+  within h u b v = record { steady = h; quoted = λ k. absurd (not_both_ways _ k u); outer = λ k. absurd (not_both_ways _ k b); valued = v }
+
+  -- to one between attributes
+  between : {p q : TagPhase} {a : TagAction} → is_outer c ≡ true → is_steady p (Some (q, a)) ≡ true → is_unquoted_phase q ≡ false → Valued s p (Some (q, a)) → Holds s c p (Some (q, a))
+  between o h u v = record { steady = h; quoted = λ k. absurd (not_both_ways _ k u); outer = λ _. o; valued = v }
+
+  -- to a value without quotes
+  unquoted : {p : TagPhase} → (is_unquoted_phase p ≡ true) ⊎ (is_html s ≡ true) → Valued s p (Some (phase.Unquoted, action.Value)) → Holds s c p (Some (phase.Unquoted, action.Value))
+  unquoted u v = record { steady = refl; quoted = λ _. u; outer = λ k. absurd (cc); valued = v }
+
+  white_outer : is_white_space c ≡ true → is_outer c ≡ true
+  white_outer h = rw h refl
+
+  slash_outer : (c == solidus) ≡ true → is_outer c ≡ true
+  slash_outer h = of_one (λ x. is_outer x ≡ true) c solidus h refl
+
+  double_outer : (c == quotation_mark) ≡ true → is_outer c ≡ true
+  double_outer h = of_one (λ x. is_outer x ≡ true) c quotation_mark h refl
+
+  single_outer : (c == apostrophe) ≡ true → is_outer c ≡ true
+  single_outer h = of_one (λ x. is_outer x ≡ true) c apostrophe h refl
+
+  pub holds : (p : TagPhase) → Holds s c p (move_of s p c)
+  holds phase.Start = choose (begins_tag s c) _ _ (λ _. within refl refl refl tt) (λ _. choose (c == solidus) _ _ (λ _. within refl refl refl tt) (λ _. none))
+  holds phase.Name =
+      choose (is_white_space c) _ _ (λ e. between (white_outer e) refl refl tt) (λ _. choose (c == solidus) _ _ (λ e. between (slash_outer e) refl refl tt)
+      (λ _. choose (c == greater_than_sign) _ _ (λ _. within refl refl refl tt) (λ _. choose (is_tag_char s c) _ _ (λ _. within refl refl refl tt) (λ _. none))))
+  holds phase.Gap =
+      choose (is_white_space c) _ _ (λ e. between (white_outer e) refl refl tt) (λ _. choose (c == solidus) _ _ (λ e. between (slash_outer e) refl refl tt)
+      (λ _. choose (c == greater_than_sign) _ _ (λ _. within refl refl refl tt) (λ _. choose (begins_attribute s c) _ _ (λ _. within refl refl refl tt) (λ _. none))))
+  holds phase.Solidus =
+      choose (c == greater_than_sign) _ _ (λ _. within refl refl refl tt) (λ _. choose (is_html s) _ _
+      (λ _. choose (is_white_space c) _ _ (λ e. between (white_outer e) refl refl tt) (λ _. choose (c == solidus) _ _ (λ e. between (slash_outer e) refl refl tt)
+      (λ _. choose (c == greater_than_sign) _ _ (λ _. within refl refl refl tt) (λ _. choose (begins_attribute s c) _ _ (λ _. within refl refl refl tt) (λ _. none)))))
+      (λ _. none))
+  holds phase.Key =
+      choose (is_white_space c) _ _ (λ e. between (white_outer e) refl refl tt) (λ _. choose (c == equals_sign) _ _ (λ _. within refl refl refl tt)
+      (λ _. choose (c == solidus) _ _ (λ e. choose (is_html s) _ _ (λ _. between (slash_outer e) refl refl tt) (λ _. none))
+      (λ _. choose (c == greater_than_sign) _ _ (λ _. choose (is_html s) _ _ (λ _. within refl refl refl tt) (λ _. none))
+      (λ _. choose (continues_attribute s c) _ _ (λ _. within refl refl refl tt) (λ _. none)))))
+  holds phase.AfterKey =
+      choose (is_white_space c) _ _ (λ e. between (white_outer e) refl refl tt) (λ _. choose (c == equals_sign) _ _ (λ _. within refl refl refl tt) (λ _. choose (is_html s) _ _
+      (λ _. choose (c == solidus) _ _ (λ e. between (slash_outer e) refl refl tt)
+      (λ _. choose (c == greater_than_sign) _ _ (λ _. within refl refl refl tt) (λ _. choose (begins_attribute s c) _ _ (λ _. within refl refl refl tt) (λ _. none))))
+      (λ _. none)))
+  holds phase.BeforeValue =
+      choose (is_white_space c) _ _ (λ _. within refl refl refl tt) (λ _. choose (c == quotation_mark) _ _ (λ _. within refl refl refl tt) (λ _. choose (c == apostrophe) _ _ (λ _. within refl refl refl tt)
+      (λ _. choose (c == greater_than_sign) _ _ (λ _. none) (λ _. choose (is_html s) _ _ (λ e. unquoted (inr e) (inr e)) (λ _. none)))))
+  holds phase.DoubleQuoted = choose (c == quotation_mark) _ _ (λ e. between (double_outer e) refl refl tt) (λ _. within refl refl refl (inl refl))
+  holds phase.SingleQuoted = choose (c == apostrophe) _ _ (λ e. between (single_outer e) refl refl tt) (λ _. within refl refl refl (inl refl))
+  holds phase.Unquoted =
+      choose (is_white_space c) _ _ (λ e. between (white_outer e) refl refl tt) (λ _. choose (c == greater_than_sign) _ _ (λ _. within refl refl refl tt) (λ _. unquoted (inl refl) (inl refl)))
+  holds phase.AfterValue =
+      choose (is_white_space c) _ _ (λ e. between (white_outer e) refl refl tt) (λ _. choose (c == solidus) _ _ (λ e. between (slash_outer e) refl refl tt)
+      (λ _. choose (c == greater_than_sign) _ _ (λ _. within refl refl refl tt)
+      (λ _. choose (is_html s) _ _ (λ _. choose (begins_attribute s c) _ _ (λ _. within refl refl refl tt) (λ _. none)) (λ _. none))))
+  holds phase.EndStart = choose (begins_tag s c) _ _ (λ _. within refl refl refl tt) (λ _. none)
+  holds phase.EndName =
+      choose (is_white_space c) _ _ (λ _. within refl refl refl tt) (λ _. choose (c == greater_than_sign) _ _ (λ _. within refl refl refl tt)
+      (λ _. choose (is_tag_char s c) _ _ (λ _. within refl refl refl tt) (λ _. none)))
+  holds phase.EndGap = choose (is_white_space c) _ _ (λ _. within refl refl refl tt) (λ _. choose (c == greater_than_sign) _ _ (λ _. within refl refl refl tt) (λ _. none))
+  holds _ = none

@@ -9,8 +9,9 @@ use Rattle.rx_reader.proofs.Moves.{is_among, is_value_phase}
 use Rattle.rx_reader.proofs.Sound.{html_is}
 use Rattle.rx_reader.proofs.ValueFaults.{of_quote, snoc_last}
 use Rattle.rx_reader.proofs.Automaton.{shaped}
-use Rattle.rx_reader.proofs.Written.{Written, at, nothing_written, written_by, written_on, written_none, written-append, written_phases, shape_written, as_written}
-use Rattle.rx_reader.proofs.InTables.{no_end, last_same, is_outer, is_between_phase, is_unquoted_phase, is_steady, steady, Quoted, quoted_moves, Outer, outer_moves}
+use Rattle.rx_reader.proofs.Steps.{Written, at, nothing_written, written_by, written_on, written_none, written-append, written_phases, as_written}
+use Rattle.rx_reader.proofs.Written.{shape_written}
+use Rattle.rx_reader.proofs.InTables.{no_end, last_same, is_outer, is_between_phase, is_unquoted_phase, is_steady, Quoted, Outer, holds}
 use Rattle.rx_reader.proofs.TagEnds.{Ended, in_this, in_mark, outside, in_key, in_name, ended_by}
 use Rattle.rx_reader.proofs.HtmlFaults.{html_fault}
 
@@ -94,7 +95,7 @@ module _ (s : Syntax) where
   well_first text ih front c w last d None e h = absurd (let k = written_none s text in cc)
   well_first text ih front c w last d (Some v) e h =
       subst (λ x. Well s x last) (append_assoc front (c ∷ []) text)
-      (ih (front ++ c ∷ []) v last (well_by s front w d c v (move_of s w.phase c) (steady s w.phase c) (quoted_moves s w.phase c) (outer_moves s w.phase c) e) h)
+      (ih (front ++ c ∷ []) v last (well_by s front w d c v (move_of s w.phase c) (holds s c w.phase).steady (holds s c w.phase).quoted (holds s c w.phase).outer e) h)
 
   well_on : (text front : Chars) (w last : Written) → Well s front w → written_on s (Some w) text ≡ Some last → Well s (front ++ text) last
   well_on [] front w last d h = subst (λ x. Well s x last) (sym (append-nil front)) (subst (Well s front) (as_written w last h) d)

@@ -1,6 +1,5 @@
-mod Examples
-mod PageExamples
 pub mod Classes
+pub mod Steps
 pub mod Cutting
 pub mod Complete
 pub mod Gaps
@@ -12,7 +11,7 @@ pub mod Moves
 pub mod TagComplete
 pub mod TagLaws
 pub mod Fronts
-pub mod OneToken
+pub mod EndTags
 pub mod Automaton
 pub mod ValueFaults
 pub mod ValueRefusals

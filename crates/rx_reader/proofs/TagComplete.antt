@@ -8,10 +8,11 @@ use Rattle.rx_reader.specs.Tables.{Move, move_of, is_last}
 use Rattle.rx_reader.specs.Values.{no_value_yet, value_end, step_on, value_on, end_of}
 use Rattle.rx_reader.specs.TagReader.{TagState, fresh, with_value, with_attribute, moved, moves_on, parts_of}
 use Rattle.rx_reader.proofs.Moves.{is_value_phase, InValue, in_value}
-use Rattle.rx_reader.proofs.InTables.{is_steady, steady}
+use Rattle.rx_reader.proofs.InTables.{is_steady, holds}
 use Rattle.rx_reader.proofs.TextComplete.{complete as text_complete}
 use Rattle.rx_reader.proofs.TextSound.{err_on, value-append}
-use Rattle.rx_reader.proofs.Written.{Written, at, nothing_written, written_by, written_on, written_none, as_written, shape_written, Matches, nothing_matches, follows_by, like}
+use Rattle.rx_reader.proofs.Steps.{Written, at, nothing_written, written_by, written_on, written_none, as_written}
+use Rattle.rx_reader.proofs.Written.{shape_written, Matches, nothing_matches, follows_by, like}
 
 -- a tag's end is no value's
 value_open : (p : TagPhase) → is_value_phase p ≡ true → is_last p ≡ true → ⊥
@@ -69,7 +70,7 @@ module _ (s : Syntax) where
 
   extends : (text : Chars) (w last : Written) → is_value_phase w.phase ≡ true → written_on s (Some w) text ≡ Some last → is_last last.phase ≡ true → Extends w last
   extends [] w last v h l = absurd (value_open w.phase v (ap (λ x. is_last x.phase) (as_written w last h) ∙ l))
-  extends (c ∷ text) w last v h l = extends_by text (extends text) w last c (move_of s w.phase c) (in_value s w.phase c v) (steady s w.phase c) h l
+  extends (c ∷ text) w last v h l = extends_by text (extends text) w last c (move_of s w.phase c) (in_value s w.phase c v) (holds s c w.phase).steady h l
 
   module _ (means : Chars → Option ℕ) where
     value_at : (a : List Attribute) (x : Attribute) (b more : List Attribute) → AreRead s means (a ++ x ∷ b) more → IsValue s means x.1
@@ -106,7 +107,7 @@ module _ (s : Syntax) where
       reads_on : (text : Chars) (w : Written) (st : TagState) → Matches s means w st → written_on s (Some w) text ≡ Some last → Known (moves_on s means (Ok st) text)
       reads_on [] w st k h = record { it = st; is = refl }
       reads_on (c ∷ text) w st k h =
-          let m = move_known text w st c k (move_of s w.phase c) (steady s w.phase c) h in
+          let m = move_known text w st c k (move_of s w.phase c) (holds s c w.phase).steady h in
           let f = follows_by s means w st m.it c (move_of s w.phase c) k m.is in
           let r = reads_on text f.now m.it f.matches (ap (λ o. written_on s o text) (sym f.is) ∙ h) in
           record { it = r.it; is = ap (λ p. moves_on s means (moved s means st c (move_of s p c)) text) (sym k.phase_is) ∙ (ap (λ o. moves_on s means o text) m.is ∙ r.is) }

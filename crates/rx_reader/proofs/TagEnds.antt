@@ -1,10 +1,10 @@
 -- Where a tag may be ended, and what its last attribute is then.
-use Rattle.rx_grammar.proofs.Common.{◌≡◌, ℕ, true, false, List, [], ◌∷◌, ◌++◌, Option, Some, refl, ap, sym, ◌∙◌, Chars, not_both_ways, Syntax, Html, Xhtml, Attribute, is_quote, EndsValue, double, single, no_mark}
+use Rattle.rx_grammar.proofs.Common.{◌≡◌, ℕ, true, false, List, [], ◌∷◌, ◌++◌, Option, Some, refl, ap, Chars, Syntax, Html, Xhtml, Attribute, is_quote, EndsValue, double, single, no_mark}
 use Rattle.rx_reader.specs.declared.phases.TagPhase.{TagPhase}
 use Rattle.rx_reader.specs.declared.phases.TagPhase.TheVariants as phase
 use Rattle.rx_reader.specs.Tables.{is_last, is_html}
 use Rattle.rx_reader.proofs.Moves.{is_among, is_value_phase}
-use Rattle.rx_reader.proofs.Written.{Written, at, written_on, as_written}
+use Rattle.rx_reader.proofs.Steps.{Written, at, written_on, as_written, not_last}
 use Rattle.rx_reader.proofs.InTables.{is_between_phase, is_unquoted_phase}
 
 -- where a tag may be ended, and its last attribute then
@@ -14,9 +14,6 @@ pub data Ended (s : Syntax) (w : Written) (attributes : List Attribute) : Type 0
   outside : is_html s ≡ true → is_between_phase w.phase ≡ true → Ended s w attributes
   in_key : is_html s ≡ true → is_value_phase w.phase ≡ false → w.attributes ++ (w.key, w.value) ∷ [] ≡ attributes → Ended s w attributes
   in_name : is_among w.phase ≡ false → w.attributes ≡ attributes → Ended s w attributes
-
-not_last : (v last : Written) (G : Type 0) → ◌≡◌ {A = Option Written} (Some v) (Some last) → is_last v.phase ≡ false → is_last last.phase ≡ true → G
-not_last v last G h n l = absurd (not_both_ways (is_last last.phase) l (ap (λ x. is_last x.phase) (sym (as_written v last h)) ∙ n))
 
 attributes_of : (v last : Written) → ◌≡◌ {A = Option Written} (Some v) (Some last) → v.attributes ≡ last.attributes
 attributes_of v last h = ap (λ x. x.attributes) (as_written v last h)

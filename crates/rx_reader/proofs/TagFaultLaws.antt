@@ -9,8 +9,9 @@ use Rattle.rx_reader.specs.TagReader.{TagState, fresh, tag_move, tag_move_on, mo
 use Rattle.rx_reader.specs.Laws.{ReadsOn, ReadsEachFront, RefusesEachFault, OneTagFault}
 use Rattle.rx_reader.proofs.TagComplete.{each_read}
 use Rattle.rx_reader.proofs.TagLaws.{last_none, stuck, on_err, tag_on-append, moves-append, table_is_exact}
-use Rattle.rx_reader.proofs.Written.{phase_by, phases_on, no_way as no_reading, reader_phases}
-use Rattle.rx_reader.proofs.Automaton.{phases_none, phases-append, shape_read}
+use Rattle.rx_reader.proofs.Steps.{phase_by, phases_on, phases_none, phases-append}
+use Rattle.rx_reader.proofs.Written.{no_way as no_reading, reader_phases}
+use Rattle.rx_reader.proofs.Automaton.{shape_read}
 use Rattle.rx_reader.proofs.TagRefusals.{Why, no_way, decided, twice, same_kind, reads, why, decides, exact}
 
 -- two parts that are read one after the other

@@ -1,5 +1,5 @@
 -- Why the reader refuses a character of a tag, and that it refuses each fault.
-use Rattle.rx_grammar.proofs.Common.{◌≡◌, ℕ, true, false, cond, [], ◌∷◌, ◌++◌, Some, None, Result, Ok, Err, refl, ap, sym, ◌∙◌, append_assoc, append-nil, inl, inr, ◌⊎◌, subst, ◌&&◌, ◌==◌, cond-true, cond-false, is_white_space, solidus, equals_sign, greater_than_sign, quotation_mark, apostrophe, semicolon, Chars, both, split, by_test, not_both_ways, Syntax, Html, Xhtml, meaning, is_quote, begins_tag, is_tag_char, begins_attribute, continues_attribute, Tag, is_repeated, Reads, ValueFault, TagFault, IsInValue, DecidesValue, BeginsNoShape, bad_tag, in_value, repeated}
+use Rattle.rx_grammar.proofs.Common.{◌≡◌, ℕ, true, false, cond, [], ◌∷◌, ◌++◌, Some, None, Result, Ok, Err, refl, ap, sym, ◌∙◌, append_assoc, append-nil, inl, inr, ◌⊎◌, subst, ◌&&◌, ◌==◌, cond-true, cond-false, is_white_space, greater_than_sign, quotation_mark, apostrophe, semicolon, Chars, both, split, by_test, not_both_ways, Syntax, Html, Xhtml, meaning, is_quote, Tag, is_repeated, Reads, ValueFault, TagFault, IsInValue, DecidesValue, BeginsNoShape, bad_tag, in_value, repeated}
 use Rattle.rx_grammar.specs.declared.faults.Kind.{Kind}
 use Rattle.rx_grammar.specs.declared.faults.Kind.TheVariants.{BadTag, RepeatedAttribute}
 use Rattle.rx_reader.specs.declared.phases.TagPhase.{TagPhase}
@@ -15,8 +15,9 @@ use Rattle.rx_reader.proofs.TagComplete.{each_read}
 use Rattle.rx_reader.proofs.TagLaws.{tag_read, moves-append, through, table_is_exact}
 use Rattle.rx_reader.proofs.ValueFaults.{snoc_front, snoc_last, Opens, After, steps_after, AtEnd, ends_after}
 use Rattle.rx_reader.proofs.ValueRefusals.{Refuses, refused}
-use Rattle.rx_reader.proofs.Written.{nothing_written, written_on, Follows, follows}
-use Rattle.rx_reader.proofs.InTables.{is_unquoted_phase}
+use Rattle.rx_reader.proofs.Steps.{nothing_written, written_on}
+use Rattle.rx_reader.proofs.Written.{Follows, follows}
+use Rattle.rx_reader.proofs.InTables.{is_unquoted_phase, Valued, holds}
 use Rattle.rx_reader.proofs.InValues.{Well, well, in_place, is_in_value}
 use Rattle.rx_reader.proofs.HtmlFaults.{no_first}
 
@@ -33,28 +34,6 @@ opens_on s (c ∷ rest) text value last i h = opens_step s text rest c value las
 
 opens : (s : Syntax) (text : Chars) (last : Value) → value_on s (meaning s) (Ok no_value_yet) text ≡ Ok last → Opens text last
 opens s text last h = opens_on s text [] no_value_yet last (λ r. absurd (cc)) h
-
--- Outside a value's phase only HTML begins a value so.
-abbrev Valued : Syntax → TagPhase → Move → Type 0
-Valued s p (Some (q, action.Value)) = (is_value_phase p ≡ true) ⊎ (is_html s ≡ true)
-Valued s p _ = Unit {0}
-
-valued_moves : (s : Syntax) (p : TagPhase) (c : ℕ) → Valued s p (move_of s p c)
-valued_moves s phase.Start c = split (Valued s phase.Start) (begins_tag s c) _ _ (λ e0. tt) (λ _. (split (Valued s phase.Start) (c == solidus) _ _ (λ e1. tt) (λ _. tt)))
-valued_moves s phase.Name c = split (Valued s phase.Name) (is_white_space c) _ _ (λ e0. tt) (λ _. (split (Valued s phase.Name) (c == solidus) _ _ (λ e1. tt) (λ _. (split (Valued s phase.Name) (c == greater_than_sign) _ _ (λ e2. tt) (λ _. (split (Valued s phase.Name) (is_tag_char s c) _ _ (λ e3. tt) (λ _. tt)))))))
-valued_moves s phase.Gap c = split (Valued s phase.Gap) (is_white_space c) _ _ (λ e0. tt) (λ _. (split (Valued s phase.Gap) (c == solidus) _ _ (λ e1. tt) (λ _. (split (Valued s phase.Gap) (c == greater_than_sign) _ _ (λ e2. tt) (λ _. (split (Valued s phase.Gap) (begins_attribute s c) _ _ (λ e3. tt) (λ _. tt)))))))
-valued_moves s phase.Solidus c = split (Valued s phase.Solidus) (c == greater_than_sign) _ _ (λ e0. tt) (λ _. (split (Valued s phase.Solidus) (is_html s) _ _ (λ e1. (split (Valued s phase.Solidus) (is_white_space c) _ _ (λ e2. tt) (λ _. (split (Valued s phase.Solidus) (c == solidus) _ _ (λ e3. tt) (λ _. (split (Valued s phase.Solidus) (c == greater_than_sign) _ _ (λ e4. tt) (λ _. (split (Valued s phase.Solidus) (begins_attribute s c) _ _ (λ e5. tt) (λ _. tt))))))))) (λ _. tt)))
-valued_moves s phase.Key c = split (Valued s phase.Key) (is_white_space c) _ _ (λ e0. tt) (λ _. (split (Valued s phase.Key) (c == equals_sign) _ _ (λ e1. tt) (λ _. (split (Valued s phase.Key) (c == solidus) _ _ (λ e2. (split (Valued s phase.Key) (is_html s) _ _ (λ e3. tt) (λ _. tt))) (λ _. (split (Valued s phase.Key) (c == greater_than_sign) _ _ (λ e3. (split (Valued s phase.Key) (is_html s) _ _ (λ e4. tt) (λ _. tt))) (λ _. (split (Valued s phase.Key) (continues_attribute s c) _ _ (λ e4. tt) (λ _. tt)))))))))
-valued_moves s phase.AfterKey c = split (Valued s phase.AfterKey) (is_white_space c) _ _ (λ e0. tt) (λ _. (split (Valued s phase.AfterKey) (c == equals_sign) _ _ (λ e1. tt) (λ _. (split (Valued s phase.AfterKey) (is_html s) _ _ (λ e2. (split (Valued s phase.AfterKey) (c == solidus) _ _ (λ e3. tt) (λ _. (split (Valued s phase.AfterKey) (c == greater_than_sign) _ _ (λ e4. tt) (λ _. (split (Valued s phase.AfterKey) (begins_attribute s c) _ _ (λ e5. tt) (λ _. tt))))))) (λ _. tt)))))
-valued_moves s phase.BeforeValue c = split (Valued s phase.BeforeValue) (is_white_space c) _ _ (λ e0. tt) (λ _. (split (Valued s phase.BeforeValue) (c == quotation_mark) _ _ (λ e1. tt) (λ _. (split (Valued s phase.BeforeValue) (c == apostrophe) _ _ (λ e2. tt) (λ _. (split (Valued s phase.BeforeValue) (c == greater_than_sign) _ _ (λ e3. tt) (λ _. (split (Valued s phase.BeforeValue) (is_html s) _ _ (λ e4. (inr e4)) (λ _. tt)))))))))
-valued_moves s phase.DoubleQuoted c = split (Valued s phase.DoubleQuoted) (c == quotation_mark) _ _ (λ e0. tt) (λ _. (inl refl))
-valued_moves s phase.SingleQuoted c = split (Valued s phase.SingleQuoted) (c == apostrophe) _ _ (λ e0. tt) (λ _. (inl refl))
-valued_moves s phase.Unquoted c = split (Valued s phase.Unquoted) (is_white_space c) _ _ (λ e0. tt) (λ _. (split (Valued s phase.Unquoted) (c == greater_than_sign) _ _ (λ e1. tt) (λ _. (inl refl))))
-valued_moves s phase.AfterValue c = split (Valued s phase.AfterValue) (is_white_space c) _ _ (λ e0. tt) (λ _. (split (Valued s phase.AfterValue) (c == solidus) _ _ (λ e1. tt) (λ _. (split (Valued s phase.AfterValue) (c == greater_than_sign) _ _ (λ e2. tt) (λ _. (split (Valued s phase.AfterValue) (is_html s) _ _ (λ e3. (split (Valued s phase.AfterValue) (begins_attribute s c) _ _ (λ e4. tt) (λ _. tt))) (λ _. tt)))))))
-valued_moves s phase.EndStart c = split (Valued s phase.EndStart) (begins_tag s c) _ _ (λ e0. tt) (λ _. tt)
-valued_moves s phase.EndName c = split (Valued s phase.EndName) (is_white_space c) _ _ (λ e0. tt) (λ _. (split (Valued s phase.EndName) (c == greater_than_sign) _ _ (λ e1. tt) (λ _. (split (Valued s phase.EndName) (is_tag_char s c) _ _ (λ e2. tt) (λ _. tt)))))
-valued_moves s phase.EndGap c = split (Valued s phase.EndGap) (is_white_space c) _ _ (λ e0. tt) (λ _. (split (Valued s phase.EndGap) (c == greater_than_sign) _ _ (λ e1. tt) (λ _. tt)))
-valued_moves s _ c = tt
 
 -- A quote or, in HTML, white space or `>` ends a value.
 abbrev Ends : Syntax → TagPhase → ℕ → Move → Type 0
@@ -163,7 +142,7 @@ module _ (s : Syntax) (front : Chars) (st : TagState) (run : tag_on s (meaning s
 
   pub why : (c : ℕ) (kind : Kind) → is_last st.phase ≡ false → tag_step s (meaning s) st c ≡ Err kind → Why s kind (front ++ c ∷ [])
   why c kind n h =
-      by_move written c kind n (move_of s st.phase c) refl (valued_moves s st.phase c) (λ v. in_value_phase s st.phase c v) (λ v. end_moves s st.phase c v) h
+      by_move written c kind n (move_of s st.phase c) refl (holds s c st.phase).valued (λ v. in_value_phase s st.phase c v) (λ v. end_moves s st.phase c v) h
 
 -- a character that a value refuses
 module _ (s : Syntax) (st : TagState) (c : ℕ) (kind : Kind) (r : Refuses s st.value c kind) where

@@ -1,82 +1,16 @@
 -- A tag as it is written, read one character at a time: between the grammar's shapes, the table's phases and the reader.
-use Rattle.rx_grammar.proofs.Common.{◌≡◌, ℕ, true, false, List, [], ◌∷◌, ◌++◌, Option, Some, None, Result, Ok, Err, refl, ap, sym, ◌∙◌, append_assoc, append-nil, subst, list_all, map-append, is_white_space, solidus, greater_than_sign, Chars, both, Syntax, Html, Xhtml, Denotes, Attribute, Tag, ends_name, begins, begins_tag, is_tag_char, Shape, a_start, an_end, cased_char, cased, AreRead}
+use Rattle.rx_grammar.proofs.Common.{◌≡◌, ℕ, Bool, true, false, List, [], ◌∷◌, ◌++◌, Option, Some, None, Result, Ok, Err, refl, ap, sym, ◌∙◌, append_assoc, append-nil, subst, list_all, map-append, is_white_space, solidus, greater_than_sign, Chars, both, Syntax, Html, Xhtml, Denotes, Attribute, Tag, ends_name, begins, begins_tag, is_tag_char, Shape, a_start, an_end, cased_char, cased, AreRead}
 use Rattle.rx_grammar.specs.declared.faults.Kind.{Kind}
 use Rattle.rx_reader.specs.declared.phases.TagPhase.{TagPhase}
 use Rattle.rx_reader.specs.declared.phases.TagPhase.TheVariants as phase
 use Rattle.rx_reader.specs.declared.phases.TagAction.TheVariants as action
 use Rattle.rx_reader.specs.Tables.{Move, move_of, is_last}
-use Rattle.rx_reader.specs.Cuts.{cut_by, cut_from}
 use Rattle.rx_reader.specs.Values.{Value, no_value_yet, value_step, value_end, step_on, value_on, end_of}
 use Rattle.rx_reader.specs.TagReader.{TagState, fresh, with_value, with_attribute, moved, tag_move, moves_on, is_closing, is_emptied}
 use Rattle.rx_reader.proofs.Classes.{of_end, tag_char_named}
-use Rattle.rx_reader.proofs.Sound.{Result as Ended, added}
-use Rattle.rx_reader.proofs.Complete.{complete}
+use Rattle.rx_reader.proofs.Steps.{Written, at, nothing_written, written_by, written_step, written_on, as_written, phases_on, written_phases}
+use Rattle.rx_reader.proofs.Complete.{opened, complete}
 use Rattle.rx_reader.proofs.TextSound.{sound as text_sound, value-append}
-
--- the tag's name, the attributes that are whole, and the name and the value of the one that is read
-pub record Written : Type 0 where
-  pub phase : TagPhase
-  pub name : Chars
-  pub attributes : List Attribute
-  pub key : Chars
-  pub value : Chars
-
-abbrev pub at : TagPhase → Chars → List Attribute → Chars → Chars → Written
-at p name attributes key value = record { phase = p; name = name; attributes = attributes; key = key; value = value }
-
-abbrev pub nothing_written : Written
-nothing_written = at phase.Start [] [] [] []
-
-abbrev pub written_by : Written → ℕ → Move → Option Written
-written_by w c None = None
-written_by w c (Some (p, action.Skip)) = Some (at p w.name w.attributes w.key w.value)
-written_by w c (Some (p, action.Name)) = Some (at p (w.name ++ c ∷ []) w.attributes w.key w.value)
-written_by w c (Some (p, action.Key)) = Some (at p w.name w.attributes (w.key ++ c ∷ []) w.value)
-written_by w c (Some (p, action.Value)) = Some (at p w.name w.attributes w.key (w.value ++ c ∷ []))
-written_by w c (Some (p, action.Add)) = Some (at p w.name (w.attributes ++ (w.key, w.value) ∷ []) [] [])
-written_by w c (Some (p, action.AddKey)) = Some (at p w.name (w.attributes ++ (w.key, w.value) ∷ []) (c ∷ []) [])
-
-abbrev pub written_step : Syntax → Option Written → ℕ → Option Written
-written_step s None c = None
-written_step s (Some w) c = written_by w c (move_of s w.phase c)
-
-abbrev pub written_on : Syntax → Option Written → Chars → Option Written
-written_on s o [] = o
-written_on s o (c ∷ text) = written_on s (written_step s o c) text
-
-pub written_none : (s : Syntax) (text : Chars) → written_on s None text ≡ None
-written_none s [] = refl
-written_none s (c ∷ text) = written_none s text
-
-pub written-append : (s : Syntax) (o : Option Written) (a b : Chars) → written_on s o (a ++ b) ≡ written_on s (written_on s o a) b
-written-append s o [] b = refl
-written-append s o (c ∷ a) b = written-append s (written_step s o c) a b
-
-pub as_written : (v w : Written) → ◌≡◌ {A = Option Written} (Some v) (Some w) → v ≡ w
-as_written v w h = cc
-
--- the phases are the table's
-abbrev pub phase_by : Move → Option TagPhase
-phase_by None = None
-phase_by (Some m) = Some m.0
-
-abbrev pub phase_on : Syntax → Option TagPhase → ℕ → Option TagPhase
-phase_on s None c = None
-phase_on s (Some p) c = phase_by (move_of s p c)
-
-abbrev pub phases_on : Syntax → Option TagPhase → Chars → Option TagPhase
-phases_on s o [] = o
-phases_on s o (c ∷ text) = phases_on s (phase_on s o c) text
-
-phases_by : (s : Syntax) (text : Chars) (ih : (w last : Written) → written_on s (Some w) text ≡ Some last → phases_on s (Some w.phase) text ≡ Some last.phase) (w last : Written) (c : ℕ) (m : Move)
-    → written_on s (written_by w c m) text ≡ Some last → phases_on s (phase_by m) text ≡ Some last.phase
-phases_by s text ih w last c None h = absurd (let k = written_none s text in cc)
-phases_by s text ih w last c (Some (p, action.Skip)) h = ih (at p w.name w.attributes w.key w.value) last h
-phases_by s text ih w last c (Some (p, _)) h = let k = ih _ last h in k
-
-pub written_phases : (s : Syntax) (text : Chars) (w last : Written) → written_on s (Some w) text ≡ Some last → phases_on s (Some w.phase) text ≡ Some last.phase
-written_phases s [] w last h = ap (λ x. Some x.phase) (as_written w last h)
-written_phases s (c ∷ text) w last h = phases_by s text (written_phases s text) w last c (move_of s w.phase c) h
 
 -- each shape is read as it is written
 abbrev pub written_tag : Written → Tag
@@ -88,47 +22,13 @@ pub record Arrives (s : Syntax) (from : Written) (text : Chars) (tag : Tag) : Ty
   pub whole : is_last last.phase ≡ true
   pub tag_is : written_tag last ≡ tag
 
+-- a start tag is read to its end
+arrives : (s : Syntax) (from : Written) (text name : Chars) (attributes : List Attribute) (slash : Bool) → written_on s (Some from) text ≡ Some (at (opened slash) name attributes [] [])
+    → Arrives s from text (record { closing = false; name = name; attributes = attributes; slash = slash })
+arrives s from text name attributes true h = record { last = _; reads = h; whole = refl; tag_is = refl }
+arrives s from text name attributes false h = record { last = _; reads = h; whole = refl; tag_is = refl }
+
 module _ (s : Syntax) where
-  step_to : (from to : Written) (c : ℕ) (text : Chars) (tag : Tag) → written_step s (Some from) c ≡ Some to → Arrives s to text tag → Arrives s from (c ∷ text) tag
-  step_to from to c text tag e d = record { last = d.last; reads = ap (λ o. written_on s o text) e ∙ d.reads; whole = d.whole; tag_is = d.tag_is }
-
-  abbrev start_tag : Chars → List Attribute → Ended → Tag
-  start_tag name attributes r = record { closing = false; name = name; attributes = attributes ++ r.0; slash = r.1 }
-
-  abbrev FromCut : Chars → Type 0
-  FromCut text = (p : TagPhase) (name : Chars) (attributes : List Attribute) (key value : Chars) (r : Ended) → cut_from s text p key value ≡ Some r → Arrives s (at p name attributes key value) text (start_tag name attributes r)
-
-  at_end : FromCut []
-  at_end phase.Opened name attributes key value r h =
-      let e : ([], false) ≡ r = cc in
-      record { last = at phase.Opened name attributes key value; reads = refl; whole = refl; tag_is = ap (λ x. record { closing = false; name = name; attributes = x; slash = false }) (sym (append-nil attributes)) ∙ ap (start_tag name attributes) e }
-  at_end phase.Emptied name attributes key value r h =
-      let e : ([], true) ≡ r = cc in
-      record { last = at phase.Emptied name attributes key value; reads = refl; whole = refl; tag_is = ap (λ x. record { closing = false; name = name; attributes = x; slash = true }) (sym (append-nil attributes)) ∙ ap (start_tag name attributes) e }
-  at_end _ name attributes key value r h = absurd (cc)
-
-  -- one attribute more, and those that follow
-  more : (text : Chars) (from : Written) (name : Chars) (attributes : List Attribute) (a : Attribute) (rest r : Ended) → a ∷ rest.0 ≡ r.0 → rest.1 ≡ r.1 → Arrives s from text (start_tag name (attributes ++ a ∷ []) rest) → Arrives s from text (start_tag name attributes r)
-  more text from name attributes a rest r e f d =
-      subst (Arrives s from text) (λ i. record { closing = false; name = name; attributes = (append_assoc attributes (a ∷ []) rest.0 ∙ ap (λ x. attributes ++ x) e) i; slash = f i }) d
-
-  from_move : (text : Chars) → FromCut text → (p : TagPhase) (name : Chars) (attributes : List Attribute) (key value : Chars) (c : ℕ) (r : Ended) (m : Move) → move_of s p c ≡ m → cut_by (cut_from s text) key value c m ≡ Some r
-      → Arrives s (at p name attributes key value) (c ∷ text) (start_tag name attributes r)
-  from_move text ih p name attributes key value c r (Some (q, action.Skip)) e h = step_to _ _ c text _ (ap (written_by (at p name attributes key value) c) e) (ih q name attributes key value r h)
-  from_move text ih p name attributes key value c r (Some (q, action.Key)) e h = step_to _ _ c text _ (ap (written_by (at p name attributes key value) c) e) (ih q name attributes (key ++ c ∷ []) value r h)
-  from_move text ih p name attributes key value c r (Some (q, action.Value)) e h = step_to _ _ c text _ (ap (written_by (at p name attributes key value) c) e) (ih q name attributes key (value ++ c ∷ []) r h)
-  from_move text ih p name attributes key value c r (Some (q, action.Add)) e h =
-      let a = added (key, value) (cut_from s text q [] []) r h in
-      step_to _ _ c text _ (ap (written_by (at p name attributes key value) c) e) (more text _ name attributes (key, value) a.rest r a.first a.slash (ih q name (attributes ++ (key, value) ∷ []) [] [] a.rest a.from))
-  from_move text ih p name attributes key value c r (Some (q, action.AddKey)) e h =
-      let a = added (key, value) (cut_from s text q (c ∷ []) []) r h in
-      step_to _ _ c text _ (ap (written_by (at p name attributes key value) c) e) (more text _ name attributes (key, value) a.rest r a.first a.slash (ih q name (attributes ++ (key, value) ∷ []) (c ∷ []) [] a.rest a.from))
-  from_move text ih p name attributes key value c r _ e h = absurd (cc)
-
-  from_cut : (text : Chars) → FromCut text
-  from_cut [] p name attributes key value r h = at_end p name attributes key value r h
-  from_cut (c ∷ text) p name attributes key value r h = from_move text (from_cut text) p name attributes key value c r (move_of s p c) refl h
-
   -- names
   abbrev named : TagPhase → Chars → Option Written
   named p name = Some (at p name [] [] [])
@@ -179,8 +79,8 @@ slash_goes Xhtml = refl
 pub shape_written : (s : Syntax) (text : Chars) (tag : Tag) → Shape s text tag → Arrives s nothing_written text tag
 shape_written s text tag (a_start (c ∷ name) rest {attributes = x} {slash = y} n b k) =
     let d = both (begins_tag s c) _ n in
-    let w = from_cut s rest phase.AfterValue (c ∷ name) [] [] [] (x, y) (complete s k) in
-    record { last = w.last; reads = ap (λ o. written_on s o (name ++ rest)) (start_goes s c d.0) ∙ (name_on s phase.Name (name_goes s) name rest (c ∷ []) d.1 ∙ (after_name s rest (c ∷ name) b ∙ w.reads)); whole = w.whole; tag_is = w.tag_is }
+    arrives s nothing_written (c ∷ (name ++ rest)) (c ∷ name) x y
+    (ap (λ o. written_on s o (name ++ rest)) (start_goes s c d.0) ∙ (name_on s phase.Name (name_goes s) name rest (c ∷ []) d.1 ∙ (after_name s rest (c ∷ name) b ∙ complete s (c ∷ name) [] k)))
 shape_written s text tag (an_end (c ∷ name) spaces n b) =
     let d = both (begins_tag s c) _ n in
     let end : Chars = spaces ++ greater_than_sign ∷ [] in

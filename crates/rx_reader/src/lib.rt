@@ -5,7 +5,6 @@
 #![tactic(auto)]
 
 ghost use Rattle.rx_reader.specs.Laws.{TableIsExact, ReadsEachTag, SpellsEachTag, OneTag, OneTagFront, ReadsEachValue, DenotesEachValue, ReadsEachFront, RefusesEachFault, OneTagFault};
-ghost use Rattle.rx_grammar.specs.Laws.{OneToken};
 
 mod phases;
 
@@ -39,11 +38,6 @@ pub fn reads_each_value()
 /// What is read of a value is what its characters denote.
 pub fn denotes_each_value()
     ensures { DenotesEachValue }
-{}
-
-/// In one syntax and content at most one front of a list of characters spells a token, and it spells one token only.
-pub fn one_token()
-    ensures { OneToken }
 {}
 
 /// What is read of a tag begins one, and the table refuses exactly the characters with which no tag goes on.

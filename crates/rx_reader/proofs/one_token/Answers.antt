@@ -1,5 +1,0 @@
-use Rattle.rx_reader.proofs.OneToken.{one_token}
-use Rattle.rx_reader.proofs.one_token.Goals as goal
-
-pub returns : goal.returns
-returns c = one_token
