@@ -1,5 +1,5 @@
 -- The names of the command that most proofs here cite, passed on from one place. Declares nothing.
-pub use Rattle.rx_command.specs.Contexts.{HasContext, HasOther, IsContext, IsContextFile, LacksContext, ReadsContext, TakesContext, context_count, context_in, context_size}
+pub use Rattle.rx_command.specs.Contexts.{HasContext, HasOther, IsContext, IsContextFile, LacksContext, ReadsContext, TakesContext, context_in, context_size}
 pub use Rattle.rx_command.specs.Endings.{EndingsSay, Ends, IsAnswer, IsDue, IsSame, OfPage, OneAnswer, RunEnds, answers, no_context, no_context_of_several, no_file, no_file_of_several, no_memory, nothing_asked, of_fault, of_page, of_pages, of_sample, out_failed, shelf_failed}
 pub use Rattle.rx_command.specs.Files.{HasRead, ReadsFile, ReadsOn, TakesOf, TakesSome, size_of}
 pub use Rattle.rx_command.specs.Gathering.{AddsPage, AddsPages, AreParts, DenotesGathered, FileList, GathersPages, GivesGraph, GivesTriples, HasAll, HasPages, IsGathered, IsJudged, IsPart, IsThat, Judges, JudgesEach, ReadsEach, ReadsListed, TakesGathering, TakesPart, TakesParts, total}
@@ -30,6 +30,6 @@ pub use Rattle.rx_ports.proofs.MoveLemmas.{moves_at, moves_same, moves_then, mov
 pub use Rattle.rx_ports.specs.Counts.{Rose}
 pub use Rattle.rx_ports.specs.Files.{file_of}
 pub use Rattle.rx_ports.specs.Shelves.{Lacks, Reads, ShelfContent, Starts, Stays}
-pub use Rattle.rx_rdfa.proofs.Common.{Blank, Chars, Context, Err, IfOk, Iri, List, Literal, Node, None, Ok, OnOk, Option, Plain, Renamed, Resource, Result, Some, Tree, Triple, [], add-one, ap, append-nil, append_assoc, ap₂, arith, chars, codes, copied, drop, element, encode_utf8_all, end, false, graph_of, inl, inr, length, length-append, nat_eq, nat_lt, nat_tests, numbered, option_and_then, refl, rules, set_of, slice_get, spo, subst, suc, sym, take, true, written, zero, ℕ, ⊎_elim, ◌&&◌, ◌++◌, ◌+◌, ◌-◌, ◌<◌, ◌∙◌, ◌∷◌, ◌≡◌, ◌≢◌, ◌≤◌, ◌⊎◌}
+pub use Rattle.rx_rdfa.proofs.Common.{Blank, Chars, Context, Err, IfOk, Iri, List, Literal, Node, None, Ok, OnOk, Option, Plain, Renamed, Resource, Result, Some, Tree, Triple, [], ap, append-nil, append_assoc, ap₂, arith, chars, codes, copied, drop, element, encode_utf8_all, end, false, graph_of, inl, inr, length, length-append, nat_eq, nat_lt, nat_tests, numbered, option_and_then, refl, rules, set_of, slice_get, spo, subst, suc, sym, take, true, written, zero, ℕ, ⊎_elim, ◌&&◌, ◌++◌, ◌+◌, ◌-◌, ◌<◌, ◌∙◌, ◌∷◌, ◌≡◌, ◌≢◌, ◌≤◌, ◌⊎◌}
 pub use Rattle.rx_walk.specs.RefusalLaws.{refusal_laws}
 pub use Rattle.std.proofs.Common.{length-take, vec_len}

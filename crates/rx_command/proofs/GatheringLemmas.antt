@@ -1,6 +1,7 @@
 -- Several pages that are read one after another.
-use Rattle.rx_command.proofs.Common.{◌≡◌, ◌∙◌, ◌+◌, ◌-◌, ◌≤◌, ◌⊎◌, inl, inr, ℕ, zero, suc, nat_eq, List, [], ◌∷◌, ◌++◌, length, take, drop, sym, ap, subst, refl, arith, Option, Some, None, encode_utf8_all, append_assoc, length-append, add-one, Chars, slice_get, Rose, file_of, ShelfContent, WhereKnown, Lacks, moves_then, Syntax, Fault, copied, numbered, Renamed, Triple, set_of, Context, graph_of, Gathering, Listed, Way, rdfa_way, HasFirst, GivesList, page_limit, ReadsWhole, Finds, TakesToFirst, TakesOf, size_of, IsContext, LacksContext, TakesContext, ReadsContext, TellsThat, LacksPage, LacksOne, base_in, facts_in, way_of, FileList, GivesTriples, GivesGraph, IsJudged, Judges, JudgesEach, IsPart, AreParts, total, TakesGathering, IsThat, TakesPart, TakesParts, ReadsListed, ReadsEach, AddsPage, AddsPages, GathersPages, as_read}
-use Rattle.rx_items.proofs.Common.{take_all, take-append-drop, triples_seen, written_denotes}
+use Rattle.rx_command.proofs.Common.{◌≡◌, ◌∙◌, ◌+◌, ◌-◌, ◌≤◌, ◌⊎◌, inl, inr, ℕ, zero, suc, nat_eq, List, [], ◌∷◌, ◌++◌, length, take, drop, sym, ap, subst, refl, arith, Option, Some, None, encode_utf8_all, append_assoc, length-append, Chars, slice_get, Rose, file_of, ShelfContent, WhereKnown, Lacks, moves_then, Syntax, Fault, copied, numbered, Renamed, Triple, set_of, Context, graph_of, Gathering, Listed, Way, rdfa_way, HasFirst, GivesList, page_limit, ReadsWhole, Finds, TakesToFirst, TakesOf, size_of, IsContext, LacksContext, TakesContext, ReadsContext, TellsThat, LacksPage, LacksOne, base_in, facts_in, way_of, FileList, GivesTriples, GivesGraph, IsJudged, Judges, JudgesEach, IsPart, AreParts, total, TakesGathering, IsThat, TakesPart, TakesParts, ReadsListed, ReadsEach, AddsPage, AddsPages, GathersPages, as_read}
+use Rattle.std.proofs.lemmas.List.{take_more}
+use Rattle.rx_items.proofs.Common.{append-nil, get_or_from_slice_get, slice_get_within, take_all, take-append-drop, triples_seen, written_denotes}
 use Rattle.rx_terms.specs.declared.triples.Triple.{Triple as CodeTriple}
 use Rattle.rx_many.specs.Pages.{Page, Judgement, refused, accepted, refused_page, accepted_page}
 use Rattle.rx_command.specs.declared.pages.Approach.{Approach}
@@ -11,9 +12,7 @@ use Rattle.rx_page.proofs.ProperLemmas.{written_read}
 -- ---- lists
 
 front_more : {A : Type 0} (xs : List A) (i : ℕ) (x : A) → slice_get xs i ≡ Some x → take i xs ++ x ∷ [] ≡ take (i + 1) xs
-front_more [] i x e = absurd (cc)
-front_more (y ∷ xs) zero x e = let same : y ≡ x = (cc) in ap (λ z. z ∷ []) (sym same)
-front_more (y ∷ xs) (suc i) x e = simp add-one (ap (λ z. y ∷ z) (simp add-one at (front_more xs i x e)))
+front_more xs i x e = ap (λ z. take i xs ++ z ∷ []) (sym (get_or_from_slice_get xs i x x e)) ∙ sym (take_more xs i x (slice_get_within xs i x e))
 
 -- ---- parts
 
@@ -195,12 +194,8 @@ module _ (context : Context) (syntax : Syntax) where
 
   -- before the first
   pub none_added : (now : List Page) (told : Option ShelfContent) → AddsPages context syntax [] now now told told
-  none_added now told = record { pages = []; adds = sym (end now); reads = record { same = refl; taken = λ x y p q. at x y (some_told x y (sym p ∙ q)) } }
+  none_added now told = record { pages = []; adds = sym (append-nil now); reads = record { same = refl; taken = λ x y p q. at x y (some_told x y (sym p ∙ q)) } }
     where
-      end : (xs : List Page) → xs ++ [] ≡ xs
-      end [] = refl
-      end (x ∷ xs) = ap (λ z. x ∷ z) (end xs)
-
       some_told : (x y : ShelfContent) → ◌≡◌ {A = Option ShelfContent} (Some x) (Some y) → x ≡ y
       some_told x y e = cc
 

@@ -1,10 +1,11 @@
 -- From what was read of the files that a job names to what they are.
-use Rattle.rx_command.proofs.Common.{option_map, nat_eq, ◌≡◌, ◌∙◌, ◌+◌, ◌≤◌, ◌<◌, ◌⊎◌, inl, inr, ℕ, true, false, List, [], ◌++◌, length, sym, ap, subst, refl, arith, Option, Some, None, Result, Ok, Err, IfOk, encode_utf8_all, length-append, append-nil, nat_le, ◌&&◌, is_some, nat_tests, Chars, Rose, file_of, ShelfContent, WhereKnown, Lacks, moves_same, moves_at, moves_then, Syntax, Fault, copied, numbered, Context, Asked, Task, Extraction, extracts, itemizes, checks, Way, largest_piece, page_limit, ReadsWhole, Finds, ReadsClean, IsClean, PageFails, HasFirst, GivesList, GivesRight, refuses_so, refuses_first, ReadsFile, TakesOf, size_of, IsContextFile, IsContext, HasContext, TakesContext, ReadsContext, context_size, context_count, PageText, PageRefused, JobText, JobRefused, TellsThat, WhereTold, IsRight, way_in, IsLacking, ReadsTo, as_read, ok_line, TakesFiles, StopsCleanly, extraction_of}
-use Rattle.rx_model.proofs.Common.{by_test, triples_seen, Bor}
+use Rattle.std.proofs.lemmas.Result.{IfOk-weaker}
+use Rattle.std.specs.Prelude.{IsErrOf}
+use Rattle.rx_command.proofs.Common.{⊎_elim, nat_eq, ◌≡◌, ◌∙◌, ◌+◌, ◌≤◌, ◌<◌, ◌⊎◌, inl, inr, ℕ, true, false, List, [], ◌++◌, length, sym, ap, subst, refl, arith, Option, Some, None, Result, Ok, Err, IfOk, encode_utf8_all, length-append, append-nil, nat_le, ◌&&◌, is_some, nat_tests, Rose, file_of, ShelfContent, WhereKnown, Lacks, moves_same, moves_at, moves_then, Syntax, Fault, copied, numbered, Context, Asked, Task, Extraction, extracts, itemizes, checks, Way, largest_piece, page_limit, ReadsWhole, Finds, ReadsClean, IsClean, PageFails, HasFirst, GivesList, GivesRight, refuses_so, refuses_first, ReadsFile, TakesOf, size_of, IsContextFile, IsContext, HasContext, TakesContext, ReadsContext, context_size, PageText, PageRefused, JobText, JobRefused, TellsThat, WhereTold, IsRight, way_in, IsLacking, ReadsTo, as_read, ok_line, TakesFiles, StopsCleanly}
+use Rattle.rx_model.proofs.Common.{by_test, triples_seen}
 use Rattle.rx_names.specs.ContextFiles.{context_of}
 use Rattle.rx_terms.specs.declared.triples.Triple.{Triple as CodeTriple}
 use Rattle.rx_rdfa.specs.Standard.{standard}
-use Rattle.rx_job.specs.declared.formats.Format.{Format}
 use Rattle.rx_command.specs.declared.errors.InputError.{InputError}
 use Rattle.rx_command.specs.declared.errors.InputError.TheVariants as error
 use Rattle.rx_command.proofs.ReadLemmas.{unread_clean}
@@ -15,7 +16,6 @@ use Rattle.rx_page.specs.Written.{text_of, Denoted}
 use Rattle.rx_page.specs.declared.forms.Form.{Form}
 use Rattle.rx_page.specs.declared.outcomes.Outcome.{Outcome}
 use Rattle.rx_page.specs.declared.outcomes.Outcome.TheVariants as found
-use Rattle.rx_command.specs.declared.pages.Approach.{Approach}
 use Rattle.rx_page.proofs.MadeLemmas.{text_made}
 
 -- ---- the context file
@@ -101,36 +101,31 @@ takes_before asked file e x y t =
     let m : TakesContext asked.context x y = subst (λ f. TakesContext f x y) e t in
     record { files = m.files; size = omega (arith, m.size); most = omega (arith, m.most); starts = omega (arith, m.starts) }
 
-pub takes_both : (asked : Asked) (file : Option (List ℕ)) → file ≡ asked.context → (x y z : ShelfContent) → TakesContext file x y → TakesOf (encode_utf8_all asked.page) page_limit y z → TakesFiles (Some asked) x z
-takes_both asked file e x y z t p =
-    let m : TakesContext asked.context x y = subst (λ f. TakesContext f x y) e t in
+takes_both : (asked : Asked) (x y z : ShelfContent) → TakesContext asked.context x y → TakesOf (encode_utf8_all asked.page) page_limit y z → TakesFiles (Some asked) x z
+takes_both asked x y z m p =
     let size : size_of (file_of y.files (encode_utf8_all asked.page)) ≡ size_of (file_of x.files (encode_utf8_all asked.page)) = ap (λ f. size_of (file_of f (encode_utf8_all asked.page))) m.files in
     record { files = p.files ∙ m.files; size = omega (arith, m.size, p.file, size); most = omega (arith, m.most, p.most); starts = omega (arith, m.starts, p.starts) }
 
-there_before : (asked : Asked) (file : Option (List ℕ)) (context : Context) (bytes : List ℕ) (x y : ShelfContent) → ReadsContext file context x y → file_of y.files (encode_utf8_all asked.page) ≡ Some bytes → file_of x.files (encode_utf8_all asked.page) ≡ Some bytes
-there_before asked file context bytes x y c h = sym (ap (λ f. file_of f (encode_utf8_all asked.page)) c.takes.files) ∙ h
+there_before : (asked : Asked) (context : Context) (bytes : List ℕ) (x y : ShelfContent) → ReadsContext asked.context context x y → file_of y.files (encode_utf8_all asked.page) ≡ Some bytes → file_of x.files (encode_utf8_all asked.page) ≡ Some bytes
+there_before asked context bytes x y c h = sym (ap (λ f. file_of f (encode_utf8_all asked.page)) c.takes.files) ∙ h
 
-pub job_text : (asked : Asked) (file : Option (List ℕ)) (context : Context) (outcome : Outcome) → file ≡ asked.context → (x y z : ShelfContent) → ReadsContext file context x y → PageText asked.task context (encode_utf8_all asked.page) outcome y z → JobText asked outcome x z
-job_text asked file context outcome e x y z c p =
-    let before : y.starts ≡ x.starts + context_count asked.context = subst (λ f. y.starts ≡ x.starts + context_count f) e c.starts in
-    record {
-      context = context;
-      holds = subst (λ f. IsContext f x context) e c.is;
-      page = record { bytes = p.page.bytes; file = there_before asked file context p.page.bytes x y c p.page.file; gives = p.page.gives; graph = p.page.graph; left = p.page.left };
-      starts = omega (arith, before, p.starts);
-    }
+job_text : (asked : Asked) (context : Context) (outcome : Outcome) (x y z : ShelfContent) → ReadsContext asked.context context x y → PageText asked.task context (encode_utf8_all asked.page) outcome y z → JobText asked outcome x z
+job_text asked context outcome x y z c p = record {
+  context = context;
+  holds = c.is;
+  page = record { bytes = p.page.bytes; file = there_before asked context p.page.bytes x y c p.page.file; gives = p.page.gives; graph = p.page.graph; left = p.page.left };
+  starts = omega (arith, c.starts, p.starts);
+}
 
-pub job_refused : (asked : Asked) (file : Option (List ℕ)) (context : Context) (fault : Fault) → file ≡ asked.context → (x y z : ShelfContent) → ReadsContext file context x y → PageRefused asked.task context (encode_utf8_all asked.page) fault y z → JobRefused asked fault x z
-job_refused asked file context fault e x y z c p =
-    let size : y.taken ≤ x.taken + context_size asked.context x = subst (λ f. y.taken ≤ x.taken + context_size f x) e c.takes.size in
-    record {
-      context = context;
-      holds = subst (λ f. IsContext f x context) e c.is;
-      bytes = p.bytes;
-      file = there_before asked file context p.bytes x y c p.file;
-      refused = p.refused;
-      reads = reads_later asked.task fault y.taken (x.taken + context_size asked.context x) z.taken size p.reads;
-    }
+job_refused : (asked : Asked) (context : Context) (fault : Fault) (x y z : ShelfContent) → ReadsContext asked.context context x y → PageRefused asked.task context (encode_utf8_all asked.page) fault y z → JobRefused asked fault x z
+job_refused asked context fault x y z c p = record {
+  context = context;
+  holds = c.is;
+  bytes = p.bytes;
+  file = there_before asked context p.bytes x y c p.file;
+  refused = p.refused;
+  reads = reads_later asked.task fault y.taken (x.taken + context_size asked.context x) z.taken c.takes.size p.reads;
+}
 
 -- ---- what a page is
 
@@ -145,18 +140,6 @@ pub page_text : (e : Extraction) (context : Context) (name named : List ℕ) (fo
 page_text e context name named form outcome list n f spelled denotes x y c =
     let made = text_made e context form outcome list c.bytes f spelled denotes c.gives in
     record { page = record { bytes = c.bytes; file = sym (ap (λ n. file_of x.files n) n) ∙ c.file; gives = made.0; graph = made.1; left = c.left }; starts = c.starts }
-
--- of a job that is known
-pub for_task : (holds : Task → Context → List ℕ → Type 0) (asked other : Asked) (context : Context) → asked ≡ other → holds other.task context (encode_utf8_all other.page) → holds asked.task context (encode_utf8_all asked.page)
-for_task holds asked other context is h = subst (λ (k : Asked). holds k.task context (encode_utf8_all k.page)) (sym is) h
-
--- to be an extraction
-pub for_extraction : (holds : Task → Context → List ℕ → Type 0) (asked : Asked) (approach : Approach) (f : Format) (graph : Option (Bor Chars)) (e : Extraction) (file : Option Chars) (page : Chars)
-    → asked ≡ record { task = extracts e; context = file; page = page } → approach.syntax ≡ e.syntax → f ≡ e.format → approach.address ≡ e.address → option_map (λ iri. iri.now) graph ≡ e.graph
-    → holds (extracts (extraction_of approach f graph)) approach.context (encode_utf8_all page) → holds asked.task approach.context (encode_utf8_all asked.page)
-for_extraction holds asked approach f graph e file page is s k a n h =
-    let same : extraction_of approach f graph ≡ e = λ i. record { syntax = s i; format = k i; graph = n i; address = a i } in
-    for_task holds asked (record { task = extracts e; context = file; page = page }) approach.context is (subst (λ (x : Extraction). holds (extracts x) approach.context (encode_utf8_all page)) same h)
 
 pub page_found : (task : Task) (way : Way) (context : Context) (name named : List ℕ) (fault : Fault) → named ≡ name → way ≡ way_in task context → (x y : ShelfContent) → Finds way named fault x y → PageRefused task context name fault x y
 page_found task way context name named fault e w x y f =
@@ -179,27 +162,15 @@ standard_holds x = record { is = refl; takes = record { files = refl; size = ome
 pub standard_stays : (told : Option ShelfContent) → WhereKnown (ReadsContext None standard) told told
 standard_stays told = moves_same (ReadsContext None standard) standard_holds told
 
--- what a call gives
-
-pub if_job : (r : Result Outcome InputError) (asked : Asked) (file : Option (List ℕ)) (context : Context) (told mid now : Option ShelfContent) → file ≡ asked.context → WhereKnown (ReadsContext file context) told mid
-    → IfOk r (λ outcome. WhereKnown (PageText asked.task context (encode_utf8_all asked.page) outcome) mid now) → IfOk r (λ outcome. WhereKnown (JobText asked outcome) told now)
-if_job (Ok outcome) asked file context told mid now e m p = moves_then (JobText asked outcome) (λ x y z c t. job_text asked file context outcome e x y z c t) m p
-if_job (Err error) asked file context told mid now e m p = tt
-
 pub rose_before : (a b c : ℕ) → a ≤ b → Rose b c → Rose a c
 rose_before a b c low rose = omega (arith, low, rose)
 
-lacks_page : (told mid : Option ShelfContent) (asked : Asked) (file : Option (List ℕ)) (context : Context) (name : List ℕ) → file ≡ asked.context → name ≡ encode_utf8_all asked.page → WhereKnown (ReadsContext file context) told mid → Lacks mid name → TellsThat (IsLacking asked) told
-lacks_page told None asked file context name e named m l = absurd l
-lacks_page None (Some y) asked file context name e named m l = let e = m.same in absurd (cc)
-lacks_page (Some x) (Some y) asked file context name e named m l =
+lacks_page : (told mid : Option ShelfContent) (asked : Asked) (context : Context) → WhereKnown (ReadsContext asked.context context) told mid → Lacks mid (encode_utf8_all asked.page) → TellsThat (IsLacking asked) told
+lacks_page told None asked context m l = absurd l
+lacks_page None (Some y) asked context m l = let e = m.same in absurd (cc)
+lacks_page (Some x) (Some y) asked context m l =
     let c = m.taken x y refl refl in
-    inr (has_context asked.context x context (subst (λ f. IsContext f x context) e c.is), sym (ap (λ n. file_of y.files n) named ∙ ap (λ f. file_of f (encode_utf8_all asked.page)) c.takes.files) ∙ l)
-
-pub page_failed : (told mid : Option ShelfContent) (asked : Asked) (file : Option (List ℕ)) (context : Context) (name : List ℕ) (a b c : ℕ) → file ≡ asked.context → name ≡ encode_utf8_all asked.page → WhereKnown (ReadsContext file context) told mid → a ≤ b
-    → Rose b c ⊎ Lacks mid name → Rose a c ⊎ TellsThat (IsLacking asked) told
-page_failed told mid asked file context name a b c e named m low (inl rose) = inl (rose_before a b c low rose)
-page_failed told mid asked file context name a b c e named m low (inr lacks) = inr (lacks_page told mid asked file context name e named m lacks)
+    inr (has_context asked.context x context c.is, sym (ap (λ f. file_of f (encode_utf8_all asked.page)) c.takes.files) ∙ l)
 
 -- ---- where a read failed
 
@@ -211,10 +182,39 @@ context_stops asked file e x y t context holds bytes f =
     record { bytes = c.bytes; rest = c.rest; are = c.are; taken = c.taken; clean = c.clean }
 
 -- the page
-pub page_stops : (asked : Asked) (file : Option (List ℕ)) (context : Context) (way : Way) → file ≡ asked.context → way ≡ way_in asked.task context → (x y z : ShelfContent) → ReadsContext file context x y → ReadsClean way (encode_utf8_all asked.page) y z → StopsCleanly (Some asked) x z
-page_stops asked file context way e is x y z c r other holds bytes f =
-    let size : y.taken ≤ x.taken + context_size asked.context x = subst (λ f. y.taken ≤ x.taken + context_size f x) e c.takes.size in
-    let same : context ≡ other = one_context asked.context x context other (subst (λ f. IsContext f x context) e c.is) holds in
+page_stops : (asked : Asked) (context : Context) (x y z : ShelfContent) → ReadsContext asked.context context x y → ReadsClean (way_in asked.task context) (encode_utf8_all asked.page) y z → StopsCleanly (Some asked) x z
+page_stops asked context x y z c r other holds bytes f =
+    let same : context ≡ other = one_context asked.context x context other c.is holds in
     let k = r bytes (ap (λ g. file_of g (encode_utf8_all asked.page)) c.takes.files ∙ f) in
-    subst (λ w. IsClean w bytes (x.taken + context_size asked.context x) z.taken) (is ∙ ap (λ q. way_in asked.task q) same)
-    (record { bytes = k.bytes; rest = k.rest; are = k.are; taken = omega (arith, k.taken, size); clean = k.clean })
+    subst (λ q. IsClean (way_in asked.task q) bytes (x.taken + context_size asked.context x) z.taken) same
+    (record { bytes = k.bytes; rest = k.rest; are = k.are; taken = omega (arith, k.taken, c.takes.size); clean = k.clean })
+
+-- ---- what a call for the page of a job gives under a context, and so the call for the job
+
+pub record PageDone (task : Task) (context : Context) (name : List ℕ) (r : Result Outcome InputError) (told now : Option ShelfContent) (before after : ℕ) : Type 0 where
+  pub ok : IfOk r (λ outcome. WhereKnown (PageText task context name outcome) told now)
+  pub refused : (fault : Fault) → r ≡ Err (error.Refused fault) → WhereKnown (PageRefused task context name fault) told now
+  pub takes : WhereKnown (TakesOf name page_limit) told now
+  pub failed : IsErrOf r error.Failed → Rose before after ⊎ Lacks told name
+  pub cleanly : IsErrOf r error.Failed → WhereKnown (ReadsClean (way_in task context) name) told now
+
+pub record JobDone (asked : Asked) (r : Result Outcome InputError) (told now : Option ShelfContent) (before after : ℕ) : Type 0 where
+  pub ok : IfOk r (λ outcome. WhereKnown (JobText asked outcome) told now)
+  pub refused : (fault : Fault) → r ≡ Err (error.Refused fault) → WhereKnown (JobRefused asked fault) told now
+  pub takes : WhereKnown (TakesFiles (Some asked)) told now
+  pub failed : IsErrOf r error.Failed → Rose before after ⊎ TellsThat (IsLacking asked) told
+  pub cleanly : IsErrOf r error.Failed → WhereKnown (StopsCleanly (Some asked)) told now
+
+pub job_done : (asked other : Asked) (file : Option (List ℕ)) (context : Context) (r : Result Outcome InputError) (told mid now : Option ShelfContent) (a b c : ℕ) → asked ≡ other → file ≡ asked.context
+    → WhereKnown (ReadsContext file context) told mid → a ≤ b → PageDone other.task context (encode_utf8_all other.page) r mid now b c → JobDone asked r told now a c
+job_done asked other file context r told mid now a b c is e reads low page =
+    let m : WhereKnown (ReadsContext asked.context context) told mid = subst (λ f. WhereKnown (ReadsContext f context) told mid) e reads in
+    let d : PageDone asked.task context (encode_utf8_all asked.page) r mid now b c = subst (λ (k : Asked). PageDone k.task context (encode_utf8_all k.page) r mid now b c) (sym is) page in
+    record {
+      ok = IfOk-weaker r (λ outcome. WhereKnown (PageText asked.task context (encode_utf8_all asked.page) outcome) mid now) (λ outcome. WhereKnown (JobText asked outcome) told now)
+          (λ outcome p. moves_then (JobText asked outcome) (λ x y z k t. job_text asked context outcome x y z k t) m p) d.ok;
+      refused = λ fault f. moves_then (JobRefused asked fault) (λ x y z k p. job_refused asked context fault x y z k p) m (d.refused fault f);
+      takes = moves_then (TakesFiles (Some asked)) (λ x y z k p. takes_both asked x y z k.takes p) m d.takes;
+      failed = λ f. ⊎_elim (λ rose. inl (rose_before a b c low rose)) (λ lacks. inr (lacks_page told mid asked context m lacks)) (d.failed f);
+      cleanly = λ f. moves_then (StopsCleanly (Some asked)) (λ x y z k p. page_stops asked context x y z k p) m (d.cleanly f);
+    }

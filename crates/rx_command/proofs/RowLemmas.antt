@@ -69,27 +69,18 @@ extracted =
 -- ---- a file that is no page
 
 -- a first fault is the answer to a check
-refused_so : (bytes : List ℕ) (fault : Fault) → HasFirst (rdfa_way Html names.standard) bytes fault → Row check_words (file bytes) (status.Refused fault) [] (refused_line fault)
+refused_so : (bytes : List ℕ) (fault : Fault) (line : List ℕ) → refused_line fault ≡ line → HasFirst (rdfa_way Html names.standard) bytes fault → Row check_words (file bytes) (status.Refused fault) [] line
 unfolding encode
-refused_so bytes fault first =
-    of_fault a_check fault (record { context = names.standard; bytes = bytes; is_context = refl; file = refl; holds_so = the_fault (checks Html) names.standard bytes fault first })
+refused_so bytes fault line e first =
+    subst (λ l. Row check_words (file bytes) (status.Refused fault) [] l) e
+    (of_fault a_check fault (record { context = names.standard; bytes = bytes; is_context = refl; file = refl; holds_so = the_fault (checks Html) names.standard bytes fault first }))
 
 -- bytes that are read, and end too early
 unended_so : (bytes : List ℕ) (fault : Fault) → IsRead (rdfa_way Html names.standard) bytes → end_of (page_read Html standard bytes) ≡ Err fault → HasFirst (rdfa_way Html names.standard) bytes fault
 unended_so bytes fault read e = end_first (rdfa_way Html names.standard) (refusal_laws names.standard) bytes fault read (finds_only_faults Html standard bytes fault e)
 
-fourteen : decimal 14 ≡ codes "14"
-fourteen = decimal_step 14 (omega arith) (omega arith) ∙ ap (λ z. z ++ 52 ∷ []) digit_1
-
-empty_line : refused_line (record { kind = Unended; token = 0; at = 0 }) ≡ codes "refused: Unended at byte 0 in token 0\n"
-empty_line = rw digit_0 refl
-
-cut_line : refused_line (record { kind = Unended; token = 14; at = 14 }) ≡ codes "refused: Unended at byte 14 in token 14\n"
-cut_line = rw fourteen refl
-
 pub empty : Row check_words (file []) (status.Refused (record { kind = Unended; token = 0; at = 0 })) [] (codes "refused: Unended at byte 0 in token 0\n")
-empty =
-    subst (λ line. Row check_words (file []) (status.Refused ended) [] line) empty_line (refused_so [] ended empty_first)
+empty = refused_so [] ended (codes "refused: Unended at byte 0 in token 0\n") (rw digit_0 refl) empty_first
 
 abbrev cut_page : List ℕ
 cut_page = codes "<html><p>a</p>"
@@ -97,10 +88,13 @@ cut_page = codes "<html><p>a</p>"
 cut_read : IsRead (rdfa_way Html names.standard) cut_page
 cut_read = record { now = read_to (page_read Html standard cut_page); read = refl; accepted = refl }
 
+fourteen : decimal 14 ≡ codes "14"
+fourteen = decimal_step 14 (omega arith) (omega arith) ∙ ap (λ z. z ++ 52 ∷ []) digit_1
+
 pub cut_short : Row check_words (file (codes "<html><p>a</p>")) (status.Refused (record { kind = Unended; token = 14; at = 14 })) [] (codes "refused: Unended at byte 14 in token 14\n")
 cut_short =
     let fault : Fault = record { kind = Unended; token = 14; at = 14 } in
-    subst (λ line. Row check_words (file cut_page) (status.Refused fault) [] line) cut_line (refused_so cut_page fault (unended_so cut_page fault cut_read refl))
+    refused_so cut_page fault (codes "refused: Unended at byte 14 in token 14\n") (rw fourteen refl) (unended_so cut_page fault cut_read refl)
 
 nine : decimal 9 ≡ codes "9"
 nine = decimal_digit 9 (omega arith)
@@ -108,22 +102,14 @@ nine = decimal_digit 9 (omega arith)
 twelve : decimal 12 ≡ codes "12"
 twelve = decimal_step 12 (omega arith) (omega arith) ∙ ap (λ z. z ++ 50 ∷ []) digit_1
 
+pub mismatch : Row check_words (file (codes "<html><b></i></b></html>")) (status.Refused (record { kind = Mismatch; token = 9; at = 12 })) [] (codes "refused: Mismatch at byte 12 in token 9\n")
+mismatch = refused_so (codes "<html><b></i></b></html>") mismatched (codes "refused: Mismatch at byte 12 in token 9\n") (rw (twelve, nine) refl) mismatch_first
+
 fifteen : decimal 15 ≡ codes "15"
 fifteen = decimal_step 15 (omega arith) (omega arith) ∙ ap (λ z. z ++ 53 ∷ []) digit_1
 
-mismatch_line : refused_line mismatched ≡ codes "refused: Mismatch at byte 12 in token 9\n"
-mismatch_line = rw (twelve, nine) refl
-
-relative_line : refused_line relative ≡ codes "refused: RelativeVocab at byte 15 in token 0\n"
-relative_line = rw (fifteen, digit_0) refl
-
-pub mismatch : Row check_words (file (codes "<html><b></i></b></html>")) (status.Refused (record { kind = Mismatch; token = 9; at = 12 })) [] (codes "refused: Mismatch at byte 12 in token 9\n")
-mismatch =
-    subst (λ line. Row check_words (file (codes "<html><b></i></b></html>")) (status.Refused mismatched) [] line) mismatch_line (refused_so (codes "<html><b></i></b></html>") mismatched mismatch_first)
-
 pub relative_vocab : Row check_words (file (codes "<html vocab=\"x\"></html>")) (status.Refused (record { kind = RelativeVocab; token = 0; at = 15 })) [] (codes "refused: RelativeVocab at byte 15 in token 0\n")
-relative_vocab =
-    subst (λ line. Row check_words (file (codes "<html vocab=\"x\"></html>")) (status.Refused relative) [] line) relative_line (refused_so (codes "<html vocab=\"x\"></html>") relative relative_first)
+relative_vocab = refused_so (codes "<html vocab=\"x\"></html>") relative (codes "refused: RelativeVocab at byte 15 in token 0\n") (rw (fifteen, digit_0) refl) relative_first
 
 pub rows_are_answered : RowsAreAnswered
 rows_are_answered = record {

@@ -1,21 +1,6 @@
 -- The start of an element.
-use Rattle.rx_rdfa.proofs.Common.{IfSome, is_some, if◌then◌else◌, encode_utf8_all, map-append, filter-append, Chars, by_test, IfSome_then, Among, Term, Triple, same_node, rename_node, rename_term, rename, spo, Among_left, Among_right, Among_map, false_unless, exact_texts, Path, Naming, Bnode, Author, Made, Cell, Owner, First, Of, Below, same_owner, same_bnode, model, Facts, Inherited, Standing, Resources, resources, listed, handed, own_owner, object_below, rule, value_now, value_of_text, start_of, end_of, text_value, properties_by, Entry, map_entry, entry, linked, touched, awaited, entries_by, of_owner, rename_slot, rename_inherited, labels, exact_bnodes}
-use Rattle.std.proofs.Common.{◌≡◌, ◌∙◌, ℕ, suc, ◌+◌, ◌≤◌, ◌^◌, ◌⊎◌, inl, inr, Bool, true, false, List, [], ◌∷◌, ◌++◌, map, filter_map, length, Option, Some, None, option_map, is_none, bytes_eq, nat_eq, refl, sym, ap, ap₂, subst, subst₂, arith, append-nil, length-append, not, ◌&&◌, ◌||◌, unwrap_or}
-use Rattle.rx_rdfa.specs.Machine.{Slot, Full, Waiting, fill, fill_slot, slot_of, rule_at, value_at, reserved, inherit, Machine, enter}
-use Rattle.rx_lists.specs.declared.lists.SlotId.{SlotId}
-use Rattle.rx_eval.specs.Labels.{Numbered, number_of}
-use Rattle.rx_eval.specs.Moment.{moment}
-use Rattle.rx_eval.specs.Places.{level_at, standing_by}
-use Rattle.rx_eval.specs.TextRules.{text_literal}
-use Rattle.rx_eval.specs.OwnersSeen.{Owning, put_entries, places_for, fill_all}
-use Rattle.rx_eval.specs.States.{Text, Frame, State}
-use Rattle.rx_eval.specs.Entering.{Gathers, next_number, owner_begun, places_at}
-use Rattle.rx_eval.specs.Opening.{drawn_after}
-use Rattle.rx_eval.specs.Opened.{handed_on, Opens}
-use Rattle.rx_eval.specs.Ending.{said_triples}
-use Rattle.rx_eval.specs.Numbering.{Numbering, Name, Number, name_by, named, Grown, with_number, Numbers}
-use Rattle.rx_eval.specs.Slots.{Slots, Open, owner_place, owners_of, waits, slot_waits, HasPlaces, Waiter, Fills, FillUp, Apart, Within, WithinPlaces, WithinOption}
-use Rattle.rx_eval.specs.Standing.{Layer, frames_in, path_in, paths_in, own_in, under_in, open_in, places_of, waiter_of, said_of, KeptAt, LayerStands, LayersStand, Coming, Pending, owner_depth, WaitsFor, AllWaitFor, RunsBy, page_context}
+use Rattle.rx_eval.proofs.Common.{IfSome, is_some, if◌then◌else◌, encode_utf8_all, map-append, filter-append, Chars, by_test, IfSome_then, Among, Term, Triple, same_node, rename_node, rename_term, rename, spo, Among_left, Among_right, Among_map, false_unless, exact_texts, Path, Naming, Bnode, Author, Made, Cell, Owner, First, Of, Below, same_owner, same_bnode, model, Facts, Inherited, Standing, Resources, resources, listed, handed, own_owner, object_below, rule, value_now, value_of_text, start_of, end_of, text_value, properties_by, Entry, map_entry, entry, linked, touched, awaited, entries_by, of_owner, rename_slot, rename_inherited, labels, exact_bnodes, ◌≡◌, ◌∙◌, ℕ, suc, ◌+◌, ◌≤◌, ◌^◌, ◌⊎◌, inl, inr, Bool, true, false, List, [], ◌∷◌, ◌++◌, map, filter_map, length, Option, Some, None, option_map, is_none, bytes_eq, nat_eq, refl, sym, ap, ap₂, subst, subst₂, arith, append-nil, length-append, not, ◌&&◌, ◌||◌, unwrap_or, Slot, Full, Waiting, fill, fill_slot, slot_of, rule_at, value_at, inherit, Machine, enter, SlotId, Numbered, number_of, moment, level_at, standing_by, text_literal, Owning, put_entries, places_for, fill_all, Text, Frame, State, Gathers, next_number, owner_begun, places_at, drawn_after, handed_on, Opens, said_triples, Numbering, Name, Number, name_by, named, Grown, with_number, Numbers, Slots, Open, owner_place, owners_of, waits, slot_waits, HasPlaces, Waiter, Fills, FillUp, Apart, Within, WithinPlaces, WithinOption, Layer, frames_in, path_in, paths_in, own_in, under_in, open_in, places_of, waiter_of, said_of, KeptAt, LayerStands, LayersStand, Coming, Pending, owner_depth, WaitsFor, AllWaitFor, RunsBy, page_context}
+use Rattle.rx_rdfa.specs.Machine.{reserved}
 use Rattle.rx_eval.proofs.DrawLemmas.{draw_most}
 use Rattle.rx_eval.proofs.NameLemmas.{grown_same, grown_then, triples_later, slots_later, inherited_later, same_names}
 use Rattle.rx_eval.proofs.NumberLemmas.{raised, at_new, at_other, grown_with, numbers_with, Drew, drew}

@@ -1,16 +1,10 @@
 -- The lists of an owner at its end: their cells draw numbers, and the triples are the rules'.
-use Rattle.rx_rdfa.proofs.Common.{if◌then◌else◌, nat_lt, filter_map-append, nat_tests, Chars, by_test, Among, distinct, Node, Blank, Term, rename_node, rename_term, rename, spo, Among_of_filter, false_unless, exact_texts, rdf_first, rdf_rest, Bnode, Author, Made, Cell, Owner, same_owner, model, to_node, Slot, Full, Waiting, settle, rename_slot, exact_owners, term_then}
-use Rattle.std.proofs.Common.{◌≡◌, ◌∙◌, ℕ, suc, ◌+◌, ◌<◌, ◌≤◌, ◌^◌, ◌⊎◌, inl, inr, Bool, true, false, cond, List, [], ◌∷◌, ◌++◌, map, filter, flat_map, filter_map, length, Option, Some, None, option_map, option_to_list, bytes_eq, refl, sym, ap, ap₂, subst, arith, true≢false, not, unwrap_or}
-use Rattle.rx_rdfa.specs.Lists.{Entry, map_entry, of_owner, lists, items, cell_or_nil, chain, list_of, cells_from, cells}
-use Rattle.rx_rdfa.specs.Tables.{Table, put, table_from, table_of}
+use Rattle.rx_eval.proofs.Common.{cons_option, settled_item, settled_with, if◌then◌else◌, nat_lt, filter_map-append, nat_tests, Chars, by_test, Among, distinct, Node, Blank, Term, rename_node, rename_term, rename, spo, Among_of_filter, false_unless, exact_texts, rdf_first, rdf_rest, Bnode, Author, Made, Cell, Owner, same_owner, model, to_node, Slot, Full, Waiting, settle, rename_slot, exact_owners, term_then, ◌≡◌, ◌∙◌, ℕ, suc, ◌+◌, ◌<◌, ◌≤◌, ◌^◌, ◌⊎◌, inl, inr, Bool, true, false, cond, List, [], ◌∷◌, ◌++◌, map, filter, flat_map, filter_map, length, Option, Some, None, option_map, option_to_list, bytes_eq, refl, sym, ap, ap₂, subst, arith, true≢false, not, unwrap_or, Entry, map_entry, of_owner, lists, items, cell_or_nil, chain, list_of, Table, put, table_from, table_of, itself, Numbered, Numbering, Name, Number, name_by, named, Grown, Numbers, Slots, item_of, table_in}
+use Rattle.rx_rdfa.specs.Lists.{cells_from, cells}
 use Rattle.rx_rdfa.proofs.RenamedLists.{CellsAlike, of_owner_rename, cells_alike, cells_from_rename}
 use Rattle.rx_rdfa.proofs.RenamedMachine.{settle_rename}
 use Rattle.rx_rdfa.proofs.Tables.{tables_are_lists}
 use Rattle.rx_lists.specs.Cells.{size, cells_of}
-use Rattle.rx_lists.specs.Owners.{itself}
-use Rattle.rx_eval.specs.Labels.{Numbered}
-use Rattle.rx_eval.specs.Numbering.{Numbering, Name, Number, name_by, named, Grown, Numbers}
-use Rattle.rx_eval.specs.Slots.{Slots, item_of, table_in}
 use Rattle.rx_eval.proofs.NumberLemmas.{raised}
 use Rattle.rx_eval.proofs.NameLemmas.{later, entries_later, node_later}
 
@@ -54,24 +48,20 @@ from_dropped (e ∷ own) t h = go e.item h.0 (λ u. from_dropped own u h.1)
     go (Some (Full v)) f more = more (put e.predicate (Some (Some v)) t) ∙ ap (λ (u : Table (Term ℕ)). table_from u (settle own)) (put_dropped e.predicate (Some v) t)
     go (Some (Waiting r)) f more = absurd f
 
-abbrev with_item : {B : Type 0} → Entry Owner (Slot B) → Option (Slot B) → Entry Owner (Slot B)
-with_item e item = record { owner = e.owner; predicate = e.predicate; item = item }
-
 settled_of : {B : Type 0} (o : Owner) (slots : List (Entry Owner (Slot B))) → settle (of_owner same_owner o slots) ≡ of_owner same_owner o (settle slots)
 settled_of o [] = refl
-settled_of {B} o (e ∷ slots) = by_test (same_owner e.owner o) (λ t. rw t (kept t e.item (settled_of o slots))) (λ f. rw f (gone f e.item (settled_of o slots)))
+settled_of {B} o (e ∷ slots) =
+    by_test (same_owner e.owner o) (λ t. rw t (kept t (settled_item e.item) (settled_of o slots))) (λ f. rw f (gone f (settled_item e.item) (settled_of o slots)))
   where
-    kept : same_owner e.owner o ≡ true → (item : Option (Slot B)) → settle (of_owner same_owner o slots) ≡ of_owner same_owner o (settle slots)
-        → settle (with_item e item ∷ of_owner same_owner o slots) ≡ of_owner same_owner o (settle (with_item e item ∷ slots))
-    kept t None ih = rw t (ap (λ (l : List (Entry Owner (Term B))). record { owner = e.owner; predicate = e.predicate; item = None } ∷ l) ih)
-    kept t (Some (Full v)) ih = rw t (ap (λ (l : List (Entry Owner (Term B))). record { owner = e.owner; predicate = e.predicate; item = Some v } ∷ l) ih)
-    kept t (Some (Waiting r)) ih = ih
+    kept : same_owner e.owner o ≡ true → (s : Option (Option (Term B))) → settle (of_owner same_owner o slots) ≡ of_owner same_owner o (settle slots)
+        → cons_option (settled_with e s) (settle (of_owner same_owner o slots)) ≡ of_owner same_owner o (cons_option (settled_with e s) (settle slots))
+    kept t None ih = ih
+    kept t (Some item) ih = rw t (ap (λ (l : List (Entry Owner (Term B))). record { owner = e.owner; predicate = e.predicate; item = item } ∷ l) ih)
 
-    gone : same_owner e.owner o ≡ false → (item : Option (Slot B)) → settle (of_owner same_owner o slots) ≡ of_owner same_owner o (settle slots)
-        → settle (of_owner same_owner o slots) ≡ of_owner same_owner o (settle (with_item e item ∷ slots))
-    gone f None ih = rw f ih
-    gone f (Some (Full v)) ih = rw f ih
-    gone f (Some (Waiting r)) ih = ih
+    gone : same_owner e.owner o ≡ false → (s : Option (Option (Term B))) → settle (of_owner same_owner o slots) ≡ of_owner same_owner o (settle slots)
+        → settle (of_owner same_owner o slots) ≡ of_owner same_owner o (cons_option (settled_with e s) (settle slots))
+    gone f None ih = ih
+    gone f (Some item) ih = rw f ih
 
 -- the tables of an owner of which no slot waits
 pub table_full : (slots : Slots) (o : Owner) → AllFull (of_owner same_owner o slots) → dropped (table_in slots o) ≡ table_of (of_owner same_owner o (settle slots))

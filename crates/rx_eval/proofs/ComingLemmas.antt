@@ -1,6 +1,5 @@
 -- Elements that are still to come.
-use Rattle.rx_rdfa.proofs.Common.{◌≡◌, ◌∙◌, ℕ, suc, inl, inr, [], ◌∷◌, ◌++◌, length, refl, sym, ap, arith, append_assoc, length-append, Path}
-use Rattle.rx_eval.specs.Standing.{Ahead, Coming}
+use Rattle.rx_eval.proofs.Common.{◌≡◌, ◌∙◌, ℕ, suc, inl, inr, [], ◌∷◌, ◌++◌, length, refl, sym, ap, arith, append_assoc, length-append, Path, Ahead, Coming}
 
 -- two that end alike in front of what they share
 same_last : (xs ys : Path) (i j : ℕ) (path : Path) → xs ++ i ∷ path ≡ ys ++ j ∷ path → i ≡ j

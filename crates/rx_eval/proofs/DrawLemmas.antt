@@ -1,9 +1,7 @@
 -- Labels draw their numbers one after another.
-use Rattle.rx_rdfa.proofs.Common.{◌≡◌, ◌∙◌, Result, Ok, Err, IfOk, ℕ, suc, Some, slice_get, ◌+◌, ◌<◌, ◌≤◌, ◌^◌, List, [], ◌∷◌, ◌++◌, length, drop, take, flat_map, refl, sym, ap, subst, arith, length-append, append-nil, append_assoc, add-one, OnErr, take_all, at_drop_all, slice_get_within, get_or_from_slice_get, is_some, IfOk-weaker, on_err_weaker, Chars, by_test, label_of}
-use Rattle.std.proofs.Math.Seq.{take-suc, drop-cons}
+use Rattle.rx_eval.proofs.Common.{◌≡◌, ◌∙◌, Result, Ok, Err, IfOk, ℕ, suc, Some, slice_get, ◌+◌, ◌<◌, ◌≤◌, ◌^◌, List, [], ◌∷◌, ◌++◌, length, drop, take, flat_map, refl, sym, ap, subst, arith, length-append, append-nil, append_assoc, add-one, OnErr, take_all, at_drop_all, slice_get_within, get_or_from_slice_get, is_some, IfOk-weaker, on_err_weaker, Chars, by_test, label_of, take-suc, ref_seen, refs_seen, Numbered, number_of, draw, Drawn, DrawnSome}
+use Rattle.std.proofs.Math.Seq.{drop-cons}
 use Rattle.rx_curie.specs.declared.refs.Ref.{Ref as CodeRef}
-use Rattle.rx_curie.specs.Seen.{ref_seen, refs_seen}
-use Rattle.rx_eval.specs.Labels.{Numbered, number_of, draw, Drawn, DrawnSome}
 
 pub drop_at : {A : Type 0} (xs : List A) (i : ℕ) (x : A) → slice_get xs i ≡ Some x → drop i xs ≡ x ∷ drop (suc i) xs
 drop_at xs i x h = drop-cons xs i x (slice_get_within xs i x h) ∙ ap (λ (y : _). y ∷ drop (suc i) xs) (get_or_from_slice_get xs i x x h)

@@ -1,20 +1,13 @@
 -- One element by the rules' names and by numbers.
-use Rattle.rx_rdfa.proofs.Common.{and_from, if◌then◌else◌, option_or, Chars, then_some, Among, Node, Blank, Term, Triple, same_node, rename_node, rename_term, rename, Path, Naming, Bnode, Author, Made, Owner, Of, Below, same_bnode, model, Facts, Rule, rule, value_now, value_of_text, value, entries_by, rename_entry, rename_resources, rename_rule, rename_inherited, rename_standing, labels, AgreeAt}
-use Rattle.std.proofs.Common.{◌≡◌, ◌∙◌, ℕ, suc, Bool, true, false, List, [], ◌++◌, map, filter_map, length, Option, Some, None, option_map, is_none, nat_eq, refl, sym, ap, ap₂, not, ◌&&◌, is_some, unwrap_or}
-use Rattle.rx_model.proofs.Sets.{or_left, or_right}
-use Rattle.rx_rdfa.specs.Resources.{Inherited, Standing, Resources, resources}
-use Rattle.rx_rdfa.specs.Inherited.{hangs, object_below, handed, below}
-use Rattle.rx_rdfa.specs.Element.{of_vocabulary, types_by, links_by, properties_by, completed, text_value, start_of, end_of}
-use Rattle.rx_rdfa.specs.Machine.{Slot, Full, Waiting, slot_of, rule_at, value_at, reserved}
+use Rattle.rx_eval.proofs.Common.{and_from, if◌then◌else◌, option_or, Chars, then_some, Among, Node, Blank, Term, Triple, same_node, rename_node, rename_term, rename, Path, Naming, Bnode, Author, Made, Owner, Of, Below, same_bnode, model, Facts, Rule, rule, value_now, value_of_text, value, entries_by, rename_entry, rename_resources, rename_rule, rename_inherited, rename_standing, labels, AgreeAt, ◌≡◌, ◌∙◌, ℕ, suc, Bool, true, false, List, [], ◌++◌, map, filter_map, length, Option, Some, None, option_map, is_none, nat_eq, refl, sym, ap, ap₂, not, ◌&&◌, is_some, unwrap_or, or_left, or_right, Inherited, Standing, Resources, hangs, object_below, handed, of_vocabulary, types_by, links_by, properties_by, completed, text_value, Slot, Full, Waiting, slot_of, rule_at, Numbered, number_of, moment, level_at, path_at, standing_by, Numbering, Name, Number, name_by, named, same_name, next_number, owner_begun, owner_for}
+use Rattle.rx_rdfa.specs.Resources.{resources}
+use Rattle.rx_rdfa.specs.Inherited.{below}
+use Rattle.rx_rdfa.specs.Element.{start_of, end_of}
+use Rattle.rx_rdfa.specs.Machine.{value_at, reserved}
 use Rattle.rx_rdfa.proofs.Sent.{map_or, map_then}
 use Rattle.rx_rdfa.proofs.RenamedResources.{same_nodes, resources_rename, below_rename, hangs_is}
 use Rattle.rx_rdfa.proofs.RenamedElement.{rule_rename, value_now_rename, value_rename, start_rename, end_rename}
 use Rattle.rx_rdfa.proofs.RenamedLists.{entries_by_rename}
-use Rattle.rx_eval.specs.Labels.{Numbered, number_of}
-use Rattle.rx_eval.specs.Moment.{moment}
-use Rattle.rx_eval.specs.Places.{level_at, path_at, standing_by}
-use Rattle.rx_eval.specs.Numbering.{Numbering, Name, Number, name_by, named, same_name}
-use Rattle.rx_eval.specs.Entering.{next_number, owner_begun, owner_for}
 use Rattle.rx_eval.specs.Standing.{gathers_text}
 use Rattle.rx_eval.proofs.OtherLemmas.{level_is, makes_resource, makes_new, other, resources_other, handed_other, entries_other}
 

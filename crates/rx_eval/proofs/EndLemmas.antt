@@ -1,20 +1,14 @@
 -- The end of an element.
-use Rattle.rx_rdfa.proofs.Common.{◌≡◌, ◌∙◌, ℕ, suc, ◌<◌, ◌≤◌, ◌⊎◌, inl, inr, Bool, true, false, List, [], ◌∷◌, ◌++◌, map, length, Option, Some, None, option_map, bytes_eq, refl, sym, ap, ap₂, subst, subst₂, arith, append-nil, append_assoc, length-append, ◌||◌, ◌==◌, or_parts, IfSome, if◌then◌else◌, map-append, Decides-eqb, Chars, by_test, IfSome_then, Among, Iri, Term, Triple, rename_term, rename, false_unless, exact_texts, Path, Bnode, Made, Cell, Owner, First, Of, Below, same_owner, model, Inherited, resources, below, up, end_of, Entry, map_entry, of_owner, cells, Call, Leave, after, Slot, Full, Waiting, fill, fill_slot, settle, number, Machine, value_at, left, leave_with, leave, begun, rename_slot, after-append, exact_owners}
+use Rattle.rx_eval.proofs.Common.{◌≡◌, ◌∙◌, ℕ, suc, ◌<◌, ◌≤◌, ◌⊎◌, inl, inr, Bool, true, false, List, [], ◌∷◌, ◌++◌, map, length, Option, Some, None, option_map, bytes_eq, refl, sym, ap, ap₂, subst, subst₂, arith, append-nil, append_assoc, length-append, ◌||◌, ◌==◌, or_parts, IfSome, if◌then◌else◌, map-append, Decides-eqb, Chars, by_test, IfSome_then, Among, Iri, Term, Triple, rename_term, rename, false_unless, exact_texts, Path, Bnode, Made, Cell, Owner, First, Of, Below, same_owner, model, Inherited, resources, below, up, end_of, Entry, map_entry, of_owner, cells, Call, Leave, after, Slot, Full, Waiting, fill, fill_slot, settle, number, Machine, value_at, left, leave_with, leave, begun, rename_slot, after-append, exact_owners, text_literal, Text, Frame, State, gathers_some, Ending, ending, end_owner, say_text, end_frame, TextAt, Closes, Numbering, Name, Number, named, Grown, Slots, owner_place, slot_waits, waits, Fills, FillUp, Within, Layer, frames_in, paths_in, begun_by, own_in, under_in, open_in, places_of, waiter_of, said_of, KeptAt, LayerStands, LayersStand, Coming, Pending, owner_depth, WaitsFor, AllWaitFor, RunsBy, Runs, IsOver, page_context, Phase, EvaluatorStands, StandsOn}
 use Rattle.rx_rdfa.proofs.RenamedMachine.{fill_rename}
-use Rattle.rx_eval.specs.TextRules.{text_literal}
-use Rattle.rx_eval.specs.States.{Text, Frame, State}
-use Rattle.rx_eval.specs.Keeping.{gathers_some}
-use Rattle.rx_eval.specs.Ending.{Ending, ending, end_owner, say_text, end_frame, TextAt, Closes}
-use Rattle.rx_eval.specs.Numbering.{Numbering, Name, Number, named, Grown}
-use Rattle.rx_eval.specs.Slots.{Slots, owner_place, slot_waits, waits, Fills, FillUp, Within}
-use Rattle.rx_eval.specs.Standing.{Layer, frames_in, paths_in, begun_by, own_in, under_in, open_in, places_of, waiter_of, said_of, KeptAt, LayerStands, LayersStand, Coming, Pending, owner_depth, WaitsFor, AllWaitFor, RunsBy, Runs, IsOver, page_context, Phase, EvaluatorStands, StandsOn}
 use Rattle.rx_eval.proofs.NameLemmas.{grown_then, node_later}
-use Rattle.rx_eval.proofs.FillLemmas.{within_more, fill_quiet, of_filled, snoc_last, snoc_front}
+use Rattle.rx_eval.proofs.FillLemmas.{within_more, fill_quiet, of_filled}
 use Rattle.rx_eval.proofs.CellLemmas.{IsFull, AllFull}
 use Rattle.rx_eval.proofs.ComingLemmas.{coming_not}
 use Rattle.rx_eval.proofs.LayerLemmas.{place_none, begun_none, deeper_none, all_within, frames_length, layers_later}
 use Rattle.rx_eval.proofs.OwnersLemmas.{Midway, Ended, owner_ends}
 use Rattle.rx_eval.proofs.LeavesLemmas.{unmarked}
+use Rattle.std.proofs.lemmas.List.{same_from_push}
 
 -- ---- slots that wait
 
@@ -83,9 +77,9 @@ if_given (Some a) p = p
 
 -- ---- the text
 
-record TextEnds (to : Numbering) (base : Chars) (l : Layer) (lower : List Layer) (state : State) (slots : Slots) (names : List (Entry Owner (Slot Bnode))) (out : List (Triple Bnode)) : Type 0 where
+record TextEnds (to : Numbering) (base : Chars) (l : Layer) (lower : List Layer) (t : Option Text) (state : State) (slots : Slots) (names : List (Entry Owner (Slot Bnode))) (out : List (Triple Bnode)) : Type 0 where
   now : Slots
-  midway : Midway to (open_in base (l ∷ lower)) (map waiter_of lower) state.labels state.drawn (say_text l.frame.text l.text (ending state.out state.owners state.cells)) now
+  midway : Midway to (open_in base (l ∷ lower)) (map waiter_of lower) state.labels state.drawn (say_text t l.text (ending state.out state.owners state.cells)) now
       (fill l.at.path (value_at model base l.at l.text) names) (out ++ end_of model base l.at l.text)
   waiting : AllWaitFor (paths_in lower) now
   still : (o : Owner) → of_owner same_owner o slots ≡ [] → of_owner same_owner o now ≡ []
@@ -98,41 +92,39 @@ module _ (to : Numbering) (m : Machine Bnode Owner) (state : State) (l : Layer) 
       → map (rename Number) (state.out ++ said_of t l.text) ≡ map (rename (named to)) (m.out ++ end_of model state.base l.at l.text)
   out_said t e = map-append (rename Number) state.out (said_of t l.text) ∙ ap₂ ◌++◌ r.out e ∙ sym (map-append (rename (named to)) m.out (end_of model state.base l.at l.text))
 
-  text_by : (t : Option Text) → l.frame.text ≡ t → map (rename Number) (said_of t l.text) ≡ map (rename (named to)) (end_of model state.base l.at l.text)
+  text_by : (t : Option Text) → map (rename Number) (said_of t l.text) ≡ map (rename (named to)) (end_of model state.base l.at l.text)
       → IfSome t (λ t. (chars : Chars) → rename_term Number (text_literal t.by chars) ≡ rename_term (named to) (value_at model state.base l.at chars))
       → Fills l.at.path (places_of t) (λ o s. FillUp (open_in state.base (l ∷ lower)) (map waiter_of lower) o s) state.owners slots
-      → TextEnds to state.base l lower state slots m.slots m.out
-  text_by None e s w f = record {
+      → TextEnds to state.base l lower t state slots m.slots m.out
+  text_by None s w f = record {
     now = slots;
-    midway = subst (λ (t : Option Text). Midway to (open_in state.base (l ∷ lower)) (map waiter_of lower) state.labels state.drawn (say_text t l.text (ending state.out state.owners state.cells)) slots (fill l.at.path v m.slots) (m.out ++ end_of model state.base l.at l.text)) (sym e)
-        (record {
-          numbers = r.numbers;
-          by_names = r.by_names ∙ ap (map (map_entry (rename_slot (named to)))) (sym (fill_quiet l.at.path v m.slots
-              (sym (waits_renamed (named to) l.at.path m.slots) ∙ ap (waits l.at.path) (sym r.by_names) ∙ waits_renamed Number l.at.path slots ∙ f.0)));
-          tables = f.1;
-          written = ap (map (rename Number)) (sym (append-nil state.out)) ∙ out_said None s;
-        });
+    midway = record {
+      numbers = r.numbers;
+      by_names = r.by_names ∙ ap (map (map_entry (rename_slot (named to)))) (sym (fill_quiet l.at.path v m.slots
+          (sym (waits_renamed (named to) l.at.path m.slots) ∙ ap (waits l.at.path) (sym r.by_names) ∙ waits_renamed Number l.at.path slots ∙ f.0)));
+      tables = f.1;
+      written = ap (map (rename Number)) (sym (append-nil state.out)) ∙ out_said None s;
+    };
     waiting = wait_lower l.at.path (paths_in lower) slots f.0 r.waiting;
     still = λ o k. k;
   }
-  text_by (Some t) e s w f =
+  text_by (Some t) s w f =
       let u : Term ℕ = text_literal t.by l.text in
       record {
         now = fill l.at.path u slots;
-        midway = subst (λ (x : Option Text). Midway to (open_in state.base (l ∷ lower)) (map waiter_of lower) state.labels state.drawn (say_text x l.text (ending state.out state.owners state.cells)) (fill l.at.path u slots) (fill l.at.path v m.slots) (m.out ++ end_of model state.base l.at l.text)) (sym e)
-            (record {
-              numbers = r.numbers;
-              by_names = fill_rename Number (λ o. o) l.at.path u slots ∙ ap₂ (λ (x : Term (Name Bnode)) (y : List (Entry Owner (Slot (Name Bnode)))). fill l.at.path x y) (w l.text) r.by_names ∙ sym (fill_rename (named to) (λ o. o) l.at.path v m.slots);
-              tables = f.1 u;
-              written = out_said (Some t) s;
-            });
+        midway = record {
+          numbers = r.numbers;
+          by_names = fill_rename Number (λ o. o) l.at.path u slots ∙ ap₂ (λ (x : Term (Name Bnode)) (y : List (Entry Owner (Slot (Name Bnode)))). fill l.at.path x y) (w l.text) r.by_names ∙ sym (fill_rename (named to) (λ o. o) l.at.path v m.slots);
+          tables = f.1 u;
+          written = out_said (Some t) s;
+        };
         waiting = wait_lower l.at.path (paths_in lower) (fill l.at.path u slots) (filled_quiet l.at.path u slots) (fill_waiting l.at.path u (l.at.path ∷ paths_in lower) slots r.waiting);
         still = λ o k. of_filled o l.at.path u slots ∙ ap (fill l.at.path u) k;
       }
 
   -- what the text leaves
-  said : TextEnds to state.base l lower state slots m.slots m.out
-  said = text_by l.frame.text refl (r.each.0.said l.text) r.each.0.value r.tables.1
+  said : TextEnds to state.base l lower l.frame.text state slots m.slots m.out
+  said = text_by l.frame.text (r.each.0.said l.text) r.each.0.value r.tables.1
 
   -- ---- the owners
 
@@ -272,10 +264,10 @@ module _ (to : Numbering) (m : Machine Bnode Owner) (state : State) (l : Layer) 
 
   module _ (new : State) (c : Closes state new) where
     frames_are : new.frames ≡ frames_in lower
-    frames_are = snoc_front new.frames (frames_in lower) c.frame l.frame (sym c.popped ∙ r.frames)
+    frames_are = (same_from_push new.frames (frames_in lower) c.frame l.frame (sym c.popped ∙ r.frames)).0
 
     frame_is : c.frame ≡ l.frame
-    frame_is = snoc_last new.frames (frames_in lower) c.frame l.frame (sym c.popped ∙ r.frames)
+    frame_is = (same_from_push new.frames (frames_in lower) c.frame l.frame (sym c.popped ∙ r.frames)).1
 
     text_at : (t : Option Text) → IfSome t (λ t. KeptAt state.kept t.mark l.text) → (front : Chars) × TextAt t state.kept front l.text
     text_at None k = ([], tt)

@@ -1,8 +1,7 @@
 -- Entries that are put one after another.
-use Rattle.rx_eval.proofs.Common.{◌≡◌, ◌∙◌, ℕ, zero, suc, ◌+◌, ◌≤◌, List, [], ◌∷◌, ◌++◌, length, drop, Option, Some, None, slice_get, bytes_eq, refl, sym, ap, add-one, append_assoc, append-nil, Chars, by_test, put, SlotId, put_each, slots_for, put_awaited}
-use Rattle.std.proofs.Math.Seq.{set-append_seam}
+use Rattle.rx_eval.proofs.Common.{◌≡◌, ◌∙◌, ℕ, zero, suc, ◌+◌, ◌≤◌, List, [], ◌∷◌, ◌++◌, length, drop, Option, Some, None, slice_get, bytes_eq, refl, sym, ap, add-one, append_assoc, append-nil, Chars, by_test, put, SlotId, put_each, slots_for, put_awaited, set-append_seam, owned, Owners, changed, with_term, place_of, slots_of, lists_of, open_at}
 use Rattle.rx_terms.specs.declared.triples.Term.{Term}
-use Rattle.rx_lists.specs.Owners.{owned, Owners, Slots, changed, with_term, place_of, slots_of, lists_of, open_at}
+use Rattle.rx_lists.specs.Owners.{Slots}
 use Rattle.rx_lists.specs.SlotIds.{slot_in}
 use Rattle.rx_lists.specs.declared.lists.Owner.{Owner}
 use Rattle.rx_eval.specs.declared.contexts.IncompleteTriple.{IncompleteTriple}

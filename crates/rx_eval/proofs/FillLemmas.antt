@@ -1,11 +1,8 @@
 -- Places are filled at the ends of elements: what becomes of that when slots are put, and owners begin and end.
-use Rattle.rx_rdfa.proofs.Common.{◌≡◌, ◌∙◌, ℕ, zero, suc, ◌<◌, ◌≤◌, Bool, false, List, [], ◌∷◌, ◌++◌, map, length, Option, Some, None, option_map, refl, sym, ap, ap₂, subst, subst₂, arith, length-append, ◌||◌, length-set, map-append, or_parts, by_test, Node, Term, Path, Owner, same_owner, Entry, map_entry, of_owner, Slot, Full, Waiting, fill, fill_slot}
-use Rattle.rx_rdfa.specs.Tables.{Table, table_from}
-use Rattle.rx_lists.specs.declared.lists.SlotId.{SlotId}
-use Rattle.rx_eval.specs.OwnersSeen.{Owning, owning, put_entries, with_item, fill_seen, fill_all}
-use Rattle.rx_eval.specs.Slots.{Slots, Open, owner_place, item_of, table_in, owners_of, slot_waits, waits, HasItem, HasPlace, HasPlaces, Waiter, Fills, FillUp, Apart, WithinPlaces, WithinOption, Within}
+use Rattle.rx_eval.proofs.Common.{◌≡◌, ◌∙◌, ℕ, zero, suc, ◌<◌, ◌≤◌, Bool, false, List, [], ◌∷◌, ◌++◌, map, length, Option, Some, None, option_map, refl, sym, ap, ap₂, subst, subst₂, arith, ◌||◌, length-set, map-append, or_parts, by_test, Node, Term, Path, Owner, same_owner, Entry, map_entry, of_owner, Slot, Full, Waiting, fill, fill_slot, Table, table_from, SlotId, Owning, owning, put_entries, with_item, fill_seen, fill_all, Slots, Open, owner_place, item_of, table_in, owners_of, slot_waits, waits, HasItem, HasPlace, HasPlaces, Waiter, Fills, FillUp, Apart, WithinPlaces, WithinOption, Within}
 use Rattle.rx_eval.proofs.PlaceLemmas.{still_at, fill_past_all}
 use Rattle.rx_eval.proofs.ListLemmas.{Puts, Match, put_all}
+use Rattle.std.proofs.lemmas.List.{same_from_push}
 
 abbrev Many : Type 0
 Many = List (Option Owning)
@@ -144,22 +141,6 @@ places_both (s ∷ slots) os x b =
     let more = places_both slots os x b.1 in
     (λ h. (one.0 h.0, more.0 h.1), λ h. (one.1 h.0, more.1 h.1))
 
-snoc_parts : {A : Type 0} (xs ys : List A) (x y : A) → xs ++ x ∷ [] ≡ ys ++ y ∷ [] → (xs ≡ ys) × (x ≡ y)
-snoc_parts [] [] x y e = (refl, cc)
-snoc_parts [] (z ∷ ys) x y e = let n = ap length e in absurd (omega (arith, n, length-append ys (y ∷ [])))
-snoc_parts (z ∷ xs) [] x y e = let n = ap length e in absurd (omega (arith, n, length-append xs (x ∷ [])))
-snoc_parts (z ∷ xs) (w ∷ ys) x y e =
-    let h : z ≡ w = cc in
-    let t : xs ++ x ∷ [] ≡ ys ++ y ∷ [] = cc in
-    let more = snoc_parts xs ys x y t in
-    (ap₂ ◌∷◌ h more.0, more.1)
-
-pub snoc_front : {A : Type 0} (xs ys : List A) (x y : A) → xs ++ x ∷ [] ≡ ys ++ y ∷ [] → xs ≡ ys
-snoc_front xs ys x y e = (snoc_parts xs ys x y e).0
-
-pub snoc_last : {A : Type 0} (xs ys : List A) (x y : A) → xs ++ x ∷ [] ≡ ys ++ y ∷ [] → x ≡ y
-snoc_last xs ys x y e = (snoc_parts xs ys x y e).1
-
 module _ (open_owners : Open) (o : Owner) (s : Node ℕ) where
   begin_owners : (owners : Many) (slots : Slots) → of_owner same_owner o slots ≡ [] → owners ≡ owners_of slots open_owners → owners ++ Some (owning s []) ∷ [] ≡ owners_of slots (open_owners ++ (o, s) ∷ [])
   begin_owners owners slots e h =
@@ -182,7 +163,7 @@ module _ (open_owners : Open) (o : Owner) (s : Node ℕ) where
       )
 
   end_owners : (owners : Many) (slots : Slots) (x : Option Owning) → owners ++ x ∷ [] ≡ owners_of slots (open_owners ++ (o, s) ∷ []) → owners ≡ owners_of slots open_owners
-  end_owners owners slots x h = snoc_front owners (owners_of slots open_owners) x _ (h ∙ owners_more slots open_owners o s)
+  end_owners owners slots x h = (same_from_push owners (owners_of slots open_owners) x _ (h ∙ owners_more slots open_owners o s)).0
 
   pub end_fill_up : (waiters : List Waiter) (owners : Many) (slots : Slots) (x : Option Owning) → Within (length owners) waiters → FillUp (open_owners ++ (o, s) ∷ []) waiters (owners ++ x ∷ []) slots
       → FillUp open_owners waiters owners slots

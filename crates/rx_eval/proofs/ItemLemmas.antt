@@ -1,9 +1,5 @@
 -- The entries of an element that is opened: which of them are empty, and how they are filled at its end.
-use Rattle.rx_rdfa.proofs.Common.{◌≡◌, ◌∙◌, ℕ, ◌<◌, ◌≤◌, inl, inr, Bool, true, false, List, [], ◌∷◌, ◌++◌, map, filter_map, length, Option, Some, None, option_map, bytes_eq, refl, sym, ap, ap₂, subst, arith, append_assoc, ◌||◌, if◌then◌else◌, map-append, Chars, by_test, Among, Node, Term, Resource, false_unless, exact_texts, Path, Naming, Bnode, Owner, same_owner, Hanging, Forward, Reverse, InList, Standing, Resources, listed, hangs, own_owner, Entry, map_entry, entry, linked, touched, valued, awaited, entries_by, Slot, Full, Waiting, fill, fill_slot, slot_of, rename_slot, exact_owners}
-use Rattle.rx_eval.specs.OwnersSeen.{Owning, put_at, put_entries, places_for, fill_all}
-use Rattle.rx_eval.specs.Numbering.{Name, Number}
-use Rattle.rx_eval.specs.Slots.{Slots, Open, owner_place, item_of, slot_waits, waits, HasPlaces, WithinPlaces}
-use Rattle.rx_eval.specs.Standing.{owner_depth, WaitsFor, AllWaitFor}
+use Rattle.rx_eval.proofs.Common.{◌≡◌, ◌∙◌, ℕ, ◌<◌, ◌≤◌, inl, inr, Bool, true, false, List, [], ◌∷◌, ◌++◌, map, filter_map, length, Option, Some, None, option_map, bytes_eq, refl, sym, ap, ap₂, subst, arith, append_assoc, ◌||◌, if◌then◌else◌, map-append, Chars, by_test, Among, Node, Term, Resource, false_unless, exact_texts, Path, Naming, Bnode, Owner, same_owner, Hanging, Forward, Reverse, InList, Standing, Resources, listed, hangs, own_owner, Entry, map_entry, entry, linked, touched, valued, awaited, entries_by, Slot, Full, Waiting, fill, fill_slot, slot_of, rename_slot, exact_owners, Owning, put_at, put_entries, places_for, fill_all, Name, Number, Slots, Open, owner_place, item_of, slot_waits, waits, HasPlaces, WithinPlaces, owner_depth, WaitsFor, AllWaitFor}
 use Rattle.rx_eval.proofs.PlaceLemmas.{has_at, reserved_are_filled}
 use Rattle.rx_eval.proofs.FillLemmas.{place_put}
 use Rattle.rx_eval.proofs.SeenLemmas.{entries_then}
@@ -77,9 +73,8 @@ only_renamed f path (y ∷ ys) (z ∷ zs) e h =
     item : (i : Option (Slot ℕ)) (j : Option (Slot Bnode)) → option_map (rename_slot Number) i ≡ option_map (rename_slot f) j → Only path j → Only path i
     item None j e h = tt
     item (Some (Full v)) j e h = tt
-    item (Some (Waiting r)) None e h = absurd (cc)
-    item (Some (Waiting r)) (Some (Full v)) e h = absurd (cc)
     item (Some (Waiting r)) (Some (Waiting q)) e h = let k : r ≡ q = cc in k ∙ h
+    item _ _ e h = absurd (cc)
 
 pub only_quiet : (path r : Path) (ys : Slots) → ¬ (r ≡ path) → AllItems (Only path) ys → waits r ys ≡ false
 only_quiet path r [] n h = refl

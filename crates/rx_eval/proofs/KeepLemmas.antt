@@ -57,6 +57,18 @@ was_none : (old : Option ℕ) (b : Bool) (n : ℕ) → first_of old b n ≡ None
 was_none None b n e = refl
 was_none (Some m) b n e = e
 
+-- the same frames, with so many skipped elements in them
+sound_with : {levels depth : ℕ} {a : Inherited ℕ ℕ} {fs : List CodeFrame} {skipped : ℕ} {place : Option ℕ} {kept : Chars} → IsSound levels depth a fs skipped place kept → 0 < depth
+    → (m : ℕ) {d : ℕ} → d ≤ levels → d ≡ length (all_frames a fs m) → IsSound levels d a fs m place kept
+sound_with {a = a} {fs = fs} {skipped = skipped} s h m r e = record {
+  room = r;
+  deep = e;
+  within = omega (arith, e, skipped_fit a fs m);
+  rooted = rooted_in a fs skipped m s.rooted (omega (arith, h, s.deep));
+  first = s.first;
+  quiet = s.quiet;
+}
+
 module _ {levels depth : ℕ} {a : Inherited ℕ ℕ} {fs : List CodeFrame} {skipped : ℕ} {place : Option ℕ} {kept : Chars} (s : IsSound levels depth a fs skipped place kept) where
   pub gathers_is : gathers_some (all_frames a fs skipped) ≡ is_some place
   gathers_is = some_gathers a fs skipped ∙ ap (λ (o : Option ℕ). is_some o) (sym s.first)
@@ -97,36 +109,16 @@ module _ {levels depth : ℕ} {a : Inherited ℕ ℕ} {fs : List CodeFrame} {ski
       → after ≡ first_of place (is_some f.gathered) n → IsSound levels (depth + (1 + m)) a more m after kept
   sound_framed {n} m {more} f {after} r d k e l h =
       let t : IsSound levels (depth + 1) a more 0 after kept = sound_more f (omega (arith, r)) k e l h in
-      record {
-        room = omega (arith, r);
-        deep = omega (arith, t.deep, counted_length a more m);
-        within = omega arith;
-        rooted = rooted_in a more 0 m t.rooted (omega (arith, t.deep));
-        first = t.first;
-        quiet = t.quiet;
-      }
+      sound_with t (omega arith) m {d = depth + (1 + m)} (omega (arith, r)) (omega (arith, t.deep, counted_length a more m))
 
   -- a skipped element more
   pub sound_counted : depth < levels → 0 < depth → IsSound levels (depth + 1) a fs (skipped + 1) place kept
-  sound_counted r h = record {
-    room = omega (arith, r);
-    deep = omega (arith, s.deep, one_longer a fs (skipped + 1) skipped (omega arith));
-    within = omega (arith, s.within);
-    rooted = rooted_in a fs skipped (skipped + 1) s.rooted (omega (arith, h, s.deep));
-    first = s.first;
-    quiet = s.quiet;
-  }
+  sound_counted r h = sound_with s h (skipped + 1) (omega (arith, r)) (omega (arith, s.deep, one_longer a fs (skipped + 1) skipped (omega arith)))
 
   -- a skipped element is gone
   pub sound_uncounted : 0 < skipped → IsSound levels (depth - 1) a fs (skipped - 1) place kept
-  sound_uncounted h = record {
-    room = omega (arith, s.room);
-    deep = omega (arith, s.deep, one_longer a fs skipped (skipped - 1) (omega (arith, h)));
-    within = omega (arith, s.within);
-    rooted = rooted_in a fs skipped (skipped - 1) s.rooted (omega (arith, h, skipped_fit a fs skipped));
-    first = s.first;
-    quiet = s.quiet;
-  }
+  sound_uncounted h =
+      sound_with s (omega (arith, h, s.deep, skipped_fit a fs skipped)) (skipped - 1) (omega (arith, s.room)) (omega (arith, s.deep, one_longer a fs skipped (skipped - 1) (omega (arith, h))))
 
 -- the last frame f was taken from the old ones
 module _ {levels depth : ℕ} {a : Inherited ℕ ℕ} {old : List CodeFrame} {skipped : ℕ} {place : Option ℕ} {kept : Chars} (s : IsSound levels depth a old skipped place kept) (k : skipped ≡ 0)

@@ -1,5 +1,5 @@
 -- Labels and their numbers.
-use Rattle.rx_eval.proofs.Common.{◌≡◌, ◌∙◌, ℕ, ◌+◌, ◌<◌, false, cond, List, [], ◌∷◌, ◌++◌, map, length, get_or, Some, None, bytes_eq, refl, sym, ap, ap₂, subst, arith, Result, Ok, Err, OnOk, position_or_len, list_any, position, chars, IsUtf8, map-append, length-map, by_test, same-chars, nat_lt, exact_texts, Numbered, number_of}
+use Rattle.rx_eval.proofs.Common.{◌≡◌, ◌∙◌, ℕ, ◌+◌, ◌<◌, false, cond, List, [], ◌∷◌, ◌++◌, map, length, get_or, Some, None, bytes_eq, refl, sym, ap, ap₂, subst, arith, position_or_len, list_any, position, chars, IsUtf8, map-append, length-map, by_test, same-chars, nat_lt, exact_texts, Numbered, number_of}
 use Rattle.rx_lists.specs.Rows.{first_place, FoundAt}
 use Rattle.rx_lists.proofs.RowLemmas.{found_in, same_turned, not_first, behind}
 use Rattle.rx_eval.specs.Rows.{rows, IsNew}
@@ -67,7 +67,3 @@ module _ {K : Type 0} (bytes : K → List ℕ) (ok : (k : K) → IsUtf8 (bytes k
 
   pub same_size : {A : Type 0} (ks : List K) (ns : List A) → length ks ≡ length ns → length (texts ks) ≡ length ns
   same_size ks ns e = length-map ks (λ k. chars (bytes k)) ∙ e
-
-pub if_both : {A E P Q R : Type 0} (r : Result A E) → (P → Q → R) → OnOk r P → OnOk r Q → OnOk r R
-if_both (Ok a) f p q = f p q
-if_both (Err e) f p q = p

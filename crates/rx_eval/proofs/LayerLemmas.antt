@@ -1,11 +1,5 @@
 -- The frames of the open elements, and the owners that are open.
-use Rattle.rx_rdfa.proofs.Common.{◌≡◌, ◌∙◌, ℕ, suc, ◌+◌, ◌<◌, ◌≤◌, ⊎_elim, false, List, [], ◌∷◌, ◌++◌, map, length, Option, Some, None, option_map, refl, sym, ap, subst, arith, append-nil, length-append, IfSome, cases_lt, Chars, by_test, IfSome_then, Node, false_unless, Owner, First, Of, Below, same_owner, model, Inherited, resources, below, end_of, value_at, inherit, rename_inherited, exact_owners}
-use Rattle.rx_eval.specs.TextRules.{text_literal}
-use Rattle.rx_eval.specs.States.{Frame}
-use Rattle.rx_eval.specs.Opened.{handed_on}
-use Rattle.rx_eval.specs.Numbering.{Numbering, Number, named, Grown}
-use Rattle.rx_eval.specs.Slots.{Open, owner_place, Apart, Within}
-use Rattle.rx_eval.specs.Standing.{Layer, frames_in, begun_by, own_in, under_in, open_in, waiter_of, said_of, LayerStands, LayersStand, owner_depth, page_context}
+use Rattle.rx_eval.proofs.Common.{◌≡◌, ◌∙◌, ℕ, suc, ◌+◌, ◌<◌, ◌≤◌, ⊎_elim, false, List, [], ◌∷◌, ◌++◌, map, length, Option, Some, None, option_map, refl, sym, ap, subst, arith, append-nil, length-append, IfSome, cases_lt, Chars, by_test, IfSome_then, Node, false_unless, Owner, First, Of, Below, same_owner, model, Inherited, resources, below, end_of, value_at, inherit, rename_inherited, exact_owners, text_literal, Frame, handed_on, Numbering, Number, named, Grown, Open, owner_place, Apart, Within, Layer, frames_in, begun_by, own_in, under_in, open_in, waiter_of, said_of, LayerStands, LayersStand, owner_depth, page_context}
 use Rattle.rx_eval.proofs.NameLemmas.{grown_same, node_later, term_later, triples_later, inherited_later}
 use Rattle.rx_eval.proofs.FillLemmas.{within_more}
 use Rattle.rx_eval.proofs.ListLemmas.{owner_turned, no_suc, suc_is}

@@ -1,11 +1,5 @@
 -- Text, and the end of an element.
-use Rattle.rx_rdfa.proofs.Common.{◌≡◌, ◌∙◌, ℕ, suc, inl, inr, Bool, true, false, List, [], ◌∷◌, ◌++◌, map, length, Option, Some, None, refl, sym, ap, ap₂, subst, subst₂, append_assoc, ◌||◌, length-map, or_parts, IfSome, is_some, if◌then◌else◌, Chars, map_then, IfSome_then, Among, Path, Bnode, Owner, First, Of, Below, model, below, Machine, read, rename_inherited}
-use Rattle.rx_eval.specs.States.{Frame, State}
-use Rattle.rx_eval.specs.Keeping.{gathers_some}
-use Rattle.rx_eval.specs.Opened.{read_text}
-use Rattle.rx_eval.specs.Numbering.{Numbering, Number, named}
-use Rattle.rx_eval.specs.Slots.{Slots, Open, owner_place, Waiter, FillUp, WithinOption}
-use Rattle.rx_eval.specs.Standing.{Layer, frames_in, path_in, paths_in, own_in, under_in, open_in, places_of, waiter_of, KeptAt, LayerStands, LayersStand, Pending, AllWaitFor, RunsBy, Runs}
+use Rattle.rx_eval.proofs.Common.{◌≡◌, ◌∙◌, ℕ, suc, inl, inr, Bool, true, false, List, [], ◌∷◌, ◌++◌, map, length, Option, Some, None, refl, sym, ap, ap₂, subst, subst₂, append_assoc, ◌||◌, length-map, or_parts, IfSome, is_some, if◌then◌else◌, Chars, map_then, IfSome_then, Among, Path, Bnode, Owner, First, Of, Below, model, below, Machine, read, rename_inherited, Frame, State, gathers_some, read_text, Numbering, Number, named, Slots, Open, owner_place, Waiter, FillUp, WithinOption, Layer, frames_in, path_in, paths_in, own_in, under_in, open_in, places_of, waiter_of, KeptAt, LayerStands, LayersStand, Pending, AllWaitFor, RunsBy, Runs}
 
 -- ---- text
 

@@ -1,9 +1,5 @@
 -- The owners' tables while slots are put into lists, owners begin and end, and places are filled.
-use Rattle.rx_rdfa.proofs.Common.{◌≡◌, ◌∙◌, ℕ, suc, Bool, true, false, List, [], ◌∷◌, ◌++◌, map, Option, Some, None, option_map, refl, sym, ap, ap₂, append-nil, append_assoc, if◌then◌else◌, map-append, filter-append, by_test, Term, rename_term, Bnode, Owner, same_owner, Entry, map_entry, of_owner, Slot, Full, Waiting, rename_slot, rename_entry, exact_owners}
-use Rattle.rx_rdfa.specs.Tables.{Table, put, table_from}
-use Rattle.rx_eval.specs.OwnersSeen.{Owning, owning, put_at, put_entries}
-use Rattle.rx_eval.specs.Numbering.{Name, Number, name_by, named}
-use Rattle.rx_eval.specs.Slots.{Slots, Open, owner_place, item_of, table_in, owners_of, Apart}
+use Rattle.rx_eval.proofs.Common.{◌≡◌, ◌∙◌, ℕ, suc, Bool, true, false, List, [], ◌∷◌, ◌++◌, map, Option, Some, None, option_map, refl, sym, ap, ap₂, append-nil, append_assoc, if◌then◌else◌, map-append, filter-append, by_test, Term, rename_term, Bnode, Owner, same_owner, Entry, map_entry, of_owner, Slot, Full, Waiting, rename_slot, rename_entry, exact_owners, Table, put, table_from, Owning, owning, put_at, put_entries, Name, Number, name_by, named, Slots, Open, owner_place, item_of, table_in, owners_of, Apart}
 use Rattle.rx_lists.proofs.RowLemmas.{turned}
 use Rattle.rx_eval.proofs.ElementLemmas.{slot_value}
 
@@ -99,20 +95,15 @@ record OneItem (f : Bnode → Name Bnode) (x : Option (Option (Term ℕ))) (z : 
 
 one_item : (f : Bnode → Name Bnode) (x : Option (Option (Term ℕ))) (z : Option (Slot Bnode)) → option_map (option_map (rename_term Number)) x ≡ option_map (slot_value f) z → OneItem f x z
 one_item f None None e = record { slot = None; is_item = refl; is_slot = refl }
-one_item f None (Some z) e = absurd (cc)
-one_item f (Some x) None e = absurd (cc)
 one_item f (Some None) (Some (Waiting r)) e = record { slot = Some (Waiting r); is_item = refl; is_slot = refl }
-one_item f (Some None) (Some (Full v)) e = absurd (cc)
-one_item f (Some (Some u)) (Some (Waiting r)) e = absurd (cc)
 one_item f (Some (Some u)) (Some (Full v)) e =
     let q : rename_term Number u ≡ rename_term f v = cc in
     record { slot = Some (Full u); is_item = refl; is_slot = ap (λ (t : Term (Name Bnode)). Some (Full t)) q }
+one_item f _ _ e = absurd (cc)
 
 pub merged : (own : Owner → Option ℕ) (f : Bnode → Name Bnode) (xs : Puts) (zs : List (Entry Owner (Slot Bnode)))
     → map (rename_entry Number (option_map (rename_term Number))) xs ≡ map (rename_entry (named own) (slot_value f)) zs → Merged own f xs zs
 merged own f [] [] e = record { slots = []; match = all_matched; renamed = refl }
-merged own f [] (z ∷ zs) e = absurd (cc)
-merged own f (x ∷ xs) [] e = absurd (cc)
 merged own f (x ∷ xs) (z ∷ zs) e =
     let first : rename_entry Number (option_map (rename_term Number)) x ≡ rename_entry (named own) (slot_value f) z = cc in
     let rest : map (rename_entry Number (option_map (rename_term Number))) xs ≡ map (rename_entry (named own) (slot_value f)) zs = cc in
@@ -124,3 +115,4 @@ merged own f (x ∷ xs) (z ∷ zs) e =
       match = matched x y xs m.slots (number_is z.owner (own z.owner) x.owner (λ j. (first j).owner)) (λ j. (first j).predicate) i.is_item m.match;
       renamed = λ j. record { owner = z.owner; predicate = z.predicate; item = i.is_slot j } ∷ m.renamed j;
     }
+merged own f _ _ e = absurd (cc)

@@ -1,6 +1,5 @@
 -- What is renamed by numbers stays so when more have numbers.
-use Rattle.rx_rdfa.proofs.Common.{◌≡◌, ◌∙◌, ℕ, Bool, List, map, Option, Some, None, option_map, nat_eq, refl, sym, ap, ap₂, same_truth, IsExact, Node, Term, Triple, rename_node, rename_term, rename, false_unless, exact_numbers, Inherited, Entry, map_entry, Slot, Full, Waiting, rename_slot, rename_inherited, map_then, node_then, term_then, triple_then, inherited_then}
-use Rattle.rx_eval.specs.Numbering.{Name, Number, Itself, name_by, named, same_name, Grown}
+use Rattle.rx_eval.proofs.Common.{◌≡◌, ◌∙◌, ℕ, Bool, List, map, Option, Some, None, option_map, nat_eq, refl, sym, ap, ap₂, same_truth, IsExact, Node, Term, Triple, rename_node, rename_term, rename, false_unless, exact_numbers, Inherited, Entry, map_entry, Slot, Full, Waiting, rename_slot, rename_inherited, map_then, node_then, term_then, triple_then, inherited_then, Name, Number, Itself, name_by, named, same_name, Grown}
 
 pub grown_same : {A : Type 0} (to : A → Option ℕ) → Grown to to
 grown_same to = record { keeps = λ a n e. e }

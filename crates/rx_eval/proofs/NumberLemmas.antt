@@ -1,7 +1,5 @@
 -- Labels draw numbers for authors' blank nodes, and an element for its own new one.
-use Rattle.rx_rdfa.proofs.Common.{◌≡◌, ◌∙◌, ℕ, ◌+◌, ◌<◌, ◌≤◌, ◌^◌, ◌⊎◌, inl, inr, true, false, List, [], ◌∷◌, ◌++◌, length, Option, Some, None, bytes_eq, refl, sym, ap, arith, is_some, Chars, by_test, Among, false_unless, exact_texts, Path, Bnode, Author, Made, Cell, Owner, same_bnode, exact_bnodes}
-use Rattle.rx_eval.specs.Labels.{Numbered, number_of, draw}
-use Rattle.rx_eval.specs.Numbering.{Numbering, Grown, with_number, Numbers}
+use Rattle.rx_eval.proofs.Common.{◌≡◌, ◌∙◌, ℕ, ◌+◌, ◌<◌, ◌≤◌, ◌^◌, ◌⊎◌, inl, inr, true, false, List, [], ◌∷◌, ◌++◌, length, Option, Some, None, bytes_eq, refl, sym, ap, arith, is_some, Chars, by_test, Among, false_unless, exact_texts, Path, Bnode, Author, Made, Cell, Owner, same_bnode, exact_bnodes, Numbered, number_of, draw, Numbering, Grown, with_number, Numbers}
 use Rattle.rx_eval.proofs.NameLemmas.{grown_same, grown_then}
 
 pub some_is : (o : Option ℕ) → is_some o ≡ true → (n : ℕ) × (o ≡ Some n)

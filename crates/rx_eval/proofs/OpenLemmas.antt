@@ -1,14 +1,13 @@
 -- The start of an element on the stack.
-use Rattle.rx_eval.proofs.Common.{◌≡◌, ◌∙◌, ℕ, suc, Bool, true, ◌+◌, ◌<◌, ◌^◌, List, [], ◌∷◌, map, length, Option, Some, None, option_map, refl, sym, ap, subst, arith, is_some, IfSome, ◌==◌, nat_tests, Chars, Facts, Inherited, Owning, Gathers, resources_by, places_at, Numbered, Drawn, context_seen, waiting_seen, around_in, all_frames, handed_on, text_seen}
+use Rattle.rx_eval.proofs.Common.{◌≡◌, ◌∙◌, ℕ, suc, Bool, true, ◌+◌, ◌<◌, ◌^◌, List, [], ◌∷◌, map, length, Option, Some, None, option_map, refl, sym, ap, subst, arith, is_some, IfSome, ◌==◌, nat_tests, Chars, Facts, Inherited, Owning, Gathers, resources_by, places_at, Numbered, Drawn, context_seen, waiting_seen, around_in, all_frames, handed_on, text_seen, Wait, wait_seen, wait_by}
 use Rattle.rx_eval.specs.declared.places.Level.{Level}
 use Rattle.rx_eval.specs.declared.contexts.EvaluationContext.{EvaluationContext}
 use Rattle.rx_eval.specs.declared.frames.Frame.{Frame as CodeFrame}
 use Rattle.rx_eval.specs.declared.frames.Gathered.{Gathered}
 use Rattle.rx_eval.specs.declared.contexts.IncompleteTriple.{IncompleteTriple}
-use Rattle.rx_eval.specs.declared.contexts.IncompleteTriple.TheVariants as code
-use Rattle.rx_eval.specs.Waits.{Wait, wait_seen, wait_by}
 use Rattle.rx_eval.proofs.DrawLemmas.{drawn_most}
 use Rattle.rx_eval.proofs.SkippedLemmas.{handed_all}
+use Rattle.rx_eval.specs.declared.contexts.IncompleteTriple.TheVariants as code
 
 pub around_is : (page around : EvaluationContext) (frames items : List CodeFrame) (n : ℕ) → around ≡ around_in page frames → frames ≡ items
     → context_seen around ≡ handed_on (context_seen page) (all_frames (context_seen page) items n)

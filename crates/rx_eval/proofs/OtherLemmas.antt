@@ -1,9 +1,7 @@
 -- An element by two namings that differ only in names for which it isn't asked: that of a new node which it doesn't make,
 -- and those of owners which it doesn't begin.
-use Rattle.rx_rdfa.proofs.Common.{option_or, Chars, and_left, Node, Iri, Blank, Term, Resource, same_node, then_some, Path, Naming, Facts, listed, hangs, object_below, own_owner, hanging_of, owner_below, handed, Entry, entry, linked, awaited, entries_by}
-use Rattle.std.proofs.Common.{◌≡◌, ◌∙◌, ◌⊎◌, inl, inr, ℕ, zero, suc, length, arith, Bool, true, false, cond, List, [], ◌∷◌, ◌++◌, map, filter_map, Option, Some, None, option_map, is_none, refl, ap, ap₂, not, ◌&&◌, ◌||◌, is_some, unwrap_or}
-use Rattle.rx_rdfa.specs.Resources.{Hanging, Forward, Reverse, InList, Standing, Resources, resource_named, has_link, is_plain_property, is_root, is_root_child, is_head_or_body, only, about, linked_resource, base_at_root, default_subject, new_blank, of_property, of_no_link, of_link, resources}
-use Rattle.rx_eval.specs.Places.{level_at, path_at}
+use Rattle.rx_eval.proofs.Common.{option_or, Chars, and_left, Node, Iri, Blank, Term, Resource, same_node, then_some, Path, Naming, Facts, listed, hangs, object_below, own_owner, hanging_of, owner_below, handed, Entry, entry, linked, awaited, entries_by, ◌≡◌, ◌∙◌, ◌⊎◌, inl, inr, ℕ, zero, suc, length, arith, Bool, true, false, cond, List, [], ◌∷◌, ◌++◌, map, filter_map, Option, Some, None, option_map, is_none, refl, ap, ap₂, not, ◌&&◌, ◌||◌, is_some, unwrap_or, Hanging, Forward, Reverse, InList, Standing, Resources, resource_named, has_link, is_plain_property, is_root, is_root_child, is_head_or_body, only, about, linked_resource, base_at_root, default_subject, new_blank, of_property, of_no_link, of_link, level_at, path_at}
+use Rattle.rx_rdfa.specs.Resources.{resources}
 
 -- ---- options of which the last isn't asked, or is what is had
 
@@ -16,41 +14,30 @@ module _ {R X : Type 0} (f : R → X) where
   abbrev link_names : Option R → Option R → Bool → X → Option X
   link_names res a types x = option_or (option_map f res) (then_some (types && is_none (option_map f a)) x)
 
-  link_same : (res a : Option R) (types : Bool) (x y : X) → ((is_none res && (types && is_none a)) ≡ true → x ≡ y) → link_names res a types x ≡ link_names res a types y
-  link_same None (Some b) true x y h = refl
-  link_same None None true x y h = ap Some (h refl)
-  link_same _ _ _ x y h = refl
-
-  link_made : (res a : Option R) (types : Bool) (x : X) → (is_none res && (types && is_none a)) ≡ true → link_names res a types x ≡ Some x
-  link_made None (Some b) true x h = absurd (cc)
-  link_made None None true x h = refl
-  link_made _ _ _ x h = absurd (cc)
+  -- with one new node or the other it is the same, and where nothing else names it, it is that node
+  link_new : (res a : Option R) (types : Bool) (x y : X) → ((is_none res && (types && is_none a)) ≡ true → x ≡ y)
+      → (link_names res a types x ≡ link_names res a types y) × ((is_none res && (types && is_none a)) ≡ true → link_names res a types y ≡ Some y)
+  link_new None (Some b) true x y h = (refl, λ t. absurd (cc t))
+  link_new None None true x y h = (ap Some (h refl), λ t. refl)
+  link_new _ _ _ x y h = (refl, λ t. absurd (cc t))
 
   abbrev plain_names : Bool → Option R → Bool → X → Option R → Bool → X → X → Option X
   plain_names t a root b res parent o x = then_some t (unwrap_or (option_or (option_map f a) (option_or (then_some root b) (option_or (option_map f res) (then_some parent o)))) x)
 
-  plain_same : (t : Bool) (a : Option R) (root : Bool) (b : X) (res : Option R) (parent : Bool) (o x y : X) → ((t && (is_none a && (not root && (is_none res && not parent)))) ≡ true → x ≡ y)
-      → plain_names t a root b res parent o x ≡ plain_names t a root b res parent o y
-  plain_same true None false b None false o x y h = ap Some (h refl)
-  plain_same _ _ _ b _ _ o x y h = refl
-
-  plain_made : (t : Bool) (a : Option R) (root : Bool) (b : X) (res : Option R) (parent : Bool) (o x : X) → (t && (is_none a && (not root && (is_none res && not parent)))) ≡ true
-      → plain_names t a root b res parent o x ≡ Some x
-  plain_made true None false b None false o x h = refl
-  plain_made _ _ _ b _ _ o x h = absurd (cc)
+  plain_new : (t : Bool) (a : Option R) (root : Bool) (b : X) (res : Option R) (parent : Bool) (o x y : X) → ((t && (is_none a && (not root && (is_none res && not parent)))) ≡ true → x ≡ y)
+      → (plain_names t a root b res parent o x ≡ plain_names t a root b res parent o y)
+      × ((t && (is_none a && (not root && (is_none res && not parent)))) ≡ true → plain_names t a root b res parent o y ≡ Some y)
+  plain_new true None false b None false o x y h = (ap Some (h refl), λ k. refl)
+  plain_new _ _ _ b _ _ o x y h = (refl, λ k. absurd (cc k))
 
   abbrev subject_names : Bool → Option R → Bool → X → Option R → Bool → X → X → X → X
   subject_names t a root b res parent o x z = unwrap_or (option_or (option_map f a) (option_or (option_map f res) (option_or (then_some root b) (option_or (then_some parent o) (then_some t x))))) z
 
-  subject_same : (t : Bool) (a : Option R) (root : Bool) (b : X) (res : Option R) (parent : Bool) (o x y z : X) → ((t && (is_none a && (not root && (is_none res && not parent)))) ≡ true → x ≡ y)
-      → subject_names t a root b res parent o x z ≡ subject_names t a root b res parent o y z
-  subject_same true None false b None false o x y z h = h refl
-  subject_same _ _ _ b _ _ o x y z h = refl
-
-  subject_made : (t : Bool) (a : Option R) (root : Bool) (b : X) (res : Option R) (parent : Bool) (o x z : X) → (t && (is_none a && (not root && (is_none res && not parent)))) ≡ true
-      → subject_names t a root b res parent o x z ≡ x
-  subject_made true None false b None false o x z h = refl
-  subject_made _ _ _ b _ _ o x z h = absurd (cc)
+  subject_new : (t : Bool) (a : Option R) (root : Bool) (b : X) (res : Option R) (parent : Bool) (o x y z : X) → ((t && (is_none a && (not root && (is_none res && not parent)))) ≡ true → x ≡ y)
+      → (subject_names t a root b res parent o x z ≡ subject_names t a root b res parent o y z)
+      × ((t && (is_none a && (not root && (is_none res && not parent)))) ≡ true → subject_names t a root b res parent o y z ≡ y)
+  subject_new true None false b None false o x y z h = (h refl, λ k. refl)
+  subject_new _ _ _ b _ _ o x y z h = (refl, λ k. absurd (cc k))
 
 -- ---- whether an element makes a node
 
@@ -88,15 +75,10 @@ never_both false t e = refl
 
 -- a path's level tells whether it is the root's, or a child's of the root
 pub level_is : (d : ℕ) (path : Path) → length path ≡ suc d → (is_root path ≡ is_root (path_at (level_at d))) × (is_root_child path ≡ is_root_child (path_at (level_at d)))
-level_is d [] e = absurd (omega arith)
 level_is zero (i ∷ []) e = (refl, refl)
-level_is zero (i ∷ j ∷ r) e = absurd (omega arith)
-level_is (suc zero) (i ∷ []) e = absurd (omega arith)
 level_is (suc zero) (i ∷ j ∷ []) e = (refl, refl)
-level_is (suc zero) (i ∷ j ∷ k ∷ r) e = absurd (omega arith)
-level_is (suc (suc d)) (i ∷ []) e = absurd (omega arith)
-level_is (suc (suc d)) (i ∷ j ∷ []) e = absurd (omega arith)
 level_is (suc (suc d)) (i ∷ j ∷ k ∷ r) e = (refl, refl)
+level_is _ _ e = absurd (omega (arith, e))
 
 -- the naming with other names for the element's new node and its owners
 abbrev pub other : {B O : Type 0} → Naming B O → B → O → O → Naming B O
@@ -112,11 +94,11 @@ module _ {B O : Type 0} (n : Naming B O) (base : Chars) (at : Standing B O) wher
   unfolding resources
   made_in k =
       chosen_is MadeIn (has_link at.facts) (is_plain_property at.facts) (links_none at.facts) (names_none at.facts at.path) (of_link n base at) (of_property n base at) (of_no_link n base at) k
-      (λ h. record { speaks = refl; is = inr (link_made (resource_named n base) (option_or at.facts.resource (option_or at.facts.href at.facts.src)) at.facts.about (is_some at.facts.types) (new_blank n at) h) })
-      (λ h. record { speaks = refl; is = inr (plain_made (resource_named n base) (is_some at.facts.types) at.facts.about (is_root at.path) (Iri base) (option_or at.facts.resource (option_or at.facts.href at.facts.src)) (is_root_child at.path && is_head_or_body at.facts.kind) at.around.object (new_blank n at) h) })
+      (λ h. record { speaks = refl; is = inr ((link_new (resource_named n base) (option_or at.facts.resource (option_or at.facts.href at.facts.src)) at.facts.about (is_some at.facts.types) (new_blank n at) (new_blank n at) (λ t. refl)).1 h) })
+      (λ h. record { speaks = refl; is = inr ((plain_new (resource_named n base) (is_some at.facts.types) at.facts.about (is_root at.path) (Iri base) (option_or at.facts.resource (option_or at.facts.href at.facts.src)) (is_root_child at.path && is_head_or_body at.facts.kind) at.around.object (new_blank n at) (new_blank n at) (λ t. refl)).1 h) })
       (λ h. record {
         speaks = never_both _ (is_some at.facts.types) (and_left (is_some at.facts.types) _ h);
-        is = inl (subject_made (resource_named n base) (is_some at.facts.types) at.facts.about (is_root at.path) (Iri base) (option_or at.facts.resource (option_or at.facts.href at.facts.src)) (is_root_child at.path && is_head_or_body at.facts.kind) at.around.object (new_blank n at) at.around.object h);
+        is = inl ((subject_new (resource_named n base) (is_some at.facts.types) at.facts.about (is_root at.path) (Iri base) (option_or at.facts.resource (option_or at.facts.href at.facts.src)) (is_root_child at.path && is_head_or_body at.facts.kind) at.around.object (new_blank n at) (new_blank n at) at.around.object (λ t. refl)).1 h);
       })
 
   module _ (c : B) (o p : O) where
@@ -127,13 +109,13 @@ module _ {B O : Type 0} (n : Naming B O) (base : Chars) (at : Standing B O) wher
         (of_link (other n c o p) base at) (of_link n base at) (of_property (other n c o p) base at) (of_property n base at) (of_no_link (other n c o p) base at) (of_no_link n base at)
         k
         (λ h.
-        let e = link_same (resource_named n base) (option_or at.facts.resource (option_or at.facts.href at.facts.src)) at.facts.about (is_some at.facts.types) (Blank c) (new_blank n at) h in
+        let e = (link_new (resource_named n base) (option_or at.facts.resource (option_or at.facts.href at.facts.src)) at.facts.about (is_some at.facts.types) (Blank c) (new_blank n at) h).0 in
         λ i. record { subject = default_subject n base at; typed = only (is_some at.facts.types) (option_or (about n base at) (e i)); object = e i; skipped = false })
         (λ h.
-        let e = plain_same (resource_named n base) (is_some at.facts.types) at.facts.about (is_root at.path) (Iri base) (option_or at.facts.resource (option_or at.facts.href at.facts.src)) (is_root_child at.path && is_head_or_body at.facts.kind) at.around.object (Blank c) (new_blank n at) h in
+        let e = (plain_new (resource_named n base) (is_some at.facts.types) at.facts.about (is_root at.path) (Iri base) (option_or at.facts.resource (option_or at.facts.href at.facts.src)) (is_root_child at.path && is_head_or_body at.facts.kind) at.around.object (Blank c) (new_blank n at) h).0 in
         λ i. record { subject = default_subject n base at; typed = e i; object = e i; skipped = false })
         (λ h.
-        let e = subject_same (resource_named n base) (is_some at.facts.types) at.facts.about (is_root at.path) (Iri base) (option_or at.facts.resource (option_or at.facts.href at.facts.src)) (is_root_child at.path && is_head_or_body at.facts.kind) at.around.object (Blank c) (new_blank n at) at.around.object h in
+        let e = (subject_new (resource_named n base) (is_some at.facts.types) at.facts.about (is_root at.path) (Iri base) (option_or at.facts.resource (option_or at.facts.href at.facts.src)) (is_root_child at.path && is_head_or_body at.facts.kind) at.around.object (Blank c) (new_blank n at) at.around.object h).0 in
         λ i. record {
           subject = e i;
           typed = then_some (is_some at.facts.types) (e i);

@@ -1,11 +1,5 @@
 -- The end of one owner: its lists are written and it is forgotten.
-use Rattle.rx_rdfa.proofs.Common.{◌≡◌, ◌∙◌, ℕ, suc, ◌+◌, List, [], ◌∷◌, ◌++◌, map, length, Option, Some, None, refl, sym, ap, ap₂, subst, append-nil, IfSome, map-append, Chars, Node, Triple, rename_node, rename, false_unless, Path, Bnode, Made, Cell, Owner, same_owner, model, Entry, map_entry, of_owner, cells, Slot, settle, rename_slot, exact_owners}
-use Rattle.rx_eval.specs.Labels.{Numbered}
-use Rattle.rx_eval.specs.OwnersSeen.{Owning, owning, open_seen, cells_seen, ended_by, forgotten_seen}
-use Rattle.rx_eval.specs.Ending.{Ending, cells_count, end_owner}
-use Rattle.rx_eval.specs.Numbering.{Numbering, Number, named, Grown, Numbers}
-use Rattle.rx_eval.specs.Slots.{Slots, Open, table_in, owners_of, Waiter, FillUp, Within}
-use Rattle.rx_eval.specs.Standing.{begun_by}
+use Rattle.rx_eval.proofs.Common.{◌≡◌, ◌∙◌, ℕ, suc, ◌+◌, List, [], ◌∷◌, ◌++◌, map, length, Option, Some, None, refl, sym, ap, ap₂, subst, append-nil, IfSome, map-append, Chars, Node, Triple, rename_node, rename, false_unless, Path, Bnode, Made, Cell, Owner, same_owner, model, Entry, map_entry, of_owner, cells, Slot, settle, rename_slot, exact_owners, Numbered, Owning, owning, open_seen, cells_seen, ended_by, forgotten_seen, Ending, cells_count, end_owner, Numbering, Number, named, Grown, Numbers, Slots, Open, table_in, owners_of, Waiter, FillUp, Within, begun_by}
 use Rattle.rx_eval.proofs.NameLemmas.{grown_same, slots_later, triples_later}
 use Rattle.rx_eval.proofs.FillLemmas.{end_fill_up, owners_more}
 use Rattle.rx_eval.proofs.CellLemmas.{AllFull, cell_number, with_cells, grown_cells, numbers_cells, rows, ended_now, cells_meet, cells_size, nothing_written}

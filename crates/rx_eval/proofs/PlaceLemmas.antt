@@ -1,11 +1,6 @@
 -- Places in lists: one that is there stays where it is when lists grow.
-use Rattle.rx_rdfa.proofs.Common.{◌≡◌, ◌∙◌, ℕ, zero, suc, List, [], ◌∷◌, ◌++◌, map, Option, Some, None, option_to_list, bytes_eq, refl, sym, ap, ap₂, arith, length-append, length-set, set-append_left, Chars, by_test, set-append_seam, Term, entry}
-use Rattle.rx_rdfa.specs.Tables.{Table, put}
-use Rattle.rx_lists.specs.declared.lists.SlotId.{SlotId}
-use Rattle.rx_eval.specs.Listing.{Entries}
-use Rattle.rx_eval.specs.OwnersSeen.{Owning, owning, lists_in, open_seen, list_place, item_count, next_place, places_for, put_at, put_entries, with_item, fill_seen, fill_all}
+use Rattle.rx_eval.proofs.Common.{◌≡◌, ◌∙◌, ℕ, zero, suc, List, [], ◌∷◌, ◌++◌, map, Option, Some, None, option_to_list, bytes_eq, refl, sym, ap, ap₂, arith, length-append, length-set, set-append_left, Chars, by_test, set-append_seam, Term, entry, Table, put, SlotId, Entries, Owning, owning, lists_in, open_seen, list_place, item_count, next_place, places_for, put_at, put_entries, with_item, fill_seen, fill_all, HasItem, HasPlace}
 use Rattle.rx_eval.specs.Reserving.{ReservedAreFilled}
-use Rattle.rx_eval.specs.Slots.{HasItem, HasPlace}
 
 abbrev Items : Type 0
 Items = Table (Option (Term ℕ))

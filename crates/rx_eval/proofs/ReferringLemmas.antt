@@ -1,11 +1,11 @@
 -- An element that says no more than what it refers to, where it may wait: what it opens and ends.
-use Rattle.rx_eval.proofs.Common.{◌≡◌, ◌∙◌, ◌<◌, ◌-◌, ◌+◌, ℕ, suc, Bool, true, false, List, [], ◌∷◌, ◌++◌, length, Option, Some, None, refl, sym, ap, ap₂, subst, append-nil, append_assoc, length-append, arith, ◌||◌, ◌==◌, is_some, if◌then◌else◌, nat_eq, filter_map, nat_tests, Chars, by_test, resolved, node_seen, Node, Iri, Blank, Term, Triple, same_node, Naming, Facts, Ref, IriRef, LabelRef, RelativeRef, rule, value_now, Ending, Closes, ending, end_owner, cells_count, start_at, below_at, gathers_at, own_at, below_own_at, lists_at, owner_begun, begun_seen, gathers_some, Numbered, moment, handed_on, skipped_state, read_text, Opens, drawn_after, Owning, owning, cells_seen, ended_by, ended, forgotten_seen, level_at, standing_by, says_no_more, reference_in, only_reference, referring_context, referring_frame, referred_by, with_pending, is_iri, LetsWait, MayWait, IsKept, skipped_frame, skipped_frames, State, Frame}
-use Rattle.rx_rdfa.specs.Resources.{Hanging, Inherited, Standing, Resources, resources}
+use Rattle.rx_eval.proofs.Common.{◌≡◌, ◌∙◌, ◌<◌, ◌-◌, ◌+◌, ℕ, suc, Bool, true, false, List, [], ◌∷◌, ◌++◌, length, Option, Some, None, refl, sym, ap, ap₂, subst, append-nil, append_assoc, length-append, arith, ◌||◌, ◌==◌, is_some, if◌then◌else◌, nat_eq, filter_map, nat_tests, Chars, by_test, resolved, node_seen, Node, Iri, Blank, Term, Triple, same_node, Naming, Facts, Ref, IriRef, LabelRef, RelativeRef, rule, value_now, Ending, Closes, ending, end_owner, cells_count, start_at, lists_at, owner_begun, begun_seen, gathers_some, Numbered, moment, handed_on, skipped_state, read_text, Opens, drawn_after, Owning, owning, cells_seen, ended_by, ended, forgotten_seen, level_at, standing_by, says_no_more, reference_in, only_reference, referring_context, referring_frame, referred_by, with_pending, is_iri, LetsWait, MayWait, IsKept, skipped_frame, skipped_frames, State, Frame, Hanging, Inherited, Standing, Resources, properties_by, completed, Shows}
+use Rattle.rx_rdfa.specs.Resources.{resources}
 use Rattle.rx_rdfa.specs.Inherited.{below}
-use Rattle.rx_rdfa.specs.Element.{start_of, properties_by, completed}
+use Rattle.rx_rdfa.specs.Element.{start_of}
 use Rattle.rx_eval.specs.declared.places.Level.{Level}
 use Rattle.rx_eval.specs.declared.pending.Pending.{Pending}
-use Rattle.rx_eval.specs.Waits.{Shows, waits as waits_in}
+use Rattle.rx_eval.specs.Waits.{waits as waits_in}
 use Rattle.rx_eval.specs.declared.inherited.Inherited.{Inherited as Shown}
 use Rattle.rx_eval.proofs.OwnersLemmas.{last_seen}
 use Rattle.rx_eval.proofs.SilentLemmas.{SaysNoMore, no_more, skipped_closes}
@@ -24,10 +24,6 @@ module _ (given : Facts) (reference : Chars) where
     abbrev here : Resources ℕ
     here = record { subject = subject; typed = None; object = None; skipped = false }
 
-    hands : (n : ℕ) → referring_context around n subject ≡ below_at labels fresh base level around plain n
-    unfolding below resources
-    hands n = refl
-
     says_none : (naming : Naming ℕ ℕ) (value : Option (Term ℕ)) → properties_by naming base (standing_by level around plain) here value ≡ []
     says_none naming None = refl
     says_none naming (Some value) = by_test given.inlist (λ t. rw t refl) (λ f. rw f refl)
@@ -44,19 +40,8 @@ module _ (given : Facts) (reference : Chars) where
     unfolding resources
     begins owners e = by_test given.inlist (λ t. rw (t, e) refl) (λ f. rw (f, e) refl)
 
-    keeps : false ≡ gathers_at labels fresh base level around plain
-    unfolding resources
-    keeps = refl
-
-    owns : (n : ℕ) → owner_begun subject around.object n ≡ own_at labels fresh base level around plain n
-    unfolding resources
-    owns n = refl
-
-    owns_below : (n : ℕ) → None ≡ below_own_at labels fresh base level around plain n
-    unfolding resources
-    owns_below n = refl
-
   opens_plain : (old : State) → (handed_on old.page old.frames).hanging ≡ [] → Opens old plain (referred_by (Iri (resolved old.base reference)) 0 old)
+  unfolding below resources
   opens_plain old e =
       let level : Level = level_at (length old.frames) in
       let around : Inherited ℕ ℕ = handed_on old.page old.frames in
@@ -65,13 +50,13 @@ module _ (given : Facts) (reference : Chars) where
         fresh = old.drawn;
         drawing = refl;
         pushed = refl;
-        context = hands old.labels old.drawn old.base level around (length old.owners);
+        context = refl;
         start = sym (ap (λ (l : List (Triple ℕ)). old.out ++ l) (adds old.labels old.drawn old.base level around e) ∙ append-nil old.out);
         lists = begins old.labels old.drawn old.base level around old.owners e;
-        gathers = keeps old.labels old.drawn old.base level around;
+        gathers = refl;
         text = tt;
-        own = owns old.labels old.drawn old.base level around (length old.owners);
-        below_own = owns_below old.labels old.drawn old.base level around (length old.owners);
+        own = refl;
+        below_own = refl;
         counted = refl;
         rest = (refl, refl, refl, refl, refl, refl, refl);
       }
@@ -226,17 +211,13 @@ module _ (w : Option Pending) (p : Pending) (s : State) (e : w ≡ Some p) where
 
 -- ---- what the state with it has of the state
 
-by_pending : (w : Option Pending) (P : Option Pending → Type 0) → P None → ((p : Pending) → P (Some p)) → P w
-by_pending None P n s = n
-by_pending (Some p) P n s = s p
+pub out_waits : (w : Option Pending) (s : State) → (with_pending w s).out ≡ s.out
+out_waits None s = refl
+out_waits (Some p) s = refl
 
-module _ (w : Option Pending) (s : State) where
-  pub out_waits : (with_pending w s).out ≡ s.out
-  out_waits = by_pending w (λ x. (with_pending x s).out ≡ s.out) refl (λ p. refl)
-
-  pub reads_waits : (chars : Chars) → with_pending w (read_text chars s) ≡ read_text chars (with_pending w s)
-  reads_waits chars =
-      by_pending w (λ x. with_pending x (read_text chars s) ≡ read_text chars (with_pending x s)) refl (λ p. sym (reads_referring (node_seen p.subject) s p.inside chars))
+pub reads_waits : (w : Option Pending) (s : State) (chars : Chars) → with_pending w (read_text chars s) ≡ read_text chars (with_pending w s)
+reads_waits None s chars = refl
+reads_waits (Some p) s chars = sym (reads_referring (node_seen p.subject) s p.inside chars)
 
 pub none_waits : (w : Option Pending) (s : State) → w ≡ None → s ≡ with_pending w s
 none_waits w s e = ap (λ (x : Option Pending). with_pending x s) (sym e)

@@ -1,23 +1,16 @@
 -- What is put into the code's lists, as the rules see it.
-use Rattle.rx_rdfa.proofs.Common.{◌≡◌, ◌∙◌, ℕ, Bool, zero, suc, List, [], ◌∷◌, ◌++◌, map, filter_map, Option, Some, None, option_map, option_to_list, slice_set, bytes_eq, refl, sym, ap, ap₂, length, drop, ◌≤◌, Result, OnOk, slice_index_or, if◌then◌else◌, map-append, length-map, map-set, on_ok_weaker, Chars, by_test, Term, node_seen, term_seen, put, entry}
+use Rattle.rx_eval.proofs.Common.{◌≡◌, ◌∙◌, ℕ, Bool, zero, suc, List, [], ◌∷◌, ◌++◌, map, filter_map, Option, Some, None, option_map, option_to_list, slice_set, bytes_eq, refl, sym, ap, ap₂, length, drop, ◌≤◌, Result, OnOk, slice_index_or, if◌then◌else◌, map-append, length-map, map-set, on_ok_weaker, Chars, by_test, Term, node_seen, term_seen, put, entry, Owned, Owners, changed, with_term, itself, open_at, place_of, slots_of, trimmed, trimmed_by, forgotten, lists_of, cells_count, SlotId, waiting_seen, term_of, resource_term, put_each, put_awaited, slots_for, Owning, owning, slots_seen, owning_seen, owners_seen, put_at, put_entries, with_item, open_seen, lists_in, list_place, item_count, next_place, places_for, fill_seen, fill_all, cells_seen, ended_by, ended, forgotten_seen, Entries, awaited_entry}
 use Rattle.rx_terms.specs.declared.triples.Node.{Node as CodeNode}
-use Rattle.rx_terms.specs.declared.triples.Node.TheVariants as code_node
 use Rattle.rx_terms.specs.declared.triples.Term.{Term as CodeTerm}
-use Rattle.rx_lists.specs.Owners.{Owned, Owners, Slots, changed, with_term, itself, open_at, place_of, slots_of, trimmed, trimmed_by, forgotten, lists_of}
+use Rattle.rx_lists.specs.Owners.{Slots}
 use Rattle.rx_lists.specs.SlotIds.{slot_in}
 use Rattle.rx_lists.specs.declared.lists.Owner.{Owner}
 use Rattle.rx_lists.specs.Cells.{cells_of, items_seen, finished_cells, size}
-use Rattle.rx_eval.specs.Ending.{cells_count}
-use Rattle.rx_lists.specs.declared.lists.SlotId.{SlotId}
 use Rattle.rx_eval.specs.Closing.{filled_in}
 use Rattle.rx_eval.specs.declared.contexts.IncompleteTriple.{IncompleteTriple}
 use Rattle.rx_eval.specs.declared.contexts.IncompleteTriple.TheVariants.{Forward, Reverse, InList}
-use Rattle.rx_eval.specs.Contexts.{waiting_seen}
-use Rattle.rx_eval.specs.TextRules.{term_of, resource_term}
-use Rattle.rx_eval.specs.Entries.{put_each, put_awaited, slots_for}
-use Rattle.rx_eval.specs.OwnersSeen.{Owning, owning, slots_seen, owning_seen, owners_seen, put_at, put_entries, with_item, open_seen, lists_in, list_place, item_count, next_place, places_for, fill_seen, fill_all, cells_seen, ended_by, ended, forgotten_seen}
-use Rattle.rx_eval.specs.Listing.{Entries, awaited_entry}
 use Rattle.rx_eval.proofs.DrawLemmas.{nothing_left}
+use Rattle.rx_terms.specs.declared.triples.Node.TheVariants as code_node
 
 abbrev pub item_seen : Option (Option CodeTerm) → Option (Option (Term ℕ))
 item_seen item = option_map (option_map term_seen) item

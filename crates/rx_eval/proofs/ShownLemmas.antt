@@ -1,10 +1,9 @@
 -- What is shown of the frames is what the rules hand on.
-use Rattle.rx_eval.proofs.Common.{◌≡◌, ◌∙◌, List, [], ◌∷◌, map, refl, sym, ap, ap₂, rename_node, Bnode, Owner, Call, rename_hanging, State, handed_on, Numbering, Name, Number, named, EvaluatorStands, context_after}
-use Rattle.rx_rdfa.specs.Resources as rules
+use Rattle.rx_eval.proofs.Common.{◌≡◌, ◌∙◌, List, [], ◌∷◌, map, refl, sym, ap, ap₂, rename_node, Bnode, Owner, Call, rename_hanging, State, handed_on, Numbering, Name, Number, named, EvaluatorStands, context_after, wait_by, Shows}
 use Rattle.rx_eval.specs.declared.inherited.Inherited.{Inherited}
-use Rattle.rx_eval.specs.Waits.{wait_by, Shows}
 use Rattle.rx_eval.specs.Shown.{ShowsAfter}
 use Rattle.rx_eval.proofs.StandLemmas.{hands_on}
+use Rattle.rx_rdfa.specs.Resources as rules
 
 wait_same : {O P : Type 0} (g : O → P) (h : rules.Hanging O) → wait_by (rename_hanging g h) ≡ wait_by h
 wait_same g (rules.Forward p) = refl

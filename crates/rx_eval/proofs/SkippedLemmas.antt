@@ -60,27 +60,20 @@ pub length_skipped : (a : Inherited ℕ ℕ) (n : ℕ) → length (skipped_frame
 length_skipped a zero = refl
 length_skipped a (suc n) = ap suc (length_skipped a n)
 
-grown : (a : Inherited ℕ ℕ) (fs : List CodeFrame) (n : ℕ) → length (all_frames a fs (suc n)) ≡ suc (length (all_frames a fs n))
-grown a [] n = refl
-grown a (x ∷ fs) n =
-    let l = length-append (skipped_frames a x.skipped) (frame_seen x ∷ all_frames (context_seen x.context) fs n) in
-    let k = length-append (skipped_frames a x.skipped) (frame_seen x ∷ all_frames (context_seen x.context) fs (suc n)) in
-    omega (arith, l, k, grown (context_seen x.context) fs n)
-
-pub one_longer : (a : Inherited ℕ ℕ) (fs : List CodeFrame) (m n : ℕ) → m ≡ suc n → length (all_frames a fs m) ≡ suc (length (all_frames a fs n))
-one_longer a fs m n e = ap (λ (k : ℕ). length (all_frames a fs k)) e ∙ grown a fs n
-
 -- so many more are skipped
 pub counted_length : (a : Inherited ℕ ℕ) (fs : List CodeFrame) (m : ℕ) → length (all_frames a fs m) ≡ length (all_frames a fs 0) + m
-counted_length a fs zero = omega arith
-counted_length a fs (suc m) = omega (arith, grown a fs m, counted_length a fs m)
+counted_length a [] m = omega (arith, length_skipped a m)
+counted_length a (x ∷ fs) m =
+    let l = length-append (skipped_frames a x.skipped) (frame_seen x ∷ all_frames (context_seen x.context) fs m) in
+    let k = length-append (skipped_frames a x.skipped) (frame_seen x ∷ all_frames (context_seen x.context) fs 0) in
+    omega (arith, l, k, counted_length (context_seen x.context) fs m)
+
+pub one_longer : (a : Inherited ℕ ℕ) (fs : List CodeFrame) (m n : ℕ) → m ≡ suc n → length (all_frames a fs m) ≡ suc (length (all_frames a fs n))
+one_longer a fs m n e = omega (arith, e, counted_length a fs m, counted_length a fs n)
 
 -- no more are skipped than are open
 pub skipped_fit : (a : Inherited ℕ ℕ) (fs : List CodeFrame) (n : ℕ) → n ≤ length (all_frames a fs n)
-skipped_fit a [] n = omega (arith, length_skipped a n)
-skipped_fit a (x ∷ fs) n =
-    let l = length-append (skipped_frames a x.skipped) (frame_seen x ∷ all_frames (context_seen x.context) fs n) in
-    omega (arith, l, skipped_fit (context_seen x.context) fs n)
+skipped_fit a fs n = omega (arith, counted_length a fs n)
 
 -- inside a skipped element that isn't the root
 pub rooted_above : (a : Inherited ℕ ℕ) (fs : List CodeFrame) (n : ℕ) → IsRooted fs n → 0 < n → 0 < length (all_frames a fs (n - 1))

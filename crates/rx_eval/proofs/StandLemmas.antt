@@ -1,17 +1,9 @@
 -- What the calls keep, and what they come to.
-use Rattle.rx_rdfa.proofs.Common.{length-map, nil_from_length, Chars, Among, Node, Iri, Blank, Term, Resource, Literal, Triple, rename_node, rename_term, rename, blank_of_node, blank_of_term, blanks_of, blanks, Among_cases, Bnode, Owner, model, Facts, Inherited, made, rename_inherited, labels, after-append, frames_at, calls_read, map_then, triple_then}
-use Rattle.std.proofs.Common.{◌≡◌, ◌∙◌, ℕ, suc, ◌+◌, ◌≤◌, ◌^◌, ◌⊎◌, inl, inr, Bool, true, false, List, [], ◌∷◌, ◌++◌, map, length, Option, Some, None, refl, sym, ap, ap₂, subst, subst₂, arith, unwrap_or}
-use Rattle.rx_rdfa.specs.Tree.{Nodes, end, element, text}
-use Rattle.rx_rdfa.specs.Machine.{Machine, enter, read, inherit, begun, finished}
-use Rattle.rx_rdfa.specs.Calls.{Call, Enter, Read, Leave, calls, after, Line, move, line_after, no_line}
+use Rattle.rx_eval.proofs.Common.{length-map, nil_from_length, Chars, Among, Node, Iri, Blank, Term, Resource, Literal, Triple, rename_node, rename_term, rename, blanks_of, blanks, Bnode, Owner, model, Facts, Inherited, made, rename_inherited, labels, after-append, frames_at, calls_read, ◌≡◌, ◌∙◌, ℕ, suc, ◌+◌, ◌≤◌, ◌^◌, Bool, true, false, List, [], ◌∷◌, ◌++◌, map, length, Option, Some, None, refl, sym, ap, ap₂, subst, subst₂, arith, unwrap_or, Nodes, Machine, enter, read, inherit, begun, finished, Call, Enter, Read, Leave, calls, after, Line, move, line_after, no_line, Numbered, State, handed_on, Opens, begun_state, read_text, Numbering, Name, Number, Itself, name_by, named, Numbers, owner_place, Layer, LayersStand, frames_in, open_in, Runs, Phase, EvaluatorStands, StandsOn, page_context, no_numbers, number_in, Makes, HandsOn, Among_of_map, Among_map, map-append}
+use Rattle.rx_model.proofs.Renamings.{all_twice, triple_blanks}
+use Rattle.rx_rdfa.specs.Tree.{end, element, text}
 use Rattle.rx_rdfa.specs.Lists.{cells}
 use Rattle.rx_rdfa.proofs.Machine.{reading_makes}
-use Rattle.rx_eval.specs.Labels.{Numbered}
-use Rattle.rx_eval.specs.States.{State}
-use Rattle.rx_eval.specs.Opened.{handed_on, Opens, begun_state, read_text}
-use Rattle.rx_eval.specs.Numbering.{Numbering, Name, Number, Itself, name_by, named, Numbers}
-use Rattle.rx_eval.specs.Slots.{owner_place}
-use Rattle.rx_eval.specs.Standing.{Layer, LayersStand, frames_in, open_in, Runs, Phase, EvaluatorStands, StandsOn, page_context, no_numbers, number_in, Makes, HandsOn}
 use Rattle.rx_eval.proofs.LayerLemmas.{frames_length, handed_now}
 use Rattle.rx_eval.proofs.LeavesLemmas.{text_read}
 use Rattle.rx_eval.proofs.BeginLemmas.{entered_runs}
@@ -138,50 +130,27 @@ back : (xs : List (Triple ℕ)) → map (rename number_only) (map (rename Number
 back [] = refl
 back (t ∷ xs) = λ i. record { subject = node_back t.subject i; predicate = t.predicate; object = term_back t.object i } ∷ back xs i
 
+renamed_blanks : {A B : Type 0} (f : A → B) (xs : List (Triple A)) → blanks (map (rename f) xs) ≡ map f (blanks xs)
+renamed_blanks f [] = refl
+renamed_blanks f (t ∷ xs) = ap₂ ◌++◌ (triple_blanks f t) (renamed_blanks f xs) ∙ sym (map-append f (blanks_of t) (blanks xs))
+
 module _ (to : Numbering) where
   number_is : (b : Bnode) (o : Option ℕ) → number_only (name_by b o) ≡ unwrap_or o 0
   number_is b None = refl
   number_is b (Some n) = refl
 
-  numbers_are : (λ b. number_only (named to b)) ≡ number_in to
-  numbers_are = λ i b. number_is b (to b) i
-
-  numbered_by : (ys : List (Triple Bnode)) → map (rename number_only) (map (rename (named to)) ys) ≡ map (rename (λ b. number_only (named to b))) ys
-  numbered_by ys = sym (map_then (rename (λ b. number_only (named to b))) (rename number_only) (rename (named to)) (triple_then number_only (named to)) ys)
-
   list_numbered : (xs : List (Triple ℕ)) (ys : List (Triple Bnode)) → map (rename Number) xs ≡ map (rename (named to)) ys → xs ≡ map (rename (number_in to)) ys
-  list_numbered xs ys e = sym (back xs) ∙ ap (map (rename number_only)) e ∙ numbered_by ys ∙ ap (λ (f : Bnode → ℕ). map (rename f) ys) numbers_are
+  list_numbered xs ys e = sym (back xs) ∙ ap (map (rename number_only)) e ∙ all_twice (named to) number_only (number_in to) ys (λ b a. number_is b (to b))
 
   has_number : (b : Bnode) (o : Option ℕ) (n : ℕ) → Number n ≡ name_by b o → o ≡ Some (unwrap_or o 0)
   has_number b None n e = absurd (cc)
   has_number b (Some m) n e = refl
 
-  node_numbered : (x : Node ℕ) (y : Node Bnode) → rename_node Number x ≡ rename_node (named to) y → (b : Bnode) → Among (blank_of_node y) b → to b ≡ Some (number_in to b)
-  node_numbered x (Iri iri) e b a = absurd a
-  node_numbered (Iri iri) (Blank c) e b a = absurd (cc)
-  node_numbered (Blank n) (Blank c) e b (inl q) = subst (λ (z : Bnode). to z ≡ Some (number_in to z)) q (has_number c (to c) n (cc))
-  node_numbered (Blank n) (Blank c) e b (inr q) = absurd q
-
-  term_numbered : (x : Term ℕ) (y : Term Bnode) → rename_term Number x ≡ rename_term (named to) y → (b : Bnode) → Among (blank_of_term y) b → to b ≡ Some (number_in to b)
-  term_numbered x (Literal lexical kind) e b a = absurd a
-  term_numbered (Literal lexical kind) (Resource y) e b a = absurd (cc)
-  term_numbered (Resource x) (Resource y) e b a = let q : rename_node Number x ≡ rename_node (named to) y = cc in node_numbered x y q b a
-
   all_numbered : (xs : List (Triple ℕ)) (ys : List (Triple Bnode)) → map (rename Number) xs ≡ map (rename (named to)) ys → (b : Bnode) → Among (blanks ys) b → to b ≡ Some (number_in to b)
-  all_numbered xs [] e b a = absurd a
-  all_numbered [] (u ∷ ys) e b a = absurd (cc)
-  all_numbered (t ∷ xs) (u ∷ ys) e b a =
-      let first : rename Number t ≡ rename (named to) u = cc in
-      let rest : map (rename Number) xs ≡ map (rename (named to)) ys = cc in
-      go first (λ c. all_numbered xs ys rest b c) (Among_cases (blanks_of u) (blanks ys) b a)
-    where
-      here : rename Number t ≡ rename (named to) u → Among (blank_of_node u.subject) b ⊎ Among (blank_of_term u.object) b → to b ≡ Some (number_in to b)
-      here e (inl c) = node_numbered t.subject u.subject (ap (λ (x : Triple (Name Bnode)). x.subject) e) b c
-      here e (inr c) = term_numbered t.object u.object (ap (λ (x : Triple (Name Bnode)). x.object) e) b c
-
-      go : rename Number t ≡ rename (named to) u → (Among (blanks ys) b → to b ≡ Some (number_in to b)) → Among (blanks_of u) b ⊎ Among (blanks ys) b → to b ≡ Some (number_in to b)
-      go e more (inl c) = here e (Among_cases (blank_of_node u.subject) (blank_of_term u.object) b c)
-      go e more (inr c) = more c
+  all_numbered xs ys e b a =
+      let names : map (named to) (blanks ys) ≡ map Number (blanks xs) = sym (renamed_blanks (named to) ys) ∙ ap blanks (sym e) ∙ renamed_blanks Number xs in
+      let r = Among_of_map Number (blanks xs) (named to b) (subst (λ (l : List (Name Bnode)). Among l (named to b)) names (Among_map (named to) (blanks ys) b a)) in
+      has_number b (to b) r.0 r.2
 
   makes : (base : Chars) (tree : Nodes Facts) (xs : List (Triple ℕ)) (labels : Numbered) (drawn cells : ℕ) → Numbers to labels drawn cells → map (rename Number) xs ≡ map (rename (named to)) (made model base tree) → Makes to base tree xs
   makes base tree xs labels drawn cells n e =

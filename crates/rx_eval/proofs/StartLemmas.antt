@@ -1,10 +1,9 @@
 -- The triples of an element's start: what its parts come to is what the rules say.
-use Rattle.rx_eval.proofs.Common.{◌≡◌, ◌∙◌, ℕ, List, [], ◌∷◌, ◌++◌, map, filter_map, Option, Some, None, option_map, option_to_list, refl, sym, ap, ap₂, append_assoc, is_some, if◌then◌else◌, Chars, by_test, Node, Iri, Term, Triple, Naming, Standing, Resources, resources, only, rule, value_now, waiting_seen, completed_by}
+use Rattle.rx_eval.proofs.Common.{◌≡◌, ◌∙◌, ℕ, List, [], ◌∷◌, ◌++◌, map, filter_map, Option, Some, None, option_map, option_to_list, refl, sym, ap, ap₂, append_assoc, is_some, if◌then◌else◌, Chars, by_test, Node, Iri, Term, Triple, Naming, Standing, Resources, resources, only, rule, value_now, waiting_seen, completed_by, to_node, of_vocabulary, types_by, links_by, properties_by, completed, vocabulary_by, typed_by, linked_by, values_of, found_by, start_by}
 use Rattle.rx_rdfa.specs.Iris.{uses_vocabulary}
-use Rattle.rx_rdfa.specs.Element.{to_node, of_vocabulary, types_by, links_by, properties_by, completed, start_of}
+use Rattle.rx_rdfa.specs.Element.{start_of}
 use Rattle.rx_eval.specs.declared.contexts.IncompleteTriple.{IncompleteTriple}
 use Rattle.rx_eval.specs.declared.contexts.IncompleteTriple.TheVariants as code
-use Rattle.rx_eval.specs.Starts.{vocabulary_by, typed_by, linked_by, values_of, found_by, start_by}
 
 module _ (N : Naming ℕ ℕ) (base : Chars) (S : Standing ℕ ℕ) where
   voc : (v : Option Chars) → vocabulary_by base v ≡ option_to_list (option_map (λ vocab. to_node (Iri base) uses_vocabulary (Iri vocab)) v)

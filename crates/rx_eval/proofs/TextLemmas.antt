@@ -1,6 +1,5 @@
 -- The text of an element as its value.
-use Rattle.rx_eval.proofs.Common.{◌≡◌, ◌∙◌, ℕ, Option, Some, None, refl, ap, Result, IfOk, IfOk-weaker, Chars, Node, Term, term_seen, Facts, ElementKind, Datatype, Empty, Is, Time, resource_attribute, has_link, only, Rule, rule_or, ByDatatype, ByContent, ByDatetime, ByTimeText, ByResource, ByTyped, ByText, is_time, value_now, value_of_text, value, plain_literal, IsTextRule, text_rule, rule_by, text_literal}
-use Rattle.std.specs.Prelude.{unwrap_or, if◌then◌else◌, not, ◌&&◌, is_some, is_none}
+use Rattle.rx_eval.proofs.Common.{◌≡◌, ◌∙◌, ℕ, Option, Some, None, refl, ap, Result, IfOk, IfOk-weaker, Chars, Node, Term, term_seen, Facts, ElementKind, Datatype, Empty, Is, Time, resource_attribute, has_link, only, Rule, rule_or, ByDatatype, ByContent, ByDatetime, ByTimeText, ByResource, ByTyped, ByText, is_time, value_now, value_of_text, value, plain_literal, IsTextRule, text_rule, rule_by, text_literal, unwrap_or, if◌then◌else◌, not, ◌&&◌, is_some, is_none}
 use Rattle.rx_terms.specs.declared.triples.Term.{Term as CodeTerm}
 use Rattle.rx_eval.specs.declared.values.TextRule.{TextRule}
 

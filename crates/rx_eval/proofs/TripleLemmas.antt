@@ -1,9 +1,7 @@
 -- Triples that are added one after another.
-use Rattle.rx_eval.proofs.Common.{◌≡◌, ◌∙◌, ℕ, zero, suc, ◌+◌, ◌≤◌, arith, List, [], ◌∷◌, ◌++◌, map, length, drop, Some, slice_get, refl, sym, ap, append_assoc, append-nil, add-one, Result, on_ok_weaker, Chars, OnOk, Node, Term, Triple, spo, to_node, Ref, IriRef, resource_named, ref_seen, refs_seen, Numbered, moment, resource_term, ToCome}
-use Rattle.rx_model.specs.Vocabulary.{rdf_type}
+use Rattle.rx_eval.proofs.Common.{◌≡◌, ◌∙◌, ℕ, zero, suc, ◌+◌, ◌≤◌, arith, List, [], ◌∷◌, ◌++◌, map, length, drop, Some, slice_get, refl, sym, ap, append_assoc, append-nil, add-one, Result, on_ok_weaker, Chars, OnOk, Node, Term, Triple, spo, to_node, Ref, IriRef, resource_named, ref_seen, refs_seen, Numbered, moment, resource_term, ToCome, rdf_type, types_of}
 use Rattle.rx_curie.specs.declared.refs.Ref.{Ref as CodeRef}
 use Rattle.rx_eval.specs.Places.{named}
-use Rattle.rx_eval.specs.Starts.{types_of}
 use Rattle.rx_eval.proofs.DrawLemmas.{drop_at, nothing_left}
 
 pub one_came : (out more whole left rest : List (Triple ℕ)) (t : Triple ℕ) → left ≡ t ∷ rest → more ≡ out ++ t ∷ [] → ToCome out left whole → ToCome more rest whole

@@ -1,18 +1,8 @@
 -- The number of a new node, and the owners that an element begins.
-use Rattle.rx_rdfa.proofs.Common.{untrue, by_test, IfSome, if◌then◌else◌, option_or, Decides-eqb, Chars, then_some, Node, Blank, Term, same_node, or_cases, and_left, and_right, Path, Naming, Owner, same_owner, Facts, of_owner, entries_by}
-use Rattle.std.proofs.Common.{◌≡◌, ◌∙◌, ℕ, suc, ◌+◌, ◌≤◌, ◌⊎◌, inl, inr, Bool, true, false, List, [], ◌∷◌, ◌++◌, length, Option, Some, None, is_none, nat_eq, refl, sym, ap, subst, arith, append-nil, length-append, not, ◌&&◌, ◌||◌, ◌==◌, unwrap_or}
-use Rattle.std.proofs.Math.Bool.{or-true}
-use Rattle.rx_rdfa.specs.Resources.{Inherited, Standing, Resources, new_blank, resources}
-use Rattle.rx_rdfa.specs.Inherited.{hangs, object_below, handed, below}
+use Rattle.rx_eval.proofs.Common.{untrue, by_test, IfSome, if◌then◌else◌, option_or, Decides-eqb, Chars, then_some, Node, Blank, Term, same_node, or_cases, and_left, and_right, Path, Naming, Owner, same_owner, Facts, of_owner, entries_by, ◌≡◌, ◌∙◌, ℕ, suc, ◌+◌, ◌≤◌, ◌⊎◌, inl, inr, Bool, true, false, List, [], ◌∷◌, ◌++◌, length, Option, Some, None, is_none, nat_eq, refl, sym, ap, subst, arith, append-nil, length-append, not, ◌&&◌, ◌||◌, ◌==◌, unwrap_or, or-true, Inherited, Standing, Resources, new_blank, hangs, object_below, handed, Numbered, moment, level_at, path_at, standing_by, Owning, owning, put_entries, drawn_after, next_number, owner_begun, owner_for, begun_for, owners_begun, Slots, Open, Waiter, FillUp, Within, begun_by}
+use Rattle.rx_rdfa.specs.Resources.{resources}
+use Rattle.rx_rdfa.specs.Inherited.{below}
 use Rattle.rx_eval.specs.Blanks.{is_blank}
-use Rattle.rx_eval.specs.Labels.{Numbered}
-use Rattle.rx_eval.specs.Moment.{moment}
-use Rattle.rx_eval.specs.Places.{level_at, path_at, standing_by}
-use Rattle.rx_eval.specs.OwnersSeen.{Owning, owning, put_entries}
-use Rattle.rx_eval.specs.Opening.{drawn_after}
-use Rattle.rx_eval.specs.Entering.{next_number, owner_begun, owner_for, begun_for, owners_begun}
-use Rattle.rx_eval.specs.Slots.{Slots, Open, Waiter, FillUp, Within}
-use Rattle.rx_eval.specs.Standing.{begun_by}
 use Rattle.rx_eval.proofs.OtherLemmas.{level_is, MadeIn, made_in, makes_resource, makes_new}
 use Rattle.rx_eval.proofs.FillLemmas.{begin_fill_up}
 
@@ -116,17 +106,16 @@ own_number_is _ _ n own e = subst (λ (o : Option ℕ). IfSome o (λ k. k ≡ n)
 
 pub under_number_is : (s t : Bool) (n : ℕ) (open_owners : Open) (o : Owner) (x subject : Node ℕ) (own under : Option ℕ) (object : Option (Node ℕ)) → n ≡ length open_owners
     → own ≡ (if s then None else (if t then None else Some n)) → under ≡ (if s then None else owner_for object subject (if t then n else suc n)) → IfSome under (λ k. k ≡ length (open_owners ++ begun_by own o x))
-under_number_is true t n open_owners o x subject own under object q e u = subst (λ (p : Option ℕ). IfSome p (λ k. k ≡ length (open_owners ++ begun_by own o x))) (sym u) tt
-under_number_is false t n open_owners o x subject own under None q e u = subst (λ (p : Option ℕ). IfSome p (λ k. k ≡ length (open_owners ++ begun_by own o x))) (sym u) tt
-under_number_is false t n open_owners o x subject own under (Some y) q e u = subst (λ (p : Option ℕ). IfSome p (λ k. k ≡ length (open_owners ++ begun_by own o x))) (sym u) (go (same_node nat_eq y subject))
+under_number_is s t n open_owners o x subject own under object q e u = subst (λ (p : Option ℕ). IfSome p (λ k. k ≡ length (open_owners ++ begun_by own o x))) (sym u) (go s object e)
   where
     count : (t : Bool) → own ≡ (if t then None else Some n) → (if t then n else suc n) ≡ length (open_owners ++ begun_by own o x)
     count true e = q ∙ ap length (sym (append-nil open_owners)) ∙ ap (λ (p : Option ℕ). length (open_owners ++ begun_by p o x)) (sym e)
     count false e = let a = length-append open_owners ((o, x) ∷ []) in let b : suc n ≡ length (open_owners ++ (o, x) ∷ []) = omega (arith, a, q) in b ∙ ap (λ (p : Option ℕ). length (open_owners ++ begun_by p o x)) (sym e)
 
-    go : (b : Bool) → IfSome (if b then None else Some (if t then n else suc n)) (λ k. k ≡ length (open_owners ++ begun_by own o x))
-    go true = tt
-    go false = count t e
+    go : (s : Bool) (object : Option (Node ℕ)) → own ≡ (if s then None else (if t then None else Some n)) → IfSome (if s then None else owner_for object subject (if t then n else suc n)) (λ k. k ≡ length (open_owners ++ begun_by own o x))
+    go false (Some y) e = by_test (same_node nat_eq y subject) (λ b. rw b tt) (λ b. rw b (count t e))
+    go false None e = tt
+    go true object e = tt
 
 -- what the number of a new node comes to
 module _ (facts : Facts) (base : Chars) (depth : ℕ) (path : Path) (list : Numbered) (fresh n : ℕ) (seen : Inherited ℕ ℕ) where

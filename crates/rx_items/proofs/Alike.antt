@@ -90,29 +90,27 @@ module _ (place past : Placed → ℕ) (scope : Placed → Option ℕ) where
     abbrev each_name : Placed → List Placed
     each_name e = map (λ (name : Chars). e) (names_of e)
 
-    inner_alike : (ps : List Placed) → items_in (map moved ps) ≡ map moved (items_in ps)
-    inner_alike [] = refl
-    inner_alike (x ∷ ps) = by (is_item x) (inner_alike ps)
-      where
-        by : (b : Bool) → items_in (map moved ps) ≡ map moved (items_in ps)
-            → flat_map each_name (cond b (moved x ∷ filter is_item (map moved ps)) (filter is_item (map moved ps)))
-            ≡ map moved (flat_map each_name (cond b (x ∷ filter is_item ps) (filter is_item ps)))
-        by true h =
-            let head = sym (map_compose (λ (name : Chars). x) moved (names_of x)) in
-            (λ i. head i ++ h i) ∙ sym (map-append moved (each_name x) (items_in ps))
-        by false h = h
-
     const_good : (x : Placed) (names : List Chars) → Item Good x → Each (Item Good) (map (λ (name : Chars). x) names)
     const_good x [] g = tt
     const_good x (n ∷ names) g = (g, const_good x names g)
 
-    inner_good : (ps : List Placed) → Each Good ps → Each (Item Good) (items_in ps)
-    inner_good [] g = tt
-    inner_good (x ∷ ps) g = by (is_item x) refl (inner_good ps g.1)
+    inner_alike : (ps : List Placed) → Each Good ps → (items_in (map moved ps) ≡ map moved (items_in ps)) × Each (Item Good) (items_in ps)
+    inner_alike [] g = (refl, tt)
+    inner_alike (x ∷ ps) g = by (is_item x) refl (inner_alike ps g.1)
       where
-        by : (b : Bool) → is_item x ≡ b → Each (Item Good) (items_in ps) → Each (Item Good) (flat_map each_name (cond b (x ∷ filter is_item ps) (filter is_item ps)))
-        by true e h = each_append (Item Good) (each_name x) (items_in ps) (const_good x (names_of x) (g.0, e)) h
+        by : (b : Bool) → is_item x ≡ b → (items_in (map moved ps) ≡ map moved (items_in ps)) × Each (Item Good) (items_in ps)
+            → (flat_map each_name (cond b (moved x ∷ filter is_item (map moved ps)) (filter is_item (map moved ps))) ≡ map moved (flat_map each_name (cond b (x ∷ filter is_item ps) (filter is_item ps))))
+            × Each (Item Good) (flat_map each_name (cond b (x ∷ filter is_item ps) (filter is_item ps)))
+        by true e h =
+            let head = sym (map_compose (λ (name : Chars). x) moved (names_of x)) in (
+              (λ i. head i ++ h.0 i) ∙ sym (map-append moved (each_name x) (items_in ps)),
+              each_append (Item Good) (each_name x) (items_in ps) (const_good x (names_of x) (g.0, e)) h.1,
+            )
         by false e h = h
+
+    -- these visits are those, of elements that are good
+    abbrev AreMoved : List Visit → List Visit → Type 0
+    AreMoved those these = (those ≡ map (map moved) these) × Each (Each Good) these
 
     abbrev onward : (Placed → List Placed) → ℕ → Visit → Placed → Bool → List Visit
     onward properties left above root b = elim b as (λ cycle. List Visit) [
@@ -121,45 +119,35 @@ module _ (place past : Placed → ℕ) (scope : Placed → Option ℕ) where
     ]
 
     flat_alike : (left : ℕ) (path : Visit) (xs : List Placed) → Each (Item Good) xs
-        → ((e : Placed) → Item Good e → visits_from to left (map moved path) (moved e) ≡ map (map moved) (visits_from from left path e))
-        → flat_map (visits_from to left (map moved path)) (map moved xs) ≡ map (map moved) (flat_map (visits_from from left path) xs)
-    flat_alike left path [] g same = refl
+        → ((e : Placed) → Item Good e → AreMoved (visits_from to left (map moved path) (moved e)) (visits_from from left path e))
+        → AreMoved (flat_map (visits_from to left (map moved path)) (map moved xs)) (flat_map (visits_from from left path) xs)
+    flat_alike left path [] g same = (refl, tt)
     flat_alike left path (x ∷ xs) g same =
         let head = same x g.0 in
-        let rest = flat_alike left path xs g.1 same in
-        (λ i. head i ++ rest i) ∙ sym (map-append (map moved) (visits_from from left path x) (flat_map (visits_from from left path) xs))
+        let rest = flat_alike left path xs g.1 same in (
+          (λ i. head.0 i ++ rest.0 i) ∙ sym (map-append (map moved) (visits_from from left path x) (flat_map (visits_from from left path) xs)),
+          each_append (Each Good) (visits_from from left path x) (flat_map (visits_from from left path) xs) head.1 rest.1,
+        )
 
     onward_alike : (left : ℕ) (above : Visit) (root : Placed) → Item Good root → (b : Bool)
-        → ((e : Placed) → Item Good e → visits_from to left (map moved (root ∷ above)) (moved e) ≡ map (map moved) (visits_from from left (root ∷ above) e))
-        → onward to left (map moved above) (moved root) b ≡ map (map moved) (onward from left above root b)
-    onward_alike left above root g true same = refl
+        → ((e : Placed) → Item Good e → AreMoved (visits_from to left (map moved (root ∷ above)) (moved e)) (visits_from from left (root ∷ above) e))
+        → AreMoved (onward to left (map moved above) (moved root) b) (onward from left above root b)
+    onward_alike left above root g true same = (refl, tt)
     onward_alike left above root g false same =
-        ap (λ ps. flat_map (visits_from to left (map moved (root ∷ above))) (items_in ps)) (m.same root g)
-        ∙ ap (λ xs. flat_map (visits_from to left (map moved (root ∷ above))) xs) (inner_alike (from root))
-        ∙ flat_alike left (root ∷ above) (items_in (from root)) (inner_good (from root) (m.stays root g)) same
+        let inner = inner_alike (from root) (m.stays root g) in
+        let rest = flat_alike left (root ∷ above) (items_in (from root)) inner.1 same in (
+          ap (λ ps. flat_map (visits_from to left (map moved (root ∷ above))) (items_in ps)) (m.same root g)
+              ∙ ap (λ xs. flat_map (visits_from to left (map moved (root ∷ above))) xs) inner.0 ∙ rest.0,
+          rest.1,
+        )
 
-    visits_alike : (left : ℕ) (above : Visit) (root : Placed) → Each Good above → Item Good root
-        → visits_from to left (map moved above) (moved root) ≡ map (map moved) (visits_from from left above root)
-    visits_alike zero above root h g = refl
+    visits_alike : (left : ℕ) (above : Visit) (root : Placed) → Each Good above → Item Good root → AreMoved (visits_from to left (map moved above) (moved root)) (visits_from from left above root)
+    visits_alike zero above root h g = (refl, tt)
     visits_alike (suc left) above root h g =
-        ap (λ (vs : List Visit). map moved (root ∷ above) ∷ vs)
-        (ap (onward to left (map moved above) (moved root)) (cycle_alike (root ∷ above) (g.0, h))
-        ∙ onward_alike left above root g (is_cycle (root ∷ above)) (λ e k. visits_alike left (root ∷ above) e (g.0, h) k))
-
-    flat_good : (left : ℕ) (path : Visit) (xs : List Placed) → Each (Item Good) xs
-        → ((e : Placed) → Item Good e → Each (Each Good) (visits_from from left path e)) → Each (Each Good) (flat_map (visits_from from left path) xs)
-    flat_good left path [] g same = tt
-    flat_good left path (x ∷ xs) g same = each_append (Each Good) (visits_from from left path x) (flat_map (visits_from from left path) xs) (same x g.0) (flat_good left path xs g.1 same)
-
-    onward_good : (left : ℕ) (above : Visit) (root : Placed) → Item Good root → (b : Bool)
-        → ((e : Placed) → Item Good e → Each (Each Good) (visits_from from left (root ∷ above) e)) → Each (Each Good) (onward from left above root b)
-    onward_good left above root g true same = tt
-    onward_good left above root g false same = flat_good left (root ∷ above) (items_in (from root)) (inner_good (from root) (m.stays root g)) same
-
-    visits_good : (left : ℕ) (above : Visit) (root : Placed) → Each Good above → Item Good root → Each (Each Good) (visits_from from left above root)
-    visits_good zero above root h g = tt
-    visits_good (suc left) above root h g =
-        ((g.0, h), onward_good left above root g (is_cycle (root ∷ above)) (λ e k. visits_good left (root ∷ above) e (g.0, h) k))
+        let rest = onward_alike left above root g (is_cycle (root ∷ above)) (λ e k. visits_alike left (root ∷ above) e (g.0, h) k) in (
+          ap (λ (vs : List Visit). map moved (root ∷ above) ∷ vs) (ap (onward to left (map moved above) (moved root)) (cycle_alike (root ∷ above) (g.0, h)) ∙ rest.0),
+          ((g.0, h), rest.1),
+        )
 
     abbrev moved_fault : Kind × Visit → Kind × Visit
     moved_fault found = (found.0, map moved found.1)
@@ -199,7 +187,6 @@ module _ (place past : Placed → ℕ) (scope : Placed → Option ℕ) where
         → outcome_by to bounds base (map moved items) ≡ outcome_by from bounds base items
     outcome_alike bounds base items g =
         let visits = flat_alike (suc bounds.nested) [] items g (λ e k. visits_alike (suc bounds.nested) [] e tt k) in
-        let good = flat_good (suc bounds.nested) [] items g (λ e k. visits_good (suc bounds.nested) [] e tt k) in
-        let found = ap (first_fault bounds 0) visits ∙ first_alike bounds 0 (visits_by from bounds items) good in
+        let found = ap (first_fault bounds 0) visits.0 ∙ first_alike bounds 0 (visits_by from bounds items) visits.1 in
         let json = json_alike base bounds.nested items g in
         (λ i. picked (found i) (json i)) ∙ picked_alike (first_fault bounds 0 (visits_by from bounds items)) (json_by from base bounds.nested items)

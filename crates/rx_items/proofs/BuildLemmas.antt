@@ -1,5 +1,5 @@
 -- What stands beside a table's rows, one after another.
-use Rattle.rx_items.proofs.Common.{◌≡◌, ◌∙◌, ◌+◌, ◌≤◌, ℕ, zero, suc, true, false, List, [], ◌∷◌, ◌++◌, length, Contains, ◌↔◌, Option, Some, None, option_map, refl, sym, ap, subst, arith, unwrap_or, filter_map, slice_get, Chars, tokens, not_both_ways, ◌⊎◌, inl, inr, length-append, Tree, Placed, is_item, distinct_tokens, rows_of, ShowsRow, ShowsWord, names_in, types_in, look_in, RunOf, Sorted}
+use Rattle.rx_items.proofs.Common.{◌≡◌, ◌∙◌, ◌+◌, ◌≤◌, ℕ, zero, suc, true, List, [], ◌∷◌, ◌++◌, length, Contains, ◌↔◌, Option, Some, None, option_map, refl, sym, ap, subst, arith, unwrap_or, filter_map, slice_get, Chars, tokens, ◌⊎◌, inl, inr, length-append, Tree, Placed, is_item, distinct_tokens, rows_of, ShowsRow, ShowsWord, names_in, types_in, look_in, RunOf, Sorted}
 use Rattle.rx_items.specs.declared.rows.Row.{Row}
 use Rattle.rx_items.specs.declared.spans.Span.{Span}
 use Rattle.rx_items.specs.Held.{AllFit, AreTokens, Fits, Reaches, names_beside, runs_beside, types_beside}
@@ -9,9 +9,7 @@ use Rattle.rx_items.specs.declared.kept.Run.{Run}
 use Rattle.rx_items.proofs.NestLemmas.{numbered}
 use Rattle.rx_items.proofs.PropertyLemmas.{properties_are}
 use Rattle.rx_items.proofs.ReachLemmas.{reach_alone}
-
-pub same_there : {X : Type 0} (xs : List X) (i : ℕ) (a b : X) → slice_get xs i ≡ Some a → slice_get xs i ≡ Some b → a ≡ b
-same_there xs i a b e f = let found : Some a ≡ Some b = sym e ∙ f in cc (found)
+use Rattle.rx_items.proofs.TakeLemmas.{same_there}
 
 at_end : (xs : List BesideRow) (x d : BesideRow) (i : ℕ) → slice_get (xs ++ x ∷ []) i ≡ Some d → slice_get xs i ≡ Some d ⊎ ((i ≡ length xs) × (x ≡ d))
 at_end [] x d zero g = inr (refl, cc (g))
@@ -58,22 +56,6 @@ fits_by words text times ps members rows place row p x row_is there s names type
       reach = reach;
     }))
 
-pub fits_plain : (words text : Chars) (times : List Chars) (ps : List Placed) (members : List ℕ) (rows : List Row) (place : ℕ) (row : Row) (p : Placed) (x : BesideRow)
-    → slice_get rows place ≡ Some row → slice_get ps place ≡ Some p → (s : ShowsRow words text times row p)
-    → AreTokens words (names_in row.head.words) (names_beside x) (distinct_tokens (unwrap_or s.itemprop []))
-    → AreTokens words (types_in row.head.words) (types_beside x) (distinct_tokens (unwrap_or s.itemtype []))
-    → row.head.is_item ≡ false → Builds words ps members rows place x
-fits_plain words text times ps members rows place row p x row_is there s names types plain =
-    fits_by words text times ps members rows place row p x row_is there s names types (λ item. absurd (not_both_ways row.head.is_item (s.is_item ∙ item) plain))
-
-pub fits_there : (words text : Chars) (times : List Chars) (ps : List Placed) (members : List ℕ) (rows : List Row) (place : ℕ) (row : Row) (p : Placed) (x : BesideRow)
-    → slice_get rows place ≡ Some row → slice_get ps place ≡ Some p → (s : ShowsRow words text times row p)
-    → AreTokens words (names_in row.head.words) (names_beside x) (distinct_tokens (unwrap_or s.itemprop []))
-    → AreTokens words (types_in row.head.words) (types_beside x) (distinct_tokens (unwrap_or s.itemtype []))
-    → Reaches ps members place (runs_beside x) p → Builds words ps members rows place x
-fits_there words text times ps members rows place row p x row_is there s names types reach =
-    fits_by words text times ps members rows place row p x row_is there s names types (λ item. reach)
-
 -- where no references are kept, there are none
 pub refers_not : (words : Chars) (span : Option Span) (word : Option Chars) → span ≡ None → ShowsWord words span word → tokens (unwrap_or word []) ≡ []
 refers_not words None None e s = refl
@@ -90,5 +72,5 @@ pub reaches_alone : (words text : Chars) (times : List Chars) (rows : List Row) 
     → (place : ℕ) (run : Run) (p : Placed) → slice_get (rows_of tree) place ≡ Some p → p.facts.references ≡ [] → RunOf rows members (Some place) 0 (length rows) run
     → Reaches (rows_of tree) members place (run ∷ []) p
 reaches_alone words text times rows tree members sorted place run p there none r =
-    properties_are (rows_of tree) (numbered tree None 0) p place members (run ∷ []) [] there (no_starts (rows_of tree) p.facts.references none)
+    properties_are (rows_of tree) (numbered tree) p place members (run ∷ []) [] there (no_starts (rows_of tree) p.facts.references none)
     (reach_alone words text times rows tree members sorted place [] run [] refl refl r)

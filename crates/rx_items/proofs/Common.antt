@@ -30,8 +30,8 @@ pub use Rattle.rx_pages.proofs.Common.{Fault, FaultAt, Faulty, Item, Kind, Limit
 pub use Rattle.rx_rdfa.proofs.Common.{All-contains, Context, Cycle, ItemsTooMany, ItemsTooNested, Triple, Vec, eqb-true, facts, not, read_tag, set-append_seam, set_of, tags_of, value_of, written, written_denotes, ◌&&◌, ◌==◌}
 pub use Rattle.rx_reader.proofs.Common.{Attribute, decided, known_too_long, not_utf8, nul, page_too_long, tag_too_long, unended}
 pub use Rattle.rx_refs.specs.Resolve.{resolved}
-pub use Rattle.rx_terms.proofs.Common.{AllByRecursion, Bool, Chars, Contains, Contains-append_cases, Contains-append_left, Contains-append_right, Equal, Err, Greater, IfOk, IsCharBoundary-at_seam, IsNonDecreasingBy, IsSortedBy, IsTrimAsciiStart, IsUtf8, Less, List, None, Ok, OnOk, Option, Ordering, Result, Some, [], add-one, and_right, ap, append_assoc, append_cancel_left, arith, cases_lt, chars, chars-encodes, chars-nil, cond, cons_option, drop, drop-cons, encode_utf8_all, encodes-append, encodes-chars, eq-eqb, false, false_from_ne_true, filter, filter-append, flat_map-append, get_or, get_or-append_seam, get_or_from_slice_get, if◌then◌else◌, inl, inr, is_ascii, is_ascii_whitespace, leb-true, length, length-map, list_all, list_any, lt-ltb, ltb-true, map, map-append, max, nat_cmp, nat_lt, nat_tests, none-some, not_both_ways, on_ok_weaker, option_or, or_parts, position_or_len, refl, rules, same-ascii, same-chars, scalars-chars, slice_cmp, slice_get-get_or, slice_get_within, slice_index_or, subst, suc, sym, take, take-append-drop, take-append_seam, take_all, tokens, true, true≢false, unwrap_or, zero, ℕ, ⊤, ◌*◌, ◌++◌, ◌+◌, ◌-◌, ◌<◌, ◌||◌, ◌↔◌, ◌∙◌, ◌∷◌, ◌≡◌, ◌≤◌}
-pub use Rattle.serde_json.specs.Data.{Data, Items, Members, array, boolean, depth, item, items_depth, member, members_depth, no_items, no_members, null, number, object, string}
+pub use Rattle.rx_terms.proofs.Common.{AllByRecursion, Bool, Chars, Contains, Contains-append_cases, Contains-append_left, Contains-append_right, Equal, Err, Greater, IfOk, IsCharBoundary-at_seam, IsNonDecreasingBy, IsSortedBy, IsTrimAsciiStart, IsUtf8, Less, List, None, Ok, OnOk, Option, Ordering, Result, Some, [], add-one, and_right, ap, append_assoc, append_cancel_left, arith, cases_lt, chars, chars-encodes, chars-nil, cond, cons_option, drop, drop-cons, encode_utf8_all, encodes-append, encodes-chars, eq-eqb, false, filter, filter-append, flat_map-append, get_or, get_or-append_seam, get_or_from_slice_get, if◌then◌else◌, inl, inr, is_ascii, is_ascii_whitespace, leb-true, length, length-map, list_all, list_any, lt-ltb, ltb-true, map, map-append, max, nat_cmp, nat_lt, nat_tests, none-some, not_both_ways, on_ok_weaker, option_or, or_parts, position_or_len, refl, rules, same-ascii, same-chars, scalars-chars, slice_cmp, slice_get-get_or, slice_get_within, slice_index_or, subst, suc, sym, take, take-append-drop, take-append_seam, take_all, tokens, true, true≢false, unwrap_or, zero, ℕ, ⊤, ◌*◌, ◌++◌, ◌+◌, ◌-◌, ◌<◌, ◌||◌, ◌↔◌, ◌∙◌, ◌∷◌, ◌≡◌, ◌≤◌}
+pub use Rattle.serde_json.specs.Data.{Data, Items, Members, array, depth, item, items_depth, member, members_depth, no_items, no_members, null, number, object}
 pub use Rattle.std.proofs.Common.{is_some, nat_le}
 pub use Rattle.std.proofs.lemmas.Bool.{le-ltb, ltb-false}
 pub use Rattle.std.proofs.lemmas.List.{append-nil}

@@ -1,5 +1,6 @@
 -- Runs in order of their begins, of each what is behind those before it: the same members, each in one run.
 use Rattle.rx_items.proofs.Common.{◌≡◌, ◌<◌, ◌≤◌, ℕ, Bool, true, false, cond, List, [], ◌∷◌, ◌++◌, length, get_or, max, nat_le, Contains, ◌↔◌, Some, refl, sym, subst, arith, slice_get, ◌⊎◌, inl, inr, IsNonDecreasingBy, IsPermutation, Contains-permutation, IsPermutation-sym, IsNonDecreasingBy-drop, Contains-append_left, Contains-append_right, Contains-append_cases, cases_lt, leb-true, leb-false, first, later, first_or_later, none, in_runs, part}
+use Rattle.rx_model.proofs.Common.{⊎_elim}
 use Rattle.rx_items.specs.Disjoint.{Apart, rest_of, end_of, unshared}
 use Rattle.rx_items.specs.declared.kept.Run.{Run}
 use Rattle.rx_items.proofs.MemberLemmas.{in_part, of_part}
@@ -10,8 +11,7 @@ abbrev pub Within : Run → ℕ → Type 0
 Within run p = (run.from ≤ p) × (p < run.to)
 
 abbrev pub Covered : List Run → ℕ → Type 0
-Covered [] p = ⊥
-Covered (run ∷ runs) p = Within run p ⊎ Covered runs p
+Covered runs p = (run : Run) × Contains runs run × Within run p
 
 -- a place of these runs, and what stands there
 pub record IsRunOf (members : List ℕ) (runs : List Run) (x : ℕ) : Type 0 where
@@ -19,62 +19,29 @@ pub record IsRunOf (members : List ℕ) (runs : List Run) (x : ℕ) : Type 0 whe
   pub covered : Covered runs at
   pub is : slice_get members at ≡ Some x
 
-next_run : (members : List ℕ) (run : Run) (runs : List Run) (x : ℕ) → IsRunOf members runs x → IsRunOf members (run ∷ runs) x
-next_run members run runs x s = record { at = s.at; covered = inr s.covered; is = s.is }
+further : (run : Run) (runs : List Run) (p : ℕ) → Covered runs p → Covered (run ∷ runs) p
+further run runs p c = (c.0, later run c.0 runs c.1, c.2)
+
+covered_cases : (run : Run) (runs : List Run) (p : ℕ) → Covered (run ∷ runs) p → Within run p ⊎ Covered runs p
+covered_cases run runs p c = elim (first_or_later run c.0 runs c.1) as (λ _. Within run p ⊎ Covered runs p) [
+  | inl e ↦ inl (subst (λ (r : Run). Within r p) (sym e) c.2)
+  | inr d ↦ inr (c.0, d, c.2)
+]
 
 stands_in : (members : List ℕ) (runs : List Run) (x : ℕ) → Contains (in_runs members runs) x → IsRunOf members runs x
 stands_in members [] x c = none x c
-stands_in members (run ∷ runs) x c = by (stands_in members runs x) (Contains-append_cases (part members run) (in_runs members runs) x c)
-  where
-    by : (Contains (in_runs members runs) x → IsRunOf members runs x) → Contains (part members run) x ⊎ Contains (in_runs members runs) x → IsRunOf members (run ∷ runs) x
-    by ih (inl d) = let p = in_part members run x d in record { at = p.at; covered = inl (p.low, p.high); is = p.is }
-    by ih (inr d) = next_run members run runs x (ih d)
+stands_in members (run ∷ runs) x c =
+    ⊎_elim (λ d. let p = in_part members run x d in record { at = p.at; covered = (run, first run runs, (p.low, p.high)); is = p.is })
+    (λ d. let s = stands_in members runs x d in record { at = s.at; covered = further run runs s.at s.covered; is = s.is }) (Contains-append_cases (part members run) (in_runs members runs) x c)
 
 stands_of : (members : List ℕ) (runs : List Run) (x at : ℕ) → Covered runs at → slice_get members at ≡ Some x → Contains (in_runs members runs) x
-stands_of members [] x at c is = absurd c
-stands_of members (run ∷ runs) x at (inl w) is = Contains-append_left (part members run) (in_runs members runs) x (of_part members run x (record { at = at; low = w.0; high = w.1; is = is }))
-stands_of members (run ∷ runs) x at (inr c) is = Contains-append_right (part members run) (in_runs members runs) x (stands_of members runs x at c is)
-
-covered_left : (xs ys : List Run) (p : ℕ) → Covered xs p → Covered (xs ++ ys) p
-covered_left [] ys p c = absurd c
-covered_left (run ∷ xs) ys p (inl w) = inl w
-covered_left (run ∷ xs) ys p (inr c) = inr (covered_left xs ys p c)
-
-covered_right : (xs ys : List Run) (p : ℕ) → Covered ys p → Covered (xs ++ ys) p
-covered_right [] ys p c = c
-covered_right (run ∷ xs) ys p c = inr (covered_right xs ys p c)
-
-covered_cases : (xs ys : List Run) (p : ℕ) → Covered (xs ++ ys) p → Covered xs p ⊎ Covered ys p
-covered_cases [] ys p c = inr c
-covered_cases (run ∷ xs) ys p (inl w) = inl (inl w)
-covered_cases (run ∷ xs) ys p (inr c) = further (covered_cases xs ys p c)
-  where
-    further : Covered xs p ⊎ Covered ys p → Covered (run ∷ xs) p ⊎ Covered ys p
-    further (inl d) = inl (inr d)
-    further (inr d) = inr d
-
--- ---- runs in another order
-
-pub record Among (runs : List Run) (p : ℕ) : Type 0 where
-  pub run : Run
-  pub among : Contains runs run
-  pub within : Within run p
-
-among_of : (runs : List Run) (p : ℕ) → Covered runs p → Among runs p
-among_of [] p c = absurd c
-among_of (run ∷ runs) p (inl w) = record { run = run; among = first run runs; within = w }
-among_of (run ∷ runs) p (inr c) = let a = among_of runs p c in record { run = a.run; among = later run a.run runs a.among; within = a.within }
-
-covered_by : (runs : List Run) (run : Run) (p : ℕ) → Contains runs run → Within run p → Covered runs p
-covered_by [] run p c w = none run c
-covered_by (other ∷ runs) run p c w = by (λ d. covered_by runs run p d w) (first_or_later other run runs c)
-  where
-    by : (Contains runs run → Covered runs p) → (other ≡ run) ⊎ Contains runs run → Covered (other ∷ runs) p
-    by ih (inl e) = inl (subst (λ (r : Run). Within r p) (sym e) w)
-    by ih (inr d) = inr (ih d)
+stands_of members [] x at c is = none c.0 c.1
+stands_of members (run ∷ runs) x at c is =
+    ⊎_elim (λ w. Contains-append_left (part members run) (in_runs members runs) x (of_part members run x (record { at = at; low = w.0; high = w.1; is = is })))
+    (λ d. Contains-append_right (part members run) (in_runs members runs) x (stands_of members runs x at d is)) (covered_cases run runs at c)
 
 reordered : (xs ys : List Run) (p : ℕ) → IsPermutation xs ys → Covered xs p → Covered ys p
-reordered xs ys p moved c = let a = among_of xs p c in covered_by ys a.run p (Contains-permutation xs ys a.run moved a.among) a.within
+reordered xs ys p moved c = (c.0, Contains-permutation xs ys c.0 moved c.1, c.2)
 
 -- ---- what is behind the runs before
 
@@ -82,17 +49,17 @@ rest_covers : (end : ℕ) (run : Run) (p : ℕ) → Covered (rest_of end run) p 
 rest_covers end run p c = by (nat_le run.to (max run.from end)) c
   where
     by : (b : Bool) → Covered (cond b [] (record { from = max run.from end; to = run.to } ∷ [])) p → Within run p
-    by true c = absurd c
-    by false (inl w) = let begins = w.0 in (omega (arith, begins), w.1)
-    by false (inr c) = absurd c
+    by true c = none c.0 c.1
+    by false c = elim (covered_cases (record { from = max run.from end; to = run.to }) [] p c) as (λ _. Within run p) [
+      | inl w ↦ (omega (arith, w.0), w.1)
+      | inr d ↦ none d.0 d.1
+    ]
 
 covers_no_more : (end : ℕ) (runs : List Run) (p : ℕ) → Covered (unshared end runs) p → Covered runs p
 covers_no_more end [] p c = c
-covers_no_more end (run ∷ runs) p c = by (covers_no_more (end_of end run) runs p) (covered_cases (rest_of end run) (unshared (end_of end run) runs) p c)
-  where
-    by : (Covered (unshared (end_of end run) runs) p → Covered runs p) → Covered (rest_of end run) p ⊎ Covered (unshared (end_of end run) runs) p → Covered (run ∷ runs) p
-    by ih (inl d) = inl (rest_covers end run p d)
-    by ih (inr d) = inr (ih d)
+covers_no_more end (run ∷ runs) p c =
+    ⊎_elim (λ d. (run, first run runs, rest_covers end run p (c.0, d, c.2))) (λ d. further run runs p (covers_no_more (end_of end run) runs p (c.0, d, c.2)))
+    (Contains-append_cases (rest_of end run) (unshared (end_of end run) runs) c.0 c.1)
 
 -- the begins rise, from a place on
 abbrev RisesFrom : ℕ → List Run → Type 0
@@ -119,7 +86,7 @@ here low end run p rises w = by (cases_lt p end)
       where
         behind : (b : Bool) → nat_le run.to (max run.from end) ≡ b → Covered (cond b [] (record { from = max run.from end; to = run.to } ∷ [])) p
         behind true e = let over = leb-true run.to (max run.from end) e in let begins = w.0 in let ends = w.1 in absurd (omega (arith, over, begins, ends, le))
-        behind false e = let begins = w.0 in inl (omega (arith, begins, le), w.1)
+        behind false e = let rest : Run = record { from = max run.from end; to = run.to } in (rest, first rest [], (omega (arith, w.0, le), w.1))
 
 -- a place before the end of a run, or of those before it
 before_it : (low end : ℕ) (run : Run) (p : ℕ) → low ≤ run.from → Before run.from (end_of end run) p → Covered (rest_of end run) p ⊎ Before low end p
@@ -130,20 +97,17 @@ before_it low end run p rises before = by (nat_le run.to (max run.from end)) bef
     by false d = here low end run p rises d
 
 covers_all : (low end : ℕ) (runs : List Run) (p : ℕ) → RisesFrom low runs → Covered runs p → Covered (unshared end runs) p ⊎ Before low end p
-covers_all low end [] p rises c = absurd c
-covers_all low end (run ∷ runs) p rises c = go (covers_all run.from (end_of end run) runs p rises.1) c
+covers_all low end [] p rises c = none c.0 c.1
+covers_all low end (run ∷ runs) p rises c =
+    ⊎_elim (λ w. in_front (here low end run p rises.0 w)) (λ d. by (covers_all run.from (end_of end run) runs p rises.1 d)) (covered_cases run runs p c)
   where
     in_front : Covered (rest_of end run) p ⊎ Before low end p → Covered (rest_of end run ++ unshared (end_of end run) runs) p ⊎ Before low end p
-    in_front (inl d) = inl (covered_left (rest_of end run) (unshared (end_of end run) runs) p d)
+    in_front (inl d) = inl (d.0, Contains-append_left (rest_of end run) (unshared (end_of end run) runs) d.0 d.1, d.2)
     in_front (inr d) = inr d
 
     by : Covered (unshared (end_of end run) runs) p ⊎ Before run.from (end_of end run) p → Covered (rest_of end run ++ unshared (end_of end run) runs) p ⊎ Before low end p
-    by (inl d) = inl (covered_right (rest_of end run) (unshared (end_of end run) runs) p d)
+    by (inl d) = inl (d.0, Contains-append_right (rest_of end run) (unshared (end_of end run) runs) d.0 d.1, d.2)
     by (inr d) = in_front (before_it low end run p rises.0 d)
-
-    go : (Covered runs p → Covered (unshared (end_of end run) runs) p ⊎ Before run.from (end_of end run) p) → Within run p ⊎ Covered runs p → Covered (rest_of end run ++ unshared (end_of end run) runs) p ⊎ Before low end p
-    go ih (inl w) = in_front (here low end run p rises.0 w)
-    go ih (inr c) = by (ih c)
 
 pub same_members : (runs sorted list : List Run) → IsPermutation runs sorted → IsNonDecreasingBy (λ (run : Run). run.from) sorted → list ≡ unshared 0 sorted
     → (members : List ℕ) (x : ℕ) → Contains (in_runs members list) x ↔ Contains (in_runs members runs) x

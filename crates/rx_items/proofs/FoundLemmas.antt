@@ -1,5 +1,7 @@
 -- What the visits of a page come to, step by step.
-use Rattle.rx_items.proofs.Common.{◌≡◌, ◌∙◌, ◌+◌, ℕ, suc, Bool, true, false, cond, List, [], ◌∷◌, ◌++◌, map, filter, length, Option, Some, None, option_map, refl, sym, ap, subst, arith, nat_lt, ◌==◌, ◌||◌, nat_le, flat_map, list_any, option_or, Chars, length-append, Fault, Kind, Cycle, ItemsTooNested, ItemsTooMany, Placed, is_item, names_of, Visit, Bounds, visits_from, standard_bounds, fault_of, first_fault, items_in, properties_in, path_of, kind_of, NoFault, FaultIs, Step, with_name, steps_of, steps_in, visits_of, visits_in, flat_map-append}
+use Rattle.rx_items.proofs.Common.{◌≡◌, ◌∙◌, ◌+◌, ℕ, suc, Bool, true, false, cond, List, [], ◌∷◌, ◌++◌, map, filter, length, Option, Some, None, option_map, refl, sym, ap, subst, arith, nat_lt, ◌==◌, ◌||◌, nat_le, flat_map, list_any, option_or, Chars, length-append, ◌<◌, ◌≤◌, take, drop, get_or, take_all, Fault, Stop, HasFault, Kind, Cycle, ItemsTooNested, ItemsTooMany, Placed, is_item, names_of, Visit, Bounds, visits_from, standard_bounds, fault_of, first_fault, items_in, properties_in, path_of, kind_of, NoFault, FaultIs, Step, with_name, steps_of, steps_in, visits_of, visits_in, flat_map-append}
+use Rattle.rx_grammar.specs.declared.stops.Stop.TheVariants as stop
+use Rattle.rx_items.proofs.TakeLemmas.{flat_cut, flat_more}
 
 -- ---- faults in a row
 
@@ -47,6 +49,22 @@ fault_then start xs ys fault p = record {
 pub none_at_all : (start : ℕ) → NoFault start [] start
 none_at_all start = record { none = refl; counted = omega arith }
 
+-- ---- the visits that each of some elements makes, one after another
+
+module _ (f : Placed → List Visit) (xs : List Placed) (i : ℕ) where
+  module _ (x : Placed) (lt : i < length xs) (is : x ≡ get_or xs i x) where
+    pub one_none : (start middle after : ℕ) → NoFault start (flat_map f (take i xs)) middle → NoFault middle (f x) after → NoFault start (flat_map f (take (i + 1) xs)) after
+    one_none start middle after p q = subst (λ (vs : List Visit). NoFault start vs after) (sym (flat_more f xs i x lt is)) (none_then start middle after (flat_map f (take i xs)) (f x) p q)
+
+    pub one_fault : (start middle : ℕ) (why : Stop) → NoFault start (flat_map f (take i xs)) middle → HasFault middle (f x) why → HasFault start (flat_map f xs) why
+    one_fault start middle stop.NoMemory p q = tt
+    one_fault start middle (stop.Fault fault) p q =
+        subst (λ (vs : List Visit). FaultIs start vs fault) (sym (flat_cut f xs i x lt is))
+        (then_fault start middle (flat_map f (take i xs)) (f x ++ flat_map f (drop (i + 1) xs)) fault p (fault_then middle (f x) (flat_map f (drop (i + 1) xs)) fault q))
+
+  pub all_none : (start after : ℕ) → length xs ≤ i → NoFault start (flat_map f (take i xs)) after → NoFault start (flat_map f xs) after
+  all_none start after over p = subst (λ (ps : List Placed). NoFault start (flat_map f ps) after) (take_all i xs over) p
+
 -- ---- the path
 
 any_more : (f : ℕ → Bool) (xs : List ℕ) (x : ℕ) → list_any f (xs ++ x ∷ []) ≡ (f x || list_any f xs)
@@ -78,14 +96,14 @@ fault_is before above root =
 -- ---- steps
 
 module _ (rows : List Placed) (base : Chars) (above : Visit) (left : ℕ) where
-  pub fault_stays : (start : ℕ) (done more : List Step) (fault : Fault) → FaultIs start (visits_in rows base above left done) fault → FaultIs start (visits_in rows base above left (done ++ more)) fault
-  fault_stays start done more fault f =
-      subst (λ (vs : List Visit). FaultIs start vs fault) (sym (flat_map-append (λ (s : Step). visits_of rows base above left s.element) done more))
-      (fault_then start (visits_in rows base above left done) (visits_in rows base above left more) fault f)
+  -- the steps of some elements are those of each
+  pub each_steps : (es : List Placed) → visits_in rows base above left (steps_in es) ≡ flat_map (λ (e : Placed). visits_in rows base above left (steps_of e)) es
+  each_steps [] = refl
+  each_steps (e ∷ es) = flat_map-append (λ (s : Step). visits_of rows base above left s.element) (steps_of e) (steps_in es) ∙ ap (λ (vs : List Visit). visits_in rows base above left (steps_of e) ++ vs) (each_steps es)
 
   -- ---- what the definitions go by is what the steps go by
 
-  abbrev only : Placed → Bool → List Visit
+  abbrev pub only : Placed → Bool → List Visit
   only e b = elim b as (λ item. List Visit) [ true ↦ visits_from (properties_in rows) (suc left) above e | false ↦ [] ]
 
   pub no_visits : (e : Placed) (names : List Chars) → is_item e ≡ false → visits_in rows base above left (map (with_name e) names) ≡ []

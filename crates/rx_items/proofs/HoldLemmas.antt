@@ -1,5 +1,6 @@
 -- What is kept of a page, row by row.
-use Rattle.rx_items.proofs.Common.{get_or, ◌≡◌, ◌∙◌, ◌+◌, ◌<◌, ◌≤◌, ℕ, zero, suc, Bool, true, false, cond, List, [], ◌∷◌, filter, length, Contains, ◌↔◌, Some, None, sym, ap, subst, arith, nat_cmp, Less, slice_get-get_or, slice_get_past, AllByRecursion, Chars, slice_get, Placed, is_item, names_of, properties_in, ShowsRow, names_in, types_in, AreTokens, AtPlace, IsElement, NamesAt, Reaches, ShowsElement, ShowsTokens, Numbered, is_there, names_beside, others_beside, own_beside, places, types_beside, AllStand, HoldsRows, gathered}
+use Rattle.rx_items.proofs.Common.{get_or, ◌≡◌, ◌∙◌, ◌+◌, ◌<◌, ◌≤◌, ℕ, zero, suc, Bool, true, List, [], ◌∷◌, filter, length, Contains, ◌↔◌, Some, None, sym, ap, subst, arith, nat_cmp, Less, slice_get-get_or, slice_get_past, AllByRecursion, Chars, slice_get, Placed, is_item, names_of, properties_in, ShowsRow, names_in, types_in, AreTokens, AtPlace, IsElement, NamesAt, Reaches, ShowsElement, ShowsTokens, Numbered, is_there, names_beside, others_beside, own_beside, places, types_beside, AllStand, HoldsRows, gathered}
+use Rattle.rx_terms.proofs.Bools.{by_test}
 use Rattle.std.specs.List.Sorted.{IsStrictlySortedBy}
 use Rattle.rx_items.specs.declared.rows.Row.{Row}
 use Rattle.rx_items.specs.declared.kept.Element.{Element}
@@ -75,32 +76,23 @@ shifted_at f front [] k n same = tt
 shifted_at f front (p ∷ ps) k n same =
     let here : slice_get front p.place ≡ Some p = let plain : k + 0 ≡ k = omega arith in ap (slice_get front) (n.0 ∙ sym plain) ∙ same 0 in
     let rest = shifted_at f front ps (suc k) n.1 (λ i. let next : suc k + i ≡ k + suc i = omega arith in ap (slice_get front) next ∙ same (suc i)) in
-    by (f p) here rest
-  where
-    by : (b : Bool) → slice_get front p.place ≡ Some p → AllStand front (filter f ps) → AllStand front (cond b (p ∷ filter f ps) (filter f ps))
-    by true here rest = (here, rest)
-    by false here rest = rest
+    by_test (f p) (λ t. rw t (here, rest)) (λ t. rw t rest)
 
 pub all_stand : (f : Placed → Bool) (ps : List Placed) → Numbered 0 ps → AllStand ps (filter f ps)
 all_stand f ps n = shifted_at f ps ps 0 n (λ i. let plain : 0 + i ≡ i = omega arith in ap (slice_get ps) plain)
 
 above : (f : Placed → Bool) (k j : ℕ) (ps : List Placed) → j < k → Numbered k ps → AllByRecursion (λ (y : ℕ). nat_cmp j y ≡ Less) (places (filter f ps))
 above f k j [] lt n = tt
-above f k j (p ∷ ps) lt n = by (f p) (less_of j p.place (let e = n.0 in omega (arith, e, lt))) (above f (suc k) j ps (omega (arith, lt)) n.1)
-  where
-    by : (b : Bool) → nat_cmp j p.place ≡ Less → AllByRecursion (λ (y : ℕ). nat_cmp j y ≡ Less) (places (filter f ps))
-        → AllByRecursion (λ (y : ℕ). nat_cmp j y ≡ Less) (places (cond b (p ∷ filter f ps) (filter f ps)))
-    by true here rest = (here, rest)
-    by false here rest = rest
+above f k j (p ∷ ps) lt n =
+    let rest = above f (suc k) j ps (omega (arith, lt)) n.1 in
+    by_test (f p) (λ t. rw t (less_of j p.place (omega (arith, n.0, lt)), rest)) (λ t. rw t rest)
 
 places_rise : (f : Placed → Bool) (k : ℕ) (ps : List Placed) → Numbered k ps → Rises (places (filter f ps))
 unfolding IsStrictlySortedBy
 places_rise f k [] n = tt
-places_rise f k (p ∷ ps) n = by (f p) (above f (suc k) p.place ps (let e = n.0 in omega (arith, e)) n.1) (places_rise f (suc k) ps n.1)
-  where
-    by : (b : Bool) → AllByRecursion (λ (y : ℕ). nat_cmp p.place y ≡ Less) (places (filter f ps)) → Rises (places (filter f ps)) → Rises (places (cond b (p ∷ filter f ps) (filter f ps)))
-    by true here rest = (here, rest)
-    by false here rest = rest
+places_rise f k (p ∷ ps) n =
+    let rest = places_rise f (suc k) ps n.1 in
+    by_test (f p) (λ t. rw t (above f (suc k) p.place ps (omega (arith, n.0)) n.1, rest)) (λ t. rw t rest)
 
 -- what an item's runs give are the places of its properties
 pub list_is : (kept : Kept) (rows : List Placed) (base : Chars) (root : Placed) (e : Element) (place : ℕ) (list : List ℕ) → HoldsRows kept rows base

@@ -7,7 +7,6 @@ mod NameLemmas
 mod WritingLemmas
 pub mod Telling
 pub mod Ending
-mod DepthLemmas
 mod ReadLemmas
 mod DistinctLemmas
 mod TokenLemmas

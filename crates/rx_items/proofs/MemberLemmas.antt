@@ -1,38 +1,10 @@
 -- Which rows stand in a run of members.
-use Rattle.rx_items.proofs.Common.{◌≡◌, ◌∙◌, ◌+◌, ◌-◌, ◌*◌, ◌<◌, ◌≤◌, ℕ, zero, suc, true, List, [], ◌∷◌, length, take, drop, get_or, Contains, Option, Some, None, refl, sym, ap, subst, arith, slice_get-get_or, slice_get_within, get_or_from_slice_get, cases_lt, ltb-true, ltb-false, Chars, slice_get, Placed, names_of, is_any, ◌⊎◌, inl, inr, part, RunOf, Sorted, key_at, key_of, scope_number, scope_of}
+use Rattle.rx_items.proofs.Common.{◌≡◌, ◌∙◌, ◌+◌, ◌-◌, ◌*◌, ◌<◌, ◌≤◌, ℕ, true, List, length, drop, get_or, Contains, Option, Some, None, refl, sym, ap, subst, arith, slice_get-get_or, slice_get_within, get_or_from_slice_get, cases_lt, ltb-true, ltb-false, Chars, slice_get, Placed, names_of, is_any, ◌⊎◌, inl, inr, part, RunOf, Sorted, key_at, key_of, scope_number, scope_of}
+use Rattle.std.proofs.lemmas.List.{get_or-take, get_or-drop, length-take, length-drop}
 use Rattle.rx_items.specs.declared.kept.Run.{Run}
 use Rattle.rx_items.specs.declared.rows.Row.{Row}
+use Rattle.rx_items.proofs.TakeLemmas.{there_is, is_there}
 use Rattle.rx_items.proofs.ShowLemmas.{shown_by, row_of}
-
--- ---- places of a list
-
-pub there_is : {X : Type 0} (xs : List X) (x : X) → Contains xs x → (i : ℕ) × (slice_get xs i ≡ Some x)
-there_is xs x c = (c.0, slice_get-get_or xs c.0 x c.1 ∙ ap Some c.2)
-
-is_there : (xs : List ℕ) (i x : ℕ) → slice_get xs i ≡ Some x → Contains xs x
-is_there xs i x g = (i, slice_get_within xs i x g, get_or_from_slice_get xs i x x g)
-
-in_front : (n : ℕ) (xs : List ℕ) (i x : ℕ) → slice_get (take n xs) i ≡ Some x → (i < n) × (slice_get xs i ≡ Some x)
-in_front zero xs i x g = absurd (cc (g))
-in_front (suc n) [] i x g = absurd (cc (g))
-in_front (suc n) (y ∷ xs) zero x g = (omega arith, g)
-in_front (suc n) (y ∷ xs) (suc i) x g = let r = in_front n xs i x g in let lt = r.0 in (omega (arith, lt), r.1)
-
-to_front : (n : ℕ) (xs : List ℕ) (i x : ℕ) → i < n → slice_get xs i ≡ Some x → slice_get (take n xs) i ≡ Some x
-to_front zero xs i x lt g = absurd (omega (arith, lt))
-to_front (suc n) [] i x lt g = absurd (cc (g))
-to_front (suc n) (y ∷ xs) zero x lt g = g
-to_front (suc n) (y ∷ xs) (suc i) x lt g = to_front n xs i x (omega (arith, lt)) g
-
-in_back : (lo : ℕ) (xs : List ℕ) (i x : ℕ) → slice_get (drop lo xs) i ≡ Some x → slice_get xs (lo + i) ≡ Some x
-in_back zero xs i x g = let plain : i ≡ 0 + i = omega arith in ap (slice_get xs) (sym plain) ∙ g
-in_back (suc lo) [] i x g = absurd (cc (g))
-in_back (suc lo) (y ∷ xs) i x g = let next : suc lo + i ≡ suc (lo + i) = omega arith in ap (slice_get (y ∷ xs)) next ∙ in_back lo xs i x g
-
-to_back : (lo : ℕ) (xs : List ℕ) (i x : ℕ) → slice_get xs (lo + i) ≡ Some x → slice_get (drop lo xs) i ≡ Some x
-to_back zero xs i x g = let plain : i ≡ 0 + i = omega arith in ap (slice_get xs) plain ∙ g
-to_back (suc lo) [] i x g = absurd (cc (g))
-to_back (suc lo) (y ∷ xs) i x g = let next : suc (lo + i) ≡ suc lo + i = omega arith in to_back lo xs i x (ap (slice_get (y ∷ xs)) next ∙ g)
 
 -- what stands in a part of a list
 pub record InPart (xs : List ℕ) (from to x : ℕ) : Type 0 where
@@ -43,18 +15,21 @@ pub record InPart (xs : List ℕ) (from to x : ℕ) : Type 0 where
 
 pub in_part : (xs : List ℕ) (run : Run) (x : ℕ) → Contains (part xs run) x → InPart xs run.from run.to x
 in_part xs run x c =
-    let there = there_is (part xs run) x c in
-    let front = in_front (run.to - run.from) (drop run.from xs) there.0 x there.1 in
-    let lt = front.0 in
-    record { at = run.from + there.0; low = omega arith; high = omega (arith, lt); is = in_back run.from xs there.0 x front.1 }
+    let short : c.0 < run.to - run.from = omega (arith, c.1, length-take (run.to - run.from) (drop run.from xs)) in
+    let there : run.from + c.0 < length xs = omega (arith, c.1, length-take (run.to - run.from) (drop run.from xs), length-drop run.from xs) in
+    let is : get_or xs (run.from + c.0) x ≡ x = sym (get_or-take (run.to - run.from) (drop run.from xs) c.0 x short ∙ get_or-drop run.from xs c.0 x) ∙ c.2 in
+    record { at = run.from + c.0; low = omega arith; high = omega (arith, short); is = slice_get-get_or xs (run.from + c.0) x there ∙ ap Some is }
 
 pub of_part : (xs : List ℕ) (run : Run) (x : ℕ) → InPart xs run.from run.to x → Contains (part xs run) x
 of_part xs run x p =
-    let low = p.low in
-    let high = p.high in
-    let at : run.from + (p.at - run.from) ≡ p.at = omega (arith, low) in
-    is_there (part xs run) (p.at - run.from) x
-    (to_front (run.to - run.from) (drop run.from xs) (p.at - run.from) x (omega (arith, low, high)) (to_back run.from xs (p.at - run.from) x (ap (slice_get xs) at ∙ p.is)))
+    let n : ℕ = p.at - run.from in
+    let at : run.from + n ≡ p.at = omega (arith, p.low) in
+    let short : n < run.to - run.from = omega (arith, p.low, p.high) in
+    let there = slice_get_within xs p.at x p.is in (
+      n,
+      omega (arith, short, p.low, there, length-take (run.to - run.from) (drop run.from xs), length-drop run.from xs),
+      get_or-take (run.to - run.from) (drop run.from xs) n x short ∙ get_or-drop run.from xs n x ∙ ap (λ i. get_or xs i x) at ∙ get_or_from_slice_get xs p.at x x p.is,
+    )
 
 -- ---- a run between two places
 

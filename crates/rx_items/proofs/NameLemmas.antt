@@ -1,6 +1,6 @@
 -- Values in byte order of their names come to the same groups, and these are told where the name changes.
 use Rattle.rx_items.proofs.Common.{slice_cmp, filter-append, Chars, flat_map, slice_get, IfOk, Result, Ok, Err, IsSortedBy, IsStableBy, ties, Data, array, Items, no_items, item, Members, no_members, member, data_events, items_events, members_events, Placed, names_of, with_value, grouped, named, AllStand, places, data_of}
-use Rattle.rx_model.proofs.Common.{◌≡◌, ◌∙◌, ◌+◌, ◌<◌, ◌≤◌, ℕ, suc, Bool, true, false, true≢false, cond, List, [], ◌∷◌, ◌++◌, map, filter, length, get_or, drop, drop_of_length-le, Option, Some, None, Ordering, Less, Equal, Greater, nat_cmp, refl, sym, ap, subst, arith, append_assoc, append-nil, encode_utf8_all, not, ◌&&◌, drop-cons, is_eq, Global, Vec, is_lt, nat_list_cmp_total, tied_itself, is_eq-slice_cmp, bytes_eq-Decides}
+use Rattle.rx_model.proofs.Common.{by_test, ◌≡◌, ◌∙◌, ◌+◌, ◌<◌, ◌≤◌, ℕ, suc, Bool, true, false, true≢false, cond, List, [], ◌∷◌, ◌++◌, map, filter, length, get_or, drop, drop_of_length-le, Option, Some, None, Ordering, Less, Equal, Greater, nat_cmp, refl, sym, ap, subst, arith, append_assoc, append-nil, encode_utf8_all, not, ◌&&◌, drop-cons, is_eq, Global, Vec, is_lt, nat_list_cmp_total, tied_itself, is_eq-slice_cmp, bytes_eq-Decides}
 use Rattle.serde.specs.Event as event
 use Rattle.serde.specs.Event.{Event}
 use Rattle.serde.specs.declared.name.Case.TheVariants.{AsIs}
@@ -77,28 +77,18 @@ module _ {X : Type 0} (name : X → List ℕ) (value : X → Data) where
 
   first_of : (n : List ℕ) (x : X) (rest ys : List X) → only n ys ≡ x ∷ rest → FirstOf n x ys
   first_of n x rest [] e = absurd (cc (e))
-  first_of n x rest (y ∷ ys) e = go (has n y) refl e (first_of n x rest ys)
-    where
-      go : (b : Bool) → has n y ≡ b → cond b (y ∷ only n ys) (only n ys) ≡ x ∷ rest → (only n ys ≡ x ∷ rest → FirstOf n x ys) → FirstOf n x (y ∷ ys)
-      go true h e ih = let same : y ≡ x = cc (e) in record { front = []; back = ys; is = ap (λ (z : X). z ∷ ys) same; others = refl }
-      go false h e ih =
-          let f = ih e in
-          record {
-            front = y ∷ f.front;
-            back = f.back;
-            is = ap (λ (l : List X). y ∷ l) f.is;
-            others = ap (λ b. cond b (y ∷ only n f.front) (only n f.front)) h ∙ f.others;
-          }
+  first_of n x rest (y ∷ ys) e = by_test (has n y)
+      (λ h. let all : y ∷ only n ys ≡ x ∷ rest = sym (ap (λ b. cond b (y ∷ only n ys) (only n ys)) h) ∙ e in let same : y ≡ x = cc (all) in record { front = []; back = ys; is = ap (λ (z : X). z ∷ ys) same; others = refl })
+      (λ h.
+      let f = first_of n x rest ys (sym (ap (λ b. cond b (y ∷ only n ys) (only n ys)) h) ∙ e) in
+      record { front = y ∷ f.front; back = f.back; is = ap (λ (l : List X). y ∷ l) f.is; others = ap (λ b. cond b (y ∷ only n f.front) (only n f.front)) h ∙ f.others })
 
   to_front : (x : X) (front back : List X) → only (name x) front ≡ [] → groups (front ++ x ∷ back) ≡ with_value (name x) (value x) (groups (front ++ back))
   to_front x [] back none = refl
-  to_front x (y ∷ front) back none = go (has (name x) y) refl none (to_front x front back)
-    where
-      go : (b : Bool) → has (name x) y ≡ b → cond b (y ∷ only (name x) front) (only (name x) front) ≡ []
-          → (only (name x) front ≡ [] → groups (front ++ x ∷ back) ≡ with_value (name x) (value x) (groups (front ++ back)))
-          → groups (y ∷ (front ++ x ∷ back)) ≡ with_value (name x) (value x) (groups (y ∷ (front ++ back)))
-      go true h none ih = absurd (cc (none))
-      go false h none ih = ap (with_value (name y) (value y)) (ih none) ∙ sym (apart (name x) (name y) (value x) (value y) (groups (front ++ back)) h)
+  to_front x (y ∷ front) back none =
+      let by : (b : Bool) → has (name x) y ≡ b → cond b (y ∷ only (name x) front) (only (name x) front) ≡ [] = λ b h. sym (ap (λ b. cond b (y ∷ only (name x) front) (only (name x) front)) h) ∙ none in
+      by_test (has (name x) y) (λ h. let some = by true h in absurd (cc (some)))
+      (λ h. ap (with_value (name y) (value y)) (to_front x front back (by false h)) ∙ sym (apart (name x) (name y) (value x) (value y) (groups (front ++ back)) h))
 
   -- without the first of one name
   without : (n : List ℕ) (x : X) (xs front back : List X) → only (name x) front ≡ [] → only n (front ++ x ∷ back) ≡ only n (x ∷ xs) → only n (front ++ back) ≡ only n xs

@@ -1,11 +1,11 @@
 -- The top-level items of a page, one after another.
-use Rattle.rx_items.proofs.Common.{◌≡◌, ◌∙◌, ◌+◌, ◌<◌, ◌≤◌, ℕ, zero, suc, Bool, true, false, cond, List, [], ◌∷◌, ◌++◌, map, filter, length, take, drop, get_or, Option, Some, None, refl, sym, ap, subst, arith, take_all, append-nil, Chars, flat_map, slice_get, Result, Err, Data, Fault, Kind, Stop, Placed, is_item, is_top_level, is_absent, Visit, visits_from, visits_by, first_fault, standard_bounds, Outcome, Given, Refused, json_of_item, json_by, refused, and_parts, properties_in, outcome_in, HoldsRows, At, NoFault, FaultIs, HasFault, Finds, top_visits, top_data, IsTextOf, JsonGives, TextGives, flat_map-append}
+use Rattle.rx_items.proofs.Common.{◌≡◌, ◌∙◌, ◌<◌, ◌≤◌, ℕ, zero, suc, Bool, true, false, cond, List, [], ◌∷◌, ◌++◌, map, filter, length, take, get_or, Option, Some, None, refl, sym, ap, subst, arith, Chars, flat_map, slice_get, Result, Err, Data, Fault, Kind, Stop, Placed, is_item, is_top_level, is_absent, Visit, visits_from, visits_by, first_fault, standard_bounds, Outcome, Given, Refused, json_of_item, json_by, refused, and_parts, properties_in, outcome_in, HoldsRows, At, NoFault, FaultIs, HasFault, Finds, top_visits, top_data, IsTextOf, JsonGives, TextGives}
 use Rattle.serde_json.specs.Written.{compact_text}
 use Rattle.rx_grammar.specs.declared.stops.Stop.TheVariants as stop
 use Rattle.rx_items.specs.declared.kept.Kept.{Kept}
-use Rattle.rx_items.proofs.FoundLemmas.{none_then, then_fault, fault_then, none_at_all}
+use Rattle.std.proofs.lemmas.List.Concat.{flat_map_single}
+use Rattle.rx_items.proofs.FoundLemmas.{one_fault, all_none, none_at_all}
 use Rattle.rx_items.proofs.ShowLemmas.{shows_length}
-use Rattle.rx_items.proofs.TakeLemmas.{one_more, cut_at}
 
 pub tops_at : {kept : Kept} {rows : List Placed} {base : Chars} (path : List ℕ) → HoldsRows kept rows base → path ≡ [] → At kept rows base path [] 40
 tops_at path h e = record { holds = h; path_is = e; deep = omega arith }
@@ -26,64 +26,36 @@ row_there [] i lt = absurd (omega (arith, lt))
 row_there (p ∷ rows) zero lt = record { row = p; row_is = refl; is = refl }
 row_there (p ∷ rows) (suc i) lt = let r = row_there rows i (omega (arith, lt)) in record { row = r.row; row_is = r.row_is; is = r.is }
 
+-- what those make that pass a test
+module _ {A : Type 0} (f : Placed → List A) (test : Placed → Bool) where
+  abbrev made : Placed → Bool → List A
+  made e b = elim b as (λ b. List A) [ true ↦ f e | false ↦ [] ]
+
+  of_those : (ps : List Placed) → flat_map (λ (e : Placed). made e (test e)) ps ≡ flat_map f (filter test ps)
+  of_those [] = refl
+  of_those (p ∷ ps) = by (test p) (of_those ps)
+    where
+      by : (b : Bool) → flat_map (λ (e : Placed). made e (test e)) ps ≡ flat_map f (filter test ps) → made p b ++ flat_map (λ (e : Placed). made e (test e)) ps ≡ flat_map f (cond b (p ∷ filter test ps) (filter test ps))
+      by true ih = ap (λ (l : List A). f p ++ l) ih
+      by false ih = ih
+
 module _ (rows : List Placed) (base : Chars) where
   abbrev visits_when : Placed → Bool → List Visit
   visits_when e b = elim b as (λ top. List Visit) [ true ↦ visits_from (properties_in rows) 41 [] e | false ↦ [] ]
 
-  abbrev data_when : Placed → Bool → List Data
-  data_when e b = elim b as (λ top. List Data) [ true ↦ json_of_item (properties_in rows) base 40 e ∷ [] | false ↦ [] ]
+  all_visits : flat_map (top_visits rows base) rows ≡ visits_by (properties_in rows) standard_bounds (filter is_top_level rows)
+  all_visits = of_those (visits_from (properties_in rows) 41 []) is_top_level rows
 
-  row_visits : (i : ℕ) (e : Placed) → i < length rows → e ≡ get_or rows i e → flat_map (top_visits rows base) (take (i + 1) rows) ≡ flat_map (top_visits rows base) (take i rows) ++ top_visits rows base e
-  row_visits i e lt is =
-      ap (flat_map (top_visits rows base)) (one_more rows i e lt) ∙ flat_map-append (top_visits rows base) (take i rows) (get_or rows i e ∷ [])
-      ∙ ap (λ (l : List Visit). flat_map (top_visits rows base) (take i rows) ++ l) (append-nil (top_visits rows base (get_or rows i e)))
-      ∙ ap (λ (x : Placed). flat_map (top_visits rows base) (take i rows) ++ top_visits rows base x) (sym is)
-
-  pub row_data : (i : ℕ) (e : Placed) → i < length rows → e ≡ get_or rows i e → flat_map (top_data rows base) (take (i + 1) rows) ≡ flat_map (top_data rows base) (take i rows) ++ top_data rows base e
-  row_data i e lt is =
-      ap (flat_map (top_data rows base)) (one_more rows i e lt) ∙ flat_map-append (top_data rows base) (take i rows) (get_or rows i e ∷ [])
-      ∙ ap (λ (l : List Data). flat_map (top_data rows base) (take i rows) ++ l) (append-nil (top_data rows base (get_or rows i e)))
-      ∙ ap (λ (x : Placed). flat_map (top_data rows base) (take i rows) ++ top_data rows base x) (sym is)
-
-  all_visits : (ps : List Placed) → flat_map (top_visits rows base) ps ≡ visits_by (properties_in rows) standard_bounds (filter is_top_level ps)
-  all_visits [] = refl
-  all_visits (p ∷ ps) = by (is_top_level p) (all_visits ps)
-    where
-      by : (b : Bool) → flat_map (top_visits rows base) ps ≡ visits_by (properties_in rows) standard_bounds (filter is_top_level ps)
-          → visits_when p b ++ flat_map (top_visits rows base) ps ≡ visits_by (properties_in rows) standard_bounds (cond b (p ∷ filter is_top_level ps) (filter is_top_level ps))
-      by true ih = ap (λ (l : List Visit). visits_from (properties_in rows) 41 [] p ++ l) ih
-      by false ih = ih
-
-  pub all_data : (ps : List Placed) → flat_map (top_data rows base) ps ≡ map (json_of_item (properties_in rows) base 40) (filter is_top_level ps)
-  all_data [] = refl
-  all_data (p ∷ ps) = by (is_top_level p) (all_data ps)
-    where
-      by : (b : Bool) → flat_map (top_data rows base) ps ≡ map (json_of_item (properties_in rows) base 40) (filter is_top_level ps)
-          → data_when p b ++ flat_map (top_data rows base) ps ≡ map (json_of_item (properties_in rows) base 40) (cond b (p ∷ filter is_top_level ps) (filter is_top_level ps))
-      by true ih = ap (λ (l : List Data). json_of_item (properties_in rows) base 40 p ∷ l) ih
-      by false ih = ih
+  pub all_data : flat_map (top_data rows base) rows ≡ map (json_of_item (properties_in rows) base 40) (filter is_top_level rows)
+  all_data = of_those (λ e. json_of_item (properties_in rows) base 40 e ∷ []) is_top_level rows ∙ flat_map_single (json_of_item (properties_in rows) base 40) (filter is_top_level rows)
 
   pub tops_err : (i before : ℕ) (e : Placed) (why : Stop) → i < length rows → e ≡ get_or rows i e → NoFault 0 (flat_map (top_visits rows base) (take i rows)) before
       → HasFault before (top_visits rows base e) why → HasFault 0 (visits_by (properties_in rows) standard_bounds (filter is_top_level rows)) why
-  tops_err i before e stop.NoMemory lt is d f = tt
-  tops_err i before e (stop.Fault fault) lt is d f =
-      let all : flat_map (top_visits rows base) rows ≡ flat_map (top_visits rows base) (take i rows) ++ (top_visits rows base e ++ flat_map (top_visits rows base) (drop (i + 1) rows)) =
-      ap (flat_map (top_visits rows base)) (cut_at rows i e lt) ∙ flat_map-append (top_visits rows base) (take i rows) (get_or rows i e ∷ drop (i + 1) rows)
-      ∙ ap (λ (x : Placed). flat_map (top_visits rows base) (take i rows) ++ (top_visits rows base x ++ flat_map (top_visits rows base) (drop (i + 1) rows))) (sym is) in
-      subst (λ (vs : List Visit). FaultIs 0 vs fault) (sym all ∙ all_visits rows)
-      (then_fault 0 before (flat_map (top_visits rows base) (take i rows)) (top_visits rows base e ++ flat_map (top_visits rows base) (drop (i + 1) rows)) fault d
-      (fault_then before (top_visits rows base e) (flat_map (top_visits rows base) (drop (i + 1) rows)) fault f))
-
-  pub visited_on : (i before after : ℕ) (e : Placed) → i < length rows → e ≡ get_or rows i e → NoFault 0 (flat_map (top_visits rows base) (take i rows)) before
-      → NoFault before (top_visits rows base e) after → NoFault 0 (flat_map (top_visits rows base) (take (i + 1) rows)) after
-  visited_on i before after e lt is d f =
-      subst (λ (vs : List Visit). NoFault 0 vs after) (sym (row_visits i e lt is)) (none_then 0 before after (flat_map (top_visits rows base) (take i rows)) (top_visits rows base e) d f)
+  tops_err i before e why lt is d f = subst (λ (vs : List Visit). HasFault 0 vs why) all_visits (one_fault (top_visits rows base) rows i e lt is 0 before why d f)
 
   pub visited_end : (i visits : ℕ) → length rows ≤ i → NoFault 0 (flat_map (top_visits rows base) (take i rows)) visits
       → first_fault standard_bounds 0 (visits_by (properties_in rows) standard_bounds (filter is_top_level rows)) ≡ None
-  visited_end i visits over d =
-      let whole = take_all i rows over in
-      ap (first_fault standard_bounds 0) (sym (all_visits rows) ∙ sym (ap (flat_map (top_visits rows base)) whole)) ∙ d.none
+  visited_end i visits over d = ap (first_fault standard_bounds 0) (sym all_visits) ∙ (all_none (top_visits rows base) rows i 0 visits over d).none
 
   pub top_plain : (e : Placed) (visits : ℕ) → is_top_level e ≡ false → NoFault visits (top_visits rows base e) visits
   top_plain e visits plain = subst (λ b. NoFault visits (visits_when e b) visits) (sym plain) (none_at_all visits)

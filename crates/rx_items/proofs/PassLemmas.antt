@@ -1,10 +1,9 @@
 -- The visits of a page without its JSON, step by step.
-use Rattle.rx_items.proofs.Common.{◌≡◌, ◌∙◌, ◌+◌, ◌-◌, ◌<◌, ◌≤◌, ℕ, zero, suc, Bool, true, false, List, [], ◌∷◌, ◌++◌, map, length, take, get_or, refl, sym, ap, subst, arith, append_assoc, take_all, append-nil, Chars, Result, Stop, Placed, is_item, names_of, Visit, visits_from, properties_in, ShowsTokens, NoFault, FaultIs, HasFault, Finds, Step, with_name, steps_of, steps_in, visits_of, visits_in, again, count_of, flat_map-append}
+use Rattle.rx_items.proofs.Common.{◌≡◌, ◌∙◌, ◌+◌, ◌-◌, ◌<◌, ◌≤◌, ℕ, zero, suc, true, false, List, [], ◌∷◌, ◌++◌, map, length, take, get_or, flat_map, refl, sym, ap, subst, arith, append_assoc, append-nil, Chars, Result, Stop, Placed, is_item, names_of, Visit, visits_from, properties_in, ShowsTokens, NoFault, FaultIs, HasFault, Finds, with_name, steps_of, steps_in, visits_in, again, count_of}
 use Rattle.rx_grammar.specs.declared.stops.Stop.TheVariants as stop
 use Rattle.rx_items.specs.declared.kept.Tokens.{Tokens}
 use Rattle.rx_items.specs.declared.kept.Tokens.TheVariants as tokens
-use Rattle.rx_items.proofs.FoundLemmas.{none_then, then_fault, fault_then, none_at_all, no_visits}
-use Rattle.rx_items.proofs.VisitLemmas.{steps_one, property_err}
+use Rattle.rx_items.proofs.FoundLemmas.{none_then, then_fault, fault_then, none_at_all, no_visits, only, each_steps, one_fault, all_none}
 
 -- ---- the same visits so many times
 
@@ -37,12 +36,9 @@ counted words (tokens.One span) texts s = sym (ap (λ (l : List Chars). length l
 counted words (tokens.Many list) texts s = ap (λ (l : List Chars). length l) s
 
 module _ (rows : List Placed) (base : Chars) (above : Visit) (left : ℕ) where
-  abbrev visits_when : Placed → Bool → List Visit
-  visits_when e b = elim b as (λ item. List Visit) [ true ↦ visits_from (properties_in rows) (suc left) above e | false ↦ [] ]
-
   item_again : (e : Placed) (names : List Chars) → is_item e ≡ true → visits_in rows base above left (map (with_name e) names) ≡ again (length names) (visits_from (properties_in rows) (suc left) above e)
   item_again e [] item = refl
-  item_again e (name ∷ names) item = (λ i. visits_when e (item i) ++ item_again e names item i)
+  item_again e (name ∷ names) item = (λ i. only rows base above left e (item i) ++ item_again e names item i)
 
   pub item_passed : (e : Placed) (before after count : ℕ) (r : Result (Unit {0}) Stop) → count ≡ length (names_of e) → is_item e ≡ true
       → Finds before (again count (visits_from (properties_in rows) (suc left) above e)) after (λ done. Unit {0}) r → Finds before (visits_in rows base above left (steps_of e)) after (λ done. Unit {0}) r
@@ -55,24 +51,13 @@ module _ (rows : List Placed) (base : Chars) (above : Visit) (left : ℕ) where
 
   -- ---- properties in a row
 
-  both_visits : (xs ys : List Step) → visits_in rows base above left (xs ++ ys) ≡ visits_in rows base above left xs ++ visits_in rows base above left ys
-  both_visits xs ys = flat_map-append (λ (s : Step). visits_of rows base above left s.element) xs ys
-
-  pub each_stop : (start middle : ℕ) (es : List Placed) (i : ℕ) (e : Placed) (x : Stop) → i < length es → e ≡ get_or es i e → NoFault start (visits_in rows base above left (steps_in (take i es))) middle
+  pub each_stop : (start middle : ℕ) (es : List Placed) (i : ℕ) (e : Placed) (x : Stop) → i < length es → e ≡ get_or es i e
+      → NoFault start (flat_map (λ (e : Placed). visits_in rows base above left (steps_of e)) (take i es)) middle
       → HasFault middle (visits_in rows base above left (steps_of e)) x → HasFault start (visits_in rows base above left (steps_in es)) x
-  each_stop start middle es i e stop.NoMemory lt is p f = tt
-  each_stop start middle es i e (stop.Fault fault) lt is p f =
-      property_err rows base above left start es i e (stop.Fault fault) lt is
-      (subst (λ (vs : List Visit). FaultIs start vs fault) (sym (both_visits (steps_in (take i es)) (steps_of e)))
-      (then_fault start middle (visits_in rows base above left (steps_in (take i es))) (visits_in rows base above left (steps_of e)) fault p f))
+  each_stop start middle es i e x lt is p f =
+      subst (λ (vs : List Visit). HasFault start vs x) (sym (each_steps rows base above left es)) (one_fault (λ (e : Placed). visits_in rows base above left (steps_of e)) es i e lt is start middle x p f)
 
-  pub each_more : (start middle after : ℕ) (es : List Placed) (i : ℕ) (e : Placed) → i < length es → e ≡ get_or es i e → NoFault start (visits_in rows base above left (steps_in (take i es))) middle
-      → NoFault middle (visits_in rows base above left (steps_of e)) after → NoFault start (visits_in rows base above left (steps_in (take (i + 1) es))) after
-  each_more start middle after es i e lt is p q =
-      subst (λ (vs : List Visit). NoFault start vs after)
-      (sym (ap (visits_in rows base above left) (steps_one rows base above left es i e lt is) ∙ both_visits (steps_in (take i es)) (steps_of e)))
-      (none_then start middle after (visits_in rows base above left (steps_in (take i es))) (visits_in rows base above left (steps_of e)) p q)
-
-  pub each_end : (start after : ℕ) (es : List Placed) (i : ℕ) → length es ≤ i → NoFault start (visits_in rows base above left (steps_in (take i es))) after
+  pub each_end : (start after : ℕ) (es : List Placed) (i : ℕ) → length es ≤ i → NoFault start (flat_map (λ (e : Placed). visits_in rows base above left (steps_of e)) (take i es)) after
       → NoFault start (visits_in rows base above left (steps_in es)) after
-  each_end start after es i over p = subst (λ (xs : List Placed). NoFault start (visits_in rows base above left (steps_in xs)) after) (take_all i es over) p
+  each_end start after es i over p =
+      subst (λ (vs : List Visit). NoFault start vs after) (sym (each_steps rows base above left es)) (all_none (λ (e : Placed). visits_in rows base above left (steps_of e)) es i start after over p)

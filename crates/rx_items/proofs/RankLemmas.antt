@@ -23,9 +23,7 @@ behind_zero m (x ∷ ms) = refl
 
 behind_twice : (b c : Bool) (n : ℕ) → behind b (behind c n) ≡ behind c (behind b n)
 behind_twice true true n = refl
-behind_twice true false n = refl
-behind_twice false true n = refl
-behind_twice false false n = refl
+behind_twice _ _ n = refl
 
 rank_there : (front : List Bool) (m : Bool) (back : List Bool)
     → rank_in (front ++ (m ∷ back)) (suc (length front)) ≡ behind m (rank_in (front ++ (m ∷ back)) (length front))

@@ -6,7 +6,8 @@ use Rattle.rx_items.proofs.IdLemmas.{row_shown}
 use Rattle.rx_items.proofs.MemberLemmas.{in_range, of_range}
 use Rattle.rx_items.proofs.NestLemmas.{laid, numbered}
 use Rattle.rx_items.proofs.StartLemmas.{end_by, run_reaches, reached_in_run}
-use Rattle.rx_items.proofs.TakeLemmas.{one_more}
+use Rattle.std.proofs.lemmas.List.{take_more}
+use Rattle.rx_items.proofs.TakeLemmas.{same_there}
 use Rattle.rx_items.proofs.ShowLemmas.{shows_length}
 use Rattle.rx_microdata.proofs.Lists.{none as none_in}
 
@@ -38,7 +39,7 @@ module _ (words gathered : Chars) (times : List Chars) (rows : List Row) (tree :
       → RunOf rows members row.scope place (reach_end row place) run → (x : ℕ) → Contains (part members run) x ↔ StartAt (rows_of tree) place x
   start_there place run row start there shown r x =
       let l = laid tree None 0 refl in
-      let n = numbered tree None 0 in
+      let n = numbered tree in
       let item = shown.is_item in
       let past = shown.past in
       let end_is : reach_end row place ≡ end_by (is_item start) place start.past = λ i. cond (item i) (place + 1) (past i) in
@@ -51,13 +52,10 @@ module _ (words gathered : Chars) (times : List Chars) (rows : List Row) (tree :
               (in_range words gathered times rows (rows_of tree) members s start.scope place (end_by (is_item start) place start.past) run run_of x c);
         }),
         (λ a.
-            let alike : a.start ≡ start = same a.start start place a.there there in
+            let alike : a.start ≡ start = same_there (rows_of tree) place a.start start a.there there in
             of_range words gathered times rows (rows_of tree) members s start.scope place (end_by (is_item start) place start.past) run run_of x
             (reached_in_run (rows_of tree) (row_count tree) n l.fits l.pairs start place there x (subst (λ (p : Placed). Reached (rows_of tree) p x) alike a.reached))),
       )
-    where
-      same : (a b : Placed) (place : ℕ) → slice_get (rows_of tree) place ≡ Some a → slice_get (rows_of tree) place ≡ Some b → a ≡ b
-      same a b place e f = let found : Some a ≡ Some b = sym e ∙ f in cc (found)
 
   pub start_members : (place : ℕ) (run : Run) → ((row : Row) → slice_get rows place ≡ Some row → RunOf rows members row.scope place (reach_end row place) run)
       → (slice_get rows place ≡ None → run ≡ record { from = 0; to = 0 }) → (x : ℕ) → Contains (part members run) x ↔ StartAt (rows_of tree) place x
@@ -100,7 +98,7 @@ module _ (words gathered : Chars) (times : List Chars) (rows : List Row) (tree :
       → ((members : List ℕ) → in_runs members new ≡ in_runs members old ++ part members run) → ((x : ℕ) → Contains (part members run) x ↔ StartAt (rows_of tree) start x)
       → ((x : ℕ) → Contains (in_runs members old) x ↔ RunsReach (rows_of tree) place (take i starts) x) → (x : ℕ) → Contains (in_runs members new) x ↔ RunsReach (rows_of tree) place (take (i + 1) starts) x
   reach_turn place starts i start old new run lt is added here ih x =
-      let more : take (i + 1) starts ≡ take i starts ++ start ∷ [] = one_more starts i start lt ∙ ap (λ n. take i starts ++ n ∷ []) (sym is) in
+      let more : take (i + 1) starts ≡ take i starts ++ start ∷ [] = take_more starts i start lt ∙ ap (λ n. take i starts ++ n ∷ []) (sym is) in
       let all : in_runs members new ≡ in_runs members old ++ part members run = added members in (
         (λ c. subst (λ (l : List ℕ). RunsReach (rows_of tree) place l x) (sym more) (there (Contains-append_cases (in_runs members old) (part members run) x (subst (λ (l : List ℕ). Contains l x) all c)))),
         (λ h. subst (λ (l : List ℕ). Contains l x) (sym all) (back (subst (λ (l : List ℕ). RunsReach (rows_of tree) place l x) more h))),

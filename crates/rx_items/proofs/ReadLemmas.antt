@@ -1,25 +1,27 @@
--- The compact text of a value of texts in lists and objects, whose names rise, is read back as that value.
-use Rattle.rx_items.proofs.Common.{◌≡◌, ℕ, zero, suc, Bool, true, false, List, [], ◌∷◌, ◌++◌, map, refl, subst, arith, Option, Some, None, Ordering, Less, Equal, Greater, nat_cmp, slice_cmp, Chars, codes, filter, flat_map, encode_utf8_all, Data, Members, null, boolean, number, string, array, object, no_members, member, Facts, said, Placed, is_item, names_of, is_top_level, properties, standard_bounds, string_of, list_of, onto, with_value, grouped, with_types, with_id, item_of, named, json_of_item, json_by}
+-- The JSON of items: texts in lists and objects whose names rise, nested no deeper than the items allow. So its compact text is read back.
+use Rattle.rx_items.proofs.Common.{◌≡◌, ◌≤◌, ◌+◌, ◌*◌, ℕ, zero, suc, Bool, true, false, List, [], ◌∷◌, map, refl, subst, arith, Option, Some, None, Ordering, Less, Equal, Greater, nat_cmp, slice_cmp, Chars, codes, filter, flat_map, encode_utf8_all, Data, Members, null, number, array, object, no_members, member, depth, items_depth, members_depth, Kind, Facts, said, Placed, is_item, names_of, is_top_level, properties, Bounds, Visit, standard_bounds, visits_by, first_fault, string_of, list_of, onto, with_value, grouped, with_types, with_id, item_of, named, json_of_item, json_by, Outcome, Given, refused, outcome_of}
 use Rattle.std.specs.Ordering.{match_ordering}
 use Rattle.rx_json.specs.Plain.{Leads, IsPlain, ArePlain, MembersArePlain}
 use Rattle.rx_json.proofs.PlainLemmas.{turned, leads_one, leads_through}
 use Rattle.rx_json.proofs.ReadLemmas.{read_back}
-use Rattle.rx_items.specs.JsonLaws.{JsonIsReadBack}
-use Rattle.rx_items.proofs.DepthLemmas.{given_is, json_nests}
+use Rattle.rx_items.specs.JsonLaws.{JsonNests, JsonIsReadBack}
+use Rattle.rx_items.proofs.Alike.{Each, each_append}
 
--- ---- the JSON of items is plain, and its names rise
+-- without numbers, with names that rise, and nested no deeper than this
+abbrev Sound : ℕ → Data → Type 0
+Sound n value = IsPlain value × (depth value ≤ n)
 
-texts_plain : (texts : List Chars) → ArePlain (list_of (map string_of texts))
-texts_plain [] = tt
-texts_plain (text ∷ texts) = (tt, texts_plain texts)
+abbrev AreSound : ℕ → Members → Type 0
+AreSound n members = MembersArePlain members × (members_depth members ≤ n)
 
-onto_plain : (value values : Data) → IsPlain value → IsPlain values → IsPlain (onto value values)
-onto_plain value null p q = (p, tt)
-onto_plain value (boolean b) p q = (p, tt)
-onto_plain value (number n) p q = absurd q
-onto_plain value (string s) p q = (p, tt)
-onto_plain value (array values) p q = (p, q)
-onto_plain value (object ms) p q = (p, tt)
+texts_sound : (texts : List Chars) → ArePlain (list_of (map string_of texts)) × (items_depth (list_of (map string_of texts)) ≤ 0)
+texts_sound [] = (tt, omega arith)
+texts_sound (text ∷ texts) = let rest = texts_sound texts in ((tt, rest.0), omega (arith, rest.1))
+
+onto_sound : (n : ℕ) (value values : Data) → Sound n value → Sound (suc n) values → Sound (suc n) (onto value values)
+onto_sound n value (array values) v vs = ((v.0, vs.0), omega (arith, v.1, vs.1))
+onto_sound n value (number x) v vs = absurd vs.0
+onto_sound n value _ v vs = ((v.0, tt), omega (arith, v.1))
 
 leads_added : (before name : List ℕ) (value : Data) (members : Members) → slice_cmp nat_cmp before name ≡ Less → Leads before members → Leads before (with_value name value members)
 leads_added before name value no_members c l = (c, tt)
@@ -27,51 +29,53 @@ leads_added before name value (member first values more) c l =
     leads_one before (slice_cmp nat_cmp name first) (member name (onto value null) (member first values more)) (member first (onto value values) more) (member first values (with_value name value more))
     (c, (l.0, l.1)) (l.0, l.1) (l.0, leads_added before name value more c l.1)
 
-added_plain : (name : List ℕ) (value : Data) (members : Members) → IsPlain value → MembersArePlain members → MembersArePlain (with_value name value members)
-added_plain name value no_members v p = (onto_plain value null v tt, tt, tt)
-added_plain name value (member first values more) v p = by (added_plain name value more v p.2) (slice_cmp nat_cmp name first) refl
+added : (n : ℕ) (name : List ℕ) (value : Data) (members : Members) → Sound n value → AreSound (suc n) members → AreSound (suc n) (with_value name value members)
+added n name value no_members v ms = let fresh = onto_sound n value null v (tt, omega arith) in ((fresh.0, tt, tt), omega (arith, fresh.1))
+added n name value (member first values more) v ms = by (added n name value more v ((ms.0).2, omega (arith, ms.1))) (slice_cmp nat_cmp name first) refl
   where
-    by : MembersArePlain (with_value name value more) → (o : Ordering) → slice_cmp nat_cmp name first ≡ o
-        → MembersArePlain (match_ordering o (member name (onto value null) (member first values more)) (member first (onto value values) more) (member first values (with_value name value more)))
-    by ih Less c = (onto_plain value null v tt, (c, leads_through name first more c p.1), p)
-    by ih Equal c = (onto_plain value values v p.0, p.1, p.2)
-    by ih Greater c = (p.0, leads_added first name value more (turned name first Greater c) p.1, ih)
+    fresh : Sound (suc n) (onto value null)
+    fresh = onto_sound n value null v (tt, omega arith)
 
--- names with plain values
-abbrev pub AllPlain : List (Chars × Data) → Type 0
-AllPlain [] = Unit {0}
-AllPlain (pair ∷ pairs) = IsPlain pair.1 × AllPlain pairs
+    longer : Sound (suc n) (onto value values)
+    longer = onto_sound n value values v ((ms.0).0, omega (arith, ms.1))
 
-both_plain : (xs ys : List (Chars × Data)) → AllPlain xs → AllPlain ys → AllPlain (xs ++ ys)
-both_plain [] ys p q = q
-both_plain (x ∷ xs) ys p q = (p.0, both_plain xs ys p.1 q)
+    by : AreSound (suc n) (with_value name value more) → (o : Ordering) → slice_cmp nat_cmp name first ≡ o
+        → AreSound (suc n) (match_ordering o (member name (onto value null) (member first values more)) (member first (onto value values) more) (member first values (with_value name value more)))
+    by ih Less c = ((fresh.0, (c, leads_through name first more c (ms.0).1), ms.0), omega (arith, fresh.1, ms.1))
+    by ih Equal c = ((longer.0, (ms.0).1, (ms.0).2), omega (arith, longer.1, ms.1))
+    by ih Greater c = (((ms.0).0, leads_added first name value more (turned name first Greater c) (ms.0).1, ih.0), omega (arith, ms.1, ih.1))
 
-grouped_plain : (pairs : List (Chars × Data)) → AllPlain pairs → MembersArePlain (grouped pairs)
-grouped_plain [] p = tt
-grouped_plain (pair ∷ pairs) p = added_plain (encode_utf8_all pair.0) pair.1 (grouped pairs) p.0 (grouped_plain pairs p.1)
+-- a name with such a value
+abbrev HasSound : ℕ → Chars × Data → Type 0
+HasSound n pair = Sound n pair.1
 
-types_plain : (types : List Chars) → MembersArePlain (with_types types no_members)
-types_plain [] = tt
-types_plain (name ∷ types) = (texts_plain (name ∷ types), tt, tt)
+grouped_sound : (n : ℕ) (pairs : List (Chars × Data)) → Each (HasSound n) pairs → AreSound (suc n) (grouped pairs)
+grouped_sound n [] p = (tt, omega arith)
+grouped_sound n (pair ∷ pairs) p = added n (encode_utf8_all pair.0) pair.1 (grouped pairs) p.0 (grouped_sound n pairs p.1)
+
+types_sound : (n : ℕ) (types : List Chars) → AreSound (suc n) (with_types types no_members)
+types_sound n [] = (tt, omega arith)
+types_sound n (name ∷ types) = let texts = texts_sound (name ∷ types) in ((texts.0, tt, tt), omega (arith, texts.1))
 
 leads_types : (name : List ℕ) (types : List Chars) → slice_cmp nat_cmp name (codes "type") ≡ Less → Leads name (with_types types no_members)
 leads_types name [] c = tt
 leads_types name (first ∷ types) c = (c, tt)
 
-id_plain : (base : Chars) (reference : Option Chars) (types : List Chars) (group : Members) → MembersArePlain group
-    → MembersArePlain (with_id base reference (member (codes "properties") (object group) (with_types types no_members)))
-id_plain base None types group p = (p, leads_types (codes "properties") types refl, types_plain types)
-id_plain base (Some reference) types group p = (tt, (refl, leads_types (codes "id") types refl), (p, leads_types (codes "properties") types refl, types_plain types))
-
-item_plain : (base : Chars) (root : Facts) (pairs : List (Chars × Data)) → AllPlain pairs → IsPlain (item_of base root pairs)
-item_plain base root pairs p = id_plain base root.item_id root.types (grouped pairs) (grouped_plain pairs p)
+item_sound : (n : ℕ) (base : Chars) (root : Facts) (pairs : List (Chars × Data)) → Each (HasSound n) pairs → Sound (n + 3) (item_of base root pairs)
+item_sound n base root pairs p = by root.item_id (grouped_sound n pairs p) (types_sound n root.types)
+  where
+    by : (id : Option Chars) → AreSound (suc n) (grouped pairs) → AreSound (suc n) (with_types root.types no_members)
+        → Sound (n + 3) (object (with_id base id (member (codes "properties") (object (grouped pairs)) (with_types root.types no_members))))
+    by None group types = ((group.0, leads_types (codes "properties") root.types refl, types.0), omega (arith, group.1, types.1))
+    by (Some id) group types =
+        ((tt, (refl, leads_types (codes "id") root.types refl), (group.0, leads_types (codes "properties") root.types refl, types.0)), omega (arith, group.1, types.1))
 
 abbrev pub both : Chars → Data → Chars × Data
 both name value = (name, value)
 
-named_plain : (names : List Chars) (value : Data) → IsPlain value → AllPlain (map (λ name. both name value) names)
-named_plain [] value p = tt
-named_plain (name ∷ names) value p = (p, named_plain names value p)
+named_sound : (n : ℕ) (names : List Chars) (value : Data) → Sound n value → Each (HasSound n) (map (λ name. both name value) names)
+named_sound n [] value v = tt
+named_sound n (name ∷ names) value v = (v, named_sound n names value v)
 
 module _ (of_each : Placed → List Placed) (base : Chars) where
   abbrev value_in : ℕ → Placed → Data
@@ -80,31 +84,48 @@ module _ (of_each : Placed → List Placed) (base : Chars) where
     | false ↦ string_of (said base e.facts.value)
   ]
 
-  value_plain : (left : ℕ) → ((root : Placed) → IsPlain (json_of_item of_each base left root)) → (e : Placed) → IsPlain (value_in left e)
-  value_plain left items e = by (is_item e)
+  pairs_sound : (left n : ℕ) → ((root : Placed) → Sound n (json_of_item of_each base left root)) → (es : List Placed) → Each (HasSound n) (flat_map (λ e. named e (value_in left e)) es)
+  pairs_sound left n items [] = tt
+  pairs_sound left n items (e ∷ es) =
+      each_append (HasSound n) (named e (value_in left e)) (flat_map (λ e. named e (value_in left e)) es) (named_sound n (names_of e) (value_in left e) (by (is_item e))) (pairs_sound left n items es)
     where
-      by : (b : Bool) → IsPlain (elim b as (λ nested. Data) [ true ↦ json_of_item of_each base left e | false ↦ string_of (said base e.facts.value) ])
+      by : (b : Bool) → Sound n (elim b as (λ nested. Data) [ true ↦ json_of_item of_each base left e | false ↦ string_of (said base e.facts.value) ])
       by true = items e
-      by false = tt
+      by false = (tt, omega arith)
 
-  pairs_plain : (left : ℕ) → ((root : Placed) → IsPlain (json_of_item of_each base left root)) → (es : List Placed) → AllPlain (flat_map (λ e. named e (value_in left e)) es)
-  pairs_plain left items [] = tt
-  pairs_plain left items (e ∷ es) =
-      both_plain (named e (value_in left e)) (flat_map (λ e. named e (value_in left e)) es) (named_plain (names_of e) (value_in left e) (value_plain left items e)) (pairs_plain left items es)
+  each_sound : (left : ℕ) (root : Placed) → Sound (left * 3) (json_of_item of_each base left root)
+  each_sound zero root = (tt, omega arith)
+  each_sound (suc left) root =
+      let item = item_sound (left * 3) base root.facts (flat_map (λ e. named e (value_in left e)) (of_each root)) (pairs_sound left (left * 3) (λ r. each_sound left r) (of_each root)) in
+      (item.0, omega (arith, item.1))
 
-  each_plain : (left : ℕ) (root : Placed) → IsPlain (json_of_item of_each base left root)
-  each_plain zero root = tt
-  each_plain (suc left) root = item_plain base root.facts (flat_map (λ e. named e (value_in left e)) (of_each root)) (pairs_plain left (λ r. each_plain left r) (of_each root))
+  all_sound : (left : ℕ) (items : List Placed) → ArePlain (list_of (map (json_of_item of_each base left) items)) × (items_depth (list_of (map (json_of_item of_each base left) items)) ≤ left * 3)
+  all_sound left [] = (tt, omega arith)
+  all_sound left (e ∷ items) = let one = each_sound left e in let rest = all_sound left items in ((one.0, rest.0), omega (arith, one.1, rest.1))
 
-  all_plain : (left : ℕ) (items : List Placed) → ArePlain (list_of (map (json_of_item of_each base left) items))
-  all_plain left [] = tt
-  all_plain left (e ∷ items) = (each_plain left e, all_plain left items)
+  pub json_sound : (left : ℕ) (items : List Placed) → Sound (left * 3 + 2) (json_by of_each base left items)
+  json_sound left items = let all = all_sound left items in ((all.0, tt, tt), omega (arith, all.1))
 
-  pub json_plain : (left : ℕ) (items : List Placed) → IsPlain (json_by of_each base left items)
-  json_plain left items = (all_plain left items, tt, tt)
+-- ---- the value that is given is the JSON
+
+not_given : (kind : Kind) (visit : Visit) (value : Data) → refused kind visit ≡ Given value → ⊥
+not_given kind [] value e = cc
+not_given kind (root ∷ above) value e = cc
+
+given_sound : (bounds : Bounds) (page : List Placed) (base : Chars) (value : Data) → outcome_of bounds page base ≡ Given value → Sound (bounds.nested * 3 + 2) value
+given_sound bounds page base value e = by (first_fault bounds 0 (visits_by (properties page) bounds (filter is_top_level page))) e
+  where
+    whole : Data
+    whole = json_by (properties page) base bounds.nested (filter is_top_level page)
+
+    by : (x : Option (Kind × Visit)) → elim x as (λ found. Outcome) [ None ↦ Given whole | Some found ↦ refused found.0 found.1 ] ≡ Given value → Sound (bounds.nested * 3 + 2) value
+    by None k =
+        let same : whole ≡ value = (cc) in
+        subst (Sound (bounds.nested * 3 + 2)) same (json_sound (properties page) base bounds.nested (filter is_top_level page))
+    by (Some found) k = absurd (not_given found.0 found.1 value k)
+
+pub json_nests : JsonNests
+json_nests page base value e = (given_sound standard_bounds page base value e).1
 
 pub json_is_read_back : JsonIsReadBack
-json_is_read_back page base value e =
-    let plain : IsPlain value = subst (λ (d : Data). IsPlain d) (given_is standard_bounds page base value e) (json_plain (properties page) base standard_bounds.nested (filter is_top_level page)) in
-    let most = json_nests page base value e in
-    read_back value plain (omega (arith, most))
+json_is_read_back page base value e = let s = given_sound standard_bounds page base value e in read_back value s.0 (omega (arith, s.1))

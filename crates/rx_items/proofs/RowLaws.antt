@@ -1,5 +1,5 @@
 -- The rows of a page come to what the page comes to.
-use Rattle.rx_items.proofs.Common.{list_any, cons_option, refl, sym, ap, subst, ◌∙◌, Chars, or_parts, and_right, and_left, inl, inr, Tree, Facts, Placed, elements_of, is_item, names_of, is_top_level, is_any, is_same_id, has_id, first_with_id, properties, is_before, reaches_by_scope, is_scope, is_property_by_scope, outcome_by, first, later, contradiction, or_left, or_right, and_parts, found_first, kept, matters, rows_from, rows_of, properties_in, RowsSuffice, append-nil}
+use Rattle.rx_items.proofs.Common.{list_any, cons_option, refl, sym, ap, subst, ◌∙◌, Chars, and_right, and_left, inl, inr, Tree, Facts, Placed, elements_of, is_item, names_of, is_top_level, is_any, is_same_id, has_id, first_with_id, properties, is_before, reaches_by_scope, is_scope, is_property_by_scope, outcome_by, first, later, contradiction, or_left, or_right, and_parts, found_first, kept, matters, rows_from, rows_of, properties_in, RowsSuffice, append-nil}
 use Rattle.std.specs.Prelude.{not, ◌&&◌, ◌||◌, ◌==◌, is_some, unwrap_or, ◌≡◌, ℕ, ◌≤◌, Bool, true, false, cond, ◌⊎◌, List, [], ◌∷◌, map, filter, filter_map, find, Contains, Option, Some, None, option_map}
 use Rattle.rx_microdata.proofs.Scopes.{scopes}
 use Rattle.rx_microdata.proofs.ScopesList.{list as scopes_list}
@@ -16,36 +16,17 @@ module _ (f : Placed → Placed) (p q : Placed → Bool) where
   filter_moved (x ∷ xs) same fails =
       by (is_row x) refl (filter_moved xs (λ e h. same e (later x e xs h)) (λ e h. fails e (later x e xs h)))
     where
-      chosen : (b c : Bool) → b ≡ c → filter q (map f (filter is_row xs)) ≡ map f (filter p xs)
-          → cond b (f x ∷ filter q (map f (filter is_row xs))) (filter q (map f (filter is_row xs))) ≡ map f (cond c (x ∷ filter p xs) (filter p xs))
-      chosen true true e h = ap (λ l. f x ∷ l) h
-      chosen true false e h = contradiction true refl e
-      chosen false true e h = contradiction false e refl
-      chosen false false e h = h
+      chosen : (b : Bool) → filter q (map f (filter is_row xs)) ≡ map f (filter p xs)
+          → cond b (f x ∷ filter q (map f (filter is_row xs))) (filter q (map f (filter is_row xs))) ≡ map f (cond b (x ∷ filter p xs) (filter p xs))
+      chosen true h = ap (λ l. f x ∷ l) h
+      chosen false h = h
 
       by : (b : Bool) → is_row x ≡ b → filter q (map f (filter is_row xs)) ≡ map f (filter p xs)
           → filter q (map f (cond b (x ∷ filter is_row xs) (filter is_row xs))) ≡ map f (cond (p x) (x ∷ filter p xs) (filter p xs))
-      by true e h = chosen (q (f x)) (p x) (same x (first x xs) e) h
+      by true e h = ap (λ c. cond c (f x ∷ filter q (map f (filter is_row xs))) (filter q (map f (filter is_row xs)))) (same x (first x xs) e) ∙ chosen (p x) h
       by false e h = h ∙ ap (λ c. map f (cond c (x ∷ filter p xs) (filter p xs))) (sym (fails x (first x xs) e))
 
--- what matters
-no_item : (facts : Facts) → matters facts ≡ false → facts.is_item ≡ false
-no_item facts h = (or_parts facts.is_item _ h).0
-
-no_names : (facts : Facts) → matters facts ≡ false → is_any (unwrap_or facts.names []) ≡ false
-no_names facts h = by facts.names (or_parts (is_some facts.names) _ (or_parts facts.is_item _ h).1).0
-  where
-    by : (o : Option (List Chars)) → is_some o ≡ false → is_any (unwrap_or o []) ≡ false
-    by None e = refl
-    by (Some names) e = contradiction true refl e
-
-no_id : (facts : Facts) (token : Chars) → matters facts ≡ false → is_same_id token facts.id ≡ false
-no_id facts token h = by facts.id (or_parts (is_some facts.names) _ (or_parts facts.is_item _ h).1).1
-  where
-    by : (o : Option Chars) → is_some o ≡ false → is_same_id token o ≡ false
-    by None e = refl
-    by (Some id) e = contradiction true refl e
-
+-- what matters, and so what doesn't
 item_matters : (facts : Facts) → facts.is_item ≡ true → matters facts ≡ true
 item_matters facts h = or_left facts.is_item (is_some facts.names || is_some facts.id) h
 
@@ -65,22 +46,24 @@ named_matters facts h =
     by None e = contradiction false e refl
     by (Some names) e = refl
 
+not_so : (test : Bool) (facts : Facts) → (test ≡ true → matters facts ≡ true) → matters facts ≡ false → test ≡ false
+not_so true facts f h = contradiction (matters facts) (f refl) h
+not_so false facts f h = refl
+
 module _ (f : Placed → Placed) (ids : (token : Chars) (e : Placed) → has_id token (f e) ≡ has_id token e) where
   first_moved : (token : Chars) (xs : List Placed) → find (has_id token) (map f (filter is_row xs)) ≡ option_map f (find (has_id token) xs)
   first_moved token [] = refl
   first_moved token (x ∷ xs) = by (is_row x) refl (first_moved token xs)
     where
-      chosen : (c d : Bool) → c ≡ d → find (has_id token) (map f (filter is_row xs)) ≡ option_map f (find (has_id token) xs)
-          → cond c (Some (f x)) (find (has_id token) (map f (filter is_row xs))) ≡ option_map f (cond d (Some x) (find (has_id token) xs))
-      chosen true true e h = refl
-      chosen true false e h = contradiction true refl e
-      chosen false true e h = contradiction false e refl
-      chosen false false e h = h
+      chosen : (c : Bool) → find (has_id token) (map f (filter is_row xs)) ≡ option_map f (find (has_id token) xs)
+          → cond c (Some (f x)) (find (has_id token) (map f (filter is_row xs))) ≡ option_map f (cond c (Some x) (find (has_id token) xs))
+      chosen true h = refl
+      chosen false h = h
 
       by : (b : Bool) → is_row x ≡ b → find (has_id token) (map f (filter is_row xs)) ≡ option_map f (find (has_id token) xs)
           → find (has_id token) (map f (cond b (x ∷ filter is_row xs) (filter is_row xs))) ≡ option_map f (cond (has_id token x) (Some x) (find (has_id token) xs))
-      by true e h = chosen (has_id token (f x)) (has_id token x) (ids token x) h
-      by false e h = h ∙ ap (λ c. option_map f (cond c (Some x) (find (has_id token) xs))) (sym (no_id x.facts token e))
+      by true e h = ap (λ c. cond c (Some (f x)) (find (has_id token) (map f (filter is_row xs)))) (ids token x) ∙ chosen (has_id token x) h
+      by false e h = h ∙ ap (λ c. option_map f (cond c (Some x) (find (has_id token) xs))) (sym (not_so (has_id token x) x.facts (id_matters x.facts token) e))
 
 module _ (tree : Tree) where
   abbrev page : List Placed
@@ -188,7 +171,7 @@ module _ (tree : Tree) where
       ap (λ rows. properties_in rows (move root)) rows_moved
       ∙ filter_moved move (is_property_by_scope page root) (is_property_by_scope (map move (filter is_row page)) (move root)) page
       (λ e h t. test_same root e g.0 (h, t))
-      (λ e h t. and_left (not (root.place == e.place) && is_any (names_of e)) _ (and_right (not (root.place == e.place)) _ (no_names e.facts t)))
+      (λ e h t. and_left (not (root.place == e.place) && is_any (names_of e)) _ (and_right (not (root.place == e.place)) _ (not_so (is_any (names_of e)) e.facts (named_matters e.facts) t)))
       ∙ ap (map move) (sym (scopes_list tree root (g.0).0 g.1))
 
   each_of : (P : Placed → Type 0) (xs : List Placed) → ((e : Placed) → Contains xs e → P e) → Each P xs
@@ -209,7 +192,7 @@ module _ (tree : Tree) where
   tops_moved : filter is_top_level (rows_of tree) ≡ map move (filter is_top_level page)
   tops_moved =
       ap (filter is_top_level) rows_moved
-      ∙ filter_moved move is_top_level is_top_level page (λ e h t. refl) (λ e h t. and_left (is_item e) _ (no_item e.facts t))
+      ∙ filter_moved move is_top_level is_top_level page (λ e h t. refl) (λ e h t. and_left (is_item e) _ (not_so (is_item e) e.facts (item_matters e.facts) t))
 
   tops_good : Each (Item Good) (filter is_top_level page)
   tops_good = each_of (Item Good) (filter is_top_level page) (λ e h.

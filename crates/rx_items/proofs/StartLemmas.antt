@@ -17,12 +17,12 @@ nests_at ps i j s e pairs g h = each_at (Nests s) ps j e (each_at (λ s. Each (N
 abbrev pub end_by : Bool → ℕ → ℕ → ℕ
 end_by item place past = cond item (place + 1) past
 
-module _ (ps : List Placed) (size : ℕ) (numbered : Numbered 0 ps) (fits : Each (Fits None 0 size) ps) (pairs : Pairs ps ps) (start : Placed) (place : ℕ) (there : slice_get ps place ≡ Some start) where
+module _ (ps : List Placed) (size : ℕ) (numbered : Numbered 0 ps) (fits : Each (Fits None 0 size ps) ps) (pairs : Pairs ps ps) (start : Placed) (place : ℕ) (there : slice_get ps place ≡ Some start) where
   at_start : start.place ≡ place
   at_start = place_is ps place start numbered there
 
-  fit : Fits None 0 size start
-  fit = each_at (Fits None 0 size) ps place start fits there
+  fit : Fits None 0 size ps start
+  fit = each_at (Fits None 0 size ps) ps place start fits there
 
   pub run_reaches : (x : ℕ) → InRange ps start.scope place (end_by (is_item start) place start.past) x → Reached ps start x
   run_reaches x r =

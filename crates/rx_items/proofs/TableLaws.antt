@@ -14,8 +14,8 @@ use Rattle.rx_items.proofs.ShowLemmas.{stands_more, OwnFrom, OwnsFrom, rows_more
 use Rattle.rx_items.proofs.TakenLemmas.{More, more_then, all_words, words_shown, marks_matter, ShowsTaken, taken_shown, taken_on, any_names}
 use Rattle.rx_items.proofs.NestLemmas.{not_item}
 
--- what some nodes, with this text and own text, add below an open element: these rows
-record Grown (at : Open) (g : Growing) (all own : Chars) (ps : List Placed) (later : Growing) : Type 0 where
+-- an element that gathers, or doesn't, is open: these rows are added, and this text and these times, to those that there are
+record Added (gathers : Bool) (from : List Chars) (g : Growing) (all : Chars) (ps : List Placed) (later : Growing) : Type 0 where
   new : List Row
   rows : later.rows ≡ g.rows ++ new
   line : later.line ≡ g.line
@@ -23,26 +23,19 @@ record Grown (at : Open) (g : Growing) (all own : Chars) (ps : List Placed) (lat
   words : later.words ≡ g.words ++ more_words
   more_text : Chars
   text_is : later.text ≡ g.text ++ more_text
-  gathered : at.gathers ≡ true → more_text ≡ all
+  gathered : gathers ≡ true → more_text ≡ all
   more_times : List Chars
-  times : later.times ≡ with_said at.own own g.times ++ more_times
+  times : later.times ≡ from ++ more_times
   shown : ShowsRows later.words later.text later.times new ps
   owns : OwnsFrom (length g.times) new
 
+-- what some nodes, with this text and own text, add below an open element
+abbrev Grown : Open → Growing → Chars → Chars → List Placed → Growing → Type 0
+Grown at g all own ps later = Added at.gathers (with_said at.own own g.times) g all ps later
+
 -- at first the rows of one element, g to mid, and then those of what follows it
-record Begun (at : Open) (g : Growing) (all : Chars) (ps : List Placed) (mid : Growing) : Type 0 where
-  new : List Row
-  rows : mid.rows ≡ g.rows ++ new
-  line : mid.line ≡ g.line
-  more_words : Chars
-  words : mid.words ≡ g.words ++ more_words
-  more_text : Chars
-  text_is : mid.text ≡ g.text ++ more_text
-  gathered : at.gathers ≡ true → more_text ≡ all
-  more_times : List Chars
-  times : mid.times ≡ g.times ++ more_times
-  shown : ShowsRows mid.words mid.text mid.times new ps
-  owns : OwnsFrom (length g.times) new
+abbrev Begun : Open → Growing → Chars → List Placed → Growing → Type 0
+Begun at g all ps mid = Added at.gathers g.times g all ps mid
 
 own_grows : (own : Option ℕ) (low high : ℕ) → low ≤ high → OwnIn own low → OwnIn own high
 own_grows None low high l o = tt
@@ -124,21 +117,11 @@ rows_length : (scope : Option ℕ) (place : ℕ) (tree : Tree) → length (rows_
 rows_length scope place end = refl
 rows_length scope place (element tag inner more) =
     let b : Bool = matters (facts_of tag inner) in
-    let p : Placed = record { place = place; past = behind b place + row_count inner; scope = scope; facts = needed (facts_of tag inner) } in
-    let ins : List Placed = rows_from (scope_in tag place scope) (behind b place) inner in
-    let aft : List Placed = rows_from scope (behind b place + row_count inner) more in
-    let both = length-append ins aft in
-    let i = rows_length (scope_in tag place scope) (behind b place) inner in
-    let m = rows_length scope (behind b place + row_count inner) more in
-    by b p (ins ++ aft) ∙ with_sum b (length (ins ++ aft)) (row_count inner) (row_count more) (both ∙ (λ k. i k + m k))
+    counted b _ _ _ _ _ (rows_length (scope_in tag place scope) (behind b place) inner) (rows_length scope (behind b place + row_count inner) more)
   where
-    by : (b : Bool) (p : Placed) (rows : List Placed) → length (with_row b p rows) ≡ behind b (length rows)
-    by true p rows = refl
-    by false p rows = refl
-
-    with_sum : (b : Bool) (n i m : ℕ) → n ≡ i + m → behind b n ≡ behind b i + m
-    with_sum true n i m e = omega (arith, e)
-    with_sum false n i m e = e
+    counted : (b : Bool) (p : Placed) (xs ys : List Placed) (n m : ℕ) → length xs ≡ n → length ys ≡ m → length (with_row b p (xs ++ ys)) ≡ behind b n + m
+    counted true p xs ys n m e f = omega (arith, length-append xs ys, e, f)
+    counted false p xs ys n m e f = omega (arith, length-append xs ys, e, f)
 rows_length scope place (text chars more) = rows_length scope place more
 
 -- an element that is no row

@@ -1,11 +1,11 @@
 -- The visit of an item, and those of its properties.
-use Rattle.rx_items.proofs.Common.{◌≡◌, ◌∙◌, ◌+◌, ◌<◌, ◌≤◌, ℕ, zero, suc, Bool, true, false, cond, List, [], ◌∷◌, ◌++◌, length, take, drop, get_or, Option, Some, None, option_map, refl, sym, ap, subst, arith, nat_lt, append_assoc, ◌==◌, nat_le, flat_map, slice_get, Result, Ok, Err, IsErrAnd, list_any, option_or, Chars, append-nil, Kind, Cycle, ItemsTooNested, ItemsTooMany, Stop, Placed, Visit, visits_from, standard_bounds, fault_of, first_fault, is_cycle, items_in, Refused, properties_in, AllStand, places, At, path_of, kind_of, NoFault, FaultIs, HasFault, Finds, Enters, Step, steps_of, steps_in, visits_in, flat_map-append}
+use Rattle.rx_items.proofs.Common.{◌≡◌, ◌∙◌, ◌+◌, ◌<◌, ◌≤◌, ℕ, zero, suc, Bool, true, false, cond, List, [], ◌∷◌, ◌++◌, length, drop, get_or, Option, Some, None, option_map, refl, sym, ap, subst, arith, ◌==◌, nat_le, flat_map, slice_get, Result, Ok, Err, IsErrAnd, list_any, option_or, Chars, Kind, Cycle, ItemsTooNested, ItemsTooMany, Stop, Placed, Visit, visits_from, standard_bounds, fault_of, first_fault, is_cycle, items_in, Refused, properties_in, AllStand, places, At, path_of, kind_of, NoFault, HasFault, Finds, Enters, steps_in, visits_in}
+use Rattle.rx_terms.proofs.Bools.{by_test}
 use Rattle.rx_grammar.specs.declared.stops.Stop.TheVariants as stop
 use Rattle.rx_items.specs.declared.kept.Element.{Element}
 use Rattle.rx_items.specs.declared.kept.Kept.{Kept}
 use Rattle.rx_items.specs.declared.visits.Trail.{Trail}
-use Rattle.rx_items.proofs.FoundLemmas.{fault_is, path_size, steps_visits, fault_stays}
-use Rattle.rx_items.proofs.TakeLemmas.{cut_at, one_more}
+use Rattle.rx_items.proofs.FoundLemmas.{fault_is, path_size, steps_visits}
 use Rattle.rx_items.proofs.HoldLemmas.{place_is}
 
 -- what `?` hands on
@@ -18,26 +18,6 @@ at_path other e at = record { holds = at.holds; path_is = e ∙ at.path_is; deep
 
 pub no_element : (rows : List Placed) (place : ℕ) (e : Placed) → slice_get rows place ≡ Some e → slice_get rows place ≡ None → ⊥
 no_element rows place e row none = let found : Some e ≡ None = sym row ∙ none in cc (found)
-
-module _ (rows : List Placed) (base : Chars) (above : Visit) (left : ℕ) where
-  -- ---- properties in a row
-
-  pub steps_one : (es : List Placed) (i : ℕ) (e : Placed) → i < length es → e ≡ get_or es i e → steps_in (take (i + 1) es) ≡ steps_in (take i es) ++ steps_of e
-  steps_one es i e lt is =
-      ap steps_in (one_more es i e lt) ∙ flat_map-append steps_of (take i es) (get_or es i e ∷ []) ∙ ap (λ (l : List Step). steps_in (take i es) ++ l) (append-nil (steps_of (get_or es i e)))
-      ∙ ap (λ (x : Placed). steps_in (take i es) ++ steps_of x) (sym is)
-
-  pub property_err : (start : ℕ) (es : List Placed) (i : ℕ) (e : Placed) (x : Stop) → i < length es → e ≡ get_or es i e
-      → HasFault start (visits_in rows base above left (steps_in (take i es) ++ steps_of e)) x → HasFault start (visits_in rows base above left (steps_in es)) x
-  property_err start es i e stop.NoMemory lt is f = tt
-  property_err start es i e (stop.Fault fault) lt is f =
-      let all : steps_in es ≡ (steps_in (take i es) ++ steps_of e) ++ steps_in (drop (i + 1) es) =
-      ap steps_in (cut_at es i e lt) ∙ flat_map-append steps_of (take i es) (get_or es i e ∷ drop (i + 1) es)
-      ∙ sym (append_assoc (steps_in (take i es)) (steps_of (get_or es i e)) (steps_in (drop (i + 1) es)))
-      ∙ ap (λ (x : Placed). (steps_in (take i es) ++ steps_of x) ++ steps_in (drop (i + 1) es)) (sym is) in
-      subst (λ (steps : List Step). FaultIs start (visits_in rows base above left steps) fault) (sym all)
-      (fault_stays rows base above left start (steps_in (take i es) ++ steps_of e) (steps_in (drop (i + 1) es)) fault f)
-  -- ---- a value
 
 -- the row that a place of the list stands for
 pub record RowAt (rows es : List Placed) (i place : ℕ) : Type 0 where
@@ -86,11 +66,7 @@ pub told : {X : Type 0} (start after : ℕ) (visits : List Visit) (Given : X →
 told {X} start after visits Given r x is f = err_told (λ (r : Result X Stop). Finds {X = X} start visits after Given r) r x is f
 
 not_cycle : (before : ℕ) (visit : Visit) → fault_of standard_bounds before visit ≡ None → is_cycle visit ≡ false
-not_cycle before visit none = by (is_cycle visit) none
-  where
-    by : (b : Bool) → cond b (Some Cycle) (cond (nat_lt 40 (length visit)) (Some ItemsTooNested) (cond (nat_le 100000 before) (Some ItemsTooMany) None)) ≡ None → b ≡ false
-    by true e = absurd (cc (e))
-    by false e = refl
+not_cycle before visit none = by_test (is_cycle visit) (λ t. let some = rw t at none in absurd (cc (some))) (λ t. t)
 
 not_deep : (path : List ℕ) (visits place : ℕ) → kind_of path visits place ≡ None → nat_le 40 (length path) ≡ false
 not_deep path visits place none = by (list_any (λ (x : ℕ). x == place) path) (nat_le 40 (length path)) none

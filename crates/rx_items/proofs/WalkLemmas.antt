@@ -1,8 +1,9 @@
 -- The members of rows, item by item.
-use Rattle.rx_items.proofs.Common.{◌≡◌, ◌∙◌, ◌+◌, ◌-◌, ◌<◌, ◌≤◌, ◌==◌, ◌&&◌, nat_lt, ℕ, suc, Bool, true, false, cond, List, [], ◌∷◌, ◌++◌, length, get_or, Contains, Option, Some, None, refl, sym, ap, subst, arith, slice_get, ⊤, Contains-get_or, Contains-append_left, Contains-append_cases, Contains-push, Contains-push_cases, IsNonDecreasingBy-push, cases_lt, eqb-true, eq-eqb, ltb-true, lt-ltb, le-ltb, append-nil, get_or_default, ◌⊎◌, inl, inr, and_parts, and_of, Adds, AddsItem, AllBelow, AreBelow, AreMembers, FirstBelow, IsNamed, Rises, key_at, key_of, next_place, scope_number, scope_of, slice_get_within}
+use Rattle.rx_items.proofs.Common.{◌≡◌, ◌∙◌, ◌+◌, ◌-◌, ◌<◌, ◌≤◌, ◌==◌, ◌&&◌, nat_lt, ℕ, suc, Bool, true, false, cond, List, [], ◌∷◌, ◌++◌, length, get_or, Contains, Option, Some, None, refl, sym, ap, subst, arith, slice_get, ⊤, Contains-get_or, Contains-append_left, Contains-append_cases, Contains-push, Contains-push_cases, IsNonDecreasingBy-push, cases_lt, eqb-true, eq-eqb, ltb-true, lt-ltb, le-ltb, append-nil, get_or_default, none, ◌⊎◌, inl, inr, and_parts, and_of, Adds, AddsItem, AllBelow, AreBelow, AreMembers, FirstBelow, IsNamed, Rises, key_at, key_of, next_place, scope_number, scope_of, slice_get_within}
+use Rattle.rx_model.proofs.Common.{⊎_elim}
 use Rattle.rx_items.specs.declared.rows.Row.{Row}
 use Rattle.rx_items.specs.Lying.{Lies}
-use Rattle.rx_items.proofs.BuildLemmas.{same_there}
+use Rattle.rx_items.proofs.TakeLemmas.{same_there}
 use Rattle.rx_items.proofs.MemberLemmas.{same_number}
 
 -- ---- members that rise
@@ -15,12 +16,8 @@ pub rises_push : (rows : List Row) (members : List ℕ) (x more : ℕ) → key_a
 rises_push rows members x more lt up below = (
   IsNonDecreasingBy-push (key_at rows) members x up
       (λ d some. let under = below (get_or members (length members - 1) d) (Contains-get_or members (length members - 1) d (omega (arith, some))) in omega (arith, under)),
-  (λ y c. by y (Contains-push_cases members x y c)),
+  (λ y c. ⊎_elim (λ d. omega (arith, lt, below y d)) (λ is. subst (λ n. key_at rows n < more) is lt) (Contains-push_cases members x y c)),
 )
-  where
-    by : (y : ℕ) → Contains members y ⊎ (x ≡ y) → key_at rows y < more
-    by y (inl c) = let under = below y c in omega (arith, lt, under)
-    by y (inr is) = subst (λ n. key_at rows n < more) is lt
 
 -- ---- the rows with one item around
 
@@ -67,16 +64,10 @@ module _ (rows : List Row) (scope : Option ℕ) (from place : ℕ) (initial old 
       ap (λ (o : Option Row). key_of (scope_of o) place) there ∙ ap (λ (o : Option ℕ). key_of o place) same
 
   only_rows : (b : Bool) → (row.head.named && (scope_number row.scope == scope_number scope)) ≡ b → (x : ℕ) → Contains (old ++ cond b (place ∷ []) []) x → Contains initial x ⊎ IsNamed rows x
-  only_rows true e x c = go (Contains-push_cases old place x c)
-    where
-      go : Contains old x ⊎ (place ≡ x) → Contains initial x ⊎ IsNamed rows x
-      go (inl d) = a.only x d
-      go (inr is) = inr (record { row = row; is = ap (slice_get rows) (sym is) ∙ there; named = (and_parts row.head.named (scope_number row.scope == scope_number scope) e).0 })
-  only_rows false e x c = go (Contains-append_cases old [] x c)
-    where
-      go : Contains old x ⊎ Contains [] x → Contains initial x ⊎ IsNamed rows x
-      go (inl d) = a.only x d
-      go (inr d) = let lt = d.1 in absurd (omega (arith, lt))
+  only_rows true e x c =
+      ⊎_elim (λ d. a.only x d) (λ is. inr (record { row = row; is = ap (slice_get rows) (sym is) ∙ there; named = (and_parts row.head.named (scope_number row.scope == scope_number scope) e).0 }))
+      (Contains-push_cases old place x c)
+  only_rows false e x c = ⊎_elim (λ d. a.only x d) (λ d. none x d) (Contains-append_cases old [] x c)
 
   rises_by : (b : Bool) → (row.head.named && (scope_number row.scope == scope_number scope)) ≡ b → Rises rows old → AllBelow rows old (key_of scope place) → Rises rows new × AllBelow rows new (key_of scope (next_place row place))
   rises_by true e up below =
@@ -165,19 +156,14 @@ pub record Done (rows : List Row) (place : ℕ) (members : List ℕ) : Type 0 wh
 
 pub done_first : (rows : List Row) (members : List ℕ) → Adds rows None 0 (length rows) 18446744073709551615 [] members → Done rows 0 members
 done_first rows members a =
-    let none : AllBelow rows [] (key_of None 0) = λ x c. let lt = c.1 in absurd (omega (arith, lt)) in
-    let r = a.rises (λ i j d le lt. absurd (omega (arith, lt))) none in
+    let r = a.rises (λ i j d le lt. absurd (omega (arith, lt))) (λ x c. none x c) in
     record {
-      only = λ x c. by x (a.only x c);
+      only = λ x c. ⊎_elim (λ d. none x d) (λ n. n) (a.only x c);
       all = λ lies x row is named done. all lies x row is named row.scope refl done;
       up = r.0;
       below = below_more rows members (key_of None 18446744073709551615) (key_of (Some 0) 0) (omega arith) r.1;
     }
   where
-    by : (x : ℕ) → Contains [] x ⊎ IsNamed rows x → IsNamed rows x
-    by x (inl c) = let lt = c.1 in absurd (omega (arith, lt))
-    by x (inr c) = c
-
     all : Lies rows → (x : ℕ) (row : Row) → slice_get rows x ≡ Some row → row.head.named ≡ true → (o : Option ℕ) → row.scope ≡ o → IsDone o 0 → Contains members x
     all lies x row is named None e done = a.all lies (omega arith) x row (omega arith) (slice_get_within rows x row is) is named e
     all lies x row is named (Some k) e done = absurd (omega (arith, done))
@@ -187,26 +173,19 @@ done_next rows place old new a d =
     let r = a.rises d.up d.below in
     let next : suc place ≡ place + 1 = omega arith in
     record {
-      only = λ x c. by x (a.only x c);
+      only = λ x c. ⊎_elim (λ o. d.only x o) (λ n. n) (a.only x c);
       all = λ lies x row is named done. all lies x row is named row.scope refl done;
       up = r.0;
       below = subst (λ n. AllBelow rows new (key_of (Some n) 0)) next r.1;
     }
   where
-    by : (x : ℕ) → Contains old x ⊎ IsNamed rows x → IsNamed rows x
-    by x (inl c) = d.only x c
-    by x (inr c) = c
-
     before : Lies rows → (x : ℕ) (row : Row) → slice_get rows x ≡ Some row → row.head.named ≡ true → (o : Option ℕ) → row.scope ≡ o → IsDone o place → Contains new x
     before lies x row is named o e done = a.kept x (d.all lies x row is named (subst (λ (o : Option ℕ). IsDone o place) (sym e) done))
 
     all : Lies rows → (x : ℕ) (row : Row) → slice_get rows x ≡ Some row → row.head.named ≡ true → (o : Option ℕ) → row.scope ≡ o → IsDone o (place + 1) → Contains new x
     all lies x row is named None e done = before lies x row is named None e tt
-    all lies x row is named (Some k) e done = go (cases_lt k place)
-      where
-        go : (k < place) ⊎ (place ≤ k) → Contains new x
-        go (inl lt) = before lies x row is named (Some k) e lt
-        go (inr le) = let same : k ≡ place = omega (arith, le, done) in a.all lies x row is named (e ∙ ap Some same)
+    all lies x row is named (Some k) e done =
+        ⊎_elim (λ lt. before lies x row is named (Some k) e lt) (λ le. let same : k ≡ place = omega (arith, le, done) in a.all lies x row is named (e ∙ ap Some same)) (cases_lt k place)
 
 pub done_all : (rows : List Row) (place : ℕ) (members : List ℕ) → length rows ≤ place → Done rows place members → Lies rows → AreMembers rows members
 done_all rows place members past d lies x = (

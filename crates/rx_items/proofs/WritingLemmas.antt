@@ -9,7 +9,8 @@ use Rattle.rx_json.proofs.GrowLemmas.{one, none, both, told_as, each_more, objec
 use Rattle.rx_items.specs.declared.kept.Kept.{Kept}
 use Rattle.rx_items.specs.declared.named.Named.{Named}
 use Rattle.rx_items.proofs.NameLemmas.{keys_grouped}
-use Rattle.rx_items.proofs.PageLemmas.{row_data, all_data}
+use Rattle.rx_items.proofs.PageLemmas.{all_data}
+use Rattle.rx_items.proofs.TakeLemmas.{flat_more}
 
 pub same_list : (ds : List Data) → items_of ds ≡ list_of ds
 same_list [] = refl
@@ -111,13 +112,13 @@ module _ (rows : List Placed) (base : Chars) where
       → Grows old new (each_events (top_data rows base e)) → Grows start new (each_events (flat_map (top_data rows base) (take (i + 1) rows)))
   tops_on i e lt is was turn =
       told_as (each_events (flat_map (top_data rows base) (take i rows)) ++ each_events (top_data rows base e)) (each_events (flat_map (top_data rows base) (take (i + 1) rows)))
-      (sym (each_more (flat_map (top_data rows base) (take i rows)) (top_data rows base e)) ∙ ap each_events (sym (row_data rows base i e lt is))) (both was turn)
+      (sym (each_more (flat_map (top_data rows base) (take i rows)) (top_data rows base e)) ∙ ap each_events (sym (flat_more (top_data rows base) rows i e lt is))) (both was turn)
 
   pub tops_told : {start new : Log} (i : ℕ) → length rows ≤ i → Grows start new (each_events (flat_map (top_data rows base) (take i rows)))
       → Grows start new (each_events (map (json_of_item (properties_in rows) base 40) (filter is_top_level rows)))
   tops_told i over g =
       told_as (each_events (flat_map (top_data rows base) (take i rows))) (each_events (map (json_of_item (properties_in rows) base 40) (filter is_top_level rows)))
-      (ap (λ (ps : List Placed). each_events (flat_map (top_data rows base) ps)) (take_all i rows over) ∙ ap each_events (all_data rows base rows)) g
+      (ap (λ (ps : List Placed). each_events (flat_map (top_data rows base) ps)) (take_all i rows over) ∙ ap each_events (all_data rows base)) g
 
 -- ---- texts
 

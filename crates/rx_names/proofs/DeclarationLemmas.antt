@@ -1,21 +1,11 @@
 -- What a tag declares, one declaration after another.
-use Rattle.rx_terms.proofs.Common.{◌≡◌, ◌≢◌, ◌∙◌, ℕ, ◌+◌, ◌<◌, ap, sym, refl, arith, Bool, true, false, cond, Option, Some, None, List, [], ◌∷◌, ◌++◌, map, reverse, filter, take, drop, length, get_or, bytes_eq, codes, append_assoc, Result, Ok, Err, OnOk, MatchOption, Bor, ◌&&◌, ◌==◌, chars, and_from, nat_tests, lowered_char, colon, Chars, trimmed, lowered, begins_with, seen_slice, has_scheme, ascii-chars, by_test, flat_map-append, bytes_eq-Decides}
-use Rattle.std.proofs.lemmas.List.{map-append, take_more, reverse-append, reverse-reverse, append-nil}
-use Rattle.rx_model.proofs.Sets.{and_right}
-use Rattle.std.specs.List.{flat_map}
-use Rattle.rx_rdfa.specs.Names.{Table, counts, xmlns_of, prefix_name, without_colon, pairs_after}
+use Rattle.rx_names.proofs.Common.{filter-append, ap₂, on_ok_weaker, ◌≡◌, ◌≢◌, ◌∙◌, ℕ, ◌+◌, ◌<◌, ap, sym, refl, arith, Bool, true, false, cond, Option, Some, None, List, [], ◌∷◌, ◌++◌, map, reverse, filter, take, drop, length, get_or, bytes_eq, codes, append_assoc, Result, OnOk, MatchOption, Bor, ◌&&◌, ◌==◌, chars, and_from, nat_tests, lowered_char, colon, Chars, trimmed, lowered, begins_with, seen_slice, has_scheme, ascii-chars, by_test, flat_map-append, bytes_eq-Decides, map-append, take_more, reverse-append, reverse-reverse, append-nil, and_right, flat_map, Table, counts, xmlns_of, prefix_name, without_colon, pairs_after, mapping_rows, prefix_row}
 use Rattle.rx_names.specs.declared.rows.Declaration.{Declaration}
-use Rattle.rx_names.specs.Rows.{mapping_rows, prefix_row}
 
 pub becomes : {A E : Type 0} (r : Result A E) (new a b : List Declaration) → a ≡ b → OnOk r (new ≡ a) → OnOk r (new ≡ b)
-becomes (Ok x) new a b e h = h ∙ e
-becomes (Err x) new a b e h = tt
+becomes r new a b e h = on_ok_weaker r (λ k. k ∙ e) h
 
 -- Mappings
-
-filter-append : {A : Type 0} (p : A → Bool) (xs ys : List A) → filter p (xs ++ ys) ≡ filter p xs ++ filter p ys
-filter-append p [] ys = refl
-filter-append p (x ∷ xs) ys = by_test (p x) (λ t. rw t (ap (λ l. x ∷ l) (filter-append p xs ys))) (λ t. rw t (filter-append p xs ys))
 
 pub mapping-append : (a b : Table) → mapping_rows (a ++ b) ≡ mapping_rows a ++ mapping_rows b
 mapping-append a b = ap (map prefix_row) (filter-append counts a b) ∙ map-append prefix_row (filter counts a) (filter counts b)
@@ -25,9 +15,7 @@ lowered-char c = grind (arith, nat_tests)
 
 pub lowered-lowered : (text : Chars) → lowered (lowered text) ≡ lowered text
 lowered-lowered [] = refl
-lowered-lowered (c ∷ text) = cons_same _ _ _ _ (lowered-char c) (lowered-lowered text) where
-  cons_same : (c d : ℕ) (xs ys : Chars) → c ≡ d → xs ≡ ys → c ∷ xs ≡ d ∷ ys
-  cons_same c d xs ys e f = cc
+lowered-lowered (c ∷ text) = ap₂ ◌∷◌ (lowered-char c) (lowered-lowered text)
 
 pub sound-mapping : (name low iri : Chars) (b : Bool) → low ≡ lowered name → b ≡ counts (low, iri) → b ≡ true → (bytes_eq (lowered low) low && has_scheme iri) ≡ true
 sound-mapping name low iri b e f t =
@@ -41,9 +29,9 @@ pub xmlns-chars : chars (codes "xmlns:") ≡ codes "xmlns:"
 xmlns-chars = ascii-chars (codes "xmlns:") refl
 
 pub no-namespace : (name value : Chars) → begins_with (chars (codes "xmlns:")) name ≡ false → mapping_rows (xmlns_of (name, value)) ≡ []
-no-namespace name value h = let none : begins_with (codes "xmlns:") name ≡ false = sym (ap (λ (x : Chars). begins_with x name) xmlns-chars) ∙ h in ap mapping_rows (go none) where
-  go : begins_with (codes "xmlns:") name ≡ false → xmlns_of (name, value) ≡ []
-  go e = ap (λ b. cond b ((lowered (drop 6 name), trimmed value) ∷ []) []) e
+no-namespace name value h =
+    let none : begins_with (codes "xmlns:") name ≡ false = sym (ap (λ (x : Chars). begins_with x name) xmlns-chars) ∙ h in
+    ap (λ b. mapping_rows (cond b ((lowered (drop 6 name), trimmed value) ∷ []) [])) none
 
 pub one-namespace : (name value rest clean : Chars) → name ≡ chars (codes "xmlns:") ++ rest → clean ≡ trimmed value → mapping_rows ((lowered rest, clean) ∷ []) ≡ mapping_rows (xmlns_of (name, value))
 one-namespace name value rest clean e f =

@@ -1,8 +1,7 @@
 -- Context files, as serde_json reads them.
-use Rattle.rx_terms.proofs.Common.{◌≡◌, ◌∙◌, ◌↔◌, ℕ, Bool, true, false, cond, List, Some, None, sym, ap, IsTrue, option_and_then, IsUtf8, is_utf8, by_test, is_utf8-from_IsUtf8, IsUtf8-from_is_utf8}
+use Rattle.rx_names.proofs.Common.{◌≡◌, ◌∙◌, ◌↔◌, ℕ, Bool, true, false, cond, List, Some, None, sym, ap, IsTrue, option_and_then, IsUtf8, is_utf8, by_test, is_utf8-from_IsUtf8, IsUtf8-from_is_utf8, context_of_data, context_of}
 use Rattle.serde_json.specs.Data.{Data}
 use Rattle.serde_json.specs.Read.{read}
-use Rattle.rx_names.specs.ContextFiles.{context_of_data, context_of}
 
 pub read-context : (bytes : List ℕ) (value : Data) → IsUtf8 bytes → read bytes ≡ Some value → context_of bytes ≡ context_of_data value
 read-context bytes value u e =

@@ -1,7 +1,5 @@
 -- Tables that are written out.
-use Rattle.rx_terms.proofs.Common.{◌≡◌, ◌∙◌, ℕ, suc, zero, ◌<◌, true, false, List, [], ◌∷◌, length, get_or, Option, Some, None, bytes_eq, sym, ap, refl, arith, Bor, not, list_all, option_or, chars, and_parts, IsIri, has_scheme, has_forbidden, is_iri, Chars, lowered, by_test, bytes_eq-Decides}
-use Rattle.rx_rdfa.specs.Names.{Table, value_at}
-use Rattle.rx_names.specs.Tables.{rise}
+use Rattle.rx_names.proofs.Common.{◌≡◌, ◌∙◌, ℕ, suc, zero, ◌<◌, true, false, List, [], ◌∷◌, length, get_or, Option, Some, None, bytes_eq, sym, ap, refl, arith, Bor, not, list_all, option_or, chars, and_parts, IsIri, has_scheme, has_forbidden, is_iri, Chars, lowered, by_test, bytes_eq-Decides, Table, value_at, rise}
 use Rattle.rx_names.specs.Given.{given, are_given, are_lowered}
 use Rattle.rx_names.proofs.TableLemmas.{found-later}
 

@@ -1,3 +1,4 @@
+pub mod Common
 pub mod TagLemmas
 pub mod RowLemmas
 pub mod NumberLemmas

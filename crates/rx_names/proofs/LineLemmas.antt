@@ -1,11 +1,6 @@
 -- What is kept of a line says what the rules say of it.
-use Rattle.rx_terms.proofs.Common.{ap₂, ◌≡◌, ◌∙◌, suc, ◌≤◌, Bool, List, [], ◌∷◌, ◌++◌, map, reverse, filter, length, Option, Some, None, Result, Ok, Err, OnOk, option_map, bytes_eq, codes, sym, ap, subst, refl, arith, length-append, append-nil, option_or, reverse-append, length-map, Chars, trimmed, begins_with, by_test, sum_by-cons}
-use Rattle.std.specs.List.{flat_map}
-use Rattle.rx_rdfa.specs.Tree.{Tag, attribute}
-use Rattle.rx_rdfa.specs.Names.{Context, Table, value_at, counts, xmlns_of, of_prefix, declarations, declared_or, unless_empty, as_lang, prefix, vocab, language}
-use Rattle.rx_names.specs.Rows.{prefix_row, vocabulary_rows, language_rows, language_attribute, rows_of, last_of, prefix_in, vocabulary_in, language_in, flattened, declared, one_if_some}
+use Rattle.rx_names.proofs.Common.{on_ok_weaker, ap₂, ◌≡◌, ◌∙◌, suc, ◌≤◌, Bool, List, [], ◌∷◌, ◌++◌, map, reverse, filter, length, Option, Some, None, Result, OnOk, option_map, bytes_eq, codes, sym, ap, subst, refl, arith, length-append, append-nil, option_or, reverse-append, length-map, Chars, trimmed, begins_with, by_test, sum_by-cons, flat_map, Tag, attribute, Context, Table, value_at, counts, xmlns_of, of_prefix, declarations, declared_or, unless_empty, as_lang, prefix, vocab, language, prefix_row, vocabulary_rows, language_rows, language_attribute, rows_of, last_of, prefix_in, vocabulary_in, language_in, flattened, declared, one_if_some, Kept, kept_of, pushed, NamesStand, prefix_of, vocabulary_of, language_of, declared_along}
 use Rattle.rx_names.specs.declared.rows.Declaration.{Declaration}
-use Rattle.rx_names.specs.Lines.{Kept, kept_of, pushed, NamesStand, prefix_of, vocabulary_of, language_of, declared_along}
 use Rattle.rx_names.proofs.RowLemmas.{last-append, or-none, or-assoc}
 
 -- Prefixes
@@ -99,13 +94,11 @@ none_pushed kept tag e =
 
 pub none_is_pushed : {E : Type 0} (r : Result (Unit {0}) E) (old new : Kept) (tag : Tag) → rows_of tag ≡ []
     → OnOk r (new ≡ record { context = old.context; rows = old.rows; marks = old.marks ++ length old.rows ∷ [] }) → OnOk r (new ≡ pushed old tag)
-none_is_pushed (Ok done) old new tag e h = h ∙ sym (none_pushed old tag e)
-none_is_pushed (Err error) old new tag e h = tt
+none_is_pushed r old new tag e h = on_ok_weaker r (λ k. k ∙ sym (none_pushed old tag e)) h
 
 pub pushed_stands : {E : Type 0} (r : Result (Unit {0}) E) (old new : Kept) (tag : Tag) → OnOk r (new ≡ pushed old tag)
     → OnOk r ((line : List Tag) → NamesStand old line → NamesStand new (tag ∷ line))
-pushed_stands (Ok done) old new tag e = λ line s. subst (λ (k : Kept). NamesStand k (tag ∷ line)) (sym e) (record { is = ap (λ (k : Kept). pushed k tag) s.is })
-pushed_stands (Err error) old new tag e = tt
+pushed_stands r old new tag e = on_ok_weaker r (λ h line s. subst (λ (k : Kept). NamesStand k (tag ∷ line)) (sym h) (record { is = ap (λ (k : Kept). pushed k tag) s.is })) e
 
 -- How many rows there are
 

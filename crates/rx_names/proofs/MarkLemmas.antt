@@ -1,15 +1,9 @@
 -- Marks of names.
-use Rattle.rx_terms.proofs.Common.{option_or, chars, IsUtf8, nat_tests, encodes-chars, Chars, trimmed, lowered, begins_with, or_parts, flat_map-append, bytes_eq-Decides}
-use Rattle.std.proofs.Common.{◌≡◌, ◌∙◌, ℕ, ◌/◌, true, false, Bool, List, [], ◌∷◌, ◌++◌, map, filter, Option, Some, None, MatchOption, Bor, take, drop, length, get_or, codes, ◌+◌, ◌<◌, bytes_eq, cond, sym, ap, subst, refl, arith, ◌==◌, ◌||◌, is_some, bit_and, bit_or}
-use Rattle.std.proofs.lemmas.List.{take_more, append-nil}
-use Rattle.std.specs.List.{flat_map}
-use Rattle.std.proofs.lemmas.Nat.{and_or_self, or_shr}
+use Rattle.rx_names.proofs.Common.{by_test, option_or, chars, IsUtf8, nat_tests, encodes-chars, Chars, trimmed, lowered, begins_with, or_parts, flat_map-append, bytes_eq-Decides, ◌≡◌, ◌∙◌, ℕ, ◌/◌, true, false, Bool, List, [], ◌∷◌, ◌++◌, map, filter, Option, Some, None, MatchOption, Bor, take, drop, length, get_or, codes, ◌+◌, ◌<◌, bytes_eq, cond, sym, ap, subst, refl, arith, ◌==◌, ◌||◌, is_some, bit_and, bit_or, take_more, append-nil, flat_map, Tag, attribute, value_of_first, Table, counts, xmlns_of, of_prefix, mark_of, name_mark, has_mark, Marked, prefix_row, vocabulary_rows, language_rows, rows_of}
+use lib.Bits.{or_shr}
+use Rattle.std.proofs.lemmas.Nat.{and_or_self}
 use Rattle.std.proofs.Math.Arith.{bin_ind}
 use Rattle.std.specs.Int.Bits.{and_zero_r, and_step, or_step}
-use Rattle.rx_rdfa.specs.Tree.{Tag, attribute, value_of_first}
-use Rattle.rx_rdfa.specs.Names.{Table, counts, xmlns_of, of_prefix}
-use Rattle.rx_names.specs.Marks.{mark_of, name_mark, has_mark, Marked}
-use Rattle.rx_names.specs.Rows.{prefix_row, vocabulary_rows, language_rows, rows_of}
 use Rattle.rx_names.proofs.DeclarationLemmas.{xmlns-chars}
 
 -- bits that are set stay so where others are set
@@ -33,32 +27,21 @@ mark_of_chars bytes u = ap mark_of (sym (encodes-chars bytes u))
 pub none_marked : (marks : ℕ) → Marked marks []
 none_marked marks name h = refl
 
--- a value behind others
-behind_first : (b : Bool) (some more most : Option Chars) → (more ≡ None → most ≡ None) → cond b some more ≡ None → cond b some most ≡ None
-behind_first true some more most f e = e
-behind_first false some more most f e = f e
-
 last_value : (attributes : List (Chars × Chars)) (name key value : Chars) → bytes_eq key name ≡ false → value_of_first attributes name ≡ None → value_of_first (attributes ++ (key, value) ∷ []) name ≡ None
 last_value [] name key value d h = ap (λ b. cond b (Some value) None) d
 last_value (a ∷ more) name key value d h =
-    behind_first (bytes_eq a.0 name) (Some a.1) (value_of_first more name) (value_of_first (more ++ (key, value) ∷ []) name) (last_value more name key value d) h
+    by_test (bytes_eq a.0 name) (λ t. absurd (cc (rw t at h))) (λ f. rw f (last_value more name key value d (rw f at h)))
 
 pub one_more : (marks : ℕ) (attributes : List (Chars × Chars)) (key value : Chars) → Marked marks attributes → Marked (bit_or marks (name_mark key)) (attributes ++ (key, value) ∷ [])
 one_more marks attributes key value m name h = last_value attributes name key value other (m name before) where
   before : has_mark marks name ≡ false
-  before = by (has_mark marks name) refl where
-    by : (b : Bool) → b ≡ has_mark marks name → b ≡ false
-    by false e = refl
-    by true e = absurd (cc (or_keeps marks (name_mark key) (name_mark name) (sym e), h))
+  before = by_test (has_mark marks name) (λ t. absurd (cc (or_keeps marks (name_mark key) (name_mark name) t, h))) (λ f. f)
 
   other : bytes_eq key name ≡ false
-  other = by (bytes_eq key name) refl where
-    by : (b : Bool) → b ≡ bytes_eq key name → b ≡ false
-    by false e = refl
-    by true e =
-        let same : key ≡ name = (bytes_eq-Decides key name).0 (sym e) in
-        let has : has_mark (bit_or marks (name_mark key)) name ≡ true = subst (λ n. has_mark (bit_or marks (name_mark key)) n ≡ true) same (or_has marks (name_mark key)) in
-        absurd (cc (has, h))
+  other = by_test (bytes_eq key name) (λ t.
+      let same : key ≡ name = (bytes_eq-Decides key name).0 t in
+      let has : has_mark (bit_or marks (name_mark key)) name ≡ true = subst (λ n. has_mark (bit_or marks (name_mark key)) n ≡ true) same (or_has marks (name_mark key)) in
+      absurd (cc (has, h))) (λ f. f)
 
 -- one attribute more of those at the front
 pub one_taken : (attributes : List (Chars × Chars)) (i marks mark : ℕ) (a : Chars × Chars) → i < length attributes → get_or attributes i a ≡ a → mark ≡ name_mark a.0 → Marked marks (take i attributes)
@@ -87,27 +70,19 @@ namespaces_taken attributes i told new a within at is before none =
     let both = or_parts told (begins_with (codes "xmlns:") a.0) (sym is ∙ none) in
     ap (flat_map xmlns_of) more ∙ no_more (take i attributes) a (before both.0) both.1
 
+-- none of five
+pub none_of_all : (a b c d e : Bool) → (a || b || c || d || e) ≡ false → (a ≡ false) × (b ≡ false) × (c ≡ false) × (d ≡ false) × (e ≡ false)
+none_of_all false false false false false h = (refl, refl, refl, refl, refl)
+none_of_all _ _ _ _ _ h = absurd (cc h)
+
 -- a tag that has none of the names by which names are declared
 pub declares_none : (tag : Tag) (namespaces prefix vocab xml_lang lang : Bool)
     → (namespaces ≡ false → flat_map xmlns_of tag.attributes ≡ []) → (prefix ≡ false → attribute tag (codes "prefix") ≡ None) → (vocab ≡ false → attribute tag (codes "vocab") ≡ None)
     → (xml_lang ≡ false → attribute tag (codes "xml:lang") ≡ None) → (lang ≡ false → attribute tag (codes "lang") ≡ None)
     → (namespaces || prefix || vocab || xml_lang || lang) ≡ false → rows_of tag ≡ []
-declares_none tag false false false false false n p v x l e =
-    none_of (flat_map xmlns_of tag.attributes) (attribute tag (codes "prefix")) (attribute tag (codes "vocab")) (attribute tag (codes "xml:lang")) (attribute tag (codes "lang")) (n refl) (p refl) (v refl) (x refl) (l refl) where
+declares_none tag namespaces prefix vocab xml_lang lang n p v x l e =
+    let q = none_of_all namespaces prefix vocab xml_lang lang e in
+    none_of (flat_map xmlns_of tag.attributes) (attribute tag (codes "prefix")) (attribute tag (codes "vocab")) (attribute tag (codes "xml:lang")) (attribute tag (codes "lang")) (n q.0) (p q.1) (v q.2) (x q.3) (l q.4) where
       none_of : (table : Table) (prefix vocab xml_lang lang : Option Chars) → table ≡ [] → prefix ≡ None → vocab ≡ None → xml_lang ≡ None → lang ≡ None
           → map prefix_row (filter counts (table ++ of_prefix prefix)) ++ (vocabulary_rows vocab ++ language_rows (option_or xml_lang lang)) ≡ []
       none_of table prefix vocab xml_lang lang a b c d e = rw (a, b, c, d, e) refl
-declares_none tag false false false false true n p v x l e = absurd (cc e)
-declares_none tag false false false true lang n p v x l e = absurd (cc e)
-declares_none tag false false true xml_lang lang n p v x l e = absurd (cc e)
-declares_none tag false true vocab xml_lang lang n p v x l e = absurd (cc e)
-declares_none tag true prefix vocab xml_lang lang n p v x l e = absurd (cc e)
-
--- none of five
-pub none_of_all : (a b c d e : Bool) → (a || b || c || d || e) ≡ false → (a ≡ false) × (b ≡ false) × (c ≡ false) × (d ≡ false) × (e ≡ false)
-none_of_all false false false false false h = (refl, refl, refl, refl, refl)
-none_of_all false false false false true h = absurd (cc h)
-none_of_all false false false true e h = absurd (cc h)
-none_of_all false false true d e h = absurd (cc h)
-none_of_all false true c d e h = absurd (cc h)
-none_of_all true b c d e h = absurd (cc h)

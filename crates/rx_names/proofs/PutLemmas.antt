@@ -1,17 +1,13 @@
 -- A row that is put into a table in byte order.
-use Rattle.rx_terms.proofs.Common.{false_from_ne_true, and_parts, and_from, false≢true, Result, Ok, Err, ◌≡◌, ◌<◌, ◌≤◌, ◌∙◌, ℕ, zero, suc, Bool, true, false, cond, List, [], ◌∷◌, ◌++◌, map, length, get_or, take, drop, Option, Some, None, option_map, bytes_eq, refl, sym, ap, subst, Ordering, arith, unwrap_or, encode_utf8_all, is_ok, is_err, list_all, find, option_or, slice_cmp, map-append, take-map, drop-map, length-map, Chars, lowered, by_test, IsNonDecreasingBy, IsPartitionPoint, nat_list_cmp_total, bytes_eq-Decides}
-use Rattle.std.specs.Ordering.{is_lt, is_eq, match_ordering, ordering_reverse, nat_cmp, ordering_index}
+use Rattle.rx_names.proofs.Common.{false_from_ne_true, and_parts, and_from, false≢true, Result, Ok, Err, ◌≡◌, ◌<◌, ◌≤◌, ◌∙◌, ℕ, zero, suc, Bool, true, false, cond, List, [], ◌∷◌, ◌++◌, map, length, get_or, take, drop, Option, Some, None, option_map, bytes_eq, refl, sym, ap, subst, Ordering, arith, unwrap_or, encode_utf8_all, is_ok, is_err, list_all, find, option_or, slice_cmp, map-append, take-map, drop-map, length-map, Chars, lowered, by_test, IsNonDecreasingBy, IsPartitionPoint, nat_list_cmp_total, bytes_eq-Decides, is_lt, is_eq, match_ordering, ordering_reverse, nat_cmp, ordering_index, Table, value_at, byte_order, is_before, rise, put, folded_onto, folded}
 use Rattle.std.specs.declared.cmp.Ordering.TheVariants.{Less, Equal, Greater}
-use Rattle.rx_rdfa.specs.Names.{Table, value_at}
-use Rattle.rx_names.specs.Tables.{byte_order, is_before, rise, put, folded_onto, folded}
 use Rattle.rx_names.specs.declared.tables.Mapping.{Mapping}
 use Rattle.rx_names.proofs.RowLemmas.{or-none, or-assoc}
 use Rattle.rx_names.proofs.TableLemmas.{is_eq-byte_order, found-here, found-later, view, bytes, later_at, gap_at, mappings}
 
 less-is : (o : Ordering) → is_lt o ≡ true → o ≡ Less
 less-is Less h = refl
-less-is Equal h = absurd (false≢true h)
-less-is Greater h = absurd (false≢true h)
+less-is _ h = absurd (cc h)
 
 turned : (a b : Chars) (o : Ordering) → byte_order a b ≡ o → byte_order b a ≡ ordering_reverse o
 turned a b o e = nat_list_cmp_total.antisymm (encode_utf8_all b) (encode_utf8_all a) ∙ ap ordering_reverse e
@@ -64,47 +60,50 @@ before-all front middle (row ∷ rows) less h =
 pub some-same : {A : Type 0} {a b : A} → Some a ≡ Some b → a ≡ b
 some-same e = cc
 
-mapped : (first : Chars × Chars) (o : Option Table) (t : Table) → option_map (λ table. first ∷ table) o ≡ Some t → (rest : Table) × (o ≡ Some rest) × (first ∷ rest ≡ t)
-mapped first None t e = absurd (cc e)
-mapped first (Some rest) t e = (rest, refl, some-same e)
+-- the table with the row, where its name doesn't stand there
+abbrev kept : Chars × Chars → Table → Table
+kept row rows = unwrap_or (put row rows) rows
 
--- what a row is that is put before or behind a first one
-put-cases : {Q : Type 0} (row first : Chars × Chars) (rows t : Table) → put row (first ∷ rows) ≡ Some t
-    → (byte_order row.0 first.0 ≡ Less → row ∷ first ∷ rows ≡ t → Q)
-    → (byte_order first.0 row.0 ≡ Less → (rest : Table) → put row rows ≡ Some rest → first ∷ rest ≡ t → Q) → Q
-put-cases {Q} row first rows t e before behind = go (byte_order row.0 first.0) refl where
-  go : (o : Ordering) → byte_order row.0 first.0 ≡ o → Q
-  go Less o = before o (some-same (sym (put-by row first rows o) ∙ e))
-  go Equal o = let none : None ≡ Some t = sym (put-by row first rows o) ∙ e in absurd (cc none)
-  go Greater o =
-      let m = mapped first (put row rows) t (sym (put-by row first rows o) ∙ e) in
-      behind (turned row.0 first.0 Greater o) m.0 m.1 m.2
+kept-by : (row first : Chars × Chars) (rows : Table) {o : Ordering} → byte_order row.0 first.0 ≡ o
+    → kept row (first ∷ rows) ≡ match_ordering o (row ∷ first ∷ rows) (first ∷ rows) (first ∷ kept row rows)
+kept-by row first rows {o} e = ap (λ t. unwrap_or t (first ∷ rows)) (put-by row first rows e) ∙ go o (put row rows) where
+  go : (o : Ordering) (p : Option Table)
+      → unwrap_or (match_ordering o (Some (row ∷ first ∷ rows)) None (option_map (λ t. first ∷ t) p)) (first ∷ rows) ≡ match_ordering o (row ∷ first ∷ rows) (first ∷ rows) (first ∷ unwrap_or p rows)
+  go Greater None = refl
+  go Greater (Some t) = refl
+  go Less p = refl
+  go Equal p = refl
 
-all-put : (p : Chars × Chars → Bool) (row : Chars × Chars) (rows t : Table) → p row ≡ true → list_all p rows ≡ true → put row rows ≡ Some t → list_all p t ≡ true
-all-put p row [] t one all e = ap (list_all p) (sym (some-same e)) ∙ and_from _ _ one refl
-all-put p row (first ∷ rows) t one all e =
+-- a row stands before or behind a first one, or its name is the first one's
+put-cases : (Q : Table → Type 0) (row first : Chars × Chars) (rows : Table)
+    → (byte_order row.0 first.0 ≡ Less → Q (row ∷ first ∷ rows)) → (byte_order row.0 first.0 ≡ Equal → Q (first ∷ rows)) → (byte_order first.0 row.0 ≡ Less → Q (first ∷ kept row rows))
+    → Q (kept row (first ∷ rows))
+put-cases Q row first rows before there behind = go (byte_order row.0 first.0) refl where
+  go : (o : Ordering) → byte_order row.0 first.0 ≡ o → Q (kept row (first ∷ rows))
+  go Less o = subst Q (sym (kept-by row first rows o)) (before o)
+  go Equal o = subst Q (sym (kept-by row first rows o)) (there o)
+  go Greater o = subst Q (sym (kept-by row first rows o)) (behind (turned row.0 first.0 Greater o))
+
+all-kept : (p : Chars × Chars → Bool) (row : Chars × Chars) (rows : Table) → p row ≡ true → list_all p rows ≡ true → list_all p (kept row rows) ≡ true
+all-kept p row [] one all = and_from _ _ one refl
+all-kept p row (first ∷ rows) one all =
     let parts = and_parts (p first) (list_all p rows) all in
-    put-cases row first rows t e
-    (λ less is. ap (list_all p) (sym is) ∙ and_from _ _ one all)
-    (λ less rest f is. ap (list_all p) (sym is) ∙ and_from _ _ parts.0 (all-put p row rows rest one parts.1 f))
+    put-cases (λ t. list_all p t ≡ true) row first rows (λ less. and_from _ _ one all) (λ same. all) (λ less. and_from _ _ parts.0 (all-kept p row rows one parts.1))
+
+rise-kept : (row : Chars × Chars) (rows : Table) → rise rows ≡ true → rise (kept row rows) ≡ true
+rise-kept row [] h = refl
+rise-kept row (first ∷ rows) h =
+    let parts = and_parts (list_all (λ later. is_before first.0 later.0) rows) (rise rows) h in
+    put-cases (λ t. rise t ≡ true) row first rows
+    (λ less. and_from _ _ (and_from _ _ (ap is_lt less) (before-all row.0 first.0 rows less parts.0)) h) (λ same. h)
+    (λ less. and_from _ _ (all-kept (λ later. is_before first.0 later.0) row rows (ap is_lt less) parts.0) (rise-kept row rows parts.1))
 
 pub rise-put : (row : Chars × Chars) (rows t : Table) → rise rows ≡ true → put row rows ≡ Some t → rise t ≡ true
-rise-put row [] t h e = ap rise (sym (some-same e))
-rise-put row (first ∷ rows) t h e =
-    let parts = and_parts (list_all (λ later. is_before first.0 later.0) rows) (rise rows) h in
-    put-cases row first rows t e
-    (λ less is. ap rise (sym is) ∙ and_from _ _ (and_from _ _ (ap is_lt less) (before-all row.0 first.0 rows less parts.0)) h)
-    (λ less rest f is.
-    ap rise (sym is) ∙ and_from _ _ (all-put (λ later. is_before first.0 later.0) row rows rest (ap is_lt less) parts.0 f) (rise-put row rows rest parts.1 f))
+rise-put row rows t h e = ap (λ (o : Option Table). rise (unwrap_or o rows)) (sym e) ∙ rise-kept row rows h
 
 -- What a name means where a row has been put in, or stood there already.
 value-front : (first : Chars × Chars) (rows : Table) (name : Chars) → value_at name (first ∷ rows) ≡ cond (bytes_eq first.0 name) (Some first.1) (value_at name rows)
 value-front first rows name = by_test (bytes_eq first.0 name) (λ s. found-here first rows name s ∙ rw s refl) (λ s. found-later first rows name s ∙ rw s refl)
-
-exchanged : {A : Type 0} (a b : Bool) (x y z : A) → (a ≡ true → b ≡ false) → cond a x (cond b y z) ≡ cond b y (cond a x z)
-exchanged true true x y z h = let g : true ≡ false = h refl in absurd (cc g)
-exchanged true false x y z h = refl
-exchanged false b x y z h = refl
 
 apart : (first row name : Chars) → byte_order first row ≡ Less → bytes_eq first name ≡ true → bytes_eq row name ≡ false
 apart first row name less s =
@@ -115,85 +114,49 @@ apart first row name less s =
     let other : bytes_eq first row ≡ false = sym (is_eq-byte_order first row) ∙ ap is_eq less in
     false≢true (sym other ∙ same))
 
-pub value-put : (row : Chars × Chars) (rows t : Table) (name : Chars) → put row rows ≡ Some t → value_at name t ≡ cond (bytes_eq row.0 name) (Some row.1) (value_at name rows)
-value-put row [] t name e = ap (value_at name) (sym (some-same e)) ∙ value-front row [] name
-value-put row (first ∷ rows) t name e =
-    put-cases row first rows t e
-    (λ less is. ap (value_at name) (sym is) ∙ value-front row (first ∷ rows) name)
-    (λ less rest f is.
-    ap (value_at name) (sym is) ∙ value-front first rest name ∙ ap (λ v. cond (bytes_eq first.0 name) (Some first.1) v) (value-put row rows rest name f)
-    ∙ exchanged (bytes_eq first.0 name) (bytes_eq row.0 name) (Some first.1) (Some row.1) (value_at name rows) (apart first.0 row.0 name less)
-    ∙ ap (λ v. cond (bytes_eq row.0 name) (Some row.1) v) (sym (value-front first rows name)))
-
--- a row whose name stands there already
-stands-there : (row : Chars × Chars) (rows : Table) (name : Chars) → put row rows ≡ None → bytes_eq row.0 name ≡ true → (iri : Chars) × (value_at name rows ≡ Some iri)
-stands-there row [] name e s = absurd (cc e)
-stands-there row (first ∷ rows) name e s = go (byte_order row.0 first.0) refl (stands-there row rows name) where
-  none-mapped : (o : Option Table) → option_map (λ table. first ∷ table) o ≡ None → o ≡ None
-  none-mapped None f = refl
-  none-mapped (Some rest) f = absurd (cc f)
-
-  go : (o : Ordering) → byte_order row.0 first.0 ≡ o → (put row rows ≡ None → bytes_eq row.0 name ≡ true → (iri : Chars) × (value_at name rows ≡ Some iri)) → (iri : Chars) × (value_at name (first ∷ rows) ≡ Some iri)
-  go Less o ih = let some : Some (row ∷ first ∷ rows) ≡ None = sym (put-by row first rows o) ∙ e in absurd (cc some)
-  go Equal o ih =
-      let same : row.0 ≡ first.0 = (bytes_eq-Decides row.0 first.0).0 (sym (is_eq-byte_order row.0 first.0) ∙ ap is_eq o) in
-      let here : bytes_eq first.0 name ≡ true = ap (λ (x : Chars). bytes_eq x name) (sym same) ∙ s in
-      (first.1, found-here first rows name here)
-  go Greater o ih =
-      let later = ih (none-mapped (put row rows) (sym (put-by row first rows o) ∙ e)) s in
-      by_test (bytes_eq first.0 name) (λ t. (first.1, found-here first rows name t)) (λ t. (later.0, found-later first rows name t ∙ later.1))
-
--- a row whose name doesn't
+-- rows behind one with the name haven't it
 not-below : (front name : Chars) (rows : Table) → list_all (λ later. is_before front later.0) rows ≡ true → bytes_eq front name ≡ true → value_at name rows ≡ None
 not-below front name [] h s = refl
 not-below front name (row ∷ rows) h s =
     let parts = and_parts (is_before front row.0) (list_all (λ later. is_before front later.0) rows) h in
     found-later row rows name (apart front row.0 name (less-is (byte_order front row.0) parts.0) s) ∙ not-below front name rows parts.1 s
 
-pub not-there : (row : Chars × Chars) (rows t : Table) (name : Chars) → rise rows ≡ true → put row rows ≡ Some t → bytes_eq row.0 name ≡ true → value_at name rows ≡ None
-not-there row [] t name h e s = refl
-not-there row (first ∷ rows) t name h e s =
+value-kept : (row : Chars × Chars) (rows : Table) (name : Chars) → rise rows ≡ true
+    → value_at name (kept row rows) ≡ option_or (value_at name rows) (cond (bytes_eq row.0 name) (Some row.1) None)
+value-kept row [] name h = value-front row [] name
+value-kept row (first ∷ rows) name h =
     let parts = and_parts (list_all (λ later. is_before first.0 later.0) rows) (rise rows) h in
-    put-cases row first rows t e
-    (λ less is. not-below row.0 name (first ∷ rows) (and_from _ _ (ap is_lt less) (before-all row.0 first.0 rows less parts.0)) s)
-    (λ less rest f is.
-    let other = false_from_ne_true (bytes_eq first.0 name) (λ t. false≢true (sym (apart first.0 row.0 name less t) ∙ s)) in
-    found-later first rows name other ∙ not-there row rows rest name parts.1 f s)
+    let own : Option Chars = cond (bytes_eq row.0 name) (Some row.1) None in
+    put-cases (λ t. value_at name t ≡ option_or (value_at name (first ∷ rows)) own) row first rows
+    (λ less.
+    value-front row (first ∷ rows) name
+    ∙ or-one (value_at name (first ∷ rows)) (bytes_eq row.0 name) (not-below row.0 name (first ∷ rows) (and_from _ _ (ap is_lt less) (before-all row.0 first.0 rows less parts.0))))
+    (λ same.
+    let key : row.0 ≡ first.0 = (bytes_eq-Decides row.0 first.0).0 (sym (is_eq-byte_order row.0 first.0) ∙ ap is_eq same) in
+    or-there (value_at name (first ∷ rows)) (bytes_eq first.0 name) (bytes_eq row.0 name) (ap (λ (x : Chars). bytes_eq x name) key) (found-here first rows name))
+    (λ less.
+    value-front first (kept row rows) name ∙ ap (λ v. cond (bytes_eq first.0 name) (Some first.1) v) (value-kept row rows name parts.1)
+    ∙ or-behind (bytes_eq first.0 name) (value_at name rows) own ∙ ap (λ v. option_or v own) (sym (value-front first rows name)))
+  where
+    or-one : (v : Option Chars) (b : Bool) → (b ≡ true → v ≡ None) → cond b (Some row.1) v ≡ option_or v (cond b (Some row.1) None)
+    or-one None true h = refl
+    or-one (Some x) true h = let g : Some x ≡ None = h refl in absurd (cc g)
+    or-one v false h = sym (or-none v)
 
--- what one name means where a row is put in unless its name stands there
-pub value-kept : (row : Chars × Chars) (rows : Table) (name : Chars) → rise rows ≡ true
-    → value_at name (unwrap_or (put row rows) rows) ≡ option_or (value_at name rows) (cond (bytes_eq row.0 name) (Some row.1) None)
-value-kept row rows name h = go (put row rows) refl where
-  or-one : (v : Option Chars) (b : Bool) → (b ≡ true → v ≡ None) → cond b (Some row.1) v ≡ option_or v (cond b (Some row.1) None)
-  or-one None true h = refl
-  or-one None false h = refl
-  or-one (Some x) true h = let g : Some x ≡ None = h refl in absurd (cc g)
-  or-one (Some x) false h = refl
+    or-there : (v : Option Chars) (b c : Bool) → c ≡ b → (b ≡ true → v ≡ Some first.1) → v ≡ option_or v (cond c (Some row.1) None)
+    or-there v true c e h = rw (h refl) refl
+    or-there v false c e h = rw e (sym (or-none v))
 
-  or-there : (v : Option Chars) (b : Bool) → (b ≡ true → (iri : Chars) × (v ≡ Some iri)) → v ≡ option_or v (cond b (Some row.1) None)
-  or-there None true h = let g = h refl in let f : None ≡ Some g.0 = g.1 in absurd (cc f)
-  or-there None false h = refl
-  or-there (Some x) b h = refl
-
-  go : (o : Option Table) → put row rows ≡ o → value_at name (unwrap_or (put row rows) rows) ≡ option_or (value_at name rows) (cond (bytes_eq row.0 name) (Some row.1) None)
-  go None e = ap (λ o. value_at name (unwrap_or o rows)) e ∙ or-there (value_at name rows) (bytes_eq row.0 name) (stands-there row rows name e)
-  go (Some t) e = ap (λ o. value_at name (unwrap_or o rows)) e ∙ value-put row rows t name e ∙ or-one (value_at name rows) (bytes_eq row.0 name) (not-there row rows t name h e)
-
-pub rise-kept : (row : Chars × Chars) (rows : Table) → rise rows ≡ true → rise (unwrap_or (put row rows) rows) ≡ true
-rise-kept row rows h = go (put row rows) refl where
-  go : (o : Option Table) → put row rows ≡ o → rise (unwrap_or (put row rows) rows) ≡ true
-  go None e = ap (λ o. rise (unwrap_or o rows)) e ∙ h
-  go (Some t) e = ap (λ o. rise (unwrap_or o rows)) e ∙ rise-put row rows t h e
+    or-behind : (b : Bool) (w c : Option Chars) → cond b (Some first.1) (option_or w c) ≡ option_or (cond b (Some first.1) w) c
+    or-behind true w c = refl
+    or-behind false w c = refl
 
 -- A name in lower case: what the table in lower case says is what the first row says whose name is that one in lower case.
 abbrev pub first_lowered : Chars → Table → Option Chars
 first_lowered name rows = option_map (λ (row : Chars × Chars). row.1) (find (λ row. bytes_eq (lowered row.0) name) rows)
 
 lowered-front : (row : Chars × Chars) (rows : Table) (name : Chars) → option_or (cond (bytes_eq (lowered row.0) name) (Some row.1) None) (first_lowered name rows) ≡ first_lowered name (row ∷ rows)
-lowered-front row rows name = go (bytes_eq (lowered row.0) name) where
-  go : (b : Bool) → option_or (cond b (Some row.1) None) (first_lowered name rows) ≡ option_map (λ (row : Chars × Chars). row.1) (cond b (Some row) (find (λ row. bytes_eq (lowered row.0) name) rows))
-  go true = refl
-  go false = refl
+lowered-front row rows name = by_test (bytes_eq (lowered row.0) name) (λ t. rw t refl) (λ t. rw t refl)
 
 folded-onto-value : (table rows : Table) (name : Chars) → rise table ≡ true → value_at name (folded_onto table rows) ≡ option_or (value_at name table) (first_lowered name rows)
 folded-onto-value table [] name h = sym (or-none (value_at name table))

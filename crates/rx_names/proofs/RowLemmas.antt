@@ -1,15 +1,12 @@
 -- Lists of rows.
-use Rattle.rx_terms.proofs.Common.{by_test, eq-eqb, false_from_ne_true, and_parts, list_all, take-append-drop, take-map, length-map, slice_get_within, get_or_from_slice_get, nat_tests, list_all-append, list_all_at, Chars, bytes_eq-Decides}
-use Rattle.std.proofs.Common.{◌≡◌, ◌∙◌, ℕ, suc, ◌-◌, ◌<◌, ◌≤◌, ap, sym, refl, arith, Bool, true, false, Option, Some, None, List, [], ◌∷◌, ◌++◌, take, drop, length, get_or, slice_get, map, bytes_eq, true≢false, ◌==◌, ◌&&◌, take-take, if◌then◌else◌, take-suc}
-use Rattle.std.specs.Option.{option_or, option_map}
+use Rattle.rx_names.proofs.Common.{by_test, eq-eqb, false_from_ne_true, and_parts, list_all, take-append-drop, take-map, length-map, slice_get_within, get_or_from_slice_get, list_all-append, list_all_at, Chars, bytes_eq-Decides, ◌≡◌, ◌∙◌, ℕ, suc, ◌-◌, ◌<◌, ◌≤◌, ap, sym, refl, arith, Bool, true, false, Option, Some, None, List, [], ◌∷◌, ◌++◌, take, drop, length, get_or, slice_get, map, bytes_eq, true≢false, ◌==◌, ◌&&◌, take-take, if◌then◌else◌, option_or, is_sound, last_of, prefix_in, vocabulary_in, language_in, number_of, row_number, AreNumbered, earlier-below, front-at}
+use lib.Seq.{take-suc}
+use Rattle.std.specs.Option.{option_map}
 use Rattle.rx_names.specs.declared.rows.Declaration.{Declaration}
-use Rattle.rx_names.specs.declared.rows.Declaration.TheVariants as row
-use Rattle.rx_names.specs.Rows.{is_sound, last_of, prefix_in, vocabulary_in, language_in}
-use Rattle.rx_names.specs.Numbers.{number_of, row_number, AreNumbered}
 use Rattle.rx_unique.specs.Places.{last_place}
 use Rattle.rx_unique.proofs.PlaceLemmas.{last-within}
+use Rattle.rx_names.specs.declared.rows.Declaration.TheVariants as row
 pub use Rattle.rx_unique.proofs.SearchLemmas.{reach, nearer}
-use Rattle.rx_unique.proofs.SearchLemmas.{earlier-below, front-at}
 
 pub sound-front : (n : ℕ) (rows : List Declaration) → list_all is_sound rows ≡ true → list_all is_sound (take n rows) ≡ true
 sound-front n rows h =

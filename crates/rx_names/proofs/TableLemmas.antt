@@ -1,11 +1,8 @@
 -- Tables in byte order: what a binary search finds, and what is put in.
-use Rattle.rx_terms.proofs.Common.{◌≡◌, ◌<◌, ◌∙◌, ⊎_elim, ℕ, zero, suc, true, false, cond, List, [], ◌∷◌, map, length, get_or, Some, None, option_map, bytes_eq, refl, sym, ap, subst, Ordering, arith, cases_lt, and_parts, false≢true, encodes_same, list_all, find, slice_cmp, Chars, encode_utf8_all, same_from_decides, nat_list_cmp_total, alike_right, bytes_eq-Decides, is_eq-slice_cmp, IsSortedBy, IsNonDecreasingBy, IsPartitionPoint, searchable_from_sorted}
-use Rattle.std.specs.Ordering.{is_lt, is_eq, ordering_reverse, nat_cmp, ordering_index}
+use Rattle.rx_names.proofs.Common.{◌≡◌, ◌<◌, ◌∙◌, ⊎_elim, ℕ, zero, suc, true, false, cond, List, [], ◌∷◌, map, length, get_or, Some, None, option_map, bytes_eq, refl, sym, ap, subst, Ordering, arith, cases_lt, and_parts, encodes_same, list_all, find, slice_cmp, Chars, encode_utf8_all, same_from_decides, nat_list_cmp_total, alike_right, bytes_eq-Decides, is_eq-slice_cmp, IsSortedBy, IsNonDecreasingBy, IsPartitionPoint, searchable_from_sorted, is_lt, is_eq, ordering_reverse, nat_cmp, ordering_index, Table, value_at, byte_order, is_before, rise}
 use native.Mathlib.Numerals.{unary_clauses}
 use Rattle.std.specs.declared.cmp.Ordering.TheVariants.{Less, Equal, Greater}
-use Rattle.rx_rdfa.specs.Names.{Table, value_at}
 use Rattle.rx_names.specs.declared.tables.Mapping.{Mapping}
-use Rattle.rx_names.specs.Tables.{byte_order, is_before, rise}
 
 -- texts are one where their UTF-8 forms are
 same-encoded : (a b : Chars) → bytes_eq (encode_utf8_all a) (encode_utf8_all b) ≡ bytes_eq a b
@@ -26,9 +23,8 @@ pub found-later : (row : Chars × Chars) (rows : Table) (name : Chars) → bytes
 found-later row rows name other = ap (λ b. option_map (λ (r : Chars × Chars). r.1) (cond b (Some row) (find (λ r. bytes_eq r.0 name) rows))) other
 
 is_eq-less : (o : Ordering) → is_lt o ≡ true → is_eq o ≡ false
-is_eq-less Less h = refl
-is_eq-less Equal h = absurd (false≢true h)
-is_eq-less Greater h = refl
+is_eq-less Equal h = absurd (cc h)
+is_eq-less _ h = refl
 
 -- Rows of any form, with a name and an IRI.
 module _ {T : Type 0} (key value : T → Chars) where
@@ -77,9 +73,8 @@ module _ {T : Type 0} (key value : T → Chars) where
       turned (bytes row) (bytes (get_or rows 0 d)) (later_at (key row) rows 0 d parts.0 (omega arith))
     where
       reversed : (o : Ordering) → is_lt o ≡ true → is_lt (ordering_reverse o) ≡ false
-      reversed Less h = refl
-      reversed Equal h = refl
-      reversed Greater h = absurd (false≢true h)
+      reversed Greater h = absurd (cc h)
+      reversed _ h = refl
 
       turned : (front back : List ℕ) → is_lt (slice_cmp nat_cmp front back) ≡ true → is_lt (slice_cmp nat_cmp back front) ≡ false
       turned front back less = ap is_lt (nat_list_cmp_total.antisymm back front) ∙ reversed (slice_cmp nat_cmp front back) less

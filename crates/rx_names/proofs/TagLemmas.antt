@@ -1,7 +1,5 @@
 -- Attributes of the tag that is lent.
-use Rattle.rx_terms.proofs.Common.{◌≡◌, ◌∙◌, ap, sym, refl, Option, Some, None, MatchOption, List, [], ◌∷◌, ℕ, Bor, true, bytes_eq, cond, list_all, chars, is_ascii, Chars, seen_slice, ascii-chars}
-use Rattle.rx_rdfa.specs.Tree.{value_of_first}
-use Rattle.rx_grammar.proofs.Common.{value_of}
+use Rattle.rx_names.proofs.Common.{◌≡◌, ◌∙◌, ap, sym, refl, Option, Some, None, MatchOption, List, [], ◌∷◌, ℕ, Bor, true, bytes_eq, cond, list_all, chars, is_ascii, Chars, seen_slice, ascii-chars, value_of_first, value_of}
 
 same-attribute : (attributes : List (Chars × Chars)) (name : Chars) → value_of attributes name ≡ value_of_first attributes name
 same-attribute [] name = refl

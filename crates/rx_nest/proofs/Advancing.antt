@@ -1,6 +1,5 @@
 -- What is due and what is read are told in turn.
-use Rattle.rx_pages.proofs.Common.{◌≡◌, ◌∙◌, ℕ, zero, suc, Bool, true, false, List, [], ◌++◌, refl, sym, ap, subst, append_assoc, append-nil, Option, Some, None, Err, arith, nat_tests, if◌then◌else◌, ◌-◌, nat_lt, take, drop, Syntax, Item, StartTag, Fault, Limits, no_bytes, no_page, Scanning, Stop}
-use Rattle.rx_scan.specs.Scanner.{Scanner}
+use Rattle.rx_nest.proofs.Common.{◌≡◌, ◌∙◌, ℕ, zero, suc, Bool, true, false, List, [], ◌++◌, refl, sym, ap, subst, append_assoc, append-nil, Option, Some, None, Err, arith, nat_tests, if◌then◌else◌, ◌-◌, nat_lt, take, drop, Syntax, Item, StartTag, Fault, Limits, no_bytes, no_page, Scanning, Stop, take-append-drop, Scanner, Lines, Sign, sees, nothing_seen, flags_of, own_signs, FallsBy, ReadGives, StaysAtFault, FaultGives, OpenBefore, Nested, At, NestStands, Stops, Unshown, LendsStart, begins_own, IsATag, a_tag, read_before, read_now, TokenOf, DidOf, Done, DidLends, did_signs, did_more, did_skipped, heard_signs, hears_more, hears_skipped, Lends, Heeds, last_tag, owed_signs, owes_begin, left}
 use Rattle.rx_scan.specs.Steps as scan
 use Rattle.rx_nest.specs.declared.lines.TagAction.{TagAction}
 use Rattle.rx_nest.specs.declared.lines.TagAction.TheVariants as own
@@ -9,16 +8,10 @@ use Rattle.rx_nest.specs.declared.tree_tokens.TreeToken.{TreeToken}
 use Rattle.rx_nest.specs.declared.tree_tokens.TreeToken.TheVariants as tree_token
 use Rattle.rx_nest.specs.declared.tree_tokens.EventKind.{EventKind}
 use Rattle.rx_nest.specs.declared.tree_tokens.EventKind.TheVariants as did
-use Rattle.rx_nest.specs.Lines.{Lines}
-use Rattle.rx_nest.specs.Signs.{Sign, sees, nothing_seen}
-use Rattle.rx_nest.specs.Follows.{flags_of, own_signs}
 use Rattle.rx_scan.proofs.MarkLemmas.{none_marked}
 use Rattle.rx_nest.specs.TreeTokens.{first_own, next_own, next_owed, first_of, paid}
 use Rattle.rx_grammar.specs.declared.stops.Stop.TheVariants as stop
-use Rattle.rx_nest.specs.Falling.{FallsBy}
-use Rattle.rx_nest.specs.Nests.{ReadGives, StaysAtFault, FaultGives, OpenBefore, Nested, At, NestStands, Stops, Unshown, LendsStart, begins_own, IsATag, a_tag, read_before, read_now, TokenOf, DidOf, Done, DidLends, did_signs, did_more, did_skipped, heard_signs, hears_more, hears_skipped, Lends, Heeds, last_tag, owed_signs, owes_begin, left}
 use Rattle.rx_nest.proofs.TextSteps.{sees_append}
-use Rattle.rx_nest.proofs.Pieces.{front_back as front_rest}
 use Rattle.rx_nest.proofs.Sizes.{faults_so, still_so}
 use Rattle.rx_nest.proofs.OpenElements.{open_before}
 
@@ -92,8 +85,7 @@ due owed d next v h lends = by owed.ends owed.own h lends
         so (record { ends = 0; own = Some own.Finish }) (did.Finish, paid) (record { signs_are = refl; lends = tt; begin_left = λ b. absurd (cc); quiet = refl; seen = refl; is_due = λ s bytes items e. read_before e }) h
     by zero (Some own.Alone) h l =
         so (record { ends = 0; own = Some own.Alone }) (did.Begin, record { ends = 0; own = Some own.Finish }) (record { signs_are = refl; lends = l refl; begin_left = λ b. absurd (cc); quiet = refl; seen = refl; is_due = λ s bytes items e. read_before e }) h
-    by zero (Some own.Nothing) h l = absurd (cc)
-    by zero None h l = absurd (cc)
+    by zero _ h l = absurd (cc)
 
 -- nothing is owed
 pub none_due : (owed : PendingEvents) (t : StartTag) → next_owed owed ≡ None → owed_signs owed t ≡ []
@@ -103,9 +95,7 @@ none_due owed t h = by owed.ends owed.own h
     by (suc k) o h = absurd (let w : None ≡ Some (did.Finish, record { ends = k; own = o }) = sym h ∙ one_next k o in cc)
     by zero None h = refl
     by zero (Some own.Nothing) h = refl
-    by zero (Some own.Begin) h = absurd (cc)
-    by zero (Some own.Finish) h = absurd (cc)
-    by zero (Some own.Alone) h = absurd (cc)
+    by zero _ h = absurd (cc)
 
 -- Behind what is skipped nothing is due.
 pub record Passed (h : TreeToken) : Type 0 where
@@ -113,9 +103,7 @@ pub record Passed (h : TreeToken) : Type 0 where
   pub none : left (first_of h).1 ≡ 0
 
 pub passed_turn : (h : TreeToken) → did_skipped (first_of h).0 ≡ true → Passed h
-passed_turn tree_token.More s = absurd (cc)
 passed_turn tree_token.Skipped s = record { some = refl; none = refl }
-passed_turn tree_token.Text s = absurd (cc)
 passed_turn (tree_token.Tag told) s = by told.ends told.own s
   where
     own_passed : (o : TagAction) → did_skipped (first_own o).0 ≡ true → left (first_own o).1 ≡ 0
@@ -125,6 +113,7 @@ passed_turn (tree_token.Tag told) s = by told.ends told.own s
     by : (k : ℕ) (o : TagAction) → did_skipped (first_of (tree_token.Tag (record { ends = k; own = o; drops = told.drops }))).0 ≡ true → Passed (tree_token.Tag (record { ends = k; own = o; drops = told.drops }))
     by zero o s = record { some = refl; none = own_passed o s }
     by (suc k) o s = absurd (let w : false ≡ true = ap (λ (x : EventKind × PendingEvents). did_skipped x.0) (sym (one_first k o told.drops)) ∙ s in cc)
+passed_turn _ s = absurd (cc)
 
 -- what was heard
 pub record First (h : TreeToken) (v : Scanner) : Type 0 where
@@ -222,7 +211,7 @@ module _ (syntax : Syntax) (limits : Limits) (old : Nested) (bytes : List ℕ) (
   -- before a fault no more is shown
   pub unshown : (fault : Fault) → next_owed old.owed ≡ None → Stops syntax limits bytes st.told piece fault → Unshown syntax limits bytes signs piece
   unshown fault none stops k p h =
-      let same = still_so syntax limits bytes piece st.at.now st.told fault st.at.read stops (take k piece) (drop k piece) p (sym (front_rest k piece)) h in
+      let same = still_so syntax limits bytes piece st.at.now st.told fault st.at.read stops (take k piece) (drop k piece) p (sym (take-append-drop k piece)) h in
       let paid_up : signs ++ owed_signs old.owed (last_tag old.scan) ≡ signs = ap (λ x. signs ++ x) (none_due old.owed (last_tag old.scan) none) ∙ append-nil signs in
       ap (λ es. (sees nothing_seen es).signs) same ∙ (ap (λ x. x.signs) st.sight ∙ paid_up)
 

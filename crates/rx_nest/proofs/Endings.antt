@@ -1,11 +1,6 @@
 -- The end of a page.
-use Rattle.rx_pages.proofs.Common.{◌≡◌, ◌≢◌, ◌∙◌, ℕ, Bool, true, false, List, [], ◌∷◌, ◌++◌, refl, sym, ap, subst, length, Some, None, Result, Ok, Err, ◌&&◌, if◌then◌else◌, map, take, chars, Chars, Syntax, Item, FaultAt, Fault, Unended, Limits, Event, Progress, page_read, end_of, may_end, is_over, fault_in, Scanning, found_fault, read_size}
-use Rattle.rx_scan.specs.Scanner.{Scanner}
+use Rattle.rx_nest.proofs.Common.{◌≡◌, ◌≢◌, ◌∙◌, ℕ, Bool, true, false, List, [], ◌∷◌, ◌++◌, refl, sym, ap, subst, length, Some, None, Result, Ok, Err, ◌&&◌, if◌then◌else◌, map, take, chars, Chars, Syntax, Item, FaultAt, Fault, Unended, Limits, Event, Progress, page_read, end_of, may_end, is_over, fault_in, Scanning, found_fault, read_size, Scanner, Lines, is_none_open, Levels, Sign, said, sees, nothing_seen, phase_at}
 use Rattle.rx_scan.specs.Steps as scan
-use Rattle.rx_nest.specs.Lines.{Lines, is_none_open}
-use Rattle.rx_nest.specs.Levels.{Levels}
-use Rattle.rx_nest.specs.Signs.{Sign, said, sees, nothing_seen}
-use Rattle.rx_nest.specs.Follows.{phase_at}
 use Rattle.rx_nest.specs.declared.tree_tokens.EventKind.{EventKind}
 use Rattle.rx_nest.specs.declared.tree_tokens.EventKind.TheVariants as did
 use Rattle.rx_nest.specs.declared.nests.Event as shown

@@ -1,25 +1,12 @@
 -- Where a page's fault lies.
-use Rattle.rx_pages.proofs.Common.{◌≡◌, ◌∙◌, ℕ, ◌+◌, ◌<◌, ◌≤◌, List, [], ◌∷◌, ◌++◌, length, refl, sym, ap, Option, Some, None, Result, Ok, Err, arith, zero, suc, Bool, true, false, take, drop, if◌then◌else◌, Syntax, Page, FaultAt, Tree, Fault, Unended, Limits, Progress, page_read, page_on, nothing_read, no_page, spot_of, end_of, may_end, fault_in, fault_stays, page_is_read, page_append, one_tree}
-use Rattle.rx_nest.specs.Signs.{Sign, Sight, sees, nothing_seen, signs_of}
-use Rattle.rx_nest.specs.Fronts.{Lie}
+use Rattle.rx_nest.proofs.Common.{◌≡◌, ◌∙◌, ℕ, ◌+◌, ◌<◌, List, ◌++◌, length, refl, sym, ap, Option, Some, None, Result, Ok, Err, arith, Bool, true, false, take, drop, if◌then◌else◌, Syntax, Page, FaultAt, Tree, Fault, Unended, Limits, Progress, page_read, page_on, nothing_read, no_page, spot_of, end_of, may_end, fault_in, fault_stays, page_is_read, page_append, one_tree, take-append-drop, length-take-le, take-append-le, Sign, Sight, sees, nothing_seen, signs_of, Lie, Way, IsRefusal, ReaderRefuses, BeginsNone, BeginsRefused}
 use Rattle.rx_nest.proofs.Sizes.{within_so}
 use Rattle.rx_nest.proofs.TagPlaces.{shows_more}
 use Rattle.rx_nest.proofs.TreeSeen.{whole}
-use Rattle.rx_nest.specs.Ways.{Way, IsRefusal}
-use Rattle.rx_nest.specs.RefusedTags.{ReaderRefuses}
-use Rattle.rx_nest.specs.FaultPlaces.{BeginsNone, BeginsRefused}
 use Rattle.rx_nest.proofs.Refusing.{at_from}
 use Rattle.rx_nest.proofs.Firsts.{fault_read, meaning_within}
-use Rattle.rx_nest.proofs.TokenPlacing.{take_front}
-use Rattle.rx_nest.proofs.Pieces.{front_back}
 
 -- the front of bytes that are read is read
-
-pub take_length : (n : ℕ) (xs : List ℕ) → n ≤ length xs → length (take n xs) ≡ n
-take_length zero xs l = refl
-take_length (suc n) [] l = absurd (omega arith)
-take_length (suc n) (x ∷ xs) l = ap suc (take_length n xs (omega arith))
-
 module _ (syntax : Syntax) (limits : Limits) where
   pub record Read (bytes : List ℕ) : Type 0 where
     pub now : Progress
@@ -64,9 +51,9 @@ module _ (syntax : Syntax) (limits : Limits) where
   begins_none bytes fault f l rest tree page =
       let n : ℕ = fault.at + 1 in
       let front = read_front (take n bytes) rest (page_shows (take n bytes ++ rest) tree page).final (page_shows (take n bytes ++ rest) tree page).read in
-      let fails : page_read syntax limits (take n bytes ++ drop n bytes) ≡ Err fault = ap (λ b. page_read syntax limits b) (front_back n bytes) ∙ fault_read syntax limits bytes fault f l in
+      let fails : page_read syntax limits (take n bytes ++ drop n bytes) ≡ Err fault = ap (λ b. page_read syntax limits b) (take-append-drop n bytes) ∙ fault_read syntax limits bytes fault f l in
       let from = (within_so syntax limits (take n bytes) (drop n bytes) front.now fault front.is fails).from in
-      let size = take_length n bytes (omega (arith, l)) in
+      let size = length-take-le n bytes (omega (arith, l)) in
       omega (arith, from, size)
 
 -- a start tag that is refused
@@ -97,11 +84,11 @@ module _ (way : Way) (law : IsRefusal way.refused) where
   through bytes fault m =
       let n : ℕ = fault.at + 1 in
       let l = meaning_within way law bytes fault m in
-      let at : length (take n m.front) ≡ n = take_length n m.front (omega (arith, l)) in
-      let parts : take n m.front ++ drop n m.front ≡ m.front = front_back n m.front in
+      let at : length (take n m.front) ≡ n = length-take-le n m.front (omega (arith, l)) in
+      let parts : take n m.front ++ drop n m.front ≡ m.front = take-append-drop n m.front in
       let whole_read : page_read way.syntax way.limits (take n m.front ++ drop n m.front) ≡ Ok m.now = ap (λ b. page_read way.syntax way.limits b) parts ∙ m.read in
       let r = read_front way.syntax way.limits (take n m.front) (drop n m.front) m.now whole_read in
-      let same : take n m.front ≡ take n bytes = sym (take_front n m.front m.rest (omega (arith, l))) ∙ ap (take n) (sym m.are) in
+      let same : take n m.front ≡ take n bytes = sym (take-append-le n m.front m.rest (omega (arith, l))) ∙ ap (take n) (sym m.are) in
       record {
         now = r.now;
         read = ap (λ b. page_read way.syntax way.limits b) (sym same) ∙ r.is;

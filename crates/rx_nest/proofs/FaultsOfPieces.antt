@@ -1,20 +1,13 @@
 -- Where a fault lies that a piece of a page brings.
-use Rattle.rx_pages.proofs.Common.{◌≡◌, ◌∙◌, ℕ, ◌+◌, ◌≤◌, List, [], ◌++◌, length, sym, ap, subst, None, Ok, Err, arith, take, drop, append-nil, nat_tests, nat_le, by_test, Fault, Progress, page_read, Stop}
-use Rattle.rx_pages.proofs.FaultFronts.{faults_follow_fronts}
-use Rattle.rx_nest.specs.Nests.{Nested}
-use Rattle.rx_nest.specs.Signs.{Sign, Sight, sees, nothing_seen}
+use Rattle.rx_nest.proofs.Common.{◌≡◌, ◌∙◌, ℕ, ◌+◌, ◌≤◌, List, [], ◌++◌, length, sym, ap, subst, None, Ok, Err, arith, take, drop, append-nil, nat_tests, nat_le, by_test, Fault, Progress, page_read, Stop, take-append-drop, take-append-le, faults_follow_fronts, Nested, Sign, Sight, sees, nothing_seen, PlaceGives, PlaceLaw, of_form, of_meaning, Placed, Way, IsRefusal}
 use Rattle.rx_grammar.specs.declared.stops.Stop.TheVariants as stop
 use Rattle.rx_nest.specs.Faults.{Refuses, Stops, StopGives, for_form, for_meaning}
-use Rattle.rx_nest.specs.FaultPlaces.{PlaceGives, PlaceLaw, of_form, of_meaning, Placed}
 use Rattle.rx_nest.specs.Readings.{Goes as ReadingGoes, OwesNone}
-use Rattle.rx_nest.specs.Ways.{Way, IsRefusal}
 use Rattle.rx_nest.proofs.FaultPlacing.{Shown, shown, refused_of, through, begins_none}
 use Rattle.rx_nest.proofs.Firsts.{page_behind, some_none}
 use Rattle.rx_nest.proofs.Meanings.{read_as_meant}
-use Rattle.rx_nest.proofs.Pieces.{front_back}
 use Rattle.rx_nest.proofs.PlaceLaws.{accepted_front}
 use Rattle.rx_nest.proofs.TagPlaces.{shows_more}
-use Rattle.rx_nest.proofs.TokenPlacing.{take_front}
 
 module _ (way : Way) (law : IsRefusal way.refused) where
   -- a fault lies behind what was read without one
@@ -27,9 +20,9 @@ module _ (way : Way) (law : IsRefusal way.refused) where
       early : fault.at + 1 ≤ length bytes → Shown way (take (fault.at + 1) (bytes ++ piece)) fault → ⊥
       early l s =
           let n : ℕ = fault.at + 1 in
-          let same : take n (bytes ++ piece) ≡ take n bytes = take_front n bytes piece l in
+          let same : take n (bytes ++ piece) ≡ take n bytes = take-append-le n bytes piece l in
           let read : page_read way.syntax way.limits (take n bytes) ≡ Ok s.now = ap (λ b. page_read way.syntax way.limits b) (sym same) ∙ s.read in
-          let all : page_read way.syntax way.limits (take n bytes ++ drop n bytes) ≡ Ok p = ap (λ b. page_read way.syntax way.limits b) (front_back n bytes) ∙ r in
+          let all : page_read way.syntax way.limits (take n bytes ++ drop n bytes) ≡ Ok p = ap (λ b. page_read way.syntax way.limits b) (take-append-drop n bytes) ∙ r in
           let more = shows_more way.syntax way.limits (take n bytes) (drop n bytes) s.now p read all in
           some_none (way.refused (shown p)) fault a (ap way.refused more.are ∙ law.stays (shown s.now) more.signs fault s.refused)
 

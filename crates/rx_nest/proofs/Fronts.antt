@@ -1,9 +1,7 @@
 -- What a page's bytes show at any time is the front of one element.
-use Rattle.rx_pages.proofs.Common.{◌≡◌, ◌≢◌, ◌∙◌, ℕ, zero, suc, ◌≤◌, ◌<◌, Bool, true, false, List, [], ◌∷◌, ◌++◌, refl, sym, ap, subst, length, append_assoc, append-nil, Some, None, Ok, arith, nat_tests, ◌&&◌, not, nat_le, if◌then◌else◌, map, Chars, by_test, Syntax, same, is_among, Tag, is_alone, is_html, is_plaintext, is_self_closed, hides, StartTag, Item, start_of, enders, is_omissible, is_held, root_name, Line, inside_of, parent_of, Phase, before, within, after, Rows, first_row, tag_rows, start_rows, end_rows, under_start, after_start, after_end, is_innermost, has_ended, is_before, is_no_line, Kind, Limits, Event, begins, says, finishes, Nesting, Step, tag_passes, begun_under, over, line_above, going_on, ended_by_start, ended_under, ended_by_end, Progress, page_read}
-use Rattle.rx_nest.specs.Signs.{Sign, begun, said, finished, Flags, is_hidden, Sight, see, sees, nothing_seen}
-use Rattle.rx_nest.specs.Nests.{Nested, NestStands, owed_signs, last_tag}
+use Rattle.rx_nest.proofs.Common.{◌≡◌, ◌≢◌, ◌∙◌, ℕ, zero, suc, ◌≤◌, ◌<◌, Bool, true, false, List, [], ◌∷◌, ◌++◌, refl, sym, ap, subst, length, append_assoc, append-nil, Some, None, Ok, arith, nat_tests, ◌&&◌, not, nat_le, if◌then◌else◌, map, Chars, by_test, Syntax, same, is_among, Tag, is_alone, is_html, is_plaintext, is_self_closed, hides, StartTag, Item, start_of, enders, root_name, Line, inside_of, Phase, before, within, after, Rows, first_row, tag_rows, start_rows, end_rows, under_start, after_start, after_end, is_innermost, has_ended, is_before, is_no_line, Kind, Limits, Event, begins, says, finishes, Nesting, Step, tag_passes, begun_under, over, line_above, going_on, ended_by_start, ended_under, ended_by_end, Progress, page_read, Sign, begun, said, finished, Flags, is_hidden, Sight, see, sees, nothing_seen, Nested, NestStands, owed_signs, last_tag}
 use Rattle.rx_nest.specs.Fronts.{Front, unbegun, inside, over as ended, goes, goes_on, front_of, levels_of, IsFront}
-use Rattle.rx_nest.proofs.ShownLines.{page_holds}
+use Rattle.rx_nest.proofs.ShownLines.{page_holds, end_walk, start_walk}
 use Rattle.rx_nest.proofs.TextSteps.{sees_append}
 
 -- the signs lead from one front to another, at no time past the limit
@@ -165,26 +163,9 @@ module _ (depth : ℕ) where
 
 module _ (syntax : Syntax) (depth : ℕ) where
   -- elements that end by omission: the root never
-  start_ends : (name : Chars) (t : StartTag) (line : Line) (sight : Sight) → Shown depth true (t ∷ line) sight → Shown depth true (after_start syntax name (t ∷ line)) (sees sight (ended_by_start syntax name (t ∷ line)))
-  start_ends name t [] sight s = s
-  start_ends name t (u ∷ line) sight s =
-      by_test (is_among (enders (inside_of syntax (u ∷ line)) t.name) name)
-      (λ e. rw e (start_ends name u line (see finishes sight.flags sight.signs) (finish depth t (u ∷ line) sight s)))
-      (λ e. rw e s)
-
   start_left : (name : Chars) (t : StartTag) (line : Line) → after_start syntax name (t ∷ line) ≢ []
-  start_left name t [] e = let w : t ∷ [] ≡ [] = e in absurd (cc)
-  start_left name t (u ∷ line) e =
-      by_test (is_among (enders (inside_of syntax (u ∷ line)) t.name) name)
-      (λ k. start_left name u line (subst (λ b. (if b then after_start syntax name (u ∷ line) else t ∷ (u ∷ line)) ≡ []) k e))
-      (λ k. absurd (let w : t ∷ (u ∷ line) ≡ [] = subst (λ b. (if b then after_start syntax name (u ∷ line) else t ∷ (u ∷ line)) ≡ []) k e in cc))
-
-  end_ends : (name : Chars) (t : StartTag) (line : Line) (sight : Sight) → Shown depth true (t ∷ line) sight → Shown depth true (after_end syntax name (t ∷ line)) (sees sight (ended_by_end syntax name (t ∷ line)))
-  end_ends name t [] sight s = s
-  end_ends name t (u ∷ line) sight s =
-      by_test (is_omissible (inside_of syntax (u ∷ line)) t.name && not (same t.name name) && not (is_held (parent_of (u ∷ line)) t.name))
-      (λ e. rw e (end_ends name u line (see finishes sight.flags sight.signs) (finish depth t (u ∷ line) sight s)))
-      (λ e. rw e s)
+  start_left name t [] = λ e. cc
+  start_left name t (u ∷ line) = by_test (is_among (enders (inside_of syntax (u ∷ line)) t.name) name) (λ k. rw k (start_left name u line)) (λ k. rw k (λ e. cc))
 
   -- how far the page has come is what has been shown
   abbrev PhaseAt : Bool → Phase → Line → Type 0
@@ -231,7 +212,7 @@ module _ (syntax : Syntax) (depth : ℕ) where
         ended_at : (b : Bool) (line : Line) → Shown depth b line (sees nothing_seen events) → (b ≡ true → line ≢ []) → At b (after_start syntax t.name line) (ended_by_start syntax t.name line)
         ended_at b [] s some = same_at b [] s some
         ended_at false (u ∷ line) s some = absurd (let w : u ∷ line ≡ [] = s.none refl in cc)
-        ended_at true (u ∷ line) s some = (subst (λ x. Shown depth true (after_start syntax t.name (u ∷ line)) x) (sym (sees_append nothing_seen events (ended_by_start syntax t.name (u ∷ line)))) (start_ends t.name u line (sees nothing_seen events) s), λ b. start_left t.name u line)
+        ended_at true (u ∷ line) s some = (subst (λ x. Shown depth true (after_start syntax t.name (u ∷ line)) x) (sym (sees_append nothing_seen events (ended_by_start syntax t.name (u ∷ line)))) (start_walk syntax (Shown depth true) (finish depth) t.name (u ∷ line) (sees nothing_seen events) s), λ b. start_left t.name u line)
 
         at_is : (b : Bool) (line : Line) → Shown depth b line (sees nothing_seen events) → (b ≡ true → line ≢ []) → At b (under_start syntax t.name line) (ended_under syntax t.name line)
         at_is b line s some = by_test (is_html (inside_of syntax line).content) (λ e. rw e (ended_at b line s some)) (λ e. rw e (same_at b line s some))
@@ -257,7 +238,7 @@ module _ (syntax : Syntax) (depth : ℕ) where
         by : (line : Line) (b : Bool) → h.has_begun ≡ b → is_no_line line ≡ false → is_innermost t.name (after_end syntax t.name line) ≡ true → Shown depth b line (sees nothing_seen events) → Held (over (line_above (after_end syntax t.name line))) (events ++ (ended_by_end syntax t.name line ++ finishes ∷ []))
         by [] b e k m s = absurd (cc)
         by (u ∷ line) false e k m s = absurd (let w : u ∷ line ≡ [] = s.none refl in cc)
-        by (u ∷ line) true e k m s = on (after_end syntax t.name (u ∷ line)) m (end_ends t.name u line (sees nothing_seen events) s)
+        by (u ∷ line) true e k m s = on (after_end syntax t.name (u ∷ line)) m (end_walk syntax (Shown depth true) (finish depth) t.name (u ∷ line) (sees nothing_seen events) s)
           where
             on : (x : Line) → is_innermost t.name x ≡ true → Shown depth true x (sees (sees nothing_seen events) (ended_by_end syntax t.name (u ∷ line))) → Held (over (line_above x)) (events ++ (ended_by_end syntax t.name (u ∷ line) ++ finishes ∷ []))
             on [] i z = absurd (cc)

@@ -1,22 +1,13 @@
 -- What the scanner tells, and the elements take, is what the page's bytes lead to.
-use Rattle.rx_pages.proofs.Common.{◌≡◌, ◌≢◌, ◌∙◌, ℕ, zero, suc, ◌+◌, Bool, true, false, List, [], ◌∷◌, ◌++◌, refl, sym, ap, subst, append_assoc, append-nil, Some, Result, Ok, Err, ◌&&◌, not, if◌then◌else◌, map, take, slice_get, Chars, Syntax, doctype, tag, Item, Line, inside_of, Phase, before, Fault, Kind, Limits, Event, Nesting, Step, content_at, doctype_step, step_by, nest_step, Spot, spot_of, Scanning, Scanned, scan_from, read_byte, is_none_left, may_lead, steps_on, with_events, telling, no_step, progress_of, page_on, page_read, nothing_read, IsKept, is_kept, page_scan, page_append, page_last, page_byte_fault, from_there, LastByte, last_byte}
+use Rattle.rx_nest.proofs.Common.{◌≡◌, ◌≢◌, ◌∙◌, ℕ, zero, suc, ◌+◌, Bool, true, false, List, [], ◌∷◌, ◌++◌, refl, sym, ap, subst, append_assoc, append-nil, Some, Result, Ok, Err, ◌&&◌, not, if◌then◌else◌, map, take, slice_get, Chars, Syntax, doctype, tag, Item, Line, inside_of, Phase, before, Fault, Kind, Limits, Event, Nesting, Step, content_at, doctype_step, step_by, nest_step, Spot, spot_of, Scanning, Scanned, scan_from, read_byte, is_none_left, may_lead, steps_on, with_events, telling, no_step, progress_of, page_on, page_read, nothing_read, IsKept, is_kept, page_scan, page_append, page_last, page_byte_fault, from_there, LastByte, last_byte, tag_seen, Setting, Scanner, HasMark, mark_bytes, ends_leading, setting_behind, Faults, Lines, says_text, is_none_open, Levels, hidden_under, Sign, said, is_hidden, sees, AreLevels, Follows, flags_of, phase_at, Stops, At, setting_of, heard_signs}
 use Rattle.rx_grammar.specs.Tokens as tokens
 use Rattle.rx_pages.proofs.Doctyped.{OneByte, one_byte, byte_leads}
 use Rattle.rx_pages.proofs.Leads.{scan_same}
 use Rattle.rx_tags.specs.declared.tags.Tag.{Tag}
-use Rattle.rx_tags.specs.Seen.{tag_seen}
 use Rattle.rx_scan.specs.declared.answers.Token.{Token}
 use Rattle.rx_scan.specs.declared.answers.Token.TheVariants as token
-use Rattle.rx_scan.specs.declared.places.Setting.{Setting}
-use Rattle.rx_scan.specs.Scanner.{Scanner}
-use Rattle.rx_scan.specs.Steps.{HasMark, mark_bytes, IsOne, IsTag, Skips, a_mark, a_comment, an_empty_section, a_line_feed, texts_of, keeps_first, after_some, ends_leading, setting_behind, Faults, is_more}
 use Rattle.rx_scan.specs.Steps as scan
 use Rattle.rx_nest.specs.declared.tree_tokens.TreeToken.{TreeToken}
-use Rattle.rx_nest.specs.Lines.{Lines, says_text, is_none_open}
-use Rattle.rx_nest.specs.Levels.{Levels, hidden_under}
-use Rattle.rx_nest.specs.Signs.{Sign, said, is_hidden, sees}
-use Rattle.rx_nest.specs.Follows.{AreLevels, Follows, flags_of, phase_at}
-use Rattle.rx_nest.specs.Nests.{Stops, At, setting_of, heard_signs}
 use Rattle.rx_nest.proofs.Takes.{hidden_flags}
 use Rattle.rx_nest.proofs.TextSteps.{said_by, Quiet}
 

@@ -1,10 +1,6 @@
 -- What was answered comes again, and nothing is promised after it but that.
-use Rattle.rx_pages.proofs.Common.{◌≡◌, ◌≢◌, ◌∙◌, true, false, None, Some, Result, Ok, Err, refl, sym, ap, Stop}
+use Rattle.rx_nest.proofs.Common.{◌≡◌, ◌≢◌, ◌∙◌, true, false, None, Some, Result, Ok, Err, refl, sym, ap, Stop, IsNoMemory, Latched, Repeats, latched_by, FallsBy, HasMemory}
 use Rattle.rx_grammar.specs.declared.stops.Stop.TheVariants as stop
-use Rattle.rx_scan.specs.Entries.{IsNoMemory}
-use Rattle.rx_scan.specs.Latches.{Latched, Repeats, latched_by}
-use Rattle.rx_nest.specs.Falling.{FallsBy}
-use Rattle.rx_nest.specs.Quiets.{HasMemory}
 
 pub falls_by : (why : Stop) → FallsBy why (latched_by why).failed (latched_by why).out_of_memory
 falls_by (stop.Fault fault) = (refl, refl)

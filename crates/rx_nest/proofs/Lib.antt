@@ -15,7 +15,6 @@ pub mod Sizes
 pub mod Fronts
 pub mod TagPlaces
 pub mod OpenElements
-pub mod Pieces
 pub mod Refusing
 pub mod TokenPlacing
 pub mod Firsts
@@ -32,3 +31,4 @@ pub mod Turning
 pub mod QuietReading
 pub mod Quieting
 pub mod ShownLines
+pub mod Common

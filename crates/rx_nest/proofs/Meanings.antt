@@ -1,14 +1,7 @@
 -- The start tags that the grammar calls refused are those that the reader shows as refused.
-use Rattle.rx_pages.proofs.Common.{◌≡◌, ◌∙◌, ℕ, ◌+◌, ◌≤◌, ◌<◌, List, [], ◌∷◌, ◌++◌, length, take, drop, refl, sym, ap, ⊎_elim, Option, Some, None, Ok, arith, less_than_sign, Fault, Limits, Line, Phase, Begun, Page, Tree, closed, IsWide, ClosedTells, ReadsTo, Progress, page_read, nothing_unfinished}
-use Rattle.rx_pages.proofs.ClosedTold.{fronts_tell}
-use Rattle.rx_nest.specs.Fronts.{ShowsMore}
-use Rattle.rx_nest.specs.Signs.{Sign, sees, nothing_seen, signs_of}
-use Rattle.rx_nest.specs.Faults.{MeaningAt}
-use Rattle.rx_nest.specs.RefusedTags.{ReaderRefuses, RefusedTagsAreLast}
-use Rattle.rx_nest.specs.Ways.{Way, IsRefusal}
-use Rattle.rx_nest.proofs.FaultPlacing.{take_length, page_shows, shown, through}
+use Rattle.rx_nest.proofs.Common.{◌≡◌, ◌∙◌, ℕ, ◌+◌, ◌≤◌, ◌<◌, List, [], ◌∷◌, ◌++◌, length, take, drop, refl, sym, ap, ⊎_elim, Option, Some, None, Ok, arith, less_than_sign, Fault, Limits, Line, Phase, Begun, Page, Tree, closed, IsWide, ClosedTells, ReadsTo, Progress, page_read, nothing_unfinished, take-append-drop, length-take-le, fronts_tell, ShowsMore, Sign, sees, nothing_seen, signs_of, MeaningAt, ReaderRefuses, RefusedTagsAreLast, Way, IsRefusal}
+use Rattle.rx_nest.proofs.FaultPlacing.{page_shows, shown, through}
 use Rattle.rx_nest.proofs.Firsts.{some_none}
-use Rattle.rx_nest.proofs.Pieces.{front_back}
 use Rattle.rx_nest.proofs.PlaceLaws.{bare_such, closed_shows}
 use Rattle.rx_nest.proofs.TokenPlacing.{all_add}
 use Rattle.rx_nest.proofs.RefusedTags.{refuses_last, long}
@@ -123,11 +116,11 @@ module _ (way : Way) (law : IsRefusal way.refused) where
         let w : Limits = record { depth = way.limits.depth; tag = length (closed front m.line m.phase); page = length (closed front m.line m.phase) } in
         let p = page_shows way.syntax w (closed front m.line m.phase) m.tree (m.page w (record { depth = refl; tag = omega arith; page = omega arith })) in
         let deep = depth_needed w (closed front m.line m.phase) p.final fault p.read (ap way.refused p.signs_are ∙ m.refused) in
-        let size = take_length (fault.at + 1) bytes (let l = m.within in omega (arith, l)) in
+        let size = length-take-le (fault.at + 1) bytes (let l = m.within in omega (arith, l)) in
         record {
           front = front;
           rest = drop (fault.at + 1) bytes;
-          are = sym (front_back (fault.at + 1) bytes);
+          are = sym (take-append-drop (fault.at + 1) bytes);
           now = r.now;
           read = r.read;
           refused = closed_shown front m.line m.phase r.now m.tree deep m.begun r.read m.page fault (omega (arith, size)) m.refused;

@@ -1,20 +1,15 @@
 -- The open elements that are kept are those of the grammar's front, and a fault leaves them as they were.
-use Rattle.rx_pages.proofs.Common.{◌≡◌, ◌∙◌, ℕ, Bool, true, false, List, [], ◌∷◌, ◌++◌, refl, sym, ap, subst, append_assoc, Option, Result, None, Ok, Err, take, Entry, Syntax, values, next_of, Line, Phase, Begun, Fault, Kind, Limits, Event, Step, Scanned, Progress, read_byte, scan_from, spot_of, steps_on, no_step, progress_of, nested_items, page_byte_on, page_on, page_read, nothing_read, telling, token_at, ReadsTo, page_append, reads_to, nothing_unfinished, unfinished_follows_front, ok_is, Stop}
+use Rattle.rx_nest.proofs.Common.{◌≡◌, ◌∙◌, ℕ, Bool, true, false, List, [], ◌∷◌, ◌++◌, refl, sym, ap, subst, append_assoc, Option, Result, None, Ok, Err, take, Entry, Syntax, values, next_of, Line, Phase, Begun, Fault, Kind, Limits, Event, Progress, scan_from, spot_of, page_byte_on, page_on, page_read, nothing_read, token_at, ReadsTo, page_append, reads_to, nothing_unfinished, unfinished_follows_front, ok_is, Stop, fault_in, tag_seen, Scanner, Lines, TagGives, GivesBy, AreLevels, TakesToken, token_result, At, Stops, StaysAtFault, OpenBefore}
+use Rattle.rx_nest.proofs.TextSteps.{byte_goes}
 use Rattle.rx_grammar.specs.declared.stops.Stop.TheVariants as stop
 use Rattle.rx_tags.specs.declared.tags.Tag.{Tag}
-use Rattle.rx_tags.specs.Seen.{tag_seen}
-use Rattle.rx_scan.specs.Scanner.{Scanner}
 use Rattle.rx_scan.specs.declared.answers.Token.{Token}
 use Rattle.rx_scan.specs.declared.answers.Token.TheVariants as token
 use Rattle.rx_nest.specs.declared.lines.TagEffect.{TagEffect}
 use Rattle.rx_nest.specs.declared.lines.Refused.{Refused}
 use Rattle.rx_nest.specs.declared.lines.Refused.TheVariants as refused
-use Rattle.rx_nest.specs.Lines.{Lines, TagGives, GivesBy}
-use Rattle.rx_nest.specs.Follows.{AreLevels}
-use Rattle.rx_nest.specs.TreeTokens.{TakesToken, token_result}
-use Rattle.rx_nest.specs.Nests.{At, Stops, StaysAtFault, OpenBefore}
 use Rattle.rx_nest.specs.OpenElements.{HasOpen, HasOpenUnderway, HasOpenOfFronts}
-use Rattle.rx_nest.proofs.LineLemmas.{length_is}
+use Rattle.rx_nest.proofs.LineLemmas.{same_of}
 use Rattle.rx_nest.proofs.Heeding.{quiet_front}
 
 -- a tag that is refused
@@ -41,21 +36,10 @@ stays_same A stop.NoMemory l = tt
 
 -- where a byte decides a fault its token is the unfinished one
 fault_token : (syntax : Syntax) (limits : Limits) (p : Progress) (byte : ℕ) (fault : Fault) → page_byte_on syntax limits (Ok p) byte ≡ Err fault → token_at p.now.scan ≡ fault.token
-fault_token syntax limits p byte fault h = by (read_byte syntax limits (spot_of syntax p.now.nest) byte p.now.scan) h
-  where
-    on : (scanned : Scanned) (x : Result Step Kind) → telling p.told (progress_of p.now.scan scanned.next x) ≡ Err fault → token_at p.now.scan ≡ fault.token
-    on scanned (Ok step) e = absurd (cc)
-    on scanned (Err kind) e = ap (λ (f : Fault). f.token) (same e)
-      where
-        same : {f : Fault} → ◌≡◌ {A = Result Progress Fault} (Err f) (Err fault) → f ≡ fault
-        same q = cc
-
-    by : (x : Result Scanned Kind) → telling p.told (nested_items syntax limits.depth p.now x) ≡ Err fault → token_at p.now.scan ≡ fault.token
-    by (Ok scanned) e = on scanned (steps_on syntax limits.depth (Ok (no_step p.now.nest)) scanned.items) e
-    by (Err kind) e = ap (λ (f : Fault). f.token) (same e)
-      where
-        same : {f : Fault} → ◌≡◌ {A = Result Progress Fault} (Err f) (Err fault) → f ≡ fault
-        same q = cc
+fault_token syntax limits p byte fault h =
+    byte_goes syntax limits p byte (λ x. x ≡ Err fault → token_at p.now.scan ≡ fault.token)
+    (λ kind e. let same : fault_in p.now.scan kind ≡ fault = cc in ap (λ (f : Fault). f.token) same)
+    (λ scanned step e k w. absurd (cc)) h
 
 module _ (syntax : Syntax) (limits : Limits) (bytes : List ℕ) (told : List Event) (v : Scanner) (line : Lines) (at : At syntax limits bytes told v line) where
   levels_are : AreLevels syntax line.levels at.now.nest.line
@@ -67,7 +51,7 @@ module _ (syntax : Syntax) (limits : Limits) (bytes : List ℕ) (told : List Eve
       let same = ok_is r.now (record { now = at.now; told = told }) (page_read syntax limits bytes) r.read at.read in
       let line_is : at.now.nest.line ≡ other = ap (λ (p : Progress). p.now.nest.line) (sym same) ∙ r.is_at.line_is in
       let are = subst (λ (l : Line). AreLevels syntax line.levels l) line_is levels_are in
-      record { levels = are; depth = length_is syntax line.levels other are }
+      record { levels = are; depth = (same_of syntax line.levels other are).size }
 
   pub open_before : (piece : List ℕ) (fault : Fault) → Stops syntax limits bytes told piece fault → OpenBefore syntax limits (bytes ++ piece) fault.token line
   open_before piece fault st =
@@ -98,7 +82,7 @@ module _ (syntax : Syntax) (limits : Limits) (bytes : List ℕ) (told : List Eve
         phase = st.now.nest.phase;
         begun = subst (λ b. Begun syntax limits (take fault.token b) next st.now.nest.line st.now.nest.phase) all (subst (λ n. Begun syntax limits (take n ((bytes ++ st.front) ++ (st.byte ∷ st.rest))) next st.now.nest.line st.now.nest.phase) token_is begun);
         levels = are;
-        depth = length_is syntax line.levels st.now.nest.line are;
+        depth = (same_of syntax line.levels st.now.nest.line are).size;
       }
 
 pub has_open_underway : HasOpenUnderway

@@ -1,7 +1,6 @@
 -- Names that stand in no table, or in one alone.
-use Rattle.rx_grammar.proofs.Common.{◌≡◌, true, List, [], ◌∷◌, refl, sym, subst, ⊎_elim, Chars, or_cases, is_among, same}
+use Rattle.rx_nest.proofs.Common.{◌≡◌, true, List, [], ◌∷◌, sym, subst, ⊎_elim, Chars, or_cases, is_among, same, rules, IsPlain, IsOrdinary, ordinary_names, omissible_names}
 use Rattle.rx_pages.proofs.Contents.{same_is}
-use Rattle.rx_nest.specs.Ordinary.{IsPlain, IsOrdinary, ordinary_names, omissible_names}
 
 abbrev pub AllAre : (Chars → Type 0) → List Chars → Type 0
 AllAre Holds [] = Unit {0}
@@ -13,76 +12,10 @@ each Holds (word ∷ words) all name h =
     ⊎_elim (λ e. subst Holds (sym (same_is name word e)) all.0) (λ e. each Holds words all.1 name e) (or_cases (same name word) (is_among words name) h)
 
 all_ordinary : AllAre IsOrdinary ordinary_names
-all_ordinary = (
-  record { plain = record { filled = refl; rootless = refl; inside = refl; seen = refl; whole = refl }; row = refl; free = refl },
-  (
-    record { plain = record { filled = refl; rootless = refl; inside = refl; seen = refl; whole = refl }; row = refl; free = refl },
-    (
-      record { plain = record { filled = refl; rootless = refl; inside = refl; seen = refl; whole = refl }; row = refl; free = refl },
-      (
-        record { plain = record { filled = refl; rootless = refl; inside = refl; seen = refl; whole = refl }; row = refl; free = refl },
-        (
-          record { plain = record { filled = refl; rootless = refl; inside = refl; seen = refl; whole = refl }; row = refl; free = refl },
-          (
-            record { plain = record { filled = refl; rootless = refl; inside = refl; seen = refl; whole = refl }; row = refl; free = refl },
-            (
-              record { plain = record { filled = refl; rootless = refl; inside = refl; seen = refl; whole = refl }; row = refl; free = refl },
-              (
-                record { plain = record { filled = refl; rootless = refl; inside = refl; seen = refl; whole = refl }; row = refl; free = refl },
-                (
-                  record { plain = record { filled = refl; rootless = refl; inside = refl; seen = refl; whole = refl }; row = refl; free = refl },
-                  (
-                    record { plain = record { filled = refl; rootless = refl; inside = refl; seen = refl; whole = refl }; row = refl; free = refl },
-                    (
-                      record { plain = record { filled = refl; rootless = refl; inside = refl; seen = refl; whole = refl }; row = refl; free = refl },
-                      (
-                        record { plain = record { filled = refl; rootless = refl; inside = refl; seen = refl; whole = refl }; row = refl; free = refl },
-                        (
-                          record { plain = record { filled = refl; rootless = refl; inside = refl; seen = refl; whole = refl }; row = refl; free = refl },
-                          (
-                            record { plain = record { filled = refl; rootless = refl; inside = refl; seen = refl; whole = refl }; row = refl; free = refl },
-                            (
-                              record { plain = record { filled = refl; rootless = refl; inside = refl; seen = refl; whole = refl }; row = refl; free = refl },
-                              tt,
-                            ),
-                          ),
-                        ),
-                      ),
-                    ),
-                  ),
-                ),
-              ),
-            ),
-          ),
-        ),
-      ),
-    ),
-  ),
-)
+all_ordinary = search rules depth 60
 
 all_plain : AllAre IsPlain omissible_names
-all_plain = (
-  record { filled = refl; rootless = refl; inside = refl; seen = refl; whole = refl },
-  (
-    record { filled = refl; rootless = refl; inside = refl; seen = refl; whole = refl },
-    (
-      record { filled = refl; rootless = refl; inside = refl; seen = refl; whole = refl },
-      (
-        record { filled = refl; rootless = refl; inside = refl; seen = refl; whole = refl },
-        (
-          record { filled = refl; rootless = refl; inside = refl; seen = refl; whole = refl },
-          (
-            record { filled = refl; rootless = refl; inside = refl; seen = refl; whole = refl },
-            (
-              record { filled = refl; rootless = refl; inside = refl; seen = refl; whole = refl },
-              tt,
-            ),
-          ),
-        ),
-      ),
-    ),
-  ),
-)
+all_plain = search rules depth 60
 
 pub ordinary : (name : Chars) → is_among ordinary_names name ≡ true → IsOrdinary name
 ordinary name h = each IsOrdinary ordinary_names all_ordinary name h

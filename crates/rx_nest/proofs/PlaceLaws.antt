@@ -1,16 +1,10 @@
 -- Where the faults lie that a piece of a page brings, and what stands before them.
-use Rattle.rx_pages.proofs.Common.{◌≡◌, ◌∙◌, ℕ, ◌+◌, ◌≤◌, ◌<◌, List, [], ◌∷◌, ◌++◌, length, take, drop, refl, sym, ap, subst, Option, Some, None, Result, Ok, arith, less_than_sign, Syntax, Line, Phase, Item, Tree, Page, Fault, Limits, closed, IsWide, IsFront, Bare, AllEnd, ClosedTells, Event, begins, says, finishes, Nesting, Goes, stands, goes, Progress, page_read, read_size}
-use Rattle.rx_pages.proofs.ClosedTold.{fronts_tell}
-use Rattle.rx_nest.specs.Signs.{Sign, Sight, sees, nothing_seen, signs_of}
+use Rattle.rx_nest.proofs.Common.{◌≡◌, ◌∙◌, ℕ, ◌+◌, ◌≤◌, ◌<◌, List, [], ◌∷◌, ◌++◌, length, take, drop, refl, sym, ap, subst, Option, Some, None, Result, Ok, arith, less_than_sign, Syntax, Line, Phase, Item, Tree, Page, Fault, Limits, closed, IsWide, IsFront, Bare, AllEnd, ClosedTells, Event, begins, says, finishes, Nesting, Goes, stands, goes, Progress, page_read, read_size, take-append-drop, length-take-le, take-append-le, fronts_tell, Sign, Sight, sees, nothing_seen, signs_of, ReaderRefuses, IsAcceptedPage, IsAcceptedFront, Way, IsRefusal}
 use Rattle.rx_nest.proofs.TagPlaces.{shows_more}
 use Rattle.rx_nest.proofs.TextSteps.{sees_append}
-use Rattle.rx_nest.specs.RefusedTags.{ReaderRefuses}
-use Rattle.rx_nest.specs.FaultPlaces.{IsAcceptedPage, IsAcceptedFront}
-use Rattle.rx_nest.specs.Ways.{Way, IsRefusal}
-use Rattle.rx_nest.proofs.FaultPlacing.{take_length, read_front, page_shows}
+use Rattle.rx_nest.proofs.FaultPlacing.{read_front, page_shows}
 use Rattle.rx_nest.proofs.Refusing.{at_from, bare_accepted}
-use Rattle.rx_nest.proofs.TokenPlacing.{AllBegin, StepBegins, begin_append, item_such, refused_such, take_front, token_before, refused_fronts}
-use Rattle.rx_nest.proofs.Pieces.{front_back}
+use Rattle.rx_nest.proofs.TokenPlacing.{AllBegin, StepBegins, begin_append, item_such, refused_such, token_before, refused_fronts}
 
 -- tags that are told end where their tokens do
 
@@ -22,8 +16,8 @@ goes_before syntax depth end meant (goes {n = n} {events = events} item step c e
 pub bare_such : (events : List Event) → Bare events → AllBegin (λ t. t.attributes ≡ []) events
 bare_such [] b = tt
 bare_such (begins t hides ∷ events) b = (b.0, bare_such events b.1)
-bare_such (says chars ∷ events) b = bare_such events b
-bare_such (finishes ∷ events) b = bare_such events b
+bare_such (says chars ∷ events) b = (tt, bare_such events b)
+bare_such (finishes ∷ events) b = (tt, bare_such events b)
 
 -- closed they show what they showed, and no attributes besides
 pub closed_shows : (syntax : Syntax) (limits : Limits) (bytes : List ℕ) (line : Line) (phase : Phase) (t : ClosedTells syntax limits bytes line phase) (wide : Limits) → IsWide limits wide (length (closed bytes line phase)) → (tree : Tree) → Page syntax wide (closed bytes line phase) tree
@@ -46,13 +40,13 @@ module _ (way : Way) (law : IsRefusal way.refused) (bytes : List ℕ) (fault : F
   within = (token_before way law m.front m.now fault m.read m.refused).0
 
   first_part : take fault.token m.front ≡ front
-  first_part = sym (take_front fault.token m.front m.rest (omega (arith, within))) ∙ ap (take fault.token) (sym m.are)
+  first_part = sym (take-append-le fault.token m.front m.rest (omega (arith, within))) ∙ ap (take fault.token) (sym m.are)
 
   size : length front ≡ fault.token
-  size = sym (ap length first_part) ∙ take_length fault.token m.front (omega (arith, within))
+  size = sym (ap length first_part) ∙ length-take-le fault.token m.front (omega (arith, within))
 
   on : page_read way.syntax way.limits (front ++ drop fault.token m.front) ≡ Ok m.now
-  on = ap (λ b. page_read way.syntax way.limits (b ++ drop fault.token m.front)) (sym first_part) ∙ (ap (page_read way.syntax way.limits) (front_back fault.token m.front) ∙ m.read)
+  on = ap (λ b. page_read way.syntax way.limits (b ++ drop fault.token m.front)) (sym first_part) ∙ (ap (page_read way.syntax way.limits) (take-append-drop fault.token m.front) ∙ m.read)
 
   -- what the front shows is accepted
   front_accepted : (p : Progress) → page_read way.syntax way.limits front ≡ Ok p → way.refused (sees nothing_seen p.told).signs ≡ None

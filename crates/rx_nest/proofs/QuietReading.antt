@@ -1,23 +1,16 @@
 -- What is read of a piece without `<` and `&` between two tokens: text.
-use Rattle.rx_pages.proofs.Common.{◌≡◌, ◌∙◌, ℕ, zero, suc, ◌<◌, Bool, true, false, List, [], ◌∷◌, ◌++◌, map, take, drop, refl, sym, ap, ap₂, subst, Option, None, Some, Result, Ok, Err, eqb-true, lit<, append_assoc, append-nil, ◌&&◌, ◌||◌, ◌==◌, not, nat_le, if◌then◌else◌, and_from, or_parts, append_cancel_left, map-append, less_than_sign, ampersand, greater_than_sign, Chars, by_test, split, both, untrue, Syntax, More, Char, Bad, answer_of, Entry, byte_order_mark, line_feed, carriage_return, as_line_end, Tag, Token, tag, character, reference, kept, section, comment, doctype, has_references, is_text, values, Item, is_literal, is_line_feed, Phase, before, StartTag, Utf8Step, Content, Fault, Kind, Limits, Verdict, goes_on, whole, ended, refused, verdict, at_first, Spot, spot_of, Scanning, starts_at, Scanned, first_of, token_at, is_doctype, item_of, is_too_long, completed, read_char, read_answer, read_byte, Progress, with_events, step_on, steps_on, no_step, progress_of, nested_items, page_byte_on, telling, page_on, page_read, nothing_read, page_append, Stop, token_of_item, equal}
-use Rattle.rx_pages.specs.Nesting.{Event, begins, says, finishes, Nesting, Step, nest_step, step_by, text_step, told as told_text, doctype_step}
+use Rattle.rx_nest.proofs.Common.{◌≡◌, ◌∙◌, ℕ, zero, suc, ◌<◌, Bool, true, false, List, [], ◌∷◌, ◌++◌, map, take, drop, refl, sym, ap, ap₂, subst, Option, None, Some, Result, Ok, Err, eqb-true, lit<, append_assoc, append-nil, ◌&&◌, ◌||◌, ◌==◌, not, nat_le, if◌then◌else◌, and_from, or_parts, append_cancel_left, map-append, less_than_sign, ampersand, greater_than_sign, Chars, by_test, split, both, untrue, Syntax, More, Char, Bad, answer_of, Entry, byte_order_mark, line_feed, carriage_return, as_line_end, Tag, tag, has_references, is_text, values, Item, is_literal, StartTag, Utf8Step, Content, Fault, Kind, Limits, Verdict, goes_on, whole, ended, refused, verdict, at_first, Spot, spot_of, Scanning, starts_at, Scanned, first_of, token_at, is_doctype, item_of, is_too_long, completed, read_char, read_answer, read_byte, Progress, steps_on, no_step, page_byte_on, page_on, page_read, nothing_read, page_append, Stop, token_of_item, equal, IsNoMemory, is_quiet, Nested, Stepped, event_signs, IsBetween, Sign, said, Sight, is_hidden, sees, nothing_seen, finishing, OwesNone, is_calm, HasMemory}
+use Rattle.rx_pages.specs.Nesting.{Event, begins, says, finishes, Step}
 use Rattle.rx_pages.specs.PageReader as reader
 use Rattle.rx_grammar.specs.declared.stops.Stop.TheVariants as stop
-use Rattle.rx_scan.specs.Entries.{IsNoMemory}
-use Rattle.rx_scan.specs.Steps.{is_quiet}
 use Rattle.rx_nest.specs.declared.nests.Event.{Event as Shown}
 use Rattle.rx_nest.specs.declared.nests.Event.TheVariants as event
 use Rattle.rx_nest.specs.declared.tree_tokens.PendingEvents.{PendingEvents}
 use Rattle.rx_nest.specs.declared.lines.TagAction.{TagAction}
 use Rattle.rx_nest.specs.declared.lines.TagAction.TheVariants as own
 use Rattle.rx_nest.specs.Nests as nests
-use Rattle.rx_nest.specs.Nests.{Nested, Stepped, event_signs, IsBetween}
-use Rattle.rx_nest.specs.Signs.{Sign, said, Sight, is_hidden, sees, nothing_seen, finishing}
-use Rattle.rx_nest.proofs.TextSteps.{sees_append}
-use Rattle.rx_nest.proofs.TokenPlacing.{HasNoTag}
-use Rattle.rx_nest.specs.Readings.{OwesNone}
-use Rattle.rx_nest.specs.Listening.{is_calm}
-use Rattle.rx_nest.specs.Quiets.{HasMemory}
+use Rattle.rx_nest.proofs.TextSteps.{sees_append, byte_goes}
+use Rattle.rx_nest.proofs.TokenPlacing.{HasNoTag, IsOther, StepHolds, items_hold}
 use Rattle.rx_scan.proofs.QuietLemmas.{last_byte, begins_line}
 
 unlike : (held : List ℕ) (byte c d : ℕ) → (byte == d) ≡ false → answer_of (held ++ byte ∷ []) ≡ Char c → (10 == d) ≡ false → d < 128 → (as_line_end c == d) ≡ false
@@ -86,42 +79,11 @@ say_append (says chars ∷ xs) ys a b = say_append xs ys a b
 say_append (finishes ∷ xs) ys a b = absurd a
 
 abbrev pub StepSays : Result Step Kind → Type 0
-StepSays (Ok step) = AllSay step.events
-StepSays (Err kind) = Unit {0}
-
-told_says : (p : Phase) (chars : Chars) → AllSay (told_text p chars)
-told_says (before stood) chars = tt
-told_says _ chars = tt
-
-text_says : (n : Nesting) (dropped : Bool) (chars : Chars) → AllSay (text_step n dropped chars).events
-text_says n dropped chars = split AllSay (n.drops && dropped) _ _ (λ e. tt) (λ e. told_says n.phase chars)
+StepSays x = StepHolds AllSay x
 
 -- tokens that are no tags say text alone
-module _ (syntax : Syntax) (depth : ℕ) where
-  doctype_says : (p : Phase) → StepSays (doctype_step p)
-  doctype_says (before true) = tt
-  doctype_says _ = tt
-
-  item_says : (n : Nesting) (item : Item) → ((t : Tag) → item.token ≡ tag t → ⊥) → StepSays (nest_step syntax depth n item)
-  item_says n item h = by item.token h
-    where
-      by : (token : Token) → ((t : Tag) → token ≡ tag t → ⊥) → StepSays (step_by syntax depth n item token)
-      by (tag t) k = absurd (k t refl)
-      by (character c) k = text_says n (is_line_feed (character c)) (c ∷ [])
-      by (reference c) k = text_says n (is_line_feed (reference c)) (c ∷ [])
-      by (kept chars) k = text_says n false chars
-      by (section chars) k = text_says n false chars
-      by comment k = tt
-      by doctype k = doctype_says n.phase
-
-  pub items_say : (items : List Item) → HasNoTag items → (x : Result Step Kind) → StepSays x → StepSays (steps_on syntax depth x items)
-  items_say [] h x s = s
-  items_say (item ∷ items) h (Err kind) s = items_say items h.1 (Err kind) tt
-  items_say (item ∷ items) h (Ok step) s = items_say items h.1 (step_on syntax depth (Ok step) item) (by (nest_step syntax depth step.next item) (item_says step.next item h.0))
-    where
-      by : (x : Result Step Kind) → StepSays x → StepSays (with_events step.events x)
-      by (Ok next) k = say_append step.events next.events s k
-      by (Err kind) k = tt
+pub items_say : (syntax : Syntax) (depth : ℕ) (items : List Item) → HasNoTag items → (x : Result Step Kind) → StepSays x → StepSays (steps_on syntax depth x items)
+items_say syntax depth = items_hold AllSay tt say_append (λ chars. tt) syntax depth IsOther (λ m item t e h. absurd (h t e))
 
 record Says (told new : List Event) : Type 0 where
   more : List Event
@@ -135,16 +97,12 @@ Calmly told (Err fault) = Unit {0}
 module _ (syntax : Syntax) (limits : Limits) where
   one_calm : (told : List Event) (byte : ℕ) (x : Result Progress Fault) → not (byte == 60 || byte == 38) ≡ true → Calmly told x → Calmly told (page_byte_on syntax limits x byte)
   one_calm told byte (Err fault) q h = tt
-  one_calm told byte (Ok p) q h = by (read_byte syntax limits (spot_of syntax p.now.nest) byte p.now.scan) (byte_calm syntax limits (spot_of syntax p.now.nest) p.now.scan byte h.0 q)
-    where
-      on : (scanned : Scanned) → scanned.next.run ≡ [] → (x : Result Step Kind) → StepSays x → Calmly told (telling p.told (progress_of p.now.scan scanned.next x))
-      on scanned e (Ok step) k =
-          (e, record { more = h.1.more ++ step.events; is = ap (λ es. es ++ step.events) h.1.is ∙ append_assoc told h.1.more step.events; say = say_append h.1.more step.events h.1.say k })
-      on scanned e (Err kind) k = tt
-
-      by : (x : Result Scanned Kind) → Calm x → Calmly told (telling p.told (nested_items syntax limits.depth p.now x))
-      by (Ok scanned) k = on scanned k.0 (steps_on syntax limits.depth (Ok (no_step p.now.nest)) scanned.items) (items_say syntax limits.depth scanned.items k.1 (Ok (no_step p.now.nest)) tt)
-      by (Err kind) k = tt
+  one_calm told byte (Ok p) q h =
+      byte_goes syntax limits p byte (Calmly told) (λ kind. tt)
+      (λ scanned step e k.
+      let calm = subst Calm e (byte_calm syntax limits (spot_of syntax p.now.nest) p.now.scan byte h.0 q) in
+      let told_so = subst StepSays k (items_say syntax limits.depth scanned.items calm.1 (Ok (no_step p.now.nest)) tt) in
+      (calm.0, record { more = h.1.more ++ step.events; is = ap (λ es. es ++ step.events) h.1.is ∙ append_assoc told h.1.more step.events; say = say_append h.1.more step.events h.1.say told_so }))
 
   all_calm : (told : List Event) (bytes : List ℕ) (x : Result Progress Fault) → is_quiet bytes ≡ true → Calmly told x → Calmly told (page_on syntax limits x bytes)
   all_calm told [] x q h = h
@@ -208,16 +166,10 @@ none_owed : (owed : PendingEvents) (t : StartTag) (chars : Chars) → nests.owed
 none_owed owed t chars = by owed.ends owed.own chars
   where
     by : (k : ℕ) (o : Option TagAction) (chars : Chars) → finishing k ++ nests.owes_own o t ≡ map said chars → finishing k ++ nests.owes_own o t ≡ []
-    by (suc k) o [] e = absurd (cc)
-    by (suc k) o (c ∷ chars) e = absurd (cc)
     by zero None chars e = refl
     by zero (Some own.Nothing) chars e = refl
-    by zero (Some own.Begin) [] e = absurd (cc)
-    by zero (Some own.Begin) (c ∷ chars) e = absurd (cc)
-    by zero (Some own.Alone) [] e = absurd (cc)
-    by zero (Some own.Alone) (c ∷ chars) e = absurd (cc)
-    by zero (Some own.Finish) [] e = absurd (cc)
-    by zero (Some own.Finish) (c ∷ chars) e = absurd (cc)
+    by _ _ [] e = absurd (cc)
+    by _ _ (c ∷ chars) e = absurd (cc)
 
 calm_event : (e : Shown) (chars : Chars) (ys : List Sign) → map said chars ≡ event_signs e ++ ys → is_calm e ≡ true
 calm_event (event.Begin t) [] ys h = absurd (cc)

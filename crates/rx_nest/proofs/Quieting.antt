@@ -1,11 +1,5 @@
 -- Turns on a quiet piece.
-use Rattle.std.proofs.Common.{◌≡◌, ◌∙◌, ℕ, true, List, [], ◌++◌, take, drop, refl, sym, ap, subst, append-nil, append_assoc}
-use Rattle.rx_scan.specs.Steps.{is_quiet}
-use Rattle.rx_nest.specs.Nests.{Nested}
-use Rattle.rx_nest.specs.Signs.{Sign}
-use Rattle.rx_nest.specs.Ways.{Way}
-use Rattle.rx_nest.specs.Quiets.{QuietAt}
-use Rattle.rx_nest.proofs.Pieces.{front_back}
+use Rattle.rx_nest.proofs.Common.{◌≡◌, ◌∙◌, ℕ, true, List, [], ◌++◌, take, drop, refl, sym, ap, subst, append-nil, append_assoc, take-append-drop, is_quiet, Nested, Sign, Way, QuietAt}
 use Rattle.rx_nest.proofs.QuietReading.{quiet_drop}
 use Rattle.rx_nest.proofs.Turning.{GoesOn, TakenBy}
 
@@ -29,7 +23,7 @@ module _ {L : Type 0} (way : Way) (knows : L → List Sign → Type 0) (idle : L
   quiet_more bytes piece rest n nest new listener next t g =
       record {
         front = t.front ++ take n rest;
-        are = t.are ∙ (ap (λ x. t.front ++ x) (sym (front_back n rest)) ∙ sym (append_assoc t.front (take n rest) (drop n rest)));
+        are = t.are ∙ (ap (λ x. t.front ++ x) (sym (take-append-drop n rest)) ∙ sym (append_assoc t.front (take n rest) (drop n rest)));
         at = subst (λ b. QuietAt way knows idle new next b) (append_assoc bytes t.front (take n rest)) g;
         quiet = quiet_drop n rest t.quiet;
       }

@@ -1,43 +1,31 @@
 -- What was taken of a piece, and what the elements made of it, is what the page's bytes lead to.
-use Rattle.rx_pages.proofs.Common.{◌≡◌, ◌≢◌, ◌∙◌, ⊎_elim, inl, inr, ℕ, ◌+◌, Bool, true, false, List, [], ◌∷◌, ◌++◌, refl, sym, ap, subst, length, append_assoc, append-nil, Some, Result, Ok, Err, ◌&&◌, if◌then◌else◌, ◌⊎◌, map, take, drop, codes, chars, Chars, by_test, Syntax, Html, Xhtml, same, is_among, name_of_raw, Place, inside_html, in_html, html_in_svg, inside_at, inside_foreign, raw_place, raw_names, rcdata_names, Item, Line, inside_of, Content, RawName, Fault, Kind, Limits, Event, Nesting, Step, content_at, nest_step, Spot, spot_of, Scanning, scan_from, may_lead, Progress, Stop}
+use Rattle.rx_nest.proofs.Common.{◌≡◌, ◌≢◌, ◌∙◌, ⊎_elim, inl, inr, ℕ, ◌+◌, Bool, true, false, List, [], ◌∷◌, ◌++◌, refl, sym, ap, subst, length, append_assoc, append-nil, Some, Result, Ok, Err, ◌&&◌, if◌then◌else◌, ◌⊎◌, map, take, drop, codes, chars, Chars, by_test, Syntax, Html, Xhtml, same, is_among, name_of_raw, Place, inside_html, in_html, html_in_svg, inside_at, inside_foreign, raw_place, raw_names, rcdata_names, Item, Line, inside_of, Content, RawName, Fault, Kind, Limits, Event, Nesting, Step, content_at, nest_step, Spot, spot_of, Scanning, scan_from, may_lead, Progress, Stop, take-append-drop, tag_seen, Setting, Scanner, IsNoMemory, shows_tag, shows_skipped, texts_of, IsTag, Skips, a_mark, a_comment, an_empty_section, a_line_feed, Are, Shows, ShowsTag, ends_leading, setting_behind, is_more, is_of_syntax, Lines, TagGives, GivesBy, Begins, Ends, own_of_end, shown_under, says_text, is_none_open, Sign, said, is_hidden, finishing, Follows, flags_of, phase_at, own_signs, own_tag, tag_by, TakesToken, TakesTagToken, token_result, Stops, IsBetween, begins_own, IsATag, hears_skipped, a_skipped_one, a_doctype, some_text, TokenOf, Completes, At, setting_of, start_seen, heard_signs, Lends, is_tag_heard, hears_more, Heeds, ReadGives, last_text, has_text, last_tag}
 use Rattle.rx_grammar.specs.declared.contents.Content.TheVariants as content
 use Rattle.rx_grammar.specs.Tokens as tokens
 use Rattle.rx_grammar.specs.declared.stops.Stop.TheVariants as stop
 use Rattle.rx_tags.specs.declared.tags.Tag.{Tag}
-use Rattle.rx_tags.specs.Seen.{tag_seen}
 use Rattle.rx_scan.specs.declared.answers.TokenKind.{TokenKind}
 use Rattle.rx_scan.specs.declared.answers.TokenKind.TheVariants as what
 use Rattle.rx_scan.specs.declared.answers.Token.{Token}
 use Rattle.rx_scan.specs.declared.answers.Token.TheVariants as token
-use Rattle.rx_scan.specs.declared.places.Setting.{Setting}
-use Rattle.rx_scan.specs.Scanner.{Scanner}
-use Rattle.rx_scan.specs.Entries.{IsNoMemory}
-use Rattle.rx_scan.specs.Steps.{shows_tag, shows_skipped, texts_of, IsTag, Skips, a_mark, a_comment, an_empty_section, a_line_feed, Are, Shows, ShowsTag, ends_leading, setting_behind, is_more, is_of_syntax}
 use Rattle.rx_scan.specs.Steps as scan
 use Rattle.rx_nest.specs.declared.tree_tokens.TreeToken.{TreeToken}
 use Rattle.rx_nest.specs.declared.tree_tokens.TreeToken.TheVariants as tree_token
 use Rattle.rx_nest.specs.declared.lines.TagEffect.{TagEffect}
 use Rattle.rx_nest.specs.declared.lines.Refused.{Refused}
 use Rattle.rx_nest.specs.declared.lines.Refused.TheVariants as refused
-use Rattle.rx_nest.specs.Lines.{Lines, TagGives, GivesBy, Begins, Ends, own_of_end, shown_under, says_text, is_none_open}
 use Rattle.rx_nest.specs.Levels.{Levels, place_under, kept, ends_by}
-use Rattle.rx_nest.specs.Signs.{Sign, said, is_hidden, finishing}
-use Rattle.rx_nest.specs.Follows.{Follows, flags_of, phase_at, own_signs, own_tag, tag_by}
-use Rattle.rx_nest.specs.TreeTokens.{TakesToken, TakesTagToken, token_result}
-use Rattle.rx_nest.specs.Nests.{Stops, IsBetween, begins_own, IsATag, hears_skipped, a_skipped_one, a_doctype, some_text, TokenOf, Completes, At, setting_of, start_seen, heard_signs, Lends, is_tag_heard, hears_more, Heeds, ReadGives, last_text, has_text, last_tag}
-use Rattle.rx_nest.proofs.LineLemmas.{place_is}
+use Rattle.rx_nest.proofs.LineLemmas.{same_of}
 use Rattle.rx_nest.proofs.Takes.{Taken, tag_steps}
 use Rattle.rx_nest.proofs.TextSteps.{said_by, Quiet, none_quiet, texts_quiet, comment_quiet, empty_quiet, line_feed_quiet}
-use Rattle.rx_nest.proofs.Pieces.{front_back as front_rest}
 use Rattle.rx_nest.proofs.Heeding.{scan_fails, scan_is, quiet_at, quiet_shows, said_is, behind_is, doctype_at, tag_stops, tag_leads}
 
 -- the text that is shown is the one that was told
 text_is : (answer : TokenKind) (v : Scanner) → v.what ≡ answer → (text : _) → Shows answer v.reading (token.Text text) → (chars text.now ≡ last_text v) × (has_text v.what ≡ true)
-text_is what.Nothing v e text s = absurd (let w : token.Text text ≡ token.More = s in cc)
-text_is what.Skipped v e text s = absurd (let w : token.Text text ≡ token.Skipped = s in cc)
-text_is what.Doctype v e text s = absurd (let w : token.Text text ≡ token.Doctype = s in cc)
+text_is what.Text v e text s = rw e (s, refl)
+text_is what.Section v e text s = rw e (s, refl)
 text_is what.Tag v e text s = elim s [ ]
-text_is _ v e text s = rw e (s, refl)
+text_is _ v e text s = absurd (cc)
 
 pub record TagShown (v : Scanner) (closing : Bool) (t : Tag) : Type 0 where
   pub what_is : v.what ≡ what.Tag
@@ -45,17 +33,15 @@ pub record TagShown (v : Scanner) (closing : Bool) (t : Tag) : Type 0 where
 
 start_is : (answer : TokenKind) (v : Scanner) → v.what ≡ answer → (t : Tag) → Shows answer v.reading (token.Start t) → TagShown v false t
 start_is what.Tag v e t s = record { what_is = e; shows = s }
-start_is what.Nothing v e t s = absurd (let w : token.Start t ≡ token.More = s in cc)
-start_is what.Skipped v e t s = absurd (let w : token.Start t ≡ token.Skipped = s in cc)
-start_is what.Doctype v e t s = absurd (let w : token.Start t ≡ token.Doctype = s in cc)
-start_is _ v e t s = elim s [ ]
+start_is what.Text v e t s = elim s [ ]
+start_is what.Section v e t s = elim s [ ]
+start_is _ v e t s = absurd (cc)
 
 end_is : (answer : TokenKind) (v : Scanner) → v.what ≡ answer → (t : Tag) → Shows answer v.reading (token.End t) → TagShown v true t
 end_is what.Tag v e t s = record { what_is = e; shows = s }
-end_is what.Nothing v e t s = absurd (let w : token.End t ≡ token.More = s in cc)
-end_is what.Skipped v e t s = absurd (let w : token.End t ≡ token.Skipped = s in cc)
-end_is what.Doctype v e t s = absurd (let w : token.End t ≡ token.Doctype = s in cc)
-end_is _ v e t s = elim s [ ]
+end_is what.Text v e t s = elim s [ ]
+end_is what.Section v e t s = elim s [ ]
+end_is _ v e t s = absurd (cc)
 
 -- the content inside open elements is one of the syntax
 module _ where
@@ -198,6 +184,10 @@ module _ (syntax : Syntax) (limits : Limits) (bytes : List ℕ) (told : List Eve
     text_of true text e some h = h ∙ ap (λ x. Some x) e
     text_of false text e some h = some_text text h some
 
+    text_no : (says : Bool) (tells : TagEffect) → ◌≡◌ {A = Result TreeToken Stop} (Ok (tree_token.Tag tells)) (Ok (text_heard says)) → ⊥
+    text_no true tells e = cc
+    text_no false tells e = cc
+
     never_more : (says : Bool) → hears_more (text_heard says) ≡ true → n ≡ length piece
     never_more true h = absurd (cc)
     never_more false h = absurd (cc)
@@ -240,7 +230,7 @@ module _ (syntax : Syntax) (limits : Limits) (bytes : List ℕ) (told : List Eve
       tag_refused : (kind : Kind) → TagGives line (tag_seen g) (Err (refused.Fault kind)) new → (shows_skipped t ≡ true → ⊥) → Stops syntax limits bytes told piece (record { kind = kind; token = g.token; at = g.at })
       tag_refused kind gives unskips =
           let steps : nest_step line.syntax line.depth nest item ≡ Err kind = tag_steps line new nest item (tag_seen g) (Err (refused.Fault kind)) at.follows is.is gives in
-          tag_stops syntax limits bytes told v line at front st.scanned.next item reads_tag g is.is is.first_is is.last_is ends kind (steps_as (Err kind) steps) piece (drop n piece) (sym (front_rest n piece)) (λ rest m. unskips (st.mark rest m).0)
+          tag_stops syntax limits bytes told v line at front st.scanned.next item reads_tag g is.is is.first_is is.last_is ends kind (steps_as (Err kind) steps) piece (drop n piece) (sym (take-append-drop n piece)) (λ rest m. unskips (st.mark rest m).0)
 
       pub hears_refused : (fault : Fault) → TakesTagToken line g (Err (stop.Fault fault)) new → (shows_skipped t ≡ true → ⊥) → Stops syntax limits bytes told piece fault
       hears_refused fault h unskips = by h.taken h.is h.gives
@@ -264,7 +254,7 @@ module _ (syntax : Syntax) (limits : Limits) (bytes : List ℕ) (told : List Eve
         new_syntax = b.syntax ∙ at.syntax_is
 
         inside_same : inside ≡ content_at syntax step.next
-        inside_same = ap (λ (p : Place). p.content) (place_is new.syntax new.levels step.next.line taken.follows.levels_are ∙ ap (λ x. inside_of x step.next.line) new_syntax)
+        inside_same = ap (λ (p : Place). p.content) ((same_of new.syntax new.levels step.next.line taken.follows.levels_are).place ∙ ap (λ x. inside_of x step.next.line) new_syntax)
 
         leads_no_more : may_lead step.next.phase ≡ false
         leads_no_more = ap may_lead (taken.follows.phase_is ∙ ap (λ x. phase_at x new.levels taken.follows.stood) b.begun) ∙ by new.levels
@@ -378,15 +368,11 @@ module _ (syntax : Syntax) (limits : Limits) (bytes : List ℕ) (told : List Eve
         Goal : Type 0
         Goal = Heeds syntax limits bytes told piece n (tree_token.Tag tells) line (scan.inside_of (place_under new.levels).content tells.drops mid) new
 
-        text_no : (says : Bool) → ◌≡◌ {A = Result TreeToken Stop} (Ok (tree_token.Tag tells)) (Ok (text_heard says)) → ⊥
-        text_no true e = cc
-        text_no false e = cc
-
         by : (x : Token) → t ≡ x → TakesToken line x (Ok (tree_token.Tag tells)) new → Goal
         by token.More e k = absurd (let w : Ok (tree_token.Tag tells) ≡ Ok tree_token.More = k.0 in cc)
         by token.Skipped e k = absurd (let w : Ok (tree_token.Tag tells) ≡ Ok tree_token.Skipped = k.0 in cc)
         by token.Doctype e k = absurd (let w : Ok (tree_token.Tag tells) ≡ Ok tree_token.Skipped = k.0 in cc)
-        by (token.Text text) e k = absurd (text_no (says_text line) k.0)
+        by (token.Text text) e k = absurd (text_no (says_text line) tells k.0)
         by (token.Start g) e k = start_heeds g e shows new tells k stands
         by (token.End g) e k = end_heeds g e shows new tells k stands
 
@@ -423,16 +409,13 @@ module _ (syntax : Syntax) (limits : Limits) (bytes : List ℕ) (told : List Eve
         Goal = Stops syntax limits bytes told piece fault
 
         by : (x : Token) → t ≡ x → TakesToken line x (Err (stop.Fault fault)) new → Goal
-        by token.More e k = absurd (let w : Err (stop.Fault fault) ≡ Ok tree_token.More = k.0 in cc)
-        by token.Skipped e k = absurd (let w : Err (stop.Fault fault) ≡ Ok tree_token.Skipped = k.0 in cc)
-        by token.Doctype e k = absurd (let w : Err (stop.Fault fault) ≡ Ok tree_token.Skipped = k.0 in cc)
-        by (token.Text text) e k = absurd (let w : Err (stop.Fault fault) ≡ Ok (text_heard (says_text line)) = k.0 in cc)
         by (token.Start g) e k =
             let are = subst (λ x. Are v.reading.setting.drops x s front items) e st.are in
             hears_refused g are.0 (subst (λ x. scan.IsLast x st.scanned.next.at) e st.last) new fault k (unskipped e refl)
         by (token.End g) e k =
             let are = subst (λ x. Are v.reading.setting.drops x s front items) e st.are in
             hears_refused g are.0 (subst (λ x. scan.IsLast x st.scanned.next.at) e st.last) new fault k (unskipped e refl)
+        by _ e k = absurd (let w = k.0 in cc)
 
     -- the content after a tag is one of the syntax
     pub content_is : (new : Lines) (tells : TagEffect) → TakesToken line t (Ok (tree_token.Tag tells)) new → is_of_syntax mid.reading.setting.syntax (place_under new.levels).content ≡ true
@@ -440,10 +423,6 @@ module _ (syntax : Syntax) (limits : Limits) (bytes : List ℕ) (told : List Eve
       where
         Goal : Type 0
         Goal = is_of_syntax mid.reading.setting.syntax (place_under new.levels).content ≡ true
-
-        text_no : (says : Bool) → ◌≡◌ {A = Result TreeToken Stop} (Ok (tree_token.Tag tells)) (Ok (text_heard says)) → ⊥
-        text_no true e = cc
-        text_no false e = cc
 
         some_syntax : (is : List Item) → (setting_behind t (setting_of syntax limits nest) is).syntax ≡ syntax
         some_syntax [] = refl
@@ -454,7 +433,7 @@ module _ (syntax : Syntax) (limits : Limits) (bytes : List ℕ) (told : List Eve
 
         on : (m : Nesting) → Follows new m → new.syntax ≡ line.syntax → Goal
         on m f e =
-            ap (λ (p : Place). is_of_syntax mid.reading.setting.syntax p.content) (place_is new.syntax new.levels m.line f.levels_are)
+            ap (λ (p : Place). is_of_syntax mid.reading.setting.syntax p.content) (same_of new.syntax new.levels m.line f.levels_are).place
             ∙ (ap (λ x. is_of_syntax mid.reading.setting.syntax (inside_of x m.line).content) (e ∙ at.syntax_is)
             ∙ (ap (λ x. is_of_syntax x (inside_of syntax m.line).content) mid_syntax ∙ inside_is syntax m.line))
 
@@ -474,7 +453,7 @@ module _ (syntax : Syntax) (limits : Limits) (bytes : List ℕ) (told : List Eve
         by token.More e k = absurd (let w : Ok (tree_token.Tag tells) ≡ Ok tree_token.More = k.0 in cc)
         by token.Skipped e k = absurd (let w : Ok (tree_token.Tag tells) ≡ Ok tree_token.Skipped = k.0 in cc)
         by token.Doctype e k = absurd (let w : Ok (tree_token.Tag tells) ≡ Ok tree_token.Skipped = k.0 in cc)
-        by (token.Text text) e k = absurd (text_no (says_text line) k.0)
+        by (token.Text text) e k = absurd (text_no (says_text line) tells k.0)
         by (token.Start g) e k = let are = subst (λ x. Are v.reading.setting.drops x s front items) e st.are in tagged g are.0 (inr are.1) k
         by (token.End g) e k = let are = subst (λ x. Are v.reading.setting.drops x s front items) e st.are in tagged g are.0 (inl are.1) k
 
@@ -501,8 +480,6 @@ pub quiet_heard : (B : Type 0) (old new : Lines) (t : Token) (why : Stop) → Ta
 quiet_heard B old new t why hears none = by t hears none
   where
     by : (x : Token) → TakesToken old x (Err why) new → shows_tag x ≡ false → IsNoMemory {A = B} (Err why) ≡ false
-    by token.More k e = absurd (let w : ◌≡◌ {A = Result TreeToken Stop} (Err why) (Ok tree_token.More) = k.0 in cc)
-    by token.Skipped k e = absurd (let w : ◌≡◌ {A = Result TreeToken Stop} (Err why) (Ok tree_token.Skipped) = k.0 in cc)
-    by token.Doctype k e = absurd (let w : ◌≡◌ {A = Result TreeToken Stop} (Err why) (Ok tree_token.Skipped) = k.0 in cc)
-    by (token.Text text) k e = absurd (let w : ◌≡◌ {A = Result TreeToken Stop} (Err why) (Ok (if says_text old then tree_token.Text else tree_token.Skipped)) = k.0 in cc)
-    by _ k e = absurd (cc)
+    by (token.Start g) k e = absurd (cc)
+    by (token.End g) k e = absurd (cc)
+    by _ k e = absurd (let w = k.0 in cc)

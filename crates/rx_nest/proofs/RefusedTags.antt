@@ -1,15 +1,12 @@
 -- Behind a start tag that is refused nothing is unfinished.
-use Rattle.rx_pages.proofs.Common.{◌≡◌, ◌∙◌, ⊎_elim, ℕ, zero, suc, ◌+◌, ◌<◌, List, [], ◌∷◌, ◌++◌, length, take, refl, sym, ap, subst, append-nil, Option, Some, None, Result, Ok, Err, arith, length-append, Fault, Kind, Step, spot_of, Scanned, read_byte, Progress, steps_on, no_step, progress_of, nested_items, telling, page_on, page_read, nothing_read, ReadsTo, page_append, nothing_unfinished}
-use Rattle.rx_nest.specs.Signs.{Sight, sees, nothing_seen, signs_of}
-use Rattle.rx_nest.proofs.TextSteps.{sees_append}
+use Rattle.rx_nest.proofs.Common.{◌≡◌, ◌∙◌, ⊎_elim, ℕ, ◌+◌, ◌<◌, List, [], ◌∷◌, ◌++◌, length, take, refl, sym, ap, subst, append-nil, Option, Some, None, Ok, arith, length-append, Fault, spot_of, Progress, no_step, page_on, page_read, nothing_read, ReadsTo, page_append, nothing_unfinished, length-take-le, get_or, take_more, Sight, sees, nothing_seen, signs_of, Way, IsRefusal, ReaderRefuses, RefusesLast}
+use Rattle.rx_nest.proofs.TextSteps.{sees_append, byte_goes}
 use Rattle.rx_nest.proofs.TagPlaces.{shows_more}
-use Rattle.rx_nest.specs.Ways.{Way, IsRefusal}
-use Rattle.rx_nest.specs.RefusedTags.{ReaderRefuses, RefusesLast}
 use Rattle.rx_nest.proofs.Firsts.{meaning_within, some_none}
-use Rattle.rx_nest.proofs.FaultPlacing.{take_length, read_front, shown, refused_of, through}
+use Rattle.rx_nest.proofs.FaultPlacing.{read_front, shown, refused_of, through}
 use Rattle.rx_nest.proofs.PlaceLaws.{accepted_front}
 use Rattle.rx_nest.proofs.Refusing.{bare_accepted}
-use Rattle.rx_nest.proofs.TokenPlacing.{After, HasNoTag, StepBegins, Where, byte_tags, items_such, none_such}
+use Rattle.rx_nest.proofs.TokenPlacing.{After, HasNoTag, StepBegins, byte_tags, items_such, none_such}
 
 module _ (way : Way) (law : IsRefusal way.refused) where
   abbrev Settled : Progress → Type 0
@@ -19,30 +16,17 @@ module _ (way : Way) (law : IsRefusal way.refused) where
   last_settles : (init : List ℕ) (byte : ℕ) (p q : Progress) (fault : Fault) → page_read way.syntax way.limits init ≡ Ok p → page_read way.syntax way.limits (init ++ byte ∷ []) ≡ Ok q
       → way.refused (shown p) ≡ None → way.refused (shown q) ≡ Some fault → Settled q
   last_settles init byte p q fault r s none some =
-      by (read_byte way.syntax way.limits (spot_of way.syntax p.now.nest) byte p.now.scan) (byte_tags way.syntax way.limits (spot_of way.syntax p.now.nest) p.now.scan byte)
+      byte_goes way.syntax way.limits p byte (λ x. x ≡ Ok q → Settled q) (λ kind e. absurd (cc))
+      (λ scanned step e k w.
+      let is : ◌≡◌ {A = Progress} (record { now = record { scan = scanned.next; nest = step.next }; told = p.told ++ step.events }) q = cc in
+      let bare = λ (n : HasNoTag scanned.items). subst (StepBegins (λ t. t.attributes ≡ [])) k (items_such (λ t. t.attributes ≡ []) way.syntax way.limits.depth scanned.items (none_such (λ t. t.attributes ≡ []) scanned.items n) (Ok (no_step p.now.nest)) tt) in
+      let same : shown q ≡ (sees (sees nothing_seen p.told) step.events).signs =
+      ap (λ (x : Progress). shown x) (sym is) ∙ ap (λ (x : Sight). x.signs) (sees_append nothing_seen p.told step.events) in
+      ⊎_elim
+      (λ n. absurd (some_none (way.refused (shown q)) fault (ap way.refused same ∙ bare_accepted way.refused law step.events (sees nothing_seen p.told) (bare n) none) some))
+      (λ d. (ap (λ (x : Progress). x.now.scan.run) (sym is) ∙ d.0, ap (λ (x : Progress). x.now.scan.held) (sym is) ∙ d.1))
+      (subst (After p.now.scan) e (byte_tags way.syntax way.limits (spot_of way.syntax p.now.nest) p.now.scan byte)).settles)
       (ap (λ x. page_on way.syntax way.limits x (byte ∷ [])) (sym r) ∙ (sym (page_append way.syntax way.limits (spot_of way.syntax p.now.nest) (Ok nothing_read) init (byte ∷ [])) ∙ s))
-    where
-      on : (scanned : Scanned) → Where scanned → (x : Result Step Kind) → (HasNoTag scanned.items → StepBegins (λ t. t.attributes ≡ []) x) → telling p.told (progress_of p.now.scan scanned.next x) ≡ Ok q → Settled q
-      on scanned w (Err kind) b e = absurd (cc)
-      on scanned w (Ok step) b e =
-          let is : ◌≡◌ {A = Progress} (record { now = record { scan = scanned.next; nest = step.next }; told = p.told ++ step.events }) q = cc in
-          ⊎_elim
-          (λ n.
-          let same : shown q ≡ (sees (sees nothing_seen p.told) step.events).signs =
-          ap (λ (x : Progress). shown x) (sym is) ∙ ap (λ (x : Sight). x.signs) (sees_append nothing_seen p.told step.events) in
-          absurd (some_none (way.refused (shown q)) fault (ap way.refused same ∙ bare_accepted way.refused law step.events (sees nothing_seen p.told) (b n) none) some))
-          (λ k. (ap (λ (x : Progress). x.now.scan.run) (sym is) ∙ k.0, ap (λ (x : Progress). x.now.scan.held) (sym is) ∙ k.1)) w
-
-      by : (x : Result Scanned Kind) → After p.now.scan x → telling p.told (nested_items way.syntax way.limits.depth p.now x) ≡ Ok q → Settled q
-      by (Ok scanned) w e =
-          on scanned w.settles (steps_on way.syntax way.limits.depth (Ok (no_step p.now.nest)) scanned.items)
-          (λ n. items_such (λ t. t.attributes ≡ []) way.syntax way.limits.depth scanned.items (none_such (λ t. t.attributes ≡ []) scanned.items n) (Ok (no_step p.now.nest)) tt) e
-      by (Err kind) w e = absurd (cc)
-
-  take_one : (n : ℕ) (xs : List ℕ) → n < length xs → (byte : ℕ) × (take (n + 1) xs ≡ take n xs ++ byte ∷ [])
-  take_one n [] l = absurd (omega arith)
-  take_one zero (x ∷ xs) l = (x, refl)
-  take_one (suc n) (x ∷ xs) l = let r = take_one n xs (omega arith) in let e : suc n + 1 ≡ suc (n + 1) = omega arith in (r.0, ap (λ k. take k (x ∷ xs)) e ∙ ap (λ ys. x ∷ ys) r.1)
 
   -- so are the bytes through the tag
   module _ (bytes : List ℕ) (fault : Fault) (m : ReaderRefuses way bytes fault) where
@@ -55,11 +39,11 @@ module _ (way : Way) (law : IsRefusal way.refused) where
     settled : Settled (through way law bytes fault m).now
     settled =
         let s = through way law bytes fault m in
-        let one = take_one fault.at bytes long in
+        let byte = get_or bytes fault.at 0 in
         let init = take fault.at bytes in
-        let whole_read : page_read way.syntax way.limits (init ++ one.0 ∷ []) ≡ Ok s.now = ap (λ b. page_read way.syntax way.limits b) (sym one.1) ∙ s.read in
-        let r = read_front way.syntax way.limits init (one.0 ∷ []) s.now whole_read in
-        last_settles init one.0 r.now s.now fault r.is whole_read (none_before init (one.0 ∷ []) r.now s.now r.is whole_read (take_length fault.at bytes (let l = long in omega arith)) s.refused (way.refused (shown r.now)) refl) s.refused
+        let whole_read : page_read way.syntax way.limits (init ++ byte ∷ []) ≡ Ok s.now = ap (λ b. page_read way.syntax way.limits b) (sym (take_more bytes fault.at 0 long)) ∙ s.read in
+        let r = read_front way.syntax way.limits init (byte ∷ []) s.now whole_read in
+        last_settles init byte r.now s.now fault r.is whole_read (none_before init (byte ∷ []) r.now s.now r.is whole_read (length-take-le fault.at bytes (let l = long in omega arith)) s.refused (way.refused (shown r.now)) refl) s.refused
       where
         none_before : (init rest : List ℕ) (p q : Progress) → page_read way.syntax way.limits init ≡ Ok p → page_read way.syntax way.limits (init ++ rest) ≡ Ok q → length init ≡ fault.at → way.refused (shown q) ≡ Some fault
             → (x : Option Fault) → way.refused (shown p) ≡ x → way.refused (shown p) ≡ None

@@ -1,8 +1,5 @@
 -- Where a fault lies that is one of a start tag, and which signs leave a page accepted.
-use Rattle.rx_pages.proofs.Common.{◌≡◌, ◌∙◌, append_assoc, append-nil, ap, sym, ℕ, ◌≤◌, List, [], ◌∷◌, ◌++◌, refl, Option, Some, None, ⊎_elim, arith, Fault, Event}
-use Rattle.rx_nest.specs.Signs.{Sign, begun, said, finished, Sight, sees}
-use Rattle.rx_nest.specs.Fronts.{Lie}
-use Rattle.rx_nest.specs.Ways.{IsAtTag, IsAtOne, IsRefusal}
+use Rattle.rx_nest.proofs.Common.{◌≡◌, ◌∙◌, append_assoc, append-nil, ap, sym, ℕ, ◌≤◌, List, [], ◌∷◌, ◌++◌, refl, Option, Some, None, ⊎_elim, arith, Fault, Event, Sign, begun, said, finished, Sight, sees, Lie, IsAtTag, IsAtOne, IsRefusal}
 use Rattle.rx_nest.proofs.TokenPlacing.{AllBegin, AllBegun, all_add}
 
 pub at_from : (from to : ℕ) (signs : List Sign) (fault : Fault) → Lie from to signs → IsAtOne fault signs → from ≤ fault.at
@@ -23,8 +20,8 @@ module _ (refused : List Sign → Option Fault) (law : IsRefusal refused) where
   pub bare_more : (signs more : List Sign) → AllBegun (λ t. t.attributes ≡ []) more → refused signs ≡ None → refused (signs ++ more) ≡ None
   bare_more signs [] b h = ap refused (append-nil signs) ∙ h
   bare_more signs (begun t ∷ more) b h = ap refused (sym (append_assoc signs (begun t ∷ []) more)) ∙ bare_more (signs ++ begun t ∷ []) more b.1 (law.bare signs t b.0 h)
-  bare_more signs (said c ∷ more) b h = ap refused (sym (append_assoc signs (said c ∷ []) more)) ∙ bare_more (signs ++ said c ∷ []) more b (none_more signs (said c ∷ []) (λ fault o. o) h)
-  bare_more signs (finished ∷ more) b h = ap refused (sym (append_assoc signs (finished ∷ []) more)) ∙ bare_more (signs ++ finished ∷ []) more b (none_more signs (finished ∷ []) (λ fault o. o) h)
+  bare_more signs (said c ∷ more) b h = ap refused (sym (append_assoc signs (said c ∷ []) more)) ∙ bare_more (signs ++ said c ∷ []) more b.1 (none_more signs (said c ∷ []) (λ fault o. o) h)
+  bare_more signs (finished ∷ more) b h = ap refused (sym (append_assoc signs (finished ∷ []) more)) ∙ bare_more (signs ++ finished ∷ []) more b.1 (none_more signs (finished ∷ []) (λ fault o. o) h)
 
   -- elements without attributes aren't refused
   pub bare_accepted : (events : List Event) (sight : Sight) → AllBegin (λ t. t.attributes ≡ []) events → refused sight.signs ≡ None → refused (sees sight events).signs ≡ None

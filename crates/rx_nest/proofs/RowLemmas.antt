@@ -1,6 +1,5 @@
 -- The rows are of ASCII, and so are the names that choose a content.
-use Rattle.rx_grammar.proofs.Common.{◌≡◌, ℕ, true, List, refl, chars, IsUtf8, same-ascii, codes, inside_html}
-use Rattle.rx_nest.specs.Rows.{row_seen}
+use Rattle.rx_nest.proofs.Common.{◌≡◌, ℕ, true, List, refl, chars, IsUtf8, same-ascii, codes, inside_html, row_seen}
 use Rattle.rx_nest.specs.declared.tables.OmittedEnd.{OmittedEnd}
 use Rattle.rx_nest.specs.declared.tables.OmittedEnd.TheVariants.{Item}
 use Rattle.rx_nest.proofs.NameLemmas.{are_ascii}

@@ -1,6 +1,5 @@
 -- What the events of a page show is what its tree shows.
-use Rattle.rx_pages.proofs.Common.{◌≡◌, ◌∙◌, ℕ, zero, suc, Bool, true, false, List, [], ◌∷◌, ◌++◌, refl, sym, ap, subst, length, append_assoc, append-nil, if◌then◌else◌, map, map-append, Chars, by_test, StartTag, Tree, end, element, text, after_text, shown, Event, begins, says, finishes, told_trees, with_element, with_text}
-use Rattle.rx_nest.specs.Signs.{Sign, begun, said, finished, Flags, is_hidden, Sight, see, sees, nothing_seen, signs_of}
+use Rattle.rx_nest.proofs.Common.{◌≡◌, ◌∙◌, ℕ, zero, suc, Bool, true, false, List, [], ◌∷◌, ◌++◌, refl, sym, ap, subst, length, append_assoc, append-nil, if◌then◌else◌, map, map-append, Chars, by_test, StartTag, Tree, end, element, text, after_text, shown, Event, begins, says, finishes, told_trees, with_element, with_text, Sign, begun, said, finished, Flags, is_hidden, Sight, see, sees, nothing_seen, signs_of}
 
 -- what an element's end shows
 abbrev finish_of : Bool → List Sign

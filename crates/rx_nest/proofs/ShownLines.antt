@@ -1,9 +1,7 @@
 -- What a nest has shown to begin, and not to end, are the open elements that the tree shows.
-use Rattle.rx_pages.proofs.Common.{◌≡◌, ◌∙◌, ℕ, Bool, true, false, List, [], ◌∷◌, ◌++◌, refl, sym, ap, subst, append_assoc, append-nil, Option, Some, None, Result, Ok, Err, ◌&&◌, ◌||◌, not, if◌then◌else◌, map, Chars, by_test, split, Syntax, same, is_among, Tag, Token, tag, character, reference, kept, section, comment, doctype, is_alone, is_html, hides, StartTag, Item, is_line_feed, start_of, enders, is_omissible, is_held, Line, inside_of, parent_of, Phase, before, within, first_row, tag_rows, under_start, after_start, after_end, Fault, Kind, Limits, Scanned, Progress, spot_of, read_byte, with_events, step_on, steps_on, no_step, progress_of, nested_items, page_byte_on, telling, page_on, page_read, nothing_read, reads_to, is_underway, ok_is}
-use Rattle.rx_pages.specs.Nesting.{Event, begins, says, finishes, Nesting, not_begun, Step, nest_step, step_by, unless_refused, tag_passes, begun_under, over, line_above, text_step, told, doctype_step, going_on, ended_by_start, ended_under, ended_by_end}
-use Rattle.rx_nest.specs.Signs.{Sign, begun, said, finished, Flags, is_hidden, Sight, see, sees, ended_sight, nothing_seen}
+use Rattle.rx_nest.proofs.Common.{◌≡◌, ◌∙◌, ℕ, Bool, true, false, List, [], ◌∷◌, ◌++◌, refl, sym, ap, subst, append_assoc, append-nil, Option, Some, None, Result, Ok, Err, ◌&&◌, ◌||◌, not, if◌then◌else◌, map, Chars, by_test, split, Syntax, same, is_among, Tag, Token, tag, character, reference, kept, section, comment, doctype, is_alone, is_html, hides, StartTag, Item, is_line_feed, start_of, enders, is_omissible, is_held, Line, inside_of, parent_of, Phase, before, within, first_row, tag_rows, under_start, after_start, after_end, Fault, Kind, Limits, Progress, with_events, step_on, steps_on, no_step, page_byte_on, page_on, page_read, nothing_read, reads_to, is_underway, ok_is, Event, begins, says, finishes, Nesting, not_begun, Step, nest_step, step_by, unless_refused, tag_passes, begun_under, over, line_above, text_step, told, doctype_step, going_on, ended_by_start, ended_under, ended_by_end, Sign, begun, said, finished, Flags, is_hidden, Sight, see, sees, ended_sight, nothing_seen}
 use Rattle.rx_nest.specs.ShownLines.{tag_of, is_hidden_in, shown_line, outer, open_on, open_after, StandsUnderway, ShowsOpenOnes}
-use Rattle.rx_nest.proofs.TextSteps.{sees_append}
+use Rattle.rx_nest.proofs.TextSteps.{sees_append, byte_goes}
 
 -- What holds of the first place of a page, and goes on with each token, holds wherever a page's bytes lead.
 module _ (syntax : Syntax) (limits : Limits) (holds : Nesting → List Event → Type 0) where
@@ -61,15 +59,9 @@ module _ (syntax : Syntax) (limits : Limits) (holds : Nesting → List Event →
 
     byte_holds : (byte : ℕ) (x : Result Progress Fault) → HoldsAt x → HoldsAt (page_byte_on syntax limits x byte)
     byte_holds byte (Err fault) h = tt
-    byte_holds byte (Ok p) h = by (read_byte syntax limits (spot_of syntax p.now.nest) byte p.now.scan)
-      where
-        at : (scanned : Scanned) (x : Result Step Kind) → Behind p.told x → HoldsAt (telling p.told (progress_of p.now.scan scanned.next x))
-        at scanned (Ok step) k = k
-        at scanned (Err kind) k = tt
-
-        by : (x : Result Scanned Kind) → HoldsAt (telling p.told (nested_items syntax limits.depth p.now x))
-        by (Ok scanned) = at scanned (steps_on syntax limits.depth (Ok (no_step p.now.nest)) scanned.items) (items_hold p.told scanned.items (Ok (no_step p.now.nest)) (on.quiet p.now.nest p.now.nest p.told refl refl h))
-        by (Err kind) = tt
+    byte_holds byte (Ok p) h =
+        byte_goes syntax limits p byte HoldsAt (λ kind. tt)
+        (λ scanned step e k. subst (Behind p.told) k (items_hold p.told scanned.items (Ok (no_step p.now.nest)) (on.quiet p.now.nest p.now.nest p.told refl refl h)))
 
     bytes_hold : (bytes : List ℕ) (x : Result Progress Fault) → HoldsAt x → HoldsAt (page_on syntax limits x bytes)
     bytes_hold [] x h = h
@@ -94,6 +86,22 @@ flags_over syntax (t ∷ above) = (not (is_hidden_in syntax above), is_hidden_in
 hidden_is : (syntax : Syntax) (line : Line) → is_hidden (flags_over syntax line) ≡ is_hidden_in syntax line
 hidden_is syntax [] = refl
 hidden_is syntax (t ∷ above) = refl
+
+-- What goes on where an element ends does so with all that end by omission.
+module _ (syntax : Syntax) (P : Line → Sight → Type 0) (finish : (t : StartTag) (line : Line) (sight : Sight) → P (t ∷ line) sight → P line (see finishes sight.flags sight.signs)) where
+  pub start_walk : (name : Chars) (line : Line) (sight : Sight) → P line sight → P (after_start syntax name line) (sees sight (ended_by_start syntax name line))
+  start_walk name [] sight p = p
+  start_walk name (t ∷ line) sight p =
+      by_test (is_among (enders (inside_of syntax line) t.name) name)
+      (λ e. rw e (start_walk name line (see finishes sight.flags sight.signs) (finish t line sight p)))
+      (λ e. rw e p)
+
+  pub end_walk : (name : Chars) (line : Line) (sight : Sight) → P line sight → P (after_end syntax name line) (sees sight (ended_by_end syntax name line))
+  end_walk name [] sight p = p
+  end_walk name (t ∷ line) sight p =
+      by_test (is_omissible (inside_of syntax line) t.name && not (same t.name name) && not (is_held (parent_of line) t.name))
+      (λ e. rw e (end_walk name line (see finishes sight.flags sight.signs) (finish t line sight p)))
+      (λ e. rw e p)
 
 module _ (syntax : Syntax) where
   -- what was seen stands for these open elements
@@ -133,23 +141,8 @@ module _ (syntax : Syntax) where
   say_marks : (chars : Chars) (line : Line) (sight : Sight) → Marks line sight → Marks line (see (says chars) sight.flags sight.signs)
   say_marks chars line sight m = record { flags_are = m.flags_are; open_are = says_marks (is_hidden sight.flags) sight.signs chars (shown_line syntax line) m.open_are }
 
-  -- elements that end by omission
-  start_marks : (name : Chars) (line : Line) (sight : Sight) → Marks line sight → Marks (after_start syntax name line) (sees sight (ended_by_start syntax name line))
-  start_marks name [] sight m = m
-  start_marks name (t ∷ line) sight m =
-      by_test (is_among (enders (inside_of syntax line) t.name) name)
-      (λ e. rw e (start_marks name line (see finishes sight.flags sight.signs) (finish_marks t line sight m)))
-      (λ e. rw e m)
-
   under_marks : (name : Chars) (line : Line) (sight : Sight) → Marks line sight → Marks (under_start syntax name line) (sees sight (ended_under syntax name line))
-  under_marks name line sight m = by_test (is_html (inside_of syntax line).content) (λ e. rw e (start_marks name line sight m)) (λ e. rw e m)
-
-  end_marks : (name : Chars) (line : Line) (sight : Sight) → Marks line sight → Marks (after_end syntax name line) (sees sight (ended_by_end syntax name line))
-  end_marks name [] sight m = m
-  end_marks name (t ∷ line) sight m =
-      by_test (is_omissible (inside_of syntax line) t.name && not (same t.name name) && not (is_held (parent_of line) t.name))
-      (λ e. rw e (end_marks name line (see finishes sight.flags sight.signs) (finish_marks t line sight m)))
-      (λ e. rw e m)
+  under_marks name line sight m = by_test (is_html (inside_of syntax line).content) (λ e. rw e (start_walk syntax Marks finish_marks name line sight m)) (λ e. rw e m)
 
   -- the innermost one ends, where there is one
   last_marks : (line : Line) (sight : Sight) → Marks line sight → Marks (line_above line) (see finishes sight.flags sight.signs)
@@ -200,7 +193,7 @@ module _ (syntax : Syntax) where
         over_held (line_above (after_end syntax t.name n.line)) (events ++ (ended_by_end syntax t.name n.line ++ finishes ∷ []))
         (more_marks (line_above (after_end syntax t.name n.line)) events (ended_by_end syntax t.name n.line ++ finishes ∷ [])
         (subst (λ (s : Sight). Marks (line_above (after_end syntax t.name n.line)) s) (sym (sees_append (sees nothing_seen events) (ended_by_end syntax t.name n.line) (finishes ∷ [])))
-        (last_marks (after_end syntax t.name n.line) (sees (sees nothing_seen events) (ended_by_end syntax t.name n.line)) (end_marks t.name n.line (sees nothing_seen events) h.marks))))
+        (last_marks (after_end syntax t.name n.line) (sees (sees nothing_seen events) (ended_by_end syntax t.name n.line)) (end_walk syntax Marks finish_marks t.name n.line (sees nothing_seen events) h.marks))))
 
     tag_held : Held (tag_passes syntax n.line item t).next (events ++ (tag_passes syntax n.line item t).events)
     tag_held = split (λ (x : Step). Held x.next (events ++ x.events)) t.closing _ _ (λ c. ended_held) (λ c. begun_held)

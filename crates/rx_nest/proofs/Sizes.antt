@@ -1,8 +1,6 @@
 -- Where a page's reading stands, and where its fault is.
-use Rattle.rx_pages.proofs.Common.{append_cancel_left, ◌⊎◌, ◌-◌, take, Syntax, FaultAt, Fault, Limits, Event, Spot, Progress, Reading, spot_of, page_byte, page_byte_on, telling, page_on, page_read, nothing_read, end_of, fault_stays, found_fault, AllSized, all_sized, read_size, page_append}
-use Rattle.std.proofs.Common.{◌≡◌, ◌∙◌, ⊎_elim, inl, inr, append-nil, ℕ, ◌+◌, ◌≤◌, ◌<◌, List, [], ◌∷◌, ◌++◌, refl, sym, ap, subst, length, length-append, append_assoc, Result, Ok, Err, arith}
+use Rattle.rx_nest.proofs.Common.{append_cancel_left, ◌⊎◌, ◌-◌, take, Syntax, FaultAt, Fault, Limits, Event, Spot, Progress, Reading, spot_of, page_byte, page_byte_on, telling, page_on, page_read, nothing_read, end_of, fault_stays, found_fault, AllSized, all_sized, read_size, page_append, take-append_seam, ◌≡◌, ◌∙◌, ⊎_elim, inl, inr, append-nil, ℕ, ◌+◌, ◌≤◌, ◌<◌, List, [], ◌∷◌, ◌++◌, refl, sym, ap, subst, length, length-append, append_assoc, Result, Ok, Err, arith, faults_follow_fronts}
 use Rattle.rx_nest.specs.Nests.{Faults, NoneYet, Stops}
-use Rattle.rx_pages.proofs.FaultFronts.{faults_follow_fronts}
 
 module _ (syntax : Syntax) (limits : Limits) where
   -- a fault that the next bytes decide has its place in them
@@ -20,10 +18,6 @@ module _ (syntax : Syntax) (limits : Limits) where
   found_behind : (bytes : List ℕ) (fault : Fault) → page_read syntax limits bytes ≡ Err fault → (spot : Spot) (rest : List ℕ) → FaultAt syntax limits (bytes ++ rest) fault
   found_behind bytes fault f spot rest =
       found_fault syntax limits (bytes ++ rest) fault (ap end_of (page_append syntax limits spot (Ok nothing_read) bytes rest ∙ (ap (λ x. page_on syntax limits x rest) f ∙ fault_stays syntax limits fault rest)))
-
-  pub take_front : (front more : List ℕ) → take (length front) (front ++ more) ≡ front
-  take_front [] more = refl
-  take_front (x ∷ front) more = ap (λ z. x ∷ z) (take_front front more)
 
   -- a fault that a byte of the piece decides is that of the whole piece
   pub stops_so : (bytes piece : List ℕ) (told : List Event) (fault : Fault) → Stops syntax limits bytes told piece fault → page_read syntax limits (bytes ++ piece) ≡ Err fault
@@ -48,9 +42,9 @@ module _ (syntax : Syntax) (limits : Limits) where
       let all : bytes ++ piece ≡ through ++ f.rest =
       ap (λ x. bytes ++ x) (f.are ∙ sym (append_assoc f.front (f.byte ∷ []) f.rest)) ∙ sym (append_assoc bytes (f.front ++ f.byte ∷ []) f.rest) in
       let size : fault.at + 1 ≡ length through = omega (arith, at, length-append bytes (f.front ++ f.byte ∷ []), length-append f.front (f.byte ∷ [])) in
-      let taken : take (fault.at + 1) (bytes ++ piece) ≡ through = ap (λ n. take n (bytes ++ piece)) size ∙ (ap (λ x. take (length through) x) all ∙ take_front through f.rest) in
+      let taken : take (fault.at + 1) (bytes ++ piece) ≡ through = ap (λ n. take n (bytes ++ piece)) size ∙ (ap (λ x. take (length through) x) all ∙ take-append_seam through f.rest) in
       let front_size : fault.at - length bytes ≡ length f.front = omega (arith, at) in
-      let front : take (fault.at - length bytes) piece ≡ f.front = ap (λ n. take n piece) front_size ∙ (ap (λ x. take (length f.front) x) f.are ∙ take_front f.front (f.byte ∷ f.rest)) in
+      let front : take (fault.at - length bytes) piece ≡ f.front = ap (λ n. take n piece) front_size ∙ (ap (λ x. take (length f.front) x) f.are ∙ take-append_seam f.front (f.byte ∷ f.rest)) in
       record {
         stays = λ rest. found_behind (bytes ++ piece) fault whole spot rest;
         decides = λ rest. subst (λ x. FaultAt syntax limits (x ++ rest) fault) (sym taken) (found_behind through fault f.here spot rest);

@@ -1,9 +1,6 @@
 -- Where the tags stand that some bytes show.
-use Rattle.rx_pages.proofs.Common.{Syntax, StartTag, Fault, Kind, Limits, Event, Step, spot_of, Scanned, token_at, read_byte, Progress, steps_on, no_step, progress_of, nested_items, page_byte_on, telling, page_on, page_read, nothing_read, byte_is, page_append, read_size}
-use Rattle.std.proofs.Common.{◌≡◌, ◌∙◌, ℕ, ◌+◌, ◌≤◌, ◌<◌, List, [], ◌∷◌, ◌++◌, suc, refl, sym, ap, subst, length, length-append, append_assoc, append-nil, Result, Ok, Err, arith}
-use Rattle.rx_nest.specs.Signs.{Sign, begun, said, finished, Sight, sees, nothing_seen}
-use Rattle.rx_nest.specs.Fronts.{Lie, ShowsMore}
-use Rattle.rx_nest.proofs.TextSteps.{sees_append}
+use Rattle.rx_nest.proofs.Common.{Syntax, StartTag, Fault, Limits, Event, spot_of, token_at, Progress, no_step, page_byte_on, page_on, page_read, nothing_read, byte_is, page_append, read_size, ◌≡◌, ◌∙◌, ℕ, ◌+◌, ◌≤◌, ◌<◌, List, [], ◌∷◌, ◌++◌, suc, refl, sym, ap, subst, length, length-append, append_assoc, append-nil, Result, Ok, Err, arith, Sign, begun, said, finished, Sight, sees, nothing_seen, Lie, ShowsMore}
+use Rattle.rx_nest.proofs.TextSteps.{sees_append, byte_goes}
 use Rattle.rx_nest.proofs.TokenPlacing.{After, AllBegin, AllBegun, StepBegins, TagAt, all_add, begin_append, begin_such, byte_tags, items_such}
 
 -- a tag that lies between these offsets
@@ -14,8 +11,8 @@ pub record LiesIn (from to : ℕ) (t : StartTag) : Type 0 where
 lies : (from to : ℕ) (signs : List Sign) → AllBegun (LiesIn from to) signs → Lie from to signs
 lies from to [] h = tt
 lies from to (begun t ∷ signs) h = (h.0.low, h.0.high, lies from to signs h.1)
-lies from to (said c ∷ signs) h = lies from to signs h
-lies from to (finished ∷ signs) h = lies from to signs h
+lies from to (said c ∷ signs) h = lies from to signs h.1
+lies from to (finished ∷ signs) h = lies from to signs h.1
 
 module _ (syntax : Syntax) (limits : Limits) (from to : ℕ) (told : List Event) where
   record Tells (now : List Event) : Type 0 where
@@ -30,28 +27,21 @@ module _ (syntax : Syntax) (limits : Limits) (from to : ℕ) (told : List Event)
 
   byte_grown : (left byte : ℕ) (x : Result Progress Fault) → Grown (suc left) x → Grown left (page_byte_on syntax limits x byte)
   byte_grown left byte (Err fault) h = tt
-  byte_grown left byte (Ok p) h = by (read_byte syntax limits (spot_of syntax p.now.nest) byte p.now.scan) refl (byte_tags syntax limits (spot_of syntax p.now.nest) p.now.scan byte)
-    where
-      lies_in : (t : StartTag) → TagAt (token_at p.now.scan) p.now.scan.at t → LiesIn from to t
-      lies_in t s = record { low = omega (arith, s.ends_at, h.0); high = omega (arith, s.ends_at, h.1) }
-
-      on : (scanned : Scanned) → scanned.next.at ≡ p.now.scan.at + 1 → (x : Result Step Kind) → StepBegins (TagAt (token_at p.now.scan) p.now.scan.at) x → Grown left (telling p.told (progress_of p.now.scan scanned.next x))
-      on scanned n (Ok step) k = (
+  byte_grown left byte (Ok p) h =
+      byte_goes syntax limits p byte (Grown left) (λ kind. tt)
+      (λ scanned step e k.
+      let n = (byte_is syntax limits (spot_of syntax p.now.nest) p.now.scan byte scanned e).next in
+      let after = subst (After p.now.scan) e (byte_tags syntax limits (spot_of syntax p.now.nest) p.now.scan byte) in
+      let such = subst (StepBegins (TagAt (token_at p.now.scan) p.now.scan.at)) k (items_such (TagAt (token_at p.now.scan) p.now.scan.at) syntax limits.depth scanned.items after.tags (Ok (no_step p.now.nest)) tt) in (
         omega (arith, n, h.0),
         omega (arith, n, h.1),
         record {
           more = h.2.more ++ step.events;
           is = ap (λ es. es ++ step.events) h.2.is ∙ append_assoc told h.2.more step.events;
-          lie = begin_append (LiesIn from to) h.2.more step.events h.2.lie (begin_such (TagAt (token_at p.now.scan) p.now.scan.at) (LiesIn from to) lies_in step.events k);
+          lie = begin_append (LiesIn from to) h.2.more step.events h.2.lie
+              (begin_such (TagAt (token_at p.now.scan) p.now.scan.at) (LiesIn from to) (λ t s. record { low = omega (arith, s.ends_at, h.0); high = omega (arith, s.ends_at, h.1) }) step.events such);
         },
-      )
-      on scanned n (Err kind) k = tt
-
-      by : (x : Result Scanned Kind) → read_byte syntax limits (spot_of syntax p.now.nest) byte p.now.scan ≡ x → After p.now.scan x → Grown left (telling p.told (nested_items syntax limits.depth p.now x))
-      by (Ok scanned) e k =
-          on scanned (byte_is syntax limits (spot_of syntax p.now.nest) p.now.scan byte scanned e).next (steps_on syntax limits.depth (Ok (no_step p.now.nest)) scanned.items)
-          (items_such (TagAt (token_at p.now.scan) p.now.scan.at) syntax limits.depth scanned.items k.tags (Ok (no_step p.now.nest)) tt)
-      by (Err kind) e k = tt
+      ))
 
   bytes_grown : (bytes : List ℕ) (x : Result Progress Fault) → Grown (length bytes) x → Grown 0 (page_on syntax limits x bytes)
   bytes_grown [] x h = h

@@ -1,26 +1,21 @@
 -- A tag is taken as the tables of nesting say.
-use Rattle.rx_pages.proofs.Common.{◌≡◌, ◌∙◌, ⊎_elim, ℕ, Bool, true, false, cond, List, [], ◌∷◌, ◌++◌, append_assoc, append-nil, refl, sym, ap, subst, length, Option, Some, None, Result, Ok, Err, nat_le, ◌&&◌, ◌||◌, not, if◌then◌else◌, drop, Chars, by_test, Syntax, Tag, tag, Place, is_alone, hides, drops_line_feed, place_in, StartTag, Item, start_of, is_held, Line, inside_of, within, Rows, first_row, start_rows, end_rows, under_start, after_end, has_ended, is_before, Kind, TooDeep, NothingOpen, Mismatch, Nesting, Event, begins, finishes, Step, nest_step, step_by, unless_refused, over, line_above, ended_under, ended_by_end, begun_under, tag_passes}
+use Rattle.rx_nest.proofs.Common.{◌≡◌, ◌∙◌, ⊎_elim, ℕ, Bool, true, false, List, [], ◌∷◌, ◌++◌, append_assoc, append-nil, refl, sym, ap, subst, length, Option, Some, None, Result, Ok, Err, nat_le, ◌&&◌, ◌||◌, not, if◌then◌else◌, drop, Chars, by_test, Syntax, Tag, tag, Place, is_alone, hides, drops_line_feed, place_in, StartTag, Item, start_of, is_held, Line, inside_of, within, Rows, first_row, start_rows, end_rows, under_start, after_end, has_ended, is_before, Kind, TooDeep, NothingOpen, Mismatch, Nesting, Event, begins, finishes, Step, nest_step, step_by, unless_refused, over, line_above, ended_under, ended_by_end, begun_under, tag_passes, Lines, start_refusals, is_none_open, is_named, kept_at_start, ended_at_start, level_under, TagGives, GivesBy, is_room, Begins, own_of_end, Ends, Sign, begun, finished, Flags, Sight, sees, finishing, is_hidden, AreLevels, Follows, flags_of, phase_at, own_signs, own_tag, tag_by}
 use Rattle.rx_nest.specs.declared.lines.TagEffect.{TagEffect}
 use Rattle.rx_nest.specs.declared.lines.Refused.{Refused}
 use Rattle.rx_nest.specs.declared.lines.Refused.TheVariants.{Fault, NoMemory}
 use Rattle.rx_nest.specs.declared.lines.TagAction.{TagAction}
 use Rattle.rx_nest.specs.declared.lines.TagAction.TheVariants.{Alone, Begin, Nothing}
 use Rattle.rx_nest.specs.Levels.{Levels, row_at, place_under, hidden_under, ends_by, kept, ended}
-use Rattle.rx_nest.specs.Lines.{Lines, start_refusals, is_none_open, is_named, kept_at_start, ended_at_start, level_under, TagGives, GivesBy, is_room, Begins, own_of_end, Ends}
-use Rattle.rx_nest.specs.Signs.{Sign, begun, finished, Flags, Sight, sees, finishing, is_hidden}
-use Rattle.rx_nest.specs.Follows.{AreLevels, Follows, flags_of, phase_at, own_signs, own_tag, tag_by}
-use Rattle.rx_nest.proofs.LineLemmas.{place_is, name_is, length_is, none_is, named_is, under_kept, under_seen, end_kept, end_seen}
+use Rattle.rx_nest.proofs.LineLemmas.{same_of, under_kept, under_seen, end_kept, end_seen}
 use Rattle.rx_nest.proofs.TreeSeen.{over_line}
 
 rows_none : (rows : Rows) (row : Bool × Kind) → first_row rows ≡ None → first_row (rows ++ row ∷ []) ≡ first_row (row ∷ [])
-rows_none [] row h = refl
-rows_none (r ∷ rows) row h =
-    by_test r.0 (λ e. absurd (let w : None ≡ Some r.1 = sym (ap (λ b. cond b (Some r.1) (first_row rows)) (sym e) ∙ h) in cc)) (λ e. rw e (rows_none rows row (ap (λ b. cond b (Some r.1) (first_row rows)) (sym e) ∙ h)))
+rows_none [] row = λ h. refl
+rows_none (r ∷ rows) row = by_test r.0 (λ e. rw e (λ h. absurd (cc))) (λ e. rw e (rows_none rows row))
 
 pub rows_some : (rows : Rows) (row : Bool × Kind) (kind : Kind) → first_row rows ≡ Some kind → first_row (rows ++ row ∷ []) ≡ Some kind
-rows_some [] row kind h = absurd (cc)
-rows_some (r ∷ rows) row kind h =
-    by_test r.0 (λ e. rw e (ap (λ b. cond b (Some r.1) (first_row rows)) (sym e) ∙ h)) (λ e. rw e (rows_some rows row kind (ap (λ b. cond b (Some r.1) (first_row rows)) (sym e) ∙ h)))
+rows_some [] row kind = λ h. absurd (cc)
+rows_some (r ∷ rows) row kind = by_test r.0 (λ e. rw e (λ h. h)) (λ e. rw e (rows_some rows row kind))
 
 -- the phase is told by what is kept
 ended_is : (b : Bool) (levels : Levels) (stood : Bool) → has_ended (phase_at b levels stood) ≡ (b && is_none_open levels)
@@ -38,8 +33,8 @@ module _ (l : Lines) (n : Nesting) (f : Follows l n) where
         f.phase_is,
         ended_is l.begun l.levels f.stood,
         before_is l.begun l.levels f.stood,
-        sym (length_is l.syntax (kept_at_start t.name l.levels) (under_start l.syntax t.name n.line) (under_kept l.syntax t.name l.levels n.line f.levels_are)),
-        sym (place_is l.syntax l.levels n.line f.levels_are),
+        sym (same_of l.syntax (kept_at_start t.name l.levels) (under_start l.syntax t.name n.line) (under_kept l.syntax t.name l.levels n.line f.levels_are)).size,
+        sym (same_of l.syntax l.levels n.line f.levels_are).place,
       ) refl
 
   -- a refused tag
@@ -60,8 +55,8 @@ module _ (l : Lines) (n : Nesting) (f : Follows l n) where
   pub end_refusals_are : (t : Tag) → end_rows l.syntax n.line t ≡ (is_none_open l.levels, NothingOpen) ∷ (not (is_named t.name (kept (ends_by true t.name) l.levels)), Mismatch) ∷ []
   end_refusals_are t =
       rw (
-        sym (none_is l.syntax l.levels n.line f.levels_are),
-        sym (named_is l.syntax t.name (kept (ends_by true t.name) l.levels) (after_end l.syntax t.name n.line) (end_kept l.syntax t.name l.levels n.line f.levels_are)),
+        sym (same_of l.syntax l.levels n.line f.levels_are).none,
+        sym ((same_of l.syntax (kept (ends_by true t.name) l.levels) (after_end l.syntax t.name n.line) (end_kept l.syntax t.name l.levels n.line f.levels_are)).named t.name),
       ) refl
 
 -- what a tag leads to and shows
@@ -99,31 +94,6 @@ module _ (flags : Flags) (signs : List Sign) (s : StartTag) (h : Bool) where
   begin_shows true = ap (λ l. record { flags = (false, true) ∷ flags; signs = l }) (sym (append-nil signs))
   begin_shows false = refl
 
--- the step of a start tag, by whether it is the whole element
-module _ (syntax : Syntax) (depth : ℕ) (n : Nesting) (item : Item) (t : Tag) (is_tag : item.token ≡ tag t) (is_start : t.closing ≡ false) where
-  abbrev line : Line
-  line = under_start syntax t.name n.line
-
-  abbrev start_step : Bool → Step
-  start_step alone =
-      if alone then record { next = over line; events = ended_under syntax t.name n.line ++ begins (start_of item t) (hides (inside_of syntax line) t) ∷ finishes ∷ [] }
-      else record {
-        next = record { line = start_of item t ∷ line; phase = within; drops = drops_line_feed (inside_of syntax line) t };
-        events = ended_under syntax t.name n.line ++ begins (start_of item t) (hides (inside_of syntax line) t) ∷ [];
-      }
-
-  pub start_steps : first_row (start_rows syntax depth n.line n.phase t) ≡ None → nest_step syntax depth n item ≡ Ok (start_step (is_alone syntax (inside_of syntax line) t))
-  start_steps h =
-      ap (λ token. step_by syntax depth n item token) is_tag
-      ∙ (ap (λ closing. unless_refused (first_row (if closing then end_rows syntax n.line t else start_rows syntax depth n.line n.phase t)) (if closing then ended_step else begun_step)) is_start
-      ∙ ap (λ row. unless_refused row begun_step) h)
-    where
-      ended_step : Step
-      ended_step = record { next = over (line_above (after_end syntax t.name n.line)); events = ended_by_end syntax t.name n.line ++ finishes ∷ [] }
-
-      begun_step : Step
-      begun_step = start_step (is_alone syntax (inside_of syntax line) t)
-
 -- what the levels and the elements become
 abbrev next_of : Syntax → Line → Item → Tag → Bool → Nesting
 next_of syntax line item t alone = if alone then over line else record { line = start_of item t ∷ line; phase = within; drops = drops_line_feed (inside_of syntax line) t }
@@ -134,23 +104,35 @@ events_of syntax line item t alone = if alone then begins (start_of item t) (hid
 abbrev levels_of : Syntax → Levels → Tag → Bool → Levels
 levels_of syntax levels t alone = if alone then levels else level_under syntax t levels ∷ levels
 
-step_next : (syntax : Syntax) (depth : ℕ) (n : Nesting) (item : Item) (t : Tag) (e : item.token ≡ tag t) (o : t.closing ≡ false) (alone : Bool) → (start_step syntax depth n item t e o alone).next ≡ next_of syntax (under_start syntax t.name n.line) item t alone
-step_next syntax depth n item t e o true = refl
-step_next syntax depth n item t e o false = refl
+-- the step of a start tag, by whether it is the whole element
+module _ (syntax : Syntax) (depth : ℕ) (n : Nesting) (item : Item) (t : Tag) (is_tag : item.token ≡ tag t) (is_start : t.closing ≡ false) where
+  abbrev line : Line
+  line = under_start syntax t.name n.line
 
-step_events : (syntax : Syntax) (depth : ℕ) (n : Nesting) (item : Item) (t : Tag) (e : item.token ≡ tag t) (o : t.closing ≡ false) (alone : Bool)
-    → (start_step syntax depth n item t e o alone).events ≡ ended_under syntax t.name n.line ++ events_of syntax (under_start syntax t.name n.line) item t alone
-step_events syntax depth n item t e o true = refl
-step_events syntax depth n item t e o false = refl
+  abbrev start_step : Bool → Step
+  start_step alone = record { next = next_of syntax line item t alone; events = ended_under syntax t.name n.line ++ events_of syntax line item t alone }
+
+  pub start_steps : first_row (start_rows syntax depth n.line n.phase t) ≡ None → nest_step syntax depth n item ≡ Ok (start_step (is_alone syntax (inside_of syntax line) t))
+  start_steps h =
+      ap (λ token. step_by syntax depth n item token) is_tag
+      ∙ (ap (λ closing. unless_refused (first_row (if closing then end_rows syntax n.line t else start_rows syntax depth n.line n.phase t)) (if closing then ended_step else begun_step)) is_start
+      ∙ (ap (λ row. unless_refused row begun_step) h
+      ∙ ap (λ (step : Step). unless_refused None step) (by_test {G = begun_step ≡ start_step (is_alone syntax (inside_of syntax line) t)} (is_alone syntax (inside_of syntax line) t) (λ e. rw e refl) (λ e. rw e refl))))
+    where
+      ended_step : Step
+      ended_step = record { next = over (line_above (after_end syntax t.name n.line)); events = ended_by_end syntax t.name n.line ++ finishes ∷ [] }
+
+      begun_step : Step
+      begun_step = begun_under syntax item t line (ended_under syntax t.name n.line)
 
 module _ (syntax : Syntax) (levels : Levels) (line : Line) (item : Item) (t : Tag) (stood : Bool) (are : AreLevels syntax levels line) where
   next_levels : (alone : Bool) → AreLevels syntax (levels_of syntax levels t alone) (next_of syntax line item t alone).line
   next_levels true = subst (λ (x : Line). AreLevels syntax levels x) (sym (over_line line)) are
   next_levels false = (
     refl,
-    ap (λ (p : Place). place_in syntax p t.name) (place_is syntax levels line are),
-    ap (λ (p : Place). row_at p t.name) (place_is syntax levels line are),
-    ap (λ name. is_held name t.name) (name_is syntax levels line are),
+    ap (λ (p : Place). place_in syntax p t.name) (same_of syntax levels line are).place,
+    ap (λ (p : Place). row_at p t.name) (same_of syntax levels line are).place,
+    ap (λ name. is_held name t.name) (same_of syntax levels line are).name,
     are,
   )
 
@@ -160,7 +142,7 @@ module _ (syntax : Syntax) (levels : Levels) (line : Line) (item : Item) (t : Ta
 
   next_drops : (alone : Bool) → (next_of syntax line item t alone).drops ≡ (not alone && drops_line_feed (place_under levels) t)
   next_drops true = over_drops line
-  next_drops false = ap (λ (p : Place). drops_line_feed p t) (sym (place_is syntax levels line are))
+  next_drops false = ap (λ (p : Place). drops_line_feed p t) (sym (same_of syntax levels line are).place)
 
   -- and what is shown
   abbrev own_of : Bool → TagAction
@@ -173,7 +155,7 @@ module _ (syntax : Syntax) (levels : Levels) (line : Line) (item : Item) (t : Ta
   next_seen false signs =
       ap (λ b. sees (if b then record { flags = (false, true) ∷ flags_of levels; signs = signs } else record { flags = (true, hides (inside_of syntax line) t) ∷ flags_of levels; signs = signs ++ begun (start_of item t) ∷ [] }) []) (hidden_flags levels)
       ∙ (begin_shows (flags_of levels) signs (start_of item t) (hides (inside_of syntax line) t) (hidden_under levels)
-      ∙ ap (λ (p : Place). record { flags = (not (hidden_under levels), hidden_under levels || hides p t) ∷ flags_of levels; signs = signs ++ own_signs (if hidden_under levels then Nothing else Begin) (start_of item t) }) (sym (place_is syntax levels line are)))
+      ∙ ap (λ (p : Place). record { flags = (not (hidden_under levels), hidden_under levels || hides p t) ∷ flags_of levels; signs = signs ++ own_signs (if hidden_under levels then Nothing else Begin) (start_of item t) }) (sym (same_of syntax levels line are).place))
 
 -- a start tag is taken
 pub start_taken : (l new : Lines) (n : Nesting) (item : Item) (t : Tag) (told : TagEffect) → Follows l n → item.token ≡ tag t → t.closing ≡ false → Begins l t told new → Taken l n item told new
@@ -182,7 +164,7 @@ start_taken l new n item t told f is_tag is_start b =
     let line : Line = under_start l.syntax t.name n.line in
     let are : AreLevels l.syntax ls line = under_kept l.syntax t.name l.levels n.line f.levels_are in
     let alone : Bool = is_alone l.syntax (inside_of l.syntax line) t in
-    let same_alone : is_alone l.syntax (place_under ls) t ≡ alone = ap (λ (p : Place). is_alone l.syntax p t) (place_is l.syntax ls line are) in
+    let same_alone : is_alone l.syntax (place_under ls) t ≡ alone = ap (λ (p : Place). is_alone l.syntax p t) (same_of l.syntax ls line are).place in
     let becomes : Bool → Lines = λ a. record { syntax = l.syntax; depth = l.depth; begun = true; levels = levels_of l.syntax ls t a } in
     let is : new ≡ becomes alone = b.becomes ∙ ap becomes same_alone in
     let own : told.own ≡ own_of l.syntax ls line item t f.stood are alone = b.own ∙ ap (λ a. own_of l.syntax ls line item t f.stood are a) same_alone in
@@ -192,19 +174,16 @@ start_taken l new n item t told f is_tag is_start b =
       is_step = start_steps l.syntax l.depth n item t is_tag is_start (start_passes l n f t b.allowed b.room);
       follows =
           subst (λ (x : Lines). Follows x (start_step l.syntax l.depth n item t is_tag is_start alone).next) (sym is)
-          (subst (λ (m : Nesting). Follows (becomes alone) m) (sym (step_next l.syntax l.depth n item t is_tag is_start alone))
-          (record { levels_are = next_levels l.syntax ls line item t f.stood are alone; stood = f.stood; phase_is = next_phase l.syntax ls line item t f.stood are alone; none_yet = λ e. absurd (cc) }));
+          (record { levels_are = next_levels l.syntax ls line item t f.stood are alone; stood = f.stood; phase_is = next_phase l.syntax ls line item t f.stood are alone; none_yet = λ e. absurd (cc) });
       drops_is =
-          ap (λ (m : Nesting). m.drops) (step_next l.syntax l.depth n item t is_tag is_start alone)
-          ∙ (next_drops l.syntax ls line item t f.stood are alone ∙ (ap (λ a. not a && drops_line_feed (place_under ls) t) (sym same_alone) ∙ sym b.drops));
+          next_drops l.syntax ls line item t f.stood are alone ∙ (ap (λ a. not a && drops_line_feed (place_under ls) t) (sym same_alone) ∙ sym b.drops);
       seen = λ signs.
-          ap (λ events. sees (record { flags = flags_of l.levels; signs = signs }) events) (step_events l.syntax l.depth n item t is_tag is_start alone)
-          ∙ (under_seen l.syntax t.name l.levels n.line signs (events_of l.syntax line item t alone) f.levels_are
+          under_seen l.syntax t.name l.levels n.line signs (events_of l.syntax line item t alone) f.levels_are
           ∙ (next_seen l.syntax ls line item t f.stood are alone (signs ++ finishing (ended_at_start t.name l.levels))
           ∙ (ap (λ k. record { flags = flags_of (levels_of l.syntax ls t alone); signs = (signs ++ finishing k) ++ own_signs (own_of l.syntax ls line item t f.stood are alone) (start_of item t) }) (sym b.ends)
           ∙ (ap (λ o. record { flags = flags_of (levels_of l.syntax ls t alone); signs = (signs ++ finishing told.ends) ++ own_signs o (start_of item t) }) (sym own)
           ∙ (ap (λ (s : StartTag). record { flags = flags_of (levels_of l.syntax ls t alone); signs = (signs ++ finishing told.ends) ++ own_signs told.own s }) (sym tag_is)
-          ∙ ap (λ (x : Lines). record { flags = flags_of x.levels; signs = (signs ++ finishing told.ends) ++ own_signs told.own (own_tag item) }) (sym is))))));
+          ∙ ap (λ (x : Lines). record { flags = flags_of x.levels; signs = (signs ++ finishing told.ends) ++ own_signs told.own (own_tag item) }) (sym is)))));
     }
 
 -- an end tag is taken

@@ -1,9 +1,6 @@
 -- Tokens of text leave the elements as they are, and show their text.
-use Rattle.rx_pages.proofs.Common.{◌≡◌, ◌∙◌, Bool, true, false, List, [], ◌∷◌, ◌++◌, refl, sym, ap, append_assoc, append-nil, Option, Some, Ok, ◌&&◌, if◌then◌else◌, map, map-append, and_from, Chars, untrue, Syntax, Token, character, reference, kept, section, comment, Item, text_of, is_line_feed, Phase, within, Limits, Spot, spot_of, is_none_left, steps_on, no_step, with_events}
-use Rattle.rx_pages.specs.Nesting.{Nesting, Event, Step, going_on, told, text_step, step_by, nest_step}
+use Rattle.rx_nest.proofs.Common.{◌≡◌, ◌∙◌, Bool, true, false, List, [], ◌∷◌, ◌++◌, refl, sym, ap, append_assoc, append-nil, Option, Some, Ok, ◌&&◌, if◌then◌else◌, map, map-append, and_from, Chars, untrue, Syntax, Token, character, reference, kept, section, comment, Item, text_of, is_line_feed, Phase, within, Limits, Spot, spot_of, is_none_left, steps_on, no_step, with_events, ℕ, Result, Err, Kind, Fault, Scanned, Progress, read_byte, progress_of, nested_items, telling, page_byte_on, fault_in, Nesting, Event, Step, going_on, told, text_step, step_by, nest_step, joined, texts_of, keeps_first, Sign, said, Flags, is_hidden, Sight, see, sees}
 use Rattle.rx_pages.proofs.ScanSteps.{Stays, one_step}
-use Rattle.rx_scan.specs.Steps.{joined, texts_of, keeps_first}
-use Rattle.rx_nest.specs.Signs.{Sign, said, Flags, is_hidden, Sight, see, sees}
 
 pub sees_append : (sight : Sight) (a b : List Event) → sees sight (a ++ b) ≡ sees (sees sight a) b
 sees_append sight [] b = refl
@@ -152,3 +149,17 @@ module _ (syntax : Syntax) (limits : Limits) (spot : Spot) where
       by (character c) k e = one_quiet n item s (record { next = going_on n; events = [] }) (text_ok n item (c ∷ []) (ap text_of k) ∙ ap (λ b. Ok (record { next = going_on n; events = if b then [] else told n.phase (c ∷ []) })) dropped) refl (λ flags signs. refl)
       by (reference c) k e = one_quiet n item s (record { next = going_on n; events = [] }) (text_ok n item (c ∷ []) (ap text_of k) ∙ ap (λ b. Ok (record { next = going_on n; events = if b then [] else told n.phase (c ∷ []) })) dropped) refl (λ flags signs. refl)
       by _ k e = absurd (cc)
+
+-- What a byte leads to: what its tokens make of the elements, or a fault.
+pub byte_goes : (syntax : Syntax) (limits : Limits) (p : Progress) (byte : ℕ) (G : Result Progress Fault → Type 0) → ((kind : Kind) → G (Err (fault_in p.now.scan kind)))
+    → ((scanned : Scanned) (step : Step) → read_byte syntax limits (spot_of syntax p.now.nest) byte p.now.scan ≡ Ok scanned → steps_on syntax limits.depth (Ok (no_step p.now.nest)) scanned.items ≡ Ok step
+    → G (Ok (record { now = record { scan = scanned.next; nest = step.next }; told = p.told ++ step.events }))) → G (page_byte_on syntax limits (Ok p) byte)
+byte_goes syntax limits p byte G fails goes = by (read_byte syntax limits (spot_of syntax p.now.nest) byte p.now.scan) refl
+  where
+    on : (scanned : Scanned) → read_byte syntax limits (spot_of syntax p.now.nest) byte p.now.scan ≡ Ok scanned → (x : Result Step Kind) → steps_on syntax limits.depth (Ok (no_step p.now.nest)) scanned.items ≡ x → G (telling p.told (progress_of p.now.scan scanned.next x))
+    on scanned e (Ok step) k = goes scanned step e k
+    on scanned e (Err kind) k = fails kind
+
+    by : (x : Result Scanned Kind) → read_byte syntax limits (spot_of syntax p.now.nest) byte p.now.scan ≡ x → G (telling p.told (nested_items syntax limits.depth p.now x))
+    by (Ok scanned) e = on scanned e (steps_on syntax limits.depth (Ok (no_step p.now.nest)) scanned.items) refl
+    by (Err kind) e = fails kind

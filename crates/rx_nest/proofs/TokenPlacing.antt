@@ -1,30 +1,43 @@
 -- Before each start tag that is shown stands the front of a page.
-use Rattle.rx_pages.proofs.Common.{◌&&◌, ◌||◌, ◌==◌, not, nat_le, if◌then◌else◌, ◌⊎◌, greater_than_sign, less_than_sign, ampersand, Chars, by_test, split, Syntax, More, Char, Bad, answer_of, Entry, byte_order_mark, line_feed, carriage_return, as_line_end, StartTag, Tag, Token, tag, character, reference, kept, section, comment, doctype, is_alone, is_html, has_references, is_text, start_of, values, Item, is_literal, is_line_feed, same, is_among, enders, is_omissible, is_held, Line, inside_of, parent_of, Phase, before, first_row, tag_rows, under_start, Utf8Step, Content, Fault, Kind, NotUtf8, PageTooLong, Unended, Limits, IsFront, Verdict, goes_on, whole, ended, refused, verdict, at_first, Spot, spot_of, Scanning, starts_at, Scanned, first_of, token_at, is_doctype, item_of, is_too_long, told_first, with_item, after_token, read_char, read_answer, read_byte, Progress, Reading, with_events, step_on, steps_on, no_step, progress_of, nested_items, page_byte_on, telling, page_on, page_read, nothing_read, end_of, may_end, fault_in, is_none_left, found_fault, page_append, IsKept, is_kept, read_size, item_first, item_last, token_of_item}
-use Rattle.std.proofs.Common.{◌≡◌, ◌∙◌, ℕ, zero, suc, ◌+◌, ◌<◌, ◌≤◌, Bool, true, false, List, [], ◌∷◌, ◌++◌, map, refl, sym, ap, subst, length, length-append, append_assoc, append-nil, Option, Some, None, Result, Ok, Err, arith, take, inl, inr, ⊎_elim}
+use Rattle.rx_nest.proofs.Common.{◌&&◌, ◌||◌, ◌==◌, not, nat_le, if◌then◌else◌, ◌⊎◌, greater_than_sign, less_than_sign, ampersand, Chars, by_test, split, Syntax, More, Char, Bad, answer_of, Entry, byte_order_mark, line_feed, carriage_return, as_line_end, StartTag, Tag, Token, tag, character, reference, kept, section, comment, doctype, is_alone, is_html, has_references, is_text, start_of, values, Item, is_literal, is_line_feed, same, is_among, enders, is_omissible, is_held, Line, inside_of, parent_of, Phase, before, first_row, tag_rows, under_start, Utf8Step, Content, Fault, Kind, NotUtf8, PageTooLong, Unended, Limits, IsFront, Verdict, goes_on, whole, ended, refused, verdict, at_first, Spot, spot_of, Scanning, starts_at, Scanned, first_of, token_at, is_doctype, item_of, is_too_long, told_first, with_item, after_token, read_char, read_answer, read_byte, Progress, Reading, with_events, step_on, steps_on, no_step, nested_items, page_byte_on, telling, page_on, page_read, nothing_read, end_of, may_end, fault_in, is_none_left, found_fault, page_append, IsKept, is_kept, read_size, item_first, item_last, token_of_item, within, take-append-le, ◌≡◌, ◌∙◌, ℕ, ◌+◌, ◌<◌, ◌≤◌, Bool, true, false, List, [], ◌∷◌, ◌++◌, map, refl, sym, ap, subst, length, length-append, append_assoc, append-nil, Option, Some, None, Result, Ok, Err, arith, take, inl, inr, ⊎_elim, faults_follow_fronts, Sign, begun, said, finished, Flags, Sight, is_hidden, see, sees, nothing_seen, Way, IsAtTag, IsAtOne, IsRefusal}
+use Rattle.rx_nest.proofs.TextSteps.{byte_goes}
 use Rattle.rx_pages.specs.Nesting.{Event, begins, says, finishes, Nesting, Step, nest_step, step_by, unless_refused, tag_passes, begun_under, text_step, told as told_text, doctype_step, ended_by_start, ended_under, ended_by_end}
 use Rattle.rx_pages.specs.PageReader as reader
 use Rattle.rx_pages.proofs.EndedRuns.{ended_kept}
-use Rattle.rx_pages.proofs.FaultFronts.{faults_follow_fronts}
-use Rattle.rx_nest.specs.Signs.{Sign, begun, said, finished, Flags, Sight, is_hidden, see, sees, nothing_seen}
-use Rattle.rx_nest.specs.Ways.{Way, IsAtTag, IsAtOne, IsRefusal}
 
 -- a start tag from this offset to that of the byte that completes it
 pub record TagAt (n at : ℕ) (t : StartTag) : Type 0 where
   pub begins_at : t.token ≡ n
   pub ends_at : t.at ≡ at
 
+-- what holds of each
+abbrev pub AllOf : {A : Type 0} → (A → Type 0) → List A → Type 0
+AllOf Is [] = Unit {0}
+AllOf Is (x ∷ xs) = Is x × AllOf Is xs
+
+all_append : {A : Type 0} (Is : A → Type 0) (xs ys : List A) → AllOf Is xs → AllOf Is ys → AllOf Is (xs ++ ys)
+all_append Is [] ys a b = b
+all_append Is (x ∷ xs) ys a b = (a.0, all_append Is xs ys a.1 b)
+
+all_weaker : {A : Type 0} (Is Was : A → Type 0) → ((x : A) → Was x → Is x) → (xs : List A) → AllOf Was xs → AllOf Is xs
+all_weaker Is Was f [] h = tt
+all_weaker Is Was f (x ∷ xs) h = (f x h.0, all_weaker Is Was f xs h.1)
+
 -- the tags among the tokens are such
+abbrev pub TagIs : (StartTag → Type 0) → Item → Type 0
+TagIs Such item = (t : Tag) → item.token ≡ tag t → Such (start_of item t)
+
 abbrev pub AllTags : (StartTag → Type 0) → List Item → Type 0
-AllTags Such [] = Unit {0}
-AllTags Such (item ∷ items) = ((t : Tag) → item.token ≡ tag t → Such (start_of item t)) × AllTags Such items
+AllTags Such items = AllOf (TagIs Such) items
+
+abbrev pub IsOther : Item → Type 0
+IsOther item = (t : Tag) → item.token ≡ tag t → ⊥
 
 abbrev pub HasNoTag : List Item → Type 0
-HasNoTag [] = Unit {0}
-HasNoTag (item ∷ items) = ((t : Tag) → item.token ≡ tag t → ⊥) × HasNoTag items
+HasNoTag items = AllOf IsOther items
 
 pub none_such : (Such : StartTag → Type 0) (items : List Item) → HasNoTag items → AllTags Such items
-none_such Such [] h = tt
-none_such Such (item ∷ items) h = ((λ t e. absurd (h.0 t e)), none_such Such items h.1)
+none_such Such = all_weaker (TagIs Such) IsOther (λ item h t e. absurd (h t e))
 
 -- a byte completes no tag, or nothing is unfinished behind it
 abbrev pub Where : Scanned → Type 0
@@ -126,33 +139,26 @@ module _ (syntax : Syntax) (limits : Limits) (spot : Spot) (s : Scanning) where
 
 -- the elements that events begin, and those that are shown to begin, are such
 module _ (Such : StartTag → Type 0) where
+  abbrev pub BeginIs : Event → Type 0
+  BeginIs (begins t hidden) = Such t
+  BeginIs _ = Unit {0}
+
   abbrev pub AllBegin : List Event → Type 0
-  AllBegin [] = Unit {0}
-  AllBegin (begins t hidden ∷ events) = Such t × AllBegin events
-  AllBegin (says chars ∷ events) = AllBegin events
-  AllBegin (finishes ∷ events) = AllBegin events
+  AllBegin events = AllOf BeginIs events
 
   pub begin_append : (xs ys : List Event) → AllBegin xs → AllBegin ys → AllBegin (xs ++ ys)
-  begin_append [] ys a b = b
-  begin_append (begins t hidden ∷ xs) ys a b = (a.0, begin_append xs ys a.1 b)
-  begin_append (says chars ∷ xs) ys a b = begin_append xs ys a b
-  begin_append (finishes ∷ xs) ys a b = begin_append xs ys a b
+  begin_append = all_append BeginIs
+
+  abbrev pub BegunIs : Sign → Type 0
+  BegunIs (begun t) = Such t
+  BegunIs _ = Unit {0}
 
   abbrev pub AllBegun : List Sign → Type 0
-  AllBegun [] = Unit {0}
-  AllBegun (begun t ∷ signs) = Such t × AllBegun signs
-  AllBegun (said c ∷ signs) = AllBegun signs
-  AllBegun (finished ∷ signs) = AllBegun signs
-
-  begun_append : (xs ys : List Sign) → AllBegun xs → AllBegun ys → AllBegun (xs ++ ys)
-  begun_append [] ys a b = b
-  begun_append (begun t ∷ xs) ys a b = (a.0, begun_append xs ys a.1 b)
-  begun_append (said c ∷ xs) ys a b = begun_append xs ys a b
-  begun_append (finished ∷ xs) ys a b = begun_append xs ys a b
+  AllBegun signs = AllOf BegunIs signs
 
   said_begun : (chars : Chars) → AllBegun (map said chars)
   said_begun [] = tt
-  said_begun (c ∷ chars) = said_begun chars
+  said_begun (c ∷ chars) = (tt, said_begun chars)
 
   -- what events add to what is seen
   pub record Adds (before now : List Sign) : Type 0 where
@@ -166,26 +172,21 @@ module _ (Such : StartTag → Type 0) where
   one_adds (says chars) flags signs b =
       split (Adds signs) (is_hidden flags) _ _ (λ e. record { signs = []; are = sym (append-nil signs); begun_so = tt }) (λ e. record { signs = map said chars; are = refl; begun_so = said_begun chars })
   one_adds finishes [] signs b = record { signs = []; are = sym (append-nil signs); begun_so = tt }
-  one_adds finishes (flag ∷ flags) signs b = split (λ x. Adds signs (signs ++ x)) flag.0 _ _ (λ e. record { signs = finished ∷ []; are = refl; begun_so = tt }) (λ e. record { signs = []; are = refl; begun_so = tt })
-
-  both_begin : (event : Event) (events : List Event) → AllBegin (event ∷ events) → AllBegin (event ∷ []) × AllBegin events
-  both_begin (begins t hidden) events b = ((b.0, tt), b.1)
-  both_begin _ events b = (tt, b)
+  one_adds finishes (flag ∷ flags) signs b = split (λ x. Adds signs (signs ++ x)) flag.0 _ _ (λ e. record { signs = finished ∷ []; are = refl; begun_so = (tt, tt) }) (λ e. record { signs = []; are = refl; begun_so = tt })
 
   pub all_add : (events : List Event) (sight : Sight) → AllBegin events → Adds sight.signs (sees sight events).signs
   all_add [] sight b = record { signs = []; are = sym (append-nil sight.signs); begun_so = tt }
   all_add (event ∷ events) sight b =
-      let p = both_begin event events b in
-      let one = one_adds event sight.flags sight.signs p.0 in
-      let more = all_add events (see event sight.flags sight.signs) p.1 in
-      record { signs = one.signs ++ more.signs; are = more.are ∙ (ap (λ x. x ++ more.signs) one.are ∙ append_assoc sight.signs one.signs more.signs); begun_so = begun_append one.signs more.signs one.begun_so more.begun_so }
+      let one = one_adds event sight.flags sight.signs (b.0, tt) in
+      let more = all_add events (see event sight.flags sight.signs) b.1 in
+      record { signs = one.signs ++ more.signs; are = more.are ∙ (ap (λ x. x ++ more.signs) one.are ∙ append_assoc sight.signs one.signs more.signs); begun_so = all_append BegunIs one.signs more.signs one.begun_so more.begun_so }
 
   -- a fault that lies at one of them
   pub one_such : (signs : List Sign) (fault : Fault) → AllBegun signs → IsAtOne fault signs → (t : StartTag) × Such t × IsAtTag fault t
   one_such [] fault h o = absurd o
   one_such (begun t ∷ signs) fault h o = ⊎_elim (λ i. (t, h.0, i)) (λ o. one_such signs fault h.1 o) o
-  one_such (said c ∷ signs) fault h o = one_such signs fault h o
-  one_such (finished ∷ signs) fault h o = one_such signs fault h o
+  one_such (said c ∷ signs) fault h o = one_such signs fault h.1 o
+  one_such (finished ∷ signs) fault h o = one_such signs fault h.1 o
 
   module _ (refused : List Sign → Option Fault) (law : IsRefusal refused) where
     pub refused_such : (events : List Event) (fault : Fault) → AllBegin events → refused (sees nothing_seen events).signs ≡ Some fault → (t : StartTag) × Such t × IsAtTag fault t
@@ -194,20 +195,59 @@ module _ (Such : StartTag → Type 0) where
         one_such seen.signs fault seen.begun_so (law.lies [] seen.signs fault law.none (ap refused (sym seen.are) ∙ e))
 
 pub begin_such : (A B : StartTag → Type 0) → ((t : StartTag) → A t → B t) → (xs : List Event) → AllBegin A xs → AllBegin B xs
-begin_such A B f [] h = tt
-begin_such A B f (begins t hidden ∷ xs) h = (f t h.0, begin_such A B f xs h.1)
-begin_such A B f (says chars ∷ xs) h = begin_such A B f xs h
-begin_such A B f (finishes ∷ xs) h = begin_such A B f xs h
+begin_such A B f = all_weaker (BeginIs B) (BeginIs A) by
+  where
+    by : (event : Event) → BeginIs A event → BeginIs B event
+    by (begins t hidden) h = f t h
+    by _ h = tt
 
-module _ (Such : StartTag → Type 0) where
-  abbrev pub StepBegins : Result Step Kind → Type 0
-  StepBegins (Ok step) = AllBegin Such step.events
-  StepBegins (Err kind) = Unit {0}
+-- what holds of the events that a token tells
+abbrev pub StepHolds : (List Event → Type 0) → Result Step Kind → Type 0
+StepHolds Holds (Ok step) = Holds step.events
+StepHolds Holds (Err kind) = Unit {0}
+
+-- What holds of none and of text, and goes on, holds of what tokens tell if it does of the tags among them.
+module _ (Holds : List Event → Type 0) (nothing : Holds []) (append : (xs ys : List Event) → Holds xs → Holds ys → Holds (xs ++ ys)) (saying : (chars : Chars) → Holds (says chars ∷ [])) (syntax : Syntax) (depth : ℕ) (Placed : Item → Type 0)
+    (tagged : (m : Nesting) (item : Item) (t : Tag) → item.token ≡ tag t → Placed item → StepHolds Holds (unless_refused (first_row (tag_rows syntax depth m.line m.phase t)) (tag_passes syntax m.line item t))) where
+  said_holds : (p : Phase) (chars : Chars) → Holds (told_text p chars)
+  said_holds within chars = saying chars
+  said_holds _ chars = nothing
+
+  text_holds : (m : Nesting) (dropped : Bool) (chars : Chars) → Holds (text_step m dropped chars).events
+  text_holds m dropped chars = split Holds (m.drops && dropped) _ _ (λ e. nothing) (λ e. said_holds m.phase chars)
+
+  doctype_holds : (p : Phase) → StepHolds Holds (doctype_step p)
+  doctype_holds (before false) = nothing
+  doctype_holds _ = tt
+
+  pub item_holds : (m : Nesting) (item : Item) → Placed item → StepHolds Holds (nest_step syntax depth m item)
+  item_holds m item h = by item.token refl
+    where
+      by : (token : Token) → item.token ≡ token → StepHolds Holds (step_by syntax depth m item token)
+      by (tag t) e = tagged m item t e h
+      by (character c) e = text_holds m (is_line_feed (character c)) (c ∷ [])
+      by (reference c) e = text_holds m (is_line_feed (reference c)) (c ∷ [])
+      by (kept chars) e = text_holds m false chars
+      by (section chars) e = text_holds m false chars
+      by comment e = nothing
+      by doctype e = doctype_holds m.phase
+
+  pub items_hold : (items : List Item) → AllOf Placed items → (x : Result Step Kind) → StepHolds Holds x → StepHolds Holds (steps_on syntax depth x items)
+  items_hold [] h x s = s
+  items_hold (item ∷ items) h (Err kind) s = items_hold items h.1 (Err kind) tt
+  items_hold (item ∷ items) h (Ok step) s = items_hold items h.1 (step_on syntax depth (Ok step) item) (by (nest_step syntax depth step.next item) (item_holds step.next item h.0))
+    where
+      by : (x : Result Step Kind) → StepHolds Holds x → StepHolds Holds (with_events step.events x)
+      by (Ok next) k = append step.events next.events s k
+      by (Err kind) k = tt
+
+abbrev pub StepBegins : (StartTag → Type 0) → Result Step Kind → Type 0
+StepBegins Such x = StepHolds (AllBegin Such) x
 
 module _ (Such : StartTag → Type 0) (syntax : Syntax) (depth : ℕ) where
   by_start : (name : Chars) (line : Line) → AllBegin Such (ended_by_start syntax name line)
   by_start name [] = tt
-  by_start name (t ∷ line) = split (AllBegin Such) (is_among (enders (inside_of syntax line) t.name) name) _ _ (λ e. by_start name line) (λ e. tt)
+  by_start name (t ∷ line) = split (AllBegin Such) (is_among (enders (inside_of syntax line) t.name) name) _ _ (λ e. (tt, by_start name line)) (λ e. tt)
 
   under : (name : Chars) (line : Line) → AllBegin Such (ended_under syntax name line)
   under name line = split (AllBegin Such) (is_html (inside_of syntax line).content) _ _ (λ e. by_start name line) (λ e. tt)
@@ -215,54 +255,23 @@ module _ (Such : StartTag → Type 0) (syntax : Syntax) (depth : ℕ) where
   by_end : (name : Chars) (line : Line) → AllBegin Such (ended_by_end syntax name line)
   by_end name [] = tt
   by_end name (t ∷ line) =
-      split (AllBegin Such) (is_omissible (inside_of syntax line) t.name && not (same t.name name) && not (is_held (parent_of line) t.name)) _ _ (λ e. by_end name line) (λ e. tt)
+      split (AllBegin Such) (is_omissible (inside_of syntax line) t.name && not (same t.name name) && not (is_held (parent_of line) t.name)) _ _ (λ e. (tt, by_end name line)) (λ e. tt)
 
   begun_at : (item : Item) (t : Tag) (line : Line) (gone : List Event) → Such (start_of item t) → (AllBegin Such) gone → AllBegin Such (begun_under syntax item t line gone).events
   begun_at item t line gone l g =
-      split (λ (s : Step). (AllBegin Such) s.events) (is_alone syntax (inside_of syntax line) t) _ _ (λ e. begin_append Such gone _ g (l, tt)) (λ e. begin_append Such gone _ g (l, tt))
+      split (λ (s : Step). (AllBegin Such) s.events) (is_alone syntax (inside_of syntax line) t) _ _ (λ e. begin_append Such gone _ g (l, (tt, tt))) (λ e. begin_append Such gone _ g (l, tt))
 
   tag_at : (m : Nesting) (item : Item) (t : Tag) (x : Option Kind) → Such (start_of item t) → StepBegins Such (unless_refused x (tag_passes syntax m.line item t))
   tag_at m item t (Some kind) l = tt
   tag_at m item t None l =
-      split (λ (s : Step). (AllBegin Such) s.events) t.closing _ _ (λ e. begin_append Such (ended_by_end syntax t.name m.line) _ (by_end t.name m.line) tt)
+      split (λ (s : Step). (AllBegin Such) s.events) t.closing _ _ (λ e. begin_append Such (ended_by_end syntax t.name m.line) _ (by_end t.name m.line) (tt, tt))
       (λ e. begun_at item t (under_start syntax t.name m.line) (ended_under syntax t.name m.line) l (under t.name m.line))
 
-  said_at : (p : Phase) (chars : Chars) → AllBegin Such (told_text p chars)
-  said_at (before stood) chars = tt
-  said_at _ chars = tt
-
-  text_at : (m : Nesting) (dropped : Bool) (chars : Chars) → AllBegin Such (text_step m dropped chars).events
-  text_at m dropped chars = split (AllBegin Such) (m.drops && dropped) _ _ (λ e. tt) (λ e. said_at m.phase chars)
-
-  doctype_at : (p : Phase) → StepBegins Such (doctype_step p)
-  doctype_at (before true) = tt
-  doctype_at _ = tt
-
   pub item_such : (m : Nesting) (item : Item) → ((t : Tag) → item.token ≡ tag t → Such (start_of item t)) → StepBegins Such (nest_step syntax depth m item)
-  item_such m item h = by item.token h
-    where
-      by : (token : Token) → ((t : Tag) → token ≡ tag t → Such (start_of item t)) → StepBegins Such (step_by syntax depth m item token)
-      by (tag t) k = tag_at m item t (first_row (tag_rows syntax depth m.line m.phase t)) (k t refl)
-      by (character c) k = text_at m (is_line_feed (character c)) (c ∷ [])
-      by (reference c) k = text_at m (is_line_feed (reference c)) (c ∷ [])
-      by (kept chars) k = text_at m false chars
-      by (section chars) k = text_at m false chars
-      by comment k = tt
-      by doctype k = doctype_at m.phase
+  item_such = item_holds (AllBegin Such) tt (begin_append Such) (λ chars. (tt, tt)) syntax depth (TagIs Such) (λ m item t e h. tag_at m item t (first_row (tag_rows syntax depth m.line m.phase t)) (h t e))
 
   pub items_such : (items : List Item) → AllTags Such items → (x : Result Step Kind) → StepBegins Such x → StepBegins Such (steps_on syntax depth x items)
-  items_such [] h x s = s
-  items_such (item ∷ items) h (Err kind) s = items_such items h.1 (Err kind) tt
-  items_such (item ∷ items) h (Ok step) s = items_such items h.1 (step_on syntax depth (Ok step) item) (by (nest_step syntax depth step.next item) (item_such step.next item h.0))
-    where
-      by : (x : Result Step Kind) → StepBegins Such x → StepBegins Such (with_events step.events x)
-      by (Ok next) k = begin_append Such step.events next.events s k
-      by (Err kind) k = tt
-
-pub take_front : (n : ℕ) (xs ys : List ℕ) → n ≤ length xs → take n (xs ++ ys) ≡ take n xs
-take_front zero xs ys l = refl
-take_front (suc n) [] ys l = absurd (omega arith)
-take_front (suc n) (x ∷ xs) ys l = ap (λ r. x ∷ r) (take_front n xs ys (omega arith))
+  items_such = items_hold (AllBegin Such) tt (begin_append Such) (λ chars. (tt, tt)) syntax depth (TagIs Such) (λ m item t e h. tag_at m item t (first_row (tag_rows syntax depth m.line m.phase t)) (h t e))
 
 module _ (syntax : Syntax) (limits : Limits) where
   -- the bytes up to an offset are the front of a page
@@ -274,10 +283,10 @@ module _ (syntax : Syntax) (limits : Limits) where
   IsBefore bytes n = (n < length bytes) × IsFront syntax limits (take n bytes)
 
   before_more : (bytes more : List ℕ) (n : ℕ) → IsBefore bytes n → IsBefore (bytes ++ more) n
-  before_more bytes more n h = (omega (arith, h.0, length-append bytes more), subst (IsFront syntax limits) (sym (take_front n bytes more (omega (arith, h.0)))) h.1)
+  before_more bytes more n h = (omega (arith, h.0, length-append bytes more), subst (IsFront syntax limits) (sym (take-append-le n bytes more (omega (arith, h.0)))) h.1)
 
   before_byte : (bytes : List ℕ) (byte n : ℕ) → IsUpTo bytes n → IsBefore (bytes ++ byte ∷ []) n
-  before_byte bytes byte n h = (omega (arith, h.0, length-append bytes (byte ∷ [])), subst (IsFront syntax limits) (sym (take_front n bytes (byte ∷ []) h.0)) h.1)
+  before_byte bytes byte n h = (omega (arith, h.0, length-append bytes (byte ∷ [])), subst (IsFront syntax limits) (sym (take-append-le n bytes (byte ∷ []) h.0)) h.1)
 
   none_held : (r : Reading) → may_end r ≡ true → r.scan.held ≡ []
   none_held r = by r.scan.held
@@ -318,7 +327,7 @@ module _ (syntax : Syntax) (limits : Limits) where
           let read : page_read syntax limits (bytes ++ 255 ∷ []) ≡ Err (fault_in p.now.scan fails.0) =
           page_append syntax limits (spot_of syntax p.now.nest) (Ok nothing_read) bytes (255 ∷ []) ∙ (ap (λ x. page_byte_on syntax limits x 255) r ∙ fails.1) in
           let front = faults_follow_fronts syntax limits (bytes ++ 255 ∷ []) (fault_in p.now.scan fails.0) (found_fault syntax limits (bytes ++ 255 ∷ []) (fault_in p.now.scan fails.0) (ap end_of read)) in
-          (small, subst (IsFront syntax limits) (take_front (token_at p.now.scan) bytes (255 ∷ []) small) front)
+          (small, subst (IsFront syntax limits) (take-append-le (token_at p.now.scan) bytes (255 ∷ []) small) front)
 
   -- after some bytes each tag that was told stands behind the front of a page
   abbrev Behind : List ℕ → Result Progress Fault → Type 0
@@ -327,28 +336,18 @@ module _ (syntax : Syntax) (limits : Limits) where
 
   one_behind : (bytes : List ℕ) (byte : ℕ) (x : Result Progress Fault) → Behind bytes x → Behind (bytes ++ byte ∷ []) (page_byte_on syntax limits x byte)
   one_behind bytes byte (Err fault) h = tt
-  one_behind bytes byte (Ok p) h = by (read_byte syntax limits (spot_of syntax p.now.nest) byte p.now.scan) refl (byte_tags syntax limits (spot_of syntax p.now.nest) p.now.scan byte)
-    where
-      there : page_read syntax limits (bytes ++ byte ∷ []) ≡ page_byte_on syntax limits (Ok p) byte
-      there = page_append syntax limits (spot_of syntax p.now.nest) (Ok nothing_read) bytes (byte ∷ []) ∙ ap (λ x. page_byte_on syntax limits x byte) h.0
-
-      on : (scanned : Scanned) → Fits scanned.next.run scanned.next.at → (x : Result Step Kind) → StepBegins (TagAt (token_at p.now.scan) p.now.scan.at) x
-          → page_byte_on syntax limits (Ok p) byte ≡ telling p.told (progress_of p.now.scan scanned.next x) → Behind (bytes ++ byte ∷ []) (telling p.told (progress_of p.now.scan scanned.next x))
-      on scanned f (Ok step) k e = (
-        there ∙ e,
-        f,
+  one_behind bytes byte (Ok p) h =
+      byte_goes syntax limits p byte (λ x. page_byte_on syntax limits (Ok p) byte ≡ x → Behind (bytes ++ byte ∷ []) x) (λ kind e. tt)
+      (λ scanned step e k is.
+      let after = subst (After p.now.scan) e (byte_tags syntax limits (spot_of syntax p.now.nest) p.now.scan byte) in
+      let such = subst (StepBegins (TagAt (token_at p.now.scan) p.now.scan.at)) k (items_such (TagAt (token_at p.now.scan) p.now.scan.at) syntax limits.depth scanned.items after.tags (Ok (no_step p.now.nest)) tt) in (
+        page_append syntax limits (spot_of syntax p.now.nest) (Ok nothing_read) bytes (byte ∷ []) ∙ (ap (λ x. page_byte_on syntax limits x byte) h.0 ∙ is),
+        after.fits h.1,
         begin_append (λ t. IsBefore (bytes ++ byte ∷ []) t.token) p.told step.events
             (begin_such (λ t. IsBefore bytes t.token) (λ t. IsBefore (bytes ++ byte ∷ []) t.token) (λ t. before_more bytes (byte ∷ []) t.token) p.told h.2)
             (begin_such (TagAt (token_at p.now.scan) p.now.scan.at) (λ t. IsBefore (bytes ++ byte ∷ []) t.token)
-            (λ t b. subst (IsBefore (bytes ++ byte ∷ [])) (sym b.begins_at) (before_byte bytes byte (token_at p.now.scan) (front_at bytes p h.0 h.1))) step.events k),
-      )
-      on scanned f (Err kind) k e = tt
-
-      by : (x : Result Scanned Kind) → read_byte syntax limits (spot_of syntax p.now.nest) byte p.now.scan ≡ x → After p.now.scan x → Behind (bytes ++ byte ∷ []) (telling p.told (nested_items syntax limits.depth p.now x))
-      by (Ok scanned) e k =
-          on scanned (k.fits h.1) (steps_on syntax limits.depth (Ok (no_step p.now.nest)) scanned.items) (items_such (TagAt (token_at p.now.scan) p.now.scan.at) syntax limits.depth scanned.items k.tags (Ok (no_step p.now.nest)) tt)
-          (ap (λ z. telling p.told (nested_items syntax limits.depth p.now z)) e)
-      by (Err kind) e k = tt
+            (λ t b. subst (IsBefore (bytes ++ byte ∷ [])) (sym b.begins_at) (before_byte bytes byte (token_at p.now.scan) (front_at bytes p h.0 h.1))) step.events such),
+      )) refl
 
   all_behind : (more bytes : List ℕ) (x : Result Progress Fault) → Behind bytes x → Behind (bytes ++ more) (page_on syntax limits x more)
   all_behind [] bytes x h = subst (λ b. Behind b x) (sym (append-nil bytes)) h

@@ -1,7 +1,5 @@
 -- The events of a page end each element that they begin, so what they show is the tree.
-use Rattle.rx_pages.proofs.Common.{◌≡◌, ◌∙◌, ℕ, Bool, true, false, List, [], ◌∷◌, ◌++◌, refl, sym, ap, subst, length, append_assoc, Option, Some, None, Result, Ok, ◌&&◌, not, if◌then◌else◌, Chars, by_test, Syntax, same, is_among, Tag, Token, tag, character, reference, kept, section, comment, doctype, is_alone, is_html, hides, drops_line_feed, StartTag, Tree, Item, start_of, is_line_feed, enders, is_omissible, is_held, Line, inside_of, parent_of, Phase, before, within, after, Page, first_row, tag_rows, start_rows, end_rows, under_start, after_start, after_end, is_innermost, is_no_line, Fault, Kind, NothingOpen, Mismatch, Limits, Progress, page_read, end_of, page_is_told, read_page}
-use Rattle.rx_pages.specs.Nesting.{Event, begins, finishes, Nesting, Step, going_on, told, text_step, doctype_step, over, line_above, begun_under, ended_by_start, ended_under, ended_by_end, tag_passes, unless_refused, step_by, Goes, stands, goes, IsAt}
-use Rattle.rx_nest.specs.Signs.{sees, nothing_seen, signs_of}
+use Rattle.rx_nest.proofs.Common.{◌≡◌, ◌∙◌, ℕ, Bool, true, false, List, [], ◌∷◌, ◌++◌, refl, sym, ap, subst, length, append_assoc, Option, Some, None, Result, Ok, ◌&&◌, not, if◌then◌else◌, Chars, by_test, Syntax, same, is_among, Tag, Token, tag, character, reference, kept, section, comment, doctype, is_alone, is_html, hides, drops_line_feed, StartTag, Tree, Item, start_of, is_line_feed, enders, is_omissible, is_held, Line, inside_of, parent_of, Phase, before, within, after, Page, first_row, tag_rows, start_rows, end_rows, under_start, after_start, after_end, is_innermost, is_no_line, Fault, Kind, NothingOpen, Mismatch, Limits, Progress, page_read, end_of, page_is_told, read_page, Event, begins, finishes, Nesting, Step, going_on, told, text_step, doctype_step, over, line_above, begun_under, ended_by_start, ended_under, ended_by_end, tag_passes, unless_refused, step_by, Goes, stands, goes, IsAt, sees, nothing_seen, signs_of}
 use Rattle.rx_nest.proofs.SeenTrees.{Ends, tree_is_seen}
 
 -- before the root no element is open
@@ -18,27 +16,18 @@ over_sound (t ∷ above) stood e = absurd (cc)
 
 module _ (syntax : Syntax) where
   start_ends : (name : Chars) (line : Line) (more : List Event) → Ends (length (after_start syntax name line)) more → Ends (length line) (ended_by_start syntax name line ++ more)
-  start_ends name [] more h = h
-  start_ends name (t ∷ above) more h =
-      by_test (is_among (enders (inside_of syntax above) t.name) name)
-      (λ e. rw e (start_ends name above more (subst (λ b. Ends (length (if b then after_start syntax name above else t ∷ above)) more) e h)))
-      (λ e. rw e (subst (λ b. Ends (length (if b then after_start syntax name above else t ∷ above)) more) e h))
+  start_ends name [] more = λ h. h
+  start_ends name (t ∷ above) more = by_test (is_among (enders (inside_of syntax above) t.name) name) (λ e. rw e (start_ends name above more)) (λ e. rw e (λ h. h))
 
   under_ends : (name : Chars) (line : Line) (more : List Event) → Ends (length (under_start syntax name line)) more → Ends (length line) (ended_under syntax name line ++ more)
-  under_ends name line more h =
-      by_test (is_html (inside_of syntax line).content)
-      (λ e. rw e (start_ends name line more (subst (λ b. Ends (length (if b then after_start syntax name line else line)) more) e h)))
-      (λ e. rw e (subst (λ b. Ends (length (if b then after_start syntax name line else line)) more) e h))
+  under_ends name line more = by_test (is_html (inside_of syntax line).content) (λ e. rw e (start_ends name line more)) (λ e. rw e (λ h. h))
 
   abbrev omits : Chars → StartTag → Line → Bool
   omits name t above = is_omissible (inside_of syntax above) t.name && not (same t.name name) && not (is_held (parent_of above) t.name)
 
   end_ends : (name : Chars) (line : Line) (more : List Event) → Ends (length (after_end syntax name line)) more → Ends (length line) (ended_by_end syntax name line ++ more)
-  end_ends name [] more h = h
-  end_ends name (t ∷ above) more h =
-      by_test (omits name t above)
-      (λ e. rw e (end_ends name above more (subst (λ b. Ends (length (if b then after_end syntax name above else t ∷ above)) more) e h)))
-      (λ e. rw e (subst (λ b. Ends (length (if b then after_end syntax name above else t ∷ above)) more) e h))
+  end_ends name [] more = λ h. h
+  end_ends name (t ∷ above) more = by_test (omits name t above) (λ e. rw e (end_ends name above more)) (λ e. rw e (λ h. h))
 
   above_ends : (name : Chars) (line : Line) (more : List Event) → is_innermost name line ≡ true → Ends (length (line_above line)) more → Ends (length line) (finishes ∷ more)
   above_ends name [] more e h = absurd (cc)

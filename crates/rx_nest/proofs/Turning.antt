@@ -1,6 +1,5 @@
 -- What becomes of a reading, turn by turn.
-use Rattle.std.proofs.Common.{◌+◌, ◌≡◌, ◌∙◌, ℕ, zero, suc, ◌<◌, true, List, [], ◌++◌, length, take, drop, refl, sym, ap, subst, Option, Some, None, Ok, Err, arith, length-append, length-take, append-nil, append_assoc}
-use Rattle.rx_pages.proofs.Common.{Fault, StartTag, Stop}
+use Rattle.rx_nest.proofs.Common.{◌+◌, ◌≡◌, ◌∙◌, ℕ, zero, suc, ◌<◌, true, List, [], ◌++◌, length, take, drop, refl, sym, ap, subst, Option, Some, None, Ok, Err, arith, length-append, length-take, append-nil, append_assoc, take_all, Fault, StartTag, Stop, take-append-drop, Sign, Sight, signs_of, Way, IsRefusal, Hears, for_form, for_meaning, StopGives, ReaderRefuses}
 use Rattle.rx_grammar.specs.declared.stops.Stop.TheVariants as stop
 use Rattle.rx_nest.specs.declared.nests.Event.{Event}
 use Rattle.rx_nest.specs.declared.tree_tokens.PendingEvents.{PendingEvents}
@@ -8,14 +7,8 @@ use Rattle.rx_nest.specs.declared.lines.TagAction.{TagAction}
 use Rattle.rx_nest.specs.declared.lines.TagAction.TheVariants as own
 use Rattle.rx_nest.specs.Nests as nests
 use Rattle.rx_nest.specs.Nests.{Nested, Stepped, StepGives, event_signs, is_more, left, own_left}
-use Rattle.rx_nest.specs.Signs.{Sign, Sight, signs_of}
 use Rattle.rx_nest.specs.declared.turns.Turn.TheVariants as turn
-use Rattle.rx_nest.specs.Ways.{Way, IsRefusal}
-use Rattle.rx_nest.specs.Listening.{Hears}
-use Rattle.rx_nest.specs.Faults.{for_form, for_meaning, StopGives}
-use Rattle.rx_nest.specs.RefusedTags.{ReaderRefuses}
 use Rattle.rx_nest.specs.Readings.{Goes, Somewhere, OwesNone, TurnGives, PieceGives, Whole, Unfinished}
-use Rattle.rx_nest.proofs.Pieces.{front_back, every}
 use Rattle.rx_nest.proofs.Firsts.{meaning_first, meaning_within, no_meaning}
 use Rattle.rx_nest.proofs.Meanings.{meant, read_as_meant}
 
@@ -26,9 +19,7 @@ paid_up owed t h = by owed.ends owed.own h
     by : (k : ℕ) (o : Option TagAction) → k + own_left o ≡ 0 → nests.owed_signs (record { ends = k; own = o }) t ≡ []
     by zero None e = refl
     by zero (Some own.Nothing) e = refl
-    by zero (Some own.Begin) e = absurd (cc)
-    by zero (Some own.Finish) e = absurd (cc)
-    by zero (Some own.Alone) e = absurd (cc)
+    by zero _ e = absurd (cc)
     by (suc k) o e = absurd (omega (arith, e))
 
 module _ {L : Type 0} (way : Way) (knows : L → List Sign → Type 0) (law : IsRefusal way.refused) where
@@ -40,7 +31,7 @@ module _ {L : Type 0} (way : Way) (knows : L → List Sign → Type 0) (law : Is
 
     pub done : (listener : L) → knows listener (signs ++ event_signs e) → is_more e ≡ true → left nest.owed ≡ 0 → TurnGives way knows bytes piece (Ok turn.Done) nest listener
     done listener k m p = (
-      subst (λ l. Goes way knows nest listener (bytes ++ l)) (ap (λ k. take k piece) (s.all m) ∙ every piece) (took listener k),
+      subst (λ l. Goes way knows nest listener (bytes ++ l)) (ap (λ k. take k piece) (s.all m) ∙ take_all (length piece) piece (omega arith)) (took listener k),
       paid_up nest.owed (nests.last_tag nest.scan) p,
     )
 
@@ -49,7 +40,7 @@ module _ {L : Type 0} (way : Way) (knows : L → List Sign → Type 0) (law : Is
       front = bytes ++ take n piece;
       rest = drop n piece ++ rest;
       are =
-          ap (λ l. l ++ rest) (ap (λ l. bytes ++ l) (sym (front_back n piece)) ∙ sym (append_assoc bytes (take n piece) (drop n piece)))
+          ap (λ l. l ++ rest) (ap (λ l. bytes ++ l) (sym (take-append-drop n piece)) ∙ sym (append_assoc bytes (take n piece) (drop n piece)))
           ∙ append_assoc (bytes ++ take n piece) (drop n piece) rest;
       now = record { now = s.stands.at.now; told = s.stands.told };
       read = s.stands.at.read;
@@ -101,7 +92,7 @@ module _ {L : Type 0} (way : Way) (knows : L → List Sign → Type 0) where
   taken_more bytes piece rest n nest new listener next t g =
       record {
         front = t.front ++ take n rest;
-        are = t.are ∙ (ap (λ x. t.front ++ x) (sym (front_back n rest)) ∙ sym (append_assoc t.front (take n rest) (drop n rest)));
+        are = t.are ∙ (ap (λ x. t.front ++ x) (sym (take-append-drop n rest)) ∙ sym (append_assoc t.front (take n rest) (drop n rest)));
         goes = subst (λ b. Goes way knows new next b) (append_assoc bytes t.front (take n rest)) g;
       }
 

@@ -1,13 +1,9 @@
 -- The laws of frames and of calls, for any names.
-use Rattle.rx_terms.proofs.Common.{◌≡◌, suc, List, [], ◌∷◌, ◌++◌, length, refl, sym, ap, ◌∙◌, subst₂, arith, length-map, Chars}
-use Rattle.rx_rdfa.specs.Tree.{Nodes, end, element, text}
-use Rattle.rx_rdfa.specs.Naming.{Path, Naming}
-use Rattle.rx_rdfa.specs.Blanks.{model}
-use Rattle.rx_rdfa.specs.Facts.{Facts}
-use Rattle.rx_rdfa.specs.Resources.{Standing}
-use Rattle.rx_rdfa.specs.Inherited.{inherited, up}
-use Rattle.rx_rdfa.specs.Machine.{Machine, inherit, enter, read, leave, leave_with, run, begun}
-use Rattle.rx_rdfa.specs.Calls.{Call, Enter, Read, Leave, calls, step, after, Line, closed, move, line_after, no_line, FramesAt, FramesAreContexts, CallsRead}
+use Rattle.rx_rdfa.specs.Common.{Chars, Nodes, Path, Naming, model, Facts, Standing, inherited, up, Machine, Call, Enter, Read, Leave, calls, after, line_after, no_line, FramesAreContexts, CallsRead}
+use Rattle.rx_terms.proofs.Common.{◌≡◌, suc, List, [], ◌∷◌, ◌++◌, length, refl, sym, ap, ◌∙◌, subst₂, arith, length-map}
+use Rattle.rx_rdfa.specs.Tree.{end, element, text}
+use Rattle.rx_rdfa.specs.Machine.{inherit, enter, read, leave, leave_with, begun, run}
+use Rattle.rx_rdfa.specs.Calls.{step, Line, closed, move, FramesAt}
 
 module _ {B O : Type 0} (n : Naming B O) (base : Chars) where
   pub after-append : (xs ys : List Call) (m : Machine B O) → after n base (xs ++ ys) m ≡ after n base ys (after n base xs m)

@@ -1,10 +1,5 @@
 -- What all of a list have, and all entries of an element.
-use Rattle.rx_terms.proofs.Common.{Bool, cond, List, [], ◌∷◌, ◌++◌, map, flat_map, filter_map, Option, Some, None, subst, inl, inr, split, Chars}
-use Rattle.rx_model.proofs.Common.{Among, Node, Term, Resource, Among_cases, Among_of_map, Among_of_filter_map, Among_of_flat_map}
-use Rattle.rx_rdfa.specs.Naming.{Naming}
-use Rattle.rx_rdfa.specs.Resources.{Hanging, Resources, Standing}
-use Rattle.rx_rdfa.specs.Inherited.{listed, hangs, own_owner}
-use Rattle.rx_rdfa.specs.Lists.{Entry, entry, linked, touched, valued, awaited, entries_by}
+use Rattle.rx_rdfa.proofs.Common.{Bool, cond, List, [], ◌∷◌, ◌++◌, map, flat_map, filter_map, Option, Some, None, subst, inl, inr, split, Chars, Among, Node, Term, Resource, Among_cases, Among_of_map, Among_of_filter_map, Among_of_flat_map, Naming, Hanging, Resources, Standing, listed, hangs, own_owner, Entry, entry, linked, touched, valued, awaited, entries_by}
 
 module _ {A : Type 0} (P : A → Type 0) where
   abbrev pub All : List A → Type 0

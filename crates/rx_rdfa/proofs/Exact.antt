@@ -1,6 +1,6 @@
 -- The tests of the model's names are exact.
+use Rattle.rx_rdfa.specs.Common.{First, Of, Below, Author, Made, Cell, same_owner, same_bnode}
 use Rattle.rx_model.proofs.Common.{◌≡◌, refl, ap, bytes_eq, ◌&&◌, ◌==◌, Decides-eqb, and_from, IsExact, and_left, and_right, exact_texts}
-use Rattle.rx_rdfa.specs.Blanks.{First, Of, Below, Author, Made, Cell, same_owner, same_bnode}
 
 pub exact_owners : IsExact same_owner
 exact_owners First First = (λ h. refl, λ e. refl)

@@ -1,8 +1,8 @@
 -- A renaming by steps is the steps one after another: what a numbering that grows comes to.
+use Rattle.rx_rdfa.specs.Common.{Hanging, Forward, Inherited, rename_inherited}
 use Rattle.rx_model.proofs.Common.{◌≡◌, List, [], ◌∷◌, map, refl, sym, ap₂, Node, Term, Triple, rename_node, rename_term, rename}
 use Rattle.rx_model.proofs.Renamings.{node_twice, term_twice, triple_twice}
-use Rattle.rx_rdfa.specs.Resources.{Hanging, Forward, Inherited}
-use Rattle.rx_rdfa.specs.Renaming.{rename_hanging, rename_inherited}
+use Rattle.rx_rdfa.specs.Renaming.{rename_hanging}
 
 pub map_then : {A B C : Type 0} (k : A → C) (h : B → C) (f : A → B) → ((x : A) → k x ≡ h (f x)) → (list : List A) → map k list ≡ map h (map f list)
 map_then k h f e [] = refl

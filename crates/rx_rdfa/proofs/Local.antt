@@ -1,16 +1,8 @@
 -- The law of locality.
-use Rattle.rx_model.proofs.Common.{◌≡◌, ◌≢◌, ℕ, suc, ◌≤◌, Bool, true, false, cond, List, [], ◌∷◌, ◌++◌, map, flat_map, length, Option, Some, None, refl, sym, ap, ap₂, ◌∙◌, subst, inl, inr, arith, append-nil, filter-append, Chars, Among, Term, same_node, Among_cases, Among_of_flat_map, false_unless, flat_map-append}
-use Rattle.rx_terms.proofs.Bools.{split}
-use Rattle.rx_rdfa.specs.Tree.{Nodes, end, element, text, all_text}
-use Rattle.rx_rdfa.specs.Naming.{Path}
-use Rattle.rx_rdfa.specs.Blanks.{Owner, First, Of, Below, Bnode, Cell, ModelNode, same_owner, same_bnode, model}
-use Rattle.rx_rdfa.specs.Facts.{Facts}
-use Rattle.rx_rdfa.specs.Resources.{Hanging, Forward, Reverse, InList, Inherited, Resources, Standing, resources}
-use Rattle.rx_rdfa.specs.Inherited.{listed, hangs, object_below, own_owner, owner_below, hanging_of, handed, below, up, inherited}
-use Rattle.rx_rdfa.specs.Element.{Place, places_from, start, end', standing, in_order_from}
-use Rattle.rx_rdfa.specs.Lists.{Entry, awaited, entries_by, entries_at, entries_of, entries, of_owner, cells_from, cells}
-use Rattle.rx_rdfa.specs.Value.{rule, value}
-use Rattle.rx_rdfa.specs.Made.{end_and_lists, page_lists, lists_below, lists_of}
+use Rattle.rx_rdfa.proofs.Common.{◌≡◌, ◌≢◌, ℕ, suc, ◌≤◌, Bool, true, false, cond, List, [], ◌∷◌, ◌++◌, map, flat_map, length, Option, Some, None, refl, sym, ap, ap₂, ◌∙◌, subst, inl, inr, arith, append-nil, filter-append, Chars, Among, Term, same_node, Among_cases, Among_of_flat_map, false_unless, flat_map-append, split, Nodes, all_text, Path, Owner, First, Of, Below, Bnode, Cell, ModelNode, same_owner, same_bnode, model, Facts, Hanging, Forward, Reverse, InList, Inherited, Resources, Standing, resources, listed, hangs, object_below, own_owner, owner_below, hanging_of, handed, up, inherited, Place, places_from, start, end', standing, in_order_from, Entry, awaited, entries_by, entries_of, entries, of_owner, cells_from, rule, value, end_and_lists, page_lists, lists_below, lists_of}
+use Rattle.rx_rdfa.specs.Tree.{end, element, text}
+use Rattle.rx_rdfa.specs.Inherited.{below}
+use Rattle.rx_rdfa.specs.Lists.{entries_at, cells}
 use Rattle.rx_rdfa.specs.Local.{ListsAreLocal}
 use Rattle.rx_rdfa.proofs.Exact.{exact_owners}
 use Rattle.rx_rdfa.proofs.Every.{All, IfThere, all_if, all_both, all_mapped, entries_all}

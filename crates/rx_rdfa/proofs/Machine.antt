@@ -1,19 +1,10 @@
 -- The law of reading.
-use Rattle.rx_model.proofs.Common.{cons_option, map-append, filter_map-append, Chars, Among, Term, Resource, Among_of_filter_map, false_unless, exact_texts, flat_map-append}
-use Rattle.std.proofs.Common.{◌≡◌, ◌≢◌, ℕ, suc, cond, List, [], ◌∷◌, ◌++◌, length, map, flat_map, filter_map, Option, Some, None, option_map, refl, sym, ap, ap₂, ◌∙◌, subst, arith, append_assoc, append-nil, bytes_eq, unwrap_or}
-use Rattle.rx_rdfa.specs.Tree.{Nodes, end, element, text, all_text}
-use Rattle.rx_rdfa.specs.Naming.{Path}
-use Rattle.rx_rdfa.specs.Blanks.{Owner, Bnode, ModelNode, ModelTriple, model}
-use Rattle.rx_rdfa.specs.Facts.{Facts}
-use Rattle.rx_rdfa.specs.Resources.{Hanging, Forward, Reverse, InList, Inherited, Resources, Standing, resources}
-use Rattle.rx_rdfa.specs.Inherited.{listed, hangs, own_owner, up, inherited}
-use Rattle.rx_rdfa.specs.Value.{value_now, value_of_text}
-use Rattle.rx_rdfa.specs.Element.{Place, places_from, start, end_of, standing, in_order_from, in_order}
-use Rattle.rx_rdfa.specs.Lists.{map_entry, Entry, entry, linked, touched, valued, awaited, entries_by, entries_at, entries_of, entries}
-use Rattle.rx_rdfa.specs.Made.{lists_of, lists_below, page_lists}
+use Rattle.rx_rdfa.proofs.Common.{cons_option, map-append, filter_map-append, Chars, Among, Term, Resource, Among_of_filter_map, false_unless, exact_texts, flat_map-append, ◌≡◌, ◌≢◌, ℕ, suc, cond, List, [], ◌∷◌, ◌++◌, length, map, flat_map, filter_map, Option, Some, None, option_map, refl, sym, ap, ap₂, ◌∙◌, subst, arith, append_assoc, append-nil, bytes_eq, unwrap_or, Nodes, all_text, Path, Owner, Bnode, ModelNode, ModelTriple, model, Facts, Hanging, Forward, Reverse, InList, Inherited, Resources, Standing, resources, listed, hangs, own_owner, up, inherited, value_now, value_of_text, Place, places_from, start, end_of, standing, in_order_from, in_order, map_entry, Entry, entry, linked, touched, valued, awaited, entries_by, entries_of, entries, lists_of, lists_below, page_lists, Slot, Full, Machine, inherit, slot_of, rule_at, fill_slot, fill, settled_item, settled_with, settled, settle, entered, number, leave, finished, ReadingMakes}
+use Rattle.rx_rdfa.specs.Tree.{end, element, text}
+use Rattle.rx_rdfa.specs.Lists.{entries_at}
 use Rattle.rx_rdfa.specs.Local.{local_end}
-use Rattle.rx_rdfa.specs.Machine.{Slot, Full, Machine, inherit, slot_of, rule_at, value_at, reserved, fill_slot, fill, settled_item, settled_with, settled, settle, entered, number, leave, run, finished, ReadingMakes}
-use Rattle.rx_rdfa.proofs.Local.{ModelEntry, of_model_owner, Under, itself, OwnerUnder, InheritedUnder, inherited_up, inherited_under, by_under, Inside, inside_at, inside_less, inside_under, Free, free_append, free_fewer, free_of, under_length, entries_under, own_free_after, inner_free_after, lists_alike, of_owner_append, lists_are_local}
+use Rattle.rx_rdfa.specs.Machine.{value_at, reserved, run}
+use Rattle.rx_rdfa.proofs.Local.{ModelEntry, of_model_owner, Under, itself, OwnerUnder, InheritedUnder, inherited_up, inherited_under, by_under, Inside, inside_at, inside_less, inside_under, free_append, free_fewer, free_of, under_length, entries_under, own_free_after, inner_free_after, lists_alike, of_owner_append, lists_are_local, Free}
 use Rattle.rx_rdfa.proofs.Sent.{map_cond_nil, map_unless, map_both, map_each}
 
 -- ---- slots

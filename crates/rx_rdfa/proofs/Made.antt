@@ -1,9 +1,7 @@
 -- The law of the list of a tree.
+use Rattle.rx_rdfa.specs.Common.{Path, Naming, model, Nodes, Facts}
 use Rattle.rx_model.proofs.Common.{◌≡◌, ◌⊎◌, ◌↔◌, ℕ, suc, List, [], ◌∷◌, ◌++◌, flat_map, sym, ap, ◌∙◌, subst, inl, inr, append_assoc, Chars, flat_map-append, Among, Triple, Among_left, Among_right, Among_cases, Among_flat_map, Among_of_flat_map}
-use Rattle.rx_rdfa.specs.Naming.{Path, Naming}
-use Rattle.rx_rdfa.specs.Blanks.{model}
-use Rattle.rx_rdfa.specs.Tree.{Nodes, end, element, text}
-use Rattle.rx_rdfa.specs.Facts.{Facts}
+use Rattle.rx_rdfa.specs.Tree.{end, element, text}
 use Rattle.rx_rdfa.specs.Element.{Place, places, places_from, standing, start, end', in_order_from, in_order}
 use Rattle.rx_rdfa.specs.Lists.{entries}
 use Rattle.rx_rdfa.specs.Made.{raw, made, MadeIsRaw, lists_of, lists_below, page_lists, end_and_lists}

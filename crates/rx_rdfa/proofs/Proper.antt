@@ -1,18 +1,9 @@
 -- No literal that the rules make is typed xsd:string.
-use Rattle.rx_model.proofs.Common.{◌≡◌, ◌≢◌, ℕ, suc, Bool, true, false, cond, List, [], ◌∷◌, ◌++◌, map, filter, flat_map, filter_map, Option, Some, None, refl, sym, ◌∙◌, inl, inr, true≢false, bytes_eq, option_map, option_or, Chars, distinct, Plain, Typed, Node, Iri, Blank, Term, Resource, Literal, Triple, same_node, same_triple, spo, live, edges, says_pattern, treated, is_referenced, copied, leads, given, replaced, rename_term, rename, blanks, place_in, numbered, exact_texts, Among_of_filter, Among_of_distinct, rdf_type, rdf_first, rdf_rest}
-use Rattle.rx_terms.proofs.Common.{unwrap_or, not, ◌&&◌, codes, option_to_list, is_none, split}
-use Rattle.rx_rdfa.specs.Iris.{xsd, xsd_string, uses_vocabulary}
-use Rattle.rx_rdfa.specs.Times.{◌andThen◌, follows, is_zone, after_char, after_year, after_month, after_date, after_clock, is_duration, time_kind}
-use Rattle.rx_rdfa.specs.Naming.{Naming}
-use Rattle.rx_rdfa.specs.Blanks.{same_bnode, model}
-use Rattle.rx_rdfa.specs.Tree.{Nodes, all_text}
-use Rattle.rx_rdfa.specs.Facts.{Facts, Datatype, Empty, Is, Ref}
-use Rattle.rx_rdfa.specs.Resources.{Hanging, Forward, Resources, Standing, resources, resource_named}
-use Rattle.rx_rdfa.specs.Inherited.{listed, below}
-use Rattle.rx_rdfa.specs.Value.{kind_by_lang, plain_literal, time_literal_by, time_literal, Rule, ByDatatype, ByContent, ByDatetime, ByTimeText, literal_by, rule, value_now, value_of_text, value}
-use Rattle.rx_rdfa.specs.Element.{places, to_node, standing, of_vocabulary, types_by, links_by, properties_by, completed, text_value, start_of, end_of}
-use Rattle.rx_rdfa.specs.Lists.{Entry, awaited, entries_at, entries_of, entries, of_owner, lists, items, cell_or_nil, chain, list_of, cells}
-use Rattle.rx_rdfa.specs.Made.{raw, made}
+use Rattle.rx_rdfa.proofs.Common.{◌≡◌, ◌≢◌, ℕ, suc, Bool, true, false, cond, List, [], ◌∷◌, ◌++◌, map, filter, flat_map, filter_map, Option, Some, None, refl, sym, ◌∙◌, inl, inr, true≢false, bytes_eq, option_map, option_or, Chars, distinct, Plain, Typed, Node, Iri, Blank, Term, Resource, Literal, Triple, same_node, same_triple, spo, live, edges, says_pattern, treated, is_referenced, copied, leads, given, replaced, rename_term, rename, blanks, place_in, numbered, exact_texts, Among_of_filter, Among_of_distinct, rdf_type, rdf_first, rdf_rest, unwrap_or, not, ◌&&◌, codes, option_to_list, is_none, split, xsd_string, ◌andThen◌, follows, is_zone, after_char, after_year, after_month, after_date, after_clock, is_duration, Naming, same_bnode, model, Nodes, all_text, Facts, Datatype, Empty, Is, Ref, Hanging, Forward, Resources, Standing, resources, resource_named, listed, below, kind_by_lang, plain_literal, time_literal_by, time_literal, Rule, ByDatatype, ByContent, ByDatetime, ByTimeText, literal_by, rule, value_now, value_of_text, value, places, to_node, standing, of_vocabulary, types_by, links_by, properties_by, completed, text_value, Entry, awaited, entries_of, entries, of_owner, lists, items, cell_or_nil, chain, list_of, raw, made}
+use Rattle.rx_rdfa.specs.Common.{xsd, uses_vocabulary}
+use Rattle.rx_rdfa.specs.Times.{time_kind}
+use Rattle.rx_rdfa.specs.Element.{start_of, end_of}
+use Rattle.rx_rdfa.specs.Lists.{entries_at, cells}
 use Rattle.rx_rdfa.specs.Proper.{IsProper, LiteralsAreProper}
 use Rattle.rx_rdfa.proofs.Made.{made_is_raw}
 use Rattle.rx_rdfa.proofs.Every.{All, IfThere, all_none, all_more, all_both, all_unless, all_mapped, all_kept, all_flat, entries_all}

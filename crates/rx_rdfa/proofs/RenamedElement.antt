@@ -1,15 +1,7 @@
 -- Renaming goes through the value of property, and the triples of one element.
-use Rattle.rx_model.proofs.Common.{option_or, Chars, Node, Iri, Term, spo, rename_node, rename_term, rename, rdf_type}
-use Rattle.std.proofs.Common.{◌≡◌, cond, List, [], ◌∷◌, ◌++◌, map, flat_map, filter_map, Option, Some, None, option_map, option_to_list, is_none, refl, ap, ap₂, ◌∙◌, not, ◌&&◌, is_some, unwrap_or}
+use Rattle.rx_rdfa.proofs.Common.{option_or, Chars, Node, Iri, Term, spo, rename_node, rename_term, rename, rdf_type, ◌≡◌, cond, List, [], ◌∷◌, ◌++◌, map, flat_map, filter_map, Option, Some, None, option_map, option_to_list, is_none, refl, ap, ap₂, ◌∙◌, not, ◌&&◌, is_some, unwrap_or, Naming, Facts, Datatype, Empty, Is, Ref, Hanging, Forward, Standing, Resources, resource_attribute, has_link, only, resource_named, resources, listed, time_datatype, Rule, ByDatatype, ByContent, ByDatetime, ByTimeText, ByResource, ByTyped, rule_or, rule, literal_by, time_literal_by, is_time, value_now, value_of_text, value, to_node, of_vocabulary, types_by, links_by, properties_by, completed, text_value, rename_hanging, rename_standing, rename_resources, rename_rule, label_of, AgreeAt}
 use Rattle.rx_rdfa.specs.Iris.{uses_vocabulary}
-use Rattle.rx_rdfa.specs.Naming.{Naming}
-use Rattle.rx_rdfa.specs.Facts.{Facts, Datatype, Empty, Is, Ref}
-use Rattle.rx_rdfa.specs.Resources.{Hanging, Forward, Standing, Resources, resource_attribute, has_link, only, resource_named, resources}
-use Rattle.rx_rdfa.specs.Inherited.{listed}
-use Rattle.rx_rdfa.specs.Times.{time_datatype}
-use Rattle.rx_rdfa.specs.Value.{Rule, ByDatatype, ByContent, ByDatetime, ByTimeText, ByResource, ByTyped, rule_or, rule, literal_by, time_literal_by, is_time, value_now, value_of_text, value}
-use Rattle.rx_rdfa.specs.Element.{to_node, of_vocabulary, types_by, links_by, properties_by, completed, text_value, start_of, end_of}
-use Rattle.rx_rdfa.specs.Renaming.{rename_hanging, rename_standing, rename_resources, rename_rule, label_of, AgreeAt}
+use Rattle.rx_rdfa.specs.Element.{start_of, end_of}
 use Rattle.rx_rdfa.proofs.Sent.{map_only, map_unwrap, map_cond, map_unless, map_both, map_each, map_found}
 use Rattle.rx_rdfa.proofs.RenamedResources.{Alike, alike_left, alike_right, alike_at, named, named_option, resources_rename}
 

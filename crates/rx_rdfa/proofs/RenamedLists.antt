@@ -1,12 +1,6 @@
 -- Renaming goes through the entries of an element, and the lists of an owner.
-use Rattle.rx_model.proofs.Common.{◌≡◌, ℕ, suc, Bool, cond, List, [], ◌∷◌, ◌++◌, map, filter, flat_map, filter_map, Option, Some, None, option_map, refl, sym, ap, ◌∙◌, bytes_eq, Chars, Among, distinct, spo, Node, Blank, Term, Resource, rename_node, rename_term, rename, rdf_first, rdf_rest}
-use Rattle.rx_rdfa.specs.Naming.{Naming}
-use Rattle.rx_rdfa.specs.Resources.{Hanging, Forward, InList, Standing, Resources, resources}
-use Rattle.rx_rdfa.specs.Inherited.{listed, hangs, own_owner}
-use Rattle.rx_rdfa.specs.Value.{rule, value}
-use Rattle.rx_rdfa.specs.Element.{to_node}
-use Rattle.rx_rdfa.specs.Lists.{Entry, entry, linked, touched, valued, awaited, entries_by, entries_at, of_owner, lists, items, cell_or_nil, chain, list_of, cells_from, cells}
-use Rattle.rx_rdfa.specs.Renaming.{rename_entry, rename_hanging, rename_standing, rename_resources, AgreeAt}
+use Rattle.rx_rdfa.proofs.Common.{◌≡◌, ℕ, suc, Bool, cond, List, [], ◌∷◌, ◌++◌, map, filter, flat_map, filter_map, Option, Some, None, option_map, refl, sym, ap, ◌∙◌, bytes_eq, Chars, Among, distinct, spo, Node, Blank, Term, Resource, rename_node, rename_term, rename, rdf_first, rdf_rest, Naming, Hanging, Forward, InList, Standing, Resources, resources, listed, hangs, own_owner, rule, value, to_node, Entry, entry, linked, touched, valued, awaited, entries_by, of_owner, lists, items, cell_or_nil, chain, list_of, cells_from, rename_entry, rename_hanging, rename_standing, rename_resources, AgreeAt}
+use Rattle.rx_rdfa.specs.Lists.{entries_at, cells}
 use Rattle.rx_rdfa.proofs.RenamedResources.{owner_is, hangs_is, resources_rename}
 use Rattle.rx_rdfa.proofs.RenamedElement.{rule_rename, value_rename}
 use Rattle.rx_rdfa.proofs.Sent.{map_cond_nil, map_unless, map_both, map_each, map_filtered, map_found, map_flat}

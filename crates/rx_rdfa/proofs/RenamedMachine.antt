@@ -1,17 +1,7 @@
 -- Renaming goes through reading with frames.
-use Rattle.rx_model.proofs.Common.{◌≡◌, suc, Bool, true, false, cond, List, [], ◌∷◌, ◌++◌, map, Option, Some, None, option_map, refl, sym, ap, ap₂, ◌∙◌, bytes_eq, map-append, Chars, Term, Triple, rename_term, rename}
-use Rattle.rx_rdfa.specs.Naming.{Path, Naming}
-use Rattle.rx_rdfa.specs.Blanks.{model}
-use Rattle.rx_rdfa.specs.Tree.{Nodes, end, element, text}
-use Rattle.rx_rdfa.specs.Facts.{Facts}
-use Rattle.rx_rdfa.specs.Resources.{Inherited, Standing, Resources, resources}
-use Rattle.rx_rdfa.specs.Inherited.{up}
-use Rattle.rx_rdfa.specs.Value.{Rule, value_now, value, rule}
-use Rattle.rx_rdfa.specs.Element.{start_of, end_of}
-use Rattle.rx_rdfa.specs.Lists.{Entry, entry, entries_by}
-use Rattle.rx_rdfa.specs.Made.{lists_below, lists_of, page_lists}
-use Rattle.rx_rdfa.specs.Machine.{Slot, Full, Waiting, Machine, inherit, slot_of, rule_at, value_at, reserved, fill_slot, fill, settled, settle, entered, enter, read, number, left, leave_with, leave, run, begun, finished}
-use Rattle.rx_rdfa.specs.Renaming.{rename_entry, rename_slot, rename_inherited, rename_standing, rename_resources, rename_rule, rename_machine, AgreeAt, Agree, MadeRenames}
+use Rattle.rx_rdfa.proofs.Common.{◌≡◌, suc, Bool, true, false, cond, List, [], ◌∷◌, ◌++◌, map, Option, Some, None, option_map, refl, sym, ap, ap₂, ◌∙◌, bytes_eq, map-append, Chars, Term, Triple, rename_term, rename, Path, Naming, model, Nodes, Facts, Inherited, Standing, Resources, resources, up, Rule, value_now, value, rule, start_of, end_of, Entry, entry, entries_by, lists_below, lists_of, page_lists, Slot, Full, Waiting, Machine, inherit, slot_of, rule_at, fill_slot, fill, settled, settle, entered, enter, read, number, left, leave_with, leave, begun, finished, rename_entry, rename_slot, rename_inherited, rename_standing, rename_resources, rename_rule, rename_machine, AgreeAt, Agree, MadeRenames}
+use Rattle.rx_rdfa.specs.Tree.{end, element, text}
+use Rattle.rx_rdfa.specs.Machine.{value_at, reserved, run}
 use Rattle.rx_rdfa.proofs.RenamedResources.{resources_rename, below_rename}
 use Rattle.rx_rdfa.proofs.RenamedElement.{rule_rename, value_now_rename, value_rename, start_rename, end_rename}
 use Rattle.rx_rdfa.proofs.Sent.{map_found}

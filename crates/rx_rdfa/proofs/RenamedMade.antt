@@ -1,14 +1,6 @@
 -- Renaming goes through the list of a tree's triples.
-use Rattle.rx_model.proofs.Common.{◌≡◌, ℕ, suc, List, [], ◌∷◌, ◌++◌, map, refl, ap, ap₂, ◌∙◌, Chars, Node, Iri, Term, rename_node, rename_term, rename}
-use Rattle.rx_rdfa.specs.Naming.{Path, Naming}
-use Rattle.rx_rdfa.specs.Tree.{Nodes, end, element, text, all_text}
-use Rattle.rx_rdfa.specs.Facts.{Facts}
-use Rattle.rx_rdfa.specs.Resources.{Inherited, Standing, Resources, resources}
-use Rattle.rx_rdfa.specs.Inherited.{below, inherited, up, at_page}
-use Rattle.rx_rdfa.specs.Element.{Place, places, in_order_from, in_order, standing, start, start_of, end', end_of}
-use Rattle.rx_rdfa.specs.Lists.{Entry, entries_of, entries_at, entries, cells}
-use Rattle.rx_rdfa.specs.Made.{lists_below, lists_of, page_lists, end_and_lists, made}
-use Rattle.rx_rdfa.specs.Renaming.{rename_entry, rename_inherited, rename_standing, AgreeAt, Agree}
+use Rattle.rx_rdfa.proofs.Common.{◌≡◌, ℕ, suc, List, [], ◌∷◌, ◌++◌, map, refl, ap, ap₂, ◌∙◌, Chars, Node, Iri, Term, rename_node, rename_term, rename, Path, Naming, Nodes, all_text, Facts, Inherited, Standing, Resources, resources, below, inherited, up, at_page, Place, places, in_order_from, in_order, standing, start, start_of, end', end_of, Entry, entries_of, entries_at, entries, cells, lists_below, lists_of, page_lists, end_and_lists, made, rename_entry, rename_inherited, rename_standing, AgreeAt, Agree}
+use Rattle.rx_rdfa.specs.Tree.{end, element, text}
 use Rattle.rx_rdfa.proofs.RenamedResources.{resources_rename, below_rename}
 use Rattle.rx_rdfa.proofs.RenamedElement.{start_rename, end_rename}
 use Rattle.rx_rdfa.proofs.Sent.{map_both, map_flat}

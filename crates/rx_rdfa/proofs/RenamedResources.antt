@@ -1,12 +1,7 @@
 -- Renaming goes through the resources of an element, and what its children inherit.
-use Rattle.rx_model.proofs.Common.{map-append, option_or, Chars, Among, Node, Iri, Blank, same_node, rename_node, Among_left, Among_right}
-use Rattle.std.proofs.Common.{◌≡◌, Bool, true, false, cond, List, [], ◌∷◌, ◌++◌, map, flat_map, Option, Some, None, option_map, is_none, refl, ap, ap₂, ◌∙◌, inl, not, ◌&&◌, ◌||◌, unwrap_or}
-use Rattle.std.specs.Bool.{then_some}
-use Rattle.rx_rdfa.specs.Naming.{Naming}
-use Rattle.rx_rdfa.specs.Facts.{Facts, Ref, LabelRef}
-use Rattle.rx_rdfa.specs.Resources.{Forward, Reverse, InList, Standing, Resources, resource_named, about, linked_resource, base_at_root, parent_for_head_and_body, has_typeof, has_link, is_plain_property, is_root, is_root_child, is_head_or_body, new_blank, default_subject, of_property, of_no_link, of_link, only, resources}
-use Rattle.rx_rdfa.specs.Inherited.{listed, holds_some, hangs, object_below, own_owner, hanging_of, owner_below, handed, below}
-use Rattle.rx_rdfa.specs.Renaming.{rename_hanging, rename_inherited, rename_standing, rename_resources, label_of, label_of_option, labels, AgreeAt}
+use Rattle.rx_rdfa.proofs.Common.{map-append, option_or, Chars, Among, Node, Iri, Blank, same_node, rename_node, Among_left, Among_right, ◌≡◌, Bool, true, false, cond, List, [], ◌∷◌, ◌++◌, map, flat_map, Option, Some, None, option_map, is_none, refl, ap, ap₂, ◌∙◌, inl, not, ◌&&◌, ◌||◌, unwrap_or, then_some, Naming, Facts, Ref, LabelRef, Forward, Reverse, InList, Standing, Resources, resource_named, about, linked_resource, base_at_root, parent_for_head_and_body, has_typeof, has_link, is_plain_property, is_root, is_root_child, is_head_or_body, new_blank, default_subject, of_property, of_no_link, of_link, only, listed, holds_some, hangs, object_below, own_owner, hanging_of, owner_below, handed, rename_hanging, rename_inherited, rename_standing, rename_resources, label_of, label_of_option, labels, AgreeAt}
+use Rattle.rx_rdfa.specs.Resources.{resources}
+use Rattle.rx_rdfa.specs.Inherited.{below}
 use Rattle.rx_rdfa.proofs.Sent.{Sent, SentOption, map_or, map_then, map_unwrap, none_map, map_cond, or_is, then_is, only_is, unwrap_is, none_is, cond_is}
 
 pub same_nodes : {B C : Type 0} (to : B → C) (same : B → B → Bool) (same' : C → C → Bool) → ((a b : B) → same a b ≡ same' (to a) (to b))

@@ -1,9 +1,6 @@
 -- Functions that go through options, tests and lists. The facts are records, so that what they speak of is found.
-use Rattle.std.proofs.Common.{◌≡◌, Bool, true, false, cond, List, [], ◌∷◌, ◌++◌, map, filter, flat_map, filter_map, Option, Some, None, option_map, is_none, unwrap_or, refl, sym, ap, ap₂, ◌∙◌, inl, inr}
-use Rattle.rx_model.proofs.Common.{map-append, option_or, by_test, Among}
+use Rattle.rx_rdfa.proofs.Common.{◌≡◌, Bool, true, false, cond, List, [], ◌∷◌, ◌++◌, map, filter, flat_map, filter_map, Option, Some, None, option_map, is_none, unwrap_or, refl, sym, ap, ap₂, ◌∙◌, inl, inr, map-append, option_or, by_test, Among, then_some, only}
 use Rattle.rx_model.proofs.Renaming.{filter_map_map}
-use Rattle.std.specs.Bool.{then_some}
-use Rattle.rx_rdfa.specs.Resources.{only}
 
 module _ {B C : Type 0} (h : B → C) where
   pub map_or : (a b : Option B) → option_map h (option_or a b) ≡ option_or (option_map h a) (option_map h b)

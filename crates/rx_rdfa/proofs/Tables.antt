@@ -1,8 +1,7 @@
 -- The law of tables.
-use Rattle.rx_model.proofs.Common.{◌≡◌, Bool, true, false, cond, List, [], ◌∷◌, ◌++◌, map, filter, filter_map, Option, Some, None, bytes_eq, option_to_list, refl, sym, ap, ap₂, ◌∙◌, append_assoc, append-nil, true≢false, not, ◌&&◌, cons_option, by_test, same_truth, Chars, false_unless, exact_texts}
+use Rattle.rx_rdfa.proofs.Common.{◌≡◌, Bool, true, false, cond, List, [], ◌∷◌, ◌++◌, map, filter, filter_map, Option, Some, None, bytes_eq, option_to_list, refl, sym, ap, ap₂, ◌∙◌, append_assoc, append-nil, true≢false, not, ◌&&◌, cons_option, by_test, same_truth, Chars, false_unless, exact_texts, Entry, lists, items, put, table_from, TablesAreLists}
 use Rattle.std.proofs.lemmas.List.Elements.{filter_agree}
-use Rattle.rx_rdfa.specs.Lists.{Entry, lists, items}
-use Rattle.rx_rdfa.specs.Tables.{Table, put, table_from, TablesAreLists}
+use Rattle.rx_rdfa.specs.Tables.{Table}
 
 flipped : (a b : Chars) → bytes_eq a b ≡ bytes_eq b a
 flipped a b = same_truth (bytes_eq a b) (bytes_eq b a) (λ h. (exact_texts b a).1 (sym ((exact_texts a b).0 h))) (λ h. (exact_texts a b).1 (sym ((exact_texts b a).0 h)))

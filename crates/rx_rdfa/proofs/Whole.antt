@@ -1,8 +1,7 @@
 -- What is written denotes the graph.
+use Rattle.rx_rdfa.specs.Common.{same_bnode, model, graph_of, written, WrittenDenotes}
 use Rattle.rx_model.proofs.Common.{Triple, Graph, set_of, copied, Closed, held, copied_from, patterned, Renamed, copies_patterns, numbers_one_to_one}
-use Rattle.rx_rdfa.specs.Blanks.{same_bnode, model}
 use Rattle.rx_rdfa.specs.Made.{raw, made}
-use Rattle.rx_rdfa.specs.Whole.{graph_of, written, WrittenDenotes}
 use Rattle.rx_rdfa.proofs.Made.{made_is_raw}
 use Rattle.rx_rdfa.proofs.Exact.{exact_bnodes}
 

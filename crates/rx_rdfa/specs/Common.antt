@@ -1,12 +1,12 @@
 -- The names of RDFa's rules that most definitions and contracts above cite, passed on from one place. Declares nothing.
-pub use Rattle.rx_grammar.specs.Common.{Attribute, Page, StartTag, Syntax, Tree, begins_with, between, element, end, is_among, is_digit, lowered, same, seen_slice, solidus, text, tokens, value_of}
+pub use Rattle.rx_grammar.specs.Common.{Page, StartTag, Syntax, Tree, begins_with, between, element, end, is_among, is_digit, lowered, same, seen_slice, solidus, text, tokens, value_of}
 pub use Rattle.rx_grammar.specs.Kinds.{is_of_meaning, kind_name}
 pub use Rattle.rx_grammar.specs.declared.faults.Fault.{Fault}
 pub use Rattle.rx_grammar.specs.declared.faults.Kind.{Kind}
 pub use Rattle.rx_grammar.specs.declared.faults.Kind.TheVariants.{Cycle, ItemsTooMany, ItemsTooNested, Unended}
 pub use Rattle.rx_grammar.specs.declared.limits.Limits.{Limits}
 pub use Rattle.rx_grammar.specs.declared.stops.Stop.{Stop}
-pub use Rattle.rx_model.specs.Common.{Among, Blank, Bor, Chars, CopiesPatterns, Iri, IsIri, LeadsAlong, Literal, Node, NumbersOneToOne, Plain, Renamed, Resource, Tagged, Term, Triple, Typed, blanks, chars, copied, is_ascii, list_all, list_any, nat_cmp, node_seen, numbered, option_or, rdf_first, rdf_nil, rdf_rest, rdf_type, rename, rename_node, rename_term, same_node, set_of, slice_cmp, spo, term_seen, triples_seen}
+pub use Rattle.rx_model.specs.Common.{Among, Blank, Bor, Chars, CopiesPatterns, Iri, IsIri, LeadsAlong, Node, NumbersOneToOne, Renamed, Resource, Term, Triple, blanks, chars, copied, is_ascii, list_all, list_any, nat_cmp, node_seen, numbered, option_or, rdf_first, rdf_nil, rdf_rest, rdf_type, rename, rename_node, rename_term, same_node, set_of, slice_cmp, spo, term_seen, triples_seen}
 pub use Rattle.rx_rdfa.specs.Base.{base_by, base_of, root_href}
 pub use Rattle.rx_rdfa.specs.Blanks.{Author, Below, Bnode, Cell, First, Made, Of, Owner, model, same_bnode, same_owner}
 pub use Rattle.rx_rdfa.specs.Calls.{Call, CallsRead, Enter, FramesAreContexts, Leave, Read, after, calls, line_after, no_line}

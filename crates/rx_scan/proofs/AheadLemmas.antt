@@ -1,14 +1,7 @@
 -- Entries that spell tokens are read as these tokens, one after another, in whatever content.
 use Rattle.rx_pages.proofs.Common.{◌≡◌, ◌∙◌, inl, inr, ◌⊎◌, ℕ, ◌+◌, ◌≤◌, ◌<◌, Bool, true, false, List, [], ◌∷◌, ◌++◌, refl, sym, ap, subst, append_assoc, append-nil, Option, Some, None, Result, Ok, arith, ◌&&◌, not, if◌then◌else◌, cond-false, right_bracket, greater_than_sign, Chars, and-false, Syntax, Entry, Token, tag, doctype, values, next_of, last_from, Item, Spelled, no_more, one, Fits, AllFit, is_literal, no_section_end, is_known_tag, Content, Kind, Limits, GoesOn, Verdict, goes_on, whole, ended, verdict, ReadAs, at_last, at_next, Spot, Scanning, Scanned, first_of, entering, item_of, is_doctype, completed, told_first, with_item, after_token, told, values_append, IsKept}
 use Rattle.rx_grammar.specs.Spelling as spelling
-use Rattle.rx_pages.proofs.Pends.{occurs}
-use Rattle.rx_pages.proofs.Pending.{goes_at, goes_within, not_whole}
-use Rattle.rx_pages.proofs.FrontOn.{goes_more}
-use Rattle.rx_pages.proofs.Spellings.{reads_each}
-use Rattle.rx_pages.proofs.TokensWalk.{RisesFrom, Rises, rises_front, rises_last, flags_behind, two_lasts, kept_literal, item_is}
-use Rattle.rx_pages.proofs.EndedRuns.{ended_kept}
-use Rattle.rx_pages.proofs.KnownTags.{TagVerdict, on, a_tag, known_more, known_verdict}
-use Rattle.rx_scan.specs.Spelled.{AllInside, MayCome, AllMayCome}
+use Rattle.rx_scan.proofs.Common.{occurs, goes_at, goes_within, not_whole, goes_more, reads_each, RisesFrom, Rises, rises_front, rises_last, flags_behind, two_lasts, kept_literal, item_is, ended_kept, TagVerdict, on, a_tag, known_more, known_verdict, AllInside, MayCome, AllMayCome}
 use Rattle.rx_scan.proofs.SpelledLemmas.{never_ended, first_known}
 
 -- one list of entries is a front of the other

@@ -1,26 +1,17 @@
 -- What is spelled from where nothing is unfinished is scanned so, byte by byte, and what is faulty is refused so.
 use Rattle.rx_pages.proofs.Common.{◌≡◌, ◌≢◌, ◌∙◌, inl, inr, ⊎_elim, ℕ, ◌+◌, ◌-◌, ◌≤◌, ◌<◌, Bool, true, false, List, [], ◌∷◌, ◌++◌, refl, sym, ap, subst, length, append_assoc, append-nil, Ok, arith, Option, Some, None, Result, Err, nat_le, ◌&&◌, ◌||◌, ◌==◌, not, codes, IsScalar, len_utf8, all_scalars, encode, encodes, scalar, length-encode, and_parts, cond-true, cond-false, and_from, ne_eqb, false_from_ne_true, and_left, by_test, split, or-false, or-true, and-false, greater_than_sign, Chars, length-append, Syntax, More, Char, Bad, answer_of, BeginsCharacter, IsCharacter, Entry, byte_order_mark, line_feed, carriage_return, as_line_end, values, Item, is_literal, is_strict_literal, has_no_nul, is_known_tag, Faulty, IsPart, Html, Xhtml, Token, tag, doctype, Line, Phase, before, answer_is, character_of_form, Content, Limits, two_fronts, GoesOn, Verdict, ended, refused, verdict, ReadAs, at_last, at_next, pending_goes, item_content, no_literal, Utf8Step, Fault, Kind, values_append, token_of_item, scan_fault}
-use Rattle.rx_grammar.specs.Shapes.{begins, begins_tag}
-use Rattle.rx_pages.specs.PageReader.{Spot, Scanning, Scanned, first_of, starts_at, token_at, holding, passed, entering, is_too_long, told, read_char, read_answer, read_byte, with_items, scan_on, scan_from, fault_in, item_of, is_doctype, told_first, with_item, after_token, read_entry}
-use Rattle.rx_pages.proofs.Pends.{occurs}
-use Rattle.rx_pages.proofs.CharSteps.{passes, entry_at}
-use Rattle.rx_pages.proofs.CharWalk.{first_among, len_positive, no_mark, no_return}
+use Rattle.rx_scan.proofs.Common.{begins, begins_tag, Spot, Scanning, Scanned, first_of, starts_at, token_at, holding, passed, entering, is_too_long, told, read_char, read_answer, read_byte, with_items, scan_on, scan_from, fault_in, item_of, is_doctype, told_first, with_item, after_token, read_entry, occurs, passes, entry_at, first_among, len_positive, no_mark, no_return, Rises, flags_behind, two_lasts, entries_at, AllBefore, has_character, ends_in_return, Spells, IsBetween, Left, is_over, Enters, FitsWith, IsNoToken, Refuses, page_too_long, not_utf8, nul, tag_too_long, known_too_long, decided, section_end, late_doctype, FirstFault, ScansWhatIsSpelled, RefusesWhatIsFaulty, goes_at, not_whole, reads_each, known_more}
 use Rattle.rx_pages.proofs.FrontRead.{rises, mark_some, line_feed_some, nul_entry}
 use Rattle.rx_pages.proofs.ByteSteps.{not_le, not_long, is_le}
-use Rattle.rx_pages.proofs.TokensWalk.{Rises, flags_behind, two_lasts}
-use Rattle.rx_scan.specs.Spelled.{entries_at, AllBefore, has_character, ends_in_return, Spells, IsBetween, Left, is_over, Enters, FitsWith, IsNoToken, Refuses, page_too_long, not_utf8, nul, tag_too_long, known_too_long, decided, section_end, late_doctype, FirstFault, ScansWhatIsSpelled, RefusesWhatIsFaulty}
-use Rattle.rx_scan.proofs.SpelledLemmas.{first_known, same_flags, passing_is, none_entered, same_content, scans_so, refuses_so, whole_verdict}
+use Rattle.rx_scan.proofs.SpelledLemmas.{first_known, same_flags, passing_is, none_entered, same_content, all_so, whole_verdict}
 use Rattle.rx_scan.proofs.AheadLemmas.{Tail, at_end, reads_entry, bound_with, bound_run}
 use Rattle.rx_grammar.specs.declared.faults.Kind.TheVariants as kind
 use Rattle.rx_grammar.specs.Spelling as spelling
 use Rattle.rx_grammar.specs.PageFaults as faults
-use Rattle.rx_pages.proofs.Pending.{goes_at, not_whole}
 use Rattle.rx_pages.proofs.Refusals.{IsRefused, refuses_run, refuses_text, refuses_less_than, refuses_section, refuses_comment}
 use Rattle.rx_pages.proofs.Openings.{refuses_opening}
 use Rattle.rx_pages.proofs.DoctypeFaults.{refuses_doctype}
 use Rattle.rx_pages.proofs.TagRuns.{tag_refused}
-use Rattle.rx_pages.proofs.Spellings.{reads_each}
-use Rattle.rx_pages.proofs.KnownTags.{known_more}
 use Rattle.rx_scan.specs.Spelled as spelled
 use Rattle.rx_pages.proofs.Judged.{strict_keeps}
 use Rattle.rx_scan.proofs.RunLemmas.{on_append}
@@ -206,17 +197,13 @@ module _ (syntax : Syntax) (limits : Limits) (spot : Spot) (o : occurs syntax sp
           };
         }
 
-    no_append : (xs : List ℕ) (b : ℕ) (ys : List ℕ) → xs ++ b ∷ ys ≡ [] → ⊥
-    no_append [] b ys h = cc
-    no_append (x ∷ xs) b ys h = cc
-
     no_front : (xs ys : List ℕ) → ys ≢ [] → xs ++ ys ≢ []
     no_front [] ys n = n
     no_front (x ∷ xs) ys n = λ h. cc
 
     -- the bytes of the last character, which isn't whole
     in_part : a.cs ≡ [] → s.held ++ byte ∷ rest ≡ part → Goes byte rest s items
-    in_part none e = ⊎_elim (λ p. absurd (no_append s.held byte rest (e ∙ p))) (λ b. held_on (begins b) (subst (λ cs. IsBegun more cs) (sym none) tt)) is_part
+    in_part none e = ⊎_elim (λ p. absurd (no_front s.held (byte ∷ rest) (λ h. cc) (e ∙ p))) (λ b. held_on (begins b) (subst (λ cs. IsBegun more cs) (sym none) tt)) is_part
       where
         begins : BeginsCharacter part → BeginsCharacter more
         begins b =
@@ -540,8 +527,8 @@ refused_back syntax limits spot s bytes fault o b f =
 
 pub scans_what_is_spelled : ScansWhatIsSpelled
 scans_what_is_spelled syntax limits spot s bytes scanned i b =
-    (λ h. scans_so syntax limits spot s bytes scanned i b h, λ sp. spelled_back syntax limits spot s bytes scanned (sym (same_content syntax spot.inside) ∙ i) b sp)
+    (λ h. all_so syntax limits spot s bytes (Ok scanned) i b h, λ sp. spelled_back syntax limits spot s bytes scanned (sym (same_content syntax spot.inside) ∙ i) b sp)
 
 pub refuses_what_is_faulty : RefusesWhatIsFaulty
 refuses_what_is_faulty syntax limits spot s bytes fault i b =
-    (λ h. refuses_so syntax limits spot s bytes fault i b h, λ f. refused_back syntax limits spot s bytes fault (sym (same_content syntax spot.inside) ∙ i) b f)
+    (λ h. all_so syntax limits spot s bytes (Err fault) i b h, λ f. refused_back syntax limits spot s bytes fault (sym (same_content syntax spot.inside) ∙ i) b f)

@@ -1,5 +1,5 @@
 -- Behind `<!` and `<?`, and in a document type, a move says what the verdict is.
-use Rattle.rx_pages.proofs.Common.{◌≡◌, ◌∙◌, ℕ, Bool, true, false, [], ◌∷◌, ◌++◌, refl, ap, sym, subst, append_assoc, append-nil, eqb-true, ◌+◌, arith, Option, Some, None, length, ◌&&◌, ◌||◌, ◌==◌, if◌then◌else◌, ◌-◌, take, codes, cond-true, cond-false, nat_tests, less_than_sign, is_white_space, Chars, split, both, Syntax, same, comment, section, ends_with, ends_comment, cased_char, Content, length-append, BadDoctype}
+use Rattle.rx_scan.proofs.Common.{◌≡◌, ◌∙◌, ℕ, Bool, true, false, [], ◌∷◌, ◌++◌, refl, ap, sym, subst, append_assoc, append-nil, eqb-true, ◌+◌, arith, Option, Some, None, length, ◌&&◌, ◌||◌, ◌==◌, if◌then◌else◌, ◌-◌, take, codes, cond-true, cond-false, nat_tests, less_than_sign, is_white_space, Chars, split, both, Syntax, same, comment, section, ends_with, ends_comment, cased_char, Content, length-append, BadDoctype, may_close, after_dash, after_bang, in_comment, after_strict_dash, in_strict_comment, in_instruction, in_bogus, in_section, at_bracket, are_two, Pending, PendsAs, Behind, judge_of, CommentEnds, is_start, is_start_dash, has_dash, has_dashes, has_bang, StrictEnds, has_strict_dash, has_strict_dashes, SectionEnds, bracket_text, DoctypeIs, DoctypeEnds, is_one, Means, Goes, section_text}
 use Rattle.rx_pages.specs.Scanner as told
 use Rattle.rx_scan.specs.declared.marks.CommentPhase.{CommentPhase}
 use Rattle.rx_scan.specs.declared.marks.CommentPhase.TheVariants as comments
@@ -10,16 +10,12 @@ use Rattle.rx_scan.specs.declared.marks.Brackets.TheVariants as brackets
 use Rattle.rx_scan.specs.declared.marks.TokenState.{TokenState}
 use Rattle.rx_scan.specs.declared.marks.TokenState.TheVariants as mark
 use Rattle.rx_scan.specs.declared.marks.Move.{Move}
-use Rattle.rx_scan.specs.Marks.{may_close, after_dash, after_bang, in_comment, after_strict_dash, in_strict_comment, in_instruction, in_bogus, in_section, at_bracket, are_two}
-use Rattle.rx_scan.specs.Pending.{Pending, PendsAs, Behind, judge_of, CommentEnds, is_start, is_start_dash, has_dash, has_dashes, has_bang, StrictEnds, has_strict_dash, has_strict_dashes, SectionEnds, bracket_text, DoctypeIs, DoctypeEnds, is_one}
-use Rattle.rx_scan.specs.Meant.{Means, Goes}
 use Rattle.rx_scan.proofs.Snoc.{snoc_same, ends_snoc, ends_one, empty_snoc, lone_snoc, either_way, head_of, word_at}
 use Rattle.rx_scan.specs.declared.marks.DoctypePhase.{DoctypePhase}
 use Rattle.rx_scan.specs.declared.marks.DoctypePhase.TheVariants as phases
 use Rattle.rx_scan.specs.declared.marks.Whole.TheVariants as whole
 use Rattle.rx_scan.specs.declared.marks.Move.TheVariants as move
 use Rattle.rx_scan.specs.Marks as marks
-use Rattle.rx_pages.proofs.Comments.{section_text}
 
 -- what stands behind the front grows by the character
 pub grown : (text front rest : Chars) (c : ℕ) → text ≡ less_than_sign ∷ (front ++ rest) → text ++ c ∷ [] ≡ less_than_sign ∷ (front ++ (rest ++ c ∷ []))

@@ -1,8 +1,7 @@
 -- What one byte does is what the reader of bytes says.
-use Rattle.rx_pages.proofs.Common.{◌≡◌, ◌∙◌, ◌⊎◌, ℕ, ◌+◌, ◌-◌, Bool, true, false, List, [], ◌∷◌, ◌++◌, refl, ap, sym, subst, Result, Ok, Err, inl, inr, length, arith, eqb-true, ◌<◌, ◌≢◌, ◌&&◌, ◌||◌, ◌==◌, not, nat_le, MatchBool, if◌then◌else◌, cond-true, cond-false, lt-leb, Chars, by_test, both, either, untrue, and-false, length-append, answer_of, More, Char, Bad, Entry, byte_order_mark, line_feed, carriage_return, as_line_end, Syntax, values, is_known_tag, Utf8Step, Content, Kind, NotUtf8, Nul, PageTooLong, TagTooLong, Limits, Stop, values_append}
+use Rattle.rx_scan.proofs.Common.{◌≡◌, ◌∙◌, ◌⊎◌, ℕ, ◌+◌, ◌-◌, Bool, true, false, List, [], ◌∷◌, ◌++◌, refl, ap, sym, subst, Result, Ok, Err, inl, inr, length, arith, eqb-true, ◌<◌, ◌≢◌, ◌&&◌, ◌||◌, ◌==◌, not, nat_le, MatchBool, if◌then◌else◌, cond-true, cond-false, lt-leb, Chars, by_test, both, either, untrue, and-false, length-append, answer_of, More, Char, Bad, Entry, byte_order_mark, line_feed, carriage_return, as_line_end, Syntax, values, is_known_tag, Utf8Step, Content, Kind, NotUtf8, Nul, PageTooLong, TagTooLong, Limits, Stop, values_append, TagSoFar, PendsAs, Reading, spot_of, ReadsAs, mark_bytes, match_by}
 use Rattle.rx_pages.specs.PageReader as reader
 use Rattle.rx_grammar.specs.declared.stops.Stop.TheVariants as stop
-use Rattle.rx_tags.specs.TagBufs.{TagSoFar}
 use Rattle.rx_scan.specs.declared.answers.TokenKind.{TokenKind}
 use Rattle.rx_scan.specs.declared.answers.TokenKind.TheVariants as what
 use Rattle.rx_scan.specs.declared.marks.TokenState.{TokenState}
@@ -10,15 +9,11 @@ use Rattle.rx_scan.specs.declared.marks.TokenState.TheVariants as mark
 use Rattle.rx_scan.specs.declared.places.Position.{Position}
 use Rattle.rx_scan.specs.Places.{entered, holding}
 use Rattle.rx_scan.specs.KnownTags as known_tags
-use Rattle.rx_scan.specs.Pending.{PendsAs}
-use Rattle.rx_scan.specs.Scanner.{Reading, spot_of}
 use Rattle.rx_scan.specs.Entries as entries
-use Rattle.rx_scan.specs.Steps.{ReadsAs, mark_bytes}
 use Rattle.rx_scan.proofs.Standing.{some_mark, no_values, after, place_on, starts_next}
 use Rattle.rx_scan.proofs.Simulation.{known, known_with}
 use Rattle.rx_scan.proofs.MarkLemmas.{mark_is}
 use Rattle.rx_scan.proofs.EntryLemmas.{enters, Gives, gives_at, gives_by, refuses, nothing_told}
-use Rattle.rx_tags.proofs.TakeLemmas.{match_by}
 
 -- what pends has a first character, or there is nothing
 pub record HasFirst (text : Chars) : Type 0 where

@@ -1,24 +1,17 @@
 -- What an answer says of the reader of bytes; and that what one character does is so: by its move, and the token that begins, goes on or is whole with it.
-use Rattle.rx_pages.proofs.Common.{◌≡◌, ◌∙◌, ℕ, ◌+◌, Bool, true, false, [], ◌∷◌, ◌++◌, ap, sym, Result, Ok, List, refl, subst, Err, Option, Some, None, append-nil, ◌&&◌, not, ◌==◌, if◌then◌else◌, encode_utf8_all, cond-false, cond-true, Chars, is_empty, both, not_both_ways, split, and-false, and-true, Entry, Syntax, Token, character, reference, section, comment, doctype, kept, tag, Item, values, is_literal, is_strict_literal, text_of, is_line_feed, meaning, Content, Kind, Stop, StrictText, BadDoctype, Limits, is_last, TagState, fresh, tag_on, tag_step, tag_of, parts_of, is_closing, tag_on-append, token_of_item, Fault, item_content, item_first, item_last}
+use Rattle.rx_scan.proofs.Common.{◌≡◌, ◌∙◌, ℕ, ◌+◌, Bool, true, false, [], ◌∷◌, ◌++◌, ap, sym, Result, Ok, List, refl, subst, Err, Option, Some, None, append-nil, ◌&&◌, not, ◌==◌, if◌then◌else◌, encode_utf8_all, cond-false, cond-true, Chars, is_empty, both, not_both_ways, split, and-false, and-true, Entry, Syntax, Token, character, reference, section, comment, doctype, kept, tag, Item, values, is_literal, is_strict_literal, text_of, is_line_feed, meaning, Content, Kind, Stop, StrictText, BadDoctype, Limits, is_last, TagState, fresh, tag_on, tag_step, tag_of, parts_of, is_closing, tag_on-append, token_of_item, Fault, item_content, item_first, item_last, ended, begun, cut, Pending, PendsAs, phase_of, first_char, bracket_text, Reading, spot_of, ReadsAs, a_line_feed, joined, IsOne, a_comment, an_empty_section, setting_after, keeps_first, Skips, Tells, texts_of, Buffered, no_tag, TagSoFar, MayStep, StepGives, no_meaning}
 use Rattle.rx_terms.specs.Ascii.{greater_than_sign, right_bracket, line_feed}
 use Rattle.rx_pages.specs.Scanner as verdicts
 use Rattle.rx_pages.specs.PageReader as reader
 use Rattle.rx_scan.specs.declared.marks.TokenState.TheVariants as mark
 use Rattle.rx_scan.specs.declared.places.Setting.{Setting}
-use Rattle.rx_scan.specs.Places.{ended, begun, cut}
-use Rattle.rx_scan.specs.Pending.{Pending, PendsAs, phase_of, first_char, bracket_text}
-use Rattle.rx_scan.specs.Scanner.{Reading, spot_of}
-use Rattle.rx_scan.specs.Steps.{ReadsAs, a_line_feed, joined, IsOne, a_comment, an_empty_section, setting_after, keeps_first, Skips, Tells, texts_of}
-use Rattle.rx_scan.specs.Buffers.{Buffered}
 use Rattle.rx_scan.proofs.Standing.{whole, is_character, no_literal, some_mark, no_values, went, begins}
 use Rattle.rx_grammar.specs.declared.stops.Stop.TheVariants as stop
-use Rattle.rx_tags.specs.TagBufs.{no_tag, TagSoFar, MayStep, StepGives}
 use Rattle.rx_scan.specs.declared.answers.TokenKind.{TokenKind}
 use Rattle.rx_scan.specs.declared.answers.TokenKind.TheVariants as what
 use Rattle.rx_scan.specs.declared.marks.TokenState.{TokenState}
 use Rattle.rx_scan.specs.Entries as entries
 use Rattle.rx_scan.specs.Meant as meant
-use Rattle.rx_reader.specs.Values.{no_meaning}
 use Rattle.rx_scan.specs.declared.marks.Move.TheVariants as move
 use Rattle.rx_scan.specs.declared.marks.Whole.TheVariants as whole_mark
 use Rattle.rx_scan.specs.declared.marks.First.{First}
@@ -65,6 +58,9 @@ Gives r s old (Err stop.NoMemory) new = Unit {0}
 
 pub gives_by : (r q : Result reader.Scanned Kind) (s : reader.Scanning) (old : Reading) (result : Result TokenKind Stop) (new : Reading) → r ≡ q → Gives q s old result new → Gives r s old result new
 gives_by r q s old result new e g = subst (λ (x : Result reader.Scanned Kind). Gives x s old result new) (sym e) g
+
+pub gives_ok : (r : Result reader.Scanned Kind) (s : reader.Scanning) (old : Reading) (answer : TokenKind) (result : Result TokenKind Stop) (x new : Reading) → result ≡ Ok answer → new ≡ x → GivesOk r old answer x → Gives r s old result new
+gives_ok r s old answer result x new q e g = subst (λ (y : Result TokenKind Stop). Gives r s old y new) (sym q) (subst (λ (z : Reading). GivesOk r old answer z) (sym e) g)
 
 pub gives_at : (r : Result reader.Scanned Kind) (s : reader.Scanning) (old : Reading) (result : Result TokenKind Stop) (x new : Reading) → new ≡ x → Gives r s old result x → Gives r s old result new
 gives_at r s old result x new e g = subst (λ (z : Reading). Gives r s old result z) (sym e) g
@@ -154,23 +150,21 @@ module _ (v : Reading) (s : reader.Scanning) (h : ReadsAs v s) (ar : Bool) (c : 
       → result ≡ Ok what.Nothing → new ≡ entries.gone v ar p → Gives (read verdict) s v result new
   gives_went p x more result new g e y k q n =
       let old = some_mark sy inside v.pending.mark v.pending.run v.pending.tag text x more v.place h.pends e in
-      subst (λ (z : Result TokenKind Stop). Gives (read verdict) s v z new) (sym q)
-      (gives_at (read verdict) s v (Ok what.Nothing) (entries.gone v ar p) new n
+      gives_ok (read verdict) s v what.Nothing result (entries.gone v ar p) new q n
       (record {
         scanned = record { next = reader.entering ar (s.run ++ entry ∷ []) s.two s.last s; items = [] };
         is = ap read g;
         reads_as = went v s h ar entry p text x more refl e y k old;
         told = nothing_told v (entries.gone v ar p) refl (λ z. refl);
         setting = refl;
-      }))
+      })
 
   -- a token begins after none
   gives_begins : (m : TokenState) (result : Result TokenKind Stop) (new : Reading) → meant.Begins sy inside v.pending text c m → result ≡ Ok what.Nothing → new ≡ entries.with_begun v ar m → Gives (read verdict) s v result new
   gives_begins m result new b q n =
       let none : s.run ≡ [] = no_values s.run b.none in
       let run : s.run ++ entry ∷ [] ≡ entry ∷ [] = ap (λ x. x ++ entry ∷ []) none in
-      subst (λ (z : Result TokenKind Stop). Gives (read verdict) s v z new) (sym q)
-      (gives_at (read verdict) s v (Ok what.Nothing) (entries.with_begun v ar m) new n
+      gives_ok (read verdict) s v what.Nothing result (entries.with_begun v ar m) new q n
       (record {
         scanned = record { next = reader.entering ar (entry ∷ []) s.two s.last s; items = [] };
         is = ap read b.goes ∙ ap (λ (r : List Entry). Ok (record { next = reader.entering ar r s.two s.last s; items = [] })) run;
@@ -179,7 +173,7 @@ module _ (v : Reading) (s : reader.Scanning) (h : ReadsAs v s) (ar : Bool) (c : 
             h.syntax (b.pends (no_tag v.pending.tag.syntax) (ap no_tag h.syntax));
         told = nothing_told v (entries.with_begun v ar m) refl (λ z. refl);
         setting = refl;
-      }))
+      })
 
   -- where memory may run out
   spent : {P : TokenKind → Type 0} (result : Result TokenKind Stop) (new : Reading) → entries.OrSpent result P → ((answer : TokenKind) → P answer → Gives (read verdict) s v (Ok answer) new) → Gives (read verdict) s v result new
@@ -250,15 +244,14 @@ module _ (v : Reading) (s : reader.Scanning) (h : ReadsAs v s) (ar : Bool) (c : 
       → result ≡ Ok answer → new ≡ entries.with_ended v ar setting → setting.syntax ≡ sy → IsTold v answer (item t ∷ []) (entries.with_ended v ar setting) → setting ≡ setting_after answer (entries.with_ended v ar setting) v.setting (item t ∷ [])
       → Gives (read verdict) s v result new
   gives_ended t answer setting result new g n q e y told k =
-      subst (λ (z : Result TokenKind Stop). Gives (read verdict) s v z new) (sym q)
-      (gives_at (read verdict) s v (Ok answer) (entries.with_ended v ar setting) new e
+      gives_ok (read verdict) s v answer result (entries.with_ended v ar setting) new q e
       (record {
         scanned = record { next = behind t; items = item t ∷ [] };
         is = g;
         reads_as = ends_as t (entries.marked mark.Nothing v.pending) setting v.text v.end false (sym (no_literal right_bracket inside t n)) y refl h.syntax;
         told = told;
         setting = k;
-      }))
+      })
 
   one : (t : Token) → IsOne t (item t ∷ [])
   one t = record { item = item t; one = refl; is = item_token t }
@@ -401,14 +394,11 @@ module _ (v : Reading) (s : reader.Scanning) (h : ReadsAs v s) (ar : Bool) (c : 
       leads_by : (b : Bool) → entries.after_tag v.setting b ≡ record { syntax = sy; limits = lim; inside = inside; leads = if b then v.setting.leads else false; drops = false }
       leads_by true = λ i. record { syntax = sy; limits = lim; inside = inside; leads = and-true v.setting.leads i; drops = false }
       leads_by false = λ i. record { syntax = sy; limits = lim; inside = inside; leads = and-false v.setting.leads i; drops = false }
-  gives_tags (Ok what.Text) new m k = absurd k
-  gives_tags (Ok what.Section) new m k = absurd k
-  gives_tags (Ok what.Doctype) new m k = absurd k
-  gives_tags (Ok what.Skipped) new m k = absurd k
   gives_tags (Err (stop.Fault f)) new m k =
       let on = tag_on-append sy (meaning sy) (Ok fresh) m.chars (c ∷ []) ∙ (ap (λ o. tag_on sy (meaning sy) o (c ∷ [])) m.read ∙ step_in v.pending.tag.state (Err k.0) k.2.0) in
       record { kind = k.0; is = ap read (m.goes ∙ ap verdicts.told_of_tag on); fault_is = k.3 ∙ fault_is v s k.0 h }
   gives_tags (Err stop.NoMemory) new m k = tt
+  gives_tags _ new m k = absurd k
 
   -- in raw text what begins the end tag's name goes on
   gives_keeps_tag : (n : ℕ) (result : Result TokenKind Stop) (new : Reading) → meant.KeepsTag sy inside v.pending text c n → entries.Tags v c ar (entries.kept_by (mark.RawEnd n) c v.pending) result new → Gives (read verdict) s v result new
@@ -422,12 +412,9 @@ module _ (v : Reading) (s : reader.Scanning) (h : ReadsAs v s) (ar : Bool) (c : 
       let z = sym (step_in v.pending.tag.state (Ok e.last) e.step) ∙ m.step in
       let q : e.last ≡ m.state = cc in
       absurd (not_both_ways (is_last e.last.phase) e.whole (ap (λ (x : TagState). is_last x.phase) q ∙ m.unfinished))
-  gives_keeps_tag n (Ok what.Text) new m k = absurd k
-  gives_keeps_tag n (Ok what.Section) new m k = absurd k
-  gives_keeps_tag n (Ok what.Doctype) new m k = absurd k
-  gives_keeps_tag n (Ok what.Skipped) new m k = absurd k
   gives_keeps_tag n (Err (stop.Fault f)) new m k = absurd (let z = sym m.step ∙ step_in v.pending.tag.state (Err k.0) k.2.0 in cc)
   gives_keeps_tag n (Err stop.NoMemory) new m k = tt
+  gives_keeps_tag n _ new m k = absurd k
 
   by_move : (m : Move) → meant.Means sy inside v.pending text c m → (result : Result TokenKind Stop) (new : Reading) → entries.Enters v c ar (entries.judged v.setting v.place.two c m) result new → Gives (read verdict) s v result new
   by_move (move.Begins n) g result new k = gives_begins n result new g k.0 k.1

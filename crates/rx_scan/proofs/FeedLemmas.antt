@@ -1,24 +1,16 @@
 -- Characters of a tag that are taken at once are read like its bytes one after another, in the tag or behind its `<`.
-use Rattle.rx_pages.proofs.Common.{◌≡◌, ◌∙◌, ℕ, ◌+◌, ◌≤◌, ◌<◌, Bool, true, false, List, [], ◌∷◌, ◌++◌, length, take, refl, ap, sym, subst, Ok, append_assoc, arith, length-take-le, eqb-true, zero, suc, ◌==◌, not, nat_le, MatchBool, ◌^◌, leb-true, and_parts, and_from, and_right, or_from, as_line_end, first_whole, TagState}
+use Rattle.rx_scan.proofs.Common.{◌≡◌, ◌∙◌, ℕ, ◌+◌, ◌≤◌, ◌<◌, Bool, true, false, List, [], ◌∷◌, ◌++◌, length, take, refl, ap, sym, subst, Ok, append_assoc, arith, length-take-le, eqb-true, zero, suc, ◌==◌, not, nat_le, MatchBool, ◌^◌, leb-true, and_parts, and_from, and_right, or_from, as_line_end, first_whole, TagState, is_printed, GoesTo, TagSoFar, MayStep, TakesMore, FeedsFront, with_state, fed, Reading, Pending, IsOfTag, OpensTag, OpensFront, in_tag}
 use Rattle.rx_scan.specs.declared.marks.TokenState.{TokenState}
 use Rattle.rx_scan.specs.declared.marks.TokenState.TheVariants as mark
 use Rattle.rx_scan.specs.declared.marks.Move.{Move}
 use Rattle.rx_scan.specs.KnownTags as known_tags
 use Rattle.rx_pages.specs.PageReader as reader
-use Rattle.rx_tags.specs.Fronts.{is_printed, GoesTo}
-use Rattle.rx_tags.specs.TagBufs.{TagSoFar, MayStep, TakesMore}
 use Rattle.rx_tags.proofs.TakeLemmas.{is_none, goes_unfinished, chosen as some_taken, match_by}
 use Rattle.rx_scan.specs.declared.answers.TokenKind.TheVariants as what
 use Rattle.rx_scan.specs.declared.places.Position.{Position}
 use Rattle.rx_scan.specs.Entries as entries
-use Rattle.rx_scan.specs.Fronts.{FeedsFront, with_state}
-use Rattle.rx_scan.specs.Places.{fed}
-use Rattle.rx_scan.specs.Scanner.{Reading}
 use Rattle.rx_scan.proofs.RunLemmas.{ReadsOn, reads_more}
-use Rattle.rx_scan.specs.Pending.{Pending}
 use Rattle.rx_scan.specs.declared.places.Setting.{Setting}
-use Rattle.rx_scan.specs.Bytes.{IsOfTag}
-use Rattle.rx_scan.specs.Openings.{OpensTag, OpensFront, in_tag}
 use Rattle.rx_scan.proofs.ByteLemmas.{other_read, within_limit}
 
 -- A byte that surely belongs to a tag is read as a tag's: in one, or behind its `<`.

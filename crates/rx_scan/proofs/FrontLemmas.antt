@@ -1,12 +1,7 @@
 -- What is taken at once is read like its bytes one after another: text with its references, and characters of a tag.
-use Rattle.rx_grammar.proofs.Common.{◌≡◌, ◌∙◌, ℕ, ◌+◌, ◌-◌, ◌≤◌, ◌<◌, false, List, [], ◌∷◌, ◌++◌, length, take, drop, ap, sym, subst, arith, eqb-true, take-add, length-take-le, inl, inr, ◌⊎◌, Bool, true, refl, Option, Some, None, append_assoc, encode_utf8_all, length-drop, ◌==◌, MatchBool, IfSome, codes, eqb-false, cases_lt, and_parts, take_rest, list_all, all_scalars, Chars, begins_with, split, chars_from_encodes, Syntax, Html, Xhtml, meaning}
+use Rattle.rx_scan.proofs.Common.{◌≡◌, ◌∙◌, ℕ, ◌+◌, ◌-◌, ◌≤◌, ◌<◌, false, List, [], ◌∷◌, ◌++◌, length, take, drop, ap, sym, subst, arith, eqb-true, take-add, length-take-le, inl, inr, ◌⊎◌, Bool, true, refl, Option, Some, None, append_assoc, encode_utf8_all, length-drop, ◌==◌, MatchBool, IfSome, codes, eqb-false, cases_lt, and_parts, take_rest, list_all, all_scalars, Chars, begins_with, split, chars_from_encodes, Syntax, Html, Xhtml, meaning, MayStep, TakesFront, of_text, of_tag, of_opening, in_tag, Pending, run_on, Reading, ReadsAs, TellsFront, said, is_plain}
 use Rattle.rx_scan.specs.declared.marks.TokenState.TheVariants as mark
 use Rattle.rx_pages.specs.PageReader as reader
-use Rattle.rx_tags.specs.TagBufs.{MayStep}
-use Rattle.rx_scan.specs.Openings.{TakesFront, of_text, of_tag, of_opening, in_tag}
-use Rattle.rx_scan.specs.Pending.{Pending, run_on}
-use Rattle.rx_scan.specs.Scanner.{Reading}
-use Rattle.rx_scan.specs.Steps.{ReadsAs}
 use Rattle.rx_scan.proofs.FeedLemmas.{feed_on, feeds_steps, open_on}
 use Rattle.rx_scan.proofs.RunLemmas.{ReadsOn, reads_none}
 use Rattle.rx_chars.specs.Named.{named, named_table}
@@ -14,9 +9,6 @@ use Rattle.rx_reader.specs.declared.phases.RunPhase.TheVariants as run
 use Rattle.rx_reader.specs.declared.phases.RunMove.TheVariants as run_moves
 use Rattle.rx_tags.proofs.TakeLemmas.{chosen as some_taken, some_count, match_by}
 use Rattle.rx_scan.specs.Entries as entries
-use Rattle.rx_scan.specs.Fronts.{TellsFront}
-use Rattle.rx_scan.specs.Places.{said}
-use Rattle.rx_scan.specs.Plain.{is_plain}
 use Rattle.rx_scan.specs.WholeReferences.{usual_reference, IsReference, BeginsReference, TellsOne, of_plain, of_reference, of_line_end, TellsText, one, more}
 use Rattle.rx_scan.proofs.PlainLemmas.{chars_plain}
 use Rattle.rx_scan.proofs.ReferenceLemmas.{reference_on}
@@ -94,27 +86,18 @@ module _ (old : Reading) (s : reader.Scanning) where
   text_on l bytes r _ new (more {front} {next} {middle} t k u) =
       subst (λ (x : List ℕ). ReadsOn old s x new) (append_assoc bytes front next) (one_on new next middle (bytes ++ front) k (text_on l bytes r front middle t) u)
 
-one_pending : (l new : Reading) (front : List ℕ) → TellsOne l front new → new.pending ≡ l.pending
-one_pending l new front (of_plain t) = ap (λ (x : Reading). x.pending) t.is
-one_pending l new front (of_reference t) = ap (λ (x : Reading). x.pending) t.is
-one_pending l new front (of_line_end t) = ap (λ (x : Reading). x.pending) t.is
+-- no token is begun before or behind what is told
+one_between : (l new : Reading) (front : List ℕ) → TellsOne l front new → (new.pending ≡ l.pending) × (l.pending.mark ≡ mark.Nothing)
+one_between l new front (of_plain t) = (ap (λ (x : Reading). x.pending) t.is, t.may.between)
+one_between l new front (of_reference t) = (ap (λ (x : Reading). x.pending) t.is, t.between)
+one_between l new front (of_line_end t) = (ap (λ (x : Reading). x.pending) t.is, t.between)
 
--- no token is begun before or behind it
-pub text_pending : (l : Reading) (front : List ℕ) (new : Reading) → TellsText l front new → new.pending ≡ l.pending
-text_pending l front new (one k t) = one_pending l new front t
-text_pending l _ new (more {front} {next} {middle} t k u) = one_pending middle new next u ∙ text_pending l front middle t
-
-one_between : (l new : Reading) (front : List ℕ) → TellsOne l front new → l.pending.mark ≡ mark.Nothing
-one_between l new front (of_plain t) = t.may.between
-one_between l new front (of_reference t) = t.between
-one_between l new front (of_line_end t) = t.between
-
-pub text_between : (l : Reading) (front : List ℕ) (new : Reading) → TellsText l front new → l.pending.mark ≡ mark.Nothing
+text_between : (l : Reading) (front : List ℕ) (new : Reading) → TellsText l front new → (new.pending ≡ l.pending) × (l.pending.mark ≡ mark.Nothing)
 text_between l front new (one k t) = one_between l new front t
-text_between l _ new (more {front} {next} {middle} t k u) = text_between l front middle t
+text_between l _ new (more {front} {next} {middle} t k u) = let first = text_between l front middle t in ((one_between middle new next u).0 ∙ first.0, first.1)
 
 pub one_kept : (l new : Reading) (front : List ℕ) (n : ℕ) → MatchBool (n == 0) (new ≡ l) (TellsOne l front new) → new.pending ≡ l.pending
-one_kept l new front n m = match_by (n == 0) _ _ m (λ b e. ap (λ (x : Reading). x.pending) e) (λ b t. one_pending l new front t)
+one_kept l new front n m = match_by (n == 0) _ _ m (λ b e. ap (λ (x : Reading). x.pending) e) (λ b t. (one_between l new front t).0)
 
 pub plain_one : (b : Bool) (old l : Reading) (front : List ℕ) → MatchBool b (l ≡ old) (TellsFront old front l) → MatchBool b (l ≡ old) (TellsOne old front l)
 plain_one true old l front m = m
@@ -186,9 +169,9 @@ kept l new front n m =
   where
     by : (n == 0) ≡ false → TakesFront l front new → IsKept l n new
     by z (of_text t) = record {
-      between = λ m. ap (λ (x : Pending). x.mark) (text_pending l front new t) ∙ m;
-      steps = λ k. subst (λ (x : Pending). MayStep x.tag) (sym (text_pending l front new t)) k;
-      apart = inr (text_between l front new t);
+      between = λ m. ap (λ (x : Pending). x.mark) (text_between l front new t).0 ∙ m;
+      steps = λ k. subst (λ (x : Pending). MayStep x.tag) (sym (text_between l front new t).0) k;
+      apart = inr (text_between l front new t).1;
       none = λ q. absurd (eqb-false n 0 z q);
     }
     by z (of_tag t) = record {

@@ -20,3 +20,4 @@ pub mod Openings
 pub mod Markup
 pub mod References
 pub mod Simulation
+pub mod Common

@@ -1,8 +1,7 @@
 -- The byte order mark: what the reader of bytes makes of its bytes.
-use Rattle.rx_pages.proofs.Common.{◌≡◌, ◌∙◌, ◌⊎◌, ℕ, Bool, true, false, List, [], ◌∷◌, ◌++◌, refl, ap, sym, subst, Result, Ok, Err, inl, inr, length, arith, append_assoc, append-nil, ◌&&◌, ◌||◌, ◌==◌, not, nat_le, cond-true, cond-false, by_test, split, length-append, answer_of, More, Char, Bad, Entry, byte_order_mark, line_feed, carriage_return, as_line_end, Syntax, Item, values, is_literal, Utf8Step, answers_from, tables_agree, Fault, Kind, Limits, snoc_front, snoc_last, scan_fault}
+use Rattle.rx_scan.proofs.Common.{◌≡◌, ◌∙◌, ◌⊎◌, ℕ, Bool, true, false, List, [], ◌∷◌, ◌++◌, refl, ap, sym, subst, Result, Ok, Err, inl, inr, length, arith, append_assoc, append-nil, ◌&&◌, ◌||◌, ◌==◌, not, nat_le, cond-true, cond-false, by_test, split, length-append, answer_of, More, Char, Bad, Entry, byte_order_mark, line_feed, carriage_return, as_line_end, Syntax, Item, values, is_literal, Utf8Step, answers_from, tables_agree, Fault, Kind, Limits, snoc_front, snoc_last, scan_fault, mark_bytes, HasMark}
 use Rattle.rx_pages.specs.Scanner as verdicts
 use Rattle.rx_pages.specs.PageReader as reader
-use Rattle.rx_scan.specs.Steps.{mark_bytes, HasMark}
 
 -- only the mark's bytes are read as it
 pub mark_is : (bytes : List ℕ) → answer_of bytes ≡ Char byte_order_mark → bytes ≡ mark_bytes
@@ -85,57 +84,52 @@ module _ (sy : Syntax) (lim : Limits) (spot : reader.Spot) where
           (λ t. ap (λ (y : reader.Scanned). y.items)
           (is_it (record { next = reader.passed s; items = [] }) x (sym (cond-true _ _ _ (ap (λ b. not b && true || s.after_return && byte_order_mark == line_feed) f)) ∙ (sym (cond-false _ _ _ t) ∙ e))))
 
-  -- an entry starts the page
-  abbrev Starts : Result reader.Scanned Kind → Type 0
-  Starts (Ok x) = x.next.started ≡ true
-  Starts (Err kind) = Unit {0}
-
-  told_starts : (ar : Bool) (entry : Entry) (s : reader.Scanning) (w : verdicts.Verdict) → Starts (reader.told_first sy lim spot ar entry s w)
-  told_starts ar entry s verdicts.goes_on = refl
-  told_starts ar entry s (verdicts.whole token) =
-      let item : Item = reader.item_of spot.inside token (s.run ++ entry ∷ []) in
-      split Starts (s.two && is_literal 62 item) _ _ (λ t. tt) (λ t. split Starts (reader.is_doctype item.token && not spot.leads) _ _ (λ u. tt) (λ u. refl))
-  told_starts ar entry s (verdicts.ended token) = refl
-  told_starts ar entry s (verdicts.refused kind) = tt
-
-  with_starts : (item : Item) (r : Result reader.Scanned Kind) → Starts r → Starts (reader.with_item sy lim spot item r)
-  with_starts item (Ok x) h = h
-  with_starts item (Err kind) h = tt
-
-  all_starts : (ar : Bool) (entry : Entry) (s : reader.Scanning) (w : verdicts.Verdict) → Starts (reader.told sy lim spot ar entry s w)
-  all_starts ar entry s (verdicts.ended token) =
-      with_starts (reader.item_of spot.inside token s.run) (reader.told_first sy lim spot ar entry (reader.after_token sy lim spot s) (verdicts.verdict sy spot.inside [] entry.value)) (told_starts ar entry (reader.after_token sy lim spot s) (verdicts.verdict sy spot.inside [] entry.value))
-  all_starts ar entry s w = told_starts ar entry s w
-
-  char_starts : (c : ℕ) (s : reader.Scanning) → Starts (reader.read_char sy lim spot c s)
-  char_starts c s =
-      let entry : Entry = record { value = as_line_end c; first = reader.starts_at s; last = s.at } in
-      split Starts (not s.started && c == byte_order_mark || s.after_return && c == line_feed) _ _ (λ t. refl)
-      (λ t. split Starts (reader.is_too_long sy lim spot (s.run ++ entry ∷ []) (reader.first_of s.run entry.first) entry.last) _ _ (λ u. tt) (λ u. all_starts (c == carriage_return) entry s (verdicts.verdict sy spot.inside (values s.run) entry.value)))
-
   -- where no character is whole yet, the bytes were held
   pub record Held (s : reader.Scanning) (bytes : List ℕ) (now : reader.Scanning) : Type 0 where
     pub first : s.started ≡ false
     pub held : now.held ≡ s.held ++ bytes
 
+  abbrev Unless : (reader.Scanning → Type 0) → Result reader.Scanned Kind → Type 0
+  Unless Is (Ok x) = x.next.started ≡ false → Is x.next
+  Unless Is (Err kind) = Unit {0}
+
+  -- an entry starts the page
+  module _ (Is : reader.Scanning → Type 0) where
+    told_starts : (ar : Bool) (entry : Entry) (s : reader.Scanning) (w : verdicts.Verdict) → Unless Is (reader.told_first sy lim spot ar entry s w)
+    told_starts ar entry s (verdicts.whole token) =
+        let item : Item = reader.item_of spot.inside token (s.run ++ entry ∷ []) in
+        split (Unless Is) (s.two && is_literal 62 item) _ _ (λ t. tt) (λ t. split (Unless Is) (reader.is_doctype item.token && not spot.leads) _ _ (λ u. tt) (λ u n. absurd (cc)))
+    told_starts ar entry s (verdicts.refused kind) = tt
+    told_starts ar entry s _ = λ n. absurd (cc)
+
+    with_starts : (item : Item) (r : Result reader.Scanned Kind) → Unless Is r → Unless Is (reader.with_item sy lim spot item r)
+    with_starts item (Ok x) h = h
+    with_starts item (Err kind) h = tt
+
+    all_starts : (ar : Bool) (entry : Entry) (s : reader.Scanning) (w : verdicts.Verdict) → Unless Is (reader.told sy lim spot ar entry s w)
+    all_starts ar entry s (verdicts.ended token) =
+        with_starts (reader.item_of spot.inside token s.run) (reader.told_first sy lim spot ar entry (reader.after_token sy lim spot s) (verdicts.verdict sy spot.inside [] entry.value)) (told_starts ar entry (reader.after_token sy lim spot s) (verdicts.verdict sy spot.inside [] entry.value))
+    all_starts ar entry s w = told_starts ar entry s w
+
+    char_starts : (c : ℕ) (s : reader.Scanning) → Unless Is (reader.read_char sy lim spot c s)
+    char_starts c s =
+        let entry : Entry = record { value = as_line_end c; first = reader.starts_at s; last = s.at } in
+        split (Unless Is) (not s.started && c == byte_order_mark || s.after_return && c == line_feed) _ _ (λ t n. absurd (cc))
+        (λ t. split (Unless Is) (reader.is_too_long sy lim spot (s.run ++ entry ∷ []) (reader.first_of s.run entry.first) entry.last) _ _ (λ u. tt) (λ u. all_starts (c == carriage_return) entry s (verdicts.verdict sy spot.inside (values s.run) entry.value)))
+
   module _ (byte : ℕ) (s : reader.Scanning) where
-    abbrev Unless : Result reader.Scanned Kind → Type 0
-    Unless (Ok x) = x.next.started ≡ false → Held s (byte ∷ []) x.next
-    Unless (Err kind) = Unit {0}
+    abbrev Was : reader.Scanning → Type 0
+    Was now = Held s (byte ∷ []) now
 
-    not_started : (r : Result reader.Scanned Kind) → Starts r → Unless r
-    not_started (Ok x) h = λ n. absurd (let w : true ≡ false = sym h ∙ n in cc)
-    not_started (Err kind) h = tt
-
-    by_answer : (a : Utf8Step) → Unless (reader.read_answer sy lim spot (s.held ++ byte ∷ []) s a)
+    by_answer : (a : Utf8Step) → Unless Was (reader.read_answer sy lim spot (s.held ++ byte ∷ []) s a)
     by_answer Bad = tt
-    by_answer More = split Unless (reader.is_too_long sy lim spot s.run (reader.token_at s) s.at) _ _ (λ t. tt) (λ t n. record { first = n; held = refl })
+    by_answer More = split (Unless Was) (reader.is_too_long sy lim spot s.run (reader.token_at s) s.at) _ _ (λ t. tt) (λ t n. record { first = n; held = refl })
     by_answer (Char c) =
-        split Unless (c == 0) _ _ (λ t. tt)
-        (λ t. split Unless (reader.is_too_long sy lim spot s.run (reader.token_at s) s.at) _ _ (λ u. tt) (λ u. not_started (reader.read_char sy lim spot c s) (char_starts c s)))
+        split (Unless Was) (c == 0) _ _ (λ t. tt)
+        (λ t. split (Unless Was) (reader.is_too_long sy lim spot s.run (reader.token_at s) s.at) _ _ (λ u. tt) (λ u. char_starts Was c s))
 
     unstarted : (x : reader.Scanned) → read byte s ≡ Ok x → x.next.started ≡ false → Held s (byte ∷ []) x.next
-    unstarted x e = subst Unless (answered byte s x e) (by_answer (answer_of (s.held ++ byte ∷ [])))
+    unstarted x e = subst (Unless Was) (answered byte s x e) (by_answer (answer_of (s.held ++ byte ∷ [])))
 
   no_scan : {G : Type 0} (f : Fault) (bytes : List ℕ) (y : reader.Scanned) → reader.scan_on sy lim spot (Err f) bytes ≡ Ok y → G
   no_scan f bytes y e = let w : ◌≡◌ {A = Result reader.Scanned Fault} (Err f) (Ok y) = sym (scan_fault sy lim spot f bytes) ∙ e in absurd (cc)

@@ -1,16 +1,12 @@
 -- Between tokens, behind `<`, and in raw text a move says what the verdict is.
-use Rattle.rx_reader.proofs.Common.{◌≡◌, ◌∙◌, ℕ, true, false, [], ◌∷◌, ◌++◌, refl, ap, sym, subst, Option, Ok, Err, append_assoc, append-nil, eqb-true, ◌+◌, Bool, Some, length, map, take, drop, slice_get, inl, inr, arith, add-one, ◌==◌, ◌&&◌, ◌||◌, not, cond-true, cond-false, or_left, or_right, or_from, and_from, or_parts, Chars, begins_with, lowered, split, by_test, both, either, list_all, nat_tests, length-map, map-append, length-append, less_than_sign, solidus, lowered_char, is_letter, is_white_space, between, and-false, Syntax, Html, Xhtml, name_of_raw, same, meaning, begins_tag, is_tag_char, ends_name, begins, comment, kept, has_markup, has_references, has_less_than, is_text, begins_markup, raw_name, begins_end, stops_end, is_known_tag, is_known_raw, is_known_end, cased_char, Content, BadTag, is_html, is_last, move_of, TagState, fresh, tag_step, moved, checked, tag_on, drop-append_seam, take-append_seam, RawName, tag_on-append, equal, same_self}
+use Rattle.rx_scan.proofs.Common.{◌≡◌, ◌∙◌, ℕ, true, false, [], ◌∷◌, ◌++◌, refl, ap, sym, subst, Option, Ok, Err, append_assoc, append-nil, eqb-true, ◌+◌, Bool, Some, length, map, take, drop, slice_get, inl, inr, arith, add-one, ◌==◌, ◌&&◌, ◌||◌, not, cond-true, cond-false, or_left, or_right, or_from, and_from, or_parts, Chars, begins_with, lowered, split, by_test, both, either, list_all, nat_tests, length-map, map-append, length-append, less_than_sign, solidus, lowered_char, is_letter, is_white_space, between, and-false, Syntax, Html, Xhtml, name_of_raw, same, meaning, begins_tag, is_tag_char, ends_name, begins, comment, kept, has_markup, has_references, has_less_than, is_text, begins_markup, raw_name, begins_end, stops_end, is_known_tag, is_known_raw, is_known_end, cased_char, Content, BadTag, is_html, is_last, move_of, TagState, fresh, tag_step, moved, checked, tag_on, drop-append_seam, take-append_seam, RawName, tag_on-append, equal, same_self, markup_is, raw_is, TagSoFar, no_tag, MayStep, Pending, first_char, PendsAs, InLessThan, InTag, InRawEnd, end_phase, Means}
 use Rattle.rx_grammar.specs.declared.contents.Content.TheVariants as content
 use Rattle.rx_pages.specs.Scanner as told
-use Rattle.rx_pages.proofs.Reading.{markup_is, raw_is}
-use Rattle.rx_tags.specs.TagBufs.{TagSoFar, no_tag, MayStep}
 use Rattle.rx_scan.specs.declared.marks.TokenState.TheVariants as mark
 use Rattle.rx_scan.specs.declared.marks.First.{First}
 use Rattle.rx_scan.specs.declared.marks.Move.{Move}
 use Rattle.rx_scan.specs.declared.marks.Move.TheVariants as move
 use Rattle.rx_scan.specs.Marks as marks
-use Rattle.rx_scan.specs.Pending.{Pending, first_char, PendsAs, InLessThan, InTag, InRawEnd, end_phase}
-use Rattle.rx_scan.specs.Meant.{Means}
 use Rattle.rx_scan.proofs.Snoc.{ends_one, either_way, head_of, cancel, all_at, word_at}
 use Rattle.rx_chars.specs.NcName.{is_nc_start, is_nc, is_from_to}
 use Rattle.rx_grammar.specs.declared.contents.RawName.TheVariants.{Script}

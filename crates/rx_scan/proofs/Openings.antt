@@ -1,9 +1,7 @@
 -- Behind `<!` a move says what the verdict is: by the words that may stand there, as texts.
-use Rattle.rx_pages.proofs.Common.{◌==◌, ◌&&◌, not, ◌||◌, codes, drop, cond-true, cond-false, or_from, or_left, or_right, ne_eqb, and_right, length-map, map-append, length-append, lowered_char, Chars, begins_with, lowered, split, by_test, both, untrue, not_both_ways, and-false, list_all, drop-append_seam, Syntax, Html, Xhtml, comment, has_markup, has_sections, begins_declaration, is_known_tag, meets_opening, Content, BadTag, Outside, equal, begins_append}
-use Rattle.std.proofs.Common.{◌≡◌, ◌∙◌, ℕ, ◌+◌, Bool, true, false, [], ◌∷◌, ◌++◌, refl, ap, sym, subst, Option, append_assoc, append-nil, eqb-true, cond, length, map, arith, slice_get, eq-eqb}
+use Rattle.rx_scan.proofs.Common.{◌==◌, ◌&&◌, not, ◌||◌, codes, drop, cond-true, cond-false, or_from, or_left, or_right, ne_eqb, and_right, length-map, map-append, length-append, lowered_char, Chars, begins_with, lowered, split, by_test, both, untrue, not_both_ways, and-false, list_all, drop-append_seam, Syntax, Html, Xhtml, comment, has_markup, has_sections, begins_declaration, is_known_tag, meets_opening, Content, BadTag, Outside, equal, begins_append, ◌≡◌, ◌∙◌, ℕ, ◌+◌, Bool, true, false, [], ◌∷◌, ◌++◌, refl, ap, sym, subst, Option, append_assoc, append-nil, eqb-true, cond, length, map, arith, slice_get, eq-eqb, markup_is, bogus_at, Pending, PendsAs, InOpened, InOpening, Behind, judge_of, SectionEnds, DoctypeEnds, CommentEnds, StrictEnds, Means, Goes}
+use Rattle.std.proofs.lemmas.List.{map-id}
 use Rattle.rx_pages.specs.Scanner as told
-use Rattle.rx_pages.proofs.Reading.{markup_is}
-use Rattle.rx_pages.proofs.Comments.{bogus_at}
 use Rattle.rx_scan.specs.declared.marks.Word.{Word}
 use Rattle.rx_scan.specs.declared.marks.Word.TheVariants as word
 use Rattle.rx_scan.specs.declared.marks.CommentPhase.TheVariants as comments
@@ -15,8 +13,6 @@ use Rattle.rx_scan.specs.declared.marks.TokenState.TheVariants as mark
 use Rattle.rx_scan.specs.declared.marks.Move.{Move}
 use Rattle.rx_scan.specs.declared.marks.Move.TheVariants as move
 use Rattle.rx_scan.specs.Marks as marks
-use Rattle.rx_scan.specs.Pending.{Pending, PendsAs, InOpened, InOpening, Behind, judge_of, SectionEnds, DoctypeEnds, CommentEnds, StrictEnds}
-use Rattle.rx_scan.specs.Meant.{Means, Goes}
 use Rattle.rx_scan.proofs.Snoc.{ends_one, either_way, cancel, word_at, short, all_at}
 
 -- HTML alone lowers the word of a document type
@@ -24,13 +20,9 @@ abbrev pub plain_text : Syntax → Word → Chars → Chars
 plain_text Html word.Doctype text = lowered text
 plain_text s w text = text
 
-pub map_same : (text : Chars) → map (λ (c : ℕ). c) text ≡ text
-map_same [] = refl
-map_same (c ∷ text) = ap (λ x. c ∷ x) (map_same text)
-
 pub plain_is : (s : Syntax) (w : Word) (text : Chars) → map (marks.opening_char s w) text ≡ plain_text s w text
 plain_is Html word.Doctype text = refl
-plain_is _ _ text = map_same text
+plain_is _ _ text = map-id text
 
 abbrev pub begins_word : Syntax → Word → Chars → Bool
 begins_word s w text = begins_with (marks.opening_text s w) (plain_text s w text)

@@ -1,8 +1,5 @@
 -- Plain bytes, and the plain characters that they are, also above ASCII.
-use Rattle.rx_grammar.proofs.Common.{◌≡◌, ◌∙◌, inl, inr, ℕ, ◌≤◌, Bool, true, false, List, [], ◌∷◌, refl, ap, sym, arith, encode_utf8, encode_utf8_all, length, take, drop, get_or, subst, take-add, not, ◌==◌, nat_le, ◌&&◌, ◌+◌, list_all, IsUtf8, nat_tests, list_all-append, encode_ascii, IsUtf8-append, IsUtf8-encode, is_ascii, ascii-utf8, by_test, untrue, is_well_formed, scalar_value, is_in, tail, tables_agree}
-use Rattle.std.proofs.lemmas.Bool.{and_parts, and_from, cases_lt, lt-ltb, or_parts, both_ways, leb-false, eqb-true}
-use Rattle.rx_scan.specs.Plain.{is_stop, is_plain, is_plain_ascii}
-use Rattle.rx_chars.specs.Held.{fits_second}
+use Rattle.rx_scan.proofs.Common.{◌≡◌, ◌∙◌, inl, inr, ℕ, ◌≤◌, Bool, true, false, List, [], ◌∷◌, refl, ap, sym, arith, encode_utf8, encode_utf8_all, length, take, drop, get_or, subst, take-add, not, ◌==◌, nat_le, ◌&&◌, ◌+◌, list_all, IsUtf8, nat_tests, list_all-append, encode_ascii, IsUtf8-append, IsUtf8-encode, is_ascii, ascii-utf8, by_test, untrue, is_well_formed, scalar_value, is_in, tail, tables_agree, and_parts, and_from, cases_lt, lt-ltb, or_parts, both_ways, leb-false, eqb-true, is_stop, is_plain, is_plain_ascii, fits_second, leb-true}
 use Rattle.rx_chars.proofs.Utf8Rows.{whole_two, whole_three, whole_four}
 use Rattle.rx_scan.specs.WideChars.{BeginsWide}
 
@@ -51,41 +48,17 @@ formed_text bytes h =
     subst (λ (x : List ℕ). IsUtf8 x) k.1 (IsUtf8-encode (scalar_value bytes) k.0)
 
 -- its bytes are no ASCII
-tail_high : (b : ℕ) → is_in tail b ≡ true → 128 ≤ b
-tail_high b h = grind (arith, nat_tests)
-
-second_high : (a b : ℕ) → fits_second a b ≡ true → 128 ≤ b
-second_high a b h = grind (arith, nat_tests)
-
-first_two : (a : ℕ) → is_in (0xC2, 0xDF) a ≡ true → 128 ≤ a
-first_two a h = grind (arith, nat_tests)
-
-first_three : (a : ℕ) → is_in (0xE0, 0xEF) a ≡ true → 128 ≤ a
-first_three a h = grind (arith, nat_tests)
-
-first_four : (a : ℕ) → is_in (0xF0, 0xF4) a ≡ true → 128 ≤ a
-first_four a h = grind (arith, nat_tests)
-
-plain_on : (a : ℕ) (bytes : List ℕ) → 128 ≤ a → list_all is_plain bytes ≡ true → list_all is_plain (a ∷ bytes) ≡ true
-plain_on a bytes k h = and_from (is_plain a) _ (high_plain a k) h
+high_all : (bytes : List ℕ) → list_all (nat_le 128) bytes ≡ true → list_all is_plain bytes ≡ true
+high_all = weaker (nat_le 128) is_plain (λ x h. high_plain x (leb-true 128 x h))
 
 plain_two : (a b : ℕ) → (is_in (0xC2, 0xDF) a && is_in tail b) ≡ true → list_all is_plain (a ∷ b ∷ []) ≡ true
-plain_two a b h =
-    let k = and_parts (is_in (0xC2, 0xDF) a) _ h in
-    plain_on a (b ∷ []) (first_two a k.0) (plain_on b [] (tail_high b k.1) refl)
+plain_two a b h = high_all (a ∷ b ∷ []) (grind (arith, nat_tests))
 
 plain_three : (a b c : ℕ) → (is_in (0xE0, 0xEF) a && (fits_second a b && is_in tail c)) ≡ true → list_all is_plain (a ∷ b ∷ c ∷ []) ≡ true
-plain_three a b c h =
-    let k = and_parts (is_in (0xE0, 0xEF) a) _ h in
-    let q = and_parts (fits_second a b) _ k.1 in
-    plain_on a (b ∷ c ∷ []) (first_three a k.0) (plain_on b (c ∷ []) (second_high a b q.0) (plain_on c [] (tail_high c q.1) refl))
+plain_three a b c h = high_all (a ∷ b ∷ c ∷ []) (grind (arith, nat_tests))
 
 plain_four : (a b c d : ℕ) → (is_in (0xF0, 0xF4) a && (fits_second a b && (is_in tail c && is_in tail d))) ≡ true → list_all is_plain (a ∷ b ∷ c ∷ d ∷ []) ≡ true
-plain_four a b c d h =
-    let k = and_parts (is_in (0xF0, 0xF4) a) _ h in
-    let q = and_parts (fits_second a b) _ k.1 in
-    let p = and_parts (is_in tail c) _ q.1 in
-    plain_on a (b ∷ c ∷ d ∷ []) (first_four a k.0) (plain_on b (c ∷ d ∷ []) (second_high a b q.0) (plain_on c (d ∷ []) (tail_high c p.0) (plain_on d [] (tail_high d p.1) refl)))
+plain_four a b c d h = high_all (a ∷ b ∷ c ∷ d ∷ []) (grind (arith, nat_tests))
 
 -- two, three or four bytes at the front
 pub two_begin : (bytes : List ℕ) → 2 ≤ length bytes → (is_in (0xC2, 0xDF) (get_or bytes 0 0) && is_in tail (get_or bytes 1 0)) ≡ true → BeginsWide bytes 2

@@ -1,5 +1,5 @@
 -- The turns of the loop over a piece: between tokens a byte tells text, begins a token, or is skipped.
-use Rattle.rx_pages.proofs.Common.{◌≡◌, ◌∙◌, ◌⊎◌, ℕ, ◌<◌, Bool, true, false, List, [], ◌∷◌, ◌++◌, refl, ap, sym, subst, Result, Ok, Err, inl, inr, eqb-true, arith, length, get_or, lit<, zero, suc, ◌≢◌, ◌+◌, take, Some, ◌&&◌, ◌||◌, ◌==◌, not, nat_le, if◌then◌else◌, IfOk, cond-true, cond-false, or_left, or_right, encode_ascii, Chars, split, by_test, both, either, untrue, answer_of, More, Char, Bad, carriage_return, as_line_end, is_strict_literal, character, has_references, is_text, Utf8Step, answers_from, tables_agree, Kind, StrictText, Stop, Fault}
+use Rattle.rx_scan.proofs.Common.{◌≡◌, ◌∙◌, ◌⊎◌, ℕ, ◌<◌, Bool, true, false, List, [], ◌∷◌, ◌++◌, refl, ap, sym, subst, Result, Ok, Err, inl, inr, eqb-true, arith, length, get_or, lit<, zero, suc, ◌≢◌, ◌+◌, take, Some, ◌&&◌, ◌||◌, ◌==◌, not, nat_le, if◌then◌else◌, IfOk, cond-true, cond-false, or_left, or_right, encode_ascii, Chars, split, by_test, both, either, untrue, answer_of, More, Char, Bad, carriage_return, as_line_end, is_strict_literal, character, has_references, is_text, Utf8Step, answers_from, tables_agree, Kind, StrictText, Stop, Fault, ended, Reading, is_quiet, is_tag, is_token, stopped_at, Took, Runs, MayLend, texts_of, MayStep, match_by}
 use Rattle.rx_grammar.specs.declared.stops.Stop.TheVariants as stop
 use Rattle.rx_scan.specs.declared.answers.TokenKind.{TokenKind}
 use Rattle.rx_scan.specs.declared.answers.TokenKind.TheVariants as what
@@ -10,15 +10,10 @@ use Rattle.rx_scan.specs.declared.marks.Move.TheVariants as move
 use Rattle.rx_scan.specs.KnownTags as known_tags
 use Rattle.rx_scan.specs.Marks as marks
 use Rattle.rx_scan.specs.declared.places.Position.{Position}
-use Rattle.rx_scan.specs.Places.{ended}
-use Rattle.rx_scan.specs.Scanner.{Reading}
 use Rattle.rx_scan.specs.Entries as entries
-use Rattle.rx_scan.specs.Steps.{is_quiet, is_tag, is_token, stopped_at, Took, Runs, MayLend, texts_of}
 use Rattle.rx_scan.proofs.ByteLemmas.{reads_other}
 use Rattle.rx_scan.proofs.RunLemmas.{IsApart, ReadsOn, apart, took_text, took_all, more_read, took_token, faults}
 use Rattle.rx_pages.specs.PageReader as reader
-use Rattle.rx_tags.specs.TagBufs.{MayStep}
-use Rattle.rx_tags.proofs.TakeLemmas.{match_by}
 
 -- What a byte does between tokens.
 pub data Does (l : Reading) (byte : ℕ) (answer : TokenKind) (new : Reading) : Type 0 where
@@ -108,31 +103,27 @@ module _ (l new : Reading) (byte : ℕ) (answer : TokenKind) (m : l.pending.mark
 
 -- where text is told nothing else is
 pub apart_tells : (l new : Reading) (byte : ℕ) (answer : TokenKind) → IsApart l → entries.Reads l byte (Ok answer) new → answer ≡ what.Nothing
-apart_tells l new byte answer a k = by (does l new byte answer a.mark k)
-  where
-    by : Does l byte answer new → answer ≡ what.Nothing
-    by (says e m) = e
-    by (begins e m) = e
-    by (skips (inl e) k m) = absurd (let q = sym e ∙ a.drops in cc)
-    by (skips (inr e) k m) = absurd (let q = sym e ∙ a.started in cc)
+apart_tells l new byte answer a k = elim (does l new byte answer a.mark k) [
+  | says e m ↦ e
+  | begins e m ↦ e
+  | skips o k m ↦ elim o [ inl e ↦ absurd (let q = sym e ∙ a.drops in cc) | inr e ↦ absurd (let q = sym e ∙ a.started in cc) ]
+]
 
 -- a quiet byte begins no token
 pub quiet_tells : (l new : Reading) (byte : ℕ) (answer : TokenKind) → l.pending.mark ≡ mark.Nothing → not (byte == 60 || byte == 38) ≡ true → entries.Reads l byte (Ok answer) new → new.pending.mark ≡ mark.Nothing
-quiet_tells l new byte answer n q k = by (does l new byte answer n k)
-  where
-    by : Does l byte answer new → new.pending.mark ≡ mark.Nothing
-    by (says e m) = m
-    by (begins e m) = absurd (let z = sym m ∙ untrue (byte == 60 || byte == 38) q in cc)
-    by (skips e k m) = m
+quiet_tells l new byte answer n q k = elim (does l new byte answer n k) [
+  | says e m ↦ m
+  | begins e m ↦ absurd (let z = sym m ∙ untrue (byte == 60 || byte == 38) q in cc)
+  | skips e k m ↦ m
+]
 
 -- no byte between tokens ends a tag
 pub between_tells : (l new : Reading) (byte : ℕ) (answer : TokenKind) → l.pending.mark ≡ mark.Nothing → entries.Reads l byte (Ok answer) new → is_tag answer ≡ false
-between_tells l new byte answer n k = by (does l new byte answer n k)
-  where
-    by : Does l byte answer new → is_tag answer ≡ false
-    by (says e m) = ap is_tag e
-    by (begins e m) = ap is_tag e
-    by (skips e k m) = ap is_tag k
+between_tells l new byte answer n k = elim (does l new byte answer n k) [
+  | says e m ↦ ap is_tag e
+  | begins e m ↦ ap is_tag e
+  | skips e k m ↦ ap is_tag k
+]
 
 -- and neither does what text is handed out for, before a fault or at the end of the piece
 pub stopped_tells : (text : Chars) (n : ℕ) (s : Stop) → IfOk (stopped_at text n s) (λ answer. is_tag answer.1 ≡ false)

@@ -1,12 +1,9 @@
 -- A reference that is taken at once is read like its bytes one after another.
-use Rattle.rx_reader.proofs.Common.{◌≡◌, ◌∙◌, ℕ, ◌+◌, ◌≤◌, ◌<◌, true, false, List, [], ◌∷◌, ◌++◌, length, refl, ap, sym, subst, Option, Some, Ok, append_assoc, append-nil, arith, encode_utf8_all, ◌-◌, take, ◌&&◌, ◌==◌, not, list_all, cond-true, and_parts, or_from, ne_eqb, nat_tests, list_all-append, is_ascii, Chars, ascii-same, and-false, length-append, as_line_end, meaning, values, Syntax, first_whole, run_move, take-append_seam}
+use Rattle.rx_scan.proofs.Common.{◌≡◌, ◌∙◌, ℕ, ◌+◌, ◌≤◌, ◌<◌, true, false, List, [], ◌∷◌, ◌++◌, length, refl, ap, sym, subst, Option, Some, Ok, append_assoc, append-nil, arith, encode_utf8_all, ◌-◌, take, ◌&&◌, ◌==◌, not, list_all, cond-true, and_parts, or_from, ne_eqb, nat_tests, list_all-append, is_ascii, Chars, ascii-same, and-false, length-append, as_line_end, meaning, values, Syntax, first_whole, run_move, take-append_seam, RunPhase, RunMove, no_tag, PendsAs, run_on, Buffered, said, ended, entered, Reading, IsReference, TellsReference, body_from, body_length, BeginsReference}
 use Rattle.rx_pages.specs.PageReader as reader
-use Rattle.rx_reader.specs.declared.phases.RunPhase.{RunPhase}
 use Rattle.rx_reader.specs.declared.phases.RunPhase.TheVariants as run
-use Rattle.rx_reader.specs.declared.phases.RunMove.{RunMove}
 use Rattle.rx_reader.specs.declared.phases.RunMove.TheVariants as run_moves
 use Rattle.rx_reader.proofs.Runs.{RunIs, at_ampersand, goes_on, closes}
-use Rattle.rx_tags.specs.TagBufs.{no_tag}
 use Rattle.rx_scan.specs.declared.answers.TokenKind.TheVariants as what
 use Rattle.rx_scan.specs.declared.marks.TokenState.{TokenState}
 use Rattle.rx_scan.specs.declared.marks.TokenState.TheVariants as mark
@@ -15,12 +12,7 @@ use Rattle.rx_scan.specs.declared.marks.Move.TheVariants as move
 use Rattle.rx_scan.specs.declared.places.Position.{Position}
 use Rattle.rx_scan.specs.KnownTags as known_tags
 use Rattle.rx_scan.specs.Marks as marks
-use Rattle.rx_scan.specs.Pending.{PendsAs, run_on}
-use Rattle.rx_scan.specs.Buffers.{Buffered}
 use Rattle.rx_scan.specs.Entries as entries
-use Rattle.rx_scan.specs.Places.{said, ended, entered}
-use Rattle.rx_scan.specs.Scanner.{Reading}
-use Rattle.rx_scan.specs.WholeReferences.{IsReference, TellsReference, body_from, body_length, BeginsReference}
 use Rattle.rx_scan.proofs.ByteLemmas.{other_read}
 use Rattle.rx_scan.proofs.References.{no_closes, no_stops, run_is, run_ascii}
 use Rattle.rx_scan.proofs.RunLemmas.{ReadsOn, reads_more}
@@ -56,13 +48,9 @@ within_on n p =
     λ i. record { at = e i; starts = e i; token = p.starts; started = true; after_return = false; two = p.two; last = p.last }
 
 -- the moves of characters that belong to no reference
-nul_stops : (p : RunPhase) → run_move p 0 ≡ run_moves.Stops
-nul_stops run.Plain = refl
-nul_stops _ = refl
-
-return_stops : (p : RunPhase) → run_move p 13 ≡ run_moves.Stops
-return_stops run.Plain = refl
-return_stops _ = refl
+no_move : (p : RunPhase) → (run_move p 0 ≡ run_moves.Stops) × (run_move p 13 ≡ run_moves.Stops)
+no_move run.Plain = (refl, refl)
+no_move _ = (refl, refl)
 
 is_none : (d : ℕ) (p q : RunPhase) (b : ℕ) → run_move p d ≡ run_moves.Stops → run_move p b ≡ run_moves.Goes q → (b == d) ≡ false
 is_none d p q b h e = ne_eqb b d (λ k. let z = sym h ∙ (ap (run_move p) (sym k) ∙ e) in cc)
@@ -109,7 +97,7 @@ reads_kept : (l : Reading) (n : ℕ) (p q : RunPhase) (kept : Chars) (b : ℕ) �
 reads_kept l n p q kept b room r e =
     let v : Reading = in_reference l n p kept in
     let new : Reading = in_reference l (n + 1) q (kept ++ b ∷ []) in
-    reads_alone v new b (within_alone l n p kept b room (is_none 0 p q b (nul_stops p) e) (is_none 13 p q b (return_stops p) e) (last_ascii kept b (run_ascii (goes_on b q r e))))
+    reads_alone v new b (within_alone l n p kept b room (is_none 0 p q b (no_move p).0 e) (is_none 13 p q b (no_move p).1 e) (last_ascii kept b (run_ascii (goes_on b q r e))))
     (subst (λ (x : Move). entries.Enters v b false x (Ok what.Nothing) new)
     (sym (ap (λ x. entries.judged l.setting l.place.two b (marks.in_run l.setting.inside x)) e))
     (refl, ap (λ (x : Position). entries.with_parts l l.setting x (record { mark = mark.Run q; run = kept ++ b ∷ []; tag = no_tag l.pending.tag.syntax }) l.text) (sym (within_on n l.place))))

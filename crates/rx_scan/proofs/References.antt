@@ -1,8 +1,6 @@
 -- After `&` a move says what the verdict is.
-use Rattle.rx_reader.proofs.Common.{◌≡◌, ◌∙◌, ℕ, true, false, [], ◌∷◌, ◌++◌, refl, ap, sym, subst, eqb-true, inl, inr, arith, append-nil, append_assoc, ◌==◌, ◌&&◌, not, if◌then◌else◌, list_all, nat_tests, cond-true, cond-false, and_from, ampersand, is_ascii, is_letter, is_digit, is_letter_or_digit, Chars, ascii-same, split, both, either, untrue, Syntax, is_name, is_body, is_begun, is_hexadecimal_digit, is_x, keeps_runs, kept, Content, UnknownReference, BadReference, run_move, no_meaning}
-use Rattle.rx_reader.specs.declared.phases.RunPhase.{RunPhase}
+use Rattle.rx_scan.proofs.Common.{◌≡◌, ◌∙◌, ℕ, true, false, [], ◌∷◌, ◌++◌, refl, ap, sym, subst, eqb-true, inl, inr, arith, append-nil, append_assoc, ◌==◌, ◌&&◌, not, if◌then◌else◌, list_all, nat_tests, cond-true, cond-false, and_from, ampersand, is_ascii, is_letter, is_digit, is_letter_or_digit, Chars, ascii-same, split, both, either, untrue, Syntax, is_name, is_body, is_begun, is_hexadecimal_digit, is_x, keeps_runs, kept, Content, UnknownReference, BadReference, run_move, no_meaning, RunPhase, RunMove, Pending, first_char, phase_of, InRun, run_on, Means}
 use Rattle.rx_reader.specs.declared.phases.RunPhase.TheVariants as run
-use Rattle.rx_reader.specs.declared.phases.RunMove.{RunMove}
 use Rattle.rx_reader.specs.declared.phases.RunMove.TheVariants as run_moves
 use Rattle.rx_reader.proofs.Runs.{RunIs, at_ampersand, in_name, at_hash, in_decimal, at_mark, in_hexadecimal, goes_on, closes, stops, run_begun}
 use Rattle.rx_pages.specs.Scanner as told
@@ -11,8 +9,6 @@ use Rattle.rx_scan.specs.declared.marks.TokenState.{TokenState}
 use Rattle.rx_scan.specs.declared.marks.TokenState.TheVariants as mark
 use Rattle.rx_scan.specs.declared.marks.Move.{Move}
 use Rattle.rx_scan.specs.Marks as marks
-use Rattle.rx_scan.specs.Pending.{Pending, first_char, phase_of, InRun, run_on}
-use Rattle.rx_scan.specs.Meant.{Means}
 use Rattle.rx_scan.proofs.PlainLemmas.{weaker}
 
 pub no_closes : (text : Chars) (p : RunPhase) → run_on run_moves.Closes text ≡ run_moves.Goes p → ⊥

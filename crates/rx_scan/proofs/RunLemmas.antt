@@ -1,14 +1,12 @@
 -- The bytes of a piece one after another.
-use Rattle.rx_pages.proofs.Common.{◌≡◌, ◌∙◌, ◌⊎◌, inl, inr, ℕ, ◌+◌, ◌<◌, ◌≤◌, Bool, true, false, List, [], ◌∷◌, ◌++◌, length, take, drop, refl, ap, sym, subst, Option, Some, None, Result, Ok, Err, append_assoc, arith, get_or, take_more, take-append-drop, length-append, slice_get-get_or, Chars, Syntax, Item, text_of, Fault, Limits, Stop, scan_fault}
+use Rattle.rx_scan.proofs.Common.{◌≡◌, ◌∙◌, ◌⊎◌, inl, inr, ℕ, ◌+◌, ◌<◌, ◌≤◌, Bool, true, false, List, [], ◌∷◌, ◌++◌, length, take, drop, refl, ap, sym, subst, Option, Some, None, Result, Ok, Err, append_assoc, arith, get_or, take_more, take-append-drop, length-append, slice_get-get_or, Chars, Syntax, Item, text_of, Fault, Limits, Stop, scan_fault, Reading, spot_of, ReadsAs, joined, texts_of, keeps_first, after_some, setting_after, is_nothing, is_skipped, is_token, HasMark, MarkAlone, a_mark, mark_bytes, Took, Faults, Tells}
 use Rattle.rx_pages.specs.PageReader as reader
 use Rattle.rx_grammar.specs.declared.stops.Stop.TheVariants as stop
 use Rattle.rx_scan.specs.declared.answers.TokenKind.{TokenKind}
 use Rattle.rx_scan.specs.declared.answers.TokenKind.TheVariants as what
 use Rattle.rx_scan.specs.declared.marks.TokenState.TheVariants as mark
 use Rattle.rx_scan.specs.declared.places.Setting.{Setting}
-use Rattle.rx_scan.specs.Scanner.{Reading, spot_of}
 use Rattle.rx_scan.specs.Entries as entries
-use Rattle.rx_scan.specs.Steps.{ReadsAs, joined, texts_of, keeps_first, after_some, setting_after, is_nothing, is_skipped, is_token, HasMark, MarkAlone, a_mark, mark_bytes, Took, Faults, Tells}
 use Rattle.rx_scan.proofs.EntryLemmas.{GivesOk, IsTold}
 use Rattle.rx_scan.proofs.MarkLemmas.{Earlier, none_marked, mark_snoc, mark_none, all_held, before_mark}
 use Rattle.rx_scan.proofs.ByteLemmas.{PassesMark, reads, reads_other, mark_skips}

@@ -1,5 +1,5 @@
 -- Text that is taken at once is read like its bytes one after another: plain characters, and a line end of CR and LF.
-use Rattle.rx_pages.proofs.Common.{◌≡◌, ◌∙◌, ℕ, ◌+◌, ◌≤◌, Bool, true, false, List, [], ◌∷◌, ◌++◌, length, refl, ap, sym, subst, Ok, append_assoc, append-nil, arith, encode_utf8, encode_utf8_all, ◌&&◌, ◌==◌, not, nat_le, IsScalar, list_all, all_scalars, cond-true, cond-false, and_parts, or_from, and_right, lt-leb, length-encode, len_utf8_bounds, and-false, length-append, as_line_end, answer_of, Char, More, is_strict_literal, has_references, is_text, character, Utf8Step, answer_is, tables_agree, Content, first_whole}
+use Rattle.rx_scan.proofs.Common.{◌≡◌, ◌∙◌, ℕ, ◌+◌, ◌≤◌, Bool, true, false, List, [], ◌∷◌, ◌++◌, length, refl, ap, sym, subst, Ok, append_assoc, append-nil, arith, encode_utf8, encode_utf8_all, ◌&&◌, ◌==◌, not, nat_le, IsScalar, list_all, all_scalars, cond-true, cond-false, and_parts, or_from, and_right, lt-leb, length-encode, len_utf8_bounds, and-false, length-append, as_line_end, answer_of, Char, More, is_strict_literal, has_references, is_text, character, Utf8Step, answer_is, tables_agree, Content, first_whole, Pending, has_text, said, ended, entered, is_plain, Reading, TellsLineEnd}
 use Rattle.rx_grammar.specs.declared.contents.Content.TheVariants as content
 use Rattle.rx_scan.specs.declared.marks.TokenState.{TokenState}
 use Rattle.rx_scan.specs.declared.marks.TokenState.TheVariants as mark
@@ -7,21 +7,15 @@ use Rattle.rx_scan.specs.declared.marks.Move.{Move}
 use Rattle.rx_scan.specs.declared.marks.Move.TheVariants as move
 use Rattle.rx_scan.specs.KnownTags as known_tags
 use Rattle.rx_scan.specs.Marks as marks
-use Rattle.rx_scan.specs.Pending.{Pending}
 use Rattle.rx_scan.proofs.Snoc.{either_way}
 use Rattle.rx_pages.specs.PageReader as reader
 use Rattle.rx_scan.specs.declared.answers.TokenKind.TheVariants as what
 use Rattle.rx_scan.specs.declared.places.Position.{Position}
 use Rattle.rx_scan.specs.Entries as entries
-use Rattle.rx_scan.specs.Fronts.{has_text}
-use Rattle.rx_scan.specs.Places.{said, ended, entered}
-use Rattle.rx_scan.specs.Plain.{is_plain}
-use Rattle.rx_scan.specs.Scanner.{Reading}
 use Rattle.rx_scan.proofs.ByteLemmas.{chosen, other_read, character_read}
 use Rattle.rx_scan.proofs.PlainLemmas.{is_none}
 use Rattle.rx_scan.proofs.RunLemmas.{ReadsOn, reads_more}
 use Rattle.rx_scan.specs.declared.places.Setting.{Setting}
-use Rattle.rx_scan.specs.WholeReferences.{TellsLineEnd}
 
 -- in a content that has text a plain character is text
 pub is_said : (i : Content) (c : ℕ) → has_text i ≡ true → is_plain c ≡ true → marks.of_first (marks.at_first i c) ≡ move.EmitText

@@ -1,19 +1,15 @@
 -- The table says what the verdicts are: of each mark and each character.
-use Rattle.rx_reader.proofs.Common.{◌≡◌, ◌∙◌, ℕ, false, [], ◌∷◌, ◌++◌, refl, ap, sym, append-nil, length, map, arith, add-one, ◌&&◌, ◌==◌, ◌≤◌, ◌+◌, drop, take, cond-true, cond-false, and_right, length-map, length-append, lowered_char, solidus, Chars, lowered, and-false, Syntax, same, name_of_raw, ends_name, begins, is_known_tag, is_known_after, is_known_raw, is_known_end, Content, common_steps}
+use Rattle.rx_scan.proofs.Common.{◌≡◌, ◌∙◌, ℕ, false, [], ◌∷◌, ◌++◌, refl, ap, sym, append-nil, length, map, arith, add-one, ◌&&◌, ◌==◌, ◌≤◌, ◌+◌, drop, take, cond-true, cond-false, and_right, length-map, length-append, lowered_char, solidus, Chars, lowered, and-false, Syntax, same, name_of_raw, ends_name, begins, is_known_tag, is_known_after, is_known_raw, is_known_end, Content, common_steps, TagSoFar, Pending, PendsAs, Pends, InRawEnd, Means, end_word}
 use Rattle.rx_grammar.specs.declared.contents.Content.TheVariants as content
-use Rattle.rx_tags.specs.TagBufs.{TagSoFar}
 use Rattle.rx_scan.specs.declared.marks.TokenState.{TokenState}
 use Rattle.rx_scan.specs.declared.marks.TokenState.TheVariants as mark
 use Rattle.rx_scan.specs.Marks as marks
 use Rattle.rx_scan.specs.KnownTags.{is_tag, is_tag_with, ends_word}
-use Rattle.rx_scan.specs.Pending.{Pending, PendsAs, Pends, InRawEnd}
-use Rattle.rx_scan.specs.Meant.{Means}
 use Rattle.rx_scan.proofs.Behinds.{grown, in_comment_means, in_strict_means, in_bogus_means, in_instruction_means, in_section_means, in_doctype_means}
 use Rattle.rx_scan.proofs.Snoc.{head_of, word_at}
 use Rattle.rx_scan.proofs.Openings.{in_word_means, at_opened_means, no_tag}
 use Rattle.rx_scan.proofs.Markup.{at_nothing_means, at_less_than_means, in_tag_means, in_end_means, raw_content, end_known}
 use Rattle.rx_scan.proofs.References.{in_run_means}
-use Rattle.rx_scan.specs.Marks.{end_word}
 
 module _ (s : Syntax) (i : Content) (p : Pending) (text : Chars) (c : ℕ) where
   at_mark : (m : TokenState) → p.mark ≡ m → PendsAs s i m p.run p.tag text → Means s i p text c (marks.move_of s i m c)

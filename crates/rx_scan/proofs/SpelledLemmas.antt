@@ -1,28 +1,17 @@
 -- What is scanned is what the bytes spell, in whatever content.
 use Rattle.rx_pages.proofs.Common.{◌≡◌, ◌≢◌, ◌∙◌, inl, inr, ℕ, ◌+◌, ◌-◌, ◌≤◌, ◌<◌, Bool, true, false, List, [], ◌∷◌, ◌++◌, refl, sym, ap, subst, length, append_assoc, append-nil, eqb-true, Option, Some, None, Result, Ok, Err, arith, nat_le, ◌&&◌, ◌||◌, ◌==◌, not, take, len_utf8, all_scalars, encode, encodes, length-encode, and_parts, and_from, and_right, cond-true, cond-false, leb-true, eqb-false, false_from_ne_true, or_right, leb-false, or-false, ampersand, less_than_sign, right_bracket, greater_than_sign, by_test, split, untrue, Chars, length-append, Syntax, Html, More, Char, Bad, answer_of, BeginsCharacter, IsCharacter, Answers, Entry, byte_order_mark, line_feed, carriage_return, as_line_end, Token, tag, character, doctype, values, next_of, Item, Spelled, no_more, one, Fits, AllFit, is_literal, is_strict_literal, no_section_end, has_no_nul, IsPending, is_known_tag, Utf8Step, answers_from, form_of, Content, Fault, Kind, TagTooLong, Limits, GoesOn, Verdict, goes_on, whole, ended, refused, verdict, at_first, ReadAs, at_last, at_next, values_append, item_last, item_first, pending_goes, token_of_item, IsKept, is_kept, scan_fault, Stop}
-use Rattle.rx_pages.proofs.TokensWalk.{two_lasts, kept_literal, flags_behind}
+use Rattle.rx_scan.proofs.Common.{two_lasts, kept_literal, flags_behind, Spot, Scanning, Scanned, first_of, starts_at, token_at, fault_in, holding, passed, entering, item_of, is_doctype, completed, told_first, with_item, after_token, told, read_entry, read_char, read_answer, read_byte, with_items, scan_on, scan_from, occurs, goes_more, no_nul_more, reads_each, passes, entry_at, is_started, ends_return, no_return, no_mark, ended_kept, Steps, is_of_syntax, brackets_behind, entries_at, AllInside, MayCome, AllMayCome, AllBefore, has_character, ends_in_return, Spells, IsBetween, is_over, Enters, FitsWith, IsNoToken, Refuses, page_too_long, not_utf8, nul, tag_too_long, known_too_long, decided, section_end, late_doctype, FirstFault, StepAnswers, StepsSpell, spot_of, one_unknown}
 use Rattle.rx_grammar.specs.declared.contents.Content.TheVariants as content
 use Rattle.rx_grammar.specs.Spelling as spelling
 use Rattle.rx_grammar.specs.PageFaults as faults
-use Rattle.rx_pages.specs.PageReader.{Spot, Scanning, Scanned, first_of, starts_at, token_at, fault_in, holding, passed, entering, item_of, is_doctype, completed, told_first, with_item, after_token, told, read_entry, read_char, read_answer, read_byte, with_items, scan_on, scan_from}
 use Rattle.rx_pages.proofs.Prefix.{any_next}
-use Rattle.rx_pages.proofs.Pends.{occurs}
 use Rattle.rx_pages.proofs.PendsOn.{spells_read, faulty_read, pends, unfinished}
-use Rattle.rx_pages.proofs.FrontOn.{goes_more, no_nul_more}
 use Rattle.rx_pages.proofs.KnownSpelled.{spelled_known}
-use Rattle.rx_pages.proofs.Spellings.{reads_each}
-use Rattle.rx_pages.proofs.CharSteps.{passes, entry_at}
-use Rattle.rx_pages.proofs.CharWalk.{is_started, ends_return, no_return, no_mark}
 use Rattle.rx_pages.proofs.BytesOn.{encodes_more, scalars_more, some_entered}
 use Rattle.rx_pages.proofs.Snocs.{entered_one, values_next, spelled_snoc, return_snoc, flags_snoc, sections_snoc, fit_snoc, entered_snoc, started_snoc}
-use Rattle.rx_pages.proofs.EndedRuns.{ended_kept}
-use Rattle.rx_scan.specs.Steps.{Steps, is_of_syntax}
-use Rattle.rx_scan.specs.Spelled.{brackets_behind, entries_at, AllInside, MayCome, AllMayCome, AllBefore, has_character, ends_in_return, Spells, IsBetween, is_over, Enters, FitsWith, IsNoToken, Refuses, page_too_long, not_utf8, nul, tag_too_long, known_too_long, decided, section_end, late_doctype, FirstFault, StepAnswers, StepsSpell}
 use Rattle.rx_scan.specs.Spelled as spelled
-use Rattle.rx_scan.specs.Scanner.{spot_of}
 use Rattle.rx_scan.specs.declared.answers.Token as shown
 use Rattle.rx_grammar.specs.declared.stops.Stop.TheVariants as stop
-use Rattle.rx_pages.proofs.KnownTags.{one_unknown}
 use Rattle.rx_scan.proofs.RunLemmas.{on_append}
 
 pub same_content : (s : Syntax) (i : Content) → is_of_syntax s i ≡ occurs s i
@@ -548,11 +537,8 @@ module _ (syntax : Syntax) (limits : Limits) (spot : Spot) (o : occurs syntax sp
   all_told : (bytes : List ℕ) (r : Result Scanned Fault) → IsBetween s → scan_from syntax limits spot s bytes ≡ r → Told bytes r
   all_told bytes r b h = subst (λ x. Told bytes x) h (on_bytes bytes [] (record { next = s; items = [] }) (at_start b))
 
-pub scans_so : (syntax : Syntax) (limits : Limits) (spot : Spot) (s : Scanning) (bytes : List ℕ) (scanned : Scanned) → is_of_syntax syntax spot.inside ≡ true → IsBetween s → scan_from syntax limits spot s bytes ≡ Ok scanned → Spells syntax limits spot s bytes scanned
-scans_so syntax limits spot s bytes scanned i b h = all_told syntax limits spot (sym (same_content syntax spot.inside) ∙ i) s bytes (Ok scanned) b h
-
-pub refuses_so : (syntax : Syntax) (limits : Limits) (spot : Spot) (s : Scanning) (bytes : List ℕ) (fault : Fault) → is_of_syntax syntax spot.inside ≡ true → IsBetween s → scan_from syntax limits spot s bytes ≡ Err fault → FirstFault syntax limits spot s bytes fault
-refuses_so syntax limits spot s bytes fault i b h = all_told syntax limits spot (sym (same_content syntax spot.inside) ∙ i) s bytes (Err fault) b h
+pub all_so : (syntax : Syntax) (limits : Limits) (spot : Spot) (s : Scanning) (bytes : List ℕ) (r : Result Scanned Fault) (i : is_of_syntax syntax spot.inside ≡ true) → IsBetween s → scan_from syntax limits spot s bytes ≡ r → Told syntax limits spot (sym (same_content syntax spot.inside) ∙ i) s bytes r
+all_so syntax limits spot s bytes r i b h = all_told syntax limits spot (sym (same_content syntax spot.inside) ∙ i) s bytes r b h
 
 pub steps_spell : StepsSpell
 steps_spell v new first s before piece result i b h st = by result st
@@ -566,9 +552,9 @@ steps_spell v new first s before piece result i b h st = by result st
     by (Ok r) k =
         record {
           scanned = k.scanned;
-          spells = scans_so v.reading.setting.syntax v.reading.setting.limits (spot_of v.reading) first (before ++ take r.0 piece) k.scanned i b (on (take r.0 piece) ∙ k.read);
+          spells = all_so v.reading.setting.syntax v.reading.setting.limits (spot_of v.reading) first (before ++ take r.0 piece) (Ok k.scanned) i b (on (take r.0 piece) ∙ k.read);
           are = k.are;
           stands = k.stands;
         }
-    by (Err (stop.Fault fault)) k = refuses_so v.reading.setting.syntax v.reading.setting.limits (spot_of v.reading) first (before ++ piece) fault i b (on piece ∙ k.first)
+    by (Err (stop.Fault fault)) k = all_so v.reading.setting.syntax v.reading.setting.limits (spot_of v.reading) first (before ++ piece) (Err fault) i b (on piece ∙ k.first)
     by (Err stop.NoMemory) k = tt

@@ -1,17 +1,11 @@
 -- What a reading stands for: after one more character, and where only its setting changes.
-use Rattle.rx_pages.proofs.Common.{◌≡◌, ◌∙◌, ℕ, ◌+◌, ◌-◌, Bool, true, false, List, [], ◌∷◌, ◌++◌, refl, ap, sym, subst, arith, Err, Chars, split, Entry, Syntax, Token, character, values, is_strict_literal, Content, Scanning, first_of, starts_at, entering, scan_from, read_byte, values_append, take, Fault, Stop}
+use Rattle.rx_scan.proofs.Common.{◌≡◌, ◌∙◌, ℕ, ◌+◌, ◌-◌, Bool, true, false, List, [], ◌∷◌, ◌++◌, refl, ap, sym, subst, arith, Err, Chars, split, Entry, Syntax, Token, character, values, is_strict_literal, Content, Scanning, first_of, starts_at, entering, scan_from, read_byte, values_append, take, Fault, Stop, TagSoFar, Buffered, entered, Pending, PendsAs, Reading, Scanner, spot_of, ReadsAs, ScanStands, Prepared, Took, Faults, Runs, Advances, Tells, setting_after, is_tag, inside_of}
 use Rattle.rx_grammar.specs.declared.contents.Content.TheVariants as content
-use Rattle.rx_tags.specs.TagBufs.{TagSoFar}
 use Rattle.rx_scan.specs.declared.marks.TokenState.{TokenState}
 use Rattle.rx_scan.specs.declared.marks.TokenState.TheVariants as mark
 use Rattle.rx_scan.specs.declared.places.Position.{Position}
 use Rattle.rx_scan.specs.declared.places.Setting.{Setting}
-use Rattle.rx_scan.specs.Buffers.{Buffered}
-use Rattle.rx_scan.specs.Places.{entered}
-use Rattle.rx_scan.specs.Pending.{Pending, PendsAs}
-use Rattle.rx_scan.specs.Scanner.{Reading, Scanner, spot_of}
 use Rattle.rx_scan.specs.Entries.{token_from, with_parts}
-use Rattle.rx_scan.specs.Steps.{ReadsAs, ScanStands, Prepared, Took, Faults, Runs, Advances, Tells, setting_after, is_tag, inside_of}
 use Rattle.rx_grammar.specs.declared.stops.Stop.TheVariants as stops
 use Rattle.rx_scan.specs.declared.answers.TokenKind.{TokenKind}
 

@@ -1,11 +1,8 @@
 -- A tag that is taken whole is read like its bytes one after another.
-use Rattle.rx_pages.proofs.Common.{◌≡◌, ◌∙◌, ℕ, ◌+◌, ◌-◌, ◌≤◌, ◌<◌, Bool, true, false, List, [], ◌∷◌, length, take, drop, refl, ap, sym, subst, inl, Ok, arith, get_or, length-take-le, Some, zero, suc, length-drop, list_all, not, slice_get, or_from, and-false, common_steps, as_line_end, has_markup, first_whole, Content, is_last, TagState}
-use Rattle.rx_chars.specs.Held.{is_none_held}
+use Rattle.rx_scan.proofs.Common.{◌≡◌, ◌∙◌, ℕ, ◌+◌, ◌-◌, ◌≤◌, ◌<◌, Bool, true, false, List, [], ◌∷◌, length, take, drop, refl, ap, sym, subst, inl, Ok, arith, get_or, length-take-le, Some, zero, suc, length-drop, list_all, not, slice_get, or_from, and-false, common_steps, as_line_end, has_markup, first_whole, Content, is_last, TagState, is_none_held, is_printed, GoesBy, TagSoFar, StepGives, TakesWhole, no_tag, FeedsFront, OpensTag, of_opening, in_tag, Pending, fed, Reading, ReadsAs, Took, is_quiet}
 use Rattle.rx_grammar.specs.declared.contents.Content.TheVariants as content
 use Rattle.rx_pages.specs.PageReader as reader
 use Rattle.rx_tags.specs.declared.tag_text.TagStep.TheVariants.{Done}
-use Rattle.rx_tags.specs.Fronts.{is_printed, GoesBy}
-use Rattle.rx_tags.specs.TagBufs.{TagSoFar, StepGives, TakesWhole, no_tag}
 use Rattle.rx_tags.specs.TagReads.{Ends}
 use Rattle.rx_tags.proofs.TakeLemmas.{chosen as some_taken}
 use Rattle.rx_scan.specs.declared.answers.TokenKind.TheVariants as what
@@ -16,15 +13,9 @@ use Rattle.rx_scan.specs.declared.marks.TokenState.TheVariants as mark
 use Rattle.rx_scan.specs.declared.places.Position.{Position}
 use Rattle.rx_scan.specs.declared.places.Setting.{Setting}
 use Rattle.rx_scan.specs.Entries as entries
-use Rattle.rx_scan.specs.Fronts.{FeedsFront}
 use Rattle.rx_scan.specs.KnownTags as known_tags
 use Rattle.rx_scan.specs.Marks as marks
-use Rattle.rx_scan.specs.Openings.{OpensTag, of_opening, in_tag}
-use Rattle.rx_scan.specs.Pending.{Pending}
 use Rattle.rx_scan.specs.Places as places
-use Rattle.rx_scan.specs.Places.{fed}
-use Rattle.rx_scan.specs.Scanner.{Reading}
-use Rattle.rx_scan.specs.Steps.{ReadsAs, Took, is_quiet}
 use Rattle.rx_scan.specs.WholeTags.{ReadsOpened, ReadsWholeTag}
 use Rattle.rx_scan.proofs.ByteLemmas.{character_read, within_limit}
 use Rattle.rx_scan.proofs.FrontLemmas.{front_read}

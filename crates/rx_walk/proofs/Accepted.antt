@@ -1,16 +1,10 @@
 -- What becomes of signs that are accepted.
-use Rattle.rx_eval.proofs.Common.{◌≡◌, ◌∙◌, false, List, [], ◌∷◌, ◌++◌, map, refl, sym, ap, subst, Option, Some, None, option_or, Chars, option_map, Context, facts, Refusal, refusal, is_relative, Tag, kind_of, vocabulary_from}
-use Rattle.rx_pages.proofs.Common.{Fault, Kind, StartTag}
-use Rattle.rx_names.specs.Lines as names
-use Rattle.rx_names.specs.Lines.{Kept, no_tags}
-use Rattle.rx_nest.specs.Signs.{Sign, begun, said}
-use Rattle.rx_base.specs.Lines.{line_on, line_of}
-use Rattle.rx_walk.specs.Refused.{fault_of, refused_at, refused_in}
-use Rattle.rx_walk.specs.Courses.{AllAbsolute}
+use Rattle.rx_walk.proofs.Common.{◌≡◌, ◌∙◌, false, List, [], ◌∷◌, ◌++◌, map, refl, sym, ap, subst, Option, Some, None, option_or, Chars, option_map, Context, facts, Refusal, refusal, is_relative, Tag, kind_of, vocabulary_from, Fault, Kind, StartTag, Kept, no_tags, Sign, begun, said, line_on, line_of, fault_of, refused_at, refused_in, AllAbsolute, line_append, said_line}
+use Rattle.rx_walk.specs.RefusalLaws.{refused_append}
 use Rattle.rx_walk.specs.Accepting.{Accepts}
-use Rattle.rx_walk.proofs.Signed.{refused_append, said_refused}
-use Rattle.rx_base.proofs.Lines.{line_append, said_line}
+use Rattle.rx_walk.proofs.Signed.{said_refused}
 use Rattle.rx_walk.proofs.Coursing.{or_none}
+use Rattle.rx_names.specs.Lines as names
 
 pub accepts_none : (context : Context) (kept : Kept) → kept ≡ no_tags context → names.NamesStand kept [] → Accepts context kept []
 accepts_none context kept e s = record { names_are = s; context_is = ap (λ (k : Kept). k.context) e; absolute = tt; accepted = refl }

@@ -1,8 +1,6 @@
 -- In which pieces text comes makes no difference.
-use Rattle.rx_eval.proofs.Common.{◌≡◌, ◌∙◌, Bool, true, false, List, [], ◌∷◌, ◌++◌, map, refl, sym, ap, subst, append_assoc, append-nil, if◌then◌else◌, Chars, Bnode, Owner, model, Machine, read, after-append, gathers_some, read_text, State}
-use Rattle.rx_rdfa.specs.Calls.{Call, Enter, Read, Leave, step, after}
-use Rattle.rx_walk.specs.CallsOf.{singles, singly}
-use Rattle.rx_walk.specs.Leading.{Leads, PiecesLeadAlike}
+use Rattle.rx_walk.proofs.Common.{map_then, ◌≡◌, ◌∙◌, Bool, true, false, List, [], ◌∷◌, ◌++◌, map, refl, sym, ap, subst, append_assoc, append-nil, if◌then◌else◌, Chars, Bnode, Owner, model, Machine, read, after-append, gathers_some, read_text, State, Call, Read, after, singles, singly, Leads, PiecesLeadAlike}
+use Rattle.rx_rdfa.specs.Calls.{step}
 
 -- for the machine of the rules
 
@@ -11,8 +9,7 @@ none_more [] = refl
 none_more (t ∷ texts) = λ i. append-nil t i ∷ none_more texts i
 
 both_more : (a b : Chars) (texts : List Chars) → map (λ t. t ++ b) (map (λ t. t ++ a) texts) ≡ map (λ t. t ++ (a ++ b)) texts
-both_more a b [] = refl
-both_more a b (t ∷ texts) = λ i. append_assoc t a b i ∷ both_more a b texts i
+both_more a b texts = sym (map_then (λ t. t ++ (a ++ b)) (λ t. t ++ b) (λ t. t ++ a) (λ t. sym (append_assoc t a b)) texts)
 
 abbrev with_texts : Machine Bnode Owner → List Chars → Machine Bnode Owner
 with_texts m texts = record { standings = m.standings; path = m.path; next = m.next; texts = texts; slots = m.slots; out = m.out }
@@ -23,10 +20,9 @@ after_singles base (c ∷ chars) m = after_singles base chars (read (c ∷ []) m
 
 pub pieces_alike : (base : Chars) (list : List Call) (m : Machine Bnode Owner) → after model base (singly list) m ≡ after model base list m
 pieces_alike base [] m = refl
-pieces_alike base (Enter facts ∷ list) m = pieces_alike base list (step model base (Enter facts) m)
 pieces_alike base (Read chars ∷ list) m =
     after-append model base (singles chars) (singly list) m ∙ ap (after model base (singly list)) (after_singles base chars m) ∙ pieces_alike base list (read chars m)
-pieces_alike base (Leave ∷ list) m = pieces_alike base list (step model base Leave m)
+pieces_alike base (call ∷ list) m = pieces_alike base list (step model base call m)
 
 -- for an evaluator's state
 
@@ -60,12 +56,11 @@ singles_lead (c ∷ chars) list old new h =
 
 pub pieces_lead : PiecesLeadAlike
 pieces_lead [] old new = (λ h. h, λ h. h)
-pieces_lead (Enter facts ∷ list) old new = (λ h. (h.0, h.1, (pieces_lead list h.0 new).0 h.2), λ h. (h.0, h.1, (pieces_lead list h.0 new).1 h.2))
 pieces_lead (Read chars ∷ list) old new = (
   λ h. (read_text chars old, refl, (pieces_lead list (read_text chars old) new).0 (singles_lead chars (singly list) old new h)),
   λ h. leads_singles chars (singly list) old new (subst (λ s. Leads (singly list) s new) h.1 ((pieces_lead list h.0 new).1 h.2)),
 )
-pieces_lead (Leave ∷ list) old new = (λ h. (h.0, h.1, (pieces_lead list h.0 new).0 h.2), λ h. (h.0, h.1, (pieces_lead list h.0 new).1 h.2))
+pieces_lead (call ∷ list) old new = (λ h. (h.0, h.1, (pieces_lead list h.0 new).0 h.2), λ h. (h.0, h.1, (pieces_lead list h.0 new).1 h.2))
 
 -- one after another
 pub leads_then : (xs ys : List Call) (a b c : State) → Leads xs a b → Leads ys b c → Leads (xs ++ ys) a c

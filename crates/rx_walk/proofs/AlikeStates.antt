@@ -1,10 +1,10 @@
 -- The calls decide an evaluator's state, but for how the rules for texts are written.
-use Rattle.rx_eval.proofs.Common.{◌≡◌, ◌∙◌, ℕ, Bool, true, false, List, [], ◌∷◌, ◌++◌, map, length, Option, Some, None, option_map, refl, sym, ap, ap₂, subst, subst₂, is_some, ◌==◌, IfSome, if◌then◌else◌, encode_utf8_all, and_parts, map-append, length-map, Chars, model, Call, Enter, Read, Leave, after, Facts, listed, begun, labels, Inherited, rule, value_now, value_of_text, Numbered, draw, moment, level_at, Gathers, resources_by, start_at, below_at, gathers_at, own_at, below_own_at, places_at, lists_at, Ending, ending, end_owner, TextAt, Closes, handed_on, Opens, begun_state, read_text, drawn_after, Numbering, Layer, frames_in, KeptAt, LayersStand, Phase, EvaluatorStands, no_numbers, Text, Frame, State, begun_stands}
+use Rattle.rx_walk.proofs.Common.{◌≡◌, ◌∙◌, ℕ, Bool, true, false, List, [], ◌∷◌, ◌++◌, map, length, Option, Some, None, option_map, refl, sym, ap, ap₂, subst, subst₂, is_some, ◌==◌, IfSome, if◌then◌else◌, encode_utf8_all, and_parts, map-append, length-map, Chars, model, Call, Enter, Read, Leave, after, Facts, listed, labels, Inherited, rule, value_now, value_of_text, Numbered, draw, moment, level_at, Gathers, resources_by, start_at, below_at, gathers_at, own_at, below_own_at, places_at, lists_at, Ending, ending, end_owner, TextAt, Closes, handed_on, Opens, begun_state, read_text, drawn_after, Numbering, Layer, frames_in, KeptAt, LayersStand, Phase, EvaluatorStands, no_numbers, Text, Frame, State, begun_stands, Steps, Leads}
+use Rattle.rx_rdfa.specs.Machine.{begun}
 use Rattle.rx_eval.specs.declared.places.Level.{Level}
-use Rattle.rx_eval.proofs.FillLemmas.{snoc_front, snoc_last}
-use Rattle.rx_walk.specs.Leading.{Steps, Leads}
+use Rattle.std.proofs.lemmas.List.{same_from_push}
 use Rattle.rx_walk.proofs.Making.{one_on}
-use Rattle.rx_walk.proofs.SeenStates.{SeenText, SeenFrame, SeenState, text_of, frame_of, seen, handed, handed_is, some_gathers, gathers_is, end_seen, end_is, CutSeen, cut_seen, cut_back}
+use Rattle.rx_walk.proofs.SeenStates.{SeenText, SeenFrame, SeenState, text_of, frame_of, seen, handed, handed_is, some_gathers, gathers_is, end_seen, end_is, CutSeen, cut_seen}
 use Rattle.rx_model.proofs.Copied.{of_none}
 
 -- a start tag
@@ -173,7 +173,7 @@ module _ (to : Numbering) (list : List Call) (a new : State) (c : Closes a new) 
   by_layers : (layers : List Layer) → a.frames ≡ frames_in layers → LayersStand to a.base a.kept layers → Cut c.frame.text a.kept
   by_layers [] e h = absurd (not_empty new.frames c.frame (sym c.popped ∙ e))
   by_layers (l ∷ lower) e h =
-      let same : c.frame ≡ l.frame = snoc_last new.frames (frames_in lower) c.frame l.frame (sym c.popped ∙ e) in
+      let same : c.frame ≡ l.frame = (same_from_push new.frames (frames_in lower) c.frame l.frame (sym c.popped ∙ e)).1 in
       subst (λ (f : Frame). Cut f.text a.kept) (sym same) (text_cut a.kept l.text l.frame.text h.0.marked)
 
   by_phase : (b : Bool) → Phase b to (after model a.base list begun) a → Cut c.frame.text a.kept
@@ -200,11 +200,10 @@ module _ (a b : State) (e : seen a ≡ seen b) where
 
     closes_alike : Cut c.frame.text a.kept → seen x ≡ seen y
     closes_alike cut =
-        let fronts = snoc_front (map frame_of x.frames) (map frame_of y.frames) (frame_of c.frame) (frame_of d.frame) lasts in
-        let frame = snoc_last (map frame_of x.frames) (map frame_of y.frames) (frame_of c.frame) (frame_of d.frame) lasts in
-        let there = cut_back d.frame.text b.kept cut.front cut.chars
-        (subst₂ (λ (f : SeenFrame) (k : Chars). CutSeen f.text k cut.front cut.chars) frame (ap (λ (u : SeenState). u.kept) e) (cut_seen c.frame.text a.kept cut.front cut.chars cut.is)) in
-        closes_is a x c cut.front cut.chars cut.is ∙ ((λ i. closed_by (e i) (fronts i) (frame i) cut.chars) ∙ sym (closes_is b y d cut.front cut.chars there))
+        let same = same_from_push (map frame_of x.frames) (map frame_of y.frames) (frame_of c.frame) (frame_of d.frame) lasts in
+        let there = (cut_seen d.frame.text b.kept cut.front cut.chars).1
+        (subst₂ (λ (f : SeenFrame) (k : Chars). CutSeen f.text k cut.front cut.chars) same.1 (ap (λ (u : SeenState). u.kept) e) ((cut_seen c.frame.text a.kept cut.front cut.chars).0 cut.is)) in
+        closes_is a x c cut.front cut.chars cut.is ∙ ((λ i. closed_by (e i) (same.0 i) (same.1 i) cut.chars) ∙ sym (closes_is b y d cut.front cut.chars there))
 
   one_alike : (call : Call) (to : Numbering) (list : List Call) (x y : State) → EvaluatorStands to list a → Steps call a x → Steps call b y → seen x ≡ seen y
   one_alike (Enter facts) to list x y s o p = opens_alike facts x y o.1 p.1

@@ -1,24 +1,13 @@
 -- What becomes of the course.
-use Rattle.rx_eval.proofs.Common.{◌≡◌, ◌∙◌, ℕ, suc, ◌+◌, ◌≤◌, ◌<◌, Bool, true, false, List, [], ◌∷◌, ◌++◌, map, length, refl, sym, ap, subst, subst₂, Option, Some, None, arith, length-append, option_or, is_some, option_and_then, if◌then◌else◌, codes, Context, vocab, declared_or, unless_empty, is_relative, Tag, attribute, own_vocabulary, vocabulary_from, read_tag, Call, facts, facts_seen}
-use Rattle.rx_pages.proofs.Common.{Fault, StartTag}
-use Rattle.rx_terms.specs.Text.{Chars, trimmed}
-use Rattle.rx_names.specs.Lines as names
-use Rattle.rx_names.specs.Lines.{Kept, kept_of, vocabulary_of}
+use Rattle.rx_walk.proofs.Common.{◌≡◌, ◌∙◌, ℕ, suc, ◌+◌, ◌≤◌, ◌<◌, Bool, true, false, List, [], ◌∷◌, ◌++◌, map, length, refl, sym, ap, subst, subst₂, Option, Some, None, arith, length-append, option_or, is_some, option_and_then, if◌then◌else◌, codes, Context, vocab, declared_or, unless_empty, is_relative, Tag, attribute, own_vocabulary, vocabulary_from, read_tag, Call, facts, facts_seen, Fault, StartTag, Chars, trimmed, Kept, kept_of, vocabulary_of, Sign, begun, said, IsFront, around, line_on, line_of, call_of, calls_of, singles, Seeking, seek, sought, refused_at, refused_in, Staged, MayTake, MayBe, Tells, AllAbsolute, Runs, AreFacts, line_append, seeks_append, said_line, said_seeks}
+use Rattle.rx_walk.specs.RefusalLaws.{refused_append}
 use Rattle.rx_names.proofs.LineLemmas.{vocabulary-line}
-use Rattle.rx_nest.specs.Signs.{Sign, begun, said}
-use Rattle.rx_nest.specs.Fronts.{IsFront}
 use Rattle.rx_walk.specs.declared.courses.RdfaListener.{RdfaListener}
 use Rattle.rx_walk.specs.declared.origins.Origin.{Origin}
-use Rattle.rx_base.specs.Lines.{around, line_on, line_of}
-use Rattle.rx_walk.specs.CallsOf.{call_of, calls_of, singles}
-use Rattle.rx_base.specs.Seekings.{Seeking, seek, sought}
-use Rattle.rx_walk.specs.Refused.{refused_at, refused_in}
-use Rattle.rx_walk.specs.Stages.{Staged, MayTake, MayBe, Tells}
 use Rattle.rx_curie.specs.declared.facts.Facts.{Facts as CodeFacts}
-use Rattle.rx_walk.specs.Courses.{AllAbsolute, Runs, AreFacts}
-use Rattle.rx_walk.proofs.Signed.{calls_append, refused_append, said_calls, said_refused}
-use Rattle.rx_base.proofs.Lines.{line_append, seeks_append, said_line, said_seeks}
+use Rattle.rx_walk.proofs.Signed.{calls_append, said_calls, said_refused}
 use Rattle.rx_walk.proofs.Fronting.{may_more, may_say, front_counts}
+use Rattle.rx_names.specs.Lines as names
 
 pub or_none : (o : Option Fault) → option_or o None ≡ o
 or_none None = refl

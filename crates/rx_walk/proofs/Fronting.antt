@@ -1,11 +1,5 @@
 -- What the signs of one element say of the calls for them.
-use Rattle.rx_rdfa.proofs.Common.{◌≡◌, ◌∙◌, ℕ, zero, suc, ◌≤◌, ◌<◌, Bool, true, false, List, [], ◌∷◌, ◌++◌, map, length, refl, sym, ap, subst, Option, Some, None, arith, nat_tests, nat_le, if◌then◌else◌, Chars, Context, Tag, StartTag}
-use Rattle.rx_nest.specs.Signs.{Sign, begun, said, finished}
-use Rattle.rx_nest.specs.Fronts.{Front, unbegun, inside, over, levels_of, goes, goes_on, IsFront}
-use Rattle.rx_base.specs.Lines.{line_on, line_of}
-use Rattle.rx_walk.specs.CallsOf.{call_of, calls_of, singles}
-use Rattle.rx_walk.specs.Leading.{moves, within, move_all}
-use Rattle.rx_walk.specs.Stages.{MayBe}
+use Rattle.rx_walk.proofs.Common.{◌≡◌, ◌∙◌, ℕ, zero, suc, ◌≤◌, ◌<◌, Bool, true, false, List, [], ◌∷◌, ◌++◌, map, length, refl, sym, ap, subst, Option, Some, None, arith, nat_tests, nat_le, if◌then◌else◌, Chars, Context, Tag, StartTag, Sign, begun, said, finished, Front, unbegun, inside, over, levels_of, goes, goes_on, IsFront, line_on, line_of, call_of, calls_of, singles, moves, within, move_all, MayBe}
 use Rattle.rx_walk.proofs.Moving.{none_moves, move_append, within_some}
 use Rattle.rx_walk.proofs.Signed.{calls_append, said_calls}
 
@@ -83,12 +77,11 @@ singles_stay levels n (c ∷ chars) l =
 
 after_said : (levels : ℕ) (front last : Front) (chars : Chars) → goes_on (Some front) (map said chars) ≡ Some last → levels_of last ≤ levels → move_all levels (Some front) (singles chars) ≡ Some last
 after_said levels front last [] e l = e
-after_said levels unbegun last (c ∷ chars) e l = absurd (let w : None ≡ Some last = sym (none_goes (map said chars)) ∙ e in cc)
 after_said levels (inside n) last (c ∷ chars) e l =
     let is : Some (inside n) ≡ Some last = sym (said_stays n chars) ∙ e in
     let same : inside n ≡ last = cc in
     singles_stay levels n (c ∷ chars) (subst (λ f. levels_of f ≤ levels) (sym same) l) ∙ is
-after_said levels over last (c ∷ chars) e l = absurd (let w : None ≡ Some last = sym (none_goes (map said chars)) ∙ e in cc)
+after_said levels _ last (c ∷ chars) e l = absurd (let w : None ≡ Some last = sym (none_goes (map said chars)) ∙ e in cc)
 
 module _ (context : Context) (levels : ℕ) (signs : List Sign) (m : MayBe levels (calls_of context [] signs)) where
   reached : goes_on (Some unbegun) signs ≡ Some m.front

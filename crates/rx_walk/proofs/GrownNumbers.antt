@@ -1,18 +1,11 @@
 -- A walk's numbering only grows.
-use Rattle.rx_eval.proofs.Common.{◌≡◌, ◌∙◌, ℕ, List, [], ◌∷◌, ◌++◌, refl, sym, ap, subst, subst₂, Option, Some, append-nil, Chars, base_by, base_of, root_href, Call, calls, with_facts, begun, Numbering, begun_state, State, finish_makes, tags_of}
-use Rattle.rx_pages.proofs.Common.{Syntax, start_of, Page, Tree, Limits, Progress}
-use Rattle.rx_nest.specs.Signs.{Sign, Sight, sees, nothing_seen, signs_of}
+use Rattle.rx_walk.proofs.Common.{◌≡◌, ◌∙◌, ℕ, List, [], ◌∷◌, ◌++◌, refl, sym, ap, subst, subst₂, Option, Some, append-nil, Chars, base_by, base_of, root_href, Call, calls, with_facts, Numbering, begun_state, State, tags_of, finish_makes, Syntax, start_of, Page, Tree, Sign, Sight, sees, nothing_seen, signs_of, calls_of, Leads, line_of, first_child, known, seeks, sought, Setting, Known, Walked, WalkStands, state_of, seeks_append}
+use Rattle.rx_rdfa.specs.Machine.{begun}
+use Rattle.rx_grammar.specs.declared.limits.Limits.{Limits}
+use Rattle.rx_pages.specs.PageReader.{Progress}
 use Rattle.rx_nest.proofs.TagPlaces.{shows_more}
-use Rattle.rx_eval.specs.Standing as eval
 use Rattle.rx_eval.proofs.ShownLemmas.{shows_after}
-use Rattle.rx_walk.specs.CallsOf.{calls_of}
-use Rattle.rx_walk.specs.Leading.{Leads}
-use Rattle.rx_base.specs.Lines.{line_of}
 use Rattle.rx_walk.specs.Numberings.{NumbersBy, NumbersGrow, ListIsNumbered}
-use Rattle.rx_base.specs.Seekings.{first_child, known, seeks, sought}
-use Rattle.rx_walk.specs.Settings.{Setting}
-use Rattle.rx_walk.specs.Stages.{Known}
-use Rattle.rx_walk.specs.Walks.{Walked, WalkStands, state_of}
 use Rattle.rx_walk.proofs.AlikeStates.{led_alike}
 use Rattle.rx_nest.proofs.FaultPlacing.{page_shows}
 use Rattle.rx_walk.proofs.Alike.{pieces_alike}
@@ -20,9 +13,9 @@ use Rattle.rx_base.proofs.Found.{known_stays, base_found}
 use Rattle.rx_walk.proofs.Making.{all_on, all_base}
 use Rattle.rx_walk.proofs.NumberedPages.{facts_line}
 use Rattle.rx_walk.proofs.Signed.{calls_append, calls_tree}
-use Rattle.rx_base.proofs.Lines.{seeks_append}
 use Rattle.rx_walk.proofs.StandsAlike.{stands_alike}
 use Rattle.rx_walk.proofs.Wholes.{known_at}
+use Rattle.rx_eval.specs.Standing as eval
 
 -- what leads on from the state that the first calls lead to
 record Parted (xs ys : List Call) (old new : State) : Type 0 where

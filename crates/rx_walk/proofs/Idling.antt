@@ -1,13 +1,9 @@
 -- Where no open element gathers its text a stage is idle, and text leaves it so.
-use Rattle.rx_eval.proofs.Common.{◌≡◌, ◌∙◌, ℕ, ap, false, List, [], ◌∷◌, Some, Result, Ok, Err, Chars, IsOk, OnOk, Call, Enter, Read, Leave, gathers_some, begun_state, read_text, State}
+use Rattle.rx_walk.proofs.Common.{◌≡◌, ◌∙◌, ℕ, ap, false, List, [], ◌∷◌, Some, Result, Ok, Err, Chars, IsOk, OnOk, Call, Enter, Read, Leave, gathers_some, begun_state, read_text, State, Steps, Leads, Seeking, Staged, state_of}
 use Rattle.rx_terms.specs.declared.texts.NoMemory.{NoMemory}
 use Rattle.rx_walk.specs.declared.stages.Stage.{Stage}
-use Rattle.rx_walk.specs.declared.stages.Stage.TheVariants as stage
-use Rattle.rx_walk.specs.Leading.{Steps, Leads}
-use Rattle.rx_base.specs.Seekings.{Seeking}
-use Rattle.rx_walk.specs.Stages.{Staged}
-use Rattle.rx_walk.specs.Walks.{state_of}
 use Rattle.rx_walk.specs.Quiets.{IsIdle}
+use Rattle.rx_walk.specs.declared.stages.Stage.TheVariants as stage
 
 read_idle : (chars : Chars) (old new : State) → new ≡ read_text chars old → old.out_of_memory ≡ false → gathers_some old.frames ≡ false → IsIdle (stage.Found new)
 read_idle chars old new e s g = (ap (λ (z : State). z.out_of_memory) e ∙ s, ap (λ (z : State). gathers_some z.frames) e ∙ g)

@@ -1,18 +1,11 @@
 -- When what is inherited is shown.
-use Rattle.rx_eval.proofs.Common.{◌≡◌, ◌≢◌, ◌∙◌, ℕ, true, false, List, [], ◌∷◌, length, refl, sym, ap, subst, Option, Some, None, ◌||◌, is_some, Chars, Tag, State}
-use Rattle.rx_nest.specs.Readings.{has_failed}
-use Rattle.rx_base.specs.Lines.{line_of}
-use Rattle.rx_base.specs.Seekings.{known, sought}
+use Rattle.rx_walk.proofs.Common.{◌≡◌, ◌≢◌, ◌∙◌, ℕ, true, false, List, [], ◌∷◌, length, refl, sym, ap, subst, Option, Some, None, ◌||◌, is_some, Chars, Tag, State, has_failed, line_of, known, sought, calls_of, Staged, Setting, Walked, WalkStands, HasBase, ShowsOnceKnown}
 use Rattle.rx_base.proofs.KnownOver.{knows_over_bytes}
 use Rattle.rx_eval.specs.declared.inherited.Inherited.{Inherited}
 use Rattle.rx_walk.specs.declared.stages.PendingBase.{PendingBase}
-use Rattle.rx_walk.specs.declared.stages.Stage.TheVariants as stage
-use Rattle.rx_walk.specs.CallsOf.{calls_of}
-use Rattle.rx_walk.specs.Stages.{Staged}
-use Rattle.rx_walk.specs.Settings.{Setting}
-use Rattle.rx_walk.specs.Walks.{Walked, WalkStands, HasBase, ShowsOnceKnown}
 use Rattle.rx_walk.proofs.OpenLines.{open_is}
 use Rattle.rx_walk.proofs.Wholes.{no_sought, known_at}
+use Rattle.rx_walk.specs.declared.stages.Stage.TheVariants as stage
 
 -- a walk that stands for some bytes hasn't failed
 stands_well : (setting : Setting) (address : Chars) (walk : Walked) (bytes : List ℕ) → WalkStands setting address walk bytes → has_failed walk ≡ false

@@ -1,3 +1,4 @@
+pub mod Common
 pub mod Signed
 pub mod Alike
 pub mod Moving

@@ -1,12 +1,8 @@
 -- What the calls for a page's tree make: the list of the tree.
-use Rattle.rx_eval.proofs.Common.{◌≡◌, ◌∙◌, ℕ, List, [], ◌∷◌, ◌++◌, sym, ap, subst, append_assoc, append-nil, Chars, base_of, Call, Enter, Read, Leave, calls, Facts, with_facts, Context, Nodes, Numbering, begun_state, EvaluatorStands, StandsOn, Makes, no_numbers, State, begun_stands, enter_stands, text_stands, finish_makes, tags_of}
-use Rattle.rx_grammar.specs.Trees.{Tree}
+use Rattle.rx_walk.proofs.Common.{◌≡◌, ◌∙◌, ℕ, List, [], ◌∷◌, ◌++◌, sym, ap, subst, append_assoc, append-nil, Chars, base_of, Call, Enter, Read, Leave, calls, Facts, with_facts, Context, Nodes, Numbering, begun_state, EvaluatorStands, StandsOn, Makes, no_numbers, State, tags_of, begun_stands, enter_stands, text_stands, finish_makes, Tree, singly, Steps, Leads, Lists, IsMade}
 use Rattle.rx_terms.specs.declared.triples.Triple.{Triple as CodeTriple}
 use Rattle.rx_eval.proofs.EndLemmas.{left_stands}
 use Rattle.rx_eval.proofs.NameLemmas.{grown_same, grown_then}
-use Rattle.rx_walk.specs.CallsOf.{singly}
-use Rattle.rx_walk.specs.Leading.{Steps, Leads}
-use Rattle.rx_walk.specs.Walks.{Lists, IsMade}
 use Rattle.rx_walk.proofs.Alike.{pieces_lead}
 use Rattle.rx_walk.proofs.Signed.{calls_tree}
 

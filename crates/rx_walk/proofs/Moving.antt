@@ -1,8 +1,5 @@
 -- Where calls lead, and what they need.
-use Rattle.rx_eval.proofs.Common.{◌≡◌, ◌∙◌, ℕ, zero, suc, ◌+◌, ◌≤◌, ◌<◌, Bool, true, false, List, [], ◌∷◌, ◌++◌, length, refl, sym, ap, subst, Option, Some, None, arith, length-append, append_assoc, nat_tests, ◌==◌, nat_le, if◌then◌else◌, Chars, by_test, Call, Enter, Read, Leave, Facts, Opens, begun_state, read_text, Closes, State}
-use Rattle.rx_nest.specs.Fronts.{Front, unbegun, inside, over, levels_of}
-use Rattle.rx_walk.specs.Leading.{Steps, Leads, Led, moves, within, move_all}
-use Rattle.rx_walk.specs.Stages.{MayBe, MayFollow}
+use Rattle.rx_walk.proofs.Common.{◌≡◌, ◌∙◌, ℕ, zero, suc, ◌+◌, ◌≤◌, ◌<◌, Bool, true, false, List, [], ◌∷◌, ◌++◌, length, refl, sym, ap, subst, Option, Some, None, arith, length-append, append_assoc, nat_tests, ◌==◌, nat_le, if◌then◌else◌, Chars, by_test, Call, Enter, Read, Leave, Facts, Opens, begun_state, read_text, Closes, State, Front, unbegun, inside, over, levels_of, Steps, Leads, Led, moves, within, move_all, MayBe, MayFollow}
 use Rattle.rx_walk.proofs.Alike.{leads_then}
 
 pub none_moves : (levels : ℕ) (list : List Call) → move_all levels None list ≡ None
@@ -36,12 +33,11 @@ opened levels (inside n) next facts old new at o e =
 opened levels over next facts old new at o e = absurd (cc)
 
 said_at : (levels : ℕ) (front next : Front) (chars : Chars) (old new : State) → StandsAt levels front old → new ≡ read_text chars old → moves front (Read chars) ≡ Some next → StandsAt levels next new
-said_at levels unbegun next chars old new at r e = absurd (cc)
 said_at levels (inside n) next chars old new at r e =
     let is : inside n ≡ next = cc in
     subst (λ f. StandsAt levels f new) is
     (record { frames = ap (λ (s : State). length s.frames) r ∙ at.frames; ended = ap (λ (s : State). s.ended) r ∙ at.ended; levels_are = ap (λ (s : State). s.levels) r ∙ at.levels_are })
-said_at levels over next chars old new at r e = absurd (cc)
+said_at levels _ next chars old new at r e = absurd (cc)
 
 count_none : (b : Bool) (n m : ℕ) → n ≡ m → (if n == 0 then true else b) ≡ (if m == 0 then true else b)
 count_none b n m e = ap (λ k. if k == 0 then true else b) e
@@ -50,7 +46,6 @@ not_zero : (n : ℕ) → (suc n == 0) ≡ false
 not_zero n = grind (arith, nat_tests)
 
 closed : (levels : ℕ) (front next : Front) (old new : State) → StandsAt levels front old → Closes old new → moves front Leave ≡ Some next → StandsAt levels next new
-closed levels unbegun next old new at c e = absurd (cc)
 closed levels (inside zero) next old new at c e =
     let is : over ≡ next = cc in
     let size : length old.frames ≡ length new.frames + 1 = ap length c.popped ∙ length-append new.frames (c.frame ∷ []) in
@@ -61,7 +56,7 @@ closed levels (inside (suc n)) next old new at c e =
     let size : length old.frames ≡ length new.frames + 1 = ap length c.popped ∙ length-append new.frames (c.frame ∷ []) in
     let some : length new.frames ≡ suc n = omega (arith, size, at.frames) in
     subst (λ f. StandsAt levels f new) is (record { frames = some; ended = c.ended ∙ count_none old.ended (length new.frames) (suc n) some ∙ (ap (λ b. if b then true else old.ended) (not_zero n) ∙ at.ended); levels_are = c.rest.1 ∙ at.levels_are })
-closed levels over next old new at c e = absurd (cc)
+closed levels _ next old new at c e = absurd (cc)
 
 steps_at : (levels : ℕ) (call : Call) (front next : Front) (old new : State) → StandsAt levels front old → Steps call old new → moves front call ≡ Some next → StandsAt levels next new
 steps_at levels (Enter facts) front next old new at s e = opened levels front next facts old new at s.1 e
@@ -125,9 +120,8 @@ may_enter base levels list facts state l m =
 
 -- an element may end
 leave_room : (levels : ℕ) (front last : Front) → move_all levels (Some front) (Leave ∷ []) ≡ Some last → 0 < levels_of front
-leave_room levels unbegun last e = absurd (cc)
 leave_room levels (inside n) last e = omega arith
-leave_room levels over last e = absurd (cc)
+leave_room levels _ last e = absurd (cc)
 
 pub may_leave : (base : Chars) (levels : ℕ) (list : List Call) (state : State) → Led base levels list state → MayBe levels (list ++ Leave ∷ []) → 0 < length state.frames
 may_leave base levels list state l m =

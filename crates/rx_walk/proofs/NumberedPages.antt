@@ -1,11 +1,7 @@
 -- A walk's blank nodes have numbers as the rules ask for.
-use Rattle.rx_eval.proofs.Common.{◌≡◌, ◌∙◌, suc, List, [], ◌∷◌, length, refl, sym, ap, arith, Facts, facts, Path, Context, Tag, no_numbers, begun_state, begun_stands, base_by, read_tag}
-use Rattle.rx_rdfa.specs.Calls.{Line, closed, move, line_after, no_line}
-use Rattle.rx_nest.specs.Signs.{Sign, begun, said, finished}
+use Rattle.rx_walk.proofs.Common.{◌≡◌, ◌∙◌, suc, List, [], ◌∷◌, length, refl, sym, ap, arith, Facts, facts, Path, Context, Tag, no_numbers, begun_state, base_by, read_tag, begun_stands, line_after, no_line, Sign, begun, said, finished, around, line_on, line_of, call_of, calls_of, sought}
+use Rattle.rx_rdfa.specs.Calls.{Line, closed, move}
 use Rattle.rx_eval.proofs.ShownLemmas.{shows_after}
-use Rattle.rx_base.specs.Lines.{around, line_on, line_of}
-use Rattle.rx_walk.specs.CallsOf.{call_of, calls_of}
-use Rattle.rx_base.specs.Seekings.{sought}
 use Rattle.rx_walk.specs.Numberings.{facts_along, IsNumbered}
 use Rattle.rx_walk.proofs.Making.{all_on}
 use Rattle.rx_walk.proofs.Wholes.{known_at}

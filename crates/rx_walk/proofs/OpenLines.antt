@@ -1,12 +1,9 @@
 -- The elements that the signs of a walk leave open are those that the page's tree shows, by the grammar.
-use Rattle.rx_pages.proofs.Common.{◌≡◌, ◌∙◌, ℕ, List, [], map, ap, Chars, Entry, Line, Phase, IsUnderway}
+use Rattle.rx_walk.proofs.Common.{◌≡◌, ◌∙◌, ℕ, List, [], map, ap, Chars, Entry, Line, line_of, read_tag, line_is, Setting, Walked, WalkStands}
+use Rattle.rx_grammar.specs.Begun.{Phase}
+use Rattle.rx_pages.specs.Fronts.{IsUnderway}
 use Rattle.rx_nest.specs.ShownLines.{shown_line}
 use Rattle.rx_nest.proofs.ShownLines.{shows_open_ones}
-use Rattle.rx_base.specs.Lines.{line_of}
-use Rattle.rx_rdfa.specs.Pages.{read_tag}
-use Rattle.rx_base.proofs.Lines.{line_is}
-use Rattle.rx_walk.specs.Settings.{Setting}
-use Rattle.rx_walk.specs.Walks.{Walked, WalkStands}
 
 module _ (setting : Setting) (address : Chars) (walk : Walked) (bytes : List ℕ) (s : WalkStands setting address walk bytes) where
   pub open_is : (line : Line) (phase : Phase) (run : List Entry) (part : List ℕ) → IsUnderway setting.syntax setting.limits bytes line phase run part

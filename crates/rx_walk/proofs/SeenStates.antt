@@ -1,4 +1,5 @@
 -- An evaluator's state up to how the rules for texts are written: of each such rule what it makes of a text.
+use Rattle.std.proofs.Common.{◌↔◌}
 use Rattle.rx_eval.proofs.Common.{◌≡◌, ℕ, Bool, List, [], ◌∷◌, ◌++◌, map, Option, Some, None, option_map, refl, ap, ap₂, is_some, ◌||◌, IfSome, list_any, Chars, Node, Term, Triple, Inherited, SlotId, Numbered, text_literal, Owning, fill_all, Ending, ending, end_owner, said_triples, say_text, end_frame, TextAt, gathers_some, handed_on, Text, Frame, State}
 use Rattle.rx_values.specs.Marks.{CutAt}
 
@@ -92,23 +93,15 @@ abbrev pub CutSeen : Option SeenText → Chars → Chars → Chars → Type 0
 CutSeen None kept front chars = Unit {0}
 CutSeen (Some t) kept front chars = CutAt kept t.mark front chars
 
-pub cut_seen : (t : Option Text) (kept front chars : Chars) → TextAt t kept front chars → CutSeen (option_map text_of t) kept front chars
-cut_seen None kept front chars c = c
-cut_seen (Some t) kept front chars c = c
-
-pub cut_back : (t : Option Text) (kept front chars : Chars) → CutSeen (option_map text_of t) kept front chars → TextAt t kept front chars
-cut_back None kept front chars c = c
-cut_back (Some t) kept front chars c = c
+pub cut_seen : (t : Option Text) (kept front chars : Chars) → TextAt t kept front chars ↔ CutSeen (option_map text_of t) kept front chars
+cut_seen None kept front chars = (λ c. c, λ c. c)
+cut_seen (Some t) kept front chars = (λ c. c, λ c. c)
 
 -- what holds of a text, as it is seen
 
-pub some_seen : (t : Option Text) (P : SeenText → Type 0) → IfSome t (λ x. P (text_of x)) → IfSome (option_map text_of t) P
-some_seen None P h = h
-some_seen (Some t) P h = h
-
-pub some_back : (t : Option Text) (P : SeenText → Type 0) → IfSome (option_map text_of t) P → IfSome t (λ x. P (text_of x))
-some_back None P h = h
-some_back (Some t) P h = h
+pub some_seen : (t : Option Text) (P : SeenText → Type 0) → IfSome t (λ x. P (text_of x)) ↔ IfSome (option_map text_of t) P
+some_seen None P = (λ h. h, λ h. h)
+some_seen (Some t) P = (λ h. h, λ h. h)
 
 -- the last of a list whose images are known
 pub record Unsnoc {A B : Type 0} (f : A → B) (xs : List B) (x : B) (list : List A) : Type 0 where
@@ -119,12 +112,10 @@ pub record Unsnoc {A B : Type 0} (f : A → B) (xs : List B) (x : B) (list : Lis
   pub finals : x ≡ f final
 
 pub unsnoc : {A B : Type 0} (f : A → B) (xs : List B) (x : B) (list : List A) → xs ++ x ∷ [] ≡ map f list → Unsnoc f xs x list
-unsnoc f [] x [] e = absurd (cc)
 unsnoc f [] x (a ∷ []) e = record { front = []; final = a; are = refl; fronts = refl; finals = cc }
-unsnoc f [] x (a ∷ b ∷ list) e = absurd (cc)
-unsnoc f (y ∷ xs) x [] e = absurd (cc)
 unsnoc f (y ∷ xs) x (a ∷ list) e =
     let head : y ≡ f a = cc in
     let tail : xs ++ x ∷ [] ≡ map f list = cc in
     let u = unsnoc f xs x list tail in
     record { front = a ∷ u.front; final = u.final; are = ap (λ l. a ∷ l) u.are; fronts = λ i. head i ∷ u.fronts i; finals = u.finals }
+unsnoc f _ x _ e = absurd (cc)

@@ -1,11 +1,5 @@
 -- Signs one after another, and those of a tree.
-use Rattle.rx_eval.proofs.Common.{◌≡◌, ◌∙◌, List, [], ◌∷◌, ◌++◌, map, refl, sym, ap, append_assoc, Option, None, Chars, Call, Enter, Read, Leave, calls, facts, with_facts, Context, Tag, read_tag, tags_of}
-use Rattle.rx_pages.proofs.Common.{Fault, Tree, end, element, text}
-use Rattle.rx_nest.specs.Signs.{Sign, said, finished, signs_of}
-use Rattle.rx_base.specs.Lines.{line_on, line_of}
-use Rattle.rx_walk.specs.CallsOf.{call_of, calls_of, singles, singly}
-use Rattle.rx_base.proofs.Lines.{said_line, tree_line}
-use Rattle.rx_walk.specs.Refused.{refused_in}
+use Rattle.rx_walk.proofs.Common.{◌≡◌, ◌∙◌, List, [], ◌∷◌, ◌++◌, map, refl, sym, ap, append_assoc, Option, None, Chars, Call, Enter, Read, Leave, calls, facts, with_facts, Context, Tag, read_tag, tags_of, Fault, Tree, end, element, text, Sign, said, finished, signs_of, line_on, line_of, call_of, calls_of, singles, singly, said_line, tree_line, refused_in}
 pub use Rattle.rx_walk.specs.RefusalLaws.{refused_append}
 
 pub calls_append : (context : Context) (line : List Tag) (xs ys : List Sign) → calls_of context line (xs ++ ys) ≡ calls_of context line xs ++ calls_of context (line_of line xs) ys

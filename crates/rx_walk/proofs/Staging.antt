@@ -1,18 +1,13 @@
 -- What becomes of the stage.
-use Rattle.rx_eval.proofs.Common.{◌≡◌, ◌∙◌, ℕ, ◌<◌, Bool, true, false, List, [], ◌∷◌, ◌++◌, length, refl, sym, ap, subst, Option, Some, None, zero, suc, ◌+◌, drop, get_or, slice_get, add-one, arith, append_assoc, append-nil, if◌then◌else◌, Chars, base_by, Call, Enter, Leave, Facts, begun_state, read_text, State}
+use Rattle.rx_walk.proofs.Common.{◌≡◌, ◌∙◌, ℕ, ◌<◌, Bool, true, false, List, [], ◌∷◌, ◌++◌, length, refl, sym, ap, subst, Option, Some, None, zero, suc, ◌+◌, drop, get_or, slice_get, add-one, arith, append_assoc, append-nil, if◌then◌else◌, Chars, base_by, Call, Enter, Leave, Facts, begun_state, read_text, State, singles, Seeking, known, Steps, Leads, Led, call_seen, queue_seen, MayBe, Known, MayTake, Tells, HeadGives, MayFollow, sought_seen}
 use Rattle.rx_walk.specs.declared.calls.Call.{Call as CodeCall}
-use Rattle.rx_walk.specs.declared.calls.Call.TheVariants as code
 use Rattle.rx_walk.specs.declared.origins.Origin.{Origin}
 use Rattle.rx_walk.specs.declared.stages.PendingBase.{PendingBase}
-use Rattle.rx_walk.specs.declared.stages.Stage.TheVariants as stage
-use Rattle.rx_walk.specs.CallsOf.{singles}
-use Rattle.rx_base.specs.Seekings.{Seeking, known}
-use Rattle.rx_walk.specs.Leading.{Steps, Leads, Led}
-use Rattle.rx_walk.specs.Stages.{call_seen, queue_seen, MayBe, Known, MayTake, Tells, HeadGives, MayFollow}
-use Rattle.rx_base.specs.Sought.{sought_seen}
 use Rattle.rx_walk.proofs.Alike.{leads_then, leads_singles}
 use Rattle.rx_eval.proofs.DrawLemmas.{drop_at}
 use Rattle.rx_walk.proofs.Moving.{may_enter, may_leave, follow_first, follow_rest}
+use Rattle.rx_walk.specs.declared.calls.Call.TheVariants as code
+use Rattle.rx_walk.specs.declared.stages.Stage.TheVariants as stage
 
 -- the queue
 

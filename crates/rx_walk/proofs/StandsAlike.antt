@@ -1,6 +1,6 @@
 -- What an evaluator stands for goes by what is seen of its state.
 use Rattle.rx_eval.proofs.Common.{◌≡◌, ◌∙◌, ℕ, suc, Bool, true, false, List, [], ◌∷◌, ◌++◌, map, length, Option, Some, None, option_map, refl, sym, ap, ap₂, subst, subst₂, is_some, IfSome, ◌⊎◌, map-append, Chars, rename_node, rename_term, rename, Among, Triple, Bnode, Owner, First, Of, Below, model, Call, after, end_of, below, up, value_at, begun, Path, rename_inherited, Standing, resources, SlotId, said_triples, Numbering, Number, named, Open, owner_place, FillUp, WithinOption, Layer, frames_in, path_in, paths_in, begun_by, open_in, places_of, waiter_of, gathers_text, said_of, KeptAt, LayerStands, LayersStand, Coming, Pending, AllWaitFor, Phase, EvaluatorStands, Text, Frame, State}
-use Rattle.rx_walk.proofs.SeenStates.{SeenText, SeenFrame, SeenState, text_of, frame_of, seen, some_is, some_seen, some_back, unsnoc}
+use Rattle.rx_walk.proofs.SeenStates.{SeenText, SeenFrame, SeenState, text_of, frame_of, seen, some_is, some_seen, unsnoc}
 
 abbrev said_seen : Option SeenText → Chars → List (Triple ℕ)
 said_seen None chars = []
@@ -46,8 +46,8 @@ module _ (to : Numbering) (base kept : Chars) where
     under = h.under;
     gathers = sym (some_is l.frame.text) ∙ h.gathers;
     said = λ chars. sym (ap (map (rename Number)) (said_is l.frame.text chars)) ∙ h.said chars;
-    value = some_seen l.frame.text (λ t. (chars : Chars) → rename_term Number (t.literal chars) ≡ rename_term (named to) (value_at model base l.at chars)) h.value;
-    marked = some_seen l.frame.text (λ t. KeptAt kept t.mark l.text) h.marked;
+    value = (some_seen l.frame.text (λ t. (chars : Chars) → rename_term Number (t.literal chars) ≡ rename_term (named to) (value_at model base l.at chars))).0 h.value;
+    marked = (some_seen l.frame.text (λ t. KeptAt kept t.mark l.text)).0 h.marked;
     places = subst (WithinOption (length (open_in base (l ∷ lower)))) (places_is l.frame.text) h.places;
   }
 
@@ -61,8 +61,8 @@ module _ (to : Numbering) (base kept : Chars) where
     under = h.under;
     gathers = some_is l.frame.text ∙ h.gathers;
     said = λ chars. ap (map (rename Number)) (said_is l.frame.text chars) ∙ h.said chars;
-    value = some_back l.frame.text (λ t. (chars : Chars) → rename_term Number (t.literal chars) ≡ rename_term (named to) (value_at model base l.at chars)) h.value;
-    marked = some_back l.frame.text (λ t. KeptAt kept t.mark l.text) h.marked;
+    value = (some_seen l.frame.text (λ t. (chars : Chars) → rename_term Number (t.literal chars) ≡ rename_term (named to) (value_at model base l.at chars))).1 h.value;
+    marked = (some_seen l.frame.text (λ t. KeptAt kept t.mark l.text)).1 h.marked;
     places = subst (WithinOption (length (open_in base (l ∷ lower)))) (sym (places_is l.frame.text)) h.places;
   }
 

@@ -1,10 +1,5 @@
 -- The text that is kept is that of the outermost element that gathers.
-use Rattle.rx_eval.proofs.Common.{◌≡◌, ◌∙◌, ℕ, zero, suc, ◌+◌, ◌-◌, ◌≤◌, Bool, true, false, List, [], ◌∷◌, ◌++◌, map, length, take, refl, sym, ap, subst, arith, length-append, ◌||◌, is_some, if◌then◌else◌, Chars, Context, Tag, gathers_some, begun_state, State, Frame}
-use Rattle.rx_nest.specs.Signs.{Sign, begun, said, finished}
-use Rattle.rx_base.specs.Lines.{line_on}
-use Rattle.rx_walk.specs.CallsOf.{call_of, calls_of}
-use Rattle.rx_base.specs.Seekings.{sought}
-use Rattle.rx_walk.specs.Leading.{Steps, Leads}
+use Rattle.rx_walk.proofs.Common.{by_test, length-map, ◌≡◌, ◌∙◌, ℕ, zero, suc, ◌+◌, ◌-◌, ◌≤◌, Bool, true, false, List, [], ◌∷◌, ◌++◌, map, length, take, refl, sym, ap, subst, arith, length-append, is_some, if◌then◌else◌, Chars, Context, Tag, gathers_some, begun_state, State, Frame, Sign, begun, said, finished, line_on, call_of, calls_of, sought, Steps, Leads}
 use Rattle.rx_walk.specs.KeptTexts.{texts_on, texts_of, gathered_text, KeepsOneText}
 use Rattle.rx_walk.proofs.Wholes.{known_at}
 
@@ -24,12 +19,7 @@ with_more : (frames : List Frame) (texts : List Chars) (chars : Chars) → lengt
     → (if gathers_some frames then gathered_text frames texts ++ chars else gathered_text frames texts) ≡ gathered_text frames (map (λ text. text ++ chars) texts)
 with_more [] texts chars e = refl
 with_more (f ∷ frames) [] chars e = absurd (omega (arith, e))
-with_more (f ∷ frames) (t ∷ texts) chars e = by (is_some f.text) (with_more frames texts chars (omega (arith, e)))
-  where
-    by : (b : Bool) → (if gathers_some frames then gathered_text frames texts ++ chars else gathered_text frames texts) ≡ gathered_text frames (map (λ text. text ++ chars) texts)
-        → (if b || gathers_some frames then (if b then t else gathered_text frames texts) ++ chars else (if b then t else gathered_text frames texts)) ≡ (if b then t ++ chars else gathered_text frames (map (λ text. text ++ chars) texts))
-    by true ih = refl
-    by false ih = ih
+with_more (f ∷ frames) (t ∷ texts) chars e = by_test (is_some f.text) (λ s. rw s refl) (λ n. rw n (with_more frames texts chars (omega (arith, e))))
 
 all_but : (t : Chars) (texts : List Chars) (n : ℕ) → length texts ≡ suc n → take (length (t ∷ texts) - 1) (t ∷ texts) ≡ t ∷ take (length texts - 1) texts
 all_but t texts n e = let k : length (t ∷ texts) - 1 ≡ suc (length texts - 1) = omega (arith, e) in ap (λ m. take m (t ∷ texts)) k
@@ -39,16 +29,9 @@ with_less : (frames : List Frame) (texts : List Chars) (frame : Frame) → lengt
 with_less [] texts frame e = refl
 with_less (f ∷ frames) [] frame e = absurd (omega (arith, e))
 with_less (f ∷ frames) (t ∷ texts) frame e =
-    by (is_some f.text) (with_less frames texts frame (omega (arith, e))) ∙ ap (gathered_text (f ∷ frames)) (sym (all_but t texts (length frames) (omega (arith, e))))
-  where
-    by : (b : Bool) → (if gathers_some frames then gathered_text (frames ++ frame ∷ []) texts else []) ≡ gathered_text frames (take (length texts - 1) texts)
-        → (if b || gathers_some frames then (if b then t else gathered_text (frames ++ frame ∷ []) texts) else []) ≡ (if b then t else gathered_text frames (take (length texts - 1) texts))
-    by true ih = refl
-    by false ih = ih
-
-same_many : (texts : List Chars) (chars : Chars) → length (map (λ text. text ++ chars) texts) ≡ length texts
-same_many [] chars = refl
-same_many (t ∷ texts) chars = ap suc (same_many texts chars)
+    let here : (if gathers_some (f ∷ frames) then gathered_text (f ∷ frames ++ frame ∷ []) (t ∷ texts) else []) ≡ gathered_text (f ∷ frames) (t ∷ take (length texts - 1) texts) =
+    by_test (is_some f.text) (λ s. rw s refl) (λ n. rw n (with_less frames texts frame (omega (arith, e)))) in
+    here ∙ ap (gathered_text (f ∷ frames)) (sym (all_but t texts (length frames) (omega (arith, e))))
 
 fewer : (n : ℕ) (texts : List Chars) → n ≤ length texts → length (take n texts) ≡ n
 fewer zero texts l = refl
@@ -71,7 +54,7 @@ one_kept context line texts (begun t) old new s k =
 one_kept context line texts (said c) old new s k =
     let same : new.frames ≡ old.frames = ap (λ (z : State). z.frames) s in
     record {
-      many = ap length same ∙ (k.many ∙ sym (same_many texts (c ∷ [])));
+      many = ap length same ∙ (k.many ∙ sym (length-map texts (λ text. text ++ c ∷ [])));
       kept =
           ap (λ (z : State). z.kept) s ∙ (ap (λ x. if gathers_some old.frames then x ++ c ∷ [] else x) k.kept
           ∙ (with_more old.frames texts (c ∷ []) k.many ∙ ap (λ fs. gathered_text fs (map (λ text. text ++ c ∷ []) texts)) (sym same)));

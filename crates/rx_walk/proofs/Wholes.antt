@@ -1,31 +1,18 @@
 -- What a walk knows of its page.
-use Rattle.rx_eval.proofs.Common.{◌≡◌, ◌∙◌, ℕ, false, List, [], ◌∷◌, ◌++◌, length, sym, ap, subst, Option, Some, Chars, triples_seen, base_by, root_href, Call, Context, begun_state, State, tags_of}
-use Rattle.rx_pages.proofs.Common.{start_of, StartTag, Tree, end, element}
+use Rattle.rx_walk.proofs.Common.{◌≡◌, ◌∙◌, ℕ, false, List, [], ◌∷◌, ◌++◌, length, sym, ap, subst, Option, Some, Chars, triples_seen, base_by, root_href, Call, Context, begun_state, State, tags_of, start_of, StartTag, Tree, end, element, Sign, finished, signs_of, Whole, line_of, calls_of, Seeking, known, sought, Led, Known, Staged, sought_seen, Runs, runs_at, way_at, Setting, way_of, Walked, WalkStands, OverOpen, state_of, FramesFit, Lists, IsWhole, Ended, tree_line}
 use Rattle.rx_terms.specs.declared.triples.Triple.{Triple as CodeTriple}
-use Rattle.rx_nest.specs.Signs.{Sign, finished, signs_of}
-use Rattle.rx_nest.specs.Readings.{Whole}
 use Rattle.rx_walk.specs.declared.courses.RdfaListener.{RdfaListener}
 use Rattle.rx_walk.specs.declared.stages.PendingBase.{PendingBase}
 use Rattle.rx_walk.specs.declared.stages.Stage.{Stage}
-use Rattle.rx_walk.specs.declared.stages.Stage.TheVariants as stage
 use Rattle.rx_base.specs.declared.seeking.Sought.{Sought}
-use Rattle.rx_base.specs.declared.seeking.Sought.TheVariants as looks
-use Rattle.rx_base.specs.Lines.{line_of}
-use Rattle.rx_walk.specs.CallsOf.{calls_of}
-use Rattle.rx_base.specs.Seekings.{Seeking, known, sought}
-use Rattle.rx_walk.specs.Leading.{Led}
-use Rattle.rx_walk.specs.Stages.{Known, Staged}
-use Rattle.rx_base.specs.Sought.{sought_seen}
-use Rattle.rx_walk.specs.Courses.{Runs, runs_at, way_at}
-use Rattle.rx_walk.specs.Settings.{Setting, way_of}
 use Rattle.rx_walk.proofs.Making.{list_made}
-use Rattle.rx_walk.specs.Walks.{Walked, WalkStands, OverOpen, state_of, FramesFit, Lists, IsWhole, Ended}
-use Rattle.rx_base.proofs.Lines.{tree_line}
 use Rattle.rx_base.proofs.Found.{base_found}
 use Rattle.rx_walk.proofs.Idling.{all_unspent}
 use Rattle.rx_walk.proofs.Moving.{led_at, is_ended}
 use Rattle.rx_walk.proofs.OpenLines.{open_is}
 use Rattle.rx_walk.proofs.Fronting.{may_counts, root_ended}
+use Rattle.rx_walk.specs.declared.stages.Stage.TheVariants as stage
+use Rattle.rx_base.specs.declared.seeking.Sought.TheVariants as looks
 
 pub known_at : (address : Chars) (levels : ℕ) (seeking : Seeking) (list : List Call) (x : Stage) (state : State) → Staged address levels seeking list x → state_of x ≡ Some state → Known address levels seeking list state
 known_at address levels seeking list (stage.Seeking head) state s e = absurd (cc)

@@ -1,5 +1,4 @@
-use Rattle.rx_model.proofs.Copied.{copies_patterns}
-use Rattle.rx_rdfa.specs.Blanks.{same_bnode}
+use Rattle.rx_rdfa.proofs.Common.{copies_patterns, same_bnode}
 use Rattle.rx_rdfa.proofs.Exact.{exact_bnodes}
 use Rattle.rx_rdfa.proofs.copying_follows_patterns.Goals as goal
 

@@ -1,5 +1,4 @@
-use Rattle.rx_model.proofs.Numbered.{numbers_one_to_one}
-use Rattle.rx_rdfa.specs.Blanks.{same_bnode}
+use Rattle.rx_rdfa.proofs.Common.{numbers_one_to_one, same_bnode}
 use Rattle.rx_rdfa.proofs.Exact.{exact_bnodes}
 use Rattle.rx_rdfa.proofs.numbering_renames.Goals as goal
 

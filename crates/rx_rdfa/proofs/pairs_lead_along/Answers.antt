@@ -1,6 +1,5 @@
-use Rattle.rx_model.proofs.Common.{same_node, exact_nodes}
+use Rattle.rx_rdfa.proofs.Common.{same_node, exact_nodes, same_bnode}
 use Rattle.rx_model.proofs.Leads.{leads_along}
-use Rattle.rx_rdfa.specs.Blanks.{same_bnode}
 use Rattle.rx_rdfa.proofs.Exact.{exact_bnodes}
 use Rattle.rx_rdfa.proofs.pairs_lead_along.Goals as goal
 

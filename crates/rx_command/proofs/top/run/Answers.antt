@@ -1,4 +1,4 @@
-use Rattle.rx_command.proofs.Common.{◌∙◌, subst, sym, ap, refl, Some, Err, is_some, page_by, WhereKnown, job, reads, page_in, gathering_in, TakesContext, context_in, TakesJob, StopsCleanly}
+use Rattle.rx_command.proofs.Common.{rules, ◌∙◌, subst, sym, ap, refl, Some, Err, is_some, page_by, WhereKnown, job, reads, page_in, gathering_in, TakesContext, context_in, TakesJob, StopsCleanly}
 use Rattle.rx_command.proofs.RunLemmas.{took_nothing, few_asked, sample_nothing, read_cause, reads_all, sample_reads_all, to_fault}
 use Rattle.rx_command.proofs.SeveralLemmas.{SeveralSays, several_says}
 use Rattle.rx_command.proofs.EndingLemmas.{unused, untouched, says_line, without_text, ends_usage, ends_memory, ends_sample, ends_several, ends_done, ends_partly, ends_failed, ends_bad, ends_refused}
@@ -35,13 +35,35 @@ returns-in-Sample-clause-ends g c = record {
   whole = λ is. sample_reads_all c.args.words.now c.in-Sample.count _ (c.in-Ok.ensures ∙ ap Some c.in-Sample.ensures);
 }
 
-pub returns-in-Several-clause-ends : goal.returns-in-Several-clause-ends
-returns-in-Several-clause-ends g c = record {
-  gives = λ shelf tells.
-      ends_several c.args.words.now _ _ shelf tells _ (c.in-Ok.ensures ∙ ap Some c.in-Several.ensures) c.run_several-status.result c.run_several-status.ensures.ends;
-  reads = (said g (goal.at.returns-in-Several-clause-ends g c).After-run_several-status).reads;
-  whole = (said g (goal.at.returns-in-Several-clause-ends g c).After-run_several-status).whole;
-}
+pub returns-in-Several : goal.returns-in-Several
+returns-in-Several g c =
+    let s = said g (goal.at.returns-in-Several g c).After-run_several-status in
+    record {
+      ends = record {
+        gives = λ shelf tells. ends_several c.args.words.now _ _ shelf tells _ (c.in-Ok.ensures ∙ ap Some c.in-Several.ensures) c.run_several-status.result c.run_several-status.ensures.ends;
+        reads = s.reads;
+        whole = s.whole;
+      };
+      reads_on = search rules;
+      writes_on = search rules;
+      usage = λ is. absurd (s.no_usage is);
+      only_usage = λ none. absurd (s.asks none);
+      untouched = λ is. absurd (s.no_usage is);
+      refuses_one = λ fault is. absurd (s.no_refusal fault is);
+      names_context = s.names_context;
+      read_fault = λ is. read_cause c.args.words.now _ _ _ _ refl s.files (s.failed is);
+      write_fault = s.write_fault;
+      nothing_written = s.unwritten;
+      says_usage = λ is. absurd (s.no_usage is);
+      says_refused = λ fault is. absurd (s.no_refusal fault is);
+      says_context = s.says_context;
+      says_nothing = λ u b r. s.says_nothing b;
+      sample = λ count is. absurd (s.no_sample count is);
+      sample_reads = λ count is. absurd (s.no_sample count is);
+      refused_takes = λ fault is. absurd (s.no_refusal fault is);
+      cleanly = λ is. s.cleanly;
+      takes_context = s.takes_context;
+    }
 
 pub returns-in-Ok-write-clause-ends : goal.returns-in-Ok-write-clause-ends
 returns-in-Ok-write-clause-ends g c = record {
@@ -103,57 +125,6 @@ run_sample-requires g c = few_asked c.args.words.now c.in-Sample.count (c.in-Ok.
 
 pub returns-in-Sample-clause-nothing_written : goal.returns-in-Sample-clause-nothing_written
 returns-in-Sample-clause-nothing_written g c = λ d w. sample_nothing c.in-Sample.count c.run_sample.result _ _ _ _ c.run_sample.ensures.ends d w
-
-pub returns-in-Several-clause-usage : goal.returns-in-Several-clause-usage
-returns-in-Several-clause-usage g c = λ is. absurd ((said g (goal.at.returns-in-Several-clause-usage g c).After-run_several-status).no_usage is)
-
-pub returns-in-Several-clause-only_usage : goal.returns-in-Several-clause-only_usage
-returns-in-Several-clause-only_usage g c = λ none. absurd ((said g (goal.at.returns-in-Several-clause-only_usage g c).After-run_several-status).asks none)
-
-pub returns-in-Several-clause-untouched : goal.returns-in-Several-clause-untouched
-returns-in-Several-clause-untouched g c = λ is. absurd ((said g (goal.at.returns-in-Several-clause-untouched g c).After-run_several-status).no_usage is)
-
-pub returns-in-Several-clause-refuses_one : goal.returns-in-Several-clause-refuses_one
-returns-in-Several-clause-refuses_one g c = λ fault is. absurd ((said g (goal.at.returns-in-Several-clause-refuses_one g c).After-run_several-status).no_refusal fault is)
-
-pub returns-in-Several-clause-refused_takes : goal.returns-in-Several-clause-refused_takes
-returns-in-Several-clause-refused_takes g c = λ fault is. absurd ((said g (goal.at.returns-in-Several-clause-refused_takes g c).After-run_several-status).no_refusal fault is)
-
-pub returns-in-Several-clause-read_fault : goal.returns-in-Several-clause-read_fault
-returns-in-Several-clause-read_fault g c = λ is. let r = (said g (goal.at.returns-in-Several-clause-read_fault g c).After-run_several-status) in read_cause c.args.words.now _ _ _ _ refl r.files (r.failed is)
-
-pub returns-in-Several-clause-cleanly : goal.returns-in-Several-clause-cleanly
-returns-in-Several-clause-cleanly g c = λ is. (said g (goal.at.returns-in-Several-clause-cleanly g c).After-run_several-status).cleanly
-
-pub returns-in-Several-clause-write_fault : goal.returns-in-Several-clause-write_fault
-returns-in-Several-clause-write_fault g c = (said g (goal.at.returns-in-Several-clause-write_fault g c).After-run_several-status).write_fault
-
-pub returns-in-Several-clause-nothing_written : goal.returns-in-Several-clause-nothing_written
-returns-in-Several-clause-nothing_written g c = (said g (goal.at.returns-in-Several-clause-nothing_written g c).After-run_several-status).unwritten
-
-pub returns-in-Several-clause-names_context : goal.returns-in-Several-clause-names_context
-returns-in-Several-clause-names_context g c = (said g (goal.at.returns-in-Several-clause-names_context g c).After-run_several-status).names_context
-
-pub returns-in-Several-clause-takes_context : goal.returns-in-Several-clause-takes_context
-returns-in-Several-clause-takes_context g c = (said g (goal.at.returns-in-Several-clause-takes_context g c).After-run_several-status).takes_context
-
-pub returns-in-Several-clause-says_usage : goal.returns-in-Several-clause-says_usage
-returns-in-Several-clause-says_usage g c = λ is. absurd ((said g (goal.at.returns-in-Several-clause-says_usage g c).After-run_several-status).no_usage is)
-
-pub returns-in-Several-clause-says_refused : goal.returns-in-Several-clause-says_refused
-returns-in-Several-clause-says_refused g c = λ fault is. absurd ((said g (goal.at.returns-in-Several-clause-says_refused g c).After-run_several-status).no_refusal fault is)
-
-pub returns-in-Several-clause-says_context : goal.returns-in-Several-clause-says_context
-returns-in-Several-clause-says_context g c = (said g (goal.at.returns-in-Several-clause-says_context g c).After-run_several-status).says_context
-
-pub returns-in-Several-clause-says_nothing : goal.returns-in-Several-clause-says_nothing
-returns-in-Several-clause-says_nothing g c = λ u b r. (said g (goal.at.returns-in-Several-clause-says_nothing g c).After-run_several-status).says_nothing b
-
-pub returns-in-Several-clause-sample : goal.returns-in-Several-clause-sample
-returns-in-Several-clause-sample g c = λ count is. absurd ((said g (goal.at.returns-in-Several-clause-sample g c).After-run_several-status).no_sample count is)
-
-pub returns-in-Several-clause-sample_reads : goal.returns-in-Several-clause-sample_reads
-returns-in-Several-clause-sample_reads g c = λ count is. absurd ((said g (goal.at.returns-in-Several-clause-sample_reads g c).After-run_several-status).no_sample count is)
 
 pub returns-in-Ok-line_of-clause-refuses_one : goal.returns-in-Ok-line_of-clause-refuses_one
 returns-in-Ok-line_of-clause-refuses_one g c = λ fault is. ap gathering_in (c.in-Ok.ensures ∙ ap Some c.in-Page.ensures.asks)

@@ -1,7 +1,8 @@
-use Rattle.rx_items.proofs.Common.{◌∙◌, ℕ, suc, List, ◌∷◌, ap, sym, subst, Contains, ◌↔◌, arith, visits_from, is_item, names_of, properties_in, is_there, gathered, HasFault, NoFault, steps_in, visits_in, again}
+use Rattle.rx_items.proofs.Common.{◌∙◌, ℕ, suc, List, ◌∷◌, ap, sym, subst, Contains, ◌↔◌, arith, visits_from, is_item, names_of, properties_in, is_there, gathered, HasFault, NoFault, Placed, steps_of, steps_in, visits_in, again}
 use Rattle.rx_items.proofs.HoldLemmas.{is_element, list_is, all_stand, place_is}
 use Rattle.rx_items.proofs.VisitLemmas.{at_path, no_element, row_at, list_end, told, enter_err, enter_ok, group_err, group_ok}
-use Rattle.rx_items.proofs.PassLemmas.{times_err, times_on, times_end, counted, item_passed, plain_passed, each_stop, each_more, each_end}
+use Rattle.rx_items.proofs.FoundLemmas.{one_none}
+use Rattle.rx_items.proofs.PassLemmas.{times_err, times_on, times_end, counted, item_passed, plain_passed, each_stop, each_end}
 use Rattle.rx_items.proofs.faults.+pass.Goals as goal
 
 pub pass-returns-in_err-enter-clause-finds : goal.pass-returns-in_err-enter-clause-finds
@@ -58,7 +59,7 @@ pass_each-loop-place-preserved t c =
       did = λ rows base above left es at is stand.
           let r = row_at rows es c.args.list.now l.place-index is stand c.loop-place-test.true in
           let passed = c.in_ok-pass_property.ensures.finds rows base above left r.row (at_path l.trail.path.items l.invariant.path at) r.row_is in
-          each_more rows base above left c.args.trail.now.visits l.trail.visits c.pass_property.new.trail.visits es l.place-index r.row r.within r.is (l.invariant.did rows base above left es at is stand) passed.0;
+          one_none (λ (e : Placed). visits_in rows base above left (steps_of e)) es l.place-index r.row r.within r.is c.args.trail.now.visits l.trail.visits c.pass_property.new.trail.visits (l.invariant.did rows base above left es at is stand) passed.0;
     }
 
 pub pass_each-returns-clause-finds : goal.pass_each-returns-clause-finds

@@ -1,4 +1,4 @@
-use Rattle.rx_items.proofs.Common.{◌≡◌, ◌+◌, ◌-◌, ◌*◌, ◌≤◌, ℕ, List, suc, take, length, Some, true, Chars, slice_get, Placed, is_item, Visit, visits_from, properties_in, IsElement, AllStand, places, At, NoFault, again, steps_in, visits_in}
+use Rattle.rx_items.proofs.Common.{◌≡◌, ◌+◌, ◌-◌, ◌*◌, ◌≤◌, ℕ, List, suc, take, length, Some, true, Chars, slice_get, Placed, is_item, Visit, visits_from, properties_in, IsElement, AllStand, places, At, NoFault, again, flat_map, steps_of, visits_in}
 use Rattle.rx_items.proofs.faults.+pass.Given as goal
 
 abbrev pub decreases-pass : goal.decreases-pass
@@ -23,7 +23,7 @@ abbrev pub invariant-pass_each-loop-place : goal.invariant-pass_each-loop-place
 invariant-pass_each-loop-place l = record {
   path : l.trail.path.items ≡ l.initial.trail.path.items;
   did : (rows : List Placed) (base : Chars) (above : Visit) (left : ℕ) (es : List Placed) → At l.kept rows base l.initial.trail.path.items above left → l.list ≡ places es → AllStand rows es
-      → NoFault l.initial.trail.visits (visits_in rows base above left (steps_in (take l.place-index es))) l.trail.visits;
+      → NoFault l.initial.trail.visits (flat_map (λ (e : Placed). visits_in rows base above left (steps_of e)) (take l.place-index es)) l.trail.visits;
 }
 
 abbrev pub invariant-pass_times-loop : goal.invariant-pass_times-loop

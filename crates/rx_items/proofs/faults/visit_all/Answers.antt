@@ -1,7 +1,8 @@
-use Rattle.rx_items.proofs.Common.{◌∙◌, ◌<◌, ◌≤◌, ℕ, List, length, ap, subst, VisitsGive}
+use Rattle.rx_items.proofs.Common.{◌∙◌, ◌<◌, ◌≤◌, ℕ, List, length, ap, subst, VisitsGive, top_visits}
 use Rattle.rx_items.specs.declared.rows.Row.{Row}
 use Rattle.rx_items.proofs.VisitLemmas.{err_told}
-use Rattle.rx_items.proofs.PageLemmas.{as_long, row_there, tops_err, visited_on, visited_end}
+use Rattle.rx_items.proofs.FoundLemmas.{one_none}
+use Rattle.rx_items.proofs.PageLemmas.{as_long, row_there, tops_err, visited_end}
 use Rattle.rx_items.proofs.faults.visit_all.Goals as goal
 
 pub returns-in_err-pass_top : goal.returns-in_err-pass_top
@@ -21,7 +22,7 @@ loop-place-preserved c =
           let lt = subst (λ (n : ℕ). l.place < n) (ap (λ (l : List Row). length l) c.as_slice-place-end.ensures.value ∙ as_long c.args.kept.now rows base holds) c.loop-place-test.true in
           let r = row_there rows l.place lt in
           let done = c.in_ok-pass_top.ensures.finds rows base r.row holds l.invariant.path r.row_is in
-          visited_on rows base l.place l.trail.visits c.pass_top.new.trail.visits r.row lt r.is (l.invariant.did rows base holds) done.0;
+          one_none (top_visits rows base) rows l.place r.row lt r.is 0 l.trail.visits c.pass_top.new.trail.visits (l.invariant.did rows base holds) done.0;
     }
 
 pub returns : goal.returns

@@ -1,4 +1,4 @@
-use Rattle.rx_items.proofs.Common.{List, None, sym, subst, length, rows_of, ShowsRows, AllFit}
+use Rattle.rx_items.proofs.Common.{List, sym, subst, length, rows_of, ShowsRows, AllFit}
 use Rattle.rx_items.specs.declared.rows.Row.{Row}
 use Rattle.rx_items.proofs.NestLemmas.{numbered}
 use Rattle.rx_items.proofs.keeping.kept_of.Goals as goal
@@ -11,6 +11,6 @@ returns c tree shows =
     record {
       shown = shows;
       base_is = c.of.ensures;
-      numbered = numbered tree None 0;
+      numbered = numbered tree;
       extras = subst (λ (rows : List Row). AllFit page.words (rows_of tree) c.in_ok-parts.parts.members.items rows (length rows) c.in_ok-parts.parts.extras.items) c.as_slice.ensures.value fit;
     }

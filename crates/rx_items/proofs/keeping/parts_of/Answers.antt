@@ -1,4 +1,4 @@
-use Rattle.rx_items.proofs.Common.{None, subst, ◌≤◌, ℕ, rows_of, Sorted}
+use Rattle.rx_items.proofs.Common.{subst, ◌≤◌, ℕ, rows_of, Sorted}
 use Rattle.rx_items.proofs.AroundLemmas.{lies}
 use Rattle.rx_items.proofs.NestLemmas.{numbered}
 use Rattle.rx_items.proofs.keeping.parts_of.Goals as goal
@@ -13,4 +13,4 @@ returns c text times tree shows =
       small = subst (λ (n : ℕ). n ≤ 18446744073709551615) (shows_length c.args.words.now text times c.args.rows.now ps shows) c.in_ok-members.ensures.small;
     } in
     let extras = rw c.as_slice.ensures.value at c.in_ok-extras.ensures in
-    extras text times tree sorted c.in_ok-members.ensures.rises (c.in_ok-ids.ensures text times ps shows (numbered tree None 0))
+    extras text times tree sorted c.in_ok-members.ensures.rises (c.in_ok-ids.ensures text times ps shows (numbered tree))

@@ -1,5 +1,4 @@
-use Rattle.rx_terms.proofs.Common.{◌∙◌, ap, sym, chars, Chars}
-use Rattle.rx_rdfa.specs.Names.{counts}
+use Rattle.rx_names.proofs.Common.{◌∙◌, ap, sym, chars, Chars, counts}
 use Rattle.rx_names.proofs.DeclarationLemmas.{sound-mapping}
 use Rattle.rx_names.proofs.declarations.push_mapping.Goals as goal
 

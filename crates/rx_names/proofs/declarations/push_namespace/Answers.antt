@@ -1,5 +1,4 @@
-use Rattle.rx_terms.proofs.Common.{◌∙◌, ap, sym, List, ◌++◌, chars}
-use Rattle.std.proofs.lemmas.List.{append-nil}
+use Rattle.rx_names.proofs.Common.{◌∙◌, ap, sym, List, ◌++◌, chars, append-nil}
 use Rattle.rx_names.specs.declared.rows.Declaration.{Declaration}
 use Rattle.rx_names.proofs.DeclarationLemmas.{becomes, one-namespace, no-namespace}
 use Rattle.rx_names.proofs.declarations.push_namespace.Goals as goal

@@ -1,5 +1,4 @@
-use Rattle.rx_terms.proofs.Common.{◌<◌, length, arith, chars, get_or_from_slice_get, Chars}
-use Rattle.rx_names.specs.Tags.{tag_of}
+use Rattle.rx_names.proofs.Common.{◌<◌, length, arith, chars, get_or_from_slice_get, Chars, tag_of}
 use Rattle.rx_names.proofs.DeclarationLemmas.{more-namespaces}
 use Rattle.rx_names.proofs.declarations.push_namespaces.Goals as goal
 

@@ -1,8 +1,4 @@
-use Rattle.std.proofs.Common.{◌≡◌, ◌++◌, take}
-use Rattle.std.specs.List.{flat_map}
-use Rattle.rx_rdfa.specs.Names.{xmlns_of}
-use Rattle.rx_names.specs.Tags.{tag_of}
-use Rattle.rx_names.specs.Rows.{mapping_rows}
+use Rattle.rx_names.proofs.Common.{◌≡◌, ◌++◌, take, flat_map, xmlns_of, tag_of, mapping_rows}
 use Rattle.rx_names.proofs.declarations.push_namespaces.Given as goal
 
 abbrev pub invariant-loop-i : goal.invariant-loop-i

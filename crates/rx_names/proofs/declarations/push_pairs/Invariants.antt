@@ -1,6 +1,4 @@
-use Rattle.rx_terms.proofs.Common.{◌≡◌, ◌++◌, length, chars, tokens, seen_slice, Utf8, shadow}
-use Rattle.rx_rdfa.specs.Names.{pairs, pairs_after}
-use Rattle.rx_names.specs.Rows.{mapping_rows}
+use Rattle.rx_names.proofs.Common.{◌≡◌, ◌++◌, length, chars, tokens, seen_slice, Utf8, shadow, pairs, pairs_after, mapping_rows}
 use Rattle.rx_names.proofs.declarations.push_pairs.Given as goal
 
 abbrev pub invariant-loop-token : goal.invariant-loop-token

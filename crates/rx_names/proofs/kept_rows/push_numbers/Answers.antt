@@ -1,5 +1,4 @@
-use Rattle.rx_model.proofs.Common.{◌≡◌, ap, sym, ◌∙◌, take, map, rules, take_at}
-use Rattle.rx_names.specs.Numbers.{row_number}
+use Rattle.rx_names.proofs.Common.{◌≡◌, ap, sym, ◌∙◌, take, map, rules, take_at, row_number}
 use Rattle.rx_names.proofs.kept_rows.push_numbers.Goals as goal
 
 pub returns-then-is_err-clause-err : goal.returns-then-is_err-clause-err

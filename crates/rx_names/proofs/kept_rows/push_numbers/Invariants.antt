@@ -1,5 +1,4 @@
-use Rattle.std.proofs.Common.{◌≡◌, ◌++◌, map, take}
-use Rattle.rx_names.specs.Numbers.{row_number}
+use Rattle.rx_names.proofs.Common.{◌≡◌, ◌++◌, map, take, row_number}
 use Rattle.rx_names.proofs.kept_rows.push_numbers.Given as goal
 
 abbrev pub invariant-loop-row : goal.invariant-loop-row

@@ -1,5 +1,4 @@
-use Rattle.rx_terms.proofs.Common.{ℕ, List, Bor, sym, rules, chars, lowered, always_returns_same}
-use Rattle.rx_names.specs.Tables.{byte_order}
+use Rattle.rx_names.proofs.Common.{ℕ, List, Bor, sym, rules, chars, lowered, always_returns_same, byte_order}
 use Rattle.rx_names.proofs.TableLemmas.{found_at, found_nowhere}
 use Rattle.rx_names.proofs.GivenLemmas.{given-rises, given-iri}
 use Rattle.rx_names.proofs.standard.find_lowered.Goals as goal

@@ -1,10 +1,8 @@
-use Rattle.rx_terms.proofs.Common.{◌≡◌, ◌∙◌, true, refl, sym, ap, option_or, lowered, seen_slice}
+use Rattle.rx_names.proofs.Common.{◌≡◌, ◌∙◌, true, refl, sym, ap, option_or, lowered, seen_slice, value_at, folded}
 use Rattle.std.specs.Str.{chars}
 use lib.Utf8.{encode}
-use Rattle.rx_rdfa.specs.Names.{value_at}
 use Rattle.rx_names.specs.Contexts.{standard_tables}
 use Rattle.rx_names.specs.Given.{are_lowered}
-use Rattle.rx_names.specs.Tables.{folded}
 use Rattle.rx_names.proofs.GivenLemmas.{lowered-tells}
 use Rattle.rx_names.proofs.PutLemmas.{folded-value}
 use Rattle.rx_names.proofs.standard.term.Goals as goal

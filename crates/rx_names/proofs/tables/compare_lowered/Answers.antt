@@ -1,5 +1,4 @@
-use Rattle.rx_terms.proofs.Common.{◌≡◌, ◌∙◌, map, ap, ap₂, refl, sym, rules, chars, to_ascii_lowercase, slice_cmp, encodes-chars, bytes_rest}
-use Rattle.std.specs.Ordering.{nat_cmp}
+use Rattle.rx_names.proofs.Common.{◌≡◌, ◌∙◌, map, ap, ap₂, refl, sym, rules, chars, to_ascii_lowercase, slice_cmp, encodes-chars, bytes_rest, nat_cmp}
 use Rattle.std.proofs.lemmas.Iterator.{YieldsList-from_map}
 use Rattle.std.proofs.lemmas.Iterator.Adapters.{YieldsList-from_bytes}
 use Rattle.std.proofs.lemmas.Iterator.Search.{cmp_from_yields_List}

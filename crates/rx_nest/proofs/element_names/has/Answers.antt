@@ -1,6 +1,5 @@
-use Rattle.std.proofs.Common.{◌∙◌}
+use Rattle.rx_nest.proofs.Common.{◌∙◌, row_seen}
 use Rattle.rx_nest.proofs.NameLemmas.{among-chars}
-use Rattle.rx_nest.specs.Rows.{row_seen}
 use Rattle.rx_nest.proofs.RowLemmas.{row_ascii}
 use Rattle.rx_nest.proofs.element_names.has.Goals as goal
 

@@ -1,7 +1,6 @@
-use Rattle.rx_terms.proofs.Common.{◌∙◌, sym, refl, chars}
+use Rattle.rx_nest.proofs.Common.{◌∙◌, sym, refl, chars, omissible_names}
 use Rattle.rx_nest.proofs.NameLemmas.{among-chars}
 use Rattle.rx_nest.proofs.OrdinaryLemmas.{plain}
-use Rattle.rx_nest.specs.Ordinary.{omissible_names}
 use Rattle.rx_nest.proofs.element_names.is_omissible.Goals as goal
 
 pub returns : goal.returns

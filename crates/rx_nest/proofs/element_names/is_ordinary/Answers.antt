@@ -1,7 +1,6 @@
-use Rattle.rx_terms.proofs.Common.{◌∙◌, sym, refl, chars}
+use Rattle.rx_nest.proofs.Common.{◌∙◌, sym, refl, chars, ordinary_names}
 use Rattle.rx_nest.proofs.NameLemmas.{among-chars}
 use Rattle.rx_nest.proofs.OrdinaryLemmas.{ordinary}
-use Rattle.rx_nest.specs.Ordinary.{ordinary_names}
 use Rattle.rx_nest.proofs.element_names.is_ordinary.Goals as goal
 
 pub returns : goal.returns

@@ -1,6 +1,5 @@
-use Rattle.std.proofs.Common.{ℕ, ◌∙◌, ◌++◌, sym, take}
+use Rattle.rx_nest.proofs.Common.{ℕ, ◌∙◌, ◌++◌, sym, take, event_signs}
 use Rattle.rx_nest.specs.declared.nests.Event.{Event}
-use Rattle.rx_nest.specs.Nests.{event_signs}
 use Rattle.rx_nest.proofs.Fronts.{shows_one}
 use Rattle.rx_nest.proofs.Turning.{took, done, heard_stop, step_stop}
 use Rattle.rx_nest.proofs.QuietReading.{no_want, steps_quietly}

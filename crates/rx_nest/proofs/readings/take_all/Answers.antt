@@ -1,5 +1,4 @@
-use Rattle.std.proofs.Common.{sym, subst}
-use Rattle.rx_nest.proofs.Pieces.{rest_is}
+use Rattle.rx_nest.proofs.Common.{sym, subst, take_rest}
 use Rattle.rx_nest.proofs.Turning.{Taken, taken_start, taken_more, taken_whole, taken_stop, somewhere_taken}
 use Rattle.rx_nest.proofs.Quieting.{QuietTaken, quiet_start, quiet_more}
 use Rattle.rx_nest.proofs.readings.take_all.Goals as goal
@@ -24,7 +23,7 @@ turns-preserved g c =
           let way = g.L.Listener.way setting in
           let knows = g.L.Listener.knows setting in
           let t = c.turns.invariant.taken setting bytes k in
-          subst (λ x. Taken way knows bytes c.args.piece.now x c.take_some.new.nest c.take_some.new.listener) (sym (rest_is c.in-Ok-Took.taken c.turns.rest.now))
+          subst (λ x. Taken way knows bytes c.args.piece.now x c.take_some.new.nest c.take_some.new.listener) (sym (take_rest c.turns.rest.now c.in-Ok-Took.taken))
           (taken_more way knows bytes c.args.piece.now c.turns.rest.now c.in-Ok-Took.taken c.turns.nest c.take_some.new.nest c.turns.listener c.take_some.new.listener t
           (gives setting _ t.goes));
       quiet = λ setting bytes k q.
@@ -32,7 +31,7 @@ turns-preserved g c =
           let knows = g.L.Listener.knows setting in
           let idle = g.L.Listener.idle in
           let t = c.turns.invariant.quiet setting bytes k q in
-          subst (λ x. QuietTaken way knows idle bytes c.args.piece.now x c.take_some.new.nest c.take_some.new.listener) (sym (rest_is c.in-Ok-Took.taken c.turns.rest.now))
+          subst (λ x. QuietTaken way knows idle bytes c.args.piece.now x c.take_some.new.nest c.take_some.new.listener) (sym (take_rest c.turns.rest.now c.in-Ok-Took.taken))
           (quiet_more way knows idle bytes c.args.piece.now c.turns.rest.now c.in-Ok-Took.taken c.turns.nest c.take_some.new.nest c.turns.listener c.take_some.new.listener t
           (quiets setting _ t.at t.quiet));
     }

@@ -1,5 +1,4 @@
-use Rattle.rx_terms.proofs.Common.{refl, arith, zip2_splat}
-use Rattle.rx_scan.specs.Plain.{ends_ascii}
+use Rattle.rx_scan.proofs.Common.{refl, arith, zip2_splat, ends_ascii}
 use Rattle.rx_tags.proofs.LaneLemmas.{hit, at_most, either, splat_first, masked}
 use Rattle.rx_scan.proofs.plain.ascii_ends.Goals as goal
 

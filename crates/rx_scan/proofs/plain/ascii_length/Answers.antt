@@ -1,5 +1,4 @@
-use Rattle.std.proofs.Common.{arith}
-use Rattle.rx_scan.specs.Plain.{ends_ascii}
+use Rattle.rx_scan.proofs.Common.{arith, ends_ascii}
 use Rattle.rx_tags.proofs.LaneLemmas.{run_fits, run_stops, run_through}
 use Rattle.rx_scan.proofs.plain.ascii_length.Goals as goal
 

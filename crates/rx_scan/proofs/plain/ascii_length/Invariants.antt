@@ -1,5 +1,4 @@
-use Rattle.rx_terms.proofs.Common.{◌≡◌, ◌-◌, ◌≤◌, true, length, take, list_all}
-use Rattle.rx_scan.specs.Plain.{is_plain_ascii}
+use Rattle.rx_scan.proofs.Common.{◌≡◌, ◌-◌, ◌≤◌, true, length, take, list_all, is_plain_ascii}
 use Rattle.rx_scan.proofs.plain.ascii_length.Given as goal
 
 abbrev pub invariant-loop-count : goal.invariant-loop-count

@@ -1,5 +1,4 @@
-use Rattle.rx_terms.proofs.Common.{◌≡◌, ℕ, List, true, take, subst, sym, list_all}
-use Rattle.rx_scan.specs.Plain.{is_plain}
+use Rattle.rx_scan.proofs.Common.{◌≡◌, ℕ, List, true, take, subst, sym, list_all, is_plain}
 use Rattle.rx_scan.proofs.PlainLemmas.{ascii_plain, ascii_text}
 use Rattle.rx_scan.proofs.plain.plain_text.Goals as goal
 

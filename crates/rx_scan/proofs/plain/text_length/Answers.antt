@@ -1,5 +1,4 @@
-use Rattle.rx_terms.proofs.Common.{◌≡◌, ℕ, List, true, take, subst, list_all, IsUtf8, take_rest}
-use Rattle.rx_scan.specs.Plain.{is_plain}
+use Rattle.rx_scan.proofs.Common.{◌≡◌, ℕ, List, true, take, subst, list_all, IsUtf8, take_rest, is_plain}
 use Rattle.rx_scan.proofs.PlainLemmas.{ascii_plain, ascii_text, plain_more, text_more}
 use Rattle.rx_scan.proofs.FrontLemmas.{front_within}
 use Rattle.rx_scan.proofs.plain.text_length.Goals as goal

@@ -1,5 +1,4 @@
-use Rattle.rx_terms.proofs.Common.{◌≡◌, ◌-◌, ◌≤◌, true, length, take, list_all, IsUtf8}
-use Rattle.rx_scan.specs.Plain.{is_plain}
+use Rattle.rx_scan.proofs.Common.{◌≡◌, ◌-◌, ◌≤◌, true, length, take, list_all, IsUtf8, is_plain}
 use Rattle.rx_scan.proofs.plain.text_length.Given as goal
 
 abbrev pub invariant-loop-count : goal.invariant-loop-count

@@ -1,6 +1,5 @@
-use Rattle.std.proofs.Common.{◌≡◌, drop}
+use Rattle.rx_scan.proofs.Common.{◌≡◌, drop, body_length, body_from}
 use Rattle.rx_reader.specs.declared.phases.RunMove.TheVariants.{Goes}
-use Rattle.rx_scan.specs.WholeReferences.{body_length, body_from}
 use Rattle.rx_scan.proofs.whole_references.body_length.Given as goal
 
 abbrev pub invariant-loop-byte : goal.invariant-loop-byte

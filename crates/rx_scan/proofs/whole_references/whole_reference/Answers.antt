@@ -1,5 +1,4 @@
-use Rattle.rx_terms.proofs.Common.{◌∙◌, ℕ, sym, subst, Option, IfSome}
-use Rattle.rx_scan.specs.WholeReferences.{BeginsReference}
+use Rattle.rx_scan.proofs.Common.{◌∙◌, ℕ, sym, subst, Option, IfSome, BeginsReference}
 use Rattle.rx_scan.proofs.FrontLemmas.{usual_is}
 use Rattle.rx_scan.proofs.whole_references.whole_reference.Goals as goal
 

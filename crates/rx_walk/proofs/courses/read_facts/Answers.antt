@@ -1,5 +1,4 @@
-use Rattle.rx_eval.proofs.Common.{◌≡◌, ◌∷◌, List, false, sym, subst, facts, is_relative, Tag, facts_seen}
-use Rattle.rx_names.specs.Lines.{Kept, NamesStand, vocabulary_of}
+use Rattle.rx_walk.proofs.Common.{◌≡◌, ◌∷◌, List, false, sym, subst, facts, is_relative, Tag, facts_seen, Kept, NamesStand, vocabulary_of}
 use Rattle.rx_eval.proofs.SeenLemmas.{if_ok}
 use Rattle.rx_walk.proofs.courses.read_facts.Goals as goal
 

@@ -1,6 +1,4 @@
-use Rattle.rx_eval.proofs.Common.{◌∙◌, sym, ap, subst, on_ok_weaker, facts_seen, read_text}
-use Rattle.rx_walk.specs.Leading.{Leads}
-use Rattle.rx_walk.specs.Stages.{MayFollow, call_seen}
+use Rattle.rx_walk.proofs.Common.{◌∙◌, sym, ap, subst, on_ok_weaker, facts_seen, read_text, Leads, MayFollow, call_seen}
 use Rattle.rx_walk.proofs.Staging.{follow_enter, follow_leave, text_leads}
 use Rattle.rx_walk.proofs.evaluation.tell.Goals as goal
 

@@ -1,7 +1,5 @@
-use Rattle.rx_eval.proofs.Common.{◌≡◌, ◌∙◌, false, sym, subst, facts, refusal, is_relative, Tag, own_vocabulary}
-use Rattle.rx_names.specs.Tags.{tag_of}
+use Rattle.rx_walk.proofs.Common.{◌≡◌, ◌∙◌, false, sym, subst, facts, refusal, is_relative, Tag, own_vocabulary, tag_of, tag_shown}
 use Rattle.rx_names.specs.Views.{names_seen}
-use Rattle.rx_nest.specs.Nests.{tag_shown}
 use Rattle.rx_walk.proofs.Accepted.{fault_is, no_fault_is, fault_line}
 use Rattle.rx_walk.proofs.scopes.fault_of.Goals as goal
 

@@ -1,4 +1,5 @@
-use Rattle.rx_eval.proofs.Common.{rules, facts_seen, MayOpen, with_pending, State, enter_stands}
+use Rattle.rx_eval.proofs.Common.{rules, facts_seen, MayOpen, with_pending, State}
+use Rattle.rx_eval.proofs.StandLemmas.{enter_stands}
 use Rattle.rx_eval.proofs.eval.Eval.enter.Goals as goal
 
 pub returns-clause-stands : goal.returns-clause-stands

@@ -1,4 +1,5 @@
-use Rattle.rx_eval.proofs.Common.{◌≡◌, ◌∙◌, ap, sym, subst, List, ℕ, IfOk-weaker, Triple, State, Makes, finish_makes}
+use Rattle.rx_eval.proofs.Common.{◌≡◌, ◌∙◌, ap, sym, subst, List, ℕ, IfOk-weaker, Triple, State, Makes}
+use Rattle.rx_eval.proofs.StandLemmas.{finish_makes}
 use Rattle.rx_eval.proofs.ReferringLemmas.{out_waits}
 use Rattle.rx_eval.proofs.eval.Eval.finish.Goals as goal
 

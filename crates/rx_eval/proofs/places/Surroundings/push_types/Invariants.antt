@@ -1,5 +1,4 @@
-use Rattle.rx_eval.proofs.Common.{◌++◌, drop, node_seen, triples_seen, refs_seen, naming, ToCome}
-use Rattle.rx_eval.specs.Starts.{types_of}
+use Rattle.rx_eval.proofs.Common.{◌++◌, drop, node_seen, triples_seen, refs_seen, naming, ToCome, types_of}
 use Rattle.rx_eval.proofs.places.Surroundings.push_types.Given as goal
 
 abbrev pub invariant-loop-i : goal.invariant-loop-i

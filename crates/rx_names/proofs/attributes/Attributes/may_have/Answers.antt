@@ -1,5 +1,4 @@
-use Rattle.rx_terms.proofs.Common.{◌∙◌, sym, ap, ascii-chars}
-use Rattle.rx_names.specs.Marks.{has_mark}
+use Rattle.rx_names.proofs.Common.{◌∙◌, sym, ap, ascii-chars, has_mark}
 use Rattle.rx_names.proofs.attributes.Attributes.may_have.Goals as goal
 
 pub returns : goal.returns

@@ -1,6 +1,4 @@
-use Rattle.rx_terms.proofs.Common.{◌<◌, length, refl, subst, arith, chars, take_all, get_or_from_slice_get, Chars}
-use Rattle.rx_names.specs.Marks.{AreMarked}
-use Rattle.rx_names.specs.Tags.{tag_of}
+use Rattle.rx_names.proofs.Common.{◌<◌, length, refl, subst, arith, chars, take_all, get_or_from_slice_get, Chars, AreMarked, tag_of}
 use Rattle.rx_names.proofs.MarkLemmas.{none_marked, one_taken, namespaces_taken}
 use Rattle.rx_names.proofs.attributes.Attributes.of.Goals as goal
 

@@ -1,6 +1,4 @@
-use Rattle.std.proofs.Common.{take}
-use Rattle.rx_names.specs.Marks.{AreMarked}
-use Rattle.rx_names.specs.Tags.{tag_of}
+use Rattle.rx_names.proofs.Common.{take, AreMarked, tag_of}
 use Rattle.rx_names.proofs.attributes.Attributes.of.Given as goal
 
 abbrev pub invariant-loop-i : goal.invariant-loop-i

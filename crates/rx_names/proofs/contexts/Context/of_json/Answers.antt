@@ -1,6 +1,4 @@
-use Rattle.std.proofs.Common.{Option, sym, subst}
-use Rattle.serde_json.specs.View.{view}
-use Rattle.rx_rdfa.specs.Names.{Context}
+use Rattle.rx_names.proofs.Common.{Option, sym, subst, view, Context}
 use Rattle.rx_names.specs.FileErrors.{FileGives}
 use Rattle.rx_names.proofs.FileLemmas.{read-context, no-context, not-so}
 use Rattle.rx_names.proofs.contexts.Context.of_json.Goals as goal

@@ -1,5 +1,4 @@
-use Rattle.rx_terms.proofs.Common.{◌∙◌, ap, Option, option_or, chars, Chars, lowered}
-use Rattle.rx_rdfa.specs.Names.{Context, value_at, term}
+use Rattle.rx_names.proofs.Common.{◌∙◌, ap, Option, option_or, chars, Chars, lowered, Context, value_at, term}
 use Rattle.rx_names.proofs.PutLemmas.{folded-value, first_lowered}
 use Rattle.rx_names.proofs.file_tables.FileTables.term.Goals as goal
 

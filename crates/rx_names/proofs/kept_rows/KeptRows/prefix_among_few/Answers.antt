@@ -1,5 +1,4 @@
-use Rattle.rx_terms.proofs.Common.{◌∙◌, sym, Some, None, arith, chars, lowered}
-use Rattle.rx_names.specs.Rows.{prefix_in}
+use Rattle.rx_names.proofs.Common.{◌∙◌, sym, Some, None, arith, chars, lowered, prefix_in}
 use Rattle.rx_names.proofs.RowLemmas.{last-before}
 use Rattle.rx_names.proofs.kept_rows.KeptRows.prefix_among_few.Goals as goal
 

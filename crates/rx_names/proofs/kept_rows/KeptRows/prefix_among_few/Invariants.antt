@@ -1,5 +1,4 @@
-use Rattle.rx_terms.proofs.Common.{◌≡◌, ◌≤◌, take, length, chars, lowered}
-use Rattle.rx_names.specs.Rows.{last_of, prefix_in}
+use Rattle.rx_names.proofs.Common.{◌≡◌, ◌≤◌, take, length, chars, lowered, last_of, prefix_in}
 use Rattle.rx_names.proofs.kept_rows.KeptRows.prefix_among_few.Given as goal
 
 abbrev pub invariant-loop-i : goal.invariant-loop-i

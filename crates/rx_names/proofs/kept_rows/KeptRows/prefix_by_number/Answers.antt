@@ -1,8 +1,6 @@
-use Rattle.rx_terms.proofs.Common.{◌∙◌, ℕ, ap, sym, rules, chars, lowered, slice_get_within}
-use Rattle.rx_names.specs.Numbers.{number_of}
+use Rattle.rx_names.proofs.Common.{◌∙◌, ℕ, ap, sym, rules, chars, lowered, slice_get_within, number_of, last_of, prefix_in, nearer}
 use Rattle.rx_unique.specs.Places.{last_place}
-use Rattle.rx_names.specs.Rows.{last_of, prefix_in}
-use Rattle.rx_names.proofs.RowLemmas.{sound-at, told-at-first, told-there, told-before, row-within, nearer, other-prefix}
+use Rattle.rx_names.proofs.RowLemmas.{sound-at, told-at-first, told-there, told-before, row-within, other-prefix}
 use Rattle.rx_names.proofs.kept_rows.KeptRows.prefix_by_number.Goals as goal
 
 pub loop-next-init : goal.loop-next-init

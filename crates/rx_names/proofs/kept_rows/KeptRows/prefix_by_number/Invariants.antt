@@ -1,7 +1,5 @@
-use Rattle.rx_terms.proofs.Common.{chars, lowered}
-use Rattle.rx_names.specs.Numbers.{number_of}
-use Rattle.rx_names.specs.Rows.{prefix_in}
-use Rattle.rx_names.proofs.RowLemmas.{RowsTold, reach}
+use Rattle.rx_names.proofs.Common.{chars, lowered, number_of, prefix_in, reach}
+use Rattle.rx_names.proofs.RowLemmas.{RowsTold}
 use Rattle.rx_names.proofs.kept_rows.KeptRows.prefix_by_number.Given as goal
 
 abbrev pub invariant-loop-next : goal.invariant-loop-next

@@ -1,6 +1,4 @@
-use Rattle.rx_terms.proofs.Common.{ap, sym, ◌∙◌, take, map, take-map, list_all}
-use Rattle.rx_names.specs.Rows.{is_sound}
-use Rattle.rx_names.specs.Numbers.{row_number}
+use Rattle.rx_names.proofs.Common.{ap, sym, ◌∙◌, take, map, take-map, list_all, is_sound, row_number}
 use Rattle.rx_names.proofs.RowLemmas.{sound-front}
 use Rattle.rx_names.proofs.kept_rows.KeptRows.truncate.Goals as goal
 

@@ -1,7 +1,6 @@
-use Rattle.rx_terms.proofs.Common.{◌∙◌, ap, sym, rules, List, seen_slice, slice_get_within}
+use Rattle.rx_names.proofs.Common.{◌∙◌, ap, sym, rules, List, seen_slice, slice_get_within, last_of, vocabulary_in, flattened, nearer}
 use Rattle.rx_names.specs.declared.rows.Declaration.{Declaration}
-use Rattle.rx_names.specs.Rows.{last_of, vocabulary_in, flattened}
-use Rattle.rx_names.proofs.RowLemmas.{told-at-first, told-there, told-before, row-within, nearer, other-vocabulary}
+use Rattle.rx_names.proofs.RowLemmas.{told-at-first, told-there, told-before, row-within, other-vocabulary}
 use Rattle.rx_names.proofs.kept_rows.KeptRows.vocabulary.Goals as goal
 
 pub loop-next-init : goal.loop-next-init

@@ -1,6 +1,4 @@
-use Rattle.std.proofs.Common.{◌≡◌, ◌∷◌, List, OnOk, subst}
-use Rattle.rx_rdfa.specs.Tree.{Tag}
-use Rattle.rx_names.specs.Lines.{NamesStand, pushed}
+use Rattle.rx_names.proofs.Common.{◌≡◌, ◌∷◌, List, OnOk, subst, Tag, NamesStand, pushed}
 use Rattle.rx_names.proofs.names.Names.push.Goals as goal
 
 pub returns-clause-ok : goal.returns-clause-ok

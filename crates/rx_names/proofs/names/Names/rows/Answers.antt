@@ -1,5 +1,4 @@
-use Rattle.std.proofs.Common.{◌∙◌, ap, length, arith}
-use Rattle.rx_names.specs.Lines.{Kept}
+use Rattle.rx_names.proofs.Common.{◌∙◌, ap, length, arith, Kept}
 use Rattle.rx_names.proofs.LineLemmas.{rows-line}
 use Rattle.rx_names.proofs.names.Names.rows.Goals as goal
 

@@ -1,5 +1,4 @@
-use Rattle.rx_terms.proofs.Common.{◌∙◌, chars, lowered}
-use Rattle.rx_names.specs.Views.{names_seen}
+use Rattle.rx_names.proofs.Common.{◌∙◌, chars, lowered, names_seen}
 use Rattle.rx_names.proofs.LineLemmas.{prefix-line}
 use Rattle.rx_names.proofs.names.NamesView.prefix.Goals as goal
 

@@ -1,5 +1,4 @@
-use Rattle.std.proofs.Common.{◌∙◌}
-use Rattle.rx_names.specs.Views.{names_seen}
+use Rattle.rx_names.proofs.Common.{◌∙◌, names_seen}
 use Rattle.rx_names.proofs.LineLemmas.{vocabulary-line}
 use Rattle.rx_names.proofs.names.NamesView.vocab.Goals as goal
 

@@ -1,5 +1,4 @@
-use Rattle.rx_terms.proofs.Common.{sym, rules, slice_cmp, chars, encodes-chars, encode_utf8_all, always_returns_same}
-use Rattle.std.specs.Ordering.{nat_cmp}
+use Rattle.rx_names.proofs.Common.{sym, rules, slice_cmp, chars, encodes-chars, encode_utf8_all, always_returns_same, nat_cmp}
 use Rattle.rx_names.specs.declared.tables.Mapping.{Mapping}
 use Rattle.rx_names.proofs.TableLemmas.{found_row, found_no_row}
 use Rattle.rx_names.proofs.tables.Table.find.Goals as goal

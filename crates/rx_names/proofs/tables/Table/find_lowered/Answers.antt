@@ -1,6 +1,5 @@
-use Rattle.rx_terms.proofs.Common.{refl, sym, rules, chars, lowered, encode_utf8_all, always_returns_same}
+use Rattle.rx_names.proofs.Common.{refl, sym, rules, chars, lowered, encode_utf8_all, always_returns_same, byte_order}
 use Rattle.rx_names.specs.declared.tables.Mapping.{Mapping}
-use Rattle.rx_names.specs.Tables.{byte_order}
 use Rattle.rx_names.proofs.TableLemmas.{found_row, found_no_row}
 use Rattle.rx_names.proofs.tables.Table.find_lowered.Goals as goal
 

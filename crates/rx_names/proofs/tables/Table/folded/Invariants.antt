@@ -1,5 +1,4 @@
-use Rattle.std.proofs.Common.{◌≡◌, drop}
-use Rattle.rx_names.specs.Tables.{folded, folded_onto}
+use Rattle.rx_names.proofs.Common.{◌≡◌, drop, folded, folded_onto}
 use Rattle.rx_names.proofs.TableLemmas.{mappings}
 use Rattle.rx_names.proofs.tables.Table.folded.Given as goal
 

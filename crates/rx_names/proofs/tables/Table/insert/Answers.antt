@@ -1,6 +1,4 @@
-use Rattle.rx_terms.proofs.Common.{◌∙◌, sym, ap, Option, unwrap_or, chars}
-use Rattle.rx_rdfa.specs.Names.{Table}
-use Rattle.rx_names.specs.Tables.{rise}
+use Rattle.rx_names.proofs.Common.{◌∙◌, sym, ap, Option, unwrap_or, chars, Table, rise}
 use Rattle.rx_names.proofs.TableLemmas.{mappings}
 use Rattle.rx_names.proofs.PutLemmas.{put-code, rise-put}
 use Rattle.rx_names.proofs.tables.Table.insert.Goals as goal

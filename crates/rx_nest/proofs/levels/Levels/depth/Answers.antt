@@ -1,6 +1,5 @@
-use Rattle.std.proofs.Common.{◌∙◌, sym, ap, length, arith}
+use Rattle.rx_nest.proofs.Common.{◌∙◌, sym, ap, length, arith, Opened}
 use Rattle.rx_nest.proofs.LevelLemmas.{length_inner}
-use Rattle.rx_nest.specs.Levels.{Opened}
 use Rattle.rx_nest.proofs.levels.Levels.depth.Goals as goal
 
 pub returns-clause-depth : goal.returns-clause-depth

@@ -1,5 +1,4 @@
-use Rattle.std.proofs.Common.{◌≤◌, subst, length}
-use Rattle.rx_nest.specs.Levels.{Opened}
+use Rattle.rx_nest.proofs.Common.{◌≤◌, subst, length, Opened}
 use Rattle.rx_nest.proofs.LevelLemmas.{fitting}
 use Rattle.rx_nest.proofs.levels.Levels.end_by.Goals as goal
 

@@ -1,5 +1,4 @@
-use Rattle.std.proofs.Common.{◌∙◌, ap}
-use Rattle.rx_nest.specs.Levels.{Opened, innermost_first}
+use Rattle.rx_nest.proofs.Common.{◌∙◌, ap, Opened, innermost_first}
 use Rattle.rx_nest.proofs.LevelLemmas.{behind, grown}
 use Rattle.rx_nest.proofs.levels.Levels.make_level.Goals as goal
 

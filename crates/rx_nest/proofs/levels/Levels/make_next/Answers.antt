@@ -1,5 +1,4 @@
-use Rattle.std.proofs.Common.{◌<◌, sym, subst, length, arith}
-use Rattle.rx_nest.specs.Levels.{Opened}
+use Rattle.rx_nest.proofs.Common.{◌<◌, sym, subst, length, arith, Opened}
 use Rattle.rx_nest.proofs.LevelLemmas.{length_inner}
 use Rattle.rx_nest.proofs.levels.Levels.make_next.Goals as goal
 

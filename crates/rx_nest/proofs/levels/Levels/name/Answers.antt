@@ -1,5 +1,4 @@
-use Rattle.rx_terms.proofs.Common.{◌∙◌, sym, ap, chars-nil}
-use Rattle.rx_nest.specs.Levels.{Levels, name_under}
+use Rattle.rx_nest.proofs.Common.{◌∙◌, sym, ap, chars-nil, Levels, name_under}
 use Rattle.rx_nest.proofs.levels.Levels.name.Goals as goal
 
 pub returns-in-None : goal.returns-in-None

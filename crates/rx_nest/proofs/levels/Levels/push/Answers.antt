@@ -1,5 +1,4 @@
-use Rattle.rx_terms.proofs.Common.{◌<◌, ◌∙◌, refl, sym, ap, subst, length, arith, length-set}
-use Rattle.rx_nest.specs.Levels.{Opened}
+use Rattle.rx_nest.proofs.Common.{◌<◌, ◌∙◌, refl, sym, ap, subst, length, arith, length-set, Opened}
 use Rattle.rx_nest.proofs.LevelLemmas.{is_left, pushed}
 use Rattle.rx_nest.proofs.levels.Levels.push.Goals as goal
 

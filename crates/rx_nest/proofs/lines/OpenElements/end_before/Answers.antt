@@ -1,6 +1,4 @@
-use Rattle.rx_terms.proofs.Common.{◌≡◌, ◌≤◌, ◌∙◌, true, false, ap, subst, length, nat_le, chars}
-use Rattle.rx_nest.specs.Levels.{Levels, ends_by}
-use Rattle.rx_nest.specs.Lines.{Lines}
+use Rattle.rx_nest.proofs.Common.{◌≡◌, ◌≤◌, ◌∙◌, true, false, ap, subst, length, nat_le, chars, Levels, ends_by, Lines}
 use Rattle.rx_nest.proofs.LevelLemmas.{kept_full}
 use Rattle.rx_nest.proofs.lines.OpenElements.end_before.Goals as goal
 

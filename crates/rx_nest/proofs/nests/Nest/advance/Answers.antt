@@ -1,7 +1,6 @@
-use Rattle.std.proofs.Common.{◌≡◌, ◌≢◌, ◌∙◌, true, refl, sym, ap, subst, Option, Some, None}
+use Rattle.rx_nest.proofs.Common.{◌≡◌, ◌≢◌, ◌∙◌, true, refl, sym, ap, subst, Option, Some, None, Nested, NestStands, Done, DidLends, LendsStart, owes_begin}
 use Rattle.rx_nest.specs.declared.tree_tokens.PendingEvents.{PendingEvents}
 use Rattle.rx_nest.specs.declared.tree_tokens.EventKind.{EventKind}
-use Rattle.rx_nest.specs.Nests.{Nested, NestStands, Done, DidLends, LendsStart, owes_begin}
 use Rattle.rx_nest.proofs.Advancing.{due, due_done, first_turn, read_done, read_stopped}
 use Rattle.rx_nest.proofs.LatchLemmas.{falls_by, has_fallen}
 use Rattle.rx_nest.proofs.nests.Nest.advance.Goals as goal

@@ -1,5 +1,4 @@
-use Rattle.std.proofs.Common.{sym, subst}
-use Rattle.rx_nest.specs.Nests.{Nested, NestStands, Ended, owed_signs, last_tag}
+use Rattle.rx_nest.proofs.Common.{sym, subst, Nested, NestStands, Ended, owed_signs, last_tag}
 use Rattle.rx_nest.proofs.Endings.{fault_ends, page_ends}
 use Rattle.rx_nest.proofs.nests.Nest.end.Goals as goal
 

@@ -1,5 +1,4 @@
-use Rattle.std.proofs.Common.{ap, refl, []}
-use Rattle.rx_scan.specs.Latches.{Latched}
+use Rattle.rx_nest.proofs.Common.{ap, refl, [], Latched}
 use Rattle.rx_nest.proofs.Advancing.{new_at}
 use Rattle.rx_nest.proofs.nests.Nest.new.Goals as goal
 

@@ -1,5 +1,4 @@
-use Rattle.std.proofs.Common.{refl, sym, subst}
-use Rattle.rx_nest.specs.Nests.{Takes}
+use Rattle.rx_nest.proofs.Common.{refl, sym, subst, Takes}
 use Rattle.rx_nest.proofs.Endings.{stepped, shown_more}
 use Rattle.rx_nest.proofs.nests.Nest.step.Goals as goal
 

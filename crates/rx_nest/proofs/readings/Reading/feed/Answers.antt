@@ -1,5 +1,4 @@
-use Rattle.std.proofs.Common.{◌++◌, sym, subst}
-use Rattle.rx_nest.specs.Readings.{Read, ReadingStands}
+use Rattle.rx_nest.proofs.Common.{◌++◌, sym, subst, Read, ReadingStands}
 use Rattle.rx_nest.proofs.FaultsOfPieces.{placed_by}
 use Rattle.rx_nest.proofs.LatchLemmas.{falls_by, has_fallen, no_want}
 use Rattle.rx_nest.proofs.readings.Reading.feed.Goals as goal

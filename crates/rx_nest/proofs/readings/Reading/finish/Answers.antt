@@ -1,5 +1,4 @@
-use Rattle.std.proofs.Common.{sym, subst}
-use Rattle.rx_nest.specs.Readings.{ReadingStands}
+use Rattle.rx_nest.proofs.Common.{sym, subst, ReadingStands}
 use Rattle.rx_nest.proofs.LatchLemmas.{goes_on}
 use Rattle.rx_nest.proofs.Turning.{ends_whole, end_stops}
 use Rattle.rx_nest.proofs.readings.Reading.finish.Goals as goal

@@ -1,4 +1,5 @@
-use Rattle.rx_jsonld.proofs.Common.{OnOk, IsErrOf, ℕ, List, subst, sym, rules, WhereKnown, GrowsBy, GrowsByPart}
+use Rattle.std.proofs.Common.{IsErrOf}
+use Rattle.rx_jsonld.proofs.Common.{OnOk, ℕ, List, subst, sym, rules, WhereKnown, GrowsBy, GrowsByPart}
 use Rattle.rx_pieces.specs.declared.errors.WriteError.TheVariants as error
 use Rattle.rx_page.specs.Written.{text_of, Denoted}
 use Rattle.rx_page.specs.declared.outcomes.Outcome.{Outcome}

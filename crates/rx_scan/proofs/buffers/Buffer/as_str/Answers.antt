@@ -1,6 +1,5 @@
-use Rattle.rx_terms.proofs.Common.{◌∙◌, sym, ap, chars, encodes-chars}
+use Rattle.rx_scan.proofs.Common.{◌∙◌, sym, ap, chars, encodes-chars, Buffered}
 use Rattle.std.specs.Str.{encode_utf8_all}
-use Rattle.rx_scan.specs.Buffers.{Buffered}
 use Rattle.rx_scan.proofs.buffers.Buffer.as_str.Goals as goal
 
 pub returns-clause-bytes : goal.returns-clause-bytes

@@ -1,5 +1,4 @@
-use Rattle.rx_terms.proofs.Common.{◌∙◌, ap, chars, is_empty}
-use Rattle.rx_scan.specs.Buffers.{Buffered}
+use Rattle.rx_scan.proofs.Common.{◌∙◌, ap, chars, is_empty, Buffered}
 use Rattle.rx_scan.proofs.BufferLemmas.{no_bytes}
 use Rattle.rx_scan.proofs.buffers.Buffer.is_empty.Goals as goal
 

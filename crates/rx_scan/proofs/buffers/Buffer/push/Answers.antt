@@ -1,6 +1,5 @@
-use Rattle.rx_pages.proofs.Common.{◌∙◌, ◌++◌, ◌∷◌, [], ap, chars, IsUtf8-string_bytes, string_bytes}
+use Rattle.rx_scan.proofs.Common.{◌∙◌, ◌++◌, ◌∷◌, [], ap, chars, IsUtf8-string_bytes, string_bytes, Buffered}
 use Rattle.rx_tags.proofs.Pieces.{with_char}
-use Rattle.rx_scan.specs.Buffers.{Buffered}
 use Rattle.rx_scan.proofs.buffers.Buffer.push.Goals as goal
 
 pub returns-clause-ok : goal.returns-clause-ok

@@ -1,5 +1,4 @@
-use Rattle.rx_pages.proofs.Common.{◌∙◌, ◌++◌, ap, chars, IsUtf8-string_bytes, chars-append, string_bytes}
-use Rattle.rx_scan.specs.Buffers.{Buffered}
+use Rattle.rx_scan.proofs.Common.{◌∙◌, ◌++◌, ap, chars, IsUtf8-string_bytes, chars-append, string_bytes, Buffered}
 use Rattle.rx_scan.proofs.buffers.Buffer.push_all.Goals as goal
 
 pub returns-clause-ok : goal.returns-clause-ok

@@ -1,6 +1,4 @@
-use Rattle.std.proofs.Common.{◌∙◌, ap, subst}
-use Rattle.rx_scan.specs.Bytes.{IsOfTag}
-use Rattle.rx_scan.specs.Scanner.{Reading}
+use Rattle.rx_scan.proofs.Common.{◌∙◌, ap, subst, IsOfTag, Reading}
 use Rattle.rx_scan.proofs.readers.Reader.is_in_tag.Goals as goal
 
 pub returns : goal.returns

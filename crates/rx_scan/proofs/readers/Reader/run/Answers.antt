@@ -1,9 +1,5 @@
-use Rattle.rx_pages.proofs.Common.{◌≡◌, length, take, drop, ◌-◌, ◌<◌, ◌∙◌, ℕ, ◌+◌, sym, subst, inl, arith, refl, Result, get_or, false, IfOk, MatchBool, ◌==◌, ◌≤◌, Stop}
+use Rattle.rx_scan.proofs.Common.{◌≡◌, length, take, drop, ◌-◌, ◌<◌, ◌∙◌, ℕ, ◌+◌, sym, subst, inl, arith, refl, Result, get_or, false, IfOk, MatchBool, ◌==◌, ◌≤◌, Stop, Buffered, TakesFront, Reading, Runs, is_tag}
 use Rattle.rx_scan.specs.declared.answers.TokenKind.{TokenKind}
-use Rattle.rx_scan.specs.Buffers.{Buffered}
-use Rattle.rx_scan.specs.Openings.{TakesFront}
-use Rattle.rx_scan.specs.Scanner.{Reading}
-use Rattle.rx_scan.specs.Steps.{Runs, is_tag}
 use Rattle.rx_scan.proofs.RunLemmas.{took_text}
 use Rattle.rx_scan.proofs.QuietLemmas.{quiet_tells, quiet_at, between_tells, stopped_tells, other_tells, next_read, token_read, stopped, rest_took, lends, may_step}
 use Rattle.rx_scan.proofs.FrontLemmas.{IsKept, kept, apart_on, later_on, front_first, front_next, front_within}

@@ -1,7 +1,5 @@
-use Rattle.rx_pages.proofs.Common.{◌≡◌, ◌⊎◌, ◌+◌, ◌-◌, ◌≤◌, ◌<◌, [], true, take, length, Scanning}
-use Rattle.rx_tags.specs.TagBufs.{MayStep}
+use Rattle.rx_scan.proofs.Common.{◌≡◌, ◌⊎◌, ◌+◌, ◌-◌, ◌≤◌, ◌<◌, [], true, take, length, Scanning, MayStep, ReadsAs, is_quiet}
 use Rattle.rx_scan.specs.declared.marks.TokenState.TheVariants as mark
-use Rattle.rx_scan.specs.Steps.{ReadsAs, is_quiet}
 use Rattle.rx_scan.proofs.RunLemmas.{ReadsOn}
 use Rattle.rx_scan.proofs.readers.Reader.run.Given as goal
 

@@ -1,7 +1,5 @@
-use Rattle.std.proofs.Common.{length, subst, sym, ◌+◌, ◌<◌, ◌^◌}
-use Rattle.rx_scan.specs.Scanner.{Reading}
+use Rattle.rx_scan.proofs.Common.{length, subst, sym, ◌+◌, ◌<◌, ◌^◌, Reading, some_count}
 use Rattle.rx_scan.proofs.readers.Reader.say_front.Goals as goal
-use Rattle.rx_tags.proofs.TakeLemmas.{some_count}
 
 pub said-self-inside-requires : goal.said-self-inside-requires
 said-self-inside-requires c =

@@ -1,5 +1,4 @@
-use Rattle.std.proofs.Common.{◌∙◌, ◌-◌, ap, length, take, drop}
-use Rattle.rx_scan.specs.Pending.{Pending}
+use Rattle.rx_scan.proofs.Common.{◌∙◌, ◌-◌, ap, length, take, drop, Pending}
 use Rattle.rx_scan.proofs.FrontLemmas.{front_within, one_kept, one_text, text_sum}
 use Rattle.rx_scan.proofs.readers.Reader.say_more.Goals as goal
 

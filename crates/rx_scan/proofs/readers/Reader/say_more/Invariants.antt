@@ -1,6 +1,5 @@
-use Rattle.rx_terms.proofs.Common.{◌≡◌, ◌+◌, ◌-◌, ◌≤◌, length, take, ◌==◌, MatchBool}
+use Rattle.rx_scan.proofs.Common.{◌≡◌, ◌+◌, ◌-◌, ◌≤◌, length, take, ◌==◌, MatchBool, TellsText}
 use Rattle.rx_scan.specs.declared.marks.TokenState.TheVariants as mark
-use Rattle.rx_scan.specs.WholeReferences.{TellsText}
 use Rattle.rx_scan.proofs.readers.Reader.say_more.Given as goal
 
 abbrev pub invariant-loop-taken : goal.invariant-loop-taken

@@ -1,5 +1,4 @@
-use Rattle.rx_terms.proofs.Common.{◌∙◌, ap, take, ◌==◌}
-use Rattle.rx_scan.specs.Pending.{Pending}
+use Rattle.rx_scan.proofs.Common.{◌∙◌, ap, take, ◌==◌, Pending}
 use Rattle.rx_scan.proofs.FrontLemmas.{front_within, one_kept, one_text, plain_one, text_sum}
 use Rattle.rx_scan.proofs.readers.Reader.say_text.Goals as goal
 

@@ -1,6 +1,4 @@
-use Rattle.std.proofs.Common.{◌∙◌, ◌-◌, ◌<◌, ap, sym, arith}
-use Rattle.rx_scan.specs.Places.{fed}
-use Rattle.rx_scan.specs.Scanner.{Reading}
+use Rattle.rx_scan.proofs.Common.{◌∙◌, ◌-◌, ◌<◌, ap, sym, arith, fed, Reading}
 use Rattle.rx_scan.proofs.WholeTagLemmas.{none_held, whole_taken}
 use Rattle.rx_scan.proofs.readers.Reader.whole_tag.Goals as goal
 

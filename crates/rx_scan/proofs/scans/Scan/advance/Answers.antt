@@ -1,7 +1,5 @@
-use Rattle.std.proofs.Common.{◌≡◌, ◌∙◌, ap, sym, subst}
+use Rattle.rx_scan.proofs.Common.{◌≡◌, ◌∙◌, ap, sym, subst, Reading, Scanner, ReadsAs, Took}
 use Rattle.rx_scan.specs.declared.scans.Scan.TheInside.{Inside}
-use Rattle.rx_scan.specs.Scanner.{Reading, Scanner}
-use Rattle.rx_scan.specs.Steps.{ReadsAs, Took}
 use Rattle.rx_scan.proofs.Standing.{prepared_reads, took_same, stop_same}
 use Rattle.rx_scan.proofs.scans.Scan.advance.Goals as goal
 

@@ -1,6 +1,4 @@
-use Rattle.std.proofs.Common.{subst, sym}
-use Rattle.rx_scan.specs.Scanner.{Scanner}
-use Rattle.rx_scan.specs.Steps.{ScanStands}
+use Rattle.rx_scan.proofs.Common.{subst, sym, Scanner, ScanStands}
 use Rattle.rx_scan.proofs.Standing.{stands_inside}
 use Rattle.rx_scan.proofs.scans.Scan.enter.Goals as goal
 

@@ -1,12 +1,4 @@
-use Rattle.rx_eval.proofs.Common.{◌≡◌, ◌∙◌, ◌≤◌, ◌+◌, [], ◌∷◌, false, length, refl, sym, ap, subst, arith, Enter, is_relative, Tag, own_vocabulary}
-use Rattle.rx_names.specs.Lines.{Kept, NamesStand}
-use Rattle.rx_names.specs.Tags.{tag_of}
-use Rattle.rx_nest.specs.Nests.{tag_shown}
-use Rattle.rx_nest.specs.Signs.{begun}
-use Rattle.rx_base.specs.Lines.{line_of}
-use Rattle.rx_base.specs.Seekings.{seek_begun}
-use Rattle.rx_walk.specs.Courses.{AreFacts}
-use Rattle.rx_walk.specs.Stages.{MayTake, Tells}
+use Rattle.rx_walk.proofs.Common.{◌≡◌, ◌∙◌, ◌≤◌, ◌+◌, [], ◌∷◌, false, length, refl, sym, ap, subst, arith, Enter, is_relative, Tag, own_vocabulary, Kept, NamesStand, tag_of, tag_shown, begun, line_of, seek_begun, AreFacts, MayTake, Tells}
 use Rattle.rx_walk.proofs.Coursing.{from_absolute, absolute_next, absolute_kept, takes_one, runs_more, begin_refused, begin_accepted, begin_facts, count_room}
 use Rattle.rx_walk.proofs.courses.RdfaListener.begin.Goals as goal
 

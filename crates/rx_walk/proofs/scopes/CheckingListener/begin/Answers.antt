@@ -1,9 +1,4 @@
-use Rattle.rx_eval.proofs.Common.{◌∙◌, ◌∷◌, [], sym, ap, subst, Tag}
-use Rattle.rx_names.specs.Lines.{Kept, NamesStand}
-use Rattle.rx_names.specs.Tags.{tag_of}
-use Rattle.rx_nest.specs.Nests.{tag_shown}
-use Rattle.rx_nest.specs.Signs.{begun}
-use Rattle.rx_base.specs.Lines.{line_of}
+use Rattle.rx_walk.proofs.Common.{◌∙◌, ◌∷◌, [], sym, ap, subst, Tag, Kept, NamesStand, tag_of, tag_shown, begun, line_of}
 use Rattle.rx_walk.proofs.Accepted.{accepts_more, refused_next, accepted_next}
 use Rattle.rx_walk.proofs.Coursing.{from_absolute, absolute_next}
 use Rattle.rx_walk.proofs.scopes.CheckingListener.begin.Goals as goal

@@ -1,7 +1,4 @@
-use Rattle.std.proofs.Common.{[], refl, ap, arith}
-use Rattle.rx_names.specs.Lines.{Kept}
-use Rattle.rx_nest.specs.Signs.{finished}
-use Rattle.rx_base.specs.Lines.{line_of}
+use Rattle.rx_walk.proofs.Common.{[], refl, ap, arith, Kept, finished, line_of}
 use Rattle.rx_walk.proofs.Fronting.{front_left}
 use Rattle.rx_walk.proofs.Coursing.{popped_around, marks_of, absolute_around}
 use Rattle.rx_walk.proofs.Accepted.{accepts_more}

@@ -1,9 +1,6 @@
-use Rattle.rx_terms.proofs.Common.{◌∙◌, [], ◌∷◌, ◌++◌, sym, ap, seen_slice}
-use Rattle.rx_names.specs.Tags.{tag_of}
-use Rattle.rx_base.specs.Seekings.{seek_begun}
-use Rattle.rx_base.specs.Sought.{sought_seen}
-use Rattle.rx_walk.specs.declared.calls.Call.TheVariants as code
+use Rattle.rx_walk.proofs.Common.{◌∙◌, [], ◌∷◌, ◌++◌, sym, ap, seen_slice, tag_of, seek_begun, sought_seen}
 use Rattle.rx_walk.proofs.Staging.{head_may, head_more, head_known}
+use Rattle.rx_walk.specs.declared.calls.Call.TheVariants as code
 use Rattle.rx_walk.proofs.stages.PendingBase.begin.Goals as goal
 
 pub evaluated-requires : goal.evaluated-requires

@@ -1,8 +1,6 @@
-use Rattle.std.proofs.Common.{◌∙◌, sym, ap, None}
-use Rattle.rx_base.specs.Seekings.{known, seek_finished}
-use Rattle.rx_base.specs.Sought.{sought_seen}
-use Rattle.rx_walk.specs.declared.calls.Call.TheVariants as code
+use Rattle.rx_walk.proofs.Common.{◌∙◌, sym, ap, None, known, seek_finished, sought_seen}
 use Rattle.rx_walk.proofs.Staging.{head_may, head_more, head_known, not_ended, has_ended}
+use Rattle.rx_walk.specs.declared.calls.Call.TheVariants as code
 use Rattle.rx_walk.proofs.stages.PendingBase.finish.Goals as goal
 
 pub returns-then-not-ends : goal.returns-then-not-ends

@@ -1,9 +1,6 @@
-use Rattle.rx_eval.proofs.Common.{[], ◌∷◌, refl, sym, subst, on_ok_weaker, Enter, facts_seen}
-use Rattle.rx_names.specs.Tags.{tag_of}
-use Rattle.rx_base.specs.Seekings.{seek_begun}
-use Rattle.rx_walk.specs.Stages.{MayTake, Tells}
-use Rattle.rx_walk.specs.declared.stages.Stage.TheVariants as stage
+use Rattle.rx_walk.proofs.Common.{[], ◌∷◌, refl, sym, subst, on_ok_weaker, Enter, facts_seen, tag_of, seek_begun, MayTake, Tells}
 use Rattle.rx_walk.proofs.Staging.{found_enters, found_tells, one_leads}
+use Rattle.rx_walk.specs.declared.stages.Stage.TheVariants as stage
 use Rattle.rx_walk.proofs.stages.Stage.begin_seeking.Goals as goal
 
 pub enter-requires-clause-level : goal.enter-requires-clause-level

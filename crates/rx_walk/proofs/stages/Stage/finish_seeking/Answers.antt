@@ -1,8 +1,6 @@
-use Rattle.rx_eval.proofs.Common.{[], ◌∷◌, refl, sym, subst, on_ok_weaker, Leave}
-use Rattle.rx_base.specs.Seekings.{seek_finished}
-use Rattle.rx_walk.specs.Stages.{MayTake, Tells}
-use Rattle.rx_walk.specs.declared.stages.Stage.TheVariants as stage
+use Rattle.rx_walk.proofs.Common.{[], ◌∷◌, refl, sym, subst, on_ok_weaker, Leave, seek_finished, MayTake, Tells}
 use Rattle.rx_walk.proofs.Staging.{found_leaves, found_tells, one_leads}
+use Rattle.rx_walk.specs.declared.stages.Stage.TheVariants as stage
 use Rattle.rx_walk.proofs.stages.Stage.finish_seeking.Goals as goal
 
 pub leave-requires : goal.leave-requires

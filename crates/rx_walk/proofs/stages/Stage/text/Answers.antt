@@ -1,10 +1,8 @@
-use Rattle.rx_terms.proofs.Common.{refl, sym, subst, chars, on_ok_weaker}
-use Rattle.rx_walk.specs.CallsOf.{singles}
-use Rattle.rx_walk.specs.Stages.{Tells}
-use Rattle.rx_walk.specs.declared.stages.Stage.TheVariants as stage
+use Rattle.rx_walk.proofs.Common.{refl, sym, subst, chars, on_ok_weaker, singles, Tells}
 use Rattle.rx_walk.proofs.Staging.{found_tells, text_leads, said_tells}
 use Rattle.rx_walk.specs.Quiets.{IsIdle}
 use Rattle.rx_walk.proofs.Idling.{text_idle}
+use Rattle.rx_walk.specs.declared.stages.Stage.TheVariants as stage
 use Rattle.rx_walk.proofs.stages.Stage.text.Goals as goal
 
 pub returns-in-Found-clause-tells : goal.returns-in-Found-clause-tells

@@ -1,6 +1,5 @@
-use Rattle.std.proofs.Common.{◌∙◌, ap}
+use Rattle.rx_walk.proofs.Common.{◌∙◌, ap, Walked}
 use Rattle.rx_walk.specs.declared.courses.RdfaListener.{RdfaListener}
-use Rattle.rx_walk.specs.Walks.{Walked}
 use Rattle.rx_walk.proofs.Wholes.{depth_line}
 use Rattle.rx_walk.proofs.walks.Walk.depth.Goals as goal
 

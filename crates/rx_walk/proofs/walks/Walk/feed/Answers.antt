@@ -1,7 +1,4 @@
-use Rattle.std.proofs.Common.{◌∙◌, [], sym, ap, subst}
-use Rattle.rx_walk.specs.CallsOf.{calls_of}
-use Rattle.rx_base.specs.Seekings.{sought}
-use Rattle.rx_walk.specs.Walks.{Walked, WalkStands, state_of}
+use Rattle.rx_walk.proofs.Common.{◌∙◌, [], sym, ap, subst, calls_of, sought, Walked, WalkStands, state_of}
 use Rattle.rx_walk.proofs.Idling.{idle_at}
 use Rattle.rx_walk.proofs.walks.Walk.feed.Goals as goal
 

@@ -1,5 +1,4 @@
-use Rattle.std.proofs.Common.{sym, subst}
-use Rattle.rx_walk.specs.Walks.{WalkStands}
+use Rattle.rx_walk.proofs.Common.{sym, subst, WalkStands}
 use Rattle.rx_walk.proofs.Wholes.{whole_of, ended_of}
 use Rattle.rx_walk.proofs.walks.Walk.finish.Goals as goal
 

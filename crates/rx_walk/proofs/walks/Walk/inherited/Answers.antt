@@ -1,7 +1,5 @@
-use Rattle.std.proofs.Common.{◌∙◌, ap, sym}
-use Rattle.rx_nest.specs.Readings.{has_failed}
+use Rattle.rx_walk.proofs.Common.{◌∙◌, ap, sym, has_failed, Walked}
 use Rattle.rx_walk.specs.declared.courses.RdfaListener.{RdfaListener}
-use Rattle.rx_walk.specs.Walks.{Walked}
 use Rattle.rx_walk.proofs.Inheriting.{failed_shows, closed_shows, seeking_shows, found_shows}
 use Rattle.rx_walk.proofs.walks.Walk.inherited.Goals.{then-has_failed-via-then-has_failed, then-has_failed-via-else-has_failed+then-listener-eq0}
 use Rattle.rx_walk.proofs.walks.Walk.inherited.Goals as goal

@@ -1,10 +1,7 @@
-use Rattle.rx_eval.proofs.Common.{◌∙◌, ◌≤◌, List, [], ap, subst, sym, Tag}
-use Rattle.rx_names.specs.Lines as names
-use Rattle.rx_names.specs.Lines.{declared_along}
-use Rattle.rx_base.specs.Lines.{line_of}
+use Rattle.rx_walk.proofs.Common.{◌∙◌, ◌≤◌, List, [], ap, subst, sym, Tag, declared_along, line_of, Walked}
 use Rattle.rx_walk.specs.declared.courses.RdfaListener.{RdfaListener}
-use Rattle.rx_walk.specs.Walks.{Walked}
 use Rattle.rx_walk.proofs.OpenLines.{open_is}
+use Rattle.rx_names.specs.Lines as names
 use Rattle.rx_walk.proofs.walks.Walk.rows.Goals as goal
 
 pub returns-clause-bound : goal.returns-clause-bound
