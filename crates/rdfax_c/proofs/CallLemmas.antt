@@ -1,18 +1,15 @@
 -- From what a session's call answers to what the call of a page does.
-use Rattle.std.proofs.Common.{◌≡◌, ℕ, true, List, subst, inl, inr, Option, Some, Result, Err}
+use Rattle.rdfax_c.proofs.Common.{◌≡◌, ℕ, true, List, subst, inl, inr, Option, Some, Result, Err, Opens, State, KeepsPage, OpensPage, LendsQuad}
 use Rattle.rx_quads.specs.Listed.{ShowsOne, quads_of}
 use Rattle.rx_quads.specs.declared.terms.ShownQuad.{ShownQuad}
-use Rattle.rx_session.specs.Requests.{Opens}
 use Rattle.rx_session.specs.Sessions.{ShowsQuad, quads_in, shown_in}
 use Rattle.rx_session.specs.Wants.{Want}
 use Rattle.rx_session.specs.declared.given.Given.TheVariants as given
 use Rattle.rx_session.specs.declared.errors.OpenError.{OpenError}
 use Rattle.rx_session.specs.declared.errors.OpenError.TheVariants as open_error
-use Rattle.rx_session.specs.declared.sessions.State.{State}
 use Rattle.rx_session.specs.declared.sessions.State.TheVariants as state
 use Rattle.rdfax_c.specs.Lent.{quad_lent}
 use Rattle.rdfax_c.specs.declared.terms.Terms.{Terms}
-use Rattle.rdfax_c.specs.Calls.{KeepsPage, OpensPage, LendsQuad}
 
 pub opens_page : (asked : Option Want) (file : Option (List ℕ)) (answer : Result State OpenError) (result : ℕ) (new : Option State) → Opens asked file answer → KeepsPage answer result new → OpensPage asked file result new
 opens_page asked file answer result new opens (inl k) = record { answer = answer; opens = opens; code = k.0; kept = k.1 }

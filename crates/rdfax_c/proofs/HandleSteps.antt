@@ -1,12 +1,5 @@
 -- What a handle owns, by its machine value. Assumes `Logic`.
-use Rattle.rx_jsonld.proofs.Common.{◌≡◌, List, [], ◌∷◌, ◌++◌, refl, subst, lit<, Val, vstruct, vcons, vnil, of_list, Logic, RattleType, Valss, layout, Ptr, block_ptr, null_ptr, ptr_val, nothing}
-use seplogic.Ra.Ura.{Ura}
-use types.Kit.{Item, Goal, Seq, Step, step, ‵, ◌$◌, drop, fsplit, fjoin, fpick, fpack, feq_i, feq_l}
-use denote.Builtin.{RawPtr}
-use denote.Struct.Struct.{within}
-use denote.Struct.Owning.{shape}
-use Rattle.std.proofs.cell.Inside.{Good}
-use Rattle.rdfax_c.specs.Held.{held}
+use Rattle.rdfax_c.proofs.Common.{◌≡◌, List, [], ◌∷◌, ◌++◌, refl, subst, lit<, Val, vstruct, vcons, vnil, of_list, Logic, RattleType, Valss, layout, Ptr, block_ptr, null_ptr, ptr_val, nothing, Ura, Item, Goal, Seq, Step, step, ‵, ◌$◌, drop, fsplit, fjoin, fpick, fpack, feq_i, feq_l, RawPtr, within, shape, Good, held}
 use Rattle.rdfax_c.specs.contracts.handles.Handle as handle
 
 abbrev pub Handle : RattleType

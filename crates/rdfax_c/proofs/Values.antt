@@ -1,20 +1,10 @@
 -- The machine values of a `Loose` and of a `OnceBox`. Assumes `Logic`.
-use Rattle.rx_jsonld.proofs.Common.{◌≡◌, ℕ, List, [], ◌∷◌, ◌++◌, refl, subst, impl, tnil, dnil, Val, vptr, vstruct, vcons, vnil, of_list, has_ty, WT, never, fst∗, Logic, sem, RattleType, Valss, Ptr, block_ptr, null_ptr, ptr_val, in_a_block, nothing, peeks, layout, Al, handle_tells}
+use Rattle.rdfax_c.proofs.Common.{◌≡◌, ℕ, List, [], ◌∷◌, ◌++◌, refl, subst, impl, tnil, dnil, Val, vptr, vstruct, vcons, vnil, of_list, never, fst∗, Logic, sem, RattleType, Valss, Ptr, block_ptr, null_ptr, ptr_val, in_a_block, nothing, layout, Al, handle_tells, Ura, Item, Goal, Seq, Step, step, ‵, ◌$◌, move, drop, fsplit, fsplit3, fjoin, fjoin3, fpick, fpack, rewrite, feq_i, feq_l, RawPtr, lone, Laws, Struct, within, shape, Tuple, Good, one, box_owns, has_ty, WT, peeks}
 use mathlib.Core.Bool.{Bool, true, ◌&&◌}
 use lib.Dec.{T}
-use seplogic.Ra.Ura.{Ura}
 use mir.Raw.{raw as bare}
-use types.Kit.{Item, Goal, Seq, Step, step, ‵, ◌$◌, move, drop, fsplit, fsplit3, fjoin, fjoin3, fpick, fpack, rewrite, feq_i, feq_l}
-use denote.Builtin.{RawPtr}
 use denote.Laws.{Is, Lawful, Typed, shows}
-use denote.Memory.{lone}
-use denote.Param.Laws.{Laws}
-use denote.Struct.Struct.{Struct, within}
-use denote.Struct.Owning.{shape}
-use denote.Struct.Tuple.{Tuple}
 use Rattle.std.specs.declared.alloc.Allocator.{Ghosts}
-use Rattle.std.proofs.cell.Inside.{Good, one}
-use Rattle.std.specs.Box.Ownership.{box_owns}
 use Rattle.std.proofs.ResultValues.{and_tt}
 use Rattle.rdfax_c.specs.contracts.loose.Loose as loose
 

@@ -9,7 +9,7 @@ pub use Rattle.rx_jsonld.specs.Meaning.{DenotesOne, JsonLd, Label, Name, Place, 
 pub use Rattle.rx_jsonld.specs.Members.{behind, items_and, with_last}
 pub use Rattle.rx_jsonld.specs.Places.{node_at, nodes_added, starts, with_found, with_places}
 pub use Rattle.rx_jsonld.specs.Value.{id_text, is_empty_list, item_by, item_value, jsonld, list_from, list_value, literal_members, may_be_empty, node_value, object_by, object_value, plain_value, said_by, string_of, term_value, tops, type_by, type_of, with_all, with_said}
-pub use Rattle.rx_model.proofs.Common.{Among, Among-contains, Among_by_contains, Among_cases, Among_distinct, Among_filter, Among_flat_map, Among_left, Among_map, Among_of_distinct, Among_of_filter, Among_of_flat_map, Among_of_map, Among_right, Blank, Bool, Chars, Equal, Err, Global, Greater, Has, IfOk, Iri, Kind, Less, List, Literal, Node, None, Ok, OnOk, Option, Ordering, Plain, Renamed, Resource, Result, Some, Tagged, Term, Triple, Typed, [], and_from, and_left, and_right, ap, append-nil, append_assoc, ap₂, arith, blank_of_node, blank_of_term, blanks_of, bytes_eq, chars, codes, cond, contains, decimal, decimal_digit, decimal_is_IsNumeral, distinct, drop, drop_of_length-le, encode_utf8_all, exact_numbers, exact_texts, exact_triples, false, false_unless, filter, flat_map, get_or, if◌then◌else◌, inl, inr, is_eq, kind_seen, length, length-map, low_line, map, map-append, nat_cmp, nat_eq, nat_tests, node_seen, not, on_ok_weaker, option_to_list, place_in, rdf_first, rdf_nil, rdf_rest, rdf_type, refl, rename, rename_node, rename_term, rules, same_node, same_triple, same_truth, set_of, slice_get, spo, subst, suc, sym, take, triple_seen, triples_seen, true, true≢false, untrue, with_one, zero, ℕ, ◌&&◌, ◌++◌, ◌+◌, ◌-◌, ◌<◌, ◌==◌, ◌^◌, ◌||◌, ◌↔◌, ◌∙◌, ◌∷◌, ◌≡◌, ◌≤◌, ◌⊎◌}
+pub use Rattle.rx_model.proofs.Common.{Among, Among-contains, Among_by_contains, Among_cases, Among_distinct, Among_filter, Among_flat_map, Among_left, Among_map, Among_of_distinct, Among_of_filter, Among_of_flat_map, Among_of_map, Among_right, Blank, Bool, Chars, Equal, Err, Global, Greater, Has, Iri, Kind, Less, List, Literal, Node, None, Ok, OnOk, Option, Ordering, Plain, Renamed, Resource, Result, Some, Tagged, Term, Triple, Typed, [], and_from, and_left, and_right, ap, append-nil, append_assoc, ap₂, arith, blank_of_node, blank_of_term, blanks_of, bytes_eq, chars, codes, cond, contains, decimal, decimal_is_IsNumeral, distinct, drop, drop_of_length-le, encode_utf8_all, exact_numbers, exact_texts, exact_triples, false, false_unless, filter, flat_map, get_or, if◌then◌else◌, inl, inr, is_eq, kind_seen, length, length-map, low_line, map, map-append, nat_cmp, nat_eq, nat_tests, node_seen, not, on_ok_weaker, option_to_list, place_in, rdf_first, rdf_nil, rdf_rest, rdf_type, refl, rename, rename_node, rename_term, rules, same_node, same_triple, set_of, slice_get, spo, subst, suc, sym, take, triple_seen, triples_seen, true, true≢false, with_one, zero, ℕ, ◌&&◌, ◌++◌, ◌+◌, ◌-◌, ◌<◌, ◌==◌, ◌^◌, ◌||◌, ◌↔◌, ◌∙◌, ◌∷◌, ◌≡◌, ◌≤◌, ◌⊎◌}
 pub use Rattle.rx_nquads.specs.Quads.{proper_kind, proper_term, proper_triple, quads}
 pub use Rattle.rx_pieces.specs.Writable.{IsWritable, WritableKind, WritableNode, WritableTerm, WritableTriple}
 pub use Rattle.rx_ports.specs.Shelves.{GrowsBy, GrowsByPart, WhereKnown}
@@ -17,28 +17,9 @@ pub use Rattle.rx_shapes.specs.Shapes.{Cell, Ends, HaveShapes, Inner, IsShape, l
 pub use Rattle.rx_shapes.specs.Subjects.{about, first_of, has_subject, object_at, objects_of, subjects}
 pub use Rattle.rx_shapes.specs.Table.{shape_in}
 pub use Rattle.rx_shapes.specs.declared.shapes.Shape.{Shape}
-pub use Rattle.rx_terms.proofs.Common.{IfOk-weaker, IsAscii-decimal, IsIri, ascii-same, begins_with_scheme, colon, encode_ascii, encodes_same, front_grows, is_letter, lit<, slice_cmp, split_at, take-map}
+pub use Rattle.rx_terms.proofs.Common.{IfOk-weaker, IsIri, begins_with_scheme, colon, encode_ascii, encodes_same, front_grows, is_letter, slice_cmp, split_at, take-map}
 pub use Rattle.serde.specs.declared.name.Case.TheVariants.{AsIs}
-pub use Rattle.serde_json.specs.Data.{Data, Items, Members, array, boolean, depth, item, items_depth, member, members_depth, no_items, no_members, null, number, object, string}
+pub use Rattle.serde_json.specs.Data.{Data, Items, Members, array, depth, item, items_depth, member, members_depth, no_items, no_members, number, object, string}
 pub use Rattle.serde_json.specs.View.{items_of}
-pub use Rattle.std.proofs.Common.{BTreeMap, IsErrOf, is_some}
-pub use Rattle.std.proofs.alloc.Calls.{Al, Goes-blank, handle_tells}
-pub use Rattle.std.proofs.raw_atomic.Walks.{leaves, proved, proved_at}
+pub use Rattle.std.proofs.Common.{BTreeMap}
 pub use Rattle.std.specs.Prelude.{Vec, option_map}
-pub use base.Fml.{flft, fsep, ftrue}
-pub use base.Logic.{SProp, emp, ent, fst∗, id⊢, never}
-pub use contract.Running.{tables}
-pub use denote.Exit.{no, yes}
-pub use denote.Param.{bounded, layout, param}
-pub use denote.RattleType.{RattleType, Valss, owns}
-pub use denote.RawPtr.{Ptr, block_ptr, in_a_block, null_ptr, ptr_val}
-pub use denote.Signature.{plain, types_at}
-pub use denote.Steps.{heard, nothing, only, peeks}
-pub use denote.Triple.Walked.{Stays, ends_at, says, stay_dropped, walk_of}
-pub use mir.Syntax.{a_type, dcons, dnil, impl, tnil}
-pub use mir.Val.{Val, WT, has_ty, of_list, vcons, vnil, vptr, vstruct, vunit}
-pub use prog.Wp.{WpFn}
-pub use types.ByLocal.{alloc_all, env, free_all, get, get_in, lands_as, lands_last, look_at, pass_all, sets}
-pub use types.Logic.{Logic, sem}
-pub use types.Part.{agg, sub, whole}
-pub use types.Run.{and_then, blocks, enter, exec, first, fld, lit, no_more, of_opd, returns, stop, unit_lit}

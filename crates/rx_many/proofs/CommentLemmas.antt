@@ -1,12 +1,8 @@
 -- The comment on a page as bytes.
-use Rattle.rx_terms.proofs.Common.{◌≡◌, ◌∙◌, ℕ, ◌<◌, ◌^◌, true, List, ◌++◌, codes, refl, sym, ap, ap₂, append_assoc, list_all, encodes-append, is_ascii, line_feed, Chars, ascii-same, decimal, IsAscii-decimal}
-use Rattle.std.specs.Str.{encode_utf8_all}
+use Rattle.rx_many.proofs.Common.{◌≡◌, ◌∙◌, ℕ, ◌<◌, ◌^◌, true, List, ◌++◌, codes, refl, sym, ap, ap₂, append_assoc, Chars, encode_utf8_all, all_ascii, lacks, comment_with, kind_name}
+use Rattle.rx_terms.proofs.Common.{list_all, encodes-append, is_ascii, line_feed, ascii-same, decimal, IsAscii-decimal}
 use Rattle.rx_grammar.specs.declared.faults.Kind.{Kind}
 use Rattle.rx_grammar.specs.declared.faults.Kind.TheVariants as kind
-use Rattle.rx_pieces.proofs.Adding.{all_ascii}
-use Rattle.rx_nquads.proofs.Cuts.{lacks}
-use Rattle.rx_many.specs.Writing.{comment_with}
-use Rattle.rx_grammar.specs.Kinds.{kind_name}
 
 -- the names are of ASCII, and have no line feed
 pub names : (k : Kind) → (list_all is_ascii (kind_name k) ≡ true) × (lacks line_feed (kind_name k) ≡ true)

@@ -1,21 +1,12 @@
 -- What the document of several pages denotes.
-use Rattle.rx_model.proofs.Common.{◌≡◌, ◌⊎◌, ℕ, zero, suc, ◌+◌, ◌<◌, ◌^◌, Bool, true, false, List, [], ◌∷◌, ◌++◌, flat_map, codes, Some, refl, sym, ap, ap₂, ◌∙◌, inl, inr, subst, arith, if◌then◌else◌, chars, chars-encodes, line_feed, Chars, is_forbidden, decimal, decimal_is_IsNumeral, Among, contains, Node, Iri, Blank, Term, Resource, Literal, Triple, blank_of_node, blank_of_term, blanks_of, place_in, rename_node, rename_term, rename, Among_cases, Among_left, Among_right, Among_map, Among_of_map, Among_flat_map, Among_of_flat_map, Among_distinct, place_tells}
-use Rattle.rx_grammar.specs.declared.faults.Fault.{Fault}
-use Rattle.rx_refs.specs.Resolve.{without_fragment}
-use Rattle.rx_pieces.specs.Writable.{WritableText}
+use Rattle.rx_many.proofs.Common.{◌≡◌, ◌⊎◌, ℕ, zero, suc, ◌+◌, ◌<◌, ◌^◌, Bool, true, false, List, [], ◌∷◌, ◌++◌, flat_map, codes, Some, refl, sym, ap, ap₂, ◌∙◌, inl, inr, subst, arith, if◌then◌else◌, chars, Chars, Among, contains, Node, Iri, Blank, Term, Resource, Literal, Triple, blank_of_node, blank_of_term, blanks_of, place_in, rename_node, rename_term, rename, Fault, without_fragment, WritableText, lacks, lacks_append, lacks_any, Gives, HasBlank, GivesQuad, DenotesPages, Line, PageBlank, comment, statement, statement_at, at_place, lines_by, lines_of, lines_from, line_blanks, same_blank, table, rename_line, numbered_lines, same_line, kept_after, kept, Page, Judgement, refused, accepted, accepted_page, WritableComment, WritableLine, Spells, comment_text, line_text, kind_name}
+use Rattle.rx_model.proofs.Common.{chars-encodes, line_feed, is_forbidden, decimal, decimal_is_IsNumeral, Among_cases, Among_left, Among_right, Among_map, Among_of_map, Among_flat_map, Among_of_flat_map, Among_distinct, place_tells}
 use Rattle.rx_pieces.proofs.Scalars.{joined, literally}
 use Rattle.rx_nquads.specs.Quads.{Quad, quad_of}
 use Rattle.rx_nquads.specs.Document.{Nquads}
-use Rattle.rx_nquads.proofs.Cuts.{lacks, lacks_append, lacks_any}
 use Rattle.rx_nquads.proofs.OneMeaning.{digits_lack}
 use Rattle.rx_nquads.proofs.Denoting.{line_writable}
 use Rattle.rx_nquads.proofs.Joining.{denotes_none, denotes_comment, denotes_line, denotes_both}
-use Rattle.rx_many.specs.Dataset.{Gives, HasBlank, GivesQuad, DenotesPages}
-use Rattle.rx_many.specs.Lines.{Line, PageBlank, comment, statement, statement_at, at_place, lines_by, lines_of, lines_from, line_blanks, same_blank, table, rename_line, numbered_lines, same_line, kept_after, kept}
-use Rattle.rx_many.specs.Pages.{Page, Judgement, refused, accepted, accepted_page}
-use Rattle.rx_many.specs.Standing.{WritableComment, WritableLine, Spells}
-use Rattle.rx_many.specs.Writing.{comment_text, line_text}
-use Rattle.rx_grammar.specs.Kinds.{kind_name}
 use Rattle.rx_many.proofs.CommentLemmas.{names, ascii_decimal}
 use Rattle.rx_many.proofs.FreshLemmas.{contained, GivenHere, line_here}
 use Rattle.rx_many.proofs.KeyLemmas.{exact_blanks}

@@ -1,13 +1,7 @@
 -- What a page states in a graph of its own is in no line before.
-use Rattle.rx_model.proofs.Common.{◌≡◌, ℕ, zero, suc, ◌+◌, Bool, true, false, cond, List, [], ◌∷◌, ◌++◌, map, filter, flat_map, take, drop, slice_get, Some, refl, sym, ap, ap₂, ◌∙◌, inl, inr, subst, true≢false, nat_eq, append_assoc, not, take-append-drop, map-append, Chars, untrue, Among, IsExact, contains, distinct, Node, Iri, Blank, Term, Resource, Literal, Triple, same_triple, blank_of_node, blank_of_term, blanks_of, place_in, rename_node, rename_term, rename, triple_seen, triples_seen, or_cases, false_unless, Among_cases, Among_left, Among_right, Among_map, Among_of_map, Among_flat_map, Among_of_filter, Among_distinct, exact_numbers, exact_triples, place_tells}
+use Rattle.rx_many.proofs.Common.{◌≡◌, ℕ, zero, suc, ◌+◌, Bool, true, false, cond, List, [], ◌∷◌, ◌++◌, map, filter, flat_map, take, drop, slice_get, Some, refl, sym, ap, ap₂, ◌∙◌, inl, inr, subst, true≢false, nat_eq, append_assoc, not, take-append-drop, map-append, Chars, Among, IsExact, contains, distinct, Node, Iri, Blank, Term, Resource, Literal, Triple, same_triple, blank_of_node, blank_of_term, blanks_of, place_in, rename_node, rename_term, rename, triple_seen, triples_seen, exact_numbers, exact_triples, without_fragment, seen_more, Line, PageBlank, comment, statement, statement_at, at_place, lines_by, lines_of, lines_from, line_blanks, same_blank, table, rename_line, same_line, numbered_lines, name_of, Judgement, refused, accepted, page_seen, AreNew}
+use Rattle.rx_model.proofs.Common.{untrue, or_cases, false_unless, Among_cases, Among_left, Among_right, Among_map, Among_of_map, Among_flat_map, Among_of_filter, Among_distinct, place_tells}
 use Rattle.rx_terms.specs.declared.triples.Triple.{Triple as CodeTriple}
-use Rattle.rx_refs.specs.Resolve.{without_fragment}
-use Rattle.rx_graph.proofs.SetLemmas.{seen_more}
-use Rattle.rx_many.specs.Lines.{Line, PageBlank, comment, statement, statement_at, at_place, lines_by, lines_of, lines_from, line_blanks, same_blank, table, rename_line, same_line, numbered_lines}
-use Rattle.rx_many.specs.Names.{name_of}
-use Rattle.rx_many.specs.Pages.{Judgement, refused, accepted}
-use Rattle.rx_many.specs.Seen.{page_seen}
-use Rattle.rx_many.specs.Standing.{AreNew}
 use Rattle.rx_many.specs.declared.pages.Page.{Page as CodePage}
 use Rattle.rx_many.proofs.KeyLemmas.{exact_blanks, alike}
 use Rattle.rx_many.proofs.LineLemmas.{numbers_stay}

@@ -1,12 +1,7 @@
 -- Blank nodes of one page behind those of the pages before it.
-use Rattle.rx_model.proofs.Common.{◌≡◌, ◌∙◌, ℕ, suc, ◌+◌, ◌<◌, ◌≤◌, Bool, true, false, List, [], ◌∷◌, ◌++◌, map, length, refl, sym, ap, ap₂, nat_eq, arith, length-append, append-nil, cond, ◌||◌, ◌&&◌, if◌then◌else◌, map-append, length-map, contains, with_one, with_all, place_in, blank_of_node, rename_node, exact_numbers, Node}
+use Rattle.rx_many.proofs.Common.{◌≡◌, ◌∙◌, ℕ, suc, ◌+◌, ◌<◌, ◌≤◌, Bool, true, false, List, [], ◌∷◌, ◌++◌, map, length, refl, sym, ap, ap₂, nat_eq, arith, length-append, append-nil, cond, ◌||◌, ◌&&◌, if◌then◌else◌, map-append, length-map, contains, with_one, with_all, place_in, blank_of_node, rename_node, exact_numbers, Node, contains_append, place_append, place_behind, one_behind, kept_all, has_all, same_node_by, numbers_to, PageBlank, at_place, same_blank, Numbers, number_at, numbers_of}
 use Rattle.rx_terms.specs.declared.triples.Blank.{Blank as CodeBlank}
-use Rattle.rx_graph.proofs.Growing.{contains_append, place_append, place_behind, one_behind, kept_all, has_all}
-use Rattle.rx_graph.proofs.NumberLemmas.{same_node_by}
 use Rattle.rx_graph.proofs.NumberedLemmas.{below, above, size, own_place}
-use Rattle.rx_graph.specs.Numbering.{numbers_to}
-use Rattle.rx_many.specs.Lines.{PageBlank, at_place, same_blank}
-use Rattle.rx_many.specs.Numbering.{Numbers, number_at, numbers_of}
 
 -- ---- numbers from 0 on, and others
 

@@ -1,13 +1,9 @@
 -- The keys of the code's sets, and what they are in the model.
-use Rattle.rx_model.proofs.Common.{length-map, ◌≡◌, ℕ, Bool, true, false, List, [], ◌∷◌, length, slice_get, Some, option_map, map, suc, refl, sym, ap, ap₂, ◌∙◌, rules, nat_eq, bytes_eq, arith, true≢false, not, list_any, slice_get_within, slice_get-map, Chars, same_truth, untrue, and_from, IsExact, contains, with_one, Triple, same_triple, triple_seen, and_left, and_right, exact_numbers, exact_texts, exact_triples}
-use Rattle.rx_unique.specs.Unique.{insert_key}
+use Rattle.rx_many.proofs.Common.{length-map, ◌≡◌, ℕ, Bool, true, false, List, [], ◌∷◌, length, slice_get, Some, option_map, map, suc, refl, sym, ap, ap₂, ◌∙◌, rules, nat_eq, bytes_eq, arith, true≢false, not, slice_get_within, Chars, IsExact, contains, with_one, Triple, same_triple, triple_seen, exact_numbers, exact_triples, insert_key, any_seen, insert_seen, Line, PageBlank, comment, statement, same_blank, same_line, statement_seen, IsAdded}
+use Rattle.rx_model.proofs.Common.{list_any, slice_get-map, same_truth, untrue, and_from, and_left, and_right, exact_texts}
 use Rattle.rx_model.proofs.Seen.{triple_tells}
-use Rattle.rx_graph.proofs.SetLemmas.{any_seen, insert_seen}
 use Rattle.rx_many.specs.declared.statements.Statement.{Statement}
 use Rattle.rx_many.specs.contracts.statements.StatementPartialEq.TheImpl as statement_impl
-use Rattle.rx_many.specs.Lines.{Line, PageBlank, comment, statement, same_blank, same_line}
-use Rattle.rx_many.specs.Seen.{statement_seen}
-use Rattle.rx_many.specs.Standing.{IsAdded}
 
 -- ---- blank nodes of pages
 

@@ -1,18 +1,8 @@
 -- A document that grows by one line.
+use Rattle.rx_many.proofs.Common.{◌≡◌, ℕ, suc, zero, ◌+◌, Bool, true, false, List, [], ◌∷◌, ◌++◌, map, flat_map, take, length, slice_get, Some, refl, sym, ap, ap₂, ◌∙◌, inl, inr, subst, append_assoc, append-nil, arith, ◌||◌, if◌then◌else◌, map-append, Chars, Among, contains, distinct, with_one, with_all, Triple, place_in, triple_seen, triples_seen, encode_utf8_all, Fault, seen_more, all_distinct, place_stays, same_triple_by, WritableTriple, has_blank, Line, PageBlank, comment, statement, statement_at, lines_of, lines_from, line_blanks, same_blank, table, rename_line, numbered_lines, same_line, kept_after, kept, page_seen, WritableComment, WritableLine, Spells, Holds, Stands, DocumentStands, PageStands, line_text, text_of}
 use Rattle.std.proofs.lemmas.List.Concat.{flat_map-append}
-use Rattle.rx_model.proofs.Common.{by_test, ◌≡◌, ℕ, suc, zero, ◌+◌, Bool, true, false, List, [], ◌∷◌, ◌++◌, map, flat_map, take, length, slice_get, Some, refl, sym, ap, ap₂, ◌∙◌, inl, inr, subst, append_assoc, append-nil, arith, ◌||◌, if◌then◌else◌, encodes-append, map-append, Chars, or-true, or-false, Among, contains, distinct, with_one, with_all, Triple, place_in, triple_seen, triples_seen, Among_cases, Among_left, Among_right, false_unless}
-use Rattle.std.specs.Str.{encode_utf8_all}
+use Rattle.rx_model.proofs.Common.{by_test, encodes-append, or-true, or-false, Among_cases, Among_left, Among_right, false_unless}
 use Rattle.rx_terms.specs.declared.triples.Triple.{Triple as CodeTriple}
-use Rattle.rx_grammar.specs.declared.faults.Fault.{Fault}
-use Rattle.rx_graph.proofs.SetLemmas.{seen_more}
-use Rattle.rx_graph.proofs.Growing.{all_distinct, place_stays}
-use Rattle.rx_graph.proofs.NumberLemmas.{same_triple_by}
-use Rattle.rx_pieces.specs.Writable.{WritableTriple}
-use Rattle.rx_many.specs.Blank.{has_blank}
-use Rattle.rx_many.specs.Lines.{Line, PageBlank, comment, statement, statement_at, lines_of, lines_from, line_blanks, same_blank, table, rename_line, numbered_lines, same_line, kept_after, kept}
-use Rattle.rx_many.specs.Seen.{page_seen}
-use Rattle.rx_many.specs.Standing.{WritableComment, WritableLine, Spells, Holds, Stands, DocumentStands, PageStands}
-use Rattle.rx_many.specs.Writing.{line_text, text_of}
 use Rattle.rx_many.specs.declared.documents.Document.{Document}
 use Rattle.rx_many.specs.declared.pages.Page.{Page as CodePage}
 use Rattle.rx_many.proofs.KeyLemmas.{exact_blanks, alike}

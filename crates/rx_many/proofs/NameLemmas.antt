@@ -1,9 +1,7 @@
 -- Names that several pages have.
-use Rattle.rx_model.proofs.Common.{◌≡◌, ◌⊎◌, ℕ, ◌+◌, ◌<◌, ◌≤◌, Bool, true, false, List, [], ◌∷◌, ◌++◌, map, take, length, slice_get, Some, refl, sym, ap, ◌∙◌, inl, inr, subst, true≢false, arith, rules, ⊎_elim, not, ◌||◌, if◌then◌else◌, list_any, cases_lt, map-append, slice_get_within, Chars, or-true, Among, IsExact, or_cases, Among_cases, Among_left, Among_right}
+use Rattle.rx_many.proofs.Common.{◌≡◌, ◌⊎◌, ℕ, ◌+◌, ◌<◌, ◌≤◌, Bool, true, false, List, [], ◌∷◌, ◌++◌, map, take, length, slice_get, Some, refl, sym, ap, ◌∙◌, inl, inr, subst, true≢false, arith, rules, ⊎_elim, not, ◌||◌, if◌then◌else◌, map-append, slice_get_within, Chars, Among, IsExact, insert_key, one_more, name_of, Notes, AreApart}
+use Rattle.rx_model.proofs.Common.{list_any, cases_lt, or-true, or_cases, Among_cases, Among_left, Among_right}
 use Rattle.rx_terms.specs.contracts.iris.IriPartialEq.TheImpl as iri_impl
-use Rattle.rx_unique.specs.Unique.{insert_key}
-use Rattle.rx_graph.proofs.SetLemmas.{one_more}
-use Rattle.rx_many.specs.Names.{name_of, Notes, AreApart}
 use Rattle.rx_many.specs.declared.pages.Page.{Page}
 
 -- ---- keys and the list of them

@@ -1,19 +1,7 @@
 -- The triples of one page, whose blank nodes come behind those of the pages before it.
-use Rattle.rx_model.proofs.Common.{◌≡◌, ◌∙◌, ℕ, zero, suc, ◌+◌, ◌<◌, ◌≤◌, true, false, List, [], ◌∷◌, ◌++◌, map, flat_map, take, length, Some, refl, sym, ap, ap₂, subst, inl, inr, arith, append-nil, length-append, nat_eq, true≢false, Bool, slice_get, ◌||◌, ◌&&◌, not, Chars, and_from, untrue, Among, contains, with_one, with_all, Node, Iri, Blank, Term, Resource, Literal, Triple, blank_of_node, blank_of_term, blanks_of, place_in, rename_node, rename_term, rename, or_cases, and_left, and_right, Among_left, Among_right, false_unless, Among_cases, Among_of_map, Among_flat_map, Among_of_flat_map, Among_of_distinct, Among_by_contains}
-use Rattle.std.proofs.lemmas.List.{length-take, map-append, length-map}
-use Rattle.std.specs.Str.{encode_utf8_all}
-use Rattle.rx_refs.specs.Resolve.{without_fragment}
-use Rattle.rx_graph.proofs.NumberLemmas.{same_triple_by}
-use Rattle.rx_pieces.specs.Writable.{WritableTriple}
-use Rattle.rx_many.specs.Blank.{has_blank, is_blank_node, is_blank_term}
-use Rattle.rx_many.specs.Names.{name_of, AreApart}
-use Rattle.rx_many.specs.Lines.{Line, PageBlank, comment, statement, statement_at, at_place, line_blanks, lines_by, lines_of, lines_from, same_blank, same_line, table, rename_line, numbered_lines}
-use Rattle.rx_many.specs.Numbering.{Numbers, number_at}
-use Rattle.rx_many.specs.Pages.{Judgement, refused, accepted, accepted_page}
-use Rattle.rx_many.specs.Seen.{page_seen}
+use Rattle.rx_many.proofs.Common.{◌≡◌, ◌∙◌, ℕ, zero, suc, ◌+◌, ◌<◌, ◌≤◌, true, false, List, [], ◌∷◌, ◌++◌, map, flat_map, take, length, Some, refl, sym, ap, ap₂, subst, inl, inr, arith, append-nil, length-append, nat_eq, true≢false, Bool, slice_get, ◌||◌, ◌&&◌, not, Chars, Among, contains, with_one, with_all, Node, Iri, Blank, Term, Resource, Literal, Triple, blank_of_node, blank_of_term, blanks_of, place_in, rename_node, rename_term, rename, length-take, map-append, length-map, encode_utf8_all, without_fragment, same_triple_by, WritableTriple, has_blank, is_blank_node, is_blank_term, name_of, AreApart, Line, PageBlank, comment, statement, statement_at, at_place, line_blanks, lines_by, lines_of, lines_from, same_blank, same_line, table, rename_line, numbered_lines, Numbers, number_at, Judgement, refused, accepted, accepted_page, page_seen, AreBefore, AreNew, ComeLast, DocumentStands, PageStands, Stands, Tells, line_text}
+use Rattle.rx_model.proofs.Common.{and_from, untrue, or_cases, and_left, and_right, Among_left, Among_right, false_unless, Among_cases, Among_of_map, Among_flat_map, Among_of_flat_map, Among_of_distinct, Among_by_contains}
 use Rattle.rx_many.specs.declared.pages.Page.{Page as CodePage}
-use Rattle.rx_many.specs.Standing.{AreBefore, AreNew, ComeLast, DocumentStands, PageStands, Stands, Tells}
-use Rattle.rx_many.specs.Writing.{line_text}
 use Rattle.rx_many.specs.declared.documents.Document.{Document}
 use Rattle.rx_many.proofs.FreshLemmas.{still_new, line_here, lines_named}
 use Rattle.rx_many.proofs.KeyLemmas.{exact_blanks}

@@ -1,9 +1,5 @@
 -- The buffer of a path that grows, from its bytes.
-use Rattle.rx_terms.proofs.Common.{◌≡◌, ◌≢◌, ◌∙◌, ℕ, ◌+◌, Bool, true, false, List, [], ◌∷◌, ◌++◌, Result, Ok, Err, length, take, drop, sym, ap, refl, arith, length-append, list_all, bytes_decides, chars-nil, encodes-chars, chars-append, IsUtf8-append, IsUtf8-take, IsUtf8-drop, IsCharBoundary-from_drop, Chars, is_ascii, ascii-same, ascii-chars, by_test, OnOk, codes}
-use Rattle.std.specs.Str.{chars, IsUtf8, IsCharBoundary, encode_utf8_all}
-use Rattle.std.proofs.lemmas.List.{take-append-drop, take_all, append_assoc, drop_all, take-append-le, drop-append-le, take-take, drop-take}
-use Rattle.rx_refs.specs.Dots.{is}
-use Rattle.rx_refs.specs.Segments.{Grown, slashed, pushed, cut_back, after_segment, after_last}
+use Rattle.rx_refs.proofs.Common.{◌≡◌, ◌≢◌, ◌∙◌, ℕ, ◌+◌, Bool, true, false, List, [], ◌∷◌, ◌++◌, Result, Ok, Err, length, take, drop, sym, ap, refl, arith, length-append, list_all, bytes_decides, chars-nil, encodes-chars, chars-append, IsUtf8-append, IsUtf8-take, IsUtf8-drop, IsCharBoundary-from_drop, Chars, is_ascii, ascii-same, ascii-chars, by_test, OnOk, codes, chars, IsUtf8, IsCharBoundary, encode_utf8_all, take-append-drop, take_all, append_assoc, drop_all, take-append-le, drop-append-le, take-take, drop-take, is, Grown, slashed, pushed, cut_back, after_segment, after_last}
 
 abbrev pub shown : List ℕ → ℕ → Bool → Grown
 shown bs start slash = record { front = chars (take start bs); path = chars (drop start bs); slash = slash }

@@ -1,12 +1,7 @@
 -- Plain references, from the bytes that the code looks at.
-use Rattle.rx_terms.proofs.Common.{◌≡◌, ◌∙◌, ℕ, suc, ◌+◌, ◌<◌, ◌≤◌, ◌/◌, Bool, true, false, List, [], ◌∷◌, ◌++◌, length, take, drop, get_or, sym, ap, subst, refl, arith, Option, Some, None, length-append, not, ◌==◌, ◌||◌, ◌&&◌, if◌then◌else◌, IfSome, codes, nat_lt, list_all, and_parts, and_from, or_parts, nat_tests, list_all-append, chars-nil, encodes-chars, chars-append, chars_past_char, encode_ascii, IsUtf8-past_char, IsCharBoundary-from_drop, is_ascii, Chars, begins_with, is_forbidden, has_forbidden, IsIri, by_test, untrue, ascii-chars, ascii-utf8, and-false, take-append_seam, drop-append_seam}
-use Rattle.std.specs.Str.{chars, IsUtf8, IsCharBoundary, encode_utf8_all}
-use Rattle.std.proofs.lemmas.List.{take-append-drop, length-take, append_assoc, append-nil, drop_more}
+use Rattle.rx_refs.proofs.Common.{◌≡◌, ◌∙◌, ℕ, suc, ◌+◌, ◌<◌, ◌≤◌, ◌/◌, Bool, true, false, List, [], ◌∷◌, ◌++◌, length, take, drop, get_or, sym, ap, subst, refl, arith, Option, Some, None, length-append, not, ◌==◌, ◌||◌, ◌&&◌, if◌then◌else◌, IfSome, codes, nat_lt, list_all, and_parts, and_from, or_parts, nat_tests, list_all-append, chars-nil, encodes-chars, chars-append, chars_past_char, encode_ascii, IsUtf8-past_char, IsCharBoundary-from_drop, is_ascii, Chars, begins_with, is_forbidden, has_forbidden, IsIri, by_test, untrue, ascii-chars, ascii-utf8, and-false, take-append_seam, drop-append_seam, chars, IsUtf8, IsCharBoundary, encode_utf8_all, take-append-drop, length-take, append_assoc, append-nil, drop_more, before, hierarchical_part, holds, through_last_slash, no_dots, ends_path, is_plain_from, is_plain, is_site_byte, is_scheme_byte, IsSchemeEnd, IsSite, IsSplit, folder_from, is_one_slash, begins_path, keeps_all, fragment_from, begins_query, path_end_from, IsWhole}
 use lib.Utf8.{encode, next}
-use Rattle.rx_refs.specs.Parts.{before, hierarchical_part}
-use Rattle.rx_refs.specs.Dots.{holds}
-use Rattle.rx_refs.specs.Resolve.{through_last_slash, resolved}
-use Rattle.rx_refs.specs.Plain.{no_dots, ends_path, is_plain_from, is_plain, is_site_byte, is_scheme_byte, IsSchemeEnd, IsSite, IsSplit, folder_from, is_one_slash, begins_path, keeps_all, fragment_from, begins_query, path_end_from, IsWhole}
+use Rattle.rx_refs.specs.Resolve.{resolved}
 use Rattle.rx_refs.specs.declared.plain.Split.{Split}
 use Rattle.rx_refs.proofs.PartLemmas.{before-lacking, all-of, none-of}
 use Rattle.rx_refs.proofs.CutLemmas.{past-slash, through-none, through-rest}

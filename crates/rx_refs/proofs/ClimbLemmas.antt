@@ -1,12 +1,9 @@
 -- References that begin with `../`: they take segments off the base's path, and nothing else is worked out.
-use Rattle.rx_terms.proofs.Common.{◌≡◌, ◌∙◌, ℕ, zero, suc, Bool, true, false, [], ◌∷◌, ◌++◌, length, sym, ap, refl, arith, not, ◌==◌, ◌||◌, ◌&&◌, is_some, and_parts, and_from, or_parts, Chars, is_empty, is_scheme, has_scheme, is_forbidden, has_forbidden, IsIri, by_test}
-use Rattle.std.proofs.lemmas.List.{append_assoc}
-use Rattle.rx_refs.specs.Parts.{before, behind_scheme, hierarchical_part, authority_of, path_of, components_of}
-use Rattle.rx_refs.specs.Dots.{holds, step, without_dots, without_last_segment}
+use Rattle.rx_refs.proofs.Common.{◌≡◌, ◌∙◌, ℕ, zero, suc, Bool, true, false, [], ◌∷◌, ◌++◌, length, sym, ap, refl, arith, not, ◌==◌, ◌||◌, ◌&&◌, is_some, and_parts, and_from, or_parts, Chars, is_empty, is_scheme, has_scheme, is_forbidden, has_forbidden, IsIri, by_test, append_assoc, before, behind_scheme, hierarchical_part, authority_of, path_of, holds, without_last_segment, through_last_slash, relative_path, no_dots, is_plain_from, climbs, ups, same_char}
+use Rattle.rx_refs.specs.Parts.{components_of}
+use Rattle.rx_refs.specs.Dots.{step, without_dots}
 use Rattle.rx_refs.specs.Segments.{reduced}
-use Rattle.rx_refs.specs.Resolve.{through_last_slash, relative_path, resolved}
-use Rattle.rx_refs.specs.Plain.{no_dots, is_plain_from, climbs, ups}
-use Rattle.rx_words.proofs.EndLemmas.{same_char}
+use Rattle.rx_refs.specs.Resolve.{resolved}
 use Rattle.rx_refs.proofs.DotLemmas.{at, reduced-step}
 use Rattle.rx_refs.proofs.SchemeLemmas.{cut-scheme, scheme-none, before-clean, clean-of}
 use Rattle.rx_refs.proofs.TargetLemmas.{relative-merged}

@@ -1,11 +1,7 @@
 -- What the cuts of std, which count bytes, are in characters.
-use Rattle.rx_terms.proofs.Common.{◌≡◌, ◌≢◌, ◌∙◌, ℕ, ◌<◌, ◌≤◌, true, false, List, [], ◌∷◌, ◌++◌, length, take, drop, get_or, sym, ap, subst, refl, arith, Option, Some, None, MatchOption, ◌==◌, unwrap_or, encode_utf8, take-append-drop, length-drop, take_all, drop_all, chars-nil, encodes-chars, encodes-append, chars-append, chars_past_char, encode_ascii, IsUtf8-take, IsUtf8-past_char, chars_from_encodes, IsUtf8-drop, IsCharBoundary-start, IsCharBoundary-end, IsCharBoundary-before_ascii, Chars, begins_with, by_test, or-true, HasCharAt, FindsChar, RFindsChar, drop_at_char}
-use Rattle.std.specs.Str.{chars, IsUtf8, IsCharBoundary, NonePass, NoCharPasses, encode_utf8_all}
-use Rattle.rx_refs.specs.Parts.{before, from_first}
-use Rattle.rx_refs.specs.Dots.{holds, without_last_segment}
-use Rattle.rx_refs.specs.Resolve.{through_last_slash}
+use Rattle.rx_refs.proofs.Common.{◌≡◌, ◌≢◌, ◌∙◌, ℕ, ◌<◌, ◌≤◌, true, false, List, [], ◌∷◌, ◌++◌, length, take, drop, get_or, sym, ap, subst, refl, arith, Option, Some, None, MatchOption, ◌==◌, encode_utf8, take-append-drop, length-drop, take_all, drop_all, chars-nil, encodes-chars, encodes-append, chars-append, chars_past_char, encode_ascii, IsUtf8-take, IsUtf8-past_char, chars_from_encodes, IsUtf8-drop, IsCharBoundary-start, IsCharBoundary-end, IsCharBoundary-before_ascii, Chars, begins_with, by_test, HasCharAt, FindsChar, RFindsChar, drop_at_char, chars, IsUtf8, IsCharBoundary, NonePass, NoCharPasses, encode_utf8_all, before, from_first, holds, without_last_segment, through_last_slash, begins-front}
+use Rattle.rx_terms.proofs.Common.{unwrap_or, or-true}
 use Rattle.rx_refs.proofs.PartLemmas.{cut-at, uncut}
-use Rattle.rx_words.proofs.EndLemmas.{begins-front}
 
 -- Texts with a `/`
 

@@ -1,9 +1,7 @@
 -- The loop of 5.2.4, segment by segment.
-use Rattle.rx_terms.proofs.Common.{◌≡◌, ◌∙◌, ℕ, zero, suc, ◌≤◌, Bool, true, false, [], ◌∷◌, ◌++◌, length, drop, sym, ap, refl, arith, ◌==◌, ◌||◌, if◌then◌else◌, codes, bytes_decides, nat_tests, Chars, begins_with, by_test, and-false}
-use Rattle.std.proofs.lemmas.List.{length-drop, append-nil, append_assoc}
-use Rattle.rx_refs.specs.Parts.{from_first}
-use Rattle.rx_refs.specs.Dots.{Buffers, is, holds, without_last_segment, step, after_steps, without_dots}
-use Rattle.rx_refs.specs.Segments.{Grown, slashed, buffers_at, reduced, pushed, cut_back, after_segment, after_last, Takes}
+use Rattle.rx_refs.proofs.Common.{◌≡◌, ◌∙◌, ℕ, zero, suc, ◌≤◌, Bool, true, false, [], ◌∷◌, ◌++◌, length, drop, sym, ap, refl, arith, ◌==◌, ◌||◌, if◌then◌else◌, codes, bytes_decides, nat_tests, Chars, begins_with, by_test, and-false, length-drop, append-nil, append_assoc, from_first, is, holds, without_last_segment, Grown, slashed, pushed, cut_back, after_segment, after_last, Takes}
+use Rattle.rx_refs.specs.Dots.{Buffers, step, after_steps, without_dots}
+use Rattle.rx_refs.specs.Segments.{buffers_at, reduced}
 use Rattle.rx_refs.proofs.PartLemmas.{cut-at, uncut}
 
 abbrev pub at : Chars → Chars → Buffers

@@ -1,9 +1,6 @@
 -- The bytes of an escape, and the loop that writes them.
-use Rattle.rx_terms.proofs.Common.{◌≡◌, ◌∙◌, ℕ, zero, suc, ◌+◌, ◌<◌, ◌/◌, ◌%◌, Bool, true, false, List, [], ◌∷◌, ◌++◌, length, length-append, take, get_or, sym, ap, subst, refl, arith, if◌then◌else◌, codes, encode_utf8, list_all, chars, IsUtf8, IsCharBoundary, all_scalars, and_parts, and_from, chars-append, chars-encodes, chars_past_char, scalars-chars, encode_ascii, IsCharBoundary-from_take, is_ascii, Chars, is_forbidden, ascii-chars, take-append_seam}
-use Rattle.std.proofs.lemmas.List.{append_assoc, append-nil}
+use Rattle.rx_refs.proofs.Common.{◌≡◌, ◌∙◌, ℕ, zero, suc, ◌+◌, ◌<◌, ◌/◌, ◌%◌, Bool, true, false, List, [], ◌∷◌, ◌++◌, length, length-append, take, get_or, sym, ap, subst, refl, arith, if◌then◌else◌, codes, encode_utf8, list_all, chars, IsUtf8, IsCharBoundary, all_scalars, and_parts, and_from, chars-append, chars-encodes, chars_past_char, scalars-chars, encode_ascii, IsCharBoundary-from_take, is_ascii, Chars, is_forbidden, ascii-chars, take-append_seam, append_assoc, append-nil, digit, escaped, cleaned, Keeps}
 use borrow.Author.Tests.{ltb-true}
-use Rattle.rx_refs.specs.Resolve.{digit, escaped, cleaned}
-use Rattle.rx_refs.specs.Views.{Keeps}
 use Rattle.rx_refs.proofs.SchemeLemmas.{forbidden-small}
 
 all_at : (p : ℕ → Bool) (xs : List ℕ) (n : ℕ) → list_all p xs ≡ true → n < length xs → p (get_or xs n 0) ≡ true

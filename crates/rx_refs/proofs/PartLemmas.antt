@@ -1,8 +1,5 @@
 -- Where a text is cut at its first `mark`.
-use Rattle.rx_terms.proofs.Common.{◌≡◌, ◌∙◌, ℕ, true, false, [], ◌∷◌, ◌++◌, ap, refl, arith, Option, Some, None, ◌==◌, Bool, nat_tests, by_test, Chars, split_at, front_grows, or_parts, and_parts, and_from, list_any, list_all}
-use Rattle.rx_refs.specs.Parts.{before, from_first, behind}
-use Rattle.rx_refs.specs.Dots.{holds}
-use Rattle.rx_words.proofs.EndLemmas.{same_char}
+use Rattle.rx_refs.proofs.Common.{◌≡◌, ◌∙◌, ℕ, true, false, [], ◌∷◌, ◌++◌, ap, refl, arith, Option, Some, None, ◌==◌, Bool, nat_tests, by_test, Chars, split_at, front_grows, or_parts, and_parts, and_from, list_any, list_all, before, from_first, behind, holds, same_char}
 
 pub behind-none : (mark : ℕ) (text : Chars) → behind mark text ≡ None → (before mark text ≡ text) × (from_first mark text ≡ []) × (holds mark text ≡ false)
 behind-none mark [] e = (refl, refl, refl)

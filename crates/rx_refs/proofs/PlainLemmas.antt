@@ -1,12 +1,9 @@
 -- What a plain reference means.
-use Rattle.rx_terms.proofs.Common.{◌≡◌, ◌∙◌, ℕ, zero, suc, ◌≤◌, Bool, true, false, [], ◌∷◌, ◌++◌, drop, length, reverse, sym, ap, refl, arith, Option, Some, None, not, ◌==◌, ◌||◌, ◌&&◌, if◌then◌else◌, is_some, codes, list_all, and_parts, and_from, or_parts, nat_tests, list_any-append, option_or, is_white_space, Chars, begins_with, is_empty, trimmed, without_leading_space, is_scheme_char, is_scheme, has_scheme, is_forbidden, has_forbidden, IsIri, begins_with_letter, by_test, untrue}
-use Rattle.std.proofs.lemmas.List.{append_cancel_left, reverse-append, reverse-reverse, append_assoc, append-nil}
-use Rattle.rx_refs.specs.Parts.{Components, before, from_first, behind, scheme_of, behind_scheme, hierarchical_part, authority_of, path_of, query_of, components_of, delimited, recomposed}
-use Rattle.rx_refs.specs.Dots.{holds, step, without_dots}
+use Rattle.rx_refs.proofs.Common.{◌≡◌, ◌∙◌, ℕ, zero, suc, ◌≤◌, Bool, true, false, [], ◌∷◌, ◌++◌, drop, length, reverse, sym, ap, refl, arith, Option, Some, None, not, ◌==◌, ◌||◌, ◌&&◌, if◌then◌else◌, is_some, codes, list_all, and_parts, and_from, or_parts, nat_tests, list_any-append, option_or, is_white_space, Chars, begins_with, is_empty, trimmed, without_leading_space, is_scheme_char, is_scheme, has_scheme, is_forbidden, has_forbidden, IsIri, begins_with_letter, by_test, untrue, append_cancel_left, reverse-append, reverse-reverse, append_assoc, append-nil, Components, before, from_first, behind, scheme_of, behind_scheme, hierarchical_part, authority_of, path_of, delimited, recomposed, holds, through_last_slash, relative_path, cleaned, no_dots, ends_path, is_plain_from, is_plain, begins_path, keeps_all, begins_query, begins-front, same_char}
+use Rattle.rx_refs.specs.Parts.{query_of, components_of}
+use Rattle.rx_refs.specs.Dots.{step, without_dots}
 use Rattle.rx_refs.specs.Segments.{reduced}
-use Rattle.rx_refs.specs.Resolve.{through_last_slash, relative_path, target, cleaned, resolved}
-use Rattle.rx_refs.specs.Plain.{no_dots, ends_path, is_plain_from, is_plain, begins_path, keeps_all, begins_query}
-use Rattle.rx_words.proofs.EndLemmas.{begins-front, same_char}
+use Rattle.rx_refs.specs.Resolve.{target, resolved}
 use Rattle.rx_refs.proofs.PartLemmas.{before-lacking, none-of, before-from, cut-at}
 use Rattle.rx_refs.proofs.DotLemmas.{at, from_first-shorter, reduced-step}
 use Rattle.rx_refs.proofs.RuleLemmas.{reduced-end}

@@ -1,10 +1,9 @@
 -- The loop of 5.2.4 and its rules.
-use Rattle.rx_terms.proofs.Common.{◌≡◌, ◌∙◌, ℕ, zero, suc, ◌<◌, ◌≤◌, Bool, true, false, [], ◌∷◌, ◌++◌, length, sym, ap, subst, refl, arith, length-append, ◌||◌, Chars, begins_with, by_test, codes}
-use Rattle.rx_refs.specs.Dots.{is, first_segment, behind_first_segment, without_last_segment, step, without_dots}
+use Rattle.rx_refs.proofs.Common.{◌≡◌, ◌∙◌, ℕ, zero, suc, ◌<◌, ◌≤◌, Bool, true, false, [], ◌∷◌, ◌++◌, length, sym, ap, subst, refl, arith, length-append, ◌||◌, Chars, begins_with, by_test, codes, is, without_last_segment, begins-front}
+use Rattle.rx_refs.specs.Dots.{first_segment, behind_first_segment, step, without_dots}
 use Rattle.rx_refs.specs.Rules.{IsOther, EndsWith, DotsByRules}
 use Rattle.rx_refs.specs.Rules.EndsWith.{at_end, a_parent, a_here, b_inside, b_last, c_inside, c_last, d_here, d_parent, e_other}
 use Rattle.rx_refs.specs.Segments.{reduced}
-use Rattle.rx_words.proofs.EndLemmas.{begins-front}
 use Rattle.rx_refs.proofs.DotLemmas.{at, from_first-shorter, reduced-step, same}
 
 step-other : (input output : Chars) → IsOther input → step (at input output) ≡ at (behind_first_segment input) (output ++ first_segment input)

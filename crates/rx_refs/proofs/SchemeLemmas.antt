@@ -1,9 +1,5 @@
 -- Schemes, and what of them is left in what a reference means.
-use Rattle.rx_terms.proofs.Common.{◌≡◌, ◌∙◌, ℕ, zero, suc, ◌<◌, ◌/◌, ◌%◌, length, get_or, Bool, true, false, List, [], ◌∷◌, ◌++◌, drop, sym, ap, refl, arith, Option, Some, None, ◌==◌, list_all, list_any, and_parts, or_parts, nat_tests, list_any-append, Chars, is_scheme_char, is_scheme, has_scheme, is_forbidden, has_forbidden, IsIri, begins_with_letter, begins_with_scheme, by_test, codes}
-use Rattle.std.proofs.lemmas.List.{append_assoc}
-use Rattle.rx_refs.specs.Resolve.{digit, escaped, cleaned_char, cleaned}
-use Rattle.rx_refs.specs.Parts.{before, from_first, behind, scheme_of, behind_scheme}
-use Rattle.rx_refs.specs.Dots.{holds}
+use Rattle.rx_refs.proofs.Common.{◌≡◌, ◌∙◌, ℕ, zero, suc, ◌<◌, ◌/◌, ◌%◌, length, get_or, Bool, true, false, List, [], ◌∷◌, ◌++◌, drop, sym, ap, refl, arith, Option, Some, None, ◌==◌, list_all, list_any, and_parts, or_parts, nat_tests, list_any-append, Chars, is_scheme_char, is_scheme, has_scheme, is_forbidden, has_forbidden, IsIri, begins_with_letter, begins_with_scheme, by_test, codes, append_assoc, digit, escaped, cleaned_char, cleaned, before, from_first, behind, scheme_of, behind_scheme, holds}
 use Rattle.rx_refs.proofs.PartLemmas.{before-from, before-lacking, none-of, with_front, split_at-parts, behind-none, behind-some, before-lacks, cut-at, uncut}
 
 pub has_scheme-cut : (front rest : Chars) → holds 58 front ≡ false → has_scheme (front ++ 58 ∷ rest) ≡ is_scheme front

@@ -1,8 +1,6 @@
 -- The cases of 5.2.2 on what the code holds.
-use Rattle.rx_terms.proofs.Common.{◌≡◌, ℕ, true, false, List, ◌∷◌, ◌++◌, refl, Option, Some, None, ◌&&◌, is_some, codes, option_or, Chars, begins_with, is_empty, seen_slice, Bor}
-use Rattle.rx_refs.specs.Parts.{Components}
+use Rattle.rx_refs.proofs.Common.{◌≡◌, ℕ, true, false, List, ◌∷◌, ◌++◌, refl, Option, Some, None, ◌&&◌, is_some, codes, option_or, Chars, begins_with, is_empty, seen_slice, Bor, Components, through_last_slash, relative_path}
 use Rattle.rx_refs.specs.Dots.{without_dots}
-use Rattle.rx_refs.specs.Resolve.{through_last_slash, relative_path}
 
 pub seen-some : (slice : Option (Bor (List ℕ))) → is_some (seen_slice slice) ≡ is_some slice
 seen-some None = refl

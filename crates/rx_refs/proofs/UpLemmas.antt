@@ -1,12 +1,7 @@
 -- `../` at the front, from the bytes that the code looks at.
-use Rattle.rx_terms.proofs.Common.{◌≡◌, ◌∙◌, ℕ, zero, suc, ◌+◌, ◌-◌, ◌*◌, ◌<◌, ◌≤◌, true, false, List, [], ◌∷◌, ◌++◌, length, take, drop, Option, Some, sym, ap, subst, refl, arith, length-append, ◌==◌, ◌&&◌, if◌then◌else◌, IfSome, list_all, and_parts, chars, IsUtf8, IsCharBoundary, is_ascii, Chars, IsIri, by_test, take-append_seam, drop-append_seam}
-use Rattle.std.proofs.lemmas.List.{length-take, length-drop, append_assoc, take-take, drop-drop}
-use Rattle.rx_refs.specs.Parts.{hierarchical_part}
+use Rattle.rx_refs.proofs.Common.{◌≡◌, ◌∙◌, ℕ, zero, suc, ◌+◌, ◌-◌, ◌*◌, ◌<◌, ◌≤◌, true, false, List, [], ◌∷◌, ◌++◌, length, take, drop, Option, Some, sym, ap, subst, refl, arith, length-append, ◌==◌, ◌&&◌, if◌then◌else◌, IfSome, list_all, and_parts, chars, IsUtf8, IsCharBoundary, is_ascii, Chars, IsIri, by_test, take-append_seam, drop-append_seam, length-take, length-drop, append_assoc, take-take, drop-drop, hierarchical_part, holds, without_last_segment, climbs, ups, count_of, last_from, begins_climb, is_plain_from, IsSplit, folder_from, same_char}
 use Rattle.rx_refs.specs.Resolve.{resolved}
-use Rattle.rx_refs.specs.Dots.{holds, without_last_segment}
-use Rattle.rx_refs.specs.Plain.{climbs, ups, count_of, last_from, begins_climb, is_plain_from, IsSplit, folder_from}
 use Rattle.rx_refs.specs.declared.plain.Split.{Split}
-use Rattle.rx_words.proofs.EndLemmas.{same_char}
 use Rattle.rx_refs.proofs.CutLemmas.{through-rest, without-none}
 use Rattle.rx_refs.proofs.ByteLemmas.{ascii-front, told-plain, cut-of, site, site-cut, site-flat, site-further}
 use Rattle.rx_refs.proofs.ClimbLemmas.{through-without, plain-climbs}

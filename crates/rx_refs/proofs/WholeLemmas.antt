@@ -1,12 +1,10 @@
 -- The components joined again, and the target of a reference.
-use Rattle.rx_terms.proofs.Common.{◌≡◌, ◌∙◌, ℕ, true, false, [], ◌∷◌, ◌++◌, drop, sym, ap, subst, refl, Option, Some, None, is_some, codes, option_or, Chars, begins_with, is_empty, trimmed, is_scheme, has_scheme, has_forbidden, by_test}
-use Rattle.std.proofs.lemmas.List.{append_assoc, append-nil}
-use Rattle.rx_refs.specs.Parts.{Components, before, behind, scheme_of, behind_scheme, authority_of, path_of, components_of, delimited, recomposed}
-use Rattle.rx_refs.specs.Dots.{holds, without_dots}
-use Rattle.rx_refs.specs.Resolve.{relative_path, target, cleaned, resolved}
+use Rattle.rx_refs.proofs.Common.{◌≡◌, ◌∙◌, ℕ, true, false, [], ◌∷◌, ◌++◌, drop, sym, ap, subst, refl, Option, Some, None, is_some, codes, option_or, Chars, begins_with, is_empty, trimmed, is_scheme, has_scheme, has_forbidden, by_test, append_assoc, append-nil, Components, before, behind, scheme_of, behind_scheme, authority_of, path_of, delimited, recomposed, holds, relative_path, cleaned, begins-front}
+use Rattle.rx_refs.specs.Parts.{components_of}
+use Rattle.rx_refs.specs.Dots.{without_dots}
+use Rattle.rx_refs.specs.Resolve.{target, resolved}
 use Rattle.rx_refs.specs.Laws.{AbsoluteStandsAlone, PartsAreWhole, ResolvedIsIri}
 use Rattle.rx_refs.proofs.PartLemmas.{behind-none, behind-some, before-from}
-use Rattle.rx_words.proofs.EndLemmas.{begins-front}
 use Rattle.rx_refs.proofs.SchemeLemmas.{cut-scheme, scheme-cut, scheme-none, cleaned-has-scheme, cleaned-clean}
 
 -- The parts of a text are the text

@@ -1,7 +1,5 @@
 -- Cells of lists, and how many levels are left below a node.
-use Rattle.rx_model.proofs.Common.{◌≡◌, ◌⊎◌, ◌≤◌, ◌<◌, ℕ, suc, ◌+◌, List, length, bytes_eq, refl, sym, ap, inl, inr, subst, true≢false, arith, Chars, Among, Iri, Blank, Term, Resource, Triple, set_of, spo, rdf_first, rdf_rest, rdf_nil}
-use Rattle.rx_shapes.specs.Shapes.{Ends, onward, Inner, Pair, Cell, last_cell, next_cell}
-use Rattle.rx_shapes.specs.Subjects.{objects_of}
+use Rattle.rx_shapes.proofs.Common.{◌≡◌, ◌⊎◌, ◌≤◌, ◌<◌, ℕ, suc, ◌+◌, List, length, bytes_eq, refl, sym, ap, inl, inr, subst, true≢false, arith, Chars, Among, Iri, Blank, Term, Resource, Triple, set_of, spo, rdf_first, rdf_rest, rdf_nil, Ends, onward, Inner, Pair, Cell, last_cell, next_cell, objects_of}
 use Rattle.rx_shapes.proofs.Grouped.{object_there, object_says}
 use Rattle.rx_shapes.proofs.Heights.{height, height_once, heights_alike, height_bound}
 

@@ -1,10 +1,7 @@
 -- Chains that end.
-use Rattle.rx_model.proofs.Common.{◌≡◌, ℕ, suc, ◌+◌, ◌<◌, ◌≤◌, true, nat_lt, List, [], ◌++◌, length, get_or, slice_get, Some, refl, sym, ap, subst, ◌∙◌, inl, inr, arith, length-append, nat_tests, slice_get_within, by_test, Among, Among_left, Among_cases}
+use Rattle.rx_shapes.proofs.Common.{◌≡◌, ℕ, suc, ◌+◌, ◌<◌, ◌≤◌, true, nat_lt, List, [], ◌++◌, length, get_or, slice_get, Some, refl, sym, ap, subst, ◌∙◌, inl, inr, arith, length-append, nat_tests, slice_get_within, by_test, Among, Among_left, Among_cases, table, is_number, filed, Reach, unreached, reach_all, Leads, ending, linked, Settled, source_row}
 use Rattle.rx_shapes.specs.declared.chains.Link.{Link}
 use Rattle.rx_shapes.specs.declared.chains.Link.TheVariants as link
-use Rattle.rx_shapes.specs.Rows.{table, is_number, filed}
-use Rattle.rx_shapes.specs.Reach.{Reach, unreached, reach_all}
-use Rattle.rx_shapes.specs.Chains.{Leads, ending, linked, Settled, source_row}
 use Rattle.rx_shapes.proofs.RowLemmas.{is_number_true, true_number, got_or, at_position, position_of, among_get, get_among, get_front, same_some}
 use Rattle.rx_shapes.proofs.ReachedLemmas.{IsReach, is_reach_start, Grown, grown_all, marked_within}
 

@@ -1,6 +1,6 @@
 -- The worked examples of shapes.
-use Rattle.rx_model.proofs.Common.{◌≡◌, ◌⊎◌, ℕ, false, nat_eq, List, [], ◌∷◌, filter, refl, sym, ap, subst, ◌∙◌, inl, inr, true≢false, Chars, Among, Node, Iri, Blank, Term, Resource, Triple, set_of, same_node, same_triple, same_term, spo, exact_numbers, exact_nodes, exact_triples, exact_terms, Among_filter, Among_of_filter, rdf_first, rdf_rest, rdf_nil}
-use Rattle.rx_shapes.specs.Shapes.{Parent, Ends, at_iri, at_top, onward, Inner, Pair, Cell, last_cell, next_cell}
+use Rattle.rx_shapes.proofs.Common.{◌≡◌, ◌⊎◌, ℕ, false, nat_eq, List, [], ◌∷◌, filter, refl, sym, ap, subst, ◌∙◌, inl, inr, true≢false, Chars, Among, Node, Iri, Blank, Term, Resource, Triple, set_of, same_node, same_triple, spo, exact_numbers, exact_nodes, exact_triples, Among_filter, Among_of_filter, rdf_first, rdf_rest, rdf_nil, Parent, Ends, at_iri, at_top, onward, Inner, Pair, Cell, last_cell, next_cell}
+use Rattle.rx_model.proofs.Common.{same_term, exact_terms}
 use Rattle.rx_shapes.proofs.Grouped.{object_there}
 use Rattle.rx_shapes.proofs.Heights.{parent_once}
 use Rattle.rx_shapes.proofs.CellLemmas.{cell_of, rest_each}

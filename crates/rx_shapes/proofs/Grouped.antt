@@ -1,6 +1,5 @@
 -- The triples of a list by subject and predicate.
-use Rattle.rx_model.proofs.Common.{◌≡◌, ℕ, nat_eq, List, map, filter, bytes_eq, refl, sym, subst, Chars, same_truth, Among, IsExact, Node, Term, Triple, same_node, spo, Among_filter, Among_of_filter, Among_map, Among_of_map, Among_distinct, Among_of_distinct, exact_texts, exact_nodes, exact_numbers}
-use Rattle.rx_shapes.specs.Subjects.{has_subject, has_predicate, subjects, about, predicates_of, objects_of}
+use Rattle.rx_shapes.proofs.Common.{◌≡◌, ℕ, nat_eq, List, map, filter, bytes_eq, refl, sym, subst, Chars, same_truth, Among, IsExact, Node, Term, Triple, same_node, spo, Among_filter, Among_of_filter, Among_map, Among_of_map, Among_distinct, Among_of_distinct, exact_texts, exact_nodes, exact_numbers, has_subject, has_predicate, subjects, about, predicates_of, objects_of}
 
 pub same_nodes : IsExact (same_node nat_eq)
 same_nodes = exact_nodes nat_eq exact_numbers

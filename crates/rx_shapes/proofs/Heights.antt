@@ -1,6 +1,5 @@
 -- How deep inner nodes nest: no deeper than the list has triples.
-use Rattle.rx_model.proofs.Common.{◌≡◌, ◌∙◌, ◌≤◌, ℕ, suc, List, [], ◌∷◌, length, refl, sym, ap, inl, inr, subst, arith, Among, Node, Blank, Resource, Triple, set_of, spo}
-use Rattle.rx_shapes.specs.Shapes.{Parent, Ends, at_iri, at_top, onward}
+use Rattle.rx_shapes.proofs.Common.{◌≡◌, ◌∙◌, ◌≤◌, ℕ, suc, List, [], ◌∷◌, length, refl, sym, ap, inl, inr, subst, arith, Among, Node, Blank, Resource, Triple, set_of, spo, Parent, Ends, at_iri, at_top, onward}
 
 -- ---- lists
 

@@ -1,16 +1,12 @@
 -- Nodes by number.
-use Rattle.rx_model.proofs.Common.{position_or_len, nat_tests, take_all, same_truth, by_test, contains, with_one, Node, Iri, Blank, Term, Resource, Triple, same_node, node_seen, triple_seen, triples_seen, exact_numbers, exact_nodes, false_unless, or_left, or_right, Among_cases}
-use Rattle.std.proofs.Common.{◌≡◌, ℕ, suc, zero, ◌+◌, ◌≤◌, Bool, true, false, nat_eq, nat_lt, List, [], ◌∷◌, ◌++◌, map, length, take, position, slice_get, Some, option_map, refl, sym, ap, subst, ◌∙◌, inl, inr, true≢false, arith, rules, ◌↔◌, if◌then◌else◌}
+use Rattle.rx_shapes.proofs.Common.{nat_tests, take_all, same_truth, by_test, Node, Iri, Blank, Term, Resource, Triple, same_node, node_seen, triple_seen, triples_seen, exact_numbers, exact_nodes, false_unless, Among_cases, ◌≡◌, ℕ, suc, zero, ◌+◌, ◌≤◌, Bool, true, false, nat_eq, nat_lt, List, [], ◌∷◌, ◌++◌, map, length, take, position, slice_get, Some, option_map, refl, sym, ap, subst, ◌∙◌, inl, inr, true≢false, arith, rules, ◌↔◌, number_in, insert_seen, seen_more, contains_added, number_same, is_number, object_number, object_added, triple_added, HasNodes}
+use Rattle.rx_model.proofs.Common.{position_or_len, contains, with_one, or_left, or_right}
+use Rattle.std.proofs.Common.{if◌then◌else◌}
 use Rattle.rx_unique.specs.Unique.{insert_key}
 use Rattle.rx_terms.specs.declared.triples.Node.{Node as CodeNode}
 use Rattle.rx_terms.specs.declared.triples.Triple.{Triple as CodeTriple}
 use Rattle.rx_terms.specs.contracts.triples.NodePartialEq.TheImpl as node_impl
 use Rattle.rx_model.proofs.Seen.{node_tells}
-use Rattle.rx_graph.specs.Resources.{number_in}
-use Rattle.rx_graph.proofs.SetLemmas.{insert_seen, seen_more}
-use Rattle.rx_graph.proofs.PatternLemmas.{contains_added, number_same}
-use Rattle.rx_shapes.specs.Rows.{is_number}
-use Rattle.rx_shapes.specs.Links.{object_number, object_added, triple_added, HasNodes}
 use Rattle.rx_shapes.proofs.RowLemmas.{is_number_true, true_number}
 
 -- ---- the code's test

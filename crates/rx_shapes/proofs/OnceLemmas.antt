@@ -1,6 +1,5 @@
 -- Lists in which each stands once, and which of their elements pass a test.
-use Rattle.rx_model.proofs.Common.{◌≡◌, ◌⊎◌, ℕ, Bool, true, List, [], ◌∷◌, filter, slice_get, Some, refl, sym, ap, ap₂, subst, ◌∙◌, inl, inr, Among, IsExact, distinct, Among_filter, Among_of_filter}
-use Rattle.rx_shapes.specs.Rows.{positions}
+use Rattle.rx_shapes.proofs.Common.{◌≡◌, ◌⊎◌, ℕ, Bool, true, List, [], ◌∷◌, filter, slice_get, Some, refl, sym, ap, ap₂, subst, ◌∙◌, inl, inr, Among, IsExact, distinct, Among_filter, Among_of_filter, positions}
 use Rattle.rx_shapes.proofs.Heights.{Differ}
 use Rattle.rx_shapes.proofs.Times.{differ_filter, distinct_differ}
 use Rattle.rx_shapes.proofs.RowLemmas.{Stand, passing}

@@ -1,9 +1,6 @@
 -- What is found by the places of a node's triples.
-use Rattle.rx_model.proofs.Common.{◌≡◌, ◌∙◌, ℕ, suc, Bool, true, false, cond, nat_eq, List, [], ◌∷◌, ◌++◌, map, filter, length, length-append, slice_get, Option, Some, None, option_to_list, refl, sym, ap, ap₂, arith, append_assoc, if◌then◌else◌, option_or, Chars, by_test, Node, Term, Triple, same_node}
-use Rattle.rx_shapes.specs.Rows.{positions}
-use Rattle.rx_shapes.specs.Places.{places_of, picked}
-use Rattle.rx_shapes.specs.Subjects.{about, has_subject, has_predicate, first_of, object_at}
-use Rattle.rx_shapes.specs.Cells.{object_if, object_among}
+use Rattle.rx_shapes.proofs.Common.{◌≡◌, ◌∙◌, ℕ, suc, Bool, true, false, cond, nat_eq, List, [], ◌∷◌, ◌++◌, map, filter, length, length-append, slice_get, Option, Some, None, option_to_list, refl, sym, ap, ap₂, arith, append_assoc, Chars, by_test, Node, Term, Triple, same_node, positions, places_of, picked, about, has_subject, has_predicate, first_of, object_at, object_if, object_among}
+use Rattle.rx_model.proofs.Common.{if◌then◌else◌, option_or}
 use Rattle.rx_shapes.proofs.RowLemmas.{positions_same}
 use Rattle.rx_shapes.proofs.Grouped.{same_back}
 

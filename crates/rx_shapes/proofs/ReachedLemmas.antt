@@ -1,7 +1,5 @@
 -- Numbers that are reached.
-use Rattle.rx_model.proofs.Common.{◌≡◌, ◌↔◌, ◌⊎◌, ℕ, suc, zero, ◌+◌, ◌<◌, Bool, true, false, nat_eq, List, [], ◌∷◌, ◌++◌, length, get_or, slice_set, replicate, refl, sym, ap, subst, ◌∙◌, inl, inr, true≢false, arith, append-nil, append_assoc, length-append, Decides-eqb, by_test, Among, Among_left, Among_right, Among_cases}
-use Rattle.std.proofs.lemmas.List.{length-set, get_or-set_other, get_or-set_same, get_or_default, length-replicate}
-use Rattle.rx_shapes.specs.Reach.{Reach, unreached, marked, reach_added, reach_all}
+use Rattle.rx_shapes.proofs.Common.{◌≡◌, ◌↔◌, ◌⊎◌, ℕ, suc, zero, ◌+◌, ◌<◌, Bool, true, false, nat_eq, List, [], ◌∷◌, ◌++◌, length, get_or, slice_set, replicate, refl, sym, ap, subst, ◌∙◌, inl, inr, true≢false, arith, append-nil, append_assoc, length-append, Decides-eqb, by_test, Among, Among_left, Among_right, Among_cases, length-set, get_or-set_other, get_or-set_same, get_or_default, length-replicate, Reach, unreached, marked, reach_added, reach_all}
 
 -- how many have no mark
 pub unmarked : List Bool → ℕ

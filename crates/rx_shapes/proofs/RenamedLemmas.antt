@@ -1,8 +1,8 @@
 -- Shapes where the blank nodes have other names.
-use Rattle.rx_model.proofs.Common.{◌≡◌, refl, sym, ap, ap₂, subst, ◌∙◌, inl, inr, Chars, Among, Node, Iri, Blank, Term, Resource, Literal, Triple, Graph, set_of, spo, rename_node, rename_term, rename, blank_of_node, blank_of_term, Has, Renamed, Among_left, Among_right, rdf_first, rdf_rest, rdf_nil}
+use Rattle.rx_shapes.proofs.Common.{◌≡◌, refl, sym, ap, ap₂, subst, ◌∙◌, inl, inr, Chars, Among, Node, Iri, Blank, Term, Resource, Literal, Triple, set_of, spo, Among_left, Among_right, rdf_first, rdf_rest, rdf_nil, Parent, Ends, at_iri, at_top, onward, Inner, Pair, Cell, last_cell, next_cell, IsShape}
+use Rattle.rx_model.proofs.Common.{Graph, rename_node, rename_term, rename, blank_of_node, blank_of_term, Has, Renamed}
 use Rattle.rx_shapes.specs.declared.shapes.Shape.{Shape}
 use Rattle.rx_shapes.specs.declared.shapes.Shape.TheVariants as shape
-use Rattle.rx_shapes.specs.Shapes.{Parent, Ends, at_iri, at_top, onward, Inner, Pair, Cell, last_cell, next_cell, IsShape}
 use Rattle.rx_shapes.specs.Laws.{ShapesForgetNames}
 
 module _ {A B : Type 0} (g : Graph A) (h : Graph B) (r : Renamed g h) where

@@ -1,9 +1,6 @@
 -- Tables, rows of numbers, and where things stand in a list.
-use Rattle.rx_model.proofs.Common.{◌≡◌, ℕ, suc, zero, ◌+◌, ◌<◌, ◌≤◌, Bool, true, false, nat_eq, List, [], ◌∷◌, ◌++◌, filter, length, take, get_or, slice_get, Option, Some, None, refl, sym, ap, ap₂, subst, ◌∙◌, inl, inr, true≢false, arith, append-nil, if◌then◌else◌, Decides-eqb, take_all, by_test, Among, Among_of_filter, false_unless, under_cond, get_or_from_slice_get}
-use Rattle.rx_graph.specs.Rows.{pushed, empty_rows}
-use Rattle.rx_graph.proofs.SetLemmas.{one_more}
-use Rattle.rx_graph.proofs.PatternLemmas.{empty_more}
-use Rattle.rx_shapes.specs.Rows.{filed_in, table, is_number, positions, filed}
+use Rattle.rx_shapes.proofs.Common.{◌≡◌, ℕ, suc, zero, ◌+◌, ◌<◌, ◌≤◌, Bool, true, false, nat_eq, List, [], ◌∷◌, ◌++◌, filter, length, take, get_or, slice_get, Option, Some, None, refl, sym, ap, ap₂, subst, ◌∙◌, inl, inr, true≢false, arith, append-nil, Decides-eqb, take_all, by_test, Among, Among_of_filter, false_unless, under_cond, get_or_from_slice_get, pushed, empty_rows, one_more, empty_more, filed_in, table, is_number, positions, filed}
+use Rattle.rx_model.proofs.Common.{if◌then◌else◌}
 
 pub unlike : (k m : ℕ) → ¬ (k ≡ m) → nat_eq k m ≡ false
 unlike k m n = false_unless (nat_eq k m) (λ h. n ((Decides-eqb k m).0 h))

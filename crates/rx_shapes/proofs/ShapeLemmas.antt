@@ -1,16 +1,10 @@
 -- The shapes of nodes, by their numbers.
-use Rattle.rx_model.proofs.Common.{◌≡◌, ◌⊎◌, ℕ, Bool, true, false, nat_eq, List, [], ◌∷◌, length, get_or, slice_get, Option, Some, None, refl, sym, ap, ap₂, subst, ◌∙◌, inl, inr, true≢false, arith, bytes_eq, ◌&&◌, ◌==◌, if◌then◌else◌, Decides-eqb, and_from, by_test, Among, Node, Iri, Blank, Term, Resource, Literal, Triple, set_of, same_node, same_triple, spo, exact_texts, exact_numbers, exact_nodes, exact_triples, false_unless, and_left, and_right, rdf_first, rdf_rest, rdf_nil}
-use Rattle.rx_graph.specs.Resources.{number_in}
-use Rattle.rx_graph.proofs.PatternLemmas.{number_small, number_same, number_there}
+use Rattle.rx_shapes.proofs.Common.{◌≡◌, ◌⊎◌, ℕ, Bool, true, false, nat_eq, List, [], ◌∷◌, length, get_or, slice_get, Option, Some, None, refl, sym, ap, ap₂, subst, ◌∙◌, inl, inr, true≢false, arith, bytes_eq, ◌&&◌, ◌==◌, Decides-eqb, by_test, Among, Node, Iri, Blank, Term, Resource, Literal, Triple, set_of, same_node, same_triple, spo, exact_texts, exact_numbers, exact_nodes, exact_triples, false_unless, and_left, and_right, rdf_first, rdf_rest, rdf_nil, number_in, number_small, number_same, number_there, Parent, Ends, at_iri, at_top, onward, Inner, Pair, Cell, last_cell, next_cell, IsShape, places_of, is_number, filed, Leads, ending, linked, Settled, object_number, link_to, subject_link, parent_link, nil_link, rest_link, are_pair, pair_link, found_link, cell_link, inner_link, is_inner_by, shape_by, HasNodes, IsIndex, subject_rows, object_rows, parent_links, inner_marks, cell_links, shapes_by, AreInner, AreCells, AreNumbered}
+use Rattle.rx_model.proofs.Common.{if◌then◌else◌, and_from}
 use Rattle.rx_shapes.specs.declared.chains.Link.{Link}
 use Rattle.rx_shapes.specs.declared.chains.Link.TheVariants as link
 use Rattle.rx_shapes.specs.declared.shapes.Shape.{Shape}
 use Rattle.rx_shapes.specs.declared.shapes.Shape.TheVariants as shape
-use Rattle.rx_shapes.specs.Shapes.{Parent, Ends, at_iri, at_top, onward, Inner, Pair, Cell, last_cell, next_cell, IsShape}
-use Rattle.rx_shapes.specs.Places.{places_of}
-use Rattle.rx_shapes.specs.Rows.{is_number, filed}
-use Rattle.rx_shapes.specs.Chains.{Leads, ending, linked, Settled}
-use Rattle.rx_shapes.specs.Links.{object_number, link_to, subject_link, parent_link, nil_link, rest_link, are_pair, pair_link, found_link, cell_link, inner_link, is_inner_by, shape_by, HasNodes, IsIndex, subject_rows, object_rows, parent_links, inner_marks, cell_links, shapes_by, AreInner, AreCells, AreNumbered}
 use Rattle.rx_shapes.specs.Table.{shape_at, places_at, AreShapes}
 use Rattle.rx_shapes.proofs.RowLemmas.{is_number_true, true_number, got, got_or, same_some, among_get, positions_same, positions_none}
 use Rattle.rx_shapes.proofs.OnceLemmas.{once, single, double, one_at, two_at}

@@ -1,5 +1,5 @@
 -- How often a number stands in a list, and lists whose elements differ.
-use Rattle.rx_model.proofs.Common.{◌≡◌, ◌∙◌, ◌≤◌, ℕ, ◌+◌, nat_eq, Bool, cond, List, [], ◌∷◌, ◌++◌, filter, refl, sym, ap, inl, inr, true≢false, arith, not, by_test, Among, IsExact, distinct, Among_of_filter, exact_numbers}
+use Rattle.rx_shapes.proofs.Common.{◌≡◌, ◌∙◌, ◌≤◌, ℕ, ◌+◌, nat_eq, Bool, cond, List, [], ◌∷◌, ◌++◌, filter, refl, sym, ap, inl, inr, true≢false, arith, not, by_test, Among, IsExact, distinct, Among_of_filter, exact_numbers}
 use Rattle.rx_shapes.proofs.Heights.{Differ}
 
 -- ---- how often a number stands in a list

@@ -1,4 +1,5 @@
-use Rattle.rx_terms.proofs.Common.{◌≡◌, ◌∙◌, ap, refl, arith, codes, ◌++◌, [], ◌∷◌, decimal, decimal_digit, decimal_step}
+use Rattle.rx_many.proofs.Common.{◌≡◌, ◌∙◌, ap, refl, arith, codes, ◌++◌, [], ◌∷◌}
+use Rattle.rx_terms.proofs.Common.{decimal, decimal_digit, decimal_step}
 use lib.Utf8.{encode}
 use Rattle.rx_many.specs.Rows.{Holds, refused_between, twice, accepted_between, one_name, no_triples, fragments, two_graphs, nothing}
 use Rattle.rx_many.proofs.rows_hold.Goals as goal

@@ -1,4 +1,4 @@
-use Rattle.std.proofs.Common.{◌∙◌, ap, sym, refl, inl, rules}
+use Rattle.rdfax_c.proofs.Common.{◌∙◌, ap, sym, refl, inl, rules}
 use Rattle.rx_session.specs.Given.{lent_quad}
 use Rattle.rdfax_c.proofs.CallLemmas.{lends_shown}
 use Rattle.rdfax_c.proofs.exports.lend_quad.Goals as goal

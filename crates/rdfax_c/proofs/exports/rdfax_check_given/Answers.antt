@@ -1,6 +1,4 @@
-use Rattle.std.proofs.Common.{ℕ, List, Option, subst}
-use Rattle.rx_session.specs.Requests.{Opens, check_in}
-use Rattle.rdfax_c.specs.Calls.{given}
+use Rattle.rdfax_c.proofs.Common.{ℕ, List, Option, subst, Opens, check_in, given}
 use Rattle.rdfax_c.proofs.CallLemmas.{opens_page}
 use Rattle.rdfax_c.proofs.exports.rdfax_check_given.Goals as goal
 

@@ -1,6 +1,4 @@
-use Rattle.std.proofs.Common.{ℕ, List, Option, subst}
-use Rattle.rx_session.specs.Requests.{Opens, bytes_in}
-use Rattle.rdfax_c.specs.Calls.{given, extraction_by}
+use Rattle.rdfax_c.proofs.Common.{ℕ, List, Option, subst, Opens, bytes_in, given, extraction_by}
 use Rattle.rdfax_c.proofs.CallLemmas.{opens_page}
 use Rattle.rdfax_c.proofs.exports.rdfax_extract_given.Goals as goal
 

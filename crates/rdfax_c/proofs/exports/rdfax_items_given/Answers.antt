@@ -1,5 +1,4 @@
-use Rattle.std.proofs.Common.{None}
-use Rattle.rx_session.specs.Requests.{items_in}
+use Rattle.rdfax_c.proofs.Common.{None, items_in}
 use Rattle.rdfax_c.proofs.CallLemmas.{opens_page}
 use Rattle.rdfax_c.proofs.exports.rdfax_items_given.Goals as goal
 

@@ -1,6 +1,4 @@
-use Rattle.std.proofs.Common.{◌∙◌, ◌+◌, ap}
-use Rattle.rx_graph.proofs.NumberLemmas.{known_seen, place_by}
-use Rattle.rx_many.specs.Numbering.{numbers_of}
+use Rattle.rx_many.proofs.Common.{◌∙◌, ◌+◌, ap, known_seen, place_by, numbers_of}
 use Rattle.rx_many.proofs.blanks.place_behind.Goals as goal
 
 pub returns-clause-known : goal.returns-clause-known

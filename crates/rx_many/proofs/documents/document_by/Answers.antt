@@ -1,7 +1,4 @@
-use Rattle.rx_terms.proofs.Common.{List, map, take, subst, ap, sym, Some, ◌∙◌, slice_get-get_or}
-use Rattle.rx_many.specs.Lines.{Line, PageBlank, lines_from}
-use Rattle.rx_many.specs.Seen.{page_seen}
-use Rattle.rx_many.specs.Standing.{DocumentStands}
+use Rattle.rx_many.proofs.Common.{List, map, take, subst, ap, sym, Some, ◌∙◌, slice_get-get_or, Line, PageBlank, lines_from, page_seen, DocumentStands}
 use Rattle.rx_many.proofs.LineLemmas.{pages_more}
 use Rattle.rx_many.proofs.PageLemmas.{page_is_new, pages_before}
 use Rattle.rx_many.proofs.documents.document_by.Goals as goal

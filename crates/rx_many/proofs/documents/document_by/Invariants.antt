@@ -1,7 +1,4 @@
-use Rattle.std.proofs.Common.{map, take}
-use Rattle.rx_many.specs.Lines.{lines_from}
-use Rattle.rx_many.specs.Seen.{page_seen}
-use Rattle.rx_many.specs.Standing.{DocumentStands}
+use Rattle.rx_many.proofs.Common.{map, take, lines_from, page_seen, DocumentStands}
 use Rattle.rx_many.proofs.documents.document_by.Given as goal
 
 abbrev pub invariant-loop-i : goal.invariant-loop-i

@@ -1,4 +1,4 @@
-use Rattle.std.proofs.Common.{◌∙◌, sym}
+use Rattle.rx_many.proofs.Common.{◌∙◌, sym}
 use Rattle.rx_many.proofs.NameLemmas.{among_any, not_among}
 use Rattle.rx_many.proofs.names.is_shared.Goals as goal
 

@@ -1,5 +1,4 @@
-use Rattle.rx_terms.proofs.Common.{Some, sym, ap, ◌∙◌, subst, arith, slice_get-get_or, Chars}
-use Rattle.rx_many.specs.Names.{Notes, name_of}
+use Rattle.rx_many.proofs.Common.{Some, sym, ap, ◌∙◌, subst, arith, slice_get-get_or, Chars, Notes, name_of}
 use Rattle.rx_many.proofs.NameLemmas.{names_more, names_end}
 use Rattle.rx_many.proofs.names.shared_names.Goals as goal
 

@@ -1,5 +1,4 @@
-use Rattle.std.proofs.Common.{◌∙◌}
-use Rattle.rx_pieces.proofs.Adding.{iri_of}
+use Rattle.rx_many.proofs.Common.{◌∙◌, iri_of}
 use Rattle.rx_many.proofs.CommentLemmas.{comment_line}
 use Rattle.rx_many.proofs.refusals.comment_on.Goals as goal
 

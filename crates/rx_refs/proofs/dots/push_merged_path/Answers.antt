@@ -1,6 +1,4 @@
-use Rattle.rx_terms.proofs.Common.{◌≡◌, ◌∙◌, ◌++◌, sym, ap, string_bytes, chars, Chars}
-use Rattle.std.proofs.lemmas.List.{append_assoc}
-use Rattle.rx_refs.specs.Resolve.{through_last_slash}
+use Rattle.rx_refs.proofs.Common.{◌≡◌, ◌∙◌, ◌++◌, sym, ap, string_bytes, chars, Chars, append_assoc, through_last_slash}
 use Rattle.rx_refs.proofs.DotLemmas.{written, takes-both}
 use Rattle.rx_refs.proofs.dots.push_merged_path.Goals as goal
 

@@ -1,5 +1,4 @@
-use Rattle.rx_terms.proofs.Common.{◌∙◌, string_bytes, chars}
-use Rattle.rx_refs.specs.Resolve.{through_last_slash}
+use Rattle.rx_refs.proofs.Common.{◌∙◌, string_bytes, chars, through_last_slash}
 use Rattle.rx_refs.proofs.DotLemmas.{written}
 use Rattle.rx_refs.proofs.dots.push_path.Goals as goal
 

@@ -1,4 +1,4 @@
-use Rattle.rx_terms.proofs.OkLemmas.{ok_is}
+use Rattle.rx_refs.proofs.Common.{ok_is}
 use Rattle.rx_refs.proofs.escapes.clean.Goals as goal
 
 pub returns : goal.returns

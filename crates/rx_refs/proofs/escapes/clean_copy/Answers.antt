@@ -1,5 +1,4 @@
-use Rattle.rx_terms.proofs.Common.{◌∙◌, ◌++◌, ap, chars, chars-nil, Chars}
-use Rattle.rx_refs.specs.Resolve.{cleaned}
+use Rattle.rx_refs.proofs.Common.{◌∙◌, ◌++◌, ap, chars, chars-nil, Chars, cleaned}
 use Rattle.rx_refs.proofs.escapes.clean_copy.Goals as goal
 
 pub returns : goal.returns

@@ -1,4 +1,4 @@
-use Rattle.rx_terms.proofs.Common.{◌∙◌, sym, ap, List, ℕ, string_bytes, chars, has_forbidden}
+use Rattle.rx_refs.proofs.Common.{◌∙◌, sym, ap, List, ℕ, string_bytes, chars, has_forbidden}
 use Rattle.rx_refs.proofs.SchemeLemmas.{uncleaned}
 use Rattle.rx_refs.proofs.escapes.clean_string.Goals as goal
 

@@ -1,4 +1,4 @@
-use Rattle.rx_terms.proofs.Common.{◌∙◌, ◌++◌, sym, ap, string_bytes, chars, chars-append, IsUtf8-string_bytes, Chars}
+use Rattle.rx_refs.proofs.Common.{◌∙◌, ◌++◌, sym, ap, string_bytes, chars, chars-append, IsUtf8-string_bytes, Chars}
 use Rattle.rx_refs.proofs.SchemeLemmas.{uncleaned}
 use Rattle.rx_refs.proofs.escapes.push_clean.Goals as goal
 

@@ -1,4 +1,4 @@
-use Rattle.rx_terms.proofs.Common.{string_bytes, IsUtf8-string_bytes}
+use Rattle.rx_refs.proofs.Common.{string_bytes, IsUtf8-string_bytes}
 use Rattle.rx_refs.proofs.EscapeLemmas.{escaped-chars}
 use Rattle.rx_refs.proofs.escapes.push_escaped.Goals as goal
 

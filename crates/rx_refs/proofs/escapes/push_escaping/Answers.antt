@@ -1,6 +1,4 @@
-use Rattle.rx_terms.proofs.Common.{◌≡◌, ◌∙◌, ◌++◌, List, ℕ, sym, ap, true, string_bytes, encode_utf8, chars, chars_past_char, IsUtf8-past_char, IsUtf8-string_bytes, Chars, chars-end, chars_rest}
-use Rattle.std.proofs.lemmas.List.{append-nil}
-use Rattle.rx_refs.specs.Resolve.{cleaned}
+use Rattle.rx_refs.proofs.Common.{◌≡◌, ◌∙◌, ◌++◌, List, ℕ, sym, ap, true, string_bytes, encode_utf8, chars, chars_past_char, IsUtf8-past_char, IsUtf8-string_bytes, Chars, chars-end, chars_rest, append-nil, cleaned}
 use Rattle.rx_refs.proofs.EscapeLemmas.{wrote-escape, wrote-char, pushed-char, keeps-same, keeps-pushed, keeps-further}
 use Rattle.rx_refs.proofs.escapes.push_escaping.Goals as goal
 

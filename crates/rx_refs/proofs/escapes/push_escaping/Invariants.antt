@@ -1,6 +1,4 @@
-use Rattle.rx_terms.proofs.Common.{◌≡◌, ◌++◌, string_bytes, chars, IsUtf8, chars_rest}
-use Rattle.rx_refs.specs.Resolve.{cleaned}
-use Rattle.rx_refs.specs.Views.{Keeps}
+use Rattle.rx_refs.proofs.Common.{◌≡◌, ◌++◌, string_bytes, chars, IsUtf8, chars_rest, cleaned, Keeps}
 use Rattle.rx_refs.proofs.escapes.push_escaping.Given as goal
 
 abbrev pub invariant-loop-c : goal.invariant-loop-c

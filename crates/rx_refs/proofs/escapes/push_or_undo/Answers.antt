@@ -1,4 +1,4 @@
-use Rattle.rx_terms.proofs.Common.{◌∙◌, List, ℕ, length, take, ap, subst, sym, string_bytes, IsCharBoundary, IsUtf8-string_bytes}
+use Rattle.rx_refs.proofs.Common.{◌∙◌, List, ℕ, length, take, ap, subst, sym, string_bytes, IsCharBoundary, IsUtf8-string_bytes}
 use Rattle.rx_refs.proofs.EscapeLemmas.{kept-boundary, kept-front}
 use Rattle.rx_refs.proofs.escapes.push_or_undo.Goals as goal
 

@@ -1,5 +1,5 @@
-use Rattle.rx_terms.proofs.Common.{◌≡◌, refl, Option, chars, Chars, seen_slice}
-use Rattle.rx_refs.specs.Parts.{Components, before, behind, scheme_of, behind_scheme, authority_of, path_of, components_of}
+use Rattle.rx_refs.proofs.Common.{◌≡◌, refl, Option, chars, Chars, seen_slice, Components, before, behind, scheme_of, behind_scheme, authority_of, path_of}
+use Rattle.rx_refs.specs.Parts.{components_of}
 use Rattle.rx_refs.proofs.parts.split.Goals as goal
 
 abbrev of : Option Chars → Option Chars → Chars → Option Chars → Option Chars → Components

@@ -1,5 +1,4 @@
-use Rattle.rx_terms.proofs.Common.{◌∙◌, sym, ap, chars, Chars, has_scheme}
-use Rattle.rx_refs.specs.Parts.{scheme_of, behind_scheme}
+use Rattle.rx_refs.proofs.Common.{◌∙◌, sym, ap, chars, Chars, has_scheme, scheme_of, behind_scheme}
 use Rattle.rx_refs.proofs.SchemeLemmas.{has_scheme-cut, has_scheme-uncut, scheme-cut, scheme-none}
 use Rattle.rx_refs.proofs.parts.split_scheme.Goals as goal
 

@@ -1,4 +1,4 @@
-use Rattle.rx_terms.proofs.Common.{◌≡◌, drop, list_all, is_scheme_char}
+use Rattle.rx_refs.proofs.Common.{◌≡◌, drop, list_all, is_scheme_char}
 use Rattle.rx_refs.proofs.plain.are_scheme_chars.Given as goal
 
 abbrev pub invariant-loop-byte : goal.invariant-loop-byte

@@ -1,4 +1,4 @@
-use Rattle.std.proofs.Common.{◌∙◌, ap, drop, arith}
+use Rattle.rx_refs.proofs.Common.{◌∙◌, ap, drop, arith}
 use Rattle.rx_refs.proofs.UpLemmas.{cut-climbs}
 use Rattle.rx_refs.proofs.plain.climbed.Goals as goal
 

@@ -1,5 +1,4 @@
-use Rattle.std.proofs.Common.{◌∙◌, sym, arith}
-use Rattle.rx_refs.specs.Plain.{count_of}
+use Rattle.rx_refs.proofs.Common.{◌∙◌, sym, arith, count_of}
 use Rattle.rx_refs.proofs.UpLemmas.{count-next, count-end}
 use Rattle.rx_refs.proofs.plain.count_climbs.Goals as goal
 

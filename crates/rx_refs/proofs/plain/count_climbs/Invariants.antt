@@ -1,5 +1,4 @@
-use Rattle.std.proofs.Common.{◌≡◌, ◌+◌, ◌-◌, ◌*◌, ◌≤◌, length, drop}
-use Rattle.rx_refs.specs.Plain.{count_of}
+use Rattle.rx_refs.proofs.Common.{◌≡◌, ◌+◌, ◌-◌, ◌*◌, ◌≤◌, length, drop, count_of}
 use Rattle.rx_refs.proofs.plain.count_climbs.Given as goal
 
 abbrev pub invariant-loop-count : goal.invariant-loop-count

@@ -1,5 +1,4 @@
-use Rattle.std.proofs.Common.{◌≡◌, ◌-◌, ◌≤◌, length, drop, false}
-use Rattle.rx_refs.specs.Plain.{folder_from}
+use Rattle.rx_refs.proofs.Common.{◌≡◌, ◌-◌, ◌≤◌, length, drop, false, folder_from}
 use Rattle.rx_refs.proofs.plain.folder_of.Given as goal
 
 abbrev pub invariant-loop-at : goal.invariant-loop-at

@@ -1,5 +1,4 @@
-use Rattle.std.proofs.Common.{◌≡◌, ◌-◌, ◌≤◌, length, drop}
-use Rattle.rx_refs.specs.Plain.{fragment_from}
+use Rattle.rx_refs.proofs.Common.{◌≡◌, ◌-◌, ◌≤◌, length, drop, fragment_from}
 use Rattle.rx_refs.proofs.plain.fragment_of.Given as goal
 
 abbrev pub invariant-loop-at : goal.invariant-loop-at

@@ -1,5 +1,4 @@
-use Rattle.std.proofs.Common.{◌∙◌, ap}
-use Rattle.rx_refs.specs.Plain.{fragment_from, path_end_from}
+use Rattle.rx_refs.proofs.Common.{◌∙◌, ap, fragment_from, path_end_from}
 use Rattle.rx_refs.proofs.ByteLemmas.{kept-same, kept-query, kept-network, kept-rooted, kept-relative}
 use Rattle.rx_refs.proofs.plain.front_length.Goals as goal
 

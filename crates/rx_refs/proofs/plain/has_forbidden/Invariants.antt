@@ -1,4 +1,4 @@
-use Rattle.rx_terms.proofs.Common.{◌≡◌, drop, has_forbidden}
+use Rattle.rx_refs.proofs.Common.{◌≡◌, drop, has_forbidden}
 use Rattle.rx_refs.proofs.plain.has_forbidden.Given as goal
 
 abbrev pub invariant-loop-byte : goal.invariant-loop-byte

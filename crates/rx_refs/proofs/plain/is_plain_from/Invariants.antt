@@ -1,5 +1,4 @@
-use Rattle.std.proofs.Common.{◌≡◌, ◌-◌, ◌≤◌, length, drop, true}
-use Rattle.rx_refs.specs.Plain.{is_plain_from}
+use Rattle.rx_refs.proofs.Common.{◌≡◌, ◌-◌, ◌≤◌, length, drop, true, is_plain_from}
 use Rattle.rx_refs.proofs.plain.is_plain_from.Given as goal
 
 abbrev pub invariant-loop-at : goal.invariant-loop-at

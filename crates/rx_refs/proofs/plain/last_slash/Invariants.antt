@@ -1,5 +1,4 @@
-use Rattle.std.proofs.Common.{◌≡◌, ◌-◌, ◌≤◌, length, drop}
-use Rattle.rx_refs.specs.Plain.{last_from}
+use Rattle.rx_refs.proofs.Common.{◌≡◌, ◌-◌, ◌≤◌, length, drop, last_from}
 use Rattle.rx_refs.proofs.plain.last_slash.Given as goal
 
 abbrev pub invariant-loop-at : goal.invariant-loop-at

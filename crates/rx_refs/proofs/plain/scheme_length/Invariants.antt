@@ -1,5 +1,4 @@
-use Rattle.rx_terms.proofs.Common.{◌≡◌, true, take, list_all}
-use Rattle.rx_refs.specs.Plain.{is_scheme_byte}
+use Rattle.rx_refs.proofs.Common.{◌≡◌, true, take, list_all, is_scheme_byte}
 use Rattle.rx_refs.proofs.plain.scheme_length.Given as goal
 
 abbrev pub invariant-loop-byte : goal.invariant-loop-byte

@@ -1,6 +1,5 @@
+use Rattle.rx_refs.proofs.Common.{arith, take, length, ap, length-take, ups}
 use Rattle.rx_refs.proofs.UpLemmas.{up-next}
-use Rattle.rx_terms.proofs.Common.{arith, take, length, ap, length-take}
-use Rattle.rx_refs.specs.Plain.{ups}
 use Rattle.rx_refs.proofs.plain.up_place.Goals as goal
 
 pub loop-more-preserved : goal.loop-more-preserved

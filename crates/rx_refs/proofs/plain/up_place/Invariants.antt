@@ -1,5 +1,4 @@
-use Rattle.std.proofs.Common.{◌≡◌, ◌≤◌, length, take}
-use Rattle.rx_refs.specs.Plain.{ups}
+use Rattle.rx_refs.proofs.Common.{◌≡◌, ◌≤◌, length, take, ups}
 use Rattle.rx_refs.proofs.plain.up_place.Given as goal
 
 abbrev pub invariant-loop-more : goal.invariant-loop-more

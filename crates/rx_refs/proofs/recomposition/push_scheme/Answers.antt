@@ -1,6 +1,4 @@
-use Rattle.rx_terms.proofs.Common.{◌≡◌, ◌∙◌, ◌++◌, ◌∷◌, [], ℕ, List, Option, sym, ap, refl, string_bytes, codes, OnOk, Ok, Err, Result, chars, Chars, seen_slice, ascii-chars, Bor}
-use Rattle.std.proofs.lemmas.List.{append_assoc}
-use Rattle.rx_refs.specs.Parts.{delimited}
+use Rattle.rx_refs.proofs.Common.{◌≡◌, ◌∙◌, ◌++◌, ◌∷◌, [], ℕ, List, Option, sym, ap, refl, string_bytes, codes, OnOk, Ok, Err, Result, chars, Chars, seen_slice, ascii-chars, Bor, append_assoc, delimited}
 use Rattle.rx_refs.proofs.recomposition.push_scheme.Goals as goal
 
 on_ok : {E : Type 0} (r : Result (Unit {0}) E) (new a b : Chars) → a ≡ b → OnOk r (new ≡ a) → OnOk r (new ≡ b)

@@ -1,4 +1,4 @@
-use Rattle.rx_terms.proofs.Common.{◌∙◌, ap, string_bytes, chars, IsUtf8-string_bytes, chars-append}
+use Rattle.rx_refs.proofs.Common.{◌∙◌, ap, string_bytes, chars, IsUtf8-string_bytes, chars-append}
 use Rattle.rx_refs.proofs.recomposition.push_text.Goals as goal
 
 pub returns : goal.returns

@@ -1,6 +1,4 @@
-use Rattle.rx_terms.proofs.Common.{◌≡◌, ◌∙◌, ◌++◌, [], ap, refl, Option, string_bytes, codes, chars, chars-nil, Chars, seen_slice, ascii-chars}
-use Rattle.rx_refs.specs.Parts.{delimited, recomposed}
-use Rattle.rx_refs.specs.Views.{seen_path}
+use Rattle.rx_refs.proofs.Common.{◌≡◌, ◌∙◌, ◌++◌, [], ap, refl, Option, string_bytes, codes, chars, chars-nil, Chars, seen_slice, ascii-chars, delimited, recomposed, seen_path}
 use Rattle.rx_refs.proofs.WholeLemmas.{components}
 use Rattle.rx_refs.proofs.recomposition.recompose.Goals as goal
 

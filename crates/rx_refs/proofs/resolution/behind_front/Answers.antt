@@ -1,5 +1,4 @@
-use Rattle.rx_terms.proofs.Common.{◌≡◌, ◌∙◌, ◌++◌, sym, subst, ap, take, List, ℕ, ◌-◌, arith, string_bytes, chars, IsIri}
-use Rattle.std.specs.Str.{encode_utf8_all}
+use Rattle.rx_refs.proofs.Common.{◌≡◌, ◌∙◌, ◌++◌, sym, subst, ap, take, List, ℕ, ◌-◌, arith, string_bytes, chars, IsIri, encode_utf8_all}
 use Rattle.rx_refs.specs.Resolve.{resolved}
 use Rattle.rx_refs.proofs.WholeLemmas.{resolved-iri}
 use Rattle.rx_refs.proofs.resolution.behind_front.Goals as goal

@@ -1,4 +1,4 @@
-use Rattle.rx_terms.proofs.Common.{◌≡◌, ◌∙◌, sym, ap, subst, string_bytes, chars, IsIri}
+use Rattle.rx_refs.proofs.Common.{◌≡◌, ◌∙◌, sym, ap, subst, string_bytes, chars, IsIri}
 use Rattle.rx_refs.specs.Resolve.{resolved}
 use Rattle.rx_refs.proofs.WholeLemmas.{resolved-iri}
 use Rattle.rx_refs.proofs.resolution.itself.Goals as goal

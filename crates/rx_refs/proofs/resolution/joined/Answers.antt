@@ -1,4 +1,4 @@
-use Rattle.rx_terms.proofs.Common.{◌≡◌, ◌++◌, List, ℕ, [], string_bytes, chars, IsUtf8, chars-append}
+use Rattle.rx_refs.proofs.Common.{◌≡◌, ◌++◌, List, ℕ, [], string_bytes, chars, IsUtf8, chars-append}
 use Rattle.rx_refs.proofs.resolution.joined.Goals as goal
 
 both : (none one two front rest : List ℕ) → none ≡ [] → one ≡ none ++ front → two ≡ one ++ rest → IsUtf8 front → chars two ≡ chars front ++ chars rest

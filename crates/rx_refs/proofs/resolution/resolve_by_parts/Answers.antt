@@ -1,7 +1,6 @@
-use Rattle.rx_terms.proofs.Common.{◌≡◌, sym, subst, refl, string_bytes, chars, Chars, trimmed, IsIri, ok_is}
-use Rattle.rx_refs.specs.Parts.{Components, components_of, recomposed}
-use Rattle.rx_refs.specs.Resolve.{target, cleaned, resolved}
-use Rattle.rx_refs.specs.Views.{seen, seen_target}
+use Rattle.rx_refs.proofs.Common.{◌≡◌, sym, subst, refl, string_bytes, chars, Chars, trimmed, IsIri, ok_is, Components, recomposed, cleaned, seen, seen_target}
+use Rattle.rx_refs.specs.Parts.{components_of}
+use Rattle.rx_refs.specs.Resolve.{target, resolved}
 use Rattle.rx_refs.proofs.WholeLemmas.{resolved-iri}
 use Rattle.rx_refs.proofs.resolution.resolve_by_parts.Goals as goal
 use Rattle.rx_refs.proofs.resolution.resolve_by_parts.Goals.{In_ok-clean}

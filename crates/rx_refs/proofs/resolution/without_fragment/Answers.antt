@@ -1,5 +1,4 @@
-use Rattle.rx_terms.proofs.Common.{◌≡◌, ◌∙◌, sym, ap, subst, string_bytes, chars, IsIri}
-use Rattle.rx_refs.specs.Parts.{before}
+use Rattle.rx_refs.proofs.Common.{◌≡◌, ◌∙◌, sym, ap, subst, string_bytes, chars, IsIri, before}
 use Rattle.rx_refs.proofs.SchemeLemmas.{iri-front}
 use Rattle.rx_refs.proofs.resolution.without_fragment.Goals as goal
 

@@ -1,4 +1,4 @@
-use Rattle.rx_terms.proofs.Common.{◌≡◌, ◌≢◌, ℕ, List, ◌∷◌, [], ◌++◌, Bool, true, false, sym, ap, ◌∙◌, drop, lit<, chars, IsUtf8, IsCharBoundary, encode_ascii, begins_with, FindsCharPrefix, Some, None, drop_at_char}
+use Rattle.rx_refs.proofs.Common.{◌≡◌, ◌≢◌, ℕ, List, ◌∷◌, [], ◌++◌, Bool, true, false, sym, ap, ◌∙◌, drop, lit<, chars, IsUtf8, IsCharBoundary, encode_ascii, begins_with, FindsCharPrefix, Some, None, drop_at_char}
 use Rattle.std.specs.Bool.{MatchBool}
 use Rattle.rx_refs.proofs.CutLemmas.{past-slash, prefix-none}
 use Rattle.rx_refs.proofs.slices.begins_with_slash.Goals as goal

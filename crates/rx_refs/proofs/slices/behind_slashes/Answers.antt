@@ -1,5 +1,4 @@
-use Rattle.rx_terms.proofs.Common.{◌≡◌, ℕ, List, ◌∷◌, [], ◌++◌, Option, Some, None, MatchOption, false, sym, ap, ◌∙◌, refl, drop, length, ◌+◌, lit<, encode_ascii, begins_with, FindsTextPrefix, Bor}
-use Rattle.std.specs.Str.{chars, IsUtf8, encode_utf8_all}
+use Rattle.rx_refs.proofs.Common.{◌≡◌, ℕ, List, ◌∷◌, [], ◌++◌, Option, Some, None, MatchOption, false, sym, ap, ◌∙◌, refl, drop, length, ◌+◌, lit<, encode_ascii, begins_with, FindsTextPrefix, Bor, chars, IsUtf8, encode_utf8_all}
 use Rattle.rx_refs.proofs.CutLemmas.{past-slash, prefix-none}
 use Rattle.rx_refs.proofs.slices.behind_slashes.Goals as goal
 

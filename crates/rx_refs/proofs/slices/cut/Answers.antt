@@ -1,5 +1,4 @@
-use Rattle.rx_terms.proofs.Common.{sym, ◌∙◌, ap, chars}
-use Rattle.rx_refs.specs.Parts.{before, behind}
+use Rattle.rx_refs.proofs.Common.{sym, ◌∙◌, ap, chars, before, behind}
 use Rattle.rx_refs.proofs.PartLemmas.{cut-at, uncut}
 use Rattle.rx_refs.proofs.slices.cut.Goals as goal
 

@@ -1,5 +1,4 @@
-use Rattle.rx_terms.proofs.Common.{◌≡◌, ℕ, ◌<◌, List, ◌++◌, ◌∷◌, false, Option, Some, None, MatchOption, chars, IsUtf8, IsSplitOnceResult, Bor}
-use Rattle.rx_refs.specs.Dots.{holds}
+use Rattle.rx_refs.proofs.Common.{◌≡◌, ℕ, ◌<◌, List, ◌++◌, ◌∷◌, false, Option, Some, None, MatchOption, chars, IsUtf8, IsSplitOnceResult, Bor, holds}
 use Rattle.rx_refs.proofs.CutLemmas.{lacking, first-char}
 use Rattle.rx_refs.proofs.slices.split_once.Goals as goal
 

@@ -1,5 +1,4 @@
-use Rattle.rx_terms.proofs.Common.{◌∙◌, sym, ap, Option, Chars, seen_slice}
-use Rattle.rx_refs.specs.Views.{seen}
+use Rattle.rx_refs.proofs.Common.{◌∙◌, sym, ap, Option, Chars, seen_slice, seen}
 use Rattle.rx_refs.proofs.TargetLemmas.{seen-some, seen-or}
 use Rattle.rx_refs.proofs.WholeLemmas.{components, target-absolute, target-network, target-same, target-relative}
 use Rattle.rx_refs.proofs.targets.target_of.Goals as goal

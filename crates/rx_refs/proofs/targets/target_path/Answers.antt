@@ -1,7 +1,5 @@
-use Rattle.rx_terms.proofs.Common.{◌≡◌, ◌∙◌, ◌∷◌, ◌++◌, [], false, true, sym, ap, refl, ◌&&◌, is_some, chars, Chars, is_empty, ascii-chars}
+use Rattle.rx_refs.proofs.Common.{◌≡◌, ◌∙◌, ◌∷◌, ◌++◌, [], false, true, sym, ap, refl, ◌&&◌, is_some, chars, Chars, is_empty, ascii-chars, through_last_slash, seen}
 use Rattle.rx_refs.specs.Dots.{without_dots}
-use Rattle.rx_refs.specs.Resolve.{through_last_slash}
-use Rattle.rx_refs.specs.Views.{seen}
 use Rattle.rx_refs.proofs.TargetLemmas.{seen-some, relative-bare, relative-merged}
 use Rattle.rx_refs.proofs.targets.target_path.Goals as goal
 

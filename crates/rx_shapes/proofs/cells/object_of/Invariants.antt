@@ -1,5 +1,4 @@
-use Rattle.rx_model.proofs.Common.{◌≡◌, drop, triples_seen}
-use Rattle.rx_shapes.specs.Cells.{object_among, predicate_of}
+use Rattle.rx_shapes.proofs.Common.{◌≡◌, drop, triples_seen, object_among, predicate_of}
 use Rattle.rx_shapes.proofs.cells.object_of.Given as goal
 
 abbrev pub invariant-loop-place : goal.invariant-loop-place

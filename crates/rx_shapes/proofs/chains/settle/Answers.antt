@@ -1,6 +1,4 @@
-use Rattle.std.proofs.Common.{◌∙◌, ap, sym, subst, arith}
-use Rattle.rx_shapes.specs.Chains.{Settled}
-use Rattle.rx_shapes.specs.Reach.{reach_all}
+use Rattle.rx_shapes.proofs.Common.{◌∙◌, ap, sym, subst, arith, Settled, reach_all}
 use Rattle.rx_shapes.proofs.ChainLemmas.{settling_start, settling_turn, settling_few, settling_end}
 use Rattle.rx_shapes.proofs.chains.settle.Goals as goal
 

@@ -1,4 +1,4 @@
-use Rattle.std.proofs.Common.{◌-◌, length}
+use Rattle.rx_shapes.proofs.Common.{◌-◌, length}
 use Rattle.rx_shapes.proofs.ChainLemmas.{Settling}
 use Rattle.rx_shapes.proofs.chains.settle.Given as goal
 

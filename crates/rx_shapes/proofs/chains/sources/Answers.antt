@@ -1,6 +1,4 @@
-use Rattle.rx_terms.proofs.Common.{◌∙◌, suc, ap, arith, length, slice_get-get_or}
-use Rattle.rx_shapes.specs.Chains.{source_row}
-use Rattle.rx_shapes.specs.Rows.{filed_in}
+use Rattle.rx_shapes.proofs.Common.{◌∙◌, suc, ap, arith, length, slice_get-get_or, source_row, filed_in}
 use Rattle.rx_shapes.proofs.RowLemmas.{filing, filing_end, one_row_more}
 use Rattle.rx_shapes.proofs.chains.sources.Goals as goal
 

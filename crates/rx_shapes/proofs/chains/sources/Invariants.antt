@@ -1,6 +1,4 @@
-use Rattle.std.proofs.Common.{◌≡◌, suc, length, take}
-use Rattle.rx_shapes.specs.Rows.{filed, table}
-use Rattle.rx_shapes.specs.Chains.{source_row}
+use Rattle.rx_shapes.proofs.Common.{◌≡◌, suc, length, take, filed, table, source_row}
 use Rattle.rx_shapes.proofs.chains.sources.Given as goal
 
 abbrev pub invariant-loop-i : goal.invariant-loop-i

@@ -1,5 +1,4 @@
-use Rattle.rx_model.proofs.Common.{◌∙◌, ap₂, get_or, [], false, triples_seen}
-use Rattle.rx_shapes.specs.Links.{inner_link}
+use Rattle.rx_shapes.proofs.Common.{◌∙◌, ap₂, get_or, [], false, triples_seen, inner_link}
 use Rattle.rx_shapes.proofs.RowLemmas.{table_turn}
 use Rattle.rx_shapes.proofs.links.cell_links.Goals as goal
 

@@ -1,5 +1,4 @@
-use Rattle.rx_model.proofs.Common.{◌≡◌, triples_seen}
-use Rattle.rx_shapes.specs.Links.{cell_links}
+use Rattle.rx_shapes.proofs.Common.{◌≡◌, triples_seen, cell_links}
 use Rattle.rx_shapes.proofs.links.cell_links.Given as goal
 
 abbrev pub invariant-loop-i : goal.invariant-loop-i

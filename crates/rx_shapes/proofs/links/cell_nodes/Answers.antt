@@ -1,4 +1,4 @@
-use Rattle.rx_model.proofs.Common.{◌∙◌, triples_seen}
+use Rattle.rx_shapes.proofs.Common.{◌∙◌, triples_seen}
 use Rattle.rx_shapes.proofs.ShapeLemmas.{cell_nodes}
 use Rattle.rx_shapes.proofs.links.cell_nodes.Goals as goal
 

@@ -1,5 +1,4 @@
-use Rattle.std.proofs.Common.{◌∙◌, ap₂, get_or, [], false}
-use Rattle.rx_shapes.specs.Links.{is_inner_by}
+use Rattle.rx_shapes.proofs.Common.{◌∙◌, ap₂, get_or, [], false, is_inner_by}
 use Rattle.rx_shapes.proofs.RowLemmas.{table_turn}
 use Rattle.rx_shapes.proofs.links.inner_marks.Goals as goal
 

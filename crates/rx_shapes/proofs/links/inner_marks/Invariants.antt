@@ -1,5 +1,4 @@
-use Rattle.std.proofs.Common.{◌≡◌}
-use Rattle.rx_shapes.specs.Links.{inner_marks}
+use Rattle.rx_shapes.proofs.Common.{◌≡◌, inner_marks}
 use Rattle.rx_shapes.proofs.links.inner_marks.Given as goal
 
 abbrev pub invariant-loop-i : goal.invariant-loop-i

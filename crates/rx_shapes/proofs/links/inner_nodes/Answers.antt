@@ -1,5 +1,4 @@
-use Rattle.rx_model.proofs.Common.{◌∙◌, ap₂, triples_seen}
-use Rattle.rx_shapes.specs.Links.{inner_marks}
+use Rattle.rx_shapes.proofs.Common.{◌∙◌, ap₂, triples_seen, inner_marks}
 use Rattle.rx_shapes.proofs.ShapeLemmas.{inner_nodes}
 use Rattle.rx_shapes.proofs.links.inner_nodes.Goals as goal
 

@@ -1,6 +1,4 @@
-use Rattle.rx_model.proofs.Common.{◌≡◌, ℕ, length, take, Triple, triples_seen}
-use Rattle.rx_shapes.specs.Links.{object_number}
-use Rattle.rx_shapes.specs.Rows.{filed, table}
+use Rattle.rx_shapes.proofs.Common.{◌≡◌, ℕ, length, take, Triple, triples_seen, object_number, filed, table}
 use Rattle.rx_shapes.proofs.links.object_rows.Given as goal
 
 abbrev pub invariant-loop-i : goal.invariant-loop-i

@@ -1,5 +1,4 @@
-use Rattle.rx_model.proofs.Common.{◌∙◌, ap, get_or, [], triples_seen}
-use Rattle.rx_shapes.specs.Links.{parent_link}
+use Rattle.rx_shapes.proofs.Common.{◌∙◌, ap, get_or, [], triples_seen, parent_link}
 use Rattle.rx_shapes.proofs.RowLemmas.{table_turn}
 use Rattle.rx_shapes.proofs.links.parent_links.Goals as goal
 

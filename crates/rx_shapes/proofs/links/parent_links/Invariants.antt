@@ -1,5 +1,4 @@
-use Rattle.rx_model.proofs.Common.{◌≡◌, triples_seen}
-use Rattle.rx_shapes.specs.Links.{parent_links}
+use Rattle.rx_shapes.proofs.Common.{◌≡◌, triples_seen, parent_links}
 use Rattle.rx_shapes.proofs.links.parent_links.Given as goal
 
 abbrev pub invariant-loop-i : goal.invariant-loop-i

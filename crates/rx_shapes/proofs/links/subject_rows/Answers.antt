@@ -1,7 +1,4 @@
-use Rattle.rx_model.proofs.Common.{◌∙◌, ℕ, ap, arith, length, length-map, Triple, triple_seen, triples_seen}
-use Rattle.rx_graph.specs.Rows.{empty_rows}
-use Rattle.rx_graph.specs.Resources.{number_in}
-use Rattle.rx_shapes.specs.Rows.{filed_in}
+use Rattle.rx_shapes.proofs.Common.{◌∙◌, ℕ, ap, arith, length, length-map, Triple, triple_seen, triples_seen, empty_rows, number_in, filed_in}
 use Rattle.rx_shapes.proofs.RowLemmas.{filing, filing_start, filing_end}
 use Rattle.rx_shapes.proofs.IndexLemmas.{seen_at}
 use Rattle.rx_shapes.proofs.links.subject_rows.Goals as goal

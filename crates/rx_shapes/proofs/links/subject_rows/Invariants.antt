@@ -1,6 +1,4 @@
-use Rattle.rx_model.proofs.Common.{◌≡◌, ℕ, length, take, Triple, triples_seen}
-use Rattle.rx_graph.specs.Resources.{number_in}
-use Rattle.rx_shapes.specs.Rows.{filed, table}
+use Rattle.rx_shapes.proofs.Common.{◌≡◌, ℕ, length, take, Triple, triples_seen, number_in, filed, table}
 use Rattle.rx_shapes.proofs.links.subject_rows.Given as goal
 
 abbrev pub invariant-loop-i : goal.invariant-loop-i

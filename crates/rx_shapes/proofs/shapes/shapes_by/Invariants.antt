@@ -1,5 +1,4 @@
-use Rattle.std.proofs.Common.{◌≡◌}
-use Rattle.rx_shapes.specs.Links.{shapes_by}
+use Rattle.rx_shapes.proofs.Common.{◌≡◌, shapes_by}
 use Rattle.rx_shapes.proofs.shapes.shapes_by.Given as goal
 
 abbrev pub invariant-loop-i : goal.invariant-loop-i

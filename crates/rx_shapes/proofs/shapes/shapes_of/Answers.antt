@@ -1,5 +1,4 @@
-use Rattle.rx_model.proofs.Common.{◌∙◌, sym, subst, ap₂, triples_seen}
-use Rattle.rx_shapes.specs.Links.{AreInner, shapes_by}
+use Rattle.rx_shapes.proofs.Common.{◌∙◌, sym, subst, ap₂, triples_seen, AreInner, shapes_by}
 use Rattle.rx_shapes.proofs.ShapeLemmas.{have_shapes}
 use Rattle.rx_shapes.proofs.shapes.shapes_of.Goals as goal
 

@@ -1,4 +1,5 @@
-use Rattle.rx_terms.proofs.Common.{◌∙◌, ap, same-ascii}
+use Rattle.rx_shapes.proofs.Common.{◌∙◌, ap}
+use Rattle.rx_terms.proofs.Common.{same-ascii}
 use Rattle.std.specs.Str.{bytes_eq}
 use Rattle.rx_shapes.proofs.vocabulary.is.Goals as goal
 

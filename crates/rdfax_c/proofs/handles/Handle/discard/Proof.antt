@@ -1,6 +1,5 @@
 -- `discard` lets a handle go that owns nothing.
-use Rattle.rx_jsonld.proofs.Common.{◌≡◌, List, [], ◌∷◌, ◌++◌, refl, sym, subst, proved_at, leaves, SProp, ent, id⊢, ftrue, WpFn, Val, vunit, tables, whole, sub, stop, fld, unit_lit, of_opd, returns, enter, alloc_all, pass_all, free_all, look_at, get, get_in, sets, yes, owns, plain, types_at, nothing, Stays, stay_dropped, walk_of, ends_at, Goes-blank}
-use types.Kit.{‵, raw, ◌⊛◌, ◌$◌, ◌∵◌, !, qed, by, drop, keep, use1, split, fsplit, join, feq_i, suffices}
+use Rattle.rdfax_c.proofs.Common.{◌≡◌, List, [], ◌∷◌, ◌++◌, refl, sym, subst, proved_at, leaves, SProp, ent, id⊢, ftrue, WpFn, Val, tables, whole, sub, stop, fld, of_opd, returns, enter, alloc_all, pass_all, free_all, look_at, get, get_in, sets, yes, owns, plain, types_at, nothing, Stays, stay_dropped, walk_of, ends_at, Goes-blank, ‵, raw, ◌⊛◌, ◌$◌, ◌∵◌, !, qed, by, drop, keep, use1, split, fsplit, join, feq_i, suffices, vunit, unit_lit}
 use Rattle.rdfax_c.proofs.HandleSteps.{Handle, word, pointer_good, handle_good, handle_out}
 use Rattle.rdfax_c.specs.contracts.handles.Handle.discard as f
 use Rattle.rdfax_c.proofs.handles.Handle.discard.Statement.{statement}

@@ -1,11 +1,8 @@
 -- `hold` keeps a box's pointer, and owns what the box did.
-use Rattle.rx_jsonld.proofs.Common.{◌≡◌, List, [], ◌∷◌, ◌++◌, refl, sym, subst, Some, proved_at, SProp, ent, id⊢, ftrue, WpFn, Val, vptr, tables, whole, sub, agg, stop, fld, of_opd, no_more, and_then, returns, enter, alloc_all, pass_all, free_all, look_at, get, get_in, sets, yes, RattleType, owns, block_ptr, plain, types_at, nothing, says, Stays, stay_dropped, walk_of, ends_at, Goes-blank}
-use types.Kit.{‵, raw, ◌⊛◌, ◌$◌, ◌∵◌, !, qed, done, drop, move, keep, use1, split, fsplit, fpack, join, feq_i, suffices}
+use Rattle.rdfax_c.proofs.Common.{◌≡◌, List, [], ◌∷◌, ◌++◌, refl, sym, subst, Some, proved_at, SProp, ent, id⊢, ftrue, WpFn, Val, vptr, tables, whole, sub, agg, stop, fld, of_opd, no_more, and_then, returns, enter, alloc_all, pass_all, free_all, look_at, get, get_in, sets, yes, RattleType, owns, block_ptr, plain, types_at, nothing, says, Stays, stay_dropped, walk_of, ends_at, Goes-blank, ‵, raw, ◌⊛◌, ◌$◌, ◌∵◌, !, qed, done, drop, move, keep, use1, split, fsplit, fpack, join, feq_i, suffices, ghosts, boxed}
 use Rattle.std.specs.contracts.alloc.Global as global
 use Rattle.std.proofs.alloc.Global.TheLaws as global_laws
-use Rattle.std.specs.contracts.impls.GlobalAllocator.TheImpl.{ghosts}
 use Rattle.rx_session.specs.contracts.sessions.Session as session
-use Rattle.rdfax_c.specs.Held.{boxed}
 use Rattle.rdfax_c.proofs.Values.{both, Loose, loose_good, loose_out}
 use Rattle.rdfax_c.proofs.HandleSteps.{Handle, word, handle_good, handle_in}
 use Rattle.rdfax_c.specs.contracts.handles.Handle.hold as f

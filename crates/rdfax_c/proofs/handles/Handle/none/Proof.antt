@@ -1,8 +1,6 @@
 -- `none` makes a handle of the null pointer, which owns nothing.
-use Rattle.rx_jsonld.proofs.Common.{[], ◌∷◌, refl, None, proved, id⊢, ftrue, tables, agg, lit, of_opd, no_more, and_then, returns, enter, alloc_all, pass_all, free_all, look_at, sets, null_ptr, nothing, says, Stays, walk_of, ends_at}
-use types.Kit.{‵, raw, ◌⊛◌, ◌$◌, ◌∵◌, !, qed, done, drop, use1, split, join, suffices}
+use Rattle.rdfax_c.proofs.Common.{[], ◌∷◌, refl, None, id⊢, ftrue, tables, agg, of_opd, no_more, and_then, returns, enter, alloc_all, pass_all, free_all, look_at, sets, null_ptr, nothing, says, Stays, walk_of, ends_at, ‵, raw, ◌⊛◌, ◌$◌, ◌∵◌, !, qed, done, drop, use1, split, join, suffices, held, proved, lit}
 use denote.Triple.Entry.{on_entry}
-use Rattle.rdfax_c.specs.Held.{held}
 use Rattle.rdfax_c.proofs.HandleSteps.{Handle, word, handle_good, handle_in}
 use Rattle.rdfax_c.specs.contracts.handles.Handle.none as f
 use Rattle.rdfax_c.proofs.handles.Handle.none.Statement.{statement}

@@ -1,15 +1,9 @@
 -- `release` gives the box's pointer back.
-use Rattle.rx_jsonld.proofs.Common.{◌≡◌, List, [], ◌∷◌, ◌++◌, ◌∙◌, refl, sym, ap, subst, Option, Some, None, is_some, true, false, proved_at, SProp, ent, id⊢, never, fst∗, ftrue, WpFn, Val, vptr, sem, tables, whole, sub, agg, stop, fld, of_opd, no_more, and_then, returns, enter, alloc_all, pass_all, free_all, look_at, get, get_in, sets, impl, tnil, dnil, yes, RattleType, owns, Ptr, block_ptr, null_ptr, in_a_block, plain, types_at, nothing, heard, says, Stays, stay_dropped, walk_of, ends_at, Al, Goes-blank, handle_tells}
+use Rattle.rdfax_c.proofs.Common.{◌≡◌, List, [], ◌∷◌, ◌++◌, ◌∙◌, refl, sym, ap, subst, Option, Some, None, is_some, true, false, proved_at, SProp, ent, id⊢, never, fst∗, ftrue, WpFn, Val, vptr, sem, tables, whole, sub, agg, stop, fld, of_opd, no_more, and_then, returns, enter, alloc_all, pass_all, free_all, look_at, get, get_in, sets, impl, tnil, dnil, yes, RattleType, owns, Ptr, block_ptr, null_ptr, in_a_block, plain, types_at, nothing, heard, says, Stays, stay_dropped, walk_of, ends_at, Al, Goes-blank, handle_tells, fact, ‵, raw, ◌⊛◌, ◌$◌, ◌∵◌, !, qed, done, drop, move, keep, use1, split, fsplit, fpick, join, feq_i, rewrite, suffices, lone, ghosts, State, boxed, held}
 use mir.Raw.{raw as bare}
-use contract.Monad.{fact}
-use types.Kit.{‵, raw, ◌⊛◌, ◌$◌, ◌∵◌, !, qed, done, drop, move, keep, use1, split, fsplit, fpick, join, feq_i, rewrite, suffices}
-use denote.Memory.{lone}
 use Rattle.std.specs.contracts.alloc.Global as global
 use Rattle.std.proofs.alloc.Global.TheLaws as global_laws
-use Rattle.std.specs.contracts.impls.GlobalAllocator.TheImpl.{ghosts}
 use Rattle.rx_session.specs.contracts.sessions.Session as session
-use Rattle.rx_session.specs.declared.sessions.State.{State}
-use Rattle.rdfax_c.specs.Held.{boxed, held}
 use Rattle.rdfax_c.proofs.Values.{both, Loose, loose_good, loose_in}
 use Rattle.rdfax_c.proofs.HandleSteps.{Handle, word, pointer_good, handle_good, handle_out}
 use Rattle.rdfax_c.specs.contracts.handles.Handle.release as f

@@ -1,22 +1,11 @@
 -- `into_box` makes the box again.
-use Rattle.rx_jsonld.proofs.Common.{◌≡◌, List, [], ◌∷◌, ◌++◌, refl, sym, ap, subst, a_type, dcons, dnil, Val, vptr, SProp, ent, id⊢, ftrue, flft, WpFn, stop, fld, of_opd, no_more, and_then, first, blocks, exec, returns, enter, alloc_all, pass_all, free_all, look_at, get, get_in, sets, lands_last, env, sub, whole, tables, no, RattleType, owns, types_at, plain, block_ptr, nothing, only, param, layout, bounded, Stays, stay_dropped, walk_of, Goes-blank, proved_at, leaves}
-use mir.MapTy.{inst_fn}
-use types.Kit.{‵, raw, ◌⊛◌, some, later, at_ret, ◌$◌, ◌∵◌, !, qed, by, move, keep, drop, split, split3, join, fsplit, fjoin, pick, suffices, use1, await, rewrite, feq_i}
-use contract.Monad.{fact}
+use Rattle.rdfax_c.proofs.Common.{◌≡◌, List, [], ◌∷◌, ◌++◌, refl, sym, ap, subst, a_type, dcons, dnil, Val, vptr, SProp, ent, id⊢, ftrue, flft, WpFn, stop, fld, of_opd, no_more, and_then, returns, enter, alloc_all, pass_all, free_all, look_at, get, get_in, sets, sub, whole, tables, no, RattleType, owns, types_at, plain, block_ptr, nothing, only, param, layout, bounded, Stays, stay_dropped, walk_of, Goes-blank, proved_at, leaves, inst_fn, ‵, raw, ◌⊛◌, some, later, at_ret, ◌$◌, ◌∵◌, !, qed, by, move, keep, drop, split, split3, join, fsplit, fjoin, pick, suffices, use1, await, rewrite, feq_i, fact, param_laws, triple_of, calls_at_last, fm, Good, box_out, box_in, met, ended, clauses, first, blocks, exec, lands_last, env}
 use contract.BorrowLft.{◌⊑◌}
-use denote.Param.Laws.{param_laws}
 use denote.Triple.Clauses.{Lasts, lasts}
-use denote.Triple.Spec.{triple_of}
-use denote.Triple.Call.{calls_at_last}
 use Rattle.std.proofs.alloc.Shapes.{after}
-use Rattle.std.proofs.raw_atomic.Calls.{fm}
-use Rattle.std.proofs.cell.Inside.{Good}
 use Rattle.std.proofs.BoxSteps.Form as box
-use Rattle.std.proofs.BoxSteps.Steps.{box_out, box_in}
 use Rattle.rdfax_c.proofs.Values.{both, Loose, loose_good, loose_out}
 use Rattle.std.specs.contracts.boxed.Box.from_raw as callee
-use Rattle.std.proofs.boxed.Box.from_raw.Met.{met}
-use Rattle.rdfax_c.specs.contracts.loose.Loose.into_box.{ended, clauses}
 use Rattle.rdfax_c.specs.contracts.loose.Loose.into_box.Key.{name as #self}
 use Rattle.rdfax_c.proofs.loose.Loose.into_box.Statement.{statement}
 use Rattle.rdfax_c.proofs.loose.Loose.into_box.Code as code

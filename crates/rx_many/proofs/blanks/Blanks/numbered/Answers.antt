@@ -1,5 +1,4 @@
-use Rattle.rx_model.proofs.Common.{◌∙◌, blank_of_term, term_seen}
-use Rattle.rx_graph.proofs.NumberLemmas.{renamed_triple}
+use Rattle.rx_many.proofs.Common.{◌∙◌, blank_of_term, term_seen, renamed_triple}
 use Rattle.rx_many.proofs.HereLemmas.{subject_stays}
 use Rattle.rx_many.proofs.blanks.Blanks.numbered.Goals as goal
 

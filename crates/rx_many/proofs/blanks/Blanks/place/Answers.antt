@@ -1,6 +1,4 @@
-use Rattle.std.proofs.Common.{◌∙◌, ◌+◌, ◌++◌, sym, ap, refl, arith}
-use Rattle.rx_graph.specs.Numbering.{numbers_to}
-use Rattle.rx_many.specs.Numbering.{numbers_of}
+use Rattle.rx_many.proofs.Common.{◌∙◌, ◌+◌, ◌++◌, sym, ap, refl, arith, numbers_to, numbers_of}
 use Rattle.rx_many.proofs.HereLemmas.{inside_stays, inside_place, next_comes, no_others, behind_comes, behind_place}
 use Rattle.rx_many.proofs.blanks.Blanks.place.Goals as goal
 

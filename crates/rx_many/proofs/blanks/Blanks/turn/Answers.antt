@@ -1,4 +1,4 @@
-use Rattle.std.proofs.Common.{◌∙◌, ◌+◌, sym, ap}
+use Rattle.rx_many.proofs.Common.{◌∙◌, ◌+◌, sym, ap}
 use Rattle.rx_many.proofs.HereLemmas.{here_length}
 use Rattle.rx_many.proofs.blanks.Blanks.turn.Goals as goal
 

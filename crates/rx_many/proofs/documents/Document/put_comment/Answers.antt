@@ -1,4 +1,4 @@
-use Rattle.rx_terms.proofs.Common.{◌∙◌, ◌++◌, ap, refl, on_ok_weaker}
+use Rattle.rx_many.proofs.Common.{◌∙◌, ◌++◌, ap, refl, on_ok_weaker}
 use Rattle.rx_many.proofs.LineLemmas.{stands_comment}
 use Rattle.rx_many.proofs.documents.Document.put_comment.Goals as goal
 

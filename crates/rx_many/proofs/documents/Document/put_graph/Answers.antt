@@ -1,6 +1,4 @@
-use Rattle.rx_model.proofs.Common.{map, refl, sym, subst, on_ok_weaker, Chars, triples_seen}
-use Rattle.rx_many.specs.Lines.{statement_at}
-use Rattle.rx_many.specs.Standing.{AreNew}
+use Rattle.rx_many.proofs.Common.{map, refl, sym, subst, on_ok_weaker, Chars, triples_seen, statement_at, AreNew}
 use Rattle.rx_many.proofs.PageLemmas.{turned, in_graph}
 use Rattle.rx_many.proofs.documents.Document.put_graph.Goals as goal
 

@@ -1,4 +1,5 @@
-use Rattle.rx_model.proofs.Common.{ap, refl, on_ok_both, triple_seen}
+use Rattle.rx_many.proofs.Common.{ap, refl, triple_seen}
+use Rattle.rx_model.proofs.Common.{on_ok_both}
 use Rattle.rx_many.proofs.PageLemmas.{own_statement}
 use Rattle.rx_many.proofs.documents.Document.put_new.Goals as goal
 

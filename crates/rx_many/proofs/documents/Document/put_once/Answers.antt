@@ -1,6 +1,4 @@
-use Rattle.rx_model.proofs.Common.{◌∙◌, ◌++◌, ◌∷◌, [], refl, sym, ap, if◌then◌else◌, on_ok_weaker, rename, triple_seen}
-use Rattle.rx_many.specs.Lines.{statement}
-use Rattle.rx_many.specs.Numbering.{number_at}
+use Rattle.rx_many.proofs.Common.{◌∙◌, ◌++◌, ◌∷◌, [], refl, sym, ap, if◌then◌else◌, on_ok_weaker, rename, triple_seen, statement, number_at}
 use Rattle.rx_many.proofs.PageLemmas.{old_statement, new_statement}
 use Rattle.rx_many.proofs.documents.Document.put_once.Goals as goal
 

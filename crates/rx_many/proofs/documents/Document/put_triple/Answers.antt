@@ -1,6 +1,4 @@
-use Rattle.rx_model.proofs.Common.{◌∙◌, sym, refl, inl, rename, triple_seen}
-use Rattle.rx_many.specs.Blank.{has_blank}
-use Rattle.rx_many.specs.Lines.{at_place}
+use Rattle.rx_many.proofs.Common.{◌∙◌, sym, refl, inl, rename, triple_seen, has_blank, at_place}
 use Rattle.rx_many.proofs.PageLemmas.{repeats, repeats_not, same_blanks}
 use Rattle.rx_many.proofs.documents.Document.put_triple.Goals as goal
 

@@ -1,8 +1,5 @@
-use Rattle.std.proofs.Common.{List, ◌++◌, map, take, subst, arith, take_all}
+use Rattle.rx_many.proofs.Common.{List, ◌++◌, map, take, subst, arith, take_all, triples_seen, Line, PageBlank, statement_at, PageStands}
 use Rattle.rx_terms.specs.declared.triples.Triple.{Triple as CodeTriple}
-use Rattle.rx_model.specs.Seen.{triples_seen}
-use Rattle.rx_many.specs.Lines.{Line, PageBlank, statement_at}
-use Rattle.rx_many.specs.Standing.{PageStands}
 use Rattle.rx_many.proofs.FreshLemmas.{next_new}
 use Rattle.rx_many.proofs.LineLemmas.{page_begins, triples_more}
 use Rattle.rx_many.proofs.documents.Document.put_triples.Goals as goal

@@ -1,6 +1,4 @@
-use Rattle.rx_model.proofs.Common.{ℕ, List, ◌++◌, map, take, Chars, triples_seen}
-use Rattle.rx_many.specs.Lines.{Line, PageBlank, statement_at}
-use Rattle.rx_many.specs.Standing.{AreNew, PageStands, Tells}
+use Rattle.rx_many.proofs.Common.{ℕ, List, ◌++◌, map, take, Chars, triples_seen, Line, PageBlank, statement_at, AreNew, PageStands, Tells}
 use Rattle.rx_many.proofs.documents.Document.put_triples.Given as goal
 
 abbrev pub invariant-loop-i : goal.invariant-loop-i

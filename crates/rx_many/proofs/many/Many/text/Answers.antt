@@ -1,6 +1,4 @@
-use Rattle.rx_terms.proofs.Common.{ℕ, List, map, subst, sym, chars}
-use Rattle.rx_many.specs.Dataset.{DenotesPages}
-use Rattle.rx_many.specs.Seen.{page_seen}
+use Rattle.rx_many.proofs.Common.{ℕ, List, map, subst, sym, chars, DenotesPages, page_seen}
 use Rattle.rx_many.specs.declared.pages.Page.{Page}
 use Rattle.rx_many.proofs.DatasetLemmas.{denotes_pages}
 use Rattle.rx_many.proofs.many.Many.text.Goals as goal

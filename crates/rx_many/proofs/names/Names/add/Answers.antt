@@ -1,5 +1,4 @@
-use Rattle.std.proofs.Common.{◌∙◌, ap}
-use Rattle.rx_unique.specs.Unique.{insert_key}
+use Rattle.rx_many.proofs.Common.{◌∙◌, ap, insert_key}
 use Rattle.rx_many.proofs.NameLemmas.{iri_eq, noted_once, noted_again}
 use Rattle.rx_many.proofs.names.Names.add.Goals as goal
 

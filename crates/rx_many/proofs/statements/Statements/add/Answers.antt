@@ -1,5 +1,4 @@
-use Rattle.std.proofs.Common.{◌∙◌, ap, sym, map}
-use Rattle.rx_many.specs.Seen.{statement_seen}
+use Rattle.rx_many.proofs.Common.{◌∙◌, ap, sym, map, statement_seen}
 use Rattle.rx_many.proofs.KeyLemmas.{statement_added, statement_new, statement_old}
 use Rattle.rx_many.proofs.statements.Statements.add.Goals as goal
 

@@ -1,4 +1,4 @@
-use Rattle.rx_terms.proofs.Common.{◌∙◌, ap, ℕ, false, length, string_bytes}
+use Rattle.rx_refs.proofs.Common.{◌∙◌, ap, ℕ, false, length, string_bytes}
 use Rattle.rx_refs.proofs.BufferLemmas.{shown, shown-start}
 use Rattle.rx_refs.proofs.dots.GrownPath.behind.Goals as goal
 

@@ -1,6 +1,4 @@
-use Rattle.rx_terms.proofs.Common.{◌≡◌, ◌∙◌, ap, List, ℕ, drop, take, string_bytes, chars, Chars}
-use Rattle.rx_refs.specs.Dots.{without_last_segment}
-use Rattle.rx_refs.specs.Segments.{Grown}
+use Rattle.rx_refs.proofs.Common.{◌≡◌, ◌∙◌, ap, List, ℕ, drop, take, string_bytes, chars, Chars, without_last_segment, Grown}
 use Rattle.rx_refs.proofs.BufferLemmas.{shown, shown-cut}
 use Rattle.rx_refs.proofs.dots.GrownPath.cut_last_segment.Goals as goal
 

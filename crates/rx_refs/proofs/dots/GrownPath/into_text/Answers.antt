@@ -1,5 +1,4 @@
-use Rattle.rx_terms.proofs.Common.{◌∙◌, ap, ◌++◌, string_bytes, IsUtf8-string_bytes}
-use Rattle.rx_refs.specs.Segments.{Grown}
+use Rattle.rx_refs.proofs.Common.{◌∙◌, ap, ◌++◌, string_bytes, IsUtf8-string_bytes, Grown}
 use Rattle.rx_refs.proofs.BufferLemmas.{shown-whole}
 use Rattle.rx_refs.proofs.dots.GrownPath.into_text.Goals as goal
 

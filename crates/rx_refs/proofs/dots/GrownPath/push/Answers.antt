@@ -1,5 +1,4 @@
-use Rattle.rx_terms.proofs.Common.{◌∙◌, ◌++◌, sym, ap, chars, Chars}
-use Rattle.rx_refs.specs.Segments.{Grown, pushed}
+use Rattle.rx_refs.proofs.Common.{◌∙◌, ◌++◌, sym, ap, chars, Chars, Grown, pushed}
 use Rattle.rx_refs.proofs.BufferLemmas.{grown_of, becomes, pushed-slash, pushed-bare}
 use Rattle.rx_refs.proofs.dots.GrownPath.push.Goals as goal
 use Rattle.rx_refs.proofs.dots.GrownPath.push.Goals.{then-self+in_ok-push_text, else-self}

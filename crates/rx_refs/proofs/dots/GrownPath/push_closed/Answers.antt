@@ -1,6 +1,4 @@
-use Rattle.rx_terms.proofs.Common.{◌≡◌, ◌∙◌, ◌++◌, ◌∷◌, ◌<◌, refl, [], ap, sym, length, arith, length-append, rules, chars, Chars}
-use Rattle.std.proofs.lemmas.List.{append_assoc, append-nil}
-use Rattle.rx_refs.specs.Resolve.{through_last_slash}
+use Rattle.rx_refs.proofs.Common.{◌≡◌, ◌∙◌, ◌++◌, ◌∷◌, ◌<◌, refl, [], ap, sym, length, arith, length-append, rules, chars, Chars, append_assoc, append-nil, through_last_slash}
 use Rattle.rx_refs.proofs.DotLemmas.{takes-none, takes-segment}
 use Rattle.rx_refs.proofs.CutLemmas.{through-slash, through-none}
 use Rattle.rx_refs.proofs.dots.GrownPath.push_closed.Goals as goal

@@ -1,6 +1,5 @@
-use Rattle.rx_terms.proofs.Common.{◌≡◌, ◌++◌, length, chars, Chars, Utf8, shadow}
-use Rattle.rx_refs.specs.Resolve.{through_last_slash}
-use Rattle.rx_refs.specs.Segments.{Takes}
+use Rattle.rx_refs.proofs.Common.{◌≡◌, ◌++◌, length, chars, Chars, through_last_slash, Takes}
+use Rattle.rx_terms.proofs.Common.{Utf8, shadow}
 use Rattle.rx_refs.proofs.dots.GrownPath.push_closed.Given as goal
 
 abbrev pub invariant-loop-segment : goal.invariant-loop-segment

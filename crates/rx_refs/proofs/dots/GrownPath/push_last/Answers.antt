@@ -1,4 +1,4 @@
-use Rattle.rx_terms.proofs.Common.{refl, chars, codes}
+use Rattle.rx_refs.proofs.Common.{refl, chars, codes}
 use Rattle.rx_refs.proofs.BufferLemmas.{chars-is, chars-is-not, becomes, last-one, last-two, last-other}
 use Rattle.rx_refs.proofs.dots.GrownPath.push_last.Goals as goal
 

@@ -1,5 +1,4 @@
-use Rattle.rx_terms.proofs.Common.{refl, ap, sym, ◌∙◌, chars, Chars, codes, true}
-use Rattle.rx_refs.specs.Segments.{Grown, after_segment}
+use Rattle.rx_refs.proofs.Common.{refl, ap, sym, ◌∙◌, chars, Chars, codes, true, Grown, after_segment}
 use Rattle.rx_refs.proofs.BufferLemmas.{grown_of, chars-is, chars-is-not, segment-other}
 use Rattle.rx_refs.proofs.dots.GrownPath.push_segment.Goals as goal
 

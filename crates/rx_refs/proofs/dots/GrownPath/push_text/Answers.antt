@@ -1,5 +1,4 @@
-use Rattle.rx_terms.proofs.Common.{◌∙◌, ap, ◌++◌, List, ℕ, string_bytes, chars, IsUtf8-string_bytes}
-use Rattle.rx_refs.specs.Segments.{Grown}
+use Rattle.rx_refs.proofs.Common.{◌∙◌, ap, ◌++◌, List, ℕ, string_bytes, chars, IsUtf8-string_bytes, Grown}
 use Rattle.rx_refs.proofs.BufferLemmas.{shown, boundary-push, shown-push}
 use Rattle.rx_refs.proofs.dots.GrownPath.push_text.Goals as goal
 

@@ -1,4 +1,4 @@
-use Rattle.rx_model.proofs.Common.{◌∙◌, ap, map, node_seen}
+use Rattle.rx_shapes.proofs.Common.{◌∙◌, ap, map, node_seen}
 use Rattle.rx_shapes.proofs.IndexLemmas.{node_added_seen}
 use Rattle.rx_shapes.proofs.index.Index.add.Goals as goal
 

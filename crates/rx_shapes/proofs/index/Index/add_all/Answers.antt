@@ -1,4 +1,4 @@
-use Rattle.std.proofs.Common.{arith}
+use Rattle.rx_shapes.proofs.Common.{arith}
 use Rattle.rx_shapes.proofs.IndexLemmas.{has_none, nodes_turn, nodes_end}
 use Rattle.rx_shapes.proofs.index.Index.add_all.Goals as goal
 

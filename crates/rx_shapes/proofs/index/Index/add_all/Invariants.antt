@@ -1,5 +1,4 @@
-use Rattle.rx_model.proofs.Common.{take, triples_seen}
-use Rattle.rx_shapes.specs.Links.{HasNodes}
+use Rattle.rx_shapes.proofs.Common.{take, triples_seen, HasNodes}
 use Rattle.rx_shapes.proofs.index.Index.add_all.Given as goal
 
 abbrev pub invariant-loop-i : goal.invariant-loop-i

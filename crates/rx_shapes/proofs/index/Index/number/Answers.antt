@@ -1,4 +1,4 @@
-use Rattle.std.proofs.Common.{◌∙◌}
+use Rattle.rx_shapes.proofs.Common.{◌∙◌}
 use Rattle.rx_shapes.proofs.IndexLemmas.{number_seen}
 use Rattle.rx_shapes.proofs.index.Index.number.Goals as goal
 

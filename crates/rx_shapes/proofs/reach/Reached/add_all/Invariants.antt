@@ -1,5 +1,4 @@
-use Rattle.std.proofs.Common.{◌≡◌, drop}
-use Rattle.rx_shapes.specs.Reach.{reach_all}
+use Rattle.rx_shapes.proofs.Common.{◌≡◌, drop, reach_all}
 use Rattle.rx_shapes.proofs.reach.Reached.add_all.Given as goal
 
 abbrev pub invariant-loop-number : goal.invariant-loop-number

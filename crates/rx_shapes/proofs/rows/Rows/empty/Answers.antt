@@ -1,5 +1,4 @@
-use Rattle.std.proofs.Common.{◌∙◌, ◌++◌, ◌∷◌, [], ap, sym}
-use Rattle.rx_graph.proofs.PatternLemmas.{empty_more}
+use Rattle.rx_shapes.proofs.Common.{◌∙◌, ◌++◌, ◌∷◌, [], ap, sym, empty_more}
 use Rattle.rx_shapes.proofs.rows.Rows.empty.Goals as goal
 
 pub loop-preserved : goal.loop-preserved

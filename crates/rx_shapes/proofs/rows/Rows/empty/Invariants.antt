@@ -1,5 +1,4 @@
-use Rattle.std.proofs.Common.{◌≡◌}
-use Rattle.rx_graph.specs.Rows.{empty_rows}
+use Rattle.rx_shapes.proofs.Common.{◌≡◌, empty_rows}
 use Rattle.rx_shapes.proofs.rows.Rows.empty.Given as goal
 
 abbrev pub invariant-loop : goal.invariant-loop

@@ -1,5 +1,4 @@
-use Rattle.rx_terms.proofs.Common.{◌∙◌, ◌<◌, ap, sym, arith, length, get_or, length-map}
-use Rattle.rx_graph.proofs.SetLemmas.{row_grown, row_pushed}
+use Rattle.rx_shapes.proofs.Common.{◌∙◌, ◌<◌, ap, sym, arith, length, get_or, length-map, row_grown, row_pushed}
 use Rattle.rx_shapes.proofs.rows.Rows.push.Goals as goal
 
 pub returns : goal.returns

@@ -1,4 +1,4 @@
-use Rattle.std.proofs.Common.{sym, arith}
+use Rattle.rx_shapes.proofs.Common.{sym, arith}
 use Rattle.rx_graph.proofs.WayLemmas.{pushed_beyond}
 use Rattle.rx_shapes.proofs.rows.Rows.push_within.Goals as goal
 

@@ -1,4 +1,4 @@
-use Rattle.rx_model.proofs.Common.{[], sym, get_or_from_slice_get}
+use Rattle.rx_shapes.proofs.Common.{[], sym, get_or_from_slice_get}
 use Rattle.rx_shapes.proofs.rows.Rows.row.Goals as goal
 
 pub returns : goal.returns

@@ -1,4 +1,4 @@
-use Rattle.rx_model.specs.Seen.{triples_seen}
+use Rattle.rx_shapes.proofs.Common.{triples_seen}
 use Rattle.rx_shapes.proofs.ShapeLemmas.{are_shapes}
 use Rattle.rx_shapes.proofs.shapes.Shapes.of.Goals as goal
 
