@@ -1,4 +1,4 @@
--- Attributes: the ways to write their values, each with what is written of it.
+-- Attributes: the ways to write their values, each with what is written of it, as the program told it first, read against the rules.
 use Rattle.std.specs.Prelude.{◌≡◌, List, [], ◌∷◌}
 use Rattle.rx_terms.specs.Common.{String}
 use Rattle.rx_rows.specs.Pages.{Row, row, here, wrong, triples_text}

@@ -7,8 +7,8 @@ use Rattle.rx_rows.specs.Pages.{Row, row, wrong, items_text}
 abbrev pub at : ℕ → ℕ → Row → List String
 at nested visits r = wrong (items_text (record { nested = nested; visits = visits })) (r ∷ [])
 
-abbrev pub wrong_ones : List String
-wrong_ones =
+abbrev pub wrong_at_small_bounds : List String
+wrong_at_small_bounds =
     at 3 3 (row "a visit that is a cycle, too deep and one too many is a cycle"
     "<html><div itemscope itemref=\"a\"></div><i id=\"a\" itemprop=\"p\" itemscope itemref=\"b\"></i><i id=\"b\" itemprop=\"p\" itemscope itemref=\"a\"></i></html>"
     ("refused: Cycle at byte 83 in token 39" ∷ []))
@@ -38,5 +38,5 @@ abbrev pub deep : Chars
 deep = codes "<html><div itemscope>" ++ (copies 40 (codes "<div itemprop=\"p\" itemscope>") ++ (copies 41 (codes "</div>") ++ codes "</html>"))
 
 pub record LimitsHold : Type 0 where
-  pub small_bounds : wrong_ones ≡ []
+  pub small_bounds : wrong_at_small_bounds ≡ []
   pub deep_holds : items_text standard_bounds deep ≡ codes "refused: ItemsTooNested at byte 1140 in token 1113\n"

@@ -35,11 +35,6 @@ abbrev pub first_tree : List Tree → Tree
 first_tree [] = end
 first_tree (tree ∷ trees) = tree
 
--- the page's tree, and nothing where it is refused
-abbrev pub tree_told : Result Progress Fault → Tree
-tree_told (Ok progress) = first_tree (told_trees progress.told)
-tree_told (Err fault) = end
-
 abbrev pub refused_text : Fault → List ℕ
 refused_text fault = codes "refused: " ++ kind_name fault.kind ++ codes " at byte " ++ decimal fault.at ++ codes " in token " ++ decimal fault.token ++ codes "\n"
 
@@ -54,18 +49,18 @@ nodes_text end = []
 nodes_text (element t inside rest) = tag_text t ++ nodes_text inside ++ codes "/" ++ nodes_text rest
 nodes_text (text chars rest) = chars ++ nodes_text rest
 
-abbrev pub told_text : Result Progress Fault → List ℕ
-told_text (Ok progress) = encode_utf8_all (nodes_text (first_tree (told_trees progress.told))) ++ codes "\n"
-told_text (Err fault) = refused_text fault
+-- what is said of the page's tree, or its fault: a page that is refused has no other text
+abbrev pub said_of : (Tree → List ℕ) → Result Progress Fault → List ℕ
+said_of tell (Ok progress) = tell (first_tree (told_trees progress.told))
+said_of tell (Err fault) = refused_text fault
 
--- what a page is read as: its tree, or its fault
+abbrev pub page_text : (Tree → List ℕ) → Syntax → Limits → List ℕ → List ℕ
+page_text tell syntax limits page = said_of tell (end_of (page_read syntax limits page))
+
+-- what a page is read as
 unfoldable pub tree_text : Syntax → Limits → List ℕ → List ℕ
 unfolding encode digits named_table
-tree_text syntax limits page = told_text (end_of (page_read syntax limits page))
-
--- the tree of a page in HTML
-abbrev pub tree_of : Chars → Tree
-tree_of page = tree_told (end_of (page_read Html limits (encode_utf8_all page)))
+tree_text syntax limits page = page_text (λ tree. encode_utf8_all (nodes_text tree) ++ codes "\n") syntax limits page
 
 -- the address of a page that names no other
 abbrev pub here : Chars
@@ -74,19 +69,19 @@ here = codes "http://h.example/d"
 abbrev pub triples_of : Chars → Nodes Tag → Chars
 triples_of address tree = nquads (written (base_of tree address) (with_facts standard [] tree)) None
 
--- the N-Quads of what is written of a page at an address, in order
+-- the N-Quads of what is written of a page in HTML at an address, in order
 unfoldable pub triples_text : Chars → Chars → List ℕ
 unfolding encode digits named_table time_kind components_of step without_dots target resolved resources below start_of element_end entries_at cells
-triples_text address page = encode_utf8_all (triples_of address (tags_of (tree_of page)))
+triples_text address page = page_text (λ tree. encode_utf8_all (triples_of address (tags_of tree))) Html limits (encode_utf8_all page)
 
 abbrev pub outcome_text : Outcome → List ℕ
 outcome_text (Given value) = compact_text value ++ codes "\n"
 outcome_text (Refused fault) = refused_text fault
 
--- the JSON of a page's items, or its fault
+-- the JSON of the items of a page in HTML, or their fault
 unfoldable pub items_text : Bounds → Chars → List ℕ
 unfolding encode digits named_table components_of step without_dots target resolved escape_byte
-items_text bounds page = outcome_text (outcome bounds here (tree_of page))
+items_text bounds page = page_text (λ tree. outcome_text (outcome bounds here tree)) Html limits (encode_utf8_all page)
 
 -- a row: its name, a page, and the lines of the text that is right for it
 pub record Row : Type 0 where

@@ -234,12 +234,11 @@ in_xhtml =
     ∷ reads "<html><p a = 'x &amp; &#x41;\t' /></html>" "[html][p a=x & A /]//"
     ∷ reads "<html><p a='x &amp; &#x41;&'" "refused: StrictText at byte 27 in token 6"
     ∷ reads "<html>&#1;&#x80;&#x9F;</html>" "[html]\u{1}\u{80}\u{9f}/"
-    ∷ reads "<html><A_z9-·̀⁀\u{e01ef}/></html>" "[html][A_z9-·̀⁀\u{e01ef}/]//"
+    ∷ reads "<html><A_z9-·⁀\u{e01ef}/></html>" "[html][A_z9-·⁀\u{e01ef}/]//"
     ∷ reads "<html><_˿/></html>" "[html][_˿/]//"
     ∷ reads "<html><9" "refused: BadTag at byte 7 in token 6"
     ∷ reads "<html><·" "refused: BadTag at byte 8 in token 6"
     ∷ reads "<html><a×" "refused: BadTag at byte 9 in token 6"
-    ∷ reads "<html><a;" "refused: BadTag at byte 9 in token 6"
     ∷ reads "<html><a\u{f0000}" "refused: BadTag at byte 11 in token 6"
     ∷ []
 
@@ -247,8 +246,8 @@ in_xhtml =
 abbrev pub within : ℕ → ℕ → ℕ → String → String → List String
 within depth tag page text shown = wrong (λ chars. tree_text Html (record { depth = depth; tag = tag; page = page }) (encode_utf8_all chars)) (reads text shown ∷ [])
 
-abbrev pub limited : List String
-limited =
+abbrev pub wrong_within_limits : List String
+wrong_within_limits =
     within 3 1048576 1073741824 "<html><body><b></b><br></body></html>" "[html][body][b]/[br]///"
     ++ within 3 1048576 1073741824 "<html><body><b><i>" "refused: TooDeep at byte 17 in token 15"
     ++ within 3 1048576 1073741824 "<html><body><b><br>" "refused: TooDeep at byte 18 in token 15"
@@ -256,9 +255,12 @@ limited =
     ++ within 3 1048576 1073741824 "<html><template><p><b>" "refused: TooDeep at byte 21 in token 19"
     ++ within 512 6 1073741824 "<html></html>" "refused: TagTooLong at byte 12 in token 6"
     ++ within 512 7 1073741824 "<html></html>" "[html]/"
+    ++ within 512 7 1073741824 "<html><!-- a comment is no tag --></html>" "[html]/"
+    ++ within 512 7 1073741824 "<html><bbbbé>" "refused: TagTooLong at byte 13 in token 6"
     ++ within 512 16 1073741824 "<html><p title=\"123456789\">" "refused: TagTooLong at byte 22 in token 6"
     ++ within 512 1048576 12 "<html></html>" "refused: PageTooLong at byte 12 in token 6"
     ++ within 512 1048576 13 "<html></html>" "[html]/"
+    ++ within 512 1048576 13 "<html></html>\r" "refused: PageTooLong at byte 13 in token 13"
 
 -- bytes whose last one belongs to no character
 abbrev pub no_utf8 : List (List ℕ)
@@ -272,6 +274,6 @@ not_utf8 bytes = codes "refused: NotUtf8 at byte " ++ decimal (5 + length bytes)
 pub record TreesHold : Type 0 where
   pub html_hold : wrong (λ page. tree_text Html limits (encode_utf8_all page)) in_html ≡ []
   pub xhtml_hold : wrong (λ page. tree_text Xhtml limits (encode_utf8_all page)) in_xhtml ≡ []
-  pub limited_hold : limited ≡ []
+  pub limits_hold : wrong_within_limits ≡ []
   pub half_a_character : tree_text Html limits (codes "<html>" ++ 195 ∷ []) ≡ codes "refused: Unended at byte 7 in token 6\n"
   pub no_utf8_holds : map (λ bytes. tree_text Html limits (codes "<html>" ++ bytes)) no_utf8 ≡ map not_utf8 no_utf8
