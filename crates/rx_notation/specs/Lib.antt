@@ -1,6 +1,5 @@
 pub mod Short
 pub mod Layout
-pub mod Rows
 pub mod Syntax
 pub mod Grammar
 pub mod Spelling
@@ -9,5 +8,5 @@ pub mod Laws
 pub mod Texts
 pub mod Writing
 pub mod Nesting
+pub mod Rows
 pub mod NestedLaws
-pub mod NestedRows

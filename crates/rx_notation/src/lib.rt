@@ -8,8 +8,7 @@ ghost use Rattle.rx_notation.specs.Grammar.{TokensOfOne};
 ghost use Rattle.rx_notation.specs.Laws.{LayoutDenotes, RisingContexts};
 ghost use Rattle.rx_notation.specs.Meaning.{DenotesOne, FlatIsNested, NestedDenotesOne};
 ghost use Rattle.rx_notation.specs.NestedLaws.{NestedDenotes};
-ghost use Rattle.rx_notation.specs.NestedRows.{NestedRowsHold};
-ghost use Rattle.rx_notation.specs.Rows.{RowsHold};
+ghost use Rattle.rx_notation.specs.Rows.{NestedRowsHold, RowsHold};
 ghost use Rattle.rx_notation.specs.Spelling.{SpellsOne};
 ghost use Rattle.rx_notation.specs.Texts.{TextsHold};
 
