@@ -1,7 +1,5 @@
-//! What no clause says of the adapters, and that calls succeed where memory is there.
-use crate::tests::nquads::sink;
-use rx_ports::{Failed, FileList, FileShelf, MemShelf, Shelf, Sink, StdSink, put_all};
-use std::alloc::Global;
+//! What no clause says of the adapters.
+use rx_ports::{Failed, FileShelf, Shelf, Sink, StdSink, put_all};
 use std::fs;
 use std::io::{self, ErrorKind, Write};
 use std::process::Abort;
@@ -185,29 +183,4 @@ fn file_shelf_fills_a_large_buffer(rt: HostRuntime) {
     assert!(rt; is_filled(&mut shelf, name));
     drop(shelf);
     remove_file(&rt, name);
-}
-
-fn two_files(rt: &impl Abort, alloc: Global) -> FileList {
-    let mut files = FileList::new(alloc);
-    files.push("page", b"first").expect(rt, "memory");
-    files.push("page", b"second").expect(rt, "memory");
-    files
-}
-
-#[test]
-fn memory_has_a_shelf(rt: HostRuntime) {
-    let files = two_files(&rt, rt.alloc());
-    let mut shelf = MemShelf::new(files, 4, Vec::new(rt.alloc()));
-    let started = is_answered(&mut shelf, Call::Start("page", Ok(())));
-    let read = is_answered(&mut shelf, Call::Read(9, Ok(4), "firs"));
-    drop(shelf);
-    assert!(rt; started && read);
-}
-
-#[test]
-fn memory_has_a_sink(rt: HostRuntime) {
-    let mut sink = sink(&rt, rt.alloc(), 6, 4);
-    assert!(rt; put_all(&mut sink, b"seventh") == Err(Failed));
-    assert!(rt; sink.held() == b"sevent".as_slice());
-    drop(sink);
 }

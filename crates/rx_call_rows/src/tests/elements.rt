@@ -1,14 +1,26 @@
-//! One element as its calls, where all goes well.
+//! One element as its calls, and items as a value.
 ghost use Rattle.std.specs.Prelude.{◌<◌, ◌+◌, ◌^◌, length};
 ghost use Rattle.rx_rdfa.specs.Renaming.{labels as labels_of};
 ghost use Rattle.rx_curie.specs.Seen.{facts_seen};
 
-use crate::tests::evaluator::{iri, is_text, property};
 use rx_curie::{ElementKind, Facts, Ref};
-use rx_eval::{Labels, OwnIris, Placed, is_blank, value_of};
-use rx_terms::{Iri, Node, Text};
+use rx_eval::{Labels, Placed, is_blank, value_of};
+use rx_items::{ItemWalk, Limits, Syntax};
+use rx_terms::{Iri, Iris, Node, Term, Text};
 use std::alloc::Global;
 use std::process::Abort;
+
+pub(crate) fn iri(rt: &impl Abort, alloc: Global, text: &str) -> Iri {
+    Iri::of(alloc, text).expect(rt, "an IRI")
+}
+
+/// Whether the term is this text.
+fn is_text(term: &Term, text: &str) -> bool {
+    match term {
+        Term::Literal(literal) => literal.lexical.as_str() == text,
+        _ => false,
+    }
+}
 
 /// Where an element with these facts stands, with the labels that have numbers then, and its value.
 fn check(rt: &impl Abort, alloc: Global, facts: &Facts, base: &Iri)
@@ -31,6 +43,9 @@ fn check(rt: &impl Abort, alloc: Global, facts: &Facts, base: &Iri)
 #[test]
 fn a_text_about_a_label(rt: HostRuntime) {
     let label = Text::of(rt.alloc(), "x").expect(&rt, "memory");
+    let mut property = Iris::new(rt.alloc());
+    let name = iri(&rt, rt.alloc(), "http://v.example/p");
+    property.push(name).expect(&rt, "memory");
     let facts = Facts {
         element: ElementKind::Other,
         about: Some(Ref::Label(label)),
@@ -39,7 +54,7 @@ fn a_text_about_a_label(rt: HostRuntime) {
         src: None,
         rel: None,
         rev: None,
-        property: Some(property(&rt, rt.alloc())),
+        property: Some(property),
         types: None,
         content: None,
         datetime: None,
@@ -53,11 +68,23 @@ fn a_text_about_a_label(rt: HostRuntime) {
     drop(facts);
 }
 
+const PAGE: &[u8] =
+    b"<html><body><p id=\"r\" itemprop=\"z b\">N</p><div itemscope itemtype=\"http://t.example/A\" itemref=\"r\"><a itemprop=\"b\" href=\"y\"></a></div></body></html>";
+
+const TEXT: &str =
+    "{\"items\":[{\"properties\":{\"b\":[\"N\",\"http://h.example/y\"],\"z\":[\"N\"]},\"type\":[\"http://t.example/A\"]}]}";
+
 #[test]
-fn the_own_iris(rt: HostRuntime) {
-    let iris = OwnIris::new(rt.alloc()).expect(&rt, "memory");
-    let uses_vocabulary = "http://www.w3.org/ns/rdfa#usesVocabulary";
-    assert!(rt; iris.rdf_type().as_str() == "http://www.w3.org/1999/02/22-rdf-syntax-ns#type");
-    assert!(rt; iris.uses_vocabulary().as_str() == uses_vocabulary);
-    drop(iris);
+fn items_are_a_value(rt: HostRuntime) {
+    let alloc = rt.alloc();
+    let address = iri(&rt, alloc, "http://h.example/d");
+    let walk = ItemWalk::new(alloc, Syntax::Html, address, Limits::standard());
+    let mut walk = walk.expect(&rt, "memory");
+    walk.feed(PAGE).expect(&rt, "a page");
+    let items = walk.finish().expect(&rt, "items");
+    let value = items.json(alloc).expect(&rt, "memory");
+    drop(items);
+    let text = value.to_vec(alloc).expect(&rt, "memory");
+    drop(value);
+    assert!(rt; text.as_slice() == TEXT.as_bytes());
 }

@@ -1,5 +1,0 @@
-use Rattle.rx_tags.specs.TagBufs.{MayStep}
-use Rattle.rx_page_rows.proofs.tests.tags.read.Given as goal
-
-abbrev pub invariant-loop-i : goal.invariant-loop-i
-invariant-loop-i l = MayStep l.buf

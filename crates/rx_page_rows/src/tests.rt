@@ -1,9 +1,0 @@
-mod elements;
-mod evaluator;
-mod facts;
-mod items;
-mod names;
-mod placed;
-mod tags;
-mod tokens;
-mod walks;
