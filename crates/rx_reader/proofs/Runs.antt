@@ -40,121 +40,50 @@ run_begun (in_decimal c text h k) = rw (h, k) refl
 run_begun (at_mark x h) = rw (x_no_digit x h, h) refl
 run_begun (in_hexadecimal x c text h k l) = rw (x_no_digit x h, h, k, l) refl
 
-no_stop : (q : RunPhase) (G : Type 0) → Goes q ≡ Stops → G
-no_stop q G h = absurd (cc)
-
-no_close : (q : RunPhase) (G : Type 0) → Goes q ≡ Closes → G
-no_close q G h = absurd (cc)
-
-closes_no_stop : (G : Type 0) → Closes ≡ Stops → G
-closes_no_stop G h = absurd (cc)
-
-stops_no_close : (G : Type 0) → Stops ≡ Closes → G
-stops_no_close G h = absurd (cc)
-
-stops_no_go : (q : RunPhase) (G : Type 0) → Stops ≡ Goes q → G
-stops_no_go q G h = absurd (cc)
-
-closes_no_go : (q : RunPhase) (G : Type 0) → Closes ≡ Goes q → G
-closes_no_go q G h = absurd (cc)
-
-as_run : (p q : RunPhase) (text : Chars) → Goes p ≡ Goes q → RunIs p text → RunIs q text
-as_run p q text h i = let e : p ≡ q = cc in subst (λ (x : RunPhase). RunIs x text) e i
-
-pub goes_on : (c : ℕ) (q : RunPhase) {p : RunPhase} {text : Chars} → RunIs p text → run_move p c ≡ Goes q → RunIs q (text ++ c ∷ [])
-goes_on c q at_ampersand h =
-    let G : Type 0 = RunIs q (c ∷ []) in
-    split (λ m. m ≡ Goes q → G) (is_letter c) _ _
-    (λ e g. as_run _ q _ g (in_name c [] e refl))
-    (λ _. split (λ m. m ≡ Goes q → G) (c == number_sign) _ _
-    (λ e g. as_run _ q _ g (of_one (λ x. RunIs run.Hash (x ∷ [])) c number_sign e at_hash))
-    (λ _ g. stops_no_go q G g)) h
-goes_on c q (in_name d text a b) h =
-    let G : Type 0 = RunIs q (d ∷ (text ++ c ∷ [])) in
-    split (λ m. m ≡ Goes q → G) (is_letter_or_digit c) _ _
-    (λ e g. as_run _ q _ g (in_name d (text ++ c ∷ []) a (all_snoc is_letter_or_digit text c b e)))
-    (λ _. split (λ m. m ≡ Goes q → G) (c == semicolon) _ _ (λ e g. closes_no_go q G g) (λ _ g. stops_no_go q G g)) h
-goes_on c q at_hash h =
-    let G : Type 0 = RunIs q (number_sign ∷ c ∷ []) in
-    split (λ m. m ≡ Goes q → G) (is_digit c) _ _
-    (λ e g. as_run _ q _ g (in_decimal c [] e refl))
-    (λ _. split (λ m. m ≡ Goes q → G) (is_x c) _ _
-    (λ e g. as_run _ q _ g (at_mark c e))
-    (λ _ g. stops_no_go q G g)) h
-goes_on c q (in_decimal d text a b) h =
-    let G : Type 0 = RunIs q (number_sign ∷ d ∷ (text ++ c ∷ [])) in
-    split (λ m. m ≡ Goes q → G) (is_digit c) _ _
-    (λ e g. as_run _ q _ g (in_decimal d (text ++ c ∷ []) a (all_snoc is_digit text c b e)))
-    (λ _. split (λ m. m ≡ Goes q → G) (c == semicolon) _ _ (λ e g. closes_no_go q G g) (λ _ g. stops_no_go q G g)) h
-goes_on c q (at_mark x a) h =
-    let G : Type 0 = RunIs q (number_sign ∷ x ∷ c ∷ []) in
-    split (λ m. m ≡ Goes q → G) (is_hexadecimal_digit c) _ _
-    (λ e g. as_run _ q _ g (in_hexadecimal x c [] a e refl))
-    (λ _ g. stops_no_go q G g) h
-goes_on c q (in_hexadecimal x d text a b k) h =
-    let G : Type 0 = RunIs q (number_sign ∷ x ∷ d ∷ (text ++ c ∷ [])) in
-    split (λ m. m ≡ Goes q → G) (is_hexadecimal_digit c) _ _
-    (λ e g. as_run _ q _ g (in_hexadecimal x d (text ++ c ∷ []) a b (all_snoc is_hexadecimal_digit text c k e)))
-    (λ _. split (λ m. m ≡ Goes q → G) (c == semicolon) _ _ (λ e g. closes_no_go q G g) (λ _ g. stops_no_go q G g)) h
-
 -- the run is the body of a reference
 pub record Closing (c : ℕ) (text : Chars) : Type 0 where
   pub body : is_body text ≡ true
   pub mark : c ≡ semicolon
 
-pub closes : (c : ℕ) {p : RunPhase} {text : Chars} → RunIs p text → run_move p c ≡ Closes → Closing c text
-closes c at_ampersand h =
-    split (λ m. m ≡ Closes → Closing c []) (is_letter c) _ _ (λ e g. absurd (cc))
-    (λ _. split (λ m. m ≡ Closes → Closing c []) (c == number_sign) _ _ (λ e g. absurd (cc)) (λ _ g. absurd (cc))) h
-closes c (in_name d text a b) h =
-    let G : Type 0 = Closing c (d ∷ text) in
-    split (λ m. m ≡ Closes → G) (is_letter_or_digit c) _ _ (λ e g. no_close run.Named G g)
-    (λ _. split (λ m. m ≡ Closes → G) (c == semicolon) _ _ (λ e g. record { body = rw (a, b) refl; mark = eqb-true c semicolon e }) (λ _ g. stops_no_close G g)) h
-closes c at_hash h =
-    split (λ m. m ≡ Closes → Closing c (number_sign ∷ [])) (is_digit c) _ _ (λ e g. absurd (cc))
-    (λ _. split (λ m. m ≡ Closes → Closing c (number_sign ∷ [])) (is_x c) _ _ (λ e g. absurd (cc)) (λ _ g. absurd (cc))) h
-closes c (in_decimal d text a b) h =
-    let G : Type 0 = Closing c (number_sign ∷ d ∷ text) in
-    split (λ m. m ≡ Closes → G) (is_digit c) _ _ (λ e g. no_close run.Decimal G g)
-    (λ _. split (λ m. m ≡ Closes → G) (c == semicolon) _ _ (λ e g. record { body = rw (a, b) refl; mark = eqb-true c semicolon e }) (λ _ g. stops_no_close G g)) h
-closes c (at_mark x a) h =
-    split (λ m. m ≡ Closes → Closing c (number_sign ∷ x ∷ [])) (is_hexadecimal_digit c) _ _ (λ e g. absurd (cc)) (λ _ g. absurd (cc)) h
-closes c (in_hexadecimal x d text a b k) h =
-    let G : Type 0 = Closing c (number_sign ∷ x ∷ d ∷ text) in
-    split (λ m. m ≡ Closes → G) (is_hexadecimal_digit c) _ _ (λ e g. no_close run.Hexadecimal G g)
-    (λ _. split (λ m. m ≡ Closes → G) (c == semicolon) _ _ (λ e g. record { body = rw (x_no_digit x a, a, b, k) refl; mark = eqb-true c semicolon e }) (λ _ g. stops_no_close G g)) h
+-- what a character does to a run: it goes on, it was the body of a reference, or it is text before this character
+abbrev Moved : ℕ → Chars → RunMove → Type 0
+Moved c text (Goes q) = RunIs q (text ++ c ∷ [])
+Moved c text Closes = Closing c text
+Moved c text Stops = stops_at text c ≡ true
 
--- the run is text before this character
+moved : (c : ℕ) {p : RunPhase} {text : Chars} → RunIs p text → Moved c text (run_move p c)
+moved c at_ampersand =
+    split (Moved c []) (is_letter c) _ _ (λ e. in_name c [] e refl)
+    (λ a. split (Moved c []) (c == number_sign) _ _ (λ e. of_one (λ x. RunIs run.Hash (x ∷ [])) c number_sign e at_hash)
+    (λ b. by_test {G = stops_at [] c ≡ true} (c == semicolon) (λ k. rw (k, a, b) refl) (λ k. rw (k, a, b) refl)))
+moved c (in_name d text a b) =
+    split (Moved c (d ∷ text)) (is_letter_or_digit c) _ _ (λ e. in_name d (text ++ c ∷ []) a (all_snoc is_letter_or_digit text c b e))
+    (λ e. split (Moved c (d ∷ text)) (c == semicolon) _ _ (λ f. record { body = rw (a, b) refl; mark = eqb-true c semicolon f })
+    (λ f. rw (f, a, snoc_false is_letter_or_digit text c b e, letter_no_sign d a) refl))
+moved c at_hash =
+    split (Moved c (number_sign ∷ [])) (is_digit c) _ _ (λ e. in_decimal c [] e refl)
+    (λ e. split (Moved c (number_sign ∷ [])) (is_x c) _ _ (λ f. at_mark c f)
+    (λ f. by_test {G = stops_at (number_sign ∷ []) c ≡ true} (c == semicolon) (λ k. rw (e, f, k) refl) (λ k. rw (e, f, k) refl)))
+moved c (in_decimal d text a b) =
+    split (Moved c (number_sign ∷ d ∷ text)) (is_digit c) _ _ (λ e. in_decimal d (text ++ c ∷ []) a (all_snoc is_digit text c b e))
+    (λ e. split (Moved c (number_sign ∷ d ∷ text)) (c == semicolon) _ _ (λ f. record { body = rw (a, b) refl; mark = eqb-true c semicolon f })
+    (λ f. rw (f, a, snoc_false is_digit text c b e, digit_no_x d a) refl))
+moved c (at_mark x a) =
+    split (Moved c (number_sign ∷ x ∷ [])) (is_hexadecimal_digit c) _ _ (λ e. in_hexadecimal x c [] a e refl)
+    (λ e. by_test {G = stops_at (number_sign ∷ x ∷ []) c ≡ true} (c == semicolon) (λ k. rw (k, x_no_digit x a, a, e) refl) (λ k. rw (k, x_no_digit x a, a, e) refl))
+moved c (in_hexadecimal x d text a b k) =
+    split (Moved c (number_sign ∷ x ∷ d ∷ text)) (is_hexadecimal_digit c) _ _ (λ e. in_hexadecimal x d (text ++ c ∷ []) a b (all_snoc is_hexadecimal_digit text c k e))
+    (λ e. split (Moved c (number_sign ∷ x ∷ d ∷ text)) (c == semicolon) _ _ (λ f. record { body = rw (x_no_digit x a, a, b, k) refl; mark = eqb-true c semicolon f })
+    (λ f. rw (f, x_no_digit x a, a, b, snoc_false is_hexadecimal_digit text c k e) refl))
+
+pub goes_on : (c : ℕ) (q : RunPhase) {p : RunPhase} {text : Chars} → RunIs p text → run_move p c ≡ Goes q → RunIs q (text ++ c ∷ [])
+goes_on c q {text = text} i h = subst (Moved c text) h (moved c i)
+
+pub closes : (c : ℕ) {p : RunPhase} {text : Chars} → RunIs p text → run_move p c ≡ Closes → Closing c text
+closes c {text = text} i h = subst (Moved c text) h (moved c i)
+
 pub stops : (c : ℕ) {p : RunPhase} {text : Chars} → RunIs p text → run_move p c ≡ Stops → stops_at text c ≡ true
-stops c at_ampersand h =
-    let G : Type 0 = stops_at [] c ≡ true in
-    split (λ m. m ≡ Stops → G) (is_letter c) _ _ (λ e g. no_stop run.Named G g)
-    (λ a. split (λ m. m ≡ Stops → G) (c == number_sign) _ _ (λ e g. no_stop run.Hash G g)
-    (λ b g. by_test {G = G} (c == semicolon) (λ k. rw (k, a, b) refl) (λ k. rw (k, a, b) refl))) h
-stops c (in_name d text a b) h =
-    let G : Type 0 = stops_at (d ∷ text) c ≡ true in
-    split (λ m. m ≡ Stops → G) (is_letter_or_digit c) _ _ (λ e g. no_stop run.Named G g)
-    (λ e. split (λ m. m ≡ Stops → G) (c == semicolon) _ _ (λ f g. closes_no_stop G g)
-    (λ f g. rw (f, a, snoc_false is_letter_or_digit text c b e, letter_no_sign d a) refl)) h
-stops c at_hash h =
-    let G : Type 0 = stops_at (number_sign ∷ []) c ≡ true in
-    split (λ m. m ≡ Stops → G) (is_digit c) _ _ (λ e g. no_stop run.Decimal G g)
-    (λ e. split (λ m. m ≡ Stops → G) (is_x c) _ _ (λ f g. no_stop run.Mark G g)
-    (λ f g. by_test {G = G} (c == semicolon) (λ k. rw (e, f, k) refl) (λ k. rw (e, f, k) refl))) h
-stops c (in_decimal d text a b) h =
-    let G : Type 0 = stops_at (number_sign ∷ d ∷ text) c ≡ true in
-    split (λ m. m ≡ Stops → G) (is_digit c) _ _ (λ e g. no_stop run.Decimal G g)
-    (λ e. split (λ m. m ≡ Stops → G) (c == semicolon) _ _ (λ f g. closes_no_stop G g)
-    (λ f g. rw (f, a, snoc_false is_digit text c b e, digit_no_x d a) refl)) h
-stops c (at_mark x a) h =
-    let G : Type 0 = stops_at (number_sign ∷ x ∷ []) c ≡ true in
-    split (λ m. m ≡ Stops → G) (is_hexadecimal_digit c) _ _ (λ e g. no_stop run.Hexadecimal G g)
-    (λ e g. by_test {G = G} (c == semicolon) (λ k. rw (k, x_no_digit x a, a, e) refl) (λ k. rw (k, x_no_digit x a, a, e) refl)) h
-stops c (in_hexadecimal x d text a b k) h =
-    let G : Type 0 = stops_at (number_sign ∷ x ∷ d ∷ text) c ≡ true in
-    split (λ m. m ≡ Stops → G) (is_hexadecimal_digit c) _ _ (λ e g. no_stop run.Hexadecimal G g)
-    (λ e. split (λ m. m ≡ Stops → G) (c == semicolon) _ _ (λ f g. closes_no_stop G g)
-    (λ f g. rw (f, x_no_digit x a, a, b, snoc_false is_hexadecimal_digit text c k e) refl)) h
+stops c {text = text} i h = subst (Moved c text) h (moved c i)
 
 stops_case : (c : ℕ) {p : RunPhase} {text : Chars} → RunIs p text → stops_at text c ≡ true → (m : RunMove) → run_move p c ≡ m → m ≡ Stops
 stops_case c {text = text} i h (Goes q) e =

@@ -1,5 +1,5 @@
 -- Text with references is read as the grammar says.
-use Rattle.rx_grammar.proofs.Common.{◌≡◌, ℕ, Bool, true, false, cond, eqb-true, [], ◌∷◌, ◌++◌, Option, Some, Ok, refl, ap, sym, ◌∙◌, append_assoc, append-nil, inl, inr, subst, ◌||◌, ◌&&◌, ◌==◌, list_all, ampersand, semicolon, less_than_sign, number_sign, is_letter, is_digit, is_letter_or_digit, Chars, both, either, untrue, or_parts, Syntax, Html, Xhtml}
+use Rattle.rx_grammar.proofs.Common.{◌≡◌, ℕ, Bool, true, false, cond, eqb-true, [], ◌∷◌, ◌++◌, Option, Some, Ok, refl, ap, sym, ◌∙◌, append_assoc, append-nil, inl, inr, subst, ◌||◌, ◌&&◌, ◌==◌, list_all, ampersand, semicolon, less_than_sign, number_sign, is_letter, is_digit, is_letter_or_digit, Chars, both, either, untrue, or_parts, or_right, Syntax, Html, Xhtml}
 use Rattle.rx_grammar.specs.References.{is_hexadecimal_digit, is_x, one_or_more, is_body, is_begun, begins_number, stops_at, is_plain, Denotes, is_number, value_char, IsKept, nothing, character, reference, kept}
 use Rattle.rx_reader.specs.declared.phases.RunPhase.{RunPhase}
 use Rattle.rx_reader.specs.declared.phases.RunPhase.TheVariants as run
@@ -41,26 +41,13 @@ module _ (s : Syntax) (means : Chars → Option ℕ) where
   pub run_moves : (p : RunPhase) (known text rest : Chars) (c : ℕ) (m : RunMove) → is_run p ≡ true → run_move p c ≡ m → value_on s means (Ok (at_run p known text)) (c ∷ rest) ≡ value_on s means (run_step s means (at_run p known text) c m) rest
   run_moves p known text rest c m r h = ap (λ x. value_on s means x rest) (ap (λ b. cond b (run_step s means (at_run p known text) c (run_move p c)) (plain_step s known c)) r ∙ ap (λ y. run_step s means (at_run p known text) c y) h)
 
-  named_run : (more known text rest : Chars) → list_all is_letter_or_digit more ≡ true → value_on s means (Ok (at_run run.Named known text)) (more ++ rest) ≡ value_on s means (Ok (at_run run.Named known (text ++ more))) rest
-  named_run [] known text rest h = rw (append-nil text) refl
-  named_run (c ∷ more) known text rest h =
-      let b = both (is_letter_or_digit c) _ h in
-      run_moves run.Named known text (more ++ rest) c (Goes run.Named) refl (ap (λ x. cond x (Goes run.Named) (cond (c == semicolon) Closes Stops)) b.0)
-      ∙ (named_run more known (text ++ c ∷ []) rest b.1 ∙ ap (λ x. value_on s means (Ok (at_run run.Named known x)) rest) (append_assoc text (c ∷ []) more))
-
-  decimal_run : (more known text rest : Chars) → list_all is_digit more ≡ true → value_on s means (Ok (at_run run.Decimal known text)) (more ++ rest) ≡ value_on s means (Ok (at_run run.Decimal known (text ++ more))) rest
-  decimal_run [] known text rest h = rw (append-nil text) refl
-  decimal_run (c ∷ more) known text rest h =
-      let b = both (is_digit c) _ h in
-      run_moves run.Decimal known text (more ++ rest) c (Goes run.Decimal) refl (ap (λ x. cond x (Goes run.Decimal) (cond (c == semicolon) Closes Stops)) b.0)
-      ∙ (decimal_run more known (text ++ c ∷ []) rest b.1 ∙ ap (λ x. value_on s means (Ok (at_run run.Decimal known x)) rest) (append_assoc text (c ∷ []) more))
-
-  hexadecimal_run : (more known text rest : Chars) → list_all is_hexadecimal_digit more ≡ true → value_on s means (Ok (at_run run.Hexadecimal known text)) (more ++ rest) ≡ value_on s means (Ok (at_run run.Hexadecimal known (text ++ more))) rest
-  hexadecimal_run [] known text rest h = rw (append-nil text) refl
-  hexadecimal_run (c ∷ more) known text rest h =
-      let b = both (is_hexadecimal_digit c) _ h in
-      run_moves run.Hexadecimal known text (more ++ rest) c (Goes run.Hexadecimal) refl (ap (λ x. cond x (Goes run.Hexadecimal) (cond (c == semicolon) Closes Stops)) b.0)
-      ∙ (hexadecimal_run more known (text ++ c ∷ []) rest b.1 ∙ ap (λ x. value_on s means (Ok (at_run run.Hexadecimal known x)) rest) (append_assoc text (c ∷ []) more))
+  same_run : (p : RunPhase) (test : ℕ → Bool) → ((c : ℕ) → test c ≡ true → run_move p c ≡ Goes p) → is_run p ≡ true → (more known text rest : Chars) → list_all test more ≡ true
+      → value_on s means (Ok (at_run p known text)) (more ++ rest) ≡ value_on s means (Ok (at_run p known (text ++ more))) rest
+  same_run p test moves r [] known text rest h = rw (append-nil text) refl
+  same_run p test moves r (c ∷ more) known text rest h =
+      let b = both (test c) _ h in
+      run_moves p known text (more ++ rest) c (Goes p) r (moves c b.0)
+      ∙ (same_run p test moves r more known (text ++ c ∷ []) rest b.1 ∙ ap (λ x. value_on s means (Ok (at_run p known x)) rest) (append_assoc text (c ∷ []) more))
 
   -- a run, from its `&` on
   pub record ReadsRun (known text rest : Chars) : Type 0 where
@@ -68,21 +55,15 @@ module _ (s : Syntax) (means : Chars → Option ℕ) where
     pub is : RunIs phase text
     pub reads : value_on s means (Ok (at_run run.Ampersand known [])) (text ++ rest) ≡ value_on s means (Ok (at_run phase known text)) rest
 
-  mark_move : (known rest : Chars) (c : ℕ) → is_x c ≡ true → run_move run.Hash c ≡ Goes run.Mark
-  mark_move known rest c h = rw (x_no_digit c h, h) refl
-
-  hexadecimal_move : (c : ℕ) → is_hexadecimal_digit c ≡ true → run_move run.Mark c ≡ Goes run.Hexadecimal
-  hexadecimal_move c h = ap (λ x. cond x (Goes run.Hexadecimal) Stops) h
-
   mark_run : (known : Chars) (x : ℕ) (text rest : Chars) → is_x x ≡ true → list_all is_hexadecimal_digit text ≡ true → ReadsRun known (number_sign ∷ x ∷ text) rest
-  mark_run known x [] rest h k = record { phase = run.Mark; is = at_mark x h; reads = run_moves run.Hash known (number_sign ∷ []) rest x (Goes run.Mark) refl (mark_move known rest x h) }
+  mark_run known x [] rest h k = record { phase = run.Mark; is = at_mark x h; reads = run_moves run.Hash known (number_sign ∷ []) rest x (Goes run.Mark) refl (rw (x_no_digit x h, h) refl) }
   mark_run known x (c ∷ text) rest h k =
       let b = both (is_hexadecimal_digit c) _ k in
       record {
         phase = run.Hexadecimal;
         is = in_hexadecimal x c text h b.0 b.1;
-        reads = run_moves run.Hash known (number_sign ∷ []) (c ∷ (text ++ rest)) x (Goes run.Mark) refl (mark_move known rest x h)
-            ∙ (run_moves run.Mark known (number_sign ∷ x ∷ []) (text ++ rest) c (Goes run.Hexadecimal) refl (hexadecimal_move c b.0) ∙ hexadecimal_run text known (number_sign ∷ x ∷ c ∷ []) rest b.1);
+        reads = run_moves run.Hash known (number_sign ∷ []) (c ∷ (text ++ rest)) x (Goes run.Mark) refl (rw (x_no_digit x h, h) refl)
+            ∙ (run_moves run.Mark known (number_sign ∷ x ∷ []) (text ++ rest) c (Goes run.Hexadecimal) refl (rw b.0 refl) ∙ same_run run.Hexadecimal is_hexadecimal_digit (λ d e. rw e refl) refl text known (number_sign ∷ x ∷ c ∷ []) rest b.1);
       }
 
   number_run : (known text rest : Chars) → begins_number text ≡ true → ReadsRun known (number_sign ∷ text) rest
@@ -92,7 +73,7 @@ module _ (s : Syntax) (means : Chars → Option ℕ) where
         | inl e ↦ let b = both (is_digit c) _ e in record {
           phase = run.Decimal;
           is = in_decimal c text b.0 b.1;
-          reads = run_moves run.Hash known (number_sign ∷ []) (text ++ rest) c (Goes run.Decimal) refl (rw b.0 refl) ∙ decimal_run text known (number_sign ∷ c ∷ []) rest b.1;
+          reads = run_moves run.Hash known (number_sign ∷ []) (text ++ rest) c (Goes run.Decimal) refl (rw b.0 refl) ∙ same_run run.Decimal is_digit (λ d e. rw e refl) refl text known (number_sign ∷ c ∷ []) rest b.1;
         }
         | inr e ↦ let b = both (is_x c) _ e in mark_run known c text rest b.0 b.1
       ]
@@ -108,27 +89,23 @@ module _ (s : Syntax) (means : Chars → Option ℕ) where
         | inl e ↦ let b = both (is_letter c) _ e in record {
           phase = run.Named;
           is = in_name c text b.0 b.1;
-          reads = run_moves run.Ampersand known [] (text ++ rest) c (Goes run.Named) refl (rw b.0 refl) ∙ named_run text known (c ∷ []) rest b.1;
+          reads = run_moves run.Ampersand known [] (text ++ rest) c (Goes run.Named) refl (rw b.0 refl) ∙ same_run run.Named is_letter_or_digit (λ d e. rw e refl) refl text known (c ∷ []) rest b.1;
         }
         | inr e ↦ let b = both (c == number_sign) _ e in signed known c text rest (eqb-true c number_sign b.0) b.1
       ]
-
-  one_two : (a : Bool) (b c : Bool) → b ≡ true → (a || b) ≡ true
-  one_two true b c h = refl
-  one_two false b c h = h
 
   number_begins : (text : Chars) → is_number text ≡ true → begins_number text ≡ true
   number_begins [] h = refl
   number_begins (c ∷ text) h = elim (either (is_digit c && list_all is_digit text) _ h) [
     | inl e ↦ rw e refl
-    | inr e ↦ let b = both (is_x c) _ e in one_two (is_digit c && list_all is_digit text) (is_x c && list_all is_hexadecimal_digit text) true (rw (b.0, some_all text b.1) refl)
+    | inr e ↦ let b = both (is_x c) _ e in or_right (is_digit c && list_all is_digit text) _ (rw (b.0, some_all text b.1) refl)
   ]
 
   pub body_begun : (text : Chars) → is_body text ≡ true → is_begun text ≡ true
   body_begun [] h = refl
   body_begun (c ∷ text) h = elim (either (is_letter c && list_all is_letter_or_digit text) _ h) [
     | inl e ↦ rw e refl
-    | inr e ↦ let b = both (c == number_sign) _ e in one_two (is_letter c && list_all is_letter_or_digit text) (c == number_sign && begins_number text) true (rw (b.0, number_begins text b.1) refl)
+    | inr e ↦ let b = both (c == number_sign) _ e in or_right (is_letter c && list_all is_letter_or_digit text) _ (rw (b.0, number_begins text b.1) refl)
   ]
 
   plain_char : (known rest : Chars) (c : ℕ) → is_plain s c ≡ true → value_on s means (Ok (known_as known)) (c ∷ rest) ≡ value_on s means (Ok (known_as (known ++ value_char s c ∷ []))) rest
