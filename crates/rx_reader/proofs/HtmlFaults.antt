@@ -23,32 +23,17 @@ all_inner : (test : ℕ → Bool) (text : Chars) → ((c : ℕ) → test c ≡ t
 all_inner test [] f h = refl
 all_inner test (c ∷ text) f h = let b = both (test c) _ h in rw (f c b.0, all_inner test text f b.1) refl
 
-letter_inner : (c : ℕ) → is_letter c ≡ true → is_inner c ≡ true
-letter_inner c h = inner_by is_letter c h refl refl refl refl refl refl refl refl
-
-word_inner : (c : ℕ) → is_letter_or_digit c ≡ true → is_inner c ≡ true
-word_inner c h = inner_by is_letter_or_digit c h refl refl refl refl refl refl refl refl
-
-digit_inner : (c : ℕ) → is_digit c ≡ true → is_inner c ≡ true
-digit_inner c h = inner_by is_digit c h refl refl refl refl refl refl refl refl
-
-hexadecimal_inner : (c : ℕ) → is_hexadecimal_digit c ≡ true → is_inner c ≡ true
-hexadecimal_inner c h = inner_by is_hexadecimal_digit c h refl refl refl refl refl refl refl refl
-
-mark_inner : (c : ℕ) → is_x c ≡ true → is_inner c ≡ true
-mark_inner c h = inner_by is_x c h refl refl refl refl refl refl refl refl
-
 number_inner : (text : Chars) → begins_number text ≡ true → list_all is_inner text ≡ true
 number_inner [] h = refl
 number_inner (c ∷ text) h = elim (either (is_digit c && list_all is_digit text) _ h) [
-  | inl e ↦ let b = both (is_digit c) _ e in rw (digit_inner c b.0, all_inner is_digit text digit_inner b.1) refl
-  | inr e ↦ let b = both (is_x c) _ e in rw (mark_inner c b.0, all_inner is_hexadecimal_digit text hexadecimal_inner b.1) refl
+  | inl e ↦ let b = both (is_digit c) _ e in rw (inner_by is_digit c b.0 refl refl refl refl refl refl refl refl, all_inner is_digit text (λ d k. inner_by is_digit d k refl refl refl refl refl refl refl refl) b.1) refl
+  | inr e ↦ let b = both (is_x c) _ e in rw (inner_by is_x c b.0 refl refl refl refl refl refl refl refl, all_inner is_hexadecimal_digit text (λ d k. inner_by is_hexadecimal_digit d k refl refl refl refl refl refl refl refl) b.1) refl
 ]
 
 begun_inner : (text : Chars) → is_begun text ≡ true → list_all is_inner text ≡ true
 begun_inner [] h = refl
 begun_inner (c ∷ text) h = elim (either (is_letter c && list_all is_letter_or_digit text) _ h) [
-  | inl e ↦ let b = both (is_letter c) _ e in rw (letter_inner c b.0, all_inner is_letter_or_digit text word_inner b.1) refl
+  | inl e ↦ let b = both (is_letter c) _ e in rw (inner_by is_letter c b.0 refl refl refl refl refl refl refl refl, all_inner is_letter_or_digit text (λ d k. inner_by is_letter_or_digit d k refl refl refl refl refl refl refl refl) b.1) refl
   | inr e ↦ let b = both (c == number_sign) _ e in of_one (λ x. list_all is_inner (x ∷ text) ≡ true) c number_sign b.0 (number_inner text b.1)
 ]
 

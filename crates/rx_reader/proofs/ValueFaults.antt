@@ -11,22 +11,16 @@ use Rattle.rx_reader.specs.Values.{Value, no_meaning, plain_step, meant, stopped
 use Rattle.rx_reader.proofs.Classes.{of_one}
 use Rattle.rx_reader.proofs.Runs.{RunIs, at_ampersand, in_name, at_hash, in_decimal, at_mark, in_hexadecimal, run_begun, goes_on, closes, stops}
 use Rattle.rx_reader.proofs.TextComplete.{at_run}
-
-no_snoc : (ys : Chars) (y : ℕ) → [] ≡ ys ++ y ∷ [] → ⊥
-no_snoc [] y e = cc
-no_snoc (x ∷ ys) y e = cc
+use Rattle.rx_reader.proofs.InTables.{no_end, last_same}
 
 pub snoc_front : (xs ys : Chars) (x y : ℕ) → xs ++ x ∷ [] ≡ ys ++ y ∷ [] → xs ≡ ys
 snoc_front [] [] x y e = refl
-snoc_front [] (z ∷ ys) x y e = absurd (no_snoc ys y (cc))
-snoc_front (z ∷ xs) [] x y e = absurd (no_snoc xs x (let h : xs ++ x ∷ [] ≡ [] = cc in sym h))
+snoc_front [] (z ∷ ys) x y e = absurd (no_end ys y (cc))
+snoc_front (z ∷ xs) [] x y e = absurd (no_end xs x (let h : xs ++ x ∷ [] ≡ [] = cc in sym h))
 snoc_front (z ∷ xs) (w ∷ ys) x y e = let h : z ≡ w = cc in let k = snoc_front xs ys x y (cc) in ap (λ a. a ∷ xs) h ∙ ap (λ t. w ∷ t) k
 
 pub snoc_last : (xs ys : Chars) (x y : ℕ) → xs ++ x ∷ [] ≡ ys ++ y ∷ [] → x ≡ y
-snoc_last [] [] x y e = cc
-snoc_last [] (z ∷ ys) x y e = absurd (no_snoc ys y (cc))
-snoc_last (z ∷ xs) [] x y e = absurd (no_snoc xs x (let h : xs ++ x ∷ [] ≡ [] = cc in sym h))
-snoc_last (z ∷ xs) (w ∷ ys) x y e = snoc_last xs ys x y (cc)
+snoc_last xs ys x y e = last_same xs ys x y e
 
 pub of_quote : (P : ℕ → Type 0) (c : ℕ) → is_quote c ≡ true → P 34 → P 39 → P c
 of_quote P c h p q = elim (either (c == 34) (c == 39) h) [ inl e ↦ of_one P c 34 e p | inr e ↦ of_one P c 39 e q ]
