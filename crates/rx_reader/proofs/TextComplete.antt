@@ -1,5 +1,5 @@
 -- Text with references is read as the grammar says.
-use Rattle.rx_grammar.proofs.Common.{◌≡◌, ℕ, Bool, true, false, cond, eqb-true, [], ◌∷◌, ◌++◌, Option, Some, Ok, refl, ap, sym, ◌∙◌, append_assoc, append-nil, inl, inr, subst, ◌||◌, ◌&&◌, ◌==◌, list_all, ampersand, semicolon, less_than_sign, number_sign, is_letter, is_digit, is_letter_or_digit, Chars, both, either, untrue, or_parts, or_right, Syntax, Html, Xhtml}
+use Rattle.rx_grammar.proofs.Common.{◌≡◌, ℕ, Bool, true, false, cond, eqb-true, [], ◌∷◌, ◌++◌, Option, Some, Ok, refl, ap, sym, ◌∙◌, append_assoc, append-nil, inl, inr, subst, ◌&&◌, ◌==◌, list_all, ampersand, semicolon, less_than_sign, number_sign, is_letter, is_digit, is_letter_or_digit, Chars, both, either, untrue, or_parts, or_right, Syntax, Html, Xhtml}
 use Rattle.rx_grammar.specs.References.{is_hexadecimal_digit, is_x, one_or_more, is_body, is_begun, begins_number, stops_at, is_plain, Denotes, is_number, value_char, IsKept, nothing, character, reference, kept}
 use Rattle.rx_reader.specs.declared.phases.RunPhase.{RunPhase}
 use Rattle.rx_reader.specs.declared.phases.RunPhase.TheVariants as run
