@@ -1,21 +1,16 @@
 -- A token that something follows stands before a `<` too; outside the root, and where it is a tag, also before nothing.
-use Rattle.rx_reader.proofs.Common.{◌≡◌, ◌∙◌, ◌⊎◌, inl, inr, ℕ, Bool, true, false, List, [], ◌∷◌, ◌++◌, Option, Some, None, refl, ap, sym, eqb-true, ◌||◌, ◌&&◌, ◌==◌, not, list_all, ampersand, solidus, semicolon, number_sign, lowered_char, is_letter, is_digit, is_letter_or_digit, Chars, lowered, begins_with, both, not_both_ways, and-false, Entry, Syntax, same, is_hexadecimal_digit, is_x, is_body, begins_number, is_begun, stops_at, Token, tag, kept, ends_name, Spells, has_less_than, keeps_runs, raw_name, begins_end, stops_end, Item, last_from, Spelled, no_more, one, values, next_of, Content, unless}
+use Rattle.rx_reader.proofs.Common.{◌≡◌, ◌≢◌, ◌∙◌, ◌⊎◌, inl, inr, ℕ, Bool, true, false, List, [], ◌∷◌, ◌++◌, Option, Some, None, refl, ap, sym, eqb-true, ◌||◌, ◌&&◌, ◌==◌, not, list_all, ampersand, solidus, semicolon, number_sign, less_than_sign, lowered_char, is_letter, is_digit, is_letter_or_digit, Chars, lowered, begins_with, both, and-false, Entry, Syntax, same, is_hexadecimal_digit, is_x, is_body, begins_number, is_begun, stops_at, Token, tag, ends_name, Spells, has_less_than, keeps_runs, raw_name, begins_end, Item, last_from, Spelled, no_more, one, values, next_of, Content, unless}
 use Rattle.rx_grammar.specs.declared.contents.Content.TheVariants as content
 use Rattle.rx_pages.proofs.Prefix.{Minds, a_mark, an_end, a_run, other_next, spelled_before}
-use Rattle.rx_pages.proofs.RawEnds.{IsRawName, is_raw_name}
+use Rattle.rx_pages.proofs.TokenWalk.{IsKept, is_kept}
+use Rattle.rx_pages.proofs.RawEnds.{is_raw_name}
 
 none_less : (test : ℕ → Bool) → test 60 ≡ false → (text : Chars) → list_all test (text ++ 60 ∷ []) ≡ false
 none_less test h [] = ap (λ b. b && true) h
 none_less test h (c ∷ text) = ap (λ b. test c && b) (none_less test h text) ∙ and-false (test c)
 
 neither_way : (a x b y : Bool) → x ≡ false → y ≡ false → (a && x || b && y) ≡ false
-neither_way a x b y h k = ap (λ z. a && z || b && y) h ∙ (ap (λ z. a && false || b && z) k ∙ by a b)
-  where
-    by : (a b : Bool) → (a && false || b && false) ≡ false
-    by true true = refl
-    by true false = refl
-    by false true = refl
-    by false false = refl
+neither_way a x b y h k = rw (h, k, and-false a, and-false b) refl
 
 -- no reference goes on with it
 number_stops : (text : Chars) → begins_number (text ++ 60 ∷ []) ≡ false
@@ -40,15 +35,12 @@ no_end : (name text : Chars) → list_all is_letter name ≡ true → begins_end
 no_end name [] h = refl
 no_end name (c ∷ text) h = ap (λ b. lowered_char c == solidus && b) (no_front text name h) ∙ and-false (lowered_char c == solidus)
 
-stops_raw : (name text : Chars) → IsRawName name → stops_end name text 60 ≡ true
-stops_raw name text raw = ap (λ b. not b && not (same (lowered text) (solidus ∷ name) && ends_name 60)) (no_end name text raw.letters) ∙ ap not (and-false (same (lowered text) (solidus ∷ name)))
-
 before_less : (s : Syntax) (i : Content) (text : Chars) (next : Option ℕ) (token : Token) → Spells s i text next token → Spells s i text (Some 60) token
 before_less s i text next token sp = other_next s i text (Some 60) token (λ test m b. by test m) sp
   where
     by : {token : Token} (test : ℕ → Bool) → Minds i token test → test 60 ≡ true
     by _ (a_mark h) = refl
-    by _ (an_end text name r) = stops_raw name text (is_raw_name i name r)
+    by _ (an_end text name r) = ap (λ b. not b && not (same (lowered text) (solidus ∷ name) && ends_name 60)) (no_end name text (is_raw_name i name r).letters) ∙ ap not (and-false (same (lowered text) (solidus ∷ name)))
     by _ (a_run run h) = stops run
 
 abbrev pub is_tag : Token → Bool
@@ -59,21 +51,18 @@ is_tag _ = false
 abbrev pub IsLast : Content → Token → Type 0
 IsLast i token = (is_tag token ≡ true) ⊎ (i ≡ content.Outside)
 
-none_outside : (i : Content) (text : Chars) (test : Content → Bool) → test content.Outside ≡ false → test i ≡ true → IsLast i (kept text) → ⊥
-none_outside i text test o h (inl t) = cc
-none_outside i text test o h (inr e) = not_both_ways (test i) h (ap test e ∙ o)
-
-no_raw : (i : Content) (text name : Chars) → raw_name i ≡ Some name → IsLast i (kept text) → ⊥
-no_raw i text name r (inl t) = cc
-no_raw i text name r (inr e) = let k = sym (ap raw_name e) ∙ r in cc
+-- What minds the next character is a run that is kept, and none is outside the root.
+pub kept_inside : {i : Content} {token : Token} {test : ℕ → Bool} → Minds i token test → IsKept token × (i ≢ content.Outside)
+kept_inside (a_mark h) = (is_kept (less_than_sign ∷ []) refl, λ o. (let w = sym (ap has_less_than o) ∙ h in cc))
+kept_inside (an_end text name r) = (is_kept (less_than_sign ∷ text) refl, λ o. (let w = sym (ap raw_name o) ∙ r in cc))
+kept_inside (a_run run k) = (is_kept (ampersand ∷ run) refl, λ o. (let w = sym (ap keeps_runs o) ∙ k in cc))
 
 pub before_nothing : (s : Syntax) (i : Content) (text : Chars) (next : Option ℕ) (token : Token) → IsLast i token → Spells s i text next token → Spells s i text None token
-before_nothing s i text next token l sp = other_next s i text None token (λ test m b. by test m l) sp
+before_nothing s i text next token l sp = other_next s i text None token (λ test m b. by (kept_inside m) l) sp
   where
-    by : {token : Token} (test : ℕ → Bool) → Minds i token test → IsLast i token → ⊥
-    by _ (a_mark h) l = none_outside i (60 ∷ []) has_less_than refl h l
-    by _ (an_end text name r) l = no_raw i (60 ∷ text) name r l
-    by _ (a_run run h) l = none_outside i (ampersand ∷ run) keeps_runs refl h l
+    by : IsKept token × (i ≢ content.Outside) → IsLast i token → ⊥
+    by (is_kept x k, n) (inl t) = absurd (let w = sym (ap is_tag k) ∙ t in cc)
+    by (k, n) (inr e) = n e
 
 module _ (syntax : Syntax) where
   pub spelled_less : {entries : List Entry} {next : Option ℕ} {items : List Item} → Spelled syntax entries next items → Spelled syntax entries (Some 60) items

@@ -1,7 +1,5 @@
 -- Reading a page byte by byte: what the bytes of one character do.
-use Rattle.rx_reader.proofs.Common.{snoc_front, snoc_last, ◌≡◌, ◌≢◌, ◌∙◌, ℕ, suc, ◌+◌, ◌-◌, ◌<◌, ◌≤◌, Bool, true, false, List, [], ◌∷◌, ◌++◌, refl, sym, ap, subst, length, append_assoc, append-nil, Result, Ok, Err, arith, nat_le, nat_tests, ◌&&◌, ◌==◌, if◌then◌else◌, IsScalar, encode, length-append, Syntax, More, Char, answer_of, IsCharacter, values, is_known_tag, character_of_form, answer_is, Fault, Kind, PageTooLong, TagTooLong, Nul, Limits}
-use Rattle.rx_pages.specs.Nesting.{Step, content_at}
-use Rattle.rx_pages.specs.PageReader.{Spot, Scanning, Scanned, first_of, token_at, is_too_long, holding, read_char, read_answer, spot_of, steps_on, no_step, Reading, Progress, progress_of, nested_items, page_byte_on, page_on, telling}
+use Rattle.rx_pages.proofs.Words.{◌≡◌, ◌≢◌, ◌∙◌, ℕ, ◌+◌, ◌-◌, ◌<◌, ◌≤◌, Bool, true, false, List, [], ◌∷◌, ◌++◌, refl, sym, ap, subst, length, append_assoc, append-nil, Result, Ok, Err, arith, nat_le, nat_tests, ◌&&◌, ◌==◌, IsScalar, encode, length-append, Syntax, More, Char, answer_of, IsCharacter, BeginsCharacter, values, is_known_tag, character_of_form, answer_is, Fault, Kind, Limits, Step, content_at, Spot, Scanning, Scanned, first_of, token_at, read_char, spot_of, steps_on, no_step, Reading, Progress, progress_of, nested_items, page_byte_on, page_on, telling}
 use Rattle.rx_pages.proofs.EntrySteps.{Stood, placed_at, map_scanned, stood_by, nested_by}
 
 pub not_le : (a b : ℕ) → b < a → nat_le a b ≡ false
@@ -35,20 +33,34 @@ module _ (syntax : Syntax) (limits : Limits) (st : Stood) (started after_return 
   -- a byte of a character that isn't whole
   pub held_on : (at : ℕ) (held : List ℕ) (byte : ℕ) → answer_of (held ++ byte ∷ []) ≡ More → at < limits.page → (known ≡ true → at < first_of st.run (at - length held) + limits.tag)
       → page_byte_on syntax limits (Ok (progress_at at held started after_return st)) byte ≡ Ok (progress_at (at + 1) (held ++ byte ∷ []) started after_return st)
-  held_on at held byte a p k =
-      ap (λ b. telling st.told (nested_items syntax limits.depth (reading_at at held started after_return st) (if b then Err PageTooLong else read_answer syntax limits spot (held ++ byte ∷ []) (scan_at at held started after_return st) (answer_of (held ++ byte ∷ []))))) (not_le limits.page at p)
-      ∙ (ap (λ x. telling st.told (nested_items syntax limits.depth (reading_at at held started after_return st) (read_answer syntax limits spot (held ++ byte ∷ []) (scan_at at held started after_return st) x))) a
-      ∙ (ap (λ b. telling st.told (nested_items syntax limits.depth (reading_at at held started after_return st) (if b then Err TagTooLong else Ok (record { next = holding (held ++ byte ∷ []) (scan_at at held started after_return st); items = [] })))) (not_long known _ at k)
-      ∙ ap (λ x. Ok (record { now = reading_at (at + 1) (held ++ byte ∷ []) started after_return st; told = x })) (append-nil st.told)))
+  held_on at held byte a p k = rw (not_le limits.page at p, a, not_long known (first_of st.run (at - length held) + limits.tag) at k, append-nil st.told) refl
+
+  begun_part : (held more : List ℕ) (b : ℕ) (part : List ℕ) → held ++ b ∷ more ≡ part → BeginsCharacter part → answer_of (held ++ b ∷ []) ≡ More
+  begun_part held more b part e w =
+      sym (answer_is (held ++ b ∷ []) More (record { more = more ++ w.more; value = w.value; longer = longer more w.more w.longer; character = subst (λ x. IsCharacter x w.value) (ap (λ x. x ++ w.more) (sym e) ∙ (append_assoc held (b ∷ more) w.more ∙ sym (append_assoc held (b ∷ []) (more ++ w.more)))) w.character }))
+    where
+      longer : (more rest : List ℕ) → rest ≢ [] → more ++ rest ≢ []
+      longer [] rest n h = n h
+      longer (x ∷ more) rest n h = absurd (cc)
+
+  -- all bytes of one that isn't
+  pub part_on : (start : ℕ) (held bytes rest part : List ℕ) → held ++ bytes ≡ part → BeginsCharacter part → start + length part ≤ limits.page → (known ≡ true → start + length part ≤ first_of st.run start + limits.tag)
+      → page_on syntax limits (Ok (progress_at (start + length held) held started after_return st)) (bytes ++ rest) ≡ page_on syntax limits (Ok (progress_at (start + length part) part started after_return st)) rest
+  part_on start held [] rest part e w p k = ap (λ h. page_on syntax limits (Ok (progress_at (start + length h) h started after_return st)) rest) (sym (append-nil held) ∙ e)
+  part_on start held (b ∷ bytes) rest part e w p k =
+      let sizes = sym (length-append held (b ∷ bytes)) ∙ ap length e in
+      let grown = length-append held (b ∷ []) in
+      let at : start + length held + 1 ≡ start + length (held ++ b ∷ []) = omega arith in
+      ap (λ x. page_on syntax limits x (bytes ++ rest)) (
+      held_on (start + length held) held b (begun_part held bytes b part e w) (omega arith)
+      (λ v. (let m = k v in let same : start + length held - length held ≡ start = omega arith in subst (λ x. start + length held < first_of st.run x + limits.tag) (sym same) (omega arith))))
+      ∙ (ap (λ x. page_on syntax limits (Ok (progress_at x (held ++ b ∷ []) started after_return st)) (bytes ++ rest)) at
+      ∙ part_on start (held ++ b ∷ []) bytes rest part (append_assoc held (b ∷ []) bytes ∙ e) w p k)
 
   -- the last byte of a character
   pub char_on : (at : ℕ) (held : List ℕ) (byte c : ℕ) → answer_of (held ++ byte ∷ []) ≡ Char c → (c == 0) ≡ false → at < limits.page → (known ≡ true → at < first_of st.run (at - length held) + limits.tag)
       → page_byte_on syntax limits (Ok (progress_at at held started after_return st)) byte ≡ telling st.told (nested_items syntax limits.depth (reading_at at held started after_return st) (read_char syntax limits spot c (scan_at at held started after_return st)))
-  char_on at held byte c a z p k =
-      ap (λ b. telling st.told (nested_items syntax limits.depth (reading_at at held started after_return st) (if b then Err PageTooLong else read_answer syntax limits spot (held ++ byte ∷ []) (scan_at at held started after_return st) (answer_of (held ++ byte ∷ []))))) (not_le limits.page at p)
-      ∙ (ap (λ x. telling st.told (nested_items syntax limits.depth (reading_at at held started after_return st) (read_answer syntax limits spot (held ++ byte ∷ []) (scan_at at held started after_return st) x))) a
-      ∙ (ap (λ b. telling st.told (nested_items syntax limits.depth (reading_at at held started after_return st) (if b then Err Nul else if is_too_long syntax limits spot st.run (token_at (scan_at at held started after_return st)) at then Err TagTooLong else read_char syntax limits spot c (scan_at at held started after_return st)))) z
-      ∙ ap (λ b. telling st.told (nested_items syntax limits.depth (reading_at at held started after_return st) (if b then Err TagTooLong else read_char syntax limits spot c (scan_at at held started after_return st)))) (not_long known _ at k)))
+  char_on at held byte c a z p k = rw (not_le limits.page at p, a, z, not_long known (first_of st.run (at - length held) + limits.tag) at k) refl
 
 -- what a character leads to, by what its entry leads to
 abbrev pub settle : ℕ → Bool → ℕ → ℕ → Result Stood Kind → Result Progress Fault
@@ -64,47 +76,22 @@ module _ (syntax : Syntax) (limits : Limits) (st : Stood) (s : Scanning) where
   settled after_return (Ok r) = stepped after_return r (steps_on syntax limits.depth (Ok (no_step st.nest)) r.items)
   settled after_return (Err kind) = refl
 
-length_more : (a : List ℕ) (x : ℕ) → length (a ++ x ∷ []) ≡ length a + 1
-length_more [] x = refl
-length_more (y ∷ a) x = ap suc (length_more a x) ∙ (omega arith)
-
 -- what the bytes of a character do, which its last byte stands behind
 module _ (syntax : Syntax) (limits : Limits) (st : Stood) (started after_return : Bool) (c start : ℕ) (front : List ℕ) (byte : ℕ) (scalar : IsScalar c) (form : encode c ≡ front ++ byte ∷ []) where
   abbrev pub is_short : Type 0
   is_short = known syntax limits st started after_return ≡ true → start + length front < first_of st.run start + limits.tag
-
-  begins_it : (held more : List ℕ) (b : ℕ) → held ++ b ∷ more ≡ front ++ byte ∷ [] → more ≢ [] → answer_of (held ++ b ∷ []) ≡ More
-  begins_it held more b e n =
-      sym (answer_is (held ++ b ∷ []) More (record { more = more; value = c; longer = n; character = subst (λ x. IsCharacter x c) (form ∙ (sym e ∙ sym (append_assoc held (b ∷ []) more))) (character_of_form c scalar) }))
-
-  is_it : answer_of (front ++ byte ∷ []) ≡ Char c
-  is_it = sym (answer_is (front ++ byte ∷ []) (Char c) (subst (λ x. IsCharacter x c) form (character_of_form c scalar)))
 
   abbrev pub last_read : Result Progress Fault
   last_read =
       telling st.told (nested_items syntax limits.depth (reading_at (start + length front) front started after_return st)
       (read_char syntax limits (spot syntax limits st started after_return) c (scan_at (start + length front) front started after_return st)))
 
-  rest_longer : (held bytes : List ℕ) (b : ℕ) → held ++ b ∷ bytes ≡ front ++ byte ∷ [] → bytes ≢ [] → length held < length front
-  rest_longer held bytes b e n = let q = sym (length-append held (b ∷ bytes)) ∙ (ap length e ∙ length_more front byte) in by bytes refl n q
-    where
-      by : (x : List ℕ) → x ≡ bytes → x ≢ [] → length held + length (b ∷ bytes) ≡ length front + 1 → length held < length front
-      by [] k n q = absurd (n refl)
-      by (y ∷ x) k n q = let z : length (b ∷ bytes) ≡ suc (suc (length x)) = ap (λ l. suc (length l)) (sym k) in omega arith
-
-  pub bytes_on : (held bytes rest : List ℕ) → held ++ bytes ≡ front ++ byte ∷ [] → bytes ≢ [] → (c == 0) ≡ false → start + length front < limits.page → is_short
-      → page_on syntax limits (Ok (progress_at (start + length held) held started after_return st)) (bytes ++ rest) ≡ page_on syntax limits last_read rest
-  bytes_on held [] rest e n z p k = absurd (n refl)
-  bytes_on held (b ∷ []) rest e n z p k =
-      let q : (held ≡ front) × (b ≡ byte) = (snoc_front held front b byte e, snoc_last held front b byte e) in
-      ap (λ x. page_on syntax limits x rest) (
-      ap (λ h. page_byte_on syntax limits (Ok (progress_at (start + length h) h started after_return st)) b) q.0
-      ∙ (ap (λ x. page_byte_on syntax limits (Ok (progress_at (start + length front) front started after_return st)) x) q.1
-      ∙ char_on syntax limits st started after_return (start + length front) front byte c is_it z p (λ w. let same : start + length front - length front ≡ start = omega arith in let m = k w in subst (λ x. start + length front < first_of st.run x + limits.tag) (sym same) m)))
-  bytes_on held (b ∷ d ∷ bytes) rest e n z p k =
-      let shorter = rest_longer held (d ∷ bytes) b e (λ h. cc) in
-      ap (λ x. page_on syntax limits x (d ∷ (bytes ++ rest))) (
-      held_on syntax limits st started after_return (start + length held) held b (begins_it held (d ∷ bytes) b e (λ h. cc)) (omega arith)
-      (λ w. let same : start + length held - length held ≡ start = omega arith in let m = k w in subst (λ x. start + length held < first_of st.run x + limits.tag) (sym same) (omega arith)))
-      ∙ (ap (λ x. page_on syntax limits (Ok (progress_at x (held ++ b ∷ []) started after_return st)) (d ∷ (bytes ++ rest))) (let l = length_more held b in let w : start + length held + 1 ≡ start + length (held ++ b ∷ []) = omega arith in w)
-      ∙ bytes_on (held ++ b ∷ []) (d ∷ bytes) rest (append_assoc held (b ∷ []) (d ∷ bytes) ∙ e) (λ h. cc) z p k)
+  pub bytes_on : (rest : List ℕ) → (c == 0) ≡ false → start + length front < limits.page → is_short → page_on syntax limits (Ok (progress_at start [] started after_return st)) (encode c ++ rest) ≡ page_on syntax limits last_read rest
+  bytes_on rest z p k =
+      let e : start ≡ start + 0 = omega arith in
+      let begins : BeginsCharacter front = record { more = byte ∷ []; value = c; longer = λ h. cc; character = subst (λ x. IsCharacter x c) form (character_of_form c scalar) } in
+      ap (λ b. page_on syntax limits (Ok (progress_at start [] started after_return st)) b) (ap (λ b. b ++ rest) form ∙ append_assoc front (byte ∷ []) rest)
+      ∙ (ap (λ x. page_on syntax limits (Ok (progress_at x [] started after_return st)) (front ++ byte ∷ rest)) e
+      ∙ (part_on syntax limits st started after_return start [] front (byte ∷ rest) front refl begins (omega arith) (λ w. (let m = k w in omega arith))
+      ∙ ap (λ x. page_on syntax limits x rest) (char_on syntax limits st started after_return (start + length front) front byte c (sym (answer_is (front ++ byte ∷ []) (Char c) (subst (λ x. IsCharacter x c) form (character_of_form c scalar)))) z p
+      (λ w. let same : start + length front - length front ≡ start = omega arith in let m = k w in subst (λ x. start + length front < first_of st.run x + limits.tag) (sym same) m))))

@@ -1,17 +1,15 @@
 -- One more byte: the page goes on with it, or it decides a fault. So bytes that are no page have a fault.
-use Rattle.rx_reader.proofs.Common.{◌≡◌, ◌≢◌, ◌∙◌, ◌⊎◌, ⊎_elim, inl, inr, ℕ, ◌+◌, ◌-◌, ◌<◌, ◌≤◌, Bool, true, false, List, [], ◌∷◌, ◌++◌, refl, sym, ap, subst, length, append_assoc, append-nil, eqb-true, Some, None, arith, nat_le, ◌&&◌, ◌==◌, not, IsScalar, len_utf8, all_scalars, length-encode, and_parts, and_from, cond-true, cond-false, nat_tests, by_test, not_both_ways, length-append, Syntax, More, Char, Bad, answer_of, BeginsCharacter, Answers, Entry, entered, placed, without_mark, as_line_end, Tree, values, next_of, Item, Spelled, no_more, has_no_nul, Page, Document, Line, inside_of, Phase, before, after, Stands, not_begun, ended, is_known_tag, token_of, IsShort, Before, Reached, FaultAt, IsPart, GoesOn, begins_one, is_one, Utf8Step, answers_from, form_of, Fault, Limits, PageOrFault}
+use Rattle.rx_reader.proofs.Common.{◌≡◌, ◌≢◌, ◌∙◌, ◌⊎◌, ⊎_elim, inl, inr, ℕ, ◌+◌, ◌-◌, ◌<◌, ◌≤◌, Bool, true, false, List, [], ◌∷◌, ◌++◌, refl, sym, ap, subst, length, append_assoc, append-nil, eqb-true, Some, None, arith, nat_le, ◌&&◌, ◌==◌, not, IsScalar, len_utf8, all_scalars, length-encode, and_parts, and_from, cond-true, cond-false, nat_tests, by_test, not_both_ways, length-append, Syntax, More, Char, Bad, answer_of, BeginsCharacter, Answers, Entry, entered, placed, without_mark, as_line_end, Tree, values, next_of, Item, Spelled, no_more, has_no_nul, Page, Document, Line, inside_of, Phase, before, after, Stands, not_begun, ended, is_known_tag, token_of, IsShort, Before, Reached, FaultAt, IsPart, GoesOn, begins_one, is_one, Utf8Step, answers_from, form_of, Fault, Limits, PageOrFault, repeats_once}
 use lib.Utf8.{encodes, scalar, encode}
 use Rattle.rx_grammar.specs.declared.faults.Kind.TheVariants as kind
 use Rattle.rx_grammar.specs.Pages as pages
 use Rattle.rx_grammar.specs.PageFaults as faults
-use Rattle.rx_pages.proofs.CharSteps.{passes, entry_at}
-use Rattle.rx_pages.proofs.CharWalk.{is_started, ends_return}
 use Rattle.rx_pages.proofs.Snocs.{entered_one, page_snoc}
 use Rattle.rx_pages.proofs.FrontOn.{Here, Next, Decided, pending, before_next, reached, on_entry}
 use Rattle.rx_pages.proofs.Judged.{unfinished_goes_on}
 use Rattle.rx_pages.specs.Scanner as scanner
-use Rattle.rx_pages.proofs.KnownTags.{one_unknown}
 use Rattle.rx_pages.proofs.Standing.{below}
+use Rattle.rx_pages.proofs.Below.{passes, entry_at, is_started, ends_return, one_unknown}
 
 pub encodes_more : (cs : List ℕ) (c : ℕ) → encodes (cs ++ c ∷ []) ≡ encodes cs ++ encode c
 encodes_more [] c = append-nil (encode c)
@@ -119,11 +117,7 @@ module _ (syntax : Syntax) (limits : Limits) where
     Room = known ≡ true → at < token + limits.tag
 
     room : (known && nat_le (token + limits.tag) at) ≡ false → Room
-    room h k = below (token + limits.tag) at (by known k h)
-      where
-        by : (x : Bool) → x ≡ true → (x && nat_le (token + limits.tag) at) ≡ false → nat_le (token + limits.tag) at ≡ false
-        by true e g = g
-        by false e g = absurd (cc)
+    room h k = below (token + limits.tag) at (repeats_once known (nat_le (token + limits.tag) at) k h)
 
     -- a byte of a character that isn't whole
     held : at < limits.page → BeginsCharacter (b.part ++ byte ∷ []) → Room → Begun more
@@ -156,14 +150,11 @@ module _ (syntax : Syntax) (limits : Limits) where
       are_whole : more ≡ encodes chars ++ []
       are_whole = are ∙ sym (append-nil (encodes chars))
 
-      size_one : len_utf8 c ≡ length b.part + 1
-      size_one = sym (length-encode c) ∙ (ap length form ∙ length-append b.part (byte ∷ []))
-
       abbrev entry : Entry
       entry = entry_at c (length (encodes b.chars)) (length (encodes b.chars) + len_utf8 c - 1)
 
       last_is : entry.last ≡ at
-      last_is = (let a = ap length b.are ∙ length-append (encodes b.chars) b.part in let s = size_one in omega arith)
+      last_is = (let a = ap length b.are ∙ length-append (encodes b.chars) b.part in let s = sym (length-encode c) ∙ (ap length form ∙ length-append b.part (byte ∷ [])) in omega arith)
 
       abbrev does_pass : Bool
       does_pass = passes (is_started b.chars) (ends_return false b.chars) c
@@ -248,11 +239,7 @@ module _ (syntax : Syntax) (limits : Limits) where
             (λ t. let p = and_parts known_now (nat_le (first + limits.tag) entry.last) t in inr (known_over p.0 (over (first + limits.tag) entry.last p.1)))
             (λ t.
             ⊎_elim (λ n. inl (next n)) (λ d. inr (decided d))
-            (on_entry syntax limits b.chars chars entry scalars grown (some_entered c nonzero) b.items b.line b.phase b.run lifted (λ k. by known_now k t)))
-          where
-            by : (x : Bool) → x ≡ true → (x && nat_le (first + limits.tag) entry.last) ≡ false → entry.last + 1 ≤ first + limits.tag
-            by true e g = (let w = below (first + limits.tag) entry.last g in omega arith)
-            by false e g = absurd (cc)
+            (on_entry syntax limits b.chars chars entry scalars grown (some_entered c nonzero) b.items b.line b.phase b.run lifted (λ k. (let w = below (first + limits.tag) entry.last (repeats_once known_now (nat_le (first + limits.tag) entry.last) k t) in omega arith))))
 
       read_char : Answer more
       read_char = by_test {G = Answer more} does_pass (λ t. inl (passed t)) enter

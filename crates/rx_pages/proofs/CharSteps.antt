@@ -1,8 +1,6 @@
 -- Reading a page character by character: what its entries lead to.
-use Rattle.rx_reader.proofs.Common.{◌≡◌, ◌∙◌, ℕ, ◌+◌, ◌-◌, Bool, true, false, List, [], ◌∷◌, ◌++◌, ap, length, append-nil, Result, Ok, Err, arith, ◌&&◌, ◌||◌, ◌==◌, not, if◌then◌else◌, IsScalar, encode, Syntax, Entry, byte_order_mark, line_feed, carriage_return, as_line_end, values, Fault, Kind, TagTooLong, Limits}
-use Rattle.rx_pages.specs.Nesting.{content_at}
-use Rattle.rx_pages.specs.Scanner.{verdict}
-use Rattle.rx_pages.specs.PageReader.{Scanning, Scanned, first_of, is_too_long, passed, told, read_entry, spot_of, Progress, nested_items, telling}
+use Rattle.rx_pages.proofs.Words.{◌≡◌, ◌∙◌, ℕ, ◌+◌, ◌-◌, Bool, true, false, List, [], ◌∷◌, ◌++◌, ap, length, append-nil, Result, Ok, Err, arith, ◌&&◌, ◌||◌, ◌==◌, not, if◌then◌else◌, IsScalar, encode, Syntax, Entry, byte_order_mark, line_feed, carriage_return, as_line_end, values, Fault, Kind, TagTooLong, Limits, refl, content_at, verdict, Scanning, Scanned, first_of, is_too_long, told, read_entry, spot_of, Progress, nested_items, telling}
+use Rattle.rx_pages.specs.PageReader.{passed}
 use Rattle.rx_pages.proofs.EntrySteps.{Stood, told_bare, scanning_of, entry_step}
 use Rattle.rx_pages.proofs.ByteSteps.{scan_at, reading_at, progress_at, settle, settled, last_read}
 
@@ -28,7 +26,7 @@ module _ (syntax : Syntax) (limits : Limits) (st : Stood) (started after_return 
   same_start = omega arith
 
   pub passes_on : passes started after_return c ≡ true → last_read syntax limits st started after_return c start front byte scalar form ≡ Ok (progress_at (start + length front + 1) [] true false st)
-  passes_on h = ap (λ b. reads (by_pass b (start + length front - length front))) h ∙ ap (λ x. Ok (record { now = reading_at (start + length front + 1) [] true false st; told = x })) (append-nil st.told)
+  passes_on h = rw (h, append-nil st.told) refl
 
   abbrev pub entry : Entry
   entry = entry_at c start (start + length front)
@@ -38,11 +36,7 @@ module _ (syntax : Syntax) (limits : Limits) (st : Stood) (started after_return 
 
   pub too_long_at : passes started after_return c ≡ false → too_long ≡ true
       → last_read syntax limits st started after_return c start front byte scalar form ≡ Err (record { kind = TagTooLong; token = first_of st.run start; at = start + length front })
-  too_long_at h k =
-      ap (λ b. reads (by_pass b (start + length front - length front))) h
-      ∙ (ap (λ first. reads (by_pass false first)) same_start
-      ∙ (ap (λ b. reads (if b then Err TagTooLong else told syntax limits (spot_of syntax st.nest) (c == carriage_return) entry s (verdict syntax (content_at syntax st.nest) (values st.run) (as_line_end c)))) k
-      ∙ ap (λ x. Err (record { kind = TagTooLong; token = first_of st.run x; at = start + length front })) same_start))
+  too_long_at h k = rw (h, same_start, k) (ap (λ x. Err (record { kind = TagTooLong; token = first_of st.run x; at = start + length front })) same_start)
 
   pub entry_on : passes started after_return c ≡ false → too_long ≡ false
       → last_read syntax limits st started after_return c start front byte scalar form ≡ settle (start + length front + 1) (c == carriage_return) (first_of st.run start) (start + length front) (entry_step syntax limits st entry)

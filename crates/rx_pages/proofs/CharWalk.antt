@@ -1,79 +1,29 @@
 -- Reading the characters of a page from left to right.
-use Rattle.rx_reader.proofs.Common.{◌≡◌, ◌≢◌, ◌∙◌, ℕ, ◌+◌, ◌-◌, ◌<◌, ◌≤◌, Bool, true, false, List, [], ◌∷◌, ◌++◌, refl, sym, ap, subst, length, nat_lt, append_assoc, Ok, arith, ◌&&◌, ◌==◌, not, IsScalar, len_utf8, all_scalars, encode, encodes, scalar, length-encode, nat_tests, and_parts, cond-true, cond-false, or-false, list_all, by_test, untrue, length-append, Syntax, Entry, byte_order_mark, line_feed, carriage_return, line_end_entry, placed, entered, without_mark, values, is_known_tag, Limits}
-use Rattle.rx_pages.specs.Nesting.{content_at}
-use Rattle.rx_pages.specs.PageReader.{first_of, is_too_long, spot_of, Progress, page_on}
+use Rattle.rx_pages.proofs.Words.{◌≡◌, ◌∙◌, ℕ, ◌+◌, ◌-◌, ◌<◌, ◌≤◌, Bool, true, false, List, [], ◌∷◌, ◌++◌, refl, sym, ap, subst, length, append_assoc, Ok, arith, ◌&&◌, ◌==◌, not, IsScalar, len_utf8, all_scalars, encode, encodes, scalar, length-encode, and_parts, cond-true, cond-false, or-false, list_all, by_test, untrue, length-append, Syntax, Entry, byte_order_mark, line_feed, carriage_return, placed, entered, without_mark, values, is_known_tag, token_of, Content, Limits, content_at, first_of, is_too_long, spot_of, Progress, page_on}
 use Rattle.rx_pages.proofs.EntrySteps.{Stood, entry_step}
-use Rattle.rx_pages.proofs.ByteSteps.{progress_at, settle, last_read, bytes_on}
+use Rattle.rx_pages.proofs.ByteSteps.{progress_at, last_read, bytes_on}
 use Rattle.rx_pages.proofs.CharSteps.{passes, passes_on, entry_on, entry_at}
 use Rattle.rx_pages.proofs.Reading.{Last, no_last, a_last, last_of}
-
-pub no_return : (c : ℕ) → (c == line_feed) ≡ true → (c == carriage_return) ≡ false
-no_return c h = grind (arith, nat_tests)
-
-pub no_mark : (c : ℕ) → (c == byte_order_mark) ≡ true → (c == carriage_return) ≡ false
-no_mark c h = grind (arith, nat_tests)
-
-pub len_positive : (c : ℕ) → 1 ≤ len_utf8 c
-len_positive c = by_test (nat_lt c 0x80) (λ e. rw e (omega arith)) (λ e. rw e (by_test (nat_lt c 0x800) (λ d. rw d (omega arith)) (λ d. rw d (by_test (nat_lt c 0x1_0000) (λ b. rw b (omega arith)) (λ b. rw b (omega arith))))))
-
--- where characters end
-pub end_is : (start c : ℕ) (cs : List ℕ) → start + length (encodes (c ∷ cs)) ≡ start + len_utf8 c + length (encodes cs)
-end_is start c cs = let n = length-append (encode c) (encodes cs) in let l = length-encode c in omega arith
-
-pub end_zero : (c : ℕ) (cs : List ℕ) → length (encodes (c ∷ cs)) ≡ 0 + len_utf8 c + length (encodes cs)
-end_zero c cs = let n = length-append (encode c) (encodes cs) in let l = length-encode c in omega arith
-
--- the first entry of some characters stands among their bytes
-pub record Among (start : ℕ) (cs : List ℕ) (e : Entry) : Type 0 where
-  pub from : start ≤ e.first
-  pub order : e.first ≤ e.last
-  pub to : e.last < start + length (encodes cs)
-
-among_later : (start c : ℕ) (cs : List ℕ) (e : Entry) → Among (start + len_utf8 c) cs e → Among start (c ∷ cs) e
-among_later start c cs e a =
-    let n = length-append (encode c) (encodes cs) in
-    let l = length-encode c in
-    let f = a.from in
-    let t = a.to in
-    record { from = omega arith; order = a.order; to = omega arith }
-
-among_first : (start c : ℕ) (cs : List ℕ) → Among start (c ∷ cs) (line_end_entry (record { value = c; first = start; last = start + len_utf8 c - 1 }))
-among_first start c cs =
-    let n = length-append (encode c) (encodes cs) in
-    let l = length-encode c in
-    let p = len_positive c in
-    record { from = omega arith; order = omega arith; to = omega arith }
-
-pub first_among : (after_return : Bool) (start : ℕ) (cs : List ℕ) (e : Entry) (es : List Entry) → entered after_return (placed start cs) ≡ e ∷ es → Among start cs e
-first_among after_return start [] e es h = absurd (cc)
-first_among after_return start (c ∷ cs) e es h =
-    by_test {G = Among start (c ∷ cs) e} (after_return && c == line_feed)
-    (λ t. among_later start c cs e (first_among false (start + len_utf8 c) cs e es (sym (cond-true _ _ _ t) ∙ h)))
-    (λ t. let k = sym (cond-false _ _ _ t) ∙ h in let same : line_end_entry (record { value = c; first = start; last = start + len_utf8 c - 1 }) ≡ e = cc in subst (λ x. Among start (c ∷ cs) x) same (among_first start c cs))
-
--- the flags behind some characters
-abbrev pub ends_return : Bool → List ℕ → Bool
-ends_return after_return [] = after_return
-ends_return after_return (c ∷ cs) = ends_return (c == carriage_return) cs
+pub use Rattle.rx_pages.proofs.Entered.{end_is, end_zero, ends_return, first_among, is_started, len_positive, no_mark, no_return}
 
 abbrev pub no_nuls : List ℕ → Bool
 no_nuls cs = list_all (λ c. not (c == 0)) cs
 
-abbrev pub is_started : List ℕ → Bool
-is_started [] = false
-is_started (c ∷ cs) = true
+-- where a run is a tag, it has a first character
+pub first_known : (s : Syntax) (i : Content) (run : List Entry) (a b : ℕ) → is_known_tag s i (values run) ≡ true → first_of run a ≡ first_of run b
+first_known s i [] a b k = absurd (cc)
+first_known s i (e ∷ run) a b k = refl
+
+pub token_first : (whole : List ℕ) (run : List Entry) → token_of whole run ≡ first_of run (length whole)
+token_first whole [] = refl
+token_first whole (e ∷ run) = refl
 
 module _ (syntax : Syntax) (limits : Limits) where
   abbrev pub is_known : Stood → Bool
   is_known st = is_known_tag syntax (content_at syntax st.nest) (values st.run)
 
-  -- where a run is a tag, it has a first character
   pub first_same : (st : Stood) (a b : ℕ) → is_known st ≡ true → first_of st.run a ≡ first_of st.run b
-  first_same st a b h = by st.run h
-    where
-      by : (run : List Entry) → is_known_tag syntax (content_at syntax st.nest) (values run) ≡ true → first_of run a ≡ first_of run b
-      by [] k = absurd (cc)
-      by (e ∷ run) k = refl
+  first_same st a b h = first_known syntax (content_at syntax st.nest) st.run a b h
 
   -- The entries lead from one state to another within the limits, and `hi` bytes stand there.
   abbrev pub Fine : ℕ → Stood → List Entry → Stood → Type 0
@@ -97,31 +47,18 @@ module _ (syntax : Syntax) (limits : Limits) where
     next_at : start + length front + 1 ≡ start + len_utf8 c
     next_at = omega arith
 
-    some_bytes : encode c ≢ []
-    some_bytes e = let v = ap length (sym form ∙ e) in let w = length-append front (byte ∷ []) in absurd (omega arith)
-
     pub to_last : (is_known st ≡ true → start + length front < first_of st.run start + limits.tag)
         → page_on syntax limits (Ok (progress_at start [] started after_return st)) (encode c ++ rest) ≡ page_on syntax limits (last_read syntax limits st started after_return c start front byte is_scalar form) rest
-    to_last k =
-        let e : start + 0 ≡ start = omega arith in
-        ap (λ x. page_on syntax limits (Ok (progress_at x [] started after_return st)) (encode c ++ rest)) (sym e)
-        ∙ bytes_on syntax limits st started after_return c start front byte is_scalar form [] (encode c) rest form some_bytes nonzero (omega arith) k
+    to_last k = bytes_on syntax limits st started after_return c start front byte is_scalar form rest nonzero (omega arith) k
 
     pub passed_on : passes started after_return c ≡ true → (is_known st ≡ true → start + length front < first_of st.run start + limits.tag) → Goal false st
-    passed_on t k =
-        to_last k
-        ∙ (ap (λ x. page_on syntax limits x rest) (passes_on syntax limits st started after_return c start front byte is_scalar form t)
-        ∙ ap (λ x. page_on syntax limits (Ok (progress_at x [] true false st)) rest) next_at)
+    passed_on t k = to_last k ∙ rw (passes_on syntax limits st started after_return c start front byte is_scalar form t, next_at) refl
 
     pub entered_on : passes started after_return c ≡ false → (next : Stood)
         → (is_known st ≡ true → start + length front < first_of st.run start + limits.tag)
         → is_too_long syntax limits (spot_of syntax st.nest) (st.run ++ entry_at c start (start + length front) ∷ []) (first_of st.run start) (start + length front) ≡ false
         → entry_step syntax limits st (entry_at c start (start + length front)) ≡ Ok next → Goal (c == carriage_return) next
-    entered_on t next k long step =
-        to_last k
-        ∙ (ap (λ x. page_on syntax limits x rest) (entry_on syntax limits st started after_return c start front byte is_scalar form t long)
-        ∙ (ap (λ x. page_on syntax limits (settle (start + length front + 1) (c == carriage_return) (first_of st.run start) (start + length front) x) rest) step
-        ∙ ap (λ x. page_on syntax limits (Ok (progress_at x [] true (c == carriage_return) next)) rest) next_at))
+    entered_on t next k long step = to_last k ∙ rw (entry_on syntax limits st started after_return c start front byte is_scalar form t long, step, next_at) refl
 
   -- the rest of the walk
   abbrev pub Rest : List ℕ → List ℕ → ℕ → Stood → Type 0

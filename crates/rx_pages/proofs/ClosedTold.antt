@@ -1,15 +1,11 @@
 -- What the front of a page tells, and what it tells once it is closed.
+use Rattle.rx_pages.proofs.Words.{◌≡◌, ◌∙◌, ℕ, ◌+◌, ◌≤◌, true, false, List, [], ◌∷◌, ◌++◌, Option, refl, ap, sym, subst, length, append-nil, length-append, arith, Event, content_at, Goes, IsAt, scalars-append}
 use Rattle.rx_pages.proofs.Common.{not, ◌==◌, Ok, encode_utf8_all, encodes-append, Entry, placed, Syntax, Item, Spelled, no_more, one, has_no_nul, Line, Phase, after, Limits, page_on, nothing_read, closing, closed, IsWide, AllEnd, Tells, FrontsTell}
-use Rattle.std.proofs.Common.{◌≡◌, ◌∙◌, ℕ, ◌+◌, ◌≤◌, true, false, List, [], ◌∷◌, ◌++◌, Option, refl, ap, sym, subst, length, append-nil, length-append, arith}
 use lib.Utf8.{encodes, encode}
-use Rattle.rx_pages.specs.Nesting.{Event, not_begun, content_at, Goes, IsAt}
-use Rattle.rx_pages.proofs.ByteSteps.{progress_at}
+use Rattle.rx_pages.specs.Nesting.{not_begun}
 use Rattle.rx_pages.proofs.Closings.{page_entries, entered_tag, all_append, all_fit, last_within, Reaches, closes, as_meant, is_page, Fronted, fronted}
 use Rattle.rx_pages.proofs.FrontRead.{AllBelow, below_behind, page_below, front_is_read}
-use Rattle.rx_pages.proofs.TokenWalk.{stood}
-use Rattle.rx_pages.proofs.TokensWalk.{flags_behind}
-use Rattle.rx_pages.proofs.KnownTags.{one_unknown}
-use Rattle.rx_chars.proofs.DecodingLemmas.{scalars-append}
+use Rattle.rx_pages.proofs.Below.{progress_at, stood, flags_behind, one_unknown}
 
 all_end : (syntax : Syntax) (end : ℕ) {entries : List Entry} {next : Option ℕ} {items : List Item} → Spelled syntax entries next items → AllBelow end entries → AllEnd end items
 all_end syntax end no_more w = tt
@@ -20,9 +16,14 @@ less_than_encoded : encodes (60 ∷ []) ≡ 60 ∷ []
 unfolding encode
 less_than_encoded = refl
 
-module _ (syntax : Syntax) (limits : Limits) (bytes : List ℕ) (line : Line) (phase : Phase) where
-  front_tells : (f : Fronted syntax limits bytes line phase) → length bytes + 1 ≤ limits.page → Tells syntax limits (bytes ++ 60 ∷ []) f.events
-  front_tells f h =
+module _ (syntax : Syntax) (limits : Limits) (bytes : List ℕ) (line : Line) (phase : Phase) (f : Fronted syntax limits bytes line phase) where
+  -- what the reader comes to behind a front and a `<`
+  pub record FrontReads : Type 0 where
+    pub tells : Tells syntax limits (bytes ++ 60 ∷ []) f.events
+    pub place : tells.now.now.nest ≡ f.reaches.place
+
+  pub front_reads : length bytes + 1 ≤ limits.page → FrontReads
+  front_reads h =
       let a = f.reaches.ahead in
       let run : List Entry = placed (length (encodes f.characters)) (60 ∷ []) in
       let same : page_entries f.characters ++ run ≡ page_entries (f.characters ++ 60 ∷ []) = sym (entered_tag f.characters [] refl) in
@@ -33,9 +34,12 @@ module _ (syntax : Syntax) (limits : Limits) (bytes : List ℕ) (line : Line) (p
       (all_append (λ (x : Entry). not (x.value == 0)) (page_entries f.characters) run a.no_nul refl) a.spelled f.fit a.sections a.going (let l = length-append bytes (60 ∷ []) in omega (arith, l, h))
       (λ m p. (refl, tt)) (λ m p k. absurd (one_unknown syntax (content_at syntax m) 60 k)) in
       record {
-        now = progress_at (length (bytes ++ 60 ∷ [])) [] r.started r.after_return (stood r.place f.events (flags_behind f.reaches.items false false).0 (flags_behind f.reaches.items false false).1 run);
-        read = ap (λ b. page_on syntax limits (Ok nothing_read) b) (sym (append-nil (bytes ++ 60 ∷ []))) ∙ r.is_read [];
-        told = refl;
+        tells = record {
+          now = progress_at (length (bytes ++ 60 ∷ [])) [] r.started r.after_return (stood r.place f.events (flags_behind f.reaches.items false false).0 (flags_behind f.reaches.items false false).1 run);
+          read = ap (λ b. page_on syntax limits (Ok nothing_read) b) (sym (append-nil (bytes ++ 60 ∷ []))) ∙ r.is_read [];
+          told = refl;
+        };
+        place = r.is_meant;
       }
 
 whole_tells : (syntax : Syntax) (limits : Limits) (cs bytes : List ℕ) (events : List Event) → encodes cs ≡ bytes → Reaches syntax limits.depth cs [] after events → (wide : Limits) → IsWide limits wide (length bytes) → Tells syntax wide bytes events
@@ -67,7 +71,7 @@ fronts_tell syntax limits bytes next line phase d b =
       place = f.reaches.place;
       events = f.events;
       going = f.reaches.ahead.going;
-      front = front_tells syntax limits bytes line phase f;
+      front = λ h. (front_reads syntax limits bytes line phase f h).tells;
       more = t.more;
       bare = t.bare;
       tree = p.tree;

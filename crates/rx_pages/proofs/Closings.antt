@@ -1,72 +1,41 @@
 -- The front of a page goes on to a page: what is open is closed, from the innermost element on.
-use Rattle.rx_reader.proofs.Common.{◌≡◌, ◌∙◌, ℕ, ◌+◌, ◌-◌, ◌<◌, ◌≤◌, Bool, true, false, List, [], ◌∷◌, ◌++◌, Option, Some, None, refl, ap, sym, subst, subst₂, length, append_assoc, append-nil, arith, ◌&&◌, ◌||◌, ◌==◌, not, nat_le, codes, Ok, encode_utf8_all, list_all, len_utf8, all_scalars, encode, encodes, scalar, length-encode, encodes-append, and_from, cond-false, nat_tests, greater_than_sign, Chars, both, untrue, and-false, length-append, Entry, byte_order_mark, line_feed, carriage_return, placed, entered, without_mark, Syntax, Html, Xhtml, Tag, Token, tag, SpellsTag, Spells, a_tag, outside, is_alone, is_self_closed, is_plaintext, drops_line_feed, StartTag, values, Item, last_from, Spelled, no_more, one, Fits, AllFit, is_literal, no_section_end, start_of, has_no_nul, Document, Line, inside_of, Phase, before, within, after, Stands, not_begun, still_open, ended, Begun, Limits, spells_each}
+use Rattle.rx_pages.proofs.Words.{◌≡◌, ◌∙◌, ℕ, ◌+◌, ◌-◌, ◌<◌, ◌≤◌, Bool, true, false, List, [], ◌∷◌, ◌++◌, Option, Some, None, refl, ap, sym, subst, subst₂, length, append_assoc, append-nil, arith, ◌&&◌, ◌==◌, not, nat_le, codes, Ok, encode_utf8_all, list_all, len_utf8, all_scalars, encodes, scalar, encodes-append, and_from, cond-false, nat_tests, greater_than_sign, Chars, both, untrue, and-false, Entry, line_feed, carriage_return, placed, entered, without_mark, Syntax, Html, Xhtml, Tag, Token, tag, SpellsTag, Spells, a_tag, outside, is_alone, is_self_closed, is_plaintext, drops_line_feed, StartTag, values, Item, last_from, Spelled, no_more, one, Fits, AllFit, is_literal, no_section_end, start_of, has_no_nul, Document, Line, inside_of, Phase, before, within, after, Stands, not_begun, still_open, Begun, Limits, spells_each, list_all-append, Event, Nesting, Step, content_at, over, step_by, nest_step, Goes, stands, goes, IsAt, item_of, FrontsClose, end_tag, end_tags, closing, IsPage, Bare, scalars-append}
+use Rattle.rx_reader.proofs.Common.{ended}
 use Rattle.rx_pages.specs.Nesting as nesting
-use Rattle.rx_pages.specs.Nesting.{Event, Nesting, Step, content_at, over, step_by, nest_step, Goes, stands, goes, IsAt}
-use Rattle.rx_pages.specs.PageReader.{item_of}
-use Rattle.rx_pages.specs.Laws.{FrontsClose}
-use Rattle.rx_pages.specs.Closings.{end_tag, end_tags, closing, closed, IsPage, Bare}
-use Rattle.rx_pages.proofs.CharSteps.{passes}
-use Rattle.rx_pages.proofs.CharWalk.{is_started, ends_return}
-use Rattle.rx_pages.proofs.Nested.{opening}
+use Rattle.rx_pages.specs.Closings.{closed}
 use Rattle.rx_pages.proofs.Nested as nested
-use Rattle.rx_pages.proofs.Front.{fronts_lead}
 use Rattle.rx_pages.proofs.FrontBack.{fronts_stand}
-use Rattle.rx_pages.proofs.Snocs.{page_snoc, started_snoc, spelled_snoc, goes_snoc, sections_snoc}
+use Rattle.rx_pages.proofs.Snocs.{spelled_snoc, goes_snoc, sections_snoc}
 use Rattle.rx_pages.proofs.FaultsRead.{no_literal}
-use Rattle.rx_pages.proofs.TokensWalk.{flags_behind}
 use Rattle.rx_pages.proofs.BytesOn.{after_only}
-use Rattle.rx_pages.proofs.Befores.{spelled_less, spelled_last}
 use Rattle.rx_pages.proofs.OpenNames.{is_fair, IsName, is_steady, ending, ending_text, spells_end, name_steady}
-use Rattle.rx_pages.proofs.OpenLines.{page_fair, AllNamed, arrives}
+use Rattle.rx_pages.proofs.OpenLines.{both_fair, scalars_page, AllNamed, arrives}
 use Rattle.rx_pages.proofs.FrontRead.{AllBelow, below_behind, page_below}
-use Rattle.rx_chars.proofs.DecodingLemmas.{scalars-append}
+use Rattle.rx_pages.proofs.Below.{page_behind, opening, fronts_lead, flags_behind, spelled_less, spelled_last}
 
 -- the characters of a page that are entered
 abbrev pub page_entries : List ℕ → List Entry
 page_entries cs = entered false (without_mark (placed 0 cs))
 
-passes_not : (started after_return : Bool) (c : ℕ) → (not started && c == byte_order_mark) ≡ false → is_steady c ≡ true → passes started after_return c ≡ false
-passes_not started after_return c h s =
-    let feed = untrue (c == line_feed) (both (not (c == carriage_return)) (not (c == line_feed)) s).1 in
-    ap (λ b. b || after_return && c == line_feed) h ∙ (ap (λ b. after_return && b) feed ∙ and-false after_return)
-
--- a character that is entered as it is
-entered_as : (cs : List ℕ) (c : ℕ) → (not (is_started cs) && c == byte_order_mark) ≡ false → is_steady c ≡ true → page_entries (cs ++ c ∷ []) ≡ page_entries cs ++ placed (length (encodes cs)) (c ∷ [])
-entered_as cs c h s =
-    let returned = untrue (c == carriage_return) (both (not (c == carriage_return)) (not (c == line_feed)) s).0 in
-    let at : ℕ = length (encodes cs) in
-    page_snoc cs c
-    ∙ (ap (λ es. page_entries cs ++ es) (cond-false _ _ _ (passes_not (is_started cs) (ends_return false cs) c h s))
-    ∙ ap (λ v. page_entries cs ++ (record { value = v; first = at; last = at + len_utf8 c - 1 } ∷ [])) (cond-false (c == carriage_return) line_feed c returned))
-
-then_more : (cs xs : List ℕ) (x : ℕ) → page_entries (cs ++ x ∷ []) ≡ page_entries cs ++ placed (length (encodes cs)) (x ∷ []) → page_entries ((cs ++ x ∷ []) ++ xs) ≡ page_entries (cs ++ x ∷ []) ++ placed (length (encodes (cs ++ x ∷ []))) xs
-    → page_entries (cs ++ x ∷ xs) ≡ page_entries cs ++ placed (length (encodes cs)) (x ∷ xs)
-then_more cs xs x single more =
-    let at : ℕ = length (encodes cs) in
-    let size : length (encodes (cs ++ x ∷ [])) ≡ at + len_utf8 x =
-    ap length (encodes-append cs (x ∷ [])) ∙ (length-append (encodes cs) (encodes (x ∷ [])) ∙ ap (λ n. at + n) (ap length (append-nil (encode x)) ∙ length-encode x)) in
-    ap page_entries (sym (append_assoc cs (x ∷ []) xs))
-    ∙ (more
-    ∙ (ap (λ es. es ++ placed (length (encodes (cs ++ x ∷ []))) xs) single
-    ∙ (append_assoc (page_entries cs) (placed at (x ∷ [])) (placed (length (encodes (cs ++ x ∷ []))) xs)
-    ∙ ap (λ n. page_entries cs ++ (record { value = x; first = at; last = at + len_utf8 x - 1 } ∷ placed n xs)) size)))
-
-entered_more : (xs cs : List ℕ) → is_started cs ≡ true → list_all is_steady xs ≡ true → page_entries (cs ++ xs) ≡ page_entries cs ++ placed (length (encodes cs)) xs
-entered_more [] cs h s = ap page_entries (append-nil cs) ∙ sym (append-nil (page_entries cs))
-entered_more (x ∷ xs) cs h s =
+-- characters that are entered as they are
+placed_steady : (after_return : Bool) (at : ℕ) (xs : List ℕ) → list_all is_steady xs ≡ true → entered after_return (placed at xs) ≡ placed at xs
+placed_steady after_return at [] s = refl
+placed_steady after_return at (x ∷ xs) s =
     let k = both (is_steady x) _ s in
-    then_more cs xs x (entered_as cs x (ap (λ b. not b && x == byte_order_mark) h) k.0) (entered_more xs (cs ++ x ∷ []) (started_snoc cs x) k.1)
+    let n = both (not (x == carriage_return)) (not (x == line_feed)) k.0 in
+    cond-false _ _ _ (ap (λ b. after_return && b) (untrue (x == line_feed) n.1) ∙ and-false after_return)
+    ∙ (λ i. record { value = cond-false (x == carriage_return) line_feed x (untrue (x == carriage_return) n.0) i; first = at; last = at + len_utf8 x - 1 } ∷ placed_steady (x == carriage_return) (at + len_utf8 x) xs k.1 i)
 
 pub entered_tag : (cs text : List ℕ) → list_all is_steady text ≡ true → page_entries (cs ++ 60 ∷ text) ≡ page_entries cs ++ placed (length (encodes cs)) (60 ∷ text)
-entered_tag cs text s = then_more cs text 60 (entered_as cs 60 (and-false (not (is_started cs))) refl) (entered_more text (cs ++ 60 ∷ []) (started_snoc cs 60) s)
+entered_tag [] text s = placed_steady false 0 (60 ∷ text) s
+entered_tag (c ∷ cs) text s = page_behind (c ∷ cs) (60 ∷ text) refl ∙ ap (λ es. page_entries (c ∷ cs) ++ es) (placed_steady _ _ (60 ∷ text) s)
 
 pub values_placed : (at : ℕ) (cs : List ℕ) → values (placed at cs) ≡ cs
 values_placed at [] = refl
 values_placed at (c ∷ cs) = ap (λ x. c ∷ x) (values_placed (at + len_utf8 c) cs)
 
 pub all_append : {A : Type 0} (test : A → Bool) (a b : List A) → list_all test a ≡ true → list_all test b ≡ true → list_all test (a ++ b) ≡ true
-all_append test [] b h k = k
-all_append test (x ∷ a) b h k = let p = both (test x) (list_all test a) h in and_from (test x) (list_all test (a ++ b)) p.0 (all_append test a b p.1 k)
+all_append test a b h k = list_all-append test a b ∙ and_from (list_all test a) (list_all test b) h k
 
 some_placed : (at : ℕ) (cs : List ℕ) → list_all is_fair cs ≡ true → has_no_nul (placed at cs) ≡ true
 some_placed at [] h = refl
@@ -281,7 +250,7 @@ fronted syntax limits bytes next line phase b =
     let no_nul : has_no_nul (page_entries cs) ≡ true = sym (ap has_no_nul same) ∙ b.no_nul in
     let sp : Spelled syntax (page_entries cs) next b.items = subst (λ es. Spelled syntax es next b.items) same b.spelled in
     let l = fronts_lead syntax limits.depth b.items line phase b.stands in
-    let a = arrives syntax limits.depth sp l.going (page_fair cs b.read.scalars no_nul) (record { nothing_open = λ e. refl; names = tt }) in
+    let a = arrives syntax limits.depth sp l.going (both_fair (page_entries cs) (scalars_page cs b.read.scalars) no_nul) (record { nothing_open = λ e. refl; names = tt }) in
     record {
       characters = cs;
       forms = b.read.forms;

@@ -1,6 +1,5 @@
 -- Comments, instructions and sections are read as they are spelled.
-use Rattle.rx_reader.proofs.Common.{◌≡◌, ◌∙◌, ℕ, Bool, true, false, [], ◌∷◌, ◌++◌, Option, refl, ap, sym, append_assoc, inl, inr, ◌+◌, arith, ◌&&◌, not, ◌||◌, ◌-◌, codes, length, take, cond-true, cond-false, and_from, or_left, or_right, or_parts, map-append, length-append, lowered_char, greater_than_sign, Chars, begins_with, lowered, both, either, not_both_ways, by_test, and-false, take-append_seam, Syntax, Html, Xhtml, Token, comment, section, ends_with, ends_comment, begins_declaration, IsFirst, has_markup, has_sections, Content, begins_more, snoc_front, section_markup}
-use Rattle.rx_pages.specs.Scanner.{goes_on, whole, whole_if, after_mark, in_markup, in_section, verdict, GoesOn, ReadAs}
+use Rattle.rx_pages.proofs.Words.{◌≡◌, ◌∙◌, ℕ, Bool, true, false, [], ◌∷◌, ◌++◌, Option, refl, ap, sym, append_assoc, inl, inr, ◌+◌, arith, ◌&&◌, not, ◌||◌, ◌-◌, codes, length, take, cond-true, cond-false, and_from, or_left, or_right, or_parts, map-append, length-append, lowered_char, greater_than_sign, Chars, begins_with, lowered, both, either, not_both_ways, by_test, and-false, take-append_seam, Syntax, Html, Xhtml, Token, comment, section, ends_with, ends_comment, begins_declaration, IsFirst, has_markup, has_sections, Content, begins_more, snoc_front, section_markup, goes_on, whole, whole_if, after_mark, in_markup, in_section, verdict, GoesOn, ReadAs}
 use Rattle.rx_pages.proofs.Reading.{all_go, go_append, read_to, reads_first, markup_is}
 
 pub none_if : (b : Bool) (t : Token) → b ≡ false → whole_if b t ≡ goes_on
@@ -93,7 +92,4 @@ module _ (i : Content) (next : Option ℕ) (sections : has_sections i ≡ true) 
   reads_section s t f =
       reads_first s i (codes "<![CDATA[") (t ++ codes "]]>") (ends_with (codes "]]>")) next (section t) f refl (begin_section s)
       (λ a d more e h. inside_section s a d ∙ none_if _ _ h)
-      (λ a d e h. inside_section s a d ∙ (whole_where _ _ h ∙ ap (λ x. whole (section x)) (text_is a d e)))
-    where
-      text_is : (a : Chars) (d : ℕ) → t ++ codes "]]>" ≡ a ++ d ∷ [] → take (length a - 2) a ≡ t
-      text_is a d e = ap (λ x. take (length x - 2) x) (sym (snoc_front (t ++ 93 ∷ 93 ∷ []) a 62 d (append_assoc t (93 ∷ 93 ∷ []) (62 ∷ []) ∙ e))) ∙ section_text t
+      (λ a d e h. inside_section s a d ∙ (whole_where _ _ h ∙ ap (λ x. whole (section x)) (ap (λ x. take (length x - 2) x) (sym (snoc_front (t ++ 93 ∷ 93 ∷ []) a 62 d (append_assoc t (93 ∷ 93 ∷ []) (62 ∷ []) ∙ e))) ∙ section_text t)))

@@ -1,6 +1,5 @@
 -- What an element whose end tag may be omitted says of the contents round it.
-use Rattle.rx_grammar.proofs.Common.{◌≡◌, ◌∙◌, Bool, true, false, List, [], ◌∷◌, refl, ap, ◌&&◌, not, codes, list_all, bytes_decides, Chars, both, not_both_ways, by_test, Syntax, Html, Xhtml, same, row_among, row_of, omissible_rows, Tag, Place, inside_html, place_in, is_html, is_plaintext, is_self_closed, is_foreign, is_void, is_foreign_root, is_omissible, has_row, Line, inside_of}
-use Rattle.rx_grammar.specs.declared.contents.Content.{Content}
+use Rattle.rx_pages.proofs.Words.{◌≡◌, ◌∙◌, Bool, true, false, List, [], ◌∷◌, refl, ap, ◌&&◌, not, codes, list_all, bytes_decides, Chars, both, not_both_ways, by_test, Syntax, Html, Xhtml, same, row_among, row_of, omissible_rows, Tag, Place, inside_html, place_in, is_html, is_plaintext, is_self_closed, is_foreign, is_void, is_foreign_root, is_omissible, has_row, Line, inside_of, Content}
 use Rattle.rx_grammar.specs.declared.contents.Content.TheVariants as content
 
 pub same_is : (a b : Chars) → same a b ≡ true → a ≡ b

@@ -1,10 +1,6 @@
 -- What is read as a document type is one, and where none goes on a character is refused.
-use Rattle.rx_reader.proofs.Common.{◌≡◌, ◌∙◌, ℕ, true, cond, [], ◌∷◌, ◌++◌, Option, Some, None, refl, ap, sym, subst, append_assoc, eqb-true, ◌||◌, ◌==◌, not, codes, list_all, greater_than_sign, is_white_space, left_bracket, Chars, split, Syntax, Html, Xhtml, doctype, cased, cased_char, has_markup, doctype_word, IsDoctype, a_doctype, Content, BadDoctype, BeginsDoctype, BeginsNoDoctype, of_white}
-use Rattle.rx_pages.specs.Scanner.{DoctypePhase, keyword, spaces, naming, passed, closed, in_name, doctype_move, doctype_on, refused, told_of_doctype}
-use Rattle.rx_pages.proofs.Doctypes.{on_none, on_append, behind}
-use Rattle.rx_pages.proofs.Pending.{begun_goes}
-use Rattle.rx_pages.proofs.Reading.{markup_is}
-use Rattle.rx_pages.proofs.Refusals.{IsRefused}
+use Rattle.rx_pages.proofs.Words.{◌≡◌, ◌∙◌, ℕ, true, cond, [], ◌∷◌, ◌++◌, Option, Some, None, refl, ap, sym, subst, append_assoc, eqb-true, ◌||◌, ◌==◌, not, codes, list_all, greater_than_sign, is_white_space, left_bracket, Chars, split, Syntax, Html, Xhtml, doctype, cased, cased_char, has_markup, doctype_word, IsDoctype, a_doctype, Content, BadDoctype, BeginsDoctype, BeginsNoDoctype, of_white, DoctypePhase, keyword, spaces, naming, passed, closed, in_name, doctype_move, doctype_on, refused, told_of_doctype}
+use Rattle.rx_pages.proofs.Below.{on_none, on_append, behind, begun_goes, markup_is, IsRefused}
 
 -- what stands behind the name
 pub record Rest (text : Chars) : Type 0 where
@@ -44,14 +40,11 @@ module _ (s : Syntax) where
   behind_read (c ∷ text) h =
       split (λ o. Ends o text → Behind (c ∷ text)) (is_white_space c) (Some passed) (cond (c == greater_than_sign) (Some closed) None)
       (λ e k. let r = rest_read text k in record {
-        rest = record { rest = c ∷ r.rest; are = ap (λ x. c ∷ x) r.are; inner = inner_with c r.rest e r.inner };
+        rest = record { rest = c ∷ r.rest; are = ap (λ x. c ∷ x) r.are; inner = rw (of_white (λ x. not (x == greater_than_sign || x == left_bracket) ≡ true) c e refl refl refl refl refl, r.inner) refl };
         white = λ d more q. let p : c ≡ d = cc in subst (λ x. is_white_space x ≡ true) p e;
       })
       (λ e. split (λ o. Ends o text → Behind (c ∷ text)) (c == greater_than_sign) (Some closed) None
       (λ f k. record { rest = record { rest = []; are = ends_by c text f k; inner = refl }; white = λ d more q. absurd (cc) }) (λ f k. no_way text _ k)) h
-    where
-      inner_with : (c : ℕ) (rest : Chars) → is_white_space c ≡ true → list_all (λ c. not (c == greater_than_sign || c == left_bracket)) rest ≡ true → list_all (λ c. not (c == greater_than_sign || c == left_bracket)) (c ∷ rest) ≡ true
-      inner_with c rest e h = rw (of_white (λ x. not (x == greater_than_sign || x == left_bracket) ≡ true) c e refl refl refl refl refl, h) refl
 
   record Named (left text : Chars) : Type 0 where
     pub name : Chars

@@ -1,7 +1,6 @@
 -- The document type is read as it is spelled.
-use Rattle.rx_reader.proofs.Common.{◌≡◌, ◌≢◌, ◌∙◌, ℕ, suc, ◌+◌, ◌<◌, length, Bool, true, false, [], ◌∷◌, ◌++◌, Option, Some, None, refl, ap, sym, subst, append_assoc, arith, eqb-true, ◌&&◌, ◌||◌, ◌==◌, not, codes, drop, list_all, list_any, cond-true, cond-false, or_from, or_parts, map-append, length-map, length-append, lowered_char, greater_than_sign, is_white_space, left_bracket, Chars, begins_with, lowered, both, not_both_ways, by_test, untrue, and-false, Syntax, Html, Xhtml, one_or_more, doctype, comment, cased, cased_char, has_markup, has_sections, ends_with, begins_declaration, doctype_word, IsDoctype, Content, drop-append_seam, of_one, of_white, equal, begins_append, has_end, kept_case}
-use Rattle.rx_pages.specs.Scanner.{goes_on, DoctypePhase, keyword, spaces, naming, passed, closed, doctype_move, doctype_move_on, doctype_on, told_of_doctype, in_doctype, after_mark, in_markup, verdict, GoesOn, ReadAs}
-use Rattle.rx_pages.proofs.Reading.{Last, no_last, a_last, last_of, all_go, go_append, read_to, markup_is}
+use Rattle.rx_pages.proofs.Words.{◌≡◌, ◌≢◌, ◌∙◌, ℕ, suc, ◌+◌, ◌<◌, length, Bool, true, false, [], ◌∷◌, ◌++◌, Option, Some, None, refl, ap, sym, subst, append_assoc, arith, eqb-true, ◌&&◌, ◌||◌, ◌==◌, not, codes, drop, list_all, list_any, cond-true, cond-false, or_from, or_parts, map-append, length-map, length-append, lowered_char, greater_than_sign, is_white_space, left_bracket, Chars, begins_with, lowered, both, not_both_ways, by_test, untrue, and-false, Syntax, Html, Xhtml, one_or_more, doctype, comment, cased, cased_char, has_markup, has_sections, ends_with, begins_declaration, doctype_word, IsDoctype, Content, drop-append_seam, of_one, of_white, equal, begins_append, has_end, kept_case, goes_on, DoctypePhase, keyword, spaces, naming, passed, closed, doctype_move, doctype_move_on, doctype_on, told_of_doctype, in_doctype, after_mark, in_markup, verdict, GoesOn, ReadAs, false_from_ne_true}
+use Rattle.rx_pages.proofs.Reading.{all_go, reads_through, markup_is}
 use Rattle.rx_pages.proofs.Comments.{none_if, bogus_at}
 
 pub on_none : (s : Syntax) (text : Chars) → doctype_on s None text ≡ None
@@ -14,11 +13,9 @@ on_append s o (c ∷ a) b = on_append s (doctype_move_on s o c) a b
 
 before_close : (s : Syntax) (o : Option DoctypePhase) (more : Chars) → doctype_on s o more ≡ Some closed → more ≢ [] → told_of_doctype o ≡ goes_on
 before_close s o [] h n = absurd (n refl)
-before_close s (Some keyword) (c ∷ more) h n = refl
-before_close s (Some spaces) (c ∷ more) h n = refl
-before_close s (Some (naming left)) (c ∷ more) h n = refl
-before_close s (Some passed) (c ∷ more) h n = refl
-before_close s _ (c ∷ more) h n = absurd (let k = on_none s more in cc)
+before_close s None (c ∷ more) h n = absurd (let k = on_none s more in cc)
+before_close s (Some closed) (c ∷ more) h n = absurd (let k = on_none s more in cc)
+before_close s (Some p) (c ∷ more) h n = refl
 
 -- one character
 move_by : (s : Syntax) (p : DoctypePhase) (c : ℕ) (text : Chars) {o : Option DoctypePhase} → doctype_move s p c ≡ o → doctype_on s (Some p) (c ∷ text) ≡ doctype_on s o text
@@ -125,11 +122,7 @@ module _ (i : Content) (next : Option ℕ) (markup : has_markup i ≡ true) wher
         (ap (λ b. has_sections i && b) (begins_no 91 (codes "CDATA[") f refl h) ∙ and-false (has_sections i))
 
     html_word : GoesOn Html i (codes "<!") word
-    html_word = all_go Html i (codes "<!") word (λ f d more e. markup_is Html i (33 ∷ f) d markup ∙ (bogus_at i f d (undeclared f d more e) ∙ none_if _ comment (no_greater f d more e)))
-      where
-        no_greater : (f : Chars) (d : ℕ) (more : Chars) → word ≡ f ++ d ∷ more → ends_with (codes ">") (f ++ d ∷ []) ≡ false
-        no_greater f d more e = by_test {G = ends_with (codes ">") (f ++ d ∷ []) ≡ false} (ends_with (codes ">") (f ++ d ∷ []))
-            (λ h. absurd (not_both_ways (list_any (λ c. c == 62) (f ++ d ∷ [])) (has_end (f ++ d ∷ []) h) (any_front (λ c. c == 62) (f ++ d ∷ []) more (sym (ap (list_any (λ c. c == 62)) (e ∙ sym (append_assoc f (d ∷ []) more))) ∙ no_end word (codes "doctype") is_word refl)))) (λ h. h)
+    html_word = all_go Html i (codes "<!") word (λ f d more e. markup_is Html i (33 ∷ f) d markup ∙ (bogus_at i f d (undeclared f d more e) ∙ none_if _ comment (false_from_ne_true (ends_with (codes ">") (f ++ d ∷ [])) (λ h. not_both_ways (list_any (λ c. c == 62) (f ++ d ∷ [])) (has_end (f ++ d ∷ []) h) (any_front (λ c. c == 62) (f ++ d ∷ []) more (sym (ap (list_any (λ c. c == 62)) (e ∙ sym (append_assoc f (d ∷ []) more))) ∙ no_end word (codes "doctype") is_word refl))))))
 
     html_behind : (f : Chars) (d : ℕ) → after_mark Html i (word ++ f) d ≡ in_doctype Html f d
     html_behind f d =
@@ -152,28 +145,18 @@ module _ (i : Content) (next : Option ℕ) (markup : has_markup i ≡ true) wher
   behind Xhtml word e f d = subst (λ w. after_mark Xhtml i (w ++ f) d ≡ in_doctype Xhtml f d) (sym (sym (kept_case word) ∙ e)) refl
 
   pub reads_doctype : (s : Syntax) (text : Chars) → IsDoctype s text → ReadAs s i (60 ∷ 33 ∷ text) next doctype
-  reads_doctype s text d = by (last_of after)
+  reads_doctype s text d =
+      subst (λ x. ReadAs s i (60 ∷ 33 ∷ x) next doctype) (sym d.are)
+      (reads_through s i (codes "<!" ++ d.keyword) after next doctype (no_space d.spaces d.apart) (refl, (markup_is s i [] 33 markup, word_goes s d.keyword d.keyword_is))
+      (λ a x more e n. within a x ∙ before_close s (doctype_on s (Some keyword) (a ++ x ∷ [])) more (sym (on_append s (Some keyword) (a ++ x ∷ []) more) ∙ (ap (doctype_on s (Some keyword)) (append_assoc a (x ∷ []) more ∙ sym e) ∙ behind_word s text d)) n)
+      (λ f c e. within f c ∙ ap told_of_doctype (ap (doctype_on s (Some keyword)) (sym e) ∙ behind_word s text d)))
     where
       after : Chars
       after = d.spaces ++ (d.name ++ (d.rest ++ 62 ∷ []))
 
-      by : Last after → ReadAs s i (60 ∷ 33 ∷ text) next doctype
-      by (no_last e) = absurd (no_space d.spaces d.apart e)
-        where
-          no_space : (x : Chars) → one_or_more is_white_space x ≡ true → x ++ (d.name ++ (d.rest ++ 62 ∷ [])) ≡ [] → ⊥
-          no_space [] h e = absurd (cc)
-          no_space (c ∷ x) h e = cc
-      by (a_last f c e) =
-          read_to s i (60 ∷ 33 ∷ (d.keyword ++ f)) c next doctype (ap (λ x. 60 ∷ 33 ∷ x) (d.are ∙ (ap (λ x. d.keyword ++ x) e ∙ sym (append_assoc d.keyword f (c ∷ [])))))
-          (refl, (markup_is s i [] 33 markup, go_append s i (codes "<!") d.keyword f (word_goes s d.keyword d.keyword_is) (all_go s i (codes "<!" ++ d.keyword) f (λ a x more k. within a x ∙ before_close s (doctype_on s (Some keyword) (a ++ x ∷ [])) (more ++ c ∷ []) (close a x more k) (more_left more)))))
-          (within f c ∙ ap told_of_doctype (ap (doctype_on s (Some keyword)) (sym e) ∙ behind_word s text d))
-        where
-          within : (a : Chars) (x : ℕ) → verdict s i (60 ∷ 33 ∷ (d.keyword ++ a)) x ≡ in_doctype s a x
-          within a x = markup_is s i (33 ∷ (d.keyword ++ a)) x markup ∙ behind s d.keyword d.keyword_is a x
+      no_space : (x : Chars) → one_or_more is_white_space x ≡ true → x ++ (d.name ++ (d.rest ++ 62 ∷ [])) ≡ [] → ⊥
+      no_space [] h e = absurd (cc)
+      no_space (c ∷ x) h e = cc
 
-          close : (a : Chars) (x : ℕ) (more : Chars) → f ≡ a ++ x ∷ more → doctype_on s (doctype_on s (Some keyword) (a ++ x ∷ [])) (more ++ c ∷ []) ≡ Some closed
-          close a x more k = sym (on_append s (Some keyword) (a ++ x ∷ []) (more ++ c ∷ [])) ∙ (ap (doctype_on s (Some keyword)) (append_assoc a (x ∷ []) (more ++ c ∷ []) ∙ (sym (append_assoc a (x ∷ more) (c ∷ [])) ∙ (ap (λ y. y ++ c ∷ []) (sym k) ∙ sym e))) ∙ behind_word s text d)
-
-          more_left : (more : Chars) → more ++ c ∷ [] ≢ []
-          more_left [] h = cc
-          more_left (z ∷ more) h = cc
+      within : (a : Chars) (x : ℕ) → verdict s i (60 ∷ 33 ∷ (d.keyword ++ a)) x ≡ in_doctype s a x
+      within a x = markup_is s i (33 ∷ (d.keyword ++ a)) x markup ∙ behind s d.keyword d.keyword_is a x

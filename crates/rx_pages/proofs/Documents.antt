@@ -1,9 +1,9 @@
 -- The tokens of a whole page lead to its end, and tell its tree.
-use Rattle.rx_grammar.proofs.Common.{◌≡◌, ◌∙◌, ℕ, suc, ◌+◌, Bool, true, false, List, [], ◌∷◌, ◌++◌, Some, refl, ap, sym, subst, arith, append-nil, not, Ok, bytes_decides, Chars, Syntax, Tag, Token, tag, character, reference, kept, section, comment, doctype, Place, outside, place_in, is_alone, hides, drops_line_feed, StartTag, Tree, end, element, after_text, has_element, Item, start_of, text_of, enders, is_ended_by, Phase, before, after}
+use Rattle.rx_grammar.proofs.Common.{◌≡◌, ◌∙◌, ℕ, suc, ◌+◌, Bool, true, false, List, [], ◌∷◌, ◌++◌, Some, refl, ap, sym, subst, arith, append-nil, not, Ok, bytes_decides, Chars, Syntax, Tag, Token, tag, character, comment, doctype, Place, outside, place_in, is_alone, hides, drops_line_feed, StartTag, Tree, end, element, after_text, has_element, Item, start_of, text_of, enders, is_ended_by, Phase, before, after}
 use Rattle.rx_grammar.specs.Pages.{Opens, Closes, Drops, shown, Holds, nothing, a_text, alone, closed, unclosed, Lead, root_name, Document, a_comment, is_between, passed, a_doctype}
 use Rattle.rx_grammar.specs.Pages as pages
 use Rattle.rx_pages.specs.Nesting.{Event, begins, finishes, Nesting, not_begun, over, step_by, told, Goes, stands, goes, with_element, told_trees}
-use Rattle.rx_pages.proofs.Nested.{Ready, Reads, Careless, not_deeper, of_token, alone_goes, close_goes, whole, runs, nothing_shown}
+use Rattle.rx_pages.proofs.Nested.{Ready, Reads, Careless, not_deeper, of_token, text_steps, alone_goes, close_goes, whole, runs, nothing_shown}
 
 -- outside the root
 abbrev pub outside_at : Phase → Nesting
@@ -19,11 +19,7 @@ between_steps syntax depth phase item _ o h = absurd (cc)
 
 -- text outside the root tells nothing
 text_passes : (syntax : Syntax) (depth : ℕ) (phase : Phase) (item : Item) (token : Token) (chars : Chars) → IsOutside phase → text_of token ≡ Some chars → step_by syntax depth (outside_at phase) item token ≡ Ok (record { next = outside_at phase; events = [] })
-text_passes syntax depth phase item (character c) chars o h = ap (λ es. Ok (record { next = outside_at phase; events = es })) (o (c ∷ []))
-text_passes syntax depth phase item (reference c) chars o h = ap (λ es. Ok (record { next = outside_at phase; events = es })) (o (c ∷ []))
-text_passes syntax depth phase item (kept k) chars o h = ap (λ es. Ok (record { next = outside_at phase; events = es })) (o k)
-text_passes syntax depth phase item (section k) chars o h = ap (λ es. Ok (record { next = outside_at phase; events = es })) (o k)
-text_passes syntax depth phase item _ chars o h = absurd (cc)
+text_passes syntax depth phase item token chars o h = text_steps syntax depth [] phase item token chars h ∙ ap (λ es. Ok (record { next = outside_at phase; events = es })) (o chars)
 
 no_nodes : (chars : Chars) (nodes : Tree) → after_text chars nodes ≡ end → nodes ≡ end
 no_nodes [] nodes e = e
@@ -79,14 +75,8 @@ module _ (syntax : Syntax) (depth : ℕ) (meant : Nesting → Type 0) (careless 
       → root.token ≡ tag t → t.name ≡ root_name → nodes ≡ element (start_of root t) inside end → (later : List Event) → Goes syntax depth meant (over []) to later → told_trees later ≡ end ∷ []
       → Reads syntax depth meant (outside_at (before stood)) (root ∷ from) later (element (start_of root t) inside end)
   root_reads root t inside stood nothing p d k n e later g told = absurd (cc)
-  root_reads root t inside stood (a_text item chars c h hs) p d k n e later g told = absurd (no_text (sym (ap text_of k) ∙ h))
-    where
-      no_text : text_of (tag t) ≡ Some chars → ⊥
-      no_text h = cc
-  root_reads root t inside stood (a_comment item c h hs) p d k n e later g told = absurd (no_comment (sym k ∙ h))
-    where
-      no_comment : tag t ≡ comment → ⊥
-      no_comment h = cc
+  root_reads root t inside stood (a_text item chars c h hs) p d k n e later g told = absurd (let w : text_of (tag t) ≡ Some chars = sym (ap text_of k) ∙ h in cc)
+  root_reads root t inside stood (a_comment item c h hs) p d k n e later g told = absurd (let w : tag t ≡ comment = sym k ∙ h in cc)
   root_reads root t inside stood (alone {left = left} {from = from} {nodes = nodes} item u o is hs) p d k n e later g told =
       let f = is_element (start_of root u) (start_of root t) end inside nodes e in
       subst (λ x. Reads syntax depth meant (outside_at (before stood)) (root ∷ from) later x) f.is (record {

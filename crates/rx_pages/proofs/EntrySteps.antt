@@ -1,8 +1,5 @@
 -- Reading a page entry by entry: what a whole character does, wherever it stands.
-use Rattle.rx_reader.proofs.Common.{◌≡◌, ◌∙◌, ℕ, ◌+◌, Bool, true, false, List, [], ◌∷◌, ◌++◌, refl, sym, ap, Result, Ok, Err, ◌&&◌, not, greater_than_sign, by_test, Syntax, Entry, values, Item, is_literal, Kind, Limits}
-use Rattle.rx_pages.specs.Nesting.{Event, Nesting, Step, content_at}
-use Rattle.rx_pages.specs.Scanner.{Verdict, goes_on, whole, ended, refused, verdict}
-use Rattle.rx_pages.specs.PageReader.{Spot, Scanning, Scanned, completed, told_first, with_item, after_token, told, is_doctype, item_of, spot_of, steps_on, no_step}
+use Rattle.rx_pages.proofs.Words.{◌≡◌, ◌∙◌, ℕ, ◌+◌, Bool, true, false, List, [], ◌∷◌, ◌++◌, refl, sym, ap, Result, Ok, Err, ◌&&◌, not, greater_than_sign, by_test, Syntax, Entry, values, Item, is_literal, Kind, Limits, Event, Nesting, Step, content_at, Verdict, goes_on, whole, ended, refused, verdict, Spot, Scanning, Scanned, completed, told_first, with_item, after_token, told, is_doctype, item_of, spot_of, steps_on, no_step}
 
 -- the characters since the last token, the two flags, the open elements, and what was told
 pub record Stood : Type 0 where

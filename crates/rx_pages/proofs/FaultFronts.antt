@@ -1,13 +1,7 @@
 -- The bytes before the token of a fault are the front of a page.
-use Rattle.rx_reader.proofs.Common.{◌≡◌, ◌∙◌, ℕ, ◌≤◌, true, List, [], ◌∷◌, ◌++◌, None, refl, ap, sym, subst, length, arith, ◌==◌, not, take, and_parts, and_from, length-append, Entry, Syntax, values, next_of, Item, has_no_nul, Line, Phase, Begun, token_of, Before, Reached, page_too_long, not_utf8, nul, tag_too_long, known_too_long, decided, unended, Limits}
-use Rattle.rx_pages.specs.Laws.{FaultsFollowFronts}
-use Rattle.rx_pages.specs.Closings.{IsFront}
-use Rattle.rx_pages.proofs.Foreparts.{Forepart, forepart}
+use Rattle.rx_pages.proofs.Words.{◌≡◌, ◌∙◌, ℕ, ◌≤◌, List, [], ◌∷◌, ◌++◌, None, refl, ap, sym, subst, length, arith, ◌==◌, not, take, length-append, Entry, Syntax, values, next_of, Item, Line, Phase, Begun, token_of, Before, Reached, page_too_long, not_utf8, nul, tag_too_long, known_too_long, decided, unended, Limits, FaultsFollowFronts, IsFront}
 use Rattle.rx_pages.proofs.Closings.{fronts_close}
-
-no_nul_front : (a b : List Entry) → has_no_nul (a ++ b) ≡ true → has_no_nul a ≡ true
-no_nul_front [] b h = refl
-no_nul_front (e ∷ a) b h = let p = and_parts (not (e.value == 0)) (has_no_nul (a ++ b)) h in and_from (not (e.value == 0)) (has_no_nul a) p.0 (no_nul_front a b p.1)
+use Rattle.rx_pages.proofs.Below.{all_parts, Forepart, forepart}
 
 module _ (syntax : Syntax) (limits : Limits) (bytes whole rest : List ℕ) (items : List Item) (line : Line) (phase : Phase) (run : List Entry) (are : bytes ≡ whole ++ rest) (r : Reached syntax limits whole items line phase run) where
   part : Forepart bytes whole r.front run
@@ -24,7 +18,7 @@ module _ (syntax : Syntax) (limits : Limits) (bytes whole rest : List ℕ) (item
         items = items;
         size = h;
         read = part.read;
-        no_nul = no_nul_front r.front run r.no_nul;
+        no_nul = (all_parts (λ (x : Entry). not (x.value == 0)) r.front run r.no_nul).0;
         spelled = r.spelled;
         fit = r.fit;
         sections = r.sections;

@@ -1,19 +1,12 @@
 -- The reader of bytes finds each fault.
-use Rattle.rx_reader.proofs.Common.{◌≡◌, ◌≢◌, ◌∙◌, ⊎_elim, ℕ, ◌+◌, ◌-◌, ◌<◌, ◌≤◌, true, false, List, [], ◌∷◌, ◌++◌, refl, sym, ap, subst, length, append_assoc, append-nil, Ok, Err, eqb-true, arith, nat_le, ◌&&◌, ◌==◌, if◌then◌else◌, Chars, by_test, length-append, Syntax, More, Char, Bad, answer_of, IsCharacter, BeginsCharacter, BeginNone, Entry, values, Item, Line, inside_of, Phase, after, is_known_tag, token_of, IsShort, IsPending, Reached, IsPart, answer_is, Content, Kind, Limits}
+use Rattle.rx_pages.proofs.Words.{◌≡◌, ◌≢◌, ◌∙◌, ⊎_elim, ℕ, ◌+◌, ◌-◌, ◌<◌, ◌≤◌, true, false, List, [], ◌∷◌, ◌++◌, refl, sym, ap, subst, length, append-nil, Ok, Err, eqb-true, arith, nat_le, ◌&&◌, ◌==◌, if◌then◌else◌, Chars, Syntax, More, Char, Bad, answer_of, IsCharacter, BeginsCharacter, BeginNone, Entry, values, Item, Line, inside_of, Phase, after, is_known_tag, token_of, IsShort, IsPending, Reached, IsPart, answer_is, Content, Kind, Limits, IsAt, GoesOn, Scanning, first_of, spot_of, is_too_long, token_at, Progress, page_on, page_read, nothing_read, end_of, read_byte, read_answer, read_char, holding, fault_in, is_over, is_none_left, false_from_ne_true}
 use Rattle.rx_grammar.specs.declared.faults.Kind.TheVariants as kind
 use Rattle.rx_grammar.specs.PageFaults as faults
-use Rattle.rx_pages.specs.Nesting.{IsAt}
-use Rattle.rx_pages.specs.Scanner.{GoesOn}
 use Rattle.rx_pages.specs.Laws.{Leads as FrontLeads}
-use Rattle.rx_pages.specs.PageReader.{Scanning, first_of, spot_of, is_too_long, token_at, Progress, page_on, page_read, nothing_read, end_of, telling, nested_items, read_byte, read_answer, read_char, holding, fault_in, is_over, is_none_left}
-use Rattle.rx_pages.proofs.Front.{fronts_lead}
-use Rattle.rx_pages.proofs.EntrySteps.{Stood}
-use Rattle.rx_pages.proofs.ByteSteps.{not_le, is_le, progress_at, reading_at, scan_at, held_on}
 use Rattle.rx_pages.proofs.CharWalk.{is_known}
-use Rattle.rx_pages.proofs.TokenWalk.{stood}
-use Rattle.rx_pages.proofs.TokensWalk.{flags_behind}
 use Rattle.rx_pages.proofs.FrontRead.{FrontIsRead, front_is_read}
 use Rattle.rx_pages.proofs.FaultWalk.{fault_stays}
+use Rattle.rx_pages.proofs.Below.{fronts_lead, Stood, not_le, is_le, progress_at, scan_at, part_on, first_known, token_first, stood, flags_behind}
 
 abbrev pub PendingGoes : Type 0
 PendingGoes = (syntax : Syntax) (inside : Content) (run : Chars) → IsPending syntax inside run → GoesOn syntax inside [] run
@@ -25,18 +18,14 @@ module _ (pending_goes : PendingGoes) (syntax : Syntax) (limits : Limits) where
     abbrev pub lead : FrontLeads syntax limits.depth items line phase
     lead = fronts_lead syntax limits.depth items line phase reached.stands
 
-    token_first : (a : ℕ) → is_known_tag syntax (inside_of syntax line).content (values run) ≡ true → token_of whole run ≡ first_of run a
-    token_first a k = by run k
-      where
-        by : (es : List Entry) → is_known_tag syntax (inside_of syntax line).content (values es) ≡ true → token_of whole es ≡ first_of es a
-        by [] h = absurd (cc)
-        by (e ∷ es) h = refl
+    token_known : (a : ℕ) → is_known_tag syntax (inside_of syntax line).content (values run) ≡ true → token_of whole run ≡ first_of run a
+    token_known a k = token_first whole run ∙ first_known syntax (inside_of syntax line).content run (length whole) a k
 
-    pub stands_there : FrontIsRead syntax limits whole (IsAt line phase) items lead.events run
+    pub stands_there : FrontIsRead syntax limits whole (IsAt line phase) items lead.events run reached.read.characters
     stands_there =
         front_is_read syntax limits whole (IsAt line phase) reached.front run items lead.events reached.read reached.no_nul reached.spelled reached.fit reached.sections lead.going size
         (λ m p. subst (λ (l : Line). GoesOn syntax (inside_of syntax l).content [] (values run)) (sym p.line_is) (pending_goes syntax (inside_of syntax line).content (values run) pending))
-        (λ m p k. (let w = subst (λ (l : Line). is_known_tag syntax (inside_of syntax l).content (values run) ≡ true) p.line_is k in let s = short w in let t = token_first 0 w in omega arith))
+        (λ m p k. (let w = subst (λ (l : Line). is_known_tag syntax (inside_of syntax l).content (values run) ≡ true) p.line_is k in let s = short w in let t = token_known 0 w in omega arith))
 
     abbrev pub state : Stood
     state = stood stands_there.place lead.events (flags_behind items false false).0 (flags_behind items false false).1 run
@@ -45,37 +34,13 @@ module _ (pending_goes : PendingGoes) (syntax : Syntax) (limits : Limits) where
     known_there k = subst (λ (l : Line). is_known_tag syntax (inside_of syntax l).content (values run) ≡ true) stands_there.is_meant.line_is k
 
     -- and then within a character
-    begun_part : (held more : List ℕ) (b : ℕ) (part : List ℕ) → held ++ b ∷ more ≡ part → BeginsCharacter part → answer_of (held ++ b ∷ []) ≡ More
-    begun_part held more b part e w =
-        sym (answer_is (held ++ b ∷ []) More (record { more = more ++ w.more; value = w.value; longer = longer more w.more w.longer; character = subst (λ x. IsCharacter x w.value) (ap (λ x. x ++ w.more) (sym e) ∙ (append_assoc held (b ∷ more) w.more ∙ sym (append_assoc held (b ∷ []) (more ++ w.more)))) w.character }))
-      where
-        longer : (more rest : List ℕ) → rest ≢ [] → more ++ rest ≢ []
-        longer [] rest n h = n h
-        longer (x ∷ more) rest n h = absurd (cc)
-
-    part_on : (held bytes rest part : List ℕ) → held ++ bytes ≡ part → BeginsCharacter part → length whole + length part ≤ limits.page → (is_known syntax limits state ≡ true → length whole + length part ≤ first_of run (length whole) + limits.tag)
-        → page_on syntax limits (Ok (progress_at (length whole + length held) held stands_there.started stands_there.after_return state)) (bytes ++ rest) ≡ page_on syntax limits (Ok (progress_at (length whole + length part) part stands_there.started stands_there.after_return state)) rest
-    part_on held [] rest part e w p k = ap (λ h. page_on syntax limits (Ok (progress_at (length whole + length h) h stands_there.started stands_there.after_return state)) rest) (sym (append-nil held) ∙ e)
-    part_on held (b ∷ bytes) rest part e w p k =
-        let sizes = sym (length-append held (b ∷ bytes)) ∙ ap length e in
-        let grown = length-append held (b ∷ []) in
-        let at : length whole + length held + 1 ≡ length whole + length (held ++ b ∷ []) = omega arith in
-        ap (λ x. page_on syntax limits x (bytes ++ rest)) (
-        held_on syntax limits state stands_there.started stands_there.after_return (length whole + length held) held b (begun_part held bytes b part e w) (omega arith)
-        (λ v. (let m = k v in let same : length whole + length held - length held ≡ length whole = omega arith in subst (λ x. length whole + length held < first_of run x + limits.tag) (sym same) (omega arith))))
-        ∙ (ap (λ x. page_on syntax limits (Ok (progress_at x (held ++ b ∷ []) stands_there.started stands_there.after_return state)) (bytes ++ rest)) at
-        ∙ part_on (held ++ b ∷ []) bytes rest part (append_assoc held (b ∷ []) bytes ∙ e) w p k)
-
     pub at_part : (part rest : List ℕ) → IsPart part → length whole + length part ≤ limits.page → IsShort syntax limits line run (token_of whole run) (length whole + length part)
         → page_on syntax limits (Ok nothing_read) (whole ++ (part ++ rest)) ≡ page_on syntax limits (Ok (progress_at (length whole + length part) part stands_there.started stands_there.after_return state)) rest
     at_part part rest is p k =
         stands_there.is_read (part ++ rest)
         ∙ (let z : length whole ≡ length whole + 0 = omega arith in
         ap (λ x. page_on syntax limits (Ok (progress_at x [] stands_there.started stands_there.after_return state)) (part ++ rest)) z
-        ∙ ⊎_elim (λ n. by_none n) (λ w. part_on [] part rest part refl w p (λ v. (let s = k (known_there v) in let t = token_first (length whole) (known_there v) in omega arith))) is)
-      where
-        by_none : part ≡ [] → page_on syntax limits (Ok (progress_at (length whole + 0) [] stands_there.started stands_there.after_return state)) (part ++ rest) ≡ page_on syntax limits (Ok (progress_at (length whole + length part) part stands_there.started stands_there.after_return state)) rest
-        by_none n = subst (λ x. page_on syntax limits (Ok (progress_at (length whole + 0) [] stands_there.started stands_there.after_return state)) (x ++ rest) ≡ page_on syntax limits (Ok (progress_at (length whole + length x) x stands_there.started stands_there.after_return state)) rest) (sym n) refl
+        ∙ ⊎_elim (λ n. subst (λ x. page_on syntax limits (Ok (progress_at (length whole + 0) [] stands_there.started stands_there.after_return state)) (x ++ rest) ≡ page_on syntax limits (Ok (progress_at (length whole + length x) x stands_there.started stands_there.after_return state)) rest) (sym n) refl) (λ w. part_on syntax limits state stands_there.started stands_there.after_return (length whole) [] part rest part refl w p (λ v. (let s = k (known_there v) in let t = token_known (length whole) (known_there v) in omega arith))) is)
 
     -- the byte behind it decides a fault
     module _ (part : List ℕ) (byte : ℕ) (rest : List ℕ) where
@@ -83,26 +48,17 @@ module _ (pending_goes : PendingGoes) (syntax : Syntax) (limits : Limits) where
       scan_there = scan_at (length whole + length part) part stands_there.started stands_there.after_return state
 
       token_there : token_at scan_there ≡ token_of whole run
-      token_there = (let same : length whole + length part - length part ≡ length whole = omega arith in ap (λ x. first_of run x) same) ∙ by run
-        where
-          by : (es : List Entry) → first_of es (length whole) ≡ token_of whole es
-          by [] = refl
-          by (e ∷ es) = refl
+      token_there = (let same : length whole + length part - length part ≡ length whole = omega arith in ap (λ x. first_of run x) same) ∙ sym (token_first whole run)
 
       pub byte_fault : IsPart part → length whole + length part ≤ limits.page → IsShort syntax limits line run (token_of whole run) (length whole + length part) → (found : Kind) → read_byte syntax limits (spot_of syntax stands_there.place) byte scan_there ≡ Err found
           → page_read syntax limits (whole ++ (part ++ byte ∷ rest)) ≡ Err (record { kind = found; token = token_of whole run; at = length whole + length part })
-      byte_fault is p k found h =
-          at_part part (byte ∷ rest) is p k
-          ∙ (ap (λ x. page_on syntax limits (telling lead.events (nested_items syntax limits.depth (reading_at (length whole + length part) part stands_there.started stands_there.after_return state) x)) rest) h
-          ∙ (fault_stays syntax limits (fault_in scan_there found) rest ∙ ap (λ t. Err (record { kind = found; token = t; at = length whole + length part })) token_there))
+      byte_fault is p k found h = at_part part (byte ∷ rest) is p k ∙ rw (h, fault_stays syntax limits (fault_in scan_there found) rest, token_there) refl
 
       pub page_too_long : limits.page ≤ length whole + length part → read_byte syntax limits (spot_of syntax stands_there.place) byte scan_there ≡ Err kind.PageTooLong
       page_too_long h = ap (λ b. if b then Err kind.PageTooLong else read_answer syntax limits (spot_of syntax stands_there.place) (part ++ byte ∷ []) scan_there (answer_of (part ++ byte ∷ []))) (is_le limits.page (length whole + length part) h)
 
       by_answer : (step : _) → length whole + length part < limits.page → answer_of (part ++ byte ∷ []) ≡ step → read_byte syntax limits (spot_of syntax stands_there.place) byte scan_there ≡ read_answer syntax limits (spot_of syntax stands_there.place) (part ++ byte ∷ []) scan_there step
-      by_answer step p h =
-          ap (λ b. if b then Err kind.PageTooLong else read_answer syntax limits (spot_of syntax stands_there.place) (part ++ byte ∷ []) scan_there (answer_of (part ++ byte ∷ []))) (not_le limits.page (length whole + length part) p)
-          ∙ ap (λ x. read_answer syntax limits (spot_of syntax stands_there.place) (part ++ byte ∷ []) scan_there x) h
+      by_answer step p h = rw (not_le limits.page (length whole + length part) p, h) refl
 
       pub not_utf8 : length whole + length part < limits.page → BeginNone (part ++ byte ∷ []) → read_byte syntax limits (spot_of syntax stands_there.place) byte scan_there ≡ Err kind.NotUtf8
       not_utf8 p h = by_answer Bad p (sym (answer_is (part ++ byte ∷ []) Bad h))
@@ -123,11 +79,8 @@ module _ (pending_goes : PendingGoes) (syntax : Syntax) (limits : Limits) where
               ∙ ap (λ b. if b then Err kind.TagTooLong else Ok (record { next = holding (part ++ byte ∷ []) scan_there; items = [] })) long
           by (faults.is_one value w n) e =
               by_answer (Char value) p (sym (answer_is (part ++ byte ∷ []) (Char value) (subst (λ x. IsCharacter x value) e w)))
-              ∙ (ap (λ b. if b then Err kind.Nul else if is_too_long syntax limits (spot_of syntax stands_there.place) run (token_at scan_there) (length whole + length part) then Err kind.TagTooLong else read_char syntax limits (spot_of syntax stands_there.place) value scan_there) (nonzero value n)
+              ∙ (ap (λ b. if b then Err kind.Nul else if is_too_long syntax limits (spot_of syntax stands_there.place) run (token_at scan_there) (length whole + length part) then Err kind.TagTooLong else read_char syntax limits (spot_of syntax stands_there.place) value scan_there) (false_from_ne_true (value == 0) (λ e. n (eqb-true value 0 e)))
               ∙ ap (λ b. if b then Err kind.TagTooLong else read_char syntax limits (spot_of syntax stands_there.place) value scan_there) long)
-            where
-              nonzero : (value : ℕ) → value ≢ 0 → (value == 0) ≡ false
-              nonzero value n = by_test (value == 0) (λ e. absurd (n (eqb-true value 0 e))) (λ e. e)
 
     -- the page ends too early
     pub page_ends : (part : List ℕ) → IsPart part → length whole + length part ≤ limits.page → IsShort syntax limits line run (token_of whole run) (length whole + length part) → (run ≡ [] → part ≡ [] → phase ≢ after)

@@ -1,22 +1,13 @@
 -- The reader of bytes finds each fault of the grammar.
-use Rattle.rx_reader.proofs.Common.{◌≡◌, ◌≢◌, ◌∙◌, ⊎_elim, inl, inr, ℕ, ◌+◌, ◌<◌, ◌≤◌, Bool, true, false, List, [], ◌∷◌, ◌++◌, refl, sym, ap, subst, length, Some, Result, Ok, Err, arith, nat_le, ◌&&◌, not, if◌then◌else◌, greater_than_sign, right_bracket, Chars, and-false, length-append, Syntax, Entry, Tag, Token, tag, character, doctype, values, Item, is_literal, is_strict_literal, Line, inside_of, Phase, before, is_known_tag, token_of, IsPending, IsShort, Unfinished, Reached, first_row, tag_rows, Faulty, FaultAt, Before, ends_in_brackets, Content, Fault, Kind, Limits}
+use Rattle.rx_pages.proofs.Words.{◌≡◌, ◌≢◌, ◌∙◌, ⊎_elim, inl, inr, ℕ, ◌+◌, ◌<◌, ◌≤◌, Bool, true, false, List, [], ◌∷◌, ◌++◌, refl, sym, ap, subst, length, Some, Result, Err, arith, nat_le, ◌&&◌, not, greater_than_sign, right_bracket, Chars, and-false, length-append, Syntax, Entry, Tag, Token, tag, character, doctype, values, Item, is_literal, is_strict_literal, Line, inside_of, Phase, before, is_known_tag, token_of, IsPending, IsShort, Unfinished, Reached, first_row, tag_rows, Faulty, FaultAt, Before, ends_in_brackets, Content, Fault, Kind, Limits, Event, Nesting, content_at, IsAt, step_by, unless_refused, tag_passes, GoesOn, Verdict, whole, refused, verdict, first_of, spot_of, may_lead, item_of, is_doctype, read_byte, page_read, end_of, Decides, by_character, by_token, by_section_end}
 use Rattle.rx_grammar.specs.declared.contents.Content.TheVariants as content
 use Rattle.rx_grammar.specs.declared.faults.Kind.TheVariants as kind
 use Rattle.rx_grammar.specs.PageFaults as faults
-use Rattle.rx_pages.specs.Nesting.{Event, Nesting, content_at, IsAt, step_by, unless_refused, tag_passes}
-use Rattle.rx_pages.specs.Scanner.{GoesOn, Verdict, whole, refused, verdict}
-use Rattle.rx_pages.specs.PageReader.{Scanned, first_of, spot_of, may_lead, item_of, is_doctype, entering, told as told_by, with_events, read_byte, page_read, end_of}
-use Rattle.rx_pages.proofs.EntrySteps.{Stood, scanning_of, stood_by, nested_by, entry_step}
-use Rattle.rx_pages.proofs.ByteSteps.{not_long, is_le}
-use Rattle.rx_pages.proofs.TokenWalk.{stood}
-use Rattle.rx_pages.proofs.TokensWalk.{flags_behind, two_lasts}
+use Rattle.rx_pages.specs.PageReader.{told as told_by}
 use Rattle.rx_pages.proofs.HitsRead.{decided_is_read}
-use Rattle.rx_pages.proofs.KnownTags.{known_more}
-use Rattle.rx_pages.proofs.Tokens.{values_append}
 use Rattle.rx_pages.proofs.FaultRead.{stands_there, scan_there, byte_fault, page_too_long, not_utf8, nul, tag_too_long, page_ends}
-use Rattle.rx_pages.proofs.LastToken.{token_of_item}
-use Rattle.rx_pages.specs.Faults.{Decides, by_character, by_token, by_section_end}
 use Rattle.rx_pages.proofs.Judged.{goes, refused_row, not_first, faults_are_decided}
+use Rattle.rx_pages.proofs.Below.{Stood, scanning_of, nested_by, entry_step, not_long, is_le, stood, flags_behind, two_lasts, known_snoc, first_known, values_append, token_of_item}
 
 -- what begins a token goes on
 pub pending_goes : (s : Syntax) (i : Content) (run : Chars) → IsPending s i run → GoesOn s i [] run
@@ -56,36 +47,19 @@ module _ (syntax : Syntax) (limits : Limits) (m : Nesting) (events : List Event)
   abbrev item : Token → Item
   item token = item_of inside token (run ++ c ∷ [])
 
-  abbrev done : Token → Scanned
-  done token = record { next = entering false [] (last && is_literal right_bracket (item token)) (is_literal right_bracket (item token)) (scanning_of st); items = item token ∷ [] }
-
-  by_refusal : (found : Kind) → verdict syntax inside (values run) c.value ≡ refused found → entry_step syntax limits st c ≡ Err found
-  by_refusal found h = ap reads h
-
   by_bracket : inside ≡ content.Strict → two ≡ true → verdict syntax inside (values run) c.value ≡ whole (character 62) → entry_step syntax limits st c ≡ Err kind.StrictText
-  by_bracket i t h =
-      ap reads h
-      ∙ (ap (λ b. nested_by syntax limits.depth st (if b && is_literal greater_than_sign (item (character 62)) then Err kind.StrictText else if is_doctype (item (character 62)).token && not (may_lead m.phase) then Err kind.BadDoctype else Ok (done (character 62)))) t
-      ∙ ap (λ b. nested_by syntax limits.depth st (if b then Err kind.StrictText else if is_doctype (item (character 62)).token && not (may_lead m.phase) then Err kind.BadDoctype else Ok (done (character 62))))
-      (ap (λ token. is_strict_literal 62 (item (character 62)).content token) (token_of_item inside (character 62) (run ++ c ∷ [])) ∙ ap (λ x. is_strict_literal 62 x (character 62)) (item_content inside (character 62) run c ∙ i)))
+  by_bracket i t h = rw (h, t, token_of_item inside (character 62) (run ++ c ∷ []), item_content inside (character 62) run c, i) refl
 
   no_bracket : (token : Token) → ((d : ℕ) → token ≢ character d) → (two && is_literal greater_than_sign (item token)) ≡ false
   no_bracket token n = ap (λ b. two && b) (ap (λ t. is_strict_literal 62 (item token).content t) (token_of_item inside token (run ++ c ∷ [])) ∙ no_literal 62 (item token).content token n) ∙ and-false two
 
   by_doctype : m.phase ≢ before false → verdict syntax inside (values run) c.value ≡ whole doctype → entry_step syntax limits st c ≡ Err kind.BadDoctype
-  by_doctype n h =
-      ap reads h
-      ∙ (ap (λ b. nested_by syntax limits.depth st (if b then Err kind.StrictText else if is_doctype (item doctype).token && not (may_lead m.phase) then Err kind.BadDoctype else Ok (done doctype))) (no_bracket doctype (λ d e. cc))
-      ∙ (ap (λ token. nested_by syntax limits.depth st (if is_doctype token && not (may_lead m.phase) then Err kind.BadDoctype else Ok (done doctype))) (token_of_item inside doctype (run ++ c ∷ []))
-      ∙ ap (λ b. nested_by syntax limits.depth st (if not b then Err kind.BadDoctype else Ok (done doctype))) (no_lead m.phase n)))
+  by_doctype n h = rw (h, no_bracket doctype (λ d e. cc), token_of_item inside doctype (run ++ c ∷ []), no_lead m.phase n) refl
 
   by_tag : (t : Tag) (found : Kind) → first_row (tag_rows syntax limits.depth m.line m.phase t) ≡ Some found → verdict syntax inside (values run) c.value ≡ whole (tag t) → entry_step syntax limits st c ≡ Err found
   by_tag t found r h =
-      ap reads h
-      ∙ (ap (λ b. nested_by syntax limits.depth st (if b then Err kind.StrictText else if is_doctype (item (tag t)).token && not (may_lead m.phase) then Err kind.BadDoctype else Ok (done (tag t)))) (no_bracket (tag t) (λ d e. cc))
-      ∙ (ap (λ token. nested_by syntax limits.depth st (if is_doctype token && not (may_lead m.phase) then Err kind.BadDoctype else Ok (done (tag t)))) (token_of_item inside (tag t) (run ++ c ∷ []))
-      ∙ (ap (λ token. stood_by (done (tag t)).next events (with_events [] (step_by syntax limits.depth m (item (tag t)) token))) (token_of_item inside (tag t) (run ++ c ∷ []))
-      ∙ ap (λ row. stood_by (done (tag t)).next events (with_events [] (unless_refused row (tag_passes syntax m.line (item (tag t)) t)))) r)))
+      let is = token_of_item inside (tag t) (run ++ c ∷ []) in
+      rw (h, no_bracket (tag t) (λ d e. cc), ap (λ token. is_doctype token && not (may_lead m.phase)) is, ap (λ token. step_by syntax limits.depth m (item (tag t)) token) is ∙ ap (λ row. unless_refused row (tag_passes syntax m.line (item (tag t)) t)) r) refl
 
 -- a fault of a token is the reader's
 module _ (syntax : Syntax) (limits : Limits) (items : List Item) (line : Line) (phase : Phase) (run : List Entry) (c : Entry) (m : Nesting) (at : IsAt line phase m) (events : List Event) where
@@ -117,21 +91,17 @@ module _ (syntax : Syntax) (limits : Limits) (items : List Item) (line : Line) (
   faulty_step found chars f e = by found chars ((faults_are_decided syntax limits.depth items line phase found chars).0 f) e
     where
       by : (found : Kind) (chars : Chars) → Decides syntax limits.depth items line phase place found chars → chars ≡ values run ++ c.value ∷ [] → entry_step syntax limits there c ≡ Err found
-      by found _ (by_character front d g r) e = by_refusal syntax limits m events (flags_behind items false false).0 (flags_behind items false false).1 run c found (there_is front d (refused found) e r)
+      by found _ (by_character front d g r) e = ap (reads syntax limits m events (flags_behind items false false).0 (flags_behind items false false).1 run c) (there_is front d (refused found) e r)
       by found _ (by_token front d n item g v same h) e = by_whole item n item.token found same (there_is front d (whole item.token) e v) h
       by _ _ (by_section_end i b) e =
           by_bracket syntax limits m events (flags_behind items false false).0 (flags_behind items false false).1 run c (same_place ∙ i) (brackets_before items false false b) (there_is [] 62 (whole (character 62)) e (ap (λ x. verdict syntax x [] 62) i))
 
 -- the token of a run with one more character
-token_first : (bytes_before : List ℕ) (run : List Entry) (c : Entry) → token_of bytes_before (run ++ c ∷ []) ≡ first_of run c.first
-token_first bytes_before [] c = refl
-token_first bytes_before (e ∷ run) c = refl
+pub token_snoc : (bytes_before : List ℕ) (run : List Entry) (c : Entry) → token_of bytes_before (run ++ c ∷ []) ≡ first_of run c.first
+token_snoc bytes_before [] c = refl
+token_snoc bytes_before (e ∷ run) c = refl
 
 module _ (syntax : Syntax) (limits : Limits) where
-  first_there : (i : Content) (run : List Entry) (c : Entry) → is_known_tag syntax i (values run) ≡ true → first_of run 0 ≡ first_of run c.first
-  first_there i [] c k = absurd (cc)
-  first_there i (e ∷ run) c k = refl
-
   -- a fault at a byte that isn't read as a character
   module _ (bytes : List ℕ) (token at : ℕ) (b : Before syntax limits bytes token at) (below : at ≤ limits.page) (short : IsShort syntax limits b.line b.run token at) where
     pub at_end : length b.whole ≤ limits.page
@@ -140,30 +110,24 @@ module _ (syntax : Syntax) (limits : Limits) where
     pub short_whole : IsShort syntax limits b.line b.run (token_of b.whole b.run) (length b.whole)
     short_whole k = let s = short k in let a = b.at_is in let t = b.token_is in omega arith
 
-    short_part : IsShort syntax limits b.line b.run (token_of b.whole b.run) (length b.whole + length b.part)
-    short_part k = let s = short k in let a = b.at_is in let t = b.token_is in omega arith
-
     pub byte_is_read : (found : Kind) → read_byte syntax limits (spot_of syntax (stands_there pending_goes syntax limits b.whole b.items b.line b.phase b.run b.reached b.pending at_end short_whole).place) b.byte (scan_there pending_goes syntax limits b.whole b.items b.line b.phase b.run b.reached b.pending at_end short_whole b.part b.byte b.rest) ≡ Err found
         → end_of (page_read syntax limits bytes) ≡ Err (record { kind = found; token = token; at = at })
     byte_is_read found h =
         ap (λ x. end_of (page_read syntax limits x)) b.are
-        ∙ (ap end_of (byte_fault pending_goes syntax limits b.whole b.items b.line b.phase b.run b.reached b.pending at_end short_whole b.part b.byte b.rest b.is_part (let a = b.at_is in omega arith) short_part found h)
+        ∙ (ap end_of (byte_fault pending_goes syntax limits b.whole b.items b.line b.phase b.run b.reached b.pending at_end short_whole b.part b.byte b.rest b.is_part (let a = b.at_is in omega arith) (λ k. (let s = short k in let a = b.at_is in let t = b.token_is in omega arith)) found h)
         ∙ (λ i. Err (record { kind = found; token = sym b.token_is i; at = sym b.at_is i })))
-
-  known_with : (i : Content) (run : List Entry) (c : Entry) → is_known_tag syntax i (values run) ≡ true → is_known_tag syntax i (values (run ++ c ∷ [])) ≡ true
-  known_with i run c k = subst (λ x. is_known_tag syntax i x ≡ true) (sym (values_append run (c ∷ []))) (known_more syntax i (values run) (c.value ∷ []) k)
 
   -- a fault that a character decides
   pub character_is_read : (bytes bytes_before rest : List ℕ) (items : List Item) (line : Line) (phase : Phase) (run : List Entry) (c : Entry) (found : Kind) → bytes ≡ bytes_before ++ rest → Reached syntax limits bytes_before items line phase (run ++ c ∷ []) → IsPending syntax (inside_of syntax line).content (values run)
       → Faulty syntax limits.depth items line phase (inside_of syntax line).content found (values (run ++ c ∷ [])) → IsShort syntax limits line (run ++ c ∷ []) (token_of bytes_before (run ++ c ∷ [])) (c.last + 1) → c.last < limits.page
       → end_of (page_read syntax limits bytes) ≡ Err (record { kind = found; token = token_of bytes_before (run ++ c ∷ []); at = c.last })
   character_is_read bytes bytes_before rest items line phase run c found are reached pending faulty short below =
-      let token_is = token_first bytes_before run c in
+      let token_is = token_snoc bytes_before run c in
       let f : Fault = record { kind = found; token = token_of bytes_before (run ++ c ∷ []); at = c.last } in
       let bound : is_known_tag syntax (inside_of syntax line).content (values (run ++ c ∷ [])) ≡ true → c.last < first_of run c.first + limits.tag = λ k. (let s = short k in omega arith) in
       ap (λ x. end_of (page_read syntax limits x)) are
       ∙ ap end_of (decided_is_read syntax limits bytes_before items line phase run c f reached (pending_goes syntax (inside_of syntax line).content (values run) pending) below
-      (λ k. (let s = bound (known_with (inside_of syntax line).content run c k) in let t = first_there (inside_of syntax line).content run c k in omega arith))
+      (λ k. (let s = bound (known_snoc syntax (inside_of syntax line).content run c k) in let t = first_known syntax (inside_of syntax line).content run 0 c.first k in omega arith))
       (λ m at events. inr (
         not_long (is_known_tag syntax (content_at syntax m) (values (run ++ c ∷ []))) (first_of run c.first + limits.tag) c.last (λ k. bound (subst (λ (l : Line). is_known_tag syntax (inside_of syntax l).content (values (run ++ c ∷ [])) ≡ true) at.line_is k)),
         (faulty_step syntax limits items line phase run c m at events found (values (run ++ c ∷ [])) faulty (values_append run (c ∷ [])), λ i. record { kind = found; token = token_is i; at = c.last }),
@@ -178,15 +142,12 @@ module _ (syntax : Syntax) (limits : Limits) where
       let f : Fault = record { kind = kind.TagTooLong; token = first.first; at = c.last } in
       ap (λ x. end_of (page_read syntax limits x)) are
       ∙ ap end_of (decided_is_read syntax limits bytes_before items line phase (first ∷ more) c f reached (pending_goes syntax (inside_of syntax line).content (values (first ∷ more)) (inr pending)) below
-      (λ k. absurd (true_false (sym k ∙ unknown)))
+      (λ k. absurd (let w : true ≡ false = sym k ∙ unknown in cc))
       (λ m at events. inl (
         ap (λ b. b && nat_le (first.first + limits.tag) c.last) (subst (λ (l : Line). is_known_tag syntax (inside_of syntax l).content (values ((first ∷ more) ++ c ∷ [])) ≡ true) (sym at.line_is) known) ∙ is_le (first.first + limits.tag) c.last long,
         refl,
       ))
       rest)
-    where
-      true_false : true ≡ false → ⊥
-      true_false e = cc
 
 pub fault_is_read : (syntax : Syntax) (limits : Limits) (bytes : List ℕ) (fault : Fault) → FaultAt syntax limits bytes fault → end_of (page_read syntax limits bytes) ≡ Err fault
 fault_is_read syntax limits bytes _ (faults.page_too_long token at b p s) =

@@ -1,8 +1,7 @@
 -- The tokens at the front of a page lead to its open elements.
-use Rattle.rx_grammar.proofs.Common.{◌≡◌, ℕ, suc, ◌+◌, false, List, [], ◌∷◌, refl, subst, arith, append-nil, length, Syntax, Tree, end, element, text, has_element, Item, start_of, Line, before, within, after, Open, a_root, a_child, not_begun, still_open, ended}
+use Rattle.rx_pages.proofs.Words.{◌≡◌, ℕ, suc, ◌+◌, false, List, [], ◌∷◌, refl, subst, arith, append-nil, length, Syntax, Tree, end, element, text, has_element, Item, start_of, Line, before, within, after, Open, a_root, a_child, not_begun, still_open, Event, Nesting, Goes, stands, IsAt, FrontsLead}
+use Rattle.rx_grammar.proofs.Common.{ended}
 use Rattle.rx_pages.specs.Nesting as nesting
-use Rattle.rx_pages.specs.Nesting.{Event, Nesting, Goes, stands, IsAt}
-use Rattle.rx_pages.specs.Laws.{FrontsLead}
 use Rattle.rx_pages.proofs.Steps.{in_line}
 use Rattle.rx_pages.proofs.Nested.{Careless, not_deeper, open_goes, runs, ready_within}
 use Rattle.rx_pages.proofs.Documents.{lead_reads, root_ready, document_tells}

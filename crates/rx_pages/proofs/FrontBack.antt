@@ -1,17 +1,12 @@
 -- Spelled tokens that lead to open elements stand at the front of a page.
-use Rattle.rx_reader.proofs.Common.{◌≡◌, ◌∙◌, ℕ, true, false, List, [], ◌∷◌, ◌++◌, Option, Some, None, refl, ap, sym, subst, append-nil, append_assoc, Chars, not_both_ways, Entry, Syntax, Token, Spells, has_references, keeps_runs, has_sections, has_less_than, raw_name, a_less_than, a_raw_run, a_reference, a_kept_run, a_section, Item, Spelled, no_more, one, Line, Phase, Stands, not_begun, Content}
+use Rattle.rx_pages.proofs.Words.{◌≡◌, ◌∙◌, ℕ, true, false, List, [], ◌∷◌, ◌++◌, Option, Some, None, refl, ap, sym, subst, append-nil, append_assoc, Chars, not_both_ways, Entry, Syntax, Token, Spells, has_references, keeps_runs, has_sections, has_less_than, raw_name, a_less_than, a_raw_run, a_reference, a_kept_run, a_section, Item, Spelled, no_more, one, Line, Phase, Stands, not_begun, Content, Event, Nesting, Goes, stands, goes, IsAt, FrontsStand}
 use Rattle.rx_grammar.specs.declared.contents.Content.TheVariants as content
 use Rattle.rx_grammar.specs.Pages as pages
-use Rattle.rx_pages.specs.Nesting.{Event, Nesting, Goes, stands, goes, IsAt}
-use Rattle.rx_pages.specs.Laws.{FrontsStand}
 use Rattle.rx_pages.proofs.Standing.{may_stand, one_more}
 
 pub spelled_outside : (syntax : Syntax) (inside : Content) (text : Chars) (next : Option ℕ) (token : Token) → Spells syntax inside text next token → inside ≡ content.Outside → may_stand token ≡ true
 spelled_outside s i _ next _ (a_less_than e h b) o = absurd (not_both_ways _ h (ap has_less_than o))
-spelled_outside s i _ next _ (a_raw_run text name r h b) o = absurd (none (sym (ap raw_name o) ∙ r))
-  where
-    none : None ≡ Some name → ⊥
-    none e = cc
+spelled_outside s i _ next _ (a_raw_run text name r h b) o = absurd (let w : None ≡ Some name = sym (ap raw_name o) ∙ r in cc)
 spelled_outside s i _ next _ (a_reference body c r b m) o = absurd (not_both_ways _ r (ap has_references o))
 spelled_outside s i _ next _ (a_kept_run run k h b) o = absurd (not_both_ways _ k (ap keeps_runs o))
 spelled_outside s i _ next _ (a_section text h f) o = absurd (not_both_ways _ h (ap has_sections o))

@@ -1,27 +1,17 @@
 -- One more character behind the front of a page: the front goes on with it, or it decides a fault.
-use Rattle.rx_reader.proofs.Common.{◌≡◌, ◌≢◌, ◌∙◌, ◌⊎◌, inl, inr, ℕ, ◌+◌, Bool, true, false, List, [], ◌∷◌, ◌++◌, refl, sym, ap, subst, eqb-true, append_assoc, append-nil, Option, Some, None, Result, Ok, Err, arith, ◌&&◌, ◌||◌, ◌==◌, not, if◌then◌else◌, all_scalars, encodes, and_parts, and_from, ampersand, less_than_sign, greater_than_sign, Chars, by_test, and-false, Syntax, Entry, entered, placed, without_mark, Token, tag, character, kept, Spells, has_references, is_text, values, next_of, Item, Spelled, Fits, AllFit, is_literal, is_strict_literal, no_section_end, has_no_nul, Line, inside_of, Phase, Stands, token_of, IsPending, IsShort, Reached, Faulty, ends_in_brackets, Content, Kind, Limits}
+use Rattle.rx_pages.proofs.Words.{◌≡◌, ◌≢◌, ◌∙◌, ◌⊎◌, inl, inr, ℕ, ◌+◌, Bool, true, false, List, [], ◌∷◌, ◌++◌, refl, sym, ap, subst, eqb-true, append_assoc, append-nil, Option, Some, None, Result, Ok, Err, arith, ◌&&◌, ◌||◌, ◌==◌, not, if◌then◌else◌, all_scalars, encodes, and_parts, and_from, ampersand, less_than_sign, greater_than_sign, Chars, by_test, and-false, Syntax, Entry, entered, placed, without_mark, Token, tag, character, kept, Spells, has_references, is_text, values, next_of, Item, Spelled, Fits, AllFit, is_literal, is_strict_literal, no_section_end, has_no_nul, Line, inside_of, Phase, Stands, token_of, IsPending, IsShort, Reached, Faulty, ends_in_brackets, Content, Kind, Limits, list_all-append, Nesting, Step, text_step, step_by, nest_step, GoesOn, Verdict, goes_on, whole, ended, refused, verdict, at_first, at_last, at_next, by_token, by_section_end, item_of}
 use Rattle.rx_grammar.specs.declared.contents.Content.TheVariants as content
 use Rattle.rx_grammar.specs.declared.faults.Kind.TheVariants as kind
 use Rattle.rx_grammar.specs.Spelling as spelling
-use Rattle.rx_pages.specs.Nesting.{Nesting, Step, text_step, step_by, nest_step}
-use Rattle.rx_pages.specs.Scanner.{GoesOn, Verdict, goes_on, whole, ended, refused, verdict, at_first, at_last, at_next}
-use Rattle.rx_pages.specs.Faults.{by_token, by_section_end}
-use Rattle.rx_pages.specs.PageReader.{item_of}
-use Rattle.rx_pages.proofs.Tokens.{values_append}
 use Rattle.rx_pages.proofs.Judged.{inside_occurs, faults_are_decided, unfinished_goes_on}
 use Rattle.rx_pages.proofs.PendsOn.{spells_read, faulty_read}
-use Rattle.rx_pages.proofs.Prefix.{any_next, spelled_before}
 use Rattle.rx_pages.proofs.FrontBack.{spelled_outside}
 use Rattle.rx_pages.proofs.Standing.{one_more}
 use Rattle.rx_pages.proofs.Snocs.{values_next, spelled_snoc, sections_snoc, fit_snoc}
-use Rattle.rx_pages.proofs.TokensWalk.{flags_behind}
-use Rattle.rx_pages.proofs.TokenWalk.{IsKept, is_kept}
 use Rattle.rx_pages.proofs.EndedRuns.{ended_kept}
 use Rattle.rx_pages.proofs.KnownSpelled.{spelled_known}
-use Rattle.rx_pages.proofs.FaultsRead.{no_literal, item_content}
-use Rattle.rx_pages.proofs.LastToken.{token_of_item}
-use Rattle.rx_pages.proofs.ByteFacts.{item_last}
-use Rattle.rx_pages.proofs.KnownTags.{one_unknown}
+use Rattle.rx_pages.proofs.FaultsRead.{no_literal, item_content, token_snoc}
+use Rattle.rx_pages.proofs.Below.{values_append, any_next, spelled_before, flags_behind, IsKept, is_kept, token_of_item, item_first, item_last, one_unknown}
 
 -- what may go on
 pub goes_more : (s : Syntax) (i : Content) (before a : Chars) (c : ℕ) → GoesOn s i before a → verdict s i (before ++ a) c ≡ goes_on → GoesOn s i before (a ++ c ∷ [])
@@ -33,8 +23,7 @@ pending s line [] g = inl refl
 pending s line (c ∷ run) g = inr ((unfinished_goes_on s line c run).1 g)
 
 pub no_nul_more : (a b : List Entry) → has_no_nul a ≡ true → has_no_nul b ≡ true → has_no_nul (a ++ b) ≡ true
-no_nul_more [] b h k = k
-no_nul_more (e ∷ a) b h k = let p = and_parts (not (e.value == 0)) (has_no_nul a) h in and_from (not (e.value == 0)) (has_no_nul (a ++ b)) p.0 (no_nul_more a b p.1 k)
+no_nul_more a b h k = list_all-append (λ (e : Entry). not (e.value == 0)) a b ∙ and_from (has_no_nul a) (has_no_nul b) h k
 
 -- two brackets stand before
 brackets_of : (a b : Item) (items : List Item) (two last : Bool) → (flags_behind (a ∷ b ∷ items) two last).0 ≡ true → ends_in_brackets (a ∷ b ∷ items) ≡ true
@@ -45,10 +34,6 @@ brackets : (items : List Item) → (flags_behind items false false).0 ≡ true �
 brackets [] h = absurd (cc)
 brackets (a ∷ []) h = absurd (cc)
 brackets (a ∷ b ∷ items) h = brackets_of a b items false false h
-
-item_first : (i : Content) (token : Token) (run : List Entry) (e : Entry) (bytes : List ℕ) → (item_of i token (run ++ e ∷ [])).first ≡ token_of bytes (run ++ e ∷ [])
-item_first i token [] e bytes = refl
-item_first i token (d ∷ run) e bytes = refl
 
 -- a literal `>` of text in XHTML
 record Literal (i : Content) (token : Token) : Type 0 where
@@ -192,7 +177,7 @@ module _ (syntax : Syntax) (limits : Limits) where
           fits (tag t) k =
               let s = short (spelled_known syntax inside (values (run ++ e ∷ [])) None token t (inside_occurs syntax line) (sp None) k) in
               let l = item_last inside token run e in
-              let f = item_first inside token run e (encodes more) in
+              let f = item_first inside token run e ∙ sym (token_snoc (encodes more) run e) in
               omega arith
           fits _ k = tt
 
@@ -236,14 +221,11 @@ module _ (syntax : Syntax) (limits : Limits) where
               (λ b. let p = and_parts (flags_behind items false false).0 (is_literal greater_than_sign item) b in ends p.0 (literal p.1))
               (λ b. nests b (nest_step syntax limits.depth (record { line = line; phase = phase; drops = false }) item) refl)
 
-        on_refusal : (found : Kind) → verdict syntax inside (values run) e.value ≡ refused found → Answer
-        on_refusal found v = decides found (as_values (faulty_read syntax inside (inside_occurs syntax line) (values run) e.value found h.goes v limits.depth items line phase))
-
         -- where no token ends before the entry
         pub at_entry : (v : Verdict) → verdict syntax inside (values run) e.value ≡ v → ((token : Token) → v ≢ ended token) → Answer
         at_entry goes_on v n = on_character v
         at_entry (whole token) v n = on_whole token v
-        at_entry (refused found) v n = on_refusal found v
+        at_entry (refused found) v n = decides found (as_values (faulty_read syntax inside (inside_occurs syntax line) (values run) e.value found h.goes v limits.depth items line phase))
         at_entry (ended token) v n = absurd (n token refl)
 
     -- text that ended before the entry
@@ -264,10 +246,7 @@ module _ (syntax : Syntax) (limits : Limits) where
       no_end = by (ended_kept syntax (inside_of syntax line).content (values (d ∷ run)) e.value token v)
         where
           by : IsKept token → ((flags_behind items false false).0 && is_literal greater_than_sign text_item) ≡ false
-          by (is_kept text k) = ap (λ b. (flags_behind items false false).0 && b) (no_literal greater_than_sign (inside_of syntax line).content token (λ c q. kept_no (sym k ∙ q))) ∙ and-false (flags_behind items false false).0
-            where
-              kept_no : {c : ℕ} → kept text ≡ character c → ⊥
-              kept_no h = cc
+          by (is_kept text k) = ap (λ b. (flags_behind items false false).0 && b) (no_literal greater_than_sign (inside_of syntax line).content token (λ c q. (let w : kept text ≡ character c = sym k ∙ q in cc))) ∙ and-false (flags_behind items false false).0
 
       stands_on : Stands syntax limits.depth (items ++ text_item ∷ []) line phase
       stands_on = by (ended_kept syntax (inside_of syntax line).content (values (d ∷ run)) e.value token v)

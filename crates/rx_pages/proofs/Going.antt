@@ -1,9 +1,7 @@
 -- A page goes on from each of its fronts.
 use Rattle.rx_pages.proofs.Common.{◌∙◌, [], ◌++◌, refl, append_assoc, after, IsAt, PagesGoOn}
-use Rattle.rx_pages.proofs.Documents.{document_tells}
-use Rattle.rx_pages.proofs.Front.{fronts_lead}
-use Rattle.rx_pages.proofs.Prefix.{first_tokens}
 use Rattle.rx_pages.proofs.ReadOn.{read_on}
+use Rattle.rx_pages.proofs.Below.{document_tells, fronts_lead, first_tokens}
 
 pub pages_go_on : PagesGoOn
 pages_go_on syntax limits whole rest items line phase run tree r page =

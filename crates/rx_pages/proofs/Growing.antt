@@ -2,9 +2,7 @@
 use Rattle.rx_reader.proofs.Common.{◌≡◌, ◌≢◌, ◌∙◌, ℕ, suc, Bool, true, false, List, [], ◌∷◌, ◌++◌, refl, ap, sym, subst, append_assoc, inl, inr, ◌⊎◌, ◌||◌, ◌&&◌, Chars, both, not_both_ways, Syntax, is_among, Place, outside, hides, StartTag, Tree, end, element, after_text, has_element, Item, is_line_feed, start_of, enders, is_ended_by, Line, inside_of, parent_of, enders_of, Open, a_root, a_child, Content}
 use Rattle.rx_grammar.specs.Pages.{Opens, Closes, Drops, shown, Holds, nothing, a_text, alone, closed, unclosed, Lead, Document, a_line_feed, another, no_more, a_comment}
 use Rattle.rx_grammar.specs.Pages as pages
-use Rattle.rx_pages.proofs.Nested.{has_after_text}
-use Rattle.rx_pages.proofs.Documents.{no_end_outside}
-use Rattle.rx_pages.proofs.Front.{none_among}
+use Rattle.rx_pages.proofs.Below.{has_after_text, no_end_outside, none_among}
 
 or_groups : (a b c : Bool) → (a || (b || c)) ≡ ((a || b) || c)
 or_groups true b c = refl

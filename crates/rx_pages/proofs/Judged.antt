@@ -1,52 +1,51 @@
 -- Unfinished characters go on, and faults are decided as the tables say, both ways.
-use Rattle.rx_reader.proofs.Common.{◌≡◌, ◌≢◌, ◌∙◌, ℕ, Bool, true, false, List, [], ◌∷◌, ◌++◌, Option, Some, None, refl, ap, sym, subst, ◌&&◌, codes, Err, Chars, split, Syntax, Html, Xhtml, same, is_among, name_of_raw, Token, tag, doctype, in_html, inside_html, html_in_svg, Place, raw_place, raw_names, rcdata_names, inside_foreign, inside_at, Spells, keeps_runs, a_doctype, begins, begins_tag, Item, Line, inside_of, Phase, before, Content, RawName, Kind, reads_on}
-use Rattle.rx_grammar.specs.PageFaults.{Unfinished, tag_rows, first_row, Faulty, token_begun, tag_begun, run_begun, opening_begun, in_tag, no_markup, in_run, in_comment, section_end, no_doctype, late_doctype, outside_text, outside_less_than, outside_section, at_tag}
+use Rattle.rx_pages.proofs.Words.{◌≡◌, ◌≢◌, ◌∙◌, ℕ, Bool, true, false, List, [], ◌∷◌, ◌++◌, Option, Some, None, refl, ap, sym, subst, inl, inr, ◌⊎◌, ◌&&◌, codes, Err, Chars, split, Syntax, Html, Xhtml, same, is_among, name_of_raw, Token, tag, doctype, in_html, inside_html, html_in_svg, Place, raw_place, raw_names, rcdata_names, inside_at, place_in, has_markup, raw_name, Spells, keeps_runs, a_doctype, begins, begins_tag, Item, Line, inside_of, Phase, before, Content, RawName, Kind, reads_on, Unfinished, tag_rows, first_row, Faulty, token_begun, tag_begun, run_begun, opening_begun, no_markup, in_comment, section_end, no_doctype, late_doctype, outside_text, outside_less_than, outside_section, at_tag, Nesting, Step, unless_refused, tag_passes, doctype_step, step_by, nest_step, IsAt, GoesOn, ReadAs, at_last, at_next, Decides, by_character, by_token, by_section_end, UnfinishedGoesOn, SpellsEachToken, FaultsAreDecided, append-nil}
+use Rattle.rx_grammar.specs.PageFaults.{in_tag, in_run}
 use Rattle.rx_grammar.specs.declared.contents.Content.TheVariants as content
 use Rattle.rx_grammar.specs.declared.faults.Kind.TheVariants as kind
-use Rattle.rx_pages.specs.Nesting.{Nesting, Step, unless_refused, tag_passes, doctype_step, step_by, nest_step, IsAt}
-use Rattle.rx_pages.specs.Scanner.{GoesOn, ReadAs, at_last, at_next}
-use Rattle.rx_pages.specs.Faults.{Decides, by_character, by_token, by_section_end}
-use Rattle.rx_pages.specs.Laws.{UnfinishedGoesOn, SpellsEachToken, FaultsAreDecided}
 use Rattle.rx_pages.proofs.Spellings.{reads_each}
 use Rattle.rx_pages.proofs.Texts.{run_goes}
-use Rattle.rx_pages.proofs.Pending.{begun_goes}
 use Rattle.rx_pages.proofs.Openings.{opening_goes, refuses_opening}
-use Rattle.rx_pages.proofs.Refusals.{IsRefused, refuses_run, refuses_comment, refuses_text, refuses_less_than, refuses_section}
 use Rattle.rx_pages.proofs.DoctypeFaults.{refuses_doctype}
-use Rattle.rx_pages.proofs.TagRuns.{tag_goes_on, tag_refused}
 use Rattle.rx_pages.proofs.Pends.{occurs}
 use Rattle.rx_pages.proofs.PendsOn.{pends, unfinished, spells_read, faulty_read}
+use Rattle.rx_pages.proofs.Below.{same_is, begun_goes, IsRefused, refuses_run, refuses_comment, refuses_text, refuses_less_than, refuses_section, tag_refused, front_goes, known}
 
--- the contents inside of open elements
-abbrev Fits : Place → Type 0
-Fits place = occurs Html place.content ≡ true
+-- Inside of an element of this name the content is one of the syntax, with tags, or with the element's own end tag alone.
+abbrev pub IsEndable : Chars → Place → Type 0
+IsEndable name place = (has_markup place.content ≡ true) ⊎ (raw_name place.content ≡ Some name)
 
-raw_fits : (as_content : RawName → Content) → ((r : RawName) → occurs Html (as_content r) ≡ true) → (names : List RawName) (name : Chars) (other : Place) → Fits other → Fits (raw_place as_content names name other)
+abbrev Fits : Chars → Place → Type 0
+Fits name place = (occurs Html place.content ≡ true) × IsEndable name place
+
+raw_fits : (as_content : RawName → Content) → ((r : RawName) → (occurs Html (as_content r) ≡ true) × (raw_name (as_content r) ≡ Some (name_of_raw r))) → (names : List RawName) (name : Chars) (other : Place) → Fits name other → Fits name (raw_place as_content names name other)
 raw_fits as_content f [] name other h = h
-raw_fits as_content f (r ∷ names) name other h = split Fits (same name (name_of_raw r)) _ _ (λ e. f r) (λ e. raw_fits as_content f names name other h)
+raw_fits as_content f (r ∷ names) name other h =
+    split (Fits name) (same name (name_of_raw r)) _ _ (λ e. ((f r).0, inr ((f r).1 ∙ ap (λ x. Some x) (sym (same_is name (name_of_raw r) e))))) (λ e. raw_fits as_content f names name other h)
 
-html_fits : (name : Chars) → Fits (inside_html name)
+html_fits : (name : Chars) → Fits name (inside_html name)
 html_fits name =
-    split Fits (same name (codes "svg")) _ _ (λ e. refl)
-    (λ e. split Fits (same name (codes "math")) _ _ (λ f. refl)
-    (λ f. raw_fits content.Raw (λ r. refl) raw_names name _ (raw_fits content.Rcdata (λ r. refl) rcdata_names name in_html refl)))
+    split (Fits name) (same name (codes "svg")) _ _ (λ e. (refl, inl refl))
+    (λ e. split (Fits name) (same name (codes "math")) _ _ (λ f. (refl, inl refl))
+    (λ f. raw_fits content.Raw (λ r. (refl, refl)) raw_names name _ (raw_fits content.Rcdata (λ r. (refl, refl)) rcdata_names name in_html (refl, inl refl))))
 
-foreign_fits : (in_svg : Bool) (name : Chars) → Fits (inside_foreign in_svg name)
-foreign_fits in_svg name = split Fits (in_svg && is_among html_in_svg name) _ _ (λ e. refl) (λ e. refl)
-
-inside_fits : (c : Content) (in_svg : Bool) (name : Chars) → Fits (inside_at c in_svg name)
-inside_fits content.Foreign in_svg name = foreign_fits in_svg name
+inside_fits : (c : Content) (in_svg : Bool) (name : Chars) → Fits name (inside_at c in_svg name)
+inside_fits content.Foreign in_svg name = split (Fits name) (in_svg && is_among html_in_svg name) _ _ (λ e. (refl, inl refl)) (λ e. (refl, inl refl))
 inside_fits _ in_svg name = html_fits name
+
+pub endable : (s : Syntax) (place : Place) (name : Chars) → IsEndable name (place_in s place name)
+endable Html place name = (inside_fits place.content place.in_svg name).1
+endable Xhtml place name = inl refl
 
 pub inside_occurs : (s : Syntax) (line : Line) → occurs s (inside_of s line).content ≡ true
 inside_occurs Xhtml [] = refl
-inside_occurs Html (t ∷ above) = inside_fits (inside_of Html above).content (inside_of Html above).in_svg t.name
+inside_occurs Html (t ∷ above) = (inside_fits (inside_of Html above).content (inside_of Html above).in_svg t.name).0
 inside_occurs _ _ = refl
 
 -- what is unfinished goes on
 pub goes : (s : Syntax) (i : Content) (run : Chars) → Unfinished s i run → GoesOn s i [] run
 goes s i _ (token_begun c d run rest {next = next} token sp) = begun_goes s i (c ∷ run) d rest next token sp
-goes s i _ (tag_begun text h b) = tag_goes_on s i text h (reads_on s text b)
+goes s i _ (tag_begun text h b) = front_goes s i text (known s i text h) text [] (sym (append-nil text)) (reads_on s text b)
 goes s i _ (run_begun run r b) = run_goes s i run r b
 goes s i _ (opening_begun text z m b) = subst (λ x. GoesOn x i [] (60 ∷ text)) (sym z) (opening_goes i m text b)
 

@@ -1,8 +1,8 @@
 -- Characters that are known to be a tag are read as one.
-use Rattle.rx_reader.proofs.Common.{◌≡◌, ℕ, Bool, true, [], ◌∷◌, ◌++◌, refl, sym, subst, inl, inr, Result, Ok, Err, ◌==◌, and_parts, less_than_sign, Chars, by_test, Syntax, tag, begins, is_known_tag, is_known_after, Content, Kind, is_last, TagState, tag_of, of_one}
-use Rattle.rx_pages.specs.Scanner.{Verdict, goes_on, whole, refused, whole_if, told_of_tag, verdict}
-use Rattle.rx_pages.proofs.TagRuns.{known_end, is_known_by, end_more, Known, in_markup', in_raw', known, is_known, verdict_at}
+use Rattle.rx_pages.proofs.Words.{◌≡◌, ◌∙◌, ℕ, true, List, [], ◌∷◌, ◌++◌, refl, sym, ap, subst, append_assoc, Entry, values, inl, inr, Result, Ok, Err, ◌==◌, and_parts, less_than_sign, Chars, by_test, Syntax, tag, is_known_tag, is_known_after, Content, Kind, is_last, TagState, tag_of, of_one, Verdict, goes_on, whole, refused, whole_if, told_of_tag, verdict}
+use Rattle.rx_pages.proofs.TagRuns.{begins_more, known_end, is_known_by, end_more, Known, in_markup', in_raw', known, is_known, verdict_at}
 use Rattle.rx_pages.proofs.Markup.{is_first}
+use Rattle.rx_pages.proofs.Tokens.{values_append}
 
 -- what is told of a tag is a tag
 pub data TagVerdict : Verdict → Type 0 where
@@ -14,10 +14,6 @@ pub told_tag : (r : Result TagState Kind) → TagVerdict (told_of_tag r)
 told_tag (Ok s) = by_test {G = TagVerdict (whole_if (is_last s.phase) (tag (tag_of s)))} (is_last s.phase) (λ e. subst (λ b. TagVerdict (whole_if b (tag (tag_of s)))) (sym e) (a_tag (tag_of s))) (λ e. subst (λ b. TagVerdict (whole_if b (tag (tag_of s)))) (sym e) on)
 told_tag (Err kind) = a_fault kind
 
-begins_more : (test : ℕ → Bool) (text more : Chars) → begins test text ≡ true → begins test (text ++ more) ≡ true
-begins_more test [] more h = absurd (cc)
-begins_more test (c ∷ text) more h = h
-
 -- a run that is known to be a tag stays so
 pub known_more : (s : Syntax) (i : Content) (text more : Chars) → is_known_tag s i text ≡ true → is_known_tag s i (text ++ more) ≡ true
 known_more s i [] more h = absurd (cc)
@@ -28,6 +24,12 @@ known_more s i (d ∷ text) more h =
     stays : Known s i text → Known s i (text ++ more)
     stays (in_markup' m b) = in_markup' m (begins_more (is_first s) text more b)
     stays (in_raw' name r k) = in_raw' name r (is_known_by name (text ++ more) (end_more name text more (known_end name text k)))
+
+pub known_snoc : (s : Syntax) (i : Content) (run : List Entry) (e : Entry) → is_known_tag s i (values run) ≡ true → is_known_tag s i (values (run ++ e ∷ [])) ≡ true
+known_snoc s i run e h = subst (λ x. is_known_tag s i x ≡ true) (sym (values_append run (e ∷ []))) (known_more s i (values run) (e.value ∷ []) h)
+
+pub known_front : (s : Syntax) (i : Content) (run a : List Entry) (e : Entry) (b : List Entry) → run ≡ a ++ e ∷ b → is_known_tag s i (values (a ++ e ∷ [])) ≡ true → is_known_tag s i (values run) ≡ true
+known_front s i run a e b h k = subst (λ x. is_known_tag s i x ≡ true) (sym (values_append (a ++ e ∷ []) b) ∙ ap values (append_assoc a (e ∷ []) b ∙ sym h)) (known_more s i (values (a ++ e ∷ [])) (values b) k)
 
 -- one character is known to be nothing
 pub one_unknown : (s : Syntax) (i : Content) (c : ℕ) → is_known_tag s i (c ∷ []) ≡ true → ⊥

@@ -24,6 +24,7 @@ pub mod Prefix
 pub mod ReadOn
 pub mod Going
 pub mod EntrySteps
+pub mod Entered
 pub mod ByteSteps
 pub mod CharSteps
 pub mod CharWalk
@@ -68,3 +69,5 @@ pub mod Sizes
 pub mod Underway
 pub mod Common
 pub mod OneToken
+pub mod Words
+pub mod Below

@@ -1,7 +1,7 @@
 -- Tags are read as they are spelled.
-use Rattle.rx_reader.proofs.Common.{◌≡◌, ◌≢◌, ◌∙◌, inl, inr, Bool, ℕ, true, false, [], ◌∷◌, ◌++◌, Option, refl, ap, sym, append_assoc, ◌&&◌, ◌||◌, ◌==◌, not, Result, Ok, Err, cond-true, cond-false, solidus, Chars, either, not_both_ways, by_test, Syntax, Html, Xhtml, meaning, Tag, tag, begins_tag, begins, SpellsTag, has_markup, begins_markup, Content, Kind, BadTag, is_html, is_last, TagState, fresh, tag_on, checked, of_one, reads_each, on_err, stuck, tag_on-append, tag_first}
-use Rattle.rx_pages.specs.Scanner.{goes_on, whole, told_of_tag, in_tag, in_markup, is_mark, ReadAs}
-use Rattle.rx_pages.proofs.Reading.{Last, no_last, a_last, last_of, all_go, read_to, markup_is}
+use Rattle.rx_pages.proofs.Words.{◌≡◌, ◌≢◌, ◌∙◌, inl, inr, Bool, ℕ, true, false, [], ◌∷◌, ◌++◌, Option, refl, ap, sym, append_assoc, ◌&&◌, ◌||◌, ◌==◌, not, Result, Ok, Err, cond-true, cond-false, solidus, Chars, either, not_both_ways, by_test, Syntax, Html, Xhtml, meaning, Tag, tag, begins_tag, begins, SpellsTag, has_markup, begins_markup, Content, Kind, BadTag, is_last, TagState, fresh, tag_on, checked, of_one, reads_each, on_err, stuck, tag_on-append, tag_first, goes_on, whole, told_of_tag, in_tag, in_markup, is_mark, ReadAs}
+use Rattle.rx_reader.proofs.Common.{is_html}
+use Rattle.rx_pages.proofs.Reading.{reads_through, markup_is}
 
 -- before its end a tag goes on
 before_end : (s : Syntax) (o : Result TagState Kind) (more : Chars) (last : TagState) → tag_on s (meaning s) o more ≡ Ok last → more ≢ [] → told_of_tag o ≡ goes_on
@@ -62,23 +62,8 @@ module _ (s : Syntax) (text : Chars) (t : Tag) (sp : SpellsTag s text t) where
   pub first_is : begins (is_first s) text ≡ true
   first_is = let f = tag_first s text sp.reads.written sp.reads.shape in ap (begins (is_first s)) f.is ∙ turned (begins_tag s f.c) (f.c == solidus) f.test
 
-  nonempty : text ≡ [] → ⊥
-  nonempty e = let k : false ≡ true = sym (ap (begins (is_first s)) e) ∙ first_is in cc
-
-  pub more_left : (more : Chars) (c : ℕ) → more ++ c ∷ [] ≢ []
-  more_left [] c h = cc
-  more_left (z ∷ more) c h = cc
-
   pub reads_tag : (i : Content) (next : Option ℕ) → has_markup i ≡ true → ReadAs s i (60 ∷ text) next (tag t)
-  reads_tag i next markup = by (last_of text)
-    where
-      by : Last text → ReadAs s i (60 ∷ text) next (tag t)
-      by (no_last e) = absurd (nonempty e)
-      by (a_last f c e) =
-          read_to s i (60 ∷ f) c next (tag t) (ap (λ x. 60 ∷ x) e) (
-            refl,
-            all_go s i (60 ∷ []) f (λ a d more k.
-                let q : text ≡ a ++ d ∷ (more ++ c ∷ []) = e ∙ (ap (λ x. x ++ c ∷ []) k ∙ append_assoc a (d ∷ more) (c ∷ [])) in
-                markup_is s i a d markup ∙ (markup_tag s i text a d (more ++ c ∷ []) first_is q ∙ tag_goes a d (more ++ c ∷ []) (q ∙ sym (append_assoc a (d ∷ []) (more ++ c ∷ []))) (more_left more c))),
-          )
-          (markup_is s i f c markup ∙ (markup_tag s i text f c [] first_is e ∙ tag_ends f c e))
+  reads_tag i next markup =
+      reads_through s i (60 ∷ []) text next (tag t) (λ e. let k : false ≡ true = sym (ap (begins (is_first s)) e) ∙ first_is in cc) (refl, tt)
+      (λ a d more e n. markup_is s i a d markup ∙ (markup_tag s i text a d more first_is e ∙ tag_goes a d more (e ∙ sym (append_assoc a (d ∷ []) more)) n))
+      (λ f c e. markup_is s i f c markup ∙ (markup_tag s i text f c [] first_is e ∙ tag_ends f c e))

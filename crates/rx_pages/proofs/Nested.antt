@@ -1,11 +1,10 @@
 -- What the nodes of a page are, the steps of their tokens tell.
-use Rattle.rx_reader.proofs.Common.{cond-true, cond-false, or_parts, nat_tests, bytes_decides, ◌≡◌, ◌∙◌, ℕ, suc, ◌+◌, Bool, true, false, List, [], ◌∷◌, ◌++◌, Some, None, refl, ap, sym, subst, arith, ◌&&◌, not, nat_le, Result, Ok, length, Chars, both, by_test, common_steps, Syntax, same, is_among, Tag, Token, tag, character, reference, kept, section, comment, StartTag, Tree, end, element, after_text, has_element, Item, start_of, text_of, enders, is_omissible, is_held, is_ended_by, Line, inside_of, parent_of, enders_of, Phase, within, under_start, after_end, is_innermost, has_ended, is_before, first_row, Content, Kind}
-use Rattle.rx_grammar.specs.Contents.{Place, outside, place_in, is_alone, is_html, is_plaintext, is_self_closed, hides, drops_line_feed}
-use Rattle.rx_grammar.specs.Pages.{Opens, Closes, Drops, shown, Holds, nothing, a_text, alone, closed, unclosed, root_name, a_line_feed, another, no_more, a_comment}
+use Rattle.rx_pages.proofs.Words.{cond-true, cond-false, or_parts, nat_tests, bytes_decides, ◌≡◌, ◌∙◌, ℕ, suc, ◌+◌, Bool, true, false, List, [], ◌∷◌, ◌++◌, Some, refl, ap, sym, subst, arith, ◌&&◌, not, nat_le, Result, Ok, length, Chars, both, by_test, common_steps, Syntax, same, is_among, Tag, Token, tag, character, reference, kept, section, comment, StartTag, Tree, end, element, after_text, has_element, Item, start_of, text_of, enders, is_omissible, is_held, is_ended_by, Line, inside_of, parent_of, enders_of, Phase, within, under_start, after_end, is_innermost, has_ended, is_before, first_row, Content, Kind, Place, outside, place_in, is_alone, is_html, is_plaintext, is_self_closed, hides, drops_line_feed, Opens, Closes, Drops, shown, Holds, nothing, a_text, alone, unclosed, root_name, a_line_feed, another, a_comment, Event, says, finishes, Nesting, Step, ended_under, ended_by_end, over, begun_under, line_above, step_by, nest_step, Goes, stands, goes, with_element, with_text, told_trees}
+use Rattle.rx_grammar.specs.Pages.{closed, no_more}
 use Rattle.rx_grammar.specs.declared.faults.Kind.TheVariants as kind
-use Rattle.rx_pages.specs.Nesting.{Event, begins, says, finishes, Nesting, Step, ended_under, ended_by_end, over, begun_under, line_above, step_by, nest_step, Goes, stands, goes, with_element, with_text, told_trees}
+use Rattle.rx_pages.specs.Nesting.{begins, told}
 use Rattle.rx_pages.proofs.Contents.{omissible_html}
-use Rattle.rx_pages.proofs.Steps.{inside_at, in_line, after_one, undropped, dropped, of_start, of_end, passing, ended}
+use Rattle.rx_pages.proofs.Steps.{inside_at, in_line, after_one, undropped, dropped, of_end, passing, ended}
 
 pub has_after_text : (names : List Chars) (chars : Chars) (nodes : Tree) → has_element names (after_text chars nodes) ≡ has_element names nodes
 has_after_text names (c ∷ chars) end = refl
@@ -30,17 +29,11 @@ pub record Ready (phase : Phase) (name : Chars) : Type 0 where
   pub not_ended : has_ended phase ≡ false
   pub named : (is_before phase && not (same name root_name)) ≡ false
 
-no_rows : (a b p s d : Bool) → a ≡ false → b ≡ false → p ≡ false → s ≡ false → d ≡ false → first_row ((a, kind.Outside) ∷ (b, kind.RootNotHtml) ∷ (p, kind.Plaintext) ∷ (s, kind.SelfClosed) ∷ (d, kind.TooDeep) ∷ []) ≡ None
-no_rows a b p s d h i j k l = rw (h, i, j, k, l) refl
-
 -- the step of a start tag that may stand here
 pub opening : (syntax : Syntax) (depth : ℕ) (line : Line) (phase : Phase) (item : Item) (t : Tag) → t.closing ≡ false → is_self_closed syntax (inside_of syntax line) t ≡ false → is_plaintext syntax (inside_of syntax line) t ≡ false
     → is_among (enders_of syntax line) t.name ≡ false → nat_le depth (length line) ≡ false → Ready phase t.name
     → step_by syntax depth (record { line = line; phase = phase; drops = false }) item (tag t) ≡ Ok (begun_under syntax item t line [])
-opening syntax depth line phase item t c sc pl among room ready =
-    of_start t.closing _ _ _ _ c
-    ∙ (passing _ _ (no_rows _ _ _ _ _ ready.not_ended ready.named pl sc (ap (λ l. nat_le depth (length l)) (none_ended syntax line t.name among) ∙ room))
-    ∙ (ap (λ l. Ok (begun_under syntax item t l (ended_under syntax t.name line))) (none_ended syntax line t.name among) ∙ ap (λ es. Ok (begun_under syntax item t line es)) (none_told syntax line t.name among)))
+opening syntax depth line phase item t c sc pl among room ready = rw (none_ended syntax line t.name among, none_told syntax line t.name among, ready.not_ended, ready.named, pl, sc, room, c) refl
 
 -- the step of the innermost element's end tag
 pub closing : (syntax : Syntax) (depth : ℕ) (line : Line) (s : StartTag) (item : Item) (t : Tag) → t.closing ≡ true → s.name ≡ t.name
@@ -64,12 +57,13 @@ pub of_token : (syntax : Syntax) (depth : ℕ) (n : Nesting) (item : Item) (toke
 of_token syntax depth n item token r e h = ap (λ k. step_by syntax depth n item k) e ∙ h
 
 -- the step of a token of text
-pub text_steps : (syntax : Syntax) (depth : ℕ) (line : Line) (item : Item) (token : Token) (chars : Chars) → text_of token ≡ Some chars → step_by syntax depth (in_line line) item token ≡ Ok (record { next = in_line line; events = says chars ∷ [] })
-text_steps syntax depth line item (character c) chars h = ap (λ o. Ok (record { next = in_line line; events = says o ∷ [] })) (cc)
-text_steps syntax depth line item (reference c) chars h = ap (λ o. Ok (record { next = in_line line; events = says o ∷ [] })) (cc)
-text_steps syntax depth line item (kept k) chars h = ap (λ o. Ok (record { next = in_line line; events = says o ∷ [] })) (cc)
-text_steps syntax depth line item (section k) chars h = ap (λ o. Ok (record { next = in_line line; events = says o ∷ [] })) (cc)
-text_steps syntax depth line item _ chars h = absurd (cc)
+pub text_steps : (syntax : Syntax) (depth : ℕ) (line : Line) (phase : Phase) (item : Item) (token : Token) (chars : Chars) → text_of token ≡ Some chars
+    → step_by syntax depth (record { line = line; phase = phase; drops = false }) item token ≡ Ok (record { next = record { line = line; phase = phase; drops = false }; events = told phase chars })
+text_steps syntax depth line phase item (character c) chars h = ap (λ o. Ok (record { next = record { line = line; phase = phase; drops = false }; events = told phase o })) (cc)
+text_steps syntax depth line phase item (reference c) chars h = ap (λ o. Ok (record { next = record { line = line; phase = phase; drops = false }; events = told phase o })) (cc)
+text_steps syntax depth line phase item (kept k) chars h = ap (λ o. Ok (record { next = record { line = line; phase = phase; drops = false }; events = told phase o })) (cc)
+text_steps syntax depth line phase item (section k) chars h = ap (λ o. Ok (record { next = record { line = line; phase = phase; drops = false }; events = told phase o })) (cc)
+text_steps syntax depth line phase item _ chars h = absurd (cc)
 
 -- What the tokens tell before those that follow: where these tell that no more nodes stand at this level, the nodes are all at it.
 pub record Reads (syntax : Syntax) (depth : ℕ) (meant : Nesting → Type 0) (n : Nesting) (from : List Item) (later : List Event) (nodes : Tree) : Type 0 where
@@ -152,7 +146,7 @@ module _ (syntax : Syntax) (depth : ℕ) (meant : Nesting → Type 0) (careless 
       let r = runs hs s above p q d (sym (has_after_text (enders_of syntax (s ∷ above)) chars nodes) ∙ no_child) later g in
       record {
         events = says chars ∷ r.events;
-        going = goes item (record { next = in_line (s ∷ above); events = says chars ∷ [] }) (c ∙ ap (λ x. x.content) p) (text_steps syntax depth (s ∷ above) item item.token chars h) r.going;
+        going = goes item (record { next = in_line (s ∷ above); events = says chars ∷ [] }) (c ∙ ap (λ x. x.content) p) (text_steps syntax depth (s ∷ above) within item item.token chars h) r.going;
         tells = λ more e. ap (with_text chars) (r.tells more e);
       }
   runs (a_comment item c h hs) s above p q d no_child later g =

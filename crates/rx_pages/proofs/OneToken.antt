@@ -1,7 +1,5 @@
 -- At most one front of some characters is read as a token, and as one token: the reader is a function, which stops at one character.
-use Rattle.rx_reader.proofs.Common.{◌≡◌, ◌≢◌, ◌∙◌, ℕ, [], ◌∷◌, ◌++◌, Option, None, refl, ap, sym, subst, append-nil, append_assoc, Chars, Syntax, Token, Content, next_of}
-use Rattle.rx_grammar.specs.Laws.{OneToken, IsSameToken}
-use Rattle.rx_pages.specs.Scanner.{Verdict, goes_on, whole, ended, verdict, GoesOn, ReadAs, at_last, at_next}
+use Rattle.rx_pages.proofs.Words.{◌≡◌, ◌≢◌, ◌∙◌, ℕ, [], ◌∷◌, ◌++◌, Option, None, refl, ap, sym, subst, append-nil, append_assoc, Chars, Syntax, Token, Content, next_of, OneToken, IsSameToken, Verdict, goes_on, whole, ended, verdict, GoesOn, ReadAs, at_last, at_next}
 use Rattle.rx_pages.proofs.Spellings.{reads_each}
 
 -- The characters through `front` go on, and the next one tells this.

@@ -1,31 +1,15 @@
 -- The reader of bytes reads pages alone to their ends, and finds faults of the grammar alone.
-use Rattle.rx_reader.proofs.Common.{◌≡◌, ◌∙◌, ⊎_elim, ℕ, ◌+◌, List, [], ◌∷◌, ◌++◌, refl, sym, ap, subst, length, Result, Ok, Err, take, Syntax, Tree, Page, FaultAt, Fault, Limits}
-use Rattle.rx_pages.specs.Nesting.{told_trees}
-use Rattle.rx_pages.specs.PageReader.{Progress, page_read, end_of}
-use Rattle.rx_pages.specs.Laws.{IsPageRead, ReadsOnlyPages, FindsOnlyFaults, FaultsStay}
+use Rattle.rx_pages.proofs.Words.{◌≡◌, ◌∙◌, ⊎_elim, ℕ, ◌+◌, List, ◌++◌, sym, ap, subst, length, Ok, Err, take, Syntax, FaultAt, Fault, Limits, told_trees, take-append_seam, Progress, page_read, end_of, IsPageRead, ReadsOnlyPages, FindsOnlyFaults, FaultsStay}
 use Rattle.rx_pages.proofs.PageRead.{page_is_read}
 use Rattle.rx_pages.proofs.FaultsRead.{fault_is_read}
-use Rattle.rx_pages.proofs.OneOf.{not_both, one_fault}
+use Rattle.rx_pages.proofs.OneOf.{ok_is, error_is, neither, not_both, one_fault}
 use Rattle.rx_pages.proofs.BytesOn.{Reads, through, up_to, reads, page_ends, each_bytes}
-
-abbrev Read : Type 0
-Read = Result Progress Fault
-
-ok_is : (a b : Progress) (r : Read) → r ≡ Ok a → r ≡ Ok b → a ≡ b
-ok_is a b r h k = let e : Ok a ≡ Ok b = sym h ∙ k in cc
-
-error_is : (a b : Fault) (r : Read) → r ≡ Err a → r ≡ Err b → a ≡ b
-error_is a b r h k = let e : Err a ≡ Err b = sym h ∙ k in cc
-
-neither : (a : Progress) (f : Fault) (r : Read) → r ≡ Ok a → r ≡ Err f → ⊥
-neither a f r h k = let e : Ok a ≡ Err f = sym h ∙ k in cc
 
 module _ (syntax : Syntax) (limits : Limits) (bytes : List ℕ) where
   pub read_page : (final : Progress) → end_of (page_read syntax limits bytes) ≡ Ok final → IsPageRead syntax limits bytes final
-  read_page final h = ⊎_elim by_page (λ f. absurd (neither final f.0 _ h (fault_is_read syntax limits bytes f.0 f.1))) (each_bytes syntax limits bytes)
-    where
-      by_page : (tree : Tree) × Page syntax limits bytes tree → IsPageRead syntax limits bytes final
-      by_page p = let r = page_is_read syntax limits bytes p.0 p.1 in record { tree = p.0; page = p.1; trees = ap (λ (x : Progress). told_trees x.told) (ok_is final r.final _ h r.is_read) ∙ r.trees }
+  read_page final h =
+      ⊎_elim (λ p. let r = page_is_read syntax limits bytes p.0 p.1 in record { tree = p.0; page = p.1; trees = ap (λ (x : Progress). told_trees x.told) (ok_is final r.final _ h r.is_read) ∙ r.trees })
+      (λ f. absurd (neither final f.0 _ h (fault_is_read syntax limits bytes f.0 f.1))) (each_bytes syntax limits bytes)
 
   pub found_fault : (fault : Fault) → end_of (page_read syntax limits bytes) ≡ Err fault → FaultAt syntax limits bytes fault
   found_fault fault h =
@@ -38,13 +22,6 @@ reads_only_pages syntax limits bytes final h = read_page syntax limits bytes fin
 pub finds_only_faults : FindsOnlyFaults
 finds_only_faults syntax limits bytes fault h = found_fault syntax limits bytes fault h
 
-pub take_front : (front rest : List ℕ) (n : ℕ) → n ≡ length front → take n (front ++ rest) ≡ front
-take_front front rest n h = ap (λ m. take m (front ++ rest)) h ∙ front_is front
-  where
-    front_is : (front : List ℕ) → take (length front) (front ++ rest) ≡ front
-    front_is [] = refl
-    front_is (x ∷ front) = ap (λ xs. x ∷ xs) (front_is front)
-
 -- a fault that no end of the page decides stays, whatever follows its byte
 pub faults_stay : FaultsStay
 faults_stay syntax limits bytes fault f n rest = by (reads syntax limits bytes)
@@ -55,5 +32,5 @@ faults_stay syntax limits bytes fault f n rest = by (reads syntax limits bytes)
         let at : FaultAt syntax limits bytes g.fault = subst (λ x. FaultAt syntax limits x g.fault) (sym e) (g.stays more) in
         let same : g.fault ≡ fault = one_fault syntax limits bytes g.fault fault at f in
         let last : fault.at + 1 ≡ length front = ap (λ (x : Fault). x.at + 1) (sym same) ∙ g.at_last in
-        let is : front ≡ take (fault.at + 1) bytes = sym (ap (λ x. take (fault.at + 1) x) e ∙ take_front front more (fault.at + 1) last) in
+        let is : front ≡ take (fault.at + 1) bytes = sym (ap (λ x. take (fault.at + 1) x) e ∙ (ap (λ n. take n (front ++ more)) last ∙ take-append_seam front more)) in
         subst (λ x. FaultAt syntax limits (x ++ rest) fault) is (subst (λ x. FaultAt syntax limits (front ++ rest) x) same (g.stays rest))

@@ -1,8 +1,8 @@
 -- The names of open elements: their end tags are spelled with them.
-use Rattle.rx_reader.proofs.Common.{◌≡◌, ◌∙◌, ◌⊎◌, inl, inr, ℕ, ◌+◌, ◌<◌, Bool, true, false, List, [], ◌∷◌, ◌++◌, Option, Some, refl, ap, sym, subst, arith, ◌&&◌, ◌==◌, not, codes, map, list_all, scalar, low_scalar, and_from, cond-true, cond-false, nat_tests, Chars, lowered, both, by_test, split, not_both_ways, Syntax, Html, Xhtml, same, is_among, name_of_raw, Tag, tag, ends_name, begins_tag, is_tag_char, Shape, a_start, an_end, is_tag_name, is_strict_start, is_strict_char, cased, is_repeated, SpellsTag, Spells, has_markup, raw_name, a_tag, an_end_of_raw, Place, in_html, inside_html, html_in_svg, place_in, raw_place, raw_names, rcdata_names, inside_at, StartTag, Line, inside_of, Content, RawName, of_one, unless, kept_case}
+use Rattle.rx_reader.proofs.Common.{◌≡◌, ◌∙◌, inl, inr, ℕ, ◌+◌, ◌<◌, Bool, true, false, [], ◌∷◌, ◌++◌, Option, refl, ap, sym, subst, arith, ◌&&◌, ◌==◌, not, map, list_all, scalar, low_scalar, and_from, cond-true, cond-false, nat_tests, Chars, lowered, both, by_test, not_both_ways, Syntax, Html, Xhtml, Tag, tag, ends_name, begins_tag, is_tag_char, Shape, a_start, an_end, is_tag_name, is_strict_start, is_strict_char, cased, is_repeated, SpellsTag, Spells, a_tag, an_end_of_raw, place_in, StartTag, Line, inside_of, Content, of_one, unless, kept_case}
 use Rattle.rx_terms.specs.Ascii.{solidus, greater_than_sign, carriage_return, line_feed, lowered_char, is_letter, between}
-use Rattle.rx_grammar.specs.declared.contents.Content.TheVariants as content
-use Rattle.rx_pages.proofs.Contents.{same_is}
+use Rattle.rx_pages.proofs.Entered.{all_parts}
+use Rattle.rx_pages.proofs.Judged.{IsEndable, endable}
 
 -- a character of a page
 abbrev pub is_fair : ℕ → Bool
@@ -56,12 +56,8 @@ is_name : (s : Syntax) (name : Chars) → is_tag_name s name ≡ true → list_a
 is_name Html name h f = record { whole = low_name name h; low = all_low name; fair = all_as is_fair is_fair lowered_char low_fair name f }
 is_name Xhtml name h f = subst (λ x. IsName Xhtml x) (sym (kept_case name)) (record { whole = h; low = kept_case name; fair = f })
 
-fair_front : (a b : Chars) → list_all is_fair (a ++ b) ≡ true → list_all is_fair a ≡ true
-fair_front [] b h = refl
-fair_front (c ∷ a) b h = let k = both (is_fair c) _ h in and_from (is_fair c) (list_all is_fair a) k.0 (fair_front a b k.1)
-
 shape_name : (s : Syntax) (text : Chars) (t : Tag) → Shape s text t → t.closing ≡ false → list_all is_fair text ≡ true → IsName s (cased s t.name)
-shape_name s _ _ (a_start name rest n b attributes) c f = is_name s name n (fair_front name rest f)
+shape_name s _ _ (a_start name rest n b attributes) c f = is_name s name n (all_parts is_fair name rest f).0
 shape_name s _ _ (an_end name spaces n w) c f = absurd (cc)
 
 tag_name : (s : Syntax) (text : Chars) (t : Tag) → SpellsTag s text t → t.closing ≡ false → list_all is_fair text ≡ true → IsName s t.name
@@ -94,29 +90,6 @@ spells_ending s name n =
     none : (s : Syntax) → is_repeated s [] ≡ false
     none Html = refl
     none Xhtml = refl
-
--- inside of an element of this name there are tags, or its end tag alone
-abbrev IsEndable : Chars → Place → Type 0
-IsEndable name place = (has_markup place.content ≡ true) ⊎ (raw_name place.content ≡ Some name)
-
-raw_endable : (as_content : RawName → Content) → ((r : RawName) → raw_name (as_content r) ≡ Some (name_of_raw r)) → (names : List RawName) (name : Chars) (other : Place) → IsEndable name other → IsEndable name (raw_place as_content names name other)
-raw_endable as_content f [] name other h = h
-raw_endable as_content f (r ∷ names) name other h =
-    split (IsEndable name) (same name (name_of_raw r)) _ _ (λ e. inr (f r ∙ ap (λ x. Some x) (sym (same_is name (name_of_raw r) e)))) (λ e. raw_endable as_content f names name other h)
-
-html_endable : (name : Chars) → IsEndable name (inside_html name)
-html_endable name =
-    split (IsEndable name) (same name (codes "svg")) _ _ (λ e. inl refl)
-    (λ e. split (IsEndable name) (same name (codes "math")) _ _ (λ f. inl refl)
-    (λ f. raw_endable content.Raw (λ r. refl) raw_names name _ (raw_endable content.Rcdata (λ r. refl) rcdata_names name in_html (inl refl))))
-
-inside_endable : (c : Content) (in_svg : Bool) (name : Chars) → IsEndable name (inside_at c in_svg name)
-inside_endable content.Foreign in_svg name = split (IsEndable name) (in_svg && is_among html_in_svg name) _ _ (λ e. inl refl) (λ e. inl refl)
-inside_endable _ in_svg name = html_endable name
-
-endable : (s : Syntax) (place : Place) (name : Chars) → IsEndable name (place_in s place name)
-endable Html place name = inside_endable place.content place.in_svg name
-endable Xhtml place name = inl refl
 
 -- the end tag of the innermost element, whatever comes next
 pub spells_end : (s : Syntax) (t : StartTag) (above : Line) → IsName s t.name → (next : Option ℕ) → Spells s (inside_of s (t ∷ above)).content (60 ∷ ending_text t.name) next (tag (ending t.name))

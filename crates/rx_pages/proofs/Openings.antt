@@ -1,9 +1,6 @@
 -- In XHTML `<` and what begins an opening goes on, and what begins none is refused.
-use Rattle.rx_reader.proofs.Common.{◌≡◌, ◌∙◌, ℕ, true, false, List, [], ◌∷◌, ◌++◌, refl, ap, sym, subst, inl, inr, eqb-true, ◌&&◌, ◌||◌, ◌==◌, not, codes, list_any, cond-false, or_from, or_parts, Chars, begins_with, both, either, untrue, not_both_ways, by_test, Xhtml, meaning, begins_tag, begins, has_markup, has_sections, meets_opening, is_opening_begun, openings, Content, BadTag, fresh, moved, checked, of_one, equal}
-use Rattle.rx_pages.specs.Scanner.{refused, told_of_tag, in_markup, verdict, GoesOn}
-use Rattle.rx_pages.proofs.Reading.{markup_is}
-use Rattle.rx_pages.proofs.Pending.{goes_within}
-use Rattle.rx_pages.proofs.Refusals.{IsRefused}
+use Rattle.rx_pages.proofs.Words.{◌≡◌, ◌∙◌, ℕ, true, false, List, [], ◌∷◌, ◌++◌, refl, ap, sym, subst, inl, inr, eqb-true, ◌&&◌, ◌||◌, ◌==◌, not, codes, list_any, cond-false, or_from, or_parts, Chars, begins_with, both, either, untrue, not_both_ways, by_test, Xhtml, meaning, begins_tag, begins, has_markup, has_sections, meets_opening, is_opening_begun, openings, Content, BadTag, fresh, moved, checked, of_one, equal, refused, told_of_tag, in_markup, verdict, GoesOn}
+use Rattle.rx_pages.proofs.Below.{markup_is, goes_within, IsRefused}
 
 -- the text, one more character, and the rest of the opening
 pub record Goes (text opening : Chars) : Type 0 where

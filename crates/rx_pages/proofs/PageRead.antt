@@ -1,13 +1,7 @@
 -- The reader of bytes reads each page.
-use Rattle.rx_reader.proofs.Common.{◌≡◌, ◌∙◌, ℕ, List, [], ◌++◌, refl, sym, ap, subst, length, append-nil, Ok, Err, true, false, if◌then◌else◌, Syntax, IsRead, Tree, Item, Page, has_no_nul, Phase, after, Unended, Limits}
-use Rattle.rx_pages.specs.Nesting.{IsAt, told_trees}
-use Rattle.rx_pages.specs.PageReader.{Progress, nothing_read, page_on, page_read, end_of, is_over, fault_in}
-use Rattle.rx_pages.specs.Laws.{PageIsRead}
-use Rattle.rx_pages.proofs.Documents.{TellsTree, document_tells}
-use Rattle.rx_pages.proofs.ByteSteps.{progress_at}
-use Rattle.rx_pages.proofs.TokenWalk.{stood}
-use Rattle.rx_pages.proofs.TokensWalk.{flags_behind}
+use Rattle.rx_pages.proofs.Words.{◌≡◌, ◌∙◌, ℕ, List, [], ◌++◌, refl, sym, ap, subst, length, append-nil, Ok, Err, true, false, if◌then◌else◌, Syntax, IsRead, Tree, Item, Page, has_no_nul, Phase, after, Unended, Limits, IsAt, told_trees, Progress, nothing_read, page_on, page_read, end_of, is_over, fault_in, PageIsRead}
 use Rattle.rx_pages.proofs.FrontRead.{front_is_read}
+use Rattle.rx_pages.proofs.Below.{TellsTree, document_tells, progress_at, stood, flags_behind}
 
 -- A page is read to its end, and what its tokens tell on the way is told.
 pub record PageTold (syntax : Syntax) (limits : Limits) (bytes : List ℕ) (items : List Item) (tree : Tree) : Type 0 where

@@ -1,6 +1,5 @@
 -- Characters that begin a token go on, and no token is read within them.
-use Rattle.rx_reader.proofs.Common.{◌≡◌, ◌∙◌, ℕ, [], ◌∷◌, ◌++◌, Option, refl, sym, subst, append-nil, append_assoc, inl, inr, Chars, Syntax, Token, Spells, Content, two_fronts}
-use Rattle.rx_pages.specs.Scanner.{Verdict, goes_on, whole, verdict, GoesOn, ReadAs, at_last, at_next}
+use Rattle.rx_pages.proofs.Words.{◌≡◌, ◌∙◌, ℕ, [], ◌∷◌, ◌++◌, Option, refl, sym, subst, append-nil, append_assoc, inl, inr, Chars, Syntax, Token, Spells, Content, two_fronts, Verdict, goes_on, whole, verdict, GoesOn, ReadAs, at_last, at_next}
 use Rattle.rx_pages.proofs.Spellings.{reads_each}
 
 module _ (s : Syntax) (i : Content) where

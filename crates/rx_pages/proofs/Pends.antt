@@ -1,16 +1,10 @@
 -- What characters that go on are, and what the next one makes of them: text, references, tags and raw text.
-use Rattle.rx_reader.proofs.Common.{◌≡◌, ◌≢◌, ◌∙◌, ℕ, cond, Bool, true, false, List, [], ◌∷◌, ◌++◌, Option, Some, None, Result, Ok, Err, refl, ap, sym, subst, inl, inr, eqb-true, ◌&&◌, ◌||◌, ◌==◌, not, codes, ampersand, semicolon, solidus, less_than_sign, Chars, lowered, both, either, not_both_ways, split, and-true, or_parts, Syntax, Html, Xhtml, same, name_of_raw, is_name, is_body, is_begun, stops_at, meaning, Tag, tag, reference, ends_name, begins, cased, SpellsTag, RunFault, unknown, bad, no_reference, Spells, has_markup, has_references, keeps_runs, has_sections, is_text, raw_name, begins_end, stops_end, ends_with, ends_comment, begins_declaration, doctype_word, Item, Line, Phase, Faulty, is_opening_begun, Content, Kind, is_last, TagState, fresh, tag_step, tag_step_on, tag_on, tag_of, ReadsOn, of_one, equal, spells_each, tag_on-append, repeats_once, refuses_each_fault}
+use Rattle.rx_pages.proofs.Words.{◌≡◌, ◌≢◌, ◌∙◌, ℕ, cond, Bool, true, false, List, [], ◌∷◌, ◌++◌, Option, Some, None, Result, Ok, Err, refl, ap, sym, subst, inl, inr, eqb-true, ◌&&◌, ◌||◌, ◌==◌, not, codes, ampersand, semicolon, solidus, less_than_sign, Chars, lowered, both, either, not_both_ways, split, and-true, or_parts, Syntax, Html, Xhtml, same, name_of_raw, is_name, is_body, is_begun, stops_at, meaning, Tag, tag, reference, ends_name, begins, cased, SpellsTag, RunFault, unknown, bad, no_reference, Spells, has_markup, has_references, keeps_runs, has_sections, is_text, raw_name, begins_end, stops_end, ends_with, ends_comment, begins_declaration, doctype_word, Item, Line, Phase, Faulty, is_opening_begun, Content, Kind, is_last, TagState, fresh, tag_step, tag_step_on, tag_on, tag_of, ReadsOn, of_one, equal, spells_each, tag_on-append, repeats_once, refuses_each_fault, Verdict, goes_on, whole, ended, refused, told_of_tag, in_tag, told_of_reference, in_run, in_raw, DoctypePhase, keyword, closed, doctype_on, at_first, verdict}
 use Rattle.rx_grammar.specs.declared.contents.Content.TheVariants as content
 use Rattle.rx_grammar.specs.declared.faults.Kind.TheVariants as kind
 use Rattle.rx_grammar.specs.Spelling as spelling
 use Rattle.rx_grammar.specs.PageFaults as faults
-use Rattle.rx_pages.specs.Scanner.{Verdict, goes_on, whole, ended, refused, told_of_tag, in_tag, told_of_reference, in_run, in_raw, DoctypePhase, keyword, closed, doctype_on, at_first, verdict}
-use Rattle.rx_pages.proofs.Reading.{markup_is}
-use Rattle.rx_pages.proofs.FirstFronts.{NoFront, NoneBefore}
-use Rattle.rx_pages.proofs.TagRuns.{KnownEnd, is_known_by, end_more, known_at, Known, in_markup', in_raw', is_known}
-use Rattle.rx_pages.proofs.RawEnds.{is_raw_name, end_reads, ends_raw}
-use Rattle.rx_pages.proofs.Contents.{same_is}
-use Rattle.rx_pages.proofs.Markup.{is_first, markup_tag}
+use Rattle.rx_pages.proofs.Below.{markup_is, NoFront, NoneBefore, begins_more, KnownEnd, is_known_by, end_more, known_at, Known, in_markup', in_raw', is_known, is_raw_name, end_reads, ends_raw, same_is, is_first, markup_tag}
 
 -- the contents of a syntax
 abbrev pub occurs : Syntax → Content → Bool
@@ -53,10 +47,7 @@ Out s i run c (ended token) = Spells s i run (Some c) token
 Out s i run c (refused found) = FaultyBy s i found (run ++ c ∷ [])
 
 pub other_than : (c d : ℕ) → (c == d) ≡ false → c ≢ d
-other_than c d h e = not_both_ways (c == d) (of_self c d e) h
-  where
-    of_self : (c d : ℕ) → c ≡ d → (c == d) ≡ true
-    of_self c d e = subst (λ x. (c == x) ≡ true) e (equal c)
+other_than c d h e = not_both_ways (c == d) (subst (λ x. (c == x) ≡ true) e (equal c)) h
 
 -- the first character of a token
 less : (s : Syntax) (i : Content) → Pends s i (60 ∷ [])
@@ -125,13 +116,9 @@ module _ (s : Syntax) (i : Content) (text : Chars) (c : ℕ) (r : ReadsOn s text
   pub tag_out : Out s i (60 ∷ text) c (in_tag s text c)
   tag_out = by_state (tag_on s (meaning s) (Ok fresh) (text ++ c ∷ [])) refl
 
-begins_more : (test : ℕ → Bool) (text : Chars) (c : ℕ) → begins test text ≡ true → begins test (text ++ c ∷ []) ≡ true
-begins_more test [] c h = absurd (cc)
-begins_more test (d ∷ text) c h = h
-
 pub from_tag : (s : Syntax) (i : Content) (text : Chars) (c : ℕ) → has_markup i ≡ true → begins (is_first s) text ≡ true → ReadsOn s text → Out s i (60 ∷ text) c (verdict s i (60 ∷ text) c)
 from_tag s i text c m b r =
-    let h = begins_more (is_first s) text c b in
+    let h = begins_more (is_first s) text (c ∷ []) b in
     subst (Out s i (60 ∷ text) c) (sym (markup_is s i text c m ∙ markup_tag s i (text ++ c ∷ []) text c [] h refl))
     (tag_out s i text c r (in_markup' m h) (λ t sp next. spelling.a_tag (text ++ c ∷ []) t m sp) (λ q. in_a_tag (text ++ c ∷ []) m h q))
 

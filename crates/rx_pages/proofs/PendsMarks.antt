@@ -1,15 +1,11 @@
 -- What the next character makes of `<`, and of what begins with `<!` and `<?`.
-use Rattle.rx_reader.proofs.Common.{◌≡◌, ◌∙◌, ℕ, length, take, Bool, true, false, [], ◌∷◌, ◌++◌, Option, Some, None, refl, ap, sym, subst, append_assoc, arith, ◌==◌, codes, ◌-◌, length-map, lowered_char, greater_than_sign, Chars, split, Syntax, Html, Xhtml, Token, comment, section, doctype, cased, Spells, IsFirst, has_markup, has_sections, ends_with, ends_comment, doctype_word, IsDoctype, Faulty, BeginsDoctype, BeginsNoDoctype, Content, of_one, snoc_front}
+use Rattle.rx_pages.proofs.Words.{◌≡◌, ◌∙◌, ℕ, length, take, Bool, true, false, [], ◌∷◌, ◌++◌, Option, Some, None, refl, ap, sym, subst, append_assoc, arith, ◌==◌, codes, ◌-◌, length-map, lowered_char, greater_than_sign, Chars, split, Syntax, Html, Xhtml, Token, comment, section, doctype, cased, Spells, IsFirst, has_markup, has_sections, ends_with, ends_comment, doctype_word, IsDoctype, Faulty, BeginsDoctype, BeginsNoDoctype, Content, of_one, snoc_front, Verdict, whole_if, DoctypePhase, keyword, naming, closed, doctype_on, told_of_doctype, verdict}
 use Rattle.rx_grammar.specs.declared.faults.Kind.TheVariants as kind
 use Rattle.rx_grammar.specs.Spelling as spelling
 use Rattle.rx_grammar.specs.PageFaults as faults
-use Rattle.rx_pages.specs.Scanner.{Verdict, whole_if, DoctypePhase, keyword, spaces, naming, passed, closed, doctype_on, told_of_doctype, verdict}
-use Rattle.rx_pages.proofs.Reading.{markup_is}
-use Rattle.rx_pages.proofs.Comments.{inside_section, section_text}
-use Rattle.rx_pages.proofs.Doctypes.{on_none, on_append, behind, behind_word}
 use Rattle.rx_pages.proofs.DoctypeFaults.{is_doctype, completion, Closable, Next, keyword_closes, closes_on}
-use Rattle.rx_pages.proofs.FirstFronts.{NoFront, NoneBefore, no_front_snoc, first_here, none_before_snoc, whole_first, ends_so}
 use Rattle.rx_pages.proofs.Pends.{is_closed, Pends, in_question, in_instruction, in_html_comment, in_strict, in_a_doctype, in_a_section, Out, other_than}
+use Rattle.rx_pages.proofs.Below.{markup_is, inside_section, section_text, on_none, on_append, behind, behind_word, NoFront, NoneBefore, no_front_snoc, first_here, none_before_snoc, whole_first, ends_so}
 
 -- a run that ends at the first front that meets a test
 module _ (s : Syntax) (i : Content) (run : Chars) (c : ℕ) where
@@ -81,12 +77,9 @@ word_length Html word e = sym (length-map word lowered_char) ∙ ap length e
 word_length Xhtml word e = sym (length-map word (λ c. c)) ∙ ap length e
 
 completes : (p : DoctypePhase) → is_closed p ≡ false → completion p ≡ [] → ⊥
-completes keyword h e = cc
-completes spaces h e = cc
 completes (naming []) h e = cc
 completes (naming (d ∷ left)) h e = cc
-completes passed h e = cc
-completes closed h e = cc
+completes _ h e = cc
 
 module _ (s : Syntax) (i : Content) (m : has_markup i ≡ true) (word : Chars) (w : cased s word ≡ doctype_word s) where
   -- what has been read can be completed
@@ -119,11 +112,8 @@ module _ (s : Syntax) (i : Content) (m : has_markup i ≡ true) (word : Chars) (
 
     by_state : (p : DoctypePhase) → doctype_on s (Some keyword) text ≡ Some p → is_closed p ≡ false → (o : Option DoctypePhase) → doctype_on s (Some keyword) (text ++ c ∷ []) ≡ o → Out s i (60 ∷ 33 ∷ (word ++ text)) c (told_of_doctype o)
     by_state p e n None f = λ depth items line phase. subst (Faulty s depth items line phase i kind.BadDoctype) (sym whole_run) (faults.no_doctype word text c m w (begins_doctype text p e n) (begins_none (text ++ c ∷ []) f))
-    by_state p e n (Some keyword) f = goes keyword f refl
-    by_state p e n (Some spaces) f = goes spaces f refl
-    by_state p e n (Some (naming left)) f = goes (naming left) f refl
-    by_state p e n (Some passed) f = goes passed f refl
     by_state p e n (Some closed) f = λ next. subst (λ x. Spells s i x next doctype) (sym whole_run) (spelling.a_doctype (word ++ (text ++ c ∷ [])) m (is_doctype s word (text ++ c ∷ []) w f))
+    by_state p e n (Some q) f = goes q f refl
 
     pub from_doctype : (p : DoctypePhase) → doctype_on s (Some keyword) text ≡ Some p → is_closed p ≡ false → Out s i (60 ∷ 33 ∷ (word ++ text)) c (verdict s i (60 ∷ 33 ∷ (word ++ text)) c)
     from_doctype p e n =

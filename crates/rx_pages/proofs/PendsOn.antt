@@ -1,14 +1,10 @@
 -- Characters that go on begin a token; what is read spells one; what is refused is faulty.
-use Rattle.rx_reader.proofs.Common.{◌≡◌, ◌∙◌, ℕ, Bool, true, false, [], ◌∷◌, ◌++◌, Option, Some, None, refl, ap, sym, subst, append-nil, append_assoc, eqb-true, ◌&&◌, ◌==◌, ◌||◌, codes, map-append, length-map, lowered_char, solidus, Chars, lowered, begins_with, both, not_both_ways, by_test, or_from, or_parts, or_left, or_right, Syntax, Html, Xhtml, Tag, Token, tag, section, comment, doctype, SpellsTag, Spells, IsFirst, has_sections, begins_declaration, ends_with, ends_comment, raw_name, begins_end, Unfinished, token_begun, tag_begun, run_begun, opening_begun, Content, Kind, ReadsOn, spells_each, begins_from, snoc_last}
+use Rattle.rx_pages.proofs.Words.{◌≡◌, ◌∙◌, ℕ, Bool, true, false, [], ◌∷◌, ◌++◌, Option, Some, None, refl, ap, sym, subst, append-nil, append_assoc, eqb-true, ◌&&◌, ◌==◌, ◌||◌, codes, map-append, length-map, lowered_char, solidus, Chars, lowered, begins_with, both, not_both_ways, by_test, or_from, or_parts, or_left, or_right, Syntax, Html, Xhtml, Tag, Token, tag, section, comment, doctype, SpellsTag, Spells, IsFirst, has_sections, begins_declaration, ends_with, ends_comment, raw_name, begins_end, Unfinished, token_begun, tag_begun, run_begun, opening_begun, Content, Kind, ReadsOn, spells_each, begins_from, snoc_last, whole, refused, verdict, GoesOn, ReadAs, at_last, at_next}
 use Rattle.rx_grammar.specs.Spelling as spelling
-use Rattle.rx_pages.specs.Scanner.{whole, refused, verdict, GoesOn, ReadAs, at_last, at_next}
-use Rattle.rx_pages.proofs.Reading.{raw_is}
-use Rattle.rx_pages.proofs.FirstFronts.{first_here, FirstMore, first_more, whole_first, all_none, begins_exactly, ends_so, ends_append}
-use Rattle.rx_pages.proofs.TagRuns.{is_known_by, in_markup', in_raw', is_known}
-use Rattle.rx_pages.proofs.RawEnds.{IsRawName, is_raw_name, spells_end}
 use Rattle.rx_pages.proofs.Pends.{occurs, Pends, nothing, in_reference, at_less_than, in_end, in_raw_tag, in_a_tag, in_question, in_instruction, in_bogus, in_html_comment, in_strict, in_a_doctype, in_a_section, in_an_opening, FaultyBy, Out, from_nothing, from_reference, from_tag, raw_html, from_raw_tag, from_end}
 use Rattle.rx_pages.proofs.PendsMarks.{as_verdict, from_question, from_instruction, from_html_comment, from_strict, from_section, same_word, begins_doctype, from_doctype}
 use Rattle.rx_pages.proofs.PendsOpenings.{from_less_than, from_bogus, from_opening}
+use Rattle.rx_pages.proofs.Below.{raw_is, first_here, FirstMore, first_more, whole_first, all_none, begins_exactly, ends_so, ends_append, is_known_by, in_markup', in_raw', is_known, IsRawName, is_raw_name, spells_end}
 
 on_syntax : (s t : Syntax) (i : Content) (run : Chars) (c : ℕ) → s ≡ t → Out t i run c (verdict t i run c) → Out s i run c (verdict s i run c)
 on_syntax s t i run c z h = subst (λ x. Out x i run c (verdict x i run c)) (sym z) h

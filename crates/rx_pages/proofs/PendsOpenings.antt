@@ -1,19 +1,13 @@
 -- What the next character makes of `<`, and of `<!` before it is known what begins there.
-use Rattle.rx_reader.proofs.Common.{◌≡◌, ◌∙◌, ℕ, Bool, true, false, List, [], ◌∷◌, ◌++◌, refl, ap, sym, subst, append-nil, inl, inr, ◌&&◌, ◌||◌, ◌==◌, not, codes, list_any, map-append, cond-true, cond-false, and_from, or_parts, lowered_char, solidus, is_letter, Chars, lowered, begins_with, both, either, not_both_ways, by_test, split, untrue, and-false, Syntax, Html, Xhtml, comment, begins_tag, has_markup, has_sections, has_less_than, begins_markup, ends_with, ends_comment, begins_declaration, Faulty, meets_opening, is_opening_begun, openings, Content, fresh, ReadsOn, of_one, equal, has_end, repeats_once}
+use Rattle.rx_pages.proofs.Words.{◌≡◌, ◌∙◌, ℕ, Bool, true, false, List, [], ◌∷◌, ◌++◌, refl, ap, sym, subst, append-nil, inl, inr, ◌&&◌, ◌||◌, ◌==◌, not, codes, list_any, map-append, cond-true, cond-false, and_from, or_parts, lowered_char, solidus, is_letter, Chars, lowered, begins_with, both, either, not_both_ways, by_test, split, untrue, and-false, Syntax, Html, Xhtml, comment, begins_tag, has_markup, has_sections, has_less_than, begins_markup, ends_with, ends_comment, begins_declaration, Faulty, meets_opening, is_opening_begun, openings, Content, fresh, ReadsOn, of_one, equal, has_end, repeats_once, keyword, whole_if, goes_on, is_mark, in_tag, verdict}
 use Rattle.rx_grammar.specs.declared.contents.Content.TheVariants as content
 use Rattle.rx_grammar.specs.declared.faults.Kind.TheVariants as kind
 use Rattle.rx_grammar.specs.Spelling as spelling
 use Rattle.rx_grammar.specs.PageFaults as faults
-use Rattle.rx_pages.specs.Scanner.{keyword, whole_if, goes_on, is_mark, in_tag, verdict}
-use Rattle.rx_pages.proofs.Reading.{markup_is}
-use Rattle.rx_pages.proofs.Comments.{none_if, bogus_at}
-use Rattle.rx_pages.proofs.Doctypes.{no_end}
 use Rattle.rx_pages.proofs.Openings.{NoOpening, no_opening, refused_first}
-use Rattle.rx_pages.proofs.FirstFronts.{NoFront, no_front_nil, none_before_nil, no_front_snoc, first_here, begins_exactly}
-use Rattle.rx_pages.proofs.TagRuns.{in_markup'}
 use Rattle.rx_pages.proofs.Pends.{occurs, Pends, in_a_tag, in_question, in_instruction, in_bogus, in_html_comment, in_strict, in_a_doctype, in_a_section, in_an_opening, Out, tag_out}
 use Rattle.rx_pages.proofs.PendsMarks.{by_whole, as_verdict}
-use Rattle.rx_pages.proofs.Markup.{is_first}
+use Rattle.rx_pages.proofs.Below.{markup_is, none_if, bogus_at, no_end, NoFront, no_front_nil, none_before_nil, no_front_snoc, first_here, begins_exactly, in_markup', is_first}
 
 outside_html : (i : Content) → has_markup i ≡ true → occurs Html i ≡ true → has_less_than i ≡ false → i ≡ content.Outside
 outside_html content.Outside m o h = refl
@@ -92,12 +86,6 @@ module _ (i : Content) (m : has_markup i ≡ true) (text : Chars) (c : ℕ) (non
   goes : ends_with (codes ">") (text ++ c ∷ []) ≡ false → Pends Html i (60 ∷ 33 ∷ (text ++ c ∷ [])) → Here
   goes e p = subst (Out Html i (60 ∷ 33 ∷ text) c) (sym (none_if _ comment e)) p
 
-  a_comment_begins : text ++ c ∷ [] ≡ codes "--" → Here
-  a_comment_begins e = goes (ap (ends_with (codes ">")) e) (subst (λ x. Pends Html i (60 ∷ 33 ∷ x)) (sym e) (in_html_comment [] refl m (no_front_nil ends_comment refl)))
-
-  a_section_begins : has_sections i ≡ true → text ++ c ∷ [] ≡ codes "[CDATA[" → Here
-  a_section_begins h e = goes (ap (ends_with (codes ">")) e) (subst (λ x. Pends Html i (60 ∷ 33 ∷ x)) (sym e) (in_a_section [] h (no_front_nil (ends_with (codes "]]>")) refl)))
-
   a_doctype_begins : lowered (text ++ c ∷ []) ≡ codes "doctype" → Here
   a_doctype_begins e =
       goes (by_test (ends_with (codes ">") (text ++ c ∷ [])) (λ h. absurd (not_both_ways (list_any (λ c. c == 62) (text ++ c ∷ [])) (has_end (text ++ c ∷ []) h) (no_end (text ++ c ∷ []) (codes "doctype") e refl))) (λ h. h))
@@ -109,10 +97,10 @@ module _ (i : Content) (m : has_markup i ≡ true) (text : Chars) (c : ℕ) (non
       let b = or_parts (begins_with (codes "--") text) _ a.0 in
       elim (either (begins_with (codes "--") (text ++ c ∷ []) || begins_with (codes "doctype") (lowered (text ++ c ∷ []))) _ k) [
         | inl h ↦ elim (either (begins_with (codes "--") (text ++ c ∷ [])) _ h) [
-          | inl e ↦ a_comment_begins (begins_exactly (codes "--") text c b.0 e)
+          | inl e ↦ let q = begins_exactly (codes "--") text c b.0 e in goes (ap (ends_with (codes ">")) q) (subst (λ x. Pends Html i (60 ∷ 33 ∷ x)) (sym q) (in_html_comment [] refl m (no_front_nil ends_comment refl)))
           | inr e ↦ let l = map-append lowered_char text (c ∷ []) in a_doctype_begins (l ∙ begins_exactly (codes "doctype") (lowered text) (lowered_char c) b.1 (ap (begins_with (codes "doctype")) (sym l) ∙ e))
         ]
-        | inr h ↦ let q = both (has_sections i) _ h in a_section_begins q.0 (begins_exactly (codes "[CDATA[") text c (repeats_once (has_sections i) (begins_with (codes "[CDATA[") text) q.0 a.1) q.1)
+        | inr h ↦ let q = both (has_sections i) _ h in let e = begins_exactly (codes "[CDATA[") text c (repeats_once (has_sections i) (begins_with (codes "[CDATA[") text) q.0 a.1) q.1 in goes (ap (ends_with (codes ">")) e) (subst (λ x. Pends Html i (60 ∷ 33 ∷ x)) (sym e) (in_a_section [] q.0 (no_front_nil (ends_with (codes "]]>")) refl)))
       ]
 
   pub from_bogus : NoFront (ends_with (codes ">")) text → Out Html i (60 ∷ 33 ∷ text) c (verdict Html i (60 ∷ 33 ∷ text) c)

@@ -1,8 +1,7 @@
 -- What a tag leaves open of the elements at the front of a page.
-use Rattle.rx_grammar.proofs.Common.{cond-true, cond-false, and_from, ◌≡◌, ◌∙◌, ℕ, ◌+◌, Bool, true, false, cond, List, [], ◌∷◌, Option, Some, refl, ap, sym, arith, length, ◌&&◌, not, Chars, both, untrue, not_both_ways, by_test, split, Syntax, same, is_among, row_of, Tag, tag, Place, is_html, StartTag, Item, enders, is_omissible, is_held, is_ended_by, names_of, has_row, ends_by, Line, inside_of, parent_of, enders_of, Open, after_start, after_end}
-use Rattle.rx_pages.proofs.Contents.{omissible_html}
-use Rattle.rx_pages.proofs.Steps.{same_turned}
+use Rattle.rx_grammar.proofs.Common.{cond-true, cond-false, and_from, ◌≡◌, ◌∙◌, ℕ, ◌+◌, Bool, true, false, cond, List, [], ◌∷◌, Option, Some, refl, ap, sym, arith, length, ◌&&◌, not, Chars, both, untrue, not_both_ways, split, Syntax, same, is_among, row_of, Tag, tag, Place, is_html, StartTag, Item, enders, is_omissible, is_held, is_ended_by, names_of, has_row, ends_by, Line, inside_of, parent_of, enders_of, Open, after_start, after_end, false_from_ne_true}
 use Rattle.rx_pages.proofs.Growing.{pops}
+use Rattle.rx_pages.proofs.Below.{omissible_html, same_turned}
 
 -- an element with a row is omissible
 ender_omits : (place : Place) (name other : Chars) → is_among (enders place name) other ≡ true → is_omissible place name ≡ true
@@ -46,8 +45,7 @@ module _ (syntax : Syntax) (depth : ℕ) (all : List Item) (item : Item) (u : Ta
 
   pub no_ender : (line : Line) → is_html (inside_of syntax line).content ≡ false → is_among (enders_of syntax line) u.name ≡ false
   no_ender [] h = refl
-  no_ender (s ∷ above) h = by_test {G = is_among (enders (inside_of syntax above) s.name) u.name ≡ false} (is_among (enders (inside_of syntax above) s.name) u.name)
-      (λ k. absurd (not_both_ways (is_html (inside_of syntax (s ∷ above)).content) (ap is_html (omissible_html syntax above s.name (ender_omits (inside_of syntax above) s.name u.name k)).inside) h)) (λ k. k)
+  no_ender (s ∷ above) h = false_from_ne_true (is_among (enders (inside_of syntax above) s.name) u.name) (λ k. not_both_ways (is_html (inside_of syntax (s ∷ above)).content) (ap is_html (omissible_html syntax above s.name (ender_omits (inside_of syntax above) s.name u.name k)).inside) h)
 
   module _ (closing : u.closing ≡ true) where
     closed_by : (above : Line) (s : StartTag) → (is_omissible (inside_of syntax above) s.name && not (same s.name u.name) && not (is_held (parent_of above) s.name)) ≡ true → is_ended_by (inside_of syntax above) (parent_of above) s.name (item ∷ []) ≡ true

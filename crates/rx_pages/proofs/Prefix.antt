@@ -43,9 +43,6 @@ next_more : (s : Syntax) (i : Content) (text : Chars) (token : Token) (a run res
 next_more s i text token [] [] rest h = any_next s i text token h (next_of (values rest) None)
 next_more s i text token _ _ rest h = h
 
-regrouped : (xs ys zs whole : List Entry) → whole ≡ (xs ++ ys) ++ zs → xs ++ (ys ++ zs) ≡ whole
-regrouped xs ys zs whole e = sym (append_assoc xs ys zs) ∙ sym e
-
 module _ (syntax : Syntax) (depth : ℕ) (meant expected : Nesting → Type 0) where
   -- what is left of the page behind its front
   pub record Behind (all some : List Item) (left : List Entry) : Type 0 where
@@ -62,7 +59,7 @@ module _ (syntax : Syntax) (depth : ℕ) (meant expected : Nesting → Type 0) w
   first_tokens run rest {all = all} no_more h w e (stands n m) g = record { items = all; are = refl; spelled = subst (λ xs. Spelled syntax xs None all) e h; reached = n; is_meant = m; events = _; going = g }
   first_tokens run rest (one c r front a sp f l more) no_more w e g h = absurd (cc)
   first_tokens run rest {n = n} (one c r front a {items = items} sp f l more) (one d other others b {items = behind} sq k m most) w e (goes {events = es} a2 step ci st g) (goes {events = fs} b2 next di nt h) =
-      let i = same_item syntax c d r other (front ++ (run ++ rest)) others a b (ci ∙ sym di) (regrouped (c ∷ r) front (run ++ rest) _ e)
+      let i = same_item syntax c d r other (front ++ (run ++ rest)) others a b (ci ∙ sym di) (sym (append_assoc (c ∷ r) front (run ++ rest)) ∙ sym e)
       (next_more syntax a.content _ a.token front run rest (subst (λ x. Spells syntax a.content (values (c ∷ r)) (next_of (values front) x) a.token) w sp)) sq f l k m in
       let same_ok : Ok step ≡ Ok next = sym st ∙ (ap (nest_step syntax depth n) i.item ∙ nt) in
       let same_step : step ≡ next = cc in

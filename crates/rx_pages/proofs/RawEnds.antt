@@ -1,7 +1,6 @@
 -- The end tags of raw elements, in HTML.
-use Rattle.rx_reader.proofs.Common.{◌≡◌, ◌∙◌, ℕ, ◌+◌, true, false, [], ◌∷◌, ◌++◌, Some, refl, ap, sym, subst, arith, ◌==◌, not, list_all, cond-false, and_from, nat_tests, lowered_char, is_letter, is_white_space, solidus, greater_than_sign, between, Chars, lowered, both, not_both_ways, by_test, untrue, Syntax, Html, name_of_raw, Tag, ends_name, Shape, a_start, an_end, is_tag_name, cased, SpellsTag, raw_name, Content, RawName, ReadsOn, of_white, of_one, unless, reads_each}
+use Rattle.rx_pages.proofs.Words.{◌≡◌, ◌∙◌, ℕ, ◌+◌, true, false, [], ◌∷◌, ◌++◌, Some, refl, ap, sym, subst, arith, ◌==◌, not, list_all, cond-false, and_from, nat_tests, lowered_char, is_letter, is_white_space, solidus, greater_than_sign, between, Chars, lowered, both, not_both_ways, by_test, untrue, Html, name_of_raw, Tag, ends_name, Shape, a_start, an_end, is_tag_name, cased, SpellsTag, raw_name, Content, RawName, ReadsOn, of_white, of_one, unless, reads_each, Script}
 use Rattle.rx_grammar.specs.declared.contents.Content.TheVariants as content
-use Rattle.rx_grammar.specs.declared.contents.RawName.TheVariants.{Script}
 use Rattle.rx_pages.proofs.TagRuns.{KnownEnd, front_of}
 
 -- their names are letters in lower case
@@ -83,12 +82,9 @@ module _ (name : Chars) (raw : IsRawName name) where
         is_tag = refl;
       })
 
--- the front of what is spelled is read
-pub spelled_reads : (s : Syntax) (a : Chars) (c : ℕ) (b : Chars) (t : Tag) → SpellsTag s (a ++ c ∷ b) t → ReadsOn s a
-spelled_reads s a c b t sp = let r = reads_each s (a ++ c ∷ b) t sp in front_of s a c b r.last r.run
-
+-- its front is read
 pub end_reads : (name word : Chars) → IsRawName name → lowered word ≡ solidus ∷ name → ReadsOn Html word
-end_reads name word raw e = spelled_reads Html word 62 [] (end_tag name) (spells_end name raw word e)
+end_reads name word raw e = let r = reads_each Html (word ++ 62 ∷ []) (end_tag name) (spells_end name raw word e) in front_of Html word 62 [] r.last r.run
 
 -- two names that stand before what ends one
 cut_same : (a b : Chars) (x y : ℕ) (xs ys : Chars) → a ++ x ∷ xs ≡ b ++ y ∷ ys → list_all (λ c. not (ends_name c)) a ≡ true → list_all (λ c. not (ends_name c)) b ≡ true → ends_name x ≡ true → ends_name y ≡ true → a ≡ b

@@ -1,8 +1,7 @@
 -- Raw text and its end tag are read as they are spelled.
-use Rattle.rx_reader.proofs.Common.{◌≡◌, ◌≢◌, ◌∙◌, ℕ, true, false, [], ◌∷◌, ◌++◌, Option, Some, None, refl, ap, sym, subst, append-nil, append_assoc, ◌&&◌, not, cond-true, cond-false, and_from, map-append, lowered_char, solidus, Chars, begins_with, lowered, both, by_test, untrue, Syntax, Tag, tag, kept, SpellsTag, raw_name, begins_end, stops_end, IsBefore, Content, begins_front, RawEnd, raw_end, not_front, run_not_end}
-use Rattle.rx_pages.specs.Scanner.{goes_on, whole, in_raw, ReadAs, at_next}
-use Rattle.rx_pages.proofs.Reading.{Last, no_last, a_last, last_of, all_go, read_to, raw_is}
-use Rattle.rx_pages.proofs.Markup.{tag_goes, tag_ends, more_left}
+use Rattle.rx_pages.proofs.Words.{◌≡◌, ◌≢◌, ◌∙◌, ℕ, true, false, [], ◌∷◌, ◌++◌, Option, Some, None, refl, ap, sym, subst, append-nil, append_assoc, ◌&&◌, not, cond-true, cond-false, and_from, map-append, lowered_char, solidus, Chars, begins_with, lowered, both, by_test, untrue, Syntax, Tag, tag, kept, SpellsTag, raw_name, begins_end, stops_end, IsBefore, Content, begins_front, RawEnd, raw_end, not_front, run_not_end, goes_on, whole, in_raw, ReadAs, at_next, false_from_ne_true}
+use Rattle.rx_pages.proofs.Reading.{all_go, reads_through, raw_is}
+use Rattle.rx_pages.proofs.Markup.{tag_goes, tag_ends}
 
 -- each front of what may begin an end tag may begin one
 pub begins_end_front : (name a b : Chars) → begins_end name (a ++ b) ≡ true → begins_end name a ≡ true
@@ -19,8 +18,7 @@ module _ (s : Syntax) (i : Content) (name : Chars) (raw : raw_name i ≡ Some na
   module _ (text : Chars) (t : Tag) (sp : SpellsTag s text t) (closing : t.closing ≡ true) (named : t.name ≡ name) where
     -- it doesn't stop within the end tag
     no_stop : (f : Chars) (d : ℕ) (more : Chars) → text ≡ f ++ d ∷ more → (begins_end name f && stops_end name f d) ≡ false
-    no_stop f d more e = by_test {G = (begins_end name f && stops_end name f d) ≡ false} (begins_end name f && stops_end name f d)
-        (λ h. let k = both (begins_end name f) _ h in absurd (run_not_end name f d more (subst (RawEnd name) e (raw_end s i name text t raw sp closing named)) k.0 k.1)) (λ h. h)
+    no_stop f d more e = false_from_ne_true (begins_end name f && stops_end name f d) (λ h. let k = both (begins_end name f) _ h in run_not_end name f d more (subst (RawEnd name) e (raw_end s i name text t raw sp closing named)) k.0 k.1)
 
     goes : (f : Chars) (d : ℕ) (more : Chars) → text ≡ f ++ d ∷ more → more ≢ [] → in_raw s name f d ≡ goes_on
     goes f d more e n = by_test {G = in_raw s name f d ≡ goes_on} (begins_end name (f ++ d ∷ [])) (λ h. cond-true _ _ _ h)
@@ -30,22 +28,9 @@ module _ (s : Syntax) (i : Content) (name : Chars) (raw : raw_name i ≡ Some na
     ends f d e = cond-false _ _ _ no_front ∙ (cond-false _ _ _ (no_stop f d [] e) ∙ tag_ends s text t sp f d e)
       where
         no_front : begins_end name (f ++ d ∷ []) ≡ false
-        no_front = by_test {G = begins_end name (f ++ d ∷ []) ≡ false} (begins_end name (f ++ d ∷ []))
-            (λ h. absurd (not_front name text [] (raw_end s i name text t raw sp closing named) (ap (begins_end name) (append-nil text ∙ e) ∙ h))) (λ h. h)
+        no_front = false_from_ne_true (begins_end name (f ++ d ∷ [])) (λ h. not_front name text [] (raw_end s i name text t raw sp closing named) (ap (begins_end name) (append-nil text ∙ e) ∙ h))
 
     pub reads_end_of_raw : (next : Option ℕ) → ReadAs s i (60 ∷ text) next (tag t)
-    reads_end_of_raw next = by (last_of text)
-      where
-        by : Last text → ReadAs s i (60 ∷ text) next (tag t)
-        by (no_last e) = absurd (not_nothing (raw_end s i name text t raw sp closing named) e)
-          where
-            not_nothing : RawEnd name text → text ≡ [] → ⊥
-            not_nothing r e = let k = sym r.is ∙ e in cc
-        by (a_last f c e) =
-            read_to s i (60 ∷ f) c next (tag t) (ap (λ x. 60 ∷ x) e) (
-              refl,
-              all_go s i (60 ∷ []) f (λ a d more k.
-                  let q : text ≡ a ++ d ∷ (more ++ c ∷ []) = e ∙ (ap (λ x. x ++ c ∷ []) k ∙ append_assoc a (d ∷ more) (c ∷ [])) in
-                  raw_is s i a name d raw ∙ goes a d (more ++ c ∷ []) q (more_left s text t sp more c)),
-            )
-            (raw_is s i f name c raw ∙ ends f c e)
+    reads_end_of_raw next =
+        reads_through s i (60 ∷ []) text next (tag t) (λ e. let k = sym (raw_end s i name text t raw sp closing named).is ∙ e in cc) (refl, tt) (λ a d more e n. raw_is s i a name d raw ∙ goes a d more e n)
+        (λ f c e. raw_is s i f name c raw ∙ ends f c e)

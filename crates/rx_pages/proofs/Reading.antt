@@ -1,14 +1,13 @@
 -- What leads from character to character to a verdict.
-use Rattle.rx_reader.proofs.Common.{◌≡◌, ◌≢◌, ◌∙◌, ℕ, Bool, true, false, [], ◌∷◌, ◌++◌, Option, Some, None, refl, ap, sym, subst, append-nil, append_assoc, Chars, not_both_ways, Syntax, Token, IsFirst, has_markup, raw_name, Content}
+use Rattle.rx_pages.proofs.Words.{◌≡◌, ◌∙◌, ℕ, Bool, true, false, List, [], ◌∷◌, ◌++◌, Option, Some, None, refl, ap, sym, subst, append-nil, append_assoc, Chars, not_both_ways, Syntax, Token, IsFirst, has_markup, raw_name, Content, no_end, goes_on, whole, after_less_than, in_markup, verdict, GoesOn, ReadAs, at_last, ◌≢◌}
 use Rattle.rx_grammar.specs.declared.contents.Content.TheVariants as content
-use Rattle.rx_pages.specs.Scanner.{goes_on, whole, after_less_than, in_markup, verdict, GoesOn, ReadAs, at_last}
 
--- a text by its last character
-pub data Last (text : Chars) : Type 0 where
+-- a list by its last element
+pub data Last {A : Type 0} (text : List A) : Type 0 where
   no_last : text ≡ [] → Last text
-  a_last : (front : Chars) (c : ℕ) → text ≡ front ++ c ∷ [] → Last text
+  a_last : (front : List A) (c : A) → text ≡ front ++ c ∷ [] → Last text
 
-pub last_of : (text : Chars) → Last text
+pub last_of : {A : Type 0} (text : List A) → Last text
 last_of [] = no_last refl
 last_of (c ∷ text) = by (last_of text)
   where
@@ -32,25 +31,24 @@ module _ (s : Syntax) (i : Content) where
   pub read_to : (front : Chars) (c : ℕ) (next : Option ℕ) (token : Token) {text : Chars} → text ≡ front ++ c ∷ [] → GoesOn s i [] front → verdict s i front c ≡ whole token → ReadAs s i text next token
   read_to front c next token e g h = subst (λ x. ReadAs s i x next token) (sym e) (at_last front c token g h)
 
-  -- what ends at the first front that meets a test, behind a fixed opening
+  -- what is read to its last character, behind an opening
+  pub reads_through : (opening x : Chars) (next : Option ℕ) (token : Token) → x ≢ [] → GoesOn s i [] opening → ((f : Chars) (d : ℕ) (more : Chars) → x ≡ f ++ d ∷ more → more ≢ [] → verdict s i (opening ++ f) d ≡ goes_on)
+      → ((f : Chars) (d : ℕ) → x ≡ f ++ d ∷ [] → verdict s i (opening ++ f) d ≡ whole token) → ReadAs s i (opening ++ x) next token
+  reads_through opening x next token some g on off = by (last_of x)
+    where
+      by : Last x → ReadAs s i (opening ++ x) next token
+      by (no_last e) = absurd (some e)
+      by (a_last f c e) =
+          read_to (opening ++ f) c next token (ap (λ y. opening ++ y) e ∙ sym (append_assoc opening f (c ∷ [])))
+          (go_append [] opening f g (all_go opening f (λ a d more k. on a d (more ++ c ∷ []) (e ∙ (ap (λ y. y ++ c ∷ []) k ∙ append_assoc a (d ∷ more) (c ∷ []))) (λ h. no_end more c (sym h))))) (off f c e)
+
+  -- what ends at the first front that meets a test
   pub reads_first : (opening x : Chars) (test : Chars → Bool) (next : Option ℕ) (token : Token) → IsFirst test x → test [] ≡ false → GoesOn s i [] opening
       → ((f : Chars) (d : ℕ) (more : Chars) → x ≡ f ++ d ∷ more → test (f ++ d ∷ []) ≡ false → verdict s i (opening ++ f) d ≡ goes_on)
       → ((f : Chars) (d : ℕ) → x ≡ f ++ d ∷ [] → test (f ++ d ∷ []) ≡ true → verdict s i (opening ++ f) d ≡ whole token) → ReadAs s i (opening ++ x) next token
-  reads_first opening x test next token first none g on off = by (last_of x)
-    where
-      by : Last x → ReadAs s i (opening ++ x) next token
-      by (no_last e) = absurd (not_both_ways (test []) (ap test (sym e) ∙ first.whole) none)
-      by (a_last f c e) =
-          read_to (opening ++ f) c next token (ap (λ y. opening ++ y) e ∙ sym (append_assoc opening f (c ∷ [])))
-          (go_append [] opening f g (all_go opening f (λ a d more k. on a d (more ++ c ∷ []) (longer a d more k) (first.first (a ++ d ∷ []) (more ++ c ∷ []) (longer a d more k ∙ sym (append_assoc a (d ∷ []) (more ++ c ∷ []))) (more_left more)))))
-          (off f c e (ap test (sym e) ∙ first.whole))
-        where
-          longer : (a : Chars) (d : ℕ) (more : Chars) → f ≡ a ++ d ∷ more → x ≡ a ++ d ∷ (more ++ c ∷ [])
-          longer a d more k = e ∙ (ap (λ y. y ++ c ∷ []) k ∙ append_assoc a (d ∷ more) (c ∷ []))
-
-          more_left : (more : Chars) → more ++ c ∷ [] ≢ []
-          more_left [] h = cc
-          more_left (z ∷ more) h = cc
+  reads_first opening x test next token first none g on off =
+      reads_through opening x next token (λ e. not_both_ways (test []) (ap test (sym e) ∙ first.whole) none) g
+      (λ f d more e n. on f d more e (first.first (f ++ d ∷ []) more (e ∙ sym (append_assoc f (d ∷ []) more)) n)) (λ f d e. off f d e (ap test (sym e) ∙ first.whole))
 
 pub markup_raw : (i : Content) → has_markup i ≡ true → raw_name i ≡ None
 markup_raw (content.Raw name) h = absurd (cc)

@@ -1,11 +1,8 @@
 -- Faults that a character decides outside tags and document types are refused at it.
-use Rattle.rx_reader.proofs.Common.{◌≡◌, ◌≢◌, ◌∙◌, ℕ, true, false, [], ◌∷◌, ◌++◌, None, refl, ap, eqb-true, ◌&&◌, ◌==◌, not, codes, cond-true, cond-false, or_from, or_parts, ampersand, semicolon, less_than_sign, greater_than_sign, is_white_space, Chars, both, untrue, by_test, and-false, Syntax, Html, Xhtml, is_body, is_begun, meaning, RunFault, unknown, bad, no_reference, ends_with, IsFirst, has_markup, has_references, keeps_runs, begins_markup, Content, Kind, Outside, StrictText, UnknownReference, BadReference}
+use Rattle.rx_pages.proofs.Words.{◌≡◌, ◌≢◌, ◌∙◌, ℕ, true, false, [], ◌∷◌, ◌++◌, None, refl, ap, eqb-true, ◌&&◌, ◌==◌, not, codes, cond-true, cond-false, or_from, or_parts, ampersand, semicolon, less_than_sign, greater_than_sign, is_white_space, Chars, both, untrue, by_test, and-false, Syntax, Html, Xhtml, is_body, is_begun, meaning, RunFault, unknown, bad, no_reference, ends_with, IsFirst, has_markup, has_references, keeps_runs, begins_markup, Content, Kind, Outside, StrictText, UnknownReference, BadReference, refused, told_of_reference, is_mark, in_markup, verdict, GoesOn, body_begun, name_body}
 use Rattle.rx_grammar.specs.declared.contents.Content.TheVariants as content
-use Rattle.rx_pages.specs.Scanner.{refused, told_of_reference, is_mark, in_markup, verdict, GoesOn}
 use Rattle.rx_pages.proofs.Reading.{all_go, go_append, markup_is}
 use Rattle.rx_pages.proofs.Texts.{run_goes, semicolon_stops}
-use Rattle.rx_reader.proofs.TextComplete.{body_begun}
-use Rattle.rx_reader.proofs.ValueRefusals.{name_body}
 
 -- All characters but the last go on, and the last one is refused.
 pub record IsRefused (syntax : Syntax) (inside : Content) (found : Kind) (chars : Chars) : Type 0 where

@@ -1,7 +1,5 @@
 -- What is read under one spot is read of the page, as long as its tokens leave the spot as it is.
-use Rattle.rx_reader.proofs.Common.{◌≡◌, ◌∙◌, ℕ, List, [], ◌∷◌, ◌++◌, refl, sym, ap, subst, append_assoc, append-nil, Result, Ok, Err, Syntax, Item, Fault, Kind, Limits}
-use Rattle.rx_pages.specs.Nesting.{Event, Nesting, Step, nest_step}
-use Rattle.rx_pages.specs.PageReader.{Spot, Scanning, Scanned, fault_in, read_byte, with_items, scan_byte_on, scan_on, scan_from, spot_of, step_on, steps_on, no_step, with_events, Progress, progress_of, nested_items, page_byte_on, page_on, telling}
+use Rattle.rx_pages.proofs.Words.{◌≡◌, ◌∙◌, ℕ, List, [], ◌∷◌, ◌++◌, refl, sym, ap, subst, append_assoc, append-nil, Result, Ok, Err, Syntax, Item, Fault, Kind, Limits, Event, Nesting, Step, nest_step, Spot, Scanning, Scanned, fault_in, read_byte, with_items, scan_byte_on, scan_on, scan_from, spot_of, step_on, steps_on, no_step, with_events, Progress, progress_of, nested_items, page_byte_on, page_on, telling}
 use Rattle.rx_pages.proofs.TokenWalk.{steps_from}
 
 -- a fault of the scanner stays
@@ -32,9 +30,6 @@ module _ (syntax : Syntax) (limits : Limits) (spot : Spot) where
   scan_first s byte bytes r h =
       ap (λ x. scan_on syntax limits spot (with_items s [] x) bytes) h
       ∙ (ap (λ x. scan_on syntax limits spot (Ok (record { next = r.next; items = x })) bytes) (sym (append-nil r.items)) ∙ scan_before r.items (Ok (record { next = r.next; items = [] })) bytes)
-
-  pub scan_first_fault : (s : Scanning) (byte : ℕ) (bytes : List ℕ) (kind : Kind) → read_byte syntax limits spot byte s ≡ Err kind → scan_from syntax limits spot s (byte ∷ bytes) ≡ Err (fault_in s kind)
-  scan_first_fault s byte bytes kind h = ap (λ x. scan_on syntax limits spot (with_items s [] x) bytes) h ∙ scan_fault syntax limits spot (fault_in s kind) bytes
 
 -- tokens that nest and leave the spot as it is
 abbrev pub Stays : Syntax → ℕ → Spot → Nesting → List Item → Type 0
@@ -74,15 +69,10 @@ module _ (syntax : Syntax) (limits : Limits) (spot : Spot) where
   -- a byte of the page, under the spot
   page_byte_ok : (s : Scanning) (n : Nesting) (told : List Event) (byte : ℕ) (r : Scanned) (step : Step) → spot_of syntax n ≡ spot → read_byte syntax limits spot byte s ≡ Ok r → steps_on syntax limits.depth (Ok (no_step n)) r.items ≡ Ok step
       → page_byte_on syntax limits (from_there s n told) byte ≡ from_there r.next step.next (told ++ step.events)
-  page_byte_ok s n told byte r step e h k =
-      ap (λ x. telling told (nested_items syntax limits.depth (record { scan = s; nest = n }) (read_byte syntax limits x byte s))) e
-      ∙ (ap (λ x. telling told (nested_items syntax limits.depth (record { scan = s; nest = n }) x)) h
-      ∙ ap (λ x. telling told (progress_of s r.next x)) k)
+  page_byte_ok s n told byte r step e h k = rw (e, h, k) refl
 
   pub page_byte_fault : (s : Scanning) (n : Nesting) (told : List Event) (byte : ℕ) (kind : Kind) → spot_of syntax n ≡ spot → read_byte syntax limits spot byte s ≡ Err kind → page_byte_on syntax limits (from_there s n told) byte ≡ Err (fault_in s kind)
-  page_byte_fault s n told byte kind e h =
-      ap (λ x. telling told (nested_items syntax limits.depth (record { scan = s; nest = n }) (read_byte syntax limits x byte s))) e
-      ∙ ap (λ x. telling told (nested_items syntax limits.depth (record { scan = s; nest = n }) x)) h
+  page_byte_fault s n told byte kind e h = rw (e, h) refl
 
   -- what is read under one spot is read of the page
   pub record PageOn (s : Scanning) (n : Nesting) (told : List Event) (bytes : List ℕ) (next : Scanning) (items : List Item) : Type 0 where
@@ -115,7 +105,7 @@ module _ (syntax : Syntax) (limits : Limits) (spot : Spot) where
 
       by : (x : Result Scanned Kind) → read_byte syntax limits spot byte s ≡ x → First s byte bytes next items
       by (Ok r) k = at r k (scan_from syntax limits spot r.next bytes) refl (sym (scan_first syntax limits spot s byte bytes r k) ∙ h)
-      by (Err kind) k = absurd (let w : Err (fault_in s kind) ≡ Ok (record { next = next; items = items }) = sym (scan_first_fault syntax limits spot s byte bytes kind k) ∙ h in cc)
+      by (Err kind) k = absurd (let w : Err (fault_in s kind) ≡ Ok (record { next = next; items = items }) = sym (ap (λ x. scan_on syntax limits spot (with_items s [] x) bytes) k ∙ scan_fault syntax limits spot (fault_in s kind) bytes) ∙ h in cc)
 
   pub page_scan : (bytes : List ℕ) (s : Scanning) (n : Nesting) (told : List Event) (next : Scanning) (items : List Item) → scan_from syntax limits spot s bytes ≡ Ok (record { next = next; items = items }) → Stays syntax limits.depth spot n items → PageOn s n told bytes next items
   page_scan [] s n told next items h st =

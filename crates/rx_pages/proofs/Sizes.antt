@@ -1,7 +1,5 @@
 -- How far a page's reading has come: by a byte at each byte, and where a fault is, to that of the byte that decides it.
-use Rattle.rx_reader.proofs.Common.{◌≡◌, ◌∙◌, ℕ, ◌+◌, ◌≤◌, ◌<◌, List, [], ◌∷◌, refl, sym, ap, subst, length, Result, Ok, Err, arith, nat_tests, nat_le, if◌then◌else◌, ◌++◌, by_test, Syntax, answer_of, Fault, Kind, PageTooLong, Limits}
-use Rattle.rx_pages.specs.Nesting.{Step}
-use Rattle.rx_pages.specs.PageReader.{Scanned, Progress, read_answer, read_byte, spot_of, steps_on, no_step, progress_of, nested_items, page_byte_on, telling, page_on, page_read, nothing_read}
+use Rattle.rx_pages.proofs.Words.{◌≡◌, ◌∙◌, ℕ, ◌+◌, ◌≤◌, ◌<◌, List, [], ◌∷◌, refl, sym, ap, subst, length, Result, Ok, Err, arith, nat_tests, nat_le, if◌then◌else◌, ◌++◌, by_test, Syntax, answer_of, Fault, Kind, PageTooLong, Limits, Step, Scanned, Progress, read_answer, read_byte, spot_of, steps_on, no_step, progress_of, nested_items, page_byte_on, telling, page_on, page_read, nothing_read}
 use Rattle.rx_pages.proofs.ByteFacts.{byte_is}
 use Rattle.rx_pages.proofs.FaultWalk.{fault_stays}
 

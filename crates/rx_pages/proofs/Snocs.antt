@@ -1,56 +1,7 @@
 -- One more character, and one more token, behind those of a front.
-use Rattle.rx_grammar.proofs.Common.{◌≡◌, ◌∙◌, ℕ, ◌+◌, ◌-◌, Bool, true, false, List, [], ◌∷◌, ◌++◌, refl, sym, ap, subst, length, append_assoc, append-nil, Option, Some, Ok, arith, ◌&&◌, ◌==◌, if◌then◌else◌, len_utf8, encode, encodes, length-encode, and_parts, cond-true, cond-false, right_bracket, greater_than_sign, by_test, or-false, length-append, Syntax, Entry, byte_order_mark, line_feed, carriage_return, line_end_entry, placed, entered, without_mark, Spells, values, next_of, Item, last_from, Spelled, no_more, one, Fits, AllFit, is_literal, no_section_end}
-use Rattle.rx_pages.specs.Nesting.{Event, Nesting, Step, content_at, nest_step, Goes, stands, goes}
-use Rattle.rx_pages.proofs.CharSteps.{passes, entry_at}
-use Rattle.rx_pages.proofs.CharWalk.{ends_return, is_started, no_return, no_mark}
-use Rattle.rx_pages.proofs.TokensWalk.{flags_behind}
-
--- what it enters
-abbrev pub entered_one : Bool → ℕ → ℕ → List Entry
-entered_one skipped at c = if skipped then [] else entry_at c at (at + len_utf8 c - 1) ∷ []
-
-pub entered_snoc : (after_return : Bool) (at : ℕ) (cs : List ℕ) (c : ℕ)
-    → entered after_return (placed at (cs ++ c ∷ [])) ≡ entered after_return (placed at cs) ++ entered_one (ends_return after_return cs && c == line_feed) (at + length (encodes cs)) c
-entered_snoc after_return at [] c = let z : at ≡ at + 0 = omega arith in ap (λ x. entered_one (after_return && c == line_feed) x c) z
-entered_snoc after_return at (d ∷ cs) c =
-    let n = length-append (encode d) (encodes cs) in
-    let l = length-encode d in
-    let same : at + len_utf8 d + length (encodes cs) ≡ at + length (encodes (d ∷ cs)) = omega arith in
-    by_test {G = entered after_return (placed at ((d ∷ cs) ++ c ∷ [])) ≡ entered after_return (placed at (d ∷ cs)) ++ entered_one (ends_return after_return (d ∷ cs) && c == line_feed) (at + length (encodes (d ∷ cs))) c} (after_return && d == line_feed)
-    (λ t.
-    cond-true _ _ _ t
-    ∙ (entered_snoc false (at + len_utf8 d) cs c
-    ∙ (ap (λ x. entered false (placed (at + len_utf8 d) cs) ++ entered_one (ends_return false cs && c == line_feed) x c) same
-    ∙ (ap (λ b. entered false (placed (at + len_utf8 d) cs) ++ entered_one (ends_return b cs && c == line_feed) (at + length (encodes (d ∷ cs))) c) (sym (no_return d (and_parts after_return (d == line_feed) t).1))
-    ∙ ap (λ es. es ++ entered_one (ends_return (d == carriage_return) cs && c == line_feed) (at + length (encodes (d ∷ cs))) c) (sym (cond-true _ _ _ t))))))
-    (λ t.
-    cond-false _ _ _ t
-    ∙ (ap (λ es. line_end_entry (record { value = d; first = at; last = at + len_utf8 d - 1 }) ∷ es) (entered_snoc (d == carriage_return) (at + len_utf8 d) cs c)
-    ∙ (ap (λ x. line_end_entry (record { value = d; first = at; last = at + len_utf8 d - 1 }) ∷ (entered (d == carriage_return) (placed (at + len_utf8 d) cs) ++ entered_one (ends_return (d == carriage_return) cs && c == line_feed) x c)) same
-    ∙ ap (λ es. es ++ entered_one (ends_return (d == carriage_return) cs && c == line_feed) (at + length (encodes (d ∷ cs))) c) (sym (cond-false _ _ _ t)))))
-
-pub page_snoc : (cs : List ℕ) (c : ℕ) → entered false (without_mark (placed 0 (cs ++ c ∷ []))) ≡ entered false (without_mark (placed 0 cs)) ++ entered_one (passes (is_started cs) (ends_return false cs) c) (length (encodes cs)) c
-page_snoc [] c =
-    by_test {G = entered false (without_mark (placed 0 (c ∷ []))) ≡ entered_one (passes false false c) 0 c} (c == byte_order_mark)
-    (λ t. ap (λ es. entered false es) (cond-true _ _ _ t) ∙ ap (λ b. entered_one b 0 c) (sym (or-false (c == byte_order_mark) ∙ t)))
-    (λ t. ap (λ es. entered false es) (cond-false _ _ _ t) ∙ ap (λ b. entered_one b 0 c) (sym (or-false (c == byte_order_mark) ∙ t)))
-page_snoc (d ∷ cs) c =
-    let n = length-append (encode d) (encodes cs) in
-    let l = length-encode d in
-    let same : 0 + len_utf8 d + length (encodes cs) ≡ length (encodes (d ∷ cs)) = omega arith in
-    let zero_plus : 0 + length (encodes (d ∷ cs)) ≡ length (encodes (d ∷ cs)) = omega arith in
-    by_test {G = entered false (without_mark (placed 0 ((d ∷ cs) ++ c ∷ []))) ≡ entered false (without_mark (placed 0 (d ∷ cs))) ++ entered_one (passes true (ends_return false (d ∷ cs)) c) (length (encodes (d ∷ cs))) c} (d == byte_order_mark)
-    (λ t.
-    ap (λ es. entered false es) (cond-true _ _ _ t)
-    ∙ (entered_snoc false (0 + len_utf8 d) cs c
-    ∙ (ap (λ x. entered false (placed (0 + len_utf8 d) cs) ++ entered_one (ends_return false cs && c == line_feed) x c) same
-    ∙ (ap (λ b. entered false (placed (0 + len_utf8 d) cs) ++ entered_one (ends_return b cs && c == line_feed) (length (encodes (d ∷ cs))) c) (sym (no_mark d t))
-    ∙ ap (λ es. es ++ entered_one (ends_return (d == carriage_return) cs && c == line_feed) (length (encodes (d ∷ cs))) c) (sym (ap (λ es. entered false es) (cond-true _ _ _ t)))))))
-    (λ t.
-    ap (λ es. entered false es) (cond-false _ _ _ t)
-    ∙ (entered_snoc false 0 (d ∷ cs) c
-    ∙ (ap (λ x. entered false (placed 0 (d ∷ cs)) ++ entered_one (ends_return false (d ∷ cs) && c == line_feed) x c) zero_plus
-    ∙ ap (λ es. es ++ entered_one (ends_return false (d ∷ cs) && c == line_feed) (length (encodes (d ∷ cs))) c) (sym (ap (λ es. entered false es) (cond-false _ _ _ t))))))
+use Rattle.rx_pages.proofs.Words.{◌≡◌, ◌∙◌, ℕ, Bool, true, false, List, [], ◌∷◌, ◌++◌, refl, sym, ap, subst, append_assoc, append-nil, Option, Some, Ok, ◌&&◌, ◌==◌, cond-true, cond-false, right_bracket, greater_than_sign, by_test, Syntax, Entry, carriage_return, Spells, values, next_of, Item, last_from, Spelled, no_more, one, Fits, AllFit, is_literal, no_section_end, Event, Nesting, Step, content_at, nest_step, Goes, stands, goes}
+pub use Rattle.rx_pages.proofs.Entered.{entered_one, entered_snoc, page_snoc}
+use Rattle.rx_pages.proofs.Below.{ends_return, is_started, flags_behind}
 
 pub return_snoc : (after_return : Bool) (cs : List ℕ) (c : ℕ) → ends_return after_return (cs ++ c ∷ []) ≡ (c == carriage_return)
 return_snoc after_return [] c = refl

@@ -1,9 +1,8 @@
 -- Each token is read as it is spelled.
-use Rattle.rx_reader.proofs.Common.{◌≡◌, ℕ, Option, sym, subst, Chars, Syntax, Html, Xhtml, Token, a_tag, an_end_of_raw, a_character, a_less_than, a_raw_run, a_reference, a_kept_run, a_comment, a_bogus_comment, a_question, a_strict_comment, an_instruction, a_section, a_doctype, Content}
-use Rattle.rx_pages.specs.Laws.{ReadsEachToken}
-use Rattle.rx_pages.specs.Scanner.{ReadAs}
+use Rattle.rx_pages.proofs.Words.{◌≡◌, ℕ, Option, sym, subst, Chars, Syntax, Html, Xhtml, Token, a_tag, an_end_of_raw, a_character, a_less_than, a_raw_run, a_reference, a_kept_run, a_bogus_comment, a_question, a_strict_comment, an_instruction, a_section, a_doctype, Content, ReadsEachToken, ReadAs, at_last, character, []}
+use Rattle.rx_reader.proofs.Common.{a_comment}
 use Rattle.rx_pages.proofs.Comments.{reads_comment, reads_bogus, reads_question, reads_instruction, reads_strict_comment, reads_section}
-use Rattle.rx_pages.proofs.Texts.{reads_character, reads_reference, reads_kept_run, reads_less_than}
+use Rattle.rx_pages.proofs.Texts.{first_text, reads_reference, reads_kept_run, reads_less_than}
 use Rattle.rx_pages.proofs.Markup.{reads_tag}
 use Rattle.rx_pages.proofs.RawText.{reads_raw_run, reads_end_of_raw}
 use Rattle.rx_pages.proofs.Doctypes.{reads_doctype}
@@ -14,7 +13,7 @@ in_syntax s t i text next token e r = subst (λ (x : Syntax). ReadAs x i text ne
 pub reads_each : ReadsEachToken
 reads_each s i _ next _ (a_tag text t m sp) = reads_tag s text t sp i next m
 reads_each s i _ next _ (an_end_of_raw text name t r sp c n) = reads_end_of_raw s i name r text t sp c n next
-reads_each s i _ next _ (a_character c h) = reads_character s i next c h
+reads_each s i _ next _ (a_character c h) = at_last [] c (character c) tt (first_text s i c h)
 reads_each s i _ next _ (a_less_than e h b) = in_syntax s Html i _ next _ e (reads_less_than i next h b)
 reads_each s i _ next _ (a_raw_run text name r h b) = reads_raw_run s i name r next text h b
 reads_each s i _ next _ (a_reference body c r b m) = reads_reference s i next body c r b m

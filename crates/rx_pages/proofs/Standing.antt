@@ -1,16 +1,14 @@
 -- Where the tokens lead, they stand at the front of a page.
-use Rattle.rx_grammar.proofs.Common.{cond-true, cond-false, not-false, nat_tests, ◌≡◌, ◌∙◌, ℕ, zero, suc, ◌+◌, ◌-◌, ◌<◌, Bool, true, false, List, [], ◌∷◌, ◌++◌, Some, None, refl, ap, sym, subst, arith, length, append_assoc, inl, inr, ◌⊎◌, ◌&&◌, not, nat_le, Result, Ok, Chars, not_both_ways, by_test, split, Syntax, same, is_among, Tag, Token, tag, character, reference, kept, section, comment, doctype, outside, is_alone, is_html, StartTag, Tree, end, element, Item, is_line_feed, start_of, text_of, Line, inside_of, enders_of, Phase, before, within, after, Open, a_root, a_child, Stands, not_begun, still_open, ended, under_start, after_start, after_end, is_innermost, has_ended, is_before, first_row, tag_rows, start_rows, end_rows}
-use Rattle.rx_grammar.specs.Pages.{Opens, Holds, nothing, a_text, alone, Lead, root_name, Document, a_comment, is_between, passed, a_doctype}
+use Rattle.rx_pages.proofs.Words.{cond-true, cond-false, not-false, nat_tests, ◌≡◌, ◌∙◌, ℕ, zero, suc, ◌+◌, ◌-◌, ◌<◌, Bool, true, false, List, [], ◌∷◌, ◌++◌, Some, None, refl, ap, sym, subst, arith, length, append_assoc, inl, inr, ◌⊎◌, ◌&&◌, not, nat_le, Result, Ok, Chars, not_both_ways, by_test, split, Syntax, same, is_among, Tag, Token, tag, character, reference, kept, section, comment, doctype, outside, is_alone, is_html, StartTag, Tree, end, element, Item, is_line_feed, start_of, text_of, Line, inside_of, enders_of, Phase, before, within, after, Open, a_root, a_child, Stands, not_begun, still_open, under_start, after_start, after_end, is_innermost, has_ended, is_before, first_row, tag_rows, start_rows, end_rows, Opens, Holds, nothing, a_text, alone, Lead, root_name, Document, a_comment, is_between, Kind, Event, finishes, Step, ended_under, ended_by_end, over, begun_under, line_above, tag_passes, unless_refused, text_step, step_by, nest_step}
+use Rattle.rx_grammar.proofs.Common.{ended}
+use Rattle.rx_grammar.specs.Pages.{passed, a_doctype}
 use Rattle.rx_grammar.specs.declared.contents.Content.TheVariants as content
-use Rattle.rx_grammar.specs.declared.faults.Kind.{Kind}
 use Rattle.rx_grammar.specs.declared.faults.Kind.TheVariants as kind
 use Rattle.rx_grammar.specs.Pages as pages
-use Rattle.rx_pages.specs.Nesting.{Event, finishes, Step, ended_under, ended_by_end, over, begun_under, line_above, tag_passes, unless_refused, text_step, step_by, nest_step}
-use Rattle.rx_pages.proofs.Contents.{html_is, same_is, plaintext_by, self_closed_by}
-use Rattle.rx_pages.proofs.Steps.{passes, of_start, of_end}
-use Rattle.rx_pages.proofs.Nested.{has_after_text}
+use Rattle.rx_pages.proofs.Steps.{passes}
 use Rattle.rx_pages.proofs.Growing.{suffix, extend, grow, closes_child, closes_root, no_open}
 use Rattle.rx_pages.proofs.Popping.{pop_start, start_stops, start_html, no_ender, pop_end, end_content}
+use Rattle.rx_pages.proofs.Below.{html_is, same_is, plaintext_by, self_closed_by, of_start, of_end, has_after_text}
 
 -- no row holds
 pub record NoRows (a b p s d : Bool) : Type 0 where
@@ -29,11 +27,10 @@ below depth n h = grind (arith, nat_tests)
 
 -- tokens that content Outside has
 abbrev pub may_stand : Token → Bool
-may_stand (tag t) = true
-may_stand (character c) = true
-may_stand comment = true
-may_stand doctype = true
-may_stand _ = false
+may_stand (reference c) = false
+may_stand (kept chars) = false
+may_stand (section chars) = false
+may_stand _ = true
 
 lead_snoc : {xs : List Item} {stood : Bool} → Lead xs stood → (item : Item) → item.content ≡ content.Outside → is_between item.token ≡ true → Lead (xs ++ item ∷ []) stood
 lead_snoc pages.no_more item c h = passed item c h pages.no_more
@@ -133,13 +130,6 @@ module _ (syntax : Syntax) (depth : ℕ) (all : List Item) (item : Item) where
       arrive _ step p.is (close_at (after_end syntax u.name line) u (ended_by_end syntax u.name line ++ finishes ∷ []) l.opened l.levels (mismatch (is_innermost u.name (after_end syntax u.name line)) p.none)
       (c ∙ sym (end_content syntax depth all item u k closing line)) k closing)
 
-  -- text and comments in open elements
-  text_within : {left : ℕ} (t : StartTag) (above : Line) (chars : Chars) → Open syntax left all (item ∷ []) (t ∷ above) → item.content ≡ (inside_of syntax (t ∷ above)).content → text_of item.token ≡ Some chars → Open syntax left all [] (t ∷ above)
-  text_within t above chars op c k = extend syntax op (a_text item chars c k nothing) (has_after_text (enders_of syntax (t ∷ above)) chars end)
-
-  comment_within : {left : ℕ} (t : StartTag) (above : Line) → Open syntax left all (item ∷ []) (t ∷ above) → item.content ≡ (inside_of syntax (t ∷ above)).content → item.token ≡ comment → Open syntax left all [] (t ∷ above)
-  comment_within t above op c k = extend syntax op (a_comment item c k nothing) refl
-
   -- the root
   root_at : (items : List Item) (stood : Bool) → all ≡ items ++ item ∷ [] → Lead items stood → (u : Tag) → Opens syntax outside item u → u.name ≡ root_name → (left : ℕ) → suc left ≡ depth → StandsAt (begun_under syntax item u [] [])
   root_at items stood a lead u o named left d =
@@ -201,7 +191,7 @@ module _ (syntax : Syntax) (depth : ℕ) (item : Item) (outside_has : item.conte
       line = t ∷ above
 
       stays : (chars : Chars) → text_of item.token ≡ Some chars → (Open syntax left all (item ∷ []) line) ⊎ ((is_line_feed item.token ≡ true) × Open syntax left all [] line) → Stands syntax depth all line within
-      stays chars h (inl o) = still_open depth (text_within syntax depth all item t above chars o c h) levels
+      stays chars h (inl o) = still_open depth (extend syntax o (a_text item chars c h nothing) (has_after_text (enders_of syntax (t ∷ above)) chars end)) levels
       stays chars h (inr o) = still_open depth o.1 levels
 
       by : (Open syntax left all (item ∷ []) line) ⊎ ((is_line_feed item.token ≡ true) × Open syntax left all [] line) → (token : Token) → item.token ≡ token → step_by syntax depth (record { line = line; phase = within; drops = d }) item token ≡ Ok step → More items step
@@ -211,7 +201,7 @@ module _ (syntax : Syntax) (depth : ℕ) (item : Item) (outside_has : item.conte
       by o (reference x) k e = arrived syntax depth all item (text_step (record { line = line; phase = within; drops = d }) (is_line_feed (reference x)) (x ∷ [])) step e (stays (x ∷ []) (ap text_of k) o)
       by o (kept x) k e = arrived syntax depth all item (text_step (record { line = line; phase = within; drops = d }) false x) step e (stays x (ap text_of k) o)
       by o (section x) k e = arrived syntax depth all item (text_step (record { line = line; phase = within; drops = d }) false x) step e (stays x (ap text_of k) o)
-      by (inl o) comment k e = arrived syntax depth all item (record { next = record { line = line; phase = within; drops = false }; events = [] }) step e (still_open depth (comment_within syntax depth all item t above o c k) levels)
+      by (inl o) comment k e = arrived syntax depth all item (record { next = record { line = line; phase = within; drops = false }; events = [] }) step e (still_open depth (extend syntax o (a_comment item c k nothing) refl) levels)
       by (inr o) comment k e = absurd (not_both_ways (is_line_feed item.token) o.0 (ap is_line_feed k))
       by o doctype k e = absurd (cc)
 

@@ -1,8 +1,6 @@
 -- How one token steps: after a dropped line feed, and where it ends elements whose end tags are omitted.
-use Rattle.rx_grammar.proofs.Common.{cond-true, ◌≡◌, ◌∙◌, ℕ, Bool, true, false, cond, List, [], ◌∷◌, ◌++◌, Option, Some, None, refl, ap, sym, ◌&&◌, not, nat_le, Ok, length, bytes_decides, Chars, both, not_both_ways, by_test, untrue, Syntax, same, is_among, Tag, Token, tag, character, reference, kept, section, is_alone, is_html, is_plaintext, is_self_closed, StartTag, Item, is_line_feed, enders, is_omissible, is_held, ends_by, Line, inside_of, parent_of, Phase, within, Rows, under_start, after_end, is_innermost, first_row, tag_rows, start_rows, end_rows}
-use Rattle.rx_grammar.specs.declared.faults.Kind.{Kind}
+use Rattle.rx_pages.proofs.Words.{cond-true, ◌≡◌, ◌∙◌, ℕ, Bool, true, false, cond, List, [], ◌∷◌, ◌++◌, Option, Some, None, refl, ap, sym, ◌&&◌, not, Ok, bytes_decides, Chars, both, not_both_ways, by_test, untrue, Syntax, same, is_among, Tag, Token, tag, character, reference, kept, section, is_alone, is_html, StartTag, Item, is_line_feed, enders, is_omissible, is_held, ends_by, Line, inside_of, parent_of, Phase, within, Rows, under_start, after_end, is_innermost, first_row, tag_rows, start_rows, end_rows, Kind, Event, finishes, Nesting, Step, ended_under, ended_by_end, over, begun_under, line_above, tag_passes, unless_refused, step_by}
 use Rattle.rx_grammar.specs.declared.faults.Kind.TheVariants as kind
-use Rattle.rx_pages.specs.Nesting.{Event, finishes, Nesting, Step, ended_under, ended_by_end, over, begun_under, line_above, tag_passes, unless_refused, step_by}
 use Rattle.rx_pages.proofs.Contents.{same_is, AllHtml, omissible_html, plaintext_by, self_closed_by}
 
 -- in open elements, where a line feed that comes next is dropped or isn't
@@ -44,9 +42,6 @@ passes (Some kind) a b h = absurd (cc)
 pub same_turned : (a b : Chars) → same a b ≡ false → same b a ≡ false
 same_turned a b h = by_test {G = same b a ≡ false} (same b a) (λ e. absurd (not_both_ways (same a b) ((bytes_decides a b).1 (sym (same_is b a e))) h)) (λ e. e)
 
-abbrev two_rows : Bool → Bool → Bool → Option Kind
-two_rows p s d = first_row ((p, kind.Plaintext) ∷ (s, kind.SelfClosed) ∷ (d, kind.TooDeep) ∷ [])
-
 -- the step of a start tag, and of an end tag
 pub of_start : (b : Bool) (x y : Rows) (p q : Step) → b ≡ false → unless_refused (first_row (cond b x y)) (cond b p q) ≡ unless_refused (first_row y) q
 of_start b x y p q h = ap (λ b. unless_refused (first_row (cond b x y)) (cond b p q)) h
@@ -82,10 +77,7 @@ module _ (syntax : Syntax) (depth : ℕ) (t : StartTag) (line : Line) (item : It
   one_more below ended = by_test {G = begun_under syntax item u below (finishes ∷ ended) ≡ after_one (begun_under syntax item u below ended)} (is_alone syntax (inside_of syntax below) u) (λ e. rw e refl) (λ e. rw e refl)
 
   start_rows_are : is_among (enders (inside_of syntax line) t.name) u.name ≡ true → first_row (start_rows syntax depth (t ∷ line) within u) ≡ first_row (start_rows syntax depth line within u)
-  start_rows_are among =
-      ap (λ p. two_rows p (is_self_closed syntax (inside_of syntax (t ∷ line)) u) (nat_le depth (length (under_start syntax u.name (t ∷ line))))) (plaintext_by syntax (inside_of syntax (t ∷ line)) (inside_of syntax line) u same_content)
-      ∙ (ap (λ p. two_rows (is_plaintext syntax (inside_of syntax line) u) p (nat_le depth (length (under_start syntax u.name (t ∷ line))))) (self_closed_by syntax (inside_of syntax (t ∷ line)) (inside_of syntax line) u same_content)
-      ∙ ap (λ l. two_rows (is_plaintext syntax (inside_of syntax line) u) (is_self_closed syntax (inside_of syntax line) u) (nat_le depth (length l))) (under_is among))
+  start_rows_are among = rw (plaintext_by syntax (inside_of syntax (t ∷ line)) (inside_of syntax line) u same_content, self_closed_by syntax (inside_of syntax (t ∷ line)) (inside_of syntax line) u same_content, under_is among) refl
 
   starts : u.closing ≡ false → is_among (enders (inside_of syntax line) t.name) u.name ≡ true → (step : Step)
       → unless_refused (first_row (tag_rows syntax depth line within u)) (tag_passes syntax line item u) ≡ Ok step

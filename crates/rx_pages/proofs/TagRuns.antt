@@ -1,8 +1,7 @@
 -- A run that is known to be a tag is read as one.
-use Rattle.rx_reader.proofs.Common.{suc, ◌≡◌, ◌≢◌, ◌∙◌, ℕ, ◌+◌, ◌≤◌, length, take, Bool, true, false, [], ◌∷◌, ◌++◌, Some, Ok, Err, refl, ap, sym, subst, append-nil, append_assoc, inl, inr, ◌⊎◌, arith, ◌&&◌, ◌==◌, not, drop, and_parts, cond-true, cond-false, and_right, length-map, take-append-drop, length-append, lowered_char, solidus, less_than_sign, Chars, begins_with, lowered, both, by_test, and-false, take-append_seam, drop-append_seam, Syntax, same, name_of_raw, meaning, ends_name, begins, TagFault, has_markup, raw_name, begins_end, stops_end, is_known_tag, is_known_end, Content, Kind, BadTag, is_last, TagState, fresh, moved, checked, tag_step, tag_step_on, tag_on, ReadsOn, two_fronts, begins_append, last_none, on_err, tag_on-append, parts, is_refused, same_self}
+use Rattle.rx_pages.proofs.Words.{suc, ◌≡◌, ◌≢◌, ◌∙◌, ℕ, ◌+◌, ◌≤◌, length, take, Bool, true, false, [], ◌∷◌, ◌++◌, Some, None, Ok, Err, refl, ap, sym, subst, append-nil, append_assoc, inl, inr, ◌⊎◌, arith, ◌&&◌, ◌==◌, not, drop, and_parts, cond-true, cond-false, and_right, length-map, take-append-drop, length-append, lowered_char, solidus, less_than_sign, Chars, begins_with, lowered, both, by_test, and-false, take-append_seam, drop-append_seam, Syntax, same, name_of_raw, meaning, ends_name, begins, TagFault, has_markup, raw_name, begins_end, stops_end, is_known_tag, is_known_end, is_known_raw, Content, Kind, BadTag, is_last, TagState, fresh, moved, checked, tag_step, tag_step_on, tag_on, ReadsOn, two_fronts, begins_append, last_none, on_err, tag_on-append, parts, is_refused, same_self, goes_on, told_of_tag, in_tag, in_raw, verdict, GoesOn}
 use Rattle.rx_grammar.specs.declared.contents.Content.TheVariants as content
-use Rattle.rx_pages.specs.Scanner.{goes_on, refused, told_of_tag, in_tag, in_raw, verdict, GoesOn}
-use Rattle.rx_pages.proofs.Reading.{all_go, markup_is, raw_is}
+use Rattle.rx_pages.proofs.Reading.{all_go, markup_is, markup_raw, raw_is}
 use Rattle.rx_pages.proofs.RawText.{begins_end_front}
 use Rattle.rx_pages.proofs.Contents.{same_is}
 use Rattle.rx_pages.proofs.Refusals.{IsRefused}
@@ -24,12 +23,6 @@ front_of s a c b last h =
 front_reads : (s : Syntax) (a b : Chars) → ReadsOn s (a ++ b) → ReadsOn s a
 front_reads s a [] r = subst (ReadsOn s) (append-nil a) r
 front_reads s a (c ∷ b) r = front_of s a c b r.reached r.run
-
-pub in_tag_goes : (s : Syntax) (f : Chars) (d : ℕ) → ReadsOn s (f ++ d ∷ []) → in_tag s f d ≡ goes_on
-in_tag_goes s f d r = ap told_of_tag r.run ∙ cond-false _ _ _ r.unfinished
-
-in_tag_refuses : (s : Syntax) (kind : Kind) (f : Chars) (d : ℕ) (r : ReadsOn s f) → tag_step s (meaning s) r.reached d ≡ Err kind → in_tag s f d ≡ refused kind
-in_tag_refuses s kind f d r h = ap told_of_tag (tag_on-append s (meaning s) (Ok fresh) f (d ∷ []) ∙ (ap (λ o. tag_step_on s (meaning s) o d) r.run ∙ h))
 
 -- In raw text the whole name and a character that ends it do.
 pub record KnownEnd (name text : Chars) : Type 0 where
@@ -150,15 +143,12 @@ known s (content.Rcdata name) text h = in_raw' (name_of_raw name) refl h
 known s _ text h = in_markup' refl h
 
 pub is_known : (s : Syntax) (i : Content) (text : Chars) → Known s i text → is_known_tag s i (less_than_sign ∷ text) ≡ true
-is_known s (content.Raw name) text (in_markup' m h) = absurd (cc)
-is_known s (content.Rcdata name) text (in_markup' m h) = absurd (cc)
-is_known s content.Outside text (in_raw' name r h) = absurd (cc)
-is_known s content.Html text (in_raw' name r h) = absurd (cc)
-is_known s content.Foreign text (in_raw' name r h) = absurd (cc)
-is_known s content.Strict text (in_raw' name r h) = absurd (cc)
-is_known s (content.Raw n) text (in_raw' name r h) = let e : name_of_raw n ≡ name = cc in ap (λ x. is_known_end x text) e ∙ h
-is_known s (content.Rcdata n) text (in_raw' name r h) = let e : name_of_raw n ≡ name = cc in ap (λ x. is_known_end x text) e ∙ h
-is_known s _ text (in_markup' m h) = h
+is_known s i text (in_markup' m h) = cond-true _ _ _ m ∙ h
+is_known s i text (in_raw' name r h) = by_test {G = is_known_tag s i (less_than_sign ∷ text) ≡ true} (has_markup i) (λ m. absurd (let w : None ≡ Some name = sym (markup_raw i m) ∙ r in cc)) (λ m. cond-false _ _ _ m ∙ (ap (λ o. is_known_raw o text) r ∙ h))
+
+pub begins_more : (test : ℕ → Bool) (text more : Chars) → begins test text ≡ true → begins test (text ++ more) ≡ true
+begins_more test [] more h = absurd (cc)
+begins_more test (c ∷ text) more h = h
 
 module _ (s : Syntax) (i : Content) (text : Chars) where
   pub verdict_at : Known s i text → (f : Chars) (d : ℕ) (more : Chars) → text ≡ f ++ d ∷ more → (verdict s i (60 ∷ f) d ≡ in_tag s f d) ⊎ ((verdict s i (60 ∷ f) d ≡ goes_on) × (more ≢ []))
@@ -174,13 +164,10 @@ module _ (s : Syntax) (i : Content) (text : Chars) where
     refl,
     all_go s i (60 ∷ []) front (λ f d rest e.
         elim (verdict_at k f d (rest ++ more) (t ∙ (ap (λ x. x ++ more) e ∙ append_assoc f (d ∷ rest) more))) [
-          | inl q ↦ q ∙ in_tag_goes s f d (front_reads s (f ++ d ∷ []) rest (subst (ReadsOn s) (e ∙ sym (append_assoc f (d ∷ []) rest)) r))
+          | inl q ↦ let u = front_reads s (f ++ d ∷ []) rest (subst (ReadsOn s) (e ∙ sym (append_assoc f (d ∷ []) rest)) r) in q ∙ (ap told_of_tag u.run ∙ cond-false _ _ _ u.unfinished)
           | inr q ↦ q.0
         ]),
   )
-
-  pub tag_goes_on : is_known_tag s i (less_than_sign ∷ text) ≡ true → ReadsOn s text → GoesOn s i [] (60 ∷ text)
-  tag_goes_on h r = front_goes (known s i text h) text [] (sym (append-nil text)) r
 
   -- and the one that decides a fault is refused
   pub tag_refused : (kind : Kind) → is_known_tag s i (less_than_sign ∷ text) ≡ true → TagFault s kind text → IsRefused s i kind (60 ∷ text)
@@ -192,5 +179,5 @@ module _ (s : Syntax) (i : Content) (text : Chars) where
         c = r.c;
         are = ap (λ x. 60 ∷ x) r.are;
         go = front_goes k r.front (r.c ∷ []) r.are r.before;
-        refuses = elim (verdict_at k r.front r.c [] r.are) [ inl q ↦ q ∙ in_tag_refuses s kind r.front r.c r.before r.refused | inr q ↦ absurd (q.1 refl) ];
+        refuses = elim (verdict_at k r.front r.c [] r.are) [ inl q ↦ q ∙ ap told_of_tag (tag_on-append s (meaning s) (Ok fresh) r.front (r.c ∷ []) ∙ (ap (λ o. tag_step_on s (meaning s) o r.c) r.before.run ∙ r.refused)) | inr q ↦ absurd (q.1 refl) ];
       }

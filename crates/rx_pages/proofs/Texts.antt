@@ -1,8 +1,6 @@
 -- Text and references are read as they are spelled.
-use Rattle.rx_reader.proofs.Common.{◌≡◌, ◌∙◌, ℕ, true, false, [], ◌∷◌, ◌++◌, Option, Some, None, refl, ap, sym, append_assoc, ◌&&◌, ◌==◌, not, list_all, cond-true, cond-false, or_from, or_parts, ampersand, semicolon, less_than_sign, Chars, both, untrue, not_both_ways, by_test, Syntax, Html, is_body, is_begun, stops_at, meaning, character, reference, kept, has_references, keeps_runs, has_less_than, is_text, begins_markup, IsBefore, Content, of_one, begun_front, begun_no_mark, keeps_has, less_markup, less_no_text, amp_no_text}
-use Rattle.rx_pages.specs.Scanner.{whole, told_of_reference, is_mark, verdict, GoesOn, ReadAs, at_last, at_next}
+use Rattle.rx_pages.proofs.Words.{◌≡◌, ◌∙◌, ℕ, true, false, [], ◌∷◌, ◌++◌, Option, Some, None, refl, ap, sym, append_assoc, ◌&&◌, ◌==◌, not, list_all, cond-true, cond-false, or_from, or_parts, ampersand, semicolon, less_than_sign, Chars, both, untrue, not_both_ways, by_test, Syntax, Html, is_body, is_begun, stops_at, meaning, character, reference, kept, has_references, keeps_runs, has_less_than, is_text, begins_markup, IsBefore, Content, of_one, begun_front, begun_no_mark, keeps_has, less_markup, less_no_text, amp_no_text, whole, told_of_reference, is_mark, verdict, GoesOn, ReadAs, at_next, body_begun, false_from_ne_true}
 use Rattle.rx_pages.proofs.Reading.{all_go, read_to, markup_is}
-use Rattle.rx_reader.proofs.TextComplete.{body_begun}
 
 -- no run goes on with a semicolon
 pub semicolon_stops : (body : Chars) → is_begun (body ++ 59 ∷ []) ≡ false
@@ -20,11 +18,7 @@ module _ (s : Syntax) (i : Content) where
       not_less = by_test {G = (c == less_than_sign) ≡ false} (c == less_than_sign) (λ e. absurd (not_both_ways (is_text i c) h (of_one (λ x. is_text i x ≡ false) c 60 e (less_no_text i)))) (λ e. e)
 
       not_reference : (c == ampersand && has_references i) ≡ false
-      not_reference = by_test {G = (c == ampersand && has_references i) ≡ false} (c == ampersand && has_references i)
-          (λ e. let k = both (c == ampersand) _ e in absurd (not_both_ways (is_text i c) h (of_one (λ x. is_text i x ≡ false) c 38 k.0 (amp_no_text i k.1)))) (λ e. e)
-
-  pub reads_character : (next : Option ℕ) (c : ℕ) → is_text i c ≡ true → ReadAs s i (c ∷ []) next (character c)
-  reads_character next c h = at_last [] c (character c) tt (first_text c h)
+      not_reference = false_from_ne_true (c == ampersand && has_references i) (λ e. let k = both (c == ampersand) _ e in not_both_ways (is_text i c) h (of_one (λ x. is_text i x ≡ false) c 38 k.0 (amp_no_text i k.1)))
 
   -- a run that may become a reference goes on
   pub run_goes : (run : Chars) → has_references i ≡ true → is_begun run ≡ true → GoesOn s i [] (ampersand ∷ run)

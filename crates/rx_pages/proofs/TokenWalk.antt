@@ -1,10 +1,8 @@
 -- Reading the entries of a page token by token.
-use Rattle.rx_reader.proofs.Common.{◌≡◌, ◌∙◌, ℕ, ◌+◌, ◌<◌, Bool, true, false, List, [], ◌∷◌, ◌++◌, refl, sym, ap, subst, append_assoc, append-nil, Result, Ok, Err, nat_le, ◌&&◌, ◌||◌, ◌==◌, not, if◌then◌else◌, greater_than_sign, right_bracket, less_than_sign, ampersand, Chars, by_test, false_from_ne_true, Syntax, Entry, Token, tag, character, reference, kept, section, comment, doctype, has_references, is_text, values, Item, is_literal, Phase, before, is_known_tag, Content, Kind, BadDoctype, StrictText, Limits}
-use Rattle.rx_pages.specs.Nesting.{Event, Nesting, Step, content_at, nest_step, step_by, going_on, doctype_step, text_step}
-use Rattle.rx_pages.specs.Scanner.{Verdict, goes_on, whole, ended, at_first, verdict, GoesOn}
-use Rattle.rx_pages.specs.PageReader.{Spot, Scanning, Scanned, first_of, is_too_long, item_of, is_doctype, entering, completed, told_first, with_item, told as told_by, spot_of, may_lead, with_events, steps_on, no_step}
+use Rattle.rx_pages.proofs.Words.{◌≡◌, ◌∙◌, ℕ, ◌+◌, ◌<◌, Bool, true, false, List, [], ◌∷◌, ◌++◌, refl, sym, ap, subst, append_assoc, append-nil, Result, Ok, Err, nat_le, ◌&&◌, ◌||◌, ◌==◌, not, greater_than_sign, right_bracket, less_than_sign, ampersand, Chars, by_test, false_from_ne_true, Syntax, Entry, Token, kept, doctype, has_references, is_text, values, Item, is_literal, Phase, before, is_known_tag, Content, Kind, Limits, Event, Nesting, Step, content_at, nest_step, step_by, going_on, doctype_step, text_step, Verdict, goes_on, whole, ended, at_first, verdict, GoesOn, Spot, Scanning, Scanned, first_of, is_too_long, item_of, is_doctype, told_first, with_item, spot_of, may_lead, with_events, steps_on, no_step}
+use Rattle.rx_pages.specs.PageReader.{told as told_by}
 use Rattle.rx_pages.proofs.Tokens.{values_append}
-use Rattle.rx_pages.proofs.KnownTags.{TagVerdict, on, known_more, known_verdict}
+use Rattle.rx_pages.proofs.KnownTags.{TagVerdict, on, known_snoc, known_verdict}
 use Rattle.rx_pages.proofs.EntrySteps.{Stood, scanning_of, stood_by, nested_by, entry_step}
 use Rattle.rx_pages.proofs.ByteSteps.{not_long}
 use Rattle.rx_pages.proofs.CharWalk.{is_known, Fine}
@@ -41,17 +39,12 @@ pub leads_there : (syntax : Syntax) (depth : ℕ) (n : Nesting) (item : Item) (s
 leads_there syntax depth n item step h = by item.token h
   where
     by : (token : Token) → step_by syntax depth n item token ≡ Ok step → (is_doctype token && not (may_lead n.phase)) ≡ false
-    by (tag t) k = refl
-    by (character c) k = refl
-    by (reference c) k = refl
-    by (kept text) k = refl
-    by (section text) k = refl
-    by comment k = refl
     by doctype k = at n.phase k
       where
         at : (phase : Phase) → doctype_step phase ≡ Ok step → (true && not (may_lead phase)) ≡ false
         at (before false) m = refl
         at _ m = absurd (cc)
+    by _ k = refl
 
 -- text leaves the elements as they are
 pub kept_goes_on : (syntax : Syntax) (depth : ℕ) (n : Nesting) (item : Item) (step : Step) → nest_step syntax depth n item ≡ Ok step → IsKept item.token → step.next ≡ going_on n
@@ -85,11 +78,8 @@ module _ (syntax : Syntax) (limits : Limits) where
     Bound = (a : List Entry) (e : Entry) (b : List Entry) → unit ≡ a ++ e ∷ b → is_known_tag syntax inside (values (a ++ e ∷ [])) ≡ true → e.last < first_of unit 0 + limits.tag
 
     -- the limits at one entry
-    pub known_next : (a : List Entry) (e : Entry) → is_known_tag syntax inside (values a) ≡ true → is_known_tag syntax inside (values (a ++ e ∷ [])) ≡ true
-    known_next a e h = subst (λ x. is_known_tag syntax inside x ≡ true) (sym (values_append a (e ∷ []))) (known_more syntax inside (values a) (e.value ∷ []) h)
-
     pub limit_before : Bound → (a : List Entry) (e : Entry) (b : List Entry) → unit ≡ a ++ e ∷ b → is_known_tag syntax inside (values a) ≡ true → e.last < first_of a e.first + limits.tag
-    limit_before bound a e b h k = let m = bound a e b h (known_next a e k) in subst (λ x. e.last < x + limits.tag) (sym (first_behind unit a e b h)) m
+    limit_before bound a e b h k = let m = bound a e b h (known_snoc syntax inside a e k) in subst (λ x. e.last < x + limits.tag) (sym (first_behind unit a e b h)) m
 
     pub limit_with : Bound → (a : List Entry) (e : Entry) (b : List Entry) → unit ≡ a ++ e ∷ b → is_too_long syntax limits (spot_of syntax n) (a ++ e ∷ []) (first_of a e.first) e.last ≡ false
     limit_with bound a e b h =
@@ -97,9 +87,7 @@ module _ (syntax : Syntax) (limits : Limits) where
         (λ k. let m = bound a e b h k in subst (λ x. e.last < x + limits.tag) (sym (first_behind unit a e b h)) m)
 
     go_step : (a : List Entry) (e : Entry) → verdict syntax inside (values a) e.value ≡ goes_on → entry_step syntax limits (stood n events two last a) e ≡ Ok (stood n events two last (a ++ e ∷ []))
-    go_step a e v =
-        ap (λ x. nested_by syntax limits.depth (stood n events two last a) (told_by syntax limits (spot_of syntax n) false e (scanning_of (stood n events two last a)) x)) v
-        ∙ ap (λ x. Ok (stood n x two last (a ++ e ∷ []))) (append-nil events)
+    go_step a e v = rw (v, append-nil events) refl
 
     -- entries that go on
     pub go_all : Bound → (a es b : List Entry) → unit ≡ a ++ (es ++ b) → GoesOn syntax inside (values a) (values es) → Leads (stood n events two last a) es (stood n events two last (a ++ es))
@@ -121,15 +109,7 @@ module _ (syntax : Syntax) (limits : Limits) where
     pub whole_step : (a : List Entry) (e : Entry) (item : Item) (step : Step) → verdict syntax inside (values a) e.value ≡ whole item.token → item_of inside item.token (a ++ e ∷ []) ≡ item
         → nest_step syntax limits.depth n item ≡ Ok step → (two && is_literal greater_than_sign item) ≡ false
         → entry_step syntax limits (stood n events two last a) e ≡ Ok (stood step.next (events ++ step.events) (last && is_literal right_bracket item) (is_literal right_bracket item) [])
-    whole_step a e item step v i st sec =
-        ap (λ x. nested_by syntax limits.depth (stood n events two last a) (told_by syntax limits (spot_of syntax n) false e (scanning_of (stood n events two last a)) x)) v
-        ∙ (ap (λ x. nested_by syntax limits.depth (stood n events two last a) (completed syntax limits (spot_of syntax n) false x (scanning_of (stood n events two last a)))) i
-        ∙ (ap (λ b. nested_by syntax limits.depth (stood n events two last a) (if b then Err StrictText else if is_doctype item.token && not (may_lead n.phase) then Err BadDoctype else Ok done)) sec
-        ∙ (ap (λ b. nested_by syntax limits.depth (stood n events two last a) (if b then Err BadDoctype else Ok done)) (leads_there syntax limits.depth n item step st)
-        ∙ ap (λ x. stood_by done.next events (with_events [] x)) st)))
-      where
-        done : Scanned
-        done = record { next = entering false [] (last && is_literal right_bracket item) (is_literal right_bracket item) (scanning_of (stood n events two last a)); items = item ∷ [] }
+    whole_step a e item step v i st sec = rw (v, i, sec, leads_there syntax limits.depth n item step st, st) refl
 
     -- the entry that tells that a run was text
     first_again : (spot : Spot) (e : Entry) (sc : Scanning) → sc.run ≡ [] → told_by syntax limits spot false e sc (at_first spot.inside e.value) ≡ told_first syntax limits spot false e sc (at_first spot.inside e.value)
@@ -171,7 +151,7 @@ module _ (syntax : Syntax) (limits : Limits) where
     pub kept_fine : (hi : ℕ) (e : Entry) (es : List Entry) (end : Stood) (item : Item) (step : Step) → verdict syntax inside (values unit) e.value ≡ ended item.token → item_of inside item.token unit ≡ item → nest_step syntax limits.depth n item ≡ Ok step → IsKept item.token
         → Fine syntax limits hi (stood step.next (events ++ step.events) false false []) (e ∷ es) end → Fine syntax limits hi (stood n events two last unit) (e ∷ es) end
     kept_fine hi e es end item step v i st k f = (
-      (λ w. absurd (kept_unknown e item.token v (known_next unit e w))),
+      (λ w. absurd (kept_unknown e item.token v (known_snoc syntax inside unit e w))),
       ap (λ b. b && nat_le (first_of unit e.first + limits.tag) e.last) (false_from_ne_true (is_known_tag syntax inside (values (unit ++ e ∷ []))) (kept_unknown e item.token v)),
       (f.2.0, (kept_step e item step v i st k ∙ f.2.1.0, f.2.1.1)),
     )

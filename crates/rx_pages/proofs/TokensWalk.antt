@@ -1,14 +1,13 @@
 -- Reading all tokens of a front.
-use Rattle.rx_reader.proofs.Common.{snoc_front, snoc_last, ◌≡◌, ◌∙◌, ℕ, ◌+◌, ◌≤◌, Bool, true, false, cond, List, [], ◌∷◌, ◌++◌, refl, sym, ap, subst, append_assoc, append-nil, Option, Some, None, Ok, arith, ◌&&◌, if◌then◌else◌, greater_than_sign, right_bracket, Chars, and-false, Syntax, Entry, Token, tag, kept, Spells, values, next_of, Item, last_from, Spelled, no_more, one, Fits, AllFit, is_literal, is_strict_literal, no_section_end, is_known_tag, Content, Limits}
+use Rattle.rx_pages.proofs.Words.{snoc_front, snoc_last, ◌≡◌, ◌∙◌, ℕ, ◌+◌, ◌≤◌, Bool, true, false, List, [], ◌∷◌, ◌++◌, refl, sym, ap, subst, append_assoc, append-nil, Option, Some, None, Ok, arith, ◌&&◌, if◌then◌else◌, greater_than_sign, right_bracket, Chars, and-false, Syntax, Entry, Token, tag, kept, Spells, values, next_of, Item, last_from, Spelled, no_more, one, Fits, AllFit, is_literal, is_strict_literal, no_section_end, is_known_tag, Content, Limits, Event, Nesting, Step, content_at, nest_step, Goes, stands, goes, Verdict, whole, ended, verdict, GoesOn, ReadAs, at_last, at_next, item_of, by_test, cond-true, cond-false}
 use Rattle.rx_grammar.specs.declared.contents.Content.TheVariants as content
-use Rattle.rx_pages.specs.Nesting.{Event, Nesting, Step, content_at, nest_step, Goes, stands, goes}
-use Rattle.rx_pages.specs.Scanner.{Verdict, whole, ended, verdict, GoesOn, ReadAs, at_last, at_next}
-use Rattle.rx_pages.specs.PageReader.{item_of}
 use Rattle.rx_pages.proofs.Spellings.{reads_each}
 use Rattle.rx_pages.proofs.Tokens.{values_append}
-use Rattle.rx_pages.proofs.KnownTags.{TagVerdict, on, a_tag, a_fault, known_more, known_verdict}
+use Rattle.rx_pages.proofs.KnownTags.{TagVerdict, on, a_tag, a_fault, known_snoc, known_front, known_verdict}
 use Rattle.rx_pages.proofs.EntrySteps.{Stood}
-use Rattle.rx_pages.proofs.TokenWalk.{stood, IsKept, is_kept, Bound, limit_before, limit_with, go_all, whole_step, kept_unknown, Leads}
+use Rattle.rx_pages.proofs.Reading.{Last, no_last, a_last, last_of}
+use Rattle.rx_pages.proofs.CharWalk.{Fine}
+use Rattle.rx_pages.proofs.TokenWalk.{stood, IsKept, is_kept, Bound, limit_before, limit_with, go_all, whole_step, kept_unknown, fine_append, kept_fine}
 use Rattle.rx_pages.proofs.EndedRuns.{ended_kept}
 
 -- places rise
@@ -42,19 +41,6 @@ pub rises_rest : (last : ℕ) (es : List Entry) → RisesFrom last es → Rises 
 rises_rest last [] h = tt
 rises_rest last (e ∷ es) h = h.1
 
--- a list by its last element
-data Ends (es : List Entry) : Type 0 where
-  no_end : es ≡ [] → Ends es
-  an_end : (front : List Entry) (e : Entry) → es ≡ front ++ e ∷ [] → Ends es
-
-end_of : (es : List Entry) → Ends es
-end_of [] = no_end refl
-end_of (e ∷ es) = by (end_of es)
-  where
-    by : Ends es → Ends (e ∷ es)
-    by (no_end h) = an_end [] e (ap (λ x. e ∷ x) h)
-    by (an_end front d h) = an_end (e ∷ front) d (ap (λ x. e ∷ x) h)
-
 pub two_lasts : (a b : Chars) (x y : ℕ) → a ++ x ∷ [] ≡ b ++ y ∷ [] → (a ≡ b) × (x ≡ y)
 two_lasts a b x y e = (snoc_front a b x y e, snoc_last a b x y e)
 
@@ -73,17 +59,10 @@ abbrev pub flags_behind : List Item → Bool → Bool → Bool × Bool
 flags_behind [] two last = (two, last)
 flags_behind (item ∷ items) two last = flags_behind items (last && is_literal right_bracket item) (is_literal right_bracket item)
 
--- what is had of a state and the entries behind it, where the tokens end in another
-abbrev pub Appends : Syntax → Limits → (Stood → Stood → List Entry → Type 0) → Type 0
-Appends syntax limits G = (end st mid : Stood) (xs ys : List Entry) → Leads syntax limits st xs mid → G end mid ys → G end st (xs ++ ys)
+module _ (syntax : Syntax) (limits : Limits) (hi : ℕ) where
+  abbrev G : Stood → Stood → List Entry → Type 0
+  G end st es = Fine syntax limits hi st es end
 
-abbrev pub Keeps : Syntax → Limits → (Stood → Stood → List Entry → Type 0) → Type 0
-Keeps syntax limits G =
-    (end : Stood) (n : Nesting) (events : List Event) (two last : Bool) (unit : List Entry) (e : Entry) (es : List Entry) (item : Item) (step : Step) → verdict syntax (content_at syntax n) (values unit) e.value ≡ ended item.token
-    → item_of (content_at syntax n) item.token unit ≡ item → nest_step syntax limits.depth n item ≡ Ok step → IsKept item.token → Spells syntax (content_at syntax n) (values unit) (Some e.value) item.token
-    → G end (stood step.next (events ++ step.events) false false []) (e ∷ es) → G end (stood n events two last unit) (e ∷ es)
-
-module _ (syntax : Syntax) (limits : Limits) (G : Stood → Stood → List Entry → Type 0) (appends : Appends syntax limits G) (keeps : Keeps syntax limits G) where
   -- one token
   module _ (n : Nesting) (events : List Event) (two last : Bool) (c : Entry) (r : List Entry) (item : Item) (step : Step) (ci : item.content ≡ content_at syntax n) (first : item.first ≡ c.first) (is_last : item.last ≡ last_from c.last r)
       (st : nest_step syntax limits.depth n item ≡ Ok step) (rises : RisesFrom c.last r) (fits : Fits limits.tag item item.token) where
@@ -99,14 +78,9 @@ module _ (syntax : Syntax) (limits : Limits) (G : Stood → Stood → List Entry
     tag_fits _ (a_tag t) h = let same : tag t ≡ item.token = cc in subst (λ token. Fits limits.tag item token) (sym same) fits
     tag_fits _ (a_fault kind) h = absurd (cc)
 
-    known_all : (a : List Entry) (e : Entry) (b : List Entry) → unit ≡ a ++ e ∷ b → is_known_tag syntax inside (values (a ++ e ∷ [])) ≡ true → is_known_tag syntax inside (values unit) ≡ true
-    known_all a e b h k =
-        subst (λ x. is_known_tag syntax inside x ≡ true) (sym (values_append (a ++ e ∷ []) b) ∙ ap values (append_assoc a (e ∷ []) b ∙ sym h))
-        (known_more syntax inside (values (a ++ e ∷ [])) (values b) k)
-
     last_bound : (es : List Entry) (e : Entry) → unit ≡ es ++ e ∷ [] → verdict syntax inside (values es) e.value ≡ whole item.token → Bound syntax limits n events two last unit
     last_bound es e h v a d b k w =
-        let known = known_all a d b k w in
+        let known = known_front syntax inside unit a d b k w in
         let fit = tag_fits (verdict syntax inside (values es) e.value) (known_verdict syntax inside (values es) e.value (subst (λ x. is_known_tag syntax inside x ≡ true) (ap values h ∙ values_append es (e ∷ [])) known)) v in
         let below = rises_last c r a d b rises k in
         let f = first in
@@ -116,20 +90,20 @@ module _ (syntax : Syntax) (limits : Limits) (G : Stood → Stood → List Entry
     next_bound : (e : Entry) → verdict syntax inside (values unit) e.value ≡ ended item.token → Bound syntax limits n events two last unit
     next_bound e v a d b k w =
         absurd (kept_unknown syntax limits n events two last unit e item.token v
-        (subst (λ x. is_known_tag syntax inside x ≡ true) (sym (values_append unit (e ∷ []))) (known_more syntax inside (values unit) (e.value ∷ []) (known_all a d b k w))))
+        (known_snoc syntax inside unit e (known_front syntax inside unit a d b k w)))
 
-    pub token_fine : (more : List Entry) (end : Stood) (text : Chars) (next : Option ℕ) → ReadAs syntax inside text next item.token → text ≡ values unit → next ≡ next_of (values more) None → Spells syntax inside text next item.token
+    pub token_fine : (more : List Entry) (end : Stood) (text : Chars) (next : Option ℕ) → ReadAs syntax inside text next item.token → text ≡ values unit → next ≡ next_of (values more) None
         → (two && is_literal greater_than_sign item) ≡ false
         → G end (stood step.next (events ++ step.events) (last && is_literal right_bracket item) (is_literal right_bracket item) []) more
         → G end (stood n events two last []) (unit ++ more)
-    token_fine more end text next read te ne sp sec f = by text next item.token read te ne refl sp
+    token_fine more end text next read te ne sec f = by text next item.token read te ne refl
       where
-        by : (x : Chars) (m : Option ℕ) (token : Token) → ReadAs syntax inside x m token → x ≡ values unit → m ≡ next_of (values more) None → token ≡ item.token → Spells syntax inside x m token → G end (stood n events two last []) (unit ++ more)
-        by _ _ _ (at_last front z token go v) e m k s = at (end_of unit)
+        by : (x : Chars) (m : Option ℕ) (token : Token) → ReadAs syntax inside x m token → x ≡ values unit → m ≡ next_of (values more) None → token ≡ item.token → G end (stood n events two last []) (unit ++ more)
+        by _ _ _ (at_last front z token go v) e m k = at (last_of unit)
           where
-            at : Ends unit → G end (stood n events two last []) (unit ++ more)
-            at (no_end h) = absurd (cc)
-            at (an_end es d h) =
+            at : Last unit → G end (stood n events two last []) (unit ++ more)
+            at (no_last h) = absurd (cc)
+            at (a_last es d h) =
                 let parts = two_lasts front (values es) z d.value (e ∙ (ap values h ∙ values_append es (d ∷ []))) in
                 let v2 : verdict syntax inside (values es) d.value ≡ whole item.token = subst (λ x. verdict syntax inside (values es) x ≡ whole item.token) parts.1 (subst (λ x. verdict syntax inside x z ≡ whole item.token) parts.0 (v ∙ ap whole k)) in
                 let go2 : GoesOn syntax inside [] (values es) = subst (λ x. GoesOn syntax inside [] x) parts.0 go in
@@ -137,14 +111,14 @@ module _ (syntax : Syntax) (limits : Limits) (G : Stood → Stood → List Entry
                 let it : item_of inside item.token (es ++ d ∷ []) ≡ item = ap (λ x. item_of inside item.token x) (sym h) ∙ item_is inside item c r ci first is_last in
                 subst (λ x. G end (stood n events two last []) (x ++ more)) (sym h)
                 (subst (λ x. G end (stood n events two last []) x) (sym (append_assoc es (d ∷ []) more))
-                (appends end (stood n events two last []) (stood n events two last es) es (d ∷ more) (go_all syntax limits n events two last unit bound [] es (d ∷ []) h go2)
-                (appends end (stood n events two last es) (stood step.next (events ++ step.events) (last && is_literal right_bracket item) (is_literal right_bracket item) []) (d ∷ []) more (
+                (fine_append syntax limits hi (stood n events two last []) (stood n events two last es) end es (d ∷ more) (go_all syntax limits n events two last unit bound [] es (d ∷ []) h go2)
+                (fine_append syntax limits hi (stood n events two last es) (stood step.next (events ++ step.events) (last && is_literal right_bracket item) (is_literal right_bracket item) []) end (d ∷ []) more (
                   limit_before syntax limits n events two last unit bound es d [] h,
                   limit_with syntax limits n events two last unit bound es d [] h,
                   (stood step.next (events ++ step.events) (last && is_literal right_bracket item) (is_literal right_bracket item) [], (whole_step syntax limits n events two last unit es d item step v2 it st sec, refl)),
                 )
                 f)))
-        by _ _ _ (at_next x d token go v) e m k s = at more m f
+        by _ _ _ (at_next x d token go v) e m k = at more m f
           where
             kept_is : IsKept item.token
             kept_is = subst IsKept k (ended_kept syntax inside x d token v)
@@ -159,25 +133,21 @@ module _ (syntax : Syntax) (limits : Limits) (G : Stood → Stood → List Entry
                 let l : is_literal right_bracket item ≡ false = kept_literal right_bracket item kept_is in
                 let g2 : G end (stood step.next (events ++ step.events) false false []) (z ∷ es) =
                 subst (λ b. G end (stood step.next (events ++ step.events) b false []) (z ∷ es)) (and-false last) (subst (λ b. G end (stood step.next (events ++ step.events) (last && b) b []) (z ∷ es)) l g) in
-                appends end (stood n events two last []) (stood n events two last unit) unit (z ∷ es)
+                fine_append syntax limits hi (stood n events two last []) (stood n events two last unit) end unit (z ∷ es)
                 (go_all syntax limits n events two last unit (next_bound z v2) [] unit [] (sym (append-nil unit)) go2)
-                (keeps end n events two last unit z es item step v2 it st kept_is (subst (λ y. Spells syntax inside (values unit) (Some y) item.token) same (subst (λ token. Spells syntax inside (values unit) (Some d) token) k (subst (λ y. Spells syntax inside y (Some d) token) e s))) g2)
+                (kept_fine syntax limits n events two last unit hi z es end item step v2 it st kept_is g2)
 
   -- what is had of a front and the run behind it
   pub record Walked (st : Stood) (front run : List Entry) (meant : Nesting → Type 0) (events : List Event) (flags : Bool × Bool) : Type 0 where
     pub place : Nesting
     pub is_meant : meant place
-    pub fine : G (stood place events flags.0 flags.1 []) st (front ++ run)
+    pub fine : G (stood place events flags.0 flags.1 run) st (front ++ run)
 
   abbrev pub Finish : List Entry → (Nesting → Type 0) → Type 0
-  Finish run meant = (m : Nesting) → meant m → (events : List Event) (two last : Bool) → G (stood m events two last []) (stood m events two last []) run
+  Finish run meant = (m : Nesting) → meant m → (events : List Event) (two last : Bool) → G (stood m events two last run) (stood m events two last []) run
 
   sec_first : (two : Bool) (item : Item) (x : Bool) → (if two && is_literal greater_than_sign item then false else x) ≡ true → ((two && is_literal greater_than_sign item) ≡ false) × (x ≡ true)
-  sec_first two item x h = by (two && is_literal greater_than_sign item) h
-    where
-      by : (b : Bool) → cond b false x ≡ true → (b ≡ false) × (x ≡ true)
-      by true k = absurd (cc)
-      by false k = (refl, k)
+  sec_first two item x h = by_test (two && is_literal greater_than_sign item) (λ t. absurd (let w : false ≡ true = sym (cond-true _ _ _ t) ∙ h in cc)) (λ t. (t, sym (cond-false _ _ _ t) ∙ h))
 
   next_same : (rest run : List Entry) (next : Option ℕ) → next ≡ next_of (values run) None → next_of (values rest) next ≡ next_of (values (rest ++ run)) None
   next_same [] run next h = h
@@ -186,19 +156,19 @@ module _ (syntax : Syntax) (limits : Limits) (G : Stood → Stood → List Entry
   pub tokens_walk : {n : Nesting} {front : List Entry} {next : Option ℕ} {items : List Item} {events : List Event} (run : List Entry) (meant : Nesting → Type 0) → Spelled syntax front next items → next ≡ next_of (values run) None → Goes syntax limits.depth meant n items events
       → AllFit limits.tag items → (two last : Bool) → no_section_end items two last ≡ true → Rises (front ++ run) → (told : List Event) → Finish run meant → Walked (stood n told two last []) front run meant (told ++ events) (flags_behind items two last)
   tokens_walk {n = n} run meant no_more h (stands n2 p) fit two last sec rises told finish =
-      record { place = n; is_meant = p; fine = subst (λ x. G (stood n x two last []) (stood n told two last []) run) (sym (append-nil told)) (finish n p told two last) }
+      record { place = n; is_meant = p; fine = subst (λ x. G (stood n x two last run) (stood n told two last []) run) (sym (append-nil told)) (finish n p told two last) }
   tokens_walk {n = n} {next = next} run meant (one c r rest item {items = items} sp f l more) h (goes {events = events} item2 step ci st g) fit two last sec rises told finish =
       let parts = sec_first two item (no_section_end items (last && is_literal right_bracket item) (is_literal right_bracket item)) sec in
       let rises2 : RisesFrom c.last (r ++ (rest ++ run)) = subst (λ x. RisesFrom c.last x) (append_assoc r rest run) rises in
       let ih = tokens_walk run meant more h g fit.1 (last && is_literal right_bracket item) (is_literal right_bracket item) parts.1 (rises_rest (last_from c.last r) (rest ++ run) (rises_behind c.last r (rest ++ run) rises2)) (told ++ step.events) finish in
-      let end : Stood = stood ih.place ((told ++ step.events) ++ events) (flags_behind items (last && is_literal right_bracket item) (is_literal right_bracket item)).0 (flags_behind items (last && is_literal right_bracket item) (is_literal right_bracket item)).1 [] in
+      let end : Stood = stood ih.place ((told ++ step.events) ++ events) (flags_behind items (last && is_literal right_bracket item) (is_literal right_bracket item)).0 (flags_behind items (last && is_literal right_bracket item) (is_literal right_bracket item)).1 run in
       let sp2 = subst (λ i. Spells syntax i (values (c ∷ r)) (next_of (values rest) next) item.token) ci sp in
       record {
         place = ih.place;
         is_meant = ih.is_meant;
         fine =
-            subst (λ x. G (stood ih.place x (flags_behind items (last && is_literal right_bracket item) (is_literal right_bracket item)).0 (flags_behind items (last && is_literal right_bracket item) (is_literal right_bracket item)).1 []) (stood n told two last []) (((c ∷ r) ++ rest) ++ run)) (append_assoc told step.events events)
+            subst (λ x. G (stood ih.place x (flags_behind items (last && is_literal right_bracket item) (is_literal right_bracket item)).0 (flags_behind items (last && is_literal right_bracket item) (is_literal right_bracket item)).1 run) (stood n told two last []) (((c ∷ r) ++ rest) ++ run)) (append_assoc told step.events events)
             (subst (λ x. G end (stood n told two last []) x) (sym (append_assoc (c ∷ r) rest run))
             (token_fine n told two last c r item step ci f l st (rises_front c.last r (rest ++ run) rises2) fit.0 (rest ++ run) end (values (c ∷ r)) (next_of (values rest) next)
-            (reads_each syntax (content_at syntax n) (values (c ∷ r)) (next_of (values rest) next) item.token sp2) refl (next_same rest run next h) sp2 parts.0 ih.fine));
+            (reads_each syntax (content_at syntax n) (values (c ∷ r)) (next_of (values rest) next) item.token sp2) refl (next_same rest run next h) parts.0 ih.fine));
       }

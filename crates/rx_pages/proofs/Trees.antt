@@ -1,7 +1,5 @@
 -- A byte list has at most one tree, since the reader is a function.
-use Rattle.rx_grammar.proofs.Common.{◌≡◌, ◌∙◌, [], ◌∷◌, ap, sym, Ok, OneTree}
-use Rattle.rx_pages.specs.Nesting.{told_trees}
-use Rattle.rx_pages.specs.PageReader.{Progress}
+use Rattle.rx_pages.proofs.Words.{◌≡◌, ◌∙◌, [], ◌∷◌, ap, sym, Ok, OneTree, told_trees, Progress}
 use Rattle.rx_pages.proofs.PageRead.{page_is_read}
 
 pub one_tree : OneTree

@@ -1,18 +1,14 @@
 -- The reader reads exactly the bytes that the grammar has underway, and comes to where it says.
-use Rattle.rx_reader.proofs.Common.{◌≡◌, ◌∙◌, ℕ, ◌+◌, ◌≤◌, true, false, List, [], ◌∷◌, ◌++◌, inl, refl, sym, ap, subst, length, append_assoc, append-nil, Result, None, Ok, Err, arith, if◌then◌else◌, take, encodes, length-append, Entry, IsRead, Syntax, values, next_of, has_no_nul, IsShort, token_of, FaultAt, Fault, Unended, Limits}
-use Rattle.rx_grammar.specs.Begun.{Line, Phase, Begun as BegunPage}
-use Rattle.rx_pages.specs.PageReader.{Progress, page_read, end_of, fault_in, may_end, first_of, starts_at, token_at}
-use Rattle.rx_pages.specs.Fronts.{ReadsTo, IsUnderway, ReadsWhatIsUnderway, NothingUnfinished, UnfinishedFollowsFront}
+use Rattle.rx_pages.proofs.Words.{◌≡◌, ◌∙◌, ℕ, ◌+◌, ◌≤◌, true, false, List, [], ◌++◌, inl, refl, sym, ap, subst, length, append_assoc, append-nil, Result, None, Ok, Err, arith, if◌then◌else◌, take, take-append_seam, encodes, length-append, Entry, IsRead, Syntax, values, next_of, has_no_nul, IsShort, token_of, FaultAt, Fault, Unended, Limits, Line, Phase, Progress, page_read, end_of, fault_in, may_end, first_of, starts_at, token_at, ReadsTo, IsUnderway, ReadsWhatIsUnderway, NothingUnfinished, UnfinishedFollowsFront}
+use Rattle.rx_grammar.specs.Begun.{Begun as BegunPage}
 use Rattle.rx_pages.proofs.FaultRead.{stands_there, state, at_part}
 use Rattle.rx_pages.proofs.FaultFronts.{begun_whole}
 use Rattle.rx_pages.proofs.FaultsRead.{pending_goes, fault_is_read}
-use Rattle.rx_pages.proofs.ByteSteps.{progress_at}
+use Rattle.rx_pages.proofs.OneOf.{ok_is}
 use Rattle.rx_pages.proofs.FrontOn.{pending}
 use Rattle.rx_pages.proofs.BytesOn.{Begun, Reads, through, up_to, reads, reached_here}
 use Rattle.rx_pages.proofs.Sizes.{read_size}
-
-pub ok_is : (a b : Progress) (r : Result Progress Fault) → r ≡ Ok a → r ≡ Ok b → a ≡ b
-ok_is a b r h k = let e : Ok a ≡ Ok b = sym h ∙ k in cc
+use Rattle.rx_pages.proofs.Below.{progress_at, token_first}
 
 -- a fault of what was read is that of the page's end
 ends_at : (p : Progress) (f : Fault) (r : Result Progress Fault) → r ≡ Ok p → end_of r ≡ Err f → f.at ≡ p.now.scan.at
@@ -76,18 +72,8 @@ module _ (syntax : Syntax) (limits : Limits) where
   front_begun : (bytes : List ℕ) (line : Line) (phase : Phase) → IsUnderway syntax limits bytes line phase [] [] → BegunPage syntax limits bytes None line phase
   front_begun bytes line phase u =
       let same : u.whole ≡ bytes = sym (append-nil u.whole) ∙ sym u.are in
-      let all : u.reached.front ++ [] ≡ u.reached.front = append-nil u.reached.front in
-      record {
-        entries = u.reached.front;
-        items = u.items;
-        size = u.size;
-        read = subst (λ b. IsRead b u.reached.front) same (subst (λ es. IsRead u.whole es) all u.reached.read);
-        no_nul = subst (λ es. has_no_nul es ≡ true) all u.reached.no_nul;
-        spelled = u.reached.spelled;
-        fit = u.reached.fit;
-        sections = u.reached.sections;
-        stands = u.reached.stands;
-      }
+      subst (λ b. BegunPage syntax limits b None line phase) (ap (λ b. take (length u.whole) b) u.are ∙ (take-append_seam u.whole [] ∙ same))
+      (begun_whole syntax limits bytes u.whole [] u.items line phase [] u.are u.reached (let s = u.size in let e = ap length same in omega arith))
 
   begun_front : (bytes : List ℕ) (line : Line) (phase : Phase) → BegunPage syntax limits bytes None line phase → IsUnderway syntax limits bytes line phase [] []
   begun_front bytes line phase b =
@@ -118,11 +104,7 @@ token_is syntax limits bytes line phase run part r u =
     let sizes : length bytes ≡ length u.whole + length part = ap length u.are ∙ length-append u.whole part in
     let held : length r.now.now.scan.held ≡ length part = ap length r.part_is in
     let starts : starts_at r.now.now.scan ≡ length u.whole = omega arith in
-    ap (λ es. first_of es (starts_at r.now.now.scan)) r.run_is ∙ (ap (λ n. first_of run n) starts ∙ by run)
-  where
-    by : (es : List Entry) → first_of es (length u.whole) ≡ token_of u.whole es
-    by [] = refl
-    by (e ∷ es) = refl
+    ap (λ es. first_of es (starts_at r.now.now.scan)) r.run_is ∙ (ap (λ n. first_of run n) starts ∙ sym (token_first u.whole run))
 
 pub unfinished_follows_front : UnfinishedFollowsFront
 unfinished_follows_front syntax limits bytes rest line phase run part r =
