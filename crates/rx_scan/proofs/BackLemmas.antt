@@ -1,10 +1,14 @@
 -- What is spelled from where nothing is unfinished is scanned so, byte by byte, and what is faulty is refused so.
-use Rattle.rx_pages.proofs.Common.{◌≡◌, ◌≢◌, ◌∙◌, inl, inr, ⊎_elim, ℕ, ◌+◌, ◌-◌, ◌≤◌, ◌<◌, Bool, true, false, List, [], ◌∷◌, ◌++◌, refl, sym, ap, subst, length, append_assoc, append-nil, Ok, arith, Option, Some, None, Result, Err, nat_le, ◌&&◌, ◌||◌, ◌==◌, not, codes, IsScalar, len_utf8, all_scalars, encode, encodes, scalar, length-encode, and_parts, cond-true, cond-false, and_from, ne_eqb, false_from_ne_true, and_left, by_test, split, or-false, or-true, and-false, greater_than_sign, Chars, length-append, Syntax, More, Char, Bad, answer_of, BeginsCharacter, IsCharacter, Entry, byte_order_mark, line_feed, carriage_return, as_line_end, values, Item, is_literal, is_strict_literal, has_no_nul, is_known_tag, Faulty, IsPart, Html, Xhtml, Token, tag, doctype, Line, Phase, before, answer_is, character_of_form, Content, Limits, two_fronts, GoesOn, Verdict, ended, refused, verdict, ReadAs, at_last, at_next, pending_goes, item_content, no_literal, Utf8Step, Fault, Kind, values_append, token_of_item, scan_fault}
-use Rattle.rx_scan.proofs.Common.{begins, begins_tag, Spot, Scanning, Scanned, first_of, starts_at, token_at, holding, passed, entering, is_too_long, told, read_char, read_answer, read_byte, with_items, scan_on, scan_from, fault_in, item_of, is_doctype, told_first, with_item, after_token, read_entry, occurs, passes, entry_at, first_among, len_positive, no_mark, no_return, Rises, flags_behind, two_lasts, entries_at, AllBefore, has_character, ends_in_return, Spells, IsBetween, Left, is_over, Enters, FitsWith, IsNoToken, Refuses, page_too_long, not_utf8, nul, tag_too_long, known_too_long, decided, section_end, late_doctype, FirstFault, ScansWhatIsSpelled, RefusesWhatIsFaulty, goes_at, not_whole, reads_each, known_more}
-use Rattle.rx_pages.proofs.FrontRead.{rises, mark_some, line_feed_some, nul_entry}
+use Rattle.rx_pages.proofs.Common.{◌≡◌, ◌≢◌, ◌∙◌, inl, inr, ⊎_elim, ℕ, ◌+◌, ◌-◌, ◌≤◌, ◌<◌, Bool, true, false, List, [], ◌∷◌, ◌++◌, refl, sym, ap, subst, length, append_assoc, append-nil, Ok, arith, Option, Some, None, Result, Err, nat_le, ◌&&◌, ◌||◌, ◌==◌, not, codes, all_scalars, encode, encodes, scalar, length-encode, and_parts, cond-true, cond-false, and_from, ne_eqb, and_left, by_test, or-false, and-false, greater_than_sign, Chars, length-append, Syntax, More, Char, Bad, answer_of, BeginsCharacter, IsCharacter, Entry, carriage_return, as_line_end, values, Item, is_literal, is_strict_literal, has_no_nul, is_known_tag, Faulty, Html, Xhtml, Token, tag, doctype, Line, Phase, before, answer_is, character_of_form, Content, Limits, GoesOn, Verdict, ended, refused, verdict, ReadAs, at_last, at_next, pending_goes, item_content, no_literal, Utf8Step, Fault, Kind, values_append, token_of_item, scan_fault, Fits, AllFit, no_section_end, no_more, one, Spelled, next_of, last_from, right_bracket, whole, goes_on, completed, item_first, item_last, IsKept, eqb-false, ◌⊎◌, if◌then◌else◌}
+use Rattle.rx_scan.proofs.Common.{begins, begins_tag, Spot, Scanning, Scanned, first_of, starts_at, token_at, entering, is_too_long, told, read_char, read_answer, read_byte, with_items, scan_on, scan_from, fault_in, item_of, is_doctype, told_first, with_item, after_token, read_entry, occurs, passes, len_positive, no_mark, no_return, two_lasts, AllBefore, has_character, ends_in_return, Spells, IsBetween, Left, is_over, Enters, FitsWith, IsNoToken, Refuses, page_too_long, not_utf8, nul, tag_too_long, known_too_long, decided, section_end, late_doctype, FirstFault, ScansWhatIsSpelled, RefusesWhatIsFaulty, goes_at, not_whole, reads_each, known_more, MayCome, AllInside, brackets_behind, TagVerdict, a_tag, known_verdict, item_is, ended_kept}
+use Rattle.rx_pages.proofs.FrontRead.{mark_some, line_feed_some, nul_entry}
 use Rattle.rx_pages.proofs.ByteSteps.{not_le, not_long, is_le}
-use Rattle.rx_scan.proofs.SpelledLemmas.{first_known, same_flags, passing_is, none_entered, same_content, all_so, whole_verdict}
-use Rattle.rx_scan.proofs.AheadLemmas.{Tail, at_end, reads_entry, bound_with, bound_run}
+use Rattle.rx_scan.proofs.SpelledLemmas.{inside_snoc, come_snoc, first_known, passing_is, none_entered, same_content, all_so, whole_verdict, brackets_snoc, kept_flags, first_snoc, Fine, Has, has_of, told_of, state_is, size_more, state, brackets, entries_of, pass, new_entry, new_entries, entries_are, next_is}
+use Rattle.rx_pages.proofs.Reading.{Last, no_last, a_last, last_of}
+use Rattle.rx_pages.proofs.BytesOn.{encodes_more}
+use Rattle.rx_pages.proofs.Snocs.{values_next, spelled_snoc}
+use Rattle.rx_pages.proofs.Pending.{begun_goes, goes_front}
+use Rattle.rx_pages.proofs.PendsOn.{spells_read}
 use Rattle.rx_grammar.specs.declared.faults.Kind.TheVariants as kind
 use Rattle.rx_grammar.specs.Spelling as spelling
 use Rattle.rx_grammar.specs.PageFaults as faults
@@ -16,378 +20,109 @@ use Rattle.rx_scan.specs.Spelled as spelled
 use Rattle.rx_pages.proofs.Judged.{strict_keeps}
 use Rattle.rx_scan.proofs.RunLemmas.{on_append}
 
--- the first character, and what is entered of the others
-passes_entries : (started after_return : Bool) (at c : ℕ) (cs : List ℕ) → passes started after_return c ≡ true → entries_at started after_return at (c ∷ cs) ≡ entries_at true false (at + len_utf8 c) cs
-passes_entries true after_return at c cs h = cond-true _ _ _ h
-passes_entries false after_return at c cs h =
-    split (λ es. es ≡ entries_at true false (at + len_utf8 c) cs) (c == byte_order_mark) _ _ (λ t. refl) (λ t. cond-true _ _ _ (sym (ap (λ b. b || after_return && c == line_feed) t) ∙ h))
+not_none : {A : Type 0} (xs : List A) (x : A) → xs ++ x ∷ [] ≢ []
+not_none xs x e = omega (arith, ap length e, length-append xs (x ∷ []))
 
-enters_entries : (started after_return : Bool) (at c : ℕ) (cs : List ℕ) → passes started after_return c ≡ false
-    → entries_at started after_return at (c ∷ cs) ≡ entry_at c at (at + len_utf8 c - 1) ∷ entries_at true (c == carriage_return) (at + len_utf8 c) cs
-enters_entries true after_return at c cs h = cond-false _ _ _ h
-enters_entries false after_return at c cs h =
-    split (λ es. es ≡ entry_at c at (at + len_utf8 c - 1) ∷ entries_at true (c == carriage_return) (at + len_utf8 c) cs) (c == byte_order_mark) _ _
-    (λ t. absurd (let z : true ≡ false = sym (ap (λ b. b || after_return && c == line_feed) t) ∙ h in cc)) (λ t. cond-false _ _ _ (sym (ap (λ b. b || after_return && c == line_feed) t) ∙ h))
+-- where the last one of two lists stands
+data LastIn {A : Type 0} (front run all : List A) (x : A) : Type 0 where
+  in_run : (left : List A) → run ≡ left ++ x ∷ [] → front ++ left ≡ all → LastIn front run all x
+  in_front : run ≡ [] → front ≡ all ++ x ∷ [] → LastIn front run all x
 
-rises_at : (started after_return : Bool) (at : ℕ) (cs : List ℕ) → Rises (entries_at started after_return at cs)
-rises_at true after_return at cs = rises after_return at cs
-rises_at false after_return at [] = tt
-rises_at false after_return at (c ∷ cs) = split Rises (c == byte_order_mark) _ _ (λ t. rises false (at + len_utf8 c) cs) (λ t. rises after_return at (c ∷ cs))
+last_in : {A : Type 0} (front run all : List A) (x : A) → front ++ run ≡ all ++ x ∷ [] → LastIn front run all x
+last_in [] run all x e = in_run all e refl
+last_in (y ∷ []) [] [] x e = in_front refl e
+last_in (y ∷ []) (z ∷ run) [] x e = absurd (cc)
+last_in (y ∷ w ∷ front) run [] x e = absurd (cc)
+last_in (y ∷ front) run (z ∷ all) x e =
+    let h : y ≡ z = cc in
+    elim (last_in front run all x (cc)) [
+      | in_run left r w ↦ in_run left r (ap (λ c. c ∷ (front ++ left)) h ∙ ap (λ c. z ∷ c) w)
+      | in_front r w ↦ in_front r (ap (λ c. c ∷ front) h ∙ ap (λ c. z ∷ c) w)
+    ]
 
-size_of : (c : ℕ) (cs : List ℕ) → length (encodes (c ∷ cs)) ≡ len_utf8 c + length (encodes cs)
-size_of c cs = length-append (encode c) (encodes cs) ∙ ap (λ n. n + length (encodes cs)) (length-encode c)
+-- what holds of a list holds of the front before its last one
+before_last : (limit at : ℕ) (bytes : List ℕ) (byte : ℕ) → AllBefore limit at (bytes ++ byte ∷ []) → AllBefore limit at bytes × (at + length bytes < limit)
+before_last limit at [] byte a = (tt, let l = a.0 in omega arith)
+before_last limit at (b ∷ bytes) byte a = let r = before_last limit (at + 1) bytes byte a.1 in ((a.0, r.0), let l = r.1 in omega arith)
 
--- where the first entry ends
-first_ends : (started after_return : Bool) (at c : ℕ) (cs : List ℕ) (e : Entry) (es : List Entry) → entries_at started after_return at (c ∷ cs) ≡ e ∷ es → (at + len_utf8 c ≤ e.last + 1) × (e.last < at + length (encodes (c ∷ cs)))
-first_ends started after_return at c cs e es h =
-    by_test {G = (at + len_utf8 c ≤ e.last + 1) × (e.last < at + length (encodes (c ∷ cs)))} (passes started after_return c)
-    (λ t.
-    let a = first_among false (at + len_utf8 c) cs e es (sym (passes_entries started after_return at c cs t) ∙ h) in
-    let f = a.from in
-    let o = a.order in
-    let l = a.to in
-    let z = size_of c cs in
-    (omega arith, omega arith))
-    (λ t.
-    let same : entry_at c at (at + len_utf8 c - 1) ∷ entries_at true (c == carriage_return) (at + len_utf8 c) cs ≡ e ∷ es = sym (enters_entries started after_return at c cs t) ∙ h in
-    let first : entry_at c at (at + len_utf8 c - 1) ≡ e = cc in
-    let l : at + len_utf8 c - 1 ≡ e.last = ap (λ (x : Entry). x.last) first in
-    let p = len_positive c in
-    let z = size_of c cs in
-    (omega arith, omega arith))
+fit_last : (limit : ℕ) (items : List Item) (item : Item) → AllFit limit (items ++ item ∷ []) → AllFit limit items × Fits limit item item.token
+fit_last limit [] item a = (tt, a.0)
+fit_last limit (i ∷ items) item a = let r = fit_last limit items item a.1 in ((a.0, r.0), r.1)
 
-nonzero_of : (started after_return : Bool) (at c : ℕ) (cs : List ℕ) → has_no_nul (entries_at started after_return at (c ∷ cs)) ≡ true → (c == 0) ≡ false
-nonzero_of started after_return at c cs h =
-    by_test {G = (c == 0) ≡ false} (passes started after_return c) (λ t. passing_is started after_return c ((c == 0) ≡ false) t (mark_some c) (line_feed_some c))
-    (λ t.
-    let k : (not (as_line_end c == 0) && has_no_nul (entries_at true (c == carriage_return) (at + len_utf8 c) cs)) ≡ true = sym (ap has_no_nul (enters_entries started after_return at c cs t)) ∙ h in
-    false_from_ne_true (c == 0) (λ z. let w : false ≡ true = sym (ap not (nul_entry c z)) ∙ (and_parts (not (as_line_end c == 0)) (has_no_nul (entries_at true (c == carriage_return) (at + len_utf8 c) cs)) k).0 in cc))
+sec_first : (a x : Bool) → (if a then false else x) ≡ true → (a ≡ false) × (x ≡ true)
+sec_first true x h = absurd (cc)
+sec_first false x h = (refl, h)
 
-no_nul_behind : (started after_return : Bool) (at c : ℕ) (cs : List ℕ) (es : List Entry) → has_no_nul (entries_at started after_return at (c ∷ cs)) ≡ true → (e : Entry) → entries_at started after_return at (c ∷ cs) ≡ e ∷ es → has_no_nul es ≡ true
-no_nul_behind started after_return at c cs es h e k = (and_parts (not (e.value == 0)) (has_no_nul es) (sym (ap has_no_nul k) ∙ h)).1
+sections_last : (items : List Item) (item : Item) (two last : Bool) → no_section_end (items ++ item ∷ []) two last ≡ true → (no_section_end items two last ≡ true) × (((brackets_behind items two last).0 && is_literal greater_than_sign item) ≡ false)
+sections_last [] item two last h = (refl, (sec_first (two && is_literal greater_than_sign item) true h).0)
+sections_last (i ∷ items) item two last h =
+    let p = sec_first (two && is_literal greater_than_sign i) (no_section_end (items ++ item ∷ []) (last && is_literal right_bracket i) (is_literal right_bracket i)) h in
+    let r = sections_last items item (last && is_literal right_bracket i) (is_literal right_bracket i) p.1 in
+    (cond-false _ _ _ p.0 ∙ r.0, r.1)
 
--- the bytes that are held are fewer than those of the character that they begin
-abbrev IsBegun : List ℕ → List ℕ → Type 0
-IsBegun held [] = Unit {0}
-IsBegun held (c ∷ cs) = length held < len_utf8 c
+scalars_last : (cs : List ℕ) (c : ℕ) → all_scalars (cs ++ c ∷ []) ≡ true → (all_scalars cs ≡ true) × (scalar c ≡ true)
+scalars_last [] c h = (refl, (and_parts (scalar c) true h).0)
+scalars_last (d ∷ cs) c h =
+    let p = and_parts (scalar d) (all_scalars (cs ++ c ∷ [])) h in let r = scalars_last cs c p.1 in (and_from (scalar d) (all_scalars cs) p.0 r.0, r.1)
 
-none_begun : (cs : List ℕ) → IsBegun [] cs
-none_begun [] = tt
-none_begun (c ∷ cs) = let p = len_positive c in omega arith
+no_nul_last : (es : List Entry) (e : Entry) → has_no_nul (es ++ e ∷ []) ≡ true → (has_no_nul es ≡ true) × (not (e.value == 0) ≡ true)
+no_nul_last [] e h = (refl, (and_parts (not (e.value == 0)) true h).0)
+no_nul_last (d ∷ es) e h =
+    let p = and_parts (not (d.value == 0)) (has_no_nul (es ++ e ∷ [])) h in let r = no_nul_last es e p.1 in (and_from (not (d.value == 0)) (has_no_nul es) p.0 r.0, r.1)
 
-module _ (syntax : Syntax) (limits : Limits) (spot : Spot) (o : occurs syntax spot.inside ≡ true) (final : Scanned) (part : List ℕ) (is_part : IsPart part) (held_is : final.next.held ≡ part) (going : GoesOn syntax spot.inside [] (values final.next.run))
-    (fits : is_known_tag syntax spot.inside (values final.next.run) ≡ true → final.next.at ≤ first_of final.next.run final.next.at + limits.tag) where
-  abbrev inside : Content
-  inside = spot.inside
+not_late : (leads : Bool) (token : Token) → MayCome leads token → (is_doctype token && not leads) ≡ false
+not_late leads doctype m = ap not m
+not_late leads _ m = refl
 
-  abbrev flags_end : Bool × Bool
-  flags_end = (final.next.two, final.next.last)
+fits_of : (limit : ℕ) (v : Verdict) (item : Item) → TagVerdict v → v ≡ whole item.token → Fits limit item item.token → item.last + 1 ≤ item.first + limit
+fits_of limit _ item (a_tag t) h f = let same : tag t ≡ item.token = cc in subst (λ token. Fits limit item token) (sym same) f
+fits_of limit _ item _ h f = absurd (cc)
 
-  abbrev Spelled_on : List Entry → List Entry → Bool → Bool → List Item → Type 0
-  Spelled_on run es two last items = Tail syntax limits spot o final.next.run going flags_end run es two last items
+no_tag : (v : Verdict) (token : Token) → TagVerdict v → v ≡ ended token → ⊥
+no_tag _ token (a_tag t) h = cc
+no_tag _ token _ h = cc
 
-  -- what is ahead of a state
-  record Ahead (rest : List ℕ) (s : Scanning) (items : List Item) : Type 0 where
-    start : ℕ
-    cs : List ℕ
-    bytes : s.held ++ rest ≡ encodes cs ++ part
-    scalars : all_scalars cs ≡ true
-    begun : IsBegun s.held cs
-    at_is : s.at ≡ start + length s.held
-    left : List Item
-    tail : Spelled_on s.run (entries_at s.started s.after_return start cs) s.two s.last left
-    no_nul : has_no_nul (entries_at s.started s.after_return start cs) ≡ true
-    within : AllBefore limits.page s.at rest
-    end_is : final.next.at ≡ s.at + length rest
-    started : final.next.started ≡ (s.started || has_character cs)
-    after_return : final.next.after_return ≡ ends_in_return s.after_return cs
-    items_are : final.items ≡ items ++ left
+-- a token that is read before a character is read whatever comes next, or ends at it
+read_or_ended : (s : Syntax) (i : Content) (text : Chars) (c : ℕ) (token : Token) → ReadAs s i text (Some c) token → ReadAs s i text None token ⊎ (GoesOn s i [] text × (verdict s i text c ≡ ended token))
+read_or_ended s i _ _ _ (at_last f d t go v) = inl (at_last f d t go v)
+read_or_ended s i _ _ _ (at_next x d t go v) = inr (go, v)
 
-  -- nothing is ahead
-  is_final : (s : Scanning) (items : List Item) → Ahead [] s items → record { next = s; items = items } ≡ final
-  is_final s items a = by a.cs a.bytes a.begun a.tail a.started a.after_return
+module _ (syntax : Syntax) where
+  -- some tokens by the last one
+  data ByLast (next : Option ℕ) : List Entry → List Item → Type 0 where
+    nothing : ByLast next [] []
+    behind : (front : List Entry) (c : Entry) (r : List Entry) (others : List Item) (item : Item) → Spelled syntax front (Some c.value) others → spelling.Spells syntax item.content (values (c ∷ r)) next item.token
+        → item.first ≡ c.first → item.last ≡ last_from c.last r → ByLast next (front ++ (c ∷ r)) (others ++ item ∷ [])
+
+  by_last : {es : List Entry} {next : Option ℕ} {items : List Item} → Spelled syntax es next items → ByLast next es items
+  by_last no_more = nothing
+  by_last {next = next} (one c run rest item {items = items} sp f l more) = by rest items (by_last more) sp
     where
-      by : (cs : List ℕ) → s.held ++ [] ≡ encodes cs ++ part → IsBegun s.held cs → Spelled_on s.run (entries_at s.started s.after_return a.start cs) s.two s.last a.left → final.next.started ≡ (s.started || has_character cs) → final.next.after_return ≡ ends_in_return s.after_return cs
-          → record { next = s; items = items } ≡ final
-      by (c ∷ cs) e b t st ar =
-          let l : length (s.held ++ []) ≡ length (encodes (c ∷ cs)) + length part = ap length e ∙ length-append (encodes (c ∷ cs)) part in
-          let n : length (s.held ++ []) ≡ length s.held = ap length (append-nil s.held) in
-          let z = size_of c cs in
-          absurd (omega arith)
-      by [] e b t st ar =
-          let u = subst (λ es. Spelled_on s.run es s.two s.last a.left) (none_entered s.started s.after_return a.start) t in
-          let p = at_end syntax limits spot o final.next.run going flags_end s.run s.two s.last a.left u in
-          let f : (s.two, s.last) ≡ flags_end = ap (λ x. flags_behind x s.two s.last) (sym p.1) ∙ u.flags in
-          let at : s.at ≡ final.next.at = (let w = a.end_is in omega arith) in
-          let held : s.held ≡ final.next.held = sym (append-nil s.held) ∙ (e ∙ sym held_is) in
-          let started : s.started ≡ final.next.started = sym (st ∙ or-false s.started) in
-          let is : items ≡ final.items = sym (a.items_are ∙ (ap (λ x. items ++ x) p.1 ∙ append-nil items)) in
-          λ i. record { next = record { at = at i; held = held i; started = started i; after_return = sym ar i; run = p.0 i; two = (f i).0; last = (f i).1 }; items = is i }
+      by : (rest : List Entry) (items : List Item) → ByLast next rest items → spelling.Spells syntax item.content (values (c ∷ run)) (next_of (values rest) next) item.token → ByLast next ((c ∷ run) ++ rest) (item ∷ items)
+      by _ _ nothing sp = subst (λ es. ByLast next es (item ∷ [])) (sym (append-nil (c ∷ run))) (behind [] c run [] item no_more sp f l)
+      by _ _ (behind front d r others it s q g m) sp =
+          subst (λ es. ByLast next es (item ∷ (others ++ it ∷ []))) (append_assoc (c ∷ run) front (d ∷ r))
+          (behind ((c ∷ run) ++ front) d r (item ∷ others) it (one c run front item (subst (λ n. spelling.Spells syntax item.content (values (c ∷ run)) n item.token) (values_next front d r next) sp) f l s) q g m)
 
-  record Goes (byte : ℕ) (rest : List ℕ) (s : Scanning) (items : List Item) : Type 0 where
-    r : Scanned
-    is : read_byte syntax limits spot byte s ≡ Ok r
-    ahead : Ahead rest r.next (items ++ r.items)
+  module _ (inside : Content) (o : occurs syntax inside ≡ true) (e : ℕ) where
+    -- Tokens that an entry of this value comes behind: they are whole without it, or the last one is text that ends at it.
+    data Standing : List Entry → List Entry → List Item → Type 0 where
+      still : {run front : List Entry} {items : List Item} → Spelled syntax front (next_of (values run) None) items → Standing run front items
+      was_text : (front : List Entry) (c : Entry) (r : List Entry) (others : List Item) (item : Item) → Spelled syntax front (Some c.value) others → GoesOn syntax inside [] (values (c ∷ r))
+          → verdict syntax inside (values (c ∷ r)) e ≡ ended item.token → item_of inside item.token (c ∷ r) ≡ item → Standing [] (front ++ (c ∷ r)) (others ++ item ∷ [])
 
-  -- one byte
-  module _ (byte : ℕ) (rest : List ℕ) (s : Scanning) (items : List Item) (a : Ahead (byte ∷ rest) s items) where
-    abbrev more : List ℕ
-    more = s.held ++ byte ∷ []
-
-    more_size : length more ≡ length s.held + 1
-    more_size = length-append s.held (byte ∷ [])
-
-    starts_is : starts_at s ≡ a.start
-    starts_is = let w = a.at_is in omega arith
-
-    page : nat_le limits.page s.at ≡ false
-    page = not_le limits.page s.at a.within.0
-
-    abbrev known : Bool
-    known = is_known_tag syntax inside (values s.run)
-
-    entries_end : (e : Entry) (es : List Entry) → entries_at s.started s.after_return a.start a.cs ≡ e ∷ es → (s.at ≤ e.last) × (e.last < final.next.at)
-    entries_end e es h = by a.cs a.bytes a.begun h
+    standing : (run front : List Entry) (items : List Item) → AllInside inside items → Spelled syntax front (next_of (values run) (Some e)) items → Standing run front items
+    standing (d ∷ run) front items i sp = still sp
+    standing [] front items i sp = by front items (by_last sp) i
       where
-        by : (cs : List ℕ) → s.held ++ byte ∷ rest ≡ encodes cs ++ part → IsBegun s.held cs → entries_at s.started s.after_return a.start cs ≡ e ∷ es → (s.at ≤ e.last) × (e.last < final.next.at)
-        by [] q b k = absurd (let w = sym (none_entered s.started s.after_return a.start) ∙ k in cc)
-        by (c ∷ cs) q b k =
-            let f = first_ends s.started s.after_return a.start c cs e es k in
-            let l : length s.held + length (byte ∷ rest) ≡ length (encodes (c ∷ cs)) + length part = sym (length-append s.held (byte ∷ rest)) ∙ (ap length q ∙ length-append (encodes (c ∷ cs)) part) in
-            let n = f.0 in
-            let m = f.1 in
-            let w = a.at_is in
-            let v = a.end_is in
-            (omega arith, omega arith)
-
-    room : known ≡ true → s.at < token_at s + limits.tag
-    room = bound_run syntax limits spot o final.next.run going flags_end final.next.at fits s.run (entries_at s.started s.after_return a.start a.cs) s.two s.last a.left s.at (starts_at s) a.tail (rises_at s.started s.after_return a.start a.cs)
-        entries_end (λ e. let v = a.end_is in omega arith)
-
-    short_run : (known && nat_le (token_at s + limits.tag) s.at) ≡ false
-    short_run = not_long known (token_at s + limits.tag) s.at room
-
-    held_read : answer_of more ≡ More → read_byte syntax limits spot byte s ≡ Ok (record { next = holding more s; items = [] })
-    held_read h = cond-false _ _ _ page ∙ (ap (λ x. read_answer syntax limits spot more s x) h ∙ cond-false _ _ _ short_run)
-
-    whole_read : (c : ℕ) → answer_of more ≡ Char c → (c == 0) ≡ false → read_byte syntax limits spot byte s ≡ read_char syntax limits spot c s
-    whole_read c h z = cond-false _ _ _ page ∙ (ap (λ x. read_answer syntax limits spot more s x) h ∙ (cond-false _ _ _ z ∙ cond-false _ _ _ short_run))
-
-    -- a byte of a character that isn't whole
-    held_on : BeginsCharacter more → IsBegun more a.cs → Goes byte rest s items
-    held_on b begun =
-        record {
-          r = record { next = holding more s; items = [] };
-          is = held_read (sym (answer_is more More b));
-          ahead = record {
-            start = a.start;
-            cs = a.cs;
-            bytes = append_assoc s.held (byte ∷ []) rest ∙ a.bytes;
-            scalars = a.scalars;
-            begun = begun;
-            at_is = (let w = a.at_is in let n = more_size in omega arith);
-            left = a.left;
-            tail = a.tail;
-            no_nul = a.no_nul;
-            within = a.within.1;
-            end_is = (let v = a.end_is in omega arith);
-            started = a.started;
-            after_return = a.after_return;
-            items_are = a.items_are ∙ ap (λ x. x ++ a.left) (sym (append-nil items));
-          };
-        }
-
-    no_front : (xs ys : List ℕ) → ys ≢ [] → xs ++ ys ≢ []
-    no_front [] ys n = n
-    no_front (x ∷ xs) ys n = λ h. cc
-
-    -- the bytes of the last character, which isn't whole
-    in_part : a.cs ≡ [] → s.held ++ byte ∷ rest ≡ part → Goes byte rest s items
-    in_part none e = ⊎_elim (λ p. absurd (no_front s.held (byte ∷ rest) (λ h. cc) (e ∙ p))) (λ b. held_on (begins b) (subst (λ cs. IsBegun more cs) (sym none) tt)) is_part
-      where
-        begins : BeginsCharacter part → BeginsCharacter more
-        begins b =
-            record {
-              more = rest ++ b.more;
-              value = b.value;
-              longer = no_front rest b.more b.longer;
-              character = subst (λ x. IsCharacter x b.value) (ap (λ x. x ++ b.more) (sym (append_assoc s.held (byte ∷ []) rest ∙ e)) ∙ append_assoc more rest b.more) b.character;
-            }
-
-    -- the bytes of the next character
-    module _ (c : ℕ) (cs : List ℕ) (are : a.cs ≡ c ∷ cs) (is : IsScalar c) where
-      abbrev entries : List Entry
-      entries = entries_at s.started s.after_return a.start (c ∷ cs)
-
-      tail_is : Spelled_on s.run entries s.two s.last a.left
-      tail_is = subst (λ x. Spelled_on s.run (entries_at s.started s.after_return a.start x) s.two s.last a.left) are a.tail
-
-      no_nul_is : has_no_nul entries ≡ true
-      no_nul_is = subst (λ x. has_no_nul (entries_at s.started s.after_return a.start x) ≡ true) are a.no_nul
-
-      nonzero : (c == 0) ≡ false
-      nonzero = nonzero_of s.started s.after_return a.start c cs no_nul_is
-
-      scalars_on : all_scalars cs ≡ true
-      scalars_on = (and_parts (scalar c) (all_scalars cs) (subst (λ x. all_scalars x ≡ true) are a.scalars)).1
-
-      goes_held : (d : ℕ) (z : List ℕ) → encode c ≡ more ++ d ∷ z → Goes byte rest s items
-      goes_held d z e =
-          held_on (record { more = d ∷ z; value = c; longer = λ h. cc; character = subst (λ x. IsCharacter x c) e (character_of_form c is) })
-          (subst (λ x. IsBegun more x) (sym are) (let l : len_utf8 c ≡ length more + length (d ∷ z) = sym (length-encode c) ∙ (ap length e ∙ length-append more (d ∷ z)) in omega arith))
-
-      -- its last one
-      module _ (form : encode c ≡ more) (behind : rest ≡ encodes cs ++ part) where
-        size : len_utf8 c ≡ length s.held + 1
-        size = sym (length-encode c) ∙ (ap length form ∙ more_size)
-
-        reads : read_byte syntax limits spot byte s ≡ read_char syntax limits spot c s
-        reads = whole_read c (sym (answer_is more (Char c) (subst (λ x. IsCharacter x c) form (character_of_form c is)))) nonzero
-
-        next_at : s.at + 1 ≡ a.start + len_utf8 c + 0
-        next_at = let w = a.at_is in let z = size in omega arith
-
-        end_on : final.next.at ≡ s.at + 1 + length rest
-        end_on = let v = a.end_is in omega arith
-
-        started_on : final.next.started ≡ true
-        started_on = a.started ∙ (ap (λ x. s.started || has_character x) are ∙ or-true s.started)
-
-        return_on : final.next.after_return ≡ ends_in_return (c == carriage_return) cs
-        return_on = a.after_return ∙ ap (λ x. ends_in_return s.after_return x) are
-
-        -- and what is ahead of it
-        ahead_of : (after_return : Bool) (run : List Entry) (two last : Bool) (told left : List Item) → final.next.after_return ≡ ends_in_return after_return cs → Spelled_on run (entries_at true after_return (a.start + len_utf8 c) cs) two last left
-            → has_no_nul (entries_at true after_return (a.start + len_utf8 c) cs) ≡ true → a.left ≡ told ++ left → Ahead rest (entering after_return run two last s) (items ++ told)
-        ahead_of after_return run two last told left return_is tail no_nul are =
-            record {
-              start = a.start + len_utf8 c;
-              cs = cs;
-              bytes = behind;
-              scalars = scalars_on;
-              begun = none_begun cs;
-              at_is = next_at;
-              left = left;
-              tail = tail;
-              no_nul = no_nul;
-              within = a.within.1;
-              end_is = end_on;
-              started = started_on;
-              after_return = return_is;
-              items_are = a.items_are ∙ (ap (λ x. items ++ x) are ∙ sym (append_assoc items told left));
-            }
-
-        goes_passed : passes s.started s.after_return c ≡ true → Goes byte rest s items
-        goes_passed p =
-            let same = passes_entries s.started s.after_return a.start c cs p in
-            record {
-              r = record { next = passed s; items = [] };
-              is = reads ∙ cond-true _ _ _ p;
-              ahead = ahead_of false s.run s.two s.last [] a.left (return_on ∙ ap (λ b. ends_in_return b cs) (passing_is s.started s.after_return c ((c == carriage_return) ≡ false) p (no_mark c) (no_return c)))
-                  (subst (λ es. Spelled_on s.run es s.two s.last a.left) same tail_is) (subst (λ es. has_no_nul es ≡ true) same no_nul_is) refl;
-            }
-
-        abbrev e : Entry
-        e = record { value = as_line_end c; first = starts_at s; last = s.at }
-
-        abbrev others : List Entry
-        others = entries_at true (c == carriage_return) (a.start + len_utf8 c) cs
-
-        goes_entered : passes s.started s.after_return c ≡ false → Goes byte rest s items
-        goes_entered p =
-            let r = reads_entry syntax limits spot o final.next.run going flags_end s (c == carriage_return) e others a.left tail_here in
-            record {
-              r = record { next = entering (c == carriage_return) r.run r.two r.last s; items = r.told };
-              is = reads ∙ (cond-false _ _ _ p ∙ (cond-false _ _ _ short_with ∙ r.is));
-              ahead = ahead_of (c == carriage_return) r.run r.two r.last r.told r.left return_on r.tail (no_nul_behind s.started s.after_return a.start c cs others no_nul_is e entries_are) r.are;
-            }
-          where
-            last_is : a.start + len_utf8 c - 1 ≡ s.at
-            last_is = let w = a.at_is in let z = size in omega arith
-
-            entries_are : entries ≡ e ∷ others
-            entries_are = enters_entries s.started s.after_return a.start c cs p ∙ (λ i. record { value = as_line_end c; first = sym starts_is i; last = last_is i } ∷ others)
-
-            tail_here : Spelled_on s.run (e ∷ others) s.two s.last a.left
-            tail_here = subst (λ es. Spelled_on s.run es s.two s.last a.left) entries_are tail_is
-
-            short_with : is_too_long syntax limits spot (s.run ++ e ∷ []) (first_of s.run (starts_at s)) s.at ≡ false
-            short_with =
-                not_long _ (first_of s.run (starts_at s) + limits.tag) s.at
-                (bound_with syntax limits spot o final.next.run going flags_end final.next.at fits s.run e others s.two s.last a.left tail_here
-                (subst Rises entries_are (rises_at s.started s.after_return a.start (c ∷ cs))) (let v = a.end_is in omega arith))
-
-        goes_whole : Goes byte rest s items
-        goes_whole = by_test {G = Goes byte rest s items} (passes s.started s.after_return c) goes_passed goes_entered
-
-      in_char : IsBegun s.held (c ∷ cs) → s.held ++ byte ∷ rest ≡ encodes (c ∷ cs) ++ part → Goes byte rest s items
-      in_char begun e = elim (two_fronts more (encode c) rest (encodes cs ++ part) (append_assoc s.held (byte ∷ []) rest ∙ (e ∙ append_assoc (encode c) (encodes cs) part))) [
-        | inl f ↦ shorter f.z f.is f.rest
-        | inr f ↦ longer f.z f.is f.rest
-      ]
-        where
-          shorter : (z : List ℕ) → encode c ≡ more ++ z → rest ≡ z ++ (encodes cs ++ part) → Goes byte rest s items
-          shorter [] is rest_is = goes_whole (is ∙ append-nil more) rest_is
-          shorter (d ∷ z) is rest_is = goes_held d z is
-
-          longer : (z : List ℕ) → more ≡ encode c ++ z → encodes cs ++ part ≡ z ++ rest → Goes byte rest s items
-          longer [] is rest_is = goes_whole (sym (is ∙ append-nil (encode c))) (sym rest_is)
-          longer (d ∷ z) is rest_is =
-              let l : length more ≡ length (encode c) + length (d ∷ z) = ap length is ∙ length-append (encode c) (d ∷ z) in
-              let n = length-encode c in
-              let m = more_size in
-              let b : length s.held < len_utf8 c = begun in
-              absurd (omega arith)
-
-    one_byte : Goes byte rest s items
-    one_byte = by a.cs refl
-      where
-        by : (cs : List ℕ) → a.cs ≡ cs → Goes byte rest s items
-        by [] h = in_part h (subst (λ x. s.held ++ byte ∷ rest ≡ encodes x ++ part) h a.bytes)
-        by (c ∷ cs) h =
-            in_char c cs h (and_parts (scalar c) (all_scalars cs) (subst (λ x. all_scalars x ≡ true) h a.scalars)).0 (subst (λ x. IsBegun s.held x) h a.begun) (subst (λ x. s.held ++ byte ∷ rest ≡ encodes x ++ part) h a.bytes)
-
-  -- and then the others
-  scans_on : (rest : List ℕ) (s : Scanning) (items : List Item) → Ahead rest s items → scan_on syntax limits spot (Ok (record { next = s; items = items })) rest ≡ Ok final
-  scans_on [] s items a = ap (λ x. Ok x) (is_final s items a)
-  scans_on (byte ∷ rest) s items a =
-      let g = one_byte byte rest s items a in
-      ap (λ x. scan_on syntax limits spot (with_items s items x) rest) g.is ∙ scans_on rest g.r.next (items ++ g.r.items) g.ahead
-
-pub spelled_back : (syntax : Syntax) (limits : Limits) (spot : Spot) (s : Scanning) (bytes : List ℕ) (scanned : Scanned) → occurs syntax spot.inside ≡ true → IsBetween s → Spells syntax limits spot s bytes scanned → scan_from syntax limits spot s bytes ≡ Ok scanned
-spelled_back syntax limits spot s bytes scanned o b sp =
-    scans_on syntax limits spot o scanned sp.part sp.is_part sp.part_is going fits bytes s [] (record {
-      start = s.at;
-      cs = sp.characters;
-      bytes = ap (λ x. x ++ bytes) b.held ∙ sp.are;
-      scalars = sp.scalars;
-      begun = subst (λ x. IsBegun x sp.characters) (sym b.held) (none_begun sp.characters);
-      at_is = (let n : length s.held ≡ 0 = ap length b.held in omega arith);
-      left = scanned.items;
-      tail = record {
-        front = sp.front;
-        are = ap (λ x. x ++ entries_at s.started s.after_return s.at sp.characters) b.run ∙ sym sp.read;
-        spelled = sp.spelled;
-        inside_is = sp.inside_is;
-        come = sp.come;
-        fit = sp.fit;
-        sections = sp.sections;
-        goes = subst (λ es. GoesOn syntax spot.inside [] (values es)) (sym b.run) tt;
-        flags = same_flags scanned.items s.two s.last ∙ (λ i. (sym sp.two_is i, sym sp.last_is i));
-      };
-      no_nul = subst (λ es. has_no_nul es ≡ true) sp.read sp.no_nul;
-      within = sp.within;
-      end_is = sp.at_is;
-      started = sp.started_is;
-      after_return = sp.return_is;
-      items_are = refl;
-    })
-  where
-    going : GoesOn syntax spot.inside [] (values scanned.next.run)
-    going = pending_goes syntax spot.inside (values scanned.next.run) sp.pending
-
-    fits : is_known_tag syntax spot.inside (values scanned.next.run) ≡ true → scanned.next.at ≤ first_of scanned.next.run scanned.next.at + limits.tag
-    fits k = let w = sp.short k in let z = first_known syntax spot.inside scanned.next.run (starts_at scanned.next) scanned.next.at k in omega arith
+        by : (front : List Entry) (items : List Item) → ByLast (Some e) front items → AllInside inside items → Standing [] front items
+        by _ _ nothing i = still no_more
+        by _ _ (behind front c r others item s q g m) i =
+            let here = ((inside_snoc inside others item).0 i).1 in
+            elim (read_or_ended syntax inside (values (c ∷ r)) e item.token (reads_each syntax inside (values (c ∷ r)) (Some e) item.token (subst (λ x. spelling.Spells syntax x (values (c ∷ r)) (Some e) item.token) here q))) [
+              | inl k ↦ still (spelled_snoc syntax c r None item s refl (subst (λ x. spelling.Spells syntax x (values (c ∷ r)) None item.token) (sym here) (spells_read syntax inside o (values (c ∷ r)) None item.token k)) g m)
+              | inr k ↦ was_text front c r others item s k.0 k.1 (item_is inside item c r here g m)
+            ]
 
 -- characters that are no token, and have a fault whatever stands before, are refused at their last one
 refused_by : (s : Syntax) (i : Content) → occurs s i ≡ true → (depth : ℕ) (line : Line) (phase : Phase) {found : Kind} {chars : Chars} → Faulty s depth [] line phase i found chars → IsNoToken s i chars → IsRefused s i found chars
@@ -407,17 +142,14 @@ refused_by s i o depth line phase (faults.outside_section z e) n =
 refused_by s i o depth line phase (faults.at_tag chars t sp h) n = absurd (n (tag t) sp)
 
 -- and one that goes on is over at the next one
-ended_verdict : (s : Syntax) (i : Content) (text : Chars) (c : ℕ) (token : Token) → GoesOn s i [] text → spelling.Spells s i text (Some c) token → verdict s i text c ≡ ended token
-ended_verdict s i text c token g sp = by text (Some c) token (reads_each s i text (Some c) token sp) refl refl
-  where
-    by : (x : Chars) (n : Option ℕ) (t : Token) → ReadAs s i x n t → x ≡ text → n ≡ Some c → verdict s i text c ≡ ended t
-    by _ _ _ (at_last f d t go v) e n = absurd (not_whole s i _ t (goes_at s i [] f d [] (subst (λ x. GoesOn s i [] x) (sym e) g)) v)
-    by _ _ _ (at_next x d t go v) e n = let same : d ≡ c = cc in subst (λ y. verdict s i text y ≡ ended t) same (subst (λ y. verdict s i y d ≡ ended t) e v)
+ended_verdict : (s : Syntax) (i : Content) (text : Chars) (c : ℕ) (token : Token) → GoesOn s i [] text → ReadAs s i text (Some c) token → verdict s i text c ≡ ended token
+ended_verdict s i _ _ _ g (at_last f d t go v) = absurd (not_whole s i _ t (goes_at s i [] f d [] g) v)
+ended_verdict s i _ _ _ g (at_next x d t go v) = v
 
 too_long : (known : Bool) (bound at : ℕ) → known ≡ true → bound ≤ at → (known && nat_le bound at) ≡ true
 too_long known bound at k l = and_from known (nat_le bound at) k (is_le bound at l)
 
-module _ (syntax : Syntax) (limits : Limits) (spot : Spot) (o : occurs syntax spot.inside ≡ true) (next : Scanning) (byte : ℕ) (g : GoesOn syntax spot.inside [] (values next.run)) where
+module _ (syntax : Syntax) (limits : Limits) (spot : Spot) (next : Scanning) (byte : ℕ) where
   abbrev content_there : Content
   content_there = spot.inside
 
@@ -452,11 +184,6 @@ module _ (syntax : Syntax) (limits : Limits) (spot : Spot) (o : occurs syntax sp
     by_entry : is_too_long syntax limits spot next.run (token_at next) next.at ≡ false → byte_read ≡ read_entry syntax limits spot (c == carriage_return) entry next
     by_entry l = by_char c ent.page ent.is ent.no_nul l ∙ cond-false _ _ _ ent.enters
 
-    over_with : is_known_tag syntax content_there (values next.run) ≡ false → is_known_tag syntax content_there (values next.run ++ value ∷ []) ≡ true → token_at next + limits.tag ≤ next.at → byte_read ≡ Err kind.TagTooLong
-    over_with u k l =
-        by_entry (and_left (is_known_tag syntax content_there (values next.run)) _ u)
-        ∙ cond-true _ _ _ (too_long known_with (token_at next + limits.tag) next.at (sym with_is ∙ k) l)
-
     module _ (fw : FitsWith syntax limits spot next c) where
       by_told : byte_read ≡ tells (verdict syntax content_there (values next.run) value)
       by_told =
@@ -469,54 +196,289 @@ module _ (syntax : Syntax) (limits : Limits) (spot : Spot) (o : occurs syntax sp
       literal_is : (d : ℕ) (token : Token) → is_literal d (item token) ≡ is_strict_literal d content_there token
       literal_is d token = ap (λ t. is_strict_literal d (item token).content t) (token_of_item content_there token (next.run ++ entry ∷ [])) ∙ ap (λ i. is_strict_literal d i token) (item_content content_there token next.run entry)
 
-      at_section : (token : Token) → spelling.Spells syntax content_there (values next.run ++ value ∷ []) None token → is_strict_literal greater_than_sign content_there token ≡ true → next.two ≡ true → byte_read ≡ Err kind.StrictText
-      at_section token sp l two =
+      at_fault : GoesOn syntax content_there [] (values next.run) → (found : Kind) (run : Chars) → Left syntax content_there (values next.run) value run → verdict syntax content_there run value ≡ refused found → byte_read ≡ Err found
+      at_fault g found _ spelled.goes_on v = by_told ∙ ap tells v
+      at_fault g found _ (is_over token sp) v =
           by_told
-          ∙ (ap tells (whole_verdict syntax content_there (values next.run) value token sp)
-          ∙ cond-true _ _ _ (and_from next.two (is_literal greater_than_sign (item token)) two (literal_is greater_than_sign token ∙ l)))
-
-      at_doctype : spelling.Spells syntax content_there (values next.run ++ value ∷ []) None doctype → spot.leads ≡ false → byte_read ≡ Err kind.BadDoctype
-      at_doctype sp l =
-          by_told
-          ∙ (ap tells (whole_verdict syntax content_there (values next.run) value doctype sp)
-          ∙ (cond-false _ _ _ (ap (λ b. next.two && b) (literal_is greater_than_sign doctype ∙ no_literal greater_than_sign content_there doctype (λ d e. cc)) ∙ and-false next.two)
-          ∙ cond-true _ _ _ (and_from (is_doctype (item doctype).token) (not spot.leads) (ap is_doctype (token_of_item content_there doctype (next.run ++ entry ∷ []))) (ap not l))))
-
-      at_fault : (found : Kind) (run : Chars) → Left syntax content_there (values next.run) value run → verdict syntax content_there run value ≡ refused found → byte_read ≡ Err found
-      at_fault found _ spelled.goes_on v = by_told ∙ ap tells v
-      at_fault found _ (is_over token sp) v =
-          by_told
-          ∙ (ap tells (ended_verdict syntax content_there (values next.run) value token g sp)
+          ∙ (ap tells (ended_verdict syntax content_there (values next.run) value token g (reads_each syntax content_there (values next.run) (Some value) token sp))
           ∙ ap (λ x. with_item syntax limits spot (item_of content_there token next.run) (told_first syntax limits spot (c == carriage_return) entry (after_token syntax limits spot next) x)) v)
 
-      at_decided : (found : Kind) (run : Chars) → Left syntax content_there (values next.run) value run → IsNoToken syntax content_there (run ++ value ∷ [])
-          → ((depth : ℕ) (items : List Item) (line : Line) (phase : Phase) → Faulty syntax depth items line phase content_there found (run ++ value ∷ [])) → byte_read ≡ Err found
-      at_decided found run left n f =
-          let r = refused_by syntax content_there o 0 [] (before false) (f 0 [] [] (before false)) n in
-          let p = two_lasts r.front run r.c value (sym r.are) in
-          at_fault found run left (subst (λ x. verdict syntax content_there x value ≡ refused found) p.0 (subst (λ x. verdict syntax content_there r.front x ≡ refused found) p.1 r.refuses))
-
-  over_before : next.at < limits.page → is_known_tag syntax content_there (values next.run) ≡ true → token_at next + limits.tag ≤ next.at → faults.GoesOn with_byte → byte_read ≡ Err kind.TagTooLong
-  over_before p k l (faults.begins_one b) = by_answer More p (answer_is with_byte More b) ∙ cond-true _ _ _ (too_long (is_known_tag syntax content_there (values next.run)) (token_at next + limits.tag) next.at k l)
-  over_before p k l (faults.is_one c is n) =
+  pub refused_read : {found : Kind} → occurs syntax content_there ≡ true → GoesOn syntax content_there [] (values next.run) → Refuses syntax limits spot next byte found → byte_read ≡ Err found
+  refused_read o g (page_too_long l) = cond-true _ _ _ (is_le limits.page next.at l)
+  refused_read o g (not_utf8 p n) = by_answer Bad p (answer_is with_byte Bad n)
+  refused_read o g (nul p is) = by_answer (Char 0) p (answer_is with_byte (Char 0) is)
+  refused_read o g (tag_too_long p k l (faults.begins_one b)) = by_answer More p (answer_is with_byte More b) ∙ cond-true _ _ _ (too_long (is_known_tag syntax content_there (values next.run)) (token_at next + limits.tag) next.at k l)
+  refused_read o g (tag_too_long p k l (faults.is_one c is n)) =
       by_answer (Char c) p (answer_is with_byte (Char c) is) ∙ (cond-false _ _ _ (ne_eqb c 0 n) ∙ cond-true _ _ _ (too_long (is_known_tag syntax content_there (values next.run)) (token_at next + limits.tag) next.at k l))
+  refused_read o g (known_too_long c ent u k l) =
+      by_entry c ent (and_left (is_known_tag syntax content_there (values next.run)) _ u) ∙ cond-true _ _ _ (too_long (known_with c ent) (token_at next + limits.tag) next.at (sym (with_is c ent) ∙ k) l)
+  refused_read {found = found} o g (decided c run ent fw left n f) =
+      let r = refused_by syntax content_there o 0 [] (before false) (f 0 [] [] (before false)) n in
+      let p = two_lasts r.front run r.c (as_line_end c) (sym r.are) in
+      at_fault c ent fw g found run left (subst (λ x. verdict syntax content_there x (as_line_end c) ≡ refused found) p.0 (subst (λ x. verdict syntax content_there r.front x ≡ refused found) p.1 r.refuses))
+  refused_read o g (section_end c token ent fw sp l two) =
+      by_told c ent fw
+      ∙ (ap (tells c ent) (whole_verdict syntax content_there (values next.run) (as_line_end c) token sp)
+      ∙ cond-true _ _ _ (and_from next.two (is_literal greater_than_sign (item c ent fw token)) two (literal_is c ent fw greater_than_sign token ∙ l)))
+  refused_read o g (late_doctype c ent fw sp l) =
+      by_told c ent fw
+      ∙ (ap (tells c ent) (whole_verdict syntax content_there (values next.run) (as_line_end c) doctype sp)
+      ∙ (cond-false _ _ _ (ap (λ b. next.two && b) (literal_is c ent fw greater_than_sign doctype ∙ no_literal greater_than_sign content_there doctype (λ d e. cc)) ∙ and-false next.two)
+      ∙ cond-true _ _ _ (and_from (is_doctype (item c ent fw doctype).token) (not spot.leads) (ap is_doctype (token_of_item content_there doctype (next.run ++ entry c ent ∷ []))) (ap not l))))
 
-  pub refused_read : {found : Kind} → Refuses syntax limits spot next byte found → byte_read ≡ Err found
-  refused_read (page_too_long l) = cond-true _ _ _ (is_le limits.page next.at l)
-  refused_read (not_utf8 p n) = by_answer Bad p (answer_is with_byte Bad n)
-  refused_read (nul p is) = by_answer (Char 0) p (answer_is with_byte (Char 0) is)
-  refused_read (tag_too_long p k l on) = over_before p k l on
-  refused_read (known_too_long c ent u k l) = over_with c ent u k l
-  refused_read {found = found} (decided c run ent fw left n f) = at_decided c ent fw found run left n f
-  refused_read (section_end c token ent fw sp l two) = at_section c ent fw token sp l two
-  refused_read (late_doctype c ent fw sp l) = at_doctype c ent fw sp l
+module _ (syntax : Syntax) (limits : Limits) (spot : Spot) (o : occurs syntax spot.inside ≡ true) (s : Scanning) where
+  abbrev inside : Content
+  inside = spot.inside
+
+  abbrev Are : List Item → Type 0
+  Are items = Fine syntax limits spot o s items
+
+  abbrev known : List Entry → Bool
+  known run = is_known_tag syntax inside (values run)
+
+  abbrev enters_as : List ℕ → List Entry
+  enters_as cs = entries_of syntax limits spot o s cs
+
+  abbrev flags : List Item → Bool × Bool
+  flags items = brackets syntax limits spot o s items
+
+  abbrev there : List ℕ → List ℕ → List ℕ → List Entry → Bool × Bool → Scanning
+  there bytes cs part run b = state syntax limits spot o s bytes cs part run b
+
+  fine_last : (items : List Item) (item : Item) → Are (items ++ item ∷ []) → Are items
+  fine_last items item f =
+      record { inside_is = ((inside_snoc inside items item).0 f.inside_is).0; come = ((come_snoc spot.leads items item).0 f.come).0; fit = (fit_last limits.tag items item f.fit).0; sections = (sections_last items item s.two s.last f.sections).0 }
+
+  -- bytes, and one more
+  module _ (bytes : List ℕ) (byte : ℕ) (final : Scanned) (t : Spells syntax limits spot s (bytes ++ byte ∷ []) final) where
+    -- what the bytes before it spell, and that it leads on from there
+    record Before : Type 0 where
+      mid : Scanned
+      told : Spells syntax limits spot s bytes mid
+      items : List Item
+      reads : read_byte syntax limits spot byte mid.next ≡ Ok (record { next = final.next; items = items })
+      are : final.items ≡ mid.items ++ items
+
+    abbrev at : ℕ
+    at = s.at + length bytes
+
+    h : Has syntax limits spot o s (bytes ++ byte ∷ []) t.characters t.part t.front final.next.run final.items
+    h = has_of syntax limits spot o s (bytes ++ byte ∷ []) final t
+
+    final_is : there (bytes ++ byte ∷ []) t.characters t.part final.next.run (flags final.items) ≡ final.next
+    final_is = sym (state_is syntax limits spot o s (bytes ++ byte ∷ []) final t)
+
+    within : AllBefore limits.page s.at bytes × (at < limits.page)
+    within = before_last limits.page s.at bytes byte t.within
+
+    room : (from : ℕ) → known final.next.run ≡ true → at < first_of final.next.run from + limits.tag
+    room from k = omega (arith, h.short from k, size_more syntax limits spot o s bytes byte)
+
+    stays : (from : ℕ) → known final.next.run ≡ true → at ≤ first_of final.next.run from + limits.tag
+    stays from k = let a = room from k in omega arith
+
+    -- they are these characters and a part of one
+    module _ (cs part : List ℕ) (are : bytes ≡ encodes cs ++ part) (scalars : all_scalars cs ≡ true) (begun : BeginsCharacter part) (some : has_no_nul (enters_as cs) ≡ true) where
+      before_with : (front run : List Entry) (items left : List Item) → front ++ run ≡ enters_as cs → Spelled syntax front (next_of (values run) None) items → Are items → GoesOn syntax inside [] (values run) → ((from : ℕ) → known run ≡ true → at ≤ first_of run from + limits.tag)
+          → read_byte syntax limits spot byte (there bytes cs part run (flags items)) ≡ Ok (record { next = final.next; items = left }) → final.items ≡ items ++ left → Before
+      before_with front run items left read sp f g short reads e =
+          record {
+            mid = record { next = there bytes cs part run (flags items); items = items };
+            told = told_of syntax limits spot o s bytes cs part front run items (record { are = are; scalars = scalars; within = within.0; is_part = inr begun; read = read; no_nul = some; spelled = sp; fine = f; goes = g; short = short });
+            items = left;
+            reads = reads;
+            are = e;
+          }
+
+    -- the byte belongs to a character that isn't whole
+    held : (part : List ℕ) (x : ℕ) → t.part ≡ part ++ x ∷ [] → Before
+    held part x e =
+        let p = two_lasts bytes (encodes t.characters ++ part) byte x (t.are ∙ (ap (λ y. encodes t.characters ++ y) e ∙ sym (append_assoc (encodes t.characters) part (x ∷ [])))) in
+        let begins : BeginsCharacter (part ++ byte ∷ []) = subst (λ y. BeginsCharacter (part ++ y ∷ [])) (sym p.1) (⊎_elim (λ h. absurd (not_none part x (sym e ∙ h))) (λ b. subst BeginsCharacter e b) t.is_part) in
+        before_with t.characters part p.0 t.scalars (record { more = byte ∷ begins.more; value = begins.value; longer = λ h. cc; character = subst (λ y. IsCharacter y begins.value) (append_assoc part (byte ∷ []) begins.more) begins.character }) h.no_nul
+        t.front final.next.run final.items [] t.read t.spelled h.fine h.goes stays
+        (by_answer syntax limits spot (there bytes t.characters part final.next.run (flags final.items)) byte More within.1 (answer_is (part ++ byte ∷ []) More begins)
+        ∙ (cond-false _ _ _ (not_long _ (first_of final.next.run (at - length part) + limits.tag) at (room (at - length part)))
+        ∙ ap (λ n. Ok (record { next = n; items = [] }))
+        ((λ i. record { at = size_more syntax limits spot o s bytes byte i; held = (ap (λ y. part ++ y ∷ []) p.1 ∙ sym e) i; started = s.started || has_character t.characters; after_return = ends_in_return s.after_return t.characters; run = final.next.run; two = (flags final.items).0; last = (flags final.items).1 }) ∙ final_is)))
+        (sym (append-nil final.items))
+
+    -- the last byte of a character
+    module _ (cs : List ℕ) (c : ℕ) (ce : t.characters ≡ cs ++ c ∷ []) (pe : t.part ≡ []) (part : List ℕ) (x : ℕ) (whole_form : encode c ≡ part ++ x ∷ []) where
+      split_is : (bytes ≡ encodes cs ++ part) × (byte ≡ x)
+      split_is =
+          two_lasts bytes (encodes cs ++ part) byte x
+          (t.are ∙ ((λ i. encodes (ce i) ++ pe i) ∙ (append-nil (encodes (cs ++ c ∷ [])) ∙ (encodes_more cs c ∙ (ap (λ y. encodes cs ++ y) whole_form ∙ sym (append_assoc (encodes cs) part (x ∷ [])))))))
+
+      form : encode c ≡ part ++ byte ∷ []
+      form = whole_form ∙ ap (λ y. part ++ y ∷ []) (sym split_is.1)
+
+      scalars : (all_scalars cs ≡ true) × (scalar c ≡ true)
+      scalars = scalars_last cs c (ap all_scalars (sym ce) ∙ t.scalars)
+
+      is : IsCharacter (part ++ byte ∷ []) c
+      is = subst (λ y. IsCharacter y c) form (character_of_form c scalars.1)
+
+      begun : BeginsCharacter part
+      begun = record { more = byte ∷ []; value = c; longer = λ h. cc; character = is }
+
+      abbrev mid : List Entry → Bool × Bool → Scanning
+      mid run b = there bytes cs part run b
+
+      abbrev does_pass : Bool
+      does_pass = pass syntax limits spot o s bytes byte cs part c split_is.0 form
+
+      read : t.front ++ final.next.run ≡ enters_as cs ++ new_entries syntax limits spot o s bytes byte cs part c split_is.0 form
+      read = t.read ∙ (ap enters_as ce ∙ entries_are syntax limits spot o s bytes byte cs part c split_is.0 form)
+
+      leads_on : (after_return : Bool) (old run : List Entry) (two last : Bool) (b : Bool × Bool) (left : List Item) → after_return ≡ (c == carriage_return) → run ≡ final.next.run → (two, last) ≡ flags final.items
+          → ◌≡◌ {A = Result Scanned Kind} (Ok (record { next = entering after_return run two last (mid old b); items = left })) (Ok (record { next = final.next; items = left }))
+      leads_on after_return old run two last b left a r f =
+          ap (λ n. Ok (record { next = n; items = left }))
+          (next_is syntax limits spot o s bytes byte cs part c split_is.0 form after_return old run two last (flags final.items) b a f
+          ∙ ((λ i. there (bytes ++ byte ∷ []) (sym ce i) (sym pe i) (r i) (flags final.items)) ∙ final_is))
+
+      passed_on : does_pass ≡ true → Before
+      passed_on p =
+          let same : t.front ++ final.next.run ≡ enters_as cs = read ∙ (ap (λ z. enters_as cs ++ z) (cond-true _ _ _ p) ∙ append-nil (enters_as cs)) in
+          before_with cs part split_is.0 scalars.0 begun (sym (ap has_no_nul same) ∙ t.no_nul) t.front final.next.run final.items [] same t.spelled h.fine h.goes stays
+          (by_char syntax limits spot (mid final.next.run (flags final.items)) byte c within.1 is (eqb-false c 0 (passing_is _ _ c ((c == 0) ≡ false) p (mark_some c) (line_feed_some c)))
+          (not_long _ (first_of final.next.run (at - length part) + limits.tag) at (room (at - length part)))
+          ∙ (cond-true _ _ _ p ∙ leads_on false final.next.run final.next.run (flags final.items).0 (flags final.items).1 (flags final.items) [] (sym (passing_is _ _ c ((c == carriage_return) ≡ false) p (no_mark c) (no_return c))) refl refl))
+          (sym (append-nil final.items))
+
+      -- one that is entered
+      module _ (enters : does_pass ≡ false) where
+        abbrev e : Entry
+        e = new_entry syntax limits spot o s bytes byte cs part c split_is.0 form
+
+        grown : t.front ++ final.next.run ≡ enters_as cs ++ e ∷ []
+        grown = read ∙ ap (λ z. enters_as cs ++ z) (cond-false _ _ _ enters)
+
+        no_nul : (has_no_nul (enters_as cs) ≡ true) × (not (e.value == 0) ≡ true)
+        no_nul = no_nul_last (enters_as cs) e (sym (ap has_no_nul grown) ∙ t.no_nul)
+
+        ent : (run : List Entry) (b : Bool × Bool) → Enters limits (mid run b) byte c
+        ent run b = record { page = within.1; is = is; no_nul = λ z. (let w : false ≡ true = sym (ap not (nul_entry c (ap (λ y. y == 0) z))) ∙ no_nul.1 in cc); enters = enters }
+
+        -- what it says of these tokens and this run
+        at_entry : (run front : List Entry) (others items : List Item) (v : Verdict) → Standing syntax inside o e.value run front others → front ++ run ≡ enters_as cs → Are others → GoesOn syntax inside [] (values run)
+            → ((from : ℕ) → is_known_tag syntax inside (values run ++ e.value ∷ []) ≡ true → at < first_of (run ++ e ∷ []) from + limits.tag) → verdict syntax inside (values run) e.value ≡ v
+            → ((n : Scanning) → told syntax limits spot (c == carriage_return) e n v ≡ told_first syntax limits spot (c == carriage_return) e n v) → ((b : Bool × Bool) → b ≡ flags others → told_first syntax limits spot (c == carriage_return) e (mid run b) v ≡ Ok (record { next = final.next; items = items })) → final.items ≡ others ++ items → Before
+        at_entry run front others items v (still sp) whole_front f g fits v_is n first are =
+            let k : is_known_tag syntax inside (values run ++ e.value ∷ []) ≡ true → at < first_of run e.first + limits.tag = λ k. subst (λ z. at < z + limits.tag) (first_snoc run e 0) (fits 0 k) in
+            before_with cs part split_is.0 scalars.0 begun no_nul.0 front run others items whole_front sp f g
+            (λ from w. let m = k (known_more syntax inside (values run) (e.value ∷ []) w) in let z = first_known syntax inside run from e.first w in omega arith)
+            (by_told syntax limits spot (mid run (flags others)) byte c (ent run (flags others)) k
+            ∙ (ap (λ w. told syntax limits spot (c == carriage_return) e (mid run (flags others)) w) v_is ∙ (n (mid run (flags others)) ∙ first (flags others) refl))) are
+        at_entry _ _ _ items v (was_text front d r others item sp go w is_item) whole_front f g fits v_is n first are =
+            let unknown : is_known_tag syntax inside (values (d ∷ r) ++ e.value ∷ []) ≡ true → ⊥ = λ k. no_tag _ item.token (known_verdict syntax inside (values (d ∷ r)) e.value k) w in
+            let kept_is : IsKept item.token = subst IsKept (ap (λ (x : Item). x.token) is_item) (subst IsKept (sym (token_of_item inside item.token (d ∷ r))) (ended_kept syntax inside (values (d ∷ r)) e.value item.token w)) in
+            before_with cs part split_is.0 scalars.0 begun no_nul.0 front (d ∷ r) others (item ∷ items) (sym (append-nil (front ++ (d ∷ r))) ∙ whole_front) sp (fine_last others item f) go (λ from k. absurd (unknown (known_more syntax inside (values (d ∷ r)) (e.value ∷ []) k)))
+            (by_told syntax limits spot (mid (d ∷ r) (flags others)) byte c (ent (d ∷ r) (flags others)) (λ k. absurd (unknown k))
+            ∙ (ap (λ w. told syntax limits spot (c == carriage_return) e (mid (d ∷ r) (flags others)) w) w
+            ∙ (ap (λ y. with_item syntax limits spot (item_of inside item.token (d ∷ r)) (told_first syntax limits spot (c == carriage_return) e (mid [] (false, false)) y)) v_is
+            ∙ (ap (λ y. with_item syntax limits spot (item_of inside item.token (d ∷ r)) y) (first (false, false) (sym (kept_flags others item s.two s.last kept_is))) ∙ ap (λ y. Ok (record { next = final.next; items = y ∷ items })) is_item))))
+            (are ∙ append_assoc others (item ∷ []) items)
+
+        -- it goes on
+        on_run : (run : List Entry) → final.next.run ≡ run ++ e ∷ [] → t.front ++ run ≡ enters_as cs → Before
+        on_run run re q =
+            let text_is : values final.next.run ≡ values run ++ e.value ∷ [] = ap values re ∙ values_append run (e ∷ []) in
+            let on : GoesOn syntax inside [] (values run ++ e.value ∷ []) = subst (λ x. GoesOn syntax inside [] x) text_is h.goes in
+            at_entry run t.front final.items [] goes_on
+            (standing syntax inside o e.value run t.front final.items t.inside_is (subst (λ n. Spelled syntax t.front n final.items) (ap (λ z. next_of (values z) None) re ∙ values_next run e [] None) t.spelled))
+            q h.fine (goes_front syntax inside [] (values run) (e.value ∷ []) on)
+            (λ from k. subst (λ z. at < first_of z from + limits.tag) re (room from (ap (λ x. is_known_tag syntax inside x) text_is ∙ k)))
+            (goes_at syntax inside [] (values run) e.value [] on) (λ n. refl)
+            (λ b f. leads_on (c == carriage_return) run (run ++ e ∷ []) b.0 b.1 b [] refl (sym re) f) (sym (append-nil final.items))
+
+        -- it is the last one of a token
+        on_token : final.next.run ≡ [] → (front : List Entry) (items : List Item) → ByLast syntax None front items → front ≡ enters_as cs ++ e ∷ [] → final.items ≡ items → Are items → Before
+        on_token re _ _ nothing q i f = absurd (not_none (enters_as cs) e (sym q))
+        on_token re _ _ (behind front d r others item sp k first last) q i f = by (last_in front (d ∷ r) (enters_as cs) e q)
+          where
+            by : LastIn front (d ∷ r) (enters_as cs) e → Before
+            by (in_front z w) = absurd (cc)
+            by (in_run run unit w) =
+                let here = ((inside_snoc inside others item).0 f.inside_is).1 in
+                let it : item_of inside item.token (run ++ e ∷ []) ≡ item = ap (λ z. item_of inside item.token z) (sym unit) ∙ item_is inside item d r here first last in
+                let spells : spelling.Spells syntax inside (values run ++ e.value ∷ []) None item.token = subst (λ x. spelling.Spells syntax inside x None item.token) (ap values unit ∙ values_append run (e ∷ [])) (subst (λ x. spelling.Spells syntax x (values (d ∷ r)) None item.token) here k) in
+                let v = whole_verdict syntax inside (values run) e.value item.token spells in
+                at_entry run front others (item ∷ []) (whole item.token)
+                (standing syntax inside o e.value run front others (fine_last others item f).inside_is (subst (λ n. Spelled syntax front n others) (ap (λ z. next_of (values z) None) unit ∙ values_next run e [] None) sp))
+                w (fine_last others item f) (begun_goes syntax inside (values run) e.value [] None item.token spells)
+                (λ from k. let m = fits_of limits.tag _ item (known_verdict syntax inside (values run) e.value k) v (fit_last limits.tag others item f.fit).1 in
+                let a : item.first ≡ first_of run e.first = ap (λ (x : Item). x.first) (sym it) ∙ item_first inside item.token run e in
+                let b : item.last ≡ at = ap (λ (x : Item). x.last) (sym it) ∙ item_last inside item.token run e in
+                let z = first_snoc run e from in
+                omega arith)
+                v (λ n. refl)
+                (λ b g.
+                ap (λ z. completed syntax limits spot (c == carriage_return) z (mid run b)) it
+                ∙ (cond-false _ _ _ (ap (λ (p : Bool × Bool). p.0 && is_literal greater_than_sign item) g ∙ (sections_last others item s.two s.last f.sections).1)
+                ∙ (cond-false _ _ _ (not_late spot.leads item.token ((come_snoc spot.leads others item).0 f.come).1)
+                ∙ leads_on (c == carriage_return) run [] (b.1 && is_literal right_bracket item) (is_literal right_bracket item) b (item ∷ []) refl (sym re)
+                (ap (λ (p : Bool × Bool). (p.1 && is_literal right_bracket item, is_literal right_bracket item)) g ∙ sym (ap (λ z. flags z) i ∙ brackets_snoc others item s.two s.last)))))
+                i
+
+        entered_on : Before
+        entered_on = elim (last_in t.front final.next.run (enters_as cs) e grown) [
+          | in_run run re q ↦ on_run run re q
+          | in_front re q ↦ on_token re t.front final.items (by_last syntax (subst (λ z. Spelled syntax t.front (next_of (values z) None) final.items) re t.spelled)) q refl h.fine
+        ]
+
+    byte_before : Before
+    byte_before = by (last_of t.part) (last_of t.characters)
+      where
+        in_char : t.part ≡ [] → (cs : List ℕ) (c : ℕ) → t.characters ≡ cs ++ c ∷ [] → Last (encode c) → Before
+        in_char pe cs c ce (no_last z) = absurd (omega (arith, ap length z, length-encode c, len_positive c))
+        in_char pe cs c ce (a_last part x form) =
+            by_test {G = Before} (passes (s.started || has_character cs) (ends_in_return s.after_return cs) c) (λ p. passed_on cs c ce pe part x form p) (λ p. entered_on cs c ce pe part x form p)
+
+        by : Last t.part → Last t.characters → Before
+        by (a_last part x e) _ = held part x e
+        by (no_last pe) (a_last cs c ce) = in_char pe cs c ce (last_of (encode c))
+        by (no_last pe) (no_last ce) = absurd (not_none bytes byte (t.are ∙ (ap (λ y. encodes y ++ t.part) ce ∙ pe)))
+
+  abbrev Scans : List ℕ → Type 0
+  Scans bytes = (final : Scanned) → Spells syntax limits spot s bytes final → scan_from syntax limits spot s bytes ≡ Ok final
+
+  -- nothing is spelled by no bytes
+  no_tokens : (front run : List Entry) {next : Option ℕ} {items : List Item} → Spelled syntax front next items → front ++ run ≡ [] → (run ≡ []) × (items ≡ [])
+  no_tokens _ run no_more e = (e, refl)
+  no_tokens _ run (one c r rest item sp f l more) e = absurd (cc)
+
+  from_none : IsBetween s → Scans []
+  from_none b final t = by t.characters t.part t.are refl refl
+    where
+      by : (cs part : List ℕ) → [] ≡ encodes cs ++ part → t.characters ≡ cs → t.part ≡ part → scan_from syntax limits spot s [] ≡ Ok final
+      by (c ∷ cs) part e ce pe = absurd (omega (arith, ap length e, length-append (encodes (c ∷ cs)) part, length-append (encode c) (encodes cs), length-encode c, len_positive c))
+      by [] part e ce pe =
+          let n = no_tokens t.front final.next.run t.spelled (t.read ∙ (ap enters_as ce ∙ none_entered s.started s.after_return s.at)) in
+          let at_is : s.at ≡ s.at + 0 = omega arith in
+          ap (λ n. Ok (record { next = n; items = [] }))
+          ((λ i. record { at = at_is i; held = b.held i; started = sym (or-false s.started) i; after_return = s.after_return; run = b.run i; two = s.two; last = s.last })
+          ∙ ((λ i. there [] (sym ce i) ((e ∙ sym pe) i) (sym n.0 i) (flags (sym n.1 i))) ∙ sym (state_is syntax limits spot o s [] final t)))
+          ∙ ap (λ x. Ok (record { next = final.next; items = x })) (sym n.1)
+
+  -- one byte after another
+  scans_more : (bytes rest : List ℕ) → Scans bytes → Scans (bytes ++ rest)
+  scans_more bytes [] h = subst Scans (sym (append-nil bytes)) h
+  scans_more bytes (byte ∷ rest) h =
+      subst Scans (append_assoc bytes (byte ∷ []) rest) (scans_more (bytes ++ byte ∷ []) rest (λ final t. let b = byte_before bytes byte final t in
+      on_append syntax limits spot (Ok (record { next = s; items = [] })) bytes (byte ∷ [])
+      ∙ (ap (λ x. scan_on syntax limits spot x (byte ∷ [])) (h b.mid b.told) ∙ (ap (λ x. with_items b.mid.next b.mid.items x) b.reads ∙ ap (λ x. Ok (record { next = final.next; items = x })) (sym b.are)))))
+
+  pub spelled_back : IsBetween s → (bytes : List ℕ) → Scans bytes
+  spelled_back b bytes = scans_more [] bytes (from_none b)
 
 refused_back : (syntax : Syntax) (limits : Limits) (spot : Spot) (s : Scanning) (bytes : List ℕ) (fault : Fault) → occurs syntax spot.inside ≡ true → IsBetween s → FirstFault syntax limits spot s bytes fault → scan_from syntax limits spot s bytes ≡ Err fault
 refused_back syntax limits spot s bytes fault o b f =
     ap (λ x. scan_from syntax limits spot s x) f.are
     ∙ (on_append syntax limits spot (Ok (record { next = s; items = [] })) f.front (f.byte ∷ f.rest)
-    ∙ (ap (λ x. scan_on syntax limits spot x (f.byte ∷ f.rest)) (spelled_back syntax limits spot s f.front f.scanned o b f.spells)
-    ∙ (ap (λ x. scan_on syntax limits spot (with_items f.scanned.next f.scanned.items x) f.rest) (refused_read syntax limits spot o f.scanned.next f.byte (pending_goes syntax spot.inside (values f.scanned.next.run) f.spells.pending) f.refuses)
+    ∙ (ap (λ x. scan_on syntax limits spot x (f.byte ∷ f.rest)) (spelled_back syntax limits spot o s b f.front f.scanned f.spells)
+    ∙ (ap (λ x. scan_on syntax limits spot (with_items f.scanned.next f.scanned.items x) f.rest) (refused_read syntax limits spot f.scanned.next f.byte o (pending_goes syntax spot.inside (values f.scanned.next.run) f.spells.pending) f.refuses)
     ∙ (scan_fault syntax limits spot (fault_in f.scanned.next fault.kind) f.rest ∙ ap (λ x. Err x) same))))
   where
     at : f.scanned.next.at ≡ fault.at
@@ -527,7 +489,7 @@ refused_back syntax limits spot s bytes fault o b f =
 
 pub scans_what_is_spelled : ScansWhatIsSpelled
 scans_what_is_spelled syntax limits spot s bytes scanned i b =
-    (λ h. all_so syntax limits spot s bytes (Ok scanned) i b h, λ sp. spelled_back syntax limits spot s bytes scanned (sym (same_content syntax spot.inside) ∙ i) b sp)
+    (λ h. all_so syntax limits spot s bytes (Ok scanned) i b h, λ sp. spelled_back syntax limits spot (sym (same_content syntax spot.inside) ∙ i) s b bytes scanned sp)
 
 pub refuses_what_is_faulty : RefusesWhatIsFaulty
 refuses_what_is_faulty syntax limits spot s bytes fault i b =

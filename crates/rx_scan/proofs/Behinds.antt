@@ -107,13 +107,17 @@ module _ (s : Syntax) (i : Content) (p : Pending) (text : Chars) (c : ℕ) where
   pub goes_by : (judge : Chars → ℕ → told.Verdict) (Is : Chars → Type 0) (b : Behind s i judge Is text) (m : TokenState) (run : Chars) → judge b.rest c ≡ told.goes_on → PendsAs s i m run p.tag (text ++ c ∷ []) → Goes s i p text c m run
   goes_by judge Is b m run e h = record { first = 60; more = b.front ++ b.rest; some = b.are; goes = judged_at judge Is b ∙ e; pends = h }
 
+  -- it ends a comment where it passes a test, or goes on
+  ends_or_goes : (judge : Chars → ℕ → told.Verdict) (Is : Chars → Type 0) (b : Behind s i judge Is text) (test : Bool) (m : TokenState) → judge b.rest c ≡ told.whole_if test comment → PendsAs s i m p.run p.tag (text ++ c ∷ [])
+      → Means s i p text c (if test then move.Ends whole.Comment else move.Continue m)
+  ends_or_goes judge Is b test m e k =
+      split (λ (x : Move). Means s i p text c x) test _ _ (λ h. judged_at judge Is b ∙ (e ∙ ap (λ t. told.whole_if t comment) h)) (λ h. goes_by judge Is b m p.run (e ∙ ap (λ t. told.whole_if t comment) h) k)
+
   pub in_comment_means : (q : CommentPhase) → PendsAs s i (mark.Comment q) p.run p.tag text → Means s i p text c (in_comment q c)
   in_comment_means q b =
       let judge = judge_of s i (mark.Comment q) in
-      let closes = comment_closes q b.rest c b.is in
-      split (λ (m : Move). Means s i p text c m) (c == 62 && may_close q) _ _
-      (λ h. judged_at judge (CommentEnds q) b ∙ ap (λ t. told.whole_if t comment) (closes ∙ h))
-      (λ h. goes_by judge (CommentEnds q) b (mark.Comment (next_phase q c)) p.run (ap (λ t. told.whole_if t comment) (closes ∙ h)) (behind_more judge (CommentEnds q) (CommentEnds (next_phase q c)) b (comment_grows q b.rest c b.is)))
+      ends_or_goes judge (CommentEnds q) b (c == 62 && may_close q) (mark.Comment (next_phase q c)) (ap (λ t. told.whole_if t comment) (comment_closes q b.rest c b.is))
+      (behind_more judge (CommentEnds q) (CommentEnds (next_phase q c)) b (comment_grows q b.rest c b.is))
 
   pub in_strict_means : (q : StrictPhase) → PendsAs s i (mark.StrictComment q) p.run p.tag text → Means s i p text c (in_strict_comment q c)
   in_strict_means strict.Dashes b =
@@ -129,20 +133,14 @@ module _ (s : Syntax) (i : Content) (p : Pending) (text : Chars) (c : ℕ) where
   any_text rest = Unit {0}
 
   pub in_bogus_means : PendsAs s i mark.Bogus p.run p.tag text → Means s i p text c (in_bogus c)
-  in_bogus_means b =
-      let judge = judge_of s i mark.Bogus in
-      split (λ (m : Move). Means s i p text c m) (c == 62) _ _
-      (λ h. judged_at judge any_text b ∙ ap (λ t. told.whole_if t comment) h)
-      (λ h. goes_by judge any_text b mark.Bogus p.run (ap (λ t. told.whole_if t comment) h) (behind_more judge any_text any_text b tt))
+  in_bogus_means b = let judge = judge_of s i mark.Bogus in ends_or_goes judge any_text b (c == 62) mark.Bogus refl (behind_more judge any_text any_text b tt)
 
   pub in_instruction_means : (asked : Bool) → PendsAs s i (mark.Instruction asked) p.run p.tag text → Means s i p text c (in_instruction asked c)
   in_instruction_means asked b =
       let judge = judge_of s i (mark.Instruction asked) in
       let Asked : Bool → Chars → Type 0 = λ a rest. ends_with (codes "?") rest ≡ a in
       let closes : ends_with (codes "?>") (b.rest ++ c ∷ []) ≡ ((c == 62) && asked) = ends_snoc (63 ∷ []) 62 b.rest c ∙ (ap (λ t. t && ends_with (63 ∷ []) b.rest) (either_way 62 c) ∙ ap (λ t. (c == 62) && t) b.is) in
-      split (λ (m : Move). Means s i p text c m) (c == 62 && asked) _ _
-      (λ h. judged_at judge (Asked asked) b ∙ ap (λ t. told.whole_if t comment) (closes ∙ h))
-      (λ h. goes_by judge (Asked asked) b (mark.Instruction (c == 63)) p.run (ap (λ t. told.whole_if t comment) (closes ∙ h)) (behind_more judge (Asked asked) (Asked (c == 63)) b (ends_one 63 b.rest c ∙ either_way 63 c)))
+      ends_or_goes judge (Asked asked) b (c == 62 && asked) (mark.Instruction (c == 63)) (ap (λ t. told.whole_if t comment) closes) (behind_more judge (Asked asked) (Asked (c == 63)) b (ends_one 63 b.rest c ∙ either_way 63 c))
 
   pub in_section_means : (q : Brackets) → PendsAs s i (mark.Section q) p.run p.tag text → Means s i p text c (in_section q c)
   in_section_means q b =

@@ -10,30 +10,20 @@ use Rattle.rx_scan.specs.declared.places.Position.{Position}
 use Rattle.rx_scan.specs.Places.{entered, holding}
 use Rattle.rx_scan.specs.KnownTags as known_tags
 use Rattle.rx_scan.specs.Entries as entries
-use Rattle.rx_scan.proofs.Standing.{some_mark, no_values, after, place_on, starts_next}
+use Rattle.rx_scan.proofs.Standing.{no_values, after, place_on, starts_next}
 use Rattle.rx_scan.proofs.Simulation.{known, known_with}
 use Rattle.rx_scan.proofs.MarkLemmas.{mark_is}
-use Rattle.rx_scan.proofs.EntryLemmas.{enters, Gives, gives_at, gives_by, refuses, nothing_told}
-
--- what pends has a first character, or there is nothing
-pub record HasFirst (text : Chars) : Type 0 where
-  pub first : ℕ
-  pub more : Chars
-  pub is : text ≡ first ∷ more
-
-pub nothing_or : (s : Syntax) (i : Content) (m : TokenState) (run : Chars) (t : TagSoFar) (text : Chars) → PendsAs s i m run t text → ((m ≡ mark.Nothing) × (text ≡ [])) ⊎ HasFirst text
-nothing_or s i mark.Nothing run t text h = inl (refl, h)
-nothing_or s i mark.LessThan run t text h = inr (record { first = 60; more = []; is = h.are })
-nothing_or s i (mark.RawEnd n) run t text h = inr (record { first = 60; more = run; is = h.are })
-nothing_or s i mark.Tag run t text h = inr (record { first = 60; more = h.chars; is = h.are })
-nothing_or s i (mark.Run p) run t text h = inr (record { first = 38; more = run; is = h.are })
-nothing_or s i mark.Opened run t text h = inr (record { first = 60; more = 33 ∷ []; is = h.are })
-nothing_or s i (mark.Opening w n) run t text h = inr (record { first = 60; more = 33 ∷ h.first ∷ h.chars; is = h.are })
-nothing_or s i _ run t text h = inr (record { first = 60; more = h.front ++ h.rest; is = h.are })
+use Rattle.rx_scan.proofs.EntryLemmas.{enters, Gives, gives_ok, refuses, nothing_told}
 
 first_same : (run : List Entry) (x : ℕ) (more : Chars) (a b : ℕ) → values run ≡ x ∷ more → reader.first_of run a ≡ reader.first_of run b
 first_same [] x more a b e = absurd (cc)
 first_same (y ∷ run) x more a b e = refl
+
+-- the token that is pending stays where it is
+token_from_stays : (s : Syntax) (i : Content) (m : TokenState) (run : Chars) (t : TagSoFar) (es : List Entry) (place other : Position) (a b : ℕ) → PendsAs s i m run t (values es) → place.starts ≡ a → place.token ≡ other.token
+    → entries.token_from m other ≡ reader.first_of es b → entries.token_from m place ≡ reader.first_of es a
+token_from_stays s i mark.Nothing run t es place other a b h e q k = e ∙ ap (λ (r : List Entry). reader.first_of r a) (sym (no_values es h))
+token_from_stays s i _ run t es place other a b h e q k = q ∙ (k ∙ first_same es _ _ b a h.are)
 
 -- the byte makes the byte order mark whole
 pub record PassesMark (r : Result reader.Scanned Kind) (s : reader.Scanning) (old : Reading) (byte : ℕ) (result : Result TokenKind Stop) (new : Reading) : Type 0 where
@@ -62,13 +52,8 @@ module _ (v : Reading) (s : reader.Scanning) (h : ReadsAs v s) where
   abbrev spot : reader.Spot
   spot = spot_of v
 
-  -- the token that is pending stays where it is
   token_stays : (starts : ℕ) (place : Position) → place.starts ≡ starts → place.token ≡ v.place.token → entries.token_from v.pending.mark place ≡ reader.first_of s.run starts
-  token_stays starts place e q = elim (nothing_or sy v.setting.inside v.pending.mark v.pending.run v.pending.tag (values s.run) h.pends) [
-    | inl n ↦ ap (λ (m : TokenState). entries.token_from m place) n.0 ∙ (e ∙ ap (λ (r : List Entry). reader.first_of r starts) (sym (no_values s.run n.1)))
-    | inr f ↦ some_mark sy v.setting.inside v.pending.mark v.pending.run v.pending.tag (values s.run) f.first f.more place h.pends f.is
-        ∙ (q ∙ (sym (some_mark sy v.setting.inside v.pending.mark v.pending.run v.pending.tag (values s.run) f.first f.more v.place h.pends f.is) ∙ (h.token ∙ first_same s.run f.first f.more (reader.starts_at s) starts f.is)))
-  ]
+  token_stays starts place e q = token_from_stays sy v.setting.inside v.pending.mark v.pending.run v.pending.tag s.run place v.place starts (reader.starts_at s) h.pends e q h.token
 
   long_is : reader.is_too_long sy lim spot s.run (reader.token_at s) s.at ≡ entries.is_long v (known_tags.is_tag v.pending.mark)
   long_is =
@@ -118,8 +103,8 @@ module _ (v : Reading) (s : reader.Scanning) (h : ReadsAs v s) where
         text = ap (λ (x : Reading). x.text) e;
         setting = ap (λ (x : Reading). x.setting) e;
       }))
-      (λ k. inl (subst (λ (x : Result TokenKind Stop). Gives r s v x new) (sym (q ∙ ap (λ b. Ok (if b then what.Skipped else what.Nothing)) k))
-      (gives_at r s v (Ok what.Nothing) (entries.with_passed v) new e (record { scanned = record { next = reader.passed s; items = [] }; is = refl; reads_as = passed_is; told = nothing_told v (entries.with_passed v) refl (λ e. refl); setting = refl }))))
+      (λ k. inl (gives_ok r s v what.Nothing result (entries.with_passed v) new (q ∙ ap (λ b. Ok (if b then what.Skipped else what.Nothing)) k) e
+      (record { scanned = record { next = reader.passed s; items = [] }; is = refl; reads_as = passed_is; told = nothing_told v (entries.with_passed v) refl (λ e. refl); setting = refl })))
     where
       r : Result reader.Scanned Kind
       r = Ok (record { next = reader.passed s; items = [] })
@@ -137,16 +122,15 @@ module _ (v : Reading) (s : reader.Scanning) (h : ReadsAs v s) where
       (λ t k. ways_by (reader.read_char sy lim spot c s) (Ok (record { next = reader.passed s; items = [] })) s v byte result new (cond-true _ _ _ (sym e ∙ t)) (byte_passed byte c result new a (sym e ∙ t) k.0 k.1))
       (λ t k. inl (match_by (entries.is_long v (known_tags.is_tag_with sy v.setting.inside v.pending.mark (as_line_end c))) _ _ k
       (λ u k. refuses (reader.read_char sy lim spot c s) v s TagTooLong result new h (cond-false _ _ _ (sym e ∙ t) ∙ cond-true _ _ _ (long_with (as_line_end c) ∙ u)) k)
-      (λ u k. gives_by (reader.read_char sy lim spot c s) _ s v result new (cond-false _ _ _ (sym e ∙ t) ∙ cond-false _ _ _ (long_with (as_line_end c) ∙ u)) (enters v s h (c == carriage_return) (as_line_end c) result new k))))
+      (λ u k. subst (λ (x : Result reader.Scanned Kind). Gives x s v result new) (sym (cond-false _ _ _ (sym e ∙ t) ∙ cond-false _ _ _ (long_with (as_line_end c) ∙ u))) (enters v s h (c == carriage_return) (as_line_end c) result new k))))
 
   reads_answer : (byte : ℕ) (answer : Utf8Step) (result : Result TokenKind Stop) (new : Reading) → answer_of (s.held ++ byte ∷ []) ≡ answer → entries.ReadsAnswer v (s.held ++ byte ∷ []) answer result new → Ways (reader.read_answer sy lim spot (s.held ++ byte ∷ []) s answer) s v byte result new
   reads_answer byte Bad result new a k = inl (refuses (Err NotUtf8) v s NotUtf8 result new h refl k)
   reads_answer byte More result new a k =
       inl (match_by (entries.is_long v (known_tags.is_tag v.pending.mark)) _ _ k
       (λ u k. refuses (reader.read_answer sy lim spot (s.held ++ byte ∷ []) s More) v s TagTooLong result new h (cond-true _ _ _ (long_is ∙ u)) k)
-      (λ u k. subst (λ (x : Result TokenKind Stop). Gives (reader.read_answer sy lim spot (s.held ++ byte ∷ []) s More) s v x new) (sym k.0)
-      (gives_at (reader.read_answer sy lim spot (s.held ++ byte ∷ []) s More) s v (Ok what.Nothing) (entries.with_held v (s.held ++ byte ∷ [])) new k.1
-      (record { scanned = record { next = reader.holding (s.held ++ byte ∷ []) s; items = [] }; is = cond-false _ _ _ (long_is ∙ u); reads_as = held_is byte; told = nothing_told v (entries.with_held v (s.held ++ byte ∷ [])) refl (λ e. e); setting = refl }))))
+      (λ u k. gives_ok (reader.read_answer sy lim spot (s.held ++ byte ∷ []) s More) s v what.Nothing result (entries.with_held v (s.held ++ byte ∷ [])) new k.0 k.1
+      (record { scanned = record { next = reader.holding (s.held ++ byte ∷ []) s; items = [] }; is = cond-false _ _ _ (long_is ∙ u); reads_as = held_is byte; told = nothing_told v (entries.with_held v (s.held ++ byte ∷ [])) refl (λ e. e); setting = refl })))
   reads_answer byte (Char c) result new a k =
       match_by (c == 0) _ _ k
       (λ t k. inl (refuses (reader.read_answer sy lim spot (s.held ++ byte ∷ []) s (Char c)) v s Nul result new h (cond-true _ _ _ t) k))

@@ -56,14 +56,8 @@ Gives r s old (Ok answer) new = GivesOk r old answer new
 Gives r s old (Err (stop.Fault fault)) new = GivesErr r s fault
 Gives r s old (Err stop.NoMemory) new = Unit {0}
 
-pub gives_by : (r q : Result reader.Scanned Kind) (s : reader.Scanning) (old : Reading) (result : Result TokenKind Stop) (new : Reading) → r ≡ q → Gives q s old result new → Gives r s old result new
-gives_by r q s old result new e g = subst (λ (x : Result reader.Scanned Kind). Gives x s old result new) (sym e) g
-
 pub gives_ok : (r : Result reader.Scanned Kind) (s : reader.Scanning) (old : Reading) (answer : TokenKind) (result : Result TokenKind Stop) (x new : Reading) → result ≡ Ok answer → new ≡ x → GivesOk r old answer x → Gives r s old result new
 gives_ok r s old answer result x new q e g = subst (λ (y : Result TokenKind Stop). Gives r s old y new) (sym q) (subst (λ (z : Reading). GivesOk r old answer z) (sym e) g)
-
-pub gives_at : (r : Result reader.Scanned Kind) (s : reader.Scanning) (old : Reading) (result : Result TokenKind Stop) (x new : Reading) → new ≡ x → Gives r s old result x → Gives r s old result new
-gives_at r s old result x new e g = subst (λ (z : Reading). Gives r s old result z) (sym e) g
 
 -- the fault of the next byte
 pub fault_is : (v : Reading) (s : reader.Scanning) (kind : Kind) → ReadsAs v s → entries.fault_at v kind ≡ reader.fault_in s kind
@@ -75,6 +69,10 @@ refuses r v s kind result new h e q = subst (λ (x : Result TokenKind Stop). Giv
 -- no token is told, and the text stays
 pub nothing_told : (v new : Reading) → new.text ≡ v.text → (v.place.started ≡ true → new.place.started ≡ true) → Grows v [] new
 nothing_told v new e k = record { more = []; texts = refl; text = ap (λ b. b.text) e ∙ sym (append-nil v.text.text); keeps = refl; some = λ z. refl; started = λ z. absurd (z refl); still = k }
+
+-- some text is told
+grows_by : (old new : Reading) (items : List Item) (more : Chars) → texts_of items ≡ Some more → new.text.text ≡ old.text.text ++ more → keeps_first old.setting.drops items ≡ true → (more ≡ [] → ⊥) → new.place.started ≡ true → Grows old items new
+grows_by old new items more x t k n s = record { more = more; texts = x; text = t; keeps = k; some = λ z. absurd (n z); started = λ z. s; still = λ z. s }
 
 -- the entry of the next character, the verdict on it, and what the reader of bytes makes of a verdict
 abbrev pub entry_at : reader.Scanning → ℕ → Entry
@@ -130,20 +128,18 @@ module _ (v : Reading) (s : reader.Scanning) (h : ReadsAs v s) (ar : Bool) (c : 
   completes t g a b =
       ap read g ∙ (cond-false _ _ _ (ap (λ x. s.two && x) (literal_is greater_than_sign t) ∙ a) ∙ cond-false _ _ _ (ap (λ x. reader.is_doctype x && not v.setting.leads) (item_token t) ∙ b))
 
-  -- the place behind it
-  place_behind : (t : Token) (bracket : Bool) → bracket ≡ is_strict_literal right_bracket inside t
-      → ended ar bracket v.place ≡ record { at = v.place.at + 1; starts = v.place.at + 1; token = v.place.token; started = true; after_return = ar; two = s.last && is_literal right_bracket (item t); last = is_literal right_bracket (item t) }
-  place_behind t bracket e =
-      let l : bracket ≡ is_literal right_bracket (item t) = e ∙ sym (literal_is right_bracket t) in
-      λ i. record { at = v.place.at + 1; starts = v.place.at + 1; token = v.place.token; started = true; after_return = ar; two = h.last i && l i; last = l i }
-
   ends_as : (t : Token) (p : Pending) (setting : Setting) (b : Buffered) (end : ℕ) (bracket : Bool) → bracket ≡ is_strict_literal right_bracket inside t → setting.syntax ≡ sy → p.mark ≡ mark.Nothing → p.tag.syntax ≡ sy
       → ReadsAs (record { setting = setting; place = ended ar bracket v.place; held = []; pending = p; text = b; end = end }) (behind t)
   ends_as t p setting b end bracket e y m q =
-      whole v s h ar p setting b (ended ar bracket v.place) end (s.last && is_literal right_bracket (item t)) (is_literal right_bracket (item t)) y m q (place_behind t bracket e)
+      let l : bracket ≡ is_literal right_bracket (item t) = e ∙ sym (literal_is right_bracket t) in
+      whole v s h ar p setting b (ended ar bracket v.place) end (s.last && is_literal right_bracket (item t)) (is_literal right_bracket (item t)) y m q
+      (λ i. record { at = v.place.at + 1; starts = v.place.at + 1; token = v.place.token; started = true; after_return = ar; two = h.last i && l i; last = l i })
 
   unliteral : (t : Token) → is_character t ≡ false → (s.two && is_strict_literal greater_than_sign inside t) ≡ false
   unliteral t n = ap (λ b. s.two && b) (no_literal greater_than_sign inside t n) ∙ and-false s.two
+
+  lone : (t : Token) → is_character t ≡ false → false ≡ is_strict_literal right_bracket inside t
+  lone t n = sym (no_literal right_bracket inside t n)
 
   -- the token goes on
   gives_went : (p : Pending) (x : ℕ) (more : Chars) (result : Result TokenKind Stop) (new : Reading) → verdict ≡ verdicts.goes_on → text ≡ x ∷ more → p.tag.syntax ≡ sy → PendsAs sy inside p.mark p.run p.tag (text ++ c ∷ [])
@@ -185,36 +181,31 @@ module _ (v : Reading) (s : reader.Scanning) (h : ReadsAs v s) (ar : Bool) (c : 
       → entries.Went v (entries.gone v ar p) result new → Gives (read verdict) s v result new
   went_as p x more result new g e y k w = spent result new w (λ answer (q, n). gives_went p x more (Ok answer) new g e y k (ap Ok q) n)
 
+  -- a token is whole
+  abbrev behind_whole : Setting → Bool → Buffered → Reading
+  behind_whole setting bracket b = entries.with_parts v setting (ended ar bracket v.place) (entries.marked mark.Nothing v.pending) b
+
+  gives_whole : (t : Token) (answer : TokenKind) (setting : Setting) (bracket : Bool) (b : Buffered) (result : Result TokenKind Stop) (new : Reading) → read verdict ≡ Ok (record { next = behind t; items = item t ∷ [] }) → bracket ≡ is_strict_literal right_bracket inside t
+      → result ≡ Ok answer → new ≡ behind_whole setting bracket b → setting.syntax ≡ sy → IsTold v answer (item t ∷ []) (behind_whole setting bracket b) → setting ≡ setting_after answer (behind_whole setting bracket b) v.setting (item t ∷ []) → Gives (read verdict) s v result new
+  gives_whole t answer setting bracket b result new g e q n y told k =
+      gives_ok (read verdict) s v answer result (behind_whole setting bracket b) new q n
+      (record {
+        scanned = record { next = behind t; items = item t ∷ [] };
+        is = g;
+        reads_as = ends_as t (entries.marked mark.Nothing v.pending) setting b v.end bracket e y refl h.syntax;
+        told = told;
+        setting = k;
+      })
+
   -- a character of text, by itself or by a reference
   gives_said : (t : Token) (d : ℕ) (bracket : Bool) (result : Result TokenKind Stop) (new : Reading) → read verdict ≡ Ok (record { next = behind t; items = item t ∷ [] }) → text_of t ≡ Some (d ∷ []) → is_line_feed t ≡ (d == line_feed)
       → bracket ≡ is_strict_literal right_bracket inside t → entries.Says v d (ended ar bracket v.place) result new → Gives (read verdict) s v result new
   gives_said t d bracket (Ok what.Nothing) new g x l e k =
-      gives_at (read verdict) s v (Ok what.Nothing) (entries.with_parts v (entries.undropped v.setting) (ended ar bracket v.place) (entries.marked mark.Nothing v.pending) new.text) new k.1.is
-      (record {
-        scanned = record { next = behind t; items = item t ∷ [] };
-        is = g;
-        reads_as = ends_as t (entries.marked mark.Nothing v.pending) (entries.undropped v.setting) new.text v.end bracket e refl refl h.syntax;
-        told = record {
-          more = d ∷ [];
-          texts = ap (λ o. joined o (Some [])) (ap text_of (item_token t) ∙ x);
-          text = k.1.text.text;
-          keeps = ap (λ b. not (v.setting.drops && b)) (ap is_line_feed (item_token t) ∙ l) ∙ ap not k.0;
-          some = λ z. absurd (cc);
-          started = λ z. refl;
-          still = λ z. refl;
-        };
-        setting = refl;
-      })
+      gives_whole t what.Nothing (entries.undropped v.setting) bracket new.text (Ok what.Nothing) new g e refl k.1.is refl
+      (grows_by _ _ _ (d ∷ []) (ap (λ o. joined o (Some [])) (ap text_of (item_token t) ∙ x)) k.1.text.text (ap (λ b. not (v.setting.drops && b)) (ap is_line_feed (item_token t) ∙ l) ∙ ap not k.0) (λ z. cc) refl) refl
   gives_said t d bracket (Ok what.Skipped) new g x l e k =
       let q = both v.setting.drops (d == line_feed) k.0 in
-      gives_at (read verdict) s v (Ok what.Skipped) (entries.with_parts v (entries.undropped v.setting) (ended ar bracket v.place) (entries.marked mark.Nothing v.pending) v.text) new k.1
-      (record {
-        scanned = record { next = behind t; items = item t ∷ [] };
-        is = g;
-        reads_as = ends_as t (entries.marked mark.Nothing v.pending) (entries.undropped v.setting) v.text v.end bracket e refl refl h.syntax;
-        told = ((λ o bytes. a_line_feed (item t) q.0 refl (ap is_line_feed (item_token t) ∙ (l ∙ q.1))), refl);
-        setting = refl;
-      })
+      gives_whole t what.Skipped (entries.undropped v.setting) bracket v.text (Ok what.Skipped) new g e refl k.1 refl ((λ o bytes. a_line_feed (item t) q.0 refl (ap is_line_feed (item_token t) ∙ (l ∙ q.1))), refl) refl
   gives_said t d bracket (Err stop.NoMemory) new g x l e k = tt
   gives_said t d bracket _ new g x l e k = absurd k
 
@@ -234,35 +225,13 @@ module _ (v : Reading) (s : reader.Scanning) (h : ReadsAs v s) (ar : Bool) (c : 
       by : (o : Option ℕ) → meaning sy v.pending.run ≡ o → entries.Closes v ar (meaning sy v.pending.run) result new → Gives (read verdict) s v result new
       by (Some d) e k =
           gives_said (reference d) d false result new (completes (reference d) (m.goes ∙ ap (verdicts.told_of_reference v.pending.run) e) (unliteral (reference d) refl) refl) refl refl
-          (sym (no_literal right_bracket inside (reference d) refl)) (subst (λ (x : Option ℕ). entries.Closes v ar x result new) e k)
+          (lone (reference d) refl) (subst (λ (x : Option ℕ). entries.Closes v ar x result new) e k)
       by None e k =
           refuses (read verdict) v s (no_meaning (phase_of v.pending.mark)) result new h
           (ap read (m.goes ∙ (ap (verdicts.told_of_reference v.pending.run) e ∙ ap verdicts.refused m.kind))) (subst (λ (x : Option ℕ). entries.Closes v ar x result new) e k)
 
-  -- a token that is whole and of which no text is told
-  gives_ended : (t : Token) (answer : TokenKind) (setting : Setting) (result : Result TokenKind Stop) (new : Reading) → read verdict ≡ Ok (record { next = behind t; items = item t ∷ [] }) → is_character t ≡ false
-      → result ≡ Ok answer → new ≡ entries.with_ended v ar setting → setting.syntax ≡ sy → IsTold v answer (item t ∷ []) (entries.with_ended v ar setting) → setting ≡ setting_after answer (entries.with_ended v ar setting) v.setting (item t ∷ [])
-      → Gives (read verdict) s v result new
-  gives_ended t answer setting result new g n q e y told k =
-      gives_ok (read verdict) s v answer result (entries.with_ended v ar setting) new q e
-      (record {
-        scanned = record { next = behind t; items = item t ∷ [] };
-        is = g;
-        reads_as = ends_as t (entries.marked mark.Nothing v.pending) setting v.text v.end false (sym (no_literal right_bracket inside t n)) y refl h.syntax;
-        told = told;
-        setting = k;
-      })
-
   one : (t : Token) → IsOne t (item t ∷ [])
   one t = record { item = item t; one = refl; is = item_token t }
-
-  gives_comment : (result : Result TokenKind Stop) (new : Reading) → verdict ≡ verdicts.whole comment → entries.Ends v ar whole_mark.Comment result new → Gives (read verdict) s v result new
-  gives_comment result new g k =
-      gives_ended comment what.Skipped (entries.undropped v.setting) result new (completes comment g (unliteral comment refl) refl) refl k.0 k.1 refl ((λ o bytes. a_comment (one comment)), refl) refl
-
-  gives_doctype : (result : Result TokenKind Stop) (new : Reading) → verdict ≡ verdicts.whole doctype → v.setting.leads ≡ true → entries.Ends v ar whole_mark.Doctype result new → Gives (read verdict) s v result new
-  gives_doctype result new g l k =
-      gives_ended doctype what.Doctype (entries.after_doctype v.setting) result new (completes doctype g (unliteral doctype refl) (ap not l)) refl k.0 k.1 refl (one doctype, refl) refl
 
   gives_section : (result : Result TokenKind Stop) (new : Reading) → verdict ≡ verdicts.whole (section v.pending.run) → entries.Ends v ar whole_mark.Section result new → Gives (read verdict) s v result new
   gives_section result new g k = by v.pending.run refl
@@ -272,10 +241,10 @@ module _ (v : Reading) (s : reader.Scanning) (h : ReadsAs v s) (ar : Bool) (c : 
 
       by : (run : Chars) → v.pending.run ≡ run → Gives (read verdict) s v result new
       by [] e =
-          gives_ended (section v.pending.run) what.Skipped (entries.undropped v.setting) result new done refl (k.0 ∙ ap (λ (x : Chars). Ok (if is_empty x then what.Skipped else what.Section)) e) k.1 refl
+          gives_whole (section v.pending.run) what.Skipped (entries.undropped v.setting) false v.text result new done (lone (section v.pending.run) refl) (k.0 ∙ ap (λ (x : Chars). Ok (if is_empty x then what.Skipped else what.Section)) e) k.1 refl
           ((λ o bytes. an_empty_section (record { item = item (section v.pending.run); one = refl; is = item_token (section v.pending.run) ∙ ap section e })), refl) refl
       by (x ∷ run) e =
-          gives_ended (section v.pending.run) what.Section (entries.undropped v.setting) result new done refl (k.0 ∙ ap (λ (x : Chars). Ok (if is_empty x then what.Skipped else what.Section)) e) k.1 refl
+          gives_whole (section v.pending.run) what.Section (entries.undropped v.setting) false v.text result new done (lone (section v.pending.run) refl) (k.0 ∙ ap (λ (x : Chars). Ok (if is_empty x then what.Skipped else what.Section)) e) k.1 refl
           ((one (section v.pending.run), λ z. let q = sym e ∙ z in cc), refl) refl
 
   -- a run that was text, and what is read afresh behind it
@@ -302,41 +271,23 @@ module _ (v : Reading) (s : reader.Scanning) (h : ReadsAs v s) (ar : Bool) (c : 
 
       by : (f : First) → marks.at_first inside c ≡ f → meant.Means sy inside none [] c (marks.of_first f) → entries.Stops v c ar f result new → Gives (read verdict) s v result new
       by (first.Begins n) e g k = spent result new k (λ answer (e, k).
-          subst (λ (a : TokenKind). Gives (read verdict) s v (Ok a) new) (sym e)
-          (gives_at (read verdict) s v (Ok what.Nothing) (entries.with_parts v (entries.undropped v.setting) (begun ar (cut v.place)) (record { mark = n; run = []; tag = no_tag v.pending.tag.syntax }) new.text) new k.is
+          gives_ok (read verdict) s v what.Nothing (Ok answer) (entries.with_parts v (entries.undropped v.setting) (begun ar (cut v.place)) (record { mark = n; run = []; tag = no_tag v.pending.tag.syntax }) new.text) new (ap Ok e) k.is
           (record {
             scanned = record { next = reader.entering ar (entry ∷ []) false false s; items = run_item (kept run_text) ∷ [] };
             is = at verdicts.goes_on g.goes;
             reads_as = begins v s h ar entry (record { mark = n; run = []; tag = no_tag v.pending.tag.syntax }) (entries.undropped v.setting) new.text (begun ar (cut v.place)) false false refl refl refl refl h.syntax (g.pends (no_tag v.pending.tag.syntax) (ap no_tag h.syntax));
-            told = record {
-              more = run_text ++ [];
-              texts = ap (λ t. joined (text_of t) (Some [])) (token_of_item inside (kept run_text) s.run);
-              text = k.text.text ∙ ap (λ x. v.text.text ++ x) (sym (append-nil run_text));
-              keeps = first_kept [];
-              some = λ z. absurd (cc);
-              started = λ z. refl;
-              still = λ z. refl;
-            };
+            told = grows_by _ _ _ (run_text ++ []) (ap (λ t. joined (text_of t) (Some [])) (token_of_item inside (kept run_text) s.run)) (k.text.text ∙ ap (λ x. v.text.text ++ x) (sym (append-nil run_text))) (first_kept []) (λ z. cc) refl;
             setting = refl;
-          })))
+          }))
       by first.EmitText e g k = spent result new k (λ answer (e, k).
-          subst (λ (a : TokenKind). Gives (read verdict) s v (Ok a) new) (sym e)
-          (gives_at (read verdict) s v (Ok what.Nothing) (entries.with_parts v (entries.undropped v.setting) (ended ar (entries.is_bracket v.setting c) (cut v.place)) (entries.marked mark.Nothing v.pending) new.text) new k.is
+          gives_ok (read verdict) s v what.Nothing (Ok answer) (entries.with_parts v (entries.undropped v.setting) (ended ar (entries.is_bracket v.setting c) (cut v.place)) (entries.marked mark.Nothing v.pending) new.text) new (ap Ok e) k.is
           (record {
             scanned = record { next = reader.entering ar [] false (is_strict_literal right_bracket inside (character c)) s; items = run_item (kept run_text) ∷ reader.item_of inside (character c) (entry ∷ []) ∷ [] };
             is = at (verdicts.whole (character c)) g.1;
             reads_as = whole v s h ar (entries.marked mark.Nothing v.pending) (entries.undropped v.setting) new.text (ended ar (entries.is_bracket v.setting c) (cut v.place)) v.end false (is_strict_literal right_bracket inside (character c)) refl refl h.syntax refl;
-            told = record {
-              more = run_text ++ c ∷ [];
-              texts = ap (λ t. joined (text_of t) (Some (c ∷ []))) (token_of_item inside (kept run_text) s.run);
-              text = k.text.text;
-              keeps = first_kept (reader.item_of inside (character c) (entry ∷ []) ∷ []);
-              some = λ z. absurd (cc);
-              started = λ z. refl;
-              still = λ z. refl;
-            };
+            told = grows_by _ _ _ (run_text ++ c ∷ []) (ap (λ t. joined (text_of t) (Some (c ∷ []))) (token_of_item inside (kept run_text) s.run)) k.text.text (first_kept (reader.item_of inside (character c) (entry ∷ []) ∷ [])) (λ z. cc) refl;
             setting = refl;
-          })))
+          }))
       by (first.Refuses kind) e g k = refuses (read verdict) v s kind result new h (at (verdicts.refused kind) g) k
 
   -- the tag's step, in the page's syntax
@@ -365,11 +316,12 @@ module _ (v : Reading) (s : reader.Scanning) (h : ReadsAs v s) (ar : Bool) (c : 
       let e = k.1.0 in
       let on = tag_on-append sy (meaning sy) (Ok fresh) m.chars (c ∷ []) ∙ (ap (λ o. tag_on sy (meaning sy) o (c ∷ [])) m.read ∙ step_in v.pending.tag.state (Ok e.last) e.step) in
       let w : verdict ≡ verdicts.whole (tag (tag_of e.last)) = m.goes ∙ (ap verdicts.told_of_tag on ∙ ap (λ b. verdicts.whole_if b (tag (tag_of e.last))) e.whole) in
-      gives_at (read verdict) s v (Ok what.Tag) (tag_value t) new k.2
+      gives_ok (read verdict) s v what.Tag (Ok what.Tag)
+      (record { setting = entries.after_tag v.setting (is_closing t.state.phase); place = ended ar false v.place; held = []; pending = record { mark = mark.Nothing; run = v.pending.run; tag = t }; text = v.text; end = v.place.at }) new refl k.2
       (record {
         scanned = record { next = behind (tag (tag_of e.last)); items = item (tag (tag_of e.last)) ∷ [] };
         is = completes (tag (tag_of e.last)) w (unliteral (tag (tag_of e.last)) refl) refl;
-        reads_as = ends_as (tag (tag_of e.last)) (record { mark = mark.Nothing; run = v.pending.run; tag = t }) (entries.after_tag v.setting (is_closing t.state.phase)) v.text v.place.at false (sym (no_literal right_bracket inside (tag (tag_of e.last)) refl)) refl refl (ap (λ (x : TagSoFar). x.syntax) k.1.1 ∙ h.syntax);
+        reads_as = ends_as (tag (tag_of e.last)) (record { mark = mark.Nothing; run = v.pending.run; tag = t }) (entries.after_tag v.setting (is_closing t.state.phase)) v.text v.place.at false (lone (tag (tag_of e.last)) refl) refl refl (ap (λ (x : TagSoFar). x.syntax) k.1.1 ∙ h.syntax);
         told = (
           (
             record {
@@ -388,9 +340,6 @@ module _ (v : Reading) (s : reader.Scanning) (h : ReadsAs v s) (ar : Bool) (c : 
         setting = leads_by (is_closing t.state.phase);
       })
     where
-      tag_value : TagSoFar → Reading
-      tag_value t = record { setting = entries.after_tag v.setting (is_closing t.state.phase); place = ended ar false v.place; held = []; pending = record { mark = mark.Nothing; run = v.pending.run; tag = t }; text = v.text; end = v.place.at }
-
       leads_by : (b : Bool) → entries.after_tag v.setting b ≡ record { syntax = sy; limits = lim; inside = inside; leads = if b then v.setting.leads else false; drops = false }
       leads_by true = λ i. record { syntax = sy; limits = lim; inside = inside; leads = and-true v.setting.leads i; drops = false }
       leads_by false = λ i. record { syntax = sy; limits = lim; inside = inside; leads = and-false v.setting.leads i; drops = false }
@@ -425,10 +374,11 @@ module _ (v : Reading) (s : reader.Scanning) (h : ReadsAs v s) (ar : Bool) (c : 
   by_move move.Tags g result new k = gives_tags result new g k
   by_move (move.KeepsTag n) g result new k = gives_keeps_tag n result new g k
   by_move move.EmitText g result new k = gives_says result new g.0 g.1 k
-  by_move (move.Ends whole_mark.Comment) g result new k = gives_comment result new g k
+  by_move (move.Ends whole_mark.Comment) g result new k =
+      gives_whole comment what.Skipped (entries.undropped v.setting) false v.text result new (completes comment g (unliteral comment refl) refl) (lone comment refl) k.0 k.1 refl ((λ o bytes. a_comment (one comment)), refl) refl
   by_move (move.Ends whole_mark.Section) g result new k = gives_section result new g k
   by_move (move.Ends whole_mark.Doctype) g result new k =
-      split (λ (m : Move). entries.Enters v c ar m result new → Gives (read verdict) s v result new) v.setting.leads _ _ (λ e k. gives_doctype result new g e k)
+      split (λ (m : Move). entries.Enters v c ar m result new → Gives (read verdict) s v result new) v.setting.leads _ _ (λ e k. gives_whole doctype what.Doctype (entries.after_doctype v.setting) false v.text result new (completes doctype g (unliteral doctype refl) (ap not e)) (lone doctype refl) k.0 k.1 refl (one doctype, refl) refl)
       (λ e k. refuses (read verdict) v s BadDoctype result new h
       (ap read g ∙ (cond-false _ _ _ (ap (λ x. s.two && x) (literal_is greater_than_sign doctype) ∙ unliteral doctype refl) ∙ cond-true _ _ _ (ap (λ x. reader.is_doctype x && not v.setting.leads) (item_token doctype) ∙ ap not e))) k) k
   by_move move.Closes g result new k = gives_closes result new g k

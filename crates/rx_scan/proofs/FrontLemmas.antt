@@ -156,6 +156,9 @@ pub record IsKept (l : Reading) (n : ℕ) (new : Reading) : Type 0 where
   pub apart : (new.text.text ≡ l.text.text) ⊎ (l.pending.mark ≡ mark.Nothing)
   pub none : n ≡ 0 → new.text.text ≡ l.text.text
 
+some_kept : (l new : Reading) (n : ℕ) → (n == 0) ≡ false → (l.pending.mark ≡ mark.Nothing → new.pending.mark ≡ mark.Nothing) → (MayStep l.pending.tag → MayStep new.pending.tag) → (new.text.text ≡ l.text.text) ⊎ (l.pending.mark ≡ mark.Nothing) → IsKept l n new
+some_kept l new n z b s a = record { between = b; steps = s; apart = a; none = λ q. absurd (eqb-false n 0 z q) }
+
 pub kept : (l new : Reading) (front : List ℕ) (n : ℕ) → MatchBool (n == 0) (new ≡ l) (TakesFront l front new) → IsKept l n new
 kept l new front n m =
     match_by (n == 0) _ _ m
@@ -168,24 +171,12 @@ kept l new front n m =
     (λ z t. by z t)
   where
     by : (n == 0) ≡ false → TakesFront l front new → IsKept l n new
-    by z (of_text t) = record {
-      between = λ m. ap (λ (x : Pending). x.mark) (text_between l front new t).0 ∙ m;
-      steps = λ k. subst (λ (x : Pending). MayStep x.tag) (sym (text_between l front new t).0) k;
-      apart = inr (text_between l front new t).1;
-      none = λ q. absurd (eqb-false n 0 z q);
-    }
-    by z (of_tag t) = record {
-      between = λ m. ap (λ (x : Reading). x.pending.mark) t.is ∙ m;
-      steps = λ k. feeds_steps l new front t k;
-      apart = inl (ap (λ (x : Reading). x.text.text) t.is);
-      none = λ q. absurd (eqb-false n 0 z q);
-    }
-    by z (of_opening t) = record {
-      between = λ m. absurd (let e = sym t.opened ∙ m in cc);
-      steps = λ k. feeds_steps (in_tag l) new front t.feeds k;
-      apart = inl (ap (λ (x : Reading). x.text.text) t.feeds.is);
-      none = λ q. absurd (eqb-false n 0 z q);
-    }
+    by z (of_text t) =
+        some_kept l new n z (λ m. ap (λ (x : Pending). x.mark) (text_between l front new t).0 ∙ m)
+        (λ k. subst (λ (x : Pending). MayStep x.tag) (sym (text_between l front new t).0) k) (inr (text_between l front new t).1)
+    by z (of_tag t) = some_kept l new n z (λ m. ap (λ (x : Reading). x.pending.mark) t.is ∙ m) (λ k. feeds_steps l new front t k) (inl (ap (λ (x : Reading). x.text.text) t.is))
+    by z (of_opening t) =
+        some_kept l new n z (λ m. absurd (let e = sym t.opened ∙ m in cc)) (λ k. feeds_steps (in_tag l) new front t.feeds k) (inl (ap (λ (x : Reading). x.text.text) t.feeds.is))
 
 module _ (l new : Reading) (n : ℕ) (k : IsKept l n new) where
   pub apart_on : (l.text.text ≡ []) ⊎ (l.pending.mark ≡ mark.Nothing) → (new.text.text ≡ []) ⊎ (new.pending.mark ≡ mark.Nothing)

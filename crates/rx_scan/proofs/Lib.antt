@@ -12,7 +12,6 @@ pub mod ReferenceLemmas
 pub mod FrontLemmas
 pub mod WholeTagLemmas
 pub mod SpelledLemmas
-pub mod AheadLemmas
 pub mod BackLemmas
 pub mod Snoc
 pub mod Behinds

@@ -180,36 +180,19 @@ record EndSteps (s : Syntax) (st : TagState) (c : ℕ) (next : TagPhase) : Type 
   phase_is : state.phase ≡ next
 
 module _ (s : Syntax) (st : TagState) (c : ℕ) where
+  stepped : (p : TagPhase) (state : TagState) → st.phase ≡ p → checked s (moved s (meaning s) st c (move_of s p c)) ≡ Ok state → EndSteps s st c state.phase
+  stepped p state e h = record { state = state; step = ap (λ x. checked s (moved s (meaning s) st c (move_of s x c))) e ∙ h; phase_is = refl }
+
   at_solidus : st.phase ≡ phase.Start → c ≡ 47 → EndSteps s st c phase.EndStart
   at_solidus e q =
-      record {
-        state = record { phase = phase.EndStart; name = st.name; attributes = st.attributes; key = st.key; value = st.value };
-        step = ap (λ x. checked s (moved s (meaning s) st c (move_of s x c))) e ∙ (ap (λ (x : ℕ). checked s (moved s (meaning s) st c (move_of s phase.Start x))) q ∙ by s);
-        phase_is = refl;
-      }
+      stepped phase.Start (record { phase = phase.EndStart; name = st.name; attributes = st.attributes; key = st.key; value = st.value }) e (ap (λ (x : ℕ). checked s (moved s (meaning s) st c (move_of s phase.Start x))) q ∙ by s)
     where
       by : (s : Syntax) → checked s (moved s (meaning s) st c (move_of s phase.Start 47)) ≡ Ok (record { phase = phase.EndStart; name = st.name; attributes = st.attributes; key = st.key; value = st.value })
       by Html = refl
       by Xhtml = refl
 
-  at_letter : st.phase ≡ phase.EndStart → is_letter c ≡ true → EndSteps s st c phase.EndName
-  at_letter e q =
-      record {
-        state = record { phase = phase.EndName; name = st.name ++ cased_char s c ∷ []; attributes = st.attributes; key = st.key; value = st.value };
-        step = ap (λ x. checked s (moved s (meaning s) st c (move_of s x c))) e ∙ ap (λ x. checked s (moved s (meaning s) st c x)) (cond-true _ _ _ (begins_letter s c q));
-        phase_is = refl;
-      }
-
-  in_name : st.phase ≡ phase.EndName → is_letter c ≡ true → EndSteps s st c phase.EndName
-  in_name e q =
-      let k = or_parts (is_white_space c || c == solidus) (c == 62) (letter_goes c q) in
-      let w = or_parts (is_white_space c) (c == solidus) k.0 in
-      record {
-        state = record { phase = phase.EndName; name = st.name ++ cased_char s c ∷ []; attributes = st.attributes; key = st.key; value = st.value };
-        step = ap (λ x. checked s (moved s (meaning s) st c (move_of s x c))) e
-            ∙ ap (λ x. checked s (moved s (meaning s) st c x)) (cond-false _ _ _ w.0 ∙ (cond-false _ _ _ k.1 ∙ cond-true _ _ _ (stands_letter s c q)));
-        phase_is = refl;
-      }
+  abbrev named : TagState
+  named = record { phase = phase.EndName; name = st.name ++ cased_char s c ∷ []; attributes = st.attributes; key = st.key; value = st.value }
 
 -- with one more character of the word
 end_steps : (s : Syntax) (st : TagState) (name word left : Chars) (d c : ℕ) → st.phase ≡ end_phase word → solidus ∷ name ≡ map lowered_char word ++ d ∷ left → list_all (between 97 122) name ≡ true → lowered_char c ≡ d → EndSteps s st c (end_phase (word ++ c ∷ []))
@@ -219,10 +202,14 @@ end_steps s st name [] left d c e w l q = at_solidus s st c e (solidus_of c (q �
     first d left w = cc
 end_steps s st name (x ∷ []) left d c e w l q =
     let n : name ≡ d ∷ left = cc in
-    at_letter s st c e (letter_of c d q (all_at (between 97 122) [] d left (ap (list_all (between 97 122)) (sym n) ∙ l)))
+    let letter = letter_of c d q (all_at (between 97 122) [] d left (ap (list_all (between 97 122)) (sym n) ∙ l)) in
+    stepped s st c phase.EndStart (named s st c) e (ap (λ x. checked s (moved s (meaning s) st c x)) (cond-true _ _ _ (begins_letter s c letter)))
 end_steps s st name (x ∷ y ∷ word) left d c e w l q =
     let n : name ≡ (lowered_char y ∷ map lowered_char word) ++ d ∷ left = cc in
-    in_name s st c e (letter_of c d q (all_at (between 97 122) (lowered_char y ∷ map lowered_char word) d left (ap (list_all (between 97 122)) (sym n) ∙ l)))
+    let letter = letter_of c d q (all_at (between 97 122) (lowered_char y ∷ map lowered_char word) d left (ap (list_all (between 97 122)) (sym n) ∙ l)) in
+    let k = or_parts (is_white_space c || c == solidus) (c == 62) (letter_goes c letter) in
+    let w = or_parts (is_white_space c) (c == solidus) k.0 in
+    stepped s st c phase.EndName (named s st c) e (ap (λ x. checked s (moved s (meaning s) st c x)) (cond-false _ _ _ w.0 ∙ (cond-false _ _ _ k.1 ∙ cond-true _ _ _ (stands_letter s c letter))))
 
 end_unfinished : (word : Chars) → is_last (end_phase word) ≡ false
 end_unfinished (x ∷ []) = refl
@@ -253,16 +240,13 @@ module _ (s : Syntax) (i : Content) (p : Pending) (text : Chars) (c : ℕ) (n : 
   front_with more =
       ap (λ x. begins_with x (solidus ∷ h.name)) (map-append lowered_char p.run more) ∙ (ap (begins_with (lowered p.run ++ lowered more)) word_is ∙ cancel (lowered p.run) (lowered more) h.left)
 
-  is_front : begins_end h.name p.run ≡ true
-  is_front = ap (begins_end h.name) (sym (append-nil p.run)) ∙ front_with []
-
   first_is : first_char p.mark ≡ less_than_sign
   first_is = ap first_char m
 
   stopped : begins_end h.name (p.run ++ c ∷ []) ≡ false → (same (lowered p.run) (solidus ∷ h.name) && ends_name c) ≡ false → Means s i p text c move.Reconsume
   stopped a b =
       record {
-        goes = raw_verdict ∙ (cond-false _ _ _ a ∙ (cond-true _ _ _ (and_from (begins_end h.name p.run) (stops_end h.name p.run c) is_front (and_from (not (begins_end h.name (p.run ++ c ∷ []))) _ (ap not a) (ap not b))) ∙ ap (λ x. told.ended (kept (x ∷ p.run))) (sym first_is)));
+        goes = raw_verdict ∙ (cond-false _ _ _ a ∙ (cond-true _ _ _ (and_from (begins_end h.name p.run) (stops_end h.name p.run c) (ap (begins_end h.name) (sym (append-nil p.run)) ∙ front_with []) (and_from (not (begins_end h.name (p.run ++ c ∷ []))) _ (ap not a) (ap not b))) ∙ ap (λ x. told.ended (kept (x ∷ p.run))) (sym first_is)));
         some = h.are ∙ ap (λ x. x ∷ p.run) (sym first_is);
       }
 

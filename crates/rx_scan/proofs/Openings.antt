@@ -319,12 +319,10 @@ module _ (i : Content) (p : Pending) (text : Chars) (c : ℕ) where
       (begun_means Xhtml i p text c t h.are h.markup (codes "[CDATA[") e (judge_of Xhtml i (mark.Section brackets.None)) (SectionEnds brackets.None p.run) (λ more d. refl) (section_start p.run h.none)))
       (λ k. v ∙ cond-true _ _ _ (ap not k))
 
-  strict_word_means : (w : Word) (n : ℕ) (h : InOpening Xhtml i w n p.run text) → Means Xhtml i p text c (marks.in_word Xhtml i w (slice_get (marks.opening_text Xhtml w) n) n c)
-  strict_word_means w n h = by_next Xhtml i p text c w n h (λ q. more_means Xhtml i p text c w n h h.left refl q (strict_begun w n h q) (strict_goes w n h q)) (strict_refuses w n h)
-
 pub in_word_means : (s : Syntax) (i : Content) (p : Pending) (text : Chars) (c : ℕ) (w : Word) (n : ℕ) (h : InOpening s i w n p.run text) → Means s i p text c (marks.in_word s i w (slice_get (marks.opening_text s w) n) n c)
 in_word_means Html i p text c w n h = html_word_means i p text c w n h
-in_word_means Xhtml i p text c w n h = strict_word_means i p text c w n h
+in_word_means Xhtml i p text c w n h =
+    by_next Xhtml i p text c w n h (λ q. more_means Xhtml i p text c w n h h.left refl q (strict_begun i p text c w n h q) (strict_goes i p text c w n h q)) (strict_refuses i p text c w n h)
 
 -- behind `<!` alone
 module _ (s : Syntax) (i : Content) (p : Pending) (text : Chars) (c : ℕ) (h : InOpened s i p.run text) where

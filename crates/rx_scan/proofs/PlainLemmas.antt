@@ -12,17 +12,11 @@ pub weaker : (p q : ℕ → Bool) → ((x : ℕ) → p x ≡ true → q x ≡ tr
 weaker p q f [] h = refl
 weaker p q f (x ∷ xs) h = let k = and_parts (p x) _ h in and_from (q x) _ (f x k.0) (weaker p q f xs k.1)
 
-one_plain : (x : ℕ) → is_plain_ascii x ≡ true → is_plain x ≡ true
-one_plain x h = ap not (or_parts (is_stop x) (nat_le 128 x) (untrue _ h)).0
-
-one_ascii : (x : ℕ) → is_plain_ascii x ≡ true → is_ascii x ≡ true
-one_ascii x h = lt-ltb x 128 (leb-false 128 x (or_parts (is_stop x) (nat_le 128 x) (untrue _ h)).1)
-
 pub ascii_plain : (xs : List ℕ) → list_all is_plain_ascii xs ≡ true → list_all is_plain xs ≡ true
-ascii_plain xs h = weaker is_plain_ascii is_plain one_plain xs h
+ascii_plain xs h = weaker is_plain_ascii is_plain (λ x k. ap not (or_parts (is_stop x) (nat_le 128 x) (untrue _ k)).0) xs h
 
 pub ascii_text : (xs : List ℕ) → list_all is_plain_ascii xs ≡ true → IsUtf8 xs
-ascii_text xs h = ascii-utf8 xs (weaker is_plain_ascii is_ascii one_ascii xs h)
+ascii_text xs h = ascii-utf8 xs (weaker is_plain_ascii is_ascii (λ x k. lt-ltb x 128 (leb-false 128 x (or_parts (is_stop x) (nat_le 128 x) (untrue _ k)).1)) xs h)
 
 -- no character above ASCII is a stop
 pub high_plain : (c : ℕ) → 128 ≤ c → is_plain c ≡ true
@@ -51,26 +45,17 @@ formed_text bytes h =
 high_all : (bytes : List ℕ) → list_all (nat_le 128) bytes ≡ true → list_all is_plain bytes ≡ true
 high_all = weaker (nat_le 128) is_plain (λ x h. high_plain x (leb-true 128 x h))
 
-plain_two : (a b : ℕ) → (is_in (0xC2, 0xDF) a && is_in tail b) ≡ true → list_all is_plain (a ∷ b ∷ []) ≡ true
-plain_two a b h = high_all (a ∷ b ∷ []) (grind (arith, nat_tests))
-
-plain_three : (a b c : ℕ) → (is_in (0xE0, 0xEF) a && (fits_second a b && is_in tail c)) ≡ true → list_all is_plain (a ∷ b ∷ c ∷ []) ≡ true
-plain_three a b c h = high_all (a ∷ b ∷ c ∷ []) (grind (arith, nat_tests))
-
-plain_four : (a b c d : ℕ) → (is_in (0xF0, 0xF4) a && (fits_second a b && (is_in tail c && is_in tail d))) ≡ true → list_all is_plain (a ∷ b ∷ c ∷ d ∷ []) ≡ true
-plain_four a b c d h = high_all (a ∷ b ∷ c ∷ d ∷ []) (grind (arith, nat_tests))
-
 -- two, three or four bytes at the front
 pub two_begin : (bytes : List ℕ) → 2 ≤ length bytes → (is_in (0xC2, 0xDF) (get_or bytes 0 0) && is_in tail (get_or bytes 1 0)) ≡ true → BeginsWide bytes 2
-two_begin (a ∷ b ∷ bytes) f h = record { fits = f; text = formed_text (a ∷ b ∷ []) (whole_two a b ∙ h); plain = plain_two a b h }
+two_begin (a ∷ b ∷ bytes) f h = record { fits = f; text = formed_text (a ∷ b ∷ []) (whole_two a b ∙ h); plain = high_all (a ∷ b ∷ []) (grind (arith, nat_tests)) }
 two_begin _ f h = absurd (omega (arith, f))
 
 pub three_begin : (bytes : List ℕ) → 3 ≤ length bytes → (is_in (0xE0, 0xEF) (get_or bytes 0 0) && (fits_second (get_or bytes 0 0) (get_or bytes 1 0) && is_in tail (get_or bytes 2 0))) ≡ true → BeginsWide bytes 3
-three_begin (a ∷ b ∷ c ∷ bytes) f h = record { fits = f; text = formed_text (a ∷ b ∷ c ∷ []) (whole_three a b c ∙ h); plain = plain_three a b c h }
+three_begin (a ∷ b ∷ c ∷ bytes) f h = record { fits = f; text = formed_text (a ∷ b ∷ c ∷ []) (whole_three a b c ∙ h); plain = high_all (a ∷ b ∷ c ∷ []) (grind (arith, nat_tests)) }
 three_begin _ f h = absurd (omega (arith, f))
 
 pub four_begin : (bytes : List ℕ) → 4 ≤ length bytes → (is_in (0xF0, 0xF4) (get_or bytes 0 0) && (fits_second (get_or bytes 0 0) (get_or bytes 1 0) && (is_in tail (get_or bytes 2 0) && is_in tail (get_or bytes 3 0)))) ≡ true → BeginsWide bytes 4
-four_begin (a ∷ b ∷ c ∷ d ∷ bytes) f h = record { fits = f; text = formed_text (a ∷ b ∷ c ∷ d ∷ []) (whole_four a b c d ∙ h); plain = plain_four a b c d h }
+four_begin (a ∷ b ∷ c ∷ d ∷ bytes) f h = record { fits = f; text = formed_text (a ∷ b ∷ c ∷ d ∷ []) (whole_four a b c d ∙ h); plain = high_all (a ∷ b ∷ c ∷ d ∷ []) (grind (arith, nat_tests)) }
 four_begin _ f h = absurd (omega (arith, f))
 
 -- plain text goes on with plain text

@@ -1,5 +1,5 @@
 -- The turns of the loop over a piece: between tokens a byte tells text, begins a token, or is skipped.
-use Rattle.rx_scan.proofs.Common.{◌≡◌, ◌∙◌, ◌⊎◌, ℕ, ◌<◌, Bool, true, false, List, [], ◌∷◌, ◌++◌, refl, ap, sym, subst, Result, Ok, Err, inl, inr, eqb-true, arith, length, get_or, lit<, zero, suc, ◌≢◌, ◌+◌, take, Some, ◌&&◌, ◌||◌, ◌==◌, not, nat_le, if◌then◌else◌, IfOk, cond-true, cond-false, or_left, or_right, encode_ascii, Chars, split, by_test, both, either, untrue, answer_of, More, Char, Bad, carriage_return, as_line_end, is_strict_literal, character, has_references, is_text, Utf8Step, answers_from, tables_agree, Kind, StrictText, Stop, Fault, ended, Reading, is_quiet, is_tag, is_token, stopped_at, Took, Runs, MayLend, texts_of, MayStep, match_by}
+use Rattle.rx_scan.proofs.Common.{◌≡◌, ◌∙◌, ◌⊎◌, ℕ, ◌<◌, Bool, true, false, List, [], ◌∷◌, ◌++◌, refl, ap, sym, subst, Result, Ok, Err, inl, inr, eqb-true, arith, length, get_or, lit<, zero, suc, ◌≢◌, ◌+◌, take, Some, ◌&&◌, ◌||◌, ◌==◌, not, nat_le, if◌then◌else◌, IfOk, cond-true, cond-false, or_left, or_right, encode_ascii, Chars, split, by_test, both, either, untrue, answer_of, More, Char, Bad, carriage_return, as_line_end, is_strict_literal, character, has_references, is_text, Utf8Step, answers_from, tables_agree, Kind, StrictText, Stop, Fault, ended, Reading, is_quiet, is_tag, is_token, stopped_at, Took, Runs, MayLend, texts_of, MayStep, match_by, take_more}
 use Rattle.rx_grammar.specs.declared.stops.Stop.TheVariants as stop
 use Rattle.rx_scan.specs.declared.answers.TokenKind.{TokenKind}
 use Rattle.rx_scan.specs.declared.answers.TokenKind.TheVariants as what
@@ -12,7 +12,7 @@ use Rattle.rx_scan.specs.Marks as marks
 use Rattle.rx_scan.specs.declared.places.Position.{Position}
 use Rattle.rx_scan.specs.Entries as entries
 use Rattle.rx_scan.proofs.ByteLemmas.{reads_other}
-use Rattle.rx_scan.proofs.RunLemmas.{IsApart, ReadsOn, apart, took_text, took_all, more_read, took_token, faults}
+use Rattle.rx_scan.proofs.RunLemmas.{IsApart, ReadsOn, apart, took_text, took_all, reads_more, took_token, faults}
 use Rattle.rx_pages.specs.PageReader as reader
 
 -- What a byte does between tokens.
@@ -47,13 +47,13 @@ module _ (l new : Reading) (byte : ℕ) (answer : TokenKind) (m : l.pending.mark
   arrive : (other : TokenKind) → result ≡ Ok other → answer ≡ other
   arrive other e = cc
 
-  said : (answer : TokenKind) (d : ℕ) (place : Position) → entries.Says l d place (Ok answer) new → ((answer ≡ what.Nothing) ⊎ ((l.setting.drops ≡ true) × (answer ≡ what.Skipped))) × (new.pending.mark ≡ mark.Nothing)
-  said what.Nothing d place k = (inl refl, ap (λ (x : Reading). x.pending.mark) k.1.is)
-  said what.Skipped d place k = (inr ((both l.setting.drops _ k.0).0, refl), ap (λ (x : Reading). x.pending.mark) k.1)
-  said _ d place k = absurd k
-
   does_say : (d : ℕ) (place : Position) → entries.Says l d place result new → Does l byte answer new
-  does_say d place k = let q = said answer d place k in elim q.0 [ inl e ↦ says e q.1 | inr e ↦ skips (inl e.0) e.1 q.1 ]
+  does_say d place k = by answer refl k
+    where
+      by : (other : TokenKind) → answer ≡ other → entries.Says l d place (Ok other) new → Does l byte answer new
+      by what.Nothing e k = says e (ap (λ (x : Reading). x.pending.mark) k.1.is)
+      by what.Skipped e k = skips (inl (both l.setting.drops _ k.0).0) e (ap (λ (x : Reading). x.pending.mark) k.1)
+      by _ e k = absurd k
 
   -- the character is the byte
   does_first : (c : ℕ) (ar : Bool) → ((d : ℕ) → c ≡ d → (10 == d) ≡ false → d < 128 → byte ≡ d) → entries.Enters l c ar (entries.judged l.setting l.place.two c (marks.of_first (marks.at_first l.setting.inside c))) result new → Does l byte answer new
@@ -140,13 +140,10 @@ quiet_at [] i h q = absurd (omega arith)
 quiet_at (x ∷ piece) zero h q = (both (not (x == 60 || x == 38)) _ q).0
 quiet_at (x ∷ piece) (suc i) h q = quiet_at piece i (omega arith) (both (not (x == 60 || x == 38)) _ q).1
 
-abbrev ok_scanned : reader.Scanned → Result reader.Scanned Fault
-ok_scanned x = Ok x
-
 -- nothing is told before the first byte
 text_later : (old l : Reading) (s : reader.Scanning) (piece : List ℕ) (i : ℕ) → ReadsOn old s (take i piece) l → (l.text.text ≡ [] → ⊥) → 0 < i
 text_later old l s piece zero r t =
-    let e : ok_scanned (record { next = s; items = [] }) ≡ ok_scanned r.scanned = r.read in
+    let e : ◌≡◌ {A = Result reader.Scanned Fault} (Ok (record { next = s; items = [] })) (Ok r.scanned) = r.read in
     let same : record { next = s; items = [] } ≡ r.scanned = cc in
     let k : Some l.text.text ≡ Some [] = sym r.texts ∙ ap (λ (y : reader.Scanned). texts_of y.items) (sym same) in
     absurd (t (cc))
@@ -176,7 +173,7 @@ module _ (old l new : Reading) (s : reader.Scanning) (piece : List ℕ) (i : ℕ
   byte = get_or piece i 0
 
   pub next_read : (answer : TokenKind) → is_token answer ≡ false → entries.Reads l byte (Ok answer) new → ReadsOn old s (take (i + 1) piece) new
-  next_read what.Nothing t e = more_read old l new s piece i k r e
+  next_read what.Nothing t e = subst (λ (x : List ℕ). ReadsOn old s x new) (sym (take_more piece i 0 k)) (reads_more old l s (take i piece) r byte new e)
   next_read what.Text t e = absurd (reads_other l r.scanned.next r.reads_as byte (Ok what.Text) new (λ q. cc) e).told
   next_read _ t e = absurd (cc)
 

@@ -8,7 +8,6 @@ use Rattle.rx_scan.specs.declared.answers.TokenKind.TheVariants as what
 use Rattle.rx_scan.specs.declared.marks.TokenState.{TokenState}
 use Rattle.rx_scan.specs.declared.marks.TokenState.TheVariants as mark
 use Rattle.rx_scan.specs.declared.marks.Move.{Move}
-use Rattle.rx_scan.specs.declared.marks.Move.TheVariants as move
 use Rattle.rx_scan.specs.declared.places.Position.{Position}
 use Rattle.rx_scan.specs.KnownTags as known_tags
 use Rattle.rx_scan.specs.Marks as marks
@@ -66,11 +65,6 @@ run_ends (c ∷ text) p q e f = absurd (cc)
 
 -- the ampersand
 module _ (l new : Reading) (front : List ℕ) (t : TellsReference l front new) (room : l.place.at < l.setting.limits.page) where
-  begins_is : entries.move_at l 38 ≡ move.Begins (mark.Run run.Ampersand)
-  begins_is =
-      ap (λ (x : TokenState). entries.judged l.setting l.place.two 38 (marks.move_of l.setting.syntax l.setting.inside x 38)) t.between
-      ∙ ap (λ x. entries.judged l.setting l.place.two 38 (marks.of_first x)) (cond-true _ _ _ t.reads)
-
   reads_ampersand : entries.Reads l 38 (Ok what.Nothing) (in_reference l 1 run.Ampersand [])
   reads_ampersand =
       reads_alone l (in_reference l 1 run.Ampersand []) 38
@@ -85,7 +79,9 @@ module _ (l new : Reading) (front : List ℕ) (t : TellsReference l front new) (
         no_return = refl;
         ascii = omega arith;
       })
-      (subst (λ (x : Move). entries.Enters l 38 false x (Ok what.Nothing) (in_reference l 1 run.Ampersand [])) (sym begins_is) (refl, refl))
+      (subst (λ (x : Move). entries.Enters l 38 false x (Ok what.Nothing) (in_reference l 1 run.Ampersand []))
+      (sym (ap (λ (x : TokenState). entries.judged l.setting l.place.two 38 (marks.move_of l.setting.syntax l.setting.inside x 38)) t.between
+      ∙ ap (λ x. entries.judged l.setting l.place.two 38 (marks.of_first x)) (cond-true _ _ _ t.reads))) (refl, refl))
 
 -- within it each of its bytes is such a character
 within_alone : (l : Reading) (n : ℕ) (p : RunPhase) (kept : Chars) (b : ℕ) → l.place.at + n < l.setting.limits.page → (b == 0) ≡ false → (b == 13) ≡ false → b ≤ 127 → IsAlone (in_reference l n p kept) b
@@ -182,11 +178,8 @@ module _ (old : Reading) (s : reader.Scanning) where
       k : IsReference l.setting.syntax t.c front
       k = t.reference
 
-      run_of : RunIs k.last k.body
-      run_of = run_is k.body run.Ampersand [] k.last at_ampersand k.goes
-
       means : meaning l.setting.syntax (encode_utf8_all k.body) ≡ Some t.c
-      means = ap (meaning l.setting.syntax) (ascii-same k.body (run_ascii run_of)).0 ∙ k.means
+      means = ap (meaning l.setting.syntax) (ascii-same k.body (run_ascii (run_is k.body run.Ampersand [] k.last at_ampersand k.goes))).0 ∙ k.means
 
       sizes : length front ≡ 2 + length k.body
       sizes = ap length k.are ∙ omega (arith, length-append k.body (59 ∷ []))
@@ -249,10 +242,8 @@ body_is syntax behind m c e k h =
     whole : List ℕ
     whole = 38 ∷ (f.body ++ 59 ∷ [])
 
-    behind_is : 38 ∷ behind ≡ whole ++ f.rest
-    behind_is = ap (λ (x : List ℕ). 38 ∷ x) (f.are ∙ (ap (λ (x : ℕ). f.body ++ x ∷ f.rest) mark_is ∙ sym (append_assoc f.body (59 ∷ []) f.rest)))
-
     taken : take (m + 1) (38 ∷ behind) ≡ whole
     taken =
         let z : m + 1 ≡ length whole = omega (arith, counts, length-append f.body (59 ∷ [])) in
+        let behind_is : 38 ∷ behind ≡ whole ++ f.rest = ap (λ (x : List ℕ). 38 ∷ x) (f.are ∙ (ap (λ (x : ℕ). f.body ++ x ∷ f.rest) mark_is ∙ sym (append_assoc f.body (59 ∷ []) f.rest))) in
         ap (λ x. take x (38 ∷ behind)) z ∙ (ap (λ (x : List ℕ). take (length whole) x) behind_is ∙ take-append_seam whole f.rest)

@@ -41,9 +41,6 @@ letter_ascii c h = grind (arith, nat_tests)
 digit_ascii : (c : ℕ) → is_digit c ≡ true → is_ascii c ≡ true
 digit_ascii c h = grind (arith, nat_tests)
 
-alphanumeric_ascii : (c : ℕ) → is_letter_or_digit c ≡ true → is_ascii c ≡ true
-alphanumeric_ascii c h = elim (either (is_letter c) (is_digit c) h) [ inl a ↦ letter_ascii c a | inr b ↦ digit_ascii c b ]
-
 hexadecimal_ascii : (c : ℕ) → is_hexadecimal_digit c ≡ true → is_ascii c ≡ true
 hexadecimal_ascii c h = grind (arith, nat_tests)
 
@@ -52,7 +49,7 @@ x_ascii c h = elim (either (c == 120) (c == 88) h) [ inl a ↦ ap is_ascii (eqb-
 
 pub run_ascii : {p : RunPhase} {text : Chars} → RunIs p text → list_all is_ascii text ≡ true
 run_ascii at_ampersand = refl
-run_ascii (in_name c text h k) = and_from (is_ascii c) _ (letter_ascii c h) (weaker is_letter_or_digit is_ascii alphanumeric_ascii text k)
+run_ascii (in_name c text h k) = and_from (is_ascii c) _ (letter_ascii c h) (weaker is_letter_or_digit is_ascii (λ d q. elim (either (is_letter d) (is_digit d) q) [ inl a ↦ letter_ascii d a | inr b ↦ digit_ascii d b ]) text k)
 run_ascii at_hash = refl
 run_ascii (in_decimal c text h k) = and_from (is_ascii c) _ (digit_ascii c h) (weaker is_digit is_ascii digit_ascii text k)
 run_ascii (at_mark x h) = and_from (is_ascii x) true (x_ascii x h) refl
@@ -73,8 +70,8 @@ module _ (s : Syntax) (i : Content) (p : Pending) (text : Chars) (c : ℕ) (q : 
   first_is : first_char p.mark ≡ ampersand
   first_is = ap first_char m
 
-  by_move : (r : RunMove) → run_move q c ≡ r → Means s i p text c (marks.in_run i r)
-  by_move (run_moves.Goes n) e =
+  pub in_run_means : (r : RunMove) → run_move q c ≡ r → Means s i p text c (marks.in_run i r)
+  in_run_means (run_moves.Goes n) e =
       record {
         first = 38;
         more = p.run;
@@ -82,7 +79,7 @@ module _ (s : Syntax) (i : Content) (p : Pending) (text : Chars) (c : ℕ) (q : 
         goes = verdict_is ∙ cond-true _ _ _ (run_begun (goes_on c n is_run e));
         pends = record { are = ap (λ x. x ++ c ∷ []) h.are; phase = run_snoc (run_moves.Goes run.Ampersand) p.run c q h.phase ∙ e };
       }
-  by_move run_moves.Closes e =
+  in_run_means run_moves.Closes e =
       let k = closes c is_run e in
       let end : is_begun (p.run ++ c ∷ []) ≡ false = ap (λ (x : ℕ). is_begun (p.run ++ x ∷ [])) k.mark ∙ semicolon_stops p.run in
       record {
@@ -93,12 +90,9 @@ module _ (s : Syntax) (i : Content) (p : Pending) (text : Chars) (c : ℕ) (q : 
         ascii = (ascii-same p.run (run_ascii is_run)).0;
         kind = run_kind c is_run e ∙ ap (λ (x : TokenState). no_meaning (phase_of x)) (sym m);
       }
-  by_move run_moves.Stops e =
+  in_run_means run_moves.Stops e =
       let k = both (not (is_begun (p.run ++ c ∷ []))) _ (stops c is_run e) in
       let v = verdict_is ∙ (cond-false _ _ _ (untrue _ k.0) ∙ cond-false _ _ _ (untrue _ k.1)) in
       split (λ (x : Move). Means s i p text c x) (keeps_runs i) _ _
       (λ a. record { goes = v ∙ (cond-true _ _ _ a ∙ ap (λ x. told.ended (kept (x ∷ p.run))) (sym first_is)); some = h.are ∙ ap (λ x. x ∷ p.run) (sym first_is) })
       (λ a. v ∙ cond-false _ _ _ a)
-
-  pub in_run_means : Means s i p text c (marks.in_run i (run_move q c))
-  in_run_means = by_move (run_move q c) refl

@@ -1,5 +1,5 @@
 -- The bytes of a piece one after another.
-use Rattle.rx_scan.proofs.Common.{◌≡◌, ◌∙◌, ◌⊎◌, inl, inr, ℕ, ◌+◌, ◌<◌, ◌≤◌, Bool, true, false, List, [], ◌∷◌, ◌++◌, length, take, drop, refl, ap, sym, subst, Option, Some, None, Result, Ok, Err, append_assoc, arith, get_or, take_more, take-append-drop, length-append, slice_get-get_or, Chars, Syntax, Item, text_of, Fault, Limits, Stop, scan_fault, Reading, spot_of, ReadsAs, joined, texts_of, keeps_first, after_some, setting_after, is_nothing, is_skipped, is_token, HasMark, MarkAlone, a_mark, mark_bytes, Took, Faults, Tells}
+use Rattle.rx_scan.proofs.Common.{◌≡◌, ◌∙◌, ◌⊎◌, inl, inr, ℕ, ◌+◌, ◌<◌, ◌≤◌, true, false, List, [], ◌∷◌, ◌++◌, length, take, drop, refl, ap, sym, subst, Option, Some, None, Result, Ok, Err, append_assoc, arith, get_or, take_more, take-append-drop, length-append, slice_get-get_or, Chars, Syntax, Item, text_of, Fault, Limits, Stop, scan_fault, Reading, spot_of, ReadsAs, joined, texts_of, keeps_first, after_some, setting_after, is_nothing, is_skipped, is_token, HasMark, MarkAlone, a_mark, mark_bytes, Took, Faults, Tells}
 use Rattle.rx_pages.specs.PageReader as reader
 use Rattle.rx_grammar.specs.declared.stops.Stop.TheVariants as stop
 use Rattle.rx_scan.specs.declared.answers.TokenKind.{TokenKind}
@@ -8,7 +8,7 @@ use Rattle.rx_scan.specs.declared.marks.TokenState.TheVariants as mark
 use Rattle.rx_scan.specs.declared.places.Setting.{Setting}
 use Rattle.rx_scan.specs.Entries as entries
 use Rattle.rx_scan.proofs.EntryLemmas.{GivesOk, IsTold}
-use Rattle.rx_scan.proofs.MarkLemmas.{Earlier, none_marked, mark_snoc, mark_none, all_held, before_mark}
+use Rattle.rx_scan.proofs.MarkLemmas.{Earlier, none_marked, mark_snoc, mark_none, all_held}
 use Rattle.rx_scan.proofs.ByteLemmas.{PassesMark, reads, reads_other, mark_skips}
 
 -- while text is told, no token is begun, and what might be skipped is over
@@ -51,11 +51,6 @@ texts_append : (a b : List Item) → texts_of (a ++ b) ≡ joined (texts_of a) (
 texts_append [] b = sym (joined_first (texts_of b))
 texts_append (x ∷ a) b = ap (joined (text_of x.token)) (texts_append a b) ∙ sym (joined_assoc (text_of x.token) (texts_of a) (texts_of b))
 
--- the setting after some tokens reads the same
-after_same : (setting : Setting) (items : List Item) → ((after_some setting items).syntax ≡ setting.syntax) × ((after_some setting items).limits ≡ setting.limits) × ((after_some setting items).inside ≡ setting.inside) × ((after_some setting items).leads ≡ setting.leads)
-after_same setting [] = (refl, refl, refl, refl)
-after_same setting (x ∷ items) = (refl, refl, refl, refl)
-
 after_append : (setting : Setting) (a b : List Item) → after_some (after_some setting a) b ≡ after_some setting (a ++ b)
 after_append setting (x ∷ a) (y ∷ b) = refl
 after_append setting _ _ = refl
@@ -76,13 +71,11 @@ module _ (old l : Reading) (s : reader.Scanning) (bytes : List ℕ) (r : ReadsOn
 
   -- it reads on in the same way
   same_byte : (byte : ℕ) → reader.read_byte l.setting.syntax l.setting.limits (spot_of l) byte r.scanned.next ≡ reader.read_byte sy lim spot byte r.scanned.next
-  same_byte byte =
-      let k = after_same old.setting r.scanned.items in
-      let a = ap (λ (x : Setting). x.syntax) r.setting ∙ k.0 in
-      let b = ap (λ (x : Setting). x.limits) r.setting ∙ k.1 in
-      let c = ap (λ (x : Setting). x.inside) r.setting ∙ k.2 in
-      let d = ap (λ (x : Setting). x.leads) r.setting ∙ k.3 in
-      λ i. reader.read_byte (a i) (b i) (record { inside = c i; leads = d i }) byte r.scanned.next
+  same_byte byte = ap (λ (x : Setting). reader.read_byte x.syntax x.limits (record { inside = x.inside; leads = x.leads }) byte r.scanned.next) r.setting ∙ by r.scanned.items
+    where
+      by : (items : List Item) → let x = after_some old.setting items in reader.read_byte x.syntax x.limits (record { inside = x.inside; leads = x.leads }) byte r.scanned.next ≡ reader.read_byte sy lim spot byte r.scanned.next
+      by [] = refl
+      by (x ∷ items) = refl
 
   byte_on : (byte : ℕ) → reader.scan_from sy lim spot s (bytes ++ byte ∷ []) ≡ reader.with_items r.scanned.next r.scanned.items (reader.read_byte l.setting.syntax l.setting.limits (spot_of l) byte r.scanned.next)
   byte_on byte =
@@ -92,24 +85,24 @@ module _ (old l : Reading) (s : reader.Scanning) (bytes : List ℕ) (r : ReadsOn
   pub marked_byte : (byte : ℕ) (answer : TokenKind) (new : Reading) → entries.Reads l byte (Ok answer) new → (rest : List ℕ) → HasMark s (bytes ++ byte ∷ []) rest → Earlier s bytes ⊎ (answer ≡ what.Skipped)
   marked_byte byte answer new k rest m = elim (mark_snoc s bytes byte rest m) [
     | inl e ↦ inl e
-    | inr w ↦ let q = before_mark sy lim spot bytes (record { next = s; items = [] }) r.scanned m.first w.before r.read in
-        inr (mark_skips l byte answer new (r.reads_as.started ∙ q.0) (ap (λ x. x ++ byte ∷ []) (r.reads_as.held ∙ q.1) ∙ ap (λ x. 0xEF ∷ 0xBB ∷ x ∷ []) w.last) k)
+    | inr w ↦ let q = all_held sy lim spot bytes (record { next = s; items = [] }) r.scanned r.read (inr w.before) in
+        inr (mark_skips l byte answer new (r.reads_as.started ∙ (q.same ∙ m.first)) (ap (λ x. x ++ byte ∷ []) (r.reads_as.held ∙ (q.held ∙ w.before)) ∙ ap (λ x. 0xEF ∷ 0xBB ∷ x ∷ []) w.last) k)
   ]
 
   -- and no token is complete with it
   pub marked_none : (byte : ℕ) (x : reader.Scanned) → reader.read_byte l.setting.syntax l.setting.limits (spot_of l) byte r.scanned.next ≡ Ok x → (rest : List ℕ) → HasMark s (bytes ++ byte ∷ []) rest → x.items ≡ []
   marked_none byte x e rest m = elim (mark_snoc s bytes byte rest m) [
     | inl q ↦ absurd (r.unmarked q.rest q.mark)
-    | inr w ↦ let q = before_mark sy lim spot bytes (record { next = s; items = [] }) r.scanned m.first w.before r.read in
-        mark_none sy lim spot byte r.scanned.next x q.0 (ap (λ y. y ++ byte ∷ []) q.1 ∙ ap (λ y. 0xEF ∷ 0xBB ∷ y ∷ []) w.last) (sym (same_byte byte) ∙ e)
+    | inr w ↦ let q = all_held sy lim spot bytes (record { next = s; items = [] }) r.scanned r.read (inr w.before) in
+        mark_none sy lim spot byte r.scanned.next x (q.same ∙ m.first) (ap (λ y. y ++ byte ∷ []) (q.held ∙ w.before) ∙ ap (λ y. 0xEF ∷ 0xBB ∷ y ∷ []) w.last) (sym (same_byte byte) ∙ e)
   ]
 
   -- the mark is whole with the byte
   pub whole_mark : (byte : ℕ) → r.scanned.next.started ≡ false → r.scanned.next.held ++ byte ∷ [] ≡ mark_bytes → HasMark s (bytes ++ byte ∷ []) []
   whole_mark byte f m =
-      let h = all_held sy lim spot bytes (record { next = s; items = [] }) r.scanned r.read f in
+      let h = all_held sy lim spot bytes (record { next = s; items = [] }) r.scanned r.read (inl f) in
       let e : s.held ++ (bytes ++ byte ∷ []) ≡ mark_bytes = sym (append_assoc s.held bytes (byte ∷ [])) ∙ (ap (λ x. x ++ byte ∷ []) (sym h.held) ∙ m) in
-      record { first = h.first; part = omega (arith, ap length e, length-append s.held (bytes ++ byte ∷ []), length-append bytes (byte ∷ [])); are = e }
+      record { first = sym h.same ∙ f; part = omega (arith, ap length e, length-append s.held (bytes ++ byte ∷ []), length-append bytes (byte ∷ [])); are = e }
 
   -- one more byte of text
   pub reads_more : (byte : ℕ) (new : Reading) → entries.Reads l byte (Ok what.Nothing) new → ReadsOn old s (bytes ++ byte ∷ []) new
@@ -161,9 +154,6 @@ module _ (old l new : Reading) (s : reader.Scanning) (piece : List ℕ) (i : ℕ
   taken : take (i + 1) piece ≡ take i piece ++ byte ∷ []
   taken = take_more piece i 0 k
 
-  pub more_read : entries.Reads l byte (Ok what.Nothing) new → ReadsOn old s (take (i + 1) piece) new
-  more_read e = subst (λ (x : List ℕ). ReadsOn old s x new) (sym taken) (reads_more old l s (take i piece) r byte new e)
-
   -- the mark stands alone
   alone : (answer : TokenKind) (x : reader.Scanned) → entries.Reads l byte (Ok answer) new → reader.read_byte l.setting.syntax l.setting.limits (spot_of l) byte r.scanned.next ≡ Ok x → MarkAlone (is_skipped answer) s (take (i + 1) piece) x.items
   alone answer x e q rest m =
@@ -188,38 +178,32 @@ module _ (old l new : Reading) (s : reader.Scanning) (piece : List ℕ) (i : ℕ
   told what.Text w items h = absurd (cc)
   told _ w items h = h.0
 
+  took_as : (answer : TokenKind) (x : reader.Scanned) → entries.Reads l byte (Ok answer) new → l.text.text ≡ [] → reader.read_byte l.setting.syntax l.setting.limits (spot_of l) byte r.scanned.next ≡ Ok x → ReadsAs new x.next → Tells old.setting.drops answer s (take (i + 1) piece) x.items new
+      → new.setting ≡ setting_after answer new old.setting x.items → (is_nothing answer ≡ true → ⊥) → Took old s piece (i + 1) answer new
+  took_as answer x e t q h w b n =
+      record {
+        fits = omega arith;
+        scanned = x;
+        read = read_on t x q;
+        reads_as = h;
+        tells = w;
+        mark = alone answer x e q;
+        setting = b;
+        all = λ z. absurd (n z);
+        some = λ z. omega arith;
+      }
+
   took_entry : (answer : TokenKind) → entries.Reads l byte (Ok answer) new → l.text.text ≡ [] → is_token answer ≡ true → GivesOk (reader.read_byte l.setting.syntax l.setting.limits (spot_of l) byte r.scanned.next) l answer new → Took old s piece (i + 1) answer new
   took_entry answer e t w g =
       let none = no_items old l s (take i piece) r t in
-      let drops : l.setting.drops ≡ old.setting.drops = ap (λ (x : Setting). x.drops) none.1 in
-      record {
-        fits = omega arith;
-        scanned = g.scanned;
-        read = read_on t g.scanned g.is;
-        reads_as = g.reads_as;
-        tells = subst (λ (b : Bool). Tells b answer s (take (i + 1) piece) g.scanned.items new) drops (told answer w g.scanned.items g.told);
-        mark = alone answer g.scanned e g.is;
-        setting = g.setting ∙ ap (λ x. setting_after answer new x g.scanned.items) none.1;
-        all = λ z. absurd (not_nothing answer w z);
-        some = λ z. omega arith;
-      }
+      took_as answer g.scanned e t g.is g.reads_as (subst (λ (x : Setting). Tells x.drops answer s (take (i + 1) piece) g.scanned.items new) none.1 (told answer w g.scanned.items g.told))
+      (g.setting ∙ ap (λ x. setting_after answer new x g.scanned.items) none.1) (not_nothing answer w)
 
   -- the mark is skipped
   took_mark : entries.Reads l byte (Ok what.Skipped) new → l.text.text ≡ [] → PassesMark (reader.read_byte l.setting.syntax l.setting.limits (spot_of l) byte r.scanned.next) r.scanned.next l byte (Ok what.Skipped) new → Took old s piece (i + 1) what.Skipped new
   took_mark e t m =
-      let none = no_items old l s (take i piece) r t in
-      let x : reader.Scanned = record { next = reader.passed r.scanned.next; items = [] } in
-      record {
-        fits = omega arith;
-        scanned = x;
-        read = read_on t x m.is;
-        reads_as = m.reads_as;
-        tells = a_mark (subst (λ (z : List ℕ). HasMark s z []) (sym taken) (whole_mark old l s (take i piece) r byte m.first m.are)) refl;
-        mark = alone what.Skipped x e m.is;
-        setting = m.setting ∙ none.1;
-        all = λ z. absurd (cc);
-        some = λ z. omega arith;
-      }
+      took_as what.Skipped (record { next = reader.passed r.scanned.next; items = [] }) e t m.is m.reads_as
+      (a_mark (subst (λ (z : List ℕ). HasMark s z []) (sym taken) (whole_mark old l s (take i piece) r byte m.first m.are)) refl) (m.setting ∙ (no_items old l s (take i piece) r t).1) (λ z. cc)
 
   -- a token other than text is whole with the byte
   pub took_token : (answer : TokenKind) → entries.Reads l byte (Ok answer) new → l.text.text ≡ [] → is_token answer ≡ true → Took old s piece (i + 1) answer new

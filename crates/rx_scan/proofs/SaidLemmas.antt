@@ -70,15 +70,12 @@ record Leads (v : Reading) (held rest : List ℕ) (c : ℕ) (new : Reading) : Ty
 
 -- the last byte
 module _ (l new : Reading) (held : List ℕ) (b c : ℕ) (t : Leads l held (b ∷ []) c new) where
-  no_bracket : entries.is_bracket l.setting c ≡ false
-  no_bracket = no_literal_at 93 l.setting.inside c (either_way 93 c ∙ is_none c 93 t.plain refl)
-
   tells : entries.TellsOne l (ended false (entries.is_bracket l.setting c) l.place) new c
   tells =
       record {
         text = record { text = t.text; size = t.size; room = t.room };
         is = t.is
-            ∙ (ap (λ (p : Position). entries.with_parts l (entries.undropped l.setting) p l.pending new.text) (said_one l.place (entries.is_bracket l.setting c) no_bracket)
+            ∙ (ap (λ (p : Position). entries.with_parts l (entries.undropped l.setting) p l.pending new.text) (said_one l.place (entries.is_bracket l.setting c) (no_literal_at 93 l.setting.inside c (either_way 93 c ∙ is_none c 93 t.plain refl)))
             ∙ ap (λ (p : Pending). entries.with_parts l (entries.undropped l.setting) (ended false (entries.is_bracket l.setting c) l.place) p new.text) (unmarked l.pending t.may.between));
       }
 
@@ -87,12 +84,9 @@ module _ (l new : Reading) (held : List ℕ) (b c : ℕ) (t : Leads l held (b �
       subst (λ (x : Move). entries.Enters l c false x (Ok what.Nothing) new) (sym (emits l c t.may.between t.may.inside t.plain (either_way 62 c ∙ is_none c 62 t.plain refl)))
       (ap (λ x. x && (c == 10)) t.may.undropped, tells)
 
-  answers : Char c ≡ answer_of (held ++ b ∷ [])
-  answers = answer_is (held ++ b ∷ []) (Char c) ((tables_agree (held ++ b ∷ []) c).1 (t.scalar, t.spelled))
-
   reads_last : entries.Reads l b (Ok what.Nothing) new
   reads_last =
-      other_read l new held b c (Ok what.Nothing) t.held_is answers (omega (arith, t.page)) (is_none c 0 t.plain refl) (ap (λ (x : TokenState). entries.is_long l (known_tags.is_tag x)) t.may.between)
+      other_read l new held b c (Ok what.Nothing) t.held_is (answer_is (held ++ b ∷ []) (Char c) ((tables_agree (held ++ b ∷ []) c).1 (t.scalar, t.spelled))) (omega (arith, t.page)) (is_none c 0 t.plain refl) (ap (λ (x : TokenState). entries.is_long l (known_tags.is_tag x)) t.may.between)
       (ap (λ (x : TokenState). entries.is_long l (known_tags.is_tag_with l.setting.syntax l.setting.inside x (as_line_end c))) t.may.between)
       (or_from _ _ (ap (λ x. not x && (c == 65279)) t.may.started) (ap (λ x. x && (c == 10)) t.may.on_a_line)) (is_none c 13 t.plain refl) says
 

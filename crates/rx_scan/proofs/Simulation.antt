@@ -1,5 +1,5 @@
 -- The table says what the verdicts are: of each mark and each character.
-use Rattle.rx_scan.proofs.Common.{◌≡◌, ◌∙◌, ℕ, false, [], ◌∷◌, ◌++◌, refl, ap, sym, append-nil, length, map, arith, add-one, ◌&&◌, ◌==◌, ◌≤◌, ◌+◌, drop, take, cond-true, cond-false, and_right, length-map, length-append, lowered_char, solidus, Chars, lowered, and-false, Syntax, same, name_of_raw, ends_name, begins, is_known_tag, is_known_after, is_known_raw, is_known_end, Content, common_steps, TagSoFar, Pending, PendsAs, Pends, InRawEnd, Means, end_word}
+use Rattle.rx_scan.proofs.Common.{◌≡◌, ◌∙◌, ℕ, false, [], ◌∷◌, ◌++◌, refl, ap, sym, append-nil, length, map, arith, add-one, ◌&&◌, ◌==◌, ◌≤◌, ◌+◌, drop, take, cond-true, cond-false, and_right, length-map, length-append, lowered_char, solidus, Chars, lowered, and-false, Syntax, same, name_of_raw, ends_name, begins, is_known_tag, is_known_after, is_known_raw, is_known_end, Content, common_steps, TagSoFar, Pending, PendsAs, Pends, InRawEnd, Means, end_word, run_move}
 use Rattle.rx_grammar.specs.declared.contents.Content.TheVariants as content
 use Rattle.rx_scan.specs.declared.marks.TokenState.{TokenState}
 use Rattle.rx_scan.specs.declared.marks.TokenState.TheVariants as mark
@@ -17,7 +17,7 @@ module _ (s : Syntax) (i : Content) (p : Pending) (text : Chars) (c : ℕ) where
   at_mark mark.LessThan e h = at_less_than_means s i p text c h e
   at_mark (mark.RawEnd n) e h = in_end_means s i p text c n h e
   at_mark mark.Tag e h = in_tag_means s i p text c h
-  at_mark (mark.Run q) e h = in_run_means s i p text c q h e
+  at_mark (mark.Run q) e h = in_run_means s i p text c q h e (run_move q c) refl
   at_mark mark.Opened e h = at_opened_means s i p text c h
   at_mark (mark.Opening w n) e h = in_word_means s i p text c w n h
   at_mark (mark.Comment q) e h = in_comment_means s i p text c q h

@@ -1,15 +1,17 @@
 -- What is scanned is what the bytes spell, in whatever content.
-use Rattle.rx_pages.proofs.Common.{◌≡◌, ◌≢◌, ◌∙◌, inl, inr, ℕ, ◌+◌, ◌-◌, ◌≤◌, ◌<◌, Bool, true, false, List, [], ◌∷◌, ◌++◌, refl, sym, ap, subst, length, append_assoc, append-nil, eqb-true, Option, Some, None, Result, Ok, Err, arith, nat_le, ◌&&◌, ◌||◌, ◌==◌, not, take, len_utf8, all_scalars, encode, encodes, length-encode, and_parts, and_from, and_right, cond-true, cond-false, leb-true, eqb-false, false_from_ne_true, or_right, leb-false, or-false, ampersand, less_than_sign, right_bracket, greater_than_sign, by_test, split, untrue, Chars, length-append, Syntax, Html, More, Char, Bad, answer_of, BeginsCharacter, IsCharacter, Answers, Entry, byte_order_mark, line_feed, carriage_return, as_line_end, Token, tag, character, doctype, values, next_of, Item, Spelled, no_more, one, Fits, AllFit, is_literal, is_strict_literal, no_section_end, has_no_nul, IsPending, is_known_tag, Utf8Step, answers_from, form_of, Content, Fault, Kind, TagTooLong, Limits, GoesOn, Verdict, goes_on, whole, ended, refused, verdict, at_first, ReadAs, at_last, at_next, values_append, item_last, item_first, pending_goes, token_of_item, IsKept, is_kept, scan_fault, Stop}
-use Rattle.rx_scan.proofs.Common.{two_lasts, kept_literal, flags_behind, Spot, Scanning, Scanned, first_of, starts_at, token_at, fault_in, holding, passed, entering, item_of, is_doctype, completed, told_first, with_item, after_token, told, read_entry, read_char, read_answer, read_byte, with_items, scan_on, scan_from, occurs, goes_more, no_nul_more, reads_each, passes, entry_at, is_started, ends_return, no_return, no_mark, ended_kept, Steps, is_of_syntax, brackets_behind, entries_at, AllInside, MayCome, AllMayCome, AllBefore, has_character, ends_in_return, Spells, IsBetween, is_over, Enters, FitsWith, IsNoToken, Refuses, page_too_long, not_utf8, nul, tag_too_long, known_too_long, decided, section_end, late_doctype, FirstFault, StepAnswers, StepsSpell, spot_of, one_unknown}
+use Rattle.rx_pages.proofs.Common.{◌≡◌, ◌≢◌, ◌∙◌, inl, inr, ℕ, ◌+◌, ◌-◌, ◌≤◌, ◌<◌, Bool, true, false, List, [], ◌∷◌, ◌++◌, refl, sym, ap, subst, length, append_assoc, append-nil, eqb-true, Some, None, Result, Ok, Err, arith, nat_le, ◌&&◌, ◌||◌, ◌==◌, not, take, len_utf8, all_scalars, encode, encodes, length-encode, and_parts, and_from, and_right, cond-true, cond-false, leb-true, eqb-false, false_from_ne_true, or_right, leb-false, or-false, ampersand, less_than_sign, right_bracket, greater_than_sign, by_test, split, untrue, Chars, length-append, Syntax, Html, More, Char, Bad, answer_of, BeginsCharacter, IsCharacter, Answers, Entry, byte_order_mark, line_feed, carriage_return, as_line_end, Token, tag, character, doctype, values, next_of, Item, Spelled, no_more, Fits, AllFit, is_literal, is_strict_literal, no_section_end, has_no_nul, IsPending, is_known_tag, Utf8Step, answers_from, form_of, Content, Fault, Kind, TagTooLong, Limits, GoesOn, Verdict, goes_on, whole, ended, refused, verdict, at_first, ReadAs, at_last, at_next, values_append, item_last, item_first, pending_goes, token_of_item, IsKept, is_kept, scan_fault, Stop, if◌then◌else◌, and-false, IsPart}
+use Rattle.std.specs.Prelude.{◌↔◌}
+use Rattle.rx_scan.proofs.Common.{two_lasts, kept_literal, flags_behind, Spot, Scanning, Scanned, first_of, starts_at, token_at, fault_in, holding, passed, entering, item_of, is_doctype, completed, told_first, with_item, after_token, told, read_entry, read_char, read_answer, read_byte, with_items, scan_on, scan_from, occurs, goes_more, no_nul_more, reads_each, passes, entry_at, ends_return, no_return, no_mark, ended_kept, Steps, is_of_syntax, brackets_behind, entries_at, AllInside, MayCome, AllMayCome, AllBefore, has_character, ends_in_return, Spells, IsBetween, is_over, Enters, FitsWith, IsNoToken, Refuses, page_too_long, not_utf8, nul, tag_too_long, known_too_long, decided, section_end, late_doctype, FirstFault, StepAnswers, StepsSpell, spot_of, one_unknown}
 use Rattle.rx_grammar.specs.declared.contents.Content.TheVariants as content
 use Rattle.rx_grammar.specs.Spelling as spelling
 use Rattle.rx_grammar.specs.PageFaults as faults
-use Rattle.rx_pages.proofs.Prefix.{any_next}
+use Rattle.rx_pages.proofs.Prefix.{any_next, spelled_before}
 use Rattle.rx_pages.proofs.PendsOn.{spells_read, faulty_read, pends, unfinished}
 use Rattle.rx_pages.proofs.KnownSpelled.{spelled_known}
 use Rattle.rx_pages.proofs.BytesOn.{encodes_more, scalars_more, some_entered}
-use Rattle.rx_pages.proofs.Snocs.{entered_one, values_next, spelled_snoc, return_snoc, flags_snoc, sections_snoc, fit_snoc, entered_snoc, started_snoc}
+use Rattle.rx_pages.proofs.Snocs.{entered_one, values_next, spelled_snoc, sections_snoc, fit_snoc, entered_snoc}
 use Rattle.rx_scan.specs.Spelled as spelled
+use Rattle.rx_chars.specs.Characters.{placed, entered}
 use Rattle.rx_scan.specs.declared.answers.Token as shown
 use Rattle.rx_grammar.specs.declared.stops.Stop.TheVariants as stop
 use Rattle.rx_scan.proofs.RunLemmas.{on_append}
@@ -30,26 +32,53 @@ first_says i c = split FirstSays (c == less_than_sign || (c == ampersand && spel
 pub never_ended : (i : Content) (c : ℕ) (token : Token) → at_first i c ≢ ended token
 never_ended i c token h = subst FirstSays h (first_says i c)
 
+pub has_snoc : (cs : List ℕ) (c : ℕ) → has_character (cs ++ c ∷ []) ≡ true
+has_snoc [] c = refl
+has_snoc (d ∷ cs) c = refl
+
+pub returns_snoc : (before : Bool) (cs : List ℕ) (c : ℕ) → ends_in_return before (cs ++ c ∷ []) ≡ (c == carriage_return)
+returns_snoc before [] c = refl
+returns_snoc before (d ∷ cs) c = returns_snoc (d == carriage_return) cs c
+
+ends_is : (before : Bool) (cs : List ℕ) → ends_return before cs ≡ ends_in_return before cs
+ends_is before [] = refl
+ends_is before (c ∷ cs) = ends_is (c == carriage_return) cs
+
 -- one character behind others
-entries_snoc : (started after_return : Bool) (at : ℕ) (cs : List ℕ) (c : ℕ)
-    → entries_at started after_return at (cs ++ c ∷ []) ≡ entries_at started after_return at cs ++ entered_one (passes (started || is_started cs) (ends_return after_return cs) c) (at + length (encodes cs)) c
-entries_snoc true after_return at cs c = entered_snoc after_return at cs c
+entered_more : (after_return : Bool) (at : ℕ) (cs : List ℕ) (c : ℕ)
+    → entered after_return (placed at (cs ++ c ∷ [])) ≡ entered after_return (placed at cs) ++ entered_one (ends_in_return after_return cs && c == line_feed) (at + length (encodes cs)) c
+entered_more after_return at cs c = entered_snoc after_return at cs c ∙ ap (λ b. entered after_return (placed at cs) ++ entered_one (b && c == line_feed) (at + length (encodes cs)) c) (ends_is after_return cs)
+
+pub entries_snoc : (started after_return : Bool) (at : ℕ) (cs : List ℕ) (c : ℕ)
+    → entries_at started after_return at (cs ++ c ∷ []) ≡ entries_at started after_return at cs ++ entered_one (passes (started || has_character cs) (ends_in_return after_return cs) c) (at + length (encodes cs)) c
+entries_snoc true after_return at cs c = entered_more after_return at cs c
 entries_snoc false after_return at [] c =
-    by_test {G = entries_at false after_return at (c ∷ []) ≡ entered_one (passes false after_return c) (at + 0) c} (c == byte_order_mark) (λ t. rw t refl) (λ t. rw t (entered_snoc after_return at [] c))
+    by_test {G = entries_at false after_return at (c ∷ []) ≡ entered_one (passes false after_return c) (at + 0) c} (c == byte_order_mark) (λ t. rw t refl) (λ t. rw t (entered_more after_return at [] c))
 entries_snoc false after_return at (d ∷ cs) c =
     let n = length-append (encode d) (encodes cs) in
     let l = length-encode d in
     let same : at + len_utf8 d + length (encodes cs) ≡ at + length (encodes (d ∷ cs)) = omega arith in
-    by_test {G = entries_at false after_return at ((d ∷ cs) ++ c ∷ []) ≡ entries_at false after_return at (d ∷ cs) ++ entered_one (ends_return (d == carriage_return) cs && c == line_feed) (at + length (encodes (d ∷ cs))) c} (d == byte_order_mark)
-    (λ t. rw (t, no_mark d t, ← same) (entered_snoc false (at + len_utf8 d) cs c)) (λ t. rw t (entered_snoc after_return at (d ∷ cs) c))
+    by_test {G = entries_at false after_return at ((d ∷ cs) ++ c ∷ []) ≡ entries_at false after_return at (d ∷ cs) ++ entered_one (ends_in_return (d == carriage_return) cs && c == line_feed) (at + length (encodes (d ∷ cs))) c} (d == byte_order_mark)
+    (λ t. rw (t, no_mark d t, ← same) (entered_more false (at + len_utf8 d) cs c)) (λ t. rw t (entered_more after_return at (d ∷ cs) c))
 
-inside_more : (inside : Content) (items : List Item) (item : Item) → AllInside inside items → item.content ≡ inside → AllInside inside (items ++ item ∷ [])
-inside_more inside [] item a e = (e, tt)
-inside_more inside (i ∷ items) item a e = (a.0, inside_more inside items item a.1 e)
+pub inside_snoc : (inside : Content) (items : List Item) (item : Item) → AllInside inside (items ++ item ∷ []) ↔ (AllInside inside items × (item.content ≡ inside))
+inside_snoc inside [] item = (λ a. (tt, a.0), λ a. (a.1, tt))
+inside_snoc inside (i ∷ items) item = let r = inside_snoc inside items item in (λ a. let k = r.0 a.1 in ((a.0, k.0), k.1), λ a. (a.0.0, r.1 (a.0.1, a.1)))
 
-pub same_flags : (items : List Item) (two last : Bool) → flags_behind items two last ≡ brackets_behind items two last
+same_flags : (items : List Item) (two last : Bool) → flags_behind items two last ≡ brackets_behind items two last
 same_flags [] two last = refl
 same_flags (item ∷ items) two last = same_flags items (last && is_literal right_bracket item) (is_literal right_bracket item)
+
+pub brackets_snoc : (items : List Item) (item : Item) (two last : Bool) → brackets_behind (items ++ item ∷ []) two last ≡ ((brackets_behind items two last).1 && is_literal right_bracket item, is_literal right_bracket item)
+brackets_snoc [] item two last = refl
+brackets_snoc (i ∷ items) item two last = brackets_snoc items item (last && is_literal right_bracket i) (is_literal right_bracket i)
+
+-- text that is kept is no bracket
+pub kept_flags : (items : List Item) (item : Item) (two last : Bool) → IsKept item.token → brackets_behind (items ++ item ∷ []) two last ≡ (false, false)
+kept_flags items item two last k =
+    let l = kept_literal right_bracket item k in
+    let p = brackets_behind items two last in
+    brackets_snoc items item two last ∙ (ap (λ b. (p.1 && b, b)) l ∙ ap (λ b. (b, false)) (and-false p.1))
 
 -- what isn't too long has room
 room_of : (known : Bool) (bound at : ℕ) → (known && nat_le bound at) ≡ false → known ≡ true → at < bound
@@ -59,9 +88,9 @@ before_snoc : (limit at : ℕ) (bytes : List ℕ) (byte : ℕ) → AllBefore lim
 before_snoc limit at [] byte a l = ((let z : at + 0 ≡ at = omega arith in omega arith), tt)
 before_snoc limit at (b ∷ bytes) byte a l = (a.0, before_snoc limit (at + 1) bytes byte a.1 (omega arith))
 
-come_snoc : (leads : Bool) (items : List Item) (item : Item) → AllMayCome leads items → MayCome leads item.token → AllMayCome leads (items ++ item ∷ [])
-come_snoc leads [] item a m = (m, tt)
-come_snoc leads (i ∷ items) item a m = (a.0, come_snoc leads items item a.1 m)
+pub come_snoc : (leads : Bool) (items : List Item) (item : Item) → AllMayCome leads (items ++ item ∷ []) ↔ (AllMayCome leads items × MayCome leads item.token)
+come_snoc leads [] item = (λ a. (tt, a.0), λ a. (a.1, tt))
+come_snoc leads (i ∷ items) item = let r = come_snoc leads items item in (λ a. let k = r.0 a.1 in ((a.0, k.0), k.1), λ a. (a.0.0, r.1 (a.0.1, a.1)))
 
 -- text that is kept is no tag and no document type
 kept_plain : (limit : ℕ) (leads : Bool) (item : Item) (token : Token) → IsKept token → Fits limit item token × MayCome leads token
@@ -81,17 +110,9 @@ pub first_known : (syntax : Syntax) (inside : Content) (run : List Entry) (a b :
 first_known syntax inside [] a b k = absurd (cc)
 first_known syntax inside (e ∷ run) a b k = refl
 
-first_snoc : (run : List Entry) (e : Entry) (at : ℕ) → first_of (run ++ e ∷ []) at ≡ first_of run e.first
+pub first_snoc : (run : List Entry) (e : Entry) (at : ℕ) → first_of (run ++ e ∷ []) at ≡ first_of run e.first
 first_snoc [] e at = refl
 first_snoc (d ∷ run) e at = refl
-
-some_is : (cs : List ℕ) → is_started cs ≡ has_character cs
-some_is [] = refl
-some_is (c ∷ cs) = refl
-
-ends_is : (before : Bool) (cs : List ℕ) → ends_return before cs ≡ ends_in_return before cs
-ends_is before [] = refl
-ends_is before (c ∷ cs) = ends_is (c == carriage_return) cs
 
 pub none_entered : (started after_return : Bool) (at : ℕ) → entries_at started after_return at [] ≡ []
 none_entered true after_return at = refl
@@ -106,11 +127,10 @@ passing_is started after_return c G h on_mark on_feed =
 
 -- a token that nothing has to follow is read at its last character
 pub whole_verdict : (s : Syntax) (i : Content) (front : Chars) (c : ℕ) (token : Token) → spelling.Spells s i (front ++ c ∷ []) None token → verdict s i front c ≡ whole token
-whole_verdict s i front c token sp = by (front ++ c ∷ []) None token (reads_each s i (front ++ c ∷ []) None token sp) refl refl
+whole_verdict s i front c token sp = by (front ++ c ∷ []) token (reads_each s i (front ++ c ∷ []) None token sp) refl
   where
-    by : (x : Chars) (n : Option ℕ) (t : Token) → ReadAs s i x n t → x ≡ front ++ c ∷ [] → n ≡ None → verdict s i front c ≡ whole t
-    by _ _ _ (at_last f d t go v) e n = let p = two_lasts f front d c e in subst (λ x. verdict s i x c ≡ whole t) p.0 (subst (λ x. verdict s i f x ≡ whole t) p.1 v)
-    by _ _ _ (at_next x d t go v) e n = absurd (cc)
+    by : (x : Chars) (t : Token) → ReadAs s i x None t → x ≡ front ++ c ∷ [] → verdict s i front c ≡ whole t
+    by _ _ (at_last f d t go v) e = let p = two_lasts f front d c e in subst (λ x. verdict s i x c ≡ whole t) p.0 (subst (λ x. verdict s i f x ≡ whole t) p.1 v)
 
 -- where a character is refused, no token is whole with it
 no_token : (s : Syntax) (i : Content) (run : List ℕ) (c : ℕ) (found : Kind) → verdict s i run c ≡ refused found → IsNoToken s i (run ++ c ∷ [])
@@ -120,8 +140,19 @@ module _ (syntax : Syntax) (limits : Limits) (spot : Spot) (o : occurs syntax sp
   abbrev inside : Content
   inside = spot.inside
 
-  -- what has been read behind the state
-  abbrev IsTold : List ℕ → Scanning → List Item → Type 0
+  -- what the characters enter, and the brackets behind some tokens
+  abbrev pub entries_of : List ℕ → List Entry
+  entries_of cs = entries_at s.started s.after_return s.at cs
+
+  abbrev pub brackets : List Item → Bool × Bool
+  brackets items = brackets_behind items s.two s.last
+
+  -- the state behind these bytes, which are these characters and a part of one, where this run is left
+  abbrev pub state : List ℕ → List ℕ → List ℕ → List Entry → Bool × Bool → Scanning
+  state bytes cs part run flags =
+      record { at = s.at + length bytes; held = part; started = s.started || has_character cs; after_return = ends_in_return s.after_return cs; run = run; two = flags.0; last = flags.1 }
+
+  abbrev pub IsTold : List ℕ → Scanning → List Item → Type 0
   IsTold bytes next items = Spells syntax limits spot s bytes (record { next = next; items = items })
 
   -- what a byte does: with it the bytes spell this, or it is refused
@@ -129,19 +160,131 @@ module _ (syntax : Syntax) (limits : Limits) (spot : Spot) (o : occurs syntax sp
   Does bytes next items byte (Ok r) = IsTold (bytes ++ byte ∷ []) r.next (items ++ r.items)
   Does bytes next items byte (Err kind) = Refuses syntax limits spot next byte kind
 
+  -- what is to be known of some tokens, whatever spells them
+  pub record Fine (items : List Item) : Type 0 where
+    pub inside_is : AllInside inside items
+    pub come : AllMayCome spot.leads items
+    pub fit : AllFit limits.tag items
+    pub sections : no_section_end items s.two s.last ≡ true
+
+  fine_more : (items : List Item) (item : Item) → Fine items → item.content ≡ inside → Fits limits.tag item item.token × MayCome spot.leads item.token → ((brackets items).0 && is_literal greater_than_sign item) ≡ false → Fine (items ++ item ∷ [])
+  fine_more items item f i k h =
+      record {
+        inside_is = (inside_snoc inside items item).1 (f.inside_is, i);
+        come = (come_snoc spot.leads items item).1 (f.come, k.1);
+        fit = fit_snoc limits.tag items item f.fit k.0;
+        sections = sections_snoc items item s.two s.last f.sections (ap (λ (p : Bool × Bool). p.0 && is_literal greater_than_sign item) (same_flags items s.two s.last) ∙ h);
+      }
+
+  -- What bytes spell, by its parts.
+  pub record Has (bytes cs part : List ℕ) (front run : List Entry) (items : List Item) : Type 0 where
+    pub are : bytes ≡ encodes cs ++ part
+    pub scalars : all_scalars cs ≡ true
+    pub within : AllBefore limits.page s.at bytes
+    pub is_part : IsPart part
+    pub read : front ++ run ≡ entries_of cs
+    pub no_nul : has_no_nul (entries_of cs) ≡ true
+    pub spelled : Spelled syntax front (next_of (values run) None) items
+    pub fine : Fine items
+    pub goes : GoesOn syntax inside [] (values run)
+    pub short : (from : ℕ) → is_known_tag syntax inside (values run) ≡ true → s.at + length bytes ≤ first_of run from + limits.tag
+
+  pending_of : (run : List Entry) → GoesOn syntax inside [] (values run) → IsPending syntax inside (values run)
+  pending_of [] g = inl refl
+  pending_of (e ∷ run) g = inr (unfinished syntax inside o (pends syntax inside o (values (e ∷ run)) g) (λ k. cc))
+
+  pub told_of : (bytes cs part : List ℕ) (front run : List Entry) (items : List Item) → Has bytes cs part front run items → IsTold bytes (state bytes cs part run (brackets items)) items
+  told_of bytes cs part front run items h =
+      record {
+        characters = cs;
+        part = part;
+        are = h.are;
+        scalars = h.scalars;
+        within = h.within;
+        front = front;
+        read = h.read;
+        no_nul = ap has_no_nul h.read ∙ h.no_nul;
+        spelled = h.spelled;
+        inside_is = h.fine.inside_is;
+        come = h.fine.come;
+        fit = h.fine.fit;
+        sections = h.fine.sections;
+        pending = pending_of run h.goes;
+        short = h.short (s.at + length bytes - length part);
+        is_part = h.is_part;
+        at_is = refl;
+        part_is = refl;
+        started_is = refl;
+        return_is = refl;
+        two_is = refl;
+        last_is = refl;
+      }
+
+  pub has_of : (bytes : List ℕ) (r : Scanned) (t : Spells syntax limits spot s bytes r) → Has bytes t.characters t.part t.front r.next.run r.items
+  has_of bytes r t =
+      record {
+        are = t.are;
+        scalars = t.scalars;
+        within = t.within;
+        is_part = t.is_part;
+        read = t.read;
+        no_nul = sym (ap has_no_nul t.read) ∙ t.no_nul;
+        spelled = t.spelled;
+        fine = record { inside_is = t.inside_is; come = t.come; fit = t.fit; sections = t.sections };
+        goes = pending_goes syntax inside (values r.next.run) t.pending;
+        short = λ from k. (let a = t.short k in let f = first_known syntax inside r.next.run (starts_at r.next) from k in let e = t.at_is in omega arith);
+      }
+
+  pub state_is : (bytes : List ℕ) (r : Scanned) (t : Spells syntax limits spot s bytes r) → r.next ≡ state bytes t.characters t.part r.next.run (brackets r.items)
+  state_is bytes r t = λ i. record { at = t.at_is i; held = t.part_is i; started = t.started_is i; after_return = t.return_is i; run = r.next.run; two = t.two_is i; last = t.last_is i }
+
+  -- one more byte
+  module _ (bytes : List ℕ) (byte : ℕ) where
+    abbrev pub more : List ℕ
+    more = bytes ++ byte ∷ []
+
+    pub size_more : s.at + length bytes + 1 ≡ s.at + length more
+    size_more = let n = length-append bytes (byte ∷ []) in omega arith
+
+    -- with which a character is whole
+    module _ (cs part : List ℕ) (c : ℕ) (are : bytes ≡ encodes cs ++ part) (form : encode c ≡ part ++ byte ∷ []) where
+      abbrev pub pass : Bool
+      pass = passes (s.started || has_character cs) (ends_in_return s.after_return cs) c
+
+      abbrev pub new_entry : Entry
+      new_entry = record { value = as_line_end c; first = s.at + length bytes - length part; last = s.at + length bytes }
+
+      abbrev pub new_entries : List Entry
+      new_entries = if pass then [] else new_entry ∷ []
+
+      pub entries_are : entries_of (cs ++ c ∷ []) ≡ entries_of cs ++ new_entries
+      entries_are = entries_snoc s.started s.after_return s.at cs c ∙ ap (λ x. entries_of cs ++ (if pass then [] else x ∷ [])) same
+        where
+          same : entry_at c (s.at + length (encodes cs)) (s.at + length (encodes cs) + len_utf8 c - 1) ≡ new_entry
+          same =
+              let n : length bytes ≡ length (encodes cs) + length part = ap length are ∙ length-append (encodes cs) part in
+              let l : len_utf8 c ≡ length part + 1 = sym (length-encode c) ∙ (ap length form ∙ length-append part (byte ∷ [])) in
+              let first : s.at + length (encodes cs) ≡ s.at + length bytes - length part = omega arith in
+              let last : s.at + length (encodes cs) + len_utf8 c - 1 ≡ s.at + length bytes = omega arith in
+              λ i. record { value = as_line_end c; first = first i; last = last i }
+
+      -- the state behind it
+      pub next_is : (after_return : Bool) (old run : List Entry) (two last : Bool) (flags kept : Bool × Bool) → after_return ≡ (c == carriage_return) → (two, last) ≡ flags → entering after_return run two last (state bytes cs part old kept) ≡ state more (cs ++ c ∷ []) [] run flags
+      next_is after_return old run two last flags kept a f =
+          λ i. record {
+            at = size_more i;
+            held = [];
+            started = sym (or_right s.started _ (has_snoc cs c)) i;
+            after_return = (a ∙ sym (returns_snoc s.after_return cs c)) i;
+            run = run;
+            two = (f i).0;
+            last = (f i).1;
+          }
+
   -- whatever comes next
-  module _ (c : ℕ) where
-    spells_next : (i : Content) (text : _) (rest : List Entry) (token : Token) → spelling.Spells syntax i text (next_of (values rest) None) token → spelling.Spells syntax i text (next_of (values rest) (Some c)) token
-    spells_next i text [] token sp = any_next syntax i text token sp (Some c)
-    spells_next i text (e ∷ rest) token sp = sp
-
-    spelled_by : {es : List Entry} {next : Option ℕ} {items : List Item} → Spelled syntax es next items → next ≡ None → Spelled syntax es (Some c) items
-    spelled_by no_more n = no_more
-    spelled_by (one d run rest item sp f l more) n = one d run rest item (spells_next item.content (values (d ∷ run)) rest item.token (subst (λ x. spelling.Spells syntax item.content (values (d ∷ run)) (next_of (values rest) x) item.token) n sp)) f l (spelled_by more n)
-
-    lifted : (run : List Entry) {es : List Entry} {items : List Item} → Spelled syntax es (next_of (values run) None) items → Spelled syntax es (next_of (values run) (Some c)) items
-    lifted [] sp = spelled_by sp refl
-    lifted (e ∷ run) sp = sp
+  lifted : (c : ℕ) (run : List Entry) {es : List Entry} {items : List Item} → Spelled syntax es (next_of (values run) None) items → Spelled syntax es (next_of (values run) (Some c)) items
+  lifted c [] sp = spelled_before syntax None (Some c) (λ i text token t. any_next syntax i text token t (Some c)) sp
+  lifted c (e ∷ run) sp = sp
 
   -- the tokens of a run, where an entry is behind it
   module _ (e : Entry) (front : List Entry) (items : List Item) where
@@ -154,182 +297,97 @@ module _ (syntax : Syntax) (limits : Limits) (spot : Spot) (o : occurs syntax sp
     after_ended [] token sp g v = absurd (never_ended inside e.value token v)
     after_ended (d ∷ r) token sp g v = spelled_snoc syntax d r (Some e.value) (item_of inside token (d ∷ r)) sp refl (spells_read syntax inside o (values (d ∷ r)) (Some e.value) token (at_next (values (d ∷ r)) e.value token g v)) refl refl
 
-  -- the brackets behind some tokens
-  record IsBehind (items : List Item) (a b : Bool) : Type 0 where
-    two : a ≡ (brackets_behind items s.two s.last).0
-    last : b ≡ (brackets_behind items s.two s.last).1
-    sections : no_section_end items s.two s.last ≡ true
-
-  behind_more : (items : List Item) (item : Item) (two last : Bool) → IsBehind items two last → (two && is_literal greater_than_sign item) ≡ false → IsBehind (items ++ item ∷ []) (last && is_literal right_bracket item) (is_literal right_bracket item)
-  behind_more items item two last f h =
-      let brackets : brackets_behind (items ++ item ∷ []) s.two s.last ≡ ((brackets_behind items s.two s.last).1 && is_literal right_bracket item, is_literal right_bracket item) =
-      sym (same_flags (items ++ item ∷ []) s.two s.last) ∙ (flags_snoc items item s.two s.last ∙ ap (λ (p : Bool × Bool). (p.1 && is_literal right_bracket item, is_literal right_bracket item)) (same_flags items s.two s.last)) in
-      record {
-        two = ap (λ b. b && is_literal right_bracket item) f.last ∙ ap (λ (p : Bool × Bool). p.0) (sym brackets);
-        last = ap (λ (p : Bool × Bool). p.1) (sym brackets);
-        sections = sections_snoc items item s.two s.last f.sections (ap (λ (p : Bool × Bool). p.0 && is_literal greater_than_sign item) (same_flags items s.two s.last) ∙ (ap (λ b. b && is_literal greater_than_sign item) (sym f.two) ∙ h));
-      }
-
   content_of : (token : Token) (run : List Entry) → (item_of inside token run).content ≡ inside
   content_of token [] = refl
   content_of token (e ∷ run) = refl
 
-  pending_of : (run : List Entry) → GoesOn syntax inside [] (values run) → IsPending syntax inside (values run)
-  pending_of [] g = inl refl
-  pending_of (e ∷ run) g = inr (unfinished syntax inside o (pends syntax inside o (values (e ∷ run)) g) (λ k. cc))
-
-  -- one more byte
-  module _ (bytes : List ℕ) (next : Scanning) (items : List Item) (t : IsTold bytes next items) (byte : ℕ) (page : next.at < limits.page) where
-    abbrev more : List ℕ
-    more = bytes ++ byte ∷ []
+  -- what one more byte does
+  module _ (bytes cs part : List ℕ) (front run : List Entry) (items : List Item) (h : Has bytes cs part front run items) (byte : ℕ) (page : s.at + length bytes < limits.page) where
+    abbrev next : Scanning
+    next = state bytes cs part run (brackets items)
 
     abbrev held_more : List ℕ
-    held_more = next.held ++ byte ∷ []
+    held_more = part ++ byte ∷ []
 
     abbrev Here : Result Scanned Kind → Type 0
     Here x = Does bytes next items byte x
 
-    goes : GoesOn syntax inside [] (values next.run)
-    goes = pending_goes syntax inside (values next.run) t.pending
-
-    behind_now : IsBehind items next.two next.last
-    behind_now = record { two = t.two_is; last = t.last_is; sections = t.sections }
-
-    size_more : length more ≡ length bytes + 1
-    size_more = length-append bytes (byte ∷ [])
-
-    within_more : AllBefore limits.page s.at more
-    within_more = before_snoc limits.page s.at bytes byte t.within (let a = t.at_is in omega arith)
+    within_more : AllBefore limits.page s.at (bytes ++ byte ∷ [])
+    within_more = before_snoc limits.page s.at bytes byte h.within page
 
     abbrev known : Bool
-    known = is_known_tag syntax inside (values next.run)
+    known = is_known_tag syntax inside (values run)
 
     abbrev Room : Type 0
     Room = known ≡ true → next.at < token_at next + limits.tag
 
+    -- what is known to be a tag has its first byte
+    room_from : Room → (from : ℕ) → known ≡ true → s.at + length (bytes ++ byte ∷ []) ≤ first_of run from + limits.tag
+    room_from room from k = let r = room k in let f = first_known syntax inside run from (starts_at next) k in let z = size_more bytes byte in omega arith
+
     held : BeginsCharacter held_more → Room → Here (Ok (record { next = holding held_more next; items = [] }))
     held b room =
-        subst (λ xs. IsTold more (holding held_more next) xs) (sym (append-nil items)) (record {
-          characters = t.characters;
-          part = held_more;
-          are = ap (λ x. x ++ byte ∷ []) t.are ∙ (append_assoc (encodes t.characters) t.part (byte ∷ []) ∙ ap (λ x. encodes t.characters ++ (x ++ byte ∷ [])) (sym t.part_is));
-          scalars = t.scalars;
+        subst (λ xs. IsTold (bytes ++ byte ∷ []) (holding held_more next) xs) (sym (append-nil items))
+        (subst (λ n. IsTold (bytes ++ byte ∷ []) n items) (λ i. record { at = sym (size_more bytes byte) i; held = held_more; started = next.started; after_return = next.after_return; run = run; two = next.two; last = next.last })
+        (told_of (bytes ++ byte ∷ []) cs held_more front run items (record {
+          are = ap (λ x. x ++ byte ∷ []) h.are ∙ append_assoc (encodes cs) part (byte ∷ []);
+          scalars = h.scalars;
           within = within_more;
-          front = t.front;
-          read = t.read;
-          no_nul = t.no_nul;
-          spelled = t.spelled;
-          inside_is = t.inside_is;
-          come = t.come;
-          fit = t.fit;
-          sections = t.sections;
-          pending = t.pending;
-          short = λ k. (let r = room k in let f = first_known syntax inside next.run (starts_at (holding held_more next)) (starts_at next) k in omega arith);
           is_part = inr b;
-          at_is = (let a = t.at_is in let z = size_more in omega arith);
-          part_is = refl;
-          started_is = t.started_is;
-          return_is = t.return_is;
-          two_is = t.two_is;
-          last_is = t.last_is;
-        })
+          read = h.read;
+          no_nul = h.no_nul;
+          spelled = h.spelled;
+          fine = h.fine;
+          goes = h.goes;
+          short = room_from room;
+        })))
 
     -- the last byte of a character
     module _ (c : ℕ) (is : IsCharacter held_more c) (nonzero : (c == 0) ≡ false) (room : Room) where
       abbrev chars : List ℕ
-      chars = t.characters ++ c ∷ []
+      chars = cs ++ c ∷ []
 
       form : encode c ≡ held_more
       form = (form_of held_more c is).1
 
-      scalars : all_scalars chars ≡ true
-      scalars = scalars_more t.characters c t.scalars (form_of held_more c is).0
-
-      are : more ≡ encodes chars ++ []
-      are =
-          ap (λ x. x ++ byte ∷ []) t.are
-          ∙ (append_assoc (encodes t.characters) t.part (byte ∷ [])
-          ∙ (ap (λ x. encodes t.characters ++ (x ++ byte ∷ [])) (sym t.part_is) ∙ (ap (λ x. encodes t.characters ++ x) (sym form) ∙ (sym (encodes_more t.characters c) ∙ sym (append-nil (encodes chars))))))
-
-      at_more : next.at + 1 ≡ s.at + length more
-      at_more = (let a = t.at_is in let z = size_more in omega arith)
-
-      size_one : len_utf8 c ≡ length next.held + 1
-      size_one = sym (length-encode c) ∙ (ap length form ∙ length-append next.held (byte ∷ []))
-
-      sizes : length bytes ≡ length (encodes t.characters) + length next.held
-      sizes = ap length t.are ∙ (length-append (encodes t.characters) t.part ∙ ap (λ n. length (encodes t.characters) + n) (ap length (sym t.part_is)))
-
-      abbrev start : ℕ
-      start = s.at + length (encodes t.characters)
-
-      starts_is : starts_at next ≡ start
-      starts_is = (let a = t.at_is in let z = sizes in omega arith)
-
-      last_is : next.at ≡ start + len_utf8 c - 1
-      last_is = (let a = t.at_is in let z = sizes in let w = size_one in omega arith)
-
       abbrev does_pass : Bool
-      does_pass = passes next.started next.after_return c
-
-      pass_is : does_pass ≡ passes (s.started || is_started t.characters) (ends_return s.after_return t.characters) c
-      pass_is = λ i. passes ((t.started_is ∙ ap (λ b. s.started || b) (sym (some_is t.characters))) i) ((t.return_is ∙ sym (ends_is s.after_return t.characters)) i) c
-
-      entries : entries_at s.started s.after_return s.at chars ≡ entries_at s.started s.after_return s.at t.characters ++ entered_one does_pass start c
-      entries = entries_snoc s.started s.after_return s.at t.characters c ∙ ap (λ b. entries_at s.started s.after_return s.at t.characters ++ entered_one b start c) (sym pass_is)
-
-      started_is : true ≡ (s.started || has_character chars)
-      started_is = sym (or_right s.started _ (sym (some_is chars) ∙ started_snoc t.characters c))
-
-      return_is : (c == carriage_return) ≡ ends_in_return s.after_return chars
-      return_is = sym (return_snoc s.after_return t.characters c) ∙ ends_is s.after_return chars
-
-      -- with it these tokens are told, and this run is left
-      with_run : (after_return two last : Bool) (front run : List Entry) (others : List Item) → after_return ≡ ends_in_return s.after_return chars → front ++ run ≡ entries_at s.started s.after_return s.at chars → has_no_nul (front ++ run) ≡ true
-          → Spelled syntax front (next_of (values run) None) others → AllInside inside others → IsPending syntax inside (values run) → IsBehind others two last → AllMayCome spot.leads others → AllFit limits.tag others
-          → (is_known_tag syntax inside (values run) ≡ true → next.at + 1 ≤ first_of run (next.at + 1 - 0) + limits.tag) → IsTold more (entering after_return run two last next) others
-      with_run after_return two last front run others return_is read no_nul sp i p f come fit short =
-          record {
-            characters = chars;
-            part = [];
-            are = are;
-            scalars = scalars;
-            within = within_more;
-            front = front;
-            read = read;
-            no_nul = no_nul;
-            spelled = sp;
-            inside_is = i;
-            come = come;
-            fit = fit;
-            sections = f.sections;
-            pending = p;
-            short = short;
-            is_part = inl refl;
-            at_is = at_more;
-            part_is = refl;
-            started_is = started_is;
-            return_is = return_is;
-            two_is = f.two;
-            last_is = f.last;
-          }
-
-      does_passed : does_pass ≡ true → Here (Ok (record { next = passed next; items = [] }))
-      does_passed h =
-          let same : entries_at s.started s.after_return s.at chars ≡ entries_at s.started s.after_return s.at t.characters =
-          entries ∙ (ap (λ x. entries_at s.started s.after_return s.at t.characters ++ x) (cond-true _ _ _ h) ∙ append-nil (entries_at s.started s.after_return s.at t.characters)) in
-          subst (λ xs. IsTold more (passed next) xs) (sym (append-nil items))
-          (with_run false next.two next.last t.front next.run items (sym (passing_is next.started next.after_return c ((c == carriage_return) ≡ false) h (no_mark c) (no_return c)) ∙ return_is) (t.read ∙ sym same) t.no_nul t.spelled t.inside_is t.pending behind_now t.come t.fit
-          (λ k. let r = room k in let f = first_known syntax inside next.run (starts_at (passed next)) (starts_at next) k in omega arith))
+      does_pass = pass bytes byte cs part c h.are form
 
       abbrev e : Entry
-      e = record { value = as_line_end c; first = starts_at next; last = next.at }
+      e = new_entry bytes byte cs part c h.are form
+
+      -- with it these tokens are told, and this run is left
+      with_run : (after_return two last : Bool) (front left : List Entry) (others : List Item) → after_return ≡ (c == carriage_return) → (two, last) ≡ brackets others → front ++ left ≡ entries_of chars
+          → Spelled syntax front (next_of (values left) None) others → Fine others → GoesOn syntax inside [] (values left)
+          → ((from : ℕ) → is_known_tag syntax inside (values left) ≡ true → s.at + length (bytes ++ byte ∷ []) ≤ first_of left from + limits.tag) → IsTold (bytes ++ byte ∷ []) (entering after_return left two last next) others
+      with_run after_return two last front left others a f read sp fine g short =
+          subst (λ n. IsTold (bytes ++ byte ∷ []) n others) (sym (next_is bytes byte cs part c h.are form after_return run left two last (brackets others) (brackets items) a f))
+          (told_of (bytes ++ byte ∷ []) chars [] front left others (record {
+            are = ap (λ x. x ++ byte ∷ []) h.are
+                ∙ (append_assoc (encodes cs) part (byte ∷ []) ∙ (ap (λ x. encodes cs ++ x) (sym form) ∙ (sym (encodes_more cs c) ∙ sym (append-nil (encodes chars)))));
+            scalars = scalars_more cs c h.scalars (form_of held_more c is).0;
+            within = within_more;
+            is_part = inl refl;
+            read = read;
+            no_nul = ap has_no_nul (entries_are bytes byte cs part c h.are form)
+                ∙ no_nul_more (entries_of cs) (new_entries bytes byte cs part c h.are form) h.no_nul (split (λ es. has_no_nul es ≡ true) does_pass _ _ (λ _. refl) (λ _. and_from (not (as_line_end c == 0)) true (some_entered c nonzero) refl));
+            spelled = sp;
+            fine = fine;
+            goes = g;
+            short = short;
+          }))
+
+      does_passed : does_pass ≡ true → Here (Ok (record { next = passed next; items = [] }))
+      does_passed p =
+          subst (λ xs. IsTold (bytes ++ byte ∷ []) (passed next) xs) (sym (append-nil items))
+          (with_run false next.two next.last front run items (sym (passing_is next.started next.after_return c ((c == carriage_return) ≡ false) p (no_mark c) (no_return c))) refl
+          (h.read ∙ sym (entries_are bytes byte cs part c h.are form ∙ (ap (λ x. entries_of cs ++ x) (cond-true _ _ _ p) ∙ append-nil (entries_of cs)))) h.spelled h.fine h.goes (room_from room))
 
       abbrev known_with : Bool
-      known_with = is_known_tag syntax inside (values (next.run ++ e ∷ []))
+      known_with = is_known_tag syntax inside (values (run ++ e ∷ []))
 
-      values_with : values (next.run ++ e ∷ []) ≡ values next.run ++ e.value ∷ []
-      values_with = values_append next.run (e ∷ [])
+      values_with : values (run ++ e ∷ []) ≡ values run ++ e.value ∷ []
+      values_with = values_append run (e ∷ [])
 
       -- it is entered
       module _ (enters : does_pass ≡ false) (space : known_with ≡ true → next.at < token_at next + limits.tag) where
@@ -339,97 +397,71 @@ module _ (syntax : Syntax) (limits : Limits) (spot : Spot) (o : occurs syntax sp
         fw : FitsWith syntax limits spot next c
         fw = λ k. space (subst (λ x. is_known_tag syntax inside x ≡ true) (sym values_with) k)
 
-        entry_is : entry_at c start (start + len_utf8 c - 1) ≡ e
-        entry_is = λ i. record { value = as_line_end c; first = sym starts_is i; last = sym last_is i }
+        read_more : front ++ (run ++ e ∷ []) ≡ entries_of chars
+        read_more =
+            sym (append_assoc front run (e ∷ [])) ∙ (ap (λ es. es ++ e ∷ []) h.read ∙ sym (entries_are bytes byte cs part c h.are form ∙ ap (λ x. entries_of cs ++ x) (cond-false _ _ _ enters)))
 
-        grown : entries_at s.started s.after_return s.at chars ≡ entries_at s.started s.after_return s.at t.characters ++ e ∷ []
-        grown = entries ∙ (ap (λ x. entries_at s.started s.after_return s.at t.characters ++ x) (cond-false _ _ _ enters) ∙ ap (λ x. entries_at s.started s.after_return s.at t.characters ++ x ∷ []) entry_is)
-
-        read_more : t.front ++ (next.run ++ e ∷ []) ≡ entries_at s.started s.after_return s.at chars
-        read_more = sym (append_assoc t.front next.run (e ∷ [])) ∙ (ap (λ es. es ++ e ∷ []) t.read ∙ sym grown)
-
-        none_more : has_no_nul (t.front ++ (next.run ++ e ∷ [])) ≡ true
-        none_more = subst (λ es. has_no_nul es ≡ true) (append_assoc t.front next.run (e ∷ [])) (no_nul_more (t.front ++ next.run) (e ∷ []) t.no_nul (and_from (not (as_line_end c == 0)) true (some_entered c nonzero) refl))
-
-        -- these tokens, and this run is left
-        with_entry : (two last : Bool) (front run : List Entry) (others : List Item) → front ++ run ≡ t.front ++ (next.run ++ e ∷ []) → Spelled syntax front (next_of (values run) None) others → AllInside inside others → GoesOn syntax inside [] (values run)
-            → IsBehind others two last → AllMayCome spot.leads others → AllFit limits.tag others → (is_known_tag syntax inside (values run) ≡ true → next.at + 1 ≤ first_of run (next.at + 1 - 0) + limits.tag)
-            → IsTold more (entering (c == carriage_return) run two last next) others
-        with_entry two last front run others same sp i g f come fit short =
-            with_run (c == carriage_return) two last front run others return_is (same ∙ read_more) (subst (λ es. has_no_nul es ≡ true) (sym same) none_more) sp i (pending_of run g) f come fit short
-
-        on_goes : verdict syntax inside (values next.run) e.value ≡ goes_on → Here (Ok (record { next = entering (c == carriage_return) (next.run ++ e ∷ []) next.two next.last next; items = [] }))
+        on_goes : verdict syntax inside (values run) e.value ≡ goes_on → Here (Ok (record { next = entering (c == carriage_return) (run ++ e ∷ []) next.two next.last next; items = [] }))
         on_goes v =
-            subst (λ xs. IsTold more (entering (c == carriage_return) (next.run ++ e ∷ []) next.two next.last next) xs) (sym (append-nil items))
-            (with_entry next.two next.last t.front (next.run ++ e ∷ []) items refl (subst (λ n. Spelled syntax t.front n items) (sym (values_next next.run e [] None)) (lifted e.value next.run t.spelled)) t.inside_is
-            (subst (λ x. GoesOn syntax inside [] x) (sym values_with) (goes_more syntax inside [] (values next.run) e.value goes v)) behind_now t.come t.fit
-            (λ k. let r = space k in let f = first_snoc next.run e (next.at + 1 - 0) in omega arith))
+            subst (λ xs. IsTold (bytes ++ byte ∷ []) (entering (c == carriage_return) (run ++ e ∷ []) next.two next.last next) xs) (sym (append-nil items))
+            (with_run (c == carriage_return) next.two next.last front (run ++ e ∷ []) items refl refl read_more (subst (λ n. Spelled syntax front n items) (sym (values_next run e [] None)) (lifted e.value run h.spelled)) h.fine
+            (subst (λ x. GoesOn syntax inside [] x) (sym values_with) (goes_more syntax inside [] (values run) e.value h.goes v))
+            (λ from k. let r = space k in let f = first_snoc run e from in let z = size_more bytes byte in omega arith))
 
         abbrev item : Token → Item
-        item token = item_of inside token (next.run ++ e ∷ [])
+        item token = item_of inside token (run ++ e ∷ [])
 
         token_is : (token : Token) → (item token).token ≡ token
-        token_is token = token_of_item inside token (next.run ++ e ∷ [])
+        token_is token = token_of_item inside token (run ++ e ∷ [])
 
         -- what is told at the entry fits
-        fits_now : (token : Token) → spelling.Spells syntax inside (values (next.run ++ e ∷ [])) None token → Fits limits.tag (item token) (item token).token
+        fits_now : (token : Token) → spelling.Spells syntax inside (values (run ++ e ∷ [])) None token → Fits limits.tag (item token) (item token).token
         fits_now token sp = subst (λ x. Fits limits.tag (item token) x) (sym (token_is token)) (by token refl)
           where
             by : (x : Token) → token ≡ x → Fits limits.tag (item token) x
-            by (tag u) h =
-                let k = space (spelled_known syntax inside (values (next.run ++ e ∷ [])) None token u o sp h) in
-                let f = item_first inside token next.run e in
-                let l = item_last inside token next.run e in
+            by (tag u) k =
+                let r = space (spelled_known syntax inside (values (run ++ e ∷ [])) None token u o sp k) in
+                let f = item_first inside token run e in
+                let l = item_last inside token run e in
                 omega arith
-            by _ h = tt
-
-        on_whole : (token : Token) (two last : Bool) → spelling.Spells syntax inside (values (next.run ++ e ∷ [])) None token → IsBehind (items ++ item token ∷ []) two last → MayCome spot.leads (item token).token
-            → Here (Ok (record { next = entering (c == carriage_return) [] two last next; items = item token ∷ [] }))
-        on_whole token two last sp f m =
-            with_entry two last (t.front ++ (next.run ++ e ∷ [])) [] (items ++ item token ∷ []) (append-nil (t.front ++ (next.run ++ e ∷ []))) (after_whole e t.front items next.run token (lifted e.value next.run t.spelled) sp)
-            (inside_more inside items (item token) t.inside_is (content_of token (next.run ++ e ∷ []))) tt f (come_snoc spot.leads items (item token) t.come m) (fit_snoc limits.tag items (item token) t.fit (fits_now token sp)) (λ k. absurd (cc))
+            by _ k = tt
 
         literal_is : (token : Token) → is_literal greater_than_sign (item token) ≡ is_strict_literal greater_than_sign inside token
-        literal_is token = λ i. is_strict_literal greater_than_sign (content_of token (next.run ++ e ∷ []) i) (token_is token i)
+        literal_is token = λ i. is_strict_literal greater_than_sign (content_of token (run ++ e ∷ []) i) (token_is token i)
 
-        does_whole : (token : Token) → verdict syntax inside (values next.run) e.value ≡ whole token → Here (completed syntax limits spot (c == carriage_return) (item token) next)
+        does_whole : (token : Token) → verdict syntax inside (values run) e.value ≡ whole token → Here (completed syntax limits spot (c == carriage_return) (item token) next)
         does_whole token v =
             split Here (next.two && is_literal greater_than_sign (item token)) _ _
             (λ p. let w = and_parts next.two (is_literal greater_than_sign (item token)) p in section_end c token ent fw sp (sym (literal_is token) ∙ w.1) w.0)
             (λ p. split Here (is_doctype (item token).token && not spot.leads) _ _
             (λ q. let w = and_parts (is_doctype (item token).token) (not spot.leads) q in
-            late_doctype c ent fw (subst (λ x. spelling.Spells syntax inside (values next.run ++ e.value ∷ []) None x) (doctype_is token (ap is_doctype (sym (token_is token)) ∙ w.0)) sp) (untrue spot.leads w.1))
-            (λ q. on_whole token (next.last && is_literal right_bracket (item token)) (is_literal right_bracket (item token)) (subst (λ x. spelling.Spells syntax inside x None token) (sym values_with) sp)
-            (behind_more items (item token) next.two next.last behind_now p) (comes_by spot.leads (item token).token q)))
+            late_doctype c ent fw (subst (λ x. spelling.Spells syntax inside (values run ++ e.value ∷ []) None x) (doctype_is token (ap is_doctype (sym (token_is token)) ∙ w.0)) sp) (untrue spot.leads w.1))
+            (λ q. with_run (c == carriage_return) (next.last && is_literal right_bracket (item token)) (is_literal right_bracket (item token)) (front ++ (run ++ e ∷ [])) [] (items ++ item token ∷ []) refl (sym (brackets_snoc items (item token) s.two s.last))
+            (append-nil (front ++ (run ++ e ∷ [])) ∙ read_more) (after_whole e front items run token (lifted e.value run h.spelled) spells)
+            (fine_more items (item token) h.fine (content_of token (run ++ e ∷ [])) (fits_now token spells, comes_by spot.leads (item token).token q) p) tt (λ from k. absurd (cc))))
           where
-            sp : spelling.Spells syntax inside (values next.run ++ e.value ∷ []) None token
-            sp = spells_read syntax inside o (values next.run ++ e.value ∷ []) None token (at_last (values next.run) e.value token goes v)
+            sp : spelling.Spells syntax inside (values run ++ e.value ∷ []) None token
+            sp = spells_read syntax inside o (values run ++ e.value ∷ []) None token (at_last (values run) e.value token h.goes v)
+
+            spells : spelling.Spells syntax inside (values (run ++ e ∷ [])) None token
+            spells = subst (λ x. spelling.Spells syntax inside x None token) (sym values_with) sp
 
         -- a token ended before the entry
-        module _ (token : Token) (v : verdict syntax inside (values next.run) e.value ≡ ended token) where
+        module _ (token : Token) (v : verdict syntax inside (values run) e.value ≡ ended token) where
           abbrev text_item : Item
-          text_item = item_of inside token next.run
+          text_item = item_of inside token run
 
-          sp_text : Spelled syntax (t.front ++ next.run) (Some e.value) (items ++ text_item ∷ [])
-          sp_text = after_ended e t.front items next.run token t.spelled goes v
-
-          in_text : AllInside inside (items ++ text_item ∷ [])
-          in_text = inside_more inside items text_item t.inside_is (content_of token next.run)
+          sp_text : Spelled syntax (front ++ run) (Some e.value) (items ++ text_item ∷ [])
+          sp_text = after_ended e front items run token h.spelled h.goes v
 
           kept_is : IsKept text_item.token
-          kept_is = subst IsKept (sym (token_of_item inside token next.run)) (ended_kept syntax inside (values next.run) e.value token v)
+          kept_is = subst IsKept (sym (token_of_item inside token run)) (ended_kept syntax inside (values run) e.value token v)
 
-          behind_text : IsBehind (items ++ text_item ∷ []) false false
-          behind_text =
-              let f = behind_more items text_item next.two next.last behind_now (and_right next.two _ (kept_literal greater_than_sign text_item kept_is)) in
-              let l = kept_literal right_bracket text_item kept_is in
-              record { two = sym (and_right next.last _ l) ∙ f.two; last = sym l ∙ f.last; sections = f.sections }
+          fine_text : Fine (items ++ text_item ∷ [])
+          fine_text = fine_more items text_item h.fine (content_of token run) (kept_plain limits.tag spot.leads text_item text_item.token kept_is) (and_right next.two _ (kept_literal greater_than_sign text_item kept_is))
 
-          text_comes : AllMayCome spot.leads (items ++ text_item ∷ [])
-          text_comes = come_snoc spot.leads items text_item t.come (kept_plain limits.tag spot.leads text_item text_item.token kept_is).1
-
-          text_fits : AllFit limits.tag (items ++ text_item ∷ [])
-          text_fits = fit_snoc limits.tag items text_item t.fit (kept_plain limits.tag spot.leads text_item text_item.token kept_is).0
+          flags_text : brackets (items ++ text_item ∷ []) ≡ (false, false)
+          flags_text = kept_flags items text_item s.two s.last kept_is
 
           abbrev Then : Verdict → Type 0
           Then w = Here (with_item syntax limits spot text_item (told_first syntax limits spot (c == carriage_return) e (after_token syntax limits spot next) w))
@@ -438,27 +470,30 @@ module _ (syntax : Syntax) (limits : Limits) (spot : Spot) (o : occurs syntax sp
           does_character : (x : ℕ) → verdict syntax inside [] e.value ≡ whole (character x) → Then (whole (character x))
           does_character x k =
               let it : Item = item_of inside (character x) (e ∷ []) in
-              subst (λ xs. IsTold more (entering (c == carriage_return) [] false (is_literal right_bracket it) next) xs) (append_assoc items (text_item ∷ []) (it ∷ []))
-              (with_entry false (is_literal right_bracket it) ((t.front ++ next.run) ++ e ∷ []) [] ((items ++ text_item ∷ []) ++ it ∷ []) (append-nil ((t.front ++ next.run) ++ e ∷ []) ∙ append_assoc t.front next.run (e ∷ []))
+              let bracket = is_literal right_bracket it in
+              subst (λ xs. IsTold (bytes ++ byte ∷ []) (entering (c == carriage_return) [] false bracket next) xs) (append_assoc items (text_item ∷ []) (it ∷ []))
+              (with_run (c == carriage_return) false bracket ((front ++ run) ++ e ∷ []) [] ((items ++ text_item ∷ []) ++ it ∷ []) refl
+              (sym (brackets_snoc (items ++ text_item ∷ []) it s.two s.last ∙ ap (λ (p : Bool × Bool). (p.1 && bracket, bracket)) flags_text))
+              (append-nil ((front ++ run) ++ e ∷ []) ∙ (append_assoc front run (e ∷ []) ∙ read_more))
               (spelled_snoc syntax e [] None it sp_text refl (spells_read syntax inside o (e.value ∷ []) None (character x) (at_last [] e.value (character x) tt k)) refl refl)
-              (inside_more inside (items ++ text_item ∷ []) it in_text refl) tt (behind_more (items ++ text_item ∷ []) it false false behind_text refl) (come_snoc spot.leads (items ++ text_item ∷ []) it text_comes tt)
-              (fit_snoc limits.tag (items ++ text_item ∷ []) it text_fits tt) (λ w. absurd (cc)))
+              (fine_more (items ++ text_item ∷ []) it fine_text refl (tt, tt) (ap (λ (p : Bool × Bool). p.0 && is_literal greater_than_sign it) flags_text)) tt (λ from w. absurd (cc)))
 
           -- what the entry says then
           does_then : (w : Verdict) → verdict syntax inside [] e.value ≡ w → Then w
-          does_then goes_on k = with_entry false false (t.front ++ next.run) (e ∷ []) (items ++ text_item ∷ []) (append_assoc t.front next.run (e ∷ [])) sp_text in_text (k, tt) behind_text text_comes text_fits (λ w. absurd (one_unknown syntax inside e.value w))
+          does_then goes_on k =
+              with_run (c == carriage_return) false false (front ++ run) (e ∷ []) (items ++ text_item ∷ []) refl (sym flags_text) (append_assoc front run (e ∷ []) ∙ read_more) sp_text fine_text (k, tt) (λ from w. absurd (one_unknown syntax inside e.value w))
           does_then (whole other) k =
               let x : (x : ℕ) × (other ≡ character x) = subst FirstSays k (first_says inside e.value) in
               subst (λ z. Then (whole z)) (sym x.1) (does_character x.0 (k ∙ ap whole x.1))
           does_then (ended other) k = absurd (never_ended inside e.value other k)
           does_then (refused found) k =
-              decided c [] ent fw (is_over token (spells_read syntax inside o (values next.run) (Some e.value) token (at_next (values next.run) e.value token goes v))) (no_token syntax inside [] e.value found k) (faulty_read syntax inside o [] e.value found tt k)
+              decided c [] ent fw (is_over token (spells_read syntax inside o (values run) (Some e.value) token (at_next (values run) e.value token h.goes v))) (no_token syntax inside [] e.value found k) (faulty_read syntax inside o [] e.value found tt k)
 
-        does_told : (v : Verdict) → verdict syntax inside (values next.run) e.value ≡ v → Here (told syntax limits spot (c == carriage_return) e next v)
+        does_told : (v : Verdict) → verdict syntax inside (values run) e.value ≡ v → Here (told syntax limits spot (c == carriage_return) e next v)
         does_told goes_on v = on_goes v
         does_told (whole token) v = does_whole token v
         does_told (ended token) v = does_then token v (verdict syntax inside [] e.value) refl
-        does_told (refused found) v = decided c (values next.run) ent fw spelled.goes_on (no_token syntax inside (values next.run) e.value found v) (faulty_read syntax inside o (values next.run) e.value found goes v)
+        does_told (refused found) v = decided c (values run) ent fw spelled.goes_on (no_token syntax inside (values run) e.value found v) (faulty_read syntax inside o (values run) e.value found h.goes v)
 
       does_entry : does_pass ≡ false → Here (read_entry syntax limits spot (c == carriage_return) e next)
       does_entry p =
@@ -466,7 +501,7 @@ module _ (syntax : Syntax) (limits : Limits) (spot : Spot) (o : occurs syntax sp
           (λ h. let w = and_parts known_with (nat_le (token_at next + limits.tag) next.at) h in
           let l : token_at next + limits.tag ≤ next.at = leb-true (token_at next + limits.tag) next.at w.1 in
           known_too_long c (record { page = page; is = is; no_nul = eqb-false c 0 nonzero; enters = p }) (false_from_ne_true known (λ k. let r = room k in omega arith)) (subst (λ x. is_known_tag syntax inside x ≡ true) values_with w.0) l)
-          (λ h. does_told p (room_of known_with (token_at next + limits.tag) next.at h) (verdict syntax inside (values next.run) e.value) refl)
+          (λ h. does_told p (room_of known_with (token_at next + limits.tag) next.at h) (verdict syntax inside (values run) e.value) refl)
 
       does_char : Here (read_char syntax limits spot c next)
       does_char = split Here does_pass _ _ does_passed does_entry
@@ -488,8 +523,11 @@ module _ (syntax : Syntax) (limits : Limits) (spot : Spot) (o : occurs syntax sp
 
   does_byte : (bytes : List ℕ) (next : Scanning) (items : List Item) → IsTold bytes next items → (byte : ℕ) → Does bytes next items byte (read_byte syntax limits spot byte next)
   does_byte bytes next items t byte =
-      split (Does bytes next items byte) (nat_le limits.page next.at) _ _ (λ k. page_too_long (leb-true limits.page next.at k))
-      (λ k. does_answer bytes next items t byte (leb-false limits.page next.at k) (answer_of (next.held ++ byte ∷ [])) (answers_from (next.held ++ byte ∷ []) (answer_of (next.held ++ byte ∷ [])) refl))
+      let r : Scanned = record { next = next; items = items } in
+      let n = state bytes t.characters t.part next.run (brackets items) in
+      subst (λ m. Does bytes m items byte (read_byte syntax limits spot byte m)) (sym (state_is bytes r t))
+      (split (Does bytes n items byte) (nat_le limits.page n.at) _ _ (λ k. page_too_long (leb-true limits.page n.at k))
+      (λ k. does_answer bytes t.characters t.part t.front next.run items (has_of bytes r t) byte (leb-false limits.page n.at k) (answer_of (t.part ++ byte ∷ [])) (answers_from (t.part ++ byte ∷ []) (answer_of (t.part ++ byte ∷ [])) refl)))
 
   -- and then the others
   abbrev Told : List ℕ → Result Scanned Fault → Type 0
@@ -509,36 +547,27 @@ module _ (syntax : Syntax) (limits : Limits) (spot : Spot) (o : occurs syntax sp
 
   at_start : IsBetween s → IsTold [] s []
   at_start b =
-      record {
-        characters = [];
-        part = [];
+      subst (λ n. IsTold [] n []) (λ i. record { at = same i; held = sym b.held i; started = or-false s.started i; after_return = s.after_return; run = sym b.run i; two = s.two; last = s.last })
+      (told_of [] [] [] [] [] [] (record {
         are = refl;
         scalars = refl;
         within = tt;
-        front = [];
-        read = b.run ∙ sym (none_entered s.started s.after_return s.at);
-        no_nul = ap has_no_nul b.run;
-        spelled = no_more;
-        inside_is = tt;
-        come = tt;
-        fit = tt;
-        sections = refl;
-        pending = inl (ap values b.run);
-        short = λ k. absurd (let w : false ≡ true = sym (ap (λ r. is_known_tag syntax inside (values r)) b.run) ∙ k in cc);
         is_part = inl refl;
-        at_is = omega arith;
-        part_is = b.held;
-        started_is = sym (or-false s.started);
-        return_is = refl;
-        two_is = refl;
-        last_is = refl;
-      }
-
-  all_told : (bytes : List ℕ) (r : Result Scanned Fault) → IsBetween s → scan_from syntax limits spot s bytes ≡ r → Told bytes r
-  all_told bytes r b h = subst (λ x. Told bytes x) h (on_bytes bytes [] (record { next = s; items = [] }) (at_start b))
+        read = sym (none_entered s.started s.after_return s.at);
+        no_nul = ap has_no_nul (none_entered s.started s.after_return s.at);
+        spelled = no_more;
+        fine = record { inside_is = tt; come = tt; fit = tt; sections = refl };
+        goes = tt;
+        short = λ from k. absurd (cc);
+      }))
+    where
+      same : s.at + 0 ≡ s.at
+      same = omega arith
 
 pub all_so : (syntax : Syntax) (limits : Limits) (spot : Spot) (s : Scanning) (bytes : List ℕ) (r : Result Scanned Fault) (i : is_of_syntax syntax spot.inside ≡ true) → IsBetween s → scan_from syntax limits spot s bytes ≡ r → Told syntax limits spot (sym (same_content syntax spot.inside) ∙ i) s bytes r
-all_so syntax limits spot s bytes r i b h = all_told syntax limits spot (sym (same_content syntax spot.inside) ∙ i) s bytes r b h
+all_so syntax limits spot s bytes r i b h =
+    let o = sym (same_content syntax spot.inside) ∙ i in
+    subst (λ x. Told syntax limits spot o s bytes x) h (on_bytes syntax limits spot o s bytes [] (record { next = s; items = [] }) (at_start syntax limits spot o s b))
 
 pub steps_spell : StepsSpell
 steps_spell v new first s before piece result i b h st = by result st

@@ -76,16 +76,14 @@ module _ (v : Reading) (p : Pending) (bytes : List ℕ) (limit n : ℕ) (o : v.p
         is = ap (λ (x : TagSoFar). entries.with_parts v v.setting (fed (length (take t.at bytes)) v.place) (record { mark = mark.Tag; run = v.pending.run; tag = x }) v.text) t.front.is;
       }
 
-  abbrev fed_by : ℕ → Pending → Reading
-  fed_by i q = record { setting = v.setting; place = fed i v.place; held = v.held; pending = q; text = v.text; end = v.end }
+  abbrev fed_by : Position → Pending → Reading
+  fed_by place q = record { setting = v.setting; place = place; held = v.held; pending = q; text = v.text; end = v.end }
 
-  count_is : n - 1 ≡ length (take t.at bytes)
-  count_is = omega (arith, t.count, long)
-
-  taken : ReadsOpened v bytes n (entries.with_tag (fed_by (n - 1) p) false)
-  taken =
+  pub taken : (new : Reading) (place : Position) → place ≡ fed (n - 1) v.place → new ≡ entries.with_tag (fed_by place p) false → ReadsOpened v bytes n new
+  taken new place e q =
       let b = bounds in
       let c = t.closes in
+      let count : n - 1 ≡ length (take t.at bytes) = omega (arith, t.count, long) in
       record {
         at = t.at;
         count = t.count;
@@ -94,12 +92,12 @@ module _ (v : Reading) (p : Pending) (bytes : List ℕ) (limit n : ℕ) (o : v.p
         front = record { opened = o; begins = opens_taken v.setting bytes t.at (λ z. let s = t.some in omega (arith, s, z)) (opens v.setting); feeds = feeds };
         page = omega (arith, b.0, less, long);
         tag = omega (arith, b.1, less, long);
-        ends = (p.tag, t.ends, ap (λ (x : ℕ). entries.with_tag (fed_by x p) false) count_is ∙ ap (λ (q : Pending). entries.with_tag (fed_by (length (take t.at bytes)) q) false) k);
+        ends = (
+          p.tag,
+          t.ends,
+          q ∙ (ap (λ (x : Position). entries.with_tag (fed_by x p) false) (e ∙ ap (λ i. fed i v.place) count) ∙ ap (λ (y : Pending). entries.with_tag (fed_by (fed (length (take t.at bytes)) v.place) y) false) k),
+        );
       }
-
-  pub taken_as : (new : Reading) (place : Position) → place ≡ fed (n - 1) v.place → new ≡ entries.with_tag (record { setting = v.setting; place = place; held = v.held; pending = p; text = v.text; end = v.end }) false → ReadsOpened v bytes n new
-  taken_as new place e q =
-      subst (λ (x : Reading). ReadsOpened v bytes n x) (sym (q ∙ ap (λ (x : Position). entries.with_tag (record { setting = v.setting; place = x; held = v.held; pending = p; text = v.text; end = v.end }) false) e)) taken
 
 -- the tag is whole
 pub is_whole : (old tag : TagSoFar) (c : ℕ) → StepGives old c (Ok Done) tag → is_last tag.state.phase ≡ true
@@ -168,12 +166,9 @@ module _ (l : Reading) (m : l.pending.mark ≡ mark.Nothing) (held : l.held ≡ 
       held = held;
       page = page;
       markup = markup;
-      opened = taken_as begun p (drop 1 bytes) (limit - 1) count refl refl (λ setting. opens_more setting (limit - 1) (drop 1 bytes) (opens setting)) (omega (arith, f, some, length-drop 1 bytes)) (λ _. omega (arith, page_is, some)) (λ _. omega (arith, tag_is, starts, some)) t l.pending.mark k new place b e;
+      opened = taken begun p (drop 1 bytes) (limit - 1) count refl refl (λ setting. opens_more setting (limit - 1) (drop 1 bytes) (opens setting)) (omega (arith, f, some, length-drop 1 bytes)) (λ _. omega (arith, page_is, some)) (λ _. omega (arith, tag_is, starts, some)) t l.pending.mark k new place b e;
     };
   }
-
-get_behind : (bytes : List ℕ) (i n : ℕ) → get_or (drop i bytes) n 0 ≡ get_or bytes (i + n) 0
-get_behind bytes i n = grind (arith, common_steps)
 
 -- behind so many bytes of a piece, of which the last one is its `<`, it is the next token
 opened_took : (old l new : Reading) (s : reader.Scanning) (piece : List ℕ) (i n : ℕ) → i ≤ length piece → ReadsOn old s (take i piece) l → l.text.text ≡ [] → ReadsOpened l (drop i piece) n new → Took old s piece (i + n) what.Tag new
@@ -184,7 +179,8 @@ opened_took old l new s piece i n k r e t =
     let some : t.at ≡ 0 → ⊥ = λ z. none z t.front.begins in
     let front = front_read old t.before s l piece i t.at (let q = c.fits in omega (arith, q)) r (some_taken t.at _ _ some (of_opening t.front)) in
     let text : t.before.text.text ≡ [] = ap (λ (x : Reading). x.text.text) f.is ∙ e in
-    let byte : get_or piece (i + t.at) 0 ≡ 62 = sym (get_behind piece i t.at) ∙ c.closes in
+    let there : get_or (drop i piece) t.at 0 ≡ get_or piece (i + t.at) 0 = grind (arith, common_steps) in
+    let byte : get_or piece (i + t.at) 0 ≡ 62 = sym there ∙ c.closes in
     let mark_is : t.before.pending.mark ≡ mark.Tag = ap (λ (x : Reading). x.pending.mark) f.is in
     let held_is : t.before.held ≡ [] = ap (λ (x : Reading). x.held) f.is in
     let reads = subst (λ (x : ℕ). entries.Reads t.before x (Ok what.Tag) new) (sym byte) (ends_read t.before new mark_is held_is t.page t.tag t.ends) in
