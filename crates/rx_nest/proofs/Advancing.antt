@@ -14,6 +14,7 @@ use Rattle.rx_grammar.specs.declared.stops.Stop.TheVariants as stop
 use Rattle.rx_nest.proofs.TextSteps.{sees_append}
 use Rattle.rx_nest.proofs.Sizes.{faults_so, still_so}
 use Rattle.rx_nest.proofs.OpenElements.{open_before}
+use Rattle.rx_nest.proofs.Endings.{completes_as}
 
 -- before the first byte
 pub new_at : (syntax : Syntax) (limits : Limits) (v : Scanner) (line : Lines) → v.reading.setting ≡ scan.first_setting syntax limits → scan.ScanStands v no_bytes → line ≡ record { syntax = syntax; depth = limits.depth; begun = false; levels = [] }
@@ -47,11 +48,12 @@ pub record Turn (signs : List Sign) (d : EventKind) (owed : PendingEvents) (v : 
   pub signs_are : signs ≡ did_signs d v ++ owed_signs owed (last_tag v)
   pub begin_left : owes_begin owed.own ≡ true → LendsStart v
   pub quiet : did_more d ≡ false
+  pub passed : did_skipped d ≡ true → left owed ≡ 0
   pub is_read : (s : Scanning) (bytes : List ℕ) (items : List Item) → IsATag items → DidOf d v s bytes items
 
 own_turn : (o : TagAction) (v : Scanner) → Turn (own_signs o (last_tag v)) (first_own o).0 (first_own o).1 v
-own_turn own.Nothing v = record { signs_are = refl; begin_left = λ h. absurd (cc); quiet = refl; is_read = λ s bytes items t. a_tag t }
-own_turn _ v = record { signs_are = refl; begin_left = λ h. absurd (cc); quiet = refl; is_read = λ s bytes items t. read_now t }
+own_turn own.Nothing v = record { signs_are = refl; begin_left = λ h. absurd (cc); quiet = refl; passed = λ h. refl; is_read = λ s bytes items t. a_tag t }
+own_turn _ v = record { signs_are = refl; begin_left = λ h. absurd (cc); quiet = refl; passed = λ h. absurd (cc); is_read = λ s bytes items t. read_now t }
 
 -- an own that begins no element lends nothing
 own_lends : (o : TagAction) (v : Scanner) → (owes_begin (Some o) ≡ true → LendsStart v) → DidLends (first_own o).0 v
@@ -97,24 +99,6 @@ none_due owed t h = by owed.ends owed.own h
     by zero (Some own.Nothing) h = refl
     by zero _ h = absurd (cc)
 
--- Behind what is skipped nothing is due.
-pub record Passed (h : TreeToken) : Type 0 where
-  pub some : hears_more h ≡ false
-  pub none : left (first_of h).1 ≡ 0
-
-pub passed_turn : (h : TreeToken) → did_skipped (first_of h).0 ≡ true → Passed h
-passed_turn tree_token.Skipped s = record { some = refl; none = refl }
-passed_turn (tree_token.Tag told) s = by told.ends told.own s
-  where
-    own_passed : (o : TagAction) → did_skipped (first_own o).0 ≡ true → left (first_own o).1 ≡ 0
-    own_passed own.Nothing s = refl
-    own_passed _ s = absurd (cc)
-
-    by : (k : ℕ) (o : TagAction) → did_skipped (first_of (tree_token.Tag (record { ends = k; own = o; drops = told.drops }))).0 ≡ true → Passed (tree_token.Tag (record { ends = k; own = o; drops = told.drops }))
-    by zero o s = record { some = refl; none = own_passed o s }
-    by (suc k) o s = absurd (let w : false ≡ true = ap (λ (x : EventKind × PendingEvents). did_skipped x.0) (sym (one_first k o told.drops)) ∙ s in cc)
-passed_turn _ s = absurd (cc)
-
 -- what was heard
 pub record First (h : TreeToken) (v : Scanner) : Type 0 where
   pub signs_are : heard_signs h v ≡ did_signs (first_of h).0 v ++ owed_signs (first_of h).1 (last_tag v)
@@ -122,16 +106,18 @@ pub record First (h : TreeToken) (v : Scanner) : Type 0 where
   pub begin_left : owes_begin (first_of h).1.own ≡ true → LendsStart v
   pub more : did_more (first_of h).0 ≡ hears_more h
   pub skipped : hears_skipped h ≡ true → did_skipped (first_of h).0 ≡ true
+  -- behind what is skipped nothing is due
+  pub passed : did_skipped (first_of h).0 ≡ true → (hears_more h ≡ false) × (left (first_of h).1 ≡ 0)
   pub is_read : (s : Scanning) (bytes : List ℕ) (items : List Item) → TokenOf h v s bytes items → DidOf (first_of h).0 v s bytes items
 
 pub first_turn : (h : TreeToken) (v : Scanner) → Lends h v → First h v
-first_turn tree_token.More v l = record { signs_are = refl; lends = tt; begin_left = λ b. absurd (cc); more = refl; skipped = λ b. b; is_read = λ s bytes items h. h }
-first_turn tree_token.Skipped v l = record { signs_are = refl; lends = tt; begin_left = λ b. absurd (cc); more = refl; skipped = λ b. b; is_read = λ s bytes items h. h }
-first_turn tree_token.Text v l = record { signs_are = sym (append-nil (did_signs did.Text v)); lends = l; begin_left = λ b. absurd (cc); more = refl; skipped = λ b. b; is_read = λ s bytes items h. h }
+first_turn tree_token.More v l = record { signs_are = refl; lends = tt; begin_left = λ b. absurd (cc); more = refl; skipped = λ b. b; passed = λ b. absurd (cc); is_read = λ s bytes items h. h }
+first_turn tree_token.Skipped v l = record { signs_are = refl; lends = tt; begin_left = λ b. absurd (cc); more = refl; skipped = λ b. b; passed = λ b. (refl, refl); is_read = λ s bytes items h. h }
+first_turn tree_token.Text v l = record { signs_are = sym (append-nil (did_signs did.Text v)); lends = l; begin_left = λ b. absurd (cc); more = refl; skipped = λ b. b; passed = λ b. absurd (cc); is_read = λ s bytes items h. h }
 first_turn (tree_token.Tag told) v l = by told.ends told.own l
   where
     by : (k : ℕ) (o : TagAction) → (begins_own o ≡ true → LendsStart v) → First (tree_token.Tag (record { ends = k; own = o; drops = told.drops })) v
-    by zero o l = let t = own_turn o v in record { signs_are = t.signs_are; lends = own_lends o v l; begin_left = t.begin_left; more = t.quiet; skipped = λ b. absurd (cc); is_read = t.is_read }
+    by zero o l = let t = own_turn o v in record { signs_are = t.signs_are; lends = own_lends o v l; begin_left = t.begin_left; more = t.quiet; skipped = λ b. absurd (cc); passed = λ b. (refl, t.passed b); is_read = t.is_read }
     by (suc k) o l =
         let first = one_first k o told.drops in
         record {
@@ -140,6 +126,7 @@ first_turn (tree_token.Tag told) v l = by told.ends told.own l
           begin_left = λ b. l (ap (λ (x : EventKind × PendingEvents). owes_begin x.1.own) (sym first) ∙ b);
           more = ap (λ (x : EventKind × PendingEvents). did_more x.0) first;
           skipped = λ b. absurd (cc);
+          passed = λ b. absurd (let w : false ≡ true = ap (λ (x : EventKind × PendingEvents). did_skipped x.0) (sym first) ∙ b in cc);
           is_read = λ s bytes items t. subst (λ (x : EventKind × PendingEvents). DidOf x.0 v s bytes items) (sym first) (read_now t);
         }
 
@@ -196,16 +183,8 @@ module _ (syntax : Syntax) (limits : Limits) (old : Nested) (bytes : List ℕ) (
         };
         lends = f.lends;
         all = λ m. heeds.all (sym f.more ∙ m);
-        passed = λ m. let p = passed_turn h m in (takes.some p.some, ap left owed ∙ p.none);
-        tokens = record {
-          before = heeds.tokens.before;
-          read = heeds.tokens.read;
-          next = heeds.tokens.next;
-          items = heeds.tokens.items;
-          completed = heeds.tokens.completed;
-          are = f.is_read heeds.tokens.before.now.scan (take n piece) heeds.tokens.items heeds.tokens.are;
-          mark = λ rest m. let q = heeds.tokens.mark rest m in (f.skipped q.0, q.1);
-        };
+        passed = λ m. let p = f.passed m in (takes.some p.0, ap left owed ∙ p.1);
+        tokens = completes_as heeds.tokens f.skipped (λ s items h. f.is_read s (take n piece) items h);
       }
 
   -- before a fault no more is shown

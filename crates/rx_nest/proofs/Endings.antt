@@ -1,12 +1,12 @@
 -- The end of a page.
-use Rattle.rx_nest.proofs.Common.{◌≡◌, ◌≢◌, ◌∙◌, ℕ, Bool, true, false, List, [], ◌∷◌, ◌++◌, refl, sym, ap, subst, length, Some, None, Result, Ok, Err, ◌&&◌, if◌then◌else◌, map, take, chars, Chars, Syntax, Item, FaultAt, Fault, Unended, Limits, Event, Progress, page_read, end_of, may_end, is_over, fault_in, Scanning, found_fault, read_size, Scanner, Lines, is_none_open, Levels, Sign, said, sees, nothing_seen, phase_at}
+use Rattle.rx_nest.proofs.Common.{◌≡◌, ◌≢◌, ◌∙◌, ℕ, Bool, true, false, List, [], ◌∷◌, ◌++◌, refl, sym, ap, subst, length, Some, None, Ok, Err, ◌&&◌, if◌then◌else◌, map, take, chars, Chars, Syntax, Item, FaultAt, Fault, Unended, Limits, Event, Progress, end_of, may_end, is_over, fault_in, Scanning, found_fault, read_size, Scanner, Lines, is_none_open, Levels, Sign, said, sees, nothing_seen, phase_at, ⊎_elim, Completes}
 use Rattle.rx_scan.specs.Steps as scan
 use Rattle.rx_nest.specs.declared.tree_tokens.EventKind.{EventKind}
 use Rattle.rx_nest.specs.declared.tree_tokens.EventKind.TheVariants as did
 use Rattle.rx_nest.specs.declared.nests.Event as shown
 use Rattle.rx_nest.specs.declared.nests.Event.TheVariants as event
 use Rattle.rx_nest.specs.Nests.{did_skipped, is_skipped, DidOf, TellsOf, Nested, At, NestStands, Done, DidLends, did_signs, did_more, event_signs, is_more, Speaks, Shown, Stepped, EndsWith, Ended, last_tag, last_text, owed_signs}
-use Rattle.rx_nest.proofs.TreeSeen.{whole}
+use Rattle.rx_nest.proofs.TreeSeen.{EndOf, end_cases, whole}
 
 module _ (syntax : Syntax) (limits : Limits) (bytes : List ℕ) (told : List Event) (v : Scanner) (line : Lines) (at : At syntax limits bytes told v line) where
   abbrev over_now : Bool
@@ -19,14 +19,10 @@ module _ (syntax : Syntax) (limits : Limits) (bytes : List ℕ) (told : List Eve
       by true (level ∷ levels) = refl
       by _ _ = refl
 
-  end_is : (b : Bool) → may_end at.now ≡ b → end_of (page_read syntax limits bytes) ≡ (if b then Ok (record { now = at.now; told = told }) else Err (fault_in at.now.scan Unended))
-  end_is b e = ap end_of at.read ∙ ap (λ x. if x then Ok (record { now = at.now; told = told }) else Err (fault_in at.now.scan Unended)) e
-
-  whole_end : scan.IsWhole at.now.scan → may_end at.now ≡ over_now
-  whole_end w = rw (w.run, w.held) phase_over
-
   pub over_ends : scan.IsWhole at.now.scan → over_now ≡ true → EndsWith syntax limits bytes told None
-  over_ends w h = (record { now = at.now; told = told }, end_is true (whole_end w ∙ h), refl)
+  over_ends w h =
+      let ended : may_end at.now ≡ over_now = rw (w.run, w.held) phase_over in
+      (record { now = at.now; told = told }, ap end_of at.read ∙ ap (λ x. if x then Ok (record { now = at.now; told = told }) else Err (fault_in at.now.scan Unended)) (ended ∙ h), refl)
 
 -- what was told at a page's end is its tree
 module _ (syntax : Syntax) (limits : Limits) (old : Nested) (bytes : List ℕ) (signs : List Sign) (st : NestStands syntax limits old bytes signs) where
@@ -34,17 +30,20 @@ module _ (syntax : Syntax) (limits : Limits) (old : Nested) (bytes : List ℕ) (
   fault_ends fault h = (found_fault syntax limits bytes fault h, ap (λ (x : Fault). x.kind) same, ap (λ (x : Fault). x.at) same ∙ (read_size syntax limits bytes (record { now = st.at.now; told = st.told }) st.at.read).0)
     where
       same : fault ≡ fault_in st.at.now.scan Unended
-      same = by (may_end st.at.now) (sym (ap end_of st.at.read) ∙ h)
-        where
-          by : (b : Bool) → ◌≡◌ {A = Result Progress Fault} (if b then Ok (record { now = st.at.now; told = st.told }) else Err (fault_in st.at.now.scan Unended)) (Err fault) → fault ≡ fault_in st.at.now.scan Unended
-          by true e = absurd (cc)
-          by false e = cc
+      same =
+          let here : Progress = record { now = st.at.now; told = st.told } in
+          ⊎_elim (λ k. absurd (cc)) (λ w. let is : here ≡ w.0 = cc in sym w.2 ∙ ap (λ (x : Progress). fault_in x.now.scan Unended) (sym is)) (subst (EndOf (Ok here)) (sym (ap end_of st.at.read) ∙ h) (end_cases (Ok here)))
 
   pub page_ends : EndsWith syntax limits bytes st.told None → Ended syntax limits bytes signs (owed_signs old.owed (last_tag old.scan))
   page_ends h =
       let w = whole syntax limits bytes h.0 h.1 in
       let same = sym st.sight ∙ (ap (λ x. sees nothing_seen x) (sym h.2) ∙ w.shows) in
       record { tree = w.tree; page = w.page; shown = ap (λ x. x.signs) same }
+
+-- the same tokens, told otherwise
+pub completes_as : {syntax : Syntax} {limits : Limits} {bytes more : List ℕ} {skipped other : Bool} {tells others : Scanning → List ℕ → List Item → Type 0} → Completes syntax limits bytes more skipped tells → (skipped ≡ true → other ≡ true)
+    → ((s : Scanning) (items : List Item) → tells s more items → others s more items) → Completes syntax limits bytes more other others
+completes_as c k f = record { before = c.before; read = c.read; next = c.next; items = c.items; completed = c.completed; are = f c.before.now.scan c.items c.are; mark = λ rest m. let q = c.mark rest m in (k q.0, q.1) }
 
 -- an event shows what was done
 not_said : (text : Chars) → map said text ≢ [] → text ≢ []
@@ -89,15 +88,7 @@ stepped syntax limits bytes signs piece n d e new done s =
       speaks = t.speaks;
       all = λ m. done.all (sym t.more ∙ m);
       passed = λ m. done.passed (sym t.skipped ∙ m);
-      tokens = record {
-        before = done.tokens.before;
-        read = done.tokens.read;
-        next = done.tokens.next;
-        items = done.tokens.items;
-        completed = done.tokens.completed;
-        are = t.tells done.tokens.before.now.scan (take n piece) done.tokens.items done.tokens.are;
-        mark = λ rest m. let q = done.tokens.mark rest m in (t.skipped ∙ q.0, q.1);
-      };
+      tokens = completes_as done.tokens (λ h. t.skipped ∙ h) (λ s items h. t.tells s (take n piece) items h);
     }
 
 -- an event is nothing exactly where nothing was done

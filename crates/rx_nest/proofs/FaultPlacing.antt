@@ -1,9 +1,9 @@
 -- Where a page's fault lies.
-use Rattle.rx_nest.proofs.Common.{◌≡◌, ◌∙◌, ℕ, ◌+◌, ◌<◌, List, ◌++◌, length, refl, sym, ap, Option, Some, None, Result, Ok, Err, arith, Bool, true, false, take, drop, if◌then◌else◌, Syntax, Page, FaultAt, Tree, Fault, Unended, Limits, Progress, page_read, page_on, nothing_read, no_page, spot_of, end_of, may_end, fault_in, fault_stays, page_is_read, page_append, one_tree, take-append-drop, length-take-le, take-append-le, Sign, Sight, sees, nothing_seen, signs_of, Lie, Way, IsRefusal, ReaderRefuses, BeginsNone, BeginsRefused}
+use Rattle.rx_nest.proofs.Common.{◌≡◌, ◌∙◌, ℕ, ◌+◌, ◌<◌, List, ◌++◌, length, refl, sym, ap, Some, Result, Ok, Err, arith, take, drop, Syntax, Page, FaultAt, Tree, Fault, Limits, Progress, page_read, page_on, nothing_read, no_page, spot_of, fault_stays, page_is_read, page_append, one_tree, take-append-drop, length-take-le, take-append-le, Sign, Sight, sees, nothing_seen, signs_of, Way, IsRefusal, ReaderRefuses, BeginsNone, BeginsRefused, ⊎_elim}
 use Rattle.rx_nest.proofs.Sizes.{within_so}
 use Rattle.rx_nest.proofs.TagPlaces.{shows_more}
-use Rattle.rx_nest.proofs.TreeSeen.{whole}
-use Rattle.rx_nest.proofs.Refusing.{at_from}
+use Rattle.rx_nest.proofs.TreeSeen.{end_so, whole}
+use Rattle.rx_nest.proofs.Refusing.{refused_where}
 use Rattle.rx_nest.proofs.Firsts.{fault_read, meaning_within}
 
 -- the front of bytes that are read is read
@@ -32,19 +32,7 @@ module _ (syntax : Syntax) (limits : Limits) where
       let r = page_is_read syntax limits bytes tree page in
       let w = whole syntax limits bytes r.final r.is_read in
       let same : w.tree ≡ tree = one_tree syntax limits bytes w.tree tree w.page page in
-      record {
-        final = r.final;
-        read = by (page_read syntax limits bytes) r.final r.is_read;
-        signs_are = ap (λ (x : Sight). x.signs) w.shows ∙ ap signs_of same;
-      }
-    where
-      ends : (p final : Progress) (b : Bool) → ◌≡◌ {A = Result Progress Fault} (if b then Ok p else Err (fault_in p.now.scan Unended)) (Ok final) → ◌≡◌ {A = Result Progress Fault} (Ok p) (Ok final)
-      ends p final true e = e
-      ends p final false e = absurd (cc)
-
-      by : (x : Result Progress Fault) (final : Progress) → end_of x ≡ Ok final → x ≡ Ok final
-      by (Ok p) final e = ends p final (may_end p.now) e
-      by (Err fault) final e = absurd (cc)
+      record { final = r.final; read = (end_so syntax limits bytes (Ok r.final) r.is_read).0; signs_are = ap (λ (x : Sight). x.signs) w.shows ∙ ap signs_of same }
 
   -- no page begins with the bytes through its place
   pub begins_none : (bytes : List ℕ) (fault : Fault) → FaultAt syntax limits bytes fault → fault.at < length bytes → BeginsNone syntax limits (take (fault.at + 1) bytes)
@@ -53,8 +41,7 @@ module _ (syntax : Syntax) (limits : Limits) where
       let front = read_front (take n bytes) rest (page_shows (take n bytes ++ rest) tree page).final (page_shows (take n bytes ++ rest) tree page).read in
       let fails : page_read syntax limits (take n bytes ++ drop n bytes) ≡ Err fault = ap (λ b. page_read syntax limits b) (take-append-drop n bytes) ∙ fault_read syntax limits bytes fault f l in
       let from = (within_so syntax limits (take n bytes) (drop n bytes) front.now fault front.is fails).from in
-      let size = length-take-le n bytes (omega (arith, l)) in
-      omega (arith, from, size)
+      omega (arith, from, length-take-le n bytes (omega (arith, l)))
 
 -- a start tag that is refused
 
@@ -71,14 +58,7 @@ module _ (way : Way) (law : IsRefusal way.refused) where
   shown_by : (front rest : List ℕ) (p q : Progress) (fault : Fault) → page_read way.syntax way.limits front ≡ Ok p → page_read way.syntax way.limits (front ++ rest) ≡ Ok q
       → way.refused (shown q) ≡ Some fault → fault.at < length front → way.refused (shown p) ≡ Some fault
   shown_by front rest p q fault r s e l =
-      let more = shows_more way.syntax way.limits front rest p q r s in
-      by more.signs more.lie (way.refused (shown p)) refl (ap way.refused (sym more.are) ∙ e)
-    where
-      by : (signs : List Sign) → Lie (length front) (length (front ++ rest)) signs → (x : Option Fault) → way.refused (shown p) ≡ x → way.refused (shown p ++ signs) ≡ Some fault → way.refused (shown p) ≡ Some fault
-      by signs lie (Some other) k w = k ∙ (sym (law.stays (shown p) signs other k) ∙ w)
-      by signs lie None k w =
-          let far = at_from (length front) (length (front ++ rest)) signs fault lie (law.lies (shown p) signs fault k w) in
-          absurd (omega (arith, far, l))
+      ⊎_elim (λ h. h) (λ w. absurd (omega (arith, w.1, l))) (refused_where way.refused law (shows_more way.syntax way.limits front rest p q r s) fault e)
 
   pub through : (bytes : List ℕ) (fault : Fault) (m : ReaderRefuses way bytes fault) → Shown way (take (fault.at + 1) bytes) fault
   through bytes fault m =

@@ -14,7 +14,8 @@ module _ (way : Way) (law : IsRefusal way.refused) where
   lies_behind : (bytes piece : List ℕ) (p : Progress) (fault : Fault) → page_read way.syntax way.limits bytes ≡ Ok p → way.refused (shown p) ≡ None
       → Refuses way (bytes ++ piece) fault → length bytes ≤ fault.at
   lies_behind bytes piece p fault r a (for_form f none) = page_behind way.syntax way.limits bytes piece p fault r f
-  lies_behind bytes piece p fault r a (for_meaning m first) = by_within (through way law (bytes ++ piece) fault (read_as_meant way law (bytes ++ piece) fault m))
+  lies_behind bytes piece p fault r a (for_meaning m first) =
+      by_test (nat_le (length bytes) fault.at) (λ t. grind (arith, nat_tests)) (λ t. absurd (early (grind (arith, nat_tests)) (through way law (bytes ++ piece) fault (read_as_meant way law (bytes ++ piece) fault m))))
     where
       -- what is shown of the bytes through a place before their end
       early : fault.at + 1 ≤ length bytes → Shown way (take (fault.at + 1) (bytes ++ piece)) fault → ⊥
@@ -25,9 +26,6 @@ module _ (way : Way) (law : IsRefusal way.refused) where
           let all : page_read way.syntax way.limits (take n bytes ++ drop n bytes) ≡ Ok p = ap (λ b. page_read way.syntax way.limits b) (take-append-drop n bytes) ∙ r in
           let more = shows_more way.syntax way.limits (take n bytes) (drop n bytes) s.now p read all in
           some_none (way.refused (shown p)) fault a (ap way.refused more.are ∙ law.stays (shown s.now) more.signs fault s.refused)
-
-      by_within : Shown way (take (fault.at + 1) (bytes ++ piece)) fault → length bytes ≤ fault.at
-      by_within s = by_test (nat_le (length bytes) fault.at) (λ t. grind (arith, nat_tests)) (λ t. absurd (early (grind (arith, nat_tests)) s))
 
 -- where a fault lies that a piece brings
 pub placed : {L : Type 0} (way : Way) (knows : L → List Sign → Type 0) (law : IsRefusal way.refused) (bytes piece : List ℕ) (nest : Nested) (listener : L) (fault : Fault)

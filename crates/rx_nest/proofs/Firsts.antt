@@ -1,10 +1,11 @@
 -- Which fault comes first.
-use Rattle.rx_nest.proofs.Common.{append_cancel_left, if◌then◌else◌, Syntax, FaultAt, Fault, Unended, Limits, Progress, page_read, page_on, nothing_read, spot_of, end_of, may_end, fault_in, fault_stays, fault_is_read, page_append, read_size, two_fronts, take-append_seam, ◌≡◌, ◌∙◌, ℕ, ◌<◌, ◌≤◌, Bool, true, false, List, [], ◌++◌, length, refl, sym, ap, subst, Option, Some, None, Result, Ok, Err, arith, length-append, append_assoc, append-nil, ⊎_elim, take, Sign, sees, nothing_seen, Way, IsRefusal, ReaderRefuses, inl, inr, ◌⊎◌}
+use Rattle.rx_nest.proofs.Common.{append_cancel_left, Syntax, FaultAt, Fault, Unended, Limits, Progress, page_read, page_on, nothing_read, spot_of, fault_in, fault_stays, fault_is_read, page_append, read_size, two_fronts, take-append_seam, ◌≡◌, ◌∙◌, ℕ, ◌<◌, ◌≤◌, List, [], ◌++◌, length, sym, ap, subst, Option, Some, None, Ok, Err, arith, length-append, append_assoc, append-nil, ⊎_elim, take, Sign, sees, nothing_seen, Way, IsRefusal, ReaderRefuses, inl, inr, ◌⊎◌}
 use Rattle.rx_reader.proofs.Fronts.{Longer}
 use Rattle.rx_nest.specs.Nests as nests
 use Rattle.rx_nest.proofs.Sizes.{within_so}
 use Rattle.rx_nest.proofs.TagPlaces.{LiesIn, page_lies, shows_more}
 use Rattle.rx_nest.proofs.TokenPlacing.{refused_such}
+use Rattle.rx_nest.proofs.TreeSeen.{end_so}
 
 pub some_none : (x : Option Fault) (fault : Fault) → x ≡ None → x ≡ Some fault → ⊥
 some_none x fault e f = let w : None ≡ Some fault = sym e ∙ f in cc
@@ -12,15 +13,7 @@ some_none x fault e f = let w : None ≡ Some fault = sym e ∙ f in cc
 module _ (syntax : Syntax) (limits : Limits) where
   -- a fault is that of a byte, or nothing is over at the end
   fault_of : (bytes : List ℕ) (fault : Fault) → FaultAt syntax limits bytes fault → (page_read syntax limits bytes ≡ Err fault) ⊎ ((q : Progress) × (page_read syntax limits bytes ≡ Ok q) × (fault_in q.now.scan Unended ≡ fault))
-  fault_of bytes fault f = by (page_read syntax limits bytes) refl (fault_is_read syntax limits bytes fault f)
-    where
-      ends : (q : Progress) (b : Bool) → ◌≡◌ {A = Result Progress Fault} (if b then Ok q else Err (fault_in q.now.scan Unended)) (Err fault) → fault_in q.now.scan Unended ≡ fault
-      ends q true e = absurd (cc)
-      ends q false e = cc
-
-      by : (x : Result Progress Fault) → page_read syntax limits bytes ≡ x → end_of x ≡ Err fault → (page_read syntax limits bytes ≡ Err fault) ⊎ ((q : Progress) × (page_read syntax limits bytes ≡ Ok q) × (fault_in q.now.scan Unended ≡ fault))
-      by (Ok q) k e = inr (q, k, ends q (may_end q.now) e)
-      by (Err other) k e = inl (k ∙ e)
+  fault_of bytes fault f = end_so syntax limits bytes (Err fault) (fault_is_read syntax limits bytes fault f)
 
   -- a page's fault comes behind what was read
   pub page_behind : (front rest : List ℕ) (p : Progress) (other : Fault) → page_read syntax limits front ≡ Ok p → FaultAt syntax limits (front ++ rest) other → length front ≤ other.at

@@ -1,5 +1,5 @@
 -- What the scanner tells, and the elements take, is what the page's bytes lead to.
-use Rattle.rx_nest.proofs.Common.{◌≡◌, ◌≢◌, ◌∙◌, ℕ, zero, suc, ◌+◌, Bool, true, false, List, [], ◌∷◌, ◌++◌, refl, sym, ap, subst, append_assoc, append-nil, Some, Result, Ok, Err, ◌&&◌, not, if◌then◌else◌, map, take, slice_get, Chars, Syntax, doctype, tag, Item, Line, inside_of, Phase, before, Fault, Kind, Limits, Event, Nesting, Step, content_at, doctype_step, step_by, nest_step, Spot, spot_of, Scanning, Scanned, scan_from, read_byte, is_none_left, may_lead, steps_on, with_events, telling, no_step, progress_of, page_on, page_read, nothing_read, IsKept, is_kept, page_scan, page_append, page_last, page_byte_fault, from_there, LastByte, last_byte, tag_seen, Setting, Scanner, HasMark, mark_bytes, ends_leading, setting_behind, Faults, Lines, says_text, is_none_open, Levels, hidden_under, Sign, said, is_hidden, sees, AreLevels, Follows, flags_of, phase_at, Stops, At, setting_of, heard_signs}
+use Rattle.rx_nest.proofs.Common.{◌≡◌, ◌∙◌, ℕ, zero, suc, ◌+◌, Bool, true, false, List, [], ◌∷◌, ◌++◌, refl, sym, ap, subst, append_assoc, append-nil, Some, Result, Ok, Err, ◌&&◌, not, if◌then◌else◌, map, take, slice_get, Chars, Syntax, doctype, tag, Item, Line, inside_of, Phase, before, Fault, Kind, Limits, Event, Nesting, Step, content_at, doctype_step, step_by, nest_step, Spot, spot_of, Scanning, Scanned, scan_from, read_byte, is_none_left, may_lead, steps_on, with_events, telling, no_step, progress_of, page_on, page_read, nothing_read, IsKept, is_kept, page_scan, page_append, page_last, page_byte_fault, from_there, LastByte, last_byte, tag_seen, Setting, Scanner, HasMark, mark_bytes, ends_leading, setting_behind, Faults, Lines, says_text, is_none_open, Levels, hidden_under, Sign, said, is_hidden, sees, AreLevels, Follows, flags_of, phase_at, Stops, At, setting_of, heard_signs}
 use Rattle.rx_grammar.specs.Tokens as tokens
 use Rattle.rx_pages.proofs.Doctyped.{OneByte, one_byte, byte_leads}
 use Rattle.rx_pages.proofs.Leads.{scan_same}
@@ -115,9 +115,6 @@ module _ (syntax : Syntax) (limits : Limits) (bytes : List ℕ) (told : List Eve
   pub said_is : (text : Chars) → said_by nest.phase (is_hidden (flags_of line.levels)) text ≡ (if says_text line then map said text else [])
   said_is text = ap (λ p. said_by p (is_hidden (flags_of line.levels)) text) at.follows.phase_is ∙ (ap (λ b. said_by (phase_at line.begun line.levels at.follows.stood) b text) (hidden_flags line.levels) ∙ by line.begun line.levels refl refl)
     where
-      no_levels : [] ≡ line.levels → line.levels ≢ [] → ⊥
-      no_levels e n = n (sym e)
-
       by : (b : Bool) (levels : Levels) → line.begun ≡ b → line.levels ≡ levels → said_by (phase_at b levels at.follows.stood) (hidden_under levels) text ≡ (if not (is_none_open levels) && not (hidden_under levels) then map said text else [])
       by true [] e l = refl
       by true (level ∷ levels) e l = hides (hidden_under (level ∷ levels))
@@ -157,11 +154,8 @@ module _ (syntax : Syntax) (limits : Limits) (bytes : List ℕ) (told : List Eve
           by true (level ∷ levels) e l h = absurd (cc)
           by false levels e l h = e
 
-      none_is : line.levels ≡ []
-      none_is = at.follows.none_yet begun_is
-
       line_is : nest.line ≡ []
-      line_is = by nest.line (subst (λ x. AreLevels line.syntax x nest.line) none_is at.follows.levels_are)
+      line_is = by nest.line (subst (λ x. AreLevels line.syntax x nest.line) (at.follows.none_yet begun_is) at.follows.levels_are)
         where
           by : (l : Line) → AreLevels line.syntax [] l → l ≡ []
           by [] h = refl
@@ -169,9 +163,6 @@ module _ (syntax : Syntax) (limits : Limits) (bytes : List ℕ) (told : List Eve
 
       abbrev doctype_next : Step
       doctype_next = record { next = record { line = []; phase = before true; drops = false }; events = [] }
-
-      steps_so : nest_step syntax limits.depth nest item ≡ Ok doctype_next
-      steps_so = ap (λ t. step_by syntax limits.depth nest item t) is ∙ ap doctype_step phase_is
 
       pub doctype_leads : Leads xs next doctype_next
       doctype_leads =
@@ -185,7 +176,7 @@ module _ (syntax : Syntax) (limits : Limits) (bytes : List ℕ) (told : List Eve
                 page_from xs
                 ∙ (ap (λ x. page_on syntax limits (from_there syntax limits spot s nest told) x) (b.are ∙ sym (append_assoc b.front (b.byte ∷ []) b.rest))
                 ∙ (page_append syntax limits spot (from_there syntax limits spot s nest told) (b.front ++ b.byte ∷ []) b.rest
-                ∙ (ap (λ x. page_on syntax limits x b.rest) (page_last syntax limits spot s nest told b.front b.byte b.before (record { next = b.after; items = item ∷ [] }) (Ok doctype_next) refl b.reads b.completes (one_step_on (Ok doctype_next) steps_so))
+                ∙ (ap (λ x. page_on syntax limits x b.rest) (page_last syntax limits spot s nest told b.front b.byte b.before (record { next = b.after; items = item ∷ [] }) (Ok doctype_next) refl b.reads b.completes (one_step_on (Ok doctype_next) (ap (λ t. step_by syntax limits.depth nest item t) is ∙ ap doctype_step phase_is)))
                 ∙ (p.read ∙ (ap (λ (z : Step). from_there syntax limits spot next z.next ((told ++ []) ++ z.events)) none ∙ ap (λ z. from_there syntax limits spot next doctype_next.next z) (append-nil (told ++ [])))))));
           }
 
@@ -215,9 +206,6 @@ module _ (syntax : Syntax) (limits : Limits) (bytes : List ℕ) (told : List Eve
           ∙ (ap (λ y. page_on syntax limits (from_there syntax limits spot s nest told) y) b.are
           ∙ page_last syntax limits spot s nest told b.front b.byte b.before (record { next = next; items = item ∷ [] }) x refl b.reads b.completes (one_step_on x h))
 
-      tag_fault : (kind : Kind) → nest_step syntax limits.depth nest item ≡ Err kind → page_read syntax limits (bytes ++ xs) ≡ Err (record { kind = kind; token = t.token; at = t.at })
-      tag_fault kind h = tag_page (Err kind) h ∙ ap (λ n. Err (record { kind = kind; token = n; at = b.before.at })) (sym b.first_is ∙ first_is) ∙ ap (λ n. Err (record { kind = kind; token = t.token; at = n })) (sym b.last_is ∙ last_is)
-
       longer : (more : List ℕ) → HasMark s b.front more → HasMark s xs (more ++ b.byte ∷ [])
       longer more m = record {
         first = m.first;
@@ -242,7 +230,7 @@ module _ (syntax : Syntax) (limits : Limits) (bytes : List ℕ) (told : List Eve
           are = refl;
           mark = λ more m. absurd (unmarked (more ++ b.byte ∷ []) (longer more m));
         };
-        here = ap (λ y. page_read syntax limits (bytes ++ y)) (sym b.are) ∙ tag_fault kind h;
+        here = ap (λ y. page_read syntax limits (bytes ++ y)) (sym b.are) ∙ (tag_page (Err kind) h ∙ ap (λ n. Err (record { kind = kind; token = n; at = b.before.at })) (sym b.first_is ∙ first_is) ∙ ap (λ n. Err (record { kind = kind; token = t.token; at = n })) (sym b.last_is ∙ last_is));
       }
 
       pub tag_leads : (step : Step) → nest_step syntax limits.depth nest item ≡ Ok step → Leads xs next step

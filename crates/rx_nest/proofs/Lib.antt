@@ -8,6 +8,7 @@ pub mod TextSteps
 pub mod Heeding
 pub mod ReadTokens
 pub mod SeenTrees
+pub mod PageWalks
 pub mod TreeSeen
 pub mod Advancing
 pub mod Endings
@@ -25,7 +26,6 @@ pub mod WideReading
 pub mod Depths
 pub mod Meanings
 pub mod FaultsOfPieces
-pub mod Stopping
 pub mod LatchLemmas
 pub mod Turning
 pub mod QuietReading

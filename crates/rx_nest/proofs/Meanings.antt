@@ -1,11 +1,11 @@
 -- The start tags that the grammar calls refused are those that the reader shows as refused.
-use Rattle.rx_nest.proofs.Common.{◌≡◌, ◌∙◌, ℕ, ◌+◌, ◌≤◌, ◌<◌, List, [], ◌∷◌, ◌++◌, length, take, drop, refl, sym, ap, ⊎_elim, Option, Some, None, Ok, arith, less_than_sign, Fault, Limits, Line, Phase, Begun, Page, Tree, closed, IsWide, ClosedTells, ReadsTo, Progress, page_read, nothing_unfinished, take-append-drop, length-take-le, fronts_tell, ShowsMore, Sign, sees, nothing_seen, signs_of, MeaningAt, ReaderRefuses, RefusedTagsAreLast, Way, IsRefusal}
+use Rattle.rx_nest.proofs.Common.{◌≡◌, ◌∙◌, ℕ, ◌+◌, ◌≤◌, ◌<◌, List, [], ◌∷◌, length, take, drop, refl, sym, ap, ⊎_elim, Option, Some, None, Ok, arith, less_than_sign, Fault, Limits, Line, Phase, Begun, Page, Tree, closed, IsWide, ClosedTells, ReadsTo, Progress, page_read, nothing_unfinished, take-append-drop, length-take-le, fronts_tell, ShowsMore, Sign, sees, nothing_seen, signs_of, MeaningAt, ReaderRefuses, RefusedTagsAreLast, Way, IsRefusal}
 use Rattle.rx_nest.proofs.FaultPlacing.{page_shows, shown, through}
 use Rattle.rx_nest.proofs.Firsts.{some_none}
 use Rattle.rx_nest.proofs.PlaceLaws.{bare_such, closed_shows}
 use Rattle.rx_nest.proofs.TokenPlacing.{all_add}
 use Rattle.rx_nest.proofs.RefusedTags.{refuses_last, long}
-use Rattle.rx_nest.proofs.Refusing.{at_from, bare_accepted}
+use Rattle.rx_nest.proofs.Refusing.{bare_accepted, refused_where}
 use Rattle.rx_nest.proofs.TagPlaces.{shows_more}
 use Rattle.rx_nest.proofs.WideReading.{read_wide}
 use Rattle.rx_nest.proofs.Depths.{deep_or_none}
@@ -70,23 +70,13 @@ module _ (way : Way) (law : IsRefusal way.refused) where
         let p = tells.front (let l = begun.size in omega (arith, l)) in
         shows_more way.syntax (wider way.limits) bytes (less_than_sign ∷ []) now p.now (read_wide way.syntax way.limits (wider way.limits) refl (omega arith) (omega arith) bytes now read) p.read
 
-    told_is : told ≡ shown now ++ further.signs
-    told_is = ap (λ es. (sees nothing_seen es).signs) (sym (tells.front (let l = begun.size in omega (arith, l))).told) ∙ further.are
-
     pub shown_closed : (fault : Fault) → way.refused (shown now) ≡ Some fault → way.refused (signs_of tree) ≡ Some fault
-    shown_closed fault e = on fault (ap way.refused told_is ∙ law.stays (shown now) further.signs fault e)
+    shown_closed fault e = on fault (ap way.refused (ap (λ es. (sees nothing_seen es).signs) (sym (tells.front (let l = begun.size in omega (arith, l))).told) ∙ further.are) ∙ law.stays (shown now) further.signs fault e)
 
     pub closed_shown : (fault : Fault) → fault.at < length bytes → way.refused (signs_of tree) ≡ Some fault → way.refused (shown now) ≡ Some fault
-    closed_shown fault l e = by (way.refused (shown now)) refl
-      where
-        there : way.refused (shown now ++ further.signs) ≡ Some fault
-        there = ap way.refused (sym told_is) ∙ back fault e
-
-        by : (x : Option Fault) → way.refused (shown now) ≡ x → x ≡ Some fault
-        by None k =
-            let far = at_from (length bytes) (length (bytes ++ less_than_sign ∷ [])) further.signs fault further.lie (law.lies (shown now) further.signs fault k there) in
-            absurd (omega (arith, far, l))
-        by (Some other) k = sym (law.stays (shown now) further.signs other k) ∙ there
+    closed_shown fault l e =
+        ⊎_elim (λ h. h) (λ w. absurd (omega (arith, w.1, l)))
+        (refused_where way.refused law further fault (ap (λ es. way.refused (sees nothing_seen es).signs) (tells.front (let l = begun.size in omega (arith, l))).told ∙ back fault e))
 
   module _ (bytes : List ℕ) (fault : Fault) where
     abbrev front : List ℕ

@@ -1,34 +1,10 @@
 -- The open elements that are kept are those of the grammar's front, and a fault leaves them as they were.
-use Rattle.rx_nest.proofs.Common.{◌≡◌, ◌∙◌, ℕ, Bool, true, false, List, [], ◌∷◌, ◌++◌, refl, sym, ap, subst, append_assoc, Option, Result, None, Ok, Err, take, Entry, Syntax, values, next_of, Line, Phase, Begun, Fault, Kind, Limits, Event, Progress, scan_from, spot_of, page_byte_on, page_on, page_read, nothing_read, token_at, ReadsTo, page_append, reads_to, nothing_unfinished, unfinished_follows_front, ok_is, Stop, fault_in, tag_seen, Scanner, Lines, TagGives, GivesBy, AreLevels, TakesToken, token_result, At, Stops, StaysAtFault, OpenBefore}
+use Rattle.rx_nest.proofs.Common.{◌≡◌, ◌∙◌, ℕ, List, [], ◌∷◌, ◌++◌, refl, sym, ap, subst, append_assoc, Option, None, Ok, Err, take, Entry, Syntax, values, next_of, Line, Phase, Begun, Fault, Limits, Event, Progress, scan_from, spot_of, page_byte_on, page_on, page_read, nothing_read, token_at, ReadsTo, page_append, reads_to, nothing_unfinished, unfinished_follows_front, ok_is, Stop, fault_in, Scanner, Lines, AreLevels, At, Stops, StaysAtFault, OpenBefore}
 use Rattle.rx_nest.proofs.TextSteps.{byte_goes}
 use Rattle.rx_grammar.specs.declared.stops.Stop.TheVariants as stop
-use Rattle.rx_tags.specs.declared.tags.Tag.{Tag}
-use Rattle.rx_scan.specs.declared.answers.Token.{Token}
-use Rattle.rx_scan.specs.declared.answers.Token.TheVariants as token
-use Rattle.rx_nest.specs.declared.lines.TagEffect.{TagEffect}
-use Rattle.rx_nest.specs.declared.lines.Refused.{Refused}
-use Rattle.rx_nest.specs.declared.lines.Refused.TheVariants as refused
 use Rattle.rx_nest.specs.OpenElements.{HasOpen, HasOpenUnderway, HasOpenOfFronts}
 use Rattle.rx_nest.proofs.LineLemmas.{same_of}
 use Rattle.rx_nest.proofs.Heeding.{quiet_front}
-
--- a tag that is refused
-tag_stays : (closing : Bool) (old new : Lines) (t : _) (kind : Kind) → GivesBy closing old t (Err (refused.Fault kind)) new → new ≡ old
-tag_stays true old new t kind g = g.1
-tag_stays false old new t kind g = g.1
-
-pub stays_heard : (A : Type 0) (why : Stop) (old new : Lines) (t : Token) → TakesToken old t (Err why) new → StaysAtFault {A = A} (Err why) old new
-stays_heard A stop.NoMemory old new t h = tt
-stays_heard A (stop.Fault fault) old new t h = by t h
-  where
-    by_tag : (g : Tag) (taken : Result TagEffect Refused) → Err (stop.Fault fault) ≡ token_result g taken → TagGives old (tag_seen g) taken new → new ≡ old
-    by_tag g (Err (refused.Fault kind)) e gives = tag_stays (tag_seen g).closing old new (tag_seen g) kind gives
-    by_tag g _ e gives = absurd (cc)
-
-    by : (x : Token) → TakesToken old x (Err (stop.Fault fault)) new → new ≡ old
-    by (token.Start g) k = by_tag g k.taken k.is k.gives
-    by (token.End g) k = by_tag g k.taken k.is k.gives
-    by _ k = k.1
 
 pub stays_same : (A : Type 0) (why : Stop) (l : Lines) → StaysAtFault {A = A} (Err why) l l
 stays_same A (stop.Fault fault) l = refl

@@ -11,14 +11,8 @@ each Holds [] all name h = absurd (cc)
 each Holds (word ∷ words) all name h =
     ⊎_elim (λ e. subst Holds (sym (same_is name word e)) all.0) (λ e. each Holds words all.1 name e) (or_cases (same name word) (is_among words name) h)
 
-all_ordinary : AllAre IsOrdinary ordinary_names
-all_ordinary = search rules depth 60
-
-all_plain : AllAre IsPlain omissible_names
-all_plain = search rules depth 60
-
 pub ordinary : (name : Chars) → is_among ordinary_names name ≡ true → IsOrdinary name
-ordinary name h = each IsOrdinary ordinary_names all_ordinary name h
+ordinary name h = each IsOrdinary ordinary_names (search rules depth 60) name h
 
 pub plain : (name : Chars) → is_among omissible_names name ≡ true → IsPlain name
-plain name h = each IsPlain omissible_names all_plain name h
+plain name h = each IsPlain omissible_names (search rules depth 60) name h

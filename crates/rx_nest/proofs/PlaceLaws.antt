@@ -1,17 +1,24 @@
 -- Where the faults lie that a piece of a page brings, and what stands before them.
-use Rattle.rx_nest.proofs.Common.{◌≡◌, ◌∙◌, ℕ, ◌+◌, ◌≤◌, ◌<◌, List, [], ◌∷◌, ◌++◌, length, take, drop, refl, sym, ap, subst, Option, Some, None, Result, Ok, arith, less_than_sign, Syntax, Line, Phase, Item, Tree, Page, Fault, Limits, closed, IsWide, IsFront, Bare, AllEnd, ClosedTells, Event, begins, says, finishes, Nesting, Goes, stands, goes, Progress, page_read, read_size, take-append-drop, length-take-le, take-append-le, fronts_tell, Sign, Sight, sees, nothing_seen, signs_of, ReaderRefuses, IsAcceptedPage, IsAcceptedFront, Way, IsRefusal}
+use Rattle.rx_nest.proofs.Common.{◌≡◌, ◌∙◌, ℕ, ◌+◌, ◌≤◌, ◌<◌, List, [], ◌∷◌, ◌++◌, length, take, drop, refl, sym, ap, subst, Option, Some, None, Result, Ok, arith, less_than_sign, Syntax, Line, Phase, Item, Tree, Page, Fault, Limits, closed, IsWide, IsFront, Bare, AllEnd, ClosedTells, Event, begins, says, finishes, Nesting, Goes, StartTag, not_begun, Progress, page_read, read_size, take-append-drop, length-take-le, take-append-le, fronts_tell, Sign, Sight, sees, nothing_seen, signs_of, ReaderRefuses, IsAcceptedPage, IsAcceptedFront, Way, IsRefusal, ⊎_elim}
 use Rattle.rx_nest.proofs.TagPlaces.{shows_more}
 use Rattle.rx_nest.proofs.TextSteps.{sees_append}
 use Rattle.rx_nest.proofs.FaultPlacing.{read_front, page_shows}
-use Rattle.rx_nest.proofs.Refusing.{at_from, bare_accepted}
-use Rattle.rx_nest.proofs.TokenPlacing.{AllBegin, StepBegins, begin_append, item_such, refused_such, token_before, refused_fronts}
+use Rattle.rx_nest.proofs.Refusing.{bare_accepted, refused_where}
+use Rattle.rx_nest.proofs.Firsts.{some_none}
+use Rattle.rx_nest.proofs.PageWalks.{Held, Tagged, all_weaker, goes_hold}
+use Rattle.rx_nest.proofs.TokenPlacing.{AllBegin, AllTags, BeginsSuch, TagIs, such_go, such_tagged, refused_such, token_before, refused_fronts}
 
 -- tags that are told end where their tokens do
 
-goes_before : (syntax : Syntax) (depth end : ℕ) (meant : Nesting → Type 0) {n : Nesting} {items : List Item} {events : List Event} → Goes syntax depth meant n items events → AllEnd end items → AllBegin (λ t. t.at < end) events
-goes_before syntax depth end meant (stands n p) h = tt
-goes_before syntax depth end meant (goes {n = n} {events = events} item step c e g) h =
-    begin_append (λ t. t.at < end) step.events events (subst (StepBegins (λ t. t.at < end)) e (item_such (λ t. t.at < end) syntax depth n item (λ t k. h.0))) (goes_before syntax depth end meant g h.1)
+ends_so : (end : ℕ) (items : List Item) → AllEnd end items → AllTags (λ t. t.at < end) items
+ends_so end [] h = tt
+ends_so end (item ∷ items) h = (λ t k. h.0, ends_so end items h.1)
+
+goes_before : (syntax : Syntax) (limits : Limits) (end : ℕ) (meant : Nesting → Type 0) {items : List Item} {events : List Event} → Goes syntax limits.depth meant not_begun items events → AllEnd end items → AllBegin (λ t. t.at < end) events
+goes_before syntax limits end meant {items} g h =
+    let Such : StartTag → Type 0 = λ t. t.at < end in
+    (goes_hold syntax limits (Held syntax limits (BeginsSuch Such syntax limits)) (such_go Such syntax limits) meant g []
+    (all_weaker (Tagged syntax limits (Held syntax limits (BeginsSuch Such syntax limits))) (TagIs Such) (such_tagged Such syntax limits) items (ends_so end items h)) (record { sound = refl; holds = tt })).1.holds
 
 pub bare_such : (events : List Event) → Bare events → AllBegin (λ t. t.attributes ≡ []) events
 bare_such [] b = tt
@@ -50,17 +57,8 @@ module _ (way : Way) (law : IsRefusal way.refused) (bytes : List ℕ) (fault : F
 
   -- what the front shows is accepted
   front_accepted : (p : Progress) → page_read way.syntax way.limits front ≡ Ok p → way.refused (sees nothing_seen p.told).signs ≡ None
-  front_accepted p r = by (way.refused (sees nothing_seen p.told).signs) refl
-    where
-      by : (x : Option Fault) → way.refused (sees nothing_seen p.told).signs ≡ x → x ≡ None
-      by None k = refl
-      by (Some other) k =
-          let more = shows_more way.syntax way.limits front (drop fault.token m.front) p m.now r on in
-          let same : Some other ≡ Some fault =
-          sym (law.stays (sees nothing_seen p.told).signs more.signs other k) ∙ (ap way.refused (sym more.are) ∙ m.refused) in
-          let is : other ≡ fault = cc in
-          let l : fault.token < length front = subst (λ (f : Fault). f.token < length front) is (token_before way law front p other r k).0 in
-          absurd (omega (arith, l, size))
+  front_accepted p r =
+      ⊎_elim (λ h. let l = (token_before way law front p fault r h).0 in absurd (omega (arith, l, size))) (λ w. w.0) (refused_where way.refused law (shows_more way.syntax way.limits front (drop fault.token m.front) p m.now r on) fault m.refused)
 
   module _ (line : Line) (phase : Phase) (t : ClosedTells way.syntax way.limits front line phase) where
     abbrev told : List Sign
@@ -77,14 +75,13 @@ module _ (way : Way) (law : IsRefusal way.refused) (bytes : List ℕ) (fault : F
         late other k =
             let p = t.front room in
             let q = read_front way.syntax way.limits front (less_than_sign ∷ []) p.now p.read in
-            let more = shows_more way.syntax way.limits front (less_than_sign ∷ []) q.now p.now q.is p.read in
-            let none = front_accepted q.now q.is in
-            let there : way.refused ((sees nothing_seen q.now.told).signs ++ more.signs) ≡ Some other = ap way.refused (sym more.are) ∙ (ap (λ es. way.refused (sees nothing_seen es).signs) p.told ∙ k) in
-            at_from (length front) (length (front ++ less_than_sign ∷ [])) more.signs other more.lie (law.lies (sees nothing_seen q.now.told).signs more.signs other none there)
+            let there : way.refused (sees nothing_seen p.now.told).signs ≡ Some other = ap (λ es. way.refused (sees nothing_seen es).signs) p.told ∙ k in
+            ⊎_elim (λ h. absurd (some_none (way.refused (sees nothing_seen q.now.told).signs) other (front_accepted q.now q.is) h)) (λ w. w.1)
+            (refused_where way.refused law (shows_more way.syntax way.limits front (less_than_sign ∷ []) q.now p.now q.is p.read) other there)
 
         early : (other : Fault) → way.refused told ≡ Some other → other.at < length front
         early other k =
-            let at = refused_such (λ t. t.at < length front) way.refused law t.events other (goes_before way.syntax way.limits.depth (length front) (λ n. n ≡ t.place) t.going t.ends) k in
+            let at = refused_such (λ t. t.at < length front) way.refused law t.events other (goes_before way.syntax way.limits (length front) (λ n. n ≡ t.place) t.going t.ends) k in
             omega (arith, at.1, at.2.at)
 
         by : (x : Option Fault) → way.refused told ≡ x → x ≡ None

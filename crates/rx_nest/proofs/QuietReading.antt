@@ -1,6 +1,6 @@
 -- What is read of a piece without `<` and `&` between two tokens: text.
-use Rattle.rx_nest.proofs.Common.{◌≡◌, ◌∙◌, ℕ, zero, suc, ◌<◌, Bool, true, false, List, [], ◌∷◌, ◌++◌, map, take, drop, refl, sym, ap, ap₂, subst, Option, None, Some, Result, Ok, Err, eqb-true, lit<, append_assoc, append-nil, ◌&&◌, ◌||◌, ◌==◌, not, nat_le, if◌then◌else◌, and_from, or_parts, append_cancel_left, map-append, less_than_sign, ampersand, greater_than_sign, Chars, by_test, split, both, untrue, Syntax, More, Char, Bad, answer_of, Entry, byte_order_mark, line_feed, carriage_return, as_line_end, Tag, tag, has_references, is_text, values, Item, is_literal, StartTag, Utf8Step, Content, Fault, Kind, Limits, Verdict, goes_on, whole, ended, refused, verdict, at_first, Spot, spot_of, Scanning, starts_at, Scanned, first_of, token_at, is_doctype, item_of, is_too_long, completed, read_char, read_answer, read_byte, Progress, steps_on, no_step, page_byte_on, page_on, page_read, nothing_read, page_append, Stop, token_of_item, equal, IsNoMemory, is_quiet, Nested, Stepped, event_signs, IsBetween, Sign, said, Sight, is_hidden, sees, nothing_seen, finishing, OwesNone, is_calm, HasMemory}
-use Rattle.rx_pages.specs.Nesting.{Event, begins, says, finishes, Step}
+use Rattle.rx_nest.proofs.Common.{◌≡◌, ◌∙◌, ℕ, zero, suc, ◌<◌, Bool, true, false, List, [], ◌∷◌, ◌++◌, map, take, drop, refl, sym, ap, ap₂, subst, Option, None, Some, Result, Ok, Err, eqb-true, lit<, append_assoc, append-nil, ◌&&◌, ◌||◌, ◌==◌, not, if◌then◌else◌, and_from, or_parts, append_cancel_left, map-append, less_than_sign, ampersand, greater_than_sign, Chars, by_test, split, both, untrue, Syntax, Char, answer_of, Entry, carriage_return, as_line_end, Tag, tag, has_references, is_text, values, Item, is_literal, StartTag, Content, Kind, Limits, Verdict, goes_on, whole, ended, refused, verdict, at_first, Spot, spot_of, Scanning, starts_at, Scanned, is_doctype, item_of, completed, read_byte, Progress, steps_on, no_step, page_on, page_read, nothing_read, page_append, Stop, token_of_item, equal, IsNoMemory, is_quiet, Nested, Stepped, event_signs, IsBetween, Sign, said, Sight, is_hidden, sees, nothing_seen, finishing, OwesNone, is_calm, HasMemory}
+use Rattle.rx_pages.specs.Nesting.{Event, begins, says, finishes, Nesting, Step}
 use Rattle.rx_pages.specs.PageReader as reader
 use Rattle.rx_grammar.specs.declared.stops.Stop.TheVariants as stop
 use Rattle.rx_nest.specs.declared.nests.Event.{Event as Shown}
@@ -9,8 +9,9 @@ use Rattle.rx_nest.specs.declared.tree_tokens.PendingEvents.{PendingEvents}
 use Rattle.rx_nest.specs.declared.lines.TagAction.{TagAction}
 use Rattle.rx_nest.specs.declared.lines.TagAction.TheVariants as own
 use Rattle.rx_nest.specs.Nests as nests
-use Rattle.rx_nest.proofs.TextSteps.{sees_append, byte_goes}
-use Rattle.rx_nest.proofs.TokenPlacing.{HasNoTag, IsOther, StepHolds, items_hold}
+use Rattle.rx_nest.proofs.TextSteps.{sees_append, bytes_go}
+use Rattle.rx_nest.proofs.PageWalks.{Behind, Tagged, all_weaker, items_hold}
+use Rattle.rx_nest.proofs.TokenPlacing.{HasNoTag, IsOther, byte_by}
 use Rattle.rx_scan.proofs.QuietLemmas.{last_byte, begins_line}
 
 unlike : (held : List ℕ) (byte c d : ℕ) → (byte == d) ≡ false → answer_of (held ++ byte ∷ []) ≡ Char c → (10 == d) ≡ false → d < 128 → (as_line_end c == d) ≡ false
@@ -45,24 +46,13 @@ module _ (syntax : Syntax) (limits : Limits) (spot : Spot) where
   told_calm s after_return entry (ended token) p = absurd p
   told_calm s after_return entry (refused kind) p = tt
 
-  char_calm : (s : Scanning) (c : ℕ) → s.run ≡ [] → (as_line_end c == less_than_sign) ≡ false → (as_line_end c == ampersand) ≡ false → Calm (read_char syntax limits spot c s)
-  char_calm s c e a b =
-      split Calm (not s.started && c == byte_order_mark || s.after_return && c == line_feed) _ _ (λ k. (e, tt))
-      (λ k. split Calm (is_too_long syntax limits spot (s.run ++ record { value = as_line_end c; first = starts_at s; last = s.at } ∷ []) (first_of s.run (starts_at s)) s.at) _ _ (λ m. tt)
-      (λ m. told_calm s (c == carriage_return) (record { value = as_line_end c; first = starts_at s; last = s.at }) (verdict syntax spot.inside (values s.run) (as_line_end c))
-      (subst (λ run. Plain (verdict syntax spot.inside (values run) (as_line_end c))) (sym e) (first_plain spot.inside (as_line_end c) a b))))
-
   byte_calm : (s : Scanning) (byte : ℕ) → s.run ≡ [] → not (byte == 60 || byte == 38) ≡ true → Calm (read_byte syntax limits spot byte s)
-  byte_calm s byte e q = split Calm (nat_le limits.page s.at) _ _ (λ k. tt) (λ k. by (answer_of (s.held ++ byte ∷ [])) refl)
-    where
-      by : (a : Utf8Step) → answer_of (s.held ++ byte ∷ []) ≡ a → Calm (read_answer syntax limits spot (s.held ++ byte ∷ []) s a)
-      by Bad k = tt
-      by More k = split Calm (is_too_long syntax limits spot s.run (token_at s) s.at) _ _ (λ m. tt) (λ m. (e, tt))
-      by (Char c) k =
-          let n = or_parts (byte == 60) (byte == 38) (untrue (byte == 60 || byte == 38) q) in
-          split Calm (c == 0) _ _ (λ m. tt)
-          (λ m. split Calm (is_too_long syntax limits spot s.run (token_at s) s.at) _ _ (λ o. tt)
-          (λ o. char_calm s c e (unlike s.held byte c 60 n.0 k refl (lit< tt)) (unlike s.held byte c 38 n.1 k refl (lit< tt))))
+  byte_calm s byte e q =
+      let n = or_parts (byte == 60) (byte == 38) (untrue (byte == 60 || byte == 38) q) in
+      byte_by syntax limits spot s byte Calm (λ kind. tt) (λ next r a. (r ∙ e, tt))
+      (λ c k. told_calm s (c == carriage_return) (record { value = as_line_end c; first = starts_at s; last = s.at }) (verdict syntax spot.inside (values s.run) (as_line_end c))
+      (subst (λ run. Plain (verdict syntax spot.inside (values run) (as_line_end c))) (sym e)
+      (first_plain spot.inside (as_line_end c) (unlike s.held byte c 60 n.0 k refl (lit< tt)) (unlike s.held byte c 38 n.1 k refl (lit< tt)))))
 
 -- what is told says text alone
 
@@ -79,36 +69,49 @@ say_append (says chars ∷ xs) ys a b = say_append xs ys a b
 say_append (finishes ∷ xs) ys a b = absurd a
 
 abbrev pub StepSays : Result Step Kind → Type 0
-StepSays x = StepHolds AllSay x
+StepSays (Ok step) = AllSay step.events
+StepSays (Err kind) = Unit {0}
 
 -- tokens that are no tags say text alone
-pub items_say : (syntax : Syntax) (depth : ℕ) (items : List Item) → HasNoTag items → (x : Result Step Kind) → StepSays x → StepSays (steps_on syntax depth x items)
-items_say syntax depth = items_hold AllSay tt say_append (λ chars. tt) syntax depth IsOther (λ m item t e h. absurd (h t e))
+module _ (syntax : Syntax) (depth : ℕ) where
+  abbrev deep_limits : Limits
+  deep_limits = record { depth = depth; tag = 0; page = 0 }
+
+  abbrev Saying : Nesting → List Event → Type 0
+  Saying n events = AllSay events
+
+  pub items_say : (items : List Item) → HasNoTag items → (x : Result Step Kind) → StepSays x → StepSays (steps_on syntax depth x items)
+  items_say items none x s =
+      out (steps_on syntax depth x items)
+      (items_hold syntax deep_limits Saying
+      (record { quiet = λ n d events h. say_append events [] h tt; saying = λ n events chars p h. say_append events (says chars ∷ []) h tt; standing = λ n events p h. say_append events [] h tt }) [] items
+      (all_weaker (Tagged syntax deep_limits Saying) IsOther (λ item other t e. absurd (other t e)) items none) x (into x s))
+    where
+      into : (x : Result Step Kind) → StepSays x → Behind syntax deep_limits Saying [] x
+      into (Ok step) s = s
+      into (Err kind) s = tt
+
+      out : (x : Result Step Kind) → Behind syntax deep_limits Saying [] x → StepSays x
+      out (Ok step) s = s
+      out (Err kind) s = tt
 
 record Says (told new : List Event) : Type 0 where
   more : List Event
   is : new ≡ told ++ more
   say : AllSay more
 
-abbrev Calmly : List Event → Result Progress Fault → Type 0
-Calmly told (Ok q) = (q.now.scan.run ≡ []) × Says told q.told
-Calmly told (Err fault) = Unit {0}
-
 module _ (syntax : Syntax) (limits : Limits) where
-  one_calm : (told : List Event) (byte : ℕ) (x : Result Progress Fault) → not (byte == 60 || byte == 38) ≡ true → Calmly told x → Calmly told (page_byte_on syntax limits x byte)
-  one_calm told byte (Err fault) q h = tt
-  one_calm told byte (Ok p) q h =
-      byte_goes syntax limits p byte (Calmly told) (λ kind. tt)
-      (λ scanned step e k.
-      let calm = subst Calm e (byte_calm syntax limits (spot_of syntax p.now.nest) p.now.scan byte h.0 q) in
-      let told_so = subst StepSays k (items_say syntax limits.depth scanned.items calm.1 (Ok (no_step p.now.nest)) tt) in
-      (calm.0, record { more = h.1.more ++ step.events; is = ap (λ es. es ++ step.events) h.1.is ∙ append_assoc told h.1.more step.events; say = say_append h.1.more step.events h.1.say told_so }))
+  abbrev Calmly : List Event → List ℕ → Progress → Type 0
+  Calmly told rest q = (q.now.scan.run ≡ []) × Says told q.told × (is_quiet rest ≡ true)
 
-  all_calm : (told : List Event) (bytes : List ℕ) (x : Result Progress Fault) → is_quiet bytes ≡ true → Calmly told x → Calmly told (page_on syntax limits x bytes)
-  all_calm told [] x q h = h
-  all_calm told (byte ∷ bytes) x q h =
-      let k = both (not (byte == 60 || byte == 38)) _ q in
-      all_calm told bytes (page_byte_on syntax limits x byte) k.1 (one_calm told byte x k.0 h)
+  all_calm : (told : List Event) (bytes : List ℕ) (p q : Progress) → page_on syntax limits (Ok p) bytes ≡ Ok q → Calmly told bytes p → Calmly told [] q
+  all_calm told =
+      bytes_go syntax limits (Calmly told)
+      (λ byte rest p scanned step e k h.
+      let quiet = both (not (byte == 60 || byte == 38)) _ h.2 in
+      let calm = subst Calm e (byte_calm syntax limits (spot_of syntax p.now.nest) p.now.scan byte h.0 quiet.0) in
+      let told_so = subst StepSays k (items_say syntax limits.depth scanned.items calm.1 (Ok (no_step p.now.nest)) tt) in
+      (calm.0, record { more = h.1.more ++ step.events; is = ap (λ es. es ++ step.events) h.1.is ∙ append_assoc told h.1.more step.events; say = say_append h.1.more step.events h.1.say told_so }, quiet.1))
 
   pub record IsSaid (old new : List Sign) : Type 0 where
     pub chars : Chars
@@ -134,7 +137,7 @@ module _ (syntax : Syntax) (limits : Limits) where
   pub quiet_read : (bytes piece : List ℕ) (p q : Progress) → page_read syntax limits bytes ≡ Ok p → p.now.scan.run ≡ [] → is_quiet piece ≡ true → page_read syntax limits (bytes ++ piece) ≡ Ok q → Quietly bytes piece p q
   quiet_read bytes piece p q r e quiet s =
       let on : page_on syntax limits (Ok p) piece ≡ Ok q = ap (λ x. page_on syntax limits x piece) (sym r) ∙ (sym (page_append syntax limits (spot_of syntax p.now.nest) (Ok nothing_read) bytes piece) ∙ s) in
-      let c = subst (Calmly p.told) on (all_calm p.told piece (Ok p) quiet (e, record { more = []; is = sym (append-nil p.told); say = tt })) in
+      let c = all_calm p.told piece p q on (e, record { more = []; is = sym (append-nil p.told); say = tt }, quiet) in
       let seen = seen_says c.1.more (sees nothing_seen p.told) c.1.say in
       record {
         run = c.0;

@@ -1,12 +1,13 @@
 -- Behind a start tag that is refused nothing is unfinished.
-use Rattle.rx_nest.proofs.Common.{◌≡◌, ◌∙◌, ⊎_elim, ℕ, ◌+◌, ◌<◌, List, [], ◌∷◌, ◌++◌, length, take, refl, sym, ap, subst, append-nil, Option, Some, None, Ok, arith, length-append, Fault, spot_of, Progress, no_step, page_on, page_read, nothing_read, ReadsTo, page_append, nothing_unfinished, length-take-le, get_or, take_more, Sight, sees, nothing_seen, signs_of, Way, IsRefusal, ReaderRefuses, RefusesLast}
+use Rattle.rx_nest.proofs.Common.{◌≡◌, ◌∙◌, ⊎_elim, ℕ, ◌+◌, ◌<◌, List, [], ◌∷◌, ◌++◌, length, take, refl, sym, ap, subst, append-nil, Some, None, Ok, arith, length-append, Fault, spot_of, Progress, page_on, page_read, nothing_read, ReadsTo, page_append, nothing_unfinished, length-take-le, get_or, take_more, Sight, sees, nothing_seen, signs_of, Way, IsRefusal, ReaderRefuses, RefusesLast}
+use Rattle.rx_nest.proofs.PageWalks.{page_sound}
 use Rattle.rx_nest.proofs.TextSteps.{sees_append, byte_goes}
 use Rattle.rx_nest.proofs.TagPlaces.{shows_more}
 use Rattle.rx_nest.proofs.Firsts.{meaning_within, some_none}
 use Rattle.rx_nest.proofs.FaultPlacing.{read_front, shown, refused_of, through}
 use Rattle.rx_nest.proofs.PlaceLaws.{accepted_front}
-use Rattle.rx_nest.proofs.Refusing.{bare_accepted}
-use Rattle.rx_nest.proofs.TokenPlacing.{After, HasNoTag, StepBegins, byte_tags, items_such, none_such}
+use Rattle.rx_nest.proofs.Refusing.{bare_accepted, refused_where}
+use Rattle.rx_nest.proofs.TokenPlacing.{After, HasNoTag, byte_tags, items_such, none_such}
 
 module _ (way : Way) (law : IsRefusal way.refused) where
   abbrev Settled : Progress → Type 0
@@ -19,7 +20,7 @@ module _ (way : Way) (law : IsRefusal way.refused) where
       byte_goes way.syntax way.limits p byte (λ x. x ≡ Ok q → Settled q) (λ kind e. absurd (cc))
       (λ scanned step e k w.
       let is : ◌≡◌ {A = Progress} (record { now = record { scan = scanned.next; nest = step.next }; told = p.told ++ step.events }) q = cc in
-      let bare = λ (n : HasNoTag scanned.items). subst (StepBegins (λ t. t.attributes ≡ [])) k (items_such (λ t. t.attributes ≡ []) way.syntax way.limits.depth scanned.items (none_such (λ t. t.attributes ≡ []) scanned.items n) (Ok (no_step p.now.nest)) tt) in
+      let bare = λ (n : HasNoTag scanned.items). (items_such (λ t. t.attributes ≡ []) way.syntax way.limits p.now.nest scanned.items step (page_sound way.syntax way.limits init p r) (none_such (λ t. t.attributes ≡ []) scanned.items n) k).holds in
       let same : shown q ≡ (sees (sees nothing_seen p.told) step.events).signs =
       ap (λ (x : Progress). shown x) (sym is) ∙ ap (λ (x : Sight). x.signs) (sees_append nothing_seen p.told step.events) in
       ⊎_elim
@@ -43,18 +44,15 @@ module _ (way : Way) (law : IsRefusal way.refused) where
         let init = take fault.at bytes in
         let whole_read : page_read way.syntax way.limits (init ++ byte ∷ []) ≡ Ok s.now = ap (λ b. page_read way.syntax way.limits b) (sym (take_more bytes fault.at 0 long)) ∙ s.read in
         let r = read_front way.syntax way.limits init (byte ∷ []) s.now whole_read in
-        last_settles init byte r.now s.now fault r.is whole_read (none_before init (byte ∷ []) r.now s.now r.is whole_read (length-take-le fault.at bytes (let l = long in omega arith)) s.refused (way.refused (shown r.now)) refl) s.refused
+        last_settles init byte r.now s.now fault r.is whole_read (none_before init (byte ∷ []) r.now s.now r.is whole_read (length-take-le fault.at bytes (let l = long in omega arith)) s.refused) s.refused
       where
-        none_before : (init rest : List ℕ) (p q : Progress) → page_read way.syntax way.limits init ≡ Ok p → page_read way.syntax way.limits (init ++ rest) ≡ Ok q → length init ≡ fault.at → way.refused (shown q) ≡ Some fault
-            → (x : Option Fault) → way.refused (shown p) ≡ x → way.refused (shown p) ≡ None
-        none_before init rest p q r s size some None k = k
-        none_before init rest p q r s size some (Some other) k =
-            let more = shows_more way.syntax way.limits init rest p q r s in
-            let both : Some other ≡ Some fault = sym (law.stays (shown p) more.signs other k) ∙ (ap way.refused (sym more.are) ∙ some) in
-            let is : other ≡ fault = cc in
-            let early : ReaderRefuses way init fault = record { front = init; rest = []; are = sym (append-nil init); now = p; read = r; refused = subst (λ (f : Fault). way.refused (shown p) ≡ Some f) is k } in
-            let l = meaning_within way law init fault early in
-            absurd (omega (arith, l, size))
+        none_before : (init rest : List ℕ) (p q : Progress) → page_read way.syntax way.limits init ≡ Ok p → page_read way.syntax way.limits (init ++ rest) ≡ Ok q → length init ≡ fault.at → way.refused (shown q) ≡ Some fault → way.refused (shown p) ≡ None
+        none_before init rest p q r s size some =
+            ⊎_elim
+            (λ h.
+            let l = meaning_within way law init fault (record { front = init; rest = []; are = sym (append-nil init); now = p; read = r; refused = h }) in
+            absurd (omega (arith, l, size)))
+            (λ w. w.0) (refused_where way.refused law (shows_more way.syntax way.limits init rest p q r s) fault some)
 
     pub refuses_last : RefusesLast way bytes fault
     refuses_last =

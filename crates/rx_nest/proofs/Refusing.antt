@@ -1,5 +1,5 @@
 -- Where a fault lies that is one of a start tag, and which signs leave a page accepted.
-use Rattle.rx_nest.proofs.Common.{◌≡◌, ◌∙◌, append_assoc, append-nil, ap, sym, ℕ, ◌≤◌, List, [], ◌∷◌, ◌++◌, refl, Option, Some, None, ⊎_elim, arith, Fault, Event, Sign, begun, said, finished, Sight, sees, Lie, IsAtTag, IsAtOne, IsRefusal}
+use Rattle.rx_nest.proofs.Common.{◌≡◌, ◌∙◌, append_assoc, append-nil, ap, sym, ℕ, ◌≤◌, List, [], ◌∷◌, ◌++◌, refl, Option, Some, None, ⊎_elim, arith, Fault, Event, Sign, begun, said, finished, Sight, sees, Lie, IsAtTag, IsAtOne, IsRefusal, inl, inr, ◌⊎◌, length, nothing_seen, ShowsMore, Syntax, Limits, Progress}
 use Rattle.rx_nest.proofs.TokenPlacing.{AllBegin, AllBegun, all_add}
 
 pub at_from : (from to : ℕ) (signs : List Sign) (fault : Fault) → Lie from to signs → IsAtOne fault signs → from ≤ fault.at
@@ -28,3 +28,13 @@ module _ (refused : List Sign → Option Fault) (law : IsRefusal refused) where
   bare_accepted events sight b h =
       let seen = all_add (λ t. t.attributes ≡ []) events sight b in
       ap refused seen.are ∙ bare_more sight.signs seen.signs seen.begun_so h
+
+-- a fault that is shown of more bytes was shown before, or lies behind these
+pub refused_where : {syntax : Syntax} {limits : Limits} {bytes more : List ℕ} {was now : Progress} (refused : List Sign → Option Fault) (law : IsRefusal refused) (s : ShowsMore syntax limits bytes more was now) (fault : Fault) → refused (sees nothing_seen now.told).signs ≡ Some fault
+    → (refused (sees nothing_seen was.told).signs ≡ Some fault) ⊎ ((refused (sees nothing_seen was.told).signs ≡ None) × (length bytes ≤ fault.at))
+refused_where {bytes = bytes} {more = more} {was = was} refused law s fault e = by (refused (sees nothing_seen was.told).signs) refl (ap refused (sym s.are) ∙ e)
+  where
+    by : (x : Option Fault) → refused (sees nothing_seen was.told).signs ≡ x → refused ((sees nothing_seen was.told).signs ++ s.signs) ≡ Some fault
+        → (refused (sees nothing_seen was.told).signs ≡ Some fault) ⊎ ((refused (sees nothing_seen was.told).signs ≡ None) × (length bytes ≤ fault.at))
+    by (Some other) k w = inl (k ∙ (sym (law.stays (sees nothing_seen was.told).signs s.signs other k) ∙ w))
+    by None k w = inr (k, at_from (length bytes) (length (bytes ++ more)) s.signs fault s.lie (law.lies (sees nothing_seen was.told).signs s.signs fault k w))

@@ -1,6 +1,7 @@
 -- Where a page's reading stands, and where its fault is.
-use Rattle.rx_nest.proofs.Common.{append_cancel_left, ◌⊎◌, ◌-◌, take, Syntax, FaultAt, Fault, Limits, Event, Spot, Progress, Reading, spot_of, page_byte, page_byte_on, telling, page_on, page_read, nothing_read, end_of, fault_stays, found_fault, AllSized, all_sized, read_size, page_append, take-append_seam, ◌≡◌, ◌∙◌, ⊎_elim, inl, inr, append-nil, ℕ, ◌+◌, ◌≤◌, ◌<◌, List, [], ◌∷◌, ◌++◌, refl, sym, ap, subst, length, length-append, append_assoc, Result, Ok, Err, arith, faults_follow_fronts}
+use Rattle.rx_nest.proofs.Common.{append_cancel_left, ◌-◌, take, Syntax, FaultAt, Fault, Limits, Event, Spot, Progress, Reading, spot_of, page_on, page_read, nothing_read, end_of, fault_stays, found_fault, AllSized, all_sized, read_size, page_append, take-append_seam, ◌≡◌, ◌∙◌, ⊎_elim, append-nil, ℕ, ◌+◌, ◌≤◌, ◌<◌, List, [], ◌∷◌, ◌++◌, refl, sym, ap, subst, length, length-append, append_assoc, Ok, Err, arith, faults_follow_fronts, two_fronts}
 use Rattle.rx_nest.specs.Nests.{Faults, NoneYet, Stops}
+use Rattle.rx_nest.proofs.TextSteps.{bytes_go}
 
 module _ (syntax : Syntax) (limits : Limits) where
   -- a fault that the next bytes decide has its place in them
@@ -59,33 +60,10 @@ module _ (syntax : Syntax) (limits : Limits) where
     more : List Event
     is : q.told ≡ p.told ++ more
 
-  abbrev GrowsTo : Progress → Result Progress Fault → Type 0
-  GrowsTo p (Ok q) = Grows p q
-  GrowsTo p (Err fault) = Unit {0}
-
-  byte_grows : (p : Progress) (x : Result Progress Fault) (byte : ℕ) → GrowsTo p x → GrowsTo p (page_byte_on syntax limits x byte)
-  byte_grows p (Err fault) byte g = tt
-  byte_grows p (Ok q) byte g = by (page_byte syntax limits q.now byte)
-    where
-      by : (x : Result Progress Fault) → GrowsTo p (telling q.told x)
-      by (Ok r) = record { more = g.more ++ r.told; is = ap (λ z. z ++ r.told) g.is ∙ append_assoc p.told g.more r.told }
-      by (Err fault) = tt
-
-  all_grow : (bytes : List ℕ) (p : Progress) (x : Result Progress Fault) → GrowsTo p x → GrowsTo p (page_on syntax limits x bytes)
-  all_grow [] p x g = g
-  all_grow (byte ∷ bytes) p x g = all_grow bytes p (page_byte_on syntax limits x byte) (byte_grows p x byte g)
-
   grows : (bytes : List ℕ) (p q : Progress) → page_on syntax limits (Ok p) bytes ≡ Ok q → Grows p q
-  grows bytes p q e = subst (GrowsTo p) e (all_grow bytes p (Ok p) (record { more = []; is = sym (append-nil p.told) }))
-
-  -- of two fronts of a list one is a front of the other
-  fronts : (a b c d : List ℕ) (x : ℕ) → a ++ b ≡ c ++ x ∷ d → ((m : List ℕ) × (c ≡ a ++ m)) ⊎ ((m : List ℕ) × (a ≡ c ++ x ∷ m))
-  fronts [] b c d x e = inl (c, refl)
-  fronts (y ∷ a) b [] d x e = let same : y ≡ x = cc in inr (a, ap (λ z. z ∷ a) same)
-  fronts (y ∷ a) b (z ∷ c) d x e =
-      let same : y ≡ z = cc in
-      let rest : a ++ b ≡ c ++ x ∷ d = cc in
-      ⊎_elim (λ r. inl (r.0, ap (λ w. z ∷ w) r.1 ∙ ap (λ w. w ∷ (a ++ r.0)) (sym same))) (λ r. inr (r.0, ap (λ w. y ∷ w) r.1 ∙ ap (λ w. w ∷ (c ++ x ∷ r.0)) same)) (fronts a b c d x rest)
+  grows bytes p q e =
+      bytes_go syntax limits (λ rest x. Grows p x) (λ byte rest x scanned step a b g. record { more = g.more ++ step.events; is = ap (λ z. z ++ step.events) g.is ∙ append_assoc p.told g.more step.events }) bytes p q e
+      (record { more = []; is = sym (append-nil p.told) })
 
   none_more : (told es fs : List Event) → told ≡ (told ++ es) ++ fs → es ≡ []
   none_more told es fs e = by es (append_cancel_left told [] (es ++ fs) (append-nil told ∙ (e ∙ append_assoc told es fs)))
@@ -97,7 +75,7 @@ module _ (syntax : Syntax) (limits : Limits) where
   pub still_so : (bytes piece : List ℕ) (now : Reading) (told : List Event) (fault : Fault) → page_read syntax limits bytes ≡ Ok (record { now = now; told = told }) → Stops syntax limits bytes told piece fault
       → (front rest : List ℕ) (after : Progress) → piece ≡ front ++ rest → page_read syntax limits (bytes ++ front) ≡ Ok after → after.told ≡ told
   still_so bytes piece now told fault h f front rest after e a =
-      ⊎_elim (λ m. short front m.0 m.1 after a) (λ m. absurd (long front m.0 m.1 after a)) (fronts front rest f.front f.rest f.byte (sym e ∙ f.are))
+      ⊎_elim (λ d. short front d.z d.is after a) (λ d. by d.z d.is d.rest) (two_fronts front f.front rest (f.byte ∷ f.rest) (sym e ∙ f.are))
     where
       short : (front m : List ℕ) → f.front ≡ front ++ m → (after : Progress) → page_read syntax limits (bytes ++ front) ≡ Ok after → after.told ≡ told
       short front m e after a =
@@ -109,11 +87,9 @@ module _ (syntax : Syntax) (limits : Limits) where
           let none : first.more ≡ [] = none_more told first.more second.more (second.is ∙ ap (λ x. x ++ second.more) first.is) in
           first.is ∙ (ap (λ x. told ++ x) none ∙ append-nil told)
 
-      long : (front m : List ℕ) → front ≡ f.front ++ f.byte ∷ m → (after : Progress) → page_read syntax limits (bytes ++ front) ≡ Ok after → ⊥
-      long front m e after a =
-          let fails : page_read syntax limits (bytes ++ front) ≡ Err fault =
-          ap (λ x. page_read syntax limits x) (ap (λ x. bytes ++ x) (e ∙ sym (append_assoc f.front (f.byte ∷ []) m)) ∙ sym (append_assoc bytes (f.front ++ f.byte ∷ []) m))
-          ∙ (page_append syntax limits (spot_of syntax f.now.nest) (Ok nothing_read) (bytes ++ (f.front ++ f.byte ∷ [])) m
-          ∙ (ap (λ x. page_on syntax limits x m) f.here ∙ fault_stays syntax limits fault m)) in
-          let w : Err fault ≡ Ok after = sym fails ∙ a in
-          cc
+      by : (m : List ℕ) → front ≡ f.front ++ m → f.byte ∷ f.rest ≡ m ++ rest → after.told ≡ told
+      by [] is r = short front [] (sym (append-nil f.front) ∙ (sym is ∙ sym (append-nil front))) after a
+      by (x ∷ m) is r =
+          let same : x ≡ f.byte = cc in
+          let fails = stops_so bytes front told fault (record { front = f.front; byte = f.byte; rest = m; are = is ∙ ap (λ y. f.front ++ y ∷ m) same; now = f.now; read = f.read; here = f.here; before = f.before }) in
+          absurd (let w : Err fault ≡ Ok after = sym fails ∙ a in cc)

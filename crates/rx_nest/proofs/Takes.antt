@@ -1,5 +1,6 @@
 -- A tag is taken as the tables of nesting say.
-use Rattle.rx_nest.proofs.Common.{◌≡◌, ◌∙◌, ⊎_elim, ℕ, Bool, true, false, List, [], ◌∷◌, ◌++◌, append_assoc, append-nil, refl, sym, ap, subst, length, Option, Some, None, Result, Ok, Err, nat_le, ◌&&◌, ◌||◌, not, if◌then◌else◌, drop, Chars, by_test, Syntax, Tag, tag, Place, is_alone, hides, drops_line_feed, place_in, StartTag, Item, start_of, is_held, Line, inside_of, within, Rows, first_row, start_rows, end_rows, under_start, after_end, has_ended, is_before, Kind, TooDeep, NothingOpen, Mismatch, Nesting, Event, begins, finishes, Step, nest_step, step_by, unless_refused, over, line_above, ended_under, ended_by_end, begun_under, tag_passes, Lines, start_refusals, is_none_open, is_named, kept_at_start, ended_at_start, level_under, TagGives, GivesBy, is_room, Begins, own_of_end, Ends, Sign, begun, finished, Flags, Sight, sees, finishing, is_hidden, AreLevels, Follows, flags_of, phase_at, own_signs, own_tag, tag_by}
+use Rattle.rx_nest.proofs.Common.{◌≡◌, ◌∙◌, ⊎_elim, ℕ, Bool, true, false, List, [], ◌∷◌, ◌++◌, append_assoc, append-nil, refl, sym, ap, subst, length, Option, Some, None, Result, Ok, Err, nat_le, ◌&&◌, ◌||◌, not, if◌then◌else◌, drop, Chars, by_test, Syntax, Tag, tag, Place, is_alone, hides, drops_line_feed, place_in, StartTag, Item, start_of, is_held, Line, inside_of, within, Rows, first_row, start_rows, end_rows, under_start, after_end, has_ended, is_before, Kind, TooDeep, NothingOpen, Mismatch, Nesting, Event, begins, finishes, Step, nest_step, step_by, unless_refused, over, line_above, ended_under, ended_by_end, begun_under, Lines, start_refusals, is_none_open, is_named, kept_at_start, ended_at_start, level_under, TagGives, GivesBy, is_room, Begins, own_of_end, Ends, Sign, begun, finished, Flags, Sight, sees, finishing, is_hidden, AreLevels, Follows, flags_of, phase_at, own_signs, own_tag, tag_by, ap₂}
+use Rattle.std.specs.Option.{option_or}
 use Rattle.rx_nest.specs.declared.lines.TagEffect.{TagEffect}
 use Rattle.rx_nest.specs.declared.lines.Refused.{Refused}
 use Rattle.rx_nest.specs.declared.lines.Refused.TheVariants.{Fault, NoMemory}
@@ -9,13 +10,9 @@ use Rattle.rx_nest.specs.Levels.{Levels, row_at, place_under, hidden_under, ends
 use Rattle.rx_nest.proofs.LineLemmas.{same_of, under_kept, under_seen, end_kept, end_seen}
 use Rattle.rx_nest.proofs.TreeSeen.{over_line}
 
-rows_none : (rows : Rows) (row : Bool × Kind) → first_row rows ≡ None → first_row (rows ++ row ∷ []) ≡ first_row (row ∷ [])
-rows_none [] row = λ h. refl
-rows_none (r ∷ rows) row = by_test r.0 (λ e. rw e (λ h. absurd (cc))) (λ e. rw e (rows_none rows row))
-
-pub rows_some : (rows : Rows) (row : Bool × Kind) (kind : Kind) → first_row rows ≡ Some kind → first_row (rows ++ row ∷ []) ≡ Some kind
-rows_some [] row kind = λ h. absurd (cc)
-rows_some (r ∷ rows) row kind = by_test r.0 (λ e. rw e (λ h. h)) (λ e. rw e (rows_some rows row kind))
+rows_append : (rows more : Rows) → first_row (rows ++ more) ≡ option_or (first_row rows) (first_row more)
+rows_append [] more = refl
+rows_append (r ∷ rows) more = by_test r.0 (λ e. rw e refl) (λ e. rw e (rows_append rows more))
 
 -- the phase is told by what is kept
 ended_is : (b : Bool) (levels : Levels) (stood : Bool) → has_ended (phase_at b levels stood) ≡ (b && is_none_open levels)
@@ -25,6 +22,9 @@ ended_is _ _ stood = refl
 before_is : (b : Bool) (levels : Levels) (stood : Bool) → is_before (phase_at b levels stood) ≡ not b
 before_is true (level ∷ levels) stood = refl
 before_is _ _ stood = refl
+
+abbrev row_by : Option Kind → Bool → Option Kind
+row_by first room = option_or first (if room then None else Some TooDeep)
 
 module _ (l : Lines) (n : Nesting) (f : Follows l n) where
   pub refusals_are : (t : Tag) → start_rows l.syntax l.depth n.line n.phase t ≡ start_refusals l t ++ (nat_le l.depth (length (kept_at_start t.name l.levels)), TooDeep) ∷ []
@@ -37,19 +37,11 @@ module _ (l : Lines) (n : Nesting) (f : Follows l n) where
         sym (same_of l.syntax l.levels n.line f.levels_are).place,
       ) refl
 
-  -- a refused tag
-  pub start_refused : (t : Tag) (kind : Kind) → first_row (start_refusals l t) ≡ Some kind → first_row (start_rows l.syntax l.depth n.line n.phase t) ≡ Some kind
-  start_refused t kind h = ap first_row (refusals_are t) ∙ rows_some (start_refusals l t) _ kind h
-
-  pub start_deep : (t : Tag) → first_row (start_refusals l t) ≡ None → is_room l t ≡ false → first_row (start_rows l.syntax l.depth n.line n.phase t) ≡ Some TooDeep
-  start_deep t h r =
-      ap first_row (refusals_are t) ∙ (rows_none (start_refusals l t) _ h
-      ∙ by_test (nat_le l.depth (length (kept_at_start t.name l.levels))) (λ e. rw e refl) (λ e. absurd (let w : true ≡ false = sym (ap not e) ∙ r in cc)))
-
-  pub start_passes : (t : Tag) → first_row (start_refusals l t) ≡ None → is_room l t ≡ true → first_row (start_rows l.syntax l.depth n.line n.phase t) ≡ None
-  start_passes t h r =
-      ap first_row (refusals_are t) ∙ (rows_none (start_refusals l t) _ h
-      ∙ by_test (nat_le l.depth (length (kept_at_start t.name l.levels))) (λ e. absurd (let w : false ≡ true = sym (ap not e) ∙ r in cc)) (λ e. rw e refl))
+  -- the first row that refuses a start tag
+  start_row : (t : Tag) → first_row (start_rows l.syntax l.depth n.line n.phase t) ≡ row_by (first_row (start_refusals l t)) (is_room l t)
+  start_row t =
+      ap first_row (refusals_are t) ∙ (rows_append (start_refusals l t) ((nat_le l.depth (length (kept_at_start t.name l.levels)), TooDeep) ∷ [])
+      ∙ by_test (nat_le l.depth (length (kept_at_start t.name l.levels))) (λ e. rw e refl) (λ e. rw e refl))
 
   -- an end tag
   pub end_refusals_are : (t : Tag) → end_rows l.syntax n.line t ≡ (is_none_open l.levels, NothingOpen) ∷ (not (is_named t.name (kept (ends_by true t.name) l.levels)), Mismatch) ∷ []
@@ -58,6 +50,20 @@ module _ (l : Lines) (n : Nesting) (f : Follows l n) where
         sym (same_of l.syntax l.levels n.line f.levels_are).none,
         sym ((same_of l.syntax (kept (ends_by true t.name) l.levels) (after_end l.syntax t.name n.line) (end_kept l.syntax t.name l.levels n.line f.levels_are)).named t.name),
       ) refl
+
+-- a tag's step, by whether it is an end tag and by the row that refuses it
+abbrev end_step : Syntax → Nesting → Tag → Step
+end_step syntax n t = record { next = over (line_above (after_end syntax t.name n.line)); events = ended_by_end syntax t.name n.line ++ finishes ∷ [] }
+
+abbrev begun_step : Syntax → Nesting → Item → Tag → Step
+begun_step syntax n item t = begun_under syntax item t (under_start syntax t.name n.line) (ended_under syntax t.name n.line)
+
+tag_is : (syntax : Syntax) (depth : ℕ) (n : Nesting) (item : Item) (t : Tag) (closing : Bool) (row : Option Kind) → item.token ≡ tag t → t.closing ≡ closing
+    → first_row (if closing then end_rows syntax n.line t else start_rows syntax depth n.line n.phase t) ≡ row → nest_step syntax depth n item ≡ unless_refused row (if closing then end_step syntax n t else begun_step syntax n item t)
+tag_is syntax depth n item t closing row is_tag is h =
+    ap (λ token. step_by syntax depth n item token) is_tag
+    ∙ (ap (λ b. unless_refused (first_row (if b then end_rows syntax n.line t else start_rows syntax depth n.line n.phase t)) (if b then end_step syntax n t else begun_step syntax n item t)) is
+    ∙ ap (λ r. unless_refused r (if closing then end_step syntax n t else begun_step syntax n item t)) h)
 
 -- what a tag leads to and shows
 pub record Taken (l : Lines) (n : Nesting) (item : Item) (told : TagEffect) (new : Lines) : Type 0 where
@@ -114,16 +120,8 @@ module _ (syntax : Syntax) (depth : ℕ) (n : Nesting) (item : Item) (t : Tag) (
 
   pub start_steps : first_row (start_rows syntax depth n.line n.phase t) ≡ None → nest_step syntax depth n item ≡ Ok (start_step (is_alone syntax (inside_of syntax line) t))
   start_steps h =
-      ap (λ token. step_by syntax depth n item token) is_tag
-      ∙ (ap (λ closing. unless_refused (first_row (if closing then end_rows syntax n.line t else start_rows syntax depth n.line n.phase t)) (if closing then ended_step else begun_step)) is_start
-      ∙ (ap (λ row. unless_refused row begun_step) h
-      ∙ ap (λ (step : Step). unless_refused None step) (by_test {G = begun_step ≡ start_step (is_alone syntax (inside_of syntax line) t)} (is_alone syntax (inside_of syntax line) t) (λ e. rw e refl) (λ e. rw e refl))))
-    where
-      ended_step : Step
-      ended_step = record { next = over (line_above (after_end syntax t.name n.line)); events = ended_by_end syntax t.name n.line ++ finishes ∷ [] }
-
-      begun_step : Step
-      begun_step = begun_under syntax item t line (ended_under syntax t.name n.line)
+      tag_is syntax depth n item t false None is_tag is_start h
+      ∙ ap (λ (step : Step). unless_refused None step) (by_test {G = begun_step syntax n item t ≡ start_step (is_alone syntax (inside_of syntax line) t)} (is_alone syntax (inside_of syntax line) t) (λ e. rw e refl) (λ e. rw e refl))
 
 module _ (syntax : Syntax) (levels : Levels) (line : Line) (item : Item) (t : Tag) (stood : Bool) (are : AreLevels syntax levels line) where
   next_levels : (alone : Bool) → AreLevels syntax (levels_of syntax levels t alone) (next_of syntax line item t alone).line
@@ -171,7 +169,7 @@ start_taken l new n item t told f is_tag is_start b =
     let tag_is : own_tag item ≡ start_of item t = ap (λ token. tag_by item token) is_tag in
     record {
       step = start_step l.syntax l.depth n item t is_tag is_start alone;
-      is_step = start_steps l.syntax l.depth n item t is_tag is_start (start_passes l n f t b.allowed b.room);
+      is_step = start_steps l.syntax l.depth n item t is_tag is_start (start_row l n f t ∙ ap₂ row_by b.allowed b.room);
       follows =
           subst (λ (x : Lines). Follows x (start_step l.syntax l.depth n item t is_tag is_start alone).next) (sym is)
           (record { levels_are = next_levels l.syntax ls line item t f.stood are alone; stood = f.stood; phase_is = next_phase l.syntax ls line item t f.stood are alone; none_yet = λ e. absurd (cc) });
@@ -187,35 +185,18 @@ start_taken l new n item t told f is_tag is_start b =
     }
 
 -- an end tag is taken
-module _ (syntax : Syntax) (levels : Levels) (line : Line) (are : AreLevels syntax levels line) where
-  above_levels : AreLevels syntax (drop 1 levels) (line_above line)
-  above_levels = go levels line are
-    where
-      go : (levels : Levels) (line : Line) → AreLevels syntax levels line → AreLevels syntax (drop 1 levels) (line_above line)
-      go [] [] h = h
-      go (level ∷ levels) (t ∷ above) h = h.4
-      go _ _ h = elim h [ ]
+above_levels : (syntax : Syntax) (levels : Levels) (line : Line) → AreLevels syntax levels line → AreLevels syntax (drop 1 levels) (line_above line)
+above_levels syntax [] [] h = h
+above_levels syntax (level ∷ levels) (t ∷ above) h = h.4
+above_levels syntax _ _ h = elim h [ ]
 
 end_shows : (name : Chars) (levels : Levels) (signs : List Sign) (s : StartTag) → is_named name levels ≡ true
     → sees (record { flags = flags_of levels; signs = signs }) (finishes ∷ []) ≡ record { flags = flags_of (drop 1 levels); signs = signs ++ own_signs (own_of_end levels) s }
 end_shows name [] signs s h = absurd (cc)
 end_shows name (level ∷ levels) signs s h = by_test level.shown (λ e. rw e refl) (λ e. rw e refl)
 
-has_begun : (l : Lines) (n : Nesting) → Follows l n → is_none_open l.levels ≡ false → l.begun ≡ true
+pub has_begun : (l : Lines) (n : Nesting) → Follows l n → is_none_open l.levels ≡ false → l.begun ≡ true
 has_begun l n f h = by_test l.begun (λ e. e) (λ e. absurd (let w : true ≡ false = sym (ap is_none_open (f.none_yet e)) ∙ h in cc))
-
-module _ (syntax : Syntax) (depth : ℕ) (n : Nesting) (item : Item) (t : Tag) (is_tag : item.token ≡ tag t) (is_end : t.closing ≡ true) where
-  abbrev end_step : Step
-  end_step = record { next = over (line_above (after_end syntax t.name n.line)); events = ended_by_end syntax t.name n.line ++ finishes ∷ [] }
-
-  end_by_row : (row : Option Kind) → first_row (end_rows syntax n.line t) ≡ row → nest_step syntax depth n item ≡ unless_refused row end_step
-  end_by_row row h =
-      ap (λ token. step_by syntax depth n item token) is_tag
-      ∙ (ap (λ closing. unless_refused (first_row (if closing then end_rows syntax n.line t else start_rows syntax depth n.line n.phase t)) (if closing then end_step else begun_step)) is_end
-      ∙ ap (λ row. unless_refused row end_step) h)
-    where
-      begun_step : Step
-      begun_step = begun_under syntax item t (under_start syntax t.name n.line) (ended_under syntax t.name n.line)
 
 pub end_taken : (l new : Lines) (n : Nesting) (item : Item) (t : Tag) (told : TagEffect) → Follows l n → item.token ≡ tag t → t.closing ≡ true → Ends l t told new → Taken l n item told new
 end_taken l new n item t told f is_tag is_end b =
@@ -226,8 +207,8 @@ end_taken l new n item t told f is_tag is_end b =
     let begun_is : l.begun ≡ true = has_begun l n f b.there in
     let passes : first_row (end_rows l.syntax n.line t) ≡ None = ap first_row (end_refusals_are l n f t) ∙ rw (b.there, b.named) refl in
     record {
-      step = end_step l.syntax l.depth n item t is_tag is_end;
-      is_step = end_by_row l.syntax l.depth n item t is_tag is_end None passes;
+      step = end_step l.syntax n t;
+      is_step = tag_is l.syntax l.depth n item t true None is_tag is_end passes;
       follows =
           subst (λ (x : Lines). Follows x (over (line_above line))) (sym b.becomes)
           (record {
@@ -245,16 +226,6 @@ end_taken l new n item t told f is_tag is_end b =
           ∙ ap (λ (x : Lines). record { flags = flags_of x.levels; signs = (signs ++ finishing told.ends) ++ own_signs told.own (own_tag item) }) (sym b.becomes))));
     }
 
--- a tag that isn't taken
-pub start_is_refused : (l : Lines) (n : Nesting) (item : Item) (t : Tag) (kind : Kind) → Follows l n → item.token ≡ tag t → t.closing ≡ false → first_row (start_rows l.syntax l.depth n.line n.phase t) ≡ Some kind → nest_step l.syntax l.depth n item ≡ Err kind
-start_is_refused l n item t kind f is_tag is_start h =
-    ap (λ token. step_by l.syntax l.depth n item token) is_tag
-    ∙ (ap (λ closing. unless_refused (first_row (if closing then end_rows l.syntax n.line t else start_rows l.syntax l.depth n.line n.phase t)) (tag_passes l.syntax n.line item t)) is_start
-    ∙ ap (λ row. unless_refused row (tag_passes l.syntax n.line item t)) h)
-
-pub end_is_refused : (l : Lines) (n : Nesting) (item : Item) (t : Tag) (kind : Kind) → Follows l n → item.token ≡ tag t → t.closing ≡ true → first_row (end_rows l.syntax n.line t) ≡ Some kind → nest_step l.syntax l.depth n item ≡ Err kind
-end_is_refused l n item t kind f is_tag is_end h = end_by_row l.syntax l.depth n item t is_tag is_end (Some kind) h
-
 -- what a tag's answer says of the tables of nesting
 abbrev pub TagSteps : Lines → Nesting → Item → Result TagEffect Refused → Lines → Type 0
 TagSteps l n item (Ok told) new = Taken l n item told new
@@ -268,14 +239,14 @@ tag_steps l new n item t result f is_tag gives = go t.closing refl result gives
     go true e (Ok told) g = end_taken l new n item t told f is_tag e g
     go true e (Err (Fault kind)) g =
         ⊎_elim
-        (λ w. end_is_refused l n item t kind f is_tag e (ap first_row (end_refusals_are l n f t) ∙ rw (w.0, w.1) refl))
-        (λ w. end_is_refused l n item t kind f is_tag e (ap first_row (end_refusals_are l n f t) ∙ rw (w.0, w.1, w.2) refl))
+        (λ w. tag_is l.syntax l.depth n item t true (Some kind) is_tag e (ap first_row (end_refusals_are l n f t) ∙ rw (w.0, w.1) refl))
+        (λ w. tag_is l.syntax l.depth n item t true (Some kind) is_tag e (ap first_row (end_refusals_are l n f t) ∙ rw (w.0, w.1, w.2) refl))
         g.0
     go true e (Err NoMemory) g = tt
     go false e (Ok told) g = start_taken l new n item t told f is_tag e g
     go false e (Err (Fault kind)) g =
         ⊎_elim
-        (λ w. start_is_refused l n item t kind f is_tag e (start_refused l n f t kind w))
-        (λ w. start_is_refused l n item t kind f is_tag e (start_deep l n f t w.0 w.1 ∙ ap (λ k. Some k) (sym w.2)))
+        (λ w. tag_is l.syntax l.depth n item t false (Some kind) is_tag e (start_row l n f t ∙ ap (λ o. row_by o (is_room l t)) w))
+        (λ w. tag_is l.syntax l.depth n item t false (Some kind) is_tag e (start_row l n f t ∙ (ap₂ row_by w.0 w.1 ∙ ap (λ k. Some k) (sym w.2))))
         g.0
     go false e (Err NoMemory) g = tt

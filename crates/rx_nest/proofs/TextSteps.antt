@@ -1,10 +1,14 @@
 -- Tokens of text leave the elements as they are, and show their text.
-use Rattle.rx_nest.proofs.Common.{◌≡◌, ◌∙◌, Bool, true, false, List, [], ◌∷◌, ◌++◌, refl, sym, ap, append_assoc, append-nil, Option, Some, Ok, ◌&&◌, if◌then◌else◌, map, map-append, and_from, Chars, untrue, Syntax, Token, character, reference, kept, section, comment, Item, text_of, is_line_feed, Phase, within, Limits, Spot, spot_of, is_none_left, steps_on, no_step, with_events, ℕ, Result, Err, Kind, Fault, Scanned, Progress, read_byte, progress_of, nested_items, telling, page_byte_on, fault_in, Nesting, Event, Step, going_on, told, text_step, step_by, nest_step, joined, texts_of, keeps_first, Sign, said, Flags, is_hidden, Sight, see, sees}
+use Rattle.rx_nest.proofs.Common.{◌≡◌, ◌∙◌, Bool, true, false, List, [], ◌∷◌, ◌++◌, refl, sym, ap, append_assoc, append-nil, Option, Some, Ok, ◌&&◌, if◌then◌else◌, map, map-append, and_from, Chars, untrue, Syntax, Token, character, reference, kept, section, comment, Item, text_of, is_line_feed, Phase, within, Limits, Spot, spot_of, is_none_left, steps_on, no_step, with_events, ℕ, Result, Err, Kind, Fault, Scanned, Progress, read_byte, progress_of, nested_items, telling, page_byte_on, fault_in, Nesting, Event, Step, going_on, told, text_step, step_by, nest_step, joined, texts_of, keeps_first, Sign, said, Flags, is_hidden, Sight, see, sees, nothing_seen, subst, page_on}
 use Rattle.rx_pages.proofs.ScanSteps.{Stays, one_step}
 
 pub sees_append : (sight : Sight) (a b : List Event) → sees sight (a ++ b) ≡ sees (sees sight a) b
 sees_append sight [] b = refl
 sees_append sight (e ∷ a) b = sees_append (see e sight.flags sight.signs) a b
+
+-- what is seen with an event more
+pub seen_on : (Is : Sight → Type 0) (events : List Event) (event : Event) → Is (see event (sees nothing_seen events).flags (sees nothing_seen events).signs) → Is (sees nothing_seen (events ++ event ∷ []))
+seen_on Is events event h = subst Is (sym (sees_append nothing_seen events (event ∷ []))) h
 
 -- what text shows
 abbrev pub said_by : Phase → Bool → Chars → List Sign
@@ -77,15 +81,14 @@ module _ (syntax : Syntax) (limits : Limits) (spot : Spot) where
   pub texts_quiet : (items : List Item) (n : Nesting) (text : Chars) → spot_of syntax n ≡ spot → texts_of items ≡ Some text → keeps_first n.drops items ≡ true → Quiet syntax limits spot n items (λ hidden. said_by n.phase hidden text)
   texts_quiet [] n text s h k =
       let none : [] ≡ text = cc in
-      let q = none_quiet n s in
       record {
-        step = q.step;
-        is_step = q.is_step;
-        stays = q.stays;
-        line = q.line;
-        phase = q.phase;
-        drops = q.drops;
-        shows = λ flags signs. q.shows flags signs ∙ ap (λ x. record { flags = flags; signs = signs ++ x }) (sym (said_none n.phase (is_hidden flags)) ∙ ap (λ x. said_by n.phase (is_hidden flags) x) none);
+        step = no_step n;
+        is_step = refl;
+        stays = s;
+        line = refl;
+        phase = refl;
+        drops = refl;
+        shows = λ flags signs. ap (λ x. record { flags = flags; signs = x }) (sym (append-nil signs) ∙ ap (λ x. signs ++ x) (sym (said_none n.phase (is_hidden flags)) ∙ ap (λ x. said_by n.phase (is_hidden flags) x) none));
       }
   texts_quiet (item ∷ items) n text s h k =
       let p = parts item items text h in
@@ -163,3 +166,18 @@ byte_goes syntax limits p byte G fails goes = by (read_byte syntax limits (spot_
     by : (x : Result Scanned Kind) → read_byte syntax limits (spot_of syntax p.now.nest) byte p.now.scan ≡ x → G (telling p.told (nested_items syntax limits.depth p.now x))
     by (Ok scanned) e = on scanned e (steps_on syntax limits.depth (Ok (no_step p.now.nest)) scanned.items) refl
     by (Err kind) e = fails kind
+
+-- What goes on with each byte that is read, whatever bytes are left, goes on over all.
+pub bytes_go : (syntax : Syntax) (limits : Limits) (Is : List ℕ → Progress → Type 0) → ((byte : ℕ) (rest : List ℕ) (p : Progress) (scanned : Scanned) (step : Step) → read_byte syntax limits (spot_of syntax p.now.nest) byte p.now.scan ≡ Ok scanned
+    → steps_on syntax limits.depth (Ok (no_step p.now.nest)) scanned.items ≡ Ok step → Is (byte ∷ rest) p → Is rest (record { now = record { scan = scanned.next; nest = step.next }; told = p.told ++ step.events }))
+    → (bytes : List ℕ) (p q : Progress) → page_on syntax limits (Ok p) bytes ≡ Ok q → Is bytes p → Is [] q
+bytes_go syntax limits Is on bytes p q e h = subst (At []) e (go bytes (Ok p) h)
+  where
+    At : List ℕ → Result Progress Fault → Type 0
+    At rest (Ok x) = Is rest x
+    At rest (Err fault) = Unit {0}
+
+    go : (rest : List ℕ) (x : Result Progress Fault) → At rest x → At [] (page_on syntax limits x rest)
+    go [] x k = k
+    go (byte ∷ rest) (Err fault) k = go rest (Err fault) tt
+    go (byte ∷ rest) (Ok x) k = go rest (page_byte_on syntax limits (Ok x) byte) (byte_goes syntax limits x byte (At rest) (λ kind. tt) (λ scanned step a b. on byte rest x scanned step a b k))

@@ -1,7 +1,8 @@
 -- Before each start tag that is shown stands the front of a page.
-use Rattle.rx_nest.proofs.Common.{◌&&◌, ◌||◌, ◌==◌, not, nat_le, if◌then◌else◌, ◌⊎◌, greater_than_sign, less_than_sign, ampersand, Chars, by_test, split, Syntax, More, Char, Bad, answer_of, Entry, byte_order_mark, line_feed, carriage_return, as_line_end, StartTag, Tag, Token, tag, character, reference, kept, section, comment, doctype, is_alone, is_html, has_references, is_text, start_of, values, Item, is_literal, is_line_feed, same, is_among, enders, is_omissible, is_held, Line, inside_of, parent_of, Phase, before, first_row, tag_rows, under_start, Utf8Step, Content, Fault, Kind, NotUtf8, PageTooLong, Unended, Limits, IsFront, Verdict, goes_on, whole, ended, refused, verdict, at_first, Spot, spot_of, Scanning, starts_at, Scanned, first_of, token_at, is_doctype, item_of, is_too_long, told_first, with_item, after_token, read_char, read_answer, read_byte, Progress, Reading, with_events, step_on, steps_on, no_step, nested_items, page_byte_on, telling, page_on, page_read, nothing_read, end_of, may_end, fault_in, is_none_left, found_fault, page_append, IsKept, is_kept, read_size, item_first, item_last, token_of_item, within, take-append-le, ◌≡◌, ◌∙◌, ℕ, ◌+◌, ◌<◌, ◌≤◌, Bool, true, false, List, [], ◌∷◌, ◌++◌, map, refl, sym, ap, subst, length, length-append, append_assoc, append-nil, Option, Some, None, Result, Ok, Err, arith, take, inl, inr, ⊎_elim, faults_follow_fronts, Sign, begun, said, finished, Flags, Sight, is_hidden, see, sees, nothing_seen, Way, IsAtTag, IsAtOne, IsRefusal}
+use Rattle.rx_nest.proofs.Common.{hides, Nesting, ◌&&◌, ◌||◌, ◌==◌, not, nat_le, if◌then◌else◌, ◌⊎◌, greater_than_sign, less_than_sign, ampersand, Chars, by_test, split, Syntax, More, Char, Bad, answer_of, Entry, byte_order_mark, line_feed, carriage_return, as_line_end, StartTag, Tag, Token, tag, has_references, is_text, start_of, values, Item, is_literal, Line, inside_of, Utf8Step, Content, Fault, Kind, NotUtf8, PageTooLong, Unended, Limits, IsFront, Verdict, goes_on, whole, ended, refused, verdict, at_first, Spot, spot_of, Scanning, starts_at, Scanned, first_of, token_at, is_doctype, item_of, is_too_long, told_first, with_item, after_token, read_answer, read_byte, Progress, Reading, steps_on, no_step, nested_items, page_byte_on, telling, page_on, page_read, nothing_read, end_of, may_end, fault_in, is_none_left, found_fault, page_append, IsKept, is_kept, read_size, item_first, item_last, token_of_item, take-append-le, ◌≡◌, ◌∙◌, ℕ, ◌+◌, ◌<◌, ◌≤◌, Bool, true, false, List, [], ◌∷◌, ◌++◌, map, refl, sym, ap, subst, length, length-append, append_assoc, append-nil, Option, Some, Result, Ok, Err, arith, take, inl, inr, ⊎_elim, faults_follow_fronts, Sign, begun, said, finished, Flags, Sight, is_hidden, see, sees, nothing_seen, Way, IsAtTag, IsAtOne, IsRefusal}
+use Rattle.rx_nest.proofs.PageWalks.{AllOf, GoesOn, Held, Sound, Tagged, all_append, all_weaker, held_goes, page_sound, steps_hold, tagged}
 use Rattle.rx_nest.proofs.TextSteps.{byte_goes}
-use Rattle.rx_pages.specs.Nesting.{Event, begins, says, finishes, Nesting, Step, nest_step, step_by, unless_refused, tag_passes, begun_under, text_step, told as told_text, doctype_step, ended_by_start, ended_under, ended_by_end}
+use Rattle.rx_pages.specs.Nesting.{Event, begins, says, finishes, Step}
 use Rattle.rx_pages.specs.PageReader as reader
 use Rattle.rx_pages.proofs.EndedRuns.{ended_kept}
 
@@ -9,19 +10,6 @@ use Rattle.rx_pages.proofs.EndedRuns.{ended_kept}
 pub record TagAt (n at : ℕ) (t : StartTag) : Type 0 where
   pub begins_at : t.token ≡ n
   pub ends_at : t.at ≡ at
-
--- what holds of each
-abbrev pub AllOf : {A : Type 0} → (A → Type 0) → List A → Type 0
-AllOf Is [] = Unit {0}
-AllOf Is (x ∷ xs) = Is x × AllOf Is xs
-
-all_append : {A : Type 0} (Is : A → Type 0) (xs ys : List A) → AllOf Is xs → AllOf Is ys → AllOf Is (xs ++ ys)
-all_append Is [] ys a b = b
-all_append Is (x ∷ xs) ys a b = (a.0, all_append Is xs ys a.1 b)
-
-all_weaker : {A : Type 0} (Is Was : A → Type 0) → ((x : A) → Was x → Is x) → (xs : List A) → AllOf Was xs → AllOf Is xs
-all_weaker Is Was f [] h = tt
-all_weaker Is Was f (x ∷ xs) h = (f x h.0, all_weaker Is Was f xs h.1)
 
 -- the tags among the tokens are such
 abbrev pub TagIs : (StartTag → Type 0) → Item → Type 0
@@ -122,20 +110,24 @@ module _ (syntax : Syntax) (limits : Limits) (spot : Spot) (s : Scanning) where
   told_tags after_return value (whole token) v = first_tags s after_return value (whole token) refl (λ k. k) (λ other k u w. refl)
   told_tags after_return value (refused kind) v = tt
 
-  char_tags : (c : ℕ) → After s (read_char syntax limits spot c s)
-  char_tags c =
-      split (After s) (not s.started && c == byte_order_mark || s.after_return && c == line_feed) _ _ (λ k. record { tags = tt; fits = fits_on s.run s.at; settles = inl tt })
-      (λ k. split (After s) (is_too_long syntax limits spot (s.run ++ entered (as_line_end c) ∷ []) (token_at s) s.at) _ _ (λ m. tt)
-      (λ m. told_tags (c == carriage_return) (as_line_end c) (verdict syntax spot.inside (values s.run) (as_line_end c)) refl))
-
-  answer_tags : (held : List ℕ) (step : Utf8Step) → After s (read_answer syntax limits spot held s step)
-  answer_tags held Bad = tt
-  answer_tags held More = split (After s) (is_too_long syntax limits spot s.run (token_at s) s.at) _ _ (λ k. tt) (λ k. record { tags = tt; fits = fits_on s.run s.at; settles = inl tt })
-  answer_tags held (Char c) =
-      split (After s) (c == 0) _ _ (λ k. tt) (λ k. split (After s) (is_too_long syntax limits spot s.run (token_at s) s.at) _ _ (λ m. tt) (λ m. char_tags c))
+  -- A byte has a fault, or tells nothing and leaves what is pending, or completes a character.
+  pub byte_by : (byte : ℕ) (G : Result Scanned Kind → Type 0) → ((kind : Kind) → G (Err kind)) → ((next : Scanning) → next.run ≡ s.run → next.at ≡ s.at + 1 → G (Ok (record { next = next; items = [] })))
+      → ((c : ℕ) → answer_of (s.held ++ byte ∷ []) ≡ Char c → G (reader.told syntax limits spot (c == carriage_return) (entered (as_line_end c)) s (verdict syntax spot.inside (values s.run) (as_line_end c)))) → G (read_byte syntax limits spot byte s)
+  byte_by byte G fails keeps tells = split G (nat_le limits.page s.at) _ _ (λ k. fails _) (λ k. by (answer_of (s.held ++ byte ∷ [])) refl)
+    where
+      by : (step : Utf8Step) → answer_of (s.held ++ byte ∷ []) ≡ step → G (read_answer syntax limits spot (s.held ++ byte ∷ []) s step)
+      by Bad k = fails _
+      by More k = split G (is_too_long syntax limits spot s.run (token_at s) s.at) _ _ (λ m. fails _) (λ m. keeps _ refl refl)
+      by (Char c) k =
+          split G (c == 0) _ _ (λ m. fails _)
+          (λ m. split G (is_too_long syntax limits spot s.run (token_at s) s.at) _ _ (λ o. fails _)
+          (λ o. split G (not s.started && c == byte_order_mark || s.after_return && c == line_feed) _ _ (λ q. keeps _ refl refl)
+          (λ q. split G (is_too_long syntax limits spot (s.run ++ entered (as_line_end c) ∷ []) (token_at s) s.at) _ _ (λ w. fails _) (λ w. tells c k))))
 
   pub byte_tags : (byte : ℕ) → After s (read_byte syntax limits spot byte s)
-  byte_tags byte = split (After s) (nat_le limits.page s.at) _ _ (λ k. tt) (λ k. answer_tags (s.held ++ byte ∷ []) (answer_of (s.held ++ byte ∷ [])))
+  byte_tags byte =
+      byte_by byte (After s) (λ kind. tt) (λ next r a. record { tags = tt; fits = λ h. subst (Fits next.run) (sym a) (subst (λ run. Fits run (s.at + 1)) (sym r) (fits_on s.run s.at h)); settles = inl tt })
+      (λ c k. told_tags (c == carriage_return) (as_line_end c) (verdict syntax spot.inside (values s.run) (as_line_end c)) refl)
 
 -- the elements that events begin, and those that are shown to begin, are such
 module _ (Such : StartTag → Type 0) where
@@ -201,77 +193,23 @@ begin_such A B f = all_weaker (BeginIs B) (BeginIs A) by
     by (begins t hidden) h = f t h
     by _ h = tt
 
--- what holds of the events that a token tells
-abbrev pub StepHolds : (List Event → Type 0) → Result Step Kind → Type 0
-StepHolds Holds (Ok step) = Holds step.events
-StepHolds Holds (Err kind) = Unit {0}
+module _ (Such : StartTag → Type 0) (syntax : Syntax) (limits : Limits) where
+  abbrev pub BeginsSuch : Bool → Line → List Event → Type 0
+  BeginsSuch b line events = AllBegin Such events
 
--- What holds of none and of text, and goes on, holds of what tokens tell if it does of the tags among them.
-module _ (Holds : List Event → Type 0) (nothing : Holds []) (append : (xs ys : List Event) → Holds xs → Holds ys → Holds (xs ++ ys)) (saying : (chars : Chars) → Holds (says chars ∷ [])) (syntax : Syntax) (depth : ℕ) (Placed : Item → Type 0)
-    (tagged : (m : Nesting) (item : Item) (t : Tag) → item.token ≡ tag t → Placed item → StepHolds Holds (unless_refused (first_row (tag_rows syntax depth m.line m.phase t)) (tag_passes syntax m.line item t))) where
-  said_holds : (p : Phase) (chars : Chars) → Holds (told_text p chars)
-  said_holds within chars = saying chars
-  said_holds _ chars = nothing
+  -- tags of which that holds tell elements of which it holds
+  pub such_tagged : (item : Item) → TagIs Such item → Tagged syntax limits (Held syntax limits BeginsSuch) item
+  such_tagged item such = tagged syntax limits BeginsSuch item (λ t e. record {
+    finish = λ u line events h. begin_append Such events (finishes ∷ []) h (tt, tt);
+    begin = λ b line events some none l h. begin_append Such events (begins (start_of item t) (hides (inside_of syntax line) t) ∷ []) h (such t e, tt);
+  })
 
-  text_holds : (m : Nesting) (dropped : Bool) (chars : Chars) → Holds (text_step m dropped chars).events
-  text_holds m dropped chars = split Holds (m.drops && dropped) _ _ (λ e. nothing) (λ e. said_holds m.phase chars)
+  pub such_go : GoesOn syntax limits (Held syntax limits BeginsSuch)
+  such_go = held_goes syntax limits BeginsSuch (λ u line events chars h. begin_append Such events (says chars ∷ []) h (tt, tt))
 
-  doctype_holds : (p : Phase) → StepHolds Holds (doctype_step p)
-  doctype_holds (before false) = nothing
-  doctype_holds _ = tt
-
-  pub item_holds : (m : Nesting) (item : Item) → Placed item → StepHolds Holds (nest_step syntax depth m item)
-  item_holds m item h = by item.token refl
-    where
-      by : (token : Token) → item.token ≡ token → StepHolds Holds (step_by syntax depth m item token)
-      by (tag t) e = tagged m item t e h
-      by (character c) e = text_holds m (is_line_feed (character c)) (c ∷ [])
-      by (reference c) e = text_holds m (is_line_feed (reference c)) (c ∷ [])
-      by (kept chars) e = text_holds m false chars
-      by (section chars) e = text_holds m false chars
-      by comment e = nothing
-      by doctype e = doctype_holds m.phase
-
-  pub items_hold : (items : List Item) → AllOf Placed items → (x : Result Step Kind) → StepHolds Holds x → StepHolds Holds (steps_on syntax depth x items)
-  items_hold [] h x s = s
-  items_hold (item ∷ items) h (Err kind) s = items_hold items h.1 (Err kind) tt
-  items_hold (item ∷ items) h (Ok step) s = items_hold items h.1 (step_on syntax depth (Ok step) item) (by (nest_step syntax depth step.next item) (item_holds step.next item h.0))
-    where
-      by : (x : Result Step Kind) → StepHolds Holds x → StepHolds Holds (with_events step.events x)
-      by (Ok next) k = append step.events next.events s k
-      by (Err kind) k = tt
-
-abbrev pub StepBegins : (StartTag → Type 0) → Result Step Kind → Type 0
-StepBegins Such x = StepHolds (AllBegin Such) x
-
-module _ (Such : StartTag → Type 0) (syntax : Syntax) (depth : ℕ) where
-  by_start : (name : Chars) (line : Line) → AllBegin Such (ended_by_start syntax name line)
-  by_start name [] = tt
-  by_start name (t ∷ line) = split (AllBegin Such) (is_among (enders (inside_of syntax line) t.name) name) _ _ (λ e. (tt, by_start name line)) (λ e. tt)
-
-  under : (name : Chars) (line : Line) → AllBegin Such (ended_under syntax name line)
-  under name line = split (AllBegin Such) (is_html (inside_of syntax line).content) _ _ (λ e. by_start name line) (λ e. tt)
-
-  by_end : (name : Chars) (line : Line) → AllBegin Such (ended_by_end syntax name line)
-  by_end name [] = tt
-  by_end name (t ∷ line) =
-      split (AllBegin Such) (is_omissible (inside_of syntax line) t.name && not (same t.name name) && not (is_held (parent_of line) t.name)) _ _ (λ e. (tt, by_end name line)) (λ e. tt)
-
-  begun_at : (item : Item) (t : Tag) (line : Line) (gone : List Event) → Such (start_of item t) → (AllBegin Such) gone → AllBegin Such (begun_under syntax item t line gone).events
-  begun_at item t line gone l g =
-      split (λ (s : Step). (AllBegin Such) s.events) (is_alone syntax (inside_of syntax line) t) _ _ (λ e. begin_append Such gone _ g (l, (tt, tt))) (λ e. begin_append Such gone _ g (l, tt))
-
-  tag_at : (m : Nesting) (item : Item) (t : Tag) (x : Option Kind) → Such (start_of item t) → StepBegins Such (unless_refused x (tag_passes syntax m.line item t))
-  tag_at m item t (Some kind) l = tt
-  tag_at m item t None l =
-      split (λ (s : Step). (AllBegin Such) s.events) t.closing _ _ (λ e. begin_append Such (ended_by_end syntax t.name m.line) _ (by_end t.name m.line) (tt, tt))
-      (λ e. begun_at item t (under_start syntax t.name m.line) (ended_under syntax t.name m.line) l (under t.name m.line))
-
-  pub item_such : (m : Nesting) (item : Item) → ((t : Tag) → item.token ≡ tag t → Such (start_of item t)) → StepBegins Such (nest_step syntax depth m item)
-  item_such = item_holds (AllBegin Such) tt (begin_append Such) (λ chars. (tt, tt)) syntax depth (TagIs Such) (λ m item t e h. tag_at m item t (first_row (tag_rows syntax depth m.line m.phase t)) (h t e))
-
-  pub items_such : (items : List Item) → AllTags Such items → (x : Result Step Kind) → StepBegins Such x → StepBegins Such (steps_on syntax depth x items)
-  items_such = items_hold (AllBegin Such) tt (begin_append Such) (λ chars. (tt, tt)) syntax depth (TagIs Such) (λ m item t e h. tag_at m item t (first_row (tag_rows syntax depth m.line m.phase t)) (h t e))
+  -- and so do tokens in a row, from a place where elements and phase fit
+  pub items_such : (n : Nesting) (items : List Item) (step : Step) → Sound n.phase n.line → AllTags Such items → steps_on syntax limits.depth (Ok (no_step n)) items ≡ Ok step → Held syntax limits BeginsSuch step.next step.events
+  items_such n items step s tags e = steps_hold syntax limits (Held syntax limits BeginsSuch) such_go n [] items step e (all_weaker (Tagged syntax limits (Held syntax limits BeginsSuch)) (TagIs Such) such_tagged items tags) (record { sound = s; holds = tt })
 
 module _ (syntax : Syntax) (limits : Limits) where
   -- the bytes up to an offset are the front of a page
@@ -340,13 +278,13 @@ module _ (syntax : Syntax) (limits : Limits) where
       byte_goes syntax limits p byte (λ x. page_byte_on syntax limits (Ok p) byte ≡ x → Behind (bytes ++ byte ∷ []) x) (λ kind e. tt)
       (λ scanned step e k is.
       let after = subst (After p.now.scan) e (byte_tags syntax limits (spot_of syntax p.now.nest) p.now.scan byte) in
-      let such = subst (StepBegins (TagAt (token_at p.now.scan) p.now.scan.at)) k (items_such (TagAt (token_at p.now.scan) p.now.scan.at) syntax limits.depth scanned.items after.tags (Ok (no_step p.now.nest)) tt) in (
+      let such = items_such (TagAt (token_at p.now.scan) p.now.scan.at) syntax limits p.now.nest scanned.items step (page_sound syntax limits bytes p h.0) after.tags k in (
         page_append syntax limits (spot_of syntax p.now.nest) (Ok nothing_read) bytes (byte ∷ []) ∙ (ap (λ x. page_byte_on syntax limits x byte) h.0 ∙ is),
         after.fits h.1,
         begin_append (λ t. IsBefore (bytes ++ byte ∷ []) t.token) p.told step.events
             (begin_such (λ t. IsBefore bytes t.token) (λ t. IsBefore (bytes ++ byte ∷ []) t.token) (λ t. before_more bytes (byte ∷ []) t.token) p.told h.2)
             (begin_such (TagAt (token_at p.now.scan) p.now.scan.at) (λ t. IsBefore (bytes ++ byte ∷ []) t.token)
-            (λ t b. subst (IsBefore (bytes ++ byte ∷ [])) (sym b.begins_at) (before_byte bytes byte (token_at p.now.scan) (front_at bytes p h.0 h.1))) step.events such),
+            (λ t b. subst (IsBefore (bytes ++ byte ∷ [])) (sym b.begins_at) (before_byte bytes byte (token_at p.now.scan) (front_at bytes p h.0 h.1))) step.events such.holds),
       )) refl
 
   all_behind : (more bytes : List ℕ) (x : Result Progress Fault) → Behind bytes x → Behind (bytes ++ more) (page_on syntax limits x more)

@@ -72,38 +72,38 @@ module _ {L : Type 0} (way : Way) (knows : L → List Sign → Type 0) (law : Is
       }
   step_stop bytes piece nest new listener g a stop.NoMemory s = tt
 
-module _ {L : Type 0} (way : Way) (knows : L → List Sign → Type 0) where
-  -- many turns
+-- what holds behind the parts of a piece
+module _ {L : Type 0} (Is : Nested → L → List ℕ → Type 0) where
+  pub none_took : (bytes piece : List ℕ) (n : ℕ) (nest : Nested) (listener : L) → n ≡ 0 → Is nest listener (bytes ++ take n piece) → Is nest listener bytes
+  none_took bytes piece n nest listener e g = subst (λ b. Is nest listener b) (ap (λ k. bytes ++ take k piece) e ∙ append-nil bytes) g
 
-  pub none_took : (bytes piece : List ℕ) (n : ℕ) (nest : Nested) (listener : L) → n ≡ 0 → TurnGives way knows bytes piece (Ok (turn.Took n)) nest listener → Goes way knows nest listener bytes
-  none_took bytes piece n nest listener e g = subst (λ b. Goes way knows nest listener b) (ap (λ k. bytes ++ take k piece) e ∙ append-nil bytes) g
-
-  -- a piece in parts
   pub record Taken (bytes piece rest : List ℕ) (nest : Nested) (listener : L) : Type 0 where
     pub front : List ℕ
     pub are : piece ≡ front ++ rest
-    pub goes : Goes way knows nest listener (bytes ++ front)
+    pub goes : Is nest listener (bytes ++ front)
 
-  pub taken_start : (bytes piece : List ℕ) (nest : Nested) (listener : L) → Goes way knows nest listener bytes → Taken bytes piece piece nest listener
-  taken_start bytes piece nest listener g = record { front = []; are = refl; goes = subst (λ b. Goes way knows nest listener b) (sym (append-nil bytes)) g }
+  pub taken_start : (bytes piece : List ℕ) (nest : Nested) (listener : L) → Is nest listener bytes → Taken bytes piece piece nest listener
+  taken_start bytes piece nest listener g = record { front = []; are = refl; goes = subst (λ b. Is nest listener b) (sym (append-nil bytes)) g }
 
-  pub taken_more : (bytes piece rest : List ℕ) (n : ℕ) (nest new : Nested) (listener next : L) (t : Taken bytes piece rest nest listener)
-      → TurnGives way knows (bytes ++ t.front) rest (Ok (turn.Took n)) new next → Taken bytes piece (drop n rest) new next
+  pub taken_more : (bytes piece rest : List ℕ) (n : ℕ) (nest new : Nested) (listener next : L) (t : Taken bytes piece rest nest listener) → Is new next ((bytes ++ t.front) ++ take n rest) → Taken bytes piece (drop n rest) new next
   taken_more bytes piece rest n nest new listener next t g =
       record {
         front = t.front ++ take n rest;
         are = t.are ∙ (ap (λ x. t.front ++ x) (sym (take-append-drop n rest)) ∙ sym (append_assoc t.front (take n rest) (drop n rest)));
-        goes = subst (λ b. Goes way knows new next b) (append_assoc bytes t.front (take n rest)) g;
+        goes = subst (λ b. Is new next b) (append_assoc bytes t.front (take n rest)) g;
       }
+
+module _ {L : Type 0} (way : Way) (knows : L → List Sign → Type 0) where
+  -- many turns
 
   whole : (bytes piece rest front : List ℕ) → piece ≡ front ++ rest → (bytes ++ front) ++ rest ≡ bytes ++ piece
   whole bytes piece rest front e = append_assoc bytes front rest ∙ ap (λ x. bytes ++ x) (sym e)
 
-  pub taken_whole : (bytes piece rest : List ℕ) (nest new : Nested) (listener next : L) (t : Taken bytes piece rest nest listener)
+  pub taken_whole : (bytes piece rest : List ℕ) (nest new : Nested) (listener next : L) (t : Taken (Goes way knows) bytes piece rest nest listener)
       → TurnGives way knows (bytes ++ t.front) rest (Ok turn.Done) new next → PieceGives way knows bytes piece (Ok tt) new next
   taken_whole bytes piece rest nest new listener next t g = (subst (λ b. Goes way knows new next b) (whole bytes piece rest t.front t.are) g.0, g.1)
 
-  pub taken_stop : (bytes piece rest : List ℕ) (nest new : Nested) (listener next : L) (why : Stop) (t : Taken bytes piece rest nest listener)
+  pub taken_stop : (bytes piece rest : List ℕ) (nest new : Nested) (listener next : L) (why : Stop) (t : Taken (Goes way knows) bytes piece rest nest listener)
       → TurnGives way knows (bytes ++ t.front) rest (Err why) new next → PieceGives way knows bytes piece (Err why) new next
   taken_stop bytes piece rest nest new listener next why t g = subst (λ b. StopGives way b why) (whole bytes piece rest t.front t.are) g
 
@@ -128,7 +128,7 @@ module _ {S L : Type 0} (way : S → Way) (knows : S → L → List Sign → Typ
   somewhere_on nest new listener next on s = record { setting = s.setting; bytes = s.bytes; goes = on s.setting s.bytes s.goes }
 
   abbrev pub TakenBy : Nested → L → List ℕ → List ℕ → Nested → L → Type 0
-  TakenBy nest listener piece rest new next = (setting : S) (bytes : List ℕ) → Goes (way setting) (knows setting) nest listener bytes → Taken (way setting) (knows setting) bytes piece rest new next
+  TakenBy nest listener piece rest new next = (setting : S) (bytes : List ℕ) → Goes (way setting) (knows setting) nest listener bytes → Taken (Goes (way setting) (knows setting)) bytes piece rest new next
 
   pub somewhere_taken : (nest new : Nested) (listener next : L) (piece rest : List ℕ) → TakenBy nest listener piece rest new next → Somewhere way knows nest listener → Somewhere way knows new next
   somewhere_taken nest new listener next piece rest on s =

@@ -4,13 +4,11 @@ use Rattle.rx_nest.proofs.nests.Nest.end.Goals as goal
 
 pub returns-in-Some-clause-ends : goal.returns-in-Some-clause-ends
 returns-in-Some-clause-ends c syntax limits bytes signs st =
-    let old : Nested = record { scan = c.self.inside.scan; line = c.self.inside.line; owed = c.self.inside.owed; failed = c.self.inside.latch.failed; out_of_memory = c.self.inside.latch.out_of_memory } in
     let was = subst (λ v. NestStands syntax limits v bytes signs) (sym c.self.view_is) st in
-    fault_ends syntax limits old bytes signs was c.in-Some.fault (c.in-Some.ensures.ends syntax limits bytes was.told was.at)
+    fault_ends syntax limits _ bytes signs was c.in-Some.fault (c.in-Some.ensures.ends syntax limits bytes was.told was.at)
 
 pub returns-clause-ends : goal.returns-clause-ends
 returns-clause-ends c syntax limits bytes signs st =
-    let old : Nested = record { scan = c.self.inside.scan; line = c.self.inside.line; owed = c.self.inside.owed; failed = c.self.inside.latch.failed; out_of_memory = c.self.inside.latch.out_of_memory } in
     let was = subst (λ v. NestStands syntax limits v bytes signs) (sym c.self.view_is) st in
     subst (λ (v : Nested). Ended syntax limits bytes signs (owed_signs v.owed (last_tag v.scan))) c.self.view_is
-    (page_ends syntax limits old bytes signs was (c.in_default.ensures.ends syntax limits bytes was.told was.at))
+    (page_ends syntax limits _ bytes signs was (c.in_default.ensures.ends syntax limits bytes was.told was.at))

@@ -1,1 +1,0 @@
--- What a stop may be where nothing was answered before.
