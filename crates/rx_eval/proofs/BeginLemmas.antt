@@ -1,5 +1,6 @@
 -- The start of an element.
-use Rattle.rx_eval.proofs.Common.{IfSome, is_some, if◌then◌else◌, encode_utf8_all, map-append, filter-append, Chars, by_test, IfSome_then, Among, Term, Triple, same_node, rename_node, rename_term, rename, spo, Among_left, Among_right, Among_map, false_unless, exact_texts, Path, Naming, Bnode, Author, Made, Cell, Owner, First, Of, Below, same_owner, same_bnode, model, Facts, Inherited, Standing, Resources, resources, listed, handed, own_owner, object_below, rule, value_now, value_of_text, start_of, end_of, text_value, properties_by, Entry, map_entry, entry, linked, touched, awaited, entries_by, of_owner, rename_slot, rename_inherited, labels, exact_bnodes, ◌≡◌, ◌∙◌, ℕ, suc, ◌+◌, ◌≤◌, ◌^◌, ◌⊎◌, inl, inr, Bool, true, false, List, [], ◌∷◌, ◌++◌, map, filter_map, length, Option, Some, None, option_map, is_none, bytes_eq, nat_eq, refl, sym, ap, ap₂, subst, subst₂, arith, append-nil, length-append, not, ◌&&◌, ◌||◌, unwrap_or, Slot, Full, Waiting, fill, fill_slot, slot_of, rule_at, value_at, inherit, Machine, enter, SlotId, Numbered, number_of, moment, level_at, standing_by, text_literal, Owning, put_entries, places_for, fill_all, Text, Frame, State, Gathers, next_number, owner_begun, places_at, drawn_after, handed_on, Opens, said_triples, Numbering, Name, Number, name_by, named, Grown, with_number, Numbers, Slots, Open, owner_place, owners_of, waits, slot_waits, HasPlaces, Waiter, Fills, FillUp, Apart, Within, WithinPlaces, WithinOption, Layer, frames_in, path_in, paths_in, own_in, under_in, open_in, places_of, waiter_of, said_of, KeptAt, LayerStands, LayersStand, Coming, Pending, owner_depth, WaitsFor, AllWaitFor, RunsBy, page_context}
+use Rattle.rx_eval.proofs.EnterLemmas.{below_as}
+use Rattle.rx_eval.proofs.Common.{IfSome, is_some, if◌then◌else◌, encode_utf8_all, map-append, filter-append, Chars, by_test, IfSome_then, Among, Term, Triple, same_node, rename_node, rename_term, rename, spo, Among_left, Among_right, Among_map, Path, Naming, Bnode, Author, Made, Cell, Owner, First, Of, Below, same_owner, same_bnode, model, Facts, Inherited, Standing, Resources, resources, listed, handed, own_owner, object_below, rule, value_now, value_of_text, start_of, end_of, text_value, properties_by, Entry, map_entry, entry, linked, touched, awaited, entries_by, of_owner, rename_slot, rename_inherited, labels, exact_bnodes, ◌≡◌, ◌∙◌, ℕ, suc, ◌+◌, ◌≤◌, ◌^◌, ◌⊎◌, inl, inr, Bool, true, false, List, [], ◌∷◌, ◌++◌, map, filter_map, length, Option, Some, None, is_none, nat_eq, refl, sym, ap, ap₂, subst, subst₂, arith, append-nil, length-append, not, ◌&&◌, unwrap_or, Slot, Full, fill, fill_slot, slot_of, rule_at, value_at, inherit, Machine, enter, SlotId, Numbered, number_of, moment, level_at, standing_by, text_literal, Owning, put_entries, places_for, fill_all, Text, Frame, State, Gathers, next_number, owner_begun, places_at, drawn_after, handed_on, Opens, said_triples, Numbering, Name, Number, name_by, named, Grown, with_number, Numbers, Slots, Open, owner_place, waits, HasPlaces, Waiter, Fills, FillUp, Apart, Within, WithinPlaces, WithinOption, Layer, frames_in, path_in, paths_in, own_in, under_in, open_in, places_of, waiter_of, said_of, KeptAt, LayerStands, LayersStand, Coming, Pending, owner_depth, WaitsFor, RunsBy, page_context, AllItems, ItemWaits}
 use Rattle.rx_rdfa.specs.Machine.{reserved}
 use Rattle.rx_eval.proofs.DrawLemmas.{draw_most}
 use Rattle.rx_eval.proofs.NameLemmas.{grown_same, grown_then, triples_later, slots_later, inherited_later, same_names}
@@ -7,13 +8,13 @@ use Rattle.rx_eval.proofs.NumberLemmas.{raised, at_new, at_other, grown_with, nu
 use Rattle.rx_eval.proofs.OtherLemmas.{makes_new}
 use Rattle.rx_eval.proofs.ElementLemmas.{Meets, ends_are, resources_meet, below_meets, start_meets, end_meets, value_meets, gathers_meet, entries_meet}
 use Rattle.rx_eval.proofs.ListLemmas.{Puts, Match, Merged, merged}
-use Rattle.rx_eval.proofs.FillLemmas.{waits_both, fill_quiet, NoneWaits, put_fill_up, within_more}
+use Rattle.rx_eval.proofs.FillLemmas.{waits_weaker, none_waiting, filled_wait, renamed_wait, waits_both, fill_quiet, NoneWaits, put_fill_up, within_more}
 use Rattle.rx_eval.proofs.ComingLemmas.{next_coming, inside_coming, inside_not}
 use Rattle.rx_eval.proofs.LayerLemmas.{place_front, grown_open, place_back, place_none, none_before, apart_begun, begun_none, begun_place, deeper_none, placed_depth, apart_open, all_within, frames_length, handed_now, layers_later}
 use Rattle.rx_eval.proofs.OwnersLemmas.{tables_now, owners_length}
 use Rattle.rx_eval.proofs.EndLemmas.{shorter}
-use Rattle.rx_eval.proofs.ItemLemmas.{AllItems, Only, Filled, only_of, only_renamed, only_quiet, match_quiet, match_bound, match_waits, match_none, match_valued, valued_entry, valued_parts, front_all, awaited_all, entries_all, places_had, places_filled_in, places_within}
-use Rattle.rx_eval.proofs.UsedLemmas.{new_drawn, drawn_least, handed_is, handed_new, with_owner, begun_now, lists_as, with_fill_up, with_length, own_number_is, under_number_is}
+use Rattle.rx_eval.proofs.ItemLemmas.{all_append, Only, Filled, only_of, match_quiet, match_bound, match_waits, match_none, match_valued, valued_entry, valued_parts, front_all, awaited_all, entries_all, places_had, places_filled_in, places_within}
+use Rattle.rx_eval.proofs.UsedLemmas.{new_drawn, drawn_least, handed_new, with_owner, begun_now, lists_as, with_fill_up, with_length, own_number_is, under_number_is}
 
 -- ---- small facts
 
@@ -24,36 +25,10 @@ path_length : (to : Numbering) (base kept : Chars) (layers : List Layer) → Lay
 path_length to base kept [] h = refl
 path_length to base kept (l ∷ lower) h = h.0.deep
 
-waiting_quiet : (paths : List Path) (path : Path) (xs : Slots) → AllWaitFor paths xs → ((q : Path) → Among paths q → ¬ (q ≡ path)) → waits path xs ≡ false
-waiting_quiet paths path [] h n = refl
-waiting_quiet paths path (x ∷ xs) h n = ap₂ (λ (a b : Bool). a || b) (item x.item h.0) (waiting_quiet paths path xs h.1 n)
-  where
-    item : (i : Option (Slot ℕ)) → WaitsFor paths x.owner i → slot_waits path i ≡ false
-    item None k = refl
-    item (Some (Full v)) k = refl
-    item (Some (Waiting q)) k = false_unless (bytes_eq q path) (λ t. n q k.0 ((exact_texts q path).0 t))
-
-wait_more : (path : Path) (paths : List Path) (xs ys : Slots) → AllWaitFor paths xs → AllWaitFor (path ∷ paths) ys → AllWaitFor (path ∷ paths) (xs ++ ys)
-wait_more path paths [] ys h k = k
-wait_more path paths (x ∷ xs) ys h k = (item x.item h.0, wait_more path paths xs ys h.1 k)
-  where
-    item : (i : Option (Slot ℕ)) → WaitsFor paths x.owner i → WaitsFor (path ∷ paths) x.owner i
-    item None g = tt
-    item (Some (Full v)) g = tt
-    item (Some (Waiting q)) g = (inr g.0, g.1)
-
-none_waits : (path : Path) (ls : List Layer) (ys : Slots) → ((q : Path) → Among (paths_in ls) q → ¬ (q ≡ path)) → AllItems (Only path) ys → NoneWaits (map waiter_of ls) ys
+none_waits : (path : Path) (ls : List Layer) (ys : Slots) → ((q : Path) → Among (paths_in ls) q → ¬ (q ≡ path)) → Only path ys → NoneWaits (map waiter_of ls) ys
 none_waits path [] ys n h = tt
-none_waits path (l ∷ ls) ys n h = (only_quiet path l.at.path ys (n l.at.path (inl refl)) h, none_waits path ls ys (λ q a. n q (inr a)) h)
-
-only_filled : (path : Path) (u : Term ℕ) (ys : Slots) → AllItems (Only path) ys → AllItems (Only path) (fill path u ys)
-only_filled path u [] h = tt
-only_filled path u (y ∷ ys) h = (item y.item h.0, only_filled path u ys h.1)
-  where
-    item : (i : Option (Slot ℕ)) → Only path i → Only path (option_map (fill_slot path u) i)
-    item None k = tt
-    item (Some (Full v)) k = tt
-    item (Some (Waiting q)) k = by_test (bytes_eq q path) (λ t. rw t tt) (λ f. rw f k)
+none_waits path (l ∷ ls) ys n h =
+    (none_waiting l.at.path ys (waits_weaker (λ o q. q ≡ path) (λ o q. ¬ (q ≡ l.at.path)) (λ o q e k. n l.at.path (inl refl) (sym k ∙ e)) ys h), none_waits path ls ys (λ q a. n q (inr a)) h)
 
 none_of : (o : Owner) (ys : Slots) → ((y : Entry Owner (Slot ℕ)) → Among ys y → same_owner y.owner o ≡ false) → of_owner same_owner o ys ≡ []
 none_of o [] h = refl
@@ -262,18 +237,18 @@ module _ (to : Numbering) (m : Machine Bnode Owner) (state : State) (facts : Fac
   abbrev ys : Slots
   ys = merged_now.slots
 
-  only_names : AllItems (Only path) (reserved model base at)
+  only_names : Only path (reserved model base at)
   unfolding reserved
-  only_names = entries_all model Full (slot_of path (value_now (rule_at model base at) facts)) at (resources model base at) (Only path) tt (λ t. tt) (λ s b p a. only_of path (value_now (rule_at model base at) facts))
+  only_names = entries_all model Full (slot_of path (value_now (rule_at model base at) facts)) at (resources model base at) (ItemWaits (λ r. r ≡ path)) tt (λ t. tt) (λ s b p a. only_of path (value_now (rule_at model base at) facts))
 
-  only_ys : AllItems (Only path) ys
-  only_ys = only_renamed (named now) path ys (reserved model base at) merged_now.renamed only_names
+  only_ys : Only path ys
+  only_ys = renamed_wait Number (named now) (λ r. r ≡ path) ys (reserved model base at) merged_now.renamed only_names
 
   abbrev owners2 : List (Option Owning)
   owners2 = with_owner o.frame.below o.frame.context.object (with_owner o.frame.own o.frame.context.subject state.owners)
 
   context_is : o.frame.context ≡ handed moments at_n here
-  context_is = o.context ∙ handed_is facts base depth path new.labels o.fresh n seen
+  context_is = o.context ∙ below_as new.labels o.fresh base at_n here n
 
   lists_are : new.owners ≡ put_entries xs owners2
   lists_are = o.lists ∙ lists_as moments at_n here n (next_number at_n here n) state.owners o.frame.own o.frame.below o.frame.context o.own o.below_own context_is v
@@ -294,11 +269,11 @@ module _ (to : Numbering) (m : Machine Bnode Owner) (state : State) (facts : Fac
       (with_fill_up before o.frame.own (Of path) o.frame.context.subject waiters state.owners slots (r.unbegun (Of path) (inl (next_coming m.path m.next)) (deep_none (Of path) refl))
       (within_now n (omega (arith, owners_count))) r.tables)
 
-  tables_after : (puts : Puts) (more : Slots) → Match (owner_place opened) puts more → AllItems (Only path) more → FillUp opened waiters (put_entries puts owners2) (slots ++ more)
+  tables_after : (puts : Puts) (more : Slots) → Match (owner_place opened) puts more → Only path more → FillUp opened waiters (put_entries puts owners2) (slots ++ more)
   tables_after puts more k h = put_fill_up opened apart_now puts more k waiters (none_waits path layers more other_path h) owners2 slots begun_tables
 
   quiet : waits path slots ≡ false
-  quiet = waiting_quiet (paths_in layers) path slots r.waiting other_path
+  quiet = none_waiting path slots (waits_weaker (WaitsFor (paths_in layers)) (λ o q. ¬ (q ≡ path)) (λ o q h. other_path q h.0) slots r.waiting)
 
   -- ---- the places of its text
 
@@ -330,10 +305,10 @@ module _ (to : Numbering) (m : Machine Bnode Owner) (state : State) (facts : Fac
   no_value : (facts.inlist ≡ true → (p : Chars) → Among (listed facts.property) p → here.skipped ≡ false → Filled (Some v)) → waits path (slots ++ ys) ≡ false
   no_value k = waits_both path slots ys quiet (match_quiet (owner_place opened) path xs ys merged_now.match (entries_all moments Some v at_n here Filled tt (λ t. tt) (λ s b p a. k b p a s)))
 
-  filled_front : AllItems Filled front
+  filled_front : AllItems (λ o. Filled) front
   filled_front = front_all moments Some None at_n here Filled tt (λ t. tt)
 
-  filled_back : AllItems Filled back
+  filled_back : AllItems (λ o. Filled) back
   filled_back = awaited_all moments Some None at_n here Filled tt (λ t. tt) seen.hanging
 
   -- with inlist
@@ -349,7 +324,7 @@ module _ (to : Numbering) (m : Machine Bnode Owner) (state : State) (facts : Fac
               ∙ ap (λ (l : Puts). put_entries l owners2) (sym (valued_parts u owner_here (listed facts.property) front back filled_front filled_back) ∙ ap (map (valued_entry u)) (sym parts)) in
               subst₂ (λ (os : List (Option Owning)) (ss : Slots). FillUp opened waiters os ss) (sym filled)
               (sym (map-append (map_entry (fill_slot path u)) slots ys ∙ ap (λ (l : Slots). l ++ fill path u ys) (fill_quiet path u slots quiet)))
-              (tables_after (map (valued_entry u) xs) (fill path u ys) (match_valued (owner_place opened) path u xs ys merged_now.match only_ys) (only_filled path u ys only_ys)),
+              (tables_after (map (valued_entry u) xs) (fill path u ys) (match_valued (owner_place opened) path u xs ys merged_now.match only_ys) (waits_weaker (λ o q. (q ≡ path) × ¬ (q ≡ path)) (λ o q. q ≡ path) (λ o q h. h.0) (fill path u ys) (filled_wait (λ o q. q ≡ path) path u ys only_ys))),
         ),
         subst (WithinPlaces (length opened)) (sym q) (places_within (length opened) owner_here (listed facts.property) (put_entries front owners2)
             (λ p a. match_bound opened xs ys merged_now.match (entry owner_here (Some None) p)
@@ -445,7 +420,7 @@ module _ (to : Numbering) (m : Machine Bnode Owner) (state : State) (facts : Fac
   }
 
   layers_stand : LayersStand now base state.kept (layer ∷ layers)
-  layers_stand = (layer_stands, layers_later to now grown_now base state.kept layers r.each)
+  layers_stand = (layer_stands, layers_later to now grown_now base state.kept state.kept layers (inr (λ m t k. k)) r.each)
 
   -- ---- what is still to come
 
@@ -497,9 +472,6 @@ module _ (to : Numbering) (m : Machine Bnode Owner) (state : State) (facts : Fac
       map-append (map_entry (rename_slot Number)) slots ys ∙ ap₂ ◌++◌ (slots_later to now grown_now slots m.slots r.by_names) merged_now.renamed
       ∙ sym (map-append (map_entry (rename_slot (named now))) m.slots (reserved model base at))
 
-  tables_now2 : put_entries xs owners2 ≡ owners_of (slots ++ ys) opened
-  tables_now2 = tables_now opened waiters (put_entries xs owners2) (slots ++ ys) (tables_after xs ys merged_now.match only_ys)
-
   runs_now : RunsBy now (enter model base facts m) state_now (layer ∷ layers) (slots ++ ys)
   runs_now = record {
     numbers = numbering.numbers;
@@ -509,8 +481,8 @@ module _ (to : Numbering) (m : Machine Bnode Owner) (state : State) (facts : Fac
     path = refl;
     each = layers_stand;
     by_names = slots_are;
-    tables = (tables_now2, filled_now.0);
-    waiting = wait_more path (paths_in layers) slots ys r.waiting (match_waits opened path (paths_in layers)
+    tables = (tables_now opened waiters (put_entries xs owners2) (slots ++ ys) (tables_after xs ys merged_now.match only_ys), filled_now.0);
+    waiting = all_append (λ o. ItemWaits (WaitsFor (path ∷ paths_in layers) o)) slots ys (waits_weaker (WaitsFor (paths_in layers)) (WaitsFor (path ∷ paths_in layers)) (λ o q h. (inr h.0, h.1)) slots r.waiting) (match_waits opened path (paths_in layers)
         (λ w k e. let d = placed_depth base now state.kept (layer ∷ layers) layers_stand w k e in omega (arith, d, path_is)) xs ys merged_now.match only_ys);
     unmade = unmade_now;
     uncelled = λ w h p i. numbering.cell w p i ∙ drawn_labels.cell w p i ∙ r.uncelled w (pending_before w h) p i;

@@ -1,23 +1,17 @@
 -- The lists of an owner at its end: their cells draw numbers, and the triples are the rules'.
-use Rattle.rx_eval.proofs.Common.{cons_option, settled_item, settled_with, if◌then◌else◌, nat_lt, filter_map-append, nat_tests, Chars, by_test, Among, distinct, Node, Blank, Term, rename_node, rename_term, rename, spo, Among_of_filter, false_unless, exact_texts, rdf_first, rdf_rest, Bnode, Author, Made, Cell, Owner, same_owner, model, to_node, Slot, Full, Waiting, settle, rename_slot, exact_owners, term_then, ◌≡◌, ◌∙◌, ℕ, suc, ◌+◌, ◌<◌, ◌≤◌, ◌^◌, ◌⊎◌, inl, inr, Bool, true, false, cond, List, [], ◌∷◌, ◌++◌, map, filter, flat_map, filter_map, length, Option, Some, None, option_map, option_to_list, bytes_eq, refl, sym, ap, ap₂, subst, arith, true≢false, not, unwrap_or, Entry, map_entry, of_owner, lists, items, cell_or_nil, chain, list_of, Table, put, table_from, table_of, itself, Numbered, Numbering, Name, Number, name_by, named, Grown, Numbers, Slots, item_of, table_in}
+use Rattle.rx_eval.proofs.Common.{cons_option, settled_item, settled_with, if◌then◌else◌, nat_lt, filter_map-append, nat_tests, Chars, by_test, Among, distinct, Node, Blank, Term, rename_node, rename_term, rename, spo, Among_of_filter, false_unless, exact_texts, rdf_first, rdf_rest, Bnode, Author, Made, Cell, Owner, same_owner, model, to_node, Slot, Full, Waiting, settle, rename_slot, exact_owners, term_then, ◌≡◌, ◌∙◌, ℕ, suc, ◌+◌, ◌<◌, ◌≤◌, ◌^◌, ◌⊎◌, inl, inr, Bool, true, false, cond, List, [], ◌∷◌, ◌++◌, map, filter, flat_map, filter_map, length, Option, Some, None, option_map, option_to_list, bytes_eq, refl, sym, ap, ap₂, subst, arith, true≢false, not, unwrap_or, Entry, map_entry, of_owner, lists, items, cell_or_nil, chain, list_of, Table, put, table_from, table_of, itself, Numbered, Numbering, Name, Number, name_by, named, Grown, Numbers, Slots, item_of, table_in, AllWait, ItemWaits}
 use Rattle.rx_rdfa.specs.Lists.{cells_from, cells}
 use Rattle.rx_rdfa.proofs.RenamedLists.{CellsAlike, of_owner_rename, cells_alike, cells_from_rename}
 use Rattle.rx_rdfa.proofs.RenamedMachine.{settle_rename}
 use Rattle.rx_rdfa.proofs.Tables.{tables_are_lists}
 use Rattle.rx_lists.specs.Cells.{size, cells_of}
-use Rattle.rx_eval.proofs.NumberLemmas.{raised}
+use Rattle.rx_eval.proofs.NumberLemmas.{numbers_more}
 use Rattle.rx_eval.proofs.NameLemmas.{later, entries_later, node_later}
 
 -- ---- slots of which none waits
 
-abbrev pub IsFull : {B : Type 0} → Option (Slot B) → Type 0
-IsFull None = Unit {0}
-IsFull (Some (Full v)) = Unit {0}
-IsFull (Some (Waiting r)) = ⊥
-
-abbrev pub AllFull : {B : Type 0} → List (Entry Owner (Slot B)) → Type 0
-AllFull [] = Unit {0}
-AllFull (e ∷ slots) = IsFull e.item × AllFull slots
+abbrev pub AllFull : List (Entry Owner (Slot ℕ)) → Type 0
+AllFull slots = AllWait (λ owner r. ⊥) slots
 
 abbrev Rows : Type 0
 Rows = Table (Option (Term ℕ))
@@ -42,7 +36,7 @@ from_dropped : (own : Slots) (t : Rows) → AllFull own → dropped (table_from 
 from_dropped [] t h = refl
 from_dropped (e ∷ own) t h = go e.item h.0 (λ u. from_dropped own u h.1)
   where
-    go : (item : Option (Slot ℕ)) → IsFull item → ((u : Rows) → dropped (table_from u (map (map_entry item_of) own)) ≡ table_from (dropped u) (settle own))
+    go : (item : Option (Slot ℕ)) → ItemWaits (λ r. ⊥) item → ((u : Rows) → dropped (table_from u (map (map_entry item_of) own)) ≡ table_from (dropped u) (settle own))
         → dropped (table_from t (map (map_entry item_of) (record { owner = e.owner; predicate = e.predicate; item = item } ∷ own))) ≡ table_from (dropped t) (settle (record { owner = e.owner; predicate = e.predicate; item = item } ∷ own))
     go None f more = more (put e.predicate None t) ∙ ap (λ (u : Table (Term ℕ)). table_from u (settle own)) (put_dropped e.predicate None t)
     go (Some (Full v)) f more = more (put e.predicate (Some (Some v)) t) ∙ ap (λ (u : Table (Term ℕ)). table_from u (settle own)) (put_dropped e.predicate (Some v) t)
@@ -132,28 +126,14 @@ module _ (to : Numbering) (o : Owner) (free : (p : Chars) (i : ℕ) → to (Cell
       by_test (same_owner w o) (λ t. inl (p, i, ap (λ (x : Owner). Cell x p i) ((exact_owners w o).0 t), rw t at e)) (λ f. inr (rw f at e))
 
   pub numbers_cells : (labels : Numbered) (drawn : ℕ) → Numbers to labels drawn next → Numbers now labels drawn (next + total rows)
-  numbers_cells labels drawn h = record {
-    label = h.label;
-    bounded = λ b n e. bound b n (cell_or_old b n e);
-    one_to_one = λ a b n e f. one a b n (cell_or_old a n e) (cell_or_old b n f);
-    low = h.low;
-    high = omega (arith, h.high);
-  }
+  numbers_cells labels drawn h =
+      numbers_more to now (λ b n. (p : Chars) × (i : ℕ) × (b ≡ Cell o p i) × (cell_number next rows p i ≡ Some n)) labels labels drawn drawn next (next + total rows) h cell_or_old
+      (λ a b n x y. let k = one_cell next rows x.0 y.0 x.1 y.1 n x.3 y.3 in x.2 ∙ ap₂ (Cell o) k.0 k.1 ∙ sym y.2) (λ b n x l. before n (bounded_cell next rows x.0 x.1 n x.3).0 l)
+      (λ b n x. let k = bounded_cell next rows x.0 x.1 n x.3 in inr (omega (arith, h.high, k.0), k.1)) h.label (omega arith) (omega arith) h.low
     where
-      below_next : (n : ℕ) → (n < drawn) ⊎ ((2 ^ 61 ≤ n) × (n < next)) → n < next
-      below_next n (inl x) = omega (arith, x, h.low, h.high)
-      below_next n (inr x) = x.1
-
-      bound : (b : Bnode) (n : ℕ) → ((p : Chars) × (i : ℕ) × (b ≡ Cell o p i) × (cell_number next rows p i ≡ Some n)) ⊎ (to b ≡ Some n) → (n < drawn) ⊎ ((2 ^ 61 ≤ n) × (n < next + total rows))
-      bound b n (inl (p, i, e, c)) = let k = bounded_cell next rows p i n c in inr (omega (arith, h.high, k.0), k.1)
-      bound b n (inr e) = raised n drawn drawn next (next + total rows) (omega arith) (omega arith) (h.bounded b n e)
-
-      one : (a b : Bnode) (n : ℕ) → ((p : Chars) × (i : ℕ) × (a ≡ Cell o p i) × (cell_number next rows p i ≡ Some n)) ⊎ (to a ≡ Some n)
-          → ((p : Chars) × (i : ℕ) × (b ≡ Cell o p i) × (cell_number next rows p i ≡ Some n)) ⊎ (to b ≡ Some n) → a ≡ b
-      one a b n (inl (p, i, e, c)) (inl (q, j, f, d)) = let k = one_cell next rows p q i j n c d in e ∙ ap₂ (Cell o) k.0 k.1 ∙ sym f
-      one a b n (inl (p, i, e, c)) (inr f) = let k = bounded_cell next rows p i n c in let l = below_next n (h.bounded b n f) in absurd (omega (arith, k.0, l))
-      one a b n (inr e) (inl (q, j, f, d)) = let k = bounded_cell next rows q j n d in let l = below_next n (h.bounded a n e) in absurd (omega (arith, k.0, l))
-      one a b n (inr e) (inr f) = h.one_to_one a b n e f
+      before : (n : ℕ) → next ≤ n → (n < drawn) ⊎ ((2 ^ 61 ≤ n) × (n < next)) → ⊥
+      before n k (inl x) = omega (arith, k, x, h.low, h.high)
+      before n k (inr x) = omega (arith, k, x.1)
 
 -- ---- lists whose cells have these numbers
 

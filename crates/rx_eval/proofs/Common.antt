@@ -18,7 +18,7 @@ pub use Rattle.rx_eval.specs.OwnersSeen.{Owning, cells_seen, ended, ended_by, fi
 pub use Rattle.rx_eval.specs.Places.{level_at, naming, path_at, standing, standing_by}
 pub use Rattle.rx_eval.specs.Referring.{IsKept, LetsWait, MayWait, is_iri, only_reference, reference_in, referred_by, referring_context, referring_frame, says_no_more, with_pending}
 pub use Rattle.rx_eval.specs.Skipping.{IsRooted, all_frames, skipped_frame, skipped_frames}
-pub use Rattle.rx_eval.specs.Slots.{Apart, FillUp, Fills, HasItem, HasPlace, HasPlaces, Open, Slots, Waiter, Within, WithinOption, WithinPlaces, item_of, owner_place, owners_of, slot_waits, table_in, waits}
+pub use Rattle.rx_eval.specs.Slots.{AllItems, AllWait, Apart, FillUp, Fills, HasItem, HasPlace, HasPlaces, ItemWaits, Open, Slots, Waiter, Within, WithinOption, WithinPlaces, item_of, owner_place, owners_of, slot_waits, table_in, waits}
 pub use Rattle.rx_eval.specs.Standing.{Ahead, AllWaitFor, Coming, EvaluatorStands, HandsOn, IsOver, KeptAt, Layer, LayerStands, LayersStand, Makes, Pending, Phase, Runs, RunsBy, StandsOn, WaitsFor, begun_by, context_after, frames_in, gathers_text, no_numbers, number_in, open_in, own_in, owner_depth, page_context, path_in, paths_in, places_of, said_of, under_in, waiter_of}
 pub use Rattle.rx_eval.specs.Starts.{found_by, linked_by, start_by, typed_by, types_of, values_of, vocabulary_by}
 pub use Rattle.rx_eval.specs.States.{Frame, State, Text, frame_seen, owner_seen, text_seen}

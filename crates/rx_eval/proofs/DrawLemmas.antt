@@ -1,5 +1,7 @@
 -- Labels draw their numbers one after another.
-use Rattle.rx_eval.proofs.Common.{◌≡◌, ◌∙◌, Result, Ok, Err, IfOk, ℕ, suc, Some, slice_get, ◌+◌, ◌<◌, ◌≤◌, ◌^◌, List, [], ◌∷◌, ◌++◌, length, drop, take, flat_map, refl, sym, ap, subst, arith, length-append, append-nil, append_assoc, add-one, OnErr, take_all, at_drop_all, slice_get_within, get_or_from_slice_get, is_some, IfOk-weaker, on_err_weaker, Chars, by_test, label_of, take-suc, ref_seen, refs_seen, Numbered, number_of, draw, Drawn, DrawnSome}
+use Rattle.std.proofs.lemmas.List.{take-append-drop}
+use Rattle.std.proofs.lemmas.Grind.{flat_map-append}
+use Rattle.rx_eval.proofs.Common.{◌≡◌, ◌∙◌, Result, Ok, Err, IfOk, ℕ, suc, Some, slice_get, ◌+◌, ◌<◌, ◌≤◌, ◌^◌, List, [], ◌∷◌, ◌++◌, length, drop, take, flat_map, refl, sym, ap, subst, arith, length-append, append-nil, append_assoc, add-one, OnErr, take_all, at_drop_all, slice_get_within, get_or_from_slice_get, is_some, IfOk-weaker, on_err_weaker, Chars, by_test, label_of, take-suc, ref_seen, refs_seen, Numbered, number_of, draw, Drawn, DrawnSome, map-append}
 use Rattle.std.proofs.Math.Seq.{drop-cons}
 use Rattle.rx_curie.specs.declared.refs.Ref.{Ref as CodeRef}
 
@@ -28,13 +30,16 @@ drawn_most old new next after xs d = subst (λ (p : Numbered × ℕ). p.1 ≤ ne
 abbrev pub type_labels : List CodeRef → List Chars
 type_labels types = flat_map label_of (refs_seen types)
 
-type_more : (xs : List CodeRef) (x : CodeRef) → type_labels (xs ++ x ∷ []) ≡ type_labels xs ++ label_of (ref_seen x)
-type_more [] x = append-nil (label_of (ref_seen x))
-type_more (y ∷ xs) x = ap (λ (l : List Chars). label_of (ref_seen y) ++ l) (type_more xs x) ∙ sym (append_assoc (label_of (ref_seen y)) (type_labels xs) (label_of (ref_seen x)))
+type_more : (xs ys : List CodeRef) → type_labels (xs ++ ys) ≡ type_labels xs ++ type_labels ys
+type_more xs ys = ap (flat_map label_of) (map-append ref_seen xs ys) ∙ flat_map-append label_of (refs_seen xs) (refs_seen ys)
 
-type_split : (i : ℕ) (xs : List CodeRef) → type_labels xs ≡ type_labels (take i xs) ++ type_labels (drop i xs)
-type_split (suc i) (x ∷ xs) = ap (λ (l : List Chars). label_of (ref_seen x) ++ l) (type_split i xs) ∙ sym (append_assoc (label_of (ref_seen x)) (type_labels (take i xs)) (type_labels (drop i xs)))
-type_split _ _ = refl
+-- they are counted one after another
+pub one_counted : (xs : List CodeRef) (i count k whole : ℕ) (x : CodeRef) → slice_get xs i ≡ Some x → k ≡ length (label_of (ref_seen x))
+    → count + length (type_labels (drop i xs)) ≡ whole → (count + k) + length (type_labels (drop (suc i) xs)) ≡ whole
+one_counted xs i count k whole x g e h =
+    let split : length (type_labels (drop i xs)) ≡ length (label_of (ref_seen x)) + length (type_labels (drop (suc i) xs)) =
+    ap (λ (l : List CodeRef). length (type_labels l)) (drop_at xs i x g) ∙ length-append (label_of (ref_seen x)) (type_labels (drop (suc i) xs)) in
+    omega (arith, split, e, h)
 
 -- the first types have drawn theirs, and there are numbers for those that are left
 pub record DrawnTypes (old : Numbered) (next : ℕ) (types : List CodeRef) (i : ℕ) (labels : Numbered) (after : ℕ) : Type 0 where
@@ -49,7 +54,7 @@ one_type labels more after then_after i x types old next g s d =
     let m = drawn_most labels more after then_after (label_of (ref_seen x)) d in
     rw add-one (record {
       drawn =
-          subst (λ (l : List Chars). Drawn old next l more then_after) (sym (type_more (take i types) x) ∙ ap type_labels (sym (take-suc types i x (slice_get_within types i x g) ∙ ap (λ (y : CodeRef). take i types ++ y ∷ []) (get_or_from_slice_get types i x x g))))
+          subst (λ (l : List Chars). Drawn old next l more then_after) (sym (type_more (take i types) (x ∷ []) ∙ ap (λ (l : List Chars). type_labels (take i types) ++ l) (append-nil (label_of (ref_seen x)))) ∙ ap type_labels (sym (take-suc types i x (slice_get_within types i x g) ∙ ap (λ (y : CodeRef). take i types ++ y ∷ []) (get_or_from_slice_get types i x x g))))
           (drawn_then old labels more next after then_after (type_labels (take i types)) (label_of (ref_seen x)) s.drawn d);
       room = omega (arith, m, r, length-append (label_of (ref_seen x)) (type_labels (drop (suc i) types)));
     })
@@ -89,7 +94,7 @@ pub some_types : (old labels new : Numbered) (next after i : ℕ) (types : List 
 some_types old labels new next after i types s e = record {
   front = type_labels (take i types);
   rest = type_labels (drop i types);
-  whole = type_split i types;
+  whole = ap type_labels (sym (take-append-drop i types)) ∙ type_more (take i types) (drop i types);
   path = ap (λ (p : Numbered × ℕ). p.0) s.drawn.path ∙ sym e;
 }
 

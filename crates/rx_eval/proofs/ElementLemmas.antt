@@ -27,7 +27,7 @@ none_mapped f (Some a) = refl
 -- ---- parts by the resources at hand
 
 module _ {B O : Type 0} (n : Naming B O) (base : Chars) (at : Standing B O) where
-  abbrev starts : Resources B → List (Triple B)
+  abbrev pub starts : Resources B → List (Triple B)
   starts here =
       of_vocabulary n base at
       ++ (if here.skipped then []
@@ -40,7 +40,7 @@ module _ {B O : Type 0} (n : Naming B O) (base : Chars) (at : Standing B O) wher
       if here.skipped then []
       else properties_by n base at here (text_value (value_now (rule n base at.facts here) at.facts) (value_of_text (rule n base at.facts here) at.facts chars))
 
-  starts_are : start_of n base at ≡ starts (resources n base at)
+  pub starts_are : start_of n base at ≡ starts (resources n base at)
   unfolding start_of
   starts_are = refl
 

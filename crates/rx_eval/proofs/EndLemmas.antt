@@ -1,81 +1,38 @@
 -- The end of an element.
-use Rattle.rx_eval.proofs.Common.{◌≡◌, ◌∙◌, ℕ, suc, ◌<◌, ◌≤◌, ◌⊎◌, inl, inr, Bool, true, false, List, [], ◌∷◌, ◌++◌, map, length, Option, Some, None, option_map, bytes_eq, refl, sym, ap, ap₂, subst, subst₂, arith, append-nil, append_assoc, length-append, ◌||◌, ◌==◌, or_parts, IfSome, if◌then◌else◌, map-append, Decides-eqb, Chars, by_test, IfSome_then, Among, Iri, Term, Triple, rename_term, rename, false_unless, exact_texts, Path, Bnode, Made, Cell, Owner, First, Of, Below, same_owner, model, Inherited, resources, below, up, end_of, Entry, map_entry, of_owner, cells, Call, Leave, after, Slot, Full, Waiting, fill, fill_slot, settle, number, Machine, value_at, left, leave_with, leave, begun, rename_slot, after-append, exact_owners, text_literal, Text, Frame, State, gathers_some, Ending, ending, end_owner, say_text, end_frame, TextAt, Closes, Numbering, Name, Number, named, Grown, Slots, owner_place, slot_waits, waits, Fills, FillUp, Within, Layer, frames_in, paths_in, begun_by, own_in, under_in, open_in, places_of, waiter_of, said_of, KeptAt, LayerStands, LayersStand, Coming, Pending, owner_depth, WaitsFor, AllWaitFor, RunsBy, Runs, IsOver, page_context, Phase, EvaluatorStands, StandsOn}
+use Rattle.rx_eval.proofs.Common.{◌≡◌, ◌∙◌, ℕ, suc, ◌<◌, ◌≤◌, ◌⊎◌, inl, inr, Bool, true, false, List, [], ◌∷◌, ◌++◌, map, length, Option, Some, None, refl, sym, ap, ap₂, subst, subst₂, arith, append-nil, append_assoc, length-append, ◌==◌, IfSome, if◌then◌else◌, map-append, Decides-eqb, Chars, by_test, IfSome_then, Among, Iri, Term, Triple, rename_term, rename, false_unless, Path, Bnode, Made, Cell, Owner, First, Of, Below, same_owner, model, Inherited, resources, below, up, end_of, Entry, map_entry, of_owner, cells, Call, Leave, after, Slot, fill, settle, number, Machine, value_at, left, leave_with, leave, begun, rename_slot, after-append, text_literal, Text, Frame, State, gathers_some, Ending, ending, end_owner, say_text, end_frame, TextAt, Closes, Numbering, Name, Number, named, Grown, Slots, owner_place, Fills, FillUp, Within, Layer, frames_in, paths_in, begun_by, own_in, under_in, open_in, places_of, waiter_of, said_of, KeptAt, LayerStands, LayersStand, Coming, Pending, owner_depth, WaitsFor, AllWaitFor, RunsBy, Runs, IsOver, page_context, Phase, EvaluatorStands, StandsOn, AllWait}
 use Rattle.rx_rdfa.proofs.RenamedMachine.{fill_rename}
 use Rattle.rx_eval.proofs.NameLemmas.{grown_then, node_later}
-use Rattle.rx_eval.proofs.FillLemmas.{within_more, fill_quiet, of_filled}
-use Rattle.rx_eval.proofs.CellLemmas.{IsFull, AllFull}
+use Rattle.rx_eval.proofs.FillLemmas.{waits_weaker, of_owner_waits, none_waiting, others_wait, filled_wait, renamed_wait, within_more, fill_quiet, of_filled}
+use Rattle.rx_eval.proofs.CellLemmas.{AllFull}
 use Rattle.rx_eval.proofs.ComingLemmas.{coming_not}
 use Rattle.rx_eval.proofs.LayerLemmas.{place_none, begun_none, deeper_none, all_within, frames_length, layers_later}
 use Rattle.rx_eval.proofs.OwnersLemmas.{Midway, Ended, owner_ends}
-use Rattle.rx_eval.proofs.LeavesLemmas.{unmarked}
 use Rattle.std.proofs.lemmas.List.{same_from_push}
 
 -- ---- slots that wait
 
-waits_renamed : {B C O : Type 0} (f : B → C) (r : Path) (xs : List (Entry O (Slot B))) → waits r (map (map_entry (rename_slot f)) xs) ≡ waits r xs
-waits_renamed f r [] = refl
-waits_renamed f r (x ∷ xs) = ap₂ (λ (a b : Bool). a || b) (item x.item) (waits_renamed f r xs)
-  where
-    item : (i : Option (Slot _)) → slot_waits r (option_map (rename_slot f) i) ≡ slot_waits r i
-    item (Some (Full v)) = refl
-    item _ = refl
-
-item_filled : (r : Path) (v : Term ℕ) (i : Option (Slot ℕ)) → slot_waits r (option_map (fill_slot r v) i) ≡ false
-item_filled r v None = refl
-item_filled r v (Some (Full u)) = refl
-item_filled r v (Some (Waiting q)) = by_test (bytes_eq q r) (λ t. rw t refl) (λ f. rw (f, f) refl)
-
-pub filled_quiet : (r : Path) (v : Term ℕ) (xs : Slots) → waits r (fill r v xs) ≡ false
-filled_quiet r v [] = refl
-filled_quiet r v (x ∷ xs) = ap₂ (λ (a b : Bool). a || b) (item_filled r v x.item) (filled_quiet r v xs)
-
-item_waiting : (r : Path) (v : Term ℕ) (paths : List Path) (o : Owner) (i : Option (Slot ℕ)) → WaitsFor paths o i → WaitsFor paths o (option_map (fill_slot r v) i)
-item_waiting r v paths o None h = tt
-item_waiting r v paths o (Some (Full u)) h = tt
-item_waiting r v paths o (Some (Waiting q)) h = by_test (bytes_eq q r) (λ t. rw t tt) (λ f. rw f h)
-
-fill_waiting : (r : Path) (v : Term ℕ) (paths : List Path) (xs : Slots) → AllWaitFor paths xs → AllWaitFor paths (fill r v xs)
-fill_waiting r v paths [] h = tt
-fill_waiting r v paths (x ∷ xs) h = (item_waiting r v paths x.owner x.item h.0, fill_waiting r v paths xs h.1)
-
--- where none waits for the innermost element, they do for others
-item_lower : (r : Path) (paths : List Path) (o : Owner) (i : Option (Slot ℕ)) → slot_waits r i ≡ false → WaitsFor (r ∷ paths) o i → WaitsFor paths o i
-item_lower r paths o None q h = tt
-item_lower r paths o (Some (Full v)) q h = tt
-item_lower r paths o (Some (Waiting s)) q h = (among h.0, h.1)
-  where
-    among : (r ≡ s) ⊎ Among paths s → Among paths s
-    among (inl e) = absurd (cc (q, (exact_texts s r).1 (sym e)))
-    among (inr a) = a
-
-wait_lower : (r : Path) (paths : List Path) (xs : Slots) → waits r xs ≡ false → AllWaitFor (r ∷ paths) xs → AllWaitFor paths xs
-wait_lower r paths [] q h = tt
-wait_lower r paths (x ∷ xs) q h =
-    let k = or_parts (slot_waits r x.item) (waits r xs) q in
-    (item_lower r paths x.owner x.item k.0 h.0, wait_lower r paths xs k.1 h.1)
+-- where none waits for the innermost element any more, they do for others
+wait_lower : (r : Path) (paths : List Path) (xs : Slots) → AllWait (λ o q. WaitsFor (r ∷ paths) o q × ¬ (q ≡ r)) xs → AllWaitFor paths xs
+wait_lower r paths xs h = waits_weaker (λ o q. WaitsFor (r ∷ paths) o q × ¬ (q ≡ r)) (WaitsFor paths) (λ o q k. (elim k.0.0 [ inl e ↦ absurd (k.1 (sym e)) | inr a ↦ a ], k.0.1)) xs h
 
 -- an owner deeper than all elements for which slots wait has none that waits
 all_full : (paths : List Path) (o : Owner) → ((r : Path) → Among paths r → length r < owner_depth o) → (xs : Slots) → AllWaitFor paths xs → AllFull (of_owner same_owner o xs)
-all_full paths o d [] h = tt
-all_full paths o d (x ∷ xs) h =
-    by_test (same_owner x.owner o) (λ t. rw t (item x.item (subst (λ (w : Owner). WaitsFor paths w x.item) ((exact_owners x.owner o).0 t) h.0), all_full paths o d xs h.1))
-    (λ f. rw f (all_full paths o d xs h.1))
-  where
-    item : (i : Option (Slot ℕ)) → WaitsFor paths o i → IsFull i
-    item None k = tt
-    item (Some (Full v)) k = tt
-    item (Some (Waiting r)) k = let a = d r k.0 in let b = k.1 in absurd (omega (arith, a, b))
+all_full paths o d xs h =
+    waits_weaker (λ w. WaitsFor paths o) (λ w r. ⊥) (λ w r k. let a = d r k.0 in let b = k.1 in omega (arith, a, b)) (of_owner same_owner o xs) (of_owner_waits (WaitsFor paths) o xs h)
 
 pub shorter : (to : Numbering) (base kept : Chars) (layers : List Layer) → LayersStand to base kept layers → (r : Path) → Among (paths_in layers) r → length r ≤ length layers
 shorter to base kept [] h r a = absurd a
 shorter to base kept (l ∷ lower) h r (inl e) = let k = h.0.deep in let n = ap length e in omega (arith, k, n)
 shorter to base kept (l ∷ lower) h r (inr a) = let k = shorter to base kept lower h.1 r a in omega (arith, k)
 
-if_given : {A P : Type 0} (o : Option A) → P → IfSome o (λ a. P)
-if_given None p = tt
-if_given (Some a) p = p
+pub not_empty : (xs : List Frame) (x : Frame) → ¬ (xs ++ x ∷ [] ≡ [])
+not_empty xs x e = let n = ap length e in omega (arith, n, length-append xs (x ∷ []))
 
 -- ---- the text
+
+pub text_at : (kept chars : Chars) (t : Option Text) → IfSome t (λ t. KeptAt kept t.mark chars) → (front : Chars) × TextAt t kept front chars
+text_at kept chars None k = ([], tt)
+text_at kept chars (Some t) k = (k.front, k.cut)
 
 record TextEnds (to : Numbering) (base : Chars) (l : Layer) (lower : List Layer) (t : Option Text) (state : State) (slots : Slots) (names : List (Entry Owner (Slot Bnode))) (out : List (Triple Bnode)) : Type 0 where
   now : Slots
@@ -96,18 +53,20 @@ module _ (to : Numbering) (m : Machine Bnode Owner) (state : State) (l : Layer) 
       → IfSome t (λ t. (chars : Chars) → rename_term Number (text_literal t.by chars) ≡ rename_term (named to) (value_at model state.base l.at chars))
       → Fills l.at.path (places_of t) (λ o s. FillUp (open_in state.base (l ∷ lower)) (map waiter_of lower) o s) state.owners slots
       → TextEnds to state.base l lower t state slots m.slots m.out
-  text_by None s w f = record {
-    now = slots;
-    midway = record {
-      numbers = r.numbers;
-      by_names = r.by_names ∙ ap (map (map_entry (rename_slot (named to)))) (sym (fill_quiet l.at.path v m.slots
-          (sym (waits_renamed (named to) l.at.path m.slots) ∙ ap (waits l.at.path) (sym r.by_names) ∙ waits_renamed Number l.at.path slots ∙ f.0)));
-      tables = f.1;
-      written = ap (map (rename Number)) (sym (append-nil state.out)) ∙ out_said None s;
-    };
-    waiting = wait_lower l.at.path (paths_in lower) slots f.0 r.waiting;
-    still = λ o k. k;
-  }
+  text_by None s w f =
+      let others = others_wait (WaitsFor (l.at.path ∷ paths_in lower)) l.at.path slots f.0 r.waiting in
+      let names = renamed_wait (named to) Number (λ q. ¬ (q ≡ l.at.path)) m.slots slots (sym r.by_names) (waits_weaker (λ o q. WaitsFor (l.at.path ∷ paths_in lower) o q × ¬ (q ≡ l.at.path)) (λ o q. ¬ (q ≡ l.at.path)) (λ o q h. h.1) slots others) in
+      record {
+        now = slots;
+        midway = record {
+          numbers = r.numbers;
+          by_names = r.by_names ∙ ap (map (map_entry (rename_slot (named to)))) (sym (fill_quiet l.at.path v m.slots (none_waiting l.at.path m.slots names)));
+          tables = f.1;
+          written = ap (map (rename Number)) (sym (append-nil state.out)) ∙ out_said None s;
+        };
+        waiting = wait_lower l.at.path (paths_in lower) slots others;
+        still = λ o k. k;
+      }
   text_by (Some t) s w f =
       let u : Term ℕ = text_literal t.by l.text in
       record {
@@ -118,7 +77,7 @@ module _ (to : Numbering) (m : Machine Bnode Owner) (state : State) (l : Layer) 
           tables = f.1 u;
           written = out_said (Some t) s;
         };
-        waiting = wait_lower l.at.path (paths_in lower) (fill l.at.path u slots) (filled_quiet l.at.path u slots) (fill_waiting l.at.path u (l.at.path ∷ paths_in lower) slots r.waiting);
+        waiting = wait_lower l.at.path (paths_in lower) (fill l.at.path u slots) (filled_wait (WaitsFor (l.at.path ∷ paths_in lower)) l.at.path u slots r.waiting);
         still = λ o k. of_filled o l.at.path u slots ∙ ap (fill l.at.path u) k;
       }
 
@@ -146,9 +105,6 @@ module _ (to : Numbering) (m : Machine Bnode Owner) (state : State) (l : Layer) 
       (begun_none l.frame.own (Of l.at.path) (Below l.at.path) l.frame.context.subject (λ q. absurd (cc q))))
       (ap (λ (x : Option ℕ). owner_place (begun_by x (Below l.at.path) l.frame.context.object) (Below l.at.path)) e)
 
-  lower_shorter : (o : Owner) → owner_depth o ≡ length l.at.path → (q : Path) → Among (paths_in lower) q → length q < owner_depth o
-  lower_shorter o e q a = let k = shorter to state.base state.kept lower r.each.1 q a in let d = given.deep in omega (arith, k, d, e)
-
   within_lower : Within (length (open_in state.base lower)) (map waiter_of lower)
   within_lower = all_within state.base to state.kept lower r.each.1
 
@@ -159,10 +115,7 @@ module _ (to : Numbering) (m : Machine Bnode Owner) (state : State) (l : Layer) 
   at_start = ending state.out state.owners state.cells
 
   full_at : (o : Owner) → owner_depth o ≡ length l.at.path → AllFull (of_owner same_owner o said.now)
-  full_at o e = all_full (paths_in lower) o (lower_shorter o e) said.now said.waiting
-
-  more_owners : length (open_in state.base lower) ≤ length (open_in state.base lower ++ own_in l)
-  more_owners = let a = length-append (open_in state.base lower) (own_in l) in omega (arith, a)
+  full_at o e = all_full (paths_in lower) o (λ q a. let k = shorter to state.base state.kept lower r.each.1 q a in let d = given.deep in omega (arith, k, d, e)) said.now said.waiting
 
   under_ends : Ended to (Below l.at.path) (open_in state.base lower ++ own_in l) (map waiter_of lower) state.labels state.drawn (end_owner l.frame.below (say_text l.frame.text l.text at_start)) said.now names
       ((m.out ++ end_of model state.base l.at l.text) ++ cells model (settle names) (Below l.at.path) (below model state.base l.at).object)
@@ -170,8 +123,8 @@ module _ (to : Numbering) (m : Machine Bnode Owner) (state : State) (l : Layer) 
       owner_ends to (Below l.at.path) l.frame.context.object (below model state.base l.at).object (open_in state.base lower ++ own_in l) (map waiter_of lower) state.labels state.drawn
       (say_text l.frame.text l.text at_start) said.now names (m.out ++ end_of model state.base l.at l.text) l.frame.below given.under (r.uncelled (Below l.at.path) (inr (inl refl)))
       (λ e. said.still (Below l.at.path) (r.unbegun (Below l.at.path) (inr (inl refl)) (under_none e))) (full_at (Below l.at.path) refl)
-      (if_given l.frame.below (ap (λ (x : Inherited (Name Bnode) (Name Owner)). x.object) given.context))
-      (within_more (length (open_in state.base lower)) (length (open_in state.base lower ++ own_in l)) (map waiter_of lower) more_owners within_lower) said.midway
+      (IfSome_then l.frame.below given.under (λ n e. ap (λ (x : Inherited (Name Bnode) (Name Owner)). x.object) given.context))
+      (within_more (length (open_in state.base lower)) (length (open_in state.base lower ++ own_in l)) (map waiter_of lower) (let a = length-append (open_in state.base lower) (own_in l) in omega (arith, a)) within_lower) said.midway
 
   own_ends : Ended under_ends.now (Of l.at.path) (open_in state.base lower) (map waiter_of lower) state.labels state.drawn (end_frame l.frame l.text at_start) said.now names
       (((m.out ++ end_of model state.base l.at l.text) ++ cells model (settle names) (Below l.at.path) (below model state.base l.at).object) ++ cells model (settle names) (Of l.at.path) (resources model state.base l.at).subject)
@@ -257,10 +210,10 @@ module _ (to : Numbering) (m : Machine Bnode Owner) (state : State) (l : Layer) 
 
   -- ---- the state after it
 
-  each_kept : (kept : Chars) (b : Bool) → gathers_some (frames_in lower) ≡ b → kept ≡ (if gathers_some (frames_in lower) then state.kept else []) → LayersStand both_end.now state.base kept lower
-  each_kept kept true e k =
-      subst (λ (x : Chars). LayersStand both_end.now state.base x lower) (sym (k ∙ ap (λ (b : Bool). if b then state.kept else []) e)) (layers_later to both_end.now both_end.grown state.base state.kept lower r.each.1)
-  each_kept kept false e k = unmarked both_end.now state.base state.kept kept lower e (layers_later to both_end.now both_end.grown state.base state.kept lower r.each.1)
+  each_kept : (kept : Chars) → kept ≡ (if gathers_some (frames_in lower) then state.kept else []) → LayersStand both_end.now state.base kept lower
+  each_kept kept e =
+      layers_later to both_end.now both_end.grown state.base state.kept kept lower
+      (by_test (gathers_some (frames_in lower)) (λ t. inr (λ mark text k. subst (λ (x : Chars). KeptAt x mark text) (sym (rw t at e)) k)) inl) r.each.1
 
   module _ (new : State) (c : Closes state new) where
     frames_are : new.frames ≡ frames_in lower
@@ -269,13 +222,9 @@ module _ (to : Numbering) (m : Machine Bnode Owner) (state : State) (l : Layer) 
     frame_is : c.frame ≡ l.frame
     frame_is = (same_from_push new.frames (frames_in lower) c.frame l.frame (sym c.popped ∙ r.frames)).1
 
-    text_at : (t : Option Text) → IfSome t (λ t. KeptAt state.kept t.mark l.text) → (front : Chars) × TextAt t state.kept front l.text
-    text_at None k = ([], tt)
-    text_at (Some t) k = (k.front, k.cut)
-
     ends_as : ending new.out new.owners new.cells ≡ end_owner (if length (frames_in lower) == 0 then Some state.page.owner else None) (end_frame l.frame l.text at_start)
     ends_as =
-        let t = text_at l.frame.text given.marked in
+        let t = text_at state.kept l.text l.frame.text given.marked in
         c.endings t.0 l.text (subst (λ (f : Frame). TextAt f.text state.kept t.0 l.text) (sym frame_is) t.1)
         ∙ ap₂ (λ (n : List Frame) (f : Frame). end_owner (if length n == 0 then Some state.page.owner else None) (end_frame f l.text at_start)) frames_are frame_is
 
@@ -306,7 +255,7 @@ module _ (to : Numbering) (m : Machine Bnode Owner) (state : State) (l : Layer) 
         standings = refl;
         texts = refl;
         path = given.inside;
-        each = each_kept new.kept (gathers_some (frames_in lower)) refl kept_is;
+        each = each_kept new.kept kept_is;
         by_names = both_end.midway.by_names;
         tables = both_end.midway.tables;
         waiting = said.waiting;
@@ -362,9 +311,6 @@ module _ (to : Numbering) (list : List Call) (state new : State) (c : Closes sta
       phase = subst₂ (λ (x : Bool) (y : Machine Bnode Owner). Phase x now y new) (sym q) (sym (calls_more ∙ e)) p;
     };
   }
-
-  not_empty : (xs : List Frame) (x : Frame) → ¬ (xs ++ x ∷ [] ≡ [])
-  not_empty xs x e = let n = ap length e in omega (arith, n, length-append xs (x ∷ []))
 
   some_open : (k : Layer) (lower : List Layer) → (length (frames_in (k ∷ lower)) == 0) ≡ false
   some_open k lower = false_unless (length (frames_in (k ∷ lower)) == 0) (λ t. let e = (Decides-eqb (length (frames_in (k ∷ lower))) 0).0 t in let n = frames_length (k ∷ lower) in omega (arith, e, n))

@@ -1,9 +1,14 @@
 -- The start of an element: what its parts come to is what the rules say.
-use Rattle.rx_eval.proofs.Common.{◌≡◌, ◌∙◌, ℕ, suc, Bool, true, false, List, [], ◌∷◌, ◌++◌, map, filter_map, length, Option, Some, None, option_map, nat_eq, refl, sym, ap, ap₂, arith, append_assoc, length-append, Result, Ok, Err, OnOk, not, ◌&&◌, is_some, if◌then◌else◌, is_none, map-append, Chars, by_test, Node, Term, same_node, node_seen, term_seen, Naming, Facts, rule, value_now, gathers, entry, entries_by, linked, awaited, Owners, owned, Numbered, moment, resource_term, Owning, owning_seen, owners_seen, put_entries, Entries, linked_entries, awaited_entry, entries_in, next_number, naming_by, own_number, begun_seen, begun_for, owners_begun, owner_begun, owner_for, owner_seen}
+use Rattle.rx_eval.specs.declared.frames.Gathered.{Gathered}
+use Rattle.rx_eval.specs.Places.{object_under}
+use Rattle.rx_eval.specs.Entering.{handed_found, owners_found, own_found, below_found, naming_found}
+use Rattle.rx_eval.specs.declared.places.Surroundings.{Surroundings}
+use Rattle.rx_eval.specs.declared.resources.ElementResources.{ElementResources}
+use Rattle.rx_eval.proofs.Common.{◌≡◌, ◌∙◌, ℕ, suc, Bool, true, false, List, [], ◌∷◌, ◌++◌, map, filter_map, length, Option, Some, None, option_map, nat_eq, refl, sym, ap, ap₂, arith, append_assoc, length-append, Result, Ok, Err, OnOk, ◌&&◌, is_some, if◌then◌else◌, is_none, map-append, Chars, by_test, Node, Term, same_node, node_seen, term_seen, Naming, Facts, entry, entries_by, linked, awaited, Owners, owned, Numbered, moment, resource_term, Owning, owning_seen, owners_seen, Entries, linked_entries, awaited_entry, entries_in, next_number, naming_by, own_number, begun_seen, begun_for, owner_begun, owner_for, owner_seen, found_seen, standing, SlotId, IfSome, both, touched, places_for, own_places, text_seen, Gathers, places_by, put_entries}
 use Rattle.rx_terms.specs.declared.triples.Node.{Node as CodeNode}
 use Rattle.rx_terms.specs.declared.triples.Term.{Term as CodeTerm}
-use Rattle.rx_rdfa.specs.Resources.{Hanging, Forward, Reverse, InList, Inherited, Standing, Resources, resources, only}
-use Rattle.rx_rdfa.specs.Inherited.{listed, hangs, object_below, own_owner, owner_below, handed, below}
+use Rattle.rx_rdfa.specs.Resources.{Hanging, Forward, Reverse, InList, Standing, Resources, resources, only}
+use Rattle.rx_rdfa.specs.Inherited.{listed, hangs, own_owner, owner_below, handed, below}
 use Rattle.rx_lists.specs.declared.lists.Owner.{Owner}
 use Rattle.rx_eval.specs.Handing.{begun, begun_number}
 use Rattle.rx_eval.specs.Elements.{handed_by, owner_in, begun_below, begun_below_number}
@@ -32,90 +37,63 @@ seen_below : (object : Option CodeNode) (s : CodeNode) (n : ℕ) → option_map 
 seen_below None s n = refl
 seen_below (Some object) s n = seen_begun object s n
 
--- an element of which the code has the subject, the parent object, and the object for its children
-module _ (N : Naming ℕ ℕ) (at : Standing ℕ ℕ) (here : Resources ℕ) (s a : CodeNode) (object : Option CodeNode) (e : node_seen s ≡ here.subject) (f : node_seen a ≡ at.around.object) where
-  pub owners_are : (old mid new : Owners) → option_map node_seen object ≡ object_below N at here → mid ≡ begun s a old → new ≡ begun_below object s mid
-      → owners_seen new ≡ owners_begun N at here (owners_seen old)
-  owners_are old mid new o m n =
-      ap owners_seen n ∙ below_is object s mid ∙ ap (begun_for (option_map node_seen object) (node_seen s)) (ap owners_seen m ∙ begun_is s a old)
-      ∙ ap₂ (λ (x : Option (Node ℕ)) (y : Node ℕ). begun_for x y (begun_seen y (node_seen a) (owners_seen old))) o e
-      ∙ ap (λ (x : Node ℕ). begun_for (object_below N at here) here.subject (begun_seen here.subject x (owners_seen old))) f
+-- an element at a place, of which the code has the object for its children, and the owners that it begins
+pub record Begins (place : Surroundings) (facts : Facts) (found : ElementResources) (object : Option CodeNode) (own below : Option Owner) (old mid : Owners) : Type 0 where
+  pub its_object : option_map node_seen object ≡ object_under place facts (found_seen found)
+  pub its_own : own ≡ begun_number found.subject place.around.now.object (length old)
+  pub its_lists : mid ≡ begun found.subject place.around.now.object old
+  pub its_below : below ≡ begun_below_number object found.subject (length mid)
 
-  pub own_is : (own : Option Owner) (around : Owner) (n : ℕ) → around.0 ≡ at.around.owner → own ≡ begun_number s a n → (owner_in own around).0 ≡ own_number at here n
-  own_is own around n z o =
-      ap (λ (x : Option Owner). (owner_in x around).0) o ∙ number_is s a n around
-      ∙ ap₂ (λ (x y : Node ℕ). if same_node nat_eq x y then around.0 else n) e f
-      ∙ ap (λ (x : ℕ). if same_node nat_eq here.subject at.around.object then x else n) z
+module _ (place : Surroundings) (facts : Facts) (found : ElementResources) (object : Option CodeNode) (own below : Option Owner) (old mid : Owners) (b : Begins place facts found object own below old mid) where
+  abbrev stands : Standing ℕ ℕ
+  stands = standing place facts
 
-  pub next_is : (old mid : Owners) → mid ≡ begun s a old → length mid ≡ next_number at here (length old)
-  next_is old mid m = ap length m ∙ more_owners s a old ∙ ap₂ (λ (x y : Node ℕ). if same_node nat_eq x y then length old else suc (length old)) e f
+  abbrev ours : Resources ℕ
+  ours = found_seen found
+
+  abbrev outer : Owner
+  outer = place.around.now.owner
+
+  pub owners_are : (new : Owners) → new ≡ begun_below object found.subject mid → owners_seen new ≡ owners_found place facts ours old
+  owners_are new n =
+      ap owners_seen n ∙ below_is object found.subject mid
+      ∙ ap₂ (λ (x : Option (Node ℕ)) (l : List (Option Owning)). begun_for x ours.subject l) b.its_object (ap owners_seen b.its_lists ∙ begun_is found.subject place.around.now.object old)
+
+  pub own_is : (owner_in own outer).0 ≡ own_number stands ours (length old)
+  own_is = ap (λ (x : Option Owner). (owner_in x outer).0) b.its_own ∙ number_is found.subject place.around.now.object (length old) outer
+
+  next_is : length mid ≡ next_number stands ours (length old)
+  next_is = ap length b.its_lists ∙ more_owners found.subject place.around.now.object old
 
   -- the owners that the element begins
-  pub own_seen : (own : Option Owner) (n : ℕ) → own ≡ begun_number s a n → option_map owner_seen own ≡ owner_begun here.subject at.around.object n
-  own_seen own n o = ap (option_map owner_seen) o ∙ seen_begun s a n ∙ ap₂ (λ (x y : Node ℕ). owner_begun x y n) e f
+  pub own_seen : option_map owner_seen own ≡ own_found place facts ours old
+  own_seen = ap (option_map owner_seen) b.its_own ∙ seen_begun found.subject place.around.now.object (length old)
 
-  pub below_seen : (below : Option Owner) (old mid : Owners) → option_map node_seen object ≡ object_below N at here → mid ≡ begun s a old → below ≡ begun_below_number object s (length mid)
-      → option_map owner_seen below ≡ owner_for (object_below N at here) here.subject (next_number at here (length old))
-  below_seen below old mid o m b =
-      ap (option_map owner_seen) b ∙ seen_below object s (length mid)
-      ∙ ap₂ (λ (x : Option (Node ℕ)) (y : Node ℕ). owner_for x y (length mid)) o e
-      ∙ ap (owner_for (object_below N at here) here.subject) (next_is old mid m)
+  pub below_seen : option_map owner_seen below ≡ below_found place facts ours old
+  below_seen =
+      ap (option_map owner_seen) b.its_below ∙ seen_below object found.subject (length mid)
+      ∙ ap₂ (λ (x : Option (Node ℕ)) (n : ℕ). owner_for x ours.subject n) b.its_object next_is
 
--- ---- the context
+  -- ---- the context
 
-pub handed_is : (labels : Numbered) (fresh : ℕ) (at : Standing ℕ ℕ) (here : Resources ℕ) (s a : CodeNode) (object : Option CodeNode) (own below : Option Owner) (around : Owner) (context : Inherited ℕ ℕ) (old mid : Owners)
-    → here.skipped ≡ false → node_seen s ≡ here.subject → node_seen a ≡ at.around.object → around.0 ≡ at.around.owner → option_map node_seen object ≡ object_below (moment labels fresh 0 0) at here
-    → own ≡ begun_number s a (length old) → mid ≡ begun s a old → below ≡ begun_below_number object s (length mid)
-    → context ≡ handed_by at.facts here (option_map node_seen object) (owner_in own around).0 (owner_in below (owner_in own around)).0
-    → context ≡ handed (naming_by labels fresh at here (length old)) at here
-handed_is labels fresh at here s a object own below around context old mid k e f z o w m b h =
-    h ∙ ap₂ (λ (x y : ℕ). handed_by at.facts here (option_map node_seen object) x y) is_own (last_owner object below b)
-    ∙ ap (λ (x : Option (Node ℕ)). handed_by at.facts here x (own_number at here (length old)) (last_number x)) o
-    ∙ by_skip
-  where
-    is_own : (owner_in own around).0 ≡ own_number at here (length old)
-    is_own = own_is (moment labels fresh 0 0) at here s a object e f own around (length old) z w
+  abbrev last_number : Option (Node ℕ) → ℕ
+  last_number x = owner_below (naming_found place facts ours old) stands ours x (own_number stands ours (length old))
 
-    -- the owner of the children, by the object
-    last_number : Option (Node ℕ) → ℕ
-    last_number x = owner_below (naming_by labels fresh at here (length old)) at here x (own_number at here (length old))
+  last_owner : (x : Option CodeNode) → (owner_in (begun_below_number x found.subject (length mid)) (owner_in own outer)).0 ≡ last_number (option_map node_seen x)
+  last_owner None = own_is
+  last_owner (Some x) =
+      number_is x found.subject (length mid) (owner_in own outer) ∙ ap₂ (λ (u v : ℕ). if same_node nat_eq (node_seen x) ours.subject then u else v) own_is next_is
 
-    last_owner : (x : Option CodeNode) (y : Option Owner) → y ≡ begun_below_number x s (length mid) → (owner_in y (owner_in own around)).0 ≡ last_number (option_map node_seen x)
-    last_owner None y g = ap (λ (v : Option Owner). (owner_in v (owner_in own around)).0) g ∙ is_own
-    last_owner (Some x) y g =
-        ap (λ (v : Option Owner). (owner_in v (owner_in own around)).0) g ∙ number_is x s (length mid) (owner_in own around)
-        ∙ ap₂ (λ (u v : ℕ). if same_node nat_eq (node_seen x) (node_seen s) then u else v) is_own (next_is (moment labels fresh 0 0) at here s a object e f old mid m)
-        ∙ ap (λ (v : Node ℕ). if same_node nat_eq (node_seen x) v then own_number at here (length old) else next_number at here (length old)) e
-
-    by_skip : handed_by at.facts here (object_below (moment labels fresh 0 0) at here) (own_number at here (length old)) (last_number (object_below (moment labels fresh 0 0) at here))
-        ≡ handed (naming_by labels fresh at here (length old)) at here
-    by_skip = rw k refl
+  pub handed_is : ours.skipped ≡ false → handed_by facts ours (option_map node_seen object) (owner_in own outer).0 (owner_in below (owner_in own outer)).0 ≡ handed_found place facts ours old
+  handed_is k =
+      let last = ap (λ (x : Option Owner). (owner_in x (owner_in own outer)).0) b.its_below ∙ last_owner object ∙ ap last_number b.its_object in
+      rw k (λ i. handed_by facts ours (b.its_object i) (own_is i) (last i))
 
 -- an element with its labels' numbers, the number of a new node, and the base
 module _ (labels : Numbered) (fresh : ℕ) (base : Chars) (at : Standing ℕ ℕ) where
-  abbrev N : Naming ℕ ℕ
-  N = moment labels fresh 0 0
-
-  abbrev R : Resources ℕ
-  R = resources N base at
-
-  below_opened : (M : Naming ℕ ℕ) → handed M at (resources M base at) ≡ below M base at
-  unfolding below
-  below_opened M = refl
-
-  same_naming : (here : Resources ℕ) (n : ℕ) → R ≡ resources (naming_by labels fresh at here n) base at
-  unfolding resources
-  same_naming here n = refl
-
-  pub below_is_handed : (here : Resources ℕ) (n : ℕ) (context : Inherited ℕ ℕ) → here ≡ R → context ≡ handed (naming_by labels fresh at here n) at here
-      → context ≡ below (naming_by labels fresh at R n) base at
-  below_is_handed here n context r h =
-      h ∙ ap (λ (x : Resources ℕ). handed (naming_by labels fresh at x n) at x) r
-      ∙ ap (handed (naming_by labels fresh at R n) at) (same_naming R n)
-      ∙ below_opened (naming_by labels fresh at R n)
-
-  pub below_skipped : (here : Resources ℕ) (n : ℕ) → here.skipped ≡ true → at.around ≡ handed (naming_by labels fresh at here n) at here
-  below_skipped here n k = rw k refl
+  pub below_as : (here : Resources ℕ) (n : ℕ) → below (naming_by labels fresh at here n) base at ≡ handed (naming_by labels fresh at here n) at (resources (moment labels fresh 0 0) base at)
+  unfolding below resources
+  below_as here n = refl
 
 -- ---- the lists
 
@@ -147,68 +125,46 @@ no_value : (owner : ℕ) (facts : Facts) (here : Resources ℕ) (hanging : List 
 no_value owner facts here hanging (Some ps) e v = refl
 no_value owner facts here hanging None e v = rw e refl
 
-none_of : (b : Bool) (v : Option (Term ℕ)) → (b && is_none (only b v)) ≡ (b && is_none v)
-none_of true v = refl
-none_of false v = refl
+-- what the code puts, of the value that it has
+pub entries_entered : (M : Naming ℕ ℕ) (at : Standing ℕ ℕ) (here : Resources ℕ) (value v : Option (Term ℕ)) → here.skipped ≡ false → value ≡ only (is_some at.facts.property) v
+    → entries_in (own_owner M at here) at.facts here value at.around.hanging ≡ entries_by M Some v at here
+entries_entered M at here value v k e =
+    ap (λ (x : Option (Term ℕ)). entries_in (own_owner M at here) at.facts here x at.around.hanging) e
+    ∙ no_value (own_owner M at here) at.facts here at.around.hanging at.facts.property refl v ∙ entries_are M at here v k
 
-module _ (labels : Numbered) (fresh : ℕ) (base : Chars) (at : Standing ℕ ℕ) (here : Resources ℕ) (r : here ≡ resources (moment labels fresh 0 0) base at) where
-  -- the owners after the element's start, by its resources
-  abbrev lists_with : ℕ → List (Option Owning) → Resources ℕ → List (Option Owning)
-  lists_with n owners h =
-      if h.skipped then owners
-      else put_entries (entries_by (naming_by labels fresh at h n) Some (value_now (rule (moment labels fresh 0 0) base at.facts h) at.facts) at h)
-      (owners_begun (moment labels fresh 0 0) at h owners)
+-- whether it gathers its text
+pub gathers_entered : (b : Bool) (value : Option CodeTerm) (v : Option (Term ℕ)) → option_map term_seen value ≡ only b v → (b && is_none value) ≡ (b && is_none v)
+gathers_entered false value v e = refl
+gathers_entered true None None e = refl
+gathers_entered true (Some x) (Some v) e = refl
+gathers_entered _ _ _ e = absurd (cc)
 
-  pub lists_skipped : (owners : List (Option Owning)) → here.skipped ≡ true
-      → owners ≡ lists_with (length owners) owners (resources (moment labels fresh 0 0) base at)
-  lists_skipped owners k = let skips : owners ≡ lists_with (length owners) owners here = rw k refl in skips ∙ ap (lists_with (length owners) owners) r
+-- ---- the places of its text
 
-  pub lists_entered : (value : Option (Term ℕ)) (old new : List (Option Owning)) (n : ℕ) → n ≡ length old → here.skipped ≡ false
-      → value ≡ only (is_some at.facts.property) (value_now (rule (moment labels fresh 0 0) base at.facts here) at.facts)
-      → new ≡ put_entries (entries_in (own_number at here n) at.facts here value at.around.hanging) (owners_begun (moment labels fresh 0 0) at here old)
-      → new ≡ lists_with (length old) old (resources (moment labels fresh 0 0) base at)
-  lists_entered value old new n z k e h =
-      h ∙ ap (λ (m : ℕ). put_entries (entries_in (own_number at here m) at.facts here value at.around.hanging) (owners_begun (moment labels fresh 0 0) at here old)) z
-      ∙ ap (λ (x : Entries). put_entries x (owners_begun (moment labels fresh 0 0) at here old))
-      (ap (λ (x : Option (Term ℕ)). entries_in (own_number at here (length old)) at.facts here x at.around.hanging) e
-      ∙ no_value (own_number at here (length old)) at.facts here at.around.hanging at.facts.property refl V
-      ∙ entries_are (naming_by labels fresh at here (length old)) at here V k)
-      ∙ skips ∙ ap (lists_with (length old) old) r
-    where
-      V : Option (Term ℕ)
-      V = value_now (rule (moment labels fresh 0 0) base at.facts here) at.facts
+places_are : (M : Naming ℕ ℕ) (at : Standing ℕ ℕ) (here : Resources ℕ) (owners : List (Option Owning))
+    → own_places (own_owner M at here) at.facts here owners
+    ≡ places_for (own_owner M at here) (listed at.facts.property) (put_entries (linked M Some None at here here.object ++ touched M Some None at here) owners)
+places_are M at here owners =
+    ap (λ (l : Entries). places_for (own_owner M at here) (listed at.facts.property) (put_entries (l ++ touched M Some None at here) owners)) (linked_is M at here None here.object)
 
-      E : List (Option Owning)
-      E = put_entries
-          (entries_by (naming_by labels fresh at here (length old)) Some (value_now (rule (moment labels fresh 0 0) base at.facts here) at.facts) at here)
-          (owners_begun (moment labels fresh 0 0) at here old)
+if_same : (listed waits : Bool) (slots more whole : List SlotId) → waits ≡ true → slots ≡ (if listed then (if waits then more else []) else []) → more ≡ whole
+    → (if listed then slots else []) ≡ (if listed then whole else [])
+if_same true waits slots more whole w s m = s ∙ ap (λ (b : Bool). if b then more else []) w ∙ m
+if_same false waits slots more whole w s m = refl
 
-      skips : E ≡ lists_with (length old) old here
-      skips = rw k refl
-
-  -- ---- the text
-
-  pub gathers_entered : (value : Option (Term ℕ)) → here.skipped ≡ false → value ≡ only (is_some at.facts.property) (value_now (rule (moment labels fresh 0 0) base at.facts here) at.facts)
-      → (is_some at.facts.property && is_none value)
-      ≡ (not (resources (moment labels fresh 0 0) base at).skipped && gathers (moment labels fresh 0 0) base at.facts (resources (moment labels fresh 0 0) base at))
-  gathers_entered value k e =
-      ap (λ (x : Option (Term ℕ)). is_some at.facts.property && is_none x) e
-      ∙ none_of (is_some at.facts.property) (value_now (rule (moment labels fresh 0 0) base at.facts here) at.facts) ∙ not_skipped
-      ∙ ap (λ (h : Resources ℕ). not h.skipped && gathers (moment labels fresh 0 0) base at.facts h) r
-    where
-      not_skipped : gathers (moment labels fresh 0 0) base at.facts here ≡ (not here.skipped && gathers (moment labels fresh 0 0) base at.facts here)
-      not_skipped = rw k refl
-
-  pub gathers_skipped : here.skipped ≡ true
-      → false ≡ (not (resources (moment labels fresh 0 0) base at).skipped && gathers (moment labels fresh 0 0) base at.facts (resources (moment labels fresh 0 0) base at))
-  gathers_skipped k =
-      let skips : false ≡ (not here.skipped && gathers (moment labels fresh 0 0) base at.facts here) = rw k refl in
-      skips ∙ ap (λ (h : Resources ℕ). not h.skipped && gathers (moment labels fresh 0 0) base at.facts h) r
+-- the places that the code reserved are those of the element, where it gathers its text
+pub gathers_places : (M : Naming ℕ ℕ) (at : Standing ℕ ℕ) (here : Resources ℕ) (owner mark : ℕ) (has waits : Bool) (slots : List SlotId) (old owners : List (Option Owning)) (g : Option Gathered)
+    → owner ≡ own_owner M at here → old ≡ owners → is_some g ≡ (has && waits)
+    → slots ≡ (if at.facts.inlist then (if waits then own_places owner at.facts here old else []) else [])
+    → IfSome g (λ x. Gathers at.facts here (if at.facts.inlist then slots else []) mark (text_seen x))
+    → IfSome g (λ x. Gathers at.facts here (places_by M at here owners) mark (text_seen x))
+gathers_places M at here owner mark has waits slots old owners None o u s e h = tt
+gathers_places M at here owner mark has waits slots old owners (Some x) o u s e h =
+    let own : own_places owner at.facts here old ≡ places_for (own_owner M at here) (listed at.facts.property) (put_entries (linked M Some None at here here.object ++ touched M Some None at here) owners) =
+    ap (λ (n : ℕ). own_places n at.facts here old) o ∙ ap (own_places (own_owner M at here) at.facts here) u ∙ places_are M at here owners in
+    let same = if_same at.facts.inlist waits slots _ _ (both has waits (sym s)).1 e own in
+    record { subject = h.subject; rule = h.rule; said = h.said; slots = h.slots ∙ same; begins = h.begins }
 
 pub on_always : {A E Q : Type 0} (r : Result A E) → Q → OnOk r Q
 on_always (Ok a) q = q
 on_always (Err e) q = tt
-
-pub gathers_is : (value : Option CodeTerm) (facts : Facts) → (is_some facts.property && is_none value) ≡ (is_some facts.property && is_none (option_map term_seen value))
-gathers_is None facts = refl
-gathers_is (Some v) facts = refl

@@ -24,10 +24,7 @@ filled_item p t (o ∷ owners) (suc n) = ap (λ (l : Owners). o ∷ l) (filled_i
 
 pub item_added : (owners mid new : Owners) (n : ℕ) (p : Chars) (t u : Term) (slot : SlotId) (owner : Owner) → owner.0 ≡ n → mid ≡ changed (put p (Some None)) owners n
     → slot ≡ slot_in owner p (lists_of (open_at owners n)) → u ≡ t → new ≡ changed (with_term slot.list slot.place u) mid slot.owner.0 → new ≡ changed (put p (Some (Some t))) owners n
-item_added owners mid new n p t u slot owner o m s e w =
-    w ∙ ap (λ (x : SlotId). changed (with_term x.list x.place u) mid x.owner.0) s ∙ ap (λ (k : ℕ). changed (with_term (place_of p (lists_of (open_at owners n))) (length (slots_of p (lists_of (open_at owners n)))) u) mid k) o
-    ∙ ap (λ (x : Owners). changed (with_term (place_of p (lists_of (open_at owners n))) (length (slots_of p (lists_of (open_at owners n)))) u) x n) m
-    ∙ filled_item p u owners n ∙ ap (λ (x : Term). changed (put p (Some (Some x))) owners n) e
+item_added owners mid new n p t u slot owner o m s e w = rw (w, s, o, m, e) (filled_item p t owners n)
 
 -- what is put, and what is still to be put, is the whole
 pub record ToPut (owner : ℕ) (item : Option (Option Term)) (left : List Chars) (now whole : Owners) : Type 0 where
@@ -35,11 +32,7 @@ pub record ToPut (owner : ℕ) (item : Option (Option Term)) (left : List Chars)
 
 pub one_put : (owner : ℕ) (item : Option (Option Term)) (ps : List Chars) (i : ℕ) (p : Chars) (now more whole : Owners) → slice_get ps i ≡ Some p → more ≡ changed (put p item) now owner
     → ToPut owner item (drop i ps) now whole → ToPut owner item (drop (i + 1) ps) more whole
-one_put owner item ps i p now more whole g m w =
-    rw add-one (record {
-      path =
-          ap (put_each owner item (drop (suc i) ps)) m ∙ ap (λ (l : List Chars). put_each owner item l now) (sym (drop_at ps i p g)) ∙ w.path;
-    })
+one_put owner item ps i p now more whole g m w = rw add-one (record { path = rw m (rw (drop_at ps i p g) at w.path) })
 
 pub all_put : (owner : ℕ) (item : Option (Option Term)) (ps : List Chars) (i : ℕ) (now whole : Owners) → length ps ≤ i → ToPut owner item (drop i ps) now whole → now ≡ whole
 all_put owner item ps i now whole h w = ap (λ (l : List Chars). put_each owner item l now) (sym (nothing_left i ps h)) ∙ w.path
@@ -52,13 +45,7 @@ pub one_reserved : (owner : Owner) (ps : List Chars) (i : ℕ) (p : Chars) (now 
     → more ≡ changed (put p (Some None)) now owner.0 → slot ≡ slot_in owner p (lists_of (open_at now owner.0)) → more_slots ≡ slots ++ slot ∷ []
     → ToReserve owner (drop i ps) now slots whole → ToReserve owner (drop (i + 1) ps) more more_slots whole
 one_reserved owner ps i p now more slots more_slots whole slot g m s e w =
-    rw add-one (record {
-      path =
-          ap (λ (l : List SlotId). l ++ slots_for owner (drop (suc i) ps) more) e ∙ append_assoc slots (slot ∷ []) (slots_for owner (drop (suc i) ps) more)
-          ∙ ap (λ (o : Owners). slots ++ slot ∷ slots_for owner (drop (suc i) ps) o) m
-          ∙ ap (λ (x : SlotId). slots ++ x ∷ slots_for owner (drop (suc i) ps) (changed (put p (Some None)) now owner.0)) s
-          ∙ ap (λ (l : List Chars). slots ++ slots_for owner l now) (sym (drop_at ps i p g)) ∙ w.path;
-    })
+    rw add-one (record { path = rw (e, m, s) (append_assoc slots (slot_in owner p (lists_of (open_at now owner.0)) ∷ []) _ ∙ (rw (drop_at ps i p g) at w.path)) })
 
 pub all_reserved : (owner : Owner) (ps : List Chars) (i : ℕ) (now : Owners) (slots whole : List SlotId) → length ps ≤ i → ToReserve owner (drop i ps) now slots whole → slots ≡ whole
 all_reserved owner ps i now slots whole h w = sym (append-nil slots) ∙ ap (λ (l : List Chars). slots ++ slots_for owner l now) (sym (nothing_left i ps h)) ∙ w.path

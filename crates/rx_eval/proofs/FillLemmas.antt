@@ -1,5 +1,6 @@
 -- Places are filled at the ends of elements: what becomes of that when slots are put, and owners begin and end.
-use Rattle.rx_eval.proofs.Common.{◌≡◌, ◌∙◌, ℕ, zero, suc, ◌<◌, ◌≤◌, Bool, false, List, [], ◌∷◌, ◌++◌, map, length, Option, Some, None, option_map, refl, sym, ap, ap₂, subst, subst₂, arith, ◌||◌, length-set, map-append, or_parts, by_test, Node, Term, Path, Owner, same_owner, Entry, map_entry, of_owner, Slot, Full, Waiting, fill, fill_slot, Table, table_from, SlotId, Owning, owning, put_entries, with_item, fill_seen, fill_all, Slots, Open, owner_place, item_of, table_in, owners_of, slot_waits, waits, HasItem, HasPlace, HasPlaces, Waiter, Fills, FillUp, Apart, WithinPlaces, WithinOption, Within}
+use Rattle.std.proofs.Common.{◌↔◌}
+use Rattle.rx_eval.proofs.Common.{◌≡◌, ◌∙◌, ℕ, zero, suc, ◌<◌, ◌≤◌, Bool, false, List, [], ◌∷◌, ◌++◌, map, length, Option, Some, None, option_map, refl, sym, ap, ap₂, subst, subst₂, arith, ◌||◌, length-set, map-append, or_parts, by_test, Node, Term, Path, Owner, same_owner, Entry, map_entry, of_owner, Slot, Full, Waiting, fill, fill_slot, Table, table_from, SlotId, Owning, owning, put_entries, with_item, fill_seen, fill_all, Slots, Open, owner_place, item_of, table_in, owners_of, slot_waits, waits, HasItem, HasPlace, HasPlaces, Waiter, Fills, FillUp, Apart, WithinPlaces, WithinOption, Within, AllWait, ItemWaits, exact_owners, exact_texts, bytes_eq, rename_slot, false_unless}
 use Rattle.rx_eval.proofs.PlaceLemmas.{still_at, fill_past_all}
 use Rattle.rx_eval.proofs.ListLemmas.{Puts, Match, put_all}
 use Rattle.std.proofs.lemmas.List.{same_from_push}
@@ -7,7 +8,68 @@ use Rattle.std.proofs.lemmas.List.{same_from_push}
 abbrev Many : Type 0
 Many = List (Option Owning)
 
--- ---- slots that are filled
+-- ---- slots that wait, and are filled
+
+pub waits_weaker : {B O : Type 0} (P Q : O → Path → Type 0) → ((o : O) (r : Path) → P o r → Q o r) → (xs : List (Entry O (Slot B))) → AllWait P xs → AllWait Q xs
+waits_weaker P Q k [] h = tt
+waits_weaker {B} P Q k (x ∷ xs) h = (item x.item h.0, waits_weaker P Q k xs h.1)
+  where
+    item : (i : Option (Slot B)) → ItemWaits (P x.owner) i → ItemWaits (Q x.owner) i
+    item (Some (Waiting r)) p = k x.owner r p
+    item None p = tt
+    item (Some (Full v)) p = tt
+
+-- those of one owner
+pub of_owner_waits : (P : Owner → Path → Type 0) (o : Owner) (xs : Slots) → AllWait P xs → AllWait (λ w. P o) (of_owner same_owner o xs)
+of_owner_waits P o [] h = tt
+of_owner_waits P o (x ∷ xs) h =
+    by_test (same_owner x.owner o) (λ t. rw t (subst (λ (w : Owner). ItemWaits (P w) x.item) ((exact_owners x.owner o).0 t) h.0, of_owner_waits P o xs h.1)) (λ f. rw f (of_owner_waits P o xs h.1))
+
+-- none waits for an element, or what waits for it is filled: then what waits does so for others
+pub none_waiting : {B O : Type 0} (r : Path) (xs : List (Entry O (Slot B))) → AllWait (λ o q. ¬ (q ≡ r)) xs → waits r xs ≡ false
+none_waiting r [] h = refl
+none_waiting {B} r (x ∷ xs) h = ap₂ (λ (a b : Bool). a || b) (item x.item h.0) (none_waiting r xs h.1)
+  where
+    item : (i : Option (Slot B)) → ItemWaits (λ q. ¬ (q ≡ r)) i → slot_waits r i ≡ false
+    item (Some (Waiting q)) n = false_unless (bytes_eq q r) (λ t. n ((exact_texts q r).0 t))
+    item None n = refl
+    item (Some (Full v)) n = refl
+
+pub others_wait : {B O : Type 0} (P : O → Path → Type 0) (r : Path) (xs : List (Entry O (Slot B))) → waits r xs ≡ false → AllWait P xs → AllWait (λ o q. P o q × ¬ (q ≡ r)) xs
+others_wait P r [] h k = tt
+others_wait {B} P r (x ∷ xs) h k =
+    let q = or_parts (slot_waits r x.item) (waits r xs) h in
+    (item x.item q.0 k.0, others_wait P r xs q.1 k.1)
+  where
+    item : (i : Option (Slot B)) → slot_waits r i ≡ false → ItemWaits (P x.owner) i → ItemWaits (λ q. P x.owner q × ¬ (q ≡ r)) i
+    item (Some (Waiting q)) e p = (p, λ s. absurd (cc (e, (exact_texts q r).1 s)))
+    item None e p = tt
+    item (Some (Full v)) e p = tt
+
+pub filled_wait : {B O : Type 0} (P : O → Path → Type 0) (r : Path) (v : Term B) (xs : List (Entry O (Slot B))) → AllWait P xs → AllWait (λ o q. P o q × ¬ (q ≡ r)) (fill r v xs)
+filled_wait P r v [] h = tt
+filled_wait {B} P r v (x ∷ xs) h = (item x.item h.0, filled_wait P r v xs h.1)
+  where
+    item : (i : Option (Slot B)) → ItemWaits (P x.owner) i → ItemWaits (λ q. P x.owner q × ¬ (q ≡ r)) (option_map (fill_slot r v) i)
+    item (Some (Waiting q)) p = by_test (bytes_eq q r) (λ t. rw t tt) (λ f. rw f (p, λ s. absurd (cc (f, (exact_texts q r).1 s))))
+    item None p = tt
+    item (Some (Full u)) p = tt
+
+-- the same slots by other names
+pub renamed_wait : {B C D O : Type 0} (f : B → D) (g : C → D) (P : Path → Type 0) (ys : List (Entry O (Slot B))) (zs : List (Entry O (Slot C))) → map (map_entry (rename_slot f)) ys ≡ map (map_entry (rename_slot g)) zs
+    → AllWait (λ o. P) zs → AllWait (λ o. P) ys
+renamed_wait f g P [] zs e h = tt
+renamed_wait f g P (y ∷ ys) [] e h = absurd (cc)
+renamed_wait {B} {C} f g P (y ∷ ys) (z ∷ zs) e h =
+    let first : map_entry (rename_slot f) y ≡ map_entry (rename_slot g) z = cc in
+    let rest : map (map_entry (rename_slot f)) ys ≡ map (map_entry (rename_slot g)) zs = cc in
+    (item y.item z.item (λ i. (first i).item) h.0, renamed_wait f g P ys zs rest h.1)
+  where
+    item : (i : Option (Slot B)) (j : Option (Slot C)) → option_map (rename_slot f) i ≡ option_map (rename_slot g) j → ItemWaits P j → ItemWaits P i
+    item None j e h = tt
+    item (Some (Full v)) j e h = tt
+    item (Some (Waiting r)) (Some (Waiting q)) e h = let k : q ≡ r = cc in subst P k h
+    item _ _ e h = absurd (cc)
 
 pub waits_both : {B O : Type 0} (r : Path) (xs ys : List (Entry O (Slot B))) → waits r xs ≡ false → waits r ys ≡ false → waits r (xs ++ ys) ≡ false
 waits_both r [] ys h k = k
@@ -96,12 +158,9 @@ pub owners_more : (slots : Slots) (open_owners : Open) (o : Owner) (s : Node ℕ
 owners_more slots [] o s = refl
 owners_more slots (one ∷ more) o s = ap (λ (l : Many). Some (owning one.1 (table_in slots one.0)) ∷ l) (owners_more slots more o s)
 
-fill_length : (l i : ℕ) (v : Term ℕ) (os : Many) (n : ℕ) → length (fill_seen l i v os n) ≡ length os
-fill_length l i v os n = length-set os n _
-
 pub fill_all_length : (slots : List SlotId) (v : Term ℕ) (os : Many) → length (fill_all slots v os) ≡ length os
 fill_all_length [] v os = refl
-fill_all_length (s ∷ slots) v os = fill_all_length slots v (fill_seen s.list s.place v os s.owner.0) ∙ fill_length s.list s.place v os s.owner.0
+fill_all_length (s ∷ slots) v os = fill_all_length slots v (fill_seen s.list s.place v os s.owner.0) ∙ length-set os s.owner.0 _
 
 fill_front : (n l i : ℕ) (v : Term ℕ) (os : Many) (x : Option Owning) → n < length os → fill_seen l i v (os ++ x ∷ []) n ≡ fill_seen l i v os n ++ x ∷ []
 fill_front n l i v [] x h = absurd (omega arith)
@@ -125,58 +184,55 @@ fills_front [] v os x h = refl
 fills_front (s ∷ slots) v os x h =
     ap (fill_all slots v) (fill_front s.owner.0 s.list s.place v os x h.0)
     ∙ fills_front slots v (fill_seen s.list s.place v os s.owner.0) x
-    (within_length (length os) (length (fill_seen s.list s.place v os s.owner.0)) slots (omega (arith, fill_length s.list s.place v os s.owner.0)) h.1)
+    (within_length (length os) (length (fill_seen s.list s.place v os s.owner.0)) slots (omega (arith, fill_all_length (s ∷ []) v os)) h.1)
 
 -- an owner more at the end takes no place and gives none
-place_both : (n l i : ℕ) (os : Many) (x : Option Owning) → n < length os → (HasPlace n l i os → HasPlace n l i (os ++ x ∷ [])) × (HasPlace n l i (os ++ x ∷ []) → HasPlace n l i os)
+place_both : (n l i : ℕ) (os : Many) (x : Option Owning) → n < length os → HasPlace n l i os ↔ HasPlace n l i (os ++ x ∷ [])
 place_both n l i [] x b = absurd (omega arith)
 place_both zero l i (None ∷ os) x b = (λ h. h, λ h. h)
 place_both zero l i (Some o ∷ os) x b = (λ h. h, λ h. h)
 place_both (suc n) l i (o ∷ os) x b = place_both n l i os x (omega arith)
 
-places_both : (slots : List SlotId) (os : Many) (x : Option Owning) → WithinPlaces (length os) slots → (HasPlaces slots os → HasPlaces slots (os ++ x ∷ [])) × (HasPlaces slots (os ++ x ∷ []) → HasPlaces slots os)
+places_both : (slots : List SlotId) (os : Many) (x : Option Owning) → WithinPlaces (length os) slots → HasPlaces slots os ↔ HasPlaces slots (os ++ x ∷ [])
 places_both [] os x b = (λ h. h, λ h. h)
 places_both (s ∷ slots) os x b =
     let one = place_both s.owner.0 s.list s.place os x b.0 in
     let more = places_both slots os x b.1 in
     (λ h. (one.0 h.0, more.0 h.1), λ h. (one.1 h.0, more.1 h.1))
 
-module _ (open_owners : Open) (o : Owner) (s : Node ℕ) where
-  begin_owners : (owners : Many) (slots : Slots) → of_owner same_owner o slots ≡ [] → owners ≡ owners_of slots open_owners → owners ++ Some (owning s []) ∷ [] ≡ owners_of slots (open_owners ++ (o, s) ∷ [])
-  begin_owners owners slots e h =
-      ap₂ (λ (l : Many) (t : Table (Option (Term ℕ))). l ++ Some (owning s t) ∷ []) h (sym (ap (λ (l : Slots). table_from [] (map (map_entry item_of) l)) e)) ∙ sym (owners_more slots open_owners o s)
+-- the last owner has these slots, of which none waits
+module _ (open_owners : Open) (o : Owner) (s : Node ℕ) (own : Slots) (full : AllWait (λ o r. ⊥) own) where
+  abbrev last : Option Owning
+  last = Some (owning s (table_from [] (map (map_entry item_of) own)))
 
-  pub begin_fill_up : (waiters : List Waiter) (owners : Many) (slots : Slots) → of_owner same_owner o slots ≡ [] → Within (length owners) waiters → FillUp open_owners waiters owners slots
-      → FillUp (open_owners ++ (o, s) ∷ []) waiters (owners ++ Some (owning s []) ∷ []) slots
-  begin_fill_up [] owners slots e b h = begin_owners owners slots e h
-  begin_fill_up (w ∷ waiters) owners slots e b h =
-      (begin_owners owners slots e h.0, fills w.places b.0 h.1 (λ os ss q k g. begin_fill_up waiters os ss q (within_more (length owners) (length os) waiters (omega (arith, k)) b.1) g))
+  abbrev more_owners : Open
+  more_owners = open_owners ++ (o, s) ∷ []
+
+  table_both : (owners : Many) (slots : Slots) → of_owner same_owner o slots ≡ own → (owners ≡ owners_of slots open_owners) ↔ (owners ++ last ∷ [] ≡ owners_of slots more_owners)
+  table_both owners slots e = (
+    λ h. ap₂ (λ (l : Many) (t : Slots). l ++ Some (owning s (table_from [] (map (map_entry item_of) t))) ∷ []) h (sym e) ∙ sym (owners_more slots open_owners o s),
+    λ h. (same_from_push owners (owners_of slots open_owners) last _ (h ∙ owners_more slots open_owners o s)).0,
+  )
+
+  pub fill_up_both : (waiters : List Waiter) (owners : Many) (slots : Slots) → of_owner same_owner o slots ≡ own → Within (length owners) waiters
+      → FillUp open_owners waiters owners slots ↔ FillUp more_owners waiters (owners ++ last ∷ []) slots
+  fill_up_both [] owners slots e b = table_both owners slots e
+  fill_up_both (w ∷ waiters) owners slots e b =
+      let t = table_both owners slots e in
+      let f = fills w.places b.0 (λ os ss q k. fill_up_both waiters os ss q (within_more (length owners) (length os) waiters (omega (arith, k)) b.1)) in
+      (λ h. (t.0 h.0, f.0 h.1), λ h. (t.1 h.0, f.1 h.1))
     where
-      fills : (places : Option (List SlotId)) → WithinOption (length owners) places → Fills w.path places (λ o s. FillUp open_owners waiters o s) owners slots
-          → ((os : Many) (ss : Slots) → of_owner same_owner o ss ≡ [] → length owners ≡ length os → FillUp open_owners waiters os ss → FillUp (open_owners ++ (o, s) ∷ []) waiters (os ++ Some (owning s []) ∷ []) ss)
-          → Fills w.path places (λ o' s'. FillUp (open_owners ++ (o, s) ∷ []) waiters o' s') (owners ++ Some (owning s []) ∷ []) slots
-      fills None c k more = (k.0, more owners slots e refl k.1)
-      fills (Some places) c k more = (
-        (places_both places owners (Some (owning s [])) c).0 k.0,
-        λ v. subst (λ (l : Many). FillUp (open_owners ++ (o, s) ∷ []) waiters l (fill w.path v slots)) (sym (fills_front places v owners (Some (owning s [])) c))
-            (more (fill_all places v owners) (fill w.path v slots) (of_filled o w.path v slots ∙ ap (fill w.path v) e) (sym (fill_all_length places v owners)) (k.1 v)),
-      )
+      still : (v : Term ℕ) → of_owner same_owner o (fill w.path v slots) ≡ own
+      still v = of_filled o w.path v slots ∙ ap (fill w.path v) e ∙ fill_quiet w.path v own (none_waiting w.path own (waits_weaker (λ o r. ⊥) (λ o r. ¬ (r ≡ w.path)) (λ o r h. absurd h) own full))
 
-  end_owners : (owners : Many) (slots : Slots) (x : Option Owning) → owners ++ x ∷ [] ≡ owners_of slots (open_owners ++ (o, s) ∷ []) → owners ≡ owners_of slots open_owners
-  end_owners owners slots x h = (same_from_push owners (owners_of slots open_owners) x _ (h ∙ owners_more slots open_owners o s)).0
-
-  pub end_fill_up : (waiters : List Waiter) (owners : Many) (slots : Slots) (x : Option Owning) → Within (length owners) waiters → FillUp (open_owners ++ (o, s) ∷ []) waiters (owners ++ x ∷ []) slots
-      → FillUp open_owners waiters owners slots
-  end_fill_up [] owners slots x b h = end_owners owners slots x h
-  end_fill_up (w ∷ waiters) owners slots x b h =
-      (end_owners owners slots x h.0, fills w.places b.0 h.1 (λ os ss k g. end_fill_up waiters os ss x (within_more (length owners) (length os) waiters (omega (arith, k)) b.1) g))
-    where
-      fills : (places : Option (List SlotId)) → WithinOption (length owners) places → Fills w.path places (λ o' s'. FillUp (open_owners ++ (o, s) ∷ []) waiters o' s') (owners ++ x ∷ []) slots
-          → ((os : Many) (ss : Slots) → length owners ≡ length os → FillUp (open_owners ++ (o, s) ∷ []) waiters (os ++ x ∷ []) ss → FillUp open_owners waiters os ss)
-          → Fills w.path places (λ o s. FillUp open_owners waiters o s) owners slots
-      fills None c k more = (k.0, more owners slots refl k.1)
-      fills (Some places) c k more = (
-        (places_both places owners x c).1 k.0,
-        λ v. more (fill_all places v owners) (fill w.path v slots) (sym (fill_all_length places v owners))
-            (subst (λ (l : Many). FillUp (open_owners ++ (o, s) ∷ []) waiters l (fill w.path v slots)) (fills_front places v owners x c) (k.1 v)),
-      )
+      fills : (places : Option (List SlotId)) → WithinOption (length owners) places
+          → ((os : Many) (ss : Slots) → of_owner same_owner o ss ≡ own → length owners ≡ length os → FillUp open_owners waiters os ss ↔ FillUp more_owners waiters (os ++ last ∷ []) ss)
+          → Fills w.path places (λ os ss. FillUp open_owners waiters os ss) owners slots ↔ Fills w.path places (λ os ss. FillUp more_owners waiters os ss) (owners ++ last ∷ []) slots
+      fills None c more = let m = more owners slots e refl in (λ k. (k.0, m.0 k.1), λ k. (k.0, m.1 k.1))
+      fills (Some places) c more =
+          let p = places_both places owners last c in
+          let m = λ (v : Term ℕ). more (fill_all places v owners) (fill w.path v slots) (still v) (sym (fill_all_length places v owners)) in
+          let front = λ (v : Term ℕ). fills_front places v owners last c in (
+            λ k. (p.0 k.0, λ v. subst (λ (l : Many). FillUp more_owners waiters l (fill w.path v slots)) (sym (front v)) ((m v).0 (k.1 v))),
+            λ k. (p.1 k.0, λ v. (m v).1 (subst (λ (l : Many). FillUp more_owners waiters l (fill w.path v slots)) (front v) (k.1 v))),
+          )

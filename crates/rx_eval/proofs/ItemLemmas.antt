@@ -1,5 +1,5 @@
 -- The entries of an element that is opened: which of them are empty, and how they are filled at its end.
-use Rattle.rx_eval.proofs.Common.{◌≡◌, ◌∙◌, ℕ, ◌<◌, ◌≤◌, inl, inr, Bool, true, false, List, [], ◌∷◌, ◌++◌, map, filter_map, length, Option, Some, None, option_map, bytes_eq, refl, sym, ap, ap₂, subst, arith, append_assoc, ◌||◌, if◌then◌else◌, map-append, Chars, by_test, Among, Node, Term, Resource, false_unless, exact_texts, Path, Naming, Bnode, Owner, same_owner, Hanging, Forward, Reverse, InList, Standing, Resources, listed, hangs, own_owner, Entry, map_entry, entry, linked, touched, valued, awaited, entries_by, Slot, Full, Waiting, fill, fill_slot, slot_of, rename_slot, exact_owners, Owning, put_at, put_entries, places_for, fill_all, Name, Number, Slots, Open, owner_place, item_of, slot_waits, waits, HasPlaces, WithinPlaces, owner_depth, WaitsFor, AllWaitFor}
+use Rattle.rx_eval.proofs.Common.{◌≡◌, ◌∙◌, ℕ, ◌<◌, ◌≤◌, inl, inr, Bool, true, false, List, [], ◌∷◌, ◌++◌, map, filter_map, length, Option, Some, None, option_map, bytes_eq, refl, sym, ap, ap₂, subst, arith, append_assoc, ◌||◌, if◌then◌else◌, map-append, Chars, by_test, Among, Node, Term, Resource, false_unless, exact_texts, Path, Naming, Owner, same_owner, Hanging, Forward, Reverse, InList, Standing, Resources, listed, hangs, own_owner, Entry, entry, linked, touched, valued, awaited, entries_by, Slot, Full, Waiting, fill, fill_slot, slot_of, exact_owners, Owning, put_at, put_entries, places_for, fill_all, Slots, Open, owner_place, item_of, slot_waits, waits, HasPlaces, WithinPlaces, owner_depth, WaitsFor, AllWaitFor, AllItems, AllWait, ItemWaits}
 use Rattle.rx_eval.proofs.PlaceLemmas.{has_at, reserved_are_filled}
 use Rattle.rx_eval.proofs.FillLemmas.{place_put}
 use Rattle.rx_eval.proofs.SeenLemmas.{entries_then}
@@ -7,90 +7,61 @@ use Rattle.rx_eval.proofs.ListLemmas.{suc_is, Puts, Match, all_matched, matched}
 
 -- ---- what holds of each item
 
-abbrev pub AllItems : {O T : Type 0} → (Option T → Type 0) → List (Entry O T) → Type 0
-AllItems P [] = Unit {0}
-AllItems P (e ∷ list) = P e.item × AllItems P list
-
-module _ {O T : Type 0} (P : Option T → Type 0) where
+module _ {O T : Type 0} (P : O → Option T → Type 0) where
   pub all_append : (xs ys : List (Entry O T)) → AllItems P xs → AllItems P ys → AllItems P (xs ++ ys)
   all_append [] ys h k = k
   all_append (x ∷ xs) ys h k = (h.0, all_append xs ys h.1 k)
 
-  all_map : (o : O) (item : Option T) (ps : List Chars) → ((p : Chars) → Among ps p → P item) → AllItems P (map (entry o item) ps)
+  all_map : (o : O) (item : Option T) (ps : List Chars) → ((p : Chars) → Among ps p → P o item) → AllItems P (map (entry o item) ps)
   all_map o item [] h = tt
   all_map o item (p ∷ ps) h = (h p (inl refl), all_map o item ps (λ q a. h q (inr a)))
 
 module _ {B O T : Type 0} (n : Naming B O) (full : Term B → T) (v : T) (at : Standing B O) (here : Resources B) (P : Option T → Type 0) (none : P None) (filled : (t : Term B) → P (Some (full t))) where
-  linked_all : (object : Option (Node B)) → AllItems P (linked n full v at here object)
+  linked_all : (object : Option (Node B)) → AllItems (λ o. P) (linked n full v at here object)
   linked_all None = tt
-  linked_all (Some object) = all_map P (own_owner n at here) (Some (full (Resource object))) (listed at.facts.rel) (λ p a. filled (Resource object))
+  linked_all (Some object) = all_map (λ o. P) (own_owner n at here) (Some (full (Resource object))) (listed at.facts.rel) (λ p a. filled (Resource object))
 
-  touched_all : (b : Bool) → AllItems P (if b then map (entry (own_owner n at here) None) (listed at.facts.rel) else [])
-  touched_all true = all_map P (own_owner n at here) None (listed at.facts.rel) (λ p a. none)
+  touched_all : (b : Bool) → AllItems (λ o. P) (if b then map (entry (own_owner n at here) None) (listed at.facts.rel) else [])
+  touched_all true = all_map (λ o. P) (own_owner n at here) None (listed at.facts.rel) (λ p a. none)
   touched_all false = tt
 
-  pub front_all : AllItems P (linked n full v at here here.object ++ touched n full v at here)
-  front_all = all_append P (linked n full v at here here.object) (touched n full v at here) (linked_all here.object) (touched_all (hangs at.facts here))
+  pub front_all : AllItems (λ o. P) (linked n full v at here here.object ++ touched n full v at here)
+  front_all = all_append (λ o. P) (linked n full v at here here.object) (touched n full v at here) (linked_all here.object) (touched_all (hangs at.facts here))
 
-  pub awaited_all : (hanging : List (Hanging O)) → AllItems P (filter_map (awaited n full v at here) hanging)
+  pub awaited_all : (hanging : List (Hanging O)) → AllItems (λ o. P) (filter_map (awaited n full v at here) hanging)
   awaited_all [] = tt
   awaited_all (Forward p ∷ hanging) = awaited_all hanging
   awaited_all (Reverse p ∷ hanging) = awaited_all hanging
   awaited_all (InList owner p ∷ hanging) = (filled (Resource here.subject), awaited_all hanging)
 
-  pub entries_all : (here.skipped ≡ false → at.facts.inlist ≡ true → (p : Chars) → Among (listed at.facts.property) p → P (Some v)) → AllItems P (entries_by n full v at here)
+  pub entries_all : (here.skipped ≡ false → at.facts.inlist ≡ true → (p : Chars) → Among (listed at.facts.property) p → P (Some v)) → AllItems (λ o. P) (entries_by n full v at here)
   entries_all k = go here.skipped at.facts.inlist k
     where
       go : (s b : Bool) → (s ≡ false → b ≡ true → (p : Chars) → Among (listed at.facts.property) p → P (Some v))
-          → AllItems P (if s then [] else (if b then linked n full v at here here.object ++ touched n full v at here ++ valued n full v at here else []) ++ filter_map (awaited n full v at here) at.around.hanging)
+          → AllItems (λ o. P) (if s then [] else (if b then linked n full v at here here.object ++ touched n full v at here ++ valued n full v at here else []) ++ filter_map (awaited n full v at here) at.around.hanging)
       go true b k = tt
       go false true k =
-          all_append P (linked n full v at here here.object ++ touched n full v at here ++ valued n full v at here) (filter_map (awaited n full v at here) at.around.hanging)
-          (all_append P (linked n full v at here here.object ++ touched n full v at here) (valued n full v at here) front_all (all_map P (own_owner n at here) (Some v) (listed at.facts.property) (k refl refl)))
+          all_append (λ o. P) (linked n full v at here here.object ++ touched n full v at here ++ valued n full v at here) (filter_map (awaited n full v at here) at.around.hanging)
+          (all_append (λ o. P) (linked n full v at here here.object ++ touched n full v at here) (valued n full v at here) front_all (all_map (λ o. P) (own_owner n at here) (Some v) (listed at.facts.property) (k refl refl)))
           (awaited_all at.around.hanging)
       go false false k = awaited_all at.around.hanging
 
 -- ---- items that wait, and empty ones
 
 -- a slot that waits does so for the element at the path
-abbrev pub Only : {B : Type 0} → Path → Option (Slot B) → Type 0
-Only path None = Unit {0}
-Only path (Some (Full v)) = Unit {0}
-Only path (Some (Waiting r)) = r ≡ path
+abbrev pub Only : {B O : Type 0} → Path → List (Entry O (Slot B)) → Type 0
+Only path slots = AllWait (λ o r. r ≡ path) slots
 
-pub only_of : {B : Type 0} (path : Path) (w : Option (Term B)) → Only path (Some (slot_of path w))
+pub only_of : {B : Type 0} (path : Path) (w : Option (Term B)) → ItemWaits (λ r. r ≡ path) (Some (slot_of path w))
 only_of path None = refl
 only_of path (Some v) = tt
-
-pub only_renamed : {O : Type 0} (f : Bnode → Name Bnode) (path : Path) (ys : List (Entry O (Slot ℕ))) (zs : List (Entry O (Slot Bnode))) → map (map_entry (rename_slot Number)) ys ≡ map (map_entry (rename_slot f)) zs → AllItems (Only path) zs → AllItems (Only path) ys
-only_renamed f path [] zs e h = tt
-only_renamed f path (y ∷ ys) [] e h = absurd (cc)
-only_renamed f path (y ∷ ys) (z ∷ zs) e h =
-    let first : map_entry (rename_slot Number) y ≡ map_entry (rename_slot f) z = cc in
-    let rest : map (map_entry (rename_slot Number)) ys ≡ map (map_entry (rename_slot f)) zs = cc in
-    (item y.item z.item (ap (λ (x : Entry _ (Slot (Name Bnode))). x.item) first) h.0, only_renamed f path ys zs rest h.1)
-  where
-    item : (i : Option (Slot ℕ)) (j : Option (Slot Bnode)) → option_map (rename_slot Number) i ≡ option_map (rename_slot f) j → Only path j → Only path i
-    item None j e h = tt
-    item (Some (Full v)) j e h = tt
-    item (Some (Waiting r)) (Some (Waiting q)) e h = let k : r ≡ q = cc in k ∙ h
-    item _ _ e h = absurd (cc)
-
-pub only_quiet : (path r : Path) (ys : Slots) → ¬ (r ≡ path) → AllItems (Only path) ys → waits r ys ≡ false
-only_quiet path r [] n h = refl
-only_quiet path r (y ∷ ys) n h = ap₂ (λ (a b : Bool). a || b) (item y.item h.0) (only_quiet path r ys n h.1)
-  where
-    item : (i : Option (Slot ℕ)) → Only path i → slot_waits r i ≡ false
-    item None k = refl
-    item (Some (Full v)) k = refl
-    item (Some (Waiting q)) k = false_unless (bytes_eq q r) (λ t. n (sym ((exact_texts q r).0 t) ∙ k))
 
 -- the item isn't an empty one
 abbrev pub Filled : Option (Option (Term ℕ)) → Type 0
 Filled (Some None) = ⊥
 Filled _ = Unit {0}
 
-pub match_quiet : (own : Owner → Option ℕ) (r : Path) (xs : Puts) (ys : Slots) → Match own xs ys → AllItems Filled xs → waits r ys ≡ false
+pub match_quiet : (own : Owner → Option ℕ) (r : Path) (xs : Puts) (ys : Slots) → Match own xs ys → AllItems (λ o. Filled) xs → waits r ys ≡ false
 match_quiet own r _ _ all_matched h = refl
 match_quiet own r _ _ (matched x y xs ys o p i m) h = ap₂ (λ (a b : Bool). a || b) (item x.item y.item i h.0) (match_quiet own r xs ys m h.1)
   where
@@ -113,11 +84,11 @@ match_bound open_owners _ _ (matched z y xs ys o p i m) x (inr b) = match_bound 
 
 -- each slot's owner is open, and waits are for the path
 pub match_waits : (open_owners : Open) (path : Path) (paths : List Path) → ((o : Owner) (n : ℕ) → owner_place open_owners o ≡ Some n → owner_depth o ≤ length path)
-    → (xs : Puts) (ys : Slots) → Match (owner_place open_owners) xs ys → AllItems (Only path) ys → AllWaitFor (path ∷ paths) ys
+    → (xs : Puts) (ys : Slots) → Match (owner_place open_owners) xs ys → Only path ys → AllWaitFor (path ∷ paths) ys
 match_waits open_owners path paths d _ _ all_matched h = tt
 match_waits open_owners path paths d _ _ (matched x y xs ys o p i m) h = (item y.item h.0 (d y.owner x.owner o), match_waits open_owners path paths d xs ys m h.1)
   where
-    item : (i : Option (Slot ℕ)) → Only path i → owner_depth y.owner ≤ length path → WaitsFor (path ∷ paths) y.owner i
+    item : (i : Option (Slot ℕ)) → ItemWaits (λ r. r ≡ path) i → owner_depth y.owner ≤ length path → ItemWaits (WaitsFor (path ∷ paths) y.owner) i
     item None k b = tt
     item (Some (Full v)) k b = tt
     item (Some (Waiting r)) k b = (inl (sym k), subst (λ (z : Path). owner_depth y.owner ≤ length z) (sym k) b)
@@ -140,7 +111,7 @@ value_item u (Some (Some v)) = Some (Some v)
 abbrev pub valued_entry : {O : Type 0} → Term ℕ → Entry O (Option (Term ℕ)) → Entry O (Option (Term ℕ))
 valued_entry u x = record { owner = x.owner; predicate = x.predicate; item = value_item u x.item }
 
-pub valued_same : {O : Type 0} (u : Term ℕ) (xs : List (Entry O (Option (Term ℕ)))) → AllItems Filled xs → map (valued_entry u) xs ≡ xs
+pub valued_same : {O : Type 0} (u : Term ℕ) (xs : List (Entry O (Option (Term ℕ)))) → AllItems (λ o. Filled) xs → map (valued_entry u) xs ≡ xs
 valued_same u [] h = refl
 valued_same u (x ∷ xs) h = λ i. record { owner = x.owner; predicate = x.predicate; item = item x.item h.0 i } ∷ valued_same u xs h.1 i
   where
@@ -152,17 +123,17 @@ valued_reserved : (u : Term ℕ) (o : ℕ) (ps : List Chars) → map (valued_ent
 valued_reserved u o [] = refl
 valued_reserved u o (p ∷ ps) = ap (λ (l : Puts). entry o (Some (Some u)) p ∷ l) (valued_reserved u o ps)
 
-pub valued_parts : (u : Term ℕ) (o : ℕ) (ps : List Chars) (front back : Puts) → AllItems Filled front → AllItems Filled back
+pub valued_parts : (u : Term ℕ) (o : ℕ) (ps : List Chars) (front back : Puts) → AllItems (λ o. Filled) front → AllItems (λ o. Filled) back
     → map (valued_entry u) ((front ++ map (entry o (Some None)) ps) ++ back) ≡ (front ++ map (entry o (Some (Some u))) ps) ++ back
 valued_parts u o ps front back h k =
     map-append (valued_entry u) (front ++ map (entry o (Some None)) ps) back
     ∙ ap₂ ◌++◌ (map-append (valued_entry u) front (map (entry o (Some None)) ps) ∙ ap₂ ◌++◌ (valued_same u front h) (valued_reserved u o ps)) (valued_same u back k)
 
-pub match_valued : (own : Owner → Option ℕ) (path : Path) (u : Term ℕ) (xs : Puts) (ys : Slots) → Match own xs ys → AllItems (Only path) ys → Match own (map (valued_entry u) xs) (fill path u ys)
+pub match_valued : (own : Owner → Option ℕ) (path : Path) (u : Term ℕ) (xs : Puts) (ys : Slots) → Match own xs ys → Only path ys → Match own (map (valued_entry u) xs) (fill path u ys)
 match_valued own path u _ _ all_matched h = all_matched
 match_valued own path u _ _ (matched x y xs ys o p i m) h = matched _ _ _ _ o p (item x.item y.item i h.0) (match_valued own path u xs ys m h.1)
   where
-    item : (i : Option (Option (Term ℕ))) (s : Option (Slot ℕ)) → i ≡ option_map item_of s → Only path s → value_item u i ≡ option_map item_of (option_map (fill_slot path u) s)
+    item : (i : Option (Option (Term ℕ))) (s : Option (Slot ℕ)) → i ≡ option_map item_of s → ItemWaits (λ r. r ≡ path) s → value_item u i ≡ option_map item_of (option_map (fill_slot path u) s)
     item i None e k = ap (value_item u) e
     item i (Some (Full v)) e k = ap (value_item u) e
     item i (Some (Waiting r)) e k = ap (value_item u) e ∙ (let t : bytes_eq r path ≡ true = (exact_texts r path).1 k in rw t refl)

@@ -4,7 +4,7 @@ use Rattle.rx_eval.specs.declared.frames.Frame.{Frame as CodeFrame}
 use Rattle.rx_eval.specs.declared.frames.Gathered.{Gathered}
 use Rattle.rx_eval.proofs.ListLemmas.{suc_is}
 use Rattle.rx_eval.proofs.NumberLemmas.{none_is}
-use Rattle.rx_eval.proofs.SkippedLemmas.{framed_more, counted_length, one_longer, skipped_fit, rooted_more, rooted_less, rooted_in, none_gathers, others_gather}
+use Rattle.rx_eval.proofs.SkippedLemmas.{counted_all, counted_length, rooted_more, rooted_less, rooted_in, none_gathers, others_gather}
 
 -- one more frame
 pub first_more : (fs : List CodeFrame) (f : CodeFrame) → first_gathering (fs ++ f ∷ []) ≡ first_of (first_gathering fs) (is_some f.gathered) (length fs)
@@ -63,7 +63,7 @@ sound_with : {levels depth : ℕ} {a : Inherited ℕ ℕ} {fs : List CodeFrame} 
 sound_with {a = a} {fs = fs} {skipped = skipped} s h m r e = record {
   room = r;
   deep = e;
-  within = omega (arith, e, skipped_fit a fs m);
+  within = omega (arith, e, counted_length a fs m);
   rooted = rooted_in a fs skipped m s.rooted (omega (arith, h, s.deep));
   first = s.first;
   quiet = s.quiet;
@@ -94,7 +94,7 @@ module _ {levels depth : ℕ} {a : Inherited ℕ ℕ} {fs : List CodeFrame} {ski
     room = omega (arith, r);
     deep =
         let c : length (all_frames a more 0) ≡ length (all_frames a fs skipped ++ frame_seen f ∷ []) =
-        ap length (ap (λ (x : List CodeFrame). all_frames a x 0) e ∙ framed_more a fs f ∙ ap (λ (x : ℕ). all_frames a fs x ++ frame_seen f ∷ []) k) in
+        ap length (ap (λ (x : List CodeFrame). all_frames a x 0) e ∙ counted_all a fs f 0 ∙ ap (λ (x : ℕ). all_frames a fs x ++ frame_seen f ∷ []) k) in
         omega (arith, c, s.deep, length-append (all_frames a fs skipped) (frame_seen f ∷ []));
     within = omega arith;
     rooted = subst (λ (x : List CodeFrame). IsRooted x 0) (sym e) (rooted_more fs f (subst (IsRooted fs) (sym k) s.rooted));
@@ -113,12 +113,12 @@ module _ {levels depth : ℕ} {a : Inherited ℕ ℕ} {fs : List CodeFrame} {ski
 
   -- a skipped element more
   pub sound_counted : depth < levels → 0 < depth → IsSound levels (depth + 1) a fs (skipped + 1) place kept
-  sound_counted r h = sound_with s h (skipped + 1) (omega (arith, r)) (omega (arith, s.deep, one_longer a fs (skipped + 1) skipped (omega arith)))
+  sound_counted r h = sound_with s h (skipped + 1) (omega (arith, r)) (omega (arith, s.deep, counted_length a fs (skipped + 1), counted_length a fs skipped))
 
   -- a skipped element is gone
   pub sound_uncounted : 0 < skipped → IsSound levels (depth - 1) a fs (skipped - 1) place kept
   sound_uncounted h =
-      sound_with s (omega (arith, h, s.deep, skipped_fit a fs skipped)) (skipped - 1) (omega (arith, s.room)) (omega (arith, s.deep, one_longer a fs skipped (skipped - 1) (omega (arith, h))))
+      sound_with s (omega (arith, h, s.deep, counted_length a fs skipped)) (skipped - 1) (omega (arith, s.room)) (omega (arith, s.deep, counted_length a fs skipped, counted_length a fs (skipped - 1), h))
 
 -- the last frame f was taken from the old ones
 module _ {levels depth : ℕ} {a : Inherited ℕ ℕ} {old : List CodeFrame} {skipped : ℕ} {place : Option ℕ} {kept : Chars} (s : IsSound levels depth a old skipped place kept) (k : skipped ≡ 0)
@@ -128,7 +128,7 @@ module _ {levels depth : ℕ} {a : Inherited ℕ ℕ} {old : List CodeFrame} {sk
       ap (λ (b : Bool). if b then None else place) (w ∙ ap (is_place place) l) ∙ first_less fs f place (s.first ∙ ap first_gathering e)
 
   pub frames_left : all_frames a old skipped ≡ all_frames a fs f.skipped ++ frame_seen f ∷ []
-  frames_left = ap (all_frames a old) k ∙ ap (λ (x : List CodeFrame). all_frames a x 0) e ∙ framed_more a fs f
+  frames_left = ap (all_frames a old) k ∙ ap (λ (x : List CodeFrame). all_frames a x 0) e ∙ counted_all a fs f 0
 
   -- text that nothing gathers any more is dropped
   pub kept_left : {now : Chars} → now ≡ (if was then [] else kept) → now ≡ (if gathers_some (all_frames a fs f.skipped) then kept else [])
@@ -145,7 +145,7 @@ module _ {levels depth : ℕ} {a : Inherited ℕ ℕ} {old : List CodeFrame} {sk
   sound_left {after} {now} o h = record {
     room = omega (arith, s.room);
     deep = depth_left;
-    within = omega (arith, depth_left, skipped_fit a fs f.skipped);
+    within = omega (arith, depth_left, counted_length a fs f.skipped);
     rooted = rooted_less fs f skipped (subst (λ (x : List CodeFrame). IsRooted x skipped) e s.rooted);
     first = o ∙ first_left;
     quiet = λ z. h ∙ quiet_by was place kept s.quiet (sym o ∙ z);

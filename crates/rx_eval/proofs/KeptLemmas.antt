@@ -1,6 +1,9 @@
 -- Which frames keep text, by the rules.
-use Rattle.rx_eval.proofs.Common.{◌≡◌, ◌∙◌, Bool, true, false, List, [], ◌∷◌, ◌++◌, map, refl, sym, ap, ap₂, is_some, map-append, Chars, Path, Facts, Bnode, Owner, model, Standing, inherited, up, begun, Call, Line, after, line_after, no_line, standings_of, at_after, at_begun, Frame, State, Numbering, Layer, frames_in, gathers_text, LayersStand, Phase}
-use Rattle.rx_eval.specs.KeptTexts.{gathering_along, gathering_after, KeepsWhereGathered}
+use Rattle.rx_rdfa.specs.Resources.{resources}
+use Rattle.rx_rdfa.specs.Inherited.{below}
+use Rattle.rx_eval.proofs.Common.{◌≡◌, ◌∙◌, Bool, true, false, List, [], ◌∷◌, ◌++◌, map, refl, sym, ap, ap₂, is_some, map-append, Chars, Path, Facts, Bnode, Owner, model, Standing, inherited, up, begun, Call, Line, after, line_after, no_line, standings_of, at_after, at_begun, Frame, State, Numbering, Layer, frames_in, LayersStand, Phase}
+use Rattle.rx_eval.specs.Standing.{gathers_text}
+use Rattle.rx_eval.specs.KeptTexts.{KeptTextsHold, gathering_along, gathering_after, KeepsWhereGathered}
 
 abbrev keeps : Frame → Bool
 keeps f = is_some f.text
@@ -33,3 +36,8 @@ module _ (to : Numbering) (list : List Call) (state : State) where
 
 pub keeps_where_gathered : KeepsWhereGathered
 keeps_where_gathered to list state s = kept_in to list state state.ended s.phase
+
+-- each worked line of open elements by computation
+pub rows : KeptTextsHold
+unfolding gathers_text resources below
+rows = record { property = refl; property_and_content = refl; nested = refl }

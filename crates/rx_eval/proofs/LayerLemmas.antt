@@ -1,5 +1,6 @@
 -- The frames of the open elements, and the owners that are open.
-use Rattle.rx_eval.proofs.Common.{◌≡◌, ◌∙◌, ℕ, suc, ◌+◌, ◌<◌, ◌≤◌, ⊎_elim, false, List, [], ◌∷◌, ◌++◌, map, length, Option, Some, None, option_map, refl, sym, ap, subst, arith, append-nil, length-append, IfSome, cases_lt, Chars, by_test, IfSome_then, Node, false_unless, Owner, First, Of, Below, same_owner, model, Inherited, resources, below, end_of, value_at, inherit, rename_inherited, exact_owners, text_literal, Frame, handed_on, Numbering, Number, named, Grown, Open, owner_place, Apart, Within, Layer, frames_in, begun_by, own_in, under_in, open_in, waiter_of, said_of, LayerStands, LayersStand, owner_depth, page_context}
+use Rattle.std.proofs.lemmas.List.Folds.{list_any-append}
+use Rattle.rx_eval.proofs.Common.{◌≡◌, ◌∙◌, ℕ, suc, ◌+◌, ◌<◌, ◌≤◌, ⊎_elim, false, List, [], ◌∷◌, ◌++◌, map, length, Option, Some, None, option_map, refl, sym, ap, subst, arith, append-nil, length-append, IfSome, cases_lt, Chars, by_test, IfSome_then, Node, false_unless, Owner, First, Of, Below, same_owner, model, Inherited, resources, below, end_of, value_at, inherit, rename_inherited, exact_owners, text_literal, Frame, handed_on, Numbering, Number, named, Grown, Open, owner_place, Apart, Within, Layer, frames_in, begun_by, own_in, under_in, open_in, waiter_of, said_of, LayerStands, LayersStand, owner_depth, page_context, ◌⊎◌, inl, inr, or_parts, is_some, ◌||◌, gathers_some, KeptAt, path_in, WithinOption, places_of, Text}
 use Rattle.rx_eval.proofs.NameLemmas.{grown_same, node_later, term_later, triples_later, inherited_later}
 use Rattle.rx_eval.proofs.FillLemmas.{within_more}
 use Rattle.rx_eval.proofs.ListLemmas.{owner_turned, no_suc, suc_is}
@@ -111,24 +112,44 @@ pub handed_now : (to : Numbering) (base kept : Chars) (layers : List Layer) → 
 handed_now to base kept [] h = refl
 handed_now to base kept (l ∷ lower) h = ap (rename_inherited Number Number) (handed_last (page_context base) (frames_in lower) l.frame) ∙ h.0.context
 
--- ---- layers when more have numbers, and when more text is kept
+-- ---- layers when more have numbers, and when other text is kept
 
-module _ (old new : Numbering) (grown : Grown old new) (base kept : Chars) where
-  layer_later : (l : Layer) (lower : List Layer) → LayerStands old base kept l lower → LayerStands new base kept l lower
-  layer_later l lower h = record {
-    deep = h.deep;
-    inside = h.inside;
-    context = inherited_later old new grown (owner_place (open_in base (l ∷ lower))) (owner_place (open_in base (l ∷ lower))) (grown_same (owner_place (open_in base (l ∷ lower)))) l.frame.context (below model base l.at) h.context;
-    own = h.own;
+-- what is kept has each mark's text still, or no frame gathers any
+abbrev pub Marked : Chars → Chars → (Chars → Chars) → List Frame → Type 0
+Marked kept more g frames = (gathers_some frames ≡ false) ⊎ ((mark : ℕ) (text : Chars) → KeptAt kept mark text → KeptAt more mark (g text))
+
+pub marked : (kept more : Chars) (g : Chars → Chars) (l : Layer) (frames : List Frame) → Marked kept more g (frames ++ l.frame ∷ []) → IfSome l.frame.text (λ t. KeptAt kept t.mark l.text)
+    → IfSome l.frame.text (λ t. KeptAt more t.mark (g l.text)) × Marked kept more g frames
+marked kept more g l frames (inl q) h =
+    let both = or_parts (gathers_some frames) (is_some l.frame.text || false) (sym (list_any-append (λ f. is_some f.text) frames (l.frame ∷ [])) ∙ q) in
+    (none l.frame.text (or_parts (is_some l.frame.text) false both.1).0, inl both.0)
+  where
+    none : (o : Option Text) → is_some o ≡ false → IfSome o (λ t. KeptAt more t.mark (g l.text))
+    none None e = tt
+    none (Some t) e = absurd (cc)
+marked kept more g l frames (inr k) h = (IfSome_then l.frame.text h (λ t. k t.mark l.text), inr k)
+
+module _ (old new : Numbering) (grown : Grown old new) (base kept more : Chars) where
+  -- an element with another text, inside the same ones
+  pub layer_later : (l : Layer) (text : Chars) (xs ys : List Layer) → length xs ≡ length ys → path_in xs ≡ path_in ys → open_in base xs ≡ open_in base ys → IfSome l.frame.text (λ t. KeptAt more t.mark text)
+      → LayerStands old base kept l xs → LayerStands new base more (record { at = l.at; text = text; frame = l.frame }) ys
+  layer_later l text xs ys n p o k h = record {
+    deep = h.deep ∙ ap suc n;
+    inside = h.inside ∙ p;
+    context = subst (λ (x : Open). rename_inherited Number Number l.frame.context ≡ rename_inherited (named new) (named (owner_place ((x ++ own_in l) ++ under_in l))) (below model base l.at)) o
+        (inherited_later old new grown (owner_place (open_in base (l ∷ xs))) (owner_place (open_in base (l ∷ xs))) (grown_same (owner_place (open_in base (l ∷ xs)))) l.frame.context (below model base l.at) h.context);
+    own = subst (λ (x : Open). IfSome l.frame.own (λ n. n ≡ length x)) o h.own;
     subject = IfSome_then l.frame.own h.subject (λ n e. node_later old new grown l.frame.context.subject (resources model base l.at).subject e);
-    under = h.under;
+    under = subst (λ (x : Open). IfSome l.frame.below (λ n. n ≡ length (x ++ own_in l))) o h.under;
     gathers = h.gathers;
     said = λ chars. triples_later old new grown (said_of l.frame.text chars) (end_of model base l.at chars) (h.said chars);
     value = IfSome_then l.frame.text h.value (λ t e chars. term_later old new grown (text_literal t.by chars) (value_at model base l.at chars) (e chars));
-    marked = h.marked;
-    places = h.places;
+    marked = k;
+    places = subst (λ (x : Open). WithinOption (length ((x ++ own_in l) ++ under_in l)) (places_of l.frame.text)) o h.places;
   }
 
-  pub layers_later : (layers : List Layer) → LayersStand old base kept layers → LayersStand new base kept layers
-  layers_later [] h = tt
-  layers_later (l ∷ lower) h = (layer_later l lower h.0, layers_later lower h.1)
+  pub layers_later : (layers : List Layer) → Marked kept more (λ t. t) (frames_in layers) → LayersStand old base kept layers → LayersStand new base more layers
+  layers_later [] k h = tt
+  layers_later (l ∷ lower) k h =
+      let m = marked kept more (λ t. t) l (frames_in lower) k h.0.marked in
+      (layer_later l l.text lower lower refl refl refl m.0 h.0, layers_later lower m.1 h.1)

@@ -1,129 +1,151 @@
--- Text, and the end of an element.
-use Rattle.rx_eval.proofs.Common.{◌≡◌, ◌∙◌, ℕ, suc, inl, inr, Bool, true, false, List, [], ◌∷◌, ◌++◌, map, length, Option, Some, None, refl, sym, ap, ap₂, subst, subst₂, append_assoc, ◌||◌, length-map, or_parts, IfSome, is_some, if◌then◌else◌, Chars, map_then, IfSome_then, Among, Path, Bnode, Owner, First, Of, Below, model, below, Machine, read, rename_inherited, Frame, State, gathers_some, read_text, Numbering, Number, named, Slots, Open, owner_place, Waiter, FillUp, WithinOption, Layer, frames_in, path_in, paths_in, own_in, under_in, open_in, places_of, waiter_of, KeptAt, LayerStands, LayersStand, Pending, AllWaitFor, RunsBy, Runs}
+-- Other texts, and frames in which a rule for a text is written otherwise: the same elements stay open.
+use Rattle.rx_eval.proofs.Common.{◌≡◌, ◌∙◌, ℕ, suc, ◌⊎◌, inl, inr, Bool, true, false, List, [], ◌∷◌, ◌++◌, map, length, Some, refl, sym, ap, subst, subst₂, append_assoc, is_some, ◌||◌, by_test, read_text, if◌then◌else◌, Chars, Among, Path, Bnode, Owner, First, Of, Below, Standing, Machine, read, rename, text_literal, said_triples, Text, Frame, State, gathers_some, Inherited, handed_on, Numbering, Number, Slots, Open, owner_place, Waiter, FillUp, Layer, frames_in, path_in, paths_in, own_in, under_in, open_in, waiter_of, KeptAt, LayerStands, LayersStand, Coming, Pending, AllWaitFor, RunsBy, Phase, rename_term}
+use Rattle.rx_eval.specs.declared.values.TextRule.{TextRule}
+use Rattle.rx_eval.proofs.NameLemmas.{grown_same}
+use Rattle.rx_eval.proofs.LayerLemmas.{Marked, marked, layer_later}
 
--- ---- text
+-- ---- frames that are the same but for how the rule for the text is written
 
-abbrev read_layer : Chars → Layer → Layer
-read_layer chars l = record { at = l.at; text = l.text ++ chars; frame = l.frame }
+pub data Alike : Frame → Frame → Type 0 where
+  alike_same : (f : Frame) → Alike f f
+  alike_ruled : (f : Frame) (t : Text) (by : TextRule) → ((chars : Chars) → text_literal t.by chars ≡ text_literal by chars) → Alike (record f { text = Some t }) (record f { text = Some (record t { by = by }) })
 
-abbrev read_layers : Chars → List Layer → List Layer
-read_layers chars = map (read_layer chars)
+pub data AllAlike : List Frame → List Frame → Type 0 where
+  alike_none : AllAlike [] []
+  alike_more : (f g : Frame) (xs ys : List Frame) → Alike f g → AllAlike xs ys → AllAlike (f ∷ xs) (g ∷ ys)
 
-module _ (chars : Chars) where
-  same_frames : (layers : List Layer) → frames_in (read_layers chars layers) ≡ frames_in layers
-  same_frames [] = refl
-  same_frames (l ∷ lower) = ap (λ (x : List Frame). x ++ l.frame ∷ []) (same_frames lower)
+pub all_same : (xs : List Frame) → AllAlike xs xs
+all_same [] = alike_none
+all_same (f ∷ xs) = alike_more f f xs xs (alike_same f) (all_same xs)
 
-  same_at : (layers : List Layer) → map (λ l. l.at) (read_layers chars layers) ≡ map (λ l. l.at) layers
-  same_at layers = sym (map_then (λ l. l.at) (λ l. l.at) (read_layer chars) (λ l. refl) layers)
+pub alike_push : (xs ys : List Frame) (f g : Frame) → AllAlike xs ys → Alike f g → AllAlike (xs ++ f ∷ []) (ys ++ g ∷ [])
+alike_push _ _ f g alike_none a = alike_more f g [] [] a alike_none
+alike_push _ _ f g (alike_more x y xs ys b r) a = alike_more x y (xs ++ f ∷ []) (ys ++ g ∷ []) b (alike_push xs ys f g r a)
 
-  same_texts : (layers : List Layer) → map (λ l. l.text) (read_layers chars layers) ≡ map (λ t. t ++ chars) (map (λ l. l.text) layers)
-  same_texts layers = sym (map_then (λ l. l.text ++ chars) (λ l. l.text) (read_layer chars) (λ l. refl) layers) ∙ map_then (λ l. l.text ++ chars) (λ t. t ++ chars) (λ l. l.text) (λ l. refl) layers
+-- the last ones
+pub alike_pop : (xs : List Frame) (f : Frame) (zs : List Frame) → AllAlike (xs ++ f ∷ []) zs → (ys : List Frame) × (g : Frame) × (zs ≡ ys ++ g ∷ []) × AllAlike xs ys × Alike f g
+alike_pop [] f _ (alike_more _ g _ _ a alike_none) = ([], g, refl, alike_none, a)
+alike_pop (x ∷ xs) f _ (alike_more _ y _ ys a r) =
+    let p = alike_pop xs f ys r in
+    (y ∷ p.0, p.1, ap (λ (l : List Frame). y ∷ l) p.2, alike_more x y xs p.0 a p.3, p.4)
 
-  same_path : (layers : List Layer) → path_in (read_layers chars layers) ≡ path_in layers
-  same_path [] = refl
-  same_path (l ∷ lower) = refl
+-- they hand on the same, and as many gather their text
+pub alike_frames : (page : Inherited ℕ ℕ) (xs ys : List Frame) → AllAlike xs ys → (handed_on page xs ≡ handed_on page ys) × (gathers_some xs ≡ gathers_some ys) × (length xs ≡ length ys)
+alike_frames page _ _ alike_none = (refl, refl, refl)
+alike_frames page _ _ (alike_more _ _ xs ys (alike_same f) r) =
+    let s = alike_frames f.context xs ys r in (s.0, ap (λ (b : Bool). is_some f.text || b) s.1, ap suc s.2)
+alike_frames page _ _ (alike_more _ _ xs ys (alike_ruled f t by q) r) = let s = alike_frames f.context xs ys r in (s.0, refl, ap suc s.2)
 
-  same_paths : (layers : List Layer) → paths_in (read_layers chars layers) ≡ paths_in layers
-  same_paths [] = refl
-  same_paths (l ∷ lower) = ap (λ (x : List Path). l.at.path ∷ x) (same_paths lower)
+-- ---- the elements that are open
 
-  same_waiters : (layers : List Layer) → map waiter_of (read_layers chars layers) ≡ map waiter_of layers
-  same_waiters layers = sym (map_then waiter_of waiter_of (read_layer chars) (λ l. refl) layers)
+abbrev layer : Standing Bnode Owner → Chars → Frame → Layer
+layer at text frame = record { at = at; text = text; frame = frame }
 
-  same_length : (layers : List Layer) → length (read_layers chars layers) ≡ length layers
-  same_length layers = length-map layers (read_layer chars)
+owners_alike : (at : Standing Bnode Owner) (x y : Chars) (e f : Frame) → Alike e f
+    → (own_in (layer at x e) ≡ own_in (layer at y f)) × (under_in (layer at x e) ≡ under_in (layer at y f)) × (waiter_of (layer at x e) ≡ waiter_of (layer at y f))
+owners_alike at x y _ _ (alike_same f) = (refl, refl, refl)
+owners_alike at x y _ _ (alike_ruled f t by q) = (refl, refl, refl)
 
-  same_open : (base : Chars) (layers : List Layer) → open_in base (read_layers chars layers) ≡ open_in base layers
-  same_open base [] = refl
-  same_open base (l ∷ lower) = ap (λ (x : Open). (x ++ own_in l) ++ under_in l) (same_open base lower)
+layer_alike : (to : Numbering) (base kept : Chars) (at : Standing Bnode Owner) (text : Chars) (lower : List Layer) (e f : Frame) → Alike e f → LayerStands to base kept (layer at text e) lower → LayerStands to base kept (layer at text f) lower
+layer_alike to base kept at text lower _ _ (alike_same f) h = h
+layer_alike to base kept at text lower _ _ (alike_ruled f t by q) h = record {
+  deep = h.deep;
+  inside = h.inside;
+  context = h.context;
+  own = h.own;
+  subject = h.subject;
+  under = h.under;
+  gathers = h.gathers;
+  said = λ chars. ap (λ v. map (rename Number) (said_triples t.said t.subject v)) (sym (q chars)) ∙ h.said chars;
+  value = λ chars. ap (rename_term Number) (sym (q chars)) ∙ h.value chars;
+  marked = h.marked;
+  places = h.places;
+}
 
-some_quiet : {A : Type 0} (Q : A → Type 0) (o : Option A) → is_some o ≡ false → IfSome o Q
-some_quiet Q None e = tt
-some_quiet Q (Some a) e = absurd (cc)
+module _ (to : Numbering) (base kept more : Chars) (g : Chars → Chars) where
+  -- the same ones, with other texts and these frames
+  record Relayered (xs : List Layer) (frames : List Frame) : Type 0 where
+    now : List Layer
+    are : frames ≡ frames_in now
+    standings : map (λ l. l.at) xs ≡ map (λ l. l.at) now
+    texts : map g (map (λ l. l.text) xs) ≡ map (λ l. l.text) now
+    path : path_in xs ≡ path_in now
+    paths : paths_in xs ≡ paths_in now
+    size : length xs ≡ length now
+    owners : open_in base xs ≡ open_in base now
+    waiters : map waiter_of xs ≡ map waiter_of now
+    none : now ≡ [] → xs ≡ []
+    each : Marked kept more g (frames_in xs) → LayersStand to base kept xs → LayersStand to base more now
 
-module _ (to : Numbering) (base kept : Chars) where
-  read_stands : (chars more : Chars) (l : Layer) (lower : List Layer) → LayerStands to base kept l lower → IfSome l.frame.text (λ t. KeptAt more t.mark (l.text ++ chars))
-      → LayerStands to base more (read_layer chars l) (read_layers chars lower)
-  read_stands chars more l lower h k =
-      let e = sym (same_open chars base lower) in
+  relayered : (xs : List Layer) (frames : List Frame) → AllAlike (frames_in xs) frames → Relayered xs frames
+  relayered [] _ alike_none = record { now = []; are = refl; standings = refl; texts = refl; path = refl; paths = refl; size = refl; owners = refl; waiters = refl; none = λ e. e; each = λ k h. h }
+  relayered (l ∷ lower) frames a =
+      let p = alike_pop (frames_in lower) l.frame frames a in
+      let r = relayered lower p.0 p.3 in
+      let w = owners_alike l.at l.text (g l.text) l.frame p.1 p.4 in
       record {
-        deep = h.deep ∙ ap suc (sym (same_length chars lower));
-        inside = h.inside ∙ sym (same_path chars lower);
-        context = subst (λ (o : Open). rename_inherited Number Number l.frame.context ≡ rename_inherited (named to) (named (owner_place ((o ++ own_in l) ++ under_in l))) (below model base l.at)) e h.context;
-        own = subst (λ (o : Open). IfSome l.frame.own (λ n. n ≡ length o)) e h.own;
-        subject = h.subject;
-        under = subst (λ (o : Open). IfSome l.frame.below (λ n. n ≡ length (o ++ own_in l))) e h.under;
-        gathers = h.gathers;
-        said = h.said;
-        value = h.value;
-        marked = k;
-        places = subst (λ (o : Open). WithinOption (length ((o ++ own_in l) ++ under_in l)) (places_of l.frame.text)) e h.places;
+        now = layer l.at (g l.text) p.1 ∷ r.now;
+        are = p.2 ∙ ap (λ (x : List Frame). x ++ p.1 ∷ []) r.are;
+        standings = λ i. l.at ∷ r.standings i;
+        texts = λ i. g l.text ∷ r.texts i;
+        path = refl;
+        paths = λ i. l.at.path ∷ r.paths i;
+        size = ap suc r.size;
+        owners = λ i. (r.owners i ++ w.0 i) ++ w.1 i;
+        waiters = λ i. w.2 i ∷ r.waiters i;
+        none = λ e. absurd (cc e);
+        each = λ k h.
+            let m = marked kept more g l (frames_in lower) k h.0.marked in
+            (layer_alike to base more l.at (g l.text) r.now l.frame p.1 p.4 (layer_later to to (grown_same to) base kept more l (g l.text) lower r.now r.size r.path r.owners m.0 h.0), r.each m.1 h.1);
       }
 
-  kept_more : (chars : Chars) (mark : ℕ) (text : Chars) → KeptAt kept mark text → KeptAt (kept ++ chars) mark (text ++ chars)
-  kept_more chars mark text k = record { front = k.front; cut = record { whole = ap (λ (z : Chars). z ++ chars) k.cut.whole ∙ append_assoc k.front text chars; size = k.cut.size } }
+module _ (to : Numbering) (m : Machine Bnode Owner) (state : State) (more : Chars) (g : Chars → Chars) (frames : List Frame) (a : AllAlike state.frames frames) (k : Marked state.kept more g state.frames) where
+  abbrev texts_now : Machine Bnode Owner → Machine Bnode Owner
+  texts_now n = record n { texts = map g n.texts }
 
-  layers_read : (chars : Chars) (layers : List Layer) → LayersStand to base kept layers → LayersStand to base (kept ++ chars) (read_layers chars layers)
-  layers_read chars [] h = tt
-  layers_read chars (l ∷ lower) h =
-      (read_stands chars (kept ++ chars) l lower h.0 (IfSome_then l.frame.text h.0.marked (λ t k. kept_more chars t.mark l.text k)), layers_read chars lower h.1)
+  abbrev state_now : State
+  state_now = record state { frames = frames; kept = more }
 
-  any_front : (frames : List Frame) (frame : Frame) → gathers_some (frames ++ frame ∷ []) ≡ false → (gathers_some frames ≡ false) × (is_some frame.text ≡ false)
-  any_front [] frame h = (refl, (or_parts (is_some frame.text) false h).0)
-  any_front (f ∷ frames) frame h =
-      let q = or_parts (is_some f.text) (gathers_some (frames ++ frame ∷ [])) h in
-      let more = any_front frames frame q.1 in
-      (ap₂ (λ (a b : Bool). a || b) q.0 more.0, more.1)
+  module _ (layers : List Layer) (slots : Slots) (r : RunsBy to m state layers slots) where
+    x : Relayered to state.base state.kept more g layers frames
+    x = relayered to state.base state.kept more g layers frames (subst (λ (l : List Frame). AllAlike l frames) r.frames a)
 
-  layers_quiet : (chars more : Chars) (layers : List Layer) → gathers_some (frames_in layers) ≡ false → LayersStand to base kept layers → LayersStand to base more (read_layers chars layers)
-  layers_quiet chars more [] q h = tt
-  layers_quiet chars more (l ∷ lower) q h =
-      let a = any_front (frames_in lower) l.frame q in
-      (read_stands chars more l lower h.0 (some_quiet _ l.frame.text a.1), layers_quiet chars more lower a.0 h.1)
+    pending_as : (o : Owner) → Pending x.now m.path m.next o → Pending layers m.path m.next o
+    pending_as First h = tt
+    pending_as (Of q) h = subst (λ (l : List Path). Coming m.path m.next q ⊎ Among l q) (sym x.paths) h
+    pending_as (Below q) h = subst (λ (l : List Path). Coming m.path m.next q ⊎ Among l q) (sym x.paths) h
 
-  -- where none gathers, it is no matter what is kept
-  pub unmarked : (more : Chars) (layers : List Layer) → gathers_some (frames_in layers) ≡ false → LayersStand to base kept layers → LayersStand to base more layers
-  unmarked more [] q h = tt
-  unmarked more (l ∷ lower) q h =
-      let a = any_front (frames_in lower) l.frame q in
-      let k = h.0 in (
-        record { deep = k.deep; inside = k.inside; context = k.context; own = k.own; subject = k.subject; under = k.under; gathers = k.gathers; said = k.said; value = k.value; marked = some_quiet _ l.frame.text a.1; places = k.places },
-        unmarked more lower a.0 h.1,
-      )
+    runs_as : RunsBy to (texts_now m) state_now x.now slots
+    runs_as = record {
+      numbers = r.numbers;
+      frames = x.are;
+      standings = r.standings ∙ x.standings;
+      texts = ap (map g) r.texts ∙ x.texts;
+      path = r.path ∙ x.path;
+      each = x.each (subst (Marked state.kept more g) r.frames k) r.each;
+      by_names = r.by_names;
+      tables = subst₂ (λ (o : Open) (w : List Waiter). FillUp o w state.owners slots) x.owners x.waiters r.tables;
+      waiting = subst (λ (p : List Path). AllWaitFor p slots) x.paths r.waiting;
+      unmade = r.unmade;
+      uncelled = λ o h. r.uncelled o (pending_as o h);
+      unbegun = λ o h e. r.unbegun o (pending_as o h) (ap (λ (y : Open). owner_place y o) x.owners ∙ e);
+      out = r.out;
+      rootless = λ e. ap texts_now (r.rootless (x.none e));
+    }
 
-module _ (to : Numbering) (m : Machine Bnode Owner) (state : State) (chars : Chars) (layers : List Layer) (slots : Slots) (r : RunsBy to m state layers slots) where
-  pending_read : (o : Owner) → Pending (read_layers chars layers) m.path m.next o → Pending layers m.path m.next o
-  pending_read First p = tt
-  pending_read (Of q) (inr a) = inr (subst (λ (l : List Path). Among l q) (same_paths chars layers) a)
-  pending_read (Below q) (inr a) = inr (subst (λ (l : List Path). Among l q) (same_paths chars layers) a)
-  pending_read _ (inl c) = inl c
+  no_frames : (xs ys : List Frame) → AllAlike xs ys → xs ≡ [] → ys ≡ []
+  no_frames _ _ alike_none e = refl
+  no_frames _ _ (alike_more f h xs ys b r) e = absurd (cc e)
 
-  each_read : (b : Bool) → gathers_some state.frames ≡ b → LayersStand to state.base (if gathers_some state.frames then state.kept ++ chars else state.kept) (read_layers chars layers)
-  each_read true e = rw e (layers_read to state.base state.kept chars layers r.each)
-  each_read false e = rw e (layers_quiet to state.base state.kept chars state.kept layers (ap gathers_some (sym r.frames) ∙ e) r.each)
+  pub phase_as : (b : Bool) → Phase b to m state → Phase b to (texts_now m) state_now
+  phase_as true p = record { numbers = p.numbers; frames = no_frames state.frames frames a p.frames; standings = p.standings; texts = ap (map g) p.texts; out = p.out }
+  phase_as false p = record { layers = (x p.layers p.slots p.by).now; slots = p.slots; by = runs_as p.layers p.slots p.by }
 
-  unread : (ls : List Layer) → read_layers chars ls ≡ [] → ls ≡ []
-  unread [] e = refl
-  unread (l ∷ ls) e = absurd (cc e)
-
-  text_runs : RunsBy to (read chars m) (read_text chars state) (read_layers chars layers) slots
-  text_runs = record {
-    numbers = r.numbers;
-    frames = r.frames ∙ sym (same_frames chars layers);
-    standings = r.standings ∙ sym (same_at chars layers);
-    texts = ap (map (λ t. t ++ chars)) r.texts ∙ sym (same_texts chars layers);
-    path = r.path ∙ sym (same_path chars layers);
-    each = each_read (gathers_some state.frames) refl;
-    by_names = r.by_names;
-    tables = subst₂ (λ (o : Open) (w : List Waiter). FillUp o w state.owners slots) (sym (same_open chars state.base layers)) (sym (same_waiters chars layers)) r.tables;
-    waiting = subst (λ (p : List Path). AllWaitFor p slots) (sym (same_paths chars layers)) r.waiting;
-    unmade = r.unmade;
-    uncelled = λ o p. r.uncelled o (pending_read o p);
-    unbegun = λ o p e. r.unbegun o (pending_read o p) (ap (λ (x : Open). owner_place x o) (sym (same_open chars state.base layers)) ∙ e);
-    out = r.out;
-    rootless = λ e. ap (read chars) (r.rootless (unread layers e));
-  }
-
-pub text_read : (to : Numbering) (m : Machine Bnode Owner) (state : State) (chars : Chars) → Runs to m state → Runs to (read chars m) (read_text chars state)
-text_read to m state chars r = record { layers = read_layers chars r.layers; slots = r.slots; by = text_runs to m state chars r.layers r.slots r.by }
+-- text is read
+pub text_read : (to : Numbering) (m : Machine Bnode Owner) (state : State) (chars : Chars) (b : Bool) → Phase b to m state → Phase b to (read chars m) (read_text chars state)
+text_read to m state chars =
+    phase_as to m state (if gathers_some state.frames then state.kept ++ chars else state.kept) (λ t. t ++ chars) state.frames (all_same state.frames)
+    (by_test (gathers_some state.frames) (λ t. inr (λ mark text k. rw t (longer mark text k))) inl)
+  where
+    longer : (mark : ℕ) (text : Chars) → KeptAt state.kept mark text → KeptAt (state.kept ++ chars) mark (text ++ chars)
+    longer mark text k = record { front = k.front; cut = record { whole = ap (λ (z : Chars). z ++ chars) k.cut.whole ∙ append_assoc k.front text chars; size = k.cut.size } }

@@ -1,5 +1,5 @@
 -- The owners' tables while slots are put into lists, owners begin and end, and places are filled.
-use Rattle.rx_eval.proofs.Common.{◌≡◌, ◌∙◌, ℕ, suc, Bool, true, false, List, [], ◌∷◌, ◌++◌, map, Option, Some, None, option_map, refl, sym, ap, ap₂, append-nil, append_assoc, if◌then◌else◌, map-append, filter-append, by_test, Term, rename_term, Bnode, Owner, same_owner, Entry, map_entry, of_owner, Slot, Full, Waiting, rename_slot, rename_entry, exact_owners, Table, put, table_from, Owning, owning, put_at, put_entries, Name, Number, name_by, named, Slots, Open, owner_place, item_of, table_in, owners_of, Apart}
+use Rattle.rx_eval.proofs.Common.{◌≡◌, ◌∙◌, ℕ, suc, Bool, true, false, List, [], ◌∷◌, ◌++◌, map, Option, Some, None, option_map, refl, sym, ap, ap₂, append-nil, append_assoc, if◌then◌else◌, map-append, filter-append, by_test, Term, rename_term, Bnode, Owner, same_owner, Entry, map_entry, of_owner, Slot, Full, Waiting, rename_slot, rename_entry, exact_owners, Table, put, table_from, Owning, owning, put_at, put_entries, Name, Number, name_by, named, Slots, Open, owner_place, item_of, table_in, owners_of, Apart, zero}
 use Rattle.rx_lists.proofs.RowLemmas.{turned}
 use Rattle.rx_eval.proofs.ElementLemmas.{slot_value}
 
@@ -44,22 +44,15 @@ others_same slots y (one ∷ more) h =
 put_one : (open_owners : Open) (slots : Slots) (y : Entry Owner (Slot ℕ)) (n : ℕ) → Apart open_owners → owner_place open_owners y.owner ≡ Some n
     → put_at n y.predicate (option_map item_of y.item) (owners_of slots open_owners) ≡ owners_of (slots ++ y ∷ []) open_owners
 put_one [] slots y n a h = absurd (cc)
-put_one (one ∷ more) slots y n a h =
-    by_test (same_owner one.0 y.owner) (λ t. here t (let e : Some 0 ≡ Some n = rw t at h in cc e)) (λ f. there f (suc_is (owner_place more y.owner) n (rw f at h)) (λ m e. put_one more slots y m a.1 e))
-  where
-    here : same_owner one.0 y.owner ≡ true → 0 ≡ n → put_at n y.predicate (option_map item_of y.item) (owners_of slots (one ∷ more)) ≡ owners_of (slots ++ y ∷ []) (one ∷ more)
-    here t e =
-        ap (λ (m : ℕ). put_at m y.predicate (option_map item_of y.item) (owners_of slots (one ∷ more))) (sym e)
-        ∙ ap₂ (λ (t : Table (Option (Term ℕ))) (l : List (Option Owning)). Some (owning one.1 t) ∷ l) (sym (in_table slots y one.0 (owner_turned y.owner one.0 ∙ t)))
-        (sym (others_same slots y more (ap (owner_place more) (sym ((exact_owners one.0 y.owner).0 t)) ∙ a.0)))
-
-    there : same_owner one.0 y.owner ≡ false → (m : ℕ) × (owner_place more y.owner ≡ Some m) × (n ≡ suc m)
-        → ((m : ℕ) → owner_place more y.owner ≡ Some m → put_at m y.predicate (option_map item_of y.item) (owners_of slots more) ≡ owners_of (slots ++ y ∷ []) more)
-        → put_at n y.predicate (option_map item_of y.item) (owners_of slots (one ∷ more)) ≡ owners_of (slots ++ y ∷ []) (one ∷ more)
-    there f (m, e, q) more_put =
-        ap (λ (k : ℕ). put_at k y.predicate (option_map item_of y.item) (owners_of slots (one ∷ more))) q
-        ∙ ap₂ (λ (t : Table (Option (Term ℕ))) (l : List (Option Owning)). Some (owning one.1 t) ∷ l) (sym (out_table slots y one.0 (owner_turned y.owner one.0 ∙ f)))
-        (more_put m e)
+put_one (one ∷ more) slots y zero a h =
+    by_test (same_owner one.0 y.owner)
+    (λ t. ap₂ (λ (t : Table (Option (Term ℕ))) (l : List (Option Owning)). Some (owning one.1 t) ∷ l) (sym (in_table slots y one.0 (owner_turned y.owner one.0 ∙ t)))
+    (sym (others_same slots y more (ap (owner_place more) (sym ((exact_owners one.0 y.owner).0 t)) ∙ a.0))))
+    (λ f. absurd (let m = suc_is (owner_place more y.owner) zero (rw f at h) in cc m.2))
+put_one (one ∷ more) slots y (suc n) a h =
+    by_test (same_owner one.0 y.owner) (λ t. absurd (cc (rw t at h)))
+    (λ f. let m = suc_is (owner_place more y.owner) (suc n) (rw f at h) in let q : m.0 ≡ n = cc m.2 in
+    ap₂ (λ (t : Table (Option (Term ℕ))) (l : List (Option Owning)). Some (owning one.1 t) ∷ l) (sym (out_table slots y one.0 (owner_turned y.owner one.0 ∙ f))) (put_one more slots y n a.1 (m.1 ∙ ap Some q)))
 
 -- ---- entries by the owners' numbers are the slots by their names
 

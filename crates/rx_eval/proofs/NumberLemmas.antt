@@ -17,6 +17,28 @@ pub raised : (n drawn more cells more_cells : ℕ) → drawn ≤ more → cells 
 raised n drawn more cells more_cells a b (inl x) = inl (omega (arith, x, a))
 raised n drawn more cells more_cells a b (inr x) = inr (x.0, omega (arith, x.1, b))
 
+-- each number is one of the new ones, which are no others' and within the bounds, or was there
+pub numbers_more : (to now : Numbering) (New : Bnode → ℕ → Type 0) (labels labels' : Numbered) (drawn drawn' cells cells' : ℕ) → Numbers to labels drawn cells → ((b : Bnode) (n : ℕ) → now b ≡ Some n → New b n ⊎ (to b ≡ Some n))
+    → ((a b : Bnode) (n : ℕ) → New a n → New b n → a ≡ b) → ((b : Bnode) (n : ℕ) → New b n → ¬ ((n < drawn) ⊎ ((2 ^ 61 ≤ n) × (n < cells)))) → ((b : Bnode) (n : ℕ) → New b n → (n < drawn') ⊎ ((2 ^ 61 ≤ n) × (n < cells')))
+    → ((l : Chars) → now (Author l) ≡ number_of labels' l) → drawn ≤ drawn' → cells ≤ cells' → drawn' ≤ 2 ^ 61 → Numbers now labels' drawn' cells'
+numbers_more to now New labels labels' drawn drawn' cells cells' h from once free within label a b room = record {
+  label = label;
+  bounded = λ x n e. bound x n (from x n e);
+  one_to_one = λ x y n e f. one x y n (from x n e) (from y n f);
+  low = room;
+  high = omega (arith, h.high, b);
+}
+  where
+    bound : (x : Bnode) (n : ℕ) → New x n ⊎ (to x ≡ Some n) → (n < drawn') ⊎ ((2 ^ 61 ≤ n) × (n < cells'))
+    bound x n (inl q) = within x n q
+    bound x n (inr q) = raised n drawn drawn' cells cells' a b (h.bounded x n q)
+
+    one : (x y : Bnode) (n : ℕ) → New x n ⊎ (to x ≡ Some n) → New y n ⊎ (to y ≡ Some n) → x ≡ y
+    one x y n (inl p) (inl q) = once x y n p q
+    one x y n (inl p) (inr q) = absurd (free x n p (h.bounded y n q))
+    one x y n (inr p) (inl q) = absurd (free y n q (h.bounded x n p))
+    one x y n (inr p) (inr q) = h.one_to_one x y n p q
+
 module _ (to : Numbering) (new : Bnode) (k : ℕ) where
   pub at_new : with_number to new k new ≡ Some k
   at_new = rw ((exact_bnodes new new).1 refl) refl
@@ -34,27 +56,13 @@ module _ (to : Numbering) (new : Bnode) (k : ℕ) where
 
   pub numbers_with : (labels labels' : Numbered) (drawn cells after : ℕ) → Numbers to labels drawn cells → drawn ≤ k → k < after → after ≤ 2 ^ 61
       → ((l : Chars) → with_number to new k (Author l) ≡ number_of labels' l) → Numbers (with_number to new k) labels' after cells
-  numbers_with labels labels' drawn cells after h lo hi room label = record {
-    label = label;
-    bounded = λ b n e. bound b n (numbered_now b n e);
-    one_to_one = λ a b n e f. one a b n (numbered_now a n e) (numbered_now b n f);
-    low = room;
-    high = h.high;
-  }
+  numbers_with labels labels' drawn cells after h lo hi room label =
+      numbers_more to (with_number to new k) (λ b n. (b ≡ new) × (k ≡ n)) labels labels' drawn after cells cells h numbered_now (λ a b n p q. p.0 ∙ sym q.0) (λ b n q. clash n q.1)
+      (λ b n q. inl (omega (arith, q.1, hi))) label (omega (arith, lo, hi)) (omega arith) room
     where
-      bound : (b : Bnode) (n : ℕ) → ((b ≡ new) × (k ≡ n)) ⊎ (to b ≡ Some n) → (n < after) ⊎ ((2 ^ 61 ≤ n) × (n < cells))
-      bound b n (inl q) = inl (omega (arith, q.1, hi))
-      bound b n (inr q) = raised n drawn after cells cells (omega (arith, lo, hi)) (omega arith) (h.bounded b n q)
-
       clash : (n : ℕ) → k ≡ n → (n < drawn) ⊎ ((2 ^ 61 ≤ n) × (n < cells)) → ⊥
       clash n q (inl x) = omega (arith, x, q, lo)
       clash n q (inr x) = omega (arith, x.0, q, hi, room)
-
-      one : (a b : Bnode) (n : ℕ) → ((a ≡ new) × (k ≡ n)) ⊎ (to a ≡ Some n) → ((b ≡ new) × (k ≡ n)) ⊎ (to b ≡ Some n) → a ≡ b
-      one a b n (inl p) (inl q) = p.0 ∙ sym q.0
-      one a b n (inl p) (inr q) = absurd (clash n p.1 (h.bounded b n q))
-      one a b n (inr p) (inl q) = absurd (clash n q.1 (h.bounded a n p))
-      one a b n (inr p) (inr q) = h.one_to_one a b n p q
 
 -- ---- labels
 

@@ -1,7 +1,7 @@
 -- The end of one owner: its lists are written and it is forgotten.
 use Rattle.rx_eval.proofs.Common.{◌≡◌, ◌∙◌, ℕ, suc, ◌+◌, List, [], ◌∷◌, ◌++◌, map, length, Option, Some, None, refl, sym, ap, ap₂, subst, append-nil, IfSome, map-append, Chars, Node, Triple, rename_node, rename, false_unless, Path, Bnode, Made, Cell, Owner, same_owner, model, Entry, map_entry, of_owner, cells, Slot, settle, rename_slot, exact_owners, Numbered, Owning, owning, open_seen, cells_seen, ended_by, forgotten_seen, Ending, cells_count, end_owner, Numbering, Number, named, Grown, Numbers, Slots, Open, table_in, owners_of, Waiter, FillUp, Within, begun_by}
 use Rattle.rx_eval.proofs.NameLemmas.{grown_same, slots_later, triples_later}
-use Rattle.rx_eval.proofs.FillLemmas.{end_fill_up, owners_more}
+use Rattle.rx_eval.proofs.FillLemmas.{fill_up_both, owners_more}
 use Rattle.rx_eval.proofs.CellLemmas.{AllFull, cell_number, with_cells, grown_cells, numbers_cells, rows, ended_now, cells_meet, cells_size, nothing_written}
 
 -- what the triples, the owners and the numbers come to, while owners end one after another
@@ -74,7 +74,7 @@ module _ (to : Numbering) (o : Owner) (s : Node ℕ) (subject : Node Bnode) (ope
           numbers = subst (Numbers now labels drawn) (ap (λ (k : ℕ). e.cells + k) (cells_size to o free e.cells s slots subject names full ∙ ap cells_count (sym seen))) (numbers_cells to o free e.cells r labels drawn m.numbers);
           by_names = slots_later to now g slots names m.by_names;
           tables = subst (λ (l : List (Option Owning)). FillUp open_owners waiters l slots) (sym gone)
-              (end_fill_up open_owners o s waiters before slots x (subst (λ (k : ℕ). Within k waiters) (sym (owners_length slots open_owners)) b)
+              ((fill_up_both open_owners o s (of_owner same_owner o slots) full waiters before slots refl (subst (λ (k : ℕ). Within k waiters) (sym (owners_length slots open_owners)) b)).1
               (subst (λ (l : List (Option Owning)). FillUp (open_owners ++ (o, s) ∷ []) waiters l slots) table m.tables));
           written =
               map-append (rename Number) e.out (cells_seen e.cells (open_seen e.owners n))

@@ -33,15 +33,11 @@ fill_put p item v zero i (row ∷ t) h =
     by_test (bytes_eq row.0 p) (λ e. rw e (ap (λ (s : List (Option (Term ℕ))). (row.0, s) ∷ t) (set-append_left row.1 (option_to_list item) i (Some v) h))) (λ e. rw e refl)
 fill_put p item v (suc l) i (row ∷ t) h = by_test (bytes_eq row.0 p) (λ e. rw e refl) (λ e. rw e (ap (λ (s : Items). row ∷ s) (fill_put p item v l i t h)))
 
-same_place : (p : Chars) (l i : ℕ) (v : Term ℕ) (t : Items) → list_place p (with_item l i v t) ≡ list_place p t
-same_place p l i v [] = refl
-same_place p zero i v (row ∷ t) = refl
-same_place p (suc l) i v (row ∷ t) = by_test (bytes_eq row.0 p) (λ e. rw e refl) (λ e. rw e (ap suc (same_place p l i v t)))
-
-same_count : (p : Chars) (l i : ℕ) (v : Term ℕ) (t : Items) → item_count p (with_item l i v t) ≡ item_count p t
-same_count p l i v [] = refl
-same_count p zero i v (row ∷ t) = by_test (bytes_eq row.0 p) (λ e. rw e (length-set row.1 i (Some v))) (λ e. rw e refl)
-same_count p (suc l) i v (row ∷ t) = by_test (bytes_eq row.0 p) (λ e. rw e refl) (λ e. rw e (same_count p l i v t))
+-- filling doesn't move the next place
+same_next : (p : Chars) (l i : ℕ) (v : Term ℕ) (t : Items) → (list_place p (with_item l i v t) ≡ list_place p t) × (item_count p (with_item l i v t) ≡ item_count p t)
+same_next p l i v [] = (refl, refl)
+same_next p zero i v (row ∷ t) = (refl, by_test (bytes_eq row.0 p) (λ e. rw e (length-set row.1 i (Some v))) (λ e. rw e refl))
+same_next p (suc l) i v (row ∷ t) = let k = same_next p l i v t in by_test (bytes_eq row.0 p) (λ e. rw e (refl, refl)) (λ e. rw e (ap suc k.0, k.1))
 
 -- ---- among the owners
 
@@ -86,7 +82,6 @@ fill_past zero p item (suc n) l i v (o ∷ os) h = refl
 fill_past (suc m) p item (suc n) l i v (o ∷ os) h = ap (λ (x : Many). o ∷ x) (fill_past m p item n l i v os h)
 fill_past (suc m) p item zero l i v _ h = refl
 
--- filling doesn't move the next place
 same_in : (k : Items → ℕ) → ((l i : ℕ) (v : Term ℕ) (t : Items) → k (with_item l i v t) ≡ k t) → (m n l i : ℕ) (v : Term ℕ) (os : Many) → k (lists_in (open_seen (fill_in n l i v os) m)) ≡ k (lists_in (open_seen os m))
 same_in k same m n l i v [] = refl
 same_in k same m zero l i v (None ∷ os) = refl
@@ -99,7 +94,7 @@ pub places_same : (m : ℕ) (ps : List Chars) (n l i : ℕ) (v : Term ℕ) (os :
 places_same m [] n l i v os h = refl
 places_same m (p ∷ ps) n l i v os h =
     ap₂ (λ (a b : ℕ). record { owner = record { 0 = m }; list = a; place = b } ∷ places_for m ps (put_at m p (Some None) (fill_in n l i v os)))
-    (same_in (list_place p) (same_place p) m n l i v os) (same_in (item_count p) (same_count p) m n l i v os)
+    (same_in (list_place p) (λ l i v t. (same_next p l i v t).0) m n l i v os) (same_in (item_count p) (λ l i v t. (same_next p l i v t).1) m n l i v os)
     ∙ ap (λ (x : List SlotId). next_place m p os ∷ x)
     (ap (places_for m ps) (sym (fill_past m p (Some None) n l i v os h)) ∙ places_same m ps n l i v (put_at m p (Some None) os) (still_at m p (Some None) n l i os h))
 

@@ -1,5 +1,5 @@
 -- An element that says no more than what it refers to, where it may wait: what it opens and ends.
-use Rattle.rx_eval.proofs.Common.{◌≡◌, ◌∙◌, ◌<◌, ◌-◌, ◌+◌, ℕ, suc, Bool, true, false, List, [], ◌∷◌, ◌++◌, length, Option, Some, None, refl, sym, ap, ap₂, subst, append-nil, append_assoc, length-append, arith, ◌||◌, ◌==◌, is_some, if◌then◌else◌, nat_eq, filter_map, nat_tests, Chars, by_test, resolved, node_seen, Node, Iri, Blank, Term, Triple, same_node, Naming, Facts, Ref, IriRef, LabelRef, RelativeRef, rule, value_now, Ending, Closes, ending, end_owner, cells_count, start_at, lists_at, owner_begun, begun_seen, gathers_some, Numbered, moment, handed_on, skipped_state, read_text, Opens, drawn_after, Owning, owning, cells_seen, ended_by, ended, forgotten_seen, level_at, standing_by, says_no_more, reference_in, only_reference, referring_context, referring_frame, referred_by, with_pending, is_iri, LetsWait, MayWait, IsKept, skipped_frame, skipped_frames, State, Frame, Hanging, Inherited, Standing, Resources, properties_by, completed, Shows}
+use Rattle.rx_eval.proofs.Common.{◌≡◌, ◌∙◌, ◌<◌, ◌-◌, ◌+◌, ℕ, suc, Bool, true, false, List, [], ◌∷◌, ◌++◌, length, Option, Some, None, refl, sym, ap, ap₂, subst, append-nil, append_assoc, length-append, arith, ◌||◌, ◌==◌, is_some, if◌then◌else◌, nat_eq, filter_map, nat_tests, Chars, by_test, resolved, node_seen, Node, Iri, Blank, Term, Triple, same_node, Naming, Facts, Ref, IriRef, LabelRef, RelativeRef, rule, value_now, Ending, Closes, ending, end_owner, cells_count, start_at, lists_at, owner_begun, begun_seen, gathers_some, Numbered, moment, handed_on, skipped_state, read_text, Opens, drawn_after, Owning, owning, cells_seen, ended_by, ended, forgotten_seen, level_at, standing_by, says_no_more, reference_in, only_reference, referring_context, referring_frame, referred_by, with_pending, is_iri, LetsWait, MayWait, IsKept, skipped_frame, skipped_frames, State, Frame, Hanging, Inherited, Standing, Resources, properties_by, completed, Shows, add-one}
 use Rattle.rx_rdfa.specs.Resources.{resources}
 use Rattle.rx_rdfa.specs.Inherited.{below}
 use Rattle.rx_rdfa.specs.Element.{start_of}
@@ -8,14 +8,14 @@ use Rattle.rx_eval.specs.declared.pending.Pending.{Pending}
 use Rattle.rx_eval.specs.Waits.{waits as waits_in}
 use Rattle.rx_eval.specs.declared.inherited.Inherited.{Inherited as Shown}
 use Rattle.rx_eval.proofs.OwnersLemmas.{last_seen}
-use Rattle.rx_eval.proofs.SilentLemmas.{SaysNoMore, no_more, skipped_closes}
+use Rattle.rx_eval.proofs.SilentLemmas.{referring, no_more, skipped_closes}
 use Rattle.rx_eval.proofs.SkippedLemmas.{handed_skipped, handed_joined, skipped_more, length_skipped, none_gathers}
 
 -- ---- by the rules
 
 module _ (given : Facts) (reference : Chars) where
   abbrev plain : Facts
-  plain = record given { about = None; resource = None; href = Some (RelativeRef reference); src = None; rel = None; rev = None; property = None; types = None; vocab = None }
+  plain = record (referring given) { href = Some (RelativeRef reference) }
 
   module _ (labels : Numbered) (fresh : ℕ) (base : Chars) (level : Level) (around : Inherited ℕ ℕ) where
     abbrev subject : Node ℕ
@@ -73,10 +73,7 @@ opens_referring old facts reference o e = by_test (says_no_more facts) (λ t. al
   where
     alone : says_no_more facts ≡ true → Some reference ≡ reference_in facts.href → Opens old facts (referred_by (Iri (resolved old.base reference)) 0 old)
     alone t h =
-        let s : SaysNoMore facts = no_more facts t in
-        let href = reference_is facts.href reference (sym h) in
-        let same : plain facts reference ≡ facts =
-        λ i. record facts { about = sym s.about i; resource = sym s.resource i; href = sym href i; src = sym s.src i; rel = sym s.rel i; rev = sym s.rev i; property = sym s.property i; types = sym s.types i; vocab = sym s.vocab i } in
+        let same : plain facts reference ≡ facts = λ i. record (no_more facts t i) { href = sym (reference_is facts.href reference (sym h)) i } in
         subst (λ (f : Facts). Opens old f (referred_by (Iri (resolved old.base reference)) 0 old)) same (opens_plain facts reference old e)
 
 -- ---- its frame among the others
@@ -174,40 +171,31 @@ closes_referring subject old w =
 module _ (w : Option Pending) (p : Pending) (s : State) (e : w ≡ Some p) where
   module _ (k : IsKept w s) where
     waits : MayWait (node_seen p.subject) p.inside s
-    waits = subst (λ (x : Option Pending). IsKept x s) e k
+    waits = rw e at k
 
     pub silent_waits : referred_by (node_seen p.subject) (p.inside + 1) s ≡ skipped_state (with_pending w s)
-    silent_waits =
-        let z : p.inside + 1 ≡ suc p.inside = omega arith in
-        ap (λ (n : ℕ). referred_by (node_seen p.subject) n s) z ∙ skips_referring (node_seen p.subject) s waits.iri p.inside
-        ∙ ap (λ (x : Option Pending). skipped_state (with_pending x s)) (sym e)
+    silent_waits = rw (e, add-one p.inside) (skips_referring (node_seen p.subject) s waits.iri p.inside)
 
     pub silent_kept : length (with_pending w s).frames < s.levels → MayWait (node_seen p.subject) (p.inside + 1) s
     silent_kept h =
-        let l : length (referred_by (node_seen p.subject) p.inside s).frames < s.levels = subst (λ (x : Option Pending). length (with_pending x s).frames < s.levels) e h in
+        let l : length (referred_by (node_seen p.subject) p.inside s).frames < s.levels = rw e at h in
         record { lets = waits.lets; iri = waits.iri; room = omega (arith, l, count_referring (node_seen p.subject) s p.inside) }
 
     pub inside_closes : 0 < p.inside → Closes (with_pending w s) (referred_by (node_seen p.subject) (p.inside - 1) s)
     inside_closes h =
         let q : p.inside ≡ suc (p.inside - 1) = omega (arith, h) in
-        subst (λ (x : Option Pending). Closes (with_pending x s) (referred_by (node_seen p.subject) (p.inside - 1) s)) (sym e)
-        (subst (λ (n : ℕ). Closes (referred_by (node_seen p.subject) n s) (referred_by (node_seen p.subject) (p.inside - 1) s)) (sym q) (closes_inside (node_seen p.subject) s waits.lets (p.inside - 1)))
+        rw e (subst (λ (n : ℕ). Closes (referred_by (node_seen p.subject) n s) (referred_by (node_seen p.subject) (p.inside - 1) s)) (sym q) (closes_inside (node_seen p.subject) s waits.lets (p.inside - 1)))
 
     pub last_closes : (d : Option Pending) → p.inside ≡ 0 → d ≡ None → Closes (with_pending w s) (with_pending d s)
-    last_closes d z n =
-        subst (λ (x : Option Pending). Closes (with_pending w s) (with_pending x s)) (sym n)
-        (subst (λ (x : Option Pending). Closes (with_pending x s) s) (sym e)
-        (subst (λ (m : ℕ). Closes (referred_by (node_seen p.subject) m s) s) (sym z) (closes_referring (node_seen p.subject) s waits.lets)))
+    last_closes d z n = rw (n, e, z) (closes_referring (node_seen p.subject) s waits.lets)
 
   pub count_waits : (d : ℕ) → d ≡ length s.frames → d + 1 + p.inside ≡ length (with_pending w s).frames
-  count_waits d h =
-      subst (λ (x : Option Pending). d + 1 + p.inside ≡ length (with_pending x s).frames) (sym e) (omega (arith, h, count_referring (node_seen p.subject) s p.inside))
+  count_waits d h = rw e (omega (arith, h, count_referring (node_seen p.subject) s p.inside))
 
   pub shows_waits : (shown : Shown) → node_seen shown.subject.now ≡ node_seen p.subject → node_seen shown.object.now ≡ node_seen p.subject → waits_in shown ≡ []
       → Shows shown (handed_on (with_pending w s).page (with_pending w s).frames)
   shows_waits shown a b h =
-      subst (λ (x : Option Pending). Shows shown (handed_on (with_pending x s).page (with_pending x s).frames)) (sym e)
-      (subst (Shows shown) (sym (hands_referring (node_seen p.subject) s p.inside)) (record { subject = a; object = b; hanging = h }))
+      rw e (subst (Shows shown) (sym (hands_referring (node_seen p.subject) s p.inside)) (record { subject = a; object = b; hanging = h }))
 
 -- ---- what the state with it has of the state
 

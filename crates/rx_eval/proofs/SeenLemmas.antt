@@ -1,5 +1,5 @@
 -- What is put into the code's lists, as the rules see it.
-use Rattle.rx_eval.proofs.Common.{◌≡◌, ◌∙◌, ℕ, Bool, zero, suc, List, [], ◌∷◌, ◌++◌, map, filter_map, Option, Some, None, option_map, option_to_list, slice_set, bytes_eq, refl, sym, ap, ap₂, length, drop, ◌≤◌, Result, OnOk, slice_index_or, if◌then◌else◌, map-append, length-map, map-set, on_ok_weaker, Chars, by_test, Term, node_seen, term_seen, put, entry, Owned, Owners, changed, with_term, itself, open_at, place_of, slots_of, trimmed, trimmed_by, forgotten, lists_of, cells_count, SlotId, waiting_seen, term_of, resource_term, put_each, put_awaited, slots_for, Owning, owning, slots_seen, owning_seen, owners_seen, put_at, put_entries, with_item, open_seen, lists_in, list_place, item_count, next_place, places_for, fill_seen, fill_all, cells_seen, ended_by, ended, forgotten_seen, Entries, awaited_entry}
+use Rattle.rx_eval.proofs.Common.{◌≡◌, ◌∙◌, ℕ, Bool, zero, suc, List, [], ◌∷◌, ◌++◌, map, filter_map, Option, Some, None, option_map, option_to_list, slice_set, bytes_eq, refl, sym, ap, ap₂, length, drop, ◌≤◌, slice_index_or, if◌then◌else◌, map-append, length-map, map-set, Chars, by_test, Term, node_seen, term_seen, put, entry, Owned, Owners, changed, with_term, itself, open_at, place_of, slots_of, trimmed, trimmed_by, forgotten, lists_of, cells_count, SlotId, waiting_seen, term_of, resource_term, put_each, put_awaited, slots_for, Owning, owning, slots_seen, owning_seen, owners_seen, put_at, put_entries, with_item, open_seen, lists_in, list_place, item_count, next_place, places_for, fill_seen, fill_all, cells_seen, ended_by, ended, forgotten_seen, Entries, awaited_entry}
 use Rattle.rx_terms.specs.declared.triples.Node.{Node as CodeNode}
 use Rattle.rx_terms.specs.declared.triples.Term.{Term as CodeTerm}
 use Rattle.rx_lists.specs.Owners.{Slots}
@@ -62,10 +62,6 @@ entries_then (e ∷ xs) ys owners = entries_then xs ys (put_at e.owner e.predica
 
 pub two_put : (xs ys : Entries) (a b c : List (Option Owning)) → b ≡ put_entries xs a → c ≡ put_entries ys b → c ≡ put_entries (xs ++ ys) a
 two_put xs ys a b c e f = f ∙ ap (put_entries ys) e ∙ sym (entries_then xs ys a)
-
--- std's, by the name that rx_walk asks for
-pub if_ok : {A E P Q : Type 0} (r : Result A E) → (P → Q) → OnOk r P → OnOk r Q
-if_ok = on_ok_weaker
 
 pub seen_each : (old new : Owners) (n : ℕ) (item : Option (Option CodeTerm)) (ps : List Chars) (entries : Entries) → map (entry n (item_seen item)) ps ≡ entries
     → new ≡ put_each n item ps old → owners_seen new ≡ put_entries entries (owners_seen old)

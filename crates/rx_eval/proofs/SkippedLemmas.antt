@@ -1,23 +1,15 @@
 -- The frames of all open elements, where the skipped ones are counted.
-use Rattle.rx_eval.proofs.Common.{◌≡◌, ◌∙◌, ◌<◌, ◌≤◌, ◌-◌, ◌+◌, ℕ, zero, suc, false, List, [], ◌∷◌, ◌++◌, length, refl, sym, ap, arith, append_assoc, length-append, Inherited, context_seen, around_in, handed_on, Frame, frame_seen, gathers_some, skipped_frame, skipped_frames, all_frames, IsRooted}
+use Rattle.rx_eval.proofs.Common.{◌≡◌, ◌∙◌, ◌<◌, ◌-◌, ◌+◌, ℕ, zero, suc, false, List, [], ◌∷◌, ◌++◌, length, refl, sym, ap, arith, append_assoc, length-append, Inherited, context_seen, around_in, handed_on, Frame, frame_seen, gathers_some, skipped_frame, skipped_frames, all_frames, IsRooted}
 use Rattle.rx_eval.specs.declared.contexts.EvaluationContext.{EvaluationContext}
 use Rattle.rx_eval.specs.declared.frames.Frame.{Frame as CodeFrame}
 
 -- one more with a frame of its own, inside as many skipped ones as it counts, and so many skipped ones in it
-counted_all : (a : Inherited ℕ ℕ) (fs : List CodeFrame) (f : CodeFrame) (m : ℕ)
+pub counted_all : (a : Inherited ℕ ℕ) (fs : List CodeFrame) (f : CodeFrame) (m : ℕ)
     → all_frames a (fs ++ f ∷ []) m ≡ all_frames a fs f.skipped ++ frame_seen f ∷ skipped_frames (context_seen f.context) m
 counted_all a [] f m = refl
 counted_all a (x ∷ fs) f m =
     ap (λ (l : List Frame). skipped_frames a x.skipped ++ frame_seen x ∷ l) (counted_all (context_seen x.context) fs f m)
     ∙ sym (append_assoc (skipped_frames a x.skipped) (frame_seen x ∷ all_frames (context_seen x.context) fs f.skipped) (frame_seen f ∷ skipped_frames (context_seen f.context) m))
-
-pub framed_more : (a : Inherited ℕ ℕ) (fs : List CodeFrame) (f : CodeFrame) → all_frames a (fs ++ f ∷ []) 0 ≡ all_frames a fs f.skipped ++ frame_seen f ∷ []
-framed_more a fs f = counted_all a fs f 0
-
-pub framed_with : (a : Inherited ℕ ℕ) (fs : List CodeFrame) (f : CodeFrame) (m : ℕ) (seen : Frame) → frame_seen f ≡ seen
-    → all_frames a (fs ++ f ∷ []) m ≡ all_frames a fs f.skipped ++ seen ∷ skipped_frames seen.context m
-framed_with a fs f m seen e =
-    counted_all a fs f m ∙ ap (λ (x : Frame). all_frames a fs f.skipped ++ x ∷ skipped_frames x.context m) e
 
 -- ---- the context behind the frames
 
@@ -67,13 +59,6 @@ counted_length a (x ∷ fs) m =
     let l = length-append (skipped_frames a x.skipped) (frame_seen x ∷ all_frames (context_seen x.context) fs m) in
     let k = length-append (skipped_frames a x.skipped) (frame_seen x ∷ all_frames (context_seen x.context) fs 0) in
     omega (arith, l, k, counted_length (context_seen x.context) fs m)
-
-pub one_longer : (a : Inherited ℕ ℕ) (fs : List CodeFrame) (m n : ℕ) → m ≡ suc n → length (all_frames a fs m) ≡ suc (length (all_frames a fs n))
-one_longer a fs m n e = omega (arith, e, counted_length a fs m, counted_length a fs n)
-
--- no more are skipped than are open
-pub skipped_fit : (a : Inherited ℕ ℕ) (fs : List CodeFrame) (n : ℕ) → n ≤ length (all_frames a fs n)
-skipped_fit a fs n = omega (arith, counted_length a fs n)
 
 -- inside a skipped element that isn't the root
 pub rooted_above : (a : Inherited ℕ ℕ) (fs : List CodeFrame) (n : ℕ) → IsRooted fs n → 0 < n → 0 < length (all_frames a fs (n - 1))

@@ -1,5 +1,5 @@
 -- What the calls keep, and what they come to.
-use Rattle.rx_eval.proofs.Common.{length-map, nil_from_length, Chars, Among, Node, Iri, Blank, Term, Resource, Literal, Triple, rename_node, rename_term, rename, blanks_of, blanks, Bnode, Owner, model, Facts, Inherited, made, rename_inherited, labels, after-append, frames_at, calls_read, ◌≡◌, ◌∙◌, ℕ, suc, ◌+◌, ◌≤◌, ◌^◌, Bool, true, false, List, [], ◌∷◌, ◌++◌, map, length, Option, Some, None, refl, sym, ap, ap₂, subst, subst₂, arith, unwrap_or, Nodes, Machine, enter, read, inherit, begun, finished, Call, Enter, Read, Leave, calls, after, Line, move, line_after, no_line, Numbered, State, handed_on, Opens, begun_state, read_text, Numbering, Name, Number, Itself, name_by, named, Numbers, owner_place, Layer, LayersStand, frames_in, open_in, Runs, Phase, EvaluatorStands, StandsOn, page_context, no_numbers, number_in, Makes, HandsOn, Among_of_map, Among_map, map-append}
+use Rattle.rx_eval.proofs.Common.{length-map, nil_from_length, Chars, Among, Node, Iri, Blank, Term, Resource, Literal, Triple, rename_node, rename_term, rename, blanks_of, blanks, Bnode, Owner, model, Facts, Inherited, made, rename_inherited, labels, after-append, frames_at, calls_read, ◌≡◌, ◌∙◌, ℕ, suc, ◌+◌, ◌≤◌, ◌^◌, Bool, true, false, List, [], ◌∷◌, ◌++◌, map, length, Option, Some, None, refl, sym, ap, ap₂, subst, subst₂, arith, unwrap_or, Nodes, Machine, enter, inherit, begun, finished, Call, Enter, Read, Leave, calls, after, Line, move, line_after, no_line, Numbered, State, handed_on, Opens, begun_state, read_text, Numbering, Name, Number, Itself, name_by, named, Numbers, owner_place, Layer, LayersStand, frames_in, open_in, Runs, Phase, EvaluatorStands, StandsOn, page_context, no_numbers, number_in, Makes, HandsOn, Among_of_map, Among_map, map-append}
 use Rattle.rx_model.proofs.Renamings.{all_twice, triple_blanks}
 use Rattle.rx_rdfa.specs.Tree.{end, element, text}
 use Rattle.rx_rdfa.specs.Lists.{cells}
@@ -63,14 +63,10 @@ module _ (to : Numbering) (list : List Call) (state : State) where
   pub enter_stands : (facts : Facts) (new : State) → Opens state facts new → state.ended ≡ false → state.drawn + 1 + length (labels facts) ≤ 2 ^ 61 → EvaluatorStands to list state → StandsOn to (list ++ Enter facts ∷ []) new
   enter_stands facts new o e room s = enter_in facts new state.ended refl e s.phase o s.page room
 
-  text_in : (chars : Chars) (b : Bool) → Phase b to machine state → Phase b to (read chars machine) (read_text chars state)
-  text_in chars true p = record { numbers = p.numbers; frames = p.frames; standings = p.standings; texts = ap (map (λ t. t ++ chars)) p.texts; out = p.out }
-  text_in chars false p = text_read to machine state chars p
-
   pub text_stands : (chars : Chars) → EvaluatorStands to list state → EvaluatorStands to (list ++ Read chars ∷ []) (read_text chars state)
   text_stands chars s = record {
     page = s.page;
-    phase = subst (λ (m : Machine Bnode Owner). Phase state.ended to m (read_text chars state)) (sym (after-append model state.base list (Read chars ∷ []) begun)) (text_in chars state.ended s.phase);
+    phase = subst (λ (m : Machine Bnode Owner). Phase state.ended to m (read_text chars state)) (sym (after-append model state.base list (Read chars ∷ []) begun)) (text_read to machine state chars state.ended s.phase);
   }
 
   -- ---- the frames

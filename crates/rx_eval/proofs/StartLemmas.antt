@@ -1,5 +1,6 @@
 -- The triples of an element's start: what its parts come to is what the rules say.
-use Rattle.rx_eval.proofs.Common.{◌≡◌, ◌∙◌, ℕ, List, [], ◌∷◌, ◌++◌, map, filter_map, Option, Some, None, option_map, option_to_list, refl, sym, ap, ap₂, append_assoc, is_some, if◌then◌else◌, Chars, by_test, Node, Iri, Term, Triple, Naming, Standing, Resources, resources, only, rule, value_now, waiting_seen, completed_by, to_node, of_vocabulary, types_by, links_by, properties_by, completed, vocabulary_by, typed_by, linked_by, values_of, found_by, start_by}
+use Rattle.rx_eval.proofs.ElementLemmas.{starts, starts_are}
+use Rattle.rx_eval.proofs.Common.{◌≡◌, ◌∙◌, ℕ, List, [], ◌∷◌, ◌++◌, map, filter_map, Option, Some, None, option_map, option_to_list, refl, sym, ap, ap₂, append_assoc, is_some, if◌then◌else◌, Chars, by_test, Node, Iri, Term, Triple, Naming, Standing, Resources, resources, only, rule, value_now, waiting_seen, completed_by, to_node, types_by, links_by, properties_by, completed, vocabulary_by, typed_by, linked_by, values_of, found_by, start_by}
 use Rattle.rx_rdfa.specs.Iris.{uses_vocabulary}
 use Rattle.rx_rdfa.specs.Element.{start_of}
 use Rattle.rx_eval.specs.declared.contexts.IncompleteTriple.{IncompleteTriple}
@@ -34,21 +35,10 @@ module _ (N : Naming ℕ ℕ) (base : Chars) (S : Standing ℕ ℕ) where
     completes (code.Reverse p ∷ ws) = ap (λ (l : List (Triple ℕ)). to_node H.subject p S.around.subject ∷ l) (completes ws)
     completes (code.InList o p ∷ ws) = completes ws
 
-  abbrev whole : Resources ℕ → List (Triple ℕ)
-  whole h =
-      of_vocabulary N base S
-      ++ (if h.skipped then []
-      else types_by N base S h.typed ++ links_by N base S h h.object ++ properties_by N base S h (value_now (rule N base S.facts h) S.facts)
-      ++ filter_map (completed N base S h) S.around.hanging)
-
-  start_whole : whole (resources N base S) ≡ start_of N base S
-  unfolding start_of
-  start_whole = refl
-
   pub start_is : (H : Resources ℕ) (v : Option (Term ℕ)) (ws : List IncompleteTriple) → H ≡ resources N base S → v ≡ only (is_some S.facts.property) (value_now (rule N base S.facts H) S.facts) → map waiting_seen ws ≡ S.around.hanging
       → start_by N base S.facts H v S.around.subject ws ≡ start_of N base S
   start_is H v ws r e w =
-      ap₂ (λ (a b : List (Triple ℕ)). a ++ (if H.skipped then [] else b)) (voc S.facts.vocab) parts ∙ ap whole r ∙ start_whole
+      ap₂ (λ (a b : List (Triple ℕ)). a ++ (if H.skipped then [] else b)) (voc S.facts.vocab) parts ∙ ap (starts N base S) r ∙ sym (starts_are N base S)
     where
       C : List (Triple ℕ)
       C = filter_map (completed N base S H) S.around.hanging

@@ -1,11 +1,9 @@
 -- Triples that are added one after another.
-use Rattle.rx_eval.proofs.Common.{◌≡◌, ◌∙◌, ℕ, zero, suc, ◌+◌, ◌≤◌, arith, List, [], ◌∷◌, ◌++◌, map, length, drop, Some, slice_get, refl, sym, ap, append_assoc, append-nil, add-one, Result, on_ok_weaker, Chars, OnOk, Node, Term, Triple, spo, to_node, Ref, IriRef, resource_named, ref_seen, refs_seen, Numbered, moment, resource_term, ToCome, rdf_type, types_of}
+use Rattle.rx_eval.proofs.Common.{◌≡◌, ◌∙◌, ℕ, zero, suc, ◌+◌, ◌≤◌, arith, List, [], ◌∷◌, ◌++◌, map, length, drop, Some, slice_get, refl, sym, ap, append-nil, add-one, Result, on_ok_weaker, Chars, OnOk, Node, Term, Triple, spo, to_node, Ref, IriRef, resource_named, ref_seen, refs_seen, Numbered, moment, resource_term, ToCome, rdf_type, types_of}
 use Rattle.rx_curie.specs.declared.refs.Ref.{Ref as CodeRef}
 use Rattle.rx_eval.specs.Places.{named}
+use Rattle.rx_eval.proofs.GrowLemmas.{one_came}
 use Rattle.rx_eval.proofs.DrawLemmas.{drop_at, nothing_left}
-
-pub one_came : (out more whole left rest : List (Triple ℕ)) (t : Triple ℕ) → left ≡ t ∷ rest → more ≡ out ++ t ∷ [] → ToCome out left whole → ToCome more rest whole
-one_came out more whole left rest t e m w = record { path = ap (λ (x : List (Triple ℕ)). x ++ rest) m ∙ append_assoc out (t ∷ []) rest ∙ ap (λ (x : List (Triple ℕ)). out ++ x) (sym e) ∙ w.path }
 
 pub all_came : (out left whole : List (Triple ℕ)) → left ≡ [] → ToCome out left whole → out ≡ whole
 all_came out left whole e w = sym (append-nil out) ∙ ap (λ (x : List (Triple ℕ)). out ++ x) (sym e) ∙ w.path

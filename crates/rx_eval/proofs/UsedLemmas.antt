@@ -1,10 +1,11 @@
 -- The number of a new node, and the owners that an element begins.
+use Rattle.rx_eval.proofs.EnterLemmas.{below_as}
 use Rattle.rx_eval.proofs.Common.{untrue, by_test, IfSome, if◌then◌else◌, option_or, Decides-eqb, Chars, then_some, Node, Blank, Term, same_node, or_cases, and_left, and_right, Path, Naming, Owner, same_owner, Facts, of_owner, entries_by, ◌≡◌, ◌∙◌, ℕ, suc, ◌+◌, ◌≤◌, ◌⊎◌, inl, inr, Bool, true, false, List, [], ◌∷◌, ◌++◌, length, Option, Some, None, is_none, nat_eq, refl, sym, ap, subst, arith, append-nil, length-append, not, ◌&&◌, ◌||◌, ◌==◌, unwrap_or, or-true, Inherited, Standing, Resources, new_blank, hangs, object_below, handed, Numbered, moment, level_at, path_at, standing_by, Owning, owning, put_entries, drawn_after, next_number, owner_begun, owner_for, begun_for, owners_begun, Slots, Open, Waiter, FillUp, Within, begun_by}
 use Rattle.rx_rdfa.specs.Resources.{resources}
 use Rattle.rx_rdfa.specs.Inherited.{below}
 use Rattle.rx_eval.specs.Blanks.{is_blank}
 use Rattle.rx_eval.proofs.OtherLemmas.{level_is, MadeIn, made_in, makes_resource, makes_new}
-use Rattle.rx_eval.proofs.FillLemmas.{begin_fill_up}
+use Rattle.rx_eval.proofs.FillLemmas.{fill_up_both}
 
 -- ---- the number of a new node
 
@@ -15,9 +16,6 @@ module _ (M : Naming ℕ ℕ) (base : Chars) (at : Standing ℕ ℕ) (here : Res
   -- what an element that isn't skipped hands on
   pub handed_new : here.skipped ≡ false → ((handed M at here).subject ≡ here.subject) × ((handed M at here).object ≡ unwrap_or (object_below M at here) here.subject)
   handed_new e = (rw e refl, rw e refl)
-
-  object_made : here.object ≡ Some (new_blank M at) → unwrap_or (object_below M at here) here.subject ≡ new_blank M at
-  object_made e = ap (λ (o : Option (Node ℕ)). unwrap_or (option_or o (then_some (hangs at.facts here) (new_blank M at))) here.subject) e
 
   object_hangs : hangs at.facts here ≡ true → unwrap_or (object_below M at here) here.subject ≡ new_blank M at
   object_hangs h = go here.object (and_left (is_none here.object) _ h) ∙ ap (λ (b : Bool). unwrap_or (then_some b (new_blank M at)) here.subject) h
@@ -32,7 +30,7 @@ module _ (M : Naming ℕ ℕ) (base : Chars) (at : Standing ℕ ℕ) (here : Res
     where
       made : (m : MadeIn M base at here) → (here.subject ≡ new_blank M at) ⊎ (here.object ≡ Some (new_blank M at)) → ((handed M at here).subject ≡ new_blank M at) ⊎ ((handed M at here).object ≡ new_blank M at)
       made m (inl e) = inl ((handed_new m.speaks).0 ∙ e)
-      made m (inr e) = inr ((handed_new m.speaks).1 ∙ object_made e)
+      made m (inr e) = inr ((handed_new m.speaks).1 ∙ ap (λ (o : Option (Node ℕ)). unwrap_or (option_or o (then_some (hangs at.facts here) (new_blank M at))) here.subject) e)
 
       go : (makes_resource at.facts at.path ≡ true) ⊎ ((not here.skipped && hangs at.facts here) ≡ true) → ((handed M at here).subject ≡ new_blank M at) ⊎ ((handed M at here).object ≡ new_blank M at)
       go (inl e) = let m = k e in made m m.is
@@ -72,26 +70,18 @@ begun_as M at here n m owners = ap (begun_for (object_below M at here) here.subj
 module _ (M : Naming ℕ ℕ) (at : Standing ℕ ℕ) (here : Resources ℕ) (n m : ℕ) (owners : Many) (own under : Option ℕ) (context : Inherited ℕ ℕ)
     (o : own ≡ (if here.skipped then None else owner_begun here.subject at.around.object n)) (u : under ≡ (if here.skipped then None else owner_for (object_below M at here) here.subject m)) (c : context ≡ handed M at here) where
   pub begun_now : here.skipped ≡ false → owners_begun M at here owners ≡ with_owner under context.object (with_owner own context.subject owners)
-  begun_now e =
-      begun_as M at here n m owners
-      ∙ (λ i. with_owner (sym (u ∙ ap (λ (b : Bool). if b then None else owner_for (object_below M at here) here.subject m) e) i) (sym (ap (λ (x : Inherited ℕ ℕ). x.object) c ∙ (handed_new M [] at here e).1) i)
-      (with_owner (sym (o ∙ ap (λ (b : Bool). if b then None else owner_begun here.subject at.around.object n) e) i) (sym (ap (λ (x : Inherited ℕ ℕ). x.subject) c ∙ (handed_new M [] at here e).0) i) owners))
+  begun_now e = rw (o, u, c, e) (begun_as M at here n m owners)
 
   -- what an element puts, with the owners that it begins; one that is skipped puts nothing
   pub lists_as : (v : Option (Term ℕ)) → (if here.skipped then owners else put_entries (entries_by M Some v at here) (owners_begun M at here owners))
       ≡ put_entries (entries_by M Some v at here) (with_owner under context.object (with_owner own context.subject owners))
-  lists_as v = go here.skipped refl
-    where
-      go : (b : Bool) → here.skipped ≡ b → (if here.skipped then owners else put_entries (entries_by M Some v at here) (owners_begun M at here owners)) ≡ put_entries (entries_by M Some v at here) (with_owner under context.object (with_owner own context.subject owners))
-      go true e = rw (o, u) (rw e refl)
-      go false e =
-          ap (λ (b : Bool). if b then owners else put_entries (entries_by M Some v at here) (owners_begun M at here owners)) e
-          ∙ ap (put_entries (entries_by M Some v at here)) (begun_now e)
+  lists_as v = by_test here.skipped (λ t. rw (o, u, t) refl)
+      (λ f. ap (λ (b : Bool). if b then owners else put_entries (entries_by M Some v at here) (owners_begun M at here owners)) f ∙ ap (put_entries (entries_by M Some v at here)) (begun_now f))
 
 pub with_fill_up : (open_owners : Open) (own : Option ℕ) (o : Owner) (s : Node ℕ) (waiters : List Waiter) (owners : Many) (slots : Slots) → of_owner same_owner o slots ≡ [] → Within (length owners) waiters → FillUp open_owners waiters owners slots
     → FillUp (open_owners ++ begun_by own o s) waiters (with_owner own s owners) slots
 with_fill_up open_owners None o s waiters owners slots e b h = subst (λ (x : Open). FillUp x waiters owners slots) (sym (append-nil open_owners)) h
-with_fill_up open_owners (Some n) o s waiters owners slots e b h = begin_fill_up open_owners o s waiters owners slots e b h
+with_fill_up open_owners (Some n) o s waiters owners slots e b h = (fill_up_both open_owners o s [] tt waiters owners slots e b).0 h
 
 pub with_length : (open_owners : Open) (own : Option ℕ) (o : Owner) (s t : Node ℕ) (owners : Many) → length owners ≡ length open_owners → length (with_owner own s owners) ≡ length (open_owners ++ begun_by own o t)
 with_length open_owners None o s t owners e = e ∙ ap length (sym (append-nil open_owners))
@@ -101,21 +91,17 @@ with_length open_owners (Some n) o s t owners e =
 -- ---- the numbers of these owners
 
 pub own_number_is : (s t : Bool) (n : ℕ) (own : Option ℕ) → own ≡ (if s then None else (if t then None else Some n)) → IfSome own (λ k. k ≡ n)
-own_number_is false false n own e = subst (λ (o : Option ℕ). IfSome o (λ k. k ≡ n)) (sym e) refl
-own_number_is _ _ n own e = subst (λ (o : Option ℕ). IfSome o (λ k. k ≡ n)) (sym e) tt
+own_number_is false false n own e = rw e refl
+own_number_is _ _ n own e = rw e tt
 
 pub under_number_is : (s t : Bool) (n : ℕ) (open_owners : Open) (o : Owner) (x subject : Node ℕ) (own under : Option ℕ) (object : Option (Node ℕ)) → n ≡ length open_owners
     → own ≡ (if s then None else (if t then None else Some n)) → under ≡ (if s then None else owner_for object subject (if t then n else suc n)) → IfSome under (λ k. k ≡ length (open_owners ++ begun_by own o x))
-under_number_is s t n open_owners o x subject own under object q e u = subst (λ (p : Option ℕ). IfSome p (λ k. k ≡ length (open_owners ++ begun_by own o x))) (sym u) (go s object e)
-  where
-    count : (t : Bool) → own ≡ (if t then None else Some n) → (if t then n else suc n) ≡ length (open_owners ++ begun_by own o x)
-    count true e = q ∙ ap length (sym (append-nil open_owners)) ∙ ap (λ (p : Option ℕ). length (open_owners ++ begun_by p o x)) (sym e)
-    count false e = let a = length-append open_owners ((o, x) ∷ []) in let b : suc n ≡ length (open_owners ++ (o, x) ∷ []) = omega (arith, a, q) in b ∙ ap (λ (p : Option ℕ). length (open_owners ++ begun_by p o x)) (sym e)
-
-    go : (s : Bool) (object : Option (Node ℕ)) → own ≡ (if s then None else (if t then None else Some n)) → IfSome (if s then None else owner_for object subject (if t then n else suc n)) (λ k. k ≡ length (open_owners ++ begun_by own o x))
-    go false (Some y) e = by_test (same_node nat_eq y subject) (λ b. rw b tt) (λ b. rw b (count t e))
-    go false None e = tt
-    go true object e = tt
+under_number_is false true n open_owners o x subject own under (Some y) q e u =
+    rw (u, e) (by_test (same_node nat_eq y subject) (λ b. rw b tt) (λ b. rw b (q ∙ ap length (sym (append-nil open_owners)))))
+under_number_is false false n open_owners o x subject own under (Some y) q e u =
+    rw (u, e) (by_test (same_node nat_eq y subject) (λ b. rw b tt) (λ b. rw b (let a = length-append open_owners ((o, x) ∷ []) in omega (arith, a, q))))
+under_number_is false t n open_owners o x subject own under None q e u = rw u tt
+under_number_is true t n open_owners o x subject own under object q e u = rw u tt
 
 -- what the number of a new node comes to
 module _ (facts : Facts) (base : Chars) (depth : ℕ) (path : Path) (list : Numbered) (fresh n : ℕ) (seen : Inherited ℕ ℕ) where
@@ -132,11 +118,7 @@ module _ (facts : Facts) (base : Chars) (depth : ℕ) (path : Path) (list : Numb
   unfolding resources
   made_now k = made_in moment_now base at_now k
 
-  pub handed_is : below moment_now base at_now ≡ handed moment_now at_now here_now
-  unfolding below resources
-  handed_is = refl
-
   pub new_drawn : length path ≡ suc depth → makes_new facts path here_now ≡ true → drawn_after (below moment_now base at_now) fresh ≡ fresh + 1
-  new_drawn d k = ap (λ (x : Inherited ℕ ℕ). drawn_after x fresh) handed_is
+  new_drawn d k = ap (λ (x : Inherited ℕ ℕ). drawn_after x fresh) (below_as list fresh base at_now here_now n)
       ∙ drawn_used (handed moment_now at_now here_now) fresh
       (used moment_now base at_now here_now made_now (ap (λ (b : Bool). b || (not here_now.skipped && hangs facts here_now)) (sym (makes_level facts depth path d)) ∙ k))

@@ -32,6 +32,19 @@ abbrev pub owners_of : Slots → Open → List (Option Owning)
 owners_of slots [] = []
 owners_of slots (one ∷ open_owners) = Some (owning one.1 (table_in slots one.0)) ∷ owners_of slots open_owners
 
+-- what holds of each entry's owner and item
+abbrev pub AllItems : {O T : Type 0} → (O → Option T → Type 0) → List (Entry O T) → Type 0
+AllItems P [] = Unit {0}
+AllItems P (e ∷ list) = P e.owner e.item × AllItems P list
+
+-- what holds of the path for whose text a slot waits
+abbrev pub ItemWaits : {B : Type 0} → (Path → Type 0) → Option (Slot B) → Type 0
+ItemWaits P (Some (Waiting r)) = P r
+ItemWaits P _ = Unit {0}
+
+abbrev pub AllWait : {B O : Type 0} → (O → Path → Type 0) → List (Entry O (Slot B)) → Type 0
+AllWait P slots = AllItems (λ owner. ItemWaits (P owner)) slots
+
 abbrev pub slot_waits : {B : Type 0} → Path → Option (Slot B) → Bool
 slot_waits path None = false
 slot_waits path (Some (Full term)) = false

@@ -2,7 +2,7 @@
 use Rattle.std.specs.Prelude.{◌≡◌, ◌≤◌, ◌⊎◌, ◌&&◌, ℕ, suc, Bool, true, false, not, List, [], ◌∷◌, ◌++◌, map, length, Option, Some, None, option_map, is_some, unwrap_or, IfSome}
 use Rattle.rx_rdfa.specs.Common.{Chars, Among, Node, Iri, Triple, rename_node, rename_term, rename, blanks, Path, Naming, Nodes, Facts, Bnode, Made, Cell, Owner, First, Of, Below, same_owner, model, Inherited, Standing, resources, below, up, inherited, gathers, end_of, map_entry, of_owner, rename_slot, rename_inherited, Call, after, line_after, no_line}
 use Rattle.rx_rdfa.specs.Made.{made}
-use Rattle.rx_rdfa.specs.Machine.{Slot, Full, Waiting, Machine, value_at, finished, begun}
+use Rattle.rx_rdfa.specs.Machine.{Machine, value_at, finished, begun}
 use Rattle.rx_values.specs.Marks.{CutAt}
 use Rattle.rx_lists.specs.declared.lists.SlotId.{SlotId}
 use Rattle.rx_eval.specs.TextRules.{text_literal}
@@ -10,7 +10,7 @@ use Rattle.rx_eval.specs.States.{Text, Frame, State}
 use Rattle.rx_eval.specs.Ending.{said_triples}
 use Rattle.rx_eval.specs.Opened.{handed_on}
 use Rattle.rx_eval.specs.Numbering.{Numbering, Number, named, Grown, Numbers}
-use Rattle.rx_eval.specs.Slots.{Slots, Open, owner_place, Waiter, FillUp, WithinOption}
+use Rattle.rx_eval.specs.Slots.{Slots, Open, owner_place, AllWait, Waiter, FillUp, WithinOption}
 
 -- an open element: as the rules see it, its text so far, and its frame
 pub record Layer : Type 0 where
@@ -113,14 +113,11 @@ owner_depth (Of path) = length path
 owner_depth (Below path) = length path
 
 -- a slot that waits does so for an open element, at which its owner stands or around it
-abbrev pub WaitsFor : List Path → Owner → Option (Slot ℕ) → Type 0
-WaitsFor paths owner None = Unit {0}
-WaitsFor paths owner (Some (Full v)) = Unit {0}
-WaitsFor paths owner (Some (Waiting r)) = Among paths r × (owner_depth owner ≤ length r)
+abbrev pub WaitsFor : List Path → Owner → Path → Type 0
+WaitsFor paths owner r = Among paths r × (owner_depth owner ≤ length r)
 
 abbrev pub AllWaitFor : List Path → Slots → Type 0
-AllWaitFor paths [] = Unit {0}
-AllWaitFor paths (e ∷ slots) = WaitsFor paths e.owner e.item × AllWaitFor paths slots
+AllWaitFor paths slots = AllWait (WaitsFor paths) slots
 
 -- ---- the whole
 

@@ -11,7 +11,7 @@ completed_by above subject (Reverse predicate) = Some (to_node subject predicate
 completed_by above subject (InList owner predicate) = None
 
 -- what is there and what is to come is the whole
-pub record ToCome (out left whole : List (Triple ℕ)) : Type 0 where
+pub record ToCome {A : Type 0} (out left whole : List A) : Type 0 where
   pub path : out ++ left ≡ whole
 
 -- of the triples to be gained, one for each predicate, those of the first predicates are there

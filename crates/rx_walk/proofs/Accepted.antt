@@ -3,8 +3,11 @@ use Rattle.rx_walk.proofs.Common.{◌≡◌, ◌∙◌, false, List, [], ◌∷�
 use Rattle.rx_walk.specs.RefusalLaws.{refused_append}
 use Rattle.rx_walk.specs.Accepting.{Accepts}
 use Rattle.rx_walk.proofs.Signed.{said_refused}
-use Rattle.rx_walk.proofs.Coursing.{or_none}
 use Rattle.rx_names.specs.Lines as names
+
+or_none : (o : Option Fault) → option_or o None ≡ o
+or_none None = refl
+or_none (Some x) = refl
 
 pub accepts_none : (context : Context) (kept : Kept) → kept ≡ no_tags context → names.NamesStand kept [] → Accepts context kept []
 accepts_none context kept e s = record { names_are = s; context_is = ap (λ (k : Kept). k.context) e; absolute = tt; accepted = refl }
@@ -15,30 +18,25 @@ module _ (context : Context) (old : Kept) (signs : List Sign) (r : Accepts conte
       refused_append context [] signs (sign ∷ []) ∙ (ap (λ x. option_or x (refused_in context (line_of [] signs) (sign ∷ []))) r.accepted
       ∙ or_none (refused_at context (line_of [] signs) sign))
 
-  -- one more sign
+  -- more signs
+  accepts_on : (new : Kept) (more : List Sign) (line : List Tag) → line_of (line_of [] signs) more ≡ line → names.NamesStand new line → new.context ≡ old.context → AllAbsolute line
+      → refused_in context (line_of [] signs) more ≡ None → Accepts context new (signs ++ more)
+  accepts_on new more line l n c a e =
+      let is : line_of [] (signs ++ more) ≡ line = line_append [] signs more ∙ l in
+      record {
+        names_are = subst (λ l. names.NamesStand new l) (sym is) n;
+        context_is = c ∙ r.context_is;
+        absolute = subst AllAbsolute (sym is) a;
+        accepted = refused_append context [] signs more ∙ ap (λ x. option_or x (refused_in context (line_of [] signs) more)) r.accepted ∙ e;
+      }
+
   pub accepts_more : (new : Kept) (sign : Sign) → names.NamesStand new (line_on (line_of [] signs) sign) → new.context ≡ old.context → AllAbsolute (line_on (line_of [] signs) sign)
       → refused_at context (line_of [] signs) sign ≡ None → Accepts context new (signs ++ sign ∷ [])
-  accepts_more new sign n c a e =
-      let line : line_of [] (signs ++ sign ∷ []) ≡ line_on (line_of [] signs) sign = line_append [] signs (sign ∷ []) in
-      record {
-        names_are = subst (λ l. names.NamesStand new l) (sym line) n;
-        context_is = c ∙ r.context_is;
-        absolute = subst AllAbsolute (sym line) a;
-        accepted = refused_one sign ∙ e;
-      }
+  accepts_more new sign n c a e = accepts_on new (sign ∷ []) (line_on (line_of [] signs) sign) refl n c a (or_none (refused_at context (line_of [] signs) sign) ∙ e)
 
   -- text
   pub accepts_said : (chars : Chars) → Accepts context old (signs ++ map said chars)
-  accepts_said chars =
-      let line : line_of [] (signs ++ map said chars) ≡ line_of [] signs = line_append [] signs (map said chars) ∙ said_line (line_of [] signs) chars in
-      record {
-        names_are = subst (λ l. names.NamesStand old l) (sym line) r.names_are;
-        context_is = r.context_is;
-        absolute = subst AllAbsolute (sym line) r.absolute;
-        accepted =
-            refused_append context [] signs (map said chars) ∙ (ap (λ x. option_or x (refused_in context (line_of [] signs) (map said chars))) r.accepted
-            ∙ said_refused context (line_of [] signs) chars);
-      }
+  accepts_said chars = accepts_on old (map said chars) (line_of [] signs) (said_line (line_of [] signs) chars) r.names_are refl r.absolute (said_refused context (line_of [] signs) chars)
 
   -- a start tag that is refused
   pub refused_next : (new : Kept) (t : StartTag) (fault : Fault) → new.context ≡ old.context → Some fault ≡ refused_at new.context (line_of [] signs) (begun t) → refused_in context [] (signs ++ begun t ∷ []) ≡ Some fault

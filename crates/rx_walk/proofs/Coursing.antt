@@ -1,17 +1,18 @@
 -- What becomes of the course.
-use Rattle.rx_walk.proofs.Common.{◌≡◌, ◌∙◌, ℕ, suc, ◌+◌, ◌≤◌, ◌<◌, Bool, true, false, List, [], ◌∷◌, ◌++◌, map, length, refl, sym, ap, subst, subst₂, Option, Some, None, arith, length-append, option_or, is_some, option_and_then, if◌then◌else◌, codes, Context, vocab, declared_or, unless_empty, is_relative, Tag, attribute, own_vocabulary, vocabulary_from, read_tag, Call, facts, facts_seen, Fault, StartTag, Chars, trimmed, Kept, kept_of, vocabulary_of, Sign, begun, said, IsFront, around, line_on, line_of, call_of, calls_of, singles, Seeking, seek, sought, refused_at, refused_in, Staged, MayTake, MayBe, Tells, AllAbsolute, Runs, AreFacts, line_append, seeks_append, said_line, said_seeks}
-use Rattle.rx_walk.specs.RefusalLaws.{refused_append}
+use Rattle.rx_walk.proofs.Accepted.{accepts_said}
+use Rattle.rx_walk.specs.Accepting.{Accepts}
+use Rattle.rx_walk.proofs.Common.{◌≡◌, ◌∙◌, ℕ, suc, ◌+◌, ◌≤◌, ◌<◌, Bool, true, false, List, [], ◌∷◌, ◌++◌, map, length, refl, sym, ap, subst, subst₂, Option, Some, None, arith, length-append, is_some, option_and_then, if◌then◌else◌, codes, Context, vocab, declared_or, unless_empty, is_relative, Tag, attribute, own_vocabulary, vocabulary_from, read_tag, Call, facts, facts_seen, StartTag, Chars, trimmed, Kept, kept_of, vocabulary_of, Sign, begun, said, IsFront, around, line_on, line_of, call_of, calls_of, singles, Seeking, seek, sought, Staged, MayTake, MayBe, Tells, AllAbsolute, Runs, AreFacts, line_append, seeks_append, said_line, said_seeks}
 use Rattle.rx_names.proofs.LineLemmas.{vocabulary-line}
 use Rattle.rx_walk.specs.declared.courses.RdfaListener.{RdfaListener}
 use Rattle.rx_walk.specs.declared.origins.Origin.{Origin}
 use Rattle.rx_curie.specs.declared.facts.Facts.{Facts as CodeFacts}
-use Rattle.rx_walk.proofs.Signed.{calls_append, said_calls, said_refused}
+use Rattle.rx_walk.proofs.Signed.{calls_append, said_calls}
 use Rattle.rx_walk.proofs.Fronting.{may_more, may_say, front_counts}
 use Rattle.rx_names.specs.Lines as names
 
-pub or_none : (o : Option Fault) → option_or o None ≡ o
-or_none None = refl
-or_none (Some x) = refl
+-- nothing is refused in the signs of a course
+pub accepts_of : {context : Context} {address : Chars} {levels : ℕ} {course : RdfaListener} {signs : List Sign} → Runs context address levels course signs → Accepts context course.names signs
+accepts_of r = record { names_are = r.names_are; context_is = r.context_is; absolute = r.absolute; accepted = r.accepted }
 
 -- the line that a tag's own vocabulary doesn't change
 pub from_absolute : (tag : Tag) (line : List Tag) → AllAbsolute line → is_relative (vocabulary_from line tag) ≡ false
@@ -55,24 +56,21 @@ takes_one course context address levels signs sign r f =
 
 module _ (context : Context) (address : Chars) (levels : ℕ) (old new : RdfaListener) (signs : List Sign) (r : Runs context address levels old signs) where
   -- some signs more, with the calls for them
-  runs_on : (more : List Sign) (list : List Call) (turn : Seeking → Seeking) → calls_of context (line_of [] signs) more ≡ list → turn (sought signs) ≡ sought (signs ++ more)
-      → MayBe levels (calls_of context [] (signs ++ more)) → names.NamesStand new.names (line_of (line_of [] signs) more) → new.names.context ≡ old.names.context → new.origin ≡ old.origin
-      → new.count ≡ length (line_of (line_of [] signs) more) → AllAbsolute (line_of (line_of [] signs) more) → refused_in context (line_of [] signs) more ≡ None
-      → Tells old.origin turn list old.stage new.stage → Runs context address levels new (signs ++ more)
-  runs_on more list turn told turned may n c o k a e t =
-      let line : line_of [] (signs ++ more) ≡ line_of (line_of [] signs) more = line_append [] signs more in
+  runs_on : (more : List Sign) (list : List Call) (turn : Seeking → Seeking) → Accepts context new.names (signs ++ more) → calls_of context (line_of [] signs) more ≡ list → turn (sought signs) ≡ sought (signs ++ more)
+      → MayBe levels (calls_of context [] (signs ++ more)) → new.origin ≡ old.origin → new.count ≡ length (line_of [] (signs ++ more)) → Tells old.origin turn list old.stage new.stage → Runs context address levels new (signs ++ more)
+  runs_on more list turn a told turned may o k t =
       let here : Staged old.origin.address old.origin.levels (sought signs) (calls_of context [] signs) old.stage =
       subst₂ (λ x l. Staged x l (sought signs) (calls_of context [] signs) old.stage) (sym r.address_is) (sym r.levels_are) r.staged in
       let calls : calls_of context [] signs ++ list ≡ calls_of context [] (signs ++ more) = ap (λ l. calls_of context [] signs ++ l) (sym told) ∙ sym (calls_append context [] signs more) in
       record {
-        names_are = subst (λ l. names.NamesStand new.names l) (sym line) n;
-        context_is = c ∙ r.context_is;
+        names_are = a.names_are;
+        context_is = a.context_is;
         address_is = ap (λ (x : Origin). x.address) o ∙ r.address_is;
         levels_are = ap (λ (x : Origin). x.levels) o ∙ r.levels_are;
-        count_is = k ∙ ap length (sym line);
-        absolute = subst AllAbsolute (sym line) a;
+        count_is = k;
+        absolute = a.absolute;
         may = may;
-        accepted = refused_append context [] signs more ∙ ap (λ x. option_or x (refused_in context (line_of [] signs) more)) r.accepted ∙ e;
+        accepted = a.accepted;
         staged =
             subst₂ (λ x l. Staged address levels x l new.stage) turned calls
             (subst₂ (λ x l. Staged x l (turn (sought signs)) (calls_of context [] signs ++ list) new.stage) r.address_is r.levels_are
@@ -80,45 +78,23 @@ module _ (context : Context) (address : Chars) (levels : ℕ) (old new : RdfaLis
       }
 
   -- one more sign
-  pub runs_more : (sign : Sign) → IsFront levels (signs ++ sign ∷ []) → names.NamesStand new.names (line_on (line_of [] signs) sign) → new.names.context ≡ old.names.context → new.origin ≡ old.origin
-      → new.count ≡ length (line_on (line_of [] signs) sign) → AllAbsolute (line_on (line_of [] signs) sign) → refused_at context (line_of [] signs) sign ≡ None
+  pub runs_more : (sign : Sign) → IsFront levels (signs ++ sign ∷ []) → Accepts context new.names (signs ++ sign ∷ []) → new.origin ≡ old.origin → new.count ≡ length (line_on (line_of [] signs) sign)
       → Tells old.origin (λ s. seek old.count s sign) (call_of context (line_of [] signs) sign ∷ []) old.stage new.stage → Runs context address levels new (signs ++ sign ∷ [])
-  runs_more sign f n c o k a e t = runs_on (sign ∷ []) (call_of context (line_of [] signs) sign ∷ []) (λ s. seek old.count s sign) refl
+  runs_more sign f a o k t = runs_on (sign ∷ []) (call_of context (line_of [] signs) sign ∷ []) (λ s. seek old.count s sign) a refl
       (ap (λ x. seek x (sought signs) sign) r.count_is ∙ sym (seeks_append [] (sought []) signs (sign ∷ [])))
-      (may_more context levels signs r.may sign f) n c o k a (or_none (refused_at context (line_of [] signs) sign) ∙ e) t
+      (may_more context levels signs r.may sign f) o (k ∙ ap length (sym (line_append [] signs (sign ∷ [])))) t
 
   -- text
   pub runs_said : (chars : Chars) → IsFront levels (signs ++ map said chars) → new.names ≡ old.names → new.origin ≡ old.origin → new.count ≡ old.count
       → Tells old.origin (λ s. s) (singles chars) old.stage new.stage → Runs context address levels new (signs ++ map said chars)
   runs_said chars f n o k t =
-      let line : line_of [] signs ≡ line_of (line_of [] signs) (map said chars) = sym (said_line (line_of [] signs) chars) in
-      runs_on (map said chars) (singles chars) (λ s. s) (said_calls context (line_of [] signs) chars)
+      runs_on (map said chars) (singles chars) (λ s. s) (subst (λ x. Accepts context x (signs ++ map said chars)) (sym n) (accepts_said context old.names signs (accepts_of r) chars)) (said_calls context (line_of [] signs) chars)
       (sym (seeks_append [] (sought []) signs (map said chars) ∙ said_seeks (line_of [] signs) (sought signs) chars))
-      (may_say context levels signs r.may chars f)
-      (subst₂ (λ x l. names.NamesStand x l) (sym n) line r.names_are) (ap (λ (x : Kept). x.context) n) o (k ∙ r.count_is ∙ ap length line)
-      (subst AllAbsolute line r.absolute) (said_refused context (line_of [] signs) chars) t
-
-  -- a start tag that is refused
-  pub refused_next : (t : StartTag) (fault : Fault) → refused_at context (line_of [] signs) (begun t) ≡ Some fault → refused_in context [] (signs ++ begun t ∷ []) ≡ Some fault
-  refused_next t fault e =
-      refused_append context [] signs (begun t ∷ []) ∙ ap (λ x. option_or x (refused_in context (line_of [] signs) (begun t ∷ []))) r.accepted
-      ∙ (or_none (refused_at context (line_of [] signs) (begun t)) ∙ e)
-
-  begin_context : (kept : Kept) → kept.context ≡ old.names.context → kept.context ≡ context
-  begin_context kept c = c ∙ r.context_is
-
-  pub begin_refused : (kept : Kept) (t : StartTag) (fault : Fault) → kept.context ≡ old.names.context → Some fault ≡ refused_at kept.context (line_of [] signs) (begun t) → refused_in context [] (signs ++ begun t ∷ []) ≡ Some fault
-  begin_refused kept t fault c g = refused_next t fault (subst (λ x. refused_at x (line_of [] signs) (begun t) ≡ Some fault) (begin_context kept c) (sym g))
-
-  pub begin_accepted : (kept : Kept) (t : StartTag) → kept.context ≡ old.names.context → None ≡ refused_at kept.context (line_of [] signs) (begun t) → refused_at context (line_of [] signs) (begun t) ≡ None
-  begin_accepted kept t c g = subst (λ x. refused_at x (line_of [] signs) (begun t) ≡ None) (begin_context kept c) (sym g)
+      (may_say context levels signs r.may chars f) o (k ∙ r.count_is ∙ ap length (sym (line_append [] signs (map said chars) ∙ said_line (line_of [] signs) chars))) t
 
   pub begin_facts : (kept : Kept) (t : StartTag) (made : CodeFacts) → kept.context ≡ old.names.context → names.NamesStand kept (read_tag t ∷ line_of [] signs) → AreFacts kept (read_tag t) made
       → facts_seen made ≡ facts context (line_of [] signs) (read_tag t)
-  begin_facts kept t made c s g = subst (λ x. facts_seen made ≡ facts x (line_of [] signs) (read_tag t)) (begin_context kept c) (g (line_of [] signs) s)
-
-  pub absolute_left : AllAbsolute (around (line_of [] signs))
-  absolute_left = absolute_around (line_of [] signs) r.absolute
+  begin_facts kept t made c s g = subst (λ x. facts_seen made ≡ facts x (line_of [] signs) (read_tag t)) (c ∙ r.context_is) (g (line_of [] signs) s)
 
   pub count_room : (t : StartTag) → IsFront levels (signs ++ begun t ∷ []) → old.count + 1 ≤ old.origin.levels
   count_room t f =

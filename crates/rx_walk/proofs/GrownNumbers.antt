@@ -1,38 +1,41 @@
 -- A walk's numbering only grows.
-use Rattle.rx_walk.proofs.Common.{◌≡◌, ◌∙◌, ℕ, List, [], ◌∷◌, ◌++◌, refl, sym, ap, subst, subst₂, Option, Some, append-nil, Chars, base_by, base_of, root_href, Call, calls, with_facts, Numbering, begun_state, State, tags_of, finish_makes, Syntax, start_of, Page, Tree, Sign, Sight, sees, nothing_seen, signs_of, calls_of, Leads, line_of, first_child, known, seeks, sought, Setting, Known, Walked, WalkStands, state_of, seeks_append}
+use Rattle.rx_walk.proofs.Common.{◌≡◌, ◌∙◌, ℕ, List, [], ◌∷◌, ◌++◌, refl, sym, ap, subst, subst₂, Option, Some, append-nil, Chars, base_by, base_of, root_href, Call, calls, with_facts, Numbering, begun_state, State, tags_of, finish_makes, Syntax, start_of, Page, Tree, Sign, Sight, sees, nothing_seen, signs_of, calls_of, Leads, line_of, first_child, known, seeks, sought, Setting, Known, Walked, WalkStands, state_of, seeks_append, Enter, Read, Leave, Steps, no_numbers, begun_stands}
 use Rattle.rx_rdfa.specs.Machine.{begun}
 use Rattle.rx_grammar.specs.declared.limits.Limits.{Limits}
 use Rattle.rx_pages.specs.PageReader.{Progress}
 use Rattle.rx_nest.proofs.TagPlaces.{shows_more}
 use Rattle.rx_eval.proofs.ShownLemmas.{shows_after}
 use Rattle.rx_walk.specs.Numberings.{NumbersBy, NumbersGrow, ListIsNumbered}
-use Rattle.rx_walk.proofs.AlikeStates.{led_alike}
+use Rattle.rx_eval.proofs.LeavesLemmas.{alike_none}
+use Rattle.rx_eval.proofs.AlikeLemmas.{Same, opens_same, reads_same, closes_same, stands_same}
 use Rattle.rx_nest.proofs.FaultPlacing.{page_shows}
 use Rattle.rx_walk.proofs.Alike.{pieces_alike}
 use Rattle.rx_base.proofs.Found.{known_stays, base_found}
-use Rattle.rx_walk.proofs.Making.{all_on, all_base}
+use Rattle.rx_walk.proofs.Making.{one_on, all_on, all_rest}
 use Rattle.rx_walk.proofs.NumberedPages.{facts_line}
 use Rattle.rx_walk.proofs.Signed.{calls_append, calls_tree}
-use Rattle.rx_walk.proofs.StandsAlike.{stands_alike}
 use Rattle.rx_walk.proofs.Wholes.{known_at}
 use Rattle.rx_eval.specs.Standing as eval
 
--- what leads on from the state that the first calls lead to
-record Parted (xs ys : List Call) (old new : State) : Type 0 where
-  middle : State
-  first : Leads xs old middle
-  rest : Leads ys middle new
+-- the same calls lead to states that are the same but for how the rules for texts are written
+one_same : (call : Call) (list : List Call) (to : Numbering) (a b x y : State) → Same a b → eval.EvaluatorStands to list a → Steps call a x → Steps call b y → Same x y
+one_same (Enter facts) list to a b x y e s o p = opens_same a b e facts x y o.1 p.1
+one_same (Read chars) list to a b x y e s o p = subst₂ Same (sym o) (sym p) (reads_same a b e chars)
+one_same Leave list to a b x y e s o p = closes_same a b e to list s x y o p
 
-parted : (xs ys : List Call) (old new : State) → Leads (xs ++ ys) old new → Parted xs ys old new
-parted [] ys old new h = record { middle = old; first = refl; rest = h }
-parted (x ∷ xs) ys old new h = let p = parted xs ys h.0 new h.2 in record { middle = p.middle; first = (h.0, h.1, p.first); rest = p.rest }
+-- where more calls lead on, the first of them lead to such a state
+same_on : (xs ys before : List Call) (to : Numbering) (a b old new : State) → Same a b → eval.EvaluatorStands to before a → Leads xs a old → Leads (xs ++ ys) b new → (middle : State) × Same old middle × Leads ys middle new
+same_on [] ys before to a b old new e s l m = (b, subst (λ z. Same z b) (sym l) e, m)
+same_on (call ∷ xs) ys before to a b old new e s l m =
+    let on = one_on call to before a l.0 l.1 s in
+    same_on xs ys (before ++ call ∷ []) on.now l.0 m.0 old new (one_same call before to a b l.0 m.0 e s l.1 m.1) on.stands l.2 m.2
 
 -- of calls that go on, a state that stands for the first ones, and the one that all lead to
 led_on : (base : Chars) (levels : ℕ) (xs ys : List Call) (old new : State) (to : Numbering) → Leads xs (begun_state base levels) old → Leads (xs ++ ys) (begun_state base levels) new
     → eval.EvaluatorStands to xs old → eval.StandsOn to (xs ++ ys) new
 led_on base levels xs ys old new to first all stands =
-    let p = parted xs ys (begun_state base levels) new all in
-    all_on ys xs to p.middle new p.rest (stands_alike to xs old p.middle (led_alike base levels xs old p.middle first p.first) stands)
+    let p = same_on xs ys [] no_numbers (begun_state base levels) (begun_state base levels) old new (record { frames = alike_none; rest = refl }) (begun_stands base levels) first all in
+    all_on ys xs to p.0 new p.2 (stands_same old p.0 p.1 to xs stands)
 
 -- what is shown of more bytes begins with what was shown
 module _ (setting : Setting) (address : Chars) where
@@ -115,5 +118,5 @@ list_is_numbered setting address walk bytes piece s old is to by list e =
     record {
       to = x.now;
       grown = x.grown;
-      makes = subst₂ (λ b ts. eval.Makes x.now b nodes ts) (all_base (calls_of setting.context [] (signs_of tree)) (begun_state base setting.limits.depth) state e.lists.led.leads) (sym e.lists.list_is) (finish_makes x.now state nodes whole);
+      makes = subst₂ (λ b ts. eval.Makes x.now b nodes ts) (all_rest (calls_of setting.context [] (signs_of tree)) (begun_state base setting.limits.depth) state e.lists.led.leads).0 (sym e.lists.list_is) (finish_makes x.now state nodes whole);
     }

@@ -1,5 +1,6 @@
 -- When what is inherited is shown.
-use Rattle.rx_walk.proofs.Common.{◌≡◌, ◌≢◌, ◌∙◌, ℕ, true, false, List, [], ◌∷◌, length, refl, sym, ap, subst, Option, Some, None, ◌||◌, is_some, Chars, Tag, State, has_failed, line_of, known, sought, calls_of, Staged, Setting, Walked, WalkStands, HasBase, ShowsOnceKnown}
+use Rattle.std.proofs.lemmas.List.{nil_from_length}
+use Rattle.rx_walk.proofs.Common.{◌≡◌, ◌≢◌, ◌∙◌, ℕ, true, false, List, [], length, refl, sym, ap, subst, Option, Some, None, ◌||◌, is_some, Chars, State, has_failed, line_of, known, sought, calls_of, Staged, Setting, Walked, WalkStands, HasBase, ShowsOnceKnown}
 use Rattle.rx_base.proofs.KnownOver.{knows_over_bytes}
 use Rattle.rx_eval.specs.declared.inherited.Inherited.{Inherited}
 use Rattle.rx_walk.specs.declared.stages.PendingBase.{PendingBase}
@@ -10,10 +11,6 @@ use Rattle.rx_walk.specs.declared.stages.Stage.TheVariants as stage
 -- a walk that stands for some bytes hasn't failed
 stands_well : (setting : Setting) (address : Chars) (walk : Walked) (bytes : List ℕ) → WalkStands setting address walk bytes → has_failed walk ≡ false
 stands_well setting address walk bytes s = ap (λ f. is_some f || walk.out_of_memory) s.unfailed ∙ s.unspent
-
-none_of : (line : List Tag) → 0 ≡ length line → line ≡ []
-none_of [] e = refl
-none_of (t ∷ line) e = absurd (cc)
 
 -- nothing is shown, since one of the two is missing
 shows_none : (walk : Walked) → ((setting : Setting) (address : Chars) (bytes : List ℕ) (s : WalkStands setting address walk bytes) → line_of [] s.goes.signs ≢ [] → (href : Option Chars) → sought s.goes.signs ≡ known href → ⊥) → ShowsOnceKnown walk None
@@ -33,7 +30,7 @@ pub failed_shows : (walk : Walked) → has_failed walk ≡ true → ShowsOnceKno
 failed_shows walk f = shows_none walk (λ setting address bytes s n href k. (let w : true ≡ false = sym f ∙ stands_well setting address walk bytes s in cc))
 
 pub closed_shows : (walk : Walked) → walk.listener.count ≡ 0 → ShowsOnceKnown walk None
-closed_shows walk c = shows_none walk (λ setting address bytes s n href k. n (none_of (line_of [] s.goes.signs) (sym c ∙ s.goes.known.count_is)))
+closed_shows walk c = shows_none walk (λ setting address bytes s n href k. n (nil_from_length (line_of [] s.goes.signs) (sym s.goes.known.count_is ∙ c)))
 
 pub seeking_shows : (walk : Walked) (head : PendingBase) → walk.listener.stage ≡ stage.Seeking head → ShowsOnceKnown walk None
 seeking_shows walk head e =

@@ -11,9 +11,6 @@ pub mod TextKeeping
 pub mod NumberedPages
 pub mod Idling
 pub mod Accepted
-pub mod SeenStates
-pub mod AlikeStates
-pub mod StandsAlike
 pub mod GrownNumbers
 pub mod OpenLines
 pub mod Inheriting

@@ -20,20 +20,23 @@ all_on (call ∷ list) before to old new h st =
     let all = all_on list (before ++ call ∷ []) one.now h.0 new h.2 one.stands in
     record { now = all.now; grown = grown_then to one.now all.now one.grown all.grown; stands = subst (λ l. EvaluatorStands all.now l new) (append_assoc before (call ∷ []) list) all.stands }
 
--- the base stays
-one_base : (call : Call) (old new : State) → Steps call old new → new.base ≡ old.base
-one_base (Enter facts) old new s = s.1.rest.0
-one_base (Read chars) old new s = ap (λ (z : State). z.base) s
-one_base Leave old new s = s.rest.0
+-- the base stays, and an evaluator that answers has memory
+one_rest : (call : Call) (old new : State) → Steps call old new → (new.base ≡ old.base) × (new.out_of_memory ≡ old.out_of_memory)
+one_rest (Enter facts) old new s = (s.1.rest.0, s.1.rest.6)
+one_rest (Read chars) old new s = (ap (λ (z : State). z.base) s, ap (λ (z : State). z.out_of_memory) s)
+one_rest Leave old new s = (s.rest.0, s.rest.5)
 
-pub all_base : (list : List Call) (old new : State) → Leads list old new → new.base ≡ old.base
-all_base [] old new h = ap (λ (z : State). z.base) h
-all_base (call ∷ list) old new h = all_base list h.0 new h.2 ∙ one_base call old h.0 h.1
+pub all_rest : (list : List Call) (old new : State) → Leads list old new → (new.base ≡ old.base) × (new.out_of_memory ≡ old.out_of_memory)
+all_rest [] old new h = (ap (λ (z : State). z.base) h, ap (λ (z : State). z.out_of_memory) h)
+all_rest (call ∷ list) old new h =
+    let one = one_rest call old h.0 h.1 in
+    let all = all_rest list h.0 new h.2 in
+    (all.0 ∙ one.0, all.1 ∙ one.1)
 
 made_by : (base : Chars) (levels : ℕ) (tree : Nodes Facts) (state : State) → Leads (calls tree) (begun_state base levels) state → (to : Numbering) × Makes to base tree state.out
 made_by base levels tree state h =
     let s = all_on (calls tree) [] no_numbers (begun_state base levels) state h (begun_stands base levels) in
-    (s.now, subst (λ b. Makes s.now b tree state.out) (all_base (calls tree) (begun_state base levels) state h) (finish_makes s.now state tree s.stands))
+    (s.now, subst (λ b. Makes s.now b tree state.out) (all_rest (calls tree) (begun_state base levels) state h).0 (finish_makes s.now state tree s.stands))
 
 pub list_made : (context : Context) (address : Chars) (levels : ℕ) (tree : Tree) (list : List CodeTriple) → Lists context address levels tree list → IsMade context address tree list
 list_made context address levels tree list l =

@@ -39,9 +39,6 @@ said_at levels (inside n) next chars old new at r e =
     (record { frames = ap (λ (s : State). length s.frames) r ∙ at.frames; ended = ap (λ (s : State). s.ended) r ∙ at.ended; levels_are = ap (λ (s : State). s.levels) r ∙ at.levels_are })
 said_at levels _ next chars old new at r e = absurd (cc)
 
-count_none : (b : Bool) (n m : ℕ) → n ≡ m → (if n == 0 then true else b) ≡ (if m == 0 then true else b)
-count_none b n m e = ap (λ k. if k == 0 then true else b) e
-
 not_zero : (n : ℕ) → (suc n == 0) ≡ false
 not_zero n = grind (arith, nat_tests)
 
@@ -50,12 +47,12 @@ closed levels (inside zero) next old new at c e =
     let is : over ≡ next = cc in
     let size : length old.frames ≡ length new.frames + 1 = ap length c.popped ∙ length-append new.frames (c.frame ∷ []) in
     let none : length new.frames ≡ 0 = omega (arith, size, at.frames) in
-    subst (λ f. StandsAt levels f new) is (record { frames = none; ended = c.ended ∙ count_none old.ended (length new.frames) 0 none; levels_are = c.rest.1 ∙ at.levels_are })
+    subst (λ f. StandsAt levels f new) is (record { frames = none; ended = c.ended ∙ ap (λ k. if k == 0 then true else old.ended) none; levels_are = c.rest.1 ∙ at.levels_are })
 closed levels (inside (suc n)) next old new at c e =
     let is : inside n ≡ next = cc in
     let size : length old.frames ≡ length new.frames + 1 = ap length c.popped ∙ length-append new.frames (c.frame ∷ []) in
     let some : length new.frames ≡ suc n = omega (arith, size, at.frames) in
-    subst (λ f. StandsAt levels f new) is (record { frames = some; ended = c.ended ∙ count_none old.ended (length new.frames) (suc n) some ∙ (ap (λ b. if b then true else old.ended) (not_zero n) ∙ at.ended); levels_are = c.rest.1 ∙ at.levels_are })
+    subst (λ f. StandsAt levels f new) is (record { frames = some; ended = c.ended ∙ ap (λ k. if k == 0 then true else old.ended) some ∙ (ap (λ b. if b then true else old.ended) (not_zero n) ∙ at.ended); levels_are = c.rest.1 ∙ at.levels_are })
 closed levels _ next old new at c e = absurd (cc)
 
 steps_at : (levels : ℕ) (call : Call) (front next : Front) (old new : State) → StandsAt levels front old → Steps call old new → moves front call ≡ Some next → StandsAt levels next new

@@ -28,6 +28,9 @@ found_tells origin turn more old new stays h = record {
   staged = λ seeking list k. known_more origin.address origin.levels seeking (turn seeking) list more old new (λ href e. ap turn e ∙ stays href) h k;
 }
 
+pub found_one : (origin : Origin) (turn : Seeking → Seeking) (call : Call) (old new : State) → ((href : Option Chars) → turn (known href) ≡ known href) → Steps call old new → Tells origin turn (call ∷ []) (stage.Found old) (stage.Found new)
+found_one origin turn call old new stays s = found_tells origin turn (call ∷ []) old new stays (new, s, refl)
+
 pub found_enters : (levels : ℕ) (facts : Facts) (state : State) → MayTake levels (Enter facts ∷ []) (stage.Found state) → (length state.frames < state.levels) × (state.ended ≡ false)
 found_enters levels facts state m = may_enter (base_by m.staged.href m.address) levels m.list facts state m.staged.led m.may
 
@@ -44,9 +47,6 @@ seeks_on origin turn more old new g = record {
 
 pub text_leads : (chars : Chars) (old new : State) → new ≡ read_text chars old → Leads (singles chars) old new
 text_leads chars old new e = subst (λ l. Leads l old new) (append-nil (singles chars)) (leads_singles chars [] old new e)
-
-pub one_leads : (call : Call) (old new : State) → Steps call old new → Leads (call ∷ []) old new
-one_leads call old new s = (new, s, refl)
 
 -- one call
 

@@ -1,16 +1,13 @@
 -- The text that is kept is that of the outermost element that gathers.
-use Rattle.rx_walk.proofs.Common.{by_test, length-map, ◌≡◌, ◌∙◌, ℕ, zero, suc, ◌+◌, ◌-◌, ◌≤◌, Bool, true, false, List, [], ◌∷◌, ◌++◌, map, length, take, refl, sym, ap, subst, arith, length-append, is_some, if◌then◌else◌, Chars, Context, Tag, gathers_some, begun_state, State, Frame, Sign, begun, said, finished, line_on, call_of, calls_of, sought, Steps, Leads}
+use Rattle.std.proofs.lemmas.List.{length-take-le}
+use Rattle.rx_walk.proofs.Common.{by_test, length-map, ◌≡◌, ◌∙◌, ℕ, suc, ◌+◌, ◌-◌, List, [], ◌∷◌, ◌++◌, map, length, take, refl, sym, ap, subst, arith, length-append, is_some, if◌then◌else◌, Chars, Context, Tag, gathers_some, begun_state, State, Frame, Sign, begun, said, finished, line_on, call_of, calls_of, sought, Steps, Leads}
 use Rattle.rx_walk.specs.KeptTexts.{texts_on, texts_of, gathered_text, KeepsOneText}
 use Rattle.rx_walk.proofs.Wholes.{known_at}
 
 -- the lists of frames and of texts, as elements begin, speak and end
 
-none_either : (b : Bool) → ◌≡◌ {A = Chars} (if b then [] else []) []
-none_either true = refl
-none_either false = refl
-
 with_one : (frames : List Frame) (texts : List Chars) (frame : Frame) → length frames ≡ length texts → gathered_text (frames ++ frame ∷ []) (texts ++ [] ∷ []) ≡ gathered_text frames texts
-with_one [] [] frame e = none_either (is_some frame.text)
+with_one [] [] frame e = by_test (is_some frame.text) (λ t. rw t refl) (λ f. rw f refl)
 with_one [] (t ∷ texts) frame e = absurd (omega (arith, e))
 with_one (f ∷ frames) [] frame e = absurd (omega (arith, e))
 with_one (f ∷ frames) (t ∷ texts) frame e = ap (λ x. if is_some f.text then t else x) (with_one frames texts frame (omega (arith, e)))
@@ -32,11 +29,6 @@ with_less (f ∷ frames) (t ∷ texts) frame e =
     let here : (if gathers_some (f ∷ frames) then gathered_text (f ∷ frames ++ frame ∷ []) (t ∷ texts) else []) ≡ gathered_text (f ∷ frames) (t ∷ take (length texts - 1) texts) =
     by_test (is_some f.text) (λ s. rw s refl) (λ n. rw n (with_less frames texts frame (omega (arith, e)))) in
     here ∙ ap (gathered_text (f ∷ frames)) (sym (all_but t texts (length frames) (omega (arith, e))))
-
-fewer : (n : ℕ) (texts : List Chars) → n ≤ length texts → length (take n texts) ≡ n
-fewer zero texts l = refl
-fewer (suc n) [] l = absurd (omega (arith, l))
-fewer (suc n) (t ∷ texts) l = ap suc (fewer n texts (omega (arith, l)))
 
 -- as many texts as frames, and that one is kept
 record Kept (state : State) (texts : List Chars) : Type 0 where
@@ -61,7 +53,7 @@ one_kept context line texts (said c) old new s k =
     }
 one_kept context line texts finished old new c k =
     let size : length old.frames ≡ length new.frames + 1 = ap length c.popped ∙ length-append new.frames (c.frame ∷ []) in
-    let less : length (take (length texts - 1) texts) ≡ length texts - 1 = fewer (length texts - 1) texts (omega arith) in
+    let less : length (take (length texts - 1) texts) ≡ length texts - 1 = length-take-le (length texts - 1) texts (omega arith) in
     record {
       many = omega (arith, size, less, k.many);
       kept =

@@ -5,9 +5,8 @@ use Rattle.rx_walk.specs.declared.courses.RdfaListener.{RdfaListener}
 use Rattle.rx_walk.specs.declared.stages.PendingBase.{PendingBase}
 use Rattle.rx_walk.specs.declared.stages.Stage.{Stage}
 use Rattle.rx_base.specs.declared.seeking.Sought.{Sought}
-use Rattle.rx_walk.proofs.Making.{list_made}
+use Rattle.rx_walk.proofs.Making.{list_made, all_rest}
 use Rattle.rx_base.proofs.Found.{base_found}
-use Rattle.rx_walk.proofs.Idling.{all_unspent}
 use Rattle.rx_walk.proofs.Moving.{led_at, is_ended}
 use Rattle.rx_walk.proofs.OpenLines.{open_is}
 use Rattle.rx_walk.proofs.Fronting.{may_counts, root_ended}
@@ -46,7 +45,7 @@ pub whole_unspent : (course : RdfaListener) (state : State) → course.stage ≡
 whole_unspent course state e w =
     let signs : List Sign = signs_of (element w.root w.inside end) in
     let k = known_at w.address w.levels (sought signs) (calls_of w.context [] signs) course.stage state w.runs.staged (ap state_of e) in
-    all_unspent (calls_of w.context [] signs) (begun_state (base_by k.href w.address) w.levels) state k.led.leads
+    (all_rest (calls_of w.context [] signs) (begun_state (base_by k.href w.address) w.levels) state k.led.leads).1
 
 pub whole_lists : (context : Context) (address : Chars) (levels : ℕ) (course : RdfaListener) (root : StartTag) (inside : Tree) (state : State) (list : List CodeTriple)
     → Runs context address levels course (signs_of (element root inside end)) → course.stage ≡ stage.Found state → triples_seen list ≡ state.out → Lists context address levels (element root inside end) list

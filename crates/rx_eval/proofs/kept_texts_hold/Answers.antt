@@ -1,4 +1,4 @@
-use Rattle.rx_eval.proofs.KeptRows.{rows}
+use Rattle.rx_eval.proofs.KeptLemmas.{rows}
 use Rattle.rx_eval.proofs.kept_texts_hold.Goals as goal
 
 pub returns : goal.returns

@@ -1,4 +1,4 @@
-use Rattle.rx_eval.proofs.FrameLemmas.{around_last}
+use Rattle.rx_eval.proofs.OpenLemmas.{around_last}
 use Rattle.rx_eval.proofs.opening.around.Goals as goal
 
 pub returns-in-len1-up : goal.returns-in-len1-up

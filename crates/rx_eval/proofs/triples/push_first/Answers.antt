@@ -1,4 +1,5 @@
-use Rattle.rx_eval.proofs.TripleLemmas.{one_came, map_at}
+use Rattle.rx_eval.proofs.GrowLemmas.{one_came}
+use Rattle.rx_eval.proofs.TripleLemmas.{map_at}
 use Rattle.rx_eval.proofs.triples.push_first.Goals as goal
 
 pub loop-i-preserved : goal.loop-i-preserved

@@ -1,5 +1,4 @@
-use Rattle.rx_walk.proofs.Common.{◌≡◌, ◌∷◌, List, false, sym, subst, facts, is_relative, Tag, facts_seen, Kept, NamesStand, vocabulary_of}
-use Rattle.rx_eval.proofs.SeenLemmas.{if_ok}
+use Rattle.rx_walk.proofs.Common.{◌≡◌, ◌∷◌, on_ok_weaker, List, false, sym, subst, facts, is_relative, Tag, facts_seen, Kept, NamesStand, vocabulary_of}
 use Rattle.rx_walk.proofs.courses.read_facts.Goals as goal
 
 pub read-requires-clause-vocabulary : goal.read-requires-clause-vocabulary
@@ -8,5 +7,5 @@ read-requires-clause-vocabulary c = subst (λ (k : Kept). is_relative (vocabular
 pub returns : goal.returns
 returns c =
     let tag = c.args.attributes.now in
-    if_ok c.read.result (λ g (above : List Tag) stands. subst (λ (k : Kept). facts_seen c.read.new.self ≡ facts k.context above tag) c.view.ensures.same
+    on_ok_weaker c.read.result (λ g (above : List Tag) stands. subst (λ (k : Kept). facts_seen c.read.new.self ≡ facts k.context above tag) c.view.ensures.same
     (g (tag ∷ above) (subst (λ (k : Kept). NamesStand k (tag ∷ above)) (sym c.view.ensures.same) stands))) c.read.ensures.ok

@@ -1,6 +1,6 @@
 use Rattle.rx_eval.proofs.Common.{◌≡◌, ◌∙◌, ◌<◌, arith, List, length, ◌++◌, refl, sym, ap, Bool, length-map, triples_seen, facts_seen, owners_seen, level_at, start_at, below_at, lists_at, gathers_at, own_at, below_own_at, context_seen, frame_seen, all_frames, first_of}
 use Rattle.rx_eval.specs.declared.frames.Frame.{Frame as CodeFrame}
-use Rattle.rx_eval.proofs.SkippedLemmas.{framed_more}
+use Rattle.rx_eval.proofs.SkippedLemmas.{counted_all}
 use Rattle.rx_eval.proofs.KeepLemmas.{sound_more}
 use Rattle.rx_eval.proofs.OpenLemmas.{around_is, text_is, opened_text, fresh_room}
 use Rattle.rx_eval.proofs.stack.Stack.open_framed.Goals as goal
@@ -30,7 +30,7 @@ returns c =
       drawing = c.in_ok-fresh.ensures.ok.path;
       pushed =
           ap (λ (l : List CodeFrame). all_frames (context_seen c.self.inside.page) l 0) c.in_ok-push.ensures.items
-          ∙ framed_more (context_seen c.self.inside.page) c.self.inside.frames.items _;
+          ∙ counted_all (context_seen c.self.inside.page) c.self.inside.frames.items _ 0;
       context = c.in_ok-frame.ensures.context ∙ (λ i. below_at labels fresh base (level i) (around i) facts (owners i));
       start = c.in_ok-frame.ensures.start ∙ (λ i. triples_seen c.self.inside.out ++ start_at labels fresh base (level i) (around i) facts);
       lists = c.in_ok-frame.ensures.lists ∙ (λ i. lists_at labels fresh base (level i) (around i) facts (owners_seen c.self.inside.lists));

@@ -4,7 +4,7 @@ use Rattle.rx_eval.specs.declared.frames.Frame.{Frame as CodeFrame}
 use Rattle.rx_eval.specs.declared.frames.Gathered.{Gathered}
 use Rattle.rx_eval.proofs.KeepLemmas.{sound_framed}
 use Rattle.rx_eval.proofs.OpenLemmas.{around_is}
-use Rattle.rx_eval.proofs.SkippedLemmas.{framed_with}
+use Rattle.rx_eval.proofs.SkippedLemmas.{counted_all}
 use Rattle.rx_eval.proofs.stack.Stack.open_referring.Goals as goal
 
 pub invariant_of-self-2 : goal.invariant_of-self-2
@@ -29,6 +29,6 @@ returns c =
     rw (← c.self.view_is)
     (ap₂ (λ (fs : List Frame) (os : List (Option Owning)). record (the_view c.self.inside) { frames = fs; owners = os })
     (ap (λ (l : List CodeFrame). all_frames page l c.args.inside) c.in_ok-push.ensures.items
-    ∙ framed_with page items c.in_ok-frame.frame c.args.inside seen frame
+    ∙ counted_all page items c.in_ok-frame.frame c.args.inside ∙ ap (λ (x : Frame). all_frames page items c.in_ok-frame.frame.skipped ++ x ∷ skipped_frames x.context c.args.inside) frame
     ∙ ap (λ (n : ℕ). all_frames page items n ++ seen ∷ skipped_frames seen.context c.args.inside) c.in_ok-frame.ensures.skipped.0)
     (c.in_ok-frame.ensures.lists ∙ ap (λ (x : Inherited ℕ ℕ). begun_seen subject x.object owners) around))

@@ -1,5 +1,6 @@
 use Rattle.rx_walk.proofs.Common.{◌≡◌, ◌∙◌, ◌≤◌, ◌+◌, [], ◌∷◌, false, length, refl, sym, ap, subst, arith, Enter, is_relative, Tag, own_vocabulary, Kept, NamesStand, tag_of, tag_shown, begun, line_of, seek_begun, AreFacts, MayTake, Tells}
-use Rattle.rx_walk.proofs.Coursing.{from_absolute, absolute_next, absolute_kept, takes_one, runs_more, begin_refused, begin_accepted, begin_facts, count_room}
+use Rattle.rx_walk.proofs.Coursing.{accepts_of, from_absolute, absolute_next, absolute_kept, takes_one, runs_more, begin_facts, count_room}
+use Rattle.rx_walk.proofs.Accepted.{refused_next, accepted_next, accepts_more}
 use Rattle.rx_walk.proofs.courses.RdfaListener.begin.Goals as goal
 
 pub returns-in-Some : goal.returns-in-Some
@@ -7,7 +8,7 @@ returns-in-Some c context address levels signs r f =
     let line = line_of [] signs in
     let tag = tag_of c.args.tag.now in
     let stands = subst (λ (x : Tag). NamesStand c.push_of.new.self (x ∷ line)) c.of-attributes.ensures (c.in_ok-push_of.ensures.line line r.names_are) in
-    begin_refused context address levels c.args.self.now c.args.self.now signs r c.push_of.new.self (tag_shown c.args.tag.now) c.in-Some.fault (ap (λ (k : Kept). k.context) c.in_ok-push_of.ensures.ok)
+    refused_next context c.args.self.now.names signs (accepts_of r) c.push_of.new.self (tag_shown c.args.tag.now) c.in-Some.fault (ap (λ (k : Kept). k.context) c.in_ok-push_of.ensures.ok)
     (sym c.in-Some.is ∙ c.fault_of.ensures.line line stands (from_absolute tag line r.absolute))
 
 pub read_facts-requires-clause-own : goal.read_facts-requires-clause-own
@@ -46,10 +47,9 @@ returns c context address levels signs r f =
     let same = ap (λ (k : Kept). k.context) c.in_ok-push_of.ensures.ok in
     let g = begin_facts context address levels c.args.self.now c.args.self.now signs r c.push_of.new.self (tag_shown c.args.tag.now) c.read_facts.new.facts same stands
     (subst (λ (x : Tag). AreFacts c.push_of.new.self x c.read_facts.new.facts) c.of-attributes.ensures c.in_ok-read_facts.ensures) in
-    let taken = begin_accepted context address levels c.args.self.now c.args.self.now signs r c.push_of.new.self (tag_shown c.args.tag.now) same
+    let taken = accepted_next context c.args.self.now.names signs (accepts_of r) c.push_of.new.self (tag_shown c.args.tag.now) same
     (sym c.in_default.is ∙ c.fault_of.ensures.line line stands (from_absolute tag line r.absolute)) in
     let size : c.one_more-self.result ≡ length line + 1 = omega (arith, c.one_more-self.ensures, r.count_is) in
     runs_more context address levels c.args.self.now (record { origin = c.args.self.now.origin; names = c.push_of.new.self; maker = c.read_facts.new.maker; facts = c.begin.new.facts; count = c.one_more-self.result; stage = c.begin.new.self }) signs r (begun (tag_shown c.args.tag.now)) f
-    stands same refl (omega (arith, size))
-    (absolute_next tag line r.absolute (c.fault_of.ensures.own c.in_default.is)) taken
+    (accepts_more context c.args.self.now.names signs (accepts_of r) c.push_of.new.self (begun (tag_shown c.args.tag.now)) stands same (absolute_next tag line r.absolute (c.fault_of.ensures.own c.in_default.is)) taken) refl (omega (arith, size))
     (subst (λ x. Tells c.args.self.now.origin (λ s. seek_begun c.args.self.now.count s tag) (Enter x ∷ []) c.args.self.now.stage c.begin.new.self) g c.in_ok-begin.ensures)
