@@ -54,9 +54,7 @@ module _ (place past : Placed → ℕ) (scope : Placed → Option ℕ) where
       unfolding valued
       over left [] g same = refl
       over left (x ∷ xs) g same =
-          let head = one base (names_of x) (is_item x) x.facts.value (json_of_item to base left (moved x)) (json_of_item from base left x) (λ b. same x (g.0, b)) in
-          let rest = over left xs g.1 same in
-          λ i. head i ++ rest i
+          λ i. one base (names_of x) (is_item x) x.facts.value (json_of_item to base left (moved x)) (json_of_item from base left x) (λ b. same x (g.0, b)) i ++ over left xs g.1 same i
 
       pub item_alike : (left : ℕ) (root : Placed) → Item Good root → json_of_item to base left (moved root) ≡ json_of_item from base left root
       unfolding valued
@@ -67,10 +65,7 @@ module _ (place past : Placed → ℕ) (scope : Placed → Option ℕ) where
 
       items_alike : (left : ℕ) (items : List Placed) → Each (Item Good) items → map (json_of_item to base left) (map moved items) ≡ map (json_of_item from base left) items
       items_alike left [] g = refl
-      items_alike left (x ∷ items) g =
-          let head = item_alike left x g.0 in
-          let rest = items_alike left items g.1 in
-          λ i. head i ∷ rest i
+      items_alike left (x ∷ items) g = λ i. item_alike left x g.0 i ∷ items_alike left items g.1 i
 
       pub json_alike : (nested : ℕ) (items : List Placed) → Each (Item Good) items → json_by to base nested (map moved items) ≡ json_by from base nested items
       json_alike nested items g = ap (λ values. object (member (codes "items") (array (list_of values)) no_members)) (items_alike nested items g)
@@ -78,10 +73,7 @@ module _ (place past : Placed → ℕ) (scope : Placed → Option ℕ) where
     any_alike : (last : Placed) (above : Visit) → Good last → Each Good above
         → list_any (λ (e : Placed). e.place == place last) (map moved above) ≡ list_any (λ (e : Placed). e.place == last.place) above
     any_alike last [] g h = refl
-    any_alike last (x ∷ above) g h =
-        let head = m.places x last h.0 g in
-        let rest = any_alike last above g h.1 in
-        λ i. head i || rest i
+    any_alike last (x ∷ above) g h = λ i. m.places x last h.0 g i || any_alike last above g h.1 i
 
     cycle_alike : (visit : Visit) → Each Good visit → is_cycle (map moved visit) ≡ is_cycle visit
     cycle_alike [] g = refl
@@ -154,17 +146,13 @@ module _ (place past : Placed → ℕ) (scope : Placed → Option ℕ) where
 
     fault_alike : (bounds : Bounds) (before : ℕ) (visit : Visit) → Each Good visit → fault_of bounds before (map moved visit) ≡ fault_of bounds before visit
     fault_alike bounds before visit g =
-        let c = cycle_alike visit g in
-        let l = length-map visit moved in
-        λ i. cond (c i) (Some Cycle) (cond (nat_lt bounds.nested (l i)) (Some ItemsTooNested) (cond (nat_le bounds.visits before) (Some ItemsTooMany) None))
+        λ i. cond (cycle_alike visit g i) (Some Cycle) (cond (nat_lt bounds.nested (length-map visit moved i)) (Some ItemsTooNested) (cond (nat_le bounds.visits before) (Some ItemsTooMany) None))
 
     first_alike : (bounds : Bounds) (before : ℕ) (visits : List Visit) → Each (Each Good) visits
         → first_fault bounds before (map (map moved) visits) ≡ option_map moved_fault (first_fault bounds before visits)
     first_alike bounds before [] g = refl
     first_alike bounds before (visit ∷ visits) g =
-        let head = fault_alike bounds before visit g.0 in
-        let rest = first_alike bounds (suc before) visits g.1 in
-        (λ i. option_or (option_map (λ (kind : Kind). (kind, map moved visit)) (head i)) (rest i)) ∙ by (fault_of bounds before visit) (first_fault bounds (suc before) visits)
+        (λ i. option_or (option_map (λ (kind : Kind). (kind, map moved visit)) (fault_alike bounds before visit g.0 i)) (first_alike bounds (suc before) visits g.1 i)) ∙ by (fault_of bounds before visit) (first_fault bounds (suc before) visits)
       where
         by : (o : Option Kind) (more : Option (Kind × Visit))
             → option_or (option_map (λ (kind : Kind). (kind, map moved visit)) o) (option_map moved_fault more)
@@ -188,5 +176,4 @@ module _ (place past : Placed → ℕ) (scope : Placed → Option ℕ) where
     outcome_alike bounds base items g =
         let visits = flat_alike (suc bounds.nested) [] items g (λ e k. visits_alike (suc bounds.nested) [] e tt k) in
         let found = ap (first_fault bounds 0) visits.0 ∙ first_alike bounds 0 (visits_by from bounds items) visits.1 in
-        let json = json_alike base bounds.nested items g in
-        (λ i. picked (found i) (json i)) ∙ picked_alike (first_fault bounds 0 (visits_by from bounds items)) (json_by from base bounds.nested items)
+        (λ i. picked (found i) ((json_alike base bounds.nested items g) i)) ∙ picked_alike (first_fault bounds 0 (visits_by from bounds items)) (json_by from base bounds.nested items)

@@ -7,6 +7,7 @@ use Rattle.rx_items.specs.Built.{Builds}
 use Rattle.rx_items.specs.declared.kept.BesideRow.{BesideRow}
 use Rattle.rx_items.specs.declared.kept.Run.{Run}
 use Rattle.rx_items.proofs.NestLemmas.{numbered}
+use Rattle.rx_model.proofs.Common.{⊎_elim}
 use Rattle.rx_items.proofs.PropertyLemmas.{properties_are}
 use Rattle.rx_items.proofs.ReachLemmas.{reach_alone}
 use Rattle.rx_items.proofs.TakeLemmas.{same_there}
@@ -15,11 +16,7 @@ at_end : (xs : List BesideRow) (x d : BesideRow) (i : ℕ) → slice_get (xs ++ 
 at_end [] x d zero g = inr (refl, cc (g))
 at_end [] x d (suc i) g = absurd (cc (g))
 at_end (y ∷ xs) x d zero g = inl g
-at_end (y ∷ xs) x d (suc i) g = by (at_end xs x d i g)
-  where
-    by : slice_get xs i ≡ Some d ⊎ ((i ≡ length xs) × (x ≡ d)) → slice_get xs i ≡ Some d ⊎ ((suc i ≡ length (y ∷ xs)) × (x ≡ d))
-    by (inl h) = inl h
-    by (inr h) = inr (ap suc h.0, h.1)
+at_end (y ∷ xs) x d (suc i) g = ⊎_elim (λ h. inl h) (λ h. inr (ap suc h.0, h.1)) (at_end xs x d i g)
 
 pub fit_turn : (words : Chars) (ps : List Placed) (members : List ℕ) (rows : List Row) (i : ℕ) (old new : List BesideRow) (x : BesideRow) → AllFit words ps members rows i old
     → Builds words ps members rows i x → new ≡ old ++ x ∷ [] → AllFit words ps members rows (i + 1) new
@@ -27,13 +24,12 @@ fit_turn words ps members rows i old new x a b pushed =
     subst (AllFit words ps members rows (i + 1)) (sym pushed) (record { size = length-append old (x ∷ []) ∙ ap (λ n. n + 1) a.size; fit = fit })
   where
     fit : (j : ℕ) (row : Row) (p : Placed) (d : BesideRow) → slice_get rows j ≡ Some row → slice_get ps j ≡ Some p → slice_get (old ++ x ∷ []) j ≡ Some d → Fits words ps members j row p d
-    fit j row p d g h f = by (at_end old x d j f)
-      where
-        by : slice_get old j ≡ Some d ⊎ ((j ≡ length old) × (x ≡ d)) → Fits words ps members j row p d
-        by (inl k) = a.fit j row p d g h k
-        by (inr k) =
-            let at : j ≡ i = k.0 ∙ a.size in
-            subst (λ (y : BesideRow). Fits words ps members j row p y) k.1 (subst (λ n. Fits words ps members n row p x) (sym at) (b row p (ap (slice_get rows) (sym at) ∙ g) (ap (slice_get ps) (sym at) ∙ h)))
+    fit j row p d g h f =
+        ⊎_elim (λ k. a.fit j row p d g h k)
+        (λ k.
+        let at : j ≡ i = k.0 ∙ a.size in
+        subst (λ (y : BesideRow). Fits words ps members j row p y) k.1 (subst (λ n. Fits words ps members n row p x) (sym at) (b row p (ap (slice_get rows) (sym at) ∙ g) (ap (slice_get ps) (sym at) ∙ h))))
+        (at_end old x d j f)
 
 pub fit_end : (words : Chars) (ps : List Placed) (members : List ℕ) (rows : List Row) (i n : ℕ) (xs : List BesideRow) → i ≤ n → n ≤ i → AllFit words ps members rows i xs → AllFit words ps members rows n xs
 fit_end words ps members rows i n xs le ge a = let same : i ≡ n = omega (arith, le, ge) in subst (λ m. AllFit words ps members rows m xs) same a

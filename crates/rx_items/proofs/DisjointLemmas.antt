@@ -1,6 +1,7 @@
 -- Runs in order of their begins, of each what is behind those before it: the same members, each in one run.
 use Rattle.rx_items.proofs.Common.{◌≡◌, ◌<◌, ◌≤◌, ℕ, Bool, true, false, cond, List, [], ◌∷◌, ◌++◌, length, get_or, max, nat_le, Contains, ◌↔◌, Some, refl, sym, subst, arith, slice_get, ◌⊎◌, inl, inr, IsNonDecreasingBy, IsPermutation, Contains-permutation, IsPermutation-sym, IsNonDecreasingBy-drop, Contains-append_left, Contains-append_right, Contains-append_cases, cases_lt, leb-true, leb-false, first, later, first_or_later, none, in_runs, part}
 use Rattle.rx_model.proofs.Common.{⊎_elim}
+use Rattle.rx_terms.proofs.Bools.{split}
 use Rattle.rx_items.specs.Disjoint.{Apart, rest_of, end_of, unshared}
 use Rattle.rx_items.specs.declared.kept.Run.{Run}
 use Rattle.rx_items.proofs.MemberLemmas.{in_part, of_part}
@@ -23,10 +24,7 @@ further : (run : Run) (runs : List Run) (p : ℕ) → Covered runs p → Covered
 further run runs p c = (c.0, later run c.0 runs c.1, c.2)
 
 covered_cases : (run : Run) (runs : List Run) (p : ℕ) → Covered (run ∷ runs) p → Within run p ⊎ Covered runs p
-covered_cases run runs p c = elim (first_or_later run c.0 runs c.1) as (λ _. Within run p ⊎ Covered runs p) [
-  | inl e ↦ inl (subst (λ (r : Run). Within r p) (sym e) c.2)
-  | inr d ↦ inr (c.0, d, c.2)
-]
+covered_cases run runs p c = ⊎_elim (λ e. inl (subst (λ (r : Run). Within r p) (sym e) c.2)) (λ d. inr (c.0, d, c.2)) (first_or_later run c.0 runs c.1)
 
 stands_in : (members : List ℕ) (runs : List Run) (x : ℕ) → Contains (in_runs members runs) x → IsRunOf members runs x
 stands_in members [] x c = none x c
@@ -46,14 +44,9 @@ reordered xs ys p moved c = (c.0, Contains-permutation xs ys c.0 moved c.1, c.2)
 -- ---- what is behind the runs before
 
 rest_covers : (end : ℕ) (run : Run) (p : ℕ) → Covered (rest_of end run) p → Within run p
-rest_covers end run p c = by (nat_le run.to (max run.from end)) c
-  where
-    by : (b : Bool) → Covered (cond b [] (record { from = max run.from end; to = run.to } ∷ [])) p → Within run p
-    by true c = none c.0 c.1
-    by false c = elim (covered_cases (record { from = max run.from end; to = run.to }) [] p c) as (λ _. Within run p) [
-      | inl w ↦ (omega (arith, w.0), w.1)
-      | inr d ↦ none d.0 d.1
-    ]
+rest_covers end run p c =
+    split (λ (runs : List Run). Covered runs p → Within run p) (nat_le run.to (max run.from end)) [] (record { from = max run.from end; to = run.to } ∷ []) (λ t d. none d.0 d.1)
+    (λ t d. ⊎_elim (λ w. (omega (arith, w.0), w.1)) (λ e. none e.0 e.1) (covered_cases (record { from = max run.from end; to = run.to }) [] p d)) c
 
 covers_no_more : (end : ℕ) (runs : List Run) (p : ℕ) → Covered (unshared end runs) p → Covered runs p
 covers_no_more end [] p c = c
@@ -78,23 +71,17 @@ abbrev Before : ℕ → ℕ → ℕ → Type 0
 Before low end p = (low ≤ p) × (p < end)
 
 here : (low end : ℕ) (run : Run) (p : ℕ) → low ≤ run.from → Within run p → Covered (rest_of end run) p ⊎ Before low end p
-here low end run p rises w = by (cases_lt p end)
-  where
-    by : (p < end) ⊎ (end ≤ p) → Covered (rest_of end run) p ⊎ Before low end p
-    by (inl lt) = let begins = w.0 in inr (omega (arith, rises, begins), lt)
-    by (inr le) = inl (behind (nat_le run.to (max run.from end)) refl)
-      where
-        behind : (b : Bool) → nat_le run.to (max run.from end) ≡ b → Covered (cond b [] (record { from = max run.from end; to = run.to } ∷ [])) p
-        behind true e = let over = leb-true run.to (max run.from end) e in let begins = w.0 in let ends = w.1 in absurd (omega (arith, over, begins, ends, le))
-        behind false e = let rest : Run = record { from = max run.from end; to = run.to } in (rest, first rest [], (omega (arith, w.0, le), w.1))
+here low end run p rises w =
+    let rest : Run = record { from = max run.from end; to = run.to } in
+    ⊎_elim (λ lt. inr (omega (arith, rises, w.0), lt))
+    (λ le. inl (split (λ (runs : List Run). Covered runs p) (nat_le run.to (max run.from end)) [] (rest ∷ []) (λ e. absurd (omega (arith, leb-true run.to (max run.from end) e, w.0, w.1, le)))
+    (λ e. (rest, first rest [], (omega (arith, w.0, le), w.1))))) (cases_lt p end)
 
 -- a place before the end of a run, or of those before it
 before_it : (low end : ℕ) (run : Run) (p : ℕ) → low ≤ run.from → Before run.from (end_of end run) p → Covered (rest_of end run) p ⊎ Before low end p
-before_it low end run p rises before = by (nat_le run.to (max run.from end)) before
-  where
-    by : (b : Bool) → Before run.from (cond b end run.to) p → Covered (rest_of end run) p ⊎ Before low end p
-    by true d = let from = d.0 in inr (omega (arith, rises, from), d.1)
-    by false d = here low end run p rises d
+before_it low end run p rises before =
+    split (λ (last : ℕ). Before run.from last p → Covered (rest_of end run) p ⊎ Before low end p) (nat_le run.to (max run.from end)) end run.to (λ t d. inr (omega (arith, rises, d.0), d.1))
+    (λ t d. here low end run p rises d) before
 
 covers_all : (low end : ℕ) (runs : List Run) (p : ℕ) → RisesFrom low runs → Covered runs p → Covered (unshared end runs) p ⊎ Before low end p
 covers_all low end [] p rises c = none c.0 c.1

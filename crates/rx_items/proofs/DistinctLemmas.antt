@@ -1,13 +1,9 @@
 -- The tokens of a text, each once, with a set of those that were seen.
-use Rattle.rx_items.proofs.Common.{◌≡◌, ◌∙◌, refl, sym, ap, ℕ, Bool, true, false, cond, List, [], ◌∷◌, ◌++◌, append_assoc, not, ◌||◌, chars, IsUtf8, Chars, same-chars, nat_list_eq_equiv, same, is_among, without_repeats_of}
+use Rattle.rx_items.proofs.Common.{◌≡◌, ◌∙◌, sym, ap, ℕ, Bool, false, cond, List, [], ◌∷◌, ◌++◌, append_assoc, ◌||◌, chars, IsUtf8, Chars, same-chars, nat_list_eq_equiv, same, is_among, without_repeats_of}
 
 -- the set has the texts of a list
 pub record Sees (has : List ℕ → Bool) (seen : List Chars) : Type 0 where
   pub at : (text : List ℕ) → IsUtf8 text → has text ≡ is_among seen (chars text)
-
-pub unseen : (fresh old : Bool) → fresh ≡ not old → fresh ≡ true → old ≡ false
-unseen fresh true e f = sym (sym e ∙ f)
-unseen fresh false e f = refl
 
 pub new_turn : (list whole : List Chars) (seen words more : List Chars) (token : Chars) → list ++ without_repeats_of seen words ≡ whole → words ≡ token ∷ more
     → is_among seen token ≡ false → (list ++ token ∷ []) ++ without_repeats_of (token ∷ seen) more ≡ whole
@@ -19,7 +15,5 @@ pub sees_new : (old new : List ℕ → Bool) (seen : List Chars) (token : List �
     → ((text : List ℕ) → new text ≡ (same token text || old text)) → Sees new (chars token ∷ seen)
 sees_new old new seen token u s added = record {
   at = λ text v.
-      let here = same-chars token text u v ∙ nat_list_eq_equiv.symm (chars token) (chars text) in
-      let rest = s.at text v in
-      added text ∙ (λ i. here i || rest i);
+      added text ∙ (λ i. (same-chars token text u v ∙ nat_list_eq_equiv.symm (chars token) (chars text)) i || s.at text v i);
 }

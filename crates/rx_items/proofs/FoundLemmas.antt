@@ -1,32 +1,18 @@
 -- What the visits of a page come to, step by step.
-use Rattle.rx_items.proofs.Common.{◌≡◌, ◌∙◌, ◌+◌, ℕ, suc, Bool, true, false, cond, List, [], ◌∷◌, ◌++◌, map, filter, length, Option, Some, None, option_map, refl, sym, ap, subst, arith, nat_lt, ◌==◌, ◌||◌, nat_le, flat_map, list_any, option_or, Chars, length-append, ◌<◌, ◌≤◌, take, drop, get_or, take_all, Fault, Stop, HasFault, Kind, Cycle, ItemsTooNested, ItemsTooMany, Placed, is_item, names_of, Visit, Bounds, visits_from, standard_bounds, fault_of, first_fault, items_in, properties_in, path_of, kind_of, NoFault, FaultIs, Step, with_name, steps_of, steps_in, visits_of, visits_in, flat_map-append}
+use Rattle.rx_items.proofs.Common.{◌≡◌, ◌∙◌, ◌+◌, ℕ, suc, Bool, true, false, cond, List, [], ◌∷◌, ◌++◌, map, filter, length, Some, None, refl, sym, ap, subst, arith, nat_lt, ◌==◌, ◌||◌, nat_le, flat_map, list_any, option_or, Chars, length-append, ◌<◌, ◌≤◌, take, drop, get_or, take_all, Fault, Stop, HasFault, Cycle, ItemsTooNested, ItemsTooMany, Placed, is_item, names_of, Visit, visits_from, standard_bounds, fault_of, first_fault, items_in, properties_in, path_of, kind_of, NoFault, FaultIs, Step, with_name, steps_of, steps_in, visits_of, visits_in, flat_map-append}
 use Rattle.rx_grammar.specs.declared.stops.Stop.TheVariants as stop
 use Rattle.rx_items.proofs.TakeLemmas.{flat_cut, flat_more}
+use Rattle.rx_microdata.proofs.FirstFaults.{in_row}
+use Rattle.std.proofs.lemmas.List.Folds.{list_any-append}
 
 -- ---- faults in a row
 
-or_assoc : {X : Type 0} (a b c : Option X) → option_or a (option_or b c) ≡ option_or (option_or a b) c
-or_assoc None b c = refl
-or_assoc (Some x) b c = refl
-
-plus_suc : (n m : ℕ) → suc n + m ≡ n + suc m
-plus_suc n m = omega arith
-
-in_row : (bounds : Bounds) (before : ℕ) (xs ys : List Visit) → first_fault bounds before (xs ++ ys) ≡ option_or (first_fault bounds before xs) (first_fault bounds (before + length xs) ys)
-in_row bounds before [] ys = let plain : before + 0 ≡ before = omega arith in ap (λ n. first_fault bounds n ys) (sym plain)
-in_row bounds before (x ∷ xs) ys =
-    ap (option_or (option_map (λ (kind : Kind). (kind, x)) (fault_of bounds before x))) (in_row bounds (suc before) xs ys ∙ ap (λ n. option_or (first_fault bounds (suc before) xs) (first_fault bounds n ys)) (plus_suc before (length xs)))
-    ∙ or_assoc (option_map (λ (kind : Kind). (kind, x)) (fault_of bounds before x)) (first_fault bounds (suc before) xs) (first_fault bounds (before + length (x ∷ xs)) ys)
-
 pub none_then : (start middle after : ℕ) (xs ys : List Visit) → NoFault start xs middle → NoFault middle ys after → NoFault start (xs ++ ys) after
 none_then start middle after xs ys p q =
-    let size = length-append xs ys in
-    let c = p.counted in
-    let d = q.counted in
     record {
       none = in_row standard_bounds start xs ys ∙ ap (λ o. option_or o (first_fault standard_bounds (start + length xs) ys)) p.none
           ∙ ap (λ n. first_fault standard_bounds n ys) (sym p.counted) ∙ q.none;
-      counted = omega (arith, size, c, d);
+      counted = omega (arith, length-append xs ys, p.counted, q.counted);
     }
 
 pub then_fault : (start middle : ℕ) (xs ys : List Visit) (fault : Fault) → NoFault start xs middle → FaultIs middle ys fault → FaultIs start (xs ++ ys) fault
@@ -67,18 +53,14 @@ module _ (f : Placed → List Visit) (xs : List Placed) (i : ℕ) where
 
 -- ---- the path
 
-any_more : (f : ℕ → Bool) (xs : List ℕ) (x : ℕ) → list_any f (xs ++ x ∷ []) ≡ (f x || list_any f xs)
-any_more f [] x = refl
-any_more f (y ∷ xs) x = ap (λ b. f y || b) (any_more f xs x) ∙ swap (f y) (f x) (list_any f xs)
-  where
-    swap : (a b c : Bool) → (a || (b || c)) ≡ (b || (a || c))
-    swap true true c = refl
-    swap true false c = refl
-    swap false b c = refl
-
 any_path : (place : ℕ) (above : Visit) → list_any (λ (x : ℕ). x == place) (path_of above) ≡ list_any (λ (e : Placed). e.place == place) above
 any_path place [] = refl
-any_path place (e ∷ above) = any_more (λ (x : ℕ). x == place) (path_of above) e.place ∙ ap (λ b. e.place == place || b) (any_path place above)
+any_path place (e ∷ above) =
+    list_any-append (λ (x : ℕ). x == place) (path_of above) (e.place ∷ []) ∙ (ap (λ b. b || (e.place == place || false)) (any_path place above) ∙ swap (list_any (λ (x : Placed). x.place == place) above) (e.place == place))
+  where
+    swap : (a b : Bool) → (a || (b || false)) ≡ (b || a)
+    swap true true = refl
+    swap _ _ = refl
 
 pub path_size : (above : Visit) → length (path_of above) ≡ length above
 path_size [] = refl
@@ -89,9 +71,7 @@ below_next n = grind arith
 
 pub fault_is : (before : ℕ) (above : Visit) (root : Placed) → fault_of standard_bounds before (root ∷ above) ≡ kind_of (path_of above) before root.place
 fault_is before above root =
-    let cycle = sym (any_path root.place above) in
-    let deep = below_next (length above) ∙ ap (nat_le 40) (sym (path_size above)) in
-    λ i. cond (cycle i) (Some Cycle) (cond (deep i) (Some ItemsTooNested) (cond (nat_le 100000 before) (Some ItemsTooMany) None))
+    λ i. cond ((sym (any_path root.place above)) i) (Some Cycle) (cond ((below_next (length above) ∙ ap (nat_le 40) (sym (path_size above))) i) (Some ItemsTooNested) (cond (nat_le 100000 before) (Some ItemsTooMany) None))
 
 -- ---- steps
 

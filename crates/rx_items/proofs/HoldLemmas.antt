@@ -10,6 +10,7 @@ use Rattle.rx_items.specs.declared.kept.Run.{Run}
 use Rattle.rx_items.specs.declared.kept.Tokens.{Tokens}
 use Rattle.rx_items.proofs.RisingLemmas.{Rises, same_rising, less_of}
 use Rattle.rx_items.proofs.ShowLemmas.{shows_length, shown_by}
+use Rattle.rx_items.proofs.TakeLemmas.{same_there}
 
 -- behind all rows there is no element
 pub behind_rows : (kept : Kept) (rows : List Placed) (base : Chars) (i : ℕ) → HoldsRows kept rows base → length kept.rows.items ≤ i → slice_get rows i ≡ None
@@ -55,9 +56,7 @@ names_there kept rows base i row x names h lt row_is x_is shows =
 -- an element is that of the row at its place
 pub is_element : (kept : Kept) (rows : List Placed) (place : ℕ) (e : Element) (p : Placed) → slice_get rows place ≡ Some p → AtPlace kept rows place (Some e) → IsElement kept rows place e p
 is_element kept rows place e p row at =
-    let found : Some at.0 ≡ Some p = sym at.1 ∙ row in
-    let same : at.0 ≡ p = cc (found) in
-    subst (λ (q : Placed). IsElement kept rows place e q) same at.2
+    subst (λ (q : Placed). IsElement kept rows place e q) (same_there rows place at.0 p at.1 row) at.2
 
 numbered_from : (k : ℕ) (ps : List Placed) (i : ℕ) (p : Placed) → Numbered k ps → slice_get ps i ≡ Some p → p.place ≡ k + i
 numbered_from k [] i p n g = absurd (cc (g))
@@ -95,10 +94,10 @@ places_rise f k (p ∷ ps) n =
     by_test (f p) (λ t. rw t (above f (suc k) p.place ps (omega (arith, n.0)) n.1, rest)) (λ t. rw t rest)
 
 -- what an item's runs give are the places of its properties
-pub list_is : (kept : Kept) (rows : List Placed) (base : Chars) (root : Placed) (e : Element) (place : ℕ) (list : List ℕ) → HoldsRows kept rows base
-    → IsElement kept rows place e root → is_item root ≡ true → Rises list
-    → ((x : ℕ) → Contains list x ↔ Contains (gathered kept.members.items (e.own ∷ e.others.now) place) x) → list ≡ places (properties_in rows root)
-list_is kept rows base root e place list h element item rise same =
-    let back = element.reached item in
+pub list_is : (kept : Kept) (rows : List Placed) (base : Chars) (root : Placed) (e : Element) (place : ℕ) (list members : List ℕ) → HoldsRows kept rows base
+    → IsElement kept rows place e root → is_item root ≡ true → Rises list → members ≡ kept.members.items
+    → ((x : ℕ) → Contains list x ↔ Contains (gathered members (e.own ∷ e.others.now) place) x) → list ≡ places (properties_in rows root)
+list_is kept rows base root e place list members h element item rise is same =
+    let back = subst (λ (ms : List ℕ). (x : ℕ) → Contains (gathered ms (e.own ∷ e.others.now) place) x ↔ Contains (places (properties_in rows root)) x) (sym is) (element.reached item) in
     same_rising list (places (properties_in rows root)) rise (places_rise _ 0 rows h.numbered)
     (λ x c. (back x).0 ((same x).0 c)) (λ x c. (same x).1 ((back x).1 c))

@@ -5,7 +5,8 @@ use Rattle.rx_items.specs.declared.spans.Span.{Span}
 use Rattle.rx_items.specs.declared.rows.Row.{Row}
 use Rattle.std.specs.Map.{lookup}
 use Rattle.rx_items.proofs.HoldLemmas.{place_is}
-use Rattle.rx_items.proofs.ShowLemmas.{shown_by}
+use Rattle.rx_items.proofs.ShowLemmas.{shown_by, shows_length}
+use Rattle.std.proofs.Common.{drop_of_length-le}
 
 pub put_under : (id text : List ℕ) (new old : Option ℕ) → cond (is_eq (slice_cmp nat_cmp id text)) new old ≡ cond (same id text) new old
 put_under id text new old = ap (λ b. cond b new old) (is_eq-slice_cmp id text)
@@ -17,8 +18,7 @@ pub noted : {E : Type 0} (r : Result (Unit {0}) E) (words : Chars) (span : Span)
 noted r words span id place new old None utf8 told shown f = absurd shown
 noted (Err e) words span id place new old (Some part) utf8 told shown f = f
 noted (Ok x) words span id place new old (Some part) utf8 told shown f = λ text v.
-    let part_is = told shown.front part shown.rest shown.is_run in
-    let alike = same-chars id text utf8 v ∙ ap (λ (c : Chars). same c (chars text)) part_is ∙ nat_list_eq_equiv.symm part (chars text) in
+    let alike = same-chars id text utf8 v ∙ ap (λ (c : Chars). same c (chars text)) (told shown.front part shown.rest shown.is_run) ∙ nat_list_eq_equiv.symm part (chars text) in
     f text ∙ ap (λ b. cond b (Some place) (old text)) alike
 
 pub row_shown : (words gathered : Chars) (times : List Chars) (rows : List Row) (ps : List Placed) (i : ℕ) (d : Row) → ShowsRows words gathered times rows ps → i < length rows
@@ -27,8 +27,7 @@ row_shown words gathered times rows ps i d s lt = shown_by words gathered times 
 
 drop_there : (ps : List Placed) (i : ℕ) (p : Placed) → slice_get ps i ≡ Some p → drop i ps ≡ p ∷ drop (i + 1) ps
 drop_there ps i p g =
-    let here = get_or_from_slice_get ps i p p g in
-    drop-cons ps i p (slice_get_within ps i p g) ∙ (λ j. here j ∷ drop (sym (add-one i) j) ps)
+    drop-cons ps i p (slice_get_within ps i p g) ∙ (λ j. (get_or_from_slice_get ps i p p g) j ∷ drop (sym (add-one i) j) ps)
 
 -- one row more at the front
 pub id_turn : (ps : List Placed) (i j : ℕ) (p : Placed) (text : Chars) (new old : Option ℕ) → Numbered 0 ps → slice_get ps i ≡ Some p → j ≡ i + 1
@@ -44,10 +43,7 @@ id_turn ps i j p text new old n g next was is =
     by false = refl
 
 pub no_ids : (words gathered : Chars) (times : List Chars) (rows : List Row) (ps : List Placed) → ShowsRows words gathered times rows ps → drop (length rows) ps ≡ []
-no_ids words gathered times [] [] s = refl
-no_ids words gathered times [] (p ∷ ps) s = absurd s
-no_ids words gathered times (r ∷ rows) [] s = refl
-no_ids words gathered times (r ∷ rows) (p ∷ ps) s = no_ids words gathered times rows ps s.1
+no_ids words gathered times rows ps s = drop_of_length-le ps (omega (arith, shows_length words gathered times rows ps s))
 
 pub empty_ids : (ids : BTreeMap (Bor (List ℕ)) ℕ) (text : List ℕ) → ids.entries ≡ [] → place_of ids text ≡ None
 empty_ids ids text none = ap (λ es. lookup (is_at (λ (id : Bor (List ℕ)). slice_cmp nat_cmp text id.now)) es) none

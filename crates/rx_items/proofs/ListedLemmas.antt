@@ -22,8 +22,7 @@ all_above : (place low before : ℕ) (list : List ℕ) → low ≤ before → ri
 all_above place low before [] le e = tt
 all_above place low before (m ∷ ms) le e =
     let n = next place before m ms e in
-    let above = n.above in
-    (less_of low m (omega (arith, le, above)), all_above place low m ms (omega (arith, le, above)) n.rest)
+    (less_of low m (omega (arith, le, n.above)), all_above place low m ms (omega (arith, le, n.above)) n.rest)
 
 rises_behind : (place before : ℕ) (list : List ℕ) → rise_behind place before list ≡ true → Rises list
 unfolding IsStrictlySortedBy

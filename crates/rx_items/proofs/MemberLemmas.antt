@@ -35,9 +35,8 @@ of_part xs run x p =
 
 pub same_number : (a b : Option ℕ) → scope_number a ≡ scope_number b → a ≡ b
 same_number None None e = refl
-same_number None (Some b) e = absurd (omega (arith, e))
-same_number (Some a) None e = absurd (omega (arith, e))
 same_number (Some a) (Some b) e = let same : a ≡ b = omega (arith, e) in ap Some same
+same_number _ _ e = absurd (omega (arith, e))
 
 -- rows with a name below an item, from one place to another
 pub record InRange (ps : List Placed) (scope : Option ℕ) (from to x : ℕ) : Type 0 where
@@ -66,9 +65,7 @@ module _ (words gathered : Chars) (times : List Chars) (rows : List Row) (ps : L
       let high : key_at rows x < key_of scope to =
       subst (λ y. key_at rows y < key_of scope to) here (ltb-true (key_at rows (get_or members p.at x)) (key_of scope to) (r.ends.0 p.at x (omega arith) p.high)) in
       let number : key_at rows x ≡ key_of shown.0.scope x = ap (λ (o : Option Row). key_of (scope_of o) x) named.is ∙ ap (λ (o : Option ℕ). key_of o x) shown.2.scope in
-      let short = slice_get_within ps x shown.0 shown.1 in
-      let small = s.small in
-      let parts = within_keys (scope_number shown.0.scope) (scope_number scope) from to x (omega (arith, short, small)) r.to_small
+      let parts = within_keys (scope_number shown.0.scope) (scope_number scope) from to x (omega (arith, slice_get_within ps x shown.0 shown.1, s.small)) r.to_small
       (subst (λ n. key_of scope from ≤ n) number low) (subst (λ n. n < key_of scope to) number high) r.from_small in
       record {
         row = shown.0;
@@ -96,12 +93,10 @@ module _ (words gathered : Chars) (times : List Chars) (rows : List Row) (ps : L
       low i is here (inr le) = le
       low i is here (inl lt) =
           let under : key_at rows x < key_of scope from = subst (λ y. key_at rows y < key_of scope from) here (ltb-true (key_at rows (get_or members i x)) (key_of scope from) (r.begins.0 i x (omega arith) lt)) in
-          let above = h.low in
-          absurd (omega (arith, is, under, above))
+          absurd (omega (arith, is, under, h.low))
 
       high : (i : ℕ) → key_at rows x ≡ key_of scope x → get_or members i x ≡ x → i < length members → (i < run.to) ⊎ (run.to ≤ i) → i < run.to
       high i is here short (inl lt) = lt
       high i is here short (inr le) =
           let over : key_of scope to ≤ key_at rows x = subst (λ y. key_of scope to ≤ key_at rows y) here (ltb-false (key_at rows (get_or members i x)) (key_of scope to) (r.ends.1 i x le short)) in
-          let below = h.high in
-          absurd (omega (arith, is, over, below))
+          absurd (omega (arith, is, over, h.high))

@@ -7,10 +7,8 @@ use Rattle.serde.specs.declared.name.Case.TheVariants.{AsIs}
 use Rattle.rx_items.specs.Named.{Key, keyed, key_at, keys_in, keys_if, keys_at, keys_seen, is_before, ByName, opening, value_if, value_at, grouped_at, events_behind}
 use Rattle.rx_items.specs.declared.named.Named.{Named}
 use Rattle.rx_json.proofs.PlainLemmas.{turned}
+use Rattle.std.proofs.lemmas.Map.Lookups.{exact_bytes}
 use Rattle.rx_items.proofs.ReadLemmas.{both}
-
-equal_texts : (a b : List ℕ) → slice_cmp nat_cmp a b ≡ Equal → a ≡ b
-equal_texts a b e = (bytes_eq-Decides a b).0 (sym (is_eq-slice_cmp a b) ∙ ap is_eq e)
 
 -- ---- values of different names
 
@@ -33,23 +31,22 @@ module _ (n m : List ℕ) (d e : Data) where
         → with_value n d (with_value m e rest) ≡ with_value m e (with_value n d rest) → Both
     by Less Less a b k ih = both_before (slice_cmp nat_cmp n m) a b refl k
     by Less Equal a b k ih =
-        let c : slice_cmp nat_cmp m n ≡ Greater = ap (λ x. slice_cmp nat_cmp x n) (equal_texts m f b) ∙ turned n f Less a in
+        let c : slice_cmp nat_cmp m n ≡ Greater = ap (λ x. slice_cmp nat_cmp x n) (exact_bytes m f b) ∙ turned n f Less a in
         rw (b, a, c, b) refl
     by Less Greater a b k ih =
         let c : slice_cmp nat_cmp m n ≡ Greater = turned n m Less (nat_list_cmp_total.trans n f m a (turned m f Greater b)) in
         rw (b, a, c, b) refl
     by Equal Less a b k ih =
-        let c : slice_cmp nat_cmp n m ≡ Greater = ap (λ x. slice_cmp nat_cmp x m) (equal_texts n f a) ∙ turned m f Less b in
+        let c : slice_cmp nat_cmp n m ≡ Greater = ap (λ x. slice_cmp nat_cmp x m) (exact_bytes n f a) ∙ turned m f Less b in
         rw (b, a, c, b) refl
     by Equal Equal a b k ih =
-        let c : slice_cmp nat_cmp n m ≡ Equal = ap (λ x. slice_cmp nat_cmp x m) (equal_texts n f a) ∙ turned m f Equal b in
+        let c : slice_cmp nat_cmp n m ≡ Equal = ap (λ x. slice_cmp nat_cmp x m) (exact_bytes n f a) ∙ turned m f Equal b in
         absurd (true≢false (sym (ap is_eq c) ∙ k))
-    by Equal Greater a b k ih = rw (b, a, b) refl
     by Greater Less a b k ih =
         let c : slice_cmp nat_cmp n m ≡ Greater = turned m n Less (nat_list_cmp_total.trans m f n b (turned n f Greater a)) in
         rw (b, a, c, b) refl
-    by Greater Equal a b k ih = rw (b, a, b) refl
     by Greater Greater a b k ih = rw (b, a, b) (ap (member f vs) ih)
+    by _ _ a b k ih = rw (b, a, b) refl
 
 apart : (n m : List ℕ) (d e : Data) (ms : Members) → is_eq (slice_cmp nat_cmp n m) ≡ false → with_value n d (with_value m e ms) ≡ with_value m e (with_value n d ms)
 apart n m d e no_members k = apart_at_end n m d e (slice_cmp nat_cmp n m) refl k
@@ -193,7 +190,7 @@ module _ (rows : List Placed) (base : Chars) (left : ℕ) where
       go Equal c h = record {
         values = item (value_at rows base left key.1) h.values;
         more = h.more;
-        is = ap (with_value n d) h.is ∙ rw c (ap (λ (a : List ℕ). member a (array (item d (item (value_at rows base left key.1) h.values))) h.more) (sym (equal_texts n key.0 c)));
+        is = ap (with_value n d) h.is ∙ rw c (ap (λ (a : List ℕ). member a (array (item d (item (value_at rows base left key.1) h.values))) h.more) (sym (exact_bytes n key.0 c)));
         told = append_assoc (data_events (value_at rows base left key.1)) (items_events h.values) (event.seq_ends ∷ members_events h.more)
             ∙ ap (λ ts. data_events (value_at rows base left key.1) ++ ts) h.told
             ∙ ap (λ ts. ts ++ (data_events (value_at rows base left key.1) ++ behind_name (Some key.0) keys)) (sym (opens n key.0 Equal c));

@@ -2,6 +2,8 @@
 use Rattle.rx_items.proofs.Common.{◌≡◌, ◌∙◌, ℕ, suc, ◌+◌, ◌<◌, ◌≤◌, Bool, true, false, cond, List, [], ◌∷◌, ◌++◌, length, Contains, Contains-append_left, Contains-append_right, Option, Some, None, refl, sym, ap, subst, or_parts, ◌⊎◌, inl, inr, arith, StartTag, Tree, end, element, text, begins_item, facts_of, Placed, is_item, scope_in, is_before, first, later, matters, behind, row_count, rows_from, rows_of, with_row, needed, Numbered, length-append}
 use borrow.Author.Tests.{ltb-true, lt-ltb}
 use Rattle.rx_items.proofs.Alike.{Each, each_append}
+use Rattle.rx_terms.proofs.Bools.{by_test}
+use Rattle.std.proofs.Common.{true≢false}
 
 pub each_by : (P Q : Placed → Type 0) (a : List Placed) → ((x : Placed) → P x → Q x) → Each P a → Each Q a
 each_by P Q [] f p = tt
@@ -72,11 +74,7 @@ before_more None place later le h = refl
 before_more (Some k) place later le h = let lt = ltb-true k place h in lt-ltb k later (omega (arith, lt, le))
 
 scope_before : (tag : StartTag) (place : ℕ) (scope : Option ℕ) → is_before scope place ≡ true → is_before (scope_in tag place scope) (suc place) ≡ true
-scope_before tag place scope h = by (begins_item tag)
-  where
-    by : (b : Bool) → is_before (cond b (Some place) scope) (suc place) ≡ true
-    by true = lt-ltb place (suc place) (omega arith)
-    by false = before_more scope place (suc place) (omega arith) h
+scope_before tag place scope h = by_test (begins_item tag) (λ t. rw t (lt-ltb place (suc place) (omega arith))) (λ t. rw t (before_more scope place (suc place) (omega arith) h))
 
 abbrev row_at : StartTag → Tree → Option ℕ → ℕ → ℕ → Placed
 row_at tag inner scope place past = record { place = place; past = past; scope = scope; facts = needed (facts_of tag inner) }
@@ -113,29 +111,22 @@ module _ (tag : StartTag) (inner : Tree) (scope : Option ℕ) (place n : ℕ) (a
 
   -- the item around what is in a row is the row, or the one around it, or it is among them
   around_in : (e : Placed) → Fits (scope_in tag place scope) (suc place) n a e → HasAround scope (row ∷ a) place e
-  around_in e f = by f.around
+  around_in e f = by (begins_item tag) refl f.around
     where
-      own : (b : Bool) → begins_item tag ≡ b → e.scope ≡ cond b (Some place) scope → HasAround scope (row ∷ a) place e
-      own true item is = inr (row, record { among = first row a; scope_is = is; begins = item; from = omega arith; low = omega (arith, f.low); high = omega (arith, f.high) })
-      own false item is = inl is
-
-      by : HasAround (scope_in tag place scope) a (suc place) e → HasAround scope (row ∷ a) place e
-      by (inl is) = own (begins_item tag) refl is
-      by (inr k) = among_more scope a (row ∷ a) (suc place) place e (omega arith) (λ z c. later row z a c) (inr k)
+      by : (b : Bool) → begins_item tag ≡ b → HasAround (cond b (Some place) scope) a (suc place) e → HasAround scope (row ∷ a) place e
+      by true item (inl is) = inr (row, record { among = first row a; scope_is = is; begins = item; from = omega arith; low = omega (arith, f.low); high = omega (arith, f.high) })
+      by false item (inl is) = inl is
+      by b item (inr k) = among_more scope a (row ∷ a) (suc place) place e (omega arith) (λ z c. later row z a c) (inr k)
 
   -- what is within a row nests in it
   inside : (e : Placed) → Fits (scope_in tag place scope) (suc place) n a e → Nests row e
-  inside e f = record { in_item = λ low high i. item (begins_item tag) i f.around; in_other = λ low high i. other (begins_item tag) i f.around }
+  inside e f = by (begins_item tag) refl f.around
     where
-      item : (b : Bool) → b ≡ true → HasAround (cond b (Some place) scope) a (suc place) e → (k : ℕ) × (e.scope ≡ Some k) × (place ≤ k)
-      item true i (inl is) = (place, is, omega arith)
-      item true i (inr k) = ((k.0).place, (k.1).scope_is, omega (arith, (k.1).from))
-      item false i s = absurd (cc (i))
-
-      other : (b : Bool) → b ≡ false → HasAround (cond b (Some place) scope) a (suc place) e → (e.scope ≡ scope) ⊎ ((k : ℕ) × (e.scope ≡ Some k) × (place < k))
-      other true i s = absurd (cc (i))
-      other false i (inl is) = inl is
-      other false i (inr k) = inr ((k.0).place, (k.1).scope_is, omega (arith, (k.1).from))
+      by : (b : Bool) → begins_item tag ≡ b → HasAround (cond b (Some place) scope) a (suc place) e → Nests row e
+      by true item (inl is) = record { in_item = λ low high i. (place, is, omega arith); in_other = λ low high i. absurd (true≢false (sym item ∙ i)) }
+      by true item (inr k) = record { in_item = λ low high i. ((k.0).place, (k.1).scope_is, omega (arith, (k.1).from)); in_other = λ low high i. absurd (true≢false (sym item ∙ i)) }
+      by false item (inl is) = record { in_item = λ low high i. absurd (true≢false (sym i ∙ item)); in_other = λ low high i. inl is }
+      by false item (inr k) = record { in_item = λ low high i. absurd (true≢false (sym i ∙ item)); in_other = λ low high i. inr ((k.0).place, (k.1).scope_is, omega (arith, (k.1).from)) }
 
   -- a row and those within it
   laid_row : is_before scope place ≡ true → Laid n (scope_in tag place scope) (suc place) a → Laid (suc n) scope place (row ∷ a)

@@ -1,6 +1,7 @@
 -- The top-level items of a page, one after another.
-use Rattle.rx_items.proofs.Common.{◌≡◌, ◌∙◌, ◌<◌, ◌≤◌, ℕ, zero, suc, Bool, true, false, cond, List, [], ◌∷◌, ◌++◌, map, filter, length, take, get_or, Option, Some, None, refl, sym, ap, subst, arith, Chars, flat_map, slice_get, Result, Err, Data, Fault, Kind, Stop, Placed, is_item, is_top_level, is_absent, Visit, visits_from, visits_by, first_fault, standard_bounds, Outcome, Given, Refused, json_of_item, json_by, refused, and_parts, properties_in, outcome_in, HoldsRows, At, NoFault, FaultIs, HasFault, Finds, top_visits, top_data, IsTextOf, JsonGives, TextGives}
+use Rattle.rx_items.proofs.Common.{◌≡◌, ◌∙◌, ◌<◌, ◌≤◌, ℕ, zero, suc, Bool, true, false, List, [], ◌∷◌, ◌++◌, map, filter, length, take, get_or, Option, Some, None, refl, sym, ap, subst, arith, Chars, flat_map, slice_get, Result, Err, Data, Fault, Kind, Stop, Placed, is_item, is_top_level, is_absent, Visit, visits_from, visits_by, first_fault, standard_bounds, Outcome, Given, Refused, json_of_item, json_by, refused, and_parts, properties_in, outcome_in, HoldsRows, At, NoFault, FaultIs, HasFault, Finds, top_visits, top_data, IsTextOf, JsonGives, TextGives}
 use Rattle.serde_json.specs.Written.{compact_text}
+use Rattle.rx_terms.proofs.Bools.{by_test}
 use Rattle.rx_grammar.specs.declared.stops.Stop.TheVariants as stop
 use Rattle.rx_items.specs.declared.kept.Kept.{Kept}
 use Rattle.std.proofs.lemmas.List.Concat.{flat_map_single}
@@ -33,11 +34,7 @@ module _ {A : Type 0} (f : Placed → List A) (test : Placed → Bool) where
 
   of_those : (ps : List Placed) → flat_map (λ (e : Placed). made e (test e)) ps ≡ flat_map f (filter test ps)
   of_those [] = refl
-  of_those (p ∷ ps) = by (test p) (of_those ps)
-    where
-      by : (b : Bool) → flat_map (λ (e : Placed). made e (test e)) ps ≡ flat_map f (filter test ps) → made p b ++ flat_map (λ (e : Placed). made e (test e)) ps ≡ flat_map f (cond b (p ∷ filter test ps) (filter test ps))
-      by true ih = ap (λ (l : List A). f p ++ l) ih
-      by false ih = ih
+  of_those (p ∷ ps) = by_test (test p) (λ t. rw t (ap (λ (l : List A). f p ++ l) (of_those ps))) (λ t. rw t (of_those ps))
 
 module _ (rows : List Placed) (base : Chars) where
   abbrev visits_when : Placed → Bool → List Visit

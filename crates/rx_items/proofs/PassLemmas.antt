@@ -13,20 +13,15 @@ again_both (suc n) m vs =
     let next : suc n + m ≡ suc (n + m) = omega arith in
     ap (λ k. again k vs) next ∙ ap (λ (l : List Visit). vs ++ l) (again_both n m vs) ∙ sym (append_assoc vs (again n vs) (again m vs))
 
-again_one : (i : ℕ) (vs : List Visit) → again (i + 1) vs ≡ again i vs ++ vs
-again_one i vs = again_both i 1 vs ∙ ap (λ (l : List Visit). again i vs ++ l) (append-nil vs)
-
-again_cut : (n i : ℕ) (vs : List Visit) → i < n → again n vs ≡ again i vs ++ (vs ++ again (n - (i + 1)) vs)
-again_cut n i vs lt = let e : n ≡ i + suc (n - (i + 1)) = omega (arith, lt) in ap (λ k. again k vs) e ∙ again_both i (suc (n - (i + 1))) vs
-
 pub times_err : (start middle n i : ℕ) (vs : List Visit) (x : Stop) → i < n → NoFault start (again i vs) middle → HasFault middle vs x → HasFault start (again n vs) x
 times_err start middle n i vs stop.NoMemory lt p f = tt
 times_err start middle n i vs (stop.Fault fault) lt p f =
-    subst (λ (l : List Visit). FaultIs start l fault) (sym (again_cut n i vs lt))
+    let cut : n ≡ i + suc (n - (i + 1)) = omega (arith, lt) in
+    subst (λ (l : List Visit). FaultIs start l fault) (sym (ap (λ k. again k vs) cut ∙ again_both i (suc (n - (i + 1))) vs))
     (then_fault start middle (again i vs) (vs ++ again (n - (i + 1)) vs) fault p (fault_then middle vs (again (n - (i + 1)) vs) fault f))
 
 pub times_on : (start middle after i : ℕ) (vs : List Visit) → NoFault start (again i vs) middle → NoFault middle vs after → NoFault start (again (i + 1) vs) after
-times_on start middle after i vs p q = subst (λ (l : List Visit). NoFault start l after) (sym (again_one i vs)) (none_then start middle after (again i vs) vs p q)
+times_on start middle after i vs p q = subst (λ (l : List Visit). NoFault start l after) (sym (again_both i 1 vs ∙ ap (λ (l : List Visit). again i vs ++ l) (append-nil vs))) (none_then start middle after (again i vs) vs p q)
 
 pub times_end : (start after n i : ℕ) (vs : List Visit) → i ≤ n → n ≤ i → NoFault start (again i vs) after → NoFault start (again n vs) after
 times_end start after n i vs within over p = let same : i ≡ n = omega (arith, within, over) in subst (λ (k : ℕ). NoFault start (again k vs) after) same p

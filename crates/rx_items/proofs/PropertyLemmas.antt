@@ -1,6 +1,7 @@
 -- The runs of an item give its properties, and no others.
 use Rattle.rx_items.proofs.Common.{◌≡◌, ◌∙◌, ℕ, Bool, true, true≢false, List, [], ◌∷◌, Contains, ◌↔◌, Option, Some, None, option_map, refl, sym, ap, subst, not, ◌==◌, ◌&&◌, ◌||◌, list_any, eq-eqb, eqb-true, Chars, slice_get, filter_map, ◌⊎◌, inl, inr, Placed, names_of, is_any, first_with_id, has_id, is_scope, is_property_by_scope, reaches_by_scope, properties_in, AllStand, Numbered, places, gathered, in_runs, is_other, RunsReach}
 use Rattle.rx_microdata.proofs.Lists.{first, later, first_or_later, and_parts, and_of, or_parts, or_left, or_right, bool_same, none, kept, keeps, given, gives, found, any_passes, found_first}
+use Rattle.rx_model.proofs.Common.{⊎_elim}
 use Rattle.rx_items.specs.declared.kept.Run.{Run}
 use Rattle.rx_items.proofs.HoldLemmas.{all_stand, place_is}
 use Rattle.rx_items.proofs.TakeLemmas.{is_there, there_is}
@@ -8,17 +9,13 @@ use Rattle.rx_items.proofs.TakeLemmas.{is_there, there_is}
 -- the row that a place of some rows stands for
 stands_for : (ps es : List Placed) (x : ℕ) → AllStand ps es → Contains (places es) x → (row : Placed) × (slice_get ps x ≡ Some row) × Contains es row
 stands_for ps [] x s c = none x c
-stands_for ps (e ∷ es) x s c = elim (first_or_later e.place x (places es) c) as (λ _. (row : Placed) × (slice_get ps x ≡ Some row) × Contains (e ∷ es) row) [
-  | inl same ↦ (e, ap (slice_get ps) (sym same) ∙ s.0, first e es)
-  | inr l ↦ let r = stands_for ps es x s.1 l in (r.0, r.1, later e r.0 es r.2)
-]
+stands_for ps (e ∷ es) x s c =
+    ⊎_elim (λ same. (e, ap (slice_get ps) (sym same) ∙ s.0, first e es)) (λ l. let r = stands_for ps es x s.1 l in (r.0, r.1, later e r.0 es r.2)) (first_or_later e.place x (places es) c)
 
 place_among : (es : List Placed) (row : Placed) → Contains es row → Contains (places es) row.place
 place_among [] row c = none row c
-place_among (e ∷ es) row c = elim (first_or_later e row es c) as (λ _. Contains (places (e ∷ es)) row.place) [
-  | inl same ↦ subst (λ (r : Placed). Contains (places (e ∷ es)) r.place) same (first e.place (places es))
-  | inr l ↦ later e.place row.place (places es) (place_among es row l)
-]
+place_among (e ∷ es) row c =
+    ⊎_elim (λ same. subst (λ (r : Placed). Contains (places (e ∷ es)) r.place) same (first e.place (places es))) (λ l. later e.place row.place (places es) (place_among es row l)) (first_or_later e row es c)
 
 module _ (ps : List Placed) (n : Numbered 0 ps) where
   abbrev pub look : Chars → Option ℕ

@@ -1,6 +1,8 @@
 -- The rows of a tree are its elements that matter, renumbered.
-use Rattle.rx_items.proofs.Common.{⊤, ◌==◌, ◌≡◌, ℕ, zero, suc, ◌+◌, ◌≤◌, Bool, true, false, nat_lt, cond, List, [], ◌∷◌, ◌++◌, map, filter, length, Contains, Option, Some, option_map, refl, sym, ap, subst, ◌∙◌, ltb-true, lt-ltb, eq-eqb, cases_lt, eqb-true, filter-append, inl, inr, arith, StartTag, Tree, end, element, text, begins_item, facts_of, Placed, count, scope_in, placed_from, none, three, bool_same, matters, needed, behind, row_count, with_row, rows_from}
+use Rattle.rx_items.proofs.Common.{⊤, ◌==◌, ◌≡◌, ℕ, zero, suc, ◌+◌, ◌≤◌, Bool, true, false, nat_lt, cond, List, [], ◌∷◌, ◌++◌, map, filter, length, Contains, Option, option_map, refl, sym, ap, subst, ◌∙◌, ltb-true, lt-ltb, eq-eqb, cases_lt, eqb-true, filter-append, inl, inr, arith, Tree, end, element, text, begins_item, facts_of, Placed, count, scope_in, placed_from, none, three, bool_same, matters, needed, behind, row_count, with_row, rows_from}
 use Rattle.std.proofs.lemmas.List.{map-append, length-append, append_assoc}
+use Rattle.rx_terms.proofs.Bools.{by_test}
+use Rattle.rx_model.proofs.Common.{⊎_elim}
 use Rattle.rx_items.specs.Ranks.{marks, rank_in}
 use Rattle.rx_items.proofs.Alike.{moved}
 
@@ -46,23 +48,15 @@ module _ (rank : ℕ → ℕ) where
   pub ranked_count : (place : ℕ) (tree : Tree) → Ranks place tree → rank (place + count tree) ≡ rank place + row_count tree
   ranked_count place end r = let e : place + 0 ≡ place = omega arith in let f : rank place ≡ rank place + 0 = omega arith in ap rank e ∙ f
   ranked_count place (element tag inner more) r =
-      let b = matters (facts_of tag inner) in
       let e : place + suc (count inner + count more) ≡ suc place + count inner + count more = omega arith in
       ap rank e ∙ ranked_count (suc place + count inner) more r.2
       ∙ ap (λ n. n + row_count more) (ranked_count (suc place) inner r.1)
       ∙ ap (λ n. n + row_count inner + row_count more) r.0
-      ∙ behind_sum b (rank place) (row_count inner) (row_count more)
+      ∙ behind_sum (matters (facts_of tag inner)) (rank place) (row_count inner) (row_count more)
   ranked_count place (text chars more) r = ranked_count place more r
 
   abbrev pub ranked : Placed → Placed
   ranked = moved (λ e. rank e.place) (λ e. rank e.past) (λ e. option_map rank e.scope)
-
-  scope_ranked : (tag : StartTag) (place : ℕ) (scope : Option ℕ) → scope_in tag (rank place) (option_map rank scope) ≡ option_map rank (scope_in tag place scope)
-  scope_ranked tag place scope = by (begins_item tag)
-    where
-      by : (b : Bool) → cond b (Some (rank place)) (option_map rank scope) ≡ option_map rank (cond b (Some place) scope)
-      by true = refl
-      by false = refl
 
   join : (b : Bool) (row : Placed) (head : Placed) (rows : List Placed) (rest : List Placed) → row ≡ ranked head → rows ≡ map ranked rest
       → with_row b row rows ≡ map ranked (cond b (head ∷ rest) rest)
@@ -77,7 +71,7 @@ module _ (rank : ℕ → ℕ) where
       let next : behind b (rank place) ≡ rank (suc place) = sym r.0 in
       let past : behind b (rank place) + row_count inner ≡ rank (suc place + count inner) =
       ap (λ n. n + row_count inner) next ∙ sym (ranked_count (suc place) inner r.1) in
-      let s = scope_ranked tag place scope in
+      let s : scope_in tag (rank place) (option_map rank scope) ≡ option_map rank (scope_in tag place scope) = by_test (begins_item tag) (λ t. rw t refl) (λ t. rw t refl) in
       let inside = (λ i. rows_from (s i) (next i) inner) ∙ rows_are_ranked (scope_in tag place scope) (suc place) inner r.1 in
       let after = (λ i. rows_from (option_map rank scope) (past i) more) ∙ rows_are_ranked scope (suc place + count inner) more r.2 in
       let ins = placed_from (scope_in tag place scope) (suc place) inner in
@@ -111,34 +105,23 @@ module _ (rank : ℕ → ℕ) where
 
   module _ (rises : (p q : ℕ) → p ≤ q → rank p ≤ rank q) where
     pub lt_same : (p q : ℕ) → Counts p → nat_lt (rank p) (rank q) ≡ nat_lt p q
-    lt_same p q c = bool_same (nat_lt (rank p) (rank q)) (nat_lt p q)
-        (λ h. elim (cases_lt p q) as (λ _. nat_lt p q ≡ true) [
-          | inl l ↦ lt-ltb p q l
-          | inr g ↦ let a = ltb-true (rank p) (rank q) h in let b = rises q p g in absurd (omega (arith, a, b))
-        ])
-        (λ h. let l = ltb-true p q h in let b = rises (suc p) q (omega (arith, l)) in lt-ltb (rank p) (rank q) (omega (arith, b, c)))
+    lt_same p q c =
+        bool_same (nat_lt (rank p) (rank q)) (nat_lt p q) (λ h. ⊎_elim (λ l. lt-ltb p q l) (λ g. absurd (omega (arith, ltb-true (rank p) (rank q) h, rises q p g))) (cases_lt p q))
+        (λ h. let l = ltb-true p q h in lt-ltb (rank p) (rank q) (omega (arith, rises (suc p) q (omega (arith, l)), c)))
 
     pub eq_same : (p q : ℕ) → Counts p → Counts q → (rank p == rank q) ≡ (p == q)
-    eq_same p q c d = bool_same (rank p == rank q) (p == q)
+    eq_same p q c d =
+        bool_same (rank p == rank q) (p == q)
         (λ h.
         let e = eqb-true (rank p) (rank q) h in
-        elim (cases_lt p q) as (λ _. (p == q) ≡ true) [
-          | inl l ↦ let b = rises (suc p) q (omega (arith, l)) in absurd (omega (arith, b, c, e))
-          | inr g ↦
-              elim (cases_lt q p) as (λ _. (p == q) ≡ true) [
-                | inl l ↦ let b = rises (suc q) p (omega (arith, l)) in absurd (omega (arith, b, d, e))
-                | inr k ↦ eq-eqb p q (omega (arith, g, k))
-              ]
-        ])
+        ⊎_elim (λ l. absurd (omega (arith, rises (suc p) q (omega (arith, l)), c, e)))
+        (λ g. ⊎_elim (λ l. absurd (omega (arith, rises (suc q) p (omega (arith, l)), d, e))) (λ k. eq-eqb p q (omega (arith, g, k))) (cases_lt q p)) (cases_lt p q))
         (λ h. eq-eqb (rank p) (rank q) (ap rank (eqb-true p q h)))
 
 pub marks_count : (tree : Tree) → length (marks tree) ≡ count tree
 marks_count end = refl
 marks_count (element tag inner more) =
-    let a = length-append (marks inner) (marks more) in
-    let b = marks_count inner in
-    let c = marks_count more in
-    omega (arith, a, b, c)
+    omega (arith, length-append (marks inner) (marks more), marks_count inner, marks_count more)
 marks_count (text chars more) = marks_count more
 
 -- a tree's own numbers
@@ -150,14 +133,13 @@ ranks_from whole front (element tag inner more) back place e w =
     let split : whole ≡ front ++ (m ∷ (marks inner ++ (marks more ++ back))) = w ∙ ap (λ l. front ++ (m ∷ l)) (append_assoc (marks inner) (marks more) back) in
     let long = length-append front (m ∷ []) in
     let next : whole ≡ (front ++ (m ∷ [])) ++ (marks inner ++ (marks more ++ back)) = split ∙ sym (append_assoc front (m ∷ []) (marks inner ++ (marks more ++ back))) in
-    let longer = length-append (front ++ (m ∷ [])) (marks inner) in
     let size = marks_count inner in (
       ap (λ l. rank_in l (suc place)) split ∙ ap (λ n. rank_in (front ++ (m ∷ (marks inner ++ (marks more ++ back)))) (suc n)) e
           ∙ rank_there front m (marks inner ++ (marks more ++ back))
           ∙ ap (λ n. behind m (rank_in (front ++ (m ∷ (marks inner ++ (marks more ++ back)))) n)) (sym e)
           ∙ ap (λ l. behind m (rank_in l place)) (sym split),
       ranks_from whole (front ++ (m ∷ [])) inner (marks more ++ back) (suc place) (omega (arith, e, long)) next,
-      ranks_from whole ((front ++ (m ∷ [])) ++ marks inner) more back (suc place + count inner) (omega (arith, e, long, longer, size))
+      ranks_from whole ((front ++ (m ∷ [])) ++ marks inner) more back (suc place + count inner) (omega (arith, e, long, length-append (front ++ (m ∷ [])) (marks inner), size))
           (next ∙ sym (append_assoc (front ++ (m ∷ [])) (marks inner) (marks more ++ back))),
     )
 ranks_from whole front (text chars more) back place e w = ranks_from whole front more back place e w

@@ -40,9 +40,7 @@ module _ (words gathered : Chars) (times : List Chars) (rows : List Row) (tree :
   start_there place run row start there shown r x =
       let l = laid tree None 0 refl in
       let n = numbered tree in
-      let item = shown.is_item in
-      let past = shown.past in
-      let end_is : reach_end row place ≡ end_by (is_item start) place start.past = λ i. cond (item i) (place + 1) (past i) in
+      let end_is : reach_end row place ≡ end_by (is_item start) place start.past = λ i. cond (shown.is_item i) (place + 1) (shown.past i) in
       let run_of : RunOf rows members start.scope place (end_by (is_item start) place start.past) run =
       subst (λ (o : Option ℕ). RunOf rows members o place (end_by (is_item start) place start.past) run) shown.scope (subst (λ e. RunOf rows members row.scope place e run) end_is r) in (
         (λ c. record {

@@ -1,9 +1,10 @@
 -- Places that rise: two lists of the same ones are one list.
-use Rattle.rx_items.proofs.Common.{◌≡◌, ◌<◌, ℕ, List, [], ◌∷◌, Contains, ◌↔◌, ◌==◌, refl, sym, subst, arith, Ordering, Less, Equal, Greater, nat_cmp, AllByRecursion, All-from_recursion, All-contains, Contains-permutation, IsPermutation-sym, ◌⊎◌, inl, inr, first, later, first_or_later, none}
+use Rattle.rx_items.proofs.Common.{◌≡◌, ◌<◌, ℕ, List, [], ◌∷◌, Contains, ◌↔◌, ◌==◌, refl, sym, subst, arith, Less, nat_cmp, AllByRecursion, All-from_recursion, All-contains, Contains-permutation, IsPermutation-sym, ◌⊎◌, inl, inr, first, later, first_or_later, none}
 use Rattle.std.specs.List.Sorted.{IsStrictlySortedBy, IsSorted, IsPermutation}
 use Rattle.std.specs.List.Retain.{IsFiltered, DiffersFromLast}
 use Rattle.std.proofs.lemmas.Cmp.{ranked, nat_cmp_total}
-use Rattle.std.specs.Cmp.{unsigned_ties}
+use Rattle.rx_model.proofs.Common.{⊎_elim}
+use Rattle.std.specs.Cmp.{nat_cmp_is, unsigned_ties}
 use Rattle.std.proofs.lemmas.List.Kept.{Contains-dedup_nat, Contains-from_dedup, IsStrictlySortedBy-dedup}
 use Rattle.std.proofs.lemmas.List.Filters.{dedup_is}
 
@@ -25,12 +26,7 @@ pub below_of : (x y : ℕ) → nat_cmp x y ≡ Less → x < y
 below_of x y e = ranked x y Less (sym e)
 
 pub less_of : (x y : ℕ) → x < y → nat_cmp x y ≡ Less
-less_of x y lt = by (nat_cmp x y) refl
-  where
-    by : (o : Ordering) → nat_cmp x y ≡ o → nat_cmp x y ≡ Less
-    by Less e = e
-    by Equal e = let same : x ≡ y = ranked x y Equal (sym e) in absurd (omega (arith, lt, same))
-    by Greater e = let over : y < x = ranked x y Greater (sym e) in absurd (omega (arith, lt, over))
+less_of x y lt = sym (nat_cmp_is x y Less lt)
 
 above_first : (x z : ℕ) (xs : List ℕ) → AllByRecursion (λ (y : ℕ). nat_cmp x y ≡ Less) xs → Contains xs z → x < z
 above_first x z xs all c = below_of x z (All-contains (λ (y : ℕ). nat_cmp x y ≡ Less) xs z (All-from_recursion (λ (y : ℕ). nat_cmp x y ≡ Less) xs all) c)
@@ -46,11 +42,7 @@ first_of_both x y xs ys p q c d = by (first_or_later y x ys c) (first_or_later x
 
 in_rest : (x y : ℕ) (xs ys : List ℕ) → Rises (x ∷ xs) → x ≡ y → ((z : ℕ) → Contains (x ∷ xs) z → Contains (y ∷ ys) z) → (z : ℕ) → Contains xs z → Contains ys z
 unfolding IsStrictlySortedBy
-in_rest x y xs ys p same all z c = by (first_or_later y z ys (all z (later x z xs c)))
-  where
-    by : (y ≡ z) ⊎ Contains ys z → Contains ys z
-    by (inl e) = let lt = above_first x z xs p.0 c in absurd (omega (arith, lt, same, e))
-    by (inr e) = e
+in_rest x y xs ys p same all z c = ⊎_elim (λ e. absurd (omega (arith, above_first x z xs p.0 c, same, e))) (λ e. e) (first_or_later y z ys (all z (later x z xs c)))
 
 -- two lists that rise and have the same places are one
 pub same_rising : (xs ys : List ℕ) → Rises xs → Rises ys → ((x : ℕ) → Contains xs x → Contains ys x) → ((x : ℕ) → Contains ys x → Contains xs x) → xs ≡ ys
@@ -60,5 +52,4 @@ same_rising [] (y ∷ ys) p q f g = none y (g y (first y ys))
 same_rising (x ∷ xs) [] p q f g = none x (f x (first x xs))
 same_rising (x ∷ xs) (y ∷ ys) p q f g =
     let e = first_of_both x y xs ys p q (f x (first x xs)) (g y (first y ys)) in
-    let rest = same_rising xs ys p.1 q.1 (in_rest x y xs ys p e f) (in_rest y x ys xs q (sym e) g) in
-    λ i. e i ∷ rest i
+    λ i. e i ∷ same_rising xs ys p.1 q.1 (in_rest x y xs ys p e f) (in_rest y x ys xs q (sym e) g) i

@@ -1,6 +1,10 @@
 -- The rows of a page come to what the page comes to.
 use Rattle.rx_items.proofs.Common.{list_any, cons_option, refl, sym, ap, subst, ◌∙◌, Chars, and_right, and_left, inl, inr, Tree, Facts, Placed, elements_of, is_item, names_of, is_top_level, is_any, is_same_id, has_id, first_with_id, properties, is_before, reaches_by_scope, is_scope, is_property_by_scope, outcome_by, first, later, contradiction, or_left, or_right, and_parts, found_first, kept, matters, rows_from, rows_of, properties_in, RowsSuffice, append-nil}
-use Rattle.std.specs.Prelude.{not, ◌&&◌, ◌||◌, ◌==◌, is_some, unwrap_or, ◌≡◌, ℕ, ◌≤◌, Bool, true, false, cond, ◌⊎◌, List, [], ◌∷◌, map, filter, filter_map, find, Contains, Option, Some, None, option_map}
+use Rattle.std.specs.Prelude.{not, ◌&&◌, ◌||◌, ◌==◌, is_some, unwrap_or, ◌≡◌, ℕ, ◌≤◌, Bool, true, false, ◌⊎◌, List, [], ◌∷◌, map, filter, filter_map, find, Contains, Option, Some, None, option_map}
+use Rattle.rx_model.proofs.Common.{⊎_elim}
+use Rattle.rx_model.proofs.Renaming.{filter_map_map}
+use Rattle.rx_terms.proofs.Bools.{by_test}
+use Rattle.std.proofs.lemmas.List.{map-id}
 use Rattle.rx_microdata.proofs.Scopes.{scopes}
 use Rattle.rx_microdata.proofs.ScopesList.{list as scopes_list}
 use Rattle.rx_items.specs.Ranks.{marks, rank_in}
@@ -14,17 +18,8 @@ module _ (f : Placed → Placed) (p q : Placed → Bool) where
       → filter q (map f (filter is_row xs)) ≡ map f (filter p xs)
   filter_moved [] same fails = refl
   filter_moved (x ∷ xs) same fails =
-      by (is_row x) refl (filter_moved xs (λ e h. same e (later x e xs h)) (λ e h. fails e (later x e xs h)))
-    where
-      chosen : (b : Bool) → filter q (map f (filter is_row xs)) ≡ map f (filter p xs)
-          → cond b (f x ∷ filter q (map f (filter is_row xs))) (filter q (map f (filter is_row xs))) ≡ map f (cond b (x ∷ filter p xs) (filter p xs))
-      chosen true h = ap (λ l. f x ∷ l) h
-      chosen false h = h
-
-      by : (b : Bool) → is_row x ≡ b → filter q (map f (filter is_row xs)) ≡ map f (filter p xs)
-          → filter q (map f (cond b (x ∷ filter is_row xs) (filter is_row xs))) ≡ map f (cond (p x) (x ∷ filter p xs) (filter p xs))
-      by true e h = ap (λ c. cond c (f x ∷ filter q (map f (filter is_row xs))) (filter q (map f (filter is_row xs)))) (same x (first x xs) e) ∙ chosen (p x) h
-      by false e h = h ∙ ap (λ c. map f (cond c (x ∷ filter p xs) (filter p xs))) (sym (fails x (first x xs) e))
+      let ih = filter_moved xs (λ e h. same e (later x e xs h)) (λ e h. fails e (later x e xs h)) in
+      by_test (is_row x) (λ t. rw (t, same x (first x xs) t) (by_test (p x) (λ k. rw k (ap (λ l. f x ∷ l) ih)) (λ k. rw k ih))) (λ t. rw (t, fails x (first x xs) t) ih)
 
 -- what matters, and so what doesn't
 item_matters : (facts : Facts) → facts.is_item ≡ true → matters facts ≡ true
@@ -53,17 +48,9 @@ not_so false facts f h = refl
 module _ (f : Placed → Placed) (ids : (token : Chars) (e : Placed) → has_id token (f e) ≡ has_id token e) where
   first_moved : (token : Chars) (xs : List Placed) → find (has_id token) (map f (filter is_row xs)) ≡ option_map f (find (has_id token) xs)
   first_moved token [] = refl
-  first_moved token (x ∷ xs) = by (is_row x) refl (first_moved token xs)
-    where
-      chosen : (c : Bool) → find (has_id token) (map f (filter is_row xs)) ≡ option_map f (find (has_id token) xs)
-          → cond c (Some (f x)) (find (has_id token) (map f (filter is_row xs))) ≡ option_map f (cond c (Some x) (find (has_id token) xs))
-      chosen true h = refl
-      chosen false h = h
-
-      by : (b : Bool) → is_row x ≡ b → find (has_id token) (map f (filter is_row xs)) ≡ option_map f (find (has_id token) xs)
-          → find (has_id token) (map f (cond b (x ∷ filter is_row xs) (filter is_row xs))) ≡ option_map f (cond (has_id token x) (Some x) (find (has_id token) xs))
-      by true e h = ap (λ c. cond c (Some (f x)) (find (has_id token) (map f (filter is_row xs)))) (ids token x) ∙ chosen (has_id token x) h
-      by false e h = h ∙ ap (λ c. option_map f (cond c (Some x) (find (has_id token) xs))) (sym (not_so (has_id token x) x.facts (id_matters x.facts token) e))
+  first_moved token (x ∷ xs) =
+      let ih = first_moved token xs in
+      by_test (is_row x) (λ t. rw (t, ids token x) (by_test (has_id token x) (λ k. rw k refl) (λ k. rw k ih))) (λ t. rw (t, not_so (has_id token x) x.facts (id_matters x.facts token) t) ih)
 
 module _ (tree : Tree) where
   abbrev page : List Placed
@@ -102,43 +89,27 @@ module _ (tree : Tree) where
   Scoped e = (e.scope ≡ None) ⊎ ((s : ℕ) × (e.scope ≡ Some s) × Counts rank s)
 
   scoped : (e : Placed) → Contains page e → Scoped e
-  scoped e h = elim ((scopes None 0 tree e h).0) as (λ _. Scoped e) [
-    | inl n ↦ inl n
-    | inr held ↦ inr ((held.0).place, held.4, counts held.0 (held.1, item_matters (held.0).facts held.2))
-  ]
+  scoped e h = ⊎_elim (λ n. inl n) (λ held. inr ((held.0).place, held.4, counts held.0 (held.1, item_matters (held.0).facts held.2))) ((scopes None 0 tree e h).0)
+
+  -- a test of it is the same of its rank
+  scope_test : (there here : Option ℕ → Bool) → there None ≡ here None → ((s : ℕ) → Counts rank s → there (Some (rank s)) ≡ here (Some s)) → (e : Placed) → Contains page e → there (option_map rank e.scope) ≡ here e.scope
+  scope_test there here none some e h =
+      ⊎_elim (λ n. ap (λ o. there (option_map rank o)) n ∙ none ∙ ap here (sym n)) (λ s. ap (λ o. there (option_map rank o)) s.1 ∙ some s.0 s.2 ∙ ap here (sym s.1)) (scoped e h)
 
   scope_same : (root e : Placed) → Good root → Contains page e → is_scope (rank root.place) (option_map rank e.scope) ≡ is_scope root.place e.scope
-  scope_same root e g h = elim (scoped e h) as (λ _. is_scope (rank root.place) (option_map rank e.scope) ≡ is_scope root.place e.scope) [
-    | inl n ↦ ap (λ o. is_scope (rank root.place) (option_map rank o)) n ∙ ap (λ o. is_scope root.place o) (sym n)
-    | inr s ↦
-        ap (λ o. is_scope (rank root.place) (option_map rank o)) s.1 ∙ eq_same rank rises s.0 root.place s.2 (counts root g)
-        ∙ ap (λ o. is_scope root.place o) (sym s.1)
-  ]
+  scope_same root e g = scope_test (is_scope (rank root.place)) (is_scope root.place) refl (λ s c. eq_same rank rises s root.place c (counts root g)) e
 
   before_same : (start e : Placed) → Contains page e → is_before (option_map rank e.scope) (rank start.place) ≡ is_before e.scope start.place
-  before_same start e h = elim (scoped e h) as (λ _. is_before (option_map rank e.scope) (rank start.place) ≡ is_before e.scope start.place) [
-    | inl n ↦ ap (λ o. is_before (option_map rank o) (rank start.place)) n ∙ ap (λ o. is_before o start.place) (sym n)
-    | inr s ↦
-        ap (λ o. is_before (option_map rank o) (rank start.place)) s.1 ∙ lt_same rank rises s.0 start.place s.2
-        ∙ ap (λ o. is_before o start.place) (sym s.1)
-  ]
+  before_same start e = scope_test (λ o. is_before o (rank start.place)) (λ o. is_before o start.place) refl (λ s c. lt_same rank rises s start.place c) e
 
   reaches_same : (start e : Placed) → Good start → Good e → reaches_by_scope (move e) (move start) ≡ reaches_by_scope e start
   reaches_same start e g h =
-      let same = eq_same rank rises start.place e.place (counts start g) (counts e h) in
-      let left = lt_same rank rises start.place e.place (counts start g) in
-      let right = lt_same rank rises e.place start.past (counts e h) in
-      let before = before_same start e h.0 in
-      λ i. same i || (left i && right i) && before i
+      λ i. eq_same rank rises start.place e.place (counts start g) (counts e h) i || (lt_same rank rises start.place e.place (counts start g) i && lt_same rank rises e.place start.past (counts e h) i) && before_same start e h.0 i
 
   starts_moved : (refs : List Chars) → filter_map (first_with_id (map move (filter is_row page))) refs ≡ map move (filter_map (first_with_id page) refs)
-  starts_moved [] = refl
-  starts_moved (token ∷ refs) =
-      (λ i. cons_option (first_moved move (λ t e. refl) token page i) (starts_moved refs i)) ∙ by (first_with_id page token) (filter_map (first_with_id page) refs)
-    where
-      by : (o : Option Placed) (more : List Placed) → cons_option (option_map move o) (map move more) ≡ map move (cons_option o more)
-      by None more = refl
-      by (Some x) more = refl
+  starts_moved refs =
+      ap (filter_map (first_with_id (map move (filter is_row page)))) (sym (map-id refs))
+      ∙ filter_map_map (λ t. t) move (first_with_id page) (first_with_id (map move (filter is_row page))) (λ t. first_moved move (λ u e. refl) t page) refs
 
   starts_good : (refs : List Chars) → Each Good (filter_map (first_with_id page) refs)
   starts_good [] = tt
@@ -151,20 +122,15 @@ module _ (tree : Tree) where
 
   any_moved : (e : Placed) → Good e → (starts : List Placed) → Each Good starts → list_any (reaches_by_scope (move e)) (map move starts) ≡ list_any (reaches_by_scope e) starts
   any_moved e g [] h = refl
-  any_moved e g (x ∷ starts) h =
-      let head = reaches_same x e h.0 g in
-      let rest = any_moved e g starts h.1 in
-      λ i. head i || rest i
+  any_moved e g (x ∷ starts) h = λ i. reaches_same x e h.0 g i || any_moved e g starts h.1 i
 
   test_same : (root e : Placed) → Good root → Good e
       → is_property_by_scope (map move (filter is_row page)) (move root) (move e) ≡ is_property_by_scope page root e
   test_same root e g h =
-      let other = eq_same rank rises root.place e.place (counts root g) (counts e h) in
-      let scope = scope_same root e g h.0 in
       let named =
       ap (λ starts. list_any (reaches_by_scope (move e)) starts) (starts_moved root.facts.references)
       ∙ any_moved e h (filter_map (first_with_id page) root.facts.references) (starts_good root.facts.references) in
-      λ i. not (other i) && is_any (names_of e) && (scope i || named i)
+      λ i. not (eq_same rank rises root.place e.place (counts root g) (counts e h) i) && is_any (names_of e) && (scope_same root e g h.0 i || named i)
 
   by_scope : (root : Placed) → Item Good root → properties_in (rows_of tree) (move root) ≡ map move (properties page root)
   by_scope root g =
@@ -182,8 +148,7 @@ module _ (tree : Tree) where
   stays root g =
       subst (Each Good) (sym (scopes_list tree root (g.0).0 g.1)) (each_of Good (filter (is_property_by_scope page root) page) (λ e h.
       let w = kept (is_property_by_scope page root) page e h in
-      let parts = and_parts (not (root.place == e.place) && is_any (names_of e)) _ w.1 in
-      let named = and_parts (not (root.place == e.place)) (is_any (names_of e)) parts.0 in
+      let named = and_parts (not (root.place == e.place)) (is_any (names_of e)) (and_parts (not (root.place == e.place) && is_any (names_of e)) _ w.1).0 in
       (w.0, named_matters e.facts named.1)))
 
   moves : Moves (λ e. rank e.place) (λ e. rank e.past) (λ e. option_map rank e.scope) Good (properties page) (properties_in (rows_of tree))

@@ -1,5 +1,5 @@
 -- What rows stand for stays as the table grows.
-use Rattle.rx_items.proofs.Common.{⊤, ◌≡◌, ℕ, suc, ◌≤◌, List, [], ◌∷◌, ◌++◌, length, Option, Some, None, slice_get, zero, refl, ap, ◌∙◌, subst, Chars, arith, Value, Placed, id_in, item_id_in, names_in, references_in, types_in, ShowsPart, ShowsWord, ShowsValue, ShowsRow, ShowsRows}
+use Rattle.rx_items.proofs.Common.{⊤, ◌≡◌, ℕ, suc, ◌≤◌, List, [], ◌∷◌, ◌++◌, length, Option, Some, slice_get, zero, refl, ap, ◌∙◌, subst, Chars, arith, Value, Placed, id_in, item_id_in, names_in, references_in, types_in, ShowsPart, ShowsWord, ShowsValue, ShowsRow, ShowsRows}
 use Rattle.rx_items.specs.declared.spans.Span.{Span}
 use Rattle.rx_items.specs.declared.rows.Row.{Row}
 use Rattle.rx_items.specs.declared.rows.RowValue.{RowValue}
@@ -19,10 +19,8 @@ stands_more text more span part s = record {
 }
 
 pub word_more : (text more : Chars) (span : Option Span) (part : Option Chars) → ShowsWord text span part → ShowsWord (text ++ more) span part
-word_more text more None None s = tt
-word_more text more None (Some part) s = s
-word_more text more (Some span) None s = s
 word_more text more (Some span) (Some part) s = stands_more text more span part s
+word_more text more _ _ s = s
 
 -- the numbers of times are not below this one
 abbrev pub OwnFrom : ℕ → RowValue → Type 0
@@ -35,12 +33,11 @@ OwnsFrom low (row ∷ rows) = OwnFrom low row.value × OwnsFrom low rows
 
 value_more : (words text more_words more_text : Chars) (times later : List Chars) (low : ℕ) (r : RowValue) (v : Value) → Keeps low times later → OwnFrom low r
     → ShowsValue words text times r v → ShowsValue (words ++ more_words) (text ++ more_text) later r v
-value_more words text mw mt times later low value.Empty v k o s = s
 value_more words text mw mt times later low (value.Written span) v k o s = (s.0, s.1, stands_more words mw span s.0 s.2)
 value_more words text mw mt times later low (value.Reference span) v k o s = (s.0, s.1, stands_more words mw span s.0 s.2)
-value_more words text mw mt times later low (value.Running from) v k o s = s
 value_more words text mw mt times later low (value.Run span) v k o s = (s.0, s.1, stands_more text mt span s.0 s.2)
 value_more words text mw mt times later low (value.ChildText time) v k o s = (s.0, s.1, k time s.0 o s.2)
+value_more words text mw mt times later low _ v k o s = s
 
 row_more : (words text more_words more_text : Chars) (times later : List Chars) (low : ℕ) (row : Row) (p : Placed) → Keeps low times later → OwnFrom low row.value
     → ShowsRow words text times row p → ShowsRow (words ++ more_words) (text ++ more_text) later row p
@@ -67,24 +64,20 @@ row_more words text mw mt times later low row p k o s = record {
 
 pub rows_more : (words text more_words more_text : Chars) (times later : List Chars) (low : ℕ) (rows : List Row) (ps : List Placed) → Keeps low times later → OwnsFrom low rows
     → ShowsRows words text times rows ps → ShowsRows (words ++ more_words) (text ++ more_text) later rows ps
-rows_more words text mw mt times later low [] [] k o s = tt
-rows_more words text mw mt times later low [] (p ∷ ps) k o s = s
-rows_more words text mw mt times later low (row ∷ rows) [] k o s = s
 rows_more words text mw mt times later low (row ∷ rows) (p ∷ ps) k o s =
     (row_more words text mw mt times later low row p k o.0 s.0, rows_more words text mw mt times later low rows ps k o.1 s.1)
+rows_more words text mw mt times later low _ _ k o s = s
 
 pub shows_append : (words text : Chars) (times : List Chars) (rows more : List Row) (ps qs : List Placed) → ShowsRows words text times rows ps → ShowsRows words text times more qs
     → ShowsRows words text times (rows ++ more) (ps ++ qs)
 shows_append words text times [] more [] qs s t = t
-shows_append words text times [] more (p ∷ ps) qs s t = absurd s
-shows_append words text times (row ∷ rows) more [] qs s t = absurd s
 shows_append words text times (row ∷ rows) more (p ∷ ps) qs s t = (s.0, shows_append words text times rows more ps qs s.1 t)
+shows_append words text times _ more _ qs s t = absurd s
 
 pub shows_length : (words text : Chars) (times : List Chars) (rows : List Row) (ps : List Placed) → ShowsRows words text times rows ps → length rows ≡ length ps
 shows_length words text times [] [] s = refl
-shows_length words text times [] (p ∷ ps) s = absurd s
-shows_length words text times (row ∷ rows) [] s = absurd s
 shows_length words text times (row ∷ rows) (p ∷ ps) s = ap suc (shows_length words text times rows ps s.1)
+shows_length words text times _ _ s = absurd s
 
 own_weaker : (low lower : ℕ) (r : RowValue) → lower ≤ low → OwnFrom low r → OwnFrom lower r
 own_weaker low lower (value.ChildText time) l o = omega (arith, l, o)

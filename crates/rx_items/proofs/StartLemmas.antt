@@ -5,6 +5,7 @@ use Rattle.rx_items.proofs.Alike.{Each}
 use Rattle.rx_items.proofs.HoldLemmas.{place_is}
 use Rattle.rx_items.proofs.MemberLemmas.{InRange}
 use Rattle.rx_items.proofs.NestLemmas.{Fits, Nests, Pairs}
+use Rattle.rx_items.proofs.TakeLemmas.{same_there}
 
 pub each_at : (P : Placed → Type 0) (ps : List Placed) (i : ℕ) (p : Placed) → Each P ps → slice_get ps i ≡ Some p → P p
 each_at P [] i p e g = absurd (cc (g))
@@ -34,17 +35,15 @@ module _ (ps : List Placed) (size : ℕ) (numbered : Numbered 0 ps) (fits : Each
 
       below : r.row.place ≡ x → place < x → x < start.past → (is_below start r.row && is_before r.row.scope start.place) ≡ true
       below at lt high =
-          let e = at_start in
           and_of (is_below start r.row) (is_before r.row.scope start.place)
-          (and_of (nat_lt start.place r.row.place) (nat_lt r.row.place start.past) (lt-ltb start.place r.row.place (omega (arith, e, at, lt))) (lt-ltb r.row.place start.past (omega (arith, at, high))))
+          (and_of (nat_lt start.place r.row.place) (nat_lt r.row.place start.past) (lt-ltb start.place r.row.place (omega (arith, at_start, at, lt))) (lt-ltb r.row.place start.past (omega (arith, at, high))))
           (ap (λ (o : Option ℕ). is_before o start.place) r.scope_is ∙ fit.before)
 
       go : (b : Bool) → x < end_by b place start.past → (place < x) ⊎ (x ≤ place) → r.row.place ≡ x → reaches_by_scope r.row start ≡ true
       go true high (inl lt) at = absurd (omega (arith, high, lt))
       go false high (inl lt) at = or_right (start.place == r.row.place) (is_below start r.row && is_before r.row.scope start.place) (below at lt high)
       go b high (inr le) at =
-          let low = r.low in
-          let same : place ≡ x = omega (arith, low, le) in
+          let same : place ≡ x = omega (arith, r.low, le) in
           or_left (start.place == r.row.place) (is_below start r.row && is_before r.row.scope start.place) (itself at same)
 
   pub reached_in_run : (x : ℕ) → Reached ps start x → InRange ps start.scope place (end_by (is_item start) place start.past) x
@@ -55,55 +54,38 @@ module _ (ps : List Placed) (size : ℕ) (numbered : Numbered 0 ps) (fits : Each
 
       room : (b : Bool) → place < end_by b place start.past
       room true = omega arith
-      room false = let e = at_start in let r = fit.has_room in omega (arith, e, r)
-
-      same_row : place ≡ x → r.row ≡ start
-      same_row same =
-          let found : Some r.row ≡ Some start = sym r.is ∙ ap (slice_get ps) (sym same) ∙ there in
-          cc (found)
+      room false = omega (arith, at_start, fit.has_room)
 
       inner : (b : Bool) → is_item start ≡ b → place < x → x < start.past → is_before r.row.scope start.place ≡ true → InRange ps start.scope place (end_by b place start.past) x
       inner true item lt high before =
-          let e = at_start in
-          let k = (nests_at ps place x start r.row pairs there r.is).in_item (omega (arith, e, at, lt)) (omega (arith, at, high)) item in
-          let under = ltb-true k.0 start.place (ap (λ (o : Option ℕ). is_before o start.place) (sym k.1) ∙ before) in
-          let over = k.2 in
-          absurd (omega (arith, under, over))
+          let k = (nests_at ps place x start r.row pairs there r.is).in_item (omega (arith, at_start, at, lt)) (omega (arith, at, high)) item in
+          absurd (omega (arith, ltb-true k.0 start.place (ap (λ (o : Option ℕ). is_before o start.place) (sym k.1) ∙ before), k.2))
       inner false item lt high before =
-          let e = at_start in
           record {
             row = r.row;
             is = r.is;
             named = r.named;
-            scope_is = scope ((nests_at ps place x start r.row pairs there r.is).in_other (omega (arith, e, at, lt)) (omega (arith, at, high)) item);
+            scope_is = scope ((nests_at ps place x start r.row pairs there r.is).in_other (omega (arith, at_start, at, lt)) (omega (arith, at, high)) item);
             low = omega (arith, lt);
             high = high;
           }
         where
           scope : (r.row.scope ≡ start.scope) ⊎ ((k : ℕ) × (r.row.scope ≡ Some k) × (start.place < k)) → r.row.scope ≡ start.scope
           scope (inl is) = is
-          scope (inr k) =
-              let under = ltb-true k.0 start.place (ap (λ (o : Option ℕ). is_before o start.place) (sym k.1) ∙ before) in
-              let over = k.2 in
-              absurd (omega (arith, under, over))
+          scope (inr k) = absurd (omega (arith, ltb-true k.0 start.place (ap (λ (o : Option ℕ). is_before o start.place) (sym k.1) ∙ before), k.2))
 
       by : ((start.place == r.row.place) ≡ true) ⊎ ((is_below start r.row && is_before r.row.scope start.place) ≡ true) → InRange ps start.scope place (end_by (is_item start) place start.past) x
       by (inl same) =
-          let e = at_start in
-          let alike = eqb-true start.place r.row.place same in
-          let here : place ≡ x = sym e ∙ alike ∙ at in
+          let here : place ≡ x = sym at_start ∙ eqb-true start.place r.row.place same ∙ at in
           record {
             row = r.row;
             is = r.is;
             named = r.named;
-            scope_is = ap (λ (p : Placed). p.scope) (same_row here);
+            scope_is = ap (λ (p : Placed). p.scope) (same_there ps x r.row start r.is (ap (slice_get ps) (sym here) ∙ there));
             low = omega (arith, here);
             high = subst (λ n. n < end_by (is_item start) place start.past) here (room (is_item start));
           }
       by (inr both) =
           let parts = and_parts (is_below start r.row) (is_before r.row.scope start.place) both in
           let lies = and_parts (nat_lt start.place r.row.place) (nat_lt r.row.place start.past) parts.0 in
-          let low = ltb-true start.place r.row.place lies.0 in
-          let high = ltb-true r.row.place start.past lies.1 in
-          let e = at_start in
-          inner (is_item start) refl (omega (arith, e, at, low)) (omega (arith, at, high)) parts.1
+          inner (is_item start) refl (omega (arith, at_start, at, ltb-true start.place r.row.place lies.0)) (omega (arith, at, ltb-true r.row.place start.past lies.1)) parts.1

@@ -44,9 +44,8 @@ own_grows (Some own) low high l o = omega (arith, l, o)
 join : (at : Open) (g mid later : Growing) (all1 all2 own : Chars) (ps qs : List Placed) → OwnIn at.own (length g.times)
     → Begun at g all1 ps mid → Grown at mid all2 own qs later → Grown at g (all1 ++ all2) own (ps ++ qs) later
 join at g mid later all1 all2 own ps qs o a c =
-    let long = length-append g.times a.more_times in
     let times_size : length mid.times ≡ length (g.times ++ a.more_times) = ap (λ (l : List Chars). length l) a.times in
-    let low : length g.times ≤ length mid.times = omega (arith, long, times_size) in
+    let low : length g.times ≤ length mid.times = omega (arith, length-append g.times a.more_times, times_size) in
     let kept : Keeps (length g.times) mid.times later.times =
     λ time part l h. subst (λ (l : List Chars). slice_get l time ≡ Some part) (sym c.times) (keeps at.own own mid.times c.more_times (length g.times) o time part l h) in
     let first = rows_more mid.words mid.text c.more_words c.more_text mid.times later.times (length g.times) a.new ps kept a.owns a.shown in
@@ -198,10 +197,9 @@ row_ends : (rows new whole : List Row) (row : Row) (mark : ℕ) → whole ≡ (r
     → with_end (Some (length rows)) mark whole ≡ rows ++ (ended row (length whole) mark ∷ new)
 row_ends rows new whole row mark e =
     let split : whole ≡ rows ++ (row ∷ new) = e ∙ append_assoc rows (row ∷ []) new in
-    let size = length-append rows (row ∷ new) in
     let long : length whole ≡ length (rows ++ (row ∷ new)) = ap (λ (l : List Row). length l) split in
     ap (λ b. cond b (slice_set whole (length rows) (ended (slice_index_or whole (length rows) nothing_kept) (length whole) mark)) whole)
-    (lt-ltb (length rows) (length whole) (omega (arith, size, long)))
+    (lt-ltb (length rows) (length whole) (omega (arith, length-append rows (row ∷ new), long)))
     ∙ ap (λ (x : Row). slice_set whole (length rows) (ended x (length whole) mark))
     (ap (λ (l : List Row). slice_index_or l (length rows) nothing_kept) split ∙ get_or-append_seam rows row new nothing_kept)
     ∙ ap (λ (l : List Row). slice_set l (length rows) (ended row (length whole) mark)) split
@@ -244,10 +242,8 @@ module _ (g : Growing) (t : StartTag) (inner : Tree) where
       ap innermost a.line ∙ last_of g.line (newest (innermost g.line)) nothing_open ∙ ap newest e in
       let rows2 : g2.rows ≡ (g.rows ++ (new_row at ∷ [])) ++ a.new = a.rows ∙ ap (λ (o : Open). (g.rows ++ (new_row o ∷ [])) ++ a.new) e in
       let split : g2.rows ≡ g.rows ++ (new_row at ∷ a.new) = rows2 ∙ append_assoc g.rows (new_row at ∷ []) a.new in
-      let size = length-append g.rows (new_row at ∷ a.new) in
       let long : length g2.rows ≡ length (g.rows ++ (new_row at ∷ a.new)) = ap (λ (l : List Row). length l) split in
-      let new_size = shows_length g2.words g2.text g2.times a.new ps a.shown in
-      let past : length g2.rows ≡ suc (length g.rows) + row_count inner = omega (arith, size, long, new_size, count) in
+      let past : length g2.rows ≡ suc (length g.rows) + row_count inner = omega (arith, length-append g.rows (new_row at ∷ a.new), long, shows_length g2.words g2.text g2.times a.new ps a.shown, count) in
       let words_more : More (text_taken kept_text (tag_in t)) g2.words = (a.more_words, a.words) in
       let kept_more : More kept_text g2.words = more_then kept_text (text_taken kept_text (tag_in t)) g2.words (taken_on kept_text t) words_more in
       let all_more : More g.words g2.words = more_then g.words kept_text g2.words (all_words g.words t.attributes) kept_more in
@@ -322,9 +318,8 @@ module _ (t : StartTag) (inner more : Tree) (in_inner : Grows inner) (in_more : 
       let new_size = shows_length mid.words mid.text mid.times a.new ps a.shown in
       let row_size : length ps ≡ behind b (row_count inner) = ap (λ (l : List Placed). length l) (sym same) ∙ size_of b p ins ∙ ap (behind b) (rows_length (scope_in t (length g.rows) at.scope) (behind b (length g.rows)) inner) in
       let place : length mid.rows ≡ behind b (length g.rows) + row_count inner = sum_of b (length mid.rows) (length g.rows) (row_count inner) (mid_size ∙ long ∙ ap (λ n. length g.rows + n) (new_size ∙ row_size)) in
-      let times_long = length-append g.times a.more_times in
       let times_size : length mid.times ≡ length (g.times ++ a.more_times) = ap (λ (l : List Chars). length l) a.times in
-      let c = in_more at mid (ap innermost a.line ∙ e) (own_grows at.own (length g.times) (length mid.times) (omega (arith, times_long, times_size)) o) in
+      let c = in_more at mid (ap innermost a.line ∙ e) (own_grows at.own (length g.times) (length mid.times) (omega (arith, length-append g.times a.more_times, times_size)) o) in
       let whole : rows_from at.scope (length g.rows) (element t inner more) ≡ ps ++ rows_from at.scope (length mid.rows) more =
       element_rows t inner more at.scope (length g.rows) b m
       ∙ front_row b p ins (rows_from at.scope (behind b (length g.rows) + row_count inner) more)
@@ -363,8 +358,7 @@ module _ (t : StartTag) (inner more : Tree) (in_inner : Grows inner) (in_more : 
       let y : Open = record { row = None; scope = (innermost g.line).scope; gathers = (innermost g.line).gathers; own = None } in
       let last : innermost (passed g).line ≡ x =
       last_of g.line y nothing_open ∙ ap (λ (o : Open). record { row = None; scope = o.scope; gathers = o.gathers; own = None }) e in
-      let a = in_inner x (passed g) last tt in
-      let start = passes at g (after (passed g) inner) (all_text inner) (own_text inner) (rows_from at.scope (length g.rows) inner) e a in
+      let start = passes at g (after (passed g) inner) (all_text inner) (own_text inner) (rows_from at.scope (length g.rows) inner) e (in_inner x (passed g) last tt) in
       follows (finished (after (passed g) inner)) false (rows_from at.scope (length g.rows) inner) m start
       (ap (λ b. rows_from (cond b (Some (length g.rows)) at.scope) (length g.rows) inner) (not_item t inner (marks_matter t inner ∙ m)))
 
@@ -377,10 +371,7 @@ grows end at g e o = nothing at g
 grows (element t inner more) at g e o = by_mark t inner more (grows inner) (grows more) at g e o (is_marked t.attributes) refl
 grows (text chars more) at g e o =
     says at g (after (said g chars) more) chars (all_text more) (own_text more) (rows_from at.scope (length g.rows) more) e
-    (grows more at (said g chars) e (own_grows at.own (length g.times) (length (said g chars).times) (said_size g chars) o))
-  where
-    said_size : (g : Growing) (chars : Chars) → length g.times ≤ length (said g chars).times
-    said_size g chars = let e = said_length (innermost g.line).own chars g.times in omega (arith, e)
+    (grows more at (said g chars) e (own_grows at.own (length g.times) (length (said g chars).times) (omega (arith, said_length (innermost g.line).own chars g.times)) o))
 
 pub show : TablesShow
 show tree =

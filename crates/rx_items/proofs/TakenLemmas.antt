@@ -117,23 +117,16 @@ ShowsTaken words (taken.Reference span) v all own = (part : Chars) × (v ≡ Ref
 ShowsTaken words taken.Text v all own = v ≡ Written all
 ShowsTaken words taken.ChildText v all own = v ≡ Written own
 
-written_shown : (text : Chars) (o : Option Chars) (all own : Chars) → ShowsTaken (word_text text o) (written (word_span text o)) (Written (unwrap_or o [])) all own
-written_shown text None all own = refl
-written_shown text (Some part) all own = (part, refl, word_shown text (Some part))
-
-referred_shown : (text : Chars) (o : Option Chars) (all own : Chars) → ShowsTaken (word_text text o) (referred (word_span text o)) (referred_value o) all own
-referred_shown text None all own = refl
-referred_shown text (Some part) all own = (part, refl, word_shown text (Some part))
-
-own_shown : (text : Chars) (o : Option Chars) (all own : Chars) → ShowsTaken (word_text text o) (own_unless (word_span text o)) (Written (unwrap_or o own)) all own
-own_shown text None all own = refl
-own_shown text (Some part) all own = (part, refl, word_shown text (Some part))
+value_shown : (text : Chars) (o : Option Chars) (takes : Option Span → Taken) (v : Option Chars → Value) (all own : Chars) → ShowsTaken text (takes None) (v None) all own
+    → ((later part : Chars) (span : Span) → ShowsPart later span part → ShowsTaken later (takes (Some span)) (v (Some part)) all own) → ShowsTaken (word_text text o) (takes (word_span text o)) (v o) all own
+value_shown text None takes v all own none some = none
+value_shown text (Some part) takes v all own none some = some (word_text text (Some part)) part _ (word_shown text (Some part))
 
 source_shown : (s : Source) (text : Chars) (t : StartTag) (inner : Tree)
     → ShowsTaken (text_by s text t.attributes) (taken_by s text t.attributes) (value_from s t inner) (all_text inner) (own_text inner)
-source_shown (AsWritten name) text t inner = written_shown text (value_of t.attributes name) (all_text inner) (own_text inner)
-source_shown (AsReference name) text t inner = referred_shown text (value_of t.attributes name) (all_text inner) (own_text inner)
-source_shown (OrOwnText name) text t inner = own_shown text (value_of t.attributes name) (all_text inner) (own_text inner)
+source_shown (AsWritten name) text t inner = value_shown text (value_of t.attributes name) written (λ o. Written (unwrap_or o [])) (all_text inner) (own_text inner) refl (λ later part span s. (part, refl, s))
+source_shown (AsReference name) text t inner = value_shown text (value_of t.attributes name) referred referred_value (all_text inner) (own_text inner) refl (λ later part span s. (part, refl, s))
+source_shown (OrOwnText name) text t inner = value_shown text (value_of t.attributes name) own_unless (λ o. Written (unwrap_or o (own_text inner))) (all_text inner) (own_text inner) refl (λ later part span s. (part, refl, s))
 source_shown AllText text t inner = refl
 
 asked_shown : (b : Bool) (s : Source) (text : Chars) (t : StartTag) (inner : Tree)

@@ -1,13 +1,13 @@
 -- The table after some signs, and the base that is known then.
-use Rattle.rx_items.proofs.Common.{◌≡◌, ℕ, suc, ◌-◌, Bool, true, false, cond, List, [], ◌∷◌, ◌++◌, map, length, refl, sym, ap, subst, ◌∙◌, Chars, arith, StartTag, Tree, end, element, text, Sign, signs_of, is_marked, text_of_words, tag_in, after, nothing_read, Setting, told, told_all, BaseIs, BaseMoves, Collects}
+use Rattle.rx_items.proofs.Common.{◌≡◌, ℕ, suc, ◌-◌, Bool, true, false, cond, List, [], ◌∷◌, ◌++◌, map, length, refl, sym, ap, subst, ◌∙◌, Chars, arith, StartTag, Tree, end, element, text, Sign, signs_of, is_marked, tag_in, after, nothing_read, Setting, told, told_all, BaseIs, BaseMoves, Collects}
 use Rattle.std.proofs.lemmas.List.{length-append, length-take-le, append-nil, append_assoc}
 use Rattle.rx_rdfa.specs.Tree.{Tag}
+use Rattle.rx_terms.proofs.Bools.{by_test}
 use Rattle.rx_nest.specs.Signs as sign
 use Rattle.rx_base.specs.Lines.{line_of, line_on}
 use Rattle.rx_base.specs.Seekings.{seek, sought, first_child}
 use Rattle.rx_base.proofs.Lines.{seeks_append, said_seeks}
-use Rattle.rx_items.specs.Values.{taken_of, text_taken}
-use Rattle.rx_items.specs.Growing.{Growing, innermost, said, finished, begun, added, passed, head_of}
+use Rattle.rx_items.specs.Growing.{Growing, innermost, said, finished, begun}
 use Rattle.rx_items.specs.declared.collectors.Base.{Base}
 use Rattle.rx_items.specs.declared.collectors.Collector.{Collector}
 use Rattle.rx_items.specs.declared.rows.Open.{Open}
@@ -24,16 +24,10 @@ more_text true chars a b = append_assoc chars a b
 more_text false chars a b = refl
 
 said_none : (g : Growing) → said g [] ≡ g
-said_none g =
-    let texts = nothing_more (innermost g.line).gathers g.text in
-    let times = said_nothing (innermost g.line).own g.times in
-    λ i. record g { text = texts i; times = times i }
+said_none g = λ i. record g { text = nothing_more (innermost g.line).gathers g.text i; times = said_nothing (innermost g.line).own g.times i }
 
 said_both : (g : Growing) (a b : Chars) → said (said g a) b ≡ said g (a ++ b)
-said_both g a b =
-    let texts = more_text (innermost g.line).gathers g.text a b in
-    let times = said_twice (innermost g.line).own a b g.times in
-    λ i. record g { text = texts i; times = times i }
+said_both g a b = λ i. record g { text = more_text (innermost g.line).gathers g.text a b i; times = said_twice (innermost g.line).own a b g.times i }
 
 pub told_said : (g : Growing) (chars : Chars) → told_all g (map sign.said chars) ≡ said g chars
 told_said g [] = sym (said_none g)
@@ -62,13 +56,7 @@ longer : (line : List Open) (o : Open) → length (line ++ (o ∷ [])) ≡ suc (
 longer line o = let e = length-append line (o ∷ []) in omega (arith, e)
 
 begun_longer : (g : Growing) (t : StartTag) → length (begun g (tag_in t) t.token t.at).line ≡ suc (length g.line)
-begun_longer g t = go (is_marked t.attributes)
-  where
-    go : (b : Bool)
-        → length (cond b (added (record g { words = text_taken (text_of_words g.words t.attributes) (tag_in t) }) (head_of g.words (tag_in t) t.token t.at) (taken_of (text_of_words g.words t.attributes) (tag_in t))) (passed g)).line
-        ≡ suc (length g.line)
-    go true = longer g.line _
-    go false = longer g.line _
+begun_longer g t = by_test (is_marked t.attributes) (λ e. rw e (longer g.line _)) (λ e. rw e (longer g.line _))
 
 finished_shorter : (g : Growing) → length (finished g).line ≡ length g.line - 1
 finished_shorter g = length-take-le (length g.line - 1) g.line (omega arith)

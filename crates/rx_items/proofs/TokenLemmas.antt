@@ -22,8 +22,7 @@ none_white : (text : List ℕ) → list_all (λ b. nat_lt 32 b) text ≡ true �
 none_white [] h = refl
 none_white (c ∷ text) h =
     let parts = both (nat_lt 32 c) (list_all (λ b. nat_lt 32 b) text) h in
-    let rest = none_white text parts.1 in
-    rw (visible c parts.0) (omega (arith, rest))
+    rw (visible c parts.0) (omega (arith, none_white text parts.1))
 
 no_place : (n m : ℕ) → n ≡ m → None ≡ cond (nat_lt n m) (Some n) None
 no_place n m e =

@@ -1,6 +1,7 @@
 -- The visit of an item, and those of its properties.
 use Rattle.rx_items.proofs.Common.{◌≡◌, ◌∙◌, ◌+◌, ◌<◌, ◌≤◌, ℕ, zero, suc, Bool, true, false, cond, List, [], ◌∷◌, ◌++◌, length, drop, get_or, Option, Some, None, option_map, refl, sym, ap, subst, arith, ◌==◌, nat_le, flat_map, slice_get, Result, Ok, Err, IsErrAnd, list_any, option_or, Chars, Kind, Cycle, ItemsTooNested, ItemsTooMany, Stop, Placed, Visit, visits_from, standard_bounds, fault_of, first_fault, is_cycle, items_in, Refused, properties_in, AllStand, places, At, path_of, kind_of, NoFault, HasFault, Finds, Enters, steps_in, visits_in}
 use Rattle.rx_terms.proofs.Bools.{by_test}
+use Rattle.std.proofs.lemmas.List.{length-map}
 use Rattle.rx_grammar.specs.declared.stops.Stop.TheVariants as stop
 use Rattle.rx_items.specs.declared.kept.Element.{Element}
 use Rattle.rx_items.specs.declared.kept.Kept.{Kept}
@@ -34,8 +35,7 @@ row_at rows es list i is stand lt = subst (λ (l : List ℕ). RowAt rows es i (g
     go (e ∷ es) zero s lt = record { row = e; row_is = s.0; within = omega arith; is = refl }
     go (e ∷ es) (suc i) s lt =
         let r = go es i s.1 (omega (arith, lt)) in
-        let within = r.within in
-        record { row = r.row; row_is = r.row_is; within = omega (arith, within); is = r.is }
+        record { row = r.row; row_is = r.row_is; within = omega (arith, r.within); is = r.is }
 
 -- ---- the visit itself
 
@@ -48,19 +48,12 @@ enter_err above root place left P old new element (stop.Fault fault) is at token
     record {
       kind = f.0;
       visit = root ∷ above;
-      found = ap (λ (o : Option Kind). option_or (option_map (λ (kind : Kind). (kind, root ∷ above)) o) (first_fault standard_bounds (suc old.visits) (behind_first P left above root))) fault_kind;
+      found = ap (λ (o : Option Kind). option_or (option_map (λ (kind : Kind). (kind, root ∷ above)) o) (first_fault standard_bounds (suc old.visits) (drop 1 (visits_from P (suc left) above root)))) fault_kind;
       is = ap Refused (sym (f.2 ∙ (λ i. record { kind = f.0; token = token i; at = decides i })));
     }
-  where
-    behind_first : (Placed → List Placed) → ℕ → Visit → Placed → List Visit
-    behind_first P left above root = drop 1 (visits_from P (suc left) above root)
-
-places_size : (es : List Placed) → length (places es) ≡ length es
-places_size [] = refl
-places_size (e ∷ es) = ap suc (places_size es)
 
 pub list_end : (list : List ℕ) (es : List Placed) (i : ℕ) → list ≡ places es → length list ≤ i → length es ≤ i
-list_end list es i is over = let size = ap (λ (l : List ℕ). length l) is ∙ places_size es in omega (arith, size, over)
+list_end list es i is over = let size = ap (λ (l : List ℕ). length l) is ∙ length-map es (λ (e : Placed). e.place) in omega (arith, size, over)
 
 pub told : {X : Type 0} (start after : ℕ) (visits : List Visit) (Given : X → Type 0) (r : Result X Stop) (x : Stop) → IsErrAnd r (λ y. y ≡ x) → HasFault start visits x → Finds {X = X} start visits after Given r
 told {X} start after visits Given r x is f = err_told (λ (r : Result X Stop). Finds {X = X} start visits after Given r) r x is f
@@ -100,7 +93,7 @@ enter_ok kept rows base above left root place old new element at row f = by left
         shorter n m deep size = grind (arith, deep, size)
 
     by : (left : ℕ) → left + length above ≡ 40 → Entered kept rows base new.path.items above left old.visits root
-    by zero deep = let lt = short in absurd (omega (arith, deep, lt))
+    by zero deep = absurd (omega (arith, deep, short))
     by (suc room) deep = record {
       room = room;
       left_is = refl;
@@ -144,12 +137,8 @@ module _ (rows : List Placed) (base : Chars) (above : Visit) (root : Placed) (ro
   unfolding inner
   group_ok before middle after none next f =
       let all = opened (not_cycle before (root ∷ above) none) in
-      let counted = f.counted in
       let size : length (visits_from (properties_in rows) (suc (suc room)) above root) ≡ suc (length inner) = ap (λ (vs : List Visit). length vs) all in
       record {
         none = ap (first_fault standard_bounds before) all ∙ first_then before inner none ∙ ap (λ n. first_fault standard_bounds n inner) (sym next) ∙ f.none;
-        counted = sum before middle after (length (visits_from (properties_in rows) (suc (suc room)) above root)) (length inner) next counted size;
+        counted = omega (arith, next, f.counted, size);
       }
-    where
-      sum : (b m a n k : ℕ) → m ≡ b + 1 → a ≡ m + k → n ≡ suc k → a ≡ b + n
-      sum b m a n k e f g = omega (arith, e, f, g)

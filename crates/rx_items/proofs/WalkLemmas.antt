@@ -24,16 +24,12 @@ rises_push rows members x more lt up below = (
 key_later : (scope : Option ℕ) (a b : ℕ) → a ≤ b → key_of scope a ≤ key_of scope b
 key_later scope a b le = omega (arith, le)
 
-key_before : (scope : Option ℕ) (a b : ℕ) → a < b → key_of scope a < key_of scope b
-key_before scope a b lt = omega (arith, lt)
-
 next_behind : (row : Row) (place : ℕ) → place < next_place row place
 next_behind row place = by row.head.is_item (nat_lt place row.past) refl
   where
     by : (item longer : Bool) → nat_lt place row.past ≡ longer → place < cond (item && longer) row.past (place + 1)
     by true true e = ltb-true place row.past e
-    by true false e = omega arith
-    by false longer e = omega arith
+    by _ _ e = omega arith
 
 -- behind the place and before the next one stands what is inside an item
 passed_by : (row : Row) (place x : ℕ) → place < x → x < next_place row place → (row.head.is_item ≡ true) × (x < row.past)
@@ -41,8 +37,7 @@ passed_by row place x low high = by row.head.is_item (nat_lt place row.past) ref
   where
     by : (item longer : Bool) → row.head.is_item ≡ item → x < cond (item && longer) row.past (place + 1) → (row.head.is_item ≡ true) × (x < row.past)
     by true true e lt = (e, lt)
-    by true false e lt = absurd (omega (arith, low, lt))
-    by false longer e lt = absurd (omega (arith, low, lt))
+    by _ _ e lt = absurd (omega (arith, low, lt))
 
 module _ (rows : List Row) (scope : Option ℕ) (from place : ℕ) (initial old new : List ℕ) (row : Row) (there : slice_get rows place ≡ Some row) (low : from ≤ place)
     (added : new ≡ old ++ cond (row.head.named && (scope_number row.scope == scope_number scope)) (place ∷ []) []) (a : Adds rows scope from place place initial old) where
@@ -72,14 +67,13 @@ module _ (rows : List Row) (scope : Option ℕ) (from place : ℕ) (initial old 
   rises_by : (b : Bool) → (row.head.named && (scope_number row.scope == scope_number scope)) ≡ b → Rises rows old → AllBelow rows old (key_of scope place) → Rises rows new × AllBelow rows new (key_of scope (next_place row place))
   rises_by true e up below =
       let is = number e in
-      let behind = key_before scope place (next_place row place) (next_behind row place) in
+      let behind : key_of scope place < key_of scope (next_place row place) = omega (arith, next_behind row place) in
       subst (λ (l : List ℕ). Rises rows l × AllBelow rows l (key_of scope (next_place row place))) (sym (grown true e))
       (rises_push rows old place (key_of scope (next_place row place)) (subst (λ n. n < key_of scope (next_place row place)) (sym is) behind) up (subst (AllBelow rows old) (sym is) below))
   rises_by false e up below =
-      let behind = next_behind row place in
       let same : new ≡ old = grown false e ∙ append-nil old in
       subst (λ (l : List ℕ). Rises rows l × AllBelow rows l (key_of scope (next_place row place))) (sym same)
-      (up, below_more rows old (key_of scope place) (key_of scope (next_place row place)) (key_later scope place (next_place row place) (omega (arith, behind))) below)
+      (up, below_more rows old (key_of scope place) (key_of scope (next_place row place)) (key_later scope place (next_place row place) (omega (arith, next_behind row place))) below)
 
   pub adds_turn : Adds rows scope from (next_place row place) (next_place row place) initial new
   adds_turn = record {
@@ -100,8 +94,7 @@ module _ (rows : List Row) (scope : Option ℕ) (from place : ℕ) (initial old 
           let inner = passed_by row place x lt high_x in
           let k = lies.inside place x row found there is inner.0 lt inner.1 in
           let number : scope_number scope ≡ k.0 + 1 = ap scope_number (sym scope_is ∙ k.1) in
-          let deep = k.2 in
-          absurd (omega (arith, before, low, number, deep))
+          absurd (omega (arith, before, low, number, k.2))
 
 -- what stands behind the last row isn't there
 pub adds_all : (rows : List Row) (scope : Option ℕ) (from to place : ℕ) (old new : List ℕ) → ((x : ℕ) (row : Row) → x < to → slice_get rows x ≡ Some row → x < place) → place ≤ 18446744073709551615 → Adds rows scope from place place old new
@@ -134,9 +127,8 @@ item_some rows place row old new there a = record {
   all = λ lies x found is named scope_is.
       let around = lies.around x place found is scope_is in
       let alike : around.0 ≡ row = same_there rows place around.0 row around.1 there in
-      let low = around.3 in
       let high : x < row.past = subst (λ (r : Row). x < r.past) alike around.4 in
-      a.all lies (omega arith) x found (omega (arith, low)) high is named scope_is;
+      a.all lies (omega arith) x found (omega (arith, around.3)) high is named scope_is;
   rises = λ up below.
       let r = a.rises up (below_more rows old (key_of (Some place) 0) (key_of (Some place) (place + 1)) (omega arith) below) in
       (r.0, below_more rows new (key_of (Some place) 18446744073709551615) (key_of (Some (suc place)) 0) (omega arith) r.1);
@@ -196,10 +188,7 @@ done_all rows place members past d lies x = (
     is_done : (row : Row) → slice_get rows x ≡ Some row → (o : Option ℕ) → row.scope ≡ o → IsDone o place
     is_done row is None e = tt
     is_done row is (Some k) e =
-        let around = lies.around x k row is e in
-        let low = around.3 in
-        let short = slice_get_within rows x row is in
-        omega (arith, low, short, past)
+        omega (arith, (lies.around x k row is e).3, slice_get_within rows x row is, past)
 
 -- ---- where a bound falls
 
@@ -208,9 +197,8 @@ pub first_by_last : (rows : List Row) (members : List ℕ) (bound count default 
 first_by_last rows members bound count default some fits under up = (
   fits,
   (λ k d low high.
-      let le = up k (count - 1) d (omega (arith, high)) (omega (arith, some, fits)) in
       let same : key_at rows (get_or members (count - 1) d) ≡ key_at rows (get_or members (count - 1) default) = ap (key_at rows) (get_or_default members (count - 1) d default (omega (arith, some, fits))) in
-      lt-ltb (key_at rows (get_or members k d)) bound (omega (arith, le, same, under))),
+      lt-ltb (key_at rows (get_or members k d)) bound (omega (arith, up k (count - 1) d (omega (arith, high)) (omega (arith, some, fits)), same, under))),
 )
 
 pub point_here : (rows : List Row) (members : List ℕ) (bound at default : ℕ) → at < length members → bound ≤ key_at rows (get_or members at default) → Rises rows members → FirstBelow rows members bound at

@@ -28,13 +28,12 @@ pub item_made : {old begun first keyed group last new : Log} (base : Chars) (roo
     → Grows keyed group (data_events (object ms)) → ms ≡ grouped pairs → Grows group last (members_events (with_types root.types no_members)) → Logs last new event.map_ends
     → Grows old new (data_events (item_of base root pairs))
 item_made {old} {begun} {first} {keyed} {group} {last} {new} base root pairs ms b i k g is t e =
-    let id = members_events (with_id base root.item_id no_members) in
     let types = members_events (with_types root.types no_members) in
     let props = data_events (object (grouped pairs)) in
     let more : Members = member (codes "properties") (object (grouped pairs)) (with_types root.types no_members) in
     let told : Grows keyed group props = told_as (data_events (object ms)) props (ap (λ (m : Members). data_events (object m)) is) g in
     let inside = both i (both (one first keyed (event.field_key (codes "properties") AsIs) k) (both told t)) in
-    object_made (id ++ event.field_key (codes "properties") AsIs ∷ (props ++ types)) (with_id base root.item_id more) (sym (id_first base root.item_id more)) b inside e
+    object_made ((members_events (with_id base root.item_id no_members)) ++ event.field_key (codes "properties") AsIs ∷ (props ++ types)) (with_id base root.item_id more) (sym (id_first base root.item_id more)) b inside e
 
 -- an item that is not too deep
 pub item_told : {old begun first keyed group last new : Log} (rows : List Placed) (base own : Chars) (left : ℕ) (root : Placed) → (left ≡ 0 → ⊥) → AllStand rows (properties_in rows root)

@@ -1,6 +1,7 @@
 use Rattle.rx_items.proofs.Common.{rules, ◌∙◌, sym, ap, ◌∷◌, ◌++◌, List, chars, IsUtf8, Chars, tokens, distinct_tokens, without_repeats_of}
 use Rattle.rx_items.specs.Distinct.{has_text}
-use Rattle.rx_items.proofs.DistinctLemmas.{Sees, sees_new, unseen, new_turn}
+use Rattle.rx_items.proofs.DistinctLemmas.{Sees, sees_new, new_turn}
+use Rattle.rx_terms.proofs.Bools.{untrue}
 use Rattle.rx_items.proofs.distinct.distinct.Goals as goal
 
 pub loop-token-preserved : goal.loop-token-preserved
@@ -9,7 +10,7 @@ loop-token-preserved c =
     let token = c.in-Some.token.now in
     let utf8 : IsUtf8 token = search rules in
     let sees : Sees (has_text l.seen) l.invariant.so_far = record { at = l.invariant.sees } in
-    let absent = sym (l.invariant.sees token utf8) ∙ unseen c.in_ok-see.field-0 (has_text l.seen token) c.in_ok-see.ensures.is_new c.if-not-branch.false in
+    let absent = sym (l.invariant.sees token utf8) ∙ untrue (has_text l.seen token) (sym c.in_ok-see.ensures.is_new ∙ c.if-not-branch.false) in
     let next = sees_new (has_text l.seen) (has_text c.see.new.seen) l.invariant.so_far token utf8 sees c.in_ok-see.ensures.added in
     record {
       utf8 = search rules;

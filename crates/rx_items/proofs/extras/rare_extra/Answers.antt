@@ -9,12 +9,11 @@ use Rattle.rx_items.proofs.extras.rare_extra.Goals as goal
 
 pub returns-then-not-row : goal.returns-then-not-row
 returns-then-not-row c text times tree sorted up looks =
-    let members = c.args.members.now in
     let ps = rows_of tree in
     let rows = c.args.rows.now in
     let r = row_shown c.args.words.now text times rows ps c.args.place nothing_kept sorted.shows c.requires in
     let row = get_or rows c.args.place nothing_kept in
-    fits_by c.args.words.now text times ps members rows c.args.place row r.0 c.in_ok-plain.plain (slice_get-get_or rows c.args.place nothing_kept c.requires) r.1 r.2
+    fits_by c.args.words.now text times ps c.args.members.now rows c.args.place row r.0 c.in_ok-plain.plain (slice_get-get_or rows c.args.place nothing_kept c.requires) r.1 r.2
     (c.in_ok-plain.ensures.names r.2.itemprop r.2.has_names) (c.in_ok-plain.ensures.types r.2.itemtype r.2.has_types) (λ item. absurd (not_both_ways row.head.is_item (r.2.is_item ∙ item) c.if-not-row.true))
 
 pub returns : goal.returns

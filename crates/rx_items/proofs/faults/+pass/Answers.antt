@@ -1,4 +1,4 @@
-use Rattle.rx_items.proofs.Common.{◌∙◌, ℕ, suc, List, ◌∷◌, ap, sym, subst, Contains, ◌↔◌, arith, visits_from, is_item, names_of, properties_in, is_there, gathered, HasFault, NoFault, Placed, steps_of, steps_in, visits_in, again}
+use Rattle.rx_items.proofs.Common.{◌∙◌, ℕ, suc, ◌∷◌, ap, sym, subst, arith, visits_from, is_item, names_of, properties_in, is_there, HasFault, NoFault, Placed, steps_of, steps_in, visits_in, again}
 use Rattle.rx_items.proofs.HoldLemmas.{is_element, list_is, all_stand, place_is}
 use Rattle.rx_items.proofs.VisitLemmas.{at_path, no_element, row_at, list_end, told, enter_err, enter_ok, group_err, group_ok}
 use Rattle.rx_items.proofs.FoundLemmas.{one_none}
@@ -29,18 +29,12 @@ pass-returns-clause-finds t c rows base above left root at row found item =
 
 pub pass_item-returns-in-Some-clause-finds : goal.pass_item-returns-in-Some-clause-finds
 pass_item-returns-in-Some-clause-finds t c rows base above left root at row found item =
-    let runs = c.args.element.now.own ∷ c.args.element.now.others.now in
-    let same : (x : ℕ) → Contains c.in-Some.list.now x ↔ Contains (gathered c.as_slice.result.now runs c.args.place) x = c.in-Some.ensures.same in
-    let all = subst (λ (ms : List ℕ). (x : ℕ) → Contains c.in-Some.list.now x ↔ Contains (gathered ms runs c.args.place) x) c.as_slice.ensures.value same in
-    let list = list_is c.args.kept.now rows base root c.args.element.now c.args.place c.in-Some.list.now at.holds found item c.in-Some.ensures.rise all in
+    let list = list_is c.args.kept.now rows base root c.args.element.now c.args.place c.in-Some.list.now c.as_slice.result.now at.holds found item c.in-Some.ensures.rise c.as_slice.ensures.value c.in-Some.ensures.same in
     c.pass_each.ensures.finds rows base above left (properties_in rows root) at list (all_stand _ rows at.holds.numbered)
 
 pub pass_sorted-returns-clause-finds : goal.pass_sorted-returns-clause-finds
 pass_sorted-returns-clause-finds t c rows base above left root at row found item =
-    let runs = c.args.element.now.own ∷ c.args.element.now.others.now in
-    let same : (x : ℕ) → Contains c.in_ok-list.list.items x ↔ Contains (gathered c.as_slice.result.now runs c.args.place) x = c.in_ok-list.ensures.same in
-    let all = subst (λ (ms : List ℕ). (x : ℕ) → Contains c.in_ok-list.list.items x ↔ Contains (gathered ms runs c.args.place) x) c.as_slice.ensures.value same in
-    let list = list_is c.args.kept.now rows base root c.args.element.now c.args.place c.in_ok-list.list.items at.holds found item c.in_ok-list.ensures.rise all in
+    let list = list_is c.args.kept.now rows base root c.args.element.now c.args.place c.in_ok-list.list.items c.as_slice.result.now at.holds found item c.in_ok-list.ensures.rise c.as_slice.ensures.value c.in_ok-list.ensures.same in
     c.pass_each.ensures.finds rows base above left (properties_in rows root) at (c.as_slice-2.ensures.value ∙ list) (all_stand _ rows at.holds.numbered)
 
 pub pass_each-returns-in_err-pass_property-clause-finds : goal.pass_each-returns-in_err-pass_property-clause-finds
@@ -77,10 +71,9 @@ pass_property-returns-then-not-is_item_at-clause-finds t c rows base above left 
 pub pass_property-returns-clause-finds : goal.pass_property-returns-clause-finds
 pass_property-returns-clause-finds t c rows base above left e at row =
     let found = is_element c.args.kept.now rows c.args.place c.in-Some.element e row (c.in-Some.ensures rows base at.holds) in
-    let shown = found.shown in
     let item = sym (c.is_item_at.ensures rows base at.holds ∙ ap (is_there is_item) row) ∙ c.if-not-is_item_at.false in
     item_passed rows base above left e c.args.trail.now.visits c.pass_times.new.trail.visits c.count.result c.pass_times.result
-    (c.count.ensures ∙ counted c.args.kept.now.words c.in-Some.element.names (names_of e) shown.names) item (c.pass_times.ensures.finds rows base above left e at row found item)
+    (c.count.ensures ∙ counted c.args.kept.now.words c.in-Some.element.names (names_of e) found.shown.names) item (c.pass_times.ensures.finds rows base above left e at row found item)
 
 pub pass_times-returns-in_err-pass-clause-finds : goal.pass_times-returns-in_err-pass-clause-finds
 pass_times-returns-in_err-pass-clause-finds t c rows base above left root at row found item =
@@ -93,10 +86,9 @@ pass_times-returns-in_err-pass-clause-finds t c rows base above left root at row
 pub pass_times-loop-preserved : goal.pass_times-loop-preserved
 pass_times-loop-preserved t c =
     let l = c.loop in
-    let lt = c.loop-test.true in
     record {
       path = c.in_ok-pass.ensures.path ∙ l.invariant.path;
-      within = omega (arith, lt);
+      within = omega (arith, c.loop-test.true);
       did = λ rows base above left root at row found item.
           let passed = c.in_ok-pass.ensures.finds rows base above left root (at_path l.trail.path.items l.invariant.path at) row found item in
           times_on c.args.trail.now.visits l.trail.visits c.pass.new.trail.visits l.counter (visits_from (properties_in rows) (suc left) above root) (l.invariant.did rows base above left root at row found item) passed.0;

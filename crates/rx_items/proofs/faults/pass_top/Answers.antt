@@ -14,6 +14,5 @@ returns-then-not-is_top_at-clause-finds c rows base e holds start row =
 pub returns-clause-finds : goal.returns-clause-finds
 returns-clause-finds c rows base e holds start row =
     let found = is_element c.args.kept.now rows c.args.place c.in-Some.element e row (c.in-Some.ensures rows base holds) in
-    let at = tops_at c.args.trail.now.path.items holds start in
     let top = sym (c.is_top_at.ensures rows base holds ∙ ap (is_there is_top_level) row) ∙ c.if-not-is_top_at.false in
-    top_passed rows base e c.args.trail.now.visits c.pass.new.trail.visits c.pass.result top (c.pass.ensures.finds rows base [] 40 e at row found (item_of_top e top))
+    top_passed rows base e c.args.trail.now.visits c.pass.new.trail.visits c.pass.result top (c.pass.ensures.finds rows base [] 40 e (tops_at c.args.trail.now.path.items holds start) row found (item_of_top e top))

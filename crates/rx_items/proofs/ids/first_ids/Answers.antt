@@ -12,8 +12,7 @@ pub loop-place-preserved : goal.loop-place-preserved
 loop-place-preserved c gathered times ps shows n text utf8 =
     let l = c.loop-place in
     let above = c.loop-place-test.true in
-    let within = l.auto.place in
-    let shown = row_shown c.args.words.now gathered times c.args.rows.now ps (l.place - 1) nothing_kept shows (omega (arith, above, within)) in
+    let shown = row_shown c.args.words.now gathered times c.args.rows.now ps (l.place - 1) nothing_kept shows (omega (arith, above, l.auto.place)) in
     let next : l.place ≡ (l.place - 1) + 1 = omega (arith, above) in
     id_turn ps (l.place - 1) l.place shown.0 (chars text) (place_of c.note_id.new.ids text) (place_of l.ids text) n shown.1 next (l.invariant gathered times ps shows n text utf8)
     (c.in_ok-note_id.ensures shown.0.facts.id (subst (λ (span : Option Span). ShowsWord c.args.words.now span shown.0.facts.id) (sym c.id.ensures) shown.2.id) text utf8)

@@ -7,12 +7,9 @@ loop-place-preserved c =
     let l = c.loop-place in
     let rows = c.args.rows.now in
     let low = l.invariant.low in
-    let behind = c.next_place-place.ensures.behind in
-    let end = c.min-end.ensures in
-    let before = c.loop-place-test.true in
-    let short : l.place < length rows = omega (arith, end, before) in
+    let short : l.place < length rows = omega (arith, c.min-end.ensures, c.loop-place-test.true) in
     record {
-      low = omega (arith, low, behind);
+      low = omega (arith, low, c.next_place-place.ensures.behind);
       bound = c.next_place-place.ensures.bound;
       adds = rw c.next_place-place.ensures.exact
           (adds_turn rows c.args.scope c.args.from l.place c.args.members.now.items l.members.items c.add_member.new.members.items (get_or rows l.place nothing_kept) (slice_get-get_or rows l.place nothing_kept short) low c.in_ok-add_member.ensures

@@ -4,8 +4,7 @@ use Rattle.rx_items.proofs.reaches.runs_of.Goals as goal
 
 pub loop-start-init : goal.loop-start-init
 loop-start-init c words gathered times tree sorted up =
-    let members = c.args.members.now in
-    reach_begins words gathered times c.args.rows.now tree members sorted c.args.place c.new-runs.result.items c.add_run.new.runs.items c.own_run.result c.new-runs.ensures.items c.in_ok-add_run.ensures
+    reach_begins words gathered times c.args.rows.now tree c.args.members.now sorted c.args.place c.new-runs.result.items c.add_run.new.runs.items c.own_run.result c.new-runs.ensures.items c.in_ok-add_run.ensures
     (c.own_run.ensures up)
 
 pub loop-start-preserved : goal.loop-start-preserved
@@ -19,5 +18,4 @@ loop-start-preserved c words gathered times tree sorted up =
 
 pub returns : goal.returns
 returns c words gathered times tree sorted up =
-    let members = c.args.members.now in
-    reach_ends (rows_of tree) c.args.place c.args.starts.now c.loop-start.start-index (in_runs members c.loop-start.runs.items) c.loop-start-test.false (c.loop-start.invariant words gathered times tree sorted up)
+    reach_ends (rows_of tree) c.args.place c.args.starts.now c.loop-start.start-index (in_runs c.args.members.now c.loop-start.runs.items) c.loop-start-test.false (c.loop-start.invariant words gathered times tree sorted up)
