@@ -6,8 +6,7 @@ use Rattle.rx_terms.specs.declared.triples.Triple.{Triple as CodeTriple}
 use Rattle.rx_many.specs.Pages.{Page, Judgement, refused, accepted, refused_page, accepted_page}
 use Rattle.rx_command.specs.declared.pages.Approach.{Approach}
 use Rattle.rx_command.proofs.InputLemmas.{one_context, has_context, rose_before}
-use Rattle.rx_page.proofs.MadeLemmas.{list_written}
-use Rattle.rx_page.proofs.ProperLemmas.{written_read}
+use Rattle.rx_page.proofs.MadeLemmas.{list_written, written_read}
 
 -- ---- lists
 

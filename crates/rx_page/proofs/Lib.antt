@@ -1,10 +1,7 @@
 pub mod ContextLemmas
-pub mod KindLemmas
 pub mod OutcomeLemmas
 pub mod TextLemmas
 pub mod FaultLemmas
-pub mod FrontLemmas
 pub mod ReaderLemmas
 pub mod MadeLemmas
 pub mod ItemLemmas
-pub mod ProperLemmas

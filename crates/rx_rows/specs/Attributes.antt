@@ -1,7 +1,7 @@
 -- Attributes: the ways to write their values, each with what is written of it, as the program told it first, read against the rules.
-use Rattle.std.specs.Prelude.{◌≡◌, List, [], ◌∷◌}
+use Rattle.std.specs.Prelude.{List, [], ◌∷◌}
 use Rattle.rx_terms.specs.Common.{String}
-use Rattle.rx_rows.specs.Pages.{Row, row, here, wrong, triples_text}
+use Rattle.rx_rows.specs.Pages.{Row, row}
 
 -- a page, by whose text the row is called
 abbrev pub says : String → List String → Row
@@ -105,6 +105,3 @@ rows =
     ∷ says "<html><u property=licens>x</u></html>" []
     ∷ says "<html><u property=cc>x</u></html>" []
     ∷ []
-
-abbrev pub AttributesHold : Type 0
-AttributesHold = wrong (triples_text here) rows ≡ []

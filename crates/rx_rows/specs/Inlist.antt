@@ -1,6 +1,6 @@
 -- Lists.
-use Rattle.std.specs.Prelude.{◌≡◌, List, [], ◌∷◌}
-use Rattle.rx_rows.specs.Pages.{Row, row, here, wrong, triples_text}
+use Rattle.std.specs.Prelude.{List, [], ◌∷◌}
+use Rattle.rx_rows.specs.Pages.{Row, row}
 
 abbrev pub rows : List Row
 rows =
@@ -85,6 +85,3 @@ rows =
     ∷ "_:b1 <http://www.w3.org/1999/02/22-rdf-syntax-ns#first> \"x\" ."
     ∷ "_:b1 <http://www.w3.org/1999/02/22-rdf-syntax-ns#rest> <http://www.w3.org/1999/02/22-rdf-syntax-ns#nil> ." ∷ [])
     ∷ []
-
-abbrev pub InlistHold : Type 0
-InlistHold = wrong (triples_text here) rows ≡ []

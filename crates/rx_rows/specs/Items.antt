@@ -1,7 +1,8 @@
 -- Worked rows of Microdata; an independent model gave the same.
-use Rattle.std.specs.Prelude.{◌≡◌, List, [], ◌∷◌}
+use Rattle.std.specs.Prelude.{◌≡◌, List, [], ◌∷◌, codes}
 use Rattle.rx_microdata.specs.Visits.{standard_bounds}
 use Rattle.rx_rows.specs.Pages.{Row, row, wrong, items_text}
+use Rattle.rx_rows.specs.Limits.{wrong_at_small_bounds, deep}
 
 -- Values, names, itemref and cycles.
 abbrev pub values : List Row
@@ -197,3 +198,5 @@ pub record ItemsHold : Type 0 where
   pub names_hold : wrong (items_text standard_bounds) names ≡ []
   pub mixed_hold : wrong (items_text standard_bounds) mixed ≡ []
   pub random_hold : wrong (items_text standard_bounds) random ≡ []
+  pub small_bounds : wrong_at_small_bounds ≡ []
+  pub deep_holds : items_text standard_bounds deep ≡ codes "refused: ItemsTooNested at byte 1140 in token 1113\n"

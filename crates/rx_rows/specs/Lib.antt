@@ -7,8 +7,9 @@ pub mod Inlist
 pub mod Patterns
 pub mod Forms
 pub mod Refused
-pub mod Items
 pub mod Limits
+pub mod Items
 pub mod Many
 pub mod Trees
 pub mod Attributes
+pub mod Triples

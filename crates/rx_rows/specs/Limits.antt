@@ -1,7 +1,6 @@
 -- Worked rows of Microdata's limits: how deep items may nest, and how many visits there may be.
-use Rattle.std.specs.Prelude.{◌≡◌, ℕ, zero, suc, List, [], ◌∷◌, ◌++◌, codes}
+use Rattle.std.specs.Prelude.{ℕ, zero, suc, List, [], ◌∷◌, ◌++◌, codes}
 use Rattle.rx_terms.specs.Common.{String, Chars}
-use Rattle.rx_microdata.specs.Visits.{standard_bounds}
 use Rattle.rx_rows.specs.Pages.{Row, row, wrong, items_text}
 
 abbrev pub at : ℕ → ℕ → Row → List String
@@ -36,7 +35,3 @@ copies (suc n) text = text ++ copies n text
 -- a path of 41 items, one more than may stand there
 abbrev pub deep : Chars
 deep = codes "<html><div itemscope>" ++ (copies 40 (codes "<div itemprop=\"p\" itemscope>") ++ (copies 41 (codes "</div>") ++ codes "</html>"))
-
-pub record LimitsHold : Type 0 where
-  pub small_bounds : wrong_at_small_bounds ≡ []
-  pub deep_holds : items_text standard_bounds deep ≡ codes "refused: ItemsTooNested at byte 1140 in token 1113\n"

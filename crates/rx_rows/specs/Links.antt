@@ -1,6 +1,6 @@
 -- Links: rel and rev, resources, elements that are skipped.
-use Rattle.std.specs.Prelude.{◌≡◌, List, [], ◌∷◌, codes}
-use Rattle.rx_rows.specs.Pages.{Row, row, here, wrong, triples_text}
+use Rattle.std.specs.Prelude.{List, [], ◌∷◌}
+use Rattle.rx_rows.specs.Pages.{Row, row}
 
 abbrev pub rows : List Row
 rows =
@@ -84,7 +84,3 @@ elsewhere =
     ∷ "_:b0 <http://schema.org/price> \"119.99\"@en ."
     ∷ "_:b0 <http://schema.org/availability> <http://schema.org/InStock> ." ∷ [])
     ∷ []
-
-pub record LinksHold : Type 0 where
-  pub rows_hold : wrong (triples_text here) rows ≡ []
-  pub elsewhere_hold : wrong (triples_text (codes "http://shop.example/anvil")) elsewhere ≡ []

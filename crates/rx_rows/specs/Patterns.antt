@@ -1,6 +1,6 @@
 -- Property copying.
-use Rattle.std.specs.Prelude.{◌≡◌, List, [], ◌∷◌}
-use Rattle.rx_rows.specs.Pages.{Row, row, here, wrong, triples_text}
+use Rattle.std.specs.Prelude.{List, [], ◌∷◌}
+use Rattle.rx_rows.specs.Pages.{Row, row}
 
 abbrev pub rows : List Row
 rows =
@@ -25,6 +25,3 @@ rows =
     "<html><body><div resource=\"#a\" typeof=\"rdfa:Pattern http://v.example/T\"></div><div about=\"#s\"><link property=\"rdfa:copy\" href=\"#a\"></div></body></html>"
     ("<http://h.example/d#s> <http://www.w3.org/1999/02/22-rdf-syntax-ns#type> <http://v.example/T> ." ∷ [])
     ∷ []
-
-abbrev pub PatternsHold : Type 0
-PatternsHold = wrong (triples_text here) rows ≡ []

@@ -1,6 +1,6 @@
 -- Subjects: about, references, the base.
-use Rattle.std.specs.Prelude.{◌≡◌, List, [], ◌∷◌, codes}
-use Rattle.rx_rows.specs.Pages.{Row, row, here, wrong, triples_text}
+use Rattle.std.specs.Prelude.{List, [], ◌∷◌}
+use Rattle.rx_rows.specs.Pages.{Row, row}
 
 abbrev pub rows : List Row
 rows =
@@ -73,7 +73,3 @@ elsewhere =
     ("<http://h.example/a/s> <http://v.example/p> \"x\" ."
     ∷ "<http://h.example/a/d> <http://v.example/p> \"y\" ." ∷ [])
     ∷ []
-
-pub record SubjectsHold : Type 0 where
-  pub rows_hold : wrong (triples_text here) rows ≡ []
-  pub elsewhere_hold : wrong (triples_text (codes "http://h.example/a/d#f")) elsewhere ≡ []

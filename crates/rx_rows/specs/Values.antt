@@ -1,6 +1,6 @@
 -- Values of property: content, datatypes, times, languages.
-use Rattle.std.specs.Prelude.{◌≡◌, List, [], ◌∷◌}
-use Rattle.rx_rows.specs.Pages.{Row, row, here, wrong, triples_text}
+use Rattle.std.specs.Prelude.{List, [], ◌∷◌}
+use Rattle.rx_rows.specs.Pages.{Row, row}
 
 abbrev pub rows : List Row
 rows =
@@ -63,6 +63,3 @@ rows =
     ∷ row "invalid language (own rule)" "<html><body><div lang=\"de\"><p lang=\" en\" property=\"http://v.example/p\">x</p></div></body></html>"
     ("<http://h.example/d> <http://v.example/p> \"x\" ." ∷ [])
     ∷ []
-
-abbrev pub ValuesHold : Type 0
-ValuesHold = wrong (triples_text here) rows ≡ []

@@ -1,6 +1,6 @@
 -- Names: prefixes, the vocabulary, terms and CURIEs.
-use Rattle.std.specs.Prelude.{◌≡◌, List, [], ◌∷◌}
-use Rattle.rx_rows.specs.Pages.{Row, row, here, wrong, triples_text}
+use Rattle.std.specs.Prelude.{List, [], ◌∷◌}
+use Rattle.rx_rows.specs.Pages.{Row, row}
 
 abbrev pub rows : List Row
 rows =
@@ -55,6 +55,3 @@ rows =
     ∷ row "resource as curie" "<html><body><p rel=\"http://v.example/p\" resource=\"dc:x\"></p></body></html>"
     ("<http://h.example/d> <http://v.example/p> <http://purl.org/dc/terms/x> ." ∷ [])
     ∷ []
-
-abbrev pub WordsHold : Type 0
-WordsHold = wrong (triples_text here) rows ≡ []

@@ -4,58 +4,21 @@
 //! A wrong edit of a definition fails here. Each function is a group of rows, and does nothing when it is called.
 #![tactic(auto)]
 
-ghost use Rattle.rx_rows.specs.Attributes.{AttributesHold};
 ghost use Rattle.rx_rows.specs.Forms.{FormsHold};
-ghost use Rattle.rx_rows.specs.Inlist.{InlistHold};
 ghost use Rattle.rx_rows.specs.Items.{ItemsHold};
-ghost use Rattle.rx_rows.specs.Limits.{LimitsHold};
-ghost use Rattle.rx_rows.specs.Links.{LinksHold};
 ghost use Rattle.rx_rows.specs.Many.{ManyRefuse};
-ghost use Rattle.rx_rows.specs.Patterns.{PatternsHold};
 ghost use Rattle.rx_rows.specs.Refused.{RefusalsHold};
-ghost use Rattle.rx_rows.specs.Subjects.{SubjectsHold};
 ghost use Rattle.rx_rows.specs.Trees.{TreesHold};
-ghost use Rattle.rx_rows.specs.Values.{ValuesHold};
-ghost use Rattle.rx_rows.specs.Words.{WordsHold};
+ghost use Rattle.rx_rows.specs.Triples.{TriplesHold};
 
 /// Pages as the grammar reads them: trees and faults.
 pub fn trees_hold()
     ensures { TreesHold }
 {}
 
-/// Subjects: about, references, the base.
-pub fn subjects_hold()
-    ensures { SubjectsHold }
-{}
-
-/// Links: rel and rev, resources, elements that are skipped.
-pub fn links_hold()
-    ensures { LinksHold }
-{}
-
-/// Names: prefixes, the vocabulary, terms and CURIEs.
-pub fn words_hold()
-    ensures { WordsHold }
-{}
-
-/// Attributes: the ways to write their values.
-pub fn attributes_hold()
-    ensures { AttributesHold }
-{}
-
-/// Values of property: content, datatypes, times, languages.
-pub fn values_hold()
-    ensures { ValuesHold }
-{}
-
-/// Lists.
-pub fn inlist_hold()
-    ensures { InlistHold }
-{}
-
-/// Property copying.
-pub fn patterns_hold()
-    ensures { PatternsHold }
+/// Triples: subjects, links, names, attributes, values, lists and property copying.
+pub fn triples_hold()
+    ensures { TriplesHold }
 {}
 
 /// The forms of times.
@@ -68,14 +31,9 @@ pub fn refusals_hold()
     ensures { RefusalsHold }
 {}
 
-/// Items: values, names, itemref, cycles, and random pages.
+/// Items: values, names, itemref, cycles, random pages, and items too deep and too many.
 pub fn items_hold()
     ensures { ItemsHold }
-{}
-
-/// Items too deep, and too many.
-pub fn limits_hold()
-    ensures { LimitsHold }
 {}
 
 /// The 100,001st item of a page is one too many.

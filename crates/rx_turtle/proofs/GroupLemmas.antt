@@ -1,9 +1,10 @@
 -- Triples that are put into groups.
-use Rattle.rx_turtle.proofs.Common.{◌≡◌, ◌∙◌, ℕ, zero, suc, ◌+◌, ◌<◌, ◌≤◌, Bool, true, false, nat_eq, List, [], ◌∷◌, ◌++◌, map, filter, length, take, drop, slice_get, slice_set, get_or, Result, Ok, Err, is_err, Option, Some, None, option_map, Bor, refl, sym, ap, ap₂, true≢false, arith, append-nil, ◌||◌, is_ok, if◌then◌else◌, map-append, slice_get-map, contains, distinct, with_one, Node, Triple, same_node, triple_seen, exact_nodes, exact_numbers, resource_seen, number_in, AreDistinct, distinct_grows, one_more, same_back, Keyed, group_seen, key_by, has_key, keys_by, put_in}
+use Rattle.rx_turtle.proofs.Common.{◌≡◌, ◌∙◌, ℕ, zero, suc, ◌+◌, ◌<◌, ◌≤◌, Bool, true, false, nat_eq, List, [], ◌∷◌, ◌++◌, map, filter, length, take, drop, slice_get, slice_set, get_or, Result, Ok, Err, is_err, Option, Some, None, option_map, Bor, refl, sym, ap, ap₂, true≢false, arith, append-nil, ◌||◌, is_ok, if◌then◌else◌, map-append, slice_get-map, contains, distinct, with_one, Node, Triple, same_node, triple_seen, exact_nodes, exact_numbers, resource_seen, number_in, AreDistinct, distinct_grows, one_more, same_back, Keyed, group_seen, key_by, has_key, keys_by, put_in, bytes_eq, Iri, exact_texts, distinct_apart, about, predicates_of, triples_seen, seen_more}
 use Rattle.rx_model.proofs.Common.{filter-append, by_test}
 use Rattle.rx_terms.specs.declared.triples.Triple.{Triple as CodeTriple}
 use Rattle.rx_turtle.specs.declared.keys.By.{By}
 use Rattle.rx_turtle.specs.declared.groups.Group.{Group}
+use Rattle.rx_turtle.specs.declared.keys.By.TheVariants as by
 
 abbrev pub lent_seen : Bor CodeTriple → Triple ℕ
 lent_seen t = triple_seen t.now
@@ -104,3 +105,19 @@ put_seen r groups i old now t within is key fine grown =
 pub map_twice : {A B C : Type 0} (f : B → C) (g : A → B) (list : List A) → map f (map g list) ≡ map (λ a. f (g a)) list
 map_twice f g [] = refl
 map_twice f g (x ∷ list) = ap (λ z. f (g x) ∷ z) (map_twice f g list)
+
+-- ---- the predicates of a node's triples, as keys of groups
+
+pub keys_are : (list : List (Triple ℕ)) (s : Node ℕ) → keys_by by.Predicate (about list s) ≡ map {B = Node ℕ} (λ p. Iri p) (predicates_of list s)
+keys_are list s =
+    ap (distinct (same_node nat_eq)) (sym (map_twice {C = Node ℕ} (λ p. Iri p) (λ (t : Triple ℕ). t.predicate) (about list s)))
+    ∙ distinct_apart bytes_eq exact_texts (same_node nat_eq) (exact_nodes nat_eq exact_numbers) (λ p. Iri p) (map (λ (t : Triple ℕ). t.predicate) (about list s)) (λ x y m n e. cc)
+
+-- ---- triples that are lent, one after another
+
+pub pushed_seen : {A B : Type 0} (f : A → B) (old new : List A) (a : A) (before after : List B) → new ≡ old ++ a ∷ [] → map f old ≡ before → before ++ f a ∷ [] ≡ after → map f new ≡ after
+pushed_seen f old new a before after grows was is = ap (map f) grows ∙ map-append f old (a ∷ []) ∙ ap (λ z. z ++ f a ∷ []) was ∙ is
+
+pub borrowed_turn : (graph : List CodeTriple) (i : ℕ) (t : Bor CodeTriple) (old new : List (Bor CodeTriple)) → slice_get graph i ≡ Some t.now → new ≡ old ++ t ∷ []
+    → map lent_seen old ≡ triples_seen (take i graph) → map lent_seen new ≡ triples_seen (take (i + 1) graph)
+borrowed_turn graph i t old new at grows was = pushed_seen lent_seen old new t (triples_seen (take i graph)) (triples_seen (take (i + 1) graph)) grows was (sym (seen_more graph i t.now at))

@@ -1,13 +1,13 @@
 -- The text of a plan is that of the layout, and what it denotes.
-use Rattle.rx_turtle.proofs.Common.{◌≡◌, ◌∙◌, ℕ, Bool, true, List, [], ◌∷◌, ◌++◌, map, filter, flat_map, refl, sym, ap, ap₂, subst, codes, chars-encodes, Chars, Node, Iri, Triple, Prefixes, names_rise, resource_text, verb_text, object_text, separated, predicate_text, statement_text, prefixes_text, turtle, has_predicate, subjects, about, predicates_of, IsWritable, proper_triple, rising, Keyed, has_key, keys_by, grouped, Said, said_by, plan, group_text, said_text, plan_text, AreRows, used_marks, chosen}
+use Rattle.rx_turtle.proofs.Common.{◌≡◌, ◌∙◌, ℕ, Bool, true, List, [], ◌∷◌, ◌++◌, map, filter, flat_map, refl, sym, ap, ap₂, subst, codes, chars-encodes, Chars, Node, Iri, Triple, Prefixes, names_rise, resource_text, verb_text, object_text, separated, predicate_text, statement_text, prefixes_text, turtle, has_predicate, subjects, about, predicates_of, IsWritable, proper_triple, rising, Keyed, has_key, keys_by, grouped, Said, said_by, plan, group_text, said_text, plan_text, AreRows, used_marks, chosen, append_assoc, chars, local_name, short_iri, Delivery, AddsBytes, Adds, bytes_by, adds_then, adds_by, literal, IsShort}
 use Rattle.rx_notation.proofs.Common.{IsContext, Turtle}
-use Rattle.std.specs.Str.{chars, encode_utf8_all}
+use Rattle.std.specs.Str.{encode_utf8_all}
 use Rattle.rx_notation.proofs.LayoutMeaning.{layout_denotes}
-use Rattle.rx_turtle.specs.declared.keys.By.TheVariants as by
-use Rattle.rx_turtle.proofs.GroupLemmas.{map_twice}
-use Rattle.rx_turtle.proofs.PredicateLemmas.{keys_are}
+use Rattle.rx_turtle.proofs.GroupLemmas.{map_twice, keys_are}
 use Rattle.rx_turtle.proofs.ScalarLemmas.{turtle_writable}
 use Rattle.rx_turtle.proofs.UseLemmas.{map_same, chosen_used}
+use Rattle.rx_pieces.specs.Writing.{string_text, escaped_text}
+use Rattle.rx_turtle.specs.declared.keys.By.TheVariants as by
 
 texts_like : {A : Type 0} (f g : A → Chars) (list : List A) → ((a : A) → f a ≡ g a) → flat_map f list ≡ flat_map g list
 texts_like f g [] h = refl
@@ -46,3 +46,13 @@ pub text_denotes : (context : Prefixes) (list : List (Triple ℕ)) → names_ris
 text_denotes context list rise rows w =
     let fit : IsContext context = record { iris = λ p m. (rows.each p m).iri.is_iri; once = rising.once context rise } in
     subst (λ (z : Chars). Turtle z (map proper_triple list)) (sym (chars-encodes (turtle context list) (turtle_writable context rows list w).scalars)) (layout_denotes.denotes context list fit w)
+
+-- ---- terms added to a text
+
+pub short_added : {a b c d : Delivery} (context : Prefixes) (iri name : Chars) (local : List ℕ) → IsShort context iri name local → Adds a b name → Adds b c (chars (codes ":")) → AddsBytes c d local → Adds a d (short_iri context iri)
+short_added {a} {b} {c} {d} context iri name local s first colon last =
+    let behind : Adds c d (local_name s.prefix iri) = record { bytes = bytes_by s.rest last } in
+    rw s.found (adds_then (adds_by s.named first) (adds_then (literal (codes ":") refl colon) behind))
+
+pub string_ended : (text suffix : Chars) → (codes "\"" ++ escaped_text text) ++ (codes "\"" ++ suffix) ≡ string_text text ++ suffix
+string_ended text suffix = ap (λ z. codes "\"" ++ z) (sym (append_assoc (escaped_text text) (codes "\"") suffix))

@@ -11,8 +11,7 @@ use Rattle.rx_turtle.specs.declared.keys.By.TheVariants as by
 use Rattle.rx_turtle.specs.declared.tokens.Words.{Words}
 use Rattle.rx_turtle.specs.declared.tokens.Words.TheVariants as fixed
 use Rattle.rx_turtle.specs.Said.{said_of}
-use Rattle.rx_turtle.proofs.GroupLemmas.{map_twice}
-use Rattle.rx_turtle.proofs.PredicateLemmas.{keys_are}
+use Rattle.rx_turtle.proofs.GroupLemmas.{map_twice, keys_are}
 
 -- ---- parts of the document come to what is due of them
 

@@ -9,8 +9,6 @@ pub mod Wholes
 pub mod Making
 pub mod TextKeeping
 pub mod NumberedPages
-pub mod Idling
 pub mod Accepted
 pub mod GrownNumbers
-pub mod OpenLines
 pub mod Inheriting

@@ -8,7 +8,7 @@ use Rattle.rx_base.specs.declared.seeking.Sought.{Sought}
 use Rattle.rx_walk.proofs.Making.{list_made, all_rest}
 use Rattle.rx_base.proofs.Found.{base_found}
 use Rattle.rx_walk.proofs.Moving.{led_at, is_ended}
-use Rattle.rx_walk.proofs.OpenLines.{open_is}
+use Rattle.rx_walk.proofs.Inheriting.{open_is}
 use Rattle.rx_walk.proofs.Fronting.{may_counts, root_ended}
 use Rattle.rx_walk.specs.declared.stages.Stage.TheVariants as stage
 use Rattle.rx_base.specs.declared.seeking.Sought.TheVariants as looks

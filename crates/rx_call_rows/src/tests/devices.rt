@@ -2,8 +2,6 @@
 use rx_ports::{Failed, FileShelf, Shelf, Sink, StdSink, put_all};
 use std::fs;
 use std::io::{self, ErrorKind, Write};
-use std::process::Abort;
-use std::rt::Files;
 
 /// A writer that takes a few bytes at a time, and records its calls, `w` for a write and `f` for a flush. Its flushes fail
 /// where it is broken.
@@ -136,35 +134,19 @@ fn are_answered(shelf: &mut impl Shelf, calls: &[Call]) -> bool {
     true
 }
 
-fn make_file<R: Files + Abort>(rt: &R, name: &str, bytes: &[u8]) {
-    fs::write(rt, name, bytes).expect(rt, "a file");
-}
-
-fn remove_file<R: Files + Abort>(rt: &R, name: &str) {
-    fs::remove_file(rt, name).expect(rt, "a file");
-}
-
-fn make_files<R: Files + Abort>(rt: &R) {
-    for (name, text) in FILES {
-        make_file(rt, *name, text.as_bytes());
-    }
-}
-
-fn remove_files<R: Files + Abort>(rt: &R) {
-    for (name, _text) in FILES {
-        remove_file(rt, *name);
-    }
-}
-
 #[test]
 fn file_shelf_reads_files(rt: HostRuntime) {
-    make_files(&rt);
+    for (name, text) in FILES {
+        fs::write(&rt, *name, text.as_bytes()).expect(&rt, "a file");
+    }
     for calls in CALLS {
         let mut shelf = FileShelf::new(&rt);
         assert!(rt; are_answered(&mut shelf, *calls));
         drop(shelf);
     }
-    remove_files(&rt);
+    for (name, _text) in FILES {
+        fs::remove_file(&rt, *name).expect(&rt, "a file");
+    }
 }
 
 fn is_filled(shelf: &mut impl Shelf, name: &str) -> bool {
@@ -178,9 +160,9 @@ fn is_filled(shelf: &mut impl Shelf, name: &str) -> bool {
 #[test]
 fn file_shelf_fills_a_large_buffer(rt: HostRuntime) {
     let name = "rx_ports_file_shelf_fills_a_large_buffer";
-    make_file(&rt, name, &[7u8; 10_000]);
+    fs::write(&rt, name, &[7u8; 10_000]).expect(&rt, "a file");
     let mut shelf = FileShelf::new(&rt);
     assert!(rt; is_filled(&mut shelf, name));
     drop(shelf);
-    remove_file(&rt, name);
+    fs::remove_file(&rt, name).expect(&rt, "a file");
 }

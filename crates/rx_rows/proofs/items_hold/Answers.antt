@@ -4,4 +4,4 @@ use Rattle.rx_rows.proofs.items_hold.Goals as goal
 
 pub returns : goal.returns
 unfolding items_text
-returns c = record { values_hold = refl; references_hold = refl; names_hold = refl; mixed_hold = refl; random_hold = refl }
+returns c = record { values_hold = refl; references_hold = refl; names_hold = refl; mixed_hold = refl; random_hold = refl; small_bounds = refl; deep_holds = refl }

@@ -1,7 +1,7 @@
 use Rattle.rx_jsonld.proofs.Common.{refl, subst, chars, Chars, Option, triples_seen, quads}
 use Rattle.rx_nquads.specs.Document.{Nquads}
 use Rattle.rx_page.specs.declared.forms.Form.TheVariants as forms
-use Rattle.rx_page.proofs.ProperLemmas.{quads_denote}
+use Rattle.rx_page.proofs.MadeLemmas.{quads_denote}
 use Rattle.rx_page.proofs.texts.nquads_of.Goals as goal
 
 pub returns-clause-denotes : goal.returns-clause-denotes

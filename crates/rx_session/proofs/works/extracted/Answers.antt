@@ -1,7 +1,6 @@
 use Rattle.rx_job.specs.Words.{extracts}
 use Rattle.rx_page.specs.Settings.{setting_for}
-use Rattle.rx_session.proofs.GivenLemmas.{walk_ends}
-use Rattle.rx_session.proofs.WorkLemmas.{stops}
+use Rattle.rx_session.proofs.WorkLemmas.{walk_ends, stops}
 use Rattle.rx_session.proofs.works.extracted.Goals as goal
 
 pub returns-in-Err : goal.returns-in-Err

@@ -1,5 +1,5 @@
 use Rattle.rx_page.specs.Written.{graph_made}
-use Rattle.rx_session.proofs.GivenLemmas.{given_text, given_quads}
+use Rattle.rx_session.proofs.WorkLemmas.{given_text, given_quads}
 use Rattle.rx_session.proofs.works.given_of.Goals as goal
 
 pub returns-in_ok-text-in-Text : goal.returns-in_ok-text-in-Text

@@ -1,4 +1,4 @@
-use Rattle.rx_turtle.proofs.BorrowLemmas.{borrowed_turn}
+use Rattle.rx_turtle.proofs.GroupLemmas.{borrowed_turn}
 use Rattle.rx_turtle.proofs.lent.borrowed.Goals as goal
 
 pub loop-i-preserved : goal.loop-i-preserved

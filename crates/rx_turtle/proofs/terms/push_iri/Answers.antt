@@ -1,5 +1,5 @@
 use Rattle.rx_turtle.proofs.Common.{codes, refl, between}
-use Rattle.rx_turtle.proofs.AddLemmas.{short_added}
+use Rattle.rx_turtle.proofs.TextLemmas.{short_added}
 use Rattle.rx_turtle.proofs.terms.push_iri.Goals as goal
 
 pub returns-in-None : goal.returns-in-None

@@ -1,5 +1,5 @@
 use Rattle.rx_turtle.proofs.Common.{codes, refl, kind_seen, suffix_text, adds_then, adds_by, behind_words, literal}
-use Rattle.rx_turtle.proofs.AddLemmas.{string_ended}
+use Rattle.rx_turtle.proofs.TextLemmas.{string_ended}
 use Rattle.rx_turtle.proofs.terms.push_literal.Goals as goal
 
 pub returns : goal.returns

@@ -1,5 +1,5 @@
 use Rattle.rx_model.specs.Seen.{triples_seen}
-use Rattle.rx_page.proofs.ProperLemmas.{quads_denote}
+use Rattle.rx_page.proofs.MadeLemmas.{quads_denote}
 use Rattle.rx_page.proofs.outcomes.Outcome.of_graph.Goals as goal
 
 pub returns-in-Nquads-clause-denoted : goal.returns-in-Nquads-clause-denoted

@@ -1,6 +1,6 @@
 use Rattle.std.proofs.Common.{rules, ◌<◌, sym, subst, length}
 use Rattle.rx_turtle.specs.Known.{AreEntries}
-use Rattle.rx_turtle.proofs.KnownLemmas.{entry_at}
+use Rattle.rx_turtle.proofs.SlotLemmas.{entry_at}
 use Rattle.rx_turtle.proofs.known.ShortFormCache.larger.Goals as goal
 
 pub loop-i-preserved : goal.loop-i-preserved

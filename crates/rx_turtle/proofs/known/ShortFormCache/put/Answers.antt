@@ -1,5 +1,5 @@
 use Rattle.std.proofs.Common.{refl}
-use Rattle.rx_turtle.proofs.KnownLemmas.{entries_put}
+use Rattle.rx_turtle.proofs.SlotLemmas.{entries_put}
 use Rattle.rx_turtle.proofs.known.ShortFormCache.put.Goals as goal
 
 pub returns : goal.returns

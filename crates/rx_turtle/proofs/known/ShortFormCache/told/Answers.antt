@@ -1,4 +1,4 @@
-use Rattle.rx_turtle.proofs.KnownLemmas.{told_so}
+use Rattle.rx_turtle.proofs.SlotLemmas.{told_so}
 use Rattle.rx_turtle.proofs.known.ShortFormCache.told.Goals as goal
 
 pub returns : goal.returns

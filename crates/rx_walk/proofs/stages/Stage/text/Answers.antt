@@ -1,6 +1,6 @@
 use Rattle.rx_walk.proofs.Common.{refl, chars, on_ok_weaker, singles}
 use Rattle.rx_walk.proofs.Staging.{found_tells, text_leads, said_tells}
-use Rattle.rx_walk.proofs.Idling.{text_idle}
+use Rattle.rx_walk.proofs.TextKeeping.{text_idle}
 use Rattle.rx_walk.proofs.stages.Stage.text.Goals as goal
 
 pub returns-in-Found-clause-tells : goal.returns-in-Found-clause-tells

@@ -1,5 +1,5 @@
 use Rattle.rx_walk.proofs.Common.{◌∙◌, [], sym, ap, subst, calls_of, sought, Walked, WalkStands, state_of}
-use Rattle.rx_walk.proofs.Idling.{idle_at}
+use Rattle.rx_walk.proofs.TextKeeping.{idle_at}
 use Rattle.rx_walk.proofs.walks.Walk.feed.Goals as goal
 
 pub returns-clause-gives : goal.returns-clause-gives

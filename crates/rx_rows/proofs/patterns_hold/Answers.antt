@@ -1,7 +1,0 @@
-use Rattle.std.proofs.Common.{refl}
-use Rattle.rx_rows.specs.Pages.{triples_text}
-use Rattle.rx_rows.proofs.patterns_hold.Goals as goal
-
-pub returns : goal.returns
-unfolding triples_text
-returns c = refl
