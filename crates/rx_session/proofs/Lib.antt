@@ -1,2 +1,1 @@
 pub mod WorkLemmas
-pub mod RequestLemmas

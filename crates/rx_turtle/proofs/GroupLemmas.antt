@@ -106,15 +106,13 @@ pub map_twice : {A B C : Type 0} (f : B → C) (g : A → B) (list : List A) →
 map_twice f g [] = refl
 map_twice f g (x ∷ list) = ap (λ z. f (g x) ∷ z) (map_twice f g list)
 
--- ---- the predicates of a node's triples, as keys of groups
-
+-- the predicates of a node's triples, as keys of groups
 pub keys_are : (list : List (Triple ℕ)) (s : Node ℕ) → keys_by by.Predicate (about list s) ≡ map {B = Node ℕ} (λ p. Iri p) (predicates_of list s)
 keys_are list s =
     ap (distinct (same_node nat_eq)) (sym (map_twice {C = Node ℕ} (λ p. Iri p) (λ (t : Triple ℕ). t.predicate) (about list s)))
     ∙ distinct_apart bytes_eq exact_texts (same_node nat_eq) (exact_nodes nat_eq exact_numbers) (λ p. Iri p) (map (λ (t : Triple ℕ). t.predicate) (about list s)) (λ x y m n e. cc)
 
--- ---- triples that are lent, one after another
-
+-- triples that are lent, one after another
 pub pushed_seen : {A B : Type 0} (f : A → B) (old new : List A) (a : A) (before after : List B) → new ≡ old ++ a ∷ [] → map f old ≡ before → before ++ f a ∷ [] ≡ after → map f new ≡ after
 pushed_seen f old new a before after grows was is = ap (map f) grows ∙ map-append f old (a ∷ []) ∙ ap (λ z. z ++ f a ∷ []) was ∙ is
 

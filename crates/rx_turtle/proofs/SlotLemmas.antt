@@ -58,7 +58,7 @@ tells_put old new at slot iri place is within read e found h = record { each = �
         (sym (at_new bytes ∙ ap (λ (s : Slot). told_by s bytes) (get_or-set_other old at (slot_of old bytes) (with_iri slot iri place) Many apart)))
         (so_also (told old bytes) (found bytes) (after bytes) (sym (ap (λ (b : Bool). if b then Some place else found bytes) (other bytes apart))) (h.each bytes))
 
--- ---- what is known of the iris of a text
+-- ---- what is known of the IRIs of a text
 
 entry_so : (found : Chars → Option ℕ) (entry : Entry) (iri : Chars) → IsEntry found entry → IsSo (kept_by entry iri) (found iri)
 entry_so found Empty iri h = tt
@@ -81,7 +81,6 @@ entries_put found old new at entry within e is h = record {
       (λ k. subst (IsEntry found) (sym (get_or-set_other old at i entry Empty (nat_is_not i at k))) (h.each i)));
 }
 
--- ---- marks of bytes
-
+-- marks of bytes
 pub no_names : (n : ℕ) (byte : ℕ) → get_or (replicate n false) byte false ≡ true → is_name_char byte ≡ true
 no_names n byte h = absurd (true≢false (sym h ∙ none_start n byte))

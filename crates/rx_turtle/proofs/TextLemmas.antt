@@ -47,8 +47,7 @@ text_denotes context list rise rows w =
     let fit : IsContext context = record { iris = λ p m. (rows.each p m).iri.is_iri; once = rising.once context rise } in
     subst (λ (z : Chars). Turtle z (map proper_triple list)) (sym (chars-encodes (turtle context list) (turtle_writable context rows list w).scalars)) (layout_denotes.denotes context list fit w)
 
--- ---- terms added to a text
-
+-- terms added to a text
 pub short_added : {a b c d : Delivery} (context : Prefixes) (iri name : Chars) (local : List ℕ) → IsShort context iri name local → Adds a b name → Adds b c (chars (codes ":")) → AddsBytes c d local → Adds a d (short_iri context iri)
 short_added {a} {b} {c} {d} context iri name local s first colon last =
     let behind : Adds c d (local_name s.prefix iri) = record { bytes = bytes_by s.rest last } in

@@ -54,8 +54,7 @@ found_shows walk state shown f c e =
         let k = known_at address setting.limits.depth (sought s.goes.signs) (calls_of setting.context [] s.goes.signs) (stage.Found state) state (subst (λ x. Staged address setting.limits.depth (sought s.goes.signs) (calls_of setting.context [] s.goes.signs) x) e s.goes.known.staged) refl in
         record { href = k.href; known = (knows_over_bytes setting.syntax setting.limits walk.nest bytes s.goes.signs k.href s.goes.shown s.paid).0 k.is }
 
--- ---- the elements that the signs of a walk leave open are those that the page's tree shows, by the grammar
-
+-- the elements that the signs of a walk leave open are those that the page's tree shows, by the grammar
 module _ (setting : Setting) (address : Chars) (walk : Walked) (bytes : List ℕ) (s : WalkStands setting address walk bytes) where
   pub open_is : (line : Line) (phase : Phase) (run : List Entry) (part : List ℕ) → IsUnderway setting.syntax setting.limits bytes line phase run part
       → line_of [] s.goes.signs ≡ map read_tag (shown_line setting.syntax line)

@@ -77,8 +77,7 @@ keeps_one_text setting address walk bytes s state e =
     let begun : Kept (begun_state _ setting.limits.depth) [] = record { many = refl; kept = refl } in
     (all_kept setting.context [] [] s.goes.signs (begun_state _ setting.limits.depth) state known.led.leads begun).kept
 
--- ---- where no open element gathers its text a stage is idle, and text leaves it so
-
+-- where no open element gathers its text a stage is idle, and text leaves it so
 read_idle : (chars : Chars) (old new : State) → new ≡ read_text chars old → old.out_of_memory ≡ false → gathers_some old.frames ≡ false → IsIdle (stage.Found new)
 read_idle chars old new e s g = (ap (λ (z : State). z.out_of_memory) e ∙ s, ap (λ (z : State). gathers_some z.frames) e ∙ g)
 

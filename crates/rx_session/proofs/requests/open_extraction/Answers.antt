@@ -1,7 +1,7 @@
 use Rattle.std.proofs.Common.{◌∙◌, sym}
 use Rattle.rx_session.specs.Requests.{bytes_in}
 use Rattle.rx_session.specs.Wants.{extraction_seen}
-use Rattle.rx_session.proofs.RequestLemmas.{extraction_asked}
+use Rattle.rx_session.proofs.WorkLemmas.{extraction_asked}
 use Rattle.rx_session.proofs.requests.open_extraction.Goals as goal
 
 pub returns : goal.returns

@@ -2,7 +2,7 @@ use Rattle.std.proofs.Common.{◌∙◌, sym, refl}
 use Rattle.rx_rdfa.specs.Standard.{standard}
 use Rattle.rx_job.specs.Words.{itemizes}
 use Rattle.rx_session.specs.Wants.{plain}
-use Rattle.rx_session.proofs.RequestLemmas.{items_asked}
+use Rattle.rx_session.proofs.WorkLemmas.{items_asked}
 use Rattle.rx_session.proofs.requests.open_items.Goals as goal
 
 pub returns : goal.returns

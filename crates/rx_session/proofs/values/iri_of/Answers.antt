@@ -1,4 +1,4 @@
-use Rattle.rx_session.proofs.RequestLemmas.{no_iri, an_iri}
+use Rattle.rx_session.proofs.WorkLemmas.{no_iri, an_iri}
 use Rattle.rx_session.proofs.values.iri_of.Goals as goal
 
 pub returns-in_default : goal.returns-in_default
