@@ -56,15 +56,10 @@ struct Tally {
 
 impl Tally {
     fn count(self, holds: bool) -> Tally {
-        if holds {
-            return Tally {
-                held: self.held.saturating_add(1),
-                failed: self.failed,
-            };
-        }
+        let (held, failed) = if holds { (1, 0) } else { (0, 1) };
         Tally {
-            held: self.held,
-            failed: self.failed.saturating_add(1),
+            held: self.held.saturating_add(held),
+            failed: self.failed.saturating_add(failed),
         }
     }
 }
