@@ -1,7 +1,7 @@
 -- The reader of bytes reads each front of a page.
 use Rattle.rx_pages.proofs.Words.{◌≡◌, ◌∙◌, ℕ, ◌+◌, ◌<◌, ◌≤◌, Bool, true, false, List, [], ◌∷◌, ◌++◌, refl, sym, ap, subst, length, append-nil, None, Ok, arith, ◌==◌, not, encodes, and_parts, and_from, nat_tests, by_test, Syntax, Entry, IsRead, byte_order_mark, line_feed, as_line_end, placed, entered, without_mark, values, next_of, Item, Spelled, AllFit, no_section_end, has_no_nul, is_known_tag, Limits, Event, Nesting, content_at, Goes, GoesOn, first_of, page_on, nothing_read}
 use Rattle.rx_pages.specs.Nesting.{not_begun}
-use Rattle.rx_pages.proofs.Below.{known_front, progress_at, Fine, first_same, no_nuls, page_walk, passes, ends_return, is_started, page_entered, Within, all_within, page_within, stood, Bound, go_all, fine_append, RisesFrom, Rises, flags_behind, Finish, tokens_walk}
+use Rattle.rx_pages.proofs.Below.{known_front, progress_at, Fine, first_same, no_nuls, page_walk, passes, ends_return, is_started, page_entered, Within, page_within, stood, Bound, go_all, fine_append, RisesFrom, Rises, flags_behind, Finish, tokens_walk}
 
 -- entries end below a bound
 abbrev pub AllBelow : ℕ → List Entry → Type 0
@@ -24,9 +24,6 @@ rises_from lo hi last (e ∷ es) l w = ((let f = w.0.from in let o = w.0.order i
 rises_of : (lo hi : ℕ) (es : List Entry) → Within lo hi es → Rises es
 rises_of lo hi [] w = tt
 rises_of lo hi (e ∷ es) w = rises_from (e.last + 1) hi e.last es (omega arith) w.1
-
-pub rises : (after_return : Bool) (start : ℕ) (cs : List ℕ) → Rises (entered after_return (placed start cs))
-rises after_return start cs = rises_of start _ _ (all_within after_return start cs)
 
 pub page_below : (cs : List ℕ) → AllBelow (length (encodes cs)) (entered false (without_mark (placed 0 cs)))
 page_below cs = below_of 0 _ _ (page_within cs)

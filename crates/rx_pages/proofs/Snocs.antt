@@ -1,15 +1,7 @@
 -- One more character, and one more token, behind those of a front.
-use Rattle.rx_pages.proofs.Words.{◌≡◌, ◌∙◌, ℕ, Bool, true, false, List, [], ◌∷◌, ◌++◌, refl, sym, ap, subst, append_assoc, append-nil, Option, Some, Ok, ◌&&◌, ◌==◌, cond-true, cond-false, right_bracket, greater_than_sign, by_test, Syntax, Entry, carriage_return, Spells, values, next_of, Item, last_from, Spelled, no_more, one, Fits, AllFit, is_literal, no_section_end, Event, Nesting, Step, content_at, nest_step, Goes, stands, goes}
+use Rattle.rx_pages.proofs.Words.{◌≡◌, ◌∙◌, ℕ, Bool, true, false, List, [], ◌∷◌, ◌++◌, refl, sym, ap, subst, append_assoc, append-nil, Option, Some, Ok, ◌&&◌, cond-true, cond-false, right_bracket, greater_than_sign, by_test, Syntax, Entry, Spells, values, next_of, Item, last_from, Spelled, no_more, one, Fits, AllFit, is_literal, no_section_end, Event, Nesting, Step, content_at, nest_step, Goes, stands, goes}
 pub use Rattle.rx_pages.proofs.Entered.{entered_one, entered_snoc, page_snoc}
-use Rattle.rx_pages.proofs.Below.{ends_return, is_started, flags_behind}
-
-pub return_snoc : (after_return : Bool) (cs : List ℕ) (c : ℕ) → ends_return after_return (cs ++ c ∷ []) ≡ (c == carriage_return)
-return_snoc after_return [] c = refl
-return_snoc after_return (d ∷ cs) c = return_snoc (d == carriage_return) cs c
-
-pub started_snoc : (cs : List ℕ) (c : ℕ) → is_started (cs ++ c ∷ []) ≡ true
-started_snoc [] c = refl
-started_snoc (d ∷ cs) c = refl
+use Rattle.rx_pages.proofs.Below.{flags_behind}
 
 -- a token behind others
 pub values_next : (es : List Entry) (c : Entry) (r : List Entry) (next : Option ℕ) → next_of (values (es ++ c ∷ r)) next ≡ next_of (values es) (Some c.value)
@@ -30,10 +22,6 @@ goes_snoc syntax depth place item step (stands n p) c s =
     (goes item step (c ∙ ap (λ m. content_at syntax m) (sym p)) (ap (λ m. nest_step syntax depth m item) p ∙ s) (stands step.next refl))
 goes_snoc syntax depth place item step {n = n} (goes {items = items} {events = events} i st ci ns g) c s =
     subst (λ es. Goes syntax depth (λ m. m ≡ step.next) n (i ∷ (items ++ item ∷ [])) es) (sym (append_assoc st.events events step.events)) (goes i st ci ns (goes_snoc syntax depth place item step g c s))
-
-pub flags_snoc : (items : List Item) (item : Item) (two last : Bool) → flags_behind (items ++ item ∷ []) two last ≡ ((flags_behind items two last).1 && is_literal right_bracket item, is_literal right_bracket item)
-flags_snoc [] item two last = refl
-flags_snoc (i ∷ items) item two last = flags_snoc items item (last && is_literal right_bracket i) (is_literal right_bracket i)
 
 pub sections_snoc : (items : List Item) (item : Item) (two last : Bool) → no_section_end items two last ≡ true → ((flags_behind items two last).0 && is_literal greater_than_sign item) ≡ false → no_section_end (items ++ item ∷ []) two last ≡ true
 sections_snoc [] item two last h k = cond-false _ _ _ k
