@@ -1,22 +1,26 @@
 -- From what was read of the files that a job names to what they are.
 use Rattle.std.proofs.lemmas.Result.{IfOk-weaker}
 use Rattle.std.specs.Prelude.{IsErrOf}
-use Rattle.rx_command.proofs.Common.{⊎_elim, nat_eq, ◌≡◌, ◌∙◌, ◌+◌, ◌≤◌, ◌<◌, ◌⊎◌, inl, inr, ℕ, true, false, List, [], ◌++◌, length, sym, ap, subst, refl, arith, Option, Some, None, Result, Ok, Err, IfOk, encode_utf8_all, length-append, append-nil, nat_le, ◌&&◌, is_some, nat_tests, Rose, file_of, ShelfContent, WhereKnown, Lacks, moves_same, moves_at, moves_then, Syntax, Fault, copied, numbered, Context, Asked, Task, Extraction, extracts, itemizes, checks, Way, largest_piece, page_limit, ReadsWhole, Finds, ReadsClean, IsClean, PageFails, HasFirst, GivesList, GivesRight, refuses_so, refuses_first, ReadsFile, TakesOf, size_of, IsContextFile, IsContext, HasContext, TakesContext, ReadsContext, context_size, PageText, PageRefused, JobText, JobRefused, TellsThat, WhereTold, IsRight, way_in, IsLacking, ReadsTo, as_read, ok_line, TakesFiles, StopsCleanly}
+use Rattle.rx_command.proofs.Common.{⊎_elim, nat_eq, ◌≡◌, ◌∙◌, ◌+◌, ◌≤◌, ◌<◌, ◌⊎◌, inl, inr, ℕ, true, false, List, [], ◌++◌, length, sym, ap, subst, refl, arith, Option, Some, None, Result, Ok, Err, IfOk, encode_utf8_all, length-append, append-nil, nat_le, ◌&&◌, is_some, nat_tests, Rose, file_of, ShelfContent, WhereKnown, Lacks, moves_same, moves_at, moves_then, Syntax, Fault, copied, numbered, Context, Asked, Task, Extraction, extracts, itemizes, checks, Way, largest_piece, page_limit, ReadsWhole, Finds, ReadsClean, IsClean, PageFails, HasFirst, GivesList, GivesRight, refuses_so, refuses_first, ReadsFile, TakesOf, size_of, IsContextFile, IsContext, HasContext, TakesContext, ReadsContext, context_size, PageText, PageRefused, JobText, JobRefused, TellsThat, WhereTold, IsRight, way_in, IsLacking, ReadsTo, as_read, ok_line, TakesFiles, StopsCleanly, Chars, Tree, Itemization, JsonText, HasItems, GivesItems}
 use Rattle.rx_model.proofs.Common.{by_test, triples_seen}
 use Rattle.rx_names.specs.ContextFiles.{context_of}
 use Rattle.rx_terms.specs.declared.triples.Triple.{Triple as CodeTriple}
 use Rattle.rx_rdfa.specs.Standard.{standard}
 use Rattle.rx_command.specs.declared.errors.InputError.{InputError}
-use Rattle.rx_command.specs.declared.errors.InputError.TheVariants as error
 use Rattle.rx_command.proofs.ReadLemmas.{unread_clean}
 use Rattle.rx_page.specs.Contexts.{largest_context, is_context}
 use Rattle.rx_page.proofs.ContextLemmas.{short, too_long}
 use Rattle.rx_page.specs.Forms.{form_in, IsFormText, FormDenotes}
 use Rattle.rx_page.specs.Written.{text_of, Denoted}
 use Rattle.rx_page.specs.declared.forms.Form.{Form}
-use Rattle.rx_page.specs.declared.outcomes.Outcome.{Outcome}
-use Rattle.rx_page.specs.declared.outcomes.Outcome.TheVariants as found
+use Rattle.rx_page.specs.declared.outcomes.Outcome.{Outcome, Outcome as Found}
 use Rattle.rx_page.proofs.MadeLemmas.{text_made}
+use Rattle.rx_items.proofs.Common.{Refused, outcome, standard_bounds}
+use Rattle.rx_items.specs.declared.kept.Kept.{Kept}
+use Rattle.rx_page.specs.JsonTexts.{AreItems}
+use Rattle.rx_page.proofs.ItemLemmas.{item_of_items}
+use Rattle.rx_command.specs.declared.errors.InputError.TheVariants as error
+use Rattle.rx_page.specs.declared.outcomes.Outcome.TheVariants as found
 
 -- ---- the context file
 
@@ -217,4 +221,23 @@ job_done asked other file context r told mid now a b c is e reads low page =
       takes = moves_then (TakesFiles (Some asked)) (λ x y z k p. takes_both asked x y z k.takes p) m d.takes;
       failed = λ f. ⊎_elim (λ rose. inl (rose_before a b c low rose)) (λ lacks. inr (lacks_page told mid asked context m lacks)) (d.failed f);
       cleanly = λ f. moves_then (StopsCleanly (Some asked)) (λ x y z k p. page_stops asked context x y z k p) m (d.cleanly f);
+    }
+
+-- ---- items of a page, from what was read of it to what it is
+
+pub page_items : (i : Itemization) (context : Context) (name named : List ℕ) (kept : Kept) (outcome_is : Found) → named ≡ name → ((address : Chars) (tree : Tree) → AreItems address tree kept → JsonText address tree (text_of outcome_is))
+    → (x y : ShelfContent) → ReadsWhole (GivesItems i.syntax i.address) named kept x y → PageText (itemizes i) context name outcome_is x y
+page_items i context name named kept outcome_is n json x y c =
+    let has : HasItems i c.bytes (text_of outcome_is) = record { tree = c.gives.tree; page = c.gives.page; json = json i.address c.gives.tree c.gives.holds } in
+    record { page = record { bytes = c.bytes; file = sym (ap (λ n. file_of x.files n) n) ∙ c.file; gives = has; graph = λ read. has; left = c.left }; starts = c.starts }
+
+pub page_item_fault : (i : Itemization) (context : Context) (name named : List ℕ) (kept : Kept) (fault : Fault) → named ≡ name → ((address : Chars) (tree : Tree) → AreItems address tree kept → outcome standard_bounds address tree ≡ Refused fault)
+    → (x y : ShelfContent) → ReadsWhole (GivesItems i.syntax i.address) named kept x y → PageRefused (itemizes i) context name fault x y
+page_item_fault i context name named kept fault n faulty x y c =
+    let is : outcome standard_bounds i.address c.gives.tree ≡ Refused fault = faulty i.address c.gives.tree c.gives.holds in
+    record {
+      bytes = c.bytes;
+      file = sym (ap (λ n. file_of x.files n) n) ∙ c.file;
+      refused = inr (record { tree = c.gives.tree; page = c.gives.page; refused = is });
+      reads = λ k. let differ : true ≡ false = sym (item_of_items i.address c.gives.tree fault is) ∙ k in absurd (cc);
     }

@@ -8,13 +8,9 @@ pub mod SampleLemmas
 pub mod WrittenTokens
 pub mod WrittenNodes
 pub mod SampleTokens
-pub mod SampleNodes
-pub mod ItemLemmas
 pub mod EndingLemmas
 pub mod OneAnswer
 pub mod EndingsSaid
 pub mod WorkedPages
-pub mod MoreRows
-pub mod SampleRow
 pub mod RowLemmas
 pub mod Common

@@ -12,7 +12,7 @@ use Rattle.rx_command.specs.Feeding.{Fed, FedTo, FedWhole, IsDue, TakesPiece, la
 use Rattle.rx_command.specs.declared.samples.Feeding.{Feeding}
 use Rattle.rx_pages.proofs.OneOf.{not_both}
 use Rattle.rx_page.proofs.MadeLemmas.{list_written}
-use Rattle.rx_command.proofs.SampleNodes.{samples_are_pages}
+use Rattle.rx_command.proofs.SampleTokens.{samples_are_pages}
 use Rattle.rx_page.specs.Readers.{shown_read}
 
 -- how a sample page is read

@@ -1,12 +1,16 @@
 -- The tokens of the sample page of every number: their characters are the page's, and each is spelled as it is written.
-use Rattle.rx_grammar.proofs.Common.{list_all, and_parts, and_from, nat_tests, Chars, codes, is_ascii_digit, decimal, digits_decimal, length-decimal-le, Html, Attribute, Tag, character, doctype, a_character, a_doctype}
-use Rattle.rx_command.proofs.Common.{◌≡◌, ◌∙◌, ℕ, zero, suc, ◌+◌, ◌*◌, ◌≤◌, true, false, List, [], ◌∷◌, ◌++◌, length, refl, sym, ap, arith, append_assoc, length-append, standard, most_items, head, item_before, item_behind, items_to, tail, sample_page}
+use Rattle.rx_grammar.proofs.Common.{list_all, and_parts, and_from, nat_tests, Chars, codes, is_ascii_digit, decimal, digits_decimal, length-decimal-le, Html, Attribute, Tag, character, doctype, a_character, a_doctype, has_markup, start_of, outside, in_html}
+use Rattle.rx_command.proofs.Common.{◌≡◌, ◌∙◌, ℕ, zero, suc, ◌+◌, ◌*◌, ◌≤◌, true, false, List, [], ◌∷◌, ◌++◌, length, refl, sym, ap, arith, append_assoc, length-append, standard, most_items, head, item_before, item_behind, items_to, tail, sample_page, subst, Tree, end, element, Document, Page, nothing, no_more, passed, SamplesArePages, a_doctype as a_leading_doctype}
 use Rattle.rx_terms.specs.Ascii.{line_feed, less_than_sign}
 use Rattle.std.proofs.lemmas.Str.Parse.{numerals_by_value}
-use Rattle.rx_grammar.specs.declared.contents.Content.TheVariants as content
 use Rattle.rx_reader.proofs.TagLaws.{spells_each}
+use Rattle.rx_reader.specs.Laws.{ReadsTag}
 use Rattle.rx_job.proofs.NumberLemmas.{tells}
-use Rattle.rx_command.proofs.WrittenTokens.{Written, chars_in, letter, letters, tag_token, start_token, end_tag, end_run, end_token, is_text_char, IsWritten, AreWritten, tag_written, letters_written}
+use Rattle.rx_command.proofs.WrittenTokens.{Written, chars_in, letter, letters, tag_token, start_token, end_tag, end_run, end_token, is_text_char, IsWritten, AreWritten, is_plain, tag_written, letters_written, item_of, items_at, page_written}
+use Rattle.rx_command.proofs.WrittenNodes.{Encloses, enclosed, Held, HeldAnywhere, held_none, held_letters, held_element, taken_all, element_taken}
+use Rattle.rx_grammar.specs.declared.contents.Content.{Content}
+use Rattle.rx_grammar.specs.declared.contents.Content.TheVariants as content
+use Rattle.rx_rdfa.specs.Standard as names
 
 -- ---- the tokens
 
@@ -129,40 +133,20 @@ digits_text (c ∷ digits) e = let p = and_parts (is_ascii_digit c) (list_all is
 gap_written : (ws : List Written) → AreWritten limit ws → AreWritten limit (letter line_feed ∷ ws)
 gap_written ws h = letters_written limit (line_feed ∷ []) ws (omega arith) refl h
 
-html_spelled : IsWritten limit html_token
-html_spelled = tag_written limit content.Outside html_tag html_run refl (spells_each Html html_run html_tag (record { last = _; run = refl; whole = refl; is_tag = refl })) (omega arith) refl
-
-body_spelled : IsWritten limit (start_token body_tag body_run)
-body_spelled = tag_written limit content.Html body_tag body_run refl (spells_each Html body_run body_tag (record { last = _; run = refl; whole = refl; is_tag = refl })) (omega arith) refl
-
-div_spelled : IsWritten limit (start_token div_tag div_run)
-div_spelled = tag_written limit content.Html div_tag div_run refl (spells_each Html div_run div_tag (record { last = _; run = refl; whole = refl; is_tag = refl })) (omega arith) refl
-
-span_spelled : IsWritten limit (start_token span_tag span_run)
-span_spelled = tag_written limit content.Html span_tag span_run refl (spells_each Html span_run span_tag (record { last = _; run = refl; whole = refl; is_tag = refl })) (omega arith) refl
-
-span_end : IsWritten limit (end_token (codes "span"))
-span_end = tag_written limit content.Html (end_tag (codes "span")) (end_run (codes "span")) refl (spells_each Html (end_run (codes "span")) (end_tag (codes "span")) (record { last = _; run = refl; whole = refl; is_tag = refl })) (omega arith) refl
-
-div_end : IsWritten limit (end_token (codes "div"))
-div_end = tag_written limit content.Html (end_tag (codes "div")) (end_run (codes "div")) refl (spells_each Html (end_run (codes "div")) (end_tag (codes "div")) (record { last = _; run = refl; whole = refl; is_tag = refl })) (omega arith) refl
-
-body_end : IsWritten limit (end_token (codes "body"))
-body_end = tag_written limit content.Html (end_tag (codes "body")) (end_run (codes "body")) refl (spells_each Html (end_run (codes "body")) (end_tag (codes "body")) (record { last = _; run = refl; whole = refl; is_tag = refl })) (omega arith) refl
-
-html_end : IsWritten limit (end_token (codes "html"))
-html_end = tag_written limit content.Html (end_tag (codes "html")) (end_run (codes "html")) refl (spells_each Html (end_run (codes "html")) (end_tag (codes "html")) (record { last = _; run = refl; whole = refl; is_tag = refl })) (omega arith) refl
+-- a tag that is read as it is written
+tag_here : (inside : Content) (t : Tag) (run : Chars) → has_markup inside ≡ true → ReadsTag Html run t → length run + 1 ≤ limit → list_all is_plain run ≡ true → IsWritten limit (tag_token inside t run)
+tag_here inside t run m r short plain = tag_written limit inside t run m (spells_each Html run t r) short plain
 
 number_text : (n : ℕ) → n ≤ most_items → list_all is_text_char (decimal n) ≡ true
 number_text n l = digits_text (decimal n) (digits_decimal (numerals_by_value (λ ds. list_all is_ascii_digit ds ≡ true) tells) n (omega (arith, l)))
 
 item_spelled : (i : ℕ) (more : List Written) → i ≤ most_items → AreWritten limit more → AreWritten limit (item_tokens i more)
 item_spelled i more l h = (
-  div_spelled,
+  tag_here content.Html div_tag div_run refl (record { last = _; run = refl; whole = refl; is_tag = refl }) (omega arith) refl,
   (
-    span_spelled,
+    tag_here content.Html span_tag span_run refl (record { last = _; run = refl; whole = refl; is_tag = refl }) (omega arith) refl,
     letters_written limit (codes "Item ") (letters (decimal i) (name_behind more)) (omega arith) refl
-        (letters_written limit (decimal i) (name_behind more) (omega arith) (number_text i l) (span_end, (div_end, gap_written more h))),
+        (letters_written limit (decimal i) (name_behind more) (omega arith) (number_text i l) (tag_here content.Html (end_tag (codes "span")) (end_run (codes "span")) refl (record { last = _; run = refl; whole = refl; is_tag = refl }) (omega arith) refl, (tag_here content.Html (end_tag (codes "div")) (end_run (codes "div")) refl (record { last = _; run = refl; whole = refl; is_tag = refl }) (omega arith) refl, gap_written more h))),
   ),
 )
 
@@ -176,11 +160,11 @@ page_spelled count l = (
   (
     line_end_spelled,
     (
-      html_spelled,
+      tag_here content.Outside html_tag html_run refl (record { last = _; run = refl; whole = refl; is_tag = refl }) (omega arith) refl,
       gap_written (start_token body_tag body_run ∷ in_body count) (
-        body_spelled,
+        tag_here content.Html body_tag body_run refl (record { last = _; run = refl; whole = refl; is_tag = refl }) (omega arith) refl,
         gap_written (tokens_of count body_closed)
-            (items_spelled count body_closed l (body_end, gap_written html_closed (html_end, (line_end_spelled, tt)))),
+            (items_spelled count body_closed l (tag_here content.Html (end_tag (codes "body")) (end_run (codes "body")) refl (record { last = _; run = refl; whole = refl; is_tag = refl }) (omega arith) refl, gap_written html_closed (tag_here content.Html (end_tag (codes "html")) (end_run (codes "html")) refl (record { last = _; run = refl; whole = refl; is_tag = refl }) (omega arith) refl, (line_end_spelled, tt)))),
       ),
     ),
   ),
@@ -203,3 +187,78 @@ page_size count l =
     let items = items_size count l in
     let all : length (sample_page count) ≡ length (items_to count) + 16 = length-append (items_to count) tail in
     omega (arith, items, all, l)
+
+-- ---- the tokens of the sample page of every number nest as a page, of which no start tag is refused
+
+div_encloses : Encloses in_html div_tag
+div_encloses = record { start = refl; allowed = refl; known = refl; several = refl; undropped = refl; inside = refl; seen = refl; closed = refl; taken = λ context line. refl }
+
+span_encloses : Encloses in_html span_tag
+span_encloses = record { start = refl; allowed = refl; known = refl; several = refl; undropped = refl; inside = refl; seen = refl; closed = refl; taken = λ context line. refl }
+
+body_encloses : Encloses in_html body_tag
+body_encloses = record { start = refl; allowed = refl; known = refl; several = refl; undropped = refl; inside = refl; seen = refl; closed = refl; taken = λ context line. refl }
+
+html_encloses : Encloses outside html_tag
+html_encloses = record { start = refl; allowed = refl; known = refl; several = refl; undropped = refl; inside = refl; seen = refl; closed = refl; taken = λ context line. refl }
+
+name_held : (i : ℕ) (more : List Written) → HeldAnywhere 508 (codes "span") (name_in i more) (name_behind more)
+name_held i more =
+    held_letters 508 (codes "span") (codes "Item ") (letters (decimal i) (name_behind more)) (name_behind more)
+    (held_letters 508 (codes "span") (decimal i) (name_behind more) (name_behind more) (held_none 508 (codes "span") (name_behind more)))
+
+item_held : (i : ℕ) (more rest : List Written) → HeldAnywhere 510 (codes "body") more rest → HeldAnywhere 510 (codes "body") (item_tokens i more) rest
+item_held i more rest h =
+    held_element 509 (codes "body") div_tag div_run (start_token span_tag span_run ∷ name_in i more) (letter line_feed ∷ more) rest div_encloses
+    (held_element 508 (codes "div") span_tag span_run (name_in i more) (end_token (codes "div") ∷ letter line_feed ∷ more) (end_token (codes "div") ∷ letter line_feed ∷ more) span_encloses
+    (name_held i more) (held_none 509 (codes "div") (end_token (codes "div") ∷ letter line_feed ∷ more)))
+    (held_letters 510 (codes "body") (line_feed ∷ []) more rest h)
+
+items_held : (n : ℕ) (more rest : List Written) → HeldAnywhere 510 (codes "body") more rest → HeldAnywhere 510 (codes "body") (tokens_of n more) rest
+items_held zero more rest h = h
+items_held (suc n) more rest h = items_held n (item_tokens n more) rest (item_held n more rest h)
+
+root_held : (count : ℕ) → HeldAnywhere 511 (codes "html") (in_root count) html_closed
+root_held count =
+    held_letters 511 (codes "html") (line_feed ∷ []) (start_token body_tag body_run ∷ in_body count) html_closed
+    (held_element 510 (codes "html") body_tag body_run (in_body count) (letter line_feed ∷ html_closed) html_closed body_encloses
+    (held_letters 510 (codes "body") (line_feed ∷ []) _ body_closed (items_held count body_closed _ (held_none 510 (codes "body") _)))
+    (held_letters 511 (codes "html") (line_feed ∷ []) html_closed html_closed (held_none 511 (codes "html") html_closed)))
+
+-- where the inside of the root begins
+abbrev root_inside : ℕ
+root_inside = 16 + 1 + length html_run
+
+-- the tree of the root's inside
+abbrev tree_of : Tree → Tree
+tree_of inside = element (start_of (item_of 16 html_token) html_tag) inside end
+
+document : (count : ℕ) (h : Held 511 (codes "html") root_inside (in_root count) html_closed) → Document Html 512 (items_at 0 (page_tokens count)) (tree_of h.tree)
+document count h = record {
+  before = item_of 0 doctype_token ∷ item_of 15 line_end ∷ [];
+  root = item_of 16 html_token;
+  from = items_at root_inside (in_root count);
+  after = items_at (h.to + 1 + 6) (line_end ∷ []);
+  doctype_stands = true;
+  t = html_tag;
+  inside = h.tree;
+  are = refl;
+  lead = a_leading_doctype _ refl refl (passed _ refl refl no_more);
+  opens = record { content = refl; token = refl; start = refl; allowed = refl; known = refl };
+  named = refl;
+  tree_is = refl;
+  holds = enclosed 511 outside [] (item_of 16 html_token) (item_of h.to (end_token (codes "html"))) html_tag _ _ _ h.tree end html_encloses refl refl refl refl h.holds nothing;
+  trail = passed _ refl refl no_more;
+}
+
+pub samples_are_pages : SamplesArePages
+samples_are_pages count l =
+    let h = root_held count root_inside in
+    let page : Page Html standard (chars_in (page_tokens count)) (tree_of h.tree) =
+    page_written standard (page_tokens count) (tree_of h.tree) (page_spelled count l) (subst (λ cs. length cs ≤ standard.page) (sym (page_chars count)) (page_size count l)) (document count h) in (
+      tree_of h.tree,
+      record {
+        page = subst (λ cs. Page Html standard cs (tree_of h.tree)) (page_chars count) page;
+        accepted = taken_all (tree_of h.tree) (element_taken (start_of (item_of 16 html_token) html_tag) h.tree end html_encloses.taken h.taken (λ context line more. refl)) names.standard;
+      },
+    )

@@ -1,7 +1,7 @@
 -- Pages and faults of the worked rows, read byte by byte.
-use Rattle.rx_command.proofs.Common.{◌≡◌, ◌∙◌, ⊎_elim, inl, inr, ℕ, true, false, List, [], ◌∷◌, ◌++◌, refl, sym, ap, subst, None, Result, Ok, Err, codes, encode_utf8_all, append_assoc, append-nil, chars, all_scalars, Chars, Html, Page, Tree, end, Fault, Progress, page_read, page_on, nothing_read, spot_of, finds_only_faults, reads_only_pages, MeaningAt, for_form, for_meaning, Way, IsRefusal, Iri, Literal, Plain, Triple, set_of, spo, Renamed, written, graph_of, refusal_laws, Extraction, standard, rdfa_way, HasFirst, IsAccepted, HasText, Denotes, base_in, facts_in, fronts, none_read, small_page, small_text}
+use Rattle.rx_command.proofs.Common.{◌≡◌, ◌∙◌, ⊎_elim, inl, inr, ℕ, true, false, List, [], ◌∷◌, ◌++◌, refl, sym, ap, subst, None, Result, Ok, Err, codes, encode_utf8_all, append_assoc, append-nil, chars, all_scalars, Chars, Html, Page, Tree, end, Fault, Progress, page_read, page_on, nothing_read, spot_of, finds_only_faults, reads_only_pages, MeaningAt, for_form, for_meaning, Way, IsRefusal, Iri, Literal, Plain, Triple, set_of, spo, Renamed, written, graph_of, refusal_laws, Extraction, standard, rdfa_way, HasFirst, IsAccepted, HasText, Denotes, base_in, facts_in, fronts, none_read, small_page, small_text, ◌≤◌, length, arith, sample_page, cut_in, IsCut, in_item, at_end, HasDepth, IsDeepest, IsSample, of_sample, Row, one_line}
 use Rattle.rx_turtle.proofs.Common.{append_cancel_left, has_scheme, has_forbidden, ascii-chars, Among, quads, WritableTriple, WritableIri}
-use Rattle.rx_pages.proofs.Common.{FaultAt, told_trees, fault_stays, page_append}
+use Rattle.rx_pages.proofs.Common.{FaultAt, told_trees, fault_stays, page_append, reads_what_is_underway}
 use Rattle.rx_items.proofs.Common.{written_denotes, sees, nothing_seen}
 use Rattle.rx_grammar.specs.declared.faults.Kind.TheVariants.{Mismatch, RelativeVocab}
 use lib.Utf8.{encode}
@@ -16,11 +16,14 @@ use Rattle.rx_rdfa.specs.Inherited.{below}
 use Rattle.rx_rdfa.specs.Times.{time_kind}
 use Rattle.rx_rdfa.specs.Element.{start_of, end_of as element_end}
 use Rattle.rx_rdfa.specs.Lists.{entries_at, cells}
-use Rattle.rx_rdfa.specs.Standard as names
 use Rattle.rx_nquads.specs.Document.{Nquads}
 use Rattle.rx_nquads.specs.Writing.{nquads}
 use Rattle.rx_nquads.proofs.Denoting.{denotes}
+use Rattle.std.specs.Fmt.{digits}
+use Rattle.rx_nest.specs.ShownLines.{shown_line}
+use Rattle.rx_rdfa.specs.Standard as names
 use Rattle.rx_job.specs.declared.formats.Format.TheVariants as format
+use Rattle.rx_command.specs.declared.statuses.Status.TheVariants as status
 
 -- ---- a page with one triple
 
@@ -156,3 +159,69 @@ pub relative_first : HasFirst check_way (codes "<html vocab=\"x\"></html>") rela
 relative_first =
     for_meaning (meant check_way (refusal_laws names.standard) (codes "<html vocab=\"x\"></html>") relative relative_read)
     (meaning_first check_way (refusal_laws names.standard) (codes "<html vocab=\"x\"></html>") relative relative_read)
+
+-- ---- the worked row of the sample of one item
+
+abbrev one_page : List ℕ
+one_page =
+    codes "<!DOCTYPE html>\n<html vocab=\"http://schema.org/\">\n<body typeof=\"ItemList\">\n<div property=\"itemListElement\" typeof=\"Product\"><span property=\"name\">Item 0</span></div>\n</body>\n</html>\n"
+
+abbrev one_cut : List ℕ
+one_cut = codes "<!DOCTYPE html>\n<html vocab=\"http://schema.org/\">\n<body typeof=\"ItemList\">\n<div property=\"itemListElement\" typeof=\"Product\"><span property=\"name\">Item 0"
+
+-- ---- the page and its triples
+
+abbrev one_tree : Tree
+one_tree = first_tree (told_trees (read_to (page_read Html standard one_page)).told)
+
+one_accepted : IsAccepted Html names.standard (sample_page 1) one_tree
+unfolding digits time_kind components_of step without_dots target resolved resources below start_of element_end entries_at cells
+one_accepted =
+    let r = reads_only_pages Html standard one_page (read_to (page_read Html standard one_page)) refl in
+    let same : one_tree ≡ r.tree = ap first_tree r.trees in
+    record { page = subst (λ t. Page Html standard one_page t) (sym same) r.page; accepted = refl }
+
+-- ---- its depth
+
+-- the open elements where the reader stands
+open_there : (bytes : List ℕ) (now : Progress) (depth : ℕ) → page_read Html standard bytes ≡ Ok now → depth ≡ length (shown_line Html now.now.nest.line) → HasDepth bytes depth
+open_there bytes now depth h e = record {
+  line = now.now.nest.line;
+  phase = now.now.nest.phase;
+  run = now.now.scan.run;
+  part = now.now.scan.held;
+  underway =
+      (reads_what_is_underway Html standard bytes now.now.nest.line now.now.nest.phase now.now.scan.run now.now.scan.held).1
+      (record { now = now; read = h; is_at = record { line_is = refl; phase_is = refl }; run_is = refl; part_is = refl });
+  is = e;
+}
+
+cut_deep : HasDepth (cut_in 0) 4
+unfolding digits
+cut_deep = open_there one_cut (read_to (page_read Html standard one_cut)) 4 refl refl
+
+end_deep : HasDepth (sample_page 1) 0
+unfolding digits
+end_deep = open_there one_page (read_to (page_read Html standard one_page)) 0 refl refl
+
+no_deeper : (others : List ℕ) → IsCut 1 others → (other : ℕ) × HasDepth others other × (other ≤ 4)
+no_deeper others (in_item i l) = let first : 0 ≡ i = omega (arith, l) in (4, subst (λ n. HasDepth (cut_in n) 4) first cut_deep, omega arith)
+no_deeper others at_end = (0, end_deep, omega arith)
+
+one_deep : IsDeepest 1 4
+one_deep = record { bytes = cut_in 0; cut = in_item 0 (omega arith); has = cut_deep; most = no_deeper }
+
+-- ---- the line
+
+one_is : IsSample 1 one_line
+unfolding encode digits time_kind components_of step without_dots target resolved resources below start_of element_end entries_at cells
+one_is = record {
+  tree = one_tree;
+  is = one_accepted;
+  depth = 4;
+  deepest = one_deep;
+  spelled = refl;
+}
+
+pub sample_row : Row (codes "sample" ∷ codes "1" ∷ []) [] status.Done one_line []
+sample_row = of_sample 1 one_line one_is

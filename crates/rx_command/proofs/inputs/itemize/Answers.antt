@@ -1,8 +1,7 @@
 use Rattle.rx_command.proofs.Common.{◌≡◌, refl, subst, encode_utf8_all, Fault, WhereKnown, moves_weaker, Itemization, itemizes, item_way, PageText, PageRefused}
 use Rattle.rx_command.specs.declared.errors.InputError.TheVariants as error
 use Rattle.rx_page.specs.declared.outcomes.Outcome.TheVariants.{Json}
-use Rattle.rx_command.proofs.InputLemmas.{page_found, fails_refused, fails_clean, fails_no_context}
-use Rattle.rx_command.proofs.ItemLemmas.{page_items, page_item_fault}
+use Rattle.rx_command.proofs.InputLemmas.{page_found, fails_refused, fails_clean, fails_no_context, page_items, page_item_fault}
 use Rattle.rx_command.proofs.inputs.itemize.Goals as goal
 
 pub returns-in-Ok-text_of_items-clause-ok : goal.returns-in-Ok-text_of_items-clause-ok
