@@ -18,7 +18,7 @@ pub use Rattle.rx_jsonld.proofs.Common.{GrowsBy, GrowsByPart, WhereKnown, decima
 pub use Rattle.rx_many.specs.Pages.{refused_page}
 pub use Rattle.rx_nest.specs.Faults.{StopGives, Stops}
 pub use Rattle.rx_page.proofs.FaultLemmas.{fronts, none_read, one_first, page_has_none, refused_from}
-pub use Rattle.rx_page.proofs.ReaderLemmas.{clean_of, end_first, limits_are, no_bytes_read, not_longer, refuses_so}
+pub use Rattle.rx_page.proofs.FrontLemmas.{clean_of, end_first, limits_are, no_bytes_read, not_longer, refuses_so}
 pub use Rattle.rx_page.proofs.OutcomeLemmas.{refuses_first, the_fault}
 pub use Rattle.rx_page.proofs.TextLemmas.{the_text, tree_of_text}
 pub use Rattle.rx_page.specs.Settings.{GivesItems, GivesList, GivesRight, HasFirst, item_setting_for, item_way, rdfa_way, setting_for, standard}

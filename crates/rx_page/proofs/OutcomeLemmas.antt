@@ -12,7 +12,7 @@ use Rattle.rx_page.specs.Outcomes.{TaskAccepts, IsTheTree, IsTheFault, OneOutcom
 use Rattle.rx_grammar.specs.Kinds.{is_of_meaning}
 use Rattle.rx_page.proofs.FaultLemmas.{fronts, none_read, page_has_none, one_first, form_kind, meaning_kind}
 use Rattle.rx_page.proofs.ItemLemmas.{item_kind}
-use Rattle.rx_page.proofs.ReaderLemmas.{refuses_so}
+use Rattle.rx_page.proofs.FrontLemmas.{refuses_so}
 
 module _ (way : Way) (law : IsRefusal way.refused) where
   abbrev SignsOf : Progress → List Sign

@@ -1,14 +1,10 @@
 -- When what is inherited is shown.
 use Rattle.std.proofs.lemmas.List.{nil_from_length}
-use Rattle.rx_walk.proofs.Common.{◌≡◌, ◌≢◌, ◌∙◌, ℕ, true, false, List, [], length, refl, sym, ap, subst, Option, Some, None, ◌||◌, is_some, Chars, State, has_failed, line_of, known, sought, calls_of, Staged, Setting, Walked, WalkStands, HasBase, ShowsOnceKnown, map, Entry, Line, read_tag, line_is}
+use Rattle.rx_walk.proofs.Common.{◌≡◌, ◌≢◌, ◌∙◌, ℕ, true, false, List, [], length, refl, sym, ap, subst, Option, Some, None, ◌||◌, is_some, Chars, State, has_failed, line_of, known, sought, calls_of, Staged, Setting, Walked, WalkStands, HasBase, ShowsOnceKnown}
 use Rattle.rx_base.proofs.KnownOver.{knows_over_bytes}
 use Rattle.rx_eval.specs.declared.inherited.Inherited.{Inherited}
 use Rattle.rx_walk.specs.declared.stages.PendingBase.{PendingBase}
-use Rattle.rx_walk.proofs.Wholes.{no_sought, known_at}
-use Rattle.rx_grammar.specs.Begun.{Phase}
-use Rattle.rx_pages.specs.Fronts.{IsUnderway}
-use Rattle.rx_nest.specs.ShownLines.{shown_line}
-use Rattle.rx_nest.proofs.ShownLines.{shows_open_ones}
+use Rattle.rx_walk.proofs.Wholes.{open_is, no_sought, known_at}
 use Rattle.rx_walk.specs.declared.stages.Stage.TheVariants as stage
 
 -- a walk that stands for some bytes hasn't failed
@@ -53,10 +49,3 @@ found_shows walk state shown f c e =
     base setting address bytes s =
         let k = known_at address setting.limits.depth (sought s.goes.signs) (calls_of setting.context [] s.goes.signs) (stage.Found state) state (subst (λ x. Staged address setting.limits.depth (sought s.goes.signs) (calls_of setting.context [] s.goes.signs) x) e s.goes.known.staged) refl in
         record { href = k.href; known = (knows_over_bytes setting.syntax setting.limits walk.nest bytes s.goes.signs k.href s.goes.shown s.paid).0 k.is }
-
--- the elements that the signs of a walk leave open are those that the page's tree shows, by the grammar
-module _ (setting : Setting) (address : Chars) (walk : Walked) (bytes : List ℕ) (s : WalkStands setting address walk bytes) where
-  pub open_is : (line : Line) (phase : Phase) (run : List Entry) (part : List ℕ) → IsUnderway setting.syntax setting.limits bytes line phase run part
-      → line_of [] s.goes.signs ≡ map read_tag (shown_line setting.syntax line)
-  open_is line phase run part u =
-      line_is [] s.goes.signs ∙ ap (λ x. map read_tag x) (shows_open_ones setting.syntax setting.limits walk.nest bytes s.goes.signs s.goes.shown s.paid line phase run part u)

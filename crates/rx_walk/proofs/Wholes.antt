@@ -1,5 +1,5 @@
 -- What a walk knows of its page.
-use Rattle.rx_walk.proofs.Common.{◌≡◌, ◌∙◌, ℕ, false, List, [], ◌∷◌, ◌++◌, length, sym, ap, subst, Option, Some, Chars, triples_seen, base_by, root_href, Call, Context, begun_state, State, tags_of, start_of, StartTag, Tree, end, element, Sign, finished, signs_of, Whole, line_of, calls_of, Seeking, known, sought, Led, Known, Staged, sought_seen, Runs, runs_at, way_at, Setting, way_of, Walked, WalkStands, OverOpen, state_of, FramesFit, Lists, IsWhole, Ended, tree_line}
+use Rattle.rx_walk.proofs.Common.{◌≡◌, ◌∙◌, ℕ, false, List, [], ◌∷◌, ◌++◌, length, sym, ap, subst, Option, Some, Chars, triples_seen, base_by, root_href, Call, Context, begun_state, State, tags_of, start_of, StartTag, Tree, end, element, Sign, finished, signs_of, Whole, line_of, calls_of, Seeking, known, sought, Led, Known, Staged, sought_seen, Runs, runs_at, way_at, Setting, way_of, Walked, WalkStands, OverOpen, state_of, FramesFit, Lists, IsWhole, Ended, tree_line, map, Entry, Line, read_tag, line_is}
 use Rattle.rx_terms.specs.declared.triples.Triple.{Triple as CodeTriple}
 use Rattle.rx_walk.specs.declared.courses.RdfaListener.{RdfaListener}
 use Rattle.rx_walk.specs.declared.stages.PendingBase.{PendingBase}
@@ -8,10 +8,20 @@ use Rattle.rx_base.specs.declared.seeking.Sought.{Sought}
 use Rattle.rx_walk.proofs.Making.{list_made, all_rest}
 use Rattle.rx_base.proofs.Found.{base_found}
 use Rattle.rx_walk.proofs.Moving.{led_at, is_ended}
-use Rattle.rx_walk.proofs.Inheriting.{open_is}
 use Rattle.rx_walk.proofs.Fronting.{may_counts, root_ended}
+use Rattle.rx_grammar.specs.Begun.{Phase}
+use Rattle.rx_pages.specs.Fronts.{IsUnderway}
+use Rattle.rx_nest.specs.ShownLines.{shown_line}
+use Rattle.rx_nest.proofs.ShownLines.{shows_open_ones}
 use Rattle.rx_walk.specs.declared.stages.Stage.TheVariants as stage
 use Rattle.rx_base.specs.declared.seeking.Sought.TheVariants as looks
+
+-- the elements that the signs of a walk leave open are those that the page's tree shows, by the grammar
+module _ (setting : Setting) (address : Chars) (walk : Walked) (bytes : List ℕ) (s : WalkStands setting address walk bytes) where
+  pub open_is : (line : Line) (phase : Phase) (run : List Entry) (part : List ℕ) → IsUnderway setting.syntax setting.limits bytes line phase run part
+      → line_of [] s.goes.signs ≡ map read_tag (shown_line setting.syntax line)
+  open_is line phase run part u =
+      line_is [] s.goes.signs ∙ ap (λ x. map read_tag x) (shows_open_ones setting.syntax setting.limits walk.nest bytes s.goes.signs s.goes.shown s.paid line phase run part u)
 
 pub known_at : (address : Chars) (levels : ℕ) (seeking : Seeking) (list : List Call) (x : Stage) (state : State) → Staged address levels seeking list x → state_of x ≡ Some state → Known address levels seeking list state
 known_at address levels seeking list (stage.Seeking head) state s e = absurd (cc)

@@ -1,6 +1,6 @@
 use Rattle.rx_walk.proofs.Common.{◌∙◌, ◌≤◌, List, [], ap, subst, sym, Tag, declared_along, line_of, Walked}
 use Rattle.rx_walk.specs.declared.courses.RdfaListener.{RdfaListener}
-use Rattle.rx_walk.proofs.Inheriting.{open_is}
+use Rattle.rx_walk.proofs.Wholes.{open_is}
 use Rattle.rx_names.specs.Lines as names
 use Rattle.rx_walk.proofs.walks.Walk.rows.Goals as goal
 
