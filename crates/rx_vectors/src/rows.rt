@@ -36,10 +36,13 @@ const PIECES: &[usize] = &[10_000, 1, 2, 3, 7];
 
 impl Row<'_> {
     pub(crate) fn name(&self) -> &str {
-        self.value
-            .get("name")
-            .and_then(Value::as_str)
-            .unwrap_or(UNNAMED)
+        let Some(value) = self.value.get("name") else {
+            return UNNAMED;
+        };
+        match value.as_str() {
+            Some(name) => name,
+            None => UNNAMED,
+        }
     }
 
     /// The sizes of pieces that the row is tried with.
