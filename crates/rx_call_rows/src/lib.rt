@@ -1,5 +1,5 @@
-//! Calls that no row of the program reaches, as tests: what no clause says of them, which is that a call succeeds where memory
-//! is there, and that real devices are read and written. All other calls are reached by the rows of rx_vectors.
+//! Calls that no row reaches, as tests: what no clause says of them, which is that a call succeeds where memory is there, and
+//! that real devices are read and written. The rows of rx_vectors and rx_session_rows reach all other calls.
 #![tactic(auto)]
 
 #[cfg(test)]
