@@ -1,11 +1,11 @@
 -- The names of the command that most proofs here cite, passed on from one place. Declares nothing.
 pub use Rattle.rx_command.specs.Contexts.{HasContext, HasOther, IsContext, IsContextFile, LacksContext, ReadsContext, TakesContext, context_in, context_size}
-pub use Rattle.rx_command.specs.Endings.{EndingsSay, Ends, IsAnswer, IsDue, IsSame, OfPage, OneAnswer, RunEnds, answers, no_context, no_context_of_several, no_file, no_file_of_several, no_memory, nothing_asked, of_fault, of_page, of_pages, of_sample, out_failed, shelf_failed}
-pub use Rattle.rx_command.specs.Files.{HasRead, ReadsFile, ReadsOn, TakesOf, TakesSome, size_of}
+pub use Rattle.rx_command.specs.Endings.{EndingsSay, EndsJob, IsAnswer, IsDue, IsSame, OfPage, OneAnswer, RunEnds, answers, no_context, no_context_of_several, no_file, no_file_of_several, no_memory, nothing_asked, of_fault, of_page, of_pages, of_sample, out_failed, shelf_failed}
+pub use Rattle.rx_command.specs.Files.{HasRead, ReadsFile, ReadsMore, TakesOf, TakesWithin, size_of}
 pub use Rattle.rx_command.specs.Gathering.{AddsPage, AddsPages, AreParts, DenotesGathered, FileList, GathersPages, GivesGraph, GivesTriples, HasAll, HasPages, IsGathered, IsJudged, IsPart, IsThat, Judges, JudgesEach, ReadsEach, ReadsListed, TakesGathering, TakesPart, TakesParts, total}
 pub use Rattle.rx_command.specs.Inputs.{JobRefused, JobText, PageRefused, PageText, TellsThat, WhereTold}
 pub use Rattle.rx_command.specs.Outcome.{HasBadContext, HasPageFault, IsLacking, JobLacks, LacksOne, LacksPage, NamesPage, ReadsTo}
-pub use Rattle.rx_command.specs.Reading.{Adds, AddsNone, Decides, EndFails, EndGives, Fed, Finds, IsClean, IsFile, IsPiece, NextGives, PageFails, PageGives, ReadsClean, ReadsWhole, TakesToFirst, largest_piece, page_limit}
+pub use Rattle.rx_command.specs.Reading.{AddsRead, AddsNone, DecidesFault, EndFails, EndGives, FedFile, FindsFault, IsClean, IsFile, IsPiece, NextGives, PageFails, PageGives, ReadsClean, ReadsWhole, TakesToFirst, largest_piece, page_limit}
 pub use Rattle.rx_command.specs.Rows.{Row, RowsAreAnswered, check_words, extract_words, file, item_page, item_text, item_words, many_files, many_text, many_words, one_line, shelf_with, small_page, small_text}
 pub use Rattle.rx_command.specs.Runs.{Devices, EndsAs, EndsSo, GatheringEnds, ReadCause, ReadsAll, SampleEnds, Says, SaysAs, SaysNothing, StartsEach, StopsCleanly, TakesFiles, TakesJob, TakesToFault, context_line, reads_files, refused_line, usage_line}
 pub use Rattle.rx_command.specs.Samples.{HasDepth, IsCut, IsDeepest, IsSample, SamplesArePages, SaysOfSample, Yields, YieldsBoth, at_end, cut_in, head, in_item, item_before, item_behind, items_to, line_for, line_with, sample_address, sample_page, sample_setting, tail, triples_in}

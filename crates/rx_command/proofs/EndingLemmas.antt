@@ -1,5 +1,5 @@
 -- How a run ends, exit by exit.
-use Rattle.rx_command.proofs.Common.{◌≡◌, ◌≢◌, ◌∙◌, ℕ, ◌⊎◌, inl, inr, List, [], refl, sym, ap, subst, Option, Some, None, append-nil, encode_utf8_all, Chars, Rose, file_of, ShelfContent, WhereKnown, GrowsBy, GrowsByPart, Stays, moves_same, moves_at, moves_weaker, Context, Fault, Job, Asked, Gathering, reads, gathers, samples, job, gathering_in, TaskGives, the_fault, the_text, IsContext, HasOther, context_in, NamesPage, IsLacking, LacksOne, JobLacks, JobText, JobRefused, TellsThat, WhereTold, IsGathered, DenotesGathered, Yields, Devices, SampleEnds, EndsAs, SaysAs, GatheringEnds, Says, SaysNothing, TakesJob, usage_line, context_line, refused_line, OfPage, IsAnswer, nothing_asked, of_sample, of_page, of_fault, no_file, no_context, of_pages, no_file_of_several, no_context_of_several, IsDue, Ends, RunEnds, answers, shelf_failed, out_failed, no_memory}
+use Rattle.rx_command.proofs.Common.{◌≡◌, ◌≢◌, ◌∙◌, ℕ, ◌⊎◌, inl, inr, List, [], refl, sym, ap, subst, Option, Some, None, append-nil, encode_utf8_all, Chars, Rose, file_of, ShelfContent, WhereKnown, GrowsBy, GrowsByPart, Stays, moves_same, moves_at, moves_weaker, Context, Fault, Job, Asked, Gathering, reads, gathers, samples, job, gathering_in, TaskGives, the_fault, the_text, IsContext, HasOther, context_in, NamesPage, IsLacking, LacksOne, JobLacks, JobText, JobRefused, TellsThat, WhereTold, IsGathered, DenotesGathered, Yields, Devices, SampleEnds, EndsAs, SaysAs, GatheringEnds, Says, SaysNothing, TakesJob, usage_line, context_line, refused_line, OfPage, IsAnswer, nothing_asked, of_sample, of_page, of_fault, no_file, no_context, of_pages, no_file_of_several, no_context_of_several, IsDue, EndsJob, RunEnds, answers, shelf_failed, out_failed, no_memory}
 use Rattle.rx_page.specs.Written.{text_of, Denoted}
 use Rattle.rx_page.specs.declared.outcomes.Outcome.{Outcome}
 use Rattle.rx_command.specs.declared.statuses.Status.{Status}
@@ -53,7 +53,7 @@ bad_answer shelf (Some (gathers g)) h = no_context_of_several g h
 bad_answer shelf _ h = absurd h
 
 -- a run that writes no whole text
-pub without_text : (words : List Chars) (s : Status) (old new : Devices) → s ≢ status.Done → WhereKnown (TakesJob (job words)) old.told new.told → ((shelf : ShelfContent) → old.told ≡ Some shelf → Ends shelf (job words) s old new)
+pub without_text : (words : List Chars) (s : Status) (old new : Devices) → s ≢ status.Done → WhereKnown (TakesJob (job words)) old.told new.told → ((shelf : ShelfContent) → old.told ≡ Some shelf → EndsJob shelf (job words) s old new)
     → RunEnds words s old new
 without_text words s old new other taken gives = record { gives = gives; reads = taken; whole = λ is. absurd (other is) }
 
@@ -71,21 +71,21 @@ module _ (words : List Chars) (old new : Devices) (shelf : ShelfContent) (tells 
       (subst (λ (x : ShelfContent). IsGathered p.gathering text x) (one_shelf old.told p.shelf shelf p.tells tells) p.is)
 
   -- the words ask for nothing
-  pub ends_usage : job words ≡ None → WhereKnown Stays old.held new.held → Says usage_line old.said new.said old.say_faults new.say_faults → Ends shelf (job words) status.Usage old new
+  pub ends_usage : job words ≡ None → WhereKnown Stays old.held new.held → Says usage_line old.said new.said old.say_faults new.say_faults → EndsJob shelf (job words) status.Usage old new
   ends_usage j stays says = answers [] usage_line (at_job None status.Usage [] usage_line j nothing_asked) (grown_by_none old.held new.held stays) says
 
-  pub ends_memory : WhereKnown Stays old.held new.held → Ends shelf (job words) status.Memory old new
+  pub ends_memory : WhereKnown Stays old.held new.held → EndsJob shelf (job words) status.Memory old new
   ends_memory stays = no_memory refl stays
 
   -- for a sample
-  pub ends_sample : (count : ℕ) → job words ≡ Some (samples count) → (s : Status) → SampleEnds count s old.held new.held old.write_faults new.write_faults → SaysNothing old.said new.said old.say_faults new.say_faults → Ends shelf (job words) s old new
+  pub ends_sample : (count : ℕ) → job words ≡ Some (samples count) → (s : Status) → SampleEnds count s old.held new.held old.write_faults new.write_faults → SaysNothing old.said new.said old.say_faults new.say_faults → EndsJob shelf (job words) s old new
   ends_sample count j status.Done e says = answers e.0 [] (at_job (Some (samples count)) status.Done e.0 [] j (of_sample count e.0 e.1)) e.2 (silent old.said new.said old.say_faults new.say_faults says)
   ends_sample count j status.WriteFault e says = out_failed e.0 refl e.3 (subst (λ k. IsDue shelf k e.0) (sym j) e.1) e.2
   ends_sample count j status.Memory e says = no_memory refl e
   ends_sample count j _ e says = absurd e
 
   -- for several pages
-  several_at : (g : Gathering) → job words ≡ Some (gathers g) → (s : Status) → EndsAs g s old new → SaysAs s old new → Ends shelf (job words) s old new
+  several_at : (g : Gathering) → job words ≡ Some (gathers g) → (s : Status) → EndsAs g s old new → SaysAs s old new → EndsJob shelf (job words) s old new
   several_at g j status.Done e says =
       answers e.0 []
       (at_job (Some (gathers g)) status.Done e.0 [] j (of_pages g e.0 (subst (WhereTold (IsGathered g e.0)) tells e.1) (subst (WhereTold (DenotesGathered g e.0)) tells e.2))) e.3
@@ -101,7 +101,7 @@ module _ (words : List Chars) (old new : Devices) (shelf : ShelfContent) (tells 
   several_at g j status.Memory e says = no_memory refl e
   several_at g j _ e says = absurd e
 
-  pub ends_several : (g : Gathering) → job words ≡ Some (gathers g) → (s : Status) → GatheringEnds g s old new → Ends shelf (job words) s old new
+  pub ends_several : (g : Gathering) → job words ≡ Some (gathers g) → (s : Status) → GatheringEnds g s old new → EndsJob shelf (job words) s old new
   ends_several g j s e = several_at g j s e.ends e.says
 
   -- for one page
@@ -110,7 +110,7 @@ module _ (words : List Chars) (old new : Devices) (shelf : ShelfContent) (tells 
     of_one s text line i = at_job (Some (reads asked)) s text line a i
 
     pub ends_done : (found : Outcome) → WhereKnown (JobText asked found) old.told new.told → Denoted found → WhereKnown (GrowsBy (text_of found)) old.held new.held → SaysNothing old.said new.said old.say_faults new.say_faults
-        → Ends shelf (job words) status.Done old new
+        → EndsJob shelf (job words) status.Done old new
     ends_done found m denoted grows says =
         let r = moves_at shelf m tells in
         let p = (r.1).page in
@@ -120,7 +120,7 @@ module _ (words : List Chars) (old new : Devices) (shelf : ShelfContent) (tells 
         (record { context = (r.1).context; bytes = p.bytes; is_context = (r.1).holds; file = p.file; holds_so = the_text asked.task (r.1).context p.bytes (text_of found) p.gives (p.graph denoted) })))
         grows (silent old.said new.said old.say_faults new.say_faults says)
 
-    pub ends_partly : (found : Outcome) → WhereKnown (JobText asked found) old.told new.told → WhereKnown (GrowsByPart (text_of found)) old.held new.held → Rose old.write_faults new.write_faults → Ends shelf (job words) status.WriteFault old new
+    pub ends_partly : (found : Outcome) → WhereKnown (JobText asked found) old.told new.told → WhereKnown (GrowsByPart (text_of found)) old.held new.held → Rose old.write_faults new.write_faults → EndsJob shelf (job words) status.WriteFault old new
     ends_partly found m grows rose =
         let r = moves_at shelf m tells in
         let p = (r.1).page in
@@ -128,7 +128,7 @@ module _ (words : List Chars) (old new : Devices) (shelf : ShelfContent) (tells 
         out_failed (text_of found) refl rose (subst (λ k. IsDue shelf k (text_of found)) (sym a) due) grows
 
     pub ends_refused : (fault : Fault) → WhereKnown (JobRefused asked fault) old.told new.told → WhereKnown Stays old.held new.held → Says (refused_line fault) old.said new.said old.say_faults new.say_faults
-        → Ends shelf (job words) (status.Refused fault) old new
+        → EndsJob shelf (job words) (status.Refused fault) old new
     ends_refused fault m stays says =
         let r = moves_at shelf m tells in
         answers [] (refused_line fault)
@@ -137,13 +137,13 @@ module _ (words : List Chars) (old new : Devices) (shelf : ShelfContent) (tells 
         (record { context = (r.1).context; bytes = (r.1).bytes; is_context = (r.1).holds; file = (r.1).file; holds_so = the_fault asked.task (r.1).context (r.1).bytes fault (r.1).refused })))
         (grown_by_none old.held new.held stays) says
 
-    pub ends_failed : Rose old.read_faults new.read_faults ⊎ TellsThat (IsLacking asked) old.told → WhereKnown Stays old.held new.held → SaysNothing old.said new.said old.say_faults new.say_faults → Ends shelf (job words) status.ReadFault old new
+    pub ends_failed : Rose old.read_faults new.read_faults ⊎ TellsThat (IsLacking asked) old.told → WhereKnown Stays old.held new.held → SaysNothing old.said new.said old.say_faults new.say_faults → EndsJob shelf (job words) status.ReadFault old new
     ends_failed (inl rose) stays says = shelf_failed refl rose stays
     ends_failed (inr lacks) stays says =
         answers [] [] (of_one status.ReadFault [] [] (no_file asked (subst (TellsThat (IsLacking asked)) tells lacks))) (grown_by_none old.held new.held stays)
         (silent old.said new.said old.say_faults new.say_faults says)
 
-    pub ends_bad : WhereTold (HasOther asked.context) old.told → WhereKnown Stays old.held new.held → Says context_line old.said new.said old.say_faults new.say_faults → Ends shelf (job words) status.BadContext old new
+    pub ends_bad : WhereTold (HasOther asked.context) old.told → WhereKnown Stays old.held new.held → Says context_line old.said new.said old.say_faults new.say_faults → EndsJob shelf (job words) status.BadContext old new
     ends_bad other stays says =
         answers [] context_line (of_one status.BadContext [] context_line (no_context asked (subst (WhereTold (HasOther asked.context)) tells other)))
         (grown_by_none old.held new.held stays) says

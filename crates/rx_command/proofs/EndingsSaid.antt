@@ -1,5 +1,5 @@
 -- What follows from how a run ends.
-use Rattle.rx_command.proofs.Common.{◌≡◌, ℕ, inl, inr, List, refl, sym, ap, subst, Option, Some, None, Chars, Rose, ShelfContent, WhereKnown, GrowsBy, GrowsByPart, Context, Fault, Job, Asked, Gathering, reads, gathers, samples, job, page_in, gathering_in, TaskGives, the_fault, HasContext, HasOther, context_in, NamesPage, HasPageFault, HasBadContext, JobLacks, HasAll, HasPages, SaysOfSample, Yields, YieldsBoth, Devices, EndsSo, OfPage, IsAnswer, nothing_asked, of_sample, of_page, of_fault, no_file, no_context, of_pages, no_file_of_several, no_context_of_several, IsDue, Ends, answers, shelf_failed, out_failed, no_memory, EndingsSay}
+use Rattle.rx_command.proofs.Common.{◌≡◌, ℕ, inl, inr, List, refl, sym, ap, subst, Option, Some, None, Chars, Rose, ShelfContent, WhereKnown, GrowsBy, GrowsByPart, Context, Fault, Job, Asked, Gathering, reads, gathers, samples, job, page_in, gathering_in, TaskGives, the_fault, HasContext, HasOther, context_in, NamesPage, HasPageFault, HasBadContext, JobLacks, HasAll, HasPages, SaysOfSample, Yields, YieldsBoth, Devices, EndsSo, OfPage, IsAnswer, nothing_asked, of_sample, of_page, of_fault, no_file, no_context, of_pages, no_file_of_several, no_context_of_several, IsDue, EndsJob, answers, shelf_failed, out_failed, no_memory, EndingsSay}
 use Rattle.rx_page.specs.Outcomes.{IsTheFault, IsTheText}
 use Rattle.rx_command.specs.declared.statuses.Status.{Status}
 use Rattle.rx_command.specs.declared.statuses.Status.TheVariants as status
@@ -71,43 +71,43 @@ module _ (words : List Chars) (old new : Devices) (shelf : ShelfContent) (tells 
   at_status {text = text} {line = line} t is a = subst (λ x. IsAnswer shelf (job words) x text line) is a
 
   module _ (s : Status) where
-    done : Ends shelf (job words) s old new → s ≡ status.Done → (told : ShelfContent) → old.told ≡ Some told → (text : List ℕ) × YieldsBoth words old.told text × WhereKnown (GrowsBy text) old.held new.held
+    done : EndsJob shelf (job words) s old new → s ≡ status.Done → (told : ShelfContent) → old.told ≡ Some told → (text : List ℕ) × YieldsBoth words old.told text × WhereKnown (GrowsBy text) old.held new.held
     done (answers text line a grows says) is told e = (text, answer_yields (at_status status.Done is a) refl, grows)
     done (shelf_failed f rose stays) is told e = absurd (cc)
     done (out_failed text f rose d part) is told e = absurd (cc)
     done (no_memory f stays) is told e = absurd (cc)
 
-    partly : Ends shelf (job words) s old new → s ≡ status.WriteFault → (told : ShelfContent) → old.told ≡ Some told → (text : List ℕ) × Yields words old.told text × WhereKnown (GrowsByPart text) old.held new.held
+    partly : EndsJob shelf (job words) s old new → s ≡ status.WriteFault → (told : ShelfContent) → old.told ≡ Some told → (text : List ℕ) × Yields words old.told text × WhereKnown (GrowsByPart text) old.held new.held
     partly (answers text line a grows says) is told e = absurd (never_write (at_status status.WriteFault is a))
     partly (shelf_failed f rose stays) is told e = absurd (cc)
     partly (out_failed text f rose d part) is told e = (text, due_yields (job words) text refl d, part)
     partly (no_memory f stays) is told e = absurd (cc)
 
-    refused : Ends shelf (job words) s old new → (fault : Fault) → s ≡ status.Refused fault → (told : ShelfContent) → old.told ≡ Some told → HasPageFault words old.told fault
+    refused : EndsJob shelf (job words) s old new → (fault : Fault) → s ≡ status.Refused fault → (told : ShelfContent) → old.told ≡ Some told → HasPageFault words old.told fault
     refused (answers text line a grows says) fault is told e = answer_refuses fault (at_status (status.Refused fault) is a) refl
     refused (shelf_failed f rose stays) fault is told e = absurd (cc)
     refused (out_failed text f rose d part) fault is told e = absurd (cc)
     refused (no_memory f stays) fault is told e = absurd (cc)
 
-    bad_context : Ends shelf (job words) s old new → s ≡ status.BadContext → (told : ShelfContent) → old.told ≡ Some told → HasBadContext words old.told
+    bad_context : EndsJob shelf (job words) s old new → s ≡ status.BadContext → (told : ShelfContent) → old.told ≡ Some told → HasBadContext words old.told
     bad_context (answers text line a grows says) is told e = answer_bad (at_status status.BadContext is a) refl
     bad_context (shelf_failed f rose stays) is told e = absurd (cc)
     bad_context (out_failed text f rose d part) is told e = absurd (cc)
     bad_context (no_memory f stays) is told e = absurd (cc)
 
-    lacking : Ends shelf (job words) s old new → JobLacks (job words) shelf → EndsSo s status.ReadFault
+    lacking : EndsJob shelf (job words) s old new → JobLacks (job words) shelf → EndsSo s status.ReadFault
     lacking (answers text line a grows says) l = inl (beside shelf a (lacks_answer shelf (job words) l)).status_is
     lacking (shelf_failed f rose stays) l = inl f
     lacking (out_failed text f rose d part) l = absurd (due_lacks shelf (job words) text d l)
     lacking (no_memory f stays) l = inr f
 
-    refuses_context : Ends shelf (job words) s old new → HasOther (context_in (job words)) shelf → ¬ Rose old.read_faults new.read_faults → EndsSo s status.BadContext
+    refuses_context : EndsJob shelf (job words) s old new → HasOther (context_in (job words)) shelf → ¬ Rose old.read_faults new.read_faults → EndsSo s status.BadContext
     refuses_context (answers text line a grows says) o quiet = inl (beside shelf a (bad_answer shelf (job words) o)).status_is
     refuses_context (shelf_failed f rose stays) o quiet = absurd (quiet rose)
     refuses_context (out_failed text f rose d part) o quiet = absurd (due_other shelf (job words) text d o)
     refuses_context (no_memory f stays) o quiet = inr f
 
-    refuses : Ends shelf (job words) s old new → (fault : Fault) → HasPageFault words old.told fault → ¬ Rose old.read_faults new.read_faults → EndsSo s (status.Refused fault)
+    refuses : EndsJob shelf (job words) s old new → (fault : Fault) → HasPageFault words old.told fault → ¬ Rose old.read_faults new.read_faults → EndsSo s (status.Refused fault)
     refuses ends fault h quiet = by ends
       where
         asked : Asked
@@ -119,19 +119,19 @@ module _ (words : List Chars) (old new : Devices) (shelf : ShelfContent) (tells 
         there : OfPage asked shelf (HasFault asked fault)
         there = page_there words old.told shelf tells (HasFault asked fault) h.bytes h.page (the_fault asked.task h.page.context h.bytes fault h.refused)
 
-        by : Ends shelf (job words) s old new → EndsSo s (status.Refused fault)
+        by : EndsJob shelf (job words) s old new → EndsSo s (status.Refused fault)
         by (answers text line a grows says) = inl (beside shelf (subst (λ z. IsAnswer shelf z s text line) j a) (of_fault asked fault there)).status_is
         by (shelf_failed f rose stays) = absurd (quiet rose)
         by (out_failed text f rose d part) = absurd (text_or_fault shelf asked text fault (subst (λ z. IsDue shelf z text) j d) there)
         by (no_memory f stays) = inr f
 
-    completes : Ends shelf (job words) s old new → (text : List ℕ) → Yields words old.told text → ¬ Rose old.read_faults new.read_faults → ¬ Rose old.write_faults new.write_faults → EndsSo s status.Done
+    completes : EndsJob shelf (job words) s old new → (text : List ℕ) → Yields words old.told text → ¬ Rose old.read_faults new.read_faults → ¬ Rose old.write_faults new.write_faults → EndsSo s status.Done
     completes (answers other line a grows says) text y quiet calm = inl (due_done shelf text a (due words old new shelf tells text y))
     completes (shelf_failed f rose stays) text y quiet calm = absurd (quiet rose)
     completes (out_failed other f rose d part) text y quiet calm = absurd (calm rose)
     completes (no_memory f stays) text y quiet calm = inr f
 
-    completes_all : Ends shelf (job words) s old new → HasAll words old.told → ¬ Rose old.read_faults new.read_faults → ¬ Rose old.write_faults new.write_faults → EndsSo s status.Done
+    completes_all : EndsJob shelf (job words) s old new → HasAll words old.told → ¬ Rose old.read_faults new.read_faults → ¬ Rose old.write_faults new.write_faults → EndsSo s status.Done
     completes_all (answers other line a grows says) h quiet calm =
         let same : h.shelf ≡ shelf = one_shelf old.told h.shelf shelf h.tells tells in
         inl (all_done shelf h.gathering (subst (λ (x : ShelfContent). HasContext h.gathering.context x) same h.context) (subst (λ (x : ShelfContent). HasPages x.files h.gathering.pages) same h.pages) (subst (λ z. IsAnswer shelf z s other line) (several_of (job words) h.gathering h.asks) a))

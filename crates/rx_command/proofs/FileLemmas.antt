@@ -1,5 +1,5 @@
 -- What was read of a file, read by read.
-use Rattle.rx_command.proofs.Common.{◌≡◌, ◌∙◌, ℕ, ◌+◌, ◌≤◌, ◌<◌, List, [], ◌∷◌, ◌++◌, length, take, sym, ap, refl, arith, Ok, Err, Some, append_assoc, length-append, length-take, ShelfContent, Starts, Reads, file_of, HasRead, ReadsFile, ReadsOn, TakesSome, TakesOf, size_of}
+use Rattle.rx_command.proofs.Common.{◌≡◌, ◌∙◌, ℕ, ◌+◌, ◌≤◌, ◌<◌, List, [], ◌∷◌, ◌++◌, length, take, sym, ap, refl, arith, Ok, Err, Some, append_assoc, length-append, length-take, ShelfContent, Starts, Reads, file_of, HasRead, ReadsFile, ReadsMore, TakesWithin, TakesOf, size_of}
 use Rattle.rx_ports.specs.declared.shelf.Failed.{Failed}
 
 -- nothing of a started file was read
@@ -17,7 +17,7 @@ empty_rest before now old [] f e l = refl
 empty_rest before now old (c ∷ new) f e l = absurd (omega (arith, ap length f, ap length e, length-append before old, length-append now (c ∷ new)))
 
 -- a read gave bytes, which were kept
-pub reads_on : (buf before now : List ℕ) (k : ℕ) (x y : ShelfContent) → Reads buf (Ok k) x y → 0 < length buf → k ≤ length buf → now ≡ before ++ take k buf → ReadsOn before now k x y
+pub reads_on : (buf before now : List ℕ) (k : ℕ) (x y : ShelfContent) → Reads buf (Ok k) x y → 0 < length buf → k ≤ length buf → now ≡ before ++ take k buf → ReadsMore before now k x y
 reads_on buf before now k x y r room within e = record {
   files = r.files;
   bytes = ap (λ b. before ++ b) r.left ∙ sym (append_assoc before _ _) ∙ ap (λ b. b ++ y.left) (sym e);
@@ -28,7 +28,7 @@ reads_on buf before now k x y r room within e = record {
 }
 
 -- a read went on
-pub read_more : (name bytes next : List ℕ) (k : ℕ) (x y z : ShelfContent) → HasRead name bytes x y → ReadsOn bytes next k y z → HasRead name next x z
+pub read_more : (name bytes next : List ℕ) (k : ℕ) (x y z : ShelfContent) → HasRead name bytes x y → ReadsMore bytes next k y z → HasRead name next x z
 read_more name bytes next k x y z h r = record {
   files = r.files ∙ h.files;
   file = h.file ∙ ap Some r.bytes;
@@ -37,7 +37,7 @@ read_more name bytes next k x y z h r = record {
 }
 
 -- a read gave nothing
-pub read_end : (name bytes next : List ℕ) (limit k : ℕ) (x y z : ShelfContent) → HasRead name bytes x y → ReadsOn bytes next k y z → k ≡ 0 → length next ≤ limit + 1
+pub read_end : (name bytes next : List ℕ) (limit k : ℕ) (x y z : ShelfContent) → HasRead name bytes x y → ReadsMore bytes next k y z → k ≡ 0 → length next ≤ limit + 1
     → ReadsFile name limit next x z
 read_end name bytes next limit k x y z h r none most = record {
   read = read_more name bytes next k x y z h r;
@@ -51,7 +51,7 @@ read_past name bytes limit x y h past most = record { read = h; most = most; who
 
 -- ---- how much was taken
 
-pub reads_some : (buf : List ℕ) (k : ℕ) (x y : ShelfContent) → Reads buf (Ok k) x y → k ≤ length buf → TakesSome (length buf) x y
+pub reads_some : (buf : List ℕ) (k : ℕ) (x y : ShelfContent) → Reads buf (Ok k) x y → k ≤ length buf → TakesWithin (length buf) x y
 reads_some buf k x y r within = record {
   files = r.files;
   sum = omega (arith, ap length r.left, length-append (take k buf) y.left, length-take k buf, r.taken);
@@ -77,7 +77,7 @@ takes_read name bytes limit x y h most = record {
 }
 
 -- some of the file was read, and some more was taken and lost
-pub takes_more : (name bytes : List ℕ) (limit room : ℕ) (x y z : ShelfContent) → HasRead name bytes x y → TakesSome room y z → length bytes + room ≤ limit → TakesOf name limit x z
+pub takes_more : (name bytes : List ℕ) (limit room : ℕ) (x y z : ShelfContent) → HasRead name bytes x y → TakesWithin room y z → length bytes + room ≤ limit → TakesOf name limit x z
 takes_more name bytes limit room x y z h t within = record {
   files = t.files ∙ h.files;
   file = omega (arith, h.taken, size-read name bytes x y h, t.sum);

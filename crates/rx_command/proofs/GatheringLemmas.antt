@@ -1,5 +1,5 @@
 -- Several pages that are read one after another.
-use Rattle.rx_command.proofs.Common.{◌≡◌, ◌∙◌, ◌+◌, ◌-◌, ◌≤◌, ◌⊎◌, inl, inr, ℕ, zero, suc, nat_eq, List, [], ◌∷◌, ◌++◌, length, take, drop, sym, ap, subst, refl, arith, Option, Some, None, encode_utf8_all, append_assoc, length-append, Chars, slice_get, Rose, file_of, ShelfContent, WhereKnown, Lacks, moves_then, Syntax, Fault, copied, numbered, Renamed, Triple, set_of, Context, graph_of, Gathering, Listed, Way, rdfa_way, HasFirst, GivesList, page_limit, ReadsWhole, Finds, TakesToFirst, TakesOf, size_of, IsContext, LacksContext, TakesContext, ReadsContext, TellsThat, LacksPage, LacksOne, base_in, facts_in, way_of, FileList, GivesTriples, GivesGraph, IsJudged, Judges, JudgesEach, IsPart, AreParts, total, TakesGathering, IsThat, TakesPart, TakesParts, ReadsListed, ReadsEach, AddsPage, AddsPages, GathersPages, as_read}
+use Rattle.rx_command.proofs.Common.{◌≡◌, ◌∙◌, ◌+◌, ◌-◌, ◌≤◌, ◌⊎◌, inl, inr, ℕ, zero, suc, nat_eq, List, [], ◌∷◌, ◌++◌, length, take, drop, sym, ap, subst, refl, arith, Option, Some, None, encode_utf8_all, append_assoc, length-append, Chars, slice_get, Rose, file_of, ShelfContent, WhereKnown, Lacks, moves_then, Syntax, Fault, copied, numbered, Renamed, Triple, set_of, Context, graph_of, Gathering, Listed, Way, rdfa_way, HasFirst, GivesList, page_limit, ReadsWhole, FindsFault, TakesToFirst, TakesOf, size_of, IsContext, LacksContext, TakesContext, ReadsContext, TellsThat, LacksPage, LacksOne, base_in, facts_in, way_of, FileList, GivesTriples, GivesGraph, IsJudged, Judges, JudgesEach, IsPart, AreParts, total, TakesGathering, IsThat, TakesPart, TakesParts, ReadsListed, ReadsEach, AddsPage, AddsPages, GathersPages, as_read}
 use Rattle.std.proofs.lemmas.List.{take_more}
 use Rattle.rx_items.proofs.Common.{append-nil, get_or_from_slice_get, slice_get_within, take_all, take-append-drop, triples_seen, written_denotes}
 use Rattle.rx_terms.specs.declared.triples.Triple.{Triple as CodeTriple}
@@ -136,7 +136,7 @@ module _ (a : Approach) (syntax : Syntax) (context : Context) (address page name
         judged = subst (λ (b : Approach). GivesTriples b.syntax b.context b.address c.bytes triples) same_approach own;
       }
 
-  gives_fault : (fault : Fault) (x y : ShelfContent) → Finds (way_of a) name fault x y → Judges GivesTriples syntax context x.files One (refused_page address fault)
+  gives_fault : (fault : Fault) (x y : ShelfContent) → FindsFault (way_of a) name fault x y → Judges GivesTriples syntax context x.files One (refused_page address fault)
   gives_fault fault x y c = record {
     bytes = c.bytes;
     file = ap (λ z. file_of x.files z) (sym named) ∙ c.file;
@@ -151,7 +151,7 @@ module _ (a : Approach) (syntax : Syntax) (context : Context) (address page name
       record { page = page; adds = e; reads = both_moves (ReadsListed context syntax One page) (λ x y c p. record { judged = gives_triples list x y c; takes = p; starts = c.starts }) m (page_takes told now t f) }
 
   pub adds_refused : (told now : Option ShelfContent) (before after : List Page) (fault : Fault) → WhereKnown (TakesOf name page_limit) told now → WhereKnown (TakesToFirst (way_of a) name) told now
-      → WhereKnown (Finds (way_of a) name fault) told now → after ≡ before ++ refused_page address fault ∷ [] → AddsPage context syntax One before after told now
+      → WhereKnown (FindsFault (way_of a) name fault) told now → after ≡ before ++ refused_page address fault ∷ [] → AddsPage context syntax One before after told now
   adds_refused told now before after fault t f m e =
       let page : Page = refused_page address fault in
       record { page = page; adds = e; reads = both_moves (ReadsListed context syntax One page) (λ x y c p. record { judged = gives_fault fault x y c; takes = p; starts = c.starts }) m (page_takes told now t f) }

@@ -1,7 +1,7 @@
 -- From what was read of the files that a job names to what they are.
 use Rattle.std.proofs.lemmas.Result.{IfOk-weaker}
 use Rattle.std.specs.Prelude.{IsErrOf}
-use Rattle.rx_command.proofs.Common.{⊎_elim, nat_eq, ◌≡◌, ◌∙◌, ◌+◌, ◌≤◌, ◌<◌, ◌⊎◌, inl, inr, ℕ, true, false, List, [], ◌++◌, length, sym, ap, subst, refl, arith, Option, Some, None, Result, Ok, Err, IfOk, encode_utf8_all, length-append, append-nil, nat_le, ◌&&◌, is_some, nat_tests, Rose, file_of, ShelfContent, WhereKnown, Lacks, moves_same, moves_at, moves_then, Syntax, Fault, copied, numbered, Context, Asked, Task, Extraction, extracts, itemizes, checks, Way, largest_piece, page_limit, ReadsWhole, Finds, ReadsClean, IsClean, PageFails, HasFirst, GivesList, GivesRight, refuses_so, refuses_first, ReadsFile, TakesOf, size_of, IsContextFile, IsContext, HasContext, TakesContext, ReadsContext, context_size, PageText, PageRefused, JobText, JobRefused, TellsThat, WhereTold, IsRight, way_in, IsLacking, ReadsTo, as_read, ok_line, TakesFiles, StopsCleanly, Chars, Tree, Itemization, JsonText, HasItems, GivesItems}
+use Rattle.rx_command.proofs.Common.{⊎_elim, nat_eq, ◌≡◌, ◌∙◌, ◌+◌, ◌≤◌, ◌<◌, ◌⊎◌, inl, inr, ℕ, true, false, List, [], ◌++◌, length, sym, ap, subst, refl, arith, Option, Some, None, Result, Ok, Err, IfOk, encode_utf8_all, length-append, append-nil, nat_le, ◌&&◌, is_some, nat_tests, Rose, file_of, ShelfContent, WhereKnown, Lacks, moves_same, moves_at, moves_then, Syntax, Fault, copied, numbered, Context, Asked, Task, Extraction, extracts, itemizes, checks, Way, largest_piece, page_limit, ReadsWhole, FindsFault, ReadsClean, IsClean, PageFails, HasFirst, GivesList, GivesRight, refuses_so, refuses_first, ReadsFile, TakesOf, size_of, IsContextFile, IsContext, HasContext, TakesContext, ReadsContext, context_size, PageText, PageRefused, JobText, JobRefused, TellsThat, WhereTold, IsRight, way_in, IsLacking, ReadsTo, as_read, ok_line, TakesFiles, StopsCleanly, Chars, Tree, Itemization, JsonText, HasItems, GivesItems}
 use Rattle.rx_model.proofs.Common.{by_test, triples_seen}
 use Rattle.rx_names.specs.ContextFiles.{context_of}
 use Rattle.rx_terms.specs.declared.triples.Triple.{Triple as CodeTriple}
@@ -145,13 +145,13 @@ page_text e context name named form outcome list n f spelled denotes x y c =
     let made = text_made e context form outcome list c.bytes f spelled denotes c.gives in
     record { page = record { bytes = c.bytes; file = sym (ap (λ n. file_of x.files n) n) ∙ c.file; gives = made.0; graph = made.1; left = c.left }; starts = c.starts }
 
-pub page_found : (task : Task) (way : Way) (context : Context) (name named : List ℕ) (fault : Fault) → named ≡ name → way ≡ way_in task context → (x y : ShelfContent) → Finds way named fault x y → PageRefused task context name fault x y
+pub page_found : (task : Task) (way : Way) (context : Context) (name named : List ℕ) (fault : Fault) → named ≡ name → way ≡ way_in task context → (x y : ShelfContent) → FindsFault way named fault x y → PageRefused task context name fault x y
 page_found task way context name named fault e w x y f =
     record { bytes = f.bytes; file = sym (ap (λ n. file_of x.files n) e) ∙ f.file; refused = refuses_first task context f.bytes fault (subst (λ (z : Way). HasFirst z f.bytes fault) w f.is); reads = reads_to task fault x.taken y.taken f.read }
 
 -- why a page was not read
-pub fails_refused : (way : Way) (name named : List ℕ) (e : InputError) (fault : Fault) (told now : Option ShelfContent) → named ≡ name → PageFails way named e told now → e ≡ error.Refused fault → WhereKnown (Finds way name fault) told now
-fails_refused way name named e fault told now n g is = subst (λ x. WhereKnown (Finds way x fault) told now) n (subst (λ x. PageFails way named x told now) is g)
+pub fails_refused : (way : Way) (name named : List ℕ) (e : InputError) (fault : Fault) (told now : Option ShelfContent) → named ≡ name → PageFails way named e told now → e ≡ error.Refused fault → WhereKnown (FindsFault way name fault) told now
+fails_refused way name named e fault told now n g is = subst (λ x. WhereKnown (FindsFault way x fault) told now) n (subst (λ x. PageFails way named x told now) is g)
 
 pub fails_clean : (way : Way) (name named : List ℕ) (e : InputError) (told now : Option ShelfContent) → named ≡ name → PageFails way named e told now → e ≡ error.Failed → WhereKnown (ReadsClean way name) told now
 fails_clean way name named e told now n g is = subst (λ x. WhereKnown (ReadsClean way x) told now) n (subst (λ x. PageFails way named x told now) is g)

@@ -1,5 +1,5 @@
 -- A page that is read as its bytes come.
-use Rattle.rx_command.proofs.Common.{◌≡◌, ◌∙◌, ℕ, ◌+◌, ◌≤◌, ◌<◌, List, [], ◌∷◌, ◌++◌, length, take, sym, ap, subst, refl, arith, Option, Some, Result, Ok, Err, append_assoc, append-nil, length-append, length-take, Chars, Syntax, Fault, Limits, Stops, Way, IsRefusal, Context, file_of, ShelfContent, WhereKnown, Reads, moves_then, moves_weaker, HasRead, TakesSome, standard, setting_for, item_setting_for, HasFirst, largest_piece, Decides, Adds, AddsNone, NextGives, EndFails, EndGives, ReadsWhole, Finds, ReadsClean, TakesToFirst, IsFile, Fed, PageFails, PageGives, refused_from, no_bytes_read, clean_of}
+use Rattle.rx_command.proofs.Common.{◌≡◌, ◌∙◌, ℕ, ◌+◌, ◌≤◌, ◌<◌, List, [], ◌∷◌, ◌++◌, length, take, sym, ap, subst, refl, arith, Option, Some, Result, Ok, Err, append_assoc, append-nil, length-append, length-take, Chars, Syntax, Fault, Limits, Stops, Way, IsRefusal, Context, file_of, ShelfContent, WhereKnown, Reads, moves_then, moves_weaker, HasRead, TakesWithin, standard, setting_for, item_setting_for, HasFirst, largest_piece, DecidesFault, AddsRead, AddsNone, NextGives, EndFails, EndGives, ReadsWhole, FindsFault, ReadsClean, TakesToFirst, IsFile, FedFile, PageFails, PageGives, refused_from, no_bytes_read, clean_of}
 use Rattle.rx_walk.specs.Walks as walks
 use Rattle.rx_walk.specs.Walks.{Walked}
 use Rattle.rx_items.specs.Walks as item
@@ -23,7 +23,7 @@ pub start_check : (syntax : Syntax) (context : Context) (l : Limits) (v : Checke
 start_check syntax context l v e st = subst (λ (x : Limits). checks.CheckStands (record { syntax = syntax; limits = x; context = context }) v []) e st
 
 -- a read
-pub read_adds : (buf : List ℕ) (k : ℕ) (x y : ShelfContent) → Reads buf (Ok k) x y → 0 < length buf → k ≤ length buf → Adds (take k buf) x y
+pub read_adds : (buf : List ℕ) (k : ℕ) (x y : ShelfContent) → Reads buf (Ok k) x y → 0 < length buf → k ≤ length buf → AddsRead (take k buf) x y
 read_adds buf k x y r room within =
     record {
       files = r.files;
@@ -36,7 +36,7 @@ read_adds buf k x y r room within =
 some_file : (a b : List ℕ) → ◌≡◌ {A = Option (List ℕ)} (Some a) (Some b) → a ≡ b
 some_file a b e = cc
 
-has_more : (name bytes more : List ℕ) (x y z : ShelfContent) → HasRead name bytes x y → Adds more y z → HasRead name (bytes ++ more) x z
+has_more : (name bytes more : List ℕ) (x y z : ShelfContent) → HasRead name bytes x y → AddsRead more y z → HasRead name (bytes ++ more) x z
 has_more name bytes more x y z h a =
     record {
       files = a.files ∙ h.files;
@@ -50,7 +50,7 @@ pub unread_first : (way : Way) (name : List ℕ) (x y : ShelfContent) → y.take
 unread_first way name x y t file f fault first = omega (arith, t)
 
 -- the first fault
-found : (way : Way) (name bytes more : List ℕ) (fault : Fault) (x y z : ShelfContent) → HasRead name bytes x y → Adds more y z → length more ≤ largest_piece → Decides way bytes more fault → Finds way name fault x z
+found : (way : Way) (name bytes more : List ℕ) (fault : Fault) (x y z : ShelfContent) → HasRead name bytes x y → AddsRead more y z → length more ≤ largest_piece → DecidesFault way bytes more fault → FindsFault way name fault x z
 found way name bytes more fault x y z h a small f =
     let r = has_more name bytes more x y z h a in
     record { bytes = (bytes ++ more) ++ z.left; file = r.file; is = f.stays z.left; read = omega (arith, r.taken, length-append bytes more, f.from); starts = r.starts }
@@ -59,7 +59,7 @@ found way name bytes more fault x y z h a small f =
 
 module _ (way : Way) (law : IsRefusal way.refused) where
   -- a piece that is refused
-  pub piece_refused : (bytes piece : List ℕ) (fault : Fault) → IsRead way bytes → Stops way (bytes ++ piece) fault → Decides way bytes piece fault
+  pub piece_refused : (bytes piece : List ℕ) (fault : Fault) → IsRead way bytes → Stops way (bytes ++ piece) fault → DecidesFault way bytes piece fault
   piece_refused bytes piece fault i s =
       record { stays = s.stays; from = refused_from way law bytes piece i.now i.read i.accepted fault (subst (λ x. HasFirst way x fault) (append-nil (bytes ++ piece)) (s.stays [])) }
 
@@ -72,7 +72,7 @@ module _ (way : Way) (law : IsRefusal way.refused) where
   unread_clean name x y t file f = record { bytes = []; rest = file; are = refl; taken = omega (arith, t); clean = clean_of way law [] (no_bytes_read way law) }
 
   -- some bytes were read, and no more than a piece was taken behind them
-  pub to_first : (name bytes : List ℕ) (room : ℕ) (x y z : ShelfContent) → IsRead way bytes → HasRead name bytes x y → TakesSome room y z → room ≤ largest_piece → TakesToFirst way name x z
+  pub to_first : (name bytes : List ℕ) (room : ℕ) (x y z : ShelfContent) → IsRead way bytes → HasRead name bytes x y → TakesWithin room y z → room ≤ largest_piece → TakesToFirst way name x z
   to_first name bytes room x y z i h t small file f fault first =
       let same : file ≡ bytes ++ y.left = some_file file (bytes ++ y.left) (sym f ∙ h.file) in
       let from = refused_from way law bytes y.left i.now i.read i.accepted fault (subst (λ b. HasFirst way b fault) same first) in
@@ -99,7 +99,7 @@ module _ {R : Type 0} (way : Way) (stands : R → List ℕ → Type 0) (name : L
   pub next_found : (law : IsRefusal way.refused) (v w : R) (n : ℕ) (e : InputError) (before now later : Option ShelfContent) (s : SoFar stands name v n before now) → IsRead way s.bytes
       → NextGives way stands s.bytes (Err e) w now later → PageFails way name e before later
   next_found law v w n (error.Refused fault) before now later s i g =
-      moves_then (Finds way name fault) (λ x y z h a. found way name s.bytes g.0 fault x y z h a g.1 g.2) s.read g.3
+      moves_then (FindsFault way name fault) (λ x y z h a. found way name s.bytes g.0 fault x y z h a g.1 g.2) s.read g.3
   next_found law v w n error.Failed before now later s i g =
       moves_then (ReadsClean way name) (λ x y z h a file f. read_clean way law name s.bytes x y z h a i file f) s.read g
   next_found law v w n error.BadContext before now later s i g = g
@@ -111,15 +111,15 @@ nothing_more : (more : List ℕ) → length more ≡ 0 → more ≡ []
 nothing_more [] e = refl
 nothing_more (x ∷ more) e = absurd (cc)
 
-at_end : (more : List ℕ) (y z : ShelfContent) → Adds more y z → more ≡ [] → z.left ≡ []
+at_end : (more : List ℕ) (y z : ShelfContent) → AddsRead more y z → more ≡ [] → z.left ≡ []
 at_end more y z a none = let left : y.left ≡ z.left = a.left ∙ ap (λ m. m ++ z.left) none in sym left ∙ a.at_end none
 
-ended_file : (name bytes more : List ℕ) (x y z : ShelfContent) → HasRead name bytes x y → Adds more y z → more ≡ [] → file_of x.files name ≡ Some (bytes ++ more)
+ended_file : (name bytes more : List ℕ) (x y z : ShelfContent) → HasRead name bytes x y → AddsRead more y z → more ≡ [] → file_of x.files name ≡ Some (bytes ++ more)
 ended_file name bytes more x y z h a none =
     (has_more name bytes more x y z h a).file ∙ ap Some (ap (λ l. (bytes ++ more) ++ l) (at_end more y z a none) ∙ append-nil (bytes ++ more))
 
 pub file_fed : {R : Type 0} (way : Way) (stands : R → List ℕ → Type 0) (name : List ℕ) (v w : R) (n k : ℕ) (before now later : Option ShelfContent) (s : SoFar stands name v n before now)
-    → NextGives way stands s.bytes (Ok k) w now later → k ≡ 0 → Fed stands name w before later
+    → NextGives way stands s.bytes (Ok k) w now later → k ≡ 0 → FedFile stands name w before later
 file_fed way stands name v w n k before now later s g none =
     record {
       bytes = s.bytes ++ g.0;
@@ -130,14 +130,14 @@ file_fed way stands name v w n k before now later s g none =
     }
 
 -- the page
-fails_at_end : {R : Type 0} (way : Way) (stands : R → List ℕ → Type 0) (name : List ℕ) (v : R) (before now : Option ShelfContent) (f : Fed stands name v before now) (e : InputError)
+fails_at_end : {R : Type 0} (way : Way) (stands : R → List ℕ → Type 0) (name : List ℕ) (v : R) (before now : Option ShelfContent) (f : FedFile stands name v before now) (e : InputError)
     → EndFails way f.bytes e → PageFails way name e before now
 fails_at_end way stands name v before now f (error.Refused fault) e =
-    moves_weaker (Finds way name fault) (λ x y i. record { bytes = f.bytes; file = i.file; is = e.0; read = omega (arith, i.taken, e.1); starts = i.starts }) f.read
+    moves_weaker (FindsFault way name fault) (λ x y i. record { bytes = f.bytes; file = i.file; is = e.0; read = omega (arith, i.taken, e.1); starts = i.starts }) f.read
 fails_at_end way stands name v before now f error.NoMemory e = tt
 fails_at_end way stands name v before now f _ e = absurd e
 
-pub fed_ends : {R A : Type 0} (way : Way) (stands : R → List ℕ → Type 0) (holds : List ℕ → A → Type 0) (name : List ℕ) (v : R) (before now : Option ShelfContent) (f : Fed stands name v before now) (result : Result A InputError)
+pub fed_ends : {R A : Type 0} (way : Way) (stands : R → List ℕ → Type 0) (holds : List ℕ → A → Type 0) (name : List ℕ) (v : R) (before now : Option ShelfContent) (f : FedFile stands name v before now) (result : Result A InputError)
     → EndGives way holds f.bytes result → PageGives way holds name result before now
 fed_ends way stands holds name v before now f (Ok given) e = moves_weaker (ReadsWhole holds name given) (λ x y i. record { bytes = f.bytes; file = i.file; left = i.left; starts = i.starts; gives = e }) f.read
 fed_ends way stands holds name v before now f (Err why) e = fails_at_end way stands name v before now f why e

@@ -53,16 +53,16 @@ IsDue shelf (Some (samples count)) text = IsSample count text
 
 -- A run gives that answer: out has grown by the text, and err by the line, or by a front of it where err failed. Or the shelf
 -- failed, or out, which then holds a proper front of the text more than before; or there was no memory. Nothing else is written.
-pub data Ends (shelf : ShelfContent) (asked : Option Job) (s : Status) (old new : Devices) : Type 0 where
-  answers : (text line : List ℕ) → IsAnswer shelf asked s text line → WhereKnown (GrowsBy text) old.held new.held → Says line old.said new.said old.say_faults new.say_faults → Ends shelf asked s old new
-  shelf_failed : s ≡ status.ReadFault → Rose old.read_faults new.read_faults → WhereKnown Stays old.held new.held → Ends shelf asked s old new
-  out_failed : (text : List ℕ) → s ≡ status.WriteFault → Rose old.write_faults new.write_faults → IsDue shelf asked text → WhereKnown (GrowsByPart text) old.held new.held → Ends shelf asked s old new
-  no_memory : s ≡ status.Memory → WhereKnown Stays old.held new.held → Ends shelf asked s old new
+pub data EndsJob (shelf : ShelfContent) (asked : Option Job) (s : Status) (old new : Devices) : Type 0 where
+  answers : (text line : List ℕ) → IsAnswer shelf asked s text line → WhereKnown (GrowsBy text) old.held new.held → Says line old.said new.said old.say_faults new.say_faults → EndsJob shelf asked s old new
+  shelf_failed : s ≡ status.ReadFault → Rose old.read_faults new.read_faults → WhereKnown Stays old.held new.held → EndsJob shelf asked s old new
+  out_failed : (text : List ℕ) → s ≡ status.WriteFault → Rose old.write_faults new.write_faults → IsDue shelf asked text → WhereKnown (GrowsByPart text) old.held new.held → EndsJob shelf asked s old new
+  no_memory : s ≡ status.Memory → WhereKnown Stays old.held new.held → EndsJob shelf asked s old new
 
 -- So a run ends over a shelf that tells its files. It reads no more of them than what is asked for takes, and starts no more than
 -- are named; where a text was written it has read all that is asked for, having started each file once.
 pub record RunEnds (words : List Chars) (s : Status) (old new : Devices) : Type 0 where
-  pub gives : (shelf : ShelfContent) → old.told ≡ Some shelf → Ends shelf (job words) s old new
+  pub gives : (shelf : ShelfContent) → old.told ≡ Some shelf → EndsJob shelf (job words) s old new
   pub reads : WhereKnown (TakesJob (job words)) old.told new.told
   pub whole : s ≡ status.Done → WhereKnown (ReadsAll (job words)) old.told new.told
 
@@ -78,7 +78,7 @@ OneAnswer =
     → IsAnswer shelf asked s text line → IsAnswer shelf asked t other said → IsSame s t text other line said
 
 -- What follows from how a run ends over a shelf that tells its files.
-pub record Follows (words : List Chars) (s : Status) (old new : Devices) : Type 0 where
+pub record EndingFollows (words : List Chars) (s : Status) (old new : Devices) : Type 0 where
   -- a text that was written is the outcome, and denotes what it has to; so is one of which a front was written
   pub done : s ≡ status.Done → Writes old.told (YieldsBoth words old.told) GrowsBy old.held new.held
   pub partly : s ≡ status.WriteFault → Writes old.told (Yields words old.told) GrowsByPart old.held new.held
@@ -95,4 +95,4 @@ pub record Follows (words : List Chars) (s : Status) (old new : Devices) : Type 
 
 -- law
 abbrev pub EndingsSay : Type 0
-EndingsSay = (words : List Chars) (s : Status) (old new : Devices) (shelf : ShelfContent) → old.told ≡ Some shelf → Ends shelf (job words) s old new → Follows words s old new
+EndingsSay = (words : List Chars) (s : Status) (old new : Devices) (shelf : ShelfContent) → old.told ≡ Some shelf → EndsJob shelf (job words) s old new → EndingFollows words s old new

@@ -13,7 +13,7 @@ pub record HasRead (name bytes : List ℕ) (old new : ShelfContent) : Type 0 whe
   pub starts : new.starts ≡ old.starts + 1
 
 -- a read gave n bytes, which were added to those before; none only at the end
-pub record ReadsOn (before now : List ℕ) (n : ℕ) (old new : ShelfContent) : Type 0 where
+pub record ReadsMore (before now : List ℕ) (n : ℕ) (old new : ShelfContent) : Type 0 where
   pub files : new.files ≡ old.files
   pub bytes : before ++ old.left ≡ now ++ new.left
   pub taken : new.taken ≡ old.taken + n
@@ -22,7 +22,7 @@ pub record ReadsOn (before now : List ℕ) (n : ℕ) (old new : ShelfContent) : 
   pub starts : new.starts ≡ old.starts
 
 -- at most so many bytes of what was left were taken, and no file was started
-pub record TakesSome (room : ℕ) (old new : ShelfContent) : Type 0 where
+pub record TakesWithin (room : ℕ) (old new : ShelfContent) : Type 0 where
   pub files : new.files ≡ old.files
   pub sum : length new.left + new.taken ≡ length old.left + old.taken
   pub most : new.taken ≤ old.taken + room

@@ -21,12 +21,12 @@ abbrev pub page_limit : ℕ
 page_limit = standard.page + largest_piece
 
 -- A byte of the piece decides the fault, whatever follows.
-pub record Decides (way : Way) (bytes piece : List ℕ) (fault : Fault) : Type 0 where
+pub record DecidesFault (way : Way) (bytes piece : List ℕ) (fault : Fault) : Type 0 where
   pub stays : (rest : List ℕ) → HasFirst way ((bytes ++ piece) ++ rest) fault
   pub from : length bytes ≤ fault.at
 
 -- these bytes of the file were read next; none only at its end
-pub record Adds (more : List ℕ) (old new : ShelfContent) : Type 0 where
+pub record AddsRead (more : List ℕ) (old new : ShelfContent) : Type 0 where
   pub files : new.files ≡ old.files
   pub left : old.left ≡ more ++ new.left
   pub taken : new.taken ≡ old.taken + length more
@@ -40,9 +40,9 @@ pub record AddsNone (old new : ShelfContent) : Type 0 where
 
 -- a read gave some bytes, which were taken
 abbrev pub NextGives : {R : Type 0} → Way → (R → List ℕ → Type 0) → List ℕ → Result ℕ InputError → R → Option ShelfContent → Option ShelfContent → Type 0
-NextGives way stands bytes (Ok n) new before now = (more : List ℕ) × (length more ≡ n) × stands new (bytes ++ more) × WhereKnown (Adds more) before now
+NextGives way stands bytes (Ok n) new before now = (more : List ℕ) × (length more ≡ n) × stands new (bytes ++ more) × WhereKnown (AddsRead more) before now
 NextGives way stands bytes (Err (error.Refused fault)) new before now =
-    (more : List ℕ) × (length more ≤ largest_piece) × Decides way bytes more fault × WhereKnown (Adds more) before now
+    (more : List ℕ) × (length more ≤ largest_piece) × DecidesFault way bytes more fault × WhereKnown (AddsRead more) before now
 NextGives way stands bytes (Err error.Failed) new before now = WhereKnown AddsNone before now
 NextGives way stands bytes (Err error.BadContext) new before now = ⊥
 NextGives way stands bytes (Err error.NoMemory) new before now = Unit {0}
@@ -69,8 +69,8 @@ ReadsNext way stands old room result new before now =
     (setting : _) (bytes : List ℕ) → stands setting old bytes → room ≤ largest_piece → NextGives (way setting) (stands setting) bytes result new before now
 
 -- the page's end, whatever the reader was made with, and whatever bytes lead to where it stands
-abbrev pub Ends : {S R A : Type 0} → (S → Way) → (S → R → List ℕ → Type 0) → (S → List ℕ → A → Type 0) → R → Result A InputError → Type 0
-Ends way stands gives reader result = (setting : _) (bytes : List ℕ) → stands setting reader bytes → EndGives (way setting) (gives setting) bytes result
+abbrev pub ReadingEnds : {S R A : Type 0} → (S → Way) → (S → R → List ℕ → Type 0) → (S → List ℕ → A → Type 0) → R → Result A InputError → Type 0
+ReadingEnds way stands gives reader result = (setting : _) (bytes : List ℕ) → stands setting reader bytes → EndGives (way setting) (gives setting) bytes result
 
 -- The file was started once and read to its end, and this holds of its bytes and of what they give.
 pub record ReadsWhole {A : Type 0} (holds : List ℕ → A → Type 0) (name : List ℕ) (given : A) (old new : ShelfContent) : Type 0 where
@@ -81,7 +81,7 @@ pub record ReadsWhole {A : Type 0} (holds : List ℕ → A → Type 0) (name : L
   pub gives : holds bytes given
 
 -- The file has this fault, and was started once and read no further than a piece past it.
-pub record Finds (way : Way) (name : List ℕ) (fault : Fault) (old new : ShelfContent) : Type 0 where
+pub record FindsFault (way : Way) (name : List ℕ) (fault : Fault) (old new : ShelfContent) : Type 0 where
   pub bytes : List ℕ
   pub file : file_of old.files name ≡ Some bytes
   pub is : HasFirst way bytes fault
@@ -113,26 +113,26 @@ pub record IsFile (name bytes : List ℕ) (old new : ShelfContent) : Type 0 wher
   pub starts : new.starts ≡ old.starts + 1
 
 -- the reader, which was made with this, is before the first byte of a page, which may be as large as any
-pub record Starts {S R : Type 0} (way : S → Way) (stands : S → R → List ℕ → Type 0) (reader : R) : Type 0 where
+pub record StartsPage {S R : Type 0} (way : S → Way) (stands : S → R → List ℕ → Type 0) (reader : R) : Type 0 where
   pub setting : S
   pub limits : (way setting).limits ≡ standard
   pub at : stands setting reader []
 
 -- the reader stands where the whole file leads
-pub record Fed {R : Type 0} (stands : R → List ℕ → Type 0) (name : List ℕ) (reader : R) (before now : Option ShelfContent) : Type 0 where
+pub record FedFile {R : Type 0} (stands : R → List ℕ → Type 0) (name : List ℕ) (reader : R) (before now : Option ShelfContent) : Type 0 where
   pub bytes : List ℕ
   pub at : stands reader bytes
   pub read : WhereKnown (IsFile name bytes) before now
 
 -- the file has a fault, or reading it failed, or there was no memory
 abbrev pub PageFails : Way → List ℕ → InputError → Option ShelfContent → Option ShelfContent → Type 0
-PageFails way name (error.Refused fault) before now = WhereKnown (Finds way name fault) before now
+PageFails way name (error.Refused fault) before now = WhereKnown (FindsFault way name fault) before now
 PageFails way name error.Failed before now = WhereKnown (ReadsClean way name) before now
 PageFails way name error.BadContext before now = ⊥
 PageFails way name error.NoMemory before now = Unit {0}
 
 abbrev pub FileGives : {R : Type 0} → Way → (R → List ℕ → Type 0) → List ℕ → Result (Unit {0}) InputError → R → Option ShelfContent → Option ShelfContent → Type 0
-FileGives way stands name (Ok done) reader before now = Fed stands name reader before now
+FileGives way stands name (Ok done) reader before now = FedFile stands name reader before now
 FileGives way stands name (Err why) reader before now = PageFails way name why before now
 
 -- the file was read to its end, and this holds of its bytes and of what they give; or it wasn't

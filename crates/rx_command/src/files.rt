@@ -2,7 +2,7 @@
 ghost use Rattle.std.specs.Prelude.{◌≡◌, ◌+◌, ◌≤◌, ◌<◌, ◌^◌, ◌⊎◌, IfOk, IsErrOf, length, vec_len};
 ghost use Rattle.rx_ports.specs.Counts.{Rose};
 ghost use Rattle.rx_ports.specs.Shelves.{WhereKnown, Lacks};
-ghost use Rattle.rx_command.specs.Files.{ReadsFile, ReadsOn, SteadyFile, TakesSome, TakesOf};
+ghost use Rattle.rx_command.specs.Files.{ReadsFile, ReadsMore, SteadyFile, TakesWithin, TakesOf};
 
 use rx_ports::{PIECE, Shelf};
 use std::alloc::Global;
@@ -55,8 +55,8 @@ fn read_on<F: Shelf>(
     requires { 0 < length part.old }
     ensures bound { IfOk result (λ n. n ≤ length part.new) }
     ensures count { IfOk result (λ n. vec_len bytes.new ≡ vec_len bytes.old + n) }
-    ensures told { IfOk result (λ n. WhereKnown (ReadsOn bytes.old.items bytes.new.items n) (F.told shelf.old) (F.told shelf.new)) }
-    ensures takes { WhereKnown (TakesSome (length part.old)) (F.told shelf.old) (F.told shelf.new) }
+    ensures told { IfOk result (λ n. WhereKnown (ReadsMore bytes.old.items bytes.new.items n) (F.told shelf.old) (F.told shelf.new)) }
+    ensures takes { WhereKnown (TakesWithin (length part.old)) (F.told shelf.old) (F.told shelf.new) }
     ensures later { F.faults shelf.old ≤ F.faults shelf.new }
     ensures steady { SteadyFile result (F.faults shelf.old) (F.faults shelf.new) }
     ensures failed { IsErrOf result ReadError.Failed → Rose (F.faults shelf.old) (F.faults shelf.new) }

@@ -3,8 +3,8 @@ ghost use Rattle.std.specs.Prelude.{◌<◌, ◌≤◌, IfOk, IsErrOf, length, v
 ghost use Rattle.rx_ports.specs.Counts.{Rose};
 ghost use Rattle.rx_ports.specs.Shelves.{WhereKnown};
 ghost use Rattle.rx_page.specs.Settings.{GivesItems, GivesRight, item_way, rdfa_way};
-ghost use Rattle.rx_command.specs.Reading.{IsPiece, page_limit, Starts, ReadsNext, FileGives, PageGives, TakesToFirst, FromStart, Ends};
-ghost use Rattle.rx_command.specs.Files.{TakesSome, TakesOf};
+ghost use Rattle.rx_command.specs.Reading.{IsPiece, page_limit, StartsPage, ReadsNext, FileGives, PageGives, TakesToFirst, FromStart, ReadingEnds};
+ghost use Rattle.rx_command.specs.Files.{TakesWithin, TakesOf};
 ghost use Rattle.rx_command.specs.Ways.{way_of, GivesListOf};
 ghost use Rattle.rx_command.specs.Calls.{FailedOrLacks, Steady};
 
@@ -145,7 +145,7 @@ fn read<F: Shelf, R: PageReader + Drop>(
     name: &str,
     reader: R,
 ) -> Result<R::Given, InputError>
-    requires { Starts R.way R.stands reader }
+    requires { StartsPage R.way R.stands reader }
     ensures gives { FromStart R.stands reader (λ setting. PageGives (R.way setting) (R.gives setting) name.now result (F.told shelf.old) (F.told shelf.new)) }
     ensures takes { WhereKnown (TakesOf name.now page_limit) (F.told shelf.old) (F.told shelf.new) }
     ensures later { F.faults shelf.old ≤ F.faults shelf.new }
@@ -167,7 +167,7 @@ fn read_by<F: Shelf, R: PageReader + Drop>(
     reader: R,
     piece: &mut Vec<u8>,
 ) -> Result<R::Given, InputError>
-    requires starts { Starts R.way R.stands reader }
+    requires starts { StartsPage R.way R.stands reader }
     requires room { IsPiece (vec_len piece.old) }
     ensures gives { FromStart R.stands reader (λ setting. PageGives (R.way setting) (R.gives setting) name.now result (F.told shelf.old) (F.told shelf.new)) }
     ensures takes { WhereKnown (TakesOf name.now page_limit) (F.told shelf.old) (F.told shelf.new) }
@@ -195,7 +195,7 @@ fn feed_file<F: Shelf, R: PageReader>(
     reader: &mut R,
     piece: &mut Vec<u8>,
 ) -> Result<(), InputError>
-    requires starts { Starts R.way R.stands reader.old }
+    requires starts { StartsPage R.way R.stands reader.old }
     requires room { IsPiece (vec_len piece.old) }
     ensures gives { FromStart R.stands reader.old (λ setting. FileGives (R.way setting) (R.stands setting) name.now result reader.new (F.told shelf.old) (F.told shelf.new)) }
     ensures takes { WhereKnown (TakesOf name.now page_limit) (F.told shelf.old) (F.told shelf.new) }
@@ -231,7 +231,7 @@ fn feed_next<F: Shelf, R: PageReader>(
     requires { 0 < length piece.old }
     ensures bound { IfOk result (λ n. n ≤ length piece.new) }
     ensures gives { ReadsNext R.way R.stands reader.old (length piece.old) result reader.new (F.told shelf.old) (F.told shelf.new) }
-    ensures takes { WhereKnown (TakesSome (length piece.old)) (F.told shelf.old) (F.told shelf.new) }
+    ensures takes { WhereKnown (TakesWithin (length piece.old)) (F.told shelf.old) (F.told shelf.new) }
     ensures later { F.faults shelf.old ≤ F.faults shelf.new }
     ensures steady { Steady result (F.faults shelf.old) (F.faults shelf.new) }
     ensures failed { IsErrOf result InputError.Failed → Rose (F.faults shelf.old) (F.faults shelf.new) }
@@ -248,7 +248,7 @@ fn feed_next<F: Shelf, R: PageReader>(
 
 /// The page's end, and what it gives.
 fn end_of<R: PageReader>(reader: R) -> Result<R::Given, InputError>
-    ensures gives { Ends R.way R.stands R.gives reader result }
+    ensures gives { ReadingEnds R.way R.stands R.gives reader result }
     ensures reads_none { IsErrOf result InputError.Failed → ⊥ }
 {
     match reader.finish() {

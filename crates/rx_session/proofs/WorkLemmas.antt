@@ -29,7 +29,7 @@ use Rattle.rx_quads.specs.Raised.{raised, AreFrom, past}
 use Rattle.rx_quads.specs.Listed.{Listed, quads_of}
 use Rattle.rx_quads.proofs.CountLemmas.{numbers_without_gaps, renamed_then}
 use Rattle.rx_quads.proofs.RaisedLemmas.{raises_one_to_one}
-use Rattle.rx_session.specs.Given.{triples_from, HasTextFrom, IsTheTextFrom, IsTheTextOf, HasQuadsFrom, AreTheQuads, HasNodes, IsGiven, GivesWanted}
+use Rattle.rx_session.specs.Given.{triples_from, HasTextFrom, IsTheTextFrom, IsTheTextOf, HasQuadsFrom, AreTheQuads, CountsNodes, IsGiven, GivesWanted}
 use Rattle.rx_page.specs.declared.forms.Form.{Form}
 use Rattle.rx_turtle.proofs.Common.{not, ◌&&◌, Some, None, if◌then◌else◌, option_map, chars, IsUtf8, is_utf8, is_utf8-from_IsUtf8, IsUtf8-from_is_utf8, IsIri, has_scheme, has_forbidden, is_iri}
 use Rattle.rx_session.specs.Requests.{first_in, syntax_in, output_in, iri_in, graph_in, extraction_with, extraction_in, items_with, items_in}
@@ -235,7 +235,7 @@ module _ (e : Extraction) (context : Context) (bytes : List ℕ) (list : List Co
         renamed = renamed_from;
       }
 
-  nodes_from : (count : ℕ) → count ≡ past (graph_made list) → HasNodes first e context bytes count
+  nodes_from : (count : ℕ) → count ≡ past (graph_made list) → CountsNodes first e context bytes count
   nodes_from count is =
       let base : Chars = base_in e.address ended.tree in
       record {

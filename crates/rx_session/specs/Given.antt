@@ -57,7 +57,7 @@ pub record AreTheQuads (first : ℕ) (e : Extraction) (context : Context) (bytes
   pub renamed : Renamed (graph_of (base_in e.address tree) (facts_in context tree)) (set_of (triples_from first e context tree))
 
 -- the blank nodes of the same triples are exactly the numbers from `first` on, so many
-pub record HasNodes (first : ℕ) (e : Extraction) (context : Context) (bytes : List ℕ) (count : ℕ) : Type 0 where
+pub record CountsNodes (first : ℕ) (e : Extraction) (context : Context) (bytes : List ℕ) (count : ℕ) : Type 0 where
   pub tree : Tree
   pub is : IsAccepted e.syntax context bytes tree
   pub from : AreFrom first count (triples_from first e context tree)
@@ -76,11 +76,11 @@ IsGiven (plan.Quads name) first list (given.Quads q nodes) = (quads_of q ≡ qua
 -- the one text that the task makes of the page, or its one list of quads, and how many blank nodes there are
 abbrev pub GivesWanted : Task → ℕ → Bool → Context → List ℕ → Given → Type 0
 GivesWanted (extracts e) first false context bytes (given.Text text nodes) =
-    IsTheTextOf first e context bytes text.items × HasNodes first e context bytes nodes
+    IsTheTextOf first e context bytes text.items × CountsNodes first e context bytes nodes
 GivesWanted (extracts e) first false context bytes (given.Quads q nodes) = ⊥
 GivesWanted (extracts e) first true context bytes (given.Text text nodes) = ⊥
 GivesWanted (extracts e) first true context bytes (given.Quads q nodes) =
-    AreTheQuads first e context bytes (quads_of q) × HasNodes first e context bytes nodes
+    AreTheQuads first e context bytes (quads_of q) × CountsNodes first e context bytes nodes
 GivesWanted (itemizes i) first singly context bytes (given.Text text nodes) = IsTheText (itemizes i) context bytes text.items × (nodes ≡ 0)
 GivesWanted (itemizes i) first singly context bytes (given.Quads q nodes) = ⊥
 GivesWanted (checks s) first singly context bytes (given.Text text nodes) = IsTheText (checks s) context bytes text.items × (nodes ≡ 0)

@@ -82,7 +82,7 @@ ContextGives file (Err error.BadContext) = IsNoContext file
 ContextGives file (Err error.NoMemory) = Unit {0}
 
 -- this is asked for, the context file, if any, is a context, and the session was opened for that
-pub record Opened (asked : Option Want) (file : Option (List ℕ)) (session : State) : Type 0 where
+pub record OpenedSession (asked : Option Want) (file : Option (List ℕ)) (session : State) : Type 0 where
   pub want : Want
   pub context : Context
   pub is : asked ≡ Some want
@@ -92,7 +92,7 @@ pub record Opened (asked : Option Want) (file : Option (List ℕ)) (session : St
 -- A session was opened for what is asked for; or nothing is asked for; or something is, and the context file is none; or
 -- there was no memory.
 abbrev pub Opens : Option Want → Option (List ℕ) → Result State OpenError → Type 0
-Opens asked file (Ok session) = Opened asked file session
+Opens asked file (Ok session) = OpenedSession asked file session
 Opens asked file (Err error.Usage) = asked ≡ None
 Opens asked file (Err error.BadContext) = IsNoContext file × (is_some asked ≡ true)
 Opens asked file (Err error.NoMemory) = Unit {0}

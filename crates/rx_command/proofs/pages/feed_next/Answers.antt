@@ -1,4 +1,4 @@
-use Rattle.rx_command.proofs.Common.{arith, ◌≡◌, ◌<◌, ◌≤◌, List, ℕ, length, take, length-take, moves_weaker, largest_piece, Adds}
+use Rattle.rx_command.proofs.Common.{arith, ◌≡◌, ◌<◌, ◌≤◌, List, ℕ, length, take, length-take, moves_weaker, largest_piece, AddsRead}
 use Rattle.rx_command.proofs.FileLemmas.{reads_some}
 use Rattle.rx_command.proofs.ReadLemmas.{read_adds, piece_refused}
 use Rattle.rx_command.proofs.pages.feed_next.Goals as goal
@@ -8,7 +8,7 @@ returns-in-Ok-feed-clause-gives g c setting bytes s small =
     let room : 0 < length c.read.new.buf = omega (arith, c.read.auto.buf, c.requires) in
     let more : List ℕ = take c.in-Ok.count c.read.new.buf in
     let size : length more ≡ c.in-Ok.count = omega (arith, length-take c.in-Ok.count c.read.new.buf, c.in-Ok.ensures.bound) in
-    (more, size, c.in-Ok-feed.ensures setting bytes s, moves_weaker (Adds more) (λ x y m. read_adds c.read.new.buf c.in-Ok.count x y m room c.in-Ok.ensures.bound) c.in-Ok.ensures.told)
+    (more, size, c.in-Ok-feed.ensures setting bytes s, moves_weaker (AddsRead more) (λ x y m. read_adds c.read.new.buf c.in-Ok.count x y m room c.in-Ok.ensures.bound) c.in-Ok.ensures.told)
 
 pub returns-in-Ok-feed-clause-takes : goal.returns-in-Ok-feed-clause-takes
 returns-in-Ok-feed-clause-takes g c =
@@ -25,7 +25,7 @@ returns-in-Err-Fault-clause-gives g c setting bytes s small =
       more,
       size,
       piece_refused (g.R.PageReader.way setting) (g.met.R.PageReader.refuses setting) bytes more c.in-Err-Fault.fault shown (stops setting bytes s),
-      moves_weaker (Adds more) (λ x y m. read_adds c.read.new.buf c.in-Ok.count x y m room c.in-Ok.ensures.bound) c.in-Ok.ensures.told,
+      moves_weaker (AddsRead more) (λ x y m. read_adds c.read.new.buf c.in-Ok.count x y m room c.in-Ok.ensures.bound) c.in-Ok.ensures.told,
     )
 
 pub returns-in-Err-Fault-clause-takes : goal.returns-in-Err-Fault-clause-takes
