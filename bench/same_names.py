@@ -15,12 +15,12 @@ from pathlib import Path
 
 TOP = Path(__file__).resolve().parent.parent
 DEFINITION = re.compile(r"(?:(?:pub|abbrev|unfoldable|opaque|data|record) )*([A-Za-z_][\w'-]*)")
-NOT_NAMES = {"use", "mod", "module", "where", "unfolding", "section"}
+NOT_NAMES = {"use", "mod", "module", "unfolding"}
 
 
 def defined(text: str) -> set[str]:
     """The names that the text of a specs file gives a type at its outermost level."""
-    lines = (line for line in text.split("\n") if " : " in line and not line.startswith((" ", "--")))
+    lines = (line for line in text.split("\n") if re.search(" :( |$)", line) and not line.startswith((" ", "--")))
     found = (DEFINITION.match(line) for line in lines)
     return {it[1] for it in found if it} - NOT_NAMES
 
